@@ -1,0 +1,5 @@
+pub mod First
+pub mod Area
+pub mod Names
+pub mod Ranges
+pub mod Text

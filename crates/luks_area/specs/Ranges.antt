@@ -1,0 +1,16 @@
+-- A volume is a list of bytes. These words speak of the bytes at a place.
+use Rattle.std.specs.Prelude.{◌≡◌, ℕ, ◌+◌, List, ◌++◌, length, take, drop}
+
+-- the `len` bytes of the volume `v` from the place `at` on (fewer where the volume ends)
+abbrev pub part : List ℕ → ℕ → ℕ → List ℕ
+part v at len = take len (drop at v)
+
+-- the volume `v` with the bytes from `at` on replaced by `bytes`
+abbrev pub written : List ℕ → ℕ → List ℕ → List ℕ
+written v at bytes = take at v ++ bytes ++ drop (at + length bytes) v
+
+-- the two volumes have one length and agree outside the `len` bytes at `at`
+pub record SameOutside (old new : List ℕ) (at len : ℕ) : Type 0 where
+  pub length_same : length new ≡ length old
+  pub before : take at new ≡ take at old
+  pub after : drop (at + len) new ≡ drop (at + len) old

@@ -1,0 +1,76 @@
+use crate::area::{Area, AreaName};
+use arrayvec::ArrayVec;
+use std::marker::Model;
+
+/// The most areas that a volume has: two headers, 32 keyslots and 32 segments.
+pub const MOST_AREAS: usize = 66;
+
+/// An area with its name.
+#[derive(Debug, Clone, Copy, PartialEq, Eq, Default)]
+pub struct Entry {
+    /// What the area is for.
+    pub name: AreaName,
+    /// Where it lies, in bytes.
+    pub area: Area,
+}
+
+/// The areas of a volume, at most 66, in the order of their names, each name once.
+///
+/// They are held in place: no call takes memory.
+#[derive(Debug, Clone, Drop)]
+pub struct Areas {
+    entries: ArrayVec<Entry, 66>,
+}
+
+impl Model for Areas {
+    ghost use Rattle.std.specs.Prelude.{List};
+    ghost use Rattle.luks_area.specs.declared.areas.Entry.{Entry};
+    ghost use Rattle.luks_area.specs.Names.{IsIncreasing};
+
+    ghost Value = { List Entry };
+
+    ghost view = { λ a. a.entries.items };
+
+    ghost invariant = { λ a. IsIncreasing a.entries.items };
+}
+
+impl Areas {
+    ghost use Rattle.std.specs.Prelude.{◌≡◌, ◌<◌, ℕ, [], ◌∷◌, ◌++◌, length};
+    ghost use Rattle.luks_area.specs.declared.area.Area.{Area as TheArea};
+    ghost use Rattle.luks_area.specs.declared.area.AreaName.{AreaName as TheName};
+    ghost use Rattle.luks_area.specs.Area.{IsBefore};
+    ghost use Rattle.luks_area.specs.Names.{HasArea, IsIncreasing};
+
+    /// No areas.
+    pub fn new() -> Self
+        ensures { result ≡ [] }
+    {
+        Areas {
+            entries: ArrayVec::new(),
+        }
+    }
+
+    /// Adds the area of `name`, which must stand after the names that are there.
+    pub fn push(&mut self, name: AreaName, area: Area)
+        requires room { length self.old < 66 }
+        requires last { (n : TheName) (a : TheArea) → HasArea self.old n a → IsBefore n name }
+        ensures { self.new ≡ self.old ++ record { name = name; area = area } ∷ [] }
+    {
+        self.entries.push(Entry { name, area });
+    }
+
+    /// How many areas there are.
+    pub fn len(&self) -> usize
+        ensures { result ≡ length self.now }
+    {
+        self.entries.len()
+    }
+
+    /// The areas in the order of their names.
+    pub fn as_slice(&self) -> &[Entry]
+        ensures entries { result.now ≡ self.now }
+        ensures increasing { IsIncreasing self.now }
+    {
+        self.entries.as_slice()
+    }
+}
