@@ -1,0 +1,86 @@
+"""The equations of docs/FORMATS.md in Python, over hashlib and the AES of `cryptography`; no code is shared with the program."""
+import hashlib
+import struct
+
+from cryptography.hazmat.primitives.ciphers import Cipher, algorithms, modes
+
+SECTOR = 512
+
+
+def pbkdf2(hash_name, passphrase, salt, iterations, length):
+    return hashlib.pbkdf2_hmac(hash_name, passphrase, salt, iterations, length) if length else b""
+
+
+def xor(a, b):
+    return (int.from_bytes(a, "big") ^ int.from_bytes(b, "big")).to_bytes(len(a), "big")
+
+
+def diffuse(hash_name, data):
+    size = hashlib.new(hash_name).digest_size
+    out = b""
+    for number, at in enumerate(range(0, len(data), size)):
+        block = data[at:at + size]
+        out += hashlib.new(hash_name, struct.pack(">I", number) + block).digest()[:len(block)]
+    return out
+
+
+def stripes_of(material, length):
+    return [material[at:at + length] for at in range(0, len(material), length)]
+
+
+def fold(hash_name, stripes, length):
+    running = bytes(length)
+    for stripe in stripes:
+        running = diffuse(hash_name, xor(running, stripe))
+    return running
+
+
+def split(hash_name, key, random):
+    """All stripes, joined: the random ones and the last, which makes them merge to the key."""
+    return random + xor(fold(hash_name, stripes_of(random, len(key)), len(key)), key)
+
+
+def merge(hash_name, material, length):
+    stripes = stripes_of(material, length)
+    return xor(fold(hash_name, stripes[:-1], length), stripes[-1])
+
+
+def tweaks(key, unit, count):
+    """The tweaks of `count` blocks of a unit, joined."""
+    encryptor = Cipher(algorithms.AES(key), modes.ECB()).encryptor()
+    tweak = int.from_bytes(encryptor.update(unit.to_bytes(16, "little")), "little")
+    out = []
+    for _ in range(count):
+        out.append(tweak.to_bytes(16, "little"))
+        tweak <<= 1
+        if tweak >> 128:
+            tweak = (tweak & (1 << 128) - 1) ^ 0x87
+    return b"".join(out)
+
+
+def xts(key, unit, data, seals):
+    half = len(key) // 2
+    mask = tweaks(key[half:], unit, len(data) // 16)
+    cipher = Cipher(algorithms.AES(key[:half]), modes.ECB())
+    worker = cipher.encryptor() if seals else cipher.decryptor()
+    return xor(worker.update(xor(data, mask)), mask) if data else b""
+
+
+def xts_units(key, data, seals):
+    return b"".join(xts(key, unit, data[at:at + SECTOR], seals) for unit, at in enumerate(range(0, len(data), SECTOR)))
+
+
+def round_up(n, to):
+    return -(-n // to) * to
+
+
+def sealed_area(hash_name, slot_key, key, random):
+    """The sectors of a key area that holds `key`: its stripes, zeros to the sector's end, encrypted."""
+    material = split(hash_name, key, random)
+    return xts_units(slot_key, material.ljust(round_up(len(material), SECTOR), b"\0"), True)
+
+
+def opened_area(hash_name, slot_key, area, length, stripes):
+    """The candidate for the key that a key area holds."""
+    used = length * stripes
+    return merge(hash_name, xts_units(slot_key, area[:round_up(used, SECTOR)], False)[:used], length)
