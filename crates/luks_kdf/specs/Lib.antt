@@ -1,0 +1,4 @@
+pub mod Xor
+pub mod Derivation
+pub mod Lengths
+pub mod Names

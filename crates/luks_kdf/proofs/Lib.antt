@@ -1,0 +1,2 @@
+pub mod XorFacts
+pub mod DerivationFacts

@@ -1,0 +1,98 @@
+//! PBKDF2 with HMAC (RFC 8018, 5.2).
+
+ghost use Rattle.std.specs.Prelude.{◌≡◌, ℕ, ◌-◌, ◌*◌, ◌<◌, ◌≤◌, ◌^◌, List, length, map, bit_xor};
+ghost use Rattle.luks_kdf.specs.Derivation.{block_key, hmac, turns_xored, derived_block, derived_blocks, pbkdf2};
+ghost use Rattle.luks_kdf.specs.Xor.{xor_bytes};
+
+use crate::hash::HashFn;
+use crate::keyed::Keyed;
+
+/// Writes the first `out.len()` bytes, at most 128, that PBKDF2 derives from the password and the
+/// salt, both of any length, by at least one iteration (RFC 8018, 5.2).
+pub fn pbkdf2<H: HashFn>(out: &mut [u8], password: &[u8], salt: &[u8], iterations: u32)
+    requires some_iterations { 1 ≤ iterations }
+    requires at_most_128 { length out.old ≤ 128 }
+    ensures { out.new ≡ pbkdf2 H.digest H.BLOCK password.now salt.now iterations (length out.old) }
+{
+    let keyed = Keyed::<H>::new(password);
+    let count = out.len().div_ceil(H::LEN);
+    let mut buffer = [0u8; 192];
+    let mut turn_buffer = [0u8; 64];
+    let blocks = &mut buffer[..count * H::LEN];
+    let turn = &mut turn_buffer[..H::LEN];
+    derive_blocks(blocks, turn, &keyed, salt, iterations, count);
+    out.copy_from_slice(&blocks[..out.len()]);
+}
+
+// The blocks T_1 to T_count. `turn` is room for one of them.
+fn derive_blocks<H: HashFn>(
+    blocks: &mut [u8],
+    turn: &mut [u8],
+    keyed: &Keyed<H>,
+    salt: &[u8],
+    iterations: u32,
+    count: usize,
+)
+    requires some_iterations { 1 ≤ iterations }
+    requires numbered { count < 2 ^ 32 }
+    requires whole { length blocks.old ≡ count * H.LEN }
+    requires turn_length { length turn.old ≡ H.LEN }
+    ensures { (key : List ℕ)
+        → H.holds keyed.now.inner (map (bit_xor 0x36) (block_key H.digest H.BLOCK key))
+        → H.holds keyed.now.outer (map (bit_xor 0x5C) (block_key H.digest H.BLOCK key))
+        → blocks.new ≡ derived_blocks (hmac H.digest H.BLOCK key) salt.now iterations count }
+{
+    for i in 0..count {
+        let block = &mut blocks[i * H::LEN..(i + 1) * H::LEN];
+        derive_block(block, turn, keyed, salt, iterations, i as u32 + 1);
+    }
+}
+
+// The block T_index.
+fn derive_block<H: HashFn>(
+    block: &mut [u8],
+    turn: &mut [u8],
+    keyed: &Keyed<H>,
+    salt: &[u8],
+    iterations: u32,
+    index: u32,
+)
+    requires some_iterations { 1 ≤ iterations }
+    requires block_length { length block.old ≡ H.LEN }
+    requires turn_length { length turn.old ≡ H.LEN }
+    ensures { (key : List ℕ)
+        → H.holds keyed.now.inner (map (bit_xor 0x36) (block_key H.digest H.BLOCK key))
+        → H.holds keyed.now.outer (map (bit_xor 0x5C) (block_key H.digest H.BLOCK key))
+        → block.new ≡ derived_block (hmac H.digest H.BLOCK key) salt.now iterations index }
+{
+    keyed.tag_numbered(turn, salt, index);
+    block.copy_from_slice(turn);
+    run_turns(block, turn, keyed, iterations);
+}
+
+// The turns after the first: `block` and `turn` hold U_1 at the start.
+fn run_turns<H: HashFn>(block: &mut [u8], turn: &mut [u8], keyed: &Keyed<H>, iterations: u32)
+    requires some_iterations { 1 ≤ iterations }
+    requires first { block.old ≡ turn.old }
+    requires turn_length { length turn.old ≡ H.LEN }
+    ensures { (key : List ℕ)
+        → H.holds keyed.now.inner (map (bit_xor 0x36) (block_key H.digest H.BLOCK key))
+        → H.holds keyed.now.outer (map (bit_xor 0x5C) (block_key H.digest H.BLOCK key))
+        → block.new ≡ turns_xored (hmac H.digest H.BLOCK key) turn.old (iterations - 1) }
+{
+    for count in 1..iterations {
+        keyed.retag(turn);
+        xor_into(block, turn);
+    }
+}
+
+// Xors the bytes of `mask` into those of `bytes`.
+#[inline(always)]
+pub(crate) fn xor_into(bytes: &mut [u8], mask: &[u8])
+    requires { length bytes.old ≡ length mask.now }
+    ensures { bytes.new ≡ xor_bytes bytes.old mask.now }
+{
+    for i in 0..bytes.len() {
+        bytes[i] ^= mask[i];
+    }
+}
