@@ -1,0 +1,3 @@
+pub mod AreaText
+pub mod Decimal
+pub mod Number

@@ -1,1 +1,6 @@
 #![tactic(auto)]
+
+mod area_text;
+mod decimal;
+mod number;
+mod whole;

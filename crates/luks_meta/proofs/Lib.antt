@@ -1,0 +1,3 @@
+pub mod AreaTexts
+pub mod Decimals
+pub mod Numbers
