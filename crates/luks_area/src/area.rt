@@ -1,4 +1,8 @@
+ghost use Rattle.std.specs.Prelude.{Some};
+ghost use Rattle.luks_area.specs.Printed.{name_text};
+
 use std::fmt;
+use thiserror::Error;
 
 /// A range of bytes of a volume: `len` bytes from the byte place `start` on.
 ///
@@ -28,11 +32,26 @@ pub enum AreaName {
     Segment(u8),
 }
 
+impl fmt::Display for AreaName {
+    ghost output = { λ n. Some (name_text n) };
+
+    fn fmt<W: fmt::Write>(&self, f: &mut fmt::Formatter<W>) -> fmt::Result {
+        match self {
+            AreaName::Head1 => write!(f, "Head1"),
+            AreaName::Head2 => write!(f, "Head2"),
+            AreaName::Slot(n) => write!(f, "Slot({n})"),
+            AreaName::Segment(n) => write!(f, "Segment({n})"),
+        }
+    }
+}
+
 /// Why areas don't fit into a volume.
-#[derive(Debug, Clone, Copy, PartialEq, Eq)]
+#[derive(Debug, Clone, Copy, PartialEq, Eq, Error)]
 pub enum AreaFault {
     /// The least name of an area that runs past the volume's end.
+    #[error("Outside({0})")]
     Outside(AreaName),
     /// The least pair of names whose areas share a byte place, the lesser name first.
+    #[error("Overlap({0},{1})")]
     Overlap(AreaName, AreaName),
 }

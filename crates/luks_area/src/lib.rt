@@ -3,6 +3,14 @@
 
 mod area;
 mod areas;
+mod device;
+mod fitting;
+mod memory;
+mod text;
 
 pub use area::{Area, AreaFault, AreaName};
 pub use areas::{Areas, Entry, MOST_AREAS};
+pub use device::{Device, DeviceFault};
+pub use fitting::fit;
+pub use memory::MemDevice;
+pub use text::text_field;

@@ -1,4 +1,3 @@
-use Rattle.std.proofs.Common.{sym}
 use Rattle.luks_area.proofs.Increasing.{increasing-append_one}
 use Rattle.luks_area.proofs.areas.Areas.push.Goals as goal
 

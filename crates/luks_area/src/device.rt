@@ -1,0 +1,60 @@
+ghost use Rattle.std.specs.Prelude.{◌≡◌, ℕ, ◌+◌, ◌^◌, ◌<◌, ◌≤◌, List, length, MatchResult, OnOk};
+ghost use Rattle.luks_area.specs.Ranges.{part, written, SameOutside};
+
+use thiserror::Error;
+
+/// A device call failed. The device counts its failures.
+#[derive(Debug, Clone, Copy, PartialEq, Eq, Error)]
+#[error("Device")]
+pub struct DeviceFault;
+
+/// A block of bytes of a fixed length that is read and written by ranges, such as a disk.
+///
+/// Places and lengths are in bytes. Contracts see the device's bytes where it tells them (memory
+/// does, a file that others may write doesn't), its length, and its count of failed calls, which
+/// each failing call raises by one.
+pub trait Device: Drop {
+    /// Holds where the clauses on bytes are promised.
+    ghost tells: { Type 0 };
+
+    ghost bytes: { Self → List ℕ };
+
+    ghost size: { Self → ℕ };
+
+    ghost failed: { Self → ℕ };
+
+    /// The length in bytes; it never changes.
+    fn len(&self) -> u64
+        ensures { result ≡ size self.now };
+
+    /// How many calls have failed so far.
+    fn failures(&self) -> u64
+        ensures { result ≡ failed self.now };
+
+    /// Fills `into` with the bytes from the place `at` on. A failed read leaves anything in `into`.
+    fn read_at(&mut self, at: u64, into: &mut [u8]) -> Result<(), DeviceFault>
+        requires within { at + length into.old ≤ size self.old }
+        requires room { failed self.old + 1 < 2 ^ 64 }
+        ensures count { MatchResult result (λ _. failed self.new ≡ failed self.old) (λ _. failed self.new ≡ failed self.old + 1) }
+        ensures size { size self.new ≡ size self.old }
+        ensures same { tells → bytes self.new ≡ bytes self.old }
+        ensures read { tells → OnOk result (into.new ≡ part (bytes self.old) at (length into.old)) };
+
+    /// Writes `from` from the place `at` on. A failed write leaves any bytes in that range.
+    fn write_at(&mut self, at: u64, from: &[u8]) -> Result<(), DeviceFault>
+        requires within { at + length from.now ≤ size self.old }
+        requires room { failed self.old + 1 < 2 ^ 64 }
+        ensures count { MatchResult result (λ _. failed self.new ≡ failed self.old) (λ _. failed self.new ≡ failed self.old + 1) }
+        ensures size { size self.new ≡ size self.old }
+        ensures wrote { tells → OnOk result (bytes self.new ≡ written (bytes self.old) at from.now) }
+        ensures outside { tells → SameOutside (bytes self.old) (bytes self.new) at (length from.now) };
+
+    /// Asks that all that was written stays. A failed flush changes no byte.
+    fn flush(&mut self) -> Result<(), DeviceFault>
+        requires { failed self.old + 1 < 2 ^ 64 }
+        ensures count { MatchResult result (λ _. failed self.new ≡ failed self.old) (λ _. failed self.new ≡ failed self.old + 1) }
+        ensures size { size self.new ≡ size self.old }
+        ensures same { tells → bytes self.new ≡ bytes self.old };
+
+    ghost sized: { (d : Self) → tells → length (bytes d) ≡ size d };
+}
