@@ -1,3 +1,4 @@
 pub mod AreaTexts
 pub mod Decimals
 pub mod Numbers
+pub mod Encodings

@@ -1,3 +1,4 @@
 pub mod AreaText
 pub mod Decimal
 pub mod Number
+pub mod Encoded

@@ -2,5 +2,6 @@
 
 mod area_text;
 mod decimal;
+mod encoded;
 mod number;
 mod whole;
