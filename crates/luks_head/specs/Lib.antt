@@ -1,0 +1,4 @@
+pub mod Bytes
+pub mod Header1
+pub mod Faults
+pub mod Shown

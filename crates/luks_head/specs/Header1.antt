@@ -1,0 +1,102 @@
+-- The LUKS1 header, field by field (LUKS1 On-Disk Format 1.2.3, "The partition header").
+use Rattle.std.specs.Prelude.{◌≡◌, ◌≢◌, ℕ, ◌+◌, ◌*◌, ◌<◌, ◌≤◌, List, [], ◌∷◌, length, slice_index_or}
+use Rattle.luks_area.specs.Ranges.{part}
+use Rattle.luks_head.specs.Bytes.{number_at, text_at, HoldsText, IsUuid}
+use Rattle.luks_head.specs.declared.luks1.Luks1.{Luks1}
+use Rattle.luks_head.specs.declared.luks1.Luks1Common.{Luks1Common}
+use Rattle.luks_head.specs.declared.luks1.Luks1Slot.{Luks1Slot}
+use Rattle.luks_head.specs.declared.luks1.SlotState.{SlotState}
+use Rattle.luks_head.specs.declared.luks1.SlotState.TheVariants.{Enabled, Disabled}
+
+-- `LUKS`, 0xBA, 0xBE
+abbrev pub luks_magic : List ℕ
+luks_magic = 0x4C ∷ 0x55 ∷ 0x4B ∷ 0x53 ∷ 0xBA ∷ 0xBE ∷ []
+
+-- the first 6 bytes are the magic
+abbrev pub HasMagic : List ℕ → Type 0
+HasMagic v = part v 0 6 ≡ luks_magic
+
+-- the version after the magic
+abbrev pub version_of : List ℕ → ℕ
+version_of v = number_at v 6 2
+
+-- the 48 bytes of the key slot n
+abbrev pub entry : List ℕ → ℕ → List ℕ
+entry v n = part v (208 + 48 * n) 48
+
+-- the fields of a key slot's 48 bytes
+abbrev pub active_word : List ℕ → ℕ
+active_word e = number_at e 0 4
+
+abbrev pub entry_iterations : List ℕ → ℕ
+entry_iterations e = number_at e 4 4
+
+abbrev pub entry_stripes : List ℕ → ℕ
+entry_stripes e = number_at e 44 4
+
+-- the words of an enabled and of a disabled key slot
+abbrev pub enabled_word : ℕ
+enabled_word = 0x00AC71F3
+
+abbrev pub disabled_word : ℕ
+disabled_word = 0x0000DEAD
+
+abbrev pub word_of : SlotState → ℕ
+word_of Enabled = enabled_word
+word_of Disabled = disabled_word
+
+-- the 48 bytes `e` of a key slot say `s`
+pub record HoldsEntry (e : List ℕ) (s : Luks1Slot) : Type 0 where
+  pub state : active_word e ≡ word_of s.state
+  pub iterations : entry_iterations e ≡ s.iterations
+  pub salt : part e 8 32 ≡ s.salt
+  pub key_material_offset : number_at e 40 4 ≡ s.key_material_offset
+  pub stripes : entry_stripes e ≡ s.stripes
+
+-- the 48 bytes `e` are those of the key slot `s`, which is fit for use: it has stripes, and an
+-- enabled one has iterations
+pub record IsEntry (e : List ℕ) (s : Luks1Slot) : Type 0 where
+  pub fields : HoldsEntry e s
+  pub striped : 1 ≤ entry_stripes e
+  pub iterated : active_word e ≡ enabled_word → 1 ≤ entry_iterations e
+
+-- the 208 bytes before the key slots say `c`
+pub record HoldsCommon (v : List ℕ) (c : Luks1Common) : Type 0 where
+  pub cipher_name : text_at v 8 32 ≡ c.cipher_name.bytes
+  pub cipher_mode : text_at v 40 32 ≡ c.cipher_mode.bytes
+  pub hash_spec : text_at v 72 32 ≡ c.hash_spec.bytes
+  pub payload_offset : number_at v 104 4 ≡ c.payload_offset
+  pub key_bytes : number_at v 108 4 ≡ c.key_bytes
+  pub mk_digest : part v 112 20 ≡ c.mk_digest
+  pub mk_digest_salt : part v 132 32 ≡ c.mk_digest_salt
+  pub mk_digest_iterations : number_at v 164 4 ≡ c.mk_digest_iterations
+  pub uuid : text_at v 168 40 ≡ c.uuid.bytes
+
+-- the four texts hold only bytes from 0x20 to 0x7E
+pub record HoldsTexts (v : List ℕ) : Type 0 where
+  pub cipher_name : HoldsText v 8 32
+  pub cipher_mode : HoldsText v 40 32
+  pub hash_spec : HoldsText v 72 32
+  pub uuid : HoldsText v 168 40
+
+-- the 208 bytes before the key slots are those of a LUKS1 header, and say `c`
+pub record IsCommon (v : List ℕ) (c : Luks1Common) : Type 0 where
+  pub magic : HasMagic v
+  pub version : version_of v ≡ 1
+  pub fields : HoldsCommon v c
+  pub texts : HoldsTexts v
+  pub uuid : IsUuid (text_at v 168 40)
+  pub key_at_least : 1 ≤ number_at v 108 4
+  pub key_at_most : number_at v 108 4 ≤ 128
+  pub digest_iterated : 1 ≤ number_at v 164 4
+
+-- the eight key slots are those of the volume `v`
+pub record HoldsSlots (v : List ℕ) (slots : List Luks1Slot) : Type 0 where
+  pub eight : length slots ≡ 8
+  pub each : (n : ℕ) (s : Luks1Slot) → n < 8 → IsEntry (entry v n) (slice_index_or slots n s)
+
+-- the volume `v` begins with the LUKS1 header `d`
+pub record IsLuks1 (v : List ℕ) (d : Luks1) : Type 0 where
+  pub long : 592 ≤ length v
+  pub common : IsCommon v d.common
+  pub slots : HoldsSlots v d.slots

@@ -1,0 +1,195 @@
+//! The LUKS1 header.
+ghost use Rattle.std.specs.Prelude.{◌≡◌, ◌≤◌, ◌<◌, ◌+◌, ℕ, length, slice_index_or, IsOk, IfOk, IfErr};
+ghost use Rattle.luks_area.specs.First.{IsLeast};
+ghost use Rattle.luks_area.specs.Ranges.{part};
+ghost use Rattle.luks_head.specs.Bytes.{text_at, HoldsText};
+ghost use Rattle.luks_head.specs.Faults.{head_key, HasNoState, IsCommonFault, IsEntryFault, IsLuks1Fault};
+ghost use Rattle.luks_head.specs.Header1.{entry, HoldsCommon, HoldsEntry, HoldsTexts, IsCommon, IsEntry, IsLuks1};
+
+use crate::fault::HeadFault;
+use crate::judge::{self, ENABLED, entry_of};
+use crate::reads::{field, u32_at};
+use arrayvec::ArrayString;
+use luks_area::text_field;
+
+/// Whether a keyslot of a LUKS1 header is in use, as its active word says.
+#[derive(Debug, Clone, Copy, PartialEq, Eq, Default)]
+pub enum SlotState {
+    /// The keyslot is in use: 0x00AC71F3.
+    Enabled,
+    /// The keyslot is free: 0x0000DEAD.
+    #[default]
+    Disabled,
+}
+
+/// A keyslot of a LUKS1 header.
+#[derive(Debug, Clone, Copy, PartialEq, Eq, Default)]
+pub struct Luks1Slot {
+    /// Whether the keyslot is in use.
+    pub state: SlotState,
+    /// The iterations of the key derivation; 0 only in a disabled keyslot.
+    pub iterations: u32,
+    /// The salt of the key derivation.
+    pub salt: [u8; 32],
+    /// Where the key material begins, in sectors of 512 bytes from the volume's start.
+    pub key_material_offset: u32,
+    /// The number of stripes, at least 1.
+    pub stripes: u32,
+}
+
+/// The fields of a LUKS1 header before its keyslots.
+#[derive(Debug, Clone, Copy, PartialEq, Eq)]
+pub struct Luks1Common {
+    /// The name of the cipher.
+    pub cipher_name: ArrayString<32>,
+    /// The cipher's mode.
+    pub cipher_mode: ArrayString<32>,
+    /// The hash of the key derivation, the splitter and the digest.
+    pub hash_spec: ArrayString<32>,
+    /// Where the payload begins, in sectors of 512 bytes from the volume's start.
+    pub payload_offset: u32,
+    /// The length of the volume key in bytes, 1 to 128.
+    pub key_bytes: u32,
+    /// The digest of the volume key.
+    pub mk_digest: [u8; 20],
+    /// The salt of that digest.
+    pub mk_digest_salt: [u8; 32],
+    /// The iterations of that digest, at least 1.
+    pub mk_digest_iterations: u32,
+    /// The volume's uuid, 36 bytes in either letter case.
+    pub uuid: ArrayString<40>,
+}
+
+/// The LUKS1 header: the 592 bytes at the volume's start.
+#[derive(Debug, Clone, Copy, PartialEq, Eq)]
+pub struct Luks1 {
+    /// The fields before the keyslots.
+    pub common: Luks1Common,
+    /// The eight keyslots.
+    pub slots: [Luks1Slot; 8],
+}
+
+impl Luks1 {
+    /// Reads the header from the volume's first 592 bytes (LUKS1 1.2.3, "The partition header").
+    ///
+    /// Refused by the first of `NotLuks`, `Version`, `Text`, `Uuid`, `SlotState`, `KeyBytes`,
+    /// `Stripes` and `Iterations` that stands.
+    pub fn read(bytes: &[u8]) -> Result<Luks1, HeadFault>
+        requires { length bytes.now ≡ 592 }
+        ensures found { IfOk result (IsLuks1 bytes.now) }
+        ensures only { (d : Luks1) → IsLuks1 bytes.now d → IsOk result }
+        ensures fault { IfErr result (IsLeast head_key (IsLuks1Fault bytes.now)) }
+    {
+        match judge::all(bytes) {
+            Ok(()) => Ok(Luks1 {
+                common: common_fields(bytes),
+                slots: slots_of(bytes),
+            }),
+            Err(fault) => Err(fault),
+        }
+    }
+
+    /// Reads the fields before the keyslots from the volume's first 208 bytes.
+    ///
+    /// Refused by the first of `NotLuks`, `Version`, `Text`, `Uuid`, `KeyBytes` and
+    /// `Iterations(Digest)` that stands. What the keyslots hold plays no part.
+    pub fn common(bytes: &[u8]) -> Result<Luks1Common, HeadFault>
+        requires { length bytes.now ≡ 208 }
+        ensures found { IfOk result (IsCommon bytes.now) }
+        ensures only { (c : Luks1Common) → IsCommon bytes.now c → IsOk result }
+        ensures fault { IfErr result (IsLeast head_key (IsCommonFault bytes.now)) }
+    {
+        match judge::common(bytes) {
+            Ok(()) => Ok(common_fields(bytes)),
+            Err(fault) => Err(fault),
+        }
+    }
+
+    /// Reads the keyslot `n` from its own 48 bytes.
+    ///
+    /// Refused by the first of `SlotState(n)`, `Stripes(n)` and `Iterations(Slot(n))` that stands.
+    pub fn slot(entry: &[u8], n: u8) -> Result<Luks1Slot, HeadFault>
+        requires size { length entry.now ≡ 48 }
+        requires numbered { n < 8 }
+        ensures found { IfOk result (IsEntry entry.now) }
+        ensures only { (s : Luks1Slot) → IsEntry entry.now s → IsOk result }
+        ensures fault { IfErr result (IsLeast head_key (IsEntryFault n entry.now)) }
+    {
+        match judge::slot(entry, n) {
+            Ok(()) => Ok(slot_fields(entry)),
+            Err(fault) => Err(fault),
+        }
+    }
+}
+
+/// The text in the field of `len` bytes at `at`, which is known to be one.
+fn text_at<const N: usize>(bytes: &[u8], at: usize) -> ArrayString<N>
+    requires within { at + N ≤ length bytes.now }
+    requires text { HoldsText bytes.now at N }
+    ensures { result.bytes ≡ text_at bytes.now at N }
+{
+    let mut owned = ArrayString::new();
+    if let Some(text) = text_field(field(bytes, at, N)) {
+        owned.push_str(text);
+    }
+    owned
+}
+
+/// The `N` bytes at `at`.
+fn bytes_at<const N: usize>(bytes: &[u8], at: usize) -> [u8; N]
+    requires { at + N ≤ length bytes.now }
+    ensures { result ≡ part bytes.now at N }
+{
+    let mut owned = [0; N];
+    owned.copy_from_slice(field(bytes, at, N));
+    owned
+}
+
+fn common_fields(bytes: &[u8]) -> Luks1Common
+    requires long { 208 ≤ length bytes.now }
+    requires texts { HoldsTexts bytes.now }
+    ensures { HoldsCommon bytes.now result }
+{
+    Luks1Common {
+        cipher_name: text_at(bytes, 8),
+        cipher_mode: text_at(bytes, 40),
+        hash_spec: text_at(bytes, 72),
+        payload_offset: u32_at(bytes, 104),
+        key_bytes: u32_at(bytes, 108),
+        mk_digest: bytes_at(bytes, 112),
+        mk_digest_salt: bytes_at(bytes, 132),
+        mk_digest_iterations: u32_at(bytes, 164),
+        uuid: text_at(bytes, 168),
+    }
+}
+
+fn slot_fields(entry: &[u8]) -> Luks1Slot
+    requires long { 48 ≤ length entry.now }
+    requires stated { HasNoState entry.now → ⊥ }
+    ensures { HoldsEntry entry.now result }
+{
+    let state = match u32_at(entry, 0) {
+        ENABLED => SlotState::Enabled,
+        _ => SlotState::Disabled,
+    };
+    Luks1Slot {
+        state,
+        iterations: u32_at(entry, 4),
+        salt: bytes_at(entry, 8),
+        key_material_offset: u32_at(entry, 40),
+        stripes: u32_at(entry, 44),
+    }
+}
+
+fn slots_of(bytes: &[u8]) -> [Luks1Slot; 8]
+    requires long { 592 ≤ length bytes.now }
+    requires stated { (n : ℕ) → n < 8 → HasNoState (entry bytes.now n) → ⊥ }
+    ensures length { length result ≡ 8 }
+    ensures each { (n : ℕ) (s : Luks1Slot) → n < 8 → HoldsEntry (entry bytes.now n) (slice_index_or result n s) }
+{
+    let mut slots = [Luks1Slot::default(); 8];
+    for n in 0..8 {
+        slots[n as usize] = slot_fields(entry_of(bytes, n));
+    }
+    slots
+}
