@@ -10,3 +10,6 @@ pub use derive::pbkdf2;
 pub use hash::{HashFn, Sha1Fn, Sha256Fn};
 pub use hash_name::HashName;
 pub use keyed::hmac;
+
+#[cfg(test)]
+mod tests;
