@@ -2,3 +2,4 @@ pub mod AreaTexts
 pub mod Decimals
 pub mod Numbers
 pub mod Encodings
+pub mod NoZero

@@ -1,6 +1,7 @@
 #![tactic(auto)]
 
 mod area_text;
+mod compact;
 mod decimal;
 mod encoded;
 mod number;
