@@ -21,14 +21,15 @@ pub struct Area {
 /// header, the second, the keyslots by number, the segments by number.
 #[derive(Debug, Clone, Copy, PartialEq, Eq, Default)]
 pub enum AreaName {
-    /// The header at the volume's start, with the JSON area where it has one.
+    /// The header at the volume's start: 592 bytes in LUKS1, the binary header and its JSON area in
+    /// LUKS2.
     #[default]
     Head1,
-    /// The second copy of a LUKS2 header.
+    /// The second copy of a LUKS2 header, which begins where the first one ends.
     Head2,
-    /// The key material of a keyslot.
+    /// The key material of the keyslot of this number: 0 to 7 in LUKS1, 0 to 31 in LUKS2.
     Slot(u8),
-    /// A segment of the payload.
+    /// A segment of the payload, by its number. LUKS1 has segment 0 alone.
     Segment(u8),
 }
 
@@ -45,7 +46,7 @@ impl fmt::Display for AreaName {
     }
 }
 
-/// Why areas don't fit into a volume.
+/// Why areas don't fit into a volume. `Outside` stands before `Overlap`.
 #[derive(Debug, Clone, Copy, PartialEq, Eq, Error)]
 pub enum AreaFault {
     /// The least name of an area that runs past the volume's end.

@@ -50,7 +50,8 @@ impl Areas {
         }
     }
 
-    /// Adds the area of `name`, which must stand after the names that are there.
+    /// Adds the area of `name`, which must stand after the names that are there. There is room for
+    /// 66; the area may lie anywhere, also past a volume's end.
     pub fn push(&mut self, name: AreaName, area: Area)
         requires room { length self.old < 66 }
         requires last { (n : TheName) (a : TheArea) → HasArea self.old n a → IsBefore n name }
@@ -66,7 +67,7 @@ impl Areas {
         self.entries.len()
     }
 
-    /// The areas in the order of their names.
+    /// The areas in the order of their names: headers, keyslots by number, segments by number.
     pub fn as_slice(&self) -> &[Entry]
         ensures entries { result.now ≡ self.now }
         ensures increasing { IsIncreasing self.now }

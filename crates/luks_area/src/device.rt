@@ -12,15 +12,18 @@ pub struct DeviceFault;
 ///
 /// Places and lengths are in bytes. Contracts see the device's bytes where it tells them (memory
 /// does, a file that others may write doesn't), its length, and its count of failed calls, which
-/// each failing call raises by one.
+/// each failing call raises by one. No call may be made once the count is 2^64 - 1.
 pub trait Device: Drop {
     /// Holds where the clauses on bytes are promised.
     ghost tells: { Type 0 };
 
+    /// The bytes, from the place 0 on.
     ghost bytes: { Self → List ℕ };
 
+    /// The length in bytes.
     ghost size: { Self → ℕ };
 
+    /// How many calls have failed.
     ghost failed: { Self → ℕ };
 
     /// The length in bytes; it never changes.
@@ -31,7 +34,10 @@ pub trait Device: Drop {
     fn failures(&self) -> u64
         ensures { result ≡ failed self.now };
 
-    /// Fills `into` with the bytes from the place `at` on. A failed read leaves anything in `into`.
+    /// Fills `into` with the bytes from the place `at` on; that range lies inside the device.
+    ///
+    /// A failed read leaves anything in `into`, and changes no byte of the device. The error comes
+    /// exactly where the count of failures rose in this call.
     fn read_at(&mut self, at: u64, into: &mut [u8]) -> Result<(), DeviceFault>
         requires within { at + length into.old ≤ size self.old }
         requires room { failed self.old + 1 < 2 ^ 64 }
@@ -40,7 +46,10 @@ pub trait Device: Drop {
         ensures same { tells → bytes self.new ≡ bytes self.old }
         ensures read { tells → OnOk result (into.new ≡ part (bytes self.old) at (length into.old)) };
 
-    /// Writes `from` from the place `at` on. A failed write leaves any bytes in that range.
+    /// Writes `from` from the place `at` on; that range lies inside the device.
+    ///
+    /// A failed write leaves any bytes in that range, and all others as they were. The error comes
+    /// exactly where the count of failures rose in this call.
     fn write_at(&mut self, at: u64, from: &[u8]) -> Result<(), DeviceFault>
         requires within { at + length from.now ≤ size self.old }
         requires room { failed self.old + 1 < 2 ^ 64 }
@@ -49,7 +58,7 @@ pub trait Device: Drop {
         ensures wrote { tells → OnOk result (bytes self.new ≡ written (bytes self.old) at from.now) }
         ensures outside { tells → SameOutside (bytes self.old) (bytes self.new) at (length from.now) };
 
-    /// Asks that all that was written stays. A failed flush changes no byte.
+    /// Asks that all that was written stays. A flush changes no byte, nor does one that fails.
     fn flush(&mut self) -> Result<(), DeviceFault>
         requires { failed self.old + 1 < 2 ^ 64 }
         ensures count { MatchResult result (λ _. failed self.new ≡ failed self.old) (λ _. failed self.new ≡ failed self.old + 1) }

@@ -9,7 +9,8 @@ ghost use Rattle.luks_area.specs.Scan.{is_outside, do_meet, first_pair};
 use crate::area::{Area, AreaFault, AreaName};
 use crate::areas::{Areas, Entry};
 
-/// Whether all areas are inside a volume of `total` bytes and every two are disjoint.
+/// Whether all areas are inside a volume of `total` bytes, and every two are disjoint. Ends are
+/// whole numbers and never wrap.
 ///
 /// Else the least fault: `Outside` with the least name of an area that runs past the end, and only
 /// where there is none `Overlap` with the least pair. Empty areas and areas that only touch are

@@ -6,6 +6,8 @@ mod areas;
 mod device;
 mod fitting;
 mod memory;
+#[cfg(test)]
+mod tests;
 mod text;
 
 pub use area::{Area, AreaFault, AreaName};

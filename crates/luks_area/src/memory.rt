@@ -4,7 +4,8 @@ ghost use Rattle.luks_area.specs.Ranges.{written};
 use crate::device::{Device, DeviceFault};
 use std::marker::Model;
 
-/// A device in memory. It tells its bytes, and no call of it fails.
+/// A device in memory, such as a whole image that was read. It tells its bytes, and no call of it
+/// fails.
 #[derive(Debug, Drop)]
 pub struct MemDevice {
     contents: Vec<u8>,
@@ -21,7 +22,7 @@ impl Model for MemDevice {
 impl MemDevice {
     ghost use Rattle.std.specs.Prelude.{◌≡◌};
 
-    /// A device that holds these bytes.
+    /// A device of exactly these bytes; its length is theirs.
     pub fn new(contents: Vec<u8>) -> Self
         ensures { result ≡ contents.items }
     {

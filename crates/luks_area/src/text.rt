@@ -3,9 +3,11 @@ ghost use Rattle.luks_area.specs.Text.{text_of, is_plain, is_printable};
 
 use std::str;
 
-/// The text of a header's field: what stands before its first zero byte, or the whole field.
+/// The text of a header's field: what stands before its first zero byte, or the whole field (LUKS1
+/// On-Disk Format 1.2.3, 3.1, has such fields, and so has the LUKS2 On-Disk Format 1.1, 2.1).
 ///
-/// None where that text holds a byte outside 0x20 to 0x7E. What follows the zero isn't looked at.
+/// None where that text holds a byte outside 0x20 to 0x7E, which is this project's rule. What
+/// follows the zero isn't looked at. An empty text is a text.
 pub fn text_field(field: &[u8]) -> Option<&str>
     ensures text { IfSome result (λ t. t.now ≡ text_of field.now) }
     ensures plain { IsSome result ↔ IsTrue (is_plain (text_of field.now)) }
