@@ -2,11 +2,16 @@
 //! Headers of LUKS volumes: the LUKS1 header, the two copies of the binary LUKS2 header, and which
 //! of them counts.
 
+mod bin2;
+mod copies;
 mod fault;
 mod judge;
 mod luks1;
 mod reads;
+mod selection;
 mod uuids;
 
+pub use bin2::Bin2;
 pub use fault::{HeadFault, IterationsOf, TextField};
 pub use luks1::{Luks1, Luks1Common, Luks1Slot, SlotState};
+pub use selection::{Copies, Selected};

@@ -8,7 +8,7 @@ ghost use Rattle.luks_head.specs.Header1.{entry, HoldsCommon, HoldsEntry, HoldsT
 
 use crate::fault::HeadFault;
 use crate::judge::{self, ENABLED, entry_of};
-use crate::reads::{field, u32_at};
+use crate::reads::{array_at, field, u32_at};
 use arrayvec::ArrayString;
 use luks_area::text_field;
 
@@ -135,16 +135,6 @@ fn text_at<const N: usize>(bytes: &[u8], at: usize) -> ArrayString<N>
     owned
 }
 
-/// The `N` bytes at `at`.
-fn bytes_at<const N: usize>(bytes: &[u8], at: usize) -> [u8; N]
-    requires { at + N ≤ length bytes.now }
-    ensures { result ≡ part bytes.now at N }
-{
-    let mut owned = [0; N];
-    owned.copy_from_slice(field(bytes, at, N));
-    owned
-}
-
 fn common_fields(bytes: &[u8]) -> Luks1Common
     requires long { 208 ≤ length bytes.now }
     requires texts { HoldsTexts bytes.now }
@@ -156,8 +146,8 @@ fn common_fields(bytes: &[u8]) -> Luks1Common
         hash_spec: text_at(bytes, 72),
         payload_offset: u32_at(bytes, 104),
         key_bytes: u32_at(bytes, 108),
-        mk_digest: bytes_at(bytes, 112),
-        mk_digest_salt: bytes_at(bytes, 132),
+        mk_digest: array_at(bytes, 112),
+        mk_digest_salt: array_at(bytes, 132),
         mk_digest_iterations: u32_at(bytes, 164),
         uuid: text_at(bytes, 168),
     }
@@ -175,7 +165,7 @@ fn slot_fields(entry: &[u8]) -> Luks1Slot
     Luks1Slot {
         state,
         iterations: u32_at(entry, 4),
-        salt: bytes_at(entry, 8),
+        salt: array_at(entry, 8),
         key_material_offset: u32_at(entry, 40),
         stripes: u32_at(entry, 44),
     }

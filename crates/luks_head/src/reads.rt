@@ -29,3 +29,21 @@ pub(crate) fn u32_at(bytes: &[u8], at: usize) -> u32
 {
     BigEndian::read_u32(field(bytes, at, 4))
 }
+
+/// The number in the 8 bytes at the place `at`.
+pub(crate) fn u64_at(bytes: &[u8], at: usize) -> u64
+    requires { at + 8 ≤ length bytes.now }
+    ensures { result ≡ number_at bytes.now at 8 }
+{
+    BigEndian::read_u64(field(bytes, at, 8))
+}
+
+/// The `N` bytes at the place `at`.
+pub(crate) fn array_at<const N: usize>(bytes: &[u8], at: usize) -> [u8; N]
+    requires { at + N ≤ length bytes.now }
+    ensures { result ≡ part bytes.now at N }
+{
+    let mut owned = [0; N];
+    owned.copy_from_slice(field(bytes, at, N));
+    owned
+}

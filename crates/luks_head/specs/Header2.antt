@@ -1,0 +1,98 @@
+-- A copy of the LUKS2 header, and when it is sound (LUKS2 On-Disk Format 1.1, 2.1).
+use Rattle.std.specs.Prelude.{◌≡◌, ◌≢◌, ℕ, ◌+◌, ◌≤◌, ◌==◌, List, [], ◌∷◌, ◌++◌, length, take, drop, replicate, if◌then◌else◌, true, codes}
+use Rattle.sha2.specs.Sha256.{sha256}
+use Rattle.luks_area.specs.Ranges.{part}
+use Rattle.luks_area.specs.Text.{text_of, is_plain}
+use Rattle.luks_head.specs.Bytes.{number_at, text_at, IsUuid}
+use Rattle.luks_head.specs.Header1.{luks_magic}
+use Rattle.luks_head.specs.Sizes.{IsListed}
+use Rattle.luks_head.specs.declared.bin2.Bin2.{Bin2}
+use Rattle.luks_head.specs.declared.fault.HeadFault.{HeadFault}
+use Rattle.luks_head.specs.declared.fault.HeadFault.TheVariants as fault
+use Rattle.luks_head.specs.declared.fault.TextField.TheVariants as field
+
+-- `SKUL`, 0xBA, 0xBE
+abbrev pub second_magic : List ℕ
+second_magic = 0x53 ∷ 0x4B ∷ 0x55 ∷ 0x4C ∷ 0xBA ∷ 0xBE ∷ []
+
+-- the magic of the copy at the place o: the first copy stands at 0
+abbrev pub magic_of : ℕ → List ℕ
+magic_of o = if o == 0 then luks_magic else second_magic
+
+-- the binary header of the copy at the place o of the volume v: its first 4096 bytes
+abbrev pub header_at : List ℕ → ℕ → List ℕ
+header_at v o = part v o 4096
+
+-- fields of a binary header's 4096 bytes
+abbrev pub hdr_size : List ℕ → ℕ
+hdr_size b = number_at b 8 8
+
+abbrev pub seqid : List ℕ → ℕ
+seqid b = number_at b 16 8
+
+abbrev pub uuid_field : List ℕ → List ℕ
+uuid_field b = part b 168 40
+
+abbrev pub hdr_offset : List ℕ → ℕ
+hdr_offset b = number_at b 256 8
+
+-- the 4096 bytes `b` of a binary header say `h`
+pub record HoldsBin2 (b : List ℕ) (h : Bin2) : Type 0 where
+  pub magic : part b 0 6 ≡ h.magic
+  pub version : number_at b 6 2 ≡ h.version
+  pub hdr_size : number_at b 8 8 ≡ h.hdr_size
+  pub seqid : number_at b 16 8 ≡ h.seqid
+  pub label : part b 24 48 ≡ h.label
+  pub csum_alg : part b 72 32 ≡ h.csum_alg
+  pub salt : part b 104 64 ≡ h.salt
+  pub uuid : part b 168 40 ≡ h.uuid
+  pub subsystem : part b 208 48 ≡ h.subsystem
+  pub hdr_offset : number_at b 256 8 ≡ h.hdr_offset
+  pub csum : part b 448 64 ≡ h.csum
+
+-- the binary header `b`, read at the place o of a volume of `total` bytes, is of the right form there
+pub record IsFormed (b : List ℕ) (o total : ℕ) : Type 0 where
+  pub magic : part b 0 6 ≡ magic_of o
+  pub version : number_at b 6 2 ≡ 2
+  pub listed : IsListed (hdr_size b)
+  pub second : o ≢ 0 → hdr_size b ≡ o
+  pub offset : hdr_offset b ≡ o
+  pub inside : o + hdr_size b ≤ total
+  pub algorithm : text_at b 72 32 ≡ codes "sha256"
+
+-- the bytes of a copy with the 64 bytes of its checksum taken as zeros
+abbrev pub unsummed : List ℕ → List ℕ
+unsummed copy = take 448 copy ++ replicate 64 0 ++ drop 512 copy
+
+-- the whole copy at the place o: the binary header and the JSON area
+abbrev pub copy_at : List ℕ → ℕ → List ℕ
+copy_at v o = part v o (hdr_size (header_at v o))
+
+-- the copy at the place o of the volume v is sound: it is of the right form, and its checksum is the
+-- SHA-256 of all its bytes, those of the checksum itself taken as zeros
+pub record IsSound (v : List ℕ) (o : ℕ) : Type 0 where
+  pub form : IsFormed (header_at v o) o (length v)
+  pub checksum : part (header_at v o) 448 32 ≡ sha256 (unsummed (copy_at v o))
+
+-- the uuid field holds the text of a uuid
+pub record IsUuidField (field_ : List ℕ) : Type 0 where
+  pub plain : is_plain (text_of field_) ≡ true
+  pub uuid : IsUuid (text_of field_)
+
+-- the faults of the uuid field of a binary header
+abbrev pub IsUuidFault : List ℕ → HeadFault → Type 0
+IsUuidFault field_ fault.TooShort = ⊥
+IsUuidFault field_ fault.NotLuks = ⊥
+IsUuidFault field_ fault.Version = ⊥
+IsUuidFault field_ fault.NoSoundCopy = ⊥
+IsUuidFault field_ (fault.Text field.CipherName) = ⊥
+IsUuidFault field_ (fault.Text field.CipherMode) = ⊥
+IsUuidFault field_ (fault.Text field.HashSpec) = ⊥
+IsUuidFault field_ (fault.Text field.Uuid) = is_plain (text_of field_) ≡ true → ⊥
+IsUuidFault field_ fault.Uuid = IsUuid (text_of field_) → ⊥
+IsUuidFault field_ (fault.SlotState n) = ⊥
+IsUuidFault field_ fault.KeyBytes = ⊥
+IsUuidFault field_ (fault.Stripes n) = ⊥
+IsUuidFault field_ (fault.Iterations o) = ⊥
+IsUuidFault field_ fault.Device = ⊥
+IsUuidFault field_ fault.Memory = ⊥

@@ -1,0 +1,77 @@
+//! The binary header of a LUKS2 copy.
+ghost use Rattle.std.specs.Prelude.{◌≡◌, ◌↔◌, length, IsOk, IfOk, IfErr};
+ghost use Rattle.luks_area.specs.First.{IsLeast};
+ghost use Rattle.luks_area.specs.Text.{text_of};
+ghost use Rattle.luks_head.specs.Faults.{head_key};
+
+use crate::fault::{HeadFault, TextField};
+use crate::reads::{array_at, u16_at, u64_at};
+use crate::uuids::is_uuid;
+use luks_area::text_field;
+
+/// The binary header of a copy of a LUKS2 header, field by field as it stands there
+/// (LUKS2 On-Disk Format 1.1, 2.1). Nothing in it is judged yet.
+#[derive(Debug, Clone, Copy, PartialEq, Eq)]
+pub struct Bin2 {
+    /// The magic, which differs between the first and the second copy.
+    pub magic: [u8; 6],
+    /// The version, 2.
+    pub version: u16,
+    /// The length in bytes of this header and its JSON area.
+    pub hdr_size: u64,
+    /// The sequence number: the copy with the higher one is the newer.
+    pub seqid: u64,
+    /// The volume's label, a text.
+    pub label: [u8; 48],
+    /// The name of the checksum's hash, a text.
+    pub csum_alg: [u8; 32],
+    /// The salt, which makes the two copies differ.
+    pub salt: [u8; 64],
+    /// The volume's uuid, a text.
+    pub uuid: [u8; 40],
+    /// The subsystem's label, a text.
+    pub subsystem: [u8; 48],
+    /// The place of this copy, in bytes from the volume's start.
+    pub hdr_offset: u64,
+    /// The checksum of the whole copy, in as many bytes as its hash has.
+    pub csum: [u8; 64],
+}
+
+impl Bin2 {
+    ghost use Rattle.luks_head.specs.Header2.{HoldsBin2, IsUuidFault, IsUuidField};
+
+    /// Reads a binary header. Any bytes will do; padding isn't looked at.
+    pub fn read(bytes: &[u8]) -> Bin2
+        requires { length bytes.now ≡ 4096 }
+        ensures { HoldsBin2 bytes.now result }
+    {
+        Bin2 {
+            magic: array_at(bytes, 0),
+            version: u16_at(bytes, 6),
+            hdr_size: u64_at(bytes, 8),
+            seqid: u64_at(bytes, 16),
+            label: array_at(bytes, 24),
+            csum_alg: array_at(bytes, 72),
+            salt: array_at(bytes, 104),
+            uuid: array_at(bytes, 168),
+            subsystem: array_at(bytes, 208),
+            hdr_offset: u64_at(bytes, 256),
+            csum: array_at(bytes, 448),
+        }
+    }
+
+    /// The text of the volume's uuid, 36 bytes in either letter case.
+    ///
+    /// Refused by `Text(uuid)`, or else by `Uuid`.
+    pub fn uuid(&self) -> Result<&str, HeadFault>
+        ensures text { IfOk result (λ t. t.now ≡ text_of self.now.uuid) }
+        ensures accepted { IsOk result ↔ IsUuidField self.now.uuid }
+        ensures fault { IfErr result (IsLeast head_key (IsUuidFault self.now.uuid)) }
+    {
+        match text_field(&self.uuid) {
+            Some(text) if is_uuid(text) => Ok(text),
+            Some(_) => Err(HeadFault::Uuid),
+            None => Err(HeadFault::Text(TextField::Uuid)),
+        }
+    }
+}
