@@ -1,9 +1,10 @@
 //! The LUKS1 header.
-ghost use Rattle.std.specs.Prelude.{◌≡◌, ◌≤◌, ◌<◌, ◌+◌, ℕ, length, slice_index_or, IsOk, IfOk, IfErr};
+ghost use Rattle.std.specs.Prelude.{◌≡◌, ◌≤◌, ◌<◌, ◌+◌, ℕ, length, slice_index_or, IsOk, IfOk, IfErr, OnOk};
 ghost use Rattle.luks_area.specs.First.{IsLeast};
 ghost use Rattle.luks_area.specs.Ranges.{part};
 ghost use Rattle.luks_head.specs.Bytes.{text_at, HoldsText};
 ghost use Rattle.luks_head.specs.Faults.{head_key, HasNoState, IsCommonFault, IsEntryFault, IsLuks1Fault};
+ghost use Rattle.luks_head.specs.declared.fault.HeadFault.{HeadFault as Fault};
 ghost use Rattle.luks_head.specs.Header1.{entry, HoldsCommon, HoldsEntry, HoldsTexts, IsCommon, IsEntry, IsLuks1};
 
 use crate::fault::HeadFault;
@@ -79,6 +80,7 @@ impl Luks1 {
         ensures found { IfOk result (IsLuks1 bytes.now) }
         ensures only { (d : Luks1) → IsLuks1 bytes.now d → IsOk result }
         ensures fault { IfErr result (IsLeast head_key (IsLuks1Fault bytes.now)) }
+        ensures faultless { OnOk result ((f : Fault) → IsLuks1Fault bytes.now f → ⊥) }
     {
         match judge::all(bytes) {
             Ok(()) => Ok(Luks1 {
@@ -98,6 +100,7 @@ impl Luks1 {
         ensures found { IfOk result (IsCommon bytes.now) }
         ensures only { (c : Luks1Common) → IsCommon bytes.now c → IsOk result }
         ensures fault { IfErr result (IsLeast head_key (IsCommonFault bytes.now)) }
+        ensures faultless { OnOk result ((f : Fault) → IsCommonFault bytes.now f → ⊥) }
     {
         match judge::common(bytes) {
             Ok(()) => Ok(common_fields(bytes)),
@@ -114,6 +117,7 @@ impl Luks1 {
         ensures found { IfOk result (IsEntry entry.now) }
         ensures only { (s : Luks1Slot) → IsEntry entry.now s → IsOk result }
         ensures fault { IfErr result (IsLeast head_key (IsEntryFault n entry.now)) }
+        ensures faultless { OnOk result ((f : Fault) → IsEntryFault n entry.now f → ⊥) }
     {
         match judge::slot(entry, n) {
             Ok(()) => Ok(slot_fields(entry)),
