@@ -2,3 +2,8 @@ pub mod AreaText
 pub mod Decimal
 pub mod Number
 pub mod Encoded
+pub mod Table
+pub mod Reading
+pub mod Arrays
+pub mod Faults
+pub mod Walk

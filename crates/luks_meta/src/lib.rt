@@ -1,8 +1,15 @@
 #![tactic(auto)]
+//! The metadata of a LUKS2 header: the JSON area, read exactly.
 
 mod area_text;
 mod compact;
+mod arrays;
 mod decimal;
 mod encoded;
+mod judge;
 mod number;
+mod place;
+mod reading;
+mod table;
+mod walk;
 mod whole;
