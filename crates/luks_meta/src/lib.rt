@@ -2,8 +2,8 @@
 //! The metadata of a LUKS2 header: the JSON area, read exactly.
 
 mod area_text;
-mod compact;
 mod arrays;
+mod compact;
 mod decimal;
 mod encoded;
 mod judge;
