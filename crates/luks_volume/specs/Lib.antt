@@ -1,0 +1,3 @@
+pub mod Checked
+pub mod Layout1
+pub mod Listing

@@ -1,0 +1,4 @@
+pub mod Grown
+pub mod Judged
+pub mod Moved
+pub mod Slots1

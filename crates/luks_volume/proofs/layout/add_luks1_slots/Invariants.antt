@@ -1,0 +1,5 @@
+use Rattle.luks_volume.proofs.Slots1.{AddsSlots}
+use Rattle.luks_volume.proofs.layout.add_luks1_slots.Given as goal
+
+abbrev pub invariant-loop-n : goal.invariant-loop-n
+invariant-loop-n l = AddsSlots l.fn.areas l.areas l.header l.n
