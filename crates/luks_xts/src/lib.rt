@@ -1,1 +1,13 @@
+// AES and XTS over bytes in place: FIPS 197 and IEEE 1619, for the key areas of a volume.
 #![tactic(auto)]
+
+mod aes;
+mod rounds;
+mod schedule;
+mod tables;
+mod words;
+
+pub use aes::AesKey;
+
+#[cfg(test)]
+mod tests;

@@ -1,0 +1,11 @@
+pub mod Below
+pub mod ByteTables
+pub mod Polynomials
+pub mod FieldFacts
+pub mod WordTables
+pub mod RoundSteps
+pub mod ScheduleSteps
+pub mod Bytes
+pub mod Steps
+pub mod Undone
+pub mod Expanded

@@ -1,0 +1,5 @@
+use Rattle.luks_xts.proofs.ByteTables.{inverse_sbox_at}
+use Rattle.luks_xts.proofs.tables.inverse_sbox.Goals as goal
+
+pub returns : goal.returns
+returns c = inverse_sbox_at c.args.x c.ranges.x.fits

@@ -1,0 +1,14 @@
+-- What a key holds beside its bytes.
+use Rattle.std.specs.Prelude.{◌≡◌, ℕ, ◌+◌, ◌*◌, ◌<◌, ◌⊎◌, List, length, take, slice_index}
+use Rattle.luks_xts.specs.Aes.{schedule}
+
+-- the key's bytes, at the front of the words
+abbrev pub key_bytes : ℕ → List ℕ → List ℕ
+key_bytes count words = take (4 * count) words
+
+-- the words are the whole schedule of the key at their front, of `count` words
+pub record IsExpanded (count : ℕ) (words : List ℕ) : Type 0 where
+  pub counts : (count ≡ 4) ⊎ (count ≡ 8)
+  pub long : length words ≡ 240
+  pub bytes : (k : ℕ) → slice_index words k < 256
+  pub expanded : take (16 * count + 112) words ≡ schedule count (key_bytes count words) (3 * count + 28)

@@ -1,0 +1,58 @@
+ghost use Rattle.std.specs.Prelude.{◌≡◌, ◌⊎◌, ◌+◌, ◌*◌, length, SomeIff};
+ghost use Rattle.luks_xts.specs.Aes.{Aes, AesInverse};
+
+use crate::{rounds, schedule};
+use std::marker::Model;
+
+/// A key of AES (FIPS 197) with its key schedule. A contract sees the bytes that it was made of.
+#[derive(Drop)]
+pub struct AesKey {
+    words: [u8; 240],
+    count: usize,
+}
+
+impl Model for AesKey {
+    ghost use Rattle.std.specs.Prelude.{List, ℕ};
+
+    ghost Value = { List ℕ };
+
+    ghost use Rattle.luks_xts.specs.Keys.{IsExpanded, key_bytes};
+
+    ghost view = { λ k. key_bytes k.count k.words };
+
+    ghost invariant = { λ k. IsExpanded k.count k.words };
+}
+
+impl AesKey {
+    /// The key of these bytes: 16 for AES-128, 32 for AES-256, and None at every other length.
+    pub fn new(key: &[u8]) -> Option<AesKey>
+        ensures { SomeIff result ((length key.now ≡ 16) ⊎ (length key.now ≡ 32)) key.now }
+    {
+        if key.len() != 16 && key.len() != 32 {
+            return None;
+        }
+        let mut words = [0; 240];
+        schedule::load(&mut words, key);
+        Some(AesKey {
+            words,
+            count: key.len() / 4,
+        })
+    }
+
+    /// The block that the key encrypts this one to: `Cipher` of FIPS 197, 5.1, with 10 rounds under
+    /// a key of 16 bytes and 14 under one of 32.
+    pub fn encrypt(&self, block: [u8; 16]) -> [u8; 16]
+        ensures value { result ≡ Aes self.now block }
+        ensures undone { AesInverse self.now result ≡ block }
+    {
+        rounds::cipher(&self.words, self.count + 5, block)
+    }
+
+    /// The block that the key decrypts this one to: `InvCipher` of FIPS 197, 5.3.
+    pub fn decrypt(&self, block: [u8; 16]) -> [u8; 16]
+        ensures value { result ≡ AesInverse self.now block }
+        ensures undone { Aes self.now result ≡ block }
+    {
+        rounds::inverse_cipher(&self.words, self.count + 5, block)
+    }
+}
