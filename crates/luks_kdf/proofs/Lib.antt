@@ -1,2 +1,4 @@
 pub mod XorFacts
 pub mod DerivationFacts
+pub mod DiffuseFacts
+pub mod SplitterFacts

@@ -1,4 +1,5 @@
 pub mod Xor
 pub mod Derivation
+pub mod Splitter
 pub mod Lengths
 pub mod Names

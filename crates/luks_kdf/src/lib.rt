@@ -2,14 +2,19 @@
 #![tactic(auto)]
 
 mod derive;
+mod diffuse;
 mod hash;
 mod hash_name;
 mod keyed;
+mod merger;
+mod splitter;
 
 pub use derive::pbkdf2;
 pub use hash::{HashFn, Sha1Fn, Sha256Fn};
 pub use hash_name::HashName;
 pub use keyed::hmac;
+pub use merger::{Merger, merge};
+pub use splitter::{Splitter, merge_undoes_split, split};
 
 #[cfg(test)]
 mod tests;

@@ -1,0 +1,45 @@
+//! The diffusion of the anti-forensic splitter, in place.
+
+ghost use Rattle.std.specs.Prelude.{◌≡◌, ◌≤◌, ◌<◌, ◌^◌, ◌++◌, length, take, replicate};
+ghost use Rattle.luks_kdf.specs.Splitter.{diffused, diffuse};
+ghost use Rattle.luks_kdf.specs.Xor.{xor_bytes};
+
+use crate::derive::xor_into;
+use crate::hash::HashFn;
+
+// One step of the splitter: xors a stripe into `block` and diffuses the block.
+pub(crate) fn mix<H: HashFn>(block: &mut [u8], stripe: &[u8])
+    requires same_length { length block.old ≡ length stripe.now }
+    requires at_most_128 { length block.old ≤ 128 }
+    ensures { block.new ≡ diffuse H.digest H.LEN (xor_bytes block.old stripe.now) }
+{
+    xor_into(block, stripe);
+    diffuse_all::<H>(block);
+}
+
+// Diffuses each block of the hash's length by itself.
+fn diffuse_all<H: HashFn>(bytes: &mut [u8])
+    requires { length bytes.old ≤ 128 }
+    ensures { bytes.new ≡ diffuse H.digest H.LEN bytes.old }
+{
+    let count = bytes.len().div_ceil(H::LEN);
+    for j in 0..count {
+        let start = j * H::LEN;
+        let end = (start + H::LEN).min(bytes.len());
+        diffuse_block::<H>(&mut bytes[start..end], j as u32);
+    }
+}
+
+// Diffuses one block, which is no longer than a digest.
+fn diffuse_block<H: HashFn>(block: &mut [u8], number: u32)
+    requires { length block.old ≤ H.LEN }
+    ensures { block.new ≡ diffused H.digest number block.old }
+{
+    let mut state = H::start();
+    state.feed(&number.to_be_bytes());
+    state.feed(block);
+    let mut buffer = [0u8; 64];
+    let digest = &mut buffer[..H::LEN];
+    state.finish(digest);
+    block.copy_from_slice(&digest[..block.len()]);
+}
