@@ -1,0 +1,67 @@
+//! What a keyslot says about how it is opened.
+
+use luks_area::Area;
+
+/// How the key of a keyslot's area is derived from a passphrase.
+#[derive(Clone, Copy, Debug)]
+pub enum Derivation<'a> {
+    /// PBKDF2 with this hash, named as the header writes it, by at least one iteration.
+    Pbkdf2 {
+        /// The hash's name.
+        hash: &'a str,
+        /// The number of iterations.
+        iterations: u32,
+        /// The salt, of any length.
+        salt: &'a [u8],
+    },
+    /// Argon2, which is never derived: such a keyslot is refused.
+    Argon2,
+}
+
+/// The cipher of a keyslot's area, as the header writes it.
+#[derive(Clone, Copy, Debug)]
+pub enum AreaCipher<'a> {
+    /// A name and a mode, as LUKS1 writes them: `aes` and `xts-plain64`.
+    Apart {
+        /// The cipher's name.
+        name: &'a str,
+        /// The cipher's mode.
+        mode: &'a str,
+    },
+    /// One text, as LUKS2 writes it: `aes-xts-plain64`.
+    Whole(&'a str),
+}
+
+/// By what a volume key is known to be the right one: PBKDF2 of it.
+#[derive(Clone, Copy, Debug)]
+pub struct DigestPlan<'a> {
+    /// The hash's name, as the header writes it.
+    pub hash: &'a str,
+    /// The number of iterations, at least 1.
+    pub iterations: u32,
+    /// The salt, of any length.
+    pub salt: &'a [u8],
+    /// What PBKDF2 of the volume key has to give, 20 to 64 bytes, whole.
+    pub stored: &'a [u8],
+}
+
+/// All that it takes to open a keyslot with a passphrase, of either version.
+#[derive(Clone, Copy, Debug)]
+pub struct SlotPlan<'a> {
+    /// How the key of the area is derived.
+    pub derivation: Derivation<'a>,
+    /// The cipher of the area.
+    pub cipher: AreaCipher<'a>,
+    /// Where the key material lies.
+    pub area: Area,
+    /// The length in bytes of the key of the area's cipher.
+    pub area_key_bytes: usize,
+    /// The length in bytes of the volume key, 1 to 128.
+    pub key_bytes: usize,
+    /// How many stripes the volume key is split into, at least 1.
+    pub stripes: u32,
+    /// The name of the splitter's hash, as the header writes it.
+    pub splitter_hash: &'a str,
+    /// What the volume key has to meet.
+    pub digest: DigestPlan<'a>,
+}
