@@ -2,7 +2,10 @@
 import hashlib
 import struct
 
-from cryptography.hazmat.primitives.ciphers import Cipher, algorithms, modes
+try:
+    from cryptography.hazmat.primitives.ciphers import Cipher, algorithms, modes
+except ImportError:
+    raise SystemExit("Python's package cryptography isn't there: apt-get install python3-cryptography") from None
 
 SECTOR = 512
 
