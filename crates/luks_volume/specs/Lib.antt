@@ -1,3 +1,4 @@
 pub mod Checked
 pub mod Layout1
+pub mod Layout2
 pub mod Listing
