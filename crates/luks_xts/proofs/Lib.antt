@@ -9,3 +9,6 @@ pub mod Bytes
 pub mod Steps
 pub mod Undone
 pub mod Expanded
+pub mod Alpha
+pub mod Units
+pub mod Loops

@@ -19,7 +19,7 @@ same_map : (f g : ℕ → ℕ) (xs : List ℕ) → ((x : ℕ) → f x ≡ g x) �
 same_map f g [] h = refl
 same_map f g (x ∷ xs) h = ap₂ (λ (y : ℕ) (ys : List ℕ). y ∷ ys) (h x) (same_map f g xs h)
 
-same_state : (f g : ℕ → ℕ → ℕ) → ((r c : ℕ) → f r c ≡ g r c) → state_by f ≡ state_by g
+pub same_state : (f g : ℕ → ℕ → ℕ) → ((r c : ℕ) → f r c ≡ g r c) → state_by f ≡ state_by g
 unfolding state_by
 same_state f g h = same_map (λ k. f (k % 4) (k / 4)) (λ k. g (k % 4) (k / 4)) (range_with_len 0 16) (λ k. h (k % 4) (k / 4))
 

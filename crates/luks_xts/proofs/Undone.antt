@@ -64,6 +64,27 @@ module _ (w : List ℕ) (words : AreBytes w) where
       ∙ ap (λ (t : List ℕ). add_round_key t k) (last_redone _ added)
       ∙ key_undone s k h.long
 
+  cipher-state : (n : ℕ) (s : List ℕ) → IsState s → IsState (cipher w n s)
+  unfolding cipher
+  cipher-state n s h =
+      let before = after-state n s h in
+      let shifted = shift_rows-state _ (sub_bytes-state _ before.bytes).bytes in
+      add_round_key-state _ _ shifted.bytes (bytes-round_key w (n + 1) words)
+
+  before-state : (n : ℕ) (s : List ℕ) → IsState s → IsState (state_before w n s)
+  unfolding state_before
+  before-state zero s h = add_round_key-state s _ h.bytes (bytes-round_key w 0 words)
+  before-state (suc n) s h =
+      let added = add_round_key-state s _ h.bytes (bytes-round_key w (suc n) words) in
+      let unmixed = inverse_mix_columns-state _ added.bytes in
+      before-state n _ (inverse_sub_bytes-state _ (inverse_shift_rows-state _ unmixed.bytes).bytes)
+
+  inverse_cipher-state : (n : ℕ) (s : List ℕ) → IsState s → IsState (inverse_cipher w n s)
+  unfolding inverse_cipher
+  inverse_cipher-state n s h =
+      let added = add_round_key-state s _ h.bytes (bytes-round_key w (n + 1) words) in
+      before-state n _ (inverse_sub_bytes-state _ (inverse_shift_rows-state _ added.bytes).bytes)
+
 pub aes_undone : (key s : List ℕ) → AreBytes key → IsState s → AesInverse key (Aes key s) ≡ s
 unfolding Aes AesInverse
 aes_undone key s k h = cipher_undone (key_schedule key) (bytes-key_schedule key k) _ s h
@@ -71,3 +92,11 @@ aes_undone key s k h = cipher_undone (key_schedule key) (bytes-key_schedule key 
 pub aes_redone : (key s : List ℕ) → AreBytes key → IsState s → Aes key (AesInverse key s) ≡ s
 unfolding Aes AesInverse
 aes_redone key s k h = cipher_redone (key_schedule key) (bytes-key_schedule key k) _ s h
+
+pub aes-state : (key s : List ℕ) → AreBytes key → IsState s → IsState (Aes key s)
+unfolding Aes
+aes-state key s k h = cipher-state (key_schedule key) (bytes-key_schedule key k) _ s h
+
+pub inverse-state : (key s : List ℕ) → AreBytes key → IsState s → IsState (AesInverse key s)
+unfolding AesInverse
+inverse-state key s k h = inverse_cipher-state (key_schedule key) (bytes-key_schedule key k) _ s h

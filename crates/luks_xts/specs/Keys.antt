@@ -12,3 +12,8 @@ pub record IsExpanded (count : ℕ) (words : List ℕ) : Type 0 where
   pub long : length words ≡ 240
   pub bytes : (k : ℕ) → slice_index words k < 256
   pub expanded : take (16 * count + 112) words ≡ schedule count (key_bytes count words) (3 * count + 28)
+
+-- the halves of a key of XTS: as long as each other, and the first of bytes
+pub record AreHalves (first second : List ℕ) : Type 0 where
+  pub same_length : length first ≡ length second
+  pub bytes : (k : ℕ) → slice_index first k < 256

@@ -4,3 +4,4 @@ pub mod Aes
 pub mod Columns
 pub mod Xts
 pub mod Keys
+pub mod Blocks

@@ -16,18 +16,24 @@ block_key key = take (length key / 2) key
 unfoldable pub tweak_key : List ℕ → List ℕ
 tweak_key key = drop (length key / 2) key
 
--- the tweak of block j of a unit; bytes and polynomials correspond lowest byte first (5.2)
-unfoldable pub tweak_of : List ℕ → ℕ → ℕ → List ℕ
-tweak_of key unit j = to_le_bytes w128 (alpha_times j (from_le_bytes w128 (Aes (tweak_key key) (to_le_bytes w128 unit))))
+-- the tweak of a unit, a polynomial whose bytes come lowest first: the unit's number as 16 bytes,
+-- encrypted under the second key (5.2)
+unfoldable pub tweak_of : List ℕ → ℕ → ℕ
+tweak_of key unit = from_le_bytes w128 (Aes (tweak_key key) (to_le_bytes w128 unit))
 
--- block j of a unit, sealed (5.3.1) and opened (5.4.1)
+-- a block sealed (5.3.1) and opened (5.4.1) under a key, with the polynomial t as its tweak
+unfoldable pub sealed_under : List ℕ → ℕ → List ℕ → List ℕ
+sealed_under key t p = add_round_key (Aes key (add_round_key p (to_le_bytes w128 t))) (to_le_bytes w128 t)
+
+unfoldable pub opened_under : List ℕ → ℕ → List ℕ → List ℕ
+opened_under key t c = add_round_key (AesInverse key (add_round_key c (to_le_bytes w128 t))) (to_le_bytes w128 t)
+
+-- block j of a unit, by itself: its tweak is alpha to the power j times the unit's
 unfoldable pub sealed_block : List ℕ → ℕ → ℕ → List ℕ → List ℕ
-sealed_block key unit j p =
-    add_round_key (Aes (block_key key) (add_round_key p (tweak_of key unit j))) (tweak_of key unit j)
+sealed_block key unit j p = sealed_under (block_key key) (alpha_times j (tweak_of key unit)) p
 
 unfoldable pub opened_block : List ℕ → ℕ → ℕ → List ℕ → List ℕ
-opened_block key unit j c =
-    add_round_key (AesInverse (block_key key) (add_round_key c (tweak_of key unit j))) (tweak_of key unit j)
+opened_block key unit j c = opened_under (block_key key) (alpha_times j (tweak_of key unit)) c
 
 -- block j of the bytes of a unit
 unfoldable pub block_at : List ℕ → ℕ → List ℕ

@@ -6,8 +6,10 @@ mod rounds;
 mod schedule;
 mod tables;
 mod words;
+mod xts;
 
 pub use aes::AesKey;
+pub use xts::XtsKey;
 
 #[cfg(test)]
 mod tests;

@@ -1,0 +1,5 @@
+use Rattle.luks_xts.proofs.Loops.{AreSealed}
+use Rattle.luks_xts.proofs.xts.seal_blocks.Given as goal
+
+abbrev pub invariant-loop-j : goal.invariant-loop-j
+invariant-loop-j l = AreSealed l.key l.first l.initial.bytes l.bytes l.tweak l.j

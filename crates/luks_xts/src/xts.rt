@@ -1,0 +1,111 @@
+ghost use Rattle.std.specs.Prelude.{◌≡◌, ◌⊎◌, ◌+◌, ◌*◌, ◌/◌, ◌%◌, ◌^◌, length, SomeIff};
+ghost use Rattle.luks_xts.specs.Polynomial.{poly_rem};
+ghost use Rattle.luks_xts.specs.Xts.{XtsSeal, XtsOpen, sealed_under, opened_under};
+ghost use Rattle.luks_xts.specs.Blocks.{sealed_blocks, opened_blocks};
+
+use crate::aes::AesKey;
+use crate::rounds::add_round_key;
+use std::marker::Model;
+
+/// A key of XTS-AES (IEEE 1619). A contract sees the bytes that it was made of.
+#[derive(Drop)]
+pub struct XtsKey {
+    blocks: AesKey,
+    tweaks: AesKey,
+}
+
+impl Model for XtsKey {
+    ghost use Rattle.std.specs.Prelude.{List, ℕ, ◌++◌};
+
+    ghost Value = { List ℕ };
+
+    ghost use Rattle.luks_xts.specs.Keys.{AreHalves};
+
+    ghost view = { λ k. k.blocks ++ k.tweaks };
+
+    ghost invariant = { λ k. AreHalves k.blocks k.tweaks };
+}
+
+impl XtsKey {
+    /// The key of these bytes: 32 for XTS-AES-128, 64 for XTS-AES-256, and None at every other
+    /// length. The first half is for the blocks, the second for the tweaks.
+    pub fn new(key: &[u8]) -> Option<XtsKey>
+        ensures { SomeIff result ((length key.now ≡ 32) ⊎ (length key.now ≡ 64)) key.now }
+    {
+        let (first, second) = key.split_at(key.len() / 2);
+        let blocks = AesKey::new(first)?;
+        let tweaks = AesKey::new(second)?;
+        Some(XtsKey { blocks, tweaks })
+    }
+
+    /// Encrypts a unit in place: a sector, as a volume has them, of whole blocks of 16 bytes. `unit`
+    /// is the sector's number, and an empty unit stays empty.
+    pub fn seal_unit(&self, unit: u64, bytes: &mut [u8])
+        requires { length bytes.old % 16 ≡ 0 }
+        ensures value { bytes.new ≡ XtsSeal self.now unit bytes.old }
+        ensures undone { XtsOpen self.now unit bytes.new ≡ bytes.old }
+    {
+        let tweak = self.tweaks.encrypt(u128::from(unit).to_le_bytes());
+        seal_blocks(&self.blocks, u128::from_le_bytes(tweak), bytes);
+    }
+
+    /// Decrypts a unit in place, what `seal_unit` did of the same number undone.
+    pub fn open_unit(&self, unit: u64, bytes: &mut [u8])
+        requires { length bytes.old % 16 ≡ 0 }
+        ensures value { bytes.new ≡ XtsOpen self.now unit bytes.old }
+        ensures undone { XtsSeal self.now unit bytes.new ≡ bytes.old }
+    {
+        let tweak = self.tweaks.encrypt(u128::from(unit).to_le_bytes());
+        open_blocks(&self.blocks, u128::from_le_bytes(tweak), bytes);
+    }
+}
+
+// A tweak times alpha.
+#[inline(always)]
+fn doubled(tweak: u128) -> u128
+    ensures { result ≡ poly_rem (2 ^ 128 + 0x87) 128 1 (tweak * 2) }
+{
+    (tweak << 1) ^ ((tweak >> 127) * 0x87)
+}
+
+// One block of a unit.
+fn seal_block(key: &AesKey, tweak: u128, block: &mut [u8])
+    requires { length block.old ≡ 16 }
+    ensures { block.new ≡ sealed_under key.now tweak block.old }
+{
+    let mask = tweak.to_le_bytes();
+    let sealed = key.encrypt(add_round_key(mask, block));
+    block.copy_from_slice(&add_round_key(sealed, &mask));
+}
+
+fn open_block(key: &AesKey, tweak: u128, block: &mut [u8])
+    requires { length block.old ≡ 16 }
+    ensures { block.new ≡ opened_under key.now tweak block.old }
+{
+    let mask = tweak.to_le_bytes();
+    let opened = key.decrypt(add_round_key(mask, block));
+    block.copy_from_slice(&add_round_key(opened, &mask));
+}
+
+// The blocks of a unit, from the tweak of the first.
+fn seal_blocks(key: &AesKey, first: u128, bytes: &mut [u8])
+    requires { length bytes.old % 16 ≡ 0 }
+    ensures { bytes.new ≡ sealed_blocks key.now first bytes.old (length bytes.old / 16) }
+{
+    let mut tweak = first;
+    for j in 0..bytes.len() / 16 {
+        seal_block(key, tweak, &mut bytes[16 * j..16 * j + 16]);
+        tweak = doubled(tweak);
+    }
+}
+
+fn open_blocks(key: &AesKey, first: u128, bytes: &mut [u8])
+    requires { length bytes.old % 16 ≡ 0 }
+    ensures { bytes.new ≡ opened_blocks key.now first bytes.old (length bytes.old / 16) }
+{
+    let mut tweak = first;
+    for j in 0..bytes.len() / 16 {
+        open_block(key, tweak, &mut bytes[16 * j..16 * j + 16]);
+        tweak = doubled(tweak);
+    }
+}
