@@ -1,10 +1,10 @@
 -- A header without faults is one that its relation accepts, and the other way round.
-use Rattle.std.proofs.Common.{◌≡◌, ◌⊎◌, List, ℕ, ◌<◌, ◌≤◌, length, slice_index_or, [], ◌∷◌, ◌+◌, arith, refl, sym, ◌∙◌, true≢false, inl, inr}
+use Rattle.std.proofs.Common.{◌≡◌, List, ℕ, ◌<◌, ◌≤◌, length, slice_index_or, [], ◌∷◌, arith, refl, sym, ◌∙◌, true≢false, inl, inr}
 use Rattle.std.proofs.lemmas.Bool.{cases_lt, cases_eq, true_from_ne_false}
 use Rattle.luks_area.specs.Ranges.{part}
-use Rattle.luks_head.specs.Bytes.{number_at, text_at, HoldsText, IsUuid}
+use Rattle.luks_head.specs.Bytes.{number_at, text_at, HoldsText}
 use Rattle.luks_head.specs.Faults.{field_key, HasBadText, head_row, head_place, IsCommonFault, IsEntryFault, IsLuks1Fault, HasBadKeyBytes, HasNoState}
-use Rattle.luks_head.specs.Header1.{HasMagic, version_of, active_word, entry_iterations, entry_stripes, word_of, entry, luks_magic, HoldsTexts, HoldsCommon, HoldsEntry, HoldsSlots, IsCommon, IsEntry, IsLuks1}
+use Rattle.luks_head.specs.Header1.{version_of, active_word, entry_iterations, entry_stripes, word_of, entry, luks_magic, HoldsTexts, HoldsCommon, HoldsEntry, IsCommon, IsEntry, IsLuks1}
 use Rattle.luks_head.specs.declared.fault.HeadFault.{HeadFault}
 use Rattle.luks_head.specs.declared.fault.HeadFault.TheVariants as fault
 use Rattle.luks_head.specs.declared.fault.TextField.{TextField}

@@ -1,3 +1,6 @@
+pub mod Choosing
 pub mod Deciding
 pub mod Judged
+pub mod Seconds
 pub mod UuidTexts
+pub mod Windows

@@ -1,10 +1,10 @@
 -- A text reads as a uuid of 36 bytes exactly where its digits and hyphens stand.
-use Rattle.std.proofs.Common.{◌≡◌, ℕ, ◌<◌, ◌==◌, ◌&&◌, List, length, slice_index, Bool, true, false, Option, Some, None, inl, inr, arith, refl, sym, ap, ◌∙◌}
-use Rattle.std.proofs.lemmas.Bool.{cases_Bool, or_cases, and_from, and_parts, eqb-true, false≢true}
+use Rattle.std.proofs.Common.{◌≡◌, ℕ, ◌<◌, ◌==◌, List, length, slice_index, true, false, Some, None, inl, inr, arith, refl, sym, ◌∙◌}
+use Rattle.std.proofs.lemmas.Bool.{cases_Bool, or_cases, and_from, and_parts, eqb-true}
 use Rattle.std.proofs.lemmas.Bool.Decides.{nat_tests}
 use Rattle.uuid.specs.Text.{by_index, byte_of_digits, digits_of, hyphen_place, digit_place, hex_digit_value, has_hyphens, is_hex_digit, parsed, parsed_simple, parsed_hyphenated}
 use Rattle.uuid.proofs.TextLemmas.{by_index_at, by_index_length, hyphens_pass, simple_none, simple_some}
-use Rattle.luks_head.specs.Bytes.{IsUuid, is_uuid_byte, is_hexadecimal, is_hyphen_place}
+use Rattle.luks_head.specs.Bytes.{IsUuid, is_uuid_byte, is_hyphen_place}
 
 -- a text of 36 bytes is read as one with hyphens
 by_hyphens : (s : List ℕ) → length s ≡ 36 → parsed s ≡ parsed_hyphenated s

@@ -1,5 +1,5 @@
 -- Fields of a header: the bytes at a place, and what they say. Numbers are big-endian.
-use Rattle.std.specs.Prelude.{◌≡◌, ℕ, ◌+◌, ◌*◌, List, Bool, true, ◌==◌, ◌&&◌, ◌||◌, ◌<◌, take, drop, length, slice_index, if◌then◌else◌, nat_le}
+use Rattle.std.specs.Prelude.{◌≡◌, ℕ, List, Bool, true, ◌==◌, ◌&&◌, ◌||◌, ◌<◌, length, slice_index, if◌then◌else◌, nat_le}
 use Rattle.byteorder.specs.Endian.{big_number}
 use Rattle.luks_area.specs.Ranges.{part}
 use Rattle.luks_area.specs.Text.{text_of, is_plain}

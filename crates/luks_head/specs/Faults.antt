@@ -1,6 +1,5 @@
 -- The faults of a header, and their order.
 use Rattle.std.specs.Prelude.{◌≡◌, ◌≢◌, ℕ, ◌<◌, ◌≤◌, List, [], ◌∷◌, length}
-use Rattle.luks_area.specs.Ranges.{part}
 use Rattle.luks_head.specs.Bytes.{number_at, text_at, HoldsText, IsUuid}
 use Rattle.luks_head.specs.Header1.{HasMagic, version_of, entry, active_word, entry_iterations, entry_stripes, enabled_word, disabled_word}
 use Rattle.luks_head.specs.declared.fault.HeadFault.{HeadFault}

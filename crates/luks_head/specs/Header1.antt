@@ -1,5 +1,5 @@
 -- The LUKS1 header, field by field (LUKS1 On-Disk Format 1.2.3, "The partition header").
-use Rattle.std.specs.Prelude.{◌≡◌, ◌≢◌, ℕ, ◌+◌, ◌*◌, ◌<◌, ◌≤◌, List, [], ◌∷◌, length, slice_index_or}
+use Rattle.std.specs.Prelude.{◌≡◌, ℕ, ◌+◌, ◌*◌, ◌<◌, ◌≤◌, List, [], ◌∷◌, length, slice_index_or}
 use Rattle.luks_area.specs.Ranges.{part}
 use Rattle.luks_head.specs.Bytes.{number_at, text_at, HoldsText, IsUuid}
 use Rattle.luks_head.specs.declared.luks1.Luks1.{Luks1}

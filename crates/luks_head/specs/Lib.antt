@@ -5,4 +5,5 @@ pub mod Faults
 pub mod Header2
 pub mod Judged2
 pub mod Selection
+pub mod Finds
 pub mod Shown

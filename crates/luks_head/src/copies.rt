@@ -1,5 +1,6 @@
 //! Copies of a LUKS2 header on a device, and whether they are sound.
 ghost use Rattle.std.specs.Prelude.{◌≡◌, ◌↔◌, ◌+◌, ◌*◌, ◌^◌, ◌<◌, ◌≤◌, codes, length, IsTrue, IfOk, MatchResult};
+ghost use Rattle.sha2.specs.Hashers.{Holds256};
 ghost use Rattle.sha2.specs.Sha256.{sha256};
 ghost use Rattle.luks_area.specs.Ranges.{part};
 ghost use Rattle.luks_head.specs.Bytes.{text_at};
@@ -59,4 +60,94 @@ fn is_formed(head: &[u8], at: u64, total: u64) -> bool
         && size <= total
         && at <= total - size
         && has_sha256(head)
+}
+
+/// A hasher that was fed the binary header with the 64 bytes of its checksum as zeros.
+fn digest_of_header(head: &[u8]) -> Sha256
+    requires { 512 ≤ length head.now }
+    ensures { Holds256 result (unsummed head.now) }
+{
+    let mut hasher = Sha256::new();
+    hasher.update(field(head, 0, 448));
+    hasher.update([0; 64].as_slice());
+    hasher.update(&head[512..]);
+    hasher
+}
+
+/// The SHA-256 of the copy of `size` bytes at `at`, whose first 4096 bytes are `head`, with the 64
+/// bytes of its checksum taken as zeros. It is fed by windows of 4096 bytes.
+fn digest_of_copy<D: Device>(
+    device: &mut D,
+    at: u64,
+    size: u64,
+    head: &[u8],
+) -> Result<[u8; 32], DeviceFault>
+    requires listed { IsListed size }
+    requires header { 4096 ≤ length head.now }
+    requires within { at + size ≤ D.size device.old }
+    requires fits { at + size < 2 ^ 64 }
+    requires room { D.failed device.old + 1 < 2 ^ 64 }
+    ensures size { D.size device.new ≡ D.size device.old }
+    ensures same { D.tells → D.bytes device.new ≡ D.bytes device.old }
+    ensures count { MatchResult result (λ _. D.failed device.new ≡ D.failed device.old) (λ _. D.failed device.new ≡ D.failed device.old + 1) }
+    ensures digest { D.tells → head.now ≡ header_at (D.bytes device.old) at → IfOk result (λ d. d ≡ sha256 (unsummed (part (D.bytes device.old) at size))) }
+{
+    let mut hasher = digest_of_header(head);
+    let mut window = [0; 4096];
+    for k in 1..size / 4096 {
+        device.read_at(at + 4096 * k, &mut window)?;
+        hasher.update(window.as_slice());
+    }
+    Ok(hasher.finalize())
+}
+
+fn has_sum(head: &[u8], digest: &[u8]) -> bool
+    requires { length head.now ≡ 4096 }
+    ensures { IsTrue result ↔ (part head.now 448 32 ≡ digest.now) }
+{
+    field(head, 448, 32) == digest
+}
+
+/// The binary header of the copy at `at`, where that copy is sound.
+pub(crate) fn sound_copy<D: Device>(device: &mut D, at: u64) -> Result<Option<Bin2>, DeviceFault>
+    requires room { D.failed device.old + 1 < 2 ^ 64 }
+    ensures size { D.size device.new ≡ D.size device.old }
+    ensures same { D.tells → D.bytes device.new ≡ D.bytes device.old }
+    ensures count { MatchResult result (λ _. D.failed device.new ≡ D.failed device.old) (λ _. D.failed device.new ≡ D.failed device.old + 1) }
+    ensures judged { D.tells → IfOk result (JudgesCopy (D.bytes device.old) at) }
+{
+    let total = device.len();
+    if total < 4096 || at > total - 4096 {
+        return Ok(None);
+    }
+    let mut head = [0; 4096];
+    device.read_at(at, &mut head)?;
+    if !is_formed(&head, at, total) {
+        return Ok(None);
+    }
+    let header = Bin2::read(&head);
+    let digest = digest_of_copy(device, at, header.hdr_size, &head)?;
+    if has_sum(&head, &digest) {
+        Ok(Some(header))
+    } else {
+        Ok(None)
+    }
+}
+
+/// The binary header of the sound copy at the least listed place.
+pub(crate) fn least_second<D: Device>(device: &mut D) -> Result<Option<Bin2>, DeviceFault>
+    requires room { D.failed device.old + 1 < 2 ^ 64 }
+    ensures size { D.size device.new ≡ D.size device.old }
+    ensures same { D.tells → D.bytes device.new ≡ D.bytes device.old }
+    ensures count { MatchResult result (λ _. D.failed device.new ≡ D.failed device.old) (λ _. D.failed device.new ≡ D.failed device.old + 1) }
+    ensures found { D.tells → IfOk result (FindsSecond (D.bytes device.old)) }
+{
+    let mut left = LISTED_SIZES.as_slice();
+    while let [at, later @ ..] = left {
+        match sound_copy(device, *at)? {
+            Some(header) => return Ok(Some(header)),
+            None => left = later,
+        }
+    }
+    Ok(None)
 }

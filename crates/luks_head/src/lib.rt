@@ -14,4 +14,4 @@ mod uuids;
 pub use bin2::Bin2;
 pub use fault::{HeadFault, IterationsOf, TextField};
 pub use luks1::{Luks1, Luks1Common, Luks1Slot, SlotState};
-pub use selection::{Copies, Selected};
+pub use selection::{Copies, Selected, select};

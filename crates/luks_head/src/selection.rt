@@ -1,9 +1,14 @@
 //! Which header of a volume counts.
-ghost use Rattle.std.specs.Prelude.{◌≡◌, ◌+◌, ◌^◌, ◌<◌, IfOk, IfErr, OnOk};
+ghost use Rattle.std.specs.Prelude.{◌≡◌, ◌↔◌, ◌+◌, ◌^◌, ◌<◌, length, IsTrue, IfOk, IfErr, MatchResult};
+ghost use Rattle.luks_head.specs.Finds.{FindsCopy, IsNewer, IsWhy};
+ghost use Rattle.luks_head.specs.Selection.{Counts, IsOfSelection, IsRefused, IsSelected, IsVersion1};
 
 use crate::bin2::Bin2;
+use crate::copies::{least_second, sound_copy};
 use crate::fault::HeadFault;
-use luks_area::Device;
+use crate::judge::MAGIC;
+use crate::reads::{field, u16_at};
+use luks_area::{Device, DeviceFault};
 use std::alloc::Global;
 
 /// How the two copies of a LUKS2 header stand to each other.
@@ -33,4 +38,89 @@ pub enum Selected {
         /// How the two copies stand to each other.
         copies: Copies,
     },
+}
+
+/// Which of two sound copies counts: the one with the higher sequence number, on a tie the first.
+fn newer(first: Bin2, second: Bin2) -> (Bin2, Copies)
+    ensures { IsNewer first second result.0 result.1 }
+{
+    if first.seqid == second.seqid {
+        (first, Copies::InStep)
+    } else if first.seqid > second.seqid {
+        (first, Copies::FirstNewer)
+    } else {
+        (second, Copies::SecondNewer)
+    }
+}
+
+/// The copy that counts of a volume without a LUKS1 header.
+fn counting_copy<D: Device>(device: &mut D) -> Result<Option<(Bin2, Copies)>, DeviceFault>
+    requires room { D.failed device.old + 1 < 2 ^ 64 }
+    ensures size { D.size device.new ≡ D.size device.old }
+    ensures same { D.tells → D.bytes device.new ≡ D.bytes device.old }
+    ensures count { MatchResult result (λ _. D.failed device.new ≡ D.failed device.old) (λ _. D.failed device.new ≡ D.failed device.old + 1) }
+    ensures found { D.tells → IfOk result (FindsCopy (D.bytes device.old)) }
+{
+    match sound_copy(device, 0)? {
+        Some(first) => match sound_copy(device, first.hdr_size)? {
+            Some(second) => Ok(Some(newer(first, second))),
+            None => Ok(Some((first, Copies::FirstOnly))),
+        },
+        None => match least_second(device)? {
+            Some(second) => Ok(Some((second, Copies::SecondOnly))),
+            None => Ok(None),
+        },
+    }
+}
+
+/// Why a volume of which nothing counts is refused, by its first 592 bytes.
+fn why_nothing(head: &[u8]) -> HeadFault
+    requires { length head.now ≡ 592 }
+    ensures { IsWhy head.now result }
+{
+    if field(head, 0, 6) != MAGIC.as_slice() {
+        HeadFault::NotLuks
+    } else if u16_at(head, 6) != 2 {
+        HeadFault::Version
+    } else {
+        HeadFault::NoSoundCopy
+    }
+}
+
+fn is_version1(head: &[u8]) -> bool
+    requires { length head.now ≡ 592 }
+    ensures { IsTrue result ↔ IsVersion1 head.now }
+{
+    field(head, 0, 6) == MAGIC.as_slice() && u16_at(head, 6) == 1
+}
+
+/// Finds the header that counts: that of LUKS1, or else the newer of the sound copies of LUKS2
+/// (LUKS2 On-Disk Format 1.1, 2.3). It reads headers alone, and takes no memory.
+///
+/// Refused by `TooShort`, `NotLuks`, `Version` or `NoSoundCopy` by what the volume holds, and by
+/// `Device` where a device call failed.
+pub fn select<D: Device>(_alloc: Global, device: &mut D) -> Result<Selected, HeadFault>
+    requires room { D.failed device.old + 1 < 2 ^ 64 }
+    ensures size { D.size device.new ≡ D.size device.old }
+    ensures same { D.tells → D.bytes device.new ≡ D.bytes device.old }
+    ensures count { MatchResult result (λ _. D.failed device.new ≡ D.failed device.old) (λ f. Counts f (D.failed device.old) (D.failed device.new)) }
+    ensures kinds { IfErr result IsOfSelection }
+    ensures found { D.tells → IfOk result (IsSelected (D.bytes device.old)) }
+    ensures refused { D.tells → IfErr result (IsRefused (D.bytes device.old)) }
+{
+    if device.len() < 592 {
+        return Err(HeadFault::TooShort);
+    }
+    let mut head = [0; 592];
+    if device.read_at(0, &mut head).is_err() {
+        return Err(HeadFault::Device);
+    }
+    if is_version1(&head) {
+        return Ok(Selected::V1(head));
+    }
+    match counting_copy(device) {
+        Ok(Some((header, copies))) => Ok(Selected::V2 { header, copies }),
+        Ok(None) => Err(why_nothing(&head)),
+        Err(_) => Err(HeadFault::Device),
+    }
 }

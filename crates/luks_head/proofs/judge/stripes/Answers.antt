@@ -1,4 +1,4 @@
-use Rattle.std.proofs.Common.{refl, sym, below_more}
+use Rattle.std.proofs.Common.{refl, below_more}
 use Rattle.luks_head.specs.declared.fault.HeadFault.TheVariants as fault
 use Rattle.luks_head.proofs.judge.stripes.Goals as goal
 

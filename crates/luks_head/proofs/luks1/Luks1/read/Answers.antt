@@ -1,6 +1,5 @@
-use Rattle.luks_head.proofs.Judged.{accepted, none_in_common, none_in_entry, sound, texts_accepted}
+use Rattle.luks_head.proofs.Judged.{accepted, none_in_common, sound, texts_accepted}
 use Rattle.luks_head.specs.declared.fault.HeadFault.TheVariants as fault
-use Rattle.std.proofs.Common.{refl, arith}
 use Rattle.luks_head.proofs.luks1.Luks1.read.Goals as goal
 
 pub common_fields-requires-clause-texts : goal.common_fields-requires-clause-texts

@@ -1,5 +1,5 @@
 use Rattle.std.proofs.Common.{refl}
-use Rattle.luks_head.proofs.Judged.{entry_accepted, entry_sound}
+use Rattle.luks_head.proofs.Judged.{entry_accepted}
 use Rattle.luks_head.specs.declared.fault.HeadFault.TheVariants as fault
 use Rattle.luks_head.proofs.luks1.Luks1.slot.Goals as goal
 
