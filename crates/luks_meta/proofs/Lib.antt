@@ -5,3 +5,5 @@ pub mod Encodings
 pub mod NoZero
 pub mod Order
 pub mod Walking
+pub mod Saying
+pub mod SayingKeyslot

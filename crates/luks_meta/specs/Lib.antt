@@ -7,3 +7,4 @@ pub mod Reading
 pub mod Arrays
 pub mod Faults
 pub mod Walk
+pub mod Says

@@ -1,0 +1,69 @@
+//! Segments: the parts of a volume that hold its payload.
+
+ghost use Rattle.std.specs.Prelude.{◌≡◌, IfSome, IsSome};
+ghost use Rattle.serde_json.specs.View.{view};
+ghost use Rattle.luks_meta.specs.Table.{segment_rows};
+ghost use Rattle.luks_meta.specs.Says.{IsRead, SaysSegment, TellsKind, TellsSegment};
+
+use crate::member::{Extent, decimal_at, extent_at, has_type, sector_size_at, text_at};
+use crate::table::{Member, Outer};
+use serde_json::Value;
+
+/// How a segment's payload is encrypted.
+#[derive(Clone, Copy, Debug)]
+pub struct Encryption<'a> {
+    /// The number of the segment's first sector.
+    pub iv_tweak: u64,
+    /// The cipher with its mode.
+    pub cipher: &'a str,
+    /// The size of a sector in bytes.
+    pub sector_size: u16,
+}
+
+/// What a segment is.
+#[derive(Clone, Copy, Debug)]
+pub enum SegmentKind<'a> {
+    Crypt(Encryption<'a>),
+    Linear,
+}
+
+/// The members of a segment.
+#[derive(Clone, Copy, Debug)]
+pub struct Segment<'a> {
+    /// Where it begins, in bytes.
+    pub offset: u64,
+    pub size: Extent,
+    pub kind: SegmentKind<'a>,
+}
+
+/// The members of a segment; none where one breaks its rule.
+pub fn read_segment(object: &Value) -> Option<Segment<'_>>
+    ensures says { IfSome result (λ k. SaysSegment (view object.now) k) }
+    ensures tells { IfSome result (λ k. TellsSegment (view object.now) k) }
+    ensures there { IsRead segment_rows (view object.now) → IsSome result }
+{
+    let offset = decimal_at(object, Outer::Top, Member::Offset)?;
+    let size = extent_at(object)?;
+    let kind = read_kind(object)?;
+    Some(Segment { offset, size, kind })
+}
+
+fn read_kind(object: &Value) -> Option<SegmentKind<'_>>
+    ensures says { IfSome result (λ k. TellsKind (view object.now) k) }
+    ensures there { IsRead segment_rows (view object.now) → IsSome result }
+{
+    if has_type(object, Outer::Top, "linear") {
+        return Some(SegmentKind::Linear);
+    }
+    if !has_type(object, Outer::Top, "crypt") {
+        return None;
+    }
+    let iv_tweak = decimal_at(object, Outer::Top, Member::IvTweak)?;
+    let cipher = text_at(object, Outer::Top, Member::Encryption)?;
+    let sector_size = sector_size_at(object)?;
+    Some(SegmentKind::Crypt(Encryption {
+        iv_tweak,
+        cipher,
+        sector_size,
+    }))
+}
