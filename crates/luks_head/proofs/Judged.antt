@@ -33,7 +33,7 @@ pub text_held : (v : List ℕ) (o l : ℕ) → ((HoldsText v o l → ⊥) → �
 text_held v o l good = true_from_ne_false _ (λ fails. good (λ holds. true≢false (sym holds ∙ fails)))
 
 -- the word of a state is one of the two
-stated : (e : List ℕ) (s : SlotState) → active_word e ≡ word_of s → HasNoState e → ⊥
+pub stated : (e : List ℕ) (s : SlotState) → active_word e ≡ word_of s → HasNoState e → ⊥
 stated e state.Enabled is none = none.0 is
 stated e state.Disabled is none = none.1 is
 

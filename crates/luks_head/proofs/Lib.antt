@@ -2,5 +2,6 @@ pub mod Choosing
 pub mod Deciding
 pub mod Judged
 pub mod Seconds
+pub mod Stated
 pub mod UuidTexts
 pub mod Windows

@@ -6,6 +6,7 @@ mod bin2;
 mod copies;
 mod fault;
 mod judge;
+mod laws;
 mod luks1;
 mod reads;
 mod selection;
@@ -13,5 +14,6 @@ mod uuids;
 
 pub use bin2::Bin2;
 pub use fault::{HeadFault, IterationsOf, TextField};
+pub use laws::{luks1_is_first_bytes, luks1_without_faults};
 pub use luks1::{Luks1, Luks1Common, Luks1Slot, SlotState};
 pub use selection::{Copies, Selected, select};

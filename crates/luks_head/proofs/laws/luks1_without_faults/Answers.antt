@@ -1,0 +1,12 @@
+use Rattle.luks_head.proofs.Judged.{common_sound, entry_sound, sound}
+use Rattle.luks_head.proofs.Stated.{common_found, entry_found, header_found}
+use Rattle.luks_head.proofs.laws.luks1_without_faults.Goals as goal
+
+pub returns-clause-header : goal.returns-clause-header
+returns-clause-header c = λ v. (header_found v, λ (d, good). sound v d good)
+
+pub returns-clause-common : goal.returns-clause-common
+returns-clause-common c = λ v. (common_found v, λ (d, good). common_sound v d good)
+
+pub returns-clause-entry : goal.returns-clause-entry
+returns-clause-entry c = λ n e. (entry_found n e, λ (s, good). entry_sound n e s good)

@@ -1,0 +1,24 @@
+//! Laws on the definitions of this crate. Each function does nothing; its contract is the law.
+ghost use Rattle.std.specs.Prelude.{◌≡◌, ◌≢◌, ◌↔◌, ◌+◌, ◌*◌, ◌≤◌, ◌<◌, ℕ, List, length};
+ghost use Rattle.luks_area.specs.Ranges.{part};
+ghost use Rattle.luks_head.specs.Faults.{IsCommonFault, IsEntryFault, IsLuks1Fault};
+ghost use Rattle.luks_head.specs.Header1.{entry, IsCommon, IsEntry, IsLuks1};
+
+use crate::fault::HeadFault;
+use crate::luks1::{Luks1, Luks1Common, Luks1Slot};
+
+/// A volume has no fault of a LUKS1 header exactly where it begins with one.
+pub fn luks1_without_faults()
+    ensures header { (v : List ℕ) → ((f : HeadFault) → IsLuks1Fault v f → ⊥) ↔ ((d : Luks1) × IsLuks1 v d) }
+    ensures common { (v : List ℕ) → ((f : HeadFault) → IsCommonFault v f → ⊥) ↔ ((c : Luks1Common) × IsCommon v c) }
+    ensures entry { (n : ℕ) (e : List ℕ) → ((f : HeadFault) → IsEntryFault n e f → ⊥) ↔ ((s : Luks1Slot) × IsEntry e s) }
+{}
+
+/// A LUKS1 header is the volume's first 592 bytes, the fields before its keyslots the first 208.
+pub fn luks1_is_first_bytes()
+    ensures header { (v : List ℕ) (d : Luks1) → 592 ≤ length v → IsLuks1 (part v 0 592) d ↔ IsLuks1 v d }
+    ensures faults { (v : List ℕ) (f : HeadFault) → 592 ≤ length v → IsLuks1Fault (part v 0 592) f ↔ IsLuks1Fault v f }
+    ensures common { (v : List ℕ) (c : Luks1Common) → IsCommon (part v 0 208) c ↔ IsCommon v c }
+    ensures common_faults { (v : List ℕ) (f : HeadFault) → IsCommonFault (part v 0 208) f ↔ IsCommonFault v f }
+    ensures entry { (v : List ℕ) (n : ℕ) → n < 8 → entry (part v 0 592) n ≡ entry v n }
+{}
