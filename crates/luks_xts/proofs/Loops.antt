@@ -3,9 +3,7 @@ use Rattle.std.proofs.Common.{◌≡◌, ℕ, suc, ◌+◌, ◌-◌, ◌*◌, �
 use Rattle.std.proofs.lemmas.List.{length-append, take_all, drop_at, take_at, drop-drop}
 use Rattle.std.proofs.lemmas.Slice.{take-put_mid, drop-put_mid}
 use borrow.Rule.Slice.PartMut.{put_mid}
-use Rattle.std.specs.Int.{w128, to_le_bytes, from_le_bytes}
 use Rattle.luks_xts.specs.Polynomial.{poly_rem}
-use Rattle.luks_xts.specs.Aes.{Aes}
 use Rattle.luks_xts.specs.Xts.{alpha_times, block_key, tweak_key, tweak_of, sealed_under, opened_under, sealed_block, opened_block, block_at, joined, XtsSeal, XtsOpen}
 use Rattle.luks_xts.specs.Blocks.{sealed_blocks, opened_blocks}
 use Rattle.luks_xts.proofs.Units.{length-sealed, length-opened}
@@ -92,13 +90,12 @@ pub sealed_end : (key : List ℕ) (first : ℕ) (old now : List ℕ) (tweak j : 
 unfolding sealed_blocks
 sealed_end key first old now tweak j end long whole h = along_end (λ k s. sealed_under key (alpha_times k first) s) old now j end long whole h.along
 
--- the unit of a key whose halves are known
-pub sealed_unit : (first second : List ℕ) (unit : ℕ) (bytes : List ℕ) → length first ≡ length second
-    → sealed_blocks first (from_le_bytes w128 (Aes second (to_le_bytes w128 unit))) bytes (length bytes / 16) ≡ XtsSeal (first ++ second) unit bytes
-unfolding sealed_blocks XtsSeal sealed_block tweak_of
-sealed_unit first second unit bytes same =
-    ap₂ (λ (k t : List ℕ). joined (λ j. sealed_under k (alpha_times j (from_le_bytes w128 (Aes t (to_le_bytes w128 unit)))) (block_at bytes j)) (length bytes / 16))
-    (sym (block_key_is first second same)) (sym (tweak_key_is first second same))
+-- the unit of a key whose first half is known
+pub sealed_unit : (key first : List ℕ) (unit : ℕ) (bytes : List ℕ) → first ≡ block_key key
+    → sealed_blocks first (tweak_of key unit) bytes (length bytes / 16) ≡ XtsSeal key unit bytes
+unfolding sealed_blocks XtsSeal sealed_block
+sealed_unit key first unit bytes half =
+    ap (λ (k : List ℕ). joined (λ j. sealed_under k (alpha_times j (tweak_of key unit)) (block_at bytes j)) (length bytes / 16)) half
 
 -- a loop that has opened the blocks before j, its tweak that of block j
 pub record AreOpened (key : List ℕ) (first : ℕ) (old now : List ℕ) (tweak j : ℕ) : Type 0 where
@@ -124,10 +121,9 @@ pub opened_end : (key : List ℕ) (first : ℕ) (old now : List ℕ) (tweak j : 
 unfolding opened_blocks
 opened_end key first old now tweak j end long whole h = along_end (λ k s. opened_under key (alpha_times k first) s) old now j end long whole h.along
 
--- the unit of a key whose halves are known
-pub opened_unit : (first second : List ℕ) (unit : ℕ) (bytes : List ℕ) → length first ≡ length second
-    → opened_blocks first (from_le_bytes w128 (Aes second (to_le_bytes w128 unit))) bytes (length bytes / 16) ≡ XtsOpen (first ++ second) unit bytes
-unfolding opened_blocks XtsOpen opened_block tweak_of
-opened_unit first second unit bytes same =
-    ap₂ (λ (k t : List ℕ). joined (λ j. opened_under k (alpha_times j (from_le_bytes w128 (Aes t (to_le_bytes w128 unit)))) (block_at bytes j)) (length bytes / 16))
-    (sym (block_key_is first second same)) (sym (tweak_key_is first second same))
+-- the unit of a key whose first half is known
+pub opened_unit : (key first : List ℕ) (unit : ℕ) (bytes : List ℕ) → first ≡ block_key key
+    → opened_blocks first (tweak_of key unit) bytes (length bytes / 16) ≡ XtsOpen key unit bytes
+unfolding opened_blocks XtsOpen opened_block
+opened_unit key first unit bytes half =
+    ap (λ (k : List ℕ). joined (λ j. opened_under k (alpha_times j (tweak_of key unit)) (block_at bytes j)) (length bytes / 16)) half

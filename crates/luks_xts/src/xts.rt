@@ -1,6 +1,6 @@
 ghost use Rattle.std.specs.Prelude.{◌≡◌, ◌⊎◌, ◌+◌, ◌*◌, ◌/◌, ◌%◌, ◌^◌, length, SomeIff};
 ghost use Rattle.luks_xts.specs.Polynomial.{poly_rem};
-ghost use Rattle.luks_xts.specs.Xts.{XtsSeal, XtsOpen, sealed_under, opened_under};
+ghost use Rattle.luks_xts.specs.Xts.{XtsSeal, XtsOpen, tweak_of, sealed_under, opened_under};
 ghost use Rattle.luks_xts.specs.Blocks.{sealed_blocks, opened_blocks};
 
 use crate::aes::AesKey;
@@ -45,8 +45,7 @@ impl XtsKey {
         ensures value { bytes.new ≡ XtsSeal self.now unit bytes.old }
         ensures undone { XtsOpen self.now unit bytes.new ≡ bytes.old }
     {
-        let tweak = self.tweaks.encrypt(u128::from(unit).to_le_bytes());
-        seal_blocks(&self.blocks, u128::from_le_bytes(tweak), bytes);
+        seal_blocks(&self.blocks, self.tweak(unit), bytes);
     }
 
     /// Decrypts a unit in place, what `seal_unit` did of the same number undone.
@@ -55,8 +54,15 @@ impl XtsKey {
         ensures value { bytes.new ≡ XtsOpen self.now unit bytes.old }
         ensures undone { XtsSeal self.now unit bytes.new ≡ bytes.old }
     {
+        open_blocks(&self.blocks, self.tweak(unit), bytes);
+    }
+
+    // The tweak of the first block of a unit.
+    fn tweak(&self, unit: u64) -> u128
+        ensures { result ≡ tweak_of self.now unit }
+    {
         let tweak = self.tweaks.encrypt(u128::from(unit).to_le_bytes());
-        open_blocks(&self.blocks, u128::from_le_bytes(tweak), bytes);
+        u128::from_le_bytes(tweak)
     }
 }
 

@@ -1,7 +1,5 @@
 use Rattle.std.proofs.Common.{ap, sym, subst, ◌∙◌, ◌<◌, ◌/◌, ℕ, length, slice_index, rules}
-use Rattle.std.specs.Int.{w128, to_le_bytes, from_le_bytes}
-use Rattle.luks_xts.specs.Aes.{Aes}
-use Rattle.luks_xts.specs.Xts.{XtsSeal, XtsOpen, block_key}
+use Rattle.luks_xts.specs.Xts.{XtsOpen, block_key}
 use Rattle.luks_xts.specs.Blocks.{sealed_blocks}
 use Rattle.luks_xts.proofs.Bytes.{AreBytes}
 use Rattle.luks_xts.proofs.Units.{seal_undone}
@@ -12,12 +10,10 @@ pub returns-clause-value : goal.returns-clause-value
 returns-clause-value c =
     let old = c.args.bytes.now in
     let first = c.self.inside.blocks in
-    let second = c.self.inside.tweaks in
-    let tweak = c.from_le_bytes.ensures ∙ ap (from_le_bytes w128) (c.encrypt-tweak.ensures.value ∙ ap (Aes second) (c.to_le_bytes.ensures ∙ ap (to_le_bytes w128) c.from.ensures)) in
+    let half = sym (block_key_is first c.self.inside.tweaks c.self.invariant.same_length) ∙ ap block_key c.self.view_is in
     c.seal_blocks.ensures
-    ∙ ap (λ t. sealed_blocks first t old (length old / 16)) tweak
-    ∙ sealed_unit first second c.args.unit old c.self.invariant.same_length
-    ∙ ap (λ k. XtsSeal k c.args.unit old) c.self.view_is
+    ∙ ap (λ t. sealed_blocks first t old (length old / 16)) c.tweak.ensures
+    ∙ sealed_unit c.args.self.now first c.args.unit old half
 
 pub returns-clause-undone : goal.returns-clause-undone
 returns-clause-undone c =
