@@ -1,5 +1,5 @@
 -- What the search for sound copies answers.
-use Rattle.std.specs.Prelude.{ℕ, ◌≤◌, List, Option, None, Some}
+use Rattle.std.specs.Prelude.{ℕ, ◌+◌, ◌≤◌, List, Option, None, Some}
 use Rattle.luks_head.specs.Header2.{header_at, HoldsBin2, IsSound}
 use Rattle.luks_head.specs.Sizes.{IsListed}
 use Rattle.luks_head.specs.declared.bin2.Bin2.{Bin2}
@@ -24,3 +24,13 @@ pub record IsLeastCopy (v : List ℕ) (h : Bin2) : Type 0 where
 abbrev pub FindsSecond : List ℕ → Option Bin2 → Type 0
 FindsSecond v None = (p : ℕ) → IsListed p → IsSound v p → ⊥
 FindsSecond v (Some h) = IsLeastCopy v h
+
+-- the copy of the binary header `h` has a listed size and lies inside a device of `total` bytes
+pub record IsCopyWithin (total : ℕ) (h : Bin2) : Type 0 where
+  pub listed : IsListed h.hdr_size
+  pub inside : h.hdr_offset + h.hdr_size ≤ total
+
+-- so does the copy that was found, if one was
+abbrev pub FindsWithin : ℕ → Option Bin2 → Type 0
+FindsWithin total None = Unit {0}
+FindsWithin total (Some h) = IsCopyWithin total h

@@ -5,6 +5,7 @@ use Rattle.luks_area.specs.Ranges.{part}
 use Rattle.luks_head.specs.Faults.{head_key, IsLuks1Fault}
 use Rattle.luks_head.specs.Header1.{HasMagic, version_of}
 use Rattle.luks_head.specs.Header2.{header_at, hdr_size, seqid, uuid_field, HoldsBin2, IsSound, IsUuidFault}
+use Rattle.luks_head.specs.Judged2.{IsCopyWithin}
 use Rattle.luks_head.specs.Sizes.{IsListed}
 use Rattle.luks_head.specs.declared.fault.HeadFault.{HeadFault}
 use Rattle.luks_head.specs.declared.fault.HeadFault.TheVariants as fault
@@ -95,6 +96,11 @@ IsHeadFault v nothing f = IsSelectFault v f
 abbrev pub IsSelected : List ℕ → Selected → Type 0
 IsSelected v (V1 bytes) = Chosen v luks1 × (bytes ≡ part v 0 592)
 IsSelected v (V2 header copies) = Chosen v (luks2 header.hdr_offset copies) × HoldsBin2 (header_at v header.hdr_offset) header
+
+-- a LUKS2 copy that was selected lies inside a device of `total` bytes
+abbrev pub IsSelectedWithin : ℕ → Selected → Type 0
+IsSelectedWithin total (V1 bytes) = Unit {0}
+IsSelectedWithin total (V2 header copies) = IsCopyWithin total header
 
 -- the selection is refused by the fault f, which is the volume's own unless a device call failed
 abbrev pub IsRefused : List ℕ → HeadFault → Type 0

@@ -5,7 +5,7 @@ ghost use Rattle.sha2.specs.Sha256.{sha256};
 ghost use Rattle.luks_area.specs.Ranges.{part};
 ghost use Rattle.luks_head.specs.Bytes.{text_at};
 ghost use Rattle.luks_head.specs.Header2.{header_at, magic_of, unsummed, IsFormed};
-ghost use Rattle.luks_head.specs.Judged2.{JudgesCopy, FindsSecond};
+ghost use Rattle.luks_head.specs.Judged2.{JudgesCopy, FindsSecond, FindsWithin};
 ghost use Rattle.luks_head.specs.Sizes.{is_listed, IsListed};
 
 use crate::bin2::Bin2;
@@ -114,6 +114,7 @@ pub(crate) fn sound_copy<D: Device>(device: &mut D, at: u64) -> Result<Option<Bi
     ensures size { D.size device.new ≡ D.size device.old }
     ensures same { D.tells → D.bytes device.new ≡ D.bytes device.old }
     ensures count { MatchResult result (λ _. D.failed device.new ≡ D.failed device.old) (λ _. D.failed device.new ≡ D.failed device.old + 1) }
+    ensures within { IfOk result (FindsWithin (D.size device.old)) }
     ensures judged { D.tells → IfOk result (JudgesCopy (D.bytes device.old) at) }
 {
     let total = device.len();
@@ -140,6 +141,7 @@ pub(crate) fn least_second<D: Device>(device: &mut D) -> Result<Option<Bin2>, De
     ensures size { D.size device.new ≡ D.size device.old }
     ensures same { D.tells → D.bytes device.new ≡ D.bytes device.old }
     ensures count { MatchResult result (λ _. D.failed device.new ≡ D.failed device.old) (λ _. D.failed device.new ≡ D.failed device.old + 1) }
+    ensures within { IfOk result (FindsWithin (D.size device.old)) }
     ensures found { D.tells → IfOk result (FindsSecond (D.bytes device.old)) }
 {
     let mut left = LISTED_SIZES.as_slice();

@@ -1,7 +1,8 @@
 //! Which header of a volume counts.
-ghost use Rattle.std.specs.Prelude.{◌≡◌, ◌↔◌, ◌+◌, ◌^◌, ◌<◌, length, IsTrue, IfOk, IfErr, MatchResult};
+ghost use Rattle.std.specs.Prelude.{◌≡◌, ◌↔◌, ◌+◌, ◌^◌, ◌<◌, length, IsTrue, IfOk, IfErr, MatchResult, option_map};
 ghost use Rattle.luks_head.specs.Finds.{FindsCopy, IsNewer, IsWhy};
-ghost use Rattle.luks_head.specs.Selection.{Counts, IsOfSelection, IsRefused, IsSelected, IsVersion1};
+ghost use Rattle.luks_head.specs.Judged2.{FindsWithin};
+ghost use Rattle.luks_head.specs.Selection.{Counts, IsOfSelection, IsRefused, IsSelected, IsSelectedWithin, IsVersion1};
 
 use crate::bin2::Bin2;
 use crate::copies::{least_second, sound_copy};
@@ -59,6 +60,7 @@ fn counting_copy<D: Device>(device: &mut D) -> Result<Option<(Bin2, Copies)>, De
     ensures size { D.size device.new ≡ D.size device.old }
     ensures same { D.tells → D.bytes device.new ≡ D.bytes device.old }
     ensures count { MatchResult result (λ _. D.failed device.new ≡ D.failed device.old) (λ _. D.failed device.new ≡ D.failed device.old + 1) }
+    ensures within { IfOk result (λ found. FindsWithin (D.size device.old) (option_map (λ copy. copy.0) found)) }
     ensures found { D.tells → IfOk result (FindsCopy (D.bytes device.old)) }
 {
     match sound_copy(device, 0)? {
@@ -105,6 +107,7 @@ pub fn select<D: Device>(_alloc: Global, device: &mut D) -> Result<Selected, Hea
     ensures same { D.tells → D.bytes device.new ≡ D.bytes device.old }
     ensures count { MatchResult result (λ _. D.failed device.new ≡ D.failed device.old) (λ f. Counts f (D.failed device.old) (D.failed device.new)) }
     ensures kinds { IfErr result IsOfSelection }
+    ensures within { IfOk result (IsSelectedWithin (D.size device.old)) }
     ensures found { D.tells → IfOk result (IsSelected (D.bytes device.old)) }
     ensures refused { D.tells → IfErr result (IsRefused (D.bytes device.old)) }
 {
