@@ -3,9 +3,12 @@ ghost use Rattle.std.specs.Prelude.{◌≡◌, ◌≢◌, ◌↔◌, ◌+◌, �
 ghost use Rattle.luks_area.specs.Ranges.{part};
 ghost use Rattle.luks_head.specs.Faults.{IsCommonFault, IsEntryFault, IsLuks1Fault};
 ghost use Rattle.luks_head.specs.Header1.{entry, IsCommon, IsEntry, IsLuks1};
+ghost use Rattle.luks_head.specs.Header2.{IsSound, IsUuidFault, IsUuidField};
+ghost use Rattle.luks_head.specs.Selection.{Choice, Chosen, IsSelectFault, luks2, nothing};
 
 use crate::fault::HeadFault;
 use crate::luks1::{Luks1, Luks1Common, Luks1Slot};
+use crate::selection::Copies;
 
 /// A volume has no fault of a LUKS1 header exactly where it begins with one.
 pub fn luks1_without_faults()
@@ -21,4 +24,22 @@ pub fn luks1_is_first_bytes()
     ensures common { (v : List ℕ) (c : Luks1Common) → IsCommon (part v 0 208) c ↔ IsCommon v c }
     ensures common_faults { (v : List ℕ) (f : HeadFault) → IsCommonFault (part v 0 208) f ↔ IsCommonFault v f }
     ensures entry { (v : List ℕ) (n : ℕ) → n < 8 → entry (part v 0 592) n ≡ entry v n }
+{}
+
+/// Exactly one thing counts of a volume.
+pub fn one_choice()
+    ensures some { (v : List ℕ) → (c : Choice) × Chosen v c }
+    ensures only { (v : List ℕ) (b c : Choice) → Chosen v b → Chosen v c → b ≡ c }
+{}
+
+/// A selection has a fault exactly where nothing counts, and the uuid has one exactly where its
+/// field isn't that of a uuid.
+pub fn luks2_without_faults()
+    ensures selected { (v : List ℕ) → ((f : HeadFault) → IsSelectFault v f → ⊥) ↔ (Chosen v nothing → ⊥) }
+    ensures uuid { (field : List ℕ) → ((f : HeadFault) → IsUuidFault field f → ⊥) ↔ IsUuidField field }
+{}
+
+/// The copy that counts is sound, and stands where its header says.
+pub fn chosen_copy_is_sound()
+    ensures { (v : List ℕ) (o : ℕ) (copies : Copies) → Chosen v (luks2 o copies) → IsSound v o }
 {}

@@ -14,6 +14,9 @@ mod uuids;
 
 pub use bin2::Bin2;
 pub use fault::{HeadFault, IterationsOf, TextField};
-pub use laws::{luks1_is_first_bytes, luks1_without_faults};
+pub use laws::{
+    chosen_copy_is_sound, luks1_is_first_bytes, luks1_without_faults, luks2_without_faults,
+    one_choice,
+};
 pub use luks1::{Luks1, Luks1Common, Luks1Slot, SlotState};
 pub use selection::{Copies, Selected, select};

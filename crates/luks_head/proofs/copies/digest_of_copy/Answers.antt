@@ -1,6 +1,6 @@
 use Rattle.std.proofs.Common.{◌≡◌, ℕ, ◌+◌, ◌*◌, ◌%◌, ◌≤◌, List, ◌++◌, length, take, arith, refl, ap, ◌∙◌, subst}
 use Rattle.luks_area.specs.Ranges.{part}
-use Rattle.luks_head.specs.Header2.{unsummed}
+use Rattle.luks_head.specs.Header2.{header_at, unsummed}
 use Rattle.sha2.specs.Hashers.{Holds256}
 use Rattle.sha2.specs.Sha256.{sha256}
 use Rattle.luks_head.proofs.Windows.{all_fed, first_fed, later_fed, listed_at_least, listed_whole}
@@ -17,7 +17,7 @@ loop-k-init g c = record {
   fed = λ t e.
       let P : List ℕ → Type 0 = λ m. Holds256 c.digest_of_header-hasher.result m in
       let long : 16384 ≤ c.args.size = listed_at_least c.args.size c.requires.listed in
-      subst P (ap unsummed e ∙ first_fed (g.D.Device.bytes c.args.device.now) c.args.at c.args.size (omega arith) (rw (g.met.D.Device.sized c.args.device.now t) c.requires.within))
+      subst P (ap unsummed {x = c.args.head.now} {y = header_at (g.D.Device.bytes c.args.device.now) c.args.at} e ∙ first_fed (g.D.Device.bytes c.args.device.now) c.args.at c.args.size (omega arith) (rw (g.met.D.Device.sized c.args.device.now t) c.requires.within))
       c.digest_of_header-hasher.ensures;
 }
 
