@@ -7,3 +7,4 @@ pub mod Order
 pub mod Walking
 pub mod Saying
 pub mod SayingKeyslot
+pub mod PathRows

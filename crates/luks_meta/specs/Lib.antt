@@ -8,3 +8,5 @@ pub mod Arrays
 pub mod Faults
 pub mod Walk
 pub mod Says
+pub mod Sizes
+pub mod MetaFault

@@ -1,6 +1,6 @@
 //! The members of the metadata, each with its rule, in the order of their paths' bytes.
 
-ghost use Rattle.std.specs.Prelude.{◌≡◌, codes};
+ghost use Rattle.std.specs.Prelude.{◌≡◌, ◌≤◌, length};
 ghost use Rattle.luks_meta.specs.Table.{member_name, rows_of, section_name};
 
 /// The five members of the metadata that are read.
@@ -186,7 +186,8 @@ pub fn rows_of(section: Section) -> &'static [Row]
 
 /// The name of a section.
 pub fn section_name(section: Section) -> &'static str
-    ensures { result.now ≡ section_name section }
+    ensures name { result.now ≡ section_name section }
+    ensures short { length result.now ≤ 8 }
 {
     match section {
         Section::Config => "config",
@@ -199,7 +200,8 @@ pub fn section_name(section: Section) -> &'static str
 
 /// The name of a member.
 pub fn member_name(member: Member) -> &'static str
-    ensures { result.now ≡ member_name member }
+    ensures name { result.now ≡ member_name member }
+    ensures short { length result.now ≤ 13 }
 {
     match member {
         Member::Af => "af",

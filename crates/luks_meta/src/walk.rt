@@ -67,7 +67,7 @@ fn first_in(
 }
 
 /// The object of a section with the number as its name.
-fn object_at(value: &Value, section: Section, number: u8) -> Option<&Value>
+pub fn object_at(value: &Value, section: Section, number: u8) -> Option<&Value>
     requires { number < 32 }
     ensures { option_map (λ v. view v.now) result ≡ object_at (view value.now) section number }
 {
