@@ -8,3 +8,4 @@ pub mod Walking
 pub mod Saying
 pub mod SayingKeyslot
 pub mod PathRows
+pub mod AreaFaults

@@ -1,5 +1,5 @@
 -- The rows of faults that have a path.
-use Rattle.std.proofs.Common.{◌≡◌, ℕ, ◌<◌, ◌≤◌, Bool, List, [], ◌∷◌, Result, Ok, Err, true, false, refl, sym, arith, inl, inr}
+use Rattle.std.proofs.Common.{◌≡◌, ℕ, ◌<◌, ◌≤◌, Bool, [], ◌∷◌, Err, true, false, refl, arith, inl, inr}
 use Rattle.std.proofs.lemmas.Bool.{cases_lt}
 use Rattle.luks_meta.specs.Sizes.{IsFirst, has_slot_outside, has_small_area}
 use Rattle.arrayvec.specs.declared.array_string.ArrayString.{ArrayString}
@@ -11,7 +11,7 @@ use Rattle.luks_meta.specs.declared.fault.MetaFault.TheVariants as fault
 use Rattle.luks_meta.specs.declared.place.Place.{Place}
 use Rattle.luks_meta.specs.declared.place.Test.{Test}
 use Rattle.luks_meta.specs.declared.place.Test.TheVariants as test
-use Rattle.luks_meta.specs.Faults.{HasPlace, IsFaulty, IsPlace, has_fault, place_path}
+use Rattle.luks_meta.specs.Faults.{IsFaulty, IsPlace, has_fault, place_path}
 use Rattle.luks_meta.specs.MetaFault.{HasPath, IsDataFault, fault_of, meta_place, meta_row, test_row}
 
 -- a fault of the test's row has a path where the test finds a fault

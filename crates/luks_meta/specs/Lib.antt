@@ -10,3 +10,5 @@ pub mod Walk
 pub mod Says
 pub mod Sizes
 pub mod MetaFault
+pub mod Held
+pub mod Content

@@ -6,7 +6,6 @@ use Rattle.serde_json.specs.Read.{read}
 use Rattle.serde_json.specs.Written.{has_float}
 use Rattle.arrayvec.specs.declared.array_string.ArrayString.{ArrayString}
 use Rattle.luks_area.specs.Area.{name_key}
-use Rattle.luks_area.specs.declared.area.AreaName.{AreaName}
 use Rattle.luks_area.specs.declared.area.AreaName.TheVariants.{Head1, Head2, Slot, Segment}
 use Rattle.luks_meta.specs.declared.fault.MetaFault.{MetaFault}
 use Rattle.luks_meta.specs.declared.fault.MetaFault.TheVariants as fault
@@ -14,7 +13,7 @@ use Rattle.luks_meta.specs.declared.place.Place.{Place}
 use Rattle.luks_meta.specs.declared.place.Test.{Test}
 use Rattle.luks_meta.specs.declared.place.Test.TheVariants as test
 use Rattle.luks_meta.specs.AreaText.{JsonText}
-use Rattle.luks_meta.specs.Faults.{IsFaulty, place_path}
+use Rattle.luks_meta.specs.Faults.{IsFaulty, IsPlace, has_fault, place_path}
 use Rattle.luks_meta.specs.Sizes.{has_sizes, has_small_area, has_slot_outside}
 
 -- the area holds the text of the value (LUKS2 On-Disk Format 1.1, 3.1; RFC 8259)
@@ -113,3 +112,11 @@ fault_of test.Shape path = fault.Shape path
 fault_of test.Kind path = fault.Kind path
 fault_of test.NoSuchName path = fault.NoSuchName path
 fault_of test.Assigned path = fault.Assigned path
+
+-- no test finds a fault in a value that stands in an area of `len` bytes
+pub record IsFaultless (len : ℕ) (j : Data) : Type 0 where
+  pub whole : has_float j ≡ false
+  pub places : (t : Test) (p : Place) → IsPlace p → has_fault t j p ≡ false
+  pub sizes : has_sizes len j ≡ false
+  pub areas : (n : ℕ) → n < 32 → has_small_area j n ≡ false
+  pub region : (n : ℕ) → n < 32 → has_slot_outside len j n ≡ false

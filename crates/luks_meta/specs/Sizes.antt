@@ -1,6 +1,6 @@
 -- The numbers of the metadata that speak of the volume: lengths, key areas and their region.
 -- `len` is the length of the JSON area in bytes, so that a header has `len + 4096` bytes.
-use Rattle.std.specs.Prelude.{◌≡◌, ℕ, ◌+◌, ◌*◌, ◌/◌, ◌<◌, List, codes, Bool, true, false, ◌||◌, ◌==◌, not, nat_lt, Option, Some, None, option_and_then}
+use Rattle.std.specs.Prelude.{◌≡◌, ℕ, ◌+◌, ◌*◌, ◌/◌, ◌<◌, List, codes, Bool, true, false, ◌||◌, ◌==◌, not, nat_lt, Option, option_and_then}
 use Rattle.std.specs.Option.{option_map_or}
 use Rattle.serde_json.specs.Data.{Data}
 use Rattle.serde_json.specs.Find.{get}
@@ -49,9 +49,9 @@ abbrev pub is_below : ℕ → Option ℕ → Data → Bool
 is_below len region d =
     of_both region (decimal_in (inside_at outer.Top (codes "offset") d)) (λ bytes start. nat_lt start (region_start len + bytes))
 
--- the faults of sizes
+-- the size that is written isn't that of the area
 abbrev pub has_sizes : ℕ → Data → Bool
-has_sizes len j = option_map_or (λ n. not (n == len)) (json_size j) false
+has_sizes len j = option_map_or (λ n. not (n == len)) (json_size j) true
 
 abbrev pub has_small_area : Data → ℕ → Bool
 has_small_area j n = option_map_or is_too_small (object_at j Keyslots n) false

@@ -11,7 +11,9 @@ mod fault;
 mod judge;
 mod keyslots;
 mod member;
+mod meta;
 mod number;
+mod parsing;
 mod path;
 mod place;
 mod reading;
@@ -23,3 +25,4 @@ mod walk;
 mod whole;
 
 pub use fault::MetaFault;
+pub use meta::Meta;

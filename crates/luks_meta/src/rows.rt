@@ -1,10 +1,14 @@
 //! The faults of a value, row by row.
 
-ghost use Rattle.std.specs.Prelude.{◌≡◌, ◌≤◌, OnOk, IfErr};
+ghost use Rattle.std.specs.Prelude.{◌≡◌, ◌≤◌, ◌<◌, ℕ, false, OnOk, IfErr};
 ghost use Rattle.serde_json.specs.View.{view};
 ghost use Rattle.luks_area.specs.First.{IsLeast, JudgesRow};
 ghost use Rattle.luks_meta.specs.declared.fault.MetaFault.{MetaFault};
-ghost use Rattle.luks_meta.specs.MetaFault.{IsDataFault, fault_of, meta_key, meta_place, meta_row, test_row};
+ghost use Rattle.serde_json.specs.Written.{has_float};
+ghost use Rattle.luks_meta.specs.declared.place.Place.{Place};
+ghost use Rattle.luks_meta.specs.Faults.{has_fault, IsPlace};
+ghost use Rattle.luks_meta.specs.Sizes.{has_sizes, has_slot_outside, has_small_area};
+ghost use Rattle.luks_meta.specs.MetaFault.{IsDataFault, IsFaultless, fault_of, meta_key, meta_place, meta_row, test_row};
 
 use crate::fault::MetaFault;
 use crate::path::place_path;
@@ -35,7 +39,8 @@ pub struct Content<'a> {
 }
 
 fn judge_paths(content: Content, test: Test) -> Result<(), MetaFault>
-    ensures { JudgesRow meta_row meta_place (IsDataFault content.entry.len (view content.entry.value.now)) (test_row test) result }
+    ensures clean { OnOk result ((p : Place) → IsPlace p → has_fault test (view content.entry.value.now) p ≡ false) }
+    ensures row { JudgesRow meta_row meta_place (IsDataFault content.entry.len (view content.entry.value.now)) (test_row test) result }
 {
     match first_fault(test, content.value) {
         Some(place) => Err(fault_of(test, place_path(&place))),
@@ -44,7 +49,8 @@ fn judge_paths(content: Content, test: Test) -> Result<(), MetaFault>
 }
 
 fn judge_numbers(content: Content) -> Result<(), MetaFault>
-    ensures { JudgesRow meta_row meta_place (IsDataFault content.entry.len (view content.entry.value.now)) 3 result }
+    ensures clean { OnOk result (has_float (view content.entry.value.now) ≡ false) }
+    ensures row { JudgesRow meta_row meta_place (IsDataFault content.entry.len (view content.entry.value.now)) 3 result }
 {
     if holds_float(content.value) {
         return Err(MetaFault::NotWhole);
@@ -53,7 +59,8 @@ fn judge_numbers(content: Content) -> Result<(), MetaFault>
 }
 
 fn judge_sizes(content: Content) -> Result<(), MetaFault>
-    ensures { JudgesRow meta_row meta_place (IsDataFault content.entry.len (view content.entry.value.now)) 8 result }
+    ensures clean { OnOk result (has_sizes content.entry.len (view content.entry.value.now) ≡ false) }
+    ensures row { JudgesRow meta_row meta_place (IsDataFault content.entry.len (view content.entry.value.now)) 8 result }
 {
     if has_sizes(content.len, content.value) {
         return Err(MetaFault::Sizes);
@@ -62,7 +69,8 @@ fn judge_sizes(content: Content) -> Result<(), MetaFault>
 }
 
 fn judge_areas(content: Content) -> Result<(), MetaFault>
-    ensures { JudgesRow meta_row meta_place (IsDataFault content.entry.len (view content.entry.value.now)) 9 result }
+    ensures clean { OnOk result ((n : ℕ) → n < 32 → has_small_area (view content.entry.value.now) n ≡ false) }
+    ensures row { JudgesRow meta_row meta_place (IsDataFault content.entry.len (view content.entry.value.now)) 9 result }
 {
     match first_small_area(content.value) {
         Some(number) => Err(MetaFault::AreaTooSmall(number)),
@@ -72,7 +80,8 @@ fn judge_areas(content: Content) -> Result<(), MetaFault>
 
 fn judge_region(content: Content) -> Result<(), MetaFault>
     requires { content.len ≤ 4190208 }
-    ensures { JudgesRow meta_row meta_place (IsDataFault content.entry.len (view content.entry.value.now)) 10 result }
+    ensures clean { OnOk result ((n : ℕ) → n < 32 → has_slot_outside content.entry.len (view content.entry.value.now) n ≡ false) }
+    ensures row { JudgesRow meta_row meta_place (IsDataFault content.entry.len (view content.entry.value.now)) 10 result }
 {
     match first_slot_outside(content.len, content.value) {
         Some(number) => Err(MetaFault::Region(AreaName::Slot(number))),
@@ -83,6 +92,7 @@ fn judge_region(content: Content) -> Result<(), MetaFault>
 /// The first fault of a value.
 pub fn judge(content: Content) -> Result<(), MetaFault>
     requires { content.len ≤ 4190208 }
+    ensures clean { OnOk result (IsFaultless content.entry.len (view content.entry.value.now)) }
     ensures none { OnOk result ((g : MetaFault) → IsDataFault content.entry.len (view content.entry.value.now) g → ⊥) }
     ensures least { IfErr result (λ f. IsLeast meta_key (IsDataFault content.entry.len (view content.entry.value.now)) f) }
 {

@@ -45,7 +45,7 @@ pub fn has_sizes(len: usize, value: &Value) -> bool
 {
     match json_size(value) {
         Some(size) => size != len as u64,
-        None => false,
+        None => true,
     }
 }
 

@@ -1,0 +1,101 @@
+-- The faults of an area, from those of its text and of its value.
+use Rattle.std.proofs.Common.{◌≡◌, ℕ, List, [], ◌∷◌, length, Some, None, sym, ap, ◌∙◌, subst, arith}
+use Rattle.std.specs.Prelude.{IsUtf8}
+use Rattle.serde_json.specs.Data.{Data}
+use Rattle.serde_json.specs.Read.{read}
+use Rattle.luks_area.specs.First.{IsLeast, NotAfter}
+use Rattle.luks_meta.specs.declared.fault.MetaFault.{MetaFault}
+use Rattle.luks_meta.specs.declared.fault.MetaFault.TheVariants as fault
+use Rattle.luks_meta.specs.AreaText.{JsonText}
+use Rattle.luks_meta.specs.MetaFault.{HasDataFault, IsBadJson, IsDataFault, IsMetaFault, Json, meta_key}
+use Rattle.luks_meta.proofs.AreaTexts.{one_text}
+
+pub area_least : (area : List ℕ) → ((text : List ℕ) → JsonText area text → ⊥) → IsLeast meta_key (IsMetaFault area) fault.JsonArea
+area_least area none = (none, λ g h. by g)
+  where
+    by : (g : MetaFault) → NotAfter (1 ∷ []) (meta_key g)
+    by fault.JsonArea = (omega arith, λ _. tt)
+    by fault.BadJson = (omega arith, λ e. absurd (omega arith))
+    by fault.NotWhole = (omega arith, λ e. absurd (omega arith))
+    by (fault.Shape path) = (omega arith, λ e. absurd (omega arith))
+    by (fault.Kind path) = (omega arith, λ e. absurd (omega arith))
+    by (fault.NoSuchName path) = (omega arith, λ e. absurd (omega arith))
+    by (fault.Assigned path) = (omega arith, λ e. absurd (omega arith))
+    by fault.Sizes = (omega arith, λ e. absurd (omega arith))
+    by (fault.AreaTooSmall n) = (omega arith, λ e. absurd (omega arith))
+    by (fault.Region name) = (omega arith, λ e. absurd (omega arith))
+    by fault.Memory = (omega arith, λ e. absurd (omega arith))
+
+pub bad_least : (area text : List ℕ) → JsonText area text → (IsUtf8 text → read text ≡ None) → IsLeast meta_key (IsMetaFault area) fault.BadJson
+bad_least area text placed bad = (record { text = text; placed = placed; bad = bad }, by)
+  where
+    by : (g : MetaFault) → IsMetaFault area g → NotAfter (2 ∷ []) (meta_key g)
+    by fault.JsonArea h = absurd (h text placed)
+    by fault.BadJson h = (omega arith, λ _. tt)
+    by fault.NotWhole h = (omega arith, λ e. absurd (omega arith))
+    by (fault.Shape path) h = (omega arith, λ e. absurd (omega arith))
+    by (fault.Kind path) h = (omega arith, λ e. absurd (omega arith))
+    by (fault.NoSuchName path) h = (omega arith, λ e. absurd (omega arith))
+    by (fault.Assigned path) h = (omega arith, λ e. absurd (omega arith))
+    by fault.Sizes h = (omega arith, λ e. absurd (omega arith))
+    by (fault.AreaTooSmall n) h = (omega arith, λ e. absurd (omega arith))
+    by (fault.Region name) h = (omega arith, λ e. absurd (omega arith))
+    by fault.Memory h = (omega arith, λ e. absurd (omega arith))
+
+-- ---- of an area that holds a value
+
+-- an area holds one value
+pub one_value : (area : List ℕ) (j k : Data) → Json area j → Json area k → j ≡ k
+one_value area j k u v =
+    let e : u.text ≡ v.text = one_text area u.text v.text u.placed v.placed in
+    let f : read u.text ≡ read v.text = ap read e in
+    let w : Some j ≡ Some k = sym u.reads ∙ (f ∙ v.reads) in
+    cc
+
+of_value : (area : List ℕ) (j : Data) → Json area j → (g : MetaFault) → HasDataFault area g → IsDataFault (length area) j g
+of_value area j json g h =
+    let e : h.value ≡ j = one_value area h.value j h.json json in
+    let P : Data → Type 0 = λ d. IsDataFault (length area) d g in
+    subst P e h.fault
+
+not_bad : (area : List ℕ) (j : Data) → Json area j → IsBadJson area → ⊥
+not_bad area j json h =
+    let e : json.text ≡ h.text = one_text area json.text h.text json.placed h.placed in
+    let P : List ℕ → Type 0 = λ t. IsUtf8 t in
+    let none : read h.text ≡ None = h.bad (subst P e json.utf8) in
+    let same : read json.text ≡ read h.text = ap read e in
+    let some : read json.text ≡ Some j = json.reads in
+    cc
+
+-- what is a fault of the area is one of its value
+pub into_value : (area : List ℕ) (j : Data) → Json area j → (g : MetaFault) → IsMetaFault area g → IsDataFault (length area) j g
+into_value area j json fault.JsonArea h = h json.text json.placed
+into_value area j json fault.BadJson h = not_bad area j json h
+into_value area j json fault.NotWhole h = of_value area j json _ h
+into_value area j json (fault.Shape path) h = of_value area j json _ h
+into_value area j json (fault.Kind path) h = of_value area j json _ h
+into_value area j json (fault.NoSuchName path) h = of_value area j json _ h
+into_value area j json (fault.Assigned path) h = of_value area j json _ h
+into_value area j json fault.Sizes h = of_value area j json _ h
+into_value area j json (fault.AreaTooSmall n) h = of_value area j json _ h
+into_value area j json (fault.Region name) h = of_value area j json _ h
+into_value area j json fault.Memory h = h
+
+pub from_value : (area : List ℕ) (j : Data) → Json area j → (g : MetaFault) → IsDataFault (length area) j g → IsMetaFault area g
+from_value area j json fault.JsonArea h = elim h [ ]
+from_value area j json fault.BadJson h = elim h [ ]
+from_value area j json fault.NotWhole h = record { value = j; json = json; fault = h }
+from_value area j json (fault.Shape path) h = record { value = j; json = json; fault = h }
+from_value area j json (fault.Kind path) h = record { value = j; json = json; fault = h }
+from_value area j json (fault.NoSuchName path) h = record { value = j; json = json; fault = h }
+from_value area j json (fault.Assigned path) h = record { value = j; json = json; fault = h }
+from_value area j json fault.Sizes h = record { value = j; json = json; fault = h }
+from_value area j json (fault.AreaTooSmall n) h = record { value = j; json = json; fault = h }
+from_value area j json (fault.Region name) h = record { value = j; json = json; fault = h }
+from_value area j json fault.Memory h = h
+
+pub value_least : (area : List ℕ) (j : Data) (f : MetaFault) → Json area j → IsLeast meta_key (IsDataFault (length area) j) f → IsLeast meta_key (IsMetaFault area) f
+value_least area j f json least = (from_value area j json f least.0, λ g h. least.1 g (into_value area j json g h))
+
+pub value_none : (area : List ℕ) (j : Data) → Json area j → ((g : MetaFault) → IsDataFault (length area) j g → ⊥) → (g : MetaFault) → IsMetaFault area g → ⊥
+value_none area j json none g h = none g (into_value area j json g h)

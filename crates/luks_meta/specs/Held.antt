@@ -1,0 +1,10 @@
+-- What a value that was read keeps.
+use Rattle.std.specs.Prelude.{ℕ, ◌≤◌}
+use Rattle.serde_json.specs.Data.{Data, depth}
+use Rattle.serde_json.specs.Read.{max_depth}
+use Rattle.luks_meta.specs.MetaFault.{IsFaultless}
+
+pub record IsHeld (len : ℕ) (j : Data) : Type 0 where
+  pub small : len ≤ 4190208
+  pub nests : depth j ≤ max_depth
+  pub faultless : IsFaultless len j
