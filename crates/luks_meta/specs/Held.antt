@@ -5,6 +5,5 @@ use Rattle.serde_json.specs.Read.{max_depth}
 use Rattle.luks_meta.specs.MetaFault.{IsFaultless}
 
 pub record IsHeld (len : ℕ) (j : Data) : Type 0 where
-  pub small : len ≤ 4190208
   pub nests : depth j ≤ max_depth
   pub faultless : IsFaultless len j

@@ -30,7 +30,6 @@ impl Meta {
     /// Takes memory for the value. `Memory` is answered only where it was refused; every other
     /// fault is the first of the area.
     pub fn read(alloc: Global, area: &[u8]) -> Result<Meta, MetaFault>
-        requires { length area.now ≤ 4190208 }
         ensures json { IfOk result (λ m. Json area.now (content m)) }
         ensures faultless { IfOk result (λ m. (f : MetaFault) → IsMetaFault area.now f → ⊥) }
         ensures fault { IfErr result (λ f. f ≢ MetaFault.Memory → IsLeast meta_key (IsMetaFault area.now) f) }

@@ -79,7 +79,6 @@ fn judge_areas(content: Content) -> Result<(), MetaFault>
 }
 
 fn judge_region(content: Content) -> Result<(), MetaFault>
-    requires { content.len ≤ 4190208 }
     ensures clean { OnOk result ((n : ℕ) → n < 32 → has_slot_outside content.entry.len (view content.entry.value.now) n ≡ false) }
     ensures row { JudgesRow meta_row meta_place (IsDataFault content.entry.len (view content.entry.value.now)) 10 result }
 {
@@ -91,7 +90,6 @@ fn judge_region(content: Content) -> Result<(), MetaFault>
 
 /// The first fault of a value.
 pub fn judge(content: Content) -> Result<(), MetaFault>
-    requires { content.len ≤ 4190208 }
     ensures clean { OnOk result (IsFaultless content.entry.len (view content.entry.value.now)) }
     ensures none { OnOk result ((g : MetaFault) → IsDataFault content.entry.len (view content.entry.value.now) g → ⊥) }
     ensures least { IfErr result (λ f. IsLeast meta_key (IsDataFault content.entry.len (view content.entry.value.now)) f) }

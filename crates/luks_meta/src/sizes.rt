@@ -72,16 +72,15 @@ fn is_too_small(object: &Value) -> bool
 
 /// The area of a keyslot isn't within the region of `bytes` bytes.
 fn reaches_out(len: usize, bytes: u64, start: u64, size: u64) -> bool
-    requires { len ≤ 4190208 }
     ensures { result ≡ (nat_lt start (region_start len)
         || nat_lt (region_start len + bytes) (start + size)) }
 {
-    let region = 2 * (len as u64 + 4096);
-    start < region || size > bytes || start - region > bytes - size
+    let region = 2 * (len as u128 + 4096);
+    let end = start as u128 + size as u128;
+    (start as u128) < region || region + (bytes as u128) < end
 }
 
 fn is_outside(len: usize, region: Option<u64>, object: &Value) -> bool
-    requires { len ≤ 4190208 }
     ensures { result ≡ is_outside len region (view object.now) }
 {
     let start = decimal_in(inside_at(Outer::Area, "offset", object));
@@ -94,15 +93,13 @@ fn is_outside(len: usize, region: Option<u64>, object: &Value) -> bool
 
 /// The place lies before the end of the region of `bytes` bytes.
 fn lies_below(len: usize, bytes: u64, start: u64) -> bool
-    requires { len ≤ 4190208 }
     ensures { result ≡ nat_lt start (region_start len + bytes) }
 {
-    let region = 2 * (len as u64 + 4096);
-    start < region || start - region < bytes
+    let region = 2 * (len as u128 + 4096);
+    (start as u128) < region + bytes as u128
 }
 
 fn is_below(len: usize, region: Option<u64>, object: &Value) -> bool
-    requires { len ≤ 4190208 }
     ensures { result ≡ is_below len region (view object.now) }
 {
     match (region, decimal_in(inside_at(Outer::Top, "offset", object))) {
@@ -122,8 +119,7 @@ fn has_small_area(value: &Value, number: u8) -> bool
 }
 
 fn has_slot_outside(len: usize, value: &Value, number: u8) -> bool
-    requires few { len ≤ 4190208 }
-    requires named { number < 32 }
+    requires { number < 32 }
     ensures { result ≡ has_slot_outside len (view value.now) number }
 {
     match object_at(value, Section::Keyslots, number) {
@@ -133,8 +129,7 @@ fn has_slot_outside(len: usize, value: &Value, number: u8) -> bool
 }
 
 fn has_segment_below(len: usize, value: &Value, number: u8) -> bool
-    requires few { len ≤ 4190208 }
-    requires named { number < 32 }
+    requires { number < 32 }
     ensures { result ≡ has_segment_below len (view value.now) number }
 {
     match object_at(value, Section::Segments, number) {
@@ -159,7 +154,6 @@ pub fn first_small_area(value: &Value) -> Option<u8>
 
 /// The least keyslot whose area isn't within the region.
 pub fn first_slot_outside(len: usize, value: &Value) -> Option<u8>
-    requires { len ≤ 4190208 }
     ensures { MatchOption result
         ((n : ℕ) → n < 32 → has_slot_outside len (view value.now) n ≡ false)
         (λ n. IsFirst (has_slot_outside len (view value.now)) n) }
@@ -174,7 +168,6 @@ pub fn first_slot_outside(len: usize, value: &Value) -> Option<u8>
 
 /// The least segment that begins before the region's end.
 pub fn first_segment_below(len: usize, value: &Value) -> Option<u8>
-    requires { len ≤ 4190208 }
     ensures { MatchOption result
         ((n : ℕ) → n < 32 → has_segment_below len (view value.now) n ≡ false)
         (λ n. IsFirst (has_segment_below len (view value.now)) n) }
