@@ -11,11 +11,22 @@ block_key hash block key =
     let short = if nat_lt block (length key) then hash key else key in
     short ++ replicate (block - length short) 0
 
--- H (K xor opad, H (K xor ipad, m)), where ipad is 0x36 and opad is 0x5C in each byte (RFC 2104, 2)
+-- the key's block under the inner pad, 0x36 in each byte, and under the outer pad, 0x5C (RFC 2104, 2)
+abbrev pub inner_block : (List ℕ → List ℕ) → ℕ → List ℕ → List ℕ
+inner_block hash block key = map (bit_xor 0x36) (block_key hash block key)
+
+abbrev pub outer_block : (List ℕ → List ℕ) → ℕ → List ℕ → List ℕ
+outer_block hash block key = map (bit_xor 0x5C) (block_key hash block key)
+
+-- H (K xor opad, H (K xor ipad, m)) (RFC 2104, 2)
 unfoldable pub hmac : (List ℕ → List ℕ) → ℕ → List ℕ → List ℕ → List ℕ
 hmac hash block key m =
-    hash (map (bit_xor 0x5C) (block_key hash block key)
-    ++ hash (map (bit_xor 0x36) (block_key hash block key) ++ m))
+    hash (outer_block hash block key ++ hash (inner_block hash block key ++ m))
+
+-- two states of a hash that have taken in the key's block, one under each pad
+abbrev pub HoldKey : {S : Type 0} → (S → List ℕ → Type 0) → (List ℕ → List ℕ) → ℕ → S → S → List ℕ → Type 0
+HoldKey holds hash block inner outer key =
+    holds inner (inner_block hash block key) × holds outer (outer_block hash block key)
 
 -- U_1 of block i: the function of the salt and the number i in 4 bytes, high byte first (RFC 8018,
 -- 5.2, step 3)

@@ -1,7 +1,7 @@
 //! PBKDF2 with HMAC (RFC 8018, 5.2).
 
-ghost use Rattle.std.specs.Prelude.{◌≡◌, ℕ, ◌-◌, ◌*◌, ◌<◌, ◌≤◌, ◌^◌, List, length, map, bit_xor};
-ghost use Rattle.luks_kdf.specs.Derivation.{block_key, hmac, turns_xored, derived_block, derived_blocks, pbkdf2};
+ghost use Rattle.std.specs.Prelude.{◌≡◌, ℕ, ◌-◌, ◌*◌, ◌<◌, ◌≤◌, ◌^◌, List, length};
+ghost use Rattle.luks_kdf.specs.Derivation.{HoldKey, hmac, turns_xored, derived_block, derived_blocks, pbkdf2};
 ghost use Rattle.luks_kdf.specs.Xor.{xor_bytes};
 
 use crate::hash::HashFn;
@@ -38,8 +38,7 @@ fn derive_blocks<H: HashFn>(
     requires whole { length blocks.old ≡ count * H.LEN }
     requires turn_length { length turn.old ≡ H.LEN }
     ensures { (key : List ℕ)
-        → H.holds keyed.now.inner (map (bit_xor 0x36) (block_key H.digest H.BLOCK key))
-        → H.holds keyed.now.outer (map (bit_xor 0x5C) (block_key H.digest H.BLOCK key))
+        → HoldKey H.holds H.digest H.BLOCK keyed.now.inner keyed.now.outer key
         → blocks.new ≡ derived_blocks (hmac H.digest H.BLOCK key) salt.now iterations count }
 {
     for i in 0..count {
@@ -61,8 +60,7 @@ fn derive_block<H: HashFn>(
     requires block_length { length block.old ≡ H.LEN }
     requires turn_length { length turn.old ≡ H.LEN }
     ensures { (key : List ℕ)
-        → H.holds keyed.now.inner (map (bit_xor 0x36) (block_key H.digest H.BLOCK key))
-        → H.holds keyed.now.outer (map (bit_xor 0x5C) (block_key H.digest H.BLOCK key))
+        → HoldKey H.holds H.digest H.BLOCK keyed.now.inner keyed.now.outer key
         → block.new ≡ derived_block (hmac H.digest H.BLOCK key) salt.now iterations index }
 {
     keyed.tag_numbered(turn, salt, index);
@@ -76,8 +74,7 @@ fn run_turns<H: HashFn>(block: &mut [u8], turn: &mut [u8], keyed: &Keyed<H>, ite
     requires first { block.old ≡ turn.old }
     requires turn_length { length turn.old ≡ H.LEN }
     ensures { (key : List ℕ)
-        → H.holds keyed.now.inner (map (bit_xor 0x36) (block_key H.digest H.BLOCK key))
-        → H.holds keyed.now.outer (map (bit_xor 0x5C) (block_key H.digest H.BLOCK key))
+        → HoldKey H.holds H.digest H.BLOCK keyed.now.inner keyed.now.outer key
         → block.new ≡ turns_xored (hmac H.digest H.BLOCK key) turn.old (iterations - 1) }
 {
     for count in 1..iterations {

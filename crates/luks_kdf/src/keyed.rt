@@ -1,7 +1,7 @@
 //! HMAC (RFC 2104).
 
 ghost use Rattle.std.specs.Prelude.{◌≡◌, ℕ, ◌≤◌, List, ◌++◌, length, map, bit_xor};
-ghost use Rattle.luks_kdf.specs.Derivation.{block_key, first_turn, hmac};
+ghost use Rattle.luks_kdf.specs.Derivation.{HoldKey, block_key, first_turn, hmac, inner_block, outer_block};
 
 use crate::hash::HashFn;
 
@@ -14,8 +14,7 @@ pub(crate) struct Keyed<H: HashFn> {
 
 impl<H: HashFn> Keyed<H> {
     pub(crate) fn new(key: &[u8]) -> Keyed<H>
-        ensures inner { H.holds result.inner (map (bit_xor 0x36) (block_key H.digest H.BLOCK key.now)) }
-        ensures outer { H.holds result.outer (map (bit_xor 0x5C) (block_key H.digest H.BLOCK key.now)) }
+        ensures { HoldKey H.holds H.digest H.BLOCK result.inner result.outer key.now }
     {
         let mut buffer = [0u8; 128];
         let block = &mut buffer[..H::BLOCK];
@@ -29,8 +28,8 @@ impl<H: HashFn> Keyed<H> {
     pub(crate) fn close(&self, inner: H, out: &mut [u8])
         requires { length out.old ≡ H.LEN }
         ensures { (key m : List ℕ)
-            → H.holds inner (map (bit_xor 0x36) (block_key H.digest H.BLOCK key) ++ m)
-            → H.holds self.now.outer (map (bit_xor 0x5C) (block_key H.digest H.BLOCK key))
+            → H.holds inner (inner_block H.digest H.BLOCK key ++ m)
+            → H.holds self.now.outer (outer_block H.digest H.BLOCK key)
             → out.new ≡ hmac H.digest H.BLOCK key m }
     {
         inner.finish(out);
@@ -43,8 +42,7 @@ impl<H: HashFn> Keyed<H> {
     pub(crate) fn tag_numbered(&self, out: &mut [u8], message: &[u8], number: u32)
         requires { length out.old ≡ H.LEN }
         ensures { (key : List ℕ)
-            → H.holds self.now.inner (map (bit_xor 0x36) (block_key H.digest H.BLOCK key))
-            → H.holds self.now.outer (map (bit_xor 0x5C) (block_key H.digest H.BLOCK key))
+            → HoldKey H.holds H.digest H.BLOCK self.now.inner self.now.outer key
             → out.new ≡ first_turn (hmac H.digest H.BLOCK key) message.now number }
     {
         let mut inner = self.inner.fork();
@@ -57,8 +55,7 @@ impl<H: HashFn> Keyed<H> {
     pub(crate) fn retag(&self, out: &mut [u8])
         requires { length out.old ≡ H.LEN }
         ensures { (key : List ℕ)
-            → H.holds self.now.inner (map (bit_xor 0x36) (block_key H.digest H.BLOCK key))
-            → H.holds self.now.outer (map (bit_xor 0x5C) (block_key H.digest H.BLOCK key))
+            → HoldKey H.holds H.digest H.BLOCK self.now.inner self.now.outer key
             → out.new ≡ hmac H.digest H.BLOCK key out.old }
     {
         let mut inner = self.inner.fork();

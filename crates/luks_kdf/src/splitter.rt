@@ -32,6 +32,7 @@ impl<H: HashFn> Splitter<H> {
         requires some_bytes { 1 ≤ key_len }
         requires at_most_128 { key_len ≤ 128 }
         ensures zeros { result ≡ replicate key_len 0 }
+        ensures len { length result ≡ key_len }
         ensures first { (random : List ℕ) → result ≡ mixed H.digest H.LEN key_len random 0 }
     {
         Splitter {

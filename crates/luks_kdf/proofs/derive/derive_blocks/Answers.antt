@@ -6,10 +6,10 @@ use Rattle.luks_kdf.proofs.derive.derive_blocks.Goals as goal
 
 pub loop-i-init : goal.loop-i-init
 unfolding derived_blocks
-loop-i-init g c key inner outer = rw zero-mul refl
+loop-i-init g c key held = rw zero-mul refl
 
 pub loop-i-preserved : goal.loop-i-preserved
-loop-i-preserved g c key inner outer =
+loop-i-preserved g c key held =
     let digests = g.met.H.HashFn.digest_length in
     let hash = g.H.HashFn.digest in
     let len = g.H.HashFn.LEN in
@@ -19,4 +19,4 @@ loop-i-preserved g c key inner outer =
     omega (arith, product, c.requires.whole, c.loop-i.auto.blocks) in
     blocks_step _ len (length-hmac hash len g.H.HashFn.BLOCK digests key) c.args.salt.now _ _
     c.args.iterations c.loop-i.i _ _ (ap (λ n. c.loop-i.i * n) c.LEN.ensures) room
-    (c.loop-i.invariant key inner outer) (c.derive_block.ensures key inner outer)
+    (c.loop-i.invariant key held) (c.derive_block.ensures key held)

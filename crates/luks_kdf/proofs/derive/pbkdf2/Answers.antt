@@ -7,7 +7,7 @@ use Rattle.luks_kdf.proofs.derive.pbkdf2.Goals as goal
 pub returns : goal.returns
 unfolding pbkdf2
 returns g c =
-    let made = c.derive_blocks.ensures c.args.password.now c.new-keyed.ensures.inner c.new-keyed.ensures.outer in
+    let made = c.derive_blocks.ensures c.args.password.now c.new-keyed.ensures in
     let hash = g.H.HashFn.digest in
     let len = g.H.HashFn.LEN in
     let n = length c.args.out.now in

@@ -5,10 +5,10 @@ use Rattle.luks_kdf.proofs.derive.run_turns.Goals as goal
 
 pub loop-count-init : goal.loop-count-init
 unfolding turn turns_xored
-loop-count-init g c key inner outer = (refl, c.requires.first)
+loop-count-init g c key held = (refl, c.requires.first)
 
 pub loop-count-preserved : goal.loop-count-preserved
-loop-count-preserved g c key inner outer =
-    let before = c.loop-count.invariant key inner outer in
+loop-count-preserved g c key held =
+    let before = c.loop-count.invariant key held in
     turns_step _ c.args.turn.now _ _ _ _ c.loop-count.count c.loop-count.auto.count before.0 before.1
-    (c.retag.ensures key inner outer) c.xor_into.ensures
+    (c.retag.ensures key held) c.xor_into.ensures

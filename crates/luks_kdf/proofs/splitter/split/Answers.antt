@@ -1,4 +1,4 @@
-use Rattle.std.proofs.Common.{◌≡◌, ◌+◌, ◌-◌, ◌*◌, ◌∙◌, ◌++◌, ap, sym, length, arith}
+use Rattle.std.proofs.Common.{◌≡◌, ◌+◌, ◌-◌, ◌*◌, ◌∙◌, ◌++◌, ap, sym, length, drop, arith}
 use Rattle.luks_kdf.specs.Splitter.{merge, split}
 use Rattle.luks_kdf.proofs.SplitterFacts.{count-stripes, front-stripes, some-stripes, stripe_at-cut, put_mid-last}
 use Rattle.luks_kdf.proofs.splitter.split.Goals as goal
@@ -20,7 +20,7 @@ returns-clause-value g c n whole =
     let front = front-stripes k (length random) n (sym c.requires.one_more ∙ whole) some in
     let count = count-stripes k (length random) (n - 1) c.requires.some_bytes front in
     let more : c.loop-i.i + 1 ≡ n = omega (arith, c.loop-i-test.false, c.loop-i.auto.i-end, count, some) in
-    put_mid-last random _ _ _ c.copy_from_slice.ensures.after
+    put_mid-last random c.copy_from_slice.new.self (drop (length random) c.args.out.now) c.finish.new.last c.copy_from_slice.ensures.after
     ∙ c.finish.ensures.whole c.loop-i.i random c.loop-i.invariant.block
     ∙ ap (λ x. split g.H.HashFn.digest g.H.HashFn.LEN c.args.key.now x random) more
 
@@ -34,6 +34,6 @@ returns-clause-merges_back g c n whole =
     let less : n - 1 ≡ c.loop-i.i = omega (arith, c.loop-i-test.false, c.loop-i.auto.i-end, count) in
     let more : n ≡ c.loop-i.i + 1 = omega (arith, less, some) in
     let row : length random ≡ c.loop-i.i * k = front ∙ ap (λ x. x * k) less in
-    ap (merge g.H.HashFn.digest g.H.HashFn.LEN k n) (put_mid-last random _ _ _ c.copy_from_slice.ensures.after)
+    ap (merge g.H.HashFn.digest g.H.HashFn.LEN k n) (put_mid-last random c.copy_from_slice.new.self (drop (length random) c.args.out.now) c.finish.new.last c.copy_from_slice.ensures.after)
     ∙ ap (λ x. merge g.H.HashFn.digest g.H.HashFn.LEN k x (random ++ c.finish.new.last)) more
     ∙ c.finish.ensures.merges_back c.loop-i.i random c.loop-i.invariant.block row
