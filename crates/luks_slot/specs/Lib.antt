@@ -1,2 +1,5 @@
 pub mod Refusal
 pub mod Opening
+pub mod Terms
+pub mod Sectors
+pub mod Answer

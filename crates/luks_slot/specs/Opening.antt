@@ -1,0 +1,76 @@
+-- What a keyslot opens to, said of its whole area at once (LUKS1 On-Disk Format 1.2.3, 4.4; LUKS2
+-- On-Disk Format 1.1, 4.1).
+use Rattle.std.specs.Prelude.{ℕ, zero, suc, ◌+◌, ◌*◌, ◌/◌, ◌≤◌, List, [], ◌++◌, length, take, Option, Some, None, unwrap_or, if◌then◌else◌, Bool}
+use Rattle.std.specs.Str.{bytes_eq}
+use Rattle.luks_area.specs.Ranges.{part}
+use Rattle.luks_kdf.specs.declared.hash_name.HashName.{HashName}
+use Rattle.luks_kdf.specs.declared.hash_name.HashName.TheVariants.{Sha1}
+use Rattle.luks_kdf.specs.Derivation.{pbkdf2}
+use Rattle.luks_kdf.specs.Names.{hash_named, hash_of, digest_size_of, block_size_of}
+use Rattle.luks_kdf.specs.Splitter.{merge}
+use Rattle.luks_xts.specs.Xts.{XtsOpen}
+use Rattle.luks_slot.specs.declared.plan.Derivation.{Derivation}
+use Rattle.luks_slot.specs.declared.plan.Derivation.TheVariants.{Pbkdf2, Argon2}
+use Rattle.luks_slot.specs.declared.plan.DigestPlan.{DigestPlan}
+use Rattle.luks_slot.specs.declared.plan.SlotPlan.{SlotPlan}
+
+-- the hash of a text that names one (a plan with any other text is refused)
+abbrev pub named : List ℕ → HashName
+named text = unwrap_or (hash_named text) Sha1
+
+-- PBKDF2 with the hash that a text names
+abbrev pub derived : List ℕ → List ℕ → List ℕ → ℕ → ℕ → List ℕ
+derived name password salt iterations n =
+    pbkdf2 (hash_of (named name)) (block_size_of (named name)) password salt iterations n
+
+-- the derivation has at least one iteration
+abbrev pub HasTurns : Derivation → Type 0
+HasTurns (Pbkdf2 hash iterations salt) = 1 ≤ iterations
+HasTurns Argon2 = Unit {0}
+
+-- the key of the area: as long as the area's cipher wants it
+abbrev pub area_key_by : Derivation → ℕ → List ℕ → List ℕ
+area_key_by (Pbkdf2 hash iterations salt) n passphrase = derived hash.now passphrase salt.now iterations n
+area_key_by Argon2 n passphrase = []
+
+unfoldable pub area_key : SlotPlan → List ℕ → List ℕ
+area_key plan passphrase = area_key_by plan.derivation plan.area_key_bytes passphrase
+
+-- sector i of an area, decrypted; the sectors have 512 bytes and are numbered from 0 at the area's start
+unfoldable pub opened_sector : List ℕ → List ℕ → ℕ → List ℕ
+opened_sector key area i = XtsOpen key i (part area (512 * i) 512)
+
+-- the first n sectors of an area, decrypted and joined
+unfoldable pub opened_sectors : List ℕ → List ℕ → ℕ → List ℕ
+opened_sectors key area zero = []
+opened_sectors key area (suc n) = opened_sectors key area n ++ opened_sector key area n
+
+-- how many sectors hold n bytes
+abbrev pub sectors_for : ℕ → ℕ
+sectors_for n = (n + 511) / 512
+
+-- how many bytes all stripes have
+abbrev pub stripe_bytes : SlotPlan → ℕ
+stripe_bytes plan = plan.key_bytes * plan.stripes
+
+-- the stripes of an area under the area's key, in a row
+unfoldable pub stripes_in : SlotPlan → List ℕ → List ℕ → List ℕ
+stripes_in plan key area =
+    take (stripe_bytes plan) (opened_sectors key area (sectors_for (stripe_bytes plan)))
+
+-- what the stripes hold under a passphrase, the right one or not
+unfoldable pub candidate : SlotPlan → List ℕ → List ℕ → List ℕ
+candidate plan area passphrase =
+    merge (hash_of (named plan.splitter_hash.now)) (digest_size_of (named plan.splitter_hash.now))
+    plan.key_bytes plan.stripes (stripes_in plan (area_key plan passphrase) area)
+
+-- PBKDF2 of the key gives the stored digest, whole
+unfoldable pub meets_digest : DigestPlan → List ℕ → Bool
+meets_digest digest key =
+    bytes_eq (derived digest.hash.now key digest.salt.now digest.iterations (length digest.stored.now))
+    digest.stored.now
+
+-- the volume key that a passphrase opens a keyslot to, where the area has these bytes, or none
+unfoldable pub slot_key : SlotPlan → List ℕ → List ℕ → Option (List ℕ)
+slot_key plan area passphrase =
+    let key = candidate plan area passphrase in if meets_digest plan.digest key then Some key else None

@@ -1,33 +1,40 @@
 //! Whether a keyslot opens at all.
 
 ghost use Rattle.std.specs.Prelude.{◌≡◌, ◌==◌, MatchResult, IfErr, IfOk, IsTrue};
-ghost use Rattle.luks_kdf.specs.Names.{hash_named};
 ghost use Rattle.luks_slot.specs.Refusal.{is_open_cipher, slot_refusal};
+ghost use Rattle.luks_slot.specs.Terms.{AreTerms};
 
 use crate::fault::SlotFault;
 use crate::plan::{AreaCipher, Derivation, SlotPlan};
 use luks_kdf::HashName;
 
-// The three hashes of a plan.
+// What a plan that isn't refused derives by.
 #[derive(Clone, Copy)]
-pub(crate) struct Hashes {
-    pub(crate) derivation: HashName,
+pub(crate) struct Terms<'a> {
+    pub(crate) hash: HashName,
+    pub(crate) iterations: u32,
+    pub(crate) salt: &'a [u8],
     pub(crate) splitter: HashName,
     pub(crate) digest: HashName,
 }
 
-// The hashes of the plan, or the first refusal.
-pub(crate) fn judge(plan: &SlotPlan<'_>) -> Result<Hashes, SlotFault>
+// The terms of the plan, or its first refusal.
+pub(crate) fn judge<'a>(plan: &SlotPlan<'a>) -> Result<Terms<'a>, SlotFault>
     ensures refused { IfErr result (λ f. slot_refusal plan.now ≡ Some f) }
-    ensures accepted { IfOk result (λ _. slot_refusal plan.now ≡ None) }
+    ensures accepted { IfOk result (λ terms. AreTerms plan.now terms) }
 {
-    let Derivation::Pbkdf2 { hash, .. } = plan.derivation else {
+    let Derivation::Pbkdf2 {
+        hash,
+        iterations,
+        salt,
+    } = plan.derivation
+    else {
         return Err(SlotFault::Argon2);
     };
     if !is_open_cipher(&plan.cipher) {
         return Err(SlotFault::Cipher);
     }
-    let (Some(derivation), Some(splitter), Some(digest)) = (
+    let (Some(hash), Some(splitter), Some(digest)) = (
         HashName::parse(hash),
         HashName::parse(plan.splitter_hash),
         HashName::parse(plan.digest.hash),
@@ -37,8 +44,10 @@ pub(crate) fn judge(plan: &SlotPlan<'_>) -> Result<Hashes, SlotFault>
     if plan.area_key_bytes != 32 && plan.area_key_bytes != 64 {
         return Err(SlotFault::KeySize);
     }
-    Ok(Hashes {
-        derivation,
+    Ok(Terms {
+        hash,
+        iterations,
+        salt,
         splitter,
         digest,
     })
