@@ -9,3 +9,5 @@ pub mod Saying
 pub mod SayingKeyslot
 pub mod PathRows
 pub mod AreaFaults
+pub mod NameLists
+pub mod SayingLists

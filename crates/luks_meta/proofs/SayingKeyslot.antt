@@ -112,7 +112,7 @@ kdf_there d (cost.Argon2id k) t = has_home (outer_at d outer.Kdf) _ t.0
 
 -- ---- the keyslot, row by row
 
-listed_type : (l : Listed) (o : Option (List ℕ)) (t : List ℕ) → o ≡ Some t → is_listed l t ≡ true → option_map text (option_and_then (kept (is_listed l)) o) ≡ Some (text t)
+pub listed_type : (l : Listed) (o : Option (List ℕ)) (t : List ℕ) → o ≡ Some t → is_listed l t ≡ true → option_map text (option_and_then (kept (is_listed l)) o) ≡ Some (text t)
 listed_type l o t e is = rw (e, is) refl
 
 pub keyslot_says : (d : Data) (key_size : ℕ) (priority : Option ℕ) (af : Splitter) (area : KeyArea) (kdf : Derivation)

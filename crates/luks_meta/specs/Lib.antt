@@ -12,3 +12,4 @@ pub mod Sizes
 pub mod MetaFault
 pub mod Held
 pub mod Content
+pub mod Names

@@ -1,5 +1,5 @@
 -- What the records say of the metadata: each row of the table relates the member at its path to the record's field.
-use Rattle.std.specs.Prelude.{◌≡◌, ℕ, List, codes, true, Option, Some, None, is_some, slice_get, option_and_then}
+use Rattle.std.specs.Prelude.{map, ◌≡◌, ℕ, List, codes, true, Option, Some, None, is_some, slice_get, option_and_then}
 use Rattle.serde_json.specs.Data.{Data}
 use Rattle.serde_json.specs.Find.{get, as_object}
 use Rattle.luks_meta.specs.declared.table.Outer.{Outer}
@@ -22,8 +22,12 @@ use Rattle.luks_meta.specs.declared.keyslots.Cost.{Cost}
 use Rattle.luks_meta.specs.declared.keyslots.Cost.TheVariants as cost
 use Rattle.luks_meta.specs.declared.keyslots.Derivation.{Derivation}
 use Rattle.luks_meta.specs.declared.keyslots.Keyslot.{Keyslot}
-use Rattle.luks_meta.specs.Table.{config_rows, keyslot_rows, segment_rows, member_name}
-use Rattle.luks_meta.specs.Reading.{Field, object, text, whole, absent, dynamic, bytes, reads, text_of, number_of, number_in, decimal_in, extent_of, bytes_in, kept, is_sector_size}
+use Rattle.luks_meta.specs.declared.digests.Digest.{Digest}
+use Rattle.luks_meta.specs.declared.tokens.Token.{Token}
+use Rattle.luks_meta.specs.Names.{numbers_of_array}
+use Rattle.luks_meta.specs.Number.{number_text}
+use Rattle.luks_meta.specs.Table.{digest_rows, token_rows, config_rows, keyslot_rows, segment_rows, member_name}
+use Rattle.luks_meta.specs.Reading.{names, Field, object, text, whole, absent, dynamic, bytes, reads, text_of, number_of, number_in, decimal_in, extent_of, bytes_in, kept, is_sector_size}
 use Rattle.luks_meta.specs.Faults.{outer_at, type_at, value_at, is_judged}
 
 abbrev pub member_at : Data → Outer → Member → Option Data
@@ -119,11 +123,32 @@ keyslot_field outer.Af n k = splitter_field n k.af
 keyslot_field outer.Area n k = area_field n k.area
 keyslot_field outer.Kdf n k = kdf_field n k.kdf
 
+abbrev pub digest_field : Outer → Member → Digest → Field
+digest_field outer.Top name.Digest k = bytes k.digest.items
+digest_field outer.Top name.Hash k = text k.hash.now
+digest_field outer.Top name.Iterations k = whole k.iterations
+digest_field outer.Top name.Keyslots k = names (map number_text k.keyslots.items)
+digest_field outer.Top name.Salt k = bytes k.salt.items
+digest_field outer.Top name.Segments k = names (map number_text k.segments.items)
+digest_field outer.Top name.Kind k = text (codes "pbkdf2")
+digest_field o n k = absent
+
+abbrev pub token_field : Outer → Member → Token → Field
+token_field outer.Top name.Keyslots k = names (map number_text k.keyslots.items)
+token_field outer.Top name.Kind k = text k.kind.now
+token_field o n k = absent
+
 abbrev pub SaysConfig : Data → Config → Type 0
 SaysConfig = Says config_rows config_field
 
 abbrev pub SaysSegment : Data → Segment → Type 0
 SaysSegment = Says segment_rows segment_field
+
+abbrev pub SaysDigest : Data → Digest → Type 0
+SaysDigest = Says digest_rows digest_field
+
+abbrev pub SaysToken : Data → Token → Type 0
+SaysToken = Says token_rows token_field
 
 abbrev pub SaysKeyslot : Data → Keyslot → Type 0
 SaysKeyslot = Says keyslot_rows keyslot_field
@@ -173,3 +198,14 @@ abbrev pub TellsKeyslot : Data → Keyslot → Type 0
 TellsKeyslot d k = (type_at d outer.Top ≡ Some (codes "luks2")) × (number_in 1 128 (member_at d outer.Top name.KeySize) ≡ Some k.key_size)
     × (reads (rule.MayBeNumber 0 2) (member_at d outer.Top name.Priority) ≡ Some (priority_field k.priority))
     × TellsSplitter d k.af × TellsArea d k.area × TellsKdf d k.kdf
+
+abbrev pub TellsDigest : Data → Digest → Type 0
+TellsDigest d k = (type_at d outer.Top ≡ Some (codes "pbkdf2")) × (text_of (member_at d outer.Top name.Hash) ≡ Some k.hash.now)
+    × (small_at d outer.Top name.Iterations ≡ Some k.iterations)
+    × (bytes_in 1 128 (member_at d outer.Top name.Salt) ≡ Some k.salt.items) × (bytes_in 20 64 (member_at d outer.Top name.Digest) ≡ Some k.digest.items)
+    × (numbers_of_array (member_at d outer.Top name.Keyslots) ≡ Some k.keyslots.items)
+    × (numbers_of_array (member_at d outer.Top name.Segments) ≡ Some k.segments.items)
+
+abbrev pub TellsToken : Data → Token → Type 0
+TellsToken d k = (text_of (member_at d outer.Top name.Kind) ≡ Some k.kind.now)
+    × (numbers_of_array (member_at d outer.Top name.Keyslots) ≡ Some k.keyslots.items)

@@ -6,12 +6,17 @@ mod arrays;
 mod compact;
 mod configuration;
 mod decimal;
+mod digests;
 mod encoded;
 mod fault;
 mod judge;
 mod keyslots;
 mod member;
+<<<<<<< HEAD
 mod meta;
+=======
+mod name_list;
+>>>>>>> 32b7460 (Read digests and tokens into records that say each row of the table)
 mod number;
 mod parsing;
 mod path;
@@ -21,6 +26,7 @@ mod rows;
 mod segments;
 mod sizes;
 mod table;
+mod tokens;
 mod walk;
 mod whole;
 

@@ -6,12 +6,13 @@ ghost use Rattle.std.specs.Str.{bytes_eq};
 ghost use Rattle.serde_json.specs.View.{view};
 ghost use Rattle.luks_meta.specs.declared.table.Rule.TheVariants.{MayBeNumber};
 ghost use Rattle.luks_meta.specs.Faults.{type_at};
+ghost use Rattle.luks_meta.specs.Names.{numbers_of_array};
 ghost use Rattle.luks_meta.specs.Reading.{text_of, number_of, number_in, decimal_in, bytes_in, extent_of, kept, is_sector_size, reads};
 ghost use Rattle.luks_meta.specs.Says.{member_at, extent_field, priority_field};
 
 use crate::decimal::decimal;
 use crate::table::{Member, Outer, member_name};
-use crate::{judge, reading};
+use crate::{judge, name_list, reading};
 use arrayvec::ArrayVec;
 use serde_json::Value;
 
@@ -126,4 +127,11 @@ pub fn priority_at(object: &Value) -> Option<Option<u8>>
         Some(n) => Some(Some(u8::try_from(n).ok()?)),
         None => None,
     }
+}
+
+/// The numbers that the member, an array, names.
+pub fn numbers_at(object: &Value, name: Member) -> Option<ArrayVec<u8, 32>>
+    ensures { option_map (λ n. n.items) result ≡ numbers_of_array (member_at (view object.now) Outer.Top name) }
+{
+    name_list::numbers_in(member_at(object, Outer::Top, name))
 }
