@@ -12,11 +12,8 @@ mod fault;
 mod judge;
 mod keyslots;
 mod member;
-<<<<<<< HEAD
 mod meta;
-=======
 mod name_list;
->>>>>>> 32b7460 (Read digests and tokens into records that say each row of the table)
 mod number;
 mod parsing;
 mod path;
