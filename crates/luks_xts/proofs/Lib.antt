@@ -12,3 +12,4 @@ pub mod Expanded
 pub mod Alpha
 pub mod Units
 pub mod Loops
+pub mod StateWords

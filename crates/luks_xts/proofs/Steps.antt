@@ -26,7 +26,7 @@ same_state f g h = same_map (λ k. f (k % 4) (k / 4)) (λ k. g (k % 4) (k / 4)) 
 cons : {x y : ℕ} {xs ys : List ℕ} → x ≡ y → xs ≡ ys → x ∷ xs ≡ y ∷ ys
 cons h i = ap₂ (λ (y : ℕ) (ys : List ℕ). y ∷ ys) h i
 
-same_rows : (f g : ℕ → ℕ → ℕ) → ((c : ℕ) → f 0 c ≡ g 0 c) → ((c : ℕ) → f 1 c ≡ g 1 c) → ((c : ℕ) → f 2 c ≡ g 2 c) → ((c : ℕ) → f 3 c ≡ g 3 c)
+pub same_rows : (f g : ℕ → ℕ → ℕ) → ((c : ℕ) → f 0 c ≡ g 0 c) → ((c : ℕ) → f 1 c ≡ g 1 c) → ((c : ℕ) → f 2 c ≡ g 2 c) → ((c : ℕ) → f 3 c ≡ g 3 c)
     → state_by f ≡ state_by g
 unfolding state_by
 same_rows f g h0 h1 h2 h3 =
@@ -35,7 +35,7 @@ same_rows f g h0 h1 h2 h3 =
     (cons (h0 2) (cons (h1 2) (cons (h2 2) (cons (h3 2)
     (cons (h0 3) (cons (h1 3) (cons (h2 3) (cons (h3 3) refl)))))))))))))))
 
-state_by_self : (s : List ℕ) → length s ≡ 16 → state_by (byte_in s) ≡ s
+pub state_by_self : (s : List ℕ) → length s ≡ 16 → state_by (byte_in s) ≡ s
 unfolding state_by byte_in
 state_by_self s h = sym (fill_by_all (slice_index s) s 16 0 h (λ k low. refl))
 

@@ -2,11 +2,12 @@
 
 ghost use Rattle.std.specs.Prelude.{◌≡◌, ◌+◌, ◌*◌, ◌≤◌, length};
 ghost use Rattle.luks_xts.specs.Aes as aes;
+ghost use Rattle.luks_xts.specs.Columns.{bytes_of};
 
 use crate::tables::{inverse_sbox, sbox};
 use crate::words::{mixed_column, unmixed_column};
 
-// The sum with a round key.
+// The sum of two blocks.
 #[inline(always)]
 pub fn add_round_key(s: [u8; 16], key: &[u8]) -> [u8; 16]
     requires { length key.now ≡ 16 }
@@ -32,82 +33,130 @@ pub fn add_round_key(s: [u8; 16], key: &[u8]) -> [u8; 16]
     ]
 }
 
-// The steps of a whole round before the round key.
+// The state of these 16 bytes, a word for each column.
 #[inline(always)]
-fn mixed(s: [u8; 16]) -> [u8; 16]
-    ensures { result ≡ aes.mix_columns (aes.shift_rows (aes.sub_bytes s)) }
+fn loaded(bytes: &[u8]) -> [u32; 4]
+    requires { length bytes.now ≡ 16 }
+    ensures { bytes_of result ≡ bytes.now }
 {
-    let a = mixed_column(s[0], s[5], s[10], s[15]);
-    let b = mixed_column(s[4], s[9], s[14], s[3]);
-    let c = mixed_column(s[8], s[13], s[2], s[7]);
-    let d = mixed_column(s[12], s[1], s[6], s[11]);
+    [
+        u32::from_be_bytes([bytes[0], bytes[1], bytes[2], bytes[3]]),
+        u32::from_be_bytes([bytes[4], bytes[5], bytes[6], bytes[7]]),
+        u32::from_be_bytes([bytes[8], bytes[9], bytes[10], bytes[11]]),
+        u32::from_be_bytes([bytes[12], bytes[13], bytes[14], bytes[15]]),
+    ]
+}
+
+// The 16 bytes of a state.
+#[inline(always)]
+fn stored(s: [u32; 4]) -> [u8; 16]
+    ensures { result ≡ bytes_of s }
+{
+    let a = s[0].to_be_bytes();
+    let b = s[1].to_be_bytes();
+    let c = s[2].to_be_bytes();
+    let d = s[3].to_be_bytes();
     [
         a[0], a[1], a[2], a[3], b[0], b[1], b[2], b[3], c[0], c[1], c[2], c[3], d[0], d[1], d[2],
         d[3],
     ]
 }
 
-// The steps of the last round before the round key.
-fn substituted(s: [u8; 16]) -> [u8; 16]
-    ensures { result ≡ aes.shift_rows (aes.sub_bytes s) }
+// The sum of a state and a round key.
+#[inline(always)]
+fn added(s: [u32; 4], key: &[u8]) -> [u32; 4]
+    requires { length key.now ≡ 16 }
+    ensures { bytes_of result ≡ aes.add_round_key (bytes_of s) key.now }
 {
+    let k = loaded(key);
+    [s[0] ^ k[0], s[1] ^ k[1], s[2] ^ k[2], s[3] ^ k[3]]
+}
+
+// The steps of a whole round before the round key.
+#[inline(always)]
+fn mixed(s: [u32; 4]) -> [u32; 4]
+    ensures { bytes_of result ≡ aes.mix_columns (aes.shift_rows (aes.sub_bytes (bytes_of s))) }
+{
+    let a = s[0].to_be_bytes();
+    let b = s[1].to_be_bytes();
+    let c = s[2].to_be_bytes();
+    let d = s[3].to_be_bytes();
     [
-        sbox(s[0]),
-        sbox(s[5]),
-        sbox(s[10]),
-        sbox(s[15]),
-        sbox(s[4]),
-        sbox(s[9]),
-        sbox(s[14]),
-        sbox(s[3]),
-        sbox(s[8]),
-        sbox(s[13]),
-        sbox(s[2]),
-        sbox(s[7]),
-        sbox(s[12]),
-        sbox(s[1]),
-        sbox(s[6]),
-        sbox(s[11]),
+        mixed_column(a[0], b[1], c[2], d[3]),
+        mixed_column(b[0], c[1], d[2], a[3]),
+        mixed_column(c[0], d[1], a[2], b[3]),
+        mixed_column(d[0], a[1], b[2], c[3]),
+    ]
+}
+
+// The steps of the last round before the round key.
+#[inline(always)]
+fn substituted(s: [u32; 4]) -> [u32; 4]
+    ensures { bytes_of result ≡ aes.shift_rows (aes.sub_bytes (bytes_of s)) }
+{
+    let a = s[0].to_be_bytes();
+    let b = s[1].to_be_bytes();
+    let c = s[2].to_be_bytes();
+    let d = s[3].to_be_bytes();
+    [
+        u32::from_be_bytes([sbox(a[0]), sbox(b[1]), sbox(c[2]), sbox(d[3])]),
+        u32::from_be_bytes([sbox(b[0]), sbox(c[1]), sbox(d[2]), sbox(a[3])]),
+        u32::from_be_bytes([sbox(c[0]), sbox(d[1]), sbox(a[2]), sbox(b[3])]),
+        u32::from_be_bytes([sbox(d[0]), sbox(a[1]), sbox(b[2]), sbox(c[3])]),
     ]
 }
 
 // The inverse of the column step.
 #[inline(always)]
-fn unmixed(s: [u8; 16]) -> [u8; 16]
-    ensures { result ≡ aes.inverse_mix_columns s }
+fn unmixed(s: [u32; 4]) -> [u32; 4]
+    ensures { bytes_of result ≡ aes.inverse_mix_columns (bytes_of s) }
 {
-    let a = unmixed_column(s[0], s[1], s[2], s[3]);
-    let b = unmixed_column(s[4], s[5], s[6], s[7]);
-    let c = unmixed_column(s[8], s[9], s[10], s[11]);
-    let d = unmixed_column(s[12], s[13], s[14], s[15]);
+    let a = s[0].to_be_bytes();
+    let b = s[1].to_be_bytes();
+    let c = s[2].to_be_bytes();
+    let d = s[3].to_be_bytes();
     [
-        a[0], a[1], a[2], a[3], b[0], b[1], b[2], b[3], c[0], c[1], c[2], c[3], d[0], d[1], d[2],
-        d[3],
+        unmixed_column(a[0], a[1], a[2], a[3]),
+        unmixed_column(b[0], b[1], b[2], b[3]),
+        unmixed_column(c[0], c[1], c[2], c[3]),
+        unmixed_column(d[0], d[1], d[2], d[3]),
     ]
 }
 
 // The inverses of the rotation of the rows and of the S-box.
 #[inline(always)]
-fn unsubstituted(s: [u8; 16]) -> [u8; 16]
-    ensures { result ≡ aes.inverse_sub_bytes (aes.inverse_shift_rows s) }
+fn unsubstituted(s: [u32; 4]) -> [u32; 4]
+    ensures { bytes_of result ≡ aes.inverse_sub_bytes (aes.inverse_shift_rows (bytes_of s)) }
 {
+    let a = s[0].to_be_bytes();
+    let b = s[1].to_be_bytes();
+    let c = s[2].to_be_bytes();
+    let d = s[3].to_be_bytes();
     [
-        inverse_sbox(s[0]),
-        inverse_sbox(s[13]),
-        inverse_sbox(s[10]),
-        inverse_sbox(s[7]),
-        inverse_sbox(s[4]),
-        inverse_sbox(s[1]),
-        inverse_sbox(s[14]),
-        inverse_sbox(s[11]),
-        inverse_sbox(s[8]),
-        inverse_sbox(s[5]),
-        inverse_sbox(s[2]),
-        inverse_sbox(s[15]),
-        inverse_sbox(s[12]),
-        inverse_sbox(s[9]),
-        inverse_sbox(s[6]),
-        inverse_sbox(s[3]),
+        u32::from_be_bytes([
+            inverse_sbox(a[0]),
+            inverse_sbox(d[1]),
+            inverse_sbox(c[2]),
+            inverse_sbox(b[3]),
+        ]),
+        u32::from_be_bytes([
+            inverse_sbox(b[0]),
+            inverse_sbox(a[1]),
+            inverse_sbox(d[2]),
+            inverse_sbox(c[3]),
+        ]),
+        u32::from_be_bytes([
+            inverse_sbox(c[0]),
+            inverse_sbox(b[1]),
+            inverse_sbox(a[2]),
+            inverse_sbox(d[3]),
+        ]),
+        u32::from_be_bytes([
+            inverse_sbox(d[0]),
+            inverse_sbox(c[1]),
+            inverse_sbox(b[2]),
+            inverse_sbox(a[3]),
+        ]),
     ]
 }
 
@@ -116,14 +165,13 @@ pub fn cipher(words: &[u8], rounds: usize, block: [u8; 16]) -> [u8; 16]
     requires { 16 * rounds + 32 ≤ length words.now }
     ensures { result ≡ aes.cipher words.now rounds block }
 {
-    let mut state = add_round_key(block, &words[..16]);
+    let mut state = added(loaded(&block), &words[..16]);
     for i in 0..rounds {
-        state = add_round_key(mixed(state), &words[16 * i + 16..16 * i + 32]);
+        let next = added(mixed(state), &words[16 * i + 16..16 * i + 32]);
+        state = next;
     }
-    add_round_key(
-        substituted(state),
-        &words[16 * rounds + 16..16 * rounds + 32],
-    )
+    let key = &words[16 * rounds + 16..16 * rounds + 32];
+    stored(added(substituted(state), key))
 }
 
 // The inverse cipher over a key schedule.
@@ -131,10 +179,12 @@ pub fn inverse_cipher(words: &[u8], rounds: usize, block: [u8; 16]) -> [u8; 16]
     requires { 16 * rounds + 32 ≤ length words.now }
     ensures { result ≡ aes.inverse_cipher words.now rounds block }
 {
-    let mut state = unsubstituted(add_round_key(block, &words[16 * rounds + 16..16 * rounds + 32]));
+    let key = &words[16 * rounds + 16..16 * rounds + 32];
+    let mut state = unsubstituted(added(loaded(&block), key));
     for i in 0..rounds {
         let at = 16 * (rounds - i);
-        state = unsubstituted(unmixed(add_round_key(state, &words[at..at + 16])));
+        let next = unsubstituted(unmixed(added(state, &words[at..at + 16])));
+        state = next;
     }
-    add_round_key(state, &words[..16])
+    stored(added(state, &words[..16]))
 }

@@ -2,6 +2,7 @@
 // A word is a column of four bytes, the first byte highest.
 
 ghost use Rattle.std.specs.Prelude.{◌≡◌};
+ghost use Rattle.std.specs.Int.{w32, to_be_bytes};
 ghost use Rattle.luks_xts.specs.Field.{sbox};
 ghost use Rattle.luks_xts.specs.Aes.{mix_matrix, unmix_matrix};
 ghost use Rattle.luks_xts.specs.Columns.{column_of, column_part};
@@ -352,16 +353,16 @@ fn unmix_3(x: u8) -> u32
 
 // A column through the S-box and then times the matrix of MixColumns.
 #[inline(always)]
-pub fn mixed_column(a: u8, b: u8, c: u8, d: u8) -> [u8; 4]
-    ensures { result ≡ column_of mix_matrix (sbox a) (sbox b) (sbox c) (sbox d) }
+pub fn mixed_column(a: u8, b: u8, c: u8, d: u8) -> u32
+    ensures { to_be_bytes w32 result ≡ column_of mix_matrix (sbox a) (sbox b) (sbox c) (sbox d) }
 {
-    ((mix_0(a) ^ mix_1(b)) ^ (mix_2(c) ^ mix_3(d))).to_be_bytes()
+    (mix_0(a) ^ mix_1(b)) ^ (mix_2(c) ^ mix_3(d))
 }
 
 // A column times the inverse matrix.
 #[inline(always)]
-pub fn unmixed_column(a: u8, b: u8, c: u8, d: u8) -> [u8; 4]
-    ensures { result ≡ column_of unmix_matrix a b c d }
+pub fn unmixed_column(a: u8, b: u8, c: u8, d: u8) -> u32
+    ensures { to_be_bytes w32 result ≡ column_of unmix_matrix a b c d }
 {
-    ((unmix_0(a) ^ unmix_1(b)) ^ (unmix_2(c) ^ unmix_3(d))).to_be_bytes()
+    (unmix_0(a) ^ unmix_1(b)) ^ (unmix_2(c) ^ unmix_3(d))
 }

@@ -1,8 +1,10 @@
-use Rattle.std.proofs.Common.{refl}
-use Rattle.luks_xts.specs.Aes.{byte_in, state_by, sub_bytes, shift_rows, mix_columns, entry_of_product, word_by}
-use Rattle.luks_xts.specs.Columns.{column_of}
+use Rattle.luks_xts.proofs.StateWords.{mixed_is}
 use Rattle.luks_xts.proofs.rounds.mixed.Goals as goal
 
 pub returns : goal.returns
-unfolding byte_in state_by sub_bytes shift_rows mix_columns entry_of_product word_by column_of
-returns c = rw (c.mixed_column-a.ensures, c.mixed_column-b.ensures, c.mixed_column-c.ensures, c.mixed_column-d.ensures) refl
+returns c =
+    mixed_is c.args.s c.mixed_column.result c.mixed_column-2.result c.mixed_column-3.result c.mixed_column-4.result
+    (rw (c.to_be_bytes-a.ensures, c.to_be_bytes-b.ensures, c.to_be_bytes-c.ensures, c.to_be_bytes-d.ensures) at c.mixed_column.ensures)
+    (rw (c.to_be_bytes-a.ensures, c.to_be_bytes-b.ensures, c.to_be_bytes-c.ensures, c.to_be_bytes-d.ensures) at c.mixed_column-2.ensures)
+    (rw (c.to_be_bytes-a.ensures, c.to_be_bytes-b.ensures, c.to_be_bytes-c.ensures, c.to_be_bytes-d.ensures) at c.mixed_column-3.ensures)
+    (rw (c.to_be_bytes-a.ensures, c.to_be_bytes-b.ensures, c.to_be_bytes-c.ensures, c.to_be_bytes-d.ensures) at c.mixed_column-4.ensures)

@@ -1,8 +1,10 @@
-use Rattle.std.proofs.Common.{refl}
-use Rattle.luks_xts.specs.Aes.{byte_in, state_by, inverse_mix_columns, entry_of_product, word_by}
-use Rattle.luks_xts.specs.Columns.{column_of}
+use Rattle.luks_xts.proofs.StateWords.{unmixed_is}
 use Rattle.luks_xts.proofs.rounds.unmixed.Goals as goal
 
 pub returns : goal.returns
-unfolding byte_in state_by inverse_mix_columns entry_of_product word_by column_of
-returns c = rw (c.unmixed_column-a.ensures, c.unmixed_column-b.ensures, c.unmixed_column-c.ensures, c.unmixed_column-d.ensures) refl
+returns c =
+    unmixed_is c.args.s c.unmixed_column.result c.unmixed_column-2.result c.unmixed_column-3.result c.unmixed_column-4.result
+    (rw (c.to_be_bytes-a.ensures) at c.unmixed_column.ensures)
+    (rw (c.to_be_bytes-b.ensures) at c.unmixed_column-2.ensures)
+    (rw (c.to_be_bytes-c.ensures) at c.unmixed_column-3.ensures)
+    (rw (c.to_be_bytes-d.ensures) at c.unmixed_column-4.ensures)

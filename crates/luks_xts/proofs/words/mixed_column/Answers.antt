@@ -8,4 +8,4 @@ pub returns : goal.returns
 returns c =
     let e = column_of_parts mix_matrix (sbox c.args.a) (sbox c.args.b) (sbox c.args.c) (sbox c.args.d)
     (sbox-lt c.args.a c.ranges.a.fits) (sbox-lt c.args.b c.ranges.b.fits) (sbox-lt c.args.c c.ranges.c.fits) (sbox-lt c.args.d c.ranges.d.fits) in
-    rw (c.to_be_bytes.ensures, c.mix_0.ensures, c.mix_1.ensures, c.mix_2.ensures, c.mix_3.ensures) e
+    rw (c.mix_0.ensures, c.mix_1.ensures, c.mix_2.ensures, c.mix_3.ensures) e
