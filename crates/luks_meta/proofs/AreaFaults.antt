@@ -1,5 +1,5 @@
 -- The faults of an area, from those of its text and of its value.
-use Rattle.std.proofs.Common.{◌≡◌, ℕ, List, [], ◌∷◌, length, Some, None, sym, ap, ◌∙◌, subst, arith}
+use Rattle.std.proofs.Common.{◌≢◌, true, false, refl, ◌≡◌, ℕ, List, [], ◌∷◌, length, Some, None, sym, ap, ◌∙◌, subst, arith}
 use Rattle.std.specs.Prelude.{IsUtf8}
 use Rattle.serde_json.specs.Data.{Data}
 use Rattle.serde_json.specs.Read.{read}
@@ -7,7 +7,15 @@ use Rattle.luks_area.specs.First.{IsLeast, NotAfter}
 use Rattle.luks_meta.specs.declared.fault.MetaFault.{MetaFault}
 use Rattle.luks_meta.specs.declared.fault.MetaFault.TheVariants as fault
 use Rattle.luks_meta.specs.AreaText.{JsonText}
-use Rattle.luks_meta.specs.MetaFault.{HasDataFault, IsBadJson, IsDataFault, IsMetaFault, Json, meta_key}
+use Rattle.serde_json.specs.Written.{has_float}
+use Rattle.luks_area.specs.declared.area.AreaName.TheVariants.{Head1, Head2, Slot, Segment}
+use Rattle.luks_meta.specs.declared.place.Test.{Test}
+use Rattle.luks_meta.specs.declared.place.Test.TheVariants as test
+use Rattle.luks_meta.specs.Faults.{has_fault}
+use Rattle.luks_meta.specs.Sizes.{has_sizes, has_slot_outside, has_small_area}
+use Rattle.luks_meta.specs.Accepted.{IsMeta}
+use Rattle.luks_meta.proofs.Refusing.{faultless_of}
+use Rattle.luks_meta.specs.MetaFault.{HasDataFault, HasPath, IsBadJson, IsDataFault, IsFaultless, IsMetaFault, Json, meta_key}
 use Rattle.luks_meta.proofs.AreaTexts.{one_text}
 
 pub area_least : (area : List ℕ) → ((text : List ℕ) → JsonText area text → ⊥) → IsLeast meta_key (IsMetaFault area) fault.JsonArea
@@ -99,3 +107,47 @@ value_least area j f json least = (from_value area j json f least.0, λ g h. lea
 
 pub value_none : (area : List ℕ) (j : Data) → Json area j → ((g : MetaFault) → IsDataFault (length area) j g → ⊥) → (g : MetaFault) → IsMetaFault area g → ⊥
 value_none area j json none g h = none g (into_value area j json g h)
+
+-- ---- of an area that is accepted
+
+path_none : (len : ℕ) (j : Data) → IsFaultless len j → (t : Test) (p : List ℕ) → HasPath t j p → ⊥
+path_none len j f t p h =
+    let off : has_fault t j h.place ≡ false = f.places t h.place h.faulty.place in
+    let on : has_fault t j h.place ≡ true = h.faulty.fault in
+    cc
+
+pub data_none : (len : ℕ) (j : Data) → IsFaultless len j → (g : MetaFault) → IsDataFault len j g → ⊥
+data_none len j f fault.JsonArea h = h
+data_none len j f fault.BadJson h = h
+data_none len j f fault.NotWhole h = let off : has_float j ≡ false = f.whole in cc
+data_none len j f (fault.Shape path) h = path_none len j f test.Shape path.bytes h
+data_none len j f (fault.Kind path) h = path_none len j f test.Kind path.bytes h
+data_none len j f (fault.NoSuchName path) h = path_none len j f test.NoSuchName path.bytes h
+data_none len j f (fault.Assigned path) h = path_none len j f test.Assigned path.bytes h
+data_none len j f fault.Sizes h = let off : has_sizes len j ≡ false = f.sizes in cc
+data_none len j f (fault.AreaTooSmall n) h = let off : has_small_area j n ≡ false = f.areas n h.0 in let on : has_small_area j n ≡ true = h.1 in cc
+data_none len j f (fault.Region Head1) h = h
+data_none len j f (fault.Region Head2) h = h
+data_none len j f (fault.Region (Slot n)) h = let off : has_slot_outside len j n ≡ false = f.region n h.0 in let on : has_slot_outside len j n ≡ true = h.1 in cc
+data_none len j f (fault.Region (Segment n)) h = h
+data_none len j f fault.Memory h = h
+
+pub accepted_none : (area : List ℕ) (j : Data) → IsMeta area j → (g : MetaFault) → IsMetaFault area g → ⊥
+accepted_none area j m g h = value_none area j m.json (data_none (length area) j (faultless_of (length area) j m.content)) g h
+
+pub memory_alone : (f : MetaFault) → (f ≢ fault.Memory → ⊥) → f ≡ fault.Memory
+memory_alone fault.Memory h = refl
+memory_alone fault.JsonArea h = absurd (h (λ e. cc))
+memory_alone fault.BadJson h = absurd (h (λ e. cc))
+memory_alone fault.NotWhole h = absurd (h (λ e. cc))
+memory_alone (fault.Shape path) h = absurd (h (λ e. cc))
+memory_alone (fault.Kind path) h = absurd (h (λ e. cc))
+memory_alone (fault.NoSuchName path) h = absurd (h (λ e. cc))
+memory_alone (fault.Assigned path) h = absurd (h (λ e. cc))
+memory_alone fault.Sizes h = absurd (h (λ e. cc))
+memory_alone (fault.AreaTooSmall n) h = absurd (h (λ e. cc))
+memory_alone (fault.Region name) h = absurd (h (λ e. cc))
+
+-- an area that is accepted is refused for want of memory alone
+pub memory_where : (area : List ℕ) (f : MetaFault) → (f ≢ fault.Memory → IsLeast meta_key (IsMetaFault area) f) → (j : Data) → IsMeta area j → f ≡ fault.Memory
+memory_where area f least j m = memory_alone f (λ off. accepted_none area j m f (least off).0)

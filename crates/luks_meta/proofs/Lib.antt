@@ -11,3 +11,5 @@ pub mod PathRows
 pub mod AreaFaults
 pub mod NameLists
 pub mod SayingLists
+pub mod Accepting
+pub mod Refusing

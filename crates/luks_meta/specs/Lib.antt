@@ -13,3 +13,4 @@ pub mod MetaFault
 pub mod Held
 pub mod Content
 pub mod Names
+pub mod Accepted

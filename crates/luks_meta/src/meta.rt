@@ -22,7 +22,9 @@ pub struct Meta {
 impl Meta {
     ghost use Rattle.luks_area.specs.First.{IsLeast};
     ghost use Rattle.luks_meta.specs.declared.fault.MetaFault.{MetaFault};
-    ghost use Rattle.luks_meta.specs.MetaFault.{IsMetaFault, Json, meta_key};
+    ghost use Rattle.luks_meta.specs.MetaFault.{IsMetaFault, meta_key};
+    ghost use Rattle.serde_json.specs.Data.{Data};
+    ghost use Rattle.luks_meta.specs.Accepted.{IsMeta};
     ghost use Rattle.luks_meta.specs.Content.{content};
 
     /// Reads the metadata of a JSON area, which is a listed header size less 4096 bytes long.
@@ -30,11 +32,15 @@ impl Meta {
     /// Takes memory for the value. `Memory` is answered only where it was refused; every other
     /// fault is the first of the area.
     pub fn read(alloc: Global, area: &[u8]) -> Result<Meta, MetaFault>
-        ensures json { IfOk result (λ m. Json area.now (content m)) }
+        ensures found { IfOk result (λ m. IsMeta area.now (content m)) }
         ensures faultless { IfOk result (λ m. (f : MetaFault) → IsMetaFault area.now f → ⊥) }
         ensures fault { IfErr result (λ f. f ≢ MetaFault.Memory → IsLeast meta_key (IsMetaFault area.now) f) }
+        ensures only { (j : Data) → IsMeta area.now j → IfErr result (λ f. f ≡ MetaFault.Memory) }
     {
-        let value = read_value(alloc, area)?;
+        let value = match read_value(alloc, area) {
+            Ok(value) => value,
+            Err(fault) => return Err(fault),
+        };
         let content = Content {
             len: area.len(),
             value: &value,
