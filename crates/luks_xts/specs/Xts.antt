@@ -9,15 +9,15 @@ use Rattle.luks_xts.specs.Aes.{Aes, AesInverse, add_round_key}
 unfoldable pub alpha_times : ℕ → ℕ → ℕ
 alpha_times j t = poly_rem (2 ^ 128 + 0x87) 128 j (poly_mul (j + 1) (2 ^ j) t)
 
--- the halves of the key: the first for the blocks, the second for the tweaks (5.1)
+-- the halves of the key: the first for the blocks, the second for the tweaks (5.3.1)
 unfoldable pub block_key : List ℕ → List ℕ
 block_key key = take (length key / 2) key
 
 unfoldable pub tweak_key : List ℕ → List ℕ
 tweak_key key = drop (length key / 2) key
 
--- the tweak of a unit, a polynomial whose bytes come lowest first: the unit's number as 16 bytes,
--- encrypted under the second key (5.2)
+-- the tweak of a unit: its number as 16 bytes, lowest first (5.1), encrypted under the second key
+-- (5.3.1), as the polynomial whose bytes these are, lowest first (5.2)
 unfoldable pub tweak_of : List ℕ → ℕ → ℕ
 tweak_of key unit = from_le_bytes w128 (Aes (tweak_key key) (to_le_bytes w128 unit))
 

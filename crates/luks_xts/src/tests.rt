@@ -1,9 +1,19 @@
 use super::*;
+use crate::tables::{inverse_sbox, sbox};
 use std::test::Fail;
 
 mod vectors;
 
 use vectors::SEALED;
+
+// Two entries of the S-box, FIPS 197, figure 7.
+#[test]
+fn sbox_entries(rt: HostRuntime) {
+    assert_eq!(rt; sbox(0x00), 0x63);
+    assert_eq!(rt; sbox(0x53), 0xed);
+    assert_eq!(rt; inverse_sbox(0x63), 0x00);
+    assert_eq!(rt; inverse_sbox(0xed), 0x53);
+}
 
 // The vectors of FIPS 197, appendices B, C.1 and C.3.
 #[test]
