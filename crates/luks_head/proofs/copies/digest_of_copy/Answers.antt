@@ -45,5 +45,6 @@ pub returns-clause-digest : goal.returns-clause-digest
 returns-clause-digest g c = λ t e.
     let long : 16384 ≤ c.args.size = listed_at_least c.args.size c.requires.listed in
     let whole : 4096 * c.loop-k.k ≡ c.args.size = omega (arith, listed_whole c.args.size c.requires.listed) in
-    c.finalize.ensures _ (c.loop-k.invariant.fed t e)
-    ∙ ap sha256 (all_fed (g.D.Device.bytes c.args.device.now) c.args.at c.args.size c.loop-k.k (omega arith) whole (rw (g.met.D.Device.sized c.args.device.now t) c.requires.within))
+    let held : List ℕ = take (4096 * c.loop-k.k) (unsummed (part (g.D.Device.bytes c.args.device.now) c.args.at c.args.size)) in
+    c.finalize.ensures held (c.loop-k.invariant.fed t e)
+    ∙ ap sha256 {x = held} (all_fed (g.D.Device.bytes c.args.device.now) c.args.at c.args.size c.loop-k.k (omega arith) whole (rw (g.met.D.Device.sized c.args.device.now t) c.requires.within))
