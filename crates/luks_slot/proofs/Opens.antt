@@ -1,5 +1,5 @@
 -- What was merged, where it meets the digest, is what the keyslot opens to.
-use Rattle.std.proofs.Common.{◌≡◌, ◌∙◌, List, ℕ, ap, sym, Some, None, Option}
+use Rattle.std.proofs.Common.{◌≡◌, ◌∙◌, List, ℕ, ap, sym, Some, None}
 use Rattle.std.specs.Prelude.{if◌then◌else◌}
 use Rattle.luks_kdf.specs.declared.hash_name.HashName.{HashName}
 use Rattle.luks_kdf.specs.Names.{hash_of, digest_size_of}

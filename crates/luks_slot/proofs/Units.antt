@@ -1,5 +1,5 @@
 -- A decrypted sector is as long as the sector.
-use Rattle.std.proofs.Common.{◌≡◌, ℕ, zero, suc, ◌+◌, ◌*◌, ◌/◌, ◌∙◌, List, length, arith, length-append, refl, ap}
+use Rattle.std.proofs.Common.{◌≡◌, ℕ, zero, suc, ◌*◌, ◌/◌, ◌∙◌, List, length, arith, length-append, refl, ap}
 use Rattle.luks_xts.specs.Aes.{add_round_key, state_by}
 use Rattle.luks_xts.specs.Xts.{XtsOpen, opened_block, opened_under, joined}
 

@@ -1,5 +1,5 @@
 -- When a keyslot is refused: its plan alone decides.
-use Rattle.std.specs.Prelude.{ℕ, ◌==◌, ◌&&◌, ◌||◌, not, Bool, true, false, Option, Some, None, is_some, codes, if◌then◌else◌}
+use Rattle.std.specs.Prelude.{◌==◌, ◌&&◌, ◌||◌, not, Bool, true, false, Option, Some, None, is_some, codes, if◌then◌else◌}
 use Rattle.std.specs.Str.{bytes_eq}
 use Rattle.luks_kdf.specs.Names.{hash_named}
 use Rattle.luks_slot.specs.declared.plan.Derivation.{Derivation}

@@ -1,9 +1,8 @@
 -- What a plan that isn't refused derives by.
-use Rattle.std.specs.Prelude.{◌≡◌, ℕ, ◌≤◌, ◌⊎◌, List, Option, None}
+use Rattle.std.specs.Prelude.{◌≡◌, ℕ, ◌≤◌, ◌⊎◌, List, None}
 use Rattle.luks_kdf.specs.Derivation.{pbkdf2}
 use Rattle.luks_kdf.specs.Names.{hash_of, block_size_of}
 use Rattle.luks_slot.specs.declared.plan.SlotPlan.{SlotPlan}
-use Rattle.luks_slot.specs.declared.plan.Derivation.TheVariants.{Pbkdf2}
 use Rattle.luks_slot.specs.declared.refusal.Terms.{Terms}
 use Rattle.luks_slot.specs.Refusal.{slot_refusal}
 use Rattle.luks_slot.specs.Opening.{named, area_key_by, HasTurns}

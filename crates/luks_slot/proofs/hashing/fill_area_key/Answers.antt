@@ -1,4 +1,4 @@
-use Rattle.std.proofs.Common.{◌≡◌, ◌∙◌, length, ap, sym}
+use Rattle.std.proofs.Common.{◌∙◌, sym}
 use Rattle.luks_slot.specs.Opening.{area_key}
 use Rattle.luks_slot.proofs.hashing.fill_area_key.Goals as goal
 

@@ -1,7 +1,5 @@
-use Rattle.std.proofs.Common.{◌≡◌, ◌∙◌, length, ap, sym, refl}
+use Rattle.std.proofs.Common.{◌∙◌, ap}
 use Rattle.std.specs.Str.{bytes_eq}
-use Rattle.luks_kdf.specs.Derivation.{pbkdf2}
-use Rattle.luks_kdf.specs.Names.{hash_of, block_size_of}
 use Rattle.luks_slot.specs.Opening.{meets_digest}
 use Rattle.luks_slot.proofs.hashing.is_stored.Goals as goal
 

@@ -1,4 +1,4 @@
-use Rattle.std.proofs.Common.{◌+◌, ◌*◌, ap, sym, ◌∙◌, arith}
+use Rattle.std.proofs.Common.{◌*◌, ap, sym, ◌∙◌, arith}
 use Rattle.luks_xts.specs.Xts.{XtsOpen}
 use Rattle.luks_slot.specs.Opening.{opened_sector}
 use Rattle.luks_slot.proofs.Places.{part-part}

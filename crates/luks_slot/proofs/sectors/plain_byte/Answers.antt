@@ -2,7 +2,7 @@ use Rattle.std.proofs.Common.{◌≡◌, ◌%◌, ◌/◌, ◌∙◌, ap}
 use Rattle.std.specs.Prelude.{slice_index}
 use Rattle.luks_area.specs.Ranges.{part}
 use Rattle.luks_slot.specs.Opening.{opened_sector}
-use Rattle.luks_slot.specs.Sectors.{plain_byte, HoldsSector}
+use Rattle.luks_slot.specs.Sectors.{plain_byte}
 use Rattle.luks_slot.proofs.sectors.plain_byte.Goals as goal
 use Rattle.luks_slot.proofs.sectors.plain_byte.Goals.{then-place-eq0+in_ok-load_sector, else-place-eq0}
 
