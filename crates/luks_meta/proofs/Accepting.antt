@@ -1,33 +1,29 @@
 -- A value is accepted exactly where no test finds a fault.
-use Rattle.std.proofs.Common.{◌≡◌, ℕ, suc, zero, ◌+◌, ◌*◌, ◌<◌, ◌≤◌, Bool, true, false, ◌&&◌, List, [], ◌∷◌, Option, Some, None, refl, sym, ap, ◌∙◌, subst, arith, inl, inr, ◌⊎◌}
-use Rattle.std.specs.Prelude.{◌||◌, ◌==◌, not, nat_lt, slice_get, option_and_then, is_some, codes}
+use Rattle.std.proofs.Common.{◌≡◌, ℕ, suc, zero, ◌+◌, ◌*◌, ◌≤◌, Bool, true, false, ◌&&◌, List, [], ◌∷◌, Option, Some, None, refl, sym, ap, inl, inr}
+use Rattle.std.specs.Prelude.{◌||◌, ◌==◌, not, slice_get, option_and_then, is_some, codes}
 use Rattle.std.specs.Option.{option_map_or}
-use Rattle.std.specs.List.{list_any, list_all}
-use Rattle.std.proofs.lemmas.Bool.{and_parts, eqb-true, ltb-false, cases_Bool}
-use Rattle.serde_json.specs.Data.{Data, null, boolean, number, string, array, object, Items}
-use Rattle.serde_json.specs.Find.{as_array, as_object, get}
+use Rattle.std.specs.List.{list_any}
+use Rattle.std.proofs.lemmas.Bool.{eqb-true, ltb-false}
+use Rattle.serde_json.specs.Data.{Data, Items}
+use Rattle.serde_json.specs.Find.{as_array, as_object}
 use Rattle.luks_meta.specs.declared.table.Section.{Section}
-use Rattle.luks_meta.specs.declared.table.Section.TheVariants.{Config, Digests, Keyslots, Segments, Tokens}
+use Rattle.luks_meta.specs.declared.table.Section.TheVariants.{Config, Keyslots, Segments}
 use Rattle.luks_meta.specs.declared.table.Outer.{Outer}
 use Rattle.luks_meta.specs.declared.table.Outer.TheVariants as outer
 use Rattle.luks_meta.specs.declared.table.Rule.{Rule}
 use Rattle.luks_meta.specs.declared.table.Rule.TheVariants as rule
-use Rattle.luks_meta.specs.declared.table.When.{When}
-use Rattle.luks_meta.specs.declared.table.When.TheVariants as when
 use Rattle.luks_meta.specs.declared.table.Row.{Row}
-use Rattle.luks_meta.specs.declared.place.Place.{Place}
 use Rattle.luks_meta.specs.declared.place.Test.{Test}
 use Rattle.luks_meta.specs.declared.place.Test.TheVariants as test
-use Rattle.luks_meta.specs.Table.{config_rows, member_name, rows_of}
-use Rattle.luks_meta.specs.Reading.{decimal_in, is_foreign, is_listed, kept, number_in, reads, text_of}
-use Rattle.luks_meta.specs.Faults.{Among, HasPlace, IsPlace, covers, encloses, fault_at, has_dangling, has_double, has_fault, has_kind, has_no_digest, has_section, has_shape, is_hidden_by, is_judged, is_numbered, object_at, object_fault, outer_at, row_fault, section_at, section_fault, suits, type_at, value_at}
+use Rattle.luks_meta.specs.Table.{config_rows, rows_of}
+use Rattle.luks_meta.specs.Reading.{decimal_in, is_foreign, number_in, reads}
+use Rattle.luks_meta.specs.Faults.{Among, covers, encloses, has_dangling, has_double, has_kind, has_section, has_shape, is_hidden_by, is_judged, object_at, object_fault, row_fault, section_at, value_at}
 use Rattle.luks_meta.specs.Walk.{place}
 use Rattle.luks_meta.specs.Says.{IsRead}
-use Rattle.luks_meta.specs.Sizes.{has_sizes, has_slot_outside, has_small_area, inside_at, is_outside, is_too_small, json_size, keyslots_size, region_start, sectors_of}
+use Rattle.luks_meta.specs.Sizes.{inside_at, is_outside, is_too_small, json_size, keyslots_size, region_start, sectors_of}
 use Rattle.luks_meta.specs.MetaFault.{IsFaultless}
-use Rattle.luks_meta.specs.Accepted.{HasNames, HasObject, IsContent, Resolves}
-use Rattle.luks_meta.specs.Arrays.{all_there, has_repeat, naming_count}
-use Rattle.luks_meta.specs.Number.{number_text}
+use Rattle.luks_meta.specs.Accepted.{HasObject, IsContent, Resolves}
+use Rattle.luks_meta.specs.Arrays.{all_there, has_repeat}
 
 -- ---- tests
 

@@ -13,3 +13,5 @@ pub mod NameLists
 pub mod SayingLists
 pub mod Accepting
 pub mod Refusing
+pub mod Listed
+pub mod ObjectsRead

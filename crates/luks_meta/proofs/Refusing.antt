@@ -1,6 +1,6 @@
 -- In a value that is accepted no test finds a fault.
-use Rattle.std.proofs.Common.{◌≡◌, ◌≢◌, ℕ, ◌+◌, ◌*◌, ◌<◌, ◌≤◌, Bool, true, false, ◌&&◌, List, [], ◌∷◌, Option, Some, None, cond, refl, sym, ap, ◌∙◌, arith, eq-eqb, inl, inr, ◌⊎◌}
-use Rattle.std.specs.Prelude.{◌||◌, ◌==◌, not, nat_lt, slice_get, option_map, option_and_then, is_some, codes}
+use Rattle.std.proofs.Common.{◌≡◌, ℕ, ◌+◌, ◌*◌, ◌<◌, Bool, true, false, ◌&&◌, List, [], ◌∷◌, Option, Some, None, cond, refl, eq-eqb, inl, inr, ◌⊎◌}
+use Rattle.std.specs.Prelude.{◌||◌, not, option_map, option_and_then, is_some, codes}
 use Rattle.std.specs.Option.{option_map_or}
 use Rattle.std.specs.List.{list_all}
 use Rattle.std.proofs.lemmas.Bool.{and_parts, le-ltb}
@@ -15,16 +15,15 @@ use Rattle.luks_meta.specs.declared.table.Rule.TheVariants as rule
 use Rattle.luks_meta.specs.declared.table.When.{When}
 use Rattle.luks_meta.specs.declared.table.When.TheVariants as when
 use Rattle.luks_meta.specs.declared.table.Row.{Row}
-use Rattle.luks_meta.specs.declared.place.Place.{Place}
 use Rattle.luks_meta.specs.declared.place.Test.{Test}
 use Rattle.luks_meta.specs.declared.place.Test.TheVariants as test
 use Rattle.luks_meta.specs.Table.{config_rows, member_name, rows_of}
 use Rattle.luks_meta.specs.Reading.{decimal_in, is_foreign, is_listed, kept, number_in, reads, text, text_of}
-use Rattle.luks_meta.specs.Faults.{Among, HasPlace, IsPlace, covers, fault_at, has_dangling, has_double, has_fault, has_kind, has_no_digest, has_shape, is_hidden_by, is_judged, is_numbered, object_at, object_fault, outer_at, row_fault, section_at, suits, type_at, value_at}
+use Rattle.luks_meta.specs.Faults.{Among, HasPlace, fault_at, has_dangling, has_double, has_no_digest, is_judged, object_at, object_fault, outer_at, row_fault, section_at, suits, type_at, value_at}
 use Rattle.luks_meta.specs.Says.{IsRead}
-use Rattle.luks_meta.specs.Sizes.{has_sizes, has_slot_outside, has_small_area, inside_at, is_outside, is_too_small, json_size, keyslots_size, of_both, region_start, sectors_of}
+use Rattle.luks_meta.specs.Sizes.{has_slot_outside, has_small_area, inside_at, keyslots_size, region_start, sectors_of}
 use Rattle.luks_meta.specs.MetaFault.{IsFaultless}
-use Rattle.luks_meta.specs.Accepted.{HasNames, HasObject, IsContent}
+use Rattle.luks_meta.specs.Accepted.{HasObject, IsContent}
 use Rattle.luks_meta.specs.Arrays.{all_there, has_repeat}
 use Rattle.luks_meta.proofs.Accepting.{at_among}
 

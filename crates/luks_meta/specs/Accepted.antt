@@ -1,10 +1,10 @@
 -- When the metadata of a JSON area is accepted, said of its value.
-use Rattle.std.specs.Prelude.{◌≡◌, ℕ, ◌+◌, ◌*◌, ◌<◌, ◌≤◌, List, codes, length, true, false, Option, Some, option_and_then}
+use Rattle.std.specs.Prelude.{◌≡◌, ℕ, ◌+◌, ◌*◌, ◌<◌, ◌≤◌, List, codes, length, true, false, Some, option_and_then}
 use Rattle.serde_json.specs.Data.{Data, Items}
 use Rattle.serde_json.specs.Find.{as_array}
 use Rattle.serde_json.specs.Written.{has_float}
 use Rattle.luks_meta.specs.declared.table.Section.{Section}
-use Rattle.luks_meta.specs.declared.table.Section.TheVariants.{Config, Digests, Keyslots, Segments, Tokens}
+use Rattle.luks_meta.specs.declared.table.Section.TheVariants.{Config, Digests, Keyslots, Segments}
 use Rattle.luks_meta.specs.declared.table.Outer.TheVariants as outer
 use Rattle.luks_meta.specs.declared.table.Rule.TheVariants as rule
 use Rattle.luks_meta.specs.declared.table.When.TheVariants as when

@@ -14,3 +14,4 @@ pub mod Held
 pub mod Content
 pub mod Names
 pub mod Accepted
+pub mod Objects

@@ -15,6 +15,7 @@ mod member;
 mod meta;
 mod name_list;
 mod number;
+mod objects;
 mod parsing;
 mod path;
 mod place;
