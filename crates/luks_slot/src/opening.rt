@@ -18,8 +18,8 @@ use luks_kdf::HashName;
 use std::alloc::Global;
 
 /// The volume key that the passphrase opens the keyslot to, or None where the stored digest isn't
-/// met; an empty passphrase is a passphrase. LUKS1 On-Disk Format 1.2.3, 4.4; LUKS2 On-Disk Format
-/// 1.1, 4.1.
+/// met; an empty passphrase is a passphrase (LUKS1 On-Disk Format 1.2.3, 4.3; LUKS2 On-Disk Format
+/// 1.1, 4.3).
 ///
 /// A refusal is of the plan alone, the first of `Argon2`, `Cipher`, `Hash` and `KeySize`. `Device`
 /// comes exactly where the device failed. The area is read a sector at a time, and no memory is taken
