@@ -15,3 +15,4 @@ pub mod Accepting
 pub mod Refusing
 pub mod Listed
 pub mod ObjectsRead
+pub mod Requiring

@@ -15,3 +15,4 @@ pub mod Content
 pub mod Names
 pub mod Accepted
 pub mod Objects
+pub mod Requirements

@@ -20,6 +20,7 @@ mod parsing;
 mod path;
 mod place;
 mod reading;
+mod requirements;
 mod rows;
 mod segments;
 mod sizes;

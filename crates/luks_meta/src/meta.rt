@@ -1,14 +1,17 @@
 //! The metadata of a LUKS2 header.
 
-ghost use Rattle.std.specs.Prelude.{◌≡◌, ◌≢◌, ◌≤◌, length, IfOk, IfErr};
+ghost use Rattle.std.specs.Prelude.{◌≡◌, ◌≢◌, ◌<◌, ℕ, false, Some, length, All, string_bytes, IfOk, IfErr, MatchOption};
 ghost use Rattle.serde_json.specs.View.{view};
 ghost use Rattle.luks_meta.specs.Held.{IsHeld};
 
+use crate::compact::compact;
 use crate::fault::MetaFault;
 use crate::parsing::read_value;
+use crate::requirements::has_requirements;
 use crate::rows::{Content, judge};
+use crate::sizes::first_segment_below;
 use serde_json::Value;
-use std::alloc::Global;
+use std::alloc::{AllocError, Global};
 
 /// The metadata of a LUKS2 header, as it was read from a JSON area: every member that was there,
 /// and no fault. Contracts see it by `content`, the value.
@@ -25,7 +28,11 @@ impl Meta {
     ghost use Rattle.luks_meta.specs.MetaFault.{IsMetaFault, meta_key};
     ghost use Rattle.serde_json.specs.Data.{Data};
     ghost use Rattle.luks_meta.specs.Accepted.{IsMeta};
-    ghost use Rattle.luks_meta.specs.Content.{content};
+    ghost use Rattle.luks_meta.specs.Content.{area_len, content};
+    ghost use Rattle.luks_meta.specs.Requirements.{has_requirements};
+    ghost use Rattle.luks_meta.specs.Sizes.{has_segment_below, IsFirst};
+    ghost use Rattle.serde_json.specs.Read.{read};
+    ghost use Rattle.serde_json.specs.Written.{compact_text};
 
     /// Reads the metadata of a JSON area, which is a listed header size less 4096 bytes long.
     ///
@@ -33,6 +40,7 @@ impl Meta {
     /// fault is the first of the area.
     pub fn read(alloc: Global, area: &[u8]) -> Result<Meta, MetaFault>
         ensures found { IfOk result (λ m. IsMeta area.now (content m)) }
+        ensures length { IfOk result (λ m. area_len m ≡ length area.now) }
         ensures faultless { IfOk result (λ m. (f : MetaFault) → IsMetaFault area.now f → ⊥) }
         ensures fault { IfErr result (λ f. f ≢ MetaFault.Memory → IsLeast meta_key (IsMetaFault area.now) f) }
         ensures only { (j : Data) → IsMeta area.now j → IfErr result (λ f. f ≡ MetaFault.Memory) }
@@ -52,5 +60,36 @@ impl Meta {
             }),
             Err(fault) => Err(fault),
         }
+    }
+
+    /// Whether `config.requirements` is there and is none of `null`, `[]`, `{}` and
+    /// `{"mandatory":[]}`.
+    pub fn has_requirements(&self) -> bool
+        ensures { result ≡ has_requirements (content self.now) }
+    {
+        has_requirements(&self.value)
+    }
+
+    /// The least segment that begins before the end of the region of key areas.
+    pub fn first_segment_below(&self) -> Option<u8>
+        ensures { MatchOption result
+            ((n : ℕ) → n < 32 → has_segment_below (area_len self.now) (content self.now) n ≡ false)
+            (λ n. IsFirst (has_segment_below (area_len self.now) (content self.now)) n) }
+    {
+        match first_segment_below(self.len, &self.value) {
+            Some(number) => Some(number),
+            None => None,
+        }
+    }
+
+    /// The metadata as JSON text with no white space between its parts.
+    ///
+    /// Takes memory for the text.
+    pub fn text(&self, alloc: Global) -> Result<String, AllocError>
+        ensures text { IfOk result (λ s. string_bytes s ≡ compact_text (content self.now)) }
+        ensures no_zero { IfOk result (λ s. All (λ c. c ≢ 0) (string_bytes s)) }
+        ensures back { IfOk result (λ s. read (string_bytes s) ≡ Some (content self.now)) }
+    {
+        compact(alloc, &self.value)
     }
 }
