@@ -29,5 +29,11 @@ mod tokens;
 mod walk;
 mod whole;
 
+pub use configuration::Config;
+pub use digests::Digest;
 pub use fault::MetaFault;
+pub use keyslots::{Argon2, Cost, Derivation, KeyArea, Keyslot, Pbkdf2, Splitter};
+pub use member::Extent;
 pub use meta::Meta;
+pub use segments::{Encryption, Segment, SegmentKind};
+pub use tokens::Token;

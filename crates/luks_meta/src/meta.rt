@@ -1,15 +1,22 @@
 //! The metadata of a LUKS2 header.
 
-ghost use Rattle.std.specs.Prelude.{◌≡◌, ◌≢◌, ◌<◌, ℕ, false, Some, length, All, string_bytes, IfOk, IfErr, MatchOption};
+ghost use Rattle.std.specs.Prelude.{◌≡◌, ◌≢◌, ◌<◌, ℕ, false, Some, length, All, string_bytes, IfOk, IfErr, IfSome, IsNone, MatchOption};
 ghost use Rattle.serde_json.specs.View.{view};
 ghost use Rattle.luks_meta.specs.Held.{IsHeld};
 
 use crate::compact::compact;
+use crate::configuration::Config;
+use crate::digests::Digest;
 use crate::fault::MetaFault;
+use crate::keyslots::Keyslot;
+use crate::objects::{config_in, digest_in, keyslot_in, segment_in, token_in};
 use crate::parsing::read_value;
 use crate::requirements::has_requirements;
 use crate::rows::{Content, judge};
+use crate::segments::Segment;
 use crate::sizes::first_segment_below;
+use crate::table::Section;
+use crate::tokens::Token;
 use serde_json::Value;
 use std::alloc::{AllocError, Global};
 
@@ -29,6 +36,8 @@ impl Meta {
     ghost use Rattle.serde_json.specs.Data.{Data};
     ghost use Rattle.luks_meta.specs.Accepted.{IsMeta};
     ghost use Rattle.luks_meta.specs.Content.{area_len, content};
+    ghost use Rattle.luks_meta.specs.Objects.{IsConfig, IsMissing, IsObject};
+    ghost use Rattle.luks_meta.specs.Says.{SaysDigest, SaysKeyslot, SaysSegment, SaysToken, TellsDigest, TellsKeyslot, TellsSegment, TellsToken};
     ghost use Rattle.luks_meta.specs.Requirements.{has_requirements};
     ghost use Rattle.luks_meta.specs.Sizes.{has_segment_below, IsFirst};
     ghost use Rattle.serde_json.specs.Read.{read};
@@ -91,5 +100,44 @@ impl Meta {
         ensures back { IfOk result (λ s. read (string_bytes s) ≡ Some (content self.now)) }
     {
         compact(alloc, &self.value)
+    }
+
+    /// The members of `config`.
+    pub fn config(&self) -> Config
+        ensures { IsConfig (content self.now) result }
+    {
+        config_in(&self.value)
+    }
+
+    /// The keyslot with the number, if it is there. Its texts borrow from the metadata.
+    pub fn keyslot(&self, number: u8) -> Option<Keyslot<'_>>
+        ensures some { IfSome result (IsObject SaysKeyslot TellsKeyslot (content self.now) Section.Keyslots number) }
+        ensures none { IsNone result → IsMissing (content self.now) Section.Keyslots number }
+    {
+        keyslot_in(&self.value, number)
+    }
+
+    /// The segment with the number, if it is there.
+    pub fn segment(&self, number: u8) -> Option<Segment<'_>>
+        ensures some { IfSome result (IsObject SaysSegment TellsSegment (content self.now) Section.Segments number) }
+        ensures none { IsNone result → IsMissing (content self.now) Section.Segments number }
+    {
+        segment_in(&self.value, number)
+    }
+
+    /// The digest with the number, if it is there.
+    pub fn digest(&self, number: u8) -> Option<Digest<'_>>
+        ensures some { IfSome result (IsObject SaysDigest TellsDigest (content self.now) Section.Digests number) }
+        ensures none { IsNone result → IsMissing (content self.now) Section.Digests number }
+    {
+        digest_in(&self.value, number)
+    }
+
+    /// The token with the number, if it is there.
+    pub fn token(&self, number: u8) -> Option<Token<'_>>
+        ensures some { IfSome result (IsObject SaysToken TellsToken (content self.now) Section.Tokens number) }
+        ensures none { IsNone result → IsMissing (content self.now) Section.Tokens number }
+    {
+        token_in(&self.value, number)
     }
 }
