@@ -16,3 +16,4 @@ pub mod Refusing
 pub mod Listed
 pub mod ObjectsRead
 pub mod Requiring
+pub mod Namings

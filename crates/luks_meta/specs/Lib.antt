@@ -16,3 +16,4 @@ pub mod Names
 pub mod Accepted
 pub mod Objects
 pub mod Requirements
+pub mod Naming

@@ -89,7 +89,7 @@ pub fn has_repeat(items: &[Value]) -> bool
 }
 
 /// The value is an array that has the text.
-fn names(value: Option<&Value>, text: &str) -> bool
+pub fn names(value: Option<&Value>, text: &str) -> bool
     ensures { result ≡ names text.now (option_map (λ v. view v.now) value.entry) }
 {
     match value {

@@ -14,6 +14,7 @@ mod keyslots;
 mod member;
 mod meta;
 mod name_list;
+mod naming;
 mod number;
 mod objects;
 mod parsing;

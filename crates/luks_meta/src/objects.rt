@@ -16,7 +16,7 @@ use crate::tokens::{Token, read_token};
 use crate::walk::object_at;
 use serde_json::Value;
 
-fn numbered(value: &Value, section: Section, number: u8) -> Option<&Value>
+pub fn numbered(value: &Value, section: Section, number: u8) -> Option<&Value>
     ensures some { IfSome result (λ d. (number < 32) × (object_at (view value.now) section number ≡ Some (view d.now))) }
     ensures none { IsNone result → IsMissing (view value.now) section number }
 {
