@@ -1,5 +1,5 @@
 -- The digest that names a keyslot.
-use Rattle.std.specs.Prelude.{◌≡◌, ℕ, ◌<◌, List, codes, true, Option, Some, None, option_and_then, is_some, if◌then◌else◌}
+use Rattle.std.specs.Prelude.{◌≡◌, ℕ, ◌<◌, List, codes, true, Option, Some, None, is_some, if◌then◌else◌}
 use Rattle.serde_json.specs.Data.{Data, Members, no_members, member}
 use Rattle.serde_json.specs.Find.{get, get_member}
 use Rattle.luks_meta.specs.declared.table.Section.TheVariants.{Digests, Keyslots}

@@ -1,8 +1,8 @@
 -- Requirements of the metadata (LUKS2 On-Disk Format 1.1, 3.6): features that a tool must know
 -- before it changes the volume.
-use Rattle.std.specs.Prelude.{List, ℕ, codes, Bool, true, false, not, Option, Some, None, option_and_then}
+use Rattle.std.specs.Prelude.{codes, Bool, true, false, not, option_and_then}
 use Rattle.std.specs.Option.{option_map_or}
-use Rattle.serde_json.specs.Data.{Data, null, boolean, number, string, array, object, Items, no_items, item, Members, no_members, member}
+use Rattle.serde_json.specs.Data.{Data, null, boolean, number, string, array, object, no_items, item, no_members, member}
 use Rattle.serde_json.specs.Find.{get, get_member}
 use Rattle.luks_meta.specs.declared.table.Section.TheVariants.{Config}
 use Rattle.luks_meta.specs.Faults.{section_at}

@@ -1,6 +1,6 @@
 //! The metadata of a LUKS2 header.
 
-ghost use Rattle.std.specs.Prelude.{◌≡◌, ◌≢◌, ◌<◌, ℕ, false, Some, length, All, string_bytes, IfOk, IfErr, IfSome, IsNone, MatchOption};
+ghost use Rattle.std.specs.Prelude.{◌≡◌, ◌≢◌, ◌<◌, ℕ, false, Some, length, All, string_bytes, IfOk, IfErr, IfSome, IsNone, IsSome, MatchOption, is_some, true};
 ghost use Rattle.serde_json.specs.View.{view};
 ghost use Rattle.luks_meta.specs.Held.{IsHeld};
 
@@ -9,6 +9,7 @@ use crate::configuration::Config;
 use crate::digests::Digest;
 use crate::fault::MetaFault;
 use crate::keyslots::Keyslot;
+use crate::naming::digest_of_keyslot;
 use crate::objects::{config_in, digest_in, keyslot_in, segment_in, token_in};
 use crate::parsing::read_value;
 use crate::requirements::has_requirements;
@@ -36,6 +37,8 @@ impl Meta {
     ghost use Rattle.serde_json.specs.Data.{Data};
     ghost use Rattle.luks_meta.specs.Accepted.{IsMeta};
     ghost use Rattle.luks_meta.specs.Content.{area_len, content};
+    ghost use Rattle.luks_meta.specs.Faults.{object_at};
+    ghost use Rattle.luks_meta.specs.Naming.{IsDigestOf};
     ghost use Rattle.luks_meta.specs.Objects.{IsConfig, IsMissing, IsObject};
     ghost use Rattle.luks_meta.specs.Says.{SaysDigest, SaysKeyslot, SaysSegment, SaysToken, TellsDigest, TellsKeyslot, TellsSegment, TellsToken};
     ghost use Rattle.luks_meta.specs.Requirements.{has_requirements};
@@ -131,6 +134,15 @@ impl Meta {
         ensures none { IsNone result → IsMissing (content self.now) Section.Digests number }
     {
         digest_in(&self.value, number)
+    }
+
+    /// The number of the one digest that names the keyslot, if there is such a keyslot.
+    pub fn digest_of_keyslot(&self, number: u8) -> Option<u8>
+        ensures some { IfSome result (IsDigestOf (content self.now) number) }
+        ensures only { (m : ℕ) → IsDigestOf (content self.now) number m → result ≡ Some m }
+        ensures there { number < 32 → is_some (object_at (content self.now) Section.Keyslots number) ≡ true → IsSome result }
+    {
+        digest_of_keyslot(&self.value, number)
     }
 
     /// The token with the number, if it is there.

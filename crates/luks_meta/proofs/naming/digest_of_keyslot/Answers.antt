@@ -1,4 +1,4 @@
-use Rattle.std.proofs.Common.{Some, refl}
+use Rattle.std.proofs.Common.{refl}
 use Rattle.serde_json.specs.View.{view, members_view}
 use Rattle.luks_meta.proofs.Namings.{named_by, digest_some, digest_only, digest_there, no_digest}
 use Rattle.luks_meta.proofs.naming.digest_of_keyslot.Goals as goal

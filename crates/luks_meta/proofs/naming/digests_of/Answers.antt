@@ -1,5 +1,3 @@
-use Rattle.std.proofs.Common.{Bor}
-use Rattle.serde_json.specs.View.{view}
 use Rattle.luks_meta.specs.declared.table.Section.TheVariants.{Digests}
 use Rattle.luks_meta.proofs.Namings.{section_there, section_is, object_there}
 use Rattle.luks_meta.proofs.naming.digests_of.Goals as goal

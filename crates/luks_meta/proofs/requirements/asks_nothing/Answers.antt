@@ -1,4 +1,4 @@
-use Rattle.std.proofs.Common.{◌≤◌, length, sym, arith}
+use Rattle.std.proofs.Common.{◌≤◌, length, sym}
 use Rattle.serde_json.proofs.Views.{view-Array}
 use Rattle.luks_meta.proofs.Requiring.{some_asks}
 use Rattle.luks_meta.proofs.requirements.asks_nothing.Goals as goal
