@@ -1,6 +1,9 @@
+pub mod Checks
+pub mod Counted
 pub mod Faultless
 pub mod Grown
 pub mod Judged
+pub mod Judged2
 pub mod Moved
 pub mod Slots1
 pub mod Slots2

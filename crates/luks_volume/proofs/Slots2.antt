@@ -1,5 +1,5 @@
 -- The areas of a LUKS2 volume, added name by name.
-use Rattle.std.proofs.Common.{◌≡◌, ℕ, ◌+◌, ◌-◌, ◌<◌, ◌≤◌, List, [], ◌∷◌, ◌++◌, length, codes, Option, Some, None, unwrap_or, option_and_then, ◌⊎◌, inl, inr, refl, subst, sym, ap, ◌∙◌, arith}
+use Rattle.std.proofs.Common.{◌≡◌, ℕ, ◌+◌, ◌-◌, ◌<◌, ◌≤◌, List, [], ◌∷◌, ◌++◌, length, codes, Option, Some, None, unwrap_or, option_and_then, ◌⊎◌, inl, inr, refl, subst, sym, ap, ◌∙◌, arith, length-append}
 use Rattle.std.proofs.lemmas.Bool.{cases_lt}
 use Rattle.serde_json.specs.Data.{Data as Json}
 use Rattle.serde_json.specs.Find.{get}
@@ -11,12 +11,12 @@ use Rattle.luks_area.specs.Area.{IsBefore}
 use Rattle.luks_area.specs.Names.{HasArea}
 use Rattle.luks_meta.specs.declared.table.Section.TheVariants.{Keyslots, Segments}
 use Rattle.luks_meta.specs.Faults.{object_at}
-use Rattle.luks_meta.specs.Reading.{Field, object, text, whole, absent, dynamic, bytes, names, decimal_in, text_of}
+use Rattle.luks_meta.specs.Reading.{Field, object, text, whole, absent, dynamic, bytes, names, decimal_in, extent_of, text_of}
 use Rattle.luks_volume.specs.declared.report.Data.{Data}
 use Rattle.luks_volume.specs.declared.report.Data.TheVariants.{Here, Elsewhere}
 use Rattle.luks_volume.specs.Layout2.{slot_number, segment_offset, segment_extent, HasExtent, Luks2Area}
-use Rattle.luks_volume.specs.Listing.{Lists, ListsBelow}
-use Rattle.luks_volume.proofs.Grown.{same_area, lists-push, lists-skip, lists-empty, lists-all}
+use Rattle.luks_volume.specs.Listing.{AddsLuks2Slots, AddsSegments, Lists, ListsBelow}
+use Rattle.luks_volume.proofs.Grown.{has-cases, same_area, lists-push, lists-skip, lists-empty, lists-all}
 
 same_value : (o : Option ℕ) (m n : ℕ) → o ≡ Some m → o ≡ Some n → m ≡ n
 same_value o m n p q = ap (λ v. unwrap_or v m) (sym p ∙ q)
@@ -186,3 +186,84 @@ heads-listed j h payload total first second start1 len1 start2 len2 =
     two Head2 a g before = inr (refl, same_area second a (start2 ∙ sym g.0) (len2 ∙ sym g.1))
     two (Slot k) a g before = let lt : k < 0 = before.1 refl in absurd (omega (arith, lt))
     two (Segment k) a g before = let low = before.0 in absurd (omega (arith, low))
+
+-- ---- the loops over keyslots and segments
+
+pub no_slots : (es : List Entry) (j : Json) → length es ≤ 2 → ((m : AreaName) (a : Area) → HasArea es m a → IsBefore m (Slot 0)) → AddsLuks2Slots es es j 0
+no_slots es j count last = record { count = omega (arith, count); last = last; listed = λ h payload total from. from }
+
+pub adds-slot : (before now : List Entry) (j : Json) (n : ℕ) (a : Area) → n < 32
+    → slot_number j n (codes "offset") ≡ Some a.start → slot_number j n (codes "size") ≡ Some a.len
+    → AddsLuks2Slots before now j n → AddsLuks2Slots before (now ++ record { name = Slot n; area = a } ∷ []) j (n + 1)
+adds-slot before now j n a lt start len adds =
+    let e : Entry = record { name = Slot n; area = a } in
+    let longer : length (now ++ e ∷ []) ≡ length now + 1 = length-append now (e ∷ []) in
+    let count = adds.count in
+    record {
+      count = omega (arith, longer, count);
+      last = λ m b g. elim (has-cases now e m b g) [
+        | inl old ↦ slot_wider n m (adds.last m b old)
+        | inr new ↦ subst (λ k. IsBefore k (Slot (n + 1))) new.0 (omega arith, λ _. omega arith)
+      ];
+      listed = λ h payload total from. slot-listed j h payload total n now a lt start len (adds.listed h payload total from);
+    }
+
+pub adds-no_slot : (before now : List Entry) (j : Json) (n : ℕ) → object_at j Keyslots n ≡ None
+    → AddsLuks2Slots before now j n → AddsLuks2Slots before now j (n + 1)
+adds-no_slot before now j n gone adds = let count = adds.count in record {
+  count = omega (arith, count);
+  last = λ m b g. slot_wider n m (adds.last m b g);
+  listed = λ h payload total from. slot-passed j h payload total n now gone (adds.listed h payload total from);
+}
+
+pub all_slots : (before now : List Entry) (j : Json) (n : ℕ) → n ≡ 32 → AddsLuks2Slots before now j n → AddsLuks2Slots before now j 32
+all_slots before now j n e adds = subst (AddsLuks2Slots before now j) e adds
+
+pub no_segments : (es : List Entry) (j : Json) (total : ℕ) → length es ≤ 34 → ((m : AreaName) (a : Area) → HasArea es m a → IsBefore m (Segment 0)) → AddsSegments es es j total 0
+no_segments es j total count last = record { count = omega (arith, count); last = last; listed = λ h payload here from. from }
+
+pub adds-segment : (before now : List Entry) (j : Json) (total n : ℕ) (a : Area) → n < 32
+    → segment_offset j n ≡ Some a.start → HasExtent total a.start a.len (segment_extent j n)
+    → AddsSegments before now j total n → AddsSegments before (now ++ record { name = Segment n; area = a } ∷ []) j total (n + 1)
+adds-segment before now j total n a lt start len adds =
+    let e : Entry = record { name = Segment n; area = a } in
+    let longer : length (now ++ e ∷ []) ≡ length now + 1 = length-append now (e ∷ []) in
+    let count = adds.count in
+    record {
+      count = omega (arith, longer, count);
+      last = λ m b g. elim (has-cases now e m b g) [
+        | inl old ↦ segment_wider n m (adds.last m b old)
+        | inr new ↦ subst (λ k. IsBefore k (Segment (n + 1))) new.0 (omega arith, λ _. omega arith)
+      ];
+      listed = λ h payload here from. segment-listed j h payload total n now a lt here start len (adds.listed h payload here from);
+    }
+
+pub adds-no_segment : (before now : List Entry) (j : Json) (total n : ℕ) → object_at j Segments n ≡ None
+    → AddsSegments before now j total n → AddsSegments before now j total (n + 1)
+adds-no_segment before now j total n gone adds = let count = adds.count in record {
+  count = omega (arith, count);
+  last = λ m b g. segment_wider n m (adds.last m b g);
+  listed = λ h payload here from. segment-passed j h payload total n now gone (adds.listed h payload here from);
+}
+
+pub all_segments : (before now : List Entry) (j : Json) (total n : ℕ) → n ≡ 32 → AddsSegments before now j total n → AddsSegments before now j total 32
+all_segments before now j total n e adds = subst (AddsSegments before now j total) e adds
+
+-- what the members of a keyslot's object say of its area
+pub slot_start : (j d : Json) (n start : ℕ) → object_at j Keyslots n ≡ Some d
+    → decimal_in (option_and_then (get (codes "offset")) (get (codes "area") d)) ≡ Some start → slot_number j n (codes "offset") ≡ Some start
+slot_start j d n start is says =
+    ap (λ o. decimal_in (option_and_then (get (codes "offset")) (option_and_then (get (codes "area")) o))) is ∙ says
+
+pub slot_size : (j d : Json) (n size : ℕ) → object_at j Keyslots n ≡ Some d
+    → decimal_in (option_and_then (get (codes "size")) (get (codes "area") d)) ≡ Some size → slot_number j n (codes "size") ≡ Some size
+slot_size j d n size is says =
+    ap (λ o. decimal_in (option_and_then (get (codes "size")) (option_and_then (get (codes "area")) o))) is ∙ says
+
+pub segment_start : (j d : Json) (n start : ℕ) → object_at j Segments n ≡ Some d
+    → decimal_in (get (codes "offset") d) ≡ Some start → segment_offset j n ≡ Some start
+segment_start j d n start is says = ap (λ o. decimal_in (option_and_then (get (codes "offset")) o)) is ∙ says
+
+pub segment_size : (j d : Json) (n : ℕ) (f : Field) → object_at j Segments n ≡ Some d
+    → option_and_then extent_of (text_of (get (codes "size") d)) ≡ Some f → segment_extent j n ≡ Some f
+segment_size j d n f is says = ap (λ o. option_and_then extent_of (text_of (option_and_then (get (codes "size")) o))) is ∙ says

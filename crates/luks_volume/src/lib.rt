@@ -1,10 +1,19 @@
 //! Checking a LUKS volume, of either version, against its format and its layout.
 #![tactic(auto)]
 
+mod checking;
 mod fault;
 mod judging;
 mod layout;
 mod report;
 
+pub use checking::check;
 pub use fault::CheckFault;
-pub use report::{Data, Version};
+pub use luks_area::{
+    Area, AreaFault, AreaName, Areas, Device, DeviceFault, Entry, MemDevice, text_field,
+};
+pub use luks_head::{Bin2, Copies, HeadFault, Luks1, Luks1Slot, Selected, SlotState, select};
+pub use luks_meta::{
+    Config, Cost, Digest, Extent, Keyslot, Meta, MetaFault, Segment, SegmentKind, Token,
+};
+pub use report::{Data, Report, Version};

@@ -1,3 +1,6 @@
+use luks_area::Areas;
+use luks_head::Copies;
+
 /// Where the payload lies.
 #[derive(Debug, Clone, Copy, PartialEq, Eq)]
 pub enum Data {
@@ -12,4 +15,20 @@ pub enum Data {
 pub enum Version {
     /// LUKS1 On-Disk Format.
     Luks1,
+    /// LUKS2 On-Disk Format.
+    Luks2 {
+        /// How the two copies of the header stand to each other.
+        copies: Copies,
+        /// The sequence number of the copy that counts.
+        seqid: u64,
+    },
+}
+
+/// What `check` says of a volume that it accepts.
+#[derive(Debug, Drop)]
+pub struct Report {
+    /// The volume's format.
+    pub version: Version,
+    /// The volume's areas.
+    pub areas: Areas,
 }

@@ -1,0 +1,10 @@
+//! Laws on the definitions of this crate. Each function does nothing; its contract is the law.
+
+ghost use Rattle.std.specs.Prelude.{◌≡◌, ℕ, List};
+ghost use Rattle.serde_json.specs.Data.{Data};
+ghost use Rattle.luks_meta.specs.MetaFault.{Json};
+
+/// A JSON area holds one value at most.
+pub fn one_value()
+    ensures { (area : List ℕ) (i j : Data) → Json area i → Json area j → i ≡ j }
+{}

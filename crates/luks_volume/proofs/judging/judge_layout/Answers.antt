@@ -1,0 +1,45 @@
+use Rattle.std.proofs.Common.{sym, subst, refl, length}
+use Rattle.luks_area.specs.Area.{Fit}
+use Rattle.luks_head.specs.Header2.{hdr_size}
+use Rattle.luks_meta.specs.Content.{content}
+use Rattle.luks_volume.specs.Checked.{HasLuks2Area, IsLuks2Layout}
+use Rattle.luks_volume.specs.Layout2.{Luks2Area}
+use Rattle.luks_volume.specs.Listing.{Lists}
+use Rattle.luks_volume.proofs.Judged2.{least_area2, least_segment, lists_value, segment_breaks}
+use Rattle.luks_volume.proofs.Moved.{fit_of, least_of, no_area_fault}
+use Rattle.luks_volume.proofs.judging.judge_layout.Goals as goal
+
+pub returns-in-Some-clause-refused : goal.returns-in-Some-clause-refused
+returns-in-Some-clause-refused c = λ b json bin holds faultless.
+    least_segment b json c.args.data_ c.args.total (content c.args.meta.now) c.in-Some.n faultless holds.accepted.json (c.one_value.ensures json)
+    (c.in-Some.ensures.some json holds)
+
+pub returns-in-Some-clause-only : goal.returns-in-Some-clause-only
+returns-in-Some-clause-only c = λ b json j bin holds layout.
+    let first = c.in-Some.ensures.some json holds in
+    let own = subst (IsLuks2Layout b json c.args.data_ c.args.total) (c.one_value.ensures json j _ layout.metadata.json holds.accepted.json) layout in
+    absurd (segment_breaks _ _ c.in-Some.n first.numbered first.below (own.segments first.here))
+
+pub returns-in-Ok-clause-accepted : goal.returns-in-Ok-clause-accepted
+returns-in-Ok-clause-accepted c = λ b json bin holds. record {
+  metadata = holds.accepted;
+  segments = λ here. c.in-None.ensures.none json holds refl here;
+  fit = subst (λ h. Fit (Luks2Area (content c.args.meta.now) h c.args.data_ c.args.total) c.args.total) (sym bin.hdr_size)
+      (fit_of _ _ _ c.luks2_areas-areas.ensures c.in-Ok.ensures.fits);
+}
+
+pub returns-in-Ok-clause-areas : goal.returns-in-Ok-clause-areas
+returns-in-Ok-clause-areas c = λ b json bin holds.
+    lists_value b json _ _ _ _ _ bin.hdr_size holds.accepted.json (c.one_value.ensures json) c.luks2_areas-areas.ensures
+
+pub returns-in-Err-clause-refused : goal.returns-in-Err-clause-refused
+returns-in-Err-clause-refused c = λ b json bin holds faultless.
+    least_area2 b json c.args.data_ c.args.total (content c.args.meta.now) c.in-Err.fault faultless holds.accepted.json (c.one_value.ensures json)
+    (λ here. c.in-None.ensures.none json holds refl here)
+    (least_of _ _ _ _ (lists_value b json _ _ _ _ _ bin.hdr_size holds.accepted.json (c.one_value.ensures json) c.luks2_areas-areas.ensures) c.in-Err.ensures.fault)
+
+pub returns-in-Err-clause-only : goal.returns-in-Err-clause-only
+returns-in-Err-clause-only c = λ b json j bin holds layout.
+    let own = subst (IsLuks2Layout b json c.args.data_ c.args.total) (c.one_value.ensures json j _ layout.metadata.json holds.accepted.json) layout in
+    let fit = subst (λ h. Fit (Luks2Area (content c.args.meta.now) h c.args.data_ c.args.total) c.args.total) bin.hdr_size own.fit in
+    absurd (no_area_fault _ _ c.in-Err.fault fit (least_of _ _ _ _ c.luks2_areas-areas.ensures c.in-Err.ensures.fault).0)
