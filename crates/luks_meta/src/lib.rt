@@ -40,3 +40,6 @@ pub use member::Extent;
 pub use meta::Meta;
 pub use segments::{Encryption, Segment, SegmentKind};
 pub use tokens::Token;
+
+#[cfg(test)]
+mod tests;
