@@ -17,7 +17,7 @@ use luks_meta::{Meta, MetaFault, one_value};
 use std::alloc::Global;
 
 /// The areas of a volume of `total` bytes whose first 592 bytes are `header`, or its first fault.
-pub fn judge_luks1(header: &[u8], data_: Data, total: u64) -> Result<Areas, CheckFault>
+pub(crate) fn judge_luks1(header: &[u8], data_: Data, total: u64) -> Result<Areas, CheckFault>
     requires { length header.now ≡ 592 }
     ensures accepted { OnOk result (IsLuks1Volume header.now data_ total) }
     ensures areas { IfOk result (λ areas. Lists areas (Luks1Area header.now data_ total)) }
@@ -48,7 +48,7 @@ fn outer_meta_fault(fault: MetaFault) -> CheckFault
 
 /// The areas of a volume of `total` bytes whose LUKS2 copy that counts has this binary header and
 /// this JSON area, or its first fault.
-pub fn judge_luks2(
+pub(crate) fn judge_luks2(
     alloc: Global,
     header: &Bin2,
     json: &[u8],

@@ -18,14 +18,14 @@ use luks_head::{Luks1, Luks1Slot};
 use luks_meta::{Extent, Meta, Segment};
 
 /// The bytes of a sector.
-pub const SECTOR: u64 = 512;
+pub(crate) const SECTOR: u64 = 512;
 
 /// The bytes of a LUKS1 header.
-pub const LUKS1_HEADER: u64 = 592;
+pub(crate) const LUKS1_HEADER: u64 = 592;
 
 /// The areas of a volume of `total` bytes with this LUKS1 header: the header itself, all eight key
 /// slots, enabled or not, and with the payload here the segment that runs to the volume's end.
-pub fn luks1_areas(header: &Luks1, data_: Data, total: u64) -> Areas
+pub(crate) fn luks1_areas(header: &Luks1, data_: Data, total: u64) -> Areas
     ensures { (h : List ℕ) → IsLuks1 h header.now → Lists result (Luks1Area h data_ total) }
 {
     let mut areas = Areas::new();
@@ -62,7 +62,7 @@ fn add_luks1_slots(areas: &mut Areas, header: &Luks1)
 
 /// The areas of a volume of `total` bytes whose LUKS2 header has `size` bytes and this metadata:
 /// both copies of the header, the keyslots, and with the payload here the segments.
-pub fn luks2_areas(meta: &Meta, size: u64, data_: Data, total: u64) -> Areas
+pub(crate) fn luks2_areas(meta: &Meta, size: u64, data_: Data, total: u64) -> Areas
     ensures { Lists result (Luks2Area (content meta.now) size data_ total) }
 {
     let mut areas = Areas::new();
