@@ -7,3 +7,7 @@ pub mod Judged2
 pub mod Moved
 pub mod Slots1
 pub mod Slots2
+pub mod Alike
+pub mod PlanFields1
+pub mod Refusals1
+pub mod Answered

@@ -3,3 +3,8 @@ pub mod Layout1
 pub mod Layout2
 pub mod Listing
 pub mod Reported
+pub mod Answer
+pub mod Entered
+pub mod JsonArea
+pub mod Planned
+pub mod Plans

@@ -5,6 +5,10 @@ mod checking;
 mod fault;
 mod judging;
 mod layout;
+mod luks1_entry;
+mod open_fault;
+mod opening;
+mod plan;
 mod report;
 
 pub use checking::check;
@@ -16,4 +20,7 @@ pub use luks_head::{Bin2, Copies, HeadFault, Luks1, Luks1Slot, Selected, SlotSta
 pub use luks_meta::{
     Config, Cost, Digest, Extent, Keyslot, Meta, MetaFault, Segment, SegmentKind, Token,
 };
+pub use luks_slot::Key;
+pub use open_fault::OpenFault;
+pub use opening::open_slot;
 pub use report::{Data, Report, Version};

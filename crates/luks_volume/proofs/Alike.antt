@@ -1,0 +1,52 @@
+-- Two plans that say the same are refused alike and open alike.
+use Rattle.std.proofs.Common.{◌≡◌, ℕ, List, ap, ◌∙◌}
+use Rattle.luks_slot.specs.declared.plan.SlotPlan.{SlotPlan}
+use Rattle.luks_slot.specs.Opening.{slot_key, candidate, stripes_in, area_key, area_key_by, meets_digest}
+use Rattle.luks_slot.specs.Refusal.{slot_refusal, is_argon2, is_known_derivation, is_open_cipher}
+
+-- the two plans say the same of what decides
+pub record SameFields (a b : SlotPlan) : Type 0 where
+  pub argon2 : is_argon2 a.derivation ≡ is_argon2 b.derivation
+  pub known : is_known_derivation a.derivation ≡ is_known_derivation b.derivation
+  pub key : (n : ℕ) (p : List ℕ) → area_key_by a.derivation n p ≡ area_key_by b.derivation n p
+  pub cipher : is_open_cipher a.cipher ≡ is_open_cipher b.cipher
+  pub start : a.area.start ≡ b.area.start
+  pub len : a.area.len ≡ b.area.len
+  pub area_key_bytes : a.area_key_bytes ≡ b.area_key_bytes
+  pub key_bytes : a.key_bytes ≡ b.key_bytes
+  pub stripes : a.stripes ≡ b.stripes
+  pub splitter_hash : a.splitter_hash.now ≡ b.splitter_hash.now
+  pub digest_hash : a.digest.hash.now ≡ b.digest.hash.now
+  pub digest_iterations : a.digest.iterations ≡ b.digest.iterations
+  pub digest_salt : a.digest.salt.now ≡ b.digest.salt.now
+  pub digest_stored : a.digest.stored.now ≡ b.digest.stored.now
+
+pub same_refusal : (a b : SlotPlan) → SameFields a b → slot_refusal a ≡ slot_refusal b
+same_refusal a b s =
+    simp (s.argon2, s.known, s.cipher, s.area_key_bytes, s.splitter_hash, s.digest_hash)
+
+same_area_key : (a b : SlotPlan) (p : List ℕ) → SameFields a b → area_key a p ≡ area_key b p
+unfolding area_key
+same_area_key a b p s = ap (λ n. area_key_by a.derivation n p) s.area_key_bytes ∙ s.key b.area_key_bytes p
+
+same_stripes : (a b : SlotPlan) (key area : List ℕ) → SameFields a b → stripes_in a key area ≡ stripes_in b key area
+unfolding stripes_in
+same_stripes a b key area s = simp (s.key_bytes, s.stripes)
+
+same_candidate : (a b : SlotPlan) (area p : List ℕ) → SameFields a b → candidate a area p ≡ candidate b area p
+unfolding candidate
+same_candidate a b area p s =
+    let keys = same_area_key a b p s in
+    let stripes = same_stripes a b (area_key b p) area s in
+    simp (keys, stripes, s.splitter_hash, s.key_bytes, s.stripes)
+
+same_digest : (a b : SlotPlan) (key : List ℕ) → SameFields a b → meets_digest a.digest key ≡ meets_digest b.digest key
+unfolding meets_digest
+same_digest a b key s = simp (s.digest_hash, s.digest_iterations, s.digest_salt, s.digest_stored)
+
+pub same_key : (a b : SlotPlan) (area p : List ℕ) → SameFields a b → slot_key a area p ≡ slot_key b area p
+unfolding slot_key
+same_key a b area p s =
+    let candidates = same_candidate a b area p s in
+    let digests = same_digest a b (candidate b area p) s in
+    simp (candidates, digests)

@@ -1,0 +1,32 @@
+-- What the header that counts gives is what the volume gives.
+use Rattle.std.proofs.Common.{◌≡◌, ℕ, List, length, subst, sym, ◌∙◌}
+use Rattle.luks_volume.specs.Entered.{Luks1Refused}
+use Rattle.luks_head.specs.Selection.{luks1}
+use Rattle.luks_volume.proofs.Answered.{luks1_opens, luks1_refused, outer_refused}
+use Rattle.luks_volume.proofs.opening.open_slot.Goals as goal
+
+pub returns-in-Ok-clause-opens : goal.returns-in-Ok-clause-opens
+returns-in-Ok-clause-opens g c = λ tells.
+    let v = g.D.Device.bytes c.args.device.now in
+    let selected = rw c.in-Ok-V1.field-0-is at (c.in-Ok-V1.ensures.found tells) in
+    let same = c.select.ensures.same tells in
+    let opens = rw same at (c.in-Ok.ensures.opens tells) in
+    let whole = rw selected.1 at opens in
+    luks1_opens v c.args.n c.args.passphrase.now c.in-Ok.found selected.0 whole
+
+pub returns-in-Err-open_luks1-clause-refused : goal.returns-in-Err-open_luks1-clause-refused
+returns-in-Err-open_luks1-clause-refused g c = λ tells.
+    let v = g.D.Device.bytes c.args.device.now in
+    let selected = rw c.in-Ok-V1.field-0-is at (c.in-Ok-V1.ensures.found tells) in
+    let size = c.select.ensures.size in
+    let long : g.D.Device.size c.select.new.device ≡ length v = size ∙ sym (g.met.D.Device.sized c.args.device.now tells) in
+    let refused = subst (λ (n : ℕ). Luks1Refused c.in-Ok-V1.header n c.args.n c.in-Err-open_luks1.fault) long c.in-Err-open_luks1.ensures.refused in
+    let whole = subst (λ (h : List ℕ). Luks1Refused h (length v) c.args.n c.in-Err-open_luks1.fault) selected.1 refused in
+    luks1_refused v c.args.n c.args.passphrase.now c.in-Err-open_luks1.fault selected.0
+    (λ d. c.one_choice.ensures.only v luks1 d selected.0) whole
+
+pub returns-in-Err-clause-refused : goal.returns-in-Err-clause-refused
+returns-in-Err-clause-refused g c = λ tells.
+    let v = g.D.Device.bytes c.args.device.now in
+    rw c.outer_fault.ensures
+    (outer_refused v c.args.n c.args.passphrase.now c.in-Err.fault (c.one_choice.ensures.only v) c.in-Err.ensures.kinds (c.in-Err.ensures.refused tells))
