@@ -5,5 +5,5 @@ use Rattle.luks_meta.proofs.laws.one_value.Goals as goal
 
 pub returns : goal.returns
 returns c = λ area i j p q.
-  let same = one_text area p.text q.text p.placed q.placed in
-  ap (λ o. unwrap_or o i) (sym p.reads ∙ ap read same ∙ q.reads)
+    let same = one_text area p.text q.text p.placed q.placed in
+    ap (λ o. unwrap_or o i) (sym p.reads ∙ ap read same ∙ q.reads)
