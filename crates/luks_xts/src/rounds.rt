@@ -9,7 +9,7 @@ use crate::words::{mixed_column, unmixed_column};
 
 // The sum of two blocks.
 #[inline(always)]
-pub fn add_round_key(s: [u8; 16], key: &[u8]) -> [u8; 16]
+pub(crate) fn add_round_key(s: [u8; 16], key: &[u8]) -> [u8; 16]
     requires { length key.now ≡ 16 }
     ensures { result ≡ aes.add_round_key s key.now }
 {
@@ -161,7 +161,7 @@ fn unsubstituted(s: [u32; 4]) -> [u32; 4]
 }
 
 // The cipher over a key schedule, of `rounds` whole rounds and the last one.
-pub fn cipher(words: &[u8], rounds: usize, block: [u8; 16]) -> [u8; 16]
+pub(crate) fn cipher(words: &[u8], rounds: usize, block: [u8; 16]) -> [u8; 16]
     requires { 16 * rounds + 32 ≤ length words.now }
     ensures { result ≡ aes.cipher words.now rounds block }
 {
@@ -175,7 +175,7 @@ pub fn cipher(words: &[u8], rounds: usize, block: [u8; 16]) -> [u8; 16]
 }
 
 // The inverse cipher over a key schedule.
-pub fn inverse_cipher(words: &[u8], rounds: usize, block: [u8; 16]) -> [u8; 16]
+pub(crate) fn inverse_cipher(words: &[u8], rounds: usize, block: [u8; 16]) -> [u8; 16]
     requires { 16 * rounds + 32 ≤ length words.now }
     ensures { result ≡ aes.inverse_cipher words.now rounds block }
 {

@@ -44,7 +44,7 @@ fn next_word(words: &[u8], count: usize, i: usize) -> [u8; 4]
 }
 
 // Writes the words after the key's own.
-pub fn expand(words: &mut [u8], count: usize)
+pub(crate) fn expand(words: &mut [u8], count: usize)
     requires count { (count ≡ 4) ⊎ (count ≡ 8) }
     requires room { length words.old ≡ 240 }
     ensures { take (16 * count + 112) words.new
@@ -57,7 +57,7 @@ pub fn expand(words: &mut [u8], count: usize)
 }
 
 // Writes the key and the words after it.
-pub fn load(words: &mut [u8], key: &[u8])
+pub(crate) fn load(words: &mut [u8], key: &[u8])
     requires key { (length key.now ≡ 16) ⊎ (length key.now ≡ 32) }
     requires room { length words.old ≡ 240 }
     ensures expanded { IsExpanded (length key.now / 4) words.new }

@@ -49,7 +49,7 @@ static POWERS_OF_2: [u8; 10] = [0x01, 0x02, 0x04, 0x08, 0x10, 0x20, 0x40, 0x80, 
 
 // The S-box at x.
 #[inline(always)]
-pub fn sbox(x: u8) -> u8
+pub(crate) fn sbox(x: u8) -> u8
     ensures { result ≡ field.sbox x }
 {
     SBOX[x as usize]
@@ -57,14 +57,14 @@ pub fn sbox(x: u8) -> u8
 
 // The inverse of the S-box at x.
 #[inline(always)]
-pub fn inverse_sbox(x: u8) -> u8
+pub(crate) fn inverse_sbox(x: u8) -> u8
     ensures { result ≡ field.inverse_sbox x }
 {
     INVERSE_SBOX[x as usize]
 }
 
 // 02 to the power n.
-pub fn power_of_2(n: usize) -> u8
+pub(crate) fn power_of_2(n: usize) -> u8
     requires { n < 10 }
     ensures { result ≡ field.gpower n }
 {

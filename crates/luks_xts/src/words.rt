@@ -353,7 +353,7 @@ fn unmix_3(x: u8) -> u32
 
 // A column through the S-box and then times the matrix of MixColumns.
 #[inline(always)]
-pub fn mixed_column(a: u8, b: u8, c: u8, d: u8) -> u32
+pub(crate) fn mixed_column(a: u8, b: u8, c: u8, d: u8) -> u32
     ensures { to_be_bytes w32 result ≡ column_of mix_matrix (sbox a) (sbox b) (sbox c) (sbox d) }
 {
     (mix_0(a) ^ mix_1(b)) ^ (mix_2(c) ^ mix_3(d))
@@ -361,7 +361,7 @@ pub fn mixed_column(a: u8, b: u8, c: u8, d: u8) -> u32
 
 // A column times the inverse matrix.
 #[inline(always)]
-pub fn unmixed_column(a: u8, b: u8, c: u8, d: u8) -> u32
+pub(crate) fn unmixed_column(a: u8, b: u8, c: u8, d: u8) -> u32
     ensures { to_be_bytes w32 result ≡ column_of unmix_matrix a b c d }
 {
     (unmix_0(a) ^ unmix_1(b)) ^ (unmix_2(c) ^ unmix_3(d))
