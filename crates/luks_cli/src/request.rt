@@ -1,0 +1,34 @@
+use luks_volume::Data;
+
+/// What a command line asks for. Its files are named as the command line names them.
+#[derive(Debug, Clone, Copy, PartialEq, Eq)]
+pub enum Line<'a> {
+    /// Check the header of a volume.
+    Check {
+        /// The file of the volume, or of its detached header.
+        volume: &'a str,
+        /// Where the payload lies.
+        data_: Data,
+    },
+    /// List what the header of a volume says.
+    Show {
+        /// The file of the volume, or of its detached header.
+        volume: &'a str,
+    },
+}
+
+impl<'a> Line<'a> {
+    /// The file of the volume.
+    pub fn volume(&self) -> &'a str {
+        match self {
+            Line::Check { volume, .. } | Line::Show { volume } => *volume,
+        }
+    }
+
+    /// The file of the passphrase, where the command needs one.
+    pub fn passphrase(&self) -> Option<&'a str> {
+        match self {
+            Line::Check { .. } | Line::Show { .. } => None,
+        }
+    }
+}

@@ -1,0 +1,6 @@
+mod broken;
+mod checks;
+mod checks2;
+mod images;
+mod lines;
+mod shows;

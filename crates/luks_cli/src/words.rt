@@ -1,0 +1,77 @@
+use crate::helps;
+use crate::request::Line;
+use clap::error::ErrorKind;
+use clap::{Arg, ArgAction, ArgMatches, Command, Error};
+use luks_volume::Data;
+use std::alloc::{AllocError, Global};
+
+/// Reads a command line, of which the first word is the program's name.
+///
+/// The fault is that of `clap`: a mistake in the words, a request for help, or memory that was
+/// refused.
+pub fn line<'a>(alloc: Global, words: &'a [&'a str]) -> Result<Line<'a>, Error> {
+    let mut program = program(alloc)?;
+    let matches = program.try_get_matches_from_mut(words)?;
+    match asked(&matches) {
+        Some(line) => Ok(line),
+        None => Err(program.error(ErrorKind::MissingSubcommand, "no command was given")?),
+    }
+}
+
+fn asked<'a>(matches: &ArgMatches<'a>) -> Option<Line<'a>> {
+    let (name, given) = matches.subcommand()?;
+    let volume = given.get_str("VOLUME")?;
+    match name {
+        "check" => Some(Line::Check {
+            volume,
+            data_: data_of(given),
+        }),
+        "show" => Some(Line::Show { volume }),
+        _ => None,
+    }
+}
+
+fn data_of(given: &ArgMatches<'_>) -> Data {
+    if given.get_flag("detached") {
+        Data::Elsewhere
+    } else {
+        Data::Here
+    }
+}
+
+fn program<'a>(alloc: Global) -> Result<Command<'a>, AllocError> {
+    Command::new(alloc, "luks")
+        .about(helps::PROGRAM)
+        .after_help(helps::PROGRAM_MORE)
+        .subcommand_required(true)
+        .subcommand(check_command(alloc)?)?
+        .subcommand(show_command(alloc)?)
+}
+
+fn check_command<'a>(alloc: Global) -> Result<Command<'a>, AllocError> {
+    Command::new(alloc, "check")
+        .about(helps::CHECK)
+        .after_help(helps::CHECK_MORE)
+        .arg(volume_argument(alloc))?
+        .arg(detached_option(alloc))
+}
+
+fn show_command<'a>(alloc: Global) -> Result<Command<'a>, AllocError> {
+    Command::new(alloc, "show")
+        .about(helps::SHOW)
+        .after_help(helps::SHOW_MORE)
+        .arg(volume_argument(alloc))
+}
+
+fn volume_argument<'a>(alloc: Global) -> Arg<'a> {
+    Arg::new(alloc, "VOLUME")
+        .required(true)
+        .help("The volume, or its detached header")
+}
+
+fn detached_option<'a>(alloc: Global) -> Arg<'a> {
+    Arg::new(alloc, "detached")
+        .long("detached")
+        .action(ArgAction::SetTrue)
+        .help("The payload lies on another device, so no segment is judged")
+}
