@@ -97,7 +97,7 @@ pub uuid_faultless : (field_ : List ℕ) → IsUuidField field_ → (f : HeadFau
 uuid_faultless field_ is f = no_head_fault field_ f is
 
 -- a fault of the metadata of the copy is one of the JSON area, or a segment's
-meta_cases : (json : List ℕ) (payload : Data) (f : MetaFault) → IsLuks2MetaFault json payload f
+pub meta_cases : (json : List ℕ) (payload : Data) (f : MetaFault) → IsLuks2MetaFault json payload f
     → IsMetaFault json f ⊎ ((n : ℕ) × ((f ≡ meta.Region (Segment n)) × HasSegmentBelow json payload n))
 meta_cases json payload meta.JsonArea is = inl is
 meta_cases json payload meta.BadJson is = inl is
@@ -180,7 +180,7 @@ before_segment json (meta.Region (Slot m)) n is = (omega arith, λ _. (omega ari
 before_segment json (meta.Region (Segment m)) n is = absurd is.fault
 before_segment json meta.Memory n is = absurd is
 
-to_luks2_fault : (json : List ℕ) (payload : Data) (f : MetaFault) → IsMetaFault json f → IsLuks2MetaFault json payload f
+pub to_luks2_fault : (json : List ℕ) (payload : Data) (f : MetaFault) → IsMetaFault json f → IsLuks2MetaFault json payload f
 to_luks2_fault json payload meta.JsonArea is = is
 to_luks2_fault json payload meta.BadJson is = is
 to_luks2_fault json payload meta.NotWhole is = is

@@ -4,6 +4,7 @@ pub mod Faultless
 pub mod Grown
 pub mod Judged
 pub mod Judged2
+pub mod Lawful
 pub mod Moved
 pub mod Slots1
 pub mod Slots2

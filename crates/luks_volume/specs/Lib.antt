@@ -8,3 +8,4 @@ pub mod Entered
 pub mod JsonArea
 pub mod Planned
 pub mod Plans
+pub mod Lawful

@@ -4,6 +4,7 @@
 mod checking;
 mod fault;
 mod judging;
+mod laws;
 mod layout;
 mod luks1_entry;
 mod open_fault;
@@ -13,6 +14,7 @@ mod report;
 
 pub use checking::check;
 pub use fault::CheckFault;
+pub use laws::well_formed_volume;
 pub use luks_area::{
     Area, AreaFault, AreaName, Areas, Device, DeviceFault, Entry, MemDevice, text_field,
 };
