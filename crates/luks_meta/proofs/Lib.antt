@@ -17,3 +17,4 @@ pub mod Listed
 pub mod ObjectsRead
 pub mod Requiring
 pub mod Namings
+pub mod Deciding

@@ -37,11 +37,8 @@ pub use configuration::Config;
 pub use digests::Digest;
 pub use fault::MetaFault;
 pub use keyslots::{Argon2, Cost, Derivation, KeyArea, Keyslot, Pbkdf2, Splitter};
-pub use laws::one_value;
+pub use laws::{metadata_without_faults, one_value};
 pub use member::Extent;
 pub use meta::Meta;
 pub use segments::{Encryption, Segment, SegmentKind};
 pub use tokens::Token;
-
-#[cfg(test)]
-mod tests;
