@@ -1,3 +1,5 @@
+mod cryptsetup;
+
 ghost use Rattle.std.specs.Prelude.{◌≡◌, ◌<◌, ◌≤◌, ◌↔◌, ◌*◌, IsTrue, length, IfOk};
 ghost use Rattle.luks_slot.specs.Opening.{HasTurns};
 
