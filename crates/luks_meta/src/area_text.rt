@@ -5,7 +5,7 @@ ghost use Rattle.luks_meta.specs.AreaText.{JsonText};
 
 /// The text before the first zero byte, where the area is a text that begins with a brace, then one or more zeros and nothing
 /// else.
-pub fn json_text(area: &[u8]) -> Option<&[u8]>
+pub(crate) fn json_text(area: &[u8]) -> Option<&[u8]>
     ensures some { IfSome result (λ t. JsonText area.now t.now) }
     ensures none { IsNone result → (t : List ℕ) → JsonText area.now t → ⊥ }
 {

@@ -10,7 +10,7 @@ use serde_json::Value;
 use std::alloc::{AllocError, Global};
 
 /// The text of the value, with no white space outside its texts.
-pub fn compact(alloc: Global, value: &Value) -> Result<String, AllocError>
+pub(crate) fn compact(alloc: Global, value: &Value) -> Result<String, AllocError>
     requires whole { has_float (view value.now) ≡ false }
     requires nests { depth (view value.now) ≤ max_depth }
     ensures text { IfOk result (λ s. string_bytes s ≡ compact_text (view value.now)) }

@@ -19,7 +19,7 @@ pub struct Config {
 }
 
 /// The members of `config`; none where one breaks its rule.
-pub fn read_config(object: &Value) -> Option<Config>
+pub(crate) fn read_config(object: &Value) -> Option<Config>
     ensures says { IfSome result (λ k. SaysConfig (view object.now) k) }
     ensures tells { IfSome result (λ k. TellsConfig (view object.now) k) }
     ensures there { IsRead config_rows (view object.now) → IsSome result }

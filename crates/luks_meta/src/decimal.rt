@@ -4,7 +4,7 @@ ghost use Rattle.std.specs.Prelude.{◌≡◌, ◌<◌, ◌↔◌, ◌≢◌, le
 ghost use Rattle.luks_meta.specs.Decimal.{decimal_of};
 
 /// The number of 64 bits whose decimal digits the text is, without a sign or leading zeros.
-pub fn decimal(text: &str) -> Option<u64>
+pub(crate) fn decimal(text: &str) -> Option<u64>
     ensures { result ≡ decimal_of text.now }
 {
     if !is_plain(text) {

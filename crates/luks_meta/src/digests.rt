@@ -26,7 +26,7 @@ pub struct Digest<'a> {
 }
 
 /// The members of a digest; none where one breaks its rule.
-pub fn read_digest(object: &Value) -> Option<Digest<'_>>
+pub(crate) fn read_digest(object: &Value) -> Option<Digest<'_>>
     ensures says { IfSome result (λ k. SaysDigest (view object.now) k) }
     ensures tells { IfSome result (λ k. TellsDigest (view object.now) k) }
     ensures there { IsRead digest_rows (view object.now)

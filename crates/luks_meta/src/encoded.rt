@@ -8,7 +8,7 @@ use arrayvec::ArrayVec;
 use base64::engine::general_purpose::STANDARD;
 
 /// The bytes, at most 128, whose base64 the text is, in the standard alphabet, padded and with zero trailing bits.
-pub fn encoded(text: &str) -> Option<ArrayVec<u8, 128>>
+pub(crate) fn encoded(text: &str) -> Option<ArrayVec<u8, 128>>
     ensures { option_map (λ v. v.items) result ≡ encoded_of text.now }
 {
     if text.len() > 172 {

@@ -76,7 +76,7 @@ pub struct Keyslot<'a> {
 }
 
 /// The members of a keyslot; none where one breaks its rule.
-pub fn read_keyslot(object: &Value) -> Option<Keyslot<'_>>
+pub(crate) fn read_keyslot(object: &Value) -> Option<Keyslot<'_>>
     ensures says { IfSome result (λ k. SaysKeyslot (view object.now) k) }
     ensures tells { IfSome result (λ k. TellsKeyslot (view object.now) k) }
     ensures there { IsRead keyslot_rows (view object.now) → IsSome result }

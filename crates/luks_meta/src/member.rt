@@ -35,14 +35,14 @@ fn member_at(object: &Value, outer: Outer, name: Member) -> Option<&Value>
 }
 
 /// The text that the member is.
-pub fn text_at(object: &Value, outer: Outer, name: Member) -> Option<&str>
+pub(crate) fn text_at(object: &Value, outer: Outer, name: Member) -> Option<&str>
     ensures { option_map (λ t. t.now) result ≡ text_of (member_at (view object.now) outer name) }
 {
     reading::text_in(member_at(object, outer, name))
 }
 
 /// The member `type` is the text.
-pub fn has_type(object: &Value, outer: Outer, kind: &str) -> bool
+pub(crate) fn has_type(object: &Value, outer: Outer, kind: &str) -> bool
     ensures { result ≡ option_map_or (λ t. bytes_eq t kind.now) (type_at (view object.now) outer) false }
 {
     match judge::type_at(object, outer) {
@@ -52,14 +52,14 @@ pub fn has_type(object: &Value, outer: Outer, kind: &str) -> bool
 }
 
 /// The number whose decimal text the member is.
-pub fn decimal_at(object: &Value, outer: Outer, name: Member) -> Option<u64>
+pub(crate) fn decimal_at(object: &Value, outer: Outer, name: Member) -> Option<u64>
     ensures { result ≡ decimal_in (member_at (view object.now) outer name) }
 {
     reading::decimal_in(member_at(object, outer, name))
 }
 
 /// The `least` to `most` bytes whose base64 the member is.
-pub fn bytes_at(
+pub(crate) fn bytes_at(
     object: &Value,
     outer: Outer,
     name: Member,
@@ -72,7 +72,7 @@ pub fn bytes_at(
 }
 
 /// The number from 1 to 4294967295 that the member is.
-pub fn small_at(object: &Value, outer: Outer, name: Member) -> Option<u32>
+pub(crate) fn small_at(object: &Value, outer: Outer, name: Member) -> Option<u32>
     ensures { result ≡ number_in 1 4294967295 (member_at (view object.now) outer name) }
 {
     match reading::number_in(member_at(object, outer, name), 1, 4294967295) {
@@ -82,7 +82,7 @@ pub fn small_at(object: &Value, outer: Outer, name: Member) -> Option<u32>
 }
 
 /// The length of a key, from 1 to 128, that the member is.
-pub fn key_size_at(object: &Value, outer: Outer) -> Option<u8>
+pub(crate) fn key_size_at(object: &Value, outer: Outer) -> Option<u8>
     ensures { result ≡ number_in 1 128 (member_at (view object.now) outer Member.KeySize) }
 {
     match reading::number_in(member_at(object, outer, Member::KeySize), 1, 128) {
@@ -92,7 +92,7 @@ pub fn key_size_at(object: &Value, outer: Outer) -> Option<u8>
 }
 
 /// The size of a sector, 512, 1024, 2048 or 4096, that the member is.
-pub fn sector_size_at(object: &Value) -> Option<u16>
+pub(crate) fn sector_size_at(object: &Value) -> Option<u16>
     ensures { result ≡ option_and_then (kept is_sector_size) (number_of (member_at (view object.now) Outer.Top Member.SectorSize)) }
 {
     match reading::sector_size_in(member_at(object, Outer::Top, Member::SectorSize)) {
@@ -102,7 +102,7 @@ pub fn sector_size_at(object: &Value) -> Option<u16>
 }
 
 /// The extent, a decimal text or `dynamic`, that the member `size` is.
-pub fn extent_at(object: &Value) -> Option<Extent>
+pub(crate) fn extent_at(object: &Value) -> Option<Extent>
     ensures { option_map extent_field result ≡ option_and_then extent_of (text_of (member_at (view object.now) Outer.Top Member.Size)) }
 {
     let text = text_at(object, Outer::Top, Member::Size)?;
@@ -116,7 +116,7 @@ pub fn extent_at(object: &Value) -> Option<Extent>
 }
 
 /// The priority, from 0 to 2, if there is one.
-pub fn priority_at(object: &Value) -> Option<Option<u8>>
+pub(crate) fn priority_at(object: &Value) -> Option<Option<u8>>
     ensures { option_map priority_field result ≡ reads (MayBeNumber 0 2) (member_at (view object.now) Outer.Top Member.Priority) }
 {
     let value = member_at(object, Outer::Top, Member::Priority);
@@ -130,7 +130,7 @@ pub fn priority_at(object: &Value) -> Option<Option<u8>>
 }
 
 /// The numbers that the member, an array, names.
-pub fn numbers_at(object: &Value, name: Member) -> Option<ArrayVec<u8, 32>>
+pub(crate) fn numbers_at(object: &Value, name: Member) -> Option<ArrayVec<u8, 32>>
     ensures { option_map (λ n. n.items) result ≡ numbers_of_array (member_at (view object.now) Outer.Top name) }
 {
     name_list::numbers_in(member_at(object, Outer::Top, name))

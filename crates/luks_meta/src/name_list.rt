@@ -11,7 +11,7 @@ use arrayvec::ArrayVec;
 use serde_json::Value;
 
 /// The numbers that an array's texts name, in its order, if each is a name and there are at most 32.
-pub fn numbers_in(value: Option<&Value>) -> Option<ArrayVec<u8, 32>>
+pub(crate) fn numbers_in(value: Option<&Value>) -> Option<ArrayVec<u8, 32>>
     ensures { option_map (λ n. n.items) result ≡ numbers_of_array (option_map (λ v. view v.now) value.entry) }
 {
     match value {

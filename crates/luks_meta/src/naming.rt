@@ -15,7 +15,7 @@ use crate::table::Section;
 use serde_json::{Map, Value};
 
 /// The number of the one digest that names the keyslot, if there is such a keyslot.
-pub fn digest_of_keyslot(value: &Value, number: u8) -> Option<u8>
+pub(crate) fn digest_of_keyslot(value: &Value, number: u8) -> Option<u8>
     requires { IsAccepted (view value.now) }
     ensures some { IfSome result (IsDigestOf (view value.now) number) }
     ensures only { (m : ℕ) → IsDigestOf (view value.now) number m → result ≡ Some m }

@@ -4,13 +4,13 @@ ghost use Rattle.std.specs.Prelude.{◌≡◌, ◌<◌, [], ◌∷◌};
 ghost use Rattle.luks_meta.specs.Number.{number_text, number_of};
 
 /// The numbers in the order of the bytes of their names.
-pub const NUMBERS: [u8; 32] = [
+pub(crate) const NUMBERS: [u8; 32] = [
     0, 1, 10, 11, 12, 13, 14, 15, 16, 17, 18, 19, 2, 20, 21, 22, 23, 24, 25, 26, 27, 28, 29, 3, 30,
     31, 4, 5, 6, 7, 8, 9,
 ];
 
 /// The name of the object with number `n`.
-pub fn number_text(n: u8) -> &'static str
+pub(crate) fn number_text(n: u8) -> &'static str
     requires { n < 32 }
     ensures { result.now ≡ number_text n }
 {
@@ -51,7 +51,7 @@ pub fn number_text(n: u8) -> &'static str
 }
 
 /// The number of the object that the text names, from 0 to 31 without leading zeros.
-pub fn number_named(text: &str) -> Option<u8>
+pub(crate) fn number_named(text: &str) -> Option<u8>
     ensures { result ≡ number_of text.now }
 {
     match text.as_bytes() {

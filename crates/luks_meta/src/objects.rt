@@ -16,7 +16,7 @@ use crate::tokens::{Token, read_token};
 use crate::walk::object_at;
 use serde_json::Value;
 
-pub fn numbered(value: &Value, section: Section, number: u8) -> Option<&Value>
+pub(crate) fn numbered(value: &Value, section: Section, number: u8) -> Option<&Value>
     ensures some { IfSome result (λ d. (number < 32) × (object_at (view value.now) section number ≡ Some (view d.now))) }
     ensures none { IsNone result → IsMissing (view value.now) section number }
 {
@@ -28,7 +28,7 @@ pub fn numbered(value: &Value, section: Section, number: u8) -> Option<&Value>
 }
 
 /// The members of `config`.
-pub fn config_in(value: &Value) -> Config
+pub(crate) fn config_in(value: &Value) -> Config
     requires { IsAccepted (view value.now) }
     ensures { IsConfig (view value.now) result }
 {
@@ -36,7 +36,7 @@ pub fn config_in(value: &Value) -> Config
 }
 
 /// The keyslot with the number.
-pub fn keyslot_in(value: &Value, number: u8) -> Option<Keyslot<'_>>
+pub(crate) fn keyslot_in(value: &Value, number: u8) -> Option<Keyslot<'_>>
     requires { IsAccepted (view value.now) }
     ensures some { IfSome result (IsObject SaysKeyslot TellsKeyslot (view value.now) Section.Keyslots number) }
     ensures none { IsNone result → IsMissing (view value.now) Section.Keyslots number }
@@ -48,7 +48,7 @@ pub fn keyslot_in(value: &Value, number: u8) -> Option<Keyslot<'_>>
 }
 
 /// The segment with the number.
-pub fn segment_in(value: &Value, number: u8) -> Option<Segment<'_>>
+pub(crate) fn segment_in(value: &Value, number: u8) -> Option<Segment<'_>>
     requires { IsAccepted (view value.now) }
     ensures some { IfSome result (IsObject SaysSegment TellsSegment (view value.now) Section.Segments number) }
     ensures none { IsNone result → IsMissing (view value.now) Section.Segments number }
@@ -60,7 +60,7 @@ pub fn segment_in(value: &Value, number: u8) -> Option<Segment<'_>>
 }
 
 /// The digest with the number.
-pub fn digest_in(value: &Value, number: u8) -> Option<Digest<'_>>
+pub(crate) fn digest_in(value: &Value, number: u8) -> Option<Digest<'_>>
     requires { IsAccepted (view value.now) }
     ensures some { IfSome result (IsObject SaysDigest TellsDigest (view value.now) Section.Digests number) }
     ensures none { IsNone result → IsMissing (view value.now) Section.Digests number }
@@ -72,7 +72,7 @@ pub fn digest_in(value: &Value, number: u8) -> Option<Digest<'_>>
 }
 
 /// The token with the number.
-pub fn token_in(value: &Value, number: u8) -> Option<Token<'_>>
+pub(crate) fn token_in(value: &Value, number: u8) -> Option<Token<'_>>
     requires { IsAccepted (view value.now) }
     ensures some { IfSome result (IsObject SaysToken TellsToken (view value.now) Section.Tokens number) }
     ensures none { IsNone result → IsMissing (view value.now) Section.Tokens number }

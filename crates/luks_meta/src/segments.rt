@@ -37,7 +37,7 @@ pub struct Segment<'a> {
 }
 
 /// The members of a segment; none where one breaks its rule.
-pub fn read_segment(object: &Value) -> Option<Segment<'_>>
+pub(crate) fn read_segment(object: &Value) -> Option<Segment<'_>>
     ensures says { IfSome result (λ k. SaysSegment (view object.now) k) }
     ensures tells { IfSome result (λ k. TellsSegment (view object.now) k) }
     ensures there { IsRead segment_rows (view object.now) → IsSome result }

@@ -21,7 +21,7 @@ pub struct Token<'a> {
 }
 
 /// The members of a token; none where one breaks its rule.
-pub fn read_token(object: &Value) -> Option<Token<'_>>
+pub(crate) fn read_token(object: &Value) -> Option<Token<'_>>
     ensures says { IfSome result (λ k. SaysToken (view object.now) k) }
     ensures tells { IfSome result (λ k. TellsToken (view object.now) k) }
     ensures there { IsRead token_rows (view object.now)
