@@ -1,11 +1,12 @@
 -- A volume is well formed exactly where it has no fault, and what it is sure of then.
 use Rattle.std.proofs.Common.{◌≡◌, ℕ, List, length, true, subst, inl, inr}
-use Rattle.std.specs.Prelude.{◌↔◌}
+use Rattle.std.specs.Prelude.{◌↔◌, Result, Ok, Err, OnOk}
 use Rattle.std.proofs.lemmas.Bool.{false_from_ne_true}
 use Rattle.serde_json.specs.Data.{Data as Value}
 use Rattle.luks_area.specs.declared.area.Area.{Area as TheArea}
 use Rattle.luks_area.specs.declared.area.AreaName.{AreaName}
 use Rattle.luks_area.specs.declared.area.AreaName.TheVariants.{Segment}
+use Rattle.luks_area.specs.declared.areas.Entry.{Entry}
 use Rattle.luks_area.specs.Area.{Fit}
 use Rattle.luks_area.specs.Ranges.{part}
 use Rattle.luks_head.specs.declared.fault.HeadFault.{HeadFault}
@@ -28,6 +29,8 @@ use Rattle.luks_volume.specs.Checked.{IsLuks1Volume, IsLuks1Fault, IsLuks2Layout
 use Rattle.luks_volume.specs.Lawful.{HoldsNames, IsLawful}
 use Rattle.luks_volume.specs.Layout1.{Luks1Area}
 use Rattle.luks_volume.specs.Layout2.{Luks2Area}
+use Rattle.luks_volume.specs.Listing.{Lists}
+use Rattle.luks_volume.proofs.Checks.{lists_as}
 use Rattle.luks_volume.proofs.Faultless.{fit-no_fault}
 use Rattle.luks_volume.proofs.Judged2.{meta_cases, segment_breaks, segments_follow, to_luks2_fault}
 use Rattle.luks_volume.proofs.Moved.{no_area_fault}
@@ -166,3 +169,24 @@ lawful one only v payload well = record {
   names = λ o copies chosen. names_as v payload o copies
       (subst (WellFormedAs v payload) (only v well.choice (luks2 o copies) well.chosen chosen) well.formed);
 }
+
+-- ---- from what was judged of a LUKS1 header to the volume
+
+pub luks1_accepted : (v : List ℕ) (payload : Data) (h : List ℕ) (total : ℕ) → Chosen v luks1 → h ≡ part v 0 592 → total ≡ length v
+    → IsLuks1Volume h payload total → WellFormed v payload
+luks1_accepted v payload h total chosen begins size well = record {
+  choice = luks1;
+  chosen = chosen;
+  formed = subst (IsLuks1Volume (part v 0 592) payload) size (subst (λ b. IsLuks1Volume b payload total) begins well);
+}
+
+pub luks1_areas_are : (v : List ℕ) (payload : Data) (h : List ℕ) (total : ℕ) (es : List Entry) → Chosen v luks1 → h ≡ part v 0 592 → total ≡ length v
+    → Lists es (Luks1Area h payload total) → Lists es (AreaOf v payload)
+luks1_areas_are v payload h total es chosen begins size lists =
+    lists_as v payload luks1 es chosen
+    (subst (λ t. Lists es (Luks1Area (part v 0 592) payload t)) size (subst (λ b. Lists es (Luks1Area b payload total)) begins lists))
+
+-- what follows from a fact for `Ok` holds for `Ok`
+pub on_ok : {T E P Q : Type 0} → (r : Result T E) → (P → Q) → OnOk r P → OnOk r Q
+on_ok (Ok x) step is = step is
+on_ok (Err e) step is = tt

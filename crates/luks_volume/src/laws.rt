@@ -1,12 +1,25 @@
 //! Laws on the definitions of this crate. Each function only calls those whose laws it follows from;
 //! its contract is the law.
-ghost use Rattle.std.specs.Prelude.{ℕ, List};
+ghost use Rattle.std.specs.Prelude.{◌≡◌, ◌↔◌, ℕ, List};
 ghost use Rattle.luks_volume.specs.declared.report.Data.{Data as Payload};
-ghost use Rattle.luks_volume.specs.Checked.{WellFormed};
+ghost use Rattle.luks_volume.specs.Checked.{IsFault, WellFormed};
 ghost use Rattle.luks_volume.specs.Lawful.{IsLawful};
 
-use luks_head::one_choice;
-use luks_meta::one_value;
+use crate::fault::CheckFault;
+use luks_head::{luks1_without_faults, luks2_without_faults, one_choice};
+use luks_meta::{metadata_without_faults, one_value};
+
+/// A volume is well formed exactly where it has no fault: so the first fault is there exactly where
+/// it isn't well formed.
+pub fn no_fault_is_well_formed()
+    ensures { (v : List ℕ) (payload : Payload) → WellFormed v payload ↔ ((f : CheckFault) → IsFault v payload f → ⊥) }
+{
+    one_choice();
+    luks1_without_faults();
+    luks2_without_faults();
+    metadata_without_faults();
+    one_value();
+}
 
 /// In a well formed volume each area is inside, every two of different names are disjoint, and of
 /// LUKS2 every name in the metadata resolves.

@@ -14,7 +14,7 @@ mod report;
 
 pub use checking::check;
 pub use fault::CheckFault;
-pub use laws::well_formed_volume;
+pub use laws::{no_fault_is_well_formed, well_formed_volume};
 pub use luks_area::{
     Area, AreaFault, AreaName, Areas, Device, DeviceFault, Entry, MemDevice, text_field,
 };
