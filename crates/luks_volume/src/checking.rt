@@ -5,11 +5,13 @@ ghost use Rattle.luks_head.specs.Judged2.{IsCopyWithin};
 ghost use Rattle.luks_head.specs.Selection.{IsSelected};
 ghost use Rattle.luks_head.specs.declared.selection.Selected.TheVariants.{V2};
 ghost use Rattle.luks_volume.specs.Checked.{check_key, HasLuks2Area, IsLuks2Refusal, IsLuks2Volume, IsRefusal, WellFormed};
+ghost use Rattle.luks_volume.specs.Lawful.{IsLawful};
 ghost use Rattle.luks_volume.specs.Listing.{Lists};
 ghost use Rattle.luks_volume.specs.Reported.{Counts, IsFromOutside, Reports, outer_fault};
 
 use crate::fault::CheckFault;
 use crate::judging::{judge_luks1, judge_luks2};
+use crate::laws::well_formed_volume;
 use crate::report::{Data, Report, Version};
 use luks_area::{Areas, Device};
 use luks_head::{Bin2, Copies, HeadFault, Selected, select};
@@ -27,7 +29,9 @@ pub fn check<D: Device>(alloc: Global, device: &mut D, data_: Data) -> Result<Re
     ensures report { D.tells → IfOk result (Reports (D.bytes device.old) data_) }
     ensures refused { D.tells → IfErr result (IsRefusal (D.bytes device.old) data_) }
     ensures only { D.tells → WellFormed (D.bytes device.old) data_ → MatchResult result (λ _. ⊤) IsFromOutside }
+    ensures lawful { D.tells → OnOk result (IsLawful (D.bytes device.old) data_) }
 {
+    well_formed_volume();
     match select(alloc, device) {
         Ok(Selected::V1(header)) => match judge_luks1(&header, data_, device.len()) {
             Ok(areas) => Ok(Report {
