@@ -180,10 +180,10 @@ luks1_accepted v payload h total chosen begins size well = record {
   formed = subst (IsLuks1Volume (part v 0 592) payload) size (subst (λ b. IsLuks1Volume b payload total) begins well);
 }
 
-pub luks1_areas_are : (v : List ℕ) (payload : Data) (h : List ℕ) (total : ℕ) (es : List Entry) → Chosen v luks1 → h ≡ part v 0 592 → total ≡ length v
+pub luks1_areas_are : ((v : List ℕ) (c d : Choice) → Chosen v c → Chosen v d → c ≡ d) → (v : List ℕ) (payload : Data) (h : List ℕ) (total : ℕ) (es : List Entry) → Chosen v luks1 → h ≡ part v 0 592 → total ≡ length v
     → Lists es (Luks1Area h payload total) → Lists es (AreaOf v payload)
-luks1_areas_are v payload h total es chosen begins size lists =
-    lists_as v payload luks1 es chosen
+luks1_areas_are one v payload h total es chosen begins size lists =
+    lists_as one v payload luks1 es chosen
     (subst (λ t. Lists es (Luks1Area (part v 0 592) payload t)) size (subst (λ b. Lists es (Luks1Area b payload total)) begins lists))
 
 -- what follows from a fact for `Ok` holds for `Ok`

@@ -1,5 +1,4 @@
 pub mod Checks
-pub mod Counted
 pub mod Faultless
 pub mod Grown
 pub mod Judged

@@ -14,7 +14,7 @@ use crate::judging::{judge_luks1, judge_luks2};
 use crate::laws::well_formed_volume;
 use crate::report::{Data, Report, Version};
 use luks_area::{Areas, Device};
-use luks_head::{Bin2, Copies, HeadFault, Selected, select};
+use luks_head::{Bin2, Copies, HeadFault, Selected, one_choice, select};
 use std::alloc::Global;
 
 /// Whether the volume is well formed, with its areas, or else its first fault.
@@ -31,6 +31,7 @@ pub fn check<D: Device>(alloc: Global, device: &mut D, data_: Data) -> Result<Re
     ensures only { D.tells → WellFormed (D.bytes device.old) data_ → MatchResult result (λ _. ⊤) IsFromOutside }
     ensures lawful { D.tells → OnOk result (IsLawful (D.bytes device.old) data_) }
 {
+    one_choice();
     well_formed_volume();
     match select(alloc, device) {
         Ok(Selected::V1(header)) => match judge_luks1(&header, data_, device.len()) {
@@ -63,6 +64,7 @@ fn check_luks2<D: Device>(
     ensures refused { D.tells → IsSelected (D.bytes device.old) (V2 header.now copies) → IfErr result (IsRefusal (D.bytes device.old) data_) }
     ensures only { D.tells → IsSelected (D.bytes device.old) (V2 header.now copies) → WellFormed (D.bytes device.old) data_ → MatchResult result (λ _. ⊤) IsFromOutside }
 {
+    one_choice();
     match json_area(alloc, device, header) {
         Ok(json) => match judge_luks2(alloc, header, &json, data_, device.len()) {
             Ok(areas) => Ok(Report {

@@ -7,7 +7,7 @@ use Rattle.luks_volume.proofs.checking.check.Goals as goal
 pub returns-in-Err-judge_luks1-clause-refused : goal.returns-in-Err-judge_luks1-clause-refused
 returns-in-Err-judge_luks1-clause-refused g c = λ tells.
     let selected = rw c.in-Ok-V1.field-0-is at (c.in-Ok-V1.ensures.found tells) in
-    luks1_refused _ _ _ _ c.in-Err-judge_luks1.fault selected.0 selected.1
+    luks1_refused c.one_choice.ensures.only _ _ _ _ c.in-Err-judge_luks1.fault selected.0 selected.1
     (c.len.ensures ∙ c.in-Ok-V1.ensures.size ∙ sym (g.met.D.Device.sized c.args.device.now tells))
     c.in-Err-judge_luks1.ensures.refused
 
@@ -32,17 +32,17 @@ returns-in-Ok-V2-clause-only g c = λ tells well.
     c.check_luks2.ensures.only tells (rw same (subst (IsSelected (g.D.Device.bytes c.args.device.now)) c.in-Ok-V2.field-0-is (c.in-Ok-V2.ensures.found tells))) (rw same well)
 
 pub returns-in-Err-clause-refused : goal.returns-in-Err-clause-refused
-returns-in-Err-clause-refused g c = λ tells. rw c.outer_fault.ensures (select_refused _ _ _ (c.in-Err.ensures.refused tells))
+returns-in-Err-clause-refused g c = λ tells. rw c.outer_fault.ensures (select_refused c.one_choice.ensures.only _ _ _ (c.in-Err.ensures.refused tells))
 
 pub returns-in-Err-clause-only : goal.returns-in-Err-clause-only
-returns-in-Err-clause-only g c = λ tells well. rw c.outer_fault.ensures (select_only _ _ _ (c.in-Err.ensures.refused tells) well)
+returns-in-Err-clause-only g c = λ tells well. rw c.outer_fault.ensures (select_only c.one_choice.ensures.only _ _ _ (c.in-Err.ensures.refused tells) well)
 
 pub returns-in-Ok-clause-report : goal.returns-in-Ok-clause-report
 returns-in-Ok-clause-report g c = λ tells.
     let selected = rw c.in-Ok-V1.field-0-is at (c.in-Ok-V1.ensures.found tells) in
     record {
       version = selected.0;
-      areas = luks1_areas_are _ _ _ _ _ selected.0 selected.1
+      areas = luks1_areas_are c.one_choice.ensures.only _ _ _ _ _ selected.0 selected.1
           (c.len.ensures ∙ c.in-Ok-V1.ensures.size ∙ sym (g.met.D.Device.sized c.args.device.now tells)) c.in-Ok.ensures.areas;
     }
 

@@ -13,7 +13,7 @@ returns-in-Ok-judge_luks2-clause-accepted g c = λ tells selected.
 pub returns-in-Ok-judge_luks2-clause-report : goal.returns-in-Ok-judge_luks2-clause-report
 returns-in-Ok-judge_luks2-clause-report g c = λ tells selected. record {
   version = (c.args.header.now.hdr_offset, (selected.0, selected.1.seqid));
-  areas = luks2_areas_are (g.D.Device.bytes c.args.device.now) _ _ c.args.copies _ _ _ selected.0
+  areas = luks2_areas_are c.one_choice.ensures.only (g.D.Device.bytes c.args.device.now) _ _ c.args.copies _ _ _ selected.0
       (c.deref.ensures.value ∙ json_is _ _ c.args.header.now selected.1 (c.in-Ok.ensures.json tells))
       (c.len.ensures ∙ c.in-Ok.ensures.size ∙ sym (g.met.D.Device.sized c.args.device.now tells))
       (c.in-Ok-judge_luks2.ensures.areas _ selected.1);
@@ -21,7 +21,7 @@ returns-in-Ok-judge_luks2-clause-report g c = λ tells selected. record {
 
 pub returns-in-Ok-clause-refused : goal.returns-in-Ok-clause-refused
 returns-in-Ok-clause-refused g c = λ tells selected.
-    luks2_refused (g.D.Device.bytes c.args.device.now) _ _ c.args.copies _ _ _ selected.0
+    luks2_refused c.one_choice.ensures.only (g.D.Device.bytes c.args.device.now) _ _ c.args.copies _ _ _ selected.0
     (c.deref.ensures.value ∙ json_is _ _ c.args.header.now selected.1 (c.in-Ok.ensures.json tells))
     (c.len.ensures ∙ c.in-Ok.ensures.size ∙ sym (g.met.D.Device.sized c.args.device.now tells))
     (c.in-Err-judge_luks2.ensures.refused _ selected.1)
@@ -29,6 +29,6 @@ returns-in-Ok-clause-refused g c = λ tells selected.
 pub returns-in-Ok-clause-only : goal.returns-in-Ok-clause-only
 returns-in-Ok-clause-only g c = λ tells selected well.
     c.in-Err-judge_luks2.ensures.only _ selected.1
-    (luks2_formed (g.D.Device.bytes c.args.device.now) _ _ c.args.copies _ _ selected.0
+    (luks2_formed c.one_choice.ensures.only (g.D.Device.bytes c.args.device.now) _ _ c.args.copies _ _ selected.0
     (c.deref.ensures.value ∙ json_is _ _ c.args.header.now selected.1 (c.in-Ok.ensures.json tells))
     (c.len.ensures ∙ c.in-Ok.ensures.size ∙ sym (g.met.D.Device.sized c.args.device.now tells)) well)
