@@ -11,6 +11,8 @@ mod open_fault;
 mod opening;
 mod plan;
 mod report;
+#[cfg(test)]
+mod tests;
 
 pub use checking::check;
 pub use fault::CheckFault;
