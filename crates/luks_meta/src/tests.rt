@@ -10,6 +10,7 @@ mod values;
 use crate::{Meta, MetaFault};
 use std::alloc::{AllocError, Global};
 use std::process::Abort;
+use std::test::Fail;
 
 /// The length in bytes of the JSON area of the smallest header.
 const AREA: usize = 12288;
@@ -67,5 +68,15 @@ fn row(
     let area = area_of(alloc, text.as_bytes(), AREA)?;
     let given = answer(alloc, area.as_slice())?;
     assert_eq!(rt; given.as_str(), wanted, "{old} edited to {new}");
+    Ok(())
+}
+
+/// Each line of the table is a row: what is edited, what it becomes, and the answer.
+fn rows(rt: &impl Abort, alloc: Global, text: &str, table: &str) -> Result<(), Fail> {
+    for line in table.lines() {
+        let (old, rest) = line.trim_start().split_once(" => ").ok_or("no edit")?;
+        let (new, wanted) = rest.split_once(" => ").ok_or("no answer")?;
+        row(rt, alloc, text, old, new, wanted)?;
+    }
     Ok(())
 }
