@@ -8,7 +8,7 @@ use crate::number::number_named;
 use serde_json::{Map, Value};
 
 /// Each member's name is a name.
-pub fn are_named(members: &Map<String, Value>) -> bool
+pub(crate) fn are_named(members: &Map<String, Value>) -> bool
     ensures { result ≡ all_named (members_view members.now.entries) }
 {
     for (name, _) in members.iter() {
@@ -53,7 +53,7 @@ fn is_there(item: &Value, map: Option<&Value>) -> bool
 }
 
 /// Each text among the items is a member's name.
-pub fn all_there(items: &Vec<Value>, map: Option<&Value>) -> bool
+pub(crate) fn all_there(items: &Vec<Value>, map: Option<&Value>) -> bool
     ensures { result ≡ all_there (option_map (λ v. view v.now) map.entry) (items_view items.now.items) }
 {
     for item in items {
@@ -75,7 +75,7 @@ fn repeats(item: &Value, rest: &[Value]) -> bool
 }
 
 /// Some text stands twice.
-pub fn has_repeat(items: &[Value]) -> bool
+pub(crate) fn has_repeat(items: &[Value]) -> bool
     ensures { result ≡ has_repeat (items_view items.now) }
 {
     let mut left = items;
@@ -89,7 +89,7 @@ pub fn has_repeat(items: &[Value]) -> bool
 }
 
 /// The value is an array that has the text.
-pub fn names(value: Option<&Value>, text: &str) -> bool
+pub(crate) fn names(value: Option<&Value>, text: &str) -> bool
     ensures { result ≡ names text.now (option_map (λ v. view v.now) value.entry) }
 {
     match value {
@@ -115,7 +115,7 @@ fn is_named_once_among(members: &Map<String, Value>, list: &str, text: &str) -> 
 }
 
 /// Exactly one member of the object has the text in its array `list`.
-pub fn is_named_once(digests: Option<&Value>, list: &str, text: &str) -> bool
+pub(crate) fn is_named_once(digests: Option<&Value>, list: &str, text: &str) -> bool
     ensures { result ≡ (naming_count list.now text.now (option_map (λ v. view v.now) digests.entry) == 1) }
 {
     match digests {

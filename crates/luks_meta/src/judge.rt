@@ -12,14 +12,14 @@ use crate::table::{Outer, Row, Rule, Section, When, member_name, section_name};
 use serde_json::Value;
 
 /// A section of the metadata.
-pub fn section_at(value: &Value, section: Section) -> Option<&Value>
+pub(crate) fn section_at(value: &Value, section: Section) -> Option<&Value>
     ensures { option_map (λ v. view v.now) result ≡ section_at (view value.now) section }
 {
     value.get(section_name(section))
 }
 
 /// The object itself, or the one inside it.
-pub fn outer_at(object: &Value, outer: Outer) -> Option<&Value>
+pub(crate) fn outer_at(object: &Value, outer: Outer) -> Option<&Value>
     ensures { option_map (λ v. view v.now) result ≡ outer_at (view object.now) outer }
 {
     match outer {
@@ -31,7 +31,7 @@ pub fn outer_at(object: &Value, outer: Outer) -> Option<&Value>
 }
 
 /// The value of a row's member.
-pub fn value_at<'a>(object: &'a Value, row: &Row) -> Option<&'a Value>
+pub(crate) fn value_at<'a>(object: &'a Value, row: &Row) -> Option<&'a Value>
     ensures { option_map (λ v. view v.now) result ≡ value_at (view object.now) row.now }
 {
     match outer_at(object, row.outer) {
@@ -41,7 +41,7 @@ pub fn value_at<'a>(object: &'a Value, row: &Row) -> Option<&'a Value>
 }
 
 /// The type of the object itself, or of the one inside it.
-pub fn type_at(object: &Value, outer: Outer) -> Option<&str>
+pub(crate) fn type_at(object: &Value, outer: Outer) -> Option<&str>
     ensures { option_map (λ t. t.now) result ≡ type_at (view object.now) outer }
 {
     match outer_at(object, outer) {
@@ -144,7 +144,7 @@ fn has_double(rule: Rule, list: Option<&Value>) -> bool
 }
 
 /// The row of the object has a fault.
-pub fn row_fault(test: Test, rows: &[Row], value: &Value, object: &Value, row: &Row) -> bool
+pub(crate) fn row_fault(test: Test, rows: &[Row], value: &Value, object: &Value, row: &Row) -> bool
     ensures { result ≡ row_fault test rows.now (view value.now) (view object.now) row.now }
 {
     match test {
@@ -172,7 +172,13 @@ fn has_no_digest(value: &Value, section: Section, number: u8, object: &Value) ->
 }
 
 /// The object has a fault of its own.
-pub fn object_fault(test: Test, value: &Value, section: Section, number: u8, object: &Value) -> bool
+pub(crate) fn object_fault(
+    test: Test,
+    value: &Value,
+    section: Section,
+    number: u8,
+    object: &Value,
+) -> bool
     requires { number < 32 }
     ensures { result ≡ object_fault test (view value.now) section number (view object.now) }
 {
@@ -194,7 +200,7 @@ fn has_section(section: Section, value: Option<&Value>) -> bool
 }
 
 /// The section has a fault of its own.
-pub fn section_fault(test: Test, value: &Value, section: Section) -> bool
+pub(crate) fn section_fault(test: Test, value: &Value, section: Section) -> bool
     ensures { result ≡ section_fault test (view value.now) section }
 {
     match test {

@@ -13,7 +13,7 @@ use serde_json::{Category, Value};
 use std::alloc::Global;
 
 /// The value that the area holds, or `JsonArea`, `BadJson` or `Memory`.
-pub fn read_value(alloc: Global, area: &[u8]) -> Result<Value, MetaFault>
+pub(crate) fn read_value(alloc: Global, area: &[u8]) -> Result<Value, MetaFault>
     ensures json { IfOk result (λ v. Json area.now (view v)) }
     ensures nests { IfOk result (λ v. depth (view v) ≤ max_depth) }
     ensures fault { IfErr result (λ f. f ≢ MetaFault.Memory → IsLeast meta_key (IsMetaFault area.now) f) }

@@ -47,7 +47,7 @@ fn push_row(path: &mut ArrayString<32>, row: Option<Row>)
 }
 
 /// The path of the place: names joined by points.
-pub fn place_path(place: &Place) -> ArrayString<32>
+pub(crate) fn place_path(place: &Place) -> ArrayString<32>
     requires { ForSome place.now.number (λ n. n < 32) }
     ensures { result.bytes ≡ place_path place.now }
 {

@@ -4,7 +4,7 @@ use crate::table::{Row, Section};
 
 /// A section, an object of it with a number as its name, or a member of the one or the other.
 #[derive(Clone, Copy)]
-pub struct Place {
+pub(crate) struct Place {
     pub section: Section,
     pub number: Option<u8>,
     pub row: Option<Row>,
@@ -12,7 +12,7 @@ pub struct Place {
 
 /// What may be wrong at a place.
 #[derive(Clone, Copy)]
-pub enum Test {
+pub(crate) enum Test {
     Shape,
     Kind,
     NoSuchName,

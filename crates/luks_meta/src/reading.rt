@@ -11,7 +11,7 @@ use arrayvec::ArrayVec;
 use serde_json::Value;
 
 /// The type is one of the list.
-pub fn is_listed(listed: Listed, text: &str) -> bool
+pub(crate) fn is_listed(listed: Listed, text: &str) -> bool
     ensures { result ≡ is_listed listed text.now }
 {
     match listed {
@@ -25,7 +25,7 @@ pub fn is_listed(listed: Listed, text: &str) -> bool
 }
 
 /// The text that the value is.
-pub fn text_in<'a>(value: Option<&'a Value>) -> Option<&'a str>
+pub(crate) fn text_in<'a>(value: Option<&'a Value>) -> Option<&'a str>
     ensures { option_map (λ s. s.now) result ≡ text_of (option_map (λ v. view v.now) value.entry) }
 {
     match value {
@@ -45,7 +45,7 @@ fn number(value: Option<&Value>) -> Option<u64>
 }
 
 /// The number from `least` to `most` that the value is.
-pub fn number_in(value: Option<&Value>, least: u64, most: u64) -> Option<u64>
+pub(crate) fn number_in(value: Option<&Value>, least: u64, most: u64) -> Option<u64>
     ensures { result ≡ number_in least most (option_map (λ v. view v.now) value.entry) }
 {
     match number(value) {
@@ -55,7 +55,7 @@ pub fn number_in(value: Option<&Value>, least: u64, most: u64) -> Option<u64>
 }
 
 /// The size of a sector that the value is.
-pub fn sector_size_in(value: Option<&Value>) -> Option<u64>
+pub(crate) fn sector_size_in(value: Option<&Value>) -> Option<u64>
     ensures { result ≡ option_and_then (kept is_sector_size)
         (number_of (option_map (λ v. view v.now) value.entry)) }
 {
@@ -66,7 +66,7 @@ pub fn sector_size_in(value: Option<&Value>) -> Option<u64>
 }
 
 /// The number whose decimal text the value is.
-pub fn decimal_in(value: Option<&Value>) -> Option<u64>
+pub(crate) fn decimal_in(value: Option<&Value>) -> Option<u64>
     ensures { result ≡ decimal_in (option_map (λ v. view v.now) value.entry) }
 {
     match text_in(value) {
@@ -76,7 +76,7 @@ pub fn decimal_in(value: Option<&Value>) -> Option<u64>
 }
 
 /// The `least` to `most` bytes whose base64 the value is.
-pub fn bytes_in(value: Option<&Value>, least: u64, most: u64) -> Option<ArrayVec<u8, 128>>
+pub(crate) fn bytes_in(value: Option<&Value>, least: u64, most: u64) -> Option<ArrayVec<u8, 128>>
     ensures { option_map (λ b. b.items) result
         ≡ bytes_in least most (option_map (λ v. view v.now) value.entry) }
 {
@@ -137,7 +137,7 @@ fn is_type(listed: Listed, value: Option<&Value>) -> bool
 }
 
 /// The value meets the rule.
-pub fn meets(rule: Rule, value: Option<&Value>) -> bool
+pub(crate) fn meets(rule: Rule, value: Option<&Value>) -> bool
     ensures { result ≡ is_some (reads rule (option_map (λ v. view v.now) value.entry)) }
 {
     match rule {
@@ -161,7 +161,7 @@ pub fn meets(rule: Rule, value: Option<&Value>) -> bool
 }
 
 /// The value is a text that the rule's list of types doesn't have.
-pub fn is_foreign(rule: Rule, value: Option<&Value>) -> bool
+pub(crate) fn is_foreign(rule: Rule, value: Option<&Value>) -> bool
     ensures { result ≡ is_foreign rule (option_map (λ v. view v.now) value.entry) }
 {
     match rule {

@@ -55,7 +55,7 @@ fn asks_nothing(value: &Value) -> bool
 }
 
 /// `config.requirements` is there, and is none of `null`, `[]`, `{}` and `{"mandatory":[]}`.
-pub fn has_requirements(value: &Value) -> bool
+pub(crate) fn has_requirements(value: &Value) -> bool
     ensures { result ≡ has_requirements (view value.now) }
 {
     match section_at(value, Section::Config) {

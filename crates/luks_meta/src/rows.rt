@@ -33,7 +33,7 @@ fn fault_of(test: Test, path: ArrayString<32>) -> MetaFault
 
 /// A value, and the length in bytes of the JSON area that it stands in.
 #[derive(Clone, Copy)]
-pub struct Content<'a> {
+pub(crate) struct Content<'a> {
     pub len: usize,
     pub value: &'a Value,
 }
@@ -89,7 +89,7 @@ fn judge_region(content: Content) -> Result<(), MetaFault>
 }
 
 /// The first fault of a value.
-pub fn judge(content: Content) -> Result<(), MetaFault>
+pub(crate) fn judge(content: Content) -> Result<(), MetaFault>
     ensures clean { OnOk result (IsFaultless content.entry.len (view content.entry.value.now)) }
     ensures none { OnOk result ((g : MetaFault) → IsDataFault content.entry.len (view content.entry.value.now) g → ⊥) }
     ensures least { IfErr result (λ f. IsLeast meta_key (IsDataFault content.entry.len (view content.entry.value.now)) f) }

@@ -40,7 +40,7 @@ fn keyslots_size(value: &Value) -> Option<u64>
 }
 
 /// `config.json_size` isn't the JSON area's length.
-pub fn has_sizes(len: usize, value: &Value) -> bool
+pub(crate) fn has_sizes(len: usize, value: &Value) -> bool
     ensures { result ≡ has_sizes len (view value.now) }
 {
     match json_size(value) {
@@ -139,7 +139,7 @@ fn has_segment_below(len: usize, value: &Value, number: u8) -> bool
 }
 
 /// The least keyslot whose area is too small.
-pub fn first_small_area(value: &Value) -> Option<u8>
+pub(crate) fn first_small_area(value: &Value) -> Option<u8>
     ensures { MatchOption result
         ((n : ℕ) → n < 32 → has_small_area (view value.now) n ≡ false)
         (λ n. IsFirst (has_small_area (view value.now)) n) }
@@ -153,7 +153,7 @@ pub fn first_small_area(value: &Value) -> Option<u8>
 }
 
 /// The least keyslot whose area isn't within the region.
-pub fn first_slot_outside(len: usize, value: &Value) -> Option<u8>
+pub(crate) fn first_slot_outside(len: usize, value: &Value) -> Option<u8>
     ensures { MatchOption result
         ((n : ℕ) → n < 32 → has_slot_outside len (view value.now) n ≡ false)
         (λ n. IsFirst (has_slot_outside len (view value.now)) n) }
@@ -167,7 +167,7 @@ pub fn first_slot_outside(len: usize, value: &Value) -> Option<u8>
 }
 
 /// The least segment that begins before the region's end.
-pub fn first_segment_below(len: usize, value: &Value) -> Option<u8>
+pub(crate) fn first_segment_below(len: usize, value: &Value) -> Option<u8>
     ensures { MatchOption result
         ((n : ℕ) → n < 32 → has_segment_below len (view value.now) n ≡ false)
         (λ n. IsFirst (has_segment_below len (view value.now)) n) }

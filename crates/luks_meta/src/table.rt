@@ -5,7 +5,7 @@ ghost use Rattle.luks_meta.specs.Table.{member_name, rows_of, section_name};
 
 /// The five members of the metadata that are read.
 #[derive(Clone, Copy)]
-pub enum Section {
+pub(crate) enum Section {
     Config,
     Digests,
     Keyslots,
@@ -15,7 +15,7 @@ pub enum Section {
 
 /// The object that a member stands in: the named object itself, or an object inside it.
 #[derive(Clone, Copy)]
-pub enum Outer {
+pub(crate) enum Outer {
     Top,
     Af,
     Area,
@@ -24,7 +24,7 @@ pub enum Outer {
 
 /// The names of members.
 #[derive(Clone, Copy)]
-pub enum Member {
+pub(crate) enum Member {
     Af,
     Area,
     Cpus,
@@ -52,7 +52,7 @@ pub enum Member {
 
 /// The objects whose types are listed.
 #[derive(Clone, Copy)]
-pub enum Listed {
+pub(crate) enum Listed {
     Keyslot,
     Splitter,
     KeyArea,
@@ -63,7 +63,7 @@ pub enum Listed {
 
 /// What a member's value has to be.
 #[derive(Clone, Copy)]
-pub enum Rule {
+pub(crate) enum Rule {
     Object,
     Text,
     /// A text, one of the listed types.
@@ -86,7 +86,7 @@ pub enum Rule {
 
 /// When a row is judged, by the type of the object that the member stands in.
 #[derive(Clone, Copy)]
-pub enum When {
+pub(crate) enum When {
     Always,
     Pbkdf2,
     Argon2,
@@ -95,7 +95,7 @@ pub enum When {
 
 /// One row: a member, its rule, and when it is judged.
 #[derive(Clone, Copy)]
-pub struct Row {
+pub(crate) struct Row {
     pub outer: Outer,
     pub name: Member,
     pub rule: Rule,
@@ -172,7 +172,7 @@ const TOKEN: [Row; 2] = [
 ];
 
 /// The rows of a section's objects.
-pub fn rows_of(section: Section) -> &'static [Row]
+pub(crate) fn rows_of(section: Section) -> &'static [Row]
     ensures { result.now ≡ rows_of section }
 {
     match section {
@@ -185,7 +185,7 @@ pub fn rows_of(section: Section) -> &'static [Row]
 }
 
 /// The name of a section.
-pub fn section_name(section: Section) -> &'static str
+pub(crate) fn section_name(section: Section) -> &'static str
     ensures name { result.now ≡ section_name section }
     ensures short { length result.now ≤ 8 }
 {
@@ -199,7 +199,7 @@ pub fn section_name(section: Section) -> &'static str
 }
 
 /// The name of a member.
-pub fn member_name(member: Member) -> &'static str
+pub(crate) fn member_name(member: Member) -> &'static str
     ensures name { result.now ≡ member_name member }
     ensures short { length result.now ≤ 13 }
 {

@@ -67,7 +67,7 @@ fn first_in(
 }
 
 /// The object of a section with the number as its name.
-pub fn object_at(value: &Value, section: Section, number: u8) -> Option<&Value>
+pub(crate) fn object_at(value: &Value, section: Section, number: u8) -> Option<&Value>
     requires { number < 32 }
     ensures { option_map (λ v. view v.now) result ≡ object_at (view value.now) section number }
 {
@@ -154,7 +154,7 @@ const SECTIONS: [Section; 5] = [
 ];
 
 /// The least place, by the bytes of its path, where the test finds a fault.
-pub fn first_fault(test: Test, value: &Value) -> Option<Place>
+pub(crate) fn first_fault(test: Test, value: &Value) -> Option<Place>
     ensures least { IfSome result (λ p. IsLeast place_path (IsFaulty test (view value.now)) p) }
     ensures none { IsNone result → (p : Place) → IsPlace p → has_fault test (view value.now) p ≡ false }
 {

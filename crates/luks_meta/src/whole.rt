@@ -8,7 +8,7 @@ use serde_json::{Map, Value};
 
 /// Whether a number anywhere in the value has a fraction or an exponent, is `-0`, or lies beyond 64 bits.
 #[cycle(floats)]
-pub fn holds_float(value: &Value) -> bool
+pub(crate) fn holds_float(value: &Value) -> bool
     ensures { result ≡ has_float (view value.now) }
 {
     match value {
