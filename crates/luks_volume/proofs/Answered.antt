@@ -1,15 +1,21 @@
 -- From what counts of a volume to the volume.
-use Rattle.std.proofs.Common.{◌≡◌, ℕ, List, length, refl, subst, sym, ◌∙◌, arith, Option, Some, None}
+use Rattle.std.proofs.Common.{◌≡◌, ℕ, ◌+◌, ◌-◌, List, length, refl, ap, subst, sym, ◌∙◌, arith, Option, Some, None}
 use Rattle.luks_area.specs.First.{NotAfter, IsLeast}
 use Rattle.luks_area.specs.Ranges.{part}
 use Rattle.luks_head.specs.declared.fault.HeadFault.{HeadFault}
 use Rattle.luks_head.specs.declared.fault.HeadFault.TheVariants as head
 use Rattle.luks_head.specs.Faults.{head_key}
-use Rattle.luks_head.specs.Selection.{Choice, luks1, nothing, Chosen, IsOfSelection, IsSelectFault, IsRefused}
+use Rattle.luks_head.specs.Selection.{Choice, luks1, luks2, nothing, Chosen, IsOfSelection, IsSelected, IsSelectFault, IsRefused}
+use Rattle.luks_head.specs.declared.bin2.Bin2.{Bin2}
+use Rattle.luks_head.specs.declared.selection.Copies.{Copies}
+use Rattle.luks_head.specs.declared.selection.Selected.TheVariants.{V2}
+use Rattle.luks_head.specs.Header2.{header_at, HoldsBin2}
 use Rattle.luks_volume.specs.declared.open_fault.OpenFault.{OpenFault}
 use Rattle.luks_volume.specs.declared.open_fault.OpenFault.TheVariants.{Head, Meta, NoSuchSlot, SlotFree, Outside, Slot, Device, Memory}
-use Rattle.luks_volume.specs.Answer.{open_key, head_step, Answer, IsRefusalAs, IsRefusedBy, refused, opened_to}
+use Rattle.luks_volume.specs.Answer.{open_key, head_step, Answer, IsLuks2Refusal, IsRefusalAs, Opens, IsRefusedBy, refused, opened_to}
+use Rattle.luks_volume.specs.Checked.{json_at}
 use Rattle.luks_volume.specs.Entered.{Luks1Opens, Luks1Refused}
+use Rattle.luks_volume.specs.Entered2.{Luks2Opens, Luks2Refused, json_of}
 use Rattle.luks_volume.specs.Planned.{outer_fault}
 use Rattle.luks_volume.proofs.Refusals1.{together}
 
@@ -36,6 +42,41 @@ pub luks1_opens : (v : List ℕ) (n : ℕ) (p : List ℕ) (found : Option (List 
     → Luks1Opens (part v 0 592) v n p found → Answer v n p (opened_to found)
 luks1_opens v n p (Some k) chosen x = record { choice = luks1; chosen = chosen; plan = x.plan; is = x.is; unrefused = x.unrefused; key = x.key }
 luks1_opens v n p None chosen x = record { choice = luks1; chosen = chosen; plan = x.plan; is = x.is; unrefused = x.unrefused; key = x.key }
+
+-- ---- the LUKS2 copy that counts
+
+same_json : (v : List ℕ) (h : Bin2) → HoldsBin2 (header_at v h.hdr_offset) h → json_of v h ≡ json_at v h.hdr_offset
+same_json v h holds = ap (λ size. part v (h.hdr_offset + 4096) (size - 4096)) (sym holds.hdr_size)
+
+copy_refused : (v : List ℕ) (n : ℕ) (p : List ℕ) (h : Bin2) (copies : Copies) (f : OpenFault) → IsSelected v (V2 h copies)
+    → ((d : Choice) → Chosen v d → luks2 h.hdr_offset copies ≡ d)
+    → IsLeast open_key (IsLuks2Refusal (header_at v h.hdr_offset) (json_of v h) (length v) n) f → Answer v n p (refused f)
+copy_refused v n p h copies f is only least =
+    refused_as v n p (luks2 h.hdr_offset copies) f is.0 only
+    (subst (λ json. IsLeast open_key (IsLuks2Refusal (header_at v h.hdr_offset) json (length v) n) f) (same_json v h is.1) least)
+
+pub luks2_refused : (v : List ℕ) (n : ℕ) (p : List ℕ) (h : Bin2) (copies : Copies) (f : OpenFault) → IsSelected v (V2 h copies)
+    → ((d : Choice) → Chosen v d → luks2 h.hdr_offset copies ≡ d)
+    → Luks2Refused (header_at v h.hdr_offset) (json_of v h) (length v) n f → IsRefusedBy v n p f
+luks2_refused v n p h copies (Head f) is only x = copy_refused v n p h copies (Head f) is only x
+luks2_refused v n p h copies (Meta f) is only x = copy_refused v n p h copies (Meta f) is only x
+luks2_refused v n p h copies NoSuchSlot is only x = copy_refused v n p h copies NoSuchSlot is only x
+luks2_refused v n p h copies SlotFree is only x = copy_refused v n p h copies SlotFree is only x
+luks2_refused v n p h copies Outside is only x = copy_refused v n p h copies Outside is only x
+luks2_refused v n p h copies (Slot f) is only x = copy_refused v n p h copies (Slot f) is only x
+luks2_refused v n p h copies Device is only x = x
+luks2_refused v n p h copies Memory is only x = x
+
+copy_opens : (v : List ℕ) (n : ℕ) (p : List ℕ) (h : Bin2) (copies : Copies) (found : Option (List ℕ)) → IsSelected v (V2 h copies)
+    → Luks2Opens (header_at v h.hdr_offset) (json_of v h) v n p found → Opens v n p found
+copy_opens v n p h copies found is y =
+    let x = subst (λ json. Luks2Opens (header_at v h.hdr_offset) json v n p found) (same_json v h is.1) y in
+    record { choice = luks2 h.hdr_offset copies; chosen = is.0; plan = x.plan; is = x.is; unrefused = x.unrefused; key = x.key }
+
+pub luks2_opens : (v : List ℕ) (n : ℕ) (p : List ℕ) (h : Bin2) (copies : Copies) (found : Option (List ℕ)) → IsSelected v (V2 h copies)
+    → Luks2Opens (header_at v h.hdr_offset) (json_of v h) v n p found → Answer v n p (opened_to found)
+luks2_opens v n p h copies (Some k) is x = copy_opens v n p h copies (Some k) is x
+luks2_opens v n p h copies None is x = copy_opens v n p h copies None is x
 
 -- ---- a selection's faults
 

@@ -11,3 +11,7 @@ pub mod Alike
 pub mod PlanFields1
 pub mod Refusals1
 pub mod Answered
+pub mod PlanFields2
+pub mod Refusals2
+pub mod Numbers2
+pub mod Copies2

@@ -20,7 +20,7 @@ use Rattle.luks_slot.specs.Opening.{slot_key}
 use Rattle.luks_slot.specs.Refusal.{slot_refusal}
 use Rattle.luks_volume.specs.declared.open_fault.OpenFault.{OpenFault}
 use Rattle.luks_volume.specs.declared.open_fault.OpenFault.TheVariants.{Head, Meta, NoSuchSlot, SlotFree, Outside, Slot, Device, Memory}
-use Rattle.luks_volume.specs.JsonArea.{json_area_at}
+use Rattle.luks_volume.specs.Checked.{json_at}
 use Rattle.luks_volume.specs.Plans.{HasLuks1Plan, HasLuks2Plan}
 
 -- ---- the order of the refusals
@@ -117,12 +117,12 @@ IsSelectRefusal v Memory = ⊥
 -- by what counts of the volume `v`: the refusals of the keyslot `n`, and its plan
 abbrev pub IsRefusalAs : List ℕ → ℕ → Choice → OpenFault → Type 0
 IsRefusalAs v n luks1 f = IsLuks1Refusal (part v 0 592) (length v) n f
-IsRefusalAs v n (luks2 o copies) f = IsLuks2Refusal (header_at v o) (json_area_at v o) (length v) n f
+IsRefusalAs v n (luks2 o copies) f = IsLuks2Refusal (header_at v o) (json_at v o) (length v) n f
 IsRefusalAs v n nothing f = IsSelectRefusal v f
 
 abbrev pub HasPlanAs : List ℕ → ℕ → Choice → SlotPlan → Type 0
 HasPlanAs v n luks1 plan = HasLuks1Plan (part v 0 592) n plan
-HasPlanAs v n (luks2 o copies) plan = HasLuks2Plan (json_area_at v o) n plan
+HasPlanAs v n (luks2 o copies) plan = HasLuks2Plan (json_at v o) n plan
 HasPlanAs v n nothing plan = ⊥
 
 -- the set of the refusals of the keyslot `n` of the volume `v`

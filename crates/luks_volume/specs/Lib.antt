@@ -5,7 +5,7 @@ pub mod Listing
 pub mod Reported
 pub mod Answer
 pub mod Entered
-pub mod JsonArea
+pub mod Entered2
 pub mod Planned
 pub mod Plans
 pub mod Lawful

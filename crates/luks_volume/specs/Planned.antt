@@ -52,3 +52,14 @@ abbrev pub outer_fault : HeadFault → OpenFault
 outer_fault head.Device = Device
 outer_fault head.Memory = Memory
 outer_fault f = Head f
+
+-- the fault isn't the volume's own: the device failed, or memory was refused
+abbrev pub IsOfDevice : OpenFault → Type 0
+IsOfDevice (Head f) = ⊥
+IsOfDevice (Meta f) = ⊥
+IsOfDevice NoSuchSlot = ⊥
+IsOfDevice SlotFree = ⊥
+IsOfDevice Outside = ⊥
+IsOfDevice (Slot f) = ⊥
+IsOfDevice Device = ⊤
+IsOfDevice Memory = ⊤

@@ -2,14 +2,12 @@
 -- On-Disk Format 1.1, 3.2 and 3.4).
 use Rattle.std.specs.Prelude.{◌≡◌, ℕ, ◌*◌, ◌<◌, List, codes, true, Some}
 use Rattle.serde_json.specs.Data.{Data}
-use Rattle.serde_json.specs.Find.{get}
 use Rattle.luks_area.specs.Ranges.{part}
 use Rattle.luks_head.specs.Bytes.{number_at, text_at}
 use Rattle.luks_head.specs.Header1.{entry, entry_iterations, entry_stripes}
-use Rattle.luks_meta.specs.Arrays.{names}
 use Rattle.luks_meta.specs.Faults.{object_at, suits, type_at}
 use Rattle.luks_meta.specs.MetaFault.{Json}
-use Rattle.luks_meta.specs.Number.{number_text}
+use Rattle.luks_meta.specs.Naming.{IsDigestOf}
 use Rattle.luks_meta.specs.Reading.{number_in, decimal_in, bytes_in, text_of}
 use Rattle.luks_meta.specs.Says.{member_at, small_at}
 use Rattle.luks_meta.specs.declared.table.Member.TheVariants as name
@@ -70,17 +68,12 @@ abbrev pub IsLuks2Cipher : Data → AreaCipher → Type 0
 IsLuks2Cipher d (Apart name mode) = ⊥
 IsLuks2Cipher d (Whole text) = text_of (member_at d outer.Area name.Encryption) ≡ Some text.now
 
--- the digest `o` names the keyslot `n`
-abbrev pub NamesKeyslot : Data → ℕ → Type 0
-NamesKeyslot o n = names (number_text n) (get (codes "keyslots") o) ≡ true
-
 -- what the digest that names the keyslot `n` says
 pub record IsLuks2Digest (j : Data) (n : ℕ) (digest : DigestPlan) : Type 0 where
   pub number : ℕ
-  pub numbered : number < 32
+  pub names : IsDigestOf j n number
   pub object : Data
   pub there : object_at j Digests number ≡ Some object
-  pub naming : NamesKeyslot object n
   pub hash : text_of (member_at object outer.Top name.Hash) ≡ Some digest.hash.now
   pub iterations : small_at object outer.Top name.Iterations ≡ Some digest.iterations
   pub salt : bytes_in 1 128 (member_at object outer.Top name.Salt) ≡ Some digest.salt.now

@@ -7,6 +7,7 @@ mod judging;
 mod laws;
 mod layout;
 mod luks1_entry;
+mod luks2_copy;
 mod open_fault;
 mod opening;
 mod plan;

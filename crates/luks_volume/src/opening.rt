@@ -1,15 +1,22 @@
 //! Opening one keyslot of a volume.
 ghost use Rattle.std.specs.Prelude.{◌≡◌, ◌+◌, ◌^◌, ◌<◌, ◌≤◌, ℕ, List, length, IfOk, IfErr, MatchResult};
 ghost use Rattle.luks_area.specs.Ranges.{part};
+ghost use Rattle.luks_head.specs.Header2.{HoldsBin2, uuid_field};
+ghost use Rattle.luks_head.specs.Judged2.{IsCopyWithin};
+ghost use Rattle.luks_meta.specs.Content.{content};
+ghost use Rattle.luks_meta.specs.Objects.{IsAccepted};
 ghost use Rattle.luks_volume.specs.Answer.{Answer, IsRefusedBy, opened_to};
 ghost use Rattle.luks_volume.specs.Entered.{Luks1Opens, Luks1Refused};
+ghost use Rattle.luks_volume.specs.Entered2.{IsCleared, Luks2Opens, Luks2Refused, json_of};
 ghost use Rattle.luks_volume.specs.Planned.{Counts, IsJudged, PlanOpens, PlanRefused, outer_fault};
 
 use crate::luks1_entry::{luks1_common, luks1_entry};
+use crate::luks2_copy::luks2_meta;
 use crate::open_fault::OpenFault;
-use crate::plan::luks1_plan;
+use crate::plan::{luks1_plan, luks2_plan};
 use luks_area::Device;
-use luks_head::{HeadFault, Selected, one_choice, select};
+use luks_head::{Bin2, HeadFault, Selected, one_choice, select};
+use luks_meta::{Meta, one_value};
 use luks_slot::{Key, SlotFault, SlotPlan, open};
 use std::alloc::Global;
 
@@ -41,7 +48,12 @@ pub fn open_slot<D: Device>(
             Ok(found) => Ok(found),
             Err(fault) => Err(fault),
         },
-        Ok(Selected::V2 { .. }) => Err(OpenFault::Memory),
+        Ok(Selected::V2 { header, .. }) => {
+            match open_luks2(alloc, device, &header, n, passphrase) {
+                Ok(found) => Ok(found),
+                Err(fault) => Err(fault),
+            }
+        }
         Err(fault) => Err(outer_fault(fault)),
     }
 }
@@ -83,6 +95,68 @@ pub fn open_luks1<D: Device>(
         Err(fault) => return Err(fault),
     };
     let plan = luks1_plan(&common, &slot);
+    match open_planned(alloc, device, &plan, passphrase) {
+        Ok(found) => Ok(found),
+        Err(fault) => Err(fault),
+    }
+}
+
+/// What opening the keyslot `n` of a volume with this binary header of the LUKS2 copy that counts gives.
+fn open_luks2<D: Device>(
+    alloc: Global,
+    device: &mut D,
+    header: &Bin2,
+    n: u8,
+    passphrase: &[u8],
+) -> Result<Option<Key>, OpenFault>
+    requires room { D.failed device.old + 1 < 2 ^ 64 }
+    requires within { IsCopyWithin (D.size device.old) header.now }
+    ensures size { D.size device.new ≡ D.size device.old }
+    ensures same { D.tells → D.bytes device.new ≡ D.bytes device.old }
+    ensures count { MatchResult result (λ _. D.failed device.new ≡ D.failed device.old) (λ f. Counts f (D.failed device.old) (D.failed device.new)) }
+    ensures opens { D.tells → (b : List ℕ) → HoldsBin2 b header.now
+        → IfOk result (Luks2Opens b (json_of (D.bytes device.old) header.now) (D.bytes device.old) n passphrase.now) }
+    ensures refused { D.tells → (b : List ℕ) → HoldsBin2 b header.now
+        → IfErr result (Luks2Refused b (json_of (D.bytes device.old) header.now) (D.size device.old) n) }
+{
+    let meta = match luks2_meta(alloc, device, header) {
+        Ok(meta) => meta,
+        Err(fault) => return Err(fault),
+    };
+    match open_keyslot(alloc, device, &meta, n, passphrase) {
+        Ok(found) => Ok(found),
+        Err(fault) => Err(fault),
+    }
+}
+
+/// What opening the keyslot `n` of a volume with this metadata gives.
+pub fn open_keyslot<D: Device>(
+    alloc: Global,
+    device: &mut D,
+    meta: &Meta,
+    n: u8,
+    passphrase: &[u8],
+) -> Result<Option<Key>, OpenFault>
+    requires room { D.failed device.old + 1 < 2 ^ 64 }
+    requires accepted { IsAccepted (content meta.now) }
+    ensures size { D.size device.new ≡ D.size device.old }
+    ensures same { D.tells → D.bytes device.new ≡ D.bytes device.old }
+    ensures count { MatchResult result (λ _. D.failed device.new ≡ D.failed device.old) (λ f. Counts f (D.failed device.old) (D.failed device.new)) }
+    ensures opens { D.tells → (b json : List ℕ) → IsCleared (uuid_field b) json (content meta.now)
+        → IfOk result (Luks2Opens b json (D.bytes device.old) n passphrase.now) }
+    ensures refused { (b json : List ℕ) → IsCleared (uuid_field b) json (content meta.now)
+        → IfErr result (Luks2Refused b json (D.size device.old) n) }
+{
+    one_value();
+    if n > 31 {
+        return Err(OpenFault::NoSuchSlot);
+    }
+    let Some(keyslot) = meta.keyslot(n) else {
+        return Err(OpenFault::NoSuchSlot);
+    };
+    let number = meta.digest_of_keyslot(n).unwrap();
+    let digest = meta.digest(number).unwrap();
+    let plan = luks2_plan(&keyslot, &digest);
     match open_planned(alloc, device, &plan, passphrase) {
         Ok(found) => Ok(found),
         Err(fault) => Err(fault),

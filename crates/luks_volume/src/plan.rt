@@ -1,13 +1,19 @@
 //! What it takes to open a keyslot, as the headers say it.
-ghost use Rattle.std.specs.Prelude.{◌≡◌, ◌≤◌, ◌*◌, ℕ, List};
+ghost use Rattle.std.specs.Prelude.{◌≡◌, ◌*◌, ℕ, List, Some};
+ghost use Rattle.serde_json.specs.Data.{Data};
 ghost use Rattle.luks_head.specs.Header1.{active_word, enabled_word, IsCommon, IsEntry};
+ghost use Rattle.luks_meta.specs.declared.table.Section.TheVariants.{Digests};
+ghost use Rattle.luks_meta.specs.Faults.{object_at};
+ghost use Rattle.luks_meta.specs.Naming.{IsDigestOf};
+ghost use Rattle.luks_meta.specs.Says.{TellsDigest, TellsKeyslot};
 ghost use Rattle.luks_volume.specs.Layout1.{sectors_of};
 ghost use Rattle.luks_volume.specs.Planned.{IsJudged};
-ghost use Rattle.luks_volume.specs.Plans.{IsLuks1Plan};
+ghost use Rattle.luks_volume.specs.Plans.{IsLuks1Plan, IsLuks2Plan, IsLuks2Derivation};
 
 use crate::layout::SECTOR;
 use luks_area::Area;
 use luks_head::{Luks1Common, Luks1Slot};
+use luks_meta::{Cost, Digest, Keyslot};
 use luks_slot::{AreaCipher, Derivation, DigestPlan, SlotPlan};
 
 /// The plan of an enabled keyslot of a LUKS1 header.
@@ -49,5 +55,42 @@ fn luks1_area(key_bytes: u32, slot: &Luks1Slot) -> Area
     Area {
         start: u64::from(slot.key_material_offset) * SECTOR,
         len: (material + (SECTOR - 1)) / SECTOR * SECTOR,
+    }
+}
+
+/// The plan of a keyslot of LUKS2 with the digest that names it.
+pub fn luks2_plan<'a>(keyslot: &'a Keyslot<'a>, digest: &'a Digest<'a>) -> SlotPlan<'a>
+    ensures { (j : Data) (n m : ℕ) (d o : Data) → TellsKeyslot d keyslot.now → IsDigestOf j n m → object_at j Digests m ≡ Some o → TellsDigest o digest.now → IsLuks2Plan j n d result }
+{
+    SlotPlan {
+        derivation: luks2_derivation(keyslot),
+        cipher: AreaCipher::Whole(keyslot.area.encryption),
+        area: Area {
+            start: keyslot.area.offset,
+            len: keyslot.area.size,
+        },
+        area_key_bytes: usize::from(keyslot.area.key_size),
+        key_bytes: usize::from(keyslot.key_size),
+        stripes: keyslot.af.stripes,
+        splitter_hash: keyslot.af.hash,
+        digest: DigestPlan {
+            hash: digest.hash,
+            iterations: digest.iterations,
+            salt: digest.salt.as_slice(),
+            stored: digest.digest.as_slice(),
+        },
+    }
+}
+
+fn luks2_derivation<'a>(keyslot: &'a Keyslot<'a>) -> Derivation<'a>
+    ensures { (d : Data) → TellsKeyslot d keyslot.now → IsLuks2Derivation d result }
+{
+    match keyslot.kdf.cost {
+        Cost::Pbkdf2(pbkdf2) => Derivation::Pbkdf2 {
+            hash: pbkdf2.hash,
+            iterations: pbkdf2.iterations,
+            salt: keyslot.kdf.salt.as_slice(),
+        },
+        Cost::Argon2i(_) | Cost::Argon2id(_) => Derivation::Argon2,
     }
 }

@@ -1,8 +1,10 @@
 -- What the header that counts gives is what the volume gives.
 use Rattle.std.proofs.Common.{◌≡◌, ℕ, List, length, subst, sym, ◌∙◌}
+use Rattle.luks_head.specs.Header2.{header_at}
+use Rattle.luks_volume.specs.Entered2.{Luks2Opens, Luks2Refused, json_of}
 use Rattle.luks_volume.specs.Entered.{Luks1Refused}
-use Rattle.luks_head.specs.Selection.{luks1}
-use Rattle.luks_volume.proofs.Answered.{luks1_opens, luks1_refused, outer_refused}
+use Rattle.luks_head.specs.Selection.{luks1, luks2}
+use Rattle.luks_volume.proofs.Answered.{luks1_opens, luks1_refused, luks2_opens, luks2_refused, outer_refused}
 use Rattle.luks_volume.proofs.opening.open_slot.Goals as goal
 
 pub returns-in-Ok-clause-opens : goal.returns-in-Ok-clause-opens
@@ -30,3 +32,27 @@ returns-in-Err-clause-refused g c = λ tells.
     let v = g.D.Device.bytes c.args.device.now in
     rw c.outer_fault.ensures
     (outer_refused v c.args.n c.args.passphrase.now c.in-Err.fault (c.one_choice.ensures.only v) c.in-Err.ensures.kinds (c.in-Err.ensures.refused tells))
+
+pub returns-in-Ok-open_luks2-clause-opens : goal.returns-in-Ok-open_luks2-clause-opens
+returns-in-Ok-open_luks2-clause-opens g c = λ tells.
+    let v = g.D.Device.bytes c.args.device.now in
+    let selected = rw c.in-Ok-V2.field-0-is at (c.in-Ok-V2.ensures.found tells) in
+    let same = c.select.ensures.same tells in
+    let h = c.in-Ok-V2.header in
+    let all = c.in-Ok-open_luks2.ensures.opens tells (header_at v h.hdr_offset) selected.1 in
+    let here = rw same at all in
+    luks2_opens v c.args.n c.args.passphrase.now h c.in-Ok-V2.field-0-1 c.in-Ok-open_luks2.found selected here
+
+pub returns-in-Err-open_luks2-clause-refused : goal.returns-in-Err-open_luks2-clause-refused
+returns-in-Err-open_luks2-clause-refused g c = λ tells.
+    let v = g.D.Device.bytes c.args.device.now in
+    let selected = rw c.in-Ok-V2.field-0-is at (c.in-Ok-V2.ensures.found tells) in
+    let same = c.select.ensures.same tells in
+    let size = c.select.ensures.size in
+    let long : g.D.Device.size c.select.new.device ≡ length v = size ∙ sym (g.met.D.Device.sized c.args.device.now tells) in
+    let h = c.in-Ok-V2.header in
+    let all = c.in-Err-open_luks2.ensures.refused tells (header_at v h.hdr_offset) selected.1 in
+    let here = subst (λ (w : List ℕ). Luks2Refused (header_at v h.hdr_offset) (json_of w h) (g.D.Device.size c.select.new.device) c.args.n c.in-Err-open_luks2.fault) same all in
+    let whole = subst (λ (m : ℕ). Luks2Refused (header_at v h.hdr_offset) (json_of v h) m c.args.n c.in-Err-open_luks2.fault) long here in
+    luks2_refused v c.args.n c.args.passphrase.now h c.in-Ok-V2.field-0-1 c.in-Err-open_luks2.fault selected
+    (λ d. c.one_choice.ensures.only v (luks2 h.hdr_offset c.in-Ok-V2.field-0-1) d selected.0) whole
