@@ -1,7 +1,8 @@
-//! Devices whose calls fail.
+//! Devices whose calls fail, and refused memory.
 
 use crate::tests::volumes::{ZEROS_FIELDS, luks2, sample};
 use crate::{CheckFault, Data, Device, DeviceFault, MemDevice, check};
+use std::alloc::{AllocError, Global};
 use std::test::Fail;
 
 // A device whose read of a number, counted from 0, fails.
@@ -83,5 +84,59 @@ fn tells_a_failed_read(rt: HostRuntime) -> Result<(), Fail> {
             }
         }
     }
+    Ok(())
+}
+
+// Takes what memory there is into `held`, in blocks from 2^46 bytes down to 256.
+fn take_all(alloc: Global, held: &mut Vec<Vec<u8>>) {
+    let mut size = 1usize << 46;
+    for _ in 0..39 {
+        for _ in 0..1 << 17 {
+            match Vec::with_capacity(alloc, size) {
+                Ok(block) => {
+                    if held.push(block).is_err() {
+                        return;
+                    }
+                }
+                Err(_) => break,
+            }
+        }
+        size /= 2;
+    }
+}
+
+// With all memory taken, and given back in blocks of 256 bytes, `check` is refused memory at one
+// place after another, at first for the 12288 bytes of metadata. Nothing else is answered until it
+// accepts. The allocator of `rt try` can't be exhausted so.
+#[test]
+fn tells_refused_memory(rt: HostRuntime) -> Result<(), Fail> {
+    let alloc = rt.alloc();
+    let mut device = MemDevice::new(luks2(alloc, 290816, ZEROS_FIELDS)?);
+    let mut held = Vec::with_capacity(alloc, 1 << 20)?;
+    let mut blocks: Vec<Vec<u8>> = Vec::with_capacity(alloc, 1024)?;
+    for _ in 0..1024 {
+        blocks.push(Vec::with_capacity(alloc, 256)?)?;
+    }
+    take_all(alloc, &mut held);
+    let mut accepted = false;
+    let mut other = false;
+    for _ in 0..1024 {
+        match check(alloc, &mut device, Data::Elsewhere) {
+            Ok(_) => {
+                accepted = true;
+                break;
+            }
+            Err(CheckFault::Memory) => {}
+            Err(_) => {
+                other = true;
+                break;
+            }
+        }
+        let _ = blocks.pop();
+    }
+    let left = blocks.len();
+    drop(held);
+    assert_eq!(rt; (accepted, other), (true, false));
+    assert_eq!(rt; left < 1024 - 48, true, "{left} blocks left");
     Ok(())
 }
