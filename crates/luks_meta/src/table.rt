@@ -5,7 +5,7 @@ ghost use Rattle.luks_meta.specs.Table.{member_name, rows_of, section_name};
 
 /// The five members of the metadata that are read.
 #[derive(Clone, Copy)]
-pub(crate) enum Section {
+pub enum Section {
     Config,
     Digests,
     Keyslots,
@@ -15,7 +15,7 @@ pub(crate) enum Section {
 
 /// The object that a member stands in: the named object itself, or an object inside it.
 #[derive(Clone, Copy)]
-pub(crate) enum Outer {
+pub enum Outer {
     Top,
     Af,
     Area,
@@ -24,7 +24,7 @@ pub(crate) enum Outer {
 
 /// The names of members.
 #[derive(Clone, Copy)]
-pub(crate) enum Member {
+pub enum Member {
     Af,
     Area,
     Cpus,
@@ -52,7 +52,7 @@ pub(crate) enum Member {
 
 /// The objects whose types are listed.
 #[derive(Clone, Copy)]
-pub(crate) enum Listed {
+pub enum Listed {
     Keyslot,
     Splitter,
     KeyArea,
@@ -63,7 +63,7 @@ pub(crate) enum Listed {
 
 /// What a member's value has to be.
 #[derive(Clone, Copy)]
-pub(crate) enum Rule {
+pub enum Rule {
     Object,
     Text,
     /// A text, one of the listed types.
@@ -86,7 +86,7 @@ pub(crate) enum Rule {
 
 /// When a row is judged, by the type of the object that the member stands in.
 #[derive(Clone, Copy)]
-pub(crate) enum When {
+pub enum When {
     Always,
     Pbkdf2,
     Argon2,
@@ -95,7 +95,7 @@ pub(crate) enum When {
 
 /// One row: a member, its rule, and when it is judged.
 #[derive(Clone, Copy)]
-pub(crate) struct Row {
+pub struct Row {
     pub outer: Outer,
     pub name: Member,
     pub rule: Rule,
