@@ -1,5 +1,6 @@
 -- Two plans that say the same are refused alike and open alike.
 use Rattle.std.proofs.Common.{◌≡◌, ℕ, List, ap, ◌∙◌}
+use Rattle.luks_area.specs.Ranges.{part}
 use Rattle.luks_slot.specs.declared.plan.SlotPlan.{SlotPlan}
 use Rattle.luks_slot.specs.Opening.{slot_key, candidate, stripes_in, area_key, area_key_by, meets_digest}
 use Rattle.luks_slot.specs.Refusal.{slot_refusal, is_argon2, is_known_derivation, is_open_cipher}
@@ -50,3 +51,11 @@ same_key a b area p s =
     let candidates = same_candidate a b area p s in
     let digests = same_digest a b (candidate b area p) s in
     simp (candidates, digests)
+
+-- so they give the same in a volume
+pub same_answer : (a b : SlotPlan) (v p : List ℕ) → SameFields a b
+    → slot_key a (part v a.area.start a.area.len) p ≡ slot_key b (part v b.area.start b.area.len) p
+same_answer a b v p s =
+    same_key a b (part v a.area.start a.area.len) p s
+    ∙ ap (λ at. slot_key b (part v at a.area.len) p) s.start
+    ∙ ap (λ size. slot_key b (part v b.area.start size) p) s.len

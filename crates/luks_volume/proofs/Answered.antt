@@ -45,7 +45,7 @@ luks1_opens v n p None chosen x = record { choice = luks1; chosen = chosen; plan
 
 -- ---- the LUKS2 copy that counts
 
-same_json : (v : List ℕ) (h : Bin2) → HoldsBin2 (header_at v h.hdr_offset) h → json_of v h ≡ json_at v h.hdr_offset
+pub same_json : (v : List ℕ) (h : Bin2) → HoldsBin2 (header_at v h.hdr_offset) h → json_of v h ≡ json_at v h.hdr_offset
 same_json v h holds = ap (λ size. part v (h.hdr_offset + 4096) (size - 4096)) (sym holds.hdr_size)
 
 copy_refused : (v : List ℕ) (n : ℕ) (p : List ℕ) (h : Bin2) (copies : Copies) (f : OpenFault) → IsSelected v (V2 h copies)
@@ -80,7 +80,7 @@ luks2_opens v n p h copies None is x = copy_opens v n p h copies None is x
 
 -- ---- a selection's faults
 
-step_one : (v : List ℕ) (f : HeadFault) → IsSelectFault v f → head_step f ≡ 1
+pub step_one : (v : List ℕ) (f : HeadFault) → IsSelectFault v f → head_step f ≡ 1
 step_one v head.TooShort x = refl
 step_one v head.NotLuks x = refl
 step_one v head.Version x = refl
@@ -95,7 +95,7 @@ step_one v head.Device x = absurd x
 step_one v head.Memory x = absurd x
 
 -- where a selection has a fault, nothing counts
-nothing_counts : (v : List ℕ) (f : HeadFault) → IsSelectFault v f → Chosen v nothing
+pub nothing_counts : (v : List ℕ) (f : HeadFault) → IsSelectFault v f → Chosen v nothing
 nothing_counts v head.TooShort x = (λ is. let long = is.long in omega (arith, long, x), λ long. absurd (omega (arith, long, x)))
 nothing_counts v head.NotLuks x = x.0
 nothing_counts v head.Version x = x.0

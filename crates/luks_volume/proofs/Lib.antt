@@ -15,3 +15,6 @@ pub mod PlanFields2
 pub mod Refusals2
 pub mod Numbers2
 pub mod Copies2
+pub mod Orders
+pub mod Shut
+pub mod Unlocked

@@ -17,7 +17,7 @@ use Rattle.luks_volume.specs.Answer.{open_key, head_step, slot_row, IsLuks1HeadR
 use Rattle.luks_volume.specs.Entered.{IsEnabled, EntryRefused, Luks1Refused, Luks1Opens}
 use Rattle.luks_volume.specs.Planned.{PlanOpens, PlanRefused}
 use Rattle.luks_volume.specs.Plans.{HasLuks1Plan}
-use Rattle.luks_volume.proofs.Alike.{same_refusal}
+use Rattle.luks_volume.proofs.Alike.{same_answer, same_refusal}
 use Rattle.luks_volume.proofs.PlanFields1.{one_luks1_plan}
 
 -- a step before another
@@ -52,7 +52,7 @@ which h n (head.Iterations of.Digest) x = inl (record { fault = x; step = refl }
 which h n head.Device x = inl (record { fault = x; step = refl })
 which h n head.Memory x = inl (record { fault = x; step = refl })
 
-common_refuses : (h : List ℕ) (n : ℕ) (f : HeadFault) → IsCommonFault h f → IsLuks1HeadRefusal h n f × (head_step f ≡ 1)
+pub common_refuses : (h : List ℕ) (n : ℕ) (f : HeadFault) → IsCommonFault h f → IsLuks1HeadRefusal h n f × (head_step f ≡ 1)
 common_refuses h n head.TooShort x = (x, refl)
 common_refuses h n head.NotLuks x = (x, refl)
 common_refuses h n head.Version x = (x, refl)
@@ -235,3 +235,8 @@ plan_opens h v n s plan p found clear on is x = record { plan = plan; is = is; u
         absurd (cc)
     unrefused Device y = y
     unrefused Memory y = y
+
+-- the keyslot gives nothing else
+pub plan_only : (h v : List ℕ) (n : ℕ) (plan : SlotPlan) (p : List ℕ) (found other : Option (List ℕ)) → HasLuks1Plan h n plan → PlanOpens plan v p found
+    → Luks1Opens h v n p other → other ≡ found
+plan_only h v n plan p found other is x y = sym y.key ∙ same_answer y.plan plan v p (one_luks1_plan h n y.plan plan y.is is) ∙ sym x.is

@@ -9,3 +9,5 @@ pub mod Entered2
 pub mod Planned
 pub mod Plans
 pub mod Lawful
+pub mod Tried
+pub mod Unlocking

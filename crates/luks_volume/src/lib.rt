@@ -14,6 +14,7 @@ mod plan;
 mod report;
 #[cfg(test)]
 mod tests;
+mod unlocking;
 
 pub use checking::check;
 pub use fault::CheckFault;
@@ -29,3 +30,4 @@ pub use luks_slot::Key;
 pub use open_fault::OpenFault;
 pub use opening::open_slot;
 pub use report::{Data, Report, Version};
+pub use unlocking::unlock;

@@ -1,5 +1,5 @@
 //! Opening one keyslot of a volume.
-ghost use Rattle.std.specs.Prelude.{◌≡◌, ◌+◌, ◌^◌, ◌<◌, ◌≤◌, ℕ, List, length, IfOk, IfErr, MatchResult};
+ghost use Rattle.std.specs.Prelude.{◌≡◌, ◌+◌, ◌^◌, ◌<◌, ◌≤◌, ℕ, List, length, IfOk, IfErr, MatchResult, Option};
 ghost use Rattle.luks_area.specs.Ranges.{part};
 ghost use Rattle.luks_head.specs.Header2.{HoldsBin2, uuid_field};
 ghost use Rattle.luks_head.specs.Judged2.{IsCopyWithin};
@@ -84,6 +84,7 @@ pub fn open_luks1<D: Device>(
     ensures same { D.tells → D.bytes device.new ≡ D.bytes device.old }
     ensures count { MatchResult result (λ _. D.failed device.new ≡ D.failed device.old) (λ f. Counts f (D.failed device.old) (D.failed device.new)) }
     ensures opens { D.tells → IfOk result (Luks1Opens header.now (D.bytes device.old) n passphrase.now) }
+    ensures only { D.tells → IfOk result (λ found. (other : Option (List ℕ)) → Luks1Opens header.now (D.bytes device.old) n passphrase.now other → other ≡ found) }
     ensures refused { IfErr result (Luks1Refused header.now (D.size device.old) n) }
 {
     let common = match luks1_common(header) {
@@ -144,6 +145,8 @@ pub fn open_keyslot<D: Device>(
     ensures count { MatchResult result (λ _. D.failed device.new ≡ D.failed device.old) (λ f. Counts f (D.failed device.old) (D.failed device.new)) }
     ensures opens { D.tells → (b json : List ℕ) → IsCleared (uuid_field b) json (content meta.now)
         → IfOk result (Luks2Opens b json (D.bytes device.old) n passphrase.now) }
+    ensures only { D.tells → (b json : List ℕ) → IsCleared (uuid_field b) json (content meta.now)
+        → IfOk result (λ found. (other : Option (List ℕ)) → Luks2Opens b json (D.bytes device.old) n passphrase.now other → other ≡ found) }
     ensures refused { (b json : List ℕ) → IsCleared (uuid_field b) json (content meta.now)
         → IfErr result (Luks2Refused b json (D.size device.old) n) }
 {

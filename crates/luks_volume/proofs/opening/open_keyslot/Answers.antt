@@ -7,7 +7,7 @@ use Rattle.luks_volume.specs.Entered2.{IsCleared}
 use Rattle.luks_volume.specs.Plans.{HasLuks2Plan, IsLuks2Plan}
 use Rattle.luks_volume.proofs.Numbers2.{luks2_judged}
 use Rattle.luks_volume.proofs.PlanFields2.{IsOnly}
-use Rattle.luks_volume.proofs.Refusals2.{plan_first2, plan_opens2}
+use Rattle.luks_volume.proofs.Refusals2.{plan_first2, plan_only2, plan_opens2}
 use Rattle.luks_volume.proofs.opening.open_keyslot.Goals as goal
 
 pub open_planned-requires-clause-judged : goal.open_planned-requires-clause-judged
@@ -34,6 +34,22 @@ returns-in-Ok-clause-opens g c = λ tells b json clear.
     record { numbered = low; value = content c.args.meta.now; holds = clear.meta.json; object = slot.object; there = slot.is; is = plan } in
     plan_opens2 b json (g.D.Device.bytes c.args.device.now) c.args.n (content c.args.meta.now) c.luks2_plan-plan.result c.args.passphrase.now c.in-Ok.found
     clear only has (c.in-Ok.ensures.opens tells)
+
+pub returns-in-Ok-clause-only : goal.returns-in-Ok-clause-only
+returns-in-Ok-clause-only g c = λ tells b json clear other y.
+    let slot = c.in-Some.ensures.some in
+    let naming = rw c.unwrap-number.ensures at c.digest_of_keyslot.ensures.some in
+    let digest = rw c.unwrap-digest.ensures at c.digest.ensures.some in
+    let low : c.args.n < 32 = omega arith in
+    let only : IsOnly json (content c.args.meta.now) c.args.n = record {
+      value = λ i holds. c.one_value.ensures json (content c.args.meta.now) i clear.meta.json holds;
+      digest = λ m k x y. let p = c.digest_of_keyslot.ensures.only m x in let q = c.digest_of_keyslot.ensures.only k y in cc (p, q);
+    } in
+    let plan = c.luks2_plan-plan.ensures (content c.args.meta.now) c.args.n c.unwrap-number.result slot.object digest.object slot.tells_members naming digest.is digest.tells_members in
+    let has : HasLuks2Plan json c.args.n c.luks2_plan-plan.result =
+    record { numbered = low; value = content c.args.meta.now; holds = clear.meta.json; object = slot.object; there = slot.is; is = plan } in
+    plan_only2 b json (g.D.Device.bytes c.args.device.now) c.args.n (content c.args.meta.now) c.luks2_plan-plan.result c.args.passphrase.now c.in-Ok.found other
+    only has (c.in-Ok.ensures.opens tells) y
 
 pub returns-in-Err-clause-refused : goal.returns-in-Err-clause-refused
 returns-in-Err-clause-refused g c = λ b json clear.

@@ -1,6 +1,6 @@
 -- Each exit is the first refusal of its step, or the answer of the keyslot's plan.
 use Rattle.luks_head.specs.Header1.{entry}
-use Rattle.luks_volume.proofs.Refusals1.{common_first, entry_first, plan_first, plan_opens}
+use Rattle.luks_volume.proofs.Refusals1.{common_first, entry_first, plan_first, plan_only, plan_opens}
 use Rattle.luks_volume.proofs.opening.open_luks1.Goals as goal
 
 pub returns-in-Err-clause-refused : goal.returns-in-Err-clause-refused
@@ -32,3 +32,11 @@ returns-in-Err-open_planned-clause-refused g c =
     c.in-Err-open_planned.fault c.in-Ok.ensures.faultless on
     (record { numbered = on.numbered; is = c.luks1_plan-plan.ensures.is c.args.header.now (entry c.args.header.now c.args.n) c.in-Ok.ensures.found on.says })
     c.in-Err-open_planned.ensures.refused
+
+pub returns-in-Ok-open_planned-clause-only : goal.returns-in-Ok-open_planned-clause-only
+returns-in-Ok-open_planned-clause-only g c = λ tells other y.
+    let on = c.in-Ok-luks1_entry.ensures.found in
+    plan_only c.args.header.now (g.D.Device.bytes c.args.device.now) c.args.n c.luks1_plan-plan.result
+    c.args.passphrase.now c.in-Ok-open_planned.found other
+    (record { numbered = on.numbered; is = c.luks1_plan-plan.ensures.is c.args.header.now (entry c.args.header.now c.args.n) c.in-Ok.ensures.found on.says })
+    (c.in-Ok-open_planned.ensures.opens tells) y

@@ -1,0 +1,18 @@
+-- A keyslot that is refused or gives no key doesn't open.
+use Rattle.std.proofs.Common.{◌≡◌, ◌∙◌, ℕ, List, length, subst, sym}
+use Rattle.luks_volume.specs.Entered2.{Luks2Refused}
+use Rattle.luks_volume.proofs.Shut.{luks2_none_shut, luks2_refused_tried}
+use Rattle.luks_volume.proofs.unlocking.try_keyslot.Goals as goal
+
+pub returns-in-Ok-None-clause-tried : goal.returns-in-Ok-None-clause-tried
+returns-in-Ok-None-clause-tried g c = λ tells b json clear.
+    luks2_none_shut b json (g.D.Device.bytes c.args.device.now) c.args.n c.args.passphrase.now
+    (λ other y. c.in-Ok-None.ensures.only tells b json clear other y ∙ c.in-Ok-None.field-0-is)
+
+pub returns-in-Err-clause-tried : goal.returns-in-Err-clause-tried
+returns-in-Err-clause-tried g c = λ tells b json clear.
+    let v = g.D.Device.bytes c.args.device.now in
+    let long : g.D.Device.size c.args.device.now ≡ length v = sym (g.met.D.Device.sized c.args.device.now tells) in
+    rw c.passed_over.ensures
+    (luks2_refused_tried b json v c.args.n c.args.passphrase.now c.in-Err.fault
+    (subst (λ (m : ℕ). Luks2Refused b json m c.args.n c.in-Err.fault) long (c.in-Err.ensures.refused b json clear)))
