@@ -34,22 +34,6 @@ area_least area none = (none, λ g h. by g)
     by (fault.Region name) = (omega arith, λ e. absurd (omega arith))
     by fault.Memory = (omega arith, λ e. absurd (omega arith))
 
-pub bad_least : (area text : List ℕ) → JsonText area text → (IsUtf8 text → read text ≡ None) → IsLeast meta_key (IsMetaFault area) fault.BadJson
-bad_least area text placed bad = (record { text = text; placed = placed; bad = bad }, by)
-  where
-    by : (g : MetaFault) → IsMetaFault area g → NotAfter (2 ∷ []) (meta_key g)
-    by fault.JsonArea h = absurd (h text placed)
-    by fault.BadJson h = (omega arith, λ _. tt)
-    by fault.NotWhole h = (omega arith, λ e. absurd (omega arith))
-    by (fault.Shape path) h = (omega arith, λ e. absurd (omega arith))
-    by (fault.Kind path) h = (omega arith, λ e. absurd (omega arith))
-    by (fault.NoSuchName path) h = (omega arith, λ e. absurd (omega arith))
-    by (fault.Assigned path) h = (omega arith, λ e. absurd (omega arith))
-    by fault.Sizes h = (omega arith, λ e. absurd (omega arith))
-    by (fault.AreaTooSmall n) h = (omega arith, λ e. absurd (omega arith))
-    by (fault.Region name) h = (omega arith, λ e. absurd (omega arith))
-    by fault.Memory h = (omega arith, λ e. absurd (omega arith))
-
 -- ---- of an area that holds a value
 
 -- an area holds one value

@@ -1,11 +1,9 @@
 -- An area without a fault holds a value that is accepted: each fault can be decided.
-use Rattle.std.proofs.Common.{◌≡◌, ◌≢◌, ℕ, suc, zero, ◌<◌, ◌↔◌, Bool, true, false, List, [], ◌∷◌, ◌++◌, length, get_or, Option, Some, None, All, refl, sym, ap, ◌∙◌, arith, inl, inr, ◌⊎◌}
+use Rattle.std.proofs.Common.{◌≡◌, ◌≢◌, ℕ, suc, zero, ◌<◌, ◌↔◌, true, List, [], ◌∷◌, ◌++◌, length, get_or, Option, Some, None, All, refl, sym, ap, ◌∙◌, arith, inl, inr, ◌⊎◌}
 use Rattle.std.specs.Prelude.{IsUtf8, replicate}
 use Rattle.std.specs.Str.{is_utf8}
-use Rattle.std.specs.List.{AllByRecursion}
 use Rattle.std.proofs.lemmas.Bool.{cases_eq, cases_Bool, false_from_ne_true}
 use Rattle.std.proofs.lemmas.Str.{IsUtf8-from_is_utf8, is_utf8-from_IsUtf8}
-use Rattle.arrayvec.specs.ArrayString.{ArrayString}
 use Rattle.serde_json.specs.Data.{Data}
 use Rattle.serde_json.specs.Read.{read}
 use Rattle.luks_area.specs.declared.area.AreaName.TheVariants.{Slot}
@@ -16,7 +14,7 @@ use Rattle.luks_meta.specs.declared.place.Test.{Test}
 use Rattle.luks_meta.specs.declared.place.Test.TheVariants as test
 use Rattle.luks_meta.specs.AreaText.{JsonText}
 use Rattle.luks_meta.specs.Accepted.{IsMeta}
-use Rattle.luks_meta.specs.Faults.{IsPlace, has_fault, place_path}
+use Rattle.luks_meta.specs.Faults.{place_path}
 use Rattle.luks_meta.specs.MetaFault.{HasPath, IsFaultless, IsMetaFault, Json}
 use Rattle.luks_meta.proofs.Accepting.{content_of}
 use Rattle.luks_meta.proofs.AreaFaults.{accepted_none}
@@ -38,9 +36,6 @@ all_of (c ∷ cs) h = all_cons c cs h.0 (all_of cs h.1)
 none_of : (t : List ℕ) → All (λ c. c ≢ 0) t → NoZero t
 none_of [] h = tt
 none_of (c ∷ cs) h = (h 0 0 (omega arith), none_of cs (λ k d lt. h (suc k) d (omega arith)))
-
-AreZeros : List ℕ → Type 0
-AreZeros bs = (n : ℕ) × (bs ≡ replicate n 0)
 
 not_zeros : (c : ℕ) (cs : List ℕ) → c ≢ 0 → (n : ℕ) → c ∷ cs ≡ replicate n 0 → ⊥
 not_zeros c cs nz zero e = absurd (cc)
@@ -67,9 +62,6 @@ record IsSplit (bs : List ℕ) : Type 0 where
   whole : NoZero text
   ended : 0 < zeros
   filled : bs ≡ text ++ replicate zeros 0
-
-NoSplit : List ℕ → Type 0
-NoSplit bs = (t : List ℕ) (n : ℕ) → NoZero t → 0 < n → bs ≡ t ++ replicate n 0 → ⊥
 
 no_more : (c : ℕ) (cs : List ℕ) → c ≡ 0 → ((n : ℕ) → c ∷ cs ≡ replicate n 0 → ⊥) → (t : List ℕ) (n : ℕ) → NoZero t → 0 < n → c ∷ cs ≡ t ++ replicate n 0 → ⊥
 no_more c cs z f [] n h lt e = f n e

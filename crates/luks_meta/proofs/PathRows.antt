@@ -11,7 +11,7 @@ use Rattle.luks_meta.specs.declared.fault.MetaFault.TheVariants as fault
 use Rattle.luks_meta.specs.declared.place.Place.{Place}
 use Rattle.luks_meta.specs.declared.place.Test.{Test}
 use Rattle.luks_meta.specs.declared.place.Test.TheVariants as test
-use Rattle.luks_meta.specs.Faults.{IsFaulty, IsPlace, has_fault, place_path}
+use Rattle.luks_meta.specs.Faults.{IsFaulty, place_path}
 use Rattle.luks_meta.specs.MetaFault.{HasPath, IsDataFault, fault_of, meta_place, meta_row, test_row}
 
 -- a fault of the test's row has a path where the test finds a fault
@@ -24,14 +24,6 @@ of_row test.Shape len j _ h e = absurd (omega arith)
 of_row test.Kind len j _ h e = absurd (omega arith)
 of_row test.NoSuchName len j _ h e = absurd (omega arith)
 of_row test.Assigned len j _ h e = absurd (omega arith)
-
-pub judged_none : (t : Test) (j : Data) → ((p : Place) → IsPlace p → has_fault t j p ≡ false)
-    → (len : ℕ) (g : MetaFault) → IsDataFault len j g → meta_row g ≡ test_row t → ⊥
-judged_none t j none len g h e =
-    let p = of_row t len j g h e in
-    let no : has_fault t j p.place ≡ false = none p.place p.faulty.place in
-    let yes : has_fault t j p.place ≡ true = p.faulty.fault in
-    cc
 
 later : (t : Test) (j : Data) (p : Place) (path : ArrayString 32) → IsLeast place_path (IsFaulty t j) p → path.bytes ≡ place_path p
     → (len : ℕ) (g : MetaFault) → IsDataFault len j g → meta_row g ≡ test_row t → NotAfter path.bytes (meta_place g)

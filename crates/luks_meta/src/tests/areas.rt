@@ -34,6 +34,7 @@ fn areas_of_no_text(rt: HostRuntime) -> Result<(), Fail> {
     area_row(&rt, alloc, b"{\0", "BadJson")?;
     area_row(&rt, alloc, b"{}}\0", "BadJson")?;
     area_row(&rt, alloc, b"{\"x\":\"\xff\"}\0", "BadJson")?;
+    area_row(&rt, alloc, b"{\"x\":\"a\tb\"}\0", "BadJson")?;
     area_row(&rt, alloc, b"{\"x\":1.0}\0", "NotWhole")?;
     area_row(&rt, alloc, b"{}\0", "Shape(config)")?;
     Ok(())
