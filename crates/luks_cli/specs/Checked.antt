@@ -5,7 +5,7 @@ use Rattle.luks_volume.specs.Checked.{WellFormed}
 use Rattle.luks_cli.specs.declared.answers.Status.{Status}
 use Rattle.luks_cli.specs.declared.answers.Status.TheVariants.{Refused, Fault}
 use Rattle.luks_cli.specs.declared.request.Line.{Line}
-use Rattle.luks_cli.specs.declared.request.Line.TheVariants.{Check, Show}
+use Rattle.luks_cli.specs.declared.request.Line.TheVariants.{Check, Show, Open}
 
 -- of the volume `v` with its payload at `payload`: 0 and 3 come only where it is well formed, 1 only
 -- where it isn't
@@ -23,3 +23,4 @@ pub record EndsCheck (v : List ℕ) (payload : Data) (s : Status) : Type 0 where
 abbrev pub WhereCheck : Line → (Data → Type 0) → Type 0
 WhereCheck (Check volume payload) holds = holds payload
 WhereCheck (Show volume) holds = Unit {0}
+WhereCheck (Open volume passphrase slot) holds = Unit {0}

@@ -2,9 +2,11 @@ ghost use Rattle.std.specs.Prelude.{◌+◌, ◌<◌, ◌≤◌, ◌≢◌, ◌^
 ghost use Rattle.luks_cli.specs.Checked.{EndsCheck, SaysCheck, WhereCheck};
 ghost use Rattle.luks_cli.specs.Opened.{WhereOpen};
 
-use crate::answers::{Status, device_fault, no_memory};
+use crate::answers::{Status, device_fault, no_memory, refused};
 use crate::checking::run_check;
 use crate::inputs::{Input, Inputs};
+use crate::opening::run_open;
+use crate::passphrases::{PassphraseFault, passphrase};
 use crate::request::Line;
 use crate::showing::run_show;
 use luks_volume::Device;
@@ -14,8 +16,9 @@ use std::io::{Read, Write};
 
 /// Runs a command over its files, prints its lines to `out` and answers the exit status.
 ///
-/// 0: accepted or shown; 1: refused; 3: accepted, but the two copies of the header aren't in step;
-/// 4: the device failed, a file can't be read, memory was refused, or `out` failed.
+/// 0: accepted, shown or opened; 1: refused, or it doesn't open; 3: accepted, but the two copies of
+/// the header aren't in step; 4: the device failed, a file can't be read, memory was refused, or
+/// `out` failed. The passphrase is read before the volume.
 pub fn execute<D: Device, R: Read + Drop, W: Write>(
     alloc: Global,
     line: &Line<'_>,
@@ -44,7 +47,7 @@ fn run<D: Device, R: Read + Drop, W: Write>(
 {
     let Inputs {
         volume,
-        passphrase: _,
+        passphrase: file,
     } = inputs;
     match line {
         Line::Check { data_, .. } => match volume {
@@ -55,6 +58,27 @@ fn run<D: Device, R: Read + Drop, W: Write>(
             Input::Open(mut device) => run_show(alloc, &mut device, out),
             unopened => not_open(unopened, out),
         },
+        Line::Open { slot, .. } => match passphrase(alloc, file) {
+            Ok(words) => open_with(alloc, volume, *slot, words.as_slice(), out),
+            Err(PassphraseFault::TooLong) => refused(&"Passphrase", out),
+            Err(PassphraseFault::Unreadable) => device_fault(out),
+            Err(PassphraseFault::Memory) => no_memory(out),
+        },
+    }
+}
+
+fn open_with<D: Device, W: Write>(
+    alloc: Global,
+    volume: Input<D>,
+    slot: Option<u8>,
+    passphrase: &[u8],
+    out: &mut W,
+) -> io::Result<Status>
+    requires { WhereOpen volume (λ d. D.failed d + 1 < 2 ^ 64) }
+{
+    match volume {
+        Input::Open(mut device) => run_open(alloc, &mut device, slot, passphrase, out),
+        unopened => not_open(unopened, out),
     }
 }
 

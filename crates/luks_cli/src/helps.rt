@@ -1,6 +1,7 @@
 //! The texts of `--help`.
 
-pub(crate) const PROGRAM: &str = "Checks the header of a LUKS volume, and lists it";
+pub(crate) const PROGRAM: &str =
+    "Checks the header of a LUKS volume, lists it, and tries passphrases";
 
 pub(crate) const PROGRAM_MORE: &str = "\
 A volume is a device, an image, or the detached header of one. No command writes to it.
@@ -10,8 +11,8 @@ Each command prints its lines on standard output, and so does what stops it: a r
 What else it prints its own help says: luks COMMAND --help
 
 Exit status:
-  0  accepted or shown, or help was asked for
-  1  refused
+  0  accepted, shown or opened, or help was asked for
+  1  refused, or it doesn't open
   2  the command line is wrong; the text is on standard error
   3  check: accepted, but the two copies of the header aren't in step
   4  device fault, no memory, or the output can't be written";
@@ -52,5 +53,25 @@ a hyphen. Or it prints one line:
 Exit status:
   0  shown, whatever the copies of the header are, or help was asked for
   1  refused
+  2  the command line is wrong; the text is on standard error
+  4  device fault, no memory, or the output can't be written";
+
+pub(crate) const OPEN: &str = "Tells whether a passphrase opens a keyslot";
+
+pub(crate) const OPEN_MORE: &str = "\
+The passphrase is all bytes of its file, a last line feed too, at most 65536. The volume key that
+is found is neither printed nor kept. Without --slot the keyslots are tried in turn: by number, but
+of LUKS2 those of priority 2 first, and none of priority 0. Prints one line:
+  slot N opens            the passphrase opens keyslot N
+  slot N does not open    it doesn't open the keyslot that --slot names
+  no slot opens           it opens none
+  refused FAULT           why it can't be tried, as Passphrase (the file is too long), SlotFree,
+                          NoSuchSlot, Argon2, Cipher or Hash
+  device fault            the volume or the passphrase can't be read
+  no memory               memory was refused
+
+Exit status:
+  0  the keyslot opens, or help was asked for
+  1  refused, or it doesn't open
   2  the command line is wrong; the text is on standard error
   4  device fault, no memory, or the output can't be written";

@@ -11,6 +11,8 @@ mod helps;
 mod inputs;
 mod lists;
 mod objects;
+mod opening;
+mod passphrases;
 mod request;
 mod showing;
 mod showing2;

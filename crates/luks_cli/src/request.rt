@@ -15,13 +15,24 @@ pub enum Line<'a> {
         /// The file of the volume, or of its detached header.
         volume: &'a str,
     },
+    /// Try a passphrase.
+    Open {
+        /// The file of the volume, or of its detached header.
+        volume: &'a str,
+        /// The file of the passphrase.
+        passphrase: &'a str,
+        /// The keyslot to try, 0 to 31; without one all are tried.
+        slot: Option<u8>,
+    },
 }
 
 impl<'a> Line<'a> {
     /// The file of the volume.
     pub fn volume(&self) -> &'a str {
         match self {
-            Line::Check { volume, .. } | Line::Show { volume } => *volume,
+            Line::Check { volume, .. } | Line::Show { volume } | Line::Open { volume, .. } => {
+                *volume
+            }
         }
     }
 
@@ -29,6 +40,7 @@ impl<'a> Line<'a> {
     pub fn passphrase(&self) -> Option<&'a str> {
         match self {
             Line::Check { .. } | Line::Show { .. } => None,
+            Line::Open { passphrase, .. } => Some(*passphrase),
         }
     }
 }

@@ -3,4 +3,5 @@ mod checks;
 mod checks2;
 mod images;
 mod lines;
+mod openings;
 mod shows;

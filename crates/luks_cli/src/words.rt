@@ -27,6 +27,11 @@ fn asked<'a>(matches: &ArgMatches<'a>) -> Option<Line<'a>> {
             data_: data_of(given),
         }),
         "show" => Some(Line::Show { volume }),
+        "open" => Some(Line::Open {
+            volume,
+            passphrase: given.get_str("passphrase")?,
+            slot: given.get_one::<u8>("slot"),
+        }),
         _ => None,
     }
 }
@@ -45,7 +50,8 @@ fn program<'a>(alloc: Global) -> Result<Command<'a>, AllocError> {
         .after_help(helps::PROGRAM_MORE)
         .subcommand_required(true)
         .subcommand(check_command(alloc)?)?
-        .subcommand(show_command(alloc)?)
+        .subcommand(show_command(alloc)?)?
+        .subcommand(open_command(alloc)?)
 }
 
 fn check_command<'a>(alloc: Global) -> Result<Command<'a>, AllocError> {
@@ -63,6 +69,15 @@ fn show_command<'a>(alloc: Global) -> Result<Command<'a>, AllocError> {
         .arg(volume_argument(alloc))
 }
 
+fn open_command<'a>(alloc: Global) -> Result<Command<'a>, AllocError> {
+    Command::new(alloc, "open")
+        .about(helps::OPEN)
+        .after_help(helps::OPEN_MORE)
+        .arg(volume_argument(alloc))?
+        .arg(passphrase_option(alloc))?
+        .arg(slot_option(alloc))
+}
+
 fn volume_argument<'a>(alloc: Global) -> Arg<'a> {
     Arg::new(alloc, "VOLUME")
         .required(true)
@@ -74,4 +89,20 @@ fn detached_option<'a>(alloc: Global) -> Arg<'a> {
         .long("detached")
         .action(ArgAction::SetTrue)
         .help("The payload lies on another device, so no segment is judged")
+}
+
+fn passphrase_option<'a>(alloc: Global) -> Arg<'a> {
+    Arg::new(alloc, "passphrase")
+        .long("passphrase")
+        .value_name("FILE")
+        .required(true)
+        .help("The file of the passphrase")
+}
+
+fn slot_option<'a>(alloc: Global) -> Arg<'a> {
+    Arg::new(alloc, "slot")
+        .long("slot")
+        .value_name("N")
+        .value_parser(clap::value_parser!(u8).range(0..=31))
+        .help("The keyslot to try, 0 to 31")
 }

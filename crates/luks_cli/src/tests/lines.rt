@@ -5,7 +5,7 @@ use std::test::Fail;
 
 #[test]
 fn commands(rt: HostRuntime) -> Result<(), Fail> {
-    let rows: [(&[&str], Line<'_>); 4] = [
+    let rows: [(&[&str], Line<'_>); 7] = [
         (
             &["luks", "check", "v"],
             Line::Check {
@@ -28,12 +28,41 @@ fn commands(rt: HostRuntime) -> Result<(), Fail> {
             },
         ),
         (&["luks", "show", "v"], Line::Show { volume: "v" }),
+        (
+            &["luks", "open", "v", "--passphrase", "p"],
+            Line::Open {
+                volume: "v",
+                passphrase: "p",
+                slot: None,
+            },
+        ),
+        (
+            &["luks", "open", "--slot", "0", "--passphrase", "p", "v"],
+            Line::Open {
+                volume: "v",
+                passphrase: "p",
+                slot: Some(0),
+            },
+        ),
+        (
+            &["luks", "open", "v", "--passphrase=p", "--slot=31"],
+            Line::Open {
+                volume: "v",
+                passphrase: "p",
+                slot: Some(31),
+            },
+        ),
     ];
     for (words, want) in rows {
         let got = line(rt.alloc(), words)?;
         assert_eq!(rt; got, want, "{words:?}");
         assert_eq!(rt; got.volume(), want.volume());
-        assert_eq!(rt; got.passphrase(), None);
+        let passphrase = if words.get(1) == Some(&"open") {
+            Some("p")
+        } else {
+            None
+        };
+        assert_eq!(rt; got.passphrase(), passphrase);
     }
     Ok(())
 }
@@ -51,7 +80,7 @@ fn fault_of(alloc: Global, words: &[&str]) -> Result<(String, bool, i32), AllocE
 
 #[test]
 fn faults_of_usage(rt: HostRuntime) -> Result<(), Fail> {
-    let rows: [(&[&str], &str); 7] = [
+    let rows: [(&[&str], &str); 11] = [
         (&["luks"], "subcommand"),
         (&["luks", "check"], "<VOLUME>"),
         (&["luks", "check", "a", "b"], "'b'"),
@@ -62,6 +91,19 @@ fn faults_of_usage(rt: HostRuntime) -> Result<(), Fail> {
         ),
         (&["luks", "unknown", "a"], "'unknown'"),
         (&["luks", "show", "a", "--detached"], "'--detached'"),
+        (&["luks", "open", "a"], "--passphrase <FILE>"),
+        (
+            &["luks", "open", "a", "--passphrase", "p", "--slot", "32"],
+            "32 is not in 0..=31",
+        ),
+        (
+            &["luks", "open", "a", "--passphrase", "p", "--slot", "-1"],
+            "'-1'",
+        ),
+        (
+            &["luks", "open", "a", "--passphrase", "p", "--slot", "x"],
+            "'x'",
+        ),
     ];
     for (words, part) in rows {
         let (text, to_stderr, status) = fault_of(rt.alloc(), words)?;
@@ -77,11 +119,12 @@ fn faults_of_usage(rt: HostRuntime) -> Result<(), Fail> {
 
 #[test]
 fn help(rt: HostRuntime) -> Result<(), Fail> {
-    let rows: [(&[&str], &str); 5] = [
+    let rows: [(&[&str], &str); 6] = [
         (&["luks", "--help"], "  3  check: accepted, but "),
         (&["luks", "-h"], "luks COMMAND --help"),
         (&["luks", "check", "--help"], "  accepted luks1 areas N "),
         (&["luks", "show", "--help"], "  0  shown, "),
+        (&["luks", "open", "-h"], "  no slot opens "),
         (&["luks", "help", "check"], "  4  device fault, no memory, "),
     ];
     for (words, part) in rows {
