@@ -18,3 +18,4 @@ pub mod Copies2
 pub mod Orders
 pub mod Shut
 pub mod Unlocked
+pub mod Agreed

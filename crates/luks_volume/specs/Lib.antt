@@ -11,3 +11,4 @@ pub mod Plans
 pub mod Lawful
 pub mod Tried
 pub mod Unlocking
+pub mod Agreement

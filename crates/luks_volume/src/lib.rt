@@ -1,4 +1,4 @@
-//! Checking a LUKS volume, of either version, against its format and its layout.
+//! Checking a LUKS volume, of either version, against its format and its layout, and opening its keyslots.
 #![tactic(auto)]
 
 mod checking;

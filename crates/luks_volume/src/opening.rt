@@ -5,7 +5,8 @@ ghost use Rattle.luks_head.specs.Header2.{HoldsBin2, uuid_field};
 ghost use Rattle.luks_head.specs.Judged2.{IsCopyWithin};
 ghost use Rattle.luks_meta.specs.Content.{content};
 ghost use Rattle.luks_meta.specs.Objects.{IsAccepted};
-ghost use Rattle.luks_volume.specs.Answer.{Answer, IsRefusedBy, opened_to};
+ghost use Rattle.luks_volume.specs.Agreement.{Agrees};
+ghost use Rattle.luks_volume.specs.Answer.{Answer, IsRefusedBy, Opened, opened_to};
 ghost use Rattle.luks_volume.specs.Entered.{Luks1Opens, Luks1Refused};
 ghost use Rattle.luks_volume.specs.Entered2.{IsCleared, Luks2Opens, Luks2Refused, json_of};
 ghost use Rattle.luks_volume.specs.Planned.{Counts, IsJudged, PlanOpens, PlanRefused, outer_fault};
@@ -41,6 +42,8 @@ pub fn open_slot<D: Device>(
     ensures count { MatchResult result (λ _. D.failed device.new ≡ D.failed device.old) (λ f. Counts f (D.failed device.old) (D.failed device.new)) }
     ensures opens { D.tells → IfOk result (λ found. Answer (D.bytes device.old) n passphrase.now (opened_to found)) }
     ensures refused { D.tells → IfErr result (IsRefusedBy (D.bytes device.old) n passphrase.now) }
+    // There is no other answer.
+    ensures only { D.tells → (a : Opened) → Answer (D.bytes device.old) n passphrase.now a → Agrees a result }
 {
     one_choice();
     match select(alloc, device) {
@@ -117,6 +120,8 @@ fn open_luks2<D: Device>(
     ensures count { MatchResult result (λ _. D.failed device.new ≡ D.failed device.old) (λ f. Counts f (D.failed device.old) (D.failed device.new)) }
     ensures opens { D.tells → (b : List ℕ) → HoldsBin2 b header.now
         → IfOk result (Luks2Opens b (json_of (D.bytes device.old) header.now) (D.bytes device.old) n passphrase.now) }
+    ensures only { D.tells → (b : List ℕ) → HoldsBin2 b header.now → IfOk result (λ found. (other : Option (List ℕ))
+        → Luks2Opens b (json_of (D.bytes device.old) header.now) (D.bytes device.old) n passphrase.now other → other ≡ found) }
     ensures refused { D.tells → (b : List ℕ) → HoldsBin2 b header.now
         → IfErr result (Luks2Refused b (json_of (D.bytes device.old) header.now) (D.size device.old) n) }
 {
