@@ -1,5 +1,5 @@
 -- A keyslot's answer is one: what a call gives is the only answer that there is.
-use Rattle.std.proofs.Common.{◌≡◌, ℕ, ◌≤◌, List, [], ◌∷◌, length, Option, Some, None, Ok, Err, refl, ap, subst, sym, ◌∙◌, arith}
+use Rattle.std.proofs.Common.{◌≡◌, ℕ, ◌≤◌, List, [], ◌∷◌, Option, Some, None, Ok, Err, refl, ap, subst, sym, ◌∙◌, arith}
 use Rattle.luks_area.specs.First.{NotAfter}
 use Rattle.luks_area.specs.Ranges.{part}
 use Rattle.luks_head.specs.declared.bin2.Bin2.{Bin2}
@@ -7,7 +7,6 @@ use Rattle.luks_head.specs.declared.selection.Copies.{Copies}
 use Rattle.luks_head.specs.declared.selection.Selected.TheVariants.{V2}
 use Rattle.luks_head.specs.Header2.{header_at}
 use Rattle.luks_head.specs.Selection.{Choice, luks1, luks2, Chosen, IsSelected}
-use Rattle.luks_slot.specs.declared.plan.SlotPlan.{SlotPlan}
 use Rattle.luks_volume.specs.declared.open_fault.OpenFault.{OpenFault}
 use Rattle.luks_volume.specs.declared.open_fault.OpenFault.TheVariants.{Head, Meta, NoSuchSlot, SlotFree, Outside, Slot, Device, Memory}
 use Rattle.luks_volume.specs.Answer.{open_key, Answer, HasPlanAs, IsRefusalAs, IsRefusedBy, Opened, Opens, refused, opens, no_key, opened_to}

@@ -1,5 +1,5 @@
 -- The first fault of the metadata as a refusal of the copy.
-use Rattle.std.proofs.Common.{◌≡◌, ◌≢◌, ℕ, List}
+use Rattle.std.proofs.Common.{◌≢◌, ℕ, List}
 use Rattle.luks_area.specs.First.{IsLeast}
 use Rattle.luks_head.specs.declared.fault.HeadFault.{HeadFault}
 use Rattle.luks_head.specs.Header2.{IsUuidFault}

@@ -1,5 +1,5 @@
 -- The numbers of a LUKS2 keyslot and of its digest lie where their rules say.
-use Rattle.std.proofs.Common.{◌≡◌, ℕ, ◌+◌, ◌*◌, ◌/◌, ◌<◌, ◌≤◌, List, codes, length, refl, sym, ap, ◌∙◌, subst, arith, Bool, true, false, ◌&&◌, nat_le, Option, Some, None, option_and_then, if◌then◌else◌}
+use Rattle.std.proofs.Common.{◌≡◌, ℕ, ◌<◌, ◌≤◌, List, length, refl, subst, arith, Bool, true, false, Option, Some, None, option_and_then, if◌then◌else◌}
 use Rattle.std.proofs.lemmas.Bool.Decides.{nat_tests}
 use Rattle.serde_json.specs.Data.{Data}
 use Rattle.luks_meta.specs.Accepted.{IsContent}
@@ -8,7 +8,7 @@ use Rattle.luks_meta.specs.declared.table.Member.TheVariants as name
 use Rattle.luks_meta.specs.declared.table.Outer.TheVariants as outer
 use Rattle.luks_meta.specs.declared.table.Section.TheVariants.{Keyslots}
 use Rattle.luks_meta.specs.Faults.{object_at}
-use Rattle.luks_meta.specs.Says.{member_at, small_at}
+use Rattle.luks_meta.specs.Says.{member_at}
 use Rattle.luks_slot.specs.declared.plan.Derivation.{Derivation}
 use Rattle.luks_slot.specs.declared.plan.Derivation.TheVariants.{Pbkdf2, Argon2}
 use Rattle.luks_slot.specs.declared.plan.SlotPlan.{SlotPlan}

@@ -1,7 +1,5 @@
 -- A keyslot of LUKS2 has one plan.
-use Rattle.std.proofs.Common.{◌≡◌, ℕ, ◌<◌, List, codes, refl, sym, ap, ◌∙◌, subst, Bool, true, false, Option, Some, None, unwrap_or}
-use Rattle.std.specs.Option.{option_map_or}
-use Rattle.std.specs.Str.{bytes_eq}
+use Rattle.std.proofs.Common.{◌≡◌, ℕ, List, codes, refl, sym, ap, ◌∙◌, subst, true, false, Option, Some, unwrap_or}
 use Rattle.serde_json.specs.Data.{Data}
 use Rattle.luks_meta.specs.declared.table.Member.TheVariants as name
 use Rattle.luks_meta.specs.declared.table.Outer.TheVariants as outer

@@ -1,14 +1,12 @@
 -- The refusals of a LUKS2 keyslot, step by step: the first of a step is the first of all, where no
 -- earlier step has any.
-use Rattle.std.proofs.Common.{◌≡◌, ℕ, ◌+◌, ◌<◌, ◌≤◌, List, [], ◌∷◌, length, refl, sym, ap, ◌∙◌, arith, subst, Option, Some, None}
+use Rattle.std.proofs.Common.{◌≡◌, ℕ, ◌<◌, List, [], ◌∷◌, length, refl, sym, ap, ◌∙◌, arith, subst, Option, Some, None}
 use Rattle.serde_json.specs.Data.{Data}
-use Rattle.luks_area.specs.First.{NotAfter, IsLeast}
-use Rattle.luks_area.specs.Ranges.{part}
+use Rattle.luks_area.specs.First.{NotAfter}
 use Rattle.luks_head.specs.declared.fault.HeadFault.{HeadFault}
 use Rattle.luks_head.specs.declared.fault.HeadFault.TheVariants as head
 use Rattle.luks_head.specs.Faults.{head_key}
 use Rattle.luks_head.specs.Header2.{uuid_field, IsUuidFault}
-use Rattle.luks_meta.specs.declared.fault.MetaFault.{MetaFault}
 use Rattle.luks_meta.specs.declared.table.Section.TheVariants.{Keyslots}
 use Rattle.luks_meta.specs.Faults.{object_at}
 use Rattle.luks_meta.specs.MetaFault.{meta_key, Json}

@@ -1,5 +1,5 @@
 -- A keyslot that was tried in vain doesn't open.
-use Rattle.std.proofs.Common.{◌≡◌, ◌≢◌, ℕ, ◌+◌, ◌==◌, ◌<◌, ◌≤◌, List, length, Bool, true, false, Option, Some, None, IfOk, IfErr, MatchResult, refl, sym, subst, arith, eq-eqb}
+use Rattle.std.proofs.Common.{◌≡◌, ◌≢◌, ℕ, ◌==◌, List, length, Bool, true, false, Option, Some, None, IfOk, IfErr, MatchResult, refl, eq-eqb}
 use Rattle.luks_head.specs.declared.fault.HeadFault.TheVariants as head
 use Rattle.luks_head.specs.Header1.{active_word, disabled_word, enabled_word, entry}
 use Rattle.luks_volume.specs.declared.open_fault.OpenFault.{OpenFault}

@@ -1,5 +1,5 @@
 -- From what counts of a volume to the volume: which fault locks it, and which keyslot opens first.
-use Rattle.std.proofs.Common.{◌≡◌, ℕ, ◌+◌, ◌<◌, ◌≤◌, List, [], ◌∷◌, ◌++◌, length, All, Bool, true, Option, Some, None, refl, ap, subst, sym, ◌∙◌, arith}
+use Rattle.std.proofs.Common.{◌≡◌, ℕ, List, ◌++◌, Option, Some, None, refl, subst, sym, ◌∙◌, arith}
 use Rattle.serde_json.specs.Data.{Data}
 use Rattle.luks_area.specs.First.{NotAfter, IsLeast}
 use Rattle.luks_area.specs.Ranges.{part}
@@ -22,8 +22,8 @@ use Rattle.luks_volume.specs.Entered.{Luks1Opens}
 use Rattle.luks_volume.specs.Entered2.{CopyRefused, IsCleared, Luks2Opens, json_of}
 use Rattle.luks_volume.specs.Planned.{outer_fault, IsOfDevice}
 use Rattle.luks_volume.specs.Tried.{rank_order, Luks1LockedBy, Luks1Shut, Luks1Tries, Luks2LockedBy, Luks2Shut, Luks2Tries, Luks2Unlocks}
-use Rattle.luks_volume.specs.Unlocking.{luks1_order, luks2_order, IsLockedBy, IsLockout, IsLockoutAs, IsLuks1Lockout, IsLuks2Lockout, StaysShut, GivesFirst, Unlocks}
-use Rattle.luks_volume.proofs.Answered.{luks1_opens, luks2_opens, nothing_counts, same_json, step_one}
+use Rattle.luks_volume.specs.Unlocking.{luks1_order, luks2_order, IsLockedBy, IsLockout, IsLockoutAs, IsLuks1Lockout, IsLuks2Lockout, StaysShut, Unlocks}
+use Rattle.luks_volume.proofs.Answered.{luks1_opens, nothing_counts, same_json, step_one}
 use Rattle.luks_volume.proofs.Orders.{gives_left, gives_right, gives_weaker}
 use Rattle.luks_volume.proofs.Refusals1.{common_refuses, sooner, together}
 use Rattle.luks_volume.proofs.Refusals2.{uuid_step}

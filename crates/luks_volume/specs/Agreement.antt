@@ -1,7 +1,7 @@
 -- When the result of an opening agrees with an answer.
 use Rattle.std.specs.Prelude.{◌≡◌, ℕ, List, Option, Some, None, Result, MatchResult, ⊤}
 use Rattle.luks_volume.specs.declared.open_fault.OpenFault.{OpenFault}
-use Rattle.luks_volume.specs.declared.open_fault.OpenFault.TheVariants.{Head, Meta, NoSuchSlot, SlotFree, Outside, Slot, Device, Memory}
+use Rattle.luks_volume.specs.declared.open_fault.OpenFault.TheVariants.{Device, Memory}
 use Rattle.luks_volume.specs.Answer.{open_key, Opened, refused, opens, no_key}
 use Rattle.luks_volume.specs.Planned.{IsOfDevice}
 

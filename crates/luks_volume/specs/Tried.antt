@@ -1,5 +1,5 @@
 -- What trying keyslots gives, by what counts of the volume.
-use Rattle.std.specs.Prelude.{◌≡◌, ℕ, List, filter, Bool, true, false, Option, Some, None, Result, Ok, Err, ⊤}
+use Rattle.std.specs.Prelude.{ℕ, List, filter, Bool, Option, Some, None, Result, Ok, Err, ⊤}
 use Rattle.serde_json.specs.Data.{Data as Value}
 use Rattle.luks_area.specs.First.{IsLeast}
 use Rattle.luks_meta.specs.MetaFault.{Json}

@@ -1,5 +1,5 @@
 -- The first fault of the area that was read is that of the copy's area.
-use Rattle.std.proofs.Common.{◌≡◌, ◌∙◌, List, ℕ, rules, subst}
+use Rattle.std.proofs.Common.{◌∙◌, List, ℕ, rules, subst}
 use Rattle.luks_head.specs.declared.fault.HeadFault.{HeadFault}
 use Rattle.luks_head.specs.Header2.{IsUuidFault}
 use Rattle.luks_volume.specs.Entered2.{CopyRefused, outer_meta_fault}

@@ -1,10 +1,7 @@
 -- The plan of the keyslot is judged, and its answer is that of the keyslot.
-use Rattle.std.proofs.Common.{◌≡◌, ℕ, ◌<◌, ◌≤◌, List, length, arith, Some, IfSome}
-use Rattle.luks_head.specs.Header2.{uuid_field}
+use Rattle.std.proofs.Common.{◌<◌, arith}
 use Rattle.luks_meta.specs.Content.{content}
-use Rattle.luks_meta.specs.Naming.{IsDigestOf}
-use Rattle.luks_volume.specs.Entered2.{IsCleared}
-use Rattle.luks_volume.specs.Plans.{HasLuks2Plan, IsLuks2Plan}
+use Rattle.luks_volume.specs.Plans.{HasLuks2Plan}
 use Rattle.luks_volume.proofs.Numbers2.{luks2_judged}
 use Rattle.luks_volume.proofs.PlanFields2.{IsOnly}
 use Rattle.luks_volume.proofs.Refusals2.{plan_first2, plan_only2, plan_opens2}

@@ -1,6 +1,5 @@
 -- A refusal of the copy is one of the keyslot, and what its metadata gives is what the copy gives.
-use Rattle.std.proofs.Common.{◌≡◌, ℕ, Option, List, length, subst, sym}
-use Rattle.luks_head.specs.Header2.{uuid_field}
+use Rattle.std.proofs.Common.{◌≡◌, ℕ, Option, List, subst, sym}
 use Rattle.luks_meta.specs.Content.{content}
 use Rattle.luks_volume.specs.Entered2.{CopyRefused, IsCleared, Luks2Opens, Luks2Refused, json_of}
 use Rattle.luks_volume.proofs.Refusals2.{copy_first}

@@ -1,5 +1,5 @@
 -- A keyslot that is refused or gives no key doesn't open.
-use Rattle.std.proofs.Common.{◌≡◌, ◌∙◌, ℕ, List, length, subst, sym}
+use Rattle.std.proofs.Common.{◌≡◌, ◌∙◌, ℕ, length, subst, sym}
 use Rattle.luks_volume.specs.Entered.{Luks1Refused}
 use Rattle.luks_volume.proofs.Shut.{luks1_none_shut, luks1_refused_tried}
 use Rattle.luks_volume.proofs.unlocking.try_luks1.Goals as goal

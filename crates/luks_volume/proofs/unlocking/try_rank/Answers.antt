@@ -1,5 +1,5 @@
 -- The rank's keyslots before this one don't open, so that it is the first of the order.
-use Rattle.std.proofs.Common.{◌≡◌, ◌∙◌, ◌<◌, ◌≤◌, ℕ, List, true, Option, Some, None, ap, subst, sym, arith, below_more}
+use Rattle.std.proofs.Common.{◌≡◌, ◌∙◌, ◌<◌, ℕ, List, true, Option, Some, ap, subst, sym, arith, below_more}
 use Rattle.luks_meta.specs.Content.{content}
 use Rattle.luks_volume.specs.Entered2.{Luks2Opens}
 use Rattle.luks_volume.specs.Tried.{is_of_rank, Luks2Shut, Luks2Tried}

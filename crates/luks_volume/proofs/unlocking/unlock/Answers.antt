@@ -1,6 +1,5 @@
 -- What the header that counts gives is what the volume gives.
-use Rattle.std.proofs.Common.{◌≡◌, ◌∙◌, ℕ, List, subst, sym}
-use Rattle.luks_area.specs.Ranges.{part}
+use Rattle.std.proofs.Common.{ℕ, List, subst}
 use Rattle.luks_head.specs.declared.fault.HeadFault.{HeadFault}
 use Rattle.luks_head.specs.Faults.{IsCommonFault}
 use Rattle.luks_head.specs.Header2.{header_at}

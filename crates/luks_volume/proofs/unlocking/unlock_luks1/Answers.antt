@@ -1,5 +1,5 @@
 -- The keyslots before this one don't open, so that it is the first of the order.
-use Rattle.std.proofs.Common.{◌≡◌, ◌∙◌, ◌==◌, ◌<◌, ◌≤◌, ℕ, List, Option, Some, None, subst, sym, arith, below_more}
+use Rattle.std.proofs.Common.{◌∙◌, ◌==◌, ◌<◌, ℕ, List, Option, Some, subst, arith, below_more}
 use Rattle.luks_head.specs.Header1.{active_word, enabled_word, entry}
 use Rattle.luks_volume.specs.Entered.{Luks1Opens}
 use Rattle.luks_volume.specs.Tried.{Luks1Shut, Luks1Tried}

@@ -1,6 +1,5 @@
 -- The keyslots of priority 2 first, then the others.
-use Rattle.std.proofs.Common.{◌≡◌, ◌∙◌, ℕ, List, Option, Some, None, subst, sym}
-use Rattle.luks_head.specs.Header2.{uuid_field}
+use Rattle.std.proofs.Common.{◌∙◌, ℕ, List, Option, Some, None, subst, sym}
 use Rattle.luks_meta.specs.Content.{content}
 use Rattle.luks_volume.specs.declared.unlocking.Rank.TheVariants.{Preferred, Normal}
 use Rattle.luks_volume.specs.Entered2.{CopyRefused, IsCleared, json_of}
