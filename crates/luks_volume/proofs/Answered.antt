@@ -36,7 +36,7 @@ luks1_refused v n p SlotFree chosen only x = refused_as v n p luks1 SlotFree cho
 luks1_refused v n p Outside chosen only x = refused_as v n p luks1 Outside chosen only x
 luks1_refused v n p (Slot f) chosen only x = refused_as v n p luks1 (Slot f) chosen only x
 luks1_refused v n p Device chosen only x = x
-luks1_refused v n p Memory chosen only x = x
+luks1_refused v n p Memory chosen only x = absurd x
 
 pub luks1_opens : (v : List ℕ) (n : ℕ) (p : List ℕ) (found : Option (List ℕ)) → Chosen v luks1
     → Luks1Opens (part v 0 592) v n p found → Answer v n p (opened_to found)
@@ -65,7 +65,7 @@ luks2_refused v n p h copies SlotFree is only x = copy_refused v n p h copies Sl
 luks2_refused v n p h copies Outside is only x = copy_refused v n p h copies Outside is only x
 luks2_refused v n p h copies (Slot f) is only x = copy_refused v n p h copies (Slot f) is only x
 luks2_refused v n p h copies Device is only x = x
-luks2_refused v n p h copies Memory is only x = x
+luks2_refused v n p h copies Memory is only x = record { place = h.hdr_offset; copies = copies; chosen = is.0; uuid = x }
 
 copy_opens : (v : List ℕ) (n : ℕ) (p : List ℕ) (h : Bin2) (copies : Copies) (found : Option (List ℕ)) → IsSelected v (V2 h copies)
     → Luks2Opens (header_at v h.hdr_offset) (json_of v h) v n p found → Opens v n p found

@@ -138,7 +138,7 @@ plan_first2 b json total n j plan (Slot f) clear only is x = (record { plan = pl
     after Device y = absurd y
     after Memory y = absurd y
 plan_first2 b json total n j plan Device clear only is x = x
-plan_first2 b json total n j plan Memory clear only is x = x
+plan_first2 b json total n j plan Memory clear only is x = absurd x
 
 pub plan_opens2 : (b json v : List ℕ) (n : ℕ) (j : Data) (plan : SlotPlan) (p : List ℕ) (found : Option (List ℕ)) → IsCleared (uuid_field b) json j → IsOnly json j n
     → HasLuks2Plan json n plan → PlanOpens plan v p found → Luks2Opens b json v n p found

@@ -6,7 +6,7 @@ use Rattle.luks_volume.specs.declared.open_fault.OpenFault.{OpenFault}
 use Rattle.luks_volume.specs.declared.open_fault.OpenFault.TheVariants.{Head, Meta, NoSuchSlot, SlotFree, Outside, Slot, Device, Memory}
 use Rattle.luks_volume.specs.Entered.{Luks1Opens, Luks1Refused}
 use Rattle.luks_volume.specs.Entered2.{Luks2Opens, Luks2Refused}
-use Rattle.luks_volume.specs.Planned.{Counts, IsOfDevice}
+use Rattle.luks_volume.specs.Planned.{Counts, IsOfDevice, IsFailure}
 use Rattle.luks_volume.specs.Tried.{passed_over, Luks1Shut, Luks1Tried, Luks2Shut, Luks2Tried}
 
 pub luks1_refused_tried : (h v : List ℕ) (n : ℕ) (p : List ℕ) (f : OpenFault) → Luks1Refused h (length v) n f → IfOk (passed_over f) (Luks1Tried h v n p)
@@ -55,6 +55,26 @@ passed_kinds Outside = tt
 passed_kinds (Slot f) = tt
 passed_kinds Device = tt
 passed_kinds Memory = tt
+
+pub passed_fails : (f : OpenFault) → (f ≢ Memory) → IfErr (passed_over f) IsFailure
+passed_fails (Head f) own = tt
+passed_fails (Meta f) own = tt
+passed_fails NoSuchSlot own = tt
+passed_fails SlotFree own = tt
+passed_fails Outside own = tt
+passed_fails (Slot f) own = tt
+passed_fails Device own = tt
+passed_fails Memory own = absurd (own refl)
+
+pub luks1_own : (h : List ℕ) (total n : ℕ) (f : OpenFault) → Luks1Refused h total n f → f ≢ Memory
+luks1_own h total n (Head f) x e = cc
+luks1_own h total n (Meta f) x e = cc
+luks1_own h total n NoSuchSlot x e = cc
+luks1_own h total n SlotFree x e = cc
+luks1_own h total n Outside x e = cc
+luks1_own h total n (Slot f) x e = cc
+luks1_own h total n Device x e = cc
+luks1_own h total n Memory x e = x
 
 -- a keyslot of LUKS1 that opens is in use
 in_use : (h v : List ℕ) (n : ℕ) (p : List ℕ) (found : Option (List ℕ)) (b : Bool) → (active_word (entry h n) == enabled_word) ≡ b

@@ -20,7 +20,7 @@ use Rattle.luks_volume.specs.Answer.{open_key, head_step, HasPlanAs, IsRefusalAs
 use Rattle.luks_volume.specs.Checked.{json_at}
 use Rattle.luks_volume.specs.Entered.{Luks1Opens}
 use Rattle.luks_volume.specs.Entered2.{CopyRefused, IsCleared, Luks2Opens, json_of}
-use Rattle.luks_volume.specs.Planned.{outer_fault, IsOfDevice}
+use Rattle.luks_volume.specs.Planned.{outer_fault, IsFailure}
 use Rattle.luks_volume.specs.Tried.{rank_order, Luks1LockedBy, Luks1Shut, Luks1Tries, Luks2LockedBy, Luks2Shut, Luks2Tries, Luks2Unlocks}
 use Rattle.luks_volume.specs.Unlocking.{luks1_order, luks2_order, IsLockedBy, IsLockout, IsLockoutAs, IsLuks1Lockout, IsLuks2Lockout, StaysShut, Unlocks}
 use Rattle.luks_volume.proofs.Answered.{luks1_opens, nothing_counts, same_json, step_one}
@@ -95,7 +95,7 @@ luks1_locked v SlotFree chosen only x = locked_as v luks1 SlotFree chosen only x
 luks1_locked v Outside chosen only x = locked_as v luks1 Outside chosen only x
 luks1_locked v (Slot f) chosen only x = locked_as v luks1 (Slot f) chosen only x
 luks1_locked v Device chosen only x = x
-luks1_locked v Memory chosen only x = x
+luks1_locked v Memory chosen only x = absurd x
 
 copy_locked : (v : List ℕ) (h : Bin2) (copies : Copies) (f : OpenFault) → IsSelected v (V2 h copies)
     → ((d : Choice) → Chosen v d → luks2 h.hdr_offset copies ≡ d)
@@ -114,7 +114,7 @@ luks2_locked v h copies SlotFree is only x = copy_locked v h copies SlotFree is 
 luks2_locked v h copies Outside is only x = copy_locked v h copies Outside is only x
 luks2_locked v h copies (Slot f) is only x = copy_locked v h copies (Slot f) is only x
 luks2_locked v h copies Device is only x = x
-luks2_locked v h copies Memory is only x = x
+luks2_locked v h copies Memory is only x = record { place = h.hdr_offset; copies = copies; chosen = is.0; uuid = x }
 
 select_locked : (v : List ℕ) (f : HeadFault) → ((b c : Choice) → Chosen v b → Chosen v c → b ≡ c)
     → IsLeast head_key (IsSelectFault v) f → IsLeast open_key (IsLockout v) (Head f)
@@ -254,9 +254,9 @@ luks2_unlocks v p h copies found is only y =
           (luks2_order x.value) found (λ n. luks2_stays_shut v p n o copies only) (λ n k z. luks2_key v p n k o copies is.0 z) x.tries;
     }
 
--- ---- what isn't a keyslot's own
+-- ---- a failed device
 
-pub device_locks1 : (h : List ℕ) (f : OpenFault) → IsOfDevice f → Luks1LockedBy h f
+pub device_locks1 : (h : List ℕ) (f : OpenFault) → IsFailure f → Luks1LockedBy h f
 device_locks1 h (Head f) x = absurd x
 device_locks1 h (Meta f) x = absurd x
 device_locks1 h NoSuchSlot x = absurd x
@@ -264,9 +264,9 @@ device_locks1 h SlotFree x = absurd x
 device_locks1 h Outside x = absurd x
 device_locks1 h (Slot f) x = absurd x
 device_locks1 h Device x = x
-device_locks1 h Memory x = x
+device_locks1 h Memory x = absurd x
 
-pub device_locks2 : (b json : List ℕ) (f : OpenFault) → IsOfDevice f → Luks2LockedBy b json f
+pub device_locks2 : (b json : List ℕ) (f : OpenFault) → IsFailure f → Luks2LockedBy b json f
 device_locks2 b json (Head f) x = absurd x
 device_locks2 b json (Meta f) x = absurd x
 device_locks2 b json NoSuchSlot x = absurd x
@@ -274,4 +274,4 @@ device_locks2 b json SlotFree x = absurd x
 device_locks2 b json Outside x = absurd x
 device_locks2 b json (Slot f) x = absurd x
 device_locks2 b json Device x = x
-device_locks2 b json Memory x = x
+device_locks2 b json Memory x = absurd x

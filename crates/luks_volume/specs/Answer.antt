@@ -6,6 +6,7 @@ use Rattle.luks_area.specs.Ranges.{part}
 use Rattle.luks_head.specs.declared.fault.HeadFault.{HeadFault}
 use Rattle.luks_head.specs.declared.fault.HeadFault.TheVariants as head
 use Rattle.luks_head.specs.declared.fault.IterationsOf.TheVariants as of
+use Rattle.luks_head.specs.declared.selection.Copies.{Copies}
 use Rattle.luks_head.specs.Faults.{head_key, IsCommonFault, IsEntryFault}
 use Rattle.luks_head.specs.Header1.{active_word, disabled_word, entry}
 use Rattle.luks_head.specs.Header2.{header_at, uuid_field, IsUuidFault}
@@ -158,8 +159,15 @@ abbrev pub opened_to : Option (List ℕ) → Opened
 opened_to (Some k) = opens k
 opened_to None = no_key
 
+-- memory is taken for the metadata of LUKS2 alone: a copy counts, and its uuid has no fault
+pub record NeedsMetadata (v : List ℕ) : Type 0 where
+  pub place : ℕ
+  pub copies : Copies
+  pub chosen : Chosen v (luks2 place copies)
+  pub uuid : (f : HeadFault) → IsUuidFault (uuid_field (header_at v place)) f → ⊥
+
 -- the keyslot is refused as the answer says, unless the device failed or memory was refused
 abbrev pub IsRefusedBy : List ℕ → ℕ → List ℕ → OpenFault → Type 0
 IsRefusedBy v n p Device = ⊤
-IsRefusedBy v n p Memory = ⊤
+IsRefusedBy v n p Memory = NeedsMetadata v
 IsRefusedBy v n p f = Answer v n p (refused f)

@@ -41,10 +41,10 @@ EntryRefused h n Device = ⊥
 EntryRefused h n Memory = ⊥
 
 -- opening the keyslot `n` is refused by the header `h` in a volume of `total` bytes, unless the device
--- failed or memory was refused
+-- failed; no memory is taken
 abbrev pub Luks1Refused : List ℕ → ℕ → ℕ → OpenFault → Type 0
 Luks1Refused h total n Device = ⊤
-Luks1Refused h total n Memory = ⊤
+Luks1Refused h total n Memory = ⊥
 Luks1Refused h total n f = IsLeast open_key (IsLuks1Refusal h total n) f
 
 -- the keyslot `n` of the volume `v` with the header `h` opens to `found`

@@ -6,7 +6,7 @@ use Rattle.luks_area.specs.Ranges.{part}
 use Rattle.luks_head.specs.declared.bin2.Bin2.{Bin2}
 use Rattle.luks_head.specs.declared.fault.HeadFault.{HeadFault}
 use Rattle.luks_head.specs.Faults.{head_key}
-use Rattle.luks_head.specs.Header2.{IsUuidFault}
+use Rattle.luks_head.specs.Header2.{uuid_field, IsUuidFault}
 use Rattle.luks_meta.specs.declared.fault.MetaFault.{MetaFault}
 use Rattle.luks_meta.specs.declared.fault.MetaFault.TheVariants as meta
 use Rattle.luks_meta.specs.Accepted.{IsMeta}
@@ -46,13 +46,13 @@ CopyRefused uuid json SlotFree = ⊥
 CopyRefused uuid json Outside = ⊥
 CopyRefused uuid json (Slot f) = ⊥
 CopyRefused uuid json Device = ⊤
-CopyRefused uuid json Memory = ⊤
+CopyRefused uuid json Memory = (g : HeadFault) → IsUuidFault uuid g → ⊥
 
 -- opening the keyslot `n` is refused by the copy with the binary header `b` and the JSON area `json`
 -- in a volume of `total` bytes, unless the device failed or memory was refused
 abbrev pub Luks2Refused : List ℕ → List ℕ → ℕ → ℕ → OpenFault → Type 0
 Luks2Refused b json total n Device = ⊤
-Luks2Refused b json total n Memory = ⊤
+Luks2Refused b json total n Memory = (g : HeadFault) → IsUuidFault (uuid_field b) g → ⊥
 Luks2Refused b json total n f = IsLeast open_key (IsLuks2Refusal b json total n) f
 
 -- the keyslot `n` of the volume `v` with that copy opens to `found`

@@ -25,7 +25,7 @@ pub record PlanOpens (plan : SlotPlan) (v p : List ℕ) (found : Option (List �
   pub accepted : slot_refusal plan ≡ None
   pub is : found ≡ slot_key plan (part v plan.area.start plan.area.len) p
 
--- the plan is refused by `f` in a volume of `total` bytes, unless the device failed or memory was refused
+-- the plan is refused by `f` in a volume of `total` bytes, unless the device failed
 abbrev pub PlanRefused : SlotPlan → ℕ → OpenFault → Type 0
 PlanRefused plan total (Head f) = ⊥
 PlanRefused plan total (Meta f) = ⊥
@@ -34,7 +34,7 @@ PlanRefused plan total SlotFree = ⊥
 PlanRefused plan total Outside = total < plan.area.start + plan.area.len
 PlanRefused plan total (Slot f) = (plan.area.start + plan.area.len ≤ total) × (slot_refusal plan ≡ Some f)
 PlanRefused plan total Device = ⊤
-PlanRefused plan total Memory = ⊤
+PlanRefused plan total Memory = ⊥
 
 -- the device's count of failures rises by one where the device failed, else it stays
 abbrev pub Counts : OpenFault → ℕ → ℕ → Type 0
@@ -63,3 +63,14 @@ IsOfDevice Outside = ⊥
 IsOfDevice (Slot f) = ⊥
 IsOfDevice Device = ⊤
 IsOfDevice Memory = ⊤
+
+-- the device failed
+abbrev pub IsFailure : OpenFault → Type 0
+IsFailure (Head f) = ⊥
+IsFailure (Meta f) = ⊥
+IsFailure NoSuchSlot = ⊥
+IsFailure SlotFree = ⊥
+IsFailure Outside = ⊥
+IsFailure (Slot f) = ⊥
+IsFailure Device = ⊤
+IsFailure Memory = ⊥

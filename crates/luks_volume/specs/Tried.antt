@@ -2,6 +2,8 @@
 use Rattle.std.specs.Prelude.{ℕ, List, filter, Bool, Option, Some, None, Result, Ok, Err, ⊤}
 use Rattle.serde_json.specs.Data.{Data as Value}
 use Rattle.luks_area.specs.First.{IsLeast}
+use Rattle.luks_head.specs.declared.fault.HeadFault.{HeadFault}
+use Rattle.luks_head.specs.Header2.{uuid_field, IsUuidFault}
 use Rattle.luks_meta.specs.MetaFault.{Json}
 use Rattle.luks_volume.specs.declared.open_fault.OpenFault.{OpenFault}
 use Rattle.luks_volume.specs.declared.open_fault.OpenFault.TheVariants.{Head, Meta, NoSuchSlot, SlotFree, Outside, Slot, Device, Memory}
@@ -37,10 +39,10 @@ Luks1Tried h v n p (Some k) = Luks1Opens h v n p (Some k)
 abbrev pub Luks1Tries : List ℕ → List ℕ → List ℕ → Option (ℕ × List ℕ) → Type 0
 Luks1Tries h v p found = GivesFirst (Luks1Shut h v p) (λ n k. Luks1Opens h v n p (Some k)) (luks1_order h) found
 
--- the header `h` refuses the volume, unless the device failed or memory was refused
+-- the header `h` refuses the volume, unless the device failed; no memory is taken
 abbrev pub Luks1LockedBy : List ℕ → OpenFault → Type 0
 Luks1LockedBy h Device = ⊤
-Luks1LockedBy h Memory = ⊤
+Luks1LockedBy h Memory = ⊥
 Luks1LockedBy h f = IsLeast open_key (IsLuks1Lockout h) f
 
 -- ---- LUKS2
@@ -75,5 +77,5 @@ pub record Luks2Unlocks (b json v p : List ℕ) (found : Option (ℕ × List ℕ
 -- the copy refuses the volume, unless the device failed or memory was refused
 abbrev pub Luks2LockedBy : List ℕ → List ℕ → OpenFault → Type 0
 Luks2LockedBy b json Device = ⊤
-Luks2LockedBy b json Memory = ⊤
+Luks2LockedBy b json Memory = (g : HeadFault) → IsUuidFault (uuid_field b) g → ⊥
 Luks2LockedBy b json f = IsLeast open_key (IsLuks2Lockout b json) f

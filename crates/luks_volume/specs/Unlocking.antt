@@ -17,7 +17,7 @@ use Rattle.luks_meta.specs.Reading.{Field, object, text, whole, absent, dynamic,
 use Rattle.luks_meta.specs.Says.{member_at}
 use Rattle.luks_volume.specs.declared.open_fault.OpenFault.{OpenFault}
 use Rattle.luks_volume.specs.declared.open_fault.OpenFault.TheVariants.{Head, Meta, NoSuchSlot, SlotFree, Outside, Slot, Device, Memory}
-use Rattle.luks_volume.specs.Answer.{open_key, opens, Answer, IsSelectRefusal}
+use Rattle.luks_volume.specs.Answer.{open_key, opens, Answer, IsSelectRefusal, NeedsMetadata}
 use Rattle.luks_volume.specs.Checked.{json_at}
 
 -- ---- the order
@@ -104,7 +104,7 @@ pub record IsLockout (v : List ℕ) (f : OpenFault) : Type 0 where
 -- the volume is refused by its first fault, unless the device failed or memory was refused
 abbrev pub IsLockedBy : List ℕ → OpenFault → Type 0
 IsLockedBy v Device = ⊤
-IsLockedBy v Memory = ⊤
+IsLockedBy v Memory = NeedsMetadata v
 IsLockedBy v f = IsLeast open_key (IsLockout v) f
 
 -- ---- the answer

@@ -1,5 +1,5 @@
 //! Opening one keyslot of a volume.
-ghost use Rattle.std.specs.Prelude.{◌≡◌, ◌+◌, ◌^◌, ◌<◌, ◌≤◌, ℕ, List, length, IfOk, IfErr, MatchResult, Option};
+ghost use Rattle.std.specs.Prelude.{◌≡◌, ◌≢◌, ◌+◌, ◌^◌, ◌<◌, ◌≤◌, ℕ, List, length, IfOk, IfErr, MatchResult, Option};
 ghost use Rattle.luks_area.specs.Ranges.{part};
 ghost use Rattle.luks_head.specs.Header2.{HoldsBin2, uuid_field};
 ghost use Rattle.luks_head.specs.Judged2.{IsCopyWithin};
@@ -154,6 +154,7 @@ pub fn open_keyslot<D: Device>(
         → IfOk result (λ found. (other : Option (List ℕ)) → Luks2Opens b json (D.bytes device.old) n passphrase.now other → other ≡ found) }
     ensures refused { (b json : List ℕ) → IsCleared (uuid_field b) json (content meta.now)
         → IfErr result (Luks2Refused b json (D.size device.old) n) }
+    ensures own { IfErr result (λ f. f ≢ OpenFault.Memory) }
 {
     one_value();
     if n > 31 {
@@ -185,6 +186,7 @@ pub fn open_planned<D: Device>(
     ensures count { MatchResult result (λ _. D.failed device.new ≡ D.failed device.old) (λ f. Counts f (D.failed device.old) (D.failed device.new)) }
     ensures opens { D.tells → IfOk result (PlanOpens plan.now (D.bytes device.old) passphrase.now) }
     ensures refused { IfErr result (PlanRefused plan.now (D.size device.old)) }
+    ensures own { IfErr result (λ f. f ≢ OpenFault.Memory) }
 {
     let total = device.len();
     let area = plan.area;

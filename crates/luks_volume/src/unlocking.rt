@@ -7,7 +7,7 @@ ghost use Rattle.luks_head.specs.Judged2.{IsCopyWithin};
 ghost use Rattle.luks_meta.specs.Content.{content};
 ghost use Rattle.luks_meta.specs.Objects.{IsAccepted};
 ghost use Rattle.luks_volume.specs.Entered2.{IsCleared, json_of};
-ghost use Rattle.luks_volume.specs.Planned.{Counts, IsOfDevice};
+ghost use Rattle.luks_volume.specs.Planned.{Counts, IsFailure};
 ghost use Rattle.luks_volume.specs.Tried.{is_of_rank, passed_over, rank_order, Luks1LockedBy, Luks1Tried, Luks1Tries, Luks2LockedBy, Luks2Tried, Luks2Tries, Luks2Unlocks};
 ghost use Rattle.luks_volume.specs.Unlocking.{IsLockedBy, Unlocks};
 
@@ -105,7 +105,7 @@ fn try_luks1<D: Device>(
     ensures same { D.tells → D.bytes device.new ≡ D.bytes device.old }
     ensures count { MatchResult result (λ _. D.failed device.new ≡ D.failed device.old) (λ f. Counts f (D.failed device.old) (D.failed device.new)) }
     ensures tried { D.tells → IfOk result (Luks1Tried header.now (D.bytes device.old) n passphrase.now) }
-    ensures kinds { IfErr result IsOfDevice }
+    ensures kinds { IfErr result IsFailure }
 {
     match open_luks1(alloc, device, header, n, passphrase) {
         Ok(Some(key)) => Ok(Some(key)),
@@ -159,7 +159,7 @@ fn try_rank<D: Device>(
     ensures count { MatchResult result (λ _. D.failed device.new ≡ D.failed device.old) (λ f. Counts f (D.failed device.old) (D.failed device.new)) }
     ensures tries { D.tells → (b json : List ℕ) → IsCleared (uuid_field b) json (content meta.now)
         → IfOk result (Luks2Tries b json (D.bytes device.old) passphrase.now (rank_order rank (content meta.now))) }
-    ensures kinds { IfErr result IsOfDevice }
+    ensures kinds { IfErr result IsFailure }
 {
     for n in 0..32 {
         if is_of_rank(meta, rank, n) {
@@ -201,7 +201,7 @@ fn try_keyslot<D: Device>(
     ensures count { MatchResult result (λ _. D.failed device.new ≡ D.failed device.old) (λ f. Counts f (D.failed device.old) (D.failed device.new)) }
     ensures tried { D.tells → (b json : List ℕ) → IsCleared (uuid_field b) json (content meta.now)
         → IfOk result (Luks2Tried b json (D.bytes device.old) n passphrase.now) }
-    ensures kinds { IfErr result IsOfDevice }
+    ensures kinds { IfErr result IsFailure }
 {
     match open_keyslot(alloc, device, meta, n, passphrase) {
         Ok(Some(key)) => Ok(Some(key)),

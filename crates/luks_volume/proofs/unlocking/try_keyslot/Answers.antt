@@ -1,7 +1,7 @@
 -- A keyslot that is refused or gives no key doesn't open.
 use Rattle.std.proofs.Common.{◌≡◌, ◌∙◌, ℕ, length, subst, sym}
 use Rattle.luks_volume.specs.Entered2.{Luks2Refused}
-use Rattle.luks_volume.proofs.Shut.{luks2_none_shut, luks2_refused_tried}
+use Rattle.luks_volume.proofs.Shut.{luks2_none_shut, passed_fails, luks2_refused_tried}
 use Rattle.luks_volume.proofs.unlocking.try_keyslot.Goals as goal
 
 pub returns-in-Ok-None-clause-tried : goal.returns-in-Ok-None-clause-tried
@@ -16,3 +16,6 @@ returns-in-Err-clause-tried g c = λ tells b json clear.
     rw c.passed_over.ensures
     (luks2_refused_tried b json v c.args.n c.args.passphrase.now c.in-Err.fault
     (subst (λ (m : ℕ). Luks2Refused b json m c.args.n c.in-Err.fault) long (c.in-Err.ensures.refused b json clear)))
+
+pub returns-in-Err-clause-kinds : goal.returns-in-Err-clause-kinds
+returns-in-Err-clause-kinds g c = rw c.passed_over.ensures (passed_fails c.in-Err.fault c.in-Err.ensures.own)

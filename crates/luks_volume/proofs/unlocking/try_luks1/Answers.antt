@@ -1,7 +1,7 @@
 -- A keyslot that is refused or gives no key doesn't open.
 use Rattle.std.proofs.Common.{◌≡◌, ◌∙◌, ℕ, length, subst, sym}
 use Rattle.luks_volume.specs.Entered.{Luks1Refused}
-use Rattle.luks_volume.proofs.Shut.{luks1_none_shut, luks1_refused_tried}
+use Rattle.luks_volume.proofs.Shut.{luks1_none_shut, luks1_own, passed_fails, luks1_refused_tried}
 use Rattle.luks_volume.proofs.unlocking.try_luks1.Goals as goal
 
 pub returns-in-Ok-None-clause-tried : goal.returns-in-Ok-None-clause-tried
@@ -16,3 +16,8 @@ returns-in-Err-clause-tried g c = λ tells.
     rw c.passed_over.ensures
     (luks1_refused_tried c.args.header.now v c.args.n c.args.passphrase.now c.in-Err.fault
     (subst (λ (m : ℕ). Luks1Refused c.args.header.now m c.args.n c.in-Err.fault) long c.in-Err.ensures.refused))
+
+pub returns-in-Err-clause-kinds : goal.returns-in-Err-clause-kinds
+returns-in-Err-clause-kinds g c =
+    rw c.passed_over.ensures
+    (passed_fails c.in-Err.fault (luks1_own c.args.header.now (g.D.Device.size c.args.device.now) c.args.n c.in-Err.fault c.in-Err.ensures.refused))
