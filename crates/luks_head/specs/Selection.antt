@@ -1,4 +1,4 @@
--- Which header of a volume counts (LUKS2 On-Disk Format 1.1, 2.3; the rule for a tie is the project's own).
+-- Which header of a volume counts (LUKS2 On-Disk Format 1.1, 2.1 and 4.5; the rule for a tie is the project's own).
 use Rattle.std.specs.Prelude.{◌≡◌, ◌≢◌, ℕ, ◌+◌, ◌≤◌, ◌<◌, List, length}
 use Rattle.luks_area.specs.First.{IsLeast}
 use Rattle.luks_area.specs.Ranges.{part}

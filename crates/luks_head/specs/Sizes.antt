@@ -1,4 +1,4 @@
--- The sizes of a LUKS2 header, and the places of its second copy (LUKS2 On-Disk Format 1.1, 2.2).
+-- The sizes of a LUKS2 header, and the places of its second copy (LUKS2 On-Disk Format 1.1, 2.1, table 1).
 use Rattle.std.specs.Prelude.{◌≡◌, ℕ, ◌==◌, List, [], ◌∷◌, Bool, true}
 use Rattle.std.specs.List.{list_any}
 

@@ -97,7 +97,7 @@ fn is_version1(head: &[u8]) -> bool
 }
 
 /// Finds the header that counts: that of LUKS1, or else the newer of the sound copies of LUKS2
-/// (LUKS2 On-Disk Format 1.1, 2.3). It reads headers alone, and takes no memory.
+/// (LUKS2 On-Disk Format 1.1, 2.1 and 4.5). It reads headers alone, and takes no memory.
 ///
 /// Refused by `TooShort`, `NotLuks`, `Version` or `NoSoundCopy` by what the volume holds, and by
 /// `Device` where a device call failed.

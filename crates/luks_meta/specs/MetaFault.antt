@@ -16,7 +16,7 @@ use Rattle.luks_meta.specs.AreaText.{JsonText}
 use Rattle.luks_meta.specs.Faults.{IsFaulty, IsPlace, has_fault, place_path}
 use Rattle.luks_meta.specs.Sizes.{has_sizes, has_small_area, has_slot_outside}
 
--- the area holds the text of the value (LUKS2 On-Disk Format 1.1, 3.1; RFC 8259)
+-- the area holds the text of the value (LUKS2 On-Disk Format 1.1, 2.2; RFC 8259)
 pub record Json (area : List ℕ) (j : Data) : Type 0 where
   pub text : List ℕ
   pub placed : JsonText area text

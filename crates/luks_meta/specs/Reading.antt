@@ -62,7 +62,7 @@ bytes_in least most v = option_and_then (kept (λ b. is_between least most (leng
 abbrev pub extent_of : List ℕ → Option Field
 extent_of t = if bytes_eq t (codes "dynamic") then Some dynamic else option_map whole (decimal_of t)
 
--- what the value says, or none where it breaks the rule (LUKS2 On-Disk Format 1.1, 3.1 to 3.6)
+-- what the value says, or none where it breaks the rule (LUKS2 On-Disk Format 1.1, 3.2 to 3.6)
 abbrev pub reads : Rule → Option Data → Option Field
 reads rule.Object v = option_map (λ m. object) (option_and_then as_object v)
 reads rule.Text v = option_map text (text_of v)

@@ -1,4 +1,4 @@
--- Requirements of the metadata (LUKS2 On-Disk Format 1.1, 3.6): features that a tool must know
+-- Requirements of the metadata (LUKS2 On-Disk Format 1.1, 3.5): features that a tool must know
 -- before it changes the volume.
 use Rattle.std.specs.Prelude.{codes, Bool, true, false, not, option_and_then}
 use Rattle.std.specs.Option.{option_map_or}

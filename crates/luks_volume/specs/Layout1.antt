@@ -1,4 +1,4 @@
--- The areas of a LUKS1 volume (LUKS1 On-Disk Format 1.2.3, "The partition header", "Key material").
+-- The areas of a LUKS1 volume (LUKS1 On-Disk Format 1.2.3, "The partition header").
 use Rattle.std.specs.Prelude.{◌≡◌, ℕ, ◌+◌, ◌-◌, ◌*◌, ◌/◌, ◌<◌, List}
 use Rattle.luks_area.specs.declared.area.Area.{Area}
 use Rattle.luks_area.specs.declared.area.AreaName.{AreaName}

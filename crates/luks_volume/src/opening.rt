@@ -23,7 +23,7 @@ use std::alloc::Global;
 
 /// Opens the keyslot `n` by the passphrase: its volume key, or None where the passphrase doesn't give
 /// the key that meets the stored digest. An empty passphrase is a passphrase. LUKS1 On-Disk Format
-/// 1.2.3, 4.4; LUKS2 On-Disk Format 1.1, 4.1.
+/// 1.2.3, 4.3; LUKS2 On-Disk Format 1.1, 4.3.
 ///
 /// It demands only what the keyslot needs: the volume may break other rules, and another keyslot of
 /// LUKS1 may be damaged. The first refusal is answered: `Head` by the selection of the header and the
