@@ -1,7 +1,6 @@
 ghost use Rattle.std.specs.Prelude.{◌+◌, ◌^◌, ◌<◌};
 
 mod failing;
-mod opened;
 mod shapes;
 mod volumes;
 
