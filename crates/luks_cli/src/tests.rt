@@ -1,7 +1,11 @@
 mod broken;
+mod check_luks2;
 mod checks;
-mod checks2;
 mod images;
+mod keys;
 mod lines;
+mod metadata;
+mod open_luks1;
+mod open_luks2;
 mod openings;
 mod shows;

@@ -40,29 +40,6 @@ pub(crate) fn luks1(alloc: Global) -> Result<Vec<u8>, AllocError> {
     Ok(image)
 }
 
-const ZEROS: &str = "AAAAAAAAAAAAAAAAAAAAAAAAAAAAAAAAAAAAAAAAAAA=";
-
-/// The metadata of one keyslot and one segment, with line breaks. `=` stands for 32 zero bytes.
-const METADATA: &str = r#"
-{"config":{"json_size":"12288","keyslots_size":"16744448"},
-"digests":{"0":{"digest":"=","hash":"sha256","iterations":1000,
-"keyslots":["0"],"salt":"=","segments":["0"],"type":"pbkdf2"}},
-"keyslots":{"0":{"af":{"hash":"sha256","stripes":4000,"type":"luks1"},
-"area":{"encryption":"aes-xts-plain64","key_size":64,"offset":"32768","size":"258048","type":"raw"},
-"kdf":{"hash":"sha256","iterations":1000,"salt":"=","type":"pbkdf2"},"key_size":64,"type":"luks2"}},
-"segments":{"0":{"encryption":"aes-xts-plain64","iv_tweak":"0","offset":"16777216",
-"sector_size":512,"size":"dynamic","type":"crypt"}},
-"tokens":{}}"#;
-
-/// That metadata, compact, with other texts in place of the first that these pairs name.
-pub(crate) fn metadata(alloc: Global, changes: &[(&str, &str)]) -> Result<String, AllocError> {
-    let mut text = METADATA.replace(alloc, "\n", "")?;
-    for (from, to) in changes.iter() {
-        text = text.as_str().replacen(alloc, *from, to, 1)?;
-    }
-    text.as_str().replace(alloc, "=", ZEROS)
-}
-
 /// A copy of a LUKS2 header of 16384 bytes for the place `at`, with its checksum.
 fn luks2_copy(
     alloc: Global,

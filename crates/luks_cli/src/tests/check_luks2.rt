@@ -1,4 +1,5 @@
-use super::images::{luks2, metadata, put};
+use super::images::{luks2, put};
+use super::metadata::metadata;
 use crate::{Input, Inputs, execute, line};
 use luks_volume::MemDevice;
 use std::alloc::Global;
