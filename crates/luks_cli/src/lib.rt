@@ -15,7 +15,8 @@ mod opening;
 mod passphrases;
 mod request;
 mod showing;
-mod showing2;
+mod showing_luks1;
+mod showing_luks2;
 #[cfg(test)]
 mod tests;
 mod words;

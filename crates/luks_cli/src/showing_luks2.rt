@@ -1,4 +1,4 @@
-//! The command `show` for LUKS2.
+//! The lines of a LUKS2 header.
 ghost use Rattle.std.specs.Prelude.{◌+◌, ◌<◌, ◌^◌};
 ghost use Rattle.luks_head.specs.Judged2.{IsCopyWithin};
 
