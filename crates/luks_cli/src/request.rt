@@ -1,3 +1,6 @@
+ghost use Rattle.std.specs.Prelude.{◌≡◌, option_map};
+ghost use Rattle.luks_cli.specs.Named.{passphrase_of, volume_of};
+
 use luks_volume::Data;
 
 /// What a command line asks for. Its files are named as the command line names them.
@@ -28,7 +31,9 @@ pub enum Line<'a> {
 
 impl<'a> Line<'a> {
     /// The file of the volume.
-    pub fn volume(&self) -> &'a str {
+    pub fn volume(&self) -> &'a str
+        ensures { result.now ≡ volume_of self.now }
+    {
         match self {
             Line::Check { volume, .. } | Line::Show { volume } | Line::Open { volume, .. } => {
                 *volume
@@ -37,7 +42,9 @@ impl<'a> Line<'a> {
     }
 
     /// The file of the passphrase, where the command needs one.
-    pub fn passphrase(&self) -> Option<&'a str> {
+    pub fn passphrase(&self) -> Option<&'a str>
+        ensures { option_map (λ name. name.now) result ≡ passphrase_of self.now }
+    {
         match self {
             Line::Check { .. } | Line::Show { .. } => None,
             Line::Open { passphrase, .. } => Some(*passphrase),
