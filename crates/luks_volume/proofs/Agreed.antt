@@ -13,7 +13,8 @@ use Rattle.luks_volume.specs.Answer.{open_key, Answer, HasPlanAs, IsRefusalAs, I
 use Rattle.luks_volume.specs.Agreement.{Agrees}
 use Rattle.luks_volume.specs.Checked.{json_at}
 use Rattle.luks_volume.specs.Entered.{Luks1Opens}
-use Rattle.luks_volume.specs.Entered2.{Luks2Opens, json_of}
+use Rattle.luks_volume.specs.Copied.{json_of}
+use Rattle.luks_volume.specs.Entered2.{Luks2Opens}
 use Rattle.luks_volume.proofs.Answered.{same_json}
 
 -- keys that stand neither after the other are one

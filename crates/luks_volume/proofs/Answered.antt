@@ -15,7 +15,8 @@ use Rattle.luks_volume.specs.declared.open_fault.OpenFault.TheVariants.{Head, Me
 use Rattle.luks_volume.specs.Answer.{open_key, head_step, Answer, IsLuks2Refusal, IsRefusalAs, Opens, IsRefusedBy, refused, opened_to}
 use Rattle.luks_volume.specs.Checked.{json_at}
 use Rattle.luks_volume.specs.Entered.{Luks1Opens, Luks1Refused}
-use Rattle.luks_volume.specs.Entered2.{Luks2Opens, Luks2Refused, json_of}
+use Rattle.luks_volume.specs.Copied.{json_of}
+use Rattle.luks_volume.specs.Entered2.{Luks2Opens, Luks2Refused}
 use Rattle.luks_volume.specs.Planned.{outer_fault}
 use Rattle.luks_volume.proofs.Refusals1.{together}
 

@@ -1,30 +1,28 @@
 -- From what was judged of a header to what holds of the volume.
 use Rattle.std.proofs.Common.{◌≡◌, ◌≢◌, ℕ, ◌+◌, ◌-◌, ◌<◌, ◌≤◌, List, ◌∷◌, length, subst, sym, ap, ◌∙◌, refl, arith}
-use Rattle.std.specs.Prelude.{⊤}
 use Rattle.luks_area.specs.declared.area.Area.{Area as TheArea}
 use Rattle.luks_area.specs.declared.area.AreaName.{AreaName}
 use Rattle.luks_area.specs.declared.areas.Entry.{Entry}
 use Rattle.luks_area.specs.First.{NotAfter, IsLeast}
 use Rattle.luks_area.specs.Ranges.{part}
-use Rattle.luks_head.specs.declared.bin2.Bin2.{Bin2}
 use Rattle.luks_head.specs.declared.fault.HeadFault.{HeadFault}
 use Rattle.luks_head.specs.declared.fault.HeadFault.TheVariants as head
 use Rattle.luks_head.specs.declared.selection.Copies.{Copies}
 use Rattle.luks_head.specs.Faults.{head_key}
-use Rattle.luks_head.specs.Header2.{header_at, hdr_size, HoldsBin2}
+use Rattle.luks_head.specs.Header2.{header_at, uuid_field}
 use Rattle.luks_head.specs.Selection.{Choice, luks1, luks2, nothing, Chosen, IsVersion1, HasNoCopy, IsSelectFault, IsRefused, IsOfSelection}
 use Rattle.luks_volume.specs.declared.fault.CheckFault.{CheckFault}
 use Rattle.luks_volume.specs.declared.fault.CheckFault.TheVariants.{Head, Meta, Area, Device, Memory}
 use Rattle.luks_volume.specs.declared.report.Data.{Data}
-use Rattle.luks_volume.specs.Checked.{check_key, IsLuks1Volume, IsLuks1Fault, IsLuks2Volume, IsLuks2Fault, IsLuks2Refusal, HasLuks2Area, json_at, IsOtherFault, WellFormedAs, HasAreaAs, IsFaultAs, WellFormed, AreaOf, IsFault, First, IsRefusal}
+use Rattle.luks_volume.specs.Checked.{check_key, IsLuks1Volume, IsLuks1Fault, IsLuks2Volume, IsLuks2Fault, HasLuks2Area, json_at, IsOtherFault, WellFormedAs, HasAreaAs, IsFaultAs, WellFormed, AreaOf, IsFault, First, IsRefusal}
+use Rattle.luks_volume.specs.Copied.{CopyRefused, checking_fault}
+use Rattle.luks_volume.specs.declared.luks2_copy.CopyFault.{CopyFault}
+use Rattle.luks_volume.specs.declared.luks2_copy.CopyFault.TheVariants as copy
 use Rattle.luks_volume.specs.Listing.{Lists}
 use Rattle.luks_volume.specs.Reported.{IsFromOutside, outer_fault}
+use Rattle.luks_volume.proofs.Judged2.{least_meta_of, least_uuid}
 
--- LUKS2: the JSON area, and acceptance
-
-pub json_is : (v bytes : List ℕ) (h : Bin2) → HoldsBin2 (header_at v h.hdr_offset) h
-    → bytes ≡ part v (h.hdr_offset + 4096) (h.hdr_size - 4096) → bytes ≡ json_at v h.hdr_offset
-json_is v bytes h holds is = is ∙ ap (λ s. part v (h.hdr_offset + 4096) (s - 4096)) (sym holds.hdr_size)
+-- LUKS2: acceptance
 
 pub luks2_accepted : (v : List ℕ) (payload : Data) (o : ℕ) (copies : Copies) (json : List ℕ) (total : ℕ) → Chosen v (luks2 o copies)
     → json ≡ json_at v o → total ≡ length v → IsLuks2Volume (header_at v o) json payload total → WellFormed v payload
@@ -81,8 +79,8 @@ module _ (only : (v : List ℕ) (c d : Choice) → Chosen v c → Chosen v d →
 
   pub luks1_refused : (v : List ℕ) (payload : Data) (h : List ℕ) (total : ℕ) (f : CheckFault) → Chosen v luks1 → h ≡ part v 0 592 → total ≡ length v
       → IsLeast check_key (IsLuks1Fault h payload total) f → IsRefusal v payload f
-  luks1_refused v payload h total Device chosen head size least = tt
-  luks1_refused v payload h total Memory chosen head size least = tt
+  luks1_refused v payload h total Device chosen head size least = absurd least.0
+  luks1_refused v payload h total Memory chosen head size least = absurd least.0
   luks1_refused v payload h total (Head f) chosen head size least =
       first_as v payload luks1 (Head f) chosen
       (subst (λ t. IsLeast check_key (IsLuks1Fault (part v 0 592) payload t) (Head f)) size
@@ -94,12 +92,6 @@ module _ (only : (v : List ℕ) (c d : Choice) → Chosen v c → Chosen v d →
       (subst (λ b. IsLeast check_key (IsLuks1Fault b payload total) (Area f)) head least))
 
   -- LUKS2
-
-  pub luks2_formed : (v : List ℕ) (payload : Data) (o : ℕ) (copies : Copies) (json : List ℕ) (total : ℕ) → Chosen v (luks2 o copies)
-      → json ≡ json_at v o → total ≡ length v → WellFormed v payload → IsLuks2Volume (header_at v o) json payload total
-  luks2_formed v payload o copies json total chosen text size well =
-      subst (IsLuks2Volume (header_at v o) json payload) (sym size)
-      (subst (λ b. IsLuks2Volume (header_at v o) b payload (length v)) (sym text) (formed_as v payload (luks2 o copies) chosen well))
 
   pub luks2_areas_are : (v : List ℕ) (payload : Data) (o : ℕ) (copies : Copies) (json : List ℕ) (total : ℕ) (es : List Entry) → Chosen v (luks2 o copies)
       → json ≡ json_at v o → total ≡ length v → Lists es (HasLuks2Area (header_at v o) json payload total) → Lists es (AreaOf v payload)
@@ -116,12 +108,23 @@ module _ (only : (v : List ℕ) (c d : Choice) → Chosen v c → Chosen v d →
       (subst (λ b. IsLeast check_key (IsLuks2Fault (header_at v o) b payload total) f) text least))
 
   pub luks2_refused : (v : List ℕ) (payload : Data) (o : ℕ) (copies : Copies) (json : List ℕ) (total : ℕ) (f : CheckFault) → Chosen v (luks2 o copies)
-      → json ≡ json_at v o → total ≡ length v → IsLuks2Refusal (header_at v o) json payload total f → IsRefusal v payload f
-  luks2_refused v payload o copies json total (Head f) chosen text size is = luks2_first v payload o copies json total (Head f) chosen text size is
-  luks2_refused v payload o copies json total (Meta f) chosen text size is = luks2_first v payload o copies json total (Meta f) chosen text size is
-  luks2_refused v payload o copies json total (Area f) chosen text size is = luks2_first v payload o copies json total (Area f) chosen text size is
-  luks2_refused v payload o copies json total Device chosen text size is = tt
-  luks2_refused v payload o copies json total Memory chosen text size is = tt
+      → json ≡ json_at v o → total ≡ length v → IsLeast check_key (IsLuks2Fault (header_at v o) json payload total) f → IsRefusal v payload f
+  luks2_refused v payload o copies json total (Head f) chosen text size least = luks2_first v payload o copies json total (Head f) chosen text size least
+  luks2_refused v payload o copies json total (Meta f) chosen text size least = luks2_first v payload o copies json total (Meta f) chosen text size least
+  luks2_refused v payload o copies json total (Area f) chosen text size least = luks2_first v payload o copies json total (Area f) chosen text size least
+  luks2_refused v payload o copies json total Device chosen text size least = absurd least.0
+  luks2_refused v payload o copies json total Memory chosen text size least = absurd least.0
+
+  -- the copy's own refusal is the volume's
+  pub copy_refused : (v : List ℕ) (payload : Data) (o : ℕ) (copies : Copies) (json : List ℕ) (f : CopyFault) → Chosen v (luks2 o copies)
+      → json ≡ json_at v o → CopyRefused (uuid_field (header_at v o)) json f → IsRefusal v payload (checking_fault f)
+  copy_refused v payload o copies json (copy.Head f) chosen text x =
+      luks2_first v payload o copies json (length v) (Head f) chosen text refl (least_uuid (header_at v o) json payload (length v) f x)
+  copy_refused v payload o copies json (copy.Meta f) chosen text x =
+      luks2_first v payload o copies json (length v) (Meta f) chosen text refl
+      (least_meta_of (header_at v o) json payload (length v) f x.uuid_faultless x.least)
+  copy_refused v payload o copies json copy.Device chosen text x = tt
+  copy_refused v payload o copies json copy.Memory chosen text x = record { place = o; copies = copies; chosen = chosen; uuid = x }
 
   -- nothing counts
 
@@ -165,3 +168,12 @@ module _ (only : (v : List ℕ) (c d : Choice) → Chosen v c → Chosen v d →
   select_only v payload (head.Iterations o) is well = absurd is.0
   select_only v payload head.Device is well = tt
   select_only v payload head.Memory is well = absurd is.0
+
+-- a refusal of a volume without faults comes from outside
+
+pub outside : (v : List ℕ) (payload : Data) (f : CheckFault) → ((g : CheckFault) → IsFault v payload g → ⊥) → IsRefusal v payload f → IsFromOutside f
+outside v payload (Head f) none is = none (Head f) is.0
+outside v payload (Meta f) none is = none (Meta f) is.0
+outside v payload (Area f) none is = none (Area f) is.0
+outside v payload Device none is = tt
+outside v payload Memory none is = tt

@@ -6,10 +6,9 @@ use Rattle.luks_head.specs.Header2.{IsUuidFault}
 use Rattle.luks_meta.specs.declared.fault.MetaFault.{MetaFault}
 use Rattle.luks_meta.specs.declared.fault.MetaFault.TheVariants as meta
 use Rattle.luks_meta.specs.MetaFault.{IsMetaFault, meta_key}
-use Rattle.luks_volume.specs.declared.open_fault.OpenFault.{OpenFault}
-use Rattle.luks_volume.specs.declared.open_fault.OpenFault.TheVariants.{Head, Meta, NoSuchSlot, SlotFree, Outside, Slot, Device, Memory}
-use Rattle.luks_volume.specs.Planned.{IsOfDevice}
-use Rattle.luks_volume.specs.Entered2.{CopyRefused, outer_meta_fault}
+use Rattle.luks_volume.specs.declared.luks2_copy.CopyFault.{CopyFault}
+use Rattle.luks_volume.specs.declared.luks2_copy.CopyFault.TheVariants.{Head, Meta, Device, Memory}
+use Rattle.luks_volume.specs.Copied.{CopyRefused, IsFromOutside, outer_meta_fault}
 
 pub meta_refused : (uuid json : List ℕ) (f : MetaFault) → ((g : HeadFault) → IsUuidFault uuid g → ⊥)
     → (f ≢ meta.Memory → IsLeast meta_key (IsMetaFault json) f) → CopyRefused uuid json (outer_meta_fault f)
@@ -25,12 +24,8 @@ meta_refused uuid json (meta.AreaTooSmall n) clear x = record { uuid_faultless =
 meta_refused uuid json (meta.Region n) clear x = record { uuid_faultless = clear; least = x (λ e. cc) }
 meta_refused uuid json meta.Memory clear x = clear
 
-pub device_refuses : (uuid json : List ℕ) (f : OpenFault) → IsOfDevice f → ((g : HeadFault) → IsUuidFault uuid g → ⊥) → CopyRefused uuid json f
-device_refuses uuid json (Head f) x clear = absurd x
-device_refuses uuid json (Meta f) x clear = absurd x
-device_refuses uuid json NoSuchSlot x clear = absurd x
-device_refuses uuid json SlotFree x clear = absurd x
-device_refuses uuid json Outside x clear = absurd x
-device_refuses uuid json (Slot f) x clear = absurd x
-device_refuses uuid json Device x clear = tt
-device_refuses uuid json Memory x clear = clear
+pub outside_refuses : (uuid json : List ℕ) (f : CopyFault) → IsFromOutside f → ((g : HeadFault) → IsUuidFault uuid g → ⊥) → CopyRefused uuid json f
+outside_refuses uuid json (Head f) x clear = absurd x
+outside_refuses uuid json (Meta f) x clear = absurd x
+outside_refuses uuid json Device x clear = tt
+outside_refuses uuid json Memory x clear = clear

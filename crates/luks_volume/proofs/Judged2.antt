@@ -30,10 +30,9 @@ use Rattle.luks_volume.specs.declared.fault.CheckFault.{CheckFault}
 use Rattle.luks_volume.specs.declared.fault.CheckFault.TheVariants.{Head, Meta, Area, Device, Memory}
 use Rattle.luks_volume.specs.declared.report.Data.{Data}
 use Rattle.luks_volume.specs.declared.report.Data.TheVariants.{Here}
-use Rattle.luks_volume.specs.Checked.{check_key, HasLuks2Area, HasSegmentBelow, HoldsMeta, IsFirstBelow, IsLuks2MetaFault, IsLuks2Fault, IsLuks2Faultless, IsLuks2Refusal, SegmentsFollow, outer_meta_fault}
+use Rattle.luks_volume.specs.Checked.{check_key, HasLuks2Area, HasSegmentBelow, HoldsMeta, IsFirstBelow, IsLuks2MetaFault, IsLuks2Fault, IsLuks2Faultless, SegmentsFollow}
 use Rattle.luks_volume.specs.Layout2.{Luks2Area}
 use Rattle.luks_volume.specs.Listing.{Lists}
-use Rattle.luks_volume.specs.Reported.{IsFromOutside}
 
 -- ---- segments and the region of key areas
 
@@ -196,7 +195,7 @@ to_luks2_fault json payload (meta.Region (Slot m)) is = is
 to_luks2_fault json payload (meta.Region (Segment m)) is = absurd is.fault
 to_luks2_fault json payload meta.Memory is = is
 
-least_meta_of : (b json : List ℕ) (payload : Data) (total : ℕ) (f : MetaFault) → ((g : HeadFault) → IsUuidFault (uuid_field b) g → ⊥)
+pub least_meta_of : (b json : List ℕ) (payload : Data) (total : ℕ) (f : MetaFault) → ((g : HeadFault) → IsUuidFault (uuid_field b) g → ⊥)
     → IsLeast meta_key (IsMetaFault json) f → IsLeast check_key (IsLuks2Fault b json payload total) (Meta f)
 least_meta_of b json payload total f uuid least = (to_luks2_fault json payload f least.0, after)
   where
@@ -210,20 +209,6 @@ least_meta_of b json payload total f uuid least = (to_luks2_fault json payload f
     after (Area g) is = (omega arith, λ e. absurd (omega (arith, e)))
     after Device is = absurd is
     after Memory is = absurd is
-
-pub meta_refused : (b json : List ℕ) (payload : Data) (total : ℕ) (f : MetaFault) → ((g : HeadFault) → IsUuidFault (uuid_field b) g → ⊥)
-    → (f ≢ meta.Memory → IsLeast meta_key (IsMetaFault json) f) → IsLuks2Refusal b json payload total (outer_meta_fault f)
-meta_refused b json payload total meta.JsonArea uuid least = least_meta_of b json payload total meta.JsonArea uuid (least (λ e. cc))
-meta_refused b json payload total meta.BadJson uuid least = least_meta_of b json payload total meta.BadJson uuid (least (λ e. cc))
-meta_refused b json payload total meta.NotWhole uuid least = least_meta_of b json payload total meta.NotWhole uuid (least (λ e. cc))
-meta_refused b json payload total (meta.Shape p) uuid least = least_meta_of b json payload total (meta.Shape p) uuid (least (λ e. cc))
-meta_refused b json payload total (meta.Kind p) uuid least = least_meta_of b json payload total (meta.Kind p) uuid (least (λ e. cc))
-meta_refused b json payload total (meta.NoSuchName p) uuid least = least_meta_of b json payload total (meta.NoSuchName p) uuid (least (λ e. cc))
-meta_refused b json payload total (meta.Assigned p) uuid least = least_meta_of b json payload total (meta.Assigned p) uuid (least (λ e. cc))
-meta_refused b json payload total meta.Sizes uuid least = least_meta_of b json payload total meta.Sizes uuid (least (λ e. cc))
-meta_refused b json payload total (meta.AreaTooSmall n) uuid least = least_meta_of b json payload total (meta.AreaTooSmall n) uuid (least (λ e. cc))
-meta_refused b json payload total (meta.Region a) uuid least = least_meta_of b json payload total (meta.Region a) uuid (least (λ e. cc))
-meta_refused b json payload total meta.Memory uuid least = tt
 
 pub least_uuid : (b json : List ℕ) (payload : Data) (total : ℕ) (f : HeadFault) → IsLeast head_key (IsUuidFault (uuid_field b)) f
     → IsLeast check_key (IsLuks2Fault b json payload total) (Head f)
@@ -254,14 +239,3 @@ pub region_none : (json : List ℕ) (m : Meta2) (o : Option ℕ) → HoldsMeta j
     → IsNone o → SegmentsFollow (length json) (content m)
 region_none json m None holds told is = subst (λ l. SegmentsFollow l (content m)) holds.len (segments_follow (area_len m) (content m) told)
 region_none json m (Some n) holds told is = absurd (cc)
-
-pub refusal_of : (b json : List ℕ) (payload : Data) (total : ℕ) (f : CheckFault) → IsLeast check_key (IsLuks2Fault b json payload total) f
-    → IsLuks2Refusal b json payload total f
-refusal_of b json payload total (Head f) least = least
-refusal_of b json payload total (Meta f) least = least
-refusal_of b json payload total (Area f) least = least
-refusal_of b json payload total Device least = least
-refusal_of b json payload total Memory least = tt
-
-pub only_memory : (f : MetaFault) → f ≡ meta.Memory → IsFromOutside (outer_meta_fault f)
-only_memory f e = subst (λ g. IsFromOutside (outer_meta_fault g)) (sym e) tt

@@ -16,7 +16,10 @@ use Rattle.luks_slot.specs.Refusal.{slot_refusal}
 use Rattle.luks_volume.specs.declared.open_fault.OpenFault.{OpenFault}
 use Rattle.luks_volume.specs.declared.open_fault.OpenFault.TheVariants.{Head, Meta, NoSuchSlot, SlotFree, Outside, Slot, Device, Memory}
 use Rattle.luks_volume.specs.Answer.{open_key, head_step, slot_row, IsLuks2Refusal}
-use Rattle.luks_volume.specs.Entered2.{IsCleared, CopyRefused, Luks2Refused, Luks2Opens}
+use Rattle.luks_volume.specs.declared.luks2_copy.CopyFault.{CopyFault}
+use Rattle.luks_volume.specs.declared.luks2_copy.CopyFault.TheVariants as copy
+use Rattle.luks_volume.specs.Copied.{CopyRefused, IsCleared, opening_fault}
+use Rattle.luks_volume.specs.Entered2.{Luks2Refused, Luks2Opens}
 use Rattle.luks_volume.specs.Planned.{PlanOpens, PlanRefused}
 use Rattle.luks_volume.specs.Plans.{HasLuks2Plan}
 use Rattle.luks_volume.proofs.Alike.{same_answer, same_refusal}
@@ -39,8 +42,8 @@ uuid_step uuid head.Memory x = absurd x
 
 -- ---- the uuid and the metadata
 
-pub copy_first : (b json : List ℕ) (total n : ℕ) (f : OpenFault) → CopyRefused (uuid_field b) json f → Luks2Refused b json total n f
-copy_first b json total n (Head f) x = (x.0, after)
+pub copy_first : (b json : List ℕ) (total n : ℕ) (f : CopyFault) → CopyRefused (uuid_field b) json f → Luks2Refused b json total n (opening_fault f)
+copy_first b json total n (copy.Head f) x = (x.0, after)
   where
     step : head_step f ≡ 1
     step = uuid_step (uuid_field b) f x.0
@@ -54,7 +57,7 @@ copy_first b json total n (Head f) x = (x.0, after)
     after (Slot g) is = let here = step in sooner (head_step f) 7 (head_key f) (slot_row g ∷ []) (omega (arith, here))
     after Device is = absurd is
     after Memory is = absurd is
-copy_first b json total n (Meta f) x = (x.least.0, after)
+copy_first b json total n (copy.Meta f) x = (x.least.0, after)
   where
     after : (g : OpenFault) → IsLuks2Refusal b json total n g → NotAfter (open_key (Meta f)) (open_key g)
     after (Head g) is = absurd (x.uuid_faultless g is)
@@ -65,12 +68,8 @@ copy_first b json total n (Meta f) x = (x.least.0, after)
     after (Slot g) is = sooner 2 7 (meta_key f) (slot_row g ∷ []) (omega arith)
     after Device is = absurd is
     after Memory is = absurd is
-copy_first b json total n NoSuchSlot x = absurd x
-copy_first b json total n SlotFree x = absurd x
-copy_first b json total n Outside x = absurd x
-copy_first b json total n (Slot f) x = absurd x
-copy_first b json total n Device x = x
-copy_first b json total n Memory x = x
+copy_first b json total n copy.Device x = x
+copy_first b json total n copy.Memory x = x
 
 -- ---- the keyslot
 

@@ -19,7 +19,10 @@ use Rattle.luks_volume.specs.declared.unlocking.Rank.TheVariants.{Preferred, Nor
 use Rattle.luks_volume.specs.Answer.{open_key, head_step, HasPlanAs, IsRefusalAs, Opens}
 use Rattle.luks_volume.specs.Checked.{json_at}
 use Rattle.luks_volume.specs.Entered.{Luks1Opens}
-use Rattle.luks_volume.specs.Entered2.{CopyRefused, IsCleared, Luks2Opens, json_of}
+use Rattle.luks_volume.specs.declared.luks2_copy.CopyFault.{CopyFault}
+use Rattle.luks_volume.specs.declared.luks2_copy.CopyFault.TheVariants as copy
+use Rattle.luks_volume.specs.Copied.{CopyRefused, IsCleared, json_of, opening_fault}
+use Rattle.luks_volume.specs.Entered2.{Luks2Opens}
 use Rattle.luks_volume.specs.Planned.{outer_fault, IsFailure}
 use Rattle.luks_volume.specs.Tried.{rank_order, Luks1LockedBy, Luks1Shut, Luks1Tries, Luks2LockedBy, Luks2Shut, Luks2Tries, Luks2Unlocks}
 use Rattle.luks_volume.specs.Unlocking.{luks1_order, luks2_order, IsLockedBy, IsLockout, IsLockoutAs, IsLuks1Lockout, IsLuks2Lockout, StaysShut, Unlocks}
@@ -45,8 +48,8 @@ common_locks h f least = (least.0, after)
     after Device is = absurd is
     after Memory is = absurd is
 
-pub copy_locks : (b json : List ℕ) (f : OpenFault) → CopyRefused (uuid_field b) json f → Luks2LockedBy b json f
-copy_locks b json (Head f) x = (x.0, after)
+pub copy_locks : (b json : List ℕ) (f : CopyFault) → CopyRefused (uuid_field b) json f → Luks2LockedBy b json (opening_fault f)
+copy_locks b json (copy.Head f) x = (x.0, after)
   where
     step : head_step f ≡ 1
     step = uuid_step (uuid_field b) f x.0
@@ -60,7 +63,7 @@ copy_locks b json (Head f) x = (x.0, after)
     after (Slot g) is = absurd is
     after Device is = absurd is
     after Memory is = absurd is
-copy_locks b json (Meta f) x = (x.least.0, after)
+copy_locks b json (copy.Meta f) x = (x.least.0, after)
   where
     after : (g : OpenFault) → IsLuks2Lockout b json g → NotAfter (open_key (Meta f)) (open_key g)
     after (Head g) is = absurd (x.uuid_faultless g is)
@@ -71,12 +74,8 @@ copy_locks b json (Meta f) x = (x.least.0, after)
     after (Slot g) is = absurd is
     after Device is = absurd is
     after Memory is = absurd is
-copy_locks b json NoSuchSlot x = absurd x
-copy_locks b json SlotFree x = absurd x
-copy_locks b json Outside x = absurd x
-copy_locks b json (Slot f) x = absurd x
-copy_locks b json Device x = x
-copy_locks b json Memory x = x
+copy_locks b json copy.Device x = x
+copy_locks b json copy.Memory x = x
 
 -- the first fault by what counts is the volume's first fault
 locked_as : (v : List ℕ) (c : Choice) (f : OpenFault) → Chosen v c → ((d : Choice) → Chosen v d → c ≡ d)

@@ -6,7 +6,6 @@ use Rattle.luks_area.specs.Ranges.{part}
 use Rattle.luks_head.specs.declared.fault.HeadFault.{HeadFault}
 use Rattle.luks_head.specs.declared.fault.HeadFault.TheVariants as head
 use Rattle.luks_head.specs.declared.fault.IterationsOf.TheVariants as of
-use Rattle.luks_head.specs.declared.selection.Copies.{Copies}
 use Rattle.luks_head.specs.Faults.{head_key, IsCommonFault, IsEntryFault}
 use Rattle.luks_head.specs.Header1.{active_word, disabled_word, entry}
 use Rattle.luks_head.specs.Header2.{header_at, uuid_field, IsUuidFault}
@@ -21,7 +20,7 @@ use Rattle.luks_slot.specs.Opening.{slot_key}
 use Rattle.luks_slot.specs.Refusal.{slot_refusal}
 use Rattle.luks_volume.specs.declared.open_fault.OpenFault.{OpenFault}
 use Rattle.luks_volume.specs.declared.open_fault.OpenFault.TheVariants.{Head, Meta, NoSuchSlot, SlotFree, Outside, Slot, Device, Memory}
-use Rattle.luks_volume.specs.Checked.{json_at}
+use Rattle.luks_volume.specs.Checked.{json_at, NeedsMetadata}
 use Rattle.luks_volume.specs.Plans.{HasLuks1Plan, HasLuks2Plan}
 
 -- ---- the order of the refusals
@@ -158,13 +157,6 @@ Answer v n p no_key = Opens v n p None
 abbrev pub opened_to : Option (List ℕ) → Opened
 opened_to (Some k) = opens k
 opened_to None = no_key
-
--- memory is taken for the metadata of LUKS2 alone: a copy counts, and its uuid has no fault
-pub record NeedsMetadata (v : List ℕ) : Type 0 where
-  pub place : ℕ
-  pub copies : Copies
-  pub chosen : Chosen v (luks2 place copies)
-  pub uuid : (f : HeadFault) → IsUuidFault (uuid_field (header_at v place)) f → ⊥
 
 -- the keyslot is refused as the answer says, unless the device failed or memory was refused
 abbrev pub IsRefusedBy : List ℕ → ℕ → List ℕ → OpenFault → Type 0

@@ -9,6 +9,7 @@ use Rattle.luks_area.specs.First.{IsLeast}
 use Rattle.luks_area.specs.Ranges.{part}
 use Rattle.luks_head.specs.declared.fault.HeadFault.{HeadFault}
 use Rattle.luks_head.specs.declared.luks1.Luks1.{Luks1}
+use Rattle.luks_head.specs.declared.selection.Copies.{Copies}
 use Rattle.luks_head.specs.Faults.{head_key, IsLuks1Fault as IsLuks1HeadFault}
 use Rattle.luks_head.specs.Header1.{IsLuks1}
 use Rattle.luks_head.specs.Header2.{header_at, hdr_size, uuid_field, IsUuidField, IsUuidFault}
@@ -149,16 +150,18 @@ pub record IsFault (v : List ℕ) (payload : Data) (f : CheckFault) : Type 0 whe
 abbrev pub First : List ℕ → Data → CheckFault → Type 0
 First v payload f = IsLeast check_key (IsFault v payload) f
 
+-- memory is taken for the metadata of LUKS2 alone: a copy counts, and its uuid has no fault
+pub record NeedsMetadata (v : List ℕ) : Type 0 where
+  pub place : ℕ
+  pub copies : Copies
+  pub chosen : Chosen v (luks2 place copies)
+  pub uuid : (f : HeadFault) → IsUuidFault (uuid_field (header_at v place)) f → ⊥
+
 -- a refusal: the first fault, unless the device failed or memory was refused
 abbrev pub IsRefusal : List ℕ → Data → CheckFault → Type 0
 IsRefusal v payload Device = Unit {0}
-IsRefusal v payload Memory = Unit {0}
+IsRefusal v payload Memory = NeedsMetadata v
 IsRefusal v payload f = First v payload f
-
--- a refusal by the binary header or the metadata of a LUKS2 copy
-abbrev pub IsLuks2Refusal : List ℕ → List ℕ → Data → ℕ → CheckFault → Type 0
-IsLuks2Refusal b json payload total Memory = Unit {0}
-IsLuks2Refusal b json payload total f = IsLeast check_key (IsLuks2Fault b json payload total) f
 
 -- `m` is the metadata of the JSON area
 pub record HoldsMeta (json : List ℕ) (m : Meta2) : Type 0 where
@@ -176,8 +179,3 @@ pub record IsFirstBelow (json : List ℕ) (payload : Data) (j : Value) (n : ℕ)
   pub numbered : n < 32
   pub below : has_segment_below (length json) j n ≡ true
   pub first : (m : ℕ) → m < n → has_segment_below (length json) j m ≡ false
-
--- the fault of the metadata as that of a check: want of memory stands for itself
-abbrev pub outer_meta_fault : MetaFault → CheckFault
-outer_meta_fault meta.Memory = Memory
-outer_meta_fault f = Meta f

@@ -1,4 +1,5 @@
 pub mod Checked
+pub mod Copied
 pub mod Layout1
 pub mod Layout2
 pub mod Listing

@@ -17,8 +17,8 @@ use Rattle.luks_meta.specs.Reading.{Field, object, text, whole, absent, dynamic,
 use Rattle.luks_meta.specs.Says.{member_at}
 use Rattle.luks_volume.specs.declared.open_fault.OpenFault.{OpenFault}
 use Rattle.luks_volume.specs.declared.open_fault.OpenFault.TheVariants.{Head, Meta, NoSuchSlot, SlotFree, Outside, Slot, Device, Memory}
-use Rattle.luks_volume.specs.Answer.{open_key, opens, Answer, IsSelectRefusal, NeedsMetadata}
-use Rattle.luks_volume.specs.Checked.{json_at}
+use Rattle.luks_volume.specs.Answer.{open_key, opens, Answer, IsSelectRefusal}
+use Rattle.luks_volume.specs.Checked.{json_at, NeedsMetadata}
 
 -- ---- the order
 

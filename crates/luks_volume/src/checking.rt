@@ -4,14 +4,15 @@ ghost use Rattle.luks_head.specs.Header2.{HoldsBin2};
 ghost use Rattle.luks_head.specs.Judged2.{IsCopyWithin};
 ghost use Rattle.luks_head.specs.Selection.{IsSelected};
 ghost use Rattle.luks_head.specs.declared.selection.Selected.TheVariants.{V2};
-ghost use Rattle.luks_volume.specs.Checked.{check_key, HasLuks2Area, IsLuks2Refusal, IsLuks2Volume, IsRefusal, WellFormed};
+ghost use Rattle.luks_volume.specs.Checked.{IsRefusal, WellFormed};
 ghost use Rattle.luks_volume.specs.Lawful.{IsLawful};
 ghost use Rattle.luks_volume.specs.Listing.{Lists};
 ghost use Rattle.luks_volume.specs.Reported.{Counts, IsFromOutside, Reports, outer_fault};
 
 use crate::fault::CheckFault;
-use crate::judging::{judge_luks1, judge_luks2};
-use crate::laws::well_formed_volume;
+use crate::judging::{judge_layout, judge_luks1};
+use crate::laws::{no_fault_is_well_formed, well_formed_volume};
+use crate::luks2_copy::luks2_meta;
 use crate::report::{Data, Report, Version};
 use luks_area::{Areas, Device};
 use luks_head::{Bin2, Copies, HeadFault, Selected, one_choice, select};
@@ -19,7 +20,8 @@ use std::alloc::Global;
 
 /// Whether the volume is well formed, with its areas, or else its first fault.
 ///
-/// `data_` says where the payload lies. Memory is taken for the metadata of LUKS2 alone.
+/// `data_` says where the payload lies. `Device` comes exactly where a device call failed. Memory is
+/// taken for the metadata of LUKS2 alone.
 pub fn check<D: Device>(alloc: Global, device: &mut D, data_: Data) -> Result<Report, CheckFault>
     requires { D.failed device.old + 1 < 2 ^ 64 }
     ensures size { D.size device.new ≡ D.size device.old }
@@ -65,38 +67,17 @@ fn check_luks2<D: Device>(
     ensures only { D.tells → IsSelected (D.bytes device.old) (V2 header.now copies) → WellFormed (D.bytes device.old) data_ → MatchResult result (λ _. ⊤) IsFromOutside }
 {
     one_choice();
-    match json_area(alloc, device, header) {
-        Ok(json) => match judge_luks2(alloc, header, &json, data_, device.len()) {
-            Ok(areas) => Ok(Report {
-                version: Version::Luks2 {
-                    copies,
-                    seqid: header.seqid,
-                },
-                areas,
-            }),
-            Err(fault) => Err(fault),
-        },
+    no_fault_is_well_formed();
+    let meta = luks2_meta(alloc, device, header)?;
+    match judge_layout(&meta, header, data_, device.len()) {
+        Ok(areas) => Ok(Report {
+            version: Version::Luks2 {
+                copies,
+                seqid: header.seqid,
+            },
+            areas,
+        }),
         Err(fault) => Err(fault),
-    }
-}
-
-/// The JSON area of the copy with this binary header.
-fn json_area<D: Device>(alloc: Global, device: &mut D, header: &Bin2) -> Result<Vec<u8>, CheckFault>
-    requires room { D.failed device.old + 1 < 2 ^ 64 }
-    requires within { IsCopyWithin (D.size device.old) header.now }
-    ensures size { D.size device.new ≡ D.size device.old }
-    ensures same { D.tells → D.bytes device.new ≡ D.bytes device.old }
-    ensures count { MatchResult result (λ _. D.failed device.new ≡ D.failed device.old) (λ f. Counts f (D.failed device.old) (D.failed device.new)) }
-    ensures kinds { IfErr result IsFromOutside }
-    ensures json { D.tells → IfOk result (λ json. json.items ≡ part (D.bytes device.old) (header.now.hdr_offset + 4096) (header.now.hdr_size - 4096)) }
-{
-    let _total = device.len();
-    let Ok(mut json) = vec![in alloc; 0u8; (header.hdr_size - 4096) as usize] else {
-        return Err(CheckFault::Memory);
-    };
-    match device.read_at(header.hdr_offset + 4096, &mut json) {
-        Ok(()) => Ok(json),
-        Err(_) => Err(CheckFault::Device),
     }
 }
 

@@ -5,8 +5,7 @@ ghost use Rattle.luks_volume.specs.Listing.{Lists};
 ghost use Rattle.luks_head.specs.Header2.{HoldsBin2};
 ghost use Rattle.serde_json.specs.Data.{Data as Value};
 ghost use Rattle.luks_meta.specs.Content.{content};
-ghost use Rattle.luks_volume.specs.Checked.{check_key, HasLuks2Area, HoldsMeta, IsFirstBelow, IsLuks1Volume, IsLuks1Fault, IsLuks2Fault, IsLuks2Faultless, IsLuks2Layout, IsLuks2Refusal, IsLuks2Volume, SegmentsFollow, outer_meta_fault};
-ghost use Rattle.luks_volume.specs.Reported.{IsFromOutside};
+ghost use Rattle.luks_volume.specs.Checked.{check_key, HasLuks2Area, HoldsMeta, IsFirstBelow, IsLuks1Volume, IsLuks1Fault, IsLuks2Fault, IsLuks2Faultless, IsLuks2Layout, SegmentsFollow};
 
 use crate::fault::CheckFault;
 use crate::layout::{luks1_areas, luks2_areas};
@@ -14,7 +13,6 @@ use crate::report::Data;
 use luks_area::{AreaName, Areas, fit};
 use luks_head::{Bin2, Luks1};
 use luks_meta::{Meta, MetaFault, one_value};
-use std::alloc::Global;
 
 /// The areas of a volume of `total` bytes whose first 592 bytes are `header`, or its first fault.
 pub(crate) fn judge_luks1(header: &[u8], data_: Data, total: u64) -> Result<Areas, CheckFault>
@@ -36,46 +34,8 @@ pub(crate) fn judge_luks1(header: &[u8], data_: Data, total: u64) -> Result<Area
     }
 }
 
-/// The fault of the metadata as that of a check: want of memory stands for itself.
-fn outer_meta_fault(fault: MetaFault) -> CheckFault
-    ensures { result ≡ outer_meta_fault fault }
-{
-    match fault {
-        MetaFault::Memory => CheckFault::Memory,
-        other => CheckFault::Meta(other),
-    }
-}
-
-/// The areas of a volume of `total` bytes whose LUKS2 copy that counts has this binary header and
-/// this JSON area, or its first fault.
-pub(crate) fn judge_luks2(
-    alloc: Global,
-    header: &Bin2,
-    json: &[u8],
-    data_: Data,
-    total: u64,
-) -> Result<Areas, CheckFault>
-    ensures accepted { (b : List ℕ) → HoldsBin2 b header.now → OnOk result (IsLuks2Volume b json.now data_ total) }
-    ensures areas { (b : List ℕ) → HoldsBin2 b header.now → IfOk result (λ areas. Lists areas (HasLuks2Area b json.now data_ total)) }
-    ensures refused { (b : List ℕ) → HoldsBin2 b header.now → IfErr result (IsLuks2Refusal b json.now data_ total) }
-    ensures only { (b : List ℕ) → HoldsBin2 b header.now → IsLuks2Volume b json.now data_ total → MatchResult result (λ _. ⊤) IsFromOutside }
-    ensures own { IfErr result (λ f. f ≢ CheckFault.Device) }
-{
-    match header.uuid() {
-        Ok(_) => {}
-        Err(fault) => return Err(CheckFault::Head(fault)),
-    }
-    match Meta::read(alloc, json) {
-        Ok(meta) => match judge_layout(&meta, header, data_, total) {
-            Ok(areas) => Ok(areas),
-            Err(fault) => Err(fault),
-        },
-        Err(fault) => Err(outer_meta_fault(fault)),
-    }
-}
-
 /// The areas that accepted metadata names in a volume of `total` bytes, or the first fault.
-fn judge_layout(meta: &Meta, header: &Bin2, data_: Data, total: u64) -> Result<Areas, CheckFault>
+pub(crate) fn judge_layout(meta: &Meta, header: &Bin2, data_: Data, total: u64) -> Result<Areas, CheckFault>
     ensures accepted { (b json : List ℕ) → HoldsBin2 b header.now → HoldsMeta json meta.now → OnOk result (IsLuks2Layout b json data_ total (content meta.now)) }
     ensures areas { (b json : List ℕ) → HoldsBin2 b header.now → HoldsMeta json meta.now → IfOk result (λ areas. Lists areas (HasLuks2Area b json data_ total)) }
     ensures refused { (b json : List ℕ) → HoldsBin2 b header.now → HoldsMeta json meta.now → IsLuks2Faultless b json → IfErr result (IsLeast check_key (IsLuks2Fault b json data_ total)) }

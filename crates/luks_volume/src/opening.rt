@@ -8,7 +8,8 @@ ghost use Rattle.luks_meta.specs.Objects.{IsAccepted};
 ghost use Rattle.luks_volume.specs.Agreement.{Agrees};
 ghost use Rattle.luks_volume.specs.Answer.{Answer, IsRefusedBy, Opened, opened_to};
 ghost use Rattle.luks_volume.specs.Entered.{Luks1Opens, Luks1Refused};
-ghost use Rattle.luks_volume.specs.Entered2.{IsCleared, Luks2Opens, Luks2Refused, json_of};
+ghost use Rattle.luks_volume.specs.Copied.{IsCleared, json_of};
+ghost use Rattle.luks_volume.specs.Entered2.{Luks2Opens, Luks2Refused};
 ghost use Rattle.luks_volume.specs.Planned.{Counts, IsJudged, PlanOpens, PlanRefused, outer_fault};
 
 use crate::luks1_entry::{luks1_common, luks1_entry};
@@ -125,10 +126,7 @@ fn open_luks2<D: Device>(
     ensures refused { D.tells → (b : List ℕ) → HoldsBin2 b header.now
         → IfErr result (Luks2Refused b (json_of (D.bytes device.old) header.now) (D.size device.old) n) }
 {
-    let meta = match luks2_meta(alloc, device, header) {
-        Ok(meta) => meta,
-        Err(fault) => return Err(fault),
-    };
+    let meta = luks2_meta(alloc, device, header)?;
     match open_keyslot(alloc, device, &meta, n, passphrase) {
         Ok(found) => Ok(found),
         Err(fault) => Err(fault),

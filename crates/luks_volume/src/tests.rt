@@ -1,6 +1,7 @@
 ghost use Rattle.std.specs.Prelude.{◌+◌, ◌^◌, ◌<◌};
 
 mod failing;
+mod opened;
 mod shapes;
 mod volumes;
 

@@ -6,7 +6,7 @@ ghost use Rattle.luks_head.specs.Header2.{HoldsBin2, uuid_field};
 ghost use Rattle.luks_head.specs.Judged2.{IsCopyWithin};
 ghost use Rattle.luks_meta.specs.Content.{content};
 ghost use Rattle.luks_meta.specs.Objects.{IsAccepted};
-ghost use Rattle.luks_volume.specs.Entered2.{IsCleared, json_of};
+ghost use Rattle.luks_volume.specs.Copied.{IsCleared, json_of};
 ghost use Rattle.luks_volume.specs.Planned.{Counts, IsFailure};
 ghost use Rattle.luks_volume.specs.Tried.{is_of_rank, passed_over, rank_order, Luks1LockedBy, Luks1Tried, Luks1Tries, Luks2LockedBy, Luks2Tried, Luks2Tries, Luks2Unlocks};
 ghost use Rattle.luks_volume.specs.Unlocking.{IsLockedBy, Unlocks};
@@ -130,10 +130,7 @@ fn unlock_luks2<D: Device>(
     ensures refused { D.tells → (b : List ℕ) → HoldsBin2 b header.now
         → IfErr result (Luks2LockedBy b (json_of (D.bytes device.old) header.now)) }
 {
-    let meta = match luks2_meta(alloc, device, header) {
-        Ok(meta) => meta,
-        Err(fault) => return Err(fault),
-    };
+    let meta = luks2_meta(alloc, device, header)?;
     match try_rank(alloc, device, &meta, Rank::Preferred, passphrase) {
         Ok(Some(found)) => Ok(Some(found)),
         Ok(None) => match try_rank(alloc, device, &meta, Rank::Normal, passphrase) {

@@ -1,9 +1,66 @@
 //! Devices whose calls fail, and refused memory.
 
-use crate::tests::volumes::{ZEROS_FIELDS, luks2, sample};
-use crate::{CheckFault, Data, Device, DeviceFault, MemDevice, check};
+ghost use Rattle.std.specs.Prelude.{◌+◌, ◌^◌, ◌<◌};
+
+use crate::tests::opened::{opening_luks1, opening_luks2};
+use crate::{
+    CheckFault, Data, Device, DeviceFault, MemDevice, OpenFault, check, open_slot, unlock,
+};
 use std::alloc::{AllocError, Global};
+use std::process::Abort;
 use std::test::Fail;
+
+// The calls that take a device.
+#[derive(Debug, Clone, Copy)]
+enum Call {
+    Check,
+    OpenSlot,
+    Unlock,
+}
+
+const CALLS: [Call; 3] = [Call::Check, Call::OpenSlot, Call::Unlock];
+
+// How a call ended.
+#[derive(Debug, Clone, Copy, PartialEq, Eq)]
+enum End {
+    // Accepted, or opened.
+    Done,
+    Device,
+    Memory,
+    Other,
+}
+
+// How the call ends on a volume whose keyslot 0 opens by the passphrase `one`.
+fn end_of<D: Device>(alloc: Global, device: &mut D, call: Call) -> End
+    requires { D.failed device.old + 1 < 2 ^ 64 }
+{
+    match call {
+        Call::Check => match check(alloc, device, Data::Elsewhere) {
+            Ok(_) => End::Done,
+            Err(CheckFault::Device) => End::Device,
+            Err(CheckFault::Memory) => End::Memory,
+            Err(_) => End::Other,
+        },
+        Call::OpenSlot => match open_slot(alloc, device, 0, b"one") {
+            Ok(Some(_)) => End::Done,
+            Ok(None) => End::Other,
+            Err(fault) => end_of_opening(fault),
+        },
+        Call::Unlock => match unlock(alloc, device, b"one") {
+            Ok(Some(_)) => End::Done,
+            Ok(None) => End::Other,
+            Err(fault) => end_of_opening(fault),
+        },
+    }
+}
+
+fn end_of_opening(fault: OpenFault) -> End {
+    match fault {
+        OpenFault::Device => End::Device,
+        OpenFault::Memory => End::Memory,
+        _ => End::Other,
+    }
+}
 
 // A device whose read of a number, counted from 0, fails.
 #[derive(Drop)]
@@ -54,34 +111,41 @@ impl Device for FailsAt {
     ghost sized = { λ d t. absurd t };
 }
 
-// Whichever read fails, the answer is the device's fault; where none does, the volume is accepted.
+// Whichever read of the call fails, it ends by the device's fault; where none does, it is done.
+fn fails_at_each_read(
+    rt: &impl Abort,
+    alloc: Global,
+    image: &[u8],
+    call: Call,
+) -> Result<(), AllocError> {
+    let mut done = false;
+    for left in 0..64 {
+        let inner = MemDevice::new(image.to_vec(alloc)?);
+        let mut device = FailsAt {
+            inner,
+            left,
+            failures: 0,
+        };
+        let end = end_of(alloc, &mut device, call);
+        if end == End::Done {
+            assert_eq!(rt; device.failures(), 0, "{call:?} after {left} reads");
+            assert_ne!(rt; left, 0, "{call:?}");
+            done = true;
+            break;
+        }
+        assert_eq!(rt; end, End::Device, "{call:?} at read {left}");
+        assert_eq!(rt; device.failures(), 1, "{call:?} at read {left}");
+    }
+    assert!(rt; done, "{call:?}");
+    Ok(())
+}
+
 #[test]
 fn tells_a_failed_read(rt: HostRuntime) -> Result<(), Fail> {
     let alloc = rt.alloc();
-    for (reads, total) in [(1, 0), (10, 290816)] {
-        for left in 0..reads + 1 {
-            let image = if total == 0 {
-                sample(alloc)?
-            } else {
-                luks2(alloc, total, ZEROS_FIELDS)?
-            };
-            let mut device = FailsAt {
-                inner: MemDevice::new(image),
-                left,
-                failures: 0,
-            };
-            let answer = check(alloc, &mut device, Data::Elsewhere);
-            if left < reads {
-                assert_eq!(rt;
-                    matches!(answer, Err(CheckFault::Device)),
-                    true,
-                    "read {left}"
-                );
-                assert_eq!(rt; device.failures(), 1, "read {left}");
-            } else {
-                assert_eq!(rt; answer.is_ok(), true, "after {left} reads");
-                assert_eq!(rt; device.failures(), 0, "after {left} reads");
-            }
+    for image in [opening_luks1(alloc)?, opening_luks2(alloc)?] {
+        for call in CALLS {
+            fails_at_each_read(&rt, alloc, &image, call)?;
         }
     }
     Ok(())
@@ -105,38 +169,37 @@ fn take_all(alloc: Global, held: &mut Vec<Vec<u8>>) {
     }
 }
 
-// With all memory taken, and given back in blocks of 256 bytes, `check` is refused memory at one
+// With all memory taken, and given back in blocks of 256 bytes, the call is refused memory at one
 // place after another, at first for the 12288 bytes of metadata. Nothing else is answered until it
-// accepts. The allocator of `rt try` can't be exhausted so.
-#[test]
-fn tells_refused_memory(rt: HostRuntime) -> Result<(), Fail> {
-    let alloc = rt.alloc();
-    let mut device = MemDevice::new(luks2(alloc, 290816, ZEROS_FIELDS)?);
+// is done. The allocator of `rt try` can't be exhausted so.
+fn ends_with_little_memory(alloc: Global, call: Call) -> Result<(End, usize), AllocError> {
+    let mut device = MemDevice::new(opening_luks2(alloc)?);
     let mut held = Vec::with_capacity(alloc, 1 << 20)?;
     let mut blocks: Vec<Vec<u8>> = Vec::with_capacity(alloc, 1024)?;
     for _ in 0..1024 {
         blocks.push(Vec::with_capacity(alloc, 256)?)?;
     }
     take_all(alloc, &mut held);
-    let mut accepted = false;
-    let mut other = false;
+    let mut end = End::Memory;
     for _ in 0..1024 {
-        match check(alloc, &mut device, Data::Elsewhere) {
-            Ok(_) => {
-                accepted = true;
-                break;
-            }
-            Err(CheckFault::Memory) => {}
-            Err(_) => {
-                other = true;
-                break;
-            }
+        end = end_of(alloc, &mut device, call);
+        if end != End::Memory {
+            break;
         }
         let _ = blocks.pop();
     }
     let left = blocks.len();
     drop(held);
-    assert_eq!(rt; (accepted, other), (true, false));
-    assert_eq!(rt; left < 1024 - 48, true, "{left} blocks left");
+    Ok((end, left))
+}
+
+#[test]
+fn tells_refused_memory(rt: HostRuntime) -> Result<(), Fail> {
+    let alloc = rt.alloc();
+    for call in CALLS {
+        let (end, left) = ends_with_little_memory(alloc, call)?;
+        assert_eq!(rt; end, End::Done, "{call:?}");
+        assert!(rt; left < 1024 - 48, "{call:?}: {left} blocks left");
+    }
     Ok(())
 }

@@ -2,8 +2,8 @@
 use Rattle.std.proofs.Common.{◌∙◌, List, ℕ, rules, subst}
 use Rattle.luks_head.specs.declared.fault.HeadFault.{HeadFault}
 use Rattle.luks_head.specs.Header2.{IsUuidFault}
-use Rattle.luks_volume.specs.Entered2.{json_of, CopyRefused, outer_meta_fault}
-use Rattle.luks_volume.proofs.Copies2.{device_refuses, meta_refused}
+use Rattle.luks_volume.specs.Copied.{json_of, CopyRefused, outer_meta_fault}
+use Rattle.luks_volume.proofs.Copies2.{meta_refused, outside_refuses}
 use Rattle.luks_volume.proofs.luks2_copy.luks2_meta.Goals as goal
 
 pub returns-clause-refused : goal.returns-clause-refused
@@ -17,5 +17,5 @@ returns-clause-refused g c = λ tells.
 pub returns-in-Err-json_area-clause-refused : goal.returns-in-Err-json_area-clause-refused
 returns-in-Err-json_area-clause-refused g c = λ tells.
     let clear : (f : HeadFault) → IsUuidFault c.args.header.now.uuid f → ⊥ = search rules in
-    device_refuses c.args.header.now.uuid (json_of (g.D.Device.bytes c.args.device.now) c.args.header.now) c.in-Err-json_area.fault
+    outside_refuses c.args.header.now.uuid (json_of (g.D.Device.bytes c.args.device.now) c.args.header.now) c.in-Err-json_area.fault
     c.in-Err-json_area.ensures.kinds clear

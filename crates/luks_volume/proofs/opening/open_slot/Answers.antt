@@ -1,7 +1,8 @@
 -- What the header that counts gives is what the volume gives.
 use Rattle.std.proofs.Common.{◌≡◌, ℕ, Option, List, length, subst, sym, ◌∙◌}
 use Rattle.luks_head.specs.Header2.{header_at}
-use Rattle.luks_volume.specs.Entered2.{Luks2Opens, Luks2Refused, json_of}
+use Rattle.luks_volume.specs.Copied.{json_of}
+use Rattle.luks_volume.specs.Entered2.{Luks2Opens, Luks2Refused}
 use Rattle.luks_volume.specs.Entered.{Luks1Opens, Luks1Refused}
 use Rattle.luks_head.specs.Selection.{luks1, luks2}
 use Rattle.luks_volume.proofs.Agreed.{err_agrees, luks1_only, luks2_only, ok_agrees}

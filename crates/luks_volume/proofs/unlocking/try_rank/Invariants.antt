@@ -1,7 +1,7 @@
 use Rattle.std.proofs.Common.{◌≡◌, ℕ, ◌<◌, List, true}
 use Rattle.luks_head.specs.Header2.{uuid_field}
 use Rattle.luks_meta.specs.Content.{content}
-use Rattle.luks_volume.specs.Entered2.{IsCleared}
+use Rattle.luks_volume.specs.Copied.{IsCleared}
 use Rattle.luks_volume.specs.Tried.{is_of_rank, Luks2Shut}
 use Rattle.luks_volume.proofs.unlocking.try_rank.Given as goal
 

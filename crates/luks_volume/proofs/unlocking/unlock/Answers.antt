@@ -4,7 +4,7 @@ use Rattle.luks_head.specs.declared.fault.HeadFault.{HeadFault}
 use Rattle.luks_head.specs.Faults.{IsCommonFault}
 use Rattle.luks_head.specs.Header2.{header_at}
 use Rattle.luks_head.specs.Selection.{luks1, luks2}
-use Rattle.luks_volume.specs.Entered2.{json_of}
+use Rattle.luks_volume.specs.Copied.{json_of}
 use Rattle.luks_volume.specs.Tried.{Luks1LockedBy, Luks1Tries, Luks2LockedBy, Luks2Unlocks}
 use Rattle.luks_volume.proofs.Unlocked.{luks1_locked, luks1_unlocks, luks2_locked, luks2_unlocks, outer_locked}
 use Rattle.luks_volume.proofs.unlocking.unlock.Goals as goal
