@@ -1,5 +1,5 @@
 -- A keyslot's answer is one: what a call gives is the only answer that there is.
-use Rattle.std.proofs.Common.{◌≡◌, ℕ, ◌≤◌, List, [], ◌∷◌, Option, Some, None, Ok, Err, refl, ap, subst, sym, ◌∙◌, arith}
+use Rattle.std.proofs.Common.{◌≡◌, ℕ, ◌≤◌, List, [], ◌∷◌, Option, Some, None, Result, Ok, Err, IfOk, IfErr, refl, ap, subst, sym, ◌∙◌, arith}
 use Rattle.luks_area.specs.First.{NotAfter}
 use Rattle.luks_area.specs.Ranges.{part}
 use Rattle.luks_head.specs.declared.bin2.Bin2.{Bin2}
@@ -46,7 +46,7 @@ none_agrees v n p (opens l) one x only y = sym (only (Some l) y)
 none_agrees v n p no_key one x only y = refl
 none_agrees v n p (refused f) one x only y = clash v n p f None one y x
 
-pub ok_agrees : (v : List ℕ) (n : ℕ) (p : List ℕ) (found : Option (List ℕ)) (a : Opened) → ((b c : Choice) → Chosen v b → Chosen v c → b ≡ c)
+ok_agrees : (v : List ℕ) (n : ℕ) (p : List ℕ) (found : Option (List ℕ)) (a : Opened) → ((b c : Choice) → Chosen v b → Chosen v c → b ≡ c)
     → Answer v n p (opened_to found) → ((other : Option (List ℕ)) → Opens v n p other → other ≡ found) → Answer v n p a → Agrees a (Ok found)
 ok_agrees v n p (Some k) a one x only y = some_agrees v n p k a one x only y
 ok_agrees v n p None a one x only y = none_agrees v n p a one x only y
@@ -81,6 +81,12 @@ err_agrees v n p Device (refused g) one x y = tt
 err_agrees v n p Memory (opens k) one x y = tt
 err_agrees v n p Memory no_key one x y = tt
 err_agrees v n p Memory (refused g) one x y = tt
+
+pub agrees_both : (v : List ℕ) (n : ℕ) (p : List ℕ) (r : Result (Option (List ℕ)) OpenFault) → ((b c : Choice) → Chosen v b → Chosen v c → b ≡ c)
+    → IfOk r (λ found. Answer v n p (opened_to found)) → IfErr r (IsRefusedBy v n p)
+    → IfOk r (λ found. (other : Option (List ℕ)) → Opens v n p other → other ≡ found) → (a : Opened) → Answer v n p a → Agrees a r
+agrees_both v n p (Ok found) one gives why only a y = ok_agrees v n p found a one gives only y
+agrees_both v n p (Err f) one gives why only a y = err_agrees v n p f a one why y
 
 -- ---- the keyslot gives nothing else, by what counts
 

@@ -1,5 +1,5 @@
 -- From what counts of a volume to the volume: which fault locks it, and which keyslot opens first.
-use Rattle.std.proofs.Common.{◌≡◌, ℕ, List, ◌++◌, Option, Some, None, refl, subst, sym, ◌∙◌, arith}
+use Rattle.std.proofs.Common.{◌≡◌, ℕ, List, ◌++◌, Option, Some, None, Result, Ok, Err, IfOk, refl, subst, sym, ◌∙◌, arith}
 use Rattle.serde_json.specs.Data.{Data}
 use Rattle.luks_area.specs.First.{NotAfter, IsLeast}
 use Rattle.luks_area.specs.Ranges.{part}
@@ -178,7 +178,7 @@ not_locked h (Slot f) clear x = x
 not_locked h Device clear x = x
 not_locked h Memory clear x = x
 
-pub luks1_unlocks : (v p : List ℕ) (found : Option (ℕ × List ℕ)) → Chosen v luks1 → ((d : Choice) → Chosen v d → luks1 ≡ d)
+luks1_unlocks : (v p : List ℕ) (found : Option (ℕ × List ℕ)) → Chosen v luks1 → ((d : Choice) → Chosen v d → luks1 ≡ d)
     → ((g : HeadFault) → IsCommonFault (part v 0 592) g → ⊥) → Luks1Tries (part v 0 592) v p found → Unlocks v p found
 luks1_unlocks v p found chosen only clear x = record {
   choice = luks1;
@@ -189,6 +189,11 @@ luks1_unlocks v p found chosen only clear x = record {
   gives = gives_weaker (Luks1Shut (part v 0 592) v p) (StaysShut v p) (λ n k. Luks1Opens (part v 0 592) v n p (Some k)) (λ n k. Opens v n p (Some k))
       (luks1_order (part v 0 592)) found (λ n. luks1_stays_shut v p n only) (λ n k y. luks1_opens v n p (Some k) chosen y) x;
 }
+
+pub luks1_unlocks_as : (v p : List ℕ) (r : Result (Option (ℕ × List ℕ)) OpenFault) → Chosen v luks1 → ((d : Choice) → Chosen v d → luks1 ≡ d)
+    → IfOk r (λ _. (g : HeadFault) → IsCommonFault (part v 0 592) g → ⊥) → IfOk r (Luks1Tries (part v 0 592) v p) → IfOk r (Unlocks v p)
+luks1_unlocks_as v p (Ok found) chosen only clear x = luks1_unlocks v p found chosen only clear x
+luks1_unlocks_as v p (Err f) chosen only clear x = tt
 
 pub cleared_not_locked : (b json : List ℕ) (j : Data) (f : OpenFault) → IsCleared (uuid_field b) json j → IsLuks2Lockout b json f → ⊥
 cleared_not_locked b json j (Head f) clear x = clear.uuid_faultless f x

@@ -35,7 +35,12 @@ pub(crate) fn judge_luks1(header: &[u8], data_: Data, total: u64) -> Result<Area
 }
 
 /// The areas that accepted metadata names in a volume of `total` bytes, or the first fault.
-pub(crate) fn judge_layout(meta: &Meta, header: &Bin2, data_: Data, total: u64) -> Result<Areas, CheckFault>
+pub(crate) fn judge_layout(
+    meta: &Meta,
+    header: &Bin2,
+    data_: Data,
+    total: u64,
+) -> Result<Areas, CheckFault>
     ensures accepted { (b json : List ℕ) → HoldsBin2 b header.now → HoldsMeta json meta.now → OnOk result (IsLuks2Layout b json data_ total (content meta.now)) }
     ensures areas { (b json : List ℕ) → HoldsBin2 b header.now → HoldsMeta json meta.now → IfOk result (λ areas. Lists areas (HasLuks2Area b json data_ total)) }
     ensures refused { (b json : List ℕ) → HoldsBin2 b header.now → HoldsMeta json meta.now → IsLuks2Faultless b json → IfErr result (IsLeast check_key (IsLuks2Fault b json data_ total)) }

@@ -11,21 +11,18 @@ use crate::open_fault::OpenFault;
 use luks_head::{HeadFault, Luks1, Luks1Common, Luks1Slot, SlotState, luks1_is_first_bytes};
 
 /// The fields before the keyslots, of the header's 592 bytes.
-pub fn luks1_common(header: &[u8]) -> Result<Luks1Common, HeadFault>
+pub(crate) fn luks1_common(header: &[u8]) -> Result<Luks1Common, HeadFault>
     requires { length header.now ≡ 592 }
     ensures found { IfOk result (IsCommon header.now) }
     ensures faultless { IfOk result (λ _. (f : TheFault) → IsCommonFault header.now f → ⊥) }
     ensures fault { IfErr result (IsLeast head_key (IsCommonFault header.now)) }
 {
     luks1_is_first_bytes();
-    match Luks1::common(bytes_at(header, 0, 208)) {
-        Ok(common) => Ok(common),
-        Err(fault) => Err(fault),
-    }
+    Luks1::common(bytes_at(header, 0, 208))
 }
 
 /// The keyslot `n`, which has to be there, fit for use and in use. No other keyslot is looked at.
-pub fn luks1_entry(header: &[u8], n: u8) -> Result<Luks1Slot, OpenFault>
+pub(crate) fn luks1_entry(header: &[u8], n: u8) -> Result<Luks1Slot, OpenFault>
     requires { length header.now ≡ 592 }
     ensures found { IfOk result (IsEnabled header.now n) }
     ensures refused { IfErr result (EntryRefused header.now n) }

@@ -74,10 +74,7 @@ pub(crate) fn luks2_meta<D: Device>(
     if let Err(fault) = header.uuid() {
         return Err(CopyFault::Head(fault));
     }
-    let json = match json_area(alloc, device, header) {
-        Ok(json) => json,
-        Err(fault) => return Err(fault),
-    };
+    let json = json_area(alloc, device, header)?;
     match Meta::read(alloc, &json) {
         Ok(meta) => Ok(meta),
         Err(fault) => Err(outer_meta_fault(fault)),

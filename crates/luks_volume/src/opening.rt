@@ -48,23 +48,15 @@ pub fn open_slot<D: Device>(
 {
     one_choice();
     match select(alloc, device) {
-        Ok(Selected::V1(header)) => match open_luks1(alloc, device, &header, n, passphrase) {
-            Ok(found) => Ok(found),
-            Err(fault) => Err(fault),
-        },
-        Ok(Selected::V2 { header, .. }) => {
-            match open_luks2(alloc, device, &header, n, passphrase) {
-                Ok(found) => Ok(found),
-                Err(fault) => Err(fault),
-            }
-        }
+        Ok(Selected::V1(header)) => open_luks1(alloc, device, &header, n, passphrase),
+        Ok(Selected::V2 { header, .. }) => open_luks2(alloc, device, &header, n, passphrase),
         Err(fault) => Err(outer_fault(fault)),
     }
 }
 
 /// The fault of a selection as that of an opening: the device's failure and want of memory stand for
 /// themselves.
-pub fn outer_fault(fault: HeadFault) -> OpenFault
+pub(crate) fn outer_fault(fault: HeadFault) -> OpenFault
     ensures { result ≡ outer_fault fault }
 {
     match fault {
@@ -75,7 +67,7 @@ pub fn outer_fault(fault: HeadFault) -> OpenFault
 }
 
 /// What opening the keyslot `n` of a volume with these 592 bytes of a LUKS1 header gives.
-pub fn open_luks1<D: Device>(
+pub(crate) fn open_luks1<D: Device>(
     alloc: Global,
     device: &mut D,
     header: &[u8],
@@ -95,15 +87,9 @@ pub fn open_luks1<D: Device>(
         Ok(common) => common,
         Err(fault) => return Err(OpenFault::Head(fault)),
     };
-    let slot = match luks1_entry(header, n) {
-        Ok(slot) => slot,
-        Err(fault) => return Err(fault),
-    };
+    let slot = luks1_entry(header, n)?;
     let plan = luks1_plan(&common, &slot);
-    match open_planned(alloc, device, &plan, passphrase) {
-        Ok(found) => Ok(found),
-        Err(fault) => Err(fault),
-    }
+    open_planned(alloc, device, &plan, passphrase)
 }
 
 /// What opening the keyslot `n` of a volume with this binary header of the LUKS2 copy that counts gives.
@@ -127,14 +113,11 @@ fn open_luks2<D: Device>(
         → IfErr result (Luks2Refused b (json_of (D.bytes device.old) header.now) (D.size device.old) n) }
 {
     let meta = luks2_meta(alloc, device, header)?;
-    match open_keyslot(alloc, device, &meta, n, passphrase) {
-        Ok(found) => Ok(found),
-        Err(fault) => Err(fault),
-    }
+    open_keyslot(alloc, device, &meta, n, passphrase)
 }
 
 /// What opening the keyslot `n` of a volume with this metadata gives.
-pub fn open_keyslot<D: Device>(
+pub(crate) fn open_keyslot<D: Device>(
     alloc: Global,
     device: &mut D,
     meta: &Meta,
@@ -164,14 +147,11 @@ pub fn open_keyslot<D: Device>(
     let number = meta.digest_of_keyslot(n).unwrap();
     let digest = meta.digest(number).unwrap();
     let plan = luks2_plan(&keyslot, &digest);
-    match open_planned(alloc, device, &plan, passphrase) {
-        Ok(found) => Ok(found),
-        Err(fault) => Err(fault),
-    }
+    open_planned(alloc, device, &plan, passphrase)
 }
 
 /// What the plan gives in the volume by the passphrase: its key, none, or why it is refused.
-pub fn open_planned<D: Device>(
+fn open_planned<D: Device>(
     alloc: Global,
     device: &mut D,
     plan: &SlotPlan<'_>,

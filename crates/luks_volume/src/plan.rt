@@ -17,7 +17,7 @@ use luks_meta::{Cost, Digest, Keyslot};
 use luks_slot::{AreaCipher, Derivation, DigestPlan, SlotPlan};
 
 /// The plan of an enabled keyslot of a LUKS1 header.
-pub fn luks1_plan<'a>(common: &'a Luks1Common, slot: &'a Luks1Slot) -> SlotPlan<'a>
+pub(crate) fn luks1_plan<'a>(common: &'a Luks1Common, slot: &'a Luks1Slot) -> SlotPlan<'a>
     ensures is { (h e : List ℕ) → IsCommon h common.now → IsEntry e slot.now → IsLuks1Plan h e result }
     ensures judged { (h e : List ℕ) → IsCommon h common.now → IsEntry e slot.now → active_word e ≡ enabled_word → IsJudged result }
 {
@@ -59,7 +59,7 @@ fn luks1_area(key_bytes: u32, slot: &Luks1Slot) -> Area
 }
 
 /// The plan of a keyslot of LUKS2 with the digest that names it.
-pub fn luks2_plan<'a>(keyslot: &'a Keyslot<'a>, digest: &'a Digest<'a>) -> SlotPlan<'a>
+pub(crate) fn luks2_plan<'a>(keyslot: &'a Keyslot<'a>, digest: &'a Digest<'a>) -> SlotPlan<'a>
     ensures { (j : Data) (n m : ℕ) (d o : Data) → TellsKeyslot d keyslot.now → IsDigestOf j n m → object_at j Digests m ≡ Some o → TellsDigest o digest.now → IsLuks2Plan j n d result }
 {
     SlotPlan {

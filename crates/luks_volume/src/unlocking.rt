@@ -51,14 +51,8 @@ pub fn unlock<D: Device>(
 {
     one_choice();
     match select(alloc, device) {
-        Ok(Selected::V1(header)) => match unlock_luks1(alloc, device, &header, passphrase) {
-            Ok(found) => Ok(found),
-            Err(fault) => Err(fault),
-        },
-        Ok(Selected::V2 { header, .. }) => match unlock_luks2(alloc, device, &header, passphrase) {
-            Ok(found) => Ok(found),
-            Err(fault) => Err(fault),
-        },
+        Ok(Selected::V1(header)) => unlock_luks1(alloc, device, &header, passphrase),
+        Ok(Selected::V2 { header, .. }) => unlock_luks2(alloc, device, &header, passphrase),
         Err(fault) => Err(outer_fault(fault)),
     }
 }
@@ -133,10 +127,7 @@ fn unlock_luks2<D: Device>(
     let meta = luks2_meta(alloc, device, header)?;
     match try_rank(alloc, device, &meta, Rank::Preferred, passphrase) {
         Ok(Some(found)) => Ok(Some(found)),
-        Ok(None) => match try_rank(alloc, device, &meta, Rank::Normal, passphrase) {
-            Ok(found) => Ok(found),
-            Err(fault) => Err(fault),
-        },
+        Ok(None) => try_rank(alloc, device, &meta, Rank::Normal, passphrase),
         Err(fault) => Err(fault),
     }
 }

@@ -1,5 +1,6 @@
 -- The plan of the keyslot is judged, and its answer is that of the keyslot.
 use Rattle.std.proofs.Common.{◌<◌, arith}
+use Rattle.std.proofs.lemmas.Result.{IfErr-weaker, IfOk-weaker}
 use Rattle.luks_meta.specs.Content.{content}
 use Rattle.luks_volume.specs.Plans.{HasLuks2Plan}
 use Rattle.luks_volume.proofs.Numbers2.{luks2_judged}
@@ -16,8 +17,8 @@ open_planned-requires-clause-judged g c =
     luks2_judged c.requires.accepted.len c.args.n (content c.args.meta.now) slot.object c.luks2_plan-plan.result c.requires.accepted.content low slot.is
     (c.luks2_plan-plan.ensures (content c.args.meta.now) c.args.n c.unwrap-number.result slot.object digest.object slot.tells_members naming digest.is digest.tells_members)
 
-pub returns-in-Ok-clause-opens : goal.returns-in-Ok-clause-opens
-returns-in-Ok-clause-opens g c = λ tells b json clear.
+pub returns-clause-opens : goal.returns-clause-opens
+returns-clause-opens g c = λ tells b json clear.
     let slot = c.in-Some.ensures.some in
     let naming = rw c.unwrap-number.ensures at c.digest_of_keyslot.ensures.some in
     let digest = rw c.unwrap-digest.ensures at c.digest.ensures.some in
@@ -29,11 +30,13 @@ returns-in-Ok-clause-opens g c = λ tells b json clear.
     let plan = c.luks2_plan-plan.ensures (content c.args.meta.now) c.args.n c.unwrap-number.result slot.object digest.object slot.tells_members naming digest.is digest.tells_members in
     let has : HasLuks2Plan json c.args.n c.luks2_plan-plan.result =
     record { numbered = low; value = content c.args.meta.now; holds = clear.meta.json; object = slot.object; there = slot.is; is = plan } in
-    plan_opens2 b json (g.D.Device.bytes c.args.device.now) c.args.n (content c.args.meta.now) c.luks2_plan-plan.result c.args.passphrase.now c.in-Ok.found
-    clear only has (c.in-Ok.ensures.opens tells)
+    IfOk-weaker c.open_planned.result _ _ (λ found opens.
+    plan_opens2 b json (g.D.Device.bytes c.args.device.now) c.args.n (content c.args.meta.now) c.luks2_plan-plan.result c.args.passphrase.now found
+    clear only has opens)
+    (c.open_planned.ensures.opens tells)
 
-pub returns-in-Ok-clause-only : goal.returns-in-Ok-clause-only
-returns-in-Ok-clause-only g c = λ tells b json clear other y.
+pub returns-clause-only : goal.returns-clause-only
+returns-clause-only g c = λ tells b json clear.
     let slot = c.in-Some.ensures.some in
     let naming = rw c.unwrap-number.ensures at c.digest_of_keyslot.ensures.some in
     let digest = rw c.unwrap-digest.ensures at c.digest.ensures.some in
@@ -45,11 +48,13 @@ returns-in-Ok-clause-only g c = λ tells b json clear other y.
     let plan = c.luks2_plan-plan.ensures (content c.args.meta.now) c.args.n c.unwrap-number.result slot.object digest.object slot.tells_members naming digest.is digest.tells_members in
     let has : HasLuks2Plan json c.args.n c.luks2_plan-plan.result =
     record { numbered = low; value = content c.args.meta.now; holds = clear.meta.json; object = slot.object; there = slot.is; is = plan } in
-    plan_only2 b json (g.D.Device.bytes c.args.device.now) c.args.n (content c.args.meta.now) c.luks2_plan-plan.result c.args.passphrase.now c.in-Ok.found other
-    only has (c.in-Ok.ensures.opens tells) y
+    IfOk-weaker c.open_planned.result _ _ (λ found opens other y.
+    plan_only2 b json (g.D.Device.bytes c.args.device.now) c.args.n (content c.args.meta.now) c.luks2_plan-plan.result c.args.passphrase.now found other
+    only has opens y)
+    (c.open_planned.ensures.opens tells)
 
-pub returns-in-Err-clause-refused : goal.returns-in-Err-clause-refused
-returns-in-Err-clause-refused g c = λ b json clear.
+pub returns-clause-refused : goal.returns-clause-refused
+returns-clause-refused g c = λ b json clear.
     let slot = c.in-Some.ensures.some in
     let naming = rw c.unwrap-number.ensures at c.digest_of_keyslot.ensures.some in
     let digest = rw c.unwrap-digest.ensures at c.digest.ensures.some in
@@ -61,5 +66,6 @@ returns-in-Err-clause-refused g c = λ b json clear.
     let plan = c.luks2_plan-plan.ensures (content c.args.meta.now) c.args.n c.unwrap-number.result slot.object digest.object slot.tells_members naming digest.is digest.tells_members in
     let has : HasLuks2Plan json c.args.n c.luks2_plan-plan.result =
     record { numbered = low; value = content c.args.meta.now; holds = clear.meta.json; object = slot.object; there = slot.is; is = plan } in
-    plan_first2 b json (g.D.Device.size c.args.device.now) c.args.n (content c.args.meta.now) c.luks2_plan-plan.result c.in-Err.fault
-    clear only has c.in-Err.ensures.refused
+    IfErr-weaker c.open_planned.result _ _ (λ fault refused.
+    plan_first2 b json (g.D.Device.size c.args.device.now) c.args.n (content c.args.meta.now) c.luks2_plan-plan.result fault clear only has refused)
+    c.open_planned.ensures.refused

@@ -1,6 +1,6 @@
 -- The keyslots of priority 2 first, then the others.
 use Rattle.std.proofs.Common.{◌∙◌, ℕ, List, Option, Some, None, subst, sym}
-use Rattle.std.proofs.lemmas.Result.{err_from_is_err_and}
+use Rattle.std.proofs.lemmas.Result.{err_from_is_err_and, IfErr-weaker, IfOk-weaker}
 use Rattle.luks_meta.specs.Content.{content}
 use Rattle.luks_volume.specs.declared.unlocking.Rank.TheVariants.{Preferred, Normal}
 use Rattle.luks_volume.specs.Copied.{CopyRefused, IsCleared, json_of}
@@ -27,8 +27,8 @@ returns-in-Ok-Some-clause-unlocks g c = λ tells b holds.
     first_rank b json v c.args.passphrase.now j c.in-Ok-Some.found cleared
     (subst (λ (w : List ℕ). Luks2Tries b json w c.args.passphrase.now (rank_order Preferred j) (Some c.in-Ok-Some.found)) (c.in_ok-meta.ensures.same tells) gives)
 
-pub returns-in-Ok-clause-unlocks : goal.returns-in-Ok-clause-unlocks
-returns-in-Ok-clause-unlocks g c = λ tells b holds.
+pub returns-in-Ok-None-clause-unlocks : goal.returns-in-Ok-None-clause-unlocks
+returns-in-Ok-None-clause-unlocks g c = λ tells b holds.
     let v = g.D.Device.bytes c.args.device.now in
     let json = json_of v c.args.header.now in
     let j = content c.in_ok-meta.meta in
@@ -38,12 +38,15 @@ returns-in-Ok-clause-unlocks g c = λ tells b holds.
     c.in-Ok-None.field-0-is (c.in-Ok-None.ensures.tries tells b json cleared) in
     let shut = subst (λ (w : List ℕ). Luks2Tries b json w p (rank_order Preferred j) None) (c.in_ok-meta.ensures.same tells) first in
     let same = c.in-Ok-None.ensures.same tells ∙ c.in_ok-meta.ensures.same tells in
-    second_rank b json v p j c.in-Ok.found cleared shut
-    (subst (λ (w : List ℕ). Luks2Tries b json w p (rank_order Normal j) c.in-Ok.found) same (c.in-Ok.ensures.tries tells b json cleared))
+    IfOk-weaker c.try_rank-in-Ok-None.result _ _ (λ found tries.
+    second_rank b json v p j found cleared shut (subst (λ (w : List ℕ). Luks2Tries b json w p (rank_order Normal j) found) same tries))
+    (c.try_rank-in-Ok-None.ensures.tries tells b json cleared)
 
 pub returns-in-Ok-None-clause-refused : goal.returns-in-Ok-None-clause-refused
 returns-in-Ok-None-clause-refused g c = λ tells b holds.
-    device_locks2 b (json_of (g.D.Device.bytes c.args.device.now) c.args.header.now) c.in-Err-try_rank.fault c.in-Err-try_rank.ensures.kinds
+    IfErr-weaker c.try_rank-in-Ok-None.result _ _ (λ fault kinds.
+    device_locks2 b (json_of (g.D.Device.bytes c.args.device.now) c.args.header.now) fault kinds)
+    c.try_rank-in-Ok-None.ensures.kinds
 
 pub returns-clause-refused : goal.returns-clause-refused
 returns-clause-refused g c = λ tells b holds.
