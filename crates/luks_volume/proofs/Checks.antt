@@ -1,7 +1,5 @@
 -- From what was judged of a header to what holds of the volume.
-use Rattle.std.proofs.Common.{◌≡◌, ◌≢◌, ℕ, ◌+◌, ◌-◌, ◌<◌, ◌≤◌, List, ◌∷◌, length, subst, sym, ap, ◌∙◌, refl, arith}
-use Rattle.luks_area.specs.declared.area.Area.{Area as TheArea}
-use Rattle.luks_area.specs.declared.area.AreaName.{AreaName}
+use Rattle.std.proofs.Common.{◌≡◌, ℕ, ◌<◌, List, length, subst, refl, arith}
 use Rattle.luks_area.specs.declared.areas.Entry.{Entry}
 use Rattle.luks_area.specs.First.{NotAfter, IsLeast}
 use Rattle.luks_area.specs.Ranges.{part}
@@ -10,11 +8,11 @@ use Rattle.luks_head.specs.declared.fault.HeadFault.TheVariants as head
 use Rattle.luks_head.specs.declared.selection.Copies.{Copies}
 use Rattle.luks_head.specs.Faults.{head_key}
 use Rattle.luks_head.specs.Header2.{header_at, uuid_field}
-use Rattle.luks_head.specs.Selection.{Choice, luks1, luks2, nothing, Chosen, IsVersion1, HasNoCopy, IsSelectFault, IsRefused, IsOfSelection}
+use Rattle.luks_head.specs.Selection.{Choice, luks1, luks2, nothing, Chosen, IsSelectFault, IsRefused}
 use Rattle.luks_volume.specs.declared.fault.CheckFault.{CheckFault}
 use Rattle.luks_volume.specs.declared.fault.CheckFault.TheVariants.{Head, Meta, Area, Device, Memory}
 use Rattle.luks_volume.specs.declared.report.Data.{Data}
-use Rattle.luks_volume.specs.Checked.{check_key, IsLuks1Volume, IsLuks1Fault, IsLuks2Volume, IsLuks2Fault, HasLuks2Area, json_at, IsOtherFault, WellFormedAs, HasAreaAs, IsFaultAs, WellFormed, AreaOf, IsFault, First, IsRefusal}
+use Rattle.luks_volume.specs.Checked.{check_key, IsLuks1Fault, IsLuks2Volume, IsLuks2Fault, HasLuks2Area, json_at, IsOtherFault, WellFormedAs, HasAreaAs, IsFaultAs, WellFormed, AreaOf, IsFault, First, IsRefusal}
 use Rattle.luks_volume.specs.Copied.{CopyRefused, checking_fault}
 use Rattle.luks_volume.specs.declared.luks2_copy.CopyFault.{CopyFault}
 use Rattle.luks_volume.specs.declared.luks2_copy.CopyFault.TheVariants as copy

@@ -1,12 +1,12 @@
 -- A set of areas without a fault fits.
-use Rattle.std.proofs.Common.{◌≡◌, ◌≢◌, ℕ, ◌+◌, ◌≤◌, ◌<◌, ◌⊎◌, inl, inr, refl, ap, arith}
+use Rattle.std.proofs.Common.{◌≡◌, ◌≢◌, ℕ, ◌+◌, ◌⊎◌, inl, inr, refl, ap, arith}
 use Rattle.std.proofs.lemmas.Bool.{cases_lt, cases_order}
 use Rattle.luks_area.specs.declared.area.Area.{Area}
 use Rattle.luks_area.specs.declared.area.AreaName.{AreaName}
 use Rattle.luks_area.specs.declared.area.AreaName.TheVariants.{Head1, Head2, Slot, Segment}
 use Rattle.luks_area.specs.declared.area.AreaFault.{AreaFault}
 use Rattle.luks_area.specs.declared.area.AreaFault.TheVariants.{Outside, Overlap}
-use Rattle.luks_area.specs.Area.{LiesIn, IsInside, IsBefore, name_kind, name_number, Fit, IsAreaFault}
+use Rattle.luks_area.specs.Area.{IsBefore, name_kind, name_number, Fit, IsAreaFault}
 
 -- names of one kind and number are one name
 same_name : (m n : AreaName) → name_kind m ≡ name_kind n → name_number m ≡ name_number n → m ≡ n

@@ -1,7 +1,7 @@
 -- A judged LUKS1 volume: its areas' first fault is its own first fault.
-use Rattle.std.proofs.Common.{◌≡◌, ℕ, ◌≤◌, List, ◌∷◌, arith}
+use Rattle.std.proofs.Common.{ℕ, List, arith}
 use Rattle.luks_area.specs.declared.area.AreaFault.{AreaFault}
-use Rattle.luks_area.specs.Area.{Fit, IsAreaFault, area_key}
+use Rattle.luks_area.specs.Area.{IsAreaFault, area_key}
 use Rattle.luks_area.specs.First.{NotAfter, IsLeast}
 use Rattle.luks_head.specs.declared.fault.HeadFault.{HeadFault}
 use Rattle.luks_head.specs.Faults.{IsLuks1Fault as IsLuks1HeadFault}

@@ -1,14 +1,12 @@
 -- A judged LUKS2 volume: the segments' place, the areas, and the first fault.
-use Rattle.std.proofs.Common.{◌≡◌, ◌≢◌, ℕ, ◌+◌, ◌≤◌, ◌<◌, List, ◌∷◌, length, codes, Bool, true, false, nat_lt, Option, None, Some, IfSome, IsNone, MatchOption, refl, sym, ap, ◌∙◌, subst, arith, ◌⊎◌, inl, inr}
+use Rattle.std.proofs.Common.{◌≡◌, ℕ, ◌+◌, ◌≤◌, ◌<◌, List, length, codes, Bool, true, false, nat_lt, Option, None, Some, IfSome, IsNone, MatchOption, refl, sym, ap, ◌∙◌, subst, arith, ◌⊎◌, inl, inr}
 use Rattle.std.specs.Option.{option_map_or}
 use Rattle.std.proofs.lemmas.Bool.{ltb-true, ltb-false, cases_lt}
 use Rattle.serde_json.specs.Data.{Data as Value}
-use Rattle.luks_area.specs.declared.area.Area.{Area as TheArea}
 use Rattle.luks_area.specs.declared.area.AreaFault.{AreaFault}
-use Rattle.luks_area.specs.declared.area.AreaName.{AreaName}
 use Rattle.luks_area.specs.declared.area.AreaName.TheVariants.{Head1, Head2, Slot, Segment}
 use Rattle.luks_area.specs.declared.areas.Entry.{Entry}
-use Rattle.luks_area.specs.Area.{Fit, IsAreaFault, area_key}
+use Rattle.luks_area.specs.Area.{IsAreaFault, area_key}
 use Rattle.luks_area.specs.First.{NotAfter, IsLeast}
 use Rattle.luks_head.specs.declared.fault.HeadFault.{HeadFault}
 use Rattle.luks_head.specs.declared.fault.HeadFault.TheVariants as head
@@ -20,7 +18,6 @@ use Rattle.luks_meta.specs.declared.fault.MetaFault.TheVariants as meta
 use Rattle.luks_meta.specs.declared.table.Outer.TheVariants as outer
 use Rattle.luks_meta.specs.declared.table.Section.TheVariants.{Segments}
 use Rattle.luks_meta.specs.declared.meta.Meta.{Meta as Meta2}
-use Rattle.luks_meta.specs.Accepted.{HasObject}
 use Rattle.luks_meta.specs.Content.{area_len, content}
 use Rattle.luks_meta.specs.Faults.{object_at}
 use Rattle.luks_meta.specs.MetaFault.{Json, IsMetaFault, meta_key}

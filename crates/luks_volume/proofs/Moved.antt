@@ -1,12 +1,12 @@
 -- From a list of areas to the set that it lists, and what a set that fits rules out.
-use Rattle.std.proofs.Common.{◌≡◌, ℕ, ◌+◌, ◌≤◌, ◌<◌, List, ◌∷◌, arith, ap, sym}
+use Rattle.std.proofs.Common.{◌≡◌, ℕ, ◌<◌, List, arith, ap}
 use Rattle.luks_area.specs.declared.area.Area.{Area}
 use Rattle.luks_area.specs.declared.area.AreaName.{AreaName}
 use Rattle.luks_area.specs.declared.area.AreaFault.{AreaFault}
 use Rattle.luks_area.specs.declared.area.AreaFault.TheVariants.{Outside, Overlap}
 use Rattle.luks_area.specs.declared.areas.Entry.{Entry}
-use Rattle.luks_area.specs.Area.{IsInside, IsBefore, name_kind, name_number, Fit, IsAreaFault, area_key}
-use Rattle.luks_area.specs.First.{NotAfter, IsLeast}
+use Rattle.luks_area.specs.Area.{name_kind, name_number, Fit, IsAreaFault, area_key}
+use Rattle.luks_area.specs.First.{IsLeast}
 use Rattle.luks_area.specs.Names.{HasArea}
 use Rattle.luks_volume.specs.Listing.{Lists}
 

@@ -1,5 +1,5 @@
 -- The areas of a LUKS1 volume, added name by name.
-use Rattle.std.proofs.Common.{◌≡◌, ℕ, ◌+◌, ◌-◌, ◌*◌, ◌<◌, ◌≤◌, List, [], ◌∷◌, ◌++◌, length, slice_index_or, ◌⊎◌, inl, inr, refl, subst, sym, ap, ◌∙◌, arith, length-append, add-one}
+use Rattle.std.proofs.Common.{◌≡◌, ℕ, ◌+◌, ◌-◌, ◌*◌, ◌<◌, List, [], ◌∷◌, ◌++◌, length, slice_index_or, ◌⊎◌, inl, inr, refl, subst, sym, ap, ◌∙◌, arith, length-append}
 use Rattle.std.proofs.lemmas.Bool.{cases_lt}
 use Rattle.luks_area.specs.declared.area.Area.{Area}
 use Rattle.luks_area.specs.declared.area.AreaName.{AreaName}
@@ -9,13 +9,13 @@ use Rattle.luks_area.specs.Area.{IsBefore}
 use Rattle.luks_area.specs.Names.{HasArea}
 use Rattle.luks_head.specs.declared.luks1.Luks1.{Luks1}
 use Rattle.luks_head.specs.declared.luks1.Luks1Slot.{Luks1Slot}
-use Rattle.luks_head.specs.Header1.{IsLuks1, entry, entry_stripes}
+use Rattle.luks_head.specs.Header1.{IsLuks1}
 use Rattle.luks_head.specs.Bytes.{number_at}
 use Rattle.luks_volume.specs.declared.report.Data.{Data}
 use Rattle.luks_volume.specs.declared.report.Data.TheVariants.{Here, Elsewhere}
 use Rattle.luks_volume.specs.Layout1.{sectors_of, Luks1Area}
 use Rattle.luks_volume.specs.Listing.{Lists, ListsBelow}
-use Rattle.luks_volume.proofs.Grown.{same_area, has-cases, lists-push, lists-skip, lists-empty, lists-all}
+use Rattle.luks_volume.proofs.Grown.{same_area, has-cases, lists-push, lists-empty, lists-all}
 
 -- `now` has the areas of `before` and the slots below `n`
 pub record AddsSlots (before now : List Entry) (header : Luks1) (n : ℕ) : Type 0 where

@@ -3,7 +3,7 @@ use Rattle.std.specs.Prelude.{◌≡◌, ℕ, ◌+◌, ◌-◌, ◌<◌, ◌≤�
 use Rattle.serde_json.specs.Data.{Data as Value}
 use Rattle.luks_area.specs.declared.area.Area.{Area as TheArea}
 use Rattle.luks_area.specs.declared.area.AreaName.{AreaName}
-use Rattle.luks_area.specs.declared.area.AreaName.TheVariants.{Head1, Head2, Slot, Segment}
+use Rattle.luks_area.specs.declared.area.AreaName.TheVariants.{Segment}
 use Rattle.luks_area.specs.Area.{Fit, IsAreaFault, area_key}
 use Rattle.luks_area.specs.First.{IsLeast}
 use Rattle.luks_area.specs.Ranges.{part}

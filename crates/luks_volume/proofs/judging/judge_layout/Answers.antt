@@ -1,10 +1,8 @@
-use Rattle.std.proofs.Common.{sym, subst, refl, length}
+use Rattle.std.proofs.Common.{sym, subst, refl}
 use Rattle.luks_area.specs.Area.{Fit}
-use Rattle.luks_head.specs.Header2.{hdr_size}
 use Rattle.luks_meta.specs.Content.{content}
-use Rattle.luks_volume.specs.Checked.{HasLuks2Area, IsLuks2Layout}
+use Rattle.luks_volume.specs.Checked.{IsLuks2Layout}
 use Rattle.luks_volume.specs.Layout2.{Luks2Area}
-use Rattle.luks_volume.specs.Listing.{Lists}
 use Rattle.luks_volume.proofs.Judged2.{least_area2, least_segment, lists_value, segment_breaks}
 use Rattle.luks_volume.proofs.Moved.{fit_of, least_of, no_area_fault}
 use Rattle.luks_volume.proofs.judging.judge_layout.Goals as goal

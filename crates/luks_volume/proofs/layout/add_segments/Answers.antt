@@ -1,4 +1,4 @@
-use Rattle.std.proofs.Common.{ap, arith, sym, subst, refl, Some, ◌∙◌, ◌≡◌}
+use Rattle.std.proofs.Common.{ap, sym, subst, refl, Some, ◌∙◌}
 use Rattle.luks_meta.specs.Content.{content}
 use Rattle.luks_meta.specs.Says.{extent_field}
 use Rattle.luks_volume.specs.Layout2.{HasExtent}
