@@ -2,6 +2,7 @@
 use super::images::{luks1, put};
 use super::keys::{KEY_DIGEST, key_area};
 use super::openings::{Opening, compare};
+use sha2::{Digest, Sha256};
 use std::alloc::Global;
 use std::test::Fail;
 
@@ -14,6 +15,20 @@ fn opening_image(alloc: Global) -> Result<Vec<u8>, Fail> {
     put(&mut image, 216, &[0x11; 32]);
     put(&mut image, 4096, key_area(alloc)?.as_slice());
     Ok(image)
+}
+
+/// The SHA-256 of that image as another program makes it: `luks1-sha256-64` in
+/// testdata/oracle/values.txt.
+const IMAGE_SUM: [u8; 32] = [
+    0x1a, 0x8d, 0x15, 0x41, 0x0e, 0xf6, 0x99, 0x7b, 0xbe, 0x2c, 0x76, 0x94, 0xf5, 0x26, 0xa3, 0xc5,
+    0xd2, 0xc6, 0x08, 0x98, 0x56, 0x4b, 0xc1, 0x64, 0x51, 0x4b, 0x6a, 0x35, 0x4f, 0xc3, 0x20, 0x39,
+];
+
+#[test]
+fn another_program_makes_this_image(rt: HostRuntime) -> Result<(), Fail> {
+    let sum = Sha256::digest(opening_image(rt.alloc())?.as_slice());
+    assert_eq!(rt; sum.as_slice(), IMAGE_SUM.as_slice());
+    Ok(())
 }
 
 const OPENINGS: [Opening; 8] = [
