@@ -30,7 +30,7 @@ pub enum Copies {
 /// The header that counts.
 #[derive(Debug, Clone, Copy, PartialEq, Eq)]
 pub enum Selected {
-    /// The 592 bytes of a LUKS1 header, not yet read.
+    /// The 592 bytes of a LUKS1 header, of which its version alone was judged.
     V1([u8; 592]),
     /// The LUKS2 copy that counts; it stands at `header.hdr_offset`.
     V2 {

@@ -29,7 +29,7 @@ fn types(rt: HostRuntime) -> Result<(), Fail> {
 
 // Names of objects are 0 to 31 without leading zeros.
 #[test]
-fn names(rt: HostRuntime) -> Result<(), Fail> {
+fn names_of_keyslots(rt: HostRuntime) -> Result<(), Fail> {
     let table = r#""keyslots":{ => "keyslots":{"00":{}, => Shape(keyslots)
         "keyslots":{ => "keyslots":{"32":{}, => Shape(keyslots)
         "keyslots":{ => "keyslots":{"-1":{}, => Shape(keyslots)
@@ -41,8 +41,13 @@ fn names(rt: HostRuntime) -> Result<(), Fail> {
         "keyslots":{ => "keyslots":{"256":{}, => Shape(keyslots)
         "keyslots":{ => "keyslots":{"0x1":{}, => Shape(keyslots)
         "keyslots":{ => "x":{ => Shape(keyslots)
-        "keyslots":{ => "keyslots":{"31":[], => Shape(keyslots.31)
-        "segments":{ => "segments":{"00":{}, => Shape(segments)
+        "keyslots":{ => "keyslots":{"31":[], => Shape(keyslots.31)"#;
+    rows(&rt, rt.alloc(), plain(), table)
+}
+
+#[test]
+fn names_of_segments(rt: HostRuntime) -> Result<(), Fail> {
+    let table = r#""segments":{ => "segments":{"00":{}, => Shape(segments)
         "segments":{ => "segments":{"32":{}, => Shape(segments)
         "segments":{ => "segments":{"-1":{}, => Shape(segments)
         "segments":{ => "segments":{"":{}, => Shape(segments)
@@ -53,8 +58,13 @@ fn names(rt: HostRuntime) -> Result<(), Fail> {
         "segments":{ => "segments":{"256":{}, => Shape(segments)
         "segments":{ => "segments":{"0x1":{}, => Shape(segments)
         "segments":{ => "x":{ => Shape(segments)
-        "segments":{ => "segments":{"31":[], => Shape(segments.31)
-        "digests":{ => "digests":{"00":{}, => Shape(digests)
+        "segments":{ => "segments":{"31":[], => Shape(segments.31)"#;
+    rows(&rt, rt.alloc(), plain(), table)
+}
+
+#[test]
+fn names_of_digests(rt: HostRuntime) -> Result<(), Fail> {
+    let table = r#""digests":{ => "digests":{"00":{}, => Shape(digests)
         "digests":{ => "digests":{"32":{}, => Shape(digests)
         "digests":{ => "digests":{"-1":{}, => Shape(digests)
         "digests":{ => "digests":{"":{}, => Shape(digests)
@@ -65,8 +75,13 @@ fn names(rt: HostRuntime) -> Result<(), Fail> {
         "digests":{ => "digests":{"256":{}, => Shape(digests)
         "digests":{ => "digests":{"0x1":{}, => Shape(digests)
         "digests":{ => "x":{ => Shape(digests)
-        "digests":{ => "digests":{"31":[], => Shape(digests.31)
-        "tokens":{ => "tokens":{"00":{} => Shape(tokens)
+        "digests":{ => "digests":{"31":[], => Shape(digests.31)"#;
+    rows(&rt, rt.alloc(), plain(), table)
+}
+
+#[test]
+fn names_of_tokens(rt: HostRuntime) -> Result<(), Fail> {
+    let table = r#""tokens":{ => "tokens":{"00":{} => Shape(tokens)
         "tokens":{ => "tokens":{"32":{} => Shape(tokens)
         "tokens":{ => "tokens":{"-1":{} => Shape(tokens)
         "tokens":{ => "tokens":{"":{} => Shape(tokens)
@@ -77,8 +92,13 @@ fn names(rt: HostRuntime) -> Result<(), Fail> {
         "tokens":{ => "tokens":{"256":{} => Shape(tokens)
         "tokens":{ => "tokens":{"0x1":{} => Shape(tokens)
         "tokens":{ => "x":{ => Shape(tokens)
-        "tokens":{ => "tokens":{"31":[] => Shape(tokens.31)
-        "config":{ => "x":{ => Shape(config)
+        "tokens":{ => "tokens":{"31":[] => Shape(tokens.31)"#;
+    rows(&rt, rt.alloc(), plain(), table)
+}
+
+#[test]
+fn sections_that_are_no_objects(rt: HostRuntime) -> Result<(), Fail> {
+    let table = r#""config":{ => "x":{ => Shape(config)
         "config":{"json_size":"12288","keyslots_size":"16744448"} => "config":[] => Shape(config)
         "tokens":{} => "tokens":null => Shape(tokens)
         "tokens":{} => "tokens":[] => Shape(tokens)"#;
