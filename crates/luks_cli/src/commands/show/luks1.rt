@@ -1,12 +1,16 @@
 //! The lines of a LUKS1 header.
+ghost use Rattle.std.specs.Prelude.{◌≡◌, IfOk};
+
+use super::escaped::Escaped;
 use crate::answers::Status;
-use crate::escaped::Escaped;
 use luks_volume::{Luks1, Luks1Slot, SlotState};
 use std::io;
 use std::io::Write;
 
 /// Lists a LUKS1 header, with a line for each keyslot.
-pub(crate) fn show_luks1<W: Write>(header: &Luks1, out: &mut W) -> io::Result<Status> {
+pub(crate) fn show_luks1<W: Write>(header: &Luks1, out: &mut W) -> io::Result<Status>
+    ensures { IfOk result (λ s. s ≡ Status.Done) }
+{
     let common = &header.common;
     let uuid = Escaped(common.uuid.as_str().as_bytes());
     let name = Escaped(common.cipher_name.as_str().as_bytes());

@@ -1,5 +1,5 @@
 use Rattle.luks_cli.proofs.Fronts.{front_of}
-use Rattle.luks_cli.proofs.passphrases.first_bytes.Goals as goal
+use Rattle.luks_cli.proofs.passphrase_file.first_bytes.Goals as goal
 
 pub returns : goal.returns
 returns g c =

@@ -1,6 +1,6 @@
 //! The lines of the objects of LUKS2 metadata.
-use crate::escaped::Escaped;
-use crate::lists::Numbers;
+use super::escaped::Escaped;
+use super::lists::Numbers;
 use luks_volume::{Cost, Digest, Extent, Keyslot, Meta, Segment, SegmentKind, Token};
 use std::io;
 use std::io::Write;

@@ -1,11 +1,11 @@
 //! The lines of a LUKS2 header.
-ghost use Rattle.std.specs.Prelude.{◌+◌, ◌<◌, ◌^◌};
+ghost use Rattle.std.specs.Prelude.{◌≡◌, ◌≢◌, ◌+◌, ◌<◌, ◌^◌, IfOk};
 ghost use Rattle.luks_head.specs.Judged2.{IsCopyWithin};
 
+use super::escaped::{Escaped, before_zero};
+use super::objects::{show_digests, show_keyslots, show_segments, show_tokens};
 use crate::answers::{Status, device_fault, no_memory, refused};
 use crate::copies::copies_name;
-use crate::escaped::{Escaped, before_zero};
-use crate::objects::{show_digests, show_keyslots, show_segments, show_tokens};
 use luks_volume::{Bin2, Copies, Device, Meta, MetaFault};
 use std::alloc::Global;
 use std::io;
@@ -21,6 +21,8 @@ pub(crate) fn show_luks2<D: Device, W: Write>(
 ) -> io::Result<Status>
     requires room { D.failed device.old + 1 < 2 ^ 64 }
     requires within { IsCopyWithin (D.size device.old) header.now }
+    ensures same { D.tells → D.bytes device.new ≡ D.bytes device.old }
+    ensures kinds { IfOk result (λ s. s ≢ Status.NotInStep) }
 {
     let uuid = match header.uuid() {
         Ok(uuid) => uuid,

@@ -1,5 +1,5 @@
 use crate::helps;
-use crate::request::Line;
+use crate::request::{Command as Asked, Line};
 use clap::error::ErrorKind;
 use clap::{Arg, ArgAction, ArgMatches, Command, Error};
 use luks_volume::Data;
@@ -21,19 +21,18 @@ pub fn line<'a>(alloc: Global, words: &'a [&'a str]) -> Result<Line<'a>, Error> 
 fn asked<'a>(matches: &ArgMatches<'a>) -> Option<Line<'a>> {
     let (name, given) = matches.subcommand()?;
     let volume = given.get_str("VOLUME")?;
-    match name {
-        "check" => Some(Line::Check {
-            volume,
+    let command = match name {
+        "check" => Asked::Check {
             data_: data_of(given),
-        }),
-        "show" => Some(Line::Show { volume }),
-        "open" => Some(Line::Open {
-            volume,
+        },
+        "show" => Asked::Show,
+        "open" => Asked::Open {
             passphrase: given.get_str("passphrase")?,
             slot: given.get_one::<u8>("slot"),
-        }),
-        _ => None,
-    }
+        },
+        _ => return None,
+    };
+    Some(Line { volume, command })
 }
 
 fn data_of(given: &ArgMatches<'_>) -> Data {
