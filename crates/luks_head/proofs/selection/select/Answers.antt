@@ -20,7 +20,7 @@ returns-in-Ok-Some-clause-found g c = λ t.
     let V : List ℕ → Type 0 = λ b. IsVersion1 b → ⊥ in
     let C : List ℕ → Type 0 = λ w. IsCounting w c.in-Ok-Some.header c.in-Ok-Some.copies in
     let found = rw c.in-Ok-Some.field-0-is at c.in-Ok-Some.ensures.found t in
-    let counting : IsCounting v c.in-Ok-Some.header c.in-Ok-Some.copies = subst C (c.read_at.ensures.same t) found in
+    let counting : IsCounting v c.in-Ok-Some.header c.in-Ok-Some.copies = subst C (c.read_at.ensures.unchanged.same t) found in
     ((not_version1 v long (subst V head (λ one. false≢true (c.if-is_version1.ensures.1 one))), counting.counts), counting.fields)
 
 pub returns-in-Ok-None-clause-refused : goal.returns-in-Ok-None-clause-refused
@@ -30,6 +30,6 @@ returns-in-Ok-None-clause-refused g c = λ t.
     let head : c.read_at.new.into ≡ part v 0 592 = after_ok _ _ _ (c.read_at.ensures.read t) c.if-is_err.ensures.negation in
     let V : List ℕ → Type 0 = λ b. IsVersion1 b → ⊥ in
     let W : List ℕ → Type 0 = λ b. IsWhy b c.why_nothing.result in
-    let none : HasNoCopy v = subst HasNoCopy (c.read_at.ensures.same t) (rw c.in-Ok-None.field-0-is at c.in-Ok-None.ensures.found t) in
+    let none : HasNoCopy v = subst HasNoCopy (c.read_at.ensures.unchanged.same t) (rw c.in-Ok-None.field-0-is at c.in-Ok-None.ensures.found t) in
     refused_by v c.why_nothing.result (not_version1 v long (subst V head (λ one. false≢true (c.if-is_version1.ensures.1 one)))) none
     (subst W head c.why_nothing.ensures)
