@@ -23,9 +23,9 @@ loop-k-init g c = record {
 
 pub loop-k-preserved : goal.loop-k-preserved
 loop-k-preserved g c = record {
-  size = c.in_ok-read_at.ensures.size ∙ c.loop-k.invariant.size;
+  size = c.in_ok-read_at.ensures.unchanged.size ∙ c.loop-k.invariant.size;
   count = c.in_ok-read_at.ensures.count ∙ c.loop-k.invariant.count;
-  same = λ t. c.in_ok-read_at.ensures.same t ∙ c.loop-k.invariant.same t;
+  same = λ t. c.in_ok-read_at.ensures.unchanged.same t ∙ c.loop-k.invariant.same t;
   fed = λ t e.
       let P : List ℕ → Type 0 = λ m. Holds256 c.update.new.self m in
       let v : List ℕ = g.D.Device.bytes c.args.device.now in

@@ -28,7 +28,7 @@ returns-then-has_sum-clause-judged g c = λ t.
     let v : List ℕ = g.D.Device.bytes c.args.device.now in
     let total : c.len-total.result ≡ length v = c.len-total.ensures ∙ sym (g.met.D.Device.sized c.args.device.now t) in
     let head_is : c.read_at.new.into ≡ header_at v c.args.at = c.in_ok-read_at.ensures.read t in
-    let same : g.D.Device.bytes c.read_at.new.self ≡ v = c.in_ok-read_at.ensures.same t in
+    let same : g.D.Device.bytes c.read_at.new.self ≡ v = c.in_ok-read_at.ensures.unchanged.same t in
     let taken = c.in_ok-digest.ensures.digest t (head_is ∙ sym (ap (λ w. header_at w c.args.at) same)) in
     let F : List ℕ → Type 0 = λ b. IsFormed b c.args.at (length v) in
     let N : ℕ → Type 0 = λ n. IsFormed c.read_at.new.into c.args.at n in
@@ -46,7 +46,7 @@ pub returns-else-has_sum-clause-judged : goal.returns-else-has_sum-clause-judged
 returns-else-has_sum-clause-judged g c = λ t sound.
     let v : List ℕ = g.D.Device.bytes c.args.device.now in
     let head_is : c.read_at.new.into ≡ header_at v c.args.at = c.in_ok-read_at.ensures.read t in
-    let same : g.D.Device.bytes c.read_at.new.self ≡ v = c.in_ok-read_at.ensures.same t in
+    let same : g.D.Device.bytes c.read_at.new.self ≡ v = c.in_ok-read_at.ensures.unchanged.same t in
     let taken = c.in_ok-digest.ensures.digest t (head_is ∙ sym (ap (λ w. header_at w c.args.at) same)) in
     false≢true (c.if-has_sum.ensures.1 (ap (λ b. part b 448 32) head_is ∙ sound.checksum
     ∙ sym (digest_is v _ _ _ c.args.at _ head_is same c.read-header.ensures.hdr_size taken)))
