@@ -1,5 +1,5 @@
 ghost use Rattle.std.specs.Prelude.{◌≡◌, ◌≢◌};
-ghost use Rattle.std_io.specs.IoError.{error_kind};
+ghost use Rattle.std.specs.IoError.{error_kind};
 ghost use Rattle.luks_cli.specs.Files.{IsFaultOf};
 
 use std::io;

@@ -1,6 +1,6 @@
 //! The lines of a LUKS2 header.
 ghost use Rattle.std.specs.Prelude.{◌≡◌, ◌≢◌, ◌+◌, ◌<◌, ◌^◌, IfOk};
-ghost use Rattle.luks_head.specs.Judged2.{IsCopyWithin};
+ghost use Rattle.luks_head.specs.Header2.{IsCopyWithin};
 
 use super::escaped::{Escaped, before_zero};
 use super::objects::{show_digests, show_keyslots, show_segments, show_tokens};
