@@ -26,15 +26,3 @@ ends_accepted v payload (Luks2 FirstNewer seqid) formed held = (formed, out_of_s
 ends_accepted v payload (Luks2 SecondNewer seqid) formed held = (formed, out_of_step v held.0 SecondNewer held.1.0 (λ e. cc))
 ends_accepted v payload (Luks2 FirstOnly seqid) formed held = (formed, out_of_step v held.0 FirstOnly held.1.0 (λ e. cc))
 ends_accepted v payload (Luks2 SecondOnly seqid) formed held = (formed, out_of_step v held.0 SecondOnly held.1.0 (λ e. cc))
-
--- what the end of the command says, its exit status says
-pub says_check : (v : List ℕ) (payload : Data) (s : Status) → EndsCheck v payload s → SaysCheck v payload (exit_status s)
-says_check v payload Done ends = record { accepted = λ _. ends; not_in_step = λ e. absurd (omega arith); refused = λ e. absurd (omega arith) }
-says_check v payload NotInStep ends = record { accepted = λ e. absurd (omega arith); not_in_step = λ _. ends; refused = λ e. absurd (omega arith) }
-says_check v payload Refused ends = record { accepted = λ e. absurd (omega arith); not_in_step = λ e. absurd (omega arith); refused = λ _. ends }
-says_check v payload Fault ends = record { accepted = λ e. absurd (omega arith); not_in_step = λ e. absurd (omega arith); refused = λ e. absurd (omega arith) }
-
--- where nothing could be printed, the exit status says nothing
-pub says_nothing : (v : List ℕ) (payload : Data) (status : ℕ) → status ≡ 4 → SaysCheck v payload status
-says_nothing v payload status is =
-    record { accepted = λ e. absurd (omega (arith, is, e)); not_in_step = λ e. absurd (omega (arith, is, e)); refused = λ e. absurd (omega (arith, is, e)) }

@@ -18,7 +18,9 @@ pub(crate) enum PassphraseFault {
 }
 
 impl From<InputFault> for PassphraseFault {
-    ghost from_gives = { λ fault outer. outer ≡ PassphraseFault.Input fault };
+    ghost use Rattle.luks_cli.specs.declared.passphrase_file.PassphraseFault.TheVariants.{Input};
+
+    ghost from_gives = { λ fault outer. outer ≡ Input fault };
 
     fn from(fault: InputFault) -> PassphraseFault {
         PassphraseFault::Input(fault)
