@@ -2,19 +2,19 @@ use Rattle.std.proofs.Common.{◌≡◌, ℕ, ◌+◌, ◌≤◌, List, length, 
 use Rattle.std.proofs.lemmas.Bool.{false≢true}
 use Rattle.luks_area.specs.Ranges.{part}
 use Rattle.luks_head.specs.Header2.{header_at, hdr_size, HoldsBin2, IsFormed}
-use Rattle.luks_head.proofs.Windows.{digest_is, listed_at_least}
+use Rattle.luks_head.proofs.CopyFacts.{digest_is, listed_at_least}
 use Rattle.luks_head.proofs.copies.sound_copy.Goals as goal
-use Rattle.luks_head.proofs.copies.sound_copy.Goals.{then-total-lt4096-via-then-total-lt4096, then-total-lt4096-via-else-total-lt4096+then-at-total}
+use Rattle.luks_head.proofs.copies.sound_copy.Goals.{then-total-lt-WINDOW-via-then-total-lt-WINDOW, then-total-lt-WINDOW-via-else-total-lt-WINDOW+then-at-total}
 
-pub returns-then-total-lt4096-clause-judged : goal.returns-then-total-lt4096-clause-judged
-returns-then-total-lt4096-clause-judged g c = λ t sound.
+pub returns-then-total-lt-WINDOW-clause-judged : goal.returns-then-total-lt-WINDOW-clause-judged
+returns-then-total-lt-WINDOW-clause-judged g c = λ t sound.
     let v : List ℕ = g.D.Device.bytes c.args.device.now in
     let long : 16384 ≤ hdr_size (header_at v c.args.at) = listed_at_least _ sound.form.listed in
     let inside : c.args.at + hdr_size (header_at v c.args.at) ≤ length v = sound.form.inside in
     let sized = g.met.D.Device.sized c.args.device.now t in
-    elim c.then-total-lt4096.branch [
-      | then-total-lt4096-via-then-total-lt4096 w ↦ omega (arith, sized, long, inside)
-      | then-total-lt4096-via-else-total-lt4096+then-at-total w ↦ omega (arith, sized, long, inside)
+    elim c.then-total-lt-WINDOW.branch [
+      | then-total-lt-WINDOW-via-then-total-lt-WINDOW w ↦ omega (arith, sized, long, inside)
+      | then-total-lt-WINDOW-via-else-total-lt-WINDOW+then-at-total w ↦ omega (arith, sized, long, inside)
     ]
 
 pub returns-then-not-is_formed-clause-judged : goal.returns-then-not-is_formed-clause-judged
