@@ -1,6 +1,6 @@
 -- What a keyslot opens to, said of its whole area at once (LUKS1 On-Disk Format 1.2.3, 4.3; LUKS2
 -- On-Disk Format 1.1, 4.3).
-use Rattle.std.specs.Prelude.{ℕ, zero, suc, ◌+◌, ◌*◌, ◌≤◌, List, [], ◌++◌, length, take, Option, Some, None, unwrap_or, if◌then◌else◌, Bool}
+use Rattle.std.specs.Prelude.{ℕ, zero, suc, ◌*◌, ◌≤◌, List, [], ◌++◌, length, take, Option, Some, None, unwrap_or, if◌then◌else◌, Bool}
 use Rattle.std.specs.Str.{bytes_eq}
 use Rattle.luks_area.specs.declared.area.Area.{Area}
 use Rattle.luks_area.specs.Ranges.{part}

@@ -1,6 +1,7 @@
 //! Reading a keyslot's area, one decrypted sector of 512 bytes at a time.
 
 ghost use Rattle.std.specs.Prelude.{◌≡◌, ◌+◌, ◌*◌, ◌/◌, ◌^◌, ◌<◌, ◌≤◌, length, OnOk, IfOk};
+ghost use Rattle.luks_area.specs.Area.{IsInside};
 ghost use Rattle.luks_area.specs.Device.{CountsFailure, IsUnchanged, is_failure};
 ghost use Rattle.luks_area.specs.Sectors.{rounded_to_sectors};
 ghost use Rattle.luks_slot.specs.Opening.{area_bytes, opened_sector};
@@ -33,8 +34,7 @@ impl AreaReader {
     // Reads and decrypts one sector of the area.
     fn load<D: Device>(&mut self, device: &mut D, number: u64) -> Result<(), DeviceFault>
         requires in_area { 512 * (number + 1) ≤ self.old.area.len }
-        requires within { self.old.area.start + self.old.area.len ≤ D.size device.old }
-        requires no_wrap { self.old.area.start + self.old.area.len < 2 ^ 64 }
+        requires within { IsInside self.old.area (D.size device.old) }
         requires room { D.failed device.old + 1 < 2 ^ 64 }
         ensures count { CountsFailure is_failure result (D.failed device.old) (D.failed device.new) }
         ensures unchanged { IsUnchanged D.tells D.size D.bytes device.old device.new }
@@ -48,19 +48,19 @@ impl AreaReader {
         Ok(())
     }
 
-    // The decrypted byte at a place of the area. Its sector is held, or is loaded where it begins at
-    // the place.
+    // The decrypted byte at a place of the area. Its sector is held, or is loaded where it begins
+    // at the place.
     fn byte_at<D: Device>(&mut self, device: &mut D, place: u64) -> Result<u8, DeviceFault>
         requires in_area { 512 * (place / 512 + 1) ≤ self.old.area.len }
-        requires within { self.old.area.start + self.old.area.len ≤ D.size device.old }
-        requires no_wrap { self.old.area.start + self.old.area.len < 2 ^ 64 }
+        requires within { IsInside self.old.area (D.size device.old) }
         requires room { D.failed device.old + 1 < 2 ^ 64 }
         requires before { D.tells → IsReading self.old (D.bytes device.old) place }
         ensures count { CountsFailure is_failure result (D.failed device.old) (D.failed device.new) }
         ensures unchanged { IsUnchanged D.tells D.size D.bytes device.old device.new }
         ensures same_area { self.new.area ≡ self.old.area }
         ensures same_key { self.new.key ≡ self.old.key }
-        ensures after { D.tells → OnOk result (IsReading self.new (D.bytes device.new) (place + 1)) }
+        ensures after { D.tells → OnOk result
+            (IsReading self.new (D.bytes device.new) (place + 1)) }
         ensures value { D.tells → IfOk result (λ b. b
             ≡ plain_byte self.old.key (area_bytes (D.bytes device.old) self.old.area) place) }
     {
@@ -78,8 +78,7 @@ impl AreaReader {
         out: &mut [u8],
     ) -> Result<(), DeviceFault>
         requires in_area { rounded_to_sectors (from + length out.old) ≤ self.old.area.len }
-        requires within { self.old.area.start + self.old.area.len ≤ D.size device.old }
-        requires no_wrap { self.old.area.start + self.old.area.len < 2 ^ 64 }
+        requires within { IsInside self.old.area (D.size device.old) }
         requires room { D.failed device.old + 1 < 2 ^ 64 }
         requires before { D.tells → IsReading self.old (D.bytes device.old) from }
         ensures count { CountsFailure is_failure result (D.failed device.old) (D.failed device.new) }

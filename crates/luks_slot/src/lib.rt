@@ -1,4 +1,5 @@
-//! Opening one keyslot: from a passphrase and the key material in the keyslot's area to the volume key.
+//! Opening one keyslot: from a passphrase and the key material in the keyslot's area to the volume
+//! key.
 #![tactic(auto)]
 
 mod area_reader;

@@ -1,6 +1,7 @@
 //! From the stripes of a keyslot's area to what they hold.
 
 ghost use Rattle.std.specs.Prelude.{◌≡◌, ◌+◌, ◌*◌, ◌^◌, ◌<◌, ◌≤◌, length, OnOk};
+ghost use Rattle.luks_area.specs.Area.{IsInside};
 ghost use Rattle.luks_area.specs.Device.{CountsFailure, IsUnchanged, is_failure};
 ghost use Rattle.luks_area.specs.Sectors.{rounded_to_sectors};
 ghost use Rattle.luks_kdf.specs.Names.{hash_of, digest_size_of};
@@ -24,8 +25,7 @@ fn merge_stripes<D: Device, H: HashFn>(
     requires at_most_128 { length out.old ≤ 128 }
     requires some_stripes { 1 ≤ stripes }
     requires sectors { rounded_to_sectors (length out.old * stripes) ≤ reader.old.area.len }
-    requires within { reader.old.area.start + reader.old.area.len ≤ D.size device.old }
-    requires no_wrap { reader.old.area.start + reader.old.area.len < 2 ^ 64 }
+    requires within { IsInside reader.old.area (D.size device.old) }
     requires room { D.failed device.old + 1 < 2 ^ 64 }
     ensures count { CountsFailure is_failure result (D.failed device.old) (D.failed device.new) }
     ensures unchanged { IsUnchanged D.tells D.size D.bytes device.old device.new }
@@ -57,14 +57,14 @@ pub(crate) fn read_candidate<D: Device>(
     requires at_most_128 { length out.old ≤ 128 }
     requires some_stripes { 1 ≤ stripes }
     requires sectors { rounded_to_sectors (length out.old * stripes) ≤ reader.old.area.len }
-    requires within { reader.old.area.start + reader.old.area.len ≤ D.size device.old }
-    requires no_wrap { reader.old.area.start + reader.old.area.len < 2 ^ 64 }
+    requires within { IsInside reader.old.area (D.size device.old) }
     requires room { D.failed device.old + 1 < 2 ^ 64 }
     ensures count { CountsFailure is_failure result (D.failed device.old) (D.failed device.new) }
     ensures unchanged { IsUnchanged D.tells D.size D.bytes device.old device.new }
     ensures value { D.tells → OnOk result (out.new
-        ≡ merge (hash_of hash) (digest_size_of hash) (length out.old) stripes (stripes_from
-        reader.old.key (area_bytes (D.bytes device.old) reader.old.area) (length out.old) stripes)) }
+        ≡ merge (hash_of hash) (digest_size_of hash) (length out.old) stripes
+        (stripes_from reader.old.key (area_bytes (D.bytes device.old) reader.old.area)
+        (length out.old) stripes)) }
 {
     let mut buffer = [0u8; 128];
     let stripe = &mut buffer[..out.len()];

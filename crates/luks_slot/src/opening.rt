@@ -1,6 +1,7 @@
 //! Opening a keyslot.
 
 ghost use Rattle.std.specs.Prelude.{◌≡◌, ◌+◌, ◌*◌, ◌^◌, ◌<◌, ◌≤◌, length, OnOk, IfOk, IfErr, IfSome, if◌then◌else◌};
+ghost use Rattle.luks_area.specs.Area.{IsInside};
 ghost use Rattle.luks_area.specs.Device.{CountsFailure, IsUnchanged};
 ghost use Rattle.luks_area.specs.Sectors.{rounded_to_sectors};
 ghost use Rattle.luks_slot.specs.Fault.{IsAnsweredFault, is_device_fault};
@@ -39,7 +40,7 @@ pub fn open<D: Device>(
     requires at_most_128 { plan.now.key_bytes ≤ 128 }
     requires some_stripes { 1 ≤ plan.now.stripes }
     requires sectors { rounded_to_sectors (stripe_bytes plan.now) ≤ plan.now.area.len }
-    requires within { plan.now.area.start + plan.now.area.len ≤ D.size device.old }
+    requires within { IsInside plan.now.area (D.size device.old) }
     requires room { D.failed device.old + 1 < 2 ^ 64 }
 
     // The plan is refused, the device failed, or there is an answer.
@@ -59,15 +60,8 @@ pub fn open<D: Device>(
     let mut reader = AreaReader::new(plan.area, key);
     let mut buffer = [0u8; 128];
     let candidate = &mut buffer[..plan.key_bytes];
-    // Places in the area don't wrap, since the device has a length.
-    let _size = device.len();
-    read_candidate(
-        device,
-        &mut reader,
-        parameters.splitter_hash,
-        plan.stripes,
-        candidate,
-    )?;
+    let hash = parameters.splitter_hash;
+    read_candidate(device, &mut reader, hash, plan.stripes, candidate)?;
     Ok(key_of(&plan.digest, parameters.digest_hash, candidate))
 }
 

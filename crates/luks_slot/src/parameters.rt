@@ -8,7 +8,8 @@ use crate::fault::SlotFault;
 use crate::plan::{AreaCipher, Derivation, SlotPlan};
 use luks_kdf::HashName;
 
-// The parameters of a plan that isn't refused: its hashes, and what PBKDF2 derives the area's key by.
+// The parameters of a plan that isn't refused: its hashes, and by what PBKDF2 derives the area's
+// key.
 #[derive(Clone, Copy)]
 pub(crate) struct Parameters<'a> {
     pub(crate) hash: HashName,

@@ -26,8 +26,8 @@ loop-i-preserved g c =
       block_length = c.feed.ensures.len ∙ c.loop-i.invariant.block_length;
       block = λ tells.
           let long = g.met.D.Device.sized c.args.device.now tells in
-          c.feed.ensures.in_turn k i _ (c.loop-i.invariant.block tells)
-          (stripe_on before now reader.key c.loop-i.reader.key reader.area c.loop-i.reader.area k c.args.stripes i _ c.read.new.out
+          c.feed.ensures.in_turn k i (stripes_from reader.key (area_bytes before reader.area) k c.args.stripes) (c.loop-i.invariant.block tells)
+          (stripe_on before now reader.key c.loop-i.reader.key reader.area c.loop-i.reader.area k c.args.stripes i (i * k) c.read.new.out
           (c.loop-i.invariant.unchanged.same tells) c.loop-i.invariant.same_key c.loop-i.invariant.same_area
           refl (c.read.auto.out ∙ stripe_len) below c.requires.sectors
           (omega (arith, long, c.requires.within)) (c.in_ok-read.ensures.value tells));
@@ -46,10 +46,10 @@ returns-clause-value g c tells =
     let more : i + 1 ≡ n = omega (arith, c.from-last.ensures, last, c.requires.some_stripes) in
     let long = g.met.D.Device.sized c.args.device.now tells in
     let stripe =
-    stripe_on before now reader.key c.loop-i.reader.key reader.area c.loop-i.reader.area k n i _ c.read-2.new.out
+    stripe_on before now reader.key c.loop-i.reader.key reader.area c.loop-i.reader.area k n i ((c.from-last.result - 1) * k) c.read-2.new.out
     (c.loop-i.invariant.unchanged.same tells) c.loop-i.invariant.same_key c.loop-i.invariant.same_area
     (ap (λ m. m * k) last) (c.read-2.auto.out ∙ stripe_len) (omega (arith, more)) c.requires.sectors
     (omega (arith, long, c.requires.within)) (c.in_ok-read-2.ensures.value tells) in
-    c.finish.ensures.whole k i _ (c.loop-i.invariant.block tells) stripe
+    c.finish.ensures.whole k i (stripes_from reader.key (area_bytes before reader.area) k n) (c.loop-i.invariant.block tells) stripe
     ∙ ap (λ m. merge g.H.HashFn.digest g.H.HashFn.LEN k m
     (stripes_from reader.key (area_bytes before reader.area) k n)) more

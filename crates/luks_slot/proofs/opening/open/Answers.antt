@@ -1,4 +1,4 @@
-use Rattle.std.proofs.Common.{rules, ◌≡◌, ◌∙◌}
+use Rattle.std.proofs.Common.{rules, ◌∙◌}
 use Rattle.luks_slot.proofs.OpeningFacts.{opens_read}
 use Rattle.luks_slot.proofs.opening.open.Goals as goal
 
