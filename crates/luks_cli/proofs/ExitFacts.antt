@@ -1,5 +1,5 @@
 -- What the exit status of `check` says.
-use Rattle.std.proofs.Common.{◌≡◌, ◌≢◌, ℕ, List, inl, inr, rules, arith}
+use Rattle.std.proofs.Common.{◌≢◌, ℕ, List, inl, inr}
 use Rattle.luks_volume.specs.declared.report.Data.{Data}
 use Rattle.luks_volume.specs.declared.report.Version.{Version}
 use Rattle.luks_volume.specs.declared.report.Version.TheVariants.{Luks1, Luks2}
@@ -8,10 +8,7 @@ use Rattle.luks_volume.specs.Reported.{IsVersion}
 use Rattle.luks_head.specs.Selection.{luks2, Chosen}
 use Rattle.luks_head.specs.declared.selection.Copies.{Copies}
 use Rattle.luks_head.specs.declared.selection.Copies.TheVariants.{InStep, FirstNewer, SecondNewer, FirstOnly, SecondOnly}
-use Rattle.luks_cli.specs.Checked.{EndsCheck, IsInStep, IsOutOfStep, SaysCheck, status_of}
-use Rattle.luks_cli.specs.Exit.{exit_status}
-use Rattle.luks_cli.specs.declared.answers.Status.{Status}
-use Rattle.luks_cli.specs.declared.answers.Status.TheVariants.{Done, Refused, NotInStep, Fault}
+use Rattle.luks_cli.specs.Checked.{EndsCheck, IsOutOfStep, status_of}
 
 -- copies that aren't in step
 out_of_step : (v : List ℕ) (o : ℕ) (copies : Copies) → Chosen v (luks2 o copies) → copies ≢ InStep → IsOutOfStep v

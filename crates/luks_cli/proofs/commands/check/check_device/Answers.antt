@@ -1,4 +1,4 @@
-use Rattle.std.proofs.Common.{◌≡◌, sym, subst}
+use Rattle.std.proofs.Common.{sym, subst}
 use Rattle.luks_cli.specs.Checked.{EndsCheck, status_of}
 use Rattle.luks_cli.proofs.ExitFacts.{ends_accepted}
 use Rattle.luks_cli.proofs.commands.check.check_device.Goals as goal
