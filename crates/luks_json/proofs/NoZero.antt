@@ -1,8 +1,7 @@
 -- A compact text holds no zero byte.
-use Rattle.std.proofs.Common.{◌≡◌, ◌≢◌, ℕ, zero, suc, ◌+◌, ◌/◌, ◌%◌, ◌<◌, ◌≤◌, ◌==◌, Bool, true, false, cond, List, [], ◌∷◌, ◌++◌, pos, negsuc, Result, Ok, Err, nat_lt, inl, inr, refl, arith, lit<}
+use Rattle.std.proofs.Common.{◌≡◌, ◌≢◌, ℕ, zero, suc, ◌+◌, ◌/◌, ◌%◌, ◌<◌, ◌≤◌, ◌==◌, Bool, true, false, cond, List, [], ◌∷◌, ◌++◌, pos, negsuc, Result, Ok, Err, nat_lt, inl, inr, arith, lit<}
 use Rattle.std.proofs.lemmas.Bool.{ltb-true, ltb-false, cases_Bool}
 use Rattle.std.proofs.lemmas.List.Elements.{All-nil, All-cons}
-use Rattle.std.proofs.Math.ListN.{replicate}
 use Rattle.std.specs.Char.{digit_char}
 use Rattle.std.specs.Fmt.{decimal, digits, digits_onto, digit_glyph}
 use Rattle.std.specs.List.{All}
@@ -10,7 +9,6 @@ use Rattle.std.specs.Result.{IfOk}
 use Rattle.json.specs.Print.{escape_letter, escape_byte, escape, quoted}
 use Rattle.serde_json.specs.Data.{Num, unsigned, negative, float, Data, null, boolean, number, string, array, object, Items, no_items, item, Members, no_members, member}
 use Rattle.serde_json.specs.Written.{number_text, comma_if, compact_text, items_text, members_text}
-use Rattle.luks_json.specs.AreaText.{JsonText}
 
 abbrev pub HasNoZero : List ℕ → Type 0
 HasNoZero = All (λ c. c ≢ 0)

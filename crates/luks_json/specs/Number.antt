@@ -22,8 +22,3 @@ number_of (a ∷ b ∷ c ∷ rest) = None
 
 abbrev pub is_name : List ℕ → Bool
 is_name text = is_some (number_of text)
-
--- the numbers in the order of the bytes of their names
-abbrev pub numbers : List ℕ
-numbers = 0 ∷ 1 ∷ 10 ∷ 11 ∷ 12 ∷ 13 ∷ 14 ∷ 15 ∷ 16 ∷ 17 ∷ 18 ∷ 19 ∷ 2 ∷ 20 ∷ 21 ∷ 22 ∷ 23 ∷ 24 ∷ 25 ∷ 26 ∷ 27 ∷ 28 ∷ 29
-    ∷ 3 ∷ 30 ∷ 31 ∷ 4 ∷ 5 ∷ 6 ∷ 7 ∷ 8 ∷ 9 ∷ []

@@ -22,7 +22,7 @@ pub use laws::{
     decimals_say_numbers, encodings_say_bytes, names_say_numbers, one_kind_of_area, one_value,
 };
 pub use name_list::numbers_in;
-pub use number::{NUMBERS, number_named, number_text};
+pub use number::{number_named, number_text};
 pub use parsing::read_json;
 pub use values::{bytes_in, decimal_in, is_text_array, number_in, text_in, whole_number_in};
 pub use whole::holds_float;

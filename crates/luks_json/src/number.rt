@@ -3,12 +3,6 @@
 ghost use Rattle.std.specs.Prelude.{◌≡◌, ◌<◌, [], ◌∷◌};
 ghost use Rattle.luks_json.specs.Number.{number_text, number_of};
 
-/// The numbers in the order of the bytes of their names.
-pub const NUMBERS: [u8; 32] = [
-    0, 1, 10, 11, 12, 13, 14, 15, 16, 17, 18, 19, 2, 20, 21, 22, 23, 24, 25, 26, 27, 28, 29, 3, 30,
-    31, 4, 5, 6, 7, 8, 9,
-];
-
 /// The name of the object with number `n`.
 pub fn number_text(n: u8) -> &'static str
     requires { n < 32 }

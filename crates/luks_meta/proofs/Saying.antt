@@ -1,23 +1,17 @@
 -- The rows of an object that is read, and the types of objects.
-use Rattle.std.proofs.Common.{◌≡◌, ℕ, zero, suc, ◌&&◌, Bool, true, false, List, [], ◌∷◌, Option, Some, None, option_map, option_and_then, is_some, codes, bytes_eq, refl, sym, ap, subst, ◌∙◌}
-use Rattle.std.proofs.lemmas.Bool.{true≢false, false≢true, and_from, and_parts}
+use Rattle.std.proofs.Common.{◌≡◌, ℕ, true, false, List, [], ◌∷◌, Option, Some, None, option_map, option_and_then, is_some, bytes_eq, refl, sym, ap}
+use Rattle.std.proofs.lemmas.Bool.{true≢false, false≢true, and_from}
 use Rattle.std.proofs.lemmas.Slice.Eq.{bytes_eq-Decides}
 use Rattle.std.specs.List.{AllByRecursion, slice_get, list_any}
 use Rattle.std.specs.Option.{option_map_or}
 use Rattle.serde_json.specs.Data.{Data}
 use Rattle.serde_json.specs.Find.{as_object}
-use Rattle.luks_rules.specs.declared.table.Outer.{Outer}
 use Rattle.luks_rules.specs.declared.table.Outer.TheVariants as outer
-use Rattle.luks_rules.specs.declared.table.Member.{Member}
-use Rattle.luks_rules.specs.declared.table.Member.TheVariants as name
 use Rattle.luks_rules.specs.declared.table.When.TheVariants as when
 use Rattle.luks_rules.specs.declared.table.Row.{Row}
-use Rattle.luks_rules.specs.Table.{config_rows, segment_rows}
-use Rattle.luks_rules.specs.Reading.{Field, whole, text, reads, text_of, number_of, decimal_in, extent_of, kept, is_sector_size, is_listed}
-use Rattle.luks_rules.specs.declared.table.Listed.TheVariants as listed
-use Rattle.luks_rules.specs.Faults.{outer_at, value_at, is_judged, type_at, suits}
+use Rattle.luks_rules.specs.Reading.{text, reads, kept}
+use Rattle.luks_rules.specs.Faults.{outer_at, value_at, type_at, suits}
 use Rattle.luks_rules.specs.Accepted.{IsRead}
-use Rattle.luks_rules.specs.Faults.{member_at}
 
 -- ---- members that aren't there
 

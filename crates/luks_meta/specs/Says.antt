@@ -1,13 +1,11 @@
 -- What the records tell of the metadata: each member of an object, as its rule reads it, is a field of the record.
-use Rattle.std.specs.Prelude.{map, ◌≡◌, ℕ, List, codes, true, Option, Some, None, is_some, slice_get, option_and_then}
+use Rattle.std.specs.Prelude.{◌≡◌, ℕ, codes, Option, Some, None, option_and_then}
 use Rattle.serde_json.specs.Data.{Data}
-use Rattle.serde_json.specs.Find.{get, as_object}
 use Rattle.luks_rules.specs.declared.table.Outer.{Outer}
 use Rattle.luks_rules.specs.declared.table.Outer.TheVariants as outer
 use Rattle.luks_rules.specs.declared.table.Member.{Member}
 use Rattle.luks_rules.specs.declared.table.Member.TheVariants as name
 use Rattle.luks_rules.specs.declared.table.Rule.TheVariants as rule
-use Rattle.luks_rules.specs.declared.table.Row.{Row}
 use Rattle.luks_meta.specs.declared.member.Extent.{Extent}
 use Rattle.luks_meta.specs.declared.member.Extent.TheVariants.{Fixed, Dynamic}
 use Rattle.luks_meta.specs.declared.configuration.Config.{Config}
@@ -16,7 +14,6 @@ use Rattle.luks_meta.specs.declared.segments.SegmentKind.{SegmentKind}
 use Rattle.luks_meta.specs.declared.segments.SegmentKind.TheVariants.{Crypt, Linear}
 use Rattle.luks_meta.specs.declared.keyslots.Splitter.{Splitter}
 use Rattle.luks_meta.specs.declared.keyslots.KeyArea.{KeyArea}
-use Rattle.luks_meta.specs.declared.keyslots.Pbkdf2.{Pbkdf2}
 use Rattle.luks_meta.specs.declared.keyslots.Argon2.{Argon2}
 use Rattle.luks_meta.specs.declared.keyslots.Cost.{Cost}
 use Rattle.luks_meta.specs.declared.keyslots.Cost.TheVariants as cost
@@ -25,9 +22,7 @@ use Rattle.luks_meta.specs.declared.keyslots.Keyslot.{Keyslot}
 use Rattle.luks_meta.specs.declared.digests.Digest.{Digest}
 use Rattle.luks_meta.specs.declared.tokens.Token.{Token}
 use Rattle.luks_json.specs.Names.{numbers_of_array}
-use Rattle.luks_json.specs.Number.{number_text}
-use Rattle.luks_rules.specs.Table.{digest_rows, token_rows, config_rows, keyslot_rows, segment_rows, member_name}
-use Rattle.luks_rules.specs.Reading.{names, Field, object, text, whole, absent, dynamic, bytes, reads, text_of, number_of, number_in, decimal_in, extent_of, bytes_in, kept, is_sector_size}
+use Rattle.luks_rules.specs.Reading.{Field, whole, absent, dynamic, reads, text_of, number_of, number_in, decimal_in, extent_of, bytes_in, kept, is_sector_size}
 pub use Rattle.luks_rules.specs.Faults.{member_at}
 use Rattle.luks_rules.specs.Faults.{type_at}
 

@@ -1,5 +1,5 @@
 -- The faults of an area, from those of its text and of its value.
-use Rattle.std.proofs.Common.{◌≢◌, true, false, refl, ◌≡◌, ℕ, List, [], ◌∷◌, length, Some, None, sym, ap, ◌∙◌, subst, arith}
+use Rattle.std.proofs.Common.{◌≢◌, true, false, refl, ◌≡◌, ℕ, List, [], ◌∷◌, length, subst, arith}
 use Rattle.serde_json.specs.Data.{Data}
 use Rattle.luks_area.specs.First.{IsLeast, NotAfter}
 use Rattle.luks_rules.specs.declared.fault.MetaFault.{MetaFault}

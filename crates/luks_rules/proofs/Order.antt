@@ -7,7 +7,8 @@ use Rattle.luks_area.specs.First.{NotAfter}
 use Rattle.luks_rules.specs.declared.table.Section.{Section}
 use Rattle.luks_rules.specs.declared.table.Section.TheVariants.{Config, Digests, Keyslots, Segments, Tokens}
 use Rattle.luks_rules.specs.Table.{section_name, rows_of}
-use Rattle.luks_json.specs.Number.{number_text, numbers}
+use Rattle.luks_json.specs.Number.{number_text}
+use Rattle.luks_rules.specs.Walk.{numbers}
 use Rattle.luks_rules.specs.Faults.{row_path}
 
 abbrev pub not_after : List ℕ → List ℕ → Bool

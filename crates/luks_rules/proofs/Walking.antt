@@ -12,9 +12,9 @@ use Rattle.luks_rules.specs.declared.table.Row.{Row}
 use Rattle.luks_rules.specs.declared.place.Place.{Place}
 use Rattle.luks_rules.specs.declared.place.Test.{Test}
 use Rattle.luks_rules.specs.Table.{section_name, rows_of}
-use Rattle.luks_json.specs.Number.{number_text, numbers}
+use Rattle.luks_json.specs.Number.{number_text}
 use Rattle.luks_rules.specs.Faults.{Among, HasPlace, IsPlace, IsFaulty, after_point, has_fault, is_numbered, object_at, object_fault, place_path, row_fault, row_path, section_at, section_fault}
-use Rattle.luks_rules.specs.Walk.{after_section, first_in, first_numbered, first_of_config, first_of_section, first_place, first_row, or_else, place}
+use Rattle.luks_rules.specs.Walk.{numbers, after_section, first_in, first_numbered, first_of_config, first_of_section, first_place, first_row, or_else, place}
 use Rattle.luks_rules.proofs.Order.{IsTail, after_prefix, apart, before, not_after, numbers_in_order, pairwise, rows_in_order, sections, sections_in_order, strictly, told}
 
 -- of the places of `S`, `o` is the least where the test holds

@@ -1,6 +1,6 @@
 -- The faults of a JSON area, and their order: by row, among paths by the order of their bytes,
 -- among objects by number.
-use Rattle.std.specs.Prelude.{◌≡◌, ℕ, ◌<◌, List, [], ◌∷◌, length, true, false, Some, None, IsUtf8}
+use Rattle.std.specs.Prelude.{◌≡◌, ℕ, ◌<◌, List, [], ◌∷◌, length, true, false}
 use Rattle.serde_json.specs.Data.{Data}
 use Rattle.serde_json.specs.Written.{has_float}
 use Rattle.arrayvec.specs.declared.array_string.ArrayString.{ArrayString}

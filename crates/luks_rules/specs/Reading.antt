@@ -1,10 +1,10 @@
 -- What the value of a member says, by the rule of its row.
-use Rattle.std.specs.Prelude.{ℕ, List, [], ◌∷◌, length, codes, Bool, false, ◌&&◌, ◌||◌, ◌==◌, nat_le, if◌then◌else◌, Option, Some, None, option_map, option_and_then, not}
+use Rattle.std.specs.Prelude.{ℕ, List, codes, Bool, false, ◌||◌, ◌==◌, if◌then◌else◌, Option, Some, None, option_map, option_and_then, not}
 use Rattle.std.specs.Option.{option_map_or}
 use Rattle.std.specs.List.{list_any}
 use Rattle.std.specs.Str.{bytes_eq}
-use Rattle.serde_json.specs.Data.{Data, Items, no_items, item}
-use Rattle.serde_json.specs.Find.{as_str, as_array, as_object, as_number, as_u64}
+use Rattle.serde_json.specs.Data.{Data}
+use Rattle.serde_json.specs.Find.{as_object}
 use Rattle.luks_rules.specs.declared.table.Listed.{Listed}
 use Rattle.luks_rules.specs.declared.table.Rule.{Rule}
 use Rattle.luks_rules.specs.declared.table.Rule.TheVariants as rule

@@ -7,8 +7,12 @@ use Rattle.luks_rules.specs.declared.table.Row.{Row}
 use Rattle.luks_rules.specs.declared.place.Place.{Place}
 use Rattle.luks_rules.specs.declared.place.Test.{Test}
 use Rattle.luks_rules.specs.Table.{rows_of}
-use Rattle.luks_json.specs.Number.{numbers}
 use Rattle.luks_rules.specs.Faults.{section_at, object_at, row_fault, object_fault, section_fault}
+
+-- the numbers in the order of the bytes of their names
+abbrev pub numbers : List ℕ
+numbers = 0 ∷ 1 ∷ 10 ∷ 11 ∷ 12 ∷ 13 ∷ 14 ∷ 15 ∷ 16 ∷ 17 ∷ 18 ∷ 19 ∷ 2 ∷ 20 ∷ 21 ∷ 22 ∷ 23 ∷ 24 ∷ 25 ∷ 26 ∷ 27 ∷ 28 ∷ 29
+    ∷ 3 ∷ 30 ∷ 31 ∷ 4 ∷ 5 ∷ 6 ∷ 7 ∷ 8 ∷ 9 ∷ []
 
 abbrev pub place : Section → Option ℕ → Option Row → Place
 place s n r = record { section = s; number = n; row = r }

@@ -5,7 +5,9 @@ ghost use Rattle.serde_json.specs.View.{view, items_view};
 ghost use Rattle.luks_rules.specs.Reading.{reads, is_foreign, is_listed, is_between, is_sector_size, text_of, number_of, number_in, decimal_in, bytes_in, texts_of, item_texts, extent_of, kept};
 
 use crate::table::{Listed, Rule};
-use luks_json::{bytes_in, decimal_in, decimal_value, is_text_array, number_in, text_in, whole_number_in};
+use luks_json::{
+    bytes_in, decimal_in, decimal_value, is_text_array, number_in, text_in, whole_number_in,
+};
 use serde_json::Value;
 
 /// The type is one of the list.

@@ -4,7 +4,6 @@ ghost use Rattle.std.specs.Prelude.{◌≡◌, ◌<◌, ◌≤◌, Some, None, o
 ghost use Rattle.std.specs.List.{list_all};
 ghost use Rattle.serde_json.specs.View.{view};
 ghost use Rattle.luks_rules.specs.Table.{rows_of};
-ghost use Rattle.luks_json.specs.Number.{numbers};
 ghost use Rattle.luks_area.specs.First.{IsLeast};
 ghost use Rattle.luks_rules.specs.declared.place.Place.{Place};
 ghost use Rattle.luks_rules.specs.Faults.{has_fault, IsFaulty, IsPlace, object_at, place_path};
@@ -14,8 +13,13 @@ use crate::members::{object_at, section_at};
 use crate::place::{Place, Test};
 use crate::row_faults::{object_fault, row_fault, section_fault};
 use crate::table::{Row, Section, rows_of};
-use luks_json::NUMBERS;
 use serde_json::Value;
+
+/// The numbers in the order of the bytes of their names.
+const NUMBERS: [u8; 32] = [
+    0, 1, 10, 11, 12, 13, 14, 15, 16, 17, 18, 19, 2, 20, 21, 22, 23, 24, 25, 26, 27, 28, 29, 3, 30,
+    31, 4, 5, 6, 7, 8, 9,
+];
 
 /// The first row of the object with a fault.
 fn first_row(

@@ -1,13 +1,11 @@
 use Rattle.std.proofs.lemmas.Bool.{false≢true}
-use Rattle.std.proofs.Common.{◌∷◌, [], codes, refl, sym}
+use Rattle.std.proofs.Common.{◌∷◌, [], codes, refl}
 use Rattle.serde_json.specs.View.{view}
 use Rattle.luks_rules.specs.declared.table.Outer.TheVariants as outer
-use Rattle.luks_rules.specs.declared.table.Member.TheVariants as name
 use Rattle.luks_rules.specs.Table.{digest_rows}
 use Rattle.luks_rules.specs.Faults.{type_at}
-use Rattle.luks_rules.specs.Faults.{member_at}
 use Rattle.luks_rules.specs.Reading.{whole, text, bytes}
-use Rattle.luks_meta.proofs.Saying.{lost, at_top, unlisted, typed}
+use Rattle.luks_meta.proofs.Saying.{lost, at_top, unlisted}
 use Rattle.luks_meta.proofs.digests.read_digest.Goals as goal
 
 pub returns-then-not-has_type-clause-there : goal.returns-then-not-has_type-clause-there

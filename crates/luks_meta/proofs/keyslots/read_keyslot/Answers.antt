@@ -1,10 +1,10 @@
-use Rattle.std.proofs.Common.{◌∷◌, [], codes, refl, sym}
+use Rattle.std.proofs.Common.{◌∷◌, [], codes, refl}
 use Rattle.serde_json.specs.View.{view}
 use Rattle.luks_rules.specs.declared.table.Outer.TheVariants as outer
 use Rattle.luks_rules.specs.Table.{keyslot_rows}
 use Rattle.luks_rules.specs.Faults.{type_at}
 use Rattle.luks_rules.specs.Reading.{whole}
-use Rattle.luks_meta.proofs.Saying.{lost, absent_one, at_top, unlisted, typed}
+use Rattle.luks_meta.proofs.Saying.{lost, absent_one, at_top, unlisted}
 use Rattle.luks_meta.proofs.keyslots.read_keyslot.Goals as goal
 
 pub returns-then-not-has_type-clause-there : goal.returns-then-not-has_type-clause-there
