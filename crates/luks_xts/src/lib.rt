@@ -10,6 +10,3 @@ mod xts;
 
 pub use aes::AesKey;
 pub use xts::XtsKey;
-
-#[cfg(test)]
-mod tests;

@@ -3,7 +3,7 @@ use Rattle.std.proofs.Math.Nat.{mul-le-mul_right}
 use Rattle.std.proofs.lemmas.Grind.{div_ceil_times}
 use Rattle.luks_kdf.specs.Splitter.{diffused_blocks}
 use Rattle.luks_kdf.proofs.DiffuseFacts.{diffuse-enough, diffuse_step}
-use Rattle.luks_kdf.proofs.diffuse.diffuse_all.Goals as goal
+use Rattle.luks_kdf.proofs.diffuse.diffuse.Goals as goal
 
 pub returns : goal.returns
 returns g c =

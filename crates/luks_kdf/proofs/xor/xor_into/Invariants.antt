@@ -1,6 +1,6 @@
 use Rattle.std.proofs.Common.{◌≡◌, take, drop}
 use Rattle.luks_kdf.specs.Xor.{xor_bytes}
-use Rattle.luks_kdf.proofs.derive.xor_into.Given as goal
+use Rattle.luks_kdf.proofs.xor.xor_into.Given as goal
 
 -- the bytes so far are xored, and those after them are as before
 abbrev pub invariant-loop-i : goal.invariant-loop-i

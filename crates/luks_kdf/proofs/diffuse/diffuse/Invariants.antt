@@ -1,6 +1,6 @@
 use Rattle.std.proofs.Common.{◌≡◌, ◌*◌, ◌++◌, drop}
 use Rattle.luks_kdf.specs.Splitter.{diffused_blocks}
-use Rattle.luks_kdf.proofs.diffuse.diffuse_all.Given as goal
+use Rattle.luks_kdf.proofs.diffuse.diffuse.Given as goal
 
 -- the blocks so far are diffused, and the bytes after them are as before
 abbrev pub invariant-loop-j : goal.invariant-loop-j

@@ -1,7 +1,7 @@
 use Rattle.std.proofs.Common.{refl}
 use Rattle.luks_kdf.specs.Xor.{xor_bytes}
 use Rattle.luks_kdf.proofs.XorFacts.{xor_step}
-use Rattle.luks_kdf.proofs.derive.xor_into.Goals as goal
+use Rattle.luks_kdf.proofs.xor.xor_into.Goals as goal
 
 pub loop-i-init : goal.loop-i-init
 unfolding xor_bytes
