@@ -19,18 +19,18 @@ pub enum HashName {
 }
 
 impl HashName {
+    // Every hash that has a name.
+    const ALL: [HashName; 2] = [HashName::Sha1, HashName::Sha256];
+
     /// The hash that the text names, letter for letter; None for any text but `sha1` and `sha256`.
     pub fn parse(text: &str) -> Option<HashName>
         ensures value { result ≡ hash_named text.now }
         ensures exact { (name : HashName) → (result ≡ Some name) ↔ (text.now ≡ name_of name) }
     {
-        if text == "sha1" {
-            Some(HashName::Sha1)
-        } else if text == "sha256" {
-            Some(HashName::Sha256)
-        } else {
-            None
-        }
+        HashName::ALL
+            .iter()
+            .copied()
+            .find(|name| name.text() == text)
     }
 
     /// The text that names the hash in a header.
