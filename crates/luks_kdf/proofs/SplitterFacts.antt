@@ -13,7 +13,7 @@ pub count-stripes : (k len n : ℕ) → 1 ≤ k → len ≡ n * k → len / k �
 count-stripes k len n some whole = ap (λ l. l / k) whole ∙ mul-div_cancel n some
 
 -- a whole stripe has the key's length
-pub length-stripe_at : (k : ℕ) (stripes : List ℕ) (i : ℕ) → (i + 1) * k ≤ length stripes
+length-stripe_at : (k : ℕ) (stripes : List ℕ) (i : ℕ) → (i + 1) * k ≤ length stripes
     → length (stripe_at k stripes i) ≡ k
 unfolding stripe_at
 length-stripe_at k stripes i inside = omega (arith, length-block_at k stripes i, inside)
@@ -34,7 +34,7 @@ unfolding stripe_at block_at
 stripe_at-last k xs last i before whole =
     rw (drop_at xs last (i * k) before) (take_all k last (omega (arith, whole)))
 
-pub length-mixed : (hash : List ℕ → List ℕ) (size : ℕ) → ((m : List ℕ) → length (hash m) ≡ size)
+length-mixed : (hash : List ℕ → List ℕ) (size : ℕ) → ((m : List ℕ) → length (hash m) ≡ size)
     → 1 ≤ size → (k : ℕ) (stripes : List ℕ) (i : ℕ) → i * k ≤ length stripes
     → length (mixed hash size k stripes i) ≡ k
 unfolding mixed

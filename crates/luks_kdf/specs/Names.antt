@@ -6,7 +6,8 @@ use Rattle.sha2.specs.Sha256.{sha256}
 use Rattle.luks_kdf.specs.declared.hash_name.HashName.{HashName}
 use Rattle.luks_kdf.specs.declared.hash_name.HashName.TheVariants.{Sha1, Sha256}
 
--- what FIPS 180-4 says of a hash function, and the text that names it in a header
+-- a hash function of FIPS 180-4, section 1: the digest of each message, the lengths of a digest and
+-- of the blocks in bytes; and the text that names it in a header
 pub record HashFunction : Type 0 where
   pub name : List ℕ
   pub digest : List ℕ → List ℕ
@@ -14,9 +15,12 @@ pub record HashFunction : Type 0 where
   pub block_size : ℕ
 
 abbrev pub function_of : HashName → HashFunction
-function_of Sha1 = record { name = codes "sha1"; digest = sha1; digest_size = 20; block_size = 64 }
-function_of Sha256 = record { name = codes "sha256"; digest = sha256; digest_size = 32; block_size = 64 }
+function_of Sha1 =
+    record { name = codes "sha1"; digest = sha1; digest_size = 20; block_size = 64 }
+function_of Sha256 =
+    record { name = codes "sha256"; digest = sha256; digest_size = 32; block_size = 64 }
 
+-- every hash that has a name
 abbrev pub all_hashes : List HashName
 all_hashes = Sha1 ∷ Sha256 ∷ []
 

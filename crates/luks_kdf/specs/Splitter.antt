@@ -1,5 +1,5 @@
--- The anti-forensic splitter (LUKS1 On-Disk Format 1.2.3, 2.4) on lists of bytes. The stripes s_1 to
--- s_n, each as long as the key, lie in a row in one list.
+-- The anti-forensic splitter (LUKS1 On-Disk Format 1.2.3, 2.4) on lists of bytes. The stripes s_1
+-- to s_n, each as long as the key, lie in a row in one list.
 use Rattle.std.specs.Prelude.{◌≡◌, ℕ, zero, suc, ◌+◌, ◌-◌, ◌*◌, ◌%◌, ◌≤◌, List, [], ◌++◌, length, take, drop, replicate}
 use Rattle.std.specs.Int.{w32, to_be_bytes}
 use Rattle.luks_kdf.specs.Xor.{xor_bytes}
@@ -55,7 +55,8 @@ pub record TakesIn (hash : List ℕ → List ℕ) (size : ℕ) (before stripe af
   pub in_turn : (k i : ℕ) (stripes : List ℕ) → before ≡ mixed hash size k stripes i
       → stripe ≡ stripe_at k stripes i → after ≡ mixed hash size k stripes (i + 1)
 
--- the key has 1 to 128 bytes, the random bytes are whole stripes, and there is room for one stripe more
+-- the key has 1 to 128 bytes, the random bytes are whole stripes, and there is room for one stripe
+-- more
 pub record CanSplit (key random out : List ℕ) : Type 0 where
   pub some_bytes : 1 ≤ length key
   pub at_most_128 : length key ≤ 128

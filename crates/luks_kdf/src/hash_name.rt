@@ -6,15 +6,15 @@ ghost use Rattle.luks_kdf.specs.Derivation.{hmac, pbkdf2};
 ghost use Rattle.luks_kdf.specs.Splitter.{CanMerge, CanSplit, Merges, Splits, UndoesSplit};
 ghost use Rattle.luks_kdf.specs.Names.{name_of, hash_named, hash_of, digest_size_of, block_size_of};
 
-use crate::hash::{HashFn, Sha1Fn, Sha256Fn};
-use crate::hash_work::{HashWork, Hmac, Merge, MergeUndoesSplit, Pbkdf2, Split};
+use crate::hash::{Sha1Fn, Sha256Fn};
+use crate::hash_work::{DigestLen, HashWork, Hmac, Merge, MergeUndoesSplit, Pbkdf2, Split};
 
-/// A hash function that keys are derived, split and checked with.
+/// A hash function that keys are derived, split and checked with, by its name in a header.
 #[derive(Clone, Copy, Debug, PartialEq, Eq)]
 pub enum HashName {
-    /// SHA-1, `sha1` in a header.
+    /// SHA-1 (FIPS 180-4, 6.1), `sha1` in a header.
     Sha1,
-    /// SHA-256, `sha256` in a header.
+    /// SHA-256 (FIPS 180-4, 6.2), `sha256` in a header.
     Sha256,
 }
 
@@ -22,7 +22,7 @@ impl HashName {
     // Every hash that has a name.
     const ALL: [HashName; 2] = [HashName::Sha1, HashName::Sha256];
 
-    /// The hash that the text names, letter for letter; None for any text but `sha1` and `sha256`.
+    /// The hash that the text names, letter for letter; None for any text that names none.
     pub fn parse(text: &str) -> Option<HashName>
         ensures value { result ≡ hash_named text.now }
         ensures exact { (name : HashName) → (result ≡ Some name) ↔ (text.now ≡ name_of name) }
@@ -33,7 +33,7 @@ impl HashName {
             .find(|name| name.text() == text)
     }
 
-    /// The text that names the hash in a header.
+    /// The text that names the hash in a header: the one that `parse` knows it by.
     pub fn text(self) -> &'static str
         ensures { result.now ≡ name_of self }
     {
@@ -43,17 +43,15 @@ impl HashName {
         }
     }
 
-    /// The length of a digest in bytes.
+    /// The length of a digest in bytes (FIPS 180-4, 1).
     pub fn digest_len(self) -> usize
         ensures { result ≡ digest_size_of self }
     {
-        match self {
-            HashName::Sha1 => Sha1Fn::LEN,
-            HashName::Sha256 => Sha256Fn::LEN,
-        }
+        self.run(DigestLen, &mut [])
     }
 
-    /// `hmac` with this hash; `out` has the length of a digest.
+    /// Writes the HMAC of `message` under `key`, any bytes, into `out`, which has the length of a
+    /// digest (RFC 2104).
     pub fn hmac(self, out: &mut [u8], key: &[u8], message: &[u8])
         requires { length out.old ≡ digest_size_of self }
         ensures { out.new ≡ hmac (hash_of self) (block_size_of self) key.now message.now }
@@ -61,12 +59,13 @@ impl HashName {
         self.run(Hmac { key, message }, out);
     }
 
-    /// `pbkdf2` with this hash, of at most 128 bytes by at least one iteration.
+    /// Writes the first `out.len()` bytes, at most 128, that PBKDF2 with HMAC derives from the password
+    /// and the salt, both of any length, by at least one iteration (RFC 8018, 5.2).
     pub fn pbkdf2(self, out: &mut [u8], password: &[u8], salt: &[u8], iterations: u32)
         requires some_iterations { 1 ≤ iterations }
         requires at_most_128 { length out.old ≤ 128 }
-        ensures { out.new ≡ pbkdf2 (hash_of self) (block_size_of self) password.now salt.now iterations
-            (length out.old) }
+        ensures { out.new
+            ≡ pbkdf2 (hash_of self) (block_size_of self) password.now salt.now iterations (length out.old) }
     {
         let work = Pbkdf2 {
             password,
@@ -76,19 +75,8 @@ impl HashName {
         self.run(work, out);
     }
 
-    // Does the work by the function that the name stands for.
-    fn run<W: HashWork>(self, work: W, out: &mut [u8])
-        requires { W.fits work (digest_size_of self) out.old }
-        ensures { W.writes work (hash_of self) (digest_size_of self) (block_size_of self)
-            out.old out.new }
-    {
-        match self {
-            HashName::Sha1 => work.run::<Sha1Fn>(out),
-            HashName::Sha256 => work.run::<Sha256Fn>(out),
-        }
-    }
-
-    /// `split` with this hash: `out` has one stripe more than `random`, each as long as the key.
+    /// Writes the stripes into which the key, 1 to 128 bytes, is split: `out` has one stripe more than
+    /// `random`, each as long as the key (LUKS1 On-Disk Format 1.2.3, 2.4).
     pub fn split(self, out: &mut [u8], key: &[u8], random: &[u8])
         requires { CanSplit key.now random.now out.old }
         ensures { Splits (hash_of self) (digest_size_of self) key.now random.now out.new }
@@ -96,7 +84,8 @@ impl HashName {
         self.run(Split { key, random }, out);
     }
 
-    /// `merge` with this hash, of stripes that are each as long as the key.
+    /// Writes the key, 1 to 128 bytes, that the stripes hold, each as long as the key (LUKS1 On-Disk
+    /// Format 1.2.3, 2.4).
     pub fn merge(self, key: &mut [u8], stripes: &[u8])
         requires { CanMerge stripes.now key.old }
         ensures { Merges (hash_of self) (digest_size_of self) (length key.old) stripes.now key.new }
@@ -104,10 +93,21 @@ impl HashName {
         self.run(Merge { stripes }, key);
     }
 
-    /// Does nothing: its contract is the law of `merge_undoes_split` at this hash.
+    /// Does nothing: its contract is the law that merging undoes splitting with this hash.
     pub fn merge_undoes_split(self)
         ensures { UndoesSplit (hash_of self) (digest_size_of self) }
     {
         self.run(MergeUndoesSplit, &mut []);
+    }
+    // Does the work by the function that the name stands for.
+    fn run<W: HashWork>(self, work: W, out: &mut [u8]) -> W::Answer
+        requires { W.fits work (digest_size_of self) out.old }
+        ensures { W.gives work (hash_of self) (digest_size_of self) (block_size_of self)
+            out.old out.new result }
+    {
+        match self {
+            HashName::Sha1 => work.run::<Sha1Fn>(out),
+            HashName::Sha256 => work.run::<Sha256Fn>(out),
+        }
     }
 }

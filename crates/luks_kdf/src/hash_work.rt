@@ -7,16 +7,34 @@ ghost use Rattle.luks_kdf.specs.Splitter.{CanSplit, Splits, CanMerge, Merges, Un
 use crate::hash::HashFn;
 use crate::{derive, keyed, merger, splitter};
 
-// Work that writes into `out` by a hash function. Its members take the length of a digest, the
-// function itself, and the length of its blocks.
+// Work that is done by a hash function, and may write into `out`. Its members take the function,
+// the length of a digest, the length of a block, and what `out` holds before and after.
 pub(crate) trait HashWork {
+    type Answer;
+
     ghost fits: { Self → ℕ → List ℕ → Type 0 };
 
-    ghost writes: { Self → (List ℕ → List ℕ) → ℕ → ℕ → List ℕ → List ℕ → Type 0 };
+    ghost gives: { Self → (List ℕ → List ℕ) → ℕ → ℕ → List ℕ → List ℕ → Self.Answer → Type 0 };
 
-    fn run<H: HashFn>(self, out: &mut [u8])
+    fn run<H: HashFn>(self, out: &mut [u8]) -> Self::Answer
         requires { fits self H.LEN out.old }
-        ensures { writes self H.digest H.LEN H.BLOCK out.old out.new };
+        ensures { gives self H.digest H.LEN H.BLOCK out.old out.new result };
+}
+
+// The length of a digest.
+#[derive(Drop)]
+pub(crate) struct DigestLen;
+
+impl HashWork for DigestLen {
+    type Answer = usize;
+
+    ghost fits = { λ w size out. ⊤ };
+
+    ghost gives = { λ w hash size block old new answer. answer ≡ size };
+
+    fn run<H: HashFn>(self, _out: &mut [u8]) -> usize {
+        H::LEN
+    }
 }
 
 // HMAC of the message under the key.
@@ -27,9 +45,12 @@ pub(crate) struct Hmac<'a> {
 }
 
 impl HashWork for Hmac<'_> {
+    type Answer = ();
+
     ghost fits = { λ w size out. length out ≡ size };
 
-    ghost writes = { λ w hash size block old new. new ≡ hmac hash block w.key.now w.message.now };
+    ghost gives = { λ w hash size block old new answer.
+        new ≡ hmac hash block w.key.now w.message.now };
 
     fn run<H: HashFn>(self, out: &mut [u8]) {
         keyed::hmac::<H>(out, self.key, self.message);
@@ -45,9 +66,11 @@ pub(crate) struct Pbkdf2<'a> {
 }
 
 impl HashWork for Pbkdf2<'_> {
+    type Answer = ();
+
     ghost fits = { λ w size out. (1 ≤ w.iterations) × (length out ≤ 128) };
 
-    ghost writes = { λ w hash size block old new.
+    ghost gives = { λ w hash size block old new answer.
         new ≡ pbkdf2 hash block w.password.now w.salt.now w.iterations (length old) };
 
     fn run<H: HashFn>(self, out: &mut [u8]) {
@@ -63,9 +86,12 @@ pub(crate) struct Split<'a> {
 }
 
 impl HashWork for Split<'_> {
+    type Answer = ();
+
     ghost fits = { λ w size out. CanSplit w.key.now w.random.now out };
 
-    ghost writes = { λ w hash size block old new. Splits hash size w.key.now w.random.now new };
+    ghost gives = { λ w hash size block old new answer.
+        Splits hash size w.key.now w.random.now new };
 
     fn run<H: HashFn>(self, out: &mut [u8]) {
         splitter::split::<H>(out, self.key, self.random);
@@ -79,9 +105,12 @@ pub(crate) struct Merge<'a> {
 }
 
 impl HashWork for Merge<'_> {
+    type Answer = ();
+
     ghost fits = { λ w size out. CanMerge w.stripes.now out };
 
-    ghost writes = { λ w hash size block old new. Merges hash size (length old) w.stripes.now new };
+    ghost gives = { λ w hash size block old new answer.
+        Merges hash size (length old) w.stripes.now new };
 
     fn run<H: HashFn>(self, out: &mut [u8]) {
         merger::merge::<H>(out, self.stripes);
@@ -93,9 +122,11 @@ impl HashWork for Merge<'_> {
 pub(crate) struct MergeUndoesSplit;
 
 impl HashWork for MergeUndoesSplit {
+    type Answer = ();
+
     ghost fits = { λ w size out. ⊤ };
 
-    ghost writes = { λ w hash size block old new. UndoesSplit hash size };
+    ghost gives = { λ w hash size block old new answer. UndoesSplit hash size };
 
     fn run<H: HashFn>(self, _out: &mut [u8]) {
         splitter::merge_undoes_split::<H>();

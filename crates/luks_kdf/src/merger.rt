@@ -8,8 +8,8 @@ use crate::hash::HashFn;
 use crate::running_block::RunningBlock;
 use std::marker::Model;
 
-/// Merges stripes that come one at a time. A contract sees it as the running block: after the first
-/// `i` stripes that is the standard's `d_i`, `mixed` of the specification.
+/// Merges stripes that come one at a time (LUKS1 On-Disk Format 1.2.3, 2.4). A contract sees it as
+/// the running block: after the first `i` stripes that is the standard's `d_i`.
 #[derive(Drop)]
 pub struct Merger<H: HashFn> {
     running: RunningBlock<H>,
@@ -22,7 +22,7 @@ impl<H: HashFn> Model for Merger<H> {
 }
 
 impl<H: HashFn> Merger<H> {
-    /// Before the first stripe of a key of `key_len` bytes, 1 to 128.
+    /// Before the first stripe of a key of `key_len` bytes, 1 to 128: `d_0`.
     pub fn new(key_len: usize) -> Merger<H>
         requires some_bytes { 1 ≤ key_len }
         requires at_most_128 { key_len ≤ 128 }
@@ -33,7 +33,8 @@ impl<H: HashFn> Merger<H> {
         }
     }
 
-    /// Takes in the next stripe, which is not the last; it is as long as the key.
+    /// Takes in the next stripe, which is not the last; it is as long as the key. From `d_i` this
+    /// makes `d_(i+1)`.
     pub fn feed(&mut self, next: &[u8])
         requires { length next.now ≡ length self.old }
         ensures { TakesIn H.digest H.LEN self.old next.now self.new }
@@ -41,7 +42,7 @@ impl<H: HashFn> Merger<H> {
         self.running.take_in(next);
     }
 
-    /// Writes the key that the stripes and the last one hold.
+    /// Writes the key that the stripes so far and the last one hold, both as long as the key.
     pub fn finish(self, key: &mut [u8], last: &[u8])
         requires key_length { length key.old ≡ length self }
         requires last_length { length last.now ≡ length self }
@@ -54,8 +55,8 @@ impl<H: HashFn> Merger<H> {
     }
 }
 
-/// Writes the key that the stripes hold, which lie in a row and are each as long as the key, 1 to 128
-/// bytes.
+/// Writes the key, 1 to 128 bytes, that the stripes hold, which lie in a row and are each as long as
+/// the key (LUKS1 On-Disk Format 1.2.3, 2.4).
 pub fn merge<H: HashFn>(key: &mut [u8], stripes: &[u8])
     requires { CanMerge stripes.now key.old }
     ensures { Merges H.digest H.LEN (length key.old) stripes.now key.new }

@@ -9,7 +9,8 @@ use crate::running_block::RunningBlock;
 use std::marker::Model;
 
 /// Splits a key into stripes, all but the last of which are random bytes that come one stripe at a
-/// time. A contract sees it as the running block, as it does a `Merger`.
+/// time (LUKS1 On-Disk Format 1.2.3, 2.4). A contract sees it as the running block, as it does a
+/// `Merger`.
 #[derive(Drop)]
 pub struct Splitter<H: HashFn> {
     running: RunningBlock<H>,
@@ -22,7 +23,7 @@ impl<H: HashFn> Model for Splitter<H> {
 }
 
 impl<H: HashFn> Splitter<H> {
-    /// Before the first stripe of a key of `key_len` bytes, 1 to 128.
+    /// Before the first stripe of a key of `key_len` bytes, 1 to 128: `d_0`.
     pub fn new(key_len: usize) -> Splitter<H>
         requires some_bytes { 1 ≤ key_len }
         requires at_most_128 { key_len ≤ 128 }
@@ -33,7 +34,8 @@ impl<H: HashFn> Splitter<H> {
         }
     }
 
-    /// Takes in the next stripe of random bytes, as long as the key.
+    /// Takes in the next stripe of random bytes, as long as the key. From `d_i` this makes
+    /// `d_(i+1)`.
     pub fn feed(&mut self, next: &[u8])
         requires { length next.now ≡ length self.old }
         ensures { TakesIn H.digest H.LEN self.old next.now self.new }
@@ -41,7 +43,7 @@ impl<H: HashFn> Splitter<H> {
         self.running.take_in(next);
     }
 
-    /// Writes the last stripe, the one with which the stripes hold the key.
+    /// Writes the last stripe, the one with which the stripes hold the key; it is as long as the key.
     pub fn finish(self, last: &mut [u8], key: &[u8])
         requires last_length { length last.old ≡ length self }
         requires key_length { length key.now ≡ length self }
@@ -61,7 +63,7 @@ impl<H: HashFn> Splitter<H> {
 }
 
 /// Writes the stripes into which the key, 1 to 128 bytes, is split: they lie in a row, each as long
-/// as the key, and all but the last are the random bytes.
+/// as the key, and all but the last are the random bytes (LUKS1 On-Disk Format 1.2.3, 2.4).
 pub fn split<H: HashFn>(out: &mut [u8], key: &[u8], random: &[u8])
     requires { CanSplit key.now random.now out.old }
     ensures { Splits H.digest H.LEN key.now random.now out.new }
@@ -76,8 +78,8 @@ pub fn split<H: HashFn>(out: &mut [u8], key: &[u8], random: &[u8])
     splitter.finish(&mut out[random.len()..], key);
 }
 
-/// Does nothing: its contract is the law that merging undoes splitting, for every key and all random
-/// stripes, whether they were ever written or not.
+/// Does nothing: its contract is the law that merging undoes splitting, for every key and all
+/// random stripes, whether they were ever written or not.
 pub fn merge_undoes_split<H: HashFn>()
     ensures { UndoesSplit H.digest H.LEN }
 {}

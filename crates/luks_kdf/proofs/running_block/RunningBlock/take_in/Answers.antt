@@ -1,4 +1,4 @@
-use Rattle.std.proofs.Common.{◌≡◌, take, drop, length, arith, ap, sym, ◌∙◌}
+use Rattle.std.proofs.Common.{drop, arith, ap, sym, ◌∙◌}
 use Rattle.std.proofs.lemmas.List.{take_at, length-take-le}
 use Rattle.luks_kdf.specs.Xor.{xor_bytes}
 use Rattle.luks_kdf.specs.Splitter.{diffuse}
