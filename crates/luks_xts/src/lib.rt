@@ -2,10 +2,10 @@
 #![tactic(auto)]
 
 mod aes;
+mod mix_column;
 mod rounds;
 mod schedule;
 mod tables;
-mod words;
 mod xts;
 
 pub use aes::AesKey;
