@@ -4,8 +4,10 @@
 mod area;
 mod areas;
 mod device;
+mod file;
 mod fitting;
 mod memory;
+mod sectors;
 #[cfg(test)]
 mod tests;
 mod text;
@@ -13,6 +15,8 @@ mod text;
 pub use area::{Area, AreaFault, AreaName};
 pub use areas::{Areas, Entry, MOST_AREAS};
 pub use device::{Device, DeviceFault};
+pub use file::FileDevice;
 pub use fitting::fit;
 pub use memory::MemDevice;
+pub use sectors::{SECTOR, rounded_to_sectors};
 pub use text::text_field;
