@@ -1,5 +1,5 @@
 -- The hash functions that a header names.
-use Rattle.std.specs.Prelude.{ℕ, List, [], ◌∷◌, Option, codes, find}
+use Rattle.std.specs.Prelude.{ℕ, List, Option, Some, None, codes, if◌then◌else◌}
 use Rattle.std.specs.Str.{bytes_eq}
 use Rattle.sha1.specs.Sha1.{sha1}
 use Rattle.sha2.specs.Sha256.{sha256}
@@ -20,17 +20,16 @@ function_of Sha1 =
 function_of Sha256 =
     record { name = codes "sha256"; digest = sha256; digest_size = 32; block_size = 64 }
 
--- every hash that has a name
-abbrev pub all_hashes : List HashName
-all_hashes = Sha1 ∷ Sha256 ∷ []
-
 -- the text of a header that names the hash
 abbrev pub name_of : HashName → List ℕ
 name_of hash = (function_of hash).name
 
 -- the hash that a text names, if it names one
 abbrev pub hash_named : List ℕ → Option HashName
-hash_named text = find (λ hash. bytes_eq (name_of hash) text) all_hashes
+hash_named text =
+    if bytes_eq text (name_of Sha1) then Some Sha1
+    else if bytes_eq text (name_of Sha256) then Some Sha256
+    else None
 
 -- the function itself, from a message to its digest
 abbrev pub hash_of : HashName → List ℕ → List ℕ

@@ -30,7 +30,7 @@ impl HashName {
         HashName::ALL
             .iter()
             .copied()
-            .find(|name| name.text() == text)
+            .find(|name| text == name.text())
     }
 
     /// The text that names the hash in a header: the one that `parse` knows it by.
