@@ -1,5 +1,5 @@
--- The faults that opening a keyslot answers.
-use Rattle.std.specs.Prelude.{◌≡◌, ℕ, Some, None}
+-- The faults that opening and sealing a keyslot answer.
+use Rattle.std.specs.Prelude.{◌≡◌, Bool, true, false, Some, None}
 use Rattle.luks_slot.specs.declared.fault.SlotFault.{SlotFault}
 use Rattle.luks_slot.specs.declared.fault.SlotFault.TheVariants.{Argon2, Cipher, Hash, KeySize, Device, Memory}
 use Rattle.luks_slot.specs.declared.plan.SlotPlan.{SlotPlan}
@@ -15,7 +15,7 @@ IsAnsweredFault plan KeySize = slot_refusal plan ≡ Some KeySize
 IsAnsweredFault plan Device = slot_refusal plan ≡ None
 IsAnsweredFault plan Memory = ⊥
 
--- by how much the device's count of failures rises
-abbrev pub rise : SlotFault → ℕ
-rise Device = 1
-rise f = 0
+-- the fault is the device's
+abbrev pub is_device_fault : SlotFault → Bool
+is_device_fault Device = true
+is_device_fault f = false

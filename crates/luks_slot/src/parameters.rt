@@ -1,27 +1,28 @@
-//! Whether a keyslot opens at all.
+//! What a keyslot is opened and sealed by, where it isn't refused.
 
 ghost use Rattle.std.specs.Prelude.{◌≡◌, ◌==◌, MatchResult, IfErr, IfOk, IsTrue};
+ghost use Rattle.luks_slot.specs.Parameters.{AreParameters};
 ghost use Rattle.luks_slot.specs.Refusal.{is_open_cipher, slot_refusal};
-ghost use Rattle.luks_slot.specs.Terms.{AreTerms};
 
 use crate::fault::SlotFault;
 use crate::plan::{AreaCipher, Derivation, SlotPlan};
 use luks_kdf::HashName;
 
-// What a plan that isn't refused derives by.
+// The parameters of a plan that isn't refused: its hashes, and by what PBKDF2 derives the area's
+// key.
 #[derive(Clone, Copy)]
-pub(crate) struct Terms<'a> {
+pub(crate) struct Parameters<'a> {
     pub(crate) hash: HashName,
     pub(crate) iterations: u32,
     pub(crate) salt: &'a [u8],
-    pub(crate) splitter: HashName,
-    pub(crate) digest: HashName,
+    pub(crate) splitter_hash: HashName,
+    pub(crate) digest_hash: HashName,
 }
 
-// The terms of the plan, or its first refusal.
-pub(crate) fn judge<'a>(plan: &SlotPlan<'a>) -> Result<Terms<'a>, SlotFault>
+// The parameters of the plan, or its first refusal.
+pub(crate) fn parameters_of<'a>(plan: &SlotPlan<'a>) -> Result<Parameters<'a>, SlotFault>
     ensures refused { IfErr result (λ f. slot_refusal plan.now ≡ Some f) }
-    ensures accepted { IfOk result (λ terms. AreTerms plan.now terms) }
+    ensures accepted { IfOk result (λ parameters. AreParameters plan.now parameters) }
 {
     let Derivation::Pbkdf2 {
         hash,
@@ -34,7 +35,7 @@ pub(crate) fn judge<'a>(plan: &SlotPlan<'a>) -> Result<Terms<'a>, SlotFault>
     if !is_open_cipher(&plan.cipher) {
         return Err(SlotFault::Cipher);
     }
-    let (Some(hash), Some(splitter), Some(digest)) = (
+    let (Some(hash), Some(splitter_hash), Some(digest_hash)) = (
         HashName::parse(hash),
         HashName::parse(plan.splitter_hash),
         HashName::parse(plan.digest.hash),
@@ -44,12 +45,12 @@ pub(crate) fn judge<'a>(plan: &SlotPlan<'a>) -> Result<Terms<'a>, SlotFault>
     if plan.area_key_bytes != 32 && plan.area_key_bytes != 64 {
         return Err(SlotFault::KeySize);
     }
-    Ok(Terms {
+    Ok(Parameters {
         hash,
         iterations,
         salt,
-        splitter,
-        digest,
+        splitter_hash,
+        digest_hash,
     })
 }
 
