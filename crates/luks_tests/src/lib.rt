@@ -12,6 +12,10 @@ mod derivation;
 #[cfg(test)]
 mod devices;
 #[cfg(test)]
+mod failing;
+#[cfg(test)]
 mod hexadecimal;
+#[cfg(test)]
+mod slots;
 #[cfg(test)]
 mod splitter;
