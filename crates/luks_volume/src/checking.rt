@@ -1,7 +1,7 @@
 ghost use Rattle.std.specs.Prelude.{◌≡◌, ◌≢◌, ◌+◌, ◌-◌, ◌^◌, ◌<◌, ◌≤◌, ℕ, List, length, IfOk, IfErr, OnOk, MatchResult, ⊤};
 ghost use Rattle.luks_area.specs.Ranges.{part};
 ghost use Rattle.luks_head.specs.Header2.{HoldsBin2};
-ghost use Rattle.luks_head.specs.Judged2.{IsCopyWithin};
+ghost use Rattle.luks_head.specs.Header2.{IsCopyWithin};
 ghost use Rattle.luks_head.specs.Selection.{IsSelected};
 ghost use Rattle.luks_head.specs.declared.selection.Selected.TheVariants.{V2};
 ghost use Rattle.luks_volume.specs.Checked.{IsRefusal, WellFormed};

@@ -2,7 +2,7 @@
 ghost use Rattle.std.specs.Prelude.{◌≡◌, ◌≢◌, ◌+◌, ◌^◌, ◌<◌, ◌≤◌, ℕ, List, length, IfOk, IfErr, MatchResult, Option};
 ghost use Rattle.luks_area.specs.Ranges.{part};
 ghost use Rattle.luks_head.specs.Header2.{HoldsBin2, uuid_field};
-ghost use Rattle.luks_head.specs.Judged2.{IsCopyWithin};
+ghost use Rattle.luks_head.specs.Header2.{IsCopyWithin};
 ghost use Rattle.luks_meta.specs.Content.{content};
 ghost use Rattle.luks_meta.specs.Objects.{IsAccepted};
 ghost use Rattle.luks_volume.specs.Agreement.{Agrees};

@@ -3,7 +3,7 @@ ghost use Rattle.std.specs.Prelude.{◌≡◌, ◌+◌, ◌^◌, ◌<◌, ℕ, L
 ghost use Rattle.luks_head.specs.declared.fault.HeadFault.{HeadFault as TheFault};
 ghost use Rattle.luks_head.specs.Faults.{IsCommonFault};
 ghost use Rattle.luks_head.specs.Header2.{HoldsBin2, uuid_field};
-ghost use Rattle.luks_head.specs.Judged2.{IsCopyWithin};
+ghost use Rattle.luks_head.specs.Header2.{IsCopyWithin};
 ghost use Rattle.luks_meta.specs.Content.{content};
 ghost use Rattle.luks_meta.specs.Objects.{IsAccepted};
 ghost use Rattle.luks_volume.specs.Copied.{IsCleared, json_of};

@@ -1,7 +1,7 @@
 use Rattle.std.proofs.Common.{List, ℕ, arith, ◌∙◌, subst, get_or}
 use Rattle.luks_head.specs.Header2.{IsSound}
-use Rattle.luks_head.specs.Judged2.{IsSoundCopy}
-use Rattle.luks_head.proofs.Seconds.{among_all, least_copy, none_left, rising_later, sound_later}
+use Rattle.luks_head.specs.SoundCopies.{IsSoundCopy}
+use Rattle.luks_head.proofs.SecondCopyFacts.{among_all, least_copy, none_left, rising_later, sound_later}
 use Rattle.luks_head.proofs.copies.least_second.Goals as goal
 
 pub returns-in-Some-clause-found : goal.returns-in-Some-clause-found

@@ -1,7 +1,7 @@
 use Rattle.std.proofs.Common.{◌≡◌, ℕ, true, length}
 use Rattle.luks_head.specs.Header2.{IsSound}
 use Rattle.luks_head.specs.Sizes.{is_among, IsListed}
-use Rattle.luks_head.proofs.Seconds.{is_rising}
+use Rattle.luks_head.proofs.SecondCopyFacts.{is_rising}
 use Rattle.luks_head.proofs.copies.least_second.Given as goal
 
 -- each listed place of a sound copy is still to come
