@@ -14,6 +14,8 @@ mod devices;
 #[cfg(test)]
 mod failing;
 #[cfg(test)]
+mod headers;
+#[cfg(test)]
 mod hexadecimal;
 #[cfg(test)]
 mod slots;
