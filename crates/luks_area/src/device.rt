@@ -64,5 +64,9 @@ pub trait Device: Drop {
         ensures count { CountsFailure is_failure result (failed self.old) (failed self.new) }
         ensures unchanged { IsUnchanged tells size bytes self.old self.new };
 
+    /// A device that tells its bytes has as many as its length.
     ghost sized: { (d : Self) → tells → length (bytes d) ≡ size d };
+
+    /// A length fits a `u64`.
+    ghost bounded: { (d : Self) → size d < 2 ^ 64 };
 }

@@ -1,5 +1,5 @@
 -- The faults of a header, and their order.
-use Rattle.std.specs.Prelude.{◌≡◌, ◌≢◌, ℕ, ◌<◌, ◌≤◌, List, [], ◌∷◌, length}
+use Rattle.std.specs.Prelude.{Bool, true, false, ◌≡◌, ◌≢◌, ℕ, ◌<◌, ◌≤◌, List, [], ◌∷◌, length}
 use Rattle.luks_head.specs.Bytes.{HoldsText, IsUuid}
 use Rattle.luks_head.specs.Header1.{luks1_size, HasMagic, version_of, field_at, field_len, header_text, key_bytes_of, mk_digest_iterations_of, entry, active_word, entry_iterations, entry_stripes, enabled_word, disabled_word}
 use Rattle.luks_head.specs.declared.fault.HeadFault.{HeadFault}
@@ -98,3 +98,8 @@ IsEntryFault n e (fault.SlotState m) = (m ≡ n) × HasUnknownState e
 IsEntryFault n e (fault.Stripes m) = (m ≡ n) × (entry_stripes e ≡ 0)
 IsEntryFault n e (fault.Iterations (of.Slot m)) = (m ≡ n) × LacksIterations e
 IsEntryFault n e _ = ⊥
+
+-- the fault is the device's
+abbrev pub is_device_fault : HeadFault → Bool
+is_device_fault fault.Device = true
+is_device_fault _ = false

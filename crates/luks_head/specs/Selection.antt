@@ -1,5 +1,5 @@
 -- Which header of a volume is chosen (LUKS2 On-Disk Format 1.1, 2.1 and 4.5; the rule for a tie is the project's own).
-use Rattle.std.specs.Prelude.{◌≡◌, ◌≢◌, ℕ, ◌+◌, ◌≤◌, ◌<◌, List, length}
+use Rattle.std.specs.Prelude.{◌≡◌, ◌≢◌, ℕ, ◌≤◌, ◌<◌, List, length}
 use Rattle.luks_area.specs.First.{IsLeast}
 use Rattle.luks_area.specs.Ranges.{part}
 use Rattle.luks_head.specs.Faults.{head_key}
@@ -109,8 +109,3 @@ IsOfSelection fault.Version = Unit {0}
 IsOfSelection fault.NoSoundCopy = Unit {0}
 IsOfSelection fault.Device = Unit {0}
 IsOfSelection f = ⊥
-
--- how a device's count of failures moves: by one where the fault is the device's, else not at all
-abbrev pub Counts : HeadFault → ℕ → ℕ → Type 0
-Counts fault.Device before after = after ≡ before + 1
-Counts f before after = after ≡ before

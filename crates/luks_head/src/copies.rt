@@ -2,6 +2,7 @@
 ghost use Rattle.std.specs.Prelude.{◌≡◌, ◌↔◌, ◌+◌, ◌*◌, ◌^◌, ◌<◌, ◌≤◌, codes, length, IsTrue, IfOk, MatchResult};
 ghost use Rattle.sha2.specs.Hashers.{Holds256};
 ghost use Rattle.sha2.specs.Sha256.{sha256};
+ghost use Rattle.luks_area.specs.Device.{is_failure, CountsFailure, IsUnchanged};
 ghost use Rattle.luks_area.specs.Ranges.{part};
 ghost use Rattle.luks_area.specs.Text.{text_of};
 ghost use Rattle.luks_head.specs.Header2.{binary_header_size, csum_at, csum_size, csum_alg_field, header_at, magic_of, sha256_size, with_zero_checksum, IsFormed};
@@ -91,10 +92,10 @@ fn digest_of_copy<D: Device>(
     requires within { at + size ≤ D.size device.old }
     requires fits { at + size < 2 ^ 64 }
     requires room { D.failed device.old + 1 < 2 ^ 64 }
-    ensures size { D.size device.new ≡ D.size device.old }
-    ensures same { D.tells → D.bytes device.new ≡ D.bytes device.old }
-    ensures count { MatchResult result (λ _. D.failed device.new ≡ D.failed device.old) (λ _. D.failed device.new ≡ D.failed device.old + 1) }
-    ensures digest { D.tells → head.now ≡ header_at (D.bytes device.old) at → IfOk result (λ d. d ≡ sha256 (with_zero_checksum (part (D.bytes device.old) at size))) }
+    ensures unchanged { IsUnchanged D.tells D.size D.bytes device.old device.new }
+    ensures count { CountsFailure is_failure result (D.failed device.old) (D.failed device.new) }
+    ensures digest { D.tells → head.now ≡ header_at (D.bytes device.old) at
+        → IfOk result (λ d. d ≡ sha256 (with_zero_checksum (part (D.bytes device.old) at size))) }
 {
     let mut hasher = digest_of_header(head);
     let mut window = [0; place::SIZE];
@@ -115,9 +116,8 @@ fn has_sum(head: &[u8], digest: &[u8]) -> bool
 /// The binary header of the copy at `at`, where that copy is sound.
 pub(crate) fn sound_copy<D: Device>(device: &mut D, at: u64) -> Result<Option<Bin2>, DeviceFault>
     requires room { D.failed device.old + 1 < 2 ^ 64 }
-    ensures size { D.size device.new ≡ D.size device.old }
-    ensures same { D.tells → D.bytes device.new ≡ D.bytes device.old }
-    ensures count { MatchResult result (λ _. D.failed device.new ≡ D.failed device.old) (λ _. D.failed device.new ≡ D.failed device.old + 1) }
+    ensures unchanged { IsUnchanged D.tells D.size D.bytes device.old device.new }
+    ensures count { CountsFailure is_failure result (D.failed device.old) (D.failed device.new) }
     ensures within { IfOk result (IsFoundWithin (D.size device.old)) }
     ensures judged { D.tells → IfOk result (FindsSoundCopy (D.bytes device.old) at) }
 {
@@ -142,9 +142,8 @@ pub(crate) fn sound_copy<D: Device>(device: &mut D, at: u64) -> Result<Option<Bi
 /// The binary header of the sound copy at the least listed place.
 pub(crate) fn least_second<D: Device>(device: &mut D) -> Result<Option<Bin2>, DeviceFault>
     requires room { D.failed device.old + 1 < 2 ^ 64 }
-    ensures size { D.size device.new ≡ D.size device.old }
-    ensures same { D.tells → D.bytes device.new ≡ D.bytes device.old }
-    ensures count { MatchResult result (λ _. D.failed device.new ≡ D.failed device.old) (λ _. D.failed device.new ≡ D.failed device.old + 1) }
+    ensures unchanged { IsUnchanged D.tells D.size D.bytes device.old device.new }
+    ensures count { CountsFailure is_failure result (D.failed device.old) (D.failed device.new) }
     ensures within { IfOk result (IsFoundWithin (D.size device.old)) }
     ensures found { D.tells → IfOk result (FindsSecondCopy (D.bytes device.old)) }
 {

@@ -1,9 +1,11 @@
 //! Which header of a volume is chosen.
 ghost use Rattle.std.specs.Prelude.{◌≡◌, ◌↔◌, ◌+◌, ◌^◌, ◌<◌, length, IsTrue, IfOk, IfErr, MatchResult, option_map};
+ghost use Rattle.luks_area.specs.Device.{is_failure, CountsFailure, IsUnchanged};
 ghost use Rattle.luks_head.specs.ChosenCopy.{FindsChosenCopy, IsNewer, IsNoHeaderFault};
+ghost use Rattle.luks_head.specs.Faults.{is_device_fault};
 ghost use Rattle.luks_head.specs.Header1.{luks1_size};
 ghost use Rattle.luks_head.specs.SoundCopies.{IsFoundWithin};
-ghost use Rattle.luks_head.specs.Selection.{Counts, IsOfSelection, IsRefused, IsSelected, IsSelectedWithin, IsVersion1};
+ghost use Rattle.luks_head.specs.Selection.{IsOfSelection, IsRefused, IsSelected, IsSelectedWithin, IsVersion1};
 
 use crate::bin2::Bin2;
 use crate::copies::{least_second, sound_copy};
@@ -58,9 +60,8 @@ fn newer(first: Bin2, second: Bin2) -> (Bin2, Copies)
 /// The chosen copy of a volume without a LUKS1 header.
 fn chosen_copy<D: Device>(device: &mut D) -> Result<Option<(Bin2, Copies)>, DeviceFault>
     requires room { D.failed device.old + 1 < 2 ^ 64 }
-    ensures size { D.size device.new ≡ D.size device.old }
-    ensures same { D.tells → D.bytes device.new ≡ D.bytes device.old }
-    ensures count { MatchResult result (λ _. D.failed device.new ≡ D.failed device.old) (λ _. D.failed device.new ≡ D.failed device.old + 1) }
+    ensures unchanged { IsUnchanged D.tells D.size D.bytes device.old device.new }
+    ensures count { CountsFailure is_failure result (D.failed device.old) (D.failed device.new) }
     ensures within { IfOk result (λ found. IsFoundWithin (D.size device.old) (option_map (λ copy. copy.0) found)) }
     ensures found { D.tells → IfOk result (FindsChosenCopy (D.bytes device.old)) }
 {
@@ -104,9 +105,8 @@ fn is_version1(head: &[u8]) -> bool
 /// `Device` where a device call failed.
 pub fn select<D: Device>(_alloc: Global, device: &mut D) -> Result<Selected, HeadFault>
     requires room { D.failed device.old + 1 < 2 ^ 64 }
-    ensures size { D.size device.new ≡ D.size device.old }
-    ensures same { D.tells → D.bytes device.new ≡ D.bytes device.old }
-    ensures count { MatchResult result (λ _. D.failed device.new ≡ D.failed device.old) (λ f. Counts f (D.failed device.old) (D.failed device.new)) }
+    ensures unchanged { IsUnchanged D.tells D.size D.bytes device.old device.new }
+    ensures count { CountsFailure is_device_fault result (D.failed device.old) (D.failed device.new) }
     ensures kinds { IfErr result IsOfSelection }
     ensures within { IfOk result (IsSelectedWithin (D.size device.old)) }
     ensures found { D.tells → IfOk result (IsSelected (D.bytes device.old)) }

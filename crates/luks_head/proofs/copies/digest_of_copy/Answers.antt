@@ -1,4 +1,5 @@
 use Rattle.std.proofs.Common.{◌≡◌, ℕ, ◌+◌, ◌*◌, ◌%◌, ◌≤◌, List, ◌++◌, length, take, arith, refl, ap, ◌∙◌, subst}
+use Rattle.luks_area.specs.Device.{unchanged-same, unchanged-then}
 use Rattle.luks_area.specs.Ranges.{part}
 use Rattle.luks_head.specs.Header2.{header_at, with_zero_checksum}
 use Rattle.sha2.specs.Hashers.{Holds256}
@@ -11,9 +12,8 @@ overflow_add-at g c = omega arith
 
 pub loop-k-init : goal.loop-k-init
 loop-k-init g c = record {
-  size = refl;
+  unchanged = unchanged-same _;
   count = refl;
-  same = λ t. refl;
   fed = λ t e.
       let P : List ℕ → Type 0 = λ m. Holds256 c.digest_of_header-hasher.result m in
       let long : 16384 ≤ c.args.size = listed_at_least c.args.size c.requires.listed in
@@ -23,9 +23,8 @@ loop-k-init g c = record {
 
 pub loop-k-preserved : goal.loop-k-preserved
 loop-k-preserved g c = record {
-  size = c.in_ok-read_at.ensures.unchanged.size ∙ c.loop-k.invariant.size;
+  unchanged = unchanged-then c.loop-k.invariant.unchanged c.in_ok-read_at.ensures.unchanged;
   count = c.in_ok-read_at.ensures.count ∙ c.loop-k.invariant.count;
-  same = λ t. c.in_ok-read_at.ensures.unchanged.same t ∙ c.loop-k.invariant.same t;
   fed = λ t e.
       let P : List ℕ → Type 0 = λ m. Holds256 c.update.new.self m in
       let v : List ℕ = g.D.Device.bytes c.args.device.now in
@@ -33,7 +32,7 @@ loop-k-preserved g c = record {
       let whole : c.args.size % 4096 ≡ 0 = listed_whole c.args.size c.requires.listed in
       let read : c.read_at.new.into ≡ part v (c.args.at + 4096 * c.loop-k.k) 4096 =
       c.in_ok-read_at.ensures.read t
-      ∙ ap (λ w. part w (c.args.at + 4096 * c.loop-k.k) (length c.loop-k.window)) (c.loop-k.invariant.same t)
+      ∙ ap (λ w. part w (c.args.at + 4096 * c.loop-k.k) (length c.loop-k.window)) (c.loop-k.invariant.unchanged.same t)
       ∙ ap (λ n. part v (c.args.at + 4096 * c.loop-k.k) n) long in
       let held : List ℕ = take (4096 * c.loop-k.k) (with_zero_checksum (part v c.args.at c.args.size)) in
       subst P (ap (λ w. held ++ w) (c.as_slice.ensures ∙ read)
