@@ -26,12 +26,13 @@ impl FailsAt {
 
 impl Device for FailsAt {
     ghost use Rattle.std.specs.Prelude.{[], length};
+    ghost use Rattle.luks_area.specs.Memory.{memory_bytes};
 
     ghost tells = { ⊥ };
 
     ghost bytes = { λ _. [] };
 
-    ghost size = { λ d. length d.inner };
+    ghost size = { λ d. length (memory_bytes d.inner) };
 
     ghost failed = { λ d. d.failures };
 
@@ -63,4 +64,6 @@ impl Device for FailsAt {
     }
 
     ghost sized = { λ d t. absurd t };
+
+    ghost bounded = { λ d. d.inner.fits };
 }

@@ -1,6 +1,6 @@
 //! Opening one keyslot.
 ghost use Rattle.std.specs.Prelude.{◌≡◌, ◌≤◌, ◌↔◌, ◌*◌, IsTrue};
-ghost use Rattle.luks_slot.specs.Opening.{HasTurns};
+ghost use Rattle.luks_slot.specs.Opening.{HasIterations};
 
 mod known;
 mod refused;
@@ -10,8 +10,8 @@ use luks_slot::{Derivation, Key, SlotFault, SlotPlan, open};
 use std::alloc::Global;
 use std::process::Abort;
 
-fn has_turns(derivation: &Derivation<'_>) -> bool
-    ensures { IsTrue result ↔ HasTurns derivation.now }
+fn has_iterations(derivation: &Derivation<'_>) -> bool
+    ensures { IsTrue result ↔ HasIterations derivation.now }
 {
     match *derivation {
         Derivation::Pbkdf2 { iterations, .. } => iterations >= 1,
@@ -27,7 +27,7 @@ fn open_by<D: Device>(
     plan: &SlotPlan<'_>,
     passphrase: &[u8],
 ) -> Result<Option<Key>, SlotFault> {
-    assert!(rt; has_turns(&plan.derivation) && plan.digest.iterations >= 1);
+    assert!(rt; has_iterations(&plan.derivation) && plan.digest.iterations >= 1);
     assert!(rt; plan.digest.stored.len() <= 64);
     assert!(rt; plan.key_bytes >= 1 && plan.key_bytes <= 128 && plan.stripes >= 1);
     let used = plan.key_bytes.checked_mul(plan.stripes as usize);
