@@ -1,3 +1,3 @@
-pub mod Units
-pub mod Places
-pub mod Opens
+pub mod SectorFacts
+pub mod AreaFacts
+pub mod OpeningFacts

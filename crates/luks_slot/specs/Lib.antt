@@ -1,5 +1,5 @@
 pub mod Refusal
 pub mod Opening
-pub mod Terms
-pub mod Sectors
-pub mod Answer
+pub mod Parameters
+pub mod Reading
+pub mod Fault

@@ -1,3 +1,6 @@
+ghost use Rattle.std.specs.Prelude.{◌≡◌};
+
+use luks_area::DeviceFault;
 use thiserror::Error;
 
 /// Why a keyslot can't be opened or written; the first in this order is answered.
@@ -21,4 +24,14 @@ pub enum SlotFault {
     /// Memory was refused.
     #[error("Memory")]
     Memory,
+}
+
+impl From<DeviceFault> for SlotFault {
+    ghost use Rattle.luks_slot.specs.declared.fault.SlotFault.{SlotFault};
+
+    ghost from_gives = { λ _ fault. fault ≡ SlotFault.Device };
+
+    fn from(_: DeviceFault) -> SlotFault {
+        SlotFault::Device
+    }
 }

@@ -1,14 +1,15 @@
-//! Opening one keyslot: from a passphrase and the key material in the keyslot's area to the volume key.
+//! Opening one keyslot: from a passphrase and the key material in the keyslot's area to the volume
+//! key.
 #![tactic(auto)]
 
+mod area_reader;
 mod fault;
 mod hashing;
 mod key;
 mod merging;
 mod opening;
+mod parameters;
 mod plan;
-mod refusal;
-mod sectors;
 
 pub use fault::SlotFault;
 pub use key::Key;
