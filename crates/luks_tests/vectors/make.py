@@ -1,8 +1,8 @@
 #!/usr/bin/env python3
-"""Prints src/tests/vectors.rt: digests of 256 units sealed by the Python package `cryptography`
-(over OpenSSL), an implementation that shares nothing with this crate. It was run once, and what it
+"""Prints src/ciphers/sealed.rt: digests of 256 units sealed by the Python package `cryptography`
+(over OpenSSL), an implementation that shares nothing with luks_xts. It was run once, and what it
 printed is stored. The key, the unit's number, its length and its bytes come from splitmix64, seeded
-with the number of the case; src/tests.rt makes the same ones."""
+with the number of the case; src/ciphers.rt makes the same ones."""
 
 from cryptography.hazmat.primitives.ciphers import Cipher, algorithms, modes
 
