@@ -32,8 +32,8 @@ entry_of_product m x r =
 unfoldable pub mix_matrix : ℕ → ℕ → ℕ
 mix_matrix = circulant (2 ∷ 3 ∷ 1 ∷ 1 ∷ [])
 
-unfoldable pub unmix_matrix : ℕ → ℕ → ℕ
-unmix_matrix = circulant (14 ∷ 11 ∷ 13 ∷ 9 ∷ [])
+unfoldable pub inverse_mix_matrix : ℕ → ℕ → ℕ
+inverse_mix_matrix = circulant (14 ∷ 11 ∷ 13 ∷ 9 ∷ [])
 
 -- each column multiplied by the matrix (5.1.3)
 unfoldable pub mix_columns : List ℕ → List ℕ
@@ -51,7 +51,7 @@ unfoldable pub inverse_shift_rows : List ℕ → List ℕ
 inverse_shift_rows s = state_by (λ r c. byte_in s r ((c + 4 - r) % 4))
 
 unfoldable pub inverse_mix_columns : List ℕ → List ℕ
-inverse_mix_columns s = state_by (λ r c. entry_of_product unmix_matrix (λ k. byte_in s k c) r)
+inverse_mix_columns s = state_by (λ r c. entry_of_product inverse_mix_matrix (λ k. byte_in s k c) r)
 
 -- word i of a key schedule, 4 bytes (5.2)
 unfoldable pub word : List ℕ → ℕ → List ℕ
