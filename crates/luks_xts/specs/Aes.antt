@@ -75,8 +75,8 @@ unfoldable pub word_xor : List ℕ → List ℕ → List ℕ
 word_xor t v = word_by (λ k. bit_xor (slice_index t k) (slice_index v k))
 
 -- what word i - 1 becomes before it is added to word i - nk, for a key of nk words (5.2)
-unfoldable pub turned_word : ℕ → ℕ → List ℕ → List ℕ
-turned_word nk i t =
+unfoldable pub temp_word : ℕ → ℕ → List ℕ → List ℕ
+temp_word nk i t =
     if i % nk == 0 then word_xor (sub_word (rot_word t)) (round_constant (i / nk))
     else (if nat_lt 6 nk && (i % nk == 4) then sub_word t else t)
 
@@ -85,7 +85,7 @@ unfoldable pub schedule : ℕ → List ℕ → ℕ → List ℕ
 schedule nk key zero = key
 schedule nk key (suc n) =
     let w = schedule nk key n in
-    w ++ word_xor (word w n) (turned_word nk (nk + n) (word w (nk + n - 1)))
+    w ++ word_xor (word w n) (temp_word nk (nk + n) (word w (nk + n - 1)))
 
 -- the round key of round i: words 4 i to 4 i + 3
 unfoldable pub round_key : List ℕ → ℕ → List ℕ

@@ -2,9 +2,9 @@
 #![tactic(auto)]
 
 mod aes;
+mod key_schedule;
 mod mix_column;
 mod rounds;
-mod schedule;
 mod tables;
 mod xts;
 

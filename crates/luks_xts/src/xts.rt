@@ -1,10 +1,9 @@
 ghost use Rattle.std.specs.Prelude.{◌≡◌, ◌⊎◌, ◌+◌, ◌*◌, ◌/◌, ◌%◌, ◌^◌, length, SomeIff};
 ghost use Rattle.luks_xts.specs.Polynomial.{poly_rem};
-ghost use Rattle.luks_xts.specs.Xts.{XtsSeal, XtsOpen, tweak_of, sealed_under, opened_under};
+ghost use Rattle.luks_xts.specs.Xts.{XtsSeal, XtsOpen, tweak_of, xor_block, sealed_under, opened_under};
 ghost use Rattle.luks_xts.specs.Blocks.{sealed_blocks, opened_blocks};
 
 use crate::aes::AesKey;
-use crate::rounds::add_round_key;
 use std::marker::Model;
 
 /// A key of XTS-AES (IEEE 1619). A contract sees the bytes that it was made of.
@@ -74,14 +73,41 @@ fn doubled(tweak: u128) -> u128
     (tweak << 1) ^ ((tweak >> 127) * 0x87)
 }
 
+// The exclusive or of a block and its mask.
+#[inline(always)]
+fn xor_block(block: &[u8], mask: &[u8]) -> [u8; 16]
+    requires block_length { length block.now ≡ 16 }
+    requires mask_length { length mask.now ≡ 16 }
+    ensures { result ≡ xor_block block.now mask.now }
+{
+    [
+        block[0] ^ mask[0],
+        block[1] ^ mask[1],
+        block[2] ^ mask[2],
+        block[3] ^ mask[3],
+        block[4] ^ mask[4],
+        block[5] ^ mask[5],
+        block[6] ^ mask[6],
+        block[7] ^ mask[7],
+        block[8] ^ mask[8],
+        block[9] ^ mask[9],
+        block[10] ^ mask[10],
+        block[11] ^ mask[11],
+        block[12] ^ mask[12],
+        block[13] ^ mask[13],
+        block[14] ^ mask[14],
+        block[15] ^ mask[15],
+    ]
+}
+
 // One block of a unit.
 fn seal_block(key: &AesKey, tweak: u128, block: &mut [u8])
     requires { length block.old ≡ 16 }
     ensures { block.new ≡ sealed_under key.now tweak block.old }
 {
     let mask = tweak.to_le_bytes();
-    let sealed = key.encrypt(add_round_key(mask, block));
-    block.copy_from_slice(&add_round_key(sealed, &mask));
+    let sealed = key.encrypt(xor_block(block, &mask));
+    block.copy_from_slice(&xor_block(&sealed, &mask));
 }
 
 fn open_block(key: &AesKey, tweak: u128, block: &mut [u8])
@@ -89,8 +115,8 @@ fn open_block(key: &AesKey, tweak: u128, block: &mut [u8])
     ensures { block.new ≡ opened_under key.now tweak block.old }
 {
     let mask = tweak.to_le_bytes();
-    let opened = key.decrypt(add_round_key(mask, block));
-    block.copy_from_slice(&add_round_key(opened, &mask));
+    let opened = key.decrypt(xor_block(block, &mask));
+    block.copy_from_slice(&xor_block(&opened, &mask));
 }
 
 // The blocks of a unit, from the tweak of the first.

@@ -1,5 +1,5 @@
 use Rattle.std.proofs.Common.{◌+◌, ◌*◌, ◌≤◌, length, arith}
-use Rattle.luks_xts.proofs.Loops.{opened_start, opened_more, opened_end}
+use Rattle.luks_xts.proofs.UnitLoopFacts.{opened_start, opened_more, opened_end}
 use Rattle.luks_xts.proofs.xts.open_blocks.Goals as goal
 
 pub loop-j-init : goal.loop-j-init

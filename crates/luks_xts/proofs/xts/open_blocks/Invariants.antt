@@ -1,4 +1,4 @@
-use Rattle.luks_xts.proofs.Loops.{AreOpened}
+use Rattle.luks_xts.proofs.UnitLoopFacts.{AreOpened}
 use Rattle.luks_xts.proofs.xts.open_blocks.Given as goal
 
 abbrev pub invariant-loop-j : goal.invariant-loop-j

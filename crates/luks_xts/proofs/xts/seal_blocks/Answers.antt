@@ -1,5 +1,5 @@
 use Rattle.std.proofs.Common.{◌+◌, ◌*◌, ◌≤◌, length, arith}
-use Rattle.luks_xts.proofs.Loops.{sealed_start, sealed_more, sealed_end}
+use Rattle.luks_xts.proofs.UnitLoopFacts.{sealed_start, sealed_more, sealed_end}
 use Rattle.luks_xts.proofs.xts.seal_blocks.Goals as goal
 
 pub loop-j-init : goal.loop-j-init

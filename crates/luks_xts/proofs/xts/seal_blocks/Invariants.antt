@@ -1,4 +1,4 @@
-use Rattle.luks_xts.proofs.Loops.{AreSealed}
+use Rattle.luks_xts.proofs.UnitLoopFacts.{AreSealed}
 use Rattle.luks_xts.proofs.xts.seal_blocks.Given as goal
 
 abbrev pub invariant-loop-j : goal.invariant-loop-j
