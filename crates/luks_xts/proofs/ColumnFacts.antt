@@ -65,7 +65,7 @@ rotated_3 a b c d ha hb hc hd =
     ap₂ bit_or front back ∙ or_apart 8 high a ha ∙ omega arith
 
 -- each column of a circulant matrix is the first one, rotated
-pub column_part-rotated : (p q r s x k : ℕ) → x < 256 → k < 4
+column_part-rotated : (p q r s x k : ℕ) → x < 256 → k < 4
     → (let m = circulant (p ∷ q ∷ r ∷ s ∷ []) in rotate_right w32 (column_part m 0 x) (8 * k) ≡ column_part m k x)
 unfolding circulant column_part
 column_part-rotated p q r s x zero h low =

@@ -40,7 +40,7 @@ inverse_cipher-take w n m s h =
     ∙ ap (λ (k : List ℕ). state_before w m (inverse_sub_bytes (inverse_shift_rows (add_round_key s k)))) (round_key-take w n (m + 1) (omega arith))
 
 module _ (nk : ℕ) (words : List ℕ) (e : IsExpanded nk words) where
-  pub length-key : length (key_bytes nk words) ≡ 4 * nk
+  length-key : length (key_bytes nk words) ≡ 4 * nk
   length-key =
       let long = e.long in
       length-take-le (4 * nk) words (⊎_elim (λ (h : nk ≡ 4). omega arith) (λ (h : nk ≡ 8). omega arith) e.known_size)

@@ -10,12 +10,12 @@ use Rattle.luks_xts.specs.Columns.{bytes_of, column_of}
 use Rattle.luks_xts.proofs.SboxFacts.{sbox-lt, inverse_sbox-lt}
 use Rattle.luks_xts.proofs.StepFacts.{same_rows}
 
-pub bytes_of_four : (a b c d : ℕ) → bytes_of (a ∷ b ∷ c ∷ d ∷ []) ≡ to_be_bytes w32 a ++ (to_be_bytes w32 b ++ (to_be_bytes w32 c ++ to_be_bytes w32 d))
+bytes_of_four : (a b c d : ℕ) → bytes_of (a ∷ b ∷ c ∷ d ∷ []) ≡ to_be_bytes w32 a ++ (to_be_bytes w32 b ++ (to_be_bytes w32 c ++ to_be_bytes w32 d))
 unfolding bytes_of state_by
 bytes_of_four a b c d = refl
 
 -- four bytes as a word and back
-pub word_back : (a b c d : ℕ) → a < 256 → b < 256 → c < 256 → d < 256 → to_be_bytes w32 (from_be_bytes w32 (a ∷ b ∷ c ∷ d ∷ [])) ≡ a ∷ b ∷ c ∷ d ∷ []
+word_back : (a b c d : ℕ) → a < 256 → b < 256 → c < 256 → d < 256 → to_be_bytes w32 (from_be_bytes w32 (a ∷ b ∷ c ∷ d ∷ [])) ≡ a ∷ b ∷ c ∷ d ∷ []
 word_back a b c d ha hb hc hd =
     let n : ℕ = from_be_bytes w32 (a ∷ b ∷ c ∷ d ∷ []) in
     let e3 : n / 16777216 % 256 ≡ a = omega arith in

@@ -19,7 +19,7 @@ same_map : (f g : ℕ → ℕ) (xs : List ℕ) → ((x : ℕ) → f x ≡ g x) �
 same_map f g [] h = refl
 same_map f g (x ∷ xs) h = ap₂ (λ (y : ℕ) (ys : List ℕ). y ∷ ys) (h x) (same_map f g xs h)
 
-pub same_state : (f g : ℕ → ℕ → ℕ) → ((r c : ℕ) → f r c ≡ g r c) → state_by f ≡ state_by g
+same_state : (f g : ℕ → ℕ → ℕ) → ((r c : ℕ) → f r c ≡ g r c) → state_by f ≡ state_by g
 unfolding state_by
 same_state f g h = same_map (λ k. f (k % 4) (k / 4)) (λ k. g (k % 4) (k / 4)) (range_with_len 0 16) (λ k. h (k % 4) (k / 4))
 
@@ -35,7 +35,7 @@ same_rows f g h0 h1 h2 h3 =
     (cons (h0 2) (cons (h1 2) (cons (h2 2) (cons (h3 2)
     (cons (h0 3) (cons (h1 3) (cons (h2 3) (cons (h3 3) refl)))))))))))))))
 
-pub state_by_self : (s : List ℕ) → length s ≡ 16 → state_by (byte_in s) ≡ s
+state_by_self : (s : List ℕ) → length s ≡ 16 → state_by (byte_in s) ≡ s
 unfolding state_by byte_in
 state_by_self s h = sym (fill_by_all (slice_index s) s 16 0 h (λ k low. refl))
 
