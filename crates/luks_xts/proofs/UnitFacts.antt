@@ -4,7 +4,6 @@ use Rattle.std.proofs.lemmas.Bool.{cases_lt}
 use Rattle.std.proofs.lemmas.List.{length-append, length-take-le, length-drop, take_all, take-append-le, drop-append-le, drop_at, drop-take, take-take, take-append-drop}
 use Rattle.std.proofs.Math.Nat.{mod-lt}
 use Rattle.std.specs.Int.{w128, to_le_bytes, bytes_low_first, byte_at}
-use Rattle.std.specs.Int.Bits.{bit_xor, xor_comm}
 use Rattle.luks_xts.specs.Aes.{byte_in, state_by, add_round_key, Aes, AesInverse}
 use Rattle.luks_xts.specs.Xts.{xor_block, alpha_times, block_key, tweak_of, sealed_under, opened_under, sealed_block, opened_block, block_at, joined, XtsSeal, XtsOpen}
 use Rattle.luks_xts.proofs.ByteFacts.{AreBytes, IsState, bytes-take, bytes-drop}

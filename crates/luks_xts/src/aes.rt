@@ -1,13 +1,18 @@
+//! AES (FIPS 197).
+
 ghost use Rattle.std.specs.Prelude.{◌≡◌, ◌⊎◌, ◌+◌, ◌*◌, length, SomeIff};
 ghost use Rattle.luks_xts.specs.Aes.{Aes, AesInverse};
 
 use crate::{key_schedule, rounds};
 use std::marker::Model;
 
-/// A key of AES (FIPS 197) with its key schedule. A contract sees the bytes that it was made of.
+/// A key of AES with its key schedule (FIPS 197, 5.2). A contract sees the bytes that it was made
+/// of.
 #[derive(Drop)]
 pub struct AesKey {
+    // The words of the schedule, 4 bytes each, for 60 words at most.
     words: [u8; 240],
+    // How many words of them are the key's own: Nk of the standard.
     key_words: usize,
 }
 
@@ -24,7 +29,8 @@ impl Model for AesKey {
 }
 
 impl AesKey {
-    /// The key of these bytes: 16 for AES-128, 32 for AES-256, and None at every other length.
+    /// The key of these bytes: 16 for AES-128, 32 for AES-256 (FIPS 197, 5), and None at every
+    /// other length.
     pub fn new(key: &[u8]) -> Option<AesKey>
         ensures { SomeIff result ((length key.now ≡ 16) ⊎ (length key.now ≡ 32)) key.now }
     {

@@ -1,4 +1,4 @@
-// The key schedule of AES (FIPS 197, 5.2), its words of four bytes one after another.
+//! KeyExpansion of AES (FIPS 197, 5.2), the words of four bytes one after another.
 
 ghost use Rattle.std.specs.Prelude.{◌≡◌, ◌⊎◌, ◌+◌, ◌-◌, ◌*◌, ◌/◌, ◌<◌, ◌≤◌, length, take};
 ghost use Rattle.luks_xts.specs.Aes.{schedule, temp_word, word_xor, word};
@@ -6,7 +6,7 @@ ghost use Rattle.luks_xts.specs.Keys.{IsExpanded, key_bytes};
 
 use crate::tables::{power_of_2, sbox};
 
-// What the word before word i becomes, in the schedule of a key of `key_words` words.
+// The standard's `temp` for word i, from the word before it, under a key of `key_words` words (Nk).
 fn temp_word(key_words: usize, i: usize, t: [u8; 4]) -> [u8; 4]
     requires size { (key_words ≡ 4) ⊎ (key_words ≡ 8) }
     requires first { key_words ≤ i }
@@ -30,7 +30,8 @@ fn next_word(words: &[u8], key_words: usize, i: usize) -> [u8; 4]
     requires last { i < 4 * key_words + 28 }
     requires written { 4 * i ≤ length words.now }
     ensures { result
-        ≡ word_xor (word words.now (i - key_words)) (temp_word key_words i (word words.now (i - 1))) }
+        ≡ word_xor (word words.now (i - key_words))
+        (temp_word key_words i (word words.now (i - 1))) }
 {
     let before = &words[4 * i - 4..4 * i];
     let back = &words[4 * (i - key_words)..4 * (i - key_words) + 4];
@@ -56,7 +57,7 @@ fn add_words(words: &mut [u8], key_words: usize)
     }
 }
 
-// Writes the key and the words after it.
+// Writes the key and the words after it: 11 round keys for a key of 16 bytes, 15 for one of 32.
 pub(crate) fn expand_key(words: &mut [u8], key: &[u8])
     requires key { (length key.now ≡ 16) ⊎ (length key.now ≡ 32) }
     requires room { length words.old ≡ 240 }

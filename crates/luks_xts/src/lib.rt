@@ -1,4 +1,4 @@
-// AES and XTS over bytes in place: FIPS 197 and IEEE 1619, for the key areas of a volume.
+//! AES and XTS over bytes in place: FIPS 197 and IEEE 1619, for the key areas of a volume.
 #![tactic(auto)]
 
 mod aes;

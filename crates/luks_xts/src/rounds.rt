@@ -1,4 +1,5 @@
-// The rounds of AES on a state of 16 bytes, one column after another (FIPS 197, 5.1 and 5.3).
+//! The rounds of AES on a state of four words, a column each, whose first byte is the highest
+//! (FIPS 197, 5.1 and 5.3).
 
 ghost use Rattle.std.specs.Prelude.{◌≡◌, ◌+◌, ◌*◌, ◌≤◌, length};
 ghost use Rattle.luks_xts.specs.Aes as aes;
@@ -7,7 +8,7 @@ ghost use Rattle.luks_xts.specs.Columns.{bytes_of};
 use crate::mix_column::{inverse_mix_column, sub_and_mix_column};
 use crate::tables::{inverse_sbox, sbox};
 
-// The state of these 16 bytes, a word for each column.
+// The state of a block of 16 bytes (3.4).
 #[inline(always)]
 fn state_of(bytes: &[u8]) -> [u32; 4]
     requires { length bytes.now ≡ 16 }
@@ -21,7 +22,7 @@ fn state_of(bytes: &[u8]) -> [u32; 4]
     ]
 }
 
-// The 16 bytes of a state.
+// The block of a state (3.4).
 #[inline(always)]
 fn block_of(s: [u32; 4]) -> [u8; 16]
     ensures { result ≡ bytes_of s }
@@ -36,7 +37,7 @@ fn block_of(s: [u32; 4]) -> [u8; 16]
     ]
 }
 
-// The sum of a state and a round key.
+// AddRoundKey (5.1.4).
 #[inline(always)]
 fn add_round_key(s: [u32; 4], key: &[u8]) -> [u32; 4]
     requires { length key.now ≡ 16 }
@@ -46,7 +47,7 @@ fn add_round_key(s: [u32; 4], key: &[u8]) -> [u32; 4]
     [s[0] ^ k[0], s[1] ^ k[1], s[2] ^ k[2], s[3] ^ k[3]]
 }
 
-// The steps of a whole round before the round key.
+// SubBytes, ShiftRows and MixColumns: the steps of a whole round before the round key (5.1).
 #[inline(always)]
 fn sub_shift_mix(s: [u32; 4]) -> [u32; 4]
     ensures { bytes_of result ≡ aes.mix_columns (aes.shift_rows (aes.sub_bytes (bytes_of s))) }
@@ -63,7 +64,7 @@ fn sub_shift_mix(s: [u32; 4]) -> [u32; 4]
     ]
 }
 
-// The steps of the last round before the round key.
+// SubBytes and ShiftRows: the steps of the last round before the round key (5.1).
 #[inline(always)]
 fn sub_shift(s: [u32; 4]) -> [u32; 4]
     ensures { bytes_of result ≡ aes.shift_rows (aes.sub_bytes (bytes_of s)) }
@@ -80,7 +81,7 @@ fn sub_shift(s: [u32; 4]) -> [u32; 4]
     ]
 }
 
-// The inverse of the column step.
+// InvMixColumns (5.3.3).
 #[inline(always)]
 fn inverse_mix_columns(s: [u32; 4]) -> [u32; 4]
     ensures { bytes_of result ≡ aes.inverse_mix_columns (bytes_of s) }
@@ -97,7 +98,7 @@ fn inverse_mix_columns(s: [u32; 4]) -> [u32; 4]
     ]
 }
 
-// The inverses of the rotation of the rows and of the S-box.
+// InvShiftRows and InvSubBytes (5.3.1 and 5.3.2).
 #[inline(always)]
 fn inverse_shift_sub(s: [u32; 4]) -> [u32; 4]
     ensures { bytes_of result ≡ aes.inverse_sub_bytes (aes.inverse_shift_rows (bytes_of s)) }
@@ -134,7 +135,7 @@ fn inverse_shift_sub(s: [u32; 4]) -> [u32; 4]
     ]
 }
 
-// The cipher over a key schedule, of `rounds` whole rounds and the last one.
+// Cipher over a key schedule, of `rounds` whole rounds and the last one (5.1).
 pub(crate) fn cipher(words: &[u8], rounds: usize, block: [u8; 16]) -> [u8; 16]
     requires { 16 * rounds + 32 ≤ length words.now }
     ensures { result ≡ aes.cipher words.now rounds block }
@@ -148,7 +149,7 @@ pub(crate) fn cipher(words: &[u8], rounds: usize, block: [u8; 16]) -> [u8; 16]
     block_of(add_round_key(sub_shift(state), key))
 }
 
-// The inverse cipher over a key schedule.
+// InvCipher over a key schedule (5.3).
 pub(crate) fn inverse_cipher(words: &[u8], rounds: usize, block: [u8; 16]) -> [u8; 16]
     requires { 16 * rounds + 32 ≤ length words.now }
     ensures { result ≡ aes.inverse_cipher words.now rounds block }

@@ -1,3 +1,5 @@
+//! XTS-AES (IEEE 1619).
+
 ghost use Rattle.std.specs.Prelude.{◌≡◌, ◌⊎◌, ◌+◌, ◌*◌, ◌/◌, ◌%◌, ◌^◌, length, SomeIff};
 ghost use Rattle.luks_xts.specs.Polynomial.{poly_rem};
 ghost use Rattle.luks_xts.specs.Xts.{XtsSeal, XtsOpen, tweak_of, xor_block, sealed_under, opened_under};
@@ -6,7 +8,7 @@ ghost use Rattle.luks_xts.specs.Blocks.{sealed_blocks, opened_blocks};
 use crate::aes::AesKey;
 use std::marker::Model;
 
-/// A key of XTS-AES (IEEE 1619). A contract sees the bytes that it was made of.
+/// A key of XTS-AES (IEEE 1619, 5.3.1). A contract sees the bytes that it was made of.
 #[derive(Drop)]
 pub struct XtsKey {
     blocks: AesKey,
@@ -37,8 +39,8 @@ impl XtsKey {
         Some(XtsKey { blocks, tweaks })
     }
 
-    /// Encrypts a unit in place: a sector, as a volume has them, of whole blocks of 16 bytes. `unit`
-    /// is the sector's number, and an empty unit stays empty.
+    /// Encrypts a unit in place: a sector, as a volume has them, of whole blocks of 16 bytes (IEEE
+    /// 1619, 5.3.2). `unit` is the sector's number, and an empty unit stays empty.
     pub fn seal_unit(&self, unit: u64, bytes: &mut [u8])
         requires { length bytes.old % 16 ≡ 0 }
         ensures value { bytes.new ≡ XtsSeal self.now unit bytes.old }
@@ -47,7 +49,8 @@ impl XtsKey {
         seal_blocks(&self.blocks, self.tweak(unit), bytes);
     }
 
-    /// Decrypts a unit in place, what `seal_unit` did of the same number undone.
+    /// Decrypts a unit in place, of whole blocks of 16 bytes (IEEE 1619, 5.4.2): what `seal_unit`
+    /// did under the same number is undone.
     pub fn open_unit(&self, unit: u64, bytes: &mut [u8])
         requires { length bytes.old % 16 ≡ 0 }
         ensures value { bytes.new ≡ XtsOpen self.now unit bytes.old }
@@ -65,7 +68,7 @@ impl XtsKey {
     }
 }
 
-// A tweak times alpha.
+// A tweak times alpha (IEEE 1619, 5.2).
 #[inline(always)]
 fn doubled(tweak: u128) -> u128
     ensures { result ≡ poly_rem (2 ^ 128 + 0x87) 128 1 (tweak * 2) }
@@ -100,7 +103,7 @@ fn xor_block(block: &[u8], mask: &[u8]) -> [u8; 16]
     ]
 }
 
-// One block of a unit.
+// One block of a unit, encrypted (IEEE 1619, 5.3.1).
 fn seal_block(key: &AesKey, tweak: u128, block: &mut [u8])
     requires { length block.old ≡ 16 }
     ensures { block.new ≡ sealed_under key.now tweak block.old }
@@ -110,6 +113,7 @@ fn seal_block(key: &AesKey, tweak: u128, block: &mut [u8])
     block.copy_from_slice(&xor_block(&sealed, &mask));
 }
 
+// One block of a unit, decrypted (IEEE 1619, 5.4.1).
 fn open_block(key: &AesKey, tweak: u128, block: &mut [u8])
     requires { length block.old ≡ 16 }
     ensures { block.new ≡ opened_under key.now tweak block.old }
@@ -119,7 +123,7 @@ fn open_block(key: &AesKey, tweak: u128, block: &mut [u8])
     block.copy_from_slice(&xor_block(&opened, &mask));
 }
 
-// The blocks of a unit, from the tweak of the first.
+// The blocks of a unit, encrypted from the tweak of the first on.
 fn seal_blocks(key: &AesKey, first: u128, bytes: &mut [u8])
     requires { length bytes.old % 16 ≡ 0 }
     ensures { bytes.new ≡ sealed_blocks key.now first bytes.old (length bytes.old / 16) }
@@ -131,6 +135,7 @@ fn seal_blocks(key: &AesKey, first: u128, bytes: &mut [u8])
     }
 }
 
+// The blocks of a unit, decrypted from the tweak of the first on.
 fn open_blocks(key: &AesKey, first: u128, bytes: &mut [u8])
     requires { length bytes.old % 16 ≡ 0 }
     ensures { bytes.new ≡ opened_blocks key.now first bytes.old (length bytes.old / 16) }
