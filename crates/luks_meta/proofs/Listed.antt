@@ -8,21 +8,22 @@ use Rattle.std.specs.Option.{option_map_or}
 use Rattle.std.specs.Ordering.{nat_cmp, match_ordering}
 use Rattle.serde_json.specs.Data.{Data, null, boolean, number, string, array, object, Items, no_items, item, Members, no_members, member}
 use Rattle.serde_json.specs.Find.{as_str, as_array, as_object, get, get_member}
-use Rattle.luks_meta.specs.declared.table.Section.{Section}
-use Rattle.luks_meta.specs.declared.table.Section.TheVariants.{Digests, Keyslots, Segments, Tokens}
-use Rattle.luks_meta.specs.declared.table.Outer.TheVariants as outer
-use Rattle.luks_meta.specs.declared.table.Member.TheVariants as name
-use Rattle.luks_meta.specs.declared.table.Rule.TheVariants as rule
-use Rattle.luks_meta.specs.declared.table.Row.{Row}
-use Rattle.luks_meta.specs.Number.{is_name}
-use Rattle.luks_meta.specs.Names.{all_names, IsNameList}
-use Rattle.luks_meta.specs.Arrays.{all_named, all_there}
-use Rattle.luks_meta.specs.Reading.{names, item_texts, reads}
-use Rattle.luks_meta.specs.Table.{rows_of, digest_rows, token_rows}
-use Rattle.luks_meta.specs.Faults.{Among, section_at, value_at}
-use Rattle.luks_meta.specs.Says.{member_at, IsRead}
+use Rattle.luks_rules.specs.declared.table.Section.{Section}
+use Rattle.luks_rules.specs.declared.table.Section.TheVariants.{Digests, Keyslots, Segments, Tokens}
+use Rattle.luks_rules.specs.declared.table.Outer.TheVariants as outer
+use Rattle.luks_rules.specs.declared.table.Member.TheVariants as name
+use Rattle.luks_rules.specs.declared.table.Rule.TheVariants as rule
+use Rattle.luks_rules.specs.declared.table.Row.{Row}
+use Rattle.luks_json.specs.Number.{is_name}
+use Rattle.luks_json.specs.Names.{all_names, IsNameList}
+use Rattle.luks_json.specs.Arrays.{all_named, all_there}
+use Rattle.luks_rules.specs.Reading.{names, item_texts, reads}
+use Rattle.luks_rules.specs.Table.{rows_of, digest_rows, token_rows}
+use Rattle.luks_rules.specs.Faults.{Among, section_at, value_at}
+use Rattle.luks_rules.specs.Accepted.{IsRead}
+use Rattle.luks_rules.specs.Faults.{member_at}
 use Rattle.luks_meta.proofs.Saying.{at_top}
-use Rattle.luks_meta.specs.Accepted.{HasObject, HasNames, IsContent}
+use Rattle.luks_rules.specs.Accepted.{HasObject, HasNames, IsContent}
 
 -- a member of a map whose names are all names
 named_member : (o : Ordering) (k l : List ℕ) (ms : Members) (e : Data) → slice_cmp nat_cmp k l ≡ o → is_name l ≡ true

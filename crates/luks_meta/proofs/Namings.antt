@@ -13,13 +13,12 @@ use Rattle.serde_json.specs.Data.{Data, null, boolean, number, string, array, ob
 use Rattle.serde_json.specs.Find.{get, get_member, as_object}
 use Rattle.serde_json.specs.View.{members_view}
 use Rattle.serde_json.proofs.Views.{Entry}
-use Rattle.luks_meta.specs.declared.table.Section.TheVariants.{Digests, Keyslots}
-use Rattle.luks_meta.specs.Number.{number_of, number_text}
-use Rattle.luks_meta.specs.Arrays.{all_named, names, naming_members, naming_count}
-use Rattle.luks_meta.specs.Faults.{object_at, section_at, has_section}
-use Rattle.luks_meta.specs.Accepted.{IsContent, HasObject}
+use Rattle.luks_rules.specs.declared.table.Section.TheVariants.{Digests, Keyslots}
+use Rattle.luks_json.specs.Number.{number_of, number_text}
+use Rattle.luks_json.specs.Arrays.{all_named, names, naming_members, naming_count}
+use Rattle.luks_rules.specs.Faults.{object_at, section_at, has_section}
+use Rattle.luks_rules.specs.Accepted.{IsContent, HasObject}
 use Rattle.luks_meta.specs.Naming.{IsDigestOf, first_naming, IsUnique}
-use Rattle.luks_meta.proofs.Numbers.{text_of_named, number_of_text}
 
 -- ---- names that ascend are unique
 
@@ -109,14 +108,22 @@ further t l e ms m alone f = elim (at (number_text m) l e ms) [
   | later rest ↦ record { numbered = f.numbered; object = f.object; is = rest ∙ f.is; lists_it = f.lists_it }
 ]
 
-pub found : (t : List ℕ) (ms : Members) (m : ℕ) → IsUnique ms → first_naming t ms ≡ Some m → Found t ms m
-found t no_members m alone e = absurd (cc)
-found t (member l d ms) m alone e = elim (cases_Bool (lists t d)) [
+-- a name's number has that name
+abbrev pub NamesSay : Type 0
+NamesSay = (text : List ℕ) (n : ℕ) → number_of text ≡ Some n → (text ≡ number_text n) × (n < 32)
+
+-- a number below 32 is that of its name
+abbrev pub NumbersSay : Type 0
+NumbersSay = (n : ℕ) → n < 32 → number_of (number_text n) ≡ Some n
+
+pub found : NamesSay → (t : List ℕ) (ms : Members) (m : ℕ) → IsUnique ms → first_naming t ms ≡ Some m → Found t ms m
+found says t no_members m alone e = absurd (cc)
+found says t (member l d ms) m alone e = elim (cases_Bool (lists t d)) [
   | inl listed ↦
       let named : number_of l ≡ Some m = rw listed at e in
-      let text = text_of_named l m named in
+      let text = says l m named in
       record { numbered = text.1; object = d; is = rw (text.0, same_text (number_text m)) refl; lists_it = listed }
-  | inr off ↦ further t l d ms m alone.0 (found t ms m alone.1 (rw off at e))
+  | inr off ↦ further t l d ms m alone.0 (found says t ms m alone.1 (rw off at e))
 ]
 
 -- ---- the digests of a value
@@ -165,10 +172,10 @@ named_by len j n d ms c h e alone =
       alone = alone;
     }
 
-pub digest_some : (j : Data) (n : ℕ) (ms : Members) (r : Option ℕ) → Named j n ms → r ≡ first_naming (number_text n) ms → IfSome r (IsDigestOf j n)
-digest_some j n ms None h e = tt
-digest_some j n ms (Some m) h e =
-    let f = found (number_text n) ms m h.alone (sym e) in
+pub digest_some : NamesSay → (j : Data) (n : ℕ) (ms : Members) (r : Option ℕ) → Named j n ms → r ≡ first_naming (number_text n) ms → IfSome r (IsDigestOf j n)
+digest_some says j n ms None h e = tt
+digest_some says j n ms (Some m) h e =
+    let f = found says (number_text n) ms m h.alone (sym e) in
     record {
       named = h.small;
       keyslot = h.keyslot;
@@ -178,10 +185,10 @@ digest_some j n ms (Some m) h e =
       lists = f.lists_it;
     }
 
-pub digest_only : (j : Data) (n : ℕ) (ms : Members) (r : Option ℕ) → Named j n ms → r ≡ first_naming (number_text n) ms → (m : ℕ) → IsDigestOf j n m → r ≡ Some m
-digest_only j n ms r h e m d =
+pub digest_only : NumbersSay → (j : Data) (n : ℕ) (ms : Members) (r : Option ℕ) → Named j n ms → r ≡ first_naming (number_text n) ms → (m : ℕ) → IsDigestOf j n m → r ≡ Some m
+digest_only told j n ms r h e m d =
     e ∙ (first_is (number_text m) (number_text n) d.object ms h.once (sym (as_map (section_at j Digests) ms (number_text m) h.digests) ∙ d.is) d.lists
-    ∙ number_of_text m d.numbered)
+    ∙ told m d.numbered)
 
 pub digest_there : (j : Data) (n : ℕ) (ms : Members) (r : Option ℕ) → Named j n ms → r ≡ first_naming (number_text n) ms → is_some r ≡ true
 digest_there j n ms r h e = rw e (one_is (number_text n) ms h.once h.all)

@@ -4,9 +4,9 @@ use Rattle.std.proofs.lemmas.Bool.Decides.{nat_tests}
 use Rattle.serde_json.specs.Data.{Data}
 use Rattle.luks_meta.specs.Accepted.{IsContent}
 use Rattle.luks_meta.specs.Encoded.{encoded_of}
-use Rattle.luks_meta.specs.declared.table.Member.TheVariants as name
-use Rattle.luks_meta.specs.declared.table.Outer.TheVariants as outer
-use Rattle.luks_meta.specs.declared.table.Section.TheVariants.{Keyslots}
+use Rattle.luks_rules.specs.declared.table.Member.TheVariants as name
+use Rattle.luks_rules.specs.declared.table.Outer.TheVariants as outer
+use Rattle.luks_rules.specs.declared.table.Section.TheVariants.{Keyslots}
 use Rattle.luks_meta.specs.Faults.{object_at}
 use Rattle.luks_meta.specs.Says.{member_at}
 use Rattle.luks_slot.specs.declared.plan.Derivation.{Derivation}

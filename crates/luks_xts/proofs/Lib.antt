@@ -2,7 +2,7 @@ pub mod Below
 pub mod ByteTables
 pub mod Polynomials
 pub mod FieldFacts
-pub mod WordTables
+pub mod ColumnFacts
 pub mod RoundSteps
 pub mod ScheduleSteps
 pub mod Bytes

@@ -5,7 +5,7 @@ use Rattle.std.specs.Int.{w32, to_be_bytes, from_be_bytes, byte_at}
 use Rattle.std.specs.Int.Bits.{bit_xor, xor_shr, xor_mod}
 use Rattle.std.proofs.Math.Nat.{mod-lt}
 use Rattle.luks_xts.specs.Field.{sbox, inverse_sbox}
-use Rattle.luks_xts.specs.Aes.{byte_in, state_by, add_round_key, sub_bytes, shift_rows, mix_columns, inverse_sub_bytes, inverse_shift_rows, inverse_mix_columns, mix_matrix, unmix_matrix, entry_of_product, word_by}
+use Rattle.luks_xts.specs.Aes.{byte_in, state_by, add_round_key, sub_bytes, shift_rows, mix_columns, inverse_sub_bytes, inverse_shift_rows, inverse_mix_columns, mix_matrix, inverse_mix_matrix, entry_of_product, word_by}
 use Rattle.luks_xts.specs.Columns.{bytes_of, column_of}
 use Rattle.luks_xts.proofs.ByteTables.{sbox-lt, inverse_sbox-lt}
 use Rattle.luks_xts.proofs.Steps.{same_rows}
@@ -60,10 +60,10 @@ unfolding bytes_of byte_in state_by sub_bytes shift_rows mix_columns entry_of_pr
 mixed_is s p q r t hp hq hr ht = ap₂ (λ (x y : List ℕ). x ++ y) hp (ap₂ (λ (x y : List ℕ). x ++ y) hq (ap₂ (λ (x y : List ℕ). x ++ y) hr ht))
 
 pub unmixed_is : (s : List ℕ) (p q r t : ℕ)
-    → to_be_bytes w32 p ≡ column_of unmix_matrix (byte_at 3 (slice_index s 0)) (byte_at 2 (slice_index s 0)) (byte_at 1 (slice_index s 0)) (byte_at 0 (slice_index s 0))
-    → to_be_bytes w32 q ≡ column_of unmix_matrix (byte_at 3 (slice_index s 1)) (byte_at 2 (slice_index s 1)) (byte_at 1 (slice_index s 1)) (byte_at 0 (slice_index s 1))
-    → to_be_bytes w32 r ≡ column_of unmix_matrix (byte_at 3 (slice_index s 2)) (byte_at 2 (slice_index s 2)) (byte_at 1 (slice_index s 2)) (byte_at 0 (slice_index s 2))
-    → to_be_bytes w32 t ≡ column_of unmix_matrix (byte_at 3 (slice_index s 3)) (byte_at 2 (slice_index s 3)) (byte_at 1 (slice_index s 3)) (byte_at 0 (slice_index s 3))
+    → to_be_bytes w32 p ≡ column_of inverse_mix_matrix (byte_at 3 (slice_index s 0)) (byte_at 2 (slice_index s 0)) (byte_at 1 (slice_index s 0)) (byte_at 0 (slice_index s 0))
+    → to_be_bytes w32 q ≡ column_of inverse_mix_matrix (byte_at 3 (slice_index s 1)) (byte_at 2 (slice_index s 1)) (byte_at 1 (slice_index s 1)) (byte_at 0 (slice_index s 1))
+    → to_be_bytes w32 r ≡ column_of inverse_mix_matrix (byte_at 3 (slice_index s 2)) (byte_at 2 (slice_index s 2)) (byte_at 1 (slice_index s 2)) (byte_at 0 (slice_index s 2))
+    → to_be_bytes w32 t ≡ column_of inverse_mix_matrix (byte_at 3 (slice_index s 3)) (byte_at 2 (slice_index s 3)) (byte_at 1 (slice_index s 3)) (byte_at 0 (slice_index s 3))
     → bytes_of (p ∷ q ∷ r ∷ t ∷ []) ≡ inverse_mix_columns (bytes_of s)
 unfolding bytes_of byte_in state_by inverse_mix_columns entry_of_product word_by column_of
 unmixed_is s p q r t hp hq hr ht = ap₂ (λ (x y : List ℕ). x ++ y) hp (ap₂ (λ (x y : List ℕ). x ++ y) hq (ap₂ (λ (x y : List ℕ). x ++ y) hr ht))

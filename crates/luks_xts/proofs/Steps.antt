@@ -6,7 +6,7 @@ use Rattle.std.specs.List.{range_with_len}
 use Rattle.std.specs.Int.Bits.{bit_xor, xor_lt, xor_zero_l, xor_zero_r}
 use Rattle.luks_xts.specs.Polynomial.{poly_mul, poly_rem}
 use Rattle.luks_xts.specs.Field.{gmul, sbox, inverse_sbox}
-use Rattle.luks_xts.specs.Aes.{byte_in, state_by, sub_bytes, shift_rows, circulant, entry_of_product, mix_matrix, unmix_matrix, mix_columns, add_round_key, inverse_sub_bytes, inverse_shift_rows, inverse_mix_columns}
+use Rattle.luks_xts.specs.Aes.{byte_in, state_by, sub_bytes, shift_rows, circulant, entry_of_product, mix_matrix, inverse_mix_matrix, mix_columns, add_round_key, inverse_sub_bytes, inverse_shift_rows, inverse_mix_columns}
 use Rattle.luks_xts.proofs.Below.{all_below, all_below-at}
 use Rattle.luks_xts.proofs.Polynomials.{interchange, xor_twice}
 use Rattle.luks_xts.proofs.FieldFacts.{gmul-xor}
@@ -82,7 +82,7 @@ inverse_shift_rows-state s h = state_of _ (λ r c. byte_in-lt s r ((c + 4 - r) %
 
 pub inverse_mix_columns-state : (s : List ℕ) → AreBytes s → IsState (inverse_mix_columns s)
 unfolding inverse_mix_columns
-inverse_mix_columns-state s h = state_of _ (λ r c. entry-lt unmix_matrix (λ k. byte_in s k c) r (λ k. byte_in-lt s k c h))
+inverse_mix_columns-state s h = state_of _ (λ r c. entry-lt inverse_mix_matrix (λ k. byte_in s k c) r (λ k. byte_in-lt s k c h))
 
 -- ---- the sum, the S-box and the rows
 
@@ -159,12 +159,12 @@ is_identity m n r j = all_below (λ y. eqb (through m n r j y) (cond (eqb r j) y
 abbrev are_inverse : (ℕ → ℕ → ℕ) → (ℕ → ℕ → ℕ) → Bool
 are_inverse m n = all_below (λ r. all_below (is_identity m n r) 4) 4
 
-unmix_mix_test : are_inverse unmix_matrix mix_matrix ≡ true
-unfolding poly_mul poly_rem gmul circulant unmix_matrix mix_matrix quad through
+unmix_mix_test : are_inverse inverse_mix_matrix mix_matrix ≡ true
+unfolding poly_mul poly_rem gmul circulant inverse_mix_matrix mix_matrix quad through
 unmix_mix_test = refl
 
-mix_unmix_test : are_inverse mix_matrix unmix_matrix ≡ true
-unfolding poly_mul poly_rem gmul circulant unmix_matrix mix_matrix quad through
+mix_unmix_test : are_inverse mix_matrix inverse_mix_matrix ≡ true
+unfolding poly_mul poly_rem gmul circulant inverse_mix_matrix mix_matrix quad through
 mix_unmix_test = refl
 
 through_at : (m n : ℕ → ℕ → ℕ) → are_inverse m n ≡ true → (r j y : ℕ) → r < 4 → j < 4 → y < 256 → through m n r j y ≡ cond (eqb r j) y 0
@@ -208,8 +208,8 @@ columns_back m n s e h =
 
 pub mix_undone : (s : List ℕ) → IsState s → inverse_mix_columns (mix_columns s) ≡ s
 unfolding mix_columns inverse_mix_columns byte_in state_by entry_of_product
-mix_undone s h = columns_back unmix_matrix mix_matrix s unmix_mix_test h
+mix_undone s h = columns_back inverse_mix_matrix mix_matrix s unmix_mix_test h
 
 pub mix_redone : (s : List ℕ) → IsState s → mix_columns (inverse_mix_columns s) ≡ s
 unfolding mix_columns inverse_mix_columns byte_in state_by entry_of_product
-mix_redone s h = columns_back mix_matrix unmix_matrix s mix_unmix_test h
+mix_redone s h = columns_back mix_matrix inverse_mix_matrix s mix_unmix_test h

@@ -2,14 +2,11 @@
 #![tactic(auto)]
 
 mod aes;
+mod mix_column;
 mod rounds;
 mod schedule;
 mod tables;
-mod words;
 mod xts;
 
 pub use aes::AesKey;
 pub use xts::XtsKey;
-
-#[cfg(test)]
-mod tests;

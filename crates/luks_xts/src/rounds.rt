@@ -4,8 +4,8 @@ ghost use Rattle.std.specs.Prelude.{◌≡◌, ◌+◌, ◌*◌, ◌≤◌, leng
 ghost use Rattle.luks_xts.specs.Aes as aes;
 ghost use Rattle.luks_xts.specs.Columns.{bytes_of};
 
+use crate::mix_column::{inverse_mix_column, sub_and_mix_column};
 use crate::tables::{inverse_sbox, sbox};
-use crate::words::{mixed_column, unmixed_column};
 
 // The sum of two blocks.
 #[inline(always)]
@@ -82,10 +82,10 @@ fn mixed(s: [u32; 4]) -> [u32; 4]
     let c = s[2].to_be_bytes();
     let d = s[3].to_be_bytes();
     [
-        mixed_column(a[0], b[1], c[2], d[3]),
-        mixed_column(b[0], c[1], d[2], a[3]),
-        mixed_column(c[0], d[1], a[2], b[3]),
-        mixed_column(d[0], a[1], b[2], c[3]),
+        sub_and_mix_column(a[0], b[1], c[2], d[3]),
+        sub_and_mix_column(b[0], c[1], d[2], a[3]),
+        sub_and_mix_column(c[0], d[1], a[2], b[3]),
+        sub_and_mix_column(d[0], a[1], b[2], c[3]),
     ]
 }
 
@@ -116,10 +116,10 @@ fn unmixed(s: [u32; 4]) -> [u32; 4]
     let c = s[2].to_be_bytes();
     let d = s[3].to_be_bytes();
     [
-        unmixed_column(a[0], a[1], a[2], a[3]),
-        unmixed_column(b[0], b[1], b[2], b[3]),
-        unmixed_column(c[0], c[1], c[2], c[3]),
-        unmixed_column(d[0], d[1], d[2], d[3]),
+        inverse_mix_column(a[0], a[1], a[2], a[3]),
+        inverse_mix_column(b[0], b[1], b[2], b[3]),
+        inverse_mix_column(c[0], c[1], c[2], c[3]),
+        inverse_mix_column(d[0], d[1], d[2], d[3]),
     ]
 }
 

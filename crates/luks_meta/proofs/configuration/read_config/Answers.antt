@@ -1,8 +1,8 @@
 use Rattle.std.proofs.Common.{refl}
 use Rattle.serde_json.specs.View.{view}
-use Rattle.luks_meta.specs.Table.{config_rows}
-use Rattle.luks_meta.specs.Reading.{whole}
-use Rattle.luks_meta.proofs.Saying.{lost, at_top, config_says}
+use Rattle.luks_rules.specs.Table.{config_rows}
+use Rattle.luks_rules.specs.Reading.{whole}
+use Rattle.luks_meta.proofs.Saying.{lost, at_top}
 use Rattle.luks_meta.proofs.configuration.read_config.Goals as goal
 
 pub returns-in_err-json_size-clause-there : goal.returns-in_err-json_size-clause-there
@@ -10,6 +10,3 @@ returns-in_err-json_size-clause-there c = λ read. absurd (lost whole _ c.in_err
 
 pub returns-in_err-keyslots_size-clause-there : goal.returns-in_err-keyslots_size-clause-there
 returns-in_err-keyslots_size-clause-there c = λ read. absurd (lost whole _ c.in_err-keyslots_size.ensures (at_top config_rows (view c.args.object.now) 1 _ read refl refl refl))
-
-pub returns-clause-says : goal.returns-clause-says
-returns-clause-says c = config_says (view c.args.object.now) _ _ c.in_ok-json_size.ensures c.in_ok-keyslots_size.ensures

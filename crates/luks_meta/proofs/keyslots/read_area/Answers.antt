@@ -1,9 +1,9 @@
 use Rattle.std.proofs.Common.{◌∷◌, [], codes, refl}
 use Rattle.serde_json.specs.View.{view}
-use Rattle.luks_meta.specs.declared.table.Outer.TheVariants as outer
-use Rattle.luks_meta.specs.Table.{keyslot_rows}
-use Rattle.luks_meta.specs.Faults.{type_at}
-use Rattle.luks_meta.specs.Reading.{whole, text}
+use Rattle.luks_rules.specs.declared.table.Outer.TheVariants as outer
+use Rattle.luks_rules.specs.Table.{keyslot_rows}
+use Rattle.luks_rules.specs.Faults.{type_at}
+use Rattle.luks_rules.specs.Reading.{whole, text}
 use Rattle.luks_meta.proofs.Saying.{lost, at_row, unlisted}
 use Rattle.luks_meta.proofs.SayingKeyslot.{area_home}
 use Rattle.luks_meta.proofs.keyslots.read_area.Goals as goal

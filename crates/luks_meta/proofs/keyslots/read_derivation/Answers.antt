@@ -1,7 +1,7 @@
 use Rattle.std.proofs.Common.{refl}
 use Rattle.serde_json.specs.View.{view}
-use Rattle.luks_meta.specs.Table.{keyslot_rows}
-use Rattle.luks_meta.specs.Reading.{bytes}
+use Rattle.luks_rules.specs.Table.{keyslot_rows}
+use Rattle.luks_rules.specs.Reading.{bytes}
 use Rattle.luks_meta.proofs.Saying.{lost, at_row}
 use Rattle.luks_meta.proofs.SayingKeyslot.{kdf_home}
 use Rattle.luks_meta.proofs.keyslots.read_derivation.Goals as goal
