@@ -4,4 +4,3 @@ pub mod OpeningFacts
 pub mod WritingFacts
 pub mod SplittingFacts
 pub mod SealingFacts
-pub mod WipingFacts

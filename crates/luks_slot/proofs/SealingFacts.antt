@@ -1,7 +1,7 @@
 -- An area whose stripes were written is sealed, and a sealed one opens.
-use Rattle.std.proofs.Common.{◌≡◌, ℕ, zero, suc, ◌+◌, ◌-◌, ◌*◌, ◌<◌, ◌≤◌, List, ◌++◌, length, get_or, replicate, take, drop, refl, ap, sym, ◌∙◌, subst, arith, length-append, Some, None}
+use Rattle.std.proofs.Common.{◌≡◌, ℕ, zero, suc, ◌+◌, ◌-◌, ◌*◌, ◌<◌, ◌≤◌, List, ◌++◌, length, get_or, min, replicate, take, drop, refl, ap, sym, ◌∙◌, subst, arith, length-append, Some, None}
 use Rattle.std.specs.Prelude.{if◌then◌else◌}
-use Rattle.std.proofs.lemmas.List.{ext_get_or, get_or-append_right, get_or_append_left, get_or-replicate, length-replicate}
+use Rattle.std.proofs.lemmas.List.{ext_get_or, get_or-append_right, get_or_append_left, get_or-replicate, get_or-take, length-replicate, length-take}
 use Rattle.std.proofs.Math.Seq.{take-append_seam, drop-append_seam}
 use Rattle.luks_area.specs.RangeFacts.{part-part}
 use Rattle.luks_area.specs.Ranges.{part, IsAt, SameBut}
@@ -14,10 +14,29 @@ use Rattle.luks_xts.specs.Xts.{XtsOpen}
 use Rattle.luks_slot.specs.declared.plan.SlotPlan.{SlotPlan}
 use Rattle.luks_slot.specs.Opening.{area_bytes, area_key, hash_by_name, meets_digest, opened_sector, opened_sectors, slot_key, stripe_bytes, stripes_from, stripes_in}
 use Rattle.luks_slot.specs.Sealing.{stripes_of, IsSealed}
-use Rattle.luks_slot.specs.Wiping.{AreZeros}
 use Rattle.luks_slot.specs.Writing.{ArePlaced, HoldsWanted, filled}
 use Rattle.luks_slot.proofs.AreaFacts.{length-opened_sectors, plain_at}
 use Rattle.luks_slot.proofs.OpeningFacts.{opens_to}
+
+-- all bytes are zeros
+pub record AreZeros (bytes : List ℕ) : Type 0 where
+  pub each : (k : ℕ) → k < length bytes → get_or bytes k 0 ≡ 0
+
+-- a list of zeros
+pub zeros_are : (n : ℕ) (b : List ℕ) → b ≡ replicate n 0 → AreZeros b
+zeros_are n b is = record {
+  each = λ k lt.
+      let size : length b ≡ n = ap length is ∙ length-replicate n 0 in
+      ap (λ l. get_or l k 0) is ∙ get_or-replicate n k 0 0 (omega (arith, lt, size));
+}
+
+-- the front of zeros
+pub front_zeros : (n : ℕ) (b : List ℕ) → AreZeros b → AreZeros (take n b)
+front_zeros n b zeros = record {
+  each = λ k lt.
+      let size : length (take n b) ≡ min n (length b) = length-take n b in
+      get_or-take n b k 0 (omega (arith, lt, size)) ∙ zeros.each k (omega (arith, lt, size));
+}
 
 -- where each piece of the wanted bytes stands: the first
 pub placed_first : (a b z : List ℕ) → ArePlaced ((a ++ b) ++ z) 0 a
@@ -48,8 +67,10 @@ placed_zeros a b zeros m are fits = record {
       let inner : (place + k) - place ≡ k = omega arith in
       let there : get_or ((a ++ b) ++ replicate m 0) (place + k) 0 ≡ get_or (replicate m 0) ((place + k) - place) 0 =
       get_or-append_right (a ++ b) (replicate m 0) place (place + k) 0 both (omega arith) in
+      let here : get_or (replicate m 0) ((place + k) - place) 0 ≡ get_or (replicate m 0) k 0 = ap (λ i. get_or (replicate m 0) i 0) inner in
       let zero : get_or (replicate m 0) k 0 ≡ 0 = get_or-replicate m k 0 0 (omega (arith, lt, fits)) in
-      are.each k lt ∙ sym (there ∙ ap (λ i. get_or (replicate m 0) i 0) inner ∙ zero);
+      let expected : get_or ((a ++ b) ++ replicate m 0) (place + k) 0 ≡ 0 = there ∙ (here ∙ zero) in
+      are.each k lt ∙ sym expected;
 }
 
 -- all that is wanted was put

@@ -5,4 +5,3 @@ pub mod Fault
 pub mod Parameters
 pub mod Reading
 pub mod Writing
-pub mod Wiping

@@ -5,9 +5,8 @@ use Rattle.luks_area.specs.RangeFacts.{length-part_inside}
 use Rattle.luks_area.specs.Sectors.{sector_count}
 use Rattle.luks_slot.specs.Opening.{area_bytes, opened_sectors}
 use Rattle.luks_slot.specs.Writing.{filled, IsWriting}
-use Rattle.luks_slot.proofs.SealingFacts.{all_put, placed_first, placed_second, placed_zeros}
+use Rattle.luks_slot.proofs.SealingFacts.{all_put, front_zeros, zeros_are, placed_first, placed_second, placed_zeros}
 use Rattle.luks_slot.proofs.WritingFacts.{nothing_wanted}
-use Rattle.luks_slot.proofs.WipingFacts.{front_zeros, zeros_are}
 use Rattle.luks_slot.proofs.sealing.write_filled.Goals as goal
 
 pub returns-clause-value : goal.returns-clause-value
