@@ -3,11 +3,12 @@ use Rattle.std.proofs.Common.{◌≡◌, true, Option, Some, None, option_map, o
 use Rattle.serde_json.specs.Data.{Data}
 use Rattle.serde_json.specs.Find.{as_object}
 use Rattle.luks_rules.specs.declared.table.Outer.TheVariants as outer
+use Rattle.luks_rules.specs.declared.table.Member.TheVariants as name
 use Rattle.luks_rules.specs.Table.{keyslot_rows}
 use Rattle.luks_rules.specs.Reading.{object}
 use Rattle.luks_rules.specs.Faults.{outer_at}
 use Rattle.luks_rules.specs.Accepted.{IsRead}
-use Rattle.luks_meta.proofs.Saying.{at_top}
+use Rattle.luks_meta.proofs.RowsRead.{at_top}
 
 -- ---- the objects inside
 
@@ -16,10 +17,10 @@ mapped f None h = h
 mapped f (Some x) h = refl
 
 pub af_home : (d : Data) → IsRead keyslot_rows d → is_some (option_and_then as_object (outer_at d outer.Af)) ≡ true
-af_home d read = mapped (λ m. object) _ (at_top keyslot_rows d 0 _ read refl refl refl)
+af_home d read = mapped (λ m. object) _ (at_top keyslot_rows d name.Af _ read refl refl refl)
 
 pub area_home : (d : Data) → IsRead keyslot_rows d → is_some (option_and_then as_object (outer_at d outer.Area)) ≡ true
-area_home d read = mapped (λ m. object) _ (at_top keyslot_rows d 4 _ read refl refl refl)
+area_home d read = mapped (λ m. object) _ (at_top keyslot_rows d name.Area _ read refl refl refl)
 
 pub kdf_home : (d : Data) → IsRead keyslot_rows d → is_some (option_and_then as_object (outer_at d outer.Kdf)) ≡ true
-kdf_home d read = mapped (λ m. object) _ (at_top keyslot_rows d 10 _ read refl refl refl)
+kdf_home d read = mapped (λ m. object) _ (at_top keyslot_rows d name.Kdf _ read refl refl refl)
