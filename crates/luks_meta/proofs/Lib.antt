@@ -1,5 +1,5 @@
-pub mod Saying
-pub mod SayingKeyslot
+pub mod RowsRead
+pub mod KeyslotObjects
 pub mod Listed
 pub mod ObjectsRead
 pub mod Requiring

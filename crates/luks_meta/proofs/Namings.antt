@@ -1,5 +1,5 @@
 -- The one digest that names a keyslot.
-use Rattle.std.proofs.Common.{◌≡◌, ℕ, ◌+◌, ◌<◌, Bool, true, List, [], ◌∷◌, Option, Some, None, Ordering, Less, Equal, Greater, String, Global, string_bytes, string_cmp, option_map, option_and_then, is_some, is_eq, IfSome, codes, refl, sym, ap, ◌∙◌, inl, inr, subst, arith}
+use Rattle.std.proofs.Common.{◌≡◌, ℕ, ◌+◌, ◌<◌, Bool, true, false, List, [], ◌∷◌, Option, Some, None, Ordering, Less, Equal, Greater, String, Global, string_bytes, string_cmp, option_map, option_and_then, is_some, is_eq, IfSome, codes, length, refl, sym, ap, ◌∙◌, inl, inr, subst, arith}
 use Rattle.std.proofs.lemmas.Bool.{false≢true, true≢false, and_parts, cases_Bool}
 use Rattle.std.proofs.lemmas.Cmp.{nat_list_cmp_total, tied_itself}
 use Rattle.std.proofs.lemmas.Map.Text.{is_eq-slice_cmp}
@@ -8,6 +8,7 @@ use Rattle.std.specs.Cmp.Lexicographic.{slice_cmp}
 use Rattle.std.specs.List.{AllByRecursion}
 use Rattle.std.specs.List.Sorted.{IsStrictlySortedBy}
 use Rattle.std.specs.Map.{keys_of}
+use Rattle.std.specs.Option.{option_map_or}
 use Rattle.std.specs.Ordering.{nat_cmp}
 use Rattle.serde_json.specs.Data.{Data, null, boolean, number, string, array, object, Members, no_members, member}
 use Rattle.serde_json.specs.Find.{get, get_member, as_object}
@@ -17,7 +18,7 @@ use Rattle.luks_rules.specs.declared.table.Section.TheVariants.{Digests, Keyslot
 use Rattle.luks_json.specs.Number.{number_of, number_text}
 use Rattle.luks_json.specs.Arrays.{all_named, names, naming_members, naming_count}
 use Rattle.luks_rules.specs.Faults.{object_at, section_at, has_section}
-use Rattle.luks_rules.specs.Accepted.{IsContent, HasObject}
+use Rattle.luks_rules.specs.Accepted.{IsContent, IsMeta, HasObject}
 use Rattle.luks_meta.specs.Naming.{IsDigestOf, first_naming, IsUnique}
 
 -- ---- names that ascend are unique
@@ -195,3 +196,31 @@ digest_there j n ms r h e = rw e (one_is (number_text n) ms h.once h.all)
 
 pub no_digest : (j : Data) (n : ℕ) → (n < 32 → object_at j Keyslots n ≡ None) → (m : ℕ) → IsDigestOf j n m → ⊥
 no_digest j n missing m d = false≢true (rw (missing d.named) at d.keyslot)
+
+-- ---- one digest
+
+maps_there : (o : Option Members) → option_map_or all_named o false ≡ true → (ms : Members) × (o ≡ Some ms)
+maps_there None h = absurd (false≢true h)
+maps_there (Some ms) h = (ms, refl)
+
+some_there : {A : Type 0} (o : Option A) → is_some o ≡ true → (x : A) × (o ≡ Some x)
+some_there None h = absurd (false≢true h)
+some_there (Some x) h = (x, refl)
+
+-- the first digest that names the keyslot, by any that does
+first_names : NumbersSay → (len : ℕ) (j : Data) → IsContent len j → (ms : Members) → option_and_then as_object (section_at j Digests) ≡ Some ms
+    → (n m : ℕ) → IsDigestOf j n m → first_naming (number_text n) ms ≡ Some m
+first_names told len j c ms there n m d =
+    let slot = some_there (object_at j Keyslots n) d.keyslot in
+    let held : HasObject j Keyslots n slot.0 = record { numbered = refl; named = d.named; is = slot.1 } in
+    let once : naming_count (codes "keyslots") (number_text n) (section_at j Digests) ≡ 1 = c.resolves.keyslots n slot.0 held in
+    first_is (number_text m) (number_text n) d.object ms (rw there at once) (sym (as_map (section_at j Digests) ms (number_text m) there) ∙ d.is) d.lists
+    ∙ told m d.numbered
+
+pub one_naming : NumbersSay → (area : List ℕ) (j : Data) → IsMeta area j → (n m k : ℕ) → IsDigestOf j n m → IsDigestOf j n k → m ≡ k
+one_naming told area j is n m k d e =
+    let c : IsContent (length area) j = is.content in
+    let p = maps_there (option_and_then as_object (section_at j Digests)) (c.sections Digests) in
+    let a = first_names told (length area) j c p.0 p.1 n m d in
+    let b = first_names told (length area) j c p.0 p.1 n k e in
+    some_same m k (sym a ∙ b)

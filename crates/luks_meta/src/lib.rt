@@ -4,6 +4,7 @@
 mod configuration;
 mod digests;
 mod keyslots;
+mod laws;
 mod member;
 mod meta;
 mod naming;
@@ -15,6 +16,7 @@ mod tokens;
 pub use configuration::Config;
 pub use digests::Digest;
 pub use keyslots::{Argon2, Cost, Derivation, KeyArea, Keyslot, Pbkdf2, Splitter};
+pub use laws::one_digest;
 pub use luks_json::one_value;
 pub use luks_rules::{MetaFault, metadata_without_faults};
 pub use member::Extent;
