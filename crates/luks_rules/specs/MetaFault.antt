@@ -15,7 +15,7 @@ use Rattle.luks_rules.specs.declared.place.Test.{Test}
 use Rattle.luks_rules.specs.declared.place.Test.TheVariants as test
 pub use Rattle.luks_json.specs.AreaText.{JsonText, Json, IsBadJson}
 use Rattle.luks_rules.specs.Faults.{IsFaulty, IsPlace, has_fault, place_path}
-use Rattle.luks_rules.specs.Sizes.{has_sizes, has_small_area, has_slot_outside}
+use Rattle.luks_rules.specs.Sizes.{has_other_size, has_small_area, has_slot_outside}
 
 -- a place with the path where the test finds a fault
 pub record HasPath (t : Test) (j : Data) (path : List ℕ) : Type 0 where
@@ -32,7 +32,7 @@ IsDataFault len j (fault.Shape path) = HasPath test.Shape j path.bytes
 IsDataFault len j (fault.Kind path) = HasPath test.Kind j path.bytes
 IsDataFault len j (fault.NoSuchName path) = HasPath test.NoSuchName j path.bytes
 IsDataFault len j (fault.Assigned path) = HasPath test.Assigned j path.bytes
-IsDataFault len j fault.Sizes = has_sizes len j ≡ true
+IsDataFault len j fault.Sizes = has_other_size len j ≡ true
 IsDataFault len j (fault.AreaTooSmall n) = (n < 32) × (has_small_area j n ≡ true)
 IsDataFault len j (fault.Region Head1) = ⊥
 IsDataFault len j (fault.Region Head2) = ⊥
@@ -105,7 +105,7 @@ fault_of test.Assigned path = fault.Assigned path
 pub record IsFaultless (len : ℕ) (j : Data) : Type 0 where
   pub whole : has_float j ≡ false
   pub places : (t : Test) (p : Place) → IsPlace p → has_fault t j p ≡ false
-  pub sizes : has_sizes len j ≡ false
+  pub sizes : has_other_size len j ≡ false
   pub areas : (n : ℕ) → n < 32 → has_small_area j n ≡ false
   pub region : (n : ℕ) → n < 32 → has_slot_outside len j n ≡ false
 
