@@ -1,10 +1,9 @@
 -- A decrypted sector is as long as the sector.
 use Rattle.std.proofs.Common.{◌≡◌, ℕ, zero, suc, ◌*◌, ◌/◌, ◌∙◌, List, length, arith, length-append, refl, ap}
-use Rattle.luks_xts.specs.Aes.{add_round_key, state_by}
-use Rattle.luks_xts.specs.Xts.{XtsOpen, opened_block, opened_under, joined}
+use Rattle.luks_xts.specs.Xts.{XtsOpen, xor_block, opened_block, opened_under, joined}
 
 length-opened_block : (key : List ℕ) (unit j : ℕ) (block : List ℕ) → length (opened_block key unit j block) ≡ 16
-unfolding opened_block opened_under add_round_key state_by
+unfolding opened_block opened_under xor_block
 length-opened_block key unit j block = refl
 
 length-joined : (f : ℕ → List ℕ) → ((j : ℕ) → length (f j) ≡ 16) → (n : ℕ) → length (joined f n) ≡ n * 16

@@ -1,5 +1,5 @@
--- The faults that opening and sealing a keyslot answer.
-use Rattle.std.specs.Prelude.{◌≡◌, Bool, true, false, Some, None}
+-- The faults that opening and sealing a keyslot answer, and how they are written.
+use Rattle.std.specs.Prelude.{◌≡◌, ℕ, List, Bool, true, false, Some, None, codes}
 use Rattle.luks_slot.specs.declared.fault.SlotFault.{SlotFault}
 use Rattle.luks_slot.specs.declared.fault.SlotFault.TheVariants.{Argon2, Cipher, Hash, KeySize, Device, Memory}
 use Rattle.luks_slot.specs.declared.plan.SlotPlan.{SlotPlan}
@@ -19,3 +19,12 @@ IsAnsweredFault plan Memory = ⊥
 abbrev pub is_device_fault : SlotFault → Bool
 is_device_fault Device = true
 is_device_fault f = false
+
+-- how a fault is written
+abbrev pub fault_text : SlotFault → List ℕ
+fault_text Argon2 = codes "Argon2"
+fault_text Cipher = codes "Cipher"
+fault_text Hash = codes "Hash"
+fault_text KeySize = codes "KeySize"
+fault_text Device = codes "Device"
+fault_text Memory = codes "Memory"

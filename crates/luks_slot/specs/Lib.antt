@@ -1,5 +1,7 @@
 pub mod Refusal
 pub mod Opening
+pub mod Sealing
+pub mod Fault
 pub mod Parameters
 pub mod Reading
-pub mod Fault
+pub mod Writing

@@ -8,8 +8,8 @@ use Rattle.luks_xts.specs.Field.{gmul, inverse_below, inverse, number_of_bits, b
 use Rattle.luks_xts.specs.Aes.{circulant, mix_matrix, inverse_mix_matrix, entry_of_product, word_by}
 use Rattle.luks_xts.specs.Columns.{column_of, column_part, packed}
 use Rattle.luks_xts.specs.declared.mix_column.TheConstants.{SBOX_TIMES_COLUMN, TIMES_INVERSE_COLUMN}
-use Rattle.luks_xts.proofs.Below.{all_below, agrees, table_at}
-use Rattle.luks_xts.proofs.ByteTables.{sbox-lt}
+use Rattle.luks_xts.proofs.TableFacts.{all_below, agrees, table_at}
+use Rattle.luks_xts.proofs.SboxFacts.{sbox-lt}
 use Rattle.luks_xts.proofs.FieldFacts.{gmul-lt}
 
 sbox_times_column_test : all_below (agrees SBOX_TIMES_COLUMN (λ x. column_part mix_matrix 0 (sbox x))) 256 ≡ true
@@ -65,7 +65,7 @@ rotated_3 a b c d ha hb hc hd =
     ap₂ bit_or front back ∙ or_apart 8 high a ha ∙ omega arith
 
 -- each column of a circulant matrix is the first one, rotated
-pub column_part-rotated : (p q r s x k : ℕ) → x < 256 → k < 4
+column_part-rotated : (p q r s x k : ℕ) → x < 256 → k < 4
     → (let m = circulant (p ∷ q ∷ r ∷ s ∷ []) in rotate_right w32 (column_part m 0 x) (8 * k) ≡ column_part m k x)
 unfolding circulant column_part
 column_part-rotated p q r s x zero h low =

@@ -1,4 +1,4 @@
-use Rattle.luks_xts.proofs.ByteTables.{sbox-lt}
+use Rattle.luks_xts.proofs.SboxFacts.{sbox-lt}
 use Rattle.luks_xts.proofs.ColumnFacts.{column_of_parts}
 use Rattle.luks_xts.specs.Field.{sbox}
 use Rattle.luks_xts.specs.Aes.{mix_matrix}
