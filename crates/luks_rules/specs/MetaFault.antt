@@ -1,10 +1,12 @@
 -- The faults of a JSON area, and their order: by row, among paths by the order of their bytes,
 -- among objects by number.
-use Rattle.std.specs.Prelude.{◌≡◌, ℕ, ◌<◌, List, [], ◌∷◌, length, true, false}
+use Rattle.std.specs.Fmt.{decimal}
+use Rattle.std.specs.Prelude.{codes, ◌++◌, ◌≡◌, ℕ, ◌<◌, List, [], ◌∷◌, length, true, false}
 use Rattle.serde_json.specs.Data.{Data}
 use Rattle.serde_json.specs.Written.{has_float}
 use Rattle.arrayvec.specs.declared.array_string.ArrayString.{ArrayString}
 use Rattle.luks_area.specs.Area.{name_key}
+use Rattle.luks_area.specs.Printed.{name_text}
 use Rattle.luks_area.specs.declared.area.AreaName.TheVariants.{Head1, Head2, Slot, Segment}
 use Rattle.luks_json.specs.declared.fault.JsonFault.{JsonFault}
 use Rattle.luks_json.specs.declared.fault.JsonFault.TheVariants as json
@@ -114,3 +116,17 @@ abbrev pub of_json : JsonFault → MetaFault
 of_json json.JsonArea = fault.JsonArea
 of_json json.BadJson = fault.BadJson
 of_json json.Memory = fault.Memory
+
+-- how a fault is written
+abbrev pub fault_text : MetaFault → List ℕ
+fault_text fault.JsonArea = codes "JsonArea"
+fault_text fault.BadJson = codes "BadJson"
+fault_text fault.NotWhole = codes "NotWhole"
+fault_text (fault.Shape path) = codes "Shape(" ++ path.bytes ++ codes ")"
+fault_text (fault.Kind path) = codes "Kind(" ++ path.bytes ++ codes ")"
+fault_text (fault.NoSuchName path) = codes "NoSuchName(" ++ path.bytes ++ codes ")"
+fault_text (fault.Assigned path) = codes "Assigned(" ++ path.bytes ++ codes ")"
+fault_text fault.Sizes = codes "Sizes"
+fault_text (fault.AreaTooSmall n) = codes "AreaTooSmall(" ++ decimal n ++ codes ")"
+fault_text (fault.Region name) = codes "Region(" ++ name_text name ++ codes ")"
+fault_text fault.Memory = codes "Memory"
