@@ -1,7 +1,10 @@
 pub mod First
 pub mod Area
+pub mod Device
 pub mod Names
 pub mod Printed
 pub mod Ranges
+pub mod RangeFacts
 pub mod Scan
+pub mod Sectors
 pub mod Text

@@ -15,6 +15,20 @@ pub struct Area {
     pub len: u64,
 }
 
+impl Area {
+    ghost use Rattle.std.specs.Prelude.{◌↔◌, IsTrue};
+    ghost use Rattle.luks_area.specs.Area.{IsInside};
+
+    /// Whether the area lies inside a volume of `total` bytes. An empty area may lie at the end.
+    ///
+    /// No sum is made, so none wraps.
+    pub fn is_inside(&self, total: u64) -> bool
+        ensures { IsTrue result ↔ IsInside self.now total }
+    {
+        self.len <= total && self.start <= total - self.len
+    }
+}
+
 /// What an area of a volume is for.
 ///
 /// The order of the variants, and of the numbers within one, is the order of the names: the first

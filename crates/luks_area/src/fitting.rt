@@ -72,7 +72,7 @@ fn first_meeting(area: &Area, later: &[Entry]) -> Option<AreaName>
 fn is_outside(area: &Area, total: u64) -> bool
     ensures { result ≡ is_outside total area.now }
 {
-    area.len > total || area.start > total - area.len
+    !area.is_inside(total)
 }
 
 /// No sum is made: each end is compared by a difference.

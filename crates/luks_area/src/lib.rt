@@ -6,6 +6,7 @@ mod areas;
 mod device;
 mod fitting;
 mod memory;
+mod sectors;
 #[cfg(test)]
 mod tests;
 mod text;
@@ -15,4 +16,5 @@ pub use areas::{Areas, Entry, MOST_AREAS};
 pub use device::{Device, DeviceFault};
 pub use fitting::fit;
 pub use memory::MemDevice;
+pub use sectors::{SECTOR, rounded_to_sectors};
 pub use text::text_field;

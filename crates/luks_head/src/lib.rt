@@ -10,8 +10,6 @@ mod laws;
 mod luks1;
 mod reads;
 mod selection;
-#[cfg(test)]
-mod tests;
 mod uuids;
 
 pub use bin2::Bin2;

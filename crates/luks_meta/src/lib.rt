@@ -27,8 +27,6 @@ mod rows;
 mod segments;
 mod sizes;
 mod table;
-#[cfg(test)]
-mod tests;
 mod tokens;
 mod walk;
 mod whole;

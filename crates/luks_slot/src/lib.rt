@@ -14,6 +14,3 @@ pub use fault::SlotFault;
 pub use key::Key;
 pub use opening::open;
 pub use plan::{AreaCipher, Derivation, DigestPlan, SlotPlan};
-
-#[cfg(test)]
-mod tests;

@@ -1,6 +1,6 @@
 //! Opening a keyslot.
 
-ghost use Rattle.std.specs.Prelude.{◌≡◌, ◌+◌, ◌*◌, ◌/◌, ◌^◌, ◌<◌, ◌≤◌, length, MatchResult, OnOk, IfOk, IfErr, if◌then◌else◌};
+ghost use Rattle.std.specs.Prelude.{◌≡◌, ◌+◌, ◌*◌, ◌/◌, ◌^◌, ◌<◌, ◌≤◌, length, MatchResult, OnOk, IfOk, IfErr, IfSome, if◌then◌else◌};
 ghost use Rattle.luks_area.specs.Ranges.{part};
 ghost use Rattle.luks_slot.specs.Answer.{IsAnsweredFault, rise};
 ghost use Rattle.luks_slot.specs.Opening.{slot_key, meets_digest, named, stripe_bytes, sectors_for, HasTurns};
@@ -44,6 +44,7 @@ pub fn open<D: Device>(
     ensures refused { (f : TheFault) → slot_refusal plan.now ≡ Some f → result ≡ Err f }
     ensures fault { IfErr result (IsAnsweredFault plan.now) }
     ensures accepted { OnOk result (slot_refusal plan.now ≡ None) }
+    ensures length { IfOk result (λ found. IfSome found (λ k. length k ≡ plan.now.key_bytes)) }
     ensures value { D.tells → IfOk result (λ found. found ≡ slot_key plan.now
         (part (D.bytes device.old) plan.now.area.start plan.now.area.len) passphrase.now) }
 
