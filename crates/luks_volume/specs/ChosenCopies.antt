@@ -40,10 +40,3 @@ IsFromOutside Device = ⊤
 IsFromOutside Memory = ⊤
 IsFromOutside (Head f) = ⊥
 IsFromOutside (Meta f) = ⊥
-
--- the device's count of failures rises by one where the device failed, else it stays
-abbrev pub Counts : ReadFault → ℕ → ℕ → Type 0
-Counts Device before after = after ≡ before + 1
-Counts (Head f) before after = after ≡ before
-Counts (Meta f) before after = after ≡ before
-Counts Memory before after = after ≡ before

@@ -1,3 +1,7 @@
+ghost use Rattle.std.specs.Prelude.{◌≡◌};
+ghost use Rattle.luks_volume.specs.Conversions.{head_unread, unread_checked};
+
+use crate::read_fault::ReadFault;
 use luks_area::AreaFault;
 use luks_head::HeadFault;
 use luks_meta::MetaFault;
@@ -24,4 +28,33 @@ pub enum CheckFault {
     /// Memory was refused.
     #[error("Memory")]
     Memory,
+}
+
+impl From<ReadFault> for CheckFault {
+    ghost from_gives = { λ fault outer. outer ≡ unread_checked fault };
+
+    fn from(fault: ReadFault) -> CheckFault {
+        match fault {
+            ReadFault::Head(fault) => CheckFault::Head(fault),
+            ReadFault::Meta(fault) => CheckFault::Meta(fault),
+            ReadFault::Device => CheckFault::Device,
+            ReadFault::Memory => CheckFault::Memory,
+        }
+    }
+}
+
+impl From<HeadFault> for CheckFault {
+    ghost from_gives = { λ fault outer. outer ≡ unread_checked (head_unread fault) };
+
+    fn from(fault: HeadFault) -> CheckFault {
+        CheckFault::from(ReadFault::from(fault))
+    }
+}
+
+impl From<AreaFault> for CheckFault {
+    ghost from_gives = { λ fault outer. outer ≡ CheckFault.Area fault };
+
+    fn from(fault: AreaFault) -> CheckFault {
+        CheckFault::Area(fault)
+    }
 }

@@ -1,12 +1,13 @@
 //! The header that counts of a volume, as every call reads it.
-ghost use Rattle.std.specs.Prelude.{◌≡◌, ◌+◌, ◌-◌, ◌^◌, ◌<◌, ℕ, List, length, IfOk, IfErr, MatchResult};
+ghost use Rattle.std.specs.Prelude.{◌≡◌, ◌+◌, ◌-◌, ◌^◌, ◌<◌, ℕ, List, length, IfOk, IfErr};
+ghost use Rattle.luks_area.specs.Device.{CountsFailure, IsUnchanged};
 ghost use Rattle.luks_head.specs.Header2.{IsUuidField};
 ghost use Rattle.luks_head.specs.Judged2.{IsCopyWithin};
 ghost use Rattle.luks_meta.specs.Content.{area_len, content};
 ghost use Rattle.luks_meta.specs.Objects.{IsAccepted};
-ghost use Rattle.luks_volume.specs.declared.read_fault.ReadFault.{ReadFault as TheFault};
-ghost use Rattle.luks_volume.specs.ChosenCopies.{Counts, CopyRefused, IsCleared, IsFromOutside, json_of};
-ghost use Rattle.luks_volume.specs.Header.{IsAcceptedHeader, IsHeader, IsReadFault, IsUnread};
+ghost use Rattle.luks_volume.specs.ChosenCopies.{CopyRefused, IsCleared, IsFromOutside, json_of};
+ghost use Rattle.luks_volume.specs.Failures.{is_read_failure};
+ghost use Rattle.luks_volume.specs.Header.{IsAcceptedHeader, IsHeader, IsUnread};
 
 use crate::read_fault::ReadFault;
 use luks_area::Device;
@@ -43,12 +44,10 @@ pub enum Header {
 /// `Device` comes exactly where a device call failed. Memory is taken for the metadata of LUKS2 alone.
 pub fn read_header<D: Device>(alloc: Global, device: &mut D) -> Result<Header, ReadFault>
     requires { D.failed device.old + 1 < 2 ^ 64 }
-    ensures size { D.size device.new ≡ D.size device.old }
-    ensures same { D.tells → D.bytes device.new ≡ D.bytes device.old }
-    ensures count { MatchResult result (λ _. D.failed device.new ≡ D.failed device.old) (λ f. Counts f (D.failed device.old) (D.failed device.new)) }
+    ensures unchanged { IsUnchanged D.tells D.size D.bytes device.old device.new }
+    ensures count { CountsFailure is_read_failure result (D.failed device.old) (D.failed device.new) }
     ensures accepted { IfOk result IsAcceptedHeader }
     ensures read { D.tells → IfOk result (IsHeader (D.bytes device.old)) }
-    ensures faultless { D.tells → IfOk result (λ _. (f : TheFault) → IsReadFault (D.bytes device.old) f → ⊥) }
     ensures refused { D.tells → IfErr result (IsUnread (D.bytes device.old)) }
 {
     one_choice();
@@ -73,9 +72,8 @@ fn read_metadata<D: Device>(
 ) -> Result<Meta, ReadFault>
     requires room { D.failed device.old + 1 < 2 ^ 64 }
     requires within { IsCopyWithin (D.size device.old) header.now }
-    ensures size { D.size device.new ≡ D.size device.old }
-    ensures same { D.tells → D.bytes device.new ≡ D.bytes device.old }
-    ensures count { MatchResult result (λ _. D.failed device.new ≡ D.failed device.old) (λ f. Counts f (D.failed device.old) (D.failed device.new)) }
+    ensures unchanged { IsUnchanged D.tells D.size D.bytes device.old device.new }
+    ensures count { CountsFailure is_read_failure result (D.failed device.old) (D.failed device.new) }
     ensures uuid { IfOk result (λ _. IsUuidField header.now.uuid) }
     ensures accepted { IfOk result (λ m. IsAccepted (content m)) }
     ensures cleared { D.tells → IfOk result (λ m. IsCleared header.now.uuid (json_of (D.bytes device.old) header.now) (content m)) }
@@ -92,9 +90,8 @@ fn read_metadata<D: Device>(
 fn json_area<D: Device>(alloc: Global, device: &mut D, header: &Bin2) -> Result<Vec<u8>, ReadFault>
     requires room { D.failed device.old + 1 < 2 ^ 64 }
     requires within { IsCopyWithin (D.size device.old) header.now }
-    ensures size { D.size device.new ≡ D.size device.old }
-    ensures same { D.tells → D.bytes device.new ≡ D.bytes device.old }
-    ensures count { MatchResult result (λ _. D.failed device.new ≡ D.failed device.old) (λ f. Counts f (D.failed device.old) (D.failed device.new)) }
+    ensures unchanged { IsUnchanged D.tells D.size D.bytes device.old device.new }
+    ensures count { CountsFailure is_read_failure result (D.failed device.old) (D.failed device.new) }
     ensures kinds { IfErr result IsFromOutside }
     ensures json { D.tells → IfOk result (λ json. json.items ≡ json_of (D.bytes device.old) header.now) }
 {

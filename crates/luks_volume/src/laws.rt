@@ -5,7 +5,7 @@ ghost use Rattle.luks_volume.specs.declared.report.Data.{Data as Payload};
 ghost use Rattle.luks_volume.specs.Checked.{IsFault, WellFormed};
 ghost use Rattle.luks_volume.specs.Lawful.{IsLawful};
 
-use crate::fault::CheckFault;
+use crate::check_fault::CheckFault;
 use luks_head::{luks1_without_faults, luks2_without_faults, one_choice};
 use luks_meta::{metadata_without_faults, one_value};
 
