@@ -1,4 +1,5 @@
-ghost use Rattle.std.specs.Prelude.{◌≡◌, ℕ, ◌+◌, ◌^◌, ◌<◌, ◌≤◌, List, length, MatchResult, OnOk};
+ghost use Rattle.std.specs.Prelude.{◌≡◌, ℕ, ◌+◌, ◌^◌, ◌<◌, ◌≤◌, List, length, OnOk};
+ghost use Rattle.luks_area.specs.Device.{CountsFailure, IsUnchanged, is_failure};
 ghost use Rattle.luks_area.specs.Ranges.{part, written, SameOutside};
 
 use thiserror::Error;
@@ -41,9 +42,8 @@ pub trait Device: Drop {
     fn read_at(&mut self, at: u64, into: &mut [u8]) -> Result<(), DeviceFault>
         requires within { at + length into.old ≤ size self.old }
         requires room { failed self.old + 1 < 2 ^ 64 }
-        ensures count { MatchResult result (λ _. failed self.new ≡ failed self.old) (λ _. failed self.new ≡ failed self.old + 1) }
-        ensures size { size self.new ≡ size self.old }
-        ensures same { tells → bytes self.new ≡ bytes self.old }
+        ensures count { CountsFailure is_failure result (failed self.old) (failed self.new) }
+        ensures unchanged { IsUnchanged tells size bytes self.old self.new }
         ensures read { tells → OnOk result (into.new ≡ part (bytes self.old) at (length into.old)) };
 
     /// Writes `from` from the place `at` on; that range lies inside the device.
@@ -53,7 +53,7 @@ pub trait Device: Drop {
     fn write_at(&mut self, at: u64, from: &[u8]) -> Result<(), DeviceFault>
         requires within { at + length from.now ≤ size self.old }
         requires room { failed self.old + 1 < 2 ^ 64 }
-        ensures count { MatchResult result (λ _. failed self.new ≡ failed self.old) (λ _. failed self.new ≡ failed self.old + 1) }
+        ensures count { CountsFailure is_failure result (failed self.old) (failed self.new) }
         ensures size { size self.new ≡ size self.old }
         ensures wrote { tells → OnOk result (bytes self.new ≡ written (bytes self.old) at from.now) }
         ensures outside { tells → SameOutside (bytes self.old) (bytes self.new) at (length from.now) };
@@ -61,9 +61,12 @@ pub trait Device: Drop {
     /// Asks that all that was written stays. A flush changes no byte, nor does one that fails.
     fn flush(&mut self) -> Result<(), DeviceFault>
         requires { failed self.old + 1 < 2 ^ 64 }
-        ensures count { MatchResult result (λ _. failed self.new ≡ failed self.old) (λ _. failed self.new ≡ failed self.old + 1) }
-        ensures size { size self.new ≡ size self.old }
-        ensures same { tells → bytes self.new ≡ bytes self.old };
+        ensures count { CountsFailure is_failure result (failed self.old) (failed self.new) }
+        ensures unchanged { IsUnchanged tells size bytes self.old self.new };
 
+    /// A device that tells its bytes has as many as its length.
     ghost sized: { (d : Self) → tells → length (bytes d) ≡ size d };
+
+    /// A length fits a `u64`.
+    ghost bounded: { (d : Self) → size d < 2 ^ 64 };
 }

@@ -4,6 +4,7 @@
 mod area;
 mod areas;
 mod device;
+mod file;
 mod fitting;
 mod memory;
 mod sectors;
@@ -14,6 +15,7 @@ mod text;
 pub use area::{Area, AreaFault, AreaName};
 pub use areas::{Areas, Entry, MOST_AREAS};
 pub use device::{Device, DeviceFault};
+pub use file::FileDevice;
 pub use fitting::fit;
 pub use memory::MemDevice;
 pub use sectors::{SECTOR, rounded_to_sectors};

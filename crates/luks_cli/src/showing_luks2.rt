@@ -1,6 +1,6 @@
 //! The lines of a LUKS2 header.
 ghost use Rattle.std.specs.Prelude.{◌+◌, ◌<◌, ◌^◌};
-ghost use Rattle.luks_head.specs.Judged2.{IsCopyWithin};
+ghost use Rattle.luks_head.specs.Header2.{IsCopyWithin};
 
 use crate::answers::{Status, device_fault, no_memory, refused};
 use crate::copies::copies_name;

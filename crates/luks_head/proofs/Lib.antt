@@ -1,8 +1,8 @@
-pub mod Choosing
-pub mod Deciding
-pub mod Judged
-pub mod Seconds
-pub mod Stated
-pub mod Unique
-pub mod UuidTexts
-pub mod Windows
+pub mod ChoiceFacts
+pub mod ChosenCopyFacts
+pub mod CopyFacts
+pub mod DecidableFacts
+pub mod Luks1FaultFacts
+pub mod Luks1HeaderFacts
+pub mod SecondCopyFacts
+pub mod UuidTextFacts

@@ -3,8 +3,8 @@ use Rattle.std.specs.Prelude.{◌≡◌, ◌≢◌, ℕ, ◌+◌, ◌≤◌, ◌
 use Rattle.sha2.specs.Sha256.{sha256}
 use Rattle.luks_area.specs.Ranges.{part}
 use Rattle.luks_area.specs.Text.{text_of, is_plain}
-use Rattle.luks_head.specs.Bytes.{number_at, text_at, IsUuid}
-use Rattle.luks_head.specs.Header1.{luks_magic}
+use Rattle.luks_head.specs.Bytes.{number_at, IsUuid}
+use Rattle.luks_head.specs.Header1.{luks_magic, version_of}
 use Rattle.luks_head.specs.Sizes.{IsListed}
 use Rattle.luks_head.specs.declared.bin2.Bin2.{Bin2}
 use Rattle.luks_head.specs.declared.fault.HeadFault.{HeadFault}
@@ -19,9 +19,13 @@ second_magic = 0x53 ∷ 0x4B ∷ 0x55 ∷ 0x4C ∷ 0xBA ∷ 0xBE ∷ []
 abbrev pub magic_of : ℕ → List ℕ
 magic_of o = if o == 0 then luks_magic else second_magic
 
+-- the bytes of a binary header
+abbrev pub binary_header_size : ℕ
+binary_header_size = 4096
+
 -- the binary header of the copy at the place o of the volume v: its first 4096 bytes
 abbrev pub header_at : List ℕ → ℕ → List ℕ
-header_at v o = part v o 4096
+header_at v o = part v o binary_header_size
 
 -- fields of a binary header's 4096 bytes
 abbrev pub hdr_size : List ℕ → ℕ
@@ -30,39 +34,52 @@ hdr_size b = number_at b 8 8
 abbrev pub seqid : List ℕ → ℕ
 seqid b = number_at b 16 8
 
+abbrev pub csum_alg_field : List ℕ → List ℕ
+csum_alg_field b = part b 72 32
+
 abbrev pub uuid_field : List ℕ → List ℕ
 uuid_field b = part b 168 40
 
 abbrev pub hdr_offset : List ℕ → ℕ
 hdr_offset b = number_at b 256 8
 
+-- where the checksum stands, and in how many bytes; a SHA-256 takes the first 32 of them
+abbrev pub csum_at : ℕ
+csum_at = 448
+
+abbrev pub csum_size : ℕ
+csum_size = 64
+
+abbrev pub sha256_size : ℕ
+sha256_size = 32
+
 -- the 4096 bytes `b` of a binary header say `h`
 pub record HoldsBin2 (b : List ℕ) (h : Bin2) : Type 0 where
   pub magic : part b 0 6 ≡ h.magic
-  pub version : number_at b 6 2 ≡ h.version
-  pub hdr_size : number_at b 8 8 ≡ h.hdr_size
-  pub seqid : number_at b 16 8 ≡ h.seqid
+  pub version : version_of b ≡ h.version
+  pub hdr_size : hdr_size b ≡ h.hdr_size
+  pub seqid : seqid b ≡ h.seqid
   pub label : part b 24 48 ≡ h.label
-  pub csum_alg : part b 72 32 ≡ h.csum_alg
+  pub csum_alg : csum_alg_field b ≡ h.csum_alg
   pub salt : part b 104 64 ≡ h.salt
-  pub uuid : part b 168 40 ≡ h.uuid
+  pub uuid : uuid_field b ≡ h.uuid
   pub subsystem : part b 208 48 ≡ h.subsystem
-  pub hdr_offset : number_at b 256 8 ≡ h.hdr_offset
-  pub csum : part b 448 64 ≡ h.csum
+  pub hdr_offset : hdr_offset b ≡ h.hdr_offset
+  pub csum : part b csum_at csum_size ≡ h.csum
 
 -- the binary header `b`, read at the place o of a volume of `total` bytes, is of the right form there
 pub record IsFormed (b : List ℕ) (o total : ℕ) : Type 0 where
   pub magic : part b 0 6 ≡ magic_of o
-  pub version : number_at b 6 2 ≡ 2
+  pub version : version_of b ≡ 2
   pub listed : IsListed (hdr_size b)
   pub second : o ≢ 0 → hdr_size b ≡ o
   pub offset : hdr_offset b ≡ o
   pub inside : o + hdr_size b ≤ total
-  pub algorithm : text_at b 72 32 ≡ codes "sha256"
+  pub algorithm : text_of (csum_alg_field b) ≡ codes "sha256"
 
 -- the bytes of a copy with the 64 bytes of its checksum taken as zeros
-abbrev pub unsummed : List ℕ → List ℕ
-unsummed copy = take 448 copy ++ replicate 64 0 ++ drop 512 copy
+abbrev pub with_zero_checksum : List ℕ → List ℕ
+with_zero_checksum copy = take csum_at copy ++ replicate csum_size 0 ++ drop (csum_at + csum_size) copy
 
 -- the whole copy at the place o: the binary header and the JSON area
 abbrev pub copy_at : List ℕ → ℕ → List ℕ
@@ -72,7 +89,12 @@ copy_at v o = part v o (hdr_size (header_at v o))
 -- SHA-256 of all its bytes, those of the checksum itself taken as zeros
 pub record IsSound (v : List ℕ) (o : ℕ) : Type 0 where
   pub form : IsFormed (header_at v o) o (length v)
-  pub checksum : part (header_at v o) 448 32 ≡ sha256 (unsummed (copy_at v o))
+  pub checksum : part (header_at v o) csum_at sha256_size ≡ sha256 (with_zero_checksum (copy_at v o))
+
+-- the copy of the binary header `h` has a listed size and lies inside a device of `total` bytes
+pub record IsCopyWithin (total : ℕ) (h : Bin2) : Type 0 where
+  pub listed : IsListed h.hdr_size
+  pub inside : h.hdr_offset + h.hdr_size ≤ total
 
 -- the uuid field holds the text of a uuid
 pub record IsUuidField (field_ : List ℕ) : Type 0 where
@@ -81,18 +103,6 @@ pub record IsUuidField (field_ : List ℕ) : Type 0 where
 
 -- the faults of the uuid field of a binary header
 abbrev pub IsUuidFault : List ℕ → HeadFault → Type 0
-IsUuidFault field_ fault.TooShort = ⊥
-IsUuidFault field_ fault.NotLuks = ⊥
-IsUuidFault field_ fault.Version = ⊥
-IsUuidFault field_ fault.NoSoundCopy = ⊥
-IsUuidFault field_ (fault.Text field.CipherName) = ⊥
-IsUuidFault field_ (fault.Text field.CipherMode) = ⊥
-IsUuidFault field_ (fault.Text field.HashSpec) = ⊥
 IsUuidFault field_ (fault.Text field.Uuid) = is_plain (text_of field_) ≡ true → ⊥
 IsUuidFault field_ fault.Uuid = IsUuid (text_of field_) → ⊥
-IsUuidFault field_ (fault.SlotState n) = ⊥
-IsUuidFault field_ fault.KeyBytes = ⊥
-IsUuidFault field_ (fault.Stripes n) = ⊥
-IsUuidFault field_ (fault.Iterations o) = ⊥
-IsUuidFault field_ fault.Device = ⊥
-IsUuidFault field_ fault.Memory = ⊥
+IsUuidFault field_ _ = ⊥

@@ -3,7 +3,7 @@ pub mod Sizes
 pub mod Header1
 pub mod Faults
 pub mod Header2
-pub mod Judged2
+pub mod SoundCopies
 pub mod Selection
-pub mod Finds
-pub mod Shown
+pub mod ChosenCopy
+pub mod FaultTexts

@@ -1,11 +1,10 @@
--- Which header of a volume counts (LUKS2 On-Disk Format 1.1, 2.1 and 4.5; the rule for a tie is the project's own).
-use Rattle.std.specs.Prelude.{◌≡◌, ◌≢◌, ℕ, ◌+◌, ◌≤◌, ◌<◌, List, length}
+-- Which header of a volume is chosen (LUKS2 On-Disk Format 1.1, 2.1 and 4.5; the rule for a tie is the project's own).
+use Rattle.std.specs.Prelude.{◌≡◌, ◌≢◌, ℕ, ◌≤◌, ◌<◌, List, length}
 use Rattle.luks_area.specs.First.{IsLeast}
 use Rattle.luks_area.specs.Ranges.{part}
-use Rattle.luks_head.specs.Faults.{head_key, IsLuks1Fault}
-use Rattle.luks_head.specs.Header1.{HasMagic, version_of}
-use Rattle.luks_head.specs.Header2.{header_at, hdr_size, seqid, uuid_field, HoldsBin2, IsSound, IsUuidFault}
-use Rattle.luks_head.specs.Judged2.{IsCopyWithin}
+use Rattle.luks_head.specs.Faults.{head_key}
+use Rattle.luks_head.specs.Header1.{luks1_size, HasMagic, version_of}
+use Rattle.luks_head.specs.Header2.{header_at, hdr_size, seqid, HoldsBin2, IsCopyWithin, IsSound}
 use Rattle.luks_head.specs.Sizes.{IsListed}
 use Rattle.luks_head.specs.declared.fault.HeadFault.{HeadFault}
 use Rattle.luks_head.specs.declared.fault.HeadFault.TheVariants as fault
@@ -17,6 +16,13 @@ use Rattle.luks_head.specs.declared.selection.Selected.TheVariants.{V1, V2}
 -- where the second copy stands that belongs to the first
 abbrev pub second_place : List ℕ → ℕ
 second_place v = hdr_size (header_at v 0)
+
+-- the sequence numbers of the two
+abbrev pub first_seqid : List ℕ → ℕ
+first_seqid v = seqid (header_at v 0)
+
+abbrev pub second_seqid : List ℕ → ℕ
+second_seqid v = seqid (header_at v (second_place v))
 
 -- both copies are sound, the second at the first's hdr_size
 pub record AreBothSound (v : List ℕ) : Type 0 where
@@ -35,67 +41,55 @@ pub record IsSecondAlone (v : List ℕ) (o : ℕ) : Type 0 where
   pub sound : IsSound v o
   pub least : (p : ℕ) → IsListed p → IsSound v p → o ≤ p
 
--- of the copies, the one at the place o counts
-abbrev pub CountsCopy : List ℕ → ℕ → Copies → Type 0
-CountsCopy v o InStep = AreBothSound v × (seqid (header_at v 0) ≡ seqid (header_at v (second_place v))) × (o ≡ 0)
-CountsCopy v o FirstNewer = AreBothSound v × (seqid (header_at v (second_place v)) < seqid (header_at v 0)) × (o ≡ 0)
-CountsCopy v o SecondNewer = AreBothSound v × (seqid (header_at v 0) < seqid (header_at v (second_place v))) × (o ≡ second_place v)
-CountsCopy v o FirstOnly = IsFirstAlone v × (o ≡ 0)
-CountsCopy v o SecondOnly = IsSecondAlone v o
+-- the chosen copy is the one at the place o, and the copies stand to each other so
+abbrev pub IsChosenCopy : List ℕ → ℕ → Copies → Type 0
+IsChosenCopy v o InStep = AreBothSound v × (first_seqid v ≡ second_seqid v) × (o ≡ 0)
+IsChosenCopy v o FirstNewer = AreBothSound v × (second_seqid v < first_seqid v) × (o ≡ 0)
+IsChosenCopy v o SecondNewer = AreBothSound v × (first_seqid v < second_seqid v) × (o ≡ second_place v)
+IsChosenCopy v o FirstOnly = IsFirstAlone v × (o ≡ 0)
+IsChosenCopy v o SecondOnly = IsSecondAlone v o
 
 -- no copy is sound
-pub record HasNoCopy (v : List ℕ) : Type 0 where
+pub record HasNoSoundCopy (v : List ℕ) : Type 0 where
   pub no_first : IsSound v 0 → ⊥
   pub no_second : (p : ℕ) → IsListed p → IsSound v p → ⊥
 
 -- the volume has a LUKS1 header, by its magic and version
 pub record IsVersion1 (v : List ℕ) : Type 0 where
-  pub long : 592 ≤ length v
+  pub long : luks1_size ≤ length v
   pub magic : HasMagic v
   pub version : version_of v ≡ 1
 
 -- the volume has no LUKS1 header, but room for one
 pub record IsNotVersion1 (v : List ℕ) : Type 0 where
-  pub long : 592 ≤ length v
+  pub long : luks1_size ≤ length v
   pub other : HasMagic v → version_of v ≢ 1
 
--- what counts: the LUKS1 header, the copy at a place, or nothing
+-- what is chosen: the LUKS1 header, the copy at a place, or nothing
 pub data Choice : Type 0 where
   luks1 : Choice
   luks2 : ℕ → Copies → Choice
   nothing : Choice
 
--- what counts of the volume v
+-- what is chosen of the volume v
 abbrev pub Chosen : List ℕ → Choice → Type 0
 Chosen v luks1 = IsVersion1 v
-Chosen v (luks2 o copies) = IsNotVersion1 v × CountsCopy v o copies
-Chosen v nothing = (IsVersion1 v → ⊥) × (592 ≤ length v → HasNoCopy v)
+Chosen v (luks2 o copies) = IsNotVersion1 v × IsChosenCopy v o copies
+Chosen v nothing = (IsVersion1 v → ⊥) × (luks1_size ≤ length v → HasNoSoundCopy v)
 
--- the faults of a volume of which nothing counts
+-- the faults of a volume of which nothing is chosen
 abbrev pub IsSelectFault : List ℕ → HeadFault → Type 0
-IsSelectFault v fault.TooShort = length v < 592
+IsSelectFault v fault.TooShort = length v < luks1_size
 IsSelectFault v fault.NotLuks = Chosen v nothing × (HasMagic v → ⊥)
 IsSelectFault v fault.Version = Chosen v nothing × (version_of v ≢ 2)
 IsSelectFault v fault.NoSoundCopy = Chosen v nothing
-IsSelectFault v (fault.Text t) = ⊥
-IsSelectFault v fault.Uuid = ⊥
-IsSelectFault v (fault.SlotState n) = ⊥
-IsSelectFault v fault.KeyBytes = ⊥
-IsSelectFault v (fault.Stripes n) = ⊥
-IsSelectFault v (fault.Iterations o) = ⊥
-IsSelectFault v fault.Device = ⊥
-IsSelectFault v fault.Memory = ⊥
+IsSelectFault v _ = ⊥
 
--- the faults of a volume's header, by what counts of it
-abbrev pub IsHeadFault : List ℕ → Choice → HeadFault → Type 0
-IsHeadFault v luks1 f = IsLuks1Fault v f
-IsHeadFault v (luks2 o copies) f = IsUuidFault (uuid_field (header_at v o)) f
-IsHeadFault v nothing f = IsSelectFault v f
-
--- what was selected is what counts of the volume v
+-- what was selected is what is chosen of the volume v
 abbrev pub IsSelected : List ℕ → Selected → Type 0
-IsSelected v (V1 bytes) = Chosen v luks1 × (bytes ≡ part v 0 592)
-IsSelected v (V2 header copies) = Chosen v (luks2 header.hdr_offset copies) × HoldsBin2 (header_at v header.hdr_offset) header
+IsSelected v (V1 bytes) = Chosen v luks1 × (bytes ≡ part v 0 luks1_size)
+IsSelected v (V2 header copies) =
+    Chosen v (luks2 header.hdr_offset copies) × HoldsBin2 (header_at v header.hdr_offset) header
 
 -- a LUKS2 copy that was selected lies inside a device of `total` bytes
 abbrev pub IsSelectedWithin : ℕ → Selected → Type 0
@@ -115,8 +109,3 @@ IsOfSelection fault.Version = Unit {0}
 IsOfSelection fault.NoSoundCopy = Unit {0}
 IsOfSelection fault.Device = Unit {0}
 IsOfSelection f = ⊥
-
--- how a device's count of failures moves: by one where the fault is the device's, else not at all
-abbrev pub Counts : HeadFault → ℕ → ℕ → Type 0
-Counts fault.Device before after = after ≡ before + 1
-Counts f before after = after ≡ before

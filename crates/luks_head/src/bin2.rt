@@ -4,9 +4,10 @@ ghost use Rattle.luks_area.specs.First.{IsLeast};
 ghost use Rattle.luks_area.specs.Text.{text_of};
 ghost use Rattle.luks_head.specs.Faults.{head_key};
 
+use crate::bin2_places as place;
 use crate::fault::{HeadFault, TextField};
-use crate::reads::{array_at, u16_at, u64_at};
-use crate::uuids::is_uuid;
+use crate::fields::{array_at, u16_at, u64_at};
+use crate::uuid_text::is_uuid;
 use luks_area::text_field;
 
 /// The binary header of a copy of a LUKS2 header, field by field as it stands there
@@ -38,25 +39,25 @@ pub struct Bin2 {
 }
 
 impl Bin2 {
-    ghost use Rattle.luks_head.specs.Header2.{HoldsBin2, IsUuidFault, IsUuidField};
+    ghost use Rattle.luks_head.specs.Header2.{binary_header_size, HoldsBin2, IsUuidFault, IsUuidField};
 
     /// Reads a binary header. Any bytes will do; padding isn't looked at.
     pub fn read(bytes: &[u8]) -> Bin2
-        requires { length bytes.now ≡ 4096 }
+        requires { length bytes.now ≡ binary_header_size }
         ensures { HoldsBin2 bytes.now result }
     {
         Bin2 {
             magic: array_at(bytes, 0),
-            version: u16_at(bytes, 6),
-            hdr_size: u64_at(bytes, 8),
-            seqid: u64_at(bytes, 16),
-            label: array_at(bytes, 24),
-            csum_alg: array_at(bytes, 72),
-            salt: array_at(bytes, 104),
-            uuid: array_at(bytes, 168),
-            subsystem: array_at(bytes, 208),
-            hdr_offset: u64_at(bytes, 256),
-            csum: array_at(bytes, 448),
+            version: u16_at(bytes, place::VERSION),
+            hdr_size: u64_at(bytes, place::HDR_SIZE),
+            seqid: u64_at(bytes, place::SEQID),
+            label: array_at(bytes, place::LABEL),
+            csum_alg: array_at(bytes, place::CSUM_ALG),
+            salt: array_at(bytes, place::SALT),
+            uuid: array_at(bytes, place::UUID),
+            subsystem: array_at(bytes, place::SUBSYSTEM),
+            hdr_offset: u64_at(bytes, place::HDR_OFFSET),
+            csum: array_at(bytes, place::CSUM),
         }
     }
 

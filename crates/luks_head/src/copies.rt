@@ -2,20 +2,25 @@
 ghost use Rattle.std.specs.Prelude.{◌≡◌, ◌↔◌, ◌+◌, ◌*◌, ◌^◌, ◌<◌, ◌≤◌, codes, length, IsTrue, IfOk, MatchResult};
 ghost use Rattle.sha2.specs.Hashers.{Holds256};
 ghost use Rattle.sha2.specs.Sha256.{sha256};
+ghost use Rattle.luks_area.specs.Device.{is_failure, CountsFailure, IsUnchanged};
 ghost use Rattle.luks_area.specs.Ranges.{part};
-ghost use Rattle.luks_head.specs.Bytes.{text_at};
-ghost use Rattle.luks_head.specs.Header2.{header_at, magic_of, unsummed, IsFormed};
-ghost use Rattle.luks_head.specs.Judged2.{JudgesCopy, FindsSecond, FindsWithin};
+ghost use Rattle.luks_area.specs.Text.{text_of};
+ghost use Rattle.luks_head.specs.Header2.{binary_header_size, csum_at, csum_size, csum_alg_field, header_at, magic_of, sha256_size, with_zero_checksum, IsFormed};
+ghost use Rattle.luks_head.specs.SoundCopies.{FindsSoundCopy, FindsSecondCopy, IsFoundWithin};
 ghost use Rattle.luks_head.specs.Sizes.{is_listed, IsListed};
 
 use crate::bin2::Bin2;
-use crate::judge::MAGIC;
-use crate::reads::{field, u16_at, u64_at};
+use crate::bin2_places as place;
+use crate::fields::{field, u16_at, u64_at};
+use crate::luks1_places::MAGIC;
 use luks_area::{Device, DeviceFault, text_field};
 use sha2::{Digest, Sha256};
 
 /// The magic of the second copy: `SKUL`, 0xBA, 0xBE.
 const SECOND_MAGIC: [u8; 6] = [0x53, 0x4B, 0x55, 0x4C, 0xBA, 0xBE];
+
+/// The bytes of a binary header, by which a copy is read.
+const WINDOW: u64 = place::SIZE as u64;
 
 /// The sizes that a header may have, which are also the places of its second copy.
 const LISTED_SIZES: [u64; 9] = [
@@ -37,10 +42,10 @@ fn has_magic(head: &[u8], at: u64) -> bool
 }
 
 fn has_sha256(head: &[u8]) -> bool
-    requires { 104 ≤ length head.now }
-    ensures { IsTrue result ↔ (text_at head.now 72 32 ≡ codes "sha256") }
+    requires { binary_header_size ≤ length head.now }
+    ensures { IsTrue result ↔ (text_of (csum_alg_field head.now) ≡ codes "sha256") }
 {
-    match text_field(field(head, 72, 32)) {
+    match text_field(field(head, place::CSUM_ALG, place::CSUM_ALG_SIZE)) {
         Some(text) => text == "sha256",
         None => false,
     }
@@ -48,15 +53,15 @@ fn has_sha256(head: &[u8]) -> bool
 
 /// Whether the binary header, read at `at` on a device of `total` bytes, is of the right form there.
 fn is_formed(head: &[u8], at: u64, total: u64) -> bool
-    requires { length head.now ≡ 4096 }
+    requires { length head.now ≡ binary_header_size }
     ensures { IsTrue result ↔ IsFormed head.now at total }
 {
-    let size = u64_at(head, 8);
+    let size = u64_at(head, place::HDR_SIZE);
     has_magic(head, at)
-        && u16_at(head, 6) == 2
+        && u16_at(head, place::VERSION) == 2
         && is_listed(size)
         && (at == 0 || size == at)
-        && u64_at(head, 256) == at
+        && u64_at(head, place::HDR_OFFSET) == at
         && size <= total
         && at <= total - size
         && has_sha256(head)
@@ -64,13 +69,13 @@ fn is_formed(head: &[u8], at: u64, total: u64) -> bool
 
 /// A hasher that was fed the binary header with the 64 bytes of its checksum as zeros.
 fn digest_of_header(head: &[u8]) -> Sha256
-    requires { 512 ≤ length head.now }
-    ensures { Holds256 result (unsummed head.now) }
+    requires { csum_at + csum_size ≤ length head.now }
+    ensures { Holds256 result (with_zero_checksum head.now) }
 {
     let mut hasher = Sha256::new();
-    hasher.update(field(head, 0, 448));
-    hasher.update([0; 64].as_slice());
-    hasher.update(&head[512..]);
+    hasher.update(field(head, 0, place::CSUM));
+    hasher.update([0; place::CSUM_SIZE].as_slice());
+    hasher.update(&head[place::CSUM_END..]);
     hasher
 }
 
@@ -83,45 +88,44 @@ fn digest_of_copy<D: Device>(
     head: &[u8],
 ) -> Result<[u8; 32], DeviceFault>
     requires listed { IsListed size }
-    requires header { 4096 ≤ length head.now }
+    requires header { binary_header_size ≤ length head.now }
     requires within { at + size ≤ D.size device.old }
     requires fits { at + size < 2 ^ 64 }
     requires room { D.failed device.old + 1 < 2 ^ 64 }
-    ensures size { D.size device.new ≡ D.size device.old }
-    ensures same { D.tells → D.bytes device.new ≡ D.bytes device.old }
-    ensures count { MatchResult result (λ _. D.failed device.new ≡ D.failed device.old) (λ _. D.failed device.new ≡ D.failed device.old + 1) }
-    ensures digest { D.tells → head.now ≡ header_at (D.bytes device.old) at → IfOk result (λ d. d ≡ sha256 (unsummed (part (D.bytes device.old) at size))) }
+    ensures unchanged { IsUnchanged D.tells D.size D.bytes device.old device.new }
+    ensures count { CountsFailure is_failure result (D.failed device.old) (D.failed device.new) }
+    ensures digest { D.tells → head.now ≡ header_at (D.bytes device.old) at
+        → IfOk result (λ d. d ≡ sha256 (with_zero_checksum (part (D.bytes device.old) at size))) }
 {
     let mut hasher = digest_of_header(head);
-    let mut window = [0; 4096];
-    for k in 1..size / 4096 {
-        device.read_at(at + 4096 * k, &mut window)?;
+    let mut window = [0; place::SIZE];
+    for k in 1..size / WINDOW {
+        device.read_at(at + WINDOW * k, &mut window)?;
         hasher.update(window.as_slice());
     }
     Ok(hasher.finalize())
 }
 
 fn has_sum(head: &[u8], digest: &[u8]) -> bool
-    requires { length head.now ≡ 4096 }
-    ensures { IsTrue result ↔ (part head.now 448 32 ≡ digest.now) }
+    requires { length head.now ≡ binary_header_size }
+    ensures { IsTrue result ↔ (part head.now csum_at sha256_size ≡ digest.now) }
 {
-    field(head, 448, 32) == digest
+    field(head, place::CSUM, place::SHA256_SIZE) == digest
 }
 
 /// The binary header of the copy at `at`, where that copy is sound.
 pub(crate) fn sound_copy<D: Device>(device: &mut D, at: u64) -> Result<Option<Bin2>, DeviceFault>
     requires room { D.failed device.old + 1 < 2 ^ 64 }
-    ensures size { D.size device.new ≡ D.size device.old }
-    ensures same { D.tells → D.bytes device.new ≡ D.bytes device.old }
-    ensures count { MatchResult result (λ _. D.failed device.new ≡ D.failed device.old) (λ _. D.failed device.new ≡ D.failed device.old + 1) }
-    ensures within { IfOk result (FindsWithin (D.size device.old)) }
-    ensures judged { D.tells → IfOk result (JudgesCopy (D.bytes device.old) at) }
+    ensures unchanged { IsUnchanged D.tells D.size D.bytes device.old device.new }
+    ensures count { CountsFailure is_failure result (D.failed device.old) (D.failed device.new) }
+    ensures within { IfOk result (IsFoundWithin (D.size device.old)) }
+    ensures judged { D.tells → IfOk result (FindsSoundCopy (D.bytes device.old) at) }
 {
     let total = device.len();
-    if total < 4096 || at > total - 4096 {
+    if total < WINDOW || at > total - WINDOW {
         return Ok(None);
     }
-    let mut head = [0; 4096];
+    let mut head = [0; place::SIZE];
     device.read_at(at, &mut head)?;
     if !is_formed(&head, at, total) {
         return Ok(None);
@@ -138,11 +142,10 @@ pub(crate) fn sound_copy<D: Device>(device: &mut D, at: u64) -> Result<Option<Bi
 /// The binary header of the sound copy at the least listed place.
 pub(crate) fn least_second<D: Device>(device: &mut D) -> Result<Option<Bin2>, DeviceFault>
     requires room { D.failed device.old + 1 < 2 ^ 64 }
-    ensures size { D.size device.new ≡ D.size device.old }
-    ensures same { D.tells → D.bytes device.new ≡ D.bytes device.old }
-    ensures count { MatchResult result (λ _. D.failed device.new ≡ D.failed device.old) (λ _. D.failed device.new ≡ D.failed device.old + 1) }
-    ensures within { IfOk result (FindsWithin (D.size device.old)) }
-    ensures found { D.tells → IfOk result (FindsSecond (D.bytes device.old)) }
+    ensures unchanged { IsUnchanged D.tells D.size D.bytes device.old device.new }
+    ensures count { CountsFailure is_failure result (D.failed device.old) (D.failed device.new) }
+    ensures within { IfOk result (IsFoundWithin (D.size device.old)) }
+    ensures found { D.tells → IfOk result (FindsSecondCopy (D.bytes device.old)) }
 {
     let mut left = LISTED_SIZES.as_slice();
     while let [at, later @ ..] = left {

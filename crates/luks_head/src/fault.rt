@@ -1,5 +1,6 @@
 //! Why a header is refused.
 
+use luks_area::DeviceFault;
 use std::error::Error;
 use std::fmt;
 
@@ -59,7 +60,7 @@ pub enum HeadFault {
 
 impl fmt::Display for TextField {
     ghost use Rattle.std.specs.Prelude.{Some};
-    ghost use Rattle.luks_head.specs.Shown.{field_text};
+    ghost use Rattle.luks_head.specs.FaultTexts.{field_text};
 
     ghost output = { λ t. Some (field_text t) };
 
@@ -75,7 +76,7 @@ impl fmt::Display for TextField {
 
 impl fmt::Display for IterationsOf {
     ghost use Rattle.std.specs.Prelude.{Some};
-    ghost use Rattle.luks_head.specs.Shown.{of_text};
+    ghost use Rattle.luks_head.specs.FaultTexts.{of_text};
 
     ghost output = { λ o. Some (of_text o) };
 
@@ -89,7 +90,7 @@ impl fmt::Display for IterationsOf {
 
 impl fmt::Display for HeadFault {
     ghost use Rattle.std.specs.Prelude.{Some};
-    ghost use Rattle.luks_head.specs.Shown.{fault_text};
+    ghost use Rattle.luks_head.specs.FaultTexts.{fault_text};
 
     ghost output = { λ f. Some (fault_text f) };
 
@@ -112,3 +113,14 @@ impl fmt::Display for HeadFault {
 }
 
 impl Error for HeadFault {}
+
+impl From<DeviceFault> for HeadFault {
+    ghost use Rattle.std.specs.Prelude.{◌≡◌};
+    ghost use Rattle.luks_head.specs.declared.fault.HeadFault.TheVariants as variant;
+
+    ghost from_gives = { λ _ outer. outer ≡ variant.Device };
+
+    fn from(_fault: DeviceFault) -> HeadFault {
+        HeadFault::Device
+    }
+}

@@ -1,16 +1,18 @@
 #![tactic(auto)]
 //! Headers of LUKS volumes: the LUKS1 header, the two copies of the binary LUKS2 header, and which
-//! of them counts.
+//! of them is chosen.
 
 mod bin2;
+mod bin2_places;
 mod copies;
 mod fault;
-mod judge;
+mod fields;
 mod laws;
 mod luks1;
-mod reads;
+mod luks1_faults;
+mod luks1_places;
 mod selection;
-mod uuids;
+mod uuid_text;
 
 pub use bin2::Bin2;
 pub use fault::{HeadFault, IterationsOf, TextField};

@@ -3,13 +3,14 @@ ghost use Rattle.std.specs.Prelude.{◌≡◌, ◌≤◌, ◌<◌, ◌+◌, ℕ,
 ghost use Rattle.luks_area.specs.First.{IsLeast};
 ghost use Rattle.luks_area.specs.Ranges.{part};
 ghost use Rattle.luks_head.specs.Bytes.{text_at, HoldsText};
-ghost use Rattle.luks_head.specs.Faults.{head_key, HasNoState, IsCommonFault, IsEntryFault, IsLuks1Fault};
+ghost use Rattle.luks_head.specs.Faults.{head_key, HasUnknownState, IsCommonFault, IsEntryFault, IsLuks1Fault};
 ghost use Rattle.luks_head.specs.declared.fault.HeadFault.{HeadFault as Fault};
-ghost use Rattle.luks_head.specs.Header1.{entry, HoldsCommon, HoldsEntry, HoldsTexts, IsCommon, IsEntry, IsLuks1};
+ghost use Rattle.luks_head.specs.Header1.{common_size, entry, entry_size, luks1_size, HoldsCommon, HoldsEntry, HoldsTexts, IsCommon, IsEntry, IsLuks1};
 
 use crate::fault::HeadFault;
-use crate::judge::{self, ENABLED, entry_of};
-use crate::reads::{array_at, field, u32_at};
+use crate::fields::{array_at, field, u32_at};
+use crate::luks1_faults::{self, entry_of};
+use crate::luks1_places::{self as place, ENABLED};
 use arrayvec::ArrayString;
 use luks_area::text_field;
 
@@ -76,19 +77,17 @@ impl Luks1 {
     /// Refused by the first of `NotLuks`, `Version`, `Text`, `Uuid`, `SlotState`, `KeyBytes`,
     /// `Stripes` and `Iterations` that stands.
     pub fn read(bytes: &[u8]) -> Result<Luks1, HeadFault>
-        requires { length bytes.now ≡ 592 }
+        requires { length bytes.now ≡ luks1_size }
         ensures found { IfOk result (IsLuks1 bytes.now) }
         ensures only { (d : Luks1) → IsLuks1 bytes.now d → IsOk result }
         ensures fault { IfErr result (IsLeast head_key (IsLuks1Fault bytes.now)) }
         ensures faultless { OnOk result ((f : Fault) → IsLuks1Fault bytes.now f → ⊥) }
     {
-        match judge::all(bytes) {
-            Ok(()) => Ok(Luks1 {
-                common: common_fields(bytes),
-                slots: slots_of(bytes),
-            }),
-            Err(fault) => Err(fault),
-        }
+        luks1_faults::all(bytes)?;
+        Ok(Luks1 {
+            common: common_fields(bytes),
+            slots: slots_of(bytes),
+        })
     }
 
     /// Reads the fields before the keyslots from the volume's first 208 bytes.
@@ -96,33 +95,29 @@ impl Luks1 {
     /// Refused by the first of `NotLuks`, `Version`, `Text`, `Uuid`, `KeyBytes` and
     /// `Iterations(Digest)` that stands. What the keyslots hold plays no part.
     pub fn common(bytes: &[u8]) -> Result<Luks1Common, HeadFault>
-        requires { length bytes.now ≡ 208 }
+        requires { length bytes.now ≡ common_size }
         ensures found { IfOk result (IsCommon bytes.now) }
         ensures only { (c : Luks1Common) → IsCommon bytes.now c → IsOk result }
         ensures fault { IfErr result (IsLeast head_key (IsCommonFault bytes.now)) }
         ensures faultless { OnOk result ((f : Fault) → IsCommonFault bytes.now f → ⊥) }
     {
-        match judge::common(bytes) {
-            Ok(()) => Ok(common_fields(bytes)),
-            Err(fault) => Err(fault),
-        }
+        luks1_faults::common(bytes)?;
+        Ok(common_fields(bytes))
     }
 
     /// Reads the keyslot `n` from its own 48 bytes.
     ///
     /// Refused by the first of `SlotState(n)`, `Stripes(n)` and `Iterations(Slot(n))` that stands.
     pub fn slot(entry: &[u8], n: u8) -> Result<Luks1Slot, HeadFault>
-        requires size { length entry.now ≡ 48 }
+        requires size { length entry.now ≡ entry_size }
         requires numbered { n < 8 }
         ensures found { IfOk result (IsEntry entry.now) }
         ensures only { (s : Luks1Slot) → IsEntry entry.now s → IsOk result }
         ensures fault { IfErr result (IsLeast head_key (IsEntryFault n entry.now)) }
         ensures faultless { OnOk result ((f : Fault) → IsEntryFault n entry.now f → ⊥) }
     {
-        match judge::slot(entry, n) {
-            Ok(()) => Ok(slot_fields(entry)),
-            Err(fault) => Err(fault),
-        }
+        luks1_faults::slot(entry, n)?;
+        Ok(slot_fields(entry))
     }
 }
 
@@ -140,44 +135,44 @@ fn text_at<const N: usize>(bytes: &[u8], at: usize) -> ArrayString<N>
 }
 
 fn common_fields(bytes: &[u8]) -> Luks1Common
-    requires long { 208 ≤ length bytes.now }
+    requires long { common_size ≤ length bytes.now }
     requires texts { HoldsTexts bytes.now }
     ensures { HoldsCommon bytes.now result }
 {
     Luks1Common {
-        cipher_name: text_at(bytes, 8),
-        cipher_mode: text_at(bytes, 40),
-        hash_spec: text_at(bytes, 72),
-        payload_offset: u32_at(bytes, 104),
-        key_bytes: u32_at(bytes, 108),
-        mk_digest: array_at(bytes, 112),
-        mk_digest_salt: array_at(bytes, 132),
-        mk_digest_iterations: u32_at(bytes, 164),
-        uuid: text_at(bytes, 168),
+        cipher_name: text_at(bytes, place::CIPHER_NAME),
+        cipher_mode: text_at(bytes, place::CIPHER_MODE),
+        hash_spec: text_at(bytes, place::HASH_SPEC),
+        payload_offset: u32_at(bytes, place::PAYLOAD_OFFSET),
+        key_bytes: u32_at(bytes, place::KEY_BYTES),
+        mk_digest: array_at(bytes, place::MK_DIGEST),
+        mk_digest_salt: array_at(bytes, place::MK_DIGEST_SALT),
+        mk_digest_iterations: u32_at(bytes, place::MK_DIGEST_ITERATIONS),
+        uuid: text_at(bytes, place::UUID),
     }
 }
 
 fn slot_fields(entry: &[u8]) -> Luks1Slot
-    requires long { 48 ≤ length entry.now }
-    requires stated { HasNoState entry.now → ⊥ }
+    requires long { entry_size ≤ length entry.now }
+    requires stated { HasUnknownState entry.now → ⊥ }
     ensures { HoldsEntry entry.now result }
 {
-    let state = match u32_at(entry, 0) {
+    let state = match u32_at(entry, place::ACTIVE_WORD) {
         ENABLED => SlotState::Enabled,
         _ => SlotState::Disabled,
     };
     Luks1Slot {
         state,
-        iterations: u32_at(entry, 4),
-        salt: array_at(entry, 8),
-        key_material_offset: u32_at(entry, 40),
-        stripes: u32_at(entry, 44),
+        iterations: u32_at(entry, place::ITERATIONS),
+        salt: array_at(entry, place::SALT),
+        key_material_offset: u32_at(entry, place::KEY_MATERIAL_OFFSET),
+        stripes: u32_at(entry, place::STRIPES),
     }
 }
 
 fn slots_of(bytes: &[u8]) -> [Luks1Slot; 8]
-    requires long { 592 ≤ length bytes.now }
-    requires stated { (n : ℕ) → n < 8 → HasNoState (entry bytes.now n) → ⊥ }
+    requires long { luks1_size ≤ length bytes.now }
+    requires stated { (n : ℕ) → n < 8 → HasUnknownState (entry bytes.now n) → ⊥ }
     ensures length { length result ≡ 8 }
     ensures each { (n : ℕ) (s : Luks1Slot) → n < 8 → HoldsEntry (entry bytes.now n) (slice_index_or result n s) }
 {

@@ -1,38 +1,41 @@
-//! Which header of a volume counts.
+//! Which header of a volume is chosen.
 ghost use Rattle.std.specs.Prelude.{◌≡◌, ◌↔◌, ◌+◌, ◌^◌, ◌<◌, length, IsTrue, IfOk, IfErr, MatchResult, option_map};
-ghost use Rattle.luks_head.specs.Finds.{FindsCopy, IsNewer, IsWhy};
-ghost use Rattle.luks_head.specs.Judged2.{FindsWithin};
-ghost use Rattle.luks_head.specs.Selection.{Counts, IsOfSelection, IsRefused, IsSelected, IsSelectedWithin, IsVersion1};
+ghost use Rattle.luks_area.specs.Device.{is_failure, CountsFailure, IsUnchanged};
+ghost use Rattle.luks_head.specs.ChosenCopy.{FindsChosenCopy, IsNewer, IsNoHeaderFault};
+ghost use Rattle.luks_head.specs.Faults.{is_device_fault};
+ghost use Rattle.luks_head.specs.Header1.{luks1_size};
+ghost use Rattle.luks_head.specs.SoundCopies.{IsFoundWithin};
+ghost use Rattle.luks_head.specs.Selection.{IsOfSelection, IsRefused, IsSelected, IsSelectedWithin, IsVersion1};
 
 use crate::bin2::Bin2;
 use crate::copies::{least_second, sound_copy};
 use crate::fault::HeadFault;
-use crate::judge::MAGIC;
-use crate::reads::{field, u16_at};
+use crate::fields::{field, u16_at};
+use crate::luks1_places::{MAGIC, SIZE, VERSION};
 use luks_area::{Device, DeviceFault};
 use std::alloc::Global;
 
 /// How the two copies of a LUKS2 header stand to each other.
 #[derive(Debug, Clone, Copy, PartialEq, Eq)]
 pub enum Copies {
-    /// Both are sound and have one sequence number; the first counts.
+    /// Both are sound and have one sequence number; the first is chosen.
     InStep,
-    /// Both are sound and the first has the higher sequence number; it counts.
+    /// Both are sound and the first has the higher sequence number; it is chosen.
     FirstNewer,
-    /// Both are sound and the second has the higher sequence number; it counts.
+    /// Both are sound and the second has the higher sequence number; it is chosen.
     SecondNewer,
     /// Only the first is sound.
     FirstOnly,
-    /// The first isn't sound; the sound second copy at the least listed place counts.
+    /// The first isn't sound; the sound second copy at the least listed place is chosen.
     SecondOnly,
 }
 
-/// The header that counts.
+/// The chosen header.
 #[derive(Debug, Clone, Copy, PartialEq, Eq)]
 pub enum Selected {
     /// The 592 bytes of a LUKS1 header, of which its version alone was judged.
     V1([u8; 592]),
-    /// The LUKS2 copy that counts; it stands at `header.hdr_offset`.
+    /// The chosen LUKS2 copy; it stands at `header.hdr_offset`.
     V2 {
         /// The copy's binary header.
         header: Bin2,
@@ -41,7 +44,7 @@ pub enum Selected {
     },
 }
 
-/// Which of two sound copies counts: the one with the higher sequence number, on a tie the first.
+/// The chosen one of two sound copies: the one with the higher sequence number, on a tie the first.
 fn newer(first: Bin2, second: Bin2) -> (Bin2, Copies)
     ensures { IsNewer first second result.0 result.1 }
 {
@@ -54,14 +57,13 @@ fn newer(first: Bin2, second: Bin2) -> (Bin2, Copies)
     }
 }
 
-/// The copy that counts of a volume without a LUKS1 header.
-fn counting_copy<D: Device>(device: &mut D) -> Result<Option<(Bin2, Copies)>, DeviceFault>
+/// The chosen copy of a volume without a LUKS1 header.
+fn chosen_copy<D: Device>(device: &mut D) -> Result<Option<(Bin2, Copies)>, DeviceFault>
     requires room { D.failed device.old + 1 < 2 ^ 64 }
-    ensures size { D.size device.new ≡ D.size device.old }
-    ensures same { D.tells → D.bytes device.new ≡ D.bytes device.old }
-    ensures count { MatchResult result (λ _. D.failed device.new ≡ D.failed device.old) (λ _. D.failed device.new ≡ D.failed device.old + 1) }
-    ensures within { IfOk result (λ found. FindsWithin (D.size device.old) (option_map (λ copy. copy.0) found)) }
-    ensures found { D.tells → IfOk result (FindsCopy (D.bytes device.old)) }
+    ensures unchanged { IsUnchanged D.tells D.size D.bytes device.old device.new }
+    ensures count { CountsFailure is_failure result (D.failed device.old) (D.failed device.new) }
+    ensures within { IfOk result (λ found. IsFoundWithin (D.size device.old) (option_map (λ copy. copy.0) found)) }
+    ensures found { D.tells → IfOk result (FindsChosenCopy (D.bytes device.old)) }
 {
     match sound_copy(device, 0)? {
         Some(first) => match sound_copy(device, first.hdr_size)? {
@@ -75,14 +77,14 @@ fn counting_copy<D: Device>(device: &mut D) -> Result<Option<(Bin2, Copies)>, De
     }
 }
 
-/// Why a volume of which nothing counts is refused, by its first 592 bytes.
-fn why_nothing(head: &[u8]) -> HeadFault
-    requires { length head.now ≡ 592 }
-    ensures { IsWhy head.now result }
+/// Why a volume of which nothing is chosen is refused, by its first 592 bytes.
+fn no_header_fault(head: &[u8]) -> HeadFault
+    requires { length head.now ≡ luks1_size }
+    ensures { IsNoHeaderFault head.now result }
 {
     if field(head, 0, 6) != MAGIC.as_slice() {
         HeadFault::NotLuks
-    } else if u16_at(head, 6) != 2 {
+    } else if u16_at(head, VERSION) != 2 {
         HeadFault::Version
     } else {
         HeadFault::NoSoundCopy
@@ -90,40 +92,36 @@ fn why_nothing(head: &[u8]) -> HeadFault
 }
 
 fn is_version1(head: &[u8]) -> bool
-    requires { length head.now ≡ 592 }
+    requires { length head.now ≡ luks1_size }
     ensures { IsTrue result ↔ IsVersion1 head.now }
 {
-    field(head, 0, 6) == MAGIC.as_slice() && u16_at(head, 6) == 1
+    field(head, 0, 6) == MAGIC.as_slice() && u16_at(head, VERSION) == 1
 }
 
-/// Finds the header that counts: that of LUKS1, or else the newer of the sound copies of LUKS2
+/// Chooses the header of a volume: that of LUKS1, or else the newer of the sound copies of LUKS2
 /// (LUKS2 On-Disk Format 1.1, 2.1 and 4.5). It reads headers alone, and takes no memory.
 ///
 /// Refused by `TooShort`, `NotLuks`, `Version` or `NoSoundCopy` by what the volume holds, and by
 /// `Device` where a device call failed.
 pub fn select<D: Device>(_alloc: Global, device: &mut D) -> Result<Selected, HeadFault>
     requires room { D.failed device.old + 1 < 2 ^ 64 }
-    ensures size { D.size device.new ≡ D.size device.old }
-    ensures same { D.tells → D.bytes device.new ≡ D.bytes device.old }
-    ensures count { MatchResult result (λ _. D.failed device.new ≡ D.failed device.old) (λ f. Counts f (D.failed device.old) (D.failed device.new)) }
+    ensures unchanged { IsUnchanged D.tells D.size D.bytes device.old device.new }
+    ensures count { CountsFailure is_device_fault result (D.failed device.old) (D.failed device.new) }
     ensures kinds { IfErr result IsOfSelection }
     ensures within { IfOk result (IsSelectedWithin (D.size device.old)) }
     ensures found { D.tells → IfOk result (IsSelected (D.bytes device.old)) }
     ensures refused { D.tells → IfErr result (IsRefused (D.bytes device.old)) }
 {
-    if device.len() < 592 {
+    if device.len() < SIZE as u64 {
         return Err(HeadFault::TooShort);
     }
-    let mut head = [0; 592];
-    if device.read_at(0, &mut head).is_err() {
-        return Err(HeadFault::Device);
-    }
+    let mut head = [0; SIZE];
+    device.read_at(0, &mut head)?;
     if is_version1(&head) {
         return Ok(Selected::V1(head));
     }
-    match counting_copy(device) {
-        Ok(Some((header, copies))) => Ok(Selected::V2 { header, copies }),
-        Ok(None) => Err(why_nothing(&head)),
-        Err(_) => Err(HeadFault::Device),
+    match chosen_copy(device)? {
+        Some((header, copies)) => Ok(Selected::V2 { header, copies }),
+        None => Err(no_header_fault(&head)),
     }
 }

@@ -8,6 +8,7 @@ pub(crate) struct Broken {
 
 impl Device for Broken {
     ghost use Rattle.std.specs.Prelude.{[]};
+    ghost use Rattle.std.proofs.Common.{lit<};
 
     ghost tells = { ⊥ };
 
@@ -41,4 +42,6 @@ impl Device for Broken {
     }
 
     ghost sized = { λ d t. absurd t };
+
+    ghost bounded = { λ _. lit< tt };
 }

@@ -1,9 +1,10 @@
 use Rattle.std.proofs.Common.{◌≡◌, ℕ, ◌+◌, ◌*◌, ◌%◌, ◌≤◌, List, ◌++◌, length, take, arith, refl, ap, ◌∙◌, subst}
+use Rattle.luks_area.specs.Device.{unchanged-same, unchanged-then}
 use Rattle.luks_area.specs.Ranges.{part}
-use Rattle.luks_head.specs.Header2.{header_at, unsummed}
+use Rattle.luks_head.specs.Header2.{header_at, with_zero_checksum}
 use Rattle.sha2.specs.Hashers.{Holds256}
 use Rattle.sha2.specs.Sha256.{sha256}
-use Rattle.luks_head.proofs.Windows.{all_fed, first_fed, later_fed, listed_at_least, listed_whole}
+use Rattle.luks_head.proofs.CopyFacts.{all_fed, first_fed, later_fed, listed_at_least, listed_whole}
 use Rattle.luks_head.proofs.copies.digest_of_copy.Goals as goal
 
 pub overflow_add-at : goal.overflow_add-at
@@ -11,21 +12,19 @@ overflow_add-at g c = omega arith
 
 pub loop-k-init : goal.loop-k-init
 loop-k-init g c = record {
-  size = refl;
+  unchanged = unchanged-same _;
   count = refl;
-  same = λ t. refl;
   fed = λ t e.
       let P : List ℕ → Type 0 = λ m. Holds256 c.digest_of_header-hasher.result m in
       let long : 16384 ≤ c.args.size = listed_at_least c.args.size c.requires.listed in
-      subst P (ap unsummed {x = c.args.head.now} {y = header_at (g.D.Device.bytes c.args.device.now) c.args.at} e ∙ first_fed (g.D.Device.bytes c.args.device.now) c.args.at c.args.size (omega arith) (rw (g.met.D.Device.sized c.args.device.now t) c.requires.within))
+      subst P (ap with_zero_checksum {x = c.args.head.now} {y = header_at (g.D.Device.bytes c.args.device.now) c.args.at} e ∙ first_fed (g.D.Device.bytes c.args.device.now) c.args.at c.args.size (omega arith) (rw (g.met.D.Device.sized c.args.device.now t) c.requires.within))
       c.digest_of_header-hasher.ensures;
 }
 
 pub loop-k-preserved : goal.loop-k-preserved
 loop-k-preserved g c = record {
-  size = c.in_ok-read_at.ensures.size ∙ c.loop-k.invariant.size;
+  unchanged = unchanged-then c.loop-k.invariant.unchanged c.in_ok-read_at.ensures.unchanged;
   count = c.in_ok-read_at.ensures.count ∙ c.loop-k.invariant.count;
-  same = λ t. c.in_ok-read_at.ensures.same t ∙ c.loop-k.invariant.same t;
   fed = λ t e.
       let P : List ℕ → Type 0 = λ m. Holds256 c.update.new.self m in
       let v : List ℕ = g.D.Device.bytes c.args.device.now in
@@ -33,9 +32,9 @@ loop-k-preserved g c = record {
       let whole : c.args.size % 4096 ≡ 0 = listed_whole c.args.size c.requires.listed in
       let read : c.read_at.new.into ≡ part v (c.args.at + 4096 * c.loop-k.k) 4096 =
       c.in_ok-read_at.ensures.read t
-      ∙ ap (λ w. part w (c.args.at + 4096 * c.loop-k.k) (length c.loop-k.window)) (c.loop-k.invariant.same t)
+      ∙ ap (λ w. part w (c.args.at + 4096 * c.loop-k.k) (length c.loop-k.window)) (c.loop-k.invariant.unchanged.same t)
       ∙ ap (λ n. part v (c.args.at + 4096 * c.loop-k.k) n) long in
-      let held : List ℕ = take (4096 * c.loop-k.k) (unsummed (part v c.args.at c.args.size)) in
+      let held : List ℕ = take (4096 * c.loop-k.k) (with_zero_checksum (part v c.args.at c.args.size)) in
       subst P (ap (λ w. held ++ w) (c.as_slice.ensures ∙ read)
       ∙ later_fed v c.args.at c.args.size c.loop-k.k c.loop-k.auto.k (omega arith) (rw (g.met.D.Device.sized c.args.device.now t) c.requires.within))
       (c.update.ensures held (c.loop-k.invariant.fed t e));
@@ -45,6 +44,6 @@ pub returns-clause-digest : goal.returns-clause-digest
 returns-clause-digest g c = λ t e.
     let long : 16384 ≤ c.args.size = listed_at_least c.args.size c.requires.listed in
     let whole : 4096 * c.loop-k.k ≡ c.args.size = omega (arith, listed_whole c.args.size c.requires.listed) in
-    let held : List ℕ = take (4096 * c.loop-k.k) (unsummed (part (g.D.Device.bytes c.args.device.now) c.args.at c.args.size)) in
+    let held : List ℕ = take (4096 * c.loop-k.k) (with_zero_checksum (part (g.D.Device.bytes c.args.device.now) c.args.at c.args.size)) in
     c.finalize.ensures held (c.loop-k.invariant.fed t e)
     ∙ ap sha256 {x = held} (all_fed (g.D.Device.bytes c.args.device.now) c.args.at c.args.size c.loop-k.k (omega arith) whole (rw (g.met.D.Device.sized c.args.device.now t) c.requires.within))

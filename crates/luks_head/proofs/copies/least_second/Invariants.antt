@@ -1,15 +1,15 @@
 use Rattle.std.proofs.Common.{◌≡◌, ℕ, true, length}
+use Rattle.luks_area.specs.Device.{IsUnchanged}
 use Rattle.luks_head.specs.Header2.{IsSound}
 use Rattle.luks_head.specs.Sizes.{is_among, IsListed}
-use Rattle.luks_head.proofs.Seconds.{is_rising}
+use Rattle.luks_head.proofs.SecondCopyFacts.{is_rising}
 use Rattle.luks_head.proofs.copies.least_second.Given as goal
 
 -- each listed place of a sound copy is still to come
 abbrev pub invariant-loop-left : goal.invariant-loop-left
 invariant-loop-left g l = record {
-  size : g.D.Device.size l.device ≡ g.D.Device.size l.initial.device;
+  unchanged : IsUnchanged g.D.Device.tells g.D.Device.size g.D.Device.bytes l.initial.device l.device;
   count : g.D.Device.failed l.device ≡ g.D.Device.failed l.initial.device;
-  same : g.D.Device.tells → g.D.Device.bytes l.device ≡ g.D.Device.bytes l.initial.device;
   rising : is_rising l.left ≡ true;
   listed : (p : ℕ) → is_among p l.left ≡ true → IsListed p;
   left : g.D.Device.tells → (p : ℕ) → IsListed p → IsSound (g.D.Device.bytes l.initial.device) p → is_among p l.left ≡ true;

@@ -1,7 +1,7 @@
 use Rattle.std.proofs.Common.{lit≤}
 use Rattle.luks_area.specs.Ranges.{part}
-use Rattle.luks_head.proofs.Stated.{back, common_fault_moves, common_moves, entry_moves, fault_moves, first_of, header_moves}
-use Rattle.luks_head.proofs.Windows.{length-part}
+use Rattle.luks_head.proofs.Luks1HeaderFacts.{back, common_fault_moves, common_moves, entry_moves, fault_moves, first_of, header_moves}
+use Rattle.luks_head.proofs.CopyFacts.{length-part}
 use Rattle.luks_head.proofs.laws.luks1_is_first_bytes.Goals as goal
 
 pub returns-clause-header : goal.returns-clause-header

@@ -1,5 +1,5 @@
-use Rattle.luks_head.proofs.Judged.{common_sound, entry_sound, sound}
-use Rattle.luks_head.proofs.Stated.{common_found, entry_found, header_found}
+use Rattle.luks_head.proofs.Luks1FaultFacts.{common_sound, entry_sound, sound}
+use Rattle.luks_head.proofs.Luks1HeaderFacts.{common_found, entry_found, header_found}
 use Rattle.luks_head.proofs.laws.luks1_without_faults.Goals as goal
 
 pub returns-clause-header : goal.returns-clause-header

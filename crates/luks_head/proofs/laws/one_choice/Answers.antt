@@ -1,4 +1,4 @@
-use Rattle.luks_head.proofs.Unique.{choice_exists, choices_agree}
+use Rattle.luks_head.proofs.ChoiceFacts.{choice_exists, choices_agree}
 use Rattle.luks_head.proofs.laws.one_choice.Goals as goal
 
 pub returns-clause-some : goal.returns-clause-some

@@ -19,7 +19,7 @@ returns-in-Ok-V1-clause-unlocks g c = λ tells.
     (IfOk-weaker c.unlock_luks1.result _ _ (λ found clear. subst (λ (h : List ℕ). (f : HeadFault) → IsCommonFault h f → ⊥) selected.1 clear) c.unlock_luks1.ensures.unrefused)
     (IfOk-weaker c.unlock_luks1.result _ _ (λ found tries.
     subst (λ (h : List ℕ). Luks1Tries h v p found) selected.1
-    (subst (λ (w : List ℕ). Luks1Tries c.in-Ok-V1.header w p found) (c.select.ensures.same tells) tries))
+    (subst (λ (w : List ℕ). Luks1Tries c.in-Ok-V1.header w p found) (c.select.ensures.unchanged.same tells) tries))
     (c.unlock_luks1.ensures.tries tells))
 
 pub returns-in-Ok-V1-clause-refused : goal.returns-in-Ok-V1-clause-refused
@@ -39,7 +39,7 @@ returns-in-Ok-V2-clause-unlocks g c = λ tells.
     let selected = rw c.in-Ok-V2.field-0-is at (c.in-Ok-V2.ensures.found tells) in
     IfOk-weaker c.unlock_luks2.result _ _ (λ found all.
     luks2_unlocks v p h c.in-Ok-V2.field-0-1 found selected (λ d. c.one_choice.ensures.only v (luks2 h.hdr_offset c.in-Ok-V2.field-0-1) d selected.0)
-    (subst (λ (w : List ℕ). Luks2Unlocks (header_at v h.hdr_offset) (json_of w h) w p found) (c.select.ensures.same tells) all))
+    (subst (λ (w : List ℕ). Luks2Unlocks (header_at v h.hdr_offset) (json_of w h) w p found) (c.select.ensures.unchanged.same tells) all))
     (c.unlock_luks2.ensures.unlocks tells (header_at v h.hdr_offset) selected.1)
 
 pub returns-in-Ok-V2-clause-refused : goal.returns-in-Ok-V2-clause-refused
@@ -49,7 +49,7 @@ returns-in-Ok-V2-clause-refused g c = λ tells.
     let selected = rw c.in-Ok-V2.field-0-is at (c.in-Ok-V2.ensures.found tells) in
     IfErr-weaker c.unlock_luks2.result _ _ (λ fault all.
     luks2_locked v h c.in-Ok-V2.field-0-1 fault selected (λ d. c.one_choice.ensures.only v (luks2 h.hdr_offset c.in-Ok-V2.field-0-1) d selected.0)
-    (subst (λ (w : List ℕ). Luks2LockedBy (header_at v h.hdr_offset) (json_of w h) fault) (c.select.ensures.same tells) all))
+    (subst (λ (w : List ℕ). Luks2LockedBy (header_at v h.hdr_offset) (json_of w h) fault) (c.select.ensures.unchanged.same tells) all))
     (c.unlock_luks2.ensures.refused tells (header_at v h.hdr_offset) selected.1)
 
 pub returns-in-Err-clause-refused : goal.returns-in-Err-clause-refused

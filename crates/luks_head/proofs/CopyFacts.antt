@@ -1,0 +1,105 @@
+-- A copy of a header taken window by window.
+use Rattle.std.proofs.Common.{◌≡◌, ℕ, ◌+◌, ◌-◌, ◌*◌, ◌%◌, ◌≤◌, ◌==◌, nat_le, List, [], ◌∷◌, ◌++◌, length, take, drop, replicate, Bool, true, inl, inr, arith, refl, sym, ap, ◌∙◌, length-append, length-take-le, length-drop}
+use Rattle.std.specs.List.{list_all}
+use Rattle.std.proofs.lemmas.Bool.{or_cases, and_parts, eqb-true, leb-true, false≢true}
+use Rattle.std.proofs.lemmas.List.{take-take, drop-drop, drop-take, length-replicate, take_all}
+use Rattle.std.proofs.Math.Seq.{take-add, take-append-add, drop-append-add}
+use Rattle.sha2.specs.Sha256.{sha256}
+use Rattle.luks_area.specs.Ranges.{part}
+use Rattle.luks_head.specs.Header2.{header_at, hdr_size, copy_at, with_zero_checksum}
+use Rattle.luks_head.specs.Sizes.{listed_sizes, is_among, IsListed}
+
+-- what passes for each number of a list passes for one of them
+pub among_pass : (test : ℕ → Bool) (sizes : List ℕ) (n : ℕ) → list_all test sizes ≡ true → is_among n sizes ≡ true → test n ≡ true
+among_pass test [] n every among = absurd (false≢true among)
+among_pass test (size ∷ sizes) n every among =
+    elim (or_cases (size == n) (is_among n sizes) among) [
+      | inl here ↦ (let same : size ≡ n = eqb-true size n here in rw (← same) ((and_parts (test size) (list_all test sizes) every).0))
+      | inr later ↦ among_pass test sizes n ((and_parts (test size) (list_all test sizes) every).1) later
+    ]
+
+-- a listed size is a number of whole windows, and more than one
+pub listed_at_least : (n : ℕ) → IsListed n → 16384 ≤ n
+listed_at_least n listed = leb-true 16384 n (among_pass (λ m. nat_le 16384 m) listed_sizes n refl listed)
+
+pub listed_at_most : (n : ℕ) → IsListed n → n ≤ 4194304
+listed_at_most n listed = leb-true n 4194304 (among_pass (λ m. nat_le m 4194304) listed_sizes n refl listed)
+
+pub listed_whole : (n : ℕ) → IsListed n → n % 4096 ≡ 0
+listed_whole n listed = eqb-true (n % 4096) 0 (among_pass (λ m. (m % 4096) == 0) listed_sizes n refl listed)
+
+-- the part of a part
+pub part-part : (v : List ℕ) (a n b m : ℕ) → b + m ≤ n → part (part v a n) b m ≡ part v (a + b) m
+part-part v a n b m within =
+    let split : n ≡ b + (n - b) = omega arith in
+    let moved : drop b (take (b + (n - b)) (drop a v)) ≡ take (n - b) (drop b (drop a v)) = drop-take b (n - b) (drop a v) in
+    let small : m ≤ n - b = omega arith in
+    ap (λ k. take m (drop b (take k (drop a v)))) split
+    ∙ ap (take m) moved
+    ∙ take-take m (n - b) (drop b (drop a v)) small
+    ∙ ap (take m) (drop-drop b a v)
+
+pub length-part : (v : List ℕ) (a n : ℕ) → a + n ≤ length v → length (part v a n) ≡ n
+length-part v a n within = length-take-le n (drop a v) (rw length-drop (omega arith))
+
+-- the first window of a copy without its sum
+pub first_window : (copy : List ℕ) → 4096 ≤ length copy → take 4096 (with_zero_checksum copy) ≡ with_zero_checksum (take 4096 copy)
+first_window copy long =
+    let front : List ℕ = take 448 copy ++ replicate 64 0 in
+    let size : length front ≡ 512 = length-append (take 448 copy) (replicate 64 0) ∙ (omega (arith, length-take-le 448 copy, length-replicate {A = ℕ} 64 0)) in
+    let cut : take (length front + 3584) (front ++ drop 512 copy) ≡ front ++ take 3584 (drop 512 copy) = take-append-add front (drop 512 copy) 3584 in
+    let amount : length front + 3584 ≡ 4096 = omega arith in
+    ap (λ k. take k (front ++ drop 512 copy)) (sym amount) ∙ cut
+    ∙ ap (λ xs. front ++ xs) (sym (drop-take 512 3584 copy))
+    ∙ ap (λ xs. (xs ++ replicate 64 0) ++ drop 512 (take 4096 copy)) (sym (take-take 448 4096 copy (omega arith)))
+
+-- a later window of a copy is the copy's own
+pub later_window : (copy : List ℕ) (n m : ℕ) → 512 ≤ n → n + m ≤ length copy
+    → take (n + m) (with_zero_checksum copy) ≡ take n (with_zero_checksum copy) ++ part copy n m
+later_window copy n m past within =
+    let front : List ℕ = take 448 copy ++ replicate 64 0 in
+    let size : length front ≡ 512 = length-append (take 448 copy) (replicate 64 0) ∙ (omega (arith, length-take-le 448 copy, length-replicate {A = ℕ} 64 0)) in
+    let amount : n ≡ length front + (n - 512) = omega arith in
+    let after : drop n (with_zero_checksum copy) ≡ drop n copy =
+    ap (λ k. drop k (front ++ drop 512 copy)) amount ∙ drop-append-add front (drop 512 copy) (n - 512)
+    ∙ drop-drop (n - 512) 512 copy ∙ ap (λ k. drop k copy) (omega arith) in
+    take-add n m (with_zero_checksum copy) ∙ ap (λ xs. take n (with_zero_checksum copy) ++ take m xs) after
+
+-- all windows of a copy
+pub all_windows : (copy : List ℕ) (n : ℕ) → 512 ≤ n → length copy ≡ n → take n (with_zero_checksum copy) ≡ with_zero_checksum copy
+all_windows copy n past size =
+    let front : List ℕ = take 448 copy ++ replicate 64 0 in
+    let first : length front ≡ 512 = length-append (take 448 copy) (replicate 64 0) ∙ (omega (arith, length-take-le 448 copy, length-replicate {A = ℕ} 64 0)) in
+    let whole : length (with_zero_checksum copy) ≤ n = rw (length-append front (drop 512 copy), length-drop 512 copy) (omega arith) in
+    take_all n (with_zero_checksum copy) whole
+
+-- what a hasher holds after the first window
+pub first_fed : (v : List ℕ) (at size : ℕ) → 4096 ≤ size → at + size ≤ length v
+    → with_zero_checksum (header_at v at) ≡ take 4096 (with_zero_checksum (part v at size))
+first_fed v at size long within =
+    sym (first_window (part v at size) (rw (length-part v at size within) long)
+    ∙ ap with_zero_checksum (take-take 4096 size (drop at v) long))
+
+-- what a hasher holds after one window more
+pub later_fed : (v : List ℕ) (at size k : ℕ) → 1 ≤ k → 4096 * k + 4096 ≤ size → at + size ≤ length v
+    → take (4096 * k) (with_zero_checksum (part v at size)) ++ part v (at + 4096 * k) 4096 ≡ take (4096 * (k + 1)) (with_zero_checksum (part v at size))
+later_fed v at size k first within inside =
+    let copy : List ℕ = part v at size in
+    let own : part copy (4096 * k) 4096 ≡ part v (at + 4096 * k) 4096 = part-part v at size (4096 * k) 4096 within in
+    let amount : 4096 * (k + 1) ≡ 4096 * k + 4096 = omega arith in
+    sym (ap (λ n. take n (with_zero_checksum copy)) amount
+    ∙ later_window copy (4096 * k) 4096 (omega arith) (rw (length-part v at size inside) within)
+    ∙ ap (λ xs. take (4096 * k) (with_zero_checksum copy) ++ xs) own)
+
+-- what a hasher holds after all windows
+pub all_fed : (v : List ℕ) (at size k : ℕ) → 512 ≤ size → 4096 * k ≡ size → at + size ≤ length v
+    → take (4096 * k) (with_zero_checksum (part v at size)) ≡ with_zero_checksum (part v at size)
+all_fed v at size k long whole inside =
+    ap (λ n. take n (with_zero_checksum (part v at size))) whole ∙ all_windows (part v at size) size long (length-part v at size inside)
+
+-- the digest that was taken is that of the copy
+pub digest_is : (v after head digest : List ℕ) (at size : ℕ) → head ≡ header_at v at → after ≡ v → hdr_size head ≡ size
+    → digest ≡ sha256 (with_zero_checksum (part after at size)) → digest ≡ sha256 (with_zero_checksum (copy_at v at))
+digest_is v after head digest at size head_is same size_is taken =
+    taken ∙ ap (λ w. sha256 (with_zero_checksum (part w at size))) same
+    ∙ ap (λ n. sha256 (with_zero_checksum (part v at n))) (sym size_is ∙ ap hdr_size head_is)

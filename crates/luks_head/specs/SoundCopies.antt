@@ -1,0 +1,31 @@
+-- What the steps of the search for sound copies answer: words of private contracts.
+use Rattle.std.specs.Prelude.{ℕ, ◌≤◌, List, Option, None, Some}
+use Rattle.luks_head.specs.Header2.{header_at, HoldsBin2, IsCopyWithin, IsSound}
+use Rattle.luks_head.specs.Sizes.{IsListed}
+use Rattle.luks_head.specs.declared.bin2.Bin2.{Bin2}
+
+-- `h` is the binary header of the sound copy at o
+pub record IsSoundCopy (v : List ℕ) (o : ℕ) (h : Bin2) : Type 0 where
+  pub sound : IsSound v o
+  pub fields : HoldsBin2 (header_at v o) h
+
+-- the binary header of the copy at o, where that copy is sound
+abbrev pub FindsSoundCopy : List ℕ → ℕ → Option Bin2 → Type 0
+FindsSoundCopy v o None = IsSound v o → ⊥
+FindsSoundCopy v o (Some h) = IsSoundCopy v o h
+
+-- `h` is the binary header of the sound copy at the least listed place
+pub record IsLeastCopy (v : List ℕ) (h : Bin2) : Type 0 where
+  pub listed : IsListed h.hdr_offset
+  pub copy : IsSoundCopy v h.hdr_offset h
+  pub least : (p : ℕ) → IsListed p → IsSound v p → h.hdr_offset ≤ p
+
+-- the listed places have been searched for a sound copy
+abbrev pub FindsSecondCopy : List ℕ → Option Bin2 → Type 0
+FindsSecondCopy v None = (p : ℕ) → IsListed p → IsSound v p → ⊥
+FindsSecondCopy v (Some h) = IsLeastCopy v h
+
+-- the copy that was found, if one was, has a listed size and lies inside a device of `total` bytes
+abbrev pub IsFoundWithin : ℕ → Option Bin2 → Type 0
+IsFoundWithin total None = Unit {0}
+IsFoundWithin total (Some h) = IsCopyWithin total h
