@@ -1,5 +1,6 @@
 -- From what was judged of a header to what holds of the volume.
 use Rattle.std.proofs.Common.{◌≡◌, ℕ, List, length, subst, sym, arith, inl, inr}
+use Rattle.std.specs.Prelude.{Result, Ok, Err, IfErr, MatchResult, OnOk, ⊤}
 use Rattle.luks_area.specs.declared.areas.Entry.{Entry}
 use Rattle.luks_area.specs.First.{NotAfter, IsLeast}
 use Rattle.luks_area.specs.Ranges.{part}
@@ -161,3 +162,15 @@ first_refused v payload (Meta f) x = x
 first_refused v payload (Area f) x = x
 first_refused v payload Device x = tt
 first_refused v payload Memory x = absurd (no_outside v payload x.0.choice x.0.fault)
+
+-- ---- of results
+
+-- what follows from a fact for `Ok` holds for `Ok`
+pub on_ok : {T E P Q : Type 0} → (r : Result T E) → (P → Q) → OnOk r P → OnOk r Q
+on_ok (Ok x) step is = step is
+on_ok (Err e) step is = tt
+
+pub outside_result : {T : Type 0} (v : List ℕ) (payload : Data) (r : Result T CheckFault) → ((g : CheckFault) → IsFault v payload g → ⊥)
+    → IfErr r (IsRefusal v payload) → MatchResult r (λ _. ⊤) IsFromOutside
+outside_result v payload (Ok x) none is = tt
+outside_result v payload (Err f) none is = outside v payload f none is

@@ -1,6 +1,6 @@
 -- A volume is well formed exactly where it has no fault, and what it is sure of then.
 use Rattle.std.proofs.Common.{◌≡◌, ℕ, List, length, true, subst, sym, inl, inr}
-use Rattle.std.specs.Prelude.{◌↔◌, Result, Ok, Err, OnOk}
+use Rattle.std.specs.Prelude.{◌↔◌}
 use Rattle.std.proofs.lemmas.Bool.{false_from_ne_true}
 use Rattle.serde_json.specs.Data.{Data as Value}
 use Rattle.luks_area.specs.declared.area.Area.{Area as TheArea}
@@ -186,8 +186,3 @@ pub luks1_areas_are : ((v : List ℕ) (c d : Choice) → Chosen v c → Chosen v
 luks1_areas_are one v payload h total es chosen begins size lists =
     lists_as one v payload luks1 es chosen
     (subst (λ t. Lists es (Luks1Area (part v 0 592) payload t)) (sym size) (subst (λ b. Lists es (Luks1Area b payload total)) begins lists))
-
--- what follows from a fact for `Ok` holds for `Ok`
-pub on_ok : {T E P Q : Type 0} → (r : Result T E) → (P → Q) → OnOk r P → OnOk r Q
-on_ok (Ok x) step is = step is
-on_ok (Err e) step is = tt

@@ -18,4 +18,7 @@ pub mod ReadFaults
 pub mod Orders
 pub mod Shut
 pub mod Unlocked
-pub mod Agreed
+pub mod OneDigest
+pub mod OneAnswer
+pub mod OneUnlocking
+pub mod Found

@@ -1,5 +1,6 @@
 -- The first fault of a header that isn't read.
-use Rattle.std.proofs.Common.{◌≡◌, ◌≢◌, ℕ, ◌+◌, ◌-◌, List, length, refl, ap, subst, sym, arith}
+use Rattle.std.proofs.Common.{◌≡◌, ◌≢◌, ℕ, ◌+◌, ◌-◌, List, length, ◌↔◌, refl, ap, subst, sym, arith}
+use Rattle.serde_json.specs.Data.{Data}
 use Rattle.luks_area.specs.First.{NotAfter, IsLeast}
 use Rattle.luks_area.specs.Ranges.{part}
 use Rattle.luks_head.specs.declared.bin2.Bin2.{Bin2}
@@ -7,16 +8,19 @@ use Rattle.luks_head.specs.declared.fault.HeadFault.{HeadFault}
 use Rattle.luks_head.specs.declared.fault.HeadFault.TheVariants as head
 use Rattle.luks_head.specs.declared.selection.Copies.{Copies}
 use Rattle.luks_head.specs.Faults.{head_key}
-use Rattle.luks_head.specs.Header2.{header_at, uuid_field, HoldsBin2, IsUuidFault}
+use Rattle.luks_head.specs.Header2.{header_at, uuid_field, HoldsBin2, IsUuidFault, IsUuidField}
 use Rattle.luks_head.specs.Selection.{Choice, luks2, nothing, Chosen, IsOfSelection, IsRefused, IsSelectFault}
 use Rattle.luks_meta.specs.declared.fault.MetaFault.{MetaFault}
 use Rattle.luks_meta.specs.declared.fault.MetaFault.TheVariants as meta
+use Rattle.luks_meta.specs.Accepted.{IsMeta}
+use Rattle.luks_meta.specs.Content.{content}
 use Rattle.luks_meta.specs.MetaFault.{IsMetaFault, meta_key}
 use Rattle.luks_volume.specs.declared.read_fault.ReadFault.{ReadFault}
 use Rattle.luks_volume.specs.declared.read_fault.ReadFault.TheVariants.{Head, Meta, Device, Memory}
-use Rattle.luks_volume.specs.ChosenCopies.{CopyRefused, IsFromOutside, json_of}
+use Rattle.luks_volume.specs.declared.header.ChosenCopy.{ChosenCopy}
+use Rattle.luks_volume.specs.ChosenCopies.{CopyRefused, IsCleared, IsFromOutside, json_of}
 use Rattle.luks_volume.specs.Conversions.{head_unread, meta_unread}
-use Rattle.luks_volume.specs.Header.{json_at, read_key, IsReadFault, IsReadFaultAs, IsUnread}
+use Rattle.luks_volume.specs.Header.{json_at, read_key, IsChosenCopy, IsReadFault, IsReadFaultAs, IsUnread}
 
 -- ---- the uuid and the metadata of a copy
 
@@ -146,3 +150,14 @@ copy_unread v o copies (Meta f) only chosen x = unread_as v (luks2 o copies) (Me
     after Memory is = absurd is
 copy_unread v o copies Device only chosen x = tt
 copy_unread v o copies Memory only chosen x = record { place = o; copies = copies; chosen = chosen; uuid = x }
+
+-- nothing is wrong with a chosen copy that was read
+pub cleared_copy : ((field : List ℕ) → ((f : HeadFault) → IsUuidFault field f → ⊥) ↔ IsUuidField field)
+    → ((json : List ℕ) → ((f : MetaFault) → IsMetaFault json f → ⊥) ↔ ((j : Data) × IsMeta json j))
+    → (v : List ℕ) (c : ChosenCopy) → IsChosenCopy v c
+    → IsCleared (uuid_field (header_at v c.header.hdr_offset)) (json_at v c.header.hdr_offset) (content c.meta)
+cleared_copy uuid metadata v c is = record {
+  uuid_faultless = (uuid (uuid_field (header_at v c.header.hdr_offset))).1 is.uuid;
+  faultless = (metadata (json_at v c.header.hdr_offset)).1 (content c.meta, is.metadata);
+  meta = is.metadata;
+}

@@ -20,7 +20,7 @@ use Rattle.luks_volume.specs.ChosenCopies.{IsCleared}
 use Rattle.luks_volume.specs.Entered2.{Luks2Refused, Luks2Opens}
 use Rattle.luks_volume.specs.Planned.{PlanOpens, PlanRefused}
 use Rattle.luks_volume.specs.Plans.{HasLuks2Plan}
-use Rattle.luks_volume.proofs.Alike.{same_answer, same_refusal}
+use Rattle.luks_volume.proofs.Alike.{same_refusal}
 use Rattle.luks_volume.proofs.PlanFields2.{IsOnly, one_luks2_plan}
 use Rattle.luks_volume.proofs.Refusals1.{sooner, together}
 
@@ -115,9 +115,3 @@ plan_opens2 b json v n j plan p found clear only is x = record { plan = plan; is
         absurd (cc)
     unrefused Device y = y
     unrefused Memory y = y
-
--- the keyslot gives nothing else
-pub plan_only2 : (b json v : List ℕ) (n : ℕ) (j : Data) (plan : SlotPlan) (p : List ℕ) (found other : Option (List ℕ)) → IsOnly json j n
-    → HasLuks2Plan json n plan → PlanOpens plan v p found → Luks2Opens b json v n p other → other ≡ found
-plan_only2 b json v n j plan p found other only is x y =
-    sym y.key ∙ same_answer y.plan plan v p (one_luks2_plan json j n y.plan plan only y.is is) ∙ sym x.is

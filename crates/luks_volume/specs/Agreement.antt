@@ -22,3 +22,22 @@ Agrees (refused g) result = MatchResult result (λ _. ⊥) (IsSameRefusal g)
 abbrev pub AgreesUnlocked : Unlocked → Result (Option (ℕ × List ℕ)) OpenFault → Type 0
 AgreesUnlocked (gives found) result = MatchResult result (λ other. other ≡ found) IsOfDevice
 AgreesUnlocked (locked g) result = MatchResult result (λ _. ⊥) (IsSameRefusal g)
+
+-- ---- two answers are one; of refusals it is their key that is one
+
+abbrev pub IsSameAnswer : Opened → Opened → Type 0
+IsSameAnswer (opens k) (opens l) = k ≡ l
+IsSameAnswer (opens k) no_key = ⊥
+IsSameAnswer (opens k) (refused g) = ⊥
+IsSameAnswer no_key (opens l) = ⊥
+IsSameAnswer no_key no_key = ⊤
+IsSameAnswer no_key (refused g) = ⊥
+IsSameAnswer (refused f) (opens l) = ⊥
+IsSameAnswer (refused f) no_key = ⊥
+IsSameAnswer (refused f) (refused g) = open_key f ≡ open_key g
+
+abbrev pub IsSameUnlocking : Unlocked → Unlocked → Type 0
+IsSameUnlocking (gives found) (gives other) = found ≡ other
+IsSameUnlocking (gives found) (locked g) = ⊥
+IsSameUnlocking (locked f) (gives other) = ⊥
+IsSameUnlocking (locked f) (locked g) = open_key f ≡ open_key g

@@ -78,11 +78,11 @@ IsUnread v f = IsLeast read_key (IsReadFault v) f
 
 -- ---- on any device
 
--- what was read of a LUKS2 copy is accepted
+-- what was read of a LUKS2 copy is accepted, and of a LUKS1 header it is whole
 pub record IsAcceptedCopy (c : ChosenCopy) : Type 0 where
   pub uuid : IsUuidField c.header.uuid
   pub metadata : IsAccepted (content c.meta)
 
 abbrev pub IsAcceptedHeader : Header → Type 0
-IsAcceptedHeader (Luks1 bytes) = ⊤
+IsAcceptedHeader (Luks1 bytes) = length bytes ≡ 592
 IsAcceptedHeader (Luks2 copy) = IsAcceptedCopy copy

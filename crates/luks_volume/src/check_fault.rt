@@ -52,6 +52,8 @@ impl From<HeadFault> for CheckFault {
 }
 
 impl From<AreaFault> for CheckFault {
+    ghost use Rattle.luks_volume.specs.declared.check_fault.CheckFault.{CheckFault};
+
     ghost from_gives = { λ fault outer. outer ≡ CheckFault.Area fault };
 
     fn from(fault: AreaFault) -> CheckFault {

@@ -3,7 +3,7 @@ ghost use Rattle.std.specs.Prelude.{◌≡◌, ◌≢◌, ◌+◌, ◌^◌, ◌<
 ghost use Rattle.luks_area.specs.Device.{CountsFailure, IsUnchanged};
 ghost use Rattle.luks_volume.specs.Checked.{First, IsRefusal, WellFormed};
 ghost use Rattle.luks_volume.specs.Failures.{is_check_failure};
-ghost use Rattle.luks_volume.specs.Header.{IsHeader};
+ghost use Rattle.luks_volume.specs.Header.{IsAcceptedHeader, IsHeader};
 ghost use Rattle.luks_volume.specs.Lawful.{IsLawful};
 ghost use Rattle.luks_volume.specs.Reported.{IsFromOutside, Reports};
 
@@ -40,6 +40,7 @@ pub fn check<D: Device>(alloc: Global, device: &mut D, data_: Data) -> Result<Re
 
 /// What `check` answers of a volume of `total` bytes with this header. It takes no memory.
 pub fn check_header(header: &Header, data_: Data, total: u64) -> Result<Report, CheckFault>
+    requires { IsAcceptedHeader header.now }
     ensures accepted { (v : List ℕ) → IsHeader v header.now → length v ≡ total → OnOk result (WellFormed v data_) }
     ensures report { (v : List ℕ) → IsHeader v header.now → length v ≡ total → IfOk result (Reports v data_) }
     ensures refused { (v : List ℕ) → IsHeader v header.now → length v ≡ total → IfErr result (First v data_) }

@@ -65,11 +65,7 @@ pub fn read_header<D: Device>(alloc: Global, device: &mut D) -> Result<Header, R
 }
 
 /// The metadata of the copy with this binary header, whose uuid has to be one.
-fn read_metadata<D: Device>(
-    alloc: Global,
-    device: &mut D,
-    header: &Bin2,
-) -> Result<Meta, ReadFault>
+fn read_metadata<D: Device>(alloc: Global, device: &mut D, header: &Bin2) -> Result<Meta, ReadFault>
     requires room { D.failed device.old + 1 < 2 ^ 64 }
     requires within { IsCopyWithin (D.size device.old) header.now }
     ensures unchanged { IsUnchanged D.tells D.size D.bytes device.old device.new }

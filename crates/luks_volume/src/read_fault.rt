@@ -51,6 +51,8 @@ impl From<MetaFault> for ReadFault {
 }
 
 impl From<DeviceFault> for ReadFault {
+    ghost use Rattle.luks_volume.specs.declared.read_fault.ReadFault.{ReadFault};
+
     ghost from_gives = { λ _ outer. outer ≡ ReadFault.Device };
 
     fn from(_: DeviceFault) -> ReadFault {
@@ -59,6 +61,8 @@ impl From<DeviceFault> for ReadFault {
 }
 
 impl From<AllocError> for ReadFault {
+    ghost use Rattle.luks_volume.specs.declared.read_fault.ReadFault.{ReadFault};
+
     ghost from_gives = { λ _ outer. outer ≡ ReadFault.Memory };
 
     fn from(_: AllocError) -> ReadFault {
