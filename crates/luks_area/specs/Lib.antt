@@ -1,3 +1,4 @@
+pub mod Faulty
 pub mod Files
 pub mod First
 pub mod Area

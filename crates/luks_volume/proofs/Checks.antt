@@ -8,7 +8,7 @@ use Rattle.luks_head.specs.declared.fault.HeadFault.{HeadFault}
 use Rattle.luks_head.specs.declared.selection.Copies.{Copies}
 use Rattle.luks_head.specs.Header2.{header_at}
 use Rattle.luks_head.specs.Selection.{Choice, luks1, luks2, nothing, Chosen}
-use Rattle.luks_meta.specs.declared.fault.MetaFault.{MetaFault}
+use Rattle.luks_rules.specs.declared.fault.MetaFault.{MetaFault}
 use Rattle.luks_volume.specs.declared.check_fault.CheckFault.{CheckFault}
 use Rattle.luks_volume.specs.declared.check_fault.CheckFault.TheVariants.{Head, Meta, Area, Device, Memory}
 use Rattle.luks_volume.specs.declared.report.Data.{Data}

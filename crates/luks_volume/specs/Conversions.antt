@@ -2,8 +2,8 @@
 use Rattle.luks_area.specs.declared.area.AreaFault.{AreaFault}
 use Rattle.luks_head.specs.declared.fault.HeadFault.{HeadFault}
 use Rattle.luks_head.specs.declared.fault.HeadFault.TheVariants as head
-use Rattle.luks_meta.specs.declared.fault.MetaFault.{MetaFault}
-use Rattle.luks_meta.specs.declared.fault.MetaFault.TheVariants as meta
+use Rattle.luks_rules.specs.declared.fault.MetaFault.{MetaFault}
+use Rattle.luks_rules.specs.declared.fault.MetaFault.TheVariants as meta
 use Rattle.luks_slot.specs.declared.fault.SlotFault.{SlotFault}
 use Rattle.luks_slot.specs.declared.fault.SlotFault.TheVariants as slot
 use Rattle.luks_volume.specs.declared.check_fault.CheckFault.{CheckFault}
