@@ -18,7 +18,6 @@ pub mod ReadFaults
 pub mod Orders
 pub mod Shut
 pub mod Unlocked
-pub mod OneDigest
 pub mod OneAnswer
 pub mod OneUnlocking
 pub mod Found

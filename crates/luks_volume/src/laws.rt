@@ -1,9 +1,6 @@
 //! Laws on the definitions of this crate. Each function only calls those whose laws it follows from;
 //! its contract is the law.
 ghost use Rattle.std.specs.Prelude.{◌≡◌, ◌↔◌, ℕ, List};
-ghost use Rattle.serde_json.specs.Data.{Data as Value};
-ghost use Rattle.luks_meta.specs.Accepted.{IsMeta};
-ghost use Rattle.luks_meta.specs.Naming.{IsDigestOf};
 ghost use Rattle.luks_volume.specs.declared.report.Data.{Data as Payload};
 ghost use Rattle.luks_volume.specs.Agreement.{IsSameAnswer, IsSameUnlocking};
 ghost use Rattle.luks_volume.specs.Answer.{Answer, Opened};
@@ -13,7 +10,7 @@ ghost use Rattle.luks_volume.specs.Unlocking.{Unlocked, UnlockAnswer};
 
 use crate::check_fault::CheckFault;
 use luks_head::{luks1_without_faults, luks2_without_faults, one_choice};
-use luks_meta::{metadata_without_faults, one_value};
+use luks_meta::{metadata_without_faults, one_digest, one_value};
 
 /// A volume is well formed exactly where it has no fault: so the first fault is there exactly where
 /// it isn't well formed.
@@ -35,11 +32,6 @@ pub fn well_formed_volume()
     one_choice();
     one_value();
 }
-
-/// Of accepted metadata one digest at most names a keyslot.
-pub(crate) fn one_digest()
-    ensures { (area : List ℕ) (j : Value) → IsMeta area j → (n m k : ℕ) → IsDigestOf j n m → IsDigestOf j n k → m ≡ k }
-{}
 
 /// A keyslot of a volume has one answer at most by a passphrase; of two refusals the key is one.
 pub fn one_answer()

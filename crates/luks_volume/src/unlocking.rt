@@ -18,13 +18,13 @@ ghost use Rattle.luks_volume.specs.Tried.{is_of_rank, passed_over, rank_order, L
 ghost use Rattle.luks_volume.specs.Unlocking.{luks2_order, IsLockedBy, Unlocked, UnlockAnswer, Unlocks};
 
 use crate::header::{Header, read_header};
-use crate::laws::{one_digest, one_unlocking};
+use crate::laws::one_unlocking;
 use crate::luks1_entry::luks1_common;
 use crate::open_fault::OpenFault;
 use crate::opening::{open_luks1_slot, open_luks2};
 use luks_area::Device;
 use luks_head::{Luks1Common, luks2_without_faults, one_choice};
-use luks_meta::{Meta, metadata_without_faults, one_value};
+use luks_meta::{Meta, metadata_without_faults, one_digest, one_value};
 use luks_slot::Key;
 use std::alloc::Global;
 
