@@ -1,8 +1,15 @@
 pub mod ChoiceFacts
 pub mod ChosenCopyFacts
+pub mod CommonWriting
 pub mod CopyFacts
 pub mod DecidableFacts
+pub mod EntryFacts
+pub mod EntryWriting
+pub mod HeaderWriting2
 pub mod Luks1FaultFacts
 pub mod Luks1HeaderFacts
+pub mod Luks1WritingFacts
+pub mod NumberFacts
+pub mod PutFacts
 pub mod SecondCopyFacts
 pub mod UuidTextFacts

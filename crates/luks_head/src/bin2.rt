@@ -5,6 +5,7 @@ ghost use Rattle.luks_area.specs.Text.{text_of};
 ghost use Rattle.luks_head.specs.Faults.{head_key};
 
 use crate::bin2_places as place;
+use crate::bin2_writing::put_header;
 use crate::fault::{HeadFault, TextField};
 use crate::fields::{array_at, u16_at, u64_at};
 use crate::uuid_text::is_uuid;
@@ -39,6 +40,7 @@ pub struct Bin2 {
 }
 
 impl Bin2 {
+    ghost use Rattle.luks_head.specs.Written.{WritesBin2};
     ghost use Rattle.luks_head.specs.Header2.{binary_header_size, HoldsBin2, IsUuidFault, IsUuidField};
 
     /// Reads a binary header. Any bytes will do; padding isn't looked at.
@@ -59,6 +61,15 @@ impl Bin2 {
             hdr_offset: u64_at(bytes, place::HDR_OFFSET),
             csum: array_at(bytes, place::CSUM),
         }
+    }
+
+    /// The header's 4096 bytes, with zeros in its padding.
+    pub fn write(&self) -> [u8; 4096]
+        ensures { WritesBin2 result self.now }
+    {
+        let mut bytes = [0; place::SIZE];
+        put_header(&mut bytes, self);
+        bytes
     }
 
     /// The text of the volume's uuid, 36 bytes in either letter case.

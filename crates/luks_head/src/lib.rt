@@ -4,6 +4,7 @@
 
 mod bin2;
 mod bin2_places;
+mod bin2_writing;
 mod copies;
 mod fault;
 mod fields;
@@ -11,6 +12,7 @@ mod laws;
 mod luks1;
 mod luks1_faults;
 mod luks1_places;
+mod luks1_writing;
 mod selection;
 mod uuid_text;
 
