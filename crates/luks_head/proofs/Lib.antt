@@ -5,11 +5,14 @@ pub mod CopyFacts
 pub mod DecidableFacts
 pub mod EntryFacts
 pub mod EntryWriting
+pub mod HeaderFacts2
 pub mod HeaderWriting2
 pub mod Luks1FaultFacts
 pub mod Luks1HeaderFacts
 pub mod Luks1WritingFacts
 pub mod NumberFacts
 pub mod PutFacts
+pub mod ReplacedEntryFacts
 pub mod SecondCopyFacts
+pub mod SoundnessFacts
 pub mod UuidTextFacts

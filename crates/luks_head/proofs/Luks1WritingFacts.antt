@@ -18,7 +18,7 @@ use Rattle.luks_head.proofs.Luks1HeaderFacts.{SameFirst, fields_move, text_in}
 use Rattle.luks_head.proofs.PutFacts.{IsFrom, put_apart, put_stands, text_of-end, text_of-next}
 
 -- volumes that agree up to a place have the same first bytes
-first_same : (n : ℕ) (v w : List ℕ) → SameBut (IsFrom n) v w → SameFirst n v w
+pub first_same : (n : ℕ) (v w : List ℕ) → SameBut (IsFrom n) v w → SameFirst n v w
 first_same n v w same = record {
   same = λ o l within. sym (part-same_but o l same (λ p here past. (let high = here.1 in absurd (omega (arith, high, past, within)))));
 }

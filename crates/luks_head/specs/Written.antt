@@ -65,3 +65,33 @@ pub record WritesBin2 (b : List ℕ) (h : Bin2) : Type 0 where
   pub offset : AreBytes b 256 264
   pub padding : AreZeros b 264 csum_at
   pub tail : AreZeros b (csum_at + csum_size) binary_header_size
+
+-- `new` is the binary header of the copy at the place `o` that takes the place of the copy of `old`:
+-- its checksum isn't made yet
+pub record IsRenewed (old : Bin2) (o number : ℕ) (random : List ℕ) (new : Bin2) : Type 0 where
+  pub magic : new.magic ≡ magic_of o
+  pub version : new.version ≡ 2
+  pub hdr_size : new.hdr_size ≡ old.hdr_size
+  pub seqid : new.seqid ≡ number
+  pub label : new.label ≡ old.label
+  pub csum_alg : new.csum_alg ≡ codes "sha256" ++ replicate 26 0
+  pub salt : new.salt ≡ random
+  pub uuid : new.uuid ≡ old.uuid
+  pub subsystem : new.subsystem ≡ old.subsystem
+  pub hdr_offset : new.hdr_offset ≡ o
+  pub csum : new.csum ≡ replicate csum_size 0
+
+-- the volume `v` has at the place `o` the copy with the binary header `h` and the JSON area `json`,
+-- written with its checksum
+pub record IsWrittenCopy (v : List ℕ) (o : ℕ) (h : Bin2) (json : List ℕ) : Type 0 where
+  pub header : WritesBin2 (header_at v o) h
+  pub area : part v (o + binary_header_size) (length json) ≡ json
+  pub size : binary_header_size + length json ≡ h.hdr_size
+  pub inside : o + h.hdr_size ≤ length v
+  pub listed : IsListed h.hdr_size
+  pub second : o ≢ 0 → h.hdr_size ≡ o
+  pub magic : h.magic ≡ magic_of o
+  pub version : h.version ≡ 2
+  pub hdr_offset : h.hdr_offset ≡ o
+  pub csum_alg : text_of h.csum_alg ≡ codes "sha256"
+  pub csum : take sha256_size h.csum ≡ sha256 (with_zero_checksum (header_at v o ++ json))
