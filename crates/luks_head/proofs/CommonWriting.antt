@@ -1,5 +1,5 @@
 -- The fields before the key slots of a LUKS1 header, after they were put into their places.
-use Rattle.std.proofs.Common.{◌≡◌, ℕ, ◌+◌, ◌^◌, ◌<◌, ◌≤◌, List, length, arith, refl, sym, ap, ◌∙◌}
+use Rattle.std.proofs.Common.{◌≡◌, ℕ, ◌+◌, ◌^◌, ◌<◌, ◌≤◌, List, length, arith, refl}
 use Rattle.byteorder.specs.Endian.{big_bytes}
 use Rattle.byteorder.specs.Numbers.{length-bytes_high_first}
 use Rattle.luks_area.specs.Ranges.{part, written, SameBut}
@@ -7,7 +7,6 @@ use Rattle.luks_area.specs.RangeFacts.{same_but-same}
 use Rattle.luks_head.specs.Header1.{field_at, field_len, luks_magic}
 use Rattle.luks_head.specs.Written.{AreZeros, WritesCommon, common_text}
 use Rattle.luks_head.specs.declared.luks1.Luks1Common.{Luks1Common}
-use Rattle.luks_head.specs.declared.fault.TextField.{TextField}
 use Rattle.luks_head.specs.declared.fault.TextField.TheVariants as field
 use Rattle.luks_head.proofs.PutFacts.{IsFilled, IsFrom, number_stands, put_keeps, put_leaves, put_next, put_stands, text_stands}
 

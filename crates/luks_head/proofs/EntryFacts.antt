@@ -1,5 +1,5 @@
 -- The bytes of a key slot's entry are the only ones that say it.
-use Rattle.std.proofs.Common.{◌≡◌, ℕ, ◌+◌, List, length, lit≤, refl, sym, ap, ◌∙◌, arith}
+use Rattle.std.proofs.Common.{◌≡◌, ℕ, List, lit≤, sym, ap, ◌∙◌}
 use Rattle.luks_area.specs.Ranges.{part}
 use Rattle.luks_area.specs.RangeFacts.{part-whole}
 use Rattle.luks_head.specs.Written.{WritesEntry}

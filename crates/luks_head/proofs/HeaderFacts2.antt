@@ -1,5 +1,5 @@
 -- The bytes of a binary header are the only ones that say it; copies that were written are sound.
-use Rattle.std.proofs.Common.{◌≡◌, ℕ, ◌+◌, ◌≤◌, List, ◌++◌, length, take, drop, replicate, get_or, refl, sym, ap, ◌∙◌, arith, lit≤, append_assoc, ◌-◌, ◌<◌, subst}
+use Rattle.std.proofs.Common.{◌≡◌, ℕ, ◌+◌, ◌≤◌, List, ◌++◌, length, take, drop, replicate, refl, sym, ap, ◌∙◌, arith, lit≤, append_assoc, ◌-◌, ◌<◌, subst}
 use Rattle.std.proofs.lemmas.Grind.{same_number_lists}
 use Rattle.std.proofs.lemmas.List.{drop-append-le, length-drop, take-append-le, take-take, take_all}
 use Rattle.byteorder.specs.Endian.{big_number}
@@ -10,7 +10,6 @@ use Rattle.luks_area.specs.Text.{text_of}
 use Rattle.luks_head.specs.Header1.{version_of}
 use Rattle.luks_head.specs.Header2.{copy_at, hdr_size, header_at, with_zero_checksum, HoldsBin2, IsSound}
 use Rattle.luks_head.specs.Selection.{Chosen, luks2, second_place}
-use Rattle.luks_head.specs.Sizes.{IsListed}
 use Rattle.luks_head.specs.Written.{AreBytes, AreZeros, IsWrittenCopy, WritesBin2}
 use Rattle.luks_head.specs.declared.bin2.Bin2.{Bin2}
 use Rattle.luks_head.specs.declared.selection.Copies.TheVariants.{InStep}

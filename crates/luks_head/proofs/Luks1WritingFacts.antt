@@ -1,14 +1,14 @@
 -- A LUKS1 header as it is written: what is put behind its fields leaves them, and it reads as the
 -- header that it was.
-use Rattle.std.proofs.Common.{◌≡◌, ◌==◌, ℕ, ◌+◌, ◌*◌, ◌<◌, ◌≤◌, List, [], ◌∷◌, length, slice_index, slice_index_or, true, false, refl, sym, ap, ◌∙◌, arith, lit≤, subst, inl, inr}
+use Rattle.std.proofs.Common.{◌≡◌, ◌==◌, ℕ, ◌+◌, ◌*◌, ◌<◌, ◌≤◌, List, [], ◌∷◌, length, slice_index_or, refl, sym, ap, ◌∙◌, arith, lit≤, subst, inl, inr}
 use Rattle.std.proofs.lemmas.Bool.{cases_Bool, cases_lt}
 use Rattle.byteorder.specs.Endian.{big_number}
 use Rattle.luks_area.specs.Ranges.{part, written, IsAt, SameBut}
 use Rattle.luks_area.specs.RangeFacts.{part-same_but, part-same_but_at, same_but-same, same_but-wider}
 use Rattle.luks_area.specs.Text.{is_plain, text_of}
-use Rattle.luks_head.specs.Bytes.{IsUuid, number_at, text_at}
-use Rattle.luks_head.specs.Header1.{active_word, common_size, enabled_word, entry, entry_iterations, entry_stripes, field_at, field_len, header_text, HoldsCommon, HoldsEntry, IsCommon, IsEntry, IsLuks1, luks1_size, word_of}
-use Rattle.luks_head.specs.Written.{AreZeros, IsWhole, WritesCommon, WritesEntry, WritesLuks1, common_text}
+use Rattle.luks_head.specs.Bytes.{IsUuid}
+use Rattle.luks_head.specs.Header1.{entry, field_at, field_len, header_text, HoldsCommon, HoldsEntry, IsCommon, IsEntry, IsLuks1, luks1_size}
+use Rattle.luks_head.specs.Written.{IsWhole, WritesCommon, WritesEntry, WritesLuks1, common_text}
 use Rattle.luks_head.specs.declared.fault.TextField.{TextField}
 use Rattle.luks_head.specs.declared.fault.TextField.TheVariants as field
 use Rattle.luks_head.specs.declared.luks1.Luks1.{Luks1}

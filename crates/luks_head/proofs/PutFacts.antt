@@ -1,5 +1,5 @@
 -- Fields that are put one after another into zeros.
-use Rattle.std.proofs.Common.{inl, inr, ◌≡◌, ◌==◌, true, false, ℕ, zero, suc, ◌+◌, ◌-◌, ◌^◌, ◌%◌, ◌<◌, ◌≤◌, List, [], ◌∷◌, ◌++◌, length, get_or, replicate, slice_index, refl, sym, ap, ◌∙◌, arith, subst}
+use Rattle.std.proofs.Common.{inl, inr, ◌≡◌, ◌==◌, true, false, ℕ, zero, suc, ◌+◌, ◌-◌, ◌^◌, ◌<◌, ◌≤◌, List, [], ◌∷◌, ◌++◌, length, get_or, replicate, slice_index, refl, sym, ap, ◌∙◌, arith, subst}
 use Rattle.std.specs.Prelude.{take, not}
 use Rattle.std.specs.List.{prefix_len}
 use Rattle.std.proofs.Math.Nat.{mod-lt}
@@ -9,7 +9,7 @@ use Rattle.byteorder.specs.Endian.{big_bytes, big_number}
 use Rattle.byteorder.specs.Numbers.{big_number-reads_back}
 use Rattle.std.specs.Int.{byte_at}
 use Rattle.luks_area.specs.Ranges.{part, written, IsAt, SameBut}
-use Rattle.luks_area.specs.RangeFacts.{get_or-part, length-written, part-add, part-same_but, part-written, same_but-same_outside, same_but-then, same_but-wider, same_outside-written}
+use Rattle.luks_area.specs.RangeFacts.{get_or-part, part-add, part-same_but, part-written, same_but-same_outside, same_but-then, same_but-wider, same_outside-written}
 use Rattle.luks_area.specs.Text.{text_of}
 use Rattle.luks_head.specs.Bytes.{number_at, text_at}
 use Rattle.luks_head.specs.Written.{AreBytes, AreZeros}

@@ -1,4 +1,4 @@
-use Rattle.std.proofs.Common.{◌≤◌, arith, length, lit≤, sym, ◌∙◌}
+use Rattle.std.proofs.Common.{arith, lit≤, sym, ◌∙◌}
 use Rattle.luks_head.proofs.EntryFacts.{entries_agree}
 use Rattle.luks_head.proofs.HeaderFacts2.{front_agrees, written_once}
 use Rattle.luks_head.proofs.NumberFacts.{bytes_within}

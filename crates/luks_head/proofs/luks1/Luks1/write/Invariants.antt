@@ -1,6 +1,5 @@
 use Rattle.std.proofs.Common.{◌≡◌, ◌<◌, ℕ, length, slice_index_or}
-use Rattle.luks_area.specs.Ranges.{part}
-use Rattle.luks_head.specs.Header1.{common_size, entry, luks1_size}
+use Rattle.luks_head.specs.Header1.{entry, luks1_size}
 use Rattle.luks_head.specs.Written.{WritesCommon, WritesEntry}
 use Rattle.luks_head.specs.declared.luks1.Luks1Slot.{Luks1Slot}
 use Rattle.luks_head.proofs.luks1.Luks1.write.Given as goal
