@@ -1,6 +1,9 @@
+pub mod Faulty
+pub mod Files
 pub mod First
 pub mod Area
 pub mod Device
+pub mod Memory
 pub mod Names
 pub mod Printed
 pub mod Ranges

@@ -1,6 +1,6 @@
 -- Facts on the ranges of a volume, for the proofs of every crate that stands on this one.
-use Rattle.std.proofs.Common.{◌≡◌, ℕ, ◌+◌, ◌-◌, ◌<◌, ◌≤◌, List, ◌++◌, ◌⊎◌, inl, inr, length, take, drop, get_or, min, refl, sym, ap, ◌∙◌, arith, append_assoc, length-append, length-drop}
-use Rattle.std.proofs.lemmas.List.{length-take, length-take-le, get_or-take, get_or-drop, drop-drop, take-take, take_all}
+use Rattle.std.proofs.Common.{◌≡◌, ℕ, ◌+◌, ◌-◌, ◌<◌, ◌≤◌, List, [], ◌++◌, ◌⊎◌, inl, inr, length, take, drop, get_or, min, refl, sym, ap, ◌∙◌, arith, append_assoc, length-append, length-drop}
+use Rattle.std.proofs.lemmas.List.{length-take, length-take-le, get_or-take, get_or-drop, drop-drop, take-take, take_all, append-nil, take-append-drop}
 use Rattle.std.proofs.Math.Seq.{take-add, take-length, take-append_seam, drop-append_seam}
 use Rattle.std.proofs.lemmas.Bool.{cases_lt}
 use Rattle.std.proofs.lemmas.Grind.{same_number_lists}
@@ -78,6 +78,28 @@ same_outside-written v at bytes inside =
       after = ap (λ k. drop k (written v at bytes)) (sym both) ∙ drop-append_seam (take at v ++ bytes) behind;
     }
 
+-- nothing written
+pub written-none : (v : List ℕ) (at : ℕ) → written v at [] ≡ v
+written-none v at = ap (λ l. l ++ drop (at + 0) v) (append-nil (take at v)) ∙ ap (λ k. take at v ++ drop k v) (omega arith) ∙ take-append-drop at v
+
+-- two writes of which the second goes on where the first ended are one
+pub written-written : (v : List ℕ) (at : ℕ) (xs ys : List ℕ) → (at + length xs) + length ys ≤ length v
+    → written (written v at xs) (at + length xs) ys ≡ written v at (xs ++ ys)
+written-written v at xs ys inside =
+    let behind : List ℕ = drop (at + length xs) v in
+    let w : List ℕ = written v at xs in
+    let front : length (take at v) ≡ at = front_length v at (length xs) (omega (arith, inside)) in
+    let both : length (take at v ++ xs) ≡ at + length xs = length-append (take at v) xs ∙ ap (λ n. n + length xs) front in
+    let kept : take (at + length xs) w ≡ take at v ++ xs = ap (λ k. take k w) (sym both) ∙ take-append_seam (take at v ++ xs) behind in
+    let rest : drop (at + length xs) w ≡ behind = ap (λ k. drop k w) (sym both) ∙ drop-append_seam (take at v ++ xs) behind in
+    let last : drop ((at + length xs) + length ys) w ≡ drop ((at + length xs) + length ys) v =
+    sym (drop-drop (length ys) (at + length xs) w) ∙ ap (drop (length ys)) rest ∙ drop-drop (length ys) (at + length xs) v in
+    let end_ : (at + length xs) + length ys ≡ at + length (xs ++ ys) = let long : length (xs ++ ys) ≡ length xs + length ys = length-append xs ys in omega (arith, long) in
+    ap (λ l. (l ++ ys) ++ drop ((at + length xs) + length ys) w) kept
+    ∙ ap (λ l. ((take at v ++ xs) ++ ys) ++ l) last
+    ∙ ap (λ k. ((take at v ++ xs) ++ ys) ++ drop k v) end_
+    ∙ ap (λ l. l ++ drop (at + length (xs ++ ys)) v) (append_assoc (take at v) xs ys)
+
 -- agreeing outside a range
 
 -- a volume agrees with itself
@@ -102,6 +124,17 @@ same_outside-wider {v} {w} at len i n inside same =
       before = sym (take-take at (at + i) w (omega arith)) ∙ ap (take at) same.before ∙ take-take at (at + i) v (omega arith);
       after = ap (λ k. drop k w) (sym there) ∙ sym (drop-drop rest ((at + i) + n) w) ∙ ap (drop rest) same.after
           ∙ drop-drop rest ((at + i) + n) v ∙ ap (λ k. drop k v) there;
+    }
+
+-- a change in the front of a range is one in the range
+pub same_outside-longer : {v w : List ℕ} (at len n : ℕ) → n ≤ len → SameOutside v w at n → SameOutside v w at len
+same_outside-longer {v} {w} at len n inside same =
+    let there : (at + n) + (len - n) ≡ at + len = omega (arith, inside) in
+    record {
+      length_same = same.length_same;
+      before = same.before;
+      after = ap (λ k. drop k w) (sym there) ∙ sym (drop-drop (len - n) (at + n) w) ∙ ap (drop (len - n)) same.after
+          ∙ drop-drop (len - n) (at + n) v ∙ ap (λ k. drop k v) there;
     }
 
 -- places

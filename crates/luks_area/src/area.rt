@@ -1,8 +1,8 @@
 ghost use Rattle.std.specs.Prelude.{Some};
-ghost use Rattle.luks_area.specs.Printed.{name_text};
+ghost use Rattle.luks_area.specs.Printed.{area_fault_text, name_text};
 
+use std::error::Error;
 use std::fmt;
-use thiserror::Error;
 
 /// A range of bytes of a volume: `len` bytes from the byte place `start` on.
 ///
@@ -61,12 +61,23 @@ impl fmt::Display for AreaName {
 }
 
 /// Why areas don't fit into a volume. `Outside` stands before `Overlap`.
-#[derive(Debug, Clone, Copy, PartialEq, Eq, Error)]
+#[derive(Debug, Clone, Copy, PartialEq, Eq)]
 pub enum AreaFault {
     /// The least name of an area that runs past the volume's end.
-    #[error("Outside({0})")]
     Outside(AreaName),
     /// The least pair of names whose areas share a byte place, the lesser name first.
-    #[error("Overlap({0},{1})")]
     Overlap(AreaName, AreaName),
 }
+
+impl fmt::Display for AreaFault {
+    ghost output = { λ f. Some (area_fault_text f) };
+
+    fn fmt<W: fmt::Write>(&self, f: &mut fmt::Formatter<W>) -> fmt::Result {
+        match self {
+            AreaFault::Outside(name) => write!(f, "Outside({name})"),
+            AreaFault::Overlap(first, second) => write!(f, "Overlap({first},{second})"),
+        }
+    }
+}
+
+impl Error for AreaFault {}

@@ -19,7 +19,7 @@ pub struct Entry {
 /// They are held in place: no call takes memory.
 #[derive(Debug, Clone, Drop)]
 pub struct Areas {
-    entries: ArrayVec<Entry, 66>,
+    entries: ArrayVec<Entry, MOST_AREAS>,
 }
 
 impl Model for Areas {
@@ -35,7 +35,7 @@ impl Model for Areas {
 }
 
 impl Areas {
-    ghost use Rattle.std.specs.Prelude.{◌≡◌, ◌<◌, ℕ, [], ◌∷◌, ◌++◌, length};
+    ghost use Rattle.std.specs.Prelude.{◌≡◌, ◌<◌, ◌≤◌, [], ◌∷◌, ◌++◌, length};
     ghost use Rattle.luks_area.specs.declared.area.Area.{Area as TheArea};
     ghost use Rattle.luks_area.specs.declared.area.AreaName.{AreaName as TheName};
     ghost use Rattle.luks_area.specs.Area.{IsBefore};
@@ -71,6 +71,7 @@ impl Areas {
     pub fn as_slice(&self) -> &[Entry]
         ensures entries { result.now ≡ self.now }
         ensures increasing { IsIncreasing self.now }
+        ensures most { length self.now ≤ 66 }
     {
         self.entries.as_slice()
     }

@@ -2,12 +2,25 @@ ghost use Rattle.std.specs.Prelude.{◌≡◌, ℕ, ◌+◌, ◌^◌, ◌<◌, �
 ghost use Rattle.luks_area.specs.Device.{CountsFailure, IsUnchanged, is_failure};
 ghost use Rattle.luks_area.specs.Ranges.{part, written, SameOutside};
 
-use thiserror::Error;
+use std::error::Error;
+use std::fmt;
 
 /// A device call failed. The device counts its failures.
-#[derive(Debug, Clone, Copy, PartialEq, Eq, Error)]
-#[error("Device")]
+#[derive(Debug, Clone, Copy, PartialEq, Eq)]
 pub struct DeviceFault;
+
+impl fmt::Display for DeviceFault {
+    ghost use Rattle.std.specs.Prelude.{Some};
+    ghost use Rattle.luks_area.specs.Printed.{device_fault_text};
+
+    ghost output = { λ _. Some device_fault_text };
+
+    fn fmt<W: fmt::Write>(&self, f: &mut fmt::Formatter<W>) -> fmt::Result {
+        f.write_str("Device")
+    }
+}
+
+impl Error for DeviceFault {}
 
 /// A block of bytes of a fixed length that is read and written by ranges, such as a disk.
 ///
@@ -64,5 +77,9 @@ pub trait Device: Drop {
         ensures count { CountsFailure is_failure result (failed self.old) (failed self.new) }
         ensures unchanged { IsUnchanged tells size bytes self.old self.new };
 
+    /// A device that tells its bytes has as many as its length.
     ghost sized: { (d : Self) → tells → length (bytes d) ≡ size d };
+
+    /// A length fits a `u64`.
+    ghost bounded: { (d : Self) → size d < 2 ^ 64 };
 }

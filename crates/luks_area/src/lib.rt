@@ -4,16 +4,20 @@
 mod area;
 mod areas;
 mod device;
+mod faulty;
+mod file;
+mod filling;
 mod fitting;
 mod memory;
 mod sectors;
-#[cfg(test)]
-mod tests;
 mod text;
 
 pub use area::{Area, AreaFault, AreaName};
 pub use areas::{Areas, Entry, MOST_AREAS};
 pub use device::{Device, DeviceFault};
+pub use faulty::{FaultyDevice, Leave};
+pub use file::FileDevice;
+pub use filling::fill;
 pub use fitting::fit;
 pub use memory::MemDevice;
 pub use sectors::{SECTOR, rounded_to_sectors};

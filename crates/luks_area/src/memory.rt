@@ -1,50 +1,43 @@
-ghost use Rattle.std.specs.Prelude.{◌≡◌, ◌+◌, ◌≤◌, length};
+ghost use Rattle.std.specs.Prelude.{◌≡◌, ◌+◌, ◌≤◌, ◌<◌, ◌^◌, length};
 ghost use Rattle.luks_area.specs.Ranges.{written};
 
 use crate::device::{Device, DeviceFault};
-use std::marker::Model;
 
 /// A device in memory, such as a whole image that was read. It tells its bytes, and no call of it
 /// fails.
 #[derive(Debug, Drop)]
 pub struct MemDevice {
     contents: Vec<u8>,
-}
-
-impl Model for MemDevice {
-    ghost use Rattle.std.specs.Prelude.{ℕ, List};
-
-    ghost Value = { List ℕ };
-
-    ghost view = { λ d. d.contents.items };
+    ghost fits: { length contents.items < 2 ^ 64 },
 }
 
 impl MemDevice {
-    ghost use Rattle.std.specs.Prelude.{◌≡◌};
+    ghost use Rattle.luks_area.specs.Memory.{memory_bytes};
 
     /// A device of exactly these bytes; its length is theirs.
     pub fn new(contents: Vec<u8>) -> Self
-        ensures { result ≡ contents.items }
+        ensures { memory_bytes result ≡ contents.items }
     {
         MemDevice { contents }
     }
 
     /// The bytes that the device holds now.
     pub fn contents(&self) -> &[u8]
-        ensures { result.now ≡ self.now }
+        ensures { result.now ≡ memory_bytes self.now }
     {
         self.contents.as_slice()
     }
 }
 
 impl Device for MemDevice {
-    ghost use Rattle.std.specs.Prelude.{length, refl};
+    ghost use Rattle.std.specs.Prelude.{refl};
+    ghost use Rattle.luks_area.specs.Memory.{memory_bytes};
 
     ghost tells = { Unit {0} };
 
-    ghost bytes = { λ d. d };
+    ghost bytes = { memory_bytes };
 
-    ghost size = { λ d. length d };
+    ghost size = { λ d. length (memory_bytes d) };
 
     ghost failed = { λ _. 0 };
 
@@ -72,6 +65,8 @@ impl Device for MemDevice {
     }
 
     ghost sized = { λ d t. refl };
+
+    ghost bounded = { λ d. d.fits };
 }
 
 /// Writes `from` over the bytes from `at` on.

@@ -40,7 +40,7 @@ unfolding turn
 length-turn prf len tags first is_first zero = is_first
 length-turn prf len tags first is_first (suc k) = tags _
 
-pub length-turns_xored : (prf : List ℕ → List ℕ) (len : ℕ) → ((m : List ℕ) → length (prf m) ≡ len)
+length-turns_xored : (prf : List ℕ → List ℕ) (len : ℕ) → ((m : List ℕ) → length (prf m) ≡ len)
     → (first : List ℕ) → length first ≡ len → (k : ℕ) → length (turns_xored prf first k) ≡ len
 unfolding turns_xored
 length-turns_xored prf len tags first is_first zero = is_first
@@ -54,7 +54,7 @@ length-derived_block : (prf : List ℕ → List ℕ) (len : ℕ) → ((m : List 
 unfolding derived_block first_turn
 length-derived_block prf len tags salt c i = length-turns_xored prf len tags _ (tags _) (c - 1)
 
-pub length-derived_blocks : (prf : List ℕ → List ℕ) (len : ℕ) → ((m : List ℕ) → length (prf m) ≡ len)
+length-derived_blocks : (prf : List ℕ → List ℕ) (len : ℕ) → ((m : List ℕ) → length (prf m) ≡ len)
     → (salt : List ℕ) (c n : ℕ) → length (derived_blocks prf salt c n) ≡ n * len
 unfolding derived_blocks
 length-derived_blocks prf len tags salt c zero = omega arith

@@ -4,12 +4,16 @@ use borrow.Rule.Slice.PartMut.{put_mid}
 use Rattle.std.proofs.Math.Nat.{mul-div_cancel}
 use Rattle.std.proofs.lemmas.List.{append-nil, drop_at, drop_all, drop-append-le, length-drop, length-replicate, take_all, take_at, take-append-le}
 use Rattle.luks_kdf.specs.Xor.{xor_bytes}
-use Rattle.luks_kdf.specs.Splitter.{block_at, diffuse, stripe_at, mixed, merge}
+use Rattle.luks_kdf.specs.Splitter.{block_at, diffuse, stripe_at, mixed, merge, split, Splits, TakesIn}
 use Rattle.luks_kdf.proofs.XorFacts.{length-xor_bytes, xor_bytes-twice}
 use Rattle.luks_kdf.proofs.DiffuseFacts.{length-block_at, length-diffuse}
 
+-- the number of stripes of a row
+pub count-stripes : (k len n : ℕ) → 1 ≤ k → len ≡ n * k → len / k ≡ n
+count-stripes k len n some whole = ap (λ l. l / k) whole ∙ mul-div_cancel n some
+
 -- a whole stripe has the key's length
-pub length-stripe_at : (k : ℕ) (stripes : List ℕ) (i : ℕ) → (i + 1) * k ≤ length stripes
+length-stripe_at : (k : ℕ) (stripes : List ℕ) (i : ℕ) → (i + 1) * k ≤ length stripes
     → length (stripe_at k stripes i) ≡ k
 unfolding stripe_at
 length-stripe_at k stripes i inside = omega (arith, length-block_at k stripes i, inside)
@@ -30,7 +34,7 @@ unfolding stripe_at block_at
 stripe_at-last k xs last i before whole =
     rw (drop_at xs last (i * k) before) (take_all k last (omega (arith, whole)))
 
-pub length-mixed : (hash : List ℕ → List ℕ) (size : ℕ) → ((m : List ℕ) → length (hash m) ≡ size)
+length-mixed : (hash : List ℕ → List ℕ) (size : ℕ) → ((m : List ℕ) → length (hash m) ≡ size)
     → 1 ≤ size → (k : ℕ) (stripes : List ℕ) (i : ℕ) → i * k ≤ length stripes
     → length (mixed hash size k stripes i) ≡ k
 unfolding mixed
@@ -68,12 +72,42 @@ merge-last hash size digests some key random last i whole is_last =
     rw (count, front, end, is_last) (xor_bytes-twice block key block_length)
 
 -- one stripe more
-pub mixed_step : (hash : List ℕ → List ℕ) (size k : ℕ) (stripes before next after : List ℕ) (i : ℕ)
-    → before ≡ mixed hash size k stripes i → next ≡ stripe_at k stripes i
-    → after ≡ diffuse hash size (xor_bytes before next) → after ≡ mixed hash size k stripes (i + 1)
+pub takes_in : (hash : List ℕ → List ℕ) (size : ℕ) → ((m : List ℕ) → length (hash m) ≡ size) → 1 ≤ size
+    → (before stripe after : List ℕ) → length before ≡ length stripe
+    → after ≡ diffuse hash size (xor_bytes before stripe) → TakesIn hash size before stripe after
 unfolding mixed
-mixed_step hash size k stripes before next after i is_before is_next is_after =
-    rw (add-one, ← is_before, ← is_next) is_after
+takes_in hash size digests some before stripe after same is_after =
+    record {
+      step = is_after;
+      len = ap length is_after ∙ length-diffuse hash size digests some _ ∙ length-xor_bytes before stripe same;
+      in_turn = λ k i stripes is_before is_stripe. rw (add-one, ← is_before, ← is_stripe) is_after;
+    }
+
+-- the stripes that hold a key, once the last is written after the random ones
+pub splits : (hash : List ℕ → List ℕ) (size : ℕ) → ((m : List ℕ) → length (hash m) ≡ size) → 1 ≤ size
+    → (key random last : List ℕ) (i : ℕ) → 1 ≤ length key → length random ≡ i * length key
+    → last ≡ xor_bytes (mixed hash size (length key) random i) key
+    → Splits hash size key random (random ++ last)
+unfolding split
+splits hash size digests some key random last i some_bytes whole is_last =
+    let k = length key in
+    let block = mixed hash size k random i in
+    let block_length : length block ≡ k =
+    length-mixed hash size digests some k random i (omega (arith, whole)) in
+    let last_length : length last ≡ k = ap length is_last ∙ length-xor_bytes block key block_length ∙ block_length in
+    let len = length (random ++ last) in
+    let row : len ≡ (i + 1) * k = omega (arith, length-append random last, whole, last_length) in
+    let count : (n : ℕ) → len ≡ n * k → i + 1 ≡ n =
+    λ n is_len. sym (count-stripes k len (i + 1) some_bytes row) ∙ count-stripes k len n some_bytes is_len in
+    let less : i + 1 - 1 ≡ i = omega arith in
+    record {
+      value = λ n is_len.
+          ap (λ l. random ++ l) is_last
+          ∙ ap (λ j. random ++ xor_bytes (mixed hash size k random j) key) (sym less ∙ ap (λ j. j - 1) (count n is_len));
+      merges_back = λ n is_len.
+          ap (λ j. merge hash size k j (random ++ last)) (sym (count n is_len))
+          ∙ merge-last hash size digests some key random last i whole is_last;
+    }
 
 -- a stripe as it is cut out of its row
 pub stripe_at-cut : (k : ℕ) (stripes : List ℕ) (i : ℕ)
@@ -94,16 +128,6 @@ stripe_at-left k stripes i at is_at whole =
 pub some-stripes : (k len n : ℕ) → 1 ≤ len → len ≡ n * k → 1 ≤ n
 some-stripes k len zero some whole = omega (arith, some, whole)
 some-stripes k len (suc n) some whole = omega arith
-
--- all stripes but the last
-pub front-stripes : (k len n : ℕ) → len + k ≡ n * k → 1 ≤ n → len ≡ (n - 1) * k
-front-stripes k len zero whole some = absurd (omega (arith, some))
-front-stripes k len (suc n) whole some =
-    let less : suc n - 1 ≡ n = omega arith in rw less (omega (arith, whole))
-
--- the number of stripes of a row
-pub count-stripes : (k len n : ℕ) → 1 ≤ k → len ≡ n * k → len / k ≡ n
-count-stripes k len n some whole = ap (λ l. l / k) whole ∙ mul-div_cancel n some
 
 -- the random stripes with the last one written after them
 pub put_mid-last : (random copy rest last : List ℕ) → copy ≡ random

@@ -15,7 +15,7 @@ length-xor_bytes (x ∷ xs) (y ∷ ys) same =
     let rest = length-xor_bytes xs ys (omega (arith, same)) in omega (arith, rest)
 
 -- one place more
-pub xor_bytes-append : (xs ys : List ℕ) (x y : ℕ) → length xs ≡ length ys
+xor_bytes-append : (xs ys : List ℕ) (x y : ℕ) → length xs ≡ length ys
     → xor_bytes (xs ++ x ∷ []) (ys ++ y ∷ []) ≡ xor_bytes xs ys ++ bit_xor x y ∷ []
 unfolding xor_bytes
 xor_bytes-append [] [] x y same = refl

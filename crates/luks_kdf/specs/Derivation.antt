@@ -11,7 +11,8 @@ block_key hash block key =
     let short = if nat_lt block (length key) then hash key else key in
     short ++ replicate (block - length short) 0
 
--- the key's block under the inner pad, 0x36 in each byte, and under the outer pad, 0x5C (RFC 2104, 2)
+-- the key's block under the inner pad, 0x36 in each byte, and under the outer pad, 0x5C (RFC 2104,
+-- 2)
 abbrev pub inner_block : (List ℕ → List ℕ) → ℕ → List ℕ → List ℕ
 inner_block hash block key = map (bit_xor 0x36) (block_key hash block key)
 
@@ -24,7 +25,8 @@ hmac hash block key m =
     hash (outer_block hash block key ++ hash (inner_block hash block key ++ m))
 
 -- two states of a hash that have taken in the key's block, one under each pad
-abbrev pub HoldKey : {S : Type 0} → (S → List ℕ → Type 0) → (List ℕ → List ℕ) → ℕ → S → S → List ℕ → Type 0
+abbrev pub HoldKey : {S : Type 0} → (S → List ℕ → Type 0) → (List ℕ → List ℕ) → ℕ
+    → S → S → List ℕ → Type 0
 HoldKey holds hash block inner outer key =
     holds inner (inner_block hash block key) × holds outer (outer_block hash block key)
 
@@ -52,7 +54,7 @@ unfoldable pub derived_blocks : (List ℕ → List ℕ) → List ℕ → ℕ →
 derived_blocks prf salt c zero = []
 derived_blocks prf salt c (suc n) = derived_blocks prf salt c n ++ derived_block prf salt c (suc n)
 
--- PBKDF2 with HMAC: the first n bytes of all T_i joined (RFC 8018, 5.2, step 4). No block is empty, so
--- n blocks are enough.
+-- PBKDF2 with HMAC: the first n bytes of all T_i joined (RFC 8018, 5.2, step 4). No block is empty,
+-- so n blocks are enough.
 unfoldable pub pbkdf2 : (List ℕ → List ℕ) → ℕ → List ℕ → List ℕ → ℕ → ℕ → List ℕ
 pbkdf2 hash block password salt c n = take n (derived_blocks (hmac hash block password) salt c n)

@@ -6,29 +6,39 @@ use Rattle.sha2.specs.Sha256.{sha256}
 use Rattle.luks_kdf.specs.declared.hash_name.HashName.{HashName}
 use Rattle.luks_kdf.specs.declared.hash_name.HashName.TheVariants.{Sha1, Sha256}
 
+-- a hash function of FIPS 180-4, section 1: the digest of each message, the lengths of a digest and
+-- of the blocks in bytes; and the text that names it in a header
+pub record HashFunction : Type 0 where
+  pub name : List ℕ
+  pub digest : List ℕ → List ℕ
+  pub digest_size : ℕ
+  pub block_size : ℕ
+
+abbrev pub function_of : HashName → HashFunction
+function_of Sha1 =
+    record { name = codes "sha1"; digest = sha1; digest_size = 20; block_size = 64 }
+function_of Sha256 =
+    record { name = codes "sha256"; digest = sha256; digest_size = 32; block_size = 64 }
+
 -- the text of a header that names the hash
 abbrev pub name_of : HashName → List ℕ
-name_of Sha1 = codes "sha1"
-name_of Sha256 = codes "sha256"
+name_of hash = (function_of hash).name
 
 -- the hash that a text names, if it names one
 abbrev pub hash_named : List ℕ → Option HashName
 hash_named text =
-    if bytes_eq text (codes "sha1") then Some Sha1
-    else if bytes_eq text (codes "sha256") then Some Sha256
+    if bytes_eq text (name_of Sha1) then Some Sha1
+    else if bytes_eq text (name_of Sha256) then Some Sha256
     else None
 
--- the function itself, from a message to its digest (FIPS 180-4)
+-- the function itself, from a message to its digest
 abbrev pub hash_of : HashName → List ℕ → List ℕ
-hash_of Sha1 = sha1
-hash_of Sha256 = sha256
+hash_of hash = (function_of hash).digest
 
 -- how many bytes a digest has
 abbrev pub digest_size_of : HashName → ℕ
-digest_size_of Sha1 = 20
-digest_size_of Sha256 = 32
+digest_size_of hash = (function_of hash).digest_size
 
 -- how many bytes the hash works on at a time
 abbrev pub block_size_of : HashName → ℕ
-block_size_of Sha1 = 64
-block_size_of Sha256 = 64
+block_size_of hash = (function_of hash).block_size

@@ -2,10 +2,10 @@
 
 ghost use Rattle.std.specs.Prelude.{◌≡◌, ℕ, ◌-◌, ◌*◌, ◌<◌, ◌≤◌, ◌^◌, List, length};
 ghost use Rattle.luks_kdf.specs.Derivation.{HoldKey, hmac, turns_xored, derived_block, derived_blocks, pbkdf2};
-ghost use Rattle.luks_kdf.specs.Xor.{xor_bytes};
 
 use crate::hash::HashFn;
 use crate::keyed::Keyed;
+use crate::xor::xor_into;
 
 /// Writes the first `out.len()` bytes, at most 128, that PBKDF2 derives from the password and the
 /// salt, both of any length, by at least one iteration (RFC 8018, 5.2).
@@ -80,16 +80,5 @@ fn run_turns<H: HashFn>(block: &mut [u8], turn: &mut [u8], keyed: &Keyed<H>, ite
     for count in 1..iterations {
         keyed.retag(turn);
         xor_into(block, turn);
-    }
-}
-
-// Xors the bytes of `mask` into those of `bytes`.
-#[inline(always)]
-pub(crate) fn xor_into(bytes: &mut [u8], mask: &[u8])
-    requires { length bytes.old ≡ length mask.now }
-    ensures { bytes.new ≡ xor_bytes bytes.old mask.now }
-{
-    for i in 0..bytes.len() {
-        bytes[i] ^= mask[i];
     }
 }

@@ -1,24 +1,12 @@
-//! The diffusion of the anti-forensic splitter, in place.
+//! The diffusion of the anti-forensic splitter, in place (LUKS1 On-Disk Format 1.2.3, 2.4).
 
-ghost use Rattle.std.specs.Prelude.{◌≡◌, ◌≤◌, ◌<◌, ◌^◌, ◌++◌, length, take, replicate};
+ghost use Rattle.std.specs.Prelude.{◌≡◌, ◌≤◌, length};
 ghost use Rattle.luks_kdf.specs.Splitter.{diffused, diffuse};
-ghost use Rattle.luks_kdf.specs.Xor.{xor_bytes};
 
-use crate::derive::xor_into;
 use crate::hash::HashFn;
 
-// One step of the splitter: xors a stripe into `block` and diffuses the block.
-pub(crate) fn mix<H: HashFn>(block: &mut [u8], stripe: &[u8])
-    requires same_length { length block.old ≡ length stripe.now }
-    requires at_most_128 { length block.old ≤ 128 }
-    ensures { block.new ≡ diffuse H.digest H.LEN (xor_bytes block.old stripe.now) }
-{
-    xor_into(block, stripe);
-    diffuse_all::<H>(block);
-}
-
 // Diffuses each block of the hash's length by itself.
-fn diffuse_all<H: HashFn>(bytes: &mut [u8])
+pub(crate) fn diffuse<H: HashFn>(bytes: &mut [u8])
     requires { length bytes.old ≤ 128 }
     ensures { bytes.new ≡ diffuse H.digest H.LEN bytes.old }
 {

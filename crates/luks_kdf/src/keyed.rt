@@ -94,8 +94,8 @@ fn padded_start<H: HashFn>(block: &[u8], pad: u8) -> H
     state
 }
 
-/// Writes the HMAC of `message` under `key`, any bytes, into `out`, which has the length of a digest
-/// (RFC 2104).
+/// Writes the HMAC of `message` under `key`, any bytes, into `out`, which has the length of a
+/// digest (RFC 2104).
 pub fn hmac<H: HashFn>(out: &mut [u8], key: &[u8], message: &[u8])
     requires { length out.old ≡ H.LEN }
     ensures { out.new ≡ hmac H.digest H.BLOCK key.now message.now }

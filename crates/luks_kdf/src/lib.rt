@@ -5,9 +5,12 @@ mod derive;
 mod diffuse;
 mod hash;
 mod hash_name;
+mod hash_work;
 mod keyed;
 mod merger;
+mod running_block;
 mod splitter;
+mod xor;
 
 pub use derive::pbkdf2;
 pub use hash::{HashFn, Sha1Fn, Sha256Fn};
@@ -15,6 +18,3 @@ pub use hash_name::HashName;
 pub use keyed::hmac;
 pub use merger::{Merger, merge};
 pub use splitter::{Splitter, merge_undoes_split, split};
-
-#[cfg(test)]
-mod tests;

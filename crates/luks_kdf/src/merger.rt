@@ -1,62 +1,48 @@
-//! Merging stripes into the key that they hold, a stripe at a time.
+//! Merging stripes into the key that they hold (LUKS1 On-Disk Format 1.2.3, 2.4).
 
-ghost use Rattle.std.specs.Prelude.{◌≡◌, ℕ, ◌+◌, ◌*◌, ◌%◌, ◌≤◌, List, length, take, replicate};
-ghost use Rattle.luks_kdf.specs.Splitter.{diffuse, stripe_at, mixed, merge};
+ghost use Rattle.std.specs.Prelude.{◌≡◌, ℕ, ◌+◌, ◌*◌, ◌≤◌, List, length};
+ghost use Rattle.luks_kdf.specs.Splitter.{CanMerge, IsStart, Merges, TakesIn, merge, mixed, stripe_at};
 ghost use Rattle.luks_kdf.specs.Xor.{xor_bytes};
 
-use crate::derive::xor_into;
-use crate::diffuse::mix;
 use crate::hash::HashFn;
-use std::marker::{Model, PhantomData};
+use crate::running_block::RunningBlock;
+use std::marker::Model;
 
-/// Merges stripes that come one at a time. A contract sees it as the running block: after the first
-/// `i` stripes that is the standard's `d_i`, `mixed` of the specification.
+/// Merges stripes that come one at a time (LUKS1 On-Disk Format 1.2.3, 2.4). A contract sees it as
+/// the running block: after the first `i` stripes that is the standard's `d_i`.
 #[derive(Drop)]
 pub struct Merger<H: HashFn> {
-    block: [u8; 128],
-    len: usize,
-    hash: PhantomData<H>,
+    running: RunningBlock<H>,
 }
 
 impl<H: HashFn> Model for Merger<H> {
     ghost Value = { List ℕ };
 
-    ghost view = { λ m. take m.len m.block };
-
-    ghost invariant = { λ m. m.len ≤ 128 };
+    ghost view = { λ m. m.running };
 }
 
 impl<H: HashFn> Merger<H> {
-    /// Before the first stripe of a key of `key_len` bytes, 1 to 128.
+    /// Before the first stripe of a key of `key_len` bytes, 1 to 128: `d_0`.
     pub fn new(key_len: usize) -> Merger<H>
         requires some_bytes { 1 ≤ key_len }
         requires at_most_128 { key_len ≤ 128 }
-        ensures zeros { result ≡ replicate key_len 0 }
-        ensures len { length result ≡ key_len }
-        ensures first { (stripes : List ℕ) → result ≡ mixed H.digest H.LEN key_len stripes 0 }
+        ensures { IsStart H.digest H.LEN key_len result }
     {
         Merger {
-            block: [0; 128],
-            len: key_len,
-            hash: PhantomData,
+            running: RunningBlock::new(key_len),
         }
     }
 
-    /// Takes in the next stripe, which is not the last; it is as long as the key.
+    /// Takes in the next stripe, which is not the last; it is as long as the key. From `d_i` this
+    /// makes `d_(i+1)`.
     pub fn feed(&mut self, next: &[u8])
         requires { length next.now ≡ length self.old }
-        ensures step { self.new ≡ diffuse H.digest H.LEN (xor_bytes self.old next.now) }
-        ensures len { length self.new ≡ length self.old }
-
-        // In whichever row of stripes the next one stands.
-        ensures in_turn { (k i : ℕ) (stripes : List ℕ) → self.old ≡ mixed H.digest H.LEN k stripes i
-            → next.now ≡ stripe_at k stripes i
-            → self.new ≡ mixed H.digest H.LEN k stripes (i + 1) }
+        ensures { TakesIn H.digest H.LEN self.old next.now self.new }
     {
-        mix::<H>(&mut self.block[..self.len], next);
+        self.running.take_in(next);
     }
 
-    /// Writes the key that the stripes and the last one hold.
+    /// Writes the key that the stripes so far and the last one hold, both as long as the key.
     pub fn finish(self, key: &mut [u8], last: &[u8])
         requires key_length { length key.old ≡ length self }
         requires last_length { length last.now ≡ length self }
@@ -65,20 +51,15 @@ impl<H: HashFn> Merger<H> {
             → last.now ≡ stripe_at k stripes i
             → key.new ≡ merge H.digest H.LEN k (i + 1) stripes }
     {
-        key.copy_from_slice(&self.block[..self.len]);
-        xor_into(key, last);
+        self.running.xor_with(key, last);
     }
 }
 
-/// Writes the key that the stripes hold, which lie in a row and are each as long as the key, 1 to 128
-/// bytes.
+/// Writes the key, 1 to 128 bytes, that the stripes hold, which lie in a row and are each as long as
+/// the key (LUKS1 On-Disk Format 1.2.3, 2.4).
 pub fn merge<H: HashFn>(key: &mut [u8], stripes: &[u8])
-    requires some_bytes { 1 ≤ length key.old }
-    requires at_most_128 { length key.old ≤ 128 }
-    requires some_stripes { 1 ≤ length stripes.now }
-    requires whole_stripes { length stripes.now % length key.old ≡ 0 }
-    ensures { (n : ℕ) → length stripes.now ≡ n * length key.old
-        → key.new ≡ merge H.digest H.LEN (length key.old) n stripes.now }
+    requires { CanMerge stripes.now key.old }
+    ensures { Merges H.digest H.LEN (length key.old) stripes.now key.new }
 {
     let len = key.len();
     let count = stripes.len() / len - 1;

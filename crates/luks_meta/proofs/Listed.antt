@@ -1,5 +1,5 @@
 -- In a value that is accepted, each array of names is a list of names.
-use Rattle.std.proofs.Common.{◌≡◌, ℕ, true, false, List, ◌∷◌, Option, Some, None, Ordering, Less, Equal, Greater, option_map, option_and_then, is_some, is_eq, refl, sym, ap, ◌∙◌, inl, inr}
+use Rattle.std.proofs.Common.{◌≡◌, ℕ, true, false, List, ◌∷◌, Option, Some, None, Ordering, Less, Equal, Greater, option_map, option_and_then, is_some, is_eq, refl, sym, ap, ◌∙◌}
 use Rattle.std.proofs.lemmas.Bool.{false≢true, and_parts, and_from}
 use Rattle.std.proofs.lemmas.Map.Text.{is_eq-slice_cmp}
 use Rattle.std.proofs.lemmas.Slice.Eq.{bytes_eq-Decides}
@@ -8,21 +8,22 @@ use Rattle.std.specs.Option.{option_map_or}
 use Rattle.std.specs.Ordering.{nat_cmp, match_ordering}
 use Rattle.serde_json.specs.Data.{Data, null, boolean, number, string, array, object, Items, no_items, item, Members, no_members, member}
 use Rattle.serde_json.specs.Find.{as_str, as_array, as_object, get, get_member}
-use Rattle.luks_meta.specs.declared.table.Section.{Section}
-use Rattle.luks_meta.specs.declared.table.Section.TheVariants.{Digests, Keyslots, Segments, Tokens}
-use Rattle.luks_meta.specs.declared.table.Outer.TheVariants as outer
-use Rattle.luks_meta.specs.declared.table.Member.TheVariants as name
-use Rattle.luks_meta.specs.declared.table.Rule.TheVariants as rule
-use Rattle.luks_meta.specs.declared.table.Row.{Row}
-use Rattle.luks_meta.specs.Number.{is_name}
-use Rattle.luks_meta.specs.Names.{all_names, IsNameList}
-use Rattle.luks_meta.specs.Arrays.{all_named, all_there}
-use Rattle.luks_meta.specs.Reading.{names, item_texts, reads}
-use Rattle.luks_meta.specs.Table.{rows_of, digest_rows, token_rows}
-use Rattle.luks_meta.specs.Faults.{Among, section_at, value_at}
-use Rattle.luks_meta.specs.Says.{member_at, IsRead}
-use Rattle.luks_meta.proofs.Saying.{at_top}
-use Rattle.luks_meta.specs.Accepted.{HasObject, HasNames, IsContent}
+use Rattle.luks_rules.specs.declared.table.Section.{Section}
+use Rattle.luks_rules.specs.declared.table.Section.TheVariants.{Digests, Keyslots, Segments, Tokens}
+use Rattle.luks_rules.specs.declared.table.Outer.TheVariants as outer
+use Rattle.luks_rules.specs.declared.table.Member.TheVariants as name
+use Rattle.luks_rules.specs.declared.table.Rule.TheVariants as rule
+use Rattle.luks_rules.specs.declared.table.Row.{Row}
+use Rattle.luks_json.specs.Number.{is_name}
+use Rattle.luks_json.specs.Names.{all_names, IsNameList}
+use Rattle.luks_json.specs.Arrays.{all_named, all_there}
+use Rattle.luks_rules.specs.Reading.{names, item_texts, reads}
+use Rattle.luks_rules.specs.Table.{rows_of, digest_rows, token_rows}
+use Rattle.luks_rules.specs.Faults.{Among, section_at, value_at}
+use Rattle.luks_rules.specs.Accepted.{IsRead}
+use Rattle.luks_rules.specs.Faults.{member_at}
+use Rattle.luks_meta.proofs.RowsRead.{among_of, at_top, is_row_of}
+use Rattle.luks_rules.specs.Accepted.{HasObject, HasNames, IsContent}
 
 -- a member of a map whose names are all names
 named_member : (o : Ordering) (k l : List ℕ) (ms : Members) (e : Data) → slice_cmp nat_cmp k l ≡ o → is_name l ≡ true
@@ -96,14 +97,14 @@ listed len j c s target n d h r among speaks map read =
 pub digest_keyslots : (len : ℕ) (j : Data) → IsContent len j → (n : ℕ) (d : Data) → HasObject j Digests n d → IsNameList (member_at d outer.Top name.Keyslots)
 digest_keyslots len j c n d h =
     let read : IsRead digest_rows d = c.objects Digests n d h in
-    listed len j c Digests Keyslots n d h _ (inr (inr (inr (inl refl)))) refl (c.sections Keyslots) (at_top digest_rows d 3 _ read refl refl refl)
+    listed len j c Digests Keyslots n d h _ (among_of (is_row_of outer.Top name.Keyslots) digest_rows _ refl) refl (c.sections Keyslots) (at_top digest_rows d name.Keyslots _ read refl refl refl)
 
 pub digest_segments : (len : ℕ) (j : Data) → IsContent len j → (n : ℕ) (d : Data) → HasObject j Digests n d → IsNameList (member_at d outer.Top name.Segments)
 digest_segments len j c n d h =
     let read : IsRead digest_rows d = c.objects Digests n d h in
-    listed len j c Digests Segments n d h _ (inr (inr (inr (inr (inr (inl refl)))))) refl (c.sections Segments) (at_top digest_rows d 5 _ read refl refl refl)
+    listed len j c Digests Segments n d h _ (among_of (is_row_of outer.Top name.Segments) digest_rows _ refl) refl (c.sections Segments) (at_top digest_rows d name.Segments _ read refl refl refl)
 
 pub token_keyslots : (len : ℕ) (j : Data) → IsContent len j → (n : ℕ) (d : Data) → HasObject j Tokens n d → IsNameList (member_at d outer.Top name.Keyslots)
 token_keyslots len j c n d h =
     let read : IsRead token_rows d = c.objects Tokens n d h in
-    listed len j c Tokens Keyslots n d h _ (inl refl) refl (c.sections Keyslots) (at_top token_rows d 0 _ read refl refl refl)
+    listed len j c Tokens Keyslots n d h _ (among_of (is_row_of outer.Top name.Keyslots) token_rows _ refl) refl (c.sections Keyslots) (at_top token_rows d name.Keyslots _ read refl refl refl)

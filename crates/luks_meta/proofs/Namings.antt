@@ -1,5 +1,5 @@
 -- The one digest that names a keyslot.
-use Rattle.std.proofs.Common.{◌≡◌, ℕ, ◌+◌, ◌<◌, Bool, true, List, [], ◌∷◌, Option, Some, None, Ordering, Less, Equal, Greater, String, Global, string_bytes, string_cmp, option_map, option_and_then, is_some, is_eq, IfSome, codes, refl, sym, ap, ◌∙◌, inl, inr, subst, arith}
+use Rattle.std.proofs.Common.{◌≡◌, ℕ, ◌+◌, ◌<◌, Bool, true, false, List, [], ◌∷◌, Option, Some, None, Ordering, Less, Equal, Greater, String, Global, string_bytes, string_cmp, option_map, option_and_then, is_some, is_eq, IfSome, codes, length, refl, sym, ap, ◌∙◌, inl, inr, subst, arith}
 use Rattle.std.proofs.lemmas.Bool.{false≢true, true≢false, and_parts, cases_Bool}
 use Rattle.std.proofs.lemmas.Cmp.{nat_list_cmp_total, tied_itself}
 use Rattle.std.proofs.lemmas.Map.Text.{is_eq-slice_cmp}
@@ -8,18 +8,18 @@ use Rattle.std.specs.Cmp.Lexicographic.{slice_cmp}
 use Rattle.std.specs.List.{AllByRecursion}
 use Rattle.std.specs.List.Sorted.{IsStrictlySortedBy}
 use Rattle.std.specs.Map.{keys_of}
+use Rattle.std.specs.Option.{option_map_or}
 use Rattle.std.specs.Ordering.{nat_cmp}
 use Rattle.serde_json.specs.Data.{Data, null, boolean, number, string, array, object, Members, no_members, member}
 use Rattle.serde_json.specs.Find.{get, get_member, as_object}
 use Rattle.serde_json.specs.View.{members_view}
 use Rattle.serde_json.proofs.Views.{Entry}
-use Rattle.luks_meta.specs.declared.table.Section.TheVariants.{Digests, Keyslots}
-use Rattle.luks_meta.specs.Number.{number_of, number_text}
-use Rattle.luks_meta.specs.Arrays.{all_named, names, naming_members, naming_count}
-use Rattle.luks_meta.specs.Faults.{object_at, section_at, has_section}
-use Rattle.luks_meta.specs.Accepted.{IsContent, HasObject}
+use Rattle.luks_rules.specs.declared.table.Section.TheVariants.{Digests, Keyslots}
+use Rattle.luks_json.specs.Number.{number_of, number_text}
+use Rattle.luks_json.specs.Arrays.{all_named, names, naming_members, naming_count}
+use Rattle.luks_rules.specs.Faults.{object_at, section_at, is_section}
+use Rattle.luks_rules.specs.Accepted.{IsContent, IsMeta, HasObject}
 use Rattle.luks_meta.specs.Naming.{IsDigestOf, first_naming, IsUnique}
-use Rattle.luks_meta.proofs.Numbers.{text_of_named, number_of_text}
 
 -- ---- names that ascend are unique
 
@@ -109,14 +109,22 @@ further t l e ms m alone f = elim (at (number_text m) l e ms) [
   | later rest ↦ record { numbered = f.numbered; object = f.object; is = rest ∙ f.is; lists_it = f.lists_it }
 ]
 
-pub found : (t : List ℕ) (ms : Members) (m : ℕ) → IsUnique ms → first_naming t ms ≡ Some m → Found t ms m
-found t no_members m alone e = absurd (cc)
-found t (member l d ms) m alone e = elim (cases_Bool (lists t d)) [
+-- a name's number has that name
+abbrev pub NamesSay : Type 0
+NamesSay = (text : List ℕ) (n : ℕ) → number_of text ≡ Some n → (text ≡ number_text n) × (n < 32)
+
+-- a number below 32 is that of its name
+abbrev pub NumbersSay : Type 0
+NumbersSay = (n : ℕ) → n < 32 → number_of (number_text n) ≡ Some n
+
+pub found : NamesSay → (t : List ℕ) (ms : Members) (m : ℕ) → IsUnique ms → first_naming t ms ≡ Some m → Found t ms m
+found says t no_members m alone e = absurd (cc)
+found says t (member l d ms) m alone e = elim (cases_Bool (lists t d)) [
   | inl listed ↦
       let named : number_of l ≡ Some m = rw listed at e in
-      let text = text_of_named l m named in
+      let text = says l m named in
       record { numbered = text.1; object = d; is = rw (text.0, same_text (number_text m)) refl; lists_it = listed }
-  | inr off ↦ further t l d ms m alone.0 (found t ms m alone.1 (rw off at e))
+  | inr off ↦ further t l d ms m alone.0 (found says t ms m alone.1 (rw off at e))
 ]
 
 -- ---- the digests of a value
@@ -130,14 +138,14 @@ as_map (Some (string s)) ms k e = absurd (cc)
 as_map (Some (array ds)) ms k e = absurd (cc)
 as_map (Some (object os)) ms k e = ap (get_member k) (some_same os ms e)
 
-pub section_there : {A : Type 0} (f : A → Data) (r : Option A) (v : Option Data) → option_map f r ≡ v → has_section Digests v ≡ true → is_some r ≡ true
+pub section_there : {A : Type 0} (f : A → Data) (r : Option A) (v : Option Data) → option_map f r ≡ v → is_section Digests v ≡ true → is_some r ≡ true
 section_there f None v e h = absurd (false≢true (rw (← e) at h))
 section_there f (Some x) v e h = refl
 
-pub section_is : {A : Type 0} (f : A → Data) (r : Option A) (x : A) (v : Option Data) → option_map f r ≡ v → r ≡ Some x → has_section Digests v ≡ true → has_section Digests (Some (f x)) ≡ true
-section_is f r x v e u h = let same : Some (f x) ≡ v = rw u at e in let P : Option Data → Type 0 = λ o. has_section Digests o ≡ true in subst P (sym same) h
+pub section_is : {A : Type 0} (f : A → Data) (r : Option A) (x : A) (v : Option Data) → option_map f r ≡ v → r ≡ Some x → is_section Digests v ≡ true → is_section Digests (Some (f x)) ≡ true
+section_is f r x v e u h = let same : Some (f x) ≡ v = rw u at e in let P : Option Data → Type 0 = λ o. is_section Digests o ≡ true in subst P (sym same) h
 
-pub object_there : {A : Type 0} (f : A → Members) (r : Option A) (d : Data) → option_map f r ≡ as_object d → has_section Digests (Some d) ≡ true → is_some r ≡ true
+pub object_there : {A : Type 0} (f : A → Members) (r : Option A) (d : Data) → option_map f r ≡ as_object d → is_section Digests (Some d) ≡ true → is_some r ≡ true
 object_there f None d e h = absurd (false≢true (rw (← e) at h))
 object_there f (Some x) d e h = refl
 
@@ -155,7 +163,7 @@ pub named_by : (len : ℕ) (j : Data) (n : ℕ) (d : Data) (ms : Members) → Is
 named_by len j n d ms c h e alone =
     let held : HasObject j Keyslots n d = record { numbered = refl; named = h.0; is = h.1 } in
     let once : naming_count (codes "keyslots") (number_text n) (section_at j Digests) ≡ 1 = c.resolves.keyslots n d held in
-    let all : has_section Digests (section_at j Digests) ≡ true = c.sections Digests in
+    let all : is_section Digests (section_at j Digests) ≡ true = c.sections Digests in
     record {
       small = h.0;
       keyslot = rw h.1 refl;
@@ -165,10 +173,10 @@ named_by len j n d ms c h e alone =
       alone = alone;
     }
 
-pub digest_some : (j : Data) (n : ℕ) (ms : Members) (r : Option ℕ) → Named j n ms → r ≡ first_naming (number_text n) ms → IfSome r (IsDigestOf j n)
-digest_some j n ms None h e = tt
-digest_some j n ms (Some m) h e =
-    let f = found (number_text n) ms m h.alone (sym e) in
+pub digest_some : NamesSay → (j : Data) (n : ℕ) (ms : Members) (r : Option ℕ) → Named j n ms → r ≡ first_naming (number_text n) ms → IfSome r (IsDigestOf j n)
+digest_some says j n ms None h e = tt
+digest_some says j n ms (Some m) h e =
+    let f = found says (number_text n) ms m h.alone (sym e) in
     record {
       named = h.small;
       keyslot = h.keyslot;
@@ -178,13 +186,41 @@ digest_some j n ms (Some m) h e =
       lists = f.lists_it;
     }
 
-pub digest_only : (j : Data) (n : ℕ) (ms : Members) (r : Option ℕ) → Named j n ms → r ≡ first_naming (number_text n) ms → (m : ℕ) → IsDigestOf j n m → r ≡ Some m
-digest_only j n ms r h e m d =
+pub digest_only : NumbersSay → (j : Data) (n : ℕ) (ms : Members) (r : Option ℕ) → Named j n ms → r ≡ first_naming (number_text n) ms → (m : ℕ) → IsDigestOf j n m → r ≡ Some m
+digest_only told j n ms r h e m d =
     e ∙ (first_is (number_text m) (number_text n) d.object ms h.once (sym (as_map (section_at j Digests) ms (number_text m) h.digests) ∙ d.is) d.lists
-    ∙ number_of_text m d.numbered)
+    ∙ told m d.numbered)
 
 pub digest_there : (j : Data) (n : ℕ) (ms : Members) (r : Option ℕ) → Named j n ms → r ≡ first_naming (number_text n) ms → is_some r ≡ true
 digest_there j n ms r h e = rw e (one_is (number_text n) ms h.once h.all)
 
 pub no_digest : (j : Data) (n : ℕ) → (n < 32 → object_at j Keyslots n ≡ None) → (m : ℕ) → IsDigestOf j n m → ⊥
 no_digest j n missing m d = false≢true (rw (missing d.named) at d.keyslot)
+
+-- ---- one digest
+
+maps_there : (o : Option Members) → option_map_or all_named o false ≡ true → (ms : Members) × (o ≡ Some ms)
+maps_there None h = absurd (false≢true h)
+maps_there (Some ms) h = (ms, refl)
+
+some_there : {A : Type 0} (o : Option A) → is_some o ≡ true → (x : A) × (o ≡ Some x)
+some_there None h = absurd (false≢true h)
+some_there (Some x) h = (x, refl)
+
+-- the first digest that names the keyslot, by any that does
+first_names : NumbersSay → (len : ℕ) (j : Data) → IsContent len j → (ms : Members) → option_and_then as_object (section_at j Digests) ≡ Some ms
+    → (n m : ℕ) → IsDigestOf j n m → first_naming (number_text n) ms ≡ Some m
+first_names told len j c ms there n m d =
+    let slot = some_there (object_at j Keyslots n) d.keyslot in
+    let held : HasObject j Keyslots n slot.0 = record { numbered = refl; named = d.named; is = slot.1 } in
+    let once : naming_count (codes "keyslots") (number_text n) (section_at j Digests) ≡ 1 = c.resolves.keyslots n slot.0 held in
+    first_is (number_text m) (number_text n) d.object ms (rw there at once) (sym (as_map (section_at j Digests) ms (number_text m) there) ∙ d.is) d.lists
+    ∙ told m d.numbered
+
+pub one_naming : NumbersSay → (area : List ℕ) (j : Data) → IsMeta area j → (n m k : ℕ) → IsDigestOf j n m → IsDigestOf j n k → m ≡ k
+one_naming told area j is n m k d e =
+    let c : IsContent (length area) j = is.content in
+    let p = maps_there (option_and_then as_object (section_at j Digests)) (c.sections Digests) in
+    let a = first_names told (length area) j c p.0 p.1 n m d in
+    let b = first_names told (length area) j c p.0 p.1 n k e in
+    some_same m k (sym a ∙ b)

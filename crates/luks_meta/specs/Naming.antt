@@ -2,10 +2,10 @@
 use Rattle.std.specs.Prelude.{◌≡◌, ℕ, ◌<◌, List, codes, true, Option, Some, None, is_some, if◌then◌else◌}
 use Rattle.serde_json.specs.Data.{Data, Members, no_members, member}
 use Rattle.serde_json.specs.Find.{get, get_member}
-use Rattle.luks_meta.specs.declared.table.Section.TheVariants.{Digests, Keyslots}
-use Rattle.luks_meta.specs.Number.{number_of, number_text}
-use Rattle.luks_meta.specs.Arrays.{names}
-use Rattle.luks_meta.specs.Faults.{object_at}
+use Rattle.luks_rules.specs.declared.table.Section.TheVariants.{Digests, Keyslots}
+use Rattle.luks_json.specs.Number.{number_of, number_text}
+use Rattle.luks_json.specs.Arrays.{names}
+use Rattle.luks_rules.specs.Faults.{object_at}
 
 -- the digest `m` has the name of the keyslot `n` in its array
 pub record IsDigestOf (j : Data) (n m : ℕ) : Type 0 where

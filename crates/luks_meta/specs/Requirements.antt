@@ -4,8 +4,8 @@ use Rattle.std.specs.Prelude.{codes, Bool, true, false, not, option_and_then}
 use Rattle.std.specs.Option.{option_map_or}
 use Rattle.serde_json.specs.Data.{Data, null, boolean, number, string, array, object, no_items, item, no_members, member}
 use Rattle.serde_json.specs.Find.{get, get_member}
-use Rattle.luks_meta.specs.declared.table.Section.TheVariants.{Config}
-use Rattle.luks_meta.specs.Faults.{section_at}
+use Rattle.luks_rules.specs.declared.table.Section.TheVariants.{Config}
+use Rattle.luks_rules.specs.Faults.{section_at}
 
 abbrev pub is_empty_array : Data → Bool
 is_empty_array null = false

@@ -2,11 +2,12 @@
 
 ghost use Rattle.std.specs.Prelude.{◌≡◌, IfSome, IsSome};
 ghost use Rattle.serde_json.specs.View.{view};
-ghost use Rattle.luks_meta.specs.Table.{config_rows};
-ghost use Rattle.luks_meta.specs.Says.{IsRead, SaysConfig, TellsConfig};
+ghost use Rattle.luks_rules.specs.Table.{config_rows};
+ghost use Rattle.luks_rules.specs.Accepted.{IsRead};
+ghost use Rattle.luks_meta.specs.Says.{TellsConfig};
 
 use crate::member::decimal_at;
-use crate::table::{Member, Outer};
+use luks_rules::{Member, Outer};
 use serde_json::Value;
 
 /// The members of `config`.
@@ -20,7 +21,6 @@ pub struct Config {
 
 /// The members of `config`; none where one breaks its rule.
 pub(crate) fn read_config(object: &Value) -> Option<Config>
-    ensures says { IfSome result (λ k. SaysConfig (view object.now) k) }
     ensures tells { IfSome result (λ k. TellsConfig (view object.now) k) }
     ensures there { IsRead config_rows (view object.now) → IsSome result }
 {

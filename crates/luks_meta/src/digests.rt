@@ -2,13 +2,15 @@
 
 ghost use Rattle.std.specs.Prelude.{◌≡◌, IfSome, IsSome};
 ghost use Rattle.serde_json.specs.View.{view};
-ghost use Rattle.luks_meta.specs.Table.{digest_rows};
-ghost use Rattle.luks_meta.specs.Names.{IsNameList};
-ghost use Rattle.luks_meta.specs.Says.{IsRead, member_at, SaysDigest, TellsDigest};
+ghost use Rattle.luks_rules.specs.Table.{digest_rows};
+ghost use Rattle.luks_json.specs.Names.{IsNameList};
+ghost use Rattle.luks_rules.specs.Accepted.{IsRead};
+ghost use Rattle.luks_rules.specs.Faults.{member_at};
+ghost use Rattle.luks_meta.specs.Says.{TellsDigest};
 
 use crate::member::{bytes_at, has_type, numbers_at, small_at, text_at};
-use crate::table::{Member, Outer};
 use arrayvec::ArrayVec;
+use luks_rules::{Member, Outer};
 use serde_json::Value;
 
 /// The members of a digest, which is of the type `pbkdf2`.
@@ -27,7 +29,6 @@ pub struct Digest<'a> {
 
 /// The members of a digest; none where one breaks its rule.
 pub(crate) fn read_digest(object: &Value) -> Option<Digest<'_>>
-    ensures says { IfSome result (λ k. SaysDigest (view object.now) k) }
     ensures tells { IfSome result (λ k. TellsDigest (view object.now) k) }
     ensures there { IsRead digest_rows (view object.now)
         → IsNameList (member_at (view object.now) Outer.Top Member.Keyslots)

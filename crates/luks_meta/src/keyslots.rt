@@ -2,14 +2,15 @@
 
 ghost use Rattle.std.specs.Prelude.{◌≡◌, true, IfSome, IsSome};
 ghost use Rattle.serde_json.specs.View.{view};
-ghost use Rattle.luks_meta.specs.Table.{keyslot_rows};
-ghost use Rattle.luks_meta.specs.declared.table.When.TheVariants as when;
-ghost use Rattle.luks_meta.specs.Faults.{suits, type_at};
-ghost use Rattle.luks_meta.specs.Says.{IsRead, SaysKeyslot, TellsArea, TellsArgon2, TellsCost, TellsKdf, TellsKeyslot, TellsSplitter};
+ghost use Rattle.luks_rules.specs.Table.{keyslot_rows};
+ghost use Rattle.luks_rules.specs.declared.table.When.TheVariants as when;
+ghost use Rattle.luks_rules.specs.Faults.{suits, type_at};
+ghost use Rattle.luks_rules.specs.Accepted.{IsRead};
+ghost use Rattle.luks_meta.specs.Says.{TellsArea, TellsArgon2, TellsCost, TellsKdf, TellsKeyslot, TellsSplitter};
 
 use crate::member::{bytes_at, decimal_at, has_type, key_size_at, priority_at, small_at, text_at};
-use crate::table::{Member, Outer};
 use arrayvec::ArrayVec;
+use luks_rules::{Member, Outer};
 use serde_json::Value;
 
 /// How the key is split over its area.
@@ -77,7 +78,6 @@ pub struct Keyslot<'a> {
 
 /// The members of a keyslot; none where one breaks its rule.
 pub(crate) fn read_keyslot(object: &Value) -> Option<Keyslot<'_>>
-    ensures says { IfSome result (λ k. SaysKeyslot (view object.now) k) }
     ensures tells { IfSome result (λ k. TellsKeyslot (view object.now) k) }
     ensures there { IsRead keyslot_rows (view object.now) → IsSome result }
 {

@@ -1,17 +1,16 @@
 //! Laws on the definitions of this crate. Each function does nothing; its contract is the law.
 
-ghost use Rattle.std.specs.Prelude.{◌≡◌, ◌↔◌, ℕ, List};
+ghost use Rattle.std.specs.Prelude.{◌≡◌, ℕ, List};
 ghost use Rattle.serde_json.specs.Data.{Data};
-ghost use Rattle.luks_meta.specs.declared.fault.MetaFault.{MetaFault};
-ghost use Rattle.luks_meta.specs.Accepted.{IsMeta};
-ghost use Rattle.luks_meta.specs.MetaFault.{IsMetaFault, Json};
+ghost use Rattle.luks_rules.specs.Accepted.{IsMeta};
+ghost use Rattle.luks_meta.specs.Naming.{IsDigestOf};
 
-/// A JSON area holds one value at most.
-pub fn one_value()
-    ensures { (area : List ℕ) (i j : Data) → Json area i → Json area j → i ≡ j }
-{}
+use luks_json::names_say_numbers;
 
-/// An area has no fault exactly where it holds a value that is accepted.
-pub fn metadata_without_faults()
-    ensures { (area : List ℕ) → ((f : MetaFault) → IsMetaFault area f → ⊥) ↔ ((j : Data) × IsMeta area j) }
-{}
+/// In metadata that is accepted, one digest at most names a keyslot.
+pub fn one_digest()
+    ensures { (area : List ℕ) (j : Data) → IsMeta area j
+        → (n m k : ℕ) → IsDigestOf j n m → IsDigestOf j n k → m ≡ k }
+{
+    names_say_numbers();
+}

@@ -1,23 +1,19 @@
 //! The metadata of a LUKS2 header.
 
-ghost use Rattle.std.specs.Prelude.{◌≡◌, ◌≢◌, ◌<◌, ℕ, false, Some, length, All, string_bytes, IfOk, IfErr, IfSome, IsNone, IsSome, MatchOption, is_some, true};
+ghost use Rattle.std.specs.Prelude.{◌≡◌, ◌≢◌, ◌<◌, ℕ, List, false, Some, length, All, string_bytes, IfOk, IfErr, IfSome, IsNone, IsSome, MatchOption, is_some, true};
 ghost use Rattle.serde_json.specs.View.{view};
-ghost use Rattle.luks_meta.specs.Held.{IsHeld};
+ghost use Rattle.luks_rules.specs.Held.{IsHeld};
 
-use crate::compact::compact;
 use crate::configuration::Config;
 use crate::digests::Digest;
-use crate::fault::MetaFault;
 use crate::keyslots::Keyslot;
 use crate::naming::digest_of_keyslot;
 use crate::objects::{config_in, digest_in, keyslot_in, segment_in, token_in};
-use crate::parsing::read_value;
 use crate::requirements::has_requirements;
-use crate::rows::{Content, judge};
 use crate::segments::Segment;
-use crate::sizes::first_segment_below;
-use crate::table::Section;
 use crate::tokens::Token;
+use luks_json::compact_text_of;
+use luks_rules::{MetaFault, Section, first_segment_below, read_content};
 use serde_json::Value;
 use std::alloc::{AllocError, Global};
 
@@ -32,17 +28,18 @@ pub struct Meta {
 
 impl Meta {
     ghost use Rattle.luks_area.specs.First.{IsLeast};
-    ghost use Rattle.luks_meta.specs.declared.fault.MetaFault.{MetaFault};
-    ghost use Rattle.luks_meta.specs.MetaFault.{IsMetaFault, meta_key};
+    ghost use Rattle.luks_json.specs.AreaText.{JsonText};
+    ghost use Rattle.luks_rules.specs.declared.fault.MetaFault.{MetaFault};
+    ghost use Rattle.luks_rules.specs.MetaFault.{IsMetaFault, meta_key};
     ghost use Rattle.serde_json.specs.Data.{Data};
-    ghost use Rattle.luks_meta.specs.Accepted.{IsMeta};
+    ghost use Rattle.luks_rules.specs.Accepted.{IsMeta};
     ghost use Rattle.luks_meta.specs.Content.{area_len, content};
-    ghost use Rattle.luks_meta.specs.Faults.{object_at};
+    ghost use Rattle.luks_rules.specs.Faults.{object_at};
     ghost use Rattle.luks_meta.specs.Naming.{IsDigestOf};
     ghost use Rattle.luks_meta.specs.Objects.{IsConfig, IsMissing, IsObject};
-    ghost use Rattle.luks_meta.specs.Says.{SaysDigest, SaysKeyslot, SaysSegment, SaysToken, TellsDigest, TellsKeyslot, TellsSegment, TellsToken};
+    ghost use Rattle.luks_meta.specs.Says.{TellsDigest, TellsKeyslot, TellsSegment, TellsToken};
     ghost use Rattle.luks_meta.specs.Requirements.{has_requirements};
-    ghost use Rattle.luks_meta.specs.Sizes.{has_segment_below, IsFirst};
+    ghost use Rattle.luks_rules.specs.Sizes.{has_segment_below, IsFirst};
     ghost use Rattle.serde_json.specs.Read.{read};
     ghost use Rattle.serde_json.specs.Written.{compact_text};
 
@@ -56,22 +53,13 @@ impl Meta {
         ensures faultless { IfOk result (λ m. (f : MetaFault) → IsMetaFault area.now f → ⊥) }
         ensures fault { IfErr result (λ f. f ≢ MetaFault.Memory → IsLeast meta_key (IsMetaFault area.now) f) }
         ensures only { (j : Data) → IsMeta area.now j → IfErr result (λ f. f ≡ MetaFault.Memory) }
+        ensures memory { IfErr result (λ f. f ≡ MetaFault.Memory → (text : List ℕ) × JsonText area.now text) }
     {
-        let value = match read_value(alloc, area) {
-            Ok(value) => value,
-            Err(fault) => return Err(fault),
-        };
-        let content = Content {
+        let value = read_content(alloc, area)?;
+        Ok(Meta {
+            value,
             len: area.len(),
-            value: &value,
-        };
-        match judge(content) {
-            Ok(()) => Ok(Meta {
-                value,
-                len: area.len(),
-            }),
-            Err(fault) => Err(fault),
-        }
+        })
     }
 
     /// Whether `config.requirements` is there and is none of `null`, `[]`, `{}` and
@@ -88,10 +76,7 @@ impl Meta {
             ((n : ℕ) → n < 32 → has_segment_below (area_len self.now) (content self.now) n ≡ false)
             (λ n. IsFirst (has_segment_below (area_len self.now) (content self.now)) n) }
     {
-        match first_segment_below(self.len, &self.value) {
-            Some(number) => Some(number),
-            None => None,
-        }
+        first_segment_below(self.len, &self.value)
     }
 
     /// The metadata as JSON text with no white space between its parts.
@@ -102,7 +87,7 @@ impl Meta {
         ensures no_zero { IfOk result (λ s. All (λ c. c ≢ 0) (string_bytes s)) }
         ensures back { IfOk result (λ s. read (string_bytes s) ≡ Some (content self.now)) }
     {
-        compact(alloc, &self.value)
+        compact_text_of(alloc, &self.value)
     }
 
     /// The members of `config`.
@@ -114,7 +99,7 @@ impl Meta {
 
     /// The keyslot with the number, if it is there. Its texts borrow from the metadata.
     pub fn keyslot(&self, number: u8) -> Option<Keyslot<'_>>
-        ensures some { IfSome result (IsObject SaysKeyslot TellsKeyslot (content self.now) Section.Keyslots number) }
+        ensures some { IfSome result (IsObject TellsKeyslot (content self.now) Section.Keyslots number) }
         ensures none { IsNone result → IsMissing (content self.now) Section.Keyslots number }
     {
         keyslot_in(&self.value, number)
@@ -122,7 +107,7 @@ impl Meta {
 
     /// The segment with the number, if it is there.
     pub fn segment(&self, number: u8) -> Option<Segment<'_>>
-        ensures some { IfSome result (IsObject SaysSegment TellsSegment (content self.now) Section.Segments number) }
+        ensures some { IfSome result (IsObject TellsSegment (content self.now) Section.Segments number) }
         ensures none { IsNone result → IsMissing (content self.now) Section.Segments number }
     {
         segment_in(&self.value, number)
@@ -130,7 +115,7 @@ impl Meta {
 
     /// The digest with the number, if it is there.
     pub fn digest(&self, number: u8) -> Option<Digest<'_>>
-        ensures some { IfSome result (IsObject SaysDigest TellsDigest (content self.now) Section.Digests number) }
+        ensures some { IfSome result (IsObject TellsDigest (content self.now) Section.Digests number) }
         ensures none { IsNone result → IsMissing (content self.now) Section.Digests number }
     {
         digest_in(&self.value, number)
@@ -147,7 +132,7 @@ impl Meta {
 
     /// The token with the number, if it is there.
     pub fn token(&self, number: u8) -> Option<Token<'_>>
-        ensures some { IfSome result (IsObject SaysToken TellsToken (content self.now) Section.Tokens number) }
+        ensures some { IfSome result (IsObject TellsToken (content self.now) Section.Tokens number) }
         ensures none { IsNone result → IsMissing (content self.now) Section.Tokens number }
     {
         token_in(&self.value, number)

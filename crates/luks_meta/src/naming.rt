@@ -3,15 +3,13 @@
 ghost use Rattle.std.specs.Prelude.{◌≡◌, ℕ, ◌<◌, true, Some, is_some, option_and_then, IfSome, IsSome};
 ghost use Rattle.serde_json.specs.Find.{as_object};
 ghost use Rattle.serde_json.specs.View.{view, members_view};
-ghost use Rattle.luks_meta.specs.Faults.{object_at, section_at};
+ghost use Rattle.luks_rules.specs.Faults.{object_at, section_at};
 ghost use Rattle.luks_meta.specs.Naming.{IsDigestOf, IsUnique, first_naming};
 ghost use Rattle.luks_meta.specs.Objects.{IsAccepted};
 
-use crate::arrays::names;
-use crate::judge::section_at;
-use crate::number::{number_named, number_text};
 use crate::objects::numbered;
-use crate::table::Section;
+use luks_json::{names, names_say_numbers, number_named, number_text};
+use luks_rules::{Section, section_at};
 use serde_json::{Map, Value};
 
 /// The number of the one digest that names the keyslot, if there is such a keyslot.
@@ -21,6 +19,7 @@ pub(crate) fn digest_of_keyslot(value: &Value, number: u8) -> Option<u8>
     ensures only { (m : ℕ) → IsDigestOf (view value.now) number m → result ≡ Some m }
     ensures there { number < 32 → is_some (object_at (view value.now) Section.Keyslots number) ≡ true → IsSome result }
 {
+    names_say_numbers();
     match numbered(value, Section::Keyslots, number) {
         Some(_) => first_naming(digests_of(value), number_text(number)),
         None => None,

@@ -2,18 +2,16 @@
 
 ghost use Rattle.std.specs.Prelude.{◌≡◌, ◌<◌, Some, IfSome, IsNone};
 ghost use Rattle.serde_json.specs.View.{view};
-ghost use Rattle.luks_meta.specs.Faults.{object_at};
+ghost use Rattle.luks_rules.specs.Faults.{object_at};
 ghost use Rattle.luks_meta.specs.Objects.{IsAccepted, IsConfig, IsMissing, IsObject};
-ghost use Rattle.luks_meta.specs.Says.{SaysDigest, SaysKeyslot, SaysSegment, SaysToken, TellsDigest, TellsKeyslot, TellsSegment, TellsToken};
+ghost use Rattle.luks_meta.specs.Says.{TellsDigest, TellsKeyslot, TellsSegment, TellsToken};
 
 use crate::configuration::{Config, read_config};
 use crate::digests::{Digest, read_digest};
-use crate::judge::section_at;
 use crate::keyslots::{Keyslot, read_keyslot};
 use crate::segments::{Segment, read_segment};
-use crate::table::Section;
 use crate::tokens::{Token, read_token};
-use crate::walk::object_at;
+use luks_rules::{Section, object_at, section_at};
 use serde_json::Value;
 
 pub(crate) fn numbered(value: &Value, section: Section, number: u8) -> Option<&Value>
@@ -38,7 +36,7 @@ pub(crate) fn config_in(value: &Value) -> Config
 /// The keyslot with the number.
 pub(crate) fn keyslot_in(value: &Value, number: u8) -> Option<Keyslot<'_>>
     requires { IsAccepted (view value.now) }
-    ensures some { IfSome result (IsObject SaysKeyslot TellsKeyslot (view value.now) Section.Keyslots number) }
+    ensures some { IfSome result (IsObject TellsKeyslot (view value.now) Section.Keyslots number) }
     ensures none { IsNone result → IsMissing (view value.now) Section.Keyslots number }
 {
     match numbered(value, Section::Keyslots, number) {
@@ -50,7 +48,7 @@ pub(crate) fn keyslot_in(value: &Value, number: u8) -> Option<Keyslot<'_>>
 /// The segment with the number.
 pub(crate) fn segment_in(value: &Value, number: u8) -> Option<Segment<'_>>
     requires { IsAccepted (view value.now) }
-    ensures some { IfSome result (IsObject SaysSegment TellsSegment (view value.now) Section.Segments number) }
+    ensures some { IfSome result (IsObject TellsSegment (view value.now) Section.Segments number) }
     ensures none { IsNone result → IsMissing (view value.now) Section.Segments number }
 {
     match numbered(value, Section::Segments, number) {
@@ -62,7 +60,7 @@ pub(crate) fn segment_in(value: &Value, number: u8) -> Option<Segment<'_>>
 /// The digest with the number.
 pub(crate) fn digest_in(value: &Value, number: u8) -> Option<Digest<'_>>
     requires { IsAccepted (view value.now) }
-    ensures some { IfSome result (IsObject SaysDigest TellsDigest (view value.now) Section.Digests number) }
+    ensures some { IfSome result (IsObject TellsDigest (view value.now) Section.Digests number) }
     ensures none { IsNone result → IsMissing (view value.now) Section.Digests number }
 {
     match numbered(value, Section::Digests, number) {
@@ -74,7 +72,7 @@ pub(crate) fn digest_in(value: &Value, number: u8) -> Option<Digest<'_>>
 /// The token with the number.
 pub(crate) fn token_in(value: &Value, number: u8) -> Option<Token<'_>>
     requires { IsAccepted (view value.now) }
-    ensures some { IfSome result (IsObject SaysToken TellsToken (view value.now) Section.Tokens number) }
+    ensures some { IfSome result (IsObject TellsToken (view value.now) Section.Tokens number) }
     ensures none { IsNone result → IsMissing (view value.now) Section.Tokens number }
 {
     match numbered(value, Section::Tokens, number) {

@@ -7,8 +7,7 @@ ghost use Rattle.serde_json.specs.Data.{object};
 ghost use Rattle.serde_json.specs.View.{view, members_view};
 ghost use Rattle.luks_meta.specs.Requirements.{asks_nothing, has_requirements, is_empty_array};
 
-use crate::judge::section_at;
-use crate::table::Section;
+use luks_rules::{Section, section_at};
 use serde_json::{Map, Value};
 
 fn is_empty_array(value: &Value) -> bool

@@ -2,11 +2,12 @@
 
 ghost use Rattle.std.specs.Prelude.{◌≡◌, IfSome, IsSome};
 ghost use Rattle.serde_json.specs.View.{view};
-ghost use Rattle.luks_meta.specs.Table.{segment_rows};
-ghost use Rattle.luks_meta.specs.Says.{IsRead, SaysSegment, TellsKind, TellsSegment};
+ghost use Rattle.luks_rules.specs.Table.{segment_rows};
+ghost use Rattle.luks_rules.specs.Accepted.{IsRead};
+ghost use Rattle.luks_meta.specs.Says.{TellsKind, TellsSegment};
 
 use crate::member::{Extent, decimal_at, extent_at, has_type, sector_size_at, text_at};
-use crate::table::{Member, Outer};
+use luks_rules::{Member, Outer};
 use serde_json::Value;
 
 /// How a segment's payload is encrypted.
@@ -38,7 +39,6 @@ pub struct Segment<'a> {
 
 /// The members of a segment; none where one breaks its rule.
 pub(crate) fn read_segment(object: &Value) -> Option<Segment<'_>>
-    ensures says { IfSome result (λ k. SaysSegment (view object.now) k) }
     ensures tells { IfSome result (λ k. TellsSegment (view object.now) k) }
     ensures there { IsRead segment_rows (view object.now) → IsSome result }
 {

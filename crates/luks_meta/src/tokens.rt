@@ -2,13 +2,15 @@
 
 ghost use Rattle.std.specs.Prelude.{◌≡◌, IfSome, IsSome};
 ghost use Rattle.serde_json.specs.View.{view};
-ghost use Rattle.luks_meta.specs.Table.{token_rows};
-ghost use Rattle.luks_meta.specs.Names.{IsNameList};
-ghost use Rattle.luks_meta.specs.Says.{IsRead, member_at, SaysToken, TellsToken};
+ghost use Rattle.luks_rules.specs.Table.{token_rows};
+ghost use Rattle.luks_json.specs.Names.{IsNameList};
+ghost use Rattle.luks_rules.specs.Accepted.{IsRead};
+ghost use Rattle.luks_rules.specs.Faults.{member_at};
+ghost use Rattle.luks_meta.specs.Says.{TellsToken};
 
 use crate::member::{numbers_at, text_at};
-use crate::table::{Member, Outer};
 use arrayvec::ArrayVec;
+use luks_rules::{Member, Outer};
 use serde_json::Value;
 
 /// The members of a token.
@@ -22,7 +24,6 @@ pub struct Token<'a> {
 
 /// The members of a token; none where one breaks its rule.
 pub(crate) fn read_token(object: &Value) -> Option<Token<'_>>
-    ensures says { IfSome result (λ k. SaysToken (view object.now) k) }
     ensures tells { IfSome result (λ k. TellsToken (view object.now) k) }
     ensures there { IsRead token_rows (view object.now)
         → IsNameList (member_at (view object.now) Outer.Top Member.Keyslots) → IsSome result }

@@ -1,3 +1,6 @@
-pub mod Units
-pub mod Places
-pub mod Opens
+pub mod SectorFacts
+pub mod AreaFacts
+pub mod OpeningFacts
+pub mod WritingFacts
+pub mod SplittingFacts
+pub mod SealingFacts

@@ -1,5 +1,7 @@
 pub mod Refusal
 pub mod Opening
-pub mod Terms
-pub mod Sectors
-pub mod Answer
+pub mod Sealing
+pub mod Fault
+pub mod Parameters
+pub mod Reading
+pub mod Writing

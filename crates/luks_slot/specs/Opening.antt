@@ -1,8 +1,10 @@
 -- What a keyslot opens to, said of its whole area at once (LUKS1 On-Disk Format 1.2.3, 4.3; LUKS2
 -- On-Disk Format 1.1, 4.3).
-use Rattle.std.specs.Prelude.{ℕ, zero, suc, ◌+◌, ◌*◌, ◌/◌, ◌≤◌, List, [], ◌++◌, length, take, Option, Some, None, unwrap_or, if◌then◌else◌, Bool}
+use Rattle.std.specs.Prelude.{ℕ, zero, suc, ◌*◌, ◌≤◌, List, [], ◌++◌, length, take, Option, Some, None, unwrap_or, if◌then◌else◌, Bool}
 use Rattle.std.specs.Str.{bytes_eq}
+use Rattle.luks_area.specs.declared.area.Area.{Area}
 use Rattle.luks_area.specs.Ranges.{part}
+use Rattle.luks_area.specs.Sectors.{sector_count}
 use Rattle.luks_kdf.specs.declared.hash_name.HashName.{HashName}
 use Rattle.luks_kdf.specs.declared.hash_name.HashName.TheVariants.{Sha1}
 use Rattle.luks_kdf.specs.Derivation.{pbkdf2}
@@ -14,19 +16,23 @@ use Rattle.luks_slot.specs.declared.plan.Derivation.TheVariants.{Pbkdf2, Argon2}
 use Rattle.luks_slot.specs.declared.plan.DigestPlan.{DigestPlan}
 use Rattle.luks_slot.specs.declared.plan.SlotPlan.{SlotPlan}
 
+-- the bytes of a volume's area
+abbrev pub area_bytes : List ℕ → Area → List ℕ
+area_bytes volume area = part volume area.start area.len
+
 -- the hash of a text that names one (a plan with any other text is refused)
-abbrev pub named : List ℕ → HashName
-named text = unwrap_or (hash_named text) Sha1
+abbrev pub hash_by_name : List ℕ → HashName
+hash_by_name text = unwrap_or (hash_named text) Sha1
 
 -- PBKDF2 with the hash that a text names
 abbrev pub derived : List ℕ → List ℕ → List ℕ → ℕ → ℕ → List ℕ
 derived name password salt iterations n =
-    pbkdf2 (hash_of (named name)) (block_size_of (named name)) password salt iterations n
+    pbkdf2 (hash_of (hash_by_name name)) (block_size_of (hash_by_name name)) password salt iterations n
 
 -- the derivation has at least one iteration
-abbrev pub HasTurns : Derivation → Type 0
-HasTurns (Pbkdf2 hash iterations salt) = 1 ≤ iterations
-HasTurns Argon2 = Unit {0}
+abbrev pub HasIterations : Derivation → Type 0
+HasIterations (Pbkdf2 hash iterations salt) = 1 ≤ iterations
+HasIterations Argon2 = Unit {0}
 
 -- the key of the area: as long as the area's cipher wants it
 abbrev pub area_key_by : Derivation → ℕ → List ℕ → List ℕ
@@ -45,23 +51,23 @@ unfoldable pub opened_sectors : List ℕ → List ℕ → ℕ → List ℕ
 opened_sectors key area zero = []
 opened_sectors key area (suc n) = opened_sectors key area n ++ opened_sector key area n
 
--- how many sectors hold n bytes
-abbrev pub sectors_for : ℕ → ℕ
-sectors_for n = (n + 511) / 512
-
 -- how many bytes all stripes have
 abbrev pub stripe_bytes : SlotPlan → ℕ
 stripe_bytes plan = plan.key_bytes * plan.stripes
 
--- the stripes of an area under the area's key, in a row
+-- n stripes of k bytes, in a row from the front of an area under the area's key
+unfoldable pub stripes_from : List ℕ → List ℕ → ℕ → ℕ → List ℕ
+stripes_from key area k n = take (k * n) (opened_sectors key area (sector_count (k * n)))
+
+-- the stripes of an area under the area's key
 unfoldable pub stripes_in : SlotPlan → List ℕ → List ℕ → List ℕ
-stripes_in plan key area =
-    take (stripe_bytes plan) (opened_sectors key area (sectors_for (stripe_bytes plan)))
+stripes_in plan key area = stripes_from key area plan.key_bytes plan.stripes
 
 -- what the stripes hold under a passphrase, the right one or not
 unfoldable pub candidate : SlotPlan → List ℕ → List ℕ → List ℕ
 candidate plan area passphrase =
-    merge (hash_of (named plan.splitter_hash.now)) (digest_size_of (named plan.splitter_hash.now))
+    merge (hash_of (hash_by_name plan.splitter_hash.now))
+    (digest_size_of (hash_by_name plan.splitter_hash.now))
     plan.key_bytes plan.stripes (stripes_in plan (area_key plan passphrase) area)
 
 -- PBKDF2 of the key gives the stored digest, whole

@@ -1,24 +1,53 @@
-use thiserror::Error;
+//! Why a keyslot can't be opened or sealed.
 
-/// Why a keyslot can't be opened or written; the first in this order is answered.
-#[derive(Debug, Clone, Copy, PartialEq, Eq, Error)]
+use luks_area::DeviceFault;
+use std::error::Error;
+use std::fmt;
+
+/// Why a keyslot can't be opened or sealed; the first in this order is answered.
+#[derive(Debug, Clone, Copy, PartialEq, Eq)]
 pub enum SlotFault {
     /// The area's key is derived by Argon2.
-    #[error("Argon2")]
     Argon2,
     /// The area's cipher is another than aes with `xts-plain64` or `xts-plain`.
-    #[error("Cipher")]
     Cipher,
     /// The hash of the derivation, of the splitter or of the digest isn't known.
-    #[error("Hash")]
     Hash,
     /// The area's key has neither 32 nor 64 bytes.
-    #[error("KeySize")]
     KeySize,
     /// The device failed; its count of failures rose.
-    #[error("Device")]
     Device,
     /// Memory was refused.
-    #[error("Memory")]
     Memory,
+}
+
+impl fmt::Display for SlotFault {
+    ghost use Rattle.std.specs.Prelude.{Some};
+    ghost use Rattle.luks_slot.specs.Fault.{fault_text};
+
+    ghost output = { λ f. Some (fault_text f) };
+
+    fn fmt<W: fmt::Write>(&self, f: &mut fmt::Formatter<W>) -> fmt::Result {
+        match self {
+            SlotFault::Argon2 => f.write_str("Argon2"),
+            SlotFault::Cipher => f.write_str("Cipher"),
+            SlotFault::Hash => f.write_str("Hash"),
+            SlotFault::KeySize => f.write_str("KeySize"),
+            SlotFault::Device => f.write_str("Device"),
+            SlotFault::Memory => f.write_str("Memory"),
+        }
+    }
+}
+
+impl Error for SlotFault {}
+
+impl From<DeviceFault> for SlotFault {
+    ghost use Rattle.std.specs.Prelude.{◌≡◌};
+    ghost use Rattle.luks_slot.specs.declared.fault.SlotFault.{SlotFault};
+
+    ghost from_gives = { λ _ fault. fault ≡ SlotFault.Device };
+
+    fn from(_: DeviceFault) -> SlotFault {
+        SlotFault::Device
+    }
 }

@@ -1,54 +1,46 @@
 //! From the stripes of a keyslot's area to what they hold.
 
-ghost use Rattle.std.specs.Prelude.{◌≡◌, ◌+◌, ◌*◌, ◌/◌, ◌^◌, ◌<◌, ◌≤◌, length, MatchResult, OnOk};
-ghost use Rattle.luks_area.specs.Ranges.{part};
+ghost use Rattle.std.specs.Prelude.{◌≡◌, ◌+◌, ◌*◌, ◌^◌, ◌<◌, ◌≤◌, length, OnOk};
+ghost use Rattle.luks_area.specs.Area.{IsInside};
+ghost use Rattle.luks_area.specs.Device.{CountsFailure, IsUnchanged, is_failure};
+ghost use Rattle.luks_area.specs.Sectors.{rounded_to_sectors};
 ghost use Rattle.luks_kdf.specs.Names.{hash_of, digest_size_of};
 ghost use Rattle.luks_kdf.specs.Splitter.{merge};
-ghost use Rattle.luks_slot.specs.Opening.{stripes_in, stripe_bytes, sectors_for};
+ghost use Rattle.luks_slot.specs.Opening.{area_bytes, stripes_from};
 
-use crate::plan::SlotPlan;
-use crate::sectors::read_plain;
+use crate::area_reader::AreaReader;
 use luks_area::{Device, DeviceFault};
 use luks_kdf::{HashFn, HashName, Merger, Sha1Fn, Sha256Fn};
-use luks_xts::XtsKey;
 
-// Merges the stripes of the area as they are read. `sector` is room for one sector, `stripe` for one
-// stripe.
+// Merges the stripes of the reader's area as they are read. `stripe` is room for one of them.
 fn merge_stripes<D: Device, H: HashFn>(
     device: &mut D,
-    plan: &SlotPlan<'_>,
-    key: &XtsKey,
-    sector: &mut [u8],
+    reader: &mut AreaReader,
+    stripes: u32,
     stripe: &mut [u8],
     out: &mut [u8],
 ) -> Result<(), DeviceFault>
-    requires sector_length { length sector.old ≡ 512 }
-    requires stripe_length { length stripe.old ≡ plan.now.key_bytes }
-    requires out_length { length out.old ≡ plan.now.key_bytes }
-    requires some_bytes { 1 ≤ plan.now.key_bytes }
-    requires at_most_128 { plan.now.key_bytes ≤ 128 }
-    requires some_stripes { 1 ≤ plan.now.stripes }
-    requires sectors { 512 * sectors_for (stripe_bytes plan.now) ≤ plan.now.area.len }
-    requires within { plan.now.area.start + plan.now.area.len ≤ D.size device.old }
-    requires no_wrap { plan.now.area.start + plan.now.area.len < 2 ^ 64 }
+    requires stripe_length { length stripe.old ≡ length out.old }
+    requires some_bytes { 1 ≤ length out.old }
+    requires at_most_128 { length out.old ≤ 128 }
+    requires some_stripes { 1 ≤ stripes }
+    requires sectors { rounded_to_sectors (length out.old * stripes) ≤ reader.old.area.len }
+    requires within { IsInside reader.old.area (D.size device.old) }
     requires room { D.failed device.old + 1 < 2 ^ 64 }
-    ensures count { MatchResult result (λ _. D.failed device.new ≡ D.failed device.old)
-        (λ _. D.failed device.new ≡ D.failed device.old + 1) }
-    ensures size { D.size device.new ≡ D.size device.old }
-    ensures same { D.tells → D.bytes device.new ≡ D.bytes device.old }
+    ensures count { CountsFailure is_failure result (D.failed device.old) (D.failed device.new) }
+    ensures unchanged { IsUnchanged D.tells D.size D.bytes device.old device.new }
     ensures value { D.tells → OnOk result
-        (out.new ≡ merge H.digest H.LEN plan.now.key_bytes plan.now.stripes
-        (stripes_in plan.now key.now
-        (part (D.bytes device.old) plan.now.area.start plan.now.area.len))) }
+        (out.new ≡ merge H.digest H.LEN (length out.old) stripes (stripes_from reader.old.key
+        (area_bytes (D.bytes device.old) reader.old.area) (length out.old) stripes)) }
 {
-    let len = plan.key_bytes as u64;
-    let last = u64::from(plan.stripes) - 1;
-    let mut merger = Merger::<H>::new(plan.key_bytes);
+    let len = out.len();
+    let last = u64::from(stripes) - 1;
+    let mut merger = Merger::<H>::new(len);
     for i in 0..last {
-        read_plain(device, plan.area, key, sector, i * len, stripe)?;
+        reader.read(device, i * len as u64, stripe)?;
         merger.feed(stripe);
     }
-    read_plain(device, plan.area, key, sector, last * len, stripe)?;
+    reader.read(device, last * len as u64, stripe)?;
     merger.finish(out, stripe);
     Ok(())
 }
@@ -56,35 +48,28 @@ fn merge_stripes<D: Device, H: HashFn>(
 // What the stripes of the area hold, by the hash of the splitter.
 pub(crate) fn read_candidate<D: Device>(
     device: &mut D,
-    plan: &SlotPlan<'_>,
-    splitter: HashName,
-    key: &XtsKey,
+    reader: &mut AreaReader,
+    hash: HashName,
+    stripes: u32,
     out: &mut [u8],
 ) -> Result<(), DeviceFault>
-    requires out_length { length out.old ≡ plan.now.key_bytes }
-    requires some_bytes { 1 ≤ plan.now.key_bytes }
-    requires at_most_128 { plan.now.key_bytes ≤ 128 }
-    requires some_stripes { 1 ≤ plan.now.stripes }
-    requires sectors { 512 * sectors_for (stripe_bytes plan.now) ≤ plan.now.area.len }
-    requires within { plan.now.area.start + plan.now.area.len ≤ D.size device.old }
-    requires no_wrap { plan.now.area.start + plan.now.area.len < 2 ^ 64 }
+    requires some_bytes { 1 ≤ length out.old }
+    requires at_most_128 { length out.old ≤ 128 }
+    requires some_stripes { 1 ≤ stripes }
+    requires sectors { rounded_to_sectors (length out.old * stripes) ≤ reader.old.area.len }
+    requires within { IsInside reader.old.area (D.size device.old) }
     requires room { D.failed device.old + 1 < 2 ^ 64 }
-    ensures count { MatchResult result (λ _. D.failed device.new ≡ D.failed device.old)
-        (λ _. D.failed device.new ≡ D.failed device.old + 1) }
-    ensures size { D.size device.new ≡ D.size device.old }
-    ensures same { D.tells → D.bytes device.new ≡ D.bytes device.old }
-    ensures value { D.tells → OnOk result
-        (out.new ≡ merge (hash_of splitter) (digest_size_of splitter) plan.now.key_bytes plan.now.stripes
-        (stripes_in plan.now key.now
-        (part (D.bytes device.old) plan.now.area.start plan.now.area.len))) }
+    ensures count { CountsFailure is_failure result (D.failed device.old) (D.failed device.new) }
+    ensures unchanged { IsUnchanged D.tells D.size D.bytes device.old device.new }
+    ensures value { D.tells → OnOk result (out.new
+        ≡ merge (hash_of hash) (digest_size_of hash) (length out.old) stripes
+        (stripes_from reader.old.key (area_bytes (D.bytes device.old) reader.old.area)
+        (length out.old) stripes)) }
 {
-    let mut sector = [0u8; 512];
     let mut buffer = [0u8; 128];
-    let stripe = &mut buffer[..plan.key_bytes];
-    match splitter {
-        HashName::Sha1 => merge_stripes::<D, Sha1Fn>(device, plan, key, &mut sector, stripe, out),
-        HashName::Sha256 => {
-            merge_stripes::<D, Sha256Fn>(device, plan, key, &mut sector, stripe, out)
-        }
+    let stripe = &mut buffer[..out.len()];
+    match hash {
+        HashName::Sha1 => merge_stripes::<D, Sha1Fn>(device, reader, stripes, stripe, out),
+        HashName::Sha256 => merge_stripes::<D, Sha256Fn>(device, reader, stripes, stripe, out),
     }
 }

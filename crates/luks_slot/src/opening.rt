@@ -1,18 +1,21 @@
 //! Opening a keyslot.
 
-ghost use Rattle.std.specs.Prelude.{◌≡◌, ◌+◌, ◌*◌, ◌/◌, ◌^◌, ◌<◌, ◌≤◌, length, MatchResult, OnOk, IfOk, IfErr, IfSome, if◌then◌else◌};
-ghost use Rattle.luks_area.specs.Ranges.{part};
-ghost use Rattle.luks_slot.specs.Answer.{IsAnsweredFault, rise};
-ghost use Rattle.luks_slot.specs.Opening.{slot_key, meets_digest, named, stripe_bytes, sectors_for, HasTurns};
+ghost use Rattle.std.specs.Prelude.{◌≡◌, ◌+◌, ◌*◌, ◌^◌, ◌<◌, ◌≤◌, length, OnOk, IfOk, IfErr, IfSome, if◌then◌else◌};
+ghost use Rattle.luks_area.specs.Area.{IsInside};
+ghost use Rattle.luks_area.specs.Device.{CountsFailure, IsUnchanged};
+ghost use Rattle.luks_area.specs.Sectors.{rounded_to_sectors};
+ghost use Rattle.luks_slot.specs.Fault.{IsAnsweredFault, is_device_fault};
+ghost use Rattle.luks_slot.specs.Opening.{area_bytes, hash_by_name, meets_digest, slot_key, stripe_bytes, HasIterations};
 ghost use Rattle.luks_slot.specs.Refusal.{slot_refusal};
 ghost use Rattle.luks_slot.specs.declared.fault.SlotFault.{SlotFault as TheFault};
 
+use crate::area_reader::AreaReader;
 use crate::fault::SlotFault;
 use crate::hashing::{area_key, meets_digest};
 use crate::key::Key;
 use crate::merging::read_candidate;
+use crate::parameters::parameters_of;
 use crate::plan::{DigestPlan, SlotPlan};
-use crate::refusal::judge;
 use luks_area::Device;
 use luks_kdf::HashName;
 use std::alloc::Global;
@@ -22,22 +25,22 @@ use std::alloc::Global;
 /// 1.1, 4.3).
 ///
 /// A refusal is of the plan alone, the first of `Argon2`, `Cipher`, `Hash` and `KeySize`. `Device`
-/// comes exactly where the device failed. The area is read a sector at a time, and no memory is taken
-/// from the allocator.
+/// comes exactly where the device failed. The area is read a sector of 512 bytes at a time, and no
+/// memory is taken from the allocator.
 pub fn open<D: Device>(
     _alloc: Global,
     device: &mut D,
     plan: &SlotPlan<'_>,
     passphrase: &[u8],
 ) -> Result<Option<Key>, SlotFault>
-    requires turns { HasTurns plan.now.derivation }
-    requires digest_turns { 1 ≤ plan.now.digest.iterations }
+    requires iterations { HasIterations plan.now.derivation }
+    requires digest_iterations { 1 ≤ plan.now.digest.iterations }
     requires digest_length { length plan.now.digest.stored.now ≤ 64 }
     requires some_bytes { 1 ≤ plan.now.key_bytes }
     requires at_most_128 { plan.now.key_bytes ≤ 128 }
     requires some_stripes { 1 ≤ plan.now.stripes }
-    requires sectors { 512 * sectors_for (stripe_bytes plan.now) ≤ plan.now.area.len }
-    requires within { plan.now.area.start + plan.now.area.len ≤ D.size device.old }
+    requires sectors { rounded_to_sectors (stripe_bytes plan.now) ≤ plan.now.area.len }
+    requires within { IsInside plan.now.area (D.size device.old) }
     requires room { D.failed device.old + 1 < 2 ^ 64 }
 
     // The plan is refused, the device failed, or there is an answer.
@@ -45,35 +48,32 @@ pub fn open<D: Device>(
     ensures fault { IfErr result (IsAnsweredFault plan.now) }
     ensures accepted { OnOk result (slot_refusal plan.now ≡ None) }
     ensures length { IfOk result (λ found. IfSome found (λ k. length k ≡ plan.now.key_bytes)) }
-    ensures value { D.tells → IfOk result (λ found. found ≡ slot_key plan.now
-        (part (D.bytes device.old) plan.now.area.start plan.now.area.len) passphrase.now) }
+    ensures value { D.tells → IfOk result (λ found. found
+        ≡ slot_key plan.now (area_bytes (D.bytes device.old) plan.now.area) passphrase.now) }
 
     // The device: `Device` exactly where a call of it failed.
-    ensures count { MatchResult result (λ _. D.failed device.new ≡ D.failed device.old)
-        (λ f. D.failed device.new ≡ D.failed device.old + rise f) }
-    ensures size { D.size device.new ≡ D.size device.old }
-    ensures same { D.tells → D.bytes device.new ≡ D.bytes device.old }
+    ensures count { CountsFailure is_device_fault result (D.failed device.old) (D.failed device.new) }
+    ensures unchanged { IsUnchanged D.tells D.size D.bytes device.old device.new }
 {
-    let terms = judge(plan)?;
-    let key = area_key(plan, &terms, passphrase);
+    let parameters = parameters_of(plan)?;
+    let key = area_key(plan, &parameters, passphrase);
+    let mut reader = AreaReader::new(plan.area, key);
     let mut buffer = [0u8; 128];
     let candidate = &mut buffer[..plan.key_bytes];
-    // Places in the area don't wrap, since the device has a length.
-    let _size = device.len();
-    match read_candidate(device, plan, terms.splitter, &key, candidate) {
-        Ok(()) => Ok(key_of(&plan.digest, terms.digest, candidate)),
-        Err(_) => Err(SlotFault::Device),
-    }
+    let hash = parameters.splitter_hash;
+    read_candidate(device, &mut reader, hash, plan.stripes, candidate)?;
+    Ok(key_of(&plan.digest, parameters.digest_hash, candidate))
 }
 
 // The candidate where it is the key.
 fn key_of(digest: &DigestPlan<'_>, hash: HashName, candidate: &[u8]) -> Option<Key>
-    requires hash { named digest.now.hash.now ≡ hash }
-    requires turns { 1 ≤ digest.now.iterations }
+    requires hash { hash_by_name digest.now.hash.now ≡ hash }
+    requires iterations { 1 ≤ digest.now.iterations }
     requires at_most_64 { length digest.now.stored.now ≤ 64 }
     requires some_bytes { 1 ≤ length candidate.now }
     requires at_most_128 { length candidate.now ≤ 128 }
-    ensures { result ≡ (if meets_digest digest.now candidate.now then Some candidate.now else None) }
+    ensures { result
+        ≡ (if meets_digest digest.now candidate.now then Some candidate.now else None) }
 {
     if meets_digest(digest, hash, candidate) {
         Some(Key::new(candidate))

@@ -3,8 +3,8 @@ use Rattle.std.proofs.Common.{◌≢◌, ℕ, List}
 use Rattle.luks_area.specs.First.{IsLeast}
 use Rattle.luks_head.specs.declared.fault.HeadFault.{HeadFault}
 use Rattle.luks_head.specs.Header2.{IsUuidFault}
-use Rattle.luks_meta.specs.declared.fault.MetaFault.{MetaFault}
-use Rattle.luks_meta.specs.declared.fault.MetaFault.TheVariants as meta
+use Rattle.luks_rules.specs.declared.fault.MetaFault.{MetaFault}
+use Rattle.luks_rules.specs.declared.fault.MetaFault.TheVariants as meta
 use Rattle.luks_meta.specs.MetaFault.{IsMetaFault, meta_key}
 use Rattle.luks_volume.specs.declared.luks2_copy.CopyFault.{CopyFault}
 use Rattle.luks_volume.specs.declared.luks2_copy.CopyFault.TheVariants.{Head, Meta, Device, Memory}

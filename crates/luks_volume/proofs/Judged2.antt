@@ -13,10 +13,10 @@ use Rattle.luks_head.specs.declared.fault.HeadFault.TheVariants as head
 use Rattle.luks_head.specs.declared.fault.TextField.TheVariants as field
 use Rattle.luks_head.specs.Faults.{head_key}
 use Rattle.luks_head.specs.Header2.{hdr_size, uuid_field, IsUuidField, IsUuidFault}
-use Rattle.luks_meta.specs.declared.fault.MetaFault.{MetaFault}
-use Rattle.luks_meta.specs.declared.fault.MetaFault.TheVariants as meta
-use Rattle.luks_meta.specs.declared.table.Outer.TheVariants as outer
-use Rattle.luks_meta.specs.declared.table.Section.TheVariants.{Segments}
+use Rattle.luks_rules.specs.declared.fault.MetaFault.{MetaFault}
+use Rattle.luks_rules.specs.declared.fault.MetaFault.TheVariants as meta
+use Rattle.luks_rules.specs.declared.table.Outer.TheVariants as outer
+use Rattle.luks_rules.specs.declared.table.Section.TheVariants.{Segments}
 use Rattle.luks_meta.specs.declared.meta.Meta.{Meta as Meta2}
 use Rattle.luks_meta.specs.Content.{area_len, content}
 use Rattle.luks_meta.specs.Faults.{object_at}

@@ -4,15 +4,15 @@ use Rattle.std.proofs.lemmas.Bool.Decides.{nat_tests}
 use Rattle.serde_json.specs.Data.{Data}
 use Rattle.luks_meta.specs.Accepted.{IsContent}
 use Rattle.luks_meta.specs.Encoded.{encoded_of}
-use Rattle.luks_meta.specs.declared.table.Member.TheVariants as name
-use Rattle.luks_meta.specs.declared.table.Outer.TheVariants as outer
-use Rattle.luks_meta.specs.declared.table.Section.TheVariants.{Keyslots}
+use Rattle.luks_rules.specs.declared.table.Member.TheVariants as name
+use Rattle.luks_rules.specs.declared.table.Outer.TheVariants as outer
+use Rattle.luks_rules.specs.declared.table.Section.TheVariants.{Keyslots}
 use Rattle.luks_meta.specs.Faults.{object_at}
 use Rattle.luks_meta.specs.Says.{member_at}
 use Rattle.luks_slot.specs.declared.plan.Derivation.{Derivation}
 use Rattle.luks_slot.specs.declared.plan.Derivation.TheVariants.{Pbkdf2, Argon2}
 use Rattle.luks_slot.specs.declared.plan.SlotPlan.{SlotPlan}
-use Rattle.luks_slot.specs.Opening.{HasTurns}
+use Rattle.luks_slot.specs.Opening.{HasIterations}
 use Rattle.luks_volume.specs.Planned.{IsJudged}
 use Rattle.luks_volume.specs.Plans.{IsLuks2Derivation, IsLuks2Plan}
 use Rattle.luks_meta.specs.Reading.{kept, is_between, number_in, number_of, bytes_in, text_of}
@@ -34,7 +34,7 @@ pub long_enough : (least most : ℕ) (v : Option Data) (b : List ℕ) → bytes_
 long_enough least most v b e =
     between least most (length b) (kept_passes (λ c. is_between least most (length c)) (option_and_then encoded_of (text_of v)) b e)
 
-has_turns : (d : Data) (a : Derivation) → IsLuks2Derivation d a → HasTurns a
+has_turns : (d : Data) (a : Derivation) → IsLuks2Derivation d a → HasIterations a
 has_turns d (Pbkdf2 hash iterations salt) x = (in_limits 1 4294967295 (member_at d outer.Kdf name.Iterations) iterations x.2).0
 has_turns d Argon2 x = tt
 

@@ -1,10 +1,10 @@
 -- A keyslot of LUKS2 has one plan.
 use Rattle.std.proofs.Common.{◌≡◌, ℕ, List, codes, refl, sym, ap, ◌∙◌, subst, true, false, Option, Some, unwrap_or}
 use Rattle.serde_json.specs.Data.{Data}
-use Rattle.luks_meta.specs.declared.table.Member.TheVariants as name
-use Rattle.luks_meta.specs.declared.table.Outer.TheVariants as outer
-use Rattle.luks_meta.specs.declared.table.Section.TheVariants.{Digests, Keyslots}
-use Rattle.luks_meta.specs.declared.table.When.TheVariants as when
+use Rattle.luks_rules.specs.declared.table.Member.TheVariants as name
+use Rattle.luks_rules.specs.declared.table.Outer.TheVariants as outer
+use Rattle.luks_rules.specs.declared.table.Section.TheVariants.{Digests, Keyslots}
+use Rattle.luks_rules.specs.declared.table.When.TheVariants as when
 use Rattle.luks_meta.specs.Faults.{object_at, suits, type_at}
 use Rattle.luks_meta.specs.MetaFault.{Json}
 use Rattle.luks_meta.specs.Naming.{IsDigestOf}

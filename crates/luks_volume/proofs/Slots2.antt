@@ -9,7 +9,7 @@ use Rattle.luks_area.specs.declared.area.AreaName.TheVariants.{Head1, Head2, Slo
 use Rattle.luks_area.specs.declared.areas.Entry.{Entry}
 use Rattle.luks_area.specs.Area.{IsBefore}
 use Rattle.luks_area.specs.Names.{HasArea}
-use Rattle.luks_meta.specs.declared.table.Section.TheVariants.{Keyslots, Segments}
+use Rattle.luks_rules.specs.declared.table.Section.TheVariants.{Keyslots, Segments}
 use Rattle.luks_meta.specs.Faults.{object_at}
 use Rattle.luks_meta.specs.Reading.{Field, object, text, whole, absent, dynamic, bytes, names, decimal_in, extent_of, text_of}
 use Rattle.luks_volume.specs.declared.report.Data.{Data}

@@ -14,16 +14,16 @@ use Rattle.luks_head.specs.Faults.{head_key, IsLuks1Fault as IsLuks1HeadFault}
 use Rattle.luks_head.specs.Header1.{IsLuks1}
 use Rattle.luks_head.specs.Header2.{header_at, hdr_size, uuid_field, IsUuidField, IsUuidFault}
 use Rattle.luks_head.specs.Selection.{Choice, luks1, luks2, nothing, Chosen, IsSelectFault}
-use Rattle.luks_meta.specs.declared.fault.MetaFault.{MetaFault}
-use Rattle.luks_meta.specs.declared.fault.MetaFault.TheVariants as meta
+use Rattle.luks_rules.specs.declared.fault.MetaFault.{MetaFault}
+use Rattle.luks_rules.specs.declared.fault.MetaFault.TheVariants as meta
 use Rattle.luks_meta.specs.declared.meta.Meta.{Meta as Meta2}
 use Rattle.luks_meta.specs.Accepted.{HasObject, IsMeta}
 use Rattle.luks_meta.specs.Content.{area_len, content}
 use Rattle.luks_meta.specs.MetaFault.{Json, IsMetaFault, meta_key}
 use Rattle.luks_meta.specs.Reading.{decimal_in}
 use Rattle.luks_meta.specs.Sizes.{has_segment_below, inside_at, keyslots_size, region_start}
-use Rattle.luks_meta.specs.declared.table.Outer.TheVariants as outer
-use Rattle.luks_meta.specs.declared.table.Section.TheVariants.{Segments}
+use Rattle.luks_rules.specs.declared.table.Outer.TheVariants as outer
+use Rattle.luks_rules.specs.declared.table.Section.TheVariants.{Segments}
 use Rattle.luks_volume.specs.declared.fault.CheckFault.{CheckFault}
 use Rattle.luks_volume.specs.declared.fault.CheckFault.TheVariants.{Head, Meta, Area, Device, Memory}
 use Rattle.luks_volume.specs.declared.report.Data.{Data}

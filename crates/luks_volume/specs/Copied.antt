@@ -7,8 +7,8 @@ use Rattle.luks_head.specs.declared.bin2.Bin2.{Bin2}
 use Rattle.luks_head.specs.declared.fault.HeadFault.{HeadFault}
 use Rattle.luks_head.specs.Faults.{head_key}
 use Rattle.luks_head.specs.Header2.{IsUuidFault}
-use Rattle.luks_meta.specs.declared.fault.MetaFault.{MetaFault}
-use Rattle.luks_meta.specs.declared.fault.MetaFault.TheVariants as meta
+use Rattle.luks_rules.specs.declared.fault.MetaFault.{MetaFault}
+use Rattle.luks_rules.specs.declared.fault.MetaFault.TheVariants as meta
 use Rattle.luks_meta.specs.Accepted.{IsMeta}
 use Rattle.luks_meta.specs.MetaFault.{IsMetaFault, meta_key}
 use Rattle.luks_volume.specs.declared.luks2_copy.CopyFault.{CopyFault}

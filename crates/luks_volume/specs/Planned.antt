@@ -3,21 +3,22 @@ use Rattle.std.specs.Prelude.{◌≡◌, ℕ, ◌+◌, ◌*◌, ◌<◌, ◌≤�
 use Rattle.luks_head.specs.declared.fault.HeadFault.{HeadFault}
 use Rattle.luks_head.specs.declared.fault.HeadFault.TheVariants as head
 use Rattle.luks_area.specs.Ranges.{part}
+use Rattle.luks_area.specs.Sectors.{rounded_to_sectors}
 use Rattle.luks_slot.specs.declared.plan.SlotPlan.{SlotPlan}
-use Rattle.luks_slot.specs.Opening.{slot_key, stripe_bytes, sectors_for, HasTurns}
+use Rattle.luks_slot.specs.Opening.{slot_key, stripe_bytes, HasIterations}
 use Rattle.luks_slot.specs.Refusal.{slot_refusal}
 use Rattle.luks_volume.specs.declared.open_fault.OpenFault.{OpenFault}
 use Rattle.luks_volume.specs.declared.open_fault.OpenFault.TheVariants.{Head, Meta, NoSuchSlot, SlotFree, Outside, Slot, Device, Memory}
 
 -- the plan's numbers are those of a header that has been judged, and its area holds the sectors
 pub record IsJudged (plan : SlotPlan) : Type 0 where
-  pub turns : HasTurns plan.derivation
+  pub turns : HasIterations plan.derivation
   pub digest_turns : 1 ≤ plan.digest.iterations
   pub digest_length : length plan.digest.stored.now ≤ 64
   pub some_bytes : 1 ≤ plan.key_bytes
   pub at_most_128 : plan.key_bytes ≤ 128
   pub some_stripes : 1 ≤ plan.stripes
-  pub sectors : 512 * sectors_for (stripe_bytes plan) ≤ plan.area.len
+  pub sectors : rounded_to_sectors (stripe_bytes plan) ≤ plan.area.len
 
 -- the plan opens to `found` in the volume `v` by the passphrase `p`
 pub record PlanOpens (plan : SlotPlan) (v p : List ℕ) (found : Option (List ℕ)) : Type 0 where

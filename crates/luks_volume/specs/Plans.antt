@@ -10,10 +10,10 @@ use Rattle.luks_meta.specs.MetaFault.{Json}
 use Rattle.luks_meta.specs.Naming.{IsDigestOf}
 use Rattle.luks_meta.specs.Reading.{number_in, decimal_in, bytes_in, text_of}
 use Rattle.luks_meta.specs.Says.{member_at, small_at}
-use Rattle.luks_meta.specs.declared.table.Member.TheVariants as name
-use Rattle.luks_meta.specs.declared.table.Outer.TheVariants as outer
-use Rattle.luks_meta.specs.declared.table.Section.TheVariants.{Digests, Keyslots}
-use Rattle.luks_meta.specs.declared.table.When.TheVariants as when
+use Rattle.luks_rules.specs.declared.table.Member.TheVariants as name
+use Rattle.luks_rules.specs.declared.table.Outer.TheVariants as outer
+use Rattle.luks_rules.specs.declared.table.Section.TheVariants.{Digests, Keyslots}
+use Rattle.luks_rules.specs.declared.table.When.TheVariants as when
 use Rattle.luks_slot.specs.declared.plan.AreaCipher.{AreaCipher}
 use Rattle.luks_slot.specs.declared.plan.AreaCipher.TheVariants.{Apart, Whole}
 use Rattle.luks_slot.specs.declared.plan.Derivation.{Derivation}

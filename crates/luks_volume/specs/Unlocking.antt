@@ -7,10 +7,10 @@ use Rattle.luks_head.specs.Faults.{IsCommonFault}
 use Rattle.luks_head.specs.Header1.{active_word, enabled_word, entry}
 use Rattle.luks_head.specs.Header2.{header_at, uuid_field, IsUuidFault}
 use Rattle.luks_head.specs.Selection.{Choice, luks1, luks2, nothing, Chosen}
-use Rattle.luks_meta.specs.declared.table.Member.TheVariants as name
-use Rattle.luks_meta.specs.declared.table.Outer.TheVariants as outer
-use Rattle.luks_meta.specs.declared.table.Rule.TheVariants as rule
-use Rattle.luks_meta.specs.declared.table.Section.TheVariants.{Keyslots}
+use Rattle.luks_rules.specs.declared.table.Member.TheVariants as name
+use Rattle.luks_rules.specs.declared.table.Outer.TheVariants as outer
+use Rattle.luks_rules.specs.declared.table.Rule.TheVariants as rule
+use Rattle.luks_rules.specs.declared.table.Section.TheVariants.{Keyslots}
 use Rattle.luks_meta.specs.Faults.{object_at}
 use Rattle.luks_meta.specs.MetaFault.{Json, IsMetaFault}
 use Rattle.luks_meta.specs.Reading.{Field, object, text, whole, absent, dynamic, bytes, names, reads}

@@ -12,8 +12,6 @@ mod open_fault;
 mod opening;
 mod plan;
 mod report;
-#[cfg(test)]
-mod tests;
 mod unlocking;
 
 pub use checking::check;

@@ -4,14 +4,14 @@ use Rattle.luks_xts.specs.Aes.{schedule}
 
 -- the key's bytes, at the front of the words
 abbrev pub key_bytes : ℕ → List ℕ → List ℕ
-key_bytes count words = take (4 * count) words
+key_bytes nk words = take (4 * nk) words
 
--- the words are the whole schedule of the key at their front, of `count` words
-pub record IsExpanded (count : ℕ) (words : List ℕ) : Type 0 where
-  pub counts : (count ≡ 4) ⊎ (count ≡ 8)
+-- the words are the whole schedule of the key at their front, of `nk` words
+pub record IsExpanded (nk : ℕ) (words : List ℕ) : Type 0 where
+  pub known_size : (nk ≡ 4) ⊎ (nk ≡ 8)
   pub long : length words ≡ 240
   pub bytes : (k : ℕ) → slice_index words k < 256
-  pub expanded : take (16 * count + 112) words ≡ schedule count (key_bytes count words) (3 * count + 28)
+  pub expanded : take (16 * nk + 112) words ≡ schedule nk (key_bytes nk words) (3 * nk + 28)
 
 -- the halves of a key of XTS: as long as each other, and the first of bytes
 pub record AreHalves (first second : List ℕ) : Type 0 where

@@ -1,14 +1,19 @@
+//! AES (FIPS 197).
+
 ghost use Rattle.std.specs.Prelude.{◌≡◌, ◌⊎◌, ◌+◌, ◌*◌, length, SomeIff};
 ghost use Rattle.luks_xts.specs.Aes.{Aes, AesInverse};
 
-use crate::{rounds, schedule};
+use crate::{key_schedule, rounds};
 use std::marker::Model;
 
-/// A key of AES (FIPS 197) with its key schedule. A contract sees the bytes that it was made of.
+/// A key of AES with its key schedule (FIPS 197, 5.2). A contract sees the bytes that it was made
+/// of.
 #[derive(Drop)]
 pub struct AesKey {
+    // The words of the schedule, 4 bytes each, for 60 words at most.
     words: [u8; 240],
-    count: usize,
+    // How many words of them are the key's own: Nk of the standard.
+    key_words: usize,
 }
 
 impl Model for AesKey {
@@ -18,13 +23,14 @@ impl Model for AesKey {
 
     ghost use Rattle.luks_xts.specs.Keys.{IsExpanded, key_bytes};
 
-    ghost view = { λ k. key_bytes k.count k.words };
+    ghost view = { λ k. key_bytes k.key_words k.words };
 
-    ghost invariant = { λ k. IsExpanded k.count k.words };
+    ghost invariant = { λ k. IsExpanded k.key_words k.words };
 }
 
 impl AesKey {
-    /// The key of these bytes: 16 for AES-128, 32 for AES-256, and None at every other length.
+    /// The key of these bytes: 16 for AES-128, 32 for AES-256 (FIPS 197, 5), and None at every
+    /// other length.
     pub fn new(key: &[u8]) -> Option<AesKey>
         ensures { SomeIff result ((length key.now ≡ 16) ⊎ (length key.now ≡ 32)) key.now }
     {
@@ -32,10 +38,10 @@ impl AesKey {
             return None;
         }
         let mut words = [0; 240];
-        schedule::load(&mut words, key);
+        key_schedule::expand_key(&mut words, key);
         Some(AesKey {
             words,
-            count: key.len() / 4,
+            key_words: key.len() / 4,
         })
     }
 
@@ -45,7 +51,7 @@ impl AesKey {
         ensures value { result ≡ Aes self.now block }
         ensures undone { AesInverse self.now result ≡ block }
     {
-        rounds::cipher(&self.words, self.count + 5, block)
+        rounds::cipher(&self.words, self.key_words + 5, block)
     }
 
     /// The block that the key decrypts this one to: `InvCipher` of FIPS 197, 5.3.
@@ -53,6 +59,6 @@ impl AesKey {
         ensures value { result ≡ AesInverse self.now block }
         ensures undone { Aes self.now result ≡ block }
     {
-        rounds::inverse_cipher(&self.words, self.count + 5, block)
+        rounds::inverse_cipher(&self.words, self.key_words + 5, block)
     }
 }

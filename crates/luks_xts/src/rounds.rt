@@ -1,41 +1,16 @@
-// The rounds of AES on a state of 16 bytes, one column after another (FIPS 197, 5.1 and 5.3).
+//! The rounds of AES on a state of four words, a column each, whose first byte is the highest
+//! (FIPS 197, 5.1 and 5.3).
 
 ghost use Rattle.std.specs.Prelude.{◌≡◌, ◌+◌, ◌*◌, ◌≤◌, length};
 ghost use Rattle.luks_xts.specs.Aes as aes;
 ghost use Rattle.luks_xts.specs.Columns.{bytes_of};
 
+use crate::mix_column::{inverse_mix_column, sub_and_mix_column};
 use crate::tables::{inverse_sbox, sbox};
-use crate::words::{mixed_column, unmixed_column};
 
-// The sum of two blocks.
+// The state of a block of 16 bytes (3.4).
 #[inline(always)]
-pub(crate) fn add_round_key(s: [u8; 16], key: &[u8]) -> [u8; 16]
-    requires { length key.now ≡ 16 }
-    ensures { result ≡ aes.add_round_key s key.now }
-{
-    [
-        s[0] ^ key[0],
-        s[1] ^ key[1],
-        s[2] ^ key[2],
-        s[3] ^ key[3],
-        s[4] ^ key[4],
-        s[5] ^ key[5],
-        s[6] ^ key[6],
-        s[7] ^ key[7],
-        s[8] ^ key[8],
-        s[9] ^ key[9],
-        s[10] ^ key[10],
-        s[11] ^ key[11],
-        s[12] ^ key[12],
-        s[13] ^ key[13],
-        s[14] ^ key[14],
-        s[15] ^ key[15],
-    ]
-}
-
-// The state of these 16 bytes, a word for each column.
-#[inline(always)]
-fn loaded(bytes: &[u8]) -> [u32; 4]
+fn state_of(bytes: &[u8]) -> [u32; 4]
     requires { length bytes.now ≡ 16 }
     ensures { bytes_of result ≡ bytes.now }
 {
@@ -47,9 +22,9 @@ fn loaded(bytes: &[u8]) -> [u32; 4]
     ]
 }
 
-// The 16 bytes of a state.
+// The block of a state (3.4).
 #[inline(always)]
-fn stored(s: [u32; 4]) -> [u8; 16]
+fn block_of(s: [u32; 4]) -> [u8; 16]
     ensures { result ≡ bytes_of s }
 {
     let a = s[0].to_be_bytes();
@@ -62,19 +37,19 @@ fn stored(s: [u32; 4]) -> [u8; 16]
     ]
 }
 
-// The sum of a state and a round key.
+// AddRoundKey (5.1.4).
 #[inline(always)]
-fn added(s: [u32; 4], key: &[u8]) -> [u32; 4]
+fn add_round_key(s: [u32; 4], key: &[u8]) -> [u32; 4]
     requires { length key.now ≡ 16 }
     ensures { bytes_of result ≡ aes.add_round_key (bytes_of s) key.now }
 {
-    let k = loaded(key);
+    let k = state_of(key);
     [s[0] ^ k[0], s[1] ^ k[1], s[2] ^ k[2], s[3] ^ k[3]]
 }
 
-// The steps of a whole round before the round key.
+// SubBytes, ShiftRows and MixColumns: the steps of a whole round before the round key (5.1).
 #[inline(always)]
-fn mixed(s: [u32; 4]) -> [u32; 4]
+fn sub_shift_mix(s: [u32; 4]) -> [u32; 4]
     ensures { bytes_of result ≡ aes.mix_columns (aes.shift_rows (aes.sub_bytes (bytes_of s))) }
 {
     let a = s[0].to_be_bytes();
@@ -82,16 +57,16 @@ fn mixed(s: [u32; 4]) -> [u32; 4]
     let c = s[2].to_be_bytes();
     let d = s[3].to_be_bytes();
     [
-        mixed_column(a[0], b[1], c[2], d[3]),
-        mixed_column(b[0], c[1], d[2], a[3]),
-        mixed_column(c[0], d[1], a[2], b[3]),
-        mixed_column(d[0], a[1], b[2], c[3]),
+        sub_and_mix_column(a[0], b[1], c[2], d[3]),
+        sub_and_mix_column(b[0], c[1], d[2], a[3]),
+        sub_and_mix_column(c[0], d[1], a[2], b[3]),
+        sub_and_mix_column(d[0], a[1], b[2], c[3]),
     ]
 }
 
-// The steps of the last round before the round key.
+// SubBytes and ShiftRows: the steps of the last round before the round key (5.1).
 #[inline(always)]
-fn substituted(s: [u32; 4]) -> [u32; 4]
+fn sub_shift(s: [u32; 4]) -> [u32; 4]
     ensures { bytes_of result ≡ aes.shift_rows (aes.sub_bytes (bytes_of s)) }
 {
     let a = s[0].to_be_bytes();
@@ -106,9 +81,9 @@ fn substituted(s: [u32; 4]) -> [u32; 4]
     ]
 }
 
-// The inverse of the column step.
+// InvMixColumns (5.3.3).
 #[inline(always)]
-fn unmixed(s: [u32; 4]) -> [u32; 4]
+fn inverse_mix_columns(s: [u32; 4]) -> [u32; 4]
     ensures { bytes_of result ≡ aes.inverse_mix_columns (bytes_of s) }
 {
     let a = s[0].to_be_bytes();
@@ -116,16 +91,16 @@ fn unmixed(s: [u32; 4]) -> [u32; 4]
     let c = s[2].to_be_bytes();
     let d = s[3].to_be_bytes();
     [
-        unmixed_column(a[0], a[1], a[2], a[3]),
-        unmixed_column(b[0], b[1], b[2], b[3]),
-        unmixed_column(c[0], c[1], c[2], c[3]),
-        unmixed_column(d[0], d[1], d[2], d[3]),
+        inverse_mix_column(a[0], a[1], a[2], a[3]),
+        inverse_mix_column(b[0], b[1], b[2], b[3]),
+        inverse_mix_column(c[0], c[1], c[2], c[3]),
+        inverse_mix_column(d[0], d[1], d[2], d[3]),
     ]
 }
 
-// The inverses of the rotation of the rows and of the S-box.
+// InvShiftRows and InvSubBytes (5.3.1 and 5.3.2).
 #[inline(always)]
-fn unsubstituted(s: [u32; 4]) -> [u32; 4]
+fn inverse_shift_sub(s: [u32; 4]) -> [u32; 4]
     ensures { bytes_of result ≡ aes.inverse_sub_bytes (aes.inverse_shift_rows (bytes_of s)) }
 {
     let a = s[0].to_be_bytes();
@@ -160,31 +135,34 @@ fn unsubstituted(s: [u32; 4]) -> [u32; 4]
     ]
 }
 
-// The cipher over a key schedule, of `rounds` whole rounds and the last one.
+// Cipher over a key schedule, of `rounds` whole rounds and the last one (5.1).
 pub(crate) fn cipher(words: &[u8], rounds: usize, block: [u8; 16]) -> [u8; 16]
     requires { 16 * rounds + 32 ≤ length words.now }
     ensures { result ≡ aes.cipher words.now rounds block }
 {
-    let mut state = added(loaded(&block), &words[..16]);
+    let mut state = add_round_key(state_of(&block), &words[..16]);
     for i in 0..rounds {
-        let next = added(mixed(state), &words[16 * i + 16..16 * i + 32]);
+        let next = add_round_key(sub_shift_mix(state), &words[16 * i + 16..16 * i + 32]);
         state = next;
     }
     let key = &words[16 * rounds + 16..16 * rounds + 32];
-    stored(added(substituted(state), key))
+    block_of(add_round_key(sub_shift(state), key))
 }
 
-// The inverse cipher over a key schedule.
+// InvCipher over a key schedule (5.3).
 pub(crate) fn inverse_cipher(words: &[u8], rounds: usize, block: [u8; 16]) -> [u8; 16]
     requires { 16 * rounds + 32 ≤ length words.now }
     ensures { result ≡ aes.inverse_cipher words.now rounds block }
 {
     let key = &words[16 * rounds + 16..16 * rounds + 32];
-    let mut state = unsubstituted(added(loaded(&block), key));
+    let mut state = inverse_shift_sub(add_round_key(state_of(&block), key));
     for i in 0..rounds {
         let at = 16 * (rounds - i);
-        let next = unsubstituted(unmixed(added(state, &words[at..at + 16])));
+        let next = inverse_shift_sub(inverse_mix_columns(add_round_key(
+            state,
+            &words[at..at + 16],
+        )));
         state = next;
     }
-    stored(added(state, &words[..16]))
+    block_of(add_round_key(state, &words[..16]))
 }

@@ -1,5 +1,5 @@
-// The tables of the bytes of AES, and the functions that read them. Each table equals the formula
-// over the field at every byte.
+//! The tables of the bytes of AES, and the functions that read them. Each table equals the formula
+//! over the field at every byte.
 
 ghost use Rattle.std.specs.Prelude.{◌≡◌, ◌<◌};
 ghost use Rattle.luks_xts.specs.Field as field;

@@ -1,13 +1,14 @@
+//! XTS-AES (IEEE 1619).
+
 ghost use Rattle.std.specs.Prelude.{◌≡◌, ◌⊎◌, ◌+◌, ◌*◌, ◌/◌, ◌%◌, ◌^◌, length, SomeIff};
 ghost use Rattle.luks_xts.specs.Polynomial.{poly_rem};
-ghost use Rattle.luks_xts.specs.Xts.{XtsSeal, XtsOpen, tweak_of, sealed_under, opened_under};
+ghost use Rattle.luks_xts.specs.Xts.{XtsSeal, XtsOpen, tweak_of, xor_block, sealed_under, opened_under};
 ghost use Rattle.luks_xts.specs.Blocks.{sealed_blocks, opened_blocks};
 
 use crate::aes::AesKey;
-use crate::rounds::add_round_key;
 use std::marker::Model;
 
-/// A key of XTS-AES (IEEE 1619). A contract sees the bytes that it was made of.
+/// A key of XTS-AES (IEEE 1619, 5.3.1). A contract sees the bytes that it was made of.
 #[derive(Drop)]
 pub struct XtsKey {
     blocks: AesKey,
@@ -38,8 +39,8 @@ impl XtsKey {
         Some(XtsKey { blocks, tweaks })
     }
 
-    /// Encrypts a unit in place: a sector, as a volume has them, of whole blocks of 16 bytes. `unit`
-    /// is the sector's number, and an empty unit stays empty.
+    /// Encrypts a unit in place: a sector, as a volume has them, of whole blocks of 16 bytes (IEEE
+    /// 1619, 5.3.2). `unit` is the sector's number, and an empty unit stays empty.
     pub fn seal_unit(&self, unit: u64, bytes: &mut [u8])
         requires { length bytes.old % 16 ≡ 0 }
         ensures value { bytes.new ≡ XtsSeal self.now unit bytes.old }
@@ -48,7 +49,8 @@ impl XtsKey {
         seal_blocks(&self.blocks, self.tweak(unit), bytes);
     }
 
-    /// Decrypts a unit in place, what `seal_unit` did of the same number undone.
+    /// Decrypts a unit in place, of whole blocks of 16 bytes (IEEE 1619, 5.4.2): what `seal_unit`
+    /// did under the same number is undone.
     pub fn open_unit(&self, unit: u64, bytes: &mut [u8])
         requires { length bytes.old % 16 ≡ 0 }
         ensures value { bytes.new ≡ XtsOpen self.now unit bytes.old }
@@ -66,7 +68,7 @@ impl XtsKey {
     }
 }
 
-// A tweak times alpha.
+// A tweak times alpha (IEEE 1619, 5.2).
 #[inline(always)]
 fn doubled(tweak: u128) -> u128
     ensures { result ≡ poly_rem (2 ^ 128 + 0x87) 128 1 (tweak * 2) }
@@ -74,26 +76,54 @@ fn doubled(tweak: u128) -> u128
     (tweak << 1) ^ ((tweak >> 127) * 0x87)
 }
 
-// One block of a unit.
+// The exclusive or of a block and its mask.
+#[inline(always)]
+fn xor_block(block: &[u8], mask: &[u8]) -> [u8; 16]
+    requires block_length { length block.now ≡ 16 }
+    requires mask_length { length mask.now ≡ 16 }
+    ensures { result ≡ xor_block block.now mask.now }
+{
+    [
+        block[0] ^ mask[0],
+        block[1] ^ mask[1],
+        block[2] ^ mask[2],
+        block[3] ^ mask[3],
+        block[4] ^ mask[4],
+        block[5] ^ mask[5],
+        block[6] ^ mask[6],
+        block[7] ^ mask[7],
+        block[8] ^ mask[8],
+        block[9] ^ mask[9],
+        block[10] ^ mask[10],
+        block[11] ^ mask[11],
+        block[12] ^ mask[12],
+        block[13] ^ mask[13],
+        block[14] ^ mask[14],
+        block[15] ^ mask[15],
+    ]
+}
+
+// One block of a unit, encrypted (IEEE 1619, 5.3.1).
 fn seal_block(key: &AesKey, tweak: u128, block: &mut [u8])
     requires { length block.old ≡ 16 }
     ensures { block.new ≡ sealed_under key.now tweak block.old }
 {
     let mask = tweak.to_le_bytes();
-    let sealed = key.encrypt(add_round_key(mask, block));
-    block.copy_from_slice(&add_round_key(sealed, &mask));
+    let sealed = key.encrypt(xor_block(block, &mask));
+    block.copy_from_slice(&xor_block(&sealed, &mask));
 }
 
+// One block of a unit, decrypted (IEEE 1619, 5.4.1).
 fn open_block(key: &AesKey, tweak: u128, block: &mut [u8])
     requires { length block.old ≡ 16 }
     ensures { block.new ≡ opened_under key.now tweak block.old }
 {
     let mask = tweak.to_le_bytes();
-    let opened = key.decrypt(add_round_key(mask, block));
-    block.copy_from_slice(&add_round_key(opened, &mask));
+    let opened = key.decrypt(xor_block(block, &mask));
+    block.copy_from_slice(&xor_block(&opened, &mask));
 }
 
-// The blocks of a unit, from the tweak of the first.
+// The blocks of a unit, encrypted from the tweak of the first on.
 fn seal_blocks(key: &AesKey, first: u128, bytes: &mut [u8])
     requires { length bytes.old % 16 ≡ 0 }
     ensures { bytes.new ≡ sealed_blocks key.now first bytes.old (length bytes.old / 16) }
@@ -105,6 +135,7 @@ fn seal_blocks(key: &AesKey, first: u128, bytes: &mut [u8])
     }
 }
 
+// The blocks of a unit, decrypted from the tweak of the first on.
 fn open_blocks(key: &AesKey, first: u128, bytes: &mut [u8])
     requires { length bytes.old % 16 ≡ 0 }
     ensures { bytes.new ≡ opened_blocks key.now first bytes.old (length bytes.old / 16) }

@@ -1,24 +1,19 @@
-use Rattle.std.proofs.Common.{◌∷◌, [], codes, refl, sym}
+use Rattle.std.proofs.Common.{◌∷◌, [], codes, refl}
 use Rattle.serde_json.specs.View.{view}
-use Rattle.luks_meta.specs.declared.table.Outer.TheVariants as outer
-use Rattle.luks_meta.specs.Table.{keyslot_rows}
-use Rattle.luks_meta.specs.Faults.{type_at}
-use Rattle.luks_meta.specs.Reading.{whole}
-use Rattle.luks_meta.proofs.Saying.{lost, absent_one, at_top, unlisted, typed}
-use Rattle.luks_meta.proofs.SayingKeyslot.{keyslot_says}
+use Rattle.luks_rules.specs.declared.table.Outer.TheVariants as outer
+use Rattle.luks_rules.specs.declared.table.Member.TheVariants as name
+use Rattle.luks_rules.specs.Table.{keyslot_rows}
+use Rattle.luks_rules.specs.Faults.{type_at}
+use Rattle.luks_rules.specs.Reading.{whole}
+use Rattle.luks_meta.proofs.RowsRead.{lost, absent_one, at_top, unlisted}
 use Rattle.luks_meta.proofs.keyslots.read_keyslot.Goals as goal
 
 pub returns-then-not-has_type-clause-there : goal.returns-then-not-has_type-clause-there
 returns-then-not-has_type-clause-there c = λ read.
-    absurd (unlisted (type_at (view c.args.object.now) outer.Top) (codes "luks2" ∷ []) (c.if-not-has_type.ensures, tt) (at_top keyslot_rows (view c.args.object.now) 20 _ read refl refl refl))
+    absurd (unlisted (type_at (view c.args.object.now) outer.Top) (codes "luks2" ∷ []) (c.if-not-has_type.ensures, tt) (at_top keyslot_rows (view c.args.object.now) name.Kind _ read refl refl refl))
 
 pub returns-in_err-key_size-clause-there : goal.returns-in_err-key_size-clause-there
-returns-in_err-key_size-clause-there c = λ read. absurd (lost whole _ c.in_err-key_size.ensures (at_top keyslot_rows (view c.args.object.now) 18 _ read refl refl refl))
+returns-in_err-key_size-clause-there c = λ read. absurd (lost whole _ c.in_err-key_size.ensures (at_top keyslot_rows (view c.args.object.now) name.KeySize _ read refl refl refl))
 
 pub returns-in_err-priority-clause-there : goal.returns-in_err-priority-clause-there
-returns-in_err-priority-clause-there c = λ read. absurd (absent_one _ c.in_err-priority.ensures (at_top keyslot_rows (view c.args.object.now) 19 _ read refl refl refl))
-
-pub returns-clause-says : goal.returns-clause-says
-returns-clause-says c =
-    keyslot_says (view c.args.object.now) _ _ _ _ _ (typed (type_at (view c.args.object.now) outer.Top) (codes "luks2") c.if-not-has_type.ensures) (sym c.in_ok-key_size.ensures)
-    (sym c.in_ok-priority.ensures) c.in_ok-af.ensures.says c.in_ok-area.ensures.says c.in_ok-kdf.ensures.says
+returns-in_err-priority-clause-there c = λ read. absurd (absent_one _ c.in_err-priority.ensures (at_top keyslot_rows (view c.args.object.now) name.Priority _ read refl refl refl))

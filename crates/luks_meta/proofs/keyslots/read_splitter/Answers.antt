@@ -1,19 +1,20 @@
 use Rattle.std.proofs.Common.{◌∷◌, [], codes, refl}
 use Rattle.serde_json.specs.View.{view}
-use Rattle.luks_meta.specs.declared.table.Outer.TheVariants as outer
-use Rattle.luks_meta.specs.Table.{keyslot_rows}
-use Rattle.luks_meta.specs.Faults.{type_at}
-use Rattle.luks_meta.specs.Reading.{whole, text}
-use Rattle.luks_meta.proofs.Saying.{lost, at_row, unlisted}
-use Rattle.luks_meta.proofs.SayingKeyslot.{af_home}
+use Rattle.luks_rules.specs.declared.table.Outer.TheVariants as outer
+use Rattle.luks_rules.specs.declared.table.Member.TheVariants as name
+use Rattle.luks_rules.specs.Table.{keyslot_rows}
+use Rattle.luks_rules.specs.Faults.{type_at}
+use Rattle.luks_rules.specs.Reading.{whole, text}
+use Rattle.luks_meta.proofs.RowsRead.{lost, at_row, unlisted}
+use Rattle.luks_meta.proofs.KeyslotObjects.{af_home}
 use Rattle.luks_meta.proofs.keyslots.read_splitter.Goals as goal
 
 pub returns-then-not-has_type-clause-there : goal.returns-then-not-has_type-clause-there
 returns-then-not-has_type-clause-there c = λ read.
-    absurd (unlisted (type_at (view c.args.object.now) outer.Af) (codes "luks1" ∷ []) (c.if-not-has_type.ensures, tt) (at_row keyslot_rows (view c.args.object.now) 3 _ read refl (af_home (view c.args.object.now) read) refl))
+    absurd (unlisted (type_at (view c.args.object.now) outer.Af) (codes "luks1" ∷ []) (c.if-not-has_type.ensures, tt) (at_row keyslot_rows (view c.args.object.now) outer.Af name.Kind _ read refl (af_home (view c.args.object.now) read) refl))
 
 pub returns-in_err-stripes-clause-there : goal.returns-in_err-stripes-clause-there
-returns-in_err-stripes-clause-there c = λ read. absurd (lost whole _ c.in_err-stripes.ensures (at_row keyslot_rows (view c.args.object.now) 2 _ read refl (af_home (view c.args.object.now) read) refl))
+returns-in_err-stripes-clause-there c = λ read. absurd (lost whole _ c.in_err-stripes.ensures (at_row keyslot_rows (view c.args.object.now) outer.Af name.Stripes _ read refl (af_home (view c.args.object.now) read) refl))
 
 pub returns-in_err-hash-clause-there : goal.returns-in_err-hash-clause-there
-returns-in_err-hash-clause-there c = λ read. absurd (lost text _ c.in_err-hash.ensures (at_row keyslot_rows (view c.args.object.now) 1 _ read refl (af_home (view c.args.object.now) read) refl))
+returns-in_err-hash-clause-there c = λ read. absurd (lost text _ c.in_err-hash.ensures (at_row keyslot_rows (view c.args.object.now) outer.Af name.Hash _ read refl (af_home (view c.args.object.now) read) refl))

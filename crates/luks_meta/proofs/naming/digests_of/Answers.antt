@@ -1,4 +1,4 @@
-use Rattle.luks_meta.specs.declared.table.Section.TheVariants.{Digests}
+use Rattle.luks_rules.specs.declared.table.Section.TheVariants.{Digests}
 use Rattle.luks_meta.proofs.Namings.{section_there, section_is, object_there}
 use Rattle.luks_meta.proofs.naming.digests_of.Goals as goal
 

@@ -1,14 +1,14 @@
 use Rattle.std.proofs.Common.{refl}
 use Rattle.serde_json.specs.View.{view}
-use Rattle.luks_meta.specs.declared.table.Section.TheVariants.{Digests}
-use Rattle.luks_meta.specs.Says.{SaysDigest, TellsDigest}
+use Rattle.luks_rules.specs.declared.table.Section.TheVariants.{Digests}
+use Rattle.luks_meta.specs.Says.{TellsDigest}
 use Rattle.luks_meta.proofs.Listed.{digest_keyslots, digest_segments}
 use Rattle.luks_meta.proofs.ObjectsRead.{told, not_missing, held}
 use Rattle.luks_meta.proofs.objects.digest_in.Goals as goal
 
 pub returns-in-Some-clause-some : goal.returns-in-Some-clause-some
 returns-in-Some-clause-some c =
-    told SaysDigest TellsDigest (view c.args.value.now) Digests c.args.number (view c.in-Some.object.now) _ c.in-Some.ensures.some.1 c.read_digest.ensures.says c.read_digest.ensures.tells
+    told TellsDigest (view c.args.value.now) Digests c.args.number (view c.in-Some.object.now) _ c.in-Some.ensures.some.1 c.read_digest.ensures.tells
 
 pub returns-in-Some-clause-none : goal.returns-in-Some-clause-none
 returns-in-Some-clause-none c =

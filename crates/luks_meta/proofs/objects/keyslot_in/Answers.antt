@@ -1,13 +1,13 @@
 use Rattle.std.proofs.Common.{refl}
 use Rattle.serde_json.specs.View.{view}
-use Rattle.luks_meta.specs.declared.table.Section.TheVariants.{Keyslots}
-use Rattle.luks_meta.specs.Says.{SaysKeyslot, TellsKeyslot}
+use Rattle.luks_rules.specs.declared.table.Section.TheVariants.{Keyslots}
+use Rattle.luks_meta.specs.Says.{TellsKeyslot}
 use Rattle.luks_meta.proofs.ObjectsRead.{told, not_missing, held}
 use Rattle.luks_meta.proofs.objects.keyslot_in.Goals as goal
 
 pub returns-in-Some-clause-some : goal.returns-in-Some-clause-some
 returns-in-Some-clause-some c =
-    told SaysKeyslot TellsKeyslot (view c.args.value.now) Keyslots c.args.number (view c.in-Some.object.now) _ c.in-Some.ensures.some.1 c.read_keyslot.ensures.says c.read_keyslot.ensures.tells
+    told TellsKeyslot (view c.args.value.now) Keyslots c.args.number (view c.in-Some.object.now) _ c.in-Some.ensures.some.1 c.read_keyslot.ensures.tells
 
 pub returns-in-Some-clause-none : goal.returns-in-Some-clause-none
 returns-in-Some-clause-none c =

@@ -5,4 +5,4 @@ use Rattle.luks_slot.proofs.hashing.fill_area_key.Goals as goal
 pub returns : goal.returns
 unfolding area_key
 returns c =
-    rw c.requires.out_length at c.pbkdf2.ensures ∙ sym (c.requires.terms.key c.args.passphrase.now c.args.plan.now.area_key_bytes)
+    rw c.requires.out_length at c.pbkdf2.ensures ∙ sym (c.requires.parameters.key c.args.passphrase.now c.args.plan.now.area_key_bytes)

@@ -1,17 +1,19 @@
 use Rattle.std.proofs.Common.{◌≡◌, ◌*◌, length}
-use Rattle.luks_area.specs.Ranges.{part}
+use Rattle.luks_area.specs.Device.{IsUnchanged}
 use Rattle.luks_kdf.specs.Splitter.{mixed}
-use Rattle.luks_slot.specs.Opening.{stripes_in}
-use Rattle.luks_slot.specs.Sectors.{HoldsSector}
+use Rattle.luks_slot.specs.Opening.{area_bytes, stripes_from}
+use Rattle.luks_slot.specs.Reading.{IsReading}
 use Rattle.luks_slot.proofs.merging.merge_stripes.Given as goal
 
--- no call has failed; the sector of the next stripe is held, and the stripes so far are mixed
+-- no call has failed; the next stripe is the next to be read, and those so far are mixed
 abbrev pub invariant-loop-i : goal.invariant-loop-i
 invariant-loop-i g l = record {
   count : g.D.Device.failed l.device ≡ g.D.Device.failed l.initial.device;
-  size : g.D.Device.size l.device ≡ g.D.Device.size l.initial.device;
-  same : g.D.Device.tells → g.D.Device.bytes l.device ≡ g.D.Device.bytes l.initial.device;
-  sector : g.D.Device.tells → HoldsSector l.key (part (g.D.Device.bytes l.initial.device) l.plan.area.start l.plan.area.len) (l.i * l.len) l.sector;
-  block_length : length l.merger ≡ l.plan.key_bytes;
-  block : g.D.Device.tells → l.merger ≡ mixed g.H.HashFn.digest g.H.HashFn.LEN l.plan.key_bytes (stripes_in l.plan l.key (part (g.D.Device.bytes l.initial.device) l.plan.area.start l.plan.area.len)) l.i;
+  unchanged : IsUnchanged g.D.Device.tells g.D.Device.size g.D.Device.bytes l.initial.device l.device;
+  same_area : l.reader.area ≡ l.initial.reader.area;
+  same_key : l.reader.key ≡ l.initial.reader.key;
+  reading : g.D.Device.tells → IsReading l.reader (g.D.Device.bytes l.device) (l.i * l.len);
+  block_length : length l.merger ≡ l.len;
+  block : g.D.Device.tells → l.merger ≡ mixed g.H.HashFn.digest g.H.HashFn.LEN l.len
+      (stripes_from l.initial.reader.key (area_bytes (g.D.Device.bytes l.initial.device) l.initial.reader.area) l.len l.stripes) l.i;
 }

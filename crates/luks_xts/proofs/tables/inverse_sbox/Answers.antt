@@ -1,4 +1,4 @@
-use Rattle.luks_xts.proofs.ByteTables.{inverse_sbox_at}
+use Rattle.luks_xts.proofs.SboxFacts.{inverse_sbox_at}
 use Rattle.luks_xts.proofs.tables.inverse_sbox.Goals as goal
 
 pub returns : goal.returns

@@ -1,4 +1,4 @@
-use Rattle.luks_xts.proofs.ByteTables.{sbox_at}
+use Rattle.luks_xts.proofs.SboxFacts.{sbox_at}
 use Rattle.luks_xts.proofs.tables.sbox.Goals as goal
 
 pub returns : goal.returns

@@ -1,4 +1,4 @@
-use Rattle.luks_xts.proofs.Alpha.{doubled_is}
+use Rattle.luks_xts.proofs.AlphaFacts.{doubled_is}
 use Rattle.luks_xts.proofs.xts.doubled.Goals as goal
 
 pub returns : goal.returns

@@ -1,5 +1,7 @@
-use Rattle.luks_xts.proofs.Loops.{AreOpened}
+use Rattle.luks_xts.specs.Xts.{opened_under}
+use Rattle.luks_xts.proofs.UnitLoopFacts.{IsUnderWay}
 use Rattle.luks_xts.proofs.xts.open_blocks.Given as goal
 
+-- the blocks so far are opened, and the tweak is the next one's
 abbrev pub invariant-loop-j : goal.invariant-loop-j
-invariant-loop-j l = AreOpened l.key l.first l.initial.bytes l.bytes l.tweak l.j
+invariant-loop-j l = IsUnderWay (opened_under l.key) l.first l.initial.bytes l.bytes l.tweak l.j

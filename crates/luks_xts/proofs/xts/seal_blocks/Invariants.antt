@@ -1,5 +1,7 @@
-use Rattle.luks_xts.proofs.Loops.{AreSealed}
+use Rattle.luks_xts.specs.Xts.{sealed_under}
+use Rattle.luks_xts.proofs.UnitLoopFacts.{IsUnderWay}
 use Rattle.luks_xts.proofs.xts.seal_blocks.Given as goal
 
+-- the blocks so far are sealed, and the tweak is the next one's
 abbrev pub invariant-loop-j : goal.invariant-loop-j
-invariant-loop-j l = AreSealed l.key l.first l.initial.bytes l.bytes l.tweak l.j
+invariant-loop-j l = IsUnderWay (sealed_under l.key) l.first l.initial.bytes l.bytes l.tweak l.j

@@ -1,0 +1,7 @@
+pub mod AreaTexts
+pub mod AreaKinds
+pub mod Decimals
+pub mod Numbers
+pub mod Encodings
+pub mod NoZero
+pub mod NameLists

@@ -1,7 +1,0 @@
-use Rattle.std.proofs.Common.{◌≡◌, drop}
-use Rattle.serde_json.specs.View.{items_view}
-use Rattle.luks_meta.specs.Arrays.{has_text}
-use Rattle.luks_meta.proofs.arrays.has_text.Given as goal
-
-abbrev pub invariant-loop-item : goal.invariant-loop-item
-invariant-loop-item l = has_text l.text (items_view l.items) ≡ has_text l.text (items_view (drop l.item-index l.items))

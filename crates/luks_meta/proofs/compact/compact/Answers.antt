@@ -1,7 +1,0 @@
-use Rattle.std.proofs.Common.{string_bytes}
-use Rattle.serde_json.specs.View.{view}
-use Rattle.luks_meta.proofs.NoZero.{answered, in_text}
-use Rattle.luks_meta.proofs.compact.compact.Goals as goal
-
-pub returns-clause-no_zero : goal.returns-clause-no_zero
-returns-clause-no_zero c = answered (λ s. string_bytes s) c.to_string.result _ _ c.to_string.ensures.text c.requires.whole (in_text (view c.args.value.now))

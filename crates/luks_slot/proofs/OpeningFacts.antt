@@ -1,0 +1,48 @@
+-- What was merged, where it meets the digest, is what the keyslot opens to.
+use Rattle.std.proofs.Common.{◌≡◌, ◌∙◌, List, ℕ, ap, refl, sym, Bool, true, false, Some, None}
+use Rattle.std.specs.Prelude.{if◌then◌else◌}
+use Rattle.luks_area.specs.declared.area.Area.{Area}
+use Rattle.luks_kdf.specs.declared.hash_name.HashName.{HashName}
+use Rattle.luks_kdf.specs.Names.{hash_of, digest_size_of}
+use Rattle.luks_kdf.specs.Splitter.{merge}
+use Rattle.luks_slot.specs.declared.plan.SlotPlan.{SlotPlan}
+use Rattle.luks_slot.specs.Opening.{slot_key, candidate, area_bytes, area_key, stripes_from, stripes_in, hash_by_name, meets_digest}
+
+-- what the stripes hold, by the hash and the key that the plan names, is the candidate
+pub opens_to : (plan : SlotPlan) (area passphrase key merged : List ℕ) (hash : HashName)
+    → merged ≡ merge (hash_of hash) (digest_size_of hash) plan.key_bytes plan.stripes (stripes_in plan key area)
+    → key ≡ area_key plan passphrase → hash_by_name plan.splitter_hash.now ≡ hash
+    → (if meets_digest plan.digest merged then Some merged else None) ≡ slot_key plan area passphrase
+unfolding slot_key candidate
+opens_to plan area passphrase key merged hash is_merged is_key is_hash =
+    let with_key = ap (λ (k : List ℕ). merge (hash_of hash) (digest_size_of hash) plan.key_bytes plan.stripes (stripes_in plan k area)) is_key in
+    let with_hash =
+    ap (λ (h : HashName). merge (hash_of h) (digest_size_of h) plan.key_bytes plan.stripes (stripes_in plan (area_key plan passphrase) area))
+    (sym is_hash) in
+    ap (λ (k : List ℕ). if meets_digest plan.digest k then Some k else None) (is_merged ∙ with_key ∙ with_hash)
+
+-- the same of what was read: so many bytes, from an area of a volume
+pub opens_read : (plan : SlotPlan) (volume passphrase key merged : List ℕ) (area : Area) (k : ℕ) (hash : HashName)
+    → merged ≡ merge (hash_of hash) (digest_size_of hash) k plan.stripes (stripes_from key (area_bytes volume area) k plan.stripes)
+    → k ≡ plan.key_bytes → area ≡ plan.area → key ≡ area_key plan passphrase → hash_by_name plan.splitter_hash.now ≡ hash
+    → (if meets_digest plan.digest merged then Some merged else None) ≡ slot_key plan (area_bytes volume plan.area) passphrase
+unfolding stripes_in
+opens_read plan volume passphrase key merged area k hash is_merged is_size is_area =
+    let Merged : ℕ → Area → List ℕ =
+    λ n a. merge (hash_of hash) (digest_size_of hash) n plan.stripes (stripes_from key (area_bytes volume a) n plan.stripes) in
+    opens_to plan (area_bytes volume plan.area) passphrase key merged hash
+    (is_merged ∙ ap (λ n. Merged n area) is_size ∙ ap (Merged plan.key_bytes) is_area)
+
+-- what is found where a test says so is what was tested
+found_if : (test : Bool) (k key : List ℕ) → (if test then Some k else None) ≡ Some key → (test ≡ true) × (k ≡ key)
+found_if true k key e = (refl, cc)
+found_if false k key e = absurd (cc)
+
+-- a key that is found meets the digest
+pub found_meets : (plan : SlotPlan) (area passphrase key : List ℕ) → slot_key plan area passphrase ≡ Some key
+    → meets_digest plan.digest key ≡ true
+unfolding slot_key
+found_meets plan area passphrase key found =
+    let key' = candidate plan area passphrase in
+    let is = found_if (meets_digest plan.digest key') key' key found in
+    ap (meets_digest plan.digest) (sym is.1) ∙ is.0

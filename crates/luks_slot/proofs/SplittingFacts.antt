@@ -1,0 +1,15 @@
+-- How many stripes stand in a row, and where.
+use Rattle.std.proofs.Common.{◌≡◌, ℕ, ◌+◌, ◌-◌, ◌*◌, ◌/◌, ◌≤◌, List, take, drop, ap, ◌∙◌, arith}
+use Rattle.std.proofs.Math.Nat.{mul-div_cancel}
+use Rattle.luks_kdf.specs.Splitter.{block_at, stripe_at}
+
+-- a stripe is cut out of the row where it stands
+pub stripe_at-cut : (k : ℕ) (stripes : List ℕ) (i : ℕ)
+    → take ((i + 1) * k - i * k) (drop (i * k) stripes) ≡ stripe_at k stripes i
+unfolding stripe_at block_at
+stripe_at-cut k stripes i =
+    let whole : (i + 1) * k - i * k ≡ k = omega arith in ap (λ n. take n (drop (i * k) stripes)) whole
+
+-- n stripes of k bytes are n times k bytes
+pub count-stripes : (k len n : ℕ) → 1 ≤ k → len ≡ n * k → len / k ≡ n
+count-stripes k len n some whole = ap (λ l. l / k) whole ∙ mul-div_cancel n some

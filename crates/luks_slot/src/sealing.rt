@@ -1,0 +1,132 @@
+//! Sealing a keyslot.
+
+ghost use Rattle.std.specs.Prelude.{◌≡◌, ◌+◌, ◌-◌, ◌*◌, ◌/◌, ◌^◌, ◌<◌, ◌≤◌, ◌++◌, length, replicate, Some, None, OnOk, IfErr, if◌then◌else◌};
+ghost use Rattle.luks_area.specs.Area.{IsInside};
+ghost use Rattle.luks_area.specs.Device.{CountsFailure, is_failure};
+ghost use Rattle.luks_area.specs.Ranges.{part, IsAt, SameBut};
+ghost use Rattle.luks_area.specs.Sectors.{rounded_to_sectors, sector_count};
+ghost use Rattle.luks_slot.specs.Fault.{IsAnsweredFault, is_device_fault};
+ghost use Rattle.luks_slot.specs.Opening.{area_bytes, meets_digest, opened_sectors, slot_key, stripe_bytes, HasIterations};
+ghost use Rattle.luks_slot.specs.Refusal.{slot_refusal};
+ghost use Rattle.luks_slot.specs.Sealing.{IsSealed};
+ghost use Rattle.luks_slot.specs.Writing.{filled};
+ghost use Rattle.luks_slot.specs.declared.fault.SlotFault.{SlotFault as TheFault};
+
+use crate::area_reader::SECTOR_BYTES;
+use crate::area_writer::AreaWriter;
+use crate::fault::SlotFault;
+use crate::hashing::area_key;
+use crate::key::Key;
+use crate::parameters::parameters_of;
+use crate::plan::SlotPlan;
+use crate::splitting::write_last_stripe;
+use luks_area::{Area, Device, DeviceFault, rounded_to_sectors};
+use luks_xts::XtsKey;
+
+/// Seals the key in the keyslot's area under the passphrase: the stripes that hold it, of which all
+/// but the last are the random bytes, and zeros to the end of their last sector of 512 bytes, all of
+/// it encrypted (LUKS1 On-Disk Format 1.2.3, 4.1; LUKS2 On-Disk Format 1.1, 4.3). No byte but those
+/// of these sectors changes, also where the device fails. Nothing is flushed.
+///
+/// A refusal is of the plan alone, the first of `Argon2`, `Cipher`, `Hash` and `KeySize`, and then no
+/// byte changes. `Device` comes exactly where the device failed. A sector is held at a time, and no
+/// memory is taken from an allocator.
+pub fn seal<D: Device>(
+    device: &mut D,
+    plan: &SlotPlan<'_>,
+    passphrase: &[u8],
+    key: &Key,
+    random: &[u8],
+) -> Result<(), SlotFault>
+    requires iterations { HasIterations plan.now.derivation }
+    requires key_length { length key.now ≡ plan.now.key_bytes }
+    requires some_stripes { 1 ≤ plan.now.stripes }
+    requires random_length { length random.now ≡ (plan.now.stripes - 1) * plan.now.key_bytes }
+    requires sectors { rounded_to_sectors (stripe_bytes plan.now) ≤ plan.now.area.len }
+    requires within { IsInside plan.now.area (D.size device.old) }
+    requires room { D.failed device.old + 1 < 2 ^ 64 }
+
+    // The plan is refused, the device failed, or the area holds the key and opens to it.
+    ensures refused { (f : TheFault) → slot_refusal plan.now ≡ Some f → result ≡ Err f }
+    ensures fault { IfErr result (IsAnsweredFault plan.now) }
+    ensures accepted { OnOk result (slot_refusal plan.now ≡ None) }
+    ensures sealed { D.tells → OnOk result
+        (IsSealed plan.now (area_bytes (D.bytes device.new) plan.now.area)
+        passphrase.now key.now random.now) }
+    ensures opens { D.tells → OnOk result
+        (slot_key plan.now (area_bytes (D.bytes device.new) plan.now.area) passphrase.now
+        ≡ (if meets_digest plan.now.digest key.now then Some key.now else None)) }
+
+    // The device: `Device` exactly where a call of it failed, and the bytes that may have changed.
+    ensures count { CountsFailure is_device_fault result (D.failed device.old) (D.failed device.new) }
+    ensures size { D.size device.new ≡ D.size device.old }
+    ensures same { D.tells → (f : TheFault) → slot_refusal plan.now ≡ Some f
+        → D.bytes device.new ≡ D.bytes device.old }
+    ensures rest { D.tells
+        → SameBut (IsAt plan.now.area.start (rounded_to_sectors (stripe_bytes plan.now)))
+        (D.bytes device.old) (D.bytes device.new) }
+{
+    let parameters = parameters_of(plan)?;
+    let cipher_key = area_key(plan, &parameters, passphrase);
+    let bytes = key.as_bytes();
+    let mut buffer = [0u8; 128];
+    let last = &mut buffer[..bytes.len()];
+    write_last_stripe(parameters.splitter_hash, last, bytes, random);
+    write_stripes(device, plan.area.start, cipher_key, random, last)?;
+    Ok(())
+}
+
+// Writes the stripes, and zeros to the end of their last sector, encrypted.
+fn write_stripes<D: Device>(
+    device: &mut D,
+    start: u64,
+    key: XtsKey,
+    random: &[u8],
+    last: &[u8],
+) -> Result<(), DeviceFault>
+    requires within { start + rounded_to_sectors (length random.now + length last.now) ≤ D.size device.old }
+    requires room { D.failed device.old + 1 < 2 ^ 64 }
+    ensures count { CountsFailure is_failure result (D.failed device.old) (D.failed device.new) }
+    ensures size { D.size device.new ≡ D.size device.old }
+    ensures value { D.tells → OnOk result (
+        let used = length random.now + length last.now in
+        opened_sectors key (part (D.bytes device.new) start (rounded_to_sectors used))
+        (sector_count used) ≡ filled (rounded_to_sectors used) (random.now ++ last.now)) }
+    ensures rest { D.tells
+        → SameBut (IsAt start (rounded_to_sectors (length random.now + length last.now)))
+        (D.bytes device.old) (D.bytes device.new) }
+{
+    let len = rounded_to_sectors(random.len() as u64 + last.len() as u64);
+    let mut writer = AreaWriter::new(Area { start, len }, key);
+    write_filled(device, &mut writer, random, last, &[0; SECTOR_BYTES])
+}
+
+// The same by a writer of the area that they fill. `zeros` is a sector of zeros.
+fn write_filled<D: Device>(
+    device: &mut D,
+    writer: &mut AreaWriter,
+    random: &[u8],
+    last: &[u8],
+    zeros: &[u8],
+) -> Result<(), DeviceFault>
+    requires zeros { zeros.now ≡ replicate 512 0 }
+    requires area_length { writer.old.area.len ≡ rounded_to_sectors (length random.now + length last.now) }
+    requires within { IsInside writer.old.area (D.size device.old) }
+    requires room { D.failed device.old + 1 < 2 ^ 64 }
+    ensures count { CountsFailure is_failure result (D.failed device.old) (D.failed device.new) }
+    ensures size { D.size device.new ≡ D.size device.old }
+    ensures value { D.tells → OnOk result
+        (opened_sectors writer.old.key (area_bytes (D.bytes device.new) writer.old.area)
+        (sector_count (length random.now + length last.now))
+        ≡ filled writer.old.area.len (random.now ++ last.now)) }
+    ensures rest { D.tells → SameBut (IsAt writer.old.area.start writer.old.area.len)
+        (D.bytes device.old) (D.bytes device.new) }
+{
+    let before = random.len() as u64;
+    let used = before + last.len() as u64;
+    let left = (writer.area.len - used) as usize;
+    writer.write(device, 0, random)?;
+    writer.write(device, before, last)?;
+    writer.write(device, used, &zeros[..left])?;
+    Ok(())
+}

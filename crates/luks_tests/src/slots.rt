@@ -1,0 +1,40 @@
+//! Opening one keyslot.
+ghost use Rattle.std.specs.Prelude.{◌≡◌, ◌≤◌, ◌↔◌, ◌*◌, IsTrue};
+ghost use Rattle.luks_slot.specs.Opening.{HasIterations};
+
+mod known;
+mod refused;
+
+use luks_area::Device;
+use luks_slot::{Derivation, Key, SlotFault, SlotPlan, open};
+use std::alloc::Global;
+use std::process::Abort;
+
+fn has_iterations(derivation: &Derivation<'_>) -> bool
+    ensures { IsTrue result ↔ HasIterations derivation.now }
+{
+    match *derivation {
+        Derivation::Pbkdf2 { iterations, .. } => iterations >= 1,
+        Derivation::Argon2 => true,
+    }
+}
+
+/// `open`, where its conditions hold.
+fn open_by<D: Device>(
+    rt: &impl Abort,
+    alloc: Global,
+    device: &mut D,
+    plan: &SlotPlan<'_>,
+    passphrase: &[u8],
+) -> Result<Option<Key>, SlotFault> {
+    assert!(rt; has_iterations(&plan.derivation) && plan.digest.iterations >= 1);
+    assert!(rt; plan.digest.stored.len() <= 64);
+    assert!(rt; plan.key_bytes >= 1 && plan.key_bytes <= 128 && plan.stripes >= 1);
+    let used = plan.key_bytes.checked_mul(plan.stripes as usize);
+    let used = used.expect(rt, "length");
+    assert!(rt; used <= 512000 && (used + 511) / 512 * 512 <= plan.area.len as usize);
+    let len = device.len();
+    assert!(rt; plan.area.start <= len && plan.area.len <= len - plan.area.start);
+    assert!(rt; device.failures() < u64::MAX);
+    open(alloc, device, plan, passphrase)
+}
