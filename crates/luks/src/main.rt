@@ -5,11 +5,15 @@
 //! LUKS1 of 2097664 bytes by the header's layout, all keyslots disabled.
 #![tactic(auto)]
 
+ghost use Rattle.std.specs.Prelude.{◌≡◌, IfOk};
+ghost use Rattle.luks_area.specs.Files.{file_failures};
+
 use clap::error::ErrorKind as FaultKind;
-use luks_cli::{Input, Inputs, Line, execute, line};
-use luks_volume::MemDevice;
+use luks_area::FileDevice;
+use luks_cli::{InputFault, Inputs, Line, execute, first_bytes, line};
 use std::fs::File;
 use std::io::{ErrorKind, Write};
+use std::os::unix::fs::FileTypeExt;
 use std::process::ExitCode;
 use std::rt::{Env, Files};
 use std::{env, fs, io};
@@ -17,7 +21,7 @@ use std::{env, fs, io};
 /// The exit status after a command line that can't be read.
 const USAGE: u8 = 2;
 
-/// The exit status where memory is refused, or the output can't be written.
+/// The exit status where memory is refused, a file can't be read, or the output can't be written.
 const FAULT: u8 = 4;
 
 fn main(rt: HostRuntime) -> ExitCode {
@@ -25,12 +29,15 @@ fn main(rt: HostRuntime) -> ExitCode {
 }
 
 /// Reads the command line and runs it. An error is that of the output.
-fn run<R: AllocGlobal + Env + Files + Print + Eprint>(rt: &R) -> io::Result<u8> {
+fn run<R: AllocGlobal + Env + Files<File = File> + Print + Eprint>(rt: &R) -> io::Result<u8> {
+    let Ok(_held) = hold_standard_numbers(rt) else {
+        return device_fault(rt);
+    };
     let args = match env::args(rt) {
         Ok(args) => args,
         Err(error) if error.kind() == ErrorKind::OutOfMemory => return no_memory(rt),
         Err(_) => {
-            eprintln!(rt; "error: the command line is no text in UTF-8")?;
+            let _ = eprintln!(rt; "error: the command line is no text in UTF-8");
             return Ok(USAGE);
         }
     };
@@ -39,38 +46,73 @@ fn run<R: AllocGlobal + Env + Files + Print + Eprint>(rt: &R) -> io::Result<u8> 
     match line(rt.alloc(), words.as_slice()) {
         Ok(line) => run_line(rt, &line),
         Err(fault) if fault.kind() == FaultKind::OutOfMemory => no_memory(rt),
-        Err(fault) => {
-            fault.print(rt)?;
-            Ok(fault.exit_code() as u8)
+        Err(fault) if fault.use_stderr() => {
+            let _ = fault.print(rt);
+            Ok(USAGE)
+        }
+        Err(help) => {
+            help.print(rt)?;
+            Ok(0)
         }
     }
 }
 
-fn run_line<R: AllocGlobal + Files + Print>(rt: &R, line: &Line<'_>) -> io::Result<u8> {
-    let inputs = Inputs {
-        volume: image(rt, line.volume()),
-        passphrase: match line.passphrase() {
-            Some(path) => input(File::open(rt, path)),
-            None => Input::Absent,
+/// Takes the numbers of standard streams that were closed when the program began, so that no volume
+/// gets one and is printed into. The root folder stands for them: it can be neither read nor written
+/// as a file, so that what is printed to such a stream fails.
+fn hold_standard_numbers<R: Files<File = File>>(rt: &R) -> io::Result<[File; 3]> {
+    Ok([
+        File::open(rt, "/")?,
+        File::open(rt, "/")?,
+        File::open(rt, "/")?,
+    ])
+}
+
+fn run_line<R: AllocGlobal + Files<File = File> + Print>(
+    rt: &R,
+    line: &Line<'_>,
+) -> io::Result<u8> {
+    let words = passphrase(rt, line);
+    let mut inputs = Inputs {
+        volume: open_volume(rt, line.volume),
+        passphrase: match &words {
+            Ok(bytes) => Ok(bytes.as_slice()),
+            Err(fault) => Err(*fault),
         },
     };
     let mut out = Vec::new(rt.alloc());
-    let status = execute(rt.alloc(), line, inputs, &mut out);
+    let status = execute(rt.alloc(), line, &mut inputs, &mut out);
     io::writer(rt).write_all(out.as_slice())?;
     Ok(status)
 }
 
-/// The whole volume, in memory.
-fn image<R: AllocGlobal + Files>(rt: &R, path: &str) -> Input<MemDevice> {
-    input(fs::read(rt, path).map(MemDevice::new))
+/// What its file has of the passphrase, read before the volume is opened.
+fn passphrase<R: AllocGlobal + Files<File = File>>(
+    rt: &R,
+    line: &Line<'_>,
+) -> Result<Vec<u8>, InputFault> {
+    let Some(path) = line.passphrase() else {
+        return Err(InputFault::Absent);
+    };
+    let mut file = File::open(rt, path)?;
+    first_bytes(rt.alloc(), &mut file)
 }
 
-fn input<T>(opened: io::Result<T>) -> Input<T> {
-    match opened {
-        Ok(opened) => Input::Open(opened),
-        Err(error) if error.kind() == ErrorKind::OutOfMemory => Input::NoMemory,
-        Err(_) => Input::Unreadable,
+/// The volume, opened for reading alone. A file of another kind, as a folder or a pipe, has no
+/// length, and isn't opened at all: opening a pipe would wait for its writer.
+fn open_volume<R: Files<File = File>>(rt: &R, path: &str) -> Result<FileDevice<File>, InputFault>
+    ensures { IfOk result (λ device. file_failures device ≡ 0) }
+{
+    let kind = fs::metadata(rt, path)?.file_type();
+    if !kind.is_file() && !kind.is_block_device() {
+        return Err(InputFault::Unreadable);
     }
+    Ok(FileDevice::new(File::open(rt, path)?)?)
+}
+
+fn device_fault<R: Print>(rt: &R) -> io::Result<u8> {
+    println!(rt; "device fault")?;
+    Ok(FAULT)
 }
 
 fn no_memory<R: Print>(rt: &R) -> io::Result<u8> {

@@ -33,12 +33,13 @@ one_fewer None = None
 one_fewer (Some zero) = None
 one_fewer (Some (suc n)) = Some n
 
--- one call fails where it is due, and each other one only where the device behind fails
+-- a call fails where it is due, and each other one exactly where the device behind fails
 pub record FailsWhereDue {D : Type 0} {ghosts : Ghosts D} (old new : FaultyDevice D ghosts) (result : Result (Unit {0}) DeviceFault) : Type 0 where
   pub counted : calls_before new ≡ one_fewer (calls_before old)
   pub leave : leave_of new ≡ leave_of old
   pub due : IsDue old → IsErr result
   pub passed_on : (IsDue old → ⊥) → ghosts.failed (inner_device new) ≡ ghosts.failed (inner_device old) → IsOk result
+  pub failed : IsOk result → ghosts.failed (inner_device new) ≡ ghosts.failed (inner_device old)
 
 -- the volume `v` after a write of `bytes` at `at` that failed
 abbrev pub left_behind : Leave → List ℕ → ℕ → List ℕ → List ℕ

@@ -1,5 +1,5 @@
 ghost use Rattle.std.specs.Prelude.{◌≡◌, ◌+◌, ◌^◌, ◌<◌, ◌≤◌, ◌↔◌, IsTrue, OnOk, length};
-ghost use Rattle.luks_area.specs.Device.{CountsFailure, IsUnchanged, is_failure};
+ghost use Rattle.luks_area.specs.Device.{CountsFailure, IsUnchanged, count_after, is_failure};
 ghost use Rattle.luks_area.specs.Ranges.{part, written, SameOutside};
 
 use crate::area::Area;
@@ -62,17 +62,19 @@ impl<D: Device> FaultyDevice<D> {
         device
     }
 
-    /// Counts a call, and tells whether it is the one that fails.
+    /// Counts a call, and tells whether it is the one that fails; then it counts the failure.
     fn count_call(&mut self) -> bool
+        requires { faulty_failures self.old + 1 < 2 ^ 64 }
         ensures due { IsTrue result ↔ IsDue self.old }
         ensures counted { calls_before self.new ≡ one_fewer (calls_before self.old) }
         ensures leave { leave_of self.new ≡ leave_of self.old }
         ensures device { inner_device self.new ≡ inner_device self.old }
-        ensures count { faulty_failures self.new ≡ faulty_failures self.old }
+        ensures count { faulty_failures self.new ≡ count_after result (faulty_failures self.old) }
     {
         match self.before {
             Some(0) => {
                 self.before = None;
+                self.failures += 1;
                 true
             }
             Some(calls) => {
@@ -86,8 +88,9 @@ impl<D: Device> FaultyDevice<D> {
     /// Writes what the failing write leaves, as far as the device behind doesn't fail.
     fn leave_behind(&mut self, at: u64, from: &[u8])
         requires within { at + length from.now ≤ D.size (inner_device self.old) }
-        requires room { faulty_failures self.old + 1 < 2 ^ 64 }
-        ensures count { faulty_failures self.new ≡ faulty_failures self.old + 1 }
+        requires room { D.failed (inner_device self.old) + 1 < 2 ^ 64 }
+        requires counted { D.failed (inner_device self.old) < faulty_failures self.old }
+        ensures count { faulty_failures self.new ≡ faulty_failures self.old }
         ensures before { calls_before self.new ≡ calls_before self.old }
         ensures leave { leave_of self.new ≡ leave_of self.old }
         ensures size { D.size (inner_device self.new) ≡ D.size (inner_device self.old) }
@@ -95,7 +98,6 @@ impl<D: Device> FaultyDevice<D> {
         ensures left { D.tells → D.failed (inner_device self.new) ≡ D.failed (inner_device self.old)
             → D.bytes (inner_device self.new) ≡ left_behind (leave_of self.old) (D.bytes (inner_device self.old)) at from.now }
     {
-        self.failures += 1;
         let range = Area {
             start: at,
             len: from.len() as u64,
@@ -137,7 +139,6 @@ impl<D: Device> Device for FaultyDevice<D> {
         ensures read { D.tells → OnOk result (into.new ≡ part (D.bytes (inner_device self.old)) at (length into.old)) }
     {
         if self.count_call() {
-            self.failures += 1;
             return Err(DeviceFault);
         }
         let outcome = self.device.read_at(at, into);
@@ -172,7 +173,6 @@ impl<D: Device> Device for FaultyDevice<D> {
         ensures unchanged { IsUnchanged D.tells D.size D.bytes (inner_device self.old) (inner_device self.new) }
     {
         if self.count_call() {
-            self.failures += 1;
             return Err(DeviceFault);
         }
         let outcome = self.device.flush();

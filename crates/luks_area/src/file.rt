@@ -1,4 +1,4 @@
-ghost use Rattle.std.specs.Prelude.{◌≡◌, ◌+◌, ◌<◌, ◌^◌};
+ghost use Rattle.std.specs.Prelude.{◌≡◌, ◌+◌, ◌<◌, ◌^◌, ◌↔◌, IsOk};
 
 use crate::device::{Device, DeviceFault};
 use std::fs::OpenFile;
@@ -51,6 +51,7 @@ impl<F> FileDevice<F> {
     /// Counts a call of the file that failed.
     fn counted(&mut self, outcome: io::Result<()>) -> Result<(), DeviceFault>
         requires { file_failures self.old + 1 < 2 ^ 64 }
+        ensures outcome { IsOk result ↔ IsOk outcome }
         ensures count { CountsFailure is_failure result (file_failures self.old) (file_failures self.new) }
         ensures size { file_size self.new ≡ file_size self.old }
     {

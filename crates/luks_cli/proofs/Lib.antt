@@ -1,1 +1,2 @@
+pub mod ExitFacts
 pub mod Fronts

@@ -1,3 +1,4 @@
-pub mod Opened
-pub mod Checked
+pub mod Exit
+pub mod Files
 pub mod Named
+pub mod Checked

@@ -1,6 +1,8 @@
 //! What every command may answer.
-ghost use Rattle.std.specs.Prelude.{◌≡◌, IfOk};
+ghost use Rattle.std.specs.Prelude.{◌≡◌, IfOk, OnErr};
+ghost use Rattle.luks_cli.specs.Exit.{exit_status};
 
+use crate::inputs::InputFault;
 use std::fmt::Display;
 use std::io;
 use std::io::Write;
@@ -17,6 +19,18 @@ pub(crate) enum Status {
     NotInStep = 3,
     /// A file can't be read, or memory was refused.
     Fault = 4,
+}
+
+/// The exit status of a command that ended so. It ends with an error where its output can't be
+/// written.
+pub(crate) fn exit_code(ended: io::Result<Status>) -> u8
+    ensures ended { IfOk ended (λ s. result ≡ exit_status s) }
+    ensures unwritten { OnErr ended (result ≡ 4) }
+{
+    match ended {
+        Ok(status) => status as u8,
+        Err(_) => Status::Fault as u8,
+    }
 }
 
 pub(crate) fn refused<F: Display, W: Write>(fault: &F, out: &mut W) -> io::Result<Status>
@@ -38,4 +52,14 @@ pub(crate) fn no_memory<W: Write>(out: &mut W) -> io::Result<Status>
 {
     writeln!(out, "no memory")?;
     Ok(Status::Fault)
+}
+
+/// What is printed where a file can't be read.
+pub(crate) fn unread<W: Write>(fault: InputFault, out: &mut W) -> io::Result<Status>
+    ensures { IfOk result (λ s. s ≡ Status.Fault) }
+{
+    match fault {
+        InputFault::NoMemory => no_memory(out),
+        InputFault::Absent | InputFault::Unreadable => device_fault(out),
+    }
 }

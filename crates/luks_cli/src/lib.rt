@@ -3,25 +3,17 @@
 #![tactic(auto)]
 
 mod answers;
-mod checking;
+mod command_line;
+mod commands;
 mod copies;
-mod escaped;
-mod executing;
+mod execution;
 mod helps;
 mod inputs;
-mod lists;
-mod objects;
-mod opening;
-mod passphrases;
+mod passphrase_file;
 mod request;
-mod showing;
-mod showing_luks1;
-mod showing_luks2;
-#[cfg(test)]
-mod tests;
-mod words;
 
-pub use executing::execute;
-pub use inputs::{Input, Inputs};
-pub use request::Line;
-pub use words::line;
+pub use command_line::line;
+pub use execution::execute;
+pub use inputs::{InputFault, Inputs};
+pub use passphrase_file::first_bytes;
+pub use request::{Command, Line};

@@ -1,6 +1,0 @@
-use Rattle.std.proofs.Common.{rules}
-use Rattle.luks_cli.proofs.Fronts.{long_of}
-use Rattle.luks_cli.proofs.passphrases.passphrase.Goals as goal
-
-pub returns-then-len-gt-MOST_BYTES-clause-long : goal.returns-then-len-gt-MOST_BYTES-clause-long
-returns-then-len-gt-MOST_BYTES-clause-long g c = λ _. rw c.in-Open.is (long_of _ _ c.in-Ok.ensures (search rules))

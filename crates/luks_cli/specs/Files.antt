@@ -1,0 +1,18 @@
+-- The files of a command line.
+use Rattle.std.specs.Prelude.{◌≡◌, List, ℕ, Result, Ok, Err}
+use Rattle.std.specs.declared.io.ErrorKind.{ErrorKind}
+use Rattle.std.specs.declared.io.ErrorKind.TheVariants.{OutOfMemory}
+use Rattle.luks_cli.specs.declared.inputs.InputFault.{InputFault}
+use Rattle.luks_cli.specs.declared.inputs.InputFault.TheVariants.{Absent, Unreadable, NoMemory}
+
+-- the fault of a file whose reading met an error of this kind
+abbrev pub IsFaultOf : ErrorKind → InputFault → Type 0
+IsFaultOf kind Absent = ⊥
+IsFaultOf kind Unreadable = kind ≡ OutOfMemory → ⊥
+IsFaultOf kind NoMemory = kind ≡ OutOfMemory
+
+-- the volume is there as it was, with the same bytes
+abbrev pub KeepsBytes : {T : Type 0} → (T → List ℕ) → Result T InputFault → Result T InputFault → Type 0
+KeepsBytes {T} bytes (Ok old) (Ok new) = bytes new ≡ bytes old
+KeepsBytes {T} bytes (Ok old) (Err fault) = ⊥
+KeepsBytes {T} bytes (Err fault) new = new ≡ Err fault

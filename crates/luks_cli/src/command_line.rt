@@ -1,0 +1,107 @@
+use crate::helps;
+use crate::request::{Command as Asked, Line};
+use clap::error::ErrorKind;
+use clap::{Arg, ArgAction, ArgMatches, Command, Error};
+use luks_volume::Data;
+use std::alloc::{AllocError, Global};
+
+/// Reads a command line, of which the first word is the program's name.
+///
+/// The fault is that of `clap`: a mistake in the words, a request for help, or memory that was
+/// refused.
+pub fn line<'a>(alloc: Global, words: &'a [&'a str]) -> Result<Line<'a>, Error> {
+    let mut program = program(alloc)?;
+    let matches = program.try_get_matches_from_mut(words)?;
+    match asked(&matches) {
+        Some(line) => Ok(line),
+        None => Err(program.error(ErrorKind::MissingSubcommand, "no command was given")?),
+    }
+}
+
+fn asked<'a>(matches: &ArgMatches<'a>) -> Option<Line<'a>> {
+    let (name, given) = matches.subcommand()?;
+    let volume = given.get_str("VOLUME")?;
+    let command = match name {
+        "check" => Asked::Check {
+            data_: data_of(given),
+        },
+        "show" => Asked::Show,
+        "open" => Asked::Open {
+            passphrase: given.get_str("passphrase")?,
+            slot: given.get_one::<u8>("slot"),
+        },
+        _ => return None,
+    };
+    Some(Line { volume, command })
+}
+
+fn data_of(given: &ArgMatches<'_>) -> Data {
+    if given.get_flag("detached") {
+        Data::Elsewhere
+    } else {
+        Data::Here
+    }
+}
+
+fn program<'a>(alloc: Global) -> Result<Command<'a>, AllocError> {
+    Command::new(alloc, "luks")
+        .about(helps::PROGRAM)
+        .after_help(helps::PROGRAM_MORE)
+        .subcommand_required(true)
+        .subcommand(check_command(alloc)?)?
+        .subcommand(show_command(alloc)?)?
+        .subcommand(open_command(alloc)?)
+}
+
+fn check_command<'a>(alloc: Global) -> Result<Command<'a>, AllocError> {
+    Command::new(alloc, "check")
+        .about(helps::CHECK)
+        .after_help(helps::CHECK_MORE)
+        .arg(volume_argument(alloc))?
+        .arg(detached_option(alloc))
+}
+
+fn show_command<'a>(alloc: Global) -> Result<Command<'a>, AllocError> {
+    Command::new(alloc, "show")
+        .about(helps::SHOW)
+        .after_help(helps::SHOW_MORE)
+        .arg(volume_argument(alloc))
+}
+
+fn open_command<'a>(alloc: Global) -> Result<Command<'a>, AllocError> {
+    Command::new(alloc, "open")
+        .about(helps::OPEN)
+        .after_help(helps::OPEN_MORE)
+        .arg(volume_argument(alloc))?
+        .arg(passphrase_option(alloc))?
+        .arg(slot_option(alloc))
+}
+
+fn volume_argument<'a>(alloc: Global) -> Arg<'a> {
+    Arg::new(alloc, "VOLUME")
+        .required(true)
+        .help("The volume, or its detached header")
+}
+
+fn detached_option<'a>(alloc: Global) -> Arg<'a> {
+    Arg::new(alloc, "detached")
+        .long("detached")
+        .action(ArgAction::SetTrue)
+        .help("The payload lies on another device, so no segment is judged")
+}
+
+fn passphrase_option<'a>(alloc: Global) -> Arg<'a> {
+    Arg::new(alloc, "passphrase")
+        .long("passphrase")
+        .value_name("FILE")
+        .required(true)
+        .help("The file of the passphrase")
+}
+
+fn slot_option<'a>(alloc: Global) -> Arg<'a> {
+    Arg::new(alloc, "slot")
+        .long("slot")
+        .value_name("N")
+        .value_parser(clap::value_parser!(u8).range(0..=31))
+        .help("The keyslot to try, 0 to 31")
+}

@@ -1,0 +1,4 @@
+//! The commands of the program, each with what it prints.
+pub(crate) mod check;
+pub(crate) mod open;
+pub(crate) mod show;

@@ -1,0 +1,21 @@
+//! Tests of luks_meta. They stand here so that it isn't proved a second time for them.
+#![tactic(auto)]
+
+#[cfg(test)]
+mod areas;
+#[cfg(test)]
+mod made;
+#[cfg(test)]
+mod members;
+#[cfg(test)]
+mod objects;
+#[cfg(test)]
+mod readers;
+#[cfg(test)]
+mod refused_memory;
+#[cfg(test)]
+mod rows;
+#[cfg(test)]
+mod texts;
+#[cfg(test)]
+mod values;

@@ -1,0 +1,81 @@
+//! Rows of the metadata: edits of two texts, each with the fault that is owed.
+use luks_meta::{Meta, MetaFault};
+use std::alloc::{AllocError, Global};
+use std::process::Abort;
+use std::test::Fail;
+
+/// The length in bytes of the JSON area of the smallest header.
+pub const AREA: usize = 12288;
+
+/// One PBKDF2 keyslot, its digest and one `crypt` segment.
+pub const PLAIN: &str =
+    r#"{"config":{"json_size":"12288","keyslots_size":"16744448"},"digests":{"0":{"digest":"AAAAAAAAAAAAAAAAAAAAAAAAAAAAAAAAAAAAAAAAAAA=","hash":"sha256","iterations":1000,"keyslots":["0"],"salt":"AAAAAAAAAAAAAAAAAAAAAAAAAAAAAAAAAAAAAAAAAAA=","segments":["0"],"type":"pbkdf2"}},"keyslots":{"0":{"af":{"hash":"sha256","stripes":4000,"type":"luks1"},"area":{"encryption":"aes-xts-plain64","key_size":64,"offset":"32768","size":"258048","type":"raw"},"kdf":{"hash":"sha256","iterations":1000,"salt":"AAAAAAAAAAAAAAAAAAAAAAAAAAAAAAAAAAAAAAAAAAA=","type":"pbkdf2"},"key_size":64,"type":"luks2"}},"segments":{"0":{"encryption":"aes-xts-plain64","iv_tweak":"0","offset":"16777216","sector_size":512,"size":"dynamic","type":"crypt"}},"tokens":{}}"#;
+
+/// The same with an Argon2 keyslot, and a token of number 5.
+pub const ARGON2: &str =
+    r#"{"config":{"json_size":"12288","keyslots_size":"16744448"},"digests":{"0":{"digest":"AAAAAAAAAAAAAAAAAAAAAAAAAAAAAAAAAAAAAAAAAAA=","hash":"sha256","iterations":1000,"keyslots":["0"],"salt":"AAAAAAAAAAAAAAAAAAAAAAAAAAAAAAAAAAAAAAAAAAA=","segments":["0"],"type":"pbkdf2"}},"keyslots":{"0":{"af":{"hash":"sha256","stripes":4000,"type":"luks1"},"area":{"encryption":"aes-xts-plain64","key_size":64,"offset":"32768","size":"258048","type":"raw"},"kdf":{"cpus":4,"memory":65536,"salt":"AAAAAAAAAAAAAAAAAAAAAAAAAAAAAAAAAAAAAAAAAAA=","time":3,"type":"argon2id"},"key_size":64,"type":"luks2"}},"segments":{"0":{"encryption":"aes-xts-plain64","iv_tweak":"0","offset":"16777216","sector_size":512,"size":"dynamic","type":"crypt"}},"tokens":{"5":{"keyslots":["0"],"type":"luks2-keyring"}}}"#;
+
+/// The text with its first `old` replaced.
+pub fn edited(alloc: Global, text: &str, old: &str, new: &str) -> Result<String, AllocError> {
+    let Some((before, after)) = text.split_once(old) else {
+        return String::from_str(alloc, "no such text");
+    };
+    let mut edited = String::from_str(alloc, before)?;
+    edited.push_str(new)?;
+    edited.push_str(after)?;
+    Ok(edited)
+}
+
+/// A JSON area of `len` bytes that begins with the bytes, or as many as there are.
+pub fn area_of(alloc: Global, bytes: &[u8], len: usize) -> Result<Vec<u8>, AllocError> {
+    let mut area = Vec::from_slice(alloc, bytes)?;
+    area.resize(len, 0)?;
+    Ok(area)
+}
+
+/// The metadata of this text.
+pub fn read(alloc: Global, text: &str) -> Result<Meta, Fail> {
+    let area = area_of(alloc, text.as_bytes(), AREA)?;
+    Ok(Meta::read(alloc, area.as_slice())?)
+}
+
+fn fault_in(alloc: Global, area: &[u8]) -> Option<MetaFault> {
+    Meta::read(alloc, area).err()
+}
+
+/// `accepted`, or the fault as it is printed.
+fn answer(alloc: Global, area: &[u8]) -> Result<String, AllocError> {
+    match fault_in(alloc, area) {
+        None => String::from_str(alloc, "accepted"),
+        Some(fault) => format!(in alloc; "{fault}"),
+    }
+}
+
+/// Whether this is answered: `accepted`, or the fault as it is printed.
+pub fn answers(alloc: Global, area: &[u8], want: &str) -> Result<bool, AllocError> {
+    let text = answer(alloc, area)?;
+    Ok(text.as_str() == want)
+}
+
+/// Whether this is answered of the text with one edit.
+pub fn answers_to(
+    alloc: Global,
+    text: &str,
+    old: &str,
+    new: &str,
+    want: &str,
+) -> Result<bool, AllocError> {
+    let text = edited(alloc, text, old, new)?;
+    let area = area_of(alloc, text.as_bytes(), AREA)?;
+    answers(alloc, area.as_slice(), want)
+}
+
+/// Each line of the table is a row: what is edited, what it becomes, and the answer.
+pub fn compare(rt: &impl Abort, alloc: Global, text: &str, table: &str) -> Result<(), Fail> {
+    for line in table.lines() {
+        let (old, rest) = line.trim_start().split_once(" => ").ok_or("no edit")?;
+        let (new, want) = rest.split_once(" => ").ok_or("no answer")?;
+        assert!(rt; answers_to(alloc, text, old, new, want)?, "{line}");
+    }
+    Ok(())
+}
