@@ -7,7 +7,8 @@ ghost use Rattle.luks_area.specs.Ranges.{IsAt, SameBut};
 ghost use Rattle.luks_slot.specs.Opening.{area_bytes, opened_sector};
 ghost use Rattle.luks_slot.specs.Writing.{ArePlaced, IsWriting};
 
-use luks_area::{Area, Device, DeviceFault};
+use crate::area_reader::SECTOR_BYTES;
+use luks_area::{Area, Device, DeviceFault, SECTOR};
 use luks_xts::XtsKey;
 
 // Writes bytes into an area in a row, encrypted, and holds those of a sector that isn't full yet.
@@ -15,7 +16,7 @@ use luks_xts::XtsKey;
 pub(crate) struct AreaWriter {
     pub(crate) area: Area,
     pub(crate) key: XtsKey,
-    pub(crate) sector: [u8; 512],
+    pub(crate) sector: [u8; SECTOR_BYTES],
 }
 
 impl AreaWriter {
@@ -27,7 +28,7 @@ impl AreaWriter {
         AreaWriter {
             area,
             key,
-            sector: [0; 512],
+            sector: [0; SECTOR_BYTES],
         }
     }
 
@@ -46,7 +47,7 @@ impl AreaWriter {
             (D.bytes device.old) (D.bytes device.new) }
     {
         self.key.seal_unit(number, &mut self.sector);
-        device.write_at(self.area.start + 512 * number, &self.sector)?;
+        device.write_at(self.area.start + SECTOR * number, &self.sector)?;
         Ok(())
     }
 
@@ -66,9 +67,9 @@ impl AreaWriter {
         ensures rest { D.tells → SameBut (IsAt self.old.area.start self.old.area.len)
             (D.bytes device.old) (D.bytes device.new) }
     {
-        self.sector[(place % 512) as usize] = byte;
-        if place % 512 == 511 {
-            self.store(device, place / 512)?;
+        self.sector[(place % SECTOR) as usize] = byte;
+        if place % SECTOR == SECTOR - 1 {
+            self.store(device, place / SECTOR)?;
         }
         Ok(())
     }

@@ -1,6 +1,6 @@
-//! Laws on the definitions of this crate. Each function does nothing; its contract is the law.
+//! Laws on the definitions of this crate. Each function changes nothing; its contract is the law.
 
-ghost use Rattle.std.specs.Prelude.{◌≡◌, ◌-◌, ◌*◌, ◌≤◌, ℕ, List, length, Some, None, if◌then◌else◌};
+ghost use Rattle.std.specs.Prelude.{◌≡◌, ◌-◌, ◌*◌, ◌≤◌, ℕ, List, length, Some, None, true, if◌then◌else◌};
 ghost use Rattle.luks_slot.specs.declared.plan.SlotPlan.{SlotPlan as ThePlan};
 ghost use Rattle.luks_slot.specs.Opening.{meets_digest, slot_key};
 ghost use Rattle.luks_slot.specs.Sealing.{IsSealed};
@@ -19,3 +19,9 @@ pub fn sealed_area_opens()
     merge_undoes_split::<Sha1Fn>();
     merge_undoes_split::<Sha256Fn>();
 }
+
+/// What a keyslot opens to by a passphrase meets the plan's digest.
+pub fn found_key_meets_digest()
+    ensures { (plan : ThePlan) (area passphrase key : List ℕ)
+        → slot_key plan area passphrase ≡ Some key → meets_digest plan.digest key ≡ true }
+{}

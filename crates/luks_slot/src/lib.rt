@@ -18,7 +18,7 @@ mod wiping;
 
 pub use fault::SlotFault;
 pub use key::Key;
-pub use laws::sealed_area_opens;
+pub use laws::{found_key_meets_digest, sealed_area_opens};
 pub use opening::open;
 pub use plan::{AreaCipher, Derivation, DigestPlan, SlotPlan};
 pub use sealing::seal;

@@ -12,6 +12,7 @@ ghost use Rattle.luks_slot.specs.Sealing.{IsSealed};
 ghost use Rattle.luks_slot.specs.Writing.{filled};
 ghost use Rattle.luks_slot.specs.declared.fault.SlotFault.{SlotFault as TheFault};
 
+use crate::area_reader::SECTOR_BYTES;
 use crate::area_writer::AreaWriter;
 use crate::fault::SlotFault;
 use crate::hashing::area_key;
@@ -97,7 +98,7 @@ fn write_stripes<D: Device>(
 {
     let len = rounded_to_sectors(random.len() as u64 + last.len() as u64);
     let mut writer = AreaWriter::new(Area { start, len }, key);
-    write_filled(device, &mut writer, random, last, &[0; 512])
+    write_filled(device, &mut writer, random, last, &[0; SECTOR_BYTES])
 }
 
 // The same by a writer of the area that they fill. `zeros` is a sector of zeros.
