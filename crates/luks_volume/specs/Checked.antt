@@ -148,10 +148,10 @@ abbrev pub First : List ℕ → Data → CheckFault → Type 0
 First v payload f = IsLeast check_key (IsFault v payload) f
 
 -- a refusal: the first fault, unless the device failed or memory was refused
-abbrev pub IsRefusal : List ℕ → Data → CheckFault → Type 0
-IsRefusal v payload Device = Unit {0}
-IsRefusal v payload Memory = NeedsMetadata v
-IsRefusal v payload f = First v payload f
+abbrev pub IsCheckRefusal : List ℕ → Data → CheckFault → Type 0
+IsCheckRefusal v payload Device = Unit {0}
+IsCheckRefusal v payload Memory = NeedsMetadata v
+IsCheckRefusal v payload f = First v payload f
 
 -- `m` is the metadata of the JSON area
 pub record HoldsMeta (json : List ℕ) (m : Meta2) : Type 0 where

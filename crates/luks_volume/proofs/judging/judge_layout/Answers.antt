@@ -6,8 +6,8 @@ use Rattle.luks_meta.specs.Content.{content}
 use Rattle.luks_volume.specs.declared.report.Data.TheVariants.{Here}
 use Rattle.luks_volume.specs.Checked.{HoldsMeta, IsLuks2Layout, SegmentsFollow}
 use Rattle.luks_volume.specs.Layout2.{Luks2Area}
-use Rattle.luks_volume.proofs.Judged2.{least_area2, least_segment, lists_value, segment_breaks}
-use Rattle.luks_volume.proofs.Moved.{fit_of, least_of, no_area_fault}
+use Rattle.luks_volume.proofs.Luks2FaultFacts.{least_area2, least_segment, lists_value, segment_breaks}
+use Rattle.luks_volume.proofs.ListedAreaFacts.{fit_of, least_of, no_area_fault}
 use Rattle.luks_volume.proofs.judging.judge_layout.Goals as goal
 
 pub returns-in-Some-clause-refused : goal.returns-in-Some-clause-refused

@@ -11,7 +11,7 @@ use Rattle.luks_volume.specs.declared.open_fault.OpenFault.{OpenFault}
 use Rattle.luks_volume.specs.declared.open_fault.OpenFault.TheVariants.{Head, Meta, NoSuchSlot, SlotFree, Outside, Slot, Device, Memory}
 
 -- the plan's numbers are those of a header that has been judged, and its area holds the sectors
-pub record IsJudged (plan : SlotPlan) : Type 0 where
+pub record IsOpenable (plan : SlotPlan) : Type 0 where
   pub turns : HasIterations plan.derivation
   pub digest_turns : 1 ≤ plan.digest.iterations
   pub digest_length : length plan.digest.stored.now ≤ 64

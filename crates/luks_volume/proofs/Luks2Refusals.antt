@@ -17,12 +17,12 @@ use Rattle.luks_volume.specs.declared.open_fault.OpenFault.{OpenFault}
 use Rattle.luks_volume.specs.declared.open_fault.OpenFault.TheVariants.{Head, Meta, NoSuchSlot, SlotFree, Outside, Slot, Device, Memory}
 use Rattle.luks_volume.specs.Answer.{open_key, head_step, slot_row, IsLuks2Refusal}
 use Rattle.luks_volume.specs.ChosenCopies.{IsCleared}
-use Rattle.luks_volume.specs.Entered2.{Luks2Refused, Luks2Opens}
-use Rattle.luks_volume.specs.Planned.{PlanOpens, PlanRefused}
+use Rattle.luks_volume.specs.Luks2Keyslots.{Luks2Refused, Luks2Opens}
+use Rattle.luks_volume.specs.PlanAnswers.{PlanOpens, PlanRefused}
 use Rattle.luks_volume.specs.Plans.{HasLuks2Plan}
-use Rattle.luks_volume.proofs.Alike.{same_refusal}
-use Rattle.luks_volume.proofs.PlanFields2.{IsOnly, one_luks2_plan}
-use Rattle.luks_volume.proofs.Refusals1.{sooner, together}
+use Rattle.luks_volume.proofs.SamePlans.{same_refusal}
+use Rattle.luks_volume.proofs.Luks2Plans.{IsOnly, one_luks2_plan}
+use Rattle.luks_volume.proofs.Luks1Refusals.{sooner, together}
 
 pub uuid_step : (uuid : List ℕ) (f : HeadFault) → IsUuidFault uuid f → head_step f ≡ 1
 uuid_step uuid head.TooShort x = absurd x
