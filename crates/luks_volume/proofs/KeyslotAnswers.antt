@@ -14,7 +14,7 @@ use Rattle.luks_volume.specs.declared.open_fault.OpenFault.{OpenFault}
 use Rattle.luks_volume.specs.declared.open_fault.OpenFault.TheVariants.{Head, Meta, NoSuchSlot, SlotFree, Outside, Slot, Device, Memory}
 use Rattle.luks_volume.specs.declared.read_fault.ReadFault.{ReadFault}
 use Rattle.luks_volume.specs.declared.read_fault.ReadFault.TheVariants as reading
-use Rattle.luks_volume.specs.Answer.{open_key, head_step, slot_row, Answer, IsLuks2Refusal, IsRefusalAs, IsRefusedBy, refused, opened_to}
+use Rattle.luks_volume.specs.Answer.{open_key, head_step, slot_row, Answer, IsRefusalAs, IsRefusedBy, refused, opened_to}
 use Rattle.luks_volume.specs.Conversions.{unread_opened}
 use Rattle.luks_volume.specs.Header.{json_at, read_key, IsReadFaultAs, IsUnread}
 use Rattle.luks_volume.specs.Luks1Keyslots.{Luks1Opens, Luks1Refused}

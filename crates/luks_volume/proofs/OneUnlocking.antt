@@ -1,6 +1,6 @@
 -- Opening a volume has one answer.
 use Rattle.std.proofs.Common.{◌≡◌, ℕ, List, [], ◌∷◌, ◌++◌, All, Option, Some, None, Result, Ok, Err, IfOk, IfErr, refl, ap, subst, sym, ◌∙◌}
-use Rattle.std.proofs.lemmas.List.Elements.{All-head, All-tail, All-append}
+use Rattle.std.proofs.lemmas.List.Elements.{All-head, All-tail}
 use Rattle.serde_json.specs.Data.{Data as Value}
 use Rattle.luks_head.specs.Selection.{Choice, luks1, luks2, nothing, Chosen}
 use Rattle.luks_meta.specs.MetaFault.{Json}
@@ -9,7 +9,7 @@ use Rattle.luks_volume.specs.declared.open_fault.OpenFault.TheVariants.{Head, Me
 use Rattle.luks_volume.specs.Answer.{open_key, Answer, Opened, opens}
 use Rattle.luks_volume.specs.Agreement.{AgreesUnlocked, IsSameAnswer, IsSameUnlocking}
 use Rattle.luks_volume.specs.Header.{json_at}
-use Rattle.luks_volume.specs.Unlocking.{luks2_order, GivesFirst, IsFirstOf, IsVolumeRefusedBy, IsVolumeRefusal, IsVolumeRefusalAs, IsOrderAs, DoesNotOpen, Unlocked, UnlockAnswer, Unlocks, locked, gives}
+use Rattle.luks_volume.specs.Unlocking.{luks2_order, GivesFirst, IsVolumeRefusedBy, IsVolumeRefusal, IsVolumeRefusalAs, IsOrderAs, DoesNotOpen, Unlocked, UnlockAnswer, Unlocks, locked, gives}
 use Rattle.luks_volume.proofs.OneAnswer.{least_once}
 
 -- ---- the first of a list is one

@@ -8,7 +8,7 @@ use Rattle.luks_volume.specs.declared.open_fault.OpenFault.TheVariants.{Head, Me
 use Rattle.luks_volume.specs.Luks1Keyslots.{Luks1Opens, Luks1Refused}
 use Rattle.luks_volume.specs.Luks2Keyslots.{Luks2Opens, Luks2Refused}
 use Rattle.luks_volume.specs.PlanAnswers.{IsFailure}
-use Rattle.luks_volume.specs.KeyslotsTried.{passed_over, Luks1DoesNotOpen, Luks1Tried, Luks2DoesNotOpen, Luks2Tried}
+use Rattle.luks_volume.specs.KeyslotsTried.{passed_over, Luks1Tried, Luks2Tried}
 use Rattle.luks_volume.proofs.SamePlans.{same_answer}
 use Rattle.luks_volume.proofs.Luks1Plans.{one_luks1_plan}
 use Rattle.luks_volume.proofs.Luks2Plans.{IsOnly, one_luks2_plan}

@@ -2,9 +2,6 @@
 use Rattle.std.specs.Prelude.{ℕ, List, filter, Bool, Option, Some, None, Result, Ok, Err, ⊤}
 use Rattle.serde_json.specs.Data.{Data as Value}
 use Rattle.luks_area.specs.First.{IsLeast}
-use Rattle.luks_head.specs.declared.fault.HeadFault.{HeadFault}
-use Rattle.luks_head.specs.Header2.{uuid_field, IsUuidFault}
-use Rattle.luks_meta.specs.MetaFault.{Json}
 use Rattle.luks_volume.specs.declared.open_fault.OpenFault.{OpenFault}
 use Rattle.luks_volume.specs.declared.open_fault.OpenFault.TheVariants.{Head, Meta, NoSuchSlot, SlotFree, Outside, Slot, Device, Memory}
 use Rattle.luks_volume.specs.declared.unlocking.Rank.{Rank}
@@ -12,7 +9,7 @@ use Rattle.luks_volume.specs.declared.unlocking.Rank.TheVariants.{Preferred, Nor
 use Rattle.luks_volume.specs.Answer.{open_key}
 use Rattle.luks_volume.specs.Luks1Keyslots.{Luks1Opens}
 use Rattle.luks_volume.specs.Luks2Keyslots.{Luks2Opens}
-use Rattle.luks_volume.specs.Unlocking.{is_preferred, is_normal, priority_of, luks1_order, luks2_order, numbers_below, GivesFirst, IsLuks1VolumeRefusal, IsLuks2VolumeRefusal}
+use Rattle.luks_volume.specs.Unlocking.{is_preferred, is_normal, priority_of, luks1_order, numbers_below, GivesFirst, IsLuks1VolumeRefusal}
 
 -- what trying a keyslot that is refused gives: a fault of its own is passed over
 abbrev pub passed_over : OpenFault → Result (Option (List ℕ)) OpenFault

@@ -1,5 +1,5 @@
 -- The keyslots of priority 2 first, then the others.
-use Rattle.std.proofs.Common.{ℕ, List, Option, Some, None, subst}
+use Rattle.std.proofs.Common.{ℕ, List, Option, subst}
 use Rattle.std.proofs.lemmas.Result.{IfOk-weaker}
 use Rattle.luks_meta.specs.Content.{content}
 use Rattle.luks_volume.specs.declared.unlocking.Rank.TheVariants.{Preferred, Normal}
