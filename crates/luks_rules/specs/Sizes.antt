@@ -1,6 +1,6 @@
 -- The numbers of the metadata that speak of the volume: lengths, key areas and their region.
 -- `len` is the length of the JSON area in bytes, so that a header has `len + 4096` bytes.
-use Rattle.std.specs.Prelude.{◌≡◌, ℕ, ◌+◌, ◌*◌, ◌/◌, ◌<◌, List, codes, Bool, true, false, ◌||◌, ◌==◌, not, nat_lt, Option, option_and_then}
+use Rattle.std.specs.Prelude.{◌≡◌, ℕ, ◌+◌, ◌*◌, ◌<◌, List, codes, Bool, true, false, ◌||◌, ◌==◌, not, nat_lt, Option, option_and_then}
 use Rattle.std.specs.Option.{option_map_or}
 use Rattle.serde_json.specs.Data.{Data}
 use Rattle.serde_json.specs.Find.{get}
