@@ -6,6 +6,7 @@ use Rattle.luks_head.specs.Written.{WritesEntry}
 use Rattle.luks_head.specs.declared.luks1.Luks1Slot.{Luks1Slot}
 use Rattle.luks_head.proofs.NumberFacts.{bytes_within, number_agrees, parts_join}
 
+-- one key slot, one entry
 pub entries_agree : (e f : List ℕ) (s : Luks1Slot) → WritesEntry e s → WritesEntry f s → e ≡ f
 entries_agree e f s a b =
     let p1 : part e 0 4 ≡ part f 0 4 = number_agrees e f 0 4 (rw a.long (lit≤ tt)) (rw b.long (lit≤ tt))

@@ -1,3 +1,5 @@
+pub mod BinaryHeaderFacts
+pub mod BinaryHeaderWriting
 pub mod ChoiceFacts
 pub mod ChosenCopyFacts
 pub mod CommonWriting
@@ -5,8 +7,6 @@ pub mod CopyFacts
 pub mod DecidableFacts
 pub mod EntryFacts
 pub mod EntryWriting
-pub mod HeaderFacts2
-pub mod HeaderWriting2
 pub mod Luks1FaultFacts
 pub mod Luks1HeaderFacts
 pub mod Luks1WritingFacts

@@ -5,6 +5,7 @@ use Rattle.byteorder.specs.Endian.{big_number}
 use Rattle.uuid.specs.Text.{by_index}
 use Rattle.uuid.proofs.TextLemmas.{by_index_at, by_index_length}
 use Rattle.luks_area.specs.Ranges.{part}
+use Rattle.luks_area.specs.RangeFacts.{part-part}
 use Rattle.luks_area.specs.Text.{text_of, is_plain}
 use Rattle.luks_head.specs.Bytes.{number_at, text_at, IsUuid}
 use Rattle.luks_head.specs.Faults.{HasUnknownState, IsCommonFault, IsEntryFault, IsLuks1Fault}
@@ -20,7 +21,6 @@ use Rattle.luks_head.specs.declared.luks1.Luks1Slot.{Luks1Slot}
 use Rattle.luks_head.specs.declared.luks1.SlotState.{SlotState}
 use Rattle.luks_head.specs.declared.luks1.SlotState.TheVariants as state
 use Rattle.luks_head.proofs.Luks1FaultFacts.{accepted, common_accepted, entry_accepted}
-use Rattle.luks_head.proofs.CopyFacts.{part-part}
 
 -- the two lists have the same first n bytes
 pub record SameFirst (n : ℕ) (v w : List ℕ) : Type 0 where

@@ -40,7 +40,8 @@ pub record WritesCommon (b : List ℕ) (c : Luks1Common) : Type 0 where
   pub fields : ((t : TextField) → IsWhole (common_text c t)) → HoldsCommon b c
   pub room : (t : TextField) → length (common_text c t) ≤ field_len t
   pub texts : (t : TextField) → part b (field_at t) (length (common_text c t)) ≡ common_text c t
-  pub padding : (t : TextField) → AreZeros b (field_at t + length (common_text c t)) (field_at t + field_len t)
+  pub padding : (t : TextField)
+      → AreZeros b (field_at t + length (common_text c t)) (field_at t + field_len t)
 
 -- the 48 bytes `e` are those of the key slot `s` as it is written: its numbers stand before the salt
 -- and after it
@@ -57,7 +58,7 @@ pub record WritesLuks1 (b : List ℕ) (d : Luks1) : Type 0 where
   pub slots : (n : ℕ) (s : Luks1Slot) → n < 8 → WritesEntry (entry b n) (slice_index_or d.slots n s)
 
 -- the 4096 bytes `b` are the binary header `h` as it is written: its numbers stand before the label
--- and after the subsystem
+-- and behind the subsystem; zeros stand behind them, from the place 264 on, and behind the checksum
 pub record WritesBin2 (b : List ℕ) (h : Bin2) : Type 0 where
   pub long : length b ≡ binary_header_size
   pub fields : HoldsBin2 b h

@@ -48,7 +48,7 @@ fn has_sha256(head: &[u8]) -> bool
     }
 }
 
-/// Whether the binary header, read at `at` on a device of `total` bytes, is of the right form there.
+/// Whether the binary header, read at `at` on a device of `total` bytes, is of the right form.
 fn is_formed(head: &[u8], at: u64, total: u64) -> bool
     requires { length head.now ≡ binary_header_size }
     ensures { IsTrue result ↔ IsFormed head.now at total }

@@ -14,17 +14,24 @@ use crate::selection::Copies;
 
 /// A volume has no fault of a LUKS1 header exactly where it begins with one.
 pub fn luks1_without_faults()
-    ensures header { (v : List ℕ) → ((f : HeadFault) → IsLuks1Fault v f → ⊥) ↔ ((d : Luks1) × IsLuks1 v d) }
-    ensures common { (v : List ℕ) → ((f : HeadFault) → IsCommonFault v f → ⊥) ↔ ((c : Luks1Common) × IsCommon v c) }
-    ensures entry { (n : ℕ) (e : List ℕ) → ((f : HeadFault) → IsEntryFault n e f → ⊥) ↔ ((s : Luks1Slot) × IsEntry e s) }
+    ensures header { (v : List ℕ)
+        → ((f : HeadFault) → IsLuks1Fault v f → ⊥) ↔ ((d : Luks1) × IsLuks1 v d) }
+    ensures common { (v : List ℕ)
+        → ((f : HeadFault) → IsCommonFault v f → ⊥) ↔ ((c : Luks1Common) × IsCommon v c) }
+    ensures entry { (n : ℕ) (e : List ℕ)
+        → ((f : HeadFault) → IsEntryFault n e f → ⊥) ↔ ((s : Luks1Slot) × IsEntry e s) }
 {}
 
 /// A LUKS1 header is the volume's first 592 bytes, the fields before its keyslots the first 208.
 pub fn luks1_is_first_bytes()
-    ensures header { (v : List ℕ) (d : Luks1) → luks1_size ≤ length v → IsLuks1 (part v 0 luks1_size) d ↔ IsLuks1 v d }
-    ensures faults { (v : List ℕ) (f : HeadFault) → luks1_size ≤ length v → IsLuks1Fault (part v 0 luks1_size) f ↔ IsLuks1Fault v f }
-    ensures common { (v : List ℕ) (c : Luks1Common) → IsCommon (part v 0 common_size) c ↔ IsCommon v c }
-    ensures common_faults { (v : List ℕ) (f : HeadFault) → IsCommonFault (part v 0 common_size) f ↔ IsCommonFault v f }
+    ensures header { (v : List ℕ) (d : Luks1) → luks1_size ≤ length v
+        → IsLuks1 (part v 0 luks1_size) d ↔ IsLuks1 v d }
+    ensures faults { (v : List ℕ) (f : HeadFault) → luks1_size ≤ length v
+        → IsLuks1Fault (part v 0 luks1_size) f ↔ IsLuks1Fault v f }
+    ensures common { (v : List ℕ) (c : Luks1Common)
+        → IsCommon (part v 0 common_size) c ↔ IsCommon v c }
+    ensures common_faults { (v : List ℕ) (f : HeadFault)
+        → IsCommonFault (part v 0 common_size) f ↔ IsCommonFault v f }
     ensures entry { (v : List ℕ) (n : ℕ) → n < 8 → entry (part v 0 luks1_size) n ≡ entry v n }
 {}
 
@@ -37,8 +44,10 @@ pub fn one_choice()
 /// A selection has a fault exactly where nothing is chosen, and the uuid has one exactly where its
 /// field isn't that of a uuid.
 pub fn luks2_without_faults()
-    ensures selected { (v : List ℕ) → ((f : HeadFault) → IsSelectFault v f → ⊥) ↔ (Chosen v nothing → ⊥) }
-    ensures uuid { (field : List ℕ) → ((f : HeadFault) → IsUuidFault field f → ⊥) ↔ IsUuidField field }
+    ensures selected { (v : List ℕ)
+        → ((f : HeadFault) → IsSelectFault v f → ⊥) ↔ (Chosen v nothing → ⊥) }
+    ensures uuid { (field : List ℕ)
+        → ((f : HeadFault) → IsUuidFault field f → ⊥) ↔ IsUuidField field }
 {}
 
 /// The chosen copy is sound, and stands where its header says.
@@ -58,7 +67,8 @@ pub fn soundness_is_local()
 /// where the first one ends, with one sequence number, the first is chosen and both are in step,
 /// whatever stands at the other places.
 pub fn written_copies_are_chosen()
-    ensures sound { (v : List ℕ) (o : ℕ) (h : Bin2) (json : List ℕ) → IsWrittenCopy v o h json → IsSound v o }
+    ensures sound { (v : List ℕ) (o : ℕ) (h : Bin2) (json : List ℕ)
+        → IsWrittenCopy v o h json → IsSound v o }
     ensures fed { (b json : List ℕ) → length b ≡ binary_header_size
         → with_zero_checksum (b ++ json) ≡ with_zero_checksum b ++ json }
     ensures in_step { (v : List ℕ) (first second : Bin2) (a b : List ℕ) → IsWrittenCopy v 0 first a

@@ -203,7 +203,8 @@ fn slots_of(bytes: &[u8]) -> [Luks1Slot; 8]
     requires long { luks1_size ≤ length bytes.now }
     requires stated { (n : ℕ) → n < 8 → HasUnknownState (entry bytes.now n) → ⊥ }
     ensures length { length result ≡ 8 }
-    ensures each { (n : ℕ) (s : Luks1Slot) → n < 8 → HoldsEntry (entry bytes.now n) (slice_index_or result n s) }
+    ensures each { (n : ℕ) (s : Luks1Slot)
+        → n < 8 → HoldsEntry (entry bytes.now n) (slice_index_or result n s) }
 {
     let mut slots = [Luks1Slot::default(); 8];
     for n in 0..8 {

@@ -1,24 +1,27 @@
 -- From what counts of a volume to the volume.
-use Rattle.std.proofs.Common.{◌≡◌, ℕ, ◌+◌, ◌-◌, List, length, refl, ap, subst, sym, ◌∙◌, arith, Option, Some, None}
+use Rattle.std.proofs.Common.{◌≡◌, ℕ, List, [], ◌∷◌, length, refl, subst, sym, ◌∙◌, arith, Option, Some, None}
 use Rattle.luks_area.specs.First.{NotAfter, IsLeast}
 use Rattle.luks_area.specs.Ranges.{part}
 use Rattle.luks_head.specs.declared.fault.HeadFault.{HeadFault}
 use Rattle.luks_head.specs.declared.fault.HeadFault.TheVariants as head
-use Rattle.luks_head.specs.Faults.{head_key}
-use Rattle.luks_head.specs.Selection.{Choice, luks1, luks2, nothing, Chosen, IsOfSelection, IsSelected, IsSelectFault, IsRefused}
-use Rattle.luks_head.specs.declared.bin2.Bin2.{Bin2}
 use Rattle.luks_head.specs.declared.selection.Copies.{Copies}
-use Rattle.luks_head.specs.declared.selection.Selected.TheVariants.{V2}
-use Rattle.luks_head.specs.Header2.{header_at, HoldsBin2}
+use Rattle.luks_head.specs.Faults.{head_key}
+use Rattle.luks_head.specs.Header2.{header_at, uuid_field}
+use Rattle.luks_head.specs.Selection.{Choice, luks1, luks2, nothing, Chosen, IsSelectFault}
+use Rattle.luks_rules.specs.declared.fault.MetaFault.{MetaFault}
+use Rattle.luks_meta.specs.MetaFault.{meta_key}
 use Rattle.luks_volume.specs.declared.open_fault.OpenFault.{OpenFault}
 use Rattle.luks_volume.specs.declared.open_fault.OpenFault.TheVariants.{Head, Meta, NoSuchSlot, SlotFree, Outside, Slot, Device, Memory}
-use Rattle.luks_volume.specs.Answer.{open_key, head_step, Answer, IsLuks2Refusal, IsRefusalAs, Opens, IsRefusedBy, refused, opened_to}
-use Rattle.luks_volume.specs.Checked.{json_at}
+use Rattle.luks_volume.specs.declared.read_fault.ReadFault.{ReadFault}
+use Rattle.luks_volume.specs.declared.read_fault.ReadFault.TheVariants as reading
+use Rattle.luks_volume.specs.Answer.{open_key, head_step, slot_row, Answer, IsLuks2Refusal, IsRefusalAs, IsRefusedBy, refused, opened_to}
+use Rattle.luks_volume.specs.Conversions.{unread_opened}
+use Rattle.luks_volume.specs.Header.{json_at, read_key, IsReadFaultAs, IsUnread}
 use Rattle.luks_volume.specs.Entered.{Luks1Opens, Luks1Refused}
-use Rattle.luks_volume.specs.Copied.{json_of}
 use Rattle.luks_volume.specs.Entered2.{Luks2Opens, Luks2Refused}
-use Rattle.luks_volume.specs.Planned.{outer_fault}
-use Rattle.luks_volume.proofs.Refusals1.{together}
+use Rattle.luks_volume.proofs.ReadFaults.{as_unread}
+use Rattle.luks_volume.proofs.Refusals1.{sooner, together}
+use Rattle.luks_volume.proofs.Refusals2.{uuid_step}
 
 -- the first refusal by what counts is the volume's first refusal
 pub refused_as : (v : List ℕ) (n : ℕ) (p : List ℕ) (c : Choice) (f : OpenFault) → Chosen v c → ((d : Choice) → Chosen v d → c ≡ d)
@@ -46,41 +49,25 @@ luks1_opens v n p None chosen x = record { choice = luks1; chosen = chosen; plan
 
 -- ---- the LUKS2 copy that counts
 
-pub same_json : (v : List ℕ) (h : Bin2) → HoldsBin2 (header_at v h.hdr_offset) h → json_of v h ≡ json_at v h.hdr_offset
-same_json v h holds = ap (λ size. part v (h.hdr_offset + 4096) (size - 4096)) (sym holds.hdr_size)
+pub luks2_refused : (v : List ℕ) (n : ℕ) (p : List ℕ) (o : ℕ) (copies : Copies) (f : OpenFault) → Chosen v (luks2 o copies)
+    → ((d : Choice) → Chosen v d → luks2 o copies ≡ d) → Luks2Refused (header_at v o) (json_at v o) (length v) n f → IsRefusedBy v n p f
+luks2_refused v n p o copies (Head f) chosen only x = refused_as v n p (luks2 o copies) (Head f) chosen only x
+luks2_refused v n p o copies (Meta f) chosen only x = refused_as v n p (luks2 o copies) (Meta f) chosen only x
+luks2_refused v n p o copies NoSuchSlot chosen only x = refused_as v n p (luks2 o copies) NoSuchSlot chosen only x
+luks2_refused v n p o copies SlotFree chosen only x = refused_as v n p (luks2 o copies) SlotFree chosen only x
+luks2_refused v n p o copies Outside chosen only x = refused_as v n p (luks2 o copies) Outside chosen only x
+luks2_refused v n p o copies (Slot f) chosen only x = refused_as v n p (luks2 o copies) (Slot f) chosen only x
+luks2_refused v n p o copies Device chosen only x = x
+luks2_refused v n p o copies Memory chosen only x = record { place = o; copies = copies; chosen = chosen; uuid = x }
 
-copy_refused : (v : List ℕ) (n : ℕ) (p : List ℕ) (h : Bin2) (copies : Copies) (f : OpenFault) → IsSelected v (V2 h copies)
-    → ((d : Choice) → Chosen v d → luks2 h.hdr_offset copies ≡ d)
-    → IsLeast open_key (IsLuks2Refusal (header_at v h.hdr_offset) (json_of v h) (length v) n) f → Answer v n p (refused f)
-copy_refused v n p h copies f is only least =
-    refused_as v n p (luks2 h.hdr_offset copies) f is.0 only
-    (subst (λ json. IsLeast open_key (IsLuks2Refusal (header_at v h.hdr_offset) json (length v) n) f) (same_json v h is.1) least)
+pub luks2_opens : (v : List ℕ) (n : ℕ) (p : List ℕ) (o : ℕ) (copies : Copies) (found : Option (List ℕ)) → Chosen v (luks2 o copies)
+    → Luks2Opens (header_at v o) (json_at v o) v n p found → Answer v n p (opened_to found)
+luks2_opens v n p o copies (Some k) chosen x = record { choice = luks2 o copies; chosen = chosen; plan = x.plan; is = x.is; unrefused = x.unrefused; key = x.key }
+luks2_opens v n p o copies None chosen x = record { choice = luks2 o copies; chosen = chosen; plan = x.plan; is = x.is; unrefused = x.unrefused; key = x.key }
 
-pub luks2_refused : (v : List ℕ) (n : ℕ) (p : List ℕ) (h : Bin2) (copies : Copies) (f : OpenFault) → IsSelected v (V2 h copies)
-    → ((d : Choice) → Chosen v d → luks2 h.hdr_offset copies ≡ d)
-    → Luks2Refused (header_at v h.hdr_offset) (json_of v h) (length v) n f → IsRefusedBy v n p f
-luks2_refused v n p h copies (Head f) is only x = copy_refused v n p h copies (Head f) is only x
-luks2_refused v n p h copies (Meta f) is only x = copy_refused v n p h copies (Meta f) is only x
-luks2_refused v n p h copies NoSuchSlot is only x = copy_refused v n p h copies NoSuchSlot is only x
-luks2_refused v n p h copies SlotFree is only x = copy_refused v n p h copies SlotFree is only x
-luks2_refused v n p h copies Outside is only x = copy_refused v n p h copies Outside is only x
-luks2_refused v n p h copies (Slot f) is only x = copy_refused v n p h copies (Slot f) is only x
-luks2_refused v n p h copies Device is only x = x
-luks2_refused v n p h copies Memory is only x = record { place = h.hdr_offset; copies = copies; chosen = is.0; uuid = x }
+-- ---- a header that isn't read
 
-copy_opens : (v : List ℕ) (n : ℕ) (p : List ℕ) (h : Bin2) (copies : Copies) (found : Option (List ℕ)) → IsSelected v (V2 h copies)
-    → Luks2Opens (header_at v h.hdr_offset) (json_of v h) v n p found → Opens v n p found
-copy_opens v n p h copies found is y =
-    let x = subst (λ json. Luks2Opens (header_at v h.hdr_offset) json v n p found) (same_json v h is.1) y in
-    record { choice = luks2 h.hdr_offset copies; chosen = is.0; plan = x.plan; is = x.is; unrefused = x.unrefused; key = x.key }
-
-pub luks2_opens : (v : List ℕ) (n : ℕ) (p : List ℕ) (h : Bin2) (copies : Copies) (found : Option (List ℕ)) → IsSelected v (V2 h copies)
-    → Luks2Opens (header_at v h.hdr_offset) (json_of v h) v n p found → Answer v n p (opened_to found)
-luks2_opens v n p h copies (Some k) is x = copy_opens v n p h copies (Some k) is x
-luks2_opens v n p h copies None is x = copy_opens v n p h copies None is x
-
--- ---- a selection's faults
-
+-- a selection's faults stand in the first step
 pub step_one : (v : List ℕ) (f : HeadFault) → IsSelectFault v f → head_step f ≡ 1
 step_one v head.TooShort x = refl
 step_one v head.NotLuks x = refl
@@ -95,50 +82,78 @@ step_one v (head.Iterations o) x = absurd x
 step_one v head.Device x = absurd x
 step_one v head.Memory x = absurd x
 
--- where a selection has a fault, nothing counts
-pub nothing_counts : (v : List ℕ) (f : HeadFault) → IsSelectFault v f → Chosen v nothing
-nothing_counts v head.TooShort x = (λ is. let long = is.long in omega (arith, long, x), λ long. absurd (omega (arith, long, x)))
-nothing_counts v head.NotLuks x = x.0
-nothing_counts v head.Version x = x.0
-nothing_counts v head.NoSoundCopy x = x
-nothing_counts v (head.Text t) x = absurd x
-nothing_counts v head.Uuid x = absurd x
-nothing_counts v (head.SlotState m) x = absurd x
-nothing_counts v head.KeyBytes x = absurd x
-nothing_counts v (head.Stripes m) x = absurd x
-nothing_counts v (head.Iterations o) x = absurd x
-nothing_counts v head.Device x = absurd x
-nothing_counts v head.Memory x = absurd x
+read_step : (v : List ℕ) (c : Choice) (f : HeadFault) → IsReadFaultAs v c (reading.Head f) → head_step f ≡ 1
+read_step v luks1 f x = absurd x
+read_step v (luks2 o copies) f x = uuid_step (uuid_field (header_at v o)) f x
+read_step v nothing f x = step_one v f x
 
-select_refused : (v : List ℕ) (n : ℕ) (p : List ℕ) (f : HeadFault) → ((b c : Choice) → Chosen v b → Chosen v c → b ≡ c)
-    → IsLeast head_key (IsSelectFault v) f → Answer v n p (refused (Head f))
-select_refused v n p f one least = refused_as v n p nothing (Head f) chosen (λ d. one nothing d chosen) (least.0, after)
+head_refuses : (v : List ℕ) (n : ℕ) (c : Choice) (f : HeadFault) → IsReadFaultAs v c (reading.Head f) → IsRefusalAs v n c (Head f)
+head_refuses v n luks1 f x = absurd x
+head_refuses v n (luks2 o copies) f x = x
+head_refuses v n nothing f x = x
+
+meta_refuses : (v : List ℕ) (n : ℕ) (c : Choice) (f : MetaFault) → IsReadFaultAs v c (reading.Meta f) → IsRefusalAs v n c (Meta f)
+meta_refuses v n luks1 f x = absurd x
+meta_refuses v n (luks2 o copies) f x = x
+meta_refuses v n nothing f x = absurd x
+
+-- where the header isn't read, the refusals of these two kinds are the faults of reading it
+head_read : (v : List ℕ) (n : ℕ) (c : Choice) (r : ReadFault) (f : HeadFault) → IsReadFaultAs v c r → IsRefusalAs v n c (Head f)
+    → IsReadFaultAs v c (reading.Head f)
+head_read v n luks1 r f unread x = absurd unread
+head_read v n (luks2 o copies) r f unread x = x
+head_read v n nothing r f unread x = x
+
+meta_read : (v : List ℕ) (n : ℕ) (c : Choice) (r : ReadFault) (f : MetaFault) → IsReadFaultAs v c r → IsRefusalAs v n c (Meta f)
+    → IsReadFaultAs v c (reading.Meta f)
+meta_read v n luks1 r f unread x = absurd unread
+meta_read v n (luks2 o copies) r f unread x = x
+meta_read v n nothing r f unread x = absurd x
+
+pub unread_first : (v : List ℕ) (n : ℕ) (c : Choice) (f : ReadFault) → IsLeast read_key (IsReadFaultAs v c) f
+    → IsLeast open_key (IsRefusalAs v n c) (unread_opened f)
+unread_first v n c (reading.Head f) least = (head_refuses v n c f least.0, after)
   where
-    chosen : Chosen v nothing
-    chosen = nothing_counts v f least.0
+    step : head_step f ≡ 1
+    step = read_step v c f least.0
 
-    after : (g : OpenFault) → IsRefusalAs v n nothing g → NotAfter (open_key (Head f)) (open_key g)
+    after : (g : OpenFault) → IsRefusalAs v n c g → NotAfter (open_key (Head f)) (open_key g)
     after (Head g) is =
-        together (head_step f) (head_step g) (head_key f) (head_key g) (step_one v f least.0 ∙ sym (step_one v g is)) (least.1 g is)
-    after (Meta g) is = absurd is
-    after NoSuchSlot is = absurd is
-    after SlotFree is = absurd is
-    after Outside is = absurd is
-    after (Slot g) is = absurd is
-    after Device is = absurd is
-    after Memory is = absurd is
+        let read = head_read v n c (reading.Head f) g least.0 is in
+        together (head_step f) (head_step g) (head_key f) (head_key g) (step ∙ sym (read_step v c g read)) ((least.1 (reading.Head g) read).1 refl)
+    after (Meta g) is = let here = step in sooner (head_step f) 2 (head_key f) (meta_key g) (omega (arith, here))
+    after NoSuchSlot is = let here = step in sooner (head_step f) 3 (head_key f) [] (omega (arith, here))
+    after SlotFree is = let here = step in sooner (head_step f) 5 (head_key f) [] (omega (arith, here))
+    after Outside is = let here = step in sooner (head_step f) 6 (head_key f) [] (omega (arith, here))
+    after (Slot g) is = let here = step in sooner (head_step f) 7 (head_key f) (slot_row g ∷ []) (omega (arith, here))
+    after Device is = let here = step in sooner (head_step f) 8 (head_key f) [] (omega (arith, here))
+    after Memory is = let here = step in sooner (head_step f) 9 (head_key f) [] (omega (arith, here))
+unread_first v n c (reading.Meta f) least = (meta_refuses v n c f least.0, after)
+  where
+    after : (g : OpenFault) → IsRefusalAs v n c g → NotAfter (open_key (Meta f)) (open_key g)
+    after (Head g) is =
+        let low = (least.1 (reading.Head g) (head_read v n c (reading.Meta f) g least.0 is)).0 in absurd (omega (arith, low))
+    after (Meta g) is = least.1 (reading.Meta g) (meta_read v n c (reading.Meta f) g least.0 is)
+    after NoSuchSlot is = sooner 2 3 (meta_key f) [] (omega arith)
+    after SlotFree is = sooner 2 5 (meta_key f) [] (omega arith)
+    after Outside is = sooner 2 6 (meta_key f) [] (omega arith)
+    after (Slot g) is = sooner 2 7 (meta_key f) (slot_row g ∷ []) (omega arith)
+    after Device is = sooner 2 8 (meta_key f) [] (omega arith)
+    after Memory is = sooner 2 9 (meta_key f) [] (omega arith)
+unread_first v n luks1 reading.Device least = absurd least.0
+unread_first v n (luks2 o copies) reading.Device least = absurd least.0
+unread_first v n nothing reading.Device least = absurd least.0
+unread_first v n luks1 reading.Memory least = absurd least.0
+unread_first v n (luks2 o copies) reading.Memory least = absurd least.0
+unread_first v n nothing reading.Memory least = absurd least.0
 
-pub outer_refused : (v : List ℕ) (n : ℕ) (p : List ℕ) (f : HeadFault) → ((b c : Choice) → Chosen v b → Chosen v c → b ≡ c)
-    → IsOfSelection f → IsRefused v f → IsRefusedBy v n p (outer_fault f)
-outer_refused v n p head.TooShort one kind x = select_refused v n p head.TooShort one x
-outer_refused v n p head.NotLuks one kind x = select_refused v n p head.NotLuks one x
-outer_refused v n p head.Version one kind x = select_refused v n p head.Version one x
-outer_refused v n p head.NoSoundCopy one kind x = select_refused v n p head.NoSoundCopy one x
-outer_refused v n p (head.Text t) one kind x = absurd kind
-outer_refused v n p head.Uuid one kind x = absurd kind
-outer_refused v n p (head.SlotState m) one kind x = absurd kind
-outer_refused v n p head.KeyBytes one kind x = absurd kind
-outer_refused v n p (head.Stripes m) one kind x = absurd kind
-outer_refused v n p (head.Iterations o) one kind x = absurd kind
-outer_refused v n p head.Device one kind x = tt
-outer_refused v n p head.Memory one kind x = absurd kind
+pub unread_refused : (v : List ℕ) (n : ℕ) (p : List ℕ) (f : ReadFault) → ((b c : Choice) → Chosen v b → Chosen v c → b ≡ c)
+    → IsUnread v f → IsRefusedBy v n p (unread_opened f)
+unread_refused v n p (reading.Head f) one x =
+    let counted = as_unread v (reading.Head f) x in
+    refused_as v n p counted.choice (Head f) counted.chosen (λ d. one counted.choice d counted.chosen) (unread_first v n counted.choice (reading.Head f) counted.least)
+unread_refused v n p (reading.Meta f) one x =
+    let counted = as_unread v (reading.Meta f) x in
+    refused_as v n p counted.choice (Meta f) counted.chosen (λ d. one counted.choice d counted.chosen) (unread_first v n counted.choice (reading.Meta f) counted.least)
+unread_refused v n p reading.Device one x = tt
+unread_refused v n p reading.Memory one x = x

@@ -1,56 +1,90 @@
 -- From what was judged of a header to what holds of the volume.
-use Rattle.std.proofs.Common.{◌≡◌, ℕ, ◌<◌, List, length, subst, refl, arith}
+use Rattle.std.proofs.Common.{◌≡◌, ℕ, List, length, subst, sym, arith, inl, inr}
+use Rattle.std.specs.Prelude.{Result, Ok, Err, IfErr, MatchResult, OnOk, ⊤}
 use Rattle.luks_area.specs.declared.areas.Entry.{Entry}
 use Rattle.luks_area.specs.First.{NotAfter, IsLeast}
 use Rattle.luks_area.specs.Ranges.{part}
 use Rattle.luks_head.specs.declared.fault.HeadFault.{HeadFault}
-use Rattle.luks_head.specs.declared.fault.HeadFault.TheVariants as head
 use Rattle.luks_head.specs.declared.selection.Copies.{Copies}
-use Rattle.luks_head.specs.Faults.{head_key}
-use Rattle.luks_head.specs.Header2.{header_at, uuid_field}
-use Rattle.luks_head.specs.Selection.{Choice, luks1, luks2, nothing, Chosen, IsSelectFault, IsRefused}
-use Rattle.luks_volume.specs.declared.fault.CheckFault.{CheckFault}
-use Rattle.luks_volume.specs.declared.fault.CheckFault.TheVariants.{Head, Meta, Area, Device, Memory}
+use Rattle.luks_head.specs.Header2.{header_at}
+use Rattle.luks_head.specs.Selection.{Choice, luks1, luks2, nothing, Chosen}
+use Rattle.luks_rules.specs.declared.fault.MetaFault.{MetaFault}
+use Rattle.luks_volume.specs.declared.check_fault.CheckFault.{CheckFault}
+use Rattle.luks_volume.specs.declared.check_fault.CheckFault.TheVariants.{Head, Meta, Area, Device, Memory}
 use Rattle.luks_volume.specs.declared.report.Data.{Data}
-use Rattle.luks_volume.specs.Checked.{check_key, IsLuks1Fault, IsLuks2Volume, IsLuks2Fault, HasLuks2Area, json_at, IsOtherFault, WellFormedAs, HasAreaAs, IsFaultAs, WellFormed, AreaOf, IsFault, First, IsRefusal}
-use Rattle.luks_volume.specs.Copied.{CopyRefused, checking_fault}
-use Rattle.luks_volume.specs.declared.luks2_copy.CopyFault.{CopyFault}
-use Rattle.luks_volume.specs.declared.luks2_copy.CopyFault.TheVariants as copy
+use Rattle.luks_volume.specs.Checked.{check_key, IsLuks1Fault, IsLuks2Volume, IsLuks2Fault, HasLuks2Area, WellFormedAs, HasAreaAs, IsFaultAs, WellFormed, AreaOf, IsFault, First, IsRefusal}
+use Rattle.luks_volume.specs.declared.read_fault.ReadFault.{ReadFault}
+use Rattle.luks_volume.specs.declared.read_fault.ReadFault.TheVariants as reading
+use Rattle.luks_volume.specs.Conversions.{unread_checked}
+use Rattle.luks_volume.specs.Header.{json_at, read_key, IsReadFaultAs, IsUnread}
 use Rattle.luks_volume.specs.Listing.{Lists}
-use Rattle.luks_volume.specs.Reported.{IsFromOutside, outer_fault}
-use Rattle.luks_volume.proofs.Judged2.{least_meta_of, least_uuid}
+use Rattle.luks_volume.specs.Reported.{IsFromOutside}
+use Rattle.luks_volume.proofs.Judged2.{before_segment, meta_cases, to_luks2_fault}
+use Rattle.luks_volume.proofs.ReadFaults.{as_unread}
 
 -- LUKS2: acceptance
 
-pub luks2_accepted : (v : List ℕ) (payload : Data) (o : ℕ) (copies : Copies) (json : List ℕ) (total : ℕ) → Chosen v (luks2 o copies)
-    → json ≡ json_at v o → total ≡ length v → IsLuks2Volume (header_at v o) json payload total → WellFormed v payload
-luks2_accepted v payload o copies json total chosen text size well = record {
+pub luks2_accepted : (v : List ℕ) (payload : Data) (o : ℕ) (copies : Copies) (total : ℕ) → Chosen v (luks2 o copies)
+    → length v ≡ total → IsLuks2Volume (header_at v o) (json_at v o) payload total → WellFormed v payload
+luks2_accepted v payload o copies total chosen size well = record {
   choice = luks2 o copies;
   chosen = chosen;
-  formed = subst (IsLuks2Volume (header_at v o) (json_at v o) payload) size (subst (λ b. IsLuks2Volume (header_at v o) b payload total) text well);
+  formed = subst (IsLuks2Volume (header_at v o) (json_at v o) payload) (sym size) well;
 }
 
--- nothing counts where a selection has a fault
+-- ---- a header that isn't read
 
-short_nothing : (v : List ℕ) → length v < 592 → Chosen v nothing
-short_nothing v short = (
-  λ one. let long = one.long in omega (arith, short, long),
-  λ long. absurd (omega (arith, short, long)),
-)
+head_checked : (v : List ℕ) (payload : Data) (c : Choice) (f : HeadFault) → IsReadFaultAs v c (reading.Head f) → IsFaultAs v payload c (Head f)
+head_checked v payload luks1 f x = absurd x
+head_checked v payload (luks2 o copies) f x = x
+head_checked v payload nothing f x = x
 
-nothing_counts : (v : List ℕ) (f : HeadFault) → IsSelectFault v f → Chosen v nothing
-nothing_counts v head.TooShort is = short_nothing v is
-nothing_counts v head.NotLuks is = is.0
-nothing_counts v head.Version is = is.0
-nothing_counts v head.NoSoundCopy is = is
-nothing_counts v (head.Text t) is = absurd is
-nothing_counts v head.Uuid is = absurd is
-nothing_counts v (head.SlotState n) is = absurd is
-nothing_counts v head.KeyBytes is = absurd is
-nothing_counts v (head.Stripes n) is = absurd is
-nothing_counts v (head.Iterations o) is = absurd is
-nothing_counts v head.Device is = absurd is
-nothing_counts v head.Memory is = absurd is
+meta_checked : (v : List ℕ) (payload : Data) (c : Choice) (f : MetaFault) → IsReadFaultAs v c (reading.Meta f) → IsFaultAs v payload c (Meta f)
+meta_checked v payload luks1 f x = absurd x
+meta_checked v payload (luks2 o copies) f x = to_luks2_fault (json_at v o) payload f x
+meta_checked v payload nothing f x = absurd x
+
+-- where the header isn't read, the head faults of a check are those of reading it
+head_read : (v : List ℕ) (payload : Data) (c : Choice) (r : ReadFault) (f : HeadFault) → IsReadFaultAs v c r → IsFaultAs v payload c (Head f)
+    → IsReadFaultAs v c (reading.Head f)
+head_read v payload luks1 r f unread x = absurd unread
+head_read v payload (luks2 o copies) r f unread x = x
+head_read v payload nothing r f unread x = x
+
+meta_after : (v : List ℕ) (payload : Data) (c : Choice) (f g : MetaFault) → IsLeast read_key (IsReadFaultAs v c) (reading.Meta f)
+    → IsFaultAs v payload c (Meta g) → NotAfter (check_key (Meta f)) (check_key (Meta g))
+meta_after v payload luks1 f g least x = absurd least.0
+meta_after v payload (luks2 o copies) f g least x = elim (meta_cases (json_at v o) payload g x) [
+  | inl own ↦ least.1 (reading.Meta g) own
+  | inr other ↦ subst (λ k. NotAfter (check_key (Meta f)) (check_key (Meta k))) (sym other.1.0)
+      (omega arith, λ _. before_segment (json_at v o) f other.0 least.0)
+]
+meta_after v payload nothing f g least x = absurd least.0
+
+unread_first : (v : List ℕ) (payload : Data) (c : Choice) (f : ReadFault) → IsLeast read_key (IsReadFaultAs v c) f
+    → IsLeast check_key (IsFaultAs v payload c) (unread_checked f)
+unread_first v payload c (reading.Head f) least = (head_checked v payload c f least.0, after)
+  where
+    after : (g : CheckFault) → IsFaultAs v payload c g → NotAfter (check_key (Head f)) (check_key g)
+    after (Head g) is = least.1 (reading.Head g) (head_read v payload c (reading.Head f) g least.0 is)
+    after (Meta g) is = (omega arith, λ e. absurd (omega (arith, e)))
+    after (Area g) is = (omega arith, λ e. absurd (omega (arith, e)))
+    after Device is = (omega arith, λ e. absurd (omega (arith, e)))
+    after Memory is = (omega arith, λ e. absurd (omega (arith, e)))
+unread_first v payload c (reading.Meta f) least = (meta_checked v payload c f least.0, after)
+  where
+    after : (g : CheckFault) → IsFaultAs v payload c g → NotAfter (check_key (Meta f)) (check_key g)
+    after (Head g) is = least.1 (reading.Head g) (head_read v payload c (reading.Meta f) g least.0 is)
+    after (Meta g) is = meta_after v payload c f g least is
+    after (Area g) is = (omega arith, λ e. absurd (omega (arith, e)))
+    after Device is = (omega arith, λ e. absurd (omega (arith, e)))
+    after Memory is = (omega arith, λ e. absurd (omega (arith, e)))
+unread_first v payload luks1 reading.Device least = absurd least.0
+unread_first v payload (luks2 o copies) reading.Device least = absurd least.0
+unread_first v payload nothing reading.Device least = absurd least.0
+unread_first v payload luks1 reading.Memory least = absurd least.0
+unread_first v payload (luks2 o copies) reading.Memory least = absurd least.0
+unread_first v payload nothing reading.Memory least = absurd least.0
 
 -- ---- by the one thing that counts of each volume
 
@@ -75,97 +109,36 @@ module _ (only : (v : List ℕ) (c d : Choice) → Chosen v c → Chosen v d →
 
   -- LUKS1
 
-  pub luks1_refused : (v : List ℕ) (payload : Data) (h : List ℕ) (total : ℕ) (f : CheckFault) → Chosen v luks1 → h ≡ part v 0 592 → total ≡ length v
-      → IsLeast check_key (IsLuks1Fault h payload total) f → IsRefusal v payload f
-  luks1_refused v payload h total Device chosen head size least = absurd least.0
-  luks1_refused v payload h total Memory chosen head size least = absurd least.0
-  luks1_refused v payload h total (Head f) chosen head size least =
-      first_as v payload luks1 (Head f) chosen
-      (subst (λ t. IsLeast check_key (IsLuks1Fault (part v 0 592) payload t) (Head f)) size
-      (subst (λ b. IsLeast check_key (IsLuks1Fault b payload total) (Head f)) head least))
-  luks1_refused v payload h total (Meta f) chosen head size least = absurd least.0
-  luks1_refused v payload h total (Area f) chosen head size least =
-      first_as v payload luks1 (Area f) chosen
-      (subst (λ t. IsLeast check_key (IsLuks1Fault (part v 0 592) payload t) (Area f)) size
-      (subst (λ b. IsLeast check_key (IsLuks1Fault b payload total) (Area f)) head least))
+  pub luks1_first : (v : List ℕ) (payload : Data) (h : List ℕ) (total : ℕ) (f : CheckFault) → Chosen v luks1 → h ≡ part v 0 592 → length v ≡ total
+      → IsLeast check_key (IsLuks1Fault h payload total) f → First v payload f
+  luks1_first v payload h total f chosen head size least =
+      first_as v payload luks1 f chosen
+      (subst (λ t. IsLeast check_key (IsLuks1Fault (part v 0 592) payload t) f) (sym size)
+      (subst (λ b. IsLeast check_key (IsLuks1Fault b payload total) f) head least))
 
   -- LUKS2
 
-  pub luks2_areas_are : (v : List ℕ) (payload : Data) (o : ℕ) (copies : Copies) (json : List ℕ) (total : ℕ) (es : List Entry) → Chosen v (luks2 o copies)
-      → json ≡ json_at v o → total ≡ length v → Lists es (HasLuks2Area (header_at v o) json payload total) → Lists es (AreaOf v payload)
-  luks2_areas_are v payload o copies json total es chosen text size lists =
+  pub luks2_areas_are : (v : List ℕ) (payload : Data) (o : ℕ) (copies : Copies) (total : ℕ) (es : List Entry) → Chosen v (luks2 o copies)
+      → length v ≡ total → Lists es (HasLuks2Area (header_at v o) (json_at v o) payload total) → Lists es (AreaOf v payload)
+  luks2_areas_are v payload o copies total es chosen size lists =
       lists_as v payload (luks2 o copies) es chosen
-      (subst (λ t. Lists es (HasLuks2Area (header_at v o) (json_at v o) payload t)) size
-      (subst (λ b. Lists es (HasLuks2Area (header_at v o) b payload total)) text lists))
+      (subst (λ t. Lists es (HasLuks2Area (header_at v o) (json_at v o) payload t)) (sym size) lists)
 
-  luks2_first : (v : List ℕ) (payload : Data) (o : ℕ) (copies : Copies) (json : List ℕ) (total : ℕ) (f : CheckFault) → Chosen v (luks2 o copies)
-      → json ≡ json_at v o → total ≡ length v → IsLeast check_key (IsLuks2Fault (header_at v o) json payload total) f → First v payload f
-  luks2_first v payload o copies json total f chosen text size least =
+  pub luks2_first : (v : List ℕ) (payload : Data) (o : ℕ) (copies : Copies) (total : ℕ) (f : CheckFault) → Chosen v (luks2 o copies)
+      → length v ≡ total → IsLeast check_key (IsLuks2Fault (header_at v o) (json_at v o) payload total) f → First v payload f
+  luks2_first v payload o copies total f chosen size least =
       first_as v payload (luks2 o copies) f chosen
-      (subst (λ t. IsLeast check_key (IsLuks2Fault (header_at v o) (json_at v o) payload t) f) size
-      (subst (λ b. IsLeast check_key (IsLuks2Fault (header_at v o) b payload total) f) text least))
+      (subst (λ t. IsLeast check_key (IsLuks2Fault (header_at v o) (json_at v o) payload t) f) (sym size) least)
 
-  pub luks2_refused : (v : List ℕ) (payload : Data) (o : ℕ) (copies : Copies) (json : List ℕ) (total : ℕ) (f : CheckFault) → Chosen v (luks2 o copies)
-      → json ≡ json_at v o → total ≡ length v → IsLeast check_key (IsLuks2Fault (header_at v o) json payload total) f → IsRefusal v payload f
-  luks2_refused v payload o copies json total (Head f) chosen text size least = luks2_first v payload o copies json total (Head f) chosen text size least
-  luks2_refused v payload o copies json total (Meta f) chosen text size least = luks2_first v payload o copies json total (Meta f) chosen text size least
-  luks2_refused v payload o copies json total (Area f) chosen text size least = luks2_first v payload o copies json total (Area f) chosen text size least
-  luks2_refused v payload o copies json total Device chosen text size least = absurd least.0
-  luks2_refused v payload o copies json total Memory chosen text size least = absurd least.0
+  -- a header that isn't read
 
-  -- the copy's own refusal is the volume's
-  pub copy_refused : (v : List ℕ) (payload : Data) (o : ℕ) (copies : Copies) (json : List ℕ) (f : CopyFault) → Chosen v (luks2 o copies)
-      → json ≡ json_at v o → CopyRefused (uuid_field (header_at v o)) json f → IsRefusal v payload (checking_fault f)
-  copy_refused v payload o copies json (copy.Head f) chosen text x =
-      luks2_first v payload o copies json (length v) (Head f) chosen text refl (least_uuid (header_at v o) json payload (length v) f x)
-  copy_refused v payload o copies json (copy.Meta f) chosen text x =
-      luks2_first v payload o copies json (length v) (Meta f) chosen text refl
-      (least_meta_of (header_at v o) json payload (length v) f x.uuid_faultless x.least)
-  copy_refused v payload o copies json copy.Device chosen text x = tt
-  copy_refused v payload o copies json copy.Memory chosen text x = record { place = o; copies = copies; chosen = chosen; uuid = x }
-
-  -- nothing counts
-
-  select_first : (v : List ℕ) (payload : Data) (f : HeadFault) → IsLeast head_key (IsSelectFault v) f → First v payload (Head f)
-  select_first v payload f least = first_as v payload nothing (Head f) (nothing_counts v f least.0) (least.0, after)
-    where
-      after : (g : CheckFault) → IsOtherFault v g → NotAfter (check_key (Head f)) (check_key g)
-      after (Head g) is = (omega arith, λ _. least.1 g is)
-      after (Meta g) is = absurd is
-      after (Area g) is = absurd is
-      after Device is = absurd is
-      after Memory is = absurd is
-
-  pub select_refused : (v : List ℕ) (payload : Data) (f : HeadFault) → IsRefused v f → IsRefusal v payload (outer_fault f)
-  select_refused v payload head.TooShort is = select_first v payload head.TooShort is
-  select_refused v payload head.NotLuks is = select_first v payload head.NotLuks is
-  select_refused v payload head.Version is = select_first v payload head.Version is
-  select_refused v payload head.NoSoundCopy is = select_first v payload head.NoSoundCopy is
-  select_refused v payload (head.Text t) is = absurd is.0
-  select_refused v payload head.Uuid is = absurd is.0
-  select_refused v payload (head.SlotState n) is = absurd is.0
-  select_refused v payload head.KeyBytes is = absurd is.0
-  select_refused v payload (head.Stripes n) is = absurd is.0
-  select_refused v payload (head.Iterations o) is = absurd is.0
-  select_refused v payload head.Device is = tt
-  select_refused v payload head.Memory is = absurd is.0
-
-  not_formed : (v : List ℕ) (payload : Data) (f : HeadFault) → IsSelectFault v f → WellFormed v payload → ⊥
-  not_formed v payload f is well = formed_as v payload nothing (nothing_counts v f is) well
-
-  pub select_only : (v : List ℕ) (payload : Data) (f : HeadFault) → IsRefused v f → WellFormed v payload → IsFromOutside (outer_fault f)
-  select_only v payload head.TooShort is well = absurd (not_formed v payload head.TooShort is.0 well)
-  select_only v payload head.NotLuks is well = absurd (not_formed v payload head.NotLuks is.0 well)
-  select_only v payload head.Version is well = absurd (not_formed v payload head.Version is.0 well)
-  select_only v payload head.NoSoundCopy is well = absurd (not_formed v payload head.NoSoundCopy is.0 well)
-  select_only v payload (head.Text t) is well = absurd is.0
-  select_only v payload head.Uuid is well = absurd is.0
-  select_only v payload (head.SlotState n) is well = absurd is.0
-  select_only v payload head.KeyBytes is well = absurd is.0
-  select_only v payload (head.Stripes n) is well = absurd is.0
-  select_only v payload (head.Iterations o) is well = absurd is.0
-  select_only v payload head.Device is well = tt
-  select_only v payload head.Memory is well = absurd is.0
+  pub unread_refused : (v : List ℕ) (payload : Data) (f : ReadFault) → IsUnread v f → IsRefusal v payload (unread_checked f)
+  unread_refused v payload (reading.Head f) x =
+      let counted = as_unread v (reading.Head f) x in first_as v payload counted.choice (Head f) counted.chosen (unread_first v payload counted.choice (reading.Head f) counted.least)
+  unread_refused v payload (reading.Meta f) x =
+      let counted = as_unread v (reading.Meta f) x in first_as v payload counted.choice (Meta f) counted.chosen (unread_first v payload counted.choice (reading.Meta f) counted.least)
+  unread_refused v payload reading.Device x = tt
+  unread_refused v payload reading.Memory x = x
 
 -- a refusal of a volume without faults comes from outside
 
@@ -175,3 +148,29 @@ outside v payload (Meta f) none is = none (Meta f) is.0
 outside v payload (Area f) none is = none (Area f) is.0
 outside v payload Device none is = tt
 outside v payload Memory none is = tt
+
+-- the first fault of a volume is a refusal
+
+no_outside : (v : List ℕ) (payload : Data) (c : Choice) → IsFaultAs v payload c Memory → ⊥
+no_outside v payload luks1 x = x
+no_outside v payload (luks2 o copies) x = x
+no_outside v payload nothing x = x
+
+pub first_refused : (v : List ℕ) (payload : Data) (f : CheckFault) → First v payload f → IsRefusal v payload f
+first_refused v payload (Head f) x = x
+first_refused v payload (Meta f) x = x
+first_refused v payload (Area f) x = x
+first_refused v payload Device x = tt
+first_refused v payload Memory x = absurd (no_outside v payload x.0.choice x.0.fault)
+
+-- ---- of results
+
+-- what follows from a fact for `Ok` holds for `Ok`
+pub on_ok : {T E P Q : Type 0} → (r : Result T E) → (P → Q) → OnOk r P → OnOk r Q
+on_ok (Ok x) step is = step is
+on_ok (Err e) step is = tt
+
+pub outside_result : {T : Type 0} (v : List ℕ) (payload : Data) (r : Result T CheckFault) → ((g : CheckFault) → IsFault v payload g → ⊥)
+    → IfErr r (IsRefusal v payload) → MatchResult r (λ _. ⊤) IsFromOutside
+outside_result v payload (Ok x) none is = tt
+outside_result v payload (Err f) none is = outside v payload f none is

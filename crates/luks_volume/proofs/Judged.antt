@@ -5,8 +5,8 @@ use Rattle.luks_area.specs.Area.{IsAreaFault, area_key}
 use Rattle.luks_area.specs.First.{NotAfter, IsLeast}
 use Rattle.luks_head.specs.declared.fault.HeadFault.{HeadFault}
 use Rattle.luks_head.specs.Faults.{IsLuks1Fault as IsLuks1HeadFault}
-use Rattle.luks_volume.specs.declared.fault.CheckFault.{CheckFault}
-use Rattle.luks_volume.specs.declared.fault.CheckFault.TheVariants.{Head, Meta, Area, Device, Memory}
+use Rattle.luks_volume.specs.declared.check_fault.CheckFault.{CheckFault}
+use Rattle.luks_volume.specs.declared.check_fault.CheckFault.TheVariants.{Head, Meta, Area, Device, Memory}
 use Rattle.luks_volume.specs.declared.report.Data.{Data}
 use Rattle.luks_volume.specs.Checked.{check_key, IsLuks1Fault}
 use Rattle.luks_volume.specs.Layout1.{Luks1Area}

@@ -23,8 +23,8 @@ use Rattle.luks_meta.specs.Faults.{object_at}
 use Rattle.luks_meta.specs.MetaFault.{Json, IsMetaFault, meta_key}
 use Rattle.luks_meta.specs.Reading.{decimal_in}
 use Rattle.luks_meta.specs.Sizes.{has_segment_below, inside_at, is_below, keyslots_size, of_both, region_start, IsFirst}
-use Rattle.luks_volume.specs.declared.fault.CheckFault.{CheckFault}
-use Rattle.luks_volume.specs.declared.fault.CheckFault.TheVariants.{Head, Meta, Area, Device, Memory}
+use Rattle.luks_volume.specs.declared.check_fault.CheckFault.{CheckFault}
+use Rattle.luks_volume.specs.declared.check_fault.CheckFault.TheVariants.{Head, Meta, Area, Device, Memory}
 use Rattle.luks_volume.specs.declared.report.Data.{Data}
 use Rattle.luks_volume.specs.declared.report.Data.TheVariants.{Here}
 use Rattle.luks_volume.specs.Checked.{check_key, HasLuks2Area, HasSegmentBelow, HoldsMeta, IsFirstBelow, IsLuks2MetaFault, IsLuks2Fault, IsLuks2Faultless, SegmentsFollow}
@@ -160,7 +160,7 @@ least_segment b json payload total j n faultless holds one first =
     after Memory is = absurd is
 
 -- a fault of the metadata stands before that of any segment
-before_segment : (json : List ℕ) (f : MetaFault) (n : ℕ) → IsMetaFault json f → NotAfter (meta_key f) (meta_key (meta.Region (Segment n)))
+pub before_segment : (json : List ℕ) (f : MetaFault) (n : ℕ) → IsMetaFault json f → NotAfter (meta_key f) (meta_key (meta.Region (Segment n)))
 before_segment json meta.JsonArea n is = (omega arith, λ e. absurd (omega (arith, e)))
 before_segment json meta.BadJson n is = (omega arith, λ e. absurd (omega (arith, e)))
 before_segment json meta.NotWhole n is = (omega arith, λ e. absurd (omega (arith, e)))
@@ -191,32 +191,6 @@ to_luks2_fault json payload (meta.Region Head2) is = is
 to_luks2_fault json payload (meta.Region (Slot m)) is = is
 to_luks2_fault json payload (meta.Region (Segment m)) is = absurd is.fault
 to_luks2_fault json payload meta.Memory is = is
-
-pub least_meta_of : (b json : List ℕ) (payload : Data) (total : ℕ) (f : MetaFault) → ((g : HeadFault) → IsUuidFault (uuid_field b) g → ⊥)
-    → IsLeast meta_key (IsMetaFault json) f → IsLeast check_key (IsLuks2Fault b json payload total) (Meta f)
-least_meta_of b json payload total f uuid least = (to_luks2_fault json payload f least.0, after)
-  where
-    after : (g : CheckFault) → IsLuks2Fault b json payload total g → NotAfter (check_key (Meta f)) (check_key g)
-    after (Head g) is = absurd (uuid g is)
-    after (Meta g) is = elim (meta_cases json payload g is) [
-      | inl own ↦ (omega arith, λ _. least.1 g own)
-      | inr other ↦ subst (λ k. NotAfter (check_key (Meta f)) (check_key (Meta k))) (sym other.1.0)
-          (omega arith, λ _. before_segment json f other.0 least.0)
-    ]
-    after (Area g) is = (omega arith, λ e. absurd (omega (arith, e)))
-    after Device is = absurd is
-    after Memory is = absurd is
-
-pub least_uuid : (b json : List ℕ) (payload : Data) (total : ℕ) (f : HeadFault) → IsLeast head_key (IsUuidFault (uuid_field b)) f
-    → IsLeast check_key (IsLuks2Fault b json payload total) (Head f)
-least_uuid b json payload total f least = (least.0, after)
-  where
-    after : (g : CheckFault) → IsLuks2Fault b json payload total g → NotAfter (check_key (Head f)) (check_key g)
-    after (Head g) is = (omega arith, λ _. least.1 g is)
-    after (Meta g) is = (omega arith, λ e. absurd (omega (arith, e)))
-    after (Area g) is = (omega arith, λ e. absurd (omega (arith, e)))
-    after Device is = absurd is
-    after Memory is = absurd is
 
 -- ---- what the metadata that was read tells of the region
 

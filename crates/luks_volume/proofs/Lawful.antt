@@ -1,6 +1,6 @@
 -- A volume is well formed exactly where it has no fault, and what it is sure of then.
-use Rattle.std.proofs.Common.{◌≡◌, ℕ, List, length, true, subst, inl, inr}
-use Rattle.std.specs.Prelude.{◌↔◌, Result, Ok, Err, OnOk}
+use Rattle.std.proofs.Common.{◌≡◌, ℕ, List, length, true, subst, sym, inl, inr}
+use Rattle.std.specs.Prelude.{◌↔◌}
 use Rattle.std.proofs.lemmas.Bool.{false_from_ne_true}
 use Rattle.serde_json.specs.Data.{Data as Value}
 use Rattle.luks_area.specs.declared.area.Area.{Area as TheArea}
@@ -22,10 +22,11 @@ use Rattle.luks_rules.specs.declared.fault.MetaFault.TheVariants as meta
 use Rattle.luks_meta.specs.Accepted.{IsMeta}
 use Rattle.luks_meta.specs.MetaFault.{Json, IsMetaFault}
 use Rattle.luks_meta.specs.Sizes.{has_segment_below}
-use Rattle.luks_volume.specs.declared.fault.CheckFault.{CheckFault}
-use Rattle.luks_volume.specs.declared.fault.CheckFault.TheVariants.{Head, Meta, Area, Device, Memory}
+use Rattle.luks_volume.specs.declared.check_fault.CheckFault.{CheckFault}
+use Rattle.luks_volume.specs.declared.check_fault.CheckFault.TheVariants.{Head, Meta, Area, Device, Memory}
 use Rattle.luks_volume.specs.declared.report.Data.{Data}
-use Rattle.luks_volume.specs.Checked.{IsLuks1Volume, IsLuks1Fault, IsLuks2Layout, IsLuks2Volume, IsLuks2Fault, HasLuks2Area, HasSegmentBelow, json_at, WellFormedAs, HasAreaAs, IsFaultAs, WellFormed, AreaOf, IsFault}
+use Rattle.luks_volume.specs.Checked.{IsLuks1Volume, IsLuks1Fault, IsLuks2Layout, IsLuks2Volume, IsLuks2Fault, HasLuks2Area, HasSegmentBelow, WellFormedAs, HasAreaAs, IsFaultAs, WellFormed, AreaOf, IsFault}
+use Rattle.luks_volume.specs.Header.{json_at}
 use Rattle.luks_volume.specs.Lawful.{HoldsNames, IsLawful}
 use Rattle.luks_volume.specs.Layout1.{Luks1Area}
 use Rattle.luks_volume.specs.Layout2.{Luks2Area}
@@ -172,21 +173,16 @@ lawful one only v payload well = record {
 
 -- ---- from what was judged of a LUKS1 header to the volume
 
-pub luks1_accepted : (v : List ℕ) (payload : Data) (h : List ℕ) (total : ℕ) → Chosen v luks1 → h ≡ part v 0 592 → total ≡ length v
+pub luks1_accepted : (v : List ℕ) (payload : Data) (h : List ℕ) (total : ℕ) → Chosen v luks1 → h ≡ part v 0 592 → length v ≡ total
     → IsLuks1Volume h payload total → WellFormed v payload
 luks1_accepted v payload h total chosen begins size well = record {
   choice = luks1;
   chosen = chosen;
-  formed = subst (IsLuks1Volume (part v 0 592) payload) size (subst (λ b. IsLuks1Volume b payload total) begins well);
+  formed = subst (IsLuks1Volume (part v 0 592) payload) (sym size) (subst (λ b. IsLuks1Volume b payload total) begins well);
 }
 
-pub luks1_areas_are : ((v : List ℕ) (c d : Choice) → Chosen v c → Chosen v d → c ≡ d) → (v : List ℕ) (payload : Data) (h : List ℕ) (total : ℕ) (es : List Entry) → Chosen v luks1 → h ≡ part v 0 592 → total ≡ length v
+pub luks1_areas_are : ((v : List ℕ) (c d : Choice) → Chosen v c → Chosen v d → c ≡ d) → (v : List ℕ) (payload : Data) (h : List ℕ) (total : ℕ) (es : List Entry) → Chosen v luks1 → h ≡ part v 0 592 → length v ≡ total
     → Lists es (Luks1Area h payload total) → Lists es (AreaOf v payload)
 luks1_areas_are one v payload h total es chosen begins size lists =
     lists_as one v payload luks1 es chosen
-    (subst (λ t. Lists es (Luks1Area (part v 0 592) payload t)) size (subst (λ b. Lists es (Luks1Area b payload total)) begins lists))
-
--- what follows from a fact for `Ok` holds for `Ok`
-pub on_ok : {T E P Q : Type 0} → (r : Result T E) → (P → Q) → OnOk r P → OnOk r Q
-on_ok (Ok x) step is = step is
-on_ok (Err e) step is = tt
+    (subst (λ t. Lists es (Luks1Area (part v 0 592) payload t)) (sym size) (subst (λ b. Lists es (Luks1Area b payload total)) begins lists))

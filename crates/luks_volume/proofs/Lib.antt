@@ -14,8 +14,10 @@ pub mod Answered
 pub mod PlanFields2
 pub mod Refusals2
 pub mod Numbers2
-pub mod Copies2
+pub mod ReadFaults
 pub mod Orders
 pub mod Shut
 pub mod Unlocked
-pub mod Agreed
+pub mod OneAnswer
+pub mod OneUnlocking
+pub mod Found

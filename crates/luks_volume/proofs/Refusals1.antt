@@ -1,6 +1,6 @@
 -- The refusals of a LUKS1 keyslot, step by step: the first of a step is the first of all, where no
 -- earlier step has any.
-use Rattle.std.proofs.Common.{◌≡◌, ℕ, ◌<◌, List, [], ◌∷◌, length, ◌⊎◌, inl, inr, refl, sym, ap, ◌∙◌, arith, Option, Some}
+use Rattle.std.proofs.Common.{◌≡◌, ℕ, ◌<◌, List, [], ◌∷◌, length, ◌⊎◌, inl, inr, refl, sym, ap, subst, ◌∙◌, arith, Option, Some}
 use Rattle.luks_area.specs.First.{NotAfter, IsLeast}
 use Rattle.luks_head.specs.declared.fault.HeadFault.{HeadFault}
 use Rattle.luks_head.specs.declared.fault.HeadFault.TheVariants as head
@@ -14,11 +14,14 @@ use Rattle.luks_slot.specs.Refusal.{slot_refusal}
 use Rattle.luks_volume.specs.declared.open_fault.OpenFault.{OpenFault}
 use Rattle.luks_volume.specs.declared.open_fault.OpenFault.TheVariants.{Head, Meta, NoSuchSlot, SlotFree, Outside, Slot, Device, Memory}
 use Rattle.luks_volume.specs.Answer.{open_key, head_step, slot_row, IsLuks1HeadRefusal, IsLuks1Refusal}
+use Rattle.luks_volume.specs.declared.read_fault.ReadFault.TheVariants as reading
+use Rattle.luks_volume.specs.Conversions.{head_unread, unread_opened}
 use Rattle.luks_volume.specs.Entered.{IsEnabled, EntryRefused, Luks1Refused, Luks1Opens}
 use Rattle.luks_volume.specs.Planned.{PlanOpens, PlanRefused}
 use Rattle.luks_volume.specs.Plans.{HasLuks1Plan}
-use Rattle.luks_volume.proofs.Alike.{same_answer, same_refusal}
+use Rattle.luks_volume.proofs.Alike.{same_refusal}
 use Rattle.luks_volume.proofs.PlanFields1.{one_luks1_plan}
+use Rattle.luks_volume.proofs.ReadFaults.{own_head}
 
 -- a step before another
 pub sooner : (a b : ℕ) (xs ys : List ℕ) → a < b → NotAfter (a ∷ xs) (b ∷ ys)
@@ -84,6 +87,10 @@ entry_refuses h n head.Memory lt x = absurd x
 
 -- ---- the first step: the fields before the keyslots
 
+pub common_own : (h : List ℕ) (f : HeadFault) → IsLeast head_key (IsCommonFault h) f → head_unread f ≡ reading.Head f
+common_own h f least =
+    own_head f (λ e. let no = subst (IsCommonFault h) e least.0 in no.0) (λ e. let no = subst (IsCommonFault h) e least.0 in no.0)
+
 pub common_first : (h : List ℕ) (total n : ℕ) (f : HeadFault) → IsLeast head_key (IsCommonFault h) f
     → IsLeast open_key (IsLuks1Refusal h total n) (Head f)
 common_first h total n f least = (refuses.0, after)
@@ -103,6 +110,12 @@ common_first h total n f least = (refuses.0, after)
     after (Slot g) is = let here = refuses.1 in sooner (head_step f) 7 (head_key f) (slot_row g ∷ []) (omega (arith, here))
     after Device is = absurd is
     after Memory is = absurd is
+
+-- in the words of an opening
+pub common_refused : (h : List ℕ) (total n : ℕ) (f : HeadFault) → IsLeast head_key (IsCommonFault h) f
+    → Luks1Refused h total n (unread_opened (head_unread f))
+common_refused h total n f least =
+    subst (λ r. Luks1Refused h total n (unread_opened r)) (sym (common_own h f least)) (common_first h total n f least)
 
 -- ---- the keyslot's number and its entry
 
@@ -235,8 +248,3 @@ plan_opens h v n s plan p found clear on is x = record { plan = plan; is = is; u
         absurd (cc)
     unrefused Device y = y
     unrefused Memory y = y
-
--- the keyslot gives nothing else
-pub plan_only : (h v : List ℕ) (n : ℕ) (plan : SlotPlan) (p : List ℕ) (found other : Option (List ℕ)) → HasLuks1Plan h n plan → PlanOpens plan v p found
-    → Luks1Opens h v n p other → other ≡ found
-plan_only h v n plan p found other is x y = sym y.key ∙ same_answer y.plan plan v p (one_luks1_plan h n y.plan plan y.is is) ∙ sym x.is

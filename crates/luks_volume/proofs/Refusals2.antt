@@ -16,13 +16,11 @@ use Rattle.luks_slot.specs.Refusal.{slot_refusal}
 use Rattle.luks_volume.specs.declared.open_fault.OpenFault.{OpenFault}
 use Rattle.luks_volume.specs.declared.open_fault.OpenFault.TheVariants.{Head, Meta, NoSuchSlot, SlotFree, Outside, Slot, Device, Memory}
 use Rattle.luks_volume.specs.Answer.{open_key, head_step, slot_row, IsLuks2Refusal}
-use Rattle.luks_volume.specs.declared.luks2_copy.CopyFault.{CopyFault}
-use Rattle.luks_volume.specs.declared.luks2_copy.CopyFault.TheVariants as copy
-use Rattle.luks_volume.specs.Copied.{CopyRefused, IsCleared, opening_fault}
+use Rattle.luks_volume.specs.ChosenCopies.{IsCleared}
 use Rattle.luks_volume.specs.Entered2.{Luks2Refused, Luks2Opens}
 use Rattle.luks_volume.specs.Planned.{PlanOpens, PlanRefused}
 use Rattle.luks_volume.specs.Plans.{HasLuks2Plan}
-use Rattle.luks_volume.proofs.Alike.{same_answer, same_refusal}
+use Rattle.luks_volume.proofs.Alike.{same_refusal}
 use Rattle.luks_volume.proofs.PlanFields2.{IsOnly, one_luks2_plan}
 use Rattle.luks_volume.proofs.Refusals1.{sooner, together}
 
@@ -40,52 +38,7 @@ uuid_step uuid (head.Iterations o) x = absurd x
 uuid_step uuid head.Device x = absurd x
 uuid_step uuid head.Memory x = absurd x
 
--- ---- the uuid and the metadata
-
-pub copy_first : (b json : List ℕ) (total n : ℕ) (f : CopyFault) → CopyRefused (uuid_field b) json f → Luks2Refused b json total n (opening_fault f)
-copy_first b json total n (copy.Head f) x = (x.0, after)
-  where
-    step : head_step f ≡ 1
-    step = uuid_step (uuid_field b) f x.0
-
-    after : (g : OpenFault) → IsLuks2Refusal b json total n g → NotAfter (open_key (Head f)) (open_key g)
-    after (Head g) is = together (head_step f) (head_step g) (head_key f) (head_key g) (step ∙ sym (uuid_step (uuid_field b) g is)) (x.1 g is)
-    after (Meta g) is = let here = step in sooner (head_step f) 2 (head_key f) (meta_key g) (omega (arith, here))
-    after NoSuchSlot is = let here = step in sooner (head_step f) 3 (head_key f) [] (omega (arith, here))
-    after SlotFree is = absurd is
-    after Outside is = let here = step in sooner (head_step f) 6 (head_key f) [] (omega (arith, here))
-    after (Slot g) is = let here = step in sooner (head_step f) 7 (head_key f) (slot_row g ∷ []) (omega (arith, here))
-    after Device is = absurd is
-    after Memory is = absurd is
-copy_first b json total n (copy.Meta f) x = (x.least.0, after)
-  where
-    after : (g : OpenFault) → IsLuks2Refusal b json total n g → NotAfter (open_key (Meta f)) (open_key g)
-    after (Head g) is = absurd (x.uuid_faultless g is)
-    after (Meta g) is = together 2 2 (meta_key f) (meta_key g) refl (x.least.1 g is)
-    after NoSuchSlot is = sooner 2 3 (meta_key f) [] (omega arith)
-    after SlotFree is = absurd is
-    after Outside is = sooner 2 6 (meta_key f) [] (omega arith)
-    after (Slot g) is = sooner 2 7 (meta_key f) (slot_row g ∷ []) (omega arith)
-    after Device is = absurd is
-    after Memory is = absurd is
-copy_first b json total n copy.Device x = x
-copy_first b json total n copy.Memory x = x
-
 -- ---- the keyslot
-
-pub missing_first : (b json : List ℕ) (total n : ℕ) (j : Data) → IsCleared (uuid_field b) json j
-    → (n < 32 → object_at j Keyslots n ≡ None) → Luks2Refused b json total n NoSuchSlot
-missing_first b json total n j clear gone = (record { value = j; holds = clear.meta.json; absent = gone }, after)
-  where
-    after : (g : OpenFault) → IsLuks2Refusal b json total n g → NotAfter (open_key NoSuchSlot) (open_key g)
-    after (Head g) is = absurd (clear.uuid_faultless g is)
-    after (Meta g) is = absurd (clear.faultless g is)
-    after NoSuchSlot is = together 3 3 [] [] refl tt
-    after SlotFree is = absurd is
-    after Outside is = sooner 3 6 [] [] (omega arith)
-    after (Slot g) is = sooner 3 7 [] (slot_row g ∷ []) (omega arith)
-    after Device is = absurd is
-    after Memory is = absurd is
 
 same_slot : (json : List ℕ) (j : Data) (n : ℕ) (a b : SlotPlan) (f g : SlotFault) → IsOnly json j n → HasLuks2Plan json n a → HasLuks2Plan json n b
     → slot_refusal a ≡ Some f → slot_refusal b ≡ Some g → f ≡ g
@@ -162,9 +115,3 @@ plan_opens2 b json v n j plan p found clear only is x = record { plan = plan; is
         absurd (cc)
     unrefused Device y = y
     unrefused Memory y = y
-
--- the keyslot gives nothing else
-pub plan_only2 : (b json v : List ℕ) (n : ℕ) (j : Data) (plan : SlotPlan) (p : List ℕ) (found other : Option (List ℕ)) → IsOnly json j n
-    → HasLuks2Plan json n plan → PlanOpens plan v p found → Luks2Opens b json v n p other → other ≡ found
-plan_only2 b json v n j plan p found other only is x y =
-    sym y.key ∙ same_answer y.plan plan v p (one_luks2_plan json j n y.plan plan only y.is is) ∙ sym x.is

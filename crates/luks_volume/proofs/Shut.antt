@@ -1,13 +1,25 @@
 -- A keyslot that was tried in vain doesn't open.
-use Rattle.std.proofs.Common.{◌≡◌, ◌≢◌, ℕ, ◌==◌, List, length, Bool, true, false, Option, Some, None, IfOk, IfErr, MatchResult, refl, eq-eqb}
+use Rattle.std.proofs.Common.{◌≡◌, ◌≢◌, ℕ, ◌==◌, List, length, Bool, true, false, Option, Some, None, IfOk, IfErr, IfSome, refl, sym, ◌∙◌, eq-eqb}
+use Rattle.serde_json.specs.Data.{Data}
 use Rattle.luks_head.specs.declared.fault.HeadFault.TheVariants as head
 use Rattle.luks_head.specs.Header1.{active_word, disabled_word, enabled_word, entry}
 use Rattle.luks_volume.specs.declared.open_fault.OpenFault.{OpenFault}
 use Rattle.luks_volume.specs.declared.open_fault.OpenFault.TheVariants.{Head, Meta, NoSuchSlot, SlotFree, Outside, Slot, Device, Memory}
 use Rattle.luks_volume.specs.Entered.{Luks1Opens, Luks1Refused}
 use Rattle.luks_volume.specs.Entered2.{Luks2Opens, Luks2Refused}
-use Rattle.luks_volume.specs.Planned.{Counts, IsOfDevice, IsFailure}
+use Rattle.luks_volume.specs.Planned.{IsFailure}
 use Rattle.luks_volume.specs.Tried.{passed_over, Luks1Shut, Luks1Tried, Luks2Shut, Luks2Tried}
+use Rattle.luks_volume.proofs.Alike.{same_answer}
+use Rattle.luks_volume.proofs.PlanFields1.{one_luks1_plan}
+use Rattle.luks_volume.proofs.PlanFields2.{IsOnly, one_luks2_plan}
+
+-- a keyslot opens to one key
+luks1_once : (h v : List ℕ) (n : ℕ) (p : List ℕ) (found other : Option (List ℕ)) → Luks1Opens h v n p found → Luks1Opens h v n p other → found ≡ other
+luks1_once h v n p found other x y = sym x.key ∙ same_answer x.plan y.plan v p (one_luks1_plan h n x.plan y.plan x.is y.is) ∙ y.key
+
+luks2_once : (b json v : List ℕ) (n : ℕ) (p : List ℕ) (j : Data) (found other : Option (List ℕ)) → IsOnly json j n
+    → Luks2Opens b json v n p found → Luks2Opens b json v n p other → found ≡ other
+luks2_once b json v n p j found other only x y = sym x.key ∙ same_answer x.plan y.plan v p (one_luks2_plan json j n x.plan y.plan only x.is y.is) ∙ y.key
 
 pub luks1_refused_tried : (h v : List ℕ) (n : ℕ) (p : List ℕ) (f : OpenFault) → Luks1Refused h (length v) n f → IfOk (passed_over f) (Luks1Tried h v n p)
 luks1_refused_tried h v n p (Head f) x = λ k y. y.unrefused (Head f) x.0
@@ -29,32 +41,15 @@ luks2_refused_tried b json v n p (Slot f) x = λ k y. y.unrefused (Slot f) x.0
 luks2_refused_tried b json v n p Device x = tt
 luks2_refused_tried b json v n p Memory x = tt
 
-pub luks1_none_shut : (h v : List ℕ) (n : ℕ) (p : List ℕ) → ((other : Option (List ℕ)) → Luks1Opens h v n p other → other ≡ None) → Luks1Shut h v p n
-luks1_none_shut h v n p only k y = let e = only (Some k) y in absurd (cc)
+-- what a keyslot opens to, once it has been tried
+pub luks1_tried : (h v : List ℕ) (n : ℕ) (p : List ℕ) (found : Option (List ℕ)) → Luks1Opens h v n p found → Luks1Tried h v n p found
+luks1_tried h v n p (Some k) x = x
+luks1_tried h v n p None x = λ k y. let e = luks1_once h v n p (Some k) None y x in absurd (cc)
 
-pub luks2_none_shut : (b json v : List ℕ) (n : ℕ) (p : List ℕ) → ((other : Option (List ℕ)) → Luks2Opens b json v n p other → other ≡ None) → Luks2Shut b json v p n
-luks2_none_shut b json v n p only k y = let e = only (Some k) y in absurd (cc)
-
-pub passed_counts : (f : OpenFault) (before after : ℕ) → Counts f before after
-    → MatchResult (passed_over f) (λ _. after ≡ before) (λ g. Counts g before after)
-passed_counts (Head f) before after x = x
-passed_counts (Meta f) before after x = x
-passed_counts NoSuchSlot before after x = x
-passed_counts SlotFree before after x = x
-passed_counts Outside before after x = x
-passed_counts (Slot f) before after x = x
-passed_counts Device before after x = x
-passed_counts Memory before after x = x
-
-pub passed_kinds : (f : OpenFault) → IfErr (passed_over f) IsOfDevice
-passed_kinds (Head f) = tt
-passed_kinds (Meta f) = tt
-passed_kinds NoSuchSlot = tt
-passed_kinds SlotFree = tt
-passed_kinds Outside = tt
-passed_kinds (Slot f) = tt
-passed_kinds Device = tt
-passed_kinds Memory = tt
+pub luks2_tried : (b json v : List ℕ) (n : ℕ) (p : List ℕ) (j : Data) (found : Option (List ℕ)) → IsOnly json j n
+    → Luks2Opens b json v n p found → Luks2Tried b json v n p found
+luks2_tried b json v n p j (Some k) only x = x
+luks2_tried b json v n p j None only x = λ k y. let e = luks2_once b json v n p j (Some k) None only y x in absurd (cc)
 
 pub passed_fails : (f : OpenFault) → (f ≢ Memory) → IfErr (passed_over f) IsFailure
 passed_fails (Head f) own = tt
@@ -65,6 +60,16 @@ passed_fails Outside own = tt
 passed_fails (Slot f) own = tt
 passed_fails Device own = tt
 passed_fails Memory own = absurd (own refl)
+
+pub passed_none : (P : List ℕ → Type 0) (f : OpenFault) → IfOk (passed_over f) (λ found. IfSome found P)
+passed_none P (Head f) = tt
+passed_none P (Meta f) = tt
+passed_none P NoSuchSlot = tt
+passed_none P SlotFree = tt
+passed_none P Outside = tt
+passed_none P (Slot f) = tt
+passed_none P Device = tt
+passed_none P Memory = tt
 
 pub luks1_own : (h : List ℕ) (total n : ℕ) (f : OpenFault) → Luks1Refused h total n f → f ≢ Memory
 luks1_own h total n (Head f) x e = cc

@@ -7,7 +7,8 @@ use Rattle.luks_head.specs.declared.selection.Copies.{Copies}
 use Rattle.luks_meta.specs.Accepted.{Resolves}
 use Rattle.luks_meta.specs.MetaFault.{Json}
 use Rattle.luks_volume.specs.declared.report.Data.{Data}
-use Rattle.luks_volume.specs.Checked.{AreaOf, json_at}
+use Rattle.luks_volume.specs.Checked.{AreaOf}
+use Rattle.luks_volume.specs.Header.{json_at}
 
 -- the JSON area holds a value, whose names resolve
 pub record HoldsNames (json : List ℕ) : Type 0 where

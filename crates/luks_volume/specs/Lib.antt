@@ -1,5 +1,8 @@
+pub mod Conversions
+pub mod Failures
+pub mod Header
+pub mod ChosenCopies
 pub mod Checked
-pub mod Copied
 pub mod Layout1
 pub mod Layout2
 pub mod Listing

@@ -37,23 +37,6 @@ PlanRefused plan total (Slot f) = (plan.area.start + plan.area.len ≤ total) ×
 PlanRefused plan total Device = ⊤
 PlanRefused plan total Memory = ⊥
 
--- the device's count of failures rises by one where the device failed, else it stays
-abbrev pub Counts : OpenFault → ℕ → ℕ → Type 0
-Counts Device before after = after ≡ before + 1
-Counts (Head f) before after = after ≡ before
-Counts (Meta f) before after = after ≡ before
-Counts NoSuchSlot before after = after ≡ before
-Counts SlotFree before after = after ≡ before
-Counts Outside before after = after ≡ before
-Counts (Slot f) before after = after ≡ before
-Counts Memory before after = after ≡ before
-
--- the fault of a selection as that of an opening: the device's failure and want of memory stand for themselves
-abbrev pub outer_fault : HeadFault → OpenFault
-outer_fault head.Device = Device
-outer_fault head.Memory = Memory
-outer_fault f = Head f
-
 -- the fault isn't the volume's own: the device failed, or memory was refused
 abbrev pub IsOfDevice : OpenFault → Type 0
 IsOfDevice (Head f) = ⊥

@@ -5,6 +5,7 @@ use Rattle.serde_json.specs.Data.{Data}
 use Rattle.luks_area.specs.Ranges.{part}
 use Rattle.luks_head.specs.Bytes.{number_at, text_at}
 use Rattle.luks_head.specs.Header1.{entry, entry_iterations, entry_stripes}
+use Rattle.luks_meta.specs.Content.{content}
 use Rattle.luks_meta.specs.Faults.{object_at, suits, type_at}
 use Rattle.luks_meta.specs.MetaFault.{Json}
 use Rattle.luks_meta.specs.Naming.{IsDigestOf}
@@ -20,6 +21,8 @@ use Rattle.luks_slot.specs.declared.plan.Derivation.{Derivation}
 use Rattle.luks_slot.specs.declared.plan.Derivation.TheVariants.{Pbkdf2, Argon2}
 use Rattle.luks_slot.specs.declared.plan.DigestPlan.{DigestPlan}
 use Rattle.luks_slot.specs.declared.plan.SlotPlan.{SlotPlan}
+use Rattle.luks_volume.specs.declared.header.Header.{Header}
+use Rattle.luks_volume.specs.declared.header.Header.TheVariants.{Luks1, Luks2}
 use Rattle.luks_volume.specs.Layout1.{sectors_of}
 
 -- ---- LUKS1: `h` is the header's 592 bytes
@@ -98,3 +101,15 @@ pub record HasLuks2Plan (json : List ℕ) (n : ℕ) (plan : SlotPlan) : Type 0 w
   pub object : Data
   pub there : object_at value Keyslots n ≡ Some object
   pub is : IsLuks2Plan value n object plan
+
+-- ---- the length in bytes of the key that a keyslot gives
+
+pub record HasLuks2KeyBytes (j : Data) (n len : ℕ) : Type 0 where
+  pub object : Data
+  pub there : object_at j Keyslots n ≡ Some object
+  pub is : number_in 1 128 (member_at object outer.Top name.KeySize) ≡ Some len
+
+-- by the header that was read, the key of the keyslot `n` has `len` bytes
+abbrev pub HasKeyBytes : Header → ℕ → ℕ → Type 0
+HasKeyBytes (Luks1 bytes) n len = len ≡ number_at bytes 108 4
+HasKeyBytes (Luks2 copy) n len = HasLuks2KeyBytes (content copy.meta) n len

@@ -66,16 +66,3 @@ rank_order rank j = filter (λ n. is_of_rank rank j n) (numbers_below 32)
 -- the keyslots of the list have been tried in its order
 abbrev pub Luks2Tries : List ℕ → List ℕ → List ℕ → List ℕ → List ℕ → Option (ℕ × List ℕ) → Type 0
 Luks2Tries b json v p order found = GivesFirst (Luks2Shut b json v p) (λ n k. Luks2Opens b json v n p (Some k)) order found
-
--- the copy isn't refused, and its keyslots have been tried in their order
-pub record Luks2Unlocks (b json v p : List ℕ) (found : Option (ℕ × List ℕ)) : Type 0 where
-  pub unrefused : (f : OpenFault) → IsLuks2Lockout b json f → ⊥
-  pub value : Value
-  pub holds : Json json value
-  pub tries : Luks2Tries b json v p (luks2_order value) found
-
--- the copy refuses the volume, unless the device failed or memory was refused
-abbrev pub Luks2LockedBy : List ℕ → List ℕ → OpenFault → Type 0
-Luks2LockedBy b json Device = ⊤
-Luks2LockedBy b json Memory = (g : HeadFault) → IsUuidFault (uuid_field b) g → ⊥
-Luks2LockedBy b json f = IsLeast open_key (IsLuks2Lockout b json) f

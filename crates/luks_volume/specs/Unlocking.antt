@@ -18,7 +18,7 @@ use Rattle.luks_meta.specs.Says.{member_at}
 use Rattle.luks_volume.specs.declared.open_fault.OpenFault.{OpenFault}
 use Rattle.luks_volume.specs.declared.open_fault.OpenFault.TheVariants.{Head, Meta, NoSuchSlot, SlotFree, Outside, Slot, Device, Memory}
 use Rattle.luks_volume.specs.Answer.{open_key, opens, Answer, IsSelectRefusal}
-use Rattle.luks_volume.specs.Checked.{json_at, NeedsMetadata}
+use Rattle.luks_volume.specs.Header.{json_at, NeedsMetadata}
 
 -- ---- the order
 
@@ -134,3 +134,14 @@ pub record Unlocks (v p : List ℕ) (found : Option (ℕ × List ℕ)) : Type 0 
   pub order : List ℕ
   pub ordered : IsOrderAs v choice order
   pub gives : GivesFirst (StaysShut v p) (λ n k. Answer v n p (opens k)) order found
+
+-- what opening a volume gives: a refusal of the volume itself, or a keyslot's number with its key, or
+-- that none opens
+pub data Unlocked : Type 0 where
+  locked : OpenFault → Unlocked
+  gives : Option (ℕ × List ℕ) → Unlocked
+
+-- what opening the volume `v` by the passphrase `p` gives
+abbrev pub UnlockAnswer : List ℕ → List ℕ → Unlocked → Type 0
+UnlockAnswer v p (locked f) = IsLeast open_key (IsLockout v) f
+UnlockAnswer v p (gives found) = Unlocks v p found

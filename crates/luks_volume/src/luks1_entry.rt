@@ -30,12 +30,10 @@ pub(crate) fn luks1_entry(header: &[u8], n: u8) -> Result<Luks1Slot, OpenFault>
     if n > 7 {
         return Err(OpenFault::NoSuchSlot);
     }
-    match Luks1::slot(bytes_at(header, 208 + 48 * n as usize, 48), n) {
-        Ok(slot) => match slot.state {
-            SlotState::Enabled => Ok(slot),
-            SlotState::Disabled => Err(OpenFault::SlotFree),
-        },
-        Err(fault) => Err(OpenFault::Head(fault)),
+    let slot = Luks1::slot(bytes_at(header, 208 + 48 * n as usize, 48), n)?;
+    match slot.state {
+        SlotState::Enabled => Ok(slot),
+        SlotState::Disabled => Err(OpenFault::SlotFree),
     }
 }
 

@@ -1,4 +1,4 @@
-use Rattle.luks_head.proofs.HeaderWriting2.{HasLengths, header_written}
+use Rattle.luks_head.proofs.BinaryHeaderWriting.{HasLengths, header_written}
 use Rattle.luks_head.proofs.bin2_writing.put_header.Goals as goal
 
 pub returns : goal.returns

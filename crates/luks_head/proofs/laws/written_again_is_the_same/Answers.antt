@@ -1,6 +1,6 @@
 use Rattle.std.proofs.Common.{arith, lit≤, sym, ◌∙◌}
 use Rattle.luks_head.proofs.EntryFacts.{entries_agree}
-use Rattle.luks_head.proofs.HeaderFacts2.{front_agrees, written_once}
+use Rattle.luks_head.proofs.BinaryHeaderFacts.{front_agrees, written_once}
 use Rattle.luks_head.proofs.NumberFacts.{bytes_within}
 use Rattle.luks_head.proofs.laws.written_again_is_the_same.Goals as goal
 

@@ -1,4 +1,4 @@
-use Rattle.luks_head.proofs.HeaderFacts2.{written_in_step, written_is_sound, zeroed_then}
+use Rattle.luks_head.proofs.BinaryHeaderFacts.{written_in_step, written_is_sound, zeroed_then}
 use Rattle.luks_head.proofs.laws.written_copies_are_chosen.Goals as goal
 
 pub returns-clause-sound : goal.returns-clause-sound

@@ -1,6 +1,6 @@
 use Rattle.std.proofs.Common.{List, ℕ, subst}
 use Rattle.sha2.specs.Hashers.{Holds256}
-use Rattle.luks_head.proofs.HeaderFacts2.{zeroed_same}
+use Rattle.luks_head.proofs.BinaryHeaderFacts.{zeroed_same}
 use Rattle.luks_head.proofs.bin2.Bin2.hasher.Goals as goal
 
 pub returns : goal.returns

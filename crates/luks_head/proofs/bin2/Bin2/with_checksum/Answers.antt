@@ -1,5 +1,5 @@
 use Rattle.std.proofs.Common.{◌≡◌, ℕ, List, length, refl, ap, ◌∙◌, rules, ◌++◌, replicate}
-use Rattle.luks_head.proofs.HeaderFacts2.{csum_put}
+use Rattle.luks_head.proofs.BinaryHeaderFacts.{csum_put}
 use Rattle.luks_head.proofs.bin2.Bin2.with_checksum.Goals as goal
 
 pub returns : goal.returns
