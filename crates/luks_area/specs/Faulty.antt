@@ -11,6 +11,14 @@ use Rattle.luks_area.specs.Ranges.{written}
 abbrev pub inner_device : {D : Type 0} {ghosts : Ghosts D} → FaultyDevice D ghosts → D
 inner_device faulty = faulty.device
 
+-- the length of the device behind, in bytes
+abbrev pub faulty_size : {D : Type 0} {ghosts : Ghosts D} → FaultyDevice D ghosts → ℕ
+faulty_size {D} {ghosts} faulty = ghosts.size (inner_device faulty)
+
+-- the bytes of the device behind
+abbrev pub faulty_bytes : {D : Type 0} {ghosts : Ghosts D} → FaultyDevice D ghosts → List ℕ
+faulty_bytes {D} {ghosts} faulty = ghosts.bytes (inner_device faulty)
+
 -- how many calls come before the one that fails; none once it has failed
 abbrev pub calls_before : {D : Type 0} {ghosts : Ghosts D} → FaultyDevice D ghosts → Option ℕ
 calls_before faulty = faulty.before
@@ -47,3 +55,9 @@ left_behind Old v at bytes = v
 left_behind New v at bytes = written v at bytes
 left_behind Ones v at bytes = written v at (replicate (length bytes) 0xFF)
 left_behind Half v at bytes = written v at (take (length bytes / 2) bytes)
+
+-- after the write that failed the bytes are what is left behind, if the device behind didn't fail too
+abbrev pub LeavesBehind : {D : Type 0} {ghosts : Ghosts D} → FaultyDevice D ghosts → FaultyDevice D ghosts → ℕ → List ℕ → Type 0
+LeavesBehind {D} {ghosts} old new at bytes =
+    ghosts.failed (inner_device new) ≡ ghosts.failed (inner_device old)
+    → faulty_bytes new ≡ left_behind (leave_of old) (faulty_bytes old) at bytes

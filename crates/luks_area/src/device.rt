@@ -57,7 +57,8 @@ pub trait Device: Drop {
         requires room { failed self.old + 1 < 2 ^ 64 }
         ensures count { CountsFailure is_failure result (failed self.old) (failed self.new) }
         ensures unchanged { IsUnchanged tells size bytes self.old self.new }
-        ensures read { tells → OnOk result (into.new ≡ part (bytes self.old) at (length into.old)) };
+        ensures read { tells → OnOk result
+            (into.new ≡ part (bytes self.old) at (length into.old)) };
 
     /// Writes `from` from the place `at` on; that range lies inside the device.
     ///
@@ -68,8 +69,10 @@ pub trait Device: Drop {
         requires room { failed self.old + 1 < 2 ^ 64 }
         ensures count { CountsFailure is_failure result (failed self.old) (failed self.new) }
         ensures size { size self.new ≡ size self.old }
-        ensures wrote { tells → OnOk result (bytes self.new ≡ written (bytes self.old) at from.now) }
-        ensures outside { tells → SameOutside (bytes self.old) (bytes self.new) at (length from.now) };
+        ensures wrote { tells → OnOk result
+            (bytes self.new ≡ written (bytes self.old) at from.now) }
+        ensures outside { tells → SameOutside (bytes self.old) (bytes self.new)
+            at (length from.now) };
 
     /// Asks that all that was written stays. A flush changes no byte, nor does one that fails.
     fn flush(&mut self) -> Result<(), DeviceFault>

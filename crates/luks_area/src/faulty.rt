@@ -36,7 +36,8 @@ pub struct FaultyDevice<D: Device> {
 
 impl<D: Device> FaultyDevice<D> {
     ghost use Rattle.std.specs.Prelude.{Some};
-    ghost use Rattle.luks_area.specs.Faulty.{IsDue, calls_before, faulty_failures, inner_device, leave_of, left_behind, one_fewer};
+    ghost use Rattle.luks_area.specs.Faulty.{IsDue, LeavesBehind, inner_device, leave_of, one_fewer};
+    ghost use Rattle.luks_area.specs.Faulty.{calls_before, faulty_bytes, faulty_failures, faulty_size};
 
     /// A device over `device` of which the call of the number `call` fails, counted from 0.
     pub fn new(device: D, call: u64, leave: Leave) -> Self
@@ -87,16 +88,16 @@ impl<D: Device> FaultyDevice<D> {
 
     /// Writes what the failing write leaves, as far as the device behind doesn't fail.
     fn leave_behind(&mut self, at: u64, from: &[u8])
-        requires within { at + length from.now ≤ D.size (inner_device self.old) }
+        requires within { at + length from.now ≤ faulty_size self.old }
         requires room { D.failed (inner_device self.old) + 1 < 2 ^ 64 }
         requires counted { D.failed (inner_device self.old) < faulty_failures self.old }
         ensures count { faulty_failures self.new ≡ faulty_failures self.old }
         ensures before { calls_before self.new ≡ calls_before self.old }
         ensures leave { leave_of self.new ≡ leave_of self.old }
-        ensures size { D.size (inner_device self.new) ≡ D.size (inner_device self.old) }
-        ensures outside { D.tells → SameOutside (D.bytes (inner_device self.old)) (D.bytes (inner_device self.new)) at (length from.now) }
-        ensures left { D.tells → D.failed (inner_device self.new) ≡ D.failed (inner_device self.old)
-            → D.bytes (inner_device self.new) ≡ left_behind (leave_of self.old) (D.bytes (inner_device self.old)) at from.now }
+        ensures size { faulty_size self.new ≡ faulty_size self.old }
+        ensures outside { D.tells → SameOutside (faulty_bytes self.old) (faulty_bytes self.new)
+            at (length from.now) }
+        ensures left { D.tells → LeavesBehind self.old self.new at from.now }
     {
         let range = Area {
             start: at,
@@ -112,13 +113,14 @@ impl<D: Device> FaultyDevice<D> {
 }
 
 impl<D: Device> Device for FaultyDevice<D> {
-    ghost use Rattle.luks_area.specs.Faulty.{FailsWhereDue, IsDue, faulty_failures, inner_device, leave_of, left_behind};
+    ghost use Rattle.luks_area.specs.Faulty.{FailsWhereDue, IsDue, LeavesBehind};
+    ghost use Rattle.luks_area.specs.Faulty.{faulty_bytes, faulty_failures, faulty_size};
 
     ghost tells = { D.tells };
 
-    ghost bytes = { λ d. D.bytes (inner_device d) };
+    ghost bytes = { faulty_bytes };
 
-    ghost size = { λ d. D.size (inner_device d) };
+    ghost size = { faulty_size };
 
     ghost failed = { faulty_failures };
 
@@ -131,12 +133,14 @@ impl<D: Device> Device for FaultyDevice<D> {
     }
 
     fn read_at(&mut self, at: u64, into: &mut [u8]) -> Result<(), DeviceFault>
-        requires within { at + length into.old ≤ D.size (inner_device self.old) }
+        requires within { at + length into.old ≤ faulty_size self.old }
         requires room { faulty_failures self.old + 1 < 2 ^ 64 }
         ensures fails { FailsWhereDue self.old self.new result }
-        ensures count { CountsFailure is_failure result (faulty_failures self.old) (faulty_failures self.new) }
-        ensures unchanged { IsUnchanged D.tells D.size D.bytes (inner_device self.old) (inner_device self.new) }
-        ensures read { D.tells → OnOk result (into.new ≡ part (D.bytes (inner_device self.old)) at (length into.old)) }
+        ensures count { CountsFailure is_failure result
+            (faulty_failures self.old) (faulty_failures self.new) }
+        ensures unchanged { IsUnchanged D.tells faulty_size faulty_bytes self.old self.new }
+        ensures read { D.tells → OnOk result
+            (into.new ≡ part (faulty_bytes self.old) at (length into.old)) }
     {
         if self.count_call() {
             return Err(DeviceFault);
@@ -147,15 +151,17 @@ impl<D: Device> Device for FaultyDevice<D> {
     }
 
     fn write_at(&mut self, at: u64, from: &[u8]) -> Result<(), DeviceFault>
-        requires within { at + length from.now ≤ D.size (inner_device self.old) }
+        requires within { at + length from.now ≤ faulty_size self.old }
         requires room { faulty_failures self.old + 1 < 2 ^ 64 }
         ensures fails { FailsWhereDue self.old self.new result }
-        ensures left { D.tells → IsDue self.old → D.failed (inner_device self.new) ≡ D.failed (inner_device self.old)
-            → D.bytes (inner_device self.new) ≡ left_behind (leave_of self.old) (D.bytes (inner_device self.old)) at from.now }
-        ensures count { CountsFailure is_failure result (faulty_failures self.old) (faulty_failures self.new) }
-        ensures size { D.size (inner_device self.new) ≡ D.size (inner_device self.old) }
-        ensures wrote { D.tells → OnOk result (D.bytes (inner_device self.new) ≡ written (D.bytes (inner_device self.old)) at from.now) }
-        ensures outside { D.tells → SameOutside (D.bytes (inner_device self.old)) (D.bytes (inner_device self.new)) at (length from.now) }
+        ensures left { D.tells → IsDue self.old → LeavesBehind self.old self.new at from.now }
+        ensures count { CountsFailure is_failure result
+            (faulty_failures self.old) (faulty_failures self.new) }
+        ensures size { faulty_size self.new ≡ faulty_size self.old }
+        ensures wrote { D.tells → OnOk result
+            (faulty_bytes self.new ≡ written (faulty_bytes self.old) at from.now) }
+        ensures outside { D.tells → SameOutside (faulty_bytes self.old) (faulty_bytes self.new)
+            at (length from.now) }
     {
         if self.count_call() {
             self.leave_behind(at, from);
@@ -169,8 +175,9 @@ impl<D: Device> Device for FaultyDevice<D> {
     fn flush(&mut self) -> Result<(), DeviceFault>
         requires { faulty_failures self.old + 1 < 2 ^ 64 }
         ensures fails { FailsWhereDue self.old self.new result }
-        ensures count { CountsFailure is_failure result (faulty_failures self.old) (faulty_failures self.new) }
-        ensures unchanged { IsUnchanged D.tells D.size D.bytes (inner_device self.old) (inner_device self.new) }
+        ensures count { CountsFailure is_failure result
+            (faulty_failures self.old) (faulty_failures self.new) }
+        ensures unchanged { IsUnchanged D.tells faulty_size faulty_bytes self.old self.new }
     {
         if self.count_call() {
             return Err(DeviceFault);

@@ -26,7 +26,8 @@ impl<F: Seek + OpenFile + Drop> FileDevice<F> {
     /// An error where the file is neither a regular file nor a block device, and so has no length,
     /// or where the system tells none. Writing wants a file that was opened for it.
     pub fn new(file: F) -> io::Result<Self>
-        ensures length { IfSome (F.stream_position file) (λ _. IfSome (F.stream_bytes file) (λ bytes.
+        ensures length { IfSome (F.stream_position file) (λ _.
+            IfSome (F.stream_bytes file) (λ bytes.
             IfOk result (λ device. file_size device ≡ length bytes))) }
         ensures count { IfOk result (λ device. file_failures device ≡ 0) }
     {
@@ -52,7 +53,8 @@ impl<F> FileDevice<F> {
     fn counted(&mut self, outcome: io::Result<()>) -> Result<(), DeviceFault>
         requires { file_failures self.old + 1 < 2 ^ 64 }
         ensures outcome { IsOk result ↔ IsOk outcome }
-        ensures count { CountsFailure is_failure result (file_failures self.old) (file_failures self.new) }
+        ensures count { CountsFailure is_failure result
+            (file_failures self.old) (file_failures self.new) }
         ensures size { file_size self.new ≡ file_size self.old }
     {
         match outcome {

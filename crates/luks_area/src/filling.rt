@@ -16,7 +16,8 @@ pub fn fill<D: Device>(device: &mut D, area: Area, byte: u8) -> Result<(), Devic
     ensures size { D.size device.new ≡ D.size device.old }
     ensures filled { D.tells → OnOk result
         (D.bytes device.new ≡ written (D.bytes device.old) area.start (replicate area.len byte)) }
-    ensures outside { D.tells → SameOutside (D.bytes device.old) (D.bytes device.new) area.start area.len }
+    ensures outside { D.tells → SameOutside (D.bytes device.old) (D.bytes device.new)
+        area.start area.len }
 {
     let mut done = 0;
     while done < area.len {
@@ -33,7 +34,8 @@ fn fill_piece<D: Device>(device: &mut D, at: u64, len: usize, byte: u8) -> Resul
     requires room { D.failed device.old + 1 < 2 ^ 64 }
     ensures count { CountsFailure is_failure result (D.failed device.old) (D.failed device.new) }
     ensures size { D.size device.new ≡ D.size device.old }
-    ensures filled { D.tells → OnOk result (D.bytes device.new ≡ written (D.bytes device.old) at (replicate len byte)) }
+    ensures filled { D.tells → OnOk result
+        (D.bytes device.new ≡ written (D.bytes device.old) at (replicate len byte)) }
     ensures outside { D.tells → SameOutside (D.bytes device.old) (D.bytes device.new) at len }
 {
     device.write_at(at, &[byte; 512][..len])

@@ -26,7 +26,8 @@ pub fn fit(areas: &Areas, total: u64) -> Result<(), AreaFault>
 fn fit_entries(entries: &[Entry], total: u64) -> Result<(), AreaFault>
     requires { IsIncreasing entries.now }
     ensures fits { OnOk result (Fit (HasArea entries.now) total) }
-    ensures fault { IfErr result (λ f. IsLeast area_key (IsAreaFault (HasArea entries.now) total) f) }
+    ensures fault { IfErr result (λ f.
+        IsLeast area_key (IsAreaFault (HasArea entries.now) total) f) }
     ensures only { Fit (HasArea entries.now) total → IsOk result }
 {
     match first_outside(entries, total) {

@@ -1,2 +1,3 @@
 pub mod ExitFacts
+pub mod FileFacts
 pub mod Fronts

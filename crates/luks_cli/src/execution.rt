@@ -2,7 +2,7 @@ ghost use Rattle.std.specs.Prelude.{◌≡◌, ◌≢◌, ◌+◌, ◌<◌, ◌�
 ghost use Rattle.std.specs.Result.{ForOk};
 ghost use Rattle.luks_cli.specs.Checked.{SaysCheck, WhereCheck};
 ghost use Rattle.luks_cli.specs.Exit.{IsExitStatus};
-ghost use Rattle.luks_cli.specs.Files.{KeepsBytes};
+ghost use Rattle.luks_cli.specs.Files.{KeepsVolume};
 
 use crate::answers::exit_code;
 use crate::commands::{check, open, show};
@@ -25,7 +25,7 @@ pub fn execute<D: Device, R: Read, W: Write>(
 ) -> u8
     requires { ForOk inputs.old.volume (λ d. D.failed d + 1 < 2 ^ 64) }
     ensures status { IsExitStatus result }
-    ensures same { D.tells → KeepsBytes D.bytes inputs.old.volume inputs.new.volume }
+    ensures unchanged { KeepsVolume D.tells D.size D.bytes inputs.old.volume inputs.new.volume }
     ensures check { D.tells → WhereCheck line.now.command (λ payload. IfOk inputs.old.volume (λ d. SaysCheck (D.bytes d) payload result)) }
     // Without its volume no command succeeds.
     ensures unread { IfErr inputs.old.volume (λ _. (result ≢ 0) × (result ≢ 3)) }

@@ -1,4 +1,4 @@
--- Exactly one thing counts of a volume.
+-- Exactly one thing is chosen of a volume.
 use Rattle.std.proofs.Common.{◌≡◌, ◌≢◌, ◌⊎◌, ℕ, ◌+◌, ◌≤◌, ◌==◌, List, [], ◌∷◌, length, Bool, true, codes, inl, inr, arith, refl, sym, ap, ◌∙◌}
 use Rattle.std.proofs.lemmas.Bool.{cases_Bool, cases_eq, cases_lt, cases_order, false≢true, true≢false, or_cases, or_left, or_right, eq-eqb, eqb-true}
 use Rattle.sha2.specs.Sha256.{sha256}
@@ -16,7 +16,7 @@ use Rattle.luks_head.specs.declared.selection.Copies.{Copies}
 use Rattle.luks_head.specs.declared.selection.Copies.TheVariants.{InStep, FirstNewer, SecondNewer, FirstOnly, SecondOnly}
 use Rattle.luks_head.proofs.DecidableFacts.{held, same_or_not, uuid_or_not}
 
--- two ways in which a copy counts are one
+-- two choices of a copy are one
 copies_agree : (v : List ℕ) (o p : ℕ) (a b : Copies) → IsChosenCopy v o a → IsChosenCopy v p b → luks2 o a ≡ luks2 p b
 copies_agree v o p InStep InStep x y = ap (λ n. luks2 n InStep) (x.2 ∙ sym y.2)
 copies_agree v o p InStep FirstNewer x y = absurd (omega (arith, x.1, y.1))
@@ -44,7 +44,7 @@ copies_agree v o p SecondOnly SecondNewer x y = absurd (x.no_first y.0.first)
 copies_agree v o p SecondOnly FirstOnly x y = absurd (x.no_first y.0.first)
 copies_agree v o p SecondOnly SecondOnly x y = (let low : o ≤ p = x.least p y.listed y.sound in let high : p ≤ o = y.least o x.listed x.sound in let same : o ≡ p = omega arith in ap (λ n. luks2 n SecondOnly) same)
 
--- a copy that counts isn't among none
+-- where a copy is chosen, one is sound
 chosen_is_sound_copy : (v : List ℕ) (o : ℕ) (a : Copies) → IsChosenCopy v o a → HasNoSoundCopy v → ⊥
 chosen_is_sound_copy v o InStep x none = none.no_first x.0.first
 chosen_is_sound_copy v o FirstNewer x none = none.no_first x.0.first
@@ -65,9 +65,6 @@ choices_agree v nothing (luks2 p b) x y = absurd (chosen_is_sound_copy v p b y.1
 choices_agree v nothing nothing x y = refl
 
 -- facts that hold or not
-not_either : (P : Type 0) → P ⊎ (P → ⊥) → (P → ⊥) ⊎ ((P → ⊥) → ⊥)
-not_either P either = elim either [ inl fits ↦ inr (λ fails. fails fits) | inr fails ↦ inl fails ]
-
 both_or_not : (P Q : Type 0) → P ⊎ (P → ⊥) → Q ⊎ (Q → ⊥) → (P × Q) ⊎ ((P × Q) → ⊥)
 both_or_not P Q p q =
     elim p [
@@ -172,7 +169,7 @@ least_or_none v (size ∷ sizes) =
       ]
     ]
 
--- of a volume without a LUKS1 header, a copy counts or none
+-- of a volume without a LUKS1 header, a copy is chosen or none
 copy_exists : (v : List ℕ) → IsNotVersion1 v → (c : Choice) × Chosen v c
 copy_exists v other =
     elim (sound_or_not v 0) [
@@ -194,7 +191,7 @@ copy_exists v other =
       ]
     ]
 
--- something counts of each volume, if only nothing
+-- something is chosen of each volume, if only nothing
 pub choice_exists : (v : List ℕ) → (c : Choice) × Chosen v c
 choice_exists v =
     elim (version1_or_not v) [
@@ -205,7 +202,7 @@ choice_exists v =
       ]
     ]
 
--- the copy that counts is sound
+-- the chosen copy is sound
 pub chosen_is_sound : (v : List ℕ) (o : ℕ) (a : Copies) → IsChosenCopy v o a → IsSound v o
 chosen_is_sound v o InStep x = rw x.2 x.0.first
 chosen_is_sound v o FirstNewer x = rw x.2 x.0.first
@@ -213,7 +210,7 @@ chosen_is_sound v o SecondNewer x = rw x.2 x.0.second
 chosen_is_sound v o FirstOnly x = rw x.1 x.0.first
 chosen_is_sound v o SecondOnly x = x.sound
 
--- where something counts, a selection has no fault
+-- where something is chosen, a selection has no fault
 pub selected_without : (v : List ℕ) → (Chosen v nothing → ⊥) → (f : HeadFault) → IsSelectFault v f → ⊥
 selected_without v some fault.TooShort bad = some ((λ one. (let long : 592 ≤ length v = one.long in omega arith)), (λ long. absurd (omega arith)))
 selected_without v some fault.NotLuks bad = some bad.0

@@ -1,7 +1,8 @@
--- Which copy counts, from the copies that were judged; why none does.
+-- Which copy is chosen, by which of them are sound; why none is.
 use Rattle.std.proofs.Common.{◌≡◌, ℕ, ◌≤◌, List, length, arith, lit≤, sym, ap, ◌∙◌, subst}
 use Rattle.luks_area.specs.First.{NotAfter}
 use Rattle.luks_area.specs.Ranges.{part}
+use Rattle.luks_area.specs.RangeFacts.{part-part, length-part_inside}
 use Rattle.byteorder.specs.Endian.{big_number}
 use Rattle.luks_head.specs.Faults.{head_key}
 use Rattle.luks_head.specs.ChosenCopy.{HoldsChosenCopy, IsNewer, IsNoHeaderFault}
@@ -14,7 +15,6 @@ use Rattle.luks_head.specs.declared.fault.HeadFault.{HeadFault}
 use Rattle.luks_head.specs.declared.fault.HeadFault.TheVariants as fault
 use Rattle.luks_head.specs.declared.selection.Copies.{Copies}
 use Rattle.luks_head.specs.declared.selection.Copies.TheVariants.{InStep, FirstNewer, SecondNewer, FirstOnly, SecondOnly}
-use Rattle.luks_head.proofs.CopyFacts.{part-part, length-part}
 
 -- a sound copy stands where its header says
 place_is : (v : List ℕ) (o : ℕ) (h : Bin2) → IsSoundCopy v o h → h.hdr_offset ≡ o
@@ -36,7 +36,7 @@ same_fields v h k same fields =
     let H : Bin2 → Type 0 = λ x. HoldsBin2 (header_at v x.hdr_offset) x in
     subst H (sym same) fields
 
--- the newer of two sound copies counts
+-- the newer of two sound copies is chosen
 pub newer_is_chosen : (v : List ℕ) (first second h : Bin2) (copies : Copies) → IsSoundCopy v 0 first → IsSoundCopy v first.hdr_size second
     → IsNewer first second h copies → HoldsChosenCopy v h copies
 newer_is_chosen v first second h InStep one two newer =
@@ -99,15 +99,15 @@ pub not_version1 : (v : List ℕ) → 592 ≤ length v → (IsVersion1 (part v 0
 not_version1 v long other = record {
   long = long;
   other = λ magic version. other (record {
-    long = rw (length-part v 0 592 long) (lit≤ tt);
+    long = rw (length-part_inside v 0 592 long) (lit≤ tt);
     magic = magic_is v ∙ magic;
     version = version_is v ∙ version;
   });
 }
 
--- nothing counts
-nothing_counts : (v : List ℕ) → IsNotVersion1 v → HasNoSoundCopy v → Chosen v nothing
-nothing_counts v other none = ((λ one. other.other one.magic one.version), (λ long. none))
+-- nothing is chosen
+nothing_chosen : (v : List ℕ) → IsNotVersion1 v → HasNoSoundCopy v → Chosen v nothing
+nothing_chosen v other none = ((λ one. other.other one.magic one.version), (λ long. none))
 
 -- no fault stands before that of a missing magic
 least_NotLuks : (v : List ℕ) → 592 ≤ length v → (g : HeadFault) → IsSelectFault v g → NotAfter (head_key fault.NotLuks) (head_key g)
@@ -133,12 +133,12 @@ least_NoSoundCopy v long magic version fault.Version bad = absurd (bad.1 version
 least_NoSoundCopy v long magic version fault.NoSoundCopy bad = (lit≤ tt, λ _. tt)
 least_NoSoundCopy v long magic version _ bad = absurd bad
 
--- a volume of which nothing counts is refused by its first bytes
+-- a volume of which nothing is chosen is refused by its first bytes
 pub refused_by : (v : List ℕ) (f : HeadFault) → IsNotVersion1 v → HasNoSoundCopy v → IsNoHeaderFault (part v 0 592) f → IsRefused v f
 refused_by v fault.NotLuks other none why =
-    ((nothing_counts v other none, λ magic. why (magic_is v ∙ magic)), least_NotLuks v other.long)
+    ((nothing_chosen v other none, λ magic. why (magic_is v ∙ magic)), least_NotLuks v other.long)
 refused_by v fault.Version other none why =
-    ((nothing_counts v other none, λ two. why.1 (version_is v ∙ two)), least_Version v other.long (sym (magic_is v) ∙ why.0))
+    ((nothing_chosen v other none, λ two. why.1 (version_is v ∙ two)), least_Version v other.long (sym (magic_is v) ∙ why.0))
 refused_by v fault.NoSoundCopy other none why =
-    (nothing_counts v other none, least_NoSoundCopy v other.long (sym (magic_is v) ∙ why.0) (sym (version_is v) ∙ why.1))
+    (nothing_chosen v other none, least_NoSoundCopy v other.long (sym (magic_is v) ∙ why.0) (sym (version_is v) ∙ why.1))
 refused_by v _ other none why = absurd why

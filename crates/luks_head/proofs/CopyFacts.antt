@@ -1,4 +1,4 @@
--- A copy of a header taken window by window.
+-- Facts on the bytes of a copy: its size, and its windows one after another.
 use Rattle.std.proofs.Common.{◌≡◌, ℕ, ◌+◌, ◌-◌, ◌*◌, ◌%◌, ◌≤◌, ◌==◌, nat_le, List, [], ◌∷◌, ◌++◌, length, take, drop, replicate, Bool, true, inl, inr, arith, refl, sym, ap, ◌∙◌, length-append, length-take-le, length-drop}
 use Rattle.std.specs.List.{list_all}
 use Rattle.std.proofs.lemmas.Bool.{or_cases, and_parts, eqb-true, leb-true, false≢true}
@@ -6,6 +6,7 @@ use Rattle.std.proofs.lemmas.List.{take-take, drop-drop, drop-take, length-repli
 use Rattle.std.proofs.Math.Seq.{take-add, take-append-add, drop-append-add}
 use Rattle.sha2.specs.Sha256.{sha256}
 use Rattle.luks_area.specs.Ranges.{part}
+use Rattle.luks_area.specs.RangeFacts.{length-part_inside, part-part}
 use Rattle.luks_head.specs.Header2.{header_at, hdr_size, copy_at, with_zero_checksum}
 use Rattle.luks_head.specs.Sizes.{listed_sizes, is_among, IsListed}
 
@@ -22,25 +23,8 @@ among_pass test (size ∷ sizes) n every among =
 pub listed_at_least : (n : ℕ) → IsListed n → 16384 ≤ n
 listed_at_least n listed = leb-true 16384 n (among_pass (λ m. nat_le 16384 m) listed_sizes n refl listed)
 
-pub listed_at_most : (n : ℕ) → IsListed n → n ≤ 4194304
-listed_at_most n listed = leb-true n 4194304 (among_pass (λ m. nat_le m 4194304) listed_sizes n refl listed)
-
 pub listed_whole : (n : ℕ) → IsListed n → n % 4096 ≡ 0
 listed_whole n listed = eqb-true (n % 4096) 0 (among_pass (λ m. (m % 4096) == 0) listed_sizes n refl listed)
-
--- the part of a part
-pub part-part : (v : List ℕ) (a n b m : ℕ) → b + m ≤ n → part (part v a n) b m ≡ part v (a + b) m
-part-part v a n b m within =
-    let split : n ≡ b + (n - b) = omega arith in
-    let moved : drop b (take (b + (n - b)) (drop a v)) ≡ take (n - b) (drop b (drop a v)) = drop-take b (n - b) (drop a v) in
-    let small : m ≤ n - b = omega arith in
-    ap (λ k. take m (drop b (take k (drop a v)))) split
-    ∙ ap (take m) moved
-    ∙ take-take m (n - b) (drop b (drop a v)) small
-    ∙ ap (take m) (drop-drop b a v)
-
-pub length-part : (v : List ℕ) (a n : ℕ) → a + n ≤ length v → length (part v a n) ≡ n
-length-part v a n within = length-take-le n (drop a v) (rw length-drop (omega arith))
 
 -- the first window of a copy without its sum
 pub first_window : (copy : List ℕ) → 4096 ≤ length copy → take 4096 (with_zero_checksum copy) ≡ with_zero_checksum (take 4096 copy)
@@ -77,7 +61,7 @@ all_windows copy n past size =
 pub first_fed : (v : List ℕ) (at size : ℕ) → 4096 ≤ size → at + size ≤ length v
     → with_zero_checksum (header_at v at) ≡ take 4096 (with_zero_checksum (part v at size))
 first_fed v at size long within =
-    sym (first_window (part v at size) (rw (length-part v at size within) long)
+    sym (first_window (part v at size) (rw (length-part_inside v at size within) long)
     ∙ ap with_zero_checksum (take-take 4096 size (drop at v) long))
 
 -- what a hasher holds after one window more
@@ -88,14 +72,14 @@ later_fed v at size k first within inside =
     let own : part copy (4096 * k) 4096 ≡ part v (at + 4096 * k) 4096 = part-part v at size (4096 * k) 4096 within in
     let amount : 4096 * (k + 1) ≡ 4096 * k + 4096 = omega arith in
     sym (ap (λ n. take n (with_zero_checksum copy)) amount
-    ∙ later_window copy (4096 * k) 4096 (omega arith) (rw (length-part v at size inside) within)
+    ∙ later_window copy (4096 * k) 4096 (omega arith) (rw (length-part_inside v at size inside) within)
     ∙ ap (λ xs. take (4096 * k) (with_zero_checksum copy) ++ xs) own)
 
 -- what a hasher holds after all windows
 pub all_fed : (v : List ℕ) (at size k : ℕ) → 512 ≤ size → 4096 * k ≡ size → at + size ≤ length v
     → take (4096 * k) (with_zero_checksum (part v at size)) ≡ with_zero_checksum (part v at size)
 all_fed v at size k long whole inside =
-    ap (λ n. take n (with_zero_checksum (part v at size))) whole ∙ all_windows (part v at size) size long (length-part v at size inside)
+    ap (λ n. take n (with_zero_checksum (part v at size))) whole ∙ all_windows (part v at size) size long (length-part_inside v at size inside)
 
 -- the digest that was taken is that of the copy
 pub digest_is : (v after head digest : List ℕ) (at size : ℕ) → head ≡ header_at v at → after ≡ v → hdr_size head ≡ size

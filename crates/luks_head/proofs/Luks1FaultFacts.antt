@@ -38,7 +38,7 @@ stated e state.Enabled is none = none.0 is
 stated e state.Disabled is none = none.1 is
 
 -- any record of a key slot
-slot_default : Luks1Slot
+pub slot_default : Luks1Slot
 slot_default = record { state = state.Disabled; iterations = 0; salt = []; key_material_offset = 0; stripes = 0 }
 
 -- a header without faults has none before its key slots

@@ -5,6 +5,7 @@ use Rattle.byteorder.specs.Endian.{big_number}
 use Rattle.uuid.specs.Text.{by_index}
 use Rattle.uuid.proofs.TextLemmas.{by_index_at, by_index_length}
 use Rattle.luks_area.specs.Ranges.{part}
+use Rattle.luks_area.specs.RangeFacts.{part-part}
 use Rattle.luks_area.specs.Text.{text_of, is_plain}
 use Rattle.luks_head.specs.Bytes.{number_at, text_at, IsUuid}
 use Rattle.luks_head.specs.Faults.{HasUnknownState, IsCommonFault, IsEntryFault, IsLuks1Fault}
@@ -20,7 +21,6 @@ use Rattle.luks_head.specs.declared.luks1.Luks1Slot.{Luks1Slot}
 use Rattle.luks_head.specs.declared.luks1.SlotState.{SlotState}
 use Rattle.luks_head.specs.declared.luks1.SlotState.TheVariants as state
 use Rattle.luks_head.proofs.Luks1FaultFacts.{accepted, common_accepted, entry_accepted}
-use Rattle.luks_head.proofs.CopyFacts.{part-part}
 
 -- the two lists have the same first n bytes
 pub record SameFirst (n : ℕ) (v w : List ℕ) : Type 0 where
@@ -46,7 +46,7 @@ pub entry_moves : (v w : List ℕ) → SameFirst 592 v w → (n : ℕ) → n < 8
 entry_moves v w h n lt = h.same (208 + 48 * n) 48 (omega arith)
 
 -- the texts stand before the key slots
-text_in : (t : TextField) → field_at t + field_len t ≤ common_size
+pub text_in : (t : TextField) → field_at t + field_len t ≤ common_size
 text_in field.CipherName = lit≤ tt
 text_in field.CipherMode = lit≤ tt
 text_in field.HashSpec = lit≤ tt
@@ -55,7 +55,21 @@ text_in field.Uuid = lit≤ tt
 text_within : (m : ℕ) (t : TextField) → common_size ≤ m → field_at t + field_len t ≤ m
 text_within m t enough = let room : field_at t + field_len t ≤ common_size = text_in t in omega arith
 
--- the fields before the key slots
+-- the fields before the key slots say the same
+pub fields_move : (m : ℕ) (v w : List ℕ) (c : Luks1Common) → 208 ≤ m → SameFirst m v w → HoldsCommon v c → HoldsCommon w c
+fields_move m v w c enough h fields = record {
+  cipher_name = sym (text_moves m v w h 8 32 (omega arith)) ∙ fields.cipher_name;
+  cipher_mode = sym (text_moves m v w h 40 32 (omega arith)) ∙ fields.cipher_mode;
+  hash_spec = sym (text_moves m v w h 72 32 (omega arith)) ∙ fields.hash_spec;
+  payload_offset = sym (number_moves m v w h 104 4 (omega arith)) ∙ fields.payload_offset;
+  key_bytes = sym (number_moves m v w h 108 4 (omega arith)) ∙ fields.key_bytes;
+  mk_digest = sym (h.same 112 20 (omega arith)) ∙ fields.mk_digest;
+  mk_digest_salt = sym (h.same 132 32 (omega arith)) ∙ fields.mk_digest_salt;
+  mk_digest_iterations = sym (number_moves m v w h 164 4 (omega arith)) ∙ fields.mk_digest_iterations;
+  uuid = sym (text_moves m v w h 168 40 (omega arith)) ∙ fields.uuid;
+}
+
+-- the fields before the key slots are those of a header
 pub common_moves : (m : ℕ) (v w : List ℕ) (c : Luks1Common) → 208 ≤ m → SameFirst m v w → IsCommon v c → IsCommon w c
 common_moves m v w c enough h good =
     let U : List ℕ → Type 0 = IsUuid in
@@ -64,17 +78,7 @@ common_moves m v w c enough h good =
     record {
       magic = sym (h.same 0 6 (omega arith)) ∙ good.magic;
       version = sym (number_moves m v w h 6 2 (omega arith)) ∙ good.version;
-      fields = record {
-        cipher_name = sym (text_moves m v w h 8 32 (omega arith)) ∙ good.fields.cipher_name;
-        cipher_mode = sym (text_moves m v w h 40 32 (omega arith)) ∙ good.fields.cipher_mode;
-        hash_spec = sym (text_moves m v w h 72 32 (omega arith)) ∙ good.fields.hash_spec;
-        payload_offset = sym (number_moves m v w h 104 4 (omega arith)) ∙ good.fields.payload_offset;
-        key_bytes = sym (number_moves m v w h 108 4 (omega arith)) ∙ good.fields.key_bytes;
-        mk_digest = sym (h.same 112 20 (omega arith)) ∙ good.fields.mk_digest;
-        mk_digest_salt = sym (h.same 132 32 (omega arith)) ∙ good.fields.mk_digest_salt;
-        mk_digest_iterations = sym (number_moves m v w h 164 4 (omega arith)) ∙ good.fields.mk_digest_iterations;
-        uuid = sym (text_moves m v w h 168 40 (omega arith)) ∙ good.fields.uuid;
-      };
+      fields = fields_move m v w c enough h good.fields;
       texts = λ t. plain_moves m v w h (field_at t) (field_len t) (text_within m t enough) (good.texts t);
       uuid = subst U (text_moves m v w h 168 40 (omega arith)) good.uuid;
       key_at_least = subst least (number_moves m v w h 108 4 (omega arith)) good.key_at_least;

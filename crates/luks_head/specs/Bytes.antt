@@ -18,7 +18,8 @@ HoldsText v o l = is_plain (text_at v o l) ≡ true
 
 -- the byte is a hexadecimal digit of either letter case
 abbrev pub is_hexadecimal : ℕ → Bool
-is_hexadecimal c = (nat_le 0x30 c && nat_le c 0x39) || (nat_le 0x61 c && nat_le c 0x66) || (nat_le 0x41 c && nat_le c 0x46)
+is_hexadecimal c =
+    (nat_le 0x30 c && nat_le c 0x39) || (nat_le 0x61 c && nat_le c 0x66) || (nat_le 0x41 c && nat_le c 0x46)
 
 -- the hyphens of a uuid's text stand at these places (RFC 9562, 4)
 abbrev pub is_hyphen_place : ℕ → Bool

@@ -7,3 +7,4 @@ pub mod SoundCopies
 pub mod Selection
 pub mod ChosenCopy
 pub mod FaultTexts
+pub mod Written

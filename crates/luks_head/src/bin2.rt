@@ -1,14 +1,21 @@
 //! The binary header of a LUKS2 copy.
-ghost use Rattle.std.specs.Prelude.{◌≡◌, ◌↔◌, length, IsOk, IfOk, IfErr};
+ghost use Rattle.std.specs.Prelude.{◌≡◌, ◌↔◌, ◌++◌, ℕ, List, length, replicate, IsOk, IfOk, IfErr};
+ghost use Rattle.sha2.specs.Hashers.{Holds256};
+ghost use Rattle.sha2.specs.Sha256.{sha256};
 ghost use Rattle.luks_area.specs.First.{IsLeast};
 ghost use Rattle.luks_area.specs.Text.{text_of};
 ghost use Rattle.luks_head.specs.Faults.{head_key};
 
 use crate::bin2_places as place;
+use crate::bin2_places::{SECOND_MAGIC, SHA256};
+use crate::bin2_writing::put_header;
+use crate::copies::digest_of_header;
 use crate::fault::{HeadFault, TextField};
-use crate::fields::{array_at, u16_at, u64_at};
+use crate::fields::{array_at, put, u16_at, u64_at};
+use crate::luks1_places::MAGIC;
 use crate::uuid_text::is_uuid;
 use luks_area::text_field;
+use sha2::{Digest, Sha256};
 
 /// The binary header of a copy of a LUKS2 header, field by field as it stands there
 /// (LUKS2 On-Disk Format 1.1, 2.1). Nothing in it is judged yet.
@@ -39,7 +46,8 @@ pub struct Bin2 {
 }
 
 impl Bin2 {
-    ghost use Rattle.luks_head.specs.Header2.{binary_header_size, HoldsBin2, IsUuidFault, IsUuidField};
+    ghost use Rattle.luks_head.specs.Written.{IsRenewed, WritesBin2};
+    ghost use Rattle.luks_head.specs.Header2.{binary_header_size, sha256_size, with_zero_checksum, HoldsBin2, IsUuidFault, IsUuidField};
 
     /// Reads a binary header. Any bytes will do; padding isn't looked at.
     pub fn read(bytes: &[u8]) -> Bin2
@@ -59,6 +67,52 @@ impl Bin2 {
             hdr_offset: u64_at(bytes, place::HDR_OFFSET),
             csum: array_at(bytes, place::CSUM),
         }
+    }
+
+    /// The header's 4096 bytes, with zeros in its padding.
+    pub fn write(&self) -> [u8; 4096]
+        ensures { WritesBin2 result self.now }
+    {
+        let mut bytes = [0; place::SIZE];
+        put_header(&mut bytes, self);
+        bytes
+    }
+
+    /// The header of the copy at the place `at` that is to take the place of this one's: with this
+    /// sequence number and salt, the same uuid, label and subsystem, and a checksum of zeros, which
+    /// `with_checksum` makes good.
+    pub fn renewed(&self, at: u64, seqid: u64, salt: [u8; 64]) -> Bin2
+        ensures { IsRenewed self.now at seqid salt result }
+    {
+        Bin2 {
+            magic: if at == 0 { MAGIC } else { SECOND_MAGIC },
+            version: 2,
+            seqid,
+            csum_alg: SHA256,
+            salt,
+            hdr_offset: at,
+            csum: [0; place::CSUM_SIZE],
+            ..*self
+        }
+    }
+
+    /// A hasher that was fed this header's 4096 bytes, those of the checksum as zeros. Fed the JSON
+    /// area too, window by window, it holds what the checksum of the copy is made of.
+    pub fn hasher(&self) -> Sha256
+        ensures { (b csum : List ℕ) → WritesBin2 b (record self.now { csum = csum })
+            → Holds256 result (with_zero_checksum b) }
+    {
+        digest_of_header(&self.write())
+    }
+
+    /// This header with the checksum of the copy that the hasher was fed.
+    pub fn with_checksum(&self, hasher: Sha256) -> Bin2
+        ensures { (copy : List ℕ) → Holds256 hasher copy
+            → result ≡ record self.now { csum = sha256 copy ++ replicate sha256_size 0 } }
+    {
+        let mut csum = [0; place::CSUM_SIZE];
+        put(&mut csum, 0, &hasher.finalize());
+        Bin2 { csum, ..*self }
     }
 
     /// The text of the volume's uuid, 36 bytes in either letter case.

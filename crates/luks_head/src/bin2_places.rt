@@ -4,6 +4,9 @@
 /// The bytes of the whole binary header.
 pub(crate) const SIZE: usize = 4096;
 
+/// The magic of the second copy: `SKUL`, 0xBA, 0xBE.
+pub(crate) const SECOND_MAGIC: [u8; 6] = [0x53, 0x4B, 0x55, 0x4C, 0xBA, 0xBE];
+
 /// The version.
 pub(crate) const VERSION: usize = 6;
 
@@ -21,6 +24,12 @@ pub(crate) const CSUM_ALG: usize = 72;
 
 /// The bytes of that text.
 pub(crate) const CSUM_ALG_SIZE: usize = 32;
+
+/// `sha256` and zeros.
+pub(crate) const SHA256: [u8; 32] = [
+    b's', b'h', b'a', b'2', b'5', b'6', 0, 0, 0, 0, 0, 0, 0, 0, 0, 0, 0, 0, 0, 0, 0, 0, 0, 0, 0, 0,
+    0, 0, 0, 0, 0, 0,
+];
 
 /// The salt.
 pub(crate) const SALT: usize = 104;

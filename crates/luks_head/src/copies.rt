@@ -10,14 +10,11 @@ ghost use Rattle.luks_head.specs.SoundCopies.{FindsSoundCopy, FindsSecondCopy, I
 ghost use Rattle.luks_head.specs.Sizes.{is_listed, IsListed};
 
 use crate::bin2::Bin2;
-use crate::bin2_places as place;
+use crate::bin2_places::{self as place, SECOND_MAGIC};
 use crate::fields::{field, u16_at, u64_at};
 use crate::luks1_places::MAGIC;
 use luks_area::{Device, DeviceFault, text_field};
 use sha2::{Digest, Sha256};
-
-/// The magic of the second copy: `SKUL`, 0xBA, 0xBE.
-const SECOND_MAGIC: [u8; 6] = [0x53, 0x4B, 0x55, 0x4C, 0xBA, 0xBE];
 
 /// The bytes of a binary header, by which a copy is read.
 const WINDOW: u64 = place::SIZE as u64;
@@ -51,7 +48,7 @@ fn has_sha256(head: &[u8]) -> bool
     }
 }
 
-/// Whether the binary header, read at `at` on a device of `total` bytes, is of the right form there.
+/// Whether the binary header, read at `at` on a device of `total` bytes, is of the right form.
 fn is_formed(head: &[u8], at: u64, total: u64) -> bool
     requires { length head.now ≡ binary_header_size }
     ensures { IsTrue result ↔ IsFormed head.now at total }
@@ -68,7 +65,7 @@ fn is_formed(head: &[u8], at: u64, total: u64) -> bool
 }
 
 /// A hasher that was fed the binary header with the 64 bytes of its checksum as zeros.
-fn digest_of_header(head: &[u8]) -> Sha256
+pub(crate) fn digest_of_header(head: &[u8]) -> Sha256
     requires { csum_at + csum_size ≤ length head.now }
     ensures { Holds256 result (with_zero_checksum head.now) }
 {

@@ -1,16 +1,18 @@
 //! The LUKS1 header.
-ghost use Rattle.std.specs.Prelude.{◌≡◌, ◌≤◌, ◌<◌, ◌+◌, ℕ, length, slice_index_or, IsOk, IfOk, IfErr, OnOk};
+ghost use Rattle.std.specs.Prelude.{◌≡◌, ◌≤◌, ◌<◌, ◌+◌, ℕ, List, length, slice_index_or, IsOk, IfOk, IfErr, OnOk};
 ghost use Rattle.luks_area.specs.First.{IsLeast};
 ghost use Rattle.luks_area.specs.Ranges.{part};
 ghost use Rattle.luks_head.specs.Bytes.{text_at, HoldsText};
 ghost use Rattle.luks_head.specs.Faults.{head_key, HasUnknownState, IsCommonFault, IsEntryFault, IsLuks1Fault};
 ghost use Rattle.luks_head.specs.declared.fault.HeadFault.{HeadFault as Fault};
 ghost use Rattle.luks_head.specs.Header1.{common_size, entry, entry_size, luks1_size, HoldsCommon, HoldsEntry, HoldsTexts, IsCommon, IsEntry, IsLuks1};
+ghost use Rattle.luks_head.specs.Written.{WritesEntry, WritesLuks1};
 
 use crate::fault::HeadFault;
-use crate::fields::{array_at, field, u32_at};
+use crate::fields::{array_at, field, put, u32_at};
 use crate::luks1_faults::{self, entry_of};
-use crate::luks1_places::{self as place, ENABLED};
+use crate::luks1_places::{self as place, ENABLED, ENTRY_SIZE};
+use crate::luks1_writing::{entry_bytes, put_common};
 use arrayvec::ArrayString;
 use luks_area::text_field;
 
@@ -119,6 +121,33 @@ impl Luks1 {
         luks1_faults::slot(entry, n)?;
         Ok(slot_fields(entry))
     }
+
+    /// The header's 592 bytes. Each text is followed by zeros to the end of its field.
+    ///
+    /// A text with a zero byte would be read only as far as that byte.
+    pub fn write(&self) -> [u8; 592]
+        ensures written { WritesLuks1 result self.now }
+        ensures read_back { (v : List ℕ) → IsLuks1 v self.now → IsLuks1 result self.now }
+        ensures entries { (n : ℕ) (s : Luks1Slot) (e : List ℕ) → n < 8
+            → WritesEntry e (slice_index_or self.now.slots n s) → entry result n ≡ e }
+    {
+        let mut bytes = [0; place::SIZE];
+        put_common(&mut bytes, &self.common);
+        for n in 0..8 {
+            let at = place::KEYSLOTS + ENTRY_SIZE * n as usize;
+            put(&mut bytes, at, &self.slot_bytes(n));
+        }
+        bytes
+    }
+
+    /// The 48 bytes of the keyslot `n`, which stand from the place 208 + 48 * `n` on in what
+    /// `write` gives.
+    pub fn slot_bytes(&self, n: u8) -> [u8; 48]
+        requires { n < 8 }
+        ensures { (s : Luks1Slot) → WritesEntry result (slice_index_or self.now.slots n s) }
+    {
+        entry_bytes(&self.slots[n as usize])
+    }
 }
 
 /// The text in the field of `len` bytes at `at`, which is known to be one.
@@ -174,7 +203,8 @@ fn slots_of(bytes: &[u8]) -> [Luks1Slot; 8]
     requires long { luks1_size ≤ length bytes.now }
     requires stated { (n : ℕ) → n < 8 → HasUnknownState (entry bytes.now n) → ⊥ }
     ensures length { length result ≡ 8 }
-    ensures each { (n : ℕ) (s : Luks1Slot) → n < 8 → HoldsEntry (entry bytes.now n) (slice_index_or result n s) }
+    ensures each { (n : ℕ) (s : Luks1Slot)
+        → n < 8 → HoldsEntry (entry bytes.now n) (slice_index_or result n s) }
 {
     let mut slots = [Luks1Slot::default(); 8];
     for n in 0..8 {

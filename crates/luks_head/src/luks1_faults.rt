@@ -45,7 +45,8 @@ fn holds_text(bytes: &[u8], at: usize, len: usize) -> bool
 fn bad_text(bytes: &[u8]) -> Option<TextField>
     requires { common_size ≤ length bytes.now }
     ensures none { IfNone result ((t : TextField) → HasBadText bytes.now t → ⊥) }
-    ensures least { IfSome result (λ t. HasBadText bytes.now t × ((s : TextField) → HasBadText bytes.now s → field_key t ≤ field_key s)) }
+    ensures least { IfSome result (λ t. HasBadText bytes.now t
+        × ((s : TextField) → HasBadText bytes.now s → field_key t ≤ field_key s)) }
 {
     if !holds_text(bytes, place::CIPHER_NAME, TEXT_SIZE) {
         Some(TextField::CipherName)
@@ -93,8 +94,10 @@ fn key_bytes(bytes: &[u8]) -> Result<(), HeadFault>
 
 fn digest_iterations(bytes: &[u8]) -> Result<(), HeadFault>
     requires { common_size ≤ length bytes.now }
-    ensures ok { OnOk result (IsLuks1Fault bytes.now (HeadFault.Iterations IterationsOf.Digest) → ⊥) }
-    ensures err { IfErr result (λ f. (f ≡ HeadFault.Iterations IterationsOf.Digest) × IsLuks1Fault bytes.now f) }
+    ensures ok { OnOk result
+        (IsLuks1Fault bytes.now (HeadFault.Iterations IterationsOf.Digest) → ⊥) }
+    ensures err { IfErr result (λ f. (f ≡ HeadFault.Iterations IterationsOf.Digest)
+        × IsLuks1Fault bytes.now f) }
 {
     if u32_at(bytes, place::MK_DIGEST_ITERATIONS) == 0 {
         Err(HeadFault::Iterations(IterationsOf::Digest))

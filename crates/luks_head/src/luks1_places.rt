@@ -1,5 +1,5 @@
-//! Where the fields of a LUKS1 header stand: in bytes from its start, and those of a keyslot from the
-//! start of its entry (LUKS1 On-Disk Format 1.2.3, "The partition header").
+//! Where the fields of a LUKS1 header stand: in bytes from its start, and those of a keyslot from
+//! the start of its entry (LUKS1 On-Disk Format 1.2.3, "The partition header").
 
 /// The bytes of the whole header.
 pub(crate) const SIZE: usize = 592;

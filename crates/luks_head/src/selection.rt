@@ -62,7 +62,8 @@ fn chosen_copy<D: Device>(device: &mut D) -> Result<Option<(Bin2, Copies)>, Devi
     requires room { D.failed device.old + 1 < 2 ^ 64 }
     ensures unchanged { IsUnchanged D.tells D.size D.bytes device.old device.new }
     ensures count { CountsFailure is_failure result (D.failed device.old) (D.failed device.new) }
-    ensures within { IfOk result (λ found. IsFoundWithin (D.size device.old) (option_map (λ copy. copy.0) found)) }
+    ensures within { IfOk result
+        (λ found. IsFoundWithin (D.size device.old) (option_map (λ copy. copy.0) found)) }
     ensures found { D.tells → IfOk result (FindsChosenCopy (D.bytes device.old)) }
 {
     match sound_copy(device, 0)? {
@@ -106,7 +107,8 @@ fn is_version1(head: &[u8]) -> bool
 pub fn select<D: Device>(_alloc: Global, device: &mut D) -> Result<Selected, HeadFault>
     requires room { D.failed device.old + 1 < 2 ^ 64 }
     ensures unchanged { IsUnchanged D.tells D.size D.bytes device.old device.new }
-    ensures count { CountsFailure is_device_fault result (D.failed device.old) (D.failed device.new) }
+    ensures count { CountsFailure is_device_fault result
+        (D.failed device.old) (D.failed device.new) }
     ensures kinds { IfErr result IsOfSelection }
     ensures within { IfOk result (IsSelectedWithin (D.size device.old)) }
     ensures found { D.tells → IfOk result (IsSelected (D.bytes device.old)) }

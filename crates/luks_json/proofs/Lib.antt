@@ -5,3 +5,4 @@ pub mod Numbers
 pub mod Encodings
 pub mod NoZero
 pub mod NameLists
+pub mod ArrayTexts

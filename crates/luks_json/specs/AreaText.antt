@@ -1,5 +1,5 @@
 -- The JSON area of LUKS2: its text, and the value that it holds.
-use Rattle.std.specs.Prelude.{◌≡◌, ◌≢◌, ℕ, ◌<◌, List, ◌∷◌, ◌++◌, All, replicate, Some, None, IsUtf8}
+use Rattle.std.specs.Prelude.{◌≡◌, ◌≢◌, ℕ, ◌<◌, List, ◌∷◌, ◌++◌, All, replicate, codes, Some, None, IsUtf8}
 use Rattle.serde_json.specs.Data.{Data}
 use Rattle.serde_json.specs.Read.{read}
 use Rattle.luks_json.specs.declared.fault.JsonFault.{JsonFault}
@@ -33,3 +33,9 @@ abbrev pub IsJsonFault : List ℕ → JsonFault → Type 0
 IsJsonFault area fault.JsonArea = (text : List ℕ) → JsonText area text → ⊥
 IsJsonFault area fault.BadJson = IsBadJson area
 IsJsonFault area fault.Memory = (text : List ℕ) × JsonText area text
+
+-- how a fault is written
+abbrev pub fault_text : JsonFault → List ℕ
+fault_text fault.JsonArea = codes "JsonArea"
+fault_text fault.BadJson = codes "BadJson"
+fault_text fault.Memory = codes "Memory"

@@ -1,4 +1,5 @@
--- Arrays of names, and the members of maps.
+-- Arrays of names, and the members of maps: the steps over them. What they mean is said by the texts
+-- that an array has, in NameSets, and the law `arrays_hold_texts` says that the steps find that.
 use Rattle.std.specs.Prelude.{ℕ, ◌+◌, List, Bool, true, false, ◌&&◌, ◌||◌, if◌then◌else◌, Option, option_and_then, is_some}
 use Rattle.std.specs.Option.{option_map_or}
 use Rattle.std.specs.Str.{bytes_eq}

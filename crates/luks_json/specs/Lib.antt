@@ -4,4 +4,5 @@ pub mod Encoded
 pub mod Number
 pub mod Values
 pub mod Arrays
+pub mod NameSets
 pub mod Names

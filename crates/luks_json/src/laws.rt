@@ -1,7 +1,10 @@
 //! Laws on the definitions of this crate. Each function does nothing; its contract is the law.
 
-ghost use Rattle.std.specs.Prelude.{◌≡◌, ◌<◌, ◌⊎◌, ℕ, List, map, Option, Some};
-ghost use Rattle.serde_json.specs.Data.{Data};
+ghost use Rattle.std.specs.Prelude.{◌≡◌, ◌<◌, ◌⊎◌, ◌↔◌, ℕ, List, map, true, false, Option, Some, is_some, option_and_then};
+ghost use Rattle.serde_json.specs.Data.{Data, Items};
+ghost use Rattle.serde_json.specs.Find.{get};
+ghost use Rattle.luks_json.specs.Arrays.{all_there, has_repeat, has_text};
+ghost use Rattle.luks_json.specs.NameSets.{HasEachOnce, HasName};
 ghost use Rattle.luks_json.specs.AreaText.{IsBadJson, Json, JsonText};
 ghost use Rattle.luks_json.specs.Decimal.{IsDecimal, decimal_of};
 ghost use Rattle.luks_json.specs.Encoded.{IsBase64, encoded_of};
@@ -39,4 +42,13 @@ pub fn names_say_numbers()
     ensures told { (n : ℕ) → n < 32 → number_of (number_text n) ≡ Some n }
     ensures lists { (v : Option Data) (ns : List ℕ) → numbers_of_array v ≡ Some ns
         → texts_of v ≡ Some (map number_text ns) }
+{}
+
+/// What the steps over an array of names find is said by the texts that the array has: it has a text,
+/// each of its texts is the name of a member, each stands in it once.
+pub fn arrays_hold_texts()
+    ensures has { (t : List ℕ) (items : Items) → (has_text t items ≡ true) ↔ HasName items t }
+    ensures there { (map : Option Data) (items : Items) → (all_there map items ≡ true)
+        ↔ ((t : List ℕ) → HasName items t → is_some (option_and_then (get t) map) ≡ true) }
+    ensures once { (items : Items) → (has_repeat items ≡ false) ↔ HasEachOnce items }
 {}

@@ -19,7 +19,8 @@ pub use compact::compact_text_of;
 pub use decimal::decimal_value;
 pub use fault::JsonFault;
 pub use laws::{
-    decimals_say_numbers, encodings_say_bytes, names_say_numbers, one_kind_of_area, one_value,
+    arrays_hold_texts, decimals_say_numbers, encodings_say_bytes, names_say_numbers,
+    one_kind_of_area, one_value,
 };
 pub use name_list::numbers_in;
 pub use number::{number_named, number_text};

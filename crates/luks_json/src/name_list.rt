@@ -44,8 +44,5 @@ fn item_numbers(items: &Vec<Value>) -> Option<ArrayVec<u8, 32>>
 fn item_number(item: &Value) -> Option<u8>
     ensures { result ≡ option_and_then number_of (as_str (view item.now)) }
 {
-    match item.as_str() {
-        Some(text) => number_named(text),
-        None => None,
-    }
+    number_named(item.as_str()?)
 }

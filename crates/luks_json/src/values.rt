@@ -13,20 +13,14 @@ use serde_json::Value;
 pub fn text_in<'a>(value: Option<&'a Value>) -> Option<&'a str>
     ensures { option_map (λ s. s.now) result ≡ text_of (option_map (λ v. view v.now) value.entry) }
 {
-    match value {
-        Some(value) => value.as_str(),
-        None => None,
-    }
+    value?.as_str()
 }
 
 /// The whole number, not negative, that the value is.
 pub fn whole_number_in(value: Option<&Value>) -> Option<u64>
     ensures { result ≡ number_of (option_map (λ v. view v.now) value.entry) }
 {
-    match value {
-        Some(value) => value.as_u64(),
-        None => None,
-    }
+    value?.as_u64()
 }
 
 /// The number from `least` to `most` that the value is.
@@ -43,10 +37,7 @@ pub fn number_in(value: Option<&Value>, least: u64, most: u64) -> Option<u64>
 pub fn decimal_in(value: Option<&Value>) -> Option<u64>
     ensures { result ≡ decimal_in (option_map (λ v. view v.now) value.entry) }
 {
-    match text_in(value) {
-        Some(text) => decimal_value(text),
-        None => None,
-    }
+    decimal_value(text_in(value)?)
 }
 
 /// The `least` to `most` bytes whose base64 the value is.
@@ -54,10 +45,7 @@ pub fn bytes_in(value: Option<&Value>, least: u64, most: u64) -> Option<ArrayVec
     ensures { option_map (λ b. b.items) result
         ≡ bytes_in least most (option_map (λ v. view v.now) value.entry) }
 {
-    let bytes = match text_in(value) {
-        Some(text) => base64_bytes(text)?,
-        None => return None,
-    };
+    let bytes = base64_bytes(text_in(value)?)?;
     let length = bytes.len() as u64;
     if least <= length && length <= most {
         Some(bytes)

@@ -17,7 +17,7 @@ use Rattle.serde_json.proofs.Views.{Entry}
 use Rattle.luks_rules.specs.declared.table.Section.TheVariants.{Digests, Keyslots}
 use Rattle.luks_json.specs.Number.{number_of, number_text}
 use Rattle.luks_json.specs.Arrays.{all_named, names, naming_members, naming_count}
-use Rattle.luks_rules.specs.Faults.{object_at, section_at, has_section}
+use Rattle.luks_rules.specs.Faults.{object_at, section_at, is_section}
 use Rattle.luks_rules.specs.Accepted.{IsContent, IsMeta, HasObject}
 use Rattle.luks_meta.specs.Naming.{IsDigestOf, first_naming, IsUnique}
 
@@ -138,14 +138,14 @@ as_map (Some (string s)) ms k e = absurd (cc)
 as_map (Some (array ds)) ms k e = absurd (cc)
 as_map (Some (object os)) ms k e = ap (get_member k) (some_same os ms e)
 
-pub section_there : {A : Type 0} (f : A → Data) (r : Option A) (v : Option Data) → option_map f r ≡ v → has_section Digests v ≡ true → is_some r ≡ true
+pub section_there : {A : Type 0} (f : A → Data) (r : Option A) (v : Option Data) → option_map f r ≡ v → is_section Digests v ≡ true → is_some r ≡ true
 section_there f None v e h = absurd (false≢true (rw (← e) at h))
 section_there f (Some x) v e h = refl
 
-pub section_is : {A : Type 0} (f : A → Data) (r : Option A) (x : A) (v : Option Data) → option_map f r ≡ v → r ≡ Some x → has_section Digests v ≡ true → has_section Digests (Some (f x)) ≡ true
-section_is f r x v e u h = let same : Some (f x) ≡ v = rw u at e in let P : Option Data → Type 0 = λ o. has_section Digests o ≡ true in subst P (sym same) h
+pub section_is : {A : Type 0} (f : A → Data) (r : Option A) (x : A) (v : Option Data) → option_map f r ≡ v → r ≡ Some x → is_section Digests v ≡ true → is_section Digests (Some (f x)) ≡ true
+section_is f r x v e u h = let same : Some (f x) ≡ v = rw u at e in let P : Option Data → Type 0 = λ o. is_section Digests o ≡ true in subst P (sym same) h
 
-pub object_there : {A : Type 0} (f : A → Members) (r : Option A) (d : Data) → option_map f r ≡ as_object d → has_section Digests (Some d) ≡ true → is_some r ≡ true
+pub object_there : {A : Type 0} (f : A → Members) (r : Option A) (d : Data) → option_map f r ≡ as_object d → is_section Digests (Some d) ≡ true → is_some r ≡ true
 object_there f None d e h = absurd (false≢true (rw (← e) at h))
 object_there f (Some x) d e h = refl
 
@@ -163,7 +163,7 @@ pub named_by : (len : ℕ) (j : Data) (n : ℕ) (d : Data) (ms : Members) → Is
 named_by len j n d ms c h e alone =
     let held : HasObject j Keyslots n d = record { numbered = refl; named = h.0; is = h.1 } in
     let once : naming_count (codes "keyslots") (number_text n) (section_at j Digests) ≡ 1 = c.resolves.keyslots n d held in
-    let all : has_section Digests (section_at j Digests) ≡ true = c.sections Digests in
+    let all : is_section Digests (section_at j Digests) ≡ true = c.sections Digests in
     record {
       small = h.0;
       keyslot = rw h.1 refl;

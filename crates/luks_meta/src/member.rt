@@ -66,30 +66,24 @@ pub(crate) fn bytes_at(
 pub(crate) fn small_at(object: &Value, outer: Outer, name: Member) -> Option<u32>
     ensures { result ≡ number_in 1 4294967295 (member_at (view object.now) outer name) }
 {
-    match number_in(member_at(object, outer, name), 1, 4294967295) {
-        Some(n) => u32::try_from(n).ok(),
-        None => None,
-    }
+    let n = number_in(member_at(object, outer, name), 1, 4294967295)?;
+    u32::try_from(n).ok()
 }
 
 /// The length of a key, from 1 to 128, that the member is.
 pub(crate) fn key_size_at(object: &Value, outer: Outer) -> Option<u8>
     ensures { result ≡ number_in 1 128 (member_at (view object.now) outer Member.KeySize) }
 {
-    match number_in(member_at(object, outer, Member::KeySize), 1, 128) {
-        Some(n) => u8::try_from(n).ok(),
-        None => None,
-    }
+    let n = number_in(member_at(object, outer, Member::KeySize), 1, 128)?;
+    u8::try_from(n).ok()
 }
 
 /// The size of a sector, 512, 1024, 2048 or 4096, that the member is.
 pub(crate) fn sector_size_at(object: &Value) -> Option<u16>
     ensures { result ≡ option_and_then (kept is_sector_size) (number_of (member_at (view object.now) Outer.Top Member.SectorSize)) }
 {
-    match sector_size_in(member_at(object, Outer::Top, Member::SectorSize)) {
-        Some(n) => u16::try_from(n).ok(),
-        None => None,
-    }
+    let n = sector_size_in(member_at(object, Outer::Top, Member::SectorSize))?;
+    u16::try_from(n).ok()
 }
 
 /// The extent, a decimal text or `dynamic`, that the member `size` is.
@@ -100,10 +94,7 @@ pub(crate) fn extent_at(object: &Value) -> Option<Extent>
     if text == "dynamic" {
         return Some(Extent::Dynamic);
     }
-    match decimal_value(text) {
-        Some(n) => Some(Extent::Fixed(n)),
-        None => None,
-    }
+    Some(Extent::Fixed(decimal_value(text)?))
 }
 
 /// The priority, from 0 to 2, if there is one.
@@ -114,10 +105,8 @@ pub(crate) fn priority_at(object: &Value) -> Option<Option<u8>>
     if value.is_none() {
         return Some(None);
     }
-    match number_in(value, 0, 2) {
-        Some(n) => Some(Some(u8::try_from(n).ok()?)),
-        None => None,
-    }
+    let n = number_in(value, 0, 2)?;
+    Some(Some(u8::try_from(n).ok()?))
 }
 
 /// The numbers that the member, an array, names.

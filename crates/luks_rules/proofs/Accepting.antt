@@ -16,11 +16,12 @@ use Rattle.luks_rules.specs.declared.table.Row.{Row}
 use Rattle.luks_rules.specs.declared.place.Test.{Test}
 use Rattle.luks_rules.specs.declared.place.Test.TheVariants as test
 use Rattle.luks_rules.specs.Table.{config_rows, rows_of}
-use Rattle.luks_rules.specs.Reading.{decimal_in, is_foreign, number_in, reads}
-use Rattle.luks_rules.specs.Faults.{Among, covers, encloses, has_dangling, has_double, has_kind, has_section, has_shape, is_hidden_by, is_judged, object_at, object_fault, row_fault, section_at, value_at}
+use Rattle.luks_rules.specs.Reading.{decimal_in, is_unlisted, number_in, reads}
+use Rattle.luks_rules.specs.Faults.{Among, covers, encloses, names_absent_object, repeats_name, has_unlisted_type, is_section, breaks_rule, is_hidden_by, is_judged, object_at, object_fault, row_fault, section_at, value_at}
 use Rattle.luks_rules.specs.Walk.{place}
 use Rattle.luks_rules.specs.Accepted.{IsRead}
-use Rattle.luks_rules.specs.Sizes.{inside_at, is_outside, is_too_small, json_size, keyslots_size, region_start, sectors_of}
+use Rattle.luks_area.specs.Sectors.{rounded_to_sectors}
+use Rattle.luks_rules.specs.Sizes.{inside_at, is_outside, is_too_small, json_size, keyslots_size, region_start}
 use Rattle.luks_rules.specs.MetaFault.{IsFaultless}
 use Rattle.luks_rules.specs.Accepted.{HasObject, IsContent, Resolves}
 use Rattle.luks_json.specs.Arrays.{all_there, has_repeat}
@@ -69,13 +70,13 @@ encloses_top outer.Af = refl
 encloses_top outer.Area = refl
 encloses_top outer.Kdf = refl
 
-top_none : (rows : List Row) (d : Data) → ((r : Row) → Among r rows → has_kind rows d r ≡ false) → (r : Row) → Among r rows → r.outer ≡ outer.Top → is_foreign r.rule (value_at d r) ≡ false
+top_none : (rows : List Row) (d : Data) → ((r : Row) → Among r rows → has_unlisted_type rows d r ≡ false) → (r : Row) → Among r rows → r.outer ≡ outer.Top → is_unlisted r.rule (value_at d r) ≡ false
 top_none rows d kind r m top =
     let none : is_hidden_by encloses rows d r ≡ false = none_any _ rows (λ q k. rw (top, encloses_top q.outer) refl) in
     second _ _ (kind r m) none
 
-enclosed : (rows : List Row) (d : Data) → ((r : Row) → Among r rows → has_kind rows d r ≡ false) → (o : Outer) (q : Row) → Among q rows
-    → (p : Outer) → q.outer ≡ p → (encloses p o && is_foreign q.rule (value_at d q)) ≡ false
+enclosed : (rows : List Row) (d : Data) → ((r : Row) → Among r rows → has_unlisted_type rows d r ≡ false) → (o : Outer) (q : Row) → Among q rows
+    → (p : Outer) → q.outer ≡ p → (encloses p o && is_unlisted q.rule (value_at d q)) ≡ false
 enclosed rows d kind outer.Top q m outer.Top e = refl
 enclosed rows d kind outer.Af q m outer.Top e = top_none rows d kind q m e
 enclosed rows d kind outer.Area q m outer.Top e = top_none rows d kind q m e
@@ -84,7 +85,7 @@ enclosed rows d kind o q m outer.Af e = refl
 enclosed rows d kind o q m outer.Area e = refl
 enclosed rows d kind o q m outer.Kdf e = refl
 
-no_foreign : (rows : List Row) (d : Data) → ((r : Row) → Among r rows → has_kind rows d r ≡ false) → (r : Row) → Among r rows → is_foreign r.rule (value_at d r) ≡ false
+no_foreign : (rows : List Row) (d : Data) → ((r : Row) → Among r rows → has_unlisted_type rows d r ≡ false) → (r : Row) → Among r rows → is_unlisted r.rule (value_at d r) ≡ false
 no_foreign rows d kind r m =
     let none : is_hidden_by encloses rows d r ≡ false = none_any _ rows (λ q k. enclosed rows d kind r.outer q k q.outer refl) in
     second _ _ (kind r m) none
@@ -93,24 +94,24 @@ both_false : (a b : Bool) → b ≡ false → (a && b) ≡ false
 both_false true b e = e
 both_false false b e = refl
 
-row_read : (rows : List Row) (d : Data) → ((r : Row) → Among r rows → has_shape rows d r ≡ false) → ((r : Row) → Among r rows → has_kind rows d r ≡ false)
+row_read : (rows : List Row) (d : Data) → ((r : Row) → Among r rows → breaks_rule rows d r ≡ false) → ((r : Row) → Among r rows → has_unlisted_type rows d r ≡ false)
     → (r : Row) → Among r rows → is_judged d r ≡ true → is_some (reads r.rule (value_at d r)) ≡ true
 row_read rows d shape kind r m judged =
     let none : is_hidden_by covers rows d r ≡ false = none_any _ rows (λ q k. both_false (covers q.outer r.outer) _ (no_foreign rows d kind q k)) in
     middle _ _ _ (shape r m) judged none
 
-all_read : (rows : List Row) (d : Data) → is_some (as_object d) ≡ true → ((r : Row) → Among r rows → has_shape rows d r ≡ false)
-    → ((r : Row) → Among r rows → has_kind rows d r ≡ false) → IsRead rows d
+all_read : (rows : List Row) (d : Data) → is_some (as_object d) ≡ true → ((r : Row) → Among r rows → breaks_rule rows d r ≡ false)
+    → ((r : Row) → Among r rows → has_unlisted_type rows d r ≡ false) → IsRead rows d
 all_read rows d is shape kind = record { is_object = is; each = λ i r e judged. row_read rows d shape kind r (among_at rows i r e) judged }
 
 -- ---- what single tests say
 
 names_found : (j : Data) (target : Section) (list : Items) (r : Rule) (v : Option Data) → r ≡ rule.Names target → option_and_then as_array v ≡ Some list
-    → has_dangling j r v ≡ false → all_there (section_at j target) list ≡ true
+    → names_absent_object j r v ≡ false → all_there (section_at j target) list ≡ true
 names_found j target list r v speaks is off = not_false _ (rw (speaks, is) at off)
 
 names_once : (target : Section) (list : Items) (r : Rule) (v : Option Data) → r ≡ rule.Names target → option_and_then as_array v ≡ Some list
-    → has_double r v ≡ false → has_repeat list ≡ false
+    → repeats_name r v ≡ false → has_repeat list ≡ false
 names_once target list r v speaks is off = rw (speaks, is) at off
 
 size_is : (o : Option ℕ) (len : ℕ) → option_map_or (λ n. not (n == len)) o true ≡ false → o ≡ Some len
@@ -139,7 +140,7 @@ module _ (len : ℕ) (j : Data) (f : IsFaultless len j) where
       let no : option_map_or (object_fault t j s n) (object_at j s n) false ≡ false = f.places t (place s (Some n) None) (h.numbered, h.named) in
       rw h.is at no
 
-  sections_there : (s : Section) → has_section s (section_at j s) ≡ true
+  sections_there : (s : Section) → is_section s (section_at j s) ≡ true
   sections_there s = not_false _ (f.places test.Shape (place s None None) tt)
 
   config_read : (d : Data) → section_at j Config ≡ Some d → IsRead config_rows d
@@ -163,7 +164,7 @@ module _ (len : ℕ) (j : Data) (f : IsFaultless len j) where
       → number_in 1 128 (inside_at outer.Top (codes "key_size") d) ≡ Some key
       → number_in 1 4294967295 (inside_at outer.Af (codes "stripes") d) ≡ Some stripes
       → decimal_in (inside_at outer.Area (codes "size") d) ≡ Some size
-      → sectors_of (key * stripes) ≤ size
+      → rounded_to_sectors (key * stripes) ≤ size
   large_enough n d key stripes size h k s z =
       let off : option_map_or is_too_small (object_at j Keyslots n) false ≡ false = f.areas n h.named in
       ltb-false size _ (rw (h.is, z, k, s) at off)

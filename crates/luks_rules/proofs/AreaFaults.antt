@@ -12,7 +12,7 @@ use Rattle.luks_area.specs.declared.area.AreaName.TheVariants.{Head1, Head2, Slo
 use Rattle.luks_rules.specs.declared.place.Test.{Test}
 use Rattle.luks_rules.specs.declared.place.Test.TheVariants as test
 use Rattle.luks_rules.specs.Faults.{has_fault}
-use Rattle.luks_rules.specs.Sizes.{has_sizes, has_slot_outside, has_small_area}
+use Rattle.luks_rules.specs.Sizes.{has_other_size, has_slot_outside, has_small_area}
 use Rattle.luks_rules.specs.Accepted.{IsMeta}
 use Rattle.luks_rules.proofs.Refusing.{faultless_of}
 use Rattle.luks_rules.specs.MetaFault.{HasDataFault, HasPath, IsDataFault, IsFaultless, IsMetaFault, meta_key, of_json}
@@ -77,7 +77,7 @@ data_none len j f (fault.Shape path) h = path_none len j f test.Shape path.bytes
 data_none len j f (fault.Kind path) h = path_none len j f test.Kind path.bytes h
 data_none len j f (fault.NoSuchName path) h = path_none len j f test.NoSuchName path.bytes h
 data_none len j f (fault.Assigned path) h = path_none len j f test.Assigned path.bytes h
-data_none len j f fault.Sizes h = let off : has_sizes len j ≡ false = f.sizes in cc
+data_none len j f fault.Sizes h = let off : has_other_size len j ≡ false = f.sizes in cc
 data_none len j f (fault.AreaTooSmall n) h = let off : has_small_area j n ≡ false = f.areas n h.0 in let on : has_small_area j n ≡ true = h.1 in cc
 data_none len j f (fault.Region Head1) h = h
 data_none len j f (fault.Region Head2) h = h

@@ -18,10 +18,11 @@ use Rattle.luks_rules.specs.declared.table.Row.{Row}
 use Rattle.luks_rules.specs.declared.place.Test.{Test}
 use Rattle.luks_rules.specs.declared.place.Test.TheVariants as test
 use Rattle.luks_rules.specs.Table.{config_rows, member_name, rows_of}
-use Rattle.luks_rules.specs.Reading.{decimal_in, is_foreign, is_listed, kept, number_in, reads, text, text_of}
-use Rattle.luks_rules.specs.Faults.{Among, HasPlace, fault_at, has_dangling, has_double, has_no_digest, is_judged, object_at, object_fault, outer_at, row_fault, section_at, suits, type_at, value_at}
+use Rattle.luks_rules.specs.Reading.{decimal_in, is_unlisted, is_listed, kept, number_in, reads, text, text_of}
+use Rattle.luks_rules.specs.Faults.{Among, HasPlace, fault_at, names_absent_object, repeats_name, has_no_digest, is_judged, object_at, object_fault, outer_at, row_fault, section_at, suits, type_at, value_at}
 use Rattle.luks_rules.specs.Accepted.{IsRead}
-use Rattle.luks_rules.specs.Sizes.{has_slot_outside, has_small_area, inside_at, keyslots_size, region_start, sectors_of}
+use Rattle.luks_area.specs.Sectors.{rounded_to_sectors}
+use Rattle.luks_rules.specs.Sizes.{has_slot_outside, has_small_area, inside_at, keyslots_size, region_start}
 use Rattle.luks_rules.specs.MetaFault.{IsFaultless}
 use Rattle.luks_rules.specs.Accepted.{HasObject, IsContent}
 use Rattle.luks_json.specs.Arrays.{all_there, has_repeat}
@@ -92,7 +93,7 @@ all_among f (x ∷ xs) h r m = let p = and_parts _ _ h in elim m [ inl e ↦ rw 
 
 foreign_off : (u : Rule) (w : When) (o : Option Data) (k : List ℕ) (t : Option (List ℕ)) → type_always u w ≡ true
     → ((is_some (option_and_then as_object o) && suits w t) ≡ true → is_some (reads u (option_and_then (get k) o)) ≡ true)
-    → is_foreign u (option_and_then (get k) o) ≡ false
+    → is_unlisted u (option_and_then (get k) o) ≡ false
 foreign_off (rule.Type l) when.Always o k t a h = elim (judged_or o k) [
   | inl is ↦ type_listed l (text_of (option_and_then (get k) o)) (h (rw is refl))
   | inr none ↦ rw none refl
@@ -107,11 +108,11 @@ foreign_off u w o k t a h = refl
 abbrev Speaks : Rule → Option Data → (Section → Items → Type 0) → Type 0
 Speaks u v P = (target : Section) (list : Items) → u ≡ rule.Names target → option_and_then as_array v ≡ Some list → P target list
 
-dangling_off : (j : Data) (u : Rule) (v : Option Data) → Speaks u v (λ target list. all_there (section_at j target) list ≡ true) → has_dangling j u v ≡ false
+dangling_off : (j : Data) (u : Rule) (v : Option Data) → Speaks u v (λ target list. all_there (section_at j target) list ≡ true) → names_absent_object j u v ≡ false
 dangling_off j (rule.Names target) v h = by_option (option_and_then as_array v) _ (λ list e. rw (h target list refl e) refl)
 dangling_off j u v h = refl
 
-double_off : (u : Rule) (v : Option Data) → Speaks u v (λ target list. has_repeat list ≡ false) → has_double u v ≡ false
+double_off : (u : Rule) (v : Option Data) → Speaks u v (λ target list. has_repeat list ≡ false) → repeats_name u v ≡ false
 double_off (rule.Names target) v h = by_option (option_and_then as_array v) _ (λ list e. h target list refl e)
 double_off u v h = refl
 
@@ -184,7 +185,7 @@ module _ (len : ℕ) (j : Data) (c : IsContent len j) where
   small_off : (n : ℕ) → n < 32 → has_small_area j n ≡ false
   small_off n lt = by_option (object_at j Keyslots n) _ (λ d e. by_option (decimal_in (inside_at outer.Area (codes "size") d)) _ (λ size z.
       by_option (number_in 1 128 (inside_at outer.Top (codes "key_size") d)) _ (λ key k. by_option (number_in 1 4294967295 (inside_at outer.Af (codes "stripes") d)) _ (λ stripes s.
-      le-ltb size (sectors_of (key * stripes)) (c.large n d key stripes size (record { numbered = refl; named = lt; is = e }) k s z)))))
+      le-ltb size (rounded_to_sectors (key * stripes)) (c.large n d key stripes size (record { numbered = refl; named = lt; is = e }) k s z)))))
 
   outside_off : (n : ℕ) → n < 32 → has_slot_outside len j n ≡ false
   outside_off n lt = by_option (object_at j Keyslots n) _ (λ d e. by_option (keyslots_size j) _ (λ bytes b.

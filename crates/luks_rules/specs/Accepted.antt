@@ -13,8 +13,9 @@ use Rattle.luks_rules.specs.Table.{config_rows, rows_of}
 use Rattle.luks_json.specs.Number.{number_text}
 use Rattle.luks_rules.specs.Reading.{number_in, decimal_in, reads}
 use Rattle.luks_json.specs.Arrays.{all_there, has_repeat, naming_count}
-use Rattle.luks_rules.specs.Faults.{Among, has_section, is_judged, is_numbered, object_at, section_at, suits, type_at, value_at}
-use Rattle.luks_rules.specs.Sizes.{inside_at, json_size, keyslots_size, region_start, sectors_of}
+use Rattle.luks_rules.specs.Faults.{Among, is_section, is_judged, is_numbered, object_at, section_at, suits, type_at, value_at}
+use Rattle.luks_area.specs.Sectors.{rounded_to_sectors}
+use Rattle.luks_rules.specs.Sizes.{inside_at, json_size, keyslots_size, region_start}
 use Rattle.luks_rules.specs.MetaFault.{Json}
 
 -- it is an object, and each row that is judged meets its rule.
@@ -52,7 +53,7 @@ pub record Resolves (j : Data) : Type 0 where
 pub record IsContent (len : ℕ) (j : Data) : Type 0 where
   pub whole : has_float j ≡ false
   -- the sections are objects; the members of all but `config` are named by numbers
-  pub sections : (s : Section) → has_section s (section_at j s) ≡ true
+  pub sections : (s : Section) → is_section s (section_at j s) ≡ true
   pub config : (d : Data) → section_at j Config ≡ Some d → IsRead config_rows d
   pub objects : (s : Section) (n : ℕ) (d : Data) → HasObject j s n d → IsRead (rows_of s) d
   pub resolves : Resolves j
@@ -61,7 +62,7 @@ pub record IsContent (len : ℕ) (j : Data) : Type 0 where
       → number_in 1 128 (inside_at outer.Top (codes "key_size") d) ≡ Some key
       → number_in 1 4294967295 (inside_at outer.Af (codes "stripes") d) ≡ Some stripes
       → decimal_in (inside_at outer.Area (codes "size") d) ≡ Some size
-      → sectors_of (key * stripes) ≤ size
+      → rounded_to_sectors (key * stripes) ≤ size
   pub within : (n : ℕ) (d : Data) (bytes start size : ℕ) → HasObject j Keyslots n d
       → keyslots_size j ≡ Some bytes
       → decimal_in (inside_at outer.Area (codes "offset") d) ≡ Some start

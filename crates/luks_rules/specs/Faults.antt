@@ -19,7 +19,7 @@ use Rattle.luks_rules.specs.declared.place.Place.{Place}
 use Rattle.luks_rules.specs.declared.place.Test.{Test}
 use Rattle.luks_rules.specs.declared.place.Test.TheVariants as test
 use Rattle.luks_rules.specs.Table.{section_name, member_name, rows_of}
-use Rattle.luks_rules.specs.Reading.{reads, is_foreign, text_of}
+use Rattle.luks_rules.specs.Reading.{reads, is_unlisted, text_of}
 use Rattle.luks_json.specs.Number.{number_text}
 use Rattle.luks_json.specs.Arrays.{all_named, all_there, has_repeat, naming_count}
 
@@ -87,49 +87,49 @@ encloses outer.Area o = false
 encloses outer.Kdf o = false
 
 abbrev pub is_hidden_by : (Outer → Outer → Bool) → List Row → Data → Row → Bool
-is_hidden_by around rows d r = list_any (λ q. around q.outer r.outer && is_foreign q.rule (value_at d q)) rows
+is_hidden_by around rows d r = list_any (λ q. around q.outer r.outer && is_unlisted q.rule (value_at d q)) rows
 
 -- ---- what is wrong at a row of an object `d`, whose section has the rows `rows`
 
 -- the member breaks its rule
-abbrev pub has_shape : List Row → Data → Row → Bool
-has_shape rows d r = is_judged d r && not (is_some (reads r.rule (value_at d r))) && not (is_hidden_by covers rows d r)
+abbrev pub breaks_rule : List Row → Data → Row → Bool
+breaks_rule rows d r = is_judged d r && not (is_some (reads r.rule (value_at d r))) && not (is_hidden_by covers rows d r)
 
 -- the member is a type that isn't listed
-abbrev pub has_kind : List Row → Data → Row → Bool
-has_kind rows d r = is_foreign r.rule (value_at d r) && not (is_hidden_by encloses rows d r)
+abbrev pub has_unlisted_type : List Row → Data → Row → Bool
+has_unlisted_type rows d r = is_unlisted r.rule (value_at d r) && not (is_hidden_by encloses rows d r)
 
 -- the member is an array with the name of an object that isn't there
-abbrev pub has_dangling : Data → Rule → Option Data → Bool
-has_dangling j (rule.Names s) v = option_map_or (λ items. not (all_there (section_at j s) items)) (option_and_then as_array v) false
-has_dangling j rule.Object v = false
-has_dangling j rule.Text v = false
-has_dangling j (rule.Type l) v = false
-has_dangling j (rule.Number least most) v = false
-has_dangling j (rule.MayBeNumber least most) v = false
-has_dangling j rule.SectorSize v = false
-has_dangling j rule.Decimal v = false
-has_dangling j rule.DecimalOrDynamic v = false
-has_dangling j (rule.Base64 least most) v = false
+abbrev pub names_absent_object : Data → Rule → Option Data → Bool
+names_absent_object j (rule.Names s) v = option_map_or (λ items. not (all_there (section_at j s) items)) (option_and_then as_array v) false
+names_absent_object j rule.Object v = false
+names_absent_object j rule.Text v = false
+names_absent_object j (rule.Type l) v = false
+names_absent_object j (rule.Number least most) v = false
+names_absent_object j (rule.MayBeNumber least most) v = false
+names_absent_object j rule.SectorSize v = false
+names_absent_object j rule.Decimal v = false
+names_absent_object j rule.DecimalOrDynamic v = false
+names_absent_object j (rule.Base64 least most) v = false
 
 -- the member is an array that has a text twice
-abbrev pub has_double : Rule → Option Data → Bool
-has_double (rule.Names s) v = option_map_or has_repeat (option_and_then as_array v) false
-has_double rule.Object v = false
-has_double rule.Text v = false
-has_double (rule.Type l) v = false
-has_double (rule.Number least most) v = false
-has_double (rule.MayBeNumber least most) v = false
-has_double rule.SectorSize v = false
-has_double rule.Decimal v = false
-has_double rule.DecimalOrDynamic v = false
-has_double (rule.Base64 least most) v = false
+abbrev pub repeats_name : Rule → Option Data → Bool
+repeats_name (rule.Names s) v = option_map_or has_repeat (option_and_then as_array v) false
+repeats_name rule.Object v = false
+repeats_name rule.Text v = false
+repeats_name (rule.Type l) v = false
+repeats_name (rule.Number least most) v = false
+repeats_name (rule.MayBeNumber least most) v = false
+repeats_name rule.SectorSize v = false
+repeats_name rule.Decimal v = false
+repeats_name rule.DecimalOrDynamic v = false
+repeats_name (rule.Base64 least most) v = false
 
 abbrev pub row_fault : Test → List Row → Data → Data → Row → Bool
-row_fault test.Shape rows j d r = has_shape rows d r
-row_fault test.Kind rows j d r = has_kind rows d r
-row_fault test.NoSuchName rows j d r = has_dangling j r.rule (value_at d r)
-row_fault test.Assigned rows j d r = has_double r.rule (value_at d r)
+row_fault test.Shape rows j d r = breaks_rule rows d r
+row_fault test.Kind rows j d r = has_unlisted_type rows d r
+row_fault test.NoSuchName rows j d r = names_absent_object j r.rule (value_at d r)
+row_fault test.Assigned rows j d r = repeats_name r.rule (value_at d r)
 
 -- ---- what is wrong at an object, and at a section
 
@@ -151,16 +151,16 @@ object_fault test.Kind j s n d = false
 object_fault test.NoSuchName j s n d = false
 object_fault test.Assigned j s n d = has_no_digest j s n d
 
--- the section is missing, no object, or has a member whose name is no name
-abbrev pub has_section : Section → Option Data → Bool
-has_section Config v = is_some (option_and_then as_object v)
-has_section Digests v = option_map_or all_named (option_and_then as_object v) false
-has_section Keyslots v = option_map_or all_named (option_and_then as_object v) false
-has_section Segments v = option_map_or all_named (option_and_then as_object v) false
-has_section Tokens v = option_map_or all_named (option_and_then as_object v) false
+-- the section is an object, and but for `config` the name of each member is a name
+abbrev pub is_section : Section → Option Data → Bool
+is_section Config v = is_some (option_and_then as_object v)
+is_section Digests v = option_map_or all_named (option_and_then as_object v) false
+is_section Keyslots v = option_map_or all_named (option_and_then as_object v) false
+is_section Segments v = option_map_or all_named (option_and_then as_object v) false
+is_section Tokens v = option_map_or all_named (option_and_then as_object v) false
 
 abbrev pub section_fault : Test → Data → Section → Bool
-section_fault test.Shape j s = not (has_section s (section_at j s))
+section_fault test.Shape j s = not (is_section s (section_at j s))
 section_fault test.Kind j s = false
 section_fault test.NoSuchName j s = false
 section_fault test.Assigned j s = false

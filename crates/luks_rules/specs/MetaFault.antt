@@ -1,10 +1,12 @@
 -- The faults of a JSON area, and their order: by row, among paths by the order of their bytes,
 -- among objects by number.
-use Rattle.std.specs.Prelude.{◌≡◌, ℕ, ◌<◌, List, [], ◌∷◌, length, true, false}
+use Rattle.std.specs.Fmt.{decimal}
+use Rattle.std.specs.Prelude.{codes, ◌++◌, ◌≡◌, ℕ, ◌<◌, List, [], ◌∷◌, length, true, false}
 use Rattle.serde_json.specs.Data.{Data}
 use Rattle.serde_json.specs.Written.{has_float}
 use Rattle.arrayvec.specs.declared.array_string.ArrayString.{ArrayString}
 use Rattle.luks_area.specs.Area.{name_key}
+use Rattle.luks_area.specs.Printed.{name_text}
 use Rattle.luks_area.specs.declared.area.AreaName.TheVariants.{Head1, Head2, Slot, Segment}
 use Rattle.luks_json.specs.declared.fault.JsonFault.{JsonFault}
 use Rattle.luks_json.specs.declared.fault.JsonFault.TheVariants as json
@@ -15,7 +17,7 @@ use Rattle.luks_rules.specs.declared.place.Test.{Test}
 use Rattle.luks_rules.specs.declared.place.Test.TheVariants as test
 pub use Rattle.luks_json.specs.AreaText.{JsonText, Json, IsBadJson}
 use Rattle.luks_rules.specs.Faults.{IsFaulty, IsPlace, has_fault, place_path}
-use Rattle.luks_rules.specs.Sizes.{has_sizes, has_small_area, has_slot_outside}
+use Rattle.luks_rules.specs.Sizes.{has_other_size, has_small_area, has_slot_outside}
 
 -- a place with the path where the test finds a fault
 pub record HasPath (t : Test) (j : Data) (path : List ℕ) : Type 0 where
@@ -32,7 +34,7 @@ IsDataFault len j (fault.Shape path) = HasPath test.Shape j path.bytes
 IsDataFault len j (fault.Kind path) = HasPath test.Kind j path.bytes
 IsDataFault len j (fault.NoSuchName path) = HasPath test.NoSuchName j path.bytes
 IsDataFault len j (fault.Assigned path) = HasPath test.Assigned j path.bytes
-IsDataFault len j fault.Sizes = has_sizes len j ≡ true
+IsDataFault len j fault.Sizes = has_other_size len j ≡ true
 IsDataFault len j (fault.AreaTooSmall n) = (n < 32) × (has_small_area j n ≡ true)
 IsDataFault len j (fault.Region Head1) = ⊥
 IsDataFault len j (fault.Region Head2) = ⊥
@@ -105,7 +107,7 @@ fault_of test.Assigned path = fault.Assigned path
 pub record IsFaultless (len : ℕ) (j : Data) : Type 0 where
   pub whole : has_float j ≡ false
   pub places : (t : Test) (p : Place) → IsPlace p → has_fault t j p ≡ false
-  pub sizes : has_sizes len j ≡ false
+  pub sizes : has_other_size len j ≡ false
   pub areas : (n : ℕ) → n < 32 → has_small_area j n ≡ false
   pub region : (n : ℕ) → n < 32 → has_slot_outside len j n ≡ false
 
@@ -114,3 +116,17 @@ abbrev pub of_json : JsonFault → MetaFault
 of_json json.JsonArea = fault.JsonArea
 of_json json.BadJson = fault.BadJson
 of_json json.Memory = fault.Memory
+
+-- how a fault is written
+abbrev pub fault_text : MetaFault → List ℕ
+fault_text fault.JsonArea = codes "JsonArea"
+fault_text fault.BadJson = codes "BadJson"
+fault_text fault.NotWhole = codes "NotWhole"
+fault_text (fault.Shape path) = codes "Shape(" ++ path.bytes ++ codes ")"
+fault_text (fault.Kind path) = codes "Kind(" ++ path.bytes ++ codes ")"
+fault_text (fault.NoSuchName path) = codes "NoSuchName(" ++ path.bytes ++ codes ")"
+fault_text (fault.Assigned path) = codes "Assigned(" ++ path.bytes ++ codes ")"
+fault_text fault.Sizes = codes "Sizes"
+fault_text (fault.AreaTooSmall n) = codes "AreaTooSmall(" ++ decimal n ++ codes ")"
+fault_text (fault.Region name) = codes "Region(" ++ name_text name ++ codes ")"
+fault_text fault.Memory = codes "Memory"

@@ -47,14 +47,14 @@ reads (rule.Base64 least most) v = option_map bytes (bytes_in least most v)
 reads (rule.Names s) v = option_map names (texts_of v)
 
 -- the value is a text that the rule's list of types doesn't have
-abbrev pub is_foreign : Rule → Option Data → Bool
-is_foreign (rule.Type l) v = option_map_or (λ t. not (is_listed l t)) (text_of v) false
-is_foreign rule.Object v = false
-is_foreign rule.Text v = false
-is_foreign (rule.Number least most) v = false
-is_foreign (rule.MayBeNumber least most) v = false
-is_foreign rule.SectorSize v = false
-is_foreign rule.Decimal v = false
-is_foreign rule.DecimalOrDynamic v = false
-is_foreign (rule.Base64 least most) v = false
-is_foreign (rule.Names s) v = false
+abbrev pub is_unlisted : Rule → Option Data → Bool
+is_unlisted (rule.Type l) v = option_map_or (λ t. not (is_listed l t)) (text_of v) false
+is_unlisted rule.Object v = false
+is_unlisted rule.Text v = false
+is_unlisted (rule.Number least most) v = false
+is_unlisted (rule.MayBeNumber least most) v = false
+is_unlisted rule.SectorSize v = false
+is_unlisted rule.Decimal v = false
+is_unlisted rule.DecimalOrDynamic v = false
+is_unlisted (rule.Base64 least most) v = false
+is_unlisted (rule.Names s) v = false

@@ -10,7 +10,8 @@ ghost use Rattle.luks_rules.specs.Held.{IsHeld};
 ghost use Rattle.luks_rules.specs.MetaFault.{IsMetaFault, meta_key};
 
 use crate::fault::MetaFault;
-use crate::judging::{Content, judge};
+use crate::judging::judge;
+use crate::place::Content;
 use luks_json::{one_kind_of_area, one_value, read_json};
 use serde_json::Value;
 use std::alloc::Global;

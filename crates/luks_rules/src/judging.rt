@@ -7,18 +7,17 @@ ghost use Rattle.luks_rules.specs.declared.fault.MetaFault.{MetaFault};
 ghost use Rattle.serde_json.specs.Written.{has_float};
 ghost use Rattle.luks_rules.specs.declared.place.Place.{Place};
 ghost use Rattle.luks_rules.specs.Faults.{has_fault, IsPlace};
-ghost use Rattle.luks_rules.specs.Sizes.{has_sizes, has_slot_outside, has_small_area};
+ghost use Rattle.luks_rules.specs.Sizes.{has_other_size, has_slot_outside, has_small_area};
 ghost use Rattle.luks_rules.specs.MetaFault.{IsDataFault, IsFaultless, fault_of, meta_key, meta_place, meta_row, test_row};
 
 use crate::fault::MetaFault;
 use crate::path::place_path;
-use crate::place::Test;
-use crate::sizes::{first_slot_outside, first_small_area, has_sizes};
+use crate::place::{Content, SizeTest, Test};
+use crate::sizes::{first_size_fault, has_other_size};
 use crate::walk::first_fault;
 use arrayvec::ArrayString;
 use luks_area::AreaName;
 use luks_json::holds_float;
-use serde_json::Value;
 
 fn fault_of(test: Test, path: ArrayString<32>) -> MetaFault
     ensures { result ≡ fault_of test path }
@@ -29,13 +28,6 @@ fn fault_of(test: Test, path: ArrayString<32>) -> MetaFault
         Test::NoSuchName => MetaFault::NoSuchName(path),
         Test::Assigned => MetaFault::Assigned(path),
     }
-}
-
-/// A value, and the length in bytes of the JSON area that it stands in.
-#[derive(Clone, Copy)]
-pub(crate) struct Content<'a> {
-    pub len: usize,
-    pub value: &'a Value,
 }
 
 fn judge_paths(content: Content, test: Test) -> Result<(), MetaFault>
@@ -59,10 +51,10 @@ fn judge_numbers(content: Content) -> Result<(), MetaFault>
 }
 
 fn judge_sizes(content: Content) -> Result<(), MetaFault>
-    ensures clean { OnOk result (has_sizes content.entry.len (view content.entry.value.now) ≡ false) }
+    ensures clean { OnOk result (has_other_size content.entry.len (view content.entry.value.now) ≡ false) }
     ensures row { JudgesRow meta_row meta_place (IsDataFault content.entry.len (view content.entry.value.now)) 8 result }
 {
-    if has_sizes(content.len, content.value) {
+    if has_other_size(content) {
         return Err(MetaFault::Sizes);
     }
     Ok(())
@@ -72,7 +64,7 @@ fn judge_areas(content: Content) -> Result<(), MetaFault>
     ensures clean { OnOk result ((n : ℕ) → n < 32 → has_small_area (view content.entry.value.now) n ≡ false) }
     ensures row { JudgesRow meta_row meta_place (IsDataFault content.entry.len (view content.entry.value.now)) 9 result }
 {
-    match first_small_area(content.value) {
+    match first_size_fault(SizeTest::SmallArea, content) {
         Some(number) => Err(MetaFault::AreaTooSmall(number)),
         None => Ok(()),
     }
@@ -82,7 +74,7 @@ fn judge_region(content: Content) -> Result<(), MetaFault>
     ensures clean { OnOk result ((n : ℕ) → n < 32 → has_slot_outside content.entry.len (view content.entry.value.now) n ≡ false) }
     ensures row { JudgesRow meta_row meta_place (IsDataFault content.entry.len (view content.entry.value.now)) 10 result }
 {
-    match first_slot_outside(content.len, content.value) {
+    match first_size_fault(SizeTest::SlotOutside, content) {
         Some(number) => Err(MetaFault::Region(AreaName::Slot(number))),
         None => Ok(()),
     }

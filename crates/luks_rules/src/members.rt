@@ -31,10 +31,7 @@ pub fn outer_at(object: &Value, outer: Outer) -> Option<&Value>
 pub fn member_at(object: &Value, outer: Outer, name: Member) -> Option<&Value>
     ensures { option_map (λ v. view v.now) result ≡ member_at (view object.now) outer name }
 {
-    match outer_at(object, outer) {
-        Some(home) => home.get(member_name(name)),
-        None => None,
-    }
+    outer_at(object, outer)?.get(member_name(name))
 }
 
 /// The value of a row's member.
@@ -48,10 +45,7 @@ pub(crate) fn value_at<'a>(object: &'a Value, row: &Row) -> Option<&'a Value>
 pub fn type_at(object: &Value, outer: Outer) -> Option<&str>
     ensures { option_map (λ t. t.now) result ≡ type_at (view object.now) outer }
 {
-    match outer_at(object, outer) {
-        Some(home) => text_in(home.get("type")),
-        None => None,
-    }
+    text_in(outer_at(object, outer)?.get("type"))
 }
 
 /// The object of a section with the number as its name.
@@ -59,8 +53,5 @@ pub fn object_at(value: &Value, section: Section, number: u8) -> Option<&Value>
     requires { number < 32 }
     ensures { option_map (λ v. view v.now) result ≡ object_at (view value.now) section number }
 {
-    match section_at(value, section) {
-        Some(objects) => objects.get(number_text(number)),
-        None => None,
-    }
+    section_at(value, section)?.get(number_text(number))
 }

@@ -1,6 +1,14 @@
-//! Places in the metadata, and the tests of a place.
+//! Places in the metadata, and the tests of a value and of a place.
 
 use crate::table::{Row, Section};
+use serde_json::Value;
+
+/// A value, and the length in bytes of the JSON area that it stands in.
+#[derive(Clone, Copy)]
+pub(crate) struct Content<'a> {
+    pub len: usize,
+    pub value: &'a Value,
+}
 
 /// A section, an object of it with a number as its name, or a member of the one or the other.
 #[derive(Clone, Copy)]
@@ -17,4 +25,12 @@ pub(crate) enum Test {
     Kind,
     NoSuchName,
     Assigned,
+}
+
+/// What may be wrong with the sizes that an object tells.
+#[derive(Clone, Copy)]
+pub(crate) enum SizeTest {
+    SmallArea,
+    SlotOutside,
+    SegmentBelow,
 }

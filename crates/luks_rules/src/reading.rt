@@ -2,7 +2,7 @@
 
 ghost use Rattle.std.specs.Prelude.{◌≡◌, Some, None, ◌&&◌, length, nat_le, option_map, option_and_then, is_some, Bool};
 ghost use Rattle.serde_json.specs.View.{view, items_view};
-ghost use Rattle.luks_rules.specs.Reading.{reads, is_foreign, is_listed, is_between, is_sector_size, text_of, number_of, number_in, decimal_in, bytes_in, texts_of, item_texts, extent_of, kept};
+ghost use Rattle.luks_rules.specs.Reading.{reads, is_unlisted, is_listed, is_between, is_sector_size, text_of, number_of, number_in, decimal_in, bytes_in, texts_of, item_texts, extent_of, kept};
 
 use crate::table::{Listed, Rule};
 use luks_json::{
@@ -82,8 +82,8 @@ pub(crate) fn meets(rule: Rule, value: Option<&Value>) -> bool
 }
 
 /// The value is a text that the rule's list of types doesn't have.
-pub(crate) fn is_foreign(rule: Rule, value: Option<&Value>) -> bool
-    ensures { result ≡ is_foreign rule (option_map (λ v. view v.now) value.entry) }
+pub(crate) fn is_unlisted(rule: Rule, value: Option<&Value>) -> bool
+    ensures { result ≡ is_unlisted rule (option_map (λ v. view v.now) value.entry) }
 {
     match rule {
         Rule::Type(listed) => match text_in(value) {

@@ -2,11 +2,11 @@
 
 ghost use Rattle.std.specs.Prelude.{◌≡◌, ◌<◌, option_map};
 ghost use Rattle.serde_json.specs.View.{view};
-ghost use Rattle.luks_rules.specs.Faults.{covers, encloses, has_dangling, has_double, has_kind, has_no_digest, has_section, has_shape, is_hidden_by, is_judged, object_fault, row_fault, section_fault, suits};
+ghost use Rattle.luks_rules.specs.Faults.{covers, encloses, names_absent_object, repeats_name, has_unlisted_type, has_no_digest, is_section, breaks_rule, is_hidden_by, is_judged, object_fault, row_fault, section_fault, suits};
 
 use crate::members::{outer_at, section_at, type_at, value_at};
 use crate::place::Test;
-use crate::reading::{is_foreign, meets};
+use crate::reading::{is_unlisted, meets};
 use crate::table::{Outer, Row, Rule, Section, When};
 use luks_json::{all_there, are_named, has_repeat, is_named_once, number_text};
 use serde_json::Value;
@@ -60,32 +60,32 @@ fn is_covered(rows: &[Row], object: &Value, row: &Row) -> bool
     ensures { result ≡ is_hidden_by covers rows.now (view object.now) row.now }
 {
     rows.iter().any(|other| covers(other.outer, row.outer)
-        && is_foreign(other.rule, value_at(object, other)))
+        && is_unlisted(other.rule, value_at(object, other)))
 }
 
 fn is_enclosed(rows: &[Row], object: &Value, row: &Row) -> bool
     ensures { result ≡ is_hidden_by encloses rows.now (view object.now) row.now }
 {
     rows.iter().any(|other| encloses(other.outer, row.outer)
-        && is_foreign(other.rule, value_at(object, other)))
+        && is_unlisted(other.rule, value_at(object, other)))
 }
 
-fn has_shape(rows: &[Row], object: &Value, row: &Row) -> bool
-    ensures { result ≡ has_shape rows.now (view object.now) row.now }
+fn breaks_rule(rows: &[Row], object: &Value, row: &Row) -> bool
+    ensures { result ≡ breaks_rule rows.now (view object.now) row.now }
 {
     is_judged(object, row)
         && !meets(row.rule, value_at(object, row))
         && !is_covered(rows, object, row)
 }
 
-fn has_kind(rows: &[Row], object: &Value, row: &Row) -> bool
-    ensures { result ≡ has_kind rows.now (view object.now) row.now }
+fn has_unlisted_type(rows: &[Row], object: &Value, row: &Row) -> bool
+    ensures { result ≡ has_unlisted_type rows.now (view object.now) row.now }
 {
-    is_foreign(row.rule, value_at(object, row)) && !is_enclosed(rows, object, row)
+    is_unlisted(row.rule, value_at(object, row)) && !is_enclosed(rows, object, row)
 }
 
-fn has_dangling(value: &Value, rule: Rule, list: Option<&Value>) -> bool
-    ensures { result ≡ has_dangling (view value.now) rule (option_map (λ v. view v.now) list.entry) }
+fn names_absent_object(value: &Value, rule: Rule, list: Option<&Value>) -> bool
+    ensures { result ≡ names_absent_object (view value.now) rule (option_map (λ v. view v.now) list.entry) }
 {
     match (rule, list) {
         (Rule::Names(section), Some(Value::Array(items))) => {
@@ -95,8 +95,8 @@ fn has_dangling(value: &Value, rule: Rule, list: Option<&Value>) -> bool
     }
 }
 
-fn has_double(rule: Rule, list: Option<&Value>) -> bool
-    ensures { result ≡ has_double rule (option_map (λ v. view v.now) list.entry) }
+fn repeats_name(rule: Rule, list: Option<&Value>) -> bool
+    ensures { result ≡ repeats_name rule (option_map (λ v. view v.now) list.entry) }
 {
     match (rule, list) {
         (Rule::Names(_), Some(Value::Array(items))) => has_repeat(items.as_slice()),
@@ -109,10 +109,10 @@ pub(crate) fn row_fault(test: Test, rows: &[Row], value: &Value, object: &Value,
     ensures { result ≡ row_fault test rows.now (view value.now) (view object.now) row.now }
 {
     match test {
-        Test::Shape => has_shape(rows, object, row),
-        Test::Kind => has_kind(rows, object, row),
-        Test::NoSuchName => has_dangling(value, row.rule, value_at(object, row)),
-        Test::Assigned => has_double(row.rule, value_at(object, row)),
+        Test::Shape => breaks_rule(rows, object, row),
+        Test::Kind => has_unlisted_type(rows, object, row),
+        Test::NoSuchName => names_absent_object(value, row.rule, value_at(object, row)),
+        Test::Assigned => repeats_name(row.rule, value_at(object, row)),
     }
 }
 
@@ -150,8 +150,8 @@ pub(crate) fn object_fault(
     }
 }
 
-fn has_section(section: Section, value: Option<&Value>) -> bool
-    ensures { result ≡ has_section section (option_map (λ v. view v.now) value.entry) }
+fn is_section(section: Section, value: Option<&Value>) -> bool
+    ensures { result ≡ is_section section (option_map (λ v. view v.now) value.entry) }
 {
     match (section, value) {
         (Section::Config, Some(Value::Object(_))) => true,
@@ -165,7 +165,7 @@ pub(crate) fn section_fault(test: Test, value: &Value, section: Section) -> bool
     ensures { result ≡ section_fault test (view value.now) section }
 {
     match test {
-        Test::Shape => !has_section(section, section_at(value, section)),
+        Test::Shape => !is_section(section, section_at(value, section)),
         _ => false,
     }
 }

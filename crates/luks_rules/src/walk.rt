@@ -55,20 +55,15 @@ fn first_in(
     ensures { result ≡ first_in test rows.now (view value.now) section number
         (option_map (λ v. view v.now) object.entry) }
 {
-    match object {
-        None => None,
-        Some(object) => {
-            if object_fault(test, value, section, number, object) {
-                Some(Place {
-                    section,
-                    number: Some(number),
-                    row: None,
-                })
-            } else {
-                first_row(test, rows, value, section, Some(number), object)
-            }
-        }
+    let object = object?;
+    if object_fault(test, value, section, number, object) {
+        return Some(Place {
+            section,
+            number: Some(number),
+            row: None,
+        });
     }
+    first_row(test, rows, value, section, Some(number), object)
 }
 
 /// The first fault of the objects of a section.
@@ -97,10 +92,7 @@ fn first_of_config(test: Test, rows: &[Row], value: &Value, config: Option<&Valu
     ensures { result ≡ first_of_config test rows.now (view value.now)
         (option_map (λ v. view v.now) config.entry) }
 {
-    match config {
-        None => None,
-        Some(config) => first_row(test, rows, value, Section::Config, None, config),
-    }
+    first_row(test, rows, value, Section::Config, None, config?)
 }
 
 /// The first fault of a section.

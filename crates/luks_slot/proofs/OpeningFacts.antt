@@ -1,5 +1,5 @@
 -- What was merged, where it meets the digest, is what the keyslot opens to.
-use Rattle.std.proofs.Common.{◌≡◌, ◌∙◌, List, ℕ, ap, sym, Some, None}
+use Rattle.std.proofs.Common.{◌≡◌, ◌∙◌, List, ℕ, ap, refl, sym, Bool, true, false, Some, None}
 use Rattle.std.specs.Prelude.{if◌then◌else◌}
 use Rattle.luks_area.specs.declared.area.Area.{Area}
 use Rattle.luks_kdf.specs.declared.hash_name.HashName.{HashName}
@@ -32,3 +32,17 @@ opens_read plan volume passphrase key merged area k hash is_merged is_size is_ar
     λ n a. merge (hash_of hash) (digest_size_of hash) n plan.stripes (stripes_from key (area_bytes volume a) n plan.stripes) in
     opens_to plan (area_bytes volume plan.area) passphrase key merged hash
     (is_merged ∙ ap (λ n. Merged n area) is_size ∙ ap (Merged plan.key_bytes) is_area)
+
+-- what is found where a test says so is what was tested
+found_if : (test : Bool) (k key : List ℕ) → (if test then Some k else None) ≡ Some key → (test ≡ true) × (k ≡ key)
+found_if true k key e = (refl, cc)
+found_if false k key e = absurd (cc)
+
+-- a key that is found meets the digest
+pub found_meets : (plan : SlotPlan) (area passphrase key : List ℕ) → slot_key plan area passphrase ≡ Some key
+    → meets_digest plan.digest key ≡ true
+unfolding slot_key
+found_meets plan area passphrase key found =
+    let key' = candidate plan area passphrase in
+    let is = found_if (meets_digest plan.digest key') key' key found in
+    ap (meets_digest plan.digest) (sym is.1) ∙ is.0

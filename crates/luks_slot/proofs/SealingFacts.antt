@@ -63,14 +63,13 @@ pub placed_zeros : (a b zeros : List ℕ) (m : ℕ) → AreZeros zeros → lengt
 placed_zeros a b zeros m are fits = record {
   each = λ k lt.
       let both = length-append a b in
-      let place = length a + length b in
-      let inner : (place + k) - place ≡ k = omega arith in
-      let there : get_or ((a ++ b) ++ replicate m 0) (place + k) 0 ≡ get_or (replicate m 0) ((place + k) - place) 0 =
-      get_or-append_right (a ++ b) (replicate m 0) place (place + k) 0 both (omega arith) in
-      let here : get_or (replicate m 0) ((place + k) - place) 0 ≡ get_or (replicate m 0) k 0 = ap (λ i. get_or (replicate m 0) i 0) inner in
-      let zero : get_or (replicate m 0) k 0 ≡ 0 = get_or-replicate m k 0 0 (omega (arith, lt, fits)) in
-      let expected : get_or ((a ++ b) ++ replicate m 0) (place + k) 0 ≡ 0 = there ∙ (here ∙ zero) in
-      are.each k lt ∙ sym expected;
+      let inner : ((length a + length b) + k) - (length a + length b) ≡ k = omega arith in
+      let below : k < m = omega (arith, lt, fits) in
+      let zero : get_or (replicate m 0) (((length a + length b) + k) - (length a + length b)) 0 ≡ 0 =
+      ap (λ i. get_or (replicate m 0) i 0) inner ∙ get_or-replicate m k 0 0 below in
+      let wanted : get_or ((a ++ b) ++ replicate m 0) ((length a + length b) + k) 0 ≡ 0 =
+      get_or-append_right (a ++ b) (replicate m 0) (length a + length b) ((length a + length b) + k) 0 both (omega arith) ∙ zero in
+      are.each k lt ∙ sym wanted;
 }
 
 -- all that is wanted was put

@@ -7,15 +7,18 @@ ghost use Rattle.luks_area.specs.Sectors.{rounded_to_sectors};
 ghost use Rattle.luks_slot.specs.Opening.{area_bytes, opened_sector};
 ghost use Rattle.luks_slot.specs.Reading.{plain_byte, ArePlain, IsReading};
 
-use luks_area::{Area, Device, DeviceFault};
+use luks_area::{Area, Device, DeviceFault, SECTOR};
 use luks_xts::XtsKey;
+
+// The length of a sector as that of an array.
+pub(crate) const SECTOR_BYTES: usize = SECTOR as usize;
 
 // Reads the decrypted bytes of an area in a row, and holds one sector of them.
 #[derive(Drop)]
 pub(crate) struct AreaReader {
     pub(crate) area: Area,
     pub(crate) key: XtsKey,
-    pub(crate) sector: [u8; 512],
+    pub(crate) sector: [u8; SECTOR_BYTES],
 }
 
 impl AreaReader {
@@ -27,7 +30,7 @@ impl AreaReader {
         AreaReader {
             area,
             key,
-            sector: [0; 512],
+            sector: [0; SECTOR_BYTES],
         }
     }
 
@@ -36,14 +39,15 @@ impl AreaReader {
         requires in_area { 512 * (number + 1) ≤ self.old.area.len }
         requires within { IsInside self.old.area (D.size device.old) }
         requires room { D.failed device.old + 1 < 2 ^ 64 }
-        ensures count { CountsFailure is_failure result (D.failed device.old) (D.failed device.new) }
+        ensures count { CountsFailure is_failure result
+            (D.failed device.old) (D.failed device.new) }
         ensures unchanged { IsUnchanged D.tells D.size D.bytes device.old device.new }
         ensures same_area { self.new.area ≡ self.old.area }
         ensures same_key { self.new.key ≡ self.old.key }
         ensures value { D.tells → OnOk result (self.new.sector
             ≡ opened_sector self.old.key (area_bytes (D.bytes device.old) self.old.area) number) }
     {
-        device.read_at(self.area.start + 512 * number, &mut self.sector)?;
+        device.read_at(self.area.start + SECTOR * number, &mut self.sector)?;
         self.key.open_unit(number, &mut self.sector);
         Ok(())
     }
@@ -55,7 +59,8 @@ impl AreaReader {
         requires within { IsInside self.old.area (D.size device.old) }
         requires room { D.failed device.old + 1 < 2 ^ 64 }
         requires before { D.tells → IsReading self.old (D.bytes device.old) place }
-        ensures count { CountsFailure is_failure result (D.failed device.old) (D.failed device.new) }
+        ensures count { CountsFailure is_failure result
+            (D.failed device.old) (D.failed device.new) }
         ensures unchanged { IsUnchanged D.tells D.size D.bytes device.old device.new }
         ensures same_area { self.new.area ≡ self.old.area }
         ensures same_key { self.new.key ≡ self.old.key }
@@ -64,10 +69,10 @@ impl AreaReader {
         ensures value { D.tells → IfOk result (λ b. b
             ≡ plain_byte self.old.key (area_bytes (D.bytes device.old) self.old.area) place) }
     {
-        if place % 512 == 0 {
-            self.load(device, place / 512)?;
+        if place % SECTOR == 0 {
+            self.load(device, place / SECTOR)?;
         }
-        Ok(self.sector[(place % 512) as usize])
+        Ok(self.sector[(place % SECTOR) as usize])
     }
 
     // Reads the decrypted bytes of the area from a place on.
@@ -81,7 +86,8 @@ impl AreaReader {
         requires within { IsInside self.old.area (D.size device.old) }
         requires room { D.failed device.old + 1 < 2 ^ 64 }
         requires before { D.tells → IsReading self.old (D.bytes device.old) from }
-        ensures count { CountsFailure is_failure result (D.failed device.old) (D.failed device.new) }
+        ensures count { CountsFailure is_failure result
+            (D.failed device.old) (D.failed device.new) }
         ensures unchanged { IsUnchanged D.tells D.size D.bytes device.old device.new }
         ensures same_area { self.new.area ≡ self.old.area }
         ensures same_key { self.new.key ≡ self.old.key }

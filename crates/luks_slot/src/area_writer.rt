@@ -7,7 +7,8 @@ ghost use Rattle.luks_area.specs.Ranges.{IsAt, SameBut};
 ghost use Rattle.luks_slot.specs.Opening.{area_bytes, opened_sector};
 ghost use Rattle.luks_slot.specs.Writing.{ArePlaced, IsWriting};
 
-use luks_area::{Area, Device, DeviceFault};
+use crate::area_reader::SECTOR_BYTES;
+use luks_area::{Area, Device, DeviceFault, SECTOR};
 use luks_xts::XtsKey;
 
 // Writes bytes into an area in a row, encrypted, and holds those of a sector that isn't full yet.
@@ -15,7 +16,7 @@ use luks_xts::XtsKey;
 pub(crate) struct AreaWriter {
     pub(crate) area: Area,
     pub(crate) key: XtsKey,
-    pub(crate) sector: [u8; 512],
+    pub(crate) sector: [u8; SECTOR_BYTES],
 }
 
 impl AreaWriter {
@@ -27,7 +28,7 @@ impl AreaWriter {
         AreaWriter {
             area,
             key,
-            sector: [0; 512],
+            sector: [0; SECTOR_BYTES],
         }
     }
 
@@ -36,7 +37,8 @@ impl AreaWriter {
         requires in_area { 512 * (number + 1) ≤ self.old.area.len }
         requires within { IsInside self.old.area (D.size device.old) }
         requires room { D.failed device.old + 1 < 2 ^ 64 }
-        ensures count { CountsFailure is_failure result (D.failed device.old) (D.failed device.new) }
+        ensures count { CountsFailure is_failure result
+            (D.failed device.old) (D.failed device.new) }
         ensures size { D.size device.new ≡ D.size device.old }
         ensures same_area { self.new.area ≡ self.old.area }
         ensures same_key { self.new.key ≡ self.old.key }
@@ -46,16 +48,18 @@ impl AreaWriter {
             (D.bytes device.old) (D.bytes device.new) }
     {
         self.key.seal_unit(number, &mut self.sector);
-        device.write_at(self.area.start + 512 * number, &self.sector)?;
+        device.write_at(self.area.start + SECTOR * number, &self.sector)?;
         Ok(())
     }
 
-    // Puts a byte at a place of the area. It is held until its sector is full, which is then written.
+    // Puts a byte at a place of the area. It is held until its sector is full, which is then
+    // written.
     fn put<D: Device>(&mut self, device: &mut D, place: u64, byte: u8) -> Result<(), DeviceFault>
         requires in_area { 512 * (place / 512 + 1) ≤ self.old.area.len }
         requires within { IsInside self.old.area (D.size device.old) }
         requires room { D.failed device.old + 1 < 2 ^ 64 }
-        ensures count { CountsFailure is_failure result (D.failed device.old) (D.failed device.new) }
+        ensures count { CountsFailure is_failure result
+            (D.failed device.old) (D.failed device.new) }
         ensures size { D.size device.new ≡ D.size device.old }
         ensures same_area { self.new.area ≡ self.old.area }
         ensures same_key { self.new.key ≡ self.old.key }
@@ -66,9 +70,9 @@ impl AreaWriter {
         ensures rest { D.tells → SameBut (IsAt self.old.area.start self.old.area.len)
             (D.bytes device.old) (D.bytes device.new) }
     {
-        self.sector[(place % 512) as usize] = byte;
-        if place % 512 == 511 {
-            self.store(device, place / 512)?;
+        self.sector[(place % SECTOR) as usize] = byte;
+        if place % SECTOR == SECTOR - 1 {
+            self.store(device, place / SECTOR)?;
         }
         Ok(())
     }
@@ -84,13 +88,15 @@ impl AreaWriter {
         requires in_area { from + length bytes.now ≤ self.old.area.len }
         requires within { IsInside self.old.area (D.size device.old) }
         requires room { D.failed device.old + 1 < 2 ^ 64 }
-        ensures count { CountsFailure is_failure result (D.failed device.old) (D.failed device.new) }
+        ensures count { CountsFailure is_failure result
+            (D.failed device.old) (D.failed device.new) }
         ensures size { D.size device.new ≡ D.size device.old }
         ensures same_area { self.new.area ≡ self.old.area }
         ensures same_key { self.new.key ≡ self.old.key }
         ensures more { D.tells → (wanted : List ℕ)
             → IsWriting self.old (D.bytes device.old) wanted from → ArePlaced wanted from bytes.now
-            → OnOk result (IsWriting self.new (D.bytes device.new) wanted (from + length bytes.now)) }
+            → OnOk result
+            (IsWriting self.new (D.bytes device.new) wanted (from + length bytes.now)) }
         ensures rest { D.tells → SameBut (IsAt self.old.area.start self.old.area.len)
             (D.bytes device.old) (D.bytes device.new) }
     {

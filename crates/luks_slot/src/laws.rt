@@ -1,21 +1,28 @@
-//! Laws on the definitions of this crate. Each function does nothing; its contract is the law.
+//! Laws on the definitions of this crate. Each function changes nothing; its contract is the law.
 
-ghost use Rattle.std.specs.Prelude.{◌≡◌, ◌-◌, ◌*◌, ◌≤◌, ℕ, List, length, Some, None, if◌then◌else◌};
+ghost use Rattle.std.specs.Prelude.{◌≡◌, ◌-◌, ◌*◌, ◌≤◌, ℕ, List, length, Some, None, true, if◌then◌else◌};
 ghost use Rattle.luks_slot.specs.declared.plan.SlotPlan.{SlotPlan as ThePlan};
 ghost use Rattle.luks_slot.specs.Opening.{meets_digest, slot_key};
 ghost use Rattle.luks_slot.specs.Sealing.{IsSealed};
 
 use luks_kdf::{Sha1Fn, Sha256Fn, merge_undoes_split};
 
-/// Where an area holds what sealing a key leaves, opening it by the same passphrase answers that key
-/// where the key meets the plan's digest, and none where it doesn't.
+/// Where an area holds what sealing a key leaves, opening it by the same passphrase answers that
+/// key where the key meets the plan's digest, and none where it doesn't.
 pub fn sealed_area_opens()
     ensures { (plan : ThePlan) (area passphrase key random : List ℕ)
         → 1 ≤ plan.stripes → length key ≡ plan.key_bytes
         → length random ≡ (plan.stripes - 1) * plan.key_bytes
         → IsSealed plan area passphrase key random
-        → slot_key plan area passphrase ≡ (if meets_digest plan.digest key then Some key else None) }
+        → slot_key plan area passphrase
+        ≡ (if meets_digest plan.digest key then Some key else None) }
 {
     merge_undoes_split::<Sha1Fn>();
     merge_undoes_split::<Sha256Fn>();
 }
+
+/// What a keyslot opens to by a passphrase meets the plan's digest.
+pub fn found_key_meets_digest()
+    ensures { (plan : ThePlan) (area passphrase key : List ℕ)
+        → slot_key plan area passphrase ≡ Some key → meets_digest plan.digest key ≡ true }
+{}

@@ -1,5 +1,5 @@
-//! One keyslot: opening it, from a passphrase and the key material in the keyslot's area to the volume
-//! key, sealing a key in it, and wiping its area.
+//! One keyslot: opening it, from a passphrase and the key material in the keyslot's area to the
+//! volume key, sealing a key in it, and wiping its area.
 #![tactic(auto)]
 
 mod area_reader;
@@ -18,7 +18,7 @@ mod wiping;
 
 pub use fault::SlotFault;
 pub use key::Key;
-pub use laws::sealed_area_opens;
+pub use laws::{found_key_meets_digest, sealed_area_opens};
 pub use opening::open;
 pub use plan::{AreaCipher, Derivation, DigestPlan, SlotPlan};
 pub use sealing::seal;

@@ -1,4 +1,4 @@
-//! What a keyslot says about how it is opened.
+//! What a keyslot says about how it is opened and sealed.
 
 use luks_area::Area;
 
@@ -45,14 +45,14 @@ pub struct DigestPlan<'a> {
     pub stored: &'a [u8],
 }
 
-/// All that it takes to open a keyslot with a passphrase, of either version.
+/// All that it takes to open or seal a keyslot with a passphrase, of either version.
 #[derive(Clone, Copy, Debug)]
 pub struct SlotPlan<'a> {
     /// How the key of the area is derived.
     pub derivation: Derivation<'a>,
     /// The cipher of the area.
     pub cipher: AreaCipher<'a>,
-    /// Where the key material lies.
+    /// Where the key material lies, in whole sectors of 512 bytes from the area's start.
     pub area: Area,
     /// The length in bytes of the key of the area's cipher.
     pub area_key_bytes: usize,

@@ -20,7 +20,7 @@ use Rattle.luks_slot.specs.Opening.{slot_key}
 use Rattle.luks_slot.specs.Refusal.{slot_refusal}
 use Rattle.luks_volume.specs.declared.open_fault.OpenFault.{OpenFault}
 use Rattle.luks_volume.specs.declared.open_fault.OpenFault.TheVariants.{Head, Meta, NoSuchSlot, SlotFree, Outside, Slot, Device, Memory}
-use Rattle.luks_volume.specs.Checked.{json_at, NeedsMetadata}
+use Rattle.luks_volume.specs.Header.{json_at, NeedsMetadata}
 use Rattle.luks_volume.specs.Plans.{HasLuks1Plan, HasLuks2Plan}
 
 -- ---- the order of the refusals

@@ -1,5 +1,5 @@
 -- When a volume is well formed, which areas it has, and what its faults are.
-use Rattle.std.specs.Prelude.{◌≡◌, ℕ, ◌+◌, ◌-◌, ◌<◌, ◌≤◌, List, [], ◌∷◌, length, codes, true, false, Some}
+use Rattle.std.specs.Prelude.{◌≡◌, ℕ, ◌+◌, ◌<◌, ◌≤◌, List, [], ◌∷◌, length, codes, true, false, Some}
 use Rattle.serde_json.specs.Data.{Data as Value}
 use Rattle.luks_area.specs.declared.area.Area.{Area as TheArea}
 use Rattle.luks_area.specs.declared.area.AreaName.{AreaName}
@@ -9,7 +9,6 @@ use Rattle.luks_area.specs.First.{IsLeast}
 use Rattle.luks_area.specs.Ranges.{part}
 use Rattle.luks_head.specs.declared.fault.HeadFault.{HeadFault}
 use Rattle.luks_head.specs.declared.luks1.Luks1.{Luks1}
-use Rattle.luks_head.specs.declared.selection.Copies.{Copies}
 use Rattle.luks_head.specs.Faults.{head_key, IsLuks1Fault as IsLuks1HeadFault}
 use Rattle.luks_head.specs.Header1.{IsLuks1}
 use Rattle.luks_head.specs.Header2.{header_at, hdr_size, uuid_field, IsUuidField, IsUuidFault}
@@ -24,10 +23,11 @@ use Rattle.luks_meta.specs.Reading.{decimal_in}
 use Rattle.luks_meta.specs.Sizes.{has_segment_below, inside_at, keyslots_size, region_start}
 use Rattle.luks_rules.specs.declared.table.Outer.TheVariants as outer
 use Rattle.luks_rules.specs.declared.table.Section.TheVariants.{Segments}
-use Rattle.luks_volume.specs.declared.fault.CheckFault.{CheckFault}
-use Rattle.luks_volume.specs.declared.fault.CheckFault.TheVariants.{Head, Meta, Area, Device, Memory}
+use Rattle.luks_volume.specs.declared.check_fault.CheckFault.{CheckFault}
+use Rattle.luks_volume.specs.declared.check_fault.CheckFault.TheVariants.{Head, Meta, Area, Device, Memory}
 use Rattle.luks_volume.specs.declared.report.Data.{Data}
 use Rattle.luks_volume.specs.declared.report.Data.TheVariants.{Here}
+use Rattle.luks_volume.specs.Header.{json_at, NeedsMetadata}
 use Rattle.luks_volume.specs.Layout1.{Luks1Area}
 use Rattle.luks_volume.specs.Layout2.{Luks2Area}
 
@@ -100,10 +100,6 @@ IsLuks2Fault b json payload total Memory = ⊥
 
 -- ---- any volume
 
--- the JSON area of the LUKS2 copy at the place `o`
-abbrev pub json_at : List ℕ → ℕ → List ℕ
-json_at v o = part v (o + 4096) (hdr_size (header_at v o) - 4096)
-
 -- the faults of a volume of which nothing counts
 abbrev pub IsOtherFault : List ℕ → CheckFault → Type 0
 IsOtherFault v (Head f) = IsSelectFault v f
@@ -150,18 +146,11 @@ pub record IsFault (v : List ℕ) (payload : Data) (f : CheckFault) : Type 0 whe
 abbrev pub First : List ℕ → Data → CheckFault → Type 0
 First v payload f = IsLeast check_key (IsFault v payload) f
 
--- memory is taken for the metadata of LUKS2 alone: a copy counts, and its uuid has no fault
-pub record NeedsMetadata (v : List ℕ) : Type 0 where
-  pub place : ℕ
-  pub copies : Copies
-  pub chosen : Chosen v (luks2 place copies)
-  pub uuid : (f : HeadFault) → IsUuidFault (uuid_field (header_at v place)) f → ⊥
-
 -- a refusal: the first fault, unless the device failed or memory was refused
-abbrev pub IsRefusal : List ℕ → Data → CheckFault → Type 0
-IsRefusal v payload Device = Unit {0}
-IsRefusal v payload Memory = NeedsMetadata v
-IsRefusal v payload f = First v payload f
+abbrev pub IsCheckRefusal : List ℕ → Data → CheckFault → Type 0
+IsCheckRefusal v payload Device = Unit {0}
+IsCheckRefusal v payload Memory = NeedsMetadata v
+IsCheckRefusal v payload f = First v payload f
 
 -- `m` is the metadata of the JSON area
 pub record HoldsMeta (json : List ℕ) (m : Meta2) : Type 0 where

@@ -3,8 +3,10 @@
 use Rattle.std.specs.Prelude.{◌≡◌, ℕ, ◌*◌, ◌<◌, List, codes, true, Some}
 use Rattle.serde_json.specs.Data.{Data}
 use Rattle.luks_area.specs.Ranges.{part}
+use Rattle.luks_area.specs.Sectors.{rounded_to_sectors}
 use Rattle.luks_head.specs.Bytes.{number_at, text_at}
 use Rattle.luks_head.specs.Header1.{entry, entry_iterations, entry_stripes}
+use Rattle.luks_meta.specs.Content.{content}
 use Rattle.luks_meta.specs.Faults.{object_at, suits, type_at}
 use Rattle.luks_meta.specs.MetaFault.{Json}
 use Rattle.luks_meta.specs.Naming.{IsDigestOf}
@@ -20,7 +22,8 @@ use Rattle.luks_slot.specs.declared.plan.Derivation.{Derivation}
 use Rattle.luks_slot.specs.declared.plan.Derivation.TheVariants.{Pbkdf2, Argon2}
 use Rattle.luks_slot.specs.declared.plan.DigestPlan.{DigestPlan}
 use Rattle.luks_slot.specs.declared.plan.SlotPlan.{SlotPlan}
-use Rattle.luks_volume.specs.Layout1.{sectors_of}
+use Rattle.luks_volume.specs.declared.header.Header.{Header}
+use Rattle.luks_volume.specs.declared.header.Header.TheVariants.{Luks1, Luks2}
 
 -- ---- LUKS1: `h` is the header's 592 bytes
 
@@ -44,7 +47,7 @@ pub record IsLuks1Plan (h e : List ℕ) (plan : SlotPlan) : Type 0 where
   pub derivation : IsLuks1Derivation h e plan.derivation
   pub cipher : IsLuks1Cipher h plan.cipher
   pub start : plan.area.start ≡ number_at e 40 4 * 512
-  pub len : plan.area.len ≡ sectors_of (number_at h 108 4 * entry_stripes e) * 512
+  pub len : plan.area.len ≡ rounded_to_sectors (number_at h 108 4 * entry_stripes e)
   pub area_key_bytes : plan.area_key_bytes ≡ number_at h 108 4
   pub key_bytes : plan.key_bytes ≡ number_at h 108 4
   pub stripes : plan.stripes ≡ entry_stripes e
@@ -98,3 +101,15 @@ pub record HasLuks2Plan (json : List ℕ) (n : ℕ) (plan : SlotPlan) : Type 0 w
   pub object : Data
   pub there : object_at value Keyslots n ≡ Some object
   pub is : IsLuks2Plan value n object plan
+
+-- ---- the length in bytes of the key that a keyslot gives
+
+pub record HasLuks2KeyBytes (j : Data) (n len : ℕ) : Type 0 where
+  pub object : Data
+  pub there : object_at j Keyslots n ≡ Some object
+  pub is : number_in 1 128 (member_at object outer.Top name.KeySize) ≡ Some len
+
+-- by the header that was read, the key of the keyslot `n` has `len` bytes
+abbrev pub HasKeyBytes : Header → ℕ → ℕ → Type 0
+HasKeyBytes (Luks1 bytes) n len = len ≡ number_at bytes 108 4
+HasKeyBytes (Luks2 copy) n len = HasLuks2KeyBytes (content copy.meta) n len

@@ -1,11 +1,9 @@
--- What `check` answers, and how a device's count of failures moves with it.
-use Rattle.std.specs.Prelude.{◌≡◌, ℕ, ◌+◌, List, ⊤}
-use Rattle.luks_head.specs.declared.fault.HeadFault.{HeadFault}
-use Rattle.luks_head.specs.declared.fault.HeadFault.TheVariants as head
+-- What `check` answers.
+use Rattle.std.specs.Prelude.{◌≡◌, ℕ, List, ⊤}
 use Rattle.luks_head.specs.Header2.{header_at, seqid}
 use Rattle.luks_head.specs.Selection.{luks1, luks2, Chosen}
-use Rattle.luks_volume.specs.declared.fault.CheckFault.{CheckFault}
-use Rattle.luks_volume.specs.declared.fault.CheckFault.TheVariants.{Head, Meta, Area, Device, Memory}
+use Rattle.luks_volume.specs.declared.check_fault.CheckFault.{CheckFault}
+use Rattle.luks_volume.specs.declared.check_fault.CheckFault.TheVariants.{Head, Meta, Area, Device, Memory}
 use Rattle.luks_volume.specs.declared.report.Data.{Data}
 use Rattle.luks_volume.specs.declared.report.Report.{Report}
 use Rattle.luks_volume.specs.declared.report.Version.{Version}
@@ -22,20 +20,6 @@ IsVersion v (Luks2 copies number) = (o : ℕ) × (Chosen v (luks2 o copies) × (
 pub record Reports (v : List ℕ) (payload : Data) (r : Report) : Type 0 where
   pub version : IsVersion v r.version
   pub areas : Lists r.areas (AreaOf v payload)
-
--- the device's count of failures rises by one where the device failed, else it stays
-abbrev pub Counts : CheckFault → ℕ → ℕ → Type 0
-Counts Device before after = after ≡ before + 1
-Counts (Head f) before after = after ≡ before
-Counts (Meta f) before after = after ≡ before
-Counts (Area f) before after = after ≡ before
-Counts Memory before after = after ≡ before
-
--- the fault of a header as that of a check: the device's failure and want of memory stand for themselves
-abbrev pub outer_fault : HeadFault → CheckFault
-outer_fault head.Device = Device
-outer_fault head.Memory = Memory
-outer_fault f = Head f
 
 -- the fault isn't the volume's own: the device failed, or memory was refused
 abbrev pub IsFromOutside : CheckFault → Type 0

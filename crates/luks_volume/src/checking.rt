@@ -1,21 +1,20 @@
-ghost use Rattle.std.specs.Prelude.{◌≡◌, ◌≢◌, ◌+◌, ◌-◌, ◌^◌, ◌<◌, ◌≤◌, ℕ, List, length, IfOk, IfErr, OnOk, MatchResult, ⊤};
-ghost use Rattle.luks_area.specs.Ranges.{part};
-ghost use Rattle.luks_head.specs.Header2.{HoldsBin2};
-ghost use Rattle.luks_head.specs.Header2.{IsCopyWithin};
-ghost use Rattle.luks_head.specs.Selection.{IsSelected};
-ghost use Rattle.luks_head.specs.declared.selection.Selected.TheVariants.{V2};
-ghost use Rattle.luks_volume.specs.Checked.{IsRefusal, WellFormed};
-ghost use Rattle.luks_volume.specs.Lawful.{IsLawful};
-ghost use Rattle.luks_volume.specs.Listing.{Lists};
-ghost use Rattle.luks_volume.specs.Reported.{Counts, IsFromOutside, Reports, outer_fault};
+//! Checking a volume by the header that counts.
+ghost use Rattle.std.specs.Prelude.{◌≡◌, ◌≢◌, ◌+◌, ◌^◌, ◌<◌, ℕ, List, length, IfOk, IfErr, IsOk, OnOk, MatchResult, ⊤};
+ghost use Rattle.luks_area.specs.Device.{CountsFailure, IsUnchanged};
+ghost use Rattle.luks_volume.specs.Checked.{First, IsCheckRefusal, WellFormed};
+ghost use Rattle.luks_volume.specs.Failures.{is_check_failure};
+ghost use Rattle.luks_volume.specs.Header.{IsAcceptedHeader, IsHeader};
+ghost use Rattle.luks_volume.specs.FitsAndResolves.{FitsAndResolves};
+ghost use Rattle.luks_volume.specs.Reported.{IsFromOutside, Reports};
 
-use crate::fault::CheckFault;
+use crate::check_fault::CheckFault;
+use crate::header::{Header, read_header};
 use crate::judging::{judge_layout, judge_luks1};
 use crate::laws::{no_fault_is_well_formed, well_formed_volume};
-use crate::luks2_copy::luks2_meta;
 use crate::report::{Data, Report, Version};
-use luks_area::{Areas, Device};
-use luks_head::{Bin2, Copies, HeadFault, Selected, one_choice, select};
+use luks_area::Device;
+use luks_head::{luks2_without_faults, one_choice};
+use luks_meta::metadata_without_faults;
 use std::alloc::Global;
 
 /// Whether the volume is well formed, with its areas, or else its first fault.
@@ -24,70 +23,50 @@ use std::alloc::Global;
 /// taken for the metadata of LUKS2 alone.
 pub fn check<D: Device>(alloc: Global, device: &mut D, data_: Data) -> Result<Report, CheckFault>
     requires { D.failed device.old + 1 < 2 ^ 64 }
-    ensures size { D.size device.new ≡ D.size device.old }
-    ensures same { D.tells → D.bytes device.new ≡ D.bytes device.old }
-    ensures count { MatchResult result (λ _. D.failed device.new ≡ D.failed device.old) (λ f. Counts f (D.failed device.old) (D.failed device.new)) }
+    ensures unchanged { IsUnchanged D.tells D.size D.bytes device.old device.new }
+    ensures count { CountsFailure is_check_failure result (D.failed device.old) (D.failed device.new) }
     ensures accepted { D.tells → OnOk result (WellFormed (D.bytes device.old) data_) }
     ensures report { D.tells → IfOk result (Reports (D.bytes device.old) data_) }
-    ensures refused { D.tells → IfErr result (IsRefusal (D.bytes device.old) data_) }
+    ensures refused { D.tells → IfErr result (IsCheckRefusal (D.bytes device.old) data_) }
     ensures only { D.tells → WellFormed (D.bytes device.old) data_ → MatchResult result (λ _. ⊤) IsFromOutside }
-    ensures lawful { D.tells → OnOk result (IsLawful (D.bytes device.old) data_) }
-{
-    one_choice();
-    well_formed_volume();
-    match select(alloc, device) {
-        Ok(Selected::V1(header)) => match judge_luks1(&header, data_, device.len()) {
-            Ok(areas) => Ok(Report {
-                version: Version::Luks1,
-                areas,
-            }),
-            Err(fault) => Err(fault),
-        },
-        Ok(Selected::V2 { header, copies }) => check_luks2(alloc, device, &header, copies, data_),
-        Err(fault) => Err(outer_fault(fault)),
-    }
-}
-
-/// What `check` answers of a LUKS2 volume, by the copy that counts.
-fn check_luks2<D: Device>(
-    alloc: Global,
-    device: &mut D,
-    header: &Bin2,
-    copies: Copies,
-    data_: Data,
-) -> Result<Report, CheckFault>
-    requires room { D.failed device.old + 1 < 2 ^ 64 }
-    requires within { IsCopyWithin (D.size device.old) header.now }
-    ensures size { D.size device.new ≡ D.size device.old }
-    ensures same { D.tells → D.bytes device.new ≡ D.bytes device.old }
-    ensures count { MatchResult result (λ _. D.failed device.new ≡ D.failed device.old) (λ f. Counts f (D.failed device.old) (D.failed device.new)) }
-    ensures accepted { D.tells → IsSelected (D.bytes device.old) (V2 header.now copies) → OnOk result (WellFormed (D.bytes device.old) data_) }
-    ensures report { D.tells → IsSelected (D.bytes device.old) (V2 header.now copies) → IfOk result (Reports (D.bytes device.old) data_) }
-    ensures refused { D.tells → IsSelected (D.bytes device.old) (V2 header.now copies) → IfErr result (IsRefusal (D.bytes device.old) data_) }
-    ensures only { D.tells → IsSelected (D.bytes device.old) (V2 header.now copies) → WellFormed (D.bytes device.old) data_ → MatchResult result (λ _. ⊤) IsFromOutside }
+    ensures fits_and_resolves { D.tells → OnOk result (FitsAndResolves (D.bytes device.old) data_) }
 {
     one_choice();
     no_fault_is_well_formed();
-    let meta = luks2_meta(alloc, device, header)?;
-    match judge_layout(&meta, header, data_, device.len()) {
-        Ok(areas) => Ok(Report {
-            version: Version::Luks2 {
-                copies,
-                seqid: header.seqid,
-            },
-            areas,
-        }),
-        Err(fault) => Err(fault),
-    }
+    well_formed_volume();
+    let header = read_header(alloc, device)?;
+    check_header(&header, data_, device.len())
 }
 
-/// The fault of a header as that of a check: the device's failure and want of memory stand for themselves.
-fn outer_fault(fault: HeadFault) -> CheckFault
-    ensures { result ≡ outer_fault fault }
+/// What `check` answers of a volume of `total` bytes with this header. It takes no memory.
+pub fn check_header(header: &Header, data_: Data, total: u64) -> Result<Report, CheckFault>
+    requires { IsAcceptedHeader header.now }
+    ensures accepted { (v : List ℕ) → IsHeader v header.now → length v ≡ total → OnOk result (WellFormed v data_) }
+    ensures report { (v : List ℕ) → IsHeader v header.now → length v ≡ total → IfOk result (Reports v data_) }
+    ensures refused { (v : List ℕ) → IsHeader v header.now → length v ≡ total → IfErr result (First v data_) }
+    ensures device { IfErr result (λ f. f ≢ CheckFault.Device) }
+    ensures memory { IfErr result (λ f. f ≢ CheckFault.Memory) }
 {
-    match fault {
-        HeadFault::Device => CheckFault::Device,
-        HeadFault::Memory => CheckFault::Memory,
-        other => CheckFault::Head(other),
+    one_choice();
+    luks2_without_faults();
+    metadata_without_faults();
+    match header {
+        Header::Luks1(bytes) => {
+            let areas = judge_luks1(bytes.as_slice(), data_, total)?;
+            Ok(Report {
+                version: Version::Luks1,
+                areas,
+            })
+        }
+        Header::Luks2(copy) => {
+            let areas = judge_layout(&copy.meta, &copy.header, data_, total)?;
+            Ok(Report {
+                version: Version::Luks2 {
+                    copies: copy.copies,
+                    seqid: copy.header.seqid,
+                },
+                areas,
+            })
+        }
     }
 }

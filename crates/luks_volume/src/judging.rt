@@ -7,7 +7,7 @@ ghost use Rattle.serde_json.specs.Data.{Data as Value};
 ghost use Rattle.luks_meta.specs.Content.{content};
 ghost use Rattle.luks_volume.specs.Checked.{check_key, HasLuks2Area, HoldsMeta, IsFirstBelow, IsLuks1Volume, IsLuks1Fault, IsLuks2Fault, IsLuks2Faultless, IsLuks2Layout, SegmentsFollow};
 
-use crate::fault::CheckFault;
+use crate::check_fault::CheckFault;
 use crate::layout::{luks1_areas, luks2_areas};
 use crate::report::Data;
 use luks_area::{AreaName, Areas, fit};
@@ -22,16 +22,10 @@ pub(crate) fn judge_luks1(header: &[u8], data_: Data, total: u64) -> Result<Area
     ensures refused { IfErr result (IsLeast check_key (IsLuks1Fault header.now data_ total)) }
     ensures only { IsLuks1Volume header.now data_ total → IsOk result }
 {
-    match Luks1::read(header) {
-        Ok(read) => {
-            let areas = luks1_areas(&read, data_, total);
-            match fit(&areas, total) {
-                Ok(()) => Ok(areas),
-                Err(fault) => Err(CheckFault::Area(fault)),
-            }
-        }
-        Err(fault) => Err(CheckFault::Head(fault)),
-    }
+    let read = Luks1::read(header)?;
+    let areas = luks1_areas(&read, data_, total);
+    fit(&areas, total)?;
+    Ok(areas)
 }
 
 /// The areas that accepted metadata names in a volume of `total` bytes, or the first fault.
@@ -45,19 +39,16 @@ pub(crate) fn judge_layout(
     ensures areas { (b json : List ℕ) → HoldsBin2 b header.now → HoldsMeta json meta.now → IfOk result (λ areas. Lists areas (HasLuks2Area b json data_ total)) }
     ensures refused { (b json : List ℕ) → HoldsBin2 b header.now → HoldsMeta json meta.now → IsLuks2Faultless b json → IfErr result (IsLeast check_key (IsLuks2Fault b json data_ total)) }
     ensures only { (b json : List ℕ) (j : Value) → HoldsBin2 b header.now → HoldsMeta json meta.now → IsLuks2Layout b json data_ total j → IsOk result }
-    ensures own { IfErr result (λ f. f ≢ CheckFault.Device) }
+    ensures device { IfErr result (λ f. f ≢ CheckFault.Device) }
+    ensures memory { IfErr result (λ f. f ≢ CheckFault.Memory) }
 {
     one_value();
-    match segment_below(meta, data_) {
-        Some(n) => Err(CheckFault::Meta(MetaFault::Region(AreaName::Segment(n)))),
-        None => {
-            let areas = luks2_areas(meta, header.hdr_size, data_, total);
-            match fit(&areas, total) {
-                Ok(()) => Ok(areas),
-                Err(fault) => Err(CheckFault::Area(fault)),
-            }
-        }
+    if let Some(n) = segment_below(meta, data_) {
+        return Err(CheckFault::Meta(MetaFault::Region(AreaName::Segment(n))));
     }
+    let areas = luks2_areas(meta, header.hdr_size, data_, total);
+    fit(&areas, total)?;
+    Ok(areas)
 }
 
 /// With the payload here, the least segment that begins before the end of the key areas' region.

@@ -1,13 +1,18 @@
 //! Laws on the definitions of this crate. Each function only calls those whose laws it follows from;
 //! its contract is the law.
 ghost use Rattle.std.specs.Prelude.{◌≡◌, ◌↔◌, ℕ, List};
+ghost use Rattle.luks_area.specs.declared.area.Area.{Area as TheArea};
+ghost use Rattle.luks_area.specs.declared.area.AreaName.{AreaName as TheName};
 ghost use Rattle.luks_volume.specs.declared.report.Data.{Data as Payload};
-ghost use Rattle.luks_volume.specs.Checked.{IsFault, WellFormed};
-ghost use Rattle.luks_volume.specs.Lawful.{IsLawful};
+ghost use Rattle.luks_volume.specs.Agreement.{IsSameAnswer, IsSameUnlocking};
+ghost use Rattle.luks_volume.specs.Answer.{Answer, Opened};
+ghost use Rattle.luks_volume.specs.Checked.{AreaOf, IsFault, WellFormed};
+ghost use Rattle.luks_volume.specs.FitsAndResolves.{FitsAndResolves};
+ghost use Rattle.luks_volume.specs.Unlocking.{Unlocked, UnlockAnswer};
 
-use crate::fault::CheckFault;
+use crate::check_fault::CheckFault;
 use luks_head::{luks1_without_faults, luks2_without_faults, one_choice};
-use luks_meta::{metadata_without_faults, one_value};
+use luks_meta::{metadata_without_faults, one_digest, one_value};
 
 /// A volume is well formed exactly where it has no fault: so the first fault is there exactly where
 /// it isn't well formed.
@@ -24,8 +29,35 @@ pub fn no_fault_is_well_formed()
 /// In a well formed volume each area is inside, every two of different names are disjoint, and of
 /// LUKS2 every name in the metadata resolves.
 pub fn well_formed_volume()
-    ensures { (v : List ℕ) (payload : Payload) → WellFormed v payload → IsLawful v payload }
+    ensures { (v : List ℕ) (payload : Payload) → WellFormed v payload → FitsAndResolves v payload }
 {
     one_choice();
     one_value();
+}
+
+/// A name has one area at most in a volume.
+pub fn one_area()
+    ensures { (v : List ℕ) (payload : Payload) (n : TheName) (a b : TheArea) → AreaOf v payload n a → AreaOf v payload n b → a ≡ b }
+{
+    one_choice();
+    one_value();
+}
+
+/// A keyslot of a volume has one answer at most by a passphrase; of two refusals the key is one.
+pub fn one_answer()
+    ensures { (v : List ℕ) (n : ℕ) (p : List ℕ) (a b : Opened) → Answer v n p a → Answer v n p b → IsSameAnswer a b }
+{
+    one_choice();
+    one_value();
+    metadata_without_faults();
+    one_digest();
+}
+
+/// Opening a volume has one answer at most by a passphrase; of two refusals the key is one.
+pub fn one_unlocking()
+    ensures { (v p : List ℕ) (a b : Unlocked) → UnlockAnswer v p a → UnlockAnswer v p b → IsSameUnlocking a b }
+{
+    one_choice();
+    one_value();
+    one_answer();
 }

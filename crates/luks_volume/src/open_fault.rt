@@ -1,3 +1,7 @@
+ghost use Rattle.std.specs.Prelude.{◌≡◌};
+ghost use Rattle.luks_volume.specs.Conversions.{head_unread, slot_opened, unread_opened};
+
+use crate::read_fault::ReadFault;
 use luks_head::HeadFault;
 use luks_meta::MetaFault;
 use luks_slot::SlotFault;
@@ -34,4 +38,37 @@ pub enum OpenFault {
     /// Memory was refused.
     #[error("Memory")]
     Memory,
+}
+
+impl From<ReadFault> for OpenFault {
+    ghost from_gives = { λ fault outer. outer ≡ unread_opened fault };
+
+    fn from(fault: ReadFault) -> OpenFault {
+        match fault {
+            ReadFault::Head(fault) => OpenFault::Head(fault),
+            ReadFault::Meta(fault) => OpenFault::Meta(fault),
+            ReadFault::Device => OpenFault::Device,
+            ReadFault::Memory => OpenFault::Memory,
+        }
+    }
+}
+
+impl From<HeadFault> for OpenFault {
+    ghost from_gives = { λ fault outer. outer ≡ unread_opened (head_unread fault) };
+
+    fn from(fault: HeadFault) -> OpenFault {
+        OpenFault::from(ReadFault::from(fault))
+    }
+}
+
+impl From<SlotFault> for OpenFault {
+    ghost from_gives = { λ fault outer. outer ≡ slot_opened fault };
+
+    fn from(fault: SlotFault) -> OpenFault {
+        match fault {
+            SlotFault::Device => OpenFault::Device,
+            SlotFault::Memory => OpenFault::Memory,
+            other => OpenFault::Slot(other),
+        }
+    }
 }

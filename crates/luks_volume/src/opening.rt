@@ -1,25 +1,32 @@
 //! Opening one keyslot of a volume.
-ghost use Rattle.std.specs.Prelude.{◌≡◌, ◌≢◌, ◌+◌, ◌^◌, ◌<◌, ◌≤◌, ℕ, List, length, IfOk, IfErr, MatchResult, Option};
-ghost use Rattle.luks_area.specs.Ranges.{part};
-ghost use Rattle.luks_head.specs.Header2.{HoldsBin2, uuid_field};
-ghost use Rattle.luks_head.specs.Header2.{IsCopyWithin};
+ghost use Rattle.std.specs.Prelude.{◌≡◌, ◌≢◌, ◌+◌, ◌^◌, ◌<◌, ◌≤◌, ℕ, List, length, IfOk, IfErr, IfSome};
+ghost use Rattle.luks_area.specs.Device.{CountsFailure, IsUnchanged};
+ghost use Rattle.luks_head.specs.declared.fault.HeadFault.{HeadFault as TheFault};
+ghost use Rattle.luks_head.specs.Bytes.{number_at};
+ghost use Rattle.luks_head.specs.Faults.{IsCommonFault};
+ghost use Rattle.luks_head.specs.Header1.{IsCommon};
+ghost use Rattle.luks_head.specs.Header2.{uuid_field};
 ghost use Rattle.luks_meta.specs.Content.{content};
 ghost use Rattle.luks_meta.specs.Objects.{IsAccepted};
 ghost use Rattle.luks_volume.specs.Agreement.{Agrees};
 ghost use Rattle.luks_volume.specs.Answer.{Answer, IsRefusedBy, Opened, opened_to};
-ghost use Rattle.luks_volume.specs.Entered.{Luks1Opens, Luks1Refused};
-ghost use Rattle.luks_volume.specs.Copied.{IsCleared, json_of};
-ghost use Rattle.luks_volume.specs.Entered2.{Luks2Opens, Luks2Refused};
-ghost use Rattle.luks_volume.specs.Planned.{Counts, IsJudged, PlanOpens, PlanRefused, outer_fault};
+ghost use Rattle.luks_volume.specs.ChosenCopies.{IsCleared};
+ghost use Rattle.luks_volume.specs.Luks1Keyslots.{Luks1Opens, Luks1Refused};
+ghost use Rattle.luks_volume.specs.Luks2Keyslots.{Luks2Opens, Luks2Refused};
+ghost use Rattle.luks_volume.specs.Failures.{is_open_failure};
+ghost use Rattle.luks_volume.specs.Header.{IsAcceptedHeader, IsHeader};
+ghost use Rattle.luks_volume.specs.PlanAnswers.{IsOpenable, PlanOpens, PlanRefused};
+ghost use Rattle.luks_volume.specs.Plans.{HasKeyBytes, HasLuks2KeyBytes};
 
-use crate::luks1_entry::{luks1_common, luks1_entry};
-use crate::luks2_copy::luks2_meta;
+use crate::header::{Header, read_header};
+use crate::laws::one_answer;
+use crate::luks1_fields::{luks1_common, luks1_entry};
 use crate::open_fault::OpenFault;
 use crate::plan::{luks1_plan, luks2_plan};
 use luks_area::Device;
-use luks_head::{Bin2, HeadFault, Selected, one_choice, select};
-use luks_meta::{Meta, one_value};
-use luks_slot::{Key, SlotFault, SlotPlan, open};
+use luks_head::{Luks1Common, luks2_without_faults, one_choice};
+use luks_meta::{Meta, metadata_without_faults, one_value};
+use luks_slot::{Key, SlotPlan, open};
 use std::alloc::Global;
 
 /// Opens the keyslot `n` by the passphrase: its volume key, or None where the passphrase doesn't give
@@ -38,36 +45,49 @@ pub fn open_slot<D: Device>(
     passphrase: &[u8],
 ) -> Result<Option<Key>, OpenFault>
     requires { D.failed device.old + 1 < 2 ^ 64 }
-    ensures size { D.size device.new ≡ D.size device.old }
-    ensures same { D.tells → D.bytes device.new ≡ D.bytes device.old }
-    ensures count { MatchResult result (λ _. D.failed device.new ≡ D.failed device.old) (λ f. Counts f (D.failed device.old) (D.failed device.new)) }
+    ensures unchanged { IsUnchanged D.tells D.size D.bytes device.old device.new }
+    ensures count { CountsFailure is_open_failure result (D.failed device.old) (D.failed device.new) }
     ensures opens { D.tells → IfOk result (λ found. Answer (D.bytes device.old) n passphrase.now (opened_to found)) }
     ensures refused { D.tells → IfErr result (IsRefusedBy (D.bytes device.old) n passphrase.now) }
     // There is no other answer.
     ensures only { D.tells → (a : Opened) → Answer (D.bytes device.old) n passphrase.now a → Agrees a result }
 {
     one_choice();
-    match select(alloc, device) {
-        Ok(Selected::V1(header)) => open_luks1(alloc, device, &header, n, passphrase),
-        Ok(Selected::V2 { header, .. }) => open_luks2(alloc, device, &header, n, passphrase),
-        Err(fault) => Err(outer_fault(fault)),
-    }
+    one_answer();
+    let header = read_header(alloc, device)?;
+    open_header_slot(alloc, device, &header, n, passphrase)
 }
 
-/// The fault of a selection as that of an opening: the device's failure and want of memory stand for
-/// themselves.
-pub(crate) fn outer_fault(fault: HeadFault) -> OpenFault
-    ensures { result ≡ outer_fault fault }
+/// What `open_slot` answers of a volume with this header. It takes no memory.
+pub fn open_header_slot<D: Device>(
+    alloc: Global,
+    device: &mut D,
+    header: &Header,
+    n: u8,
+    passphrase: &[u8],
+) -> Result<Option<Key>, OpenFault>
+    requires room { D.failed device.old + 1 < 2 ^ 64 }
+    requires accepted { IsAcceptedHeader header.now }
+    ensures unchanged { IsUnchanged D.tells D.size D.bytes device.old device.new }
+    ensures count { CountsFailure is_open_failure result (D.failed device.old) (D.failed device.new) }
+    ensures opens { D.tells → IsHeader (D.bytes device.old) header.now
+        → IfOk result (λ found. Answer (D.bytes device.old) n passphrase.now (opened_to found)) }
+    ensures refused { D.tells → IsHeader (D.bytes device.old) header.now
+        → IfErr result (IsRefusedBy (D.bytes device.old) n passphrase.now) }
+    ensures length { IfOk result (λ found. IfSome found (λ key. HasKeyBytes header.now n (length key))) }
+    ensures memory { IfErr result (λ f. f ≢ OpenFault.Memory) }
 {
-    match fault {
-        HeadFault::Device => OpenFault::Device,
-        HeadFault::Memory => OpenFault::Memory,
-        other => OpenFault::Head(other),
+    one_choice();
+    luks2_without_faults();
+    metadata_without_faults();
+    match header {
+        Header::Luks1(bytes) => open_luks1(alloc, device, bytes.as_slice(), n, passphrase),
+        Header::Luks2(copy) => open_luks2(alloc, device, &copy.meta, n, passphrase),
     }
 }
 
 /// What opening the keyslot `n` of a volume with these 592 bytes of a LUKS1 header gives.
-pub(crate) fn open_luks1<D: Device>(
+fn open_luks1<D: Device>(
     alloc: Global,
     device: &mut D,
     header: &[u8],
@@ -76,48 +96,42 @@ pub(crate) fn open_luks1<D: Device>(
 ) -> Result<Option<Key>, OpenFault>
     requires room { D.failed device.old + 1 < 2 ^ 64 }
     requires header { length header.now ≡ 592 }
-    ensures size { D.size device.new ≡ D.size device.old }
-    ensures same { D.tells → D.bytes device.new ≡ D.bytes device.old }
-    ensures count { MatchResult result (λ _. D.failed device.new ≡ D.failed device.old) (λ f. Counts f (D.failed device.old) (D.failed device.new)) }
+    ensures unchanged { IsUnchanged D.tells D.size D.bytes device.old device.new }
+    ensures count { CountsFailure is_open_failure result (D.failed device.old) (D.failed device.new) }
     ensures opens { D.tells → IfOk result (Luks1Opens header.now (D.bytes device.old) n passphrase.now) }
-    ensures only { D.tells → IfOk result (λ found. (other : Option (List ℕ)) → Luks1Opens header.now (D.bytes device.old) n passphrase.now other → other ≡ found) }
     ensures refused { IfErr result (Luks1Refused header.now (D.size device.old) n) }
+    ensures length { IfOk result (λ found. IfSome found (λ key. length key ≡ number_at header.now 108 4)) }
 {
-    let common = match luks1_common(header) {
-        Ok(common) => common,
-        Err(fault) => return Err(OpenFault::Head(fault)),
-    };
-    let slot = luks1_entry(header, n)?;
-    let plan = luks1_plan(&common, &slot);
-    open_planned(alloc, device, &plan, passphrase)
+    let common = luks1_common(header)?;
+    open_luks1_slot(alloc, device, header, &common, n, passphrase)
 }
 
-/// What opening the keyslot `n` of a volume with this binary header of the LUKS2 copy that counts gives.
-fn open_luks2<D: Device>(
+/// What opening the keyslot `n` gives where nothing is wrong with what stands before the keyslots.
+pub(crate) fn open_luks1_slot<D: Device>(
     alloc: Global,
     device: &mut D,
-    header: &Bin2,
+    header: &[u8],
+    common: &Luks1Common,
     n: u8,
     passphrase: &[u8],
 ) -> Result<Option<Key>, OpenFault>
     requires room { D.failed device.old + 1 < 2 ^ 64 }
-    requires within { IsCopyWithin (D.size device.old) header.now }
-    ensures size { D.size device.new ≡ D.size device.old }
-    ensures same { D.tells → D.bytes device.new ≡ D.bytes device.old }
-    ensures count { MatchResult result (λ _. D.failed device.new ≡ D.failed device.old) (λ f. Counts f (D.failed device.old) (D.failed device.new)) }
-    ensures opens { D.tells → (b : List ℕ) → HoldsBin2 b header.now
-        → IfOk result (Luks2Opens b (json_of (D.bytes device.old) header.now) (D.bytes device.old) n passphrase.now) }
-    ensures only { D.tells → (b : List ℕ) → HoldsBin2 b header.now → IfOk result (λ found. (other : Option (List ℕ))
-        → Luks2Opens b (json_of (D.bytes device.old) header.now) (D.bytes device.old) n passphrase.now other → other ≡ found) }
-    ensures refused { D.tells → (b : List ℕ) → HoldsBin2 b header.now
-        → IfErr result (Luks2Refused b (json_of (D.bytes device.old) header.now) (D.size device.old) n) }
+    requires header { length header.now ≡ 592 }
+    requires common { IsCommon header.now common.now }
+    requires faultless { (f : TheFault) → IsCommonFault header.now f → ⊥ }
+    ensures unchanged { IsUnchanged D.tells D.size D.bytes device.old device.new }
+    ensures count { CountsFailure is_open_failure result (D.failed device.old) (D.failed device.new) }
+    ensures opens { D.tells → IfOk result (Luks1Opens header.now (D.bytes device.old) n passphrase.now) }
+    ensures refused { IfErr result (Luks1Refused header.now (D.size device.old) n) }
+    ensures length { IfOk result (λ found. IfSome found (λ key. length key ≡ number_at header.now 108 4)) }
 {
-    let meta = luks2_meta(alloc, device, header)?;
-    open_keyslot(alloc, device, &meta, n, passphrase)
+    let slot = luks1_entry(header, n)?;
+    let plan = luks1_plan(common, &slot);
+    open_planned(alloc, device, &plan, passphrase)
 }
 
 /// What opening the keyslot `n` of a volume with this metadata gives.
-pub(crate) fn open_keyslot<D: Device>(
+pub(crate) fn open_luks2<D: Device>(
     alloc: Global,
     device: &mut D,
     meta: &Meta,
@@ -126,16 +140,14 @@ pub(crate) fn open_keyslot<D: Device>(
 ) -> Result<Option<Key>, OpenFault>
     requires room { D.failed device.old + 1 < 2 ^ 64 }
     requires accepted { IsAccepted (content meta.now) }
-    ensures size { D.size device.new ≡ D.size device.old }
-    ensures same { D.tells → D.bytes device.new ≡ D.bytes device.old }
-    ensures count { MatchResult result (λ _. D.failed device.new ≡ D.failed device.old) (λ f. Counts f (D.failed device.old) (D.failed device.new)) }
+    ensures unchanged { IsUnchanged D.tells D.size D.bytes device.old device.new }
+    ensures count { CountsFailure is_open_failure result (D.failed device.old) (D.failed device.new) }
     ensures opens { D.tells → (b json : List ℕ) → IsCleared (uuid_field b) json (content meta.now)
         → IfOk result (Luks2Opens b json (D.bytes device.old) n passphrase.now) }
-    ensures only { D.tells → (b json : List ℕ) → IsCleared (uuid_field b) json (content meta.now)
-        → IfOk result (λ found. (other : Option (List ℕ)) → Luks2Opens b json (D.bytes device.old) n passphrase.now other → other ≡ found) }
     ensures refused { (b json : List ℕ) → IsCleared (uuid_field b) json (content meta.now)
         → IfErr result (Luks2Refused b json (D.size device.old) n) }
-    ensures own { IfErr result (λ f. f ≢ OpenFault.Memory) }
+    ensures length { IfOk result (λ found. IfSome found (λ key. HasLuks2KeyBytes (content meta.now) n (length key))) }
+    ensures memory { IfErr result (λ f. f ≢ OpenFault.Memory) }
 {
     one_value();
     if n > 31 {
@@ -158,23 +170,17 @@ fn open_planned<D: Device>(
     passphrase: &[u8],
 ) -> Result<Option<Key>, OpenFault>
     requires room { D.failed device.old + 1 < 2 ^ 64 }
-    requires judged { IsJudged plan.now }
-    ensures size { D.size device.new ≡ D.size device.old }
-    ensures same { D.tells → D.bytes device.new ≡ D.bytes device.old }
-    ensures count { MatchResult result (λ _. D.failed device.new ≡ D.failed device.old) (λ f. Counts f (D.failed device.old) (D.failed device.new)) }
+    requires judged { IsOpenable plan.now }
+    ensures unchanged { IsUnchanged D.tells D.size D.bytes device.old device.new }
+    ensures count { CountsFailure is_open_failure result (D.failed device.old) (D.failed device.new) }
     ensures opens { D.tells → IfOk result (PlanOpens plan.now (D.bytes device.old) passphrase.now) }
     ensures refused { IfErr result (PlanRefused plan.now (D.size device.old)) }
-    ensures own { IfErr result (λ f. f ≢ OpenFault.Memory) }
+    ensures length { IfOk result (λ found. IfSome found (λ key. length key ≡ plan.now.key_bytes)) }
+    ensures memory { IfErr result (λ f. f ≢ OpenFault.Memory) }
 {
-    let total = device.len();
-    let area = plan.area;
-    if area.len > total || area.start > total - area.len {
+    if !plan.area.is_inside(device.len()) {
         return Err(OpenFault::Outside);
     }
-    match open(alloc, device, plan, passphrase) {
-        Ok(found) => Ok(found),
-        Err(SlotFault::Device) => Err(OpenFault::Device),
-        Err(SlotFault::Memory) => Err(OpenFault::Memory),
-        Err(fault) => Err(OpenFault::Slot(fault)),
-    }
+    let found = open(alloc, device, plan, passphrase)?;
+    Ok(found)
 }

@@ -1,23 +1,30 @@
 //! Opening a volume by the first keyslot that opens.
-ghost use Rattle.std.specs.Prelude.{◌≡◌, ◌+◌, ◌^◌, ◌<◌, ℕ, List, length, IfOk, IfErr, MatchResult};
+ghost use Rattle.std.specs.Prelude.{◌≡◌, ◌≢◌, ◌+◌, ◌^◌, ◌<◌, ℕ, List, length, IfOk, IfErr, IfSome};
+ghost use Rattle.luks_area.specs.Device.{CountsFailure, IsUnchanged};
 ghost use Rattle.luks_head.specs.declared.fault.HeadFault.{HeadFault as TheFault};
+ghost use Rattle.luks_head.specs.Bytes.{number_at};
 ghost use Rattle.luks_head.specs.Faults.{IsCommonFault};
-ghost use Rattle.luks_head.specs.Header2.{HoldsBin2, uuid_field};
-ghost use Rattle.luks_head.specs.Header2.{IsCopyWithin};
+ghost use Rattle.luks_head.specs.Header1.{IsCommon};
+ghost use Rattle.luks_head.specs.Header2.{uuid_field};
 ghost use Rattle.luks_meta.specs.Content.{content};
 ghost use Rattle.luks_meta.specs.Objects.{IsAccepted};
-ghost use Rattle.luks_volume.specs.Copied.{IsCleared, json_of};
-ghost use Rattle.luks_volume.specs.Planned.{Counts, IsFailure};
-ghost use Rattle.luks_volume.specs.Tried.{is_of_rank, passed_over, rank_order, Luks1LockedBy, Luks1Tried, Luks1Tries, Luks2LockedBy, Luks2Tried, Luks2Tries, Luks2Unlocks};
-ghost use Rattle.luks_volume.specs.Unlocking.{IsLockedBy, Unlocks};
+ghost use Rattle.luks_volume.specs.Agreement.{AgreesUnlocked};
+ghost use Rattle.luks_volume.specs.ChosenCopies.{IsCleared};
+ghost use Rattle.luks_volume.specs.Failures.{is_open_failure};
+ghost use Rattle.luks_volume.specs.Header.{IsAcceptedHeader, IsHeader};
+ghost use Rattle.luks_volume.specs.PlanAnswers.{IsFailure};
+ghost use Rattle.luks_volume.specs.Plans.{HasKeyBytes, HasLuks2KeyBytes};
+ghost use Rattle.luks_volume.specs.KeyslotsTried.{is_of_rank, passed_over, rank_order, Luks1VolumeRefused, Luks1Tried, Luks1Tries, Luks2Tried, Luks2Tries};
+ghost use Rattle.luks_volume.specs.Unlocking.{luks2_order, IsVolumeRefusedBy, Unlocked, UnlockAnswer, Unlocks};
 
-use crate::luks1_entry::luks1_common;
-use crate::luks2_copy::luks2_meta;
+use crate::header::{Header, read_header};
+use crate::laws::one_unlocking;
+use crate::luks1_fields::luks1_common;
 use crate::open_fault::OpenFault;
-use crate::opening::{open_keyslot, open_luks1, outer_fault};
+use crate::opening::{open_luks1_slot, open_luks2};
 use luks_area::Device;
-use luks_head::{Bin2, Selected, one_choice, select};
-use luks_meta::Meta;
+use luks_head::{Luks1Common, luks2_without_faults, one_choice};
+use luks_meta::{Meta, metadata_without_faults, one_digest, one_value};
 use luks_slot::Key;
 use std::alloc::Global;
 
@@ -43,17 +50,41 @@ pub fn unlock<D: Device>(
     passphrase: &[u8],
 ) -> Result<Option<(u8, Key)>, OpenFault>
     requires { D.failed device.old + 1 < 2 ^ 64 }
-    ensures size { D.size device.new ≡ D.size device.old }
-    ensures same { D.tells → D.bytes device.new ≡ D.bytes device.old }
-    ensures count { MatchResult result (λ _. D.failed device.new ≡ D.failed device.old) (λ f. Counts f (D.failed device.old) (D.failed device.new)) }
+    ensures unchanged { IsUnchanged D.tells D.size D.bytes device.old device.new }
+    ensures count { CountsFailure is_open_failure result (D.failed device.old) (D.failed device.new) }
     ensures unlocks { D.tells → IfOk result (Unlocks (D.bytes device.old) passphrase.now) }
-    ensures refused { D.tells → IfErr result (IsLockedBy (D.bytes device.old)) }
+    ensures refused { D.tells → IfErr result (IsVolumeRefusedBy (D.bytes device.old)) }
+    // There is no other answer.
+    ensures only { D.tells → (a : Unlocked) → UnlockAnswer (D.bytes device.old) passphrase.now a → AgreesUnlocked a result }
 {
     one_choice();
-    match select(alloc, device) {
-        Ok(Selected::V1(header)) => unlock_luks1(alloc, device, &header, passphrase),
-        Ok(Selected::V2 { header, .. }) => unlock_luks2(alloc, device, &header, passphrase),
-        Err(fault) => Err(outer_fault(fault)),
+    one_unlocking();
+    let header = read_header(alloc, device)?;
+    unlock_header(alloc, device, &header, passphrase)
+}
+
+/// What `unlock` answers of a volume with this header. It takes no memory.
+pub fn unlock_header<D: Device>(
+    alloc: Global,
+    device: &mut D,
+    header: &Header,
+    passphrase: &[u8],
+) -> Result<Option<(u8, Key)>, OpenFault>
+    requires room { D.failed device.old + 1 < 2 ^ 64 }
+    requires accepted { IsAcceptedHeader header.now }
+    ensures unchanged { IsUnchanged D.tells D.size D.bytes device.old device.new }
+    ensures count { CountsFailure is_open_failure result (D.failed device.old) (D.failed device.new) }
+    ensures unlocks { D.tells → IsHeader (D.bytes device.old) header.now → IfOk result (Unlocks (D.bytes device.old) passphrase.now) }
+    ensures refused { D.tells → IsHeader (D.bytes device.old) header.now → IfErr result (IsVolumeRefusedBy (D.bytes device.old)) }
+    ensures length { IfOk result (λ found. IfSome found (λ opened. HasKeyBytes header.now opened.0 (length opened.1))) }
+    ensures memory { IfErr result (λ f. f ≢ OpenFault.Memory) }
+{
+    one_choice();
+    luks2_without_faults();
+    metadata_without_faults();
+    match header {
+        Header::Luks1(bytes) => unlock_luks1(alloc, device, bytes.as_slice(), passphrase),
+        Header::Luks2(copy) => unlock_luks2(alloc, device, &copy.meta, passphrase),
     }
 }
 
@@ -65,19 +96,16 @@ fn unlock_luks1<D: Device>(
 ) -> Result<Option<(u8, Key)>, OpenFault>
     requires room { D.failed device.old + 1 < 2 ^ 64 }
     requires header { length header.now ≡ 592 }
-    ensures size { D.size device.new ≡ D.size device.old }
-    ensures same { D.tells → D.bytes device.new ≡ D.bytes device.old }
-    ensures count { MatchResult result (λ _. D.failed device.new ≡ D.failed device.old) (λ f. Counts f (D.failed device.old) (D.failed device.new)) }
+    ensures unchanged { IsUnchanged D.tells D.size D.bytes device.old device.new }
+    ensures count { CountsFailure is_open_failure result (D.failed device.old) (D.failed device.new) }
     ensures unrefused { IfOk result (λ _. (f : TheFault) → IsCommonFault header.now f → ⊥) }
     ensures tries { D.tells → IfOk result (Luks1Tries header.now (D.bytes device.old) passphrase.now) }
-    ensures refused { IfErr result (Luks1LockedBy header.now) }
+    ensures refused { IfErr result (Luks1VolumeRefused header.now) }
+    ensures length { IfOk result (λ found. IfSome found (λ opened. length opened.1 ≡ number_at header.now 108 4)) }
 {
-    match luks1_common(header) {
-        Ok(_) => {}
-        Err(fault) => return Err(OpenFault::Head(fault)),
-    }
+    let common = luks1_common(header)?;
     for n in 0..8 {
-        match try_luks1(alloc, device, header, n, passphrase) {
+        match try_luks1(alloc, device, header, &common, n, passphrase) {
             Ok(Some(key)) => return Ok(Some((n, key))),
             Ok(None) => {}
             Err(fault) => return Err(fault),
@@ -90,20 +118,22 @@ fn try_luks1<D: Device>(
     alloc: Global,
     device: &mut D,
     header: &[u8],
+    common: &Luks1Common,
     n: u8,
     passphrase: &[u8],
 ) -> Result<Option<Key>, OpenFault>
     requires room { D.failed device.old + 1 < 2 ^ 64 }
     requires header { length header.now ≡ 592 }
-    ensures size { D.size device.new ≡ D.size device.old }
-    ensures same { D.tells → D.bytes device.new ≡ D.bytes device.old }
-    ensures count { MatchResult result (λ _. D.failed device.new ≡ D.failed device.old) (λ f. Counts f (D.failed device.old) (D.failed device.new)) }
+    requires common { IsCommon header.now common.now }
+    requires faultless { (f : TheFault) → IsCommonFault header.now f → ⊥ }
+    ensures unchanged { IsUnchanged D.tells D.size D.bytes device.old device.new }
+    ensures count { CountsFailure is_open_failure result (D.failed device.old) (D.failed device.new) }
     ensures tried { D.tells → IfOk result (Luks1Tried header.now (D.bytes device.old) n passphrase.now) }
     ensures kinds { IfErr result IsFailure }
+    ensures length { IfOk result (λ found. IfSome found (λ key. length key ≡ number_at header.now 108 4)) }
 {
-    match open_luks1(alloc, device, header, n, passphrase) {
-        Ok(Some(key)) => Ok(Some(key)),
-        Ok(None) => Ok(None),
+    match open_luks1_slot(alloc, device, header, common, n, passphrase) {
+        Ok(found) => Ok(found),
         Err(fault) => passed_over(fault),
     }
 }
@@ -111,23 +141,21 @@ fn try_luks1<D: Device>(
 fn unlock_luks2<D: Device>(
     alloc: Global,
     device: &mut D,
-    header: &Bin2,
+    meta: &Meta,
     passphrase: &[u8],
 ) -> Result<Option<(u8, Key)>, OpenFault>
     requires room { D.failed device.old + 1 < 2 ^ 64 }
-    requires within { IsCopyWithin (D.size device.old) header.now }
-    ensures size { D.size device.new ≡ D.size device.old }
-    ensures same { D.tells → D.bytes device.new ≡ D.bytes device.old }
-    ensures count { MatchResult result (λ _. D.failed device.new ≡ D.failed device.old) (λ f. Counts f (D.failed device.old) (D.failed device.new)) }
-    ensures unlocks { D.tells → (b : List ℕ) → HoldsBin2 b header.now
-        → IfOk result (Luks2Unlocks b (json_of (D.bytes device.old) header.now) (D.bytes device.old) passphrase.now) }
-    ensures refused { D.tells → (b : List ℕ) → HoldsBin2 b header.now
-        → IfErr result (Luks2LockedBy b (json_of (D.bytes device.old) header.now)) }
+    requires accepted { IsAccepted (content meta.now) }
+    ensures unchanged { IsUnchanged D.tells D.size D.bytes device.old device.new }
+    ensures count { CountsFailure is_open_failure result (D.failed device.old) (D.failed device.new) }
+    ensures tries { D.tells → (b json : List ℕ) → IsCleared (uuid_field b) json (content meta.now)
+        → IfOk result (Luks2Tries b json (D.bytes device.old) passphrase.now (luks2_order (content meta.now))) }
+    ensures kinds { IfErr result IsFailure }
+    ensures length { IfOk result (λ found. IfSome found (λ opened. HasLuks2KeyBytes (content meta.now) opened.0 (length opened.1))) }
 {
-    let meta = luks2_meta(alloc, device, header)?;
-    match try_rank(alloc, device, &meta, Rank::Preferred, passphrase) {
+    match try_rank(alloc, device, meta, Rank::Preferred, passphrase) {
         Ok(Some(found)) => Ok(Some(found)),
-        Ok(None) => try_rank(alloc, device, &meta, Rank::Normal, passphrase),
+        Ok(None) => try_rank(alloc, device, meta, Rank::Normal, passphrase),
         Err(fault) => Err(fault),
     }
 }
@@ -142,16 +170,16 @@ fn try_rank<D: Device>(
 ) -> Result<Option<(u8, Key)>, OpenFault>
     requires room { D.failed device.old + 1 < 2 ^ 64 }
     requires accepted { IsAccepted (content meta.now) }
-    ensures size { D.size device.new ≡ D.size device.old }
-    ensures same { D.tells → D.bytes device.new ≡ D.bytes device.old }
-    ensures count { MatchResult result (λ _. D.failed device.new ≡ D.failed device.old) (λ f. Counts f (D.failed device.old) (D.failed device.new)) }
+    ensures unchanged { IsUnchanged D.tells D.size D.bytes device.old device.new }
+    ensures count { CountsFailure is_open_failure result (D.failed device.old) (D.failed device.new) }
     ensures tries { D.tells → (b json : List ℕ) → IsCleared (uuid_field b) json (content meta.now)
         → IfOk result (Luks2Tries b json (D.bytes device.old) passphrase.now (rank_order rank (content meta.now))) }
     ensures kinds { IfErr result IsFailure }
+    ensures length { IfOk result (λ found. IfSome found (λ opened. HasLuks2KeyBytes (content meta.now) opened.0 (length opened.1))) }
 {
     for n in 0..32 {
         if is_of_rank(meta, rank, n) {
-            match try_keyslot(alloc, device, meta, n, passphrase) {
+            match try_luks2(alloc, device, meta, n, passphrase) {
                 Ok(Some(key)) => return Ok(Some((n, key))),
                 Ok(None) => {}
                 Err(fault) => return Err(fault),
@@ -175,7 +203,7 @@ fn is_of_rank(meta: &Meta, rank: Rank, n: u8) -> bool
     }
 }
 
-fn try_keyslot<D: Device>(
+fn try_luks2<D: Device>(
     alloc: Global,
     device: &mut D,
     meta: &Meta,
@@ -184,16 +212,17 @@ fn try_keyslot<D: Device>(
 ) -> Result<Option<Key>, OpenFault>
     requires room { D.failed device.old + 1 < 2 ^ 64 }
     requires accepted { IsAccepted (content meta.now) }
-    ensures size { D.size device.new ≡ D.size device.old }
-    ensures same { D.tells → D.bytes device.new ≡ D.bytes device.old }
-    ensures count { MatchResult result (λ _. D.failed device.new ≡ D.failed device.old) (λ f. Counts f (D.failed device.old) (D.failed device.new)) }
+    ensures unchanged { IsUnchanged D.tells D.size D.bytes device.old device.new }
+    ensures count { CountsFailure is_open_failure result (D.failed device.old) (D.failed device.new) }
     ensures tried { D.tells → (b json : List ℕ) → IsCleared (uuid_field b) json (content meta.now)
         → IfOk result (Luks2Tried b json (D.bytes device.old) n passphrase.now) }
     ensures kinds { IfErr result IsFailure }
+    ensures length { IfOk result (λ found. IfSome found (λ key. HasLuks2KeyBytes (content meta.now) n (length key))) }
 {
-    match open_keyslot(alloc, device, meta, n, passphrase) {
-        Ok(Some(key)) => Ok(Some(key)),
-        Ok(None) => Ok(None),
+    one_value();
+    one_digest();
+    match open_luks2(alloc, device, meta, n, passphrase) {
+        Ok(found) => Ok(found),
         Err(fault) => passed_over(fault),
     }
 }

@@ -1,8 +1,9 @@
 //! The command `check`.
 ghost use Rattle.std.specs.Prelude.{◌≡◌, ◌+◌, ◌<◌, ◌^◌, IfOk, IfErr};
 ghost use Rattle.std.specs.Result.{ForOk};
+ghost use Rattle.luks_area.specs.Device.{IsUnchanged};
 ghost use Rattle.luks_cli.specs.Checked.{EndsCheck, status_of};
-ghost use Rattle.luks_cli.specs.Files.{KeepsBytes};
+ghost use Rattle.luks_cli.specs.Files.{KeepsVolume};
 
 use crate::answers::{Status, device_fault, no_memory, refused, unread};
 use crate::copies::copies_name;
@@ -20,7 +21,7 @@ pub(crate) fn run<D: Device, W: Write>(
     out: &mut W,
 ) -> io::Result<Status>
     requires { ForOk volume.old (λ d. D.failed d + 1 < 2 ^ 64) }
-    ensures same { D.tells → KeepsBytes D.bytes volume.old volume.new }
+    ensures unchanged { KeepsVolume D.tells D.size D.bytes volume.old volume.new }
     ensures status { D.tells → IfOk result (λ s. IfOk volume.old (λ d. EndsCheck (D.bytes d) data_ s)) }
     ensures unread { IfOk result (λ s. IfErr volume.old (λ _. s ≡ Status.Fault)) }
 {
@@ -37,7 +38,7 @@ fn check_device<D: Device, W: Write>(
     out: &mut W,
 ) -> io::Result<Status>
     requires { D.failed device.old + 1 < 2 ^ 64 }
-    ensures same { D.tells → D.bytes device.new ≡ D.bytes device.old }
+    ensures unchanged { IsUnchanged D.tells D.size D.bytes device.old device.new }
     ensures status { D.tells → IfOk result (EndsCheck (D.bytes device.old) data_) }
 {
     match check(alloc, device, data_) {

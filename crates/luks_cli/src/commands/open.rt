@@ -1,7 +1,8 @@
 //! The command `open`.
 ghost use Rattle.std.specs.Prelude.{◌≡◌, ◌≢◌, ◌+◌, ◌<◌, ◌^◌, IfOk, IfErr};
 ghost use Rattle.std.specs.Result.{ForOk};
-ghost use Rattle.luks_cli.specs.Files.{KeepsBytes};
+ghost use Rattle.luks_area.specs.Device.{IsUnchanged};
+ghost use Rattle.luks_cli.specs.Files.{KeepsVolume};
 
 use crate::answers::{Status, device_fault, no_memory, refused, unread};
 use crate::inputs::Inputs;
@@ -13,6 +14,7 @@ use std::io::{Read, Write};
 
 /// Prints whether the passphrase opens the keyslot of this number, or without one which is the first
 /// that it opens. The passphrase is read before the volume.
+#[tactic(auto, using(crate::proofs::FileFacts::keeps_same))]
 pub(crate) fn run<D: Device, R: Read, W: Write>(
     alloc: Global,
     inputs: &mut Inputs<D, R>,
@@ -20,7 +22,7 @@ pub(crate) fn run<D: Device, R: Read, W: Write>(
     out: &mut W,
 ) -> io::Result<Status>
     requires { ForOk inputs.old.volume (λ d. D.failed d + 1 < 2 ^ 64) }
-    ensures same { D.tells → KeepsBytes D.bytes inputs.old.volume inputs.new.volume }
+    ensures unchanged { KeepsVolume D.tells D.size D.bytes inputs.old.volume inputs.new.volume }
     ensures kinds { IfOk result (λ s. s ≢ Status.NotInStep) }
     ensures unread { IfOk result (λ s. IfErr inputs.old.volume (λ _. s ≢ Status.Done)) }
 {
@@ -43,7 +45,7 @@ fn open_device<D: Device, W: Write>(
     out: &mut W,
 ) -> io::Result<Status>
     requires { D.failed device.old + 1 < 2 ^ 64 }
-    ensures same { D.tells → D.bytes device.new ≡ D.bytes device.old }
+    ensures unchanged { IsUnchanged D.tells D.size D.bytes device.old device.new }
     ensures kinds { IfOk result (λ s. s ≢ Status.NotInStep) }
 {
     match slot {
@@ -60,7 +62,7 @@ fn open_one<D: Device, W: Write>(
     out: &mut W,
 ) -> io::Result<Status>
     requires { D.failed device.old + 1 < 2 ^ 64 }
-    ensures same { D.tells → D.bytes device.new ≡ D.bytes device.old }
+    ensures unchanged { IsUnchanged D.tells D.size D.bytes device.old device.new }
     ensures kinds { IfOk result (λ s. s ≢ Status.NotInStep) }
 {
     match open_slot(alloc, device, n, passphrase) {
@@ -80,7 +82,7 @@ fn open_any<D: Device, W: Write>(
     out: &mut W,
 ) -> io::Result<Status>
     requires { D.failed device.old + 1 < 2 ^ 64 }
-    ensures same { D.tells → D.bytes device.new ≡ D.bytes device.old }
+    ensures unchanged { IsUnchanged D.tells D.size D.bytes device.old device.new }
     ensures kinds { IfOk result (λ s. s ≢ Status.NotInStep) }
 {
     match unlock(alloc, device, passphrase) {

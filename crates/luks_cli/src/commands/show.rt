@@ -1,7 +1,8 @@
 //! The command `show`.
 ghost use Rattle.std.specs.Prelude.{◌≡◌, ◌≢◌, ◌+◌, ◌<◌, ◌^◌, IfOk, IfErr};
 ghost use Rattle.std.specs.Result.{ForOk};
-ghost use Rattle.luks_cli.specs.Files.{KeepsBytes};
+ghost use Rattle.luks_area.specs.Device.{IsUnchanged};
+ghost use Rattle.luks_cli.specs.Files.{KeepsVolume};
 
 mod escaped;
 mod lists;
@@ -11,7 +12,7 @@ mod objects;
 
 use crate::answers::{Status, device_fault, no_memory, refused, unread};
 use crate::inputs::InputFault;
-use luks_volume::{Device, HeadFault, Luks1, Selected, select};
+use luks_volume::{Device, Header, Luks1, ReadFault, read_header};
 use luks1::show_luks1;
 use luks2::show_luks2;
 use std::alloc::Global;
@@ -25,7 +26,7 @@ pub(crate) fn run<D: Device, W: Write>(
     out: &mut W,
 ) -> io::Result<Status>
     requires { ForOk volume.old (λ d. D.failed d + 1 < 2 ^ 64) }
-    ensures same { D.tells → KeepsBytes D.bytes volume.old volume.new }
+    ensures unchanged { KeepsVolume D.tells D.size D.bytes volume.old volume.new }
     ensures kinds { IfOk result (λ s. s ≢ Status.NotInStep) }
     ensures unread { IfOk result (λ s. IfErr volume.old (λ _. s ≢ Status.Done)) }
 {
@@ -41,17 +42,17 @@ fn show_device<D: Device, W: Write>(
     out: &mut W,
 ) -> io::Result<Status>
     requires { D.failed device.old + 1 < 2 ^ 64 }
-    ensures same { D.tells → D.bytes device.new ≡ D.bytes device.old }
+    ensures unchanged { IsUnchanged D.tells D.size D.bytes device.old device.new }
     ensures kinds { IfOk result (λ s. s ≢ Status.NotInStep) }
 {
-    match select(alloc, device) {
-        Ok(Selected::V1(bytes)) => match Luks1::read(&bytes) {
+    match read_header(alloc, device) {
+        Ok(Header::Luks1(bytes)) => match Luks1::read(&bytes) {
             Ok(header) => show_luks1(&header, out),
             Err(fault) => refused(&fault, out),
         },
-        Ok(Selected::V2 { header, copies }) => show_luks2(alloc, device, &header, copies, out),
-        Err(HeadFault::Device) => device_fault(out),
-        Err(HeadFault::Memory) => no_memory(out),
+        Ok(Header::Luks2(copy)) => show_luks2(&copy, out),
+        Err(ReadFault::Device) => device_fault(out),
+        Err(ReadFault::Memory) => no_memory(out),
         Err(fault) => refused(&fault, out),
     }
 }

@@ -1,18 +1,18 @@
 use Rattle.std.proofs.Common.{lit≤}
 use Rattle.luks_area.specs.Ranges.{part}
+use Rattle.luks_area.specs.RangeFacts.{length-part_inside}
 use Rattle.luks_head.proofs.Luks1HeaderFacts.{back, common_fault_moves, common_moves, entry_moves, fault_moves, first_of, header_moves}
-use Rattle.luks_head.proofs.CopyFacts.{length-part}
 use Rattle.luks_head.proofs.laws.luks1_is_first_bytes.Goals as goal
 
 pub returns-clause-header : goal.returns-clause-header
 returns-clause-header c = λ v d long. (
   header_moves (part v 0 592) v d long (first_of v 592),
-  header_moves v (part v 0 592) d (rw (length-part v 0 592 long) (lit≤ tt)) (back 592 _ _ (first_of v 592)),
+  header_moves v (part v 0 592) d (rw (length-part_inside v 0 592 long) (lit≤ tt)) (back 592 _ _ (first_of v 592)),
 )
 
 pub returns-clause-faults : goal.returns-clause-faults
 returns-clause-faults c = λ v f long. (
-  fault_moves (part v 0 592) v (rw (length-part v 0 592 long) (lit≤ tt)) (first_of v 592) f,
+  fault_moves (part v 0 592) v (rw (length-part_inside v 0 592 long) (lit≤ tt)) (first_of v 592) f,
   fault_moves v (part v 0 592) long (back 592 _ _ (first_of v 592)) f,
 )
 

@@ -1,4 +1,4 @@
-use Rattle.std.proofs.Common.{◌≡◌, ℕ, ◌+◌, ◌≤◌, ◌∙◌, length, replicate, ap, sym, arith}
+use Rattle.std.proofs.Common.{◌≡◌, ℕ, ◌∙◌, length, replicate, ap, sym, arith}
 use Rattle.std.proofs.lemmas.List.{length-replicate}
 use Rattle.luks_area.specs.RangeFacts.{part-written, same_but-same_outside}
 use Rattle.luks_area.specs.Ranges.{part, written}

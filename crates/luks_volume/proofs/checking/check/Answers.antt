@@ -1,59 +1,36 @@
-use Rattle.std.proofs.Common.{sym, subst, ◌∙◌}
-use Rattle.luks_head.specs.Selection.{IsSelected}
-use Rattle.luks_volume.proofs.Checks.{luks1_refused, select_refused, select_only}
-use Rattle.luks_volume.proofs.Lawful.{luks1_accepted, luks1_areas_are, on_ok}
+-- What a header that was read gives is what the volume gives; a header that isn't read refuses it.
+use Rattle.std.proofs.Common.{sym, ◌∙◌}
+use Rattle.std.proofs.lemmas.Result.{err_from_is_err_and, IfErr-weaker}
+use Rattle.luks_volume.specs.Conversions.{unread_checked}
+use Rattle.luks_volume.proofs.CheckFacts.{first_refused, on_ok, outside, outside_result, unread_refused}
 use Rattle.luks_volume.proofs.checking.check.Goals as goal
 
-pub returns-in-Err-judge_luks1-clause-refused : goal.returns-in-Err-judge_luks1-clause-refused
-returns-in-Err-judge_luks1-clause-refused g c = λ tells.
-    let selected = rw c.in-Ok-V1.field-0-is at (c.in-Ok-V1.ensures.found tells) in
-    luks1_refused c.one_choice.ensures.only _ _ _ _ c.in-Err-judge_luks1.fault selected.0 selected.1
-    (c.len.ensures ∙ c.in-Ok-V1.ensures.unchanged.size ∙ sym (g.met.D.Device.sized c.args.device.now tells))
-    c.in-Err-judge_luks1.ensures.refused
+pub returns-in_err-header-clause-refused : goal.returns-in_err-header-clause-refused
+returns-in_err-header-clause-refused g c = λ tells.
+    let p = err_from_is_err_and c.from_residual.result c.from_residual.ensures.1 in
+    rw (p.1, p.2) (unread_refused c.one_choice.ensures.only _ c.args.data_ c.in_err-header.field-0.0 (c.in_err-header.ensures.refused tells))
 
-pub returns-in-Ok-V2-clause-accepted : goal.returns-in-Ok-V2-clause-accepted
-returns-in-Ok-V2-clause-accepted g c = λ tells.
-    let same = c.in-Ok-V2.ensures.unchanged.same tells in
-    rw (← same) (c.check_luks2.ensures.accepted tells (rw same (subst (IsSelected (g.D.Device.bytes c.args.device.now)) c.in-Ok-V2.field-0-is (c.in-Ok-V2.ensures.found tells))))
+pub returns-in_err-header-clause-only : goal.returns-in_err-header-clause-only
+returns-in_err-header-clause-only g c = λ tells well.
+    let v = g.D.Device.bytes c.args.device.now in
+    let p = err_from_is_err_and c.from_residual.result c.from_residual.ensures.1 in
+    rw (p.1, p.2)
+    (outside v c.args.data_ (unread_checked c.in_err-header.field-0.0) ((c.no_fault_is_well_formed.ensures v c.args.data_).0 well)
+    (unread_refused c.one_choice.ensures.only v c.args.data_ c.in_err-header.field-0.0 (c.in_err-header.ensures.refused tells)))
 
-pub returns-in-Ok-V2-clause-report : goal.returns-in-Ok-V2-clause-report
-returns-in-Ok-V2-clause-report g c = λ tells.
-    let same = c.in-Ok-V2.ensures.unchanged.same tells in
-    rw (← same) (c.check_luks2.ensures.report tells (rw same (subst (IsSelected (g.D.Device.bytes c.args.device.now)) c.in-Ok-V2.field-0-is (c.in-Ok-V2.ensures.found tells))))
+pub returns-clause-refused : goal.returns-clause-refused
+returns-clause-refused g c = λ tells.
+    let v = g.D.Device.bytes c.args.device.now in
+    let long = g.met.D.Device.sized c.args.device.now tells ∙ sym c.in_ok-header.ensures.unchanged.size ∙ sym c.len.ensures in
+    IfErr-weaker c.check_header.result _ _ (first_refused v c.args.data_) (c.check_header.ensures.refused v (c.in_ok-header.ensures.read tells) long)
 
-pub returns-in-Ok-V2-clause-refused : goal.returns-in-Ok-V2-clause-refused
-returns-in-Ok-V2-clause-refused g c = λ tells.
-    let same = c.in-Ok-V2.ensures.unchanged.same tells in
-    rw (← same) (c.check_luks2.ensures.refused tells (rw same (subst (IsSelected (g.D.Device.bytes c.args.device.now)) c.in-Ok-V2.field-0-is (c.in-Ok-V2.ensures.found tells))))
+pub returns-clause-only : goal.returns-clause-only
+returns-clause-only g c = λ tells well.
+    let v = g.D.Device.bytes c.args.device.now in
+    outside_result v c.args.data_ c.check_header.result ((c.no_fault_is_well_formed.ensures v c.args.data_).0 well) (returns-clause-refused g c tells)
 
-pub returns-in-Ok-V2-clause-only : goal.returns-in-Ok-V2-clause-only
-returns-in-Ok-V2-clause-only g c = λ tells well.
-    let same = c.in-Ok-V2.ensures.unchanged.same tells in
-    c.check_luks2.ensures.only tells (rw same (subst (IsSelected (g.D.Device.bytes c.args.device.now)) c.in-Ok-V2.field-0-is (c.in-Ok-V2.ensures.found tells))) (rw same well)
-
-pub returns-in-Err-clause-refused : goal.returns-in-Err-clause-refused
-returns-in-Err-clause-refused g c = λ tells. rw c.outer_fault.ensures (select_refused c.one_choice.ensures.only _ _ _ (c.in-Err.ensures.refused tells))
-
-pub returns-in-Err-clause-only : goal.returns-in-Err-clause-only
-returns-in-Err-clause-only g c = λ tells well. rw c.outer_fault.ensures (select_only c.one_choice.ensures.only _ _ _ (c.in-Err.ensures.refused tells) well)
-
-pub returns-in-Ok-clause-report : goal.returns-in-Ok-clause-report
-returns-in-Ok-clause-report g c = λ tells.
-    let selected = rw c.in-Ok-V1.field-0-is at (c.in-Ok-V1.ensures.found tells) in
-    record {
-      version = selected.0;
-      areas = luks1_areas_are c.one_choice.ensures.only _ _ _ _ _ selected.0 selected.1
-          (c.len.ensures ∙ c.in-Ok-V1.ensures.unchanged.size ∙ sym (g.met.D.Device.sized c.args.device.now tells)) c.in-Ok.ensures.areas;
-    }
-
-pub returns-in-Ok-clause-lawful : goal.returns-in-Ok-clause-lawful
-returns-in-Ok-clause-lawful g c = λ tells.
-    let selected = rw c.in-Ok-V1.field-0-is at (c.in-Ok-V1.ensures.found tells) in
-    c.well_formed_volume.ensures _ _ (luks1_accepted _ _ _ _ selected.0 selected.1
-    (c.len.ensures ∙ c.in-Ok-V1.ensures.unchanged.size ∙ sym (g.met.D.Device.sized c.args.device.now tells)) c.in-Ok.ensures.accepted)
-
-pub returns-in-Ok-V2-clause-lawful : goal.returns-in-Ok-V2-clause-lawful
-returns-in-Ok-V2-clause-lawful g c = λ tells.
-    on_ok _ (c.well_formed_volume.ensures (g.D.Device.bytes c.args.device.now) c.args.data_)
-    (let same = c.in-Ok-V2.ensures.unchanged.same tells in
-    rw (← same) (c.check_luks2.ensures.accepted tells (rw same (subst (IsSelected (g.D.Device.bytes c.args.device.now)) c.in-Ok-V2.field-0-is (c.in-Ok-V2.ensures.found tells)))))
+pub returns-clause-fits_and_resolves : goal.returns-clause-fits_and_resolves
+returns-clause-fits_and_resolves g c = λ tells.
+    let v = g.D.Device.bytes c.args.device.now in
+    let long = g.met.D.Device.sized c.args.device.now tells ∙ sym c.in_ok-header.ensures.unchanged.size ∙ sym c.len.ensures in
+    on_ok _ (c.well_formed_volume.ensures v c.args.data_) (c.check_header.ensures.accepted v (c.in_ok-header.ensures.read tells) long)

@@ -1,13 +1,12 @@
 -- A keyslot that is refused or gives no key doesn't open.
-use Rattle.std.proofs.Common.{◌≡◌, ◌∙◌, ℕ, length, subst, sym}
-use Rattle.luks_volume.specs.Entered.{Luks1Refused}
-use Rattle.luks_volume.proofs.Shut.{luks1_none_shut, luks1_own, passed_fails, luks1_refused_tried}
+use Rattle.std.proofs.Common.{◌≡◌, ℕ, length, subst, sym}
+use Rattle.luks_volume.specs.Luks1Keyslots.{Luks1Refused}
+use Rattle.luks_volume.proofs.TriedKeyslots.{luks1_own, luks1_refused_tried, luks1_tried, passed_fails, passed_none}
 use Rattle.luks_volume.proofs.unlocking.try_luks1.Goals as goal
 
-pub returns-in-Ok-None-clause-tried : goal.returns-in-Ok-None-clause-tried
-returns-in-Ok-None-clause-tried g c = λ tells.
-    luks1_none_shut c.args.header.now (g.D.Device.bytes c.args.device.now) c.args.n c.args.passphrase.now
-    (λ other y. c.in-Ok-None.ensures.only tells other y ∙ c.in-Ok-None.field-0-is)
+pub returns-in-Ok-clause-tried : goal.returns-in-Ok-clause-tried
+returns-in-Ok-clause-tried g c = λ tells.
+    luks1_tried c.args.header.now (g.D.Device.bytes c.args.device.now) c.args.n c.args.passphrase.now c.in-Ok.found (c.in-Ok.ensures.opens tells)
 
 pub returns-in-Err-clause-tried : goal.returns-in-Err-clause-tried
 returns-in-Err-clause-tried g c = λ tells.
@@ -21,3 +20,6 @@ pub returns-in-Err-clause-kinds : goal.returns-in-Err-clause-kinds
 returns-in-Err-clause-kinds g c =
     rw c.passed_over.ensures
     (passed_fails c.in-Err.fault (luks1_own c.args.header.now (g.D.Device.size c.args.device.now) c.args.n c.in-Err.fault c.in-Err.ensures.refused))
+
+pub returns-in-Err-clause-length : goal.returns-in-Err-clause-length
+returns-in-Err-clause-length g c = rw c.passed_over.ensures (passed_none _ c.in-Err.fault)
