@@ -104,7 +104,7 @@ const OPEN_31: &[&str] = &[
 ];
 
 /// What is edited, the words, the passphrase, what is printed and the status.
-const ROWS: [(&[Edit], &[&str], &[u8], &str, u8); 18] = [
+const ROWS: [(&[Edit], &[&str], &[u8], &str, u8); 19] = [
     (NEVER, OPEN_0, b"one", "slot 0 opens\n", 0),
     (NEVER, OPEN_1, b"one", "slot 1 opens\n", 0),
     (NEVER, OPEN_2, b"one", "slot 2 opens\n", 0),
@@ -125,6 +125,13 @@ const ROWS: [(&[Edit], &[&str], &[u8], &str, u8); 18] = [
     (
         &[("json_size", "json")],
         OPEN_0,
+        b"one",
+        "refused Shape(config.json_size)\n",
+        1,
+    ),
+    (
+        &[("json_size", "json")],
+        OPEN,
         b"one",
         "refused Shape(config.json_size)\n",
         1,
@@ -213,5 +220,11 @@ fn keyslot_of_4000_stripes(rt: HostRuntime) -> Result<(), Fail> {
         ..row
     };
     image.truncate(290815);
+    compare(&rt, rt.alloc(), &image, &row)?;
+    let row = Row {
+        words: OPEN,
+        want: "no slot opens\n",
+        ..row
+    };
     compare(&rt, rt.alloc(), &image, &row)
 }

@@ -155,13 +155,13 @@ slot 7 disabled offset 3536 stripes 4000
         words: OPEN_0,
         want: "slot 0 opens\n",
         least: 1,
-        most: 8,
+        most: 64,
     },
     Row {
         words: OPEN,
         want: "slot 0 opens\n",
         least: 1,
-        most: 8,
+        most: 64,
     },
 ];
 
