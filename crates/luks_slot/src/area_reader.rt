@@ -39,7 +39,8 @@ impl AreaReader {
         requires in_area { 512 * (number + 1) ≤ self.old.area.len }
         requires within { IsInside self.old.area (D.size device.old) }
         requires room { D.failed device.old + 1 < 2 ^ 64 }
-        ensures count { CountsFailure is_failure result (D.failed device.old) (D.failed device.new) }
+        ensures count { CountsFailure is_failure result
+            (D.failed device.old) (D.failed device.new) }
         ensures unchanged { IsUnchanged D.tells D.size D.bytes device.old device.new }
         ensures same_area { self.new.area ≡ self.old.area }
         ensures same_key { self.new.key ≡ self.old.key }
@@ -58,7 +59,8 @@ impl AreaReader {
         requires within { IsInside self.old.area (D.size device.old) }
         requires room { D.failed device.old + 1 < 2 ^ 64 }
         requires before { D.tells → IsReading self.old (D.bytes device.old) place }
-        ensures count { CountsFailure is_failure result (D.failed device.old) (D.failed device.new) }
+        ensures count { CountsFailure is_failure result
+            (D.failed device.old) (D.failed device.new) }
         ensures unchanged { IsUnchanged D.tells D.size D.bytes device.old device.new }
         ensures same_area { self.new.area ≡ self.old.area }
         ensures same_key { self.new.key ≡ self.old.key }
@@ -84,7 +86,8 @@ impl AreaReader {
         requires within { IsInside self.old.area (D.size device.old) }
         requires room { D.failed device.old + 1 < 2 ^ 64 }
         requires before { D.tells → IsReading self.old (D.bytes device.old) from }
-        ensures count { CountsFailure is_failure result (D.failed device.old) (D.failed device.new) }
+        ensures count { CountsFailure is_failure result
+            (D.failed device.old) (D.failed device.new) }
         ensures unchanged { IsUnchanged D.tells D.size D.bytes device.old device.new }
         ensures same_area { self.new.area ≡ self.old.area }
         ensures same_key { self.new.key ≡ self.old.key }

@@ -37,7 +37,8 @@ impl AreaWriter {
         requires in_area { 512 * (number + 1) ≤ self.old.area.len }
         requires within { IsInside self.old.area (D.size device.old) }
         requires room { D.failed device.old + 1 < 2 ^ 64 }
-        ensures count { CountsFailure is_failure result (D.failed device.old) (D.failed device.new) }
+        ensures count { CountsFailure is_failure result
+            (D.failed device.old) (D.failed device.new) }
         ensures size { D.size device.new ≡ D.size device.old }
         ensures same_area { self.new.area ≡ self.old.area }
         ensures same_key { self.new.key ≡ self.old.key }
@@ -51,12 +52,14 @@ impl AreaWriter {
         Ok(())
     }
 
-    // Puts a byte at a place of the area. It is held until its sector is full, which is then written.
+    // Puts a byte at a place of the area. It is held until its sector is full, which is then
+    // written.
     fn put<D: Device>(&mut self, device: &mut D, place: u64, byte: u8) -> Result<(), DeviceFault>
         requires in_area { 512 * (place / 512 + 1) ≤ self.old.area.len }
         requires within { IsInside self.old.area (D.size device.old) }
         requires room { D.failed device.old + 1 < 2 ^ 64 }
-        ensures count { CountsFailure is_failure result (D.failed device.old) (D.failed device.new) }
+        ensures count { CountsFailure is_failure result
+            (D.failed device.old) (D.failed device.new) }
         ensures size { D.size device.new ≡ D.size device.old }
         ensures same_area { self.new.area ≡ self.old.area }
         ensures same_key { self.new.key ≡ self.old.key }
@@ -85,13 +88,15 @@ impl AreaWriter {
         requires in_area { from + length bytes.now ≤ self.old.area.len }
         requires within { IsInside self.old.area (D.size device.old) }
         requires room { D.failed device.old + 1 < 2 ^ 64 }
-        ensures count { CountsFailure is_failure result (D.failed device.old) (D.failed device.new) }
+        ensures count { CountsFailure is_failure result
+            (D.failed device.old) (D.failed device.new) }
         ensures size { D.size device.new ≡ D.size device.old }
         ensures same_area { self.new.area ≡ self.old.area }
         ensures same_key { self.new.key ≡ self.old.key }
         ensures more { D.tells → (wanted : List ℕ)
             → IsWriting self.old (D.bytes device.old) wanted from → ArePlaced wanted from bytes.now
-            → OnOk result (IsWriting self.new (D.bytes device.new) wanted (from + length bytes.now)) }
+            → OnOk result
+            (IsWriting self.new (D.bytes device.new) wanted (from + length bytes.now)) }
         ensures rest { D.tells → SameBut (IsAt self.old.area.start self.old.area.len)
             (D.bytes device.old) (D.bytes device.new) }
     {

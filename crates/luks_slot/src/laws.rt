@@ -7,14 +7,15 @@ ghost use Rattle.luks_slot.specs.Sealing.{IsSealed};
 
 use luks_kdf::{Sha1Fn, Sha256Fn, merge_undoes_split};
 
-/// Where an area holds what sealing a key leaves, opening it by the same passphrase answers that key
-/// where the key meets the plan's digest, and none where it doesn't.
+/// Where an area holds what sealing a key leaves, opening it by the same passphrase answers that
+/// key where the key meets the plan's digest, and none where it doesn't.
 pub fn sealed_area_opens()
     ensures { (plan : ThePlan) (area passphrase key random : List ℕ)
         → 1 ≤ plan.stripes → length key ≡ plan.key_bytes
         → length random ≡ (plan.stripes - 1) * plan.key_bytes
         → IsSealed plan area passphrase key random
-        → slot_key plan area passphrase ≡ (if meets_digest plan.digest key then Some key else None) }
+        → slot_key plan area passphrase
+        ≡ (if meets_digest plan.digest key then Some key else None) }
 {
     merge_undoes_split::<Sha1Fn>();
     merge_undoes_split::<Sha256Fn>();

@@ -1,5 +1,5 @@
-//! One keyslot: opening it, from a passphrase and the key material in the keyslot's area to the volume
-//! key, sealing a key in it, and wiping its area.
+//! One keyslot: opening it, from a passphrase and the key material in the keyslot's area to the
+//! volume key, sealing a key in it, and wiping its area.
 #![tactic(auto)]
 
 mod area_reader;

@@ -27,7 +27,8 @@ fn merge_stripes<D: Device, H: HashFn>(
     requires sectors { rounded_to_sectors (length out.old * stripes) ≤ reader.old.area.len }
     requires within { IsInside reader.old.area (D.size device.old) }
     requires room { D.failed device.old + 1 < 2 ^ 64 }
-    ensures count { CountsFailure is_failure result (D.failed device.old) (D.failed device.new) }
+    ensures count { CountsFailure is_failure result
+        (D.failed device.old) (D.failed device.new) }
     ensures unchanged { IsUnchanged D.tells D.size D.bytes device.old device.new }
     ensures value { D.tells → OnOk result
         (out.new ≡ merge H.digest H.LEN (length out.old) stripes (stripes_from reader.old.key
@@ -59,7 +60,8 @@ pub(crate) fn read_candidate<D: Device>(
     requires sectors { rounded_to_sectors (length out.old * stripes) ≤ reader.old.area.len }
     requires within { IsInside reader.old.area (D.size device.old) }
     requires room { D.failed device.old + 1 < 2 ^ 64 }
-    ensures count { CountsFailure is_failure result (D.failed device.old) (D.failed device.new) }
+    ensures count { CountsFailure is_failure result
+        (D.failed device.old) (D.failed device.new) }
     ensures unchanged { IsUnchanged D.tells D.size D.bytes device.old device.new }
     ensures value { D.tells → OnOk result (out.new
         ≡ merge (hash_of hash) (digest_size_of hash) (length out.old) stripes

@@ -52,7 +52,8 @@ pub fn open<D: Device>(
         ≡ slot_key plan.now (area_bytes (D.bytes device.old) plan.now.area) passphrase.now) }
 
     // The device: `Device` exactly where a call of it failed.
-    ensures count { CountsFailure is_device_fault result (D.failed device.old) (D.failed device.new) }
+    ensures count { CountsFailure is_device_fault result
+        (D.failed device.old) (D.failed device.new) }
     ensures unchanged { IsUnchanged D.tells D.size D.bytes device.old device.new }
 {
     let parameters = parameters_of(plan)?;

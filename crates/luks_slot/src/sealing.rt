@@ -24,13 +24,13 @@ use luks_area::{Area, Device, DeviceFault, rounded_to_sectors};
 use luks_xts::XtsKey;
 
 /// Seals the key in the keyslot's area under the passphrase: the stripes that hold it, of which all
-/// but the last are the random bytes, and zeros to the end of their last sector of 512 bytes, all of
-/// it encrypted (LUKS1 On-Disk Format 1.2.3, 4.1; LUKS2 On-Disk Format 1.1, 4.3). No byte but those
-/// of these sectors changes, also where the device fails. Nothing is flushed.
+/// but the last are the random bytes, and zeros to the end of their last sector of 512 bytes, all
+/// of it encrypted (LUKS1 On-Disk Format 1.2.3, 4.1; LUKS2 On-Disk Format 1.1, 4.3). No byte but
+/// those of these sectors changes, also where the device fails. Nothing is flushed.
 ///
-/// A refusal is of the plan alone, the first of `Argon2`, `Cipher`, `Hash` and `KeySize`, and then no
-/// byte changes. `Device` comes exactly where the device failed. A sector is held at a time, and no
-/// memory is taken from an allocator.
+/// A refusal is of the plan alone, the first of `Argon2`, `Cipher`, `Hash` and `KeySize`, and then
+/// no byte changes. `Device` comes exactly where the device failed. A sector is held at a time, and
+/// no memory is taken from an allocator.
 pub fn seal<D: Device>(
     device: &mut D,
     plan: &SlotPlan<'_>,
@@ -58,7 +58,8 @@ pub fn seal<D: Device>(
         ≡ (if meets_digest plan.now.digest key.now then Some key.now else None)) }
 
     // The device: `Device` exactly where a call of it failed, and the bytes that may have changed.
-    ensures count { CountsFailure is_device_fault result (D.failed device.old) (D.failed device.new) }
+    ensures count { CountsFailure is_device_fault result
+        (D.failed device.old) (D.failed device.new) }
     ensures size { D.size device.new ≡ D.size device.old }
     ensures same { D.tells → (f : TheFault) → slot_refusal plan.now ≡ Some f
         → D.bytes device.new ≡ D.bytes device.old }
@@ -84,9 +85,11 @@ fn write_stripes<D: Device>(
     random: &[u8],
     last: &[u8],
 ) -> Result<(), DeviceFault>
-    requires within { start + rounded_to_sectors (length random.now + length last.now) ≤ D.size device.old }
+    requires within { start + rounded_to_sectors (length random.now + length last.now)
+        ≤ D.size device.old }
     requires room { D.failed device.old + 1 < 2 ^ 64 }
-    ensures count { CountsFailure is_failure result (D.failed device.old) (D.failed device.new) }
+    ensures count { CountsFailure is_failure result
+        (D.failed device.old) (D.failed device.new) }
     ensures size { D.size device.new ≡ D.size device.old }
     ensures value { D.tells → OnOk result (
         let used = length random.now + length last.now in
@@ -110,10 +113,12 @@ fn write_filled<D: Device>(
     zeros: &[u8],
 ) -> Result<(), DeviceFault>
     requires zeros { zeros.now ≡ replicate 512 0 }
-    requires area_length { writer.old.area.len ≡ rounded_to_sectors (length random.now + length last.now) }
+    requires area_length { writer.old.area.len
+        ≡ rounded_to_sectors (length random.now + length last.now) }
     requires within { IsInside writer.old.area (D.size device.old) }
     requires room { D.failed device.old + 1 < 2 ^ 64 }
-    ensures count { CountsFailure is_failure result (D.failed device.old) (D.failed device.new) }
+    ensures count { CountsFailure is_failure result
+        (D.failed device.old) (D.failed device.new) }
     ensures size { D.size device.new ≡ D.size device.old }
     ensures value { D.tells → OnOk result
         (opened_sectors writer.old.key (area_bytes (D.bytes device.new) writer.old.area)

@@ -32,10 +32,11 @@ pub(crate) fn write_last_stripe(hash: HashName, last: &mut [u8], key: &[u8], ran
     requires last_length { length last.old ≡ length key.now }
     ensures len { length last.new ≡ length key.now }
     ensures whole { (n : ℕ) → length random.now ≡ n * length key.now
-        → random.now ++ last.new ≡ split (hash_of hash) (digest_size_of hash) key.now (n + 1) random.now }
+        → random.now ++ last.new
+        ≡ split (hash_of hash) (digest_size_of hash) key.now (n + 1) random.now }
     ensures merges_back { (n : ℕ) → length random.now ≡ n * length key.now
-        → merge (hash_of hash) (digest_size_of hash) (length key.now) (n + 1) (random.now ++ last.new)
-        ≡ key.now }
+        → merge (hash_of hash) (digest_size_of hash) (length key.now) (n + 1)
+        (random.now ++ last.new) ≡ key.now }
 {
     match hash {
         HashName::Sha1 => split_last::<Sha1Fn>(last, key, random),

@@ -13,7 +13,8 @@ use luks_area::{Area, Device, DeviceFault, fill};
 pub fn wipe<D: Device>(device: &mut D, area: Area) -> Result<(), DeviceFault>
     requires within { IsInside area (D.size device.old) }
     requires room { D.failed device.old + 1 < 2 ^ 64 }
-    ensures count { CountsFailure is_failure result (D.failed device.old) (D.failed device.new) }
+    ensures count { CountsFailure is_failure result
+        (D.failed device.old) (D.failed device.new) }
     ensures size { D.size device.new ≡ D.size device.old }
     ensures wiped { D.tells → OnOk result
         (area_bytes (D.bytes device.new) area ≡ replicate area.len 0) }

@@ -1,5 +1,6 @@
 //! Devices, and text fields.
-use luks_area::{Device, DeviceFault, MemDevice, text_field};
+use luks_area::{Device, DeviceFault, FaultyDevice, Leave, MemDevice, text_field};
+use std::alloc::{AllocError, Global};
 use std::test::Fail;
 
 #[test]
@@ -42,6 +43,39 @@ fn writes_memory(rt: HostRuntime) -> Result<(), Fail> {
         device.read_at(0, &mut all).is_ok() && all == [7, 2, 3, 4, 8, 9],
         "read back"
     );
+    Ok(())
+}
+
+/// What a write of five bytes from the place 1 on leaves where it fails, and how many calls failed.
+fn left(alloc: Global, leave: Leave) -> Result<(MemDevice, u64), AllocError> {
+    let inner = MemDevice::new([1, 2, 3, 4, 5, 6, 7].to_vec(alloc)?);
+    let mut device = FaultyDevice::new(inner, 1, leave);
+    let mut one = [0];
+    if device.len() == 7 && device.failures() == 0 {
+        let _ = device.read_at(0, &mut one);
+        let _ = device.write_at(1, &[12, 13, 14, 15, 16]);
+        let _ = device.read_at(0, &mut one);
+    }
+    let failures = device.failures();
+    Ok((device.into_inner(), failures))
+}
+
+const LEFT: [(Leave, [u8; 7]); 4] = [
+    (Leave::Old, [1, 2, 3, 4, 5, 6, 7]),
+    (Leave::New, [1, 12, 13, 14, 15, 16, 7]),
+    (Leave::Ones, [1, 0xFF, 0xFF, 0xFF, 0xFF, 0xFF, 7]),
+    (Leave::Half, [1, 12, 13, 4, 5, 6, 7]),
+];
+
+#[test]
+fn failed_writes(rt: HostRuntime) -> Result<(), Fail> {
+    for (i, (leave, want)) in LEFT.into_iter().enumerate() {
+        let (device, failures) = left(rt.alloc(), leave)?;
+        assert!(rt;
+            device.contents() == want.as_slice() && failures == 1,
+            "row {i}"
+        );
+    }
     Ok(())
 }
 

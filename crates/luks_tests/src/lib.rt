@@ -12,8 +12,6 @@ mod derivation;
 #[cfg(test)]
 mod devices;
 #[cfg(test)]
-mod failing;
-#[cfg(test)]
 mod headers;
 #[cfg(test)]
 mod hexadecimal;

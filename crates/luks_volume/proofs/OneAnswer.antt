@@ -14,9 +14,9 @@ use Rattle.luks_volume.specs.declared.open_fault.OpenFault.TheVariants.{Head, Me
 use Rattle.luks_volume.specs.Answer.{open_key, Answer, HasPlanAs, IsRefusal, IsRefusalAs, IsRefusedBy, Opened, Opens, refused, opens, no_key, opened_to}
 use Rattle.luks_volume.specs.Agreement.{Agrees, IsSameAnswer}
 use Rattle.luks_volume.specs.Header.{json_at}
-use Rattle.luks_volume.proofs.Alike.{SameFields, same_answer}
-use Rattle.luks_volume.proofs.PlanFields1.{one_luks1_plan}
-use Rattle.luks_volume.proofs.PlanFields2.{IsOnly, one_luks2_plan}
+use Rattle.luks_volume.proofs.SamePlans.{SameFields, same_answer}
+use Rattle.luks_volume.proofs.Luks1Plans.{one_luks1_plan}
+use Rattle.luks_volume.proofs.Luks2Plans.{one_luks2_plan}
 
 -- keys that stand neither after the other are one
 same_key : (xs ys : List ℕ) → NotAfter xs ys → NotAfter ys xs → xs ≡ ys

@@ -1,6 +1,6 @@
 -- Opening a volume has one answer.
 use Rattle.std.proofs.Common.{◌≡◌, ℕ, List, [], ◌∷◌, ◌++◌, All, Option, Some, None, Result, Ok, Err, IfOk, IfErr, refl, ap, subst, sym, ◌∙◌}
-use Rattle.std.proofs.lemmas.List.Elements.{All-head, All-tail, All-append}
+use Rattle.std.proofs.lemmas.List.Elements.{All-head, All-tail}
 use Rattle.serde_json.specs.Data.{Data as Value}
 use Rattle.luks_head.specs.Selection.{Choice, luks1, luks2, nothing, Chosen}
 use Rattle.luks_meta.specs.MetaFault.{Json}
@@ -9,7 +9,7 @@ use Rattle.luks_volume.specs.declared.open_fault.OpenFault.TheVariants.{Head, Me
 use Rattle.luks_volume.specs.Answer.{open_key, Answer, Opened, opens}
 use Rattle.luks_volume.specs.Agreement.{AgreesUnlocked, IsSameAnswer, IsSameUnlocking}
 use Rattle.luks_volume.specs.Header.{json_at}
-use Rattle.luks_volume.specs.Unlocking.{luks2_order, GivesFirst, IsFirstOf, IsLockedBy, IsLockout, IsLockoutAs, IsOrderAs, StaysShut, Unlocked, UnlockAnswer, Unlocks, locked, gives}
+use Rattle.luks_volume.specs.Unlocking.{luks2_order, GivesFirst, IsVolumeRefusedBy, IsVolumeRefusal, IsVolumeRefusalAs, IsOrderAs, DoesNotOpen, Unlocked, UnlockAnswer, Unlocks, locked, gives}
 use Rattle.luks_volume.proofs.OneAnswer.{least_once}
 
 -- ---- the first of a list is one
@@ -71,19 +71,19 @@ module _
     unlocks_once v p a b x y =
         let same : y.order ≡ x.order = same_order v x.choice y.order x.order
         (subst (λ c. IsOrderAs v c y.order) (one v y.choice x.choice y.chosen x.chosen) y.ordered) x.ordered in
-        gives_once (StaysShut v p) (λ n k. Answer v n p (opens k)) x.order a b
+        gives_once (DoesNotOpen v p) (λ n k. Answer v n p (opens k)) x.order a b
         (λ n k shut key. shut k key) (λ n k l f g. answer v n p (opens k) (opens l) f g)
-        x.gives (subst (λ order. GivesFirst (StaysShut v p) (λ n k. Answer v n p (opens k)) order b) same y.gives)
+        x.gives (subst (λ order. GivesFirst (DoesNotOpen v p) (λ n k. Answer v n p (opens k)) order b) same y.gives)
 
     clash : (v p : List ℕ) (f : OpenFault) (found : Option (ℕ × List ℕ)) → UnlockAnswer v p (locked f) → Unlocks v p found → ⊥
     clash v p f found x y =
-        y.unrefused f (subst (λ c. IsLockoutAs v c f) (one v x.0.choice y.choice x.0.chosen y.chosen) x.0.fault)
+        y.unrefused f (subst (λ c. IsVolumeRefusalAs v c f) (one v x.0.choice y.choice x.0.chosen y.chosen) x.0.fault)
 
     pub one_unlocking : (v p : List ℕ) (a b : Unlocked) → UnlockAnswer v p a → UnlockAnswer v p b → IsSameUnlocking a b
     one_unlocking v p (gives found) (gives other) x y = unlocks_once v p found other x y
     one_unlocking v p (gives found) (locked g) x y = clash v p g found y x
     one_unlocking v p (locked f) (gives other) x y = clash v p f other x y
-    one_unlocking v p (locked f) (locked g) x y = least_once open_key (IsLockout v) f g x y
+    one_unlocking v p (locked f) (locked g) x y = least_once open_key (IsVolumeRefusal v) f g x y
 
 -- ---- so a call's answer is the only one
 
@@ -111,7 +111,7 @@ ok_agrees found (gives other) e = sym e
 ok_agrees found (locked g) e = e
 
 pub err_agrees : (v p : List ℕ) → ((a b : Unlocked) → UnlockAnswer v p a → UnlockAnswer v p b → IsSameUnlocking a b)
-    → (f : OpenFault) → IsLockedBy v f → (a : Unlocked) → UnlockAnswer v p a → AgreesUnlocked a (Err f)
+    → (f : OpenFault) → IsVolumeRefusedBy v f → (a : Unlocked) → UnlockAnswer v p a → AgreesUnlocked a (Err f)
 err_agrees v p one (Head f) why a y = own_agrees (Head f) a (one a (locked (Head f)) y why)
 err_agrees v p one (Meta f) why a y = own_agrees (Meta f) a (one a (locked (Meta f)) y why)
 err_agrees v p one NoSuchSlot why a y = own_agrees NoSuchSlot a (one a (locked NoSuchSlot) y why)
@@ -122,7 +122,7 @@ err_agrees v p one Device why a y = device_agrees a
 err_agrees v p one Memory why a y = memory_agrees a
 
 pub agrees : (v p : List ℕ) → ((a b : Unlocked) → UnlockAnswer v p a → UnlockAnswer v p b → IsSameUnlocking a b)
-    → (r : Result (Option (ℕ × List ℕ)) OpenFault) → IfOk r (Unlocks v p) → IfErr r (IsLockedBy v)
+    → (r : Result (Option (ℕ × List ℕ)) OpenFault) → IfOk r (Unlocks v p) → IfErr r (IsVolumeRefusedBy v)
     → (a : Unlocked) → UnlockAnswer v p a → AgreesUnlocked a r
 agrees v p one (Ok found) opened why a y = ok_agrees found a (one a (gives found) y opened)
 agrees v p one (Err f) opened why a y = err_agrees v p one f why a y

@@ -3,7 +3,7 @@ use Rattle.std.specs.Prelude.{◌≡◌, ℕ, List, Option, Some, None, Result, 
 use Rattle.luks_volume.specs.declared.open_fault.OpenFault.{OpenFault}
 use Rattle.luks_volume.specs.declared.open_fault.OpenFault.TheVariants.{Device, Memory}
 use Rattle.luks_volume.specs.Answer.{open_key, Opened, refused, opens, no_key}
-use Rattle.luks_volume.specs.Planned.{IsOfDevice}
+use Rattle.luks_volume.specs.PlanAnswers.{IsOfDevice}
 use Rattle.luks_volume.specs.Unlocking.{Unlocked, locked, gives}
 
 -- the two faults are one refusal, unless the device failed or memory was refused

@@ -1,5 +1,5 @@
 -- When a volume is well formed, which areas it has, and what its faults are.
-use Rattle.std.specs.Prelude.{◌≡◌, ℕ, ◌+◌, ◌-◌, ◌<◌, ◌≤◌, List, [], ◌∷◌, length, codes, true, false, Some}
+use Rattle.std.specs.Prelude.{◌≡◌, ℕ, ◌+◌, ◌<◌, ◌≤◌, List, [], ◌∷◌, length, codes, true, false, Some}
 use Rattle.serde_json.specs.Data.{Data as Value}
 use Rattle.luks_area.specs.declared.area.Area.{Area as TheArea}
 use Rattle.luks_area.specs.declared.area.AreaName.{AreaName}
@@ -9,7 +9,6 @@ use Rattle.luks_area.specs.First.{IsLeast}
 use Rattle.luks_area.specs.Ranges.{part}
 use Rattle.luks_head.specs.declared.fault.HeadFault.{HeadFault}
 use Rattle.luks_head.specs.declared.luks1.Luks1.{Luks1}
-use Rattle.luks_head.specs.declared.selection.Copies.{Copies}
 use Rattle.luks_head.specs.Faults.{head_key, IsLuks1Fault as IsLuks1HeadFault}
 use Rattle.luks_head.specs.Header1.{IsLuks1}
 use Rattle.luks_head.specs.Header2.{header_at, hdr_size, uuid_field, IsUuidField, IsUuidFault}
@@ -148,10 +147,10 @@ abbrev pub First : List ℕ → Data → CheckFault → Type 0
 First v payload f = IsLeast check_key (IsFault v payload) f
 
 -- a refusal: the first fault, unless the device failed or memory was refused
-abbrev pub IsRefusal : List ℕ → Data → CheckFault → Type 0
-IsRefusal v payload Device = Unit {0}
-IsRefusal v payload Memory = NeedsMetadata v
-IsRefusal v payload f = First v payload f
+abbrev pub IsCheckRefusal : List ℕ → Data → CheckFault → Type 0
+IsCheckRefusal v payload Device = Unit {0}
+IsCheckRefusal v payload Memory = NeedsMetadata v
+IsCheckRefusal v payload f = First v payload f
 
 -- `m` is the metadata of the JSON area
 pub record HoldsMeta (json : List ℕ) (m : Meta2) : Type 0 where

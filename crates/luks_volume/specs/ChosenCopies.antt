@@ -1,5 +1,5 @@
 -- What has been judged of the chosen copy's uuid and JSON area.
-use Rattle.std.specs.Prelude.{◌≡◌, ℕ, ◌+◌, ◌-◌, List, ⊤}
+use Rattle.std.specs.Prelude.{ℕ, ◌+◌, ◌-◌, List, ⊤}
 use Rattle.serde_json.specs.Data.{Data}
 use Rattle.luks_area.specs.First.{IsLeast}
 use Rattle.luks_area.specs.Ranges.{part}

@@ -1,5 +1,4 @@
 -- What a fault becomes in an outer fault type: the device's failure and want of memory stand for themselves.
-use Rattle.luks_area.specs.declared.area.AreaFault.{AreaFault}
 use Rattle.luks_head.specs.declared.fault.HeadFault.{HeadFault}
 use Rattle.luks_head.specs.declared.fault.HeadFault.TheVariants as head
 use Rattle.luks_rules.specs.declared.fault.MetaFault.{MetaFault}

@@ -8,11 +8,11 @@ pub mod Layout2
 pub mod Listing
 pub mod Reported
 pub mod Answer
-pub mod Entered
-pub mod Entered2
-pub mod Planned
+pub mod Luks1Keyslots
+pub mod Luks2Keyslots
+pub mod PlanAnswers
 pub mod Plans
-pub mod Lawful
-pub mod Tried
+pub mod FitsAndResolves
+pub mod KeyslotsTried
 pub mod Unlocking
 pub mod Agreement

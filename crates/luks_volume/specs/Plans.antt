@@ -3,6 +3,7 @@
 use Rattle.std.specs.Prelude.{◌≡◌, ℕ, ◌*◌, ◌<◌, List, codes, true, Some}
 use Rattle.serde_json.specs.Data.{Data}
 use Rattle.luks_area.specs.Ranges.{part}
+use Rattle.luks_area.specs.Sectors.{rounded_to_sectors}
 use Rattle.luks_head.specs.Bytes.{number_at, text_at}
 use Rattle.luks_head.specs.Header1.{entry, entry_iterations, entry_stripes}
 use Rattle.luks_meta.specs.Content.{content}
@@ -23,7 +24,6 @@ use Rattle.luks_slot.specs.declared.plan.DigestPlan.{DigestPlan}
 use Rattle.luks_slot.specs.declared.plan.SlotPlan.{SlotPlan}
 use Rattle.luks_volume.specs.declared.header.Header.{Header}
 use Rattle.luks_volume.specs.declared.header.Header.TheVariants.{Luks1, Luks2}
-use Rattle.luks_volume.specs.Layout1.{sectors_of}
 
 -- ---- LUKS1: `h` is the header's 592 bytes
 
@@ -47,7 +47,7 @@ pub record IsLuks1Plan (h e : List ℕ) (plan : SlotPlan) : Type 0 where
   pub derivation : IsLuks1Derivation h e plan.derivation
   pub cipher : IsLuks1Cipher h plan.cipher
   pub start : plan.area.start ≡ number_at e 40 4 * 512
-  pub len : plan.area.len ≡ sectors_of (number_at h 108 4 * entry_stripes e) * 512
+  pub len : plan.area.len ≡ rounded_to_sectors (number_at h 108 4 * entry_stripes e)
   pub area_key_bytes : plan.area_key_bytes ≡ number_at h 108 4
   pub key_bytes : plan.key_bytes ≡ number_at h 108 4
   pub stripes : plan.stripes ≡ entry_stripes e

@@ -1,7 +1,5 @@
 -- What `check` answers.
-use Rattle.std.specs.Prelude.{◌≡◌, ℕ, ◌+◌, List, ⊤}
-use Rattle.luks_head.specs.declared.fault.HeadFault.{HeadFault}
-use Rattle.luks_head.specs.declared.fault.HeadFault.TheVariants as head
+use Rattle.std.specs.Prelude.{◌≡◌, ℕ, List, ⊤}
 use Rattle.luks_head.specs.Header2.{header_at, seqid}
 use Rattle.luks_head.specs.Selection.{luks1, luks2, Chosen}
 use Rattle.luks_volume.specs.declared.check_fault.CheckFault.{CheckFault}

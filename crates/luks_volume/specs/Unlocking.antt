@@ -71,47 +71,47 @@ IsOrderAs v nothing order = ⊥
 
 -- ---- the refusals of the volume, none of them a keyslot's own
 
-abbrev pub IsLuks1Lockout : List ℕ → OpenFault → Type 0
-IsLuks1Lockout h (Head f) = IsCommonFault h f
-IsLuks1Lockout h (Meta f) = ⊥
-IsLuks1Lockout h NoSuchSlot = ⊥
-IsLuks1Lockout h SlotFree = ⊥
-IsLuks1Lockout h Outside = ⊥
-IsLuks1Lockout h (Slot f) = ⊥
-IsLuks1Lockout h Device = ⊥
-IsLuks1Lockout h Memory = ⊥
+abbrev pub IsLuks1VolumeRefusal : List ℕ → OpenFault → Type 0
+IsLuks1VolumeRefusal h (Head f) = IsCommonFault h f
+IsLuks1VolumeRefusal h (Meta f) = ⊥
+IsLuks1VolumeRefusal h NoSuchSlot = ⊥
+IsLuks1VolumeRefusal h SlotFree = ⊥
+IsLuks1VolumeRefusal h Outside = ⊥
+IsLuks1VolumeRefusal h (Slot f) = ⊥
+IsLuks1VolumeRefusal h Device = ⊥
+IsLuks1VolumeRefusal h Memory = ⊥
 
-abbrev pub IsLuks2Lockout : List ℕ → List ℕ → OpenFault → Type 0
-IsLuks2Lockout b json (Head f) = IsUuidFault (uuid_field b) f
-IsLuks2Lockout b json (Meta f) = IsMetaFault json f
-IsLuks2Lockout b json NoSuchSlot = ⊥
-IsLuks2Lockout b json SlotFree = ⊥
-IsLuks2Lockout b json Outside = ⊥
-IsLuks2Lockout b json (Slot f) = ⊥
-IsLuks2Lockout b json Device = ⊥
-IsLuks2Lockout b json Memory = ⊥
+abbrev pub IsLuks2VolumeRefusal : List ℕ → List ℕ → OpenFault → Type 0
+IsLuks2VolumeRefusal b json (Head f) = IsUuidFault (uuid_field b) f
+IsLuks2VolumeRefusal b json (Meta f) = IsMetaFault json f
+IsLuks2VolumeRefusal b json NoSuchSlot = ⊥
+IsLuks2VolumeRefusal b json SlotFree = ⊥
+IsLuks2VolumeRefusal b json Outside = ⊥
+IsLuks2VolumeRefusal b json (Slot f) = ⊥
+IsLuks2VolumeRefusal b json Device = ⊥
+IsLuks2VolumeRefusal b json Memory = ⊥
 
-abbrev pub IsLockoutAs : List ℕ → Choice → OpenFault → Type 0
-IsLockoutAs v luks1 f = IsLuks1Lockout (part v 0 592) f
-IsLockoutAs v (luks2 o copies) f = IsLuks2Lockout (header_at v o) (json_at v o) f
-IsLockoutAs v nothing f = IsSelectRefusal v f
+abbrev pub IsVolumeRefusalAs : List ℕ → Choice → OpenFault → Type 0
+IsVolumeRefusalAs v luks1 f = IsLuks1VolumeRefusal (part v 0 592) f
+IsVolumeRefusalAs v (luks2 o copies) f = IsLuks2VolumeRefusal (header_at v o) (json_at v o) f
+IsVolumeRefusalAs v nothing f = IsSelectRefusal v f
 
-pub record IsLockout (v : List ℕ) (f : OpenFault) : Type 0 where
+pub record IsVolumeRefusal (v : List ℕ) (f : OpenFault) : Type 0 where
   pub choice : Choice
   pub chosen : Chosen v choice
-  pub fault : IsLockoutAs v choice f
+  pub fault : IsVolumeRefusalAs v choice f
 
 -- the volume is refused by its first fault, unless the device failed or memory was refused
-abbrev pub IsLockedBy : List ℕ → OpenFault → Type 0
-IsLockedBy v Device = ⊤
-IsLockedBy v Memory = NeedsMetadata v
-IsLockedBy v f = IsLeast open_key (IsLockout v) f
+abbrev pub IsVolumeRefusedBy : List ℕ → OpenFault → Type 0
+IsVolumeRefusedBy v Device = ⊤
+IsVolumeRefusedBy v Memory = NeedsMetadata v
+IsVolumeRefusedBy v f = IsLeast open_key (IsVolumeRefusal v) f
 
 -- ---- the answer
 
 -- the keyslot n of the volume v doesn't open by the passphrase p, refused or not
-abbrev pub StaysShut : List ℕ → List ℕ → ℕ → Type 0
-StaysShut v p n = (k : List ℕ) → Answer v n p (opens k) → ⊥
+abbrev pub DoesNotOpen : List ℕ → List ℕ → ℕ → Type 0
+DoesNotOpen v p n = (k : List ℕ) → Answer v n p (opens k) → ⊥
 
 -- n is the first of the list that opens, and k its key
 pub record IsFirstOf (shut : ℕ → Type 0) (opens_to : ℕ → List ℕ → Type 0) (order : List ℕ) (n : ℕ) (k : List ℕ) : Type 0 where
@@ -130,10 +130,10 @@ GivesFirst shut opens_to order (Some found) = IsFirstOf shut opens_to order foun
 pub record Unlocks (v p : List ℕ) (found : Option (ℕ × List ℕ)) : Type 0 where
   pub choice : Choice
   pub chosen : Chosen v choice
-  pub unrefused : (f : OpenFault) → IsLockoutAs v choice f → ⊥
+  pub unrefused : (f : OpenFault) → IsVolumeRefusalAs v choice f → ⊥
   pub order : List ℕ
   pub ordered : IsOrderAs v choice order
-  pub gives : GivesFirst (StaysShut v p) (λ n k. Answer v n p (opens k)) order found
+  pub gives : GivesFirst (DoesNotOpen v p) (λ n k. Answer v n p (opens k)) order found
 
 -- what opening a volume gives: a refusal of the volume itself, or a keyslot's number with its key, or
 -- that none opens
@@ -143,5 +143,5 @@ pub data Unlocked : Type 0 where
 
 -- what opening the volume `v` by the passphrase `p` gives
 abbrev pub UnlockAnswer : List ℕ → List ℕ → Unlocked → Type 0
-UnlockAnswer v p (locked f) = IsLeast open_key (IsLockout v) f
+UnlockAnswer v p (locked f) = IsLeast open_key (IsVolumeRefusal v) f
 UnlockAnswer v p (gives found) = Unlocks v p found

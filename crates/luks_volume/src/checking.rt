@@ -1,10 +1,10 @@
 //! Checking a volume by the header that counts.
 ghost use Rattle.std.specs.Prelude.{◌≡◌, ◌≢◌, ◌+◌, ◌^◌, ◌<◌, ℕ, List, length, IfOk, IfErr, IsOk, OnOk, MatchResult, ⊤};
 ghost use Rattle.luks_area.specs.Device.{CountsFailure, IsUnchanged};
-ghost use Rattle.luks_volume.specs.Checked.{First, IsRefusal, WellFormed};
+ghost use Rattle.luks_volume.specs.Checked.{First, IsCheckRefusal, WellFormed};
 ghost use Rattle.luks_volume.specs.Failures.{is_check_failure};
 ghost use Rattle.luks_volume.specs.Header.{IsAcceptedHeader, IsHeader};
-ghost use Rattle.luks_volume.specs.Lawful.{IsLawful};
+ghost use Rattle.luks_volume.specs.FitsAndResolves.{FitsAndResolves};
 ghost use Rattle.luks_volume.specs.Reported.{IsFromOutside, Reports};
 
 use crate::check_fault::CheckFault;
@@ -27,9 +27,9 @@ pub fn check<D: Device>(alloc: Global, device: &mut D, data_: Data) -> Result<Re
     ensures count { CountsFailure is_check_failure result (D.failed device.old) (D.failed device.new) }
     ensures accepted { D.tells → OnOk result (WellFormed (D.bytes device.old) data_) }
     ensures report { D.tells → IfOk result (Reports (D.bytes device.old) data_) }
-    ensures refused { D.tells → IfErr result (IsRefusal (D.bytes device.old) data_) }
+    ensures refused { D.tells → IfErr result (IsCheckRefusal (D.bytes device.old) data_) }
     ensures only { D.tells → WellFormed (D.bytes device.old) data_ → MatchResult result (λ _. ⊤) IsFromOutside }
-    ensures lawful { D.tells → OnOk result (IsLawful (D.bytes device.old) data_) }
+    ensures fits_and_resolves { D.tells → OnOk result (FitsAndResolves (D.bytes device.old) data_) }
 {
     one_choice();
     no_fault_is_well_formed();

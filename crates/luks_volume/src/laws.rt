@@ -1,11 +1,13 @@
 //! Laws on the definitions of this crate. Each function only calls those whose laws it follows from;
 //! its contract is the law.
 ghost use Rattle.std.specs.Prelude.{◌≡◌, ◌↔◌, ℕ, List};
+ghost use Rattle.luks_area.specs.declared.area.Area.{Area as TheArea};
+ghost use Rattle.luks_area.specs.declared.area.AreaName.{AreaName as TheName};
 ghost use Rattle.luks_volume.specs.declared.report.Data.{Data as Payload};
 ghost use Rattle.luks_volume.specs.Agreement.{IsSameAnswer, IsSameUnlocking};
 ghost use Rattle.luks_volume.specs.Answer.{Answer, Opened};
-ghost use Rattle.luks_volume.specs.Checked.{IsFault, WellFormed};
-ghost use Rattle.luks_volume.specs.Lawful.{IsLawful};
+ghost use Rattle.luks_volume.specs.Checked.{AreaOf, IsFault, WellFormed};
+ghost use Rattle.luks_volume.specs.FitsAndResolves.{FitsAndResolves};
 ghost use Rattle.luks_volume.specs.Unlocking.{Unlocked, UnlockAnswer};
 
 use crate::check_fault::CheckFault;
@@ -27,7 +29,15 @@ pub fn no_fault_is_well_formed()
 /// In a well formed volume each area is inside, every two of different names are disjoint, and of
 /// LUKS2 every name in the metadata resolves.
 pub fn well_formed_volume()
-    ensures { (v : List ℕ) (payload : Payload) → WellFormed v payload → IsLawful v payload }
+    ensures { (v : List ℕ) (payload : Payload) → WellFormed v payload → FitsAndResolves v payload }
+{
+    one_choice();
+    one_value();
+}
+
+/// A name has one area at most in a volume.
+pub fn one_area()
+    ensures { (v : List ℕ) (payload : Payload) (n : TheName) (a b : TheArea) → AreaOf v payload n a → AreaOf v payload n b → a ≡ b }
 {
     one_choice();
     one_value();

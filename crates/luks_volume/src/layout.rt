@@ -6,19 +6,17 @@ ghost use Rattle.luks_area.specs.Area.{IsBefore};
 ghost use Rattle.luks_area.specs.Names.{HasArea};
 ghost use Rattle.luks_head.specs.Header1.{IsLuks1};
 ghost use Rattle.luks_volume.specs.declared.report.Data.{Data as TheData};
-ghost use Rattle.luks_volume.specs.Layout1.{sectors_of, Luks1Area};
+ghost use Rattle.luks_volume.specs.Layout1.{Luks1Area};
 ghost use Rattle.luks_meta.specs.Content.{content};
 ghost use Rattle.luks_meta.specs.Says.{extent_field};
 ghost use Rattle.luks_volume.specs.Layout2.{HasExtent, Luks2Area};
 ghost use Rattle.luks_volume.specs.Listing.{AddsLuks2Slots, AddsSegments, Lists, ListsBelow};
 
+use crate::plan::luks1_area;
 use crate::report::Data;
-use luks_area::{Area, AreaName, Areas};
-use luks_head::{Luks1, Luks1Slot};
+use luks_area::{Area, AreaName, Areas, SECTOR};
+use luks_head::Luks1;
 use luks_meta::{Extent, Meta, Segment};
-
-/// The bytes of a sector.
-pub(crate) const SECTOR: u64 = 512;
 
 /// The bytes of a LUKS1 header.
 pub(crate) const LUKS1_HEADER: u64 = 592;
@@ -55,7 +53,7 @@ fn add_luks1_slots(areas: &mut Areas, header: &Luks1)
     ensures listed { (h : List ℕ) (payload : TheData) (total : ℕ) → IsLuks1 h header.now → ListsBelow areas.old (Luks1Area h payload total) (SlotName 0) → ListsBelow areas.new (Luks1Area h payload total) (SlotName 8) }
 {
     for n in 0..8 {
-        let area = luks1_slot_area(header.common.key_bytes, &header.slots[n as usize]);
+        let area = luks1_area(header.common.key_bytes, &header.slots[n as usize]);
         areas.push(AreaName::Slot(n), area);
     }
 }
@@ -143,17 +141,5 @@ fn to_end(start: u64, total: u64) -> Area
     Area {
         start,
         len: total.saturating_sub(start),
-    }
-}
-
-/// The key material of a keyslot, in whole sectors.
-fn luks1_slot_area(key_bytes: u32, slot: &Luks1Slot) -> Area
-    ensures start { result.start ≡ slot.now.key_material_offset * 512 }
-    ensures len { result.len ≡ sectors_of (key_bytes * slot.now.stripes) * 512 }
-{
-    let material = u64::from(key_bytes) * u64::from(slot.stripes);
-    Area {
-        start: u64::from(slot.key_material_offset) * SECTOR,
-        len: (material + (SECTOR - 1)) / SECTOR * SECTOR,
     }
 }

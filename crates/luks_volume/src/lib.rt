@@ -7,7 +7,7 @@ mod header;
 mod judging;
 mod laws;
 mod layout;
-mod luks1_entry;
+mod luks1_fields;
 mod open_fault;
 mod opening;
 mod plan;
@@ -18,7 +18,7 @@ mod unlocking;
 pub use check_fault::CheckFault;
 pub use checking::{check, check_header};
 pub use header::{ChosenCopy, Header, read_header};
-pub use laws::{no_fault_is_well_formed, one_answer, one_unlocking, well_formed_volume};
+pub use laws::{no_fault_is_well_formed, one_answer, one_area, one_unlocking, well_formed_volume};
 pub use luks_area::{
     Area, AreaFault, AreaName, Areas, Device, DeviceFault, Entry, MemDevice, text_field,
 };

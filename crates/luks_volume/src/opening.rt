@@ -11,16 +11,16 @@ ghost use Rattle.luks_meta.specs.Objects.{IsAccepted};
 ghost use Rattle.luks_volume.specs.Agreement.{Agrees};
 ghost use Rattle.luks_volume.specs.Answer.{Answer, IsRefusedBy, Opened, opened_to};
 ghost use Rattle.luks_volume.specs.ChosenCopies.{IsCleared};
-ghost use Rattle.luks_volume.specs.Entered.{Luks1Opens, Luks1Refused};
-ghost use Rattle.luks_volume.specs.Entered2.{Luks2Opens, Luks2Refused};
+ghost use Rattle.luks_volume.specs.Luks1Keyslots.{Luks1Opens, Luks1Refused};
+ghost use Rattle.luks_volume.specs.Luks2Keyslots.{Luks2Opens, Luks2Refused};
 ghost use Rattle.luks_volume.specs.Failures.{is_open_failure};
 ghost use Rattle.luks_volume.specs.Header.{IsAcceptedHeader, IsHeader};
-ghost use Rattle.luks_volume.specs.Planned.{IsJudged, PlanOpens, PlanRefused};
+ghost use Rattle.luks_volume.specs.PlanAnswers.{IsOpenable, PlanOpens, PlanRefused};
 ghost use Rattle.luks_volume.specs.Plans.{HasKeyBytes, HasLuks2KeyBytes};
 
 use crate::header::{Header, read_header};
 use crate::laws::one_answer;
-use crate::luks1_entry::{luks1_common, luks1_entry};
+use crate::luks1_fields::{luks1_common, luks1_entry};
 use crate::open_fault::OpenFault;
 use crate::plan::{luks1_plan, luks2_plan};
 use luks_area::Device;
@@ -170,7 +170,7 @@ fn open_planned<D: Device>(
     passphrase: &[u8],
 ) -> Result<Option<Key>, OpenFault>
     requires room { D.failed device.old + 1 < 2 ^ 64 }
-    requires judged { IsJudged plan.now }
+    requires judged { IsOpenable plan.now }
     ensures unchanged { IsUnchanged D.tells D.size D.bytes device.old device.new }
     ensures count { CountsFailure is_open_failure result (D.failed device.old) (D.failed device.new) }
     ensures opens { D.tells → IfOk result (PlanOpens plan.now (D.bytes device.old) passphrase.now) }

@@ -6,12 +6,11 @@ ghost use Rattle.luks_rules.specs.declared.table.Section.TheVariants.{Digests};
 ghost use Rattle.luks_meta.specs.Faults.{object_at};
 ghost use Rattle.luks_meta.specs.Naming.{IsDigestOf};
 ghost use Rattle.luks_meta.specs.Says.{TellsDigest, TellsKeyslot};
-ghost use Rattle.luks_volume.specs.Layout1.{sectors_of};
-ghost use Rattle.luks_volume.specs.Planned.{IsJudged};
+ghost use Rattle.luks_area.specs.Sectors.{rounded_to_sectors};
+ghost use Rattle.luks_volume.specs.PlanAnswers.{IsOpenable};
 ghost use Rattle.luks_volume.specs.Plans.{IsLuks1Plan, IsLuks2Plan, IsLuks2Derivation};
 
-use crate::layout::SECTOR;
-use luks_area::Area;
+use luks_area::{Area, SECTOR, rounded_to_sectors};
 use luks_head::{Luks1Common, Luks1Slot};
 use luks_meta::{Cost, Digest, Keyslot};
 use luks_slot::{AreaCipher, Derivation, DigestPlan, SlotPlan};
@@ -19,7 +18,7 @@ use luks_slot::{AreaCipher, Derivation, DigestPlan, SlotPlan};
 /// The plan of an enabled keyslot of a LUKS1 header.
 pub(crate) fn luks1_plan<'a>(common: &'a Luks1Common, slot: &'a Luks1Slot) -> SlotPlan<'a>
     ensures is { (h e : List ℕ) → IsCommon h common.now → IsEntry e slot.now → IsLuks1Plan h e result }
-    ensures judged { (h e : List ℕ) → IsCommon h common.now → IsEntry e slot.now → active_word e ≡ enabled_word → IsJudged result }
+    ensures judged { (h e : List ℕ) → IsCommon h common.now → IsEntry e slot.now → active_word e ≡ enabled_word → IsOpenable result }
 {
     let hash = common.hash_spec.as_str();
     SlotPlan {
@@ -47,14 +46,14 @@ pub(crate) fn luks1_plan<'a>(common: &'a Luks1Common, slot: &'a Luks1Slot) -> Sl
 }
 
 /// The key material of a keyslot of LUKS1, in whole sectors.
-fn luks1_area(key_bytes: u32, slot: &Luks1Slot) -> Area
+pub(crate) fn luks1_area(key_bytes: u32, slot: &Luks1Slot) -> Area
     ensures start { result.start ≡ slot.now.key_material_offset * 512 }
-    ensures len { result.len ≡ sectors_of (key_bytes * slot.now.stripes) * 512 }
+    ensures len { result.len ≡ rounded_to_sectors (key_bytes * slot.now.stripes) }
 {
     let material = u64::from(key_bytes) * u64::from(slot.stripes);
     Area {
         start: u64::from(slot.key_material_offset) * SECTOR,
-        len: (material + (SECTOR - 1)) / SECTOR * SECTOR,
+        len: rounded_to_sectors(material),
     }
 }
 

@@ -12,14 +12,14 @@ ghost use Rattle.luks_volume.specs.Agreement.{AgreesUnlocked};
 ghost use Rattle.luks_volume.specs.ChosenCopies.{IsCleared};
 ghost use Rattle.luks_volume.specs.Failures.{is_open_failure};
 ghost use Rattle.luks_volume.specs.Header.{IsAcceptedHeader, IsHeader};
-ghost use Rattle.luks_volume.specs.Planned.{IsFailure};
+ghost use Rattle.luks_volume.specs.PlanAnswers.{IsFailure};
 ghost use Rattle.luks_volume.specs.Plans.{HasKeyBytes, HasLuks2KeyBytes};
-ghost use Rattle.luks_volume.specs.Tried.{is_of_rank, passed_over, rank_order, Luks1LockedBy, Luks1Tried, Luks1Tries, Luks2Tried, Luks2Tries};
-ghost use Rattle.luks_volume.specs.Unlocking.{luks2_order, IsLockedBy, Unlocked, UnlockAnswer, Unlocks};
+ghost use Rattle.luks_volume.specs.KeyslotsTried.{is_of_rank, passed_over, rank_order, Luks1VolumeRefused, Luks1Tried, Luks1Tries, Luks2Tried, Luks2Tries};
+ghost use Rattle.luks_volume.specs.Unlocking.{luks2_order, IsVolumeRefusedBy, Unlocked, UnlockAnswer, Unlocks};
 
 use crate::header::{Header, read_header};
 use crate::laws::one_unlocking;
-use crate::luks1_entry::luks1_common;
+use crate::luks1_fields::luks1_common;
 use crate::open_fault::OpenFault;
 use crate::opening::{open_luks1_slot, open_luks2};
 use luks_area::Device;
@@ -53,7 +53,7 @@ pub fn unlock<D: Device>(
     ensures unchanged { IsUnchanged D.tells D.size D.bytes device.old device.new }
     ensures count { CountsFailure is_open_failure result (D.failed device.old) (D.failed device.new) }
     ensures unlocks { D.tells → IfOk result (Unlocks (D.bytes device.old) passphrase.now) }
-    ensures refused { D.tells → IfErr result (IsLockedBy (D.bytes device.old)) }
+    ensures refused { D.tells → IfErr result (IsVolumeRefusedBy (D.bytes device.old)) }
     // There is no other answer.
     ensures only { D.tells → (a : Unlocked) → UnlockAnswer (D.bytes device.old) passphrase.now a → AgreesUnlocked a result }
 {
@@ -75,7 +75,7 @@ pub fn unlock_header<D: Device>(
     ensures unchanged { IsUnchanged D.tells D.size D.bytes device.old device.new }
     ensures count { CountsFailure is_open_failure result (D.failed device.old) (D.failed device.new) }
     ensures unlocks { D.tells → IsHeader (D.bytes device.old) header.now → IfOk result (Unlocks (D.bytes device.old) passphrase.now) }
-    ensures refused { D.tells → IsHeader (D.bytes device.old) header.now → IfErr result (IsLockedBy (D.bytes device.old)) }
+    ensures refused { D.tells → IsHeader (D.bytes device.old) header.now → IfErr result (IsVolumeRefusedBy (D.bytes device.old)) }
     ensures length { IfOk result (λ found. IfSome found (λ opened. HasKeyBytes header.now opened.0 (length opened.1))) }
     ensures memory { IfErr result (λ f. f ≢ OpenFault.Memory) }
 {
@@ -100,7 +100,7 @@ fn unlock_luks1<D: Device>(
     ensures count { CountsFailure is_open_failure result (D.failed device.old) (D.failed device.new) }
     ensures unrefused { IfOk result (λ _. (f : TheFault) → IsCommonFault header.now f → ⊥) }
     ensures tries { D.tells → IfOk result (Luks1Tries header.now (D.bytes device.old) passphrase.now) }
-    ensures refused { IfErr result (Luks1LockedBy header.now) }
+    ensures refused { IfErr result (Luks1VolumeRefused header.now) }
     ensures length { IfOk result (λ found. IfSome found (λ opened. length opened.1 ≡ number_at header.now 108 4)) }
 {
     let common = luks1_common(header)?;

@@ -1,8 +1,7 @@
 //! Copies that are damaged, and reads that fail.
 use super::copies::{chooses, sum, two_copies};
 use super::put;
-use crate::failing::FailsAt;
-use luks_area::{Device, MemDevice};
+use luks_area::{Device, FaultyDevice, Leave, MemDevice};
 use luks_head::{HeadFault, select};
 use std::test::Fail;
 
@@ -60,7 +59,7 @@ fn passes_over_the_rest_of_a_checksum(rt: HostRuntime) -> Result<(), Fail> {
 fn tells_each_failed_read(rt: HostRuntime) -> Result<(), Fail> {
     for call in 0..64 {
         let image = two_copies(rt.alloc(), 32768, 1, 1)?;
-        let mut device = FailsAt::new(MemDevice::new(image), call);
+        let mut device = FaultyDevice::new(MemDevice::new(image), call, Leave::Old);
         let answer = select(rt.alloc(), &mut device);
         if device.failures() == 0 {
             assert!(rt; answer.is_ok() && call >= 2, "{call} reads");

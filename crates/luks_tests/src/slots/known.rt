@@ -1,10 +1,8 @@
 //! Keyslots whose areas other programs sealed.
-use super::open_by;
+use super::{open_by, seal_by};
 use crate::hexadecimal::{is_hex, of_hex};
 use luks_area::{Area, MemDevice};
-use luks_kdf::HashName;
-use luks_slot::{AreaCipher, Derivation, DigestPlan, SlotPlan};
-use luks_xts::XtsKey;
+use luks_slot::{AreaCipher, Derivation, DigestPlan, Key, SlotPlan};
 use sha2::{Digest, Sha256};
 use std::alloc::{AllocError, Global};
 use std::process::Abort;
@@ -112,7 +110,20 @@ const OF_128_BYTES: [Row; 1] = [Row {
 }];
 
 /// Few stripes, likewise.
-const OF_FEW_STRIPES: [Row; 3] = [
+const OF_FEW_STRIPES: [Row; 4] = [
+    Row {
+        name: "two stripes of 33 bytes by sha1",
+        hash: "sha256",
+        splitter: "sha1",
+        key_bytes: 33,
+        area_key_bytes: 64,
+        stripes: 2,
+        random: Random::Counting,
+        salt: ONES,
+        digest_salt: TWOS,
+        digest: "6fbe76ffb8a15ca6e64f89876b1952c252d7135496df731d286698b870f73f84",
+        area: "117413a9ef85e4b34d55d83cbf4933b34f14327d8d98c4d86ed30f0dae0cda8e",
+    },
     Row {
         name: "luks2-stripes-1",
         hash: "sha256",
@@ -240,65 +251,47 @@ fn counting(alloc: Global, len: usize) -> Result<Vec<u8>, AllocError> {
     Ok(bytes)
 }
 
-/// The key's stripes in whole sectors.
-fn stripes(rt: &impl Abort, alloc: Global, row: &Row) -> Result<Vec<u8>, Fail> {
-    assert!(rt; row.key_bytes >= 1 && row.key_bytes <= 128);
-    assert!(rt; row.stripes >= 1 && row.stripes <= 4000);
-    let key = counting(alloc, row.key_bytes)?;
-    let used = row.key_bytes * row.stripes as usize;
-    let random = random_bytes(alloc, row.random, used - row.key_bytes)?;
-    let mut area = vec![in alloc; 0u8; used.div_ceil(512) * 512]?;
-    let hash = HashName::parse(row.splitter).ok_or("hash")?;
-    assert!(rt; key.len() == row.key_bytes && random.len() == used - row.key_bytes);
-    assert!(rt; random.len() % key.len() == 0 && used <= area.len());
-    hash.split(&mut area[..used], &key, &random);
-    Ok(area)
+/// The bytes of the sectors that the row's stripes take.
+fn sectors_len(row: &Row) -> usize {
+    row.key_bytes
+        .saturating_mul(row.stripes as usize)
+        .div_ceil(512)
+        .saturating_mul(512)
 }
 
-fn seal_sectors(key: &XtsKey, area: &mut [u8]) {
-    for i in 0..area.len() / 512 {
-        key.seal_unit(i as u64, &mut area[512 * i..512 * i + 512]);
-    }
+/// A device of other bytes than the area's, which is 512 bytes longer than its sectors.
+fn device_of(alloc: Global, row: &Row) -> Result<MemDevice, AllocError> {
+    let len = sectors_len(row).saturating_add(START + 1024);
+    Ok(MemDevice::new(vec![in alloc; 0xEEu8; len]?))
 }
 
-/// The row's sealed area.
-fn sealed(rt: &impl Abort, alloc: Global, row: &Row) -> Result<Vec<u8>, Fail> {
-    let mut area = stripes(rt, alloc, row)?;
-    let salt = of_hex(alloc, row.salt)?;
-    let hash = HashName::parse(row.hash).ok_or("hash")?;
-    let mut buffer = [0u8; 64];
-    assert!(rt; row.area_key_bytes <= 64);
-    let bytes = &mut buffer[..row.area_key_bytes];
-    hash.pbkdf2(bytes, b"one", &salt, 1000);
-    let key = XtsKey::new(bytes).ok_or("key")?;
-    seal_sectors(&key, &mut area);
-    Ok(area)
+/// The texts of a row as bytes.
+#[derive(Debug, Drop)]
+struct Texts {
+    salt: Vec<u8>,
+    digest_salt: Vec<u8>,
+    digest: Vec<u8>,
 }
 
-/// START zeros and the area.
-fn device_of(alloc: Global, area: &[u8]) -> Result<MemDevice, AllocError> {
-    let mut image = vec![in alloc; 0u8; START]?;
-    image.extend_from_slice(area)?;
-    Ok(MemDevice::new(image))
+fn decoded(alloc: Global, row: &Row) -> Result<Texts, AllocError> {
+    Ok(Texts {
+        salt: of_hex(alloc, row.salt)?,
+        digest_salt: of_hex(alloc, row.digest_salt)?,
+        digest: of_hex(alloc, row.digest)?,
+    })
 }
 
-fn plan_of<'a>(
-    row: &Row,
-    len: usize,
-    salt: &'a [u8],
-    digest_salt: &'a [u8],
-    stored: &'a [u8],
-) -> SlotPlan<'a> {
+fn plan_of<'a>(row: &Row, decoded: &'a Texts) -> SlotPlan<'a> {
     SlotPlan {
         derivation: Derivation::Pbkdf2 {
             hash: row.hash,
             iterations: 1000,
-            salt,
+            salt: decoded.salt.as_slice(),
         },
         cipher: AreaCipher::Whole("aes-xts-plain64"),
         area: Area {
             start: START as u64,
-            len: len as u64,
+            len: sectors_len(row).saturating_add(512) as u64,
         },
         area_key_bytes: row.area_key_bytes,
         key_bytes: row.key_bytes,
@@ -307,33 +300,52 @@ fn plan_of<'a>(
         digest: DigestPlan {
             hash: row.hash,
             iterations: 1000,
-            salt: digest_salt,
-            stored,
+            salt: decoded.digest_salt.as_slice(),
+            stored: decoded.digest.as_slice(),
         },
     }
 }
 
-/// Whether the keyslot opens by its passphrase to its key, where the last byte of its digest is as
-/// it should be or changed by these bits, and by another passphrase.
+/// Seals the row's key.
+fn seal_row(
+    rt: &impl Abort,
+    alloc: Global,
+    device: &mut MemDevice,
+    row: &Row,
+    plan: &SlotPlan<'_>,
+) -> Result<(), Fail> {
+    let bytes = counting(alloc, row.key_bytes)?;
+    assert!(rt; bytes.len() >= 1 && bytes.len() <= 128 && row.stripes >= 1);
+    let key = Key::new(bytes.as_slice());
+    let others = row.key_bytes.saturating_mul((row.stripes - 1) as usize);
+    let random = random_bytes(alloc, row.random, others)?;
+    Ok(seal_by(rt, device, plan, b"one", &key, random.as_slice())?)
+}
+
+/// Whether the sectors are those of the row, and all other bytes as they were.
+fn holds(device: &MemDevice, row: &Row) -> bool {
+    let Some((before, rest)) = device.contents().split_at_checked(START) else {
+        return false;
+    };
+    let Some((sectors, after)) = rest.split_at_checked(sectors_len(row)) else {
+        return false;
+    };
+    is_hex(&Sha256::digest(sectors), row.area)
+        && before.iter().all(|byte| *byte == 0xEE)
+        && after.iter().all(|byte| *byte == 0xEE)
+}
+
+/// Whether the keyslot opens to its key, and not to another.
 fn opens(
     rt: &impl Abort,
     alloc: Global,
-    row: &Row,
-    area: &[u8],
+    device: &mut MemDevice,
+    plan: &SlotPlan<'_>,
     passphrase: &[u8],
-    bits: u8,
 ) -> Result<bool, Fail> {
-    let salt = of_hex(alloc, row.salt)?;
-    let digest_salt = of_hex(alloc, row.digest_salt)?;
-    let mut stored = of_hex(alloc, row.digest)?;
-    if let Some(last) = stored.last_mut() {
-        *last ^= bits;
-    }
-    let mut device = device_of(alloc, area)?;
-    let plan = plan_of(row, area.len(), &salt, &digest_salt, &stored);
-    match open_by(rt, alloc, &mut device, &plan, passphrase)? {
+    match open_by(rt, alloc, device, plan, passphrase)? {
         Some(key) => {
-            let want = counting(alloc, row.key_bytes)?;
+            let want = counting(alloc, plan.key_bytes)?;
             assert!(rt; key.as_bytes() == want.as_slice(), "the key");
             Ok(true)
         }
@@ -341,16 +353,29 @@ fn opens(
     }
 }
 
-/// The area, sealed anew, is the one that the other program sealed, and opens by its passphrase to
-/// the key. By another passphrase, or where the last byte of the digest differs, it doesn't.
+/// What is sealed are the bytes that the other program sealed, and they open by the passphrase to the
+/// key. By another passphrase, or where the last byte of the digest differs, they don't.
 fn compare(rt: &impl Abort, alloc: Global, row: &Row) -> Result<(), Fail> {
     let name = row.name;
-    let area = sealed(rt, alloc, row)?;
-    let sum = Sha256::digest(area.as_slice());
-    assert!(rt; is_hex(&sum, row.area), "{name}");
-    assert!(rt; opens(rt, alloc, row, &area, b"one", 0)?, "{name}");
-    assert!(rt; !opens(rt, alloc, row, &area, b"one\n", 0)?, "{name}");
-    assert!(rt; !opens(rt, alloc, row, &area, b"one", 1)?, "{name}");
+    let mut device = device_of(alloc, row)?;
+    let mut texts = decoded(alloc, row)?;
+    seal_row(rt, alloc, &mut device, row, &plan_of(row, &texts))?;
+    assert!(rt; holds(&device, row), "{name}");
+    assert!(rt;
+        opens(rt, alloc, &mut device, &plan_of(row, &texts), b"one")?,
+        "{name}"
+    );
+    assert!(rt;
+        !opens(rt, alloc, &mut device, &plan_of(row, &texts), b"one\n")?,
+        "{name}"
+    );
+    if let Some(last) = texts.digest.last_mut() {
+        *last ^= 1;
+    }
+    assert!(rt;
+        !opens(rt, alloc, &mut device, &plan_of(row, &texts), b"one")?,
+        "{name}"
+    );
     Ok(())
 }
 

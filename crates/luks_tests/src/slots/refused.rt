@@ -1,7 +1,6 @@
-//! Keyslots that are refused, and failing devices.
-use super::open_by;
-use crate::failing::FailsAt;
-use luks_area::{Area, Device, MemDevice};
+//! Keyslots that are refused.
+use super::{open_by, seal_by};
+use luks_area::{Area, MemDevice};
 use luks_slot::{AreaCipher, Derivation, DigestPlan, Key, SlotFault, SlotPlan};
 use std::alloc::{AllocError, Global};
 use std::process::Abort;
@@ -41,15 +40,18 @@ struct Terms<'a> {
     area_key_bytes: usize,
 }
 
-/// A plan of these stripes, at the place 512.
-fn plan_of<'a>(terms: &Terms<'a>, key_bytes: usize, stripes: u32, len: u64) -> SlotPlan<'a> {
+/// A plan of one stripe of one byte, in a sector at the place 512.
+fn plan_of<'a>(terms: &Terms<'a>) -> SlotPlan<'a> {
     SlotPlan {
         derivation: terms.derivation,
         cipher: terms.cipher,
-        area: Area { start: 512, len },
+        area: Area {
+            start: 512,
+            len: 512,
+        },
         area_key_bytes: terms.area_key_bytes,
-        key_bytes,
-        stripes,
+        key_bytes: 1,
+        stripes: 1,
         splitter_hash: terms.splitter_hash,
         digest: DigestPlan {
             hash: terms.digest_hash,
@@ -60,12 +62,31 @@ fn plan_of<'a>(terms: &Terms<'a>, key_bytes: usize, stripes: u32, len: u64) -> S
     }
 }
 
-/// Whether this is answered where one sector of zeros holds one stripe of one byte.
+/// Whether sealing is refused by the same fault, and no byte changes then.
+fn seals_to(
+    rt: &impl Abort,
+    device: &mut MemDevice,
+    plan: &SlotPlan<'_>,
+    fault: Option<SlotFault>,
+) -> bool {
+    let found = seal_by(rt, device, plan, b"", &Key::new(b"k"), &[]);
+    found.err() == fault && (fault.is_none() || device.contents().iter().all(|byte| *byte == 0))
+}
+
+/// Whether this is answered where zeros hold the stripe, by opening and by sealing.
 fn opens_to(rt: &impl Abort, alloc: Global, terms: &Terms<'_>, want: &str) -> Result<bool, Fail> {
     let mut device = MemDevice::new(vec![in alloc; 0u8; 1024]?);
-    let plan = plan_of(terms, 1, 1, 512);
+    let plan = plan_of(terms);
     let found = open_by(rt, alloc, &mut device, &plan, b"");
-    Ok(answers(alloc, found, want)?)
+    let fault = fault_of(&found);
+    Ok(answers(alloc, found, want)? && seals_to(rt, &mut device, &plan, fault))
+}
+
+fn fault_of(found: &Result<Option<Key>, SlotFault>) -> Option<SlotFault> {
+    match found {
+        Ok(_) => None,
+        Err(fault) => Some(*fault),
+    }
 }
 
 const XTS: AreaCipher<'static> = AreaCipher::Whole("aes-xts-plain64");
@@ -152,21 +173,6 @@ fn ciphers_that_open(rt: HostRuntime) -> Result<(), Fail> {
     for (text, want) in WHOLE {
         let terms = of_cipher(AreaCipher::Whole(text));
         assert!(rt; opens_to(&rt, rt.alloc(), &terms, want)?, "{text}");
-    }
-    Ok(())
-}
-
-// The 40 stripes of 64 bytes lie in five sectors, each of which is read once.
-#[test]
-fn failed_reads(rt: HostRuntime) -> Result<(), Fail> {
-    let alloc = rt.alloc();
-    let plan = plan_of(&of_cipher(XTS), 64, 40, 4096);
-    for (call, want, failures) in [(0, "Device", 1), (4, "Device", 1), (5, "none", 0)] {
-        let zeros = MemDevice::new(vec![in alloc; 0u8; 8192]?);
-        let mut device = FailsAt::new(zeros, call);
-        let found = open_by(&rt, alloc, &mut device, &plan, b"one");
-        assert!(rt; answers(alloc, found, want)?, "read {call}");
-        assert!(rt; device.failures() == failures, "read {call}");
     }
     Ok(())
 }

@@ -2,7 +2,7 @@
 use Rattle.std.proofs.Common.{sym, ◌∙◌}
 use Rattle.std.proofs.lemmas.Result.{err_from_is_err_and, IfErr-weaker}
 use Rattle.luks_volume.specs.Conversions.{unread_checked}
-use Rattle.luks_volume.proofs.Checks.{first_refused, on_ok, outside, outside_result, unread_refused}
+use Rattle.luks_volume.proofs.CheckFacts.{first_refused, on_ok, outside, outside_result, unread_refused}
 use Rattle.luks_volume.proofs.checking.check.Goals as goal
 
 pub returns-in_err-header-clause-refused : goal.returns-in_err-header-clause-refused
@@ -29,8 +29,8 @@ returns-clause-only g c = λ tells well.
     let v = g.D.Device.bytes c.args.device.now in
     outside_result v c.args.data_ c.check_header.result ((c.no_fault_is_well_formed.ensures v c.args.data_).0 well) (returns-clause-refused g c tells)
 
-pub returns-clause-lawful : goal.returns-clause-lawful
-returns-clause-lawful g c = λ tells.
+pub returns-clause-fits_and_resolves : goal.returns-clause-fits_and_resolves
+returns-clause-fits_and_resolves g c = λ tells.
     let v = g.D.Device.bytes c.args.device.now in
     let long = g.met.D.Device.sized c.args.device.now tells ∙ sym c.in_ok-header.ensures.unchanged.size ∙ sym c.len.ensures in
     on_ok _ (c.well_formed_volume.ensures v c.args.data_) (c.check_header.ensures.accepted v (c.in_ok-header.ensures.read tells) long)

@@ -2,10 +2,9 @@
 use Rattle.std.proofs.Common.{subst, ◌∙◌}
 use Rattle.std.proofs.lemmas.Result.{err_from_is_err_and}
 use Rattle.luks_meta.specs.Content.{content}
-use Rattle.luks_volume.specs.Checked.{HoldsMeta, IsLuks2Faultless}
 use Rattle.luks_volume.specs.Header.{json_at, IsAcceptedHeader, IsHeader}
-use Rattle.luks_volume.proofs.Checks.{luks1_first, luks2_accepted, luks2_areas_are, luks2_first}
-use Rattle.luks_volume.proofs.Lawful.{luks1_areas_are}
+use Rattle.luks_volume.proofs.CheckFacts.{luks1_first, luks2_accepted, luks2_areas_are, luks2_first}
+use Rattle.luks_volume.proofs.WellFormedFacts.{luks1_areas_are}
 use Rattle.luks_volume.proofs.checking.check_header.Goals as goal
 
 pub judge_luks1-requires : goal.judge_luks1-requires

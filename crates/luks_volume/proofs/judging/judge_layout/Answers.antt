@@ -1,13 +1,12 @@
 -- Areas that fit make the copy well formed; else their first fault is the copy's.
-use Rattle.std.proofs.Common.{ℕ, List, length, rules, sym, subst, ◌≡◌}
+use Rattle.std.proofs.Common.{rules, sym, subst}
 use Rattle.std.proofs.lemmas.Result.{err_from_is_err_and}
 use Rattle.luks_area.specs.Area.{Fit}
 use Rattle.luks_meta.specs.Content.{content}
-use Rattle.luks_volume.specs.declared.report.Data.TheVariants.{Here}
-use Rattle.luks_volume.specs.Checked.{HoldsMeta, IsLuks2Layout, SegmentsFollow}
+use Rattle.luks_volume.specs.Checked.{IsLuks2Layout}
 use Rattle.luks_volume.specs.Layout2.{Luks2Area}
-use Rattle.luks_volume.proofs.Judged2.{least_area2, least_segment, lists_value, segment_breaks}
-use Rattle.luks_volume.proofs.Moved.{fit_of, least_of, no_area_fault}
+use Rattle.luks_volume.proofs.Luks2FaultFacts.{least_area2, least_segment, lists_value, segment_breaks}
+use Rattle.luks_volume.proofs.ListedAreaFacts.{fit_of, least_of, no_area_fault}
 use Rattle.luks_volume.proofs.judging.judge_layout.Goals as goal
 
 pub returns-in-Some-clause-refused : goal.returns-in-Some-clause-refused

@@ -1,7 +1,7 @@
 -- Areas that fit make the volume well formed; else their first fault is the volume's.
 use Rattle.std.proofs.lemmas.Result.{err_from_is_err_and}
-use Rattle.luks_volume.proofs.Judged.{least_area}
-use Rattle.luks_volume.proofs.Moved.{fit_of, least_of, no_area_fault}
+use Rattle.luks_volume.proofs.Luks1FaultFacts.{least_area}
+use Rattle.luks_volume.proofs.ListedAreaFacts.{fit_of, least_of, no_area_fault}
 use Rattle.luks_volume.proofs.judging.judge_luks1.Goals as goal
 
 pub returns-clause-accepted : goal.returns-clause-accepted

@@ -1,4 +1,4 @@
-use Rattle.luks_volume.proofs.Judged2.{region_some, region_none}
+use Rattle.luks_volume.proofs.Luks2FaultFacts.{region_some, region_none}
 use Rattle.luks_volume.proofs.judging.segment_below.Goals as goal
 
 pub returns-in-Here-clause-some : goal.returns-in-Here-clause-some

@@ -1,4 +1,4 @@
-use Rattle.luks_volume.proofs.Lawful.{formed_sound, formed_without}
+use Rattle.luks_volume.proofs.WellFormedFacts.{formed_sound, formed_without}
 use Rattle.luks_volume.proofs.laws.no_fault_is_well_formed.Goals as goal
 
 pub returns : goal.returns

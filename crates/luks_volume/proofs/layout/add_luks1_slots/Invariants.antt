@@ -1,4 +1,4 @@
-use Rattle.luks_volume.proofs.Slots1.{AddsSlots}
+use Rattle.luks_volume.proofs.Luks1AreaFacts.{AddsSlots}
 use Rattle.luks_volume.proofs.layout.add_luks1_slots.Given as goal
 
 abbrev pub invariant-loop-n : goal.invariant-loop-n

@@ -1,6 +1,6 @@
 use Rattle.std.proofs.Common.{refl}
 use Rattle.luks_meta.specs.Content.{content}
-use Rattle.luks_volume.proofs.Slots2.{adds-slot, adds-no_slot, slot_start, slot_size}
+use Rattle.luks_volume.proofs.Luks2AreaFacts.{adds-slot, adds-no_slot, slot_start, slot_size}
 use Rattle.luks_volume.proofs.layout.add_luks2_slots.Goals.{in-Some, in-None}
 use Rattle.luks_volume.proofs.layout.add_luks2_slots.Goals as goal
 

@@ -2,7 +2,7 @@ use Rattle.std.proofs.Common.{ap, sym, subst, refl, Some, ◌∙◌}
 use Rattle.luks_meta.specs.Content.{content}
 use Rattle.luks_meta.specs.Says.{extent_field}
 use Rattle.luks_volume.specs.Layout2.{HasExtent}
-use Rattle.luks_volume.proofs.Slots2.{adds-segment, adds-no_segment, segment_start, segment_size}
+use Rattle.luks_volume.proofs.Luks2AreaFacts.{adds-segment, adds-no_segment, segment_start, segment_size}
 use Rattle.luks_volume.proofs.layout.add_segments.Goals.{in-Some, in-None}
 use Rattle.luks_volume.proofs.layout.add_segments.Goals as goal
 

@@ -1,5 +1,5 @@
 use Rattle.std.proofs.Common.{sym, refl, ap, ◌∙◌, ◌*◌, ◌-◌}
-use Rattle.luks_volume.proofs.Slots1.{head-listed, lists-here, lists-elsewhere}
+use Rattle.luks_volume.proofs.Luks1AreaFacts.{head-listed, lists-here, lists-elsewhere}
 use Rattle.luks_volume.proofs.layout.luks1_areas.Goals as goal
 
 pub returns-in-Here : goal.returns-in-Here

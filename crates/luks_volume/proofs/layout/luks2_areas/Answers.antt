@@ -1,6 +1,6 @@
 use Rattle.std.proofs.Common.{refl}
 use Rattle.luks_meta.specs.Content.{content}
-use Rattle.luks_volume.proofs.Slots2.{heads-listed, slots-done, segments-done, segments-away}
+use Rattle.luks_volume.proofs.Luks2AreaFacts.{heads-listed, slots-done, segments-done, segments-away}
 use Rattle.luks_volume.proofs.layout.luks2_areas.Goals as goal
 
 pub returns-in-Here : goal.returns-in-Here

@@ -3,10 +3,10 @@ use Rattle.std.proofs.Common.{ℕ, List, length, subst, sym, ◌≡◌, ◌∙�
 use Rattle.std.proofs.lemmas.Result.{IfErr-weaker, IfOk-weaker}
 use Rattle.luks_head.specs.Header2.{header_at}
 use Rattle.luks_head.specs.Selection.{luks1, luks2}
-use Rattle.luks_volume.specs.Entered.{Luks1Opens, Luks1Refused}
-use Rattle.luks_volume.specs.Entered2.{Luks2Refused}
+use Rattle.luks_volume.specs.Luks1Keyslots.{Luks1Opens, Luks1Refused}
+use Rattle.luks_volume.specs.Luks2Keyslots.{Luks2Refused}
 use Rattle.luks_volume.specs.Header.{json_at, IsHeader}
-use Rattle.luks_volume.proofs.Answered.{luks1_opens, luks1_refused, luks2_opens, luks2_refused}
+use Rattle.luks_volume.proofs.KeyslotAnswers.{luks1_opens, luks1_refused, luks2_opens, luks2_refused}
 use Rattle.luks_volume.proofs.ReadFaults.{cleared_copy}
 use Rattle.luks_volume.proofs.opening.open_header_slot.Goals as goal
 

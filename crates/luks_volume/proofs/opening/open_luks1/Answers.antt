@@ -1,6 +1,6 @@
 -- The first fault of the fields before the keyslots is the keyslot's first refusal.
 use Rattle.std.proofs.lemmas.Result.{err_from_is_err_and}
-use Rattle.luks_volume.proofs.Refusals1.{common_refused}
+use Rattle.luks_volume.proofs.Luks1Refusals.{common_refused}
 use Rattle.luks_volume.proofs.opening.open_luks1.Goals as goal
 
 pub returns-in_err-common-clause-refused : goal.returns-in_err-common-clause-refused

@@ -3,8 +3,8 @@ use Rattle.std.proofs.Common.{◌∙◌}
 use Rattle.std.proofs.lemmas.Result.{err_from_is_err_and, IfErr-weaker, IfOk-weaker}
 use Rattle.luks_head.specs.Header1.{entry}
 use Rattle.luks_volume.specs.Plans.{HasLuks1Plan}
-use Rattle.luks_volume.proofs.Found.{some_weaker}
-use Rattle.luks_volume.proofs.Refusals1.{entry_first, plan_first, plan_opens}
+use Rattle.luks_volume.proofs.OptionFacts.{some_weaker}
+use Rattle.luks_volume.proofs.Luks1Refusals.{entry_first, plan_first, plan_opens}
 use Rattle.luks_volume.proofs.opening.open_luks1_slot.Goals as goal
 
 pub returns-in_err-slot-clause-refused : goal.returns-in_err-slot-clause-refused

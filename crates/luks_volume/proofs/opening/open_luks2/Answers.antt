@@ -3,10 +3,10 @@ use Rattle.std.proofs.Common.{◌<◌, Some, ap, sym, ◌∙◌, arith}
 use Rattle.std.proofs.lemmas.Result.{IfErr-weaker, IfOk-weaker}
 use Rattle.luks_meta.specs.Content.{content}
 use Rattle.luks_volume.specs.Plans.{HasLuks2Plan}
-use Rattle.luks_volume.proofs.Found.{some_weaker}
-use Rattle.luks_volume.proofs.Numbers2.{luks2_judged}
-use Rattle.luks_volume.proofs.PlanFields2.{IsOnly}
-use Rattle.luks_volume.proofs.Refusals2.{plan_first2, plan_opens2}
+use Rattle.luks_volume.proofs.OptionFacts.{some_weaker}
+use Rattle.luks_volume.proofs.Luks2PlanNumbers.{luks2_judged}
+use Rattle.luks_volume.proofs.Luks2Plans.{IsOnly}
+use Rattle.luks_volume.proofs.Luks2Refusals.{plan_first2, plan_opens2}
 use Rattle.luks_volume.proofs.opening.open_luks2.Goals as goal
 
 pub open_planned-requires-clause-judged : goal.open_planned-requires-clause-judged

@@ -1,6 +1,6 @@
 -- A header that isn't read refuses the keyslot; and there is no other answer.
 use Rattle.std.proofs.lemmas.Result.{err_from_is_err_and}
-use Rattle.luks_volume.proofs.Answered.{unread_refused}
+use Rattle.luks_volume.proofs.KeyslotAnswers.{unread_refused}
 use Rattle.luks_volume.proofs.OneAnswer.{agrees, err_agrees}
 use Rattle.luks_volume.proofs.opening.open_slot.Goals as goal
 

@@ -1,8 +1,8 @@
 -- A keyslot that is refused or gives no key doesn't open.
 use Rattle.std.proofs.Common.{◌≡◌, ℕ, length, subst, sym}
 use Rattle.luks_meta.specs.Content.{content}
-use Rattle.luks_volume.specs.Entered2.{Luks2Refused}
-use Rattle.luks_volume.proofs.Shut.{luks2_refused_tried, luks2_tried, passed_fails, passed_none}
+use Rattle.luks_volume.specs.Luks2Keyslots.{Luks2Refused}
+use Rattle.luks_volume.proofs.TriedKeyslots.{luks2_refused_tried, luks2_tried, passed_fails, passed_none}
 use Rattle.luks_volume.proofs.unlocking.try_luks2.Goals as goal
 
 pub returns-in-Ok-clause-tried : goal.returns-in-Ok-clause-tried

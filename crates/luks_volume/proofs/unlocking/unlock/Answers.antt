@@ -1,7 +1,7 @@
 -- A header that isn't read locks the volume; and there is no other answer.
 use Rattle.std.proofs.lemmas.Result.{err_from_is_err_and}
 use Rattle.luks_volume.proofs.OneUnlocking.{agrees, err_agrees}
-use Rattle.luks_volume.proofs.Unlocked.{unread_locked}
+use Rattle.luks_volume.proofs.VolumeAnswers.{unread_locked}
 use Rattle.luks_volume.proofs.unlocking.unlock.Goals as goal
 
 pub returns-in_err-header-clause-refused : goal.returns-in_err-header-clause-refused

@@ -7,9 +7,9 @@ use Rattle.luks_head.specs.Header2.{header_at}
 use Rattle.luks_head.specs.Selection.{luks1, luks2}
 use Rattle.luks_meta.specs.Content.{content}
 use Rattle.luks_volume.specs.Header.{json_at, IsHeader}
-use Rattle.luks_volume.specs.Tried.{Luks1LockedBy, Luks1Tries}
+use Rattle.luks_volume.specs.KeyslotsTried.{Luks1VolumeRefused, Luks1Tries}
 use Rattle.luks_volume.proofs.ReadFaults.{cleared_copy}
-use Rattle.luks_volume.proofs.Unlocked.{device_locks, failure_own, luks1_locked, luks1_locked_own, luks1_unlocks_as, luks2_unlocks}
+use Rattle.luks_volume.proofs.VolumeAnswers.{device_locks, failure_own, luks1_locked, luks1_locked_own, luks1_unlocks_as, luks2_unlocks}
 use Rattle.luks_volume.proofs.unlocking.unlock_header.Goals as goal
 
 pub returns-in-Luks1-clause-unlocks : goal.returns-in-Luks1-clause-unlocks
@@ -28,7 +28,7 @@ returns-in-Luks1-clause-refused g c = λ tells is.
     let chosen = subst (IsHeader v) c.in-Luks1.is is in
     IfErr-weaker c.unlock_luks1.result _ _ (λ fault locked.
     luks1_locked v fault chosen.0 (λ d. c.one_choice.ensures.only v luks1 d chosen.0)
-    (subst (λ (h : List ℕ). Luks1LockedBy h fault) (c.as_slice.ensures ∙ chosen.1) locked))
+    (subst (λ (h : List ℕ). Luks1VolumeRefused h fault) (c.as_slice.ensures ∙ chosen.1) locked))
     c.unlock_luks1.ensures.refused
 
 pub returns-in-Luks1-clause-memory : goal.returns-in-Luks1-clause-memory

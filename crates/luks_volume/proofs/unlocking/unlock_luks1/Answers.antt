@@ -3,12 +3,12 @@ use Rattle.std.proofs.Common.{◌∙◌, ◌==◌, ◌<◌, ℕ, List, Option, S
 use Rattle.std.proofs.lemmas.Result.{err_from_is_err_and}
 use Rattle.luks_area.specs.Device.{unchanged-then}
 use Rattle.luks_head.specs.Header1.{active_word, enabled_word, entry}
-use Rattle.luks_volume.specs.Entered.{Luks1Opens}
-use Rattle.luks_volume.specs.Tried.{Luks1Shut, Luks1Tried}
+use Rattle.luks_volume.specs.Luks1Keyslots.{Luks1Opens}
+use Rattle.luks_volume.specs.KeyslotsTried.{Luks1DoesNotOpen, Luks1Tried}
 use Rattle.luks_volume.specs.Unlocking.{luks1_order}
-use Rattle.luks_volume.proofs.Orders.{all_shut, first_shut}
-use Rattle.luks_volume.proofs.Shut.{opened_in_use}
-use Rattle.luks_volume.proofs.Unlocked.{common_locked}
+use Rattle.luks_volume.proofs.KeyslotOrders.{all_shut, first_shut}
+use Rattle.luks_volume.proofs.TriedKeyslots.{opened_in_use}
+use Rattle.luks_volume.proofs.VolumeAnswers.{common_locked}
 use Rattle.luks_volume.proofs.unlocking.unlock_luks1.Goals as goal
 
 pub returns-in_err-common-clause-refused : goal.returns-in_err-common-clause-refused
@@ -27,7 +27,7 @@ returns-in-Ok-Some-clause-tries g c = λ tells.
     let tried = subst (λ (o : Option (List ℕ)). Luks1Tried h (g.D.Device.bytes c.loop-n.device) n p o) c.in-Ok-Some.field-0-is (c.in-Ok-Some.ensures.tried tells) in
     let opens = subst (λ (w : List ℕ). Luks1Opens h w n p (Some k)) (c.loop-n.invariant.unchanged.same tells) tried in
     let low : n < 8 = omega arith in
-    first_shut (Luks1Shut h v p) (λ m l. Luks1Opens h v m p (Some l)) (λ m. active_word (entry h m) == enabled_word) 8 n k low
+    first_shut (Luks1DoesNotOpen h v p) (λ m l. Luks1Opens h v m p (Some l)) (λ m. active_word (entry h m) == enabled_word) 8 n k low
     (opened_in_use h v n p (Some k) opens) opens (λ m lt on. c.loop-n.invariant.shut tells m lt)
 
 pub loop-n-preserved : goal.loop-n-preserved
@@ -39,12 +39,12 @@ loop-n-preserved g c = record {
       let v = g.D.Device.bytes c.args.device.now in
       let p = c.args.passphrase.now in
       let tried = subst (λ (o : Option (List ℕ)). Luks1Tried h (g.D.Device.bytes c.loop-n.device) c.loop-n.n p o) c.in-Ok-None.field-0-is (c.in-Ok-None.ensures.tried t) in
-      let here = subst (λ (w : List ℕ). Luks1Shut h w p c.loop-n.n) (c.loop-n.invariant.unchanged.same t) tried in
-      below_more (λ m. Luks1Shut h v p m) c.loop-n.n (c.loop-n.invariant.shut t) here;
+      let here = subst (λ (w : List ℕ). Luks1DoesNotOpen h w p c.loop-n.n) (c.loop-n.invariant.unchanged.same t) tried in
+      below_more (λ m. Luks1DoesNotOpen h v p m) c.loop-n.n (c.loop-n.invariant.shut t) here;
 }
 
 pub returns-clause-tries : goal.returns-clause-tries
 unfolding luks1_order
 returns-clause-tries g c = λ tells.
-    all_shut (Luks1Shut c.args.header.now (g.D.Device.bytes c.args.device.now) c.args.passphrase.now)
+    all_shut (Luks1DoesNotOpen c.args.header.now (g.D.Device.bytes c.args.device.now) c.args.passphrase.now)
     (λ m. active_word (entry c.args.header.now m) == enabled_word) 8 (λ m lt on. c.loop-n.invariant.shut tells m (omega arith))

@@ -1,10 +1,10 @@
 -- The keyslots of priority 2 first, then the others.
-use Rattle.std.proofs.Common.{ℕ, List, Option, Some, None, subst}
+use Rattle.std.proofs.Common.{ℕ, List, Option, subst}
 use Rattle.std.proofs.lemmas.Result.{IfOk-weaker}
 use Rattle.luks_meta.specs.Content.{content}
 use Rattle.luks_volume.specs.declared.unlocking.Rank.TheVariants.{Preferred, Normal}
-use Rattle.luks_volume.specs.Tried.{rank_order, Luks2Tries}
-use Rattle.luks_volume.proofs.Unlocked.{first_rank, second_rank}
+use Rattle.luks_volume.specs.KeyslotsTried.{rank_order, Luks2Tries}
+use Rattle.luks_volume.proofs.VolumeAnswers.{first_rank, second_rank}
 use Rattle.luks_volume.proofs.unlocking.unlock_luks2.Goals as goal
 
 pub returns-in-Ok-Some-clause-tries : goal.returns-in-Ok-Some-clause-tries

@@ -2,17 +2,14 @@
 use Rattle.std.specs.Prelude.{ℕ, List, filter, Bool, Option, Some, None, Result, Ok, Err, ⊤}
 use Rattle.serde_json.specs.Data.{Data as Value}
 use Rattle.luks_area.specs.First.{IsLeast}
-use Rattle.luks_head.specs.declared.fault.HeadFault.{HeadFault}
-use Rattle.luks_head.specs.Header2.{uuid_field, IsUuidFault}
-use Rattle.luks_meta.specs.MetaFault.{Json}
 use Rattle.luks_volume.specs.declared.open_fault.OpenFault.{OpenFault}
 use Rattle.luks_volume.specs.declared.open_fault.OpenFault.TheVariants.{Head, Meta, NoSuchSlot, SlotFree, Outside, Slot, Device, Memory}
 use Rattle.luks_volume.specs.declared.unlocking.Rank.{Rank}
 use Rattle.luks_volume.specs.declared.unlocking.Rank.TheVariants.{Preferred, Normal}
 use Rattle.luks_volume.specs.Answer.{open_key}
-use Rattle.luks_volume.specs.Entered.{Luks1Opens}
-use Rattle.luks_volume.specs.Entered2.{Luks2Opens}
-use Rattle.luks_volume.specs.Unlocking.{is_preferred, is_normal, priority_of, luks1_order, luks2_order, numbers_below, GivesFirst, IsLuks1Lockout, IsLuks2Lockout}
+use Rattle.luks_volume.specs.Luks1Keyslots.{Luks1Opens}
+use Rattle.luks_volume.specs.Luks2Keyslots.{Luks2Opens}
+use Rattle.luks_volume.specs.Unlocking.{is_preferred, is_normal, priority_of, luks1_order, numbers_below, GivesFirst, IsLuks1VolumeRefusal}
 
 -- what trying a keyslot that is refused gives: a fault of its own is passed over
 abbrev pub passed_over : OpenFault → Result (Option (List ℕ)) OpenFault
@@ -27,31 +24,31 @@ passed_over Memory = Err Memory
 
 -- ---- LUKS1
 
-abbrev pub Luks1Shut : List ℕ → List ℕ → List ℕ → ℕ → Type 0
-Luks1Shut h v p n = (k : List ℕ) → Luks1Opens h v n p (Some k) → ⊥
+abbrev pub Luks1DoesNotOpen : List ℕ → List ℕ → List ℕ → ℕ → Type 0
+Luks1DoesNotOpen h v p n = (k : List ℕ) → Luks1Opens h v n p (Some k) → ⊥
 
 -- the keyslot has been tried
 abbrev pub Luks1Tried : List ℕ → List ℕ → ℕ → List ℕ → Option (List ℕ) → Type 0
-Luks1Tried h v n p None = Luks1Shut h v p n
+Luks1Tried h v n p None = Luks1DoesNotOpen h v p n
 Luks1Tried h v n p (Some k) = Luks1Opens h v n p (Some k)
 
 -- the keyslots of the header `h` have been tried in their order
 abbrev pub Luks1Tries : List ℕ → List ℕ → List ℕ → Option (ℕ × List ℕ) → Type 0
-Luks1Tries h v p found = GivesFirst (Luks1Shut h v p) (λ n k. Luks1Opens h v n p (Some k)) (luks1_order h) found
+Luks1Tries h v p found = GivesFirst (Luks1DoesNotOpen h v p) (λ n k. Luks1Opens h v n p (Some k)) (luks1_order h) found
 
 -- the header `h` refuses the volume, unless the device failed; no memory is taken
-abbrev pub Luks1LockedBy : List ℕ → OpenFault → Type 0
-Luks1LockedBy h Device = ⊤
-Luks1LockedBy h Memory = ⊥
-Luks1LockedBy h f = IsLeast open_key (IsLuks1Lockout h) f
+abbrev pub Luks1VolumeRefused : List ℕ → OpenFault → Type 0
+Luks1VolumeRefused h Device = ⊤
+Luks1VolumeRefused h Memory = ⊥
+Luks1VolumeRefused h f = IsLeast open_key (IsLuks1VolumeRefusal h) f
 
 -- ---- LUKS2
 
-abbrev pub Luks2Shut : List ℕ → List ℕ → List ℕ → List ℕ → ℕ → Type 0
-Luks2Shut b json v p n = (k : List ℕ) → Luks2Opens b json v n p (Some k) → ⊥
+abbrev pub Luks2DoesNotOpen : List ℕ → List ℕ → List ℕ → List ℕ → ℕ → Type 0
+Luks2DoesNotOpen b json v p n = (k : List ℕ) → Luks2Opens b json v n p (Some k) → ⊥
 
 abbrev pub Luks2Tried : List ℕ → List ℕ → List ℕ → ℕ → List ℕ → Option (List ℕ) → Type 0
-Luks2Tried b json v n p None = Luks2Shut b json v p n
+Luks2Tried b json v n p None = Luks2DoesNotOpen b json v p n
 Luks2Tried b json v n p (Some k) = Luks2Opens b json v n p (Some k)
 
 -- the keyslot is tried in this rank
@@ -65,4 +62,4 @@ rank_order rank j = filter (λ n. is_of_rank rank j n) (numbers_below 32)
 
 -- the keyslots of the list have been tried in its order
 abbrev pub Luks2Tries : List ℕ → List ℕ → List ℕ → List ℕ → List ℕ → Option (ℕ × List ℕ) → Type 0
-Luks2Tries b json v p order found = GivesFirst (Luks2Shut b json v p) (λ n k. Luks2Opens b json v n p (Some k)) order found
+Luks2Tries b json v p order found = GivesFirst (Luks2DoesNotOpen b json v p) (λ n k. Luks2Opens b json v n p (Some k)) order found

@@ -27,14 +27,14 @@ use Rattle.luks_volume.specs.declared.check_fault.CheckFault.TheVariants.{Head, 
 use Rattle.luks_volume.specs.declared.report.Data.{Data}
 use Rattle.luks_volume.specs.Checked.{IsLuks1Volume, IsLuks1Fault, IsLuks2Layout, IsLuks2Volume, IsLuks2Fault, HasLuks2Area, HasSegmentBelow, WellFormedAs, HasAreaAs, IsFaultAs, WellFormed, AreaOf, IsFault}
 use Rattle.luks_volume.specs.Header.{json_at}
-use Rattle.luks_volume.specs.Lawful.{HoldsNames, IsLawful}
+use Rattle.luks_volume.specs.FitsAndResolves.{HoldsNames, FitsAndResolves}
 use Rattle.luks_volume.specs.Layout1.{Luks1Area}
 use Rattle.luks_volume.specs.Layout2.{Luks2Area}
 use Rattle.luks_volume.specs.Listing.{Lists}
-use Rattle.luks_volume.proofs.Checks.{lists_as}
-use Rattle.luks_volume.proofs.Faultless.{fit-no_fault}
-use Rattle.luks_volume.proofs.Judged2.{meta_cases, segment_breaks, segments_follow, to_luks2_fault}
-use Rattle.luks_volume.proofs.Moved.{no_area_fault}
+use Rattle.luks_volume.proofs.CheckFacts.{lists_as}
+use Rattle.luks_volume.proofs.FittingAreas.{fit-no_fault}
+use Rattle.luks_volume.proofs.Luks2FaultFacts.{meta_cases, segment_breaks, segments_follow, to_luks2_fault}
+use Rattle.luks_volume.proofs.ListedAreaFacts.{no_area_fault}
 
 -- a set of areas fits where a larger one does
 fit_within : (few many : AreaName → TheArea → Type 0) (total : ℕ) → ((n : AreaName) (a : TheArea) → few n a → many n a) → Fit many total → Fit few total
@@ -160,10 +160,10 @@ names_as v payload o copies well = record {
   resolves = well.layout.1.metadata.content.resolves;
 }
 
-pub lawful : ((json : List ℕ) (i k : Value) → Json json i → Json json k → i ≡ k)
+pub fits_and_resolves : ((json : List ℕ) (i k : Value) → Json json i → Json json k → i ≡ k)
     → ((v : List ℕ) (c d : Choice) → Chosen v c → Chosen v d → c ≡ d)
-    → (v : List ℕ) (payload : Data) → WellFormed v payload → IsLawful v payload
-lawful one only v payload well = record {
+    → (v : List ℕ) (payload : Data) → WellFormed v payload → FitsAndResolves v payload
+fits_and_resolves one only v payload well = record {
   fit = fit_within (AreaOf v payload) (HasAreaAs v payload well.choice) (length v)
       (λ n a g. subst (λ c. HasAreaAs v payload c n a) (only v g.choice well.choice g.chosen well.chosen) g.area)
       (fit_as one v payload well.choice well.formed);

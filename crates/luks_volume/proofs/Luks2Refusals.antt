@@ -5,11 +5,10 @@ use Rattle.serde_json.specs.Data.{Data}
 use Rattle.luks_area.specs.First.{NotAfter}
 use Rattle.luks_head.specs.declared.fault.HeadFault.{HeadFault}
 use Rattle.luks_head.specs.declared.fault.HeadFault.TheVariants as head
-use Rattle.luks_head.specs.Faults.{head_key}
 use Rattle.luks_head.specs.Header2.{uuid_field, IsUuidFault}
 use Rattle.luks_rules.specs.declared.table.Section.TheVariants.{Keyslots}
 use Rattle.luks_meta.specs.Faults.{object_at}
-use Rattle.luks_meta.specs.MetaFault.{meta_key, Json}
+use Rattle.luks_meta.specs.MetaFault.{Json}
 use Rattle.luks_slot.specs.declared.fault.SlotFault.{SlotFault}
 use Rattle.luks_slot.specs.declared.plan.SlotPlan.{SlotPlan}
 use Rattle.luks_slot.specs.Refusal.{slot_refusal}
@@ -17,12 +16,12 @@ use Rattle.luks_volume.specs.declared.open_fault.OpenFault.{OpenFault}
 use Rattle.luks_volume.specs.declared.open_fault.OpenFault.TheVariants.{Head, Meta, NoSuchSlot, SlotFree, Outside, Slot, Device, Memory}
 use Rattle.luks_volume.specs.Answer.{open_key, head_step, slot_row, IsLuks2Refusal}
 use Rattle.luks_volume.specs.ChosenCopies.{IsCleared}
-use Rattle.luks_volume.specs.Entered2.{Luks2Refused, Luks2Opens}
-use Rattle.luks_volume.specs.Planned.{PlanOpens, PlanRefused}
+use Rattle.luks_volume.specs.Luks2Keyslots.{Luks2Refused, Luks2Opens}
+use Rattle.luks_volume.specs.PlanAnswers.{PlanOpens, PlanRefused}
 use Rattle.luks_volume.specs.Plans.{HasLuks2Plan}
-use Rattle.luks_volume.proofs.Alike.{same_refusal}
-use Rattle.luks_volume.proofs.PlanFields2.{IsOnly, one_luks2_plan}
-use Rattle.luks_volume.proofs.Refusals1.{sooner, together}
+use Rattle.luks_volume.proofs.SamePlans.{same_refusal}
+use Rattle.luks_volume.proofs.Luks2Plans.{IsOnly, one_luks2_plan}
+use Rattle.luks_volume.proofs.Luks1Refusals.{sooner, together}
 
 pub uuid_step : (uuid : List ℕ) (f : HeadFault) → IsUuidFault uuid f → head_step f ≡ 1
 uuid_step uuid head.TooShort x = absurd x

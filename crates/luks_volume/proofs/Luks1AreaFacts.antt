@@ -6,6 +6,7 @@ use Rattle.luks_area.specs.declared.area.AreaName.{AreaName}
 use Rattle.luks_area.specs.declared.area.AreaName.TheVariants.{Head1, Head2, Slot, Segment}
 use Rattle.luks_area.specs.declared.areas.Entry.{Entry}
 use Rattle.luks_area.specs.Area.{IsBefore}
+use Rattle.luks_area.specs.Sectors.{rounded_to_sectors}
 use Rattle.luks_area.specs.Names.{HasArea}
 use Rattle.luks_head.specs.declared.luks1.Luks1.{Luks1}
 use Rattle.luks_head.specs.declared.luks1.Luks1Slot.{Luks1Slot}
@@ -13,9 +14,9 @@ use Rattle.luks_head.specs.Header1.{IsLuks1}
 use Rattle.luks_head.specs.Bytes.{number_at}
 use Rattle.luks_volume.specs.declared.report.Data.{Data}
 use Rattle.luks_volume.specs.declared.report.Data.TheVariants.{Here, Elsewhere}
-use Rattle.luks_volume.specs.Layout1.{sectors_of, Luks1Area}
+use Rattle.luks_volume.specs.Layout1.{Luks1Area}
 use Rattle.luks_volume.specs.Listing.{Lists, ListsBelow}
-use Rattle.luks_volume.proofs.Grown.{same_area, has-cases, lists-push, lists-empty, lists-all}
+use Rattle.luks_volume.proofs.AreaListFacts.{same_area, has-cases, lists-push, lists-empty, lists-all}
 
 -- `now` has the areas of `before` and the slots below `n`
 pub record AddsSlots (before now : List Entry) (header : Luks1) (n : ℕ) : Type 0 where
@@ -30,14 +31,14 @@ slot_wider n m h = (h.0, λ e. let lt = h.1 e in omega (arith, lt))
 -- the area of the slot `n` as the header's record says it
 pub slot_area_is : (h : List ℕ) (payload : Data) (total n : ℕ) (d : Luks1) (s : Luks1Slot) (a : Area) → IsLuks1 h d → n < 8
     → a.start ≡ (slice_index_or d.slots n s).key_material_offset * 512
-    → a.len ≡ sectors_of (d.common.key_bytes * (slice_index_or d.slots n s).stripes) * 512
+    → a.len ≡ rounded_to_sectors (d.common.key_bytes * (slice_index_or d.slots n s).stripes)
     → Luks1Area h payload total (Slot n) a
 slot_area_is h payload total n d s a is lt start len =
     let fields = (is.slots.each n s lt).fields in (
       lt,
       start ∙ ap (λ x. x * 512) (sym fields.key_material_offset),
-      len ∙ ap (λ x. sectors_of (x * (slice_index_or d.slots n s).stripes) * 512) (sym is.common.fields.key_bytes)
-          ∙ ap (λ x. sectors_of (number_at h 108 4 * x) * 512) (sym fields.stripes),
+      len ∙ ap (λ x. rounded_to_sectors (x * (slice_index_or d.slots n s).stripes)) (sym is.common.fields.key_bytes)
+          ∙ ap (λ x. rounded_to_sectors (number_at h 108 4 * x)) (sym fields.stripes),
     )
 
 -- a name has one area
@@ -66,7 +67,7 @@ not_past h payload total n a is (Segment k) b g before = let low = before.0 in a
 
 pub adds-one : (before now : List Entry) (d : Luks1) (s : Luks1Slot) (n : ℕ) (a : Area) → n < 8 → AddsSlots before now d n
     → a.start ≡ (slice_index_or d.slots n s).key_material_offset * 512
-    → a.len ≡ sectors_of (d.common.key_bytes * (slice_index_or d.slots n s).stripes) * 512
+    → a.len ≡ rounded_to_sectors (d.common.key_bytes * (slice_index_or d.slots n s).stripes)
     → AddsSlots before (now ++ record { name = Slot n; area = a } ∷ []) d (n + 1)
 adds-one before now d s n a lt adds start len =
     let e : Entry = record { name = Slot n; area = a } in

@@ -5,13 +5,13 @@ use Rattle.luks_head.specs.declared.fault.HeadFault.TheVariants as head
 use Rattle.luks_head.specs.Header1.{active_word, disabled_word, enabled_word, entry}
 use Rattle.luks_volume.specs.declared.open_fault.OpenFault.{OpenFault}
 use Rattle.luks_volume.specs.declared.open_fault.OpenFault.TheVariants.{Head, Meta, NoSuchSlot, SlotFree, Outside, Slot, Device, Memory}
-use Rattle.luks_volume.specs.Entered.{Luks1Opens, Luks1Refused}
-use Rattle.luks_volume.specs.Entered2.{Luks2Opens, Luks2Refused}
-use Rattle.luks_volume.specs.Planned.{IsFailure}
-use Rattle.luks_volume.specs.Tried.{passed_over, Luks1Shut, Luks1Tried, Luks2Shut, Luks2Tried}
-use Rattle.luks_volume.proofs.Alike.{same_answer}
-use Rattle.luks_volume.proofs.PlanFields1.{one_luks1_plan}
-use Rattle.luks_volume.proofs.PlanFields2.{IsOnly, one_luks2_plan}
+use Rattle.luks_volume.specs.Luks1Keyslots.{Luks1Opens, Luks1Refused}
+use Rattle.luks_volume.specs.Luks2Keyslots.{Luks2Opens, Luks2Refused}
+use Rattle.luks_volume.specs.PlanAnswers.{IsFailure}
+use Rattle.luks_volume.specs.KeyslotsTried.{passed_over, Luks1Tried, Luks2Tried}
+use Rattle.luks_volume.proofs.SamePlans.{same_answer}
+use Rattle.luks_volume.proofs.Luks1Plans.{one_luks1_plan}
+use Rattle.luks_volume.proofs.Luks2Plans.{IsOnly, one_luks2_plan}
 
 -- a keyslot opens to one key
 luks1_once : (h v : List ℕ) (n : ℕ) (p : List ℕ) (found other : Option (List ℕ)) → Luks1Opens h v n p found → Luks1Opens h v n p other → found ≡ other

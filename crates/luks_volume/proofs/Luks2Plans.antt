@@ -19,7 +19,7 @@ use Rattle.luks_slot.specs.declared.plan.SlotPlan.{SlotPlan}
 use Rattle.luks_slot.specs.Opening.{area_key_by}
 use Rattle.luks_slot.specs.Refusal.{is_argon2, is_known_derivation, is_open_cipher}
 use Rattle.luks_volume.specs.Plans.{IsLuks2Cipher, IsLuks2Derivation, IsLuks2Digest, IsLuks2Plan, HasLuks2Plan}
-use Rattle.luks_volume.proofs.Alike.{SameFields}
+use Rattle.luks_volume.proofs.SamePlans.{SameFields}
 
 same_text : (o : Option (List ℕ)) (a b : List ℕ) → o ≡ Some a → o ≡ Some b → a ≡ b
 same_text o a b p q = ap (λ v. unwrap_or v a) (sym p ∙ q)

@@ -16,7 +16,7 @@ use Rattle.luks_volume.specs.declared.report.Data.{Data}
 use Rattle.luks_volume.specs.declared.report.Data.TheVariants.{Here, Elsewhere}
 use Rattle.luks_volume.specs.Layout2.{slot_number, segment_offset, segment_extent, HasExtent, Luks2Area}
 use Rattle.luks_volume.specs.Listing.{AddsLuks2Slots, AddsSegments, Lists, ListsBelow}
-use Rattle.luks_volume.proofs.Grown.{has-cases, same_area, lists-push, lists-skip, lists-empty, lists-all}
+use Rattle.luks_volume.proofs.AreaListFacts.{has-cases, same_area, lists-push, lists-skip, lists-empty, lists-all}
 
 same_value : (o : Option ℕ) (m n : ℕ) → o ≡ Some m → o ≡ Some n → m ≡ n
 same_value o m n p q = ap (λ v. unwrap_or v m) (sym p ∙ q)

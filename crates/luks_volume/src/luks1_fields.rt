@@ -1,11 +1,11 @@
-//! One keyslot of a LUKS1 header, and what every keyslot shares.
+//! The fields of a LUKS1 header before its keyslots, and those of one keyslot.
 ghost use Rattle.std.specs.Prelude.{◌≡◌, ◌≤◌, ◌+◌, length, IfOk, IfErr};
 ghost use Rattle.luks_area.specs.First.{IsLeast};
 ghost use Rattle.luks_area.specs.Ranges.{part};
 ghost use Rattle.luks_head.specs.declared.fault.HeadFault.{HeadFault as TheFault};
 ghost use Rattle.luks_head.specs.Faults.{head_key, IsCommonFault};
 ghost use Rattle.luks_head.specs.Header1.{IsCommon};
-ghost use Rattle.luks_volume.specs.Entered.{EntryRefused, IsEnabled};
+ghost use Rattle.luks_volume.specs.Luks1Keyslots.{EntryRefused, IsEnabled};
 
 use crate::open_fault::OpenFault;
 use luks_head::{HeadFault, Luks1, Luks1Common, Luks1Slot, SlotState, luks1_is_first_bytes};

@@ -1,5 +1,5 @@
 -- From what counts of a volume to the volume: which fault locks it, and which keyslot opens first.
-use Rattle.std.proofs.Common.{◌≡◌, ◌≢◌, ℕ, List, ◌++◌, Option, Some, None, Result, Ok, Err, IfOk, refl, subst, sym, ◌∙◌, arith}
+use Rattle.std.proofs.Common.{◌≡◌, ◌≢◌, ℕ, List, ◌++◌, Option, Some, None, Result, Ok, Err, IfOk, refl, subst, sym, ◌∙◌}
 use Rattle.serde_json.specs.Data.{Data}
 use Rattle.luks_area.specs.First.{NotAfter, IsLeast}
 use Rattle.luks_area.specs.Ranges.{part}
@@ -17,23 +17,23 @@ use Rattle.luks_volume.specs.declared.unlocking.Rank.TheVariants.{Preferred, Nor
 use Rattle.luks_volume.specs.Answer.{open_key, head_step, HasPlanAs, IsRefusalAs, Opens}
 use Rattle.luks_volume.specs.ChosenCopies.{IsCleared}
 use Rattle.luks_volume.specs.Conversions.{head_unread, unread_opened}
-use Rattle.luks_volume.specs.Entered.{Luks1Opens}
-use Rattle.luks_volume.specs.Entered2.{Luks2Opens}
+use Rattle.luks_volume.specs.Luks1Keyslots.{Luks1Opens}
+use Rattle.luks_volume.specs.Luks2Keyslots.{Luks2Opens}
 use Rattle.luks_volume.specs.Header.{json_at, read_key, IsReadFault, IsReadFaultAs, IsUnread}
-use Rattle.luks_volume.specs.Planned.{IsFailure}
-use Rattle.luks_volume.specs.Tried.{rank_order, Luks1LockedBy, Luks1Shut, Luks1Tries, Luks2Shut, Luks2Tries}
-use Rattle.luks_volume.specs.Unlocking.{luks1_order, luks2_order, IsLockedBy, IsLockout, IsLockoutAs, IsLuks1Lockout, IsLuks2Lockout, StaysShut, Unlocks}
-use Rattle.luks_volume.proofs.Answered.{luks1_opens, unread_first}
-use Rattle.luks_volume.proofs.Orders.{gives_left, gives_right, gives_weaker}
+use Rattle.luks_volume.specs.PlanAnswers.{IsFailure}
+use Rattle.luks_volume.specs.KeyslotsTried.{rank_order, Luks1VolumeRefused, Luks1DoesNotOpen, Luks1Tries, Luks2DoesNotOpen, Luks2Tries}
+use Rattle.luks_volume.specs.Unlocking.{luks1_order, luks2_order, IsVolumeRefusedBy, IsVolumeRefusal, IsVolumeRefusalAs, IsLuks1VolumeRefusal, IsLuks2VolumeRefusal, DoesNotOpen, Unlocks}
+use Rattle.luks_volume.proofs.KeyslotAnswers.{luks1_opens, unread_first}
+use Rattle.luks_volume.proofs.KeyslotOrders.{gives_left, gives_right, gives_weaker}
 use Rattle.luks_volume.proofs.ReadFaults.{as_unread}
-use Rattle.luks_volume.proofs.Refusals1.{common_own, common_refuses, together}
+use Rattle.luks_volume.proofs.Luks1Refusals.{common_own, common_refuses, together}
 
 -- ---- the faults
 
-pub common_locks : (h : List ℕ) (f : HeadFault) → IsLeast head_key (IsCommonFault h) f → IsLeast open_key (IsLuks1Lockout h) (Head f)
+pub common_locks : (h : List ℕ) (f : HeadFault) → IsLeast head_key (IsCommonFault h) f → IsLeast open_key (IsLuks1VolumeRefusal h) (Head f)
 common_locks h f least = (least.0, after)
   where
-    after : (g : OpenFault) → IsLuks1Lockout h g → NotAfter (open_key (Head f)) (open_key g)
+    after : (g : OpenFault) → IsLuks1VolumeRefusal h g → NotAfter (open_key (Head f)) (open_key g)
     after (Head g) is =
         together (head_step f) (head_step g) (head_key f) (head_key g)
         ((common_refuses h 0 f least.0).1 ∙ sym (common_refuses h 0 g is).1) (least.1 g is)
@@ -46,19 +46,19 @@ common_locks h f least = (least.0, after)
     after Memory is = absurd is
 
 -- in the words of an opening
-pub common_locked : (h : List ℕ) (f : HeadFault) → IsLeast head_key (IsCommonFault h) f → Luks1LockedBy h (unread_opened (head_unread f))
-common_locked h f least = subst (λ r. Luks1LockedBy h (unread_opened r)) (sym (common_own h f least)) (common_locks h f least)
+pub common_locked : (h : List ℕ) (f : HeadFault) → IsLeast head_key (IsCommonFault h) f → Luks1VolumeRefused h (unread_opened (head_unread f))
+common_locked h f least = subst (λ r. Luks1VolumeRefused h (unread_opened r)) (sym (common_own h f least)) (common_locks h f least)
 
 -- the first fault by what counts is the volume's first fault
 locked_as : (v : List ℕ) (c : Choice) (f : OpenFault) → Chosen v c → ((d : Choice) → Chosen v d → c ≡ d)
-    → IsLeast open_key (IsLockoutAs v c) f → IsLeast open_key (IsLockout v) f
+    → IsLeast open_key (IsVolumeRefusalAs v c) f → IsLeast open_key (IsVolumeRefusal v) f
 locked_as v c f chosen only least = (
   record { choice = c; chosen = chosen; fault = least.0 },
-  λ g is. least.1 g (subst (λ d. IsLockoutAs v d g) (sym (only is.choice is.chosen)) is.fault),
+  λ g is. least.1 g (subst (λ d. IsVolumeRefusalAs v d g) (sym (only is.choice is.chosen)) is.fault),
 )
 
 pub luks1_locked : (v : List ℕ) (f : OpenFault) → Chosen v luks1 → ((d : Choice) → Chosen v d → luks1 ≡ d)
-    → Luks1LockedBy (part v 0 592) f → IsLockedBy v f
+    → Luks1VolumeRefused (part v 0 592) f → IsVolumeRefusedBy v f
 luks1_locked v (Head f) chosen only x = locked_as v luks1 (Head f) chosen only x
 luks1_locked v (Meta f) chosen only x = locked_as v luks1 (Meta f) chosen only x
 luks1_locked v NoSuchSlot chosen only x = locked_as v luks1 NoSuchSlot chosen only x
@@ -71,7 +71,7 @@ luks1_locked v Memory chosen only x = absurd x
 -- ---- a header that isn't read
 
 -- where the header isn't read, a refusal of the volume is one of each keyslot
-lockout_refuses : (v : List ℕ) (n : ℕ) (c : Choice) (r : ReadFault) (f : OpenFault) → IsReadFaultAs v c r → IsLockoutAs v c f → IsRefusalAs v n c f
+lockout_refuses : (v : List ℕ) (n : ℕ) (c : Choice) (r : ReadFault) (f : OpenFault) → IsReadFaultAs v c r → IsVolumeRefusalAs v c f → IsRefusalAs v n c f
 lockout_refuses v n luks1 r f unread x = absurd unread
 lockout_refuses v n (luks2 o copies) r (Head f) unread x = x
 lockout_refuses v n (luks2 o copies) r (Meta f) unread x = x
@@ -83,7 +83,7 @@ lockout_refuses v n (luks2 o copies) r Device unread x = absurd x
 lockout_refuses v n (luks2 o copies) r Memory unread x = absurd x
 lockout_refuses v n nothing r f unread x = x
 
-read_locks : (v : List ℕ) (c : Choice) (f : ReadFault) → IsReadFaultAs v c f → IsLockoutAs v c (unread_opened f)
+read_locks : (v : List ℕ) (c : Choice) (f : ReadFault) → IsReadFaultAs v c f → IsVolumeRefusalAs v c (unread_opened f)
 read_locks v luks1 f x = absurd x
 read_locks v (luks2 o copies) (reading.Head f) x = x
 read_locks v (luks2 o copies) (reading.Meta f) x = x
@@ -95,7 +95,7 @@ read_locks v nothing reading.Device x = absurd x
 read_locks v nothing reading.Memory x = absurd x
 
 unread_locks : (v : List ℕ) (f : ReadFault) → ((b c : Choice) → Chosen v b → Chosen v c → b ≡ c) → IsLeast read_key (IsReadFault v) f
-    → IsLeast open_key (IsLockout v) (unread_opened f)
+    → IsLeast open_key (IsVolumeRefusal v) (unread_opened f)
 unread_locks v f one least =
     let counted = as_unread v f least in
     let c = counted.choice in
@@ -104,7 +104,7 @@ unread_locks v f one least =
       λ g is. (unread_first v 0 c f counted.least).1 g (lockout_refuses v 0 c f g counted.least.0 is),
     )
 
-pub unread_locked : (v : List ℕ) (f : ReadFault) → ((b c : Choice) → Chosen v b → Chosen v c → b ≡ c) → IsUnread v f → IsLockedBy v (unread_opened f)
+pub unread_locked : (v : List ℕ) (f : ReadFault) → ((b c : Choice) → Chosen v b → Chosen v c → b ≡ c) → IsUnread v f → IsVolumeRefusedBy v (unread_opened f)
 unread_locked v (reading.Head f) one x = unread_locks v (reading.Head f) one x
 unread_locked v (reading.Meta f) one x = unread_locks v (reading.Meta f) one x
 unread_locked v reading.Device one x = tt
@@ -125,12 +125,12 @@ taken v n p c k only y =
       unrefused = λ f r. y.unrefused f (subst (λ d. IsRefusalAs v n d f) e r);
     }
 
-luks1_stays_shut : (v p : List ℕ) (n : ℕ) → ((d : Choice) → Chosen v d → luks1 ≡ d) → Luks1Shut (part v 0 592) v p n → StaysShut v p n
+luks1_stays_shut : (v p : List ℕ) (n : ℕ) → ((d : Choice) → Chosen v d → luks1 ≡ d) → Luks1DoesNotOpen (part v 0 592) v p n → DoesNotOpen v p n
 luks1_stays_shut v p n only shut k y =
     let x = taken v n p luks1 k only y in
     shut k (record { plan = y.plan; is = x.is; unrefused = x.unrefused; key = y.key })
 
-not_locked : (h : List ℕ) (f : OpenFault) → ((g : HeadFault) → IsCommonFault h g → ⊥) → IsLuks1Lockout h f → ⊥
+not_locked : (h : List ℕ) (f : OpenFault) → ((g : HeadFault) → IsCommonFault h g → ⊥) → IsLuks1VolumeRefusal h f → ⊥
 not_locked h (Head f) clear x = clear f x
 not_locked h (Meta f) clear x = x
 not_locked h NoSuchSlot clear x = x
@@ -148,7 +148,7 @@ luks1_unlocks v p found chosen only clear x = record {
   unrefused = λ f y. not_locked (part v 0 592) f clear y;
   order = luks1_order (part v 0 592);
   ordered = refl;
-  gives = gives_weaker (Luks1Shut (part v 0 592) v p) (StaysShut v p) (λ n k. Luks1Opens (part v 0 592) v n p (Some k)) (λ n k. Opens v n p (Some k))
+  gives = gives_weaker (Luks1DoesNotOpen (part v 0 592) v p) (DoesNotOpen v p) (λ n k. Luks1Opens (part v 0 592) v n p (Some k)) (λ n k. Opens v n p (Some k))
       (luks1_order (part v 0 592)) found (λ n. luks1_stays_shut v p n only) (λ n k y. luks1_opens v n p (Some k) chosen y) x;
 }
 
@@ -157,7 +157,7 @@ pub luks1_unlocks_as : (v p : List ℕ) (r : Result (Option (ℕ × List ℕ)) O
 luks1_unlocks_as v p (Ok found) chosen only clear x = luks1_unlocks v p found chosen only clear x
 luks1_unlocks_as v p (Err f) chosen only clear x = tt
 
-pub cleared_not_locked : (b json : List ℕ) (j : Data) (f : OpenFault) → IsCleared (uuid_field b) json j → IsLuks2Lockout b json f → ⊥
+pub cleared_not_locked : (b json : List ℕ) (j : Data) (f : OpenFault) → IsCleared (uuid_field b) json j → IsLuks2VolumeRefusal b json f → ⊥
 cleared_not_locked b json j (Head f) clear x = clear.uuid_faultless f x
 cleared_not_locked b json j (Meta f) clear x = clear.faultless f x
 cleared_not_locked b json j NoSuchSlot clear x = x
@@ -176,17 +176,17 @@ pub first_rank : (b json v p : List ℕ) (j : Data) (found : ℕ × List ℕ)
     → Luks2Tries b json v p (rank_order Preferred j) (Some found) → Luks2Tries b json v p (luks2_order j) (Some found)
 first_rank b json v p j found x =
     subst (λ order. Luks2Tries b json v p order (Some found)) (both_ranks j)
-    (gives_left (Luks2Shut b json v p) (λ n k. Luks2Opens b json v n p (Some k)) (rank_order Preferred j) (rank_order Normal j) found.0 found.1 x)
+    (gives_left (Luks2DoesNotOpen b json v p) (λ n k. Luks2Opens b json v n p (Some k)) (rank_order Preferred j) (rank_order Normal j) found.0 found.1 x)
 
 -- none of them opens
 pub second_rank : (b json v p : List ℕ) (j : Data) (found : Option (ℕ × List ℕ))
     → Luks2Tries b json v p (rank_order Preferred j) None → Luks2Tries b json v p (rank_order Normal j) found → Luks2Tries b json v p (luks2_order j) found
 second_rank b json v p j found shut x =
     subst (λ order. Luks2Tries b json v p order found) (both_ranks j)
-    (gives_right (Luks2Shut b json v p) (λ n k. Luks2Opens b json v n p (Some k)) (rank_order Preferred j) (rank_order Normal j) found shut x)
+    (gives_right (Luks2DoesNotOpen b json v p) (λ n k. Luks2Opens b json v n p (Some k)) (rank_order Preferred j) (rank_order Normal j) found shut x)
 
 luks2_stays_shut : (v p : List ℕ) (n o : ℕ) (copies : Copies) → ((d : Choice) → Chosen v d → luks2 o copies ≡ d)
-    → Luks2Shut (header_at v o) (json_at v o) v p n → StaysShut v p n
+    → Luks2DoesNotOpen (header_at v o) (json_at v o) v p n → DoesNotOpen v p n
 luks2_stays_shut v p n o copies only shut k y =
     let x = taken v n p (luks2 o copies) k only y in
     shut k (record { plan = y.plan; is = x.is; unrefused = x.unrefused; key = y.key })
@@ -204,14 +204,14 @@ luks2_unlocks v p o copies j found chosen only clear x = record {
   unrefused = λ f y. cleared_not_locked (header_at v o) (json_at v o) j f clear y;
   order = luks2_order j;
   ordered = (j, (clear.meta.json, refl));
-  gives = gives_weaker (Luks2Shut (header_at v o) (json_at v o) v p) (StaysShut v p)
+  gives = gives_weaker (Luks2DoesNotOpen (header_at v o) (json_at v o) v p) (DoesNotOpen v p)
       (λ n k. Luks2Opens (header_at v o) (json_at v o) v n p (Some k)) (λ n k. Opens v n p (Some k))
       (luks2_order j) found (λ n. luks2_stays_shut v p n o copies only) (λ n k z. luks2_key v p n k o copies chosen z) x;
 }
 
 -- ---- a failed device
 
-pub device_locks : (v : List ℕ) (f : OpenFault) → IsFailure f → IsLockedBy v f
+pub device_locks : (v : List ℕ) (f : OpenFault) → IsFailure f → IsVolumeRefusedBy v f
 device_locks v (Head f) x = absurd x
 device_locks v (Meta f) x = absurd x
 device_locks v NoSuchSlot x = absurd x
@@ -226,5 +226,5 @@ pub failure_own : (f : OpenFault) → IsFailure f → f ≢ Memory
 failure_own f x e = subst IsFailure e x
 
 -- no memory is taken for what locks a LUKS1 volume
-pub luks1_locked_own : (h : List ℕ) (f : OpenFault) → Luks1LockedBy h f → f ≢ Memory
-luks1_locked_own h f x e = subst (Luks1LockedBy h) e x
+pub luks1_locked_own : (h : List ℕ) (f : OpenFault) → Luks1VolumeRefused h f → f ≢ Memory
+luks1_locked_own h f x e = subst (Luks1VolumeRefused h) e x

@@ -18,6 +18,6 @@ pub record HoldsNames (json : List ℕ) : Type 0 where
 
 -- each area of the volume `v` is inside it, every two of different names are disjoint, and of LUKS2
 -- every name in the metadata of the copy that counts resolves
-pub record IsLawful (v : List ℕ) (payload : Data) : Type 0 where
+pub record FitsAndResolves (v : List ℕ) (payload : Data) : Type 0 where
   pub fit : Fit (AreaOf v payload) (length v)
   pub names : (o : ℕ) (copies : Copies) → Chosen v (luks2 o copies) → HoldsNames (json_at v o)

@@ -14,14 +14,14 @@ use Rattle.luks_volume.specs.declared.open_fault.OpenFault.{OpenFault}
 use Rattle.luks_volume.specs.declared.open_fault.OpenFault.TheVariants.{Head, Meta, NoSuchSlot, SlotFree, Outside, Slot, Device, Memory}
 use Rattle.luks_volume.specs.declared.read_fault.ReadFault.{ReadFault}
 use Rattle.luks_volume.specs.declared.read_fault.ReadFault.TheVariants as reading
-use Rattle.luks_volume.specs.Answer.{open_key, head_step, slot_row, Answer, IsLuks2Refusal, IsRefusalAs, IsRefusedBy, refused, opened_to}
+use Rattle.luks_volume.specs.Answer.{open_key, head_step, slot_row, Answer, IsRefusalAs, IsRefusedBy, refused, opened_to}
 use Rattle.luks_volume.specs.Conversions.{unread_opened}
 use Rattle.luks_volume.specs.Header.{json_at, read_key, IsReadFaultAs, IsUnread}
-use Rattle.luks_volume.specs.Entered.{Luks1Opens, Luks1Refused}
-use Rattle.luks_volume.specs.Entered2.{Luks2Opens, Luks2Refused}
+use Rattle.luks_volume.specs.Luks1Keyslots.{Luks1Opens, Luks1Refused}
+use Rattle.luks_volume.specs.Luks2Keyslots.{Luks2Opens, Luks2Refused}
 use Rattle.luks_volume.proofs.ReadFaults.{as_unread}
-use Rattle.luks_volume.proofs.Refusals1.{sooner, together}
-use Rattle.luks_volume.proofs.Refusals2.{uuid_step}
+use Rattle.luks_volume.proofs.Luks1Refusals.{sooner, together}
+use Rattle.luks_volume.proofs.Luks2Refusals.{uuid_step}
 
 -- the first refusal by what counts is the volume's first refusal
 pub refused_as : (v : List ℕ) (n : ℕ) (p : List ℕ) (c : Choice) (f : OpenFault) → Chosen v c → ((d : Choice) → Chosen v d → c ≡ d)

@@ -16,11 +16,11 @@ use Rattle.luks_volume.specs.declared.open_fault.OpenFault.TheVariants.{Head, Me
 use Rattle.luks_volume.specs.Answer.{open_key, head_step, slot_row, IsLuks1HeadRefusal, IsLuks1Refusal}
 use Rattle.luks_volume.specs.declared.read_fault.ReadFault.TheVariants as reading
 use Rattle.luks_volume.specs.Conversions.{head_unread, unread_opened}
-use Rattle.luks_volume.specs.Entered.{IsEnabled, EntryRefused, Luks1Refused, Luks1Opens}
-use Rattle.luks_volume.specs.Planned.{PlanOpens, PlanRefused}
+use Rattle.luks_volume.specs.Luks1Keyslots.{IsEnabled, EntryRefused, Luks1Refused, Luks1Opens}
+use Rattle.luks_volume.specs.PlanAnswers.{PlanOpens, PlanRefused}
 use Rattle.luks_volume.specs.Plans.{HasLuks1Plan}
-use Rattle.luks_volume.proofs.Alike.{same_refusal}
-use Rattle.luks_volume.proofs.PlanFields1.{one_luks1_plan}
+use Rattle.luks_volume.proofs.SamePlans.{same_refusal}
+use Rattle.luks_volume.proofs.Luks1Plans.{one_luks1_plan}
 use Rattle.luks_volume.proofs.ReadFaults.{own_head}
 
 -- a step before another

@@ -9,7 +9,7 @@ use Rattle.luks_slot.specs.declared.plan.SlotPlan.{SlotPlan}
 use Rattle.luks_slot.specs.Opening.{area_key_by}
 use Rattle.luks_slot.specs.Refusal.{is_argon2, is_known_derivation, is_open_cipher}
 use Rattle.luks_volume.specs.Plans.{IsLuks1Cipher, IsLuks1Derivation, HasLuks1Plan}
-use Rattle.luks_volume.proofs.Alike.{SameFields}
+use Rattle.luks_volume.proofs.SamePlans.{SameFields}
 
 argon2_of : (h e : List ℕ) (a b : Derivation) → IsLuks1Derivation h e a → IsLuks1Derivation h e b → is_argon2 a ≡ is_argon2 b
 argon2_of h e (Pbkdf2 k i s) (Pbkdf2 l j t) x y = refl

@@ -13,7 +13,7 @@ use Rattle.luks_slot.specs.declared.plan.Derivation.{Derivation}
 use Rattle.luks_slot.specs.declared.plan.Derivation.TheVariants.{Pbkdf2, Argon2}
 use Rattle.luks_slot.specs.declared.plan.SlotPlan.{SlotPlan}
 use Rattle.luks_slot.specs.Opening.{HasIterations}
-use Rattle.luks_volume.specs.Planned.{IsJudged}
+use Rattle.luks_volume.specs.PlanAnswers.{IsOpenable}
 use Rattle.luks_volume.specs.Plans.{IsLuks2Derivation, IsLuks2Plan}
 use Rattle.luks_meta.specs.Reading.{kept, is_between, number_in, number_of, bytes_in, text_of}
 
@@ -40,7 +40,7 @@ has_turns d Argon2 x = tt
 
 -- the plan of a keyslot of accepted metadata is judged
 pub luks2_judged : (len n : ℕ) (j d : Data) (plan : SlotPlan) → IsContent len j → n < 32 → object_at j Keyslots n ≡ Some d
-    → IsLuks2Plan j n d plan → IsJudged plan
+    → IsLuks2Plan j n d plan → IsOpenable plan
 luks2_judged len n j d plan content numbered there x =
     let key = in_limits 1 128 (member_at d outer.Top name.KeySize) plan.key_bytes x.key_bytes in
     let held = long_enough 20 64 (member_at x.digest.object outer.Top name.Digest) plan.digest.stored.now x.digest.stored in

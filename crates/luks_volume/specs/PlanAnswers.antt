@@ -1,7 +1,5 @@
 -- What a plan gives in a volume, whichever header it was read from.
-use Rattle.std.specs.Prelude.{◌≡◌, ℕ, ◌+◌, ◌*◌, ◌<◌, ◌≤◌, List, length, Option, Some, None, ⊤}
-use Rattle.luks_head.specs.declared.fault.HeadFault.{HeadFault}
-use Rattle.luks_head.specs.declared.fault.HeadFault.TheVariants as head
+use Rattle.std.specs.Prelude.{◌≡◌, ℕ, ◌+◌, ◌<◌, ◌≤◌, List, length, Option, Some, None, ⊤}
 use Rattle.luks_area.specs.Ranges.{part}
 use Rattle.luks_area.specs.Sectors.{rounded_to_sectors}
 use Rattle.luks_slot.specs.declared.plan.SlotPlan.{SlotPlan}
@@ -11,7 +9,7 @@ use Rattle.luks_volume.specs.declared.open_fault.OpenFault.{OpenFault}
 use Rattle.luks_volume.specs.declared.open_fault.OpenFault.TheVariants.{Head, Meta, NoSuchSlot, SlotFree, Outside, Slot, Device, Memory}
 
 -- the plan's numbers are those of a header that has been judged, and its area holds the sectors
-pub record IsJudged (plan : SlotPlan) : Type 0 where
+pub record IsOpenable (plan : SlotPlan) : Type 0 where
   pub turns : HasIterations plan.derivation
   pub digest_turns : 1 ≤ plan.digest.iterations
   pub digest_length : length plan.digest.stored.now ≤ 64

@@ -12,14 +12,14 @@ use Rattle.luks_rules.specs.declared.fault.MetaFault.{MetaFault}
 use Rattle.luks_volume.specs.declared.check_fault.CheckFault.{CheckFault}
 use Rattle.luks_volume.specs.declared.check_fault.CheckFault.TheVariants.{Head, Meta, Area, Device, Memory}
 use Rattle.luks_volume.specs.declared.report.Data.{Data}
-use Rattle.luks_volume.specs.Checked.{check_key, IsLuks1Fault, IsLuks2Volume, IsLuks2Fault, HasLuks2Area, WellFormedAs, HasAreaAs, IsFaultAs, WellFormed, AreaOf, IsFault, First, IsRefusal}
+use Rattle.luks_volume.specs.Checked.{check_key, IsLuks1Fault, IsLuks2Volume, IsLuks2Fault, HasLuks2Area, WellFormedAs, HasAreaAs, IsFaultAs, WellFormed, AreaOf, IsFault, First, IsCheckRefusal}
 use Rattle.luks_volume.specs.declared.read_fault.ReadFault.{ReadFault}
 use Rattle.luks_volume.specs.declared.read_fault.ReadFault.TheVariants as reading
 use Rattle.luks_volume.specs.Conversions.{unread_checked}
 use Rattle.luks_volume.specs.Header.{json_at, read_key, IsReadFaultAs, IsUnread}
 use Rattle.luks_volume.specs.Listing.{Lists}
 use Rattle.luks_volume.specs.Reported.{IsFromOutside}
-use Rattle.luks_volume.proofs.Judged2.{before_segment, meta_cases, to_luks2_fault}
+use Rattle.luks_volume.proofs.Luks2FaultFacts.{before_segment, meta_cases, to_luks2_fault}
 use Rattle.luks_volume.proofs.ReadFaults.{as_unread}
 
 -- LUKS2: acceptance
@@ -132,7 +132,7 @@ module _ (only : (v : List ℕ) (c d : Choice) → Chosen v c → Chosen v d →
 
   -- a header that isn't read
 
-  pub unread_refused : (v : List ℕ) (payload : Data) (f : ReadFault) → IsUnread v f → IsRefusal v payload (unread_checked f)
+  pub unread_refused : (v : List ℕ) (payload : Data) (f : ReadFault) → IsUnread v f → IsCheckRefusal v payload (unread_checked f)
   unread_refused v payload (reading.Head f) x =
       let counted = as_unread v (reading.Head f) x in first_as v payload counted.choice (Head f) counted.chosen (unread_first v payload counted.choice (reading.Head f) counted.least)
   unread_refused v payload (reading.Meta f) x =
@@ -142,7 +142,7 @@ module _ (only : (v : List ℕ) (c d : Choice) → Chosen v c → Chosen v d →
 
 -- a refusal of a volume without faults comes from outside
 
-pub outside : (v : List ℕ) (payload : Data) (f : CheckFault) → ((g : CheckFault) → IsFault v payload g → ⊥) → IsRefusal v payload f → IsFromOutside f
+pub outside : (v : List ℕ) (payload : Data) (f : CheckFault) → ((g : CheckFault) → IsFault v payload g → ⊥) → IsCheckRefusal v payload f → IsFromOutside f
 outside v payload (Head f) none is = none (Head f) is.0
 outside v payload (Meta f) none is = none (Meta f) is.0
 outside v payload (Area f) none is = none (Area f) is.0
@@ -156,7 +156,7 @@ no_outside v payload luks1 x = x
 no_outside v payload (luks2 o copies) x = x
 no_outside v payload nothing x = x
 
-pub first_refused : (v : List ℕ) (payload : Data) (f : CheckFault) → First v payload f → IsRefusal v payload f
+pub first_refused : (v : List ℕ) (payload : Data) (f : CheckFault) → First v payload f → IsCheckRefusal v payload f
 first_refused v payload (Head f) x = x
 first_refused v payload (Meta f) x = x
 first_refused v payload (Area f) x = x
@@ -171,6 +171,6 @@ on_ok (Ok x) step is = step is
 on_ok (Err e) step is = tt
 
 pub outside_result : {T : Type 0} (v : List ℕ) (payload : Data) (r : Result T CheckFault) → ((g : CheckFault) → IsFault v payload g → ⊥)
-    → IfErr r (IsRefusal v payload) → MatchResult r (λ _. ⊤) IsFromOutside
+    → IfErr r (IsCheckRefusal v payload) → MatchResult r (λ _. ⊤) IsFromOutside
 outside_result v payload (Ok x) none is = tt
 outside_result v payload (Err f) none is = outside v payload f none is

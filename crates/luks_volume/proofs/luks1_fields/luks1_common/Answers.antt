@@ -4,7 +4,7 @@ use Rattle.std.proofs.lemmas.Result.{IfErr-weaker, IfOk-weaker}
 use Rattle.luks_area.specs.First.{IsLeast}
 use Rattle.luks_head.specs.Faults.{head_key, IsCommonFault}
 use Rattle.luks_head.specs.Header1.{IsCommon}
-use Rattle.luks_volume.proofs.luks1_entry.luks1_common.Goals as goal
+use Rattle.luks_volume.proofs.luks1_fields.luks1_common.Goals as goal
 
 pub returns-clause-found : goal.returns-clause-found
 returns-clause-found c =

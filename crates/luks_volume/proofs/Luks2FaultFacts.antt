@@ -11,8 +11,7 @@ use Rattle.luks_area.specs.First.{NotAfter, IsLeast}
 use Rattle.luks_head.specs.declared.fault.HeadFault.{HeadFault}
 use Rattle.luks_head.specs.declared.fault.HeadFault.TheVariants as head
 use Rattle.luks_head.specs.declared.fault.TextField.TheVariants as field
-use Rattle.luks_head.specs.Faults.{head_key}
-use Rattle.luks_head.specs.Header2.{hdr_size, uuid_field, IsUuidField, IsUuidFault}
+use Rattle.luks_head.specs.Header2.{hdr_size, IsUuidField, IsUuidFault}
 use Rattle.luks_rules.specs.declared.fault.MetaFault.{MetaFault}
 use Rattle.luks_rules.specs.declared.fault.MetaFault.TheVariants as meta
 use Rattle.luks_rules.specs.declared.table.Outer.TheVariants as outer

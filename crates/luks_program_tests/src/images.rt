@@ -1,0 +1,174 @@
+//! Volumes put together by the layout of the formats alone.
+use crate::metadata::{Edit, THREE, ZEROS, edited};
+use sha2::{Digest, Sha256};
+use std::alloc::{AllocError, Global};
+
+const UUID: &[u8] = b"00000000-0000-4000-8000-000000000000";
+
+/// A place and what is written over the bytes from there on.
+pub type Change = (usize, &'static [u8]);
+
+/// Writes `from` over the bytes from `at` on, as far as they reach.
+pub fn put(image: &mut [u8], at: usize, from: &[u8]) {
+    for (i, byte) in from.iter().enumerate() {
+        if let Some(place) = image.get_mut(at.wrapping_add(i)) {
+            *place = *byte;
+        }
+    }
+}
+
+/// Makes the changes in turn.
+pub fn overwrite(image: &mut [u8], changes: &[Change]) {
+    for (at, bytes) in changes.iter() {
+        put(image, *at, *bytes);
+    }
+}
+
+/// The bytes of the LUKS1 image.
+pub const LUKS1: usize = 2097664;
+
+/// Where the key material of the eight keyslots begins, in sectors.
+const OFFSETS: [u32; 8] = [8, 512, 1016, 1520, 2024, 2528, 3032, 3536];
+
+/// A LUKS1 volume of 2097664 bytes: aes, xts-plain64, sha256, keys of 64 bytes, all keyslots free,
+/// 4000 stripes in each, the payload from sector 4096 on.
+pub fn luks1(alloc: Global) -> Result<Vec<u8>, AllocError> {
+    let mut image = vec![in alloc; 0u8; LUKS1]?;
+    put(&mut image, 0, b"LUKS\xBA\xBE\x00\x01aes");
+    put(&mut image, 40, b"xts-plain64");
+    put(&mut image, 72, b"sha256");
+    put(&mut image, 104, &[0, 0, 0x10, 0, 0, 0, 0, 64]);
+    put(&mut image, 164, &[0, 0, 3, 0xE8]);
+    put(&mut image, 168, UUID);
+    for (n, offset) in OFFSETS.iter().enumerate() {
+        let at = n.wrapping_mul(48).wrapping_add(208);
+        put(&mut image, at, &[0, 0, 0xDE, 0xAD]);
+        put(&mut image, at.wrapping_add(40), &offset.to_be_bytes());
+        put(&mut image, at.wrapping_add(44), &[0, 0, 0x0F, 0xA0]);
+    }
+    Ok(image)
+}
+
+/// That volume with these changes, cut to a length.
+pub fn changed_luks1(alloc: Global, changes: &[Change], len: usize) -> Result<Vec<u8>, AllocError> {
+    let mut image = luks1(alloc)?;
+    overwrite(&mut image, changes);
+    image.truncate(len);
+    Ok(image)
+}
+
+/// The fields of a copy of a LUKS2 header that differ among the volumes here.
+#[derive(Debug, Clone, Copy)]
+pub struct Fields<'a> {
+    /// The bytes of each copy.
+    pub size: u32,
+    /// The sequence number.
+    pub seqid: u64,
+    /// The label, without its zeros.
+    pub label: &'a [u8],
+    /// The subsystem, without its zeros.
+    pub subsystem: &'a [u8],
+    /// The uuid's field, without its zeros.
+    pub uuid: &'a [u8],
+    /// The metadata.
+    pub text: &'a str,
+}
+
+/// A copy of 16384 bytes with this metadata, of sequence number 1.
+pub fn copy_of(text: &str) -> Fields<'_> {
+    Fields {
+        size: 16384,
+        seqid: 1,
+        label: b"",
+        subsystem: b"",
+        uuid: UUID,
+        text,
+    }
+}
+
+/// Puts a sound copy of a LUKS2 header at `at`.
+pub fn put_copy(image: &mut [u8], at: u32, fields: &Fields<'_>) {
+    let place = at as usize;
+    let magic = if at == 0 {
+        b"LUKS\xBA\xBE"
+    } else {
+        b"SKUL\xBA\xBE"
+    };
+    put(image, place, magic);
+    put(image, place.wrapping_add(7), &[2]);
+    put(image, place.wrapping_add(12), &fields.size.to_be_bytes());
+    put(image, place.wrapping_add(16), &fields.seqid.to_be_bytes());
+    put(image, place.wrapping_add(24), fields.label);
+    put(image, place.wrapping_add(72), b"sha256");
+    put(image, place.wrapping_add(168), fields.uuid);
+    put(image, place.wrapping_add(208), fields.subsystem);
+    put(image, place.wrapping_add(260), &at.to_be_bytes());
+    put(image, place.wrapping_add(4096), fields.text.as_bytes());
+    if let Some(copy) = image.get(place..place.wrapping_add(fields.size as usize)) {
+        let digest = Sha256::digest(copy);
+        put(image, place.wrapping_add(448), &digest);
+    }
+}
+
+/// A LUKS2 volume of `len` bytes, zeros but for two sound copies.
+pub fn luks2(
+    alloc: Global,
+    first: &Fields<'_>,
+    second: &Fields<'_>,
+    len: usize,
+) -> Result<Vec<u8>, AllocError> {
+    let mut image = vec![in alloc; 0u8; len]?;
+    put_copy(&mut image, 0, first);
+    put_copy(&mut image, first.size, second);
+    Ok(image)
+}
+
+/// The bytes of the LUKS2 volume of one keyslot.
+pub const LUKS2: usize = 16777728;
+
+/// A LUKS2 volume of one keyslot and one segment, its metadata edited so.
+pub fn zeros_luks2(alloc: Global, edits: &[Edit], len: usize) -> Result<Vec<u8>, AllocError> {
+    let text = edited(alloc, ZEROS, edits)?;
+    let copy = copy_of(text.as_str());
+    luks2(alloc, &copy, &copy, len)
+}
+
+/// The volume key's one stripe, which is the key, the bytes 0 to 63, encrypted by AES-XTS in sector
+/// 0 under PBKDF2 of the passphrase `one` with 32 bytes 0x11, by SHA-256 and 1000 iterations:
+/// Python's hashlib and cryptography.
+const STRIPE: [u8; 64] = [
+    0xCC, 0x14, 0x78, 0x95, 0x68, 0x2F, 0x99, 0x74, 0x2B, 0x5D, 0x57, 0x8B, 0x28, 0x8B, 0x64, 0x68,
+    0xA2, 0xEA, 0x01, 0x80, 0xD2, 0x98, 0x16, 0xC1, 0x71, 0x9E, 0xED, 0xC4, 0xA1, 0xC5, 0x41, 0x16,
+    0x7F, 0xBB, 0x3A, 0xB8, 0x69, 0x90, 0x18, 0x80, 0xD3, 0xB4, 0x6B, 0xC7, 0x72, 0x9A, 0x88, 0x8A,
+    0x0B, 0xEB, 0xDB, 0xD6, 0x37, 0xDD, 0xAB, 0x36, 0x33, 0x70, 0x3B, 0x71, 0xD0, 0x73, 0xC2, 0xE8,
+];
+
+/// PBKDF2 of the volume key with 32 bytes 0x22, likewise.
+pub const MK_DIGEST: [u8; 20] = [
+    0xAF, 0x4B, 0x56, 0xD0, 0x5D, 0x08, 0x4C, 0xEA, 0x0F, 0x60, 0x15, 0x26, 0x16, 0x31, 0xB3, 0x5D,
+    0x94, 0xD5, 0xA3, 0x00,
+];
+
+/// The LUKS1 volume with its keyslot 0 in use, of one stripe, which opens by the passphrase `one`.
+pub fn opening_luks1(alloc: Global) -> Result<Vec<u8>, AllocError> {
+    let mut image = luks1(alloc)?;
+    put(&mut image, 112, &MK_DIGEST);
+    put(&mut image, 132, &[0x22; 32]);
+    put(&mut image, 208, &[0, 0xAC, 0x71, 0xF3, 0, 0, 3, 0xE8]);
+    put(&mut image, 216, &[0x11; 32]);
+    put(&mut image, 252, &[0, 0, 0, 1]);
+    put(&mut image, 4096, &STRIPE);
+    Ok(image)
+}
+
+/// A LUKS2 volume of three keyslots, which open by the passphrase `one` where an edit doesn't say
+/// otherwise.
+pub fn opening_luks2(alloc: Global, edits: &[Edit]) -> Result<Vec<u8>, AllocError> {
+    let text = edited(alloc, THREE, edits)?;
+    let copy = copy_of(text.as_str());
+    let mut image = luks2(alloc, &copy, &copy, 45056)?;
+    put(&mut image, 32768, &STRIPE);
+    put(&mut image, 36864, &STRIPE);
+    put(&mut image, 40960, &STRIPE);
+    Ok(image)
+}
