@@ -27,6 +27,8 @@ mod passphrases;
 #[cfg(test)]
 mod printing;
 #[cfg(test)]
+mod reading;
+#[cfg(test)]
 mod refused_memory;
 #[cfg(test)]
 mod shapes;

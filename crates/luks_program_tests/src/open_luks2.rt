@@ -188,7 +188,7 @@ fn changed_volumes(rt: HostRuntime) -> Result<(), Fail> {
 }
 
 /// The salt of the keyslot, and the digest and its salt.
-const OF_4000_STRIPES: [Edit; 2] = [
+pub const OF_4000_STRIPES: [Edit; 2] = [
     (
         r#""kdf":{"hash":"sha256","iterations":1000,"salt":"AAAAAAAAAAAAAAAAAAAAAAAAAAAAAAAAAAAAAAAAAAA=""#,
         r#""kdf":{"hash":"sha256","iterations":1000,"salt":"ERERERERERERERERERERERERERERERERERERERERERE=""#,
