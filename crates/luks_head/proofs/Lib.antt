@@ -2,6 +2,7 @@ pub mod BinaryHeaderFacts
 pub mod BinaryHeaderWriting
 pub mod ChoiceFacts
 pub mod ChosenCopyFacts
+pub mod CommonFacts
 pub mod CommonWriting
 pub mod CopyFacts
 pub mod DecidableFacts

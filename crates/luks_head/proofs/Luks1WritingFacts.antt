@@ -62,7 +62,7 @@ whole_texts v c fields t = let W : List ℕ → Type 0 = λ text. text_of text �
 ]
 
 -- two headers that say one record have the same texts
-same_texts : (v w : List ℕ) (c : Luks1Common) → HoldsCommon v c → HoldsCommon w c → (t : TextField) → header_text v t ≡ header_text w t
+pub same_texts : (v w : List ℕ) (c : Luks1Common) → HoldsCommon v c → HoldsCommon w c → (t : TextField) → header_text v t ≡ header_text w t
 same_texts v w c a b t = elim t as (λ u. header_text v u ≡ header_text w u) [
   | field.CipherName ↦ a.cipher_name ∙ sym b.cipher_name
   | field.CipherMode ↦ a.cipher_mode ∙ sym b.cipher_mode
@@ -71,7 +71,7 @@ same_texts v w c a b t = elim t as (λ u. header_text v u ≡ header_text w u) [
 ]
 
 -- the fields before the key slots that a header said, written: they are those of a header again
-common_reads_back : (v w : List ℕ) (c : Luks1Common) → IsCommon v c → WritesCommon w c → IsCommon w c
+pub common_reads_back : (v w : List ℕ) (c : Luks1Common) → IsCommon v c → WritesCommon w c → IsCommon w c
 common_reads_back v w c good put =
     let fields : HoldsCommon w c = put.fields (whole_texts v c good.fields) in
     let texts : (t : TextField) → header_text v t ≡ header_text w t = same_texts v w c good.fields fields in

@@ -2,10 +2,11 @@
 ghost use Rattle.std.specs.Prelude.{◌≡◌, ◌≢◌, ◌↔◌, ◌+◌, ◌*◌, ◌++◌, ◌≤◌, ◌<◌, ℕ, List, length, slice_set};
 ghost use Rattle.luks_area.specs.Ranges.{part, IsAt, SameBut};
 ghost use Rattle.luks_head.specs.Faults.{IsCommonFault, IsEntryFault, IsLuks1Fault};
-ghost use Rattle.luks_head.specs.Header1.{common_size, entry, entry_size, luks1_size, HoldsEntry, IsCommon, IsEntry, IsLuks1};
+ghost use Rattle.luks_head.specs.Header1.{common_size, entry, entry_size, header_text, luks1_size, HoldsEntry, IsCommon, IsEntry, IsLuks1};
 ghost use Rattle.luks_head.specs.Header2.{binary_header_size, copy_at, csum_at, csum_size, hdr_size, header_at, with_zero_checksum, HoldsBin2, IsSound, IsUuidFault, IsUuidField};
 ghost use Rattle.luks_head.specs.Selection.{Choice, Chosen, IsSelectFault, luks2, nothing};
-ghost use Rattle.luks_head.specs.Written.{AreBytes, IsWrittenCopy, WritesBin2, WritesEntry};
+ghost use Rattle.luks_head.specs.Written.{AreBytes, IsWrittenCopy, WritesBin2, WritesCommon, WritesEntry};
+ghost use Rattle.luks_head.specs.declared.fault.TextField.{TextField as TheField};
 
 use crate::bin2::Bin2;
 use crate::fault::HeadFault;
@@ -93,6 +94,10 @@ pub fn replaced_entry_keeps_header()
 
 /// What was written of a header that was read has every byte that the table of its fields names.
 pub fn written_again_is_the_same()
+    ensures common { (v b : List ℕ) (c : Luks1Common) → common_size ≤ length v → common_size ≤ length b
+        → AreBytes v 0 common_size → AreBytes b 0 common_size → IsCommon v c → WritesCommon b c
+        → (part b 0 8 ≡ part v 0 8) × (part b 104 64 ≡ part v 104 64)
+        × ((t : TheField) → header_text b t ≡ header_text v t) }
     ensures entry { (e f : List ℕ) (s : Luks1Slot) → length e ≡ entry_size → AreBytes e 0 entry_size
         → HoldsEntry e s → WritesEntry f s → f ≡ e }
     ensures bin2 { (v b : List ℕ) (h : Bin2) → binary_header_size ≤ length v

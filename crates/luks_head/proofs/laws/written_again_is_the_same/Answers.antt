@@ -1,8 +1,12 @@
 use Rattle.std.proofs.Common.{arith, lit≤, sym, ◌∙◌}
+use Rattle.luks_head.proofs.CommonFacts.{common_agrees}
 use Rattle.luks_head.proofs.EntryFacts.{entries_agree}
 use Rattle.luks_head.proofs.BinaryHeaderFacts.{front_agrees, written_once}
 use Rattle.luks_head.proofs.NumberFacts.{bytes_within}
 use Rattle.luks_head.proofs.laws.written_again_is_the_same.Goals as goal
+
+pub returns-clause-common : goal.returns-clause-common
+returns-clause-common c = common_agrees
 
 pub returns-clause-entry : goal.returns-clause-entry
 returns-clause-entry c = λ e f s long bytes says written.
