@@ -1,10 +1,10 @@
 -- What the exit status of `check` says.
 use Rattle.std.proofs.Common.{◌≢◌, ℕ, List, inl, inr}
-use Rattle.luks_volume.specs.declared.report.Data.{Data}
-use Rattle.luks_volume.specs.declared.report.Version.{Version}
-use Rattle.luks_volume.specs.declared.report.Version.TheVariants.{Luks1, Luks2}
-use Rattle.luks_volume.specs.Checked.{WellFormed}
-use Rattle.luks_volume.specs.Reported.{IsVersion}
+use Rattle.luks_reading.specs.declared.report.Data.{Data}
+use Rattle.luks_reading.specs.declared.report.Version.{Version}
+use Rattle.luks_reading.specs.declared.report.Version.TheVariants.{Luks1, Luks2}
+use Rattle.luks_reading.specs.Checked.{WellFormed}
+use Rattle.luks_reading.specs.Reported.{IsVersion}
 use Rattle.luks_head.specs.Selection.{luks2, Chosen}
 use Rattle.luks_head.specs.declared.selection.Copies.{Copies}
 use Rattle.luks_head.specs.declared.selection.Copies.TheVariants.{InStep, FirstNewer, SecondNewer, FirstOnly, SecondOnly}

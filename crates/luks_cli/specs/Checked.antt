@@ -3,10 +3,10 @@ use Rattle.std.specs.Prelude.{◌≡◌, ◌≢◌, ℕ, List, ◌⊎◌}
 use Rattle.luks_head.specs.Selection.{luks1, luks2, Chosen}
 use Rattle.luks_head.specs.declared.selection.Copies.{Copies}
 use Rattle.luks_head.specs.declared.selection.Copies.TheVariants.{InStep, FirstNewer, SecondNewer, FirstOnly, SecondOnly}
-use Rattle.luks_volume.specs.declared.report.Data.{Data}
-use Rattle.luks_volume.specs.declared.report.Version.{Version}
-use Rattle.luks_volume.specs.declared.report.Version.TheVariants.{Luks1, Luks2}
-use Rattle.luks_volume.specs.Checked.{WellFormed}
+use Rattle.luks_reading.specs.declared.report.Data.{Data}
+use Rattle.luks_reading.specs.declared.report.Version.{Version}
+use Rattle.luks_reading.specs.declared.report.Version.TheVariants.{Luks1, Luks2}
+use Rattle.luks_reading.specs.Checked.{WellFormed}
 use Rattle.luks_cli.specs.declared.answers.Status.{Status}
 use Rattle.luks_cli.specs.declared.answers.Status.TheVariants.{Done, Refused, NotInStep, Fault}
 use Rattle.luks_cli.specs.declared.request.Command.{Command}

@@ -1,34 +1,11 @@
-//! Checking a LUKS volume, of either version, against its format and its layout, and opening its keyslots.
+//! A LUKS volume of either version: the calls that a program makes, each of which stands in a crate beneath this one.
 #![tactic(auto)]
 
-mod check_fault;
-mod checking;
-mod header;
-mod judging;
-mod laws;
-mod layout;
-mod luks1_fields;
-mod open_fault;
-mod opening;
-mod plan;
-mod read_fault;
-mod report;
-mod unlocking;
-
-pub use check_fault::CheckFault;
-pub use checking::{check, check_header};
-pub use header::{ChosenCopy, Header, read_header};
-pub use laws::{no_fault_is_well_formed, one_answer, one_area, one_unlocking, well_formed_volume};
-pub use luks_area::{
-    Area, AreaFault, AreaName, Areas, Device, DeviceFault, Entry, MemDevice, text_field,
+pub use luks_reading::{
+    Area, AreaFault, AreaName, Areas, Bin2, CheckFault, ChosenCopy, Config, Copies, Cost, Data,
+    Device, DeviceFault, Digest, Entry, Extent, HeadFault, Header, Key, Keyslot, Luks1, Luks1Slot,
+    MemDevice, Meta, MetaFault, OpenFault, ReadFault, Report, Segment, SegmentKind, Selected,
+    SlotState, Token, Version, check, check_header, no_fault_is_well_formed, one_answer, one_area,
+    one_unlocking, open_header_slot, open_slot, read_header, select, text_field, unlock,
+    unlock_header, well_formed_volume,
 };
-pub use luks_head::{Bin2, Copies, HeadFault, Luks1, Luks1Slot, Selected, SlotState, select};
-pub use luks_meta::{
-    Config, Cost, Digest, Extent, Keyslot, Meta, MetaFault, Segment, SegmentKind, Token,
-};
-pub use luks_slot::Key;
-pub use open_fault::OpenFault;
-pub use opening::{open_header_slot, open_slot};
-pub use read_fault::ReadFault;
-pub use report::{Data, Report, Version};
-pub use unlocking::{unlock, unlock_header};

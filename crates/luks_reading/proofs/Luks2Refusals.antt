@@ -1,0 +1,116 @@
+-- The refusals of a LUKS2 keyslot, step by step: the first of a step is the first of all, where no
+-- earlier step has any.
+use Rattle.std.proofs.Common.{◌≡◌, ℕ, ◌<◌, List, [], ◌∷◌, length, refl, sym, ap, ◌∙◌, arith, subst, Option, Some, None}
+use Rattle.serde_json.specs.Data.{Data}
+use Rattle.luks_area.specs.First.{NotAfter}
+use Rattle.luks_head.specs.declared.fault.HeadFault.{HeadFault}
+use Rattle.luks_head.specs.declared.fault.HeadFault.TheVariants as head
+use Rattle.luks_head.specs.Header2.{uuid_field, IsUuidFault}
+use Rattle.luks_rules.specs.declared.table.Section.TheVariants.{Keyslots}
+use Rattle.luks_meta.specs.Faults.{object_at}
+use Rattle.luks_meta.specs.MetaFault.{Json}
+use Rattle.luks_slot.specs.declared.fault.SlotFault.{SlotFault}
+use Rattle.luks_slot.specs.declared.plan.SlotPlan.{SlotPlan}
+use Rattle.luks_slot.specs.Refusal.{slot_refusal}
+use Rattle.luks_reading.specs.declared.open_fault.OpenFault.{OpenFault}
+use Rattle.luks_reading.specs.declared.open_fault.OpenFault.TheVariants.{Head, Meta, NoSuchSlot, SlotFree, Outside, Slot, Device, Memory}
+use Rattle.luks_reading.specs.Answer.{open_key, head_step, slot_row, IsLuks2Refusal}
+use Rattle.luks_reading.specs.ChosenCopies.{IsCleared}
+use Rattle.luks_reading.specs.Luks2Keyslots.{Luks2Refused, Luks2Opens}
+use Rattle.luks_reading.specs.PlanAnswers.{PlanOpens, PlanRefused}
+use Rattle.luks_reading.specs.Plans.{HasLuks2Plan}
+use Rattle.luks_reading.proofs.SamePlans.{same_refusal}
+use Rattle.luks_reading.proofs.Luks2Plans.{IsOnly, one_luks2_plan}
+use Rattle.luks_reading.proofs.Luks1Refusals.{sooner, together}
+
+pub uuid_step : (uuid : List ℕ) (f : HeadFault) → IsUuidFault uuid f → head_step f ≡ 1
+uuid_step uuid head.TooShort x = absurd x
+uuid_step uuid head.NotLuks x = absurd x
+uuid_step uuid head.Version x = absurd x
+uuid_step uuid head.NoSoundCopy x = absurd x
+uuid_step uuid (head.Text t) x = refl
+uuid_step uuid head.Uuid x = refl
+uuid_step uuid (head.SlotState m) x = absurd x
+uuid_step uuid head.KeyBytes x = absurd x
+uuid_step uuid (head.Stripes m) x = absurd x
+uuid_step uuid (head.Iterations o) x = absurd x
+uuid_step uuid head.Device x = absurd x
+uuid_step uuid head.Memory x = absurd x
+
+-- ---- the keyslot
+
+same_slot : (json : List ℕ) (j : Data) (n : ℕ) (a b : SlotPlan) (f g : SlotFault) → IsOnly json j n → HasLuks2Plan json n a → HasLuks2Plan json n b
+    → slot_refusal a ≡ Some f → slot_refusal b ≡ Some g → f ≡ g
+same_slot json j n a b f g only x y p q = let same = same_refusal a b (one_luks2_plan json j n a b only x y) in cc
+
+-- the keyslot that has a plan is there
+is_there : (json : List ℕ) (j : Data) (n : ℕ) (plan : SlotPlan) (i : Data) → IsOnly json j n → HasLuks2Plan json n plan → Json json i
+    → (n < 32 → object_at i Keyslots n ≡ None) → ⊥
+is_there json j n plan i only x holds gone =
+    let e : i ≡ x.value = sym (only.value i holds) ∙ only.value x.value x.holds in
+    let none = subst (λ k. object_at k Keyslots n ≡ None) e (gone x.numbered) in
+    let there = x.there in
+    cc
+
+pub plan_first2 : (b json : List ℕ) (total n : ℕ) (j : Data) (plan : SlotPlan) (f : OpenFault) → IsCleared (uuid_field b) json j → IsOnly json j n
+    → HasLuks2Plan json n plan → PlanRefused plan total f → Luks2Refused b json total n f
+plan_first2 b json total n j plan (Head f) clear only is x = absurd x
+plan_first2 b json total n j plan (Meta f) clear only is x = absurd x
+plan_first2 b json total n j plan NoSuchSlot clear only is x = absurd x
+plan_first2 b json total n j plan SlotFree clear only is x = absurd x
+plan_first2 b json total n j plan Outside clear only is x = (record { plan = plan; is = is; past = x }, after)
+  where
+    after : (g : OpenFault) → IsLuks2Refusal b json total n g → NotAfter (open_key Outside) (open_key g)
+    after (Head g) y = absurd (clear.uuid_faultless g y)
+    after (Meta g) y = absurd (clear.faultless g y)
+    after NoSuchSlot y = absurd (is_there json j n plan y.value only is y.holds y.absent)
+    after SlotFree y = absurd y
+    after Outside y = together 6 6 [] [] refl tt
+    after (Slot g) y = sooner 6 7 [] (slot_row g ∷ []) (omega arith)
+    after Device y = absurd y
+    after Memory y = absurd y
+plan_first2 b json total n j plan (Slot f) clear only is x = (record { plan = plan; is = is; refused = x.1 }, after)
+  where
+    after : (g : OpenFault) → IsLuks2Refusal b json total n g → NotAfter (open_key (Slot f)) (open_key g)
+    after (Head g) y = absurd (clear.uuid_faultless g y)
+    after (Meta g) y = absurd (clear.faultless g y)
+    after NoSuchSlot y = absurd (is_there json j n plan y.value only is y.holds y.absent)
+    after SlotFree y = absurd y
+    after Outside y =
+        let same = one_luks2_plan json j n plan y.plan only is y.is in
+        let start = same.start in
+        let len = same.len in
+        let inside = x.0 in
+        let past = y.past in
+        absurd (omega (arith, start, len, inside, past))
+    after (Slot g) y =
+        let e : f ≡ g = same_slot json j n plan y.plan f g only is y.is x.1 y.refused in
+        together 7 7 (slot_row f ∷ []) (slot_row g ∷ []) refl (together (slot_row f) (slot_row g) [] [] (ap slot_row e) tt)
+    after Device y = absurd y
+    after Memory y = absurd y
+plan_first2 b json total n j plan Device clear only is x = x
+plan_first2 b json total n j plan Memory clear only is x = absurd x
+
+pub plan_opens2 : (b json v : List ℕ) (n : ℕ) (j : Data) (plan : SlotPlan) (p : List ℕ) (found : Option (List ℕ)) → IsCleared (uuid_field b) json j → IsOnly json j n
+    → HasLuks2Plan json n plan → PlanOpens plan v p found → Luks2Opens b json v n p found
+plan_opens2 b json v n j plan p found clear only is x = record { plan = plan; is = is; unrefused = unrefused; key = sym x.is }
+  where
+    unrefused : (g : OpenFault) → IsLuks2Refusal b json (length v) n g → ⊥
+    unrefused (Head g) y = clear.uuid_faultless g y
+    unrefused (Meta g) y = clear.faultless g y
+    unrefused NoSuchSlot y = is_there json j n plan y.value only is y.holds y.absent
+    unrefused SlotFree y = y
+    unrefused Outside y =
+        let same = one_luks2_plan json j n plan y.plan only is y.is in
+        let start = same.start in
+        let len = same.len in
+        let inside = x.inside in
+        let past = y.past in
+        omega (arith, start, len, inside, past)
+    unrefused (Slot g) y =
+        let same = same_refusal plan y.plan (one_luks2_plan json j n plan y.plan only is y.is) in
+        let accepted = x.accepted in
+        let refused = y.refused in
+        absurd (cc)
+    unrefused Device y = y
+    unrefused Memory y = y

@@ -1,0 +1,163 @@
+-- The first fault of a header that isn't read.
+use Rattle.std.proofs.Common.{◌≡◌, ◌≢◌, ℕ, ◌+◌, ◌-◌, List, ◌↔◌, refl, ap, subst, sym, arith}
+use Rattle.serde_json.specs.Data.{Data}
+use Rattle.luks_area.specs.First.{NotAfter, IsLeast}
+use Rattle.luks_area.specs.Ranges.{part}
+use Rattle.luks_head.specs.declared.bin2.Bin2.{Bin2}
+use Rattle.luks_head.specs.declared.fault.HeadFault.{HeadFault}
+use Rattle.luks_head.specs.declared.fault.HeadFault.TheVariants as head
+use Rattle.luks_head.specs.declared.selection.Copies.{Copies}
+use Rattle.luks_head.specs.Faults.{head_key}
+use Rattle.luks_head.specs.Header2.{header_at, uuid_field, HoldsBin2, IsUuidFault, IsUuidField}
+use Rattle.luks_head.specs.Selection.{Choice, luks2, nothing, Chosen, IsOfSelection, IsRefused, IsSelectFault}
+use Rattle.luks_rules.specs.declared.fault.MetaFault.{MetaFault}
+use Rattle.luks_rules.specs.declared.fault.MetaFault.TheVariants as meta
+use Rattle.luks_meta.specs.Accepted.{IsMeta}
+use Rattle.luks_meta.specs.Content.{content}
+use Rattle.luks_meta.specs.MetaFault.{IsMetaFault, meta_key}
+use Rattle.luks_reading.specs.declared.read_fault.ReadFault.{ReadFault}
+use Rattle.luks_reading.specs.declared.read_fault.ReadFault.TheVariants.{Head, Meta, Device, Memory}
+use Rattle.luks_reading.specs.declared.header.ChosenCopy.{ChosenCopy}
+use Rattle.luks_reading.specs.ChosenCopies.{CopyRefused, IsCleared, IsFromOutside, json_of}
+use Rattle.luks_reading.specs.Conversions.{head_unread, meta_unread}
+use Rattle.luks_reading.specs.Header.{json_at, read_key, IsChosenCopy, IsReadFault, IsReadFaultAs, IsUnread}
+
+-- ---- the uuid and the metadata of a copy
+
+pub meta_refused : (uuid json : List ℕ) (f : MetaFault) → ((g : HeadFault) → IsUuidFault uuid g → ⊥)
+    → (f ≢ meta.Memory → IsLeast meta_key (IsMetaFault json) f) → CopyRefused uuid json (meta_unread f)
+meta_refused uuid json meta.JsonArea clear x = record { uuid_faultless = clear; least = x (λ e. cc) }
+meta_refused uuid json meta.BadJson clear x = record { uuid_faultless = clear; least = x (λ e. cc) }
+meta_refused uuid json meta.NotWhole clear x = record { uuid_faultless = clear; least = x (λ e. cc) }
+meta_refused uuid json (meta.Shape p) clear x = record { uuid_faultless = clear; least = x (λ e. cc) }
+meta_refused uuid json (meta.Kind p) clear x = record { uuid_faultless = clear; least = x (λ e. cc) }
+meta_refused uuid json (meta.NoSuchName p) clear x = record { uuid_faultless = clear; least = x (λ e. cc) }
+meta_refused uuid json (meta.Assigned p) clear x = record { uuid_faultless = clear; least = x (λ e. cc) }
+meta_refused uuid json meta.Sizes clear x = record { uuid_faultless = clear; least = x (λ e. cc) }
+meta_refused uuid json (meta.AreaTooSmall n) clear x = record { uuid_faultless = clear; least = x (λ e. cc) }
+meta_refused uuid json (meta.Region n) clear x = record { uuid_faultless = clear; least = x (λ e. cc) }
+meta_refused uuid json meta.Memory clear x = clear
+
+pub outside_refuses : (uuid json : List ℕ) (f : ReadFault) → IsFromOutside f → ((g : HeadFault) → IsUuidFault uuid g → ⊥) → CopyRefused uuid json f
+outside_refuses uuid json (Head f) x clear = absurd x
+outside_refuses uuid json (Meta f) x clear = absurd x
+outside_refuses uuid json Device x clear = tt
+outside_refuses uuid json Memory x clear = clear
+
+-- ---- a head fault that is neither the device's nor want of memory stays what it is
+
+pub own_head : (f : HeadFault) → f ≢ head.Device → f ≢ head.Memory → head_unread f ≡ Head f
+own_head head.TooShort no_device no_memory = refl
+own_head head.NotLuks no_device no_memory = refl
+own_head head.Version no_device no_memory = refl
+own_head head.NoSoundCopy no_device no_memory = refl
+own_head (head.Text t) no_device no_memory = refl
+own_head head.Uuid no_device no_memory = refl
+own_head (head.SlotState n) no_device no_memory = refl
+own_head head.KeyBytes no_device no_memory = refl
+own_head (head.Stripes n) no_device no_memory = refl
+own_head (head.Iterations o) no_device no_memory = refl
+own_head head.Device no_device no_memory = absurd (no_device refl)
+own_head head.Memory no_device no_memory = absurd (no_memory refl)
+
+-- a fault of a uuid is none that stands for something else
+pub uuid_refused : (uuid json : List ℕ) (f : HeadFault) → IsLeast head_key (IsUuidFault uuid) f → CopyRefused uuid json (head_unread f)
+uuid_refused uuid json f x = subst (CopyRefused uuid json) (sym (own_head f (λ e. subst (IsUuidFault uuid) e x.0) (λ e. subst (IsUuidFault uuid) e x.0))) x
+
+-- ---- from what counts of a volume to the volume
+
+pub same_json : (v : List ℕ) (h : Bin2) → HoldsBin2 (header_at v h.hdr_offset) h → json_of v h ≡ json_at v h.hdr_offset
+same_json v h holds = ap (λ size. part v (h.hdr_offset + 4096) (size - 4096)) (sym holds.hdr_size)
+
+-- where a selection has a fault, nothing counts
+pub nothing_counts : (v : List ℕ) (f : HeadFault) → IsSelectFault v f → Chosen v nothing
+nothing_counts v head.TooShort x = (λ is. let long = is.long in omega (arith, long, x), λ long. absurd (omega (arith, long, x)))
+nothing_counts v head.NotLuks x = x.0
+nothing_counts v head.Version x = x.0
+nothing_counts v head.NoSoundCopy x = x
+nothing_counts v (head.Text t) x = absurd x
+nothing_counts v head.Uuid x = absurd x
+nothing_counts v (head.SlotState m) x = absurd x
+nothing_counts v head.KeyBytes x = absurd x
+nothing_counts v (head.Stripes m) x = absurd x
+nothing_counts v (head.Iterations o) x = absurd x
+nothing_counts v head.Device x = absurd x
+nothing_counts v head.Memory x = absurd x
+
+-- the first fault by what counts, as a fault of the volume, and back
+pub unread_as : (v : List ℕ) (c : Choice) (f : ReadFault) → ((b d : Choice) → Chosen v b → Chosen v d → b ≡ d) → Chosen v c
+    → IsLeast read_key (IsReadFaultAs v c) f → IsLeast read_key (IsReadFault v) f
+unread_as v c f only chosen least = (
+  record { choice = c; chosen = chosen; fault = least.0 },
+  λ g is. least.1 g (subst (λ d. IsReadFaultAs v d g) (only is.choice c is.chosen chosen) is.fault),
+)
+
+pub record UnreadAs (v : List ℕ) (f : ReadFault) : Type 0 where
+  pub choice : Choice
+  pub chosen : Chosen v choice
+  pub least : IsLeast read_key (IsReadFaultAs v choice) f
+
+pub as_unread : (v : List ℕ) (f : ReadFault) → IsLeast read_key (IsReadFault v) f → UnreadAs v f
+as_unread v f least = record {
+  choice = least.0.choice;
+  chosen = least.0.chosen;
+  least = (least.0.fault, λ g is. least.1 g (record { choice = least.0.choice; chosen = least.0.chosen; fault = is }));
+}
+
+-- ---- nothing counts
+
+select_least : (v : List ℕ) (f : HeadFault) → IsLeast head_key (IsSelectFault v) f → IsLeast read_key (IsReadFaultAs v nothing) (Head f)
+select_least v f least = (least.0, after)
+  where
+    after : (g : ReadFault) → IsReadFaultAs v nothing g → NotAfter (read_key (Head f)) (read_key g)
+    after (Head g) is = (omega arith, λ _. least.1 g is)
+    after (Meta g) is = absurd is
+    after Device is = absurd is
+    after Memory is = absurd is
+
+pub select_unread : (v : List ℕ) (f : HeadFault) → ((b d : Choice) → Chosen v b → Chosen v d → b ≡ d) → IsOfSelection f → IsRefused v f → IsUnread v (head_unread f)
+select_unread v head.TooShort only kind x = unread_as v nothing (Head head.TooShort) only (nothing_counts v head.TooShort x.0) (select_least v head.TooShort x)
+select_unread v head.NotLuks only kind x = unread_as v nothing (Head head.NotLuks) only (nothing_counts v head.NotLuks x.0) (select_least v head.NotLuks x)
+select_unread v head.Version only kind x = unread_as v nothing (Head head.Version) only (nothing_counts v head.Version x.0) (select_least v head.Version x)
+select_unread v head.NoSoundCopy only kind x =
+    unread_as v nothing (Head head.NoSoundCopy) only (nothing_counts v head.NoSoundCopy x.0) (select_least v head.NoSoundCopy x)
+select_unread v (head.Text t) only kind x = absurd kind
+select_unread v head.Uuid only kind x = absurd kind
+select_unread v (head.SlotState m) only kind x = absurd kind
+select_unread v head.KeyBytes only kind x = absurd kind
+select_unread v (head.Stripes m) only kind x = absurd kind
+select_unread v (head.Iterations o) only kind x = absurd kind
+select_unread v head.Device only kind x = tt
+select_unread v head.Memory only kind x = absurd kind
+
+-- ---- a copy counts
+
+pub copy_unread : (v : List ℕ) (o : ℕ) (copies : Copies) (f : ReadFault) → ((b d : Choice) → Chosen v b → Chosen v d → b ≡ d) → Chosen v (luks2 o copies)
+    → CopyRefused (uuid_field (header_at v o)) (json_at v o) f → IsUnread v f
+copy_unread v o copies (Head f) only chosen x = unread_as v (luks2 o copies) (Head f) only chosen (x.0, after)
+  where
+    after : (g : ReadFault) → IsReadFaultAs v (luks2 o copies) g → NotAfter (read_key (Head f)) (read_key g)
+    after (Head g) is = (omega arith, λ _. x.1 g is)
+    after (Meta g) is = (omega arith, λ e. absurd (omega (arith, e)))
+    after Device is = absurd is
+    after Memory is = absurd is
+copy_unread v o copies (Meta f) only chosen x = unread_as v (luks2 o copies) (Meta f) only chosen (x.least.0, after)
+  where
+    after : (g : ReadFault) → IsReadFaultAs v (luks2 o copies) g → NotAfter (read_key (Meta f)) (read_key g)
+    after (Head g) is = absurd (x.uuid_faultless g is)
+    after (Meta g) is = (omega arith, λ _. x.least.1 g is)
+    after Device is = absurd is
+    after Memory is = absurd is
+copy_unread v o copies Device only chosen x = tt
+copy_unread v o copies Memory only chosen x = record { place = o; copies = copies; chosen = chosen; uuid = x }
+
+-- nothing is wrong with a chosen copy that was read
+pub cleared_copy : ((field : List ℕ) → ((f : HeadFault) → IsUuidFault field f → ⊥) ↔ IsUuidField field)
+    → ((json : List ℕ) → ((f : MetaFault) → IsMetaFault json f → ⊥) ↔ ((j : Data) × IsMeta json j))
+    → (v : List ℕ) (c : ChosenCopy) → IsChosenCopy v c
+    → IsCleared (uuid_field (header_at v c.header.hdr_offset)) (json_at v c.header.hdr_offset) (content c.meta)
+cleared_copy uuid metadata v c is = record {
+  uuid_faultless = (uuid (uuid_field (header_at v c.header.hdr_offset))).1 is.uuid;
+  faultless = (metadata (json_at v c.header.hdr_offset)).1 (content c.meta, is.metadata);
+  meta = is.metadata;
+}

@@ -1,0 +1,61 @@
+-- What was judged of the header that counts holds of the volume.
+use Rattle.std.proofs.Common.{subst, ◌∙◌}
+use Rattle.std.proofs.lemmas.Result.{err_from_is_err_and}
+use Rattle.luks_meta.specs.Content.{content}
+use Rattle.luks_reading.specs.Header.{json_at, IsAcceptedHeader, IsHeader}
+use Rattle.luks_reading.proofs.CheckFacts.{luks1_first, luks2_accepted, luks2_areas_are, luks2_first}
+use Rattle.luks_reading.proofs.WellFormedFacts.{luks1_areas_are}
+use Rattle.luks_reading.proofs.checking.check_header.Goals as goal
+
+pub judge_luks1-requires : goal.judge_luks1-requires
+judge_luks1-requires c = rw c.as_slice.ensures (subst IsAcceptedHeader c.in-Luks1.is c.requires)
+
+pub returns-in_err-areas-in-Luks1-clause-refused : goal.returns-in_err-areas-in-Luks1-clause-refused
+returns-in_err-areas-in-Luks1-clause-refused c = λ v is long.
+    let chosen = subst (IsHeader v) c.in-Luks1.is is in
+    let p = err_from_is_err_and c.from_residual.result c.from_residual.ensures.1 in
+    rw (p.1, p.2) (luks1_first c.one_choice.ensures.only v _ _ _ c.in_err-areas-in-Luks1.field-0.0 chosen.0 (c.as_slice.ensures ∙ chosen.1) long c.in_err-areas-in-Luks1.ensures.refused)
+
+pub returns-in_ok-areas-in-Luks1-clause-report : goal.returns-in_ok-areas-in-Luks1-clause-report
+returns-in_ok-areas-in-Luks1-clause-report c = λ v is long.
+    let chosen = subst (IsHeader v) c.in-Luks1.is is in
+    record {
+      version = chosen.0;
+      areas = luks1_areas_are c.one_choice.ensures.only v _ _ _ _ chosen.0 (c.as_slice.ensures ∙ chosen.1) long c.in_ok-areas-in-Luks1.ensures.areas;
+    }
+
+pub returns-in_err-areas-in-Luks2-clause-refused : goal.returns-in_err-areas-in-Luks2-clause-refused
+returns-in_err-areas-in-Luks2-clause-refused c = λ v is long.
+    let copy = subst (IsHeader v) c.in-Luks2.is is in
+    let h = c.in-Luks2.copy.header in
+    let json = json_at v h.hdr_offset in
+    let p = err_from_is_err_and c.from_residual-in_err-areas-in-Luks2.result c.from_residual-in_err-areas-in-Luks2.ensures.1 in
+    rw (p.1, p.2)
+    (luks2_first c.one_choice.ensures.only v c.args.data_ h.hdr_offset c.in-Luks2.copy.copies _ c.in_err-areas-in-Luks2.field-0.0 copy.chosen long
+    (c.in_err-areas-in-Luks2.ensures.refused _ json copy.header (record { accepted = copy.metadata; len = copy.area_len }) (record {
+      uuid = (c.luks2_without_faults.ensures.uuid _).1 copy.uuid;
+      metadata = (c.metadata_without_faults.ensures json).1 (content c.in-Luks2.copy.meta, copy.metadata);
+    })))
+
+pub returns-in_ok-areas-in-Luks2-clause-accepted : goal.returns-in_ok-areas-in-Luks2-clause-accepted
+returns-in_ok-areas-in-Luks2-clause-accepted c = λ v is long.
+    let copy = subst (IsHeader v) c.in-Luks2.is is in
+    let h = c.in-Luks2.copy.header in
+    luks2_accepted v c.args.data_ h.hdr_offset c.in-Luks2.copy.copies _ copy.chosen long
+    (record {
+      uuid = copy.uuid;
+      layout = (
+        content c.in-Luks2.copy.meta,
+        c.in_ok-areas-in-Luks2.ensures.accepted _ (json_at v h.hdr_offset) copy.header (record { accepted = copy.metadata; len = copy.area_len }),
+      );
+    })
+
+pub returns-in_ok-areas-in-Luks2-clause-report : goal.returns-in_ok-areas-in-Luks2-clause-report
+returns-in_ok-areas-in-Luks2-clause-report c = λ v is long.
+    let copy = subst (IsHeader v) c.in-Luks2.is is in
+    let h = c.in-Luks2.copy.header in
+    record {
+      version = (h.hdr_offset, (copy.chosen, copy.header.seqid));
+      areas = luks2_areas_are c.one_choice.ensures.only v c.args.data_ h.hdr_offset c.in-Luks2.copy.copies _ _ copy.chosen long
+          (c.in_ok-areas-in-Luks2.ensures.areas _ (json_at v h.hdr_offset) copy.header (record { accepted = copy.metadata; len = copy.area_len }));
+    }

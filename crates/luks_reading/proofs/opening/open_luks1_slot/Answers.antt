@@ -1,0 +1,46 @@
+-- Each exit is the first refusal of its step, or the answer of the keyslot's plan.
+use Rattle.std.proofs.Common.{◌∙◌}
+use Rattle.std.proofs.lemmas.Result.{err_from_is_err_and, IfErr-weaker, IfOk-weaker}
+use Rattle.luks_head.specs.Header1.{entry}
+use Rattle.luks_reading.specs.Plans.{HasLuks1Plan}
+use Rattle.luks_reading.proofs.OptionFacts.{some_weaker}
+use Rattle.luks_reading.proofs.Luks1Refusals.{entry_first, plan_first, plan_opens}
+use Rattle.luks_reading.proofs.opening.open_luks1_slot.Goals as goal
+
+pub returns-in_err-slot-clause-refused : goal.returns-in_err-slot-clause-refused
+returns-in_err-slot-clause-refused g c =
+    let p = err_from_is_err_and c.from_residual.result c.from_residual.ensures.1 in
+    rw (p.1, p.2)
+    (entry_first c.args.header.now (g.D.Device.size c.args.device.now) c.args.n c.in_err-slot.field-0.0
+    c.requires.faultless c.in_err-slot.ensures.refused)
+
+pub open_planned-requires-clause-judged : goal.open_planned-requires-clause-judged
+open_planned-requires-clause-judged g c =
+    let on = c.in_ok-slot.ensures.found in
+    c.luks1_plan-plan.ensures.judged c.args.header.now (entry c.args.header.now c.args.n) c.requires.common on.says on.enabled
+
+pub returns-clause-opens : goal.returns-clause-opens
+returns-clause-opens g c = λ tells.
+    let on = c.in_ok-slot.ensures.found in
+    let has : HasLuks1Plan c.args.header.now c.args.n c.luks1_plan-plan.result =
+    record { numbered = on.numbered; is = c.luks1_plan-plan.ensures.is c.args.header.now (entry c.args.header.now c.args.n) c.requires.common on.says } in
+    IfOk-weaker c.open_planned.result _ _ (λ found opens.
+    plan_opens c.args.header.now (g.D.Device.bytes c.args.device.now) c.args.n c.in_ok-slot.slot c.luks1_plan-plan.result
+    c.args.passphrase.now found c.requires.faultless on has opens)
+    (c.open_planned.ensures.opens tells)
+
+pub returns-clause-refused : goal.returns-clause-refused
+returns-clause-refused g c =
+    let on = c.in_ok-slot.ensures.found in
+    let has : HasLuks1Plan c.args.header.now c.args.n c.luks1_plan-plan.result =
+    record { numbered = on.numbered; is = c.luks1_plan-plan.ensures.is c.args.header.now (entry c.args.header.now c.args.n) c.requires.common on.says } in
+    IfErr-weaker c.open_planned.result _ _ (λ fault refused.
+    plan_first c.args.header.now (g.D.Device.size c.args.device.now) c.args.n c.in_ok-slot.slot c.luks1_plan-plan.result
+    fault c.requires.faultless on has refused)
+    c.open_planned.ensures.refused
+
+pub returns-clause-length : goal.returns-clause-length
+returns-clause-length g c =
+    let on = c.in_ok-slot.ensures.found in
+    let is = c.luks1_plan-plan.ensures.is c.args.header.now (entry c.args.header.now c.args.n) c.requires.common on.says in
+    IfOk-weaker c.open_planned.result _ _ (λ found. some_weaker found _ _ (λ key len. len ∙ is.key_bytes)) c.open_planned.ensures.length

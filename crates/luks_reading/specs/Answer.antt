@@ -1,0 +1,165 @@
+-- What opening a keyslot of a volume gives: a key, none, or the first refusal.
+use Rattle.std.specs.Prelude.{◌≡◌, ℕ, ◌+◌, ◌<◌, ◌≤◌, List, [], ◌∷◌, length, Option, Some, None, ⊤}
+use Rattle.serde_json.specs.Data.{Data as Value}
+use Rattle.luks_area.specs.First.{IsLeast}
+use Rattle.luks_area.specs.Ranges.{part}
+use Rattle.luks_head.specs.declared.fault.HeadFault.{HeadFault}
+use Rattle.luks_head.specs.declared.fault.HeadFault.TheVariants as head
+use Rattle.luks_head.specs.declared.fault.IterationsOf.TheVariants as of
+use Rattle.luks_head.specs.Faults.{head_key, IsCommonFault, IsEntryFault}
+use Rattle.luks_head.specs.Header1.{active_word, disabled_word, entry}
+use Rattle.luks_head.specs.Header2.{header_at, uuid_field, IsUuidFault}
+use Rattle.luks_head.specs.Selection.{Choice, luks1, luks2, nothing, Chosen, IsSelectFault}
+use Rattle.luks_rules.specs.declared.table.Section.TheVariants.{Keyslots}
+use Rattle.luks_meta.specs.Faults.{object_at}
+use Rattle.luks_meta.specs.MetaFault.{Json, IsMetaFault, meta_key}
+use Rattle.luks_slot.specs.declared.fault.SlotFault.{SlotFault}
+use Rattle.luks_slot.specs.declared.fault.SlotFault.TheVariants as slot
+use Rattle.luks_slot.specs.declared.plan.SlotPlan.{SlotPlan}
+use Rattle.luks_slot.specs.Opening.{slot_key}
+use Rattle.luks_slot.specs.Refusal.{slot_refusal}
+use Rattle.luks_reading.specs.declared.open_fault.OpenFault.{OpenFault}
+use Rattle.luks_reading.specs.declared.open_fault.OpenFault.TheVariants.{Head, Meta, NoSuchSlot, SlotFree, Outside, Slot, Device, Memory}
+use Rattle.luks_reading.specs.Header.{json_at, NeedsMetadata}
+use Rattle.luks_reading.specs.Plans.{HasLuks1Plan, HasLuks2Plan}
+
+-- ---- the order of the refusals
+
+-- the header, the metadata, the keyslot's being there, its entry, its use, its area, its plan
+abbrev pub head_step : HeadFault → ℕ
+head_step (head.SlotState m) = 4
+head_step (head.Stripes m) = 4
+head_step (head.Iterations (of.Slot m)) = 4
+head_step f = 1
+
+abbrev pub slot_row : SlotFault → ℕ
+slot_row slot.Argon2 = 1
+slot_row slot.Cipher = 2
+slot_row slot.Hash = 3
+slot_row slot.KeySize = 4
+slot_row slot.Device = 5
+slot_row slot.Memory = 6
+
+abbrev pub open_key : OpenFault → List ℕ
+open_key (Head f) = head_step f ∷ head_key f
+open_key (Meta f) = 2 ∷ meta_key f
+open_key NoSuchSlot = 3 ∷ []
+open_key SlotFree = 5 ∷ []
+open_key Outside = 6 ∷ []
+open_key (Slot f) = 7 ∷ slot_row f ∷ []
+open_key Device = 8 ∷ []
+open_key Memory = 9 ∷ []
+
+-- ---- the refusals
+
+-- the keyslot's whole area isn't inside a volume of `total` bytes
+pub record HasAreaPast (plans : SlotPlan → Type 0) (total : ℕ) : Type 0 where
+  pub plan : SlotPlan
+  pub is : plans plan
+  pub past : total < plan.area.start + plan.area.len
+
+-- the keyslot's plan is refused
+pub record HasRefusedPlan (plans : SlotPlan → Type 0) (f : SlotFault) : Type 0 where
+  pub plan : SlotPlan
+  pub is : plans plan
+  pub refused : slot_refusal plan ≡ Some f
+
+-- the faults of the LUKS1 header `h` that opening the keyslot `n` looks at: those of the fields
+-- before the keyslots, and those of its own entry
+abbrev pub IsLuks1HeadRefusal : List ℕ → ℕ → HeadFault → Type 0
+IsLuks1HeadRefusal h n (head.SlotState m) = (n < 8) × IsEntryFault n (entry h n) (head.SlotState m)
+IsLuks1HeadRefusal h n (head.Stripes m) = (n < 8) × IsEntryFault n (entry h n) (head.Stripes m)
+IsLuks1HeadRefusal h n (head.Iterations (of.Slot m)) = (n < 8) × IsEntryFault n (entry h n) (head.Iterations (of.Slot m))
+IsLuks1HeadRefusal h n f = IsCommonFault h f
+
+-- of the keyslot `n` of a volume of `total` bytes that begins with the LUKS1 header `h`
+abbrev pub IsLuks1Refusal : List ℕ → ℕ → ℕ → OpenFault → Type 0
+IsLuks1Refusal h total n (Head f) = IsLuks1HeadRefusal h n f
+IsLuks1Refusal h total n (Meta f) = ⊥
+IsLuks1Refusal h total n NoSuchSlot = 8 ≤ n
+IsLuks1Refusal h total n SlotFree = (n < 8) × (active_word (entry h n) ≡ disabled_word)
+IsLuks1Refusal h total n Outside = HasAreaPast (HasLuks1Plan h n) total
+IsLuks1Refusal h total n (Slot f) = HasRefusedPlan (HasLuks1Plan h n) f
+IsLuks1Refusal h total n Device = ⊥
+IsLuks1Refusal h total n Memory = ⊥
+
+-- the metadata has no keyslot `n`
+pub record HasNoKeyslot (json : List ℕ) (n : ℕ) : Type 0 where
+  pub value : Value
+  pub holds : Json json value
+  pub absent : n < 32 → object_at value Keyslots n ≡ None
+
+-- of the keyslot `n` of a volume of `total` bytes whose LUKS2 copy that counts has the binary header
+-- `b` and the JSON area `json`
+abbrev pub IsLuks2Refusal : List ℕ → List ℕ → ℕ → ℕ → OpenFault → Type 0
+IsLuks2Refusal b json total n (Head f) = IsUuidFault (uuid_field b) f
+IsLuks2Refusal b json total n (Meta f) = IsMetaFault json f
+IsLuks2Refusal b json total n NoSuchSlot = HasNoKeyslot json n
+IsLuks2Refusal b json total n SlotFree = ⊥
+IsLuks2Refusal b json total n Outside = HasAreaPast (HasLuks2Plan json n) total
+IsLuks2Refusal b json total n (Slot f) = HasRefusedPlan (HasLuks2Plan json n) f
+IsLuks2Refusal b json total n Device = ⊥
+IsLuks2Refusal b json total n Memory = ⊥
+
+-- of a volume of which nothing counts
+abbrev pub IsSelectRefusal : List ℕ → OpenFault → Type 0
+IsSelectRefusal v (Head f) = IsSelectFault v f
+IsSelectRefusal v (Meta f) = ⊥
+IsSelectRefusal v NoSuchSlot = ⊥
+IsSelectRefusal v SlotFree = ⊥
+IsSelectRefusal v Outside = ⊥
+IsSelectRefusal v (Slot f) = ⊥
+IsSelectRefusal v Device = ⊥
+IsSelectRefusal v Memory = ⊥
+
+-- ---- any volume
+
+-- by what counts of the volume `v`: the refusals of the keyslot `n`, and its plan
+abbrev pub IsRefusalAs : List ℕ → ℕ → Choice → OpenFault → Type 0
+IsRefusalAs v n luks1 f = IsLuks1Refusal (part v 0 592) (length v) n f
+IsRefusalAs v n (luks2 o copies) f = IsLuks2Refusal (header_at v o) (json_at v o) (length v) n f
+IsRefusalAs v n nothing f = IsSelectRefusal v f
+
+abbrev pub HasPlanAs : List ℕ → ℕ → Choice → SlotPlan → Type 0
+HasPlanAs v n luks1 plan = HasLuks1Plan (part v 0 592) n plan
+HasPlanAs v n (luks2 o copies) plan = HasLuks2Plan (json_at v o) n plan
+HasPlanAs v n nothing plan = ⊥
+
+-- the set of the refusals of the keyslot `n` of the volume `v`
+pub record IsRefusal (v : List ℕ) (n : ℕ) (f : OpenFault) : Type 0 where
+  pub choice : Choice
+  pub chosen : Chosen v choice
+  pub fault : IsRefusalAs v n choice f
+
+-- nothing refuses the keyslot `n` of the volume `v`, and its plan gives `found` by the passphrase `p`:
+-- the standards' equations applied to the area's bytes, where their key meets the stored digest
+pub record Opens (v : List ℕ) (n : ℕ) (p : List ℕ) (found : Option (List ℕ)) : Type 0 where
+  pub choice : Choice
+  pub chosen : Chosen v choice
+  pub plan : SlotPlan
+  pub is : HasPlanAs v n choice plan
+  pub unrefused : (f : OpenFault) → IsRefusalAs v n choice f → ⊥
+  pub key : slot_key plan (part v plan.area.start plan.area.len) p ≡ found
+
+-- what opening a keyslot gives
+pub data Opened : Type 0 where
+  refused : OpenFault → Opened
+  opens : List ℕ → Opened
+  no_key : Opened
+
+-- what opening the keyslot `n` of the volume `v` by the passphrase `p` gives
+abbrev pub Answer : List ℕ → ℕ → List ℕ → Opened → Type 0
+Answer v n p (refused f) = IsLeast open_key (IsRefusal v n) f
+Answer v n p (opens k) = Opens v n p (Some k)
+Answer v n p no_key = Opens v n p None
+
+-- the key that was found, or none, as an answer
+abbrev pub opened_to : Option (List ℕ) → Opened
+opened_to (Some k) = opens k
+opened_to None = no_key
+
+-- the keyslot is refused as the answer says, unless the device failed or memory was refused
+abbrev pub IsRefusedBy : List ℕ → ℕ → List ℕ → OpenFault → Type 0
+IsRefusedBy v n p Device = ⊤
+IsRefusedBy v n p Memory = NeedsMetadata v
+IsRefusedBy v n p f = Answer v n p (refused f)

@@ -1,0 +1,30 @@
+-- What `check` answers.
+use Rattle.std.specs.Prelude.{◌≡◌, ℕ, List, ⊤}
+use Rattle.luks_head.specs.Header2.{header_at, seqid}
+use Rattle.luks_head.specs.Selection.{luks1, luks2, Chosen}
+use Rattle.luks_reading.specs.declared.check_fault.CheckFault.{CheckFault}
+use Rattle.luks_reading.specs.declared.check_fault.CheckFault.TheVariants.{Head, Meta, Area, Device, Memory}
+use Rattle.luks_reading.specs.declared.report.Data.{Data}
+use Rattle.luks_reading.specs.declared.report.Report.{Report}
+use Rattle.luks_reading.specs.declared.report.Version.{Version}
+use Rattle.luks_reading.specs.declared.report.Version.TheVariants.{Luks1, Luks2}
+use Rattle.luks_reading.specs.Checked.{AreaOf}
+use Rattle.luks_reading.specs.Listing.{Lists}
+
+-- the volume's version; of LUKS2 how the copies stand, and the sequence number of the one that counts
+abbrev pub IsVersion : List ℕ → Version → Type 0
+IsVersion v Luks1 = Chosen v luks1
+IsVersion v (Luks2 copies number) = (o : ℕ) × (Chosen v (luks2 o copies) × (seqid (header_at v o) ≡ number))
+
+-- the report holds the volume's version and exactly its areas
+pub record Reports (v : List ℕ) (payload : Data) (r : Report) : Type 0 where
+  pub version : IsVersion v r.version
+  pub areas : Lists r.areas (AreaOf v payload)
+
+-- the fault isn't the volume's own: the device failed, or memory was refused
+abbrev pub IsFromOutside : CheckFault → Type 0
+IsFromOutside Device = ⊤
+IsFromOutside Memory = ⊤
+IsFromOutside (Head f) = ⊥
+IsFromOutside (Meta f) = ⊥
+IsFromOutside (Area f) = ⊥

@@ -1,0 +1,63 @@
+//! Laws on the definitions of this crate. Each function only calls those whose laws it follows from;
+//! its contract is the law.
+ghost use Rattle.std.specs.Prelude.{◌≡◌, ◌↔◌, ℕ, List};
+ghost use Rattle.luks_area.specs.declared.area.Area.{Area as TheArea};
+ghost use Rattle.luks_area.specs.declared.area.AreaName.{AreaName as TheName};
+ghost use Rattle.luks_reading.specs.declared.report.Data.{Data as Payload};
+ghost use Rattle.luks_reading.specs.Agreement.{IsSameAnswer, IsSameUnlocking};
+ghost use Rattle.luks_reading.specs.Answer.{Answer, Opened};
+ghost use Rattle.luks_reading.specs.Checked.{AreaOf, IsFault, WellFormed};
+ghost use Rattle.luks_reading.specs.FitsAndResolves.{FitsAndResolves};
+ghost use Rattle.luks_reading.specs.Unlocking.{Unlocked, UnlockAnswer};
+
+use crate::check_fault::CheckFault;
+use luks_head::{luks1_without_faults, luks2_without_faults, one_choice};
+use luks_meta::{metadata_without_faults, one_digest, one_value};
+
+/// A volume is well formed exactly where it has no fault: so the first fault is there exactly where
+/// it isn't well formed.
+pub fn no_fault_is_well_formed()
+    ensures { (v : List ℕ) (payload : Payload) → WellFormed v payload ↔ ((f : CheckFault) → IsFault v payload f → ⊥) }
+{
+    one_choice();
+    luks1_without_faults();
+    luks2_without_faults();
+    metadata_without_faults();
+    one_value();
+}
+
+/// In a well formed volume each area is inside, every two of different names are disjoint, and of
+/// LUKS2 every name in the metadata resolves.
+pub fn well_formed_volume()
+    ensures { (v : List ℕ) (payload : Payload) → WellFormed v payload → FitsAndResolves v payload }
+{
+    one_choice();
+    one_value();
+}
+
+/// A name has one area at most in a volume.
+pub fn one_area()
+    ensures { (v : List ℕ) (payload : Payload) (n : TheName) (a b : TheArea) → AreaOf v payload n a → AreaOf v payload n b → a ≡ b }
+{
+    one_choice();
+    one_value();
+}
+
+/// A keyslot of a volume has one answer at most by a passphrase; of two refusals the key is one.
+pub fn one_answer()
+    ensures { (v : List ℕ) (n : ℕ) (p : List ℕ) (a b : Opened) → Answer v n p a → Answer v n p b → IsSameAnswer a b }
+{
+    one_choice();
+    one_value();
+    metadata_without_faults();
+    one_digest();
+}
+
+/// Opening a volume has one answer at most by a passphrase; of two refusals the key is one.
+pub fn one_unlocking()
+    ensures { (v p : List ℕ) (a b : Unlocked) → UnlockAnswer v p a → UnlockAnswer v p b → IsSameUnlocking a b }
+{
+    one_choice();
+    one_value();
+    one_answer();
+}

@@ -1,0 +1,186 @@
+//! Opening one keyslot of a volume.
+ghost use Rattle.std.specs.Prelude.{◌≡◌, ◌≢◌, ◌+◌, ◌^◌, ◌<◌, ◌≤◌, ℕ, List, length, IfOk, IfErr, IfSome};
+ghost use Rattle.luks_area.specs.Device.{CountsFailure, IsUnchanged};
+ghost use Rattle.luks_head.specs.declared.fault.HeadFault.{HeadFault as TheFault};
+ghost use Rattle.luks_head.specs.Bytes.{number_at};
+ghost use Rattle.luks_head.specs.Faults.{IsCommonFault};
+ghost use Rattle.luks_head.specs.Header1.{IsCommon};
+ghost use Rattle.luks_head.specs.Header2.{uuid_field};
+ghost use Rattle.luks_meta.specs.Content.{content};
+ghost use Rattle.luks_meta.specs.Objects.{IsAccepted};
+ghost use Rattle.luks_reading.specs.Agreement.{Agrees};
+ghost use Rattle.luks_reading.specs.Answer.{Answer, IsRefusedBy, Opened, opened_to};
+ghost use Rattle.luks_reading.specs.ChosenCopies.{IsCleared};
+ghost use Rattle.luks_reading.specs.Luks1Keyslots.{Luks1Opens, Luks1Refused};
+ghost use Rattle.luks_reading.specs.Luks2Keyslots.{Luks2Opens, Luks2Refused};
+ghost use Rattle.luks_reading.specs.Failures.{is_open_failure};
+ghost use Rattle.luks_reading.specs.Header.{IsAcceptedHeader, IsHeader};
+ghost use Rattle.luks_reading.specs.PlanAnswers.{IsOpenable, PlanOpens, PlanRefused};
+ghost use Rattle.luks_reading.specs.Plans.{HasKeyBytes, HasLuks2KeyBytes};
+
+use crate::header::{Header, read_header};
+use crate::laws::one_answer;
+use crate::luks1_fields::{luks1_common, luks1_entry};
+use crate::open_fault::OpenFault;
+use crate::plan::{luks1_plan, luks2_plan};
+use luks_area::Device;
+use luks_head::{Luks1Common, luks2_without_faults, one_choice};
+use luks_meta::{Meta, metadata_without_faults, one_value};
+use luks_slot::{Key, SlotPlan, open};
+use std::alloc::Global;
+
+/// Opens the keyslot `n` by the passphrase: its volume key, or None where the passphrase doesn't give
+/// the key that meets the stored digest. An empty passphrase is a passphrase. LUKS1 On-Disk Format
+/// 1.2.3, 4.3; LUKS2 On-Disk Format 1.1, 4.3.
+///
+/// It demands only what the keyslot needs: the volume may break other rules, and another keyslot of
+/// LUKS1 may be damaged. The first refusal is answered: `Head` by the selection of the header and the
+/// fields before the keyslots (LUKS2: the uuid), `Meta`, `NoSuchSlot`, of LUKS1 `Head` by the keyslot's
+/// own entry and `SlotFree`, `Outside`, `Slot`. `Device` comes exactly where a device call failed.
+/// Memory is taken for the metadata of LUKS2 alone.
+pub fn open_slot<D: Device>(
+    alloc: Global,
+    device: &mut D,
+    n: u8,
+    passphrase: &[u8],
+) -> Result<Option<Key>, OpenFault>
+    requires { D.failed device.old + 1 < 2 ^ 64 }
+    ensures unchanged { IsUnchanged D.tells D.size D.bytes device.old device.new }
+    ensures count { CountsFailure is_open_failure result (D.failed device.old) (D.failed device.new) }
+    ensures opens { D.tells → IfOk result (λ found. Answer (D.bytes device.old) n passphrase.now (opened_to found)) }
+    ensures refused { D.tells → IfErr result (IsRefusedBy (D.bytes device.old) n passphrase.now) }
+    // There is no other answer.
+    ensures only { D.tells → (a : Opened) → Answer (D.bytes device.old) n passphrase.now a → Agrees a result }
+{
+    one_choice();
+    one_answer();
+    let header = read_header(alloc, device)?;
+    open_header_slot(alloc, device, &header, n, passphrase)
+}
+
+/// What `open_slot` answers of a volume with this header. It takes no memory.
+pub fn open_header_slot<D: Device>(
+    alloc: Global,
+    device: &mut D,
+    header: &Header,
+    n: u8,
+    passphrase: &[u8],
+) -> Result<Option<Key>, OpenFault>
+    requires room { D.failed device.old + 1 < 2 ^ 64 }
+    requires accepted { IsAcceptedHeader header.now }
+    ensures unchanged { IsUnchanged D.tells D.size D.bytes device.old device.new }
+    ensures count { CountsFailure is_open_failure result (D.failed device.old) (D.failed device.new) }
+    ensures opens { D.tells → IsHeader (D.bytes device.old) header.now
+        → IfOk result (λ found. Answer (D.bytes device.old) n passphrase.now (opened_to found)) }
+    ensures refused { D.tells → IsHeader (D.bytes device.old) header.now
+        → IfErr result (IsRefusedBy (D.bytes device.old) n passphrase.now) }
+    ensures length { IfOk result (λ found. IfSome found (λ key. HasKeyBytes header.now n (length key))) }
+    ensures memory { IfErr result (λ f. f ≢ OpenFault.Memory) }
+{
+    one_choice();
+    luks2_without_faults();
+    metadata_without_faults();
+    match header {
+        Header::Luks1(bytes) => open_luks1(alloc, device, bytes.as_slice(), n, passphrase),
+        Header::Luks2(copy) => open_luks2(alloc, device, &copy.meta, n, passphrase),
+    }
+}
+
+/// What opening the keyslot `n` of a volume with these 592 bytes of a LUKS1 header gives.
+fn open_luks1<D: Device>(
+    alloc: Global,
+    device: &mut D,
+    header: &[u8],
+    n: u8,
+    passphrase: &[u8],
+) -> Result<Option<Key>, OpenFault>
+    requires room { D.failed device.old + 1 < 2 ^ 64 }
+    requires header { length header.now ≡ 592 }
+    ensures unchanged { IsUnchanged D.tells D.size D.bytes device.old device.new }
+    ensures count { CountsFailure is_open_failure result (D.failed device.old) (D.failed device.new) }
+    ensures opens { D.tells → IfOk result (Luks1Opens header.now (D.bytes device.old) n passphrase.now) }
+    ensures refused { IfErr result (Luks1Refused header.now (D.size device.old) n) }
+    ensures length { IfOk result (λ found. IfSome found (λ key. length key ≡ number_at header.now 108 4)) }
+{
+    let common = luks1_common(header)?;
+    open_luks1_slot(alloc, device, header, &common, n, passphrase)
+}
+
+/// What opening the keyslot `n` gives where nothing is wrong with what stands before the keyslots.
+pub(crate) fn open_luks1_slot<D: Device>(
+    alloc: Global,
+    device: &mut D,
+    header: &[u8],
+    common: &Luks1Common,
+    n: u8,
+    passphrase: &[u8],
+) -> Result<Option<Key>, OpenFault>
+    requires room { D.failed device.old + 1 < 2 ^ 64 }
+    requires header { length header.now ≡ 592 }
+    requires common { IsCommon header.now common.now }
+    requires faultless { (f : TheFault) → IsCommonFault header.now f → ⊥ }
+    ensures unchanged { IsUnchanged D.tells D.size D.bytes device.old device.new }
+    ensures count { CountsFailure is_open_failure result (D.failed device.old) (D.failed device.new) }
+    ensures opens { D.tells → IfOk result (Luks1Opens header.now (D.bytes device.old) n passphrase.now) }
+    ensures refused { IfErr result (Luks1Refused header.now (D.size device.old) n) }
+    ensures length { IfOk result (λ found. IfSome found (λ key. length key ≡ number_at header.now 108 4)) }
+{
+    let slot = luks1_entry(header, n)?;
+    let plan = luks1_plan(common, &slot);
+    open_planned(alloc, device, &plan, passphrase)
+}
+
+/// What opening the keyslot `n` of a volume with this metadata gives.
+pub(crate) fn open_luks2<D: Device>(
+    alloc: Global,
+    device: &mut D,
+    meta: &Meta,
+    n: u8,
+    passphrase: &[u8],
+) -> Result<Option<Key>, OpenFault>
+    requires room { D.failed device.old + 1 < 2 ^ 64 }
+    requires accepted { IsAccepted (content meta.now) }
+    ensures unchanged { IsUnchanged D.tells D.size D.bytes device.old device.new }
+    ensures count { CountsFailure is_open_failure result (D.failed device.old) (D.failed device.new) }
+    ensures opens { D.tells → (b json : List ℕ) → IsCleared (uuid_field b) json (content meta.now)
+        → IfOk result (Luks2Opens b json (D.bytes device.old) n passphrase.now) }
+    ensures refused { (b json : List ℕ) → IsCleared (uuid_field b) json (content meta.now)
+        → IfErr result (Luks2Refused b json (D.size device.old) n) }
+    ensures length { IfOk result (λ found. IfSome found (λ key. HasLuks2KeyBytes (content meta.now) n (length key))) }
+    ensures memory { IfErr result (λ f. f ≢ OpenFault.Memory) }
+{
+    one_value();
+    if n > 31 {
+        return Err(OpenFault::NoSuchSlot);
+    }
+    let Some(keyslot) = meta.keyslot(n) else {
+        return Err(OpenFault::NoSuchSlot);
+    };
+    let number = meta.digest_of_keyslot(n).unwrap();
+    let digest = meta.digest(number).unwrap();
+    let plan = luks2_plan(&keyslot, &digest);
+    open_planned(alloc, device, &plan, passphrase)
+}
+
+/// What the plan gives in the volume by the passphrase: its key, none, or why it is refused.
+fn open_planned<D: Device>(
+    alloc: Global,
+    device: &mut D,
+    plan: &SlotPlan<'_>,
+    passphrase: &[u8],
+) -> Result<Option<Key>, OpenFault>
+    requires room { D.failed device.old + 1 < 2 ^ 64 }
+    requires judged { IsOpenable plan.now }
+    ensures unchanged { IsUnchanged D.tells D.size D.bytes device.old device.new }
+    ensures count { CountsFailure is_open_failure result (D.failed device.old) (D.failed device.new) }
+    ensures opens { D.tells → IfOk result (PlanOpens plan.now (D.bytes device.old) passphrase.now) }
+    ensures refused { IfErr result (PlanRefused plan.now (D.size device.old)) }
+    ensures length { IfOk result (λ found. IfSome found (λ key. length key ≡ plan.now.key_bytes)) }
+    ensures memory { IfErr result (λ f. f ≢ OpenFault.Memory) }
+{
+    if !plan.area.is_inside(device.len()) {
+        return Err(OpenFault::Outside);
+    }
+    let found = open(alloc, device, plan, passphrase)?;
+    Ok(found)
+}

@@ -1,0 +1,95 @@
+//! What it takes to open a keyslot, as the headers say it.
+ghost use Rattle.std.specs.Prelude.{◌≡◌, ◌*◌, ℕ, List, Some};
+ghost use Rattle.serde_json.specs.Data.{Data};
+ghost use Rattle.luks_head.specs.Header1.{active_word, enabled_word, IsCommon, IsEntry};
+ghost use Rattle.luks_rules.specs.declared.table.Section.TheVariants.{Digests};
+ghost use Rattle.luks_meta.specs.Faults.{object_at};
+ghost use Rattle.luks_meta.specs.Naming.{IsDigestOf};
+ghost use Rattle.luks_meta.specs.Says.{TellsDigest, TellsKeyslot};
+ghost use Rattle.luks_area.specs.Sectors.{rounded_to_sectors};
+ghost use Rattle.luks_reading.specs.PlanAnswers.{IsOpenable};
+ghost use Rattle.luks_reading.specs.Plans.{IsLuks1Plan, IsLuks2Plan, IsLuks2Derivation};
+
+use luks_area::{Area, SECTOR, rounded_to_sectors};
+use luks_head::{Luks1Common, Luks1Slot};
+use luks_meta::{Cost, Digest, Keyslot};
+use luks_slot::{AreaCipher, Derivation, DigestPlan, SlotPlan};
+
+/// The plan of an enabled keyslot of a LUKS1 header.
+pub(crate) fn luks1_plan<'a>(common: &'a Luks1Common, slot: &'a Luks1Slot) -> SlotPlan<'a>
+    ensures is { (h e : List ℕ) → IsCommon h common.now → IsEntry e slot.now → IsLuks1Plan h e result }
+    ensures judged { (h e : List ℕ) → IsCommon h common.now → IsEntry e slot.now → active_word e ≡ enabled_word → IsOpenable result }
+{
+    let hash = common.hash_spec.as_str();
+    SlotPlan {
+        derivation: Derivation::Pbkdf2 {
+            hash,
+            iterations: slot.iterations,
+            salt: &slot.salt,
+        },
+        cipher: AreaCipher::Apart {
+            name: common.cipher_name.as_str(),
+            mode: common.cipher_mode.as_str(),
+        },
+        area: luks1_area(common.key_bytes, slot),
+        area_key_bytes: common.key_bytes as usize,
+        key_bytes: common.key_bytes as usize,
+        stripes: slot.stripes,
+        splitter_hash: hash,
+        digest: DigestPlan {
+            hash,
+            iterations: common.mk_digest_iterations,
+            salt: &common.mk_digest_salt,
+            stored: &common.mk_digest,
+        },
+    }
+}
+
+/// The key material of a keyslot of LUKS1, in whole sectors.
+pub(crate) fn luks1_area(key_bytes: u32, slot: &Luks1Slot) -> Area
+    ensures start { result.start ≡ slot.now.key_material_offset * 512 }
+    ensures len { result.len ≡ rounded_to_sectors (key_bytes * slot.now.stripes) }
+{
+    let material = u64::from(key_bytes) * u64::from(slot.stripes);
+    Area {
+        start: u64::from(slot.key_material_offset) * SECTOR,
+        len: rounded_to_sectors(material),
+    }
+}
+
+/// The plan of a keyslot of LUKS2 with the digest that names it.
+pub(crate) fn luks2_plan<'a>(keyslot: &'a Keyslot<'a>, digest: &'a Digest<'a>) -> SlotPlan<'a>
+    ensures { (j : Data) (n m : ℕ) (d o : Data) → TellsKeyslot d keyslot.now → IsDigestOf j n m → object_at j Digests m ≡ Some o → TellsDigest o digest.now → IsLuks2Plan j n d result }
+{
+    SlotPlan {
+        derivation: luks2_derivation(keyslot),
+        cipher: AreaCipher::Whole(keyslot.area.encryption),
+        area: Area {
+            start: keyslot.area.offset,
+            len: keyslot.area.size,
+        },
+        area_key_bytes: usize::from(keyslot.area.key_size),
+        key_bytes: usize::from(keyslot.key_size),
+        stripes: keyslot.af.stripes,
+        splitter_hash: keyslot.af.hash,
+        digest: DigestPlan {
+            hash: digest.hash,
+            iterations: digest.iterations,
+            salt: digest.salt.as_slice(),
+            stored: digest.digest.as_slice(),
+        },
+    }
+}
+
+fn luks2_derivation<'a>(keyslot: &'a Keyslot<'a>) -> Derivation<'a>
+    ensures { (d : Data) → TellsKeyslot d keyslot.now → IsLuks2Derivation d result }
+{
+    match keyslot.kdf.cost {
+        Cost::Pbkdf2(pbkdf2) => Derivation::Pbkdf2 {
+            hash: pbkdf2.hash,
+            iterations: pbkdf2.iterations,
+            salt: keyslot.kdf.salt.as_slice(),
+        },
+        Cost::Argon2i(_) | Cost::Argon2id(_) => Derivation::Argon2,
+    }
+}

@@ -1,0 +1,239 @@
+//! Opening a volume by the first keyslot that opens.
+ghost use Rattle.std.specs.Prelude.{◌≡◌, ◌≢◌, ◌+◌, ◌^◌, ◌<◌, ℕ, List, length, IfOk, IfErr, IfSome};
+ghost use Rattle.luks_area.specs.Device.{CountsFailure, IsUnchanged};
+ghost use Rattle.luks_head.specs.declared.fault.HeadFault.{HeadFault as TheFault};
+ghost use Rattle.luks_head.specs.Bytes.{number_at};
+ghost use Rattle.luks_head.specs.Faults.{IsCommonFault};
+ghost use Rattle.luks_head.specs.Header1.{IsCommon};
+ghost use Rattle.luks_head.specs.Header2.{uuid_field};
+ghost use Rattle.luks_meta.specs.Content.{content};
+ghost use Rattle.luks_meta.specs.Objects.{IsAccepted};
+ghost use Rattle.luks_reading.specs.Agreement.{AgreesUnlocked};
+ghost use Rattle.luks_reading.specs.ChosenCopies.{IsCleared};
+ghost use Rattle.luks_reading.specs.Failures.{is_open_failure};
+ghost use Rattle.luks_reading.specs.Header.{IsAcceptedHeader, IsHeader};
+ghost use Rattle.luks_reading.specs.PlanAnswers.{IsFailure};
+ghost use Rattle.luks_reading.specs.Plans.{HasKeyBytes, HasLuks2KeyBytes};
+ghost use Rattle.luks_reading.specs.KeyslotsTried.{is_of_rank, passed_over, rank_order, Luks1VolumeRefused, Luks1Tried, Luks1Tries, Luks2Tried, Luks2Tries};
+ghost use Rattle.luks_reading.specs.Unlocking.{luks2_order, IsVolumeRefusedBy, Unlocked, UnlockAnswer, Unlocks};
+
+use crate::header::{Header, read_header};
+use crate::laws::one_unlocking;
+use crate::luks1_fields::luks1_common;
+use crate::open_fault::OpenFault;
+use crate::opening::{open_luks1_slot, open_luks2};
+use luks_area::Device;
+use luks_head::{Luks1Common, luks2_without_faults, one_choice};
+use luks_meta::{Meta, metadata_without_faults, one_digest, one_value};
+use luks_slot::Key;
+use std::alloc::Global;
+
+/// When a keyslot of LUKS2 is tried, by its priority.
+#[derive(Clone, Copy)]
+pub(crate) enum Rank {
+    /// Before all others: priority 2.
+    Preferred,
+    /// After those: priority 1, or none.
+    Normal,
+}
+
+/// Opens the volume by the first keyslot that opens: its number and the volume key, or None where
+/// none opens. LUKS1: the keyslots in use, by number. LUKS2: those of priority 2 by number, then
+/// those of priority 1 or none by number; one of priority 0 is never tried.
+///
+/// A keyslot that is refused by a fault of its own is passed over. `Head` and `Meta` are those of the
+/// volume itself, the first of them. `Device` comes exactly where a device call failed. Memory is taken
+/// for the metadata of LUKS2 alone.
+pub fn unlock<D: Device>(
+    alloc: Global,
+    device: &mut D,
+    passphrase: &[u8],
+) -> Result<Option<(u8, Key)>, OpenFault>
+    requires { D.failed device.old + 1 < 2 ^ 64 }
+    ensures unchanged { IsUnchanged D.tells D.size D.bytes device.old device.new }
+    ensures count { CountsFailure is_open_failure result (D.failed device.old) (D.failed device.new) }
+    ensures unlocks { D.tells → IfOk result (Unlocks (D.bytes device.old) passphrase.now) }
+    ensures refused { D.tells → IfErr result (IsVolumeRefusedBy (D.bytes device.old)) }
+    // There is no other answer.
+    ensures only { D.tells → (a : Unlocked) → UnlockAnswer (D.bytes device.old) passphrase.now a → AgreesUnlocked a result }
+{
+    one_choice();
+    one_unlocking();
+    let header = read_header(alloc, device)?;
+    unlock_header(alloc, device, &header, passphrase)
+}
+
+/// What `unlock` answers of a volume with this header. It takes no memory.
+pub fn unlock_header<D: Device>(
+    alloc: Global,
+    device: &mut D,
+    header: &Header,
+    passphrase: &[u8],
+) -> Result<Option<(u8, Key)>, OpenFault>
+    requires room { D.failed device.old + 1 < 2 ^ 64 }
+    requires accepted { IsAcceptedHeader header.now }
+    ensures unchanged { IsUnchanged D.tells D.size D.bytes device.old device.new }
+    ensures count { CountsFailure is_open_failure result (D.failed device.old) (D.failed device.new) }
+    ensures unlocks { D.tells → IsHeader (D.bytes device.old) header.now → IfOk result (Unlocks (D.bytes device.old) passphrase.now) }
+    ensures refused { D.tells → IsHeader (D.bytes device.old) header.now → IfErr result (IsVolumeRefusedBy (D.bytes device.old)) }
+    ensures length { IfOk result (λ found. IfSome found (λ opened. HasKeyBytes header.now opened.0 (length opened.1))) }
+    ensures memory { IfErr result (λ f. f ≢ OpenFault.Memory) }
+{
+    one_choice();
+    luks2_without_faults();
+    metadata_without_faults();
+    match header {
+        Header::Luks1(bytes) => unlock_luks1(alloc, device, bytes.as_slice(), passphrase),
+        Header::Luks2(copy) => unlock_luks2(alloc, device, &copy.meta, passphrase),
+    }
+}
+
+fn unlock_luks1<D: Device>(
+    alloc: Global,
+    device: &mut D,
+    header: &[u8],
+    passphrase: &[u8],
+) -> Result<Option<(u8, Key)>, OpenFault>
+    requires room { D.failed device.old + 1 < 2 ^ 64 }
+    requires header { length header.now ≡ 592 }
+    ensures unchanged { IsUnchanged D.tells D.size D.bytes device.old device.new }
+    ensures count { CountsFailure is_open_failure result (D.failed device.old) (D.failed device.new) }
+    ensures unrefused { IfOk result (λ _. (f : TheFault) → IsCommonFault header.now f → ⊥) }
+    ensures tries { D.tells → IfOk result (Luks1Tries header.now (D.bytes device.old) passphrase.now) }
+    ensures refused { IfErr result (Luks1VolumeRefused header.now) }
+    ensures length { IfOk result (λ found. IfSome found (λ opened. length opened.1 ≡ number_at header.now 108 4)) }
+{
+    let common = luks1_common(header)?;
+    for n in 0..8 {
+        match try_luks1(alloc, device, header, &common, n, passphrase) {
+            Ok(Some(key)) => return Ok(Some((n, key))),
+            Ok(None) => {}
+            Err(fault) => return Err(fault),
+        }
+    }
+    Ok(None)
+}
+
+fn try_luks1<D: Device>(
+    alloc: Global,
+    device: &mut D,
+    header: &[u8],
+    common: &Luks1Common,
+    n: u8,
+    passphrase: &[u8],
+) -> Result<Option<Key>, OpenFault>
+    requires room { D.failed device.old + 1 < 2 ^ 64 }
+    requires header { length header.now ≡ 592 }
+    requires common { IsCommon header.now common.now }
+    requires faultless { (f : TheFault) → IsCommonFault header.now f → ⊥ }
+    ensures unchanged { IsUnchanged D.tells D.size D.bytes device.old device.new }
+    ensures count { CountsFailure is_open_failure result (D.failed device.old) (D.failed device.new) }
+    ensures tried { D.tells → IfOk result (Luks1Tried header.now (D.bytes device.old) n passphrase.now) }
+    ensures kinds { IfErr result IsFailure }
+    ensures length { IfOk result (λ found. IfSome found (λ key. length key ≡ number_at header.now 108 4)) }
+{
+    match open_luks1_slot(alloc, device, header, common, n, passphrase) {
+        Ok(found) => Ok(found),
+        Err(fault) => passed_over(fault),
+    }
+}
+
+fn unlock_luks2<D: Device>(
+    alloc: Global,
+    device: &mut D,
+    meta: &Meta,
+    passphrase: &[u8],
+) -> Result<Option<(u8, Key)>, OpenFault>
+    requires room { D.failed device.old + 1 < 2 ^ 64 }
+    requires accepted { IsAccepted (content meta.now) }
+    ensures unchanged { IsUnchanged D.tells D.size D.bytes device.old device.new }
+    ensures count { CountsFailure is_open_failure result (D.failed device.old) (D.failed device.new) }
+    ensures tries { D.tells → (b json : List ℕ) → IsCleared (uuid_field b) json (content meta.now)
+        → IfOk result (Luks2Tries b json (D.bytes device.old) passphrase.now (luks2_order (content meta.now))) }
+    ensures kinds { IfErr result IsFailure }
+    ensures length { IfOk result (λ found. IfSome found (λ opened. HasLuks2KeyBytes (content meta.now) opened.0 (length opened.1))) }
+{
+    match try_rank(alloc, device, meta, Rank::Preferred, passphrase) {
+        Ok(Some(found)) => Ok(Some(found)),
+        Ok(None) => try_rank(alloc, device, meta, Rank::Normal, passphrase),
+        Err(fault) => Err(fault),
+    }
+}
+
+/// Tries the keyslots of the rank by number.
+fn try_rank<D: Device>(
+    alloc: Global,
+    device: &mut D,
+    meta: &Meta,
+    rank: Rank,
+    passphrase: &[u8],
+) -> Result<Option<(u8, Key)>, OpenFault>
+    requires room { D.failed device.old + 1 < 2 ^ 64 }
+    requires accepted { IsAccepted (content meta.now) }
+    ensures unchanged { IsUnchanged D.tells D.size D.bytes device.old device.new }
+    ensures count { CountsFailure is_open_failure result (D.failed device.old) (D.failed device.new) }
+    ensures tries { D.tells → (b json : List ℕ) → IsCleared (uuid_field b) json (content meta.now)
+        → IfOk result (Luks2Tries b json (D.bytes device.old) passphrase.now (rank_order rank (content meta.now))) }
+    ensures kinds { IfErr result IsFailure }
+    ensures length { IfOk result (λ found. IfSome found (λ opened. HasLuks2KeyBytes (content meta.now) opened.0 (length opened.1))) }
+{
+    for n in 0..32 {
+        if is_of_rank(meta, rank, n) {
+            match try_luks2(alloc, device, meta, n, passphrase) {
+                Ok(Some(key)) => return Ok(Some((n, key))),
+                Ok(None) => {}
+                Err(fault) => return Err(fault),
+            }
+        }
+    }
+    Ok(None)
+}
+
+fn is_of_rank(meta: &Meta, rank: Rank, n: u8) -> bool
+    requires { n < 32 }
+    ensures { result ≡ is_of_rank rank (content meta.now) n }
+{
+    match meta.keyslot(n) {
+        Some(keyslot) => match (rank, keyslot.priority) {
+            (Rank::Preferred, Some(2)) => true,
+            (Rank::Normal, None | Some(1)) => true,
+            _ => false,
+        },
+        None => false,
+    }
+}
+
+fn try_luks2<D: Device>(
+    alloc: Global,
+    device: &mut D,
+    meta: &Meta,
+    n: u8,
+    passphrase: &[u8],
+) -> Result<Option<Key>, OpenFault>
+    requires room { D.failed device.old + 1 < 2 ^ 64 }
+    requires accepted { IsAccepted (content meta.now) }
+    ensures unchanged { IsUnchanged D.tells D.size D.bytes device.old device.new }
+    ensures count { CountsFailure is_open_failure result (D.failed device.old) (D.failed device.new) }
+    ensures tried { D.tells → (b json : List ℕ) → IsCleared (uuid_field b) json (content meta.now)
+        → IfOk result (Luks2Tried b json (D.bytes device.old) n passphrase.now) }
+    ensures kinds { IfErr result IsFailure }
+    ensures length { IfOk result (λ found. IfSome found (λ key. HasLuks2KeyBytes (content meta.now) n (length key))) }
+{
+    one_value();
+    one_digest();
+    match open_luks2(alloc, device, meta, n, passphrase) {
+        Ok(found) => Ok(found),
+        Err(fault) => passed_over(fault),
+    }
+}
+
+/// What trying a keyslot that is refused gives: a fault of its own is passed over.
+fn passed_over(fault: OpenFault) -> Result<Option<Key>, OpenFault>
+    ensures { result ≡ passed_over fault }
+{
+    match fault {
+        OpenFault::Device => Err(OpenFault::Device),
+        OpenFault::Memory => Err(OpenFault::Memory),
+        _ => Ok(None),
+    }
+}

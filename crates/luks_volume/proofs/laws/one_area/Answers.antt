@@ -1,5 +1,0 @@
-use Rattle.luks_volume.proofs.OneArea.{one_area}
-use Rattle.luks_volume.proofs.laws.one_area.Goals as goal
-
-pub returns : goal.returns
-returns c = one_area c.one_choice.ensures.only c.one_value.ensures

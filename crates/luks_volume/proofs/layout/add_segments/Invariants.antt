@@ -1,6 +1,0 @@
-use Rattle.luks_meta.specs.Content.{content}
-use Rattle.luks_volume.specs.Listing.{AddsSegments}
-use Rattle.luks_volume.proofs.layout.add_segments.Given as goal
-
-abbrev pub invariant-loop-n : goal.invariant-loop-n
-invariant-loop-n l = AddsSegments l.fn.areas l.areas (content l.meta) l.total l.n
