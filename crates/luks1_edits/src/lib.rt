@@ -1,0 +1,2 @@
+//! Edits of LUKS1 volumes.
+#![tactic(auto)]

@@ -1,0 +1,2 @@
+//! Edits of LUKS2 volumes.
+#![tactic(auto)]

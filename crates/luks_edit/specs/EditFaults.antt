@@ -1,0 +1,35 @@
+-- The order of an edit's faults.
+use Rattle.std.specs.Prelude.{ℕ, List, [], ◌∷◌}
+use Rattle.luks_reading.specs.Answer.{slot_row}
+use Rattle.luks_reading.specs.Checked.{check_key}
+use Rattle.luks_edit.specs.declared.edit_fault.EditFault.{EditFault}
+use Rattle.luks_edit.specs.declared.edit_fault.EditFault.TheVariants.{NotAccepted, Requirements, NoSuchSlot, Locked, Slot, SlotTaken, NoFreeSlot, NoRoom, LastSlot, Iterations, BadLabel, SeqExhausted, MetadataFull, RandomLength, Memory, Device}
+
+-- the rows of the table of faults, in their order
+abbrev pub edit_row : EditFault → ℕ
+edit_row (NotAccepted f) = 1
+edit_row Requirements = 2
+edit_row NoSuchSlot = 3
+edit_row Locked = 4
+edit_row (Slot s) = 5
+edit_row SlotTaken = 6
+edit_row NoFreeSlot = 7
+edit_row NoRoom = 8
+edit_row LastSlot = 9
+edit_row Iterations = 10
+edit_row BadLabel = 11
+edit_row SeqExhausted = 12
+edit_row MetadataFull = 13
+edit_row RandomLength = 14
+edit_row Memory = 15
+edit_row Device = 16
+
+-- the place of a fault among those of its row
+abbrev pub edit_place : EditFault → List ℕ
+edit_place (NotAccepted f) = check_key f
+edit_place (Slot s) = slot_row s ∷ []
+edit_place f = []
+
+-- the least key is that of the first fault
+abbrev pub edit_key : EditFault → List ℕ
+edit_key f = edit_row f ∷ edit_place f

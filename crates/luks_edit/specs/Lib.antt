@@ -1,0 +1,2 @@
+pub mod EditFaults
+pub mod Asked

@@ -1,0 +1,8 @@
+//! What an edit of a volume is, and why one is refused: the types and words that both versions share.
+#![tactic(auto)]
+
+mod edit;
+mod edit_fault;
+
+pub use edit::{Done, Edit, Step};
+pub use edit_fault::{EditFault, RunFault};

@@ -1,0 +1,2 @@
+//! Making a LUKS volume of either version.
+#![tactic(auto)]
