@@ -1,2 +1,6 @@
 //! Edits of LUKS2 volumes.
 #![tactic(auto)]
+
+mod gap;
+
+pub use gap::least_gap;

@@ -2,8 +2,9 @@
 
 /// An edit of a volume's keyslots, header or label.
 ///
-/// The keyslot that an edit names as `by_` or `slot` is the one that its old passphrase has to open. Keyslots are numbered 0 to 7 in LUKS1
-/// and 0 to 31 in LUKS2; a passphrase is any bytes, none among them.
+/// The keyslot that an edit names as `by_` or `slot` is the one that its old passphrase has to open.
+/// Keyslots are numbered 0 to 7 in LUKS1 and 0 to 31 in LUKS2. A passphrase is any bytes, and may
+/// be empty.
 #[derive(Clone, Copy, Debug)]
 pub enum Edit<'a> {
     /// Adds a keyslot in which a new passphrase opens the key that the old one opens.
@@ -21,7 +22,8 @@ pub enum Edit<'a> {
     },
     /// Puts a new passphrase in the place of an old one.
     ///
-    /// LUKS2 keeps the keyslot's number; LUKS1 makes the least free keyslot and then disables the old one.
+    /// LUKS2 keeps the keyslot's number; LUKS1 makes the least free keyslot, and then disables the
+    /// old one.
     Change {
         /// The keyslot that the old passphrase opens.
         slot: u8,

@@ -4,7 +4,8 @@ use luks_reading::CheckFault;
 use luks_slot::SlotFault;
 use thiserror::Error;
 
-/// Why an edit isn't completed: the first in this order, but for want of memory and the device's failure.
+/// Why an edit isn't completed: the first in this order, but for want of memory and the device's
+/// failure.
 ///
 /// All but the device's failure leave every byte as it was.
 #[derive(Debug, Clone, Copy, Drop, Error)]

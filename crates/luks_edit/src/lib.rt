@@ -1,4 +1,5 @@
-//! What an edit of a volume is, and why one is refused: the types and words that both versions share.
+//! What an edit of a volume is, and why one is refused: the types and words that both versions of
+//! LUKS share.
 #![tactic(auto)]
 
 mod edit;
