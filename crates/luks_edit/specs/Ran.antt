@@ -35,7 +35,7 @@ AreRun R v (s ∷ ss) (r ∷ rs) (u ∷ us) w = R v s.edit s.random.now r u
     × (((IsFailure r → ⊥) × AreRun R u ss rs us w) ⊎ (IsFailure r × (rs ≡ []) × (us ≡ []) × (w ≡ u)))
 
 -- the steps were run from the volume `v` to the volume `w`, and their replies appended
-pub record Ran (R : Replying) (v : List ℕ) (steps : List Step) (before after : List Reply) (w : List ℕ) : Type 1 where
+pub record Ran (R : Replying) (v : List ℕ) (steps : List Step) (before after : List Reply) (w : List ℕ) : Type 0 where
   pub replies : List Reply
   pub volumes : List (List ℕ)
   pub appended : after ≡ before ++ replies
