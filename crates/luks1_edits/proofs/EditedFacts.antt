@@ -23,7 +23,7 @@ use Rattle.luks1_edits.specs.Places.{area_len, area_start, IsOfKeyslots}
 use Rattle.luks1_edits.specs.Refused.{IsUnrefused1}
 use Rattle.luks1_edits.proofs.AnswerFacts.{answer_moves}
 use Rattle.luks1_edits.proofs.HeaderFacts.{HeaderLaws, len_is, start_is, volume_of}
-use Rattle.luks1_edits.proofs.KeptFacts.{either_decided, keeps_others, kept_common, luks1_area_of, same_keyslot, stays_well_formed}
+use Rattle.luks1_edits.proofs.KeptFacts.{either_decided, keeps_others, kept_common, luks1_after, luks1_area_of, same_keyslot, stays_well_formed}
 use Rattle.luks1_edits.proofs.MadeKeyslotFacts.{IsMadeFrom, KeyslotLaws, made_opens}
 
 -- ---- what no refusal means
@@ -113,6 +113,7 @@ new_once v None a b x y = least_free_once v a b x y
 -- ---- what an edit leaves
 
 pub record Leaves (payload : Data) (named : ℕ → Type 0) (v w : List ℕ) : Type 0 where
+  pub chosen : Chosen w luks1
   pub well : WellFormed w payload
   pub others : KeepsOthers payload named v w
   pub rest : SameBut (IsOfKeyslots v named) v w
@@ -126,6 +127,7 @@ module _ (laws : HeaderLaws) (payload : Data) (v : List ℕ) (chosen : Chosen v 
   both_leave named a b w lta ltb rest fits_a fits_b is_a is_b =
       let x = changes a b w lta ltb rest in
       record {
+        chosen = luks1_after laws payload (IsEither a b) v w x;
         well = stays_well_formed laws payload (IsEither a b) v w x
             (two_named (λ n. IsFitFor (entry v n) (entry w n)) a b fits_a fits_b) (either_decided a b);
         others = keeps_wider payload (IsEither a b) named v w (two_named named a b is_a is_b) (keeps_others laws payload (IsEither a b) v w x);
@@ -137,6 +139,7 @@ module _ (laws : HeaderLaws) (payload : Data) (v : List ℕ) (chosen : Chosen v 
       let none : AreKeyslots (λ n. ⊥) = record { numbered = λ n is. absurd is } in
       let x : ChangesKeyslots payload (λ n. ⊥) v v = record { keyslots = none; chosen = chosen; well = well; rest = same_but-same (IsOfKeyslots v (λ n. ⊥)) v } in
       subst (λ u. Leaves payload named v u) (sym same) (record {
+        chosen = chosen;
         well = well;
         others = keeps_wider payload (λ n. ⊥) named v v (λ n is. absurd is) (keeps_others laws payload (λ n. ⊥) v v x);
         rest = same_but-same (IsOfKeyslots v named) v;

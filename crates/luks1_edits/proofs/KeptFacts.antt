@@ -128,7 +128,7 @@ module _ (laws : HeaderLaws) where
     front : part w 0 208 ≡ part v 0 208
     front = kept_common v payload placed w named x.keyslots x.rest
 
-    luks1_after : Chosen w luks1
+    pub luks1_after : Chosen w luks1
     luks1_after = chosen_moves v w x.rest.length_same front x.chosen
 
     -- an area by the one header is there by the other, where the volume is as long and the entry the same

@@ -33,13 +33,16 @@ pub fn luks1_answer_is_local()
     luks1_without_faults();
 }
 
-/// After an edit of a well formed LUKS1 volume that nothing refused, the volume is well formed; its
-/// length, its segments and their bytes are as before, and so are the answers, the entry and the
+/// After an edit of a well formed LUKS1 volume that nothing refused, the volume is a well formed
+/// LUKS1 volume; its length, its segments and their bytes are as before, and so are the answers, the entry and the
 /// area of each keyslot that the edit didn't name. The area that a removed keyslot had is zeros.
 pub fn luks1_edit_keeps_volume()
     ensures keeps { (payload : Payload) (e : TheEdit) (v random w : List ℕ)
         → Chosen v luks1 → WellFormed v payload → IsUnrefused1 v payload e random
         → After1 v e random w → Keeps payload (NamedKeyslots1 v e) v w }
+    ensures chosen { (payload : Payload) (e : TheEdit) (v random w : List ℕ)
+        → Chosen v luks1 → WellFormed v payload → IsUnrefused1 v payload e random
+        → After1 v e random w → Chosen w luks1 }
     ensures rest { (payload : Payload) (e : TheEdit) (v random w : List ℕ)
         → Chosen v luks1 → WellFormed v payload → IsUnrefused1 v payload e random
         → After1 v e random w → SameBut (IsOfKeyslots v (NamedKeyslots1 v e)) v w }

@@ -7,6 +7,11 @@ returns-clause-keeps c = λ payload e v random w chosen well free after.
     let laws : HeaderLaws = record { one = c.one_choice.ensures.only; common = c.luks1_is_first_bytes.ensures.common_faults; faultless = c.luks1_without_faults.ensures.header } in
     keeps laws payload v chosen well e random w free after
 
+pub returns-clause-chosen : goal.returns-clause-chosen
+returns-clause-chosen c = λ payload e v random w chosen well free after.
+    let laws : HeaderLaws = record { one = c.one_choice.ensures.only; common = c.luks1_is_first_bytes.ensures.common_faults; faultless = c.luks1_without_faults.ensures.header } in
+    (leaves laws payload v chosen well e random w free after).chosen
+
 pub returns-clause-rest : goal.returns-clause-rest
 returns-clause-rest c = λ payload e v random w chosen well free after.
     let laws : HeaderLaws = record { one = c.one_choice.ensures.only; common = c.luks1_is_first_bytes.ensures.common_faults; faultless = c.luks1_without_faults.ensures.header } in
