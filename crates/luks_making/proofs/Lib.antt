@@ -4,3 +4,6 @@ mod WholeFacts
 mod NestingFacts
 mod RowFacts
 mod RemovalFacts
+mod ReadingFacts
+mod AdditionFacts
+mod FreeNumberFacts

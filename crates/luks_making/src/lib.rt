@@ -5,6 +5,6 @@ mod laws;
 mod new_keyslot;
 mod new_volume;
 
-pub use laws::removal_keeps_the_rest;
+pub use laws::{addition_keeps_the_rest, removal_keeps_the_rest};
 pub use new_keyslot::{New, NewKeyslot};
 pub use new_volume::NewVolume;
