@@ -1,0 +1,9 @@
+pub mod Changing
+pub mod Naming
+pub mod Without
+pub mod Keyslots
+pub mod With
+pub mod Changed
+pub mod Formatted
+pub mod Conditions
+pub mod WrittenArea
