@@ -1,2 +1,4 @@
 pub mod EditFaults
 pub mod Asked
+pub mod Kept
+pub mod Ran

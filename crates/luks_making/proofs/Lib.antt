@@ -1,0 +1,6 @@
+mod MemberFacts
+mod NameFacts
+mod WholeFacts
+mod NestingFacts
+mod RowFacts
+mod RemovalFacts
