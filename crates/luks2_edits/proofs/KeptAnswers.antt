@@ -1,6 +1,5 @@
 -- A keyslot that a change leaves as it was has the answer that it had.
-use Rattle.std.proofs.Common.{◌≡◌, ℕ, ◌+◌, ◌<◌, ◌↔◌, List, length, Option, Some, None, sym, ap, subst, ◌∙◌}
-use Rattle.luks_area.specs.Ranges.{part}
+use Rattle.std.proofs.Common.{◌≡◌, ℕ, ◌↔◌, List, Option, Some, None, sym, ap, subst, ◌∙◌}
 use Rattle.luks_head.specs.Header2.{IsUuidFault}
 use Rattle.luks_head.specs.Selection.{Choice, luks2, Chosen}
 use Rattle.luks_slot.specs.Opening.{slot_key}

@@ -49,7 +49,7 @@ members_of iterations salt area =
 pub record HasAdded
     (h total : ℕ) (payload : Data) (opener : ℕ) (to : Option ℕ) (iterations : ℕ) (salt : List ℕ)
     (j new : Value)
-  : Type 0 where
+    : Type 0 where
   pub slot : ℕ
   pub is_new : IsNewKeyslot j to slot
   pub area : Area
@@ -59,7 +59,7 @@ pub record HasAdded
 -- `new` is the metadata `j` with new iterations, salt and area in the keyslot `slot`
 pub record HasChanged
     (h total : ℕ) (payload : Data) (slot : ℕ) (iterations : ℕ) (salt : List ℕ) (j new : Value)
-  : Type 0 where
+    : Type 0 where
   pub area : Area
   pub place : IsNewArea h total payload j slot area
   pub is : new ≡ changed_slot slot (members_of iterations salt area) j
@@ -96,7 +96,7 @@ pub record HoldsKey (w : List ℕ) (j : Value) (n : ℕ) (passphrase key random 
 -- keyslot `opener` of the volume `v`
 pub record HoldsOpened
     (v : List ℕ) (opener : ℕ) (old new : List ℕ) (made : ℕ → Type 0) (random w : List ℕ) (j : Value)
-  : Type 0 where
+    : Type 0 where
   pub slot : ℕ
   pub is_made : made slot
   pub key : List ℕ

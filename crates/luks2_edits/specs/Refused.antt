@@ -10,10 +10,7 @@ use Rattle.luks_head.specs.Header2.{binary_header_size, hdr_size, header_at, seq
 use Rattle.luks_making.specs.Conditions.{IsFree}
 use Rattle.luks_making.specs.Naming.{IsDigestOf}
 use Rattle.luks_meta.specs.Requirements.{has_requirements}
-use Rattle.luks_slot.specs.declared.fault.SlotFault.{SlotFault}
-use Rattle.luks_reading.specs.declared.open_fault.OpenFault.TheVariants as opening
 use Rattle.luks_reading.specs.declared.report.Data.{Data}
-use Rattle.luks_reading.specs.Answer.{Answer, no_key, refused}
 use Rattle.luks_reading.specs.Checked.{IsFault}
 use Rattle.luks_edit.specs.declared.edit.Edit.{Edit}
 use Rattle.luks_edit.specs.declared.edit.Edit.TheVariants.{Add, Change, Remove, Repair, Label}
@@ -21,6 +18,7 @@ use Rattle.luks_edit.specs.declared.edit_fault.EditFault.{EditFault}
 use Rattle.luks_edit.specs.declared.edit_fault.EditFault.TheVariants as fault
 use Rattle.luks_edit.specs.Asked.{HasFewIterations, OpensBy}
 use Rattle.luks_edit.specs.EditFaults.{edit_key}
+use Rattle.luks_edit.specs.Opener.{IsLocked, IsShut}
 use Rattle.luks2_edits.specs.Edited.{IsEdited}
 use Rattle.luks2_edits.specs.Metadata.{HasMetadata, HasStripes, IsInUse}
 use Rattle.luks2_edits.specs.Places.{HasNoNewArea}
@@ -33,20 +31,6 @@ pub record IsAbsent (j : Value) (e : Edit) : Type 0 where
   pub passphrase : List ℕ
   pub asked : OpensBy e slot passphrase
   pub unused : IsInUse j slot → ⊥
-
--- its passphrase gives no key
-pub record IsLocked (v : List ℕ) (e : Edit) : Type 0 where
-  pub slot : ℕ
-  pub passphrase : List ℕ
-  pub asked : OpensBy e slot passphrase
-  pub answer : Answer v slot passphrase no_key
-
--- what the metadata says of it is refused
-pub record IsShut (v : List ℕ) (e : Edit) (f : SlotFault) : Type 0 where
-  pub slot : ℕ
-  pub passphrase : List ℕ
-  pub asked : OpensBy e slot passphrase
-  pub answer : Answer v slot passphrase (refused (opening.Slot f))
 
 -- ---- the keyslot that the edit makes
 
