@@ -1,0 +1,5 @@
+mod PutFacts
+mod ItemFacts
+mod CopyFacts
+mod StepFacts
+mod AreaFacts
