@@ -1,3 +1,9 @@
+mod MemberFacts
+mod NameFacts
+mod WholeFacts
+mod NestingFacts
+mod RowFacts
+mod RemovalFacts
 mod PutFacts
 mod ItemFacts
 mod CopyFacts

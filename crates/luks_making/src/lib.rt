@@ -4,6 +4,7 @@
 mod changed;
 mod changing;
 mod json_area;
+mod laws;
 mod new_keyslot;
 mod new_volume;
 mod with;
@@ -11,6 +12,7 @@ mod without;
 
 pub use changed::changed_slot;
 pub use json_area::written_area;
+pub use laws::removal_keeps_the_rest;
 pub use new_keyslot::{New, NewKeyslot};
 pub use new_volume::{NewVolume, formatted};
 pub use with::with_slot;
