@@ -2,3 +2,4 @@ pub mod EditFaults
 pub mod Asked
 pub mod Kept
 pub mod Ran
+pub mod Opener

@@ -25,7 +25,7 @@ use Rattle.luks_rules.specs.Sizes.{inside_at, keyslots_size, region_start}
 use Rattle.luks_rules.specs.Table.{member as row, digest_rows, keyslot_rows, rows_of, member_name}
 use Rattle.luks_making.specs.Changing.{add_text, at_member, change_member, in_array, in_object}
 use Rattle.luks_making.specs.Conditions.{FitsSlot, IsRoom}
-use Rattle.luks_making.specs.Kept.{GainsSlot, KeepsOthers}
+use Rattle.luks_making.specs.Unchanged.{GainsSlot, KeepsOthers}
 use Rattle.luks_making.specs.Keyslots.{SlotMembers, slot_value}
 use Rattle.luks_making.specs.Naming.{IsDigestOf}
 use Rattle.luks_making.specs.With.{with_name, with_slot}

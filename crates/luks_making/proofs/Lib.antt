@@ -7,3 +7,8 @@ mod RemovalFacts
 mod ReadingFacts
 mod AdditionFacts
 mod FreeNumberFacts
+mod PutFacts
+mod ItemFacts
+mod CopyFacts
+mod StepFacts
+mod AreaFacts

@@ -8,7 +8,7 @@ ghost use Rattle.luks_rules.specs.declared.table.Section.TheVariants.{Digests};
 ghost use Rattle.luks_rules.specs.Faults.{section_at};
 ghost use Rattle.luks_rules.specs.Held.{IsHeld};
 ghost use Rattle.luks_making.specs.Conditions.{IsFree, IsRoom};
-ghost use Rattle.luks_making.specs.Kept.{GainsSlot, LosesSlot};
+ghost use Rattle.luks_making.specs.Unchanged.{GainsSlot, LosesSlot};
 ghost use Rattle.luks_making.specs.Keyslots.{SlotMembers};
 ghost use Rattle.luks_making.specs.Naming.{HasUniqueDigests};
 ghost use Rattle.luks_making.specs.With.{with_slot};
