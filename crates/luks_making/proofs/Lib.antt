@@ -4,3 +4,12 @@ mod WholeFacts
 mod NestingFacts
 mod RowFacts
 mod RemovalFacts
+mod ReadingFacts
+mod AdditionFacts
+mod FreeNumberFacts
+mod RoomFacts
+mod PutFacts
+mod ItemFacts
+mod CopyFacts
+mod StepFacts
+mod AreaFacts
