@@ -2,5 +2,13 @@ pub mod AnswerFacts
 pub mod EditedFacts
 pub mod HeaderFacts
 pub mod KeptFacts
+pub mod KeyslotChoice
+pub mod KeyslotPlaces
 pub mod MadeKeyslotFacts
+pub mod MakingFacts
+pub mod OpenerFacts
 pub mod RefusalFacts
+pub mod RemovalFacts
+pub mod RowFacts
+pub mod SlotSetFacts
+pub mod StepFacts

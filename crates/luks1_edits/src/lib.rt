@@ -1,7 +1,14 @@
 //! Edits of LUKS1 volumes.
 #![tactic(auto)]
 
+mod accepted;
+mod freeing;
+mod keyslots;
 mod laws;
+mod making;
+mod removing;
+mod steps;
+mod unlocking;
 
 pub use laws::{
     luks1_answer_is_local, luks1_edit_keeps_volume, luks1_edit_opens, luks1_edit_refused_once,
