@@ -1,4 +1,5 @@
 pub mod AnswerFacts
+pub mod ChangeFacts
 pub mod EditedFacts
 pub mod HeaderFacts
 pub mod KeptFacts
@@ -6,6 +7,7 @@ pub mod KeyslotChoice
 pub mod KeyslotPlaces
 pub mod MadeKeyslotFacts
 pub mod MakingFacts
+pub mod NewKeyslotFacts
 pub mod OpenerFacts
 pub mod RefusalFacts
 pub mod RemovalFacts

@@ -18,7 +18,7 @@ use Rattle.luks_edit.specs.declared.edit_fault.EditFault.{EditFault}
 use Rattle.luks_edit.specs.declared.edit_fault.EditFault.TheVariants as fault
 use Rattle.luks1_edits.specs.declared.accepted.AcceptedHeader.{AcceptedHeader}
 use Rattle.luks1_edits.specs.Edited.{IsFree, IsInUse, IsNewKeyslot}
-use Rattle.luks1_edits.specs.Refused.{IsTakenFor, keyslot_need, LacksFree}
+use Rattle.luks1_edits.specs.Refused.{IsTakenFor, keyslot_need, LacksFree, NeedsFor}
 
 -- `h` and `d` are the bytes and the fields of the header of a well formed volume of `total` bytes
 pub record IsAccepted (h : List ℕ) (d : Luks1) (payload : Data) (total : ℕ) : Type 0 where
@@ -106,3 +106,19 @@ abbrev pub IsNewRefused : List ℕ → ℕ → ℕ → List ℕ → EditFault �
 IsNewRefused v n iterations random fault.Iterations = iterations < 1000
 IsNewRefused v n iterations random fault.RandomLength = IsMiscountedNew v n iterations random
 IsNewRefused v n iterations random f = ⊥
+
+-- ---- the random bytes that an edit asks for
+
+-- a new keyslot takes `k` random bytes, and the one to open is in use
+pub record IsNewNeed (v : List ℕ) (opener : ℕ) (to : Option ℕ) (k : ℕ) : Type 0 where
+  pub used : IsInUse v opener
+  pub need : NeedsFor v (IsNewKeyslot v to) k
+
+pub record IsNewFaultOfUsed (v : List ℕ) (opener : ℕ) (to : Option ℕ) (f : EditFault) : Type 0 where
+  pub used : IsInUse v opener
+  pub is : IsNewFault v to f
+
+-- why it isn't made
+abbrev pub IsNewNeedFault : List ℕ → ℕ → Option ℕ → EditFault → Type 0
+IsNewNeedFault v opener to fault.NoSuchSlot = IsInUse v opener → ⊥
+IsNewNeedFault v opener to f = IsNewFaultOfUsed v opener to f

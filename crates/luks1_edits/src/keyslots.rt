@@ -1,6 +1,7 @@
 //! Which keyslots of a LUKS1 header are in use, and which is free.
-ghost use Rattle.std.specs.Prelude.{◌≡◌, ◌<◌, ◌≤◌, ℕ, List, false, length, IfErr, IsTrue, MatchOption, MatchResult, OnOk};
+ghost use Rattle.std.specs.Prelude.{◌≡◌, ◌≢◌, ◌<◌, ◌≤◌, ℕ, List, false, length, IfErr, IfOk, IfSome, IsTrue, MatchOption, MatchResult, OnOk};
 ghost use Rattle.luks_head.specs.Header1.{key_bytes_of, HoldsSlots};
+ghost use Rattle.luks_edit.specs.EditFaults.{is_edit_failure};
 ghost use Rattle.luks1_edits.specs.Accepted.{HasOther, IsNewFault, IsNewFree, IsNewRefused};
 ghost use Rattle.luks1_edits.specs.Edited.{IsFree, IsInUse, IsLeastFree};
 ghost use Rattle.luks1_edits.specs.Refused.{keyslot_need};
@@ -39,7 +40,8 @@ pub(crate) fn is_last(header: &Luks1, n: u8) -> bool
 
 /// The least keyslot that is free.
 pub(crate) fn least_free(header: &Luks1) -> Option<u8>
-    ensures { (v : List ℕ) → HoldsSlots v header.now.slots
+    ensures numbered { IfSome result (λ n. n < 8) }
+    ensures least { (v : List ℕ) → HoldsSlots v header.now.slots
         → MatchOption result ((n : ℕ) → IsFree v n → ⊥) (IsLeastFree v) }
 {
     for n in 0..8 {
@@ -52,7 +54,10 @@ pub(crate) fn least_free(header: &Luks1) -> Option<u8>
 
 /// The keyslot to make: `to`, or else the least that is free. Refused by `SlotTaken`, `NoFreeSlot`.
 pub(crate) fn new_keyslot(header: &Luks1, to: Option<u8>) -> Result<u8, EditFault>
-    ensures { (v : List ℕ) → HoldsSlots v header.now.slots
+    ensures numbered { IfOk result (λ n. n < 8) }
+    ensures own { IfErr result (λ f. is_edit_failure f ≡ false) }
+    ensures memory { IfErr result (λ f. f ≢ EditFault.Memory) }
+    ensures new { (v : List ℕ) → HoldsSlots v header.now.slots
         → MatchResult result (IsNewFree v to) (IsNewFault v to) }
 {
     match to {
@@ -92,6 +97,8 @@ pub(crate) fn judge_new(
     random: &[u8],
 ) -> Result<(), EditFault>
     requires { n < 8 }
+    ensures own { IfErr result (λ f. is_edit_failure f ≡ false) }
+    ensures memory { IfErr result (λ f. f ≢ EditFault.Memory) }
     ensures many { OnOk result (1000 ≤ iterations) }
     ensures counted { (v : List ℕ) → HoldsSlots v header.now.slots
         → key_bytes_of v ≡ header.now.common.key_bytes
