@@ -1,3 +1,4 @@
+pub mod AcceptedFacts
 pub mod AnswerFacts
 pub mod ChangeFacts
 pub mod EditedFacts

@@ -61,7 +61,7 @@ later_rest k v e random low = record {
 
 -- ---- no fault stands before row k
 
-at_most : (k m : ℕ) → (m < k → ⊥) → k ≤ m
+pub at_most : (k m : ℕ) → (m < k → ⊥) → k ≤ m
 at_most k m not = elim (cases_lt m k) [ inl over ↦ absurd (not over) | inr under ↦ under ]
 
 rows_from : (k : ℕ) (v : List ℕ) (payload : Data) (e : Edit) (r : List ℕ) → Passed k v payload e r
@@ -115,7 +115,7 @@ first_of_row v payload e r f place x here = (
 
 -- ---- the keyslot that the edit opens
 
-opens_once : (e : Edit) (n m : ℕ) (p q : List ℕ) → OpensBy e n p → OpensBy e m q → (m ≡ n) × (q ≡ p)
+pub opens_once : (e : Edit) (n m : ℕ) (p q : List ℕ) → OpensBy e n p → OpensBy e m q → (m ≡ n) × (q ≡ p)
 opens_once (Add by_ old new to iterations) n m p q x y = (y.0 ∙ sym x.0, y.1 ∙ sym x.1)
 opens_once (Change slot old new iterations) n m p q x y = (y.0 ∙ sym x.0, y.1 ∙ sym x.1)
 opens_once (Remove slot passphrase) n m p q x y = (y.0 ∙ sym x.0, y.1 ∙ sym x.1)

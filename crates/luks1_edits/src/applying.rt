@@ -40,7 +40,10 @@ pub fn apply_luks1<D: Device>(
 {
     one_choice();
     no_fault_is_well_formed();
-    let header = accepted_header(header, data_, device.len())?;
+    let header = match accepted_header(header, data_, device.len()) {
+        Ok(header) => header,
+        Err(fault) => return Err(fault),
+    };
     match *edit {
         Edit::Add {
             by_,

@@ -32,7 +32,10 @@ pub fn needed_luks1(
 {
     one_choice();
     no_fault_is_well_formed();
-    let header = accepted_header(header, data_, total)?;
+    let header = match accepted_header(header, data_, total) {
+        Ok(header) => header,
+        Err(fault) => return Err(fault),
+    };
     match *edit {
         Edit::Add {
             by_,
