@@ -1,5 +1,5 @@
 -- What the verdict on a header says of the volume, and the edits that open no keyslot.
-use Rattle.std.proofs.Common.{◌≡◌, ◌≢◌, ℕ, ◌+◌, ◌<◌, ◌≤◌, List, [], length, subst, refl, sym, ap, ◌∙◌, arith, inl, inr, None, Option, Some, Result, Ok, Err, MatchResult}
+use Rattle.std.proofs.Common.{◌≡◌, ◌≢◌, ℕ, ◌<◌, ◌≤◌, List, length, subst, refl, sym, ◌∙◌, arith, None, Option, Some, Result, Ok, Err, MatchResult}
 use Rattle.luks_area.specs.First.{NotAfter, IsLeast}
 use Rattle.luks_area.specs.Ranges.{part}
 use Rattle.luks_head.specs.Selection.{Choice, luks1, Chosen}
@@ -8,17 +8,17 @@ use Rattle.luks_reading.specs.declared.report.Data.{Data}
 use Rattle.luks_reading.specs.Checked.{check_key, First, IsFault, IsFaultAs, IsLuks1Fault, IsLuks1Volume}
 use Rattle.luks_edit.specs.declared.edit.Done.{Done}
 use Rattle.luks_edit.specs.declared.edit.Edit.{Edit}
-use Rattle.luks_edit.specs.declared.edit.Edit.TheVariants.{Add, Change, Remove, Repair, Label}
+use Rattle.luks_edit.specs.declared.edit.Edit.TheVariants.{Repair}
 use Rattle.luks_edit.specs.declared.edit_fault.EditFault.{EditFault}
 use Rattle.luks_edit.specs.declared.edit_fault.EditFault.TheVariants as fault
 use Rattle.luks_edit.specs.Asked.{HasFewIterations, OpensBy}
-use Rattle.luks_edit.specs.EditFaults.{edit_key, edit_place, edit_row}
+use Rattle.luks_edit.specs.EditFaults.{edit_key, edit_row}
 use Rattle.luks1_edits.specs.Accepted.{IsHeaderOf, IsNewFault, IsNewNeed, IsNewNeedFault, IsUnaccepted}
 use Rattle.luks1_edits.specs.Edited.{IsInUse, IsNewKeyslot}
 use Rattle.luks1_edits.specs.Needed.{IsNeedFault1, TellsNeed1}
-use Rattle.luks1_edits.specs.Refused.{HasNoFree, IsAbsent, IsEditFault1, IsLabel, IsLast, IsTaken, IsTakenFor, IsUnrefused1, LacksFree, Need1, NeedsFor, Refusal1}
+use Rattle.luks1_edits.specs.Refused.{HasNoFree, IsAbsent, IsEditFault1, IsLabel, IsLast, IsTaken, IsTakenFor, LacksFree, Need1, NeedsFor, Refusal1}
 use Rattle.luks1_edits.specs.Replies.{EndsBy1, IsDone1, Replies1}
-use Rattle.luks1_edits.proofs.RowFacts.{Passed, PassedNew, PassedOpener, at_most, first_of_row, opens_once, unrefused}
+use Rattle.luks1_edits.proofs.RowFacts.{PassedOpener, at_most, first_of_row, opens_once, unrefused}
 
 -- ---- the verdict on the header is that on the volume
 

@@ -1,5 +1,5 @@
 -- A change: after a keyslot was made, another one is removed.
-use Rattle.std.proofs.Common.{◌≡◌, ◌≢◌, ℕ, ◌+◌, ◌*◌, ◌<◌, ◌≤◌, ◌⊎◌, List, length, replicate, take, drop, subst, refl, sym, ap, ◌∙◌, arith, lit≤, inl, inr}
+use Rattle.std.proofs.Common.{◌≡◌, ℕ, ◌*◌, ◌<◌, List, length, replicate, take, drop, subst, refl, sym, ap, ◌∙◌, arith, lit≤, inl, inr}
 use Rattle.luks_area.specs.declared.area.Area.{Area}
 use Rattle.luks_area.specs.Area.{Fit}
 use Rattle.luks_area.specs.Ranges.{part, IsAt, SameBut}
@@ -15,12 +15,12 @@ use Rattle.luks_reading.specs.Checked.{WellFormed}
 use Rattle.luks_reading.specs.Layout1.{Luks1Area}
 use Rattle.luks1_edits.specs.Edited.{HoldsKey, IsFreed, IsMade, IsRemoved, IsWiped}
 use Rattle.luks1_edits.specs.Kept.{AreKeyslots, HasSameKeyslot, IsEither}
-use Rattle.luks1_edits.specs.Leftovers.{IsFreedFirst, IsHalfRemoved}
+use Rattle.luks1_edits.specs.Leftovers.{IsFreedFirst}
 use Rattle.luks1_edits.specs.Places.{area_len, area_start, entry_place, IsOfKeyslot, IsOfKeyslots}
 use Rattle.luks1_edits.specs.Steps.{IsKeyslotAt, IsMadeIn}
 use Rattle.luks1_edits.proofs.AnswerFacts.{has_plan_moves, same_front}
 use Rattle.luks1_edits.proofs.HeaderFacts.{HeaderLaws, entry_is, front_moves, len_is, number_same, start_is, volume_of}
-use Rattle.luks1_edits.proofs.KeptFacts.{area_apart, common_apart, entry_apart, kept_common, same_keyslot}
+use Rattle.luks1_edits.proofs.KeptFacts.{area_apart, common_apart, entry_apart, same_keyslot}
 
 module _ (laws : HeaderLaws) (payload : Data) (v : List ℕ) (chosen : Chosen v luks1) (well : WellFormed v payload)
     (slot n : ℕ) (slot_lt : slot < 8) (n_lt : n < 8) (other : slot ≡ n → ⊥) (iterations : ℕ) (p key random u : List ℕ) (made : IsMadeIn v n iterations p key random u) where

@@ -1,8 +1,8 @@
 -- Where the keyslots of an accepted LUKS1 header stand.
-use Rattle.std.proofs.Common.{◌≡◌, ℕ, ◌+◌, ◌*◌, ◌<◌, ◌≤◌, List, length, slice_index_or, subst, refl, sym, ap, ◌∙◌, arith}
+use Rattle.std.proofs.Common.{◌≡◌, ℕ, ◌+◌, ◌*◌, ◌<◌, ◌≤◌, List, slice_index_or, subst, sym, ap, ◌∙◌, arith}
 use Rattle.luks_area.specs.declared.area.Area.{Area}
 use Rattle.luks_area.specs.declared.area.AreaName.TheVariants.{Slot}
-use Rattle.luks_area.specs.Ranges.{part, IsAt}
+use Rattle.luks_area.specs.Ranges.{IsAt}
 use Rattle.luks_area.specs.Sectors.{rounded_to_sectors}
 use Rattle.luks_head.specs.Bytes.{number_at}
 use Rattle.luks_head.specs.Header1.{entry, HoldsEntry, IsLuks1}
@@ -13,7 +13,7 @@ use Rattle.luks_reading.specs.Checked.{IsLuks1Volume}
 use Rattle.luks1_edits.specs.Accepted.{IsHeaderOf}
 use Rattle.luks1_edits.specs.Edited.{IsRemoved}
 use Rattle.luks1_edits.specs.Leftovers.{IsHalfRemoved}
-use Rattle.luks1_edits.specs.Places.{area_len, area_start, entry_place}
+use Rattle.luks1_edits.specs.Places.{area_len, area_start}
 use Rattle.luks1_edits.specs.Steps.{IsKeyslotAt}
 use Rattle.luks1_edits.proofs.HeaderFacts.{HeaderLaws, key_is, volume_of}
 use Rattle.luks1_edits.proofs.KeptFacts.{header_apart}

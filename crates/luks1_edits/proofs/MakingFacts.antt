@@ -1,5 +1,5 @@
 -- A keyslot that is made: its area is sealed, then its entry is written.
-use Rattle.std.proofs.Common.{◌≡◌, ℕ, ◌+◌, ◌-◌, ◌*◌, ◌<◌, ◌≤◌, List, length, take, drop, subst, refl, sym, ap, ◌∙◌, arith, lit≤, inl, inr, length-drop, slice_index_or, Result, Ok, Err, Some, None}
+use Rattle.std.proofs.Common.{◌≡◌, ℕ, ◌+◌, ◌-◌, ◌*◌, ◌<◌, ◌≤◌, List, length, take, drop, subst, refl, sym, ap, ◌∙◌, arith, inl, inr, length-drop}
 use Rattle.luks_area.specs.declared.area.AreaName.TheVariants.{Slot}
 use Rattle.luks_area.specs.Ranges.{part, IsAt, SameBut}
 use Rattle.luks_area.specs.RangeFacts.{part-same_but, same_but-then, same_but-wider}
@@ -20,7 +20,7 @@ use Rattle.luks_reading.specs.Checked.{IsLuks1Volume}
 use Rattle.luks_reading.specs.PlanAnswers.{IsOpenable}
 use Rattle.luks_reading.specs.Plans.{IsLuks1Plan}
 use Rattle.luks1_edits.specs.Accepted.{IsHeaderOf}
-use Rattle.luks1_edits.specs.Edited.{HoldsKey, IsMade}
+use Rattle.luks1_edits.specs.Edited.{IsMade}
 use Rattle.luks1_edits.specs.Kept.{AreKeyslots, IsEither}
 use Rattle.luks1_edits.specs.Places.{area_len, area_start, entry_place, IsOfKeyslots}
 use Rattle.luks1_edits.specs.Refused.{keyslot_need}

@@ -1,7 +1,7 @@
 -- What an edit that makes a keyslot replies, from what was judged of it.
-use Rattle.std.proofs.Common.{◌≡◌, ◌≢◌, ℕ, ◌+◌, ◌-◌, ◌*◌, ◌<◌, ◌≤◌, List, length, subst, refl, sym, ap, ◌∙◌, arith, inl, inr, Option, Some, None}
+use Rattle.std.proofs.Common.{◌≡◌, ℕ, ◌<◌, ◌≤◌, List, length, subst, refl, sym, ap, ◌∙◌, arith, inr, Option, Some, None}
 use Rattle.luks_area.specs.Ranges.{part, SameBut}
-use Rattle.luks_head.specs.Header1.{active_word, disabled_word, enabled_word, entry, entry_stripes, key_bytes_of}
+use Rattle.luks_head.specs.Header1.{active_word, disabled_word, enabled_word, entry}
 use Rattle.luks_head.specs.Selection.{luks1}
 use Rattle.luks_slot.specs.declared.fault.SlotFault.{SlotFault}
 use Rattle.luks_reading.specs.declared.check_fault.CheckFault.{CheckFault}
@@ -15,7 +15,7 @@ use Rattle.luks_edit.specs.declared.edit_fault.EditFault.{EditFault}
 use Rattle.luks_edit.specs.declared.edit_fault.EditFault.TheVariants as fault
 use Rattle.luks_edit.specs.Asked.{HasFewIterations, OpensBy}
 use Rattle.luks1_edits.specs.Accepted.{IsHeaderOf, IsNewFault, IsNewFree, IsNewRefused, IsOpenedBy}
-use Rattle.luks1_edits.specs.Edited.{IsFree, IsInUse, IsLeastFree, IsNewKeyslot}
+use Rattle.luks1_edits.specs.Edited.{IsNewKeyslot}
 use Rattle.luks1_edits.specs.Kept.{IsEither}
 use Rattle.luks1_edits.specs.Leftovers.{IsTorn1}
 use Rattle.luks1_edits.specs.Places.{IsOfKeyslots}
@@ -26,7 +26,7 @@ use Rattle.luks1_edits.proofs.AnswerFacts.{SameFront}
 use Rattle.luks1_edits.proofs.EditedFacts.{new_once}
 use Rattle.luks1_edits.proofs.HeaderFacts.{HeaderLaws}
 use Rattle.luks1_edits.proofs.MadeKeyslotFacts.{same_refusal, same_terms}
-use Rattle.luks1_edits.proofs.RowFacts.{Passed, PassedNew, first_of_row, later_rest, new_ends, opener_passed, unrefused}
+use Rattle.luks1_edits.proofs.RowFacts.{PassedNew, first_of_row, new_ends, opener_passed, unrefused}
 
 -- the edit opens the keyslot `opener` by the passphrase, and makes the keyslot `to`, or the least free
 pub record IsMaking (v : List ℕ) (e : Edit) (opener : ℕ) (p : List ℕ) (to : Option ℕ) (iterations : ℕ) : Type 0 where

@@ -1,10 +1,10 @@
 -- The keyslot that an edit opens: what opening it says of a well formed LUKS1 volume.
-use Rattle.std.proofs.Common.{◌≡◌, ℕ, ◌+◌, ◌<◌, ◌≤◌, List, length, subst, refl, sym, ap, ◌∙◌, arith, inl, inr, Option, Some, None, slice_index_or}
+use Rattle.std.proofs.Common.{◌≡◌, ℕ, List, length, subst, sym, ap, ◌∙◌, arith, inl, inr, Option, Some, None, slice_index_or}
 use Rattle.luks_area.specs.declared.area.AreaName.TheVariants as area_name
 use Rattle.luks_area.specs.Ranges.{part}
 use Rattle.luks_head.specs.Faults.{IsLuks1Fault as IsLuks1HeadFault}
 use Rattle.luks_head.specs.Header1.{active_word, disabled_word, enabled_word, entry, HoldsSlots, IsEntry}
-use Rattle.luks_head.specs.Selection.{luks1, luks2, Chosen}
+use Rattle.luks_head.specs.Selection.{luks1, luks2}
 use Rattle.luks_head.specs.declared.fault.HeadFault.{HeadFault}
 use Rattle.luks_head.specs.declared.luks1.Luks1Slot.{Luks1Slot}
 use Rattle.luks_reading.specs.declared.open_fault.OpenFault.{OpenFault}

@@ -1,5 +1,5 @@
 -- What a removal replies, from what was judged of it.
-use Rattle.std.proofs.Common.{◌≡◌, ◌≢◌, ℕ, ◌<◌, List, length, refl, sym, ◌∙◌, arith, inl, inr, None}
+use Rattle.std.proofs.Common.{◌≡◌, ◌≢◌, ℕ, List, length, refl, sym, ◌∙◌, arith, inr, None}
 use Rattle.luks_reading.specs.declared.check_fault.CheckFault.{CheckFault}
 use Rattle.luks_reading.specs.declared.report.Data.{Data}
 use Rattle.luks_reading.specs.Checked.{IsFault}
@@ -60,8 +60,12 @@ module _ (v : List ℕ) (payload : Data) (e : Edit) (r : List ℕ) (accepted : (
         accepted = accepted;
         opener = opener_passed v payload e r accepted slot p is.asked key opened 17;
         new = record { untaken = λ _. is.untaken; some_free = λ _. is.some_free };
-        rest = record { not_last = λ _. not_last; many = λ _. is.many; no_label = λ _. is.no_label;
-          counted = λ _ bad. bad.other (none ∙ sym (is.need_only bad.need bad.is)) };
+        rest = record {
+          not_last = λ _. not_last;
+          many = λ _. is.many;
+          no_label = λ _. is.no_label;
+          counted = λ _ bad. bad.other (none ∙ sym (is.need_only bad.need bad.is));
+        };
       }
 
       pub removal_done : (w : List ℕ) → IsRemoved v slot w → IsDone1 payload v e r (record { slot = None }) w

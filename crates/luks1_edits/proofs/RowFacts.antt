@@ -1,22 +1,22 @@
 -- The first refusal of an edit, row by row.
-use Rattle.std.proofs.Common.{◌≡◌, ◌≢◌, ℕ, ◌+◌, ◌<◌, ◌≤◌, ◌⊎◌, List, [], ◌∷◌, length, subst, refl, sym, ap, ◌∙◌, arith, inl, inr, Option, Some, None}
+use Rattle.std.proofs.Common.{◌≡◌, ℕ, ◌<◌, ◌≤◌, List, [], ◌∷◌, subst, refl, sym, ◌∙◌, arith, inl, inr, Option, Some, None}
 use Rattle.std.proofs.lemmas.Bool.{cases_lt}
-use Rattle.luks_area.specs.First.{NotAfter, IsLeast}
+use Rattle.luks_area.specs.First.{NotAfter}
 use Rattle.luks_slot.specs.declared.fault.SlotFault.{SlotFault}
 use Rattle.luks_reading.specs.declared.check_fault.CheckFault.{CheckFault}
 use Rattle.luks_reading.specs.declared.open_fault.OpenFault.TheVariants as opening
 use Rattle.luks_reading.specs.declared.report.Data.{Data}
 use Rattle.luks_reading.specs.Answer.{Answer, no_key, refused, slot_row}
-use Rattle.luks_reading.specs.Checked.{First, IsFault}
+use Rattle.luks_reading.specs.Checked.{IsFault}
 use Rattle.luks_edit.specs.declared.edit.Edit.{Edit}
 use Rattle.luks_edit.specs.declared.edit.Edit.TheVariants.{Add, Change, Remove, Repair, Label}
 use Rattle.luks_edit.specs.declared.edit_fault.EditFault.{EditFault}
 use Rattle.luks_edit.specs.declared.edit_fault.EditFault.TheVariants as fault
 use Rattle.luks_edit.specs.Asked.{HasFewIterations, OpensBy}
-use Rattle.luks_edit.specs.EditFaults.{edit_key, edit_place, edit_row}
+use Rattle.luks_edit.specs.EditFaults.{edit_place, edit_row}
 use Rattle.luks_edit.specs.Opener.{IsLocked, IsShut}
 use Rattle.luks1_edits.specs.Accepted.{IsNewFault, IsOpenedBy, IsUnopened}
-use Rattle.luks1_edits.specs.Edited.{IsFree, IsInUse}
+use Rattle.luks1_edits.specs.Edited.{IsInUse}
 use Rattle.luks1_edits.specs.Refused.{HasNoFree, IsAbsent, IsEditFault1, IsLabel, IsLast, IsMiscounted, IsTaken, IsTakenFor, IsUnrefused1, LacksFree, Refusal1}
 use Rattle.luks1_edits.specs.Replies.{EndsBy1}
 

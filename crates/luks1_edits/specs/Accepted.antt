@@ -2,7 +2,7 @@
 use Rattle.std.specs.Prelude.{◌≡◌, ◌≢◌, ℕ, ◌<◌, ◌≤◌, List, length, Option, ⊤}
 use Rattle.luks_area.specs.First.{IsLeast}
 use Rattle.luks_area.specs.Ranges.{part}
-use Rattle.luks_head.specs.Header1.{active_word, enabled_word, entry, luks1_size, HoldsSlots, IsLuks1}
+use Rattle.luks_head.specs.Header1.{luks1_size, IsLuks1}
 use Rattle.luks_head.specs.Selection.{luks1, Chosen}
 use Rattle.luks_head.specs.declared.luks1.Luks1.{Luks1}
 use Rattle.luks_area.specs.declared.area.AreaFault.TheVariants as areas

@@ -1,5 +1,5 @@
 -- What the steps of an edit of a LUKS1 volume leave, each of which writes one range.
-use Rattle.std.specs.Prelude.{◌≡◌, ℕ, ◌⊎◌, List, drop, take, ⊤, Some}
+use Rattle.std.specs.Prelude.{◌≡◌, ℕ, List, drop, take, ⊤, Some}
 use Rattle.luks_area.specs.declared.area.Area.{Area}
 use Rattle.luks_area.specs.Ranges.{IsAt, SameBut}
 use Rattle.luks_head.specs.Header1.{entry, entry_size, HoldsEntry}
@@ -25,7 +25,7 @@ pub record IsKeyslotAt (v : List ℕ) (n : ℕ) (s : Luks1Slot) (a : Area) : Typ
 -- the keyslot `n` was made, in which the passphrase opens the key, and nothing else changed
 pub record IsMadeIn
     (v : List ℕ) (n iterations : ℕ) (passphrase key random w : List ℕ)
-  : Type 0 where
+    : Type 0 where
   pub rest : SameBut (IsOfKeyslots v (IsEither n n)) v w
   pub made : IsMade (entry v n) (entry w n) iterations (take 32 random)
   pub holds : HoldsKey w n passphrase key (drop 32 random)

@@ -16,7 +16,9 @@ use crate::freeing::entry_bytes;
 use crate::steps::{seal_area, write_entry};
 use luks_area::Device;
 use luks_edit::EditFault;
-use luks_head::{Luks1, Luks1Slot, SlotState, luks1_is_first_bytes, luks1_without_faults, one_choice};
+use luks_head::{
+    Luks1, Luks1Slot, SlotState, luks1_is_first_bytes, luks1_without_faults, one_choice,
+};
 use luks_reading::luks1_plan;
 use luks_slot::{Key, SlotFault};
 

@@ -15,14 +15,11 @@ use luks_slot::{Key, SlotFault, SlotPlan, seal, wipe};
 
 /// Where the first entry stands, and the bytes of each.
 const ENTRIES: u64 = 208;
+
 const ENTRY_BYTES: u64 = 48;
 
 /// Writes the 48-byte entry of the keyslot `n`, and flushes.
-pub(crate) fn write_entry<D: Device>(
-    device: &mut D,
-    n: u8,
-    bytes: &[u8],
-) -> Result<(), DeviceFault>
+pub(crate) fn write_entry<D: Device>(device: &mut D, n: u8, bytes: &[u8]) -> Result<(), DeviceFault>
     requires numbered { n < 8 }
     requires bytes { length bytes.now ≡ entry_size }
     requires within { luks1_size ≤ D.size device.old }

@@ -1,4 +1,4 @@
-use Rattle.std.proofs.Common.{◌≡◌, ◌+◌, ◌≤◌, ◌<◌, ℕ, List, None, Some, refl, subst, sym, arith, inl, inr}
+use Rattle.std.proofs.Common.{◌≡◌, refl}
 use Rattle.std.proofs.lemmas.Result.{err_from_is_err_and}
 use Rattle.luks_area.specs.Ranges.{SameBut}
 use Rattle.luks_head.specs.Header1.{HoldsSlots}
@@ -6,17 +6,13 @@ use Rattle.luks_head.specs.Bytes.{number_at}
 use Rattle.luks_edit.specs.declared.edit.Edit.{Edit}
 use Rattle.luks_edit.specs.declared.edit.Edit.TheVariants.{Add}
 use Rattle.luks1_edits.specs.Accepted.{IsNewFree, IsOpenedBy}
-use Rattle.luks1_edits.specs.Edited.{IsInUse, IsRemoved}
 use Rattle.luks1_edits.specs.Kept.{IsEither}
-use Rattle.luks1_edits.specs.Leftovers.{IsHalfRemoved}
 use Rattle.luks1_edits.specs.Places.{IsOfKeyslots}
 use Rattle.luks1_edits.specs.Steps.{IsMadeIn}
-use Rattle.luks1_edits.proofs.ChangeFacts.{both_rest, freed_after, order_before, still_at, still_holds, still_made, wiped_after}
 use Rattle.luks1_edits.proofs.HeaderFacts.{HeaderLaws}
-use Rattle.luks1_edits.proofs.KeptFacts.{header_inside}
-use Rattle.luks1_edits.proofs.KeyslotPlaces.{key_bytes_in, keyslot_at, keyslot_inside}
+use Rattle.luks1_edits.proofs.KeyslotPlaces.{key_bytes_in}
 use Rattle.luks1_edits.proofs.NewKeyslotFacts.{header_of_same, IsMaking, made_same, making_unrefused, new_refused, none_made, rest_same, unmade_ends}
-use Rattle.luks1_edits.proofs.OpenerFacts.{slots_in, used_or_free}
+use Rattle.luks1_edits.proofs.OpenerFacts.{slots_in}
 use Rattle.luks1_edits.proofs.RowFacts.{unopened_ends}
 use Rattle.luks1_edits.proofs.adding.add.Goals as goal
 
@@ -40,8 +36,17 @@ returns-in_err-n-clause-replies g c = λ tells x.
     let e : Edit = Add c.args.by_ c.args.old c.args.new c.args.to c.args.iterations in
     let accepted = (c.no_fault_is_well_formed.ensures v payload).0 x.well in
     let is : IsMaking v e c.args.by_ c.args.old.now c.args.to c.args.iterations = record {
-      asked = (refl, refl); taken_is = λ y. y; taken_only = λ y. y; free_is = λ y. y; free_only = λ y. y; not_last = λ y. y; no_label = λ y. y;
-      few_is = λ y. y; few_only = λ y. y; need = λ k y. y; need_only = λ k y. y;
+      asked = (refl, refl);
+      taken_is = λ y. y;
+      taken_only = λ y. y;
+      free_is = λ y. y;
+      free_only = λ y. y;
+      not_last = λ y. y;
+      no_label = λ y. y;
+      few_is = λ y. y;
+      few_only = λ y. y;
+      need = λ k y. y;
+      need_only = λ k y. y;
     } in
     let opened : IsOpenedBy v c.args.by_ c.args.old.now c.in_ok-key.key = c.in_ok-key.ensures.opened tells x in
     let slots : HoldsSlots v c.args.header.now.fields.slots = slots_in h payload v c.args.header.now.fields.slots x c.requires.accepted.fields.slots in
@@ -58,8 +63,17 @@ returns-in_err-judge_new-clause-replies g c = λ tells x.
     let e : Edit = Add c.args.by_ c.args.old c.args.new c.args.to c.args.iterations in
     let accepted = (c.no_fault_is_well_formed.ensures v payload).0 x.well in
     let is : IsMaking v e c.args.by_ c.args.old.now c.args.to c.args.iterations = record {
-      asked = (refl, refl); taken_is = λ y. y; taken_only = λ y. y; free_is = λ y. y; free_only = λ y. y; not_last = λ y. y; no_label = λ y. y;
-      few_is = λ y. y; few_only = λ y. y; need = λ k y. y; need_only = λ k y. y;
+      asked = (refl, refl);
+      taken_is = λ y. y;
+      taken_only = λ y. y;
+      free_is = λ y. y;
+      free_only = λ y. y;
+      not_last = λ y. y;
+      no_label = λ y. y;
+      few_is = λ y. y;
+      few_only = λ y. y;
+      need = λ k y. y;
+      need_only = λ k y. y;
     } in
     let opened : IsOpenedBy v c.args.by_ c.args.old.now c.in_ok-key.key = c.in_ok-key.ensures.opened tells x in
     let slots : HoldsSlots v c.args.header.now.fields.slots = slots_in h payload v c.args.header.now.fields.slots x c.requires.accepted.fields.slots in
@@ -71,7 +85,7 @@ returns-in_err-judge_new-clause-replies g c = λ tells x.
     (new_refused v payload e c.args.random.now accepted c.args.by_ c.args.old.now c.in_ok-key.key c.args.to c.args.iterations is opened c.in_ok-n.n new (g.D.Device.bytes c.unlock.new.device) c.in_err-judge_new.field-0.0 same (c.in_err-judge_new.ensures.refused v slots key_bytes))
 
 pub make_keyslot-requires-clause-random_length : goal.make_keyslot-requires-clause-random_length
-make_keyslot-requires-clause-random_length g c = 
+make_keyslot-requires-clause-random_length g c =
     c.in_ok-judge_new.ensures.counted c.args.header.now.bytes.now c.requires.accepted.fields.slots c.requires.accepted.fields.common.fields.key_bytes
 
 pub returns-in_err-make_keyslot-clause-replies : goal.returns-in_err-make_keyslot-clause-replies
@@ -82,8 +96,17 @@ returns-in_err-make_keyslot-clause-replies g c = λ tells x.
     let e : Edit = Add c.args.by_ c.args.old c.args.new c.args.to c.args.iterations in
     let accepted = (c.no_fault_is_well_formed.ensures v payload).0 x.well in
     let is : IsMaking v e c.args.by_ c.args.old.now c.args.to c.args.iterations = record {
-      asked = (refl, refl); taken_is = λ y. y; taken_only = λ y. y; free_is = λ y. y; free_only = λ y. y; not_last = λ y. y; no_label = λ y. y;
-      few_is = λ y. y; few_only = λ y. y; need = λ k y. y; need_only = λ k y. y;
+      asked = (refl, refl);
+      taken_is = λ y. y;
+      taken_only = λ y. y;
+      free_is = λ y. y;
+      free_only = λ y. y;
+      not_last = λ y. y;
+      no_label = λ y. y;
+      few_is = λ y. y;
+      few_only = λ y. y;
+      need = λ k y. y;
+      need_only = λ k y. y;
     } in
     let opened : IsOpenedBy v c.args.by_ c.args.old.now c.in_ok-key.key = c.in_ok-key.ensures.opened tells x in
     let slots : HoldsSlots v c.args.header.now.fields.slots = slots_in h payload v c.args.header.now.fields.slots x c.requires.accepted.fields.slots in
@@ -106,8 +129,17 @@ returns-clause-replies g c = λ tells x.
     let e : Edit = Add c.args.by_ c.args.old c.args.new c.args.to c.args.iterations in
     let accepted = (c.no_fault_is_well_formed.ensures v payload).0 x.well in
     let is : IsMaking v e c.args.by_ c.args.old.now c.args.to c.args.iterations = record {
-      asked = (refl, refl); taken_is = λ y. y; taken_only = λ y. y; free_is = λ y. y; free_only = λ y. y; not_last = λ y. y; no_label = λ y. y;
-      few_is = λ y. y; few_only = λ y. y; need = λ k y. y; need_only = λ k y. y;
+      asked = (refl, refl);
+      taken_is = λ y. y;
+      taken_only = λ y. y;
+      free_is = λ y. y;
+      free_only = λ y. y;
+      not_last = λ y. y;
+      no_label = λ y. y;
+      few_is = λ y. y;
+      few_only = λ y. y;
+      need = λ k y. y;
+      need_only = λ k y. y;
     } in
     let opened : IsOpenedBy v c.args.by_ c.args.old.now c.in_ok-key.key = c.in_ok-key.ensures.opened tells x in
     let slots : HoldsSlots v c.args.header.now.fields.slots = slots_in h payload v c.args.header.now.fields.slots x c.requires.accepted.fields.slots in
@@ -122,4 +154,3 @@ returns-clause-replies g c = λ tells x.
       after = record { slot = c.in_ok-n.n; is_new = new.is_new; key = c.in_ok-key.key; opened = opened.opened; rest = made.rest; made = made.made; holds = made.holds };
       told = new.is_new;
     }
-

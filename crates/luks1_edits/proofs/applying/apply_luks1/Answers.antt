@@ -1,6 +1,6 @@
-use Rattle.std.proofs.Common.{◌≡◌, ℕ, List, length, refl, subst, sym, ◌∙◌}
+use Rattle.std.proofs.Common.{◌≡◌, length, refl, subst, sym, ◌∙◌}
 use Rattle.luks_edit.specs.declared.edit.Edit.{Edit}
-use Rattle.luks_edit.specs.declared.edit.Edit.TheVariants.{Add, Change, Remove, Repair, Label}
+use Rattle.luks_edit.specs.declared.edit.Edit.TheVariants.{Add, Change, Remove, Label}
 use Rattle.luks_edit.specs.declared.edit_fault.EditFault.TheVariants as fault
 use Rattle.luks_reading.specs.Checked.{WellFormed}
 use Rattle.luks1_edits.specs.Accepted.{IsHeaderOf}
@@ -66,6 +66,8 @@ returns-in-Label-clause-replies g c = λ tells is.
     let header : IsHeaderOf c.in-Ok.header.bytes.now c.in-Ok.header.data_ v =
     header_of c.in-Ok.header.bytes.now c.args.header.now c.in-Ok.header.data_ c.args.data_ c.len.result v c.in-Ok.ensures.bytes c.in-Ok.ensures.payload is.0 is.1 size c.in-Ok.ensures.accepted.volume in
     let well : WellFormed v c.args.data_ = subst (λ q. WellFormed v q) c.in-Ok.ensures.payload header.well in
-    let accepted = (c.no_fault_is_well_formed.ensures v c.args.data_).0 well in
-    (subst (λ x. Refusal1 v c.args.data_ x c.args.random.now fault.BadLabel) (sym c.in-Label.is)
-    (label_refused v c.args.data_ c.args.random.now accepted (Label c.in-Label.text) (λ n p asked. asked) (λ bad. bad) (λ bad. bad) (λ bad. bad) (λ bad. bad) tt), refl)
+    let accepted = (c.no_fault_is_well_formed.ensures v c.args.data_).0 well in (
+      subst (λ x. Refusal1 v c.args.data_ x c.args.random.now fault.BadLabel) (sym c.in-Label.is)
+          (label_refused v c.args.data_ c.args.random.now accepted (Label c.in-Label.text) (λ n p asked. asked) (λ bad. bad) (λ bad. bad) (λ bad. bad) (λ bad. bad) tt),
+      refl,
+    )

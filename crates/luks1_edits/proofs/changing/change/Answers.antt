@@ -1,4 +1,4 @@
-use Rattle.std.proofs.Common.{◌≡◌, ◌+◌, ◌≤◌, ◌<◌, ℕ, List, None, Some, refl, subst, sym, arith, inl, inr}
+use Rattle.std.proofs.Common.{◌≡◌, None, refl, subst, arith, inl, inr}
 use Rattle.std.proofs.lemmas.Result.{err_from_is_err_and}
 use Rattle.luks_area.specs.Ranges.{SameBut}
 use Rattle.luks_head.specs.Header1.{HoldsSlots}
@@ -40,8 +40,17 @@ returns-in_err-n-clause-replies g c = λ tells x.
     let e : Edit = Change c.args.slot c.args.old c.args.new c.args.iterations in
     let accepted = (c.no_fault_is_well_formed.ensures v payload).0 x.well in
     let is : IsMaking v e c.args.slot c.args.old.now None c.args.iterations = record {
-      asked = (refl, refl); taken_is = λ y. y; taken_only = λ y. y; free_is = λ y. y; free_only = λ y. y; not_last = λ y. y; no_label = λ y. y;
-      few_is = λ y. y; few_only = λ y. y; need = λ k y. y; need_only = λ k y. y;
+      asked = (refl, refl);
+      taken_is = λ y. y;
+      taken_only = λ y. y;
+      free_is = λ y. y;
+      free_only = λ y. y;
+      not_last = λ y. y;
+      no_label = λ y. y;
+      few_is = λ y. y;
+      few_only = λ y. y;
+      need = λ k y. y;
+      need_only = λ k y. y;
     } in
     let opened : IsOpenedBy v c.args.slot c.args.old.now c.in_ok-key.key = c.in_ok-key.ensures.opened tells x in
     let slots : HoldsSlots v c.args.header.now.fields.slots = slots_in h payload v c.args.header.now.fields.slots x c.requires.accepted.fields.slots in
@@ -58,8 +67,17 @@ returns-in_err-judge_new-clause-replies g c = λ tells x.
     let e : Edit = Change c.args.slot c.args.old c.args.new c.args.iterations in
     let accepted = (c.no_fault_is_well_formed.ensures v payload).0 x.well in
     let is : IsMaking v e c.args.slot c.args.old.now None c.args.iterations = record {
-      asked = (refl, refl); taken_is = λ y. y; taken_only = λ y. y; free_is = λ y. y; free_only = λ y. y; not_last = λ y. y; no_label = λ y. y;
-      few_is = λ y. y; few_only = λ y. y; need = λ k y. y; need_only = λ k y. y;
+      asked = (refl, refl);
+      taken_is = λ y. y;
+      taken_only = λ y. y;
+      free_is = λ y. y;
+      free_only = λ y. y;
+      not_last = λ y. y;
+      no_label = λ y. y;
+      few_is = λ y. y;
+      few_only = λ y. y;
+      need = λ k y. y;
+      need_only = λ k y. y;
     } in
     let opened : IsOpenedBy v c.args.slot c.args.old.now c.in_ok-key.key = c.in_ok-key.ensures.opened tells x in
     let slots : HoldsSlots v c.args.header.now.fields.slots = slots_in h payload v c.args.header.now.fields.slots x c.requires.accepted.fields.slots in
@@ -71,7 +89,7 @@ returns-in_err-judge_new-clause-replies g c = λ tells x.
     (new_refused v payload e c.args.random.now accepted c.args.slot c.args.old.now c.in_ok-key.key None c.args.iterations is opened c.in_ok-n.n new (g.D.Device.bytes c.unlock.new.device) c.in_err-judge_new.field-0.0 same (c.in_err-judge_new.ensures.refused v slots key_bytes))
 
 pub make_keyslot-requires-clause-random_length : goal.make_keyslot-requires-clause-random_length
-make_keyslot-requires-clause-random_length g c = 
+make_keyslot-requires-clause-random_length g c =
     c.in_ok-judge_new.ensures.counted c.args.header.now.bytes.now c.requires.accepted.fields.slots c.requires.accepted.fields.common.fields.key_bytes
 
 pub returns-in_err-make_keyslot-clause-replies : goal.returns-in_err-make_keyslot-clause-replies
@@ -82,8 +100,17 @@ returns-in_err-make_keyslot-clause-replies g c = λ tells x.
     let e : Edit = Change c.args.slot c.args.old c.args.new c.args.iterations in
     let accepted = (c.no_fault_is_well_formed.ensures v payload).0 x.well in
     let is : IsMaking v e c.args.slot c.args.old.now None c.args.iterations = record {
-      asked = (refl, refl); taken_is = λ y. y; taken_only = λ y. y; free_is = λ y. y; free_only = λ y. y; not_last = λ y. y; no_label = λ y. y;
-      few_is = λ y. y; few_only = λ y. y; need = λ k y. y; need_only = λ k y. y;
+      asked = (refl, refl);
+      taken_is = λ y. y;
+      taken_only = λ y. y;
+      free_is = λ y. y;
+      free_only = λ y. y;
+      not_last = λ y. y;
+      no_label = λ y. y;
+      few_is = λ y. y;
+      few_only = λ y. y;
+      need = λ k y. y;
+      need_only = λ k y. y;
     } in
     let opened : IsOpenedBy v c.args.slot c.args.old.now c.in_ok-key.key = c.in_ok-key.ensures.opened tells x in
     let slots : HoldsSlots v c.args.header.now.fields.slots = slots_in h payload v c.args.header.now.fields.slots x c.requires.accepted.fields.slots in
@@ -99,14 +126,14 @@ returns-in_err-make_keyslot-clause-replies g c = λ tells x.
     (inl (record { slot = c.in_ok-n.n; is = new.is_new; rest = rest })) c.in_err-make_keyslot.ensures.fault)
 
 pub free_keyslot-requires-clause-within : goal.free_keyslot-requires-clause-within
-free_keyslot-requires-clause-within g c = 
+free_keyslot-requires-clause-within g c =
     let size = c.unlock.ensures.unchanged.size in
     let again = c.make_keyslot.ensures.size in
     let long = header_inside c.args.header.now.bytes.now c.args.header.now.data_ (g.D.Device.size c.args.device.now) c.requires.accepted.volume in
     omega (arith, size, again, long)
 
 pub free_keyslot-requires-clause-inside : goal.free_keyslot-requires-clause-inside
-free_keyslot-requires-clause-inside g c = 
+free_keyslot-requires-clause-inside g c =
     let size = c.unlock.ensures.unchanged.size in
     let again = c.make_keyslot.ensures.size in
     let inside = keyslot_inside c.args.header.now.bytes.now c.args.header.now.fields c.args.header.now.data_ (g.D.Device.size c.args.device.now) c.args.slot _ c.luks1_area-area.result
@@ -121,8 +148,17 @@ returns-in-Ok-clause-replies g c = λ tells x.
     let e : Edit = Change c.args.slot c.args.old c.args.new c.args.iterations in
     let accepted = (c.no_fault_is_well_formed.ensures v payload).0 x.well in
     let is : IsMaking v e c.args.slot c.args.old.now None c.args.iterations = record {
-      asked = (refl, refl); taken_is = λ y. y; taken_only = λ y. y; free_is = λ y. y; free_only = λ y. y; not_last = λ y. y; no_label = λ y. y;
-      few_is = λ y. y; few_only = λ y. y; need = λ k y. y; need_only = λ k y. y;
+      asked = (refl, refl);
+      taken_is = λ y. y;
+      taken_only = λ y. y;
+      free_is = λ y. y;
+      free_only = λ y. y;
+      not_last = λ y. y;
+      no_label = λ y. y;
+      few_is = λ y. y;
+      few_only = λ y. y;
+      need = λ k y. y;
+      need_only = λ k y. y;
     } in
     let opened : IsOpenedBy v c.args.slot c.args.old.now c.in_ok-key.key = c.in_ok-key.ensures.opened tells x in
     let slots : HoldsSlots v c.args.header.now.fields.slots = slots_in h payload v c.args.header.now.fields.slots x c.requires.accepted.fields.slots in
@@ -162,8 +198,17 @@ returns-in-Err-clause-replies g c = λ tells x.
     let e : Edit = Change c.args.slot c.args.old c.args.new c.args.iterations in
     let accepted = (c.no_fault_is_well_formed.ensures v payload).0 x.well in
     let is : IsMaking v e c.args.slot c.args.old.now None c.args.iterations = record {
-      asked = (refl, refl); taken_is = λ y. y; taken_only = λ y. y; free_is = λ y. y; free_only = λ y. y; not_last = λ y. y; no_label = λ y. y;
-      few_is = λ y. y; few_only = λ y. y; need = λ k y. y; need_only = λ k y. y;
+      asked = (refl, refl);
+      taken_is = λ y. y;
+      taken_only = λ y. y;
+      free_is = λ y. y;
+      free_only = λ y. y;
+      not_last = λ y. y;
+      no_label = λ y. y;
+      few_is = λ y. y;
+      few_only = λ y. y;
+      need = λ k y. y;
+      need_only = λ k y. y;
     } in
     let opened : IsOpenedBy v c.args.slot c.args.old.now c.in_ok-key.key = c.in_ok-key.ensures.opened tells x in
     let slots : HoldsSlots v c.args.header.now.fields.slots = slots_in h payload v c.args.header.now.fields.slots x c.requires.accepted.fields.slots in
@@ -179,15 +224,16 @@ returns-in-Err-clause-replies g c = λ tells x.
     let at = keyslot_at laws h c.args.header.now.fields payload v c.args.slot _ c.luks1_area-area.result x c.requires.accepted.fields
     c.in_ok-key.ensures.numbered c.luks1_area-area.ensures.start c.luks1_area-area.ensures.len in
     let half : IsHalfRemoved u c.args.slot w = c.in-Err.ensures.torn tells (still_at laws payload v x.chosen x.well c.args.slot c.in_ok-n.n c.in_ok-key.ensures.numbered c.in_ok-n.ensures.numbered other c.args.iterations c.args.new.now c.in_ok-key.key c.args.random.now u made at) in
-    inr (making_unrefused v payload e c.args.random.now accepted c.args.slot c.args.old.now c.in_ok-key.key None c.args.iterations is opened c.in_ok-n.n new c.in_ok-judge_new.ensures.many (c.in_ok-judge_new.ensures.counted v slots key_bytes),
-    inr (record {
-      fresh = c.in_ok-n.n;
-      is_free = new.is_new;
-      key = c.in_ok-key.key;
-      opened = opened.opened;
-      rest = both_rest laws payload v x.chosen x.well c.args.slot c.in_ok-n.n c.in_ok-key.ensures.numbered c.in_ok-n.ensures.numbered other c.args.iterations c.args.new.now c.in_ok-key.key c.args.random.now u made w half.rest;
-      made = still_made laws payload v x.chosen x.well c.args.slot c.in_ok-n.n c.in_ok-key.ensures.numbered c.in_ok-n.ensures.numbered other c.args.iterations c.args.new.now c.in_ok-key.key c.args.random.now u made w half.rest;
-      holds = still_holds laws payload v x.chosen x.well c.args.slot c.in_ok-n.n c.in_ok-key.ensures.numbered c.in_ok-n.ensures.numbered other c.args.iterations c.args.new.now c.in_ok-key.key c.args.random.now u made w half.rest;
-      order = order_before laws payload v x.chosen x.well c.args.slot c.in_ok-n.n c.in_ok-key.ensures.numbered c.in_ok-n.ensures.numbered other c.args.iterations c.args.new.now c.in_ok-key.key c.args.random.now u made w half.rest half.order;
-    }))
-
+    inr (
+      making_unrefused v payload e c.args.random.now accepted c.args.slot c.args.old.now c.in_ok-key.key None c.args.iterations is opened c.in_ok-n.n new c.in_ok-judge_new.ensures.many (c.in_ok-judge_new.ensures.counted v slots key_bytes),
+      inr (record {
+        fresh = c.in_ok-n.n;
+        is_free = new.is_new;
+        key = c.in_ok-key.key;
+        opened = opened.opened;
+        rest = both_rest laws payload v x.chosen x.well c.args.slot c.in_ok-n.n c.in_ok-key.ensures.numbered c.in_ok-n.ensures.numbered other c.args.iterations c.args.new.now c.in_ok-key.key c.args.random.now u made w half.rest;
+        made = still_made laws payload v x.chosen x.well c.args.slot c.in_ok-n.n c.in_ok-key.ensures.numbered c.in_ok-n.ensures.numbered other c.args.iterations c.args.new.now c.in_ok-key.key c.args.random.now u made w half.rest;
+        holds = still_holds laws payload v x.chosen x.well c.args.slot c.in_ok-n.n c.in_ok-key.ensures.numbered c.in_ok-n.ensures.numbered other c.args.iterations c.args.new.now c.in_ok-key.key c.args.random.now u made w half.rest;
+        order = order_before laws payload v x.chosen x.well c.args.slot c.in_ok-n.n c.in_ok-key.ensures.numbered c.in_ok-n.ensures.numbered other c.args.iterations c.args.new.now c.in_ok-key.key c.args.random.now u made w half.rest half.order;
+      }),
+    )

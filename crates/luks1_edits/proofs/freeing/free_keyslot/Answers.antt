@@ -1,4 +1,4 @@
-use Rattle.std.proofs.Common.{◌≡◌, refl, replicate, sym, subst, ◌∙◌}
+use Rattle.std.proofs.Common.{refl, replicate, sym, subst}
 use Rattle.luks_head.specs.Header1.{HoldsEntry}
 use Rattle.luks_head.specs.declared.luks1.Luks1Slot.{Luks1Slot}
 use Rattle.luks_head.specs.declared.luks1.SlotState.TheVariants.{Disabled}

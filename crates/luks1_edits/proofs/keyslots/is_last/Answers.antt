@@ -1,4 +1,4 @@
-use Rattle.std.proofs.Common.{arith, ◌≤◌}
+use Rattle.std.proofs.Common.{arith}
 use Rattle.luks1_edits.proofs.KeyslotChoice.{only_in_use}
 use Rattle.luks1_edits.proofs.keyslots.is_last.Goals as goal
 

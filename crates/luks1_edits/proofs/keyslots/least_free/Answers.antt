@@ -1,4 +1,4 @@
-use Rattle.std.proofs.Common.{arith, refl, ◌≤◌}
+use Rattle.std.proofs.Common.{arith, refl}
 use Rattle.luks1_edits.proofs.KeyslotChoice.{least_of, none_free}
 use Rattle.luks1_edits.proofs.keyslots.least_free.Goals as goal
 

@@ -1,4 +1,3 @@
-use Rattle.std.proofs.Common.{◌≡◌}
 use Rattle.luks1_edits.specs.Edited.{IsLeastFree}
 use Rattle.luks1_edits.proofs.keyslots.new_keyslot.Goals as goal
 

@@ -1,4 +1,4 @@
-use Rattle.std.proofs.Common.{◌≡◌, ◌-◌, ◌*◌, ◌≤◌, length, take, refl, ap, subst, ◌∙◌, arith}
+use Rattle.std.proofs.Common.{length, take, refl, ap, subst, ◌∙◌, arith}
 use Rattle.luks1_edits.proofs.HeaderFacts.{HeaderLaws}
 use Rattle.luks1_edits.proofs.KeptFacts.{header_inside}
 use Rattle.luks1_edits.proofs.MakingFacts.{area_touched, entry_touched, IsNewPlan, keyslot_made, new_plan, plan_inside, plan_key_length, plan_random_length, unsealed_unmade}
@@ -7,7 +7,7 @@ use Rattle.luks_slot.specs.Sealing.{IsSealed}
 use Rattle.luks1_edits.proofs.making.make_keyslot.Goals as goal
 
 pub seal_area-requires-clause-iterations : goal.seal_area-requires-clause-iterations
-seal_area-requires-clause-iterations g c = 
+seal_area-requires-clause-iterations g c =
     let h = c.args.header.now.bytes.now in
     let p : IsNewPlan h c.args.n c.entry_bytes-entry.result c.args.iterations (take 32 c.args.random.now) c.luks1_plan-plan.result =
     new_plan h c.args.header.now.fields c.args.n c.entry_bytes-entry.result c.new_slot-slot.result c.args.iterations (take 32 c.args.random.now) c.luks1_plan-plan.result
@@ -15,7 +15,7 @@ seal_area-requires-clause-iterations g c =
     p.openable.turns
 
 pub seal_area-requires-clause-key_length : goal.seal_area-requires-clause-key_length
-seal_area-requires-clause-key_length g c = 
+seal_area-requires-clause-key_length g c =
     let h = c.args.header.now.bytes.now in
     let p : IsNewPlan h c.args.n c.entry_bytes-entry.result c.args.iterations (take 32 c.args.random.now) c.luks1_plan-plan.result =
     new_plan h c.args.header.now.fields c.args.n c.entry_bytes-entry.result c.new_slot-slot.result c.args.iterations (take 32 c.args.random.now) c.luks1_plan-plan.result
@@ -23,7 +23,7 @@ seal_area-requires-clause-key_length g c =
     plan_key_length h c.args.n c.entry_bytes-entry.result c.args.iterations (take 32 c.args.random.now) c.luks1_plan-plan.result p c.args.key.now c.requires.key_length
 
 pub seal_area-requires-clause-some_stripes : goal.seal_area-requires-clause-some_stripes
-seal_area-requires-clause-some_stripes g c = 
+seal_area-requires-clause-some_stripes g c =
     let h = c.args.header.now.bytes.now in
     let p : IsNewPlan h c.args.n c.entry_bytes-entry.result c.args.iterations (take 32 c.args.random.now) c.luks1_plan-plan.result =
     new_plan h c.args.header.now.fields c.args.n c.entry_bytes-entry.result c.new_slot-slot.result c.args.iterations (take 32 c.args.random.now) c.luks1_plan-plan.result
@@ -31,7 +31,7 @@ seal_area-requires-clause-some_stripes g c =
     p.openable.some_stripes
 
 pub seal_area-requires-clause-random_length : goal.seal_area-requires-clause-random_length
-seal_area-requires-clause-random_length g c = 
+seal_area-requires-clause-random_length g c =
     let h = c.args.header.now.bytes.now in
     let p : IsNewPlan h c.args.n c.entry_bytes-entry.result c.args.iterations (take 32 c.args.random.now) c.luks1_plan-plan.result =
     new_plan h c.args.header.now.fields c.args.n c.entry_bytes-entry.result c.new_slot-slot.result c.args.iterations (take 32 c.args.random.now) c.luks1_plan-plan.result
@@ -39,7 +39,7 @@ seal_area-requires-clause-random_length g c =
     ap length c.stripes_in.ensures ∙ plan_random_length h c.args.n c.entry_bytes-entry.result c.args.iterations (take 32 c.args.random.now) c.luks1_plan-plan.result p c.args.random.now c.requires.random_length
 
 pub seal_area-requires-clause-sectors : goal.seal_area-requires-clause-sectors
-seal_area-requires-clause-sectors g c = 
+seal_area-requires-clause-sectors g c =
     let h = c.args.header.now.bytes.now in
     let p : IsNewPlan h c.args.n c.entry_bytes-entry.result c.args.iterations (take 32 c.args.random.now) c.luks1_plan-plan.result =
     new_plan h c.args.header.now.fields c.args.n c.entry_bytes-entry.result c.new_slot-slot.result c.args.iterations (take 32 c.args.random.now) c.luks1_plan-plan.result
@@ -47,7 +47,7 @@ seal_area-requires-clause-sectors g c =
     p.openable.sectors
 
 pub seal_area-requires-clause-within : goal.seal_area-requires-clause-within
-seal_area-requires-clause-within g c = 
+seal_area-requires-clause-within g c =
     let h = c.args.header.now.bytes.now in
     let p : IsNewPlan h c.args.n c.entry_bytes-entry.result c.args.iterations (take 32 c.args.random.now) c.luks1_plan-plan.result =
     new_plan h c.args.header.now.fields c.args.n c.entry_bytes-entry.result c.new_slot-slot.result c.args.iterations (take 32 c.args.random.now) c.luks1_plan-plan.result
@@ -55,7 +55,7 @@ seal_area-requires-clause-within g c =
     plan_inside h c.args.n c.entry_bytes-entry.result c.args.iterations (take 32 c.args.random.now) c.luks1_plan-plan.result p c.args.header.now.data_ (g.D.Device.size c.args.device.now) c.requires.accepted.volume c.requires.numbered
 
 pub returns-in-Err-clause-fault : goal.returns-in-Err-clause-fault
-returns-in-Err-clause-fault g c = 
+returns-in-Err-clause-fault g c =
     let h = c.args.header.now.bytes.now in
     let p : IsNewPlan h c.args.n c.entry_bytes-entry.result c.args.iterations (take 32 c.args.random.now) c.luks1_plan-plan.result =
     new_plan h c.args.header.now.fields c.args.n c.entry_bytes-entry.result c.new_slot-slot.result c.args.iterations (take 32 c.args.random.now) c.luks1_plan-plan.result
@@ -107,4 +107,3 @@ returns-in-Err-write_entry-clause-rest g c = λ tells x.
     c.requires.accepted.fields c.requires.numbered c.requires.iterated c.new_slot-slot.ensures c.entry_bytes-entry.ensures c.luks1_plan-plan.ensures.is c.luks1_plan-plan.ensures.judged in
     let laws : HeaderLaws = record { one = c.one_choice.ensures.only; common = c.luks1_is_first_bytes.ensures.common_faults; faultless = c.luks1_without_faults.ensures.header } in
     entry_touched h c.args.n c.entry_bytes-entry.result c.args.iterations (take 32 c.args.random.now) c.luks1_plan-plan.result p laws c.args.header.now.data_ (g.D.Device.bytes c.args.device.now) x c.requires.numbered (g.D.Device.bytes c.seal_area.new.device) (g.D.Device.bytes c.write_entry.new.device) (c.seal_area.ensures.rest tells) (c.write_entry.ensures.rest tells)
-

@@ -1,4 +1,4 @@
-use Rattle.std.proofs.Common.{◌≡◌, ℕ, List, length, refl, subst, sym, ◌∙◌, None}
+use Rattle.std.proofs.Common.{◌≡◌, refl, subst, sym, None}
 use Rattle.luks_head.specs.Bytes.{number_at}
 use Rattle.luks_head.specs.Header1.{HoldsSlots}
 use Rattle.luks_edit.specs.declared.edit.Edit.{Edit}

@@ -1,4 +1,4 @@
-use Rattle.std.proofs.Common.{◌≡◌, ◌+◌, ◌≤◌, ◌<◌, ℕ, List, None, refl, subst, sym, arith}
+use Rattle.std.proofs.Common.{refl, arith}
 use Rattle.std.proofs.lemmas.Result.{err_from_is_err_and}
 use Rattle.luks_edit.specs.declared.edit.Edit.TheVariants.{Remove}
 use Rattle.luks1_edits.proofs.HeaderFacts.{HeaderLaws}
@@ -25,13 +25,24 @@ returns-then-is_last-clause-replies g c = λ tells x.
     let payload = c.args.header.now.data_ in
     let e = Remove c.args.slot c.args.passphrase in
     let is : IsRemoval v e c.args.slot c.args.passphrase.now c.args.random.now = record {
-      asked = (refl, refl); untaken = λ y. y; some_free = λ y. y; last_is = λ y. y; last_only = λ y. y; many = λ y. y; no_label = λ y. y;
-      need = refl; need_only = λ k y. y; after = λ w y. y; torn = λ w y. y; told = refl;
-    } in
-    (last_refused v payload e c.args.random.now ((c.no_fault_is_well_formed.ensures v payload).0 x.well) c.args.slot c.args.passphrase.now c.in_ok-unlock.field-0 is
-    (c.in_ok-unlock.ensures.opened tells x)
-    (c.if-is_last.ensures.last refl v (slots_in h payload v c.args.header.now.fields.slots x c.requires.accepted.fields.slots)),
-    c.unlock.ensures.unchanged.same tells)
+      asked = (refl, refl);
+      untaken = λ y. y;
+      some_free = λ y. y;
+      last_is = λ y. y;
+      last_only = λ y. y;
+      many = λ y. y;
+      no_label = λ y. y;
+      need = refl;
+      need_only = λ k y. y;
+      after = λ w y. y;
+      torn = λ w y. y;
+      told = refl;
+    } in (
+      last_refused v payload e c.args.random.now ((c.no_fault_is_well_formed.ensures v payload).0 x.well) c.args.slot c.args.passphrase.now c.in_ok-unlock.field-0 is
+          (c.in_ok-unlock.ensures.opened tells x)
+          (c.if-is_last.ensures.last refl v (slots_in h payload v c.args.header.now.fields.slots x c.requires.accepted.fields.slots)),
+      c.unlock.ensures.unchanged.same tells,
+    )
 
 pub returns-then-random-ne0-clause-replies : goal.returns-then-random-ne0-clause-replies
 returns-then-random-ne0-clause-replies g c = λ tells x.
@@ -40,14 +51,25 @@ returns-then-random-ne0-clause-replies g c = λ tells x.
     let payload = c.args.header.now.data_ in
     let e = Remove c.args.slot c.args.passphrase in
     let is : IsRemoval v e c.args.slot c.args.passphrase.now c.args.random.now = record {
-      asked = (refl, refl); untaken = λ y. y; some_free = λ y. y; last_is = λ y. y; last_only = λ y. y; many = λ y. y; no_label = λ y. y;
-      need = refl; need_only = λ k y. y; after = λ w y. y; torn = λ w y. y; told = refl;
-    } in
-    (random_refused v payload e c.args.random.now ((c.no_fault_is_well_formed.ensures v payload).0 x.well) c.args.slot c.args.passphrase.now c.in_ok-unlock.field-0 is
-    (c.in_ok-unlock.ensures.opened tells x)
-    (c.if-is_last.ensures.other refl v (slots_in h payload v c.args.header.now.fields.slots x c.requires.accepted.fields.slots))
-    c.if-random-ne0.true,
-    c.unlock.ensures.unchanged.same tells)
+      asked = (refl, refl);
+      untaken = λ y. y;
+      some_free = λ y. y;
+      last_is = λ y. y;
+      last_only = λ y. y;
+      many = λ y. y;
+      no_label = λ y. y;
+      need = refl;
+      need_only = λ k y. y;
+      after = λ w y. y;
+      torn = λ w y. y;
+      told = refl;
+    } in (
+      random_refused v payload e c.args.random.now ((c.no_fault_is_well_formed.ensures v payload).0 x.well) c.args.slot c.args.passphrase.now c.in_ok-unlock.field-0 is
+          (c.in_ok-unlock.ensures.opened tells x)
+          (c.if-is_last.ensures.other refl v (slots_in h payload v c.args.header.now.fields.slots x c.requires.accepted.fields.slots))
+          c.if-random-ne0.true,
+      c.unlock.ensures.unchanged.same tells,
+    )
 
 pub free_keyslot-requires-clause-within : goal.free_keyslot-requires-clause-within
 free_keyslot-requires-clause-within g c =
@@ -71,8 +93,18 @@ returns-in-Ok-clause-replies g c = λ tells x.
     let e = Remove c.args.slot c.args.passphrase in
     let laws : HeaderLaws = record { one = c.one_choice.ensures.only; common = c.luks1_is_first_bytes.ensures.common_faults; faultless = c.luks1_without_faults.ensures.header } in
     let is : IsRemoval v e c.args.slot c.args.passphrase.now c.args.random.now = record {
-      asked = (refl, refl); untaken = λ y. y; some_free = λ y. y; last_is = λ y. y; last_only = λ y. y; many = λ y. y; no_label = λ y. y;
-      need = refl; need_only = λ k y. y; after = λ w y. y; torn = λ w y. y; told = refl;
+      asked = (refl, refl);
+      untaken = λ y. y;
+      some_free = λ y. y;
+      last_is = λ y. y;
+      last_only = λ y. y;
+      many = λ y. y;
+      no_label = λ y. y;
+      need = refl;
+      need_only = λ k y. y;
+      after = λ w y. y;
+      torn = λ w y. y;
+      told = refl;
     } in
     let at = keyslot_at laws h c.args.header.now.fields payload v c.args.slot _ c.luks1_area-area.result x c.requires.accepted.fields
     c.in_ok-unlock.ensures.numbered c.luks1_area-area.ensures.start c.luks1_area-area.ensures.len in
@@ -91,8 +123,18 @@ returns-in-Err-clause-replies g c = λ tells x.
     let e = Remove c.args.slot c.args.passphrase in
     let laws : HeaderLaws = record { one = c.one_choice.ensures.only; common = c.luks1_is_first_bytes.ensures.common_faults; faultless = c.luks1_without_faults.ensures.header } in
     let is : IsRemoval v e c.args.slot c.args.passphrase.now c.args.random.now = record {
-      asked = (refl, refl); untaken = λ y. y; some_free = λ y. y; last_is = λ y. y; last_only = λ y. y; many = λ y. y; no_label = λ y. y;
-      need = refl; need_only = λ k y. y; after = λ w y. y; torn = λ w y. y; told = refl;
+      asked = (refl, refl);
+      untaken = λ y. y;
+      some_free = λ y. y;
+      last_is = λ y. y;
+      last_only = λ y. y;
+      many = λ y. y;
+      no_label = λ y. y;
+      need = refl;
+      need_only = λ k y. y;
+      after = λ w y. y;
+      torn = λ w y. y;
+      told = refl;
     } in
     let at = keyslot_at laws h c.args.header.now.fields payload v c.args.slot _ c.luks1_area-area.result x c.requires.accepted.fields
     c.in_ok-unlock.ensures.numbered c.luks1_area-area.ensures.start c.luks1_area-area.ensures.len in

@@ -1,4 +1,4 @@
-use Rattle.std.proofs.Common.{◌≡◌, refl, length, sym, ◌∙◌, arith, ◌≤◌}
+use Rattle.std.proofs.Common.{◌≡◌, refl, length, arith}
 use Rattle.luks1_edits.proofs.StepFacts.{entry_range, entry_written}
 use Rattle.luks1_edits.proofs.steps.write_entry.Goals as goal
 

@@ -1,4 +1,4 @@
-use Rattle.std.proofs.Common.{◌≡◌, refl, sym, ◌∙◌, arith}
+use Rattle.std.proofs.Common.{refl, arith}
 use Rattle.luks1_edits.proofs.HeaderFacts.{HeaderLaws}
 use Rattle.luks1_edits.proofs.OpenerFacts.{locked_by, opened_by, slots_in, unopened_by, used_or_free}
 use Rattle.luks1_edits.proofs.unlocking.unlock.Goals as goal
