@@ -1,2 +1,5 @@
 mod GapFacts
 mod KeptAnswers
+mod KeptFacts
+mod LowerLaws
+mod VolumeFacts

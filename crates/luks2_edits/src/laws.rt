@@ -3,14 +3,14 @@
 
 ghost use Rattle.std.specs.Prelude.{◌↔◌, ℕ, List};
 ghost use Rattle.luks_reading.specs.Answer.{Answer, Opened};
-ghost use Rattle.luks2_edits.specs.Kept.{KeepsSlot};
+ghost use Rattle.luks2_edits.specs.Kept.{HasSameKeyslot};
 
 use luks_head::one_choice;
 
 /// A keyslot that a change of a LUKS2 volume leaves as it was has the same answer for every
 /// passphrase: the same key, none, or the same refusals.
 pub fn alike_slots_answer_alike()
-    ensures { (v w : List ℕ) (m : ℕ) → KeepsSlot v w m
+    ensures { (v w : List ℕ) (m : ℕ) → HasSameKeyslot v w m
         → (p : List ℕ) (a : Opened) → Answer v m p a ↔ Answer w m p a }
 {
     one_choice();
