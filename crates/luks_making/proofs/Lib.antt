@@ -1,0 +1,11 @@
+mod MemberFacts
+mod NameFacts
+mod WholeFacts
+mod NestingFacts
+mod RowFacts
+mod RemovalFacts
+mod PutFacts
+mod ItemFacts
+mod CopyFacts
+mod StepFacts
+mod AreaFacts

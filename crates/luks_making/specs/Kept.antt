@@ -1,0 +1,41 @@
+-- What an edit of the metadata keeps as it was, and what it changes.
+use Rattle.std.specs.Prelude.{◌≡◌, ◌≢◌, ◌↔◌, ℕ, List, [], ◌∷◌, codes, false, None, Some, option_map}
+use Rattle.std.specs.List.{list_any}
+use Rattle.std.specs.Str.{bytes_eq}
+use Rattle.serde_json.specs.Data.{Data}
+use Rattle.serde_json.specs.Find.{get}
+use Rattle.luks_json.specs.Arrays.{names}
+use Rattle.luks_json.specs.Number.{number_text}
+use Rattle.luks_rules.specs.declared.table.Section.{Section}
+use Rattle.luks_rules.specs.declared.table.Section.TheVariants.{Config, Digests, Keyslots, Segments, Tokens}
+use Rattle.luks_rules.specs.Faults.{object_at, section_at}
+use Rattle.luks_making.specs.Naming.{IsDigestOf}
+use Rattle.luks_making.specs.Without.{without_name}
+
+-- the members of the value are as they were, but for those of the names
+abbrev pub KeepsOthers : List (List ℕ) → Data → Data → Type 0
+KeepsOthers names old new = (k : List ℕ) → list_any (bytes_eq k) names ≡ false → get k new ≡ get k old
+
+-- ---- a value without a keyslot
+
+-- each object of the section is as it was, without the name of the keyslot `n` in its array: it is
+-- equal where it doesn't have the name, and so are its other members where it does
+pub record LosesName (s : Section) (n : ℕ) (old new : Data) : Type 0 where
+  pub changed : (m : ℕ)
+      → object_at new s m ≡ option_map (without_name (number_text n)) (object_at old s m)
+  pub equal : (m : ℕ) (d : Data) → object_at old s m ≡ Some d
+      → names (number_text n) (get (codes "keyslots") d) ≡ false → object_at new s m ≡ Some d
+  pub members : (m : ℕ) (d : Data) → object_at new s m ≡ Some d
+      → (was : Data) × (object_at old s m ≡ Some was) × KeepsOthers (codes "keyslots" ∷ []) was d
+
+-- the value `new` is `old` without the keyslot `n` and its name
+pub record LosesSlot (n : ℕ) (old new : Data) : Type 0 where
+  pub gone : object_at new Keyslots n ≡ None
+  pub keyslots : (m : ℕ) → m ≢ n → object_at new Keyslots m ≡ object_at old Keyslots m
+  pub digests : LosesName Digests n old new
+  pub tokens : LosesName Tokens n old new
+  pub segments : section_at new Segments ≡ section_at old Segments
+  pub config : section_at new Config ≡ section_at old Config
+  pub others : KeepsOthers (codes "digests" ∷ codes "keyslots" ∷ codes "tokens" ∷ []) old new
+  -- the digest that names another keyslot is the same
+  pub naming : (m k : ℕ) → m ≢ n → IsDigestOf old m k ↔ IsDigestOf new m k
