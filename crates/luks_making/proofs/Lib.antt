@@ -4,6 +4,10 @@ mod WholeFacts
 mod NestingFacts
 mod RowFacts
 mod RemovalFacts
+mod ReadingFacts
+mod AdditionFacts
+mod FreeNumberFacts
+mod RoomFacts
 mod PutFacts
 mod ItemFacts
 mod CopyFacts
