@@ -1,0 +1,4 @@
+pub mod NewUuidFacts
+pub mod NewPlanFacts
+pub mod NewHeader1Facts
+pub mod Formatted1Facts
