@@ -1,15 +1,14 @@
 -- A volume that was formatted by LUKS1 is well formed, and its keyslot 0 opens.
-use Rattle.std.proofs.Common.{codes, slice_index_or, ◌≡◌, ◌↔◌, ℕ, ◌+◌, ◌*◌, ◌-◌, ◌<◌, ◌≤◌, List, length, Option, Some, None, true, arith, refl, sym, ap, ◌∙◌, subst, lit≤, lit<, if◌then◌else◌}
+use Rattle.std.proofs.Common.{codes, slice_index_or, ◌≡◌, ◌↔◌, ℕ, ◌*◌, ◌-◌, ◌≤◌, List, length, Some, None, true, arith, refl, sym, ap, ◌∙◌, lit≤, lit<, if◌then◌else◌}
 use Rattle.byteorder.specs.Endian.{big_number}
 use Rattle.luks_area.specs.Ranges.{part}
 use Rattle.luks_kdf.specs.Names.{name_of}
 use Rattle.luks_area.specs.RangeFacts.{length-part_inside, part-part}
 use Rattle.luks_area.specs.declared.area.Area.{Area}
-use Rattle.luks_area.specs.declared.area.AreaName.TheVariants.{Slot as SlotName}
 use Rattle.luks_head.specs.Bytes.{text_at}
 use Rattle.luks_head.specs.Faults.{IsCommonFault, IsEntryFault}
-use Rattle.luks_head.specs.Header1.{active_word, disabled_word, enabled_word, entry, entry_iterations, IsCommon, IsEntry, IsLuks1}
-use Rattle.luks_head.specs.Selection.{luks1, Chosen, IsVersion1}
+use Rattle.luks_head.specs.Header1.{active_word, enabled_word, entry, entry_iterations, IsCommon, IsEntry}
+use Rattle.luks_head.specs.Selection.{luks1, Chosen}
 use Rattle.luks_head.specs.declared.fault.HeadFault.{HeadFault}
 use Rattle.luks_head.specs.declared.fault.HeadFault.TheVariants as fault
 use Rattle.luks_head.specs.declared.fault.IterationsOf.TheVariants as of
@@ -25,7 +24,7 @@ use Rattle.luks_slot.specs.declared.plan.Derivation.TheVariants.{Pbkdf2, Argon2}
 use Rattle.luks_slot.specs.declared.plan.SlotPlan.{SlotPlan}
 use Rattle.luks_reading.specs.Answer.{Answer, IsLuks1HeadRefusal, IsLuks1Refusal, opens}
 use Rattle.luks_reading.specs.Checked.{WellFormed}
-use Rattle.luks_reading.specs.Plans.{HasLuks1Plan, IsLuks1Cipher, IsLuks1Derivation, IsLuks1Digest, IsLuks1Plan}
+use Rattle.luks_reading.specs.Plans.{HasLuks1Plan, IsLuks1Cipher, IsLuks1Derivation}
 use Rattle.luks_reading.specs.declared.open_fault.OpenFault.{OpenFault}
 use Rattle.luks_reading.specs.declared.open_fault.OpenFault.TheVariants.{Head, Meta, NoSuchSlot, SlotFree, Outside, Slot, Device, Memory}
 use Rattle.luks_reading.specs.declared.report.Data.{Data}
@@ -38,9 +37,9 @@ use Rattle.luks_formatting.proofs.NewHeader1Facts.{common, fields, fit, header, 
 use Rattle.luks_formatting.proofs.NewPlanFacts.{key_meets, unrefused}
 
 -- an area by its numbers
-pub area_is : (a : Area) (start len : ℕ) → a.start ≡ start → a.len ≡ len → a ≡ record { start = start; len = len; }
+pub area_is : (a : Area) (start len : ℕ) → a.start ≡ start → a.len ≡ len → a ≡ record { start = start; len = len }
 area_is a start len first second =
-    let at : ℕ → ℕ → Area = λ s l. record { start = s; len = l; } in
+    let at : ℕ → ℕ → Area = λ s l. record { start = s; len = l } in
     ap (λ s. at s a.len) first ∙ ap (at start) second
 
 -- the random bytes have the parts that are taken of them

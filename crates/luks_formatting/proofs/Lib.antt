@@ -2,3 +2,4 @@ pub mod NewUuidFacts
 pub mod NewPlanFacts
 pub mod NewHeader1Facts
 pub mod Formatted1Facts
+pub mod Written1Facts

@@ -1,15 +1,14 @@
 -- The LUKS1 header of a new volume is a header, whose areas fit.
-use Rattle.std.proofs.Common.{◌≡◌, ◌≢◌, ◌==◌, ℕ, ◌+◌, ◌*◌, ◌-◌, ◌<◌, ◌≤◌, List, length, slice_index_or, Bool, true, false, inl, inr, arith, refl, sym, ap, ◌∙◌, subst, lit≤, codes}
+use Rattle.std.proofs.Common.{◌≡◌, ◌≢◌, ◌==◌, ℕ, ◌+◌, ◌*◌, ◌-◌, ◌<◌, ◌≤◌, List, slice_index_or, true, inl, inr, arith, refl, sym, ap, ◌∙◌, subst}
 use Rattle.std.proofs.lemmas.Bool.{cases_Bool, eqb-true}
 use Rattle.luks_area.specs.Area.{Fit, IsInside, LiesIn}
-use Rattle.luks_area.specs.Ranges.{part}
 use Rattle.luks_area.specs.Sectors.{rounded_to_sectors}
 use Rattle.luks_area.specs.Text.{is_plain, text_of}
 use Rattle.luks_area.specs.declared.area.Area.{Area}
 use Rattle.luks_area.specs.declared.area.AreaName.{AreaName}
 use Rattle.luks_area.specs.declared.area.AreaName.TheVariants.{Head1, Head2, Slot, Segment}
 use Rattle.luks_head.specs.Bytes.{number_at, HoldsText, IsUuid}
-use Rattle.luks_head.specs.Header1.{active_word, enabled_word, entry, entry_iterations, entry_key_material_offset, entry_stripes, header_text, key_bytes_of, mk_digest_iterations_of, payload_offset_of, word_of, field_at, field_len, HoldsCommon, HoldsEntry, HoldsSlots, IsCommon, IsEntry, IsLuks1}
+use Rattle.luks_head.specs.Header1.{enabled_word, entry, entry_stripes, key_bytes_of, mk_digest_iterations_of, word_of, field_at, field_len, HoldsCommon, HoldsEntry, IsCommon, IsEntry, IsLuks1}
 use Rattle.luks_head.specs.Written.{common_text, IsWhole, WritesLuks1}
 use Rattle.luks_head.specs.declared.fault.TextField.{TextField}
 use Rattle.luks_head.specs.declared.fault.TextField.TheVariants as field
@@ -19,8 +18,7 @@ use Rattle.luks_reading.specs.Layout1.{Luks1Area}
 use Rattle.luks_reading.specs.declared.report.Data.{Data}
 use Rattle.luks_reading.specs.declared.report.Data.TheVariants.{Here}
 use Rattle.luks_formatting.specs.declared.format.Format.{Format}
-use Rattle.luks_formatting.specs.NewHeader1.{first_slot, free_slot, material_sector, new_slot, payload_sector, IsNewHeader1}
-use Rattle.luks_formatting.specs.NewUuid.{uuid_text}
+use Rattle.luks_formatting.specs.NewHeader1.{free_slot, material_sector, new_slot, payload_sector, IsNewHeader1}
 use Rattle.luks_formatting.specs.RandomBytes.{uuid_bytes}
 use Rattle.luks_formatting.proofs.NewPlanFacts.{name_plain, name_whole}
 use Rattle.luks_formatting.proofs.NewUuidFacts.{uuid_text-is, uuid_text-plain, uuid_text-whole}
@@ -31,16 +29,16 @@ slot_stripes format random n = elim (cases_Bool (n == 0)) [ inl first ↦ rw fir
 
 slot_sector : (format : Format) (random : List ℕ) (n : ℕ) → (new_slot format random n).key_material_offset ≡ material_sector n
 slot_sector format random n = elim (cases_Bool (n == 0)) [
-    | inl first ↦ rw first (let none : n ≡ 0 = eqb-true n 0 first in ap material_sector (sym none))
-    | inr free ↦ rw free refl
-  ]
+  | inl first ↦ rw first (let none : n ≡ 0 = eqb-true n 0 first in ap material_sector (sym none))
+  | inr free ↦ rw free refl
+]
 
 slot_iterations : (format : Format) (random : List ℕ) (n : ℕ) → 1 ≤ format.iterations
     → word_of (new_slot format random n).state ≡ enabled_word → 1 ≤ (new_slot format random n).iterations
 slot_iterations format random n some on = elim (cases_Bool (n == 0)) [
-    | inl first ↦ rw first some
-    | inr free ↦ (let other : 0x0000DEAD ≡ 0x00AC71F3 = rw free at on in absurd (omega (arith, other)))
-  ]
+  | inl first ↦ rw first some
+  | inr free ↦ (let other : 0x0000DEAD ≡ 0x00AC71F3 = rw free at on in absurd (omega (arith, other)))
+]
 
 module _ (payload : Data) (format : Format) (random h : List ℕ) (d : Luks1) (new : IsNewHeader1 payload format random d) (put : WritesLuks1 h d) where
   whole : (t : TextField) → IsWhole (common_text d.common t)

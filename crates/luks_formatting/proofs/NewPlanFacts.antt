@@ -1,6 +1,5 @@
 -- The plan of keyslot 0 of a new volume: it isn't refused, and the volume key meets its digest.
-use Rattle.std.proofs.Common.{◌≡◌, ◌≤◌, ℕ, List, length, Bool, true, false, Some, None, codes, refl, sym, ap, ◌∙◌, subst}
-use Rattle.std.specs.Str.{bytes_eq}
+use Rattle.std.proofs.Common.{◌≡◌, ◌≤◌, ℕ, List, length, true, false, Some, None, refl, sym, ap, subst}
 use Rattle.std.proofs.lemmas.Slice.Eq.{bytes_eq-Decides}
 use Rattle.luks_area.specs.Text.{is_plain, text_of}
 use Rattle.luks_area.specs.declared.area.Area.{Area}
@@ -52,8 +51,15 @@ module _ (format : Format) (salt : List ℕ) (area : Area) (digest stored : List
   -- a new plan whose cipher opens isn't refused
   pub unrefused : is_open_cipher plan.cipher ≡ true → slot_refusal plan ≡ None
   unrefused cipher =
-      rw (not_argon2 format salt plan.derivation new.derivation, cipher, known format salt plan.derivation new.derivation,
-      new.splitter_hash, new.digest.hash, named format.hash, new.area_key_bytes) refl
+      rw (
+        not_argon2 format salt plan.derivation new.derivation,
+        cipher,
+        known format salt plan.derivation new.derivation,
+        new.splitter_hash,
+        new.digest.hash,
+        named format.hash,
+        new.area_key_bytes,
+      ) refl
 
 -- the digest that was made of the key is met by it
 pub key_meets : (format : Format) (random : List ℕ) (len : ℕ) (digest : DigestPlan) → IsNewDigest format (digest_salt random) (key_digest format random len) digest

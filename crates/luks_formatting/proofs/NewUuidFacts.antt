@@ -1,6 +1,6 @@
 -- The text of a new uuid is that of a uuid, and printable.
-use Rattle.std.proofs.Common.{◌≡◌, ◌≢◌, ◌==◌, if◌then◌else◌, ℕ, ◌+◌, ◌%◌, ◌<◌, ◌≤◌, List, [], ◌∷◌, length, take, slice_index, slice_set, Bool, suc, true, false, inl, inr, arith, refl, sym, ap, ◌∙◌, get_or-set_other}
-use Rattle.std.specs.List.{list_all, before_first, position_or_len}
+use Rattle.std.proofs.Common.{◌≡◌, ◌≢◌, ◌==◌, if◌then◌else◌, ℕ, ◌+◌, ◌%◌, ◌<◌, List, [], ◌∷◌, length, take, slice_index, slice_set, suc, true, false, inl, inr, arith, refl, ap, ◌∙◌, get_or-set_other}
+use Rattle.std.specs.List.{list_all}
 use Rattle.std.proofs.lemmas.Bool.{and_from, cases_Bool}
 use Rattle.std.proofs.lemmas.Bool.Decides.{nat_tests}
 use Rattle.std.proofs.lemmas.List.Sums.{position_or_len_is}
@@ -8,7 +8,7 @@ use Rattle.std.proofs.Math.Seq.{take-length}
 use Rattle.uuid.specs.Parts.{with_variant, with_version}
 use Rattle.uuid.specs.declared.Variant.TheVariants.{RFC4122}
 use Rattle.uuid.specs.declared.Version.TheVariants.{Random}
-use Rattle.uuid.specs.Text.{by_index, digit_place, hex_digit, hyphen, hyphenated_text, is_hyphen_place, lower, nibble}
+use Rattle.uuid.specs.Text.{digit_place, hex_digit, hyphen, hyphenated_text, is_hyphen_place, lower, nibble}
 use Rattle.uuid.proofs.TextLemmas.{by_index_at, by_index_length, nibble_small}
 use Rattle.luks_area.specs.Text.{is_plain, is_printable, text_of}
 use Rattle.luks_head.specs.Bytes.{is_hexadecimal, is_uuid_byte, IsUuid}
@@ -51,9 +51,9 @@ uuid_text-is random = record { long = uuid_text-length random; digits = byte_at 
 -- the text of a uuid is printable
 uuid_byte_printable : (k c : ℕ) → is_uuid_byte k c ≡ true → is_printable c ≡ true
 uuid_byte_printable k c good = elim (cases_Bool (is_hyphen_place k)) [
-    | inl place ↦ (let is : (c == 0x2D) ≡ true = rw place at good in grind (arith, nat_tests))
-    | inr digit ↦ (let is : is_hexadecimal c ≡ true = rw digit at good in hexadecimal_printable c is)
-  ]
+  | inl place ↦ (let is : (c == 0x2D) ≡ true = rw place at good in grind (arith, nat_tests))
+  | inr digit ↦ (let is : is_hexadecimal c ≡ true = rw digit at good in hexadecimal_printable c is)
+]
 
 -- a printable byte isn't zero
 not_zero : (c : ℕ) → is_printable c ≡ true → (c == 0) ≡ false

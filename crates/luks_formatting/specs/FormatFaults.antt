@@ -1,5 +1,5 @@
 -- The faults of formatting, and their order.
-use Rattle.std.specs.Prelude.{◌≢◌, ℕ, ◌<◌, List, [], ◌∷◌, length, Bool, true, false}
+use Rattle.std.specs.Prelude.{◌≡◌, ◌≢◌, ℕ, ◌<◌, ◌≤◌, List, [], ◌∷◌, length, Bool, true, false}
 use Rattle.luks_area.specs.First.{IsLeast}
 use Rattle.luks_formatting.specs.declared.format.Format.{Format}
 use Rattle.luks_formatting.specs.declared.format.FormatFault.{FormatFault}
@@ -37,6 +37,12 @@ IsFormat2Fault = IsFormatFault 16777216 256208
 -- none of the faults stands
 abbrev pub HasNoFault : (FormatFault → Type 0) → Type 0
 HasNoFault faults = (f : FormatFault) → faults f → ⊥
+
+-- the volume is large enough, the iterations are, and the random bytes are as many as it takes
+pub record IsFormattable (least needed total : ℕ) (format : Format) (random : List ℕ) : Type 0 where
+  pub large : least ≤ total
+  pub iterations : 1000 ≤ format.iterations
+  pub counted : length random ≡ needed
 
 -- the answer is the first of the faults; or none stands, and the device failed
 abbrev pub IsAnsweredFault : (FormatFault → Type 0) → FormatFault → Type 0

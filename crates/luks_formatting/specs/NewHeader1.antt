@@ -68,7 +68,7 @@ pub record IsNewHeader1 (payload : Data) (format : Format) (random : List ℕ) (
 
 -- the area of keyslot 0, and its cipher
 abbrev pub area1 : Area
-area1 = record { start = 4096; len = 256000; }
+area1 = record { start = 4096; len = 256000 }
 
 abbrev pub IsNewCipher1 : AreaCipher → Type 0
 IsNewCipher1 (Apart name mode) = (name.now ≡ codes "aes") × (mode.now ≡ codes "xts-plain64")

@@ -1,5 +1,5 @@
 -- What keyslot 0 of a new volume says of its opening.
-use Rattle.std.specs.Prelude.{◌≡◌, ℕ, List}
+use Rattle.std.specs.Prelude.{◌≡◌, ℕ, List, None}
 use Rattle.luks_area.specs.declared.area.Area.{Area}
 use Rattle.luks_kdf.specs.Derivation.{pbkdf2}
 use Rattle.luks_kdf.specs.Names.{block_size_of, hash_of, name_of}
@@ -7,7 +7,8 @@ use Rattle.luks_slot.specs.declared.plan.Derivation.{Derivation}
 use Rattle.luks_slot.specs.declared.plan.Derivation.TheVariants.{Pbkdf2, Argon2}
 use Rattle.luks_slot.specs.declared.plan.DigestPlan.{DigestPlan}
 use Rattle.luks_slot.specs.declared.plan.SlotPlan.{SlotPlan}
-use Rattle.luks_slot.specs.Opening.{area_bytes}
+use Rattle.luks_slot.specs.Opening.{area_bytes, HasIterations}
+use Rattle.luks_slot.specs.Refusal.{slot_refusal}
 use Rattle.luks_slot.specs.Sealing.{IsSealed}
 use Rattle.luks_formatting.specs.declared.format.Format.{Format}
 use Rattle.luks_formatting.specs.RandomBytes.{digest_salt, volume_key}
@@ -38,6 +39,13 @@ pub record IsNewPlan (format : Format) (salt : List ℕ) (own_area : Area) (dige
   pub stripes : plan.stripes ≡ 4000
   pub splitter_hash : plan.splitter_hash.now ≡ name_of format.hash
   pub digest : IsNewDigest format digest_salt stored plan.digest
+
+-- a key of 64 bytes is sealed by the plan in 4000 stripes
+pub record IsSealable (plan : SlotPlan) : Type 0 where
+  pub unrefused : slot_refusal plan ≡ None
+  pub iterations : HasIterations plan.derivation
+  pub key_bytes : plan.key_bytes ≡ 64
+  pub stripes : plan.stripes ≡ 4000
 
 -- the area of a keyslot of the volume `v`, one of these plans, holds the key under the passphrase:
 -- stripes of which all but the last are the random ones, and then zeros

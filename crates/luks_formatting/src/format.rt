@@ -13,7 +13,8 @@ pub struct Format {
     pub iterations: u32,
 }
 
-/// Why a volume isn't made: the first in this order, but for want of memory and the device's failure.
+/// Why a volume isn't made: the first in this order, but for want of memory and the device's
+/// failure.
 ///
 /// All but the device's failure leave every byte as it was.
 #[derive(Debug, Clone, Copy, PartialEq, Eq, Drop, Error)]

@@ -1,5 +1,6 @@
 //! What keyslot 0 of a new volume is sealed by.
 ghost use Rattle.std.specs.Prelude.{◌≡◌, ◌≤◌, length};
+ghost use Rattle.luks_slot.specs.Opening.{HasIterations};
 ghost use Rattle.luks_formatting.specs.NewPlan.{key_digest, IsNewPlan};
 
 use crate::format::Format;
@@ -7,7 +8,8 @@ use crate::random::{DIGEST_SALT, KEY, KEY_BYTES, SALT_BYTES, STRIPES, taken};
 use luks_area::Area;
 use luks_slot::{AreaCipher, Derivation, DigestPlan, SlotPlan};
 
-/// The plan of a keyslot with this salt and area, and of a digest with that salt that stores these bytes.
+/// The plan of a keyslot with this salt and area, and of a digest with that salt that stores these
+/// bytes.
 pub(crate) fn new_plan<'a>(
     format: &Format,
     cipher: AreaCipher<'a>,
@@ -17,6 +19,7 @@ pub(crate) fn new_plan<'a>(
     stored: &'a [u8],
 ) -> SlotPlan<'a>
     ensures plan { IsNewPlan format.now salt.now area digest_salt.now stored.now result }
+    ensures iterations { 1 ≤ format.now.iterations → HasIterations result.derivation }
     ensures cipher { result.cipher ≡ cipher.entry }
 {
     let hash = format.hash.text();

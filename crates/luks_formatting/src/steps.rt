@@ -1,12 +1,11 @@
 //! The steps of formatting: each writes one range of the device and flushes it.
-ghost use Rattle.std.specs.Prelude.{◌≡◌, ◌+◌, ◌-◌, ◌*◌, ◌^◌, ◌<◌, ◌≤◌, length, None, OnOk};
+ghost use Rattle.std.specs.Prelude.{◌≡◌, ◌+◌, ◌^◌, ◌<◌, ◌≤◌, length, OnOk};
 ghost use Rattle.luks_area.specs.Area.{IsInside};
 ghost use Rattle.luks_area.specs.Device.{CountsFailure, is_failure};
 ghost use Rattle.luks_area.specs.Ranges.{written, IsAt, SameBut, SameOutside};
-ghost use Rattle.luks_area.specs.Sectors.{rounded_to_sectors};
-ghost use Rattle.luks_slot.specs.Opening.{area_bytes, stripe_bytes, HasIterations};
-ghost use Rattle.luks_slot.specs.Refusal.{slot_refusal};
+ghost use Rattle.luks_slot.specs.Opening.{area_bytes};
 ghost use Rattle.luks_slot.specs.Sealing.{IsSealed};
+ghost use Rattle.luks_formatting.specs.NewPlan.{IsSealable};
 
 use luks_area::{Device, DeviceFault};
 use luks_slot::{Key, SlotPlan, seal};
@@ -32,21 +31,19 @@ pub(crate) fn write_range<D: Device>(
     Ok(())
 }
 
-/// Seals the key in the area of the plan, which isn't refused, and flushes. Also where the device
-/// fails no byte outside the area's used sectors changes.
+/// Seals the key in the area of the plan, and flushes. Also where the device fails no byte outside
+/// the area's used sectors, 256000 bytes, changes.
 pub(crate) fn seal_area<D: Device>(
     device: &mut D,
     plan: &SlotPlan<'_>,
     passphrase: &[u8],
-    key: &Key,
+    key: &[u8],
     random: &[u8],
 ) -> Result<(), DeviceFault>
-    requires unrefused { slot_refusal plan.now ≡ None }
-    requires iterations { HasIterations plan.now.derivation }
-    requires key_length { length key.now ≡ plan.now.key_bytes }
-    requires some_stripes { 1 ≤ plan.now.stripes }
-    requires random_length { length random.now ≡ (plan.now.stripes - 1) * plan.now.key_bytes }
-    requires sectors { rounded_to_sectors (stripe_bytes plan.now) ≤ plan.now.area.len }
+    requires sealable { IsSealable plan.now }
+    requires key_length { length key.now ≡ 64 }
+    requires random_length { length random.now ≡ 255936 }
+    requires large { 256000 ≤ plan.now.area.len }
     requires within { IsInside plan.now.area (D.size device.old) }
     requires room { D.failed device.old + 1 < 2 ^ 64 }
     ensures count { CountsFailure is_failure result (D.failed device.old) (D.failed device.new) }
@@ -54,11 +51,10 @@ pub(crate) fn seal_area<D: Device>(
     ensures sealed { D.tells → OnOk result
         (IsSealed plan.now (area_bytes (D.bytes device.new) plan.now.area)
         passphrase.now key.now random.now) }
-    ensures rest { D.tells
-        → SameBut (IsAt plan.now.area.start (rounded_to_sectors (stripe_bytes plan.now)))
+    ensures rest { D.tells → SameBut (IsAt plan.now.area.start 256000)
         (D.bytes device.old) (D.bytes device.new) }
 {
-    match seal(device, plan, passphrase, key, random) {
+    match seal(device, plan, passphrase, &Key::new(key), random) {
         Ok(()) => {}
         Err(_) => return Err(DeviceFault),
     }

@@ -1,6 +1,5 @@
 use Rattle.std.proofs.Common.{◌≤◌, ℕ, length, ap, lit<, lit≤, ◌∙◌, sym, subst}
 use Rattle.uuid.specs.Text.{hyphenated_text, lower}
-use Rattle.luks_formatting.specs.NewUuid.{uuid_text, version_4}
 use Rattle.luks_formatting.proofs.NewUuidFacts.{hyphenated-length, version_4-made}
 use Rattle.luks_formatting.proofs.new_uuid.uuid_text.Goals as goal
 
