@@ -4,6 +4,9 @@ mod WholeFacts
 mod NestingFacts
 mod RowFacts
 mod RemovalFacts
+mod ReadingFacts
+mod AdditionFacts
+mod FreeNumberFacts
 mod PutFacts
 mod ItemFacts
 mod CopyFacts

@@ -24,7 +24,7 @@ use Rattle.luks_rules.specs.Reading.{reads}
 use Rattle.luks_rules.specs.Sizes.{json_size, keyslots_size}
 use Rattle.luks_rules.specs.Table.{member as row, digest_rows, token_rows, rows_of, member_name}
 use Rattle.luks_making.specs.Changing.{at_member, drop_member, drop_text, each_member, in_array, in_object}
-use Rattle.luks_making.specs.Kept.{KeepsOthers, LosesName, LosesSlot}
+use Rattle.luks_making.specs.Unchanged.{KeepsOthers, LosesName, LosesSlot}
 use Rattle.luks_making.specs.Naming.{IsDigestOf}
 use Rattle.luks_making.specs.Without.{without_name, without_slot}
 use Rattle.luks_making.proofs.MemberFacts.{array_map, at_same, beside, get_changed, get_each, get_gone, get_kept, get_left, mapped, nowhere, still_object, through}

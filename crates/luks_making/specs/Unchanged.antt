@@ -4,12 +4,14 @@ use Rattle.std.specs.List.{list_any}
 use Rattle.std.specs.Str.{bytes_eq}
 use Rattle.serde_json.specs.Data.{Data}
 use Rattle.serde_json.specs.Find.{get}
-use Rattle.luks_json.specs.Arrays.{names}
+use Rattle.luks_json.specs.Arrays.{names, naming_count}
 use Rattle.luks_json.specs.Number.{number_text}
 use Rattle.luks_rules.specs.declared.table.Section.{Section}
 use Rattle.luks_rules.specs.declared.table.Section.TheVariants.{Config, Digests, Keyslots, Segments, Tokens}
 use Rattle.luks_rules.specs.Faults.{object_at, section_at}
+use Rattle.luks_making.specs.Keyslots.{SlotMembers, slot_value}
 use Rattle.luks_making.specs.Naming.{IsDigestOf}
+use Rattle.luks_making.specs.With.{with_name}
 use Rattle.luks_making.specs.Without.{without_name}
 
 -- the members of the value are as they were, but for those of the names
@@ -39,3 +41,22 @@ pub record LosesSlot (n : ℕ) (old new : Data) : Type 0 where
   pub others : KeepsOthers (codes "digests" ∷ codes "keyslots" ∷ codes "tokens" ∷ []) old new
   -- the digest that names another keyslot is the same
   pub naming : (m k : ℕ) → m ≢ n → IsDigestOf old m k ↔ IsDigestOf new m k
+
+-- ---- a value with one more keyslot
+
+-- the value `new` is `old` with the keyslot `n` of the members `s`, and its name in the digest `m`
+pub record GainsSlot (n m : ℕ) (s : SlotMembers) (old new : Data) : Type 0 where
+  pub there : object_at new Keyslots n ≡ Some (slot_value s)
+  pub keyslots : (k : ℕ) → k ≢ n → object_at new Keyslots k ≡ object_at old Keyslots k
+  pub digest : object_at new Digests m
+      ≡ option_map (with_name (number_text n)) (object_at old Digests m)
+  pub digests : (k : ℕ) → k ≢ m → object_at new Digests k ≡ object_at old Digests k
+  pub segments : section_at new Segments ≡ section_at old Segments
+  pub tokens : section_at new Tokens ≡ section_at old Tokens
+  pub config : section_at new Config ≡ section_at old Config
+  pub others : KeepsOthers (codes "digests" ∷ codes "keyslots" ∷ []) old new
+  -- the digest `m` names the keyslot, and no other does
+  pub names : IsDigestOf new n m
+  pub once : naming_count (codes "keyslots") (number_text n) (section_at new Digests) ≡ 1
+  -- the digest that names another keyslot is the same
+  pub naming : (i k : ℕ) → i ≢ n → IsDigestOf old i k ↔ IsDigestOf new i k
