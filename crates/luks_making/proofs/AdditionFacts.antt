@@ -42,28 +42,70 @@ pub slot_read : TextsSay → (s : SlotMembers) → FitsSlot s → IsRead keyslot
 slot_read say s f =
     record {
       is_object = refl;
-      each = each_of (RowRead (slot_value s)) keyslot_rows ((λ _. refl),
-          ((λ _. refl),
-          ((λ _. number_read 1 4294967295 s.stripes f.stripes),
-          ((λ _. refl),
-          ((λ _. refl),
-          ((λ _. refl),
-          ((λ _. number_read 1 128 s.area_key_size f.area_key_size),
-          ((λ _. decimal_read say s.offset f.offset),
-          ((λ _. decimal_read say s.size f.size),
-          ((λ _. refl),
-          ((λ _. refl),
-          ((λ j. absurd (false≢true j)),
-          ((λ _. refl),
-          ((λ _. number_read 1 4294967295 s.iterations f.iterations),
-          ((λ j. absurd (false≢true j)),
-          ((λ _. salt_read say s.salt f.salt),
-          ((λ j. absurd (false≢true j)),
-          ((λ _. refl),
-          ((λ _. number_read 1 128 s.key_size f.key_size),
-          ((λ _. refl),
-          ((λ _. refl),
-          tt)))))))))))))))))))));
+      each = each_of (RowRead (slot_value s)) keyslot_rows (
+        (λ _. refl),
+        (
+          (λ _. refl),
+          (
+            (λ _. number_read 1 4294967295 s.stripes f.stripes),
+            (
+              (λ _. refl),
+              (
+                (λ _. refl),
+                (
+                  (λ _. refl),
+                  (
+                    (λ _. number_read 1 128 s.area_key_size f.area_key_size),
+                    (
+                      (λ _. decimal_read say s.offset f.offset),
+                      (
+                        (λ _. decimal_read say s.size f.size),
+                        (
+                          (λ _. refl),
+                          (
+                            (λ _. refl),
+                            (
+                              (λ j. absurd (false≢true j)),
+                              (
+                                (λ _. refl),
+                                (
+                                  (λ _. number_read 1 4294967295 s.iterations f.iterations),
+                                  (
+                                    (λ j. absurd (false≢true j)),
+                                    (
+                                      (λ _. salt_read say s.salt f.salt),
+                                      (
+                                        (λ j. absurd (false≢true j)),
+                                        (
+                                          (λ _. refl),
+                                          (
+                                            (λ _. number_read 1 128 s.key_size f.key_size),
+                                            (
+                                              (λ _. refl),
+                                              (
+                                                (λ _. refl),
+                                                tt,
+                                              ),
+                                            ),
+                                          ),
+                                        ),
+                                      ),
+                                    ),
+                                  ),
+                                ),
+                              ),
+                            ),
+                          ),
+                        ),
+                      ),
+                    ),
+                  ),
+                ),
+              ),
+            ),
+          ),
+        ),
+      );
     }
 
 -- ---- the digest with the name
@@ -85,14 +127,28 @@ with_name_read : (d : Data) (t : List ℕ) → IsRead digest_rows d → IsRead d
 with_name_read d t read =
     record {
       is_object = still_object _ d ∙ read.is_object;
-      each = each_of (RowRead (with_name t d)) digest_rows ((λ _. row_kept d t 0 name.Digest (rule.Base64 20 64) read refl refl),
-          ((λ _. row_kept d t 1 name.Hash rule.Text read refl refl),
-          ((λ _. row_kept d t 2 name.Iterations (rule.Number 1 4294967295) read refl refl),
-          ((λ _. rw (get_changed (codes "keyslots") (in_array (add_text t)) d) (names_added Keyslots t (get (codes "keyslots") d) (at_top digest_rows d 3 (row name.Keyslots (rule.Names Keyslots)) read refl refl refl))),
-          ((λ _. row_kept d t 4 name.Salt (rule.Base64 1 128) read refl refl),
-          ((λ _. row_kept d t 5 name.Segments (rule.Names Segments) read refl refl),
-          ((λ _. row_kept d t 6 name.Kind (rule.Type listed.Digest) read refl refl),
-          tt)))))));
+      each = each_of (RowRead (with_name t d)) digest_rows (
+        (λ _. row_kept d t 0 name.Digest (rule.Base64 20 64) read refl refl),
+        (
+          (λ _. row_kept d t 1 name.Hash rule.Text read refl refl),
+          (
+            (λ _. row_kept d t 2 name.Iterations (rule.Number 1 4294967295) read refl refl),
+            (
+              (λ _. rw (get_changed (codes "keyslots") (in_array (add_text t)) d) (names_added Keyslots t (get (codes "keyslots") d) (at_top digest_rows d 3 (row name.Keyslots (rule.Names Keyslots)) read refl refl refl))),
+              (
+                (λ _. row_kept d t 4 name.Salt (rule.Base64 1 128) read refl refl),
+                (
+                  (λ _. row_kept d t 5 name.Segments (rule.Names Segments) read refl refl),
+                  (
+                    (λ _. row_kept d t 6 name.Kind (rule.Type listed.Digest) read refl refl),
+                    tt,
+                  ),
+                ),
+              ),
+            ),
+          ),
+        ),
+      );
     }
 
 -- ---- sections and objects
@@ -288,13 +344,13 @@ module _ (say : TextsSay) (len n m : ℕ) (s : SlotMembers) (j d0 : Data) (c : I
   array_added target list d q new listed speaks is (of_slots e slots) =
       let there : option_and_then as_array (get (codes "keyslots") (with_name (number_text n) d0)) ≡ Some list = rw (e, new) at is in
       let p = mapped (add_text (number_text n)) (option_and_then as_array (get (codes "keyslots") d0)) list
-          (sym (array_map (add_text (number_text n)) (get (codes "keyslots") d0)) ∙ (ap (option_and_then as_array) (sym (get_changed (codes "keyslots") (in_array (add_text (number_text n))) d0)) ∙ there)) in
+      (sym (array_map (add_text (number_text n)) (get (codes "keyslots") d0)) ∙ (ap (option_and_then as_array) (sym (get_changed (codes "keyslots") (in_array (add_text (number_text n))) d0)) ∙ there)) in
       let off : has_text (number_text n) p.0 ≡ false = rw p.1 at none_there in
       added p.0 (record { number = m; object = d0; held = r.digest; row = q; listed = listed; speaks = speaks; is = rw e p.1 }) p.2 slots off
   array_added target list d q new listed speaks is (of_segments e segments) =
       let there : option_and_then as_array (get (codes "segments") (with_name (number_text n) d0)) ≡ Some list = rw (e, new) at is in
       let here : option_and_then as_array (get (codes "segments") d0) ≡ Some list
-          = ap (option_and_then as_array) (sym (member_same (number_text n) d0 (codes "segments") refl)) ∙ there in
+      = ap (option_and_then as_array) (sym (member_same (number_text n) d0 (codes "segments") refl)) ∙ there in
       kept_segments (record { number = m; object = d0; held = r.digest; row = q; listed = listed; speaks = speaks; is = rw e here }) segments
 
   array_of : (k target : Section) (list : Items) → HasNames (with_slot n m s j) k target list → WithArray n j k target list

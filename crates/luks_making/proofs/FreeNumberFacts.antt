@@ -91,7 +91,7 @@ module _ (say : TextsSay) (len n : ℕ) (j : Data) (c : IsContent len j) (free :
       let held : HasObject j Digests i.0 d = record { numbered = refl; named = text.1; is = at } in
       let list = digest_array len j c i.0 d held in
       let there : all_there (section_at j Keyslots) list.0 ≡ true
-          = c.resolves.there Digests Keyslots list.0 (record { number = i.0; object = d; held = held; row = row name.Keyslots (rule.Names Keyslots); listed = inr (inr (inr (inl refl))); speaks = refl; is = list.1 }) in
+      = c.resolves.there Digests Keyslots list.0 (record { number = i.0; object = d; held = held; row = row name.Keyslots (rule.Names Keyslots); listed = inr (inr (inr (inl refl))); speaks = refl; is = list.1 }) in
       rw list.1 (absent_text (section_at j Keyslots) (number_text n) list.0 free there)
 
   none_of : (ms : Members) → AllFound full ms → naming_members (codes "keyslots") (number_text n) ms ≡ 0

@@ -7,6 +7,7 @@ mod RemovalFacts
 mod ReadingFacts
 mod AdditionFacts
 mod FreeNumberFacts
+mod RoomFacts
 mod PutFacts
 mod ItemFacts
 mod CopyFacts

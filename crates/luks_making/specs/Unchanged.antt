@@ -8,7 +8,10 @@ use Rattle.luks_json.specs.Arrays.{names, naming_count}
 use Rattle.luks_json.specs.Number.{number_text}
 use Rattle.luks_rules.specs.declared.table.Section.{Section}
 use Rattle.luks_rules.specs.declared.table.Section.TheVariants.{Config, Digests, Keyslots, Segments, Tokens}
-use Rattle.luks_rules.specs.Faults.{object_at, section_at}
+use Rattle.luks_rules.specs.declared.table.Outer.TheVariants as outer
+use Rattle.luks_rules.specs.declared.table.Member.TheVariants as name
+use Rattle.luks_rules.specs.Faults.{member_at, object_at, section_at, type_at}
+use Rattle.luks_rules.specs.Reading.{bytes_in, decimal_in, number_in, text_of}
 use Rattle.luks_making.specs.Keyslots.{SlotMembers, slot_value}
 use Rattle.luks_making.specs.Naming.{IsDigestOf}
 use Rattle.luks_making.specs.With.{with_name}
@@ -60,3 +63,22 @@ pub record GainsSlot (n m : ℕ) (s : SlotMembers) (old new : Data) : Type 0 whe
   pub once : naming_count (codes "keyslots") (number_text n) (section_at new Digests) ≡ 1
   -- the digest that names another keyslot is the same
   pub naming : (i k : ℕ) → i ≢ n → IsDigestOf old i k ↔ IsDigestOf new i k
+
+-- the keyslot `d` says the members, and has no priority
+pub record SaysMembers (s : SlotMembers) (d : Data) : Type 0 where
+  pub kind : type_at d outer.Top ≡ Some (codes "luks2")
+  pub key_size : number_in 1 128 (member_at d outer.Top name.KeySize) ≡ Some s.key_size
+  pub no_priority : member_at d outer.Top name.Priority ≡ None
+  pub splitter : type_at d outer.Af ≡ Some (codes "luks1")
+  pub splitter_hash : text_of (member_at d outer.Af name.Hash) ≡ Some s.splitter_hash
+  pub stripes : number_in 1 4294967295 (member_at d outer.Af name.Stripes) ≡ Some s.stripes
+  pub area : type_at d outer.Area ≡ Some (codes "raw")
+  pub encryption : text_of (member_at d outer.Area name.Encryption) ≡ Some s.encryption
+  pub area_key_size : number_in 1 128 (member_at d outer.Area name.KeySize) ≡ Some s.area_key_size
+  pub offset : decimal_in (member_at d outer.Area name.Offset) ≡ Some s.offset
+  pub size : decimal_in (member_at d outer.Area name.Size) ≡ Some s.size
+  pub derivation : type_at d outer.Kdf ≡ Some (codes "pbkdf2")
+  pub hash : text_of (member_at d outer.Kdf name.Hash) ≡ Some s.hash
+  pub iterations : number_in 1 4294967295 (member_at d outer.Kdf name.Iterations)
+      ≡ Some s.iterations
+  pub salt : bytes_in 1 128 (member_at d outer.Kdf name.Salt) ≡ Some s.salt
