@@ -1,0 +1,5 @@
+pub mod Edited
+pub mod Kept
+pub mod Leftovers
+pub mod Places
+pub mod Refused

@@ -1,2 +1,5 @@
 pub mod EditFaults
 pub mod Asked
+pub mod Kept
+pub mod Ran
+pub mod Opener

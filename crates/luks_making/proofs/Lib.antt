@@ -1,0 +1,15 @@
+mod MemberFacts
+mod NameFacts
+mod WholeFacts
+mod NestingFacts
+mod RowFacts
+mod RemovalFacts
+mod ReadingFacts
+mod AdditionFacts
+mod FreeNumberFacts
+mod RoomFacts
+mod PutFacts
+mod ItemFacts
+mod CopyFacts
+mod StepFacts
+mod AreaFacts

@@ -6,4 +6,5 @@ pub mod With
 pub mod Changed
 pub mod Formatted
 pub mod Conditions
+pub mod Unchanged
 pub mod WrittenArea

@@ -1,0 +1,284 @@
+-- What holds of a LUKS1 volume after an edit that nothing refused, done or ended by the device.
+use Rattle.std.proofs.Common.{◌≡◌, ℕ, ◌<◌, ◌≤◌, ◌⊎◌, List, length, replicate, take, drop, subst, refl, sym, ap, ◌∙◌, arith, inl, inr, Option, Some, None}
+use Rattle.std.proofs.lemmas.Bool.{cases_lt, cases_eq}
+use Rattle.luks_area.specs.declared.area.Area.{Area}
+use Rattle.luks_area.specs.declared.area.AreaName.TheVariants.{Slot}
+use Rattle.luks_area.specs.Ranges.{part, SameBut}
+use Rattle.luks_area.specs.RangeFacts.{same_but-same, same_but-equal, same_but-wider}
+use Rattle.luks_head.specs.Header1.{active_word, disabled_word, enabled_word, entry}
+use Rattle.luks_head.specs.Selection.{luks1, Chosen}
+use Rattle.luks_reading.specs.declared.report.Data.{Data}
+use Rattle.luks_reading.specs.Agreement.{IsSameAnswer}
+use Rattle.luks_reading.specs.Answer.{Answer, Opened, opens}
+use Rattle.luks_reading.specs.Checked.{AreaOf, WellFormed}
+use Rattle.luks_reading.specs.Layout1.{Luks1Area}
+use Rattle.luks_edit.specs.declared.edit.Edit.{Edit}
+use Rattle.luks_edit.specs.declared.edit.Edit.TheVariants.{Add, Change, Remove, Repair, Label}
+use Rattle.luks_edit.specs.declared.edit_fault.EditFault.TheVariants as fault
+use Rattle.luks_edit.specs.Kept.{Keeps}
+use Rattle.luks1_edits.specs.Edited.{After1, HoldsKey, IsFreed, IsInUse, IsLeastFree, IsMade, IsNewKeyslot, IsWiped, NamedKeyslots1, OpensAfter1, Removes}
+use Rattle.luks1_edits.specs.Kept.{AreKeyslots, ChangesKeyslots, IsEither, IsFitFor, KeepsOthers}
+use Rattle.luks1_edits.specs.Leftovers.{IsTorn1, Leftover1, OpensEither1}
+use Rattle.luks1_edits.specs.Places.{area_len, area_start, IsOfKeyslots}
+use Rattle.luks1_edits.specs.Refused.{IsUnrefused1}
+use Rattle.luks1_edits.proofs.AnswerFacts.{answer_moves}
+use Rattle.luks1_edits.proofs.HeaderFacts.{HeaderLaws, len_is, start_is, volume_of}
+use Rattle.luks1_edits.proofs.KeptFacts.{either_decided, keeps_others, kept_common, luks1_after, luks1_area_of, same_keyslot, stays_well_formed}
+use Rattle.luks1_edits.proofs.MadeKeyslotFacts.{IsMadeFrom, KeyslotLaws, made_opens}
+
+-- ---- what no refusal means
+
+in_use_or_not : (v : List ℕ) (n : ℕ) → IsInUse v n ⊎ (IsInUse v n → ⊥)
+in_use_or_not v n = elim (cases_lt n 8) [
+  | inl lt ↦ elim (cases_eq (active_word (entry v n)) enabled_word) [
+    | inl on ↦ inl (lt, on)
+    | inr off ↦ inr (λ on. off on.1)
+  ]
+  | inr past ↦ inr (λ on. let lt = on.0 in omega (arith, lt, past))
+]
+
+in_use : (v : List ℕ) (n : ℕ) → ((IsInUse v n → ⊥) → ⊥) → IsInUse v n
+in_use v n not = elim (in_use_or_not v n) [ inl is ↦ is | inr isnt ↦ absurd (not isnt) ]
+
+at_most_seven : (n : ℕ) → (7 < n → ⊥) → n < 8
+at_most_seven n not = elim (cases_lt 7 n) [ inl over ↦ absurd (not over) | inr under ↦ omega (arith, under) ]
+
+enough : (n : ℕ) → (n < 1000 → ⊥) → 1000 ≤ n
+enough n not = elim (cases_lt n 1000) [ inl few ↦ absurd (not few) | inr many ↦ many ]
+
+-- the keyslots that an edit names are LUKS1's
+named_numbered : (v : List ℕ) (payload : Data) (e : Edit) (r : List ℕ) → IsUnrefused1 v payload e r → (n : ℕ) → NamedKeyslots1 v e n → n < 8
+named_numbered v payload (Add by_ old new (Some t) iterations) r free n is =
+    let low = at_most_seven t (λ over. free.none fault.NoFreeSlot over) in omega (arith, is, low)
+named_numbered v payload (Add by_ old new None iterations) r free n is = is.free.0
+named_numbered v payload (Change slot old new iterations) r free n is =
+    let used = in_use v slot (λ not. free.none fault.NoSuchSlot (record { slot = slot; passphrase = old.now; asked = (refl, refl); unused = not })) in
+    let low = used.0 in
+    elim is [ inl same ↦ omega (arith, same, low) | inr least ↦ least.free.0 ]
+named_numbered v payload (Remove slot passphrase) r free n is =
+    let used = in_use v slot (λ not. free.none fault.NoSuchSlot (record { slot = slot; passphrase = passphrase.now; asked = (refl, refl); unused = not })) in
+    let low = used.0 in
+    omega (arith, is, low)
+named_numbered v payload Repair r free n is = absurd is
+named_numbered v payload (Label text) r free n is = absurd is
+
+-- ---- entries
+
+freed_fits : (old new : List ℕ) → IsFreed old new → IsFitFor old new
+freed_fits old new x = record {
+  stated = λ none. none.1 x.disabled;
+  offset = x.offset;
+  stripes = x.stripes;
+  iterated = λ bad. let two : disabled_word ≡ enabled_word = sym x.disabled ∙ bad.0 in omega (arith, two);
+}
+
+made_fits : (old new : List ℕ) (iterations : ℕ) (salt : List ℕ) → 1000 ≤ iterations → IsMade old new iterations salt → IsFitFor old new
+made_fits old new iterations salt many x = record {
+  stated = λ none. none.0 x.enabled;
+  offset = x.offset;
+  stripes = x.stripes;
+  iterated = λ bad. let zero = bad.1 in let turns = x.iterations_are in omega (arith, zero, turns, many);
+}
+
+either_keyslots : (a b : ℕ) → a < 8 → b < 8 → AreKeyslots (IsEither a b)
+either_keyslots a b lta ltb = record { numbered = λ n is. elim is [ inl x ↦ omega (arith, x, lta) | inr x ↦ omega (arith, x, ltb) ] }
+
+-- ---- sets of keyslots
+
+keeps_wider : (payload : Data) (S T : ℕ → Type 0) (v w : List ℕ) → ((n : ℕ) → S n → T n) → KeepsOthers payload S v w → KeepsOthers payload T v w
+keeps_wider payload S T v w wider x = record {
+  size = x.size;
+  segments = x.segments;
+  slots = λ n not. x.slots n (λ s. not (wider n s));
+}
+
+places_wider : (S T : ℕ → Type 0) (v w : List ℕ) → ((n : ℕ) → S n → T n) → SameBut (IsOfKeyslots v S) v w → SameBut (IsOfKeyslots v T) v w
+places_wider S T v w wider same = same_but-wider (λ p x. record { keyslot = x.keyslot; is_named = wider x.keyslot x.is_named; of = x.of }) same
+
+-- of one keyslot, twice
+pub one_named : (named : ℕ → Type 0) (slot : ℕ) → named slot → (n : ℕ) → IsEither slot slot n → named n
+one_named named slot is n either = let one : n ≡ slot = elim either [ inl y ↦ y | inr y ↦ y ] in subst named (sym one) is
+
+pub two_named : (named : ℕ → Type 0) (a b : ℕ) → named a → named b → (n : ℕ) → IsEither a b n → named n
+two_named named a b is_a is_b n either = elim either [ inl y ↦ subst named (sym y) is_a | inr y ↦ subst named (sym y) is_b ]
+
+-- the least free keyslot is one
+least_free_once : (v : List ℕ) (a b : ℕ) → IsLeastFree v a → IsLeastFree v b → a ≡ b
+least_free_once v a b x y = let low = x.least b y.free in let high = y.least a x.free in omega (arith, low, high)
+
+new_once : (v : List ℕ) (to : Option ℕ) (a b : ℕ) → IsNewKeyslot v to a → IsNewKeyslot v to b → a ≡ b
+new_once v (Some t) a b x y = x ∙ sym y
+new_once v None a b x y = least_free_once v a b x y
+
+-- ---- what an edit leaves
+
+pub record Leaves (payload : Data) (named : ℕ → Type 0) (v w : List ℕ) : Type 0 where
+  pub chosen : Chosen w luks1
+  pub well : WellFormed w payload
+  pub others : KeepsOthers payload named v w
+  pub rest : SameBut (IsOfKeyslots v named) v w
+
+module _ (laws : HeaderLaws) (payload : Data) (v : List ℕ) (chosen : Chosen v luks1) (well : WellFormed v payload) where
+  changes : (a b : ℕ) (w : List ℕ) → a < 8 → b < 8 → SameBut (IsOfKeyslots v (IsEither a b)) v w → ChangesKeyslots payload (IsEither a b) v w
+  changes a b w lta ltb rest = record { keyslots = either_keyslots a b lta ltb; chosen = chosen; well = well; rest = rest }
+
+  both_leave : (named : ℕ → Type 0) (a b : ℕ) (w : List ℕ) → a < 8 → b < 8 → SameBut (IsOfKeyslots v (IsEither a b)) v w
+      → IsFitFor (entry v a) (entry w a) → IsFitFor (entry v b) (entry w b) → named a → named b → Leaves payload named v w
+  both_leave named a b w lta ltb rest fits_a fits_b is_a is_b =
+      let x = changes a b w lta ltb rest in
+      record {
+        chosen = luks1_after laws payload (IsEither a b) v w x;
+        well = stays_well_formed laws payload (IsEither a b) v w x
+            (two_named (λ n. IsFitFor (entry v n) (entry w n)) a b fits_a fits_b) (either_decided a b);
+        others = keeps_wider payload (IsEither a b) named v w (two_named named a b is_a is_b) (keeps_others laws payload (IsEither a b) v w x);
+        rest = places_wider (IsEither a b) named v w (two_named named a b is_a is_b) rest;
+      }
+
+  nothing_left : (named : ℕ → Type 0) (w : List ℕ) → w ≡ v → Leaves payload named v w
+  nothing_left named w same =
+      let none : AreKeyslots (λ n. ⊥) = record { numbered = λ n is. absurd is } in
+      let x : ChangesKeyslots payload (λ n. ⊥) v v = record { keyslots = none; chosen = chosen; well = well; rest = same_but-same (IsOfKeyslots v (λ n. ⊥)) v } in
+      subst (λ u. Leaves payload named v u) (sym same) (record {
+        chosen = chosen;
+        well = well;
+        others = keeps_wider payload (λ n. ⊥) named v v (λ n is. absurd is) (keeps_others laws payload (λ n. ⊥) v v x);
+        rest = same_but-same (IsOfKeyslots v named) v;
+      })
+
+  -- after an edit that is done
+  pub leaves : (e : Edit) (r w : List ℕ) → IsUnrefused1 v payload e r → After1 v e r w → Leaves payload (NamedKeyslots1 v e) v w
+  leaves (Add by_ old new to iterations) r w free x =
+      let lt : x.slot < 8 = named_numbered v payload (Add by_ old new to iterations) r free x.slot x.is_new in
+      let fits = made_fits (entry v x.slot) (entry w x.slot) iterations (take 32 r) (enough iterations (λ few. free.none fault.Iterations few)) x.made in
+      both_leave (IsNewKeyslot v to) x.slot x.slot w lt lt x.rest fits fits x.is_new x.is_new
+  leaves (Change slot old new iterations) r w free x =
+      let used : slot < 8 = named_numbered v payload (Change slot old new iterations) r free slot (inl refl) in
+      both_leave (NamedKeyslots1 v (Change slot old new iterations)) slot x.fresh w used x.is_free.free.0 x.rest
+      (freed_fits (entry v slot) (entry w slot) x.freed)
+      (made_fits (entry v x.fresh) (entry w x.fresh) iterations (take 32 r) (enough iterations (λ few. free.none fault.Iterations few)) x.made)
+      (inl refl) (inr x.is_free)
+  leaves (Remove slot passphrase) r w free x =
+      let used : slot < 8 = named_numbered v payload (Remove slot passphrase) r free slot refl in
+      let fits = freed_fits (entry v slot) (entry w slot) x.freed in
+      both_leave (λ n. n ≡ slot) slot slot w used used x.rest fits fits refl refl
+  leaves Repair r w free x = nothing_left (λ n. ⊥) w x
+  leaves (Label text) r w free x = absurd x
+
+  pub keeps : (e : Edit) (r w : List ℕ) → IsUnrefused1 v payload e r → After1 v e r w → Keeps payload (NamedKeyslots1 v e) v w
+  keeps e r w free x = let left = leaves e r w free x in record { size = left.others.size; well = left.well; segments = left.others.segments; slots = left.others.slots }
+
+  -- ---- what opens
+
+  module _ (keyslots : KeyslotLaws) (once : (n : ℕ) (p : List ℕ) (a b : Opened) → Answer v n p a → Answer v n p b → IsSameAnswer a b) where
+    -- a keyslot that was made opens to each key that the opener opened to
+    made_to : (opener : ℕ) (old : List ℕ) (fresh iterations : ℕ) (salt new key other random w : List ℕ) → fresh < 8 → 1000 ≤ iterations
+        → (a b : ℕ) → a < 8 → b < 8 → SameBut (IsOfKeyslots v (IsEither a b)) v w
+        → IsMade (entry v fresh) (entry w fresh) iterations salt → HoldsKey w fresh new key random
+        → Answer v opener old (opens key) → Answer v opener old (opens other) → Answer w fresh new (opens other)
+    made_to opener old fresh iterations salt new key other random w lt many a b lta ltb rest made holds opened again =
+        let same : key ≡ other = once opener old (opens key) (opens other) opened again in
+        let x : IsMadeFrom payload v opener old fresh iterations salt new key random w = record {
+          chosen = chosen;
+          well = well;
+          length_same = rest.length_same;
+          common = kept_common v payload (volume_of laws v payload chosen well).fit w (IsEither a b) (either_keyslots a b lta ltb) rest;
+          opened = opened;
+          numbered = lt;
+          iterated = omega (arith, many);
+          made = made;
+          holds = holds;
+        } in
+        subst (λ k. Answer w fresh new (opens k)) same (made_opens laws keyslots payload v opener old fresh iterations salt new key random w x)
+
+    pub opens_after : (e : Edit) (r w : List ℕ) → IsUnrefused1 v payload e r → After1 v e r w → OpensAfter1 v e w
+    opens_after (Add by_ old new to iterations) r w free x = λ n key is opened.
+        let lt : x.slot < 8 = named_numbered v payload (Add by_ old new to iterations) r free x.slot x.is_new in
+        subst (λ k. Answer w k new.now (opens key)) (new_once v to x.slot n x.is_new is)
+        (made_to by_ old.now x.slot iterations (take 32 r) new.now x.key key (drop 32 r) w lt (enough iterations (λ few. free.none fault.Iterations few))
+        x.slot x.slot lt lt x.rest x.made x.holds x.opened opened)
+    opens_after (Change slot old new iterations) r w free x = λ n key is opened.
+        let used : slot < 8 = named_numbered v payload (Change slot old new iterations) r free slot (inl refl) in
+        subst (λ k. Answer w k new.now (opens key)) (least_free_once v x.fresh n x.is_free is)
+        (made_to slot old.now x.fresh iterations (take 32 r) new.now x.key key (drop 32 r) w x.is_free.free.0 (enough iterations (λ few. free.none fault.Iterations few))
+        slot x.fresh used x.is_free.free.0 x.rest x.made x.holds x.opened opened)
+    opens_after (Remove slot passphrase) r w free x = tt
+    opens_after Repair r w free x = tt
+    opens_after (Label text) r w free x = tt
+
+    -- ---- after a device's failure
+
+    opens_either : (e : Edit) (r w : List ℕ) → IsUnrefused1 v payload e r → IsTorn1 v e r w → OpensEither1 v e w
+    opens_either (Add by_ old new to iterations) r w free x = tt
+    opens_either (Change slot old new iterations) r w free (inl x) = λ key opened.
+        let used = in_use v slot (λ not. free.none fault.NoSuchSlot (record { slot = slot; passphrase = old.now; asked = (refl, refl); unused = not })) in
+        let lt : x.slot < 8 = x.is.free.0 in
+        let other : IsEither x.slot x.slot slot → ⊥ = λ either.
+        let one : slot ≡ x.slot = elim either [ inl y ↦ y | inr y ↦ y ] in
+        let two : enabled_word ≡ disabled_word = sym used.1 ∙ ap (λ k. active_word (entry v k)) one ∙ x.is.free.1 in
+        omega (arith, two) in
+        inl (answer_moves laws slot v w old.now (opens key) chosen
+        (same_keyslot v payload (volume_of laws v payload chosen well).fit w (IsEither x.slot x.slot) (either_keyslots x.slot x.slot lt lt) x.rest slot other) opened)
+    opens_either (Change slot old new iterations) r w free (inr x) = λ key opened.
+        let used : slot < 8 = named_numbered v payload (Change slot old new iterations) r free slot (inl refl) in
+        inr (
+          x.fresh,
+          (
+            x.is_free,
+            made_to slot old.now x.fresh iterations (take 32 r) new.now x.key key (drop 32 r) w x.is_free.free.0 (enough iterations (λ few. free.none fault.Iterations few))
+                slot x.fresh used x.is_free.free.0 x.rest x.made x.holds x.opened opened,
+          ),
+        )
+    opens_either (Remove slot passphrase) r w free x = tt
+    opens_either Repair r w free x = tt
+    opens_either (Label text) r w free x = tt
+
+    same_opens : (e : Edit) → OpensEither1 v e v
+    same_opens (Add by_ old new to iterations) = tt
+    same_opens (Change slot old new iterations) = λ key opened. inl opened
+    same_opens (Remove slot passphrase) = tt
+    same_opens Repair = tt
+    same_opens (Label text) = tt
+
+    pub leftover_opens : (e : Edit) (r w : List ℕ) → Leftover1 v payload e r w → OpensEither1 v e w
+    leftover_opens e r w (inl same) = subst (λ u. OpensEither1 v e u) (sym same) (same_opens e)
+    leftover_opens e r w (inr x) = opens_either e r w x.0 x.1
+
+  torn_rest : (e : Edit) (r w : List ℕ) → IsTorn1 v e r w → SameBut (IsOfKeyslots v (NamedKeyslots1 v e)) v w
+  torn_rest (Add by_ old new to iterations) r w x =
+      places_wider (IsEither x.slot x.slot) (IsNewKeyslot v to) v w (one_named (IsNewKeyslot v to) x.slot x.is) x.rest
+  torn_rest (Change slot old new iterations) r w (inl x) =
+      places_wider (IsEither x.slot x.slot) (NamedKeyslots1 v (Change slot old new iterations)) v w
+      (one_named (NamedKeyslots1 v (Change slot old new iterations)) x.slot (inr x.is)) x.rest
+  torn_rest (Change slot old new iterations) r w (inr x) =
+      places_wider (IsEither slot x.fresh) (NamedKeyslots1 v (Change slot old new iterations)) v w
+      (two_named (NamedKeyslots1 v (Change slot old new iterations)) slot x.fresh (inl refl) (inr x.is_free)) x.rest
+  torn_rest (Remove slot passphrase) r w x =
+      places_wider (IsEither slot slot) (λ n. n ≡ slot) v w (one_named (λ n. n ≡ slot) slot refl) x.rest
+  torn_rest Repair r w x = absurd x
+  torn_rest (Label text) r w x = absurd x
+
+  pub leftover_rest : (e : Edit) (r w : List ℕ) → Leftover1 v payload e r w → SameBut (IsOfKeyslots v (NamedKeyslots1 v e)) v w
+  leftover_rest e r w (inl same) = same_but-equal (IsOfKeyslots v (NamedKeyslots1 v e)) same
+  leftover_rest e r w (inr x) = torn_rest e r w x.1
+
+  pub leftover_keeps : (e : Edit) (r w : List ℕ) → Leftover1 v payload e r w → KeepsOthers payload (NamedKeyslots1 v e) v w
+  leftover_keeps e r w (inl same) = (nothing_left (NamedKeyslots1 v e) w same).others
+  leftover_keeps e r w (inr x) =
+      keeps_others laws payload (NamedKeyslots1 v e) v w
+      (record { keyslots = record { numbered = named_numbered v payload e r x.0 }; chosen = chosen; well = well; rest = torn_rest e r w x.1 })
+
+  -- ---- the area of a keyslot that was removed
+
+  wiped_area : (n : ℕ) (w : List ℕ) (a : Area) → IsWiped v n w → AreaOf v payload (Slot n) a → part w a.start a.len ≡ replicate a.len 0
+  wiped_area n w a zeros has =
+      let is : Luks1Area (part v 0 592) payload (length v) (Slot n) a = luks1_area_of laws v payload (Slot n) a chosen has in
+      let start : a.start ≡ area_start v n = is.1 ∙ start_is v n is.0 in
+      let len : a.len ≡ area_len v n = is.2 ∙ len_is v n is.0 in
+      subst (λ s. part w s a.len ≡ replicate a.len 0) (sym start) (subst (λ l. part w (area_start v n) l ≡ replicate l 0) (sym len) zeros)
+
+  pub removed_area : (e : Edit) (r w : List ℕ) (n : ℕ) (a : Area) → After1 v e r w → Removes e n → AreaOf v payload (Slot n) a → part w a.start a.len ≡ replicate a.len 0
+  removed_area (Add by_ old new to iterations) r w n a x is has = absurd is
+  removed_area (Change slot old new iterations) r w n a x is has = wiped_area n w a (subst (λ k. IsWiped v k w) (sym is) x.wiped) has
+  removed_area (Remove slot passphrase) r w n a x is has = wiped_area n w a (subst (λ k. IsWiped v k w) (sym is) x.wiped) has
+  removed_area Repair r w n a x is has = absurd is
+  removed_area (Label text) r w n a x is has = absurd is

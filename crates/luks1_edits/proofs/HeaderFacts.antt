@@ -1,0 +1,107 @@
+-- The fields of a LUKS1 header: in the volume, in its first 592 bytes, and in another volume with
+-- the same bytes before the keyslots.
+use Rattle.std.proofs.Common.{◌≡◌, ℕ, ◌+◌, ◌*◌, ◌<◌, ◌≤◌, ◌↔◌, List, length, sym, ap, subst, ◌∙◌, arith, lit≤, zero-add}
+use Rattle.luks_area.specs.Ranges.{part}
+use Rattle.luks_area.specs.RangeFacts.{part-part}
+use Rattle.luks_area.specs.Sectors.{rounded_to_sectors}
+use Rattle.luks_area.specs.Text.{text_of}
+use Rattle.luks_head.specs.Bytes.{number_at, text_at}
+use Rattle.luks_head.specs.Faults.{IsCommonFault, IsEntryFault, IsLuks1Fault as IsLuks1HeadFault}
+use Rattle.luks_head.specs.Header1.{entry, entry_stripes, IsLuks1}
+use Rattle.luks_head.specs.Selection.{Choice, luks1, Chosen}
+use Rattle.luks_head.specs.declared.fault.HeadFault.{HeadFault}
+use Rattle.luks_head.specs.declared.fault.HeadFault.TheVariants as fault
+use Rattle.luks_head.specs.declared.fault.IterationsOf.TheVariants as of
+use Rattle.luks_head.specs.declared.luks1.Luks1.{Luks1}
+use Rattle.luks_reading.specs.declared.report.Data.{Data}
+use Rattle.luks_reading.specs.Checked.{IsLuks1Volume, WellFormed, WellFormedAs}
+use Rattle.luks1_edits.specs.Places.{area_len, area_start}
+
+-- the laws on headers that the facts here rest on
+pub record HeaderLaws : Type 0 where
+  pub one : (v : List ℕ) (b c : Choice) → Chosen v b → Chosen v c → b ≡ c
+  pub common : (v : List ℕ) (f : HeadFault) → IsCommonFault (part v 0 208) f ↔ IsCommonFault v f
+  pub faultless : (v : List ℕ) → ((f : HeadFault) → IsLuks1HeadFault v f → ⊥) ↔ ((d : Luks1) × IsLuks1 v d)
+
+-- ---- parts of the front
+
+-- a part of the first bytes is the volume's
+pub part_of_front : (v : List ℕ) (n o l : ℕ) → o + l ≤ n → part (part v 0 n) o l ≡ part v o l
+part_of_front v n o l within = part-part v 0 n o l within ∙ ap (λ k. part v k l) (zero-add o)
+
+-- the same 208 bytes have the same parts
+pub front_moves : (v w : List ℕ) → part w 0 208 ≡ part v 0 208 → (o l : ℕ) → o + l ≤ 208 → part w o l ≡ part v o l
+front_moves v w e o l within = sym (part_of_front w 208 o l within) ∙ ap (λ b. part b o l) e ∙ part_of_front v 208 o l within
+
+-- so have the headers of the two volumes
+pub header_moves : (v w : List ℕ) → part w 0 208 ≡ part v 0 208 → (o l : ℕ) → o + l ≤ 208
+    → part (part w 0 592) o l ≡ part (part v 0 592) o l
+header_moves v w e o l within =
+    part_of_front w 592 o l (omega (arith, within)) ∙ front_moves v w e o l within ∙ sym (part_of_front v 592 o l (omega (arith, within)))
+
+-- equal parts are equal numbers and texts
+pub number_same : (a b : List ℕ) (o l : ℕ) → part a o l ≡ part b o l → number_at a o l ≡ number_at b o l
+number_same a b o l e = cc
+
+pub text_same : (a b : List ℕ) (o l : ℕ) → part a o l ≡ part b o l → text_at a o l ≡ text_at b o l
+text_same a b o l e = ap text_of e
+
+-- ---- the header and the volume say the same
+
+pub key_is : (v : List ℕ) → number_at (part v 0 592) 108 4 ≡ number_at v 108 4
+key_is v = number_same (part v 0 592) v 108 4 (part_of_front v 592 108 4 (lit≤ tt))
+
+pub entry_is : (v : List ℕ) (n : ℕ) → n < 8 → entry (part v 0 592) n ≡ entry v n
+entry_is v n lt = part_of_front v 592 (208 + 48 * n) 48 (omega (arith, lt))
+
+pub start_is : (v : List ℕ) (n : ℕ) → n < 8 → area_start (part v 0 592) n ≡ area_start v n
+start_is v n lt = ap (λ e. number_at e 40 4 * 512) (entry_is v n lt)
+
+pub len_is : (v : List ℕ) (n : ℕ) → n < 8 → area_len (part v 0 592) n ≡ area_len v n
+len_is v n lt =
+    ap (λ k. rounded_to_sectors (k * entry_stripes (entry (part v 0 592) n))) (key_is v)
+    ∙ ap (λ e. rounded_to_sectors (number_at v 108 4 * entry_stripes e)) (entry_is v n lt)
+
+-- ---- faults
+
+-- a fault of an entry is one of the header
+pub entry_fault : (h : List ℕ) (n : ℕ) (f : HeadFault) → n < 8 → IsEntryFault n (entry h n) f → IsLuks1HeadFault h f
+entry_fault h n (fault.SlotState m) lt x = subst (λ k. IsLuks1HeadFault h (fault.SlotState k)) (sym x.0) (lt, x.1)
+entry_fault h n (fault.Stripes m) lt x = subst (λ k. IsLuks1HeadFault h (fault.Stripes k)) (sym x.0) (lt, x.1)
+entry_fault h n (fault.Iterations (of.Slot m)) lt x = subst (λ k. IsLuks1HeadFault h (fault.Iterations (of.Slot k))) (sym x.0) (lt, x.1)
+entry_fault h n (fault.Iterations of.Digest) lt x = absurd x
+entry_fault h n fault.TooShort lt x = absurd x
+entry_fault h n fault.NotLuks lt x = absurd x
+entry_fault h n fault.Version lt x = absurd x
+entry_fault h n fault.NoSoundCopy lt x = absurd x
+entry_fault h n (fault.Text t) lt x = absurd x
+entry_fault h n fault.Uuid lt x = absurd x
+entry_fault h n fault.KeyBytes lt x = absurd x
+entry_fault h n fault.Device lt x = absurd x
+entry_fault h n fault.Memory lt x = absurd x
+
+module _ (laws : HeaderLaws) where
+  -- the faults before the keyslots are those of the same 208 bytes
+  pub common_moves : (v w : List ℕ) → part w 0 208 ≡ part v 0 208 → (f : HeadFault) → IsCommonFault (part v 0 592) f → IsCommonFault (part w 0 592) f
+  common_moves v w e f x =
+      let front : part (part v 0 592) 0 208 ≡ part (part w 0 592) 0 208 =
+      part_of_front v 592 0 208 (lit≤ tt) ∙ sym e ∙ sym (part_of_front w 592 0 208 (lit≤ tt)) in
+      (laws.common (part w 0 592) f).0 (subst (λ b. IsCommonFault b f) front ((laws.common (part v 0 592) f).1 x))
+
+  -- a well formed volume of LUKS1 is one by its header
+  pub volume_of : (v : List ℕ) (payload : Data) → Chosen v luks1 → WellFormed v payload → IsLuks1Volume (part v 0 592) payload (length v)
+  volume_of v payload chosen well = subst (WellFormedAs v payload) (laws.one v well.choice luks1 well.chosen chosen) well.formed
+
+  -- and its header has no fault
+  pub header_clear : (v : List ℕ) (payload : Data) → Chosen v luks1 → WellFormed v payload → (f : HeadFault) → IsLuks1HeadFault (part v 0 592) f → ⊥
+  header_clear v payload chosen well = (laws.faultless (part v 0 592)).1 (volume_of v payload chosen well).header
+
+-- a volume with the same front is of LUKS1 too
+pub chosen_moves : (v w : List ℕ) → length w ≡ length v → part w 0 208 ≡ part v 0 208 → Chosen v luks1 → Chosen w luks1
+chosen_moves v w size e chosen =
+    let long = chosen.long in
+    record {
+      long = omega (arith, long, size);
+      magic = front_moves v w e 0 6 (lit≤ tt) ∙ chosen.magic;
+      version = number_same w v 6 2 (front_moves v w e 6 2 (lit≤ tt)) ∙ chosen.version;
+    }

@@ -1,0 +1,283 @@
+-- A LUKS1 volume of which only some keyslots' entries and areas were changed.
+use Rattle.std.proofs.Common.{◌≡◌, ℕ, ◌+◌, ◌-◌, ◌*◌, ◌<◌, ◌≤◌, ◌⊎◌, List, length, subst, refl, sym, ap, ◌∙◌, arith, lit≤, inl, inr}
+use Rattle.std.proofs.lemmas.Bool.{cases_eq}
+use Rattle.luks_area.specs.declared.area.Area.{Area}
+use Rattle.luks_area.specs.declared.area.AreaName.{AreaName}
+use Rattle.luks_area.specs.declared.area.AreaName.TheVariants.{Head1, Head2, Slot, Segment}
+use Rattle.luks_area.specs.Area.{Fit, name_number}
+use Rattle.luks_area.specs.Ranges.{part, IsAt, SameBut}
+use Rattle.luks_area.specs.RangeFacts.{length-part_inside, part-same_but}
+use Rattle.luks_area.specs.Sectors.{rounded_to_sectors}
+use Rattle.luks_head.specs.Bytes.{number_at}
+use Rattle.luks_head.specs.Faults.{HasUnknownState, LacksIterations, IsCommonFault, IsLuks1Fault as IsLuks1HeadFault}
+use Rattle.luks_head.specs.Header1.{entry, entry_stripes}
+use Rattle.luks_head.specs.declared.selection.Copies.{Copies}
+use Rattle.luks_head.specs.Selection.{luks1, luks2, Chosen}
+use Rattle.luks_head.specs.declared.fault.HeadFault.{HeadFault}
+use Rattle.luks_head.specs.declared.fault.HeadFault.TheVariants as fault
+use Rattle.luks_head.specs.declared.fault.IterationsOf.TheVariants as of
+use Rattle.luks_reading.specs.declared.report.Data.{Data}
+use Rattle.luks_reading.specs.Checked.{AreaOf, HasAreaAs, IsLuks1Volume, WellFormed}
+use Rattle.luks_reading.specs.Layout1.{Luks1Area}
+use Rattle.luks_edit.specs.Kept.{KeepsArea, KeepsSlot}
+use Rattle.luks1_edits.specs.Kept.{AreKeyslots, ChangesKeyslots, HasSameKeyslot, IsEither, IsFitFor, KeepsOthers}
+use Rattle.luks1_edits.specs.Places.{area_len, area_start, entry_place, IsOfKeyslot, IsOfKeyslots}
+use Rattle.luks1_edits.proofs.HeaderFacts.{HeaderLaws, chosen_moves, common_moves, entry_is, header_clear, header_moves, len_is, number_same, start_is, volume_of}
+use Rattle.luks1_edits.proofs.AnswerFacts.{answer_moves, answer_returns}
+
+-- ---- the areas of a volume, by its header
+
+pub keyslot_area : List ℕ → ℕ → Area
+keyslot_area v n = record { start = area_start v n; len = area_len v n }
+
+pub has_keyslot : (v : List ℕ) (payload : Data) (total n : ℕ) → n < 8 → Luks1Area (part v 0 592) payload total (Slot n) (keyslot_area v n)
+unfolding keyslot_area
+has_keyslot v payload total n lt = (lt, sym (start_is v n lt), sym (len_is v n lt))
+
+header_area : Area
+header_area = record { start = 0; len = 592 }
+
+has_header : (h : List ℕ) (payload : Data) (total : ℕ) → Luks1Area h payload total Head1 header_area
+unfolding header_area
+has_header h payload total = (refl, refl)
+
+-- ---- areas that don't meet
+
+module _ (v : List ℕ) (payload : Data) (fit : Fit (Luks1Area (part v 0 592) payload (length v)) (length v)) where
+  areas_apart : (m n p : ℕ) → m < 8 → n < 8 → (m ≡ n → ⊥) → IsAt (area_start v m) (area_len v m) p → IsAt (area_start v n) (area_len v n) p → ⊥
+  unfolding keyslot_area
+  areas_apart m n p ltm ltn other at_m at_n =
+      fit.disjoint (Slot m) (Slot n) (keyslot_area v m) (keyslot_area v n) (has_keyslot v payload (length v) m ltm) (has_keyslot v payload (length v) n ltn)
+      (λ e. other (ap name_number e)) p at_m at_n
+
+  -- no place of the header is of a keyslot's area
+  pub header_apart : (n p : ℕ) → n < 8 → p < 592 → IsAt (area_start v n) (area_len v n) p → ⊥
+  unfolding keyslot_area header_area
+  header_apart n p lt below at =
+      fit.disjoint Head1 (Slot n) header_area (keyslot_area v n) (has_header (part v 0 592) payload (length v)) (has_keyslot v payload (length v) n lt)
+      (λ e. cc) p (omega arith, omega arith) at
+
+  -- a keyslot's area is inside
+  pub area_inside : (n : ℕ) → n < 8 → area_start v n + area_len v n ≤ length v
+  unfolding keyslot_area
+  area_inside n lt = fit.inside (Slot n) (keyslot_area v n) (has_keyslot v payload (length v) n lt)
+
+  segment_apart : (m n p : ℕ) (a : Area) → m < 8 → Luks1Area (part v 0 592) payload (length v) (Segment n) a
+      → IsAt a.start a.len p → IsOfKeyslot v m p → ⊥
+  unfolding keyslot_area header_area
+  segment_apart m n p a lt has at (inl in_entry) =
+      fit.disjoint Head1 (Segment n) header_area a (has_header (part v 0 592) payload (length v)) has (λ e. cc) p (omega arith, omega arith) at
+  segment_apart m n p a lt has at (inr in_area) =
+      fit.disjoint (Slot m) (Segment n) (keyslot_area v m) a (has_keyslot v payload (length v) m lt) has (λ e. cc) p in_area at
+
+  -- the places of one keyslot aren't of another
+  entry_apart : (m n p : ℕ) → m < 8 → n < 8 → (m ≡ n → ⊥) → IsAt (entry_place n) 48 p → IsOfKeyslot v m p → ⊥
+  entry_apart m n p ltm ltn other at (inl in_entry) = let low = at.0 in let high = at.1 in let from = in_entry.0 in let to = in_entry.1 in omega (arith, other, low, high, from, to)
+  entry_apart m n p ltm ltn other at (inr in_area) = let high = at.1 in header_apart m p ltm (omega (arith, high, ltn)) in_area
+
+  area_apart : (m n p : ℕ) → m < 8 → n < 8 → (m ≡ n → ⊥) → IsAt (area_start v n) (area_len v n) p → IsOfKeyslot v m p → ⊥
+  area_apart m n p ltm ltn other at (inl in_entry) = let to = in_entry.1 in header_apart n p ltn (omega (arith, to, ltm)) at
+  area_apart m n p ltm ltn other at (inr in_area) = areas_apart m n p ltm ltn other in_area at
+
+  common_apart : (m p : ℕ) → m < 8 → p < 208 → IsOfKeyslot v m p → ⊥
+  common_apart m p lt below (inl in_entry) = let from = in_entry.0 in omega (arith, from, below)
+  common_apart m p lt below (inr in_area) = header_apart m p lt (omega (arith, below)) in_area
+
+  module _ (w : List ℕ) (named : ℕ → Type 0) (keyslots : AreKeyslots named) (same : SameBut (IsOfKeyslots v named) v w) where
+    differs : (n : ℕ) → (named n → ⊥) → (m : ℕ) → named m → m ≡ n → ⊥
+    differs n not m is e = not (subst named e is)
+
+    pub kept_common : part w 0 208 ≡ part v 0 208
+    kept_common = part-same_but 0 208 same
+        (λ p at x. common_apart x.keyslot p (keyslots.numbered x.keyslot x.is_named) (let high = at.1 in omega (arith, high)) x.of)
+
+    kept_entry : (n : ℕ) → n < 8 → (named n → ⊥) → entry w n ≡ entry v n
+    kept_entry n lt not = part-same_but (entry_place n) 48 same
+        (λ p at x. entry_apart x.keyslot n p (keyslots.numbered x.keyslot x.is_named) lt (differs n not x.keyslot x.is_named) at x.of)
+
+    kept_area : (n : ℕ) → n < 8 → (named n → ⊥) → part w (area_start v n) (area_len v n) ≡ part v (area_start v n) (area_len v n)
+    kept_area n lt not = part-same_but (area_start v n) (area_len v n) same
+        (λ p at x. area_apart x.keyslot n p (keyslots.numbered x.keyslot x.is_named) lt (differs n not x.keyslot x.is_named) at x.of)
+
+    kept_segment : (n : ℕ) (a : Area) → Luks1Area (part v 0 592) payload (length v) (Segment n) a → part w a.start a.len ≡ part v a.start a.len
+    kept_segment n a has = part-same_but a.start a.len same
+        (λ p at x. segment_apart x.keyslot n p a (keyslots.numbered x.keyslot x.is_named) has at x.of)
+
+    pub same_keyslot : (n : ℕ) → (named n → ⊥) → HasSameKeyslot n v w
+    same_keyslot n not = record {
+      length_same = same.length_same;
+      common = kept_common;
+      entry = λ lt. kept_entry n lt not;
+      area = λ lt. kept_area n lt not;
+    }
+
+-- ---- what is kept
+
+module _ (laws : HeaderLaws) where
+  pub luks1_area_of : (v : List ℕ) (payload : Data) (n : AreaName) (a : Area) → Chosen v luks1 → AreaOf v payload n a → Luks1Area (part v 0 592) payload (length v) n a
+  luks1_area_of v payload n a chosen x = subst (λ c. HasAreaAs v payload c n a) (laws.one v x.choice luks1 x.chosen chosen) x.area
+
+  -- the areas of the volume are those of its header
+  luks1_area_in : (v : List ℕ) (payload : Data) (n : AreaName) (a : Area) → Chosen v luks1 → Luks1Area (part v 0 592) payload (length v) n a → AreaOf v payload n a
+  luks1_area_in v payload n a chosen has = record { choice = luks1; chosen = chosen; area = has }
+
+  module _ (payload : Data) (named : ℕ → Type 0) (v w : List ℕ) (x : ChangesKeyslots payload named v w) where
+    placed : Fit (Luks1Area (part v 0 592) payload (length v)) (length v)
+    placed = (volume_of laws v payload x.chosen x.well).fit
+
+    front : part w 0 208 ≡ part v 0 208
+    front = kept_common v payload placed w named x.keyslots x.rest
+
+    pub luks1_after : Chosen w luks1
+    luks1_after = chosen_moves v w x.rest.length_same front x.chosen
+
+    -- an area by the one header is there by the other, where the volume is as long and the entry the same
+    area_same : (u z : List ℕ) → length z ≡ length u → part z 0 208 ≡ part u 0 208 → (n : AreaName) (a : Area)
+        → ((m : ℕ) → n ≡ Slot m → m < 8 → entry z m ≡ entry u m)
+        → Luks1Area (part u 0 592) payload (length u) n a → Luks1Area (part z 0 592) payload (length z) n a
+    area_same u z size same Head1 a at has = has
+    area_same u z size same Head2 a at has = has
+    area_same u z size same (Slot n) a at has =
+        let key : number_at (part u 0 592) 108 4 ≡ number_at (part z 0 592) 108 4 = sym (number_same (part z 0 592) (part u 0 592) 108 4 (header_moves u z same 108 4 (lit≤ tt))) in
+        let entries : entry (part u 0 592) n ≡ entry (part z 0 592) n = entry_is u n has.0 ∙ sym (at n refl has.0) ∙ sym (entry_is z n has.0) in (
+          has.0,
+          has.1 ∙ ap (λ e. number_at e 40 4 * 512) entries,
+          has.2 ∙ ap (λ k. rounded_to_sectors (k * entry_stripes (entry (part u 0 592) n))) key ∙ ap (λ e. rounded_to_sectors (number_at (part z 0 592) 108 4 * entry_stripes e)) entries,
+        )
+    area_same u z size same (Segment n) a at has =
+        let start : number_at (part u 0 592) 104 4 ≡ number_at (part z 0 592) 104 4 = sym (number_same (part z 0 592) (part u 0 592) 104 4 (header_moves u z same 104 4 (lit≤ tt))) in
+        (has.0, has.1, has.2 ∙ ap (λ k. k * 512) start, has.3 ∙ ap (λ t. t - a.start) (sym size))
+
+    keeps_area : (n : AreaName) → ((m : ℕ) → n ≡ Slot m → m < 8 → entry w m ≡ entry v m)
+        → ((a : Area) → Luks1Area (part v 0 592) payload (length v) n a → part w a.start a.len ≡ part v a.start a.len) → KeepsArea payload n v w
+    keeps_area n at bytes = record {
+      same = λ a. (
+        λ has. luks1_area_in w payload n a luks1_after (area_same v w x.rest.length_same front n a at (luks1_area_of v payload n a x.chosen has)),
+        λ has. luks1_area_in v payload n a x.chosen
+            (area_same w v (sym x.rest.length_same) (sym front) n a (λ m is lt. sym (at m is lt)) (luks1_area_of w payload n a luks1_after has)),
+      );
+      bytes = λ a has. bytes a (luks1_area_of v payload n a x.chosen has);
+    }
+
+    keeps_slot_area : (n : ℕ) → (named n → ⊥) → KeepsArea payload (Slot n) v w
+    keeps_slot_area n not = keeps_area (Slot n)
+        (λ m is lt. kept_entry v payload placed w named x.keyslots x.rest m lt (λ there. not (subst named (sym (ap name_number is)) there)))
+        (λ a is.
+        let start : a.start ≡ area_start v n = is.1 ∙ start_is v n is.0 in
+        let len : a.len ≡ area_len v n = is.2 ∙ len_is v n is.0 in
+        subst (λ s. part w s a.len ≡ part v s a.len) (sym start)
+        (subst (λ l. part w (area_start v n) l ≡ part v (area_start v n) l) (sym len) (kept_area v payload placed w named x.keyslots x.rest n is.0 not)))
+
+    -- LUKS1 has no keyslots in metadata
+    no_value : (u : List ℕ) → Chosen u luks1 → (place : ℕ) (copies : Copies) → Chosen u (luks2 place copies) → ⊥
+    no_value u one place copies two = let same = laws.one u luks1 (luks2 place copies) one two in cc
+
+    keeps_slot : (n : ℕ) → (named n → ⊥) → KeepsSlot payload n v w
+    keeps_slot n not =
+        let same : HasSameKeyslot n v w = same_keyslot v payload placed w named x.keyslots x.rest n not in
+        record {
+          area = keeps_slot_area n not;
+          entry = λ bytes. (
+            λ is. record { chosen = luks1_after; numbered = is.numbered; is = is.is ∙ sym (same.entry is.numbered) },
+            λ is. record { chosen = x.chosen; numbered = is.numbered; is = is.is ∙ same.entry is.numbered },
+          );
+          value = λ d. (
+            λ is. absurd (no_value v x.chosen is.place is.copies is.chosen),
+            λ is. absurd (no_value w luks1_after is.place is.copies is.chosen),
+          );
+          answers = λ p a. (answer_moves laws n v w p a x.chosen same, answer_returns laws n v w p a x.chosen same);
+        }
+
+    pub keeps_others : KeepsOthers payload named v w
+    keeps_others = record {
+      size = x.rest.length_same;
+      segments = λ n. keeps_area (Segment n) (λ m is lt. absurd (cc)) (λ a has. kept_segment v payload placed w named x.keyslots x.rest n a has);
+      slots = keeps_slot;
+    }
+
+-- ---- the volume stays well formed
+
+module _ (laws : HeaderLaws) (payload : Data) (named : ℕ → Type 0) (v w : List ℕ) (x : ChangesKeyslots payload named v w) (fits : (n : ℕ) → named n → IsFitFor (entry v n) (entry w n)) (decided : (n : ℕ) → named n ⊎ (named n → ⊥)) where
+  whole : IsLuks1Volume (part v 0 592) payload (length v)
+  whole = volume_of laws v payload x.chosen x.well
+
+  clear : (f : HeadFault) → IsLuks1HeadFault (part v 0 592) f → ⊥
+  clear = header_clear laws v payload x.chosen x.well
+
+  entry_kept : (n : ℕ) → n < 8 → (named n → ⊥) → entry w n ≡ entry v n
+  entry_kept n lt not = kept_entry v payload whole.fit w named x.keyslots x.rest n lt not
+
+  common_same : part w 0 208 ≡ part v 0 208
+  common_same = kept_common v payload whole.fit w named x.keyslots x.rest
+
+  -- each entry is fit for use in the place of the old one
+  fit_entry : (n : ℕ) → n < 8 → IsFitFor (entry (part v 0 592) n) (entry (part w 0 592) n)
+  fit_entry n lt = subst (λ e. IsFitFor e (entry (part w 0 592) n)) (sym (entry_is v n lt))
+      (subst (λ e. IsFitFor (entry v n) e) (sym (entry_is w n lt)) (elim (decided n) [
+        | inl is ↦ fits n is
+        | inr not ↦
+            let same : entry (part v 0 592) n ≡ entry w n = entry_is v n lt ∙ sym (entry_kept n lt not) in
+            record {
+              stated = λ none. clear (fault.SlotState n) (lt, subst HasUnknownState (sym same) none);
+              offset = ap (λ e. number_at e 40 4) (entry_kept n lt not);
+              stripes = ap entry_stripes (entry_kept n lt not);
+              iterated = λ none. clear (fault.Iterations (of.Slot n)) (lt, subst LacksIterations (sym same) none);
+            }
+      ]))
+
+  common_clear : (f : HeadFault) → IsCommonFault (part w 0 592) f → ⊥
+  common_clear f bad = clear f (common_moves laws w v (sym common_same) f bad).1
+
+  clear_after : (f : HeadFault) → IsLuks1HeadFault (part w 0 592) f → ⊥
+  clear_after fault.TooShort bad =
+      let long = x.chosen.long in
+      let size = x.rest.length_same in
+      let all = length-part_inside w 0 592 (omega (arith, long, size)) in
+      omega (arith, bad, all)
+  clear_after fault.NotLuks bad = common_clear fault.NotLuks (tt, bad)
+  clear_after fault.Version bad = common_clear fault.Version (tt, bad)
+  clear_after fault.NoSoundCopy bad = bad
+  clear_after (fault.Text t) bad = common_clear (fault.Text t) (tt, bad)
+  clear_after fault.Uuid bad = common_clear fault.Uuid (tt, bad)
+  clear_after (fault.SlotState n) bad = (fit_entry n bad.0).stated bad.1
+  clear_after fault.KeyBytes bad = common_clear fault.KeyBytes (tt, bad)
+  clear_after (fault.Stripes n) bad = clear (fault.Stripes n) (bad.0, sym (fit_entry n bad.0).stripes ∙ bad.1)
+  clear_after (fault.Iterations (of.Slot n)) bad = (fit_entry n bad.0).iterated bad.1
+  clear_after (fault.Iterations of.Digest) bad = common_clear (fault.Iterations of.Digest) (tt, bad)
+  clear_after fault.Device bad = bad
+  clear_after fault.Memory bad = bad
+
+  field_same : (o : ℕ) → o + 4 ≤ 208 → number_at (part w 0 592) o 4 ≡ number_at (part v 0 592) o 4
+  field_same o within = number_same (part w 0 592) (part v 0 592) o 4 (header_moves v w common_same o 4 within)
+
+  area_before : (n : AreaName) (a : Area) → Luks1Area (part w 0 592) payload (length v) n a → Luks1Area (part v 0 592) payload (length v) n a
+  area_before Head1 a has = has
+  area_before Head2 a has = has
+  area_before (Slot n) a has =
+      let fit = fit_entry n has.0 in (
+        has.0,
+        has.1 ∙ ap (λ k. k * 512) fit.offset,
+        has.2 ∙ ap (λ k. rounded_to_sectors (k * entry_stripes (entry (part w 0 592) n))) (field_same 108 (lit≤ tt)) ∙ ap (λ s. rounded_to_sectors (number_at (part v 0 592) 108 4 * s)) fit.stripes,
+      )
+  area_before (Segment n) a has = (has.0, has.1, has.2 ∙ ap (λ k. k * 512) (field_same 104 (lit≤ tt)), has.3)
+
+  fit_after : Fit (Luks1Area (part w 0 592) payload (length v)) (length v)
+  fit_after = record {
+    inside = λ n a has. whole.fit.inside n a (area_before n a has);
+    disjoint = λ m n a b hm hn. whole.fit.disjoint m n a b (area_before m a hm) (area_before n b hn);
+  }
+
+  pub stays_well_formed : WellFormed w payload
+  stays_well_formed = record {
+    choice = luks1;
+    chosen = chosen_moves v w x.rest.length_same common_same x.chosen;
+    formed = subst (λ t. IsLuks1Volume (part w 0 592) payload t) (sym x.rest.length_same)
+        (record { header = (laws.faultless (part w 0 592)).0 clear_after; fit = fit_after });
+  }
+
+-- whether a keyslot is one of two is decided
+pub either_decided : (a b n : ℕ) → IsEither a b n ⊎ (IsEither a b n → ⊥)
+either_decided a b n = elim (cases_eq n a) [
+  | inl x ↦ inl (inl x)
+  | inr not_a ↦ elim (cases_eq n b) [ inl x ↦ inl (inr x) | inr not_b ↦ inr (λ is. elim is [ inl x ↦ not_a x | inr x ↦ not_b x ]) ]
+]

@@ -1,0 +1,210 @@
+-- A keyslot that was made opens by its passphrase to the key that another one opened.
+use Rattle.std.proofs.Common.{◌≡◌, ℕ, ◌-◌, ◌*◌, ◌<◌, ◌≤◌, List, length, subst, refl, sym, ap, ◌∙◌, arith, lit≤, inl, inr, true, Bool, Some, None}
+use Rattle.std.specs.Prelude.{if◌then◌else◌}
+use Rattle.std.proofs.lemmas.Bool.{cases_eq}
+use Rattle.luks_area.specs.Ranges.{part}
+use Rattle.luks_area.specs.Sectors.{rounded_to_sectors}
+use Rattle.luks_head.specs.Bytes.{number_at, text_at}
+use Rattle.luks_head.specs.Faults.{IsEntryFault, IsLuks1Fault as IsLuks1HeadFault}
+use Rattle.luks_head.specs.Header1.{active_word, disabled_word, enabled_word, entry, entry_iterations, entry_stripes}
+use Rattle.luks_head.specs.Selection.{luks1, Chosen}
+use Rattle.luks_head.specs.declared.fault.HeadFault.{HeadFault}
+use Rattle.luks_head.specs.declared.fault.HeadFault.TheVariants as fault
+use Rattle.luks_head.specs.declared.fault.IterationsOf.TheVariants as of
+use Rattle.luks_slot.specs.declared.plan.AreaCipher.{AreaCipher}
+use Rattle.luks_slot.specs.declared.plan.AreaCipher.TheVariants.{Apart, Whole}
+use Rattle.luks_slot.specs.declared.plan.Derivation.{Derivation}
+use Rattle.luks_slot.specs.declared.plan.Derivation.TheVariants.{Pbkdf2, Argon2}
+use Rattle.luks_slot.specs.declared.plan.SlotPlan.{SlotPlan}
+use Rattle.luks_slot.specs.Opening.{meets_digest, slot_key}
+use Rattle.luks_slot.specs.Refusal.{is_argon2, is_known_derivation, is_open_cipher, slot_refusal}
+use Rattle.luks_slot.specs.Sealing.{IsSealed}
+use Rattle.luks_reading.specs.declared.open_fault.OpenFault.{OpenFault}
+use Rattle.luks_reading.specs.declared.open_fault.OpenFault.TheVariants.{Head, Meta, NoSuchSlot, SlotFree, Outside, Slot, Device, Memory}
+use Rattle.luks_reading.specs.declared.report.Data.{Data}
+use Rattle.luks_reading.specs.Answer.{Answer, HasPlanAs, IsLuks1Refusal, IsRefusalAs, opens}
+use Rattle.luks_reading.specs.Checked.{IsLuks1Volume, WellFormed}
+use Rattle.luks_reading.specs.Plans.{HasLuks1Plan, IsLuks1Cipher, IsLuks1Derivation, IsLuks1Plan}
+use Rattle.luks1_edits.specs.Edited.{HoldsKey, IsMade}
+use Rattle.luks1_edits.specs.Places.{area_len, area_start}
+use Rattle.luks1_edits.proofs.AnswerFacts.{SameFront, common_or_entry, number_moves, same_front, text_moves}
+use Rattle.luks1_edits.proofs.HeaderFacts.{HeaderLaws, chosen_moves, common_moves, entry_is, front_moves, header_clear, len_is, number_same, start_is, volume_of}
+use Rattle.luks1_edits.proofs.KeptFacts.{area_inside}
+
+-- the laws on keyslots that the facts here rest on
+pub record KeyslotLaws : Type 0 where
+  pub sealed : (plan : SlotPlan) (area passphrase key random : List ℕ)
+      → 1 ≤ plan.stripes → length key ≡ plan.key_bytes → length random ≡ (plan.stripes - 1) * plan.key_bytes
+      → IsSealed plan area passphrase key random
+      → slot_key plan area passphrase ≡ (if meets_digest plan.digest key then Some key else None)
+  pub found : (plan : SlotPlan) (area passphrase key : List ℕ) → slot_key plan area passphrase ≡ Some key → meets_digest plan.digest key ≡ true
+
+-- what two plans share whose headers say the same before the keyslots
+record SameTerms (a b : SlotPlan) : Type 0 where
+  pub argon2 : is_argon2 a.derivation ≡ is_argon2 b.derivation
+  pub known : is_known_derivation a.derivation ≡ is_known_derivation b.derivation
+  pub cipher : is_open_cipher a.cipher ≡ is_open_cipher b.cipher
+  pub area_key_bytes : a.area_key_bytes ≡ b.area_key_bytes
+  pub splitter_hash : a.splitter_hash.now ≡ b.splitter_hash.now
+  pub digest_hash : a.digest.hash.now ≡ b.digest.hash.now
+  pub digest_iterations : a.digest.iterations ≡ b.digest.iterations
+  pub digest_salt : a.digest.salt.now ≡ b.digest.salt.now
+  pub digest_stored : a.digest.stored.now ≡ b.digest.stored.now
+
+argon2_both : (h g e f : List ℕ) (a b : Derivation) → IsLuks1Derivation h e a → IsLuks1Derivation g f b → is_argon2 a ≡ is_argon2 b
+argon2_both h g e f (Pbkdf2 k i s) (Pbkdf2 l j t) x y = refl
+argon2_both h g e f (Pbkdf2 k i s) Argon2 x y = absurd y
+argon2_both h g e f Argon2 b x y = absurd x
+
+known_both : (h g e f : List ℕ) (a b : Derivation) → text_at h 72 32 ≡ text_at g 72 32 → IsLuks1Derivation h e a → IsLuks1Derivation g f b → is_known_derivation a ≡ is_known_derivation b
+known_both h g e f (Pbkdf2 k i s) (Pbkdf2 l j t) same x y = let hash = x.0 ∙ same ∙ sym y.0 in simp hash
+known_both h g e f (Pbkdf2 k i s) Argon2 same x y = absurd y
+known_both h g e f Argon2 b same x y = absurd x
+
+cipher_both : (h g : List ℕ) (a b : AreaCipher) → text_at h 8 32 ≡ text_at g 8 32 → text_at h 40 32 ≡ text_at g 40 32 → IsLuks1Cipher h a → IsLuks1Cipher g b → is_open_cipher a ≡ is_open_cipher b
+cipher_both h g (Apart n m) (Apart k l) names modes x y =
+    let name = x.0 ∙ names ∙ sym y.0 in
+    let mode = x.1 ∙ modes ∙ sym y.1 in
+    simp (name, mode)
+cipher_both h g (Apart n m) (Whole t) names modes x y = absurd y
+cipher_both h g (Whole t) b names modes x y = absurd x
+
+same_terms : (h g e f : List ℕ) (a b : SlotPlan) → SameFront h g → IsLuks1Plan h e a → IsLuks1Plan g f b → SameTerms a b
+same_terms h g e f a b same x y =
+    let hash : text_at h 72 32 ≡ text_at g 72 32 = text_moves h g same 72 32 (lit≤ tt) in
+    let key : number_at h 108 4 ≡ number_at g 108 4 = number_moves h g same 108 4 (lit≤ tt) in
+    record {
+      argon2 = argon2_both h g e f a.derivation b.derivation x.derivation y.derivation;
+      known = known_both h g e f a.derivation b.derivation hash x.derivation y.derivation;
+      cipher = cipher_both h g a.cipher b.cipher (text_moves h g same 8 32 (lit≤ tt)) (text_moves h g same 40 32 (lit≤ tt)) x.cipher y.cipher;
+      area_key_bytes = x.area_key_bytes ∙ key ∙ sym y.area_key_bytes;
+      splitter_hash = x.splitter_hash ∙ hash ∙ sym y.splitter_hash;
+      digest_hash = x.digest.hash ∙ hash ∙ sym y.digest.hash;
+      digest_iterations = x.digest.iterations ∙ number_moves h g same 164 4 (lit≤ tt) ∙ sym y.digest.iterations;
+      digest_salt = x.digest.salt ∙ same.parts 132 32 (lit≤ tt) ∙ sym y.digest.salt;
+      digest_stored = x.digest.stored ∙ same.parts 112 20 (lit≤ tt) ∙ sym y.digest.stored;
+    }
+
+same_refusal : (a b : SlotPlan) → SameTerms a b → slot_refusal a ≡ slot_refusal b
+same_refusal a b s = simp (s.argon2, s.known, s.cipher, s.area_key_bytes, s.splitter_hash, s.digest_hash)
+
+same_digest : (a b : SlotPlan) (key : List ℕ) → SameTerms a b → meets_digest a.digest key ≡ meets_digest b.digest key
+unfolding meets_digest
+same_digest a b key s = simp (s.digest_hash, s.digest_iterations, s.digest_salt, s.digest_stored)
+
+-- a number that isn't 0
+some : (n : ℕ) → (n ≡ 0 → ⊥) → 1 ≤ n
+some n not = elim (cases_eq n 0) [ inl zero ↦ absurd (not zero) | inr other ↦ omega (arith, other) ]
+
+-- the keyslot `n` of the volume `w` was made, of a well formed volume `v` with the same front in which
+-- the keyslot `opener` opens to the key
+pub record IsMadeFrom (payload : Data) (v : List ℕ) (opener : ℕ) (old : List ℕ) (n iterations : ℕ) (salt new key random w : List ℕ) : Type 0 where
+  pub chosen : Chosen v luks1
+  pub well : WellFormed v payload
+  pub length_same : length w ≡ length v
+  pub common : part w 0 208 ≡ part v 0 208
+  pub opened : Answer v opener old (opens key)
+  pub numbered : n < 8
+  pub iterated : 1 ≤ iterations
+  pub made : IsMade (entry v n) (entry w n) iterations salt
+  pub holds : HoldsKey w n new key random
+
+module _ (laws : HeaderLaws) (keyslots : KeyslotLaws) (payload : Data) (v : List ℕ) (opener : ℕ) (old : List ℕ) (n iterations : ℕ) (salt new key random w : List ℕ)
+    (x : IsMadeFrom payload v opener old n iterations salt new key random w) where
+  whole : IsLuks1Volume (part v 0 592) payload (length v)
+  whole = volume_of laws v payload x.chosen x.well
+
+  clear : (f : HeadFault) → IsLuks1HeadFault (part v 0 592) f → ⊥
+  clear = header_clear laws v payload x.chosen x.well
+
+  front : SameFront (part v 0 592) (part w 0 592)
+  front = same_front v w x.common
+
+  there : HasLuks1Plan (part v 0 592) opener x.opened.plan
+  there = subst (λ c. HasPlanAs v opener c x.opened.plan) (laws.one v x.opened.choice luks1 x.opened.chosen x.chosen) x.opened.is
+
+  unrefused_before : (f : OpenFault) → IsLuks1Refusal (part v 0 592) (length v) opener f → ⊥
+  unrefused_before f y = x.opened.unrefused f (subst (λ c. IsRefusalAs v opener c f) (sym (laws.one v x.opened.choice luks1 x.opened.chosen x.chosen)) y)
+
+  terms : (b : SlotPlan) → HasLuks1Plan (part w 0 592) n b → SameTerms x.opened.plan b
+  terms b is = same_terms (part v 0 592) (part w 0 592) (entry (part v 0 592) opener) (entry (part w 0 592) n) x.opened.plan b front there.is is.is
+
+  stripes_before : 1 ≤ entry_stripes (entry v n)
+  stripes_before = some (entry_stripes (entry v n)) (λ zero. clear (fault.Stripes n) (x.numbered, ap entry_stripes (entry_is v n x.numbered) ∙ zero))
+
+  striped : 1 ≤ x.holds.plan.stripes
+  striped =
+      let is : x.holds.plan.stripes ≡ entry_stripes (entry v n) = x.holds.is.is.stripes ∙ ap entry_stripes (entry_is w n x.numbered) ∙ x.made.stripes in
+      let before = stripes_before in
+      omega (arith, is, before)
+
+  -- the key meets the digest, which is the volume's
+  meets : meets_digest x.holds.plan.digest key ≡ true
+  meets = sym (same_digest x.opened.plan x.holds.plan key (terms x.holds.plan x.holds.is))
+      ∙ keyslots.found x.opened.plan (part v x.opened.plan.area.start x.opened.plan.area.len) old key x.opened.key
+
+  found : slot_key x.holds.plan (part w x.holds.plan.area.start x.holds.plan.area.len) new ≡ Some key
+  found = keyslots.sealed x.holds.plan (part w x.holds.plan.area.start x.holds.plan.area.len) new key random striped x.holds.key_length x.holds.random_length x.holds.sealed
+      ∙ ap (λ (b : Bool). if b then Some key else None) meets
+
+  -- the new entry has no fault
+  entry_clear : (f : HeadFault) → IsEntryFault n (entry (part w 0 592) n) f → ⊥
+  entry_clear (fault.SlotState m) bad = bad.1.0 (ap active_word (entry_is w n x.numbered) ∙ x.made.enabled)
+  entry_clear (fault.Stripes m) bad =
+      let zero : entry_stripes (entry v n) ≡ 0 = sym x.made.stripes ∙ sym (ap entry_stripes (entry_is w n x.numbered)) ∙ bad.1 in
+      let before = stripes_before in
+      omega (arith, zero, before)
+  entry_clear (fault.Iterations (of.Slot m)) bad =
+      let none : iterations ≡ 0 = sym x.made.iterations_are ∙ sym (ap entry_iterations (entry_is w n x.numbered)) ∙ bad.1.1 in
+      let many = x.iterated in
+      omega (arith, none, many)
+  entry_clear (fault.Iterations of.Digest) bad = bad
+  entry_clear fault.TooShort bad = bad
+  entry_clear fault.NotLuks bad = bad
+  entry_clear fault.Version bad = bad
+  entry_clear fault.NoSoundCopy bad = bad
+  entry_clear (fault.Text t) bad = bad
+  entry_clear fault.Uuid bad = bad
+  entry_clear fault.KeyBytes bad = bad
+  entry_clear fault.Device bad = bad
+  entry_clear fault.Memory bad = bad
+
+  -- the new area is where the old one was
+  place_kept : (area_start w n ≡ area_start v n) × (area_len w n ≡ area_len v n)
+  place_kept = (
+    ap (λ k. k * 512) x.made.offset,
+    ap (λ k. rounded_to_sectors (k * entry_stripes (entry w n))) (number_same w v 108 4 (front_moves v w x.common 108 4 (lit≤ tt)))
+        ∙ ap (λ s. rounded_to_sectors (number_at v 108 4 * s)) x.made.stripes,
+  )
+
+  unrefused : (f : OpenFault) → IsLuks1Refusal (part w 0 592) (length w) n f → ⊥
+  unrefused (Head f) y = elim (common_or_entry (part w 0 592) n f y) [
+    | inl z ↦ clear f (common_moves laws w v (sym x.common) f z).1
+    | inr z ↦ entry_clear f z.fault
+  ]
+  unrefused (Meta f) y = y
+  unrefused NoSuchSlot y = let lt = x.numbered in omega (arith, y, lt)
+  unrefused SlotFree y =
+      let two : disabled_word ≡ enabled_word = sym y.1 ∙ ap active_word (entry_is w n y.0) ∙ x.made.enabled in
+      omega (arith, two)
+  unrefused Outside y =
+      let past = y.past in
+      let start : y.plan.area.start ≡ area_start v n = y.is.is.start ∙ start_is w n x.numbered ∙ place_kept.0 in
+      let len : y.plan.area.len ≡ area_len v n = y.is.is.len ∙ len_is w n x.numbered ∙ place_kept.1 in
+      let within = area_inside v payload whole.fit n x.numbered in
+      let size = x.length_same in
+      omega (arith, past, start, len, within, size)
+  unrefused (Slot s) y = unrefused_before (Slot s)
+      (record { plan = x.opened.plan; is = there; refused = same_refusal x.opened.plan y.plan (terms y.plan y.is) ∙ y.refused })
+  unrefused Device y = y
+  unrefused Memory y = y
+
+  pub made_opens : Answer w n new (opens key)
+  made_opens = record {
+    choice = luks1;
+    chosen = chosen_moves v w x.length_same x.common x.chosen;
+    plan = x.holds.plan;
+    is = x.holds.is;
+    unrefused = unrefused;
+    key = found;
+  }

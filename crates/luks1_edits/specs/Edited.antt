@@ -1,0 +1,139 @@
+-- What an edit makes of a LUKS1 volume (LUKS1 On-Disk Format 1.2.3, 4.1 to 4.4).
+use Rattle.std.specs.Prelude.{◌≡◌, ℕ, ◌-◌, ◌*◌, ◌<◌, ◌≤◌, ◌⊎◌, List, length, take, drop, replicate, Option, Some, None}
+use Rattle.luks_area.specs.Ranges.{part, SameBut}
+use Rattle.luks_head.specs.Header1.{active_word, disabled_word, enabled_word, entry, entry_iterations, entry_key_material_offset, entry_salt, entry_stripes, luks1_size}
+use Rattle.luks_slot.specs.declared.plan.SlotPlan.{SlotPlan}
+use Rattle.luks_slot.specs.Opening.{area_bytes}
+use Rattle.luks_slot.specs.Sealing.{IsSealed}
+use Rattle.luks_reading.specs.Answer.{Answer, opens}
+use Rattle.luks_reading.specs.Plans.{HasLuks1Plan}
+use Rattle.luks_edit.specs.declared.edit.Edit.{Edit}
+use Rattle.luks_edit.specs.declared.edit.Edit.TheVariants.{Add, Change, Remove, Repair, Label}
+use Rattle.luks1_edits.specs.Kept.{IsEither}
+use Rattle.luks1_edits.specs.Places.{area_len, area_start, IsOfKeyslots}
+
+-- ---- keyslots in use and free
+
+abbrev pub IsInUse : List ℕ → ℕ → Type 0
+IsInUse v n = (n < 8) × (active_word (entry v n) ≡ enabled_word)
+
+abbrev pub IsFree : List ℕ → ℕ → Type 0
+IsFree v n = (n < 8) × (active_word (entry v n) ≡ disabled_word)
+
+pub record IsLeastFree (v : List ℕ) (n : ℕ) : Type 0 where
+  pub free : IsFree v n
+  pub least : (m : ℕ) → IsFree v m → n ≤ m
+
+-- the keyslot that an addition makes: the one that is asked for, or else the least that is free
+abbrev pub IsNewKeyslot : List ℕ → Option ℕ → ℕ → Type 0
+IsNewKeyslot v (Some t) n = n ≡ t
+IsNewKeyslot v None n = IsLeastFree v n
+
+-- the keyslots that an edit names; a change makes a new one, and removes the old one
+abbrev pub NamedKeyslots1 : List ℕ → Edit → ℕ → Type 0
+NamedKeyslots1 v (Add by_ old new to iterations) n = IsNewKeyslot v to n
+NamedKeyslots1 v (Change slot old new iterations) n = (n ≡ slot) ⊎ IsLeastFree v n
+NamedKeyslots1 v (Remove slot passphrase) n = n ≡ slot
+NamedKeyslots1 v Repair n = ⊥
+NamedKeyslots1 v (Label text) n = ⊥
+
+-- ---- entries and areas
+
+-- the entry of a keyslot that was made: the key material's offset and the stripes are as before
+pub record IsMade (old new : List ℕ) (iterations : ℕ) (salt : List ℕ) : Type 0 where
+  pub enabled : active_word new ≡ enabled_word
+  pub iterations_are : entry_iterations new ≡ iterations
+  pub salt_is : entry_salt new ≡ salt
+  pub offset : entry_key_material_offset new ≡ entry_key_material_offset old
+  pub stripes : entry_stripes new ≡ entry_stripes old
+
+-- the entry of a keyslot that was removed: disabled, no iterations, a salt of zeros
+pub record IsFreed (old new : List ℕ) : Type 0 where
+  pub disabled : active_word new ≡ disabled_word
+  pub no_iterations : entry_iterations new ≡ 0
+  pub no_salt : entry_salt new ≡ replicate 32 0
+  pub offset : entry_key_material_offset new ≡ entry_key_material_offset old
+  pub stripes : entry_stripes new ≡ entry_stripes old
+
+-- the area that the keyslot had is zeros
+abbrev pub IsWiped : List ℕ → ℕ → List ℕ → Type 0
+IsWiped v n w = part w (area_start v n) (area_len v n) ≡ replicate (area_len v n) 0
+
+-- the area of the keyslot `n` holds the key under the passphrase: as its entry says it decrypts to
+-- the stripes that hold the key, all but the last of them random, and then zeros
+pub record HoldsKey (w : List ℕ) (n : ℕ) (passphrase key random : List ℕ) : Type 0 where
+  pub plan : SlotPlan
+  pub is : HasLuks1Plan (part w 0 luks1_size) n plan
+  pub key_length : length key ≡ plan.key_bytes
+  pub random_length : length random ≡ (plan.stripes - 1) * plan.key_bytes
+  pub sealed : IsSealed plan (area_bytes w plan.area) passphrase key random
+
+-- ---- the volume after an edit
+
+-- the keyslot was removed, and nothing else changed
+pub record IsRemoved (v : List ℕ) (slot : ℕ) (w : List ℕ) : Type 0 where
+  pub rest : SameBut (IsOfKeyslots v (IsEither slot slot)) v w
+  pub freed : IsFreed (entry v slot) (entry w slot)
+  pub wiped : IsWiped v slot w
+
+-- a keyslot was made in which `new` opens the key that `old` opened in the keyslot `opener`, with a
+-- salt and stripes of the random bytes, and nothing else changed
+pub record IsAdded
+    (v : List ℕ) (opener : ℕ) (old new : List ℕ) (to : Option ℕ) (iterations : ℕ)
+    (random w : List ℕ)
+    : Type 0 where
+  pub slot : ℕ
+  pub is_new : IsNewKeyslot v to slot
+  pub key : List ℕ
+  pub opened : Answer v opener old (opens key)
+  pub rest : SameBut (IsOfKeyslots v (IsEither slot slot)) v w
+  pub made : IsMade (entry v slot) (entry w slot) iterations (take 32 random)
+  pub holds : HoldsKey w slot new key (drop 32 random)
+
+-- the least free keyslot was made, in which `new` opens the key that `old` opened in the keyslot
+-- `slot`, that one was removed, and nothing else changed
+pub record IsChanged
+    (v : List ℕ) (slot : ℕ) (old new : List ℕ) (iterations : ℕ) (random w : List ℕ)
+    : Type 0 where
+  pub fresh : ℕ
+  pub is_free : IsLeastFree v fresh
+  pub key : List ℕ
+  pub opened : Answer v slot old (opens key)
+  pub rest : SameBut (IsOfKeyslots v (IsEither slot fresh)) v w
+  pub made : IsMade (entry v fresh) (entry w fresh) iterations (take 32 random)
+  pub holds : HoldsKey w fresh new key (drop 32 random)
+  pub freed : IsFreed (entry v slot) (entry w slot)
+  pub wiped : IsWiped v slot w
+
+-- the LUKS1 volume `w` is what the edit makes of `v` with the random bytes: first the salt of a new
+-- keyslot, then its stripes but the last
+abbrev pub After1 : List ℕ → Edit → List ℕ → List ℕ → Type 0
+After1 v (Add by_ old new to iterations) random w =
+    IsAdded v by_ old.now new.now to iterations random w
+After1 v (Change slot old new iterations) random w =
+    IsChanged v slot old.now new.now iterations random w
+After1 v (Remove slot passphrase) random w = IsRemoved v slot w
+After1 v Repair random w = w ≡ v
+After1 v (Label text) random w = ⊥
+
+-- ---- what opens after an edit
+
+-- a keyslot that the edit made opens by its new passphrase to the key that the old one opened
+abbrev pub OpensAfter1 : List ℕ → Edit → List ℕ → Type 0
+OpensAfter1 v (Add by_ old new to iterations) w =
+    (n : ℕ) (key : List ℕ) → IsNewKeyslot v to n → Answer v by_ old.now (opens key)
+    → Answer w n new.now (opens key)
+OpensAfter1 v (Change slot old new iterations) w =
+    (n : ℕ) (key : List ℕ) → IsLeastFree v n → Answer v slot old.now (opens key)
+    → Answer w n new.now (opens key)
+OpensAfter1 v (Remove slot passphrase) w = Unit {0}
+OpensAfter1 v Repair w = Unit {0}
+OpensAfter1 v (Label text) w = Unit {0}
+
+-- the keyslot that the edit removes
+abbrev pub Removes : Edit → ℕ → Type 0
+Removes (Add by_ old new to iterations) n = ⊥
+Removes (Change slot old new iterations) n = n ≡ slot
+Removes (Remove slot passphrase) n = n ≡ slot
+Removes Repair n = ⊥
+Removes (Label text) n = ⊥

@@ -1,0 +1,50 @@
+-- What an edit of some keyslots of a LUKS1 volume leaves as it was.
+use Rattle.std.specs.Prelude.{◌≡◌, ℕ, ◌<◌, ◌⊎◌, List, length}
+use Rattle.luks_area.specs.declared.area.AreaName.TheVariants.{Segment}
+use Rattle.luks_area.specs.Ranges.{part, SameBut}
+use Rattle.luks_head.specs.Faults.{HasUnknownState, LacksIterations}
+use Rattle.luks_head.specs.Header1.{common_size, entry, entry_key_material_offset, entry_stripes}
+use Rattle.luks_head.specs.Selection.{luks1, Chosen}
+use Rattle.luks_reading.specs.declared.report.Data.{Data}
+use Rattle.luks_reading.specs.Checked.{WellFormed}
+use Rattle.luks_edit.specs.Kept.{KeepsArea, KeepsSlot}
+use Rattle.luks1_edits.specs.Places.{area_len, area_start, IsOfKeyslots}
+
+-- what the answer of the keyslot `n` depends on: the two LUKS1 volumes have one length, the same
+-- 208 bytes before the keyslots, and the same entry and area of the keyslot
+pub record HasSameKeyslot (n : ℕ) (v w : List ℕ) : Type 0 where
+  pub length_same : length w ≡ length v
+  pub common : part w 0 common_size ≡ part v 0 common_size
+  pub entry : n < 8 → entry w n ≡ entry v n
+  pub area : n < 8
+      → part w (area_start v n) (area_len v n) ≡ part v (area_start v n) (area_len v n)
+
+-- one of two keyslots
+abbrev pub IsEither : ℕ → ℕ → ℕ → Type 0
+IsEither first second n = (n ≡ first) ⊎ (n ≡ second)
+
+-- the set has only keyslots that LUKS1 has
+pub record AreKeyslots (named : ℕ → Type 0) : Type 0 where
+  pub numbered : (n : ℕ) → named n → n < 8
+
+-- the volume `v` is a well formed LUKS1 volume, and `w` differs from it only in the entries and the
+-- areas of the keyslots of the set
+pub record ChangesKeyslots (payload : Data) (named : ℕ → Type 0) (v w : List ℕ) : Type 0 where
+  pub keyslots : AreKeyslots named
+  pub chosen : Chosen v luks1
+  pub well : WellFormed v payload
+  pub rest : SameBut (IsOfKeyslots v named) v w
+
+-- the entry `new` is fit for use in the place of the entry `old`: it has a state, the same area,
+-- the same stripes, and iterations where it is enabled
+pub record IsFitFor (old new : List ℕ) : Type 0 where
+  pub stated : HasUnknownState new → ⊥
+  pub offset : entry_key_material_offset new ≡ entry_key_material_offset old
+  pub stripes : entry_stripes new ≡ entry_stripes old
+  pub iterated : LacksIterations new → ⊥
+
+-- the volume keeps its length, the segments are as they were, and so is each keyslot outside the set
+pub record KeepsOthers (payload : Data) (named : ℕ → Type 0) (v w : List ℕ) : Type 0 where
+  pub size : length w ≡ length v
+  pub segments : (n : ℕ) → KeepsArea payload (Segment n) v w
+  pub slots : (n : ℕ) → (named n → ⊥) → KeepsSlot payload n v w

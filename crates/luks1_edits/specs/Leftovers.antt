@@ -1,0 +1,71 @@
+-- What an edit of a LUKS1 volume may leave that a failing device call ended. A failed write leaves
+-- any bytes in its range; the ranges are written in this order: the area of a new keyslot, its
+-- entry, then the entry of the keyslot that is removed, its area.
+use Rattle.std.specs.Prelude.{◌≡◌, ℕ, ◌⊎◌, List, drop, take}
+use Rattle.luks_area.specs.Ranges.{part, SameBut}
+use Rattle.luks_head.specs.Header1.{entry}
+use Rattle.luks_reading.specs.declared.report.Data.{Data}
+use Rattle.luks_reading.specs.Answer.{Answer, opens}
+use Rattle.luks_edit.specs.declared.edit.Edit.{Edit}
+use Rattle.luks_edit.specs.declared.edit.Edit.TheVariants.{Add, Change, Remove, Repair, Label}
+use Rattle.luks1_edits.specs.Edited.{HoldsKey, IsFreed, IsLeastFree, IsMade, IsNewKeyslot}
+use Rattle.luks1_edits.specs.Kept.{IsEither}
+use Rattle.luks1_edits.specs.Places.{area_len, area_start, IsOfKeyslots}
+use Rattle.luks1_edits.specs.Refused.{IsUnrefused1}
+
+-- the area that the keyslot `n` had keeps its bytes, or its entry was freed before
+abbrev pub IsFreedFirst : List ℕ → ℕ → List ℕ → Type 0
+IsFreedFirst v n w =
+    (part w (area_start v n) (area_len v n) ≡ part v (area_start v n) (area_len v n))
+    ⊎ IsFreed (entry v n) (entry w n)
+
+-- while a keyslot was made: its entry and area have any bytes
+pub record IsHalfMade (v : List ℕ) (is_new : ℕ → Type 0) (w : List ℕ) : Type 0 where
+  pub slot : ℕ
+  pub is : is_new slot
+  pub rest : SameBut (IsOfKeyslots v (IsEither slot slot)) v w
+
+-- while a keyslot was removed: its entry has any bytes and its area its own, or the entry is freed
+-- and the area has any bytes
+pub record IsHalfRemoved (v : List ℕ) (slot : ℕ) (w : List ℕ) : Type 0 where
+  pub rest : SameBut (IsOfKeyslots v (IsEither slot slot)) v w
+  pub order : IsFreedFirst v slot w
+
+-- while the keyslot was removed in whose place another one was made before
+pub record IsHalfChanged
+    (v : List ℕ) (slot : ℕ) (old new : List ℕ) (iterations : ℕ) (random w : List ℕ)
+    : Type 0 where
+  pub fresh : ℕ
+  pub is_free : IsLeastFree v fresh
+  pub key : List ℕ
+  pub opened : Answer v slot old (opens key)
+  pub rest : SameBut (IsOfKeyslots v (IsEither slot fresh)) v w
+  pub made : IsMade (entry v fresh) (entry w fresh) iterations (take 32 random)
+  pub holds : HoldsKey w fresh new key (drop 32 random)
+  pub order : IsFreedFirst v slot w
+
+-- the edit was ended while it wrote
+abbrev pub IsTorn1 : List ℕ → Edit → List ℕ → List ℕ → Type 0
+IsTorn1 v (Add by_ old new to iterations) random w = IsHalfMade v (IsNewKeyslot v to) w
+IsTorn1 v (Change slot old new iterations) random w =
+    IsHalfMade v (IsLeastFree v) w ⊎ IsHalfChanged v slot old.now new.now iterations random w
+IsTorn1 v (Remove slot passphrase) random w = IsHalfRemoved v slot w
+IsTorn1 v Repair random w = ⊥
+IsTorn1 v (Label text) random w = ⊥
+
+-- what a failing device call leaves: the volume as it was, or, where nothing refuses the edit, what
+-- was torn while it wrote
+abbrev pub Leftover1 : List ℕ → Data → Edit → List ℕ → List ℕ → Type 0
+Leftover1 v payload e random w = (w ≡ v) ⊎ (IsUnrefused1 v payload e random × IsTorn1 v e random w)
+
+-- the keyslot that was changed opens by the old passphrase, or the new one by the new passphrase, to
+-- the key that the old one opened before
+abbrev pub OpensEither1 : List ℕ → Edit → List ℕ → Type 0
+OpensEither1 v (Add by_ old new to iterations) w = Unit {0}
+OpensEither1 v (Change slot old new iterations) w =
+    (key : List ℕ) → Answer v slot old.now (opens key)
+    → Answer w slot old.now (opens key)
+    ⊎ ((n : ℕ) × (IsLeastFree v n × Answer w n new.now (opens key)))
+OpensEither1 v (Remove slot passphrase) w = Unit {0}
+OpensEither1 v Repair w = Unit {0}
+OpensEither1 v (Label text) w = Unit {0}

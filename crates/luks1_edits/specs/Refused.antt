@@ -1,0 +1,115 @@
+-- When an edit of a LUKS1 volume is refused, and how many random bytes it takes. The order of the
+-- faults is that of every edit; some of them LUKS1 doesn't have.
+use Rattle.std.specs.Prelude.{◌≡◌, ◌≢◌, ℕ, ◌+◌, ◌-◌, ◌*◌, ◌<◌, List, length, Some, None, ⊤}
+use Rattle.luks_area.specs.First.{IsLeast}
+use Rattle.luks_head.specs.Header1.{entry, entry_stripes, key_bytes_of}
+use Rattle.luks_reading.specs.declared.report.Data.{Data}
+use Rattle.luks_reading.specs.Checked.{IsFault}
+use Rattle.luks_edit.specs.declared.edit.Edit.{Edit}
+use Rattle.luks_edit.specs.declared.edit.Edit.TheVariants.{Add, Change, Remove, Repair, Label}
+use Rattle.luks_edit.specs.declared.edit_fault.EditFault.{EditFault}
+use Rattle.luks_edit.specs.declared.edit_fault.EditFault.TheVariants as fault
+use Rattle.luks_edit.specs.Asked.{HasFewIterations, OpensBy}
+use Rattle.luks_edit.specs.Opener.{IsLocked, IsShut}
+use Rattle.luks_edit.specs.EditFaults.{edit_key}
+use Rattle.luks1_edits.specs.Edited.{IsFree, IsInUse, IsLeastFree, IsNewKeyslot}
+
+-- the keyslot that the edit opens isn't there, or isn't enabled
+pub record IsAbsent (v : List ℕ) (e : Edit) : Type 0 where
+  pub slot : ℕ
+  pub passphrase : List ℕ
+  pub asked : OpensBy e slot passphrase
+  pub unused : IsInUse v slot → ⊥
+
+-- ---- the keyslot that the edit makes
+
+-- it is in use
+abbrev pub IsTaken : List ℕ → Edit → Type 0
+IsTaken v (Add by_ old new (Some t) iterations) = IsInUse v t
+IsTaken v (Add by_ old new None iterations) = ⊥
+IsTaken v (Change slot old new iterations) = ⊥
+IsTaken v (Remove slot passphrase) = ⊥
+IsTaken v Repair = ⊥
+IsTaken v (Label text) = ⊥
+
+-- there is none of that number, or none is free
+abbrev pub HasNoFree : List ℕ → Edit → Type 0
+HasNoFree v (Add by_ old new (Some t) iterations) = 7 < t
+HasNoFree v (Add by_ old new None iterations) = (n : ℕ) → IsFree v n → ⊥
+HasNoFree v (Change slot old new iterations) = (n : ℕ) → IsFree v n → ⊥
+HasNoFree v (Remove slot passphrase) = ⊥
+HasNoFree v Repair = ⊥
+HasNoFree v (Label text) = ⊥
+
+-- ---- the rest of the edit
+
+-- no keyslot is in use but the one to remove
+abbrev pub IsLast : List ℕ → Edit → Type 0
+IsLast v (Add by_ old new to iterations) = ⊥
+IsLast v (Change slot old new iterations) = ⊥
+IsLast v (Remove slot passphrase) = (n : ℕ) → IsInUse v n → n ≡ slot
+IsLast v Repair = ⊥
+IsLast v (Label text) = ⊥
+
+-- LUKS1 has no label
+abbrev pub IsLabel : Edit → Type 0
+IsLabel (Add by_ old new to iterations) = ⊥
+IsLabel (Change slot old new iterations) = ⊥
+IsLabel (Remove slot passphrase) = ⊥
+IsLabel Repair = ⊥
+IsLabel (Label text) = ⊤
+
+-- ---- random bytes
+
+-- a new keyslot `n` takes its salt and its stripes but the last
+abbrev pub keyslot_need : List ℕ → ℕ → ℕ
+keyslot_need v n = 32 + (entry_stripes (entry v n) - 1) * key_bytes_of v
+
+-- the keyslot of the set `is_new` takes `k` random bytes
+pub record NeedsFor (v : List ℕ) (is_new : ℕ → Type 0) (k : ℕ) : Type 0 where
+  pub slot : ℕ
+  pub is : is_new slot
+  pub count : k ≡ keyslot_need v slot
+
+-- the edit takes `k` random bytes
+abbrev pub Need1 : List ℕ → Edit → ℕ → Type 0
+Need1 v (Add by_ old new to iterations) k = NeedsFor v (IsNewKeyslot v to) k
+Need1 v (Change slot old new iterations) k = NeedsFor v (IsLeastFree v) k
+Need1 v (Remove slot passphrase) k = k ≡ 0
+Need1 v Repair k = k ≡ 0
+Need1 v (Label text) k = k ≡ 0
+
+-- the random bytes aren't as many as the edit takes
+pub record IsMiscounted (v : List ℕ) (e : Edit) (random : List ℕ) : Type 0 where
+  pub need : ℕ
+  pub is : Need1 v e need
+  pub other : length random ≢ need
+
+-- ---- the faults
+
+-- the faults of an edit of the LUKS1 volume `v` with the random bytes
+abbrev pub IsEditFault1 : List ℕ → Data → Edit → List ℕ → EditFault → Type 0
+IsEditFault1 v payload e random (fault.NotAccepted f) = IsFault v payload f
+IsEditFault1 v payload e random fault.Requirements = ⊥
+IsEditFault1 v payload e random fault.NoSuchSlot = IsAbsent v e
+IsEditFault1 v payload e random fault.Locked = IsLocked v e
+IsEditFault1 v payload e random (fault.Slot f) = IsShut v e f
+IsEditFault1 v payload e random fault.SlotTaken = IsTaken v e
+IsEditFault1 v payload e random fault.NoFreeSlot = HasNoFree v e
+IsEditFault1 v payload e random fault.NoRoom = ⊥
+IsEditFault1 v payload e random fault.LastSlot = IsLast v e
+IsEditFault1 v payload e random fault.Iterations = HasFewIterations e
+IsEditFault1 v payload e random fault.BadLabel = IsLabel e
+IsEditFault1 v payload e random fault.SeqExhausted = ⊥
+IsEditFault1 v payload e random fault.MetadataFull = ⊥
+IsEditFault1 v payload e random fault.RandomLength = IsMiscounted v e random
+IsEditFault1 v payload e random fault.Memory = ⊥
+IsEditFault1 v payload e random fault.Device = ⊥
+
+-- the refusal: the first of them
+abbrev pub Refusal1 : List ℕ → Data → Edit → List ℕ → EditFault → Type 0
+Refusal1 v payload e random f = IsLeast edit_key (IsEditFault1 v payload e random) f
+
+-- nothing refuses the edit
+pub record IsUnrefused1 (v : List ℕ) (payload : Data) (e : Edit) (random : List ℕ) : Type 0 where
+  pub none : (f : EditFault) → IsEditFault1 v payload e random f → ⊥

@@ -1,0 +1,100 @@
+//! Laws on the definitions of this crate. Each function only calls those whose laws it follows
+//! from; its contract is the law.
+ghost use Rattle.std.specs.Prelude.{◌≡◌, ◌↔◌, ℕ, List, length, replicate};
+ghost use Rattle.luks_area.specs.declared.area.Area.{Area as TheArea};
+ghost use Rattle.luks_area.specs.declared.area.AreaName.TheVariants.{Slot};
+ghost use Rattle.luks_area.specs.Ranges.{part, SameBut};
+ghost use Rattle.luks_head.specs.Selection.{Chosen, luks1};
+ghost use Rattle.luks_reading.specs.Answer.{Answer, Opened};
+ghost use Rattle.luks_reading.specs.Checked.{AreaOf, WellFormed};
+ghost use Rattle.luks_reading.specs.declared.report.Data.{Data as Payload};
+ghost use Rattle.luks_edit.specs.declared.edit.Edit.{Edit as TheEdit};
+ghost use Rattle.luks_edit.specs.declared.edit_fault.EditFault.{EditFault as TheFault};
+ghost use Rattle.luks_edit.specs.EditFaults.{edit_key};
+ghost use Rattle.luks_edit.specs.Kept.{Keeps};
+ghost use Rattle.luks1_edits.specs.Edited.{After1, NamedKeyslots1, OpensAfter1, Removes};
+ghost use Rattle.luks1_edits.specs.Kept.{HasSameKeyslot, KeepsOthers};
+ghost use Rattle.luks1_edits.specs.Leftovers.{Leftover1, OpensEither1};
+ghost use Rattle.luks1_edits.specs.Places.{IsOfKeyslots};
+ghost use Rattle.luks1_edits.specs.Refused.{IsUnrefused1, Refusal1};
+
+use luks_head::{luks1_is_first_bytes, luks1_without_faults, one_choice};
+use luks_reading::one_answer;
+use luks_slot::{found_key_meets_digest, sealed_area_opens};
+
+/// The answer of a keyslot of LUKS1 depends on the 208 bytes before the keyslots, its entry, its
+/// area and the volume's length alone.
+pub fn luks1_answer_is_local()
+    ensures { (n : ℕ) (v w p : List ℕ) (a : Opened) → Chosen v luks1 → HasSameKeyslot n v w
+        → Answer v n p a ↔ Answer w n p a }
+{
+    one_choice();
+    luks1_is_first_bytes();
+    luks1_without_faults();
+}
+
+/// After an edit of a well formed LUKS1 volume that nothing refused, the volume is a well formed
+/// LUKS1 volume; its length, its segments and their bytes are as before, and so are the answers, the entry and the
+/// area of each keyslot that the edit didn't name. The area that a removed keyslot had is zeros.
+pub fn luks1_edit_keeps_volume()
+    ensures keeps { (payload : Payload) (e : TheEdit) (v random w : List ℕ)
+        → Chosen v luks1 → WellFormed v payload → IsUnrefused1 v payload e random
+        → After1 v e random w → Keeps payload (NamedKeyslots1 v e) v w }
+    ensures chosen { (payload : Payload) (e : TheEdit) (v random w : List ℕ)
+        → Chosen v luks1 → WellFormed v payload → IsUnrefused1 v payload e random
+        → After1 v e random w → Chosen w luks1 }
+    ensures rest { (payload : Payload) (e : TheEdit) (v random w : List ℕ)
+        → Chosen v luks1 → WellFormed v payload → IsUnrefused1 v payload e random
+        → After1 v e random w → SameBut (IsOfKeyslots v (NamedKeyslots1 v e)) v w }
+    ensures removed { (payload : Payload) (e : TheEdit) (v random w : List ℕ) (n : ℕ) (a : TheArea)
+        → Chosen v luks1 → WellFormed v payload → After1 v e random w → Removes e n
+        → AreaOf v payload (Slot n) a → part w a.start a.len ≡ replicate a.len 0 }
+{
+    one_choice();
+    luks1_is_first_bytes();
+    luks1_without_faults();
+}
+
+/// After an edit of a well formed LUKS1 volume that nothing refused, a keyslot that it made opens
+/// by its new passphrase to the key that the old one opened.
+pub fn luks1_edit_opens()
+    ensures { (payload : Payload) (e : TheEdit) (v random w : List ℕ)
+        → Chosen v luks1 → WellFormed v payload → IsUnrefused1 v payload e random
+        → After1 v e random w → OpensAfter1 v e w }
+{
+    one_choice();
+    luks1_is_first_bytes();
+    luks1_without_faults();
+    one_answer();
+    sealed_area_opens();
+    found_key_meets_digest();
+}
+
+/// What a failing device call leaves of a well formed LUKS1 volume has its length and its segments'
+/// bytes, and each keyslot that the edit didn't name has its answers, its entry and its area. A
+/// keyslot that was changed opens by the old passphrase, or the new one by the new passphrase, to
+/// the same key.
+pub fn luks1_failing_edit()
+    ensures rest { (payload : Payload) (e : TheEdit) (v random w : List ℕ)
+        → Chosen v luks1 → WellFormed v payload → Leftover1 v payload e random w
+        → SameBut (IsOfKeyslots v (NamedKeyslots1 v e)) v w }
+    ensures keeps { (payload : Payload) (e : TheEdit) (v random w : List ℕ)
+        → Chosen v luks1 → WellFormed v payload → Leftover1 v payload e random w
+        → KeepsOthers payload (NamedKeyslots1 v e) v w }
+    ensures opens { (payload : Payload) (e : TheEdit) (v random w : List ℕ)
+        → Chosen v luks1 → WellFormed v payload → Leftover1 v payload e random w
+        → OpensEither1 v e w }
+{
+    one_choice();
+    luks1_is_first_bytes();
+    luks1_without_faults();
+    one_answer();
+    sealed_area_opens();
+    found_key_meets_digest();
+}
+
+/// An edit has one refusal at most.
+pub fn luks1_edit_refused_once()
+    ensures { (v : List ℕ) (payload : Payload) (e : TheEdit) (random : List ℕ) (f g : TheFault)
+        → Refusal1 v payload e random f → Refusal1 v payload e random g → edit_key f ≡ edit_key g }
+{}

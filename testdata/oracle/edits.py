@@ -1,0 +1,329 @@
+"""Edits of a volume in Python: the first refusal, or the volume that is left, byte for byte, of the old one and the random bytes.
+
+An edit is a list of writes, each followed by a flush, so that what a failing call leaves can be told too (`left`).
+"""
+from dataclasses import dataclass, replace
+
+import images
+import makers
+import reader
+from equations import pbkdf2, sealed_area
+from formatting import Drawn
+from images import DISABLED, ENABLED, Entry
+from reader import Fault
+
+LARGEST_SEQID = (1 << 64) - 1
+
+
+@dataclass(frozen=True)
+class Add:
+    by: int
+    old: bytes
+    new: bytes
+    to: int = None
+    iterations: int = 1000
+
+
+@dataclass(frozen=True)
+class Change:
+    slot: int
+    old: bytes
+    new: bytes
+    iterations: int = 1000
+
+
+@dataclass(frozen=True)
+class Remove:
+    slot: int
+    passphrase: bytes
+
+
+@dataclass(frozen=True)
+class Repair:
+    pass
+
+
+@dataclass(frozen=True)
+class Label:
+    text: bytes
+
+
+def opened_by(edit):
+    """The keyslot that the edit's passphrase has to open, and that passphrase; none for Repair and Label."""
+    if isinstance(edit, Add):
+        return edit.by, edit.old
+    if isinstance(edit, Change):
+        return edit.slot, edit.old
+    return (edit.slot, edit.passphrase) if isinstance(edit, Remove) else None
+
+
+class Volume1:
+    """A LUKS1 volume that `check` accepts."""
+    most = 8
+
+    def __init__(self, volume):
+        self.volume = volume
+        self.d = reader.common1(volume, range(8))
+        self.entries = [Entry(*fields) for fields in self.d["slots"]]
+        self.used = [n for n in range(8) if self.entries[n].active == ENABLED]
+
+    def plan(self, n):
+        return reader.plan1(self.volume, self.d, n)
+
+    def takes_a_free_slot(self, edit):
+        return isinstance(edit, (Add, Change))
+
+    def need(self, edit):
+        if not isinstance(edit, (Add, Change)):
+            return 0
+        return 32 + (self.entries[place_of(self, edit)].stripes - 1) * self.d["key_bytes"]
+
+    def has_room(self, edit):
+        return True
+
+    def is_last(self, n):
+        return self.used == [n]
+
+    def takes_label(self, text):
+        return False
+
+    def refuse_header(self, edit):
+        pass
+
+    def area(self, n):
+        start, length = reader.slot_area1(self.d, n)
+        return start, length
+
+    def entry(self, n, entry):
+        return 208 + 48 * n, images.struct.pack(">II32sII", entry.active, entry.iterations, entry.salt, entry.offset, entry.stripes)
+
+    def writes(self, edit, key, random):
+        if isinstance(edit, Remove):
+            return self.disabling(edit.slot)
+        if not isinstance(edit, (Add, Change)):
+            return []
+        to, drawn, name = place_of(self, edit), Drawn(random), self.d["hash"].decode()
+        salt = drawn.take(32)
+        area = sealed_area(name, pbkdf2(name, edit.new, salt, edit.iterations, self.d["key_bytes"]), key, drawn.rest())
+        new = replace(self.entries[to], active=ENABLED, iterations=edit.iterations, salt=salt)
+        return [(self.area(to)[0], area), self.entry(to, new)] + (self.disabling(edit.slot) if isinstance(edit, Change) else [])
+
+    def disabling(self, n):
+        start, length = self.area(n)
+        return [self.entry(n, replace(self.entries[n], active=DISABLED, iterations=0, salt=bytes(32))), (start, bytes(length))]
+
+
+class Volume2:
+    """A LUKS2 volume that `check` accepts."""
+    most = 32
+
+    def __init__(self, volume, chosen, detached):
+        self.volume, self.detached = volume, detached
+        self.copy, self.state = chosen
+        self.value = reader.metadata(self.copy)
+        self.used = sorted(map(int, self.value["keyslots"]))
+
+    def plan(self, n):
+        return reader.plan2(self.volume, self.value, n)
+
+    def keyslot(self, n):
+        return self.value["keyslots"][str(n)]
+
+    def has_requirements(self):
+        config = self.value["config"]
+        return "requirements" in config and config["requirements"] not in (None, {}, [], {"mandatory": []})
+
+    def takes_a_free_slot(self, edit):
+        return isinstance(edit, Add)
+
+    def need(self, edit):
+        if not isinstance(edit, (Add, Change)):
+            return 128
+        slot = self.keyslot(opened_by(edit)[0])
+        return 128 + 32 + (slot["af"]["stripes"] - 1) * slot["key_size"]
+
+    def areas(self):
+        """All areas of the volume."""
+        size = self.copy["size"]
+        found = [(0, size), (size, size)] + [reader.slot_area2(slot) for slot in self.value["keyslots"].values()]
+        for segment in [] if self.detached else self.value["segments"].values():
+            start = int(segment["offset"])
+            found.append(reader.to_end(start, len(self.volume)) if segment["size"] == "dynamic" else (start, int(segment["size"])))
+        return found
+
+    def gap(self, edit):
+        """The place of the new area, or none: only where an area or the region begins, or one ends, can the least one be."""
+        size = makers.area_size(self.keyslot(opened_by(edit)[0]))
+        least, most = reader.region(self.copy, self.value)
+        areas = [area for area in self.areas() if area[1] > 0]
+        for at in sorted(images.round_up(place, 4096) for place in [least] + [start + length for start, length in areas]):
+            if at >= least and at + size <= min(most, len(self.volume)) and all(at + size <= start or start + length <= at for start, length in areas):
+                return at
+        return None
+
+    def has_room(self, edit):
+        return not isinstance(edit, (Add, Change)) or self.gap(edit) is not None
+
+    def is_last(self, n):
+        return makers.digest_of(self.value, n)["keyslots"] == [str(n)]
+
+    def takes_label(self, text):
+        return len(text) <= 47 and all(0x20 <= byte <= 0x7E for byte in text)
+
+    def refuse_header(self, edit):
+        if self.copy["seqid"] == LARGEST_SEQID:
+            raise Fault("SeqExhausted")
+        if makers.area_text(self.made(edit, bytes(32)), self.copy["size"] - 4096) is None:
+            raise Fault("MetadataFull")
+
+    def made(self, edit, salt):
+        """The new metadata."""
+        if isinstance(edit, Remove):
+            return makers.without_slot(self.value, edit.slot)
+        if not isinstance(edit, (Add, Change)):
+            return self.value
+        rest = (edit.iterations, salt, self.gap(edit), makers.area_size(self.keyslot(opened_by(edit)[0])))
+        return makers.with_slot(self.value, place_of(self, edit), edit.by, *rest) if isinstance(edit, Add) else makers.changed_slot(self.value, edit.slot, *rest)
+
+    def copies(self, edit, value, salts):
+        """Both copies of the new header, the one that wasn't chosen first."""
+        at, size = self.copy["at"], self.copy["size"]
+        label, uuid, subsystem = (self.volume[at + place:at + place + length] for place, length in ((24, 48), (168, 40), (208, 48)))
+        fields = {"seqid": self.copy["seqid"] + 1, "label": edit.text if isinstance(edit, Label) else label, "uuid": uuid, "subsystem": subsystem}
+        written = {place: images.copy(makers.compact(value), place, size, salt=salt, **fields) for place, salt in zip((0, size), salts)}
+        return [(place, written[place]) for place in sorted(written, key=lambda place: place == at)]
+
+    def writes(self, edit, key, random):
+        drawn = Drawn(random)
+        salts, areas = (drawn.take(64), drawn.take(64)), []
+        salt = drawn.take(32) if isinstance(edit, (Add, Change)) else None
+        if salt:
+            old = self.keyslot(opened_by(edit)[0])
+            slot_key = pbkdf2(old["kdf"]["hash"], edit.new, salt, edit.iterations, old["area"]["key_size"])
+            areas.append((self.gap(edit), sealed_area(old["af"]["hash"], slot_key, key, drawn.rest())))
+        wiped = []
+        if isinstance(edit, (Change, Remove)):
+            start, length = reader.slot_area2(self.keyslot(edit.slot))
+            wiped.append((start, bytes(length)))
+        return areas + self.copies(edit, self.made(edit, salt), salts) + wiped
+
+
+def accepted(volume, detached):
+    """The volume that `check` accepts, or the refusal of a volume that no edit takes."""
+    status, line = reader.check(volume, detached)
+    if status == 1:
+        raise Fault(line.removeprefix("refused ").strip())
+    chosen = reader.select(volume)
+    if chosen == 1:
+        return Volume1(volume)
+    v = Volume2(volume, chosen, detached)
+    if v.has_requirements():
+        raise Fault("Requirements")
+    return v
+
+
+def find(v, edit):
+    if opened_by(edit) and opened_by(edit)[0] not in v.used:
+        raise Fault("NoSuchSlot")
+
+
+def key_of(v, edit):
+    """The key that the edit's passphrase opens."""
+    if opened_by(edit) is None:
+        return None
+    slot, passphrase = opened_by(edit)
+    key = reader.opened(v.plan(slot), passphrase)
+    if key is None:
+        raise Fault("Locked")
+    return key
+
+
+def place_of(v, edit):
+    """The slot that the edit makes or changes; none for Remove, Repair and Label."""
+    to = edit.to if isinstance(edit, Add) else None
+    if not v.takes_a_free_slot(edit):
+        return edit.slot if isinstance(edit, Change) else None
+    if to is not None and to in v.used:
+        raise Fault("SlotTaken")
+    free = [n for n in range(v.most) if n not in v.used and to in (None, n)]
+    if not free:
+        raise Fault("NoFreeSlot")
+    return free[0]
+
+
+def needed(volume, detached, edit):
+    """How many random bytes the edit takes, or the refusal."""
+    try:
+        v = accepted(volume, detached)
+        find(v, edit)
+        place_of(v, edit)
+        return v.need(edit)
+    except Fault as fault:
+        return f"refused {fault}"
+
+
+def steps(volume, detached, edit, random):
+    """The slot that is made or changed, and the writes; or the first refusal."""
+    v = accepted(volume, detached)
+    find(v, edit)
+    key = key_of(v, edit)
+    to = place_of(v, edit)
+    if not v.has_room(edit):
+        raise Fault("NoRoom")
+    if isinstance(edit, Remove) and v.is_last(edit.slot):
+        raise Fault("LastSlot")
+    if isinstance(edit, (Add, Change)) and edit.iterations < 1000:
+        raise Fault("Iterations")
+    if isinstance(edit, Label) and not v.takes_label(edit.text):
+        raise Fault("BadLabel")
+    v.refuse_header(edit)
+    if len(random) != v.need(edit):
+        raise Fault("RandomLength")
+    return to, v.writes(edit, key, random)
+
+
+def written(volume, writes):
+    out = bytearray(volume)
+    for at, part in writes:
+        out[at:at + len(part)] = part
+    assert len(out) == len(volume)
+    return bytes(out)
+
+
+def apply(volume, detached, edit, random):
+    """The line that the program prints, and the volume left."""
+    try:
+        slot, writes = steps(volume, detached, edit, random)
+    except Fault as fault:
+        return f"refused {fault}", volume
+    return "done" if slot is None else f"done slot {slot}", written(volume, writes)
+
+
+def run(volume, detached, listed):
+    """The lines of a list of (edit, random bytes), and the volume left."""
+    lines = []
+    for edit, random in listed:
+        line, volume = apply(volume, detached, edit, random)
+        lines.append(line)
+    return lines, volume
+
+
+def left(volume, detached, edit, random, number, leave):
+    """The volume left where one of the write and flush calls fails, counted from 0: each write is one call, and a flush follows it.
+
+    A failed write leaves what `leave` makes of the old and the new bytes.
+    """
+    _, writes = steps(volume, detached, edit, random)
+    whole = written(volume, writes[:(number + 1) // 2])
+    if number % 2 == 1:
+        return whole
+    at, part = writes[number // 2]
+    return written(whole, [(at, leave(whole[at:at + len(part)], part))])
+
+
+LEAVES = {
+    "Old": lambda old, new: old,
+    "New": lambda old, new: new,
+    "Ones": lambda old, new: b"\xff" * len(new),
+    "Half": lambda old, new: new[:len(new) // 2] + old[len(new) // 2:],
+}

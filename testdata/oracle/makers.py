@@ -1,0 +1,68 @@
+"""New metadata made of old, on values as Python's json reads them; each call answers a new value and leaves the old one as it was.
+
+What an edit doesn't name is kept: members that docs/FORMATS.md doesn't list, numbers of tokens, the order in arrays.
+"""
+import copy
+import json
+
+import images
+
+
+def compact(value):
+    """The text without white space, members in the order of their names' bytes; what isn't ASCII stands as it is."""
+    return json.dumps(value, separators=(",", ":"), sort_keys=True, ensure_ascii=False).encode()
+
+
+def area_text(value, length):
+    """The JSON area of this many bytes, or none where the text and one zero byte don't fit it."""
+    text = compact(value)
+    return text.ljust(length, b"\0") if len(text) <= length - 1 else None
+
+
+def digest_of(value, n):
+    """The digest that names keyslot n."""
+    return next(digest for digest in value["digests"].values() if str(n) in digest["keyslots"])
+
+
+def area_size(slot):
+    """The size in bytes of a new area for a keyslot like this one."""
+    return images.round_up(slot["key_size"] * slot["af"]["stripes"], 4096)
+
+
+def with_slot(value, to, by, iterations, salt, offset, size):
+    """With a new keyslot `to` that holds the key of keyslot `by`, after the manner of `by`."""
+    value = copy.deepcopy(value)
+    old = value["keyslots"][str(by)]
+    value["keyslots"][str(to)] = {
+        "type": "luks2",
+        "key_size": old["key_size"],
+        "af": {"type": "luks1", "stripes": old["af"]["stripes"], "hash": old["af"]["hash"]},
+        "area": {"type": "raw", "offset": str(offset), "size": str(size), "encryption": old["area"]["encryption"], "key_size": old["area"]["key_size"]},
+        "kdf": {"type": "pbkdf2", "hash": old["kdf"]["hash"], "iterations": iterations, "salt": images.b64(salt)},
+    }
+    digest_of(value, by)["keyslots"].append(str(to))
+    return value
+
+
+def changed_slot(value, n, iterations, salt, offset, size):
+    """With four members of keyslot n renewed."""
+    value = copy.deepcopy(value)
+    slot = value["keyslots"][str(n)]
+    slot["kdf"].update(iterations=iterations, salt=images.b64(salt))
+    slot["area"].update(offset=str(offset), size=str(size))
+    return value
+
+
+def without_slot(value, n):
+    """Without keyslot n, and without its name in its digest and in tokens."""
+    value = copy.deepcopy(value)
+    digest = digest_of(value, n)
+    del value["keyslots"][str(n)]
+    for holder in [digest, *value["tokens"].values()]:
+        holder["keyslots"] = [name for name in holder["keyslots"] if name != str(n)]
+    return value
+
+
+def formatted(hash_name, iterations, segment_offset, digest_salt, digest, slot_salt):
+    """What formatting writes."""
+    return images.metadata({"0": images.keyslot(hash_name, iterations, slot_salt)}, hash_name, iterations, digest, digest_salt, segment_offset)
