@@ -1,1 +1,2 @@
 mod GapFacts
+mod KeptAnswers

@@ -1,2 +1,9 @@
 pub mod Gap
 pub mod GapSearch
+pub mod Metadata
+pub mod Places
+pub mod Copies
+pub mod Edited
+pub mod Refused
+pub mod Leftovers
+pub mod Kept

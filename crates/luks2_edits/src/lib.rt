@@ -2,5 +2,7 @@
 #![tactic(auto)]
 
 mod gap;
+mod laws;
 
 pub use gap::least_gap;
+pub use laws::alike_slots_answer_alike;

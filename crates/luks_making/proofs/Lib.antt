@@ -4,3 +4,8 @@ mod WholeFacts
 mod NestingFacts
 mod RowFacts
 mod RemovalFacts
+mod PutFacts
+mod ItemFacts
+mod CopyFacts
+mod StepFacts
+mod AreaFacts

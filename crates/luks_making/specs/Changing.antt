@@ -25,7 +25,8 @@ in_array f (object ms) = object ms
 -- f of the value at the name; the other members as they are, and all in their order
 abbrev pub change_member : List ℕ → (Data → Data) → Members → Members
 change_member k f no_members = no_members
-change_member k f (member l d ms) = if bytes_eq k l then member l (f d) ms else member l d (change_member k f ms)
+change_member k f (member l d ms) =
+    if bytes_eq k l then member l (f d) ms else member l d (change_member k f ms)
 
 -- f of each member's value
 abbrev pub each_member : (Data → Data) → Members → Members
@@ -35,7 +36,8 @@ each_member f (member l d ms) = member l (f d) (each_member f ms)
 -- the members of other names
 abbrev pub drop_member : List ℕ → Members → Members
 drop_member k no_members = no_members
-drop_member k (member l d ms) = if bytes_eq k l then drop_member k ms else member l d (drop_member k ms)
+drop_member k (member l d ms) =
+    if bytes_eq k l then drop_member k ms else member l d (drop_member k ms)
 
 -- the items that aren't the text
 abbrev pub drop_text : List ℕ → Items → Items

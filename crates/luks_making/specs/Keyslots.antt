@@ -44,7 +44,12 @@ pub record NewMembers : Type 0 where
   pub size : ℕ
 
 abbrev pub new_members : New → NewMembers
-new_members f = record { iterations = f.iterations; salt = f.salt.now; offset = f.offset; size = f.size }
+new_members f = record {
+  iterations = f.iterations;
+  salt = f.salt.now;
+  offset = f.offset;
+  size = f.size;
+}
 
 -- ---- values
 

@@ -23,4 +23,5 @@ IsUnique (member k d ms) = (get_member k ms ≡ None) × IsUnique ms
 
 -- each digest's name stands once
 abbrev pub HasUniqueDigests : Data → Type 0
-HasUniqueDigests j = (digests : Members) → option_and_then as_object (section_at j Digests) ≡ Some digests → IsUnique digests
+HasUniqueDigests j = (digests : Members)
+    → option_and_then as_object (section_at j Digests) ≡ Some digests → IsUnique digests

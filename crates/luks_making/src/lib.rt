@@ -1,10 +1,19 @@
 //! New values of a LUKS2 header's metadata, made of old ones or from nothing.
 #![tactic(auto)]
 
+mod changed;
+mod changing;
+mod json_area;
 mod laws;
 mod new_keyslot;
 mod new_volume;
+mod with;
+mod without;
 
+pub use changed::changed_slot;
+pub use json_area::written_area;
 pub use laws::removal_keeps_the_rest;
 pub use new_keyslot::{New, NewKeyslot};
-pub use new_volume::NewVolume;
+pub use new_volume::{NewVolume, formatted};
+pub use with::with_slot;
+pub use without::without_slot;

@@ -1,5 +1,13 @@
 //! A keyslot that is made, and what is new of one.
 
+ghost use Rattle.std.specs.Prelude.{◌≡◌, string_bytes, IfOk};
+ghost use Rattle.serde_json.specs.View.{view};
+ghost use Rattle.luks_making.specs.Keyslots.{area_value, base64_text, kdf_value, slot_members, slot_value, splitter_value};
+
+use base64::engine::general_purpose::STANDARD;
+use serde_json::{Value, json};
+use std::alloc::{AllocError, Global};
+
 /// What is new of a keyslot that is sealed again, or made with the members of another.
 #[derive(Clone, Copy, Debug)]
 pub struct New<'a> {
@@ -36,4 +44,55 @@ pub struct NewKeyslot<'a> {
     pub iterations: u32,
     /// The derivation's salt.
     pub salt: &'a [u8],
+}
+
+/// The bytes in base64, padded (RFC 4648, section 4).
+pub(crate) fn base64_text(alloc: Global, bytes: &[u8]) -> Result<String, AllocError>
+    ensures { IfOk result (λ t. string_bytes t ≡ base64_text bytes.now) }
+{
+    STANDARD.encode(alloc, bytes)
+}
+
+fn splitter_value(alloc: Global, keyslot: &NewKeyslot<'_>) -> Result<Value, AllocError>
+    ensures { IfOk result (λ v. view v ≡ splitter_value (slot_members keyslot.now)) }
+{
+    let (hash, stripes) = (keyslot.splitter_hash, keyslot.stripes);
+    json!(in alloc; {"hash": hash, "stripes": stripes, "type": "luks1"})
+}
+
+fn area_value(alloc: Global, keyslot: &NewKeyslot<'_>) -> Result<Value, AllocError>
+    ensures { IfOk result (λ v. view v ≡ area_value (slot_members keyslot.now)) }
+{
+    let offset = keyslot.offset.to_string(alloc)?;
+    let size = keyslot.size.to_string(alloc)?;
+    json!(in alloc; {
+        "encryption": keyslot.encryption,
+        "key_size": keyslot.area_key_size,
+        "offset": offset,
+        "size": size,
+        "type": "raw"
+    })
+}
+
+fn kdf_value(alloc: Global, keyslot: &NewKeyslot<'_>) -> Result<Value, AllocError>
+    ensures { IfOk result (λ v. view v ≡ kdf_value (slot_members keyslot.now)) }
+{
+    let salt = base64_text(alloc, keyslot.salt)?;
+    json!(in alloc; {
+        "hash": keyslot.hash,
+        "iterations": keyslot.iterations,
+        "salt": salt,
+        "type": "pbkdf2"
+    })
+}
+
+/// The value of the keyslot.
+pub(crate) fn slot_value(alloc: Global, keyslot: &NewKeyslot<'_>) -> Result<Value, AllocError>
+    ensures { IfOk result (λ v. view v ≡ slot_value (slot_members keyslot.now)) }
+{
+    let af = splitter_value(alloc, keyslot)?;
+    let area = area_value(alloc, keyslot)?;
+    let kdf = kdf_value(alloc, keyslot)?;
+    let key_size = keyslot.key_size;
+    json!(in alloc; {"af": af, "area": area, "kdf": kdf, "key_size": key_size, "type": "luks2"})
 }

@@ -1,5 +1,14 @@
 //! The metadata of a new volume.
 
+ghost use Rattle.std.specs.Prelude.{◌≡◌, IfOk};
+ghost use Rattle.serde_json.specs.View.{view};
+ghost use Rattle.luks_making.specs.Keyslots.{slot_value};
+ghost use Rattle.luks_making.specs.Formatted.{config_value, digest_value, first_slot, formatted, segment_value, sole, volume_members};
+
+use crate::new_keyslot::{NewKeyslot, base64_text, slot_value};
+use serde_json::{Value, json};
+use std::alloc::{AllocError, Global};
+
 /// What the metadata of a new volume says.
 #[derive(Clone, Copy, Debug)]
 pub struct NewVolume<'a> {
@@ -15,4 +24,85 @@ pub struct NewVolume<'a> {
     pub digest: &'a [u8],
     /// The keyslot's salt.
     pub slot_salt: &'a [u8],
+}
+
+fn config_value(alloc: Global) -> Result<Value, AllocError>
+    ensures { IfOk result (λ v. view v ≡ config_value) }
+{
+    json!(in alloc; {"json_size": "12288", "keyslots_size": "16744448"})
+}
+
+fn digest_value(alloc: Global, volume: &NewVolume<'_>) -> Result<Value, AllocError>
+    ensures { IfOk result (λ v. view v ≡ digest_value (volume_members volume.now)) }
+{
+    let digest = base64_text(alloc, volume.digest)?;
+    let salt = base64_text(alloc, volume.digest_salt)?;
+    json!(in alloc; {
+        "digest": digest,
+        "hash": volume.hash,
+        "iterations": volume.iterations,
+        "keyslots": ["0"],
+        "salt": salt,
+        "segments": ["0"],
+        "type": "pbkdf2"
+    })
+}
+
+fn first_slot(alloc: Global, volume: &NewVolume<'_>) -> Result<Value, AllocError>
+    ensures { IfOk result (λ v. view v ≡ slot_value (first_slot (volume_members volume.now))) }
+{
+    let keyslot = NewKeyslot {
+        key_size: 64,
+        stripes: 4000,
+        splitter_hash: volume.hash,
+        offset: 32768,
+        size: 258048,
+        encryption: "aes-xts-plain64",
+        area_key_size: 64,
+        hash: volume.hash,
+        iterations: volume.iterations,
+        salt: volume.slot_salt,
+    };
+    slot_value(alloc, &keyslot)
+}
+
+fn segment_value(alloc: Global, volume: &NewVolume<'_>) -> Result<Value, AllocError>
+    ensures { IfOk result (λ v. view v ≡ segment_value (volume_members volume.now)) }
+{
+    let offset = volume.segment_offset.to_string(alloc)?;
+    json!(in alloc; {
+        "encryption": "aes-xts-plain64",
+        "iv_tweak": "0",
+        "offset": offset,
+        "sector_size": 512,
+        "size": "dynamic",
+        "type": "crypt"
+    })
+}
+
+/// The map with one object, the one of number 0.
+fn sole(alloc: Global, object: Value) -> Result<Value, AllocError>
+    ensures { IfOk result (λ v. view v ≡ sole (view object)) }
+{
+    json!(in alloc; {"0": object})
+}
+
+/// The metadata of a new volume with one keyslot, for a JSON area of 12288 bytes (LUKS2 On-Disk
+/// Format 1.1, section 3).
+///
+/// Takes memory for the value.
+pub fn formatted(alloc: Global, volume: &NewVolume<'_>) -> Result<Value, AllocError>
+    ensures { IfOk result (λ v. view v ≡ formatted (volume_members volume.now)) }
+{
+    let config = config_value(alloc)?;
+    let digests = sole(alloc, digest_value(alloc, volume)?)?;
+    let keyslots = sole(alloc, first_slot(alloc, volume)?)?;
+    let segments = sole(alloc, segment_value(alloc, volume)?)?;
+    json!(in alloc; {
+        "config": config,
+        "digests": digests,
+        "keyslots": keyslots,
+        "segments": segments,
+        "tokens": {}
+    })
 }

@@ -1,0 +1,29 @@
+-- New values that are made in several steps.
+use Rattle.std.proofs.Common.{◌≡◌, ℕ, List, codes, refl, ap, ◌∙◌}
+use Rattle.serde_json.specs.Data.{Data, number, string, unsigned, put}
+use Rattle.luks_json.specs.Number.{number_text}
+use Rattle.luks_making.specs.Changing.{at_member, drop_member, each_member, in_object, set_member}
+use Rattle.luks_making.specs.Changed.{renewed_kdf}
+use Rattle.luks_making.specs.Keyslots.{NewMembers, SlotMembers, base64_text, slot_value}
+use Rattle.luks_making.specs.With.{with_name, with_slot}
+use Rattle.luks_making.specs.Without.{without_name, without_slot}
+
+-- a keyslot is taken out
+pub without_steps : (n : ℕ) (t : List ℕ) (j a b c d : Data) → t ≡ number_text n → a ≡ j
+    → b ≡ at_member (codes "tokens") (in_object (each_member (without_name t))) a
+    → c ≡ at_member (codes "digests") (in_object (each_member (without_name t))) b
+    → d ≡ at_member (codes "keyslots") (in_object (drop_member t)) c → d ≡ without_slot n j
+without_steps n t j a b c d named first second third fourth =
+    let into = in_object (each_member (without_name t)) in
+    fourth ∙ (ap (at_member (codes "keyslots") (in_object (drop_member t))) (third ∙ ap (at_member (codes "digests") into) (second ∙ ap (at_member (codes "tokens") into) first))
+    ∙ ap (λ s. at_member (codes "keyslots") (in_object (drop_member s)) (at_member (codes "digests") (in_object (each_member (without_name s))) (at_member (codes "tokens") (in_object (each_member (without_name s))) j))) named)
+
+-- a keyslot is put in
+pub with_steps : (n m : ℕ) (s : SlotMembers) (tm tn tk : List ℕ) (j a made : Data) → tm ≡ number_text m → tn ≡ number_text n → tk ≡ number_text n → made ≡ slot_value s
+    → a ≡ at_member (codes "digests") (at_member tm (with_name tn)) j → at_member (codes "keyslots") (in_object (put tk made)) a ≡ with_slot n m s j
+with_steps n m s tm tn tk j a made first second third is named_by = rw (named_by, is, first, second, third) refl
+
+-- a derivation gets a new salt and new iterations
+pub kdf_steps : (f : NewMembers) (k a salt : Data) (count : Data) → count ≡ number (unsigned f.iterations) → salt ≡ string (base64_text f.salt) → a ≡ set_member (codes "salt") salt k
+    → set_member (codes "iterations") count a ≡ renewed_kdf f k
+kdf_steps f k a salt count counted encoded salted = rw (salted, encoded, counted) refl
