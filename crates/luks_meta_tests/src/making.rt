@@ -170,7 +170,14 @@ fn of_a_new_volume(rt: HostRuntime) -> Result<(), Fail> {
     for (hash, iterations, offset, digest_length, want) in new::NEW {
         let mut digest = Vec::new(rt.alloc());
         digest.resize(digest_length, 0x33)?;
-        let same = forms(rt.alloc(), hash, iterations, offset, digest.as_slice(), want)?;
+        let same = forms(
+            rt.alloc(),
+            hash,
+            iterations,
+            offset,
+            digest.as_slice(),
+            want,
+        )?;
         assert!(rt; same, "{hash}");
     }
     Ok(())

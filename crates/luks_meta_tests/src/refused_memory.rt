@@ -88,12 +88,7 @@ fn formed(alloc: Global) -> Result<Value, AllocError> {
 }
 
 /// The text that the work gives of this value, or of this area.
-fn text_after(
-    alloc: Global,
-    work: Work,
-    area: &[u8],
-    value: &Value,
-) -> Result<String, MetaFault> {
+fn text_after(alloc: Global, work: Work, area: &[u8], value: &Value) -> Result<String, MetaFault> {
     let made = match work {
         Work::Read => return text_of(alloc, area),
         Work::Add => added(alloc, value),

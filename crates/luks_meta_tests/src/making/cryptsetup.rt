@@ -1,4 +1,5 @@
-//! What is made of metadata that cryptsetup 2.6.1 wrote. Printed by `testdata/oracle/maker_rows cryptsetup`.
+//! What is made of metadata that cryptsetup 2.6.1 wrote.
+//! Printed by `testdata/oracle/maker_rows cryptsetup`.
 
 use crate::making::Maker;
 

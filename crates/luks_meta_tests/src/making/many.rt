@@ -1,4 +1,5 @@
-//! What is made of 31 keyslots that cryptsetup 2.6.1 wrote. Printed by `testdata/oracle/maker_rows many`.
+//! What is made of 31 keyslots that cryptsetup 2.6.1 wrote.
+//! Printed by `testdata/oracle/maker_rows many`.
 
 use crate::making::Maker;
 

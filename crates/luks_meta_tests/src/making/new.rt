@@ -1,7 +1,7 @@
-//! The metadata of new volumes. Printed by `testdata/oracle/maker_rows new`.
+//! The metadata of new volumes, printed by `testdata/oracle/maker_rows new`.
 
-/// Hash, iterations, where the segment begins, how many bytes 0x33 the digest has, and the text. The digest's salt is 32 bytes 0x11,
-/// the keyslot's 32 bytes 0x22.
+/// Hash, iterations, where the segment begins, how many bytes 0x33 the digest has, and the text. The
+/// digest's salt is 32 bytes 0x11, the keyslot's 32 bytes 0x22.
 pub const NEW: [(&str, u32, u64, usize, &str); 2] = [
     (
         "sha256",

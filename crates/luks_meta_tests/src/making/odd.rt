@@ -1,4 +1,5 @@
-//! What is made of metadata with members that no table lists. Printed by `testdata/oracle/maker_rows odd`.
+//! What is made of metadata with members that no table lists.
+//! Printed by `testdata/oracle/maker_rows odd`.
 
 use crate::making::Maker;
 
