@@ -3,6 +3,7 @@ mod NameFacts
 mod WholeFacts
 mod NestingFacts
 mod RowFacts
+mod RestFacts
 mod RemovalFacts
 mod ReadingFacts
 mod AdditionFacts
