@@ -1,25 +1,19 @@
 -- What an edit that was completed keeps of a LUKS2 volume.
-use Rattle.std.proofs.Common.{◌≡◌, ◌≢◌, ℕ, ◌-◌, ◌≤◌, List, length, inl, inr, refl, sym, ap, subst, ◌∙◌, arith}
+use Rattle.std.proofs.Common.{◌≡◌, ℕ, ◌-◌, ◌≤◌, List, length, refl, sym, subst, arith}
 use Rattle.serde_json.specs.Data.{Data as Value}
-use Rattle.luks_area.specs.declared.area.Area.{Area}
 use Rattle.luks_area.specs.declared.area.AreaName.TheVariants.{Slot, Segment}
-use Rattle.luks_area.specs.Ranges.{part, SameBut}
-use Rattle.luks_head.specs.Header2.{hdr_size, header_at, uuid_field, IsUuidField}
+use Rattle.luks_head.specs.Header2.{hdr_size, header_at, IsUuidField}
 use Rattle.luks_head.specs.Selection.{luks2, Chosen}
 use Rattle.luks_head.specs.declared.selection.Copies.TheVariants.{InStep}
-use Rattle.luks_rules.specs.Held.{IsHeld}
-use Rattle.luks_making.specs.Unchanged.{LosesSlot}
 use Rattle.luks_making.specs.Without.{without_slot}
 use Rattle.luks_reading.specs.declared.report.Data.{Data}
 use Rattle.luks_reading.specs.Checked.{WellFormed}
-use Rattle.luks_reading.specs.Layout2.{Luks2Area}
 use Rattle.luks_edit.specs.declared.edit.Edit.{Edit}
 use Rattle.luks_edit.specs.declared.edit.Edit.TheVariants.{Add, Change, Remove, Repair, Label}
 use Rattle.luks_edit.specs.Kept.{Keeps}
-use Rattle.luks2_edits.specs.Edited.{keyslot_salt, After2, IsEdited, NamedKeyslots2}
+use Rattle.luks2_edits.specs.Edited.{keyslot_salt, After2, IsEdited, NamedKeyslots2, SealsKeyslot}
 use Rattle.luks2_edits.specs.Metadata.{HasMetadata}
-use Rattle.luks2_edits.specs.Places.{IsTouched, Loses}
-use Rattle.luks2_edits.specs.Refused.{IsUnrefused2}
+use Rattle.luks2_edits.specs.Places.{Loses}
 use Rattle.luks2_edits.proofs.CopyFacts.{both_chosen}
 use Rattle.luks2_edits.proofs.KeptFacts.{all_kept, says_itself, KeepsMetadata}
 use Rattle.luks2_edits.proofs.LowerLaws.{MakingLaws, VolumeLaws}
@@ -45,17 +39,17 @@ without_metadata : MakingLaws → (h total : ℕ) (payload : Data) (named : ℕ 
     → IsLayout h total payload j → KeepsMetadata h total payload named j k
 without_metadata making h total payload named n j k is same old =
     let without : KeepsMetadata h total payload named j (without_slot n j) =
-    lost_metadata n j (without_slot n j) (making.removal n j) h total payload named is (making.removed (h - 4096) n j old.held) old in
+    lost_metadata n j (without_slot n j) (making.removal n j).rest h total payload named is (making.removed (h - 4096) n j old.held) old (making.removal n j).gone in
     subst (KeepsMetadata h total payload named j) (sym same) without
 
 -- the metadata after an edit
 edited_metadata : MakingLaws → (v : List ℕ) (o : ℕ) (payload : Data) (e : Edit) (random : List ℕ) (j k : Value) → HasMetadata v o j
-    → IsUnrefused2 v payload e random
+    → (SealsKeyslot e → ⊥)
     → IsEdited (hdr_size (header_at v o)) (length v) payload e (keyslot_salt random) j k
     → IsLayout (hdr_size (header_at v o)) (length v) payload j
     → KeepsMetadata (hdr_size (header_at v o)) (length v) payload (NamedKeyslots2 v e) j k
-edited_metadata making v o payload (Add by_ old new to iterations) random j k m free is layout = ?
-edited_metadata making v o payload (Change slot old new iterations) random j k m free is layout = ?
+edited_metadata making v o payload (Add by_ old new to iterations) random j k m free is layout = absurd (free tt)
+edited_metadata making v o payload (Change slot old new iterations) random j k m free is layout = absurd (free tt)
 edited_metadata making v o payload (Remove slot passphrase) random j k m free is layout =
     without_metadata making (hdr_size (header_at v o)) (length v) payload (λ n. n ≡ slot) slot j k refl is layout
 edited_metadata making v o payload Repair random j k m free is layout =
@@ -65,7 +59,7 @@ edited_metadata making v o payload (Label text) random j k m free is layout =
 
 module _
     (laws : VolumeLaws) (making : MakingLaws) (v : List ℕ) (payload : Data) (e : Edit) (random w : List ℕ) (well : WellFormed v payload)
-    (free : IsUnrefused2 v payload e random) (a : After2 v payload e random w)
+    (free : SealsKeyslot e → ⊥) (a : After2 v payload e random w)
   where
     before : HasCopy v a.place (hdr_size (header_at v a.place)) a.value
     before = copy_of laws v payload a.place a.value a.metadata well

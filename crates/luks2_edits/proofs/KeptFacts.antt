@@ -1,5 +1,5 @@
 -- What two volumes share whose metadata agree but in some keyslots.
-use Rattle.std.proofs.Common.{◌≡◌, ℕ, ◌+◌, ◌-◌, ◌<◌, ◌↔◌, List, length, codes, Option, Some, None, option_and_then, refl, sym, ap, subst, ◌∙◌}
+use Rattle.std.proofs.Common.{◌≡◌, ℕ, ◌<◌, ◌↔◌, List, length, codes, Some, option_and_then, refl, sym, ap, subst, ◌∙◌}
 use Rattle.serde_json.specs.Data.{Data as Value}
 use Rattle.serde_json.specs.Find.{get}
 use Rattle.luks_area.specs.declared.area.Area.{Area}
@@ -7,12 +7,11 @@ use Rattle.luks_area.specs.declared.area.AreaName.{AreaName}
 use Rattle.luks_area.specs.declared.area.AreaName.TheVariants.{Slot, Segment}
 use Rattle.luks_area.specs.Ranges.{part}
 use Rattle.luks_head.specs.Header2.{header_at, uuid_field}
-use Rattle.luks_head.specs.Selection.{Choice, luks1, luks2, Chosen}
 use Rattle.luks_rules.specs.declared.table.Section.TheVariants.{Keyslots, Segments}
 use Rattle.luks_rules.specs.Accepted.{HasObject}
 use Rattle.luks_rules.specs.Faults.{object_at, section_at}
 use Rattle.luks_rules.specs.MetaFault.{Json}
-use Rattle.luks_rules.specs.Reading.{decimal_in, extent_of, text_of}
+use Rattle.luks_rules.specs.Reading.{decimal_in}
 use Rattle.luks_slot.specs.declared.plan.DigestPlan.{DigestPlan}
 use Rattle.luks_slot.specs.declared.plan.SlotPlan.{SlotPlan}
 use Rattle.luks_reading.specs.declared.report.Data.{Data}
@@ -21,7 +20,7 @@ use Rattle.luks_reading.specs.Checked.{AreaOf}
 use Rattle.luks_reading.specs.Header.{json_at}
 use Rattle.luks_reading.specs.Layout2.{HasExtent, Luks2Area, segment_extent, segment_offset, slot_number}
 use Rattle.luks_reading.specs.Plans.{HasLuks2Plan, IsLuks2Digest, IsLuks2Plan}
-use Rattle.luks_edit.specs.Kept.{Keeps, KeepsArea, KeepsSlot, IsEntry, IsKeyslot}
+use Rattle.luks_edit.specs.Kept.{Keeps, KeepsArea, KeepsSlot, IsKeyslot}
 use Rattle.luks2_edits.specs.Kept.{HasSameKeyslot, IsSameKeyslot}
 use Rattle.luks2_edits.proofs.KeptAnswers.{answers_kept}
 use Rattle.luks2_edits.proofs.LowerLaws.{VolumeLaws}
@@ -169,9 +168,9 @@ module _ (laws : VolumeLaws) where
       slot_area_kept m free = record {
         same = λ a. (
           λ x. (let is = areas_are laws v payload o h j before (Slot m) a x in
-            area_moved (Slot m) a (slot_area j k h (length v) payload m a (slot_there m free a is.0) is)),
+              area_moved (Slot m) a (slot_area j k h (length v) payload m a (slot_there m free a is.0) is)),
           λ x. (let is = area_was (Slot m) a x in
-            areas_back laws v payload o h j before (Slot m) a (slot_area k j h (length v) payload m a (sym (slot_there m free a is.0)) is)),
+              areas_back laws v payload o h j before (Slot m) a (slot_area k j h (length v) payload m a (sym (slot_there m free a is.0)) is)),
         );
         bytes = λ a x. slot_bytes m free a (areas_are laws v payload o h j before (Slot m) a x);
       }

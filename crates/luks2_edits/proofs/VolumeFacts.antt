@@ -107,11 +107,14 @@ module _ (laws : VolumeLaws) where
         chosen = c.chosen;
         formed = record {
           uuid = c.uuid;
-          layout = (j, record {
-            metadata = copy_meta v o h j c layout.held;
-            segments = λ here. subst (λ n. SegmentsFollow n j) (sym len) (layout.segments here);
-            fit = subst (λ n. Fit (Luks2Area j n payload (length v)) (length v)) (sym c.size) layout.fit;
-          });
+          layout = (
+            j,
+            record {
+              metadata = copy_meta v o h j c layout.held;
+              segments = λ here. subst (λ n. SegmentsFollow n j) (sym len) (layout.segments here);
+              fit = subst (λ n. Fit (Luks2Area j n payload (length v)) (length v)) (sym c.size) layout.fit;
+            },
+          );
         };
       }
 

@@ -1,8 +1,4 @@
 use Rattle.luks2_edits.proofs.KeptAnswers.{answers_kept}
-use Rattle.luks2_edits.proofs.KeptFacts.{all_kept}
-use Rattle.luks2_edits.proofs.MetadataFacts.{lost_metadata}
-use Rattle.luks2_edits.proofs.PlaceFacts.{left_bytes}
-use Rattle.luks2_edits.proofs.CopyFacts.{both_chosen}
 use Rattle.luks2_edits.proofs.laws.alike_slots_answer_alike.Goals as goal
 
 pub returns : goal.returns

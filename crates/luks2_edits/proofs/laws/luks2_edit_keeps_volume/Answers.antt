@@ -1,7 +1,5 @@
 use Rattle.luks2_edits.proofs.AfterFacts.{after_keeps, now_chosen}
-use Rattle.luks2_edits.proofs.LowerLaws.{MakingLaws, VolumeLaws}
 use Rattle.luks2_edits.proofs.laws.luks2_edit_keeps_volume.Goals as goal
-
 
 pub returns-clause-keeps : goal.returns-clause-keeps
 returns-clause-keeps c = λ payload e v random w well free a.
