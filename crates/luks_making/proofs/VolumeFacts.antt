@@ -1,5 +1,5 @@
 -- The metadata of a new volume meets every rule.
-use Rattle.std.proofs.Common.{◌≡◌, ℕ, ◌+◌, ◌*◌, ◌<◌, ◌≤◌, ◌^◌, true, false, List, length, Option, Some, option_map, option_and_then, is_some, bytes_eq, codes, refl, sym, ap, ◌∙◌, inl, inr, arith}
+use Rattle.std.proofs.Common.{◌≡◌, ℕ, ◌+◌, ◌*◌, ◌<◌, ◌≤◌, ◌^◌, true, false, List, Some, option_map, option_and_then, is_some, bytes_eq, codes, refl, sym, ◌∙◌, inl, inr, arith}
 use Rattle.std.proofs.lemmas.Bool.{false≢true, cases_eq, leb-true}
 use Rattle.std.specs.Fmt.{decimal, digits}
 use Rattle.serde_json.specs.Data.{Data, string, Items, no_items, item, no_members, depth}
@@ -17,7 +17,7 @@ use Rattle.luks_rules.specs.Faults.{is_section, section_at, value_at}
 use Rattle.luks_rules.specs.Sizes.{inside_at, keyslots_size, region_start}
 use Rattle.luks_rules.specs.Held.{IsHeld}
 use Rattle.luks_rules.specs.Accepted.{HasNames, HasObject, IsContent, IsRead}
-use Rattle.luks_making.specs.Conditions.{Between, CanFormat, FitsSlot, FitsVolume, IsSalt}
+use Rattle.luks_making.specs.Conditions.{Between, CanFormat, FitsSlot, FitsVolume}
 use Rattle.luks_making.specs.Formatted.{VolumeMembers, config_value, digest_value, first_slot, formatted, segment_value, sole}
 use Rattle.luks_making.specs.Keyslots.{slot_value}
 use Rattle.luks_making.proofs.AdditionFacts.{slot_read}
@@ -78,26 +78,52 @@ module _ (say : TextsSay) (f : VolumeMembers) (fits : FitsVolume f) (can : CanFo
   digest_is_read : IsRead digest_rows (digest_value f)
   digest_is_read = record {
     is_object = refl;
-    each = each_of (RowRead (digest_value f)) digest_rows ((λ _. bytes_read say 20 64 f.digest (omega arith) fits.digest can.digest),
-        ((λ _. refl),
-        ((λ _. number_read 1 4294967295 f.iterations counted),
-        ((λ _. refl),
-        ((λ _. salt_read say f.digest_salt (record { are_bytes = fits.digest_salt; long = can.digest_salt })),
-        ((λ _. refl),
-        ((λ _. refl),
-        tt)))))));
+    each = each_of (RowRead (digest_value f)) digest_rows (
+      (λ _. bytes_read say 20 64 f.digest (omega arith) fits.digest can.digest),
+      (
+        (λ _. refl),
+        (
+          (λ _. number_read 1 4294967295 f.iterations counted),
+          (
+            (λ _. refl),
+            (
+              (λ _. salt_read say f.digest_salt (record { are_bytes = fits.digest_salt; long = can.digest_salt })),
+              (
+                (λ _. refl),
+                (
+                  (λ _. refl),
+                  tt,
+                ),
+              ),
+            ),
+          ),
+        ),
+      ),
+    );
   }
 
   segment_is_read : IsRead segment_rows (segment_value f)
   segment_is_read = record {
     is_object = refl;
-    each = each_of (RowRead (segment_value f)) segment_rows ((λ _. refl),
-        ((λ _. literal_read say (codes "0") 0 (omega arith) zero_digits),
-        ((λ _. decimal_read say f.segment_offset fits.segment_offset),
-        ((λ _. refl),
-        ((λ _. refl),
-        ((λ _. refl),
-        tt))))));
+    each = each_of (RowRead (segment_value f)) segment_rows (
+      (λ _. refl),
+      (
+        (λ _. literal_read say (codes "0") 0 (omega arith) zero_digits),
+        (
+          (λ _. decimal_read say f.segment_offset fits.segment_offset),
+          (
+            (λ _. refl),
+            (
+              (λ _. refl),
+              (
+                (λ _. refl),
+                tt,
+              ),
+            ),
+          ),
+        ),
+      ),
+    );
   }
 
   slot_fits : FitsSlot (first_slot f)
