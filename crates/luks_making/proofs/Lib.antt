@@ -16,3 +16,4 @@ mod ItemFacts
 mod CopyFacts
 mod StepFacts
 mod AreaFacts
+mod VolumeFacts
