@@ -6,4 +6,5 @@ mod KeptFacts
 mod LowerLaws
 mod MetadataFacts
 mod PlaceFacts
+mod UniqueFacts
 mod VolumeFacts
