@@ -1,13 +1,14 @@
 -- In a value that was read no name stands twice in an object.
-use Rattle.std.proofs.Common.{◌≡◌, ℕ, List, Option, Some, None, option_map, option_and_then, unwrap_or, Ordering, Less, Equal, Greater, refl, sym, ap, subst, ◌∙◌}
+use Rattle.std.proofs.Common.{◌≡◌, ℕ, List, Option, Some, None, option_map, option_and_then, codes, Ordering, Less, Equal, Greater, refl, sym, ap, subst, ◌∙◌}
 use Rattle.std.specs.Prelude.{⊤}
 use Rattle.std.specs.Cmp.Lexicographic.{slice_cmp}
 use Rattle.std.specs.Ordering.{match_ordering, nat_cmp, ordering_reverse}
 use Rattle.std.proofs.lemmas.Cmp.{nat_list_cmp_total}
 use Rattle.json.specs.Json as json
+use Rattle.json.specs.Lex.{tokens}
 use Rattle.serde_json.specs.Data.{Data, null, boolean, number, string, array, object, Items, no_items, item, Members, no_members, member, put}
 use Rattle.serde_json.specs.Find.{as_object, get, get_member}
-use Rattle.serde_json.specs.Read.{of_items, of_json, of_members, number_of, read}
+use Rattle.serde_json.specs.Read.{of_items, of_json, of_members, max_depth, number_of, read}
 use Rattle.luks_rules.specs.declared.table.Section.TheVariants.{Digests}
 use Rattle.luks_rules.specs.Faults.{section_at}
 use Rattle.luks_making.specs.Naming.{HasUniqueDigests, IsUnique}
@@ -126,8 +127,12 @@ mutual
       if_and_then Ordered AreOrdered (λ d. of_members ms (put name d found))
       (λ d x. ordered_members ms (put name d found) (ascending_put name d found h.0, ordered_put name d found x h.1)) (of_json j) (ordered_json j)
 
+ordered_from : (o : Option json.Json) → If Ordered (option_and_then of_json o)
+ordered_from None = tt
+ordered_from (Some j) = ordered_json j
+
 ordered_read : (text : List ℕ) (d : Data) → read text ≡ Some d → Ordered d
-ordered_read text d e = subst (If Ordered) e (if_and_then (λ j. ⊤) Ordered of_json (λ j x. ordered_json j) _ (anything _))
+ordered_read text d e = subst (If Ordered) e (ordered_from (option_and_then (λ p. json.if_last p.0 p.1) (json.value max_depth (tokens text))))
 
 -- ---- the digests
 
@@ -160,6 +165,6 @@ members_of (object ms) h = h
 pub unique_digests : (text : List ℕ) (j : Data) → read text ≡ Some j → HasUniqueDigests j
 unique_digests text j reads = λ ms is.
     (let all : If AreOrdered (option_and_then as_object (section_at j Digests)) =
-      if_and_then Ordered AreOrdered as_object members_of (section_at j Digests) (got _ j (ordered_read text j reads)) in
+      if_and_then Ordered AreOrdered as_object members_of (section_at j Digests) (got (codes "digests") j (ordered_read text j reads)) in
       let these : AreOrdered ms = subst (If AreOrdered) is all in
       unique ms these.0)

@@ -1,5 +1,4 @@
 use Rattle.luks2_edits.proofs.KeptAnswers.{answers_kept}
-use Rattle.luks2_edits.proofs.UniqueFacts.{unique_digests}
 use Rattle.luks2_edits.proofs.laws.alike_slots_answer_alike.Goals as goal
 
 pub returns : goal.returns
