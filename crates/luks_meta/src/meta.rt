@@ -15,8 +15,9 @@ use crate::segments::Segment;
 use crate::tokens::Token;
 use luks_json::compact_text_of;
 use luks_making::{
-    New, NewVolume, change_keeps_the_rest, changed_slot, formatted, made_keyslot_has_room, new_fits,
-    new_volume_is_accepted, removal_keeps_the_rest, volume_fits, without_slot, written_area,
+    New, NewVolume, change_keeps_the_rest, changed_slot, formatted, made_keyslot_has_room,
+    new_fits, new_volume_is_accepted, removal_keeps_the_rest, volume_fits, without_slot,
+    written_area,
 };
 use luks_rules::{MetaFault, Section, first_segment_below, read_content};
 use serde_json::Value;
@@ -176,12 +177,7 @@ impl Meta {
     /// The metadata with the keyslot's new iterations, salt and area. All else stays as it is.
     ///
     /// Takes memory for the new value.
-    pub fn changed_slot(
-        &self,
-        alloc: Global,
-        number: u8,
-        new: &New<'_>,
-    ) -> Result<Meta, AllocError>
+    pub fn changed_slot(&self, alloc: Global, number: u8, new: &New<'_>) -> Result<Meta, AllocError>
         requires { CanSeal (area_len self.now) (content self.now) number (new_members new.now) }
         ensures value { IfOk result (λ m.
             content m ≡ changed_slot number (new_members new.now) (content self.now)) }
