@@ -126,10 +126,10 @@ module _ (h total : ℕ) (payload : Data) (j : Value) (n : ℕ) (area : Area) (n
     salt = record { from = omega (arith, long); to = omega (arith, long) };
     large = large slot;
     within = λ bytes says. (
-      let region : new.region ≡ bytes = some_same new.region bytes (sym new.region_is ∙ says) in
-      let from : 2 * h ≤ area.start = new.gap.gap.from in
-      let to : area.start + area.len ≤ min (2 * h + new.region) total = new.gap.gap.to in
-      (omega (arith, head, from), omega (arith, head, region, to)));
+        let region : new.region ≡ bytes = some_same new.region bytes (sym new.region_is ∙ says) in
+        let from : 2 * h ≤ area.start = new.gap.gap.from in
+        let to : area.start + area.len ≤ min (2 * h + new.region) total = new.gap.gap.to in
+        (omega (arith, head, from), omega (arith, head, region, to)));
   }
 
   -- and has the ranges of its types

@@ -165,6 +165,6 @@ members_of (object ms) h = h
 pub unique_digests : (text : List ℕ) (j : Data) → read text ≡ Some j → HasUniqueDigests j
 unique_digests text j reads = λ ms is.
     (let all : If AreOrdered (option_and_then as_object (section_at j Digests)) =
-      if_and_then Ordered AreOrdered as_object members_of (section_at j Digests) (got (codes "digests") j (ordered_read text j reads)) in
-      let these : AreOrdered ms = subst (If AreOrdered) is all in
-      unique ms these.0)
+    if_and_then Ordered AreOrdered as_object members_of (section_at j Digests) (got (codes "digests") j (ordered_read text j reads)) in
+    let these : AreOrdered ms = subst (If AreOrdered) is all in
+    unique ms these.0)

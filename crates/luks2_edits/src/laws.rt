@@ -13,7 +13,9 @@ ghost use Rattle.luks2_edits.specs.Kept.{HasSameKeyslot};
 ghost use Rattle.luks2_edits.specs.Refused.{IsUnrefused2};
 
 use luks_head::{Copies, chosen_copy_is_sound, one_choice, soundness_is_local};
-use luks_making::{addition_keeps_the_rest, change_keeps_the_rest, made_keyslot_has_room, removal_keeps_the_rest};
+use luks_making::{
+    addition_keeps_the_rest, change_keeps_the_rest, made_keyslot_has_room, removal_keeps_the_rest,
+};
 use luks_meta::{metadata_without_faults, one_value};
 
 /// A keyslot that a change of a LUKS2 volume leaves as it was has the same answer for every
