@@ -138,7 +138,7 @@ numbers_lost apart lists n v w ks ls a b e =
     let old : texts_of v ≡ Some (map number_text ks) = lists v ks a in
     let new : texts_of w ≡ Some (map number_text ls) = lists w ls b in
     let both : Some (map number_text ls) ≡ Some (filter (λ t. not (bytes_eq t (number_text n))) (map number_text ks))
-        = sym new ∙ (e ∙ ap (option_map (filter (λ t. not (bytes_eq t (number_text n))))) old) in
+    = sym new ∙ (e ∙ ap (option_map (filter (λ t. not (bytes_eq t (number_text n))))) old) in
     same_numbers apart ls (others n ks) (some_same _ _ both ∙ filtered apart n ks)
 
 numbers_gained : Apart → Lists → (n : ℕ) (v w : Option Data) (ks ls : List ℕ) → numbers_of_array v ≡ Some ks → numbers_of_array w ≡ Some ls
@@ -147,7 +147,7 @@ numbers_gained apart lists n v w ks ls a b e =
     let old : texts_of v ≡ Some (map number_text ks) = lists v ks a in
     let new : texts_of w ≡ Some (map number_text ls) = lists w ls b in
     let both : Some (map number_text ls) ≡ Some (map number_text ks ++ number_text n ∷ [])
-        = sym new ∙ (e ∙ ap (option_map (λ ts. ts ++ number_text n ∷ [])) old) in
+    = sym new ∙ (e ∙ ap (option_map (λ ts. ts ++ number_text n ∷ [])) old) in
     same_numbers apart ls (ks ++ n ∷ []) (some_same _ _ both ∙ last_named n ks)
 
 -- ---- each edit
