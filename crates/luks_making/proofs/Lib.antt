@@ -9,6 +9,8 @@ mod ReadingFacts
 mod AdditionFacts
 mod FreeNumberFacts
 mod RoomFacts
+mod ChangeFacts
+mod NewVolumeFacts
 mod PutFacts
 mod ItemFacts
 mod CopyFacts
