@@ -15,6 +15,7 @@ use Rattle.luks_reading.specs.Layout1.{Luks1Area}
 use Rattle.luks_edit.specs.declared.edit.Edit.{Edit}
 use Rattle.luks_edit.specs.declared.edit.Edit.TheVariants.{Add, Change, Remove, Repair, Label}
 use Rattle.luks_edit.specs.declared.edit_fault.EditFault.TheVariants as fault
+use Rattle.luks_edit.specs.Kept.{Keeps}
 use Rattle.luks1_edits.specs.Edited.{After1, HoldsKey, IsFreed, IsInUse, IsLeastFree, IsMade, IsNewKeyslot, IsWiped, NamedKeyslots1, OpensAfter1, Removes}
 use Rattle.luks1_edits.specs.Kept.{AreKeyslots, ChangesKeyslots, IsEither, IsFitFor, KeepsOthers}
 use Rattle.luks1_edits.specs.Leftovers.{IsTorn1, Leftover1, OpensEither1}
@@ -22,7 +23,7 @@ use Rattle.luks1_edits.specs.Places.{area_len, area_start, IsOfKeyslots}
 use Rattle.luks1_edits.specs.Refused.{IsUnrefused1}
 use Rattle.luks1_edits.proofs.AnswerFacts.{answer_moves}
 use Rattle.luks1_edits.proofs.HeaderFacts.{HeaderLaws, len_is, start_is, volume_of}
-use Rattle.luks1_edits.proofs.KeptFacts.{either_decided, keeps_others, kept_common, luks1_area_of, same_keyslot, stays_well_formed}
+use Rattle.luks1_edits.proofs.KeptFacts.{either_decided, keeps_others, kept_common, luks1_after, luks1_area_of, same_keyslot, stays_well_formed}
 use Rattle.luks1_edits.proofs.MadeKeyslotFacts.{IsMadeFrom, KeyslotLaws, made_opens}
 
 -- ---- what no refusal means
@@ -86,11 +87,9 @@ either_keyslots a b lta ltb = record { numbered = λ n is. elim is [ inl x ↦ o
 
 keeps_wider : (payload : Data) (S T : ℕ → Type 0) (v w : List ℕ) → ((n : ℕ) → S n → T n) → KeepsOthers payload S v w → KeepsOthers payload T v w
 keeps_wider payload S T v w wider x = record {
-  length_same = x.length_same;
+  size = x.size;
   segments = x.segments;
-  areas = λ n not. x.areas n (λ s. not (wider n s));
-  entries = λ n lt not. x.entries n lt (λ s. not (wider n s));
-  answers = λ n not. x.answers n (λ s. not (wider n s));
+  slots = λ n not. x.slots n (λ s. not (wider n s));
 }
 
 places_wider : (S T : ℕ → Type 0) (v w : List ℕ) → ((n : ℕ) → S n → T n) → SameBut (IsOfKeyslots v S) v w → SameBut (IsOfKeyslots v T) v w
@@ -114,8 +113,9 @@ new_once v None a b x y = least_free_once v a b x y
 -- ---- what an edit leaves
 
 pub record Leaves (payload : Data) (named : ℕ → Type 0) (v w : List ℕ) : Type 0 where
+  pub chosen : Chosen w luks1
   pub well : WellFormed w payload
-  pub keeps : KeepsOthers payload named v w
+  pub others : KeepsOthers payload named v w
   pub rest : SameBut (IsOfKeyslots v named) v w
 
 module _ (laws : HeaderLaws) (payload : Data) (v : List ℕ) (chosen : Chosen v luks1) (well : WellFormed v payload) where
@@ -127,9 +127,10 @@ module _ (laws : HeaderLaws) (payload : Data) (v : List ℕ) (chosen : Chosen v 
   both_leave named a b w lta ltb rest fits_a fits_b is_a is_b =
       let x = changes a b w lta ltb rest in
       record {
+        chosen = luks1_after laws payload (IsEither a b) v w x;
         well = stays_well_formed laws payload (IsEither a b) v w x
             (two_named (λ n. IsFitFor (entry v n) (entry w n)) a b fits_a fits_b) (either_decided a b);
-        keeps = keeps_wider payload (IsEither a b) named v w (two_named named a b is_a is_b) (keeps_others laws payload (IsEither a b) v w x);
+        others = keeps_wider payload (IsEither a b) named v w (two_named named a b is_a is_b) (keeps_others laws payload (IsEither a b) v w x);
         rest = places_wider (IsEither a b) named v w (two_named named a b is_a is_b) rest;
       }
 
@@ -138,8 +139,9 @@ module _ (laws : HeaderLaws) (payload : Data) (v : List ℕ) (chosen : Chosen v 
       let none : AreKeyslots (λ n. ⊥) = record { numbered = λ n is. absurd is } in
       let x : ChangesKeyslots payload (λ n. ⊥) v v = record { keyslots = none; chosen = chosen; well = well; rest = same_but-same (IsOfKeyslots v (λ n. ⊥)) v } in
       subst (λ u. Leaves payload named v u) (sym same) (record {
+        chosen = chosen;
         well = well;
-        keeps = keeps_wider payload (λ n. ⊥) named v v (λ n is. absurd is) (keeps_others laws payload (λ n. ⊥) v v x);
+        others = keeps_wider payload (λ n. ⊥) named v v (λ n is. absurd is) (keeps_others laws payload (λ n. ⊥) v v x);
         rest = same_but-same (IsOfKeyslots v named) v;
       })
 
@@ -161,6 +163,9 @@ module _ (laws : HeaderLaws) (payload : Data) (v : List ℕ) (chosen : Chosen v 
       both_leave (λ n. n ≡ slot) slot slot w used used x.rest fits fits refl refl
   leaves Repair r w free x = nothing_left (λ n. ⊥) w x
   leaves (Label text) r w free x = absurd x
+
+  pub keeps : (e : Edit) (r w : List ℕ) → IsUnrefused1 v payload e r → After1 v e r w → Keeps payload (NamedKeyslots1 v e) v w
+  keeps e r w free x = let left = leaves e r w free x in record { size = left.others.size; well = left.well; segments = left.others.segments; slots = left.others.slots }
 
   -- ---- what opens
 
@@ -257,7 +262,7 @@ module _ (laws : HeaderLaws) (payload : Data) (v : List ℕ) (chosen : Chosen v 
   leftover_rest e r w (inr x) = torn_rest e r w x.1
 
   pub leftover_keeps : (e : Edit) (r w : List ℕ) → Leftover1 v payload e r w → KeepsOthers payload (NamedKeyslots1 v e) v w
-  leftover_keeps e r w (inl same) = (nothing_left (NamedKeyslots1 v e) w same).keeps
+  leftover_keeps e r w (inl same) = (nothing_left (NamedKeyslots1 v e) w same).others
   leftover_keeps e r w (inr x) =
       keeps_others laws payload (NamedKeyslots1 v e) v w
       (record { keyslots = record { numbered = named_numbered v payload e r x.0 }; chosen = chosen; well = well; rest = torn_rest e r w x.1 })

@@ -108,8 +108,10 @@ pub record IsChanged
 -- the LUKS1 volume `w` is what the edit makes of `v` with the random bytes: first the salt of a new
 -- keyslot, then its stripes but the last
 abbrev pub After1 : List ℕ → Edit → List ℕ → List ℕ → Type 0
-After1 v (Add by_ old new to iterations) random w = IsAdded v by_ old.now new.now to iterations random w
-After1 v (Change slot old new iterations) random w = IsChanged v slot old.now new.now iterations random w
+After1 v (Add by_ old new to iterations) random w =
+    IsAdded v by_ old.now new.now to iterations random w
+After1 v (Change slot old new iterations) random w =
+    IsChanged v slot old.now new.now iterations random w
 After1 v (Remove slot passphrase) random w = IsRemoved v slot w
 After1 v Repair random w = w ≡ v
 After1 v (Label text) random w = ⊥

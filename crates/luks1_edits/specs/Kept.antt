@@ -1,19 +1,17 @@
 -- What an edit of some keyslots of a LUKS1 volume leaves as it was.
-use Rattle.std.specs.Prelude.{◌≡◌, ℕ, ◌<◌, ◌⊎◌, ◌↔◌, List, length}
-use Rattle.luks_area.specs.declared.area.Area.{Area}
-use Rattle.luks_area.specs.declared.area.AreaName.{AreaName}
-use Rattle.luks_area.specs.declared.area.AreaName.TheVariants.{Slot, Segment}
+use Rattle.std.specs.Prelude.{◌≡◌, ℕ, ◌<◌, ◌⊎◌, List, length}
+use Rattle.luks_area.specs.declared.area.AreaName.TheVariants.{Segment}
 use Rattle.luks_area.specs.Ranges.{part, SameBut}
 use Rattle.luks_head.specs.Faults.{HasUnknownState, LacksIterations}
 use Rattle.luks_head.specs.Header1.{common_size, entry, entry_key_material_offset, entry_stripes}
 use Rattle.luks_head.specs.Selection.{luks1, Chosen}
 use Rattle.luks_reading.specs.declared.report.Data.{Data}
-use Rattle.luks_reading.specs.Answer.{Answer, Opened}
-use Rattle.luks_reading.specs.Checked.{AreaOf, WellFormed}
+use Rattle.luks_reading.specs.Checked.{WellFormed}
+use Rattle.luks_edit.specs.Kept.{KeepsArea, KeepsSlot}
 use Rattle.luks1_edits.specs.Places.{area_len, area_start, IsOfKeyslots}
 
--- what the answer of the keyslot `n` depends on: the two LUKS1 volumes have one length, the same 208
--- bytes before the keyslots, and the same entry and area of the keyslot
+-- what the answer of the keyslot `n` depends on: the two LUKS1 volumes have one length, the same
+-- 208 bytes before the keyslots, and the same entry and area of the keyslot
 pub record HasSameKeyslot (n : ℕ) (v w : List ℕ) : Type 0 where
   pub length_same : length w ≡ length v
   pub common : part w 0 common_size ≡ part v 0 common_size
@@ -37,24 +35,16 @@ pub record ChangesKeyslots (payload : Data) (named : ℕ → Type 0) (v w : List
   pub well : WellFormed v payload
   pub rest : SameBut (IsOfKeyslots v named) v w
 
--- the entry `new` is fit for use in the place of the entry `old`: it has a state, the same area, the
--- same stripes, and iterations where it is enabled
+-- the entry `new` is fit for use in the place of the entry `old`: it has a state, the same area,
+-- the same stripes, and iterations where it is enabled
 pub record IsFitFor (old new : List ℕ) : Type 0 where
   pub stated : HasUnknownState new → ⊥
   pub offset : entry_key_material_offset new ≡ entry_key_material_offset old
   pub stripes : entry_stripes new ≡ entry_stripes old
   pub iterated : LacksIterations new → ⊥
 
--- the bytes of the area named `n` are the same
-abbrev pub KeepsArea : Data → AreaName → List ℕ → List ℕ → Type 0
-KeepsArea payload n v w = (a : Area) → AreaOf v payload n a → part w a.start a.len ≡ part v a.start a.len
-
--- the volume keeps its length and the segments their bytes, and each keyslot outside the set keeps
--- its answers, its entry and its area's bytes
+-- the volume keeps its length, the segments are as they were, and so is each keyslot outside the set
 pub record KeepsOthers (payload : Data) (named : ℕ → Type 0) (v w : List ℕ) : Type 0 where
-  pub length_same : length w ≡ length v
+  pub size : length w ≡ length v
   pub segments : (n : ℕ) → KeepsArea payload (Segment n) v w
-  pub areas : (n : ℕ) → (named n → ⊥) → KeepsArea payload (Slot n) v w
-  pub entries : (n : ℕ) → n < 8 → (named n → ⊥) → entry w n ≡ entry v n
-  pub answers : (n : ℕ) → (named n → ⊥) → (p : List ℕ) (a : Opened)
-      → Answer v n p a ↔ Answer w n p a
+  pub slots : (n : ℕ) → (named n → ⊥) → KeepsSlot payload n v w

@@ -1,6 +1,6 @@
 -- What an edit of a LUKS1 volume may leave that a failing device call ended. A failed write leaves
--- any bytes in its range; the ranges are written in this order: the area of a new keyslot, its entry,
--- then the entry of the keyslot that is removed, its area.
+-- any bytes in its range; the ranges are written in this order: the area of a new keyslot, its
+-- entry, then the entry of the keyslot that is removed, its area.
 use Rattle.std.specs.Prelude.{◌≡◌, ℕ, ◌⊎◌, List, drop, take}
 use Rattle.luks_area.specs.Ranges.{part, SameBut}
 use Rattle.luks_head.specs.Header1.{entry}
@@ -25,8 +25,8 @@ pub record IsHalfMade (v : List ℕ) (is_new : ℕ → Type 0) (w : List ℕ) : 
   pub is : is_new slot
   pub rest : SameBut (IsOfKeyslots v (IsEither slot slot)) v w
 
--- while a keyslot was removed: its entry has any bytes and its area its own, or the entry is freed and
--- the area has any bytes
+-- while a keyslot was removed: its entry has any bytes and its area its own, or the entry is freed
+-- and the area has any bytes
 pub record IsHalfRemoved (v : List ℕ) (slot : ℕ) (w : List ℕ) : Type 0 where
   pub rest : SameBut (IsOfKeyslots v (IsEither slot slot)) v w
   pub order : IsFreedFirst v slot w
@@ -58,8 +58,8 @@ IsTorn1 v (Label text) random w = ⊥
 abbrev pub Leftover1 : List ℕ → Data → Edit → List ℕ → List ℕ → Type 0
 Leftover1 v payload e random w = (w ≡ v) ⊎ (IsUnrefused1 v payload e random × IsTorn1 v e random w)
 
--- the keyslot that was changed opens by the old passphrase, or a new one by the new passphrase, to the
--- key that the old one opened before
+-- the keyslot that was changed opens by the old passphrase, or the new one by the new passphrase, to
+-- the key that the old one opened before
 abbrev pub OpensEither1 : List ℕ → Edit → List ℕ → Type 0
 OpensEither1 v (Add by_ old new to iterations) w = Unit {0}
 OpensEither1 v (Change slot old new iterations) w =

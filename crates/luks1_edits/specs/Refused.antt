@@ -3,41 +3,23 @@
 use Rattle.std.specs.Prelude.{◌≡◌, ◌≢◌, ℕ, ◌+◌, ◌-◌, ◌*◌, ◌<◌, List, length, Some, None, ⊤}
 use Rattle.luks_area.specs.First.{IsLeast}
 use Rattle.luks_head.specs.Header1.{entry, entry_stripes, key_bytes_of}
-use Rattle.luks_slot.specs.declared.fault.SlotFault.{SlotFault}
-use Rattle.luks_reading.specs.declared.open_fault.OpenFault.TheVariants as opening
 use Rattle.luks_reading.specs.declared.report.Data.{Data}
-use Rattle.luks_reading.specs.Answer.{Answer, no_key, refused}
 use Rattle.luks_reading.specs.Checked.{IsFault}
 use Rattle.luks_edit.specs.declared.edit.Edit.{Edit}
 use Rattle.luks_edit.specs.declared.edit.Edit.TheVariants.{Add, Change, Remove, Repair, Label}
 use Rattle.luks_edit.specs.declared.edit_fault.EditFault.{EditFault}
 use Rattle.luks_edit.specs.declared.edit_fault.EditFault.TheVariants as fault
 use Rattle.luks_edit.specs.Asked.{HasFewIterations, OpensBy}
+use Rattle.luks_edit.specs.Opener.{IsLocked, IsShut}
 use Rattle.luks_edit.specs.EditFaults.{edit_key}
 use Rattle.luks1_edits.specs.Edited.{IsFree, IsInUse, IsLeastFree, IsNewKeyslot}
 
--- ---- the keyslot that the edit opens
-
--- it isn't there, or isn't enabled
+-- the keyslot that the edit opens isn't there, or isn't enabled
 pub record IsAbsent (v : List ℕ) (e : Edit) : Type 0 where
   pub slot : ℕ
   pub passphrase : List ℕ
   pub asked : OpensBy e slot passphrase
   pub unused : IsInUse v slot → ⊥
-
--- its passphrase gives no key
-pub record IsLocked (v : List ℕ) (e : Edit) : Type 0 where
-  pub slot : ℕ
-  pub passphrase : List ℕ
-  pub asked : OpensBy e slot passphrase
-  pub answer : Answer v slot passphrase no_key
-
--- what its header says of it is refused
-pub record IsShut (v : List ℕ) (e : Edit) (f : SlotFault) : Type 0 where
-  pub slot : ℕ
-  pub passphrase : List ℕ
-  pub asked : OpensBy e slot passphrase
-  pub answer : Answer v slot passphrase (refused (opening.Slot f))
 
 -- ---- the keyslot that the edit makes
 

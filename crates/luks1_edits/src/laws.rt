@@ -1,5 +1,5 @@
-//! Laws on the definitions of this crate. Each function only calls those whose laws it follows from;
-//! its contract is the law.
+//! Laws on the definitions of this crate. Each function only calls those whose laws it follows
+//! from; its contract is the law.
 ghost use Rattle.std.specs.Prelude.{◌≡◌, ◌↔◌, ℕ, List, length, replicate};
 ghost use Rattle.luks_area.specs.declared.area.Area.{Area as TheArea};
 ghost use Rattle.luks_area.specs.declared.area.AreaName.TheVariants.{Slot};
@@ -11,6 +11,7 @@ ghost use Rattle.luks_reading.specs.declared.report.Data.{Data as Payload};
 ghost use Rattle.luks_edit.specs.declared.edit.Edit.{Edit as TheEdit};
 ghost use Rattle.luks_edit.specs.declared.edit_fault.EditFault.{EditFault as TheFault};
 ghost use Rattle.luks_edit.specs.EditFaults.{edit_key};
+ghost use Rattle.luks_edit.specs.Kept.{Keeps};
 ghost use Rattle.luks1_edits.specs.Edited.{After1, NamedKeyslots1, OpensAfter1, Removes};
 ghost use Rattle.luks1_edits.specs.Kept.{HasSameKeyslot, KeepsOthers};
 ghost use Rattle.luks1_edits.specs.Leftovers.{Leftover1, OpensEither1};
@@ -32,16 +33,16 @@ pub fn luks1_answer_is_local()
     luks1_without_faults();
 }
 
-/// After an edit of a well formed LUKS1 volume that nothing refused, the volume is well formed; its
-/// length and its segments' bytes are as before, and so are the answers, the entry and the area of
-/// each keyslot that the edit didn't name. The area that a removed keyslot had is zeros.
+/// After an edit of a well formed LUKS1 volume that nothing refused, the volume is a well formed
+/// LUKS1 volume; its length, its segments and their bytes are as before, and so are the answers, the entry and the
+/// area of each keyslot that the edit didn't name. The area that a removed keyslot had is zeros.
 pub fn luks1_edit_keeps_volume()
-    ensures well { (payload : Payload) (e : TheEdit) (v random w : List ℕ)
-        → Chosen v luks1 → WellFormed v payload → IsUnrefused1 v payload e random
-        → After1 v e random w → WellFormed w payload }
     ensures keeps { (payload : Payload) (e : TheEdit) (v random w : List ℕ)
         → Chosen v luks1 → WellFormed v payload → IsUnrefused1 v payload e random
-        → After1 v e random w → KeepsOthers payload (NamedKeyslots1 v e) v w }
+        → After1 v e random w → Keeps payload (NamedKeyslots1 v e) v w }
+    ensures chosen { (payload : Payload) (e : TheEdit) (v random w : List ℕ)
+        → Chosen v luks1 → WellFormed v payload → IsUnrefused1 v payload e random
+        → After1 v e random w → Chosen w luks1 }
     ensures rest { (payload : Payload) (e : TheEdit) (v random w : List ℕ)
         → Chosen v luks1 → WellFormed v payload → IsUnrefused1 v payload e random
         → After1 v e random w → SameBut (IsOfKeyslots v (NamedKeyslots1 v e)) v w }
@@ -54,8 +55,8 @@ pub fn luks1_edit_keeps_volume()
     luks1_without_faults();
 }
 
-/// After an edit of a well formed LUKS1 volume that nothing refused, a keyslot that it made opens by
-/// its new passphrase to the key that the old one opened.
+/// After an edit of a well formed LUKS1 volume that nothing refused, a keyslot that it made opens
+/// by its new passphrase to the key that the old one opened.
 pub fn luks1_edit_opens()
     ensures { (payload : Payload) (e : TheEdit) (v random w : List ℕ)
         → Chosen v luks1 → WellFormed v payload → IsUnrefused1 v payload e random

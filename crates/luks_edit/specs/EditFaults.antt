@@ -1,5 +1,5 @@
--- The order of an edit's faults.
-use Rattle.std.specs.Prelude.{ℕ, List, [], ◌∷◌}
+-- The order of an edit's faults, and which of them is the device's.
+use Rattle.std.specs.Prelude.{ℕ, List, [], ◌∷◌, Bool, true, false}
 use Rattle.luks_reading.specs.Answer.{slot_row}
 use Rattle.luks_reading.specs.Checked.{check_key}
 use Rattle.luks_edit.specs.declared.edit_fault.EditFault.{EditFault}
@@ -33,3 +33,8 @@ edit_place f = []
 -- the least key is that of the first fault
 abbrev pub edit_key : EditFault → List ℕ
 edit_key f = edit_row f ∷ edit_place f
+
+-- the fault is the device's
+abbrev pub is_edit_failure : EditFault → Bool
+is_edit_failure Device = true
+is_edit_failure f = false

@@ -1,0 +1,5 @@
+pub mod NewUuidFacts
+pub mod NewPlanFacts
+pub mod NewHeader1Facts
+pub mod Formatted1Facts
+pub mod Written1Facts

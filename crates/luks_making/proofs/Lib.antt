@@ -3,7 +3,12 @@ mod NameFacts
 mod WholeFacts
 mod NestingFacts
 mod RowFacts
+mod RestFacts
 mod RemovalFacts
+mod ReadingFacts
+mod AdditionFacts
+mod FreeNumberFacts
+mod RoomFacts
 mod PutFacts
 mod ItemFacts
 mod CopyFacts

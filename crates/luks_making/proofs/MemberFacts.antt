@@ -261,6 +261,19 @@ still_object f (string s) = refl
 still_object f (array ds) = refl
 still_object f (object ms) = refl
 
+object_changed : (f : Members → Members) (d : Data) → as_object (in_object f d) ≡ option_map f (as_object d)
+object_changed f null = refl
+object_changed f (boolean b) = refl
+object_changed f (number n) = refl
+object_changed f (string s) = refl
+object_changed f (array ds) = refl
+object_changed f (object ms) = refl
+
+-- the members of a changed object
+pub object_map : (f : Members → Members) (v : Option Data) → option_and_then as_object (option_map (in_object f) v) ≡ option_map f (option_and_then as_object v)
+object_map f None = refl
+object_map f (Some d) = object_changed f d
+
 array_changed : (f : Items → Items) (d : Data) → as_array (in_array f d) ≡ option_map f (as_array d)
 array_changed f null = refl
 array_changed f (boolean b) = refl

@@ -1,18 +1,19 @@
 -- The rows of the member table: how one is read, and which of them are arrays of names.
-use Rattle.std.proofs.Common.{◌≡◌, ℕ, zero, suc, Bool, true, false, List, [], ◌∷◌, Some, is_some, refl, sym, ap, subst, ◌∙◌, inl, inr}
+use Rattle.std.proofs.Common.{◌≡◌, ℕ, zero, suc, Bool, true, false, List, [], ◌∷◌, Option, Some, None, option_and_then, is_some, codes, refl, sym, ap, subst, ◌∙◌, inl, inr}
 use Rattle.std.specs.Prelude.{slice_get}
 use Rattle.std.specs.List.{AllByRecursion, list_any}
 use Rattle.std.proofs.lemmas.Bool.{false≢true, and_from}
-use Rattle.serde_json.specs.Data.{Data}
+use Rattle.serde_json.specs.Data.{Data, null, boolean, number, string, array, object, Items}
+use Rattle.serde_json.specs.Find.{as_array, get}
 use Rattle.luks_rules.specs.declared.table.Section.{Section}
-use Rattle.luks_rules.specs.declared.table.Section.TheVariants.{Keyslots, Segments}
+use Rattle.luks_rules.specs.declared.table.Section.TheVariants.{Digests, Keyslots, Segments}
 use Rattle.luks_rules.specs.declared.table.Outer.TheVariants as outer
 use Rattle.luks_rules.specs.declared.table.Member.TheVariants as name
 use Rattle.luks_rules.specs.declared.table.Rule.{Rule}
 use Rattle.luks_rules.specs.declared.table.Rule.TheVariants as rule
 use Rattle.luks_rules.specs.declared.table.When.TheVariants as when
 use Rattle.luks_rules.specs.declared.table.Row.{Row}
-use Rattle.luks_rules.specs.Accepted.{IsRead}
+use Rattle.luks_rules.specs.Accepted.{HasObject, IsContent, IsRead}
 use Rattle.luks_rules.specs.Faults.{Among, is_judged, value_at}
 use Rattle.luks_rules.specs.Reading.{reads}
 use Rattle.luks_rules.specs.Table.{member as row, digest_rows, token_rows}
@@ -101,3 +102,18 @@ token_row r target m speaks = elim m [
     | inr m2 ↦ elim m2 [ ]
   ]
 ]
+
+-- a row of names that is read is an array
+pub the_array : (s : Section) (v : Option Data) → is_some (reads (rule.Names s) v) ≡ true → (items : Items) × (option_and_then as_array v ≡ Some items)
+the_array s None h = absurd (false≢true h)
+the_array s (Some null) h = absurd (false≢true h)
+the_array s (Some (boolean b)) h = absurd (false≢true h)
+the_array s (Some (number n)) h = absurd (false≢true h)
+the_array s (Some (string t)) h = absurd (false≢true h)
+the_array s (Some (array ds)) h = (ds, refl)
+the_array s (Some (object ms)) h = absurd (false≢true h)
+
+-- the array of a digest's keyslots, in a value that meets the rules
+pub digest_array : (len : ℕ) (j : Data) → IsContent len j → (m : ℕ) (d : Data) → HasObject j Digests m d → (items : Items) × (option_and_then as_array (get (codes "keyslots") d) ≡ Some items)
+digest_array len j c m d h =
+    the_array Keyslots (get (codes "keyslots") d) (at_top digest_rows d 3 (row name.Keyslots (rule.Names Keyslots)) (c.objects Digests m d h) refl refl refl)

@@ -6,5 +6,5 @@ pub mod With
 pub mod Changed
 pub mod Formatted
 pub mod Conditions
-pub mod Kept
+pub mod Unchanged
 pub mod WrittenArea

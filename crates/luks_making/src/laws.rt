@@ -3,8 +3,14 @@
 ghost use Rattle.std.specs.Prelude.{ℕ};
 ghost use Rattle.serde_json.specs.Data.{Data};
 ghost use Rattle.luks_rules.specs.Held.{IsHeld};
-ghost use Rattle.luks_making.specs.Kept.{LosesSlot};
+ghost use Rattle.luks_making.specs.Conditions.{CanSeal, FitsNew, FitsSlot, IsFree, IsRoom};
+ghost use Rattle.luks_making.specs.Unchanged.{GainsSlot, LosesSlot, SaysMembers};
+ghost use Rattle.luks_making.specs.Keyslots.{NewMembers, SlotMembers, slot_value};
+ghost use Rattle.luks_making.specs.Naming.{HasUniqueDigests};
+ghost use Rattle.luks_making.specs.With.{IsAdded, with_slot};
 ghost use Rattle.luks_making.specs.Without.{without_slot};
+
+use luks_json::{decimals_say_numbers, encodings_say_bytes, names_say_numbers};
 
 /// Metadata without a keyslot meets every rule that it met, and all else is as it was but for the
 /// keyslot's name, which its digest and the tokens lose.
@@ -12,3 +18,35 @@ pub fn removal_keeps_the_rest()
     ensures held { (len n : ℕ) (j : Data) → IsHeld len j → IsHeld len (without_slot n j) }
     ensures rest { (n : ℕ) (j : Data) → LosesSlot n j (without_slot n j) }
 {}
+
+/// Metadata with one more keyslot meets every rule that it met, where there is room for the
+/// keyslot, and all else is as it was but for its name, which its digest gains.
+pub fn addition_keeps_the_rest()
+    ensures held { (len n m : ℕ) (s : SlotMembers) (j d : Data) → IsHeld len j
+        → IsRoom len n m s j d → IsHeld len (with_slot n m s j) }
+    ensures rest { (len n m : ℕ) (s : SlotMembers) (j d : Data) → IsHeld len j
+        → IsRoom len n m s j d → GainsSlot n m s j (with_slot n m s j) }
+    ensures says { (s : SlotMembers) → FitsSlot s → SaysMembers s (slot_value s) }
+{
+    decimals_say_numbers();
+    encodings_say_bytes();
+    names_say_numbers();
+}
+
+/// A keyslot that is made with the members of another has room where its number is free and what
+/// is new suits the other; then metadata with it meets every rule, and all else is as it was.
+pub fn made_keyslot_has_room()
+    ensures room { (len to by : ℕ) (f : NewMembers) (old new : Data) → IsHeld len old
+        → HasUniqueDigests old → IsFree old to → CanSeal len old by f → FitsNew f
+        → (a : IsAdded to by f old new) → IsRoom len to a.digest a.slot old a.names.object }
+    ensures held { (len to by : ℕ) (f : NewMembers) (old new : Data) → IsHeld len old
+        → HasUniqueDigests old → IsFree old to → CanSeal len old by f → FitsNew f
+        → IsAdded to by f old new → IsHeld len new }
+    ensures rest { (len to by : ℕ) (f : NewMembers) (old new : Data) → IsHeld len old
+        → HasUniqueDigests old → IsFree old to → CanSeal len old by f → FitsNew f
+        → (a : IsAdded to by f old new) → GainsSlot to a.digest a.slot old new }
+{
+    decimals_say_numbers();
+    encodings_say_bytes();
+    names_say_numbers();
+}

@@ -4,3 +4,4 @@ pub mod Listed
 pub mod ObjectsRead
 pub mod Requiring
 pub mod Namings
+mod KeyslotsMade

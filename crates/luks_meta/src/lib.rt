@@ -1,6 +1,7 @@
 #![tactic(auto)]
 //! The metadata of a LUKS2 header: the JSON area, read exactly, and what its objects tell.
 
+mod adding;
 mod configuration;
 mod digests;
 mod keyslots;

@@ -3,7 +3,7 @@ ghost use Rattle.std.specs.Prelude.{◌≡◌, ◌≢◌, ◌+◌, ◌^◌, ◌<
 ghost use Rattle.luks_area.specs.Device.{CountsFailure, IsUnchanged};
 ghost use Rattle.luks_reading.specs.Checked.{First, IsCheckRefusal, WellFormed};
 ghost use Rattle.luks_reading.specs.Failures.{is_check_failure};
-ghost use Rattle.luks_reading.specs.Header.{IsAcceptedHeader, IsHeader};
+ghost use Rattle.luks_reading.specs.Header.{IsAcceptedHeader, IsHeader, TakesNoMemory};
 ghost use Rattle.luks_reading.specs.FitsAndResolves.{FitsAndResolves};
 ghost use Rattle.luks_reading.specs.Reported.{IsFromOutside, Reports};
 
@@ -30,6 +30,8 @@ pub fn check<D: Device>(alloc: Global, device: &mut D, data_: Data) -> Result<Re
     ensures refused { D.tells → IfErr result (IsCheckRefusal (D.bytes device.old) data_) }
     ensures only { D.tells → WellFormed (D.bytes device.old) data_ → MatchResult result (λ _. ⊤) IsFromOutside }
     ensures fits_and_resolves { D.tells → OnOk result (FitsAndResolves (D.bytes device.old) data_) }
+    ensures memory { D.tells → TakesNoMemory (D.bytes device.old)
+        → IfErr result (λ f. f ≢ CheckFault.Memory) }
 {
     one_choice();
     no_fault_is_well_formed();

@@ -14,8 +14,9 @@ use luks_area::{AreaName, Areas, fit};
 use luks_head::{Bin2, Luks1};
 use luks_meta::{Meta, MetaFault, one_value};
 
-/// The areas of a volume of `total` bytes whose first 592 bytes are `header`, or its first fault.
-pub(crate) fn judge_luks1(header: &[u8], data_: Data, total: u64) -> Result<Areas, CheckFault>
+/// The areas of a LUKS1 volume of `total` bytes whose first 592 bytes are `header`, or its first
+/// fault: of the header, then of the areas.
+pub fn judge_luks1(header: &[u8], data_: Data, total: u64) -> Result<Areas, CheckFault>
     requires { length header.now ≡ 592 }
     ensures accepted { OnOk result (IsLuks1Volume header.now data_ total) }
     ensures areas { IfOk result (λ areas. Lists areas (Luks1Area header.now data_ total)) }

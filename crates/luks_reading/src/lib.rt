@@ -18,6 +18,7 @@ mod unlocking;
 pub use check_fault::CheckFault;
 pub use checking::{check, check_header};
 pub use header::{ChosenCopy, Header, read_header};
+pub use judging::judge_luks1;
 pub use laws::{no_fault_is_well_formed, one_answer, one_area, one_unlocking, well_formed_volume};
 pub use luks_area::{
     Area, AreaFault, AreaName, Areas, Device, DeviceFault, Entry, MemDevice, text_field,
@@ -29,6 +30,7 @@ pub use luks_meta::{
 pub use luks_slot::Key;
 pub use open_fault::OpenFault;
 pub use opening::{open_header_slot, open_slot};
+pub use plan::{luks1_area, luks1_plan};
 pub use read_fault::ReadFault;
 pub use report::{Data, Report, Version};
 pub use unlocking::{unlock, unlock_header};

@@ -14,7 +14,7 @@ ghost use Rattle.luks_reading.specs.ChosenCopies.{IsCleared};
 ghost use Rattle.luks_reading.specs.Luks1Keyslots.{Luks1Opens, Luks1Refused};
 ghost use Rattle.luks_reading.specs.Luks2Keyslots.{Luks2Opens, Luks2Refused};
 ghost use Rattle.luks_reading.specs.Failures.{is_open_failure};
-ghost use Rattle.luks_reading.specs.Header.{IsAcceptedHeader, IsHeader};
+ghost use Rattle.luks_reading.specs.Header.{IsAcceptedHeader, IsHeader, TakesNoMemory};
 ghost use Rattle.luks_reading.specs.PlanAnswers.{IsOpenable, PlanOpens, PlanRefused};
 ghost use Rattle.luks_reading.specs.Plans.{HasKeyBytes, HasLuks2KeyBytes};
 
@@ -49,6 +49,8 @@ pub fn open_slot<D: Device>(
     ensures count { CountsFailure is_open_failure result (D.failed device.old) (D.failed device.new) }
     ensures opens { D.tells → IfOk result (λ found. Answer (D.bytes device.old) n passphrase.now (opened_to found)) }
     ensures refused { D.tells → IfErr result (IsRefusedBy (D.bytes device.old) n passphrase.now) }
+    ensures memory { D.tells → TakesNoMemory (D.bytes device.old)
+        → IfErr result (λ f. f ≢ OpenFault.Memory) }
     // There is no other answer.
     ensures only { D.tells → (a : Opened) → Answer (D.bytes device.old) n passphrase.now a → Agrees a result }
 {

@@ -15,8 +15,9 @@ use luks_head::{Luks1Common, Luks1Slot};
 use luks_meta::{Cost, Digest, Keyslot};
 use luks_slot::{AreaCipher, Derivation, DigestPlan, SlotPlan};
 
-/// The plan of an enabled keyslot of a LUKS1 header.
-pub(crate) fn luks1_plan<'a>(common: &'a Luks1Common, slot: &'a Luks1Slot) -> SlotPlan<'a>
+/// The plan of an enabled keyslot of a LUKS1 header (LUKS1 On-Disk Format 1.2.3, "The partition
+/// header").
+pub fn luks1_plan<'a>(common: &'a Luks1Common, slot: &'a Luks1Slot) -> SlotPlan<'a>
     ensures is { (h e : List ℕ) → IsCommon h common.now → IsEntry e slot.now → IsLuks1Plan h e result }
     ensures judged { (h e : List ℕ) → IsCommon h common.now → IsEntry e slot.now → active_word e ≡ enabled_word → IsOpenable result }
 {
@@ -45,8 +46,9 @@ pub(crate) fn luks1_plan<'a>(common: &'a Luks1Common, slot: &'a Luks1Slot) -> Sl
     }
 }
 
-/// The key material of a keyslot of LUKS1, in whole sectors.
-pub(crate) fn luks1_area(key_bytes: u32, slot: &Luks1Slot) -> Area
+/// The key material of a keyslot of LUKS1, in whole sectors of 512 bytes; `key_bytes` is the length
+/// of the volume key.
+pub fn luks1_area(key_bytes: u32, slot: &Luks1Slot) -> Area
     ensures start { result.start ≡ slot.now.key_material_offset * 512 }
     ensures len { result.len ≡ rounded_to_sectors (key_bytes * slot.now.stripes) }
 {

@@ -11,7 +11,7 @@ ghost use Rattle.luks_meta.specs.Objects.{IsAccepted};
 ghost use Rattle.luks_reading.specs.Agreement.{AgreesUnlocked};
 ghost use Rattle.luks_reading.specs.ChosenCopies.{IsCleared};
 ghost use Rattle.luks_reading.specs.Failures.{is_open_failure};
-ghost use Rattle.luks_reading.specs.Header.{IsAcceptedHeader, IsHeader};
+ghost use Rattle.luks_reading.specs.Header.{IsAcceptedHeader, IsHeader, TakesNoMemory};
 ghost use Rattle.luks_reading.specs.PlanAnswers.{IsFailure};
 ghost use Rattle.luks_reading.specs.Plans.{HasKeyBytes, HasLuks2KeyBytes};
 ghost use Rattle.luks_reading.specs.KeyslotsTried.{is_of_rank, passed_over, rank_order, Luks1VolumeRefused, Luks1Tried, Luks1Tries, Luks2Tried, Luks2Tries};
@@ -54,6 +54,8 @@ pub fn unlock<D: Device>(
     ensures count { CountsFailure is_open_failure result (D.failed device.old) (D.failed device.new) }
     ensures unlocks { D.tells → IfOk result (Unlocks (D.bytes device.old) passphrase.now) }
     ensures refused { D.tells → IfErr result (IsVolumeRefusedBy (D.bytes device.old)) }
+    ensures memory { D.tells → TakesNoMemory (D.bytes device.old)
+        → IfErr result (λ f. f ≢ OpenFault.Memory) }
     // There is no other answer.
     ensures only { D.tells → (a : Unlocked) → UnlockAnswer (D.bytes device.old) passphrase.now a → AgreesUnlocked a result }
 {

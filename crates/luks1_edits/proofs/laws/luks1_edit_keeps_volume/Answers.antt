@@ -1,16 +1,16 @@
-use Rattle.luks1_edits.proofs.EditedFacts.{leaves, removed_area}
+use Rattle.luks1_edits.proofs.EditedFacts.{keeps, leaves, removed_area}
 use Rattle.luks1_edits.proofs.HeaderFacts.{HeaderLaws}
 use Rattle.luks1_edits.proofs.laws.luks1_edit_keeps_volume.Goals as goal
-
-pub returns-clause-well : goal.returns-clause-well
-returns-clause-well c = λ payload e v random w chosen well free after.
-    let laws : HeaderLaws = record { one = c.one_choice.ensures.only; common = c.luks1_is_first_bytes.ensures.common_faults; faultless = c.luks1_without_faults.ensures.header } in
-    (leaves laws payload v chosen well e random w free after).well
 
 pub returns-clause-keeps : goal.returns-clause-keeps
 returns-clause-keeps c = λ payload e v random w chosen well free after.
     let laws : HeaderLaws = record { one = c.one_choice.ensures.only; common = c.luks1_is_first_bytes.ensures.common_faults; faultless = c.luks1_without_faults.ensures.header } in
-    (leaves laws payload v chosen well e random w free after).keeps
+    keeps laws payload v chosen well e random w free after
+
+pub returns-clause-chosen : goal.returns-clause-chosen
+returns-clause-chosen c = λ payload e v random w chosen well free after.
+    let laws : HeaderLaws = record { one = c.one_choice.ensures.only; common = c.luks1_is_first_bytes.ensures.common_faults; faultless = c.luks1_without_faults.ensures.header } in
+    (leaves laws payload v chosen well e random w free after).chosen
 
 pub returns-clause-rest : goal.returns-clause-rest
 returns-clause-rest c = λ payload e v random w chosen well free after.
