@@ -23,14 +23,30 @@ fn prints_without(
 
 /// The words, why the volume isn't there, and what is printed.
 const NO_VOLUMES: [(&[&str], InputFault, &str); 10] = [
-    (CHECK, InputFault::Unreadable(Reason::Other), "device fault\n"),
+    (
+        CHECK,
+        InputFault::Unreadable(Reason::Other),
+        "device fault\n",
+    ),
     (CHECK, InputFault::Absent, "device fault\n"),
     (CHECK, InputFault::NoMemory, "no memory\n"),
-    (DETACHED, InputFault::Unreadable(Reason::Other), "device fault\n"),
-    (SHOW, InputFault::Unreadable(Reason::Other), "device fault\n"),
+    (
+        DETACHED,
+        InputFault::Unreadable(Reason::Other),
+        "device fault\n",
+    ),
+    (
+        SHOW,
+        InputFault::Unreadable(Reason::Other),
+        "device fault\n",
+    ),
     (SHOW, InputFault::Absent, "device fault\n"),
     (SHOW, InputFault::NoMemory, "no memory\n"),
-    (OPEN, InputFault::Unreadable(Reason::Other), "device fault\n"),
+    (
+        OPEN,
+        InputFault::Unreadable(Reason::Other),
+        "device fault\n",
+    ),
     (OPEN_0, InputFault::Absent, "device fault\n"),
     (OPEN, InputFault::NoMemory, "no memory\n"),
 ];
@@ -55,7 +71,11 @@ const NO_PASSPHRASES: [(InputFault, InputFault, &str); 4] = [
         InputFault::NoMemory,
         "device fault\n",
     ),
-    (InputFault::NoMemory, InputFault::Unreadable(Reason::Other), "no memory\n"),
+    (
+        InputFault::NoMemory,
+        InputFault::Unreadable(Reason::Other),
+        "no memory\n",
+    ),
     (InputFault::NoMemory, InputFault::NoMemory, "no memory\n"),
 ];
 
