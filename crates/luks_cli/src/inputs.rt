@@ -2,9 +2,8 @@ ghost use Rattle.std.specs.Prelude.{◌≡◌, ◌≢◌};
 ghost use Rattle.std.specs.IoError.{error_kind};
 ghost use Rattle.luks_cli.specs.Files.{IsFaultOf};
 
-use std::fmt;
-use std::io;
 use std::io::ErrorKind;
+use std::{fmt, io};
 
 /// Why a file can't be opened or read, where the system tells a reason that helps.
 #[derive(Debug, Clone, Copy, PartialEq, Eq)]

@@ -1,6 +1,6 @@
 //! Which keyslots were passed over where none opens, and why.
-ghost use Rattle.std.specs.Prelude.{◌≡◌, ◌+◌, ◌<◌, ◌^◌};
-ghost use Rattle.luks_area.specs.Device.{CountsFailure, IsUnchanged};
+ghost use Rattle.std.specs.Prelude.{◌+◌, ◌<◌, ◌^◌};
+ghost use Rattle.luks_area.specs.Device.{IsUnchanged};
 ghost use Rattle.luks_reading.specs.Header.{IsAcceptedHeader};
 
 use luks_area::{SECTOR, rounded_to_sectors};
@@ -76,14 +76,16 @@ fn luks1_standing(header: &[u8; 592], n: u8, total: u64) -> Standing {
     }
     let (common, entries) = header.split_at(208);
     let at = 48 * n as usize;
-    let slot = match Luks1::slot(&entries[at..at + 48], n) {
-        Ok(slot) => slot,
-        Err(_) => return Standing::Doubtful,
+    let (Ok(common), Ok(slot)) = (Luks1::common(common), Luks1::slot(&entries[at..at + 48], n))
+    else {
+        return Standing::Doubtful;
     };
-    match (slot.state, Luks1::common(common)) {
-        (SlotState::Disabled, _) => Standing::Nothing,
-        (SlotState::Enabled, Ok(common)) if is_usual_luks1(&common, &slot, total) => Standing::Tried,
-        _ => Standing::Doubtful,
+    if slot.state == SlotState::Disabled {
+        Standing::Nothing
+    } else if is_usual_luks1(&common, &slot, total) {
+        Standing::Tried
+    } else {
+        Standing::Doubtful
     }
 }
 
