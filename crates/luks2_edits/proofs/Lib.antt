@@ -1,2 +1,9 @@
+mod AfterFacts
+mod CopyFacts
 mod GapFacts
 mod KeptAnswers
+mod KeptFacts
+mod LowerLaws
+mod MetadataFacts
+mod PlaceFacts
+mod VolumeFacts

@@ -38,6 +38,14 @@ NamedKeyslots2 v (Remove slot passphrase) n = n ≡ slot
 NamedKeyslots2 v Repair n = ⊥
 NamedKeyslots2 v (Label text) n = ⊥
 
+-- the edit makes a keyslot, or seals one again
+abbrev pub SealsKeyslot : Edit → Type 0
+SealsKeyslot (Add by_ old new to iterations) = ⊤
+SealsKeyslot (Change slot old new iterations) = ⊤
+SealsKeyslot (Remove slot passphrase) = ⊥
+SealsKeyslot Repair = ⊥
+SealsKeyslot (Label text) = ⊥
+
 -- ---- the metadata, in a volume of `total` bytes with copies of `h` bytes
 
 -- what is new of a keyslot
