@@ -16,4 +16,3 @@ mod ItemFacts
 mod CopyFacts
 mod StepFacts
 mod AreaFacts
-mod VolumeFacts

@@ -17,6 +17,6 @@ pub use laws::{
     removal_keeps_the_rest,
 };
 pub use new_keyslot::{New, NewKeyslot, new_fits};
-pub use new_volume::{NewVolume, formatted, new_volume_is_accepted, volume_fits};
+pub use new_volume::{NewVolume, formatted, volume_fits};
 pub use with::with_slot;
 pub use without::without_slot;
