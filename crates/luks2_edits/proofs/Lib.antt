@@ -6,4 +6,6 @@ mod KeptFacts
 mod LowerLaws
 mod MetadataFacts
 mod PlaceFacts
+mod SealFacts
+mod UniqueFacts
 mod VolumeFacts

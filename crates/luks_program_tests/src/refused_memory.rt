@@ -64,7 +64,8 @@ fn end_of(
     want: &str,
 ) -> End {
     let mut out = Cursor::new([0u8; 1024]);
-    let status = execute(alloc, line, inputs, &mut out);
+    let mut err = Cursor::new([0u8; 1024]);
+    let status = execute(alloc, line, inputs, &mut out, &mut err);
     let printed = out.into_inner();
     if status == 0 && holds(&printed, want) {
         End::Done
