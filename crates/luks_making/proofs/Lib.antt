@@ -14,3 +14,4 @@ mod ItemFacts
 mod CopyFacts
 mod StepFacts
 mod AreaFacts
+mod VolumeFacts

@@ -14,6 +14,6 @@ pub use changed::changed_slot;
 pub use json_area::written_area;
 pub use laws::{addition_keeps_the_rest, made_keyslot_has_room, removal_keeps_the_rest};
 pub use new_keyslot::{New, NewKeyslot, new_fits};
-pub use new_volume::{NewVolume, formatted, volume_fits};
+pub use new_volume::{NewVolume, formatted, new_volume_is_accepted, volume_fits};
 pub use with::with_slot;
 pub use without::without_slot;

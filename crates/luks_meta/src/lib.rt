@@ -19,6 +19,7 @@ pub use digests::Digest;
 pub use keyslots::{Argon2, Cost, Derivation, KeyArea, Keyslot, Pbkdf2, Splitter};
 pub use laws::one_digest;
 pub use luks_json::one_value;
+pub use luks_making::{New, NewVolume};
 pub use luks_rules::{MetaFault, metadata_without_faults};
 pub use member::Extent;
 pub use meta::Meta;

@@ -15,7 +15,8 @@ use crate::segments::Segment;
 use crate::tokens::Token;
 use luks_json::compact_text_of;
 use luks_making::{
-    New, made_keyslot_has_room, new_fits, removal_keeps_the_rest, without_slot, written_area,
+    New, NewVolume, formatted, made_keyslot_has_room, new_fits, new_volume_is_accepted,
+    removal_keeps_the_rest, volume_fits, without_slot, written_area,
 };
 use luks_rules::{MetaFault, Section, first_segment_below, read_content};
 use serde_json::Value;
@@ -44,7 +45,8 @@ impl Meta {
     ghost use Rattle.luks_meta.specs.Says.{TellsDigest, TellsKeyslot, TellsSegment, TellsToken};
     ghost use Rattle.luks_meta.specs.Requirements.{has_requirements};
     ghost use Rattle.luks_rules.specs.Sizes.{has_segment_below, IsFirst};
-    ghost use Rattle.luks_making.specs.Conditions.{CanSeal, IsFree};
+    ghost use Rattle.luks_making.specs.Conditions.{CanFormat, CanSeal, IsFree};
+    ghost use Rattle.luks_making.specs.Formatted.{formatted, volume_members};
     ghost use Rattle.luks_making.specs.Keyslots.{new_members};
     ghost use Rattle.luks_making.specs.With.{IsAdded};
     ghost use Rattle.luks_making.specs.Without.{without_slot};
@@ -69,6 +71,20 @@ impl Meta {
             value,
             len: area.len(),
         })
+    }
+
+    /// The metadata of a new volume with one keyslot, for a header of 16384 bytes.
+    ///
+    /// Takes memory for the value.
+    pub fn formatted(alloc: Global, volume: &NewVolume<'_>) -> Result<Meta, AllocError>
+        requires { CanFormat (volume_members volume.now) }
+        ensures value { IfOk result (λ m. content m ≡ formatted (volume_members volume.now)) }
+        ensures length { IfOk result (λ m. area_len m ≡ 12288) }
+    {
+        new_volume_is_accepted();
+        volume_fits(volume);
+        let value = formatted(alloc, volume)?;
+        Ok(Meta { value, len: 12288 })
     }
 
     /// Whether `config.requirements` is there and is none of `null`, `[]`, `{}` and

@@ -60,10 +60,6 @@ own_head (head.Iterations o) no_device no_memory = refl
 own_head head.Device no_device no_memory = absurd (no_device refl)
 own_head head.Memory no_device no_memory = absurd (no_memory refl)
 
--- a fault of a uuid is none that stands for something else
-pub uuid_refused : (uuid json : List ℕ) (f : HeadFault) → IsLeast head_key (IsUuidFault uuid) f → CopyRefused uuid json (head_unread f)
-uuid_refused uuid json f x = subst (CopyRefused uuid json) (sym (own_head f (λ e. subst (IsUuidFault uuid) e x.0) (λ e. subst (IsUuidFault uuid) e x.0))) x
-
 -- ---- from what counts of a volume to the volume
 
 pub same_json : (v : List ℕ) (h : Bin2) → HoldsBin2 (header_at v h.hdr_offset) h → json_of v h ≡ json_at v h.hdr_offset

@@ -46,11 +46,13 @@ pub enum Header {
 /// Reads the header that counts: of LUKS1 its bytes, of LUKS2 the chosen copy with its metadata.
 ///
 /// Refused by `Head` where nothing counts or the chosen copy's uuid isn't one, and else by `Meta`.
-/// `Device` comes exactly where a device call failed. Memory is taken for the metadata of LUKS2 alone.
+/// `Device` comes exactly where a device call failed. Memory is taken for the metadata of LUKS2
+/// alone.
 pub fn read_header<D: Device>(alloc: Global, device: &mut D) -> Result<Header, ReadFault>
     requires { D.failed device.old + 1 < 2 ^ 64 }
     ensures unchanged { IsUnchanged D.tells D.size D.bytes device.old device.new }
-    ensures count { CountsFailure is_read_failure result (D.failed device.old) (D.failed device.new) }
+    ensures count { CountsFailure is_read_failure result
+        (D.failed device.old) (D.failed device.new) }
     ensures accepted { IfOk result IsAcceptedHeader }
     ensures read { D.tells → IfOk result (IsHeader (D.bytes device.old)) }
     ensures refused { D.tells → IfErr result (IsUnread (D.bytes device.old)) }
@@ -110,9 +112,11 @@ fn json_area<D: Device>(alloc: Global, device: &mut D, header: &Bin2) -> Result<
     requires room { D.failed device.old + 1 < 2 ^ 64 }
     requires within { IsCopyWithin (D.size device.old) header.now }
     ensures unchanged { IsUnchanged D.tells D.size D.bytes device.old device.new }
-    ensures count { CountsFailure is_read_failure result (D.failed device.old) (D.failed device.new) }
+    ensures count { CountsFailure is_read_failure result
+        (D.failed device.old) (D.failed device.new) }
     ensures kinds { IfErr result IsFromOutside }
-    ensures json { D.tells → IfOk result (λ json. json.items ≡ json_of (D.bytes device.old) header.now) }
+    ensures json { D.tells
+        → IfOk result (λ json. json.items ≡ json_of (D.bytes device.old) header.now) }
 {
     let _total = device.len();
     let len = (header.hdr_size - BINARY_HEADER) as usize;
