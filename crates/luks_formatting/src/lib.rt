@@ -6,6 +6,8 @@ mod judging;
 mod laws;
 mod luks1;
 mod luks1_header;
+mod luks2_header;
+mod metadata;
 mod new_uuid;
 mod plan;
 mod random;
