@@ -1,10 +1,11 @@
 -- The LUKS2 header of a new volume: both copies of its binary header, and the metadata (LUKS2 On-Disk
 -- Format 1.1, 2.1 and 3).
-use Rattle.std.specs.Prelude.{◌≡◌, ℕ, List, ◌++◌, codes, drop, replicate}
+use Rattle.std.specs.Prelude.{◌≡◌, ℕ, List, ◌++◌, codes, drop, length, replicate}
 use Rattle.luks_area.specs.declared.area.Area.{Area}
 use Rattle.luks_head.specs.Header2.{csum_size, magic_of, sha256_size}
 use Rattle.luks_head.specs.declared.bin2.Bin2.{Bin2}
 use Rattle.luks_kdf.specs.Names.{digest_size_of, name_of}
+use Rattle.luks_making.specs.Conditions.{FitsVolume}
 use Rattle.luks_making.specs.Formatted.{VolumeMembers}
 use Rattle.luks_slot.specs.declared.plan.AreaCipher.{AreaCipher}
 use Rattle.luks_slot.specs.declared.plan.AreaCipher.TheVariants.{Apart, Whole}
@@ -61,3 +62,8 @@ area2 = record { start = 32768; len = 258048; }
 abbrev pub IsNewCipher2 : AreaCipher → Type 0
 IsNewCipher2 (Apart name mode) = ⊥
 IsNewCipher2 (Whole text) = text.now ≡ codes "aes-xts-plain64"
+
+-- what the metadata says has the ranges of its types, and the digest its length
+pub record FitsMetadata (payload : Data) (format : Format) (random : List ℕ) : Type 0 where
+  pub fits : FitsVolume (new_members payload format random)
+  pub digest_length : length (key_digest format random (digest_size_of format.hash)) ≡ digest_size_of format.hash
