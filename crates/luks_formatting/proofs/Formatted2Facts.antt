@@ -1,5 +1,5 @@
 -- A volume that was formatted by LUKS2 is well formed, and its keyslot 0 opens.
-use Rattle.std.proofs.Common.{◌≡◌, ◌↔◌, ℕ, ◌+◌, ◌*◌, ◌-◌, ◌<◌, ◌≤◌, ◌++◌, List, length, replicate, Some, None, arith, refl, sym, ap, ◌∙◌, subst, lit≤, lit<, if◌then◌else◌}
+use Rattle.std.proofs.Common.{◌≡◌, ◌↔◌, ℕ, ◌*◌, ◌-◌, ◌≤◌, ◌++◌, List, length, replicate, Some, None, arith, sym, ap, ◌∙◌, subst, lit<, if◌then◌else◌}
 use Rattle.serde_json.specs.Data.{Data as Value}
 use Rattle.luks_area.specs.Ranges.{part}
 use Rattle.luks_area.specs.RangeFacts.{length-part_inside}
@@ -91,12 +91,15 @@ module _ (payload : Data) (format : Format) (passphrase random old new : List �
   formed : IsLuks2Volume (header_at new 0) x.json payload (length new)
   formed = record {
     uuid = uuid;
-    layout = (formatted (new_members payload format random), record {
-      metadata = meta;
-      segments = λ here. subst (λ (n : ℕ). SegmentsFollow n (formatted (new_members payload format random))) (sym x.metadata.long)
-          (segments payload format random some long fits laws here);
-      fit = fit payload format random some long fits laws (length new) (hdr_size (header_at new 0)) size large;
-    });
+    layout = (
+      formatted (new_members payload format random),
+      record {
+        metadata = meta;
+        segments = λ here. subst (λ (n : ℕ). SegmentsFollow n (formatted (new_members payload format random))) (sym x.metadata.long)
+            (segments payload format random some long fits laws here);
+        fit = fit payload format random some long fits laws (length new) (hdr_size (header_at new 0)) size large;
+      },
+    );
   }
 
   pub well_formed : WellFormed new payload

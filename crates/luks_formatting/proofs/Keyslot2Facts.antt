@@ -9,62 +9,40 @@ use Rattle.luks_rules.specs.declared.table.When.TheVariants as when
 use Rattle.luks_making.specs.Keyslots.{base64_text}
 use Rattle.luks_slot.specs.declared.plan.DigestPlan.{DigestPlan}
 use Rattle.luks_formatting.specs.NewPlan.{IsNewDigest}
-use Rattle.std.proofs.Common.{◌≡◌, ◌≢◌, ◌↔◌, ◌==◌, ℕ, ◌+◌, ◌*◌, ◌-◌, ◌<◌, ◌≤◌, ◌++◌, List, length, take, replicate, slice_index, codes, Bool, Option, Some, None, true, false, is_some, option_and_then, arith, refl, sym, ap, ◌∙◌, subst, lit≤, lit<, inl, inr, if◌then◌else◌}
+use Rattle.std.proofs.Common.{◌≡◌, ◌≢◌, ℕ, ◌+◌, ◌-◌, ◌<◌, ◌≤◌, List, length, codes, Some, None, true, false, option_and_then, arith, refl, sym, ap, ◌∙◌, subst, lit<, inl, inr}
 use Rattle.serde_json.specs.Data.{Data as Value, number, string, unsigned}
 use Rattle.luks_area.specs.Area.{Fit, IsInside, LiesIn}
-use Rattle.luks_area.specs.Ranges.{part}
-use Rattle.luks_area.specs.RangeFacts.{length-part_inside}
-use Rattle.luks_area.specs.Text.{text_of as field_text}
 use Rattle.luks_area.specs.declared.area.Area.{Area}
 use Rattle.luks_area.specs.declared.area.AreaName.{AreaName}
 use Rattle.luks_area.specs.declared.area.AreaName.TheVariants.{Head1, Head2, Slot as SlotName, Segment}
-use Rattle.luks_head.specs.Header2.{hdr_size, header_at, uuid_field, IsUuidFault, IsUuidField}
-use Rattle.luks_head.specs.Selection.{luks2, Chosen}
-use Rattle.luks_head.specs.Written.{IsWrittenCopy}
-use Rattle.luks_head.specs.declared.bin2.Bin2.{Bin2}
-use Rattle.luks_head.specs.declared.fault.HeadFault.{HeadFault}
-use Rattle.luks_head.specs.declared.selection.Copies.TheVariants.{InStep}
 use Rattle.luks_kdf.specs.Names.{digest_size_of, name_of}
 use Rattle.luks_json.specs.AreaText.{Json}
-use Rattle.luks_rules.specs.Accepted.{HasObject, IsMeta}
 use Rattle.luks_rules.specs.Faults.{object_at}
-use Rattle.luks_rules.specs.Held.{IsHeld}
-use Rattle.luks_rules.specs.MetaFault.{IsMetaFault}
 use Rattle.luks_rules.specs.Reading.{decimal_in}
-use Rattle.luks_rules.specs.Sizes.{inside_at, keyslots_size, region_start}
-use Rattle.luks_rules.specs.declared.fault.MetaFault.{MetaFault}
+use Rattle.luks_rules.specs.Sizes.{inside_at}
 use Rattle.luks_rules.specs.declared.table.Outer.TheVariants as outer
-use Rattle.luks_rules.specs.declared.table.Section.TheVariants.{Digests, Keyslots, Segments}
-use Rattle.luks_making.specs.Conditions.{CanFormat, FitsSlot, FitsVolume}
+use Rattle.luks_rules.specs.declared.table.Section.TheVariants.{Keyslots, Segments}
+use Rattle.luks_making.specs.Conditions.{CanFormat, FitsSlot}
 use Rattle.luks_making.specs.Formatted.{VolumeMembers, digest_value, first_slot, formatted, segment_value}
 use Rattle.luks_making.specs.Keyslots.{SlotMembers, slot_value}
 use Rattle.luks_making.specs.Unchanged.{SaysMembers}
-use Rattle.luks_slot.specs.Opening.{meets_digest, slot_key}
-use Rattle.luks_slot.specs.Refusal.{is_open_cipher, slot_refusal}
+use Rattle.luks_slot.specs.Refusal.{is_open_cipher}
 use Rattle.luks_slot.specs.declared.plan.AreaCipher.{AreaCipher}
 use Rattle.luks_slot.specs.declared.plan.AreaCipher.TheVariants.{Apart, Whole}
 use Rattle.luks_slot.specs.declared.plan.Derivation.{Derivation}
 use Rattle.luks_slot.specs.declared.plan.Derivation.TheVariants.{Pbkdf2, Argon2}
 use Rattle.luks_slot.specs.declared.plan.SlotPlan.{SlotPlan}
-use Rattle.luks_reading.specs.Answer.{Answer, IsLuks2Refusal, opens}
-use Rattle.luks_reading.specs.Checked.{IsLuks2Volume, SegmentsFollow, WellFormed}
-use Rattle.luks_reading.specs.Header.{json_at}
+use Rattle.luks_reading.specs.Checked.{SegmentsFollow}
 use Rattle.luks_reading.specs.Layout2.{HasExtent, Luks2Area, segment_extent, segment_offset, slot_number}
 use Rattle.luks_reading.specs.Plans.{HasLuks2Plan, IsLuks2Cipher, IsLuks2Derivation, IsLuks2Digest, IsLuks2Plan}
-use Rattle.luks_reading.specs.declared.open_fault.OpenFault.{OpenFault}
-use Rattle.luks_reading.specs.declared.open_fault.OpenFault.TheVariants.{Head, Meta, NoSuchSlot, SlotFree, Outside, Slot, Device, Memory}
 use Rattle.luks_reading.specs.declared.report.Data.{Data}
 use Rattle.luks_reading.specs.declared.report.Data.TheVariants.{Here}
 use Rattle.luks_formatting.specs.declared.format.Format.{Format}
-use Rattle.luks_formatting.specs.Formatted2.{HasNewCopy, IsFormatted2}
 use Rattle.luks_formatting.specs.NewHeader2.{area2, new_members, segment_start, FitsMetadata, IsNewCipher2}
 use Rattle.luks_formatting.specs.NewPlan.{key_digest, IsNewDerivation, IsNewPlan}
-use Rattle.luks_formatting.specs.NewUuid.{uuid_text}
-use Rattle.luks_formatting.specs.RandomBytes.{digest_salt, first_copy_salt, random_stripes, second_copy_salt, slot_place2, slot_salt, uuid_bytes, volume_key}
-use Rattle.luks_formatting.proofs.Formatted1Facts.{area_is, length-volume_key, Reopens}
-use Rattle.luks_formatting.proofs.MetadataFacts.{bytes_say, can_format, decimal_says, digest_short, digest_at, keyslots_say, length-digest_salt, length-slot_salt, no_some, none_other, number_says, segment_at, slot_at, slot_fits, some_same, DecimalsTell, EncodingsTell, NamesTell}
-use Rattle.luks_formatting.proofs.NewPlanFacts.{key_meets, unrefused}
-use Rattle.luks_formatting.proofs.NewUuidFacts.{uuid_field-text, uuid_text-is, uuid_text-plain}
+use Rattle.luks_formatting.specs.RandomBytes.{digest_salt, slot_place2, slot_salt}
+use Rattle.luks_formatting.proofs.Formatted1Facts.{area_is}
+use Rattle.luks_formatting.proofs.MetadataFacts.{bytes_say, can_format, decimal_says, digest_at, keyslots_say, length-digest_salt, no_some, none_other, number_says, segment_at, slot_at, slot_fits, some_same, DecimalsTell, EncodingsTell, NamesTell}
 
 -- ---- the areas
 
@@ -243,16 +221,18 @@ module _ (payload : Data) (format : Format) (random : List ℕ) (some : 1 ≤ fo
       let there : object_at (formatted v) Keyslots 0 ≡ Some y.object = subst (λ (k : Value). object_at k Keyslots 0 ≡ Some y.object) same y.there in
       let object_is : slot_value (first_slot v) ≡ y.object = (slot_at v laws.names 0 y.object (lit< tt) there).1 in
       let first : IsLuks2Plan (formatted v) 0 y.object plan = subst (λ (k : Value). IsLuks2Plan k 0 y.object plan) same y.is in
-      let is : IsLuks2Plan (formatted v) 0 (slot_value (first_slot v)) plan = subst (λ (o : Value). IsLuks2Plan (formatted v) 0 o plan) (sym object_is) first in
-      (record {
-        derivation = derivation_is plan.derivation is.derivation;
-        area = area_is plan.area 32768 258048 (some_same plan.area.start 32768 (sym is.start ∙ slot_says.offset)) (some_same plan.area.len 258048 (sym is.len ∙ slot_says.size));
-        area_key_bytes = some_same plan.area_key_bytes 64 (sym is.area_key_bytes ∙ slot_says.area_key_size);
-        key_bytes = some_same plan.key_bytes 64 (sym is.key_bytes ∙ slot_says.key_size);
-        stripes = some_same plan.stripes 4000 (sym is.stripes ∙ slot_says.stripes);
-        splitter_hash = some_same plan.splitter_hash.now (name_of format.hash) (sym is.splitter_hash ∙ slot_says.splitter_hash);
-        digest = digest_is plan.digest is.digest;
-      }, cipher_is plan.cipher is.cipher)
+      let is : IsLuks2Plan (formatted v) 0 (slot_value (first_slot v)) plan = subst (λ (o : Value). IsLuks2Plan (formatted v) 0 o plan) (sym object_is) first in (
+        record {
+          derivation = derivation_is plan.derivation is.derivation;
+          area = area_is plan.area 32768 258048 (some_same plan.area.start 32768 (sym is.start ∙ slot_says.offset)) (some_same plan.area.len 258048 (sym is.len ∙ slot_says.size));
+          area_key_bytes = some_same plan.area_key_bytes 64 (sym is.area_key_bytes ∙ slot_says.area_key_size);
+          key_bytes = some_same plan.key_bytes 64 (sym is.key_bytes ∙ slot_says.key_size);
+          stripes = some_same plan.stripes 4000 (sym is.stripes ∙ slot_says.stripes);
+          splitter_hash = some_same plan.splitter_hash.now (name_of format.hash) (sym is.splitter_hash ∙ slot_says.splitter_hash);
+          digest = digest_is plan.digest is.digest;
+        },
+        cipher_is plan.cipher is.cipher,
+      )
 
   pub plan_by : (json : List ℕ) → Json json (formatted (new_members payload format random)) → (plan : SlotPlan)
       → IsNewPlan format (slot_salt slot_place2 random) area2 (digest_salt random) (key_digest format random (digest_size_of format.hash)) plan → IsNewCipher2 plan.cipher

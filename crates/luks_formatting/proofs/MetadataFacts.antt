@@ -1,16 +1,16 @@
 -- What the metadata of a new volume says.
-use Rattle.std.proofs.Common.{◌≡◌, ◌≢◌, ◌<◌, ◌≤◌, ◌+◌, ◌*◌, ◌^◌, ◌&&◌, ℕ, List, length, codes, Bool, true, false, cond, nat_le, Option, Some, None, option_and_then, is_some, Ordering, Less, Equal, Greater, is_eq, bytes_eq, arith, refl, sym, ap, ◌∙◌, lit≤, lit<, subst, inl, inr, if◌then◌else◌}
+use Rattle.std.proofs.Common.{◌≡◌, ◌≢◌, ◌<◌, ◌≤◌, ◌^◌, ℕ, List, length, codes, true, cond, Some, None, Ordering, Less, Equal, Greater, is_eq, bytes_eq, arith, refl, sym, ap, ◌∙◌, lit≤, lit<, inl, inr}
 use Rattle.std.specs.Prelude.{decimal}
 use Rattle.std.specs.Cmp.Lexicographic.{slice_cmp}
 use Rattle.std.specs.Fmt.{digits}
 use Rattle.std.specs.Ordering.{nat_cmp, match_ordering}
-use Rattle.std.proofs.lemmas.Bool.{and_from, cases_Bool, cases_eq}
+use Rattle.std.proofs.lemmas.Bool.{cases_Bool}
 use Rattle.std.proofs.lemmas.Bool.Decides.{nat_tests}
 use Rattle.std.proofs.lemmas.Map.Text.{is_eq-slice_cmp}
 use Rattle.std.proofs.lemmas.Slice.Eq.{bytes_eq-Decides}
 use Rattle.base64.specs.GeneralPurpose.{IsBytes}
-use Rattle.serde_json.specs.Data.{Data as Value, member, no_members, number, string, unsigned}
-use Rattle.serde_json.specs.Find.{get, get_member}
+use Rattle.serde_json.specs.Data.{Data as Value, number, string, unsigned}
+use Rattle.serde_json.specs.Find.{get}
 use Rattle.luks_area.specs.RangeFacts.{length-part_inside}
 use Rattle.luks_json.specs.Decimal.{IsDecimal, decimal_of}
 use Rattle.luks_json.specs.Encoded.{IsBase64, encoded_of}
@@ -117,15 +117,15 @@ named_zero told n small same =
 
 pub only_zero : NamesTell → (d e : Value) (n : ℕ) → n < 32 → get (number_text n) (sole d) ≡ Some e → (n ≡ 0) × (d ≡ e)
 only_zero told d e n small found = elim (cases_Bool (bytes_eq (number_text n) (codes "0"))) [
-    | inl same ↦ (named_zero told n small same, some_same d e (rw same at (sym (seek (number_text n) d) ∙ found)))
-    | inr other ↦ absurd (no_some e (rw other at (sym (seek (number_text n) d) ∙ found)))
-  ]
+  | inl same ↦ (named_zero told n small same, some_same d e (rw same at (sym (seek (number_text n) d) ∙ found)))
+  | inr other ↦ absurd (no_some e (rw other at (sym (seek (number_text n) d) ∙ found)))
+]
 
 pub none_other : NamesTell → (d : Value) (n : ℕ) → n < 32 → n ≢ 0 → get (number_text n) (sole d) ≡ None
 none_other told d n small other = elim (cases_Bool (bytes_eq (number_text n) (codes "0"))) [
-    | inl same ↦ absurd (other (named_zero told n small same))
-    | inr apart ↦ seek (number_text n) d ∙ (rw apart refl)
-  ]
+  | inl same ↦ absurd (other (named_zero told n small same))
+  | inr apart ↦ seek (number_text n) d ∙ (rw apart refl)
+]
 
 -- ---- the objects
 

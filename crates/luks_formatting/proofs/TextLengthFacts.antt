@@ -1,10 +1,10 @@
 -- The text of a new volume's metadata is shorter than its JSON area.
-use Rattle.std.proofs.Common.{◌≡◌, ℕ, ◌+◌, ◌*◌, ◌<◌, ◌≤◌, ◌^◌, List, [], ◌∷◌, ◌++◌, length, replicate, codes, Bool, true, false, cond, nat_lt, inl, inr, arith, refl, sym, ap, ◌∙◌, lit<, lit≤, length-append}
+use Rattle.std.proofs.Common.{◌≡◌, ℕ, ◌+◌, ◌*◌, ◌<◌, ◌≤◌, ◌^◌, List, [], ◌∷◌, ◌++◌, length, replicate, Bool, true, false, nat_lt, inl, inr, arith, lit<, lit≤, length-append}
 use Rattle.std.specs.Prelude.{decimal}
 use Rattle.std.proofs.lemmas.Bool.{cases_Bool}
 use Rattle.std.proofs.lemmas.Fmt.{length-decimal-le}
 use Rattle.std.proofs.lemmas.List.{length-replicate}
-use Rattle.base64.specs.Rfc4648.{encode, encode_symbols, padding_len}
+use Rattle.base64.specs.Rfc4648.{encode_symbols, padding_len}
 use Rattle.json.specs.Print.{escape, escape_byte, escape_letter, quoted}
 use Rattle.serde_json.specs.Data.{Data, null, boolean, number, string, array, object, Items, no_items, item, Members, no_members, member}
 use Rattle.serde_json.specs.Written.{comma_if, compact_text, items_text, members_text, number_text}
@@ -19,12 +19,12 @@ use Rattle.luks_making.specs.Keyslots.{base64_text}
 byte_short : (x : ℕ) → length (escape_byte x) ≤ 6
 unfolding escape_byte
 byte_short x = elim (cases_Bool (nat_lt 0 (escape_letter x))) [
-    | inl letter ↦ rw letter (lit≤ tt)
-    | inr plain ↦ elim (cases_Bool (nat_lt x 32)) [
-      | inl low ↦ rw (plain, low) (lit≤ tt)
-      | inr high ↦ rw (plain, high) (lit≤ tt)
-    ]
+  | inl letter ↦ rw letter (lit≤ tt)
+  | inr plain ↦ elim (cases_Bool (nat_lt x 32)) [
+    | inl low ↦ rw (plain, low) (lit≤ tt)
+    | inr high ↦ rw (plain, high) (lit≤ tt)
   ]
+]
 
 escape_short : (s : List ℕ) → length (escape s) ≤ 6 * length s
 escape_short [] = lit≤ tt

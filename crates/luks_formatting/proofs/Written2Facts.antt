@@ -1,6 +1,6 @@
 -- What the steps of formatting by LUKS2 leave: both copies of the header of a new volume, and its key area.
-use Rattle.std.proofs.Common.{◌≡◌, ℕ, ◌+◌, ◌≤◌, List, length, inl, inr, arith, sym, ap, ◌∙◌, subst}
-use Rattle.luks_area.specs.Ranges.{part, IsAt, IsOfEither, SameBut}
+use Rattle.std.proofs.Common.{◌≡◌, ℕ, List, inl, inr, arith, sym, ap, ◌∙◌, subst}
+use Rattle.luks_area.specs.Ranges.{IsAt, SameBut}
 use Rattle.luks_area.specs.RangeFacts.{part-same_but_at, same_but-then, same_but-wider}
 use Rattle.luks_area.specs.declared.area.Area.{Area}
 use Rattle.luks_making.specs.Formatted.{formatted}

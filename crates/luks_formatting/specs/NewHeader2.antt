@@ -2,7 +2,7 @@
 -- Format 1.1, 2.1 and 3).
 use Rattle.std.specs.Prelude.{◌≡◌, ℕ, List, ◌++◌, codes, drop, length, replicate}
 use Rattle.luks_area.specs.declared.area.Area.{Area}
-use Rattle.luks_head.specs.Header2.{csum_size, magic_of, sha256_size}
+use Rattle.luks_head.specs.Header2.{magic_of, sha256_size}
 use Rattle.luks_head.specs.declared.bin2.Bin2.{Bin2}
 use Rattle.luks_kdf.specs.Names.{digest_size_of, name_of}
 use Rattle.luks_making.specs.Conditions.{FitsVolume}
@@ -57,7 +57,7 @@ new_members payload format random = record {
 
 -- the area of keyslot 0, of which the first 256000 bytes are used, and its cipher
 abbrev pub area2 : Area
-area2 = record { start = 32768; len = 258048; }
+area2 = record { start = 32768; len = 258048 }
 
 abbrev pub IsNewCipher2 : AreaCipher → Type 0
 IsNewCipher2 (Apart name mode) = ⊥

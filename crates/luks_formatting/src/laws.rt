@@ -29,7 +29,8 @@ pub fn formatted1_opens()
         (passphrase random old new : List ℕ) → 1 ≤ format.iterations → 2097152 ≤ length new
         → IsFormatted1 payload format passphrase random old new → WellFormed new payload }
     ensures opens { (payload : Payload) (format : TheFormat)
-        (passphrase random old new : List ℕ) → 1 ≤ format.iterations → 2097152 ≤ length new → length random ≡ 256080
+        (passphrase random old new : List ℕ) → 1 ≤ format.iterations → 2097152 ≤ length new
+        → length random ≡ 256080
         → IsFormatted1 payload format passphrase random old new
         → Answer new 0 passphrase (opens (volume_key random)) }
 {

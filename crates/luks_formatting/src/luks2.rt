@@ -91,7 +91,15 @@ pub fn format2<D: Device>(
     put_key_digest(digest, format, random);
     match new_area(alloc, data_, format, digest, random) {
         Ok(json) => {
-            write_volume(device, data_, format, passphrase, random, digest, json.as_slice())?;
+            write_volume(
+                device,
+                data_,
+                format,
+                passphrase,
+                random,
+                digest,
+                json.as_slice(),
+            )?;
             Ok(Done { slot: Some(0) })
         }
         Err(_) => Err(FormatFault::Memory),
@@ -128,7 +136,13 @@ fn write_volume<D: Device>(
     let key = taken(random, KEY, KEY_BYTES);
     let stripes = taken(random, SLOT_SALT + SALT_BYTES, RANDOM_STRIPES);
     seal_area(device, &plan, passphrase, key, stripes)?;
-    write_copy(device, COPY_SIZE, random, taken_array(random, SECOND_SALT), json)?;
+    write_copy(
+        device,
+        COPY_SIZE,
+        random,
+        taken_array(random, SECOND_SALT),
+        json,
+    )?;
     write_copy(device, 0, random, taken_array(random, FIRST_SALT), json)?;
     Ok(())
 }

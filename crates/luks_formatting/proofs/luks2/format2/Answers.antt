@@ -1,4 +1,4 @@
-use Rattle.std.proofs.Common.{◌≡◌, ◌≤◌, ℕ, length, arith, ◌∙◌}
+use Rattle.std.proofs.Common.{◌≡◌, length, arith, ◌∙◌}
 use Rattle.luks_formatting.proofs.luks2.format2.Goals as goal
 
 pub returns-in_ok-write_volume-in-Ok-clause-well_formed :

@@ -1,4 +1,4 @@
-use Rattle.std.proofs.Common.{◌≡◌, ◌≤◌, ℕ, List, length, arith, sym, ap, ◌∙◌, subst}
+use Rattle.std.proofs.Common.{ℕ, List, arith, subst}
 use Rattle.luks_kdf.specs.Names.{digest_size_of}
 use Rattle.luks_formatting.specs.Formatted2.{HasNewCopy}
 use Rattle.luks_formatting.specs.NewHeader2.{area2}
@@ -18,10 +18,10 @@ returns-clause-formatted g c tells =
     let counted = c.requires.long in
     let plan = c.slot_plan-plan.result in
     let is : IsNewPlan c.args.format.now (slot_salt slot_place2 random) area2 (digest_salt random)
-        (key_digest c.args.format.now random (digest_size_of c.args.format.now.hash)) plan =
+    (key_digest c.args.format.now random (digest_size_of c.args.format.now.hash)) plan =
     subst (λ (d : List ℕ). IsNewPlan c.args.format.now (slot_salt slot_place2 random) area2 (digest_salt random) d plan) c.requires.digest c.slot_plan-plan.ensures.plan in
     let has_plan = c.new_keyslot_has_plan.ensures c.args.data_ c.args.format.now random c.args.json.now plan c.requires.iterations (omega (arith, counted)) c.requires.fits c.requires.area.json is
-        c.slot_plan-plan.ensures.cipher in
+    c.slot_plan-plan.ensures.cipher in
     formatted2 c.args.data_ c.args.format.now c.args.passphrase.now random (bytes c.args.device.now) (bytes c.seal_area.new.device) (bytes c.write_copy.new.device)
     (bytes c.write_copy-2.new.device) c.args.json.now c.taken-key.result.now c.taken-stripes.result.now plan c.requires.area has_plan c.slot_plan-plan.ensures.area
     (c.seal_area.ensures.rest tells) (c.write_copy.ensures.rest tells) (c.write_copy-2.ensures.rest tells)

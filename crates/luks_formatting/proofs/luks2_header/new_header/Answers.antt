@@ -1,4 +1,4 @@
-use Rattle.std.proofs.Common.{◌++◌, ℕ, List, replicate, ap, sym, subst}
+use Rattle.std.proofs.Common.{◌++◌, replicate, ap, sym, subst}
 use Rattle.sha2.specs.Sha256.{sha256}
 use Rattle.luks_head.specs.Header2.{with_zero_checksum}
 use Rattle.luks_head.specs.Written.{WritesBin2}

@@ -1,4 +1,4 @@
-use Rattle.std.proofs.Common.{◌≡◌, ◌≤◌, ℕ, ◌+◌, List, length, arith, inl, inr, ◌∙◌}
+use Rattle.std.proofs.Common.{◌≡◌, ◌≤◌, length, arith, inl, inr, ◌∙◌}
 use Rattle.luks_formatting.proofs.NewHeader2Facts.{copy_made}
 use Rattle.luks_formatting.proofs.luks2_header.write_copy.Goals as goal
 

@@ -4,9 +4,8 @@ use Rattle.serde_json.specs.View.{view}
 use Rattle.serde_json.specs.Written.{compact_text}
 use Rattle.luks_kdf.specs.Names.{digest_size_of}
 use Rattle.luks_rules.specs.Held.{IsHeld}
-use Rattle.luks_making.specs.Conditions.{CanFormat, FitsVolume}
+use Rattle.luks_making.specs.Conditions.{CanFormat}
 use Rattle.luks_making.specs.Formatted.{VolumeMembers, formatted, volume_members}
-use Rattle.luks_formatting.specs.NewHeader2.{new_members}
 use Rattle.luks_formatting.specs.NewPlan.{key_digest}
 use Rattle.luks_formatting.proofs.MetadataFacts.{can_format, digest_short, length-digest_salt, length-slot_salt}
 use Rattle.luks_formatting.proofs.TextLengthFacts.{name_short, text_fits}
