@@ -9,9 +9,10 @@ mod ReadingFacts
 mod AdditionFacts
 mod FreeNumberFacts
 mod RoomFacts
+mod ChangeFacts
+mod NewVolumeFacts
 mod PutFacts
 mod ItemFacts
 mod CopyFacts
 mod StepFacts
 mod AreaFacts
-mod VolumeFacts

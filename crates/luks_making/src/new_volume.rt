@@ -29,15 +29,6 @@ pub struct NewVolume<'a> {
     pub slot_salt: &'a [u8],
 }
 
-/// The metadata of a new volume meets every rule. The function does nothing; its contract is the law.
-pub fn new_volume_is_accepted()
-    ensures { (v : VolumeMembers) → FitsVolume v → CanFormat v → IsHeld 12288 (formatted v) }
-{
-    decimals_say_numbers();
-    encodings_say_bytes();
-    names_say_numbers();
-}
-
 /// What a new volume says has the ranges of its types. The function does nothing; its contract is
 /// the law.
 pub fn volume_fits(volume: &NewVolume<'_>)

@@ -15,8 +15,9 @@ use crate::segments::Segment;
 use crate::tokens::Token;
 use luks_json::compact_text_of;
 use luks_making::{
-    New, NewVolume, formatted, made_keyslot_has_room, new_fits, new_volume_is_accepted,
-    removal_keeps_the_rest, volume_fits, without_slot, written_area,
+    New, NewVolume, change_keeps_the_rest, changed_slot, formatted, made_keyslot_has_room,
+    new_fits, new_volume_is_accepted, removal_keeps_the_rest, volume_fits, without_slot,
+    written_area,
 };
 use luks_rules::{MetaFault, Section, first_segment_below, read_content};
 use serde_json::Value;
@@ -45,6 +46,7 @@ impl Meta {
     ghost use Rattle.luks_meta.specs.Says.{TellsDigest, TellsKeyslot, TellsSegment, TellsToken};
     ghost use Rattle.luks_meta.specs.Requirements.{has_requirements};
     ghost use Rattle.luks_rules.specs.Sizes.{has_segment_below, IsFirst};
+    ghost use Rattle.luks_making.specs.Changed.{changed_slot};
     ghost use Rattle.luks_making.specs.Conditions.{CanFormat, CanSeal, IsFree};
     ghost use Rattle.luks_making.specs.Formatted.{formatted, volume_members};
     ghost use Rattle.luks_making.specs.Keyslots.{new_members};
@@ -166,6 +168,24 @@ impl Meta {
         made_keyslot_has_room();
         new_fits(new);
         let value = added(alloc, &self.value, to, by, new)?;
+        Ok(Meta {
+            value,
+            len: self.len,
+        })
+    }
+
+    /// The metadata with the keyslot's new iterations, salt and area. All else stays as it is.
+    ///
+    /// Takes memory for the new value.
+    pub fn changed_slot(&self, alloc: Global, number: u8, new: &New<'_>) -> Result<Meta, AllocError>
+        requires { CanSeal (area_len self.now) (content self.now) number (new_members new.now) }
+        ensures value { IfOk result (λ m.
+            content m ≡ changed_slot number (new_members new.now) (content self.now)) }
+        ensures length { IfOk result (λ m. area_len m ≡ area_len self.now) }
+    {
+        change_keeps_the_rest();
+        new_fits(new);
+        let value = changed_slot(alloc, &self.value, number, new)?;
         Ok(Meta {
             value,
             len: self.len,
