@@ -3,6 +3,7 @@ mod CopyFacts
 mod GapFacts
 mod KeptAnswers
 mod KeptFacts
+mod LeftoverFacts
 mod LowerLaws
 mod MetadataFacts
 mod PlaceFacts

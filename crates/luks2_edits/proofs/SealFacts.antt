@@ -1,6 +1,6 @@
 -- What is known of a keyslot that an edit makes or seals again, where nothing refused the edit.
-use Rattle.std.proofs.Common.{◌≡◌, ◌≢◌, ℕ, ◌+◌, ◌-◌, ◌*◌, ◌<◌, ◌≤◌, ◌^◌, ◌⊎◌, min, List, length, drop, get_or, Bool, true, false, codes, Option, Some, None, is_some, inl, inr, refl, sym, ap, subst, ◌∙◌, arith}
-use Rattle.std.proofs.lemmas.Bool.{cases_eq, cases_lt, true≢false}
+use Rattle.std.proofs.Common.{◌≡◌, ℕ, ◌+◌, ◌-◌, ◌*◌, ◌<◌, ◌≤◌, ◌^◌, min, List, length, get_or, Bool, true, false, codes, Option, Some, None, inl, inr, refl, sym, subst, ◌∙◌, arith}
+use Rattle.std.proofs.lemmas.Bool.{cases_lt, true≢false}
 use Rattle.std.proofs.lemmas.List.{get_or_past}
 use Rattle.base64.specs.GeneralPurpose.{IsBytes}
 use Rattle.serde_json.specs.Data.{Data as Value}
@@ -8,33 +8,30 @@ use Rattle.luks_area.specs.declared.area.Area.{Area}
 use Rattle.luks_area.specs.RangeFacts.{get_or-part, length-part}
 use Rattle.luks_area.specs.Ranges.{part}
 use Rattle.luks_area.specs.Sectors.{rounded_to_sectors}
-use Rattle.luks_head.specs.Selection.{luks2, Chosen}
+use Rattle.luks_head.specs.Selection.{luks2}
 use Rattle.luks_rules.specs.declared.table.Outer.TheVariants as outer
 use Rattle.luks_rules.specs.declared.table.Section.TheVariants.{Keyslots}
-use Rattle.luks_rules.specs.Accepted.{HasObject}
 use Rattle.luks_rules.specs.Faults.{object_at, type_at}
 use Rattle.luks_rules.specs.Reading.{number_in}
-use Rattle.luks_rules.specs.Sizes.{inside_at, keyslots_size}
-use Rattle.luks_making.specs.Conditions.{Between, CanSeal, FitsNew, HasPbkdf2, IsFree}
+use Rattle.luks_rules.specs.Sizes.{inside_at}
+use Rattle.luks_making.specs.Conditions.{CanSeal, FitsNew, HasPbkdf2}
 use Rattle.luks_slot.specs.declared.fault.SlotFault.TheVariants.{Argon2}
 use Rattle.luks_slot.specs.declared.plan.Derivation.{Derivation}
 use Rattle.luks_slot.specs.declared.plan.Derivation.TheVariants.{Pbkdf2, Argon2 as ByArgon2}
 use Rattle.luks_slot.specs.declared.plan.SlotPlan.{SlotPlan}
 use Rattle.luks_slot.specs.Refusal.{is_argon2, slot_refusal}
-use Rattle.luks_reading.specs.declared.open_fault.OpenFault.{OpenFault}
 use Rattle.luks_reading.specs.declared.open_fault.OpenFault.TheVariants as opening
 use Rattle.luks_reading.specs.declared.report.Data.{Data}
 use Rattle.luks_reading.specs.Answer.{Answer, HasPlanAs, IsRefusalAs, opens}
 use Rattle.luks_reading.specs.Header.{json_at}
 use Rattle.luks_reading.specs.Plans.{HasLuks2Plan, IsLuks2Derivation, IsLuks2Plan}
 use Rattle.luks2_edits.specs.Edited.{keyslot_salt, members_of}
-use Rattle.luks2_edits.specs.Metadata.{HasMetadata, HasStripes}
-use Rattle.luks2_edits.specs.Places.{rounded_to_blocks, IsNewArea}
+use Rattle.luks2_edits.specs.Metadata.{HasMetadata}
+use Rattle.luks2_edits.specs.Places.{IsNewArea}
 use Rattle.luks2_edits.specs.Refused.{NeedsLike}
 use Rattle.luks2_edits.proofs.LowerLaws.{VolumeLaws}
 use Rattle.luks2_edits.proofs.MetadataFacts.{some_same}
 use Rattle.luks2_edits.proofs.PlaceFacts.{sectors_in_blocks}
-use Rattle.luks2_edits.proofs.VolumeFacts.{one_metadata}
 
 -- ---- random bytes
 

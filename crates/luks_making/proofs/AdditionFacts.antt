@@ -472,7 +472,7 @@ module _ (say : TextsSay) (len n m : ℕ) (s : SlotMembers) (j d0 : Data) (c : I
   ]
 
   -- the value with the new keyslot meets every rule
-  pub content_with : IsContent len (with_slot n m s j)
+  content_with : IsContent len (with_slot n m s j)
   content_with = record {
     whole = whole_with n m s j c.whole;
     sections = sections_with;

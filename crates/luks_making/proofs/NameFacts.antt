@@ -139,7 +139,7 @@ all_dropped t map left no_items h e = refl
 all_dropped t map left (item d ds) h e = let p = and_parts _ _ e in all_by (is_text t d) t map left d ds h refl p.0 (all_dropped t map left ds h p.1)
 
 -- nothing is taken out where the text isn't
-pub dropped_none : (t : List ℕ) (ds : Items) → has_text t ds ≡ false → drop_text t ds ≡ ds
+dropped_none : (t : List ℕ) (ds : Items) → has_text t ds ≡ false → drop_text t ds ≡ ds
 dropped_none t no_items h = refl
 dropped_none t (item d ds) h = let p = neither (is_text t d) (has_text t ds) h in rw p.0 (ap (item d) (dropped_none t ds p.1))
 

@@ -45,7 +45,7 @@ pub member_same : (t : List ℕ) (d : Data) (k : List ℕ) → bytes_eq k (codes
 member_same t d k off = get_kept k (codes "keyslots") (in_array (drop_text t)) d off
 
 -- where it doesn't have the name it is equal
-pub without_none : (t : List ℕ) (d : Data) → names t (get (codes "keyslots") d) ≡ false → without_name t d ≡ d
+without_none : (t : List ℕ) (d : Data) → names t (get (codes "keyslots") d) ≡ false → without_name t d ≡ d
 without_none t d off = at_same (codes "keyslots") (in_array (drop_text t)) d (unnamed_same t (get (codes "keyslots") d) off)
 
 -- a row of another member, and that of the array
@@ -301,7 +301,7 @@ module _ (len : ℕ) (j : Data) (n : ℕ) (c : IsContent len j) where
   region_same = rw (config_same n j) refl
 
   -- the value without the keyslot meets every rule
-  pub content_left : IsContent len (without_slot n j)
+  content_left : IsContent len (without_slot n j)
   content_left = record {
     whole = whole_without n j c.whole;
     sections = sections_left;

@@ -22,7 +22,8 @@ use Rattle.luks_making.specs.Without.{without_name}
 
 -- the members of the value are as they were, but for those of the names
 abbrev pub KeepsOthers : List (List ℕ) → Data → Data → Type 0
-KeepsOthers names old new = (k : List ℕ) → list_any (bytes_eq k) names ≡ false → get k new ≡ get k old
+KeepsOthers names old new =
+    (k : List ℕ) → list_any (bytes_eq k) names ≡ false → get k new ≡ get k old
 
 -- the section has the objects that it had, and their members are as they were, but for those of the
 -- names
@@ -55,7 +56,8 @@ pub record LosesName (s : Section) (n : ℕ) (old new : Data) : Type 0 where
       → names (number_text n) (get (codes "keyslots") d) ≡ false → object_at new s m ≡ Some d
   pub texts : (m : ℕ) (was d : Data) → object_at old s m ≡ Some was → object_at new s m ≡ Some d
       → texts_of (get (codes "keyslots") d)
-      ≡ option_map (filter (λ t. not (bytes_eq t (number_text n)))) (texts_of (get (codes "keyslots") was))
+      ≡ option_map (filter (λ t. not (bytes_eq t (number_text n))))
+      (texts_of (get (codes "keyslots") was))
 
 -- the value `new` is `old` without the keyslot `n` and its name
 pub record LosesSlot (n : ℕ) (old new : Data) : Type 0 where

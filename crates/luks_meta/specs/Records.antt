@@ -19,8 +19,8 @@ pub record SameDigest (k l : Digest) : Type 0 where
   pub digest : l.digest.items ≡ k.digest.items
   pub segments : l.segments.items ≡ k.segments.items
 
--- of an edit of the keyslot `n`: of each other keyslot, each segment and `config` the same is told, and
--- of each digest and token the same but for its keyslots
+-- of an edit of the keyslot `n`: of each other keyslot, each segment and `config` the same is
+-- told, and of each digest and token the same but for its keyslots
 pub record KeepsRecords (n : ℕ) (old new : Data) : Type 0 where
   pub keyslots : (m : ℕ) (k : Keyslot) → m ≢ n
       → IsObject TellsKeyslot old Keyslots m k ↔ IsObject TellsKeyslot new Keyslots m k
@@ -38,15 +38,16 @@ pub record KeepsRecords (n : ℕ) (old new : Data) : Type 0 where
 abbrev pub others : ℕ → List ℕ → List ℕ
 others n = filter (λ i. not (i == n))
 
--- the keyslot `n` is out of what each digest and token names, so one that doesn't name it is told the
--- same
+-- the keyslot `n` is out of what each digest and token names, so one that doesn't name it is told
+-- the same
 pub record LosesNumber (n : ℕ) (old new : Data) : Type 0 where
   pub digests : (m : ℕ) (k l : Digest) → IsObject TellsDigest old Digests m k
       → IsObject TellsDigest new Digests m l → l.keyslots.items ≡ others n k.keyslots.items
   pub tokens : (m : ℕ) (k l : Token) → IsObject TellsToken old Tokens m k
       → IsObject TellsToken new Tokens m l → l.keyslots.items ≡ others n k.keyslots.items
 
--- the digest `m` names the keyslot `n` last, and of each other digest and each token the same is told
+-- the digest `m` names the keyslot `n` last, and of each other digest and each token the same is
+-- told
 pub record GainsNumber (n m : ℕ) (old new : Data) : Type 0 where
   pub digest : (k l : Digest) → IsObject TellsDigest old Digests m k
       → IsObject TellsDigest new Digests m l → l.keyslots.items ≡ k.keyslots.items ++ n ∷ []

@@ -19,8 +19,8 @@ pub fn one_digest()
     names_say_numbers();
 }
 
-/// Of what an edit of a keyslot doesn't name the readers tell the same records; of a digest or token
-/// that it names they tell the same but for its keyslots, which lose or gain that one.
+/// Of what an edit of a keyslot doesn't name the readers tell the same records; of a digest or
+/// token that it names they tell the same but for its keyslots, which lose or gain that one.
 pub fn edits_keep_records()
     ensures rest { (n : ℕ) (old new : Data) → KeepsRest n old new → KeepsRecords n old new }
     ensures removed { (n : ℕ) (old new : Data) → LosesSlot n old new → LosesNumber n old new }
