@@ -6,10 +6,10 @@ use Rattle.luks_slot.specs.Opening.{slot_key}
 use Rattle.luks_reading.specs.declared.open_fault.OpenFault.{OpenFault}
 use Rattle.luks_reading.specs.declared.open_fault.OpenFault.TheVariants.{Head, Meta, NoSuchSlot, SlotFree, Outside, Slot, Device, Memory}
 use Rattle.luks_reading.specs.Answer.{Answer, IsRefusal, IsRefusalAs, Opened, Opens, opens, no_key, refused}
-use Rattle.luks2_edits.specs.Kept.{KeepsSlot}
+use Rattle.luks2_edits.specs.Kept.{HasSameKeyslot}
 
 -- what keeps a keyslot one way keeps it the other way
-pub kept_back : (v w : List ℕ) (m : ℕ) → KeepsSlot v w m → KeepsSlot w v m
+pub kept_back : (v w : List ℕ) (m : ℕ) → HasSameKeyslot v w m → HasSameKeyslot w v m
 kept_back v w m k = record {
   old_place = k.new_place;
   old_copies = k.new_copies;
@@ -26,7 +26,7 @@ kept_back v w m k = record {
 }
 
 -- each refusal is kept
-refused_as : (v w : List ℕ) (m : ℕ) (k : KeepsSlot v w m) (f : OpenFault)
+refused_as : (v w : List ℕ) (m : ℕ) (k : HasSameKeyslot v w m) (f : OpenFault)
     → IsRefusalAs v m (luks2 k.old_place k.old_copies) f → IsRefusalAs w m (luks2 k.new_place k.new_copies) f
 refused_as v w m k (Head g) h = subst (λ u. IsUuidFault u g) (sym k.uuid) h
 refused_as v w m k (Meta g) h = absurd (k.old_faultless g h)
@@ -38,7 +38,7 @@ refused_as v w m k Device h = h
 refused_as v w m k Memory h = h
 
 module _ (one : (v : List ℕ) (b c : Choice) → Chosen v b → Chosen v c → b ≡ c) where
-  still_refused : (v w : List ℕ) (m : ℕ) → KeepsSlot v w m → (f : OpenFault) → IsRefusal v m f → IsRefusal w m f
+  still_refused : (v w : List ℕ) (m : ℕ) → HasSameKeyslot v w m → (f : OpenFault) → IsRefusal v m f → IsRefusal w m f
   still_refused v w m k f r =
       let same : r.choice ≡ luks2 k.old_place k.old_copies = one v r.choice (luks2 k.old_place k.old_copies) r.chosen k.old_chosen in
       record {
@@ -47,7 +47,7 @@ module _ (one : (v : List ℕ) (b c : Choice) → Chosen v b → Chosen v c → 
         fault = refused_as v w m k f (subst (λ c. IsRefusalAs v m c f) same r.fault);
       }
 
-  still_opens : (v w : List ℕ) (m : ℕ) → KeepsSlot v w m → (p : List ℕ) (found : Option (List ℕ)) → Opens v m p found → Opens w m p found
+  still_opens : (v w : List ℕ) (m : ℕ) → HasSameKeyslot v w m → (p : List ℕ) (found : Option (List ℕ)) → Opens v m p found → Opens w m p found
   unfolding kept_back
   still_opens v w m k p found o =
       let same : o.choice ≡ luks2 k.old_place k.old_copies = one v o.choice (luks2 k.old_place k.old_copies) o.chosen k.old_chosen in
@@ -62,11 +62,11 @@ module _ (one : (v : List ℕ) (b c : Choice) → Chosen v b → Chosen v c → 
       }
 
   -- the answer is kept
-  answer_kept : (v w : List ℕ) (m : ℕ) → KeepsSlot v w m → (p : List ℕ) (a : Opened) → Answer v m p a → Answer w m p a
+  answer_kept : (v w : List ℕ) (m : ℕ) → HasSameKeyslot v w m → (p : List ℕ) (a : Opened) → Answer v m p a → Answer w m p a
   answer_kept v w m k p (refused f) h = (still_refused v w m k f h.0, λ g r. h.1 g (still_refused w v m (kept_back v w m k) g r))
   answer_kept v w m k p (opens key) h = still_opens v w m k p (Some key) h
   answer_kept v w m k p no_key h = still_opens v w m k p None h
 
   -- the keyslot has the answers that it had, and no others
-  pub answers_kept : (v w : List ℕ) (m : ℕ) → KeepsSlot v w m → (p : List ℕ) (a : Opened) → Answer v m p a ↔ Answer w m p a
+  pub answers_kept : (v w : List ℕ) (m : ℕ) → HasSameKeyslot v w m → (p : List ℕ) (a : Opened) → Answer v m p a ↔ Answer w m p a
   answers_kept v w m k p a = (answer_kept v w m k p a, answer_kept w v m (kept_back v w m k) p a)

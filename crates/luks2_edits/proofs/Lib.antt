@@ -1,2 +1,13 @@
+mod AfterFacts
+mod CopyFacts
 mod GapFacts
 mod KeptAnswers
+mod KeptFacts
+mod LeftoverFacts
+mod LowerLaws
+mod MetadataFacts
+mod PlaceFacts
+mod SealFacts
+mod TornFacts
+mod UniqueFacts
+mod VolumeFacts

@@ -12,13 +12,13 @@ use Rattle.luks_reading.specs.Header.{json_at}
 use Rattle.luks_reading.specs.Plans.{HasLuks2Plan}
 
 -- the keyslot `m` is in both JSON areas or in neither, and has the same plans in both
-pub record IsSameSlot (old new : List ℕ) (m : ℕ) : Type 0 where
+pub record IsSameKeyslot (old new : List ℕ) (m : ℕ) : Type 0 where
   pub absent : HasNoKeyslot old m ↔ HasNoKeyslot new m
   pub plans : (plan : SlotPlan) → HasLuks2Plan old m plan ↔ HasLuks2Plan new m plan
 
 -- the copies of `v` and `w` that count have no fault and one uuid field, say the same of the keyslot
 -- `m`, and the bytes of its area are the same: all that the keyslot needs
-pub record KeepsSlot (v w : List ℕ) (m : ℕ) : Type 0 where
+pub record HasSameKeyslot (v w : List ℕ) (m : ℕ) : Type 0 where
   pub old_place : ℕ
   pub old_copies : Copies
   pub old_chosen : Chosen v (luks2 old_place old_copies)
@@ -29,6 +29,6 @@ pub record KeepsSlot (v w : List ℕ) (m : ℕ) : Type 0 where
   pub uuid : uuid_field (header_at w new_place) ≡ uuid_field (header_at v old_place)
   pub old_faultless : (f : MetaFault) → IsMetaFault (json_at v old_place) f → ⊥
   pub new_faultless : (f : MetaFault) → IsMetaFault (json_at w new_place) f → ⊥
-  pub slot : IsSameSlot (json_at v old_place) (json_at w new_place) m
+  pub slot : IsSameKeyslot (json_at v old_place) (json_at w new_place) m
   pub bytes : (plan : SlotPlan) → HasLuks2Plan (json_at v old_place) m plan
       → part w plan.area.start plan.area.len ≡ part v plan.area.start plan.area.len

@@ -68,6 +68,14 @@ IsOfSealed h total payload j (Remove slot passphrase) p = ⊥
 IsOfSealed h total payload j Repair p = ⊥
 IsOfSealed h total payload j (Label text) p = ⊥
 
+-- the keyslot loses its area by the edit
+abbrev pub Loses : Edit → ℕ → Type 0
+Loses (Add by_ old new to iterations) n = ⊥
+Loses (Change slot old new iterations) n = n ≡ slot
+Loses (Remove slot passphrase) n = n ≡ slot
+Loses Repair n = ⊥
+Loses (Label text) n = ⊥
+
 -- it is of the area that a keyslot loses by the edit
 abbrev pub IsOfLost : Value → Edit → ℕ → Type 0
 IsOfLost j (Add by_ old new to iterations) p = ⊥

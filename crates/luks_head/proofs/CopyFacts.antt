@@ -1,13 +1,14 @@
 -- Facts on the bytes of a copy: its size, and its windows one after another.
-use Rattle.std.proofs.Common.{◌≡◌, ℕ, ◌+◌, ◌-◌, ◌*◌, ◌%◌, ◌≤◌, ◌==◌, nat_le, List, [], ◌∷◌, ◌++◌, length, take, drop, replicate, Bool, true, inl, inr, arith, refl, sym, ap, ◌∙◌, length-append, length-take-le, length-drop}
+use Rattle.std.proofs.Common.{◌≡◌, ℕ, ◌+◌, ◌-◌, ◌*◌, ◌%◌, ◌≤◌, ◌==◌, nat_le, List, [], ◌∷◌, ◌++◌, length, take, drop, replicate, Bool, true, inl, inr, arith, lit≤, refl, sym, ap, ◌∙◌, length-append, length-take-le, length-drop}
 use Rattle.std.specs.List.{list_all}
 use Rattle.std.proofs.lemmas.Bool.{or_cases, and_parts, eqb-true, leb-true, false≢true}
 use Rattle.std.proofs.lemmas.List.{take-take, drop-drop, drop-take, length-replicate, take_all}
 use Rattle.std.proofs.Math.Seq.{take-add, take-append-add, drop-append-add}
 use Rattle.sha2.specs.Sha256.{sha256}
-use Rattle.luks_area.specs.Ranges.{part}
-use Rattle.luks_area.specs.RangeFacts.{length-part_inside, part-part}
+use Rattle.luks_area.specs.Ranges.{part, written}
+use Rattle.luks_area.specs.RangeFacts.{length-part_inside, part-part, part-add, part-whole, length-written, part-written, written-written}
 use Rattle.luks_head.specs.Header2.{header_at, hdr_size, copy_at, with_zero_checksum}
+use Rattle.luks_head.specs.SoundCopies.{kept_at}
 use Rattle.luks_head.specs.Sizes.{listed_sizes, is_among, IsListed}
 
 -- what passes for each number of a list passes for one of them
@@ -57,12 +58,36 @@ all_windows copy n past size =
     let whole : length (with_zero_checksum copy) ≤ n = rw (length-append front (drop 512 copy), length-drop 512 copy) (omega arith) in
     take_all n (with_zero_checksum copy) whole
 
+-- a header that was read in two pieces
+pub joined_header : (v zeros begun rest : List ℕ) → length zeros ≡ 4096 → length begun ≡ 592 → length rest ≡ 3504
+    → begun ≡ part v 0 592 → rest ≡ part v 592 3504 → written (written zeros 0 begun) 592 rest ≡ header_at v 0
+joined_header v zeros begun rest all front back begun_is rest_is =
+    let w : List ℕ = written zeros 0 (begun ++ rest) in
+    let both : length (begun ++ rest) ≡ 4096 = length-append begun rest ∙ (omega (arith, front, back)) in
+    let long : length w ≡ length (begun ++ rest) = length-written zeros 0 (begun ++ rest) (omega (arith, all, both)) ∙ all ∙ sym both in
+    let place : 592 ≡ 0 + length begun = omega (arith, front) in
+    ap (λ n. written (written zeros 0 begun) n rest) place
+    ∙ written-written zeros 0 begun rest (omega (arith, all, front, back))
+    ∙ sym (part-whole w) ∙ ap (λ n. part w 0 n) long
+    ∙ part-written zeros 0 (begun ++ rest) (omega (arith, all, both))
+    ∙ ap (λ xs. xs ++ rest) begun_is ∙ ap (λ xs. part v 0 592 ++ xs) rest_is ∙ sym (part-add v 0 592 3504)
+
 -- what a hasher holds after the first window
 pub first_fed : (v : List ℕ) (at size : ℕ) → 4096 ≤ size → at + size ≤ length v
     → with_zero_checksum (header_at v at) ≡ take 4096 (with_zero_checksum (part v at size))
 first_fed v at size long within =
     sym (first_window (part v at size) (rw (length-part_inside v at size within) long)
     ∙ ap with_zero_checksum (take-take 4096 size (drop at v) long))
+
+-- what a hasher holds after the first window and the bytes behind it that are kept
+pub kept_fed : (v : List ℕ) (at size : ℕ) → 16384 ≤ size → at + size ≤ length v
+    → with_zero_checksum (header_at v at) ++ kept_at v at ≡ take 16384 (with_zero_checksum (part v at size))
+kept_fed v at size long inside =
+    let copy : List ℕ = part v at size in
+    let own : part copy 4096 12288 ≡ kept_at v at = part-part v at size 4096 12288 long in
+    ap (λ xs. xs ++ kept_at v at) (first_fed v at size (omega arith) inside)
+    ∙ ap (λ xs. take 4096 (with_zero_checksum copy) ++ xs) (sym own)
+    ∙ sym (later_window copy 4096 12288 (lit≤ tt) (rw (length-part_inside v at size inside) long))
 
 -- what a hasher holds after one window more
 pub later_fed : (v : List ℕ) (at size k : ℕ) → 1 ≤ k → 4096 * k + 4096 ≤ size → at + size ≤ length v

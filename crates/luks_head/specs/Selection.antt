@@ -6,6 +6,7 @@ use Rattle.luks_head.specs.Faults.{head_key}
 use Rattle.luks_head.specs.Header1.{luks1_size, HasMagic, version_of}
 use Rattle.luks_head.specs.Header2.{header_at, hdr_size, seqid, HoldsBin2, IsCopyWithin, IsSound}
 use Rattle.luks_head.specs.Sizes.{IsListed}
+use Rattle.luks_head.specs.SoundCopies.{KeepsJson}
 use Rattle.luks_head.specs.declared.fault.HeadFault.{HeadFault}
 use Rattle.luks_head.specs.declared.fault.HeadFault.TheVariants as fault
 use Rattle.luks_head.specs.declared.selection.Copies.{Copies}
@@ -95,6 +96,12 @@ IsSelected v (V2 header copies) =
 abbrev pub IsSelectedWithin : ℕ → Selected → Type 0
 IsSelectedWithin total (V1 bytes) = Unit {0}
 IsSelectedWithin total (V2 header copies) = IsCopyWithin total header
+
+-- `json` is the first 12288 bytes of the JSON area of the LUKS2 copy that was selected; in a header
+-- of the least size, of 16384 bytes, they are all of it
+abbrev pub KeepsSelectedJson : List ℕ → List ℕ → Selected → Type 0
+KeepsSelectedJson v json (V1 bytes) = Unit {0}
+KeepsSelectedJson v json (V2 header copies) = KeepsJson v json header
 
 -- the selection is refused by the fault f, which is the volume's own unless a device call failed
 abbrev pub IsRefused : List ℕ → HeadFault → Type 0

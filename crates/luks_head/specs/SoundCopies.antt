@@ -1,6 +1,7 @@
 -- What the steps of the search for sound copies answer: words of private contracts.
-use Rattle.std.specs.Prelude.{ℕ, ◌≤◌, List, Option, None, Some}
-use Rattle.luks_head.specs.Header2.{header_at, HoldsBin2, IsCopyWithin, IsSound}
+use Rattle.std.specs.Prelude.{◌≡◌, ℕ, ◌≤◌, ◌+◌, List, Option, None, Some}
+use Rattle.luks_area.specs.Ranges.{part}
+use Rattle.luks_head.specs.Header2.{binary_header_size, header_at, HoldsBin2, IsCopyWithin, IsSound}
 use Rattle.luks_head.specs.Sizes.{IsListed}
 use Rattle.luks_head.specs.declared.bin2.Bin2.{Bin2}
 
@@ -29,3 +30,15 @@ FindsSecondCopy v (Some h) = IsLeastCopy v h
 abbrev pub IsFoundWithin : ℕ → Option Bin2 → Type 0
 IsFoundWithin total None = Unit {0}
 IsFoundWithin total (Some h) = IsCopyWithin total h
+
+-- the bytes of the JSON area that are kept of a copy: all of it, where the copy has the least size
+abbrev pub kept_size : ℕ
+kept_size = 12288
+
+-- they follow the binary header of the copy at o
+abbrev pub kept_at : List ℕ → ℕ → List ℕ
+kept_at v o = part v (o + binary_header_size) kept_size
+
+-- `json` is what is kept of the copy with the binary header `h`
+abbrev pub KeepsJson : List ℕ → List ℕ → Bin2 → Type 0
+KeepsJson v json h = json ≡ kept_at v h.hdr_offset

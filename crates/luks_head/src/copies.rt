@@ -1,23 +1,30 @@
 //! Copies of a LUKS2 header on a device, and whether they are sound.
-ghost use Rattle.std.specs.Prelude.{◌≡◌, ◌↔◌, ◌+◌, ◌*◌, ◌^◌, ◌<◌, ◌≤◌, codes, length, IsTrue, IfOk, MatchResult};
+ghost use Rattle.std.specs.Prelude.{◌≡◌, ◌↔◌, ◌+◌, ◌*◌, ◌^◌, ◌<◌, ◌≤◌, codes, length, take, IsTrue, IfOk, IfSome, OnOk, MatchResult};
 ghost use Rattle.sha2.specs.Hashers.{Holds256};
 ghost use Rattle.sha2.specs.Sha256.{sha256};
 ghost use Rattle.luks_area.specs.Device.{is_failure, CountsFailure, IsUnchanged};
 ghost use Rattle.luks_area.specs.Ranges.{part};
 ghost use Rattle.luks_area.specs.Text.{text_of};
 ghost use Rattle.luks_head.specs.Header2.{binary_header_size, csum_at, csum_size, csum_alg_field, header_at, magic_of, sha256_size, with_zero_checksum, IsFormed};
-ghost use Rattle.luks_head.specs.SoundCopies.{FindsSoundCopy, FindsSecondCopy, IsFoundWithin};
+ghost use Rattle.luks_head.specs.Header1.{luks1_size};
+ghost use Rattle.luks_head.specs.SoundCopies.{kept_at, kept_size, FindsSoundCopy, FindsSecondCopy, IsFoundWithin, KeepsJson};
 ghost use Rattle.luks_head.specs.Sizes.{is_listed, IsListed};
 
 use crate::bin2::Bin2;
 use crate::bin2_places::{self as place, SECOND_MAGIC};
-use crate::fields::{field, u16_at, u64_at};
-use crate::luks1_places::MAGIC;
+use crate::fields::{field, put, u16_at, u64_at};
+use crate::luks1_places::{self, MAGIC};
 use luks_area::{Device, DeviceFault, text_field};
 use sha2::{Digest, Sha256};
 
 /// The bytes of a binary header, by which a copy is read.
 const WINDOW: u64 = place::SIZE as u64;
+
+/// The bytes of the JSON area in a copy of the least size. So many are kept of the area of any copy.
+pub const KEPT_JSON: usize = 12288;
+
+/// The bytes of the first copy that are read before it is known to be one of LUKS2.
+const BEGUN: usize = luks1_places::SIZE;
 
 /// The sizes that a header may have, which are also the places of its second copy.
 const LISTED_SIZES: [u64; 9] = [
@@ -76,27 +83,55 @@ pub(crate) fn digest_of_header(head: &[u8]) -> Sha256
     hasher
 }
 
-/// The SHA-256 of the copy of `size` bytes at `at`, whose first 4096 bytes are `head`, with the 64
-/// bytes of its checksum taken as zeros. It is fed by windows of 4096 bytes.
+/// The SHA-256 of the copy of `size` bytes at `at`, of whose first 4096 bytes, `head`, the 64 bytes
+/// of its checksum are taken as zeros. The first 12288 bytes of the JSON area go into `json`; in a
+/// copy of the least size they are all of it.
 fn digest_of_copy<D: Device>(
     device: &mut D,
     at: u64,
     size: u64,
     head: &[u8],
+    json: &mut [u8],
 ) -> Result<[u8; 32], DeviceFault>
     requires listed { IsListed size }
-    requires header { binary_header_size ≤ length head.now }
     requires within { at + size ≤ D.size device.old }
     requires fits { at + size < 2 ^ 64 }
+    requires header { length head.now ≡ binary_header_size }
+    requires head { D.tells → head.now ≡ header_at (D.bytes device.old) at }
+    requires kept { length json.old ≡ kept_size }
     requires room { D.failed device.old + 1 < 2 ^ 64 }
     ensures unchanged { IsUnchanged D.tells D.size D.bytes device.old device.new }
     ensures count { CountsFailure is_failure result (D.failed device.old) (D.failed device.new) }
-    ensures digest { D.tells → head.now ≡ header_at (D.bytes device.old) at
+    ensures digest { D.tells
         → IfOk result (λ d. d ≡ sha256 (with_zero_checksum (part (D.bytes device.old) at size))) }
+    ensures kept { D.tells → OnOk result (json.new ≡ kept_at (D.bytes device.old) at) }
 {
     let mut hasher = digest_of_header(head);
+    device.read_at(at + WINDOW, json)?;
+    hasher.update(&*json);
+    digest_from(device, at, size, hasher)
+}
+
+/// The same by a hasher that was fed the first four windows of 4096 bytes. It is fed the others.
+fn digest_from<D: Device>(
+    device: &mut D,
+    at: u64,
+    size: u64,
+    mut hasher: Sha256,
+) -> Result<[u8; 32], DeviceFault>
+    requires listed { IsListed size }
+    requires within { at + size ≤ D.size device.old }
+    requires fits { at + size < 2 ^ 64 }
+    requires fed { D.tells → Holds256 hasher
+        (take 16384 (with_zero_checksum (part (D.bytes device.old) at size))) }
+    requires room { D.failed device.old + 1 < 2 ^ 64 }
+    ensures unchanged { IsUnchanged D.tells D.size D.bytes device.old device.new }
+    ensures count { CountsFailure is_failure result (D.failed device.old) (D.failed device.new) }
+    ensures digest { D.tells
+        → IfOk result (λ d. d ≡ sha256 (with_zero_checksum (part (D.bytes device.old) at size))) }
+{
     let mut window = [0; place::SIZE];
-    for k in 1..size / WINDOW {
+    for k in 4..size / WINDOW {
         device.read_at(at + WINDOW * k, &mut window)?;
         hasher.update(window.as_slice());
     }
@@ -110,13 +145,52 @@ fn has_sum(head: &[u8], digest: &[u8]) -> bool
     field(head, place::CSUM, place::SHA256_SIZE) == digest
 }
 
-/// The binary header of the copy at `at`, where that copy is sound.
-pub(crate) fn sound_copy<D: Device>(device: &mut D, at: u64) -> Result<Option<Bin2>, DeviceFault>
+/// The binary header of the copy at `at`, whose first 4096 bytes are `head`, where that copy is
+/// sound. Then `json` holds what is kept of its JSON area.
+fn judged_copy<D: Device>(
+    device: &mut D,
+    at: u64,
+    head: &[u8],
+    json: &mut [u8],
+) -> Result<Option<Bin2>, DeviceFault>
+    requires header { length head.now ≡ binary_header_size }
+    requires head { D.tells → head.now ≡ header_at (D.bytes device.old) at }
+    requires kept { length json.old ≡ kept_size }
     requires room { D.failed device.old + 1 < 2 ^ 64 }
     ensures unchanged { IsUnchanged D.tells D.size D.bytes device.old device.new }
     ensures count { CountsFailure is_failure result (D.failed device.old) (D.failed device.new) }
     ensures within { IfOk result (IsFoundWithin (D.size device.old)) }
     ensures judged { D.tells → IfOk result (FindsSoundCopy (D.bytes device.old) at) }
+    ensures kept { D.tells
+        → IfOk result (λ found. IfSome found (KeepsJson (D.bytes device.old) json.new)) }
+{
+    if !is_formed(head, at, device.len()) {
+        return Ok(None);
+    }
+    let header = Bin2::read(head);
+    let digest = digest_of_copy(device, at, header.hdr_size, head, json)?;
+    if has_sum(head, &digest) {
+        Ok(Some(header))
+    } else {
+        Ok(None)
+    }
+}
+
+/// The binary header of the copy at `at`, where that copy is sound. Then `json` holds what is kept
+/// of its JSON area.
+pub(crate) fn sound_copy<D: Device>(
+    device: &mut D,
+    at: u64,
+    json: &mut [u8],
+) -> Result<Option<Bin2>, DeviceFault>
+    requires kept { length json.old ≡ kept_size }
+    requires room { D.failed device.old + 1 < 2 ^ 64 }
+    ensures unchanged { IsUnchanged D.tells D.size D.bytes device.old device.new }
+    ensures count { CountsFailure is_failure result (D.failed device.old) (D.failed device.new) }
+    ensures within { IfOk result (IsFoundWithin (D.size device.old)) }
+    ensures judged { D.tells → IfOk result (FindsSoundCopy (D.bytes device.old) at) }
+    ensures kept { D.tells
+        → IfOk result (λ found. IfSome found (KeepsJson (D.bytes device.old) json.new)) }
 {
     let total = device.len();
     if total < WINDOW || at > total - WINDOW {
@@ -124,29 +198,69 @@ pub(crate) fn sound_copy<D: Device>(device: &mut D, at: u64) -> Result<Option<Bi
     }
     let mut head = [0; place::SIZE];
     device.read_at(at, &mut head)?;
-    if !is_formed(&head, at, total) {
-        return Ok(None);
-    }
-    let header = Bin2::read(&head);
-    let digest = digest_of_copy(device, at, header.hdr_size, &head)?;
-    if has_sum(&head, &digest) {
-        Ok(Some(header))
-    } else {
-        Ok(None)
-    }
+    judged_copy(device, at, &head, json)
 }
 
-/// The binary header of the sound copy at the least listed place.
-pub(crate) fn least_second<D: Device>(device: &mut D) -> Result<Option<Bin2>, DeviceFault>
+/// The first 4096 bytes, which begin with `begun`: these aren't read again.
+fn first_header<D: Device>(device: &mut D, begun: &[u8]) -> Result<[u8; 4096], DeviceFault>
+    requires size { length begun.now ≡ luks1_size }
+    requires begun { D.tells → begun.now ≡ part (D.bytes device.old) 0 luks1_size }
+    requires within { binary_header_size ≤ D.size device.old }
+    requires room { D.failed device.old + 1 < 2 ^ 64 }
+    ensures unchanged { IsUnchanged D.tells D.size D.bytes device.old device.new }
+    ensures count { CountsFailure is_failure result (D.failed device.old) (D.failed device.new) }
+    ensures read { D.tells → IfOk result (λ head. head ≡ header_at (D.bytes device.old) 0) }
+{
+    let mut rest = [0; place::SIZE - BEGUN];
+    device.read_at(BEGUN as u64, &mut rest)?;
+    let mut head = [0; place::SIZE];
+    put(&mut head, 0, begun);
+    put(&mut head, BEGUN, &rest);
+    Ok(head)
+}
+
+/// The same of the first copy, which begins with `begun`.
+pub(crate) fn sound_first_copy<D: Device>(
+    device: &mut D,
+    begun: &[u8],
+    json: &mut [u8],
+) -> Result<Option<Bin2>, DeviceFault>
+    requires size { length begun.now ≡ luks1_size }
+    requires begun { D.tells → begun.now ≡ part (D.bytes device.old) 0 luks1_size }
+    requires kept { length json.old ≡ kept_size }
+    requires room { D.failed device.old + 1 < 2 ^ 64 }
+    ensures unchanged { IsUnchanged D.tells D.size D.bytes device.old device.new }
+    ensures count { CountsFailure is_failure result (D.failed device.old) (D.failed device.new) }
+    ensures within { IfOk result (IsFoundWithin (D.size device.old)) }
+    ensures judged { D.tells → IfOk result (FindsSoundCopy (D.bytes device.old) 0) }
+    ensures kept { D.tells
+        → IfOk result (λ found. IfSome found (KeepsJson (D.bytes device.old) json.new)) }
+{
+    if device.len() < WINDOW {
+        return Ok(None);
+    }
+    let head = first_header(device, begun)?;
+    judged_copy(device, 0, &head, json)
+}
+
+/// The binary header of the sound copy at the least listed place. Then `json` holds what is kept of
+/// its JSON area.
+pub(crate) fn least_second<D: Device>(
+    device: &mut D,
+    json: &mut [u8],
+) -> Result<Option<Bin2>, DeviceFault>
+    requires kept { length json.old ≡ kept_size }
     requires room { D.failed device.old + 1 < 2 ^ 64 }
     ensures unchanged { IsUnchanged D.tells D.size D.bytes device.old device.new }
     ensures count { CountsFailure is_failure result (D.failed device.old) (D.failed device.new) }
     ensures within { IfOk result (IsFoundWithin (D.size device.old)) }
     ensures found { D.tells → IfOk result (FindsSecondCopy (D.bytes device.old)) }
+    ensures kept { D.tells
+        → IfOk result (λ found. IfSome found (KeepsJson (D.bytes device.old) json.new)) }
 {
     let mut left = LISTED_SIZES.as_slice();
     while let [at, later @ ..] = left {
-        match sound_copy(device, *at)? {
+        match sound_copy(device, *at, json)? {
             Some(header) => return Ok(Some(header)),
             None => left = later,
         }

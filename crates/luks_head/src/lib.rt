@@ -17,6 +17,7 @@ mod selection;
 mod uuid_text;
 
 pub use bin2::Bin2;
+pub use copies::KEPT_JSON;
 pub use fault::{HeadFault, IterationsOf, TextField};
 pub use laws::{
     chosen_copy_is_sound, luks1_is_first_bytes, luks1_without_faults, luks2_without_faults,
@@ -24,4 +25,4 @@ pub use laws::{
     written_copies_are_chosen,
 };
 pub use luks1::{Luks1, Luks1Common, Luks1Slot, SlotState};
-pub use selection::{Copies, Selected, select};
+pub use selection::{Copies, Selected, select, select_with_json};

@@ -1,6 +1,7 @@
 -- The metadata with one more keyslot: what is there of the old, and that it meets every rule that the old met.
 use Rattle.std.proofs.Common.{◌≡◌, ℕ, ◌+◌, ◌*◌, ◌≤◌, true, false, List, [], ◌∷◌, Option, Some, option_map, option_and_then, is_some, bytes_eq, codes, refl, sym, ap, ◌∙◌, inl, inr, arith}
 use Rattle.std.specs.Prelude.{slice_get}
+use Rattle.std.specs.List.{list_any}
 use Rattle.std.proofs.lemmas.Bool.{false≢true, cases_eq}
 use Rattle.serde_json.specs.Data.{Data, Items, Members, depth, put}
 use Rattle.serde_json.specs.Find.{get, as_object, as_array}
@@ -20,21 +21,22 @@ use Rattle.luks_rules.specs.declared.table.Row.{Row}
 use Rattle.luks_rules.specs.Accepted.{HasNames, HasObject, IsContent, IsRead}
 use Rattle.luks_rules.specs.Faults.{Among, is_section, object_at, section_at, suits, type_at, value_at}
 use Rattle.luks_rules.specs.Held.{IsHeld}
-use Rattle.luks_rules.specs.Reading.{reads, number_in, decimal_in}
+use Rattle.luks_rules.specs.Reading.{reads, number_in, decimal_in, texts_of}
 use Rattle.luks_rules.specs.Sizes.{inside_at, keyslots_size, region_start}
 use Rattle.luks_rules.specs.Table.{member as row, digest_rows, keyslot_rows, rows_of, member_name}
 use Rattle.luks_making.specs.Changing.{add_text, at_member, change_member, in_array, in_object}
 use Rattle.luks_making.specs.Conditions.{FitsSlot, IsRoom}
-use Rattle.luks_making.specs.Unchanged.{GainsSlot, KeepsOthers}
+use Rattle.luks_making.specs.Unchanged.{GainsSlot, KeepsObjects, KeepsOthers, KeepsRest}
 use Rattle.luks_making.specs.Keyslots.{SlotMembers, slot_value}
 use Rattle.luks_making.specs.Naming.{IsDigestOf}
 use Rattle.luks_making.specs.With.{with_name, with_slot}
 use Rattle.luks_making.proofs.MemberFacts.{array_map, beside, found_in, get_changed, get_kept, mapped, object_map, put_beside, put_here, put_more, some_same, still_object, tested_object, through}
-use Rattle.luks_making.proofs.NameFacts.{all_added, all_more, count_added, count_changed, has_added, named_changed, named_map, named_put, names_added, none_names, once_added, others_added, texts_differ}
+use Rattle.luks_making.proofs.NameFacts.{added_text, all_added, all_more, count_added, count_changed, has_added, named_changed, named_map, named_put, names_added, none_names, once_added, others_added, texts_differ}
 use Rattle.luks_making.proofs.NestingFacts.{Bounded, array_bounded, change_bounded, object_bounded, put_bounded}
 use Rattle.luks_making.proofs.ReadingFacts.{TextsSay, decimal_is, decimal_read, name_is, number_is, number_read, salt_read}
+use Rattle.luks_making.proofs.RestFacts.{objects_same}
 use Rattle.luks_making.proofs.RowFacts.{NamesRow, RowRead, at_top, digest_array, digest_row, each_of, none_among, of_segments, of_slots, token_row}
-use Rattle.luks_making.proofs.WholeFacts.{KeepsWhole, neither, whole_added, whole_changed, whole_in_array, whole_in_object, whole_put}
+use Rattle.luks_making.proofs.WholeFacts.{KeepsWhole, neither, or_off, whole_added, whole_changed, whole_in_array, whole_in_object, whole_put}
 
 -- ---- the new keyslot meets the rules
 
@@ -113,6 +115,9 @@ slot_read say s f =
 -- its other members are as they were
 member_same : (t : List ℕ) (d : Data) (k : List ℕ) → bytes_eq k (codes "keyslots") ≡ false → get k (with_name t d) ≡ get k d
 member_same t d k off = get_kept k (codes "keyslots") (in_array (add_text t)) d off
+
+members_kept : (n : ℕ) (d : Data) → KeepsOthers (codes "keyslots" ∷ []) d (with_name (number_text n) d)
+members_kept n d k off = member_same (number_text n) d k (neither _ _ off).0
 
 -- another name stands in its array exactly where it did
 lists_others : (t s : List ℕ) (d : Data) → bytes_eq t s ≡ false → names s (get (codes "keyslots") (with_name t d)) ≡ names s (get (codes "keyslots") d)
@@ -236,6 +241,36 @@ naming_back n m s j i k other d =
           })
       | inr away ↦ record { named = d.named; keyslot = slot; numbered = d.numbered; object = d.object; is = sym (digest_beside n m s j k away) ∙ d.is; lists = d.lists }
     ]
+
+-- each digest's other members are as they were
+digest_there : (n m : ℕ) (s : SlotMembers) (j : Data) (k : ℕ) (was : Data) → object_at j Digests k ≡ Some was
+    → (d : Data) × (object_at (with_slot n m s j) Digests k ≡ Some d) × KeepsOthers (codes "keyslots" ∷ []) was d
+digest_there n m s j k was there = elim (cases_eq k m) [
+  | inl same ↦ (
+      let here : object_at j Digests m ≡ Some was = rw same at there in
+      (with_name (number_text n) was, rw same (digest_here n m s j ∙ ap (option_map (with_name (number_text n))) here), members_kept n was))
+  | inr other ↦ (was, digest_beside n m s j k other ∙ there, λ i off. refl)
+]
+
+digest_was : (n m : ℕ) (s : SlotMembers) (j : Data) (k : ℕ) (d : Data) → object_at (with_slot n m s j) Digests k ≡ Some d
+    → (was : Data) × (object_at j Digests k ≡ Some was) × KeepsOthers (codes "keyslots" ∷ []) was d
+digest_was n m s j k d there = elim (cases_eq k m) [
+  | inl same ↦ (
+      let here : object_at (with_slot n m s j) Digests m ≡ Some d = rw same at there in
+      let p = mapped (with_name (number_text n)) (object_at j Digests m) d (sym (digest_here n m s j) ∙ here) in
+      (p.0, rw same p.1, λ i off. ap (get i) p.2 ∙ members_kept n p.0 i off))
+  | inr other ↦ (d, sym (digest_beside n m s j k other) ∙ there, λ i off. refl)
+]
+
+digests_kept : (n m : ℕ) (s : SlotMembers) (j : Data) → KeepsObjects (codes "keyslots" ∷ []) Digests j (with_slot n m s j)
+digests_kept n m s j = record { there = digest_there n m s j; back = digest_was n m s j }
+
+-- a name that is none of three is none of two
+fewer_names : (k : List ℕ) → list_any (bytes_eq k) (codes "digests" ∷ codes "keyslots" ∷ codes "tokens" ∷ []) ≡ false → list_any (bytes_eq k) (codes "digests" ∷ codes "keyslots" ∷ []) ≡ false
+fewer_names k off =
+    let p = neither _ _ off in
+    let q = neither _ _ p.1 in
+    or_off _ _ p.0 (or_off _ _ q.0 refl)
 
 -- ---- whole numbers and nesting
 
@@ -437,7 +472,7 @@ module _ (say : TextsSay) (len n m : ℕ) (s : SlotMembers) (j d0 : Data) (c : I
   ]
 
   -- the value with the new keyslot meets every rule
-  pub content_with : IsContent len (with_slot n m s j)
+  content_with : IsContent len (with_slot n m s j)
   content_with = record {
     whole = whole_with n m s j c.whole;
     sections = sections_with;
@@ -467,19 +502,30 @@ module _ (say : TextsSay) (len n m : ℕ) (s : SlotMembers) (j d0 : Data) (c : I
   }
 
   -- all that isn't the keyslot or its name is as it was
+  rest_with : KeepsRest n j (with_slot n m s j)
+  rest_with = record {
+    keyslots = slot_beside n m s j;
+    naming = λ i k other. (naming_kept n m s j i k other, naming_back n m s j i k other);
+    digests = digests_kept n m s j;
+    tokens = objects_same (codes "keyslots" ∷ []) Tokens j (with_slot n m s j) (other_section n m s j (codes "tokens") refl);
+    segments = other_section n m s j (codes "segments") refl;
+    config = other_section n m s j (codes "config") refl;
+    others = λ k off. other_section n m s j k (fewer_names k off);
+  }
+
+  -- what the value with the new keyslot has gained
   pub slot_gained : GainsSlot n m s j (with_slot n m s j)
   slot_gained = record {
     there = slot_here n m s j len c;
-    keyslots = slot_beside n m s j;
-    digest = digest_here n m s j;
-    digests = digest_beside n m s j;
-    segments = other_section n m s j (codes "segments") refl;
-    tokens = other_section n m s j (codes "tokens") refl;
-    config = other_section n m s j (codes "config") refl;
-    others = other_section n m s j;
     names = names_it;
     once = new_counted;
-    naming = λ i k other. (naming_kept n m s j i k other, naming_back n m s j i k other);
+    digest = digest_here n m s j;
+    texts = λ was d there now.
+        let made : with_name (number_text n) was ≡ d = some_same _ d (sym (digest_here n m s j ∙ ap (option_map (with_name (number_text n))) there) ∙ now) in
+        rw (← made) (ap texts_of (get_changed (codes "keyslots") (in_array (add_text (number_text n))) was) ∙ added_text (number_text n) (get (codes "keyslots") was));
+    digests = digest_beside n m s j;
+    tokens = other_section n m s j (codes "tokens") refl;
+    rest = rest_with;
   }
 
 -- the value with the new keyslot meets every rule and may be read

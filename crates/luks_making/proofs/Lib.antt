@@ -3,11 +3,14 @@ mod NameFacts
 mod WholeFacts
 mod NestingFacts
 mod RowFacts
+mod RestFacts
 mod RemovalFacts
 mod ReadingFacts
 mod AdditionFacts
 mod FreeNumberFacts
 mod RoomFacts
+mod ChangeFacts
+mod NewVolumeFacts
 mod PutFacts
 mod ItemFacts
 mod CopyFacts

@@ -39,7 +39,7 @@ texts_say decimals encodings numbers names = record { decimals = decimals; encod
 -- ---- numbers and bytes
 
 -- a number in its range passes the test
-pub between : (least most n : ℕ) → Between least most n → is_between least most n ≡ true
+between : (least most n : ℕ) → Between least most n → is_between least most n ≡ true
 between least most n b = and_from _ _ (le-leb least n b.from) (le-leb n most b.to)
 
 -- a number that is read is in its range
@@ -56,6 +56,10 @@ between_of least most n (Some x) e =
 
 pub in_between : (least most n : ℕ) (v : Option Data) → number_in least most v ≡ Some n → Between least most n
 in_between least most n v e = between_of least most n (whole_of v) e
+
+-- a number of 32 bits that isn't 0
+pub below_32 : (n : ℕ) → 1 ≤ n → n < 2 ^ 32 → Between 1 4294967295 n
+below_32 n one small = record { from = one; to = omega (arith, small) }
 
 -- a number that is written
 pub number_is : (least most n : ℕ) → Between least most n → number_in least most (Some (number (unsigned n))) ≡ Some n

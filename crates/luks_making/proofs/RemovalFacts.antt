@@ -20,16 +20,17 @@ use Rattle.luks_rules.specs.declared.table.Row.{Row}
 use Rattle.luks_rules.specs.Accepted.{HasNames, HasObject, IsContent, IsRead}
 use Rattle.luks_rules.specs.Faults.{Among, is_section, object_at, section_at, suits, type_at, value_at}
 use Rattle.luks_rules.specs.Held.{IsHeld}
-use Rattle.luks_rules.specs.Reading.{reads}
+use Rattle.luks_rules.specs.Reading.{reads, texts_of}
 use Rattle.luks_rules.specs.Sizes.{json_size, keyslots_size}
 use Rattle.luks_rules.specs.Table.{member as row, digest_rows, token_rows, rows_of, member_name}
 use Rattle.luks_making.specs.Changing.{at_member, drop_member, drop_text, each_member, in_array, in_object}
-use Rattle.luks_making.specs.Unchanged.{KeepsOthers, LosesName, LosesSlot}
+use Rattle.luks_making.specs.Unchanged.{KeepsOthers, KeepsRest, LosesName, LosesSlot}
 use Rattle.luks_making.specs.Naming.{IsDigestOf}
 use Rattle.luks_making.specs.Without.{without_name, without_slot}
-use Rattle.luks_making.proofs.MemberFacts.{array_map, at_same, beside, get_changed, get_each, get_gone, get_kept, get_left, mapped, nowhere, still_object, through}
-use Rattle.luks_making.proofs.NameFacts.{all_dropped, count_each, named_each, named_left, named_map, names_dropped, once_dropped, others_dropped, texts_differ, unnamed_same}
+use Rattle.luks_making.proofs.MemberFacts.{array_map, at_same, beside, get_changed, get_each, get_gone, get_kept, get_left, mapped, nowhere, some_same, still_object, through}
+use Rattle.luks_making.proofs.NameFacts.{all_dropped, count_each, dropped_texts, named_each, named_left, named_map, names_dropped, once_dropped, others_dropped, texts_differ, unnamed_same}
 use Rattle.luks_making.proofs.NestingFacts.{NoDeeper, deep_changed, deep_each, deep_in_array, deep_in_object, deep_left}
+use Rattle.luks_making.proofs.RestFacts.{objects_edited}
 use Rattle.luks_making.proofs.RowFacts.{NamesRow, RowRead, at_top, digest_row, each_of, none_among, of_segments, of_slots, token_row}
 use Rattle.luks_making.proofs.WholeFacts.{KeepsWhole, neither, whole_changed, whole_dropped, whole_each, whole_in_array, whole_in_object, whole_left}
 
@@ -44,7 +45,7 @@ pub member_same : (t : List ℕ) (d : Data) (k : List ℕ) → bytes_eq k (codes
 member_same t d k off = get_kept k (codes "keyslots") (in_array (drop_text t)) d off
 
 -- where it doesn't have the name it is equal
-pub without_none : (t : List ℕ) (d : Data) → names t (get (codes "keyslots") d) ≡ false → without_name t d ≡ d
+without_none : (t : List ℕ) (d : Data) → names t (get (codes "keyslots") d) ≡ false → without_name t d ≡ d
 without_none t d off = at_same (codes "keyslots") (in_array (drop_text t)) d (unnamed_same t (get (codes "keyslots") d) off)
 
 -- a row of another member, and that of the array
@@ -300,7 +301,7 @@ module _ (len : ℕ) (j : Data) (n : ℕ) (c : IsContent len j) where
   region_same = rw (config_same n j) refl
 
   -- the value without the keyslot meets every rule
-  pub content_left : IsContent len (without_slot n j)
+  content_left : IsContent len (without_slot n j)
   content_left = record {
     whole = whole_without n j c.whole;
     sections = sections_left;
@@ -354,20 +355,31 @@ name_lost : (s : Section) (n : ℕ) (j : Data) → ((m : ℕ) → object_at (wit
 name_lost s n j is = record {
   changed = is;
   equal = λ m d there off. is m ∙ (ap (option_map (without_name (number_text n))) there ∙ ap Some (without_none (number_text n) d off));
-  members = λ m d there.
-      let p = mapped (without_name (number_text n)) (object_at j s m) d (sym (is m) ∙ there) in
-      (p.0, p.1, λ k off. ap (get k) p.2 ∙ member_same (number_text n) p.0 k (neither _ _ off).0);
+  texts = λ m was d there now.
+      let made : without_name (number_text n) was ≡ d = some_same _ d (sym (is m ∙ ap (option_map (without_name (number_text n))) there) ∙ now) in
+      rw (← made) (ap texts_of (get_changed (codes "keyslots") (in_array (drop_text (number_text n))) was) ∙ dropped_texts (number_text n) (get (codes "keyslots") was));
 }
 
+members_kept : (n : ℕ) (d : Data) → KeepsOthers (codes "keyslots" ∷ []) d (without_name (number_text n) d)
+members_kept n d k off = member_same (number_text n) d k (neither _ _ off).0
+
 -- all that isn't the keyslot or its name is as it was
-pub slot_lost : (n : ℕ) (j : Data) → LosesSlot n j (without_slot n j)
-slot_lost n j = record {
-  gone = slot_gone n j;
+rest_left : (n : ℕ) (j : Data) → KeepsRest n j (without_slot n j)
+rest_left n j = record {
   keyslots = slot_same n j;
-  digests = name_lost Digests n j (digest_is n j);
-  tokens = name_lost Tokens n j (token_is n j);
+  naming = λ m k other. (naming_kept n m k j other, naming_back n m k j other);
+  digests = objects_edited (codes "keyslots" ∷ []) Digests j (without_slot n j) (without_name (number_text n)) (members_kept n) (digest_is n j);
+  tokens = objects_edited (codes "keyslots" ∷ []) Tokens j (without_slot n j) (without_name (number_text n)) (members_kept n) (token_is n j);
   segments = segments_same n j;
   config = config_same n j;
   others = other_section n j;
-  naming = λ m k other. (naming_kept n m k j other, naming_back n m k j other);
+}
+
+-- what the value without the keyslot has lost
+pub slot_lost : (n : ℕ) (j : Data) → LosesSlot n j (without_slot n j)
+slot_lost n j = record {
+  gone = slot_gone n j;
+  digests = name_lost Digests n j (digest_is n j);
+  tokens = name_lost Tokens n j (token_is n j);
+  rest = rest_left n j;
 }

@@ -1,5 +1,5 @@
 -- There is room for a keyslot that is made with the members of another.
-use Rattle.std.proofs.Common.{◌≡◌, ℕ, ◌*◌, ◌<◌, ◌≤◌, ◌^◌, codes, length, refl, sym, ◌∙◌, arith}
+use Rattle.std.proofs.Common.{◌≡◌, ℕ, ◌*◌, ◌≤◌, codes, length, refl, sym, ◌∙◌, arith}
 use Rattle.serde_json.specs.Data.{Data}
 use Rattle.luks_area.specs.Sectors.{rounded_to_sectors}
 use Rattle.luks_rules.specs.declared.table.Outer.TheVariants as outer
@@ -14,11 +14,7 @@ use Rattle.luks_making.specs.With.{IsAdded}
 use Rattle.luks_making.proofs.AdditionFacts.{held_with, slot_gained}
 use Rattle.luks_making.proofs.FreeNumberFacts.{unnamed_free}
 use Rattle.luks_making.proofs.MemberFacts.{some_same}
-use Rattle.luks_making.proofs.ReadingFacts.{TextsSay, bytes_are, decimal_is, in_between, number_is}
-
--- the most that 32 bits hold
-below_32 : (n : ℕ) → 1 ≤ n → n < 2 ^ 32 → Between 1 4294967295 n
-below_32 n one small = record { from = one; to = omega (arith, small) }
+use Rattle.luks_making.proofs.ReadingFacts.{TextsSay, below_32, bytes_are, decimal_is, in_between, number_is}
 
 -- its members are ones that their rows read
 fits_slot : (d : Data) (f : NewMembers) (s : SlotMembers) → IsMadeFrom d f s → FitsNew f → 1 ≤ f.iterations → Between 1 128 (length f.salt) → FitsSlot s

@@ -7,4 +7,5 @@ pub mod Changed
 pub mod Formatted
 pub mod Conditions
 pub mod Unchanged
+pub mod NewVolumes
 pub mod WrittenArea

@@ -1,6 +1,6 @@
 -- What an edit of the metadata keeps as it was, and what it changes.
-use Rattle.std.specs.Prelude.{◌≡◌, ◌≢◌, ◌↔◌, ℕ, List, [], ◌∷◌, codes, false, None, Some, option_map}
-use Rattle.std.specs.List.{list_any}
+use Rattle.std.specs.Prelude.{◌≡◌, ◌≢◌, ◌↔◌, ℕ, List, [], ◌∷◌, ◌++◌, not, codes, false, None, Some, option_map}
+use Rattle.std.specs.List.{filter, list_any}
 use Rattle.std.specs.Str.{bytes_eq}
 use Rattle.serde_json.specs.Data.{Data}
 use Rattle.serde_json.specs.Find.{get}
@@ -10,59 +10,78 @@ use Rattle.luks_rules.specs.declared.table.Section.{Section}
 use Rattle.luks_rules.specs.declared.table.Section.TheVariants.{Config, Digests, Keyslots, Segments, Tokens}
 use Rattle.luks_rules.specs.declared.table.Outer.TheVariants as outer
 use Rattle.luks_rules.specs.declared.table.Member.TheVariants as name
+use Rattle.luks_rules.specs.Accepted.{HasObject}
 use Rattle.luks_rules.specs.Faults.{member_at, object_at, section_at, type_at}
-use Rattle.luks_rules.specs.Reading.{bytes_in, decimal_in, number_in, text_of}
-use Rattle.luks_making.specs.Keyslots.{SlotMembers, slot_value}
+use Rattle.luks_rules.specs.Reading.{bytes_in, decimal_in, number_in, text_of, texts_of}
+use Rattle.luks_rules.specs.Sizes.{inside_at}
+use Rattle.luks_making.specs.Changed.{renewed_slot}
+use Rattle.luks_making.specs.Keyslots.{NewMembers, SlotMembers, slot_value}
 use Rattle.luks_making.specs.Naming.{IsDigestOf}
 use Rattle.luks_making.specs.With.{with_name}
 use Rattle.luks_making.specs.Without.{without_name}
 
 -- the members of the value are as they were, but for those of the names
 abbrev pub KeepsOthers : List (List ℕ) → Data → Data → Type 0
-KeepsOthers names old new = (k : List ℕ) → list_any (bytes_eq k) names ≡ false → get k new ≡ get k old
+KeepsOthers names old new =
+    (k : List ℕ) → list_any (bytes_eq k) names ≡ false → get k new ≡ get k old
+
+-- the section has the objects that it had, and their members are as they were, but for those of the
+-- names
+pub record KeepsObjects (names : List (List ℕ)) (s : Section) (old new : Data) : Type 0 where
+  pub there : (m : ℕ) (was : Data) → object_at old s m ≡ Some was
+      → (d : Data) × (object_at new s m ≡ Some d) × KeepsOthers names was d
+  pub back : (m : ℕ) (d : Data) → object_at new s m ≡ Some d
+      → (was : Data) × (object_at old s m ≡ Some was) × KeepsOthers names was d
+
+-- ---- what each edit of the keyslot `n` keeps
+
+-- the other keyslots, what names them, and all but the digests' and tokens' arrays of keyslots
+pub record KeepsRest (n : ℕ) (old new : Data) : Type 0 where
+  pub keyslots : (m : ℕ) → m ≢ n → object_at new Keyslots m ≡ object_at old Keyslots m
+  pub naming : (m k : ℕ) → m ≢ n → IsDigestOf old m k ↔ IsDigestOf new m k
+  pub digests : KeepsObjects (codes "keyslots" ∷ []) Digests old new
+  pub tokens : KeepsObjects (codes "keyslots" ∷ []) Tokens old new
+  pub segments : section_at new Segments ≡ section_at old Segments
+  pub config : section_at new Config ≡ section_at old Config
+  pub others : KeepsOthers (codes "digests" ∷ codes "keyslots" ∷ codes "tokens" ∷ []) old new
 
 -- ---- a value without a keyslot
 
--- each object of the section is as it was, without the name of the keyslot `n` in its array: it is
--- equal where it doesn't have the name, and so are its other members where it does
+-- each object of the section loses the name of the keyslot `n` from its array; it is equal where it
+-- doesn't have the name
 pub record LosesName (s : Section) (n : ℕ) (old new : Data) : Type 0 where
   pub changed : (m : ℕ)
       → object_at new s m ≡ option_map (without_name (number_text n)) (object_at old s m)
   pub equal : (m : ℕ) (d : Data) → object_at old s m ≡ Some d
       → names (number_text n) (get (codes "keyslots") d) ≡ false → object_at new s m ≡ Some d
-  pub members : (m : ℕ) (d : Data) → object_at new s m ≡ Some d
-      → (was : Data) × (object_at old s m ≡ Some was) × KeepsOthers (codes "keyslots" ∷ []) was d
+  pub texts : (m : ℕ) (was d : Data) → object_at old s m ≡ Some was → object_at new s m ≡ Some d
+      → texts_of (get (codes "keyslots") d)
+      ≡ option_map (filter (λ t. not (bytes_eq t (number_text n))))
+      (texts_of (get (codes "keyslots") was))
 
 -- the value `new` is `old` without the keyslot `n` and its name
 pub record LosesSlot (n : ℕ) (old new : Data) : Type 0 where
   pub gone : object_at new Keyslots n ≡ None
-  pub keyslots : (m : ℕ) → m ≢ n → object_at new Keyslots m ≡ object_at old Keyslots m
   pub digests : LosesName Digests n old new
   pub tokens : LosesName Tokens n old new
-  pub segments : section_at new Segments ≡ section_at old Segments
-  pub config : section_at new Config ≡ section_at old Config
-  pub others : KeepsOthers (codes "digests" ∷ codes "keyslots" ∷ codes "tokens" ∷ []) old new
-  -- the digest that names another keyslot is the same
-  pub naming : (m k : ℕ) → m ≢ n → IsDigestOf old m k ↔ IsDigestOf new m k
+  pub rest : KeepsRest n old new
 
 -- ---- a value with one more keyslot
 
--- the value `new` is `old` with the keyslot `n` of the members `s`, and its name in the digest `m`
+-- the value `new` is `old` with the keyslot `n` of the members `s`, and its name in the digest `m`,
+-- the one that names it
 pub record GainsSlot (n m : ℕ) (s : SlotMembers) (old new : Data) : Type 0 where
   pub there : object_at new Keyslots n ≡ Some (slot_value s)
-  pub keyslots : (k : ℕ) → k ≢ n → object_at new Keyslots k ≡ object_at old Keyslots k
-  pub digest : object_at new Digests m
-      ≡ option_map (with_name (number_text n)) (object_at old Digests m)
-  pub digests : (k : ℕ) → k ≢ m → object_at new Digests k ≡ object_at old Digests k
-  pub segments : section_at new Segments ≡ section_at old Segments
-  pub tokens : section_at new Tokens ≡ section_at old Tokens
-  pub config : section_at new Config ≡ section_at old Config
-  pub others : KeepsOthers (codes "digests" ∷ codes "keyslots" ∷ []) old new
-  -- the digest `m` names the keyslot, and no other does
   pub names : IsDigestOf new n m
   pub once : naming_count (codes "keyslots") (number_text n) (section_at new Digests) ≡ 1
-  -- the digest that names another keyslot is the same
-  pub naming : (i k : ℕ) → i ≢ n → IsDigestOf old i k ↔ IsDigestOf new i k
+  pub digest : object_at new Digests m
+      ≡ option_map (with_name (number_text n)) (object_at old Digests m)
+  pub texts : (was d : Data) → object_at old Digests m ≡ Some was → object_at new Digests m ≡ Some d
+      → texts_of (get (codes "keyslots") d)
+      ≡ option_map (λ ts. ts ++ number_text n ∷ []) (texts_of (get (codes "keyslots") was))
+  pub digests : (k : ℕ) → k ≢ m → object_at new Digests k ≡ object_at old Digests k
+  pub tokens : section_at new Tokens ≡ section_at old Tokens
+  pub rest : KeepsRest n old new
 
 -- the keyslot `d` says the members, and has no priority
 pub record SaysMembers (s : SlotMembers) (d : Data) : Type 0 where
@@ -82,3 +101,29 @@ pub record SaysMembers (s : SlotMembers) (d : Data) : Type 0 where
   pub iterations : number_in 1 4294967295 (member_at d outer.Kdf name.Iterations)
       ≡ Some s.iterations
   pub salt : bytes_in 1 128 (member_at d outer.Kdf name.Salt) ≡ Some s.salt
+
+-- ---- a value with a changed keyslot
+
+-- the keyslot `d` is `was` with new iterations, salt and area
+pub record SaysNew (f : NewMembers) (was d : Data) : Type 0 where
+  pub iterations : number_in 1 4294967295 (member_at d outer.Kdf name.Iterations)
+      ≡ Some f.iterations
+  pub salt : bytes_in 1 128 (member_at d outer.Kdf name.Salt) ≡ Some f.salt
+  pub offset : decimal_in (member_at d outer.Area name.Offset) ≡ Some f.offset
+  pub size : decimal_in (member_at d outer.Area name.Size) ≡ Some f.size
+  pub members : KeepsOthers (codes "area" ∷ codes "kdf" ∷ []) was d
+  pub area : (k : List ℕ) → list_any (bytes_eq k) (codes "offset" ∷ codes "size" ∷ []) ≡ false
+      → inside_at outer.Area k d ≡ inside_at outer.Area k was
+  pub kdf : (k : List ℕ) → list_any (bytes_eq k) (codes "iterations" ∷ codes "salt" ∷ []) ≡ false
+      → inside_at outer.Kdf k d ≡ inside_at outer.Kdf k was
+
+-- the value `new` is `old` with what is new in the keyslot `n`
+pub record ChangesSlot (n : ℕ) (f : NewMembers) (old new : Data) : Type 0 where
+  pub was : Data
+  pub there : HasObject old Keyslots n was
+  pub is : object_at new Keyslots n ≡ Some (renewed_slot f was)
+  pub says : SaysNew f was (renewed_slot f was)
+  pub sections : KeepsOthers (codes "keyslots" ∷ []) old new
+  -- the digest that names a keyslot is the same, of the changed keyslot too
+  pub naming : (m k : ℕ) → IsDigestOf old m k ↔ IsDigestOf new m k
+  pub rest : KeepsRest n old new

@@ -1,16 +1,25 @@
 //! Laws on the definitions of this crate. Each function does nothing; its contract is the law.
 
-ghost use Rattle.std.specs.Prelude.{ℕ};
+ghost use Rattle.std.specs.Prelude.{◌≡◌, ℕ};
 ghost use Rattle.serde_json.specs.Data.{Data};
+ghost use Rattle.luks_json.specs.Number.{number_text};
 ghost use Rattle.luks_rules.specs.Held.{IsHeld};
-ghost use Rattle.luks_making.specs.Conditions.{CanSeal, FitsNew, FitsSlot, IsFree, IsRoom};
-ghost use Rattle.luks_making.specs.Unchanged.{GainsSlot, LosesSlot, SaysMembers};
+ghost use Rattle.luks_making.specs.Changed.{changed_slot};
+ghost use Rattle.luks_making.specs.Conditions.{CanFormat, CanSeal, FitsNew, FitsSlot, FitsVolume, IsFree, IsRoom};
+ghost use Rattle.luks_making.specs.Formatted.{VolumeMembers, formatted};
+ghost use Rattle.luks_making.specs.NewVolumes.{SaysVolume};
+ghost use Rattle.luks_making.specs.Unchanged.{ChangesSlot, GainsSlot, LosesSlot, SaysMembers};
 ghost use Rattle.luks_making.specs.Keyslots.{NewMembers, SlotMembers, slot_value};
 ghost use Rattle.luks_making.specs.Naming.{HasUniqueDigests};
 ghost use Rattle.luks_making.specs.With.{IsAdded, with_slot};
 ghost use Rattle.luks_making.specs.Without.{without_slot};
 
 use luks_json::{decimals_say_numbers, encodings_say_bytes, names_say_numbers};
+
+/// A name is that of one number alone.
+pub fn names_are_apart()
+    ensures { (m n : ℕ) → number_text m ≡ number_text n → m ≡ n }
+{}
 
 /// Metadata without a keyslot meets every rule that it met, and all else is as it was but for the
 /// keyslot's name, which its digest and the tokens lose.
@@ -45,6 +54,32 @@ pub fn made_keyslot_has_room()
     ensures rest { (len to by : ℕ) (f : NewMembers) (old new : Data) → IsHeld len old
         → HasUniqueDigests old → IsFree old to → CanSeal len old by f → FitsNew f
         → (a : IsAdded to by f old new) → GainsSlot to a.digest a.slot old new }
+{
+    decimals_say_numbers();
+    encodings_say_bytes();
+    names_say_numbers();
+}
+
+/// Metadata with a changed keyslot meets every rule that it met, where what is new suits the
+/// keyslot, and all but its iterations, its salt and its area's place and length is as it was.
+pub fn change_keeps_the_rest()
+    ensures held { (len n : ℕ) (f : NewMembers) (j : Data) → IsHeld len j → CanSeal len j n f
+        → FitsNew f → IsHeld len (changed_slot n f j) }
+    ensures rest { (len n : ℕ) (f : NewMembers) (j : Data) → IsHeld len j → CanSeal len j n f
+        → FitsNew f → ChangesSlot n f j (changed_slot n f j) }
+{
+    decimals_say_numbers();
+    encodings_say_bytes();
+    names_say_numbers();
+}
+
+/// The metadata of a new volume meets every rule, and says one keyslot, one digest that names it,
+/// and one segment.
+pub fn new_volume_is_accepted()
+    ensures held { (v : VolumeMembers) → FitsVolume v → CanFormat v
+        → IsHeld 12288 (formatted v) }
+    ensures says { (v : VolumeMembers) → FitsVolume v → CanFormat v
+        → SaysVolume v (formatted v) }
 {
     decimals_say_numbers();
     encodings_say_bytes();

@@ -1,8 +1,10 @@
 //! A keyslot that is made, and what is new of one.
 
 ghost use Rattle.std.specs.Prelude.{◌≡◌, string_bytes, IfOk};
+ghost use Rattle.base64.specs.GeneralPurpose.{IsBytes};
 ghost use Rattle.serde_json.specs.View.{view};
-ghost use Rattle.luks_making.specs.Keyslots.{area_value, base64_text, kdf_value, slot_members, slot_value, splitter_value};
+ghost use Rattle.luks_making.specs.Keyslots.{area_value, base64_text, kdf_value, new_members, slot_members, slot_value, splitter_value};
+ghost use Rattle.luks_making.specs.Conditions.{FitsNew};
 
 use base64::engine::general_purpose::STANDARD;
 use serde_json::{Value, json};
@@ -45,6 +47,24 @@ pub struct NewKeyslot<'a> {
     /// The derivation's salt.
     pub salt: &'a [u8],
 }
+
+/// What is new has the ranges of its types. The function does nothing; its contract is the law.
+pub fn new_fits(new: &New<'_>)
+    ensures { FitsNew (new_members new.now) }
+{
+    let New {
+        iterations,
+        salt,
+        offset,
+        size,
+    } = *new;
+    are_bytes(salt);
+}
+
+/// What a slice of bytes has is bytes.
+pub(crate) fn are_bytes(bytes: &[u8])
+    ensures { IsBytes bytes.now }
+{}
 
 /// The bytes in base64, padded (RFC 4648, section 4).
 pub(crate) fn base64_text(alloc: Global, bytes: &[u8]) -> Result<String, AllocError>

@@ -2,10 +2,13 @@
 
 ghost use Rattle.std.specs.Prelude.{◌≡◌, IfOk};
 ghost use Rattle.serde_json.specs.View.{view};
+ghost use Rattle.luks_rules.specs.Held.{IsHeld};
 ghost use Rattle.luks_making.specs.Keyslots.{slot_value};
-ghost use Rattle.luks_making.specs.Formatted.{config_value, digest_value, first_slot, formatted, segment_value, sole, volume_members};
+ghost use Rattle.luks_making.specs.Conditions.{CanFormat, FitsVolume};
+ghost use Rattle.luks_making.specs.Formatted.{VolumeMembers, config_value, digest_value, first_slot, formatted, segment_value, sole, volume_members};
 
-use crate::new_keyslot::{NewKeyslot, base64_text, slot_value};
+use crate::new_keyslot::{NewKeyslot, are_bytes, base64_text, slot_value};
+use luks_json::{decimals_say_numbers, encodings_say_bytes, names_say_numbers};
 use serde_json::{Value, json};
 use std::alloc::{AllocError, Global};
 
@@ -24,6 +27,24 @@ pub struct NewVolume<'a> {
     pub digest: &'a [u8],
     /// The keyslot's salt.
     pub slot_salt: &'a [u8],
+}
+
+/// What a new volume says has the ranges of its types. The function does nothing; its contract is
+/// the law.
+pub fn volume_fits(volume: &NewVolume<'_>)
+    ensures { FitsVolume (volume_members volume.now) }
+{
+    let NewVolume {
+        hash,
+        iterations,
+        segment_offset,
+        digest_salt,
+        digest,
+        slot_salt,
+    } = *volume;
+    are_bytes(digest_salt);
+    are_bytes(digest);
+    are_bytes(slot_salt);
 }
 
 fn config_value(alloc: Global) -> Result<Value, AllocError>

@@ -4,3 +4,5 @@ pub mod Listed
 pub mod ObjectsRead
 pub mod Requiring
 pub mod Namings
+mod KeyslotsMade
+mod RecordFacts

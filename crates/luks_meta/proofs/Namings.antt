@@ -19,7 +19,7 @@ use Rattle.luks_json.specs.Number.{number_of, number_text}
 use Rattle.luks_json.specs.Arrays.{all_named, names, naming_members, naming_count}
 use Rattle.luks_rules.specs.Faults.{object_at, section_at, is_section}
 use Rattle.luks_rules.specs.Accepted.{IsContent, IsMeta, HasObject}
-use Rattle.luks_meta.specs.Naming.{IsDigestOf, first_naming, IsUnique}
+use Rattle.luks_meta.specs.Naming.{HasUniqueDigests, IsDigestOf, first_naming, IsUnique}
 
 -- ---- names that ascend are unique
 
@@ -224,3 +224,8 @@ one_naming told area j is n m k d e =
     let a = first_names told (length area) j c p.0 p.1 n m d in
     let b = first_names told (length area) j c p.0 p.1 n k e in
     some_same m k (sym a ∙ b)
+
+-- where a digest was looked for, each digest's name stands once
+pub all_unique : (j : Data) (ms : Members) (r : Option ℕ) → option_and_then as_object (section_at j Digests) ≡ Some ms → IsUnique ms → IfSome r (λ _. HasUniqueDigests j)
+all_unique j ms None is alone = tt
+all_unique j ms (Some m) is alone = λ other same. subst IsUnique (some_same ms other (sym is ∙ same)) alone

@@ -4,7 +4,7 @@ ghost use Rattle.std.specs.Prelude.{◌≡◌, ℕ, ◌<◌, true, Some, is_some
 ghost use Rattle.serde_json.specs.Find.{as_object};
 ghost use Rattle.serde_json.specs.View.{view, members_view};
 ghost use Rattle.luks_rules.specs.Faults.{object_at, section_at};
-ghost use Rattle.luks_meta.specs.Naming.{IsDigestOf, IsUnique, first_naming};
+ghost use Rattle.luks_meta.specs.Naming.{HasUniqueDigests, IsDigestOf, IsUnique, first_naming};
 ghost use Rattle.luks_meta.specs.Objects.{IsAccepted};
 
 use crate::objects::numbered;
@@ -18,6 +18,7 @@ pub(crate) fn digest_of_keyslot(value: &Value, number: u8) -> Option<u8>
     ensures some { IfSome result (IsDigestOf (view value.now) number) }
     ensures only { (m : ℕ) → IsDigestOf (view value.now) number m → result ≡ Some m }
     ensures there { number < 32 → is_some (object_at (view value.now) Section.Keyslots number) ≡ true → IsSome result }
+    ensures unique { IfSome result (λ _. HasUniqueDigests (view value.now)) }
 {
     names_say_numbers();
     match numbered(value, Section::Keyslots, number) {

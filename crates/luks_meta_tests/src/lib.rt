@@ -6,6 +6,8 @@ mod areas;
 #[cfg(test)]
 mod made;
 #[cfg(test)]
+mod making;
+#[cfg(test)]
 mod members;
 #[cfg(test)]
 mod objects;

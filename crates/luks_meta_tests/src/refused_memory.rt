@@ -1,7 +1,13 @@
 //! Refused memory.
-use crate::rows::{AREA, PLAIN, area_of};
-use luks_meta::{Meta, MetaFault};
+
+ghost use Rattle.std.specs.Prelude.{◌≡◌};
+ghost use Rattle.luks_meta.specs.Content.{area_len};
+
+use crate::making::{Maker, made};
+use crate::rows::{AREA, PLAIN, area_of, read};
+use luks_meta::{Meta, MetaFault, NewVolume};
 use std::alloc::{AllocError, Global};
+use std::process::Abort;
 use std::test::Fail;
 
 /// Takes what memory there is into `held`, in blocks from 2^46 bytes down to 256.
@@ -22,12 +28,20 @@ fn take_all(alloc: Global, held: &mut Vec<Vec<u8>>) {
     }
 }
 
-/// How reading ended.
+/// How the work ended.
 #[derive(Debug, Clone, Copy, PartialEq, Eq)]
 enum End {
     Done,
     Memory,
     Other,
+}
+
+/// What is done with little memory.
+#[derive(Debug, Clone, Copy)]
+enum Work {
+    Read,
+    Make(Maker),
+    Form,
 }
 
 /// The text of what is read.
@@ -36,26 +50,67 @@ fn text_of(alloc: Global, area: &[u8]) -> Result<String, MetaFault> {
     meta.text(alloc).map_err(|_| MetaFault::Memory)
 }
 
-/// How reading the area and writing its text ends.
-fn end_of(alloc: Global, area: &[u8]) -> End {
-    match text_of(alloc, area) {
-        Ok(text) => {
-            if text.as_str() == PLAIN {
-                End::Done
-            } else {
-                End::Other
-            }
-        }
+fn formed(alloc: Global) -> Result<Meta, AllocError> {
+    let volume = NewVolume {
+        hash: "sha1",
+        iterations: 1000,
+        segment_offset: 0,
+        digest_salt: &[0x11; 32],
+        digest: &[0x33; 20],
+        slot_salt: &[0x22; 32],
+    };
+    Meta::formatted(alloc, &volume)
+}
+
+/// The text that stands in the area that is written; none where it isn't the metadata's.
+fn text_in_area(alloc: Global, meta: &Meta) -> Result<Option<String>, AllocError> {
+    let text = meta.text(alloc)?;
+    match meta.area(alloc)? {
+        Some(area) if area.as_slice().starts_with(text.as_bytes()) => Ok(Some(text)),
+        _ => Ok(None),
+    }
+}
+
+/// The text that the work gives of this metadata, or of this area; none where it can't be asked for.
+fn text_after(
+    alloc: Global,
+    work: Work,
+    area: &[u8],
+    meta: &Meta,
+) -> Result<Option<String>, MetaFault>
+    requires { area_len meta.now ≡ 12288 }
+{
+    let after = match work {
+        Work::Read => return Ok(Some(text_of(alloc, area)?)),
+        Work::Form => formed(alloc).map(Some),
+        Work::Make(maker) => made(alloc, meta, maker),
+    };
+    match after {
+        Ok(Some(after)) => text_in_area(alloc, &after).map_err(|_| MetaFault::Memory),
+        Ok(None) => Ok(None),
+        Err(_) => Err(MetaFault::Memory),
+    }
+}
+
+/// How the work ends, beside the text that it gives where there is memory.
+fn end_of(alloc: Global, work: Work, area: &[u8], meta: &Meta, want: &str) -> End
+    requires { area_len meta.now ≡ 12288 }
+{
+    match text_after(alloc, work, area, meta) {
+        Ok(Some(text)) if text.as_str() == want => End::Done,
+        Ok(_) => End::Other,
         Err(MetaFault::Memory) => End::Memory,
         Err(_) => End::Other,
     }
 }
 
-// With all memory taken, and given back in blocks of 256 bytes, reading is refused memory at one
+// With all memory taken, and given back in blocks of 256 bytes, the work is refused memory at one
 // place after another. Nothing else is answered until it is done. The allocator of `rt try` can't be
 // exhausted so.
-fn ends_with_little_memory(alloc: Global) -> Result<(End, usize), AllocError> {
+fn ends_with_little_memory(alloc: Global, work: Work) -> Result<(End, usize), Fail> {
     let area = area_of(alloc, PLAIN.as_bytes(), AREA)?;
+    let meta = read(alloc, PLAIN)?;
+    let want = text_after(alloc, work, area.as_slice(), &meta)?.ok_or("nothing is made")?;
     let mut held = Vec::with_capacity(alloc, 1 << 20)?;
     let mut blocks: Vec<Vec<u8>> = Vec::with_capacity(alloc, 1024)?;
     for _ in 0..1024 {
@@ -64,7 +119,7 @@ fn ends_with_little_memory(alloc: Global) -> Result<(End, usize), AllocError> {
     take_all(alloc, &mut held);
     let mut end = End::Memory;
     for _ in 0..1024 {
-        end = end_of(alloc, area.as_slice());
+        end = end_of(alloc, work, area.as_slice(), &meta, want.as_str());
         if end != End::Memory {
             break;
         }
@@ -75,10 +130,26 @@ fn ends_with_little_memory(alloc: Global) -> Result<(End, usize), AllocError> {
     Ok((end, left))
 }
 
+fn compare(rt: &impl Abort, alloc: Global, work: Work) -> Result<(), Fail> {
+    let (end, left) = ends_with_little_memory(alloc, work)?;
+    assert!(rt; end == End::Done, "the end of {work:?}");
+    assert!(rt; left < 1023, "{left} blocks left after {work:?}");
+    Ok(())
+}
+
 #[test]
 fn tells_refused_memory(rt: HostRuntime) -> Result<(), Fail> {
-    let (end, left) = ends_with_little_memory(rt.alloc())?;
-    assert!(rt; end == End::Done, "the end");
-    assert!(rt; left < 1023, "{left} blocks left");
-    Ok(())
+    compare(&rt, rt.alloc(), Work::Read)
+}
+
+#[test]
+fn makers_tell_refused_memory(rt: HostRuntime) -> Result<(), Fail> {
+    for maker in [
+        Maker::Add { to: 7, by_: 0 },
+        Maker::Change(0),
+        Maker::Remove(0),
+    ] {
+        compare(&rt, rt.alloc(), Work::Make(maker))?;
+    }
+    compare(&rt, rt.alloc(), Work::Form)
 }

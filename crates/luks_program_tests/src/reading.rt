@@ -2,9 +2,9 @@
 //! larger than any memory.
 ghost use Rattle.std.specs.Prelude.{◌<◌, ◌^◌};
 
-use crate::images::{copy_of, luks2, opening_luks1, opening_luks2, put, zeros_luks2};
+use crate::images::{Fields, copy_of, luks2, opening_luks1, opening_luks2, put, zeros_luks2};
 use crate::keys::key_area;
-use crate::metadata::ZEROS;
+use crate::metadata::{Edit, THREE, ZEROS, edited};
 use crate::open_luks2::OF_4000_STRIPES;
 use crate::printing::{CHECK, DETACHED, OPEN, OPEN_0, prints};
 use luks_area::DeviceFault;
@@ -21,7 +21,7 @@ const DISK: u64 = 1099511627776;
 const PAYLOAD: usize = 16777216;
 
 /// A disk that holds an image at its front. Each read that isn't within one of two ranges fails, and
-/// so does each that reaches past the image.
+/// so does each that reaches past the image, or that takes more bytes than may yet be read.
 #[derive(Debug, Drop)]
 struct Disk {
     front: MemDevice,
@@ -30,6 +30,8 @@ struct Disk {
     header: u64,
     /// Where the keyslot's area begins and ends: what lies in it may be read.
     area: (u64, u64),
+    /// How many bytes may yet be read.
+    left: u64,
     failures: u64,
     ghost fits: { len < 2 ^ 64 },
 }
@@ -37,7 +39,7 @@ struct Disk {
 impl Disk {
     ghost use Rattle.std.specs.Prelude.{◌≡◌};
 
-    fn new(image: Vec<u8>, header: u64, area: (u64, u64)) -> Self
+    fn new(image: Vec<u8>, header: u64, area: (u64, u64), left: u64) -> Self
         ensures { result.failures ≡ 0 }
     {
         Disk {
@@ -45,6 +47,7 @@ impl Disk {
             len: DISK,
             header,
             area,
+            left,
             failures: 0,
         }
     }
@@ -75,10 +78,12 @@ impl Device for Disk {
 
     fn read_at(&mut self, at: u64, into: &mut [u8]) -> Result<(), DeviceFault> {
         let end = at + into.len() as u64;
-        if !self.may_read(at, end) || end > self.front.len() {
+        let len = into.len() as u64;
+        if !self.may_read(at, end) || end > self.front.len() || len > self.left {
             self.failures += 1;
             return Err(DeviceFault);
         }
+        self.left -= len;
         self.front.read_at(at, into)
     }
 
@@ -102,6 +107,8 @@ impl Device for Disk {
 struct Row<'a> {
     header: u64,
     area: (u64, u64),
+    /// How many bytes may be read in all.
+    most: u64,
     words: &'a [&'a str],
     want: &'a str,
     status: u8,
@@ -109,7 +116,12 @@ struct Row<'a> {
 
 /// The words over the disk.
 fn compare(rt: &impl Abort, alloc: Global, image: &[u8], row: &Row<'_>) -> Result<(), Fail> {
-    let disk: Result<Disk, InputFault> = Ok(Disk::new(image.to_vec(alloc)?, row.header, row.area));
+    let disk: Result<Disk, InputFault> = Ok(Disk::new(
+        image.to_vec(alloc)?,
+        row.header,
+        row.area,
+        row.most,
+    ));
     let want = row.want;
     let passphrase = Ok(b"one".as_slice());
     assert!(rt;
@@ -124,6 +136,7 @@ const OF_LUKS1: [Row; 4] = [
     Row {
         header: 592,
         area: (0, 0),
+        most: 592,
         words: CHECK,
         want: "accepted luks1 areas 10\n",
         status: 0,
@@ -131,6 +144,7 @@ const OF_LUKS1: [Row; 4] = [
     Row {
         header: 592,
         area: (4096, 4608),
+        most: 1104,
         words: OPEN_0,
         want: "slot 0 opens\n",
         status: 0,
@@ -138,6 +152,7 @@ const OF_LUKS1: [Row; 4] = [
     Row {
         header: 592,
         area: (4096, 4608),
+        most: 1104,
         words: OPEN,
         want: "slot 0 opens\n",
         status: 0,
@@ -145,6 +160,7 @@ const OF_LUKS1: [Row; 4] = [
     Row {
         header: 591,
         area: (0, 0),
+        most: 592,
         words: CHECK,
         want: "device fault\n",
         status: 4,
@@ -160,18 +176,28 @@ fn luks1_volumes(rt: HostRuntime) -> Result<(), Fail> {
     Ok(())
 }
 
-/// Of LUKS2 both copies, and in opening the one sector of the keyslot's area in use.
-const OF_LUKS2: [Row; 3] = [
+/// Of LUKS2 both copies, each byte once, and in opening the one sector of the keyslot's area in use.
+const OF_LUKS2: [Row; 4] = [
     Row {
         header: 32768,
         area: (0, 0),
+        most: 32768,
         words: DETACHED,
         want: "accepted luks2 in-step seqid 1 areas 5\n",
         status: 0,
     },
     Row {
         header: 32768,
+        area: (0, 0),
+        most: 32767,
+        words: DETACHED,
+        want: "device fault\n",
+        status: 4,
+    },
+    Row {
+        header: 32768,
         area: (32768, 33280),
+        most: 33280,
         words: OPEN_0,
         want: "slot 0 opens\n",
         status: 0,
@@ -179,6 +205,7 @@ const OF_LUKS2: [Row; 3] = [
     Row {
         header: 32768,
         area: (32768, 33279),
+        most: 33280,
         words: OPEN_0,
         want: "device fault\n",
         status: 4,
@@ -194,6 +221,34 @@ fn luks2_volumes(rt: HostRuntime) -> Result<(), Fail> {
     Ok(())
 }
 
+/// The metadata in a header of 32768 bytes: its JSON area, and keyslots behind both copies.
+const LARGER: [Edit; 4] = [
+    ("12288", "28672"),
+    ("32768", "65536"),
+    ("36864", "69632"),
+    ("40960", "73728"),
+];
+
+// Of a larger header the JSON area that counts is read once more, when it is known to count.
+#[test]
+fn larger_header(rt: HostRuntime) -> Result<(), Fail> {
+    let text = edited(rt.alloc(), THREE, &LARGER)?;
+    let copy = Fields {
+        size: 32768,
+        ..copy_of(text.as_str())
+    };
+    let image = luks2(rt.alloc(), &copy, &copy, 65536)?;
+    let row = Row {
+        header: 65536,
+        area: (0, 0),
+        most: 65536 + 28672,
+        words: DETACHED,
+        want: "accepted luks2 in-step seqid 1 areas 5\n",
+        status: 0,
+    };
+    compare(&rt, rt.alloc(), &image, &row)
+}
+
 // Without a sound first copy the listed places are looked at, and nothing from 8388608 on.
 #[test]
 fn second_copy_alone(rt: HostRuntime) -> Result<(), Fail> {
@@ -203,6 +258,7 @@ fn second_copy_alone(rt: HostRuntime) -> Result<(), Fail> {
     let row = Row {
         header: 8388608,
         area: (0, 0),
+        most: 8388608,
         words: CHECK,
         want: "accepted luks2 second-only seqid 1 areas 4\n",
         status: 3,
@@ -218,6 +274,7 @@ fn payload_is_not_read(rt: HostRuntime) -> Result<(), Fail> {
     let all = Row {
         header: PAYLOAD as u64,
         area: (0, 0),
+        most: 32768,
         words: CHECK,
         want: "accepted luks2 in-step seqid 1 areas 4\n",
         status: 0,
@@ -226,6 +283,7 @@ fn payload_is_not_read(rt: HostRuntime) -> Result<(), Fail> {
     let opening = Row {
         header: 32768,
         area: (32768, 288768),
+        most: 288768,
         words: OPEN_0,
         want: "slot 0 opens\n",
         status: 0,

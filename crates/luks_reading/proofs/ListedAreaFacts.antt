@@ -16,12 +16,6 @@ fit_of es areas total lists fit = record {
   disjoint = λ m n a b gm gn. fit.disjoint m n a b (lists.all m a gm) (lists.all n b gn);
 }
 
-pub listed_fit : (es : List Entry) (areas : AreaName → Area → Type 0) (total : ℕ) → Lists es areas → Fit areas total → Fit (HasArea es) total
-listed_fit es areas total lists fit = record {
-  inside = λ n a g. fit.inside n a (lists.only n a g);
-  disjoint = λ m n a b gm gn. fit.disjoint m n a b (lists.only m a gm) (lists.only n b gn);
-}
-
 fault_of : (es : List Entry) (areas : AreaName → Area → Type 0) (total : ℕ) (f : AreaFault) → Lists es areas
     → IsAreaFault (HasArea es) total f → IsAreaFault areas total f
 fault_of es areas total (Outside n) lists h = (h.0, (lists.only n h.0 h.1.0, h.1.1))

@@ -103,9 +103,6 @@ head-listed h payload total e named start len =
     between (Slot k) a g before = let lt : k < 0 = before.1 refl in absurd (omega (arith, lt))
     between (Segment k) a g before = let low = before.0 in absurd (omega (arith, low))
 
-pub adds-none : (es : List Entry) (d : Luks1) → length es ≡ 1 → ((m : AreaName) (a : Area) → HasArea es m a → IsBefore m (Slot 0)) → AddsSlots es es d 0
-adds-none es d count last = record { count = omega (arith, count); last = last; listed = λ h payload total is from. from }
-
 pub adds-all : (before now : List Entry) (d : Luks1) (n : ℕ) → n ≡ 8 → AddsSlots before now d n → AddsSlots before now d 8
 adds-all before now d n e adds = subst (AddsSlots before now d) e adds
 

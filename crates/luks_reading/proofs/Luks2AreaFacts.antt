@@ -1,5 +1,5 @@
 -- The areas of a LUKS2 volume, added name by name.
-use Rattle.std.proofs.Common.{◌≡◌, ℕ, ◌+◌, ◌<◌, ◌≤◌, List, [], ◌∷◌, ◌++◌, length, codes, Option, Some, None, unwrap_or, option_and_then, ◌⊎◌, inl, inr, refl, subst, sym, ap, ◌∙◌, arith, length-append}
+use Rattle.std.proofs.Common.{◌≡◌, ℕ, ◌+◌, ◌<◌, List, [], ◌∷◌, ◌++◌, length, codes, Option, Some, None, unwrap_or, option_and_then, ◌⊎◌, inl, inr, refl, subst, sym, ap, ◌∙◌, arith, length-append}
 use Rattle.std.proofs.lemmas.Bool.{cases_lt}
 use Rattle.serde_json.specs.Data.{Data as Json}
 use Rattle.serde_json.specs.Find.{get}
@@ -8,7 +8,6 @@ use Rattle.luks_area.specs.declared.area.AreaName.{AreaName}
 use Rattle.luks_area.specs.declared.area.AreaName.TheVariants.{Head1, Head2, Slot, Segment}
 use Rattle.luks_area.specs.declared.areas.Entry.{Entry}
 use Rattle.luks_area.specs.Area.{IsBefore}
-use Rattle.luks_area.specs.Names.{HasArea}
 use Rattle.luks_rules.specs.declared.table.Section.TheVariants.{Keyslots, Segments}
 use Rattle.luks_meta.specs.Faults.{object_at}
 use Rattle.luks_meta.specs.Reading.{Field, object, text, whole, absent, dynamic, bytes, names, decimal_in, extent_of, text_of}
@@ -189,9 +188,6 @@ heads-listed j h payload total first second start1 len1 start2 len2 =
 
 -- ---- the loops over keyslots and segments
 
-pub no_slots : (es : List Entry) (j : Json) → length es ≤ 2 → ((m : AreaName) (a : Area) → HasArea es m a → IsBefore m (Slot 0)) → AddsLuks2Slots es es j 0
-no_slots es j count last = record { count = omega (arith, count); last = last; listed = λ h payload total from. from }
-
 pub adds-slot : (before now : List Entry) (j : Json) (n : ℕ) (a : Area) → n < 32
     → slot_number j n (codes "offset") ≡ Some a.start → slot_number j n (codes "size") ≡ Some a.len
     → AddsLuks2Slots before now j n → AddsLuks2Slots before (now ++ record { name = Slot n; area = a } ∷ []) j (n + 1)
@@ -216,12 +212,6 @@ adds-no_slot before now j n gone adds = let count = adds.count in record {
   listed = λ h payload total from. slot-passed j h payload total n now gone (adds.listed h payload total from);
 }
 
-pub all_slots : (before now : List Entry) (j : Json) (n : ℕ) → n ≡ 32 → AddsLuks2Slots before now j n → AddsLuks2Slots before now j 32
-all_slots before now j n e adds = subst (AddsLuks2Slots before now j) e adds
-
-pub no_segments : (es : List Entry) (j : Json) (total : ℕ) → length es ≤ 34 → ((m : AreaName) (a : Area) → HasArea es m a → IsBefore m (Segment 0)) → AddsSegments es es j total 0
-no_segments es j total count last = record { count = omega (arith, count); last = last; listed = λ h payload here from. from }
-
 pub adds-segment : (before now : List Entry) (j : Json) (total n : ℕ) (a : Area) → n < 32
     → segment_offset j n ≡ Some a.start → HasExtent total a.start a.len (segment_extent j n)
     → AddsSegments before now j total n → AddsSegments before (now ++ record { name = Segment n; area = a } ∷ []) j total (n + 1)
@@ -245,9 +235,6 @@ adds-no_segment before now j total n gone adds = let count = adds.count in recor
   last = λ m b g. segment_wider n m (adds.last m b g);
   listed = λ h payload here from. segment-passed j h payload total n now gone (adds.listed h payload here from);
 }
-
-pub all_segments : (before now : List Entry) (j : Json) (total n : ℕ) → n ≡ 32 → AddsSegments before now j total n → AddsSegments before now j total 32
-all_segments before now j total n e adds = subst (AddsSegments before now j total) e adds
 
 -- what the members of a keyslot's object say of its area
 pub slot_start : (j d : Json) (n start : ℕ) → object_at j Keyslots n ≡ Some d

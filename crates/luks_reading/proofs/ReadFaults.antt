@@ -1,5 +1,5 @@
 -- The first fault of a header that isn't read.
-use Rattle.std.proofs.Common.{◌≡◌, ◌≢◌, ℕ, ◌+◌, ◌-◌, List, ◌↔◌, refl, ap, subst, sym, arith}
+use Rattle.std.proofs.Common.{◌≡◌, ◌≢◌, ℕ, ◌+◌, ◌-◌, List, ◌↔◌, inl, inr, refl, ap, subst, sym, arith}
 use Rattle.serde_json.specs.Data.{Data}
 use Rattle.luks_area.specs.First.{NotAfter, IsLeast}
 use Rattle.luks_area.specs.Ranges.{part}
@@ -9,7 +9,7 @@ use Rattle.luks_head.specs.declared.fault.HeadFault.TheVariants as head
 use Rattle.luks_head.specs.declared.selection.Copies.{Copies}
 use Rattle.luks_head.specs.Faults.{head_key}
 use Rattle.luks_head.specs.Header2.{header_at, uuid_field, HoldsBin2, IsUuidFault, IsUuidField}
-use Rattle.luks_head.specs.Selection.{Choice, luks2, nothing, Chosen, IsOfSelection, IsRefused, IsSelectFault}
+use Rattle.luks_head.specs.Selection.{Choice, luks1, luks2, nothing, Chosen, IsOfSelection, IsRefused, IsSelectFault}
 use Rattle.luks_rules.specs.declared.fault.MetaFault.{MetaFault}
 use Rattle.luks_rules.specs.declared.fault.MetaFault.TheVariants as meta
 use Rattle.luks_meta.specs.Accepted.{IsMeta}
@@ -20,7 +20,7 @@ use Rattle.luks_reading.specs.declared.read_fault.ReadFault.TheVariants.{Head, M
 use Rattle.luks_reading.specs.declared.header.ChosenCopy.{ChosenCopy}
 use Rattle.luks_reading.specs.ChosenCopies.{CopyRefused, IsCleared, IsFromOutside, json_of}
 use Rattle.luks_reading.specs.Conversions.{head_unread, meta_unread}
-use Rattle.luks_reading.specs.Header.{json_at, read_key, IsChosenCopy, IsReadFault, IsReadFaultAs, IsUnread}
+use Rattle.luks_reading.specs.Header.{json_at, read_key, IsChosenCopy, IsReadFault, IsReadFaultAs, IsUnread, NeedsMetadata, TakesNoMemory}
 
 -- ---- the uuid and the metadata of a copy
 
@@ -59,10 +59,6 @@ own_head (head.Stripes n) no_device no_memory = refl
 own_head (head.Iterations o) no_device no_memory = refl
 own_head head.Device no_device no_memory = absurd (no_device refl)
 own_head head.Memory no_device no_memory = absurd (no_memory refl)
-
--- a fault of a uuid is none that stands for something else
-pub uuid_refused : (uuid json : List ℕ) (f : HeadFault) → IsLeast head_key (IsUuidFault uuid) f → CopyRefused uuid json (head_unread f)
-uuid_refused uuid json f x = subst (CopyRefused uuid json) (sym (own_head f (λ e. subst (IsUuidFault uuid) e x.0) (λ e. subst (IsUuidFault uuid) e x.0))) x
 
 -- ---- from what counts of a volume to the volume
 
@@ -161,3 +157,16 @@ cleared_copy uuid metadata v c is = record {
   faultless = (metadata (json_at v c.header.hdr_offset)).1 (content c.meta, is.metadata);
   meta = is.metadata;
 }
+
+-- ---- memory
+
+-- where the metadata of a copy is read, none of the faults before it stands
+pub no_metadata : (v : List ℕ) → ((b d : Choice) → Chosen v b → Chosen v d → b ≡ d) → TakesNoMemory v → NeedsMetadata v → ⊥
+no_metadata v only (inl luks1_counts) needs =
+    let same : luks1 ≡ luks2 needs.place needs.copies = only luks1 (luks2 needs.place needs.copies) luks1_counts needs.chosen in cc
+no_metadata v only (inr (f, fault)) needs =
+    needs.uuid f (subst (λ d. IsReadFaultAs v d (Head f)) (only fault.choice (luks2 needs.place needs.copies) fault.chosen needs.chosen) fault.fault)
+
+-- so a header isn't read for want of memory there
+pub not_for_memory : (v : List ℕ) (f : ReadFault) → ((b d : Choice) → Chosen v b → Chosen v d → b ≡ d) → TakesNoMemory v → IsUnread v f → f ≢ Memory
+not_for_memory v f only none unread is = no_metadata v only none (subst (IsUnread v) is unread)

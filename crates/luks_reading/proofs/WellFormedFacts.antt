@@ -173,14 +173,6 @@ fits_and_resolves one only v payload well = record {
 
 -- ---- from what was judged of a LUKS1 header to the volume
 
-pub luks1_accepted : (v : List ℕ) (payload : Data) (h : List ℕ) (total : ℕ) → Chosen v luks1 → h ≡ part v 0 592 → length v ≡ total
-    → IsLuks1Volume h payload total → WellFormed v payload
-luks1_accepted v payload h total chosen begins size well = record {
-  choice = luks1;
-  chosen = chosen;
-  formed = subst (IsLuks1Volume (part v 0 592) payload) (sym size) (subst (λ b. IsLuks1Volume b payload total) begins well);
-}
-
 pub luks1_areas_are : ((v : List ℕ) (c d : Choice) → Chosen v c → Chosen v d → c ≡ d) → (v : List ℕ) (payload : Data) (h : List ℕ) (total : ℕ) (es : List Entry) → Chosen v luks1 → h ≡ part v 0 592 → length v ≡ total
     → Lists es (Luks1Area h payload total) → Lists es (AreaOf v payload)
 luks1_areas_are one v payload h total es chosen begins size lists =

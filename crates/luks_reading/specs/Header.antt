@@ -1,5 +1,5 @@
 -- The header that counts of a volume, and why it isn't read.
-use Rattle.std.specs.Prelude.{◌≡◌, ℕ, ◌+◌, ◌-◌, List, [], ◌∷◌, length, ⊤}
+use Rattle.std.specs.Prelude.{◌≡◌, ◌⊎◌, ℕ, ◌+◌, ◌-◌, List, [], ◌∷◌, length, ⊤}
 use Rattle.luks_area.specs.First.{IsLeast}
 use Rattle.luks_area.specs.Ranges.{part}
 use Rattle.luks_head.specs.declared.fault.HeadFault.{HeadFault}
@@ -68,6 +68,11 @@ pub record NeedsMetadata (v : List ℕ) : Type 0 where
   pub copies : Copies
   pub chosen : Chosen v (luks2 place copies)
   pub uuid : (f : HeadFault) → IsUuidFault (uuid_field (header_at v place)) f → ⊥
+
+-- none is taken of the others: the header is that of LUKS1, or one of the faults `TooShort` to `Uuid`
+-- stands
+abbrev pub TakesNoMemory : List ℕ → Type 0
+TakesNoMemory v = Chosen v luks1 ⊎ ((f : HeadFault) × IsReadFault v (Head f))
 
 -- the header isn't read by its first fault, unless the device failed or memory was refused
 abbrev pub IsUnread : List ℕ → ReadFault → Type 0

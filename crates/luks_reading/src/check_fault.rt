@@ -9,8 +9,8 @@ use thiserror::Error;
 
 /// Why a volume isn't accepted.
 ///
-/// The faults of the header come first, then those of the metadata, then those of the areas. The device's failure and want of
-/// memory are answered as such, wherever they were met.
+/// The faults of the header come first, then those of the metadata, then those of the areas. The
+/// device's failure and want of memory are answered as such, wherever they were met.
 #[derive(Debug, Clone, Copy, Drop, Error)]
 pub enum CheckFault {
     /// The header breaks a rule.

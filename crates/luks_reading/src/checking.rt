@@ -3,7 +3,7 @@ ghost use Rattle.std.specs.Prelude.{◌≡◌, ◌≢◌, ◌+◌, ◌^◌, ◌<
 ghost use Rattle.luks_area.specs.Device.{CountsFailure, IsUnchanged};
 ghost use Rattle.luks_reading.specs.Checked.{First, IsCheckRefusal, WellFormed};
 ghost use Rattle.luks_reading.specs.Failures.{is_check_failure};
-ghost use Rattle.luks_reading.specs.Header.{IsAcceptedHeader, IsHeader};
+ghost use Rattle.luks_reading.specs.Header.{IsAcceptedHeader, IsHeader, TakesNoMemory};
 ghost use Rattle.luks_reading.specs.FitsAndResolves.{FitsAndResolves};
 ghost use Rattle.luks_reading.specs.Reported.{IsFromOutside, Reports};
 
@@ -19,17 +19,21 @@ use std::alloc::Global;
 
 /// Whether the volume is well formed, with its areas, or else its first fault.
 ///
-/// `data_` says where the payload lies. `Device` comes exactly where a device call failed. Memory is
-/// taken for the metadata of LUKS2 alone.
+/// `data_` says where the payload lies. `Device` comes exactly where a device call failed. Memory
+/// is taken for the metadata of LUKS2 alone.
 pub fn check<D: Device>(alloc: Global, device: &mut D, data_: Data) -> Result<Report, CheckFault>
     requires { D.failed device.old + 1 < 2 ^ 64 }
     ensures unchanged { IsUnchanged D.tells D.size D.bytes device.old device.new }
-    ensures count { CountsFailure is_check_failure result (D.failed device.old) (D.failed device.new) }
+    ensures count { CountsFailure is_check_failure result
+        (D.failed device.old) (D.failed device.new) }
     ensures accepted { D.tells → OnOk result (WellFormed (D.bytes device.old) data_) }
     ensures report { D.tells → IfOk result (Reports (D.bytes device.old) data_) }
     ensures refused { D.tells → IfErr result (IsCheckRefusal (D.bytes device.old) data_) }
-    ensures only { D.tells → WellFormed (D.bytes device.old) data_ → MatchResult result (λ _. ⊤) IsFromOutside }
+    ensures only { D.tells → WellFormed (D.bytes device.old) data_
+        → MatchResult result (λ _. ⊤) IsFromOutside }
     ensures fits_and_resolves { D.tells → OnOk result (FitsAndResolves (D.bytes device.old) data_) }
+    ensures memory { D.tells → TakesNoMemory (D.bytes device.old)
+        → IfErr result (λ f. f ≢ CheckFault.Memory) }
 {
     one_choice();
     no_fault_is_well_formed();
@@ -41,9 +45,12 @@ pub fn check<D: Device>(alloc: Global, device: &mut D, data_: Data) -> Result<Re
 /// What `check` answers of a volume of `total` bytes with this header. It takes no memory.
 pub fn check_header(header: &Header, data_: Data, total: u64) -> Result<Report, CheckFault>
     requires { IsAcceptedHeader header.now }
-    ensures accepted { (v : List ℕ) → IsHeader v header.now → length v ≡ total → OnOk result (WellFormed v data_) }
-    ensures report { (v : List ℕ) → IsHeader v header.now → length v ≡ total → IfOk result (Reports v data_) }
-    ensures refused { (v : List ℕ) → IsHeader v header.now → length v ≡ total → IfErr result (First v data_) }
+    ensures accepted { (v : List ℕ) → IsHeader v header.now → length v ≡ total
+        → OnOk result (WellFormed v data_) }
+    ensures report { (v : List ℕ) → IsHeader v header.now → length v ≡ total
+        → IfOk result (Reports v data_) }
+    ensures refused { (v : List ℕ) → IsHeader v header.now → length v ≡ total
+        → IfErr result (First v data_) }
     ensures device { IfErr result (λ f. f ≢ CheckFault.Device) }
     ensures memory { IfErr result (λ f. f ≢ CheckFault.Memory) }
 {

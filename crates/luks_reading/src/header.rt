@@ -1,5 +1,5 @@
 //! The header that counts of a volume, as every call reads it.
-ghost use Rattle.std.specs.Prelude.{◌≡◌, ◌+◌, ◌-◌, ◌^◌, ◌<◌, ℕ, List, length, IfOk, IfErr};
+ghost use Rattle.std.specs.Prelude.{◌≡◌, ◌≢◌, ◌+◌, ◌-◌, ◌^◌, ◌<◌, ℕ, List, length, IfOk, IfErr};
 ghost use Rattle.luks_area.specs.Device.{CountsFailure, IsUnchanged};
 ghost use Rattle.luks_head.specs.Header2.{IsUuidField};
 ghost use Rattle.luks_head.specs.Header2.{IsCopyWithin};
@@ -7,16 +7,21 @@ ghost use Rattle.luks_meta.specs.Content.{area_len, content};
 ghost use Rattle.luks_meta.specs.Objects.{IsAccepted};
 ghost use Rattle.luks_reading.specs.ChosenCopies.{CopyRefused, IsCleared, IsFromOutside, json_of};
 ghost use Rattle.luks_reading.specs.Failures.{is_read_failure};
-ghost use Rattle.luks_reading.specs.Header.{IsAcceptedHeader, IsHeader, IsUnread};
+ghost use Rattle.luks_reading.specs.Header.{IsAcceptedHeader, IsHeader, IsUnread, TakesNoMemory};
 
 use crate::read_fault::ReadFault;
 use luks_area::Device;
-use luks_head::{Bin2, Copies, Selected, luks2_without_faults, one_choice, select};
+use luks_head::{
+    Bin2, Copies, KEPT_JSON, Selected, luks2_without_faults, one_choice, select_with_json,
+};
 use luks_meta::Meta;
 use std::alloc::Global;
 
 /// The bytes of the binary header with which a LUKS2 copy begins; its JSON area follows.
 const BINARY_HEADER: u64 = 4096;
+
+/// The least size of a LUKS2 header, binary header and JSON area together.
+const LEAST_HEADER: u64 = 0x4000;
 
 /// The LUKS2 copy that counts.
 #[derive(Drop)]
@@ -41,20 +46,25 @@ pub enum Header {
 /// Reads the header that counts: of LUKS1 its bytes, of LUKS2 the chosen copy with its metadata.
 ///
 /// Refused by `Head` where nothing counts or the chosen copy's uuid isn't one, and else by `Meta`.
-/// `Device` comes exactly where a device call failed. Memory is taken for the metadata of LUKS2 alone.
+/// `Device` comes exactly where a device call failed. Memory is taken for the metadata of LUKS2
+/// alone.
 pub fn read_header<D: Device>(alloc: Global, device: &mut D) -> Result<Header, ReadFault>
     requires { D.failed device.old + 1 < 2 ^ 64 }
     ensures unchanged { IsUnchanged D.tells D.size D.bytes device.old device.new }
-    ensures count { CountsFailure is_read_failure result (D.failed device.old) (D.failed device.new) }
+    ensures count { CountsFailure is_read_failure result
+        (D.failed device.old) (D.failed device.new) }
     ensures accepted { IfOk result IsAcceptedHeader }
     ensures read { D.tells → IfOk result (IsHeader (D.bytes device.old)) }
     ensures refused { D.tells → IfErr result (IsUnread (D.bytes device.old)) }
+    ensures memory { D.tells → TakesNoMemory (D.bytes device.old)
+        → IfErr result (λ f. f ≢ ReadFault.Memory) }
 {
     one_choice();
-    match select(alloc, device)? {
+    let mut json = [0; KEPT_JSON];
+    match select_with_json(device, &mut json)? {
         Selected::V1(bytes) => Ok(Header::Luks1(bytes)),
         Selected::V2 { header, copies } => {
-            let meta = read_metadata(alloc, device, &header)?;
+            let meta = read_metadata(alloc, device, &header, &json)?;
             Ok(Header::Luks2(ChosenCopy {
                 header,
                 copies,
@@ -64,20 +74,35 @@ pub fn read_header<D: Device>(alloc: Global, device: &mut D) -> Result<Header, R
     }
 }
 
-/// The metadata of the copy with this binary header, whose uuid has to be one.
-fn read_metadata<D: Device>(alloc: Global, device: &mut D, header: &Bin2) -> Result<Meta, ReadFault>
+/// The metadata of the copy with this binary header, whose uuid has to be one. `kept` is the JSON
+/// area of a copy of the least size; that of a larger one is read.
+fn read_metadata<D: Device>(
+    alloc: Global,
+    device: &mut D,
+    header: &Bin2,
+    kept: &[u8],
+) -> Result<Meta, ReadFault>
     requires room { D.failed device.old + 1 < 2 ^ 64 }
     requires within { IsCopyWithin (D.size device.old) header.now }
+    requires kept { D.tells → header.now.hdr_size ≡ 16384
+        → kept.now ≡ json_of (D.bytes device.old) header.now }
     ensures unchanged { IsUnchanged D.tells D.size D.bytes device.old device.new }
-    ensures count { CountsFailure is_read_failure result (D.failed device.old) (D.failed device.new) }
+    ensures count { CountsFailure is_read_failure result
+        (D.failed device.old) (D.failed device.new) }
     ensures uuid { IfOk result (λ _. IsUuidField header.now.uuid) }
     ensures accepted { IfOk result (λ m. IsAccepted (content m)) }
-    ensures cleared { D.tells → IfOk result (λ m. IsCleared header.now.uuid (json_of (D.bytes device.old) header.now) (content m)) }
-    ensures length { D.tells → IfOk result (λ m. area_len m ≡ length (json_of (D.bytes device.old) header.now)) }
-    ensures refused { D.tells → IfErr result (CopyRefused header.now.uuid (json_of (D.bytes device.old) header.now)) }
+    ensures cleared { D.tells → IfOk result (λ m.
+        IsCleared header.now.uuid (json_of (D.bytes device.old) header.now) (content m)) }
+    ensures length { D.tells → IfOk result (λ m.
+        area_len m ≡ length (json_of (D.bytes device.old) header.now)) }
+    ensures refused { D.tells → IfErr result
+        (CopyRefused header.now.uuid (json_of (D.bytes device.old) header.now)) }
 {
     luks2_without_faults();
     header.uuid()?;
+    if header.hdr_size == LEAST_HEADER {
+        return Ok(Meta::read(alloc, kept)?);
+    }
     let json = json_area(alloc, device, header)?;
     Ok(Meta::read(alloc, &json)?)
 }
@@ -87,9 +112,11 @@ fn json_area<D: Device>(alloc: Global, device: &mut D, header: &Bin2) -> Result<
     requires room { D.failed device.old + 1 < 2 ^ 64 }
     requires within { IsCopyWithin (D.size device.old) header.now }
     ensures unchanged { IsUnchanged D.tells D.size D.bytes device.old device.new }
-    ensures count { CountsFailure is_read_failure result (D.failed device.old) (D.failed device.new) }
+    ensures count { CountsFailure is_read_failure result
+        (D.failed device.old) (D.failed device.new) }
     ensures kinds { IfErr result IsFromOutside }
-    ensures json { D.tells → IfOk result (λ json. json.items ≡ json_of (D.bytes device.old) header.now) }
+    ensures json { D.tells
+        → IfOk result (λ json. json.items ≡ json_of (D.bytes device.old) header.now) }
 {
     let _total = device.len();
     let len = (header.hdr_size - BINARY_HEADER) as usize;

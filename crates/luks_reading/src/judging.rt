@@ -36,10 +36,15 @@ pub(crate) fn judge_layout(
     data_: Data,
     total: u64,
 ) -> Result<Areas, CheckFault>
-    ensures accepted { (b json : List ℕ) → HoldsBin2 b header.now → HoldsMeta json meta.now → OnOk result (IsLuks2Layout b json data_ total (content meta.now)) }
-    ensures areas { (b json : List ℕ) → HoldsBin2 b header.now → HoldsMeta json meta.now → IfOk result (λ areas. Lists areas (HasLuks2Area b json data_ total)) }
-    ensures refused { (b json : List ℕ) → HoldsBin2 b header.now → HoldsMeta json meta.now → IsLuks2Faultless b json → IfErr result (IsLeast check_key (IsLuks2Fault b json data_ total)) }
-    ensures only { (b json : List ℕ) (j : Value) → HoldsBin2 b header.now → HoldsMeta json meta.now → IsLuks2Layout b json data_ total j → IsOk result }
+    ensures accepted { (b json : List ℕ) → HoldsBin2 b header.now → HoldsMeta json meta.now
+        → OnOk result (IsLuks2Layout b json data_ total (content meta.now)) }
+    ensures areas { (b json : List ℕ) → HoldsBin2 b header.now → HoldsMeta json meta.now
+        → IfOk result (λ areas. Lists areas (HasLuks2Area b json data_ total)) }
+    ensures refused { (b json : List ℕ) → HoldsBin2 b header.now → HoldsMeta json meta.now
+        → IsLuks2Faultless b json
+        → IfErr result (IsLeast check_key (IsLuks2Fault b json data_ total)) }
+    ensures only { (b json : List ℕ) (j : Value) → HoldsBin2 b header.now → HoldsMeta json meta.now
+        → IsLuks2Layout b json data_ total j → IsOk result }
     ensures device { IfErr result (λ f. f ≢ CheckFault.Device) }
     ensures memory { IfErr result (λ f. f ≢ CheckFault.Memory) }
 {
@@ -54,8 +59,10 @@ pub(crate) fn judge_layout(
 
 /// With the payload here, the least segment that begins before the end of the key areas' region.
 fn segment_below(meta: &Meta, data_: Data) -> Option<u8>
-    ensures some { (json : List ℕ) → HoldsMeta json meta.now → IfSome result (IsFirstBelow json data_ (content meta.now)) }
-    ensures none { (json : List ℕ) → HoldsMeta json meta.now → IsNone result → data_ ≡ Data.Here → SegmentsFollow (length json) (content meta.now) }
+    ensures some { (json : List ℕ) → HoldsMeta json meta.now
+        → IfSome result (IsFirstBelow json data_ (content meta.now)) }
+    ensures none { (json : List ℕ) → HoldsMeta json meta.now → IsNone result → data_ ≡ Data.Here
+        → SegmentsFollow (length json) (content meta.now) }
 {
     match data_ {
         Data::Here => meta.first_segment_below(),

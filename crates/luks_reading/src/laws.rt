@@ -1,5 +1,5 @@
-//! Laws on the definitions of this crate. Each function only calls those whose laws it follows from;
-//! its contract is the law.
+//! Laws on the definitions of this crate. Each function only calls those whose laws it follows
+//! from; its contract is the law.
 ghost use Rattle.std.specs.Prelude.{◌≡◌, ◌↔◌, ℕ, List};
 ghost use Rattle.luks_area.specs.declared.area.Area.{Area as TheArea};
 ghost use Rattle.luks_area.specs.declared.area.AreaName.{AreaName as TheName};
@@ -17,7 +17,8 @@ use luks_meta::{metadata_without_faults, one_digest, one_value};
 /// A volume is well formed exactly where it has no fault: so the first fault is there exactly where
 /// it isn't well formed.
 pub fn no_fault_is_well_formed()
-    ensures { (v : List ℕ) (payload : Payload) → WellFormed v payload ↔ ((f : CheckFault) → IsFault v payload f → ⊥) }
+    ensures { (v : List ℕ) (payload : Payload)
+        → WellFormed v payload ↔ ((f : CheckFault) → IsFault v payload f → ⊥) }
 {
     one_choice();
     luks1_without_faults();
@@ -37,7 +38,8 @@ pub fn well_formed_volume()
 
 /// A name has one area at most in a volume.
 pub fn one_area()
-    ensures { (v : List ℕ) (payload : Payload) (n : TheName) (a b : TheArea) → AreaOf v payload n a → AreaOf v payload n b → a ≡ b }
+    ensures { (v : List ℕ) (payload : Payload) (n : TheName) (a b : TheArea) → AreaOf v payload n a
+        → AreaOf v payload n b → a ≡ b }
 {
     one_choice();
     one_value();
@@ -45,7 +47,8 @@ pub fn one_area()
 
 /// A keyslot of a volume has one answer at most by a passphrase; of two refusals the key is one.
 pub fn one_answer()
-    ensures { (v : List ℕ) (n : ℕ) (p : List ℕ) (a b : Opened) → Answer v n p a → Answer v n p b → IsSameAnswer a b }
+    ensures { (v : List ℕ) (n : ℕ) (p : List ℕ) (a b : Opened) → Answer v n p a → Answer v n p b
+        → IsSameAnswer a b }
 {
     one_choice();
     one_value();
@@ -55,7 +58,8 @@ pub fn one_answer()
 
 /// Opening a volume has one answer at most by a passphrase; of two refusals the key is one.
 pub fn one_unlocking()
-    ensures { (v p : List ℕ) (a b : Unlocked) → UnlockAnswer v p a → UnlockAnswer v p b → IsSameUnlocking a b }
+    ensures { (v p : List ℕ) (a b : Unlocked) → UnlockAnswer v p a → UnlockAnswer v p b
+        → IsSameUnlocking a b }
 {
     one_choice();
     one_value();

@@ -50,7 +50,9 @@ fn add_luks1_slots(areas: &mut Areas, header: &Luks1)
     requires last { (n : TheName) (a : TheArea) → HasArea areas.old n a → IsBefore n (SlotName 0) }
     ensures count { length areas.new ≡ 9 }
     ensures last { (n : TheName) (a : TheArea) → HasArea areas.new n a → IsBefore n (SlotName 8) }
-    ensures listed { (h : List ℕ) (payload : TheData) (total : ℕ) → IsLuks1 h header.now → ListsBelow areas.old (Luks1Area h payload total) (SlotName 0) → ListsBelow areas.new (Luks1Area h payload total) (SlotName 8) }
+    ensures listed { (h : List ℕ) (payload : TheData) (total : ℕ) → IsLuks1 h header.now
+        → ListsBelow areas.old (Luks1Area h payload total) (SlotName 0)
+        → ListsBelow areas.new (Luks1Area h payload total) (SlotName 8) }
 {
     for n in 0..8 {
         let area = luks1_area(header.common.key_bytes, &header.slots[n as usize]);
@@ -109,7 +111,8 @@ fn add_luks2_slots(areas: &mut Areas, meta: &Meta)
 
 fn add_segments(areas: &mut Areas, meta: &Meta, total: u64)
     requires room { length areas.old ≤ 34 }
-    requires last { (n : TheName) (a : TheArea) → HasArea areas.old n a → IsBefore n (SegmentName 0) }
+    requires last { (n : TheName) (a : TheArea) → HasArea areas.old n a
+        → IsBefore n (SegmentName 0) }
     ensures { AddsSegments areas.old areas.new (content meta.now) total 32 }
 {
     for n in 0..32 {
@@ -133,7 +136,8 @@ fn segment_area(segment: &Segment<'_>, total: u64) -> Area
     }
 }
 
-/// The area from `start` to the end of a volume of `total` bytes, empty where it starts at or past it.
+/// The area from `start` to the end of a volume of `total` bytes, empty where it starts at or past
+/// it.
 fn to_end(start: u64, total: u64) -> Area
     ensures start { result.start ≡ start }
     ensures len { result.len ≡ total - start }

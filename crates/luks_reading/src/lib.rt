@@ -1,4 +1,5 @@
-//! Checking a LUKS volume, of either version, against its format and its layout, and opening its keyslots.
+//! Checking a LUKS volume, of either version, against its format and its layout, and opening its
+//! keyslots.
 #![tactic(auto)]
 
 mod check_fault;

@@ -10,6 +10,12 @@ ghost use Rattle.luks_reading.specs.Luks1Keyslots.{EntryRefused, IsEnabled};
 use crate::open_fault::OpenFault;
 use luks_head::{HeadFault, Luks1, Luks1Common, Luks1Slot, SlotState, luks1_is_first_bytes};
 
+/// The bytes of a LUKS1 header before its keyslots.
+const COMMON_SIZE: usize = 208;
+
+/// The bytes of a keyslot's entry.
+const ENTRY_SIZE: usize = 48;
+
 /// The fields before the keyslots, of the header's 592 bytes.
 pub(crate) fn luks1_common(header: &[u8]) -> Result<Luks1Common, HeadFault>
     requires { length header.now ≡ 592 }
@@ -18,7 +24,7 @@ pub(crate) fn luks1_common(header: &[u8]) -> Result<Luks1Common, HeadFault>
     ensures fault { IfErr result (IsLeast head_key (IsCommonFault header.now)) }
 {
     luks1_is_first_bytes();
-    Luks1::common(bytes_at(header, 0, 208))
+    Luks1::common(bytes_at(header, 0, COMMON_SIZE))
 }
 
 /// The keyslot `n`, which has to be there, fit for use and in use. No other keyslot is looked at.
@@ -30,7 +36,8 @@ pub(crate) fn luks1_entry(header: &[u8], n: u8) -> Result<Luks1Slot, OpenFault>
     if n > 7 {
         return Err(OpenFault::NoSuchSlot);
     }
-    let slot = Luks1::slot(bytes_at(header, 208 + 48 * n as usize, 48), n)?;
+    let at = COMMON_SIZE + ENTRY_SIZE * n as usize;
+    let slot = Luks1::slot(bytes_at(header, at, ENTRY_SIZE), n)?;
     match slot.state {
         SlotState::Enabled => Ok(slot),
         SlotState::Disabled => Err(OpenFault::SlotFree),

@@ -14,7 +14,7 @@ ghost use Rattle.luks_reading.specs.ChosenCopies.{IsCleared};
 ghost use Rattle.luks_reading.specs.Luks1Keyslots.{Luks1Opens, Luks1Refused};
 ghost use Rattle.luks_reading.specs.Luks2Keyslots.{Luks2Opens, Luks2Refused};
 ghost use Rattle.luks_reading.specs.Failures.{is_open_failure};
-ghost use Rattle.luks_reading.specs.Header.{IsAcceptedHeader, IsHeader};
+ghost use Rattle.luks_reading.specs.Header.{IsAcceptedHeader, IsHeader, TakesNoMemory};
 ghost use Rattle.luks_reading.specs.PlanAnswers.{IsOpenable, PlanOpens, PlanRefused};
 ghost use Rattle.luks_reading.specs.Plans.{HasKeyBytes, HasLuks2KeyBytes};
 
@@ -29,15 +29,15 @@ use luks_meta::{Meta, metadata_without_faults, one_value};
 use luks_slot::{Key, SlotPlan, open};
 use std::alloc::Global;
 
-/// Opens the keyslot `n` by the passphrase: its volume key, or None where the passphrase doesn't give
-/// the key that meets the stored digest. An empty passphrase is a passphrase. LUKS1 On-Disk Format
-/// 1.2.3, 4.3; LUKS2 On-Disk Format 1.1, 4.3.
+/// Opens the keyslot `n` by the passphrase: its volume key, or None where the passphrase doesn't
+/// give the key that meets the stored digest. An empty passphrase is a passphrase. LUKS1 On-Disk
+/// Format 1.2.3, 4.3; LUKS2 On-Disk Format 1.1, 4.3.
 ///
 /// It demands only what the keyslot needs: the volume may break other rules, and another keyslot of
-/// LUKS1 may be damaged. The first refusal is answered: `Head` by the selection of the header and the
-/// fields before the keyslots (LUKS2: the uuid), `Meta`, `NoSuchSlot`, of LUKS1 `Head` by the keyslot's
-/// own entry and `SlotFree`, `Outside`, `Slot`. `Device` comes exactly where a device call failed.
-/// Memory is taken for the metadata of LUKS2 alone.
+/// LUKS1 may be damaged. The first refusal is answered: `Head` by the selection of the header and
+/// the fields before the keyslots (LUKS2: the uuid), `Meta`, `NoSuchSlot`, of LUKS1 `Head` by the
+/// keyslot's own entry and `SlotFree`, `Outside`, `Slot`. `Device` comes exactly where a device
+/// call failed. Memory is taken for the metadata of LUKS2 alone.
 pub fn open_slot<D: Device>(
     alloc: Global,
     device: &mut D,
@@ -46,11 +46,16 @@ pub fn open_slot<D: Device>(
 ) -> Result<Option<Key>, OpenFault>
     requires { D.failed device.old + 1 < 2 ^ 64 }
     ensures unchanged { IsUnchanged D.tells D.size D.bytes device.old device.new }
-    ensures count { CountsFailure is_open_failure result (D.failed device.old) (D.failed device.new) }
-    ensures opens { D.tells → IfOk result (λ found. Answer (D.bytes device.old) n passphrase.now (opened_to found)) }
+    ensures count { CountsFailure is_open_failure result
+        (D.failed device.old) (D.failed device.new) }
+    ensures opens { D.tells
+        → IfOk result (λ found. Answer (D.bytes device.old) n passphrase.now (opened_to found)) }
     ensures refused { D.tells → IfErr result (IsRefusedBy (D.bytes device.old) n passphrase.now) }
+    ensures memory { D.tells → TakesNoMemory (D.bytes device.old)
+        → IfErr result (λ f. f ≢ OpenFault.Memory) }
     // There is no other answer.
-    ensures only { D.tells → (a : Opened) → Answer (D.bytes device.old) n passphrase.now a → Agrees a result }
+    ensures only { D.tells → (a : Opened) → Answer (D.bytes device.old) n passphrase.now a
+        → Agrees a result }
 {
     one_choice();
     one_answer();
@@ -69,12 +74,14 @@ pub fn open_header_slot<D: Device>(
     requires room { D.failed device.old + 1 < 2 ^ 64 }
     requires accepted { IsAcceptedHeader header.now }
     ensures unchanged { IsUnchanged D.tells D.size D.bytes device.old device.new }
-    ensures count { CountsFailure is_open_failure result (D.failed device.old) (D.failed device.new) }
+    ensures count { CountsFailure is_open_failure result
+        (D.failed device.old) (D.failed device.new) }
     ensures opens { D.tells → IsHeader (D.bytes device.old) header.now
         → IfOk result (λ found. Answer (D.bytes device.old) n passphrase.now (opened_to found)) }
     ensures refused { D.tells → IsHeader (D.bytes device.old) header.now
         → IfErr result (IsRefusedBy (D.bytes device.old) n passphrase.now) }
-    ensures length { IfOk result (λ found. IfSome found (λ key. HasKeyBytes header.now n (length key))) }
+    ensures length { IfOk result
+        (λ found. IfSome found (λ key. HasKeyBytes header.now n (length key))) }
     ensures memory { IfErr result (λ f. f ≢ OpenFault.Memory) }
 {
     one_choice();
@@ -97,10 +104,13 @@ fn open_luks1<D: Device>(
     requires room { D.failed device.old + 1 < 2 ^ 64 }
     requires header { length header.now ≡ 592 }
     ensures unchanged { IsUnchanged D.tells D.size D.bytes device.old device.new }
-    ensures count { CountsFailure is_open_failure result (D.failed device.old) (D.failed device.new) }
-    ensures opens { D.tells → IfOk result (Luks1Opens header.now (D.bytes device.old) n passphrase.now) }
+    ensures count { CountsFailure is_open_failure result
+        (D.failed device.old) (D.failed device.new) }
+    ensures opens { D.tells
+        → IfOk result (Luks1Opens header.now (D.bytes device.old) n passphrase.now) }
     ensures refused { IfErr result (Luks1Refused header.now (D.size device.old) n) }
-    ensures length { IfOk result (λ found. IfSome found (λ key. length key ≡ number_at header.now 108 4)) }
+    ensures length { IfOk result
+        (λ found. IfSome found (λ key. length key ≡ number_at header.now 108 4)) }
 {
     let common = luks1_common(header)?;
     open_luks1_slot(alloc, device, header, &common, n, passphrase)
@@ -120,10 +130,13 @@ pub(crate) fn open_luks1_slot<D: Device>(
     requires common { IsCommon header.now common.now }
     requires faultless { (f : TheFault) → IsCommonFault header.now f → ⊥ }
     ensures unchanged { IsUnchanged D.tells D.size D.bytes device.old device.new }
-    ensures count { CountsFailure is_open_failure result (D.failed device.old) (D.failed device.new) }
-    ensures opens { D.tells → IfOk result (Luks1Opens header.now (D.bytes device.old) n passphrase.now) }
+    ensures count { CountsFailure is_open_failure result
+        (D.failed device.old) (D.failed device.new) }
+    ensures opens { D.tells
+        → IfOk result (Luks1Opens header.now (D.bytes device.old) n passphrase.now) }
     ensures refused { IfErr result (Luks1Refused header.now (D.size device.old) n) }
-    ensures length { IfOk result (λ found. IfSome found (λ key. length key ≡ number_at header.now 108 4)) }
+    ensures length { IfOk result
+        (λ found. IfSome found (λ key. length key ≡ number_at header.now 108 4)) }
 {
     let slot = luks1_entry(header, n)?;
     let plan = luks1_plan(common, &slot);
@@ -141,12 +154,14 @@ pub(crate) fn open_luks2<D: Device>(
     requires room { D.failed device.old + 1 < 2 ^ 64 }
     requires accepted { IsAccepted (content meta.now) }
     ensures unchanged { IsUnchanged D.tells D.size D.bytes device.old device.new }
-    ensures count { CountsFailure is_open_failure result (D.failed device.old) (D.failed device.new) }
+    ensures count { CountsFailure is_open_failure result
+        (D.failed device.old) (D.failed device.new) }
     ensures opens { D.tells → (b json : List ℕ) → IsCleared (uuid_field b) json (content meta.now)
         → IfOk result (Luks2Opens b json (D.bytes device.old) n passphrase.now) }
     ensures refused { (b json : List ℕ) → IsCleared (uuid_field b) json (content meta.now)
         → IfErr result (Luks2Refused b json (D.size device.old) n) }
-    ensures length { IfOk result (λ found. IfSome found (λ key. HasLuks2KeyBytes (content meta.now) n (length key))) }
+    ensures length { IfOk result
+        (λ found. IfSome found (λ key. HasLuks2KeyBytes (content meta.now) n (length key))) }
     ensures memory { IfErr result (λ f. f ≢ OpenFault.Memory) }
 {
     one_value();
@@ -172,7 +187,8 @@ fn open_planned<D: Device>(
     requires room { D.failed device.old + 1 < 2 ^ 64 }
     requires judged { IsOpenable plan.now }
     ensures unchanged { IsUnchanged D.tells D.size D.bytes device.old device.new }
-    ensures count { CountsFailure is_open_failure result (D.failed device.old) (D.failed device.new) }
+    ensures count { CountsFailure is_open_failure result
+        (D.failed device.old) (D.failed device.new) }
     ensures opens { D.tells → IfOk result (PlanOpens plan.now (D.bytes device.old) passphrase.now) }
     ensures refused { IfErr result (PlanRefused plan.now (D.size device.old)) }
     ensures length { IfOk result (λ found. IfSome found (λ key. length key ≡ plan.now.key_bytes)) }

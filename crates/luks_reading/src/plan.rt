@@ -18,8 +18,10 @@ use luks_slot::{AreaCipher, Derivation, DigestPlan, SlotPlan};
 /// The plan of an enabled keyslot of a LUKS1 header (LUKS1 On-Disk Format 1.2.3, "The partition
 /// header").
 pub fn luks1_plan<'a>(common: &'a Luks1Common, slot: &'a Luks1Slot) -> SlotPlan<'a>
-    ensures is { (h e : List ℕ) → IsCommon h common.now → IsEntry e slot.now → IsLuks1Plan h e result }
-    ensures judged { (h e : List ℕ) → IsCommon h common.now → IsEntry e slot.now → active_word e ≡ enabled_word → IsOpenable result }
+    ensures is { (h e : List ℕ) → IsCommon h common.now → IsEntry e slot.now
+        → IsLuks1Plan h e result }
+    ensures judged { (h e : List ℕ) → IsCommon h common.now → IsEntry e slot.now
+        → active_word e ≡ enabled_word → IsOpenable result }
 {
     let hash = common.hash_spec.as_str();
     SlotPlan {
@@ -61,7 +63,8 @@ pub fn luks1_area(key_bytes: u32, slot: &Luks1Slot) -> Area
 
 /// The plan of a keyslot of LUKS2 with the digest that names it.
 pub(crate) fn luks2_plan<'a>(keyslot: &'a Keyslot<'a>, digest: &'a Digest<'a>) -> SlotPlan<'a>
-    ensures { (j : Data) (n m : ℕ) (d o : Data) → TellsKeyslot d keyslot.now → IsDigestOf j n m → object_at j Digests m ≡ Some o → TellsDigest o digest.now → IsLuks2Plan j n d result }
+    ensures { (j : Data) (n m : ℕ) (d o : Data) → TellsKeyslot d keyslot.now → IsDigestOf j n m
+        → object_at j Digests m ≡ Some o → TellsDigest o digest.now → IsLuks2Plan j n d result }
 {
     SlotPlan {
         derivation: luks2_derivation(keyslot),

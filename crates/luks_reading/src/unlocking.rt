@@ -11,7 +11,7 @@ ghost use Rattle.luks_meta.specs.Objects.{IsAccepted};
 ghost use Rattle.luks_reading.specs.Agreement.{AgreesUnlocked};
 ghost use Rattle.luks_reading.specs.ChosenCopies.{IsCleared};
 ghost use Rattle.luks_reading.specs.Failures.{is_open_failure};
-ghost use Rattle.luks_reading.specs.Header.{IsAcceptedHeader, IsHeader};
+ghost use Rattle.luks_reading.specs.Header.{IsAcceptedHeader, IsHeader, TakesNoMemory};
 ghost use Rattle.luks_reading.specs.PlanAnswers.{IsFailure};
 ghost use Rattle.luks_reading.specs.Plans.{HasKeyBytes, HasLuks2KeyBytes};
 ghost use Rattle.luks_reading.specs.KeyslotsTried.{is_of_rank, passed_over, rank_order, Luks1VolumeRefused, Luks1Tried, Luks1Tries, Luks2Tried, Luks2Tries};
@@ -41,9 +41,9 @@ pub(crate) enum Rank {
 /// none opens. LUKS1: the keyslots in use, by number. LUKS2: those of priority 2 by number, then
 /// those of priority 1 or none by number; one of priority 0 is never tried.
 ///
-/// A keyslot that is refused by a fault of its own is passed over. `Head` and `Meta` are those of the
-/// volume itself, the first of them. `Device` comes exactly where a device call failed. Memory is taken
-/// for the metadata of LUKS2 alone.
+/// A keyslot that is refused by a fault of its own is passed over. `Head` and `Meta` are those of
+/// the volume itself, the first of them. `Device` comes exactly where a device call failed. Memory
+/// is taken for the metadata of LUKS2 alone.
 pub fn unlock<D: Device>(
     alloc: Global,
     device: &mut D,
@@ -51,11 +51,15 @@ pub fn unlock<D: Device>(
 ) -> Result<Option<(u8, Key)>, OpenFault>
     requires { D.failed device.old + 1 < 2 ^ 64 }
     ensures unchanged { IsUnchanged D.tells D.size D.bytes device.old device.new }
-    ensures count { CountsFailure is_open_failure result (D.failed device.old) (D.failed device.new) }
+    ensures count { CountsFailure is_open_failure result
+        (D.failed device.old) (D.failed device.new) }
     ensures unlocks { D.tells → IfOk result (Unlocks (D.bytes device.old) passphrase.now) }
     ensures refused { D.tells → IfErr result (IsVolumeRefusedBy (D.bytes device.old)) }
+    ensures memory { D.tells → TakesNoMemory (D.bytes device.old)
+        → IfErr result (λ f. f ≢ OpenFault.Memory) }
     // There is no other answer.
-    ensures only { D.tells → (a : Unlocked) → UnlockAnswer (D.bytes device.old) passphrase.now a → AgreesUnlocked a result }
+    ensures only { D.tells → (a : Unlocked) → UnlockAnswer (D.bytes device.old) passphrase.now a
+        → AgreesUnlocked a result }
 {
     one_choice();
     one_unlocking();
@@ -73,10 +77,14 @@ pub fn unlock_header<D: Device>(
     requires room { D.failed device.old + 1 < 2 ^ 64 }
     requires accepted { IsAcceptedHeader header.now }
     ensures unchanged { IsUnchanged D.tells D.size D.bytes device.old device.new }
-    ensures count { CountsFailure is_open_failure result (D.failed device.old) (D.failed device.new) }
-    ensures unlocks { D.tells → IsHeader (D.bytes device.old) header.now → IfOk result (Unlocks (D.bytes device.old) passphrase.now) }
-    ensures refused { D.tells → IsHeader (D.bytes device.old) header.now → IfErr result (IsVolumeRefusedBy (D.bytes device.old)) }
-    ensures length { IfOk result (λ found. IfSome found (λ opened. HasKeyBytes header.now opened.0 (length opened.1))) }
+    ensures count { CountsFailure is_open_failure result
+        (D.failed device.old) (D.failed device.new) }
+    ensures unlocks { D.tells → IsHeader (D.bytes device.old) header.now
+        → IfOk result (Unlocks (D.bytes device.old) passphrase.now) }
+    ensures refused { D.tells → IsHeader (D.bytes device.old) header.now
+        → IfErr result (IsVolumeRefusedBy (D.bytes device.old)) }
+    ensures length { IfOk result
+        (λ found. IfSome found (λ opened. HasKeyBytes header.now opened.0 (length opened.1))) }
     ensures memory { IfErr result (λ f. f ≢ OpenFault.Memory) }
 {
     one_choice();
@@ -97,11 +105,14 @@ fn unlock_luks1<D: Device>(
     requires room { D.failed device.old + 1 < 2 ^ 64 }
     requires header { length header.now ≡ 592 }
     ensures unchanged { IsUnchanged D.tells D.size D.bytes device.old device.new }
-    ensures count { CountsFailure is_open_failure result (D.failed device.old) (D.failed device.new) }
+    ensures count { CountsFailure is_open_failure result
+        (D.failed device.old) (D.failed device.new) }
     ensures unrefused { IfOk result (λ _. (f : TheFault) → IsCommonFault header.now f → ⊥) }
-    ensures tries { D.tells → IfOk result (Luks1Tries header.now (D.bytes device.old) passphrase.now) }
+    ensures tries { D.tells
+        → IfOk result (Luks1Tries header.now (D.bytes device.old) passphrase.now) }
     ensures refused { IfErr result (Luks1VolumeRefused header.now) }
-    ensures length { IfOk result (λ found. IfSome found (λ opened. length opened.1 ≡ number_at header.now 108 4)) }
+    ensures length { IfOk result
+        (λ found. IfSome found (λ opened. length opened.1 ≡ number_at header.now 108 4)) }
 {
     let common = luks1_common(header)?;
     for n in 0..8 {
@@ -127,10 +138,13 @@ fn try_luks1<D: Device>(
     requires common { IsCommon header.now common.now }
     requires faultless { (f : TheFault) → IsCommonFault header.now f → ⊥ }
     ensures unchanged { IsUnchanged D.tells D.size D.bytes device.old device.new }
-    ensures count { CountsFailure is_open_failure result (D.failed device.old) (D.failed device.new) }
-    ensures tried { D.tells → IfOk result (Luks1Tried header.now (D.bytes device.old) n passphrase.now) }
+    ensures count { CountsFailure is_open_failure result
+        (D.failed device.old) (D.failed device.new) }
+    ensures tried { D.tells
+        → IfOk result (Luks1Tried header.now (D.bytes device.old) n passphrase.now) }
     ensures kinds { IfErr result IsFailure }
-    ensures length { IfOk result (λ found. IfSome found (λ key. length key ≡ number_at header.now 108 4)) }
+    ensures length { IfOk result
+        (λ found. IfSome found (λ key. length key ≡ number_at header.now 108 4)) }
 {
     match open_luks1_slot(alloc, device, header, common, n, passphrase) {
         Ok(found) => Ok(found),
@@ -147,11 +161,15 @@ fn unlock_luks2<D: Device>(
     requires room { D.failed device.old + 1 < 2 ^ 64 }
     requires accepted { IsAccepted (content meta.now) }
     ensures unchanged { IsUnchanged D.tells D.size D.bytes device.old device.new }
-    ensures count { CountsFailure is_open_failure result (D.failed device.old) (D.failed device.new) }
+    ensures count { CountsFailure is_open_failure result
+        (D.failed device.old) (D.failed device.new) }
     ensures tries { D.tells → (b json : List ℕ) → IsCleared (uuid_field b) json (content meta.now)
-        → IfOk result (Luks2Tries b json (D.bytes device.old) passphrase.now (luks2_order (content meta.now))) }
+        → IfOk result
+        (Luks2Tries b json (D.bytes device.old) passphrase.now (luks2_order (content meta.now))) }
     ensures kinds { IfErr result IsFailure }
-    ensures length { IfOk result (λ found. IfSome found (λ opened. HasLuks2KeyBytes (content meta.now) opened.0 (length opened.1))) }
+    ensures length { IfOk result
+        (λ found. IfSome found
+        (λ opened. HasLuks2KeyBytes (content meta.now) opened.0 (length opened.1))) }
 {
     match try_rank(alloc, device, meta, Rank::Preferred, passphrase) {
         Ok(Some(found)) => Ok(Some(found)),
@@ -171,11 +189,16 @@ fn try_rank<D: Device>(
     requires room { D.failed device.old + 1 < 2 ^ 64 }
     requires accepted { IsAccepted (content meta.now) }
     ensures unchanged { IsUnchanged D.tells D.size D.bytes device.old device.new }
-    ensures count { CountsFailure is_open_failure result (D.failed device.old) (D.failed device.new) }
+    ensures count { CountsFailure is_open_failure result
+        (D.failed device.old) (D.failed device.new) }
     ensures tries { D.tells → (b json : List ℕ) → IsCleared (uuid_field b) json (content meta.now)
-        → IfOk result (Luks2Tries b json (D.bytes device.old) passphrase.now (rank_order rank (content meta.now))) }
+        → IfOk result
+        (Luks2Tries b json (D.bytes device.old) passphrase.now
+        (rank_order rank (content meta.now))) }
     ensures kinds { IfErr result IsFailure }
-    ensures length { IfOk result (λ found. IfSome found (λ opened. HasLuks2KeyBytes (content meta.now) opened.0 (length opened.1))) }
+    ensures length { IfOk result
+        (λ found. IfSome found
+        (λ opened. HasLuks2KeyBytes (content meta.now) opened.0 (length opened.1))) }
 {
     for n in 0..32 {
         if is_of_rank(meta, rank, n) {
@@ -213,11 +236,13 @@ fn try_luks2<D: Device>(
     requires room { D.failed device.old + 1 < 2 ^ 64 }
     requires accepted { IsAccepted (content meta.now) }
     ensures unchanged { IsUnchanged D.tells D.size D.bytes device.old device.new }
-    ensures count { CountsFailure is_open_failure result (D.failed device.old) (D.failed device.new) }
+    ensures count { CountsFailure is_open_failure result
+        (D.failed device.old) (D.failed device.new) }
     ensures tried { D.tells → (b json : List ℕ) → IsCleared (uuid_field b) json (content meta.now)
         → IfOk result (Luks2Tried b json (D.bytes device.old) n passphrase.now) }
     ensures kinds { IfErr result IsFailure }
-    ensures length { IfOk result (λ found. IfSome found (λ key. HasLuks2KeyBytes (content meta.now) n (length key))) }
+    ensures length { IfOk result
+        (λ found. IfSome found (λ key. HasLuks2KeyBytes (content meta.now) n (length key))) }
 {
     one_value();
     one_digest();

@@ -1,49 +1,30 @@
-use Rattle.std.proofs.Common.{◌≡◌, ℕ, ◌+◌, ◌*◌, ◌%◌, ◌≤◌, List, ◌++◌, length, take, arith, refl, ap, ◌∙◌, subst}
-use Rattle.luks_area.specs.Device.{unchanged-same, unchanged-then}
+use Rattle.std.proofs.Common.{◌≡◌, ℕ, ◌+◌, ◌≤◌, List, ◌++◌, take, ap, ◌∙◌, sym, subst}
+use Rattle.std.proofs.lemmas.Result.{IfOk-weaker}
 use Rattle.luks_area.specs.Ranges.{part}
 use Rattle.luks_head.specs.Header2.{header_at, with_zero_checksum}
+use Rattle.luks_head.specs.SoundCopies.{kept_at}
 use Rattle.sha2.specs.Hashers.{Holds256}
-use Rattle.sha2.specs.Sha256.{sha256}
-use Rattle.luks_head.proofs.CopyFacts.{all_fed, first_fed, later_fed, listed_at_least, listed_whole}
+use Rattle.luks_head.proofs.CopyFacts.{kept_fed, listed_at_least}
 use Rattle.luks_head.proofs.copies.digest_of_copy.Goals as goal
 
-pub overflow_add-at : goal.overflow_add-at
-overflow_add-at g c = omega arith
-
-pub loop-k-init : goal.loop-k-init
-loop-k-init g c = record {
-  unchanged = unchanged-same _;
-  count = refl;
-  fed = λ t e.
-      let P : List ℕ → Type 0 = λ m. Holds256 c.digest_of_header-hasher.result m in
-      let long : 16384 ≤ c.args.size = listed_at_least c.args.size c.requires.listed in
-      subst P (ap with_zero_checksum {x = c.args.head.now} {y = header_at (g.D.Device.bytes c.args.device.now) c.args.at} e ∙ first_fed (g.D.Device.bytes c.args.device.now) c.args.at c.args.size (omega arith) (rw (g.met.D.Device.sized c.args.device.now t) c.requires.within))
-      c.digest_of_header-hasher.ensures;
-}
-
-pub loop-k-preserved : goal.loop-k-preserved
-loop-k-preserved g c = record {
-  unchanged = unchanged-then c.loop-k.invariant.unchanged c.in_ok-read_at.ensures.unchanged;
-  count = c.in_ok-read_at.ensures.count ∙ c.loop-k.invariant.count;
-  fed = λ t e.
-      let P : List ℕ → Type 0 = λ m. Holds256 c.update.new.self m in
-      let v : List ℕ = g.D.Device.bytes c.args.device.now in
-      let long : length c.loop-k.window ≡ 4096 = omega arith in
-      let whole : c.args.size % 4096 ≡ 0 = listed_whole c.args.size c.requires.listed in
-      let read : c.read_at.new.into ≡ part v (c.args.at + 4096 * c.loop-k.k) 4096 =
-      c.in_ok-read_at.ensures.read t
-      ∙ ap (λ w. part w (c.args.at + 4096 * c.loop-k.k) (length c.loop-k.window)) (c.loop-k.invariant.unchanged.same t)
-      ∙ ap (λ n. part v (c.args.at + 4096 * c.loop-k.k) n) long in
-      let held : List ℕ = take (4096 * c.loop-k.k) (with_zero_checksum (part v c.args.at c.args.size)) in
-      subst P (ap (λ w. held ++ w) (c.as_slice.ensures ∙ read)
-      ∙ later_fed v c.args.at c.args.size c.loop-k.k c.loop-k.auto.k (omega arith) (rw (g.met.D.Device.sized c.args.device.now t) c.requires.within))
-      (c.update.ensures held (c.loop-k.invariant.fed t e));
-}
-
-pub returns-clause-digest : goal.returns-clause-digest
-returns-clause-digest g c = λ t e.
+pub digest_from-requires-clause-fed : goal.digest_from-requires-clause-fed
+digest_from-requires-clause-fed g c = λ t.
+    let v : List ℕ = g.D.Device.bytes c.args.device.now in
+    let P : List ℕ → Type 0 = λ m. Holds256 c.update.new.self m in
+    let W : List ℕ → Type 0 = λ w. Holds256 c.update.new.self (take 16384 (with_zero_checksum (part w c.args.at c.args.size))) in
     let long : 16384 ≤ c.args.size = listed_at_least c.args.size c.requires.listed in
-    let whole : 4096 * c.loop-k.k ≡ c.args.size = omega (arith, listed_whole c.args.size c.requires.listed) in
-    let held : List ℕ = take (4096 * c.loop-k.k) (with_zero_checksum (part (g.D.Device.bytes c.args.device.now) c.args.at c.args.size)) in
-    c.finalize.ensures held (c.loop-k.invariant.fed t e)
-    ∙ ap sha256 {x = held} (all_fed (g.D.Device.bytes c.args.device.now) c.args.at c.args.size c.loop-k.k (omega arith) whole (rw (g.met.D.Device.sized c.args.device.now t) c.requires.within))
+    let read : c.read_at.new.into ≡ kept_at v c.args.at =
+    c.in_ok-read_at.ensures.read t ∙ ap (λ n. part v (c.args.at + 4096) n) c.requires.kept in
+    let fed : Holds256 c.update.new.self (with_zero_checksum c.args.head.now ++ c.read_at.new.into) =
+    c.update.ensures (with_zero_checksum c.args.head.now) c.digest_of_header-hasher.ensures in
+    subst W (sym (c.in_ok-read_at.ensures.unchanged.same t))
+    (subst P (ap (λ xs. with_zero_checksum xs ++ c.read_at.new.into) {x = c.args.head.now} {y = header_at v c.args.at} (c.requires.head t)
+    ∙ ap (λ xs. with_zero_checksum (header_at v c.args.at) ++ xs) read
+    ∙ kept_fed v c.args.at c.args.size long (rw (g.met.D.Device.sized c.args.device.now t) c.requires.within)) fed)
+
+pub returns-clause-kept : goal.returns-clause-kept
+returns-clause-kept g c = λ t.
+    let v : List ℕ = g.D.Device.bytes c.args.device.now in
+    let read : c.read_at.new.into ≡ kept_at v c.args.at =
+    c.in_ok-read_at.ensures.read t ∙ ap (λ n. part v (c.args.at + 4096) n) c.requires.kept in
+    IfOk-weaker c.digest_from.result _ _ (λ _ _. read) (c.digest_from.ensures.digest t)

@@ -4,7 +4,7 @@ use Rattle.luks_area.specs.Ranges.{part}
 use Rattle.luks_head.specs.ChosenCopy.{HoldsChosenCopy, IsNoHeaderFault}
 use Rattle.luks_head.specs.Selection.{HasNoSoundCopy, IsVersion1}
 use Rattle.luks_head.proofs.ChosenCopyFacts.{not_version1, refused_by}
-use Rattle.luks_head.proofs.selection.select.Goals as goal
+use Rattle.luks_head.proofs.selection.select_with_json.Goals as goal
 
 pub returns-in-Some-clause-found : goal.returns-in-Some-clause-found
 returns-in-Some-clause-found g c = λ t.

@@ -1,0 +1,9 @@
+//! Tests of formatting and of edits. They stand here so that no crate is proved a second time for them.
+#![tactic(auto)]
+
+#[cfg(test)]
+mod formats;
+#[cfg(test)]
+mod formatting;
+#[cfg(test)]
+mod sums;

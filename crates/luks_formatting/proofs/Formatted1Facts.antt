@@ -1,0 +1,178 @@
+-- A volume that was formatted by LUKS1 is well formed, and its keyslot 0 opens.
+use Rattle.std.proofs.Common.{codes, slice_index_or, ◌≡◌, ◌↔◌, ℕ, ◌*◌, ◌-◌, ◌≤◌, List, length, Some, None, true, arith, refl, sym, ap, ◌∙◌, lit≤, lit<, if◌then◌else◌}
+use Rattle.byteorder.specs.Endian.{big_number}
+use Rattle.luks_area.specs.Ranges.{part}
+use Rattle.luks_kdf.specs.Names.{name_of}
+use Rattle.luks_area.specs.RangeFacts.{length-part_inside, part-part}
+use Rattle.luks_area.specs.declared.area.Area.{Area}
+use Rattle.luks_head.specs.Bytes.{text_at}
+use Rattle.luks_head.specs.Faults.{IsCommonFault, IsEntryFault}
+use Rattle.luks_head.specs.Header1.{active_word, enabled_word, entry, entry_iterations, IsCommon, IsEntry}
+use Rattle.luks_head.specs.Selection.{luks1, Chosen}
+use Rattle.luks_head.specs.declared.fault.HeadFault.{HeadFault}
+use Rattle.luks_head.specs.declared.fault.HeadFault.TheVariants as fault
+use Rattle.luks_head.specs.declared.fault.IterationsOf.TheVariants as of
+use Rattle.luks_head.specs.declared.luks1.Luks1Common.{Luks1Common}
+use Rattle.luks_head.specs.declared.luks1.Luks1Slot.{Luks1Slot}
+use Rattle.luks_slot.specs.Opening.{meets_digest, slot_key}
+use Rattle.luks_slot.specs.Refusal.{is_open_cipher, slot_refusal}
+use Rattle.luks_slot.specs.Sealing.{IsSealed}
+use Rattle.luks_slot.specs.declared.plan.AreaCipher.{AreaCipher}
+use Rattle.luks_slot.specs.declared.plan.AreaCipher.TheVariants.{Apart, Whole}
+use Rattle.luks_slot.specs.declared.plan.Derivation.{Derivation}
+use Rattle.luks_slot.specs.declared.plan.Derivation.TheVariants.{Pbkdf2, Argon2}
+use Rattle.luks_slot.specs.declared.plan.SlotPlan.{SlotPlan}
+use Rattle.luks_reading.specs.Answer.{Answer, IsLuks1HeadRefusal, IsLuks1Refusal, opens}
+use Rattle.luks_reading.specs.Checked.{WellFormed}
+use Rattle.luks_reading.specs.Plans.{HasLuks1Plan, IsLuks1Cipher, IsLuks1Derivation}
+use Rattle.luks_reading.specs.declared.open_fault.OpenFault.{OpenFault}
+use Rattle.luks_reading.specs.declared.open_fault.OpenFault.TheVariants.{Head, Meta, NoSuchSlot, SlotFree, Outside, Slot, Device, Memory}
+use Rattle.luks_reading.specs.declared.report.Data.{Data}
+use Rattle.luks_formatting.specs.declared.format.Format.{Format}
+use Rattle.luks_formatting.specs.Formatted1.{IsFormatted1}
+use Rattle.luks_formatting.specs.NewHeader1.{area1, new_slot, IsNewCipher1}
+use Rattle.luks_formatting.specs.NewPlan.{key_digest, IsNewDerivation, IsNewPlan}
+use Rattle.luks_formatting.specs.RandomBytes.{digest_salt, random_stripes, slot_place1, slot_salt, volume_key}
+use Rattle.luks_formatting.proofs.NewHeader1Facts.{common, fields, fit, header, holds, key_size, slot_len, slot_start, stripes_at}
+use Rattle.luks_formatting.proofs.NewPlanFacts.{key_meets, unrefused}
+
+-- an area by its numbers
+pub area_is : (a : Area) (start len : ℕ) → a.start ≡ start → a.len ≡ len → a ≡ record { start = start; len = len }
+area_is a start len first second =
+    let at : ℕ → ℕ → Area = λ s l. record { start = s; len = l } in
+    ap (λ s. at s a.len) first ∙ ap (at start) second
+
+-- the random bytes have the parts that are taken of them
+pub length-volume_key : (random : List ℕ) → 144 ≤ length random → length (volume_key random) ≡ 64
+length-volume_key random long = length-part_inside random 16 64 (omega (arith, long))
+
+derivation_is : (h e : List ℕ) (format : Format) (salt : List ℕ) (d : Derivation) → text_at h 72 32 ≡ name_of format.hash → entry_iterations e ≡ format.iterations → part e 8 32 ≡ salt
+    → IsLuks1Derivation h e d → IsNewDerivation format salt d
+derivation_is h e format salt (Pbkdf2 hash iterations own) name turns is_salt is = (is.0 ∙ name, is.1 ∙ turns, is.2 ∙ is_salt)
+derivation_is h e format salt Argon2 name turns is_salt is = absurd is
+
+cipher_is : (h : List ℕ) (cipher : AreaCipher) → text_at h 8 32 ≡ codes "aes" → text_at h 40 32 ≡ codes "xts-plain64" → IsLuks1Cipher h cipher → IsNewCipher1 cipher
+cipher_is h (Apart name mode) is_name is_mode is = (is.0 ∙ is_name, is.1 ∙ is_mode)
+cipher_is h (Whole text) is_name is_mode is = absurd is
+
+-- the cipher of a new keyslot opens
+pub cipher_opens : (cipher : AreaCipher) → IsNewCipher1 cipher → is_open_cipher cipher ≡ true
+cipher_opens (Apart name mode) is = rw (is.0, is.1) refl
+cipher_opens (Whole text) is = absurd is
+
+-- what a sealed area opens to, where the key meets the digest
+abbrev pub Reopens : Type 0
+Reopens = (plan : SlotPlan) (area passphrase key random : List ℕ) → 1 ≤ plan.stripes → length key ≡ plan.key_bytes
+    → length random ≡ (plan.stripes - 1) * plan.key_bytes → IsSealed plan area passphrase key random
+    → slot_key plan area passphrase ≡ (if meets_digest plan.digest key then Some key else None)
+
+module _ (payload : Data) (format : Format) (passphrase random old new : List ℕ) (some : 1 ≤ format.iterations) (large : 2097152 ≤ length new)
+    (x : IsFormatted1 payload format passphrase random old new) where
+  h : List ℕ
+  h = part new 0 592
+
+  chosen : Chosen new luks1
+  unfolding h
+  chosen = record {
+    long = omega (arith, large);
+    magic = sym (part-part new 0 592 0 6 (lit≤ tt)) ∙ x.written.common.magic;
+    version = ap (λ b. big_number 2 b) (sym (part-part new 0 592 6 2 (lit≤ tt))) ∙ x.written.common.version;
+  }
+
+  pub well_formed : WellFormed new payload
+  well_formed = record {
+    choice = luks1;
+    chosen = chosen;
+    formed = record {
+      header = (x.header, header payload format random (part new 0 592) x.header x.fields x.written some);
+      fit = fit payload format random (part new 0 592) x.header x.fields x.written (length new) large;
+    };
+  }
+
+  -- the plans of keyslot 0
+  hash_name : text_at (part new 0 592) 72 32 ≡ name_of format.hash
+  hash_name = (fields payload format random (part new 0 592) x.header x.fields x.written).hash_spec ∙ x.fields.common.hash_spec
+
+  new_plan : (plan : SlotPlan) → HasLuks1Plan (part new 0 592) 0 plan
+      → IsNewPlan format (slot_salt slot_place1 random) area1 (digest_salt random) (key_digest format random 20) plan
+  new_plan plan y =
+      let common_is = fields payload format random (part new 0 592) x.header x.fields x.written in
+      let entry_is = holds payload format random (part new 0 592) x.header x.fields x.written 0 (lit< tt) in
+      let start : plan.area.start ≡ 4096 = y.is.start ∙ ap (λ s. s * 512) (slot_start payload format random (part new 0 592) x.header x.fields x.written 0 (lit< tt)) in
+      let len : plan.area.len ≡ 256000 = y.is.len ∙ slot_len payload format random (part new 0 592) x.header x.fields x.written 0 (lit< tt) in
+      let key = key_size payload format random (part new 0 592) x.header x.fields x.written in
+      record {
+        derivation = derivation_is (part new 0 592) (entry (part new 0 592) 0) format (slot_salt slot_place1 random) plan.derivation hash_name entry_is.iterations entry_is.salt y.is.derivation;
+        area = area_is plan.area 4096 256000 start len;
+        area_key_bytes = y.is.area_key_bytes ∙ key;
+        key_bytes = y.is.key_bytes ∙ key;
+        stripes = y.is.stripes ∙ stripes_at payload format random (part new 0 592) x.header x.fields x.written 0 (lit< tt);
+        splitter_hash = y.is.splitter_hash ∙ hash_name;
+        digest = record {
+          hash = y.is.digest.hash ∙ hash_name;
+          iterations = y.is.digest.iterations ∙ common_is.mk_digest_iterations ∙ x.fields.common.mk_digest_iterations;
+          own_salt = y.is.digest.salt ∙ common_is.mk_digest_salt ∙ x.fields.common.mk_digest_salt;
+          own_stored = y.is.digest.stored ∙ common_is.mk_digest ∙ x.fields.common.mk_digest;
+        };
+      }
+
+  plan_unrefused : (plan : SlotPlan) → HasLuks1Plan (part new 0 592) 0 plan → slot_refusal plan ≡ None
+  plan_unrefused plan y =
+      let common_is = fields payload format random (part new 0 592) x.header x.fields x.written in
+      let cipher = cipher_is (part new 0 592) plan.cipher (common_is.cipher_name ∙ x.fields.common.cipher_name) (common_is.cipher_mode ∙ x.fields.common.cipher_mode) y.is.cipher in
+      unrefused format (slot_salt slot_place1 random) area1 (digest_salt random) (key_digest format random 20) plan (new_plan plan y) (cipher_opens plan.cipher cipher)
+
+  module _ (common_clear : (v : List ℕ) → ((f : HeadFault) → IsCommonFault v f → ⊥) ↔ ((c : Luks1Common) × IsCommon v c))
+      (entry_clear : (n : ℕ) (e : List ℕ) → ((f : HeadFault) → IsEntryFault n e f → ⊥) ↔ ((s : Luks1Slot) × IsEntry e s)) where
+    no_common : (f : HeadFault) → IsCommonFault (part new 0 592) f → ⊥
+    no_common = (common_clear (part new 0 592)).1 (x.header.common, common payload format random (part new 0 592) x.header x.fields x.written some)
+
+    no_entry : (f : HeadFault) → IsEntryFault 0 (entry (part new 0 592) 0) f → ⊥
+    no_entry = let whole = header payload format random (part new 0 592) x.header x.fields x.written some in
+        let slot : Luks1Slot = new_slot format random 0 in
+        (entry_clear 0 (entry (part new 0 592) 0)).1 (slice_index_or x.header.slots 0 slot, whole.slots.each 0 slot (lit< tt))
+
+    no_head : (f : HeadFault) → IsLuks1HeadRefusal (part new 0 592) 0 f → ⊥
+    no_head (fault.SlotState m) y = no_entry (fault.SlotState m) y.1
+    no_head (fault.Stripes m) y = no_entry (fault.Stripes m) y.1
+    no_head (fault.Iterations (of.Slot m)) y = no_entry (fault.Iterations (of.Slot m)) y.1
+    no_head f y = no_common f y
+
+    none : (f : OpenFault) → IsLuks1Refusal (part new 0 592) (length new) 0 f → ⊥
+    none (Head f) y = no_head f y
+    none (Meta f) y = y
+    none NoSuchSlot y = absurd (omega (arith, y))
+    none SlotFree y =
+        let on : active_word (entry (part new 0 592) 0) ≡ enabled_word = (holds payload format random (part new 0 592) x.header x.fields x.written 0 (lit< tt)).state in
+        let off = y.1 in
+        absurd (omega (arith, on, off))
+    none Outside y =
+        let past = y.past in
+        let start = ap (λ (a : Area). a.start) (new_plan y.plan y.is).area in
+        let len = ap (λ (a : Area). a.len) (new_plan y.plan y.is).area in
+        absurd (omega (arith, past, start, len, large))
+    none (Slot s) y = (let both : None ≡ Some s = sym (plan_unrefused y.plan y.is) ∙ y.refused in absurd (cc))
+    none Device y = y
+    none Memory y = y
+
+    pub slot_opens : Reopens → length random ≡ 256080 → Answer new 0 passphrase (opens (volume_key random))
+    slot_opens reopens counted =
+        let plan = x.slot.plan in
+        let is = new_plan plan x.slot.is in
+        let stored : length (key_digest format random 20) ≡ 20 =
+        ap length (sym ((fields payload format random (part new 0 592) x.header x.fields x.written).mk_digest ∙ x.fields.common.mk_digest))
+        ∙ length-part_inside (part new 0 592) 112 20 (let long = length-part_inside new 0 592 (omega (arith, large)) in omega (arith, long)) in
+        let key_len : length (volume_key random) ≡ plan.key_bytes = length-volume_key random (omega (arith, counted)) ∙ sym is.key_bytes in
+        let random_len : length (random_stripes slot_place1 random) ≡ (plan.stripes - 1) * plan.key_bytes =
+        length-part_inside random 144 255936 (omega (arith, counted)) ∙ sym (ap (λ s. (s - 1) * plan.key_bytes) is.stripes ∙ ap (λ k. (4000 - 1) * k) is.key_bytes) in
+        let meets = key_meets format random 20 plan.digest is.digest stored in
+        let stripes = is.stripes in
+        record {
+          choice = luks1;
+          chosen = chosen;
+          plan = plan;
+          is = x.slot.is;
+          unrefused = none;
+          key = reopens plan (part new plan.area.start plan.area.len) passphrase (volume_key random) (random_stripes slot_place1 random) (omega (arith, stripes)) key_len random_len x.slot.sealed
+              ∙ ap (λ b. if b then Some (volume_key random) else None) meets;
+        }

@@ -1,0 +1,110 @@
+-- What the steps of formatting by LUKS1 leave: the header of a new volume, and its key area.
+use Rattle.std.proofs.Common.{◌≡◌, ℕ, ◌+◌, ◌*◌, ◌≤◌, List, length, codes, inl, inr, arith, sym, ap, ◌∙◌, subst, lit<}
+use Rattle.luks_area.specs.Ranges.{part, written, IsAt, SameBut, SameOutside}
+use Rattle.luks_area.specs.RangeFacts.{part-same_but_at, part-written, same_but-same_outside, same_but-then, same_but-wider}
+use Rattle.luks_area.specs.declared.area.Area.{Area}
+use Rattle.luks_head.specs.Bytes.{text_at}
+use Rattle.luks_head.specs.Header1.{entry, entry_iterations}
+use Rattle.luks_head.specs.Written.{WritesLuks1}
+use Rattle.luks_head.specs.declared.luks1.Luks1.{Luks1}
+use Rattle.luks_kdf.specs.Names.{name_of}
+use Rattle.luks_slot.specs.Opening.{area_bytes}
+use Rattle.luks_slot.specs.Sealing.{IsSealed}
+use Rattle.luks_slot.specs.declared.plan.AreaCipher.{AreaCipher}
+use Rattle.luks_slot.specs.declared.plan.AreaCipher.TheVariants.{Apart, Whole}
+use Rattle.luks_slot.specs.declared.plan.Derivation.{Derivation}
+use Rattle.luks_slot.specs.declared.plan.Derivation.TheVariants.{Pbkdf2, Argon2}
+use Rattle.luks_slot.specs.declared.plan.SlotPlan.{SlotPlan}
+use Rattle.luks_reading.specs.Plans.{HasLuks1Plan, IsLuks1Cipher, IsLuks1Derivation}
+use Rattle.luks_reading.specs.declared.report.Data.{Data}
+use Rattle.luks_formatting.specs.declared.format.Format.{Format}
+use Rattle.luks_formatting.specs.Formatted1.{IsFormatted1, IsOfLuks1}
+use Rattle.luks_formatting.specs.NewHeader1.{area1, IsNewCipher1, IsNewHeader1}
+use Rattle.luks_formatting.specs.NewPlan.{key_digest, IsNewDerivation, IsNewPlan}
+use Rattle.luks_formatting.specs.RandomBytes.{digest_salt, random_stripes, slot_place1, slot_salt, volume_key}
+use Rattle.luks_formatting.proofs.NewHeader1Facts.{fields, holds, key_size, slot_len, slot_start, stripes_at}
+
+-- the key area alone
+pub sealed_rest : {u v : List ℕ} (area : Area) → area ≡ area1 → SameBut (IsAt area.start 256000) u v → SameBut IsOfLuks1 u v
+sealed_rest {u} {v} area is same =
+    let first : SameBut (IsAt 4096 256000) u v = subst (λ (a : Area). SameBut (IsAt a.start 256000) u v) is same in
+    same_but-wider (λ p at. inr at) first
+
+-- then the header
+pub both_rest : {u v w : List ℕ} (area : Area) (n : ℕ) → area ≡ area1 → n ≡ 592 → SameBut (IsAt area.start 256000) u v → SameOutside v w 0 n → SameBut IsOfLuks1 u w
+both_rest {u} {v} {w} area n is size same outside =
+    let second : SameBut IsOfLuks1 v w = same_but-wider (λ p at. inl at) (subst (λ (m : ℕ). SameBut (IsAt 0 m) v w) size (same_but-same_outside outside)) in
+    same_but-then (sealed_rest area is same) second
+
+derivation_by : (h e : List ℕ) (format : Format) (salt : List ℕ) (d : Derivation) → text_at h 72 32 ≡ name_of format.hash → entry_iterations e ≡ format.iterations → part e 8 32 ≡ salt
+    → IsNewDerivation format salt d → IsLuks1Derivation h e d
+derivation_by h e format salt (Pbkdf2 hash iterations own) name turns is_salt is = (is.0 ∙ sym name, is.1 ∙ sym turns, is.2 ∙ sym is_salt)
+derivation_by h e format salt Argon2 name turns is_salt is = absurd is
+
+cipher_by : (h : List ℕ) (cipher : AreaCipher) → text_at h 8 32 ≡ codes "aes" → text_at h 40 32 ≡ codes "xts-plain64" → IsNewCipher1 cipher → IsLuks1Cipher h cipher
+cipher_by h (Apart name mode) is_name is_mode is = (is.0 ∙ sym is_name, is.1 ∙ sym is_mode)
+cipher_by h (Whole text) is_name is_mode is = absurd is
+
+module _ (payload : Data) (format : Format) (random h : List ℕ) (d : Luks1) (new : IsNewHeader1 payload format random d) (put : WritesLuks1 h d) where
+  -- the plan that was sealed by is that of the header's keyslot 0
+  pub has_plan : (plan : SlotPlan) → IsNewPlan format (slot_salt slot_place1 random) area1 (digest_salt random) (key_digest format random 20) plan → IsNewCipher1 plan.cipher
+      → HasLuks1Plan h 0 plan
+  has_plan plan is cipher =
+      let common_is = fields payload format random h d new put in
+      let entry_is = holds payload format random h d new put 0 (lit< tt) in
+      let hash : text_at h 72 32 ≡ name_of format.hash = common_is.hash_spec ∙ new.common.hash_spec in
+      let key = key_size payload format random h d new put in
+      record {
+        numbered = lit< tt;
+        is = record {
+          derivation = derivation_by h (entry h 0) format (slot_salt slot_place1 random) plan.derivation hash entry_is.iterations entry_is.salt is.derivation;
+          cipher = cipher_by h plan.cipher (common_is.cipher_name ∙ new.common.cipher_name) (common_is.cipher_mode ∙ new.common.cipher_mode) cipher;
+          start = ap (λ (a : Area). a.start) is.area ∙ sym (ap (λ s. s * 512) (slot_start payload format random h d new put 0 (lit< tt)));
+          len = ap (λ (a : Area). a.len) is.area ∙ sym (slot_len payload format random h d new put 0 (lit< tt));
+          area_key_bytes = is.area_key_bytes ∙ sym key;
+          key_bytes = is.key_bytes ∙ sym key;
+          stripes = is.stripes ∙ sym (stripes_at payload format random h d new put 0 (lit< tt));
+          splitter_hash = is.splitter_hash ∙ sym hash;
+          digest = record {
+            hash = is.digest.hash ∙ sym hash;
+            iterations = is.digest.iterations ∙ sym (common_is.mk_digest_iterations ∙ new.common.mk_digest_iterations);
+            salt = is.digest.own_salt ∙ sym (common_is.mk_digest_salt ∙ new.common.mk_digest_salt);
+            stored = is.digest.own_stored ∙ sym (common_is.mk_digest ∙ new.common.mk_digest);
+          };
+        };
+      }
+
+-- the volume that both steps leave
+module _ (payload : Data) (format : Format) (passphrase random u v w bytes key stripes : List ℕ) (d : Luks1) (plan : SlotPlan)
+    (new : IsNewHeader1 payload format random d) (put : WritesLuks1 bytes d)
+    (is : IsNewPlan format (slot_salt slot_place1 random) area1 (digest_salt random) (key_digest format random 20) plan) (cipher : IsNewCipher1 plan.cipher)
+    (large : 592 ≤ length v) (wrote : w ≡ written v 0 bytes) (outside : SameOutside v w 0 (length bytes)) (same : SameBut (IsAt plan.area.start 256000) u v)
+    (is_key : key ≡ volume_key random) (are_stripes : stripes ≡ random_stripes slot_place1 random) (sealed : IsSealed plan (area_bytes v plan.area) passphrase key stripes) where
+  there : part w 0 592 ≡ bytes
+  there =
+      let fits : 0 + length bytes ≤ length v = (let long = put.long in omega (arith, long, large)) in
+      ap (λ l. part l 0 592) wrote ∙ ap (λ n. part (written v 0 bytes) 0 n) (sym put.long) ∙ part-written v 0 bytes fits
+
+  header_put : WritesLuks1 (part w 0 592) d
+  header_put = subst (λ (b : List ℕ). WritesLuks1 b d) (sym there) put
+
+  area_kept : area_bytes w plan.area ≡ area_bytes v plan.area
+  area_kept =
+      let behind : SameBut (IsAt 0 592) v w = subst (λ (m : ℕ). SameBut (IsAt 0 m) v w) put.long (same_but-same_outside outside) in
+      let start : plan.area.start ≡ 4096 = ap (λ (a : Area). a.start) is.area in
+      part-same_but_at 0 592 plan.area.start plan.area.len behind (inr (omega (arith, start)))
+
+  pub formatted : IsFormatted1 payload format passphrase random u w
+  formatted = record {
+    header = d;
+    fields = new;
+    written = header_put;
+    slot = record {
+      plan = plan;
+      is = has_plan payload format random (part w 0 592) d new header_put plan is cipher;
+      sealed = subst (λ (k : List ℕ). IsSealed plan (area_bytes w plan.area) passphrase k (random_stripes slot_place1 random)) is_key
+          (subst (λ (r : List ℕ). IsSealed plan (area_bytes w plan.area) passphrase key r) are_stripes
+          (subst (λ (a : List ℕ). IsSealed plan a passphrase key stripes) (sym area_kept) sealed));
+    };
+    rest = both_rest plan.area (length bytes) is.area put.long same outside;
+  }

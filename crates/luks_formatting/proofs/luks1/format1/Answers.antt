@@ -1,0 +1,26 @@
+use Rattle.std.proofs.Common.{◌≡◌, length, arith, ◌∙◌}
+use Rattle.luks_formatting.proofs.luks1.format1.Goals as goal
+
+pub returns-clause-well_formed : goal.returns-clause-well_formed
+returns-clause-well_formed g c tells =
+    let bytes = g.D.Device.bytes in
+    let w = bytes c.write_volume.new.device in
+    let ready = c.in_ok-judge.ensures.formattable in
+    let some = ready.iterations in
+    let least = ready.large in
+    let total = c.len.ensures in
+    let size : length w ≡ g.D.Device.size c.args.device.now = g.met.D.Device.sized c.write_volume.new.device tells ∙ c.write_volume.ensures.size in
+    c.formatted1_opens.ensures.well_formed c.args.data_ c.args.format.now c.args.passphrase.now c.args.random.now (bytes c.args.device.now) w
+    (omega (arith, some)) (omega (arith, size, least, total)) (c.in_ok-write_volume.ensures.formatted tells)
+
+pub returns-clause-opens : goal.returns-clause-opens
+returns-clause-opens g c tells =
+    let bytes = g.D.Device.bytes in
+    let w = bytes c.write_volume.new.device in
+    let ready = c.in_ok-judge.ensures.formattable in
+    let some = ready.iterations in
+    let least = ready.large in
+    let total = c.len.ensures in
+    let size : length w ≡ g.D.Device.size c.args.device.now = g.met.D.Device.sized c.write_volume.new.device tells ∙ c.write_volume.ensures.size in
+    c.formatted1_opens.ensures.opens c.args.data_ c.args.format.now c.args.passphrase.now c.args.random.now (bytes c.args.device.now) w
+    (omega (arith, some)) (omega (arith, size, least, total)) ready.counted (c.in_ok-write_volume.ensures.formatted tells)

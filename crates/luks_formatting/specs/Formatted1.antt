@@ -1,0 +1,25 @@
+-- A volume that was formatted by LUKS1.
+use Rattle.std.specs.Prelude.{ℕ, List}
+use Rattle.luks_area.specs.Ranges.{part, IsAt, IsOfEither, SameBut}
+use Rattle.luks_head.specs.Written.{WritesLuks1}
+use Rattle.luks_head.specs.declared.luks1.Luks1.{Luks1}
+use Rattle.luks_reading.specs.declared.report.Data.{Data}
+use Rattle.luks_reading.specs.Plans.{HasLuks1Plan}
+use Rattle.luks_formatting.specs.declared.format.Format.{Format}
+use Rattle.luks_formatting.specs.NewHeader1.{IsNewHeader1}
+use Rattle.luks_formatting.specs.NewPlan.{HoldsKey}
+use Rattle.luks_formatting.specs.RandomBytes.{random_stripes, slot_place1, volume_key}
+
+-- the places of the header and of keyslot 0's area
+abbrev pub IsOfLuks1 : ℕ → Type 0
+IsOfLuks1 = IsOfEither (IsAt 0 592) (IsAt 4096 256000)
+
+-- `new` begins with the header of a new volume, its keyslot 0 holds the volume key, and all other
+-- bytes are those of `old`
+pub record IsFormatted1 (payload : Data) (format : Format) (passphrase random old new : List ℕ) : Type 0 where
+  pub header : Luks1
+  pub fields : IsNewHeader1 payload format random header
+  pub written : WritesLuks1 (part new 0 592) header
+  pub slot : HoldsKey (HasLuks1Plan (part new 0 592) 0) new passphrase (volume_key random)
+      (random_stripes slot_place1 random)
+  pub rest : SameBut IsOfLuks1 old new

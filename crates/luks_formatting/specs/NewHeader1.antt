@@ -1,0 +1,75 @@
+-- The LUKS1 header of a new volume (LUKS1 On-Disk Format 1.2.3, "The partition header").
+use Rattle.std.specs.Prelude.{◌≡◌, ℕ, ◌+◌, ◌*◌, ◌==◌, ◌<◌, List, codes, if◌then◌else◌, length, replicate, slice_index_or}
+use Rattle.luks_area.specs.declared.area.Area.{Area}
+use Rattle.luks_kdf.specs.Names.{name_of}
+use Rattle.luks_slot.specs.declared.plan.AreaCipher.{AreaCipher}
+use Rattle.luks_slot.specs.declared.plan.AreaCipher.TheVariants.{Apart, Whole}
+use Rattle.luks_head.specs.declared.luks1.Luks1.{Luks1}
+use Rattle.luks_head.specs.declared.luks1.Luks1Common.{Luks1Common}
+use Rattle.luks_head.specs.declared.luks1.Luks1Slot.{Luks1Slot}
+use Rattle.luks_head.specs.declared.luks1.SlotState.TheVariants.{Enabled, Disabled}
+use Rattle.luks_reading.specs.declared.report.Data.{Data}
+use Rattle.luks_reading.specs.declared.report.Data.TheVariants.{Here, Elsewhere}
+use Rattle.luks_formatting.specs.declared.format.Format.{Format}
+use Rattle.luks_formatting.specs.NewPlan.{key_digest}
+use Rattle.luks_formatting.specs.NewUuid.{uuid_text}
+use Rattle.luks_formatting.specs.RandomBytes.{digest_salt, slot_place1, slot_salt, uuid_bytes}
+
+-- where the payload begins, in sectors of 512 bytes: at 2 MiB, or on another device at its start
+abbrev pub payload_sector : Data → ℕ
+payload_sector Here = 4096
+payload_sector Elsewhere = 0
+
+-- where the key material of keyslot n begins, in sectors: it takes 500 of them, and each begins at a
+-- multiple of 4096 bytes
+abbrev pub material_sector : ℕ → ℕ
+material_sector n = 8 + 504 * n
+
+-- the fields before the keyslots
+pub record IsNewCommon (payload : Data) (format : Format) (random : List ℕ) (common : Luks1Common) : Type 0 where
+  pub cipher_name : common.cipher_name.bytes ≡ codes "aes"
+  pub cipher_mode : common.cipher_mode.bytes ≡ codes "xts-plain64"
+  pub hash_spec : common.hash_spec.bytes ≡ name_of format.hash
+  pub payload_offset : common.payload_offset ≡ payload_sector payload
+  pub key_bytes : common.key_bytes ≡ 64
+  pub mk_digest : common.mk_digest ≡ key_digest format random 20
+  pub mk_digest_salt : common.mk_digest_salt ≡ digest_salt random
+  pub mk_digest_iterations : common.mk_digest_iterations ≡ format.iterations
+  pub uuid : common.uuid.bytes ≡ uuid_text (uuid_bytes random)
+
+-- keyslot 0, which holds the key
+abbrev pub first_slot : Format → List ℕ → Luks1Slot
+first_slot format random = record {
+  state = Enabled;
+  iterations = format.iterations;
+  salt = slot_salt slot_place1 random;
+  key_material_offset = material_sector 0;
+  stripes = 4000;
+}
+
+-- the keyslot n, which is free
+abbrev pub free_slot : ℕ → Luks1Slot
+free_slot n = record {
+  state = Disabled;
+  iterations = 0;
+  salt = replicate 32 0;
+  key_material_offset = material_sector n;
+  stripes = 4000;
+}
+
+abbrev pub new_slot : Format → List ℕ → ℕ → Luks1Slot
+new_slot format random n = if n == 0 then first_slot format random else free_slot n
+
+-- the whole header
+pub record IsNewHeader1 (payload : Data) (format : Format) (random : List ℕ) (header : Luks1) : Type 0 where
+  pub common : IsNewCommon payload format random header.common
+  pub eight : length header.slots ≡ 8
+  pub slots : (n : ℕ) (s : Luks1Slot) → n < 8 → slice_index_or header.slots n s ≡ new_slot format random n
+
+-- the area of keyslot 0, and its cipher
+abbrev pub area1 : Area
+area1 = record { start = 4096; len = 256000 }
+
+abbrev pub IsNewCipher1 : AreaCipher → Type 0
+IsNewCipher1 (Apart name mode) = (name.now ≡ codes "aes") × (mode.now ≡ codes "xts-plain64")
+IsNewCipher1 (Whole text) = ⊥

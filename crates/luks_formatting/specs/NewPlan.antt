@@ -1,0 +1,55 @@
+-- What keyslot 0 of a new volume says of its opening.
+use Rattle.std.specs.Prelude.{◌≡◌, ℕ, List, None}
+use Rattle.luks_area.specs.declared.area.Area.{Area}
+use Rattle.luks_kdf.specs.Derivation.{pbkdf2}
+use Rattle.luks_kdf.specs.Names.{block_size_of, hash_of, name_of}
+use Rattle.luks_slot.specs.declared.plan.Derivation.{Derivation}
+use Rattle.luks_slot.specs.declared.plan.Derivation.TheVariants.{Pbkdf2, Argon2}
+use Rattle.luks_slot.specs.declared.plan.DigestPlan.{DigestPlan}
+use Rattle.luks_slot.specs.declared.plan.SlotPlan.{SlotPlan}
+use Rattle.luks_slot.specs.Opening.{area_bytes, HasIterations}
+use Rattle.luks_slot.specs.Refusal.{slot_refusal}
+use Rattle.luks_slot.specs.Sealing.{IsSealed}
+use Rattle.luks_formatting.specs.declared.format.Format.{Format}
+use Rattle.luks_formatting.specs.RandomBytes.{digest_salt, volume_key}
+
+-- the digest of the volume key, of `len` bytes: PBKDF2 of the key
+abbrev pub key_digest : Format → List ℕ → ℕ → List ℕ
+key_digest format random len =
+    pbkdf2 (hash_of format.hash) (block_size_of format.hash) (volume_key random) (digest_salt random) format.iterations len
+
+abbrev pub IsNewDerivation : Format → List ℕ → Derivation → Type 0
+IsNewDerivation format salt (Pbkdf2 hash iterations own_salt) =
+    (hash.now ≡ name_of format.hash) × (iterations ≡ format.iterations) × (own_salt.now ≡ salt)
+IsNewDerivation format salt Argon2 = ⊥
+
+pub record IsNewDigest (format : Format) (salt stored : List ℕ) (digest : DigestPlan) : Type 0 where
+  pub hash : digest.hash.now ≡ name_of format.hash
+  pub iterations : digest.iterations ≡ format.iterations
+  pub own_salt : digest.salt.now ≡ salt
+  pub own_stored : digest.stored.now ≡ stored
+
+-- the plan of a keyslot with this salt and area, and a digest with that salt that stores these bytes;
+-- its cipher is a matter of the version
+pub record IsNewPlan (format : Format) (salt : List ℕ) (own_area : Area) (digest_salt stored : List ℕ) (plan : SlotPlan) : Type 0 where
+  pub derivation : IsNewDerivation format salt plan.derivation
+  pub area : plan.area ≡ own_area
+  pub area_key_bytes : plan.area_key_bytes ≡ 64
+  pub key_bytes : plan.key_bytes ≡ 64
+  pub stripes : plan.stripes ≡ 4000
+  pub splitter_hash : plan.splitter_hash.now ≡ name_of format.hash
+  pub digest : IsNewDigest format digest_salt stored plan.digest
+
+-- a key of 64 bytes is sealed by the plan in 4000 stripes
+pub record IsSealable (plan : SlotPlan) : Type 0 where
+  pub unrefused : slot_refusal plan ≡ None
+  pub iterations : HasIterations plan.derivation
+  pub key_bytes : plan.key_bytes ≡ 64
+  pub stripes : plan.stripes ≡ 4000
+
+-- the area of a keyslot of the volume `v`, one of these plans, holds the key under the passphrase:
+-- stripes of which all but the last are the random ones, and then zeros
+pub record HoldsKey (plans : SlotPlan → Type 0) (v passphrase key random : List ℕ) : Type 0 where
+  pub plan : SlotPlan
+  pub is : plans plan
+  pub sealed : IsSealed plan (area_bytes v plan.area) passphrase key random

@@ -1,0 +1,48 @@
+//! How a volume is made, and why one isn't.
+
+use luks_area::DeviceFault;
+use luks_kdf::HashName;
+use thiserror::Error;
+
+/// How a new volume is made; all else is fixed.
+#[derive(Clone, Copy, Debug, PartialEq, Eq)]
+pub struct Format {
+    /// The hash of the derivation, the splitter and the digest.
+    pub hash: HashName,
+    /// The iterations of the derivation and of the digest, at least 1000.
+    pub iterations: u32,
+}
+
+/// Why a volume isn't made: the first in this order, but for want of memory and the device's
+/// failure.
+///
+/// All but the device's failure leave every byte as it was.
+#[derive(Debug, Clone, Copy, PartialEq, Eq, Drop, Error)]
+pub enum FormatFault {
+    /// The volume has fewer than 2097152 bytes, for LUKS2 16777216.
+    #[error("TooSmall")]
+    TooSmall,
+    /// Fewer than 1000 iterations.
+    #[error("Iterations")]
+    Iterations,
+    /// The random bytes aren't exactly as many as it takes.
+    #[error("RandomLength")]
+    RandomLength,
+    /// Memory was refused.
+    #[error("Memory")]
+    Memory,
+    /// A device call failed.
+    #[error("Device")]
+    Device,
+}
+
+impl From<DeviceFault> for FormatFault {
+    ghost use Rattle.std.specs.Prelude.{◌≡◌};
+    ghost use Rattle.luks_formatting.specs.declared.format.FormatFault.{FormatFault};
+
+    ghost from_gives = { λ _ fault. fault ≡ FormatFault.Device };
+
+    fn from(_: DeviceFault) -> FormatFault {
+        FormatFault::Device
+    }
+}

@@ -1,0 +1,137 @@
+//! Formatting by LUKS1.
+ghost use Rattle.std.specs.Prelude.{◌≡◌, ◌+◌, ◌^◌, ◌<◌, ◌≤◌, ℕ, List, length, Some, IfErr, IfOk, OnOk};
+ghost use Rattle.luks_area.specs.Device.{CountsFailure, is_failure};
+ghost use Rattle.luks_area.specs.Ranges.{SameBut};
+ghost use Rattle.luks_reading.specs.Answer.{Answer, opens};
+ghost use Rattle.luks_reading.specs.Checked.{WellFormed};
+ghost use Rattle.luks_formatting.specs.FormatFaults.{HasNoFault, IsAnsweredFault, IsFormat1Fault, is_device_fault};
+ghost use Rattle.luks_formatting.specs.Formatted1.{IsFormatted1, IsOfLuks1};
+ghost use Rattle.luks_formatting.specs.NewHeader1.{area1, IsNewCipher1, IsNewHeader1};
+ghost use Rattle.luks_formatting.specs.NewPlan.{key_digest, IsNewPlan, IsSealable};
+ghost use Rattle.luks_formatting.specs.RandomBytes.{digest_salt, slot_place1, slot_salt, volume_key};
+ghost use Rattle.luks_reading.specs.declared.report.Data.{Data as Payload};
+ghost use Rattle.luks_formatting.specs.declared.format.FormatFault.{FormatFault as TheFault};
+
+use crate::format::{Format, FormatFault};
+use crate::judging::judge;
+use crate::laws::formatted1_opens;
+use crate::luks1_header::{SLOT_SALT, new_header};
+use crate::plan::new_plan;
+use crate::random::{KEY, KEY_BYTES, RANDOM_STRIPES, SALT_BYTES, taken};
+use crate::sealing::seal_key;
+use luks_area::{Area, Device, DeviceFault};
+use luks_edit::Done;
+use luks_head::Luks1;
+use luks_reading::Data;
+use luks_slot::{AreaCipher, SlotPlan};
+use luks_steps::write_range;
+
+/// How many random bytes `format1` takes.
+pub const FORMAT1_RANDOM: u64 = 256080;
+
+/// The least length of a volume in bytes: where the payload begins.
+const LEAST: u64 = 2097152;
+
+/// The area of keyslot 0, 500 sectors.
+const AREA: Area = Area {
+    start: 4096,
+    len: 256000,
+};
+
+/// Makes a LUKS1 volume whose keyslot 0 opens by the passphrase to a volume key of 64 bytes. What
+/// stood there before is overwritten without question.
+///
+/// Of the random bytes it takes those of the uuid (16), the volume key (64), the salt of its digest
+/// (32), the salt of keyslot 0 (32) and all stripes but the last (3999 of 64 bytes), in this order.
+/// The key area is written first, then the header, a flush after each. `Memory` is never answered.
+pub fn format1<D: Device>(
+    device: &mut D,
+    data_: Data,
+    format: &Format,
+    passphrase: &[u8],
+    random: &[u8],
+) -> Result<Done, FormatFault>
+    requires { D.failed device.old + 1 < 2 ^ 64 }
+
+    // The first fault that stands, and then no byte changes; else the device's.
+    ensures fault { IfErr result
+        (IsAnsweredFault (IsFormat1Fault (D.size device.old) format.now random.now)) }
+    ensures faultless { OnOk result
+        (HasNoFault (IsFormat1Fault (D.size device.old) format.now random.now)) }
+    ensures same { D.tells → (f : TheFault)
+        → IsFormat1Fault (D.size device.old) format.now random.now f
+        → D.bytes device.new ≡ D.bytes device.old }
+
+    // The device: `Device` exactly where a call of it failed, and the bytes that may have changed.
+    ensures count { CountsFailure is_device_fault result
+        (D.failed device.old) (D.failed device.new) }
+    ensures size { D.size device.new ≡ D.size device.old }
+    ensures rest { D.tells → SameBut IsOfLuks1 (D.bytes device.old) (D.bytes device.new) }
+
+    // The volume that was made.
+    ensures slot { IfOk result (λ done. done.slot ≡ Some 0) }
+    ensures formatted { D.tells → OnOk result (IsFormatted1 data_ format.now
+        passphrase.now random.now (D.bytes device.old) (D.bytes device.new)) }
+    ensures well_formed { D.tells → OnOk result (WellFormed (D.bytes device.new) data_) }
+    ensures opens { D.tells → OnOk result
+        (Answer (D.bytes device.new) 0 passphrase.now (opens (volume_key random.now))) }
+{
+    formatted1_opens();
+    judge(LEAST, FORMAT1_RANDOM, device.len(), format, random)?;
+    write_volume(device, data_, format, passphrase, random)?;
+    Ok(Done { slot: Some(0) })
+}
+
+// The same where none of the faults stands.
+fn write_volume<D: Device>(
+    device: &mut D,
+    data_: Data,
+    format: &Format,
+    passphrase: &[u8],
+    random: &[u8],
+) -> Result<(), DeviceFault>
+    requires iterations { 1000 ≤ format.now.iterations }
+    requires long { length random.now ≡ 256080 }
+    requires within { 2097152 ≤ D.size device.old }
+    requires room { D.failed device.old + 1 < 2 ^ 64 }
+    ensures count { CountsFailure is_failure result (D.failed device.old) (D.failed device.new) }
+    ensures size { D.size device.new ≡ D.size device.old }
+    ensures rest { D.tells → SameBut IsOfLuks1 (D.bytes device.old) (D.bytes device.new) }
+    ensures formatted { D.tells → OnOk result (IsFormatted1 data_ format.now
+        passphrase.now random.now (D.bytes device.old) (D.bytes device.new)) }
+{
+    let header = new_header(data_, format, random);
+    let plan = slot_plan(&header, format);
+    let key = taken(random, KEY, KEY_BYTES);
+    let stripes = taken(random, SLOT_SALT + SALT_BYTES, RANDOM_STRIPES);
+    seal_key(device, &plan, passphrase, key, stripes)?;
+    write_range(device, 0, &header.write())?;
+    Ok(())
+}
+
+// The plan of keyslot 0 of the header.
+fn slot_plan<'a>(header: &'a Luks1, format: &Format) -> SlotPlan<'a>
+    requires { 1 ≤ format.now.iterations }
+    ensures plan { (payload : Payload) (random : List ℕ)
+        → IsNewHeader1 payload format.now random header.now
+        → IsNewPlan format.now (slot_salt slot_place1 random) area1
+        (digest_salt random) (key_digest format.now random 20) result }
+    ensures cipher { IsNewCipher1 result.cipher }
+    ensures area { result.area ≡ area1 }
+    ensures sealable { IsSealable result }
+{
+    let cipher = AreaCipher::Apart {
+        name: "aes",
+        mode: "xts-plain64",
+    };
+    let salt = &header.slots[0].salt;
+    let common = &header.common;
+    new_plan(
+        format,
+        cipher,
+        AREA,
+        salt,
+        &common.mk_digest_salt,
+        &common.mk_digest,
+    )
+}

@@ -1,0 +1,102 @@
+//! The LUKS1 header of a new volume.
+ghost use Rattle.std.specs.Prelude.{◌≡◌, ◌≤◌, ◌<◌, ℕ, length, slice_index_or};
+ghost use Rattle.luks_head.specs.declared.luks1.Luks1Slot.{Luks1Slot as TheSlot};
+ghost use Rattle.luks_formatting.specs.NewHeader1.{first_slot, free_slot, material_sector, new_slot, payload_sector, IsNewCommon, IsNewHeader1};
+
+use crate::format::Format;
+use crate::new_uuid::{text, uuid_text};
+use crate::plan::put_key_digest;
+use crate::random::{DIGEST_SALT, STRIPES, UUID, taken_array};
+use luks_head::{Luks1, Luks1Common, Luks1Slot, SlotState};
+use luks_reading::Data;
+
+/// Where the salt of keyslot 0 stands among the random bytes.
+pub(crate) const SLOT_SALT: usize = 112;
+
+/// The header, whose keyslot 0 is in use.
+pub(crate) fn new_header(data_: Data, format: &Format, random: &[u8]) -> Luks1
+    requires iterations { 1 ≤ format.now.iterations }
+    requires long { 144 ≤ length random.now }
+    ensures { IsNewHeader1 data_ format.now random.now result }
+{
+    Luks1 {
+        common: new_common(data_, format, random),
+        slots: new_slots(format, random),
+    }
+}
+
+fn new_common(data_: Data, format: &Format, random: &[u8]) -> Luks1Common
+    requires iterations { 1 ≤ format.now.iterations }
+    requires long { 144 ≤ length random.now }
+    ensures { IsNewCommon data_ format.now random.now result }
+{
+    let mut mk_digest = [0; 20];
+    put_key_digest(&mut mk_digest, format, random);
+    Luks1Common {
+        cipher_name: text("aes"),
+        cipher_mode: text("xts-plain64"),
+        hash_spec: text(format.hash.text()),
+        payload_offset: payload_sector(data_),
+        key_bytes: 64,
+        mk_digest,
+        mk_digest_salt: taken_array(random, DIGEST_SALT),
+        mk_digest_iterations: format.iterations,
+        uuid: uuid_text(taken_array(random, UUID)),
+    }
+}
+
+fn payload_sector(data_: Data) -> u32
+    ensures { result ≡ payload_sector data_ }
+{
+    match data_ {
+        Data::Here => 4096,
+        Data::Elsewhere => 0,
+    }
+}
+
+fn new_slots(format: &Format, random: &[u8]) -> [Luks1Slot; 8]
+    requires { 144 ≤ length random.now }
+    ensures eight { length result ≡ 8 }
+    ensures each { (n : ℕ) (s : TheSlot) → n < 8
+        → slice_index_or result n s ≡ new_slot format.now random.now n }
+{
+    let mut slots = [first_slot(format, random); 8];
+    for n in 1..8 {
+        slots[n] = free_slot(n as u32);
+    }
+    slots
+}
+
+fn first_slot(format: &Format, random: &[u8]) -> Luks1Slot
+    requires { 144 ≤ length random.now }
+    ensures { result ≡ first_slot format.now random.now }
+{
+    Luks1Slot {
+        state: SlotState::Enabled,
+        iterations: format.iterations,
+        salt: taken_array(random, SLOT_SALT),
+        key_material_offset: material_sector(0),
+        stripes: STRIPES,
+    }
+}
+
+fn free_slot(n: u32) -> Luks1Slot
+    requires { n < 8 }
+    ensures { result ≡ free_slot n }
+{
+    Luks1Slot {
+        state: SlotState::Disabled,
+        iterations: 0,
+        salt: [0; 32],
+        key_material_offset: material_sector(n),
+        stripes: STRIPES,
+    }
+}
+
+/// Where the key material of the keyslot `n` begins, in sectors.
+fn material_sector(n: u32) -> u32
+    requires { n < 8 }
+    ensures { result ≡ material_sector n }
+{
+    8 + 504 * n
+}

@@ -1,0 +1,82 @@
+ghost use Rattle.std.specs.Prelude.{◌≡◌, ◌+◌, ◌-◌, ◌*◌, ◌^◌, ◌<◌, ◌≤◌, length, replicate, Err, Some, IfErr, OnOk};
+ghost use Rattle.luks_area.specs.Area.{IsInside};
+ghost use Rattle.luks_area.specs.Device.{CountsFailure, is_failure};
+ghost use Rattle.luks_area.specs.Ranges.{written, IsAt, SameBut, SameOutside};
+ghost use Rattle.luks_area.specs.Sectors.{rounded_to_sectors};
+ghost use Rattle.luks_slot.specs.declared.fault.SlotFault.{SlotFault as TheFault};
+ghost use Rattle.luks_slot.specs.Fault.{IsAnsweredFault, is_device_fault};
+ghost use Rattle.luks_slot.specs.Opening.{area_bytes, stripe_bytes, HasIterations};
+ghost use Rattle.luks_slot.specs.Refusal.{slot_refusal};
+ghost use Rattle.luks_slot.specs.Sealing.{IsSealed};
+
+use luks_area::{Area, Device, DeviceFault};
+use luks_slot::{Key, SlotFault, SlotPlan, seal, wipe};
+
+/// Writes the bytes from the place `at` on, and flushes.
+pub fn write_range<D: Device>(device: &mut D, at: u64, bytes: &[u8]) -> Result<(), DeviceFault>
+    requires within { at + length bytes.now ≤ D.size device.old }
+    requires room { D.failed device.old + 1 < 2 ^ 64 }
+    ensures count { CountsFailure is_failure result (D.failed device.old) (D.failed device.new) }
+    ensures size { D.size device.new ≡ D.size device.old }
+    ensures wrote { D.tells → OnOk result
+        (D.bytes device.new ≡ written (D.bytes device.old) at bytes.now) }
+    ensures outside { D.tells
+        → SameOutside (D.bytes device.old) (D.bytes device.new) at (length bytes.now) }
+{
+    device.write_at(at, bytes)?;
+    device.flush()?;
+    Ok(())
+}
+
+/// Overwrites an area with zeros, its whole length, and flushes.
+pub fn wipe_area<D: Device>(device: &mut D, area: Area) -> Result<(), DeviceFault>
+    requires within { IsInside area (D.size device.old) }
+    requires room { D.failed device.old + 1 < 2 ^ 64 }
+    ensures count { CountsFailure is_failure result (D.failed device.old) (D.failed device.new) }
+    ensures size { D.size device.new ≡ D.size device.old }
+    ensures wiped { D.tells → OnOk result
+        (area_bytes (D.bytes device.new) area ≡ replicate area.len 0) }
+    ensures rest { D.tells
+        → SameBut (IsAt area.start area.len) (D.bytes device.old) (D.bytes device.new) }
+{
+    wipe(device, area)?;
+    device.flush()?;
+    Ok(())
+}
+
+/// Seals the key in the area of the plan, and flushes; or answers why the plan can't be sealed, and
+/// then changes no byte. The range is the sectors that hold the stripes.
+pub fn seal_area<D: Device>(
+    device: &mut D,
+    plan: &SlotPlan<'_>,
+    passphrase: &[u8],
+    key: &Key,
+    random: &[u8],
+) -> Result<(), SlotFault>
+    requires iterations { HasIterations plan.now.derivation }
+    requires key_length { length key.now ≡ plan.now.key_bytes }
+    requires some_stripes { 1 ≤ plan.now.stripes }
+    requires random_length { length random.now ≡ (plan.now.stripes - 1) * plan.now.key_bytes }
+    requires sectors { rounded_to_sectors (stripe_bytes plan.now) ≤ plan.now.area.len }
+    requires within { IsInside plan.now.area (D.size device.old) }
+    requires room { D.failed device.old + 1 < 2 ^ 64 }
+    ensures refused { (f : TheFault) → slot_refusal plan.now ≡ Some f → result ≡ Err f }
+    ensures fault { IfErr result (IsAnsweredFault plan.now) }
+    ensures count { CountsFailure is_device_fault result
+        (D.failed device.old) (D.failed device.new) }
+    ensures size { D.size device.new ≡ D.size device.old }
+    ensures same { D.tells → (f : TheFault) → slot_refusal plan.now ≡ Some f
+        → D.bytes device.new ≡ D.bytes device.old }
+    ensures sealed { D.tells → OnOk result
+        (IsSealed plan.now (area_bytes (D.bytes device.new) plan.now.area)
+        passphrase.now key.now random.now) }
+    ensures rest { D.tells
+        → SameBut (IsAt plan.now.area.start (rounded_to_sectors (stripe_bytes plan.now)))
+        (D.bytes device.old) (D.bytes device.new) }
+{
+    seal(device, plan, passphrase, key, random)?;
+    match device.flush() {
+        Ok(()) => Ok(()),
+        Err(_) => Err(SlotFault::Device),
+    }
+}
