@@ -10,7 +10,7 @@ ghost use Rattle.luks_edit.specs.declared.edit.Edit.{Edit as TheEdit};
 ghost use Rattle.luks_edit.specs.Kept.{Keeps};
 ghost use Rattle.luks2_edits.specs.Edited.{After2, HasRanges, NamedKeyslots2, OpensAfter2};
 ghost use Rattle.luks2_edits.specs.Kept.{HasSameKeyslot};
-ghost use Rattle.luks2_edits.specs.Leftovers.{CountsAsAfter, CountsAsBefore, IsNotStray, Leftover2};
+ghost use Rattle.luks2_edits.specs.Leftovers.{CountsAsAfter, CountsAsBefore, IsNotStray, Leftover2, OpensEither2};
 ghost use Rattle.luks2_edits.specs.Refused.{IsUnrefused2};
 
 use luks_head::{
@@ -80,7 +80,8 @@ pub fn luks2_edit_opens()
 /// What a failing device call leaves of a well formed LUKS2 volume is well formed, unless bytes of
 /// the torn write are taken for a header; the segments are as before, and so is each keyslot that
 /// the edit doesn't name; and what counts is the copy that counted before, or one that the edit
-/// writes: its metadata, its uuid, its label and its subsystem.
+/// writes: its metadata, its uuid, its label and its subsystem. A keyslot that was to be sealed again
+/// opens by the old passphrase or by the new one, to the same key.
 pub fn luks2_failing_edit()
     ensures keeps { (payload : Payload) (e : TheEdit) (v random w : List ℕ) → WellFormed v payload
         → HasRanges v e random → Leftover2 v payload e random w → IsNotStray v payload e random w
@@ -88,14 +89,22 @@ pub fn luks2_failing_edit()
     ensures whole { (payload : Payload) (e : TheEdit) (v random w : List ℕ) → WellFormed v payload
         → HasRanges v e random → Leftover2 v payload e random w → IsNotStray v payload e random w
         → CountsAsBefore v w ⊎ CountsAsAfter v payload e random w }
+    ensures opens { (payload : Payload) (e : TheEdit) (v random w : List ℕ) → WellFormed v payload
+        → HasRanges v e random → Leftover2 v payload e random w → IsNotStray v payload e random w
+        → OpensEither2 v e w }
 {
     one_choice();
     chosen_copy_is_sound();
     soundness_is_local();
+    luks2_without_faults();
     one_value();
     metadata_without_faults();
+    one_digest();
     removal_keeps_the_rest();
     addition_keeps_the_rest();
     made_keyslot_has_room();
     change_keeps_the_rest();
+    sealed_area_opens();
+    found_key_meets_digest();
+    one_answer();
 }
