@@ -1,0 +1,2 @@
+mod NewCopyFacts
+mod RewritingFacts

@@ -1,0 +1,2 @@
+pub mod NewCopy
+pub mod Rewriting

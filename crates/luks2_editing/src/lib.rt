@@ -1,0 +1,6 @@
+//! The edits of LUKS2 volumes: the calls that do what `luks2_edits` defines.
+#![tactic(auto)]
+
+mod new_copy;
+mod random;
+mod writing;
