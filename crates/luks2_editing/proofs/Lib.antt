@@ -1,2 +1,4 @@
 mod NewCopyFacts
 mod RewritingFacts
+mod RowFacts
+mod RenewalFacts

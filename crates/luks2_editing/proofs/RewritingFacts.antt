@@ -16,7 +16,7 @@ use Rattle.luks_edit.specs.declared.edit.Edit.{Edit}
 use Rattle.luks2_edits.specs.Copies.{copy_salt, label_after, label_field, other_place, IsWrittenAnew}
 use Rattle.luks2_edits.specs.Places.{IsOfCopies}
 use Rattle.luks2_editing.specs.NewCopy.{HasNewCopy, IsCopyPlace}
-use Rattle.luks2_editing.specs.Rewriting.{AreWrittenAnew, IsOtherWritten, IsRewriting, MayBeHalfWritten}
+use Rattle.luks2_editing.specs.Rewriting.{AreWrittenAnew, IsOtherWritten, IsRenewing, IsRewriting, MayBeHalfWritten}
 
 -- a copy that was made of the old one's fields is written anew
 module _ (sound : (v : List ℕ) (o : ℕ) (h : Bin2) (json : List ℕ) → IsWrittenCopy v o h json → IsSound v o)
@@ -186,3 +186,16 @@ module _ (sound : (v : List ℕ) (o : ℕ) (h : Bin2) (json : List ℕ) → IsWr
               second = subst (λ q. IsWrittenAnew v old.hdr_offset e random j x q) (sym (is.second more) ∙ sym h_is) mine;
             }
         ]
+
+-- ---- the JSON area
+
+-- a JSON area of the length that is renewed, with any metadata
+pub rewriting_of : (v : List ℕ) (e : Edit) (old : Bin2) (label : List ℕ) (j : Value) (json : List ℕ) (len : ℕ) → IsRenewing v e old label len → IsWrittenArea len j json
+    → IsRewriting v e old label j json
+rewriting_of v e old label j json len is area = record {
+  header = is.header;
+  listed = is.listed;
+  second = is.second;
+  label_is = is.label_is;
+  area = subst (λ n. IsWrittenArea n j json) is.len_is area;
+}

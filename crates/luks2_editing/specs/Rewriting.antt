@@ -19,6 +19,14 @@ pub record IsRewriting (v : List ℕ) (e : Edit) (old : Bin2) (label : List ℕ)
   pub label_is : label ≡ label_after e (label_field (header_at v old.hdr_offset))
   pub area : IsWrittenArea (old.hdr_size - binary_header_size) j json
 
+-- the same of every JSON area with `len` bytes
+pub record IsRenewing (v : List ℕ) (e : Edit) (old : Bin2) (label : List ℕ) (len : ℕ) : Type 0 where
+  pub header : HoldsBin2 (header_at v old.hdr_offset) old
+  pub listed : IsListed old.hdr_size
+  pub second : old.hdr_offset ≢ 0 → old.hdr_size ≡ old.hdr_offset
+  pub label_is : label ≡ label_after e (label_field (header_at v old.hdr_offset))
+  pub len_is : len ≡ old.hdr_size - binary_header_size
+
 -- both copies of the volume `w` take the place of the copy at `o` of `v`
 pub record AreWrittenAnew (v : List ℕ) (o : ℕ) (e : Edit) (random : List ℕ) (j : Value) (w : List ℕ) : Type 0 where
   pub first : IsWrittenAnew v o e random j w 0

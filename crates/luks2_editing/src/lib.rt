@@ -2,5 +2,7 @@
 #![tactic(auto)]
 
 mod new_copy;
+mod preparing;
 mod random;
+mod rewriting;
 mod writing;
