@@ -2,3 +2,4 @@ mod NewCopyFacts
 mod RewritingFacts
 mod RowFacts
 mod RenewalFacts
+mod PlainEditFacts

@@ -1,8 +1,10 @@
 //! The edits of LUKS2 volumes: the calls that do what `luks2_edits` defines.
 #![tactic(auto)]
 
+mod labelling;
 mod new_copy;
 mod preparing;
 mod random;
+mod repairing;
 mod rewriting;
 mod writing;
