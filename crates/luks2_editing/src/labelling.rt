@@ -1,5 +1,5 @@
 //! Setting the label of a LUKS2 volume.
-ghost use Rattle.std.specs.Prelude.{◌≡◌, ◌+◌, ◌++◌, ◌-◌, ◌^◌, ◌<◌, ◌≤◌, false, length, replicate};
+ghost use Rattle.std.specs.Prelude.{◌≡◌, ◌↔◌, ◌+◌, ◌++◌, ◌-◌, ◌^◌, ◌<◌, ◌≤◌, false, true, length, replicate, IsTrue};
 ghost use Rattle.luks_area.specs.Device.{CountsFailure};
 ghost use Rattle.luks_area.specs.Text.{is_plain, is_printable};
 ghost use Rattle.luks_meta.specs.Content.{content};
@@ -42,12 +42,19 @@ pub(crate) fn set_label<D: Device>(
     chosen_copy_is_sound();
     no_fault_is_well_formed();
     well_formed_volume();
-    if text.len() > 47 || !is_plain(text) {
+    if !is_label(text) {
         return Err(EditFault::BadLabel);
     }
     let label = label_field(text);
     rewrite(alloc, device, &copy.header, &copy.meta, label, random)?;
     Ok(Done { slot: None })
+}
+
+/// Whether the text can be a label: at most 47 bytes, each of them printable.
+fn is_label(text: &[u8]) -> bool
+    ensures { IsTrue result ↔ (length text.now ≤ 47) × (is_plain text.now ≡ true) }
+{
+    text.len() <= 47 && is_plain(text)
 }
 
 /// Whether each byte of the text is printable.
