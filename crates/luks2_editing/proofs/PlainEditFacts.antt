@@ -1,5 +1,5 @@
 -- The rows that a repair and a new label pass before that of the sequence number.
-use Rattle.std.proofs.Common.{◌≡◌, ℕ, ◌<◌, ◌≤◌, ◌⊎◌, Bor, List, length, true, false, inl, inr, refl, sym, ◌∙◌, arith}
+use Rattle.std.proofs.Common.{◌≡◌, ℕ, ◌≤◌, Bor, List, length, true, false, inl, inr, refl, sym, ◌∙◌, arith}
 use Rattle.std.proofs.lemmas.Bool.{cases_lt, true≢false}
 use Rattle.luks_area.specs.Text.{is_plain}
 use Rattle.luks_meta.specs.Content.{content}
@@ -9,7 +9,6 @@ use Rattle.luks_reading.specs.declared.header.ChosenCopy.{ChosenCopy}
 use Rattle.luks_reading.specs.declared.report.Data.{Data}
 use Rattle.luks_reading.specs.Checked.{IsFault, WellFormed}
 use Rattle.luks_reading.specs.Header.{IsChosenCopy}
-use Rattle.luks_edit.specs.declared.edit.Edit.{Edit}
 use Rattle.luks_edit.specs.declared.edit.Edit.TheVariants.{Repair, Label}
 use Rattle.luks_edit.specs.declared.edit_fault.EditFault.TheVariants as fault
 use Rattle.luks2_edits.specs.Refused.{HasSaid, IsBadLabel, Refusal2}
@@ -53,9 +52,9 @@ module _ (laws : VolumeLaws) (v : List ℕ) (payload : Data) (copy : ChosenCopy)
 -- a text that isn't a label
 pub bad_label : (text : Bor (List ℕ)) → ((length text.now ≤ 47) × (is_plain text.now ≡ true) → ⊥) → IsBadLabel (Label text)
 bad_label text not = elim (cases_lt 47 (length text.now)) [
-    | inl over ↦ inl over
-    | inr under ↦ inr (λ plain. not (under, plain))
-  ]
+  | inl over ↦ inl over
+  | inr under ↦ inr (λ plain. not (under, plain))
+]
 
 -- a label isn't one
 pub fine_label : (text : Bor (List ℕ)) → (length text.now ≤ 47) × (is_plain text.now ≡ true) → IsBadLabel (Label text) → ⊥

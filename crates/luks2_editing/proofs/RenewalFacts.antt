@@ -1,5 +1,5 @@
 -- An edit of a LUKS2 volume that seals no keyslot: its last refusals, and what it leaves.
-use Rattle.std.proofs.Common.{◌≡◌, ◌≢◌, ℕ, ◌+◌, ◌-◌, ◌*◌, ◌^◌, ◌<◌, ◌≤◌, ◌⊎◌, List, [], ◌∷◌, length, get_or, replicate, Bool, true, false, nat_le, inl, inr, refl, sym, ap, ◌∙◌, subst, arith}
+use Rattle.std.proofs.Common.{◌≡◌, ◌≢◌, ℕ, ◌+◌, ◌-◌, ◌^◌, ◌<◌, ◌≤◌, ◌⊎◌, List, [], ◌∷◌, length, get_or, replicate, Bool, true, nat_le, inl, inr, refl, sym, ap, ◌∙◌, subst, arith}
 use Rattle.std.specs.Prelude.{◌==◌}
 use Rattle.std.specs.List.{list_all}
 use Rattle.std.proofs.lemmas.Bool.{and_parts, cases_Bool, cases_lt, eqb-false, eqb-true, false≢true, leb-true, or_cases}
@@ -8,13 +8,12 @@ use Rattle.base64.specs.GeneralPurpose.{IsBytes}
 use Rattle.serde_json.specs.Data.{Data as Value}
 use Rattle.serde_json.specs.Written.{compact_text}
 use Rattle.luks_area.specs.declared.area.AreaName.TheVariants.{Head2}
-use Rattle.luks_area.specs.Ranges.{IsAt, IsOfEither, SameBut}
+use Rattle.luks_area.specs.Ranges.{SameBut}
 use Rattle.luks_area.specs.RangeFacts.{length-part_inside, same_but-wider}
 use Rattle.luks_head.specs.declared.selection.Copies.{Copies}
-use Rattle.luks_head.specs.Header2.{header_at, hdr_size, seqid, HoldsBin2, IsSound}
+use Rattle.luks_head.specs.Header2.{header_at, hdr_size, seqid, IsSound}
 use Rattle.luks_head.specs.Selection.{Choice, luks1, luks2, nothing, Chosen}
 use Rattle.luks_head.specs.Sizes.{is_among, listed_sizes, IsListed}
-use Rattle.luks_head.specs.declared.bin2.Bin2.{Bin2}
 use Rattle.luks_meta.specs.Content.{area_len, content}
 use Rattle.luks_meta.specs.MetaFault.{Json}
 use Rattle.luks_reading.specs.declared.header.ChosenCopy.{ChosenCopy}
@@ -25,16 +24,16 @@ use Rattle.luks_reading.specs.Header.{json_at, IsChosenCopy}
 use Rattle.luks_edit.specs.declared.edit.Edit.{Edit}
 use Rattle.luks_edit.specs.declared.edit_fault.EditFault.{EditFault}
 use Rattle.luks_edit.specs.declared.edit_fault.EditFault.TheVariants as fault
-use Rattle.luks2_edits.specs.Copies.{label_after, label_field, other_place}
+use Rattle.luks2_edits.specs.Copies.{label_after, label_field}
 use Rattle.luks2_edits.specs.Edited.{keyslot_salt, After2, IsEdited, IsSealedBy, IsWipedBy}
-use Rattle.luks2_edits.specs.Leftovers.{IsTornAt, Leftover2}
+use Rattle.luks2_edits.specs.Leftovers.{IsTornAt}
 use Rattle.luks2_edits.specs.Metadata.{HasMetadata}
-use Rattle.luks2_edits.specs.Places.{IsOfCopies, IsOfSealed, IsTouched}
-use Rattle.luks2_edits.specs.Refused.{HasSaid, IsFull, IsMiscounted, IsUnrefused2, Need2, Refusal2}
-use Rattle.luks2_editing.specs.Prepared.{IsCopyWithin, IsFullArea, IsMiscountedRandom, IsPrepared, IsUnwritten}
+use Rattle.luks2_edits.specs.Places.{IsOfCopies, IsTouched}
+use Rattle.luks2_edits.specs.Refused.{HasSaid, IsFull, IsMiscounted, IsUnrefused2, Need2}
+use Rattle.luks2_editing.specs.Prepared.{IsCopyWithin, IsPrepared, IsUnwritten}
 use Rattle.luks2_editing.specs.Replies.{EndsBy2}
 use Rattle.luks2_editing.specs.Rewriting.{AreWrittenAnew, IsRenewing, MayBeHalfWritten}
-use Rattle.luks2_editing.proofs.RowFacts.{first_of_row, unrefused, Passed, PassedRest}
+use Rattle.luks2_editing.proofs.RowFacts.{first_of_row, unrefused, Passed}
 
 -- the laws of the crates below on which these facts rest
 pub record VolumeLaws : Type 0 where

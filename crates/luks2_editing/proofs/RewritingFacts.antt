@@ -1,7 +1,7 @@
 -- Both copies of a LUKS2 header, written anew one after the other.
-use Rattle.std.proofs.Common.{◌≡◌, ◌≢◌, ℕ, ◌+◌, ◌-◌, ◌*◌, ◌<◌, ◌≤◌, ◌⊎◌, List, ◌++◌, length, drop, get_or, replicate, Bool, true, false, inl, inr, arith, refl, sym, ap, ◌∙◌, subst}
+use Rattle.std.proofs.Common.{◌≡◌, ◌≢◌, ℕ, ◌+◌, ◌-◌, ◌*◌, ◌≤◌, ◌⊎◌, List, ◌++◌, length, get_or, Bool, true, false, inl, inr, arith, refl, sym, ap, ◌∙◌, subst}
 use Rattle.std.specs.Prelude.{◌==◌, if◌then◌else◌}
-use Rattle.std.proofs.lemmas.Bool.{cases_Bool, eqb-true, eqb-false}
+use Rattle.std.proofs.lemmas.Bool.{eqb-true, eqb-false}
 use Rattle.std.proofs.lemmas.List.{get_or-drop, get_or-replicate}
 use Rattle.serde_json.specs.Data.{Data as Value}
 use Rattle.sha2.specs.Sha256.{sha256}
@@ -13,10 +13,10 @@ use Rattle.luks_head.specs.declared.bin2.Bin2.{Bin2}
 use Rattle.luks_making.specs.WrittenArea.{IsWrittenArea}
 use Rattle.luks_reading.specs.Header.{json_at}
 use Rattle.luks_edit.specs.declared.edit.Edit.{Edit}
-use Rattle.luks2_edits.specs.Copies.{copy_salt, label_after, label_field, other_place, IsWrittenAnew}
+use Rattle.luks2_edits.specs.Copies.{copy_salt, other_place, IsWrittenAnew}
 use Rattle.luks2_edits.specs.Places.{IsOfCopies}
 use Rattle.luks2_editing.specs.NewCopy.{HasNewCopy, IsCopyPlace}
-use Rattle.luks2_editing.specs.Rewriting.{AreWrittenAnew, IsOtherWritten, IsRenewing, IsRewriting, MayBeHalfWritten}
+use Rattle.luks2_editing.specs.Rewriting.{AreWrittenAnew, IsRenewing, IsRewriting, MayBeHalfWritten}
 
 -- a copy that was made of the old one's fields is written anew
 module _ (sound : (v : List ℕ) (o : ℕ) (h : Bin2) (json : List ℕ) → IsWrittenCopy v o h json → IsSound v o)
@@ -111,9 +111,9 @@ places_of h o = places_by h o (o == 0) refl
 -- a copy lies among both copies
 pub of_other : (h o p : ℕ) → IsAt (other_place h o) h p → IsOfCopies h p
 of_other h o p at = elim (places_of h o) [
-    | at_start zero is ↦ (let high = at.1 in omega (arith, high, is))
-    | behind_first more is ↦ (let high = at.1 in omega (arith, high, is))
-  ]
+  | at_start zero is ↦ (let high = at.1 in omega (arith, high, is))
+  | behind_first more is ↦ (let high = at.1 in omega (arith, high, is))
+]
 
 pub of_chosen : (h o p : ℕ) → o ≤ h → IsAt o h p → IsOfCopies h p
 of_chosen h o p low at = let high = at.1 in omega (arith, high, low)
@@ -121,9 +121,9 @@ of_chosen h o p low at = let high = at.1 in omega (arith, high, low)
 -- and ends with them
 pub other_inside : (h o total q : ℕ) → q ≡ other_place h o → 2 * h ≤ total → q + h ≤ total
 other_inside h o total q at inside = elim (places_of h o) [
-    | at_start zero is ↦ omega (arith, at, is, inside)
-    | behind_first more is ↦ omega (arith, at, is, inside)
-  ]
+  | at_start zero is ↦ omega (arith, at, is, inside)
+  | behind_first more is ↦ omega (arith, at, is, inside)
+]
 
 -- the place of the other copy is one
 pub other_is_place : (old : Bin2) (v : List ℕ) (e : Edit) (label : List ℕ) (j : Value) (json : List ℕ) → IsRewriting v e old label j json
@@ -178,13 +178,13 @@ module _ (sound : (v : List ℕ) (o : ℕ) (h : Bin2) (json : List ℕ) → IsWr
         written_anew sound v e old label random j json is x (other_place old.hdr_size old.hdr_offset) other_stays in
         elim (places_of old.hdr_size old.hdr_offset) [
           | at_start zero at ↦ record {
-              first = subst (λ q. IsWrittenAnew v old.hdr_offset e random j x q) zero mine;
-              second = subst (λ q. IsWrittenAnew v old.hdr_offset e random j x q) (at ∙ sym h_is) theirs;
-            }
+            first = subst (λ q. IsWrittenAnew v old.hdr_offset e random j x q) zero mine;
+            second = subst (λ q. IsWrittenAnew v old.hdr_offset e random j x q) (at ∙ sym h_is) theirs;
+          }
           | behind_first more at ↦ record {
-              first = subst (λ q. IsWrittenAnew v old.hdr_offset e random j x q) at theirs;
-              second = subst (λ q. IsWrittenAnew v old.hdr_offset e random j x q) (sym (is.second more) ∙ sym h_is) mine;
-            }
+            first = subst (λ q. IsWrittenAnew v old.hdr_offset e random j x q) at theirs;
+            second = subst (λ q. IsWrittenAnew v old.hdr_offset e random j x q) (sym (is.second more) ∙ sym h_is) mine;
+          }
         ]
 
 -- ---- the JSON area

@@ -1,7 +1,7 @@
 -- The first refusal of an edit of a LUKS2 volume, row by row.
-use Rattle.std.proofs.Common.{◌≡◌, ◌≢◌, ℕ, ◌+◌, ◌^◌, ◌<◌, ◌≤◌, List, [], ◌∷◌, length, true, subst, refl, sym, ap, ◌∙◌, arith, inl, inr}
+use Rattle.std.proofs.Common.{◌≡◌, ℕ, ◌+◌, ◌^◌, ◌<◌, ◌≤◌, List, [], length, true, subst, sym, arith, inl, inr}
 use Rattle.std.proofs.lemmas.Bool.{cases_lt}
-use Rattle.luks_area.specs.First.{NotAfter, IsLeast}
+use Rattle.luks_area.specs.First.{NotAfter}
 use Rattle.luks_head.specs.Header2.{hdr_size, header_at, seqid}
 use Rattle.luks_meta.specs.Requirements.{has_requirements}
 use Rattle.luks_slot.specs.declared.fault.SlotFault.{SlotFault}
@@ -12,7 +12,7 @@ use Rattle.luks_edit.specs.declared.edit.Edit.{Edit}
 use Rattle.luks_edit.specs.declared.edit_fault.EditFault.{EditFault}
 use Rattle.luks_edit.specs.declared.edit_fault.EditFault.TheVariants as fault
 use Rattle.luks_edit.specs.Asked.{HasFewIterations}
-use Rattle.luks_edit.specs.EditFaults.{edit_key, edit_place, edit_row}
+use Rattle.luks_edit.specs.EditFaults.{edit_place, edit_row}
 use Rattle.luks_edit.specs.Opener.{IsLocked, IsShut}
 use Rattle.luks2_edits.specs.Refused.{HasNoFree, HasNoRoom, HasSaid, IsAbsent, IsBadLabel, IsEditFault2, IsFull, IsLast, IsMiscounted, IsTaken, IsUnrefused2, Refusal2}
 

@@ -19,8 +19,12 @@ use luks_meta::one_value;
 use luks_reading::{ChosenCopy, no_fault_is_well_formed, well_formed_volume};
 use std::alloc::Global;
 
-/// Writes both copies of the header anew from the one that counts, with a new label.
-pub(crate) fn set_label<D: Device>(
+/// Writes both copies of the header anew from the one that counts, with a new label: the other copy
+/// first, each with a flush. The volume was accepted, and names no requirements.
+///
+/// Refused by `BadLabel`, `SeqExhausted`, `MetadataFull` or `RandomLength`; 128 random bytes are
+/// needed, the salts of the copies. Takes memory for the JSON area, before the first write.
+pub fn set_label<D: Device>(
     alloc: Global,
     device: &mut D,
     copy: &ChosenCopy,

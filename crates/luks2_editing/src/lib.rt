@@ -8,3 +8,6 @@ mod random;
 mod repairing;
 mod rewriting;
 mod writing;
+
+pub use labelling::set_label;
+pub use repairing::repair;

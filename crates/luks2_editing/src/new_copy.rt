@@ -10,13 +10,7 @@ use sha2::Digest;
 
 /// The binary header of the copy at the place `at` that takes the place of the copy of `old`, with
 /// this label, salt and JSON area: its sequence number is one higher, and its checksum is made.
-pub(crate) fn new_header(
-    old: &Bin2,
-    at: u64,
-    label: [u8; 48],
-    salt: [u8; 64],
-    json: &[u8],
-) -> Bin2
+pub(crate) fn new_header(old: &Bin2, at: u64, label: [u8; 48], salt: [u8; 64], json: &[u8]) -> Bin2
     requires { old.now.seqid + 1 < 2 ^ 64 }
     ensures fields { IsNewHeader old.now at label salt result }
     ensures csum { (b : List ℕ) → WritesBin2 b result

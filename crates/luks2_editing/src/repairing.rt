@@ -18,8 +18,12 @@ use luks_meta::one_value;
 use luks_reading::{ChosenCopy, no_fault_is_well_formed, well_formed_volume};
 use std::alloc::Global;
 
-/// Writes both copies of the header anew from the one that counts.
-pub(crate) fn repair<D: Device>(
+/// Writes both copies of the header anew from the one that counts: the other copy first, each with a
+/// flush. The volume was accepted, and names no requirements.
+///
+/// Refused by `SeqExhausted`, `MetadataFull` or `RandomLength`; 128 random bytes are needed, the salts
+/// of the copies. Takes memory for the JSON area, before the first write.
+pub fn repair<D: Device>(
     alloc: Global,
     device: &mut D,
     copy: &ChosenCopy,
@@ -39,6 +43,13 @@ pub(crate) fn repair<D: Device>(
     chosen_copy_is_sound();
     no_fault_is_well_formed();
     well_formed_volume();
-    rewrite(alloc, device, &copy.header, &copy.meta, copy.header.label, random)?;
+    rewrite(
+        alloc,
+        device,
+        &copy.header,
+        &copy.meta,
+        copy.header.label,
+        random,
+    )?;
     Ok(Done { slot: None })
 }

@@ -1,7 +1,6 @@
-use Rattle.std.proofs.Common.{◌≡◌, ℕ, ◌≤◌, ◌+◌, ◌*◌, List, arith, subst, sym}
+use Rattle.std.proofs.Common.{ℕ, List, subst, sym}
 use Rattle.luks_area.specs.Ranges.{IsAt, SameBut}
 use Rattle.luks_area.specs.RangeFacts.{same_but-then, same_but-wider}
-use Rattle.luks_head.specs.declared.bin2.Bin2.{Bin2}
 use Rattle.luks2_edits.specs.Copies.{copy_salt, other_place}
 use Rattle.luks2_editing.specs.NewCopy.{HasNewCopy, IsCopyPlace}
 use Rattle.luks2_editing.proofs.RewritingFacts.{all_done, half_begun, half_done, of_chosen, of_other, other_inside, other_is_place, own_is_place}
@@ -10,7 +9,6 @@ use Rattle.luks2_editing.proofs.writing.write_copies.Goals as goal
 pub write_copy-requires-clause-within : goal.write_copy-requires-clause-within
 write_copy-requires-clause-within g c =
     other_inside c.args.chosen.now.hdr_size c.args.chosen.now.hdr_offset (g.D.Device.size c.args.device.now) c.other_place-other.result c.other_place-other.ensures c.requires.within
-
 
 pub returns-in_err-write_copy-clause-rest : goal.returns-in_err-write_copy-clause-rest
 returns-in_err-write_copy-clause-rest g c tells =

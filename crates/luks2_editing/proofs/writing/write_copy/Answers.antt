@@ -1,4 +1,4 @@
-use Rattle.std.proofs.Common.{◌≡◌, ◌≤◌, ◌+◌, ℕ, List, length, arith, ◌∙◌, subst}
+use Rattle.std.proofs.Common.{◌≡◌, ℕ, length, arith, ◌∙◌, subst}
 use Rattle.luks_area.specs.Ranges.{IsAt, SameBut}
 use Rattle.luks2_editing.proofs.NewCopyFacts.{copy_made}
 use Rattle.luks2_editing.proofs.writing.write_copy.Goals as goal
