@@ -1,11 +1,12 @@
 -- What an edit that was completed keeps of a LUKS2 volume.
-use Rattle.std.proofs.Common.{◌≡◌, ◌≢◌, ℕ, ◌+◌, ◌-◌, ◌*◌, ◌<◌, ◌≤◌, ◌^◌, List, length, codes, Option, Some, None, option_and_then, is_some, inl, inr, refl, sym, ap, subst, ◌∙◌, arith}
+use Rattle.std.proofs.Common.{◌≡◌, ◌≢◌, ℕ, ◌+◌, ◌-◌, ◌*◌, ◌<◌, ◌≤◌, ◌^◌, List, length, replicate, codes, Option, Some, None, option_and_then, is_some, inl, inr, refl, sym, ap, subst, ◌∙◌, arith}
 use Rattle.std.proofs.lemmas.Bool.{cases_eq, cases_lt}
 use Rattle.base64.specs.GeneralPurpose.{IsBytes}
 use Rattle.serde_json.specs.Data.{Data as Value}
 use Rattle.serde_json.specs.Find.{get}
 use Rattle.luks_area.specs.declared.area.Area.{Area}
 use Rattle.luks_area.specs.declared.area.AreaName.TheVariants as name
+use Rattle.luks_area.specs.Ranges.{part}
 use Rattle.luks_head.specs.Header2.{hdr_size, header_at, IsUuidField}
 use Rattle.luks_head.specs.Selection.{luks2, Chosen}
 use Rattle.luks_head.specs.declared.selection.Copies.TheVariants.{InStep}
@@ -19,13 +20,14 @@ use Rattle.luks_making.specs.Naming.{HasUniqueDigests}
 use Rattle.luks_making.specs.Unchanged.{ChangesSlot, GainsSlot, SaysMembers}
 use Rattle.luks_making.specs.Without.{without_slot}
 use Rattle.luks_reading.specs.declared.report.Data.{Data}
-use Rattle.luks_reading.specs.Checked.{WellFormed}
+use Rattle.luks_reading.specs.Answer.{opens, Answer}
+use Rattle.luks_reading.specs.Checked.{AreaOf, WellFormed}
 use Rattle.luks_reading.specs.Layout2.{slot_number}
 use Rattle.luks_edit.specs.declared.edit.Edit.{Edit}
 use Rattle.luks_edit.specs.declared.edit.Edit.TheVariants.{Add, Change, Remove, Repair, Label}
 use Rattle.luks_edit.specs.declared.edit_fault.EditFault.TheVariants.{Iterations, NoFreeSlot, RandomLength, SlotTaken}
 use Rattle.luks_edit.specs.Kept.{Keeps}
-use Rattle.luks2_edits.specs.Edited.{keyslot_salt, members_of, After2, HasAdded, HasChanged, HasRanges, IsEdited, IsMadeIn, IsSealedBy, NamedKeyslots2}
+use Rattle.luks2_edits.specs.Edited.{keyslot_salt, members_of, After2, HasAdded, HasChanged, HasRanges, IsEdited, IsMadeIn, IsSealedBy, IsWiped, IsWipedBy, NamedKeyslots2}
 use Rattle.luks2_edits.specs.Metadata.{HasMetadata, HasStripes, IsNewKeyslot}
 use Rattle.luks2_edits.specs.Places.{key_areas_end, IsNewArea, Loses}
 use Rattle.luks2_edits.specs.Refused.{HasNoNumber, IsNumberTaken, IsUnrefused2, NeedsLike}
@@ -36,7 +38,7 @@ use Rattle.luks2_edits.proofs.MetadataFacts.{lost_metadata, placed_metadata}
 use Rattle.luks2_edits.proofs.PlaceFacts.{left_bytes}
 use Rattle.luks2_edits.proofs.SealFacts.{can_seal, enough_random, fits_new, none_of, opened_pbkdf2, opened_plan, part_bytes, salt_length, under, IsOpened}
 use Rattle.luks2_edits.proofs.UniqueFacts.{unique_digests}
-use Rattle.luks2_edits.proofs.VolumeFacts.{copy_of, layout_of, listed_at_least, HasCopy, IsLayout}
+use Rattle.luks2_edits.proofs.VolumeFacts.{areas_are, copy_of, layout_of, listed_at_least, HasCopy, IsLayout}
 
 -- a keyslot that loses its area is named
 pub lost_is_named : (v : List ℕ) (e : Edit) (n : ℕ) → Loses e n → NamedKeyslots2 v e n
@@ -47,7 +49,7 @@ lost_is_named v Repair n lost = absurd lost
 lost_is_named v (Label text) n lost = absurd lost
 
 -- metadata keeps itself
-same_metadata : (h total : ℕ) (payload : Data) (named : ℕ → Type 0) (j k : Value) → k ≡ j → IsLayout h total payload j → KeepsMetadata h total payload named j k
+pub same_metadata : (h total : ℕ) (payload : Data) (named : ℕ → Type 0) (j k : Value) → k ≡ j → IsLayout h total payload j → KeepsMetadata h total payload named j k
 same_metadata h total payload named j k same old =
     let itself : KeepsMetadata h total payload named j j = record { layout = old; segments = refl; slots = λ m lt free. says_itself j m } in
     subst (KeepsMetadata h total payload named j) (sym same) itself
@@ -83,13 +85,13 @@ need_met j n random key stripes slot met =
     ]
 
 -- what no refusal says of an edit that seals a keyslot like the keyslot `n`
-record IsReady (v : List ℕ) (o : ℕ) (j : Value) (n iterations : ℕ) (random : List ℕ) : Type 0 where
-  opened : IsOpened v o j n
-  turns : 1000 ≤ iterations
-  ranged : iterations < 2 ^ 32
-  small : length v < 2 ^ 64
-  random_bytes : IsBytes random
-  met : (need : ℕ) → NeedsLike j n need → length random ≢ need → ⊥
+pub record IsReady (v : List ℕ) (o : ℕ) (j : Value) (n iterations : ℕ) (random : List ℕ) : Type 0 where
+  pub opened : IsOpened v o j n
+  pub turns : 1000 ≤ iterations
+  pub ranged : iterations < 2 ^ 32
+  pub small : length v < 2 ^ 64
+  pub random_bytes : IsBytes random
+  pub met : (need : ℕ) → NeedsLike j n need → length random ≢ need → ⊥
 
 -- what is at least 16384 is at least 4096
 above : {g h : ℕ} → g ≡ h → 16384 ≤ g → 4096 ≤ h
@@ -111,6 +113,29 @@ module _ (laws : VolumeLaws) (making : MakingLaws) (v : List ℕ) (o h : ℕ) (p
 
   fits : (area : Area) → IsNewArea h (length v) payload j n area → FitsNew (members_of iterations (keyslot_salt random) area)
   fits area place = fits_new h (length v) payload j n area place iterations (keyslot_salt random) ready.small ready.ranged (part_bytes random 128 32 ready.random_bytes)
+
+  -- the keyslot that is gained, and what it says
+  pub added_gains : (to : Option ℕ) → (IsNumberTaken j to → ⊥) → (HasNoNumber j to → ⊥)
+      → (a : HasAdded h (length v) payload n to iterations (keyslot_salt random) j k) → GainsSlot a.slot a.is.digest a.is.slot j k
+  added_gains to taken none a =
+      making.addition (h - 4096) a.slot n (members_of iterations (keyslot_salt random) a.area) j k layout.held
+      (unique_digests before.holds.text j before.holds.reads) (new_free j to a.slot taken none a.is_new) (seals a.area a.place) (fits a.area a.place) a.is
+
+  pub added_says : (to : Option ℕ) → (IsNumberTaken j to → ⊥) → (HasNoNumber j to → ⊥)
+      → (a : HasAdded h (length v) payload n to iterations (keyslot_salt random) j k) → SaysMembers a.is.slot (slot_value a.is.slot)
+  added_says to taken none a =
+      let room : IsRoom (h - 4096) a.slot a.is.digest a.is.slot j a.is.names.object =
+      making.room (h - 4096) a.slot n (members_of iterations (keyslot_salt random) a.area) j k layout.held
+      (unique_digests before.holds.text j before.holds.reads) (new_free j to a.slot taken none a.is_new) (seals a.area a.place) (fits a.area a.place) a.is in
+      making.says a.is.slot room.fits
+
+  -- the keyslot that is changed
+  pub changed_changes : (a : HasChanged h (length v) payload n iterations (keyslot_salt random) j k)
+      → ChangesSlot n (members_of iterations (keyslot_salt random) a.area) j k
+  changed_changes a =
+      let c : ChangesSlot n (members_of iterations (keyslot_salt random) a.area) j (changed_slot n (members_of iterations (keyslot_salt random) a.area) j) =
+      making.change (h - 4096) n (members_of iterations (keyslot_salt random) a.area) j layout.held (seals a.area a.place) (fits a.area a.place) in
+      subst (ChangesSlot n (members_of iterations (keyslot_salt random) a.area) j) (sym a.is) c
 
   -- the metadata with a new keyslot
   added_metadata : (named : ℕ → Type 0) (to : Option ℕ) → (IsNumberTaken j to → ⊥) → (HasNoNumber j to → ⊥)
@@ -151,18 +176,33 @@ module _ (laws : VolumeLaws) (making : MakingLaws) (v : List ℕ) (o h : ℕ) (p
 
 -- ---- the metadata after an edit
 
+-- the keyslot that the edit opens was opened
+abbrev pub WasOpened : List ℕ → Edit → Type 0
+WasOpened v (Add by_ old new to iterations) = (key : List ℕ) × Answer v by_ old.now (opens key)
+WasOpened v (Change slot old new iterations) = (key : List ℕ) × Answer v slot old.now (opens key)
+WasOpened v (Remove slot passphrase) = Unit {0}
+WasOpened v Repair = Unit {0}
+WasOpened v (Label text) = Unit {0}
+
+pub was_opened : (v : List ℕ) (e : Edit) (random : List ℕ) (j : Value) (w : List ℕ) (k : Value) → IsSealedBy v e random j w k → WasOpened v e
+was_opened v (Add by_ old new to iterations) random j w k sealed = (sealed.key, sealed.opened)
+was_opened v (Change slot old new iterations) random j w k sealed = (sealed.key, sealed.opened)
+was_opened v (Remove slot passphrase) random j w k sealed = tt
+was_opened v Repair random j w k sealed = tt
+was_opened v (Label text) random j w k sealed = tt
+
 -- iterations that aren't too few
-enough_turns : (iterations : ℕ) → (iterations < 1000 → ⊥) → 1000 ≤ iterations
+pub enough_turns : (iterations : ℕ) → (iterations < 1000 → ⊥) → 1000 ≤ iterations
 enough_turns iterations few = elim (cases_lt iterations 1000) [ inl lt ↦ absurd (few lt) | inr past ↦ past ]
 
-pub edited_metadata : (laws : VolumeLaws) (making : MakingLaws) (v : List ℕ) (o : ℕ) (payload : Data) (e : Edit) (random w : List ℕ) (j k : Value)
-    → HasMetadata v o j → HasCopy v o (hdr_size (header_at v o)) j → HasRanges v e random → IsUnrefused2 v payload e random → IsSealedBy v e random j w k
+pub edited_metadata : (laws : VolumeLaws) (making : MakingLaws) (v : List ℕ) (o : ℕ) (payload : Data) (e : Edit) (random : List ℕ) (j k : Value)
+    → HasMetadata v o j → HasCopy v o (hdr_size (header_at v o)) j → HasRanges v e random → IsUnrefused2 v payload e random → WasOpened v e
     → IsEdited (hdr_size (header_at v o)) (length v) payload e (keyslot_salt random) j k
     → IsLayout (hdr_size (header_at v o)) (length v) payload j
     → KeepsMetadata (hdr_size (header_at v o)) (length v) payload (NamedKeyslots2 v e) j k
-edited_metadata laws making v o payload (Add by_ old new to iterations) random w j k m before ranges free sealed is layout =
+edited_metadata laws making v o payload (Add by_ old new to iterations) random j k m before ranges free sealed is layout =
     let ready : IsReady v o j by_ iterations random = record {
-      opened = opened_plan laws v o j by_ old.now sealed.key m sealed.opened;
+      opened = opened_plan laws v o j by_ old.now sealed.0 m sealed.1;
       turns = enough_turns iterations (λ few. free.none Iterations few);
       ranged = ranges.iterations;
       small = ranges.size;
@@ -173,9 +213,9 @@ edited_metadata laws making v o payload (Add by_ old new to iterations) random w
     (λ taken. free.none SlotTaken (record { place = o; value = j; metadata = m; is = taken }))
     (λ none. free.none NoFreeSlot (record { place = o; value = j; metadata = m; is = none }))
     is (record { place = o; value = j; metadata = m; is_new = is.is_new })
-edited_metadata laws making v o payload (Change slot old new iterations) random w j k m before ranges free sealed is layout =
+edited_metadata laws making v o payload (Change slot old new iterations) random j k m before ranges free sealed is layout =
     let ready : IsReady v o j slot iterations random = record {
-      opened = opened_plan laws v o j slot old.now sealed.key m sealed.opened;
+      opened = opened_plan laws v o j slot old.now sealed.0 m sealed.1;
       turns = enough_turns iterations (λ few. free.none Iterations few);
       ranged = ranges.iterations;
       small = ranges.size;
@@ -183,18 +223,18 @@ edited_metadata laws making v o payload (Change slot old new iterations) random 
       met = λ need like other. free.none RandomLength (record { place = o; value = j; metadata = m; is = record { need = need; is = like; other = other } });
     } in
     changed_metadata laws making v o (hdr_size (header_at v o)) payload random j k before layout slot iterations ready (λ n. n ≡ slot) is refl
-edited_metadata laws making v o payload (Remove slot passphrase) random w j k m before ranges free sealed is layout =
+edited_metadata laws making v o payload (Remove slot passphrase) random j k m before ranges free sealed is layout =
     without_metadata making (hdr_size (header_at v o)) (length v) payload (λ n. n ≡ slot) slot j k refl is layout
-edited_metadata laws making v o payload Repair random w j k m before ranges free sealed is layout =
+edited_metadata laws making v o payload Repair random j k m before ranges free sealed is layout =
     same_metadata (hdr_size (header_at v o)) (length v) payload (λ n. ⊥) j k is layout
-edited_metadata laws making v o payload (Label text) random w j k m before ranges free sealed is layout =
+edited_metadata laws making v o payload (Label text) random j k m before ranges free sealed is layout =
     same_metadata (hdr_size (header_at v o)) (length v) payload (λ n. ⊥) j k is layout
 
 module _
     (laws : VolumeLaws) (making : MakingLaws) (v : List ℕ) (payload : Data) (e : Edit) (random w : List ℕ) (well : WellFormed v payload)
     (ranges : HasRanges v e random) (free : IsUnrefused2 v payload e random) (a : After2 v payload e random w)
   where
-    before : HasCopy v a.place (hdr_size (header_at v a.place)) a.value
+    pub before : HasCopy v a.place (hdr_size (header_at v a.place)) a.value
     before = copy_of laws v payload a.place a.value a.metadata well
 
     pub now_chosen : Chosen w (luks2 0 InStep)
@@ -203,7 +243,7 @@ module _
         let same : length w ≡ length v = a.rest.length_same in
         both_chosen v w a.place e random a.new (omega (arith, long, same)) a.first.renewed a.second.renewed
 
-    after : HasCopy w 0 (hdr_size (header_at v a.place)) a.new
+    pub after : HasCopy w 0 (hdr_size (header_at v a.place)) a.new
     after = record {
       copies = InStep;
       chosen = now_chosen;
@@ -212,7 +252,7 @@ module _
       holds = a.first.renewed.json.json;
     }
 
-    layout : IsLayout (hdr_size (header_at v a.place)) (length v) payload a.value
+    pub layout : IsLayout (hdr_size (header_at v a.place)) (length v) payload a.value
     layout = layout_of laws v payload a.place a.value a.metadata well
 
     -- all that an edit promises
@@ -220,6 +260,22 @@ module _
     after_keeps =
         let h : ℕ = hdr_size (header_at v a.place) in
         all_kept laws v w payload a.place 0 h a.value a.new (NamedKeyslots2 v e) before after a.rest.length_same a.first.renewed.uuid layout
-        (edited_metadata laws making v a.place payload e random w a.value a.new a.metadata before ranges free a.sealed a.edited layout)
+        (edited_metadata laws making v a.place payload e random a.value a.new a.metadata before ranges free (was_opened v e random a.value w a.new a.sealed) a.edited layout)
         (λ n b x. left_bytes v w h (length v) payload a.value e layout.fit a.rest (name.Segment n) b tt x)
         (λ m unnamed b x. left_bytes v w h (length v) payload a.value e layout.fit a.rest (name.Slot m) b (λ lost. unnamed (lost_is_named v e m lost)) x)
+
+-- the area that a keyslot loses is wiped
+wiped_is : (e : Edit) (j : Value) (w : List ℕ) (n : ℕ) → IsWipedBy e j w → Loses e n → IsWiped j n w
+wiped_is (Add by_ old new to iterations) j w n wiped lost = absurd lost
+wiped_is (Change slot old new iterations) j w n wiped lost = subst (λ m. IsWiped j m w) (sym lost) wiped
+wiped_is (Remove slot passphrase) j w n wiped lost = subst (λ m. IsWiped j m w) (sym lost) wiped
+wiped_is Repair j w n wiped lost = absurd lost
+wiped_is (Label text) j w n wiped lost = absurd lost
+
+-- so it is zeros
+pub lost_zeros : (laws : VolumeLaws) (v : List ℕ) (payload : Data) (e : Edit) (random w : List ℕ) (n : ℕ) (a : Area) → WellFormed v payload
+    → After2 v payload e random w → Loses e n → AreaOf v payload (name.Slot n) a → part w a.start a.len ≡ replicate a.len 0
+lost_zeros laws v payload e random w n a well after_ lost is =
+    wiped_is e after_.value w n after_.wiped lost a
+    (areas_are laws v payload after_.place (hdr_size (header_at v after_.place)) after_.value
+    (copy_of laws v payload after_.place after_.value after_.metadata well) (name.Slot n) a is)
