@@ -4,20 +4,31 @@
 #   build     prove and build the program, and leave it at bin/luks
 #   test      the merge gate: every proof from nothing, the edits that must fail, each test, each program
 #   test-times  the same, and what it took: processor time by crate for its proof, its tests and its edits
-#   install   put the program into PREFIX/bin (PREFIX is /usr/local, under DESTDIR where that is given)
+#   install   put the program into PREFIX/bin, its manual page into MANDIR, its completions into BASHCOMPDIR, ZSHCOMPDIR and FISHCOMPDIR
+#             (PREFIX is /usr/local, the others are Debian's places under it; all under DESTDIR where that is given)
+#   uninstall  take these away again
 #   bench     times and memory, beside other implementations
-#   interop   volumes that cryptsetup makes, checked and opened by bin/luks
+#   interop   volumes that cryptsetup makes, checked and opened by bin/luks; each command of docs/RESCUE.md; the manual page
 #   clean     what the others made
+#   help      this list
 #
+# The first target that needs the program proves everything first, which takes some 15 minutes on 4 processors.
 # Rattle's command rt proves and builds; it writes its progress on standard error, and `rt run` ends with the program's own status.
 
 RT ?= rt
 PREFIX ?= /usr/local
 DESTDIR ?=
+MANDIR ?= $(PREFIX)/share/man
+BASHCOMPDIR ?= $(PREFIX)/share/bash-completion/completions
+ZSHCOMPDIR ?= $(PREFIX)/share/zsh/$(if $(filter /usr,$(PREFIX)),vendor-completions,site-functions)
+FISHCOMPDIR ?= $(PREFIX)/share/fish/vendor_completions.d
 
 SOURCES := crates.txt $(shell find crates -name out -prune -o -type f -print)
 
-.PHONY: demo build test test-times install bench interop clean toolchain
+.PHONY: help demo build test test-times install uninstall bench interop clean toolchain
+
+help:
+	@sed -n '/^#/!q; s/^#$$//p; s/^# //p' $(firstword $(MAKEFILE_LIST))
 
 demo: toolchain
 	@RT="$(RT)" tools/prove luks
@@ -44,6 +55,14 @@ test-times: toolchain
 
 install: bin/luks
 	install -D -m 755 bin/luks "$(DESTDIR)$(PREFIX)/bin/luks"
+	install -D -m 644 docs/luks.1 "$(DESTDIR)$(MANDIR)/man1/luks.1"
+	install -D -m 644 completions/luks.bash "$(DESTDIR)$(BASHCOMPDIR)/luks"
+	install -D -m 644 completions/_luks "$(DESTDIR)$(ZSHCOMPDIR)/_luks"
+	install -D -m 644 completions/luks.fish "$(DESTDIR)$(FISHCOMPDIR)/luks.fish"
+
+uninstall:
+	rm -f "$(DESTDIR)$(PREFIX)/bin/luks" "$(DESTDIR)$(MANDIR)/man1/luks.1" "$(DESTDIR)$(BASHCOMPDIR)/luks" \
+	  "$(DESTDIR)$(ZSHCOMPDIR)/_luks" "$(DESTDIR)$(FISHCOMPDIR)/luks.fish"
 
 bench: bin/luks
 	bench/run

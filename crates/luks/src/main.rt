@@ -1,5 +1,5 @@
 //! The program `luks`: opens the files that its command line names, runs the command over them, and
-//! prints what the command wrote.
+//! prints what the command wrote for standard output and for standard error.
 //!
 //! The stored run checks `data/l1.img`, the image that `testdata/oracle/values` writes as `sample`:
 //! LUKS1 of 2097664 bytes by the header's layout, all keyslots disabled.
@@ -10,7 +10,7 @@ ghost use Rattle.luks_area.specs.Files.{file_failures};
 
 use clap::error::ErrorKind as FaultKind;
 use luks_area::FileDevice;
-use luks_cli::{InputFault, Inputs, Line, execute, first_bytes, line};
+use luks_cli::{InputFault, Inputs, Line, Reason, execute, first_bytes, line};
 use std::fs::File;
 use std::io::{ErrorKind, Write};
 use std::os::unix::fs::FileTypeExt;
@@ -31,6 +31,7 @@ fn main(rt: HostRuntime) -> ExitCode {
 /// Reads the command line and runs it. An error is that of the output.
 fn run<R: AllocGlobal + Env + Files<File = File> + Print + Eprint>(rt: &R) -> io::Result<u8> {
     let Ok(_held) = hold_standard_numbers(rt) else {
+        let _ = eprintln!(rt; "luks: the root folder can't be opened");
         return device_fault(rt);
     };
     let args = match env::args(rt) {
@@ -68,7 +69,7 @@ fn hold_standard_numbers<R: Files<File = File>>(rt: &R) -> io::Result<[File; 3]>
     ])
 }
 
-fn run_line<R: AllocGlobal + Files<File = File> + Print>(
+fn run_line<R: AllocGlobal + Files<File = File> + Print + Eprint>(
     rt: &R,
     line: &Line<'_>,
 ) -> io::Result<u8> {
@@ -81,9 +82,19 @@ fn run_line<R: AllocGlobal + Files<File = File> + Print>(
         },
     };
     let mut out = Vec::new(rt.alloc());
-    let status = execute(rt.alloc(), line, &mut inputs, &mut out);
-    io::writer(rt).write_all(out.as_slice())?;
+    let mut err = Vec::new(rt.alloc());
+    let status = execute(rt.alloc(), line, &mut inputs, &mut out, &mut err);
+    let printed = io::writer(rt).write_all(out.as_slice());
+    explain(rt, err.as_slice());
+    printed?;
     Ok(status)
+}
+
+/// Writes these lines to standard error, where that can be written.
+fn explain<R: Eprint>(rt: &R, lines: &[u8]) {
+    if let Ok(text) = str::from_utf8(lines) {
+        let _ = eprint!(rt; "{text}");
+    }
 }
 
 /// What its file has of the passphrase, read before the volume is opened.
@@ -105,7 +116,7 @@ fn open_volume<R: Files<File = File>>(rt: &R, path: &str) -> Result<FileDevice<F
 {
     let kind = fs::metadata(rt, path)?.file_type();
     if !kind.is_file() && !kind.is_block_device() {
-        return Err(InputFault::Unreadable);
+        return Err(InputFault::Unreadable(Reason::NoVolume));
     }
     Ok(FileDevice::new(File::open(rt, path)?)?)
 }

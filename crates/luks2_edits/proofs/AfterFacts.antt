@@ -1,25 +1,42 @@
 -- What an edit that was completed keeps of a LUKS2 volume.
-use Rattle.std.proofs.Common.{◌≡◌, ℕ, ◌-◌, ◌≤◌, List, length, refl, sym, subst, arith}
+use Rattle.std.proofs.Common.{◌≡◌, ◌≢◌, ℕ, ◌+◌, ◌-◌, ◌*◌, ◌<◌, ◌≤◌, ◌^◌, List, length, codes, Option, Some, None, option_and_then, is_some, inl, inr, refl, sym, ap, subst, ◌∙◌, arith}
+use Rattle.std.proofs.lemmas.Bool.{cases_eq, cases_lt}
+use Rattle.base64.specs.GeneralPurpose.{IsBytes}
 use Rattle.serde_json.specs.Data.{Data as Value}
-use Rattle.luks_area.specs.declared.area.AreaName.TheVariants.{Slot, Segment}
+use Rattle.serde_json.specs.Find.{get}
+use Rattle.luks_area.specs.declared.area.Area.{Area}
+use Rattle.luks_area.specs.declared.area.AreaName.TheVariants as name
 use Rattle.luks_head.specs.Header2.{hdr_size, header_at, IsUuidField}
 use Rattle.luks_head.specs.Selection.{luks2, Chosen}
 use Rattle.luks_head.specs.declared.selection.Copies.TheVariants.{InStep}
+use Rattle.luks_rules.specs.declared.table.Section.TheVariants.{Keyslots}
+use Rattle.luks_rules.specs.Faults.{object_at}
+use Rattle.luks_rules.specs.Reading.{decimal_in}
+use Rattle.luks_making.specs.Changed.{changed_slot}
+use Rattle.luks_making.specs.Conditions.{CanSeal, FitsNew, IsFree, IsRoom}
+use Rattle.luks_making.specs.Keyslots.{slot_value, NewMembers}
+use Rattle.luks_making.specs.Naming.{HasUniqueDigests}
+use Rattle.luks_making.specs.Unchanged.{ChangesSlot, GainsSlot, SaysMembers}
 use Rattle.luks_making.specs.Without.{without_slot}
 use Rattle.luks_reading.specs.declared.report.Data.{Data}
 use Rattle.luks_reading.specs.Checked.{WellFormed}
+use Rattle.luks_reading.specs.Layout2.{slot_number}
 use Rattle.luks_edit.specs.declared.edit.Edit.{Edit}
 use Rattle.luks_edit.specs.declared.edit.Edit.TheVariants.{Add, Change, Remove, Repair, Label}
+use Rattle.luks_edit.specs.declared.edit_fault.EditFault.TheVariants.{Iterations, NoFreeSlot, RandomLength, SlotTaken}
 use Rattle.luks_edit.specs.Kept.{Keeps}
-use Rattle.luks2_edits.specs.Edited.{keyslot_salt, After2, IsEdited, NamedKeyslots2, SealsKeyslot}
-use Rattle.luks2_edits.specs.Metadata.{HasMetadata}
-use Rattle.luks2_edits.specs.Places.{Loses}
+use Rattle.luks2_edits.specs.Edited.{keyslot_salt, members_of, After2, HasAdded, HasChanged, HasRanges, IsEdited, IsMadeIn, IsSealedBy, NamedKeyslots2}
+use Rattle.luks2_edits.specs.Metadata.{HasMetadata, HasStripes, IsNewKeyslot}
+use Rattle.luks2_edits.specs.Places.{key_areas_end, IsNewArea, Loses}
+use Rattle.luks2_edits.specs.Refused.{HasNoNumber, IsNumberTaken, IsUnrefused2, NeedsLike}
 use Rattle.luks2_edits.proofs.CopyFacts.{both_chosen}
 use Rattle.luks2_edits.proofs.KeptFacts.{all_kept, says_itself, KeepsMetadata}
 use Rattle.luks2_edits.proofs.LowerLaws.{MakingLaws, VolumeLaws}
-use Rattle.luks2_edits.proofs.MetadataFacts.{lost_metadata}
+use Rattle.luks2_edits.proofs.MetadataFacts.{lost_metadata, placed_metadata}
 use Rattle.luks2_edits.proofs.PlaceFacts.{left_bytes}
-use Rattle.luks2_edits.proofs.VolumeFacts.{copy_of, layout_of, HasCopy, IsLayout}
+use Rattle.luks2_edits.proofs.SealFacts.{can_seal, enough_random, fits_new, none_of, opened_pbkdf2, opened_plan, part_bytes, salt_length, under, IsOpened}
+use Rattle.luks2_edits.proofs.UniqueFacts.{unique_digests}
+use Rattle.luks2_edits.proofs.VolumeFacts.{copy_of, layout_of, listed_at_least, HasCopy, IsLayout}
 
 -- a keyslot that loses its area is named
 pub lost_is_named : (v : List ℕ) (e : Edit) (n : ℕ) → Loses e n → NamedKeyslots2 v e n
@@ -42,24 +59,140 @@ without_metadata making h total payload named n j k is same old =
     lost_metadata n j (without_slot n j) (making.removal n j).rest h total payload named is (making.removed (h - 4096) n j old.held) old (making.removal n j).gone in
     subst (KeepsMetadata h total payload named j) (sym same) without
 
--- the metadata after an edit
-edited_metadata : MakingLaws → (v : List ℕ) (o : ℕ) (payload : Data) (e : Edit) (random : List ℕ) (j k : Value) → HasMetadata v o j
-    → (SealsKeyslot e → ⊥)
+-- ---- what no refusal means
+
+-- the keyslot that is to be made is free
+new_free : (j : Value) (to : Option ℕ) (n : ℕ) → (IsNumberTaken j to → ⊥) → (HasNoNumber j to → ⊥) → IsNewKeyslot j to n → IsFree j n
+new_free j (Some t) n taken none is = elim (cases_lt t 32) [
+  | inl lt ↦ (
+      let free : IsFree j t = record { small = lt; free = none_of (object_at j Keyslots t) (λ d there. taken (lt, ap is_some there)) } in
+      subst (IsFree j) (sym is) free)
+  | inr past ↦ absurd (none past)
+]
+new_free j None n taken none is = is.free
+
+-- there are as many random bytes as a keyslot takes
+need_met : (j : Value) (n : ℕ) (random : List ℕ) (key stripes : ℕ) → HasStripes j n key stripes
+    → ((need : ℕ) → NeedsLike j n need → length random ≢ need → ⊥) → 160 ≤ length random
+need_met j n random key stripes slot met =
+    let need : ℕ = 64 + 64 + 32 + (stripes - 1) * key in
+    let like : NeedsLike j n need = record { key_bytes = key; stripes = stripes; slot = slot; count = refl } in
+    elim (cases_eq (length random) need) [
+      | inl same ↦ (let enough : 160 ≤ need = enough_random j n need like in omega (arith, same, enough))
+      | inr other ↦ absurd (met need like other)
+    ]
+
+-- what no refusal says of an edit that seals a keyslot like the keyslot `n`
+record IsReady (v : List ℕ) (o : ℕ) (j : Value) (n iterations : ℕ) (random : List ℕ) : Type 0 where
+  opened : IsOpened v o j n
+  turns : 1000 ≤ iterations
+  ranged : iterations < 2 ^ 32
+  small : length v < 2 ^ 64
+  random_bytes : IsBytes random
+  met : (need : ℕ) → NeedsLike j n need → length random ≢ need → ⊥
+
+-- what is at least 16384 is at least 4096
+above : {g h : ℕ} → g ≡ h → 16384 ≤ g → 4096 ≤ h
+above same least = omega (arith, same, least)
+
+module _ (laws : VolumeLaws) (making : MakingLaws) (v : List ℕ) (o h : ℕ) (payload : Data) (random : List ℕ) (j k : Value) (before : HasCopy v o h j)
+    (layout : IsLayout h (length v) payload j) (n iterations : ℕ) (ready : IsReady v o j n iterations random) where
+  head_size : 4096 ≤ h
+  head_size =
+      let least : 16384 ≤ hdr_size (header_at v o) = listed_at_least (hdr_size (header_at v o)) (laws.sound v o before.copies before.chosen).form.listed in
+      let size : hdr_size (header_at v o) ≡ h = before.size in
+      above size least
+
+  seals : (area : Area) → IsNewArea h (length v) payload j n area → CanSeal (h - 4096) j n (members_of iterations (keyslot_salt random) area)
+  seals area place =
+      let turns : 1000 ≤ iterations = ready.turns in
+      can_seal h (length v) payload j n area place iterations (keyslot_salt random) head_size (opened_pbkdf2 v o j n ready.opened) (omega (arith, turns))
+      (salt_length random (need_met j n random place.key_bytes place.stripes place.slot ready.met))
+
+  fits : (area : Area) → IsNewArea h (length v) payload j n area → FitsNew (members_of iterations (keyslot_salt random) area)
+  fits area place = fits_new h (length v) payload j n area place iterations (keyslot_salt random) ready.small ready.ranged (part_bytes random 128 32 ready.random_bytes)
+
+  -- the metadata with a new keyslot
+  added_metadata : (named : ℕ → Type 0) (to : Option ℕ) → (IsNumberTaken j to → ⊥) → (HasNoNumber j to → ⊥)
+      → (a : HasAdded h (length v) payload n to iterations (keyslot_salt random) j k) → named a.slot → KeepsMetadata h (length v) payload named j k
+  added_metadata named to taken none a is =
+      let f : NewMembers = members_of iterations (keyslot_salt random) a.area in
+      let free : IsFree j a.slot = new_free j to a.slot taken none a.is_new in
+      let once : HasUniqueDigests j = unique_digests before.holds.text j before.holds.reads in
+      let seal : CanSeal (h - 4096) j n f = seals a.area a.place in
+      let fit : FitsNew f = fits a.area a.place in
+      let gains : GainsSlot a.slot a.is.digest a.is.slot j k = making.addition (h - 4096) a.slot n f j k layout.held once free seal fit a.is in
+      let room : IsRoom (h - 4096) a.slot a.is.digest a.is.slot j a.is.names.object = making.room (h - 4096) a.slot n f j k layout.held once free seal fit a.is in
+      let says : SaysMembers a.is.slot (slot_value a.is.slot) = making.says a.is.slot room.fits in
+      let start : slot_number k a.slot (codes "offset") ≡ Some a.area.start =
+      ap (λ d. decimal_in (option_and_then (get (codes "offset")) (option_and_then (get (codes "area")) d))) gains.there ∙ says.offset ∙ ap Some a.is.made.offset in
+      let len : slot_number k a.slot (codes "size") ≡ Some a.area.len =
+      ap (λ d. decimal_in (option_and_then (get (codes "size")) (option_and_then (get (codes "area")) d))) gains.there ∙ says.size ∙ ap Some a.is.made.size in
+      placed_metadata a.slot j k gains.rest h (length v) payload (2 * h) (key_areas_end h (length v) a.place.region) a.area (free.small, start, len) a.place.gap.gap
+      (under h (length v) payload j n a.area a.place) named is (making.added (h - 4096) a.slot n f j k layout.held once free seal fit a.is) layout
+
+  -- the metadata with a keyslot that was sealed again
+  changed_metadata : (named : ℕ → Type 0) → (a : HasChanged h (length v) payload n iterations (keyslot_salt random) j k) → named n
+      → KeepsMetadata h (length v) payload named j k
+  changed_metadata named a is =
+      let f : NewMembers = members_of iterations (keyslot_salt random) a.area in
+      let new : Value = changed_slot n f j in
+      let seal : CanSeal (h - 4096) j n f = seals a.area a.place in
+      let fit : FitsNew f = fits a.area a.place in
+      let c : ChangesSlot n f j new = making.change (h - 4096) n f j layout.held seal fit in
+      let start : slot_number new n (codes "offset") ≡ Some a.area.start =
+      ap (λ d. decimal_in (option_and_then (get (codes "offset")) (option_and_then (get (codes "area")) d))) c.is ∙ c.says.offset in
+      let len : slot_number new n (codes "size") ≡ Some a.area.len =
+      ap (λ d. decimal_in (option_and_then (get (codes "size")) (option_and_then (get (codes "area")) d))) c.is ∙ c.says.size in
+      let keeps : KeepsMetadata h (length v) payload named j new =
+      placed_metadata n j new c.rest h (length v) payload (2 * h) (key_areas_end h (length v) a.place.region) a.area (c.there.named, start, len) a.place.gap.gap
+      (under h (length v) payload j n a.area a.place) named is (making.changed (h - 4096) n f j layout.held seal fit) layout in
+      subst (KeepsMetadata h (length v) payload named j) (sym a.is) keeps
+
+-- ---- the metadata after an edit
+
+-- iterations that aren't too few
+enough_turns : (iterations : ℕ) → (iterations < 1000 → ⊥) → 1000 ≤ iterations
+enough_turns iterations few = elim (cases_lt iterations 1000) [ inl lt ↦ absurd (few lt) | inr past ↦ past ]
+
+pub edited_metadata : (laws : VolumeLaws) (making : MakingLaws) (v : List ℕ) (o : ℕ) (payload : Data) (e : Edit) (random w : List ℕ) (j k : Value)
+    → HasMetadata v o j → HasCopy v o (hdr_size (header_at v o)) j → HasRanges v e random → IsUnrefused2 v payload e random → IsSealedBy v e random j w k
     → IsEdited (hdr_size (header_at v o)) (length v) payload e (keyslot_salt random) j k
     → IsLayout (hdr_size (header_at v o)) (length v) payload j
     → KeepsMetadata (hdr_size (header_at v o)) (length v) payload (NamedKeyslots2 v e) j k
-edited_metadata making v o payload (Add by_ old new to iterations) random j k m free is layout = absurd (free tt)
-edited_metadata making v o payload (Change slot old new iterations) random j k m free is layout = absurd (free tt)
-edited_metadata making v o payload (Remove slot passphrase) random j k m free is layout =
+edited_metadata laws making v o payload (Add by_ old new to iterations) random w j k m before ranges free sealed is layout =
+    let ready : IsReady v o j by_ iterations random = record {
+      opened = opened_plan laws v o j by_ old.now sealed.key m sealed.opened;
+      turns = enough_turns iterations (λ few. free.none Iterations few);
+      ranged = ranges.iterations;
+      small = ranges.size;
+      random_bytes = ranges.random_bytes;
+      met = λ need like other. free.none RandomLength (record { place = o; value = j; metadata = m; is = record { need = need; is = like; other = other } });
+    } in
+    added_metadata laws making v o (hdr_size (header_at v o)) payload random j k before layout by_ iterations ready (λ n. IsMadeIn v to n) to
+    (λ taken. free.none SlotTaken (record { place = o; value = j; metadata = m; is = taken }))
+    (λ none. free.none NoFreeSlot (record { place = o; value = j; metadata = m; is = none }))
+    is (record { place = o; value = j; metadata = m; is_new = is.is_new })
+edited_metadata laws making v o payload (Change slot old new iterations) random w j k m before ranges free sealed is layout =
+    let ready : IsReady v o j slot iterations random = record {
+      opened = opened_plan laws v o j slot old.now sealed.key m sealed.opened;
+      turns = enough_turns iterations (λ few. free.none Iterations few);
+      ranged = ranges.iterations;
+      small = ranges.size;
+      random_bytes = ranges.random_bytes;
+      met = λ need like other. free.none RandomLength (record { place = o; value = j; metadata = m; is = record { need = need; is = like; other = other } });
+    } in
+    changed_metadata laws making v o (hdr_size (header_at v o)) payload random j k before layout slot iterations ready (λ n. n ≡ slot) is refl
+edited_metadata laws making v o payload (Remove slot passphrase) random w j k m before ranges free sealed is layout =
     without_metadata making (hdr_size (header_at v o)) (length v) payload (λ n. n ≡ slot) slot j k refl is layout
-edited_metadata making v o payload Repair random j k m free is layout =
+edited_metadata laws making v o payload Repair random w j k m before ranges free sealed is layout =
     same_metadata (hdr_size (header_at v o)) (length v) payload (λ n. ⊥) j k is layout
-edited_metadata making v o payload (Label text) random j k m free is layout =
+edited_metadata laws making v o payload (Label text) random w j k m before ranges free sealed is layout =
     same_metadata (hdr_size (header_at v o)) (length v) payload (λ n. ⊥) j k is layout
 
 module _
     (laws : VolumeLaws) (making : MakingLaws) (v : List ℕ) (payload : Data) (e : Edit) (random w : List ℕ) (well : WellFormed v payload)
-    (free : SealsKeyslot e → ⊥) (a : After2 v payload e random w)
+    (ranges : HasRanges v e random) (free : IsUnrefused2 v payload e random) (a : After2 v payload e random w)
   where
     before : HasCopy v a.place (hdr_size (header_at v a.place)) a.value
     before = copy_of laws v payload a.place a.value a.metadata well
@@ -87,6 +220,6 @@ module _
     after_keeps =
         let h : ℕ = hdr_size (header_at v a.place) in
         all_kept laws v w payload a.place 0 h a.value a.new (NamedKeyslots2 v e) before after a.rest.length_same a.first.renewed.uuid layout
-        (edited_metadata making v a.place payload e random a.value a.new a.metadata free a.edited layout)
-        (λ n b x. left_bytes v w h (length v) payload a.value e layout.fit a.rest (Segment n) b tt x)
-        (λ m unnamed b x. left_bytes v w h (length v) payload a.value e layout.fit a.rest (Slot m) b (λ lost. unnamed (lost_is_named v e m lost)) x)
+        (edited_metadata laws making v a.place payload e random w a.value a.new a.metadata before ranges free a.sealed a.edited layout)
+        (λ n b x. left_bytes v w h (length v) payload a.value e layout.fit a.rest (name.Segment n) b tt x)
+        (λ m unnamed b x. left_bytes v w h (length v) payload a.value e layout.fit a.rest (name.Slot m) b (λ lost. unnamed (lost_is_named v e m lost)) x)

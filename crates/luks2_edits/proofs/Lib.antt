@@ -3,7 +3,10 @@ mod CopyFacts
 mod GapFacts
 mod KeptAnswers
 mod KeptFacts
+mod LeftoverFacts
 mod LowerLaws
 mod MetadataFacts
 mod PlaceFacts
+mod SealFacts
+mod UniqueFacts
 mod VolumeFacts

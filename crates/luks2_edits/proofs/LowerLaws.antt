@@ -8,7 +8,12 @@ use Rattle.luks_rules.specs.declared.fault.MetaFault.{MetaFault}
 use Rattle.luks_rules.specs.Accepted.{IsMeta}
 use Rattle.luks_rules.specs.Held.{IsHeld}
 use Rattle.luks_rules.specs.MetaFault.{Json, IsMetaFault}
-use Rattle.luks_making.specs.Unchanged.{LosesSlot}
+use Rattle.luks_making.specs.Changed.{changed_slot}
+use Rattle.luks_making.specs.Conditions.{CanSeal, FitsNew, FitsSlot, IsFree, IsRoom}
+use Rattle.luks_making.specs.Keyslots.{slot_value, NewMembers, SlotMembers}
+use Rattle.luks_making.specs.Naming.{HasUniqueDigests}
+use Rattle.luks_making.specs.Unchanged.{ChangesSlot, GainsSlot, LosesSlot, SaysMembers}
+use Rattle.luks_making.specs.With.{IsAdded}
 use Rattle.luks_making.specs.Without.{without_slot}
 
 -- on the header that is chosen, and on the value that a JSON area holds
@@ -24,3 +29,12 @@ pub record VolumeLaws : Type 0 where
 pub record MakingLaws : Type 0 where
   pub removed : (len n : ℕ) (j : Value) → IsHeld len j → IsHeld len (without_slot n j)
   pub removal : (n : ℕ) (j : Value) → LosesSlot n j (without_slot n j)
+  pub room : (len to by : ℕ) (f : NewMembers) (old new : Value) → IsHeld len old → HasUniqueDigests old → IsFree old to → CanSeal len old by f → FitsNew f
+      → (a : IsAdded to by f old new) → IsRoom len to a.digest a.slot old a.names.object
+  pub added : (len to by : ℕ) (f : NewMembers) (old new : Value) → IsHeld len old → HasUniqueDigests old → IsFree old to → CanSeal len old by f → FitsNew f
+      → IsAdded to by f old new → IsHeld len new
+  pub addition : (len to by : ℕ) (f : NewMembers) (old new : Value) → IsHeld len old → HasUniqueDigests old → IsFree old to → CanSeal len old by f → FitsNew f
+      → (a : IsAdded to by f old new) → GainsSlot to a.digest a.slot old new
+  pub says : (s : SlotMembers) → FitsSlot s → SaysMembers s (slot_value s)
+  pub changed : (len n : ℕ) (f : NewMembers) (j : Value) → IsHeld len j → CanSeal len j n f → FitsNew f → IsHeld len (changed_slot n f j)
+  pub change : (len n : ℕ) (f : NewMembers) (j : Value) → IsHeld len j → CanSeal len j n f → FitsNew f → ChangesSlot n f j (changed_slot n f j)

@@ -1,5 +1,6 @@
 -- What an edit makes of a LUKS2 volume (LUKS2 On-Disk Format 1.1, 4).
-use Rattle.std.specs.Prelude.{◌≡◌, ℕ, ◌-◌, ◌*◌, List, length, drop, replicate, Option, ⊤}
+use Rattle.std.specs.Prelude.{◌≡◌, ℕ, ◌-◌, ◌*◌, ◌^◌, ◌<◌, List, length, drop, replicate, Option, ⊤}
+use Rattle.base64.specs.GeneralPurpose.{IsBytes}
 use Rattle.serde_json.specs.Data.{Data as Value}
 use Rattle.luks_area.specs.declared.area.Area.{Area}
 use Rattle.luks_area.specs.Ranges.{part, SameBut}
@@ -38,13 +39,22 @@ NamedKeyslots2 v (Remove slot passphrase) n = n ≡ slot
 NamedKeyslots2 v Repair n = ⊥
 NamedKeyslots2 v (Label text) n = ⊥
 
--- the edit makes a keyslot, or seals one again
-abbrev pub SealsKeyslot : Edit → Type 0
-SealsKeyslot (Add by_ old new to iterations) = ⊤
-SealsKeyslot (Change slot old new iterations) = ⊤
-SealsKeyslot (Remove slot passphrase) = ⊥
-SealsKeyslot Repair = ⊥
-SealsKeyslot (Label text) = ⊥
+-- ---- what a call is given
+
+-- the iterations have 32 bits
+abbrev pub HasRangedIterations : Edit → Type 0
+HasRangedIterations (Add by_ old new to iterations) = iterations < 2 ^ 32
+HasRangedIterations (Change slot old new iterations) = iterations < 2 ^ 32
+HasRangedIterations (Remove slot passphrase) = ⊤
+HasRangedIterations Repair = ⊤
+HasRangedIterations (Label text) = ⊤
+
+-- what an edit is given has the ranges of its types: 64 bits for the volume's length, 32 for the
+-- iterations, and random bytes
+pub record HasRanges (v : List ℕ) (e : Edit) (random : List ℕ) : Type 0 where
+  pub size : length v < 2 ^ 64
+  pub iterations : HasRangedIterations e
+  pub random_bytes : IsBytes random
 
 -- ---- the metadata, in a volume of `total` bytes with copies of `h` bytes
 

@@ -5,7 +5,8 @@ use Rattle.std.specs.Prelude.{◌≡◌, ℕ, ◌≤◌, ◌⊎◌, List, length
 use Rattle.serde_json.specs.Data.{Data as Value}
 use Rattle.luks_area.specs.Ranges.{IsAt, IsOfEither, SameBut}
 use Rattle.luks_head.specs.Header2.{copy_at, hdr_size, header_at, IsSound}
-use Rattle.luks_head.specs.Selection.{IsVersion1}
+use Rattle.luks_head.specs.Selection.{luks2, Chosen, IsVersion1}
+use Rattle.luks_head.specs.declared.selection.Copies.{Copies}
 use Rattle.luks_head.specs.Sizes.{IsListed}
 use Rattle.luks_reading.specs.declared.report.Data.{Data}
 use Rattle.luks_edit.specs.declared.edit.Edit.{Edit}
@@ -70,11 +71,32 @@ pub record IsAllowed (v : List ℕ) (payload : Data) (e : Edit) (random w : List
   pub edited : IsEdited (hdr_size (header_at v place)) (length v) payload e (keyslot_salt random) value new
   pub renewed : IsRenewed v place e random new w q
 
--- the volume `w` isn't stray: a sound copy at a place of the copies is the one that was there or one
--- that the edit writes there; where none is sound at 0, none is at a listed place before the second
--- copy; and it has no LUKS1 header
-pub record IsNotStray (v : List ℕ) (payload : Data) (e : Edit) (random w : List ℕ) (h : ℕ) : Type 0 where
-  pub copies : (q : ℕ) → (q ≡ 0) ⊎ (q ≡ h) → IsSound w q
+-- the volume `w` isn't stray: a sound copy at the place of one of the copies is the one that was there,
+-- or one that the edit writes there; where none is sound at 0, none is at a listed place before the
+-- second copy; and there is no LUKS1 header
+pub record IsNotStray (v : List ℕ) (payload : Data) (e : Edit) (random w : List ℕ) : Type 0 where
+  pub place : ℕ
+  pub copies : Copies
+  pub chosen : Chosen v (luks2 place copies)
+  pub known : (q : ℕ) → (q ≡ 0) ⊎ (q ≡ hdr_size (header_at v place)) → IsSound w q
       → (copy_at w q ≡ copy_at v q) ⊎ IsAllowed v payload e random w q
-  pub none_before : (IsSound w 0 → ⊥) → (p : ℕ) → IsListed p → IsSound w p → h ≤ p
+  pub none_before : (IsSound w 0 → ⊥) → (p : ℕ) → IsListed p → IsSound w p → hdr_size (header_at v place) ≤ p
   pub version : IsVersion1 w → ⊥
+
+-- ---- what counts of the volume that was left
+
+-- the copy that counts is the one that counted: its header, and its metadata
+pub record CountsAsBefore (v w : List ℕ) : Type 0 where
+  pub place : ℕ
+  pub old_copies : Copies
+  pub old_chosen : Chosen v (luks2 place old_copies)
+  pub new_copies : Copies
+  pub new_chosen : Chosen w (luks2 place new_copies)
+  pub same : copy_at w place ≡ copy_at v place
+
+-- it is one that the edit writes, with its metadata and label, and the uuid and the subsystem as before
+pub record CountsAsAfter (v : List ℕ) (payload : Data) (e : Edit) (random w : List ℕ) : Type 0 where
+  pub place : ℕ
+  pub copies : Copies
+  pub chosen : Chosen w (luks2 place copies)
+  pub written : IsAllowed v payload e random w place

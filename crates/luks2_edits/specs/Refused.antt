@@ -1,6 +1,6 @@
 -- When an edit of a LUKS2 volume is refused, and how many random bytes it takes. The order of the
 -- faults is that of every edit.
-use Rattle.std.specs.Prelude.{◌≡◌, ◌≢◌, ℕ, ◌+◌, ◌-◌, ◌*◌, ◌^◌, ◌<◌, ◌≤◌, ◌⊎◌, List, length, true, Some, None}
+use Rattle.std.specs.Prelude.{◌≡◌, ◌≢◌, ℕ, ◌+◌, ◌-◌, ◌*◌, ◌^◌, ◌<◌, ◌≤◌, ◌⊎◌, List, length, true, Option, Some, None}
 use Rattle.base64.specs.GeneralPurpose.{IsBytes}
 use Rattle.serde_json.specs.Data.{Data as Value}
 use Rattle.serde_json.specs.Written.{compact_text}
@@ -34,19 +34,25 @@ pub record IsAbsent (j : Value) (e : Edit) : Type 0 where
 
 -- ---- the keyslot that the edit makes
 
--- it is in use
+-- the number that is asked for is in use
+abbrev pub IsNumberTaken : Value → Option ℕ → Type 0
+IsNumberTaken j (Some t) = IsInUse j t
+IsNumberTaken j None = ⊥
+
+-- there is none of the number that is asked for, or none is free
+abbrev pub HasNoNumber : Value → Option ℕ → Type 0
+HasNoNumber j (Some t) = 31 < t
+HasNoNumber j None = (n : ℕ) → IsFree j n → ⊥
+
 abbrev pub IsTaken : Value → Edit → Type 0
-IsTaken j (Add by_ old new (Some t) iterations) = IsInUse j t
-IsTaken j (Add by_ old new None iterations) = ⊥
+IsTaken j (Add by_ old new to iterations) = IsNumberTaken j to
 IsTaken j (Change slot old new iterations) = ⊥
 IsTaken j (Remove slot passphrase) = ⊥
 IsTaken j Repair = ⊥
 IsTaken j (Label text) = ⊥
 
--- there is none of that number, or none is free
 abbrev pub HasNoFree : Value → Edit → Type 0
-HasNoFree j (Add by_ old new (Some t) iterations) = 31 < t
-HasNoFree j (Add by_ old new None iterations) = (n : ℕ) → IsFree j n → ⊥
+HasNoFree j (Add by_ old new to iterations) = HasNoNumber j to
 HasNoFree j (Change slot old new iterations) = ⊥
 HasNoFree j (Remove slot passphrase) = ⊥
 HasNoFree j Repair = ⊥

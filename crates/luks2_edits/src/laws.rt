@@ -8,11 +8,14 @@ ghost use Rattle.luks_reading.specs.Checked.{WellFormed};
 ghost use Rattle.luks_reading.specs.declared.report.Data.{Data as Payload};
 ghost use Rattle.luks_edit.specs.declared.edit.Edit.{Edit as TheEdit};
 ghost use Rattle.luks_edit.specs.Kept.{Keeps};
-ghost use Rattle.luks2_edits.specs.Edited.{After2, NamedKeyslots2, SealsKeyslot};
+ghost use Rattle.luks2_edits.specs.Edited.{After2, HasRanges, NamedKeyslots2};
 ghost use Rattle.luks2_edits.specs.Kept.{HasSameKeyslot};
+ghost use Rattle.luks2_edits.specs.Refused.{IsUnrefused2};
 
 use luks_head::{Copies, chosen_copy_is_sound, one_choice, soundness_is_local};
-use luks_making::removal_keeps_the_rest;
+use luks_making::{
+    addition_keeps_the_rest, change_keeps_the_rest, made_keyslot_has_room, removal_keeps_the_rest,
+};
 use luks_meta::{metadata_without_faults, one_value};
 
 /// A keyslot that a change of a LUKS2 volume leaves as it was has the same answer for every
@@ -24,15 +27,15 @@ pub fn alike_slots_answer_alike()
     one_choice();
 }
 
-/// After an edit of a well formed LUKS2 volume that seals no keyslot, the volume is well formed, and
+/// After an edit of a well formed LUKS2 volume that nothing refused, the volume is well formed, and
 /// its copies are in step; the segments are as before, and so are the area, the value and the
 /// answers of each keyslot that the edit didn't name.
 pub fn luks2_edit_keeps_volume()
     ensures keeps { (payload : Payload) (e : TheEdit) (v random w : List ℕ) → WellFormed v payload
-        → (SealsKeyslot e → ⊥) → After2 v payload e random w
+        → HasRanges v e random → IsUnrefused2 v payload e random → After2 v payload e random w
         → Keeps payload (NamedKeyslots2 v e) v w }
     ensures chosen { (payload : Payload) (e : TheEdit) (v random w : List ℕ) → WellFormed v payload
-        → (SealsKeyslot e → ⊥) → After2 v payload e random w
+        → HasRanges v e random → IsUnrefused2 v payload e random → After2 v payload e random w
         → Chosen w (luks2 0 Copies.InStep) }
 {
     one_choice();
@@ -41,4 +44,7 @@ pub fn luks2_edit_keeps_volume()
     one_value();
     metadata_without_faults();
     removal_keeps_the_rest();
+    addition_keeps_the_rest();
+    made_keyslot_has_room();
+    change_keeps_the_rest();
 }

@@ -9,7 +9,7 @@ use Rattle.luks_cli.specs.declared.inputs.InputFault.TheVariants.{Absent, Unread
 -- the fault of a file whose reading met an error of this kind
 abbrev pub IsFaultOf : ErrorKind → InputFault → Type 0
 IsFaultOf kind Absent = ⊥
-IsFaultOf kind Unreadable = kind ≡ OutOfMemory → ⊥
+IsFaultOf kind (Unreadable reason) = kind ≡ OutOfMemory → ⊥
 IsFaultOf kind NoMemory = kind ≡ OutOfMemory
 
 -- the volume is there as it was, and nothing of it changed

@@ -40,9 +40,15 @@ pub(crate) fn refused<F: Display, W: Write>(fault: &F, out: &mut W) -> io::Resul
     Ok(Status::Refused)
 }
 
-pub(crate) fn device_fault<W: Write>(out: &mut W) -> io::Result<Status>
+/// What is printed where reading the volume of this name failed.
+pub(crate) fn device_fault<W: Write, E: Write>(
+    volume: &str,
+    out: &mut W,
+    err: &mut E,
+) -> io::Result<Status>
     ensures { IfOk result (λ s. s ≡ Status.Fault) }
 {
+    let _ = writeln!(err, "luks: {volume}: reading failed");
     writeln!(out, "device fault")?;
     Ok(Status::Fault)
 }
@@ -54,12 +60,24 @@ pub(crate) fn no_memory<W: Write>(out: &mut W) -> io::Result<Status>
     Ok(Status::Fault)
 }
 
-/// What is printed where a file can't be read.
-pub(crate) fn unread<W: Write>(fault: InputFault, out: &mut W) -> io::Result<Status>
+/// What is printed where the file of this name can't be read.
+pub(crate) fn unread<W: Write, E: Write>(
+    fault: InputFault,
+    file: &str,
+    out: &mut W,
+    err: &mut E,
+) -> io::Result<Status>
     ensures { IfOk result (λ s. s ≡ Status.Fault) }
 {
-    match fault {
-        InputFault::NoMemory => no_memory(out),
-        InputFault::Absent | InputFault::Unreadable => device_fault(out),
-    }
+    let answer = match fault {
+        InputFault::NoMemory => "no memory",
+        InputFault::Absent | InputFault::Unreadable(_) => "device fault",
+    };
+    let _ = match fault {
+        InputFault::NoMemory => writeln!(err, "luks: {file}: no memory to read it"),
+        InputFault::Absent => writeln!(err, "luks: {file}: not opened"),
+        InputFault::Unreadable(reason) => writeln!(err, "luks: {file}: {reason}"),
+    };
+    writeln!(out, "{answer}")?;
+    Ok(Status::Fault)
 }

@@ -45,6 +45,7 @@ fn data_of(given: &ArgMatches<'_>) -> Data {
 
 fn program<'a>(alloc: Global) -> Result<Command<'a>, AllocError> {
     Command::new(alloc, "luks")
+        .version(helps::VERSION)
         .about(helps::PROGRAM)
         .after_help(helps::PROGRAM_MORE)
         .subcommand_required(true)
@@ -87,7 +88,7 @@ fn detached_option<'a>(alloc: Global) -> Arg<'a> {
     Arg::new(alloc, "detached")
         .long("detached")
         .action(ArgAction::SetTrue)
-        .help("The payload lies on another device, so no segment is judged")
+        .help("The payload lies on another device; no segment is judged")
 }
 
 fn passphrase_option<'a>(alloc: Global) -> Arg<'a> {
@@ -95,7 +96,7 @@ fn passphrase_option<'a>(alloc: Global) -> Arg<'a> {
         .long("passphrase")
         .value_name("FILE")
         .required(true)
-        .help("The file of the passphrase")
+        .help("The file of the passphrase, taken whole")
 }
 
 fn slot_option<'a>(alloc: Global) -> Arg<'a> {
@@ -103,5 +104,5 @@ fn slot_option<'a>(alloc: Global) -> Arg<'a> {
         .long("slot")
         .value_name("N")
         .value_parser(clap::value_parser!(u8).range(0..=31))
-        .help("The keyslot to try, 0 to 31")
+        .help("The keyslot to try, 0 to 31; else all")
 }

@@ -2,8 +2,38 @@ ghost use Rattle.std.specs.Prelude.{◌≡◌, ◌≢◌};
 ghost use Rattle.std.specs.IoError.{error_kind};
 ghost use Rattle.luks_cli.specs.Files.{IsFaultOf};
 
-use std::io;
 use std::io::ErrorKind;
+use std::{fmt, io};
+
+/// Why a file can't be opened or read, where the system tells a reason that helps.
+#[derive(Debug, Clone, Copy, PartialEq, Eq)]
+pub enum Reason {
+    /// There is none of this name.
+    NotFound,
+    /// The user may not read it.
+    Denied,
+    /// It is a folder.
+    Folder,
+    /// A device that something else holds for itself alone.
+    Busy,
+    /// A volume is neither a regular file nor a block device.
+    NoVolume,
+    /// Anything else, as a disk's failure.
+    Other,
+}
+
+impl fmt::Display for Reason {
+    fn fmt<W: fmt::Write>(&self, f: &mut fmt::Formatter<W>) -> fmt::Result {
+        f.write_str(match *self {
+            Reason::NotFound => "no such file",
+            Reason::Denied => "permission denied",
+            Reason::Folder => "is a folder",
+            Reason::Busy => "is in use",
+            Reason::NoVolume => "neither a regular file nor a block device",
+            Reason::Other => "can't be opened or read",
+        })
+    }
+}
 
 /// Why a file that a command may need can't be read.
 #[derive(Debug, Clone, Copy, PartialEq, Eq)]
@@ -11,7 +41,7 @@ pub enum InputFault {
     /// The command line names none.
     Absent,
     /// It isn't there, or can't be opened or read.
-    Unreadable,
+    Unreadable(Reason),
     /// Memory was refused while it was opened or read.
     NoMemory,
 }
@@ -22,7 +52,11 @@ impl From<io::Error> for InputFault {
     fn from(error: io::Error) -> InputFault {
         match error.kind() {
             ErrorKind::OutOfMemory => InputFault::NoMemory,
-            _ => InputFault::Unreadable,
+            ErrorKind::NotFound => InputFault::Unreadable(Reason::NotFound),
+            ErrorKind::PermissionDenied => InputFault::Unreadable(Reason::Denied),
+            ErrorKind::IsADirectory => InputFault::Unreadable(Reason::Folder),
+            ErrorKind::ResourceBusy => InputFault::Unreadable(Reason::Busy),
+            _ => InputFault::Unreadable(Reason::Other),
         }
     }
 }

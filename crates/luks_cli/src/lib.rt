@@ -14,6 +14,6 @@ mod request;
 
 pub use command_line::line;
 pub use execution::execute;
-pub use inputs::{InputFault, Inputs};
+pub use inputs::{InputFault, Inputs, Reason};
 pub use passphrase_file::first_bytes;
 pub use request::{Command, Line};

@@ -1,10 +1,11 @@
 -- The text of a new uuid is that of a uuid, and printable.
-use Rattle.std.proofs.Common.{◌≡◌, ◌≢◌, ◌==◌, if◌then◌else◌, ℕ, ◌+◌, ◌%◌, ◌<◌, List, [], ◌∷◌, length, take, slice_index, slice_set, suc, true, false, inl, inr, arith, refl, ap, ◌∙◌, get_or-set_other}
+use Rattle.std.proofs.Common.{sym, ◌≡◌, ◌≢◌, ◌==◌, if◌then◌else◌, ℕ, ◌+◌, ◌%◌, ◌<◌, List, [], ◌∷◌, ◌++◌, length, take, replicate, append_assoc, length-append, slice_index, slice_set, suc, true, false, inl, inr, arith, refl, ap, ◌∙◌, get_or-set_other}
 use Rattle.std.specs.List.{list_all}
 use Rattle.std.proofs.lemmas.Bool.{and_from, cases_Bool}
 use Rattle.std.proofs.lemmas.Bool.Decides.{nat_tests}
 use Rattle.std.proofs.lemmas.List.Sums.{position_or_len_is}
-use Rattle.std.proofs.Math.Seq.{take-length}
+use Rattle.std.proofs.Math.Seq.{take-append_seam, take-length}
+use Rattle.std.proofs.lemmas.List.{get_or_append_left, get_or_push}
 use Rattle.uuid.specs.Parts.{with_variant, with_version}
 use Rattle.uuid.specs.declared.Variant.TheVariants.{RFC4122}
 use Rattle.uuid.specs.declared.Version.TheVariants.{Random}
@@ -81,3 +82,21 @@ uuid_text-plain random = plain_each (uuid_text random) (printable_at random)
 
 pub uuid_text-whole : (random : List ℕ) → text_of (uuid_text random) ≡ uuid_text random
 uuid_text-whole random = whole_each (uuid_text random) (printable_at random)
+
+-- a text ends before the zeros that fill its field
+text_then : (xs rest : List ℕ) → ((k : ℕ) → k < length xs → is_printable (slice_index xs k) ≡ true) → text_of (xs ++ (0 ∷ rest)) ≡ xs
+text_then xs rest each =
+    let ys : List ℕ = 0 ∷ rest in
+    let long : length (xs ++ ys) ≡ length xs + length ys = length-append xs ys in
+    let none : (k : ℕ) → k < length xs → (slice_index (xs ++ ys) k == 0) ≡ false = λ k lt.
+    rw (get_or_append_left xs ys 0 k lt) (not_zero (slice_index xs k) (each k lt)) in
+    let seam : slice_index (xs ++ ys) (length xs) ≡ 0 =
+    ap (λ l. slice_index l (length xs)) (sym (append_assoc xs (0 ∷ []) rest))
+    ∙ get_or_append_left (xs ++ 0 ∷ []) rest 0 (length xs) (let more = length-append xs (0 ∷ []) in omega (arith, more))
+    ∙ get_or_push xs 0 0 (length xs) refl in
+    ap (λ n. take n (xs ++ ys))
+    (position_or_len_is (λ c. c == 0) (xs ++ ys) (length xs) 0 (omega (arith, long)) none (λ lt. rw seam refl))
+    ∙ take-append_seam xs ys
+
+pub uuid_field-text : (random : List ℕ) → text_of (uuid_text random ++ replicate 4 0) ≡ uuid_text random
+uuid_field-text random = text_then (uuid_text random) (0 ∷ 0 ∷ 0 ∷ []) (printable_at random)

@@ -4,3 +4,5 @@ pub mod NewUuid
 pub mod NewPlan
 pub mod NewHeader1
 pub mod Formatted1
+pub mod NewHeader2
+pub mod Formatted2

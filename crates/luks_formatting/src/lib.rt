@@ -6,11 +6,15 @@ mod judging;
 mod laws;
 mod luks1;
 mod luks1_header;
+mod luks2;
+mod luks2_header;
+mod metadata;
 mod new_uuid;
 mod plan;
 mod random;
 mod steps;
 
 pub use format::{Format, FormatFault};
-pub use laws::formatted1_opens;
+pub use laws::{formatted1_opens, formatted2_opens};
 pub use luks1::{FORMAT1_RANDOM, format1};
+pub use luks2::{FORMAT2_RANDOM, format2};

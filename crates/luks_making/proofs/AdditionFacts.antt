@@ -21,7 +21,7 @@ use Rattle.luks_rules.specs.declared.table.Row.{Row}
 use Rattle.luks_rules.specs.Accepted.{HasNames, HasObject, IsContent, IsRead}
 use Rattle.luks_rules.specs.Faults.{Among, is_section, object_at, section_at, suits, type_at, value_at}
 use Rattle.luks_rules.specs.Held.{IsHeld}
-use Rattle.luks_rules.specs.Reading.{reads, number_in, decimal_in}
+use Rattle.luks_rules.specs.Reading.{reads, number_in, decimal_in, texts_of}
 use Rattle.luks_rules.specs.Sizes.{inside_at, keyslots_size, region_start}
 use Rattle.luks_rules.specs.Table.{member as row, digest_rows, keyslot_rows, rows_of, member_name}
 use Rattle.luks_making.specs.Changing.{add_text, at_member, change_member, in_array, in_object}
@@ -31,7 +31,7 @@ use Rattle.luks_making.specs.Keyslots.{SlotMembers, slot_value}
 use Rattle.luks_making.specs.Naming.{IsDigestOf}
 use Rattle.luks_making.specs.With.{with_name, with_slot}
 use Rattle.luks_making.proofs.MemberFacts.{array_map, beside, found_in, get_changed, get_kept, mapped, object_map, put_beside, put_here, put_more, some_same, still_object, tested_object, through}
-use Rattle.luks_making.proofs.NameFacts.{all_added, all_more, count_added, count_changed, has_added, named_changed, named_map, named_put, names_added, none_names, once_added, others_added, texts_differ}
+use Rattle.luks_making.proofs.NameFacts.{added_text, all_added, all_more, count_added, count_changed, has_added, named_changed, named_map, named_put, names_added, none_names, once_added, others_added, texts_differ}
 use Rattle.luks_making.proofs.NestingFacts.{Bounded, array_bounded, change_bounded, object_bounded, put_bounded}
 use Rattle.luks_making.proofs.ReadingFacts.{TextsSay, decimal_is, decimal_read, name_is, number_is, number_read, salt_read}
 use Rattle.luks_making.proofs.RestFacts.{objects_same}
@@ -472,7 +472,7 @@ module _ (say : TextsSay) (len n m : ℕ) (s : SlotMembers) (j d0 : Data) (c : I
   ]
 
   -- the value with the new keyslot meets every rule
-  pub content_with : IsContent len (with_slot n m s j)
+  content_with : IsContent len (with_slot n m s j)
   content_with = record {
     whole = whole_with n m s j c.whole;
     sections = sections_with;
@@ -520,6 +520,9 @@ module _ (say : TextsSay) (len n m : ℕ) (s : SlotMembers) (j d0 : Data) (c : I
     names = names_it;
     once = new_counted;
     digest = digest_here n m s j;
+    texts = λ was d there now.
+        let made : with_name (number_text n) was ≡ d = some_same _ d (sym (digest_here n m s j ∙ ap (option_map (with_name (number_text n))) there) ∙ now) in
+        rw (← made) (ap texts_of (get_changed (codes "keyslots") (in_array (add_text (number_text n))) was) ∙ added_text (number_text n) (get (codes "keyslots") was));
     digests = digest_beside n m s j;
     tokens = other_section n m s j (codes "tokens") refl;
     rest = rest_with;

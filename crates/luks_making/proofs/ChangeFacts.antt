@@ -186,7 +186,7 @@ module _ (f : NewMembers) (d : Data) (read : IsRead keyslot_rows d) where
   kdf_row i r here kdf a b = same_row i r here (rw kdf (kept_in_kdf f d (member_name r.name) a b))
 
   -- the keyslot meets the rules
-  pub renewed_read : TextsSay → FitsNew f → 1 ≤ f.iterations → Between 1 128 (length f.salt) → IsRead keyslot_rows (renewed_slot f d)
+  renewed_read : TextsSay → FitsNew f → 1 ≤ f.iterations → Between 1 128 (length f.salt) → IsRead keyslot_rows (renewed_slot f d)
   renewed_read say new one long =
       let salt : IsSalt f.salt = record { are_bytes = new.salt; long = long } in
       record {
@@ -275,7 +275,7 @@ module _ (f : NewMembers) (d : Data) (read : IsRead keyslot_rows d) where
   has_kdf : is_some (option_and_then as_object (get (codes "kdf") d)) ≡ true
   has_kdf = was_object 10 _ refl refl (and_from _ _ read.is_object refl)
 
-  pub says_new : TextsSay → FitsNew f → 1 ≤ f.iterations → Between 1 128 (length f.salt) → type_at d outer.Kdf ≡ Some (codes "pbkdf2") → SaysNew f d (renewed_slot f d)
+  says_new : TextsSay → FitsNew f → 1 ≤ f.iterations → Between 1 128 (length f.salt) → type_at d outer.Kdf ≡ Some (codes "pbkdf2") → SaysNew f d (renewed_slot f d)
   says_new say new one long derived =
       let offset = there_by rule.Decimal (option_and_then (get (codes "offset")) (get (codes "area") d)) refl (read.each 7 _ refl (and_from _ _ has_area refl)) in
       let size = there_by rule.Decimal (option_and_then (get (codes "size")) (get (codes "area") d)) refl (read.each 8 _ refl (and_from _ _ has_area refl)) in
@@ -496,7 +496,7 @@ module _ (say : TextsSay) (len n : ℕ) (f : NewMembers) (j : Data) (c : IsConte
   ]
 
   -- the value with the changed keyslot meets every rule
-  pub content_changed : IsContent len (changed_slot n f j)
+  content_changed : IsContent len (changed_slot n f j)
   content_changed = record {
     whole = whole_changed_slot n f j c.whole;
     sections = sections_changed;

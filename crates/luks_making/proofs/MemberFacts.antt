@@ -31,7 +31,7 @@ pub other_name : (k l : List ℕ) → bytes_eq k l ≡ false → k ≡ l → ⊥
 other_name k l off e = true≢false (sym ((bytes_eq-Decides k l).1 e) ∙ off)
 
 -- two names are equal or differ
-pub either_name : (k l : List ℕ) → (k ≡ l) ⊎ (k ≡ l → ⊥)
+either_name : (k l : List ℕ) → (k ≡ l) ⊎ (k ≡ l → ⊥)
 either_name k l = elim (cases_Bool (bytes_eq k l)) [
   | inl same ↦ inl ((bytes_eq-Decides k l).0 same)
   | inr off ↦ inr (other_name k l off)

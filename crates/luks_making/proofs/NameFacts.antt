@@ -1,7 +1,8 @@
 -- Names of objects, and arrays of names with one text less or more.
 use Rattle.std.proofs.Common.{◌≡◌, ℕ, ◌+◌, ◌/◌, ◌%◌, ◌<◌, ◌≤◌, Bool, true, false, cond, Ordering, Less, Equal, Greater, List, [], ◌∷◌, Option, Some, None, option_map, option_and_then, is_some, bytes_eq, get_or, refl, sym, ap, ◌∙◌, inl, inr, arith}
-use Rattle.std.specs.Prelude.{◌||◌}
+use Rattle.std.specs.Prelude.{◌||◌, not, ◌++◌}
 use Rattle.std.specs.Cmp.Lexicographic.{slice_cmp}
+use Rattle.std.specs.List.{filter}
 use Rattle.std.specs.Option.{option_map_or}
 use Rattle.std.specs.Ordering.{nat_cmp, match_ordering}
 use Rattle.std.proofs.lemmas.Bool.{false≢true, cases_Bool, cases_lt, lt-ltb, le-ltb, and_from, and_parts}
@@ -12,7 +13,7 @@ use Rattle.luks_json.specs.Arrays.{all_named, all_there, has_repeat, has_text, i
 use Rattle.luks_json.specs.Number.{is_name, number_text}
 use Rattle.luks_rules.specs.declared.table.Section.{Section}
 use Rattle.luks_rules.specs.declared.table.Rule.TheVariants as rule
-use Rattle.luks_rules.specs.Reading.{item_texts, reads}
+use Rattle.luks_rules.specs.Reading.{item_texts, reads, texts_of}
 use Rattle.luks_rules.specs.Reading.{names as names_field}
 use Rattle.luks_making.specs.Changing.{add_text, change_member, drop_member, drop_text, each_member, in_array, in_object}
 use Rattle.luks_making.proofs.MemberFacts.{different, map_is_some, same_name, seek}
@@ -46,7 +47,8 @@ same_twos m n a b e =
     let ones : 48 + m % 10 ≡ 48 + n % 10 = second_digits _ _ _ _ both in
     omega (arith, tens, ones)
 
-same_number : (m n : ℕ) → SameText m n → m ≡ n
+-- one name is that of one number
+pub same_number : (m n : ℕ) → SameText m n → m ≡ n
 same_number m n e = elim (cases_lt m 10) [
   | inl i ↦ elim (cases_lt n 10) [
     | inl j ↦ same_ones m n i j e
@@ -137,7 +139,7 @@ all_dropped t map left no_items h e = refl
 all_dropped t map left (item d ds) h e = let p = and_parts _ _ e in all_by (is_text t d) t map left d ds h refl p.0 (all_dropped t map left ds h p.1)
 
 -- nothing is taken out where the text isn't
-pub dropped_none : (t : List ℕ) (ds : Items) → has_text t ds ≡ false → drop_text t ds ≡ ds
+dropped_none : (t : List ℕ) (ds : Items) → has_text t ds ≡ false → drop_text t ds ≡ ds
 dropped_none t no_items h = refl
 dropped_none t (item d ds) h = let p = neither (is_text t d) (has_text t ds) h in rw p.0 (ap (item d) (dropped_none t ds p.1))
 
@@ -218,6 +220,60 @@ texts_dropped t (item d ds) h = let p = lost (item_texts ds) (as_str d) h in tex
 texts_added : (t : List ℕ) (ds : Items) → is_some (item_texts ds) ≡ true → is_some (item_texts (add_text t ds)) ≡ true
 texts_added t no_items h = refl
 texts_added t (item d ds) h = let p = lost (item_texts ds) (as_str d) h in gained (item_texts (add_text t ds)) (as_str d) (texts_added t ds p.0) p.1
+
+-- its texts without one, in their order
+abbrev pub OtherTexts : List ℕ → List (List ℕ) → List (List ℕ)
+OtherTexts t = filter (λ s. not (bytes_eq s t))
+
+skip_text : (t s : List ℕ) (o : Option (List (List ℕ))) → bytes_eq s t ≡ true → option_map (OtherTexts t) o ≡ option_map (OtherTexts t) (option_map (λ ts. s ∷ ts) o)
+skip_text t s None on = refl
+skip_text t s (Some ts) on = rw on refl
+
+keep_text : (t s : List ℕ) (o : Option (List (List ℕ))) → bytes_eq s t ≡ false → option_map (λ ts. s ∷ ts) (option_map (OtherTexts t) o) ≡ option_map (OtherTexts t) (option_map (λ ts. s ∷ ts) o)
+keep_text t s None off = refl
+keep_text t s (Some ts) off = rw off refl
+
+other_by : (t : List ℕ) (d : Data) (ds : Items) (u : Option (List ℕ)) → as_str d ≡ u → item_texts (drop_text t ds) ≡ option_map (OtherTexts t) (item_texts ds)
+    → item_texts (drop_text t (item d ds)) ≡ option_map (OtherTexts t) (item_texts (item d ds))
+other_by t d ds None is later = rw (is, is) refl
+other_by t d ds (Some s) is later = elim (cases_Bool (bytes_eq s t)) [
+  | inl on ↦ rw (is, on) (later ∙ skip_text t s (item_texts ds) on)
+  | inr off ↦ rw (is, off, is) (ap (option_map (λ ts. s ∷ ts)) later ∙ keep_text t s (item_texts ds) off)
+]
+
+other_texts : (t : List ℕ) (ds : Items) → item_texts (drop_text t ds) ≡ option_map (OtherTexts t) (item_texts ds)
+other_texts t no_items = refl
+other_texts t (item d ds) = other_by t d ds (as_str d) refl (other_texts t ds)
+
+pub dropped_texts : (t : List ℕ) (v : Option Data) → texts_of (option_map (in_array (drop_text t)) v) ≡ option_map (OtherTexts t) (texts_of v)
+dropped_texts t None = refl
+dropped_texts t (Some null) = refl
+dropped_texts t (Some (boolean b)) = refl
+dropped_texts t (Some (number n)) = refl
+dropped_texts t (Some (string u)) = refl
+dropped_texts t (Some (array ds)) = other_texts t ds
+dropped_texts t (Some (object ms)) = refl
+
+-- its texts with one more, the last
+last_by : (t : List ℕ) (u : Option (List ℕ)) (o : Option (List (List ℕ)))
+    → option_and_then (λ s. option_map (λ ts. s ∷ ts) (option_map (λ ts. ts ++ t ∷ []) o)) u ≡ option_map (λ ts. ts ++ t ∷ []) (option_and_then (λ s. option_map (λ ts. s ∷ ts) o) u)
+last_by t None None = refl
+last_by t None (Some ts) = refl
+last_by t (Some s) None = refl
+last_by t (Some s) (Some ts) = refl
+
+last_text : (t : List ℕ) (ds : Items) → item_texts (add_text t ds) ≡ option_map (λ ts. ts ++ t ∷ []) (item_texts ds)
+last_text t no_items = refl
+last_text t (item d ds) = ap (λ o. option_and_then (λ s. option_map (λ ts. s ∷ ts) o) (as_str d)) (last_text t ds) ∙ last_by t (as_str d) (item_texts ds)
+
+pub added_text : (t : List ℕ) (v : Option Data) → texts_of (option_map (in_array (add_text t)) v) ≡ option_map (λ ts. ts ++ t ∷ []) (texts_of v)
+added_text t None = refl
+added_text t (Some null) = refl
+added_text t (Some (boolean b)) = refl
+added_text t (Some (number n)) = refl
+added_text t (Some (string u)) = refl
+added_text t (Some (array ds)) = last_text t ds
+added_text t (Some (object ms)) = refl
 
 -- the edit of an array leaves texts
 abbrev KeepsTexts : (Items → Items) → Type 0

@@ -39,7 +39,7 @@ texts_say decimals encodings numbers names = record { decimals = decimals; encod
 -- ---- numbers and bytes
 
 -- a number in its range passes the test
-pub between : (least most n : ℕ) → Between least most n → is_between least most n ≡ true
+between : (least most n : ℕ) → Between least most n → is_between least most n ≡ true
 between least most n b = and_from _ _ (le-leb least n b.from) (le-leb n most b.to)
 
 -- a number that is read is in its range

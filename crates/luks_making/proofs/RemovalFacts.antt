@@ -20,15 +20,15 @@ use Rattle.luks_rules.specs.declared.table.Row.{Row}
 use Rattle.luks_rules.specs.Accepted.{HasNames, HasObject, IsContent, IsRead}
 use Rattle.luks_rules.specs.Faults.{Among, is_section, object_at, section_at, suits, type_at, value_at}
 use Rattle.luks_rules.specs.Held.{IsHeld}
-use Rattle.luks_rules.specs.Reading.{reads}
+use Rattle.luks_rules.specs.Reading.{reads, texts_of}
 use Rattle.luks_rules.specs.Sizes.{json_size, keyslots_size}
 use Rattle.luks_rules.specs.Table.{member as row, digest_rows, token_rows, rows_of, member_name}
 use Rattle.luks_making.specs.Changing.{at_member, drop_member, drop_text, each_member, in_array, in_object}
 use Rattle.luks_making.specs.Unchanged.{KeepsOthers, KeepsRest, LosesName, LosesSlot}
 use Rattle.luks_making.specs.Naming.{IsDigestOf}
 use Rattle.luks_making.specs.Without.{without_name, without_slot}
-use Rattle.luks_making.proofs.MemberFacts.{array_map, at_same, beside, get_changed, get_each, get_gone, get_kept, get_left, mapped, nowhere, still_object, through}
-use Rattle.luks_making.proofs.NameFacts.{all_dropped, count_each, named_each, named_left, named_map, names_dropped, once_dropped, others_dropped, texts_differ, unnamed_same}
+use Rattle.luks_making.proofs.MemberFacts.{array_map, at_same, beside, get_changed, get_each, get_gone, get_kept, get_left, mapped, nowhere, some_same, still_object, through}
+use Rattle.luks_making.proofs.NameFacts.{all_dropped, count_each, dropped_texts, named_each, named_left, named_map, names_dropped, once_dropped, others_dropped, texts_differ, unnamed_same}
 use Rattle.luks_making.proofs.NestingFacts.{NoDeeper, deep_changed, deep_each, deep_in_array, deep_in_object, deep_left}
 use Rattle.luks_making.proofs.RestFacts.{objects_edited}
 use Rattle.luks_making.proofs.RowFacts.{NamesRow, RowRead, at_top, digest_row, each_of, none_among, of_segments, of_slots, token_row}
@@ -45,7 +45,7 @@ pub member_same : (t : List ℕ) (d : Data) (k : List ℕ) → bytes_eq k (codes
 member_same t d k off = get_kept k (codes "keyslots") (in_array (drop_text t)) d off
 
 -- where it doesn't have the name it is equal
-pub without_none : (t : List ℕ) (d : Data) → names t (get (codes "keyslots") d) ≡ false → without_name t d ≡ d
+without_none : (t : List ℕ) (d : Data) → names t (get (codes "keyslots") d) ≡ false → without_name t d ≡ d
 without_none t d off = at_same (codes "keyslots") (in_array (drop_text t)) d (unnamed_same t (get (codes "keyslots") d) off)
 
 -- a row of another member, and that of the array
@@ -301,7 +301,7 @@ module _ (len : ℕ) (j : Data) (n : ℕ) (c : IsContent len j) where
   region_same = rw (config_same n j) refl
 
   -- the value without the keyslot meets every rule
-  pub content_left : IsContent len (without_slot n j)
+  content_left : IsContent len (without_slot n j)
   content_left = record {
     whole = whole_without n j c.whole;
     sections = sections_left;
@@ -355,6 +355,9 @@ name_lost : (s : Section) (n : ℕ) (j : Data) → ((m : ℕ) → object_at (wit
 name_lost s n j is = record {
   changed = is;
   equal = λ m d there off. is m ∙ (ap (option_map (without_name (number_text n))) there ∙ ap Some (without_none (number_text n) d off));
+  texts = λ m was d there now.
+      let made : without_name (number_text n) was ≡ d = some_same _ d (sym (is m ∙ ap (option_map (without_name (number_text n))) there) ∙ now) in
+      rw (← made) (ap texts_of (get_changed (codes "keyslots") (in_array (drop_text (number_text n))) was) ∙ dropped_texts (number_text n) (get (codes "keyslots") was));
 }
 
 members_kept : (n : ℕ) (d : Data) → KeepsOthers (codes "keyslots" ∷ []) d (without_name (number_text n) d)

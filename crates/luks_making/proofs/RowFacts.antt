@@ -104,7 +104,7 @@ token_row r target m speaks = elim m [
 ]
 
 -- a row of names that is read is an array
-pub the_array : (s : Section) (v : Option Data) → is_some (reads (rule.Names s) v) ≡ true → (items : Items) × (option_and_then as_array v ≡ Some items)
+the_array : (s : Section) (v : Option Data) → is_some (reads (rule.Names s) v) ≡ true → (items : Items) × (option_and_then as_array v ≡ Some items)
 the_array s None h = absurd (false≢true h)
 the_array s (Some null) h = absurd (false≢true h)
 the_array s (Some (boolean b)) h = absurd (false≢true h)

@@ -1,6 +1,6 @@
 -- What an edit of the metadata keeps as it was, and what it changes.
-use Rattle.std.specs.Prelude.{◌≡◌, ◌≢◌, ◌↔◌, ℕ, List, [], ◌∷◌, codes, false, None, Some, option_map}
-use Rattle.std.specs.List.{list_any}
+use Rattle.std.specs.Prelude.{◌≡◌, ◌≢◌, ◌↔◌, ℕ, List, [], ◌∷◌, ◌++◌, not, codes, false, None, Some, option_map}
+use Rattle.std.specs.List.{filter, list_any}
 use Rattle.std.specs.Str.{bytes_eq}
 use Rattle.serde_json.specs.Data.{Data}
 use Rattle.serde_json.specs.Find.{get}
@@ -12,7 +12,7 @@ use Rattle.luks_rules.specs.declared.table.Outer.TheVariants as outer
 use Rattle.luks_rules.specs.declared.table.Member.TheVariants as name
 use Rattle.luks_rules.specs.Accepted.{HasObject}
 use Rattle.luks_rules.specs.Faults.{member_at, object_at, section_at, type_at}
-use Rattle.luks_rules.specs.Reading.{bytes_in, decimal_in, number_in, text_of}
+use Rattle.luks_rules.specs.Reading.{bytes_in, decimal_in, number_in, text_of, texts_of}
 use Rattle.luks_rules.specs.Sizes.{inside_at}
 use Rattle.luks_making.specs.Changed.{renewed_slot}
 use Rattle.luks_making.specs.Keyslots.{NewMembers, SlotMembers, slot_value}
@@ -22,7 +22,8 @@ use Rattle.luks_making.specs.Without.{without_name}
 
 -- the members of the value are as they were, but for those of the names
 abbrev pub KeepsOthers : List (List ℕ) → Data → Data → Type 0
-KeepsOthers names old new = (k : List ℕ) → list_any (bytes_eq k) names ≡ false → get k new ≡ get k old
+KeepsOthers names old new =
+    (k : List ℕ) → list_any (bytes_eq k) names ≡ false → get k new ≡ get k old
 
 -- the section has the objects that it had, and their members are as they were, but for those of the
 -- names
@@ -53,6 +54,10 @@ pub record LosesName (s : Section) (n : ℕ) (old new : Data) : Type 0 where
       → object_at new s m ≡ option_map (without_name (number_text n)) (object_at old s m)
   pub equal : (m : ℕ) (d : Data) → object_at old s m ≡ Some d
       → names (number_text n) (get (codes "keyslots") d) ≡ false → object_at new s m ≡ Some d
+  pub texts : (m : ℕ) (was d : Data) → object_at old s m ≡ Some was → object_at new s m ≡ Some d
+      → texts_of (get (codes "keyslots") d)
+      ≡ option_map (filter (λ t. not (bytes_eq t (number_text n))))
+      (texts_of (get (codes "keyslots") was))
 
 -- the value `new` is `old` without the keyslot `n` and its name
 pub record LosesSlot (n : ℕ) (old new : Data) : Type 0 where
@@ -71,6 +76,9 @@ pub record GainsSlot (n m : ℕ) (s : SlotMembers) (old new : Data) : Type 0 whe
   pub once : naming_count (codes "keyslots") (number_text n) (section_at new Digests) ≡ 1
   pub digest : object_at new Digests m
       ≡ option_map (with_name (number_text n)) (object_at old Digests m)
+  pub texts : (was d : Data) → object_at old Digests m ≡ Some was → object_at new Digests m ≡ Some d
+      → texts_of (get (codes "keyslots") d)
+      ≡ option_map (λ ts. ts ++ number_text n ∷ []) (texts_of (get (codes "keyslots") was))
   pub digests : (k : ℕ) → k ≢ m → object_at new Digests k ≡ object_at old Digests k
   pub tokens : section_at new Tokens ≡ section_at old Tokens
   pub rest : KeepsRest n old new

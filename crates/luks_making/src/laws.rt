@@ -1,7 +1,8 @@
 //! Laws on the definitions of this crate. Each function does nothing; its contract is the law.
 
-ghost use Rattle.std.specs.Prelude.{ℕ};
+ghost use Rattle.std.specs.Prelude.{◌≡◌, ℕ};
 ghost use Rattle.serde_json.specs.Data.{Data};
+ghost use Rattle.luks_json.specs.Number.{number_text};
 ghost use Rattle.luks_rules.specs.Held.{IsHeld};
 ghost use Rattle.luks_making.specs.Changed.{changed_slot};
 ghost use Rattle.luks_making.specs.Conditions.{CanFormat, CanSeal, FitsNew, FitsSlot, FitsVolume, IsFree, IsRoom};
@@ -14,6 +15,11 @@ ghost use Rattle.luks_making.specs.With.{IsAdded, with_slot};
 ghost use Rattle.luks_making.specs.Without.{without_slot};
 
 use luks_json::{decimals_say_numbers, encodings_say_bytes, names_say_numbers};
+
+/// A name is that of one number alone.
+pub fn names_are_apart()
+    ensures { (m n : ℕ) → number_text m ≡ number_text n → m ≡ n }
+{}
 
 /// Metadata without a keyslot meets every rule that it met, and all else is as it was but for the
 /// keyslot's name, which its digest and the tokens lose.

@@ -13,8 +13,8 @@ mod without;
 pub use changed::changed_slot;
 pub use json_area::written_area;
 pub use laws::{
-    addition_keeps_the_rest, change_keeps_the_rest, made_keyslot_has_room, new_volume_is_accepted,
-    removal_keeps_the_rest,
+    addition_keeps_the_rest, change_keeps_the_rest, made_keyslot_has_room, names_are_apart,
+    new_volume_is_accepted, removal_keeps_the_rest,
 };
 pub use new_keyslot::{New, NewKeyslot, new_fits};
 pub use new_volume::{NewVolume, formatted, volume_fits};

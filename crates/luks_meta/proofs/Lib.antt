@@ -5,3 +5,4 @@ pub mod ObjectsRead
 pub mod Requiring
 pub mod Namings
 mod KeyslotsMade
+mod RecordFacts

@@ -17,7 +17,7 @@ mod tokens;
 pub use configuration::Config;
 pub use digests::Digest;
 pub use keyslots::{Argon2, Cost, Derivation, KeyArea, Keyslot, Pbkdf2, Splitter};
-pub use laws::one_digest;
+pub use laws::{edits_keep_records, one_digest};
 pub use luks_json::one_value;
 pub use luks_making::{New, NewVolume};
 pub use luks_rules::{MetaFault, metadata_without_faults};

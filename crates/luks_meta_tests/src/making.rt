@@ -1,14 +1,18 @@
 //! New metadata, beside what Python's json makes of the old by the same rule.
 
+ghost use Rattle.std.specs.Prelude.{◌≡◌, IsTrue};
+ghost use Rattle.luks_making.specs.Conditions.{CanSeal, IsFree};
+ghost use Rattle.luks_making.specs.Keyslots.{new_members};
+ghost use Rattle.luks_meta.specs.Content.{area_len, content};
+
 mod cryptsetup;
 mod many;
 mod new;
 mod odd;
 
-use crate::rows::read;
-use luks_making::{New, NewKeyslot, NewVolume, changed_slot, formatted, with_slot, without_slot};
-use luks_meta::{Cost, Keyslot};
-use serde_json::Value;
+use crate::rows::{AREA, edited, read};
+use luks_area::rounded_to_sectors;
+use luks_meta::{Cost, Meta, New, NewVolume};
 use std::alloc::{AllocError, Global};
 use std::process::Abort;
 use std::test::Fail;
@@ -29,75 +33,70 @@ const SALT: [u8; 32] = [
     0x00, 0x01, 0x02, 0x03, 0x04, 0x05, 0x06, 0x07, 0x08, 0x09, 0x0a, 0x0b, 0x0c, 0x0d, 0x0e, 0x0f,
 ];
 
-/// The members of the keyslot with what is new.
-fn like<'a>(keyslot: &Keyslot<'a>, salt: &'a [u8]) -> Option<NewKeyslot<'a>> {
-    match keyslot.kdf.cost {
-        Cost::Pbkdf2(cost) => Some(NewKeyslot {
-            key_size: keyslot.key_size,
-            stripes: keyslot.af.stripes,
-            splitter_hash: keyslot.af.hash,
-            offset: 36864,
-            size: 524288,
-            encryption: keyslot.area.encryption,
-            area_key_size: keyslot.area.key_size,
-            hash: cost.hash,
-            iterations: 2345,
-            salt,
-        }),
-        _ => None,
-    }
+/// Whether no keyslot has the number.
+fn is_free(meta: &Meta, number: u8) -> bool
+    ensures { IsTrue result → IsFree (content meta.now) number }
+{
+    number < 32 && meta.keyslot(number).is_none()
 }
 
-/// The metadata of this text with a keyslot `to` like the keyslot `by`.
-fn added(alloc: Global, text: &str, to: u8, by: u8) -> Result<Value, Fail> {
-    let meta = read(alloc, text)?;
-    let value = Value::from_str(alloc, text)?;
-    let keyslot = meta.keyslot(by).ok_or("no such keyslot")?;
-    let digest = meta.digest_of_keyslot(by).ok_or("no digest")?;
-    let new = like(&keyslot, &SALT).ok_or("no PBKDF2")?;
-    if to < 32 && digest < 32 {
-        Ok(with_slot(alloc, &value, to, digest, &new)?)
-    } else {
-        Err("no such number".into())
+/// Whether what is new suits the keyslot, in a JSON area of 12288 bytes.
+fn suits(meta: &Meta, number: u8, new: &New<'_>) -> bool
+    requires { area_len meta.now ≡ 12288 }
+    ensures { IsTrue result
+        → CanSeal (area_len meta.now) (content meta.now) number (new_members new.now) }
+{
+    let Some(keyslot) = meta.keyslot(number) else {
+        return false;
+    };
+    let Cost::Pbkdf2(_) = keyslot.kdf.cost else {
+        return false;
+    };
+    let used = rounded_to_sectors(u64::from(keyslot.key_size) * u64::from(keyslot.af.stripes));
+    let region = meta.config().keyslots_size;
+    let salt = new.salt.len();
+    if number >= 32 || new.iterations == 0 || salt == 0 || salt > 128 {
+        return false;
     }
+    if used > new.size || new.offset < 32768 || region < new.offset - 32768 {
+        return false;
+    }
+    new.size <= region - (new.offset - 32768)
 }
 
-fn renewed(alloc: Global, value: &Value, n: u8) -> Result<Value, AllocError> {
+/// What the maker makes; none where it can't be asked for that.
+pub fn made(alloc: Global, meta: &Meta, maker: Maker) -> Result<Option<Meta>, AllocError>
+    requires { area_len meta.now ≡ 12288 }
+{
     let new = New {
         iterations: 2345,
         salt: &SALT,
         offset: 36864,
         size: 524288,
     };
-    if n < 32 {
-        changed_slot(alloc, value, n, &new)
-    } else {
-        value.clone()
-    }
-}
-
-fn removed(alloc: Global, value: &Value, n: u8) -> Result<Value, AllocError> {
-    if n < 32 {
-        without_slot(alloc, value, n)
-    } else {
-        value.clone()
-    }
-}
-
-/// What the maker makes of the metadata of this text.
-fn made(alloc: Global, text: &str, maker: Maker) -> Result<Value, Fail> {
     match maker {
-        Maker::Add { to, by_ } => added(alloc, text, to, by_),
-        Maker::Change(n) => Ok(renewed(alloc, &Value::from_str(alloc, text)?, n)?),
-        Maker::Remove(n) => Ok(removed(alloc, &Value::from_str(alloc, text)?, n)?),
+        Maker::Add { to, by_ } if is_free(meta, to) && suits(meta, by_, &new) => {
+            Ok(Some(meta.with_slot(alloc, to, by_, &new)?))
+        }
+        Maker::Change(n) if suits(meta, n, &new) => Ok(Some(meta.changed_slot(alloc, n, &new)?)),
+        Maker::Remove(n) if n < 32 => Ok(Some(meta.without_slot(alloc, n)?)),
+        _ => Ok(None),
     }
 }
 
-/// Whether the maker makes this, and it is read again without a fault.
+/// Whether this is the text, and zeros follow it in the area that is written.
+fn is_text(alloc: Global, meta: &Meta, want: &str) -> Result<bool, Fail> {
+    let area = meta.area(alloc)?.ok_or("no room")?;
+    let (text, zeros) = area.split_at_checked(want.len()).ok_or("a short area")?;
+    let same = text == want.as_bytes() && zeros.iter().all(|byte| *byte == 0);
+    Ok(same && area.len() == AREA && meta.text(alloc)?.as_str() == want)
+}
+
+/// Whether the maker makes this, and it is read again.
 fn makes(alloc: Global, text: &str, maker: Maker, want: &str) -> Result<bool, Fail> {
-    let after = made(alloc, text, maker)?.to_string(alloc)?;
-    let again = read(alloc, after.as_str())?;
-    Ok(after.as_str() == want && again.text(alloc)?.as_str() == want)
+    let meta = read(alloc, text)?;
+    let after = made(alloc, &meta, maker)?.ok_or("nothing is made")?;
+    Ok(is_text(alloc, &after, want)? && is_text(alloc, &read(alloc, want)?, want)?)
 }
 
 fn compare(rt: &impl Abort, alloc: Global, text: &str, rows: &[(Maker, &str)]) -> Result<(), Fail> {
@@ -144,7 +143,7 @@ fn of_many_keyslots(rt: HostRuntime) -> Result<(), Fail> {
     compare(&rt, rt.alloc(), many::MANY, &many::OF_MANY)
 }
 
-/// Whether the metadata of a new volume is this, and it is read without a fault.
+/// Whether the metadata of a new volume is this.
 fn forms(
     alloc: Global,
     hash: &str,
@@ -161,8 +160,11 @@ fn forms(
         digest,
         slot_salt: &[0x22; 32],
     };
-    let text = formatted(alloc, &volume)?.to_string(alloc)?;
-    Ok(text.as_str() == want && read(alloc, text.as_str())?.text(alloc)?.as_str() == want)
+    let len = digest.len();
+    if iterations == 0 || len < 20 || len > 64 {
+        return Ok(false);
+    }
+    is_text(alloc, &Meta::formatted(alloc, &volume)?, want)
 }
 
 #[test]
@@ -180,5 +182,28 @@ fn of_a_new_volume(rt: HostRuntime) -> Result<(), Fail> {
         )?;
         assert!(rt; same, "{hash}");
     }
+    Ok(())
+}
+
+/// How many bytes a member fills so that the compact text of `PLAIN` has 12287, and what an edit
+/// that takes room leaves of it.
+fn has_no_area(alloc: Global, maker: Maker) -> Result<bool, Fail> {
+    let mut member = String::from_str(alloc, "\"config\":{\"a\":\"")?;
+    for _ in 0..11549 {
+        member.push('p')?;
+    }
+    member.push_str("\",")?;
+    let text = edited(alloc, crate::rows::PLAIN, "\"config\":{", member.as_str())?;
+    let meta = read(alloc, text.as_str())?;
+    let after = made(alloc, &meta, maker)?.ok_or("nothing is made")?;
+    Ok(text.len() == 12287 && is_text(alloc, &meta, text.as_str())? && after.area(alloc)?.is_none())
+}
+
+#[test]
+fn of_a_full_area(rt: HostRuntime) -> Result<(), Fail> {
+    assert!(rt;
+        has_no_area(rt.alloc(), Maker::Add { to: 1, by_: 0 })?,
+        "added"
+    );
     Ok(())
 }

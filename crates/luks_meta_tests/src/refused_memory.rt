@@ -1,8 +1,11 @@
 //! Refused memory.
-use crate::rows::{AREA, PLAIN, area_of};
-use luks_making::{New, NewKeyslot, NewVolume, changed_slot, formatted, with_slot, without_slot};
-use luks_meta::{Meta, MetaFault};
-use serde_json::Value;
+
+ghost use Rattle.std.specs.Prelude.{◌≡◌};
+ghost use Rattle.luks_meta.specs.Content.{area_len};
+
+use crate::making::{Maker, made};
+use crate::rows::{AREA, PLAIN, area_of, read};
+use luks_meta::{Meta, MetaFault, NewVolume};
 use std::alloc::{AllocError, Global};
 use std::process::Abort;
 use std::test::Fail;
@@ -37,9 +40,7 @@ enum End {
 #[derive(Debug, Clone, Copy)]
 enum Work {
     Read,
-    Add,
-    Change,
-    Remove,
+    Make(Maker),
     Form,
 }
 
@@ -49,33 +50,7 @@ fn text_of(alloc: Global, area: &[u8]) -> Result<String, MetaFault> {
     meta.text(alloc).map_err(|_| MetaFault::Memory)
 }
 
-fn added(alloc: Global, value: &Value) -> Result<Value, AllocError> {
-    let keyslot = NewKeyslot {
-        key_size: 64,
-        stripes: 4000,
-        splitter_hash: "sha1",
-        offset: 290816,
-        size: 258048,
-        encryption: "aes-xts-plain64",
-        area_key_size: 64,
-        hash: "sha256",
-        iterations: 1000,
-        salt: &[0x22; 32],
-    };
-    with_slot(alloc, value, 7, 0, &keyslot)
-}
-
-fn changed(alloc: Global, value: &Value) -> Result<Value, AllocError> {
-    let new = New {
-        iterations: 1001,
-        salt: &[0x22; 32],
-        offset: 290816,
-        size: 262144,
-    };
-    changed_slot(alloc, value, 0, &new)
-}
-
-fn formed(alloc: Global) -> Result<Value, AllocError> {
+fn formed(alloc: Global) -> Result<Meta, AllocError> {
     let volume = NewVolume {
         hash: "sha1",
         iterations: 1000,
@@ -84,32 +59,37 @@ fn formed(alloc: Global) -> Result<Value, AllocError> {
         digest: &[0x33; 20],
         slot_salt: &[0x22; 32],
     };
-    formatted(alloc, &volume)
+    Meta::formatted(alloc, &volume)
 }
 
-/// The text that the work gives of this value, or of this area.
-fn text_after(alloc: Global, work: Work, area: &[u8], value: &Value) -> Result<String, MetaFault> {
-    let made = match work {
-        Work::Read => return text_of(alloc, area),
-        Work::Add => added(alloc, value),
-        Work::Change => changed(alloc, value),
-        Work::Remove => without_slot(alloc, value, 0),
-        Work::Form => formed(alloc),
+/// The text that the work gives of this metadata, or of this area; none where it can't be asked for.
+fn text_after(
+    alloc: Global,
+    work: Work,
+    area: &[u8],
+    meta: &Meta,
+) -> Result<Option<String>, MetaFault>
+    requires { area_len meta.now ≡ 12288 }
+{
+    let after = match work {
+        Work::Read => return Ok(Some(text_of(alloc, area)?)),
+        Work::Form => formed(alloc).map(Some),
+        Work::Make(maker) => made(alloc, meta, maker),
     };
-    made.and_then(|after| after.to_string(alloc))
-        .map_err(|_| MetaFault::Memory)
+    match after {
+        Ok(Some(after)) => after.text(alloc).map(Some).map_err(|_| MetaFault::Memory),
+        Ok(None) => Ok(None),
+        Err(_) => Err(MetaFault::Memory),
+    }
 }
 
 /// How the work ends, beside the text that it gives where there is memory.
-fn end_of(alloc: Global, work: Work, area: &[u8], value: &Value, want: &str) -> End {
-    match text_after(alloc, work, area, value) {
-        Ok(text) => {
-            if text.as_str() == want {
-                End::Done
-            } else {
-                End::Other
-            }
-        }
+fn end_of(alloc: Global, work: Work, area: &[u8], meta: &Meta, want: &str) -> End
+    requires { area_len meta.now ≡ 12288 }
+{
+    match text_after(alloc, work, area, meta) {
+        Ok(Some(text)) if text.as_str() == want => End::Done,
+        Ok(_) => End::Other,
         Err(MetaFault::Memory) => End::Memory,
         Err(_) => End::Other,
     }
@@ -120,8 +100,8 @@ fn end_of(alloc: Global, work: Work, area: &[u8], value: &Value, want: &str) -> 
 // exhausted so.
 fn ends_with_little_memory(alloc: Global, work: Work) -> Result<(End, usize), Fail> {
     let area = area_of(alloc, PLAIN.as_bytes(), AREA)?;
-    let value = Value::from_str(alloc, PLAIN)?;
-    let want = text_after(alloc, work, area.as_slice(), &value)?;
+    let meta = read(alloc, PLAIN)?;
+    let want = text_after(alloc, work, area.as_slice(), &meta)?.ok_or("nothing is made")?;
     let mut held = Vec::with_capacity(alloc, 1 << 20)?;
     let mut blocks: Vec<Vec<u8>> = Vec::with_capacity(alloc, 1024)?;
     for _ in 0..1024 {
@@ -130,7 +110,7 @@ fn ends_with_little_memory(alloc: Global, work: Work) -> Result<(End, usize), Fa
     take_all(alloc, &mut held);
     let mut end = End::Memory;
     for _ in 0..1024 {
-        end = end_of(alloc, work, area.as_slice(), &value, want.as_str());
+        end = end_of(alloc, work, area.as_slice(), &meta, want.as_str());
         if end != End::Memory {
             break;
         }
@@ -155,8 +135,12 @@ fn tells_refused_memory(rt: HostRuntime) -> Result<(), Fail> {
 
 #[test]
 fn makers_tell_refused_memory(rt: HostRuntime) -> Result<(), Fail> {
-    for work in [Work::Add, Work::Change, Work::Remove, Work::Form] {
-        compare(&rt, rt.alloc(), work)?;
+    for maker in [
+        Maker::Add { to: 7, by_: 0 },
+        Maker::Change(0),
+        Maker::Remove(0),
+    ] {
+        compare(&rt, rt.alloc(), Work::Make(maker))?;
     }
-    Ok(())
+    compare(&rt, rt.alloc(), Work::Form)
 }

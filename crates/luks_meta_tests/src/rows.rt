@@ -1,4 +1,7 @@
 //! Rows of the metadata: edits of two texts, each with the fault that is owed.
+ghost use Rattle.std.specs.Prelude.{◌≡◌, length, IfOk};
+ghost use Rattle.luks_meta.specs.Content.{area_len};
+
 use luks_meta::{Meta, MetaFault};
 use std::alloc::{AllocError, Global};
 use std::process::Abort;
@@ -27,14 +30,18 @@ pub fn edited(alloc: Global, text: &str, old: &str, new: &str) -> Result<String,
 }
 
 /// A JSON area of `len` bytes that begins with the bytes, or as many as there are.
-pub fn area_of(alloc: Global, bytes: &[u8], len: usize) -> Result<Vec<u8>, AllocError> {
+pub fn area_of(alloc: Global, bytes: &[u8], len: usize) -> Result<Vec<u8>, AllocError>
+    ensures { IfOk result (λ area. length area.items ≡ len) }
+{
     let mut area = Vec::from_slice(alloc, bytes)?;
     area.resize(len, 0)?;
     Ok(area)
 }
 
 /// The metadata of this text.
-pub fn read(alloc: Global, text: &str) -> Result<Meta, Fail> {
+pub fn read(alloc: Global, text: &str) -> Result<Meta, Fail>
+    ensures { IfOk result (λ meta. area_len meta ≡ 12288) }
+{
     let area = area_of(alloc, text.as_bytes(), AREA)?;
     Ok(Meta::read(alloc, area.as_slice())?)
 }

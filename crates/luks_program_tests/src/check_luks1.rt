@@ -103,14 +103,10 @@ fn ends(alloc: Global, image: Vec<u8>, room: usize, status: u8) -> Result<bool, 
         return Ok(false);
     };
     let mut out = Cursor::new(buffer);
+    let mut err = Vec::new(alloc);
     let passphrase: Result<&[u8], InputFault> = Err(InputFault::Absent);
-    let found = run(
-        alloc,
-        CHECK,
-        Ok(MemDevice::new(image)),
-        passphrase,
-        &mut out,
-    )?;
+    let volume = Ok(MemDevice::new(image));
+    let found = run(alloc, CHECK, volume, passphrase, &mut out, &mut err)?;
     Ok(found == status)
 }
 

@@ -77,7 +77,7 @@ fn answers(alloc: Global, words: &[&str], part: &str, is_help: bool) -> Result<b
     Ok(text.as_str().contains(part) && fault.use_stderr() != is_help && fault.exit_code() == status)
 }
 
-const FAULTS: [(&[&str], &str); 11] = [
+const FAULTS: [(&[&str], &str); 12] = [
     (&["luks"], "subcommand"),
     (&["luks", "check"], "<VOLUME>"),
     (&["luks", "check", "a", "b"], "'b'"),
@@ -88,6 +88,7 @@ const FAULTS: [(&[&str], &str); 11] = [
     ),
     (&["luks", "unknown", "a"], "'unknown'"),
     (&["luks", "show", "a", "--detached"], "'--detached'"),
+    (&["luks", "check", "a", "--version"], "'--version'"),
     (&["luks", "open", "a"], "--passphrase <FILE>"),
     (
         &["luks", "open", "a", "--passphrase", "p", "--slot", "32"],
@@ -112,13 +113,15 @@ fn faults_of_usage(rt: HostRuntime) -> Result<(), Fail> {
     Ok(())
 }
 
-const HELPS: [(&[&str], &str); 6] = [
+const HELPS: [(&[&str], &str); 8] = [
     (&["luks", "--help"], "  3  check: accepted, but "),
     (&["luks", "-h"], "luks COMMAND --help"),
     (&["luks", "check", "--help"], "  accepted luks1 areas N "),
     (&["luks", "show", "--help"], "  0  shown, "),
     (&["luks", "open", "-h"], "  no slot opens "),
     (&["luks", "help", "check"], "  4  device fault, no memory, "),
+    (&["luks", "--version"], "luks 0.1.0"),
+    (&["luks", "-V"], "luks 0.1.0"),
 ];
 
 #[test]

@@ -13,7 +13,7 @@ use std::test::Fail;
 enum End {
     /// It was done, and no call failed.
     Done,
-    /// A call failed, and it was told as the device's fault.
+    /// A call failed, and it was told as the device's fault, with the volume's name.
     Told,
     /// Anything else.
     Other,
@@ -35,12 +35,14 @@ fn end_of(alloc: Global, words: &[&str], image: &[u8], call: u64, want: &str) ->
         passphrase: Ok(b"one".as_slice()),
     };
     let mut out = Vec::new(alloc);
-    let status = execute(alloc, &line, &mut inputs, &mut out);
+    let mut err = Vec::new(alloc);
+    let status = execute(alloc, &line, &mut inputs, &mut out, &mut err);
     let failures = failures_of(&inputs.volume);
     let printed = out.as_slice();
+    let told = err.as_slice() == b"luks: volume: reading failed\n".as_slice();
     if failures == 0 && status == 0 && printed.starts_with(want.as_bytes()) {
         Ok(End::Done)
-    } else if failures == 1 && status == 4 && printed == b"device fault\n".as_slice() {
+    } else if failures == 1 && status == 4 && printed == b"device fault\n".as_slice() && told {
         Ok(End::Told)
     } else {
         Ok(End::Other)

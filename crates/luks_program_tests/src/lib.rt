@@ -9,6 +9,8 @@ mod check_luks2;
 #[cfg(test)]
 mod command_lines;
 #[cfg(test)]
+mod explaining;
+#[cfg(test)]
 mod failing;
 #[cfg(test)]
 mod images;

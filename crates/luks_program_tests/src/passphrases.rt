@@ -1,7 +1,7 @@
 //! The passphrase's file, and volumes that can't be read.
 use crate::images::{changed_luks1, opening_luks1};
 use crate::printing::{CHECK, DETACHED, OPEN, OPEN_0, Row, SHOW, compare, prints};
-use luks_cli::InputFault;
+use luks_cli::{InputFault, Reason};
 use luks_volume::MemDevice;
 use std::alloc::Global;
 use std::io;
@@ -23,14 +23,30 @@ fn prints_without(
 
 /// The words, why the volume isn't there, and what is printed.
 const NO_VOLUMES: [(&[&str], InputFault, &str); 10] = [
-    (CHECK, InputFault::Unreadable, "device fault\n"),
+    (
+        CHECK,
+        InputFault::Unreadable(Reason::Other),
+        "device fault\n",
+    ),
     (CHECK, InputFault::Absent, "device fault\n"),
     (CHECK, InputFault::NoMemory, "no memory\n"),
-    (DETACHED, InputFault::Unreadable, "device fault\n"),
-    (SHOW, InputFault::Unreadable, "device fault\n"),
+    (
+        DETACHED,
+        InputFault::Unreadable(Reason::Other),
+        "device fault\n",
+    ),
+    (
+        SHOW,
+        InputFault::Unreadable(Reason::Other),
+        "device fault\n",
+    ),
     (SHOW, InputFault::Absent, "device fault\n"),
     (SHOW, InputFault::NoMemory, "no memory\n"),
-    (OPEN, InputFault::Unreadable, "device fault\n"),
+    (
+        OPEN,
+        InputFault::Unreadable(Reason::Other),
+        "device fault\n",
+    ),
     (OPEN_0, InputFault::Absent, "device fault\n"),
     (OPEN, InputFault::NoMemory, "no memory\n"),
 ];
@@ -51,11 +67,15 @@ fn volumes_that_are_not_there(rt: HostRuntime) -> Result<(), Fail> {
 const NO_PASSPHRASES: [(InputFault, InputFault, &str); 4] = [
     (InputFault::Absent, InputFault::NoMemory, "device fault\n"),
     (
-        InputFault::Unreadable,
+        InputFault::Unreadable(Reason::Other),
         InputFault::NoMemory,
         "device fault\n",
     ),
-    (InputFault::NoMemory, InputFault::Unreadable, "no memory\n"),
+    (
+        InputFault::NoMemory,
+        InputFault::Unreadable(Reason::Other),
+        "no memory\n",
+    ),
     (InputFault::NoMemory, InputFault::NoMemory, "no memory\n"),
 ];
 
@@ -77,7 +97,7 @@ fn passphrases_that_are_not_there(rt: HostRuntime) -> Result<(), Fail> {
 fn long_passphrases(rt: HostRuntime) -> Result<(), Fail> {
     let bytes = vec![in rt.alloc(); 0u8; 65537]?;
     let (long, most) = (bytes.as_slice(), &bytes[1..]);
-    let fault = InputFault::Unreadable;
+    let fault = InputFault::Unreadable(Reason::Other);
     let refused = "refused Passphrase\n";
     assert!(rt;
         prints_without(rt.alloc(), OPEN, fault, Ok(long), refused, 1)?,
@@ -88,7 +108,7 @@ fn long_passphrases(rt: HostRuntime) -> Result<(), Fail> {
         prints_without(rt.alloc(), OPEN_0, fault, Ok(long), refused, 1)?,
         "no memory"
     );
-    let fault = InputFault::Unreadable;
+    let fault = InputFault::Unreadable(Reason::Other);
     assert!(rt;
         prints_without(rt.alloc(), OPEN, fault, Ok(most), "device fault\n", 4)?,
         "65536"

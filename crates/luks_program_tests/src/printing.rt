@@ -70,19 +70,20 @@ pub struct Row<'a> {
     pub status: u8,
 }
 
-/// Runs the words over these files, prints to `out` and answers the status.
-pub fn run<D: Device, R: Read + Drop, W: Write>(
+/// Runs the words over these files, prints to `out` and `err` and answers the status.
+pub fn run<D: Device, R: Read + Drop, W: Write, E: Write>(
     alloc: Global,
     words: &[&str],
     volume: Result<D, InputFault>,
     passphrase: Result<R, InputFault>,
     out: &mut W,
+    err: &mut E,
 ) -> Result<u8, Fail>
     requires { ForOk volume (λ d. D.failed d + 1 < 2 ^ 64) }
 {
     let line = line(alloc, words)?;
     let mut inputs = Inputs { volume, passphrase };
-    Ok(execute(alloc, &line, &mut inputs, out))
+    Ok(execute(alloc, &line, &mut inputs, out, err))
 }
 
 /// Whether the words print what is owed over these files, and answer the status.
@@ -97,7 +98,8 @@ pub fn prints<D: Device, R: Read + Drop>(
     requires { ForOk volume (λ d. D.failed d + 1 < 2 ^ 64) }
 {
     let mut out = Vec::new(alloc);
-    let found = run(alloc, words, volume, passphrase, &mut out)?;
+    let mut err = Vec::new(alloc);
+    let found = run(alloc, words, volume, passphrase, &mut out, &mut err)?;
     Ok(found == status && out.as_slice() == want.as_bytes())
 }
 

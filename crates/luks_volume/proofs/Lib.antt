@@ -1,0 +1,3 @@
+pub mod EditFacts
+pub mod RanFacts
+pub mod RunFacts

@@ -1,3 +1,5 @@
+pub mod Edits
+pub mod Running
 pub use Rattle.luks_reading.specs.Conversions
 pub use Rattle.luks_reading.specs.Failures
 pub use Rattle.luks_reading.specs.Header

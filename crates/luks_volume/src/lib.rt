@@ -1,6 +1,10 @@
 //! A LUKS volume of either version: the calls that a program makes, each of which stands in a crate beneath this one.
 #![tactic(auto)]
 
+mod laws;
+
+pub use laws::{edits_keep_volume, list_runs_by_steps};
+pub use luks_edit::{Done, Edit, EditFault, RunFault, Step};
 pub use luks_reading::{
     Area, AreaFault, AreaName, Areas, Bin2, CheckFault, ChosenCopy, Config, Copies, Cost, Data,
     Device, DeviceFault, Digest, Entry, Extent, HeadFault, Header, Key, Keyslot, Luks1, Luks1Slot,

@@ -13,12 +13,14 @@ use std::alloc::Global;
 use std::io;
 use std::io::Write;
 
-/// Prints whether the volume is accepted, its payload lying at `data_`.
-pub(crate) fn run<D: Device, W: Write>(
+/// Prints whether the volume of this name is accepted, its payload lying at `data_`.
+pub(crate) fn run<D: Device, W: Write, E: Write>(
     alloc: Global,
     volume: &mut Result<D, InputFault>,
+    name: &str,
     data_: Data,
     out: &mut W,
+    err: &mut E,
 ) -> io::Result<Status>
     requires { ForOk volume.old (λ d. D.failed d + 1 < 2 ^ 64) }
     ensures unchanged { KeepsVolume D.tells D.size D.bytes volume.old volume.new }
@@ -26,16 +28,18 @@ pub(crate) fn run<D: Device, W: Write>(
     ensures unread { IfOk result (λ s. IfErr volume.old (λ _. s ≡ Status.Fault)) }
 {
     match volume {
-        Ok(device) => check_device(alloc, device, data_, out),
-        Err(fault) => unread(*fault, out),
+        Ok(device) => check_device(alloc, device, name, data_, out, err),
+        Err(fault) => unread(*fault, name, out, err),
     }
 }
 
-fn check_device<D: Device, W: Write>(
+fn check_device<D: Device, W: Write, E: Write>(
     alloc: Global,
     device: &mut D,
+    name: &str,
     data_: Data,
     out: &mut W,
+    err: &mut E,
 ) -> io::Result<Status>
     requires { D.failed device.old + 1 < 2 ^ 64 }
     ensures unchanged { IsUnchanged D.tells D.size D.bytes device.old device.new }
@@ -46,7 +50,7 @@ fn check_device<D: Device, W: Write>(
         Err(CheckFault::Head(fault)) => refused(&fault, out),
         Err(CheckFault::Meta(fault)) => refused(&fault, out),
         Err(CheckFault::Area(fault)) => refused(&fault, out),
-        Err(CheckFault::Device) => device_fault(out),
+        Err(CheckFault::Device) => device_fault(name, out, err),
         Err(CheckFault::Memory) => no_memory(out),
     }
 }

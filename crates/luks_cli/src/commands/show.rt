@@ -19,11 +19,13 @@ use std::alloc::Global;
 use std::io;
 use std::io::Write;
 
-/// Prints what the volume's header says.
-pub(crate) fn run<D: Device, W: Write>(
+/// Prints what the header of the volume of this name says.
+pub(crate) fn run<D: Device, W: Write, E: Write>(
     alloc: Global,
     volume: &mut Result<D, InputFault>,
+    name: &str,
     out: &mut W,
+    err: &mut E,
 ) -> io::Result<Status>
     requires { ForOk volume.old (λ d. D.failed d + 1 < 2 ^ 64) }
     ensures unchanged { KeepsVolume D.tells D.size D.bytes volume.old volume.new }
@@ -31,15 +33,17 @@ pub(crate) fn run<D: Device, W: Write>(
     ensures unread { IfOk result (λ s. IfErr volume.old (λ _. s ≢ Status.Done)) }
 {
     match volume {
-        Ok(device) => show_device(alloc, device, out),
-        Err(fault) => unread(*fault, out),
+        Ok(device) => show_device(alloc, device, name, out, err),
+        Err(fault) => unread(*fault, name, out, err),
     }
 }
 
-fn show_device<D: Device, W: Write>(
+fn show_device<D: Device, W: Write, E: Write>(
     alloc: Global,
     device: &mut D,
+    name: &str,
     out: &mut W,
+    err: &mut E,
 ) -> io::Result<Status>
     requires { D.failed device.old + 1 < 2 ^ 64 }
     ensures unchanged { IsUnchanged D.tells D.size D.bytes device.old device.new }
@@ -51,7 +55,7 @@ fn show_device<D: Device, W: Write>(
             Err(fault) => refused(&fault, out),
         },
         Ok(Header::Luks2(copy)) => show_luks2(&copy, out),
-        Err(ReadFault::Device) => device_fault(out),
+        Err(ReadFault::Device) => device_fault(name, out, err),
         Err(ReadFault::Memory) => no_memory(out),
         Err(fault) => refused(&fault, out),
     }

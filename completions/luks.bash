@@ -1,0 +1,25 @@
+# bash completion for luks(1)
+
+_luks() {
+    # each command with its options
+    local -A options=(
+        [check]="--detached --help"
+        [show]="--help"
+        [open]="--passphrase --slot --help"
+        [help]="--help"
+    )
+    local word=${COMP_WORDS[COMP_CWORD]} before=${COMP_WORDS[COMP_CWORD - 1]} words=
+    if ((COMP_CWORD == 1)); then
+        words="${!options[*]} --help --version"
+    elif [[ ${COMP_WORDS[1]} == help ]]; then
+        words="${!options[*]}"
+    elif [[ $before == --slot ]]; then
+        words=$(echo {0..31})
+    elif [[ $word == -* ]]; then
+        words=${options[${COMP_WORDS[1]}]}
+    fi
+    # where nothing is offered, -o default names files
+    mapfile -t COMPREPLY < <(compgen -W "$words" -- "$word")
+}
+
+complete -o default -F _luks luks

@@ -1,0 +1,19 @@
+# fish completion for luks(1)
+
+complete -c luks -f
+complete -c luks -s h -l help -d 'Print help'
+complete -c luks -n __fish_use_subcommand -s V -l version -d 'Print version'
+
+complete -c luks -n __fish_use_subcommand -a check -d "Judge a volume's header and where its areas lie"
+complete -c luks -n '__fish_seen_subcommand_from check' -F
+complete -c luks -n '__fish_seen_subcommand_from check' -l detached -d 'The payload lies on another device'
+
+complete -c luks -n __fish_use_subcommand -a show -d "List what a volume's header says"
+complete -c luks -n '__fish_seen_subcommand_from show' -F
+
+complete -c luks -n __fish_use_subcommand -a open -d 'Tell whether a passphrase opens a keyslot'
+complete -c luks -n '__fish_seen_subcommand_from open' -F
+complete -c luks -n '__fish_seen_subcommand_from open' -l passphrase -r -F -d 'The file of the passphrase'
+complete -c luks -n '__fish_seen_subcommand_from open' -l slot -x -a '(seq 0 31)' -d 'The keyslot to try'
+
+complete -c luks -n __fish_use_subcommand -a help -d 'Print help'

@@ -1,0 +1,268 @@
+-- What the metadata of a new LUKS2 volume places: the areas, and the plan of keyslot 0.
+use Rattle.std.proofs.lemmas.Bool.{cases_eq, false≢true}
+use Rattle.serde_json.specs.Find.{get}
+use Rattle.luks_json.specs.Values.{bytes_in, number_in, text_of}
+use Rattle.luks_meta.specs.Says.{small_at}
+use Rattle.luks_rules.specs.Faults.{member_at, suits}
+use Rattle.luks_rules.specs.declared.table.Member.TheVariants as name
+use Rattle.luks_rules.specs.declared.table.When.TheVariants as when
+use Rattle.luks_making.specs.Keyslots.{base64_text}
+use Rattle.luks_slot.specs.declared.plan.DigestPlan.{DigestPlan}
+use Rattle.luks_formatting.specs.NewPlan.{IsNewDigest}
+use Rattle.std.proofs.Common.{◌≡◌, ◌≢◌, ℕ, ◌+◌, ◌-◌, ◌<◌, ◌≤◌, List, length, codes, Some, None, true, false, option_and_then, arith, refl, sym, ap, ◌∙◌, subst, lit<, inl, inr}
+use Rattle.serde_json.specs.Data.{Data as Value, number, string, unsigned}
+use Rattle.luks_area.specs.Area.{Fit, IsInside, LiesIn}
+use Rattle.luks_area.specs.declared.area.Area.{Area}
+use Rattle.luks_area.specs.declared.area.AreaName.{AreaName}
+use Rattle.luks_area.specs.declared.area.AreaName.TheVariants.{Head1, Head2, Slot as SlotName, Segment}
+use Rattle.luks_kdf.specs.Names.{digest_size_of, name_of}
+use Rattle.luks_json.specs.AreaText.{Json}
+use Rattle.luks_rules.specs.Faults.{object_at}
+use Rattle.luks_rules.specs.Reading.{decimal_in}
+use Rattle.luks_rules.specs.Sizes.{inside_at}
+use Rattle.luks_rules.specs.declared.table.Outer.TheVariants as outer
+use Rattle.luks_rules.specs.declared.table.Section.TheVariants.{Keyslots, Segments}
+use Rattle.luks_making.specs.Conditions.{CanFormat, FitsSlot}
+use Rattle.luks_making.specs.Formatted.{VolumeMembers, digest_value, first_slot, formatted, segment_value}
+use Rattle.luks_making.specs.Keyslots.{SlotMembers, slot_value}
+use Rattle.luks_making.specs.Unchanged.{SaysMembers}
+use Rattle.luks_slot.specs.Refusal.{is_open_cipher}
+use Rattle.luks_slot.specs.declared.plan.AreaCipher.{AreaCipher}
+use Rattle.luks_slot.specs.declared.plan.AreaCipher.TheVariants.{Apart, Whole}
+use Rattle.luks_slot.specs.declared.plan.Derivation.{Derivation}
+use Rattle.luks_slot.specs.declared.plan.Derivation.TheVariants.{Pbkdf2, Argon2}
+use Rattle.luks_slot.specs.declared.plan.SlotPlan.{SlotPlan}
+use Rattle.luks_reading.specs.Checked.{SegmentsFollow}
+use Rattle.luks_reading.specs.Layout2.{HasExtent, Luks2Area, segment_extent, segment_offset, slot_number}
+use Rattle.luks_reading.specs.Plans.{HasLuks2Plan, IsLuks2Cipher, IsLuks2Derivation, IsLuks2Digest, IsLuks2Plan}
+use Rattle.luks_reading.specs.declared.report.Data.{Data}
+use Rattle.luks_reading.specs.declared.report.Data.TheVariants.{Here}
+use Rattle.luks_formatting.specs.declared.format.Format.{Format}
+use Rattle.luks_formatting.specs.NewHeader2.{area2, new_members, segment_start, FitsMetadata, IsNewCipher2}
+use Rattle.luks_formatting.specs.NewPlan.{key_digest, IsNewDerivation, IsNewPlan}
+use Rattle.luks_formatting.specs.RandomBytes.{digest_salt, slot_place2, slot_salt}
+use Rattle.luks_formatting.proofs.Formatted1Facts.{area_is}
+use Rattle.luks_formatting.proofs.MetadataFacts.{bytes_say, can_format, decimal_says, digest_at, keyslots_say, length-digest_salt, no_some, none_other, number_says, segment_at, slot_at, slot_fits, some_same, DecimalsTell, EncodingsTell, NamesTell}
+
+-- ---- the areas
+
+abbrev Bounds : ℕ → AreaName → Area → Type 0
+Bounds total Head1 a = (a.start ≡ 0) × (a.len ≡ 16384)
+Bounds total Head2 a = (a.start ≡ 16384) × (a.len ≡ 16384)
+Bounds total (SlotName n) a = (n ≡ 0) × (a.start ≡ 32768) × (a.len ≡ 258048)
+Bounds total (Segment n) a = (n ≡ 0) × (a.start ≡ 16777216) × (a.len ≡ total - a.start)
+
+bounds_inside : (total : ℕ) → 16777216 ≤ total → (n : AreaName) (a : Area) → Bounds total n a → IsInside a total
+bounds_inside total large Head1 a at = let start = at.0 in let len = at.1 in omega (arith, start, len, large)
+bounds_inside total large Head2 a at = let start = at.0 in let len = at.1 in omega (arith, start, len, large)
+bounds_inside total large (SlotName n) a at = let start = at.1 in let len = at.2 in omega (arith, start, len, large)
+bounds_inside total large (Segment n) a at = let start = at.1 in let len = at.2 in omega (arith, start, len, large)
+
+-- an area that ends where another begins, or before
+apart : (a b : Area) (p : ℕ) → a.start + a.len ≤ b.start → LiesIn p a → LiesIn p b → ⊥
+apart a b p before here there = let high = here.1 in let low = there.0 in absurd (omega (arith, before, high, low))
+
+bounds_apart : (total : ℕ) (m n : AreaName) (a b : Area) → Bounds total m a → Bounds total n b → m ≢ n → (p : ℕ) → LiesIn p a → LiesIn p b → ⊥
+bounds_apart total Head1 Head1 a b x y other p here there = other refl
+bounds_apart total Head2 Head2 a b x y other p here there = other refl
+bounds_apart total (SlotName m) (SlotName n) a b x y other p here there = other (ap SlotName (x.0 ∙ sym y.0))
+bounds_apart total (Segment m) (Segment n) a b x y other p here there = other (ap Segment (x.0 ∙ sym y.0))
+bounds_apart total Head1 Head2 a b x y other p here there = let s = x.0 in let l = x.1 in let t = y.0 in apart a b p (omega (arith, s, l, t)) here there
+bounds_apart total Head1 (SlotName n) a b x y other p here there = let s = x.0 in let l = x.1 in let t = y.1 in apart a b p (omega (arith, s, l, t)) here there
+bounds_apart total Head1 (Segment n) a b x y other p here there = let s = x.0 in let l = x.1 in let t = y.1 in apart a b p (omega (arith, s, l, t)) here there
+bounds_apart total Head2 Head1 a b x y other p here there = let s = y.0 in let l = y.1 in let t = x.0 in apart b a p (omega (arith, s, l, t)) there here
+bounds_apart total Head2 (SlotName n) a b x y other p here there = let s = x.0 in let l = x.1 in let t = y.1 in apart a b p (omega (arith, s, l, t)) here there
+bounds_apart total Head2 (Segment n) a b x y other p here there = let s = x.0 in let l = x.1 in let t = y.1 in apart a b p (omega (arith, s, l, t)) here there
+bounds_apart total (SlotName m) Head1 a b x y other p here there = let s = y.0 in let l = y.1 in let t = x.1 in apart b a p (omega (arith, s, l, t)) there here
+bounds_apart total (SlotName m) Head2 a b x y other p here there = let s = y.0 in let l = y.1 in let t = x.1 in apart b a p (omega (arith, s, l, t)) there here
+bounds_apart total (SlotName m) (Segment n) a b x y other p here there = let s = x.1 in let l = x.2 in let t = y.1 in apart a b p (omega (arith, s, l, t)) here there
+bounds_apart total (Segment m) Head1 a b x y other p here there = let s = y.0 in let l = y.1 in let t = x.1 in apart b a p (omega (arith, s, l, t)) there here
+bounds_apart total (Segment m) Head2 a b x y other p here there = let s = y.0 in let l = y.1 in let t = x.1 in apart b a p (omega (arith, s, l, t)) there here
+bounds_apart total (Segment m) (SlotName n) a b x y other p here there = let s = y.1 in let l = y.2 in let t = x.1 in apart b a p (omega (arith, s, l, t)) there here
+
+-- ---- the plan of keyslot 0
+
+pub cipher_opens : (cipher : AreaCipher) → IsNewCipher2 cipher → is_open_cipher cipher ≡ true
+cipher_opens (Apart name mode) is = absurd is
+cipher_opens (Whole text) is = rw is refl
+
+-- what the laws say of texts, keyslots and metadata
+pub record Laws : Type 0 where
+  pub decimals : DecimalsTell
+  pub encodings : EncodingsTell
+  pub names : NamesTell
+  pub says : (s : SlotMembers) → FitsSlot s → SaysMembers s (slot_value s)
+
+module _ (payload : Data) (format : Format) (random : List ℕ) (some : 1 ≤ format.iterations) (long : 272 ≤ length random) (fits : FitsMetadata payload format random) (laws : Laws) where
+  can : CanFormat (new_members payload format random)
+  can = can_format payload format random some long fits.digest_length
+
+  slot_says : SaysMembers (first_slot (new_members payload format random)) (slot_value (first_slot (new_members payload format random)))
+  slot_says = laws.says (first_slot (new_members payload format random)) (slot_fits (new_members payload format random) fits.fits can)
+
+  -- ---- the areas of the metadata
+  slot_bounds : (total n : ℕ) (a : Area) → n < 32 → slot_number (formatted (new_members payload format random)) n (codes "offset") ≡ Some a.start
+      → slot_number (formatted (new_members payload format random)) n (codes "size") ≡ Some a.len → Bounds total (SlotName n) a
+  slot_bounds total n a small start len =
+      let j : Value = formatted (new_members payload format random) in
+      elim (cases_eq n 0) [
+        | inl zero ↦ (
+            let first : slot_number j 0 (codes "offset") ≡ Some a.start = subst (λ (m : ℕ). slot_number j m (codes "offset") ≡ Some a.start) zero start in
+            let second : slot_number j 0 (codes "size") ≡ Some a.len = subst (λ (m : ℕ). slot_number j m (codes "size") ≡ Some a.len) zero len in
+            (zero, some_same a.start 32768 (sym first ∙ decimal_says laws.decimals 32768 (lit< tt)), some_same a.len 258048 (sym second ∙ decimal_says laws.decimals 258048 (lit< tt))))
+        | inr other ↦ (
+            let none : object_at j Keyslots n ≡ None = none_other laws.names (slot_value (first_slot (new_members payload format random))) n small other in
+            absurd (no_some a.start (sym (ap (λ o. decimal_in (option_and_then (get (codes "offset")) (option_and_then (get (codes "area")) o))) none) ∙ start)))
+      ]
+
+  segment_bounds : (total n : ℕ) (a : Area) → n < 32 → payload ≡ Here → segment_offset (formatted (new_members payload format random)) n ≡ Some a.start
+      → HasExtent total a.start a.len (segment_extent (formatted (new_members payload format random)) n) → Bounds total (Segment n) a
+  segment_bounds total n a small here start extent =
+      let j : Value = formatted (new_members payload format random) in
+      elim (cases_eq n 0) [
+        | inl zero ↦ (
+            let first : segment_offset j 0 ≡ Some a.start = subst (λ (m : ℕ). segment_offset j m ≡ Some a.start) zero start in
+            let last : HasExtent total a.start a.len (segment_extent j 0) = subst (λ (m : ℕ). HasExtent total a.start a.len (segment_extent j m)) zero extent in
+            (zero, some_same a.start (segment_start payload) (sym first ∙ decimal_says laws.decimals (segment_start payload) fits.fits.segment_offset) ∙ ap segment_start here, last))
+        | inr other ↦ (
+            let none : object_at j Segments n ≡ None = none_other laws.names (segment_value (new_members payload format random)) n small other in
+            absurd (no_some a.start (sym (ap (λ o. decimal_in (option_and_then (get (codes "offset")) o)) none) ∙ start)))
+      ]
+
+  bounds : (total h : ℕ) → h ≡ 16384 → (n : AreaName) (a : Area) → Luks2Area (formatted (new_members payload format random)) h payload total n a → Bounds total n a
+  bounds total h size Head1 a at = (at.0, at.1 ∙ size)
+  bounds total h size Head2 a at = (at.0 ∙ size, at.1 ∙ size)
+  bounds total h size (SlotName n) a at = slot_bounds total n a at.0 at.1 at.2
+  bounds total h size (Segment n) a at = segment_bounds total n a at.0 at.1 at.2 at.3
+
+  pub fit : (total h : ℕ) → h ≡ 16384 → 16777216 ≤ total → Fit (Luks2Area (formatted (new_members payload format random)) h payload total) total
+  fit total h size large = record {
+    inside = λ n a at. bounds_inside total large n a (bounds total h size n a at);
+    disjoint = λ m n a b x y other. bounds_apart total m n a b (bounds total h size m a x) (bounds total h size n b y) other;
+  }
+
+  pub segments : payload ≡ Here → SegmentsFollow 12288 (formatted (new_members payload format random))
+  segments here = record {
+    each = λ n d bytes start held region offset.
+        let v : VolumeMembers = new_members payload format random in
+        let is : segment_value v ≡ d = (segment_at v laws.names n d held.named held.is).1 in
+        let at : decimal_in (inside_at outer.Top (codes "offset") (segment_value v)) ≡ Some start = subst (λ (o : Value). decimal_in (inside_at outer.Top (codes "offset") o) ≡ Some start) (sym is) offset in
+        let from : start ≡ 16777216 = some_same start (segment_start payload) (sym at ∙ decimal_says laws.decimals (segment_start payload) fits.fits.segment_offset) ∙ ap segment_start here in
+        let size : bytes ≡ 16744448 = some_same bytes 16744448 (sym region ∙ keyslots_say laws.decimals v) in
+        omega (arith, from, size);
+  }
+
+  -- ---- the plans of keyslot 0
+  derivation_is : (d : Derivation) → IsLuks2Derivation (slot_value (first_slot (new_members payload format random))) d → IsNewDerivation format (slot_salt slot_place2 random) d
+  derivation_is (Pbkdf2 hash iterations salt) is = (
+    some_same hash.now (name_of format.hash) (sym is.1 ∙ slot_says.hash),
+    some_same iterations format.iterations (sym is.2 ∙ slot_says.iterations),
+    some_same salt.now (slot_salt slot_place2 random) (sym is.3 ∙ slot_says.salt),
+  )
+  derivation_is Argon2 is = (let off : false ≡ true = sym (ap (suits when.Argon2) slot_says.derivation) ∙ is in absurd (false≢true off))
+
+  derivation_by : (d : Derivation) → IsNewDerivation format (slot_salt slot_place2 random) d → IsLuks2Derivation (slot_value (first_slot (new_members payload format random))) d
+  derivation_by (Pbkdf2 hash iterations salt) is = (
+    slot_says.derivation,
+    slot_says.hash ∙ ap Some (sym is.0),
+    slot_says.iterations ∙ ap Some (sym is.1),
+    slot_says.salt ∙ ap Some (sym is.2),
+  )
+  derivation_by Argon2 is = absurd is
+
+  cipher_is : (cipher : AreaCipher) → IsLuks2Cipher (slot_value (first_slot (new_members payload format random))) cipher → IsNewCipher2 cipher
+  cipher_is (Apart name mode) is = absurd is
+  cipher_is (Whole text) is = some_same text.now (codes "aes-xts-plain64") (sym is ∙ slot_says.encryption)
+
+  cipher_by : (cipher : AreaCipher) → IsNewCipher2 cipher → IsLuks2Cipher (slot_value (first_slot (new_members payload format random))) cipher
+  cipher_by (Apart name mode) is = absurd is
+  cipher_by (Whole text) is = slot_says.encryption ∙ ap Some (sym is)
+
+  -- what the digest says
+  digest_iterations : number_in 1 4294967295 (Some (number (unsigned format.iterations))) ≡ Some format.iterations
+  digest_iterations = number_says 1 4294967295 format.iterations some (let turns = fits.fits.iterations in omega (arith, turns))
+
+  digest_salt_says : bytes_in 1 128 (Some (string (base64_text (digest_salt random)))) ≡ Some (digest_salt random)
+  digest_salt_says =
+      let size = length-digest_salt random long in
+      bytes_say laws.encodings 1 128 (digest_salt random) fits.fits.digest_salt (omega (arith, size)) (omega (arith, size)) (omega (arith, size))
+
+  digest_stored : bytes_in 20 64 (Some (string (base64_text (key_digest format random (digest_size_of format.hash))))) ≡ Some (key_digest format random (digest_size_of format.hash))
+  digest_stored =
+      let size = fits.digest_length in
+      let low = can.digest.from in
+      let high = can.digest.to in
+      bytes_say laws.encodings 20 64 (key_digest format random (digest_size_of format.hash)) fits.fits.digest (omega (arith, high)) low high
+
+  digest_is : (digest : DigestPlan) → IsLuks2Digest (formatted (new_members payload format random)) 0 digest
+      → IsNewDigest format (digest_salt random) (key_digest format random (digest_size_of format.hash)) digest
+  digest_is digest y =
+      let v : VolumeMembers = new_members payload format random in
+      let is : digest_value v ≡ y.object = (digest_at v laws.names y.number y.object y.names.numbered y.there).1 in
+      let d : Value = digest_value v in
+      let hash : text_of (member_at d outer.Top name.Hash) ≡ Some digest.hash.now = subst (λ (o : Value). text_of (member_at o outer.Top name.Hash) ≡ Some digest.hash.now) (sym is) y.hash in
+      let turns : small_at d outer.Top name.Iterations ≡ Some digest.iterations = subst (λ (o : Value). small_at o outer.Top name.Iterations ≡ Some digest.iterations) (sym is) y.iterations in
+      let salt : bytes_in 1 128 (member_at d outer.Top name.Salt) ≡ Some digest.salt.now = subst (λ (o : Value). bytes_in 1 128 (member_at o outer.Top name.Salt) ≡ Some digest.salt.now) (sym is) y.salt in
+      let stored : bytes_in 20 64 (member_at d outer.Top name.Digest) ≡ Some digest.stored.now = subst (λ (o : Value). bytes_in 20 64 (member_at o outer.Top name.Digest) ≡ Some digest.stored.now) (sym is) y.stored in
+      record {
+        hash = some_same digest.hash.now (name_of format.hash) (sym hash);
+        iterations = some_same digest.iterations format.iterations (sym turns ∙ digest_iterations);
+        own_salt = some_same digest.salt.now (digest_salt random) (sym salt ∙ digest_salt_says);
+        own_stored = some_same digest.stored.now (key_digest format random (digest_size_of format.hash)) (sym stored ∙ digest_stored);
+      }
+
+  -- a plan that the metadata gives is the one that was sealed by
+  pub plan_is : (json : List ℕ) → Json json (formatted (new_members payload format random)) → ((area : List ℕ) (i k : Value) → Json area i → Json area k → i ≡ k)
+      → (plan : SlotPlan) → HasLuks2Plan json 0 plan
+      → IsNewPlan format (slot_salt slot_place2 random) area2 (digest_salt random) (key_digest format random (digest_size_of format.hash)) plan × IsNewCipher2 plan.cipher
+  plan_is json holds one plan y =
+      let v : VolumeMembers = new_members payload format random in
+      let same : y.value ≡ formatted v = one json y.value (formatted v) y.holds holds in
+      let there : object_at (formatted v) Keyslots 0 ≡ Some y.object = subst (λ (k : Value). object_at k Keyslots 0 ≡ Some y.object) same y.there in
+      let object_is : slot_value (first_slot v) ≡ y.object = (slot_at v laws.names 0 y.object (lit< tt) there).1 in
+      let first : IsLuks2Plan (formatted v) 0 y.object plan = subst (λ (k : Value). IsLuks2Plan k 0 y.object plan) same y.is in
+      let is : IsLuks2Plan (formatted v) 0 (slot_value (first_slot v)) plan = subst (λ (o : Value). IsLuks2Plan (formatted v) 0 o plan) (sym object_is) first in (
+        record {
+          derivation = derivation_is plan.derivation is.derivation;
+          area = area_is plan.area 32768 258048 (some_same plan.area.start 32768 (sym is.start ∙ slot_says.offset)) (some_same plan.area.len 258048 (sym is.len ∙ slot_says.size));
+          area_key_bytes = some_same plan.area_key_bytes 64 (sym is.area_key_bytes ∙ slot_says.area_key_size);
+          key_bytes = some_same plan.key_bytes 64 (sym is.key_bytes ∙ slot_says.key_size);
+          stripes = some_same plan.stripes 4000 (sym is.stripes ∙ slot_says.stripes);
+          splitter_hash = some_same plan.splitter_hash.now (name_of format.hash) (sym is.splitter_hash ∙ slot_says.splitter_hash);
+          digest = digest_is plan.digest is.digest;
+        },
+        cipher_is plan.cipher is.cipher,
+      )
+
+  pub plan_by : (json : List ℕ) → Json json (formatted (new_members payload format random)) → (plan : SlotPlan)
+      → IsNewPlan format (slot_salt slot_place2 random) area2 (digest_salt random) (key_digest format random (digest_size_of format.hash)) plan → IsNewCipher2 plan.cipher
+      → HasLuks2Plan json 0 plan
+  plan_by json holds plan is cipher =
+      let v : VolumeMembers = new_members payload format random in
+      record {
+        numbered = lit< tt;
+        value = formatted v;
+        holds = holds;
+        object = slot_value (first_slot v);
+        there = refl;
+        is = record {
+          derivation = derivation_by plan.derivation is.derivation;
+          cipher = cipher_by plan.cipher cipher;
+          start = slot_says.offset ∙ ap Some (sym (ap (λ (a : Area). a.start) is.area));
+          len = slot_says.size ∙ ap Some (sym (ap (λ (a : Area). a.len) is.area));
+          area_key_bytes = slot_says.area_key_size ∙ ap Some (sym is.area_key_bytes);
+          key_bytes = slot_says.key_size ∙ ap Some (sym is.key_bytes);
+          stripes = slot_says.stripes ∙ ap Some (sym is.stripes);
+          splitter_hash = slot_says.splitter_hash ∙ ap Some (sym is.splitter_hash);
+          digest = record {
+            number = 0;
+            names = record { named = lit< tt; keyslot = refl; numbered = lit< tt; object = digest_value v; is = refl; lists = refl };
+            object = digest_value v;
+            there = refl;
+            hash = ap Some (sym is.digest.hash);
+            iterations = digest_iterations ∙ ap Some (sym is.digest.iterations);
+            salt = digest_salt_says ∙ ap Some (sym is.digest.own_salt);
+            stored = digest_stored ∙ ap Some (sym is.digest.own_stored);
+          };
+        };
+      }

@@ -1,0 +1,154 @@
+-- What the metadata of a new volume says.
+use Rattle.std.proofs.Common.{◌≡◌, ◌≢◌, ◌<◌, ◌≤◌, ◌^◌, ℕ, List, length, codes, true, cond, Some, None, Ordering, Less, Equal, Greater, is_eq, bytes_eq, arith, refl, sym, ap, ◌∙◌, lit≤, lit<, inl, inr}
+use Rattle.std.specs.Prelude.{decimal}
+use Rattle.std.specs.Cmp.Lexicographic.{slice_cmp}
+use Rattle.std.specs.Fmt.{digits}
+use Rattle.std.specs.Ordering.{nat_cmp, match_ordering}
+use Rattle.std.proofs.lemmas.Bool.{cases_Bool}
+use Rattle.std.proofs.lemmas.Bool.Decides.{nat_tests}
+use Rattle.std.proofs.lemmas.Map.Text.{is_eq-slice_cmp}
+use Rattle.std.proofs.lemmas.Slice.Eq.{bytes_eq-Decides}
+use Rattle.base64.specs.GeneralPurpose.{IsBytes}
+use Rattle.serde_json.specs.Data.{Data as Value, number, string, unsigned}
+use Rattle.serde_json.specs.Find.{get}
+use Rattle.luks_area.specs.RangeFacts.{length-part_inside}
+use Rattle.luks_json.specs.Decimal.{IsDecimal, decimal_of}
+use Rattle.luks_json.specs.Encoded.{IsBase64, encoded_of}
+use Rattle.luks_json.specs.Number.{number_of as number_named, number_text}
+use Rattle.luks_json.specs.Values.{bytes_in, decimal_in, is_between, number_in}
+use Rattle.luks_kdf.specs.Names.{digest_size_of}
+use Rattle.luks_kdf.specs.declared.hash_name.HashName.{HashName}
+use Rattle.luks_kdf.specs.declared.hash_name.HashName.TheVariants.{Sha1, Sha256}
+use Rattle.luks_rules.specs.Faults.{object_at}
+use Rattle.luks_rules.specs.Sizes.{keyslots_size}
+use Rattle.luks_rules.specs.declared.table.Section.TheVariants.{Digests, Keyslots, Segments}
+use Rattle.luks_making.specs.Conditions.{Between, CanFormat, FitsSlot, FitsVolume}
+use Rattle.luks_making.specs.Formatted.{VolumeMembers, digest_value, first_slot, formatted, segment_value, sole}
+use Rattle.luks_making.specs.Keyslots.{base64_text, slot_value}
+use Rattle.luks_reading.specs.declared.report.Data.{Data}
+use Rattle.luks_formatting.specs.declared.format.Format.{Format}
+use Rattle.luks_formatting.specs.NewHeader2.{new_members}
+use Rattle.luks_formatting.specs.NewPlan.{key_digest}
+use Rattle.luks_formatting.specs.RandomBytes.{digest_salt, slot_place2, slot_salt}
+
+digest_sizes : (hash : HashName) → Between 20 64 (digest_size_of hash)
+digest_sizes Sha1 = record { from = lit≤ tt; to = lit≤ tt }
+digest_sizes Sha256 = record { from = lit≤ tt; to = lit≤ tt }
+
+pub digest_short : (hash : HashName) → digest_size_of hash ≤ 32
+digest_short Sha1 = lit≤ tt
+digest_short Sha256 = lit≤ tt
+
+pub length-digest_salt : (random : List ℕ) → 272 ≤ length random → length (digest_salt random) ≡ 32
+length-digest_salt random long = length-part_inside random 80 32 (omega (arith, long))
+
+pub length-slot_salt : (random : List ℕ) → 272 ≤ length random → length (slot_salt slot_place2 random) ≡ 32
+length-slot_salt random long = length-part_inside random 240 32 (omega (arith, long))
+
+-- what is said may stand there
+pub can_format : (payload : Data) (format : Format) (random : List ℕ) → 1 ≤ format.iterations → 272 ≤ length random
+    → length (key_digest format random (digest_size_of format.hash)) ≡ digest_size_of format.hash → CanFormat (new_members payload format random)
+can_format payload format random some long digest =
+    let first = length-digest_salt random long in
+    let slot = length-slot_salt random long in
+    let sizes = digest_sizes format.hash in
+    let low = sizes.from in
+    let high = sizes.to in
+    record {
+      iterations = some;
+      digest_salt = record { from = omega (arith, first); to = omega (arith, first) };
+      digest = record { from = omega (arith, digest, low); to = omega (arith, digest, high) };
+      slot_salt = record { from = omega (arith, slot); to = omega (arith, slot) };
+    }
+
+-- ---- members by their values, from the laws on texts
+
+abbrev pub DecimalsTell : Type 0
+DecimalsTell = (text : List ℕ) (n : ℕ) → IsDecimal text n → decimal_of text ≡ Some n
+
+abbrev pub EncodingsTell : Type 0
+EncodingsTell = (text bytes : List ℕ) → IsBase64 text bytes → encoded_of text ≡ Some bytes
+
+abbrev pub NamesTell : Type 0
+NamesTell = (n : ℕ) → n < 32 → number_named (number_text n) ≡ Some n
+
+pub some_same : {A : Type 0} (x y : A) → Some x ≡ Some y → x ≡ y
+some_same x y e = cc
+
+pub no_some : {A : Type 0} (y : A) → None ≡ Some y → ⊥
+no_some y e = cc
+
+pub decimal_says : DecimalsTell → (n : ℕ) → n < 2 ^ 64 → decimal_in (Some (string (decimal n))) ≡ Some n
+decimal_says told n fits = told (decimal n) n (record { fits = fits; digits = refl })
+
+keyslots_literal : codes "16744448" ≡ decimal 16744448
+unfolding digits
+keyslots_literal = refl
+
+pub keyslots_say : DecimalsTell → (v : VolumeMembers) → keyslots_size (formatted v) ≡ Some 16744448
+keyslots_say told v = told (codes "16744448") 16744448 (record { fits = lit< tt; digits = keyslots_literal })
+
+within_bounds : (least most n : ℕ) → least ≤ n → n ≤ most → is_between least most n ≡ true
+within_bounds least most n low high = grind (arith, nat_tests)
+
+pub number_says : (least most n : ℕ) → least ≤ n → n ≤ most → number_in least most (Some (number (unsigned n))) ≡ Some n
+number_says least most n low high = rw (within_bounds least most n low high) refl
+
+pub bytes_say : EncodingsTell → (least most : ℕ) (bytes : List ℕ) → IsBytes bytes → length bytes ≤ 128 → least ≤ length bytes → length bytes ≤ most
+    → bytes_in least most (Some (string (base64_text bytes))) ≡ Some bytes
+bytes_say told least most bytes are short low high =
+    let is : encoded_of (base64_text bytes) ≡ Some bytes = told (base64_text bytes) bytes (record { are_bytes = are; at_most = short; encodes = refl }) in
+    rw (is, within_bounds least most (length bytes) low high) refl
+
+-- ---- the one object of a map
+
+by_order : {A : Type 0} (o : Ordering) (a b : A) → match_ordering o a b a ≡ cond (is_eq o) b a
+by_order Less a b = refl
+by_order Equal a b = refl
+by_order Greater a b = refl
+
+seek : (k : List ℕ) (d : Value) → get k (sole d) ≡ cond (bytes_eq k (codes "0")) (Some d) None
+seek k d = by_order (slice_cmp nat_cmp k (codes "0")) None (Some d) ∙ ap (λ b. cond b (Some d) None) (is_eq-slice_cmp k (codes "0"))
+
+named_zero : NamesTell → (n : ℕ) → n < 32 → bytes_eq (number_text n) (codes "0") ≡ true → n ≡ 0
+named_zero told n small same =
+    let text : number_text n ≡ codes "0" = (bytes_eq-Decides (number_text n) (codes "0")).0 same in
+    some_same n 0 (sym (told n small) ∙ ap number_named text)
+
+pub only_zero : NamesTell → (d e : Value) (n : ℕ) → n < 32 → get (number_text n) (sole d) ≡ Some e → (n ≡ 0) × (d ≡ e)
+only_zero told d e n small found = elim (cases_Bool (bytes_eq (number_text n) (codes "0"))) [
+  | inl same ↦ (named_zero told n small same, some_same d e (rw same at (sym (seek (number_text n) d) ∙ found)))
+  | inr other ↦ absurd (no_some e (rw other at (sym (seek (number_text n) d) ∙ found)))
+]
+
+pub none_other : NamesTell → (d : Value) (n : ℕ) → n < 32 → n ≢ 0 → get (number_text n) (sole d) ≡ None
+none_other told d n small other = elim (cases_Bool (bytes_eq (number_text n) (codes "0"))) [
+  | inl same ↦ absurd (other (named_zero told n small same))
+  | inr apart ↦ seek (number_text n) d ∙ (rw apart refl)
+]
+
+-- ---- the objects
+
+module _ (v : VolumeMembers) (names : NamesTell) where
+  pub slot_at : (n : ℕ) (d : Value) → n < 32 → object_at (formatted v) Keyslots n ≡ Some d → (n ≡ 0) × (slot_value (first_slot v) ≡ d)
+  slot_at n d small is = only_zero names (slot_value (first_slot v)) d n small is
+
+  pub digest_at : (n : ℕ) (d : Value) → n < 32 → object_at (formatted v) Digests n ≡ Some d → (n ≡ 0) × (digest_value v ≡ d)
+  digest_at n d small is = only_zero names (digest_value v) d n small is
+
+  pub segment_at : (n : ℕ) (d : Value) → n < 32 → object_at (formatted v) Segments n ≡ Some d → (n ≡ 0) × (segment_value v ≡ d)
+  segment_at n d small is = only_zero names (segment_value v) d n small is
+
+-- the members of keyslot 0 are in their ranges
+pub slot_fits : (v : VolumeMembers) → FitsVolume v → CanFormat v → FitsSlot (first_slot v)
+slot_fits v fits can =
+    let turns = fits.iterations in
+    record {
+      key_size = record { from = lit≤ tt; to = lit≤ tt };
+      stripes = record { from = lit≤ tt; to = lit≤ tt };
+      offset = lit< tt;
+      size = lit< tt;
+      area_key_size = record { from = lit≤ tt; to = lit≤ tt };
+      iterations = record { from = can.iterations; to = omega (arith, turns) };
+      salt = record { are_bytes = fits.slot_salt; long = can.slot_salt };
+    }

@@ -1,0 +1,38 @@
+use Rattle.std.proofs.Common.{◌≡◌, ◌≤◌, ◌<◌, ℕ, length, arith, sym, ap, ◌∙◌, subst, rules, IsNone}
+use Rattle.serde_json.specs.Data.{Data}
+use Rattle.serde_json.specs.View.{view}
+use Rattle.serde_json.specs.Written.{compact_text}
+use Rattle.luks_kdf.specs.Names.{digest_size_of}
+use Rattle.luks_rules.specs.Held.{IsHeld}
+use Rattle.luks_making.specs.Conditions.{CanFormat}
+use Rattle.luks_making.specs.Formatted.{VolumeMembers, formatted, volume_members}
+use Rattle.luks_formatting.specs.NewPlan.{key_digest}
+use Rattle.luks_formatting.proofs.MetadataFacts.{can_format, digest_short, length-digest_salt, length-slot_salt}
+use Rattle.luks_formatting.proofs.TextLengthFacts.{name_short, text_fits}
+use Rattle.luks_formatting.proofs.metadata.area_of.Goals as goal
+
+pub written_area-requires : goal.written_area-requires
+written_area-requires c =
+    let members = c.requires.members in
+    let digest : length (key_digest c.args.format.now c.args.random.now (digest_size_of c.args.format.now.hash)) ≡ digest_size_of c.args.format.now.hash =
+    sym (ap (λ (m : VolumeMembers). length m.digest) members) ∙ c.requires.digest_length in
+    let can : CanFormat (volume_members c.args.volume.now) =
+    subst CanFormat (sym members) (can_format c.args.data_ c.args.format.now c.args.random.now c.requires.iterations c.requires.long digest) in
+    subst (λ (d : Data). IsHeld 12288 d) (sym c.in_ok-value.ensures) (c.new_volume_is_accepted.ensures (volume_members c.args.volume.now) c.volume_fits.ensures can)
+
+short_text : (n m : ℕ) → 12288 ≤ n → n ≡ m → m < 12288 → ⊥
+short_text n m full is short = absurd (omega (arith, full, is, short))
+
+pub unreachable-requires : goal.unreachable-requires
+unreachable-requires c =
+    let v = volume_members c.args.volume.now in
+    let members = c.requires.members in
+    let empty : IsNone c.in_ok-area.field-0 = rw c.in-None.is (search rules) in
+    let full : 12288 ≤ length (compact_text (view c.in_ok-value.value)) = c.in_ok-area.ensures.full empty in
+    let is : length (compact_text (view c.in_ok-value.value)) ≡ length (compact_text (formatted v)) = ap (λ d. length (compact_text d)) c.in_ok-value.ensures in
+    let hash : length v.hash ≤ 6 = (let named = ap (λ (m : VolumeMembers). length m.hash) members in let short = name_short c.args.format.now.hash in omega (arith, named, short)) in
+    let first : length v.digest_salt ≤ 32 = (let same = ap (λ (m : VolumeMembers). length m.digest_salt) members in let long = length-digest_salt c.args.random.now c.requires.long in omega (arith, same, long)) in
+    let third : length v.slot_salt ≤ 32 = (let same = ap (λ (m : VolumeMembers). length m.slot_salt) members in let long = length-slot_salt c.args.random.now c.requires.long in omega (arith, same, long)) in
+    let second : length v.digest ≤ 32 = (let long = c.requires.digest_length in let short = digest_short c.args.format.now.hash in omega (arith, long, short)) in
+    let short = text_fits v hash c.volume_fits.ensures.iterations c.volume_fits.ensures.segment_offset first second third in
+    short_text (length (compact_text (view c.in_ok-value.value))) (length (compact_text (formatted v))) full is short

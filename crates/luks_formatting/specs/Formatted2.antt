@@ -1,0 +1,34 @@
+-- A volume that was formatted by LUKS2.
+use Rattle.std.specs.Prelude.{ℕ, List}
+use Rattle.luks_area.specs.Ranges.{IsAt, IsOfEither, SameBut}
+use Rattle.luks_head.specs.Written.{IsWrittenCopy}
+use Rattle.luks_head.specs.declared.bin2.Bin2.{Bin2}
+use Rattle.luks_making.specs.Formatted.{formatted}
+use Rattle.luks_making.specs.WrittenArea.{IsWrittenArea}
+use Rattle.luks_reading.specs.declared.report.Data.{Data}
+use Rattle.luks_reading.specs.Plans.{HasLuks2Plan}
+use Rattle.luks_formatting.specs.declared.format.Format.{Format}
+use Rattle.luks_formatting.specs.NewHeader2.{copy_size, json_size, new_members, IsNewCopy}
+use Rattle.luks_formatting.specs.NewPlan.{HoldsKey}
+use Rattle.luks_formatting.specs.RandomBytes.{first_copy_salt, random_stripes, second_copy_salt, slot_place2, volume_key}
+
+-- the copy at the place `o` is that of a new volume, with this salt and JSON area
+pub record HasNewCopy (v random salt json : List ℕ) (o : ℕ) : Type 0 where
+  pub header : Bin2
+  pub fields : IsNewCopy random salt o header
+  pub written : IsWrittenCopy v o header json
+
+-- the places of both copies and of the used sectors of keyslot 0's area
+abbrev pub IsOfLuks2 : ℕ → Type 0
+IsOfLuks2 = IsOfEither (IsAt 0 32768) (IsAt 32768 256000)
+
+-- `new` begins with both copies of the header of a new volume, its keyslot 0 holds the volume key, and
+-- all other bytes are those of `old`
+pub record IsFormatted2 (payload : Data) (format : Format) (passphrase random old new : List ℕ) : Type 0 where
+  pub json : List ℕ
+  pub metadata : IsWrittenArea json_size (formatted (new_members payload format random)) json
+  pub first : HasNewCopy new random (first_copy_salt random) json 0
+  pub second : HasNewCopy new random (second_copy_salt random) json copy_size
+  pub slot : HoldsKey (HasLuks2Plan json 0) new passphrase (volume_key random)
+      (random_stripes slot_place2 random)
+  pub rest : SameBut IsOfLuks2 old new

@@ -1,0 +1,69 @@
+-- The LUKS2 header of a new volume: both copies of its binary header, and the metadata (LUKS2 On-Disk
+-- Format 1.1, 2.1 and 3).
+use Rattle.std.specs.Prelude.{◌≡◌, ℕ, List, ◌++◌, codes, drop, length, replicate}
+use Rattle.luks_area.specs.declared.area.Area.{Area}
+use Rattle.luks_head.specs.Header2.{magic_of, sha256_size}
+use Rattle.luks_head.specs.declared.bin2.Bin2.{Bin2}
+use Rattle.luks_kdf.specs.Names.{digest_size_of, name_of}
+use Rattle.luks_making.specs.Conditions.{FitsVolume}
+use Rattle.luks_making.specs.Formatted.{VolumeMembers}
+use Rattle.luks_slot.specs.declared.plan.AreaCipher.{AreaCipher}
+use Rattle.luks_slot.specs.declared.plan.AreaCipher.TheVariants.{Apart, Whole}
+use Rattle.luks_reading.specs.declared.report.Data.{Data}
+use Rattle.luks_reading.specs.declared.report.Data.TheVariants.{Here, Elsewhere}
+use Rattle.luks_formatting.specs.declared.format.Format.{Format}
+use Rattle.luks_formatting.specs.NewPlan.{key_digest}
+use Rattle.luks_formatting.specs.NewUuid.{uuid_text}
+use Rattle.luks_formatting.specs.RandomBytes.{digest_salt, slot_place2, slot_salt, uuid_bytes}
+
+-- the bytes of a copy, and of its JSON area behind the 4096 of the binary header
+abbrev pub copy_size : ℕ
+copy_size = 16384
+
+abbrev pub json_size : ℕ
+json_size = 12288
+
+-- the binary header of the copy at the place `o`: without label and subsystem, the first of its
+-- sequence; what its checksum is made of is a matter of the whole copy
+pub record IsNewCopy (random salt : List ℕ) (o : ℕ) (header : Bin2) : Type 0 where
+  pub magic : header.magic ≡ magic_of o
+  pub version : header.version ≡ 2
+  pub hdr_size : header.hdr_size ≡ copy_size
+  pub seqid : header.seqid ≡ 1
+  pub label : header.label ≡ replicate 48 0
+  pub csum_alg : header.csum_alg ≡ codes "sha256" ++ replicate 26 0
+  pub own_salt : header.salt ≡ salt
+  pub uuid : header.uuid ≡ uuid_text (uuid_bytes random) ++ replicate 4 0
+  pub subsystem : header.subsystem ≡ replicate 48 0
+  pub hdr_offset : header.hdr_offset ≡ o
+  pub csum_rest : drop sha256_size header.csum ≡ replicate sha256_size 0
+
+-- where the segment begins, in bytes: behind the key areas' region at 16 MiB, or on another device at
+-- its start
+abbrev pub segment_start : Data → ℕ
+segment_start Here = 16777216
+segment_start Elsewhere = 0
+
+-- what the metadata says; the digest has the hash's length
+abbrev pub new_members : Data → Format → List ℕ → VolumeMembers
+new_members payload format random = record {
+  hash = name_of format.hash;
+  iterations = format.iterations;
+  segment_offset = segment_start payload;
+  digest_salt = digest_salt random;
+  digest = key_digest format random (digest_size_of format.hash);
+  slot_salt = slot_salt slot_place2 random;
+}
+
+-- the area of keyslot 0, of which the first 256000 bytes are used, and its cipher
+abbrev pub area2 : Area
+area2 = record { start = 32768; len = 258048 }
+
+abbrev pub IsNewCipher2 : AreaCipher → Type 0
+IsNewCipher2 (Apart name mode) = ⊥
+IsNewCipher2 (Whole text) = text.now ≡ codes "aes-xts-plain64"
+
+-- what the metadata says has the ranges of its types, and the digest its length
+pub record FitsMetadata (payload : Data) (format : Format) (random : List ℕ) : Type 0 where
+  pub fits : FitsVolume (new_members payload format random)
+  pub digest_length : length (key_digest format random (digest_size_of format.hash)) ≡ digest_size_of format.hash

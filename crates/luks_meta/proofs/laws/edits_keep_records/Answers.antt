@@ -1,0 +1,14 @@
+use Rattle.luks_meta.proofs.RecordFacts.{number_added, numbers_removed, numbers_same, records_kept}
+use Rattle.luks_meta.proofs.laws.edits_keep_records.Goals as goal
+
+pub returns-clause-rest : goal.returns-clause-rest
+returns-clause-rest c = records_kept
+
+pub returns-clause-removed : goal.returns-clause-removed
+returns-clause-removed c = numbers_removed c.names_are_apart.ensures c.names_say_numbers.ensures.lists
+
+pub returns-clause-added : goal.returns-clause-added
+returns-clause-added c = number_added c.names_are_apart.ensures c.names_say_numbers.ensures.lists
+
+pub returns-clause-changed : goal.returns-clause-changed
+returns-clause-changed c = numbers_same

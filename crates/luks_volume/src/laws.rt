@@ -1,0 +1,48 @@
+//! Laws on the definitions of this crate. Each function only calls those whose laws it follows from;
+//! its contract is the law.
+ghost use Rattle.std.specs.Prelude.{◌≡◌, ◌+◌, ◌<◌, ◌≤◌, ◌++◌, ◌∷◌, [], ℕ, List, get_or, length};
+ghost use Rattle.luks_edit.specs.declared.edit.Edit.{Edit as TheEdit};
+ghost use Rattle.luks_edit.specs.declared.edit.Step.{Step as TheStep};
+ghost use Rattle.luks_edit.specs.Kept.{Keeps};
+ghost use Rattle.luks_edit.specs.Ran.{AreRun, HasNoFailure, IsFailure, IsNamedIn, Ran, Reply};
+ghost use Rattle.luks_reading.specs.Checked.{WellFormed};
+ghost use Rattle.luks_reading.specs.declared.report.Data.{Data as Payload};
+ghost use Rattle.luks_volume.specs.Edits.{NamedSlots, Replies};
+ghost use Rattle.luks_volume.specs.Running.{IsUnderWay};
+
+use luks1_edits::luks1_edit_keeps_volume;
+use luks2_edits::luks2_edit_keeps_volume;
+
+/// After any list of edits of a well formed volume in which the device didn't fail, the volume is
+/// well formed; its length and its segments' bytes are as before, and so are the answers, the entry
+/// or value and the area of each keyslot that no completed edit named.
+pub fn edits_keep_volume()
+    ensures { (payload : Payload) (steps : List TheStep) (replies : List Reply)
+        (volumes : List (List ℕ)) (v w : List ℕ) → WellFormed v payload
+        → AreRun (Replies payload) v steps replies volumes w → HasNoFailure replies
+        → Keeps payload (IsNamedIn NamedSlots v steps replies volumes) v w }
+{
+    luks1_edit_keeps_volume();
+    luks2_edit_keeps_volume();
+}
+
+/// A list of edits is run step by step: a step that the device doesn't fail in is followed by the
+/// next one, and the list ends with the last step or with the first failure.
+pub fn list_runs_by_steps()
+    ensures starts { (payload : Payload) (v : List ℕ) (steps : List TheStep) (before : List Reply)
+        → IsUnderWay (Replies payload) v v steps 0 before before }
+    ensures goes_on { (payload : Payload) (v u w : List ℕ) (steps : List TheStep) (k : ℕ)
+        (before now : List Reply) (d : TheStep) (r : Reply) → k < length steps
+        → Replies payload u (get_or steps k d).edit (get_or steps k d).random.now r w
+        → (IsFailure r → ⊥) → IsUnderWay (Replies payload) v u steps k before now
+        → IsUnderWay (Replies payload) v w steps (k + 1) before (now ++ r ∷ []) }
+    ensures stops { (payload : Payload) (v u w : List ℕ) (steps : List TheStep) (k : ℕ)
+        (before now : List Reply) (d : TheStep) (r : Reply) → k < length steps
+        → Replies payload u (get_or steps k d).edit (get_or steps k d).random.now r w
+        → IsFailure r → IsUnderWay (Replies payload) v u steps k before now
+        → Ran (Replies payload) v steps before (now ++ r ∷ []) w }
+    ensures ends { (payload : Payload) (v u : List ℕ) (steps : List TheStep) (k : ℕ)
+        (before now : List Reply) → length steps ≤ k
+        → IsUnderWay (Replies payload) v u steps k before now
+        → Ran (Replies payload) v steps before now u }
+{}
