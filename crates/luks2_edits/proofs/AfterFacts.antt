@@ -84,13 +84,13 @@ need_met j n random key stripes slot met =
     ]
 
 -- what no refusal says of an edit that seals a keyslot like the keyslot `n`
-record IsReady (v : List ℕ) (o : ℕ) (j : Value) (n iterations : ℕ) (random : List ℕ) : Type 0 where
-  opened : IsOpened v o j n
-  turns : 1000 ≤ iterations
-  ranged : iterations < 2 ^ 32
-  small : length v < 2 ^ 64
-  random_bytes : IsBytes random
-  met : (need : ℕ) → NeedsLike j n need → length random ≢ need → ⊥
+pub record IsReady (v : List ℕ) (o : ℕ) (j : Value) (n iterations : ℕ) (random : List ℕ) : Type 0 where
+  pub opened : IsOpened v o j n
+  pub turns : 1000 ≤ iterations
+  pub ranged : iterations < 2 ^ 32
+  pub small : length v < 2 ^ 64
+  pub random_bytes : IsBytes random
+  pub met : (need : ℕ) → NeedsLike j n need → length random ≢ need → ⊥
 
 -- what is at least 16384 is at least 4096
 above : {g h : ℕ} → g ≡ h → 16384 ≤ g → 4096 ≤ h
@@ -112,6 +112,29 @@ module _ (laws : VolumeLaws) (making : MakingLaws) (v : List ℕ) (o h : ℕ) (p
 
   fits : (area : Area) → IsNewArea h (length v) payload j n area → FitsNew (members_of iterations (keyslot_salt random) area)
   fits area place = fits_new h (length v) payload j n area place iterations (keyslot_salt random) ready.small ready.ranged (part_bytes random 128 32 ready.random_bytes)
+
+  -- the keyslot that is gained, and what it says
+  pub added_gains : (to : Option ℕ) → (IsNumberTaken j to → ⊥) → (HasNoNumber j to → ⊥)
+      → (a : HasAdded h (length v) payload n to iterations (keyslot_salt random) j k) → GainsSlot a.slot a.is.digest a.is.slot j k
+  added_gains to taken none a =
+      making.addition (h - 4096) a.slot n (members_of iterations (keyslot_salt random) a.area) j k layout.held
+      (unique_digests before.holds.text j before.holds.reads) (new_free j to a.slot taken none a.is_new) (seals a.area a.place) (fits a.area a.place) a.is
+
+  pub added_says : (to : Option ℕ) → (IsNumberTaken j to → ⊥) → (HasNoNumber j to → ⊥)
+      → (a : HasAdded h (length v) payload n to iterations (keyslot_salt random) j k) → SaysMembers a.is.slot (slot_value a.is.slot)
+  added_says to taken none a =
+      let room : IsRoom (h - 4096) a.slot a.is.digest a.is.slot j a.is.names.object =
+      making.room (h - 4096) a.slot n (members_of iterations (keyslot_salt random) a.area) j k layout.held
+      (unique_digests before.holds.text j before.holds.reads) (new_free j to a.slot taken none a.is_new) (seals a.area a.place) (fits a.area a.place) a.is in
+      making.says a.is.slot room.fits
+
+  -- the keyslot that is changed
+  pub changed_changes : (a : HasChanged h (length v) payload n iterations (keyslot_salt random) j k)
+      → ChangesSlot n (members_of iterations (keyslot_salt random) a.area) j k
+  changed_changes a =
+      let c : ChangesSlot n (members_of iterations (keyslot_salt random) a.area) j (changed_slot n (members_of iterations (keyslot_salt random) a.area) j) =
+      making.change (h - 4096) n (members_of iterations (keyslot_salt random) a.area) j layout.held (seals a.area a.place) (fits a.area a.place) in
+      subst (ChangesSlot n (members_of iterations (keyslot_salt random) a.area) j) (sym a.is) c
 
   -- the metadata with a new keyslot
   added_metadata : (named : ℕ → Type 0) (to : Option ℕ) → (IsNumberTaken j to → ⊥) → (HasNoNumber j to → ⊥)
@@ -168,7 +191,7 @@ was_opened v Repair random j w k sealed = tt
 was_opened v (Label text) random j w k sealed = tt
 
 -- iterations that aren't too few
-enough_turns : (iterations : ℕ) → (iterations < 1000 → ⊥) → 1000 ≤ iterations
+pub enough_turns : (iterations : ℕ) → (iterations < 1000 → ⊥) → 1000 ≤ iterations
 enough_turns iterations few = elim (cases_lt iterations 1000) [ inl lt ↦ absurd (few lt) | inr past ↦ past ]
 
 pub edited_metadata : (laws : VolumeLaws) (making : MakingLaws) (v : List ℕ) (o : ℕ) (payload : Data) (e : Edit) (random : List ℕ) (j k : Value)
@@ -210,7 +233,7 @@ module _
     (laws : VolumeLaws) (making : MakingLaws) (v : List ℕ) (payload : Data) (e : Edit) (random w : List ℕ) (well : WellFormed v payload)
     (ranges : HasRanges v e random) (free : IsUnrefused2 v payload e random) (a : After2 v payload e random w)
   where
-    before : HasCopy v a.place (hdr_size (header_at v a.place)) a.value
+    pub before : HasCopy v a.place (hdr_size (header_at v a.place)) a.value
     before = copy_of laws v payload a.place a.value a.metadata well
 
     pub now_chosen : Chosen w (luks2 0 InStep)
@@ -219,7 +242,7 @@ module _
         let same : length w ≡ length v = a.rest.length_same in
         both_chosen v w a.place e random a.new (omega (arith, long, same)) a.first.renewed a.second.renewed
 
-    after : HasCopy w 0 (hdr_size (header_at v a.place)) a.new
+    pub after : HasCopy w 0 (hdr_size (header_at v a.place)) a.new
     after = record {
       copies = InStep;
       chosen = now_chosen;
@@ -228,7 +251,7 @@ module _
       holds = a.first.renewed.json.json;
     }
 
-    layout : IsLayout (hdr_size (header_at v a.place)) (length v) payload a.value
+    pub layout : IsLayout (hdr_size (header_at v a.place)) (length v) payload a.value
     layout = layout_of laws v payload a.place a.value a.metadata well
 
     -- all that an edit promises

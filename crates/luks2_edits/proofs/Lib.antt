@@ -6,6 +6,9 @@ mod KeptFacts
 mod LeftoverFacts
 mod LowerLaws
 mod MetadataFacts
+mod OpenFacts
+mod OpenedFacts
+mod OpensFacts
 mod PlaceFacts
 mod SealFacts
 mod TornFacts

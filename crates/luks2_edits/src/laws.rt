@@ -8,16 +8,20 @@ ghost use Rattle.luks_reading.specs.Checked.{WellFormed};
 ghost use Rattle.luks_reading.specs.declared.report.Data.{Data as Payload};
 ghost use Rattle.luks_edit.specs.declared.edit.Edit.{Edit as TheEdit};
 ghost use Rattle.luks_edit.specs.Kept.{Keeps};
-ghost use Rattle.luks2_edits.specs.Edited.{After2, HasRanges, NamedKeyslots2};
+ghost use Rattle.luks2_edits.specs.Edited.{After2, HasRanges, NamedKeyslots2, OpensAfter2};
 ghost use Rattle.luks2_edits.specs.Kept.{HasSameKeyslot};
 ghost use Rattle.luks2_edits.specs.Leftovers.{CountsAsAfter, CountsAsBefore, IsNotStray, Leftover2};
 ghost use Rattle.luks2_edits.specs.Refused.{IsUnrefused2};
 
-use luks_head::{Copies, chosen_copy_is_sound, one_choice, soundness_is_local};
+use luks_head::{
+    Copies, chosen_copy_is_sound, luks2_without_faults, one_choice, soundness_is_local,
+};
 use luks_making::{
     addition_keeps_the_rest, change_keeps_the_rest, made_keyslot_has_room, removal_keeps_the_rest,
 };
-use luks_meta::{metadata_without_faults, one_value};
+use luks_meta::{metadata_without_faults, one_digest, one_value};
+use luks_reading::one_answer;
+use luks_slot::{found_key_meets_digest, sealed_area_opens};
 
 /// A keyslot that a change of a LUKS2 volume leaves as it was has the same answer for every
 /// passphrase: the same key, none, or the same refusals.
@@ -48,6 +52,29 @@ pub fn luks2_edit_keeps_volume()
     addition_keeps_the_rest();
     made_keyslot_has_room();
     change_keeps_the_rest();
+}
+
+/// After an edit of a well formed LUKS2 volume that nothing refused, a keyslot that it made or sealed
+/// again opens by its new passphrase to the key that the old one opened.
+pub fn luks2_edit_opens()
+    ensures { (payload : Payload) (e : TheEdit) (v random w : List ℕ) → WellFormed v payload
+        → HasRanges v e random → IsUnrefused2 v payload e random → After2 v payload e random w
+        → OpensAfter2 v e w }
+{
+    one_choice();
+    chosen_copy_is_sound();
+    soundness_is_local();
+    luks2_without_faults();
+    one_value();
+    metadata_without_faults();
+    one_digest();
+    removal_keeps_the_rest();
+    addition_keeps_the_rest();
+    made_keyslot_has_room();
+    change_keeps_the_rest();
+    sealed_area_opens();
+    found_key_meets_digest();
+    one_answer();
 }
 
 /// What a failing device call leaves of a well formed LUKS2 volume is well formed, unless bytes of
