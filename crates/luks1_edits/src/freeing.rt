@@ -22,8 +22,8 @@ pub(crate) fn entry_bytes(header: &Luks1, n: u8, slot: Luks1Slot) -> [u8; 48]
     changed.slot_bytes(n)
 }
 
-/// Frees the keyslot `n` with this area: its entry is disabled, and then its area is overwritten with
-/// zeros.
+/// Frees the keyslot `n` with this area: its entry is disabled, and then its area is overwritten
+/// with zeros.
 pub(crate) fn free_keyslot<D: Device>(
     device: &mut D,
     header: &Luks1,

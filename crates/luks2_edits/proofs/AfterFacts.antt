@@ -1,11 +1,12 @@
 -- What an edit that was completed keeps of a LUKS2 volume.
-use Rattle.std.proofs.Common.{◌≡◌, ◌≢◌, ℕ, ◌+◌, ◌-◌, ◌*◌, ◌<◌, ◌≤◌, ◌^◌, List, length, codes, Option, Some, None, option_and_then, is_some, inl, inr, refl, sym, ap, subst, ◌∙◌, arith}
+use Rattle.std.proofs.Common.{◌≡◌, ◌≢◌, ℕ, ◌+◌, ◌-◌, ◌*◌, ◌<◌, ◌≤◌, ◌^◌, List, length, replicate, codes, Option, Some, None, option_and_then, is_some, inl, inr, refl, sym, ap, subst, ◌∙◌, arith}
 use Rattle.std.proofs.lemmas.Bool.{cases_eq, cases_lt}
 use Rattle.base64.specs.GeneralPurpose.{IsBytes}
 use Rattle.serde_json.specs.Data.{Data as Value}
 use Rattle.serde_json.specs.Find.{get}
 use Rattle.luks_area.specs.declared.area.Area.{Area}
 use Rattle.luks_area.specs.declared.area.AreaName.TheVariants as name
+use Rattle.luks_area.specs.Ranges.{part}
 use Rattle.luks_head.specs.Header2.{hdr_size, header_at, IsUuidField}
 use Rattle.luks_head.specs.Selection.{luks2, Chosen}
 use Rattle.luks_head.specs.declared.selection.Copies.TheVariants.{InStep}
@@ -20,13 +21,13 @@ use Rattle.luks_making.specs.Unchanged.{ChangesSlot, GainsSlot, SaysMembers}
 use Rattle.luks_making.specs.Without.{without_slot}
 use Rattle.luks_reading.specs.declared.report.Data.{Data}
 use Rattle.luks_reading.specs.Answer.{opens, Answer}
-use Rattle.luks_reading.specs.Checked.{WellFormed}
+use Rattle.luks_reading.specs.Checked.{AreaOf, WellFormed}
 use Rattle.luks_reading.specs.Layout2.{slot_number}
 use Rattle.luks_edit.specs.declared.edit.Edit.{Edit}
 use Rattle.luks_edit.specs.declared.edit.Edit.TheVariants.{Add, Change, Remove, Repair, Label}
 use Rattle.luks_edit.specs.declared.edit_fault.EditFault.TheVariants.{Iterations, NoFreeSlot, RandomLength, SlotTaken}
 use Rattle.luks_edit.specs.Kept.{Keeps}
-use Rattle.luks2_edits.specs.Edited.{keyslot_salt, members_of, After2, HasAdded, HasChanged, HasRanges, IsEdited, IsMadeIn, IsSealedBy, NamedKeyslots2}
+use Rattle.luks2_edits.specs.Edited.{keyslot_salt, members_of, After2, HasAdded, HasChanged, HasRanges, IsEdited, IsMadeIn, IsSealedBy, IsWiped, IsWipedBy, NamedKeyslots2}
 use Rattle.luks2_edits.specs.Metadata.{HasMetadata, HasStripes, IsNewKeyslot}
 use Rattle.luks2_edits.specs.Places.{key_areas_end, IsNewArea, Loses}
 use Rattle.luks2_edits.specs.Refused.{HasNoNumber, IsNumberTaken, IsUnrefused2, NeedsLike}
@@ -37,7 +38,7 @@ use Rattle.luks2_edits.proofs.MetadataFacts.{lost_metadata, placed_metadata}
 use Rattle.luks2_edits.proofs.PlaceFacts.{left_bytes}
 use Rattle.luks2_edits.proofs.SealFacts.{can_seal, enough_random, fits_new, none_of, opened_pbkdf2, opened_plan, part_bytes, salt_length, under, IsOpened}
 use Rattle.luks2_edits.proofs.UniqueFacts.{unique_digests}
-use Rattle.luks2_edits.proofs.VolumeFacts.{copy_of, layout_of, listed_at_least, HasCopy, IsLayout}
+use Rattle.luks2_edits.proofs.VolumeFacts.{areas_are, copy_of, layout_of, listed_at_least, HasCopy, IsLayout}
 
 -- a keyslot that loses its area is named
 pub lost_is_named : (v : List ℕ) (e : Edit) (n : ℕ) → Loses e n → NamedKeyslots2 v e n
@@ -262,3 +263,19 @@ module _
         (edited_metadata laws making v a.place payload e random a.value a.new a.metadata before ranges free (was_opened v e random a.value w a.new a.sealed) a.edited layout)
         (λ n b x. left_bytes v w h (length v) payload a.value e layout.fit a.rest (name.Segment n) b tt x)
         (λ m unnamed b x. left_bytes v w h (length v) payload a.value e layout.fit a.rest (name.Slot m) b (λ lost. unnamed (lost_is_named v e m lost)) x)
+
+-- the area that a keyslot loses is wiped
+wiped_is : (e : Edit) (j : Value) (w : List ℕ) (n : ℕ) → IsWipedBy e j w → Loses e n → IsWiped j n w
+wiped_is (Add by_ old new to iterations) j w n wiped lost = absurd lost
+wiped_is (Change slot old new iterations) j w n wiped lost = subst (λ m. IsWiped j m w) (sym lost) wiped
+wiped_is (Remove slot passphrase) j w n wiped lost = subst (λ m. IsWiped j m w) (sym lost) wiped
+wiped_is Repair j w n wiped lost = absurd lost
+wiped_is (Label text) j w n wiped lost = absurd lost
+
+-- so it is zeros
+pub lost_zeros : (laws : VolumeLaws) (v : List ℕ) (payload : Data) (e : Edit) (random w : List ℕ) (n : ℕ) (a : Area) → WellFormed v payload
+    → After2 v payload e random w → Loses e n → AreaOf v payload (name.Slot n) a → part w a.start a.len ≡ replicate a.len 0
+lost_zeros laws v payload e random w n a well after_ lost is =
+    wiped_is e after_.value w n after_.wiped lost a
+    (areas_are laws v payload after_.place (hdr_size (header_at v after_.place)) after_.value
+    (copy_of laws v payload after_.place after_.value after_.metadata well) (name.Slot n) a is)

@@ -10,6 +10,7 @@ mod OpenFacts
 mod OpenedFacts
 mod OpensFacts
 mod PlaceFacts
+mod RefusalFacts
 mod SealFacts
 mod TornFacts
 mod UniqueFacts
