@@ -2,8 +2,12 @@
 #![tactic(auto)]
 
 #[cfg(test)]
+mod edits_of_luks1;
+#[cfg(test)]
 mod formats;
 #[cfg(test)]
 mod formatting;
+#[cfg(test)]
+mod refused_memory;
 #[cfg(test)]
 mod sums;

@@ -1,0 +1,7 @@
+mod NewCopyFacts
+mod RewritingFacts
+mod RowFacts
+mod RenewalFacts
+mod PlainEditFacts
+mod KeyAreaFacts
+mod RemovalFacts

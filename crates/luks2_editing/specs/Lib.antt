@@ -1,0 +1,5 @@
+pub mod NewCopy
+pub mod Rewriting
+pub mod Prepared
+pub mod Replies
+pub mod Lost
