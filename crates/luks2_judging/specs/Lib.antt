@@ -2,3 +2,4 @@ pub mod Header
 pub mod Judged
 pub mod Needed
 pub mod Room
+pub mod Salts
