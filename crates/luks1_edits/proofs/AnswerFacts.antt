@@ -50,7 +50,7 @@ cipher_moves : (h g : List ℕ) (c : AreaCipher) → SameFront h g → IsLuks1Ci
 cipher_moves h g (Apart name mode) same x = (x.0 ∙ text_moves h g same 8 32 (lit≤ tt), x.1 ∙ text_moves h g same 40 32 (lit≤ tt))
 cipher_moves h g (Whole text) same x = absurd x
 
-plan_moves : (h g e : List ℕ) (plan : SlotPlan) → SameFront h g → IsLuks1Plan h e plan → IsLuks1Plan g e plan
+pub plan_moves : (h g e : List ℕ) (plan : SlotPlan) → SameFront h g → IsLuks1Plan h e plan → IsLuks1Plan g e plan
 plan_moves h g e plan same x =
     let key : number_at h 108 4 ≡ number_at g 108 4 = number_moves h g same 108 4 (lit≤ tt) in
     let hash : text_at h 72 32 ≡ text_at g 72 32 = text_moves h g same 72 32 (lit≤ tt) in

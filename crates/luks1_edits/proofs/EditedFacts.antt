@@ -106,7 +106,7 @@ two_named named a b is_a is_b n either = elim either [ inl y ↦ subst named (sy
 least_free_once : (v : List ℕ) (a b : ℕ) → IsLeastFree v a → IsLeastFree v b → a ≡ b
 least_free_once v a b x y = let low = x.least b y.free in let high = y.least a x.free in omega (arith, low, high)
 
-new_once : (v : List ℕ) (to : Option ℕ) (a b : ℕ) → IsNewKeyslot v to a → IsNewKeyslot v to b → a ≡ b
+pub new_once : (v : List ℕ) (to : Option ℕ) (a b : ℕ) → IsNewKeyslot v to a → IsNewKeyslot v to b → a ≡ b
 new_once v (Some t) a b x y = x ∙ sym y
 new_once v None a b x y = least_free_once v a b x y
 

@@ -34,12 +34,17 @@ pub has_keyslot : (v : List ℕ) (payload : Data) (total n : ℕ) → n < 8 → 
 unfolding keyslot_area
 has_keyslot v payload total n lt = (lt, sym (start_is v n lt), sym (len_is v n lt))
 
-header_area : Area
+pub header_area : Area
 header_area = record { start = 0; len = 592 }
 
-has_header : (h : List ℕ) (payload : Data) (total : ℕ) → Luks1Area h payload total Head1 header_area
+pub has_header : (h : List ℕ) (payload : Data) (total : ℕ) → Luks1Area h payload total Head1 header_area
 unfolding header_area
 has_header h payload total = (refl, refl)
+
+-- the header lies inside
+pub header_inside : (h : List ℕ) (payload : Data) (total : ℕ) → IsLuks1Volume h payload total → 592 ≤ total
+unfolding header_area
+header_inside h payload total whole = let inside = whole.fit.inside Head1 header_area (has_header h payload total) in omega (arith, inside)
 
 -- ---- areas that don't meet
 
@@ -71,15 +76,15 @@ module _ (v : List ℕ) (payload : Data) (fit : Fit (Luks1Area (part v 0 592) pa
       fit.disjoint (Slot m) (Segment n) (keyslot_area v m) a (has_keyslot v payload (length v) m lt) has (λ e. cc) p in_area at
 
   -- the places of one keyslot aren't of another
-  entry_apart : (m n p : ℕ) → m < 8 → n < 8 → (m ≡ n → ⊥) → IsAt (entry_place n) 48 p → IsOfKeyslot v m p → ⊥
+  pub entry_apart : (m n p : ℕ) → m < 8 → n < 8 → (m ≡ n → ⊥) → IsAt (entry_place n) 48 p → IsOfKeyslot v m p → ⊥
   entry_apart m n p ltm ltn other at (inl in_entry) = let low = at.0 in let high = at.1 in let from = in_entry.0 in let to = in_entry.1 in omega (arith, other, low, high, from, to)
   entry_apart m n p ltm ltn other at (inr in_area) = let high = at.1 in header_apart m p ltm (omega (arith, high, ltn)) in_area
 
-  area_apart : (m n p : ℕ) → m < 8 → n < 8 → (m ≡ n → ⊥) → IsAt (area_start v n) (area_len v n) p → IsOfKeyslot v m p → ⊥
+  pub area_apart : (m n p : ℕ) → m < 8 → n < 8 → (m ≡ n → ⊥) → IsAt (area_start v n) (area_len v n) p → IsOfKeyslot v m p → ⊥
   area_apart m n p ltm ltn other at (inl in_entry) = let to = in_entry.1 in header_apart n p ltn (omega (arith, to, ltm)) at
   area_apart m n p ltm ltn other at (inr in_area) = areas_apart m n p ltm ltn other in_area at
 
-  common_apart : (m p : ℕ) → m < 8 → p < 208 → IsOfKeyslot v m p → ⊥
+  pub common_apart : (m p : ℕ) → m < 8 → p < 208 → IsOfKeyslot v m p → ⊥
   common_apart m p lt below (inl in_entry) = let from = in_entry.0 in omega (arith, from, below)
   common_apart m p lt below (inr in_area) = header_apart m p lt (omega (arith, below)) in_area
 

@@ -1,6 +1,17 @@
+pub mod AcceptedFacts
 pub mod AnswerFacts
+pub mod ChangeFacts
 pub mod EditedFacts
 pub mod HeaderFacts
 pub mod KeptFacts
+pub mod KeyslotChoice
+pub mod KeyslotPlaces
 pub mod MadeKeyslotFacts
+pub mod MakingFacts
+pub mod NewKeyslotFacts
+pub mod OpenerFacts
 pub mod RefusalFacts
+pub mod RemovalFacts
+pub mod RowFacts
+pub mod SlotSetFacts
+pub mod StepFacts

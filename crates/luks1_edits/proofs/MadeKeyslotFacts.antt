@@ -40,7 +40,7 @@ pub record KeyslotLaws : Type 0 where
   pub found : (plan : SlotPlan) (area passphrase key : List ℕ) → slot_key plan area passphrase ≡ Some key → meets_digest plan.digest key ≡ true
 
 -- what two plans share whose headers say the same before the keyslots
-record SameTerms (a b : SlotPlan) : Type 0 where
+pub record SameTerms (a b : SlotPlan) : Type 0 where
   pub argon2 : is_argon2 a.derivation ≡ is_argon2 b.derivation
   pub known : is_known_derivation a.derivation ≡ is_known_derivation b.derivation
   pub cipher : is_open_cipher a.cipher ≡ is_open_cipher b.cipher
@@ -69,7 +69,7 @@ cipher_both h g (Apart n m) (Apart k l) names modes x y =
 cipher_both h g (Apart n m) (Whole t) names modes x y = absurd y
 cipher_both h g (Whole t) b names modes x y = absurd x
 
-same_terms : (h g e f : List ℕ) (a b : SlotPlan) → SameFront h g → IsLuks1Plan h e a → IsLuks1Plan g f b → SameTerms a b
+pub same_terms : (h g e f : List ℕ) (a b : SlotPlan) → SameFront h g → IsLuks1Plan h e a → IsLuks1Plan g f b → SameTerms a b
 same_terms h g e f a b same x y =
     let hash : text_at h 72 32 ≡ text_at g 72 32 = text_moves h g same 72 32 (lit≤ tt) in
     let key : number_at h 108 4 ≡ number_at g 108 4 = number_moves h g same 108 4 (lit≤ tt) in
@@ -85,7 +85,7 @@ same_terms h g e f a b same x y =
       digest_stored = x.digest.stored ∙ same.parts 112 20 (lit≤ tt) ∙ sym y.digest.stored;
     }
 
-same_refusal : (a b : SlotPlan) → SameTerms a b → slot_refusal a ≡ slot_refusal b
+pub same_refusal : (a b : SlotPlan) → SameTerms a b → slot_refusal a ≡ slot_refusal b
 same_refusal a b s = simp (s.argon2, s.known, s.cipher, s.area_key_bytes, s.splitter_hash, s.digest_hash)
 
 same_digest : (a b : SlotPlan) (key : List ℕ) → SameTerms a b → meets_digest a.digest key ≡ meets_digest b.digest key

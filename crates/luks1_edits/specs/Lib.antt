@@ -1,5 +1,9 @@
+pub mod Accepted
 pub mod Edited
 pub mod Kept
 pub mod Leftovers
+pub mod Needed
 pub mod Places
 pub mod Refused
+pub mod Replies
+pub mod Steps

@@ -1,6 +1,6 @@
 -- When an edit of a LUKS1 volume is refused, and how many random bytes it takes. The order of the
 -- faults is that of every edit; some of them LUKS1 doesn't have.
-use Rattle.std.specs.Prelude.{◌≡◌, ◌≢◌, ℕ, ◌+◌, ◌-◌, ◌*◌, ◌<◌, List, length, Some, None, ⊤}
+use Rattle.std.specs.Prelude.{◌≡◌, ◌≢◌, ℕ, ◌+◌, ◌-◌, ◌*◌, ◌<◌, List, length, Option, Some, None, ⊤}
 use Rattle.luks_area.specs.First.{IsLeast}
 use Rattle.luks_head.specs.Header1.{entry, entry_stripes, key_bytes_of}
 use Rattle.luks_reading.specs.declared.report.Data.{Data}
@@ -23,20 +23,26 @@ pub record IsAbsent (v : List ℕ) (e : Edit) : Type 0 where
 
 -- ---- the keyslot that the edit makes
 
--- it is in use
+-- the keyslot that is asked for is in use
+abbrev pub IsTakenFor : List ℕ → Option ℕ → Type 0
+IsTakenFor v (Some t) = IsInUse v t
+IsTakenFor v None = ⊥
+
+-- there is no keyslot of that number, or none is free
+abbrev pub LacksFree : List ℕ → Option ℕ → Type 0
+LacksFree v (Some t) = 7 < t
+LacksFree v None = (n : ℕ) → IsFree v n → ⊥
+
 abbrev pub IsTaken : List ℕ → Edit → Type 0
-IsTaken v (Add by_ old new (Some t) iterations) = IsInUse v t
-IsTaken v (Add by_ old new None iterations) = ⊥
+IsTaken v (Add by_ old new to iterations) = IsTakenFor v to
 IsTaken v (Change slot old new iterations) = ⊥
 IsTaken v (Remove slot passphrase) = ⊥
 IsTaken v Repair = ⊥
 IsTaken v (Label text) = ⊥
 
--- there is none of that number, or none is free
 abbrev pub HasNoFree : List ℕ → Edit → Type 0
-HasNoFree v (Add by_ old new (Some t) iterations) = 7 < t
-HasNoFree v (Add by_ old new None iterations) = (n : ℕ) → IsFree v n → ⊥
-HasNoFree v (Change slot old new iterations) = (n : ℕ) → IsFree v n → ⊥
+HasNoFree v (Add by_ old new to iterations) = LacksFree v to
+HasNoFree v (Change slot old new iterations) = LacksFree v None
 HasNoFree v (Remove slot passphrase) = ⊥
 HasNoFree v Repair = ⊥
 HasNoFree v (Label text) = ⊥

@@ -1,9 +1,22 @@
 //! Edits of LUKS1 volumes.
 #![tactic(auto)]
 
+mod accepted;
+mod adding;
+mod applying;
+mod changing;
+mod freeing;
+mod keyslots;
 mod laws;
+mod making;
+mod needing;
+mod removing;
+mod steps;
+mod unlocking;
 
+pub use applying::apply_luks1;
 pub use laws::{
     luks1_answer_is_local, luks1_edit_keeps_volume, luks1_edit_opens, luks1_edit_refused_once,
     luks1_failing_edit,
 };
+pub use needing::needed_luks1;

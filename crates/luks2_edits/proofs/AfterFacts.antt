@@ -19,6 +19,7 @@ use Rattle.luks_making.specs.Naming.{HasUniqueDigests}
 use Rattle.luks_making.specs.Unchanged.{ChangesSlot, GainsSlot, SaysMembers}
 use Rattle.luks_making.specs.Without.{without_slot}
 use Rattle.luks_reading.specs.declared.report.Data.{Data}
+use Rattle.luks_reading.specs.Answer.{opens, Answer}
 use Rattle.luks_reading.specs.Checked.{WellFormed}
 use Rattle.luks_reading.specs.Layout2.{slot_number}
 use Rattle.luks_edit.specs.declared.edit.Edit.{Edit}
@@ -47,7 +48,7 @@ lost_is_named v Repair n lost = absurd lost
 lost_is_named v (Label text) n lost = absurd lost
 
 -- metadata keeps itself
-same_metadata : (h total : ℕ) (payload : Data) (named : ℕ → Type 0) (j k : Value) → k ≡ j → IsLayout h total payload j → KeepsMetadata h total payload named j k
+pub same_metadata : (h total : ℕ) (payload : Data) (named : ℕ → Type 0) (j k : Value) → k ≡ j → IsLayout h total payload j → KeepsMetadata h total payload named j k
 same_metadata h total payload named j k same old =
     let itself : KeepsMetadata h total payload named j j = record { layout = old; segments = refl; slots = λ m lt free. says_itself j m } in
     subst (KeepsMetadata h total payload named j) (sym same) itself
@@ -151,18 +152,33 @@ module _ (laws : VolumeLaws) (making : MakingLaws) (v : List ℕ) (o h : ℕ) (p
 
 -- ---- the metadata after an edit
 
+-- the keyslot that the edit opens was opened
+abbrev pub WasOpened : List ℕ → Edit → Type 0
+WasOpened v (Add by_ old new to iterations) = (key : List ℕ) × Answer v by_ old.now (opens key)
+WasOpened v (Change slot old new iterations) = (key : List ℕ) × Answer v slot old.now (opens key)
+WasOpened v (Remove slot passphrase) = Unit {0}
+WasOpened v Repair = Unit {0}
+WasOpened v (Label text) = Unit {0}
+
+pub was_opened : (v : List ℕ) (e : Edit) (random : List ℕ) (j : Value) (w : List ℕ) (k : Value) → IsSealedBy v e random j w k → WasOpened v e
+was_opened v (Add by_ old new to iterations) random j w k sealed = (sealed.key, sealed.opened)
+was_opened v (Change slot old new iterations) random j w k sealed = (sealed.key, sealed.opened)
+was_opened v (Remove slot passphrase) random j w k sealed = tt
+was_opened v Repair random j w k sealed = tt
+was_opened v (Label text) random j w k sealed = tt
+
 -- iterations that aren't too few
 enough_turns : (iterations : ℕ) → (iterations < 1000 → ⊥) → 1000 ≤ iterations
 enough_turns iterations few = elim (cases_lt iterations 1000) [ inl lt ↦ absurd (few lt) | inr past ↦ past ]
 
-pub edited_metadata : (laws : VolumeLaws) (making : MakingLaws) (v : List ℕ) (o : ℕ) (payload : Data) (e : Edit) (random w : List ℕ) (j k : Value)
-    → HasMetadata v o j → HasCopy v o (hdr_size (header_at v o)) j → HasRanges v e random → IsUnrefused2 v payload e random → IsSealedBy v e random j w k
+pub edited_metadata : (laws : VolumeLaws) (making : MakingLaws) (v : List ℕ) (o : ℕ) (payload : Data) (e : Edit) (random : List ℕ) (j k : Value)
+    → HasMetadata v o j → HasCopy v o (hdr_size (header_at v o)) j → HasRanges v e random → IsUnrefused2 v payload e random → WasOpened v e
     → IsEdited (hdr_size (header_at v o)) (length v) payload e (keyslot_salt random) j k
     → IsLayout (hdr_size (header_at v o)) (length v) payload j
     → KeepsMetadata (hdr_size (header_at v o)) (length v) payload (NamedKeyslots2 v e) j k
-edited_metadata laws making v o payload (Add by_ old new to iterations) random w j k m before ranges free sealed is layout =
+edited_metadata laws making v o payload (Add by_ old new to iterations) random j k m before ranges free sealed is layout =
     let ready : IsReady v o j by_ iterations random = record {
-      opened = opened_plan laws v o j by_ old.now sealed.key m sealed.opened;
+      opened = opened_plan laws v o j by_ old.now sealed.0 m sealed.1;
       turns = enough_turns iterations (λ few. free.none Iterations few);
       ranged = ranges.iterations;
       small = ranges.size;
@@ -173,9 +189,9 @@ edited_metadata laws making v o payload (Add by_ old new to iterations) random w
     (λ taken. free.none SlotTaken (record { place = o; value = j; metadata = m; is = taken }))
     (λ none. free.none NoFreeSlot (record { place = o; value = j; metadata = m; is = none }))
     is (record { place = o; value = j; metadata = m; is_new = is.is_new })
-edited_metadata laws making v o payload (Change slot old new iterations) random w j k m before ranges free sealed is layout =
+edited_metadata laws making v o payload (Change slot old new iterations) random j k m before ranges free sealed is layout =
     let ready : IsReady v o j slot iterations random = record {
-      opened = opened_plan laws v o j slot old.now sealed.key m sealed.opened;
+      opened = opened_plan laws v o j slot old.now sealed.0 m sealed.1;
       turns = enough_turns iterations (λ few. free.none Iterations few);
       ranged = ranges.iterations;
       small = ranges.size;
@@ -183,11 +199,11 @@ edited_metadata laws making v o payload (Change slot old new iterations) random 
       met = λ need like other. free.none RandomLength (record { place = o; value = j; metadata = m; is = record { need = need; is = like; other = other } });
     } in
     changed_metadata laws making v o (hdr_size (header_at v o)) payload random j k before layout slot iterations ready (λ n. n ≡ slot) is refl
-edited_metadata laws making v o payload (Remove slot passphrase) random w j k m before ranges free sealed is layout =
+edited_metadata laws making v o payload (Remove slot passphrase) random j k m before ranges free sealed is layout =
     without_metadata making (hdr_size (header_at v o)) (length v) payload (λ n. n ≡ slot) slot j k refl is layout
-edited_metadata laws making v o payload Repair random w j k m before ranges free sealed is layout =
+edited_metadata laws making v o payload Repair random j k m before ranges free sealed is layout =
     same_metadata (hdr_size (header_at v o)) (length v) payload (λ n. ⊥) j k is layout
-edited_metadata laws making v o payload (Label text) random w j k m before ranges free sealed is layout =
+edited_metadata laws making v o payload (Label text) random j k m before ranges free sealed is layout =
     same_metadata (hdr_size (header_at v o)) (length v) payload (λ n. ⊥) j k is layout
 
 module _
@@ -220,6 +236,6 @@ module _
     after_keeps =
         let h : ℕ = hdr_size (header_at v a.place) in
         all_kept laws v w payload a.place 0 h a.value a.new (NamedKeyslots2 v e) before after a.rest.length_same a.first.renewed.uuid layout
-        (edited_metadata laws making v a.place payload e random w a.value a.new a.metadata before ranges free a.sealed a.edited layout)
+        (edited_metadata laws making v a.place payload e random a.value a.new a.metadata before ranges free (was_opened v e random a.value w a.new a.sealed) a.edited layout)
         (λ n b x. left_bytes v w h (length v) payload a.value e layout.fit a.rest (name.Segment n) b tt x)
         (λ m unnamed b x. left_bytes v w h (length v) payload a.value e layout.fit a.rest (name.Slot m) b (λ lost. unnamed (lost_is_named v e m lost)) x)

@@ -126,7 +126,7 @@ module _
     allowed_place : (q : ℕ) (a : IsAllowed v payload e random w q) → a.place ≡ stray.place
     allowed_place q a = one_place laws v stray.place a.place stray.copies a.metadata.copies stray.chosen a.metadata.chosen
 
-    first_size_left : IsSound w 0 → hdr_size (header_at w 0) ≡ half
+    pub first_size_left : IsSound w 0 → hdr_size (header_at w 0) ≡ half
     first_size_left sound = elim (stray.known 0 (inl refl) sound) [
       | inl same ↦ ap (λ b. hdr_size b) (same_header laws v w long 0 same sound)
           ∙ first_size laws v stray.place stray.copies stray.chosen (was_sound laws v w long 0 same sound)
@@ -171,7 +171,7 @@ module _
       old_number = ap (λ b. seqid b) (same_header laws v w long stray.place was old_sound)
 
       -- the other one doesn't count as it was
-      not_other : (p : ℕ) (b : Copies) → Chosen w (luks2 p b) → copy_at w p ≡ copy_at v p
+      pub not_other : (p : ℕ) (b : Copies) → Chosen w (luks2 p b) → copy_at w p ≡ copy_at v p
           → (stray.place ≡ 0) × (p ≡ half) × ((p ≡ 0) → ⊥) ⊎ ((stray.place ≡ half) × (p ≡ 0) × ((stray.place ≡ 0) → ⊥)) → ⊥
       not_other p b c same (inl x) =
           let sound : IsSound w p = laws.sound w p b c in

@@ -8,5 +8,6 @@ mod LowerLaws
 mod MetadataFacts
 mod PlaceFacts
 mod SealFacts
+mod TornFacts
 mod UniqueFacts
 mod VolumeFacts

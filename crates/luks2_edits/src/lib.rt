@@ -5,4 +5,4 @@ mod gap;
 mod laws;
 
 pub use gap::least_gap;
-pub use laws::{alike_slots_answer_alike, luks2_edit_keeps_volume};
+pub use laws::{alike_slots_answer_alike, luks2_edit_keeps_volume, luks2_failing_edit};

@@ -12,7 +12,7 @@ mod metadata;
 mod new_uuid;
 mod plan;
 mod random;
-mod steps;
+mod sealing;
 
 pub use format::{Format, FormatFault};
 pub use laws::{formatted1_opens, formatted2_opens};

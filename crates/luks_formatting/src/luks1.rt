@@ -18,12 +18,13 @@ use crate::laws::formatted1_opens;
 use crate::luks1_header::{SLOT_SALT, new_header};
 use crate::plan::new_plan;
 use crate::random::{KEY, KEY_BYTES, RANDOM_STRIPES, SALT_BYTES, taken};
-use crate::steps::{seal_area, write_range};
+use crate::sealing::seal_key;
 use luks_area::{Area, Device, DeviceFault};
 use luks_edit::Done;
 use luks_head::Luks1;
 use luks_reading::Data;
 use luks_slot::{AreaCipher, SlotPlan};
+use luks_steps::write_range;
 
 /// How many random bytes `format1` takes.
 pub const FORMAT1_RANDOM: u64 = 256080;
@@ -103,7 +104,7 @@ fn write_volume<D: Device>(
     let plan = slot_plan(&header, format);
     let key = taken(random, KEY, KEY_BYTES);
     let stripes = taken(random, SLOT_SALT + SALT_BYTES, RANDOM_STRIPES);
-    seal_area(device, &plan, passphrase, key, stripes)?;
+    seal_key(device, &plan, passphrase, key, stripes)?;
     write_range(device, 0, &header.write())?;
     Ok(())
 }

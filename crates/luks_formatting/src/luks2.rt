@@ -22,7 +22,7 @@ use crate::luks2_header::{COPY_SIZE, FIRST_SALT, SECOND_SALT, SLOT_SALT, write_c
 use crate::metadata::new_area;
 use crate::plan::{new_plan, put_key_digest};
 use crate::random::{DIGEST_SALT, KEY, KEY_BYTES, RANDOM_STRIPES, SALT_BYTES, taken, taken_array};
-use crate::steps::seal_area;
+use crate::sealing::seal_key;
 use luks_area::{Area, Device, DeviceFault};
 use luks_edit::Done;
 use luks_reading::Data;
@@ -135,7 +135,7 @@ fn write_volume<D: Device>(
     let plan = slot_plan(format, random, digest);
     let key = taken(random, KEY, KEY_BYTES);
     let stripes = taken(random, SLOT_SALT + SALT_BYTES, RANDOM_STRIPES);
-    seal_area(device, &plan, passphrase, key, stripes)?;
+    seal_key(device, &plan, passphrase, key, stripes)?;
     write_copy(
         device,
         COPY_SIZE,

@@ -62,6 +62,15 @@ fn formed(alloc: Global) -> Result<Meta, AllocError> {
     Meta::formatted(alloc, &volume)
 }
 
+/// The text that stands in the area that is written; none where it isn't the metadata's.
+fn text_in_area(alloc: Global, meta: &Meta) -> Result<Option<String>, AllocError> {
+    let text = meta.text(alloc)?;
+    match meta.area(alloc)? {
+        Some(area) if area.as_slice().starts_with(text.as_bytes()) => Ok(Some(text)),
+        _ => Ok(None),
+    }
+}
+
 /// The text that the work gives of this metadata, or of this area; none where it can't be asked for.
 fn text_after(
     alloc: Global,
@@ -77,7 +86,7 @@ fn text_after(
         Work::Make(maker) => made(alloc, meta, maker),
     };
     match after {
-        Ok(Some(after)) => after.text(alloc).map(Some).map_err(|_| MetaFault::Memory),
+        Ok(Some(after)) => text_in_area(alloc, &after).map_err(|_| MetaFault::Memory),
         Ok(None) => Ok(None),
         Err(_) => Err(MetaFault::Memory),
     }

@@ -14,7 +14,7 @@ returns-clause-well_formed c payload format passphrase random old new some large
       in_step = c.written_copies_are_chosen.ensures.in_step;
       uuid = c.luks2_without_faults.ensures.uuid;
       metadata = c.metadata_without_faults.ensures;
-      held = c.new_volume_is_accepted.ensures;
+      held = c.new_volume_is_accepted.ensures.held;
       one = c.one_value.ensures;
     })
     x
@@ -32,7 +32,7 @@ returns-clause-opens c payload format passphrase random old new some large count
       in_step = c.written_copies_are_chosen.ensures.in_step;
       uuid = c.luks2_without_faults.ensures.uuid;
       metadata = c.metadata_without_faults.ensures;
-      held = c.new_volume_is_accepted.ensures;
+      held = c.new_volume_is_accepted.ensures.held;
       one = c.one_value.ensures;
     })
     x c.sealed_area_opens.ensures

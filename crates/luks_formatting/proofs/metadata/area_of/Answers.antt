@@ -18,7 +18,7 @@ written_area-requires c =
     sym (ap (λ (m : VolumeMembers). length m.digest) members) ∙ c.requires.digest_length in
     let can : CanFormat (volume_members c.args.volume.now) =
     subst CanFormat (sym members) (can_format c.args.data_ c.args.format.now c.args.random.now c.requires.iterations c.requires.long digest) in
-    subst (λ (d : Data). IsHeld 12288 d) (sym c.in_ok-value.ensures) (c.new_volume_is_accepted.ensures (volume_members c.args.volume.now) c.volume_fits.ensures can)
+    subst (λ (d : Data). IsHeld 12288 d) (sym c.in_ok-value.ensures) (c.new_volume_is_accepted.ensures.held (volume_members c.args.volume.now) c.volume_fits.ensures can)
 
 short_text : (n m : ℕ) → 12288 ≤ n → n ≡ m → m < 12288 → ⊥
 short_text n m full is short = absurd (omega (arith, full, is, short))

@@ -1,0 +1,124 @@
+-- The header of a LUKS1 volume that was accepted, and what is judged by it.
+use Rattle.std.specs.Prelude.{◌≡◌, ◌≢◌, ℕ, ◌<◌, ◌≤◌, List, length, Option, ⊤}
+use Rattle.luks_area.specs.First.{IsLeast}
+use Rattle.luks_area.specs.Ranges.{part}
+use Rattle.luks_head.specs.Header1.{luks1_size, IsLuks1}
+use Rattle.luks_head.specs.Selection.{luks1, Chosen}
+use Rattle.luks_head.specs.declared.luks1.Luks1.{Luks1}
+use Rattle.luks_area.specs.declared.area.AreaFault.TheVariants as areas
+use Rattle.luks_area.specs.declared.area.AreaName.TheVariants as area_name
+use Rattle.luks_slot.specs.declared.fault.SlotFault.{SlotFault}
+use Rattle.luks_reading.specs.declared.check_fault.CheckFault.TheVariants as checking
+use Rattle.luks_reading.specs.declared.open_fault.OpenFault.{OpenFault}
+use Rattle.luks_reading.specs.declared.open_fault.OpenFault.TheVariants as opening
+use Rattle.luks_reading.specs.declared.report.Data.{Data}
+use Rattle.luks_reading.specs.Answer.{Answer, no_key, opens, refused}
+use Rattle.luks_reading.specs.Checked.{check_key, IsLuks1Fault, IsLuks1Volume, WellFormed}
+use Rattle.luks_edit.specs.declared.edit_fault.EditFault.{EditFault}
+use Rattle.luks_edit.specs.declared.edit_fault.EditFault.TheVariants as fault
+use Rattle.luks1_edits.specs.declared.accepted.AcceptedHeader.{AcceptedHeader}
+use Rattle.luks1_edits.specs.Edited.{IsFree, IsInUse, IsNewKeyslot}
+use Rattle.luks1_edits.specs.Refused.{IsTakenFor, keyslot_need, LacksFree, NeedsFor}
+
+-- `h` and `d` are the bytes and the fields of the header of a well formed volume of `total` bytes
+pub record IsAccepted (h : List ℕ) (d : Luks1) (payload : Data) (total : ℕ) : Type 0 where
+  pub size : length h ≡ luks1_size
+  pub fields : IsLuks1 h d
+  pub volume : IsLuks1Volume h payload total
+
+abbrev pub IsAcceptedAt : AcceptedHeader → ℕ → Type 0
+IsAcceptedAt a total = IsAccepted a.bytes.now a.fields a.data_ total
+
+-- `h` is the header of the well formed LUKS1 volume `v`
+pub record IsHeaderOf (h : List ℕ) (payload : Data) (v : List ℕ) : Type 0 where
+  pub chosen : Chosen v luks1
+  pub begins : h ≡ part v 0 luks1_size
+  pub well : WellFormed v payload
+
+-- the volume isn't accepted, by the first fault of its header `h`
+abbrev pub IsUnaccepted : List ℕ → Data → ℕ → EditFault → Type 0
+IsUnaccepted h payload total (fault.NotAccepted f) = IsLeast check_key (IsLuks1Fault h payload total) f
+IsUnaccepted h payload total f = ⊥
+
+-- ---- the keyslot that an edit opens
+
+pub record IsOpenedBy (v : List ℕ) (n : ℕ) (passphrase key : List ℕ) : Type 0 where
+  pub used : IsInUse v n
+  pub opened : Answer v n passphrase (opens key)
+  pub unlocked : Answer v n passphrase no_key → ⊥
+  pub unshut : (f : SlotFault) → Answer v n passphrase (refused (opening.Slot f)) → ⊥
+
+pub record IsLockedBy (v : List ℕ) (n : ℕ) (passphrase : List ℕ) : Type 0 where
+  pub used : IsInUse v n
+  pub answer : Answer v n passphrase no_key
+
+pub record IsShutBy (v : List ℕ) (n : ℕ) (passphrase : List ℕ) (f : SlotFault) : Type 0 where
+  pub used : IsInUse v n
+  pub unlocked : Answer v n passphrase no_key → ⊥
+  pub answer : Answer v n passphrase (refused (opening.Slot f))
+
+-- why the keyslot doesn't open by the passphrase, unless the device failed
+abbrev pub IsUnopened : List ℕ → ℕ → List ℕ → EditFault → Type 0
+IsUnopened v n passphrase fault.NoSuchSlot = IsInUse v n → ⊥
+IsUnopened v n passphrase fault.Locked = IsLockedBy v n passphrase
+IsUnopened v n passphrase (fault.Slot f) = IsShutBy v n passphrase f
+IsUnopened v n passphrase fault.Device = ⊤
+IsUnopened v n passphrase f = ⊥
+
+-- the fault of opening the keyslot `n` as that of an edit; of a keyslot in use of an accepted volume
+-- it is that of its plan, or the device's
+abbrev pub unopened : ℕ → OpenFault → EditFault
+unopened n (opening.Head f) = fault.NotAccepted (checking.Head f)
+unopened n (opening.Meta f) = fault.NotAccepted (checking.Meta f)
+unopened n opening.NoSuchSlot = fault.NoSuchSlot
+unopened n opening.SlotFree = fault.NoSuchSlot
+unopened n opening.Outside = fault.NotAccepted (checking.Area (areas.Outside (area_name.Slot n)))
+unopened n (opening.Slot f) = fault.Slot f
+unopened n opening.Device = fault.Device
+unopened n opening.Memory = fault.Memory
+
+-- ---- the keyslots in use
+
+-- a keyslot other than `n` is in use
+pub record HasOther (v : List ℕ) (n : ℕ) : Type 0 where
+  pub keyslot : ℕ
+  pub other : keyslot ≢ n
+  pub used : IsInUse v keyslot
+
+-- ---- the keyslot that an edit makes
+
+pub record IsNewFree (v : List ℕ) (to : Option ℕ) (n : ℕ) : Type 0 where
+  pub is_new : IsNewKeyslot v to n
+  pub free : IsFree v n
+
+-- why none can be made
+abbrev pub IsNewFault : List ℕ → Option ℕ → EditFault → Type 0
+IsNewFault v to fault.SlotTaken = IsTakenFor v to
+IsNewFault v to fault.NoFreeSlot = LacksFree v to
+IsNewFault v to f = ⊥
+
+-- the random bytes aren't those of the new keyslot, but its iterations are enough
+pub record IsMiscountedNew (v : List ℕ) (n iterations : ℕ) (random : List ℕ) : Type 0 where
+  pub many : 1000 ≤ iterations
+  pub other : length random ≢ keyslot_need v n
+
+abbrev pub IsNewRefused : List ℕ → ℕ → ℕ → List ℕ → EditFault → Type 0
+IsNewRefused v n iterations random fault.Iterations = iterations < 1000
+IsNewRefused v n iterations random fault.RandomLength = IsMiscountedNew v n iterations random
+IsNewRefused v n iterations random f = ⊥
+
+-- ---- the random bytes that an edit asks for
+
+-- a new keyslot takes `k` random bytes, and the one to open is in use
+pub record IsNewNeed (v : List ℕ) (opener : ℕ) (to : Option ℕ) (k : ℕ) : Type 0 where
+  pub used : IsInUse v opener
+  pub need : NeedsFor v (IsNewKeyslot v to) k
+
+pub record IsNewFaultOfUsed (v : List ℕ) (opener : ℕ) (to : Option ℕ) (f : EditFault) : Type 0 where
+  pub used : IsInUse v opener
+  pub is : IsNewFault v to f
+
+-- why it isn't made
+abbrev pub IsNewNeedFault : List ℕ → ℕ → Option ℕ → EditFault → Type 0
+IsNewNeedFault v opener to fault.NoSuchSlot = IsInUse v opener → ⊥
+IsNewNeedFault v opener to f = IsNewFaultOfUsed v opener to f

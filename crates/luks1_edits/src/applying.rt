@@ -1,0 +1,81 @@
+//! Edits of LUKS1 volumes.
+ghost use Rattle.std.specs.Prelude.{◌≡◌, ◌≢◌, ◌+◌, ◌^◌, ◌<◌, length, IfErr, MatchResult, None};
+ghost use Rattle.luks_area.specs.Device.{CountsFailure};
+ghost use Rattle.luks_edit.specs.EditFaults.{is_edit_failure};
+ghost use Rattle.luks_reading.specs.Header.{IsHeader};
+ghost use Rattle.luks_reading.specs.declared.header.Header.TheVariants.{Luks1 as OfLuks1};
+ghost use Rattle.luks1_edits.specs.Replies.{Replies1};
+
+use crate::accepted::accepted_header;
+use crate::adding::add;
+use crate::changing::change;
+use crate::removing::remove;
+use luks_area::Device;
+use luks_edit::{Done, Edit, EditFault};
+use luks_head::one_choice;
+use luks_reading::{Data, no_fault_is_well_formed};
+use std::alloc::Global;
+
+/// Applies the edit to the LUKS1 volume whose header has these 592 bytes, with as many random bytes
+/// as `needed_luks1` tells: the new keyslot's salt, then its stripes but the last.
+///
+/// The first refusal is answered, and then no byte changes. What is written is written in this order,
+/// each range with a flush: the area of a new keyslot, its entry, the entry of a keyslot that is
+/// removed, its area. `Device` comes exactly where a device call failed. No memory is taken.
+pub fn apply_luks1<D: Device>(
+    alloc: Global,
+    device: &mut D,
+    header: &[u8; 592],
+    data_: Data,
+    edit: &Edit<'_>,
+    random: &[u8],
+) -> Result<Done, EditFault>
+    requires { D.failed device.old + 1 < 2 ^ 64 }
+    ensures size { D.size device.new ≡ D.size device.old }
+    ensures count { CountsFailure is_edit_failure result
+        (D.failed device.old) (D.failed device.new) }
+    ensures memory { IfErr result (λ f. f ≢ EditFault.Memory) }
+    ensures replies { D.tells → IsHeader (D.bytes device.old) (OfLuks1 header.now)
+        → Replies1 data_ (D.bytes device.old) edit.now random.now result (D.bytes device.new) }
+{
+    one_choice();
+    no_fault_is_well_formed();
+    let header = match accepted_header(header, data_, device.len()) {
+        Ok(header) => header,
+        Err(fault) => return Err(fault),
+    };
+    match *edit {
+        Edit::Add {
+            by_,
+            old,
+            new,
+            to,
+            iterations,
+        } => add(
+            alloc, device, &header, by_, old, new, to, iterations, random,
+        ),
+        Edit::Change {
+            slot,
+            old,
+            new,
+            iterations,
+        } => change(alloc, device, &header, slot, old, new, iterations, random),
+        Edit::Remove { slot, passphrase } => {
+            remove(alloc, device, &header, slot, passphrase, random)
+        }
+        Edit::Repair => repair(random),
+        Edit::Label { text: _ } => Err(EditFault::BadLabel),
+    }
+}
+
+/// There is nothing to repair: LUKS1 has one header.
+fn repair(random: &[u8]) -> Result<Done, EditFault>
+    ensures { MatchResult result
+        (λ done. (length random.now ≡ 0) × (done.slot ≡ None))
+        (λ f. (length random.now ≢ 0) × (f ≡ EditFault.RandomLength)) }
+{
+    if random.len() != 0 {
+        return Err(EditFault::RandomLength);
+    }
+    Ok(Done { slot: None })
+}

@@ -1,0 +1,57 @@
+//! Changing the passphrase of a keyslot of a LUKS1 volume.
+ghost use Rattle.std.specs.Prelude.{◌≡◌, ◌≢◌, ◌+◌, ◌^◌, ◌<◌, IfErr};
+ghost use Rattle.luks_area.specs.Device.{CountsFailure};
+ghost use Rattle.luks_edit.specs.EditFaults.{is_edit_failure};
+ghost use Rattle.luks_edit.specs.declared.edit.Edit.TheVariants.{Change};
+ghost use Rattle.luks1_edits.specs.Accepted.{IsAcceptedAt, IsHeaderOf};
+ghost use Rattle.luks1_edits.specs.Replies.{Replies1};
+
+use crate::accepted::AcceptedHeader;
+use crate::freeing::free_keyslot;
+use crate::keyslots::{judge_new, new_keyslot};
+use crate::making::make_keyslot;
+use crate::unlocking::unlock;
+use luks_area::Device;
+use luks_edit::{Done, EditFault};
+use luks_head::{luks1_is_first_bytes, luks1_without_faults, one_choice};
+use luks_reading::{luks1_area, no_fault_is_well_formed};
+use std::alloc::Global;
+
+/// Makes the least free keyslot, in which the new passphrase opens the key that the old one opens in
+/// the keyslot `slot`, and then removes that one.
+pub(crate) fn change<D: Device>(
+    alloc: Global,
+    device: &mut D,
+    header: &AcceptedHeader<'_>,
+    slot: u8,
+    old: &[u8],
+    new: &[u8],
+    iterations: u32,
+    random: &[u8],
+) -> Result<Done, EditFault>
+    requires room { D.failed device.old + 1 < 2 ^ 64 }
+    requires accepted { IsAcceptedAt header.now (D.size device.old) }
+    ensures size { D.size device.new ≡ D.size device.old }
+    ensures count { CountsFailure is_edit_failure result
+        (D.failed device.old) (D.failed device.new) }
+    ensures memory { IfErr result (λ f. f ≢ EditFault.Memory) }
+    ensures replies { D.tells
+        → IsHeaderOf header.now.bytes.now header.now.data_ (D.bytes device.old)
+        → Replies1 header.now.data_ (D.bytes device.old)
+        (Change slot old.entry new.entry iterations) random.now result (D.bytes device.new) }
+{
+    one_choice();
+    luks1_is_first_bytes();
+    luks1_without_faults();
+    no_fault_is_well_formed();
+    let key = unlock(alloc, device, header, slot, old)?;
+    let n = new_keyslot(&header.fields, None)?;
+    judge_new(&header.fields, n, iterations, random)?;
+    make_keyslot(device, header, n, new, &key, iterations, random)?;
+    let found = &header.fields.slots[slot as usize];
+    let area = luks1_area(header.fields.common.key_bytes, found);
+    match free_keyslot(device, &header.fields, slot, found, area) {
+        Ok(()) => Ok(Done { slot: Some(n) }),
+        Err(_) => Err(EditFault::Device),
+    }
+}

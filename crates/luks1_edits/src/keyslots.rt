@@ -1,0 +1,117 @@
+//! Which keyslots of a LUKS1 header are in use, and which is free.
+ghost use Rattle.std.specs.Prelude.{◌≡◌, ◌≢◌, ◌<◌, ◌≤◌, ℕ, List, false, length, IfErr, IfOk, IfSome, IsTrue, MatchOption, MatchResult, OnOk};
+ghost use Rattle.luks_head.specs.Header1.{key_bytes_of, HoldsSlots};
+ghost use Rattle.luks_edit.specs.EditFaults.{is_edit_failure};
+ghost use Rattle.luks1_edits.specs.Accepted.{HasOther, IsNewFault, IsNewFree, IsNewRefused};
+ghost use Rattle.luks1_edits.specs.Edited.{IsFree, IsInUse, IsLeastFree};
+ghost use Rattle.luks1_edits.specs.Refused.{keyslot_need};
+
+use luks_edit::EditFault;
+use luks_head::{Luks1, SlotState};
+
+/// Whether the keyslot is in use.
+pub(crate) fn is_used(header: &Luks1, n: u8) -> bool
+    requires { n < 8 }
+    ensures used { IsTrue result
+        → (v : List ℕ) → HoldsSlots v header.now.slots → IsInUse v n }
+    ensures free { result ≡ false
+        → (v : List ℕ) → HoldsSlots v header.now.slots → IsFree v n }
+{
+    match header.slots[n as usize].state {
+        SlotState::Enabled => true,
+        SlotState::Disabled => false,
+    }
+}
+
+/// Whether no keyslot but `n` is in use.
+pub(crate) fn is_last(header: &Luks1, n: u8) -> bool
+    ensures last { IsTrue result → (v : List ℕ) → HoldsSlots v header.now.slots
+        → (m : ℕ) → IsInUse v m → m ≡ n }
+    ensures other { result ≡ false
+        → (v : List ℕ) → HoldsSlots v header.now.slots → HasOther v n }
+{
+    for m in 0..8 {
+        if m != n && is_used(header, m) {
+            return false;
+        }
+    }
+    true
+}
+
+/// The least keyslot that is free.
+pub(crate) fn least_free(header: &Luks1) -> Option<u8>
+    ensures numbered { IfSome result (λ n. n < 8) }
+    ensures least { (v : List ℕ) → HoldsSlots v header.now.slots
+        → MatchOption result ((n : ℕ) → IsFree v n → ⊥) (IsLeastFree v) }
+{
+    for n in 0..8 {
+        if !is_used(header, n) {
+            return Some(n);
+        }
+    }
+    None
+}
+
+/// The keyslot to make: `to`, or else the least that is free. Refused by `SlotTaken`, `NoFreeSlot`.
+pub(crate) fn new_keyslot(header: &Luks1, to: Option<u8>) -> Result<u8, EditFault>
+    ensures numbered { IfOk result (λ n. n < 8) }
+    ensures own { IfErr result (λ f. is_edit_failure f ≡ false) }
+    ensures memory { IfErr result (λ f. f ≢ EditFault.Memory) }
+    ensures new { (v : List ℕ) → HoldsSlots v header.now.slots
+        → MatchResult result (IsNewFree v to) (IsNewFault v to) }
+{
+    match to {
+        Some(n) => {
+            if n > 7 {
+                return Err(EditFault::NoFreeSlot);
+            }
+            if is_used(header, n) {
+                return Err(EditFault::SlotTaken);
+            }
+            Ok(n)
+        }
+        None => match least_free(header) {
+            Some(n) => Ok(n),
+            None => Err(EditFault::NoFreeSlot),
+        },
+    }
+}
+
+/// How many random bytes a new keyslot takes: its salt, and its stripes but the last.
+pub(crate) fn keyslot_need(header: &Luks1, n: u8) -> u64
+    requires { n < 8 }
+    ensures { (v : List ℕ) → HoldsSlots v header.now.slots
+        → key_bytes_of v ≡ header.now.common.key_bytes → result ≡ keyslot_need v n }
+{
+    let stripes = header.slots[n as usize].stripes;
+    let random = u64::from(stripes.saturating_sub(1)) * u64::from(header.common.key_bytes);
+    32 + random
+}
+
+/// Whether the keyslot `n` may be made with these iterations and random bytes. Refused by
+/// `Iterations`, `RandomLength`.
+pub(crate) fn judge_new(
+    header: &Luks1,
+    n: u8,
+    iterations: u32,
+    random: &[u8],
+) -> Result<(), EditFault>
+    requires { n < 8 }
+    ensures own { IfErr result (λ f. is_edit_failure f ≡ false) }
+    ensures memory { IfErr result (λ f. f ≢ EditFault.Memory) }
+    ensures many { OnOk result (1000 ≤ iterations) }
+    ensures counted { (v : List ℕ) → HoldsSlots v header.now.slots
+        → key_bytes_of v ≡ header.now.common.key_bytes
+        → OnOk result (length random.now ≡ keyslot_need v n) }
+    ensures refused { (v : List ℕ) → HoldsSlots v header.now.slots
+        → key_bytes_of v ≡ header.now.common.key_bytes
+        → IfErr result (IsNewRefused v n iterations random.now) }
+{
+    if iterations < 1000 {
+        return Err(EditFault::Iterations);
+    }
+    if random.len() as u64 != keyslot_need(header, n) {
+        return Err(EditFault::RandomLength);
+    }
+    Ok(())
+}

@@ -1,0 +1,115 @@
+//! Making a keyslot of a LUKS1 volume.
+ghost use Rattle.std.specs.Prelude.{◌≡◌, ◌+◌, ◌^◌, ◌<◌, ◌≤◌, ℕ, List, drop, length, take, IfErr, OnOk};
+ghost use Rattle.luks_area.specs.Device.{CountsFailure};
+ghost use Rattle.luks_area.specs.Ranges.{SameBut};
+ghost use Rattle.luks_head.specs.Header1.{entry, key_bytes_of, HoldsEntry, HoldsSlots};
+ghost use Rattle.luks_edit.specs.EditFaults.{is_edit_failure};
+ghost use Rattle.luks1_edits.specs.Accepted.{IsAcceptedAt, IsHeaderOf};
+ghost use Rattle.luks1_edits.specs.Edited.{IsMade};
+ghost use Rattle.luks1_edits.specs.Kept.{IsEither};
+ghost use Rattle.luks1_edits.specs.Places.{IsOfKeyslots};
+ghost use Rattle.luks1_edits.specs.Refused.{keyslot_need};
+ghost use Rattle.luks1_edits.specs.Steps.{unsealed, IsMadeIn, IsUnmade};
+
+use crate::accepted::AcceptedHeader;
+use crate::freeing::entry_bytes;
+use crate::steps::{seal_area, write_entry};
+use luks_area::Device;
+use luks_edit::EditFault;
+use luks_head::{
+    Luks1, Luks1Slot, SlotState, luks1_is_first_bytes, luks1_without_faults, one_choice,
+};
+use luks_reading::luks1_plan;
+use luks_slot::{Key, SlotFault};
+
+/// The salt of a new keyslot: the first 32 of the random bytes.
+fn salt_in(random: &[u8]) -> [u8; 32]
+    requires { 32 ≤ length random.now }
+    ensures { result ≡ take 32 random.now }
+{
+    let mut salt = [0; 32];
+    salt.copy_from_slice(&random[..32]);
+    salt
+}
+
+/// Its stripes but the last: the others of the random bytes.
+fn stripes_in(random: &[u8]) -> &[u8]
+    requires { 32 ≤ length random.now }
+    ensures { result.now ≡ drop 32 random.now }
+{
+    &random[32..]
+}
+
+/// The fault of sealing as that of an edit.
+fn unsealed(fault: SlotFault) -> EditFault
+    ensures { result ≡ unsealed fault }
+{
+    match fault {
+        SlotFault::Device => EditFault::Device,
+        SlotFault::Memory => EditFault::Memory,
+        other => EditFault::Slot(other),
+    }
+}
+
+/// What the keyslot `n` says once it is made: its area and its stripes are as before.
+fn new_slot(header: &Luks1, n: u8, iterations: u32, random: &[u8]) -> Luks1Slot
+    requires numbered { n < 8 }
+    requires random { 32 ≤ length random.now }
+    ensures { (v e : List ℕ) → HoldsSlots v header.now.slots → HoldsEntry e result
+        → IsMade (entry v n) e iterations (take 32 random.now) }
+{
+    let old = header.slots[n as usize];
+    Luks1Slot {
+        state: SlotState::Enabled,
+        iterations,
+        salt: salt_in(random),
+        key_material_offset: old.key_material_offset,
+        stripes: old.stripes,
+    }
+}
+
+/// Makes the keyslot `n`, in which the passphrase opens the key: the key is sealed in its area, and
+/// then its entry is written.
+pub(crate) fn make_keyslot<D: Device>(
+    device: &mut D,
+    header: &AcceptedHeader<'_>,
+    n: u8,
+    passphrase: &[u8],
+    key: &Key,
+    iterations: u32,
+    random: &[u8],
+) -> Result<(), EditFault>
+    requires numbered { n < 8 }
+    requires iterated { 1 ≤ iterations }
+    requires key_length { length key.now ≡ key_bytes_of header.now.bytes.now }
+    requires random_length { length random.now ≡ keyslot_need header.now.bytes.now n }
+    requires accepted { IsAcceptedAt header.now (D.size device.old) }
+    requires room { D.failed device.old + 1 < 2 ^ 64 }
+    ensures size { D.size device.new ≡ D.size device.old }
+    ensures count { CountsFailure is_edit_failure result
+        (D.failed device.old) (D.failed device.new) }
+    ensures fault { IfErr result (IsUnmade header.now.bytes.now) }
+    ensures made { D.tells
+        → IsHeaderOf header.now.bytes.now header.now.data_ (D.bytes device.old)
+        → OnOk result (IsMadeIn (D.bytes device.old) n iterations passphrase.now key.now
+        random.now (D.bytes device.new)) }
+    ensures rest { D.tells
+        → IsHeaderOf header.now.bytes.now header.now.data_ (D.bytes device.old)
+        → SameBut (IsOfKeyslots (D.bytes device.old) (IsEither n n))
+        (D.bytes device.old) (D.bytes device.new) }
+{
+    one_choice();
+    luks1_is_first_bytes();
+    luks1_without_faults();
+    let slot = new_slot(&header.fields, n, iterations, random);
+    let entry = entry_bytes(&header.fields, n, slot);
+    let plan = luks1_plan(&header.fields.common, &slot);
+    match seal_area(device, &plan, passphrase, key, stripes_in(random)) {
+        Ok(()) => {}
+        Err(fault) => return Err(unsealed(fault)),
+    }
+    match write_entry(device, n, &entry) {
+        Ok(()) => Ok(()),
+        Err(_) => Err(EditFault::Device),
+    }
+}

@@ -1,0 +1,89 @@
+//! How many random bytes an edit of a LUKS1 volume takes.
+ghost use Rattle.std.specs.Prelude.{◌≡◌, ◌≢◌, ℕ, List, false, length, IfErr, MatchResult};
+ghost use Rattle.luks_head.specs.Header1.{key_bytes_of, HoldsSlots};
+ghost use Rattle.luks_edit.specs.EditFaults.{is_edit_failure};
+ghost use Rattle.luks_reading.specs.Header.{IsHeader};
+ghost use Rattle.luks_reading.specs.declared.header.Header.TheVariants.{Luks1 as OfLuks1};
+ghost use Rattle.luks1_edits.specs.Accepted.{IsNewNeed, IsNewNeedFault};
+ghost use Rattle.luks1_edits.specs.Edited.{IsInUse};
+ghost use Rattle.luks1_edits.specs.Needed.{TellsNeed1};
+
+use crate::accepted::accepted_header;
+use crate::keyslots::{is_used, keyslot_need, new_keyslot};
+use luks_edit::{Edit, EditFault};
+use luks_head::{Luks1, one_choice};
+use luks_reading::{Data, no_fault_is_well_formed};
+
+/// How many random bytes the edit takes of the LUKS1 volume of `total` bytes whose header has these
+/// 592 bytes, or the first of `NotAccepted`, `NoSuchSlot`, `SlotTaken` and `NoFreeSlot`.
+///
+/// An edit that makes a keyslot takes 32 for its salt, and for each of its stripes but the last as
+/// many as the volume key has; any other edit takes none. No keyslot is opened.
+pub fn needed_luks1(
+    header: &[u8; 592],
+    data_: Data,
+    total: u64,
+    edit: &Edit<'_>,
+) -> Result<u64, EditFault>
+    ensures own { IfErr result (λ f. is_edit_failure f ≡ false) }
+    ensures memory { IfErr result (λ f. f ≢ EditFault.Memory) }
+    ensures tells { (v : List ℕ) → IsHeader v (OfLuks1 header.now) → length v ≡ total
+        → TellsNeed1 data_ v edit.now result }
+{
+    one_choice();
+    no_fault_is_well_formed();
+    let header = match accepted_header(header, data_, total) {
+        Ok(header) => header,
+        Err(fault) => return Err(fault),
+    };
+    match *edit {
+        Edit::Add {
+            by_,
+            old: _,
+            new: _,
+            to,
+            iterations: _,
+        } => new_need(&header.fields, by_, to),
+        Edit::Change {
+            slot,
+            old: _,
+            new: _,
+            iterations: _,
+        } => new_need(&header.fields, slot, None),
+        Edit::Remove {
+            slot,
+            passphrase: _,
+        } => removal_need(&header.fields, slot),
+        Edit::Repair => Ok(0),
+        Edit::Label { text: _ } => Ok(0),
+    }
+}
+
+/// What the new keyslot takes, where the keyslot that the edit opens is in use.
+fn new_need(header: &Luks1, opener: u8, to: Option<u8>) -> Result<u64, EditFault>
+    ensures own { IfErr result (λ f. is_edit_failure f ≡ false) }
+    ensures memory { IfErr result (λ f. f ≢ EditFault.Memory) }
+    ensures need { (v : List ℕ) → HoldsSlots v header.now.slots
+        → key_bytes_of v ≡ header.now.common.key_bytes
+        → MatchResult result (IsNewNeed v opener to) (IsNewNeedFault v opener to) }
+{
+    if opener > 7 || !is_used(header, opener) {
+        return Err(EditFault::NoSuchSlot);
+    }
+    let n = new_keyslot(header, to)?;
+    Ok(keyslot_need(header, n))
+}
+
+/// Nothing, where the keyslot is in use.
+fn removal_need(header: &Luks1, slot: u8) -> Result<u64, EditFault>
+    ensures own { IfErr result (λ f. is_edit_failure f ≡ false) }
+    ensures memory { IfErr result (λ f. f ≢ EditFault.Memory) }
+    ensures need { (v : List ℕ) → HoldsSlots v header.now.slots
+        → MatchResult result (λ k. (k ≡ 0) × IsInUse v slot)
+        (λ f. (f ≡ EditFault.NoSuchSlot) × (IsInUse v slot → ⊥)) }
+{
+    if slot > 7 || !is_used(header, slot) {
+        return Err(EditFault::NoSuchSlot);
+    }
+    Ok(0)
+}

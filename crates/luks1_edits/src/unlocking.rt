@@ -1,0 +1,74 @@
+//! Opening the keyslot that an edit of a LUKS1 volume names.
+ghost use Rattle.std.specs.Prelude.{◌≡◌, ◌≢◌, ◌+◌, ◌^◌, ◌<◌, ℕ, List, length, IfOk, IfErr, OnOk};
+ghost use Rattle.luks_area.specs.Device.{CountsFailure, IsUnchanged};
+ghost use Rattle.luks_head.specs.Header1.{key_bytes_of};
+ghost use Rattle.luks_edit.specs.EditFaults.{is_edit_failure};
+ghost use Rattle.luks1_edits.specs.Accepted.{IsAcceptedAt, IsHeaderOf, IsOpenedBy, IsUnopened, unopened};
+ghost use Rattle.luks1_edits.specs.Edited.{IsInUse};
+
+use crate::accepted::AcceptedHeader;
+use crate::keyslots::is_used;
+use luks_area::{AreaFault, AreaName, Device};
+use luks_edit::EditFault;
+use luks_head::{luks1_is_first_bytes, luks1_without_faults, one_choice};
+use luks_reading::{CheckFault, Header, OpenFault, one_answer, open_header_slot};
+use luks_slot::Key;
+use std::alloc::Global;
+
+/// The fault of opening the keyslot `n` as that of an edit.
+fn unopened(n: u8, fault: OpenFault) -> EditFault
+    ensures { result ≡ unopened n fault }
+{
+    match fault {
+        OpenFault::Head(fault) => EditFault::NotAccepted(CheckFault::Head(fault)),
+        OpenFault::Meta(fault) => EditFault::NotAccepted(CheckFault::Meta(fault)),
+        OpenFault::NoSuchSlot | OpenFault::SlotFree => EditFault::NoSuchSlot,
+        OpenFault::Outside => {
+            EditFault::NotAccepted(CheckFault::Area(AreaFault::Outside(AreaName::Slot(n))))
+        }
+        OpenFault::Slot(fault) => EditFault::Slot(fault),
+        OpenFault::Device => EditFault::Device,
+        OpenFault::Memory => EditFault::Memory,
+    }
+}
+
+/// The key that the keyslot `n` opens to, or why it doesn't open: `NoSuchSlot`, `Locked`, `Slot`, or
+/// the device's failure.
+pub(crate) fn unlock<D: Device>(
+    alloc: Global,
+    device: &mut D,
+    header: &AcceptedHeader<'_>,
+    n: u8,
+    passphrase: &[u8],
+) -> Result<Key, EditFault>
+    requires room { D.failed device.old + 1 < 2 ^ 64 }
+    requires accepted { IsAcceptedAt header.now (D.size device.old) }
+    ensures unchanged { IsUnchanged D.tells D.size D.bytes device.old device.new }
+    ensures count { CountsFailure is_edit_failure result
+        (D.failed device.old) (D.failed device.new) }
+    ensures memory { IfErr result (λ f. f ≢ EditFault.Memory) }
+    ensures numbered { OnOk result (n < 8) }
+    ensures length { IfOk result (λ key. length key ≡ key_bytes_of header.now.bytes.now) }
+    ensures opened { D.tells
+        → IsHeaderOf header.now.bytes.now header.now.data_ (D.bytes device.old)
+        → IfOk result (IsOpenedBy (D.bytes device.old) n passphrase.now) }
+    ensures refused { D.tells
+        → IsHeaderOf header.now.bytes.now header.now.data_ (D.bytes device.old)
+        → IfErr result (IsUnopened (D.bytes device.old) n passphrase.now) }
+{
+    one_choice();
+    luks1_is_first_bytes();
+    luks1_without_faults();
+    one_answer();
+    if n > 7 || !is_used(&header.fields, n) {
+        return Err(EditFault::NoSuchSlot);
+    }
+    let luks1 = Header::Luks1(*header.bytes);
+    match open_header_slot(alloc, device, &luks1, n, passphrase) {
+        Ok(found) => match found {
+            Some(key) => Ok(key),
+            None => Err(EditFault::Locked),
+        },
+        Err(fault) => Err(unopened(n, fault)),
+    }
+}
