@@ -1,6 +1,7 @@
 use crate::helps;
 use crate::request::{Command as Asked, Line, Making, NewVersion};
 use clap::error::ErrorKind;
+use clap::builder::ValueParser;
 use clap::{Arg, ArgAction, ArgMatches, Command, Error};
 use luks_volume::{Data, Format, HashName};
 use std::alloc::{AllocError, Global};
@@ -103,9 +104,9 @@ fn format_command<'a>(alloc: Global) -> Result<Command<'a>, AllocError> {
         .arg(volume_argument(alloc))?
         .arg(passphrase_option(alloc))?
         .arg(random_option(alloc))?
-        .arg(version_option(alloc)?)?
-        .arg(hash_option(alloc)?)?
-        .arg(iterations_option(alloc)?)?
+        .arg(version_option(alloc))?
+        .arg(hash_option(alloc))?
+        .arg(iterations_option(alloc))?
         .arg(detached_option(alloc))
 }
 
@@ -146,25 +147,31 @@ fn random_option<'a>(alloc: Global) -> Arg<'a> {
         .help("The file of the random bytes, as /dev/urandom")
 }
 
-fn version_option<'a>(alloc: Global) -> Result<Arg<'a>, AllocError> {
+/// The versions of LUKS that a volume can be made of.
+const VERSIONS: &[&str] = &["1", "2"];
+
+fn version_option<'a>(alloc: Global) -> Arg<'a> {
     Arg::new(alloc, "version")
         .long("version")
         .value_name("VERSION")
-        .value_parser(clap::value_parser!(["1", "2"].as_slice()))
+        .value_parser(ValueParser::Names(VERSIONS))
         .default_value("2")
         .help("The version of LUKS")
 }
 
-fn hash_option<'a>(alloc: Global) -> Result<Arg<'a>, AllocError> {
+/// The hashes that a volume can be made with.
+const HASHES: &[&str] = &["sha1", "sha256"];
+
+fn hash_option<'a>(alloc: Global) -> Arg<'a> {
     Arg::new(alloc, "hash")
         .long("hash")
         .value_name("HASH")
-        .value_parser(clap::value_parser!(["sha1", "sha256"].as_slice()))
+        .value_parser(ValueParser::Names(HASHES))
         .default_value("sha256")
         .help("The hash of the keyslot and the digest")
 }
 
-fn iterations_option<'a>(alloc: Global) -> Result<Arg<'a>, AllocError> {
+fn iterations_option<'a>(alloc: Global) -> Arg<'a> {
     Arg::new(alloc, "iterations")
         .long("iterations")
         .value_name("N")
