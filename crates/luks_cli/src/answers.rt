@@ -61,7 +61,10 @@ pub(crate) fn write_fault<W: Write, E: Write>(
 ) -> io::Result<Status>
     ensures { IfOk result (λ s. s ≡ Status.Fault) }
 {
-    let _ = writeln!(err, "luks: {volume}: writing failed, part of it may be written");
+    let _ = writeln!(
+        err,
+        "luks: {volume}: writing failed, part of it may be written"
+    );
     writeln!(out, "device fault")?;
     Ok(Status::Fault)
 }

@@ -1,7 +1,7 @@
 use crate::helps;
 use crate::request::{Command as Asked, Line, Making, NewVersion};
-use clap::error::ErrorKind;
 use clap::builder::ValueParser;
+use clap::error::ErrorKind;
 use clap::{Arg, ArgAction, ArgMatches, Command, Error};
 use luks_volume::{Data, Format, HashName};
 use std::alloc::{AllocError, Global};
