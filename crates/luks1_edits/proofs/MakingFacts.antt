@@ -13,7 +13,7 @@ use Rattle.luks_slot.specs.declared.fault.SlotFault.{SlotFault}
 use Rattle.luks_slot.specs.declared.fault.SlotFault.TheVariants as sealing
 use Rattle.luks_slot.specs.declared.plan.SlotPlan.{SlotPlan}
 use Rattle.luks_slot.specs.Fault.{IsAnsweredFault}
-use Rattle.luks_slot.specs.Opening.{area_bytes}
+use Rattle.luks_slot.specs.Opening.{area_bytes, stripe_bytes}
 use Rattle.luks_slot.specs.Sealing.{IsSealed}
 use Rattle.luks_reading.specs.declared.report.Data.{Data}
 use Rattle.luks_reading.specs.Checked.{IsLuks1Volume}
@@ -126,6 +126,11 @@ module _ (h : List ℕ) (n : ℕ) (e : List ℕ) (iterations : ℕ) (salt : List
             sealed = subst (λ b. IsSealed plan b passphrase key (drop 32 random)) (sym (part-same_but plan.area.start plan.area.len second apart)) sealed;
           };
         }
+
+-- the sectors of the stripes are of the area
+pub sealed_rest : (plan : SlotPlan) {v u : List ℕ} → rounded_to_sectors (stripe_bytes plan) ≤ plan.area.len
+    → SameBut (IsAt plan.area.start (rounded_to_sectors (stripe_bytes plan))) v u → SameBut (IsAt plan.area.start plan.area.len) v u
+sealed_rest plan fits same = same_but-wider (λ p at. (at.0, (let high = at.1 in omega (arith, high, fits)))) same
 
 -- why sealing failed
 pub unsealed_unmade : (h e : List ℕ) (plan : SlotPlan) (f : SlotFault) → IsLuks1Plan h e plan → IsAnsweredFault plan f → IsUnmade h (unsealed f)

@@ -37,7 +37,8 @@ pub record IsHeaderOf (h : List ℕ) (payload : Data) (v : List ℕ) : Type 0 wh
 
 -- the volume isn't accepted, by the first fault of its header `h`
 abbrev pub IsUnaccepted : List ℕ → Data → ℕ → EditFault → Type 0
-IsUnaccepted h payload total (fault.NotAccepted f) = IsLeast check_key (IsLuks1Fault h payload total) f
+IsUnaccepted h payload total (fault.NotAccepted f) =
+    IsLeast check_key (IsLuks1Fault h payload total) f
 IsUnaccepted h payload total f = ⊥
 
 -- ---- the keyslot that an edit opens
@@ -65,8 +66,8 @@ IsUnopened v n passphrase (fault.Slot f) = IsShutBy v n passphrase f
 IsUnopened v n passphrase fault.Device = ⊤
 IsUnopened v n passphrase f = ⊥
 
--- the fault of opening the keyslot `n` as that of an edit; of a keyslot in use of an accepted volume
--- it is that of its plan, or the device's
+-- the fault of opening the keyslot `n` as that of an edit; of a keyslot in use of an accepted
+-- volume it is that of its plan, or the device's
 abbrev pub unopened : ℕ → OpenFault → EditFault
 unopened n (opening.Head f) = fault.NotAccepted (checking.Head f)
 unopened n (opening.Meta f) = fault.NotAccepted (checking.Meta f)

@@ -43,7 +43,8 @@ pub record IsFitFor (old new : List ℕ) : Type 0 where
   pub stripes : entry_stripes new ≡ entry_stripes old
   pub iterated : LacksIterations new → ⊥
 
--- the volume keeps its length, the segments are as they were, and so is each keyslot outside the set
+-- the volume keeps its length, the segments are as they were, and so is each keyslot outside the
+-- set
 pub record KeepsOthers (payload : Data) (named : ℕ → Type 0) (v w : List ℕ) : Type 0 where
   pub size : length w ≡ length v
   pub segments : (n : ℕ) → KeepsArea payload (Segment n) v w

@@ -58,8 +58,8 @@ IsTorn1 v (Label text) random w = ⊥
 abbrev pub Leftover1 : List ℕ → Data → Edit → List ℕ → List ℕ → Type 0
 Leftover1 v payload e random w = (w ≡ v) ⊎ (IsUnrefused1 v payload e random × IsTorn1 v e random w)
 
--- the keyslot that was changed opens by the old passphrase, or the new one by the new passphrase, to
--- the key that the old one opened before
+-- the keyslot that was changed opens by the old passphrase, or the new one by the new passphrase,
+-- to the key that the old one opened before
 abbrev pub OpensEither1 : List ℕ → Edit → List ℕ → Type 0
 OpensEither1 v (Add by_ old new to iterations) w = Unit {0}
 OpensEither1 v (Change slot old new iterations) w =

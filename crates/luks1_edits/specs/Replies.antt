@@ -24,7 +24,9 @@ Tells1 v Repair told = told ≡ None
 Tells1 v (Label text) told = ⊥
 
 -- the edit of the volume `v` is done, and leaves `w`
-pub record IsDone1 (payload : Data) (v : List ℕ) (e : Edit) (random : List ℕ) (done : Done) (w : List ℕ) : Type 0 where
+pub record IsDone1
+    (payload : Data) (v : List ℕ) (e : Edit) (random : List ℕ) (done : Done) (w : List ℕ)
+    : Type 0 where
   pub unrefused : IsUnrefused1 v payload e random
   pub after : After1 v e random w
   pub told : Tells1 v e done.slot

@@ -19,9 +19,9 @@ use std::alloc::Global;
 /// Applies the edit to the LUKS1 volume whose header has these 592 bytes, with as many random bytes
 /// as `needed_luks1` tells: the new keyslot's salt, then its stripes but the last.
 ///
-/// The first refusal is answered, and then no byte changes. What is written is written in this order,
-/// each range with a flush: the area of a new keyslot, its entry, the entry of a keyslot that is
-/// removed, its area. `Device` comes exactly where a device call failed. No memory is taken.
+/// The first refusal is answered, and then no byte changes. What is written is written in this
+/// order, each range with a flush: the area of a new keyslot, its entry, the entry of a keyslot that
+/// is removed, its area. `Device` comes exactly where a device call failed. No memory is taken.
 pub fn apply_luks1<D: Device>(
     alloc: Global,
     device: &mut D,

@@ -17,8 +17,8 @@ use luks_head::{luks1_is_first_bytes, luks1_without_faults, one_choice};
 use luks_reading::{luks1_area, no_fault_is_well_formed};
 use std::alloc::Global;
 
-/// Makes the least free keyslot, in which the new passphrase opens the key that the old one opens in
-/// the keyslot `slot`, and then removes that one.
+/// Makes the least free keyslot, in which the new passphrase opens the key that the old one opens
+/// in the keyslot `slot`, and then removes that one.
 pub(crate) fn change<D: Device>(
     alloc: Global,
     device: &mut D,

@@ -8,9 +8,10 @@ ghost use Rattle.luks1_edits.specs.Edited.{IsRemoved};
 ghost use Rattle.luks1_edits.specs.Leftovers.{IsHalfRemoved};
 ghost use Rattle.luks1_edits.specs.Steps.{IsKeyslotAt};
 
-use crate::steps::{wipe_area, write_entry};
+use crate::steps::write_entry;
 use luks_area::{Area, Device, DeviceFault};
 use luks_head::{Luks1, Luks1Slot, SlotState};
+use luks_steps::wipe_area;
 
 /// The 48 bytes of the keyslot `n` once it says `slot`.
 pub(crate) fn entry_bytes(header: &Luks1, n: u8, slot: Luks1Slot) -> [u8; 48]
@@ -22,8 +23,8 @@ pub(crate) fn entry_bytes(header: &Luks1, n: u8, slot: Luks1Slot) -> [u8; 48]
     changed.slot_bytes(n)
 }
 
-/// Frees the keyslot `n` with this area: its entry is disabled, and then its area is overwritten with
-/// zeros.
+/// Frees the keyslot `n` with this area: its entry is disabled, and then its area is overwritten
+/// with zeros.
 pub(crate) fn free_keyslot<D: Device>(
     device: &mut D,
     header: &Luks1,

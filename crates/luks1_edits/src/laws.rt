@@ -34,8 +34,9 @@ pub fn luks1_answer_is_local()
 }
 
 /// After an edit of a well formed LUKS1 volume that nothing refused, the volume is a well formed
-/// LUKS1 volume; its length, its segments and their bytes are as before, and so are the answers, the entry and the
-/// area of each keyslot that the edit didn't name. The area that a removed keyslot had is zeros.
+/// LUKS1 volume; its length, its segments and their bytes are as before, and so are the answers, the
+/// entry and the area of each keyslot that the edit didn't name. The area that a removed keyslot had
+/// is zeros.
 pub fn luks1_edit_keeps_volume()
     ensures keeps { (payload : Payload) (e : TheEdit) (v random w : List ℕ)
         → Chosen v luks1 → WellFormed v payload → IsUnrefused1 v payload e random

@@ -1,4 +1,4 @@
-//! Edits of LUKS1 volumes.
+//! Edits of LUKS1 volumes: what each takes, makes and leaves, and the laws on that.
 #![tactic(auto)]
 
 mod accepted;

@@ -13,7 +13,7 @@ ghost use Rattle.luks1_edits.specs.Steps.{unsealed, IsMadeIn, IsUnmade};
 
 use crate::accepted::AcceptedHeader;
 use crate::freeing::entry_bytes;
-use crate::steps::{seal_area, write_entry};
+use crate::steps::write_entry;
 use luks_area::Device;
 use luks_edit::EditFault;
 use luks_head::{
@@ -21,6 +21,7 @@ use luks_head::{
 };
 use luks_reading::luks1_plan;
 use luks_slot::{Key, SlotFault};
+use luks_steps::seal_area;
 
 /// The salt of a new keyslot: the first 32 of the random bytes.
 fn salt_in(random: &[u8]) -> [u8; 32]

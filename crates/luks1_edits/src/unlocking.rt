@@ -32,8 +32,8 @@ fn unopened(n: u8, fault: OpenFault) -> EditFault
     }
 }
 
-/// The key that the keyslot `n` opens to, or why it doesn't open: `NoSuchSlot`, `Locked`, `Slot`, or
-/// the device's failure.
+/// The key that the keyslot `n` opens to, or why it doesn't open: `NoSuchSlot`, `Locked`, `Slot`,
+/// or the device's failure.
 pub(crate) fn unlock<D: Device>(
     alloc: Global,
     device: &mut D,

@@ -1,11 +1,12 @@
 -- What an edit that was completed keeps of a LUKS2 volume.
-use Rattle.std.proofs.Common.{◌≡◌, ◌≢◌, ℕ, ◌+◌, ◌-◌, ◌*◌, ◌<◌, ◌≤◌, ◌^◌, List, length, codes, Option, Some, None, option_and_then, is_some, inl, inr, refl, sym, ap, subst, ◌∙◌, arith}
+use Rattle.std.proofs.Common.{◌≡◌, ◌≢◌, ℕ, ◌+◌, ◌-◌, ◌*◌, ◌<◌, ◌≤◌, ◌^◌, List, length, replicate, codes, Option, Some, None, option_and_then, is_some, inl, inr, refl, sym, ap, subst, ◌∙◌, arith}
 use Rattle.std.proofs.lemmas.Bool.{cases_eq, cases_lt}
 use Rattle.base64.specs.GeneralPurpose.{IsBytes}
 use Rattle.serde_json.specs.Data.{Data as Value}
 use Rattle.serde_json.specs.Find.{get}
 use Rattle.luks_area.specs.declared.area.Area.{Area}
 use Rattle.luks_area.specs.declared.area.AreaName.TheVariants as name
+use Rattle.luks_area.specs.Ranges.{part}
 use Rattle.luks_head.specs.Header2.{hdr_size, header_at, IsUuidField}
 use Rattle.luks_head.specs.Selection.{luks2, Chosen}
 use Rattle.luks_head.specs.declared.selection.Copies.TheVariants.{InStep}
@@ -20,13 +21,13 @@ use Rattle.luks_making.specs.Unchanged.{ChangesSlot, GainsSlot, SaysMembers}
 use Rattle.luks_making.specs.Without.{without_slot}
 use Rattle.luks_reading.specs.declared.report.Data.{Data}
 use Rattle.luks_reading.specs.Answer.{opens, Answer}
-use Rattle.luks_reading.specs.Checked.{WellFormed}
+use Rattle.luks_reading.specs.Checked.{AreaOf, WellFormed}
 use Rattle.luks_reading.specs.Layout2.{slot_number}
 use Rattle.luks_edit.specs.declared.edit.Edit.{Edit}
 use Rattle.luks_edit.specs.declared.edit.Edit.TheVariants.{Add, Change, Remove, Repair, Label}
 use Rattle.luks_edit.specs.declared.edit_fault.EditFault.TheVariants.{Iterations, NoFreeSlot, RandomLength, SlotTaken}
 use Rattle.luks_edit.specs.Kept.{Keeps}
-use Rattle.luks2_edits.specs.Edited.{keyslot_salt, members_of, After2, HasAdded, HasChanged, HasRanges, IsEdited, IsMadeIn, IsSealedBy, NamedKeyslots2}
+use Rattle.luks2_edits.specs.Edited.{keyslot_salt, members_of, After2, HasAdded, HasChanged, HasRanges, IsEdited, IsMadeIn, IsSealedBy, IsWiped, IsWipedBy, NamedKeyslots2}
 use Rattle.luks2_edits.specs.Metadata.{HasMetadata, HasStripes, IsNewKeyslot}
 use Rattle.luks2_edits.specs.Places.{key_areas_end, IsNewArea, Loses}
 use Rattle.luks2_edits.specs.Refused.{HasNoNumber, IsNumberTaken, IsUnrefused2, NeedsLike}
@@ -37,7 +38,7 @@ use Rattle.luks2_edits.proofs.MetadataFacts.{lost_metadata, placed_metadata}
 use Rattle.luks2_edits.proofs.PlaceFacts.{left_bytes}
 use Rattle.luks2_edits.proofs.SealFacts.{can_seal, enough_random, fits_new, none_of, opened_pbkdf2, opened_plan, part_bytes, salt_length, under, IsOpened}
 use Rattle.luks2_edits.proofs.UniqueFacts.{unique_digests}
-use Rattle.luks2_edits.proofs.VolumeFacts.{copy_of, layout_of, listed_at_least, HasCopy, IsLayout}
+use Rattle.luks2_edits.proofs.VolumeFacts.{areas_are, copy_of, layout_of, listed_at_least, HasCopy, IsLayout}
 
 -- a keyslot that loses its area is named
 pub lost_is_named : (v : List ℕ) (e : Edit) (n : ℕ) → Loses e n → NamedKeyslots2 v e n
@@ -84,13 +85,13 @@ need_met j n random key stripes slot met =
     ]
 
 -- what no refusal says of an edit that seals a keyslot like the keyslot `n`
-record IsReady (v : List ℕ) (o : ℕ) (j : Value) (n iterations : ℕ) (random : List ℕ) : Type 0 where
-  opened : IsOpened v o j n
-  turns : 1000 ≤ iterations
-  ranged : iterations < 2 ^ 32
-  small : length v < 2 ^ 64
-  random_bytes : IsBytes random
-  met : (need : ℕ) → NeedsLike j n need → length random ≢ need → ⊥
+pub record IsReady (v : List ℕ) (o : ℕ) (j : Value) (n iterations : ℕ) (random : List ℕ) : Type 0 where
+  pub opened : IsOpened v o j n
+  pub turns : 1000 ≤ iterations
+  pub ranged : iterations < 2 ^ 32
+  pub small : length v < 2 ^ 64
+  pub random_bytes : IsBytes random
+  pub met : (need : ℕ) → NeedsLike j n need → length random ≢ need → ⊥
 
 -- what is at least 16384 is at least 4096
 above : {g h : ℕ} → g ≡ h → 16384 ≤ g → 4096 ≤ h
@@ -112,6 +113,29 @@ module _ (laws : VolumeLaws) (making : MakingLaws) (v : List ℕ) (o h : ℕ) (p
 
   fits : (area : Area) → IsNewArea h (length v) payload j n area → FitsNew (members_of iterations (keyslot_salt random) area)
   fits area place = fits_new h (length v) payload j n area place iterations (keyslot_salt random) ready.small ready.ranged (part_bytes random 128 32 ready.random_bytes)
+
+  -- the keyslot that is gained, and what it says
+  pub added_gains : (to : Option ℕ) → (IsNumberTaken j to → ⊥) → (HasNoNumber j to → ⊥)
+      → (a : HasAdded h (length v) payload n to iterations (keyslot_salt random) j k) → GainsSlot a.slot a.is.digest a.is.slot j k
+  added_gains to taken none a =
+      making.addition (h - 4096) a.slot n (members_of iterations (keyslot_salt random) a.area) j k layout.held
+      (unique_digests before.holds.text j before.holds.reads) (new_free j to a.slot taken none a.is_new) (seals a.area a.place) (fits a.area a.place) a.is
+
+  pub added_says : (to : Option ℕ) → (IsNumberTaken j to → ⊥) → (HasNoNumber j to → ⊥)
+      → (a : HasAdded h (length v) payload n to iterations (keyslot_salt random) j k) → SaysMembers a.is.slot (slot_value a.is.slot)
+  added_says to taken none a =
+      let room : IsRoom (h - 4096) a.slot a.is.digest a.is.slot j a.is.names.object =
+      making.room (h - 4096) a.slot n (members_of iterations (keyslot_salt random) a.area) j k layout.held
+      (unique_digests before.holds.text j before.holds.reads) (new_free j to a.slot taken none a.is_new) (seals a.area a.place) (fits a.area a.place) a.is in
+      making.says a.is.slot room.fits
+
+  -- the keyslot that is changed
+  pub changed_changes : (a : HasChanged h (length v) payload n iterations (keyslot_salt random) j k)
+      → ChangesSlot n (members_of iterations (keyslot_salt random) a.area) j k
+  changed_changes a =
+      let c : ChangesSlot n (members_of iterations (keyslot_salt random) a.area) j (changed_slot n (members_of iterations (keyslot_salt random) a.area) j) =
+      making.change (h - 4096) n (members_of iterations (keyslot_salt random) a.area) j layout.held (seals a.area a.place) (fits a.area a.place) in
+      subst (ChangesSlot n (members_of iterations (keyslot_salt random) a.area) j) (sym a.is) c
 
   -- the metadata with a new keyslot
   added_metadata : (named : ℕ → Type 0) (to : Option ℕ) → (IsNumberTaken j to → ⊥) → (HasNoNumber j to → ⊥)
@@ -168,7 +192,7 @@ was_opened v Repair random j w k sealed = tt
 was_opened v (Label text) random j w k sealed = tt
 
 -- iterations that aren't too few
-enough_turns : (iterations : ℕ) → (iterations < 1000 → ⊥) → 1000 ≤ iterations
+pub enough_turns : (iterations : ℕ) → (iterations < 1000 → ⊥) → 1000 ≤ iterations
 enough_turns iterations few = elim (cases_lt iterations 1000) [ inl lt ↦ absurd (few lt) | inr past ↦ past ]
 
 pub edited_metadata : (laws : VolumeLaws) (making : MakingLaws) (v : List ℕ) (o : ℕ) (payload : Data) (e : Edit) (random : List ℕ) (j k : Value)
@@ -210,7 +234,7 @@ module _
     (laws : VolumeLaws) (making : MakingLaws) (v : List ℕ) (payload : Data) (e : Edit) (random w : List ℕ) (well : WellFormed v payload)
     (ranges : HasRanges v e random) (free : IsUnrefused2 v payload e random) (a : After2 v payload e random w)
   where
-    before : HasCopy v a.place (hdr_size (header_at v a.place)) a.value
+    pub before : HasCopy v a.place (hdr_size (header_at v a.place)) a.value
     before = copy_of laws v payload a.place a.value a.metadata well
 
     pub now_chosen : Chosen w (luks2 0 InStep)
@@ -219,7 +243,7 @@ module _
         let same : length w ≡ length v = a.rest.length_same in
         both_chosen v w a.place e random a.new (omega (arith, long, same)) a.first.renewed a.second.renewed
 
-    after : HasCopy w 0 (hdr_size (header_at v a.place)) a.new
+    pub after : HasCopy w 0 (hdr_size (header_at v a.place)) a.new
     after = record {
       copies = InStep;
       chosen = now_chosen;
@@ -228,7 +252,7 @@ module _
       holds = a.first.renewed.json.json;
     }
 
-    layout : IsLayout (hdr_size (header_at v a.place)) (length v) payload a.value
+    pub layout : IsLayout (hdr_size (header_at v a.place)) (length v) payload a.value
     layout = layout_of laws v payload a.place a.value a.metadata well
 
     -- all that an edit promises
@@ -239,3 +263,19 @@ module _
         (edited_metadata laws making v a.place payload e random a.value a.new a.metadata before ranges free (was_opened v e random a.value w a.new a.sealed) a.edited layout)
         (λ n b x. left_bytes v w h (length v) payload a.value e layout.fit a.rest (name.Segment n) b tt x)
         (λ m unnamed b x. left_bytes v w h (length v) payload a.value e layout.fit a.rest (name.Slot m) b (λ lost. unnamed (lost_is_named v e m lost)) x)
+
+-- the area that a keyslot loses is wiped
+wiped_is : (e : Edit) (j : Value) (w : List ℕ) (n : ℕ) → IsWipedBy e j w → Loses e n → IsWiped j n w
+wiped_is (Add by_ old new to iterations) j w n wiped lost = absurd lost
+wiped_is (Change slot old new iterations) j w n wiped lost = subst (λ m. IsWiped j m w) (sym lost) wiped
+wiped_is (Remove slot passphrase) j w n wiped lost = subst (λ m. IsWiped j m w) (sym lost) wiped
+wiped_is Repair j w n wiped lost = absurd lost
+wiped_is (Label text) j w n wiped lost = absurd lost
+
+-- so it is zeros
+pub lost_zeros : (laws : VolumeLaws) (v : List ℕ) (payload : Data) (e : Edit) (random w : List ℕ) (n : ℕ) (a : Area) → WellFormed v payload
+    → After2 v payload e random w → Loses e n → AreaOf v payload (name.Slot n) a → part w a.start a.len ≡ replicate a.len 0
+lost_zeros laws v payload e random w n a well after_ lost is =
+    wiped_is e after_.value w n after_.wiped lost a
+    (areas_are laws v payload after_.place (hdr_size (header_at v after_.place)) after_.value
+    (copy_of laws v payload after_.place after_.value after_.metadata well) (name.Slot n) a is)

@@ -6,7 +6,11 @@ mod KeptFacts
 mod LeftoverFacts
 mod LowerLaws
 mod MetadataFacts
+mod OpenFacts
+mod OpenedFacts
+mod OpensFacts
 mod PlaceFacts
+mod RefusalFacts
 mod SealFacts
 mod TornFacts
 mod UniqueFacts

@@ -19,6 +19,7 @@ use Rattle.luks_slot.specs.declared.fault.SlotFault.TheVariants.{Argon2}
 use Rattle.luks_slot.specs.declared.plan.Derivation.{Derivation}
 use Rattle.luks_slot.specs.declared.plan.Derivation.TheVariants.{Pbkdf2, Argon2 as ByArgon2}
 use Rattle.luks_slot.specs.declared.plan.SlotPlan.{SlotPlan}
+use Rattle.luks_slot.specs.Opening.{meets_digest, slot_key}
 use Rattle.luks_slot.specs.Refusal.{is_argon2, slot_refusal}
 use Rattle.luks_reading.specs.declared.open_fault.OpenFault.TheVariants as opening
 use Rattle.luks_reading.specs.declared.report.Data.{Data}
@@ -64,7 +65,8 @@ derived_by : (d : Value) (x : Derivation) → IsLuks2Derivation d x → is_argon
 derived_by d (Pbkdf2 hash iterations salt) is not = is.0
 derived_by d ByArgon2 is not = absurd (true≢false not)
 
-by_argon2 : (plan : SlotPlan) → slot_refusal plan ≡ None → (b : Bool) → is_argon2 plan.derivation ≡ b → b ≡ false
+-- a plan that isn't refused derives its key by PBKDF2
+pub by_argon2 : (plan : SlotPlan) → slot_refusal plan ≡ None → (b : Bool) → is_argon2 plan.derivation ≡ b → b ≡ false
 by_argon2 plan none false is = refl
 by_argon2 plan none true is = let some : slot_refusal plan ≡ Some Argon2 = rw is refl in absurd (let both : Some Argon2 ≡ None = sym some ∙ none in cc)
 
@@ -90,6 +92,13 @@ module _ (laws : VolumeLaws) where
             a.unrefused (opening.Slot f) (subst (λ c. IsRefusalAs v n c (opening.Slot f)) (sym choice) (record { plan = a.plan; is = is; refused = refused })));
       }
 
+  -- its key meets the digest
+  pub opened_meets : ((plan : SlotPlan) (area passphrase key : List ℕ) → slot_key plan area passphrase ≡ Some key → meets_digest plan.digest key ≡ true)
+      → (v : List ℕ) (o : ℕ) (j : Value) (n : ℕ) (p key : List ℕ) (m : HasMetadata v o j) (a : Answer v n p (opens key))
+      → meets_digest (opened_plan v o j n p key m a).plan.digest key ≡ true
+  unfolding opened_plan
+  opened_meets found v o j n p key m a = found a.plan (part v a.plan.area.start a.plan.area.len) p key a.key
+
 -- so its key is derived by PBKDF2
 pub opened_pbkdf2 : (v : List ℕ) (o : ℕ) (j : Value) (n : ℕ) → IsOpened v o j n → HasPbkdf2 j n
 opened_pbkdf2 v o j n x = record {
@@ -97,6 +106,12 @@ opened_pbkdf2 v o j n x = record {
   there = record { numbered = refl; named = x.numbered; is = x.there };
   derived = derived_by x.object x.plan.derivation x.is.derivation (by_argon2 x.plan x.refused (is_argon2 x.plan.derivation) refl);
 }
+
+pub opened_kdf : (laws : VolumeLaws) (v : List ℕ) (o : ℕ) (j : Value) (n : ℕ) (p key : List ℕ) (m : HasMetadata v o j) (a : Answer v n p (opens key))
+    → type_at (opened_plan laws v o j n p key m a).object outer.Kdf ≡ Some (codes "pbkdf2")
+opened_kdf laws v o j n p key m a =
+    let x : IsOpened v o j n = opened_plan laws v o j n p key m a in
+    derived_by x.object x.plan.derivation x.is.derivation (by_argon2 x.plan x.refused (is_argon2 x.plan.derivation) refl)
 
 -- ---- a new area
 

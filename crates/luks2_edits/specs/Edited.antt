@@ -157,3 +157,16 @@ pub record After2 (v : List ℕ) (payload : Data) (e : Edit) (random w : List �
   pub sealed : IsSealedBy v e random value w new
   pub wiped : IsWipedBy e value w
   pub rest : SameBut (IsTouched (hdr_size (header_at v place)) (length v) payload value e) v w
+
+-- ---- what opens after an edit
+
+-- a keyslot that the edit made or sealed again opens by its new passphrase to the key that the old one
+-- opened
+abbrev pub OpensAfter2 : List ℕ → Edit → List ℕ → Type 0
+OpensAfter2 v (Add by_ old new to iterations) w =
+    (n : ℕ) (key : List ℕ) → IsMadeIn v to n → Answer v by_ old.now (opens key) → Answer w n new.now (opens key)
+OpensAfter2 v (Change slot old new iterations) w =
+    (key : List ℕ) → Answer v slot old.now (opens key) → Answer w slot new.now (opens key)
+OpensAfter2 v (Remove slot passphrase) w = ⊤
+OpensAfter2 v Repair w = ⊤
+OpensAfter2 v (Label text) w = ⊤

@@ -1,7 +1,7 @@
 -- What an edit of a LUKS2 volume may leave that a failing device call ended. A failed write leaves any
 -- bytes in its range; the ranges are written in this order: a new key area, the copy that doesn't
 -- count, the copy that counts, the area that is lost.
-use Rattle.std.specs.Prelude.{◌≡◌, ℕ, ◌≤◌, ◌⊎◌, List, length}
+use Rattle.std.specs.Prelude.{◌≡◌, ℕ, ◌≤◌, ◌⊎◌, List, length, ⊤}
 use Rattle.serde_json.specs.Data.{Data as Value}
 use Rattle.luks_area.specs.Ranges.{IsAt, IsOfEither, SameBut}
 use Rattle.luks_head.specs.Header2.{copy_at, hdr_size, header_at, IsSound}
@@ -9,7 +9,9 @@ use Rattle.luks_head.specs.Selection.{luks2, Chosen, IsVersion1}
 use Rattle.luks_head.specs.declared.selection.Copies.{Copies}
 use Rattle.luks_head.specs.Sizes.{IsListed}
 use Rattle.luks_reading.specs.declared.report.Data.{Data}
+use Rattle.luks_reading.specs.Answer.{opens, Answer}
 use Rattle.luks_edit.specs.declared.edit.Edit.{Edit}
+use Rattle.luks_edit.specs.declared.edit.Edit.TheVariants.{Add, Change, Remove, Repair, Label}
 use Rattle.luks2_edits.specs.Copies.{other_place, IsRenewed, IsWrittenAnew}
 use Rattle.luks2_edits.specs.Edited.{keyslot_salt, IsEdited, IsSealedBy}
 use Rattle.luks2_edits.specs.Metadata.{HasMetadata}
@@ -100,3 +102,12 @@ pub record CountsAsAfter (v : List ℕ) (payload : Data) (e : Edit) (random w : 
   pub copies : Copies
   pub chosen : Chosen w (luks2 place copies)
   pub written : IsAllowed v payload e random w place
+
+-- a keyslot that was to be sealed again opens by the old passphrase or by the new one, to the same key
+abbrev pub OpensEither2 : List ℕ → Edit → List ℕ → Type 0
+OpensEither2 v (Add by_ old new to iterations) w = ⊤
+OpensEither2 v (Change slot old new iterations) w =
+    (key : List ℕ) → Answer v slot old.now (opens key) → Answer w slot old.now (opens key) ⊎ Answer w slot new.now (opens key)
+OpensEither2 v (Remove slot passphrase) w = ⊤
+OpensEither2 v Repair w = ⊤
+OpensEither2 v (Label text) w = ⊤

@@ -1,23 +1,33 @@
 //! Laws on the definitions of this crate. Each function only calls those whose laws it follows from;
 //! its contract is the law.
 
-ghost use Rattle.std.specs.Prelude.{◌↔◌, ◌⊎◌, ℕ, List};
+ghost use Rattle.std.specs.Prelude.{◌≡◌, ◌↔◌, ◌⊎◌, ℕ, List, replicate};
+ghost use Rattle.luks_area.specs.declared.area.Area.{Area as TheArea};
+ghost use Rattle.luks_area.specs.declared.area.AreaName.TheVariants.{Slot};
+ghost use Rattle.luks_area.specs.Ranges.{part};
 ghost use Rattle.luks_head.specs.Selection.{luks2, Chosen};
 ghost use Rattle.luks_reading.specs.Answer.{Answer, Opened};
-ghost use Rattle.luks_reading.specs.Checked.{WellFormed};
+ghost use Rattle.luks_reading.specs.Checked.{AreaOf, WellFormed};
 ghost use Rattle.luks_reading.specs.declared.report.Data.{Data as Payload};
 ghost use Rattle.luks_edit.specs.declared.edit.Edit.{Edit as TheEdit};
 ghost use Rattle.luks_edit.specs.Kept.{Keeps};
-ghost use Rattle.luks2_edits.specs.Edited.{After2, HasRanges, NamedKeyslots2};
+ghost use Rattle.luks2_edits.specs.Edited.{After2, HasRanges, NamedKeyslots2, OpensAfter2};
 ghost use Rattle.luks2_edits.specs.Kept.{HasSameKeyslot};
-ghost use Rattle.luks2_edits.specs.Leftovers.{CountsAsAfter, CountsAsBefore, IsNotStray, Leftover2};
-ghost use Rattle.luks2_edits.specs.Refused.{IsUnrefused2};
+ghost use Rattle.luks2_edits.specs.Leftovers.{CountsAsAfter, CountsAsBefore, IsNotStray, Leftover2, OpensEither2};
+ghost use Rattle.luks2_edits.specs.Places.{Loses};
+ghost use Rattle.luks2_edits.specs.Refused.{IsUnrefused2, Refusal2};
+ghost use Rattle.luks_edit.specs.EditFaults.{edit_key};
+ghost use Rattle.luks_edit.specs.declared.edit_fault.EditFault.{EditFault as TheFault};
 
-use luks_head::{Copies, chosen_copy_is_sound, one_choice, soundness_is_local};
+use luks_head::{
+    Copies, chosen_copy_is_sound, luks2_without_faults, one_choice, soundness_is_local,
+};
 use luks_making::{
     addition_keeps_the_rest, change_keeps_the_rest, made_keyslot_has_room, removal_keeps_the_rest,
 };
-use luks_meta::{metadata_without_faults, one_value};
+use luks_meta::{metadata_without_faults, one_digest, one_value};
+use luks_reading::one_answer;
+use luks_slot::{found_key_meets_digest, sealed_area_opens};
 
 /// A keyslot that a change of a LUKS2 volume leaves as it was has the same answer for every
 /// passphrase: the same key, none, or the same refusals.
@@ -30,7 +40,7 @@ pub fn alike_slots_answer_alike()
 
 /// After an edit of a well formed LUKS2 volume that nothing refused, the volume is well formed, and
 /// its copies are in step; the segments are as before, and so are the area, the value and the
-/// answers of each keyslot that the edit didn't name.
+/// answers of each keyslot that the edit didn't name. The area that a keyslot loses is zeros.
 pub fn luks2_edit_keeps_volume()
     ensures keeps { (payload : Payload) (e : TheEdit) (v random w : List ℕ) → WellFormed v payload
         → HasRanges v e random → IsUnrefused2 v payload e random → After2 v payload e random w
@@ -38,6 +48,9 @@ pub fn luks2_edit_keeps_volume()
     ensures chosen { (payload : Payload) (e : TheEdit) (v random w : List ℕ) → WellFormed v payload
         → HasRanges v e random → IsUnrefused2 v payload e random → After2 v payload e random w
         → Chosen w (luks2 0 Copies.InStep) }
+    ensures lost { (payload : Payload) (e : TheEdit) (v random w : List ℕ) (n : ℕ) (a : TheArea)
+        → WellFormed v payload → After2 v payload e random w → Loses e n
+        → AreaOf v payload (Slot n) a → part w a.start a.len ≡ replicate a.len 0 }
 {
     one_choice();
     chosen_copy_is_sound();
@@ -50,10 +63,34 @@ pub fn luks2_edit_keeps_volume()
     change_keeps_the_rest();
 }
 
+/// After an edit of a well formed LUKS2 volume that nothing refused, a keyslot that it made or sealed
+/// again opens by its new passphrase to the key that the old one opened.
+pub fn luks2_edit_opens()
+    ensures { (payload : Payload) (e : TheEdit) (v random w : List ℕ) → WellFormed v payload
+        → HasRanges v e random → IsUnrefused2 v payload e random → After2 v payload e random w
+        → OpensAfter2 v e w }
+{
+    one_choice();
+    chosen_copy_is_sound();
+    soundness_is_local();
+    luks2_without_faults();
+    one_value();
+    metadata_without_faults();
+    one_digest();
+    removal_keeps_the_rest();
+    addition_keeps_the_rest();
+    made_keyslot_has_room();
+    change_keeps_the_rest();
+    sealed_area_opens();
+    found_key_meets_digest();
+    one_answer();
+}
+
 /// What a failing device call leaves of a well formed LUKS2 volume is well formed, unless bytes of
 /// the torn write are taken for a header; the segments are as before, and so is each keyslot that
 /// the edit doesn't name; and what counts is the copy that counted before, or one that the edit
-/// writes: its metadata, its uuid, its label and its subsystem.
+/// writes: its metadata, its uuid, its label and its subsystem. A keyslot that was to be sealed again
+/// opens by the old passphrase or by the new one, to the same key.
 pub fn luks2_failing_edit()
     ensures keeps { (payload : Payload) (e : TheEdit) (v random w : List ℕ) → WellFormed v payload
         → HasRanges v e random → Leftover2 v payload e random w → IsNotStray v payload e random w
@@ -61,14 +98,28 @@ pub fn luks2_failing_edit()
     ensures whole { (payload : Payload) (e : TheEdit) (v random w : List ℕ) → WellFormed v payload
         → HasRanges v e random → Leftover2 v payload e random w → IsNotStray v payload e random w
         → CountsAsBefore v w ⊎ CountsAsAfter v payload e random w }
+    ensures opens { (payload : Payload) (e : TheEdit) (v random w : List ℕ) → WellFormed v payload
+        → HasRanges v e random → Leftover2 v payload e random w → IsNotStray v payload e random w
+        → OpensEither2 v e w }
 {
     one_choice();
     chosen_copy_is_sound();
     soundness_is_local();
+    luks2_without_faults();
     one_value();
     metadata_without_faults();
+    one_digest();
     removal_keeps_the_rest();
     addition_keeps_the_rest();
     made_keyslot_has_room();
     change_keeps_the_rest();
+    sealed_area_opens();
+    found_key_meets_digest();
+    one_answer();
 }
+
+/// An edit has one refusal at most.
+pub fn luks2_edit_refused_once()
+    ensures { (v : List ℕ) (payload : Payload) (e : TheEdit) (random : List ℕ) (f g : TheFault)
+        → Refusal2 v payload e random f → Refusal2 v payload e random g → edit_key f ≡ edit_key g }
+{}

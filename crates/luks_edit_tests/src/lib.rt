@@ -2,6 +2,8 @@
 #![tactic(auto)]
 
 #[cfg(test)]
+mod edits_of_luks1;
+#[cfg(test)]
 mod formats;
 #[cfg(test)]
 mod formatting;

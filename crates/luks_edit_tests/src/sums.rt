@@ -3,14 +3,19 @@
 use sha2::{Digest, Sha256};
 use std::alloc::{AllocError, Global};
 
-/// As many bytes, counted from the number on, modulo 251.
-pub fn counted(alloc: Global, from: usize, len: usize) -> Result<Vec<u8>, AllocError> {
-    let mut bytes = vec![in alloc; 0u8; len]?;
+/// Counts the bytes from the number on, modulo 251.
+pub fn count(bytes: &mut [u8], from: usize) {
     let mut next = (from % 251) as u8;
     for byte in bytes.iter_mut() {
         *byte = next;
         next = if next < 250 { next.wrapping_add(1) } else { 0 };
     }
+}
+
+/// As many bytes, counted from the number on, modulo 251.
+pub fn counted(alloc: Global, from: usize, len: usize) -> Result<Vec<u8>, AllocError> {
+    let mut bytes = vec![in alloc; 0u8; len]?;
+    count(&mut bytes, from);
     Ok(bytes)
 }
 

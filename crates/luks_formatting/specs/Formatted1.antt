@@ -16,7 +16,9 @@ IsOfLuks1 = IsOfEither (IsAt 0 592) (IsAt 4096 256000)
 
 -- `new` begins with the header of a new volume, its keyslot 0 holds the volume key, and all other
 -- bytes are those of `old`
-pub record IsFormatted1 (payload : Data) (format : Format) (passphrase random old new : List ℕ) : Type 0 where
+pub record IsFormatted1
+    (payload : Data) (format : Format) (passphrase random old new : List ℕ)
+    : Type 0 where
   pub header : Luks1
   pub fields : IsNewHeader1 payload format random header
   pub written : WritesLuks1 (part new 0 592) header

@@ -22,9 +22,11 @@ pub record HasNewCopy (v random salt json : List ℕ) (o : ℕ) : Type 0 where
 abbrev pub IsOfLuks2 : ℕ → Type 0
 IsOfLuks2 = IsOfEither (IsAt 0 32768) (IsAt 32768 256000)
 
--- `new` begins with both copies of the header of a new volume, its keyslot 0 holds the volume key, and
--- all other bytes are those of `old`
-pub record IsFormatted2 (payload : Data) (format : Format) (passphrase random old new : List ℕ) : Type 0 where
+-- `new` begins with both copies of the header of a new volume, its keyslot 0 holds the volume key,
+-- and all other bytes are those of `old`
+pub record IsFormatted2
+    (payload : Data) (format : Format) (passphrase random old new : List ℕ)
+    : Type 0 where
   pub json : List ℕ
   pub metadata : IsWrittenArea json_size (formatted (new_members payload format random)) json
   pub first : HasNewCopy new random (first_copy_salt random) json 0

@@ -20,13 +20,15 @@ abbrev pub payload_sector : Data → ℕ
 payload_sector Here = 4096
 payload_sector Elsewhere = 0
 
--- where the key material of keyslot n begins, in sectors: it takes 500 of them, and each begins at a
--- multiple of 4096 bytes
+-- where the key material of keyslot n begins, in sectors: it takes 500 of them, and each begins at
+-- a multiple of 4096 bytes
 abbrev pub material_sector : ℕ → ℕ
 material_sector n = 8 + 504 * n
 
 -- the fields before the keyslots
-pub record IsNewCommon (payload : Data) (format : Format) (random : List ℕ) (common : Luks1Common) : Type 0 where
+pub record IsNewCommon
+    (payload : Data) (format : Format) (random : List ℕ) (common : Luks1Common)
+    : Type 0 where
   pub cipher_name : common.cipher_name.bytes ≡ codes "aes"
   pub cipher_mode : common.cipher_mode.bytes ≡ codes "xts-plain64"
   pub hash_spec : common.hash_spec.bytes ≡ name_of format.hash
@@ -61,10 +63,13 @@ abbrev pub new_slot : Format → List ℕ → ℕ → Luks1Slot
 new_slot format random n = if n == 0 then first_slot format random else free_slot n
 
 -- the whole header
-pub record IsNewHeader1 (payload : Data) (format : Format) (random : List ℕ) (header : Luks1) : Type 0 where
+pub record IsNewHeader1
+    (payload : Data) (format : Format) (random : List ℕ) (header : Luks1)
+    : Type 0 where
   pub common : IsNewCommon payload format random header.common
   pub eight : length header.slots ≡ 8
-  pub slots : (n : ℕ) (s : Luks1Slot) → n < 8 → slice_index_or header.slots n s ≡ new_slot format random n
+  pub slots : (n : ℕ) (s : Luks1Slot) → n < 8
+      → slice_index_or header.slots n s ≡ new_slot format random n
 
 -- the area of keyslot 0, and its cipher
 abbrev pub area1 : Area

@@ -1,5 +1,5 @@
--- The LUKS2 header of a new volume: both copies of its binary header, and the metadata (LUKS2 On-Disk
--- Format 1.1, 2.1 and 3).
+-- The LUKS2 header of a new volume: both copies of its binary header, and the metadata (LUKS2
+-- On-Disk Format 1.1, 2.1 and 3).
 use Rattle.std.specs.Prelude.{◌≡◌, ℕ, List, ◌++◌, codes, drop, length, replicate}
 use Rattle.luks_area.specs.declared.area.Area.{Area}
 use Rattle.luks_head.specs.Header2.{magic_of, sha256_size}
@@ -38,8 +38,8 @@ pub record IsNewCopy (random salt : List ℕ) (o : ℕ) (header : Bin2) : Type 0
   pub hdr_offset : header.hdr_offset ≡ o
   pub csum_rest : drop sha256_size header.csum ≡ replicate sha256_size 0
 
--- where the segment begins, in bytes: behind the key areas' region at 16 MiB, or on another device at
--- its start
+-- where the segment begins, in bytes: behind the key areas' region at 16 MiB, or on another device
+-- at its start
 abbrev pub segment_start : Data → ℕ
 segment_start Here = 16777216
 segment_start Elsewhere = 0
@@ -66,4 +66,5 @@ IsNewCipher2 (Whole text) = text.now ≡ codes "aes-xts-plain64"
 -- what the metadata says has the ranges of its types, and the digest its length
 pub record FitsMetadata (payload : Data) (format : Format) (random : List ℕ) : Type 0 where
   pub fits : FitsVolume (new_members payload format random)
-  pub digest_length : length (key_digest format random (digest_size_of format.hash)) ≡ digest_size_of format.hash
+  pub digest_length : length (key_digest format random (digest_size_of format.hash))
+      ≡ digest_size_of format.hash

@@ -16,7 +16,8 @@ use Rattle.luks_formatting.specs.RandomBytes.{digest_salt, volume_key}
 -- the digest of the volume key, of `len` bytes: PBKDF2 of the key
 abbrev pub key_digest : Format → List ℕ → ℕ → List ℕ
 key_digest format random len =
-    pbkdf2 (hash_of format.hash) (block_size_of format.hash) (volume_key random) (digest_salt random) format.iterations len
+    pbkdf2 (hash_of format.hash) (block_size_of format.hash)
+    (volume_key random) (digest_salt random) format.iterations len
 
 abbrev pub IsNewDerivation : Format → List ℕ → Derivation → Type 0
 IsNewDerivation format salt (Pbkdf2 hash iterations own_salt) =
@@ -29,9 +30,11 @@ pub record IsNewDigest (format : Format) (salt stored : List ℕ) (digest : Dige
   pub own_salt : digest.salt.now ≡ salt
   pub own_stored : digest.stored.now ≡ stored
 
--- the plan of a keyslot with this salt and area, and a digest with that salt that stores these bytes;
--- its cipher is a matter of the version
-pub record IsNewPlan (format : Format) (salt : List ℕ) (own_area : Area) (digest_salt stored : List ℕ) (plan : SlotPlan) : Type 0 where
+-- the plan of a keyslot with this salt and area, and a digest with that salt that stores these
+-- bytes; its cipher is a matter of the version
+pub record IsNewPlan
+    (format : Format) (salt : List ℕ) (own_area : Area) (digest_salt stored : List ℕ) (plan : SlotPlan)
+    : Type 0 where
   pub derivation : IsNewDerivation format salt plan.derivation
   pub area : plan.area ≡ own_area
   pub area_key_bytes : plan.area_key_bytes ≡ 64

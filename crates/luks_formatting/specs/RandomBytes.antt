@@ -19,14 +19,15 @@ first_copy_salt random = part random 112 64
 abbrev pub second_copy_salt : List ℕ → List ℕ
 second_copy_salt random = part random 176 64
 
--- then, from the place `at` on, the salt of keyslot 0, and its stripes but the last, 3999 of 64 bytes
+-- then, from the place `at` on, the salt of keyslot 0, and its stripes but the last, 3999 of 64
+-- bytes
 abbrev pub slot_salt : ℕ → List ℕ → List ℕ
 slot_salt at random = part random at 32
 
 abbrev pub random_stripes : ℕ → List ℕ → List ℕ
 random_stripes at random = part random (at + 32) 255936
 
--- which place that is
+-- which place that is: in LUKS1 behind the salt of the digest, in LUKS2 behind those of the copies
 abbrev pub slot_place1 : ℕ
 slot_place1 = 112
 

@@ -101,6 +101,7 @@ fn sealed_header(blank: &Bin2, json: &[u8]) -> Bin2
         { csum = sha256 (with_zero_checksum b ++ json.now) ++ replicate sha256_size 0 } }
     ensures some { (b : List ℕ) × WritesBin2 b blank.now }
 {
+    // That the header has bytes at all: what the hasher was fed is said of any such bytes.
     let _bytes = blank.write();
     let mut hasher = blank.hasher();
     hasher.update(json);

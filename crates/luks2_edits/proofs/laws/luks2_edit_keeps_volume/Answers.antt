@@ -1,4 +1,4 @@
-use Rattle.luks2_edits.proofs.AfterFacts.{after_keeps, now_chosen}
+use Rattle.luks2_edits.proofs.AfterFacts.{after_keeps, lost_zeros, now_chosen}
 use Rattle.luks2_edits.proofs.LowerLaws.{MakingLaws, VolumeLaws}
 use Rattle.luks2_edits.proofs.laws.luks2_edit_keeps_volume.Goals as goal
 
@@ -24,5 +24,6 @@ returns c =
     } in
     record {
       keeps = λ payload e v random w well ranges free a. after_keeps laws making v payload e random w well ranges free a;
+      lost = λ payload e v random w n a well after_ lost is. lost_zeros laws v payload e random w n a well after_ lost is;
       chosen = λ payload e v random w well ranges free a. now_chosen laws making v payload e random w well ranges free a;
     }

@@ -1,5 +1,6 @@
 use Rattle.luks2_edits.proofs.LowerLaws.{MakingLaws, VolumeLaws}
-use Rattle.luks2_edits.proofs.TornFacts.{leftover_outcome}
+use Rattle.luks2_edits.proofs.OpenFacts.{KeyslotLaws}
+use Rattle.luks2_edits.proofs.TornFacts.{leftover_outcome, OpeningLaws}
 use Rattle.luks2_edits.proofs.laws.luks2_failing_edit.Goals as goal
 
 pub returns : goal.returns
@@ -22,7 +23,14 @@ returns c =
       changed = c.change_keeps_the_rest.ensures.held;
       change = c.change_keeps_the_rest.ensures.rest;
     } in
+    let keyslots : KeyslotLaws = record {
+      uuid = c.luks2_without_faults.ensures.uuid;
+      sealed = c.sealed_area_opens.ensures;
+      found = c.found_key_meets_digest.ensures;
+    } in
+    let opening : OpeningLaws = record { keyslots = keyslots; once = c.one_digest.ensures; answers = c.one_answer.ensures } in
     record {
-      keeps = λ payload e v random w well ranges left stray. (leftover_outcome laws making v payload e random w well ranges left stray).keeps;
-      whole = λ payload e v random w well ranges left stray. (leftover_outcome laws making v payload e random w well ranges left stray).whole;
+      keeps = λ payload e v random w well ranges left stray. (leftover_outcome laws making opening v payload e random w well ranges left stray).keeps;
+      whole = λ payload e v random w well ranges left stray. (leftover_outcome laws making opening v payload e random w well ranges left stray).whole;
+      opens = λ payload e v random w well ranges left stray. (leftover_outcome laws making opening v payload e random w well ranges left stray).opens_either;
     }

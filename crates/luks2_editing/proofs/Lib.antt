@@ -1,0 +1,5 @@
+mod NewCopyFacts
+mod RewritingFacts
+mod RowFacts
+mod RenewalFacts
+mod PlainEditFacts

@@ -1,0 +1,201 @@
+-- Both copies of a LUKS2 header, written anew one after the other.
+use Rattle.std.proofs.Common.{◌≡◌, ◌≢◌, ℕ, ◌+◌, ◌-◌, ◌*◌, ◌≤◌, ◌⊎◌, List, ◌++◌, length, get_or, Bool, true, false, inl, inr, arith, refl, sym, ap, ◌∙◌, subst}
+use Rattle.std.specs.Prelude.{◌==◌, if◌then◌else◌}
+use Rattle.std.proofs.lemmas.Bool.{eqb-true, eqb-false}
+use Rattle.std.proofs.lemmas.List.{get_or-drop, get_or-replicate}
+use Rattle.serde_json.specs.Data.{Data as Value}
+use Rattle.sha2.specs.Sha256.{sha256}
+use Rattle.luks_area.specs.Ranges.{part, IsAt, SameBut}
+use Rattle.luks_area.specs.RangeFacts.{get_or-part, part-same_but_at, same_but-then, same_but-wider}
+use Rattle.luks_head.specs.Header2.{header_at, hdr_size, with_zero_checksum, IsSound}
+use Rattle.luks_head.specs.Written.{AreZeros, IsWrittenCopy, WritesBin2}
+use Rattle.luks_head.specs.declared.bin2.Bin2.{Bin2}
+use Rattle.luks_making.specs.WrittenArea.{IsWrittenArea}
+use Rattle.luks_reading.specs.Header.{json_at}
+use Rattle.luks_edit.specs.declared.edit.Edit.{Edit}
+use Rattle.luks2_edits.specs.Copies.{copy_salt, other_place, IsWrittenAnew}
+use Rattle.luks2_edits.specs.Places.{IsOfCopies}
+use Rattle.luks2_editing.specs.NewCopy.{HasNewCopy, IsCopyPlace}
+use Rattle.luks2_editing.specs.Rewriting.{AreWrittenAnew, IsRenewing, IsRewriting, MayBeHalfWritten}
+
+-- a copy that was made of the old one's fields is written anew
+module _ (sound : (v : List ℕ) (o : ℕ) (h : Bin2) (json : List ℕ) → IsWrittenCopy v o h json → IsSound v o)
+    (v : List ℕ) (e : Edit) (old : Bin2) (label random : List ℕ) (j : Value) (json : List ℕ) (is : IsRewriting v e old label j json) where
+  module _ (w : List ℕ) (q : ℕ) (new : HasNewCopy old label (copy_salt random q) json w q) where
+    rest_zeros : AreZeros (header_at w q) 480 512
+    rest_zeros k low high =
+        let b : List ℕ = header_at w q in
+        let csum : List ℕ = new.header.csum in
+        let there : 448 + (k - 448) ≡ k = omega (arith, low) in
+        let behind : 32 + (k - 480) ≡ k - 448 = omega (arith, low) in
+        ap (λ p. get_or b p 0) (sym there)
+        ∙ sym (get_or-part b 448 64 (k - 448) (omega (arith, low, high)))
+        ∙ ap (λ l. get_or l (k - 448) 0) new.written.header.fields.csum
+        ∙ ap (λ p. get_or csum p 0) (sym behind)
+        ∙ sym (get_or-drop 32 csum (k - 480) 0)
+        ∙ ap (λ l. get_or l (k - 480) 0) new.fields.csum_rest
+        ∙ get_or-replicate 32 (k - 480) 0 0 (omega (arith, low, high))
+
+    written_size : hdr_size (header_at w q) ≡ old.hdr_size
+    written_size = new.written.header.fields.hdr_size ∙ new.fields.hdr_size
+
+    json_there : json_at w q ≡ json
+    json_there =
+        let size : hdr_size (header_at w q) ≡ old.hdr_size = written_size in
+        let long : length json ≡ old.hdr_size - 4096 = is.area.long in
+        ap (λ n. part w (q + 4096) (n - 4096)) size ∙ ap (λ n. part w (q + 4096) n) (sym long) ∙ new.written.area
+
+    pub written_anew : IsWrittenAnew v old.hdr_offset e random j w q
+    written_anew = record {
+      renewed = record {
+        sound = sound w q new.header json new.written;
+        size = written_size ∙ sym is.header.hdr_size;
+        number = new.written.header.fields.seqid ∙ new.fields.seqid ∙ ap (λ n. n + 1) (sym is.header.seqid);
+        label = new.written.header.fields.label ∙ new.fields.own_label ∙ is.label_is;
+        csum_alg = new.written.header.fields.csum_alg ∙ new.fields.csum_alg;
+        salt = new.written.header.fields.salt ∙ new.fields.own_salt;
+        uuid = new.written.header.fields.uuid ∙ new.fields.uuid ∙ sym is.header.uuid;
+        subsystem = new.written.header.fields.subsystem ∙ new.fields.subsystem ∙ sym is.header.subsystem;
+        padding = new.written.header.padding;
+        tail = new.written.header.tail;
+        json = subst (λ n. IsWrittenArea (n - 4096) j (json_at w q)) (sym is.header.hdr_size) (subst (λ l. IsWrittenArea (old.hdr_size - 4096) j l) (sym json_there) is.area);
+      };
+      csum_rest = rest_zeros;
+    }
+
+-- a copy stays where its bytes do
+pub copy_stays : (old : Bin2) (label salt json v w : List ℕ) (at : ℕ) → length w ≡ length v → part w at 4096 ≡ part v at 4096
+    → part w (at + 4096) (length json) ≡ part v (at + 4096) (length json) → HasNewCopy old label salt json v at → HasNewCopy old label salt json w at
+copy_stays old label salt json v w at long head area x = record {
+  header = x.header;
+  fields = x.fields;
+  written = record {
+    header = subst (λ (b : List ℕ). WritesBin2 b x.header) (sym head) x.written.header;
+    area = area ∙ x.written.area;
+    size = x.written.size;
+    inside = (let within = x.written.inside in omega (arith, within, long));
+    listed = x.written.listed;
+    second = x.written.second;
+    magic = x.written.magic;
+    version = x.written.version;
+    hdr_offset = x.written.hdr_offset;
+    csum_alg = x.written.csum_alg;
+    csum = x.written.csum ∙ ap (λ b. sha256 (with_zero_checksum (b ++ json))) (sym head);
+  };
+}
+
+-- and so beside a range that was written
+pub copy_beside : (old : Bin2) (label salt json v w : List ℕ) (at start m : ℕ) → 4096 + length json ≡ old.hdr_size → SameBut (IsAt start m) v w
+    → (at + old.hdr_size ≤ start) ⊎ (start + m ≤ at) → HasNewCopy old label salt json v at → HasNewCopy old label salt json w at
+copy_beside old label salt json v w at start m size same (inl before) x =
+    copy_stays old label salt json v w at same.length_same
+    (part-same_but_at start m at 4096 same (inl (omega (arith, size, before))))
+    (part-same_but_at start m (at + 4096) (length json) same (inl (omega (arith, size, before)))) x
+copy_beside old label salt json v w at start m size same (inr behind) x =
+    copy_stays old label salt json v w at same.length_same
+    (part-same_but_at start m at 4096 same (inr behind))
+    (part-same_but_at start m (at + 4096) (length json) same (inr (omega (arith, behind)))) x
+
+-- the two places of the copies
+pub data Places (h o : ℕ) : Type 0 where
+  at_start : o ≡ 0 → other_place h o ≡ h → Places h o
+  behind_first : o ≢ 0 → other_place h o ≡ 0 → Places h o
+
+places_by : (h o : ℕ) (b : Bool) → (o == 0) ≡ b → Places h o
+places_by h o true e = at_start (eqb-true o 0 e) (ap (λ t. if t then h else 0) e)
+places_by h o false e = behind_first (eqb-false o 0 e) (ap (λ t. if t then h else 0) e)
+
+pub places_of : (h o : ℕ) → Places h o
+places_of h o = places_by h o (o == 0) refl
+
+-- a copy lies among both copies
+pub of_other : (h o p : ℕ) → IsAt (other_place h o) h p → IsOfCopies h p
+of_other h o p at = elim (places_of h o) [
+  | at_start zero is ↦ (let high = at.1 in omega (arith, high, is))
+  | behind_first more is ↦ (let high = at.1 in omega (arith, high, is))
+]
+
+pub of_chosen : (h o p : ℕ) → o ≤ h → IsAt o h p → IsOfCopies h p
+of_chosen h o p low at = let high = at.1 in omega (arith, high, low)
+
+-- and ends with them
+pub other_inside : (h o total q : ℕ) → q ≡ other_place h o → 2 * h ≤ total → q + h ≤ total
+other_inside h o total q at inside = elim (places_of h o) [
+  | at_start zero is ↦ omega (arith, at, is, inside)
+  | behind_first more is ↦ omega (arith, at, is, inside)
+]
+
+-- the place of the other copy is one
+pub other_is_place : (old : Bin2) (v : List ℕ) (e : Edit) (label : List ℕ) (j : Value) (json : List ℕ) → IsRewriting v e old label j json
+    → IsCopyPlace old (other_place old.hdr_size old.hdr_offset)
+other_is_place old v e label j json is = record {
+  listed = is.listed;
+  second = λ more. elim (places_of old.hdr_size old.hdr_offset) [
+    | at_start zero at ↦ sym at
+    | behind_first not at ↦ absurd (more at)
+  ];
+}
+
+pub own_is_place : (old : Bin2) (v : List ℕ) (e : Edit) (label : List ℕ) (j : Value) (json : List ℕ) → IsRewriting v e old label j json → IsCopyPlace old old.hdr_offset
+own_is_place old v e label j json is = record { listed = is.listed; second = is.second }
+
+-- ---- the two writes
+
+module _ (sound : (v : List ℕ) (o : ℕ) (h : Bin2) (json : List ℕ) → IsWrittenCopy v o h json → IsSound v o)
+    (v : List ℕ) (e : Edit) (old : Bin2) (label random : List ℕ) (j : Value) (json : List ℕ) (is : IsRewriting v e old label j json) (size : 4096 + length json ≡ old.hdr_size) where
+  h_is : hdr_size (header_at v old.hdr_offset) ≡ old.hdr_size
+  h_is = is.header.hdr_size
+
+  -- while the first of them was written
+  pub half_begun : (u w : List ℕ) → SameBut (IsAt (other_place old.hdr_size old.hdr_offset) old.hdr_size) u w → MayBeHalfWritten v old.hdr_offset e random j u w
+  half_begun u w same = inl (subst (λ n. SameBut (IsAt (other_place n old.hdr_offset) n) u w) (sym h_is) same)
+
+  module _ (u w x : List ℕ) (other : HasNewCopy old label (copy_salt random (other_place old.hdr_size old.hdr_offset)) json w (other_place old.hdr_size old.hdr_offset))
+      (first : SameBut (IsAt (other_place old.hdr_size old.hdr_offset) old.hdr_size) u w) (low : old.hdr_offset ≤ old.hdr_size) (second : SameBut (IsAt old.hdr_offset old.hdr_size) w x) where
+    other_stays : HasNewCopy old label (copy_salt random (other_place old.hdr_size old.hdr_offset)) json x (other_place old.hdr_size old.hdr_offset)
+    other_stays = copy_beside old label (copy_salt random (other_place old.hdr_size old.hdr_offset)) json w x (other_place old.hdr_size old.hdr_offset) old.hdr_offset old.hdr_size size second
+        (elim (places_of old.hdr_size old.hdr_offset) [
+          | at_start zero at ↦ inr (omega (arith, zero, at))
+          | behind_first more at ↦ inl (let same = is.second more in omega (arith, same, at))
+        ]) other
+
+    both_rest : SameBut (IsOfCopies old.hdr_size) u x
+    both_rest = same_but-then (same_but-wider (of_other old.hdr_size old.hdr_offset) first) (same_but-wider (λ p at. of_chosen old.hdr_size old.hdr_offset p low at) second)
+
+    -- while the second was
+    pub half_done : MayBeHalfWritten v old.hdr_offset e random j u x
+    half_done = inr (record {
+      other = subst (λ n. IsWrittenAnew v old.hdr_offset e random j x (other_place n old.hdr_offset)) (sym h_is)
+          (written_anew sound v e old label random j json is x (other_place old.hdr_size old.hdr_offset) other_stays);
+      rest = subst (λ n. SameBut (IsOfCopies n) u x) (sym h_is) both_rest;
+    })
+
+    -- after both
+    pub all_done : HasNewCopy old label (copy_salt random old.hdr_offset) json x old.hdr_offset → AreWrittenAnew v old.hdr_offset e random j x
+    all_done own =
+        let mine : IsWrittenAnew v old.hdr_offset e random j x old.hdr_offset = written_anew sound v e old label random j json is x old.hdr_offset own in
+        let theirs : IsWrittenAnew v old.hdr_offset e random j x (other_place old.hdr_size old.hdr_offset) =
+        written_anew sound v e old label random j json is x (other_place old.hdr_size old.hdr_offset) other_stays in
+        elim (places_of old.hdr_size old.hdr_offset) [
+          | at_start zero at ↦ record {
+            first = subst (λ q. IsWrittenAnew v old.hdr_offset e random j x q) zero mine;
+            second = subst (λ q. IsWrittenAnew v old.hdr_offset e random j x q) (at ∙ sym h_is) theirs;
+          }
+          | behind_first more at ↦ record {
+            first = subst (λ q. IsWrittenAnew v old.hdr_offset e random j x q) at theirs;
+            second = subst (λ q. IsWrittenAnew v old.hdr_offset e random j x q) (sym (is.second more) ∙ sym h_is) mine;
+          }
+        ]
+
+-- ---- the JSON area
+
+-- a JSON area of the length that is renewed, with any metadata
+pub rewriting_of : (v : List ℕ) (e : Edit) (old : Bin2) (label : List ℕ) (j : Value) (json : List ℕ) (len : ℕ) → IsRenewing v e old label len → IsWrittenArea len j json
+    → IsRewriting v e old label j json
+rewriting_of v e old label j json len is area = record {
+  header = is.header;
+  listed = is.listed;
+  second = is.second;
+  label_is = is.label_is;
+  area = subst (λ n. IsWrittenArea n j json) is.len_is area;
+}

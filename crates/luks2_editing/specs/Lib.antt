@@ -1,0 +1,4 @@
+pub mod NewCopy
+pub mod Rewriting
+pub mod Prepared
+pub mod Replies

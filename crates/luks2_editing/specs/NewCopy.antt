@@ -1,0 +1,34 @@
+-- A copy of the LUKS2 header that takes the place of an older one, by the fields of the old one's
+-- binary header (LUKS2 On-Disk Format 1.1, 2.1).
+use Rattle.std.specs.Prelude.{◌≡◌, ◌≢◌, ℕ, ◌+◌, ◌++◌, List, codes, drop, replicate}
+use Rattle.luks_head.specs.Header2.{magic_of, sha256_size}
+use Rattle.luks_head.specs.Sizes.{IsListed}
+use Rattle.luks_head.specs.Written.{IsWrittenCopy}
+use Rattle.luks_head.specs.declared.bin2.Bin2.{Bin2}
+
+-- `new` is the binary header of the copy at the place `o` that takes the place of the copy of `old`,
+-- with this label and salt; what its checksum is made of is a matter of the whole copy
+pub record IsNewHeader (old : Bin2) (o : ℕ) (label salt : List ℕ) (new : Bin2) : Type 0 where
+  pub magic : new.magic ≡ magic_of o
+  pub version : new.version ≡ 2
+  pub hdr_size : new.hdr_size ≡ old.hdr_size
+  pub seqid : new.seqid ≡ old.seqid + 1
+  pub own_label : new.label ≡ label
+  pub csum_alg : new.csum_alg ≡ codes "sha256" ++ replicate 26 0
+  pub own_salt : new.salt ≡ salt
+  pub uuid : new.uuid ≡ old.uuid
+  pub subsystem : new.subsystem ≡ old.subsystem
+  pub hdr_offset : new.hdr_offset ≡ o
+  pub csum_rest : drop sha256_size new.csum ≡ replicate sha256_size 0
+
+-- the volume `w` has at the place `o` the copy that takes the place of that of `old`, with this label,
+-- salt and JSON area
+pub record HasNewCopy (old : Bin2) (label salt json w : List ℕ) (o : ℕ) : Type 0 where
+  pub header : Bin2
+  pub fields : IsNewHeader old o label salt header
+  pub written : IsWrittenCopy w o header json
+
+-- a copy with the header's size may stand at the place `o`
+pub record IsCopyPlace (old : Bin2) (o : ℕ) : Type 0 where
+  pub listed : IsListed old.hdr_size
+  pub second : o ≢ 0 → old.hdr_size ≡ o

@@ -1,0 +1,45 @@
+-- Writing both copies of a LUKS2 header anew, from the one that counts.
+use Rattle.std.specs.Prelude.{◌≡◌, ◌≢◌, ℕ, ◌-◌, ◌⊎◌, List}
+use Rattle.serde_json.specs.Data.{Data as Value}
+use Rattle.luks_area.specs.Ranges.{IsAt, SameBut}
+use Rattle.luks_head.specs.Header2.{binary_header_size, hdr_size, header_at, HoldsBin2}
+use Rattle.luks_head.specs.Sizes.{IsListed}
+use Rattle.luks_head.specs.declared.bin2.Bin2.{Bin2}
+use Rattle.luks_making.specs.WrittenArea.{IsWrittenArea}
+use Rattle.luks_edit.specs.declared.edit.Edit.{Edit}
+use Rattle.luks2_edits.specs.Copies.{label_after, label_field, other_place, IsWrittenAnew}
+use Rattle.luks2_edits.specs.Places.{IsOfCopies}
+
+-- `old` is the binary header of a copy of the volume `v`, `label` its label after the edit, and `json`
+-- the JSON area with the metadata `j`
+pub record IsRewriting (v : List ℕ) (e : Edit) (old : Bin2) (label : List ℕ) (j : Value) (json : List ℕ) : Type 0 where
+  pub header : HoldsBin2 (header_at v old.hdr_offset) old
+  pub listed : IsListed old.hdr_size
+  pub second : old.hdr_offset ≢ 0 → old.hdr_size ≡ old.hdr_offset
+  pub label_is : label ≡ label_after e (label_field (header_at v old.hdr_offset))
+  pub area : IsWrittenArea (old.hdr_size - binary_header_size) j json
+
+-- the same of every JSON area with `len` bytes
+pub record IsRenewing (v : List ℕ) (e : Edit) (old : Bin2) (label : List ℕ) (len : ℕ) : Type 0 where
+  pub header : HoldsBin2 (header_at v old.hdr_offset) old
+  pub listed : IsListed old.hdr_size
+  pub second : old.hdr_offset ≢ 0 → old.hdr_size ≡ old.hdr_offset
+  pub label_is : label ≡ label_after e (label_field (header_at v old.hdr_offset))
+  pub len_is : len ≡ old.hdr_size - binary_header_size
+
+-- both copies of the volume `w` take the place of the copy at `o` of `v`
+pub record AreWrittenAnew (v : List ℕ) (o : ℕ) (e : Edit) (random : List ℕ) (j : Value) (w : List ℕ) : Type 0 where
+  pub first : IsWrittenAnew v o e random j w 0
+  pub second : IsWrittenAnew v o e random j w (hdr_size (header_at v o))
+
+-- the copy that doesn't stand at the place `o` is written anew, and of `u` no byte beside the copies changed
+pub record IsOtherWritten (v : List ℕ) (o : ℕ) (e : Edit) (random : List ℕ) (j : Value) (u w : List ℕ) : Type 0 where
+  pub other : IsWrittenAnew v o e random j w (other_place (hdr_size (header_at v o)) o)
+  pub rest : SameBut (IsOfCopies (hdr_size (header_at v o))) u w
+
+-- what writing the other copy and then the one at the place `o` may leave of the volume `u`: the
+-- copy at the place `o` as it was, or the other one written
+abbrev pub MayBeHalfWritten : List ℕ → ℕ → Edit → List ℕ → Value → List ℕ → List ℕ → Type 0
+MayBeHalfWritten v o e random j u w =
+    SameBut (IsAt (other_place (hdr_size (header_at v o)) o) (hdr_size (header_at v o))) u w
+    ⊎ IsOtherWritten v o e random j u w

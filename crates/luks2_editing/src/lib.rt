@@ -1,0 +1,13 @@
+//! The edits of LUKS2 volumes: the calls that do what `luks2_edits` defines.
+#![tactic(auto)]
+
+mod labelling;
+mod new_copy;
+mod preparing;
+mod random;
+mod repairing;
+mod rewriting;
+mod writing;
+
+pub use labelling::set_label;
+pub use repairing::repair;

@@ -1,0 +1,27 @@
+//! The random bytes of an edit, by their places.
+ghost use Rattle.std.specs.Prelude.{◌≡◌, ◌+◌, ◌≤◌, length};
+ghost use Rattle.luks_area.specs.Ranges.{part};
+ghost use Rattle.luks2_edits.specs.Copies.{copy_salt};
+
+/// The `N` bytes at the place `at`.
+fn taken_array<const N: usize>(random: &[u8], at: usize) -> [u8; N]
+    requires { at + N ≤ length random.now }
+    ensures { result ≡ part random.now at N }
+{
+    let mut owned = [0; N];
+    owned.copy_from_slice(&random[at..at + N]);
+    owned
+}
+
+/// The salt of the copy of the header that stands at the place `at`: the first 64 random bytes are
+/// that of the copy at 0, the next 64 that of the other one.
+pub(crate) fn copy_salt(random: &[u8], at: u64) -> [u8; 64]
+    requires { 128 ≤ length random.now }
+    ensures { result ≡ copy_salt random.now at }
+{
+    if at == 0 {
+        taken_array(random, 0)
+    } else {
+        taken_array(random, 64)
+    }
+}

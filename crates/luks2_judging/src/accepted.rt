@@ -1,0 +1,43 @@
+//! The copy that counts of a LUKS2 volume that is accepted.
+ghost use Rattle.std.specs.Prelude.{◌≡◌, ◌≢◌, ℕ, List, false, length, IfErr, IfOk, OnOk};
+ghost use Rattle.luks_edit.specs.EditFaults.{is_edit_failure};
+ghost use Rattle.luks_reading.specs.Checked.{WellFormed};
+ghost use Rattle.luks_reading.specs.Header.{IsAcceptedHeader, IsHeader};
+ghost use Rattle.luks_reading.specs.declared.header.Header.TheVariants.{Luks2 as OfLuks2};
+ghost use Rattle.luks2_judging.specs.Header.{IsOfLuks2, IsUnaccepted};
+
+use luks_edit::EditFault;
+use luks_reading::{ChosenCopy, Data, Header, check_header};
+
+/// The copy that counts of a volume of `total` bytes, or why the volume isn't accepted.
+pub(crate) fn accepted_copy(
+    header: &Header,
+    data_: Data,
+    total: u64,
+) -> Result<&ChosenCopy, EditFault>
+    requires accepted { IsAcceptedHeader header.now }
+    requires luks2 { IsOfLuks2 header.now }
+    ensures own { IfErr result (λ f. is_edit_failure f ≡ false) }
+    ensures memory { IfErr result (λ f. f ≢ EditFault.Memory) }
+    ensures copy { IfOk result (λ c. header.now ≡ OfLuks2 c.now) }
+    ensures well { (v : List ℕ) → IsHeader v header.now → length v ≡ total
+        → OnOk result (WellFormed v data_) }
+    ensures refused { (v : List ℕ) → IsHeader v header.now → length v ≡ total
+        → IfErr result (IsUnaccepted v data_) }
+{
+    match check_header(header, data_, total) {
+        Ok(_) => Ok(copy_of(header)),
+        Err(fault) => Err(EditFault::NotAccepted(fault)),
+    }
+}
+
+/// The copy that counts.
+fn copy_of(header: &Header) -> &ChosenCopy
+    requires { IsOfLuks2 header.now }
+    ensures { header.now ≡ OfLuks2 result.now }
+{
+    match header {
+        Header::Luks1(_) => unreachable!(),
+        Header::Luks2(copy) => copy,
+    }
+}

@@ -1,0 +1,121 @@
+//! Judging an edit by the keyslots of the metadata, with no key.
+ghost use Rattle.std.specs.Prelude.{◌≡◌, ◌<◌, ℕ, false, true, IfOk, IsTrue, MatchOption, MatchResult};
+ghost use Rattle.luks_making.specs.Conditions.{IsFree};
+ghost use Rattle.luks_meta.specs.Content.{content};
+ghost use Rattle.luks_meta.specs.Requirements.{has_requirements};
+ghost use Rattle.luks2_edits.specs.Metadata.{IsInUse, IsLeastFree};
+ghost use Rattle.luks2_edits.specs.Refused.{IsAbsent, Need2};
+ghost use Rattle.luks2_judging.specs.Judged.{IsMade, IsNewNumber, IsNumberFault, IsUnmade, Judges};
+
+use crate::asked::keyslot_to_open;
+use luks_edit::{Edit, EditFault};
+use luks_meta::Meta;
+
+/// Whether the keyslot is there.
+pub(crate) fn is_used(meta: &Meta, n: u8) -> bool
+    ensures used { IsTrue result → IsInUse (content meta.now) n }
+    ensures free { result ≡ false → n < 32 → IsFree (content meta.now) n }
+    ensures unused { result ≡ false → IsInUse (content meta.now) n → ⊥ }
+{
+    if n > 31 {
+        return false;
+    }
+    match meta.keyslot(n) {
+        Some(_) => true,
+        None => false,
+    }
+}
+
+/// Whether nothing is required that this program doesn't know. Refused by `Requirements`.
+pub(crate) fn judge_requirements(meta: &Meta) -> Result<(), EditFault>
+    ensures { Judges (has_requirements (content meta.now) ≡ true) EditFault.Requirements result }
+{
+    if meta.has_requirements() {
+        return Err(EditFault::Requirements);
+    }
+    Ok(())
+}
+
+/// Whether the keyslot is there that the edit opens. Refused by `NoSuchSlot`.
+pub(crate) fn judge_opener(meta: &Meta, edit: &Edit<'_>) -> Result<(), EditFault>
+    ensures { Judges (IsAbsent (content meta.now) edit.now) EditFault.NoSuchSlot result }
+{
+    match keyslot_to_open(edit) {
+        None => Ok(()),
+        Some(opener) => {
+            if is_used(meta, opener.slot) {
+                Ok(())
+            } else {
+                Err(EditFault::NoSuchSlot)
+            }
+        }
+    }
+}
+
+/// The least number that no keyslot has.
+pub(crate) fn least_free(meta: &Meta) -> Option<u8>
+    ensures { MatchOption result ((n : ℕ) → IsFree (content meta.now) n → ⊥)
+        (IsLeastFree (content meta.now)) }
+{
+    for n in 0..32 {
+        if !is_used(meta, n) {
+            return Some(n);
+        }
+    }
+    None
+}
+
+/// The number of the keyslot to make: `to`, or else the least that is free. Refused by `SlotTaken`,
+/// `NoFreeSlot`.
+fn new_number(meta: &Meta, to: Option<u8>) -> Result<u8, EditFault>
+    ensures { MatchResult result (IsNewNumber (content meta.now) to)
+        (IsNumberFault (content meta.now) to) }
+{
+    match to {
+        Some(n) => {
+            if n > 31 {
+                return Err(EditFault::NoFreeSlot);
+            }
+            if is_used(meta, n) {
+                return Err(EditFault::SlotTaken);
+            }
+            Ok(n)
+        }
+        None => match least_free(meta) {
+            Some(n) => Ok(n),
+            None => Err(EditFault::NoFreeSlot),
+        },
+    }
+}
+
+/// The number of the keyslot that the edit makes, if it makes one. Refused by `SlotTaken`,
+/// `NoFreeSlot`.
+pub(crate) fn judge_number(meta: &Meta, edit: &Edit<'_>) -> Result<Option<u8>, EditFault>
+    ensures { MatchResult result (IsMade (content meta.now) edit.now)
+        (IsUnmade (content meta.now) edit.now) }
+{
+    match *edit {
+        Edit::Add {
+            by_: _,
+            old: _,
+            new: _,
+            to,
+            iterations: _,
+        } => match new_number(meta, to) {
+            Ok(n) => Ok(Some(n)),
+            Err(fault) => Err(fault),
+        },
+        Edit::Change {
+            slot: _,
+            old: _,
+            new: _,
+            iterations: _,
+        } => Ok(None),
+        Edit::Remove {
+            slot: _,
+            passphrase: _,
+        } => Ok(None),
+        Edit::Repair => Ok(None),
+        Edit::Label { text: _ } => Ok(None),
+    }
+}

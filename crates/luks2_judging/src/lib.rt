@@ -1,0 +1,9 @@
+//! Judging an edit of a LUKS2 volume, before anything is written.
+#![tactic(auto)]
+
+mod accepted;
+mod asked;
+mod keyslots;
+mod needing;
+
+pub use needing::needed_luks2;

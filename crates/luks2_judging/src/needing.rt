@@ -1,0 +1,91 @@
+//! How many random bytes an edit of a LUKS2 volume takes.
+ghost use Rattle.std.specs.Prelude.{◌≡◌, ◌≢◌, ◌+◌, ◌-◌, ◌*◌, ℕ, List, false, length, IfErr};
+ghost use Rattle.luks_edit.specs.EditFaults.{is_edit_failure};
+ghost use Rattle.luks_meta.specs.Content.{content};
+ghost use Rattle.luks_reading.specs.Header.{IsAcceptedHeader, IsHeader};
+ghost use Rattle.luks2_edits.specs.Metadata.{IsInUse};
+ghost use Rattle.luks2_edits.specs.Refused.{IsAbsent, Need2, NeedsLike};
+ghost use Rattle.luks2_judging.specs.Header.{IsOfLuks2};
+ghost use Rattle.luks2_judging.specs.Needed.{TellsNeed2};
+
+use crate::accepted::accepted_copy;
+use crate::keyslots::{judge_number, judge_opener, judge_requirements};
+use luks_edit::{Edit, EditFault};
+use luks_head::one_choice;
+use luks_meta::{Meta, one_value};
+use luks_reading::{Data, Header, no_fault_is_well_formed};
+
+/// The salts of both copies of the header.
+const COPY_SALTS: u64 = 128;
+
+/// The salt of a keyslot.
+const KEYSLOT_SALT: u64 = 32;
+
+/// How many random bytes the edit takes of the LUKS2 volume of `total` bytes with this header, or
+/// the first of `NotAccepted`, `Requirements`, `NoSuchSlot`, `SlotTaken` and `NoFreeSlot`.
+///
+/// Each edit takes 64 for the salt of each copy of the header; one that seals a keyslot takes 32
+/// more for its salt, and for each of its stripes but the last as many as the volume key has. No
+/// keyslot is opened, and no memory is taken.
+pub fn needed_luks2(
+    header: &Header,
+    data_: Data,
+    total: u64,
+    edit: &Edit<'_>,
+) -> Result<u64, EditFault>
+    requires accepted { IsAcceptedHeader header.now }
+    requires luks2 { IsOfLuks2 header.now }
+    ensures own { IfErr result (λ f. is_edit_failure f ≡ false) }
+    ensures memory { IfErr result (λ f. f ≢ EditFault.Memory) }
+    ensures tells { (v : List ℕ) → IsHeader v header.now → length v ≡ total
+        → TellsNeed2 data_ v edit.now result }
+{
+    one_choice();
+    one_value();
+    no_fault_is_well_formed();
+    let copy = accepted_copy(header, data_, total)?;
+    judge_requirements(&copy.meta)?;
+    judge_opener(&copy.meta, edit)?;
+    judge_number(&copy.meta, edit)?;
+    Ok(need(&copy.meta, edit))
+}
+
+/// How many random bytes the edit takes, where the keyslot is there that it opens.
+pub(crate) fn need(meta: &Meta, edit: &Edit<'_>) -> u64
+    ensures { (IsAbsent (content meta.now) edit.now → ⊥) → Need2 (content meta.now) edit.now result }
+{
+    match *edit {
+        Edit::Add {
+            by_,
+            old: _,
+            new: _,
+            to: _,
+            iterations: _,
+        } => sealed_need(meta, by_),
+        Edit::Change {
+            slot,
+            old: _,
+            new: _,
+            iterations: _,
+        } => sealed_need(meta, slot),
+        Edit::Remove {
+            slot: _,
+            passphrase: _,
+        } => COPY_SALTS,
+        Edit::Repair => COPY_SALTS,
+        Edit::Label { text: _ } => COPY_SALTS,
+    }
+}
+
+/// What an edit takes that seals a keyslot like the keyslot `n`.
+fn sealed_need(meta: &Meta, n: u8) -> u64
+    ensures { IsInUse (content meta.now) n → NeedsLike (content meta.now) n result }
+{
+    match meta.keyslot(n) {
+        None => COPY_SALTS,
+        Some(keyslot) => {
+            let stripes = u64::from(keyslot.af.stripes.saturating_sub(1));
+            COPY_SALTS + KEYSLOT_SALT + stripes * u64::from(keyslot.key_size)
+        }
+    }
+}
