@@ -13,8 +13,6 @@ mod explaining;
 #[cfg(test)]
 mod failing;
 #[cfg(test)]
-mod formatting;
-#[cfg(test)]
 mod images;
 #[cfg(test)]
 mod keys;
