@@ -3,3 +3,5 @@ mod RewritingFacts
 mod RowFacts
 mod RenewalFacts
 mod PlainEditFacts
+mod KeyAreaFacts
+mod RemovalFacts

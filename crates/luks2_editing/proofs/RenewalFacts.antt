@@ -52,7 +52,7 @@ among_pass test (size ∷ sizes) n every among =
     ]
 
 -- a header's size has room for its binary part
-listed_at_least : (n : ℕ) → IsListed n → 16384 ≤ n
+pub listed_at_least : (n : ℕ) → IsListed n → 16384 ≤ n
 listed_at_least n listed = leb-true 16384 n (among_pass (λ m. nat_le 16384 m) listed_sizes n refl listed)
 
 -- the place of the copy that is chosen
@@ -97,10 +97,10 @@ module _ (laws : VolumeLaws) (v : List ℕ) (payload : Data) (copy : ChosenCopy)
   pub said : (says : ℕ → Value → Type 0) → says copy.header.hdr_offset (content copy.meta) → HasSaid v says
   said says is = record { place = copy.header.hdr_offset; value = content copy.meta; metadata = metadata_here; is = is }
 
-  size_is : hdr_size (header_at v copy.header.hdr_offset) ≡ copy.header.hdr_size
+  pub size_is : hdr_size (header_at v copy.header.hdr_offset) ≡ copy.header.hdr_size
   size_is = x.header.hdr_size
 
-  sound_here : IsSound v copy.header.hdr_offset
+  pub sound_here : IsSound v copy.header.hdr_offset
   sound_here = laws.sound v copy.header.hdr_offset copy.copies x.chosen
 
   len_here : area_len copy.meta ≡ hdr_size (header_at v copy.header.hdr_offset) - 4096

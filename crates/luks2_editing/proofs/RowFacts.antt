@@ -123,3 +123,29 @@ first_of_row v payload e r f place x here = (
   here,
   λ g bad. (rows_from (edit_row f) v payload e r x g bad, λ _. subst (λ xs. NotAfter xs (edit_place g)) (sym place) tt),
 )
+
+-- ---- the rows before that of the sequence number
+
+pub passed_before : (v : List ℕ) (payload : Data) (e : Edit) (r : List ℕ) → ((f : EditFault) → IsEditFault2 v payload e r f → 12 ≤ edit_row f) → Passed 12 v payload e r
+passed_before v payload e r x = record {
+  accepted = λ _ f bad. (let low : 12 ≤ 1 = x (fault.NotAccepted f) bad in omega (arith, low));
+  opener = record {
+    known = λ _ bad. (let low : 12 ≤ 2 = x fault.Requirements bad in omega (arith, low));
+    there = λ _ bad. (let low : 12 ≤ 3 = x fault.NoSuchSlot bad in omega (arith, low));
+    unlocked = λ _ bad. (let low : 12 ≤ 4 = x fault.Locked bad in omega (arith, low));
+    unshut = λ _ f bad. (let low : 12 ≤ 5 = x (fault.Slot f) bad in omega (arith, low));
+  };
+  new = record {
+    untaken = λ _ bad. (let low : 12 ≤ 6 = x fault.SlotTaken bad in omega (arith, low));
+    some_free = λ _ bad. (let low : 12 ≤ 7 = x fault.NoFreeSlot bad in omega (arith, low));
+    some_room = λ _ bad. (let low : 12 ≤ 8 = x fault.NoRoom bad in omega (arith, low));
+    not_last = λ _ bad. (let low : 12 ≤ 9 = x fault.LastSlot bad in omega (arith, low));
+    many = λ _ bad. (let low : 12 ≤ 10 = x fault.Iterations bad in omega (arith, low));
+  };
+  rest = record {
+    label = λ _ bad. (let low : 12 ≤ 11 = x fault.BadLabel bad in omega (arith, low));
+    numbered = λ lt. absurd (omega (arith, lt));
+    roomy = λ lt. absurd (omega (arith, lt));
+    counted = λ lt. absurd (omega (arith, lt));
+  };
+}

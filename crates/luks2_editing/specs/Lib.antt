@@ -2,3 +2,4 @@ pub mod NewCopy
 pub mod Rewriting
 pub mod Prepared
 pub mod Replies
+pub mod Lost

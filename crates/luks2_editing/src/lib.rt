@@ -5,9 +5,11 @@ mod labelling;
 mod new_copy;
 mod preparing;
 mod random;
+mod removing;
 mod repairing;
 mod rewriting;
 mod writing;
 
 pub use labelling::set_label;
+pub use removing::remove;
 pub use repairing::repair;

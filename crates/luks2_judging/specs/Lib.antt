@@ -1,3 +1,4 @@
 pub mod Header
 pub mod Judged
 pub mod Needed
+pub mod Room

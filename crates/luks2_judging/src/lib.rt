@@ -5,5 +5,7 @@ mod accepted;
 mod asked;
 mod keyslots;
 mod needing;
+mod room;
+mod rows;
 
 pub use needing::needed_luks2;

@@ -8,4 +8,6 @@ mod formats;
 #[cfg(test)]
 mod formatting;
 #[cfg(test)]
+mod refused_memory;
+#[cfg(test)]
 mod sums;

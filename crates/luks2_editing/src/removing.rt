@@ -1,0 +1,106 @@
+//! Removing a keyslot of a LUKS2 volume.
+ghost use Rattle.std.specs.Prelude.{◌≡◌, ◌+◌, ◌^◌, ◌<◌, false, IfErr, IfOk, IsOk};
+ghost use Rattle.luks_area.specs.Area.{IsInside};
+ghost use Rattle.luks_area.specs.Device.{CountsFailure};
+ghost use Rattle.luks_meta.specs.Content.{area_len, content};
+ghost use Rattle.luks_making.specs.Without.{without_slot};
+ghost use Rattle.luks_reading.specs.Checked.{WellFormed};
+ghost use Rattle.luks_reading.specs.Header.{IsChosenCopy};
+ghost use Rattle.luks_reading.specs.declared.report.Data.{Data as Payload};
+ghost use Rattle.luks_edit.specs.EditFaults.{is_edit_failure};
+ghost use Rattle.luks_edit.specs.declared.edit.Edit.TheVariants.{Remove};
+ghost use Rattle.luks2_edits.specs.Metadata.{IsKeyArea};
+ghost use Rattle.luks2_editing.specs.Lost.{HasKeyArea, HasNoFaultBefore};
+ghost use Rattle.luks2_editing.specs.Replies.{Replies2};
+
+use crate::rewriting::rewrite;
+use luks_area::{Area, Device};
+use luks_edit::{Done, EditFault};
+use luks_head::{chosen_copy_is_sound, one_choice, soundness_is_local};
+use luks_meta::{Meta, one_value};
+use luks_reading::{ChosenCopy, well_formed_volume};
+use luks_steps::wipe_area;
+use std::alloc::Global;
+
+/// Removes the keyslot from the metadata, writes both copies of the header anew, the other copy first,
+/// and then overwrites the keyslot's area with zeros; each with a flush. The rows of the faults up to
+/// `BadLabel` were judged.
+///
+/// Refused by `SeqExhausted`, `MetadataFull` or `RandomLength`; 128 random bytes are needed, the salts
+/// of the copies. Takes memory for the metadata and the JSON area, before the first write.
+pub fn remove<D: Device>(
+    alloc: Global,
+    device: &mut D,
+    copy: &ChosenCopy,
+    slot: u8,
+    passphrase: &[u8],
+    random: &[u8],
+) -> Result<Done, EditFault>
+    requires numbered { slot < 32 }
+    requires room { D.failed device.old + 1 < 2 ^ 64 }
+    ensures size { D.size device.new ≡ D.size device.old }
+    ensures count { CountsFailure is_edit_failure result
+        (D.failed device.old) (D.failed device.new) }
+    ensures replies { D.tells → (payload : Payload) → IsChosenCopy (D.bytes device.old) copy.now
+        → WellFormed (D.bytes device.old) payload
+        → HasNoFaultBefore 12 (D.bytes device.old) payload (Remove slot passphrase.entry) random.now
+        → Replies2 payload (D.bytes device.old) (Remove slot passphrase.entry) random.now
+        result (D.bytes device.new) }
+{
+    one_choice();
+    one_value();
+    chosen_copy_is_sound();
+    soundness_is_local();
+    well_formed_volume();
+    let area = lost_area(&copy.meta, slot, device.len())?;
+    let meta = without_slot(alloc, &copy.meta, slot)?;
+    rewrite(
+        alloc,
+        device,
+        &copy.header,
+        &meta,
+        copy.header.label,
+        random,
+    )?;
+    match wipe_area(device, area) {
+        Ok(()) => Ok(Done { slot: None }),
+        Err(_) => Err(EditFault::Device),
+    }
+}
+
+/// The area of the keyslot, which is there, inside a volume of `total` bytes.
+fn lost_area(meta: &Meta, slot: u8, total: u64) -> Result<Area, EditFault>
+    requires { slot < 32 }
+    ensures area { IfOk result (IsKeyArea (content meta.now) slot) }
+    ensures inside { IfOk result (λ a. IsInside a total) }
+    ensures found { HasKeyArea (content meta.now) slot total → IsOk result }
+    ensures own { IfErr result (λ f. is_edit_failure f ≡ false) }
+{
+    match meta.keyslot(slot) {
+        Some(keyslot) => {
+            let area = Area {
+                start: keyslot.area.offset,
+                len: keyslot.area.size,
+            };
+            if area.is_inside(total) {
+                Ok(area)
+            } else {
+                Err(EditFault::MetadataFull)
+            }
+        }
+        None => Err(EditFault::NoSuchSlot),
+    }
+}
+
+/// The metadata without the keyslot, or `Memory`.
+fn without_slot(alloc: Global, meta: &Meta, slot: u8) -> Result<Meta, EditFault>
+    requires { slot < 32 }
+    ensures value { IfOk result (λ m. content m ≡ without_slot slot (content meta.now)) }
+    ensures length { IfOk result (λ m. area_len m ≡ area_len meta.now) }
+    ensures memory { IfErr result (λ f. f ≡ EditFault.Memory) }
+{
+    match meta.without_slot(alloc, slot) {
+        Ok(made) => Ok(made),
+        Err(_) => Err(EditFault::Memory),
+    }
+}
