@@ -1,11 +1,8 @@
 -- The metadata that an edit makes is one but for the salt.
-use Rattle.std.proofs.Common.{◌≡◌, ℕ, ◌+◌, ◌*◌, ◌≤◌, List, length, codes, Option, Some, None, refl, sym, ap, subst, ◌∙◌, arith}
+use Rattle.std.proofs.Common.{◌≡◌, ℕ, ◌*◌, List, length, Option, Some, None, refl, sym, ap, subst, ◌∙◌, arith}
 use Rattle.base64.specs.GeneralPurpose.{IsBytes}
 use Rattle.serde_json.specs.Data.{Data as Value}
 use Rattle.luks_area.specs.declared.area.Area.{Area}
-use Rattle.luks_rules.specs.declared.table.Outer.TheVariants as outer
-use Rattle.luks_rules.specs.Reading.{number_in, text_of}
-use Rattle.luks_rules.specs.Sizes.{inside_at}
 use Rattle.luks_making.specs.Changed.{changed_slot}
 use Rattle.luks_making.specs.Keyslots.{IsMadeFrom, NewMembers, SlotMembers}
 use Rattle.luks_making.specs.With.{with_slot}
