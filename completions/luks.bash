@@ -6,6 +6,7 @@ _luks() {
         [check]="--detached --help"
         [show]="--help"
         [open]="--passphrase --slot --help"
+        [format]="--passphrase --random --version --hash --iterations --detached --help"
         [help]="--help"
     )
     local word=${COMP_WORDS[COMP_CWORD]} before=${COMP_WORDS[COMP_CWORD - 1]} words=
@@ -15,6 +16,10 @@ _luks() {
         words="${!options[*]}"
     elif [[ $before == --slot ]]; then
         words=$(echo {0..31})
+    elif [[ $before == --version ]]; then
+        words="1 2"
+    elif [[ $before == --hash ]]; then
+        words="sha1 sha256"
     elif [[ $word == -* ]]; then
         words=${options[${COMP_WORDS[1]}]}
     fi

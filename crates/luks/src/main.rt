@@ -11,7 +11,7 @@ ghost use Rattle.luks_area.specs.Files.{file_failures};
 use clap::error::ErrorKind as FaultKind;
 use luks_area::FileDevice;
 use luks_cli::{InputFault, Inputs, Line, Reason, execute, first_bytes, line};
-use std::fs::File;
+use std::fs::{File, OpenOptions};
 use std::io::{ErrorKind, Write};
 use std::os::unix::fs::FileTypeExt;
 use std::process::ExitCode;
@@ -75,11 +75,12 @@ fn run_line<R: AllocGlobal + Files<File = File> + Print + Eprint>(
 ) -> io::Result<u8> {
     let words = passphrase(rt, line);
     let mut inputs = Inputs {
-        volume: open_volume(rt, line.volume),
+        volume: open_volume(rt, line),
         passphrase: match &words {
             Ok(bytes) => Ok(bytes.as_slice()),
             Err(fault) => Err(*fault),
         },
+        random: open_random(rt, line),
     };
     let mut out = Vec::new(rt.alloc());
     let mut err = Vec::new(rt.alloc());
@@ -109,16 +110,31 @@ fn passphrase<R: AllocGlobal + Files<File = File>>(
     first_bytes(rt.alloc(), &mut file)
 }
 
-/// The volume, opened for reading alone. A file of another kind, as a folder or a pipe, has no
-/// length, and isn't opened at all: opening a pipe would wait for its writer.
-fn open_volume<R: Files<File = File>>(rt: &R, path: &str) -> Result<FileDevice<File>, InputFault>
+/// The volume, opened for reading, and for writing where the command writes to it. A file of another
+/// kind, as a folder or a pipe, has no length, and isn't opened at all: opening a pipe would wait for
+/// its writer.
+fn open_volume<R: Files<File = File>>(
+    rt: &R,
+    line: &Line<'_>,
+) -> Result<FileDevice<File>, InputFault>
     ensures { IfOk result (λ device. file_failures device ≡ 0) }
 {
+    let path = line.volume;
     let kind = fs::metadata(rt, path)?.file_type();
     if !kind.is_file() && !kind.is_block_device() {
         return Err(InputFault::Unreadable(Reason::NoVolume));
     }
-    Ok(FileDevice::new(File::open(rt, path)?)?)
+    let mut options = OpenOptions::new();
+    let file = options.read(true).write(line.writes()).open(rt, path)?;
+    Ok(FileDevice::new(file)?)
+}
+
+/// The file of the random bytes, of any kind, where the command needs them.
+fn open_random<R: Files<File = File>>(rt: &R, line: &Line<'_>) -> Result<File, InputFault> {
+    let Some(path) = line.random() else {
+        return Err(InputFault::Absent);
+    };
+    Ok(File::open(rt, path)?)
 }
 
 fn device_fault<R: Print>(rt: &R) -> io::Result<u8> {

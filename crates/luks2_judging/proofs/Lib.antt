@@ -1,5 +1,11 @@
 pub mod ChosenFacts
+pub mod EditedFacts
+pub mod EncodedFacts
 pub mod KeyslotFacts
+pub mod LastFacts
 pub mod MadeFacts
 pub mod NeedFacts
+pub mod RoomFacts
 pub mod RowFacts
+pub mod SaltFacts
+pub mod StripeFacts

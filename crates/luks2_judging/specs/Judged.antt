@@ -2,6 +2,7 @@
 use Rattle.std.specs.Prelude.{◌≡◌, ℕ, Option, Some, None, Result, Ok, Err}
 use Rattle.serde_json.specs.Data.{Data as Value}
 use Rattle.luks_making.specs.Conditions.{IsFree}
+use Rattle.luks_making.specs.Naming.{IsDigestOf}
 use Rattle.luks_edit.specs.declared.edit.Edit.{Edit}
 use Rattle.luks_edit.specs.declared.edit.Edit.TheVariants.{Add, Change, Remove, Repair, Label}
 use Rattle.luks_edit.specs.declared.edit_fault.EditFault.{EditFault}
@@ -42,3 +43,9 @@ abbrev pub IsUnmade : Value → Edit → EditFault → Type 0
 IsUnmade j e fault.SlotTaken = IsTaken j e
 IsUnmade j e fault.NoFreeSlot = HasNoFree j e
 IsUnmade j e f = ⊥
+
+-- ---- the keyslots of a digest
+
+-- the digest names no keyslot but `slot`
+abbrev pub IsOnlyName : Value → ℕ → ℕ → Type 0
+IsOnlyName j digest slot = (n : ℕ) → IsDigestOf j n digest → n ≡ slot

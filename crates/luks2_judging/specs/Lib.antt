@@ -1,3 +1,5 @@
 pub mod Header
 pub mod Judged
 pub mod Needed
+pub mod Room
+pub mod Salts

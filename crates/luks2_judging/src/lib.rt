@@ -4,6 +4,10 @@
 mod accepted;
 mod asked;
 mod keyslots;
+mod laws;
 mod needing;
+mod room;
+mod rows;
 
+pub use laws::salts_are_as_long;
 pub use needing::needed_luks2;

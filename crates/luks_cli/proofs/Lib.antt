@@ -1,3 +1,4 @@
 pub mod ExitFacts
 pub mod FileFacts
+pub mod FormatFacts
 pub mod Fronts

@@ -53,6 +53,22 @@ pub(crate) fn device_fault<W: Write, E: Write>(
     Ok(Status::Fault)
 }
 
+/// What is printed where writing the volume of this name failed.
+pub(crate) fn write_fault<W: Write, E: Write>(
+    volume: &str,
+    out: &mut W,
+    err: &mut E,
+) -> io::Result<Status>
+    ensures { IfOk result (λ s. s ≡ Status.Fault) }
+{
+    let _ = writeln!(
+        err,
+        "luks: {volume}: writing failed, part of it may be written"
+    );
+    writeln!(out, "device fault")?;
+    Ok(Status::Fault)
+}
+
 pub(crate) fn no_memory<W: Write>(out: &mut W) -> io::Result<Status>
     ensures { IfOk result (λ s. s ≡ Status.Fault) }
 {

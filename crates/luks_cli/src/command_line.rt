@@ -1,8 +1,9 @@
 use crate::helps;
-use crate::request::{Command as Asked, Line};
+use crate::request::{Command as Asked, Line, Making, NewVersion};
+use clap::builder::ValueParser;
 use clap::error::ErrorKind;
 use clap::{Arg, ArgAction, ArgMatches, Command, Error};
-use luks_volume::Data;
+use luks_volume::{Data, Format, HashName};
 use std::alloc::{AllocError, Global};
 
 /// Reads a command line, of which the first word is the program's name.
@@ -30,9 +31,26 @@ fn asked<'a>(matches: &ArgMatches<'a>) -> Option<Line<'a>> {
             passphrase: given.get_str("passphrase")?,
             slot: given.get_one::<u8>("slot"),
         },
+        "format" => Asked::Format(making_of(given)?),
         _ => return None,
     };
     Some(Line { volume, command })
+}
+
+fn making_of<'a>(given: &ArgMatches<'a>) -> Option<Making<'a>> {
+    Some(Making {
+        passphrase: given.get_str("passphrase")?,
+        random: given.get_str("random")?,
+        version: match given.get_str("version")? {
+            "1" => NewVersion::Luks1,
+            _ => NewVersion::Luks2,
+        },
+        format: Format {
+            hash: HashName::parse(given.get_str("hash")?)?,
+            iterations: given.get_one::<u32>("iterations")?,
+        },
+        data_: data_of(given),
+    })
 }
 
 fn data_of(given: &ArgMatches<'_>) -> Data {
@@ -51,7 +69,8 @@ fn program<'a>(alloc: Global) -> Result<Command<'a>, AllocError> {
         .subcommand_required(true)
         .subcommand(check_command(alloc)?)?
         .subcommand(show_command(alloc)?)?
-        .subcommand(open_command(alloc)?)
+        .subcommand(open_command(alloc)?)?
+        .subcommand(format_command(alloc)?)
 }
 
 fn check_command<'a>(alloc: Global) -> Result<Command<'a>, AllocError> {
@@ -76,6 +95,19 @@ fn open_command<'a>(alloc: Global) -> Result<Command<'a>, AllocError> {
         .arg(volume_argument(alloc))?
         .arg(passphrase_option(alloc))?
         .arg(slot_option(alloc))
+}
+
+fn format_command<'a>(alloc: Global) -> Result<Command<'a>, AllocError> {
+    Command::new(alloc, "format")
+        .about(helps::FORMAT)
+        .after_help(helps::FORMAT_MORE)
+        .arg(volume_argument(alloc))?
+        .arg(passphrase_option(alloc))?
+        .arg(random_option(alloc))?
+        .arg(version_option(alloc))?
+        .arg(hash_option(alloc))?
+        .arg(iterations_option(alloc))?
+        .arg(detached_option(alloc))
 }
 
 fn volume_argument<'a>(alloc: Global) -> Arg<'a> {
@@ -105,4 +137,45 @@ fn slot_option<'a>(alloc: Global) -> Arg<'a> {
         .value_name("N")
         .value_parser(clap::value_parser!(u8).range(0..=31))
         .help("The keyslot to try, 0 to 31; else all")
+}
+
+fn random_option<'a>(alloc: Global) -> Arg<'a> {
+    Arg::new(alloc, "random")
+        .long("random")
+        .value_name("FILE")
+        .required(true)
+        .help("The file of the random bytes, as /dev/urandom")
+}
+
+/// The versions of LUKS that a volume can be made of.
+const VERSIONS: &[&str] = &["1", "2"];
+
+fn version_option<'a>(alloc: Global) -> Arg<'a> {
+    Arg::new(alloc, "version")
+        .long("version")
+        .value_name("VERSION")
+        .value_parser(ValueParser::Names(VERSIONS))
+        .default_value("2")
+        .help("The version of LUKS")
+}
+
+/// The hashes that a volume can be made with.
+const HASHES: &[&str] = &["sha1", "sha256"];
+
+fn hash_option<'a>(alloc: Global) -> Arg<'a> {
+    Arg::new(alloc, "hash")
+        .long("hash")
+        .value_name("HASH")
+        .value_parser(ValueParser::Names(HASHES))
+        .default_value("sha256")
+        .help("The hash of the keyslot and the digest")
+}
+
+fn iterations_option<'a>(alloc: Global) -> Arg<'a> {
+    Arg::new(alloc, "iterations")
+        .long("iterations")
+        .value_name("N")
+        .value_parser(clap::value_parser!(u32))
+        .default_value("100000")
+        .help("The iterations of PBKDF2, at least 1000")
 }

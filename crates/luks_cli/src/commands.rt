@@ -1,4 +1,5 @@
 //! The commands of the program, each with what it prints.
 pub(crate) mod check;
+pub(crate) mod format;
 pub(crate) mod open;
 pub(crate) mod show;

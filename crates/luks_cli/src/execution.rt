@@ -3,10 +3,11 @@ ghost use Rattle.std.specs.Result.{ForOk};
 ghost use Rattle.luks_cli.specs.Checked.{SaysCheck, WhereCheck};
 ghost use Rattle.luks_cli.specs.Exit.{IsExitStatus};
 ghost use Rattle.luks_cli.specs.Files.{KeepsVolume};
+ghost use Rattle.luks_cli.specs.Formatting.{IsTaken, IsWhole, LeavesVolume, SaysFormat, UnlessFormat, WhereFormat};
 
 use crate::answers::exit_code;
 use crate::commands::open::Tried;
-use crate::commands::{check, open, show};
+use crate::commands::{check, format, open, show};
 use crate::inputs::Inputs;
 use crate::request::{Command, Line};
 use luks_volume::Device;
@@ -17,19 +18,26 @@ use std::io::{Read, Write};
 /// reader of those lines can't know, as which file couldn't be read, is said by lines to `err`; that
 /// one of these can't be written changes no status.
 ///
-/// 0: accepted, shown or opened; 1: refused, or it doesn't open; 3: accepted, but the two copies of
-/// the header aren't in step; 4: the device failed, a file can't be read, memory was refused, or
-/// `out` failed. The passphrase is read before the volume.
-pub fn execute<D: Device, R: Read, W: Write, E: Write>(
+/// 0: accepted, shown, opened or done; 1: refused, or it doesn't open; 3: accepted, but the two
+/// copies of the header aren't in step; 4: the device failed, a file can't be read, memory was
+/// refused, or `out` failed, which says nothing of what was done. The passphrase is read before the
+/// volume, and the random bytes after it.
+pub fn execute<D: Device, R: Read, N: Read, W: Write, E: Write>(
     alloc: Global,
     line: &Line<'_>,
-    inputs: &mut Inputs<D, R>,
+    inputs: &mut Inputs<D, R, N>,
     out: &mut W,
     err: &mut E,
 ) -> u8
     requires { ForOk inputs.old.volume (λ d. D.failed d + 1 < 2 ^ 64) }
     ensures status { IsExitStatus result }
-    ensures unchanged { KeepsVolume D.tells D.size D.bytes inputs.old.volume inputs.new.volume }
+    // No command but `format` changes its volume.
+    ensures unchanged { UnlessFormat line.now.command
+        (KeepsVolume D.tells D.size D.bytes inputs.old.volume inputs.new.volume) }
+    ensures format { WhereFormat line.now.command (λ making. LeavesVolume D.tells D.size D.bytes
+        (λ old new. SaysFormat making (IsWhole R.remaining inputs.old.passphrase)
+        (IsTaken making.version N.remaining inputs.old.random) old new result)
+        inputs.old.volume inputs.new.volume) }
     ensures check { D.tells → WhereCheck line.now.command (λ payload. IfOk inputs.old.volume (λ d. SaysCheck (D.bytes d) payload result)) }
     // Without its volume no command succeeds.
     ensures unread { IfErr inputs.old.volume (λ _. (result ≢ 0) × (result ≢ 3)) }
@@ -49,5 +57,6 @@ pub fn execute<D: Device, R: Read, W: Write, E: Write>(
             };
             exit_code(open::run(alloc, inputs, &tried, out, err))
         }
+        Command::Format(making) => format::run(alloc, inputs, name, &making, out, err),
     }
 }

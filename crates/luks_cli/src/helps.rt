@@ -4,11 +4,11 @@
 pub(crate) const VERSION: &str = "0.1.0";
 
 pub(crate) const PROGRAM: &str =
-    "Checks the header of a LUKS volume, lists it, and tries passphrases";
+    "Checks the header of a LUKS volume, lists it, tries passphrases, and makes volumes";
 
 pub(crate) const PROGRAM_MORE: &str = "\
-A volume is a device, an image, or the detached header of one. No command writes
-to it, and none reads its payload.
+A volume is a device, an image, or the detached header of one. No command but
+format writes to it, and none reads its payload.
 
 Each command prints its answer on standard output, in the lines that its help
 lists: luks COMMAND --help. What stops it is an answer too: 'refused FAULT',
@@ -16,7 +16,7 @@ lists: luks COMMAND --help. What stops it is an answer too: 'refused FAULT',
 these lines don't, as which file and why.
 
 Exit status:
-  0  accepted, shown or opened, or help was asked for
+  0  accepted, shown, opened or done, or help was asked for
   1  refused, or it doesn't open
   2  the command line is wrong; the text is on standard error
   3  check: accepted, but the two copies of the header aren't in step
@@ -99,5 +99,35 @@ Prints one line:
 Exit status:
   0  the keyslot opens, or help was asked for
   1  refused, or it doesn't open
+  2  the command line is wrong; the text is on standard error
+  4  device fault, no memory, or the output can't be written";
+
+pub(crate) const FORMAT: &str = "Makes a LUKS volume over whatever stands there";
+
+pub(crate) const FORMAT_MORE: &str = "\
+What stood there is overwritten, without a question: of LUKS1 the bytes 0 to 591
+and 4096 to 260095, of LUKS2 the bytes 0 to 288767. No other byte is written.
+The volume has at least 2097152 bytes, of LUKS2 16777216, and its payload begins
+there; with --detached it lies on another device, from its byte 0 on.
+
+Keyslot 0 opens by the passphrase: all bytes of its file, a last line feed too,
+at most 65536. The cipher is aes-xts-plain64 with a volume key of 64 bytes, the
+derivation PBKDF2. The uuid, the key, the salts and the stripes are the first
+256080 bytes of the random file, of LUKS2 256208, and no more are read. Give it
+/dev/urandom: whoever knows these bytes knows the volume key.
+
+Prints one line:
+  done slot 0            the volume is made
+  refused Passphrase     the passphrase's file is too long
+  refused TooSmall       the volume is
+  refused Iterations     there are fewer than 1000
+  refused RandomLength   the random file has too few bytes
+  device fault           a file can't be read, or the volume can't be written;
+                         a write that failed leaves any part of it written
+  no memory              memory was refused; nothing was written
+
+Exit status:
+  0  done, or help was asked for
+  1  refused; nothing was written
   2  the command line is wrong; the text is on standard error
   4  device fault, no memory, or the output can't be written";

@@ -10,7 +10,7 @@ use std::{fmt, io};
 pub enum Reason {
     /// There is none of this name.
     NotFound,
-    /// The user may not read it.
+    /// The user may not read it, or not write it.
     Denied,
     /// It is a folder.
     Folder,
@@ -61,11 +61,13 @@ impl From<io::Error> for InputFault {
     }
 }
 
-/// The files of a command line: the volume's device and the reader of the passphrase.
+/// The files of a command line: the volume's device and the readers of the others.
 #[derive(Debug, Drop)]
-pub struct Inputs<D, R> {
+pub struct Inputs<D, R, N> {
     /// The volume.
     pub volume: Result<D, InputFault>,
     /// The passphrase: all bytes of its file, a last line feed too.
     pub passphrase: Result<R, InputFault>,
+    /// The random bytes, of which no more are read than the command needs.
+    pub random: Result<N, InputFault>,
 }

@@ -10,10 +10,11 @@ mod execution;
 mod helps;
 mod inputs;
 mod passphrase_file;
+mod random_file;
 mod request;
 
 pub use command_line::line;
 pub use execution::execute;
 pub use inputs::{InputFault, Inputs, Reason};
 pub use passphrase_file::first_bytes;
-pub use request::{Command, Line};
+pub use request::{Command, Line, Making, NewVersion};

@@ -1,5 +1,6 @@
 //! Reading a passphrase from its file.
 ghost use Rattle.std.specs.Prelude.{◌≡◌, ◌≢◌, ◌≤◌, ◌<◌, IfOk, IfErr, IfSome, length, take};
+ghost use Rattle.luks_cli.specs.Formatting.{IsWhole};
 
 use crate::inputs::InputFault;
 use std::alloc::Global;
@@ -34,7 +35,7 @@ pub(crate) fn passphrase<R: Read>(
     file: &mut Result<R, InputFault>,
 ) -> Result<Vec<u8>, PassphraseFault>
     ensures length { IfOk result (λ p. length p.items ≤ 65536) }
-    ensures whole { IfOk result (λ p. IfOk file.old (λ r. IfSome (R.remaining r) (λ bytes. p.items ≡ bytes))) }
+    ensures whole { IfOk result (λ p. IsWhole R.remaining file.old p.items) }
     ensures long { IfErr result (λ f. f ≡ PassphraseFault.TooLong → IfOk file.old (λ r. IfSome (R.remaining r) (λ bytes. 65536 < length bytes))) }
 {
     let reader = match file {

@@ -1,6 +1,6 @@
 //! Which command a command line asks for.
-use luks_cli::{Command, Line, line};
-use luks_volume::Data;
+use luks_cli::{Command, Line, Making, NewVersion, line};
+use luks_volume::{Data, Format, HashName};
 use std::alloc::{AllocError, Global};
 use std::test::Fail;
 
@@ -56,12 +56,116 @@ const LINES: [(&[&str], &str, Command<'static>, Option<&str>); 7] = [
     ),
 ];
 
+const NEW: Making<'static> = Making {
+    passphrase: "p",
+    random: "r",
+    version: NewVersion::Luks2,
+    format: Format {
+        hash: HashName::Sha256,
+        iterations: 100000,
+    },
+    data_: Data::Here,
+};
+
+const OF_LUKS1: Making<'static> = Making {
+    version: NewVersion::Luks1,
+    format: Format {
+        hash: HashName::Sha1,
+        iterations: 0,
+    },
+    data_: Data::Elsewhere,
+    ..NEW
+};
+
+const LARGEST: Making<'static> = Making {
+    format: Format {
+        hash: HashName::Sha256,
+        iterations: 4294967295,
+    },
+    ..NEW
+};
+
+/// What follows the name of the command, and what it asks to make of the volume `v`.
+const MAKINGS: [(&[&str], Making<'static>); 4] = [
+    (
+        &["luks", "format", "v", "--passphrase", "p", "--random", "r"],
+        NEW,
+    ),
+    (
+        &[
+            "luks",
+            "format",
+            "v",
+            "--random=r",
+            "--passphrase=p",
+            "--version=2",
+            "--hash=sha256",
+        ],
+        NEW,
+    ),
+    (
+        &[
+            "luks",
+            "format",
+            "--version",
+            "1",
+            "--hash",
+            "sha1",
+            "--iterations",
+            "0",
+            "--detached",
+            "--passphrase",
+            "p",
+            "--random",
+            "r",
+            "v",
+        ],
+        OF_LUKS1,
+    ),
+    (
+        &[
+            "luks",
+            "format",
+            "v",
+            "--passphrase",
+            "p",
+            "--random",
+            "r",
+            "--iterations",
+            "4294967295",
+        ],
+        LARGEST,
+    ),
+];
+
+#[test]
+fn makings(rt: HostRuntime) -> Result<(), Fail> {
+    for (i, (words, making)) in MAKINGS.into_iter().enumerate() {
+        let found = line(rt.alloc(), words)?;
+        let command = Command::Format(making);
+        assert!(rt;
+            found
+                == Line {
+                    volume: "v",
+                    command
+                },
+            "row {i}"
+        );
+        assert!(rt; found.passphrase() == Some("p"), "row {i}");
+        assert!(rt; found.random() == Some("r"), "row {i}");
+        assert!(rt; found.writes(), "row {i}");
+    }
+    Ok(())
+}
+
 #[test]
 fn commands(rt: HostRuntime) -> Result<(), Fail> {
     for (i, (words, volume, command, passphrase)) in LINES.into_iter().enumerate() {
         let found = line(rt.alloc(), words)?;
         assert!(rt; found == Line { volume, command }, "row {i}");
         assert!(rt; found.passphrase() == passphrase, "row {i}");
+        assert!(rt; found.random().is_none(), "row {i}");
+        assert!(rt; !found.writes(), "row {i}");
     }
     Ok(())
 }
@@ -77,7 +181,7 @@ fn answers(alloc: Global, words: &[&str], part: &str, is_help: bool) -> Result<b
     Ok(text.as_str().contains(part) && fault.use_stderr() != is_help && fault.exit_code() == status)
 }
 
-const FAULTS: [(&[&str], &str); 12] = [
+const FAULTS: [(&[&str], &str); 19] = [
     (&["luks"], "subcommand"),
     (&["luks", "check"], "<VOLUME>"),
     (&["luks", "check", "a", "b"], "'b'"),
@@ -102,6 +206,57 @@ const FAULTS: [(&[&str], &str); 12] = [
         &["luks", "open", "a", "--passphrase", "p", "--slot", "x"],
         "'x'",
     ),
+    (
+        &["luks", "format", "--passphrase", "p", "--random", "r"],
+        "<VOLUME>",
+    ),
+    (
+        &["luks", "format", "a", "--passphrase", "p"],
+        "--random <FILE>",
+    ),
+    (
+        &["luks", "format", "a", "--random", "r"],
+        "--passphrase <FILE>",
+    ),
+    (
+        &[
+            "luks",
+            "format",
+            "a",
+            "--passphrase=p",
+            "--random=r",
+            "--hash",
+            "sha224",
+        ],
+        "'sha224'",
+    ),
+    (
+        &[
+            "luks",
+            "format",
+            "a",
+            "--passphrase=p",
+            "--random=r",
+            "--version",
+            "3",
+        ],
+        "'3'",
+    ),
+    (
+        &[
+            "luks",
+            "format",
+            "a",
+            "--passphrase=p",
+            "--random=r",
+            "--iterations=4294967296",
+        ],
+        "'4294967296'",
+    ),
+    (
+        &["luks", "open", "a", "--passphrase=p", "--random=r"],
+        "'--random'",
+    ),
 ];
 
 #[test]
@@ -113,12 +268,13 @@ fn faults_of_usage(rt: HostRuntime) -> Result<(), Fail> {
     Ok(())
 }
 
-const HELPS: [(&[&str], &str); 8] = [
+const HELPS: [(&[&str], &str); 9] = [
     (&["luks", "--help"], "  3  check: accepted, but "),
     (&["luks", "-h"], "luks COMMAND --help"),
     (&["luks", "check", "--help"], "  accepted luks1 areas N "),
     (&["luks", "show", "--help"], "  0  shown, "),
     (&["luks", "open", "-h"], "  no slot opens "),
+    (&["luks", "format", "-h"], "  refused TooSmall "),
     (&["luks", "help", "check"], "  4  device fault, no memory, "),
     (&["luks", "--version"], "luks 0.1.0"),
     (&["luks", "-V"], "luks 0.1.0"),

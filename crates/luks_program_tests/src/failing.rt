@@ -1,6 +1,6 @@
 //! Devices of which one call fails.
 use crate::images::{opening_luks1, opening_luks2, zeros_luks2};
-use crate::printing::{CHECK, DETACHED, OPEN, OPEN_0, SHOW};
+use crate::printing::{CHECK, DETACHED, NO_FILE, OPEN, OPEN_0, SHOW};
 use luks_area::{FaultyDevice, Leave};
 use luks_cli::{InputFault, Inputs, execute, line};
 use luks_volume::{Device, MemDevice};
@@ -33,6 +33,7 @@ fn end_of(alloc: Global, words: &[&str], image: &[u8], call: u64, want: &str) ->
     let mut inputs = Inputs {
         volume: Ok(FaultyDevice::new(device, call, Leave::Old)),
         passphrase: Ok(b"one".as_slice()),
+        random: NO_FILE,
     };
     let mut out = Vec::new(alloc);
     let mut err = Vec::new(alloc);

@@ -13,6 +13,8 @@ mod explaining;
 #[cfg(test)]
 mod failing;
 #[cfg(test)]
+mod formatting;
+#[cfg(test)]
 mod images;
 #[cfg(test)]
 mod keys;

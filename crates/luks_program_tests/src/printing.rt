@@ -70,6 +70,9 @@ pub struct Row<'a> {
     pub status: u8,
 }
 
+/// A file that the command line doesn't name.
+pub const NO_FILE: Result<&[u8], InputFault> = Err(InputFault::Absent);
+
 /// Runs the words over these files, prints to `out` and `err` and answers the status.
 pub fn run<D: Device, R: Read + Drop, W: Write, E: Write>(
     alloc: Global,
@@ -82,7 +85,11 @@ pub fn run<D: Device, R: Read + Drop, W: Write, E: Write>(
     requires { ForOk volume (λ d. D.failed d + 1 < 2 ^ 64) }
 {
     let line = line(alloc, words)?;
-    let mut inputs = Inputs { volume, passphrase };
+    let mut inputs = Inputs {
+        volume,
+        passphrase,
+        random: NO_FILE,
+    };
     Ok(execute(alloc, &line, &mut inputs, out, err))
 }
 

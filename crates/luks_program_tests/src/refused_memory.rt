@@ -1,6 +1,6 @@
 //! Refused memory.
 use crate::images::{opening_luks1, opening_luks2};
-use crate::printing::{CHECK, DETACHED, OPEN, OPEN_0, SHOW};
+use crate::printing::{CHECK, DETACHED, NO_FILE, OPEN, OPEN_0, SHOW};
 use luks_cli::{Inputs, Line, execute, line};
 use luks_volume::{MemDevice, open_slot, unlock};
 use std::alloc::{AllocError, Global};
@@ -60,7 +60,7 @@ fn holds(buffer: &[u8], text: &str) -> bool {
 fn end_of(
     alloc: Global,
     line: &Line<'_>,
-    inputs: &mut Inputs<MemDevice, &[u8]>,
+    inputs: &mut Inputs<MemDevice, &[u8], &[u8]>,
     want: &str,
 ) -> End {
     let mut out = Cursor::new([0u8; 1024]);
@@ -95,6 +95,7 @@ fn ends_with_little_memory(alloc: Global, image: &[u8], row: &Row) -> Result<(En
     let mut inputs = Inputs {
         volume: Ok(MemDevice::new(image.to_vec(alloc)?)),
         passphrase: Ok(b"one".as_slice()),
+        random: NO_FILE,
     };
     let mut held = Vec::with_capacity(alloc, 1 << 20)?;
     let mut blocks = blocks_of(alloc)?;

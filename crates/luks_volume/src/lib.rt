@@ -5,6 +5,8 @@ mod laws;
 
 pub use laws::{edits_keep_volume, list_runs_by_steps};
 pub use luks_edit::{Done, Edit, EditFault, RunFault, Step};
+pub use luks_formatting::{FORMAT1_RANDOM, FORMAT2_RANDOM, Format, FormatFault, format1, format2};
+pub use luks_kdf::HashName;
 pub use luks_reading::{
     Area, AreaFault, AreaName, Areas, Bin2, CheckFault, ChosenCopy, Config, Copies, Cost, Data,
     Device, DeviceFault, Digest, Entry, Extent, HeadFault, Header, Key, Keyslot, Luks1, Luks1Slot,

@@ -29,9 +29,9 @@ pub(crate) struct Tried<'a> {
 /// Prints whether the passphrase opens the keyslot that is tried, or without one which is the first
 /// that it opens. The passphrase is read before the volume.
 #[tactic(auto, using(crate::proofs::FileFacts::keeps_same))]
-pub(crate) fn run<D: Device, R: Read, W: Write, E: Write>(
+pub(crate) fn run<D: Device, R: Read, N: Read, W: Write, E: Write>(
     alloc: Global,
-    inputs: &mut Inputs<D, R>,
+    inputs: &mut Inputs<D, R, N>,
     tried: &Tried<'_>,
     out: &mut W,
     err: &mut E,

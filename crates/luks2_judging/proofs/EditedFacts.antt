@@ -1,0 +1,110 @@
+-- The metadata that an edit makes is one but for the salt.
+use Rattle.std.proofs.Common.{◌≡◌, ℕ, ◌+◌, ◌*◌, ◌≤◌, List, length, codes, Option, Some, None, refl, sym, ap, subst, ◌∙◌, arith}
+use Rattle.base64.specs.GeneralPurpose.{IsBytes}
+use Rattle.serde_json.specs.Data.{Data as Value}
+use Rattle.luks_area.specs.declared.area.Area.{Area}
+use Rattle.luks_rules.specs.declared.table.Outer.TheVariants as outer
+use Rattle.luks_rules.specs.Reading.{number_in, text_of}
+use Rattle.luks_rules.specs.Sizes.{inside_at}
+use Rattle.luks_making.specs.Changed.{changed_slot}
+use Rattle.luks_making.specs.Keyslots.{IsMadeFrom, NewMembers, SlotMembers}
+use Rattle.luks_making.specs.With.{with_slot}
+use Rattle.luks_reading.specs.declared.report.Data.{Data}
+use Rattle.luks_reading.specs.Layout2.{Luks2Area}
+use Rattle.luks_edit.specs.declared.edit.Edit.{Edit}
+use Rattle.luks_edit.specs.declared.edit.Edit.TheVariants.{Add, Change, Remove, Repair, Label}
+use Rattle.luks2_edits.specs.Edited.{HasAdded, HasChanged, IsEdited, members_of}
+use Rattle.luks2_edits.specs.Gap.{IsGap}
+use Rattle.luks2_edits.specs.Metadata.{IsNewKeyslot}
+use Rattle.luks2_edits.specs.Places.{key_areas_end, rounded_to_blocks, IsNewArea}
+use Rattle.luks2_judging.specs.Salts.{HasOneDigest}
+use Rattle.luks2_judging.proofs.EncodedFacts.{quoted_length}
+use Rattle.luks2_judging.proofs.SaltFacts.{AsLong, changed_as_long, SaltsAsLong, SameButSalt, with_as_long}
+use Rattle.luks2_judging.proofs.StripeFacts.{same_stripes, some_same}
+
+pub new_once : (j : Value) (to : Option ℕ) (n m : ℕ) → IsNewKeyslot j to n → IsNewKeyslot j to m → n ≡ m
+new_once j (Some t) n m x y = x ∙ sym y
+new_once j None n m x y = let low = x.least m y.free in let high = y.least n x.free in omega (arith, low, high)
+
+-- ---- the new area
+
+module _ (h total : ℕ) (payload : Data) (j : Value) (n : ℕ) (a b : Area) (x : IsNewArea h total payload j n a) (y : IsNewArea h total payload j n b) where
+  pub len_once : a.len ≡ b.len
+  len_once =
+      let s = same_stripes j n x.key_bytes x.stripes y.key_bytes y.stripes x.slot y.slot in
+      x.len ∙ ap (λ k. rounded_to_blocks (k * x.stripes)) s.key_bytes ∙ ap (λ k. rounded_to_blocks (y.key_bytes * k)) s.stripes ∙ sym y.len
+
+  region_once : x.region ≡ y.region
+  region_once = some_same x.region y.region (sym x.region_is ∙ y.region_is)
+
+  there : IsGap (Luks2Area j h payload total) (2 * h) (key_areas_end h total x.region) a.len b.start
+  there =
+      subst (λ k. IsGap (Luks2Area j h payload total) (2 * h) (key_areas_end h total x.region) k b.start) (sym len_once)
+      (subst (λ r. IsGap (Luks2Area j h payload total) (2 * h) (key_areas_end h total r) b.len b.start) (sym region_once) y.gap.gap)
+
+  back : IsGap (Luks2Area j h payload total) (2 * h) (key_areas_end h total y.region) b.len a.start
+  back =
+      subst (λ k. IsGap (Luks2Area j h payload total) (2 * h) (key_areas_end h total y.region) k a.start) len_once
+      (subst (λ r. IsGap (Luks2Area j h payload total) (2 * h) (key_areas_end h total r) a.len a.start) region_once x.gap.gap)
+
+  pub start_once : a.start ≡ b.start
+  start_once = let low = x.gap.least b.start there in let high = y.gap.least a.start back in omega (arith, low, high)
+
+-- ---- a keyslot that is made
+
+made_once : (d : Value) (f g : NewMembers) (s t : SlotMembers) → IsMadeFrom d f s → IsMadeFrom d g t
+    → f.offset ≡ g.offset → f.size ≡ g.size → f.iterations ≡ g.iterations → SaltsAsLong f.salt g.salt → SameButSalt s t
+made_once d f g s t x y offset size iterations salts = record {
+  key_size = some_same s.key_size t.key_size (sym x.key_size ∙ y.key_size);
+  stripes = some_same s.stripes t.stripes (sym x.stripes ∙ y.stripes);
+  splitter_hash = some_same s.splitter_hash t.splitter_hash (sym x.splitter_hash ∙ y.splitter_hash);
+  offset = x.offset ∙ offset ∙ sym y.offset;
+  size = x.size ∙ size ∙ sym y.size;
+  encryption = some_same s.encryption t.encryption (sym x.encryption ∙ y.encryption);
+  area_key_size = some_same s.area_key_size t.area_key_size (sym x.area_key_size ∙ y.area_key_size);
+  hash = some_same s.hash t.hash (sym x.hash ∙ y.hash);
+  iterations = x.iterations ∙ iterations ∙ sym y.iterations;
+  salt = subst (λ l. SaltsAsLong l t.salt) (sym x.salt) (subst (λ l. SaltsAsLong f.salt l) (sym y.salt) salts);
+}
+
+-- ---- the new metadata
+
+module _ (h total : ℕ) (payload : Data) (j : Value) (a b : List ℕ) (salts : SaltsAsLong a b) (digests : HasOneDigest j) where
+  added_as_long : (opener : ℕ) (to : Option ℕ) (iterations : ℕ) (x y : Value)
+      → HasAdded h total payload opener to iterations a j x → HasAdded h total payload opener to iterations b j y → AsLong x y
+  added_as_long opener to iterations x y one two =
+      let slot : one.slot ≡ two.slot = new_once j to one.slot two.slot one.is_new two.is_new in
+      let from : one.is.from ≡ two.is.from = some_same one.is.from two.is.from (sym one.is.there.is ∙ two.is.there.is) in
+      let digest : one.is.digest ≡ two.is.digest = digests.one opener one.is.digest two.is.digest one.is.names two.is.names in
+      let made : SameButSalt one.is.slot two.is.slot =
+      made_once two.is.from (members_of iterations a one.area) (members_of iterations b two.area) one.is.slot two.is.slot
+      (subst (λ d. IsMadeFrom d (members_of iterations a one.area) one.is.slot) from one.is.made) two.is.made
+      (start_once h total payload j opener one.area two.area one.place two.place) (len_once h total payload j opener one.area two.area one.place two.place) refl salts in
+      let long : AsLong (with_slot one.slot one.is.digest one.is.slot j) (with_slot one.slot one.is.digest two.is.slot j) =
+      with_as_long one.slot one.is.digest one.is.slot two.is.slot j made in
+      let same : AsLong (with_slot one.slot one.is.digest one.is.slot j) (with_slot two.slot two.is.digest two.is.slot j) =
+      subst (λ m. AsLong (with_slot one.slot one.is.digest one.is.slot j) (with_slot two.slot m two.is.slot j)) digest
+      (subst (λ n. AsLong (with_slot one.slot one.is.digest one.is.slot j) (with_slot n one.is.digest two.is.slot j)) slot long) in
+      subst (λ v. AsLong v y) (sym one.is.is) (subst (λ v. AsLong (with_slot one.slot one.is.digest one.is.slot j) v) (sym two.is.is) same)
+
+  renewed_as_long : (slot iterations : ℕ) (x y : Value)
+      → HasChanged h total payload slot iterations a j x → HasChanged h total payload slot iterations b j y → AsLong x y
+  renewed_as_long slot iterations x y one two =
+      let start = start_once h total payload j slot one.area two.area one.place two.place in
+      let len = len_once h total payload j slot one.area two.area one.place two.place in
+      let same : changed_slot slot (members_of iterations b one.area) j ≡ changed_slot slot (members_of iterations b two.area) j =
+      ap (λ n. changed_slot slot (record { iterations = iterations; salt = b; offset = n; size = one.area.len }) j) start
+      ∙ ap (λ n. changed_slot slot (record { iterations = iterations; salt = b; offset = two.area.start; size = n }) j) len in
+      let long : AsLong (changed_slot slot (members_of iterations a one.area) j) (changed_slot slot (members_of iterations b one.area) j) =
+      changed_as_long iterations a b one.area slot j salts in
+      subst (λ v. AsLong v y) (sym one.is) (subst (λ v. AsLong (changed_slot slot (members_of iterations a one.area) j) v) (same ∙ sym two.is) long)
+
+  pub edited_as_long : (e : Edit) (x y : Value) → IsEdited h total payload e a j x → IsEdited h total payload e b j y → AsLong x y
+  edited_as_long (Add by_ old new to iterations) x y one two = added_as_long by_ to iterations x y one two
+  edited_as_long (Change slot old new iterations) x y one two = renewed_as_long slot iterations x y one two
+  edited_as_long (Remove slot passphrase) x y one two = subst (λ v. AsLong x v) (one ∙ sym two) refl
+  edited_as_long Repair x y one two = subst (λ v. AsLong x v) (one ∙ sym two) refl
+  edited_as_long (Label text) x y one two = subst (λ v. AsLong x v) (one ∙ sym two) refl
+
+pub salts_long : (a b : List ℕ) → IsBytes a → IsBytes b → length a ≡ length b → SaltsAsLong a b
+salts_long a b one two same = record { same = quoted_length a b one two same }

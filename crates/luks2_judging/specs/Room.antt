@@ -1,0 +1,33 @@
+-- Where a new keyslot's area goes, by the numbers of the metadata `j` of a JSON area of `len` bytes in
+-- a volume of `total` bytes.
+use Rattle.std.specs.Prelude.{◌≡◌, ℕ, ◌+◌, ◌-◌, ◌*◌, ◌^◌, ◌≤◌, Some, min}
+use Rattle.serde_json.specs.Data.{Data as Value}
+use Rattle.luks_area.specs.declared.area.Area.{Area}
+use Rattle.luks_rules.specs.Sizes.{keyslots_size, region_start}
+use Rattle.luks2_edits.specs.Metadata.{HasStripes}
+use Rattle.luks2_edits.specs.Places.{rounded_to_blocks}
+
+-- the stripes of the keyslot `n` take `bytes` bytes of whole blocks
+pub record TakesBlocks (j : Value) (n bytes : ℕ) : Type 0 where
+  pub key_bytes : ℕ
+  pub stripes : ℕ
+  pub slot : HasStripes j n key_bytes stripes
+  pub is : bytes ≡ rounded_to_blocks (key_bytes * stripes)
+  pub some : 4096 ≤ bytes
+
+-- the region of the key areas begins at `low` and ends at `high`, or the volume before it; numbers
+-- that 64 bits don't hold are the greatest one
+pub record IsRegion (len : ℕ) (j : Value) (total low high : ℕ) : Type 0 where
+  pub bytes : ℕ
+  pub bytes_are : keyslots_size j ≡ Some bytes
+  pub low_is : low ≡ min (region_start len) (2 ^ 64 - 1)
+  pub high_is : high ≡ min (min (low + bytes) (2 ^ 64 - 1)) total
+
+-- the area holds the stripes of the keyslot `n`, and lies in the region and the volume
+pub record IsPlaced (len : ℕ) (j : Value) (total n : ℕ) (area : Area) : Type 0 where
+  pub blocks : TakesBlocks j n area.len
+  pub bytes : ℕ
+  pub bytes_are : keyslots_size j ≡ Some bytes
+  pub from : region_start len ≤ area.start
+  pub to : area.start + area.len ≤ region_start len + bytes
+  pub inside : area.start + area.len ≤ total

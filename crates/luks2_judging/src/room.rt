@@ -1,0 +1,87 @@
+//! Where the area of a new keyslot goes.
+ghost use Rattle.std.specs.Prelude.{◌≡◌, ◌+◌, ◌-◌, ◌*◌, ◌^◌, ◌<◌, ℕ, IfSome, MatchOption};
+ghost use Rattle.luks_area.specs.declared.area.Area.{Area as TheArea};
+ghost use Rattle.luks_area.specs.declared.area.AreaName.{AreaName};
+ghost use Rattle.luks_area.specs.Area.{IsInside};
+ghost use Rattle.luks_area.specs.Names.{HasArea};
+ghost use Rattle.luks_meta.specs.Content.{area_len, content};
+ghost use Rattle.luks_reading.specs.Layout2.{Luks2Area};
+ghost use Rattle.luks_reading.specs.Listing.{Lists};
+ghost use Rattle.luks_reading.specs.declared.report.Data.{Data as Payload};
+ghost use Rattle.luks2_edits.specs.Metadata.{IsInUse};
+ghost use Rattle.luks2_edits.specs.Places.{HasNoNewArea, IsNewArea, rounded_to_blocks};
+ghost use Rattle.luks2_judging.specs.Room.{IsPlaced, IsRegion, TakesBlocks};
+
+use luks_area::{Area, Entry};
+use luks_meta::Meta;
+use luks2_edits::least_gap;
+
+/// Areas of keyslots that are made have whole blocks of so many bytes.
+const BLOCK: u64 = 4096;
+
+/// The bytes of the binary header with which a copy begins; its JSON area follows.
+const BINARY_HEADER: u64 = 4096;
+
+/// The region of the key areas, as far as it lies in a volume.
+#[derive(Clone, Copy)]
+struct Region {
+    /// Where it begins, in bytes.
+    low: u64,
+    /// Where it ends.
+    high: u64,
+}
+
+/// The least area for a keyslot that is made like the keyslot `n`, in a volume of `total` bytes with
+/// these areas; none where no gap is large enough.
+pub(crate) fn new_area(meta: &Meta, entries: &[Entry], total: u64, n: u8) -> Option<Area>
+    requires there { IsInUse (content meta.now) n }
+    requires ends { (m : AreaName) (a : TheArea) → HasArea entries.now m a
+        → IsInside a (2 ^ 64 - 1) }
+    ensures new { (payload : Payload) → Lists entries.now
+        (Luks2Area (content meta.now) (area_len meta.now + 4096) payload total)
+        → MatchOption result
+        (HasNoNewArea (area_len meta.now + 4096) total payload (content meta.now) n)
+        (IsNewArea (area_len meta.now + 4096) total payload (content meta.now) n) }
+    ensures placed { IfSome result
+        (IsPlaced (area_len meta.now) (content meta.now) total n) }
+{
+    let len = blocks_of(meta, n);
+    let region = region_of(meta, total);
+    match least_gap(entries, region.low, region.high, len) {
+        Some(start) => Some(Area { start, len }),
+        None => None,
+    }
+}
+
+/// How many bytes the stripes of the keyslot take, in whole blocks.
+fn blocks_of(meta: &Meta, n: u8) -> u64
+    requires { IsInUse (content meta.now) n }
+    ensures { TakesBlocks (content meta.now) n result }
+{
+    match meta.keyslot(n) {
+        Some(keyslot) => {
+            let material = u64::from(keyslot.key_size) * u64::from(keyslot.af.stripes);
+            rounded_to_blocks(material)
+        }
+        None => unreachable!(),
+    }
+}
+
+/// The bytes of the whole blocks that hold so many bytes.
+fn rounded_to_blocks(bytes: u64) -> u64
+    requires { bytes < 2 ^ 40 }
+    ensures { result ≡ rounded_to_blocks bytes }
+{
+    (bytes + (BLOCK - 1)) / BLOCK * BLOCK
+}
+
+/// The region of the key areas in a volume of `total` bytes.
+fn region_of(meta: &Meta, total: u64) -> Region
+    ensures { IsRegion (area_len meta.now) (content meta.now) total result.low result.high }
+{
+    let config = meta.config();
+    let copy = config.json_size.saturating_add(BINARY_HEADER);
+    let low = copy.saturating_mul(2);
+    let high = low.saturating_add(config.keyslots_size).min(total);
+    Region { low, high }
+}

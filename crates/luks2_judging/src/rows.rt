@@ -1,0 +1,189 @@
+//! Judging an edit by the rows that name no keyslot to open or to make.
+ghost use Rattle.std.specs.Prelude.{◌≡◌, ◌+◌, ◌<◌, ◌^◌, false, IsTrue};
+ghost use Rattle.luks_area.specs.Text.{is_plain, is_printable};
+ghost use Rattle.luks_edit.specs.Asked.{HasFewIterations};
+ghost use Rattle.luks_making.specs.Naming.{IsDigestOf};
+ghost use Rattle.luks_meta.specs.Content.{content};
+ghost use Rattle.luks2_edits.specs.Refused.{IsAbsent, IsBadLabel, IsLast, IsMiscounted, IsOnlyOne};
+ghost use Rattle.luks2_judging.specs.Judged.{IsOnlyName, Judges};
+
+use crate::needing::need;
+use luks_edit::{Edit, EditFault};
+use luks_head::Bin2;
+use luks_meta::Meta;
+
+/// The least iterations of a new keyslot.
+const LEAST_ITERATIONS: u32 = 1000;
+
+/// The most bytes of a label; a zero byte ends it.
+const MOST_LABEL: usize = 47;
+
+/// Whether another keyslot gives the key of the one to remove. Refused by `LastSlot`.
+pub(crate) fn judge_last(meta: &Meta, edit: &Edit<'_>) -> Result<(), EditFault>
+    ensures { Judges (IsLast (content meta.now) edit.now) EditFault.LastSlot result }
+{
+    match *edit {
+        Edit::Remove {
+            slot,
+            passphrase: _,
+        } => {
+            if is_only_one(meta, slot) {
+                return Err(EditFault::LastSlot);
+            }
+            Ok(())
+        }
+        Edit::Add {
+            by_: _,
+            old: _,
+            new: _,
+            to: _,
+            iterations: _,
+        } => Ok(()),
+        Edit::Change {
+            slot: _,
+            old: _,
+            new: _,
+            iterations: _,
+        } => Ok(()),
+        Edit::Repair => Ok(()),
+        Edit::Label { text: _ } => Ok(()),
+    }
+}
+
+/// Whether the digest that names the keyslot names no other one.
+fn is_only_one(meta: &Meta, slot: u8) -> bool
+    ensures only { IsTrue result → IsOnlyOne (content meta.now) slot }
+    ensures other { result ≡ false → IsOnlyOne (content meta.now) slot → ⊥ }
+{
+    match meta.digest_of_keyslot(slot) {
+        Some(digest) => is_only_name(meta, digest, slot),
+        None => false,
+    }
+}
+
+/// Whether the digest names no keyslot but this one.
+fn is_only_name(meta: &Meta, digest: u8, slot: u8) -> bool
+    ensures only { IsTrue result → IsOnlyName (content meta.now) digest slot }
+    ensures other { result ≡ false → IsOnlyName (content meta.now) digest slot → ⊥ }
+{
+    for n in 0..32 {
+        if n != slot && is_named(meta, digest, n) {
+            return false;
+        }
+    }
+    true
+}
+
+/// Whether the digest names the keyslot.
+fn is_named(meta: &Meta, digest: u8, n: u8) -> bool
+    ensures named { IsTrue result → IsDigestOf (content meta.now) n digest }
+    ensures unnamed { result ≡ false → IsDigestOf (content meta.now) n digest → ⊥ }
+{
+    match meta.digest_of_keyslot(n) {
+        Some(m) => m == digest,
+        None => false,
+    }
+}
+
+/// Whether a new keyslot has iterations enough. Refused by `Iterations`.
+pub(crate) fn judge_iterations(edit: &Edit<'_>) -> Result<(), EditFault>
+    ensures { Judges (HasFewIterations edit.now) EditFault.Iterations result }
+{
+    match *edit {
+        Edit::Add {
+            by_: _,
+            old: _,
+            new: _,
+            to: _,
+            iterations,
+        } => enough(iterations),
+        Edit::Change {
+            slot: _,
+            old: _,
+            new: _,
+            iterations,
+        } => enough(iterations),
+        Edit::Remove {
+            slot: _,
+            passphrase: _,
+        } => Ok(()),
+        Edit::Repair => Ok(()),
+        Edit::Label { text: _ } => Ok(()),
+    }
+}
+
+fn enough(iterations: u32) -> Result<(), EditFault>
+    ensures { Judges (iterations < 1000) EditFault.Iterations result }
+{
+    if iterations < LEAST_ITERATIONS {
+        return Err(EditFault::Iterations);
+    }
+    Ok(())
+}
+
+/// Whether a label is one. Refused by `BadLabel`.
+pub(crate) fn judge_label(edit: &Edit<'_>) -> Result<(), EditFault>
+    ensures { Judges (IsBadLabel edit.now) EditFault.BadLabel result }
+{
+    match *edit {
+        Edit::Label { text } => {
+            if text.len() > MOST_LABEL || !is_plain(text) {
+                return Err(EditFault::BadLabel);
+            }
+            Ok(())
+        }
+        Edit::Add {
+            by_: _,
+            old: _,
+            new: _,
+            to: _,
+            iterations: _,
+        } => Ok(()),
+        Edit::Change {
+            slot: _,
+            old: _,
+            new: _,
+            iterations: _,
+        } => Ok(()),
+        Edit::Remove {
+            slot: _,
+            passphrase: _,
+        } => Ok(()),
+        Edit::Repair => Ok(()),
+    }
+}
+
+/// Whether each byte is printable.
+fn is_plain(text: &[u8]) -> bool
+    ensures { result ≡ is_plain text.now }
+{
+    text.iter().all(|c| is_printable(*c))
+}
+
+fn is_printable(c: u8) -> bool
+    ensures { result ≡ is_printable c }
+{
+    c >= 0x20 && c <= 0x7E
+}
+
+/// Whether there is a higher sequence number. Refused by `SeqExhausted`.
+pub(crate) fn judge_number_of_copy(header: &Bin2) -> Result<(), EditFault>
+    ensures { Judges (header.now.seqid + 1 ≡ 2 ^ 64) EditFault.SeqExhausted result }
+{
+    if header.seqid == u64::MAX {
+        return Err(EditFault::SeqExhausted);
+    }
+    Ok(())
+}
+
+/// Whether the random bytes are as many as the edit takes. Refused by `RandomLength`.
+pub(crate) fn judge_random(meta: &Meta, edit: &Edit<'_>, random: &[u8]) -> Result<(), EditFault>
+    ensures { (IsAbsent (content meta.now) edit.now → ⊥)
+        → Judges (IsMiscounted (content meta.now) edit.now random.now)
+        EditFault.RandomLength result }
+{
+    if random.len() as u64 != need(meta, edit) {
+        return Err(EditFault::RandomLength);
+    }
+    Ok(())
+}
