@@ -5,3 +5,4 @@ mod RenewalFacts
 mod PlainEditFacts
 mod KeyAreaFacts
 mod RemovalFacts
+mod SealingFacts

@@ -3,3 +3,4 @@ pub mod Rewriting
 pub mod Prepared
 pub mod Replies
 pub mod Lost
+pub mod Sealed

@@ -8,6 +8,7 @@ mod random;
 mod removing;
 mod repairing;
 mod rewriting;
+mod sealing;
 mod writing;
 
 pub use labelling::set_label;

@@ -1,5 +1,5 @@
 //! The random bytes of an edit, by their places.
-ghost use Rattle.std.specs.Prelude.{◌≡◌, ◌+◌, ◌≤◌, length};
+ghost use Rattle.std.specs.Prelude.{◌≡◌, ◌+◌, ◌≤◌, drop, length};
 ghost use Rattle.luks_area.specs.Ranges.{part};
 ghost use Rattle.luks2_edits.specs.Copies.{copy_salt};
 
@@ -24,4 +24,12 @@ pub(crate) fn copy_salt(random: &[u8], at: u64) -> [u8; 64]
     } else {
         taken_array(random, 64)
     }
+}
+
+/// The stripes but the last of a keyslot that is sealed: they follow its salt.
+pub(crate) fn stripes_in(random: &[u8]) -> &[u8]
+    requires { 160 ≤ length random.now }
+    ensures { result.now ≡ drop 160 random.now }
+{
+    &random[160..]
 }

@@ -1,0 +1,57 @@
+use Rattle.std.proofs.Common.{◌≡◌, ℕ, ◌-◌, List, length, drop, ap, sym, subst, arith, length-drop}
+use Rattle.luks_area.specs.RangeFacts.{same_but-either}
+use Rattle.luks_slot.specs.Opening.{area_bytes}
+use Rattle.luks_slot.specs.Sealing.{IsSealed}
+use Rattle.luks2_editing.proofs.SealingFacts.{area_behind, half_sealed}
+use Rattle.luks2_editing.proofs.sealing.write_sealed.Goals as goal
+
+pub returns-in-Ok-clause-sealed : goal.returns-in-Ok-clause-sealed
+returns-in-Ok-clause-sealed g c tells =
+    let u = g.D.Device.bytes c.args.device.now in
+    let mid = g.D.Device.bytes c.seal.new.device in
+    let w = g.D.Device.bytes c.write_copies.new.device in
+    let plan = c.args.plan.now in
+    let stays = area_behind c.args.chosen.now.hdr_size plan.area mid w c.requires.behind (c.write_copies.ensures.rest tells) in
+    let sealed : IsSealed plan (area_bytes w plan.area) c.args.passphrase.now c.args.key.now (drop 160 c.args.random.now) =
+    subst (λ (l : List ℕ). IsSealed plan l c.args.passphrase.now c.args.key.now (drop 160 c.args.random.now)) (sym stays)
+    (subst (λ (r : List ℕ). IsSealed plan (area_bytes mid plan.area) c.args.passphrase.now c.args.key.now r) c.stripes_in-stripes.ensures (c.in_ok-seal.ensures.sealed tells)) in
+    sealed
+
+pub returns-in-Ok-clause-torn : goal.returns-in-Ok-clause-torn
+returns-in-Ok-clause-torn g c tells v e j is =
+    let u = g.D.Device.bytes c.args.device.now in
+    let mid = g.D.Device.bytes c.seal.new.device in
+    let w = g.D.Device.bytes c.write_copies.new.device in
+    let plan = c.args.plan.now in
+    let stays = area_behind c.args.chosen.now.hdr_size plan.area mid w c.requires.behind (c.write_copies.ensures.rest tells) in
+    let sealed : IsSealed plan (area_bytes w plan.area) c.args.passphrase.now c.args.key.now (drop 160 c.args.random.now) =
+    subst (λ (l : List ℕ). IsSealed plan l c.args.passphrase.now c.args.key.now (drop 160 c.args.random.now)) (sym stays)
+    (subst (λ (r : List ℕ). IsSealed plan (area_bytes mid plan.area) c.args.passphrase.now c.args.key.now r) c.stripes_in-stripes.ensures (c.in_ok-seal.ensures.sealed tells)) in
+    half_sealed v c.args.chosen.now.hdr_offset e c.args.random.now j plan c.args.passphrase.now c.args.key.now (drop 160 c.args.random.now) u mid w (c.seal.ensures.rest tells) sealed
+    (c.write_copies.ensures.torn tells v e j is)
+
+pub returns-in-Ok-clause-rest : goal.returns-in-Ok-clause-rest
+returns-in-Ok-clause-rest g c tells = same_but-either (c.seal.ensures.rest tells) (c.write_copies.ensures.rest tells)
+
+pub returns-in-Err-clause-torn : goal.returns-in-Err-clause-torn
+returns-in-Err-clause-torn g c tells v e j is =
+    let u = g.D.Device.bytes c.args.device.now in
+    let mid = g.D.Device.bytes c.seal.new.device in
+    let w = g.D.Device.bytes c.write_copies.new.device in
+    let plan = c.args.plan.now in
+    let stays = area_behind c.args.chosen.now.hdr_size plan.area mid w c.requires.behind (c.write_copies.ensures.rest tells) in
+    let sealed : IsSealed plan (area_bytes w plan.area) c.args.passphrase.now c.args.key.now (drop 160 c.args.random.now) =
+    subst (λ (l : List ℕ). IsSealed plan l c.args.passphrase.now c.args.key.now (drop 160 c.args.random.now)) (sym stays)
+    (subst (λ (r : List ℕ). IsSealed plan (area_bytes mid plan.area) c.args.passphrase.now c.args.key.now r) c.stripes_in-stripes.ensures (c.in_ok-seal.ensures.sealed tells)) in
+    half_sealed v c.args.chosen.now.hdr_offset e c.args.random.now j plan c.args.passphrase.now c.args.key.now (drop 160 c.args.random.now) u mid w (c.seal.ensures.rest tells) sealed
+    (c.write_copies.ensures.torn tells v e j is)
+
+pub returns-in-Err-clause-rest : goal.returns-in-Err-clause-rest
+returns-in-Err-clause-rest g c tells = same_but-either (c.seal.ensures.rest tells) (c.write_copies.ensures.rest tells)
+
+pub seal-requires-clause-random : goal.seal-requires-clause-random
+seal-requires-clause-random g c =
+    let is : length c.stripes_in-stripes.result.now ≡ length (drop 160 c.args.random.now) = ap length c.stripes_in-stripes.ensures in
+    let long : length (drop 160 c.args.random.now) ≡ length c.args.random.now - 160 = length-drop 160 c.args.random.now in
+    let all = c.requires.random in
+    omega (arith, is, long, all)

@@ -1,0 +1,42 @@
+-- What writing a new key area and then both copies of a LUKS2 header may leave: words of private
+-- contracts.
+use Rattle.std.specs.Prelude.{◌≡◌, ℕ, ◌+◌, ◌*◌, ◌≤◌, ◌⊎◌, List}
+use Rattle.serde_json.specs.Data.{Data as Value}
+use Rattle.luks_area.specs.Ranges.{IsAt, IsOfEither, SameBut}
+use Rattle.luks_area.specs.Sectors.{rounded_to_sectors}
+use Rattle.luks_head.specs.Header2.{hdr_size, header_at}
+use Rattle.luks_slot.specs.declared.plan.SlotPlan.{SlotPlan}
+use Rattle.luks_slot.specs.Opening.{area_bytes, stripe_bytes}
+use Rattle.luks_slot.specs.Sealing.{IsSealed}
+use Rattle.luks_edit.specs.declared.edit.Edit.{Edit}
+use Rattle.luks2_edits.specs.Copies.{other_place, IsWrittenAnew}
+use Rattle.luks2_edits.specs.Places.{IsOfCopies}
+
+-- the place is of the sectors that hold the stripes of the plan's keyslot
+abbrev pub IsOfStripes : SlotPlan → ℕ → Type 0
+IsOfStripes plan = IsAt plan.area.start (rounded_to_sectors (stripe_bytes plan))
+
+-- the key is sealed, and the copy of `v` that stands at the place `o` is as it was
+pub record IsOtherTorn
+    (v : List ℕ) (o : ℕ) (plan : SlotPlan) (passphrase key stripes : List ℕ) (u w : List ℕ)
+    : Type 0 where
+  pub sealed : IsSealed plan (area_bytes w plan.area) passphrase key stripes
+  pub rest : SameBut (IsOfEither (IsOfStripes plan)
+      (IsAt (other_place (hdr_size (header_at v o)) o) (hdr_size (header_at v o)))) u w
+
+-- the key is sealed, and the other copy takes the place of the one at `o`
+pub record IsChosenTorn
+    (v : List ℕ) (o : ℕ) (e : Edit) (random : List ℕ) (j : Value)
+    (plan : SlotPlan) (passphrase key stripes : List ℕ) (u w : List ℕ)
+    : Type 0 where
+  pub sealed : IsSealed plan (area_bytes w plan.area) passphrase key stripes
+  pub other : IsWrittenAnew v o e random j w (other_place (hdr_size (header_at v o)) o)
+  pub rest : SameBut (IsOfEither (IsOfStripes plan) (IsOfCopies (hdr_size (header_at v o)))) u w
+
+-- what is left of the volume `u` by the step that was under way, or all of them
+abbrev pub MayBeHalfSealed :
+    List ℕ → ℕ → Edit → List ℕ → Value → SlotPlan → List ℕ → List ℕ → List ℕ → List ℕ → List ℕ → Type 0
+MayBeHalfSealed v o e random j plan passphrase key stripes u w =
+    SameBut (IsOfStripes plan) u w
+    ⊎ IsOtherTorn v o plan passphrase key stripes u w
+    ⊎ IsChosenTorn v o e random j plan passphrase key stripes u w

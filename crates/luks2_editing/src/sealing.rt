@@ -1,0 +1,108 @@
+//! Writing a new key area, and then both copies of a LUKS2 header.
+ghost use Rattle.std.specs.Prelude.{◌≡◌, ◌+◌, ◌-◌, ◌*◌, ◌^◌, ◌<◌, ◌≤◌, ℕ, List, length, IfErr, None, OnOk, drop};
+ghost use Rattle.serde_json.specs.Data.{Data as Value};
+ghost use Rattle.luks_area.specs.Area.{IsInside};
+ghost use Rattle.luks_area.specs.Device.{CountsFailure};
+ghost use Rattle.luks_area.specs.Ranges.{IsOfEither, SameBut};
+ghost use Rattle.luks_area.specs.Sectors.{rounded_to_sectors};
+ghost use Rattle.luks_head.specs.Header2.{binary_header_size};
+ghost use Rattle.luks_slot.specs.Opening.{area_bytes, stripe_bytes, HasIterations};
+ghost use Rattle.luks_slot.specs.Refusal.{slot_refusal};
+ghost use Rattle.luks_slot.specs.Sealing.{IsSealed};
+ghost use Rattle.luks_edit.specs.EditFaults.{is_edit_failure};
+ghost use Rattle.luks_edit.specs.declared.edit.Edit.{Edit as TheEdit};
+ghost use Rattle.luks2_edits.specs.Places.{IsOfCopies};
+ghost use Rattle.luks2_editing.specs.Rewriting.{AreWrittenAnew, IsRewriting};
+ghost use Rattle.luks2_editing.specs.Sealed.{IsOfStripes, MayBeHalfSealed};
+
+use crate::random::stripes_in;
+use crate::writing::write_copies;
+use luks_area::Device;
+use luks_edit::EditFault;
+use luks_head::Bin2;
+use luks_slot::{Key, SlotPlan};
+use luks_steps::seal_area;
+
+/// Seals the key in the area of the plan, which lies behind the copies, and then writes both copies
+/// anew from the chosen one's binary header: the other one first. A flush follows each.
+///
+/// Of the random bytes the salts of the copies are the first 128; the keyslot's stripes but the last
+/// are those from the place 160 on.
+pub(crate) fn write_sealed<D: Device>(
+    device: &mut D,
+    plan: &SlotPlan<'_>,
+    passphrase: &[u8],
+    key: &Key,
+    chosen: &Bin2,
+    random: &[u8],
+    json: &[u8],
+) -> Result<(), EditFault>
+    requires unrefused { slot_refusal plan.now ≡ None }
+    requires iterations { HasIterations plan.now.derivation }
+    requires key_length { length key.now ≡ plan.now.key_bytes }
+    requires some_stripes { 1 ≤ plan.now.stripes }
+    requires random { length random.now ≡ 160 + (plan.now.stripes - 1) * plan.now.key_bytes }
+    requires sectors { rounded_to_sectors (stripe_bytes plan.now) ≤ plan.now.area.len }
+    requires inside { IsInside plan.now.area (D.size device.old) }
+    requires behind { 2 * chosen.now.hdr_size ≤ plan.now.area.start }
+    requires number { chosen.now.seqid + 1 < 2 ^ 64 }
+    requires json { binary_header_size + length json.now ≡ chosen.now.hdr_size }
+    requires place { chosen.now.hdr_offset ≤ chosen.now.hdr_size }
+    requires room { D.failed device.old + 1 < 2 ^ 64 }
+    ensures size { D.size device.new ≡ D.size device.old }
+    ensures count { CountsFailure is_edit_failure result
+        (D.failed device.old) (D.failed device.new) }
+    ensures fault { IfErr result (λ f. f ≡ EditFault.Device) }
+    ensures sealed { D.tells → OnOk result
+        (IsSealed plan.now (area_bytes (D.bytes device.new) plan.now.area)
+        passphrase.now key.now (drop 160 random.now)) }
+    ensures anew { D.tells → (v : List ℕ) (e : TheEdit) (j : Value)
+        → IsRewriting v e chosen.now chosen.now.label j json.now → OnOk result
+        (AreWrittenAnew v chosen.now.hdr_offset e random.now j (D.bytes device.new)) }
+    ensures torn { D.tells → (v : List ℕ) (e : TheEdit) (j : Value)
+        → IsRewriting v e chosen.now chosen.now.label j json.now
+        → MayBeHalfSealed v chosen.now.hdr_offset e random.now j plan.now passphrase.now key.now
+        (drop 160 random.now) (D.bytes device.old) (D.bytes device.new) }
+    ensures rest { D.tells
+        → SameBut (IsOfEither (IsOfStripes plan.now) (IsOfCopies chosen.now.hdr_size))
+        (D.bytes device.old) (D.bytes device.new) }
+{
+    let stripes = stripes_in(random);
+    seal(device, plan, passphrase, key, stripes)?;
+    match write_copies(device, chosen, chosen.label, random, json) {
+        Ok(()) => Ok(()),
+        Err(_) => Err(EditFault::Device),
+    }
+}
+
+/// Seals the key by a plan that isn't refused.
+fn seal<D: Device>(
+    device: &mut D,
+    plan: &SlotPlan<'_>,
+    passphrase: &[u8],
+    key: &Key,
+    stripes: &[u8],
+) -> Result<(), EditFault>
+    requires unrefused { slot_refusal plan.now ≡ None }
+    requires iterations { HasIterations plan.now.derivation }
+    requires key_length { length key.now ≡ plan.now.key_bytes }
+    requires some_stripes { 1 ≤ plan.now.stripes }
+    requires random { length stripes.now ≡ (plan.now.stripes - 1) * plan.now.key_bytes }
+    requires sectors { rounded_to_sectors (stripe_bytes plan.now) ≤ plan.now.area.len }
+    requires inside { IsInside plan.now.area (D.size device.old) }
+    requires room { D.failed device.old + 1 < 2 ^ 64 }
+    ensures size { D.size device.new ≡ D.size device.old }
+    ensures count { CountsFailure is_edit_failure result
+        (D.failed device.old) (D.failed device.new) }
+    ensures fault { IfErr result (λ f. f ≡ EditFault.Device) }
+    ensures sealed { D.tells → OnOk result
+        (IsSealed plan.now (area_bytes (D.bytes device.new) plan.now.area)
+        passphrase.now key.now stripes.now) }
+    ensures rest { D.tells
+        → SameBut (IsOfStripes plan.now) (D.bytes device.old) (D.bytes device.new) }
+{
+    match seal_area(device, plan, passphrase, key, stripes) {
+        Ok(()) => Ok(()),
+        Err(_) => Err(EditFault::Device),
+    }
+}
