@@ -1,15 +1,16 @@
 -- What the header that was read says of the volume.
-use Rattle.std.proofs.Common.{◌≡◌, ℕ, List, ap, subst}
+use Rattle.std.proofs.Common.{◌≡◌, ℕ, List, ap, refl, subst}
 use Rattle.serde_json.specs.Data.{Data as Value}
 use Rattle.luks_head.specs.Selection.{Choice, luks1, luks2, nothing, Chosen}
 use Rattle.luks_rules.specs.MetaFault.{Json}
 use Rattle.luks_meta.specs.Content.{content}
 use Rattle.luks_reading.specs.declared.header.ChosenCopy.{ChosenCopy}
 use Rattle.luks_reading.specs.declared.header.Header.{Header}
-use Rattle.luks_reading.specs.declared.header.Header.TheVariants.{Luks2}
+use Rattle.luks_reading.specs.declared.header.Header.TheVariants.{Luks1, Luks2}
 use Rattle.luks_reading.specs.Header.{json_at, IsChosenCopy, IsHeader}
 use Rattle.luks2_edits.specs.Metadata.{HasMetadata}
 use Rattle.luks2_edits.specs.Refused.{HasSaid}
+use Rattle.luks2_judging.specs.Header.{IsOfLuks2}
 
 abbrev place_of : Choice → ℕ
 place_of luks1 = 0
@@ -37,3 +38,8 @@ module _ (laws : ReadingLaws) (v : List ℕ) (o : ℕ) (j : Value) (m : HasMetad
 
   pub say : (says : ℕ → Value → Type 0) → says o j → HasSaid v says
   say says x = record { place = o; value = j; metadata = m; is = x }
+
+-- a header of LUKS2 is that of a copy
+pub copy_of_header : (h : Header) → IsOfLuks2 h → (c : ChosenCopy) × (h ≡ Luks2 c)
+copy_of_header (Luks1 bytes) x = absurd x
+copy_of_header (Luks2 c) x = (c, refl)

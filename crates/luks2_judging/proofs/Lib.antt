@@ -5,6 +5,7 @@ pub mod KeyslotFacts
 pub mod LastFacts
 pub mod MadeFacts
 pub mod NeedFacts
+pub mod OpenerFacts
 pub mod RoomFacts
 pub mod RowFacts
 pub mod SaltFacts

@@ -1,13 +1,15 @@
 -- The least gap of the key areas' region.
-use Rattle.std.proofs.Common.{◌≡◌, ℕ, ◌+◌, ◌-◌, ◌*◌, ◌^◌, ◌<◌, ◌≤◌, List, sym, min, arith, subst}
+use Rattle.std.proofs.Common.{◌≡◌, ℕ, ◌+◌, ◌-◌, ◌*◌, ◌^◌, ◌<◌, ◌≤◌, List, sym, ap, ◌∙◌, min, arith, subst}
 use Rattle.serde_json.specs.Data.{Data as Value}
+use Rattle.luks_area.specs.declared.area.Area.{Area}
 use Rattle.luks_area.specs.declared.areas.Entry.{Entry}
 use Rattle.luks_area.specs.Names.{HasArea}
 use Rattle.luks_reading.specs.declared.report.Data.{Data}
 use Rattle.luks_reading.specs.Layout2.{Luks2Area}
 use Rattle.luks_reading.specs.Listing.{Lists}
 use Rattle.luks2_edits.specs.Gap.{HasNoGap, IsGap, IsLeastGap}
-use Rattle.luks2_edits.specs.Places.{HasNoNewArea, IsNewArea, key_areas_end}
+use Rattle.luks2_edits.specs.Places.{HasNoNewArea, IsNewArea, key_areas_end, rounded_to_blocks}
+use Rattle.luks2_judging.proofs.StripeFacts.{same_stripes, some_same}
 use Rattle.luks2_judging.specs.Room.{IsPlaced, IsRegion, TakesBlocks}
 
 module _ (entries : List Entry) (len : ℕ) (j : Value) (total low high : ℕ) (x : IsRegion len j total low high) (small : total < 2 ^ 64)
@@ -96,3 +98,14 @@ module _ (entries : List Entry) (len : ℕ) (j : Value) (total low high : ℕ) (
         to = omega (arith, h, to);
         inside = omega (arith, h, to);
       }
+
+-- where there is an area, there isn't none
+pub area_excludes : (h total : ℕ) (payload : Data) (j : Value) (n : ℕ) (a : Area) → IsNewArea h total payload j n a → HasNoNewArea h total payload j n → ⊥
+area_excludes h total payload j n a x y =
+    let s = same_stripes j n x.key_bytes x.stripes y.key_bytes y.stripes x.slot y.slot in
+    let region : x.region ≡ y.region = some_same x.region y.region (sym x.region_is ∙ y.region_is) in
+    let len : a.len ≡ rounded_to_blocks (y.key_bytes * y.stripes) =
+    x.len ∙ ap (λ k. rounded_to_blocks (k * x.stripes)) s.key_bytes ∙ ap (λ k. rounded_to_blocks (y.key_bytes * k)) s.stripes in
+    y.none a.start
+    (subst (λ k. IsGap (Luks2Area j h payload total) (2 * h) (key_areas_end h total y.region) k a.start) len
+    (subst (λ r. IsGap (Luks2Area j h payload total) (2 * h) (key_areas_end h total r) a.len a.start) region x.gap.gap))

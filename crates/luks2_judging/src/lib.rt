@@ -8,6 +8,7 @@ mod laws;
 mod needing;
 mod room;
 mod rows;
+mod unlocking;
 
 pub use laws::salts_are_as_long;
 pub use needing::needed_luks2;

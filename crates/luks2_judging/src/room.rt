@@ -1,5 +1,5 @@
 //! Where the area of a new keyslot goes.
-ghost use Rattle.std.specs.Prelude.{◌≡◌, ◌+◌, ◌-◌, ◌*◌, ◌^◌, ◌<◌, ℕ, IfSome, MatchOption};
+ghost use Rattle.std.specs.Prelude.{◌≡◌, ◌+◌, ◌-◌, ◌*◌, ◌^◌, ◌<◌, ℕ, IfErr, IfOk, IfSome, MatchOption};
 ghost use Rattle.luks_area.specs.declared.area.Area.{Area as TheArea};
 ghost use Rattle.luks_area.specs.declared.area.AreaName.{AreaName};
 ghost use Rattle.luks_area.specs.Area.{IsInside};
@@ -10,9 +10,12 @@ ghost use Rattle.luks_reading.specs.Listing.{Lists};
 ghost use Rattle.luks_reading.specs.declared.report.Data.{Data as Payload};
 ghost use Rattle.luks2_edits.specs.Metadata.{IsInUse};
 ghost use Rattle.luks2_edits.specs.Places.{HasNoNewArea, IsNewArea, rounded_to_blocks};
-ghost use Rattle.luks2_judging.specs.Room.{IsPlaced, IsRegion, TakesBlocks};
+ghost use Rattle.luks2_edits.specs.Refused.{HasNoRoom, IsAbsent};
+ghost use Rattle.luks2_judging.specs.Judged.{Judges};
+ghost use Rattle.luks2_judging.specs.Room.{IsPlaced, IsPlacedFor, IsPlacedLike, IsRegion, IsRoomFor, IsRoomLike, TakesBlocks};
 
 use luks_area::{Area, Entry};
+use luks_edit::{Edit, EditFault};
 use luks_meta::Meta;
 use luks2_edits::least_gap;
 
@@ -29,6 +32,74 @@ struct Region {
     low: u64,
     /// Where it ends.
     high: u64,
+}
+
+/// The area of the keyslot that the edit seals, if it seals one. Refused by `NoRoom`.
+pub(crate) fn judge_room(
+    meta: &Meta,
+    entries: &[Entry],
+    total: u64,
+    edit: &Edit<'_>,
+) -> Result<Option<Area>, EditFault>
+    requires there { IsAbsent (content meta.now) edit.now → ⊥ }
+    requires ends { (m : AreaName) (a : TheArea) → HasArea entries.now m a
+        → IsInside a (2 ^ 64 - 1) }
+    ensures own { IfErr result (λ f. f ≡ EditFault.NoRoom) }
+    ensures row { (payload : Payload) → Lists entries.now
+        (Luks2Area (content meta.now) (area_len meta.now + 4096) payload total)
+        → Judges (HasNoRoom (area_len meta.now + 4096) total payload (content meta.now) edit.now)
+        EditFault.NoRoom result }
+    ensures area { (payload : Payload) → Lists entries.now
+        (Luks2Area (content meta.now) (area_len meta.now + 4096) payload total)
+        → IfOk result
+        (IsRoomFor (area_len meta.now + 4096) total payload (content meta.now) edit.now) }
+    ensures placed { IfOk result
+        (IsPlacedFor (area_len meta.now) (content meta.now) total edit.now) }
+{
+    match *edit {
+        Edit::Add {
+            by_,
+            old: _,
+            new: _,
+            to: _,
+            iterations: _,
+        } => room_like(meta, entries, total, by_),
+        Edit::Change {
+            slot,
+            old: _,
+            new: _,
+            iterations: _,
+        } => room_like(meta, entries, total, slot),
+        Edit::Remove {
+            slot: _,
+            passphrase: _,
+        } => Ok(None),
+        Edit::Repair => Ok(None),
+        Edit::Label { text: _ } => Ok(None),
+    }
+}
+
+/// The area of a keyslot that is made like the keyslot `n`. Refused by `NoRoom`.
+fn room_like(meta: &Meta, entries: &[Entry], total: u64, n: u8) -> Result<Option<Area>, EditFault>
+    requires there { IsInUse (content meta.now) n }
+    requires ends { (m : AreaName) (a : TheArea) → HasArea entries.now m a
+        → IsInside a (2 ^ 64 - 1) }
+    ensures own { IfErr result (λ f. f ≡ EditFault.NoRoom) }
+    ensures row { (payload : Payload) → Lists entries.now
+        (Luks2Area (content meta.now) (area_len meta.now + 4096) payload total)
+        → Judges (HasNoNewArea (area_len meta.now + 4096) total payload (content meta.now) n)
+        EditFault.NoRoom result }
+    ensures area { (payload : Payload) → Lists entries.now
+        (Luks2Area (content meta.now) (area_len meta.now + 4096) payload total)
+        → IfOk result
+        (IsRoomLike (area_len meta.now + 4096) total payload (content meta.now) n) }
+    ensures placed { IfOk result
+        (IsPlacedLike (area_len meta.now) (content meta.now) total n) }
+{
+    match new_area(meta, entries, total, n) {
+        Some(area) => Ok(Some(area)),
+        None => Err(EditFault::NoRoom),
+    }
 }
 
 /// The least area for a keyslot that is made like the keyslot `n`, in a volume of `total` bytes with

@@ -1,0 +1,51 @@
+-- What opening the keyslot of an edit says of a well formed LUKS2 volume.
+use Rattle.std.specs.Prelude.{ℕ, List, Option, Some, None, ⊤}
+use Rattle.luks_area.specs.declared.area.AreaFault.TheVariants as areas
+use Rattle.luks_area.specs.declared.area.AreaName.TheVariants as area_name
+use Rattle.luks_slot.specs.declared.fault.SlotFault.{SlotFault}
+use Rattle.luks_reading.specs.declared.check_fault.CheckFault.TheVariants as checking
+use Rattle.luks_reading.specs.declared.open_fault.OpenFault.{OpenFault}
+use Rattle.luks_reading.specs.declared.open_fault.OpenFault.TheVariants as opening
+use Rattle.luks_reading.specs.Answer.{Answer, opens, refused}
+use Rattle.luks_edit.specs.declared.edit.Edit.{Edit}
+use Rattle.luks_edit.specs.declared.edit_fault.EditFault.{EditFault}
+use Rattle.luks_edit.specs.declared.edit_fault.EditFault.TheVariants as fault
+use Rattle.luks_edit.specs.Asked.{OpensBy}
+use Rattle.luks_edit.specs.Opener.{IsLocked, IsShut}
+
+-- the keyslot `n` opens to the key that was found
+abbrev pub IsKeyOf : List ℕ → ℕ → List ℕ → Option (List ℕ) → Type 0
+IsKeyOf v n p (Some key) = Answer v n p (opens key)
+IsKeyOf v n p None = ⊥
+
+-- the keyslot that the edit opens, if it opens one, opens to the key that was found
+pub record IsUnlocked (v : List ℕ) (e : Edit) (found : Option (List ℕ)) : Type 0 where
+  pub key : (n : ℕ) (p : List ℕ) → OpensBy e n p → IsKeyOf v n p found
+  pub unlocked : IsLocked v e → ⊥
+  pub unshut : (f : SlotFault) → IsShut v e f → ⊥
+
+pub record IsFirstShut (v : List ℕ) (e : Edit) (f : SlotFault) : Type 0 where
+  pub unlocked : IsLocked v e → ⊥
+  pub slot : ℕ
+  pub passphrase : List ℕ
+  pub asked : OpensBy e slot passphrase
+  pub answer : Answer v slot passphrase (refused (opening.Slot f))
+
+-- why it doesn't open, unless the device failed
+abbrev pub IsUnopened : List ℕ → Edit → EditFault → Type 0
+IsUnopened v e fault.Locked = IsLocked v e
+IsUnopened v e (fault.Slot f) = IsFirstShut v e f
+IsUnopened v e fault.Device = ⊤
+IsUnopened v e f = ⊥
+
+-- the fault of opening the keyslot `n` as that of an edit; of a keyslot of a well formed volume it is
+-- that of its plan, or the device's
+abbrev pub unopened : ℕ → OpenFault → EditFault
+unopened n (opening.Head f) = fault.NotAccepted (checking.Head f)
+unopened n (opening.Meta f) = fault.NotAccepted (checking.Meta f)
+unopened n opening.NoSuchSlot = fault.NoSuchSlot
+unopened n opening.SlotFree = fault.NoSuchSlot
+unopened n opening.Outside = fault.NotAccepted (checking.Area (areas.Outside (area_name.Slot n)))
+unopened n (opening.Slot f) = fault.Slot f
+unopened n opening.Device = fault.Device
+unopened n opening.Memory = fault.Memory

@@ -1,0 +1,77 @@
+//! Opening the keyslot that an edit of a LUKS2 volume names.
+ghost use Rattle.std.specs.Prelude.{◌≡◌, ◌≢◌, ◌+◌, ◌^◌, ◌<◌, IfOk, IfErr};
+ghost use Rattle.luks_area.specs.Device.{CountsFailure, IsUnchanged};
+ghost use Rattle.luks_edit.specs.EditFaults.{is_edit_failure};
+ghost use Rattle.luks_reading.specs.Checked.{WellFormed};
+ghost use Rattle.luks_reading.specs.Header.{IsAcceptedHeader, IsHeader};
+ghost use Rattle.luks_reading.specs.declared.report.Data.{Data as Payload};
+ghost use Rattle.luks2_edits.specs.Refused.{HasSaid, IsAbsent};
+ghost use Rattle.luks2_judging.specs.Header.{IsOfLuks2};
+ghost use Rattle.luks2_judging.specs.Opened.{IsUnlocked, IsUnopened, unopened};
+
+use crate::asked::keyslot_to_open;
+use luks_area::{AreaFault, AreaName, Device};
+use luks_edit::{Edit, EditFault};
+use luks_head::{luks2_without_faults, one_choice};
+use luks_meta::{metadata_without_faults, one_value};
+use luks_reading::{CheckFault, Header, OpenFault, one_answer, open_header_slot};
+use luks_slot::Key;
+use std::alloc::Global;
+
+/// The fault of opening the keyslot `n` as that of an edit.
+fn unopened(n: u8, fault: OpenFault) -> EditFault
+    ensures { result ≡ unopened n fault }
+{
+    match fault {
+        OpenFault::Head(fault) => EditFault::NotAccepted(CheckFault::Head(fault)),
+        OpenFault::Meta(fault) => EditFault::NotAccepted(CheckFault::Meta(fault)),
+        OpenFault::NoSuchSlot | OpenFault::SlotFree => EditFault::NoSuchSlot,
+        OpenFault::Outside => {
+            EditFault::NotAccepted(CheckFault::Area(AreaFault::Outside(AreaName::Slot(n))))
+        }
+        OpenFault::Slot(fault) => EditFault::Slot(fault),
+        OpenFault::Device => EditFault::Device,
+        OpenFault::Memory => EditFault::Memory,
+    }
+}
+
+/// The key that the edit's keyslot opens to, none where the edit opens none; or why it doesn't
+/// open: `Locked`, `Slot`, or the device's failure. No memory is taken.
+pub(crate) fn unlock<D: Device>(
+    alloc: Global,
+    device: &mut D,
+    header: &Header,
+    edit: &Edit<'_>,
+) -> Result<Option<Key>, EditFault>
+    requires room { D.failed device.old + 1 < 2 ^ 64 }
+    requires accepted { IsAcceptedHeader header.now }
+    requires luks2 { IsOfLuks2 header.now }
+    ensures unchanged { IsUnchanged D.tells D.size D.bytes device.old device.new }
+    ensures count { CountsFailure is_edit_failure result
+        (D.failed device.old) (D.failed device.new) }
+    ensures memory { IfErr result (λ f. f ≢ EditFault.Memory) }
+    ensures opened { D.tells → IsHeader (D.bytes device.old) header.now
+        → IfOk result (IsUnlocked (D.bytes device.old) edit.now) }
+    ensures refused { D.tells → IsHeader (D.bytes device.old) header.now
+        → (payload : Payload) → WellFormed (D.bytes device.old) payload
+        → (HasSaid (D.bytes device.old) (λ o j. IsAbsent j edit.now) → ⊥)
+        → IfErr result (IsUnopened (D.bytes device.old) edit.now) }
+{
+    one_choice();
+    one_value();
+    one_answer();
+    luks2_without_faults();
+    metadata_without_faults();
+    match keyslot_to_open(edit) {
+        None => Ok(None),
+        Some(opener) => {
+            match open_header_slot(alloc, device, header, opener.slot, opener.passphrase) {
+                Ok(found) => match found {
+                    Some(key) => Ok(Some(key)),
+                    None => Err(EditFault::Locked),
+                },
+                Err(fault) => Err(unopened(opener.slot, fault)),
+            }
+        }
+    }
+}
