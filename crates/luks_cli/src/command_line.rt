@@ -120,7 +120,7 @@ fn detached_option<'a>(alloc: Global) -> Arg<'a> {
     Arg::new(alloc, "detached")
         .long("detached")
         .action(ArgAction::SetTrue)
-        .help("The payload lies on another device; no segment is judged")
+        .help("The payload is on another device, no segment judged")
 }
 
 fn passphrase_option<'a>(alloc: Global) -> Arg<'a> {
@@ -156,7 +156,7 @@ fn version_option<'a>(alloc: Global) -> Arg<'a> {
         .value_name("VERSION")
         .value_parser(ValueParser::Names(VERSIONS))
         .default_value("2")
-        .help("The version of LUKS")
+        .help("LUKS1 or LUKS2")
 }
 
 /// The hashes that a volume can be made with.
@@ -168,7 +168,8 @@ fn hash_option<'a>(alloc: Global) -> Arg<'a> {
         .value_name("HASH")
         .value_parser(ValueParser::Names(HASHES))
         .default_value("sha256")
-        .help("The hash of the keyslot and the digest")
+        .hide_possible_values(true)
+        .help("The hash, sha1 or sha256")
 }
 
 fn iterations_option<'a>(alloc: Global) -> Arg<'a> {
@@ -177,5 +178,5 @@ fn iterations_option<'a>(alloc: Global) -> Arg<'a> {
         .value_name("N")
         .value_parser(clap::value_parser!(u32))
         .default_value("100000")
-        .help("The iterations of PBKDF2, at least 1000")
+        .help("Iterations of PBKDF2, at least 1000")
 }

@@ -4,7 +4,7 @@
 pub(crate) const VERSION: &str = "0.1.0";
 
 pub(crate) const PROGRAM: &str =
-    "Checks the header of a LUKS volume, lists it, tries passphrases, and makes volumes";
+    "Checks the header of a LUKS volume, lists it, tries passphrases, makes volumes";
 
 pub(crate) const PROGRAM_MORE: &str = "\
 A volume is a device, an image, or the detached header of one. No command but
