@@ -31,7 +31,7 @@ pub use luks_meta::{
 pub use luks_slot::Key;
 pub use open_fault::OpenFault;
 pub use opening::{open_header_slot, open_slot};
-pub use plan::{luks1_area, luks1_plan};
+pub use plan::{luks1_area, luks1_plan, luks2_plan};
 pub use read_fault::ReadFault;
 pub use report::{Data, Report, Version};
 pub use unlocking::{unlock, unlock_header};

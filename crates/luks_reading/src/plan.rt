@@ -61,8 +61,9 @@ pub fn luks1_area(key_bytes: u32, slot: &Luks1Slot) -> Area
     }
 }
 
-/// The plan of a keyslot of LUKS2 with the digest that names it.
-pub(crate) fn luks2_plan<'a>(keyslot: &'a Keyslot<'a>, digest: &'a Digest<'a>) -> SlotPlan<'a>
+/// The plan of a keyslot of LUKS2 with the digest that names it (LUKS2 On-Disk Format 1.1, 3.2 and
+/// 3.4). Its texts and salts borrow from the records.
+pub fn luks2_plan<'a>(keyslot: &'a Keyslot<'a>, digest: &'a Digest<'a>) -> SlotPlan<'a>
     ensures { (j : Data) (n m : ℕ) (d o : Data) → TellsKeyslot d keyslot.now → IsDigestOf j n m
         → object_at j Digests m ≡ Some o → TellsDigest o digest.now → IsLuks2Plan j n d result }
 {
