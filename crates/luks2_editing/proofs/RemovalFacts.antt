@@ -26,7 +26,8 @@ use Rattle.luks2_edits.specs.Leftovers.{Leftover2}
 use Rattle.luks2_edits.specs.Metadata.{IsKeyArea}
 use Rattle.luks2_edits.specs.Places.{IsOfCopies, IsTouched}
 use Rattle.luks2_edits.specs.Refused.{IsAbsent}
-use Rattle.luks2_editing.specs.Lost.{HasKeyArea, HasNoFaultBefore}
+use Rattle.luks2_judging.specs.Rows.{HasNoFaultBefore}
+use Rattle.luks2_editing.specs.Lost.{HasKeyArea}
 use Rattle.luks2_editing.specs.Prepared.{IsPrepared}
 use Rattle.luks2_editing.specs.Rewriting.{AreWrittenAnew}
 use Rattle.luks2_editing.proofs.RenewalFacts.{listed_at_least, metadata_here, prepared_unrefused, said, size_is, sound_here, written_after, VolumeLaws}

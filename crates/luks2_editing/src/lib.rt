@@ -1,6 +1,7 @@
 //! The edits of LUKS2 volumes: the calls that do what `luks2_edits` defines.
 #![tactic(auto)]
 
+mod applying;
 mod labelling;
 mod new_copy;
 mod preparing;
@@ -11,6 +12,7 @@ mod rewriting;
 mod sealing;
 mod writing;
 
+pub use applying::apply_luks2;
 pub use labelling::set_label;
 pub use removing::remove;
 pub use repairing::repair;

@@ -10,7 +10,8 @@ ghost use Rattle.luks_reading.specs.declared.report.Data.{Data as Payload};
 ghost use Rattle.luks_edit.specs.EditFaults.{is_edit_failure};
 ghost use Rattle.luks_edit.specs.declared.edit.Edit.TheVariants.{Remove};
 ghost use Rattle.luks2_edits.specs.Metadata.{IsKeyArea};
-ghost use Rattle.luks2_editing.specs.Lost.{HasKeyArea, HasNoFaultBefore};
+ghost use Rattle.luks2_judging.specs.Rows.{HasNoFaultBefore};
+ghost use Rattle.luks2_editing.specs.Lost.{HasKeyArea};
 ghost use Rattle.luks2_editing.specs.Replies.{Replies2};
 
 use crate::rewriting::rewrite;

@@ -3,4 +3,5 @@ pub mod Judged
 pub mod Needed
 pub mod Opened
 pub mod Room
+pub mod Rows
 pub mod Salts
