@@ -6,15 +6,16 @@ ghost use Rattle.luks_edit.specs.Kept.{Keeps};
 ghost use Rattle.luks_edit.specs.Ran.{IsCompleted, IsFailure};
 ghost use Rattle.luks_reading.specs.Checked.{WellFormed};
 ghost use Rattle.luks_reading.specs.Header.{TakesNoMemory};
+ghost use Rattle.luks2_edits.specs.Edited.{HasRangedIterations};
 ghost use Rattle.luks_volume.specs.Edits.{NamedSlots, Replies};
 
 use crate::header::edited_header;
-use luks1_edits::{apply_luks1, luks1_edit_keeps_volume};
-use luks2_editing::apply_luks2;
-use luks2_edits::luks2_edit_keeps_volume;
 use luks_edit::{Done, Edit, EditFault};
 use luks_head::{luks2_without_faults, one_choice};
 use luks_reading::{Data, Device, Header};
+use luks1_edits::{apply_luks1, luks1_edit_keeps_volume};
+use luks2_editing::apply_luks2;
+use luks2_edits::luks2_edit_keeps_volume;
 use std::alloc::Global;
 
 /// Applies the edit to the volume, with as many random bytes as `needed` tells.
@@ -48,11 +49,44 @@ pub fn apply<D: Device>(
     luks2_without_faults();
     luks1_edit_keeps_volume();
     luks2_edit_keeps_volume();
-    let _edit = *edit;
-    let _total = device.len();
+    iterations_have_32_bits(edit);
     let header = edited_header(alloc, device)?;
     match &header {
         Header::Luks1(bytes) => apply_luks1(alloc, device, bytes, data_, edit, random),
         Header::Luks2(_) => apply_luks2(alloc, device, &header, data_, edit, random),
     }
+}
+
+/// The iterations of an edit's new keyslot have the range of their type.
+fn iterations_have_32_bits(edit: &Edit<'_>)
+    ensures { HasRangedIterations edit.now }
+{
+    match *edit {
+        Edit::Add {
+            by_: _,
+            old: _,
+            new: _,
+            to: _,
+            iterations,
+        } => has_32_bits(iterations),
+        Edit::Change {
+            slot: _,
+            old: _,
+            new: _,
+            iterations,
+        } => has_32_bits(iterations),
+        Edit::Remove {
+            slot: _,
+            passphrase: _,
+        } => {}
+        Edit::Repair => {}
+        Edit::Label { text: _ } => {}
+    }
+}
+
+/// A number of the type has its range.
+fn has_32_bits(n: u32)
+    ensures { n < 2 ^ 32 }
+{
+    let _n = n;
 }

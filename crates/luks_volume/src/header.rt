@@ -7,16 +7,11 @@ ghost use Rattle.luks_reading.specs.declared.report.Data.{Data as Payload};
 ghost use Rattle.luks_volume.specs.Unread.{IsHeaderRefused, unread_edit};
 
 use luks_edit::EditFault;
-use luks_reading::{
-    CheckFault, Device, Header, ReadFault, read_header, unread_volume_is_refused,
-};
+use luks_reading::{CheckFault, Device, Header, ReadFault, read_header, unread_volume_is_refused};
 use std::alloc::Global;
 
 /// The header that counts, or why it isn't read.
-pub(crate) fn edited_header<D: Device>(
-    alloc: Global,
-    device: &mut D,
-) -> Result<Header, EditFault>
+pub(crate) fn edited_header<D: Device>(alloc: Global, device: &mut D) -> Result<Header, EditFault>
     requires { D.failed device.old + 1 < 2 ^ 64 }
     ensures unchanged { IsUnchanged D.tells D.size D.bytes device.old device.new }
     ensures count { CountsFailure is_edit_failure result

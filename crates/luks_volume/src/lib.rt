@@ -20,3 +20,5 @@ pub use luks_reading::{
     one_unlocking, open_header_slot, open_slot, read_header, select, text_field, unlock,
     unlock_header, well_formed_volume,
 };
+pub use needing::needed;
+pub use running::run;

@@ -6,11 +6,11 @@ ghost use Rattle.luks_reading.specs.Header.{TakesNoMemory};
 ghost use Rattle.luks_volume.specs.Needed.{TellsNeed};
 
 use crate::header::edited_header;
-use luks1_edits::needed_luks1;
-use luks2_judging::needed_luks2;
 use luks_edit::{Edit, EditFault};
 use luks_head::one_choice;
 use luks_reading::{Data, Device, Header};
+use luks1_edits::needed_luks1;
+use luks2_judging::needed_luks2;
 use std::alloc::Global;
 
 /// How many random bytes `apply` takes for the edit, or the first of the faults that are seen without

@@ -47,9 +47,9 @@ pub fn run<D: Device>(
         replies.old.items replies.new.items (D.bytes device.new)) }
 {
     edits_keep_volume();
-    if replies.try_reserve(steps.len()).is_err() {
+    let Ok(()) = replies.try_reserve(steps.len()) else {
         return Err(RunFault::Memory);
-    }
+    };
     for step in steps {
         let reply = apply(alloc, device, data_, &step.edit, step.random);
         replies.push_reserved(reply);
