@@ -9,6 +9,7 @@ mod random;
 mod removing;
 mod repairing;
 mod rewriting;
+mod sealed_metadata;
 mod sealing;
 mod writing;
 

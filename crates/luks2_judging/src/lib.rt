@@ -11,4 +11,4 @@ mod rows;
 mod unlocking;
 
 pub use laws::salts_are_as_long;
-pub use needing::needed_luks2;
+pub use needing::{needed_luks2, sealed_need};
