@@ -6,3 +6,5 @@ mod PlainEditFacts
 mod KeyAreaFacts
 mod RemovalFacts
 mod SealingFacts
+mod MadeMetadataFacts
+mod SealedRowFacts
