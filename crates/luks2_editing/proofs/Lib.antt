@@ -8,3 +8,4 @@ mod RemovalFacts
 mod SealingFacts
 mod MadeMetadataFacts
 mod SealedRowFacts
+mod SealedFacts

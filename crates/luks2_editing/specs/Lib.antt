@@ -5,3 +5,4 @@ pub mod Replies
 pub mod Lost
 pub mod Sealed
 pub mod MadeMetadata
+pub mod SealedKeyslot

@@ -10,6 +10,7 @@ mod removing;
 mod repairing;
 mod rewriting;
 mod sealed_metadata;
+mod sealed_plan;
 mod sealing;
 mod writing;
 
