@@ -7,5 +7,6 @@ mod KeyAreaFacts
 mod RemovalFacts
 mod SealingFacts
 mod MadeMetadataFacts
+mod OpenedFacts
 mod SealedRowFacts
 mod SealedFacts

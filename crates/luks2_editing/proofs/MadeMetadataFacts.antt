@@ -1,11 +1,9 @@
 -- The metadata that an edit of a LUKS2 volume makes with a keyslot that it seals.
-use Rattle.std.proofs.Common.{◌≡◌, ℕ, ◌+◌, ◌-◌, ◌*◌, ◌<◌, ◌≤◌, List, length, Some, None, Option, is_some, refl, sym, ap, subst, ◌∙◌, arith, codes}
+use Rattle.std.proofs.Common.{◌≡◌, ℕ, ◌+◌, ◌-◌, ◌*◌, ◌≤◌, List, length, is_some, sym, ap, subst, ◌∙◌, arith}
 use Rattle.serde_json.specs.Data.{Data as Value}
 use Rattle.luks_area.specs.declared.area.Area.{Area}
 use Rattle.luks_area.specs.Sectors.{rounded_to_sectors}
-use Rattle.luks_rules.specs.declared.table.Outer.TheVariants as outer
-use Rattle.luks_rules.specs.Reading.{number_in}
-use Rattle.luks_rules.specs.Sizes.{inside_at, region_start}
+use Rattle.luks_rules.specs.Sizes.{region_start}
 use Rattle.luks_making.specs.Conditions.{CanSeal, HasPbkdf2}
 use Rattle.luks_reading.specs.declared.report.Data.{Data}
 use Rattle.luks_edit.specs.declared.edit.Edit.{Edit}
@@ -78,3 +76,7 @@ asked_need (Change named old new n) j (Renewed slot) iterations k asked need = s
 asked_need (Remove slot passphrase) j keyslot iterations k asked need = absurd asked
 asked_need Repair j keyslot iterations k asked need = absurd asked
 asked_need (Label text) j keyslot iterations k asked need = absurd asked
+
+-- as many random bytes are enough for the salt
+pub enough_random : (j : Value) (n k : ℕ) → NeedsLike j n k → 160 ≤ k
+enough_random j n k x = let count : k ≡ 64 + 64 + 32 + (x.stripes - 1) * x.key_bytes = x.count in omega (arith, count)

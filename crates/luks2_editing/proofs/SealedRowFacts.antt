@@ -1,10 +1,9 @@
 -- An edit of a LUKS2 volume that seals a keyslot: its last refusals, before the first write.
-use Rattle.std.proofs.Common.{◌≡◌, ℕ, ◌+◌, ◌-◌, ◌^◌, ◌<◌, ◌≤◌, List, length, Some, None, Bool, true, false, codes, refl, sym, ap, ◌∙◌, subst, arith}
+use Rattle.std.proofs.Common.{◌≡◌, ℕ, ◌+◌, ◌-◌, ◌^◌, ◌<◌, ◌≤◌, List, length, refl, sym, ap, ◌∙◌, subst, arith}
 use Rattle.base64.specs.GeneralPurpose.{IsBytes}
 use Rattle.serde_json.specs.Data.{Data as Value}
 use Rattle.serde_json.specs.Written.{compact_text}
 use Rattle.luks_head.specs.Header2.{header_at, hdr_size, seqid}
-use Rattle.luks_head.specs.Selection.{luks2}
 use Rattle.luks_making.specs.Conditions.{HasPbkdf2}
 use Rattle.luks_making.specs.Naming.{IsDigestOf}
 use Rattle.luks_meta.specs.Accepted.{IsMeta}
@@ -24,7 +23,8 @@ use Rattle.luks2_editing.specs.MadeMetadata.{like_of, IsMadeBy, IsSealingEdit}
 use Rattle.luks2_editing.specs.Prepared.{IsPrepared, IsUnprepared}
 use Rattle.luks2_editing.specs.Replies.{EndsBy2}
 use Rattle.luks2_editing.proofs.MadeMetadataFacts.{asked_need, made_edited}
-use Rattle.luks2_editing.proofs.RenewalFacts.{len_here, said, said_here, VolumeLaws}
+use Rattle.luks2_editing.proofs.OpenedFacts.{opened_kdf, opened_plan, HasOpenPlan}
+use Rattle.luks2_editing.proofs.RenewalFacts.{len_here, metadata_here, said, said_here, VolumeLaws}
 use Rattle.luks2_editing.proofs.RowFacts.{first_of_row, passed_before, passed_then, unrefused, Passed}
 
 -- the laws of the crates below on which these facts rest
@@ -128,3 +128,18 @@ module _ (laws : SealingLaws) (v : List ℕ) (payload : Data) (e : Edit) (random
     unprepared_ends fault.LastSlot bad = absurd bad
     unprepared_ends fault.Iterations bad = absurd bad
     unprepared_ends fault.BadLabel bad = absurd bad
+
+-- ---- the keyslot like which it is sealed
+
+module _ (laws : VolumeLaws) (v : List ℕ) (payload : Data) (e : Edit) (random : List ℕ) (copy : ChosenCopy) (sealing : Sealing)
+    (x : IsSealingEdit v payload e random copy sealing) where
+  -- it was opened, so its key is derived by PBKDF2
+  pub opened_pbkdf2 : like_of sealing.keyslot < 32 → HasPbkdf2 (content copy.meta) (like_of sealing.keyslot)
+  opened_pbkdf2 small =
+      let plan : HasOpenPlan (content copy.meta) (like_of sealing.keyslot) =
+      opened_plan laws v copy.header.hdr_offset (content copy.meta) (like_of sealing.keyslot) x.passphrase x.key (metadata_here laws v payload copy x.chosen x.well) x.opened in
+      record {
+        object = plan.object;
+        there = record { numbered = refl; named = small; is = plan.there };
+        derived = opened_kdf (content copy.meta) (like_of sealing.keyslot) plan;
+      }

@@ -123,6 +123,7 @@ pub(crate) fn new_metadata(
         offset: sealing.area.start,
         size: sealing.area.len,
     };
+    new_fits(&new);
     let meta = made_metadata(alloc, &copy.meta, sealing.keyslot, &new)?;
     let need = sealed_need(&copy.meta, like) as usize;
     let json = prepared(alloc, &copy.header, &meta, random, need, total)?;
@@ -166,13 +167,7 @@ fn made_metadata(
 }
 
 /// The metadata with a new keyslot, or `Memory`.
-fn gained(
-    alloc: Global,
-    meta: &Meta,
-    slot: u8,
-    like: u8,
-    new: &New<'_>,
-) -> Result<Meta, EditFault>
+fn gained(alloc: Global, meta: &Meta, slot: u8, like: u8, new: &New<'_>) -> Result<Meta, EditFault>
     requires number { IsFree (content meta.now) slot }
     requires suits { CanSeal (area_len meta.now) (content meta.now) like (new_members new.now) }
     ensures made { IfOk result (λ m.
