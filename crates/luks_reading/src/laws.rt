@@ -3,11 +3,14 @@
 ghost use Rattle.std.specs.Prelude.{◌≡◌, ◌↔◌, ℕ, List};
 ghost use Rattle.luks_area.specs.declared.area.Area.{Area as TheArea};
 ghost use Rattle.luks_area.specs.declared.area.AreaName.{AreaName as TheName};
+ghost use Rattle.luks_reading.specs.declared.read_fault.ReadFault.{ReadFault as TheReadFault};
 ghost use Rattle.luks_reading.specs.declared.report.Data.{Data as Payload};
 ghost use Rattle.luks_reading.specs.Agreement.{IsSameAnswer, IsSameUnlocking};
 ghost use Rattle.luks_reading.specs.Answer.{Answer, Opened};
-ghost use Rattle.luks_reading.specs.Checked.{AreaOf, IsFault, WellFormed};
+ghost use Rattle.luks_reading.specs.Checked.{AreaOf, IsCheckRefusal, IsFault, WellFormed};
+ghost use Rattle.luks_reading.specs.Conversions.{unread_checked};
 ghost use Rattle.luks_reading.specs.FitsAndResolves.{FitsAndResolves};
+ghost use Rattle.luks_reading.specs.Header.{IsUnread};
 ghost use Rattle.luks_reading.specs.Unlocking.{Unlocked, UnlockAnswer};
 
 use crate::check_fault::CheckFault;
@@ -34,6 +37,14 @@ pub fn well_formed_volume()
 {
     one_choice();
     one_value();
+}
+
+/// Why the header of a volume isn't read is why `check` refuses the volume.
+pub fn unread_volume_is_refused()
+    ensures { (v : List ℕ) (payload : Payload) (f : TheReadFault) → IsUnread v f
+        → IsCheckRefusal v payload (unread_checked f) }
+{
+    one_choice();
 }
 
 /// A name has one area at most in a volume.

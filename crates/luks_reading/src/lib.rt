@@ -20,7 +20,10 @@ pub use check_fault::CheckFault;
 pub use checking::{check, check_header};
 pub use header::{ChosenCopy, Header, read_header};
 pub use judging::judge_luks1;
-pub use laws::{no_fault_is_well_formed, one_answer, one_area, one_unlocking, well_formed_volume};
+pub use laws::{
+    no_fault_is_well_formed, one_answer, one_area, one_unlocking, unread_volume_is_refused,
+    well_formed_volume,
+};
 pub use luks_area::{
     Area, AreaFault, AreaName, Areas, Device, DeviceFault, Entry, MemDevice, text_field,
 };
