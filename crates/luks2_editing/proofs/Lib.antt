@@ -4,6 +4,9 @@ mod RowFacts
 mod RenewalFacts
 mod PlainEditFacts
 mod KeyAreaFacts
+mod LostFacts
 mod RemovalFacts
 mod SealingFacts
 mod SealedFacts
+mod PlanFacts
+mod ChangeFacts

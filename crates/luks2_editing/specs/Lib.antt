@@ -5,3 +5,4 @@ pub mod Replies
 pub mod Lost
 pub mod Sealed
 pub mod SealedKeyslot
+pub mod MadeMetadata
