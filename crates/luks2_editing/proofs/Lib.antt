@@ -7,6 +7,9 @@ mod KeyAreaFacts
 mod LostFacts
 mod RemovalFacts
 mod SealingFacts
+mod MadeMetadataFacts
+mod OpenedFacts
+mod SealedRowFacts
 mod SealedFacts
 mod PlanFacts
 mod ChangeFacts

@@ -4,5 +4,6 @@ pub mod Prepared
 pub mod Replies
 pub mod Lost
 pub mod Sealed
+pub mod MadeMetadata
 pub mod SealedKeyslot
 pub mod MadeMetadata

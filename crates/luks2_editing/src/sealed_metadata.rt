@@ -15,10 +15,18 @@ ghost use Rattle.luks2_editing.specs.MadeMetadata.{like_of, HasNumber, IsGained,
 ghost use Rattle.luks2_editing.specs.Prepared.{IsCopyWithin};
 ghost use Rattle.luks2_editing.specs.Replies.{EndsBy2};
 
+use crate::preparing::prepared;
+use crate::random::keyslot_salt;
 use luks_area::Area;
 use luks_edit::EditFault;
-use luks_meta::Meta;
-use luks_reading::ChosenCopy;
+use luks_head::{chosen_copy_is_sound, one_choice};
+use luks_making::{
+    New, addition_keeps_the_rest, change_keeps_the_rest, made_keyslot_has_room, new_fits,
+};
+use luks_meta::{Cost, Meta, one_digest, one_value};
+use luks_reading::{ChosenCopy, well_formed_volume};
+use luks_slot::SlotFault;
+use luks2_judging::{salts_are_as_long, sealed_need};
 use std::alloc::Global;
 
 /// The keyslot that an edit seals.
@@ -28,6 +36,18 @@ pub(crate) enum SealedSlot {
     Made { slot: u8, like: u8 },
     /// One that is there, sealed again.
     Renewed { slot: u8 },
+}
+
+impl SealedSlot {
+    /// The keyslot whose members it has.
+    fn like(self) -> u8
+        ensures { result ≡ like_of self }
+    {
+        match self {
+            SealedSlot::Made { slot: _, like } => like,
+            SealedSlot::Renewed { slot } => slot,
+        }
+    }
 }
 
 /// A keyslot that an edit seals, and what is new of it beside its salt.
@@ -86,5 +106,96 @@ pub(crate) fn new_metadata(
         → IsSealingEdit v payload e random.now copy.now sealing.now → length v ≡ total
         → IfErr result (λ f. EndsBy2 payload v e random.now f v) }
 {
-    Err(EditFault::Memory)
+    one_choice();
+    one_value();
+    one_digest();
+    chosen_copy_is_sound();
+    well_formed_volume();
+    salts_are_as_long();
+    let like = sealing.keyslot.like();
+    if !has_pbkdf2(&copy.meta, like) {
+        return Err(EditFault::Slot(SlotFault::Argon2));
+    }
+    let salt = keyslot_salt(random);
+    let new = New {
+        iterations: sealing.iterations,
+        salt: &salt,
+        offset: sealing.area.start,
+        size: sealing.area.len,
+    };
+    new_fits(&new);
+    let meta = made_metadata(alloc, &copy.meta, sealing.keyslot, &new)?;
+    let need = sealed_need(&copy.meta, like) as usize;
+    let json = prepared(alloc, &copy.header, &meta, random, need, total)?;
+    Ok(NewMetadata { meta, json })
+}
+
+/// Whether the keyslot's key is derived by PBKDF2.
+fn has_pbkdf2(meta: &Meta, n: u8) -> bool
+    requires { n < 32 }
+    ensures { IsTrue result ↔ HasPbkdf2 (content meta.now) n }
+{
+    match meta.keyslot(n) {
+        Some(keyslot) => match keyslot.kdf.cost {
+            Cost::Pbkdf2(_) => true,
+            Cost::Argon2i(_) => false,
+            Cost::Argon2id(_) => false,
+        },
+        None => false,
+    }
+}
+
+/// The metadata with the keyslot, or `Memory`.
+fn made_metadata(
+    alloc: Global,
+    meta: &Meta,
+    keyslot: SealedSlot,
+    new: &New<'_>,
+) -> Result<Meta, EditFault>
+    requires number { HasNumber (content meta.now) keyslot }
+    requires suits { CanSeal (area_len meta.now) (content meta.now) (like_of keyslot)
+        (new_members new.now) }
+    ensures made { IfOk result (λ m.
+        IsMadeBy keyslot (new_members new.now) (content meta.now) (content m)) }
+    ensures length { IfOk result (λ m. area_len m ≡ area_len meta.now) }
+    ensures memory { IfErr result (λ f. f ≡ EditFault.Memory) }
+{
+    match keyslot {
+        SealedSlot::Made { slot, like } => gained(alloc, meta, slot, like, new),
+        SealedSlot::Renewed { slot } => renewed(alloc, meta, slot, new),
+    }
+}
+
+/// The metadata with a new keyslot, or `Memory`.
+fn gained(alloc: Global, meta: &Meta, slot: u8, like: u8, new: &New<'_>) -> Result<Meta, EditFault>
+    requires number { IsFree (content meta.now) slot }
+    requires suits { CanSeal (area_len meta.now) (content meta.now) like (new_members new.now) }
+    ensures made { IfOk result (λ m.
+        IsGained slot like (new_members new.now) (content meta.now) (content m)) }
+    ensures length { IfOk result (λ m. area_len m ≡ area_len meta.now) }
+    ensures memory { IfErr result (λ f. f ≡ EditFault.Memory) }
+{
+    addition_keeps_the_rest();
+    made_keyslot_has_room();
+    new_fits(new);
+    match meta.with_slot(alloc, slot, like, new) {
+        Ok(made) => Ok(made),
+        Err(_) => Err(EditFault::Memory),
+    }
+}
+
+/// The metadata with what is new in the keyslot, or `Memory`.
+fn renewed(alloc: Global, meta: &Meta, slot: u8, new: &New<'_>) -> Result<Meta, EditFault>
+    requires { CanSeal (area_len meta.now) (content meta.now) slot (new_members new.now) }
+    ensures made { IfOk result (λ m.
+        IsRenewed slot (new_members new.now) (content meta.now) (content m)) }
+    ensures length { IfOk result (λ m. area_len m ≡ area_len meta.now) }
+    ensures memory { IfErr result (λ f. f ≡ EditFault.Memory) }
+{
+    change_keeps_the_rest();
+    new_fits(new);
+    match meta.changed_slot(alloc, slot, new) {
+        Ok(made) => Ok(made),
+        Err(_) => Err(EditFault::Memory),
+    }
 }
