@@ -6,4 +6,3 @@ pub mod Lost
 pub mod Sealed
 pub mod MadeMetadata
 pub mod SealedKeyslot
-pub mod MadeMetadata
