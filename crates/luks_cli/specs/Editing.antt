@@ -7,7 +7,7 @@ use Rattle.luks_edit.specs.declared.edit.Done.{Done}
 use Rattle.luks_edit.specs.declared.edit.Edit.{Edit}
 use Rattle.luks_edit.specs.declared.edit.Edit.TheVariants as edit
 use Rattle.luks_edit.specs.declared.edit_fault.EditFault.{EditFault}
-use Rattle.luks_edit.specs.declared.edit_fault.EditFault.TheVariants.{Memory}
+use Rattle.luks_edit.specs.declared.edit_fault.EditFault.TheVariants.{Device, Memory}
 use Rattle.luks_edit.specs.EditFaults.{edit_key}
 use Rattle.luks_edit.specs.Kept.{Keeps}
 use Rattle.luks_edit.specs.Ran.{Reply}
@@ -40,7 +40,7 @@ IsAsked request IsOld IsNew e = ⊥
 -- the edit is it for some passphrases, and names the keyslot `n` of the volume `v`
 pub record NamesSlot (request : EditRequest) (v : List ℕ) (n : ℕ) : Type 0 where
   pub edit : Edit
-  pub asked : IsAsked request (λ p. ⊤) (λ p. ⊤) edit
+  pub asked : IsAsked request (λ p. Unit {0}) (λ p. Unit {0}) edit
   pub named : NamedSlots v edit n
 
 -- what an edit is given: the edit is one that is asked for, and the random bytes are the first of
@@ -114,9 +114,10 @@ pub record SaysEdit (payload : Data) (given : Given) (v w : List ℕ) (is_done i
 abbrev pub RepliesAlone : Data → List ℕ → Edit → List ℕ → Reply → List ℕ → Type 0
 RepliesAlone payload v e random reply w = ((reply ≡ Err Memory) × (w ≡ v)) ⊎ Replies payload v e random reply w
 
--- how the command ends by a fault other than the device's
+-- how the command ends by this fault
 abbrev pub ended_by : EditFault → Status
 ended_by Memory = Fault
+ended_by Device = Fault
 ended_by f = Refused
 
 -- ---- over devices

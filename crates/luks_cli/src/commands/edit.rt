@@ -69,11 +69,23 @@ fn edit_volume<D: Device, R: Read, N: Read, W: Write, E: Write>(
     ensures unread { IfErr inputs.old.volume (λ _. IfOk result (λ s. s ≢ Status.Done)) }
 {
     let request = &editing.request;
-    let old = match words(alloc, &mut inputs.passphrase, request.passphrase(), out, err) {
+    let old = match words(
+        alloc,
+        &mut inputs.passphrase,
+        request.passphrase(),
+        out,
+        err,
+    ) {
         Ok(words) => words,
         Err(ended) => return ended,
     };
-    let new = match words(alloc, &mut inputs.new_passphrase, request.new_passphrase(), out, err) {
+    let new = match words(
+        alloc,
+        &mut inputs.new_passphrase,
+        request.new_passphrase(),
+        out,
+        err,
+    ) {
         Ok(words) => words,
         Err(ended) => return ended,
     };
@@ -82,7 +94,16 @@ fn edit_volume<D: Device, R: Read, N: Read, W: Write, E: Write>(
         Err(fault) => return unread(*fault, name, out, err),
     };
     let edit = edit_of(request, old.as_slice(), new.as_slice());
-    edit_device(alloc, device, &mut inputs.random, name, editing, &edit, out, err)
+    edit_device(
+        alloc,
+        device,
+        &mut inputs.random,
+        name,
+        editing,
+        &edit,
+        out,
+        err,
+    )
 }
 
 /// Edits the volume by this edit, which is the one that the command line asks for.
@@ -113,8 +134,7 @@ fn edit_device<D: Device, N: Read, W: Write, E: Write>(
     let payload = editing.data_;
     let count = match needed(alloc, device, payload, edit) {
         Ok(count) => count,
-        Err(EditFault::Device) => return device_fault(name, out, err),
-        Err(fault) => return not_done(&fault, out),
+        Err(fault) => return not_begun(&fault, name, out, err),
     };
     let random = match random_bytes(alloc, random, count) {
         Ok(bytes) => bytes,
@@ -122,8 +142,7 @@ fn edit_device<D: Device, N: Read, W: Write, E: Write>(
     };
     match run_edit(alloc, device, payload, edit, random.as_slice()) {
         Ok(made) => done(&made, out),
-        Err(EditFault::Device) => edit_failed(name, out, err),
-        Err(fault) => not_done(&fault, out),
+        Err(fault) => not_done(&fault, name, out, err),
     }
 }
 
@@ -137,11 +156,33 @@ fn done<W: Write>(made: &Done, out: &mut W) -> io::Result<Status>
     Ok(Status::Done)
 }
 
-/// What is printed of an edit that a fault other than the device's ended.
-fn not_done<W: Write>(fault: &EditFault, out: &mut W) -> io::Result<Status>
+/// What is printed of an edit of the volume of this name that this fault ended before it was run.
+fn not_begun<W: Write, E: Write>(
+    fault: &EditFault,
+    name: &str,
+    out: &mut W,
+    err: &mut E,
+) -> io::Result<Status>
     ensures { IfOk result (λ s. s ≡ ended_by fault.now) }
 {
     match fault {
+        EditFault::Device => device_fault(name, out, err),
+        EditFault::Memory => no_memory(out),
+        fault => refused(fault, out),
+    }
+}
+
+/// What is printed of one that this fault ended when it was run.
+fn not_done<W: Write, E: Write>(
+    fault: &EditFault,
+    name: &str,
+    out: &mut W,
+    err: &mut E,
+) -> io::Result<Status>
+    ensures { IfOk result (λ s. s ≡ ended_by fault.now) }
+{
+    match fault {
+        EditFault::Device => edit_failed(name, out, err),
         EditFault::Memory => no_memory(out),
         fault => refused(fault, out),
     }

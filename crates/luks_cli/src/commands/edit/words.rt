@@ -18,7 +18,7 @@ pub(super) fn words<R: Read, W: Write, E: Write>(
     out: &mut W,
     err: &mut E,
 ) -> Result<Vec<u8>, io::Result<Status>>
-    ensures whole { IfOk result (λ p. IfSome name (λ _. IsWhole R.remaining file.old p.items)) }
+    ensures whole { IfOk result (λ p. IfSome name.entry (λ _. IsWhole R.remaining file.old p.items)) }
     ensures long { IfErr result (λ ended. IfOk ended (λ s. s ≢ Status.Fault
         → (s ≡ Status.Refused) × IsLong R.remaining file.old)) }
 {
