@@ -13,12 +13,13 @@ use Rattle.luks_edit.specs.declared.edit_fault.EditFault.{EditFault}
 use Rattle.luks_edit.specs.declared.edit_fault.EditFault.TheVariants as fault
 use Rattle.luks_edit.specs.Asked.{HasFewIterations, OpensBy}
 use Rattle.luks_edit.specs.EditFaults.{edit_key, edit_row}
-use Rattle.luks1_edits.specs.Accepted.{IsHeaderOf, IsNewFault, IsNewNeed, IsNewNeedFault, IsUnaccepted}
-use Rattle.luks1_edits.specs.Edited.{IsInUse, IsNewKeyslot}
-use Rattle.luks1_edits.specs.Needed.{IsNeedFault1, TellsNeed1}
+use Rattle.luks1_edits.specs.Accepted.{IsHeaderOf, IsNewFault, IsNewFree, IsNewNeed, IsNewNeedFault, IsUnaccepted}
+use Rattle.luks1_edits.specs.Edited.{IsFree, IsInUse, IsNewKeyslot}
+use Rattle.luks1_edits.specs.Needed.{IsNeedFault1, NeedsRandom, TellsNeed1}
 use Rattle.luks1_edits.specs.Refused.{HasNoFree, IsAbsent, IsEditFault1, IsLabel, IsLast, IsTaken, IsTakenFor, LacksFree, Need1, NeedsFor, Refusal1}
 use Rattle.luks1_edits.specs.Replies.{EndsBy1, IsDone1, Replies1}
-use Rattle.luks1_edits.proofs.RowFacts.{PassedOpener, at_most, first_of_row, opens_once, unrefused}
+use Rattle.luks1_edits.proofs.OpenerFacts.{used_or_free}
+use Rattle.luks1_edits.proofs.RowFacts.{PassedOpener, at_most, first_of_row, no_row_past, opens_once, unrefused}
 
 -- ---- the verdict on the header is that on the volume
 
@@ -174,23 +175,34 @@ module _ (v : List ℕ) (payload : Data) (r : List ℕ) (accepted : (f : CheckFa
 -- ---- the random bytes that an edit asks for
 
 module _ (v : List ℕ) (payload : Data) (e : Edit) (accepted : (f : CheckFault) → IsFault v payload f → ⊥) where
-  need_rows : (k : ℕ) → k ≤ 7 → (3 < k → IsAbsent v e → ⊥) → (6 < k → IsTaken v e → ⊥) → (g : EditFault) → IsNeedFault1 v payload e g → k ≤ edit_row g
-  need_rows k low there untaken (fault.NotAccepted f) bad = absurd (accepted f bad)
-  need_rows k low there untaken fault.NoSuchSlot bad = at_most k 3 (λ over. there over bad)
-  need_rows k low there untaken fault.SlotTaken bad = at_most k 6 (λ over. untaken over bad)
-  need_rows k low there untaken fault.NoFreeSlot bad = low
-  need_rows k low there untaken fault.Requirements bad = absurd bad
-  need_rows k low there untaken fault.Locked bad = absurd bad
-  need_rows k low there untaken (fault.Slot s) bad = absurd bad
-  need_rows k low there untaken fault.NoRoom bad = absurd bad
-  need_rows k low there untaken fault.LastSlot bad = absurd bad
-  need_rows k low there untaken fault.Iterations bad = absurd bad
-  need_rows k low there untaken fault.BadLabel bad = absurd bad
-  need_rows k low there untaken fault.SeqExhausted bad = absurd bad
-  need_rows k low there untaken fault.MetadataFull bad = absurd bad
-  need_rows k low there untaken fault.RandomLength bad = absurd bad
-  need_rows k low there untaken fault.Memory bad = absurd bad
-  need_rows k low there untaken fault.Device bad = absurd bad
+  need_rows : (k : ℕ) → (3 < k → IsAbsent v e → ⊥) → (6 < k → IsTaken v e → ⊥) → (7 < k → HasNoFree v e → ⊥) → (g : EditFault) → IsNeedFault1 v payload e g → k ≤ edit_row g
+  need_rows k there untaken some_free (fault.NotAccepted f) bad = absurd (accepted f bad)
+  need_rows k there untaken some_free fault.NoSuchSlot bad = at_most k 3 (λ over. there over bad)
+  need_rows k there untaken some_free fault.SlotTaken bad = at_most k 6 (λ over. untaken over bad)
+  need_rows k there untaken some_free fault.NoFreeSlot bad = at_most k 7 (λ over. some_free over bad)
+  need_rows k there untaken some_free fault.Requirements bad = absurd bad
+  need_rows k there untaken some_free fault.Locked bad = absurd bad
+  need_rows k there untaken some_free (fault.Slot s) bad = absurd bad
+  need_rows k there untaken some_free fault.NoRoom bad = absurd bad
+  need_rows k there untaken some_free fault.LastSlot bad = absurd bad
+  need_rows k there untaken some_free fault.Iterations bad = absurd bad
+  need_rows k there untaken some_free fault.BadLabel bad = absurd bad
+  need_rows k there untaken some_free fault.SeqExhausted bad = absurd bad
+  need_rows k there untaken some_free fault.MetadataFull bad = absurd bad
+  need_rows k there untaken some_free fault.RandomLength bad = absurd bad
+  need_rows k there untaken some_free fault.Memory bad = absurd bad
+  need_rows k there untaken some_free fault.Device bad = absurd bad
+
+  -- none of the faults that are seen without opening a keyslot stands
+  told : (k : ℕ) → (IsAbsent v e → ⊥) → (IsTaken v e → ⊥) → (HasNoFree v e → ⊥) → Need1 v e k → NeedsRandom v payload e k
+  told k there untaken some_free need = record {
+    unrefused = λ g bad. no_row_past g (need_rows 17 (λ _. there) (λ _. untaken) (λ _. some_free) g bad);
+    need = need;
+  }
+
+  -- an edit that opens no keyslot and makes none takes none
+  pub idle_need : ((n : ℕ) (p : List ℕ) → OpensBy e n p → ⊥) → (IsTaken v e → ⊥) → (HasNoFree v e → ⊥) → Need1 v e 0 → NeedsRandom v payload e 0
+  idle_need none untaken some_free need = told 0 (λ bad. none bad.slot bad.passphrase bad.asked) untaken some_free need
 
   module _ (n : ℕ) (p : List ℕ) (asked : OpensBy e n p) where
     there_of : IsInUse v n → IsAbsent v e → ⊥
@@ -199,7 +211,7 @@ module _ (v : List ℕ) (payload : Data) (e : Edit) (accepted : (f : CheckFault)
     pub need_absent : (IsInUse v n → ⊥) → IsLeast edit_key (IsNeedFault1 v payload e) fault.NoSuchSlot
     need_absent unused = (
       record { slot = n; passphrase = p; asked = asked; unused = unused },
-      λ g bad. (need_rows 3 (omega arith) (λ lt. absurd (omega (arith, lt))) (λ lt. absurd (omega (arith, lt))) g bad, λ _. tt),
+      λ g bad. (need_rows 3 (λ lt. absurd (omega (arith, lt))) (λ lt. absurd (omega (arith, lt))) (λ lt. absurd (omega (arith, lt))) g bad, λ _. tt),
     )
 
     module _ (to : Option ℕ) (taken_is : IsTakenFor v to → IsTaken v e) (taken_only : IsTaken v e → IsTakenFor v to) (free_is : LacksFree v to → HasNoFree v e) where
@@ -210,11 +222,11 @@ module _ (v : List ℕ) (payload : Data) (e : Edit) (accepted : (f : CheckFault)
       need_unmade : (f : EditFault) → IsInUse v n → IsNewFault v to f → IsLeast edit_key (IsNeedFault1 v payload e) f
       need_unmade fault.SlotTaken used bad = (
         taken_is bad,
-        λ g other. (need_rows 6 (omega arith) (λ _. there_of used) (λ lt. absurd (omega (arith, lt))) g other, λ _. tt),
+        λ g other. (need_rows 6 (λ _. there_of used) (λ lt. absurd (omega (arith, lt))) (λ lt. absurd (omega (arith, lt))) g other, λ _. tt),
       )
       need_unmade fault.NoFreeSlot used bad = (
         free_is bad,
-        λ g other. (need_rows 7 (omega arith) (λ _. there_of used) (λ _ taken. taken_excludes to (taken_only taken) bad) g other, λ _. tt),
+        λ g other. (need_rows 7 (λ _. there_of used) (λ _ taken. taken_excludes to (taken_only taken) bad) (λ lt. absurd (omega (arith, lt))) g other, λ _. tt),
       )
       need_unmade (fault.NotAccepted f) used bad = absurd bad
       need_unmade fault.Requirements used bad = absurd bad
@@ -249,15 +261,26 @@ module _ (v : List ℕ) (payload : Data) (e : Edit) (accepted : (f : CheckFault)
       need_refused fault.Memory bad = need_unmade fault.Memory bad.used bad.is
       need_refused fault.Device bad = need_unmade fault.Device bad.used bad.is
 
-      pub new_need_tells : ((k : ℕ) → NeedsFor v (IsNewKeyslot v to) k → Need1 v e k)
-          → (result : Result ℕ EditFault) → MatchResult result (IsNewNeed v n to) (IsNewNeedFault v n to) → TellsNeed1 payload v e result
-      new_need_tells need (Ok k) x = need k x.need
-      new_need_tells need (Err f) x = need_refused f x
+      -- a keyslot that is free isn't taken, and isn't none
+      free_untaken : (t : Option ℕ) (m : ℕ) → IsNewFree v t m → IsTakenFor v t → ⊥
+      free_untaken (Some t) m x used = used_or_free v t used (subst (λ i. IsFree v i) x.is_new x.free)
+      free_untaken None m x used = used
 
-    pub removal_need_tells : Need1 v e 0
+      free_there : (t : Option ℕ) (m : ℕ) → IsNewFree v t m → LacksFree v t → ⊥
+      free_there (Some t) m x over = let low = x.free.0 in let same = x.is_new in omega (arith, low, same, over)
+      free_there None m x over = over m x.free
+
+      pub new_need_tells : (HasNoFree v e → LacksFree v to) → ((k : ℕ) → NeedsFor v (IsNewKeyslot v to) k → Need1 v e k)
+          → (result : Result ℕ EditFault) → MatchResult result (IsNewNeed v n to) (IsNewNeedFault v n to) → TellsNeed1 payload v e result
+      new_need_tells free_only need (Ok k) x = told k (there_of x.used)
+          (λ bad. free_untaken to x.need.slot x.need.is (taken_only bad)) (λ bad. free_there to x.need.slot x.need.is (free_only bad))
+          (need k (record { slot = x.need.slot; is = x.need.is.is_new; count = x.need.count }))
+      new_need_tells free_only need (Err f) x = need_refused f x
+
+    pub removal_need_tells : (IsTaken v e → ⊥) → (HasNoFree v e → ⊥) → Need1 v e 0
         → (result : Result ℕ EditFault) → MatchResult result (λ k. (k ≡ 0) × IsInUse v n) (λ f. (f ≡ fault.NoSuchSlot) × (IsInUse v n → ⊥)) → TellsNeed1 payload v e result
-    removal_need_tells need (Ok k) x = subst (λ m. Need1 v e m) (sym x.0) need
-    removal_need_tells need (Err f) x = subst (λ g. IsLeast edit_key (IsNeedFault1 v payload e) g) (sym x.0) (need_absent x.1)
+    removal_need_tells untaken some_free need (Ok k) x = told k (there_of x.1) untaken some_free (subst (λ m. Need1 v e m) (sym x.0) need)
+    removal_need_tells untaken some_free need (Err f) x = subst (λ g. IsLeast edit_key (IsNeedFault1 v payload e) g) (sym x.0) (need_absent x.1)
 
 -- why a keyslot isn't made, of an opener in use
 pub fault_of_used : (v : List ℕ) (opener : ℕ) (to : Option ℕ) (f : EditFault) → IsInUse v opener → IsNewFault v to f → IsNewNeedFault v opener to f

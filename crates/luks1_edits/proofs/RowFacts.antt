@@ -83,27 +83,28 @@ rows_from k v payload e r x fault.RandomLength bad = at_most k 14 (λ over. x.re
 rows_from k v payload e r x fault.Memory bad = absurd bad
 rows_from k v payload e r x fault.Device bad = absurd bad
 
+-- no fault stands past the last row
+pub no_row_past : (f : EditFault) → 17 ≤ edit_row f → ⊥
+no_row_past (fault.NotAccepted f) over = omega arith
+no_row_past fault.Requirements over = omega arith
+no_row_past fault.NoSuchSlot over = omega arith
+no_row_past fault.Locked over = omega arith
+no_row_past (fault.Slot s) over = omega arith
+no_row_past fault.SlotTaken over = omega arith
+no_row_past fault.NoFreeSlot over = omega arith
+no_row_past fault.NoRoom over = omega arith
+no_row_past fault.LastSlot over = omega arith
+no_row_past fault.Iterations over = omega arith
+no_row_past fault.BadLabel over = omega arith
+no_row_past fault.SeqExhausted over = omega arith
+no_row_past fault.MetadataFull over = omega arith
+no_row_past fault.RandomLength over = omega arith
+no_row_past fault.Memory over = omega arith
+no_row_past fault.Device over = omega arith
+
 -- nothing refuses where all rows were passed
 pub unrefused : (v : List ℕ) (payload : Data) (e : Edit) (r : List ℕ) → Passed 17 v payload e r → IsUnrefused1 v payload e r
-unrefused v payload e r x = record { none = λ f bad. past f (rows_from 17 v payload e r x f bad) }
-  where
-    past : (f : EditFault) → 17 ≤ edit_row f → ⊥
-    past (fault.NotAccepted f) over = omega arith
-    past fault.Requirements over = omega arith
-    past fault.NoSuchSlot over = omega arith
-    past fault.Locked over = omega arith
-    past (fault.Slot s) over = omega arith
-    past fault.SlotTaken over = omega arith
-    past fault.NoFreeSlot over = omega arith
-    past fault.NoRoom over = omega arith
-    past fault.LastSlot over = omega arith
-    past fault.Iterations over = omega arith
-    past fault.BadLabel over = omega arith
-    past fault.SeqExhausted over = omega arith
-    past fault.MetadataFull over = omega arith
-    past fault.RandomLength over = omega arith
-    past fault.Memory over = omega arith
-    past fault.Device over = omega arith
+unrefused v payload e r x = record { none = λ f bad. no_row_past f (rows_from 17 v payload e r x f bad) }
 
 -- the fault of a row with one place is the first
 pub first_of_row : (v : List ℕ) (payload : Data) (e : Edit) (r : List ℕ) (f : EditFault) → edit_place f ≡ []

@@ -110,10 +110,10 @@ IsNewRefused v n iterations random f = ⊥
 
 -- ---- the random bytes that an edit asks for
 
--- a new keyslot takes `k` random bytes, and the one to open is in use
+-- a new keyslot, which is free, takes `k` random bytes, and the one to open is in use
 pub record IsNewNeed (v : List ℕ) (opener : ℕ) (to : Option ℕ) (k : ℕ) : Type 0 where
   pub used : IsInUse v opener
-  pub need : NeedsFor v (IsNewKeyslot v to) k
+  pub need : NeedsFor v (IsNewFree v to) k
 
 pub record IsNewFaultOfUsed (v : List ℕ) (opener : ℕ) (to : Option ℕ) (f : EditFault) : Type 0 where
   pub used : IsInUse v opener

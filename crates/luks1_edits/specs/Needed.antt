@@ -17,7 +17,12 @@ IsNeedFault1 v payload e fault.SlotTaken = IsTaken v e
 IsNeedFault1 v payload e fault.NoFreeSlot = HasNoFree v e
 IsNeedFault1 v payload e f = ⊥
 
+-- none of these faults stands, and the edit takes `k` random bytes
+pub record NeedsRandom (v : List ℕ) (payload : Data) (e : Edit) (k : ℕ) : Type 0 where
+  pub unrefused : (f : EditFault) → IsNeedFault1 v payload e f → ⊥
+  pub need : Need1 v e k
+
 -- how many random bytes the edit takes, or the first of these faults
 abbrev pub TellsNeed1 : Data → List ℕ → Edit → Result ℕ EditFault → Type 0
-TellsNeed1 payload v e (Ok k) = Need1 v e k
+TellsNeed1 payload v e (Ok k) = NeedsRandom v payload e k
 TellsNeed1 payload v e (Err f) = IsLeast edit_key (IsNeedFault1 v payload e) f

@@ -6,3 +6,4 @@ mod PlainEditFacts
 mod KeyAreaFacts
 mod RemovalFacts
 mod SealingFacts
+mod SealedFacts

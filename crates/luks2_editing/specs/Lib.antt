@@ -4,3 +4,4 @@ pub mod Prepared
 pub mod Replies
 pub mod Lost
 pub mod Sealed
+pub mod SealedKeyslot
