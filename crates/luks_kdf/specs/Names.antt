@@ -1,5 +1,5 @@
 -- The hash functions that a header names.
-use Rattle.std.proofs.Common.{◌≡◌, ◌≤◌, ◌&&◌, ℕ, List, Option, Some, None, Bool, true, T, codes, leb→le, length, nat_le, subst, sym, if◌then◌else◌}
+use Rattle.std.proofs.Common.{◌≡◌, ◌≤◌, ◌&&◌, ℕ, List, Option, Some, None, Bool, true, T, codes, leb→le, length, nat_le, refl, subst, sym, if◌then◌else◌}
 use Rattle.std.specs.Str.{bytes_eq}
 use Rattle.sha1.specs.Sha1.{sha1}
 use Rattle.sha2.specs.Sha256.{sha256}
@@ -56,6 +56,12 @@ pub length-digest : (hash : HashName) (m : List ℕ) → length (hash_of hash m)
 length-digest Sha1 = length-sha1
 length-digest Sha256 = length-sha256
 length-digest Sha512 = length-sha512
+
+-- each is known by its name
+pub named : (hash : HashName) → hash_named (name_of hash) ≡ Some hash
+named Sha1 = refl
+named Sha256 = refl
+named Sha512 = refl
 
 -- whether each of them passes a test
 abbrev pub all_pass : (HashName → Bool) → Bool

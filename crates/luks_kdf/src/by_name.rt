@@ -23,7 +23,8 @@ impl HashName {
 
     /// The length of a digest in bytes (FIPS 180-4, 1).
     pub fn digest_len(self) -> usize
-        ensures { result ≡ digest_size_of self }
+        ensures value { result ≡ digest_size_of self }
+        ensures at_most_64 { result ≤ 64 }
     {
         self.run(DigestLen, &mut [])
     }
