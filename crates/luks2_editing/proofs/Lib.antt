@@ -6,3 +6,7 @@ mod PlainEditFacts
 mod KeyAreaFacts
 mod RemovalFacts
 mod SealingFacts
+mod MadeMetadataFacts
+mod OpenedFacts
+mod SealedRowFacts
+mod SealedFacts

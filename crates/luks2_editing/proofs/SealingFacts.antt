@@ -1,16 +1,53 @@
 -- A new key area that is sealed before both copies of a LUKS2 header are written anew.
-use Rattle.std.proofs.Common.{◌≡◌, ℕ, ◌+◌, ◌*◌, ◌<◌, ◌≤◌, ◌⊎◌, List, inl, inr, arith}
+use Rattle.std.proofs.Common.{◌≡◌, ◌≢◌, ℕ, ◌*◌, ◌≤◌, List, Some, inl, inr, refl, arith}
 use Rattle.serde_json.specs.Data.{Data as Value}
 use Rattle.luks_area.specs.declared.area.Area.{Area}
-use Rattle.luks_area.specs.Ranges.{part, IsAt, IsOfEither, SameBut}
+use Rattle.luks_area.specs.Ranges.{SameBut}
 use Rattle.luks_area.specs.RangeFacts.{part-same_but, same_but-either}
+use Rattle.luks_slot.specs.declared.fault.SlotFault.{SlotFault}
+use Rattle.luks_slot.specs.declared.fault.SlotFault.TheVariants as sealing
 use Rattle.luks_slot.specs.declared.plan.SlotPlan.{SlotPlan}
+use Rattle.luks_slot.specs.Fault.{is_device_fault, IsAnsweredFault}
 use Rattle.luks_slot.specs.Opening.{area_bytes}
+use Rattle.luks_slot.specs.Refusal.{slot_refusal}
 use Rattle.luks_slot.specs.Sealing.{IsSealed}
+use Rattle.luks_edit.specs.EditFaults.{is_edit_failure}
 use Rattle.luks_edit.specs.declared.edit.Edit.{Edit}
+use Rattle.luks_edit.specs.declared.edit_fault.EditFault.TheVariants as fault
 use Rattle.luks2_edits.specs.Places.{IsOfCopies}
 use Rattle.luks2_editing.specs.Rewriting.{MayBeHalfWritten}
-use Rattle.luks2_editing.specs.Sealed.{IsOfStripes, MayBeHalfSealed}
+use Rattle.luks2_editing.specs.Sealed.{unsealed, IsOfStripes, IsPlanFault, MayBeHalfSealed}
+
+-- ---- the fault of sealing
+
+-- it is that of the plan
+pub unsealed_fault : (plan : SlotPlan) (f : SlotFault) → IsAnsweredFault plan f → IsPlanFault plan (unsealed f)
+unsealed_fault plan sealing.Argon2 x = x
+unsealed_fault plan sealing.Cipher x = x
+unsealed_fault plan sealing.Hash x = x
+unsealed_fault plan sealing.KeySize x = x
+unsealed_fault plan sealing.Device x = tt
+unsealed_fault plan sealing.Memory x = x
+
+-- it is the device's where the device's it was
+pub unsealed_failure : (f : SlotFault) → is_edit_failure (unsealed f) ≡ is_device_fault f
+unsealed_failure sealing.Argon2 = refl
+unsealed_failure sealing.Cipher = refl
+unsealed_failure sealing.Hash = refl
+unsealed_failure sealing.KeySize = refl
+unsealed_failure sealing.Device = refl
+unsealed_failure sealing.Memory = refl
+
+-- where it isn't, the plan is refused
+pub unsealed_refused : (plan : SlotPlan) (f : SlotFault) → IsAnsweredFault plan f → unsealed f ≢ fault.Device → slot_refusal plan ≡ Some f
+unsealed_refused plan sealing.Argon2 x other = x
+unsealed_refused plan sealing.Cipher x other = x
+unsealed_refused plan sealing.Hash x other = x
+unsealed_refused plan sealing.KeySize x other = x
+unsealed_refused plan sealing.Device x other = absurd (other refl)
+unsealed_refused plan sealing.Memory x other = absurd x
+
+-- ---- an area and the copies
 
 -- an area behind the copies stays where they are written
 pub area_behind : (h : ℕ) (area : Area) (v w : List ℕ) → 2 * h ≤ area.start → SameBut (IsOfCopies h) v w → area_bytes w area ≡ area_bytes v area

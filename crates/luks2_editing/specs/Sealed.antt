@@ -1,20 +1,37 @@
 -- What writing a new key area and then both copies of a LUKS2 header may leave: words of private
 -- contracts.
-use Rattle.std.specs.Prelude.{◌≡◌, ℕ, ◌+◌, ◌*◌, ◌≤◌, ◌⊎◌, List}
+use Rattle.std.specs.Prelude.{◌≡◌, ℕ, ◌⊎◌, List, Some, ⊤}
 use Rattle.serde_json.specs.Data.{Data as Value}
 use Rattle.luks_area.specs.Ranges.{IsAt, IsOfEither, SameBut}
 use Rattle.luks_area.specs.Sectors.{rounded_to_sectors}
 use Rattle.luks_head.specs.Header2.{hdr_size, header_at}
+use Rattle.luks_slot.specs.declared.fault.SlotFault.{SlotFault}
+use Rattle.luks_slot.specs.declared.fault.SlotFault.TheVariants as sealing
 use Rattle.luks_slot.specs.declared.plan.SlotPlan.{SlotPlan}
 use Rattle.luks_slot.specs.Opening.{area_bytes, stripe_bytes}
+use Rattle.luks_slot.specs.Refusal.{slot_refusal}
 use Rattle.luks_slot.specs.Sealing.{IsSealed}
 use Rattle.luks_edit.specs.declared.edit.Edit.{Edit}
+use Rattle.luks_edit.specs.declared.edit_fault.EditFault.{EditFault}
+use Rattle.luks_edit.specs.declared.edit_fault.EditFault.TheVariants as fault
 use Rattle.luks2_edits.specs.Copies.{other_place, IsWrittenAnew}
 use Rattle.luks2_edits.specs.Places.{IsOfCopies}
 
 -- the place is of the sectors that hold the stripes of the plan's keyslot
 abbrev pub IsOfStripes : SlotPlan → ℕ → Type 0
 IsOfStripes plan = IsAt plan.area.start (rounded_to_sectors (stripe_bytes plan))
+
+-- the fault of sealing as that of an edit
+abbrev pub unsealed : SlotFault → EditFault
+unsealed sealing.Device = fault.Device
+unsealed sealing.Memory = fault.Memory
+unsealed f = fault.Slot f
+
+-- why the key isn't sealed: the plan is refused, or the device failed
+abbrev pub IsPlanFault : SlotPlan → EditFault → Type 0
+IsPlanFault plan (fault.Slot f) = slot_refusal plan ≡ Some f
+IsPlanFault plan fault.Device = ⊤
+IsPlanFault plan f = ⊥
 
 -- the key is sealed, and the copy of `v` that stands at the place `o` is as it was
 pub record IsOtherTorn

@@ -9,6 +9,8 @@ mod random;
 mod removing;
 mod repairing;
 mod rewriting;
+mod sealed_metadata;
+mod sealed_plan;
 mod sealing;
 mod writing;
 

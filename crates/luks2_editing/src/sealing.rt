@@ -1,5 +1,5 @@
 //! Writing a new key area, and then both copies of a LUKS2 header.
-ghost use Rattle.std.specs.Prelude.{◌≡◌, ◌+◌, ◌-◌, ◌*◌, ◌^◌, ◌<◌, ◌≤◌, ℕ, List, length, IfErr, None, OnOk, drop};
+ghost use Rattle.std.specs.Prelude.{◌≡◌, ◌≢◌, ◌+◌, ◌-◌, ◌*◌, ◌^◌, ◌<◌, ◌≤◌, ℕ, List, length, IfErr, OnOk, drop};
 ghost use Rattle.serde_json.specs.Data.{Data as Value};
 ghost use Rattle.luks_area.specs.Area.{IsInside};
 ghost use Rattle.luks_area.specs.Device.{CountsFailure};
@@ -7,24 +7,24 @@ ghost use Rattle.luks_area.specs.Ranges.{IsOfEither, SameBut};
 ghost use Rattle.luks_area.specs.Sectors.{rounded_to_sectors};
 ghost use Rattle.luks_head.specs.Header2.{binary_header_size};
 ghost use Rattle.luks_slot.specs.Opening.{area_bytes, stripe_bytes, HasIterations};
-ghost use Rattle.luks_slot.specs.Refusal.{slot_refusal};
 ghost use Rattle.luks_slot.specs.Sealing.{IsSealed};
 ghost use Rattle.luks_edit.specs.EditFaults.{is_edit_failure};
 ghost use Rattle.luks_edit.specs.declared.edit.Edit.{Edit as TheEdit};
 ghost use Rattle.luks2_edits.specs.Places.{IsOfCopies};
 ghost use Rattle.luks2_editing.specs.Rewriting.{AreWrittenAnew, IsRewriting};
-ghost use Rattle.luks2_editing.specs.Sealed.{IsOfStripes, MayBeHalfSealed};
+ghost use Rattle.luks2_editing.specs.Sealed.{unsealed, IsOfStripes, IsPlanFault, MayBeHalfSealed};
 
 use crate::random::stripes_in;
 use crate::writing::write_copies;
 use luks_area::Device;
 use luks_edit::EditFault;
 use luks_head::Bin2;
-use luks_slot::{Key, SlotPlan};
+use luks_slot::{Key, SlotFault, SlotPlan};
 use luks_steps::seal_area;
 
 /// Seals the key in the area of the plan, which lies behind the copies, and then writes both copies
-/// anew from the chosen one's binary header: the other one first. A flush follows each.
+/// anew from the chosen one's binary header: the other one first. A flush follows each. A plan that is
+/// refused is answered as `Slot`, and then no byte changes.
 ///
 /// Of the random bytes the salts of the copies are the first 128; the keyslot's stripes but the last
 /// are those from the place 160 on.
@@ -37,7 +37,6 @@ pub(crate) fn write_sealed<D: Device>(
     random: &[u8],
     json: &[u8],
 ) -> Result<(), EditFault>
-    requires unrefused { slot_refusal plan.now ≡ None }
     requires iterations { HasIterations plan.now.derivation }
     requires key_length { length key.now ≡ plan.now.key_bytes }
     requires some_stripes { 1 ≤ plan.now.stripes }
@@ -52,7 +51,9 @@ pub(crate) fn write_sealed<D: Device>(
     ensures size { D.size device.new ≡ D.size device.old }
     ensures count { CountsFailure is_edit_failure result
         (D.failed device.old) (D.failed device.new) }
-    ensures fault { IfErr result (λ f. f ≡ EditFault.Device) }
+    ensures fault { IfErr result (IsPlanFault plan.now) }
+    ensures same { D.tells → IfErr result (λ f. f ≢ EditFault.Device
+        → D.bytes device.new ≡ D.bytes device.old) }
     ensures sealed { D.tells → OnOk result
         (IsSealed plan.now (area_bytes (D.bytes device.new) plan.now.area)
         passphrase.now key.now (drop 160 random.now)) }
@@ -75,7 +76,18 @@ pub(crate) fn write_sealed<D: Device>(
     }
 }
 
-/// Seals the key by a plan that isn't refused.
+/// The fault of sealing as that of an edit.
+fn unsealed(fault: SlotFault) -> EditFault
+    ensures { result ≡ unsealed fault }
+{
+    match fault {
+        SlotFault::Device => EditFault::Device,
+        SlotFault::Memory => EditFault::Memory,
+        other => EditFault::Slot(other),
+    }
+}
+
+/// Seals the key in the area of the plan, and flushes.
 fn seal<D: Device>(
     device: &mut D,
     plan: &SlotPlan<'_>,
@@ -83,7 +95,6 @@ fn seal<D: Device>(
     key: &Key,
     stripes: &[u8],
 ) -> Result<(), EditFault>
-    requires unrefused { slot_refusal plan.now ≡ None }
     requires iterations { HasIterations plan.now.derivation }
     requires key_length { length key.now ≡ plan.now.key_bytes }
     requires some_stripes { 1 ≤ plan.now.stripes }
@@ -94,7 +105,9 @@ fn seal<D: Device>(
     ensures size { D.size device.new ≡ D.size device.old }
     ensures count { CountsFailure is_edit_failure result
         (D.failed device.old) (D.failed device.new) }
-    ensures fault { IfErr result (λ f. f ≡ EditFault.Device) }
+    ensures fault { IfErr result (IsPlanFault plan.now) }
+    ensures same { D.tells → IfErr result (λ f. f ≢ EditFault.Device
+        → D.bytes device.new ≡ D.bytes device.old) }
     ensures sealed { D.tells → OnOk result
         (IsSealed plan.now (area_bytes (D.bytes device.new) plan.now.area)
         passphrase.now key.now stripes.now) }
@@ -103,6 +116,6 @@ fn seal<D: Device>(
 {
     match seal_area(device, plan, passphrase, key, stripes) {
         Ok(()) => Ok(()),
-        Err(_) => Err(EditFault::Device),
+        Err(fault) => Err(unsealed(fault)),
     }
 }

@@ -1,5 +1,5 @@
 -- The files of a command line.
-use Rattle.std.specs.Prelude.{◌≡◌, List, ℕ, Result, Ok, Err}
+use Rattle.std.specs.Prelude.{◌≡◌, List, ℕ, Option, IfSome, Result, Ok, Err, take}
 use Rattle.std.specs.declared.io.ErrorKind.{ErrorKind}
 use Rattle.std.specs.declared.io.ErrorKind.TheVariants.{OutOfMemory}
 use Rattle.luks_area.specs.Device.{IsUnchanged}
@@ -12,8 +12,37 @@ IsFaultOf kind Absent = ⊥
 IsFaultOf kind (Unreadable reason) = kind ≡ OutOfMemory → ⊥
 IsFaultOf kind NoMemory = kind ≡ OutOfMemory
 
+-- ---- what was read
+
+-- where the file is there and tells its bytes, these hold so
+abbrev pub OfFile : {R : Type 0} → (R → Option (List ℕ)) → Result R InputFault → (List ℕ → Type 0) → Type 0
+OfFile remaining (Ok file) holds = IfSome (remaining file) holds
+OfFile remaining (Err fault) holds = ⊥
+
+-- these bytes are the file's
+abbrev pub IsWhole : {R : Type 0} → (R → Option (List ℕ)) → Result R InputFault → List ℕ → Type 0
+IsWhole remaining file bytes = OfFile remaining file (λ known. bytes ≡ known)
+
+-- these bytes are the first `count` of the file, or all of a shorter one
+abbrev pub IsTaken : {R : Type 0} → ℕ → (R → Option (List ℕ)) → Result R InputFault → List ℕ → Type 0
+IsTaken count remaining file bytes = OfFile remaining file (λ known. bytes ≡ take count known)
+
+-- ---- what becomes of the volume
+
 -- the volume is there as it was, and nothing of it changed
 abbrev pub KeepsVolume : {T : Type 0} → Type 0 → (T → ℕ) → (T → List ℕ) → Result T InputFault → Result T InputFault → Type 0
 KeepsVolume {T} tells size bytes (Ok old) (Ok new) = IsUnchanged tells size bytes old new
 KeepsVolume {T} tells size bytes (Ok old) (Err fault) = ⊥
 KeepsVolume {T} tells size bytes (Err fault) new = new ≡ Err fault
+
+-- the device is as long as it was, and where it tells its bytes, this is said of them
+pub record IsLeft {D : Type 0} (tells : Type 0) (size_of : D → ℕ) (bytes_of : D → List ℕ) (says : List ℕ → List ℕ → Type 0) (old new : D) : Type 0 where
+  pub size : size_of new ≡ size_of old
+  pub said : tells → says (bytes_of old) (bytes_of new)
+
+-- the same of a volume that is there; one that isn't stays so
+abbrev pub LeavesVolume : {D : Type 0} → Type 0 → (D → ℕ) → (D → List ℕ) → (List ℕ → List ℕ → Type 0)
+    → Result D InputFault → Result D InputFault → Type 0
+LeavesVolume tells size bytes says (Ok old) (Ok new) = IsLeft tells size bytes says old new
+LeavesVolume tells size bytes says (Ok old) (Err fault) = ⊥
+LeavesVolume tells size bytes says (Err fault) new = new ≡ Err fault

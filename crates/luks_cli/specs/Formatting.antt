@@ -1,5 +1,5 @@
 -- What the command `format` leaves of its volume.
-use Rattle.std.specs.Prelude.{◌≡◌, ℕ, List, Option, IfSome, Result, Ok, Err, take}
+use Rattle.std.specs.Prelude.{◌≡◌, ℕ, List}
 use Rattle.luks_area.specs.Ranges.{SameBut}
 use Rattle.luks_reading.specs.declared.report.Data.{Data}
 use Rattle.luks_reading.specs.Answer.{Answer, opens}
@@ -8,12 +8,11 @@ use Rattle.luks_formatting.specs.declared.format.Format.{Format}
 use Rattle.luks_formatting.specs.Formatted1.{IsFormatted1, IsOfLuks1}
 use Rattle.luks_formatting.specs.Formatted2.{IsFormatted2, IsOfLuks2}
 use Rattle.luks_formatting.specs.RandomBytes.{volume_key}
-use Rattle.luks_cli.specs.declared.inputs.InputFault.{InputFault}
-use Rattle.luks_cli.specs.declared.request.Command.{Command}
-use Rattle.luks_cli.specs.declared.request.Command.TheVariants as command
-use Rattle.luks_cli.specs.declared.request.Making.{Making}
-use Rattle.luks_cli.specs.declared.request.NewVersion.{NewVersion}
-use Rattle.luks_cli.specs.declared.request.NewVersion.TheVariants.{Luks1, Luks2}
+use Rattle.luks_line.specs.declared.request.Command.{Command}
+use Rattle.luks_line.specs.declared.request.Command.TheVariants as command
+use Rattle.luks_line.specs.declared.request.Making.{Making}
+use Rattle.luks_line.specs.declared.request.NewVersion.{NewVersion}
+use Rattle.luks_line.specs.declared.request.NewVersion.TheVariants.{Luks1, Luks2}
 
 -- how many random bytes a new volume of this version takes
 abbrev pub needed : NewVersion → ℕ
@@ -29,11 +28,6 @@ IsMade Luks2 = IsOfLuks2
 abbrev pub IsFormatted : NewVersion → Data → Format → List ℕ → List ℕ → List ℕ → List ℕ → Type 0
 IsFormatted Luks1 = IsFormatted1
 IsFormatted Luks2 = IsFormatted2
-
--- where the file is there and tells its bytes, these hold so
-abbrev pub OfFile : {R : Type 0} → (R → Option (List ℕ)) → Result R InputFault → (List ℕ → Type 0) → Type 0
-OfFile remaining (Ok file) holds = IfSome (remaining file) holds
-OfFile remaining (Err fault) holds = ⊥
 
 -- what is made of the volume `old` for this passphrase and these random bytes: `new`
 pub record IsNewVolume (making : Making) (passphrase random old new : List ℕ) : Type 0 where
@@ -55,26 +49,6 @@ pub record SaysFormat (making : Making) (HasWords HasRandom : List ℕ → Type 
   pub done : status ≡ 0 → IsDone making HasWords HasRandom old new
   pub refused : status ≡ 1 → new ≡ old
   pub rest : SameBut (IsMade making.version) old new
-
--- these bytes are the file's
-abbrev pub IsWhole : {R : Type 0} → (R → Option (List ℕ)) → Result R InputFault → List ℕ → Type 0
-IsWhole remaining file bytes = OfFile remaining file (λ known. bytes ≡ known)
-
--- these bytes are the first of the file, as many as a new volume of this version takes
-abbrev pub IsTaken : {R : Type 0} → NewVersion → (R → Option (List ℕ)) → Result R InputFault → List ℕ → Type 0
-IsTaken version remaining file bytes = OfFile remaining file (λ known. bytes ≡ take (needed version) known)
-
--- the device is as long as it was, and where it tells its bytes, this is said of them
-pub record IsLeft {D : Type 0} (tells : Type 0) (size_of : D → ℕ) (bytes_of : D → List ℕ) (says : List ℕ → List ℕ → Type 0) (old new : D) : Type 0 where
-  pub size : size_of new ≡ size_of old
-  pub said : tells → says (bytes_of old) (bytes_of new)
-
--- the same of a volume that is there; one that isn't stays so
-abbrev pub LeavesVolume : {D : Type 0} → Type 0 → (D → ℕ) → (D → List ℕ) → (List ℕ → List ℕ → Type 0)
-    → Result D InputFault → Result D InputFault → Type 0
-LeavesVolume tells size bytes says (Ok old) (Ok new) = IsLeft tells size bytes says old new
-LeavesVolume tells size bytes says (Ok old) (Err fault) = ⊥
-LeavesVolume tells size bytes says (Err fault) new = new ≡ Err fault
 
 -- what holds of the command where it is `format`
 abbrev pub WhereFormat : Command → (Making → Type 0) → Type 0

@@ -1,5 +1,4 @@
 pub mod Exit
 pub mod Files
-pub mod Named
 pub mod Checked
 pub mod Formatting

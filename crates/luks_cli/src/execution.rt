@@ -2,14 +2,14 @@ ghost use Rattle.std.specs.Prelude.{◌≡◌, ◌≢◌, ◌+◌, ◌<◌, ◌�
 ghost use Rattle.std.specs.Result.{ForOk};
 ghost use Rattle.luks_cli.specs.Checked.{SaysCheck, WhereCheck};
 ghost use Rattle.luks_cli.specs.Exit.{IsExitStatus};
-ghost use Rattle.luks_cli.specs.Files.{KeepsVolume};
-ghost use Rattle.luks_cli.specs.Formatting.{IsTaken, IsWhole, LeavesVolume, SaysFormat, UnlessFormat, WhereFormat};
+ghost use Rattle.luks_cli.specs.Files.{IsTaken, IsWhole, KeepsVolume, LeavesVolume};
+ghost use Rattle.luks_cli.specs.Formatting.{needed, SaysFormat, UnlessFormat, WhereFormat};
 
 use crate::answers::exit_code;
 use crate::commands::open::Tried;
 use crate::commands::{check, format, open, show};
 use crate::inputs::Inputs;
-use crate::request::{Command, Line};
+use luks_line::{Command, Line};
 use luks_volume::Device;
 use std::alloc::Global;
 use std::io::{Read, Write};
@@ -36,7 +36,7 @@ pub fn execute<D: Device, R: Read, N: Read, W: Write, E: Write>(
         (KeepsVolume D.tells D.size D.bytes inputs.old.volume inputs.new.volume) }
     ensures format { WhereFormat line.now.command (λ making. LeavesVolume D.tells D.size D.bytes
         (λ old new. SaysFormat making (IsWhole R.remaining inputs.old.passphrase)
-        (IsTaken making.version N.remaining inputs.old.random) old new result)
+        (IsTaken (needed making.version) N.remaining inputs.old.random) old new result)
         inputs.old.volume inputs.new.volume) }
     ensures check { D.tells → WhereCheck line.now.command (λ payload. IfOk inputs.old.volume (λ d. SaysCheck (D.bytes d) payload result)) }
     // Without its volume no command succeeds.

@@ -1,6 +1,6 @@
 //! Reading a passphrase from its file.
 ghost use Rattle.std.specs.Prelude.{◌≡◌, ◌≢◌, ◌≤◌, ◌<◌, IfOk, IfErr, IfSome, length, take};
-ghost use Rattle.luks_cli.specs.Formatting.{IsWhole};
+ghost use Rattle.luks_cli.specs.Files.{IsWhole};
 
 use crate::inputs::InputFault;
 use std::alloc::Global;

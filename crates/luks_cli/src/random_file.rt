@@ -1,23 +1,21 @@
 //! Reading random bytes from their file.
-ghost use Rattle.std.specs.Prelude.{◌≡◌, ◌≢◌, IfOk, IfErr, IfSome, take};
-ghost use Rattle.luks_cli.specs.Formatting.{needed, IsTaken};
+ghost use Rattle.std.specs.Prelude.{◌≡◌, IfOk, IfSome, take};
+ghost use Rattle.luks_cli.specs.Files.{IsTaken};
 
 use crate::inputs::InputFault;
-use crate::request::NewVersion;
 use std::alloc::Global;
 use std::io::Read;
 
-/// The random bytes for a new volume of this version: the first of their file, no more than it
-/// takes; fewer where the file ends before.
+/// So many random bytes: the first of their file, and no more; fewer where the file ends before.
 pub(crate) fn random_bytes<R: Read>(
     alloc: Global,
     file: &mut Result<R, InputFault>,
-    version: NewVersion,
+    count: u64,
 ) -> Result<Vec<u8>, InputFault>
-    ensures taken { IfOk result (λ b. IsTaken version R.remaining file.old b.items) }
+    ensures taken { IfOk result (λ b. IsTaken count R.remaining file.old b.items) }
 {
     match file {
-        Ok(reader) => first_random_bytes(alloc, reader, version),
+        Ok(reader) => first_random_bytes(alloc, reader, count),
         Err(fault) => Err(*fault),
     }
 }
@@ -25,11 +23,11 @@ pub(crate) fn random_bytes<R: Read>(
 fn first_random_bytes<R: Read>(
     alloc: Global,
     reader: &mut R,
-    version: NewVersion,
+    count: u64,
 ) -> Result<Vec<u8>, InputFault>
-    ensures { IfOk result (λ b. IfSome (R.remaining reader.old) (λ known. b.items ≡ take (needed version) known)) }
+    ensures { IfOk result (λ b. IfSome (R.remaining reader.old) (λ known. b.items ≡ take count known)) }
 {
     let mut bytes = Vec::new(alloc);
-    reader.take(version.needed()).read_to_end(&mut bytes)?;
+    reader.take(count).read_to_end(&mut bytes)?;
     Ok(bytes)
 }

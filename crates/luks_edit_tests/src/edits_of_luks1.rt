@@ -4,6 +4,7 @@ ghost use Rattle.std.specs.Prelude.{◌+◌, ◌<◌, ◌^◌};
 
 mod lists;
 
+use crate::bytes::put;
 use crate::sums::{count, counted, is_sum};
 use lists::Row;
 use luks_area::{Device, FaultyDevice, Leave, MemDevice};
@@ -15,15 +16,6 @@ use luks1_edits::{apply_luks1, needed_luks1};
 use std::alloc::{AllocError, Global};
 use std::process::Abort;
 use std::test::Fail;
-
-/// Writes `from` over the bytes from `at` on, as far as they reach.
-fn put(image: &mut [u8], at: usize, from: &[u8]) {
-    for (i, byte) in from.iter().enumerate() {
-        if let Some(place) = image.get_mut(at.wrapping_add(i)) {
-            *place = *byte;
-        }
-    }
-}
 
 /// The volume key: 00 01 .. 3f.
 fn volume_key() -> [u8; 64] {

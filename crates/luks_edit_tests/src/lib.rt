@@ -2,7 +2,13 @@
 #![tactic(auto)]
 
 #[cfg(test)]
+mod bytes;
+#[cfg(test)]
+mod devices;
+#[cfg(test)]
 mod edits_of_luks1;
+#[cfg(test)]
+mod failing_formats;
 #[cfg(test)]
 mod formats;
 #[cfg(test)]

@@ -50,6 +50,7 @@ impl Meta {
     ghost use Rattle.luks_making.specs.Conditions.{CanFormat, CanSeal, IsFree};
     ghost use Rattle.luks_making.specs.Formatted.{formatted, volume_members};
     ghost use Rattle.luks_making.specs.Keyslots.{new_members};
+    ghost use Rattle.luks_making.specs.Naming.{HasUniqueDigests};
     ghost use Rattle.luks_making.specs.With.{IsAdded};
     ghost use Rattle.luks_making.specs.Without.{without_slot};
     ghost use Rattle.luks_making.specs.WrittenArea.{IsWrittenArea};
@@ -149,7 +150,7 @@ impl Meta {
 
     /// The metadata with the keyslot `to`, derived by PBKDF2 and without a priority: it has the
     /// members of the keyslot `by`, but for what is new. Its name goes last in the array of the
-    /// digest that names `by`. All else stays as it is.
+    /// digest that names `by`. All else stays as it is. No digest's name stands twice in the metadata.
     ///
     /// Takes memory for the new value.
     pub fn with_slot(
@@ -164,6 +165,7 @@ impl Meta {
         ensures value { IfOk result (λ m.
             IsAdded to by (new_members new.now) (content self.now) (content m)) }
         ensures length { IfOk result (λ m. area_len m ≡ area_len self.now) }
+        ensures unique { HasUniqueDigests (content self.now) }
     {
         made_keyslot_has_room();
         new_fits(new);

@@ -3,14 +3,15 @@ ghost use Rattle.std.specs.Prelude.{◌≡◌, ◌≢◌, ◌+◌, ◌<◌, ◌^
 ghost use Rattle.std.specs.Result.{ForOk};
 ghost use Rattle.luks_area.specs.Ranges.{SameBut};
 ghost use Rattle.luks_cli.specs.Exit.{IsExitStatus};
-ghost use Rattle.luks_cli.specs.Formatting.{IsMade, IsNewVolume, IsTaken, IsWhole, LeavesVolume, SaysFormat};
+ghost use Rattle.luks_cli.specs.Files.{IsTaken, IsWhole, LeavesVolume};
+ghost use Rattle.luks_cli.specs.Formatting.{IsMade, IsNewVolume, needed, SaysFormat};
 
 use crate::answers::{Status, exit_code, no_memory, refused, unread, write_fault};
 use crate::inputs::Inputs;
 use crate::passphrase_file::{PassphraseFault, passphrase};
 use crate::random_file::random_bytes;
-use crate::request::{Making, NewVersion};
-use luks_volume::{Device, Done, FormatFault, format1, format2};
+use luks_line::{Making, NewVersion};
+use luks_volume::{Device, Done, FORMAT1_RANDOM, FORMAT2_RANDOM, FormatFault, format1, format2};
 use std::alloc::Global;
 use std::io;
 use std::io::{Read, Write};
@@ -29,7 +30,7 @@ pub(crate) fn run<D: Device, R: Read, N: Read, W: Write, E: Write>(
     ensures status { IsExitStatus result }
     ensures left { LeavesVolume D.tells D.size D.bytes (λ old new. SaysFormat making.now
         (IsWhole R.remaining inputs.old.passphrase)
-        (IsTaken making.now.version N.remaining inputs.old.random) old new result)
+        (IsTaken (needed making.now.version) N.remaining inputs.old.random) old new result)
         inputs.old.volume inputs.new.volume }
     ensures kinds { result ≢ 3 }
     ensures unread { IfErr inputs.old.volume (λ _. result ≢ 0) }
@@ -45,12 +46,22 @@ pub(crate) fn run<D: Device, R: Read, N: Read, W: Write, E: Write>(
         Ok(device) => device,
         Err(fault) => return exit_code(unread(*fault, name, out, err)),
     };
-    let random = match random_bytes(alloc, &mut inputs.random, making.version) {
+    let random = match random_bytes(alloc, &mut inputs.random, random_needed(making.version)) {
         Ok(bytes) => bytes,
         Err(fault) => return exit_code(unread(fault, making.random, out, err)),
     };
     let (words, random) = (words.as_slice(), random.as_slice());
     exit_code(format_device(alloc, device, name, making, words, random, out, err))
+}
+
+/// How many random bytes a new volume of this version takes.
+fn random_needed(version: NewVersion) -> u64
+    ensures { result ≡ needed version }
+{
+    match version {
+        NewVersion::Luks1 => FORMAT1_RANDOM,
+        NewVersion::Luks2 => FORMAT2_RANDOM,
+    }
 }
 
 fn format_device<D: Device, W: Write, E: Write>(

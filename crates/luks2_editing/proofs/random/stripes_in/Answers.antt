@@ -1,4 +1,4 @@
-use Rattle.std.proofs.Common.{◌≡◌, ◌-◌, ◌≤◌, ℕ, drop, length, arith, length-drop}
+use Rattle.std.proofs.Common.{◌≡◌, ◌-◌, drop, length, arith, length-drop}
 use Rattle.std.proofs.lemmas.List.{take_all}
 use Rattle.luks2_editing.proofs.random.stripes_in.Goals as goal
 

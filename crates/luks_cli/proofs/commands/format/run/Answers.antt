@@ -1,14 +1,17 @@
 use Rattle.std.proofs.Common.{List, ℕ, sym, subst}
-use Rattle.luks_cli.specs.Formatting.{IsTaken, IsWhole}
+use Rattle.luks_cli.specs.Files.{IsTaken, IsWhole}
+use Rattle.luks_cli.specs.Formatting.{needed}
 use Rattle.luks_cli.proofs.FormatFacts.{says_ended}
 use Rattle.luks_cli.proofs.commands.format.run.Goals as goal
 
 pub returns-clause-left : goal.returns-clause-left
 returns-clause-left g c =
     let HasWords : List ℕ → Type 0 = IsWhole g.R.Read.remaining c.args.inputs.now.passphrase in
-    let HasRandom : List ℕ → Type 0 = IsTaken c.args.making.now.version g.N.Read.remaining c.args.inputs.now.random in
+    let HasCounted : ℕ → List ℕ → Type 0 = λ count. IsTaken count g.N.Read.remaining c.args.inputs.now.random in
+    let HasRandom : List ℕ → Type 0 = HasCounted (needed c.args.making.now.version) in
     let words : HasWords c.as_slice-words.result.now = subst HasWords (sym c.as_slice-words.ensures.value) c.in-Ok.ensures.whole in
-    let taken : HasRandom c.as_slice-random.result.now = subst HasRandom (sym c.as_slice-random.ensures.value) c.in-Ok-random_bytes.ensures.taken in
+    let counted : HasRandom c.in-Ok-random_bytes.bytes.items = subst (λ n. HasCounted n c.in-Ok-random_bytes.bytes.items) c.random_needed.ensures c.in-Ok-random_bytes.ensures.taken in
+    let taken : HasRandom c.as_slice-random.result.now = subst HasRandom (sym c.as_slice-random.ensures.value) counted in
     rw c.in-Ok-volume.is (record {
       size = c.format_device.ensures.size;
       said = λ tells. says_ended c.args.making.now HasWords HasRandom _ _ _ _ c.format_device.result c.exit_code-2.result words taken

@@ -1,8 +1,8 @@
 ghost use Rattle.std.specs.Prelude.{◌≡◌, option_map};
-ghost use Rattle.luks_cli.specs.Formatting.{needed};
-ghost use Rattle.luks_cli.specs.Named.{is_writer, passphrase_of, random_of};
+ghost use Rattle.luks_line.specs.Named.{is_writer, passphrase_of, random_of};
 
-use luks_volume::{Data, FORMAT1_RANDOM, FORMAT2_RANDOM, Format};
+use luks_formatting::Format;
+use luks_reading::Data;
 
 /// What a command line asks for. Its files are named as the command line names them.
 #[derive(Debug, Clone, Copy, PartialEq, Eq)]
@@ -56,18 +56,6 @@ pub enum NewVersion {
     Luks1,
     /// LUKS2.
     Luks2,
-}
-
-impl NewVersion {
-    /// How many random bytes a new volume takes.
-    pub(crate) fn needed(self) -> u64
-        ensures { result ≡ needed self }
-    {
-        match self {
-            NewVersion::Luks1 => FORMAT1_RANDOM,
-            NewVersion::Luks2 => FORMAT2_RANDOM,
-        }
-    }
 }
 
 impl<'a> Line<'a> {

@@ -1,7 +1,7 @@
 -- What a command does to its volume, and the files that it needs beside it, as the bytes of their names.
 use Rattle.std.specs.Prelude.{ℕ, List, Option, None, Some, Bool, true, false}
-use Rattle.luks_cli.specs.declared.request.Command.{Command}
-use Rattle.luks_cli.specs.declared.request.Command.TheVariants.{Check, Show, Open, Format}
+use Rattle.luks_line.specs.declared.request.Command.{Command}
+use Rattle.luks_line.specs.declared.request.Command.TheVariants.{Check, Show, Open, Format}
 
 -- opening and formatting need a passphrase
 abbrev pub passphrase_of : Command → Option (List ℕ)

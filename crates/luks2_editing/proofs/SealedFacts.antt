@@ -1,0 +1,198 @@
+-- A keyslot of new metadata that is sealed by its plan: what that takes, and what it leaves.
+use Rattle.std.proofs.Common.{◌≡◌, ℕ, ◌+◌, ◌-◌, ◌*◌, ◌≤◌, List, length, drop, Bool, true, false, Option, Some, None, Result, Ok, Err, OnOk, option_and_then, inl, inr, refl, sym, ap, ◌∙◌, subst, arith, length-drop}
+use Rattle.std.specs.Prelude.{if◌then◌else◌}
+use Rattle.std.proofs.lemmas.Bool.{and_parts, leb-true}
+use Rattle.serde_json.specs.Data.{Data as Value}
+use Rattle.luks_area.specs.Area.{IsInside}
+use Rattle.luks_area.specs.Ranges.{IsOfEither, SameBut}
+use Rattle.luks_area.specs.RangeFacts.{same_but-wider}
+use Rattle.luks_area.specs.Sectors.{rounded_to_sectors}
+use Rattle.luks_head.specs.Header2.{hdr_size, header_at}
+use Rattle.luks_rules.specs.declared.table.Member.TheVariants as name
+use Rattle.luks_rules.specs.declared.table.Outer.TheVariants as outer
+use Rattle.luks_rules.specs.declared.table.Section.TheVariants.{Keyslots}
+use Rattle.luks_rules.specs.Accepted.{HasObject}
+use Rattle.luks_rules.specs.Faults.{member_at}
+use Rattle.luks_rules.specs.Reading.{is_between, kept, number_in, number_of}
+use Rattle.luks_slot.specs.declared.plan.Derivation.{Derivation}
+use Rattle.luks_slot.specs.declared.plan.Derivation.TheVariants.{Pbkdf2, Argon2}
+use Rattle.luks_slot.specs.declared.plan.SlotPlan.{SlotPlan}
+use Rattle.luks_slot.specs.Opening.{area_bytes, stripe_bytes, HasIterations}
+use Rattle.luks_slot.specs.Sealing.{IsSealed}
+use Rattle.luks_reading.specs.declared.report.Data.{Data}
+use Rattle.luks_reading.specs.Plans.{IsLuks2Derivation, IsLuks2Plan}
+use Rattle.luks_edit.specs.declared.edit.Edit.{Edit}
+use Rattle.luks_edit.specs.declared.edit_fault.EditFault.{EditFault}
+use Rattle.luks_edit.specs.declared.edit_fault.EditFault.TheVariants as fault
+use Rattle.luks2_edits.specs.Edited.{stripes_random, HoldsKey}
+use Rattle.luks2_edits.specs.Leftovers.{IsTornAt}
+use Rattle.luks2_edits.specs.Places.{IsOfCopies, IsOfSealed}
+use Rattle.luks2_editing.specs.Rewriting.{AreWrittenAnew}
+use Rattle.luks2_editing.specs.Sealed.{IsOfStripes, IsPlanFault, MayBeHalfSealed}
+use Rattle.luks2_editing.specs.SealedKeyslot.{IsKeyslotWritten, IsOfStripesOf, IsSealable, IsSealing, IsUnsealed}
+use Rattle.luks2_editing.proofs.KeyAreaFacts.{area_of_object}
+
+-- what is one value is the other
+pub some_same : {A : Type 0} (a b : A) → Some a ≡ Some b → a ≡ b
+some_same a b same = (cc)
+
+-- what follows of two facts where a call succeeds
+pub on_ok_both : {T E P Q R : Type 0} (r : Result T E) → (P → Q → R) → OnOk r P → OnOk r Q → OnOk r R
+on_ok_both (Ok x) step a b = step a b
+on_ok_both (Err e) step a b = tt
+
+-- ---- the numbers of a plan
+
+-- a number that was read passes its test
+kept_by : (test : ℕ → Bool) (m n : ℕ) (b : Bool) → test m ≡ b → (if b then Some m else None) ≡ Some n → test n ≡ true
+kept_by test m n true is e = subst (λ k. test k ≡ true) (some_same m n e) is
+kept_by test m n false is e = absurd (let no : None ≡ Some n = e in cc)
+
+number_passes : (test : ℕ → Bool) (o : Option ℕ) (n : ℕ) → option_and_then (kept test) o ≡ Some n → test n ≡ true
+number_passes test None n e = absurd (cc)
+number_passes test (Some m) n e = kept_by test m n (test m) refl e
+
+-- one is at least the least
+at_least_one : (d : Option Value) (n : ℕ) → number_in 1 4294967295 d ≡ Some n → 1 ≤ n
+at_least_one d n e = leb-true 1 n ((and_parts _ _ (number_passes (is_between 1 4294967295) (number_of d) n e)).0)
+
+-- the derivation has an iteration
+iterated : (d : Value) (a : Derivation) → IsLuks2Derivation d a → HasIterations a
+iterated d (Pbkdf2 hash iterations salt) x = at_least_one (member_at d outer.Kdf name.Iterations) iterations x.2
+iterated d Argon2 x = tt
+
+-- ---- a plan of the keyslot
+
+-- it is one by the keyslot's object
+pub record IsPlanOf (k : Value) (n : ℕ) (plan : SlotPlan) : Type 0 where
+  pub object : Value
+  pub there : HasObject k Keyslots n object
+  pub is : IsLuks2Plan k n object plan
+
+-- the key can be sealed by it
+pub record IsReadyPlan (h : ℕ) (plan : SlotPlan) (key random : List ℕ) (total : ℕ) : Type 0 where
+  pub iterations : HasIterations plan.derivation
+  pub key_length : length key ≡ plan.key_bytes
+  pub some_stripes : 1 ≤ plan.stripes
+  pub random_length : length random ≡ 160 + (plan.stripes - 1) * plan.key_bytes
+  pub sectors : rounded_to_sectors (stripe_bytes plan) ≤ plan.area.len
+  pub inside : IsInside plan.area total
+  pub behind : 2 * h ≤ plan.area.start
+
+module _ (h total : ℕ) (k : Value) (n : ℕ) (key random : List ℕ) (x : IsSealable h k n key random total) (plan : SlotPlan) (p : IsPlanOf k n plan) where
+  object_is : p.object ≡ x.slot.object
+  object_is = some_same p.object x.slot.object (sym p.there.is ∙ x.slot.there.is)
+
+  key_bytes_are : plan.key_bytes ≡ x.key_bytes
+  key_bytes_are = some_same plan.key_bytes x.key_bytes (sym p.is.key_bytes ∙ ap (λ d. number_in 1 128 (member_at d outer.Top name.KeySize)) object_is ∙ x.slot.key_bytes_are)
+
+  stripes_are : plan.stripes ≡ x.stripes
+  stripes_are = some_same plan.stripes x.stripes (sym p.is.stripes ∙ ap (λ d. number_in 1 4294967295 (member_at d outer.Af name.Stripes)) object_is ∙ x.slot.stripes_are)
+
+  start_is : plan.area.start ≡ x.area.start
+  start_is = let here = area_of_object k p.object n plan.area.start plan.area.len p.there.named p.there.is p.is.start p.is.len in
+      some_same plan.area.start x.area.start (sym here.1 ∙ x.place.1)
+
+  len_is : plan.area.len ≡ x.area.len
+  len_is = let here = area_of_object k p.object n plan.area.start plan.area.len p.there.named p.there.is p.is.start p.is.len in
+      some_same plan.area.len x.area.len (sym here.2 ∙ x.place.2)
+
+  pub ready : IsReadyPlan h plan key random total
+  ready =
+      let bytes = key_bytes_are in
+      let stripes = stripes_are in
+      let start = start_is in
+      let len = len_is in
+      let inside : x.area.start + x.area.len ≤ total = x.inside in
+      let behind = x.behind in
+      record {
+        iterations = iterated p.object plan.derivation p.is.derivation;
+        key_length = x.key_length ∙ sym bytes;
+        some_stripes = at_least_one (member_at p.object outer.Af name.Stripes) plan.stripes p.is.stripes;
+        random_length = rw (bytes, stripes) x.random_length;
+        sectors = rw (bytes, stripes, len) x.large;
+        inside = omega (arith, start, len, inside);
+        behind = omega (arith, start, behind);
+      }
+
+  -- ---- what was sealed
+
+  -- the keyslot holds the key
+  pub holds : (passphrase w : List ℕ) → IsSealed plan (area_bytes w plan.area) passphrase key (drop 160 random) → HoldsKey w k n passphrase key (stripes_random random)
+  holds passphrase w sealed =
+      let long : length (drop 160 random) ≡ length random - 160 = length-drop 160 random in
+      let all : length random ≡ 160 + (plan.stripes - 1) * plan.key_bytes = ready.random_length in
+      record {
+        object = p.object;
+        there = p.there;
+        plan = plan;
+        is = p.is;
+        key_length = ready.key_length;
+        random_length = omega (arith, long, all);
+        sealed = sealed;
+      }
+
+  -- its sectors are those of the plan
+  of_stripes : (q : ℕ) → IsOfStripes plan q → IsOfStripesOf k n q
+  of_stripes q at = record {
+    area = plan.area;
+    place = area_of_object k p.object n plan.area.start plan.area.len p.there.named p.there.is p.is.start p.is.len;
+    key_bytes = plan.key_bytes;
+    stripes = plan.stripes;
+    slot = record { object = p.object; there = p.there; key_bytes_are = p.is.key_bytes; stripes_are = p.is.stripes };
+    at = at;
+  }
+
+  -- why it isn't sealed
+  pub plan_unsealed : (f : EditFault) → IsPlanFault plan f → IsUnsealed k n f
+  plan_unsealed (fault.Slot f) refused = record { object = p.object; there = p.there; plan = plan; is = p.is; refused = refused }
+  plan_unsealed fault.Device x = tt
+  plan_unsealed fault.Memory x = absurd x
+  plan_unsealed (fault.NotAccepted f) x = absurd x
+  plan_unsealed fault.Requirements x = absurd x
+  plan_unsealed fault.NoSuchSlot x = absurd x
+  plan_unsealed fault.Locked x = absurd x
+  plan_unsealed fault.SlotTaken x = absurd x
+  plan_unsealed fault.NoFreeSlot x = absurd x
+  plan_unsealed fault.NoRoom x = absurd x
+  plan_unsealed fault.LastSlot x = absurd x
+  plan_unsealed fault.Iterations x = absurd x
+  plan_unsealed fault.BadLabel x = absurd x
+  plan_unsealed fault.SeqExhausted x = absurd x
+  plan_unsealed fault.MetadataFull x = absurd x
+  plan_unsealed fault.RandomLength x = absurd x
+
+  module _ (v : List ℕ) (o : ℕ) (e : Edit) (passphrase w : List ℕ) where
+    -- all was written
+    pub keyslot_written : IsSealed plan (area_bytes w plan.area) passphrase key (drop 160 random) → AreWrittenAnew v o e random k w
+        → SameBut (IsOfEither (IsOfStripes plan) (IsOfCopies (hdr_size (header_at v o)))) v w → IsKeyslotWritten v o e random k n passphrase key w
+    keyslot_written sealed anew rest = record {
+      holds = holds passphrase w sealed;
+      anew = anew;
+      rest = same_but-wider (λ q at. either q at) rest;
+    }
+      where
+        either : (q : ℕ) → IsOfEither (IsOfStripes plan) (IsOfCopies (hdr_size (header_at v o))) q → IsOfEither (IsOfStripesOf k n) (IsOfCopies (hdr_size (header_at v o))) q
+        either q (inl at) = inl (of_stripes q at)
+        either q (inr at) = inr at
+
+    module _ (payload : Data) (j : Value) (s : IsSealing v payload e random o j k n passphrase key) where
+      sealed_place : (q : ℕ) → IsOfStripes plan q → IsOfSealed (hdr_size (header_at v o)) (length v) payload j e q
+      sealed_place q at = s.place q (of_stripes q at)
+
+      either_place : (S : ℕ → Type 0) (q : ℕ) → IsOfEither (IsOfStripes plan) S q → IsOfEither (IsOfSealed (hdr_size (header_at v o)) (length v) payload j e) S q
+      either_place S q (inl at) = inl (sealed_place q at)
+      either_place S q (inr at) = inr at
+
+      -- it was torn
+      pub torn_keyslot : MayBeHalfSealed v o e random k plan passphrase key (drop 160 random) v w → IsTornAt v payload e random o j k w
+      torn_keyslot (inl same) = inl (same_but-wider sealed_place same)
+      torn_keyslot (inr (inl t)) = inr (inl (record {
+        sealed = s.sealed w (holds passphrase w t.sealed);
+        rest = same_but-wider (either_place _) t.rest;
+      }))
+      torn_keyslot (inr (inr t)) = inr (inr (inl (record {
+        sealed = s.sealed w (holds passphrase w t.sealed);
+        other = t.other;
+        rest = same_but-wider (either_place _) t.rest;
+      })))

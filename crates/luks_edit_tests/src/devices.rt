@@ -1,0 +1,107 @@
+//! Devices of the tests.
+ghost use Rattle.std.specs.Prelude.{◌<◌, ◌^◌};
+
+use luks_area::{Device, DeviceFault, MemDevice};
+
+/// A disk of which the front alone is kept: bytes beyond it are zeros, a write that reaches beyond it
+/// is only counted, and no call fails.
+#[derive(Debug, Drop)]
+pub struct Front {
+    /// What is kept.
+    pub front: MemDevice,
+    /// The length of the disk.
+    pub len: u64,
+    /// How many writes reached beyond the front.
+    pub beyond: u64,
+    ghost fits: { len < 2 ^ 64 },
+}
+
+impl Device for Front {
+    ghost use Rattle.std.specs.Prelude.{[]};
+
+    ghost tells = { ⊥ };
+
+    ghost bytes = { λ _. [] };
+
+    ghost size = { λ d. d.len };
+
+    ghost failed = { λ _. 0 };
+
+    fn len(&self) -> u64 {
+        self.len
+    }
+
+    fn failures(&self) -> u64 {
+        0
+    }
+
+    fn read_at(&mut self, at: u64, into: &mut [u8]) -> Result<(), DeviceFault> {
+        if at + into.len() as u64 <= self.front.len() {
+            return self.front.read_at(at, into);
+        }
+        into.fill(0);
+        Ok(())
+    }
+
+    fn write_at(&mut self, at: u64, from: &[u8]) -> Result<(), DeviceFault> {
+        if at + from.len() as u64 <= self.front.len() {
+            return self.front.write_at(at, from);
+        }
+        self.beyond = self.beyond.saturating_add(1);
+        Ok(())
+    }
+
+    fn flush(&mut self) -> Result<(), DeviceFault> {
+        Ok(())
+    }
+
+    ghost sized = { λ d t. absurd t };
+
+    ghost bounded = { λ d. d.fits };
+}
+
+/// A device that counts the calls that read, write or flush it, and passes them on.
+#[derive(Drop)]
+pub struct Counting<D: Device> {
+    /// The device behind.
+    pub device: D,
+    /// How many calls there were.
+    pub calls: u64,
+}
+
+impl<D: Device> Device for Counting<D> {
+    ghost tells = { D.tells };
+
+    ghost bytes = { λ d. D.bytes d.device };
+
+    ghost size = { λ d. D.size d.device };
+
+    ghost failed = { λ d. D.failed d.device };
+
+    fn len(&self) -> u64 {
+        self.device.len()
+    }
+
+    fn failures(&self) -> u64 {
+        self.device.failures()
+    }
+
+    fn read_at(&mut self, at: u64, into: &mut [u8]) -> Result<(), DeviceFault> {
+        self.calls = self.calls.saturating_add(1);
+        self.device.read_at(at, into)
+    }
+
+    fn write_at(&mut self, at: u64, from: &[u8]) -> Result<(), DeviceFault> {
+        self.calls = self.calls.saturating_add(1);
+        self.device.write_at(at, from)
+    }
+
+    fn flush(&mut self) -> Result<(), DeviceFault> {
+        self.calls = self.calls.saturating_add(1);
+        self.device.flush()
+    }
+
+    ghost sized = { λ d t. D.sized d.device t };
+
+    ghost bounded = { λ d. D.bounded d.device };
+}
