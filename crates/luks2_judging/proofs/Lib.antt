@@ -1,6 +1,9 @@
+pub mod AreaFacts
 pub mod ChosenFacts
 pub mod EditedFacts
 pub mod EncodedFacts
+pub mod JudgedFacts
+pub mod KeyFacts
 pub mod KeyslotFacts
 pub mod LastFacts
 pub mod MadeFacts

@@ -190,7 +190,7 @@ module _ (faults : EditFault → Type 0) where
       none fault.Memory under bad = omega (arith, under)
       none fault.Device under bad = omega (arith, under)
 
-  not_before : (k : ℕ) (g : EditFault) → Passed faults k → faults g → k ≤ edit_row g
+  pub not_before : (k : ℕ) (g : EditFault) → Passed faults k → faults g → k ≤ edit_row g
   not_before k g passed bad = elim (cases_lt (edit_row g) k) [ inl lt ↦ absurd (passed.none g lt bad) | inr le ↦ le ]
 
   -- the fault of the row is the first

@@ -1,5 +1,6 @@
 pub mod Header
 pub mod Judged
+pub mod Judging
 pub mod Needed
 pub mod Opened
 pub mod Room

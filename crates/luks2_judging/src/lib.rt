@@ -3,6 +3,7 @@
 
 mod accepted;
 mod asked;
+mod judging;
 mod keyslots;
 mod laws;
 mod needing;
@@ -10,5 +11,6 @@ mod room;
 mod rows;
 mod unlocking;
 
+pub use judging::{Judged, judge_luks2};
 pub use laws::salts_are_as_long;
-pub use needing::needed_luks2;
+pub use needing::{needed_luks2, sealed_need};

@@ -7,6 +7,7 @@ ghost use Rattle.luks_reading.specs.Header.{IsAcceptedHeader, IsHeader};
 ghost use Rattle.luks_reading.specs.declared.report.Data.{Data as Payload};
 ghost use Rattle.luks2_edits.specs.Refused.{HasSaid, IsAbsent};
 ghost use Rattle.luks2_judging.specs.Header.{IsOfLuks2};
+ghost use Rattle.luks2_judging.specs.Judging.{IsKeyFor};
 ghost use Rattle.luks2_judging.specs.Opened.{IsUnlocked, IsUnopened, unopened};
 
 use crate::asked::keyslot_to_open;
@@ -50,6 +51,7 @@ pub(crate) fn unlock<D: Device>(
     ensures count { CountsFailure is_edit_failure result
         (D.failed device.old) (D.failed device.new) }
     ensures memory { IfErr result (λ f. f ≢ EditFault.Memory) }
+    ensures key { IfOk result (IsKeyFor header.now edit.now) }
     ensures opened { D.tells → IsHeader (D.bytes device.old) header.now
         → IfOk result (IsUnlocked (D.bytes device.old) edit.now) }
     ensures refused { D.tells → IsHeader (D.bytes device.old) header.now

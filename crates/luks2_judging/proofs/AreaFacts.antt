@@ -1,0 +1,76 @@
+-- The areas of a volume that was accepted.
+use Rattle.std.proofs.Common.{◌≡◌, ℕ, ◌+◌, ◌-◌, ◌≤◌, List, length, refl, ◌∙◌, subst, arith, nat_le, Result, Ok, Err, IsOk, IfErr, Bool, true, inl, inr}
+use Rattle.std.specs.Prelude.{◌==◌, [], ◌∷◌}
+use Rattle.std.specs.List.{list_all}
+use Rattle.std.proofs.lemmas.Bool.{and_parts, eqb-true, false≢true, leb-true, or_cases}
+use Rattle.luks_area.specs.declared.area.Area.{Area}
+use Rattle.luks_area.specs.declared.area.AreaName.{AreaName}
+use Rattle.luks_area.specs.declared.areas.Entry.{Entry}
+use Rattle.luks_area.specs.Area.{Fit, IsInside}
+use Rattle.luks_area.specs.Names.{HasArea}
+use Rattle.luks_area.specs.RangeFacts.{length-part_inside}
+use Rattle.luks_head.specs.Header2.{hdr_size, header_at, IsSound}
+use Rattle.luks_head.specs.Selection.{luks2}
+use Rattle.luks_head.specs.Sizes.{is_among, listed_sizes, IsListed}
+use Rattle.luks_meta.specs.Content.{area_len, content}
+use Rattle.luks_reading.specs.declared.header.ChosenCopy.{ChosenCopy}
+use Rattle.luks_reading.specs.declared.report.Data.{Data}
+use Rattle.luks_reading.specs.Checked.{AreaOf, HasAreaAs}
+use Rattle.luks_reading.specs.Header.{json_at, IsChosenCopy}
+use Rattle.luks_reading.specs.Layout2.{Luks2Area}
+use Rattle.luks_reading.specs.Listing.{Lists}
+use Rattle.luks2_judging.proofs.ChosenFacts.{ReadingLaws}
+
+-- an answer isn't a fault
+pub not_err : {T E : Type 0} (r : Result T E) (P : E → Type 0) → IsOk r → IfErr r P
+not_err (Ok x) P is = tt
+not_err (Err f) P is = absurd (false≢true is)
+
+-- a list of the areas of a set fits as the set does
+pub listed_fit : (entries : List Entry) (areas : AreaName → Area → Type 0) (total size : ℕ) → Lists entries areas → size ≡ total → Fit areas size → Fit (HasArea entries) total
+listed_fit entries areas total size lists same x = record {
+  inside = λ n a there. subst (λ (k : ℕ). IsInside a k) same (x.inside n a (lists.only n a there));
+  disjoint = λ m n a b one two apart. x.disjoint m n a b (lists.only m a one) (lists.only n b two) apart;
+}
+
+-- ---- a header's size
+
+-- what passes for each number of a list passes for one of them
+among_pass : (test : ℕ → Bool) (sizes : List ℕ) (n : ℕ) → list_all test sizes ≡ true → is_among n sizes ≡ true → test n ≡ true
+among_pass test [] n every among = absurd (false≢true among)
+among_pass test (size ∷ sizes) n every among =
+    elim (or_cases (size == n) (is_among n sizes) among) [
+      | inl here ↦ let same : size ≡ n = eqb-true size n here in rw (← same) ((and_parts (test size) (list_all test sizes) every).0)
+      | inr later ↦ among_pass test sizes n ((and_parts (test size) (list_all test sizes) every).1) later
+    ]
+
+listed_at_least : (n : ℕ) → IsListed n → 16384 ≤ n
+listed_at_least n listed = leb-true 16384 n (among_pass (λ m. nat_le 16384 m) listed_sizes n refl listed)
+
+-- ---- the copy that counts
+
+module _ (laws : ReadingLaws) (v : List ℕ) (copy : ChosenCopy) (x : IsChosenCopy v copy) where
+  -- its binary header and its JSON area make up its size
+  pub copy_long : IsSound v copy.header.hdr_offset → area_len copy.meta + 4096 ≡ hdr_size (header_at v copy.header.hdr_offset)
+  copy_long sound =
+      let o : ℕ = copy.header.hdr_offset in
+      let h : ℕ = hdr_size (header_at v o) in
+      let least : 16384 ≤ h = listed_at_least h sound.form.listed in
+      let inside : o + h ≤ length v = sound.form.inside in
+      let len : area_len copy.meta ≡ h - 4096 = x.area_len ∙ length-part_inside v (o + 4096) (h - 4096) (omega (arith, least, inside)) in
+      omega (arith, least, len)
+
+  -- its metadata names the volume's areas
+  named_here : (payload : Data) (n : AreaName) (a : Area) → AreaOf v payload n a
+      → Luks2Area (content copy.meta) (hdr_size (header_at v copy.header.hdr_offset)) payload (length v) n a
+  named_here payload n a y =
+      let there = subst (λ c. HasAreaAs v payload c n a) (laws.one v y.choice (luks2 copy.header.hdr_offset copy.copies) y.chosen x.chosen) y.area in
+      let same : there.value ≡ content copy.meta = laws.value (json_at v copy.header.hdr_offset) there.value (content copy.meta) there.holds x.metadata.json in
+      subst (λ j. Luks2Area j (hdr_size (header_at v copy.header.hdr_offset)) payload (length v) n a) same there.area
+
+  pub lists_here : (entries : List Entry) (payload : Data) (h total : ℕ) → h ≡ hdr_size (header_at v copy.header.hdr_offset) → length v ≡ total
+      → Lists entries (AreaOf v payload) → Lists entries (Luks2Area (content copy.meta) h payload total)
+  lists_here entries payload h total size long lists = rw (size, ← long) (record {
+    only = λ n a there. named_here payload n a (lists.only n a there);
+    all = λ n a there. lists.all n a (record { choice = luks2 copy.header.hdr_offset copy.copies; chosen = x.chosen; area = record { value = content copy.meta; holds = x.metadata.json; area = there } });
+  })
