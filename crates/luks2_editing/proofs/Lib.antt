@@ -4,6 +4,7 @@ mod RowFacts
 mod RenewalFacts
 mod PlainEditFacts
 mod KeyAreaFacts
+mod LostFacts
 mod RemovalFacts
 mod SealingFacts
 mod MadeMetadataFacts
@@ -11,3 +12,5 @@ mod OpenedFacts
 mod SealedRowFacts
 mod SealedFacts
 mod AdditionFacts
+mod PlanFacts
+mod ChangeFacts

@@ -3,6 +3,7 @@
 
 mod adding;
 mod applying;
+mod changing;
 mod labelling;
 mod new_copy;
 mod preparing;
