@@ -20,7 +20,7 @@ use Rattle.luks_reading.specs.declared.header.ChosenCopy.{ChosenCopy}
 use Rattle.luks_reading.specs.declared.report.Data.{Data}
 use Rattle.luks_reading.specs.Answer.{opens, Answer}
 use Rattle.luks_reading.specs.Checked.{WellFormed}
-use Rattle.luks_reading.specs.Header.{json_at, IsChosenCopy}
+use Rattle.luks_reading.specs.Header.{IsChosenCopy}
 use Rattle.luks_reading.specs.Plans.{HasLuks2KeyBytes}
 use Rattle.luks_edit.specs.declared.edit.Edit.TheVariants.{Add}
 use Rattle.luks_edit.specs.declared.edit_fault.EditFault.{EditFault}
@@ -45,8 +45,7 @@ use Rattle.luks2_editing.proofs.KeyAreaFacts.{area_of_object}
 use Rattle.luks2_editing.proofs.MadeMetadataFacts.{sectors_in_blocks}
 use Rattle.luks2_editing.proofs.OpenedFacts.{opened_plan, HasOpenPlan}
 use Rattle.luks2_editing.proofs.PlanFacts.{like_unrefused, SaysLike}
-use Rattle.luks2_editing.proofs.RenewalFacts.{metadata_here}
-use Rattle.luks2_editing.proofs.SealedRowFacts.{SealingLaws}
+use Rattle.luks2_editing.proofs.RenewalFacts.{metadata_here, VolumeLaws}
 
 -- ---- the new keyslot, made with the members of the keyslot `like`
 
@@ -161,7 +160,7 @@ module _ (v : List ℕ) (payload : Data) (copy : ChosenCopy) (addition : Additio
     opened = x.opened;
   }
 
-  module _ (laws : SealingLaws) (small : addition.made < 32) (k : Value)
+  module _ (laws : VolumeLaws) (digests : HasOneDigest (content copy.meta)) (small : addition.made < 32) (k : Value)
       (gained : IsGained addition.made addition.by_ (members_of addition.iterations (keyslot_salt random) addition.area) (content copy.meta) k) where
     place_in : (p : ℕ) → IsOfStripesOf k addition.made p
         → IsOfNewKeyslot (hdr_size (header_at v copy.header.hdr_offset)) (length v) payload (content copy.meta) addition.by_ p
@@ -184,7 +183,7 @@ module _ (v : List ℕ) (payload : Data) (copy : ChosenCopy) (addition : Additio
         record {
           place = copy.header.hdr_offset;
           value = content copy.meta;
-          metadata = metadata_here laws.volume v payload copy x.chosen x.well;
+          metadata = metadata_here laws v payload copy x.chosen x.well;
           new = k;
           edited = edited;
           torn = t;
@@ -193,9 +192,8 @@ module _ (v : List ℕ) (payload : Data) (copy : ChosenCopy) (addition : Additio
 
       shut : (g : SlotFault) → HasRefusedKeyslot k addition.made g → ⊥
       shut g bad = made_unrefused (content copy.meta) k addition.made addition.by_ addition.iterations (keyslot_salt random) addition.area gained small g
-          (opened_plan laws.volume v copy.header.hdr_offset (content copy.meta) addition.by_ old.now key (metadata_here laws.volume v payload copy x.chosen x.well) x.opened)
-          (record { one = laws.digest (json_at v copy.header.hdr_offset) (content copy.meta) x.chosen.metadata })
-          bad
+          (opened_plan laws v copy.header.hdr_offset (content copy.meta) addition.by_ old.now key (metadata_here laws v payload copy x.chosen x.well) x.opened)
+          digests bad
 
       -- what it leaves where it was ended
       pub unsealed_ends : (f : EditFault) → IsUnsealed k addition.made f
@@ -229,7 +227,7 @@ module _ (v : List ℕ) (payload : Data) (copy : ChosenCopy) (addition : Additio
       added_after written = record {
         place = copy.header.hdr_offset;
         value = content copy.meta;
-        metadata = metadata_here laws.volume v payload copy x.chosen x.well;
+        metadata = metadata_here laws v payload copy x.chosen x.well;
         new = k;
         edited = edited;
         first = written.anew.first;
@@ -244,6 +242,6 @@ module _ (v : List ℕ) (payload : Data) (copy : ChosenCopy) (addition : Additio
       made_in = record {
         place = copy.header.hdr_offset;
         value = content copy.meta;
-        metadata = metadata_here laws.volume v payload copy x.chosen x.well;
+        metadata = metadata_here laws v payload copy x.chosen x.well;
         is_new = x.is_new;
       }

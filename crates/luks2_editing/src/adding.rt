@@ -23,7 +23,7 @@ use crate::sealed_plan::write_keyslot;
 use luks_area::{Area, Device};
 use luks_edit::{Done, EditFault};
 use luks_head::{chosen_copy_is_sound, one_choice};
-use luks_meta::one_value;
+use luks_meta::{one_digest, one_value};
 use luks_reading::{ChosenCopy, well_formed_volume};
 use luks_slot::Key;
 use std::alloc::Global;
@@ -81,6 +81,7 @@ pub(crate) fn add<D: Device>(
 {
     one_choice();
     one_value();
+    one_digest();
     chosen_copy_is_sound();
     well_formed_volume();
     let keyslot = SealedSlot::Made {
