@@ -4,6 +4,7 @@ mod RowFacts
 mod RenewalFacts
 mod PlainEditFacts
 mod KeyAreaFacts
+mod JudgedFacts
 mod RemovalFacts
 mod SealingFacts
 mod MadeMetadataFacts
