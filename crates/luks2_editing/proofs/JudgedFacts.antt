@@ -1,5 +1,5 @@
 -- What is known of an edit that was judged, and how it ends where it is refused.
-use Rattle.std.proofs.Common.{◌≡◌, ◌≢◌, ◌⊎◌, ℕ, ◌<◌, ◌≤◌, List, false, true, inl, inr, refl, sym, ◌∙◌, subst, arith, is_some}
+use Rattle.std.proofs.Common.{◌≡◌, ◌≢◌, ◌⊎◌, ℕ, ◌≤◌, List, false, inl, inr, refl, sym, ◌∙◌, subst, arith, is_some}
 use Rattle.std.proofs.lemmas.Bool.{cases_Bool, cases_lt, false≢true}
 use Rattle.serde_json.specs.Data.{Data as Value}
 use Rattle.luks_meta.specs.Content.{content}
@@ -67,10 +67,10 @@ pub none_required : (v : List ℕ) (payload : Data) (e : Edit) (random : List �
     → HasNoFaultBefore 12 v payload e random → has_requirements (content copy.meta) ≡ false
 none_required v payload e random copy x before = elim (cases_Bool (has_requirements (content copy.meta))) [
   | inl required ↦ absurd (let low : 12 ≤ 2 = before.each fault.Requirements (record {
-      place = copy.header.hdr_offset;
-      value = content copy.meta;
-      metadata = record { copies = copy.copies; chosen = x.chosen; holds = x.metadata.json };
-      is = required;
-    }) in omega (arith, low))
+    place = copy.header.hdr_offset;
+    value = content copy.meta;
+    metadata = record { copies = copy.copies; chosen = x.chosen; holds = x.metadata.json };
+    is = required;
+  }) in omega (arith, low))
   | inr none ↦ none
 ]

@@ -5,9 +5,12 @@ mod RenewalFacts
 mod PlainEditFacts
 mod KeyAreaFacts
 mod JudgedFacts
+mod LostFacts
 mod RemovalFacts
 mod SealingFacts
 mod MadeMetadataFacts
 mod OpenedFacts
 mod SealedRowFacts
 mod SealedFacts
+mod PlanFacts
+mod ChangeFacts

@@ -6,13 +6,14 @@ ghost use Rattle.luks_reading.specs.Header.{IsAcceptedHeader, IsHeader};
 ghost use Rattle.luks2_judging.specs.Header.{IsOfLuks2};
 ghost use Rattle.luks2_editing.specs.Replies.{Replies2};
 
+use crate::changing::change;
 use crate::labelling::set_label;
 use crate::removing::remove;
 use crate::repairing::repair;
 use luks_area::Device;
 use luks_edit::{Done, Edit, EditFault};
 use luks_reading::{Data, Header};
-use luks2_judging::{Judged, judge_luks2};
+use luks2_judging::judge_luks2;
 use std::alloc::Global;
 
 /// Applies the edit to the LUKS2 volume with this header, with as many random bytes as
@@ -42,12 +43,7 @@ pub fn apply_luks2<D: Device>(
     ensures replies { D.tells → IsHeader (D.bytes device.old) header.now
         → Replies2 data_ (D.bytes device.old) edit.now random.now result (D.bytes device.new) }
 {
-    let Judged {
-        copy,
-        key,
-        made,
-        area,
-    } = judge_luks2(alloc, device, header, data_, edit)?;
+    let judged = judge_luks2(alloc, device, header, data_, edit)?;
     match *edit {
         Edit::Add {
             by_: _,
@@ -57,13 +53,26 @@ pub fn apply_luks2<D: Device>(
             iterations: _,
         } => Err(EditFault::Memory),
         Edit::Change {
-            slot: _,
-            old: _,
-            new: _,
-            iterations: _,
-        } => Err(EditFault::Memory),
-        Edit::Remove { slot, passphrase } => remove(alloc, device, copy, slot, passphrase, random),
-        Edit::Repair => repair(alloc, device, copy, random),
-        Edit::Label { text } => set_label(alloc, device, copy, text, random),
+            slot,
+            old,
+            new,
+            iterations,
+        } => change(
+            alloc,
+            device,
+            judged.copy,
+            slot,
+            old,
+            new,
+            iterations,
+            &judged.key.unwrap(),
+            judged.area.unwrap(),
+            random,
+        ),
+        Edit::Remove { slot, passphrase } => {
+            remove(alloc, device, judged.copy, slot, passphrase, random)
+        }
+        Edit::Repair => repair(alloc, device, judged.copy, random),
+        Edit::Label { text } => set_label(alloc, device, judged.copy, text, random),
     }
 }
