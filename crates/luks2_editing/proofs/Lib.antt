@@ -11,5 +11,6 @@ mod MadeMetadataFacts
 mod OpenedFacts
 mod SealedRowFacts
 mod SealedFacts
+mod AdditionFacts
 mod PlanFacts
 mod ChangeFacts
