@@ -12,5 +12,6 @@ mod MadeMetadataFacts
 mod OpenedFacts
 mod SealedRowFacts
 mod SealedFacts
+mod AdditionFacts
 mod PlanFacts
 mod ChangeFacts
