@@ -4,6 +4,7 @@ mod RowFacts
 mod RenewalFacts
 mod PlainEditFacts
 mod KeyAreaFacts
+mod JudgedFacts
 mod LostFacts
 mod RemovalFacts
 mod SealingFacts
