@@ -4,9 +4,14 @@ mod RowFacts
 mod RenewalFacts
 mod PlainEditFacts
 mod KeyAreaFacts
+mod JudgedFacts
+mod LostFacts
 mod RemovalFacts
 mod SealingFacts
 mod MadeMetadataFacts
 mod OpenedFacts
 mod SealedRowFacts
 mod SealedFacts
+mod AdditionFacts
+mod PlanFacts
+mod ChangeFacts
