@@ -4,6 +4,12 @@ mod RowFacts
 mod RenewalFacts
 mod PlainEditFacts
 mod KeyAreaFacts
+mod LostFacts
 mod RemovalFacts
 mod SealingFacts
+mod MadeMetadataFacts
+mod OpenedFacts
+mod SealedRowFacts
 mod SealedFacts
+mod PlanFacts
+mod ChangeFacts

@@ -1,26 +1,20 @@
 -- A keyslot that is removed of a LUKS2 volume: its area, and the copies beside it.
-use Rattle.std.proofs.Common.{◌≡◌, ◌↔◌, ℕ, ◌+◌, ◌-◌, ◌<◌, ◌≤◌, Bor, List, length, replicate, is_some, inl, inr, refl, sym, ap, ◌∙◌, subst, arith}
+use Rattle.std.proofs.Common.{◌≡◌, ◌↔◌, ℕ, ◌<◌, ◌≤◌, Bor, List, length, replicate, is_some, inl, inr, refl, sym, ◌∙◌, subst, arith}
 use Rattle.std.proofs.lemmas.Bool.{cases_Bool, true≢false}
 use Rattle.serde_json.specs.Data.{Data as Value}
 use Rattle.luks_area.specs.declared.area.Area.{Area}
-use Rattle.luks_area.specs.declared.area.AreaName.TheVariants.{Head1, Head2, Slot}
 use Rattle.luks_area.specs.Ranges.{part, IsAt, SameBut}
-use Rattle.luks_area.specs.RangeFacts.{part-same_but, same_but-then, same_but-wider}
-use Rattle.luks_head.specs.Header2.{header_at, hdr_size, seqid, IsSound}
-use Rattle.luks_head.specs.Selection.{luks2}
-use Rattle.luks_head.specs.Written.{AreZeros}
+use Rattle.luks_area.specs.RangeFacts.{same_but-then, same_but-wider}
+use Rattle.luks_head.specs.Header2.{header_at, hdr_size, IsSound}
 use Rattle.luks_making.specs.Without.{without_slot}
-use Rattle.luks_making.specs.WrittenArea.{IsWrittenArea}
 use Rattle.luks_meta.specs.Content.{area_len, content}
 use Rattle.luks_meta.specs.Faults.{object_at}
 use Rattle.luks_rules.specs.declared.table.Section.TheVariants.{Keyslots}
 use Rattle.luks_reading.specs.declared.header.ChosenCopy.{ChosenCopy}
 use Rattle.luks_reading.specs.declared.report.Data.{Data}
-use Rattle.luks_reading.specs.Checked.{AreaOf, WellFormed}
-use Rattle.luks_reading.specs.Header.{json_at, IsChosenCopy}
-use Rattle.luks_edit.specs.declared.edit.Edit.{Edit}
+use Rattle.luks_reading.specs.Checked.{WellFormed}
+use Rattle.luks_reading.specs.Header.{IsChosenCopy}
 use Rattle.luks_edit.specs.declared.edit.Edit.TheVariants.{Remove}
-use Rattle.luks2_edits.specs.Copies.{label_field, salt_field, subsystem_field, IsWrittenAnew}
 use Rattle.luks2_edits.specs.Edited.{After2}
 use Rattle.luks2_edits.specs.Leftovers.{Leftover2}
 use Rattle.luks2_edits.specs.Metadata.{IsKeyArea}
@@ -30,52 +24,9 @@ use Rattle.luks2_judging.specs.Rows.{HasNoFaultBefore}
 use Rattle.luks2_editing.specs.Lost.{HasKeyArea}
 use Rattle.luks2_editing.specs.Prepared.{IsPrepared}
 use Rattle.luks2_editing.specs.Rewriting.{AreWrittenAnew}
+use Rattle.luks2_editing.proofs.LostFacts.{beside_first, beside_second, both_beside, lost_inside}
 use Rattle.luks2_editing.proofs.RenewalFacts.{listed_at_least, metadata_here, prepared_unrefused, said, size_is, sound_here, written_after, VolumeLaws}
 use Rattle.luks2_editing.proofs.RowFacts.{passed_before, Passed}
-
--- ---- a copy beside a range that was written
-
-module _ (local : (v w : List ℕ) (o n : ℕ) → length v ≡ length w → 4096 ≤ n → hdr_size (header_at v o) ≤ n → part v o n ≡ part w o n → IsSound v o ↔ IsSound w o)
-    (v : List ℕ) (o : ℕ) (e : Edit) (random : List ℕ) (j : Value) (w x : List ℕ) (start m : ℕ) (least : 4096 ≤ hdr_size (header_at v o))
-    (same : SameBut (IsAt start m) w x) where
-  module _ (q : ℕ) (apart : (p : ℕ) → IsAt q (hdr_size (header_at v o)) p → IsAt start m p → ⊥) (a : IsWrittenAnew v o e random j w q) where
-    head_same : header_at x q ≡ header_at w q
-    head_same = part-same_but q 4096 same (λ p here there. apart p (here.0, let high = here.1 in omega (arith, high, least)) there)
-
-    json_same : json_at x q ≡ json_at w q
-    json_same =
-        let size : hdr_size (header_at w q) ≡ hdr_size (header_at v o) = a.renewed.size in
-        ap (λ b. part x (q + 4096) (hdr_size b - 4096)) head_same
-        ∙ part-same_but (q + 4096) (hdr_size (header_at w q) - 4096) same (λ p here there.
-        apart p (let low = here.0 in omega (arith, low), let high = here.1 in omega (arith, high, size, least)) there)
-
-    anew_beside : IsWrittenAnew v o e random j x q
-    anew_beside = record {
-      renewed = record {
-        sound = (local w x q (hdr_size (header_at v o)) (sym same.length_same) least (let size = a.renewed.size in omega (arith, size))
-            (sym (part-same_but q (hdr_size (header_at v o)) same apart))).0 a.renewed.sound;
-        size = ap hdr_size head_same ∙ a.renewed.size;
-        number = ap seqid head_same ∙ a.renewed.number;
-        label = ap label_field head_same ∙ a.renewed.label;
-        csum_alg = ap (λ b. part b 72 32) head_same ∙ a.renewed.csum_alg;
-        salt = ap salt_field head_same ∙ a.renewed.salt;
-        uuid = ap (λ b. part b 168 40) head_same ∙ a.renewed.uuid;
-        subsystem = ap subsystem_field head_same ∙ a.renewed.subsystem;
-        padding = subst (λ b. AreZeros b 264 448) (sym head_same) a.renewed.padding;
-        tail = subst (λ b. AreZeros b 512 4096) (sym head_same) a.renewed.tail;
-        json = subst (λ l. IsWrittenArea (hdr_size (header_at v o) - 4096) j l) (sym json_same) a.renewed.json;
-      };
-      csum_rest = subst (λ b. AreZeros b 480 512) (sym head_same) a.csum_rest;
-    }
-
-  -- both copies stand beside the range
-  pub both_beside : ((p : ℕ) → IsAt 0 (hdr_size (header_at v o)) p → IsAt start m p → ⊥)
-      → ((p : ℕ) → IsAt (hdr_size (header_at v o)) (hdr_size (header_at v o)) p → IsAt start m p → ⊥)
-      → AreWrittenAnew v o e random j w → AreWrittenAnew v o e random j x
-  both_beside first second a = record {
-    first = anew_beside 0 first a.first;
-    second = anew_beside (hdr_size (header_at v o)) second a.second;
-  }
 
 -- ---- the keyslot's area
 
@@ -83,9 +34,6 @@ module _ (laws : VolumeLaws) (v : List ℕ) (payload : Data) (copy : ChosenCopy)
     (slot : ℕ) (passphrase : Bor (List ℕ)) (random : List ℕ) (numbered : slot < 32) (before : HasNoFaultBefore 12 v payload (Remove slot passphrase) random) where
   pub removal_passed : Passed 12 v payload (Remove slot passphrase) random
   removal_passed = passed_before v payload (Remove slot passphrase) random before.each
-
-  area_named : (a : Area) → IsKeyArea (content copy.meta) slot a → AreaOf v payload (Slot slot) a
-  area_named a is = record { choice = luks2 copy.header.hdr_offset copy.copies; chosen = x.chosen; area = record { value = content copy.meta; holds = x.metadata.json; area = is } }
 
   -- it is there, inside the volume
   pub key_area_there : HasKeyArea (content copy.meta) slot (length v)
@@ -96,23 +44,10 @@ module _ (laws : VolumeLaws) (v : List ℕ) (payload : Data) (copy : ChosenCopy)
           (said laws v payload copy x well (λ o j. IsAbsent j (Remove slot passphrase))
           (record { slot = slot; passphrase = passphrase.now; asked = (refl, refl); unused = λ used. true≢false (sym used.1 ∙ none) })))
     ];
-    inside = λ a is. (laws.fits v payload well).fit.inside (Slot slot) a (area_named a is);
+    inside = lost_inside laws v payload copy x well slot;
   }
 
   module _ (area : Area) (is : IsKeyArea (content copy.meta) slot area) where
-    beside_first : (p : ℕ) → IsAt 0 (hdr_size (header_at v copy.header.hdr_offset)) p → IsAt area.start area.len p → ⊥
-    beside_first p here there =
-        (laws.fits v payload well).fit.disjoint Head1 (Slot slot) (record { start = 0; len = hdr_size (header_at v copy.header.hdr_offset) }) area
-        (record { choice = luks2 copy.header.hdr_offset copy.copies; chosen = x.chosen; area = record { value = content copy.meta; holds = x.metadata.json; area = (refl, refl) } })
-        (area_named area is) (λ t. cc) p here there
-
-    beside_second : (p : ℕ) → IsAt (hdr_size (header_at v copy.header.hdr_offset)) (hdr_size (header_at v copy.header.hdr_offset)) p → IsAt area.start area.len p → ⊥
-    beside_second p here there =
-        (laws.fits v payload well).fit.disjoint Head2 (Slot slot)
-        (record { start = hdr_size (header_at v copy.header.hdr_offset); len = hdr_size (header_at v copy.header.hdr_offset) }) area
-        (record { choice = luks2 copy.header.hdr_offset copy.copies; chosen = x.chosen; area = record { value = content copy.meta; holds = x.metadata.json; area = (refl, refl) } })
-        (area_named area is) (λ t. cc) p here there
-
     module _ (local : (v w : List ℕ) (o n : ℕ) → length v ≡ length w → 4096 ≤ n → hdr_size (header_at v o) ≤ n → part v o n ≡ part w o n → IsSound v o ↔ IsSound w o)
         (new : Value) (made : new ≡ without_slot slot (content copy.meta)) (w y : List ℕ)
         (ready : IsPrepared copy.header.seqid (area_len copy.meta) new random 128)
@@ -121,7 +56,8 @@ module _ (laws : VolumeLaws) (v : List ℕ) (payload : Data) (copy : ChosenCopy)
       anew_kept : AreWrittenAnew v copy.header.hdr_offset (Remove slot passphrase) random new y
       anew_kept =
           let size : 16384 ≤ hdr_size (header_at v copy.header.hdr_offset) = listed_at_least (hdr_size (header_at v copy.header.hdr_offset)) (sound_here laws v payload copy x well).form.listed in
-          both_beside local v copy.header.hdr_offset (Remove slot passphrase) random new w y area.start area.len (omega (arith, size)) lost beside_first beside_second anew
+          both_beside local v copy.header.hdr_offset (Remove slot passphrase) random new w y area.start area.len (omega (arith, size)) lost
+          (beside_first laws v payload copy x well slot area is) (beside_second laws v payload copy x well slot area is) anew
 
       rest_touched : SameBut (IsTouched (hdr_size (header_at v copy.header.hdr_offset)) (length v) payload (content copy.meta) (Remove slot passphrase)) v y
       rest_touched = same_but-then

@@ -33,7 +33,7 @@ use Rattle.luks2_edits.specs.Refused.{HasSaid, IsFull, IsMiscounted, IsUnrefused
 use Rattle.luks2_editing.specs.Prepared.{IsCopyWithin, IsPrepared, IsUnwritten}
 use Rattle.luks2_editing.specs.Replies.{EndsBy2}
 use Rattle.luks2_editing.specs.Rewriting.{AreWrittenAnew, IsRenewing, MayBeHalfWritten}
-use Rattle.luks2_editing.proofs.RowFacts.{first_of_row, unrefused, Passed}
+use Rattle.luks2_editing.proofs.RowFacts.{first_of_row, passed_then, unrefused, Passed}
 
 -- the laws of the crates below on which these facts rest
 pub record VolumeLaws : Type 0 where
@@ -103,7 +103,7 @@ module _ (laws : VolumeLaws) (v : List ℕ) (payload : Data) (copy : ChosenCopy)
   pub sound_here : IsSound v copy.header.hdr_offset
   sound_here = laws.sound v copy.header.hdr_offset copy.copies x.chosen
 
-  len_here : area_len copy.meta ≡ hdr_size (header_at v copy.header.hdr_offset) - 4096
+  pub len_here : area_len copy.meta ≡ hdr_size (header_at v copy.header.hdr_offset) - 4096
   len_here =
       let least = listed_at_least (hdr_size (header_at v copy.header.hdr_offset)) sound_here.form.listed in
       let inside = sound_here.form.inside in
@@ -167,28 +167,7 @@ module _ (laws : VolumeLaws) (v : List ℕ) (payload : Data) (copy : ChosenCopy)
 
     rest_passed : (k : ℕ) (low : 12 < k → copy.header.seqid + 1 < 2 ^ 64) (room : 13 < k → length (compact_text new) < area_len copy.meta) (count : 14 < k → length random ≡ 128)
         → Passed k v payload e random
-    rest_passed k low room count = record {
-      accepted = λ _. passed.accepted (omega arith);
-      opener = record {
-        known = λ _. passed.opener.known (omega arith);
-        there = λ _. passed.opener.there (omega arith);
-        unlocked = λ _. passed.opener.unlocked (omega arith);
-        unshut = λ _. passed.opener.unshut (omega arith);
-      };
-      new = record {
-        untaken = λ _. passed.new.untaken (omega arith);
-        some_free = λ _. passed.new.some_free (omega arith);
-        some_room = λ _. passed.new.some_room (omega arith);
-        not_last = λ _. passed.new.not_last (omega arith);
-        many = λ _. passed.new.many (omega arith);
-      };
-      rest = record {
-        label = λ _. passed.rest.label (omega arith);
-        numbered = λ lt. numbered_of (low lt);
-        roomy = λ lt. roomy_of (room lt);
-        counted = λ lt. counted_of (count lt);
-      };
-    }
+    rest_passed k low room count = passed_then k v payload e random passed (λ lt. numbered_of (low lt)) (λ lt. roomy_of (room lt)) (λ lt. counted_of (count lt))
 
     -- nothing refuses it where all was prepared
     pub prepared_unrefused : IsPrepared copy.header.seqid (area_len copy.meta) new random 128 → IsUnrefused2 v payload e random

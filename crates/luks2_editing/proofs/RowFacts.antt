@@ -149,3 +149,32 @@ passed_before v payload e r x = record {
     counted = λ lt. absurd (omega (arith, lt));
   };
 }
+
+-- and the rows after it
+pub passed_then : (k : ℕ) (v : List ℕ) (payload : Data) (e : Edit) (r : List ℕ) → Passed 12 v payload e r
+    → (12 < k → HasSaid v (λ o j. seqid (header_at v o) + 1 ≡ 2 ^ 64) → ⊥)
+    → (13 < k → HasSaid v (λ o j. IsFull (hdr_size (header_at v o)) (length v) payload j e) → ⊥)
+    → (14 < k → HasSaid v (λ o j. IsMiscounted j e r) → ⊥)
+    → Passed k v payload e r
+passed_then k v payload e r passed numbered roomy counted = record {
+  accepted = λ _. passed.accepted (omega arith);
+  opener = record {
+    known = λ _. passed.opener.known (omega arith);
+    there = λ _. passed.opener.there (omega arith);
+    unlocked = λ _. passed.opener.unlocked (omega arith);
+    unshut = λ _. passed.opener.unshut (omega arith);
+  };
+  new = record {
+    untaken = λ _. passed.new.untaken (omega arith);
+    some_free = λ _. passed.new.some_free (omega arith);
+    some_room = λ _. passed.new.some_room (omega arith);
+    not_last = λ _. passed.new.not_last (omega arith);
+    many = λ _. passed.new.many (omega arith);
+  };
+  rest = record {
+    label = λ _. passed.rest.label (omega arith);
+    numbered = numbered;
+    roomy = roomy;
+    counted = counted;
+  };
+}

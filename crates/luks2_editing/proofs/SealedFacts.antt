@@ -14,6 +14,7 @@ use Rattle.luks_rules.specs.declared.table.Section.TheVariants.{Keyslots}
 use Rattle.luks_rules.specs.Accepted.{HasObject}
 use Rattle.luks_rules.specs.Faults.{member_at}
 use Rattle.luks_rules.specs.Reading.{is_between, kept, number_in, number_of}
+use Rattle.luks_making.specs.Naming.{IsDigestOf}
 use Rattle.luks_slot.specs.declared.plan.Derivation.{Derivation}
 use Rattle.luks_slot.specs.declared.plan.Derivation.TheVariants.{Pbkdf2, Argon2}
 use Rattle.luks_slot.specs.declared.plan.SlotPlan.{SlotPlan}
@@ -63,11 +64,12 @@ iterated d Argon2 x = tt
 
 -- ---- a plan of the keyslot
 
--- it is one by the keyslot's object
+-- it is one by the keyslot's object, and one digest names the keyslot
 pub record IsPlanOf (k : Value) (n : ℕ) (plan : SlotPlan) : Type 0 where
   pub object : Value
   pub there : HasObject k Keyslots n object
   pub is : IsLuks2Plan k n object plan
+  pub one : (m : ℕ) → IsDigestOf k n m → m ≡ is.digest.number
 
 -- the key can be sealed by it
 pub record IsReadyPlan (h : ℕ) (plan : SlotPlan) (key random : List ℕ) (total : ℕ) : Type 0 where
@@ -145,7 +147,7 @@ module _ (h total : ℕ) (k : Value) (n : ℕ) (key random : List ℕ) (x : IsSe
 
   -- why it isn't sealed
   pub plan_unsealed : (f : EditFault) → IsPlanFault plan f → IsUnsealed k n f
-  plan_unsealed (fault.Slot f) refused = record { object = p.object; there = p.there; plan = plan; is = p.is; refused = refused }
+  plan_unsealed (fault.Slot f) refused = record { object = p.object; there = p.there; plan = plan; is = p.is; one = p.one; refused = refused }
   plan_unsealed fault.Device x = tt
   plan_unsealed fault.Memory x = absurd x
   plan_unsealed (fault.NotAccepted f) x = absurd x

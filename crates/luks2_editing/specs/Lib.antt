@@ -4,4 +4,5 @@ pub mod Prepared
 pub mod Replies
 pub mod Lost
 pub mod Sealed
+pub mod MadeMetadata
 pub mod SealedKeyslot

@@ -8,6 +8,7 @@ use Rattle.luks_area.specs.Sectors.{rounded_to_sectors}
 use Rattle.luks_head.specs.Header2.{hdr_size, header_at}
 use Rattle.luks_rules.specs.declared.table.Section.TheVariants.{Keyslots}
 use Rattle.luks_rules.specs.Accepted.{HasObject}
+use Rattle.luks_making.specs.Naming.{IsDigestOf}
 use Rattle.luks_slot.specs.declared.fault.SlotFault.{SlotFault}
 use Rattle.luks_slot.specs.declared.plan.SlotPlan.{SlotPlan}
 use Rattle.luks_slot.specs.Refusal.{slot_refusal}
@@ -57,12 +58,13 @@ pub record IsSealing
 
 -- ---- what is answered
 
--- the keyslot `n` has a plan that is refused by `f`
+-- the keyslot `n`, which one digest names, has a plan that is refused by `f`
 pub record HasRefusedKeyslot (k : Value) (n : ℕ) (f : SlotFault) : Type 0 where
   pub object : Value
   pub there : HasObject k Keyslots n object
   pub plan : SlotPlan
   pub is : IsLuks2Plan k n object plan
+  pub one : (m : ℕ) → IsDigestOf k n m → m ≡ is.digest.number
   pub refused : slot_refusal plan ≡ Some f
 
 -- why the key isn't sealed in it, or not all was written

@@ -2,6 +2,7 @@
 #![tactic(auto)]
 
 mod applying;
+mod changing;
 mod labelling;
 mod new_copy;
 mod preparing;

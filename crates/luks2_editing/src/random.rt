@@ -2,6 +2,7 @@
 ghost use Rattle.std.specs.Prelude.{◌≡◌, ◌+◌, ◌≤◌, drop, length};
 ghost use Rattle.luks_area.specs.Ranges.{part};
 ghost use Rattle.luks2_edits.specs.Copies.{copy_salt};
+ghost use Rattle.luks2_edits.specs.Edited.{keyslot_salt};
 
 /// The `N` bytes at the place `at`.
 fn taken_array<const N: usize>(random: &[u8], at: usize) -> [u8; N]
@@ -23,6 +24,19 @@ pub(crate) fn copy_salt(random: &[u8], at: u64) -> [u8; 64]
         taken_array(random, 0)
     } else {
         taken_array(random, 64)
+    }
+}
+
+/// The salt of a keyslot that is sealed: the 32 bytes behind the salts of the copies, or zeros where
+/// there are too few.
+pub(crate) fn keyslot_salt(random: &[u8]) -> [u8; 32]
+    ensures salt { 160 ≤ length random.now → result ≡ keyslot_salt random.now }
+    ensures long { length result ≡ 32 }
+{
+    if random.len() < 160 {
+        [0; 32]
+    } else {
+        taken_array(random, 128)
     }
 }
 

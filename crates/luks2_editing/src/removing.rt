@@ -70,7 +70,7 @@ pub fn remove<D: Device>(
 }
 
 /// The area of the keyslot, which is there, inside a volume of `total` bytes.
-fn lost_area(meta: &Meta, slot: u8, total: u64) -> Result<Area, EditFault>
+pub(crate) fn lost_area(meta: &Meta, slot: u8, total: u64) -> Result<Area, EditFault>
     requires { slot < 32 }
     ensures area { IfOk result (IsKeyArea (content meta.now) slot) }
     ensures inside { IfOk result (λ a. IsInside a total) }

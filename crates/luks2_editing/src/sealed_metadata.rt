@@ -1,10 +1,201 @@
-//! The metadata that an edit makes that seals a keyslot.
+//! The new metadata of an edit of a LUKS2 volume that seals a keyslot, made before its first write.
+ghost use Rattle.std.specs.Prelude.{◌≡◌, ◌↔◌, ◌+◌, ◌^◌, ◌<◌, ◌≤◌, ℕ, List, false, length, IfErr, IfOk, IsTrue, OnOk};
+ghost use Rattle.luks_head.specs.Header2.{hdr_size, header_at};
+ghost use Rattle.luks_making.specs.Conditions.{CanSeal, HasPbkdf2, IsFree};
+ghost use Rattle.luks_making.specs.Keyslots.{new_members};
+ghost use Rattle.luks_making.specs.WrittenArea.{IsWrittenArea};
+ghost use Rattle.luks_meta.specs.Content.{area_len, content};
+ghost use Rattle.luks_reading.specs.declared.report.Data.{Data as Payload};
+ghost use Rattle.luks_edit.specs.EditFaults.{is_edit_failure};
+ghost use Rattle.luks_edit.specs.declared.edit.Edit.{Edit as TheEdit};
+ghost use Rattle.luks2_edits.specs.Edited.{keyslot_salt, members_of, IsEdited};
+ghost use Rattle.luks2_edits.specs.Refused.{IsUnrefused2, NeedsLike};
+ghost use Rattle.luks2_judging.specs.Room.{IsPlaced};
+ghost use Rattle.luks2_editing.specs.MadeMetadata.{like_of, HasNumber, IsGained, IsMadeBy, IsRenewed, IsSealingEdit};
+ghost use Rattle.luks2_editing.specs.Prepared.{IsCopyWithin};
+ghost use Rattle.luks2_editing.specs.Replies.{EndsBy2};
 
-use luks_meta::Meta;
+use crate::preparing::prepared;
+use crate::random::keyslot_salt;
+use luks_area::Area;
+use luks_edit::EditFault;
+use luks_head::{chosen_copy_is_sound, one_choice};
+use luks_making::{
+    New, addition_keeps_the_rest, change_keeps_the_rest, made_keyslot_has_room, new_fits,
+};
+use luks_meta::{Cost, Meta, one_digest, one_value};
+use luks_reading::{ChosenCopy, well_formed_volume};
+use luks_slot::SlotFault;
+use luks2_judging::{salts_are_as_long, sealed_need};
+use std::alloc::Global;
+
+/// The keyslot that an edit seals.
+#[derive(Clone, Copy)]
+pub(crate) enum SealedSlot {
+    /// A new one of this number, with the members of the keyslot `like`.
+    Made { slot: u8, like: u8 },
+    /// One that is there, sealed again.
+    Renewed { slot: u8 },
+}
+
+impl SealedSlot {
+    /// The keyslot whose members it has.
+    fn like(self) -> u8
+        ensures { result ≡ like_of self }
+    {
+        match self {
+            SealedSlot::Made { slot: _, like } => like,
+            SealedSlot::Renewed { slot } => slot,
+        }
+    }
+}
+
+/// A keyslot that an edit seals, and what is new of it beside its salt.
+#[derive(Clone, Copy)]
+pub(crate) struct Sealing {
+    pub(crate) keyslot: SealedSlot,
+    /// The iterations of its derivation.
+    pub(crate) iterations: u32,
+    /// Its area.
+    pub(crate) area: Area,
+}
 
 /// The metadata that an edit makes, and the JSON area with it.
 #[derive(Drop)]
 pub(crate) struct NewMetadata {
     pub(crate) meta: Meta,
     pub(crate) json: Vec<u8>,
+}
+
+/// The metadata with the keyslot, whose salt is that of the random bytes, and the JSON area with it:
+/// once there is a next sequence number, the text leaves a zero byte in the area, and the random
+/// bytes are as many as are needed. The keyslot like which it is sealed was opened.
+///
+/// Refused by `SeqExhausted`, `MetadataFull` or `RandomLength`. Takes memory for the metadata and the
+/// JSON area.
+pub(crate) fn new_metadata(
+    alloc: Global,
+    copy: &ChosenCopy,
+    sealing: &Sealing,
+    random: &[u8],
+    total: u64,
+) -> Result<NewMetadata, EditFault>
+    requires number { HasNumber (content copy.now.meta) sealing.now.keyslot }
+    requires iterated { 1 ≤ sealing.now.iterations }
+    requires placed { IsPlaced (area_len copy.now.meta) (content copy.now.meta) total
+        (like_of sealing.now.keyslot) sealing.now.area }
+    ensures made { IfOk result (λ m. IsMadeBy sealing.now.keyslot
+        (members_of sealing.now.iterations (keyslot_salt random.now) sealing.now.area)
+        (content copy.now.meta) (content m.meta)) }
+    ensures length { IfOk result (λ m. area_len m.meta ≡ area_len copy.now.meta) }
+    ensures json { IfOk result (λ m.
+        IsWrittenArea (area_len m.meta) (content m.meta) m.json.items) }
+    ensures within { IfOk result (λ m. IsCopyWithin copy.now.header (area_len m.meta) total) }
+    ensures numbered { OnOk result (copy.now.header.seqid + 1 < 2 ^ 64) }
+    ensures counted { OnOk result (NeedsLike (content copy.now.meta)
+        (like_of sealing.now.keyslot) (length random.now)) }
+    ensures own { IfErr result (λ f. is_edit_failure f ≡ false) }
+    ensures unrefused { (v : List ℕ) (payload : Payload) (e : TheEdit)
+        → IsSealingEdit v payload e random.now copy.now sealing.now → length v ≡ total
+        → OnOk result (IsUnrefused2 v payload e random.now) }
+    ensures edited { (v : List ℕ) (payload : Payload) (e : TheEdit)
+        → IsSealingEdit v payload e random.now copy.now sealing.now → length v ≡ total
+        → IfOk result (λ m. IsEdited (hdr_size (header_at v copy.now.header.hdr_offset))
+        (length v) payload e (keyslot_salt random.now) (content copy.now.meta) (content m.meta)) }
+    ensures refused { (v : List ℕ) (payload : Payload) (e : TheEdit)
+        → IsSealingEdit v payload e random.now copy.now sealing.now → length v ≡ total
+        → IfErr result (λ f. EndsBy2 payload v e random.now f v) }
+{
+    one_choice();
+    one_value();
+    one_digest();
+    chosen_copy_is_sound();
+    well_formed_volume();
+    salts_are_as_long();
+    let like = sealing.keyslot.like();
+    if !has_pbkdf2(&copy.meta, like) {
+        return Err(EditFault::Slot(SlotFault::Argon2));
+    }
+    let salt = keyslot_salt(random);
+    let new = New {
+        iterations: sealing.iterations,
+        salt: &salt,
+        offset: sealing.area.start,
+        size: sealing.area.len,
+    };
+    new_fits(&new);
+    let meta = made_metadata(alloc, &copy.meta, sealing.keyslot, &new)?;
+    let need = sealed_need(&copy.meta, like) as usize;
+    let json = prepared(alloc, &copy.header, &meta, random, need, total)?;
+    Ok(NewMetadata { meta, json })
+}
+
+/// Whether the keyslot's key is derived by PBKDF2.
+fn has_pbkdf2(meta: &Meta, n: u8) -> bool
+    requires { n < 32 }
+    ensures { IsTrue result ↔ HasPbkdf2 (content meta.now) n }
+{
+    match meta.keyslot(n) {
+        Some(keyslot) => match keyslot.kdf.cost {
+            Cost::Pbkdf2(_) => true,
+            Cost::Argon2i(_) => false,
+            Cost::Argon2id(_) => false,
+        },
+        None => false,
+    }
+}
+
+/// The metadata with the keyslot, or `Memory`.
+fn made_metadata(
+    alloc: Global,
+    meta: &Meta,
+    keyslot: SealedSlot,
+    new: &New<'_>,
+) -> Result<Meta, EditFault>
+    requires number { HasNumber (content meta.now) keyslot }
+    requires suits { CanSeal (area_len meta.now) (content meta.now) (like_of keyslot)
+        (new_members new.now) }
+    ensures made { IfOk result (λ m.
+        IsMadeBy keyslot (new_members new.now) (content meta.now) (content m)) }
+    ensures length { IfOk result (λ m. area_len m ≡ area_len meta.now) }
+    ensures memory { IfErr result (λ f. f ≡ EditFault.Memory) }
+{
+    match keyslot {
+        SealedSlot::Made { slot, like } => gained(alloc, meta, slot, like, new),
+        SealedSlot::Renewed { slot } => renewed(alloc, meta, slot, new),
+    }
+}
+
+/// The metadata with a new keyslot, or `Memory`.
+fn gained(alloc: Global, meta: &Meta, slot: u8, like: u8, new: &New<'_>) -> Result<Meta, EditFault>
+    requires number { IsFree (content meta.now) slot }
+    requires suits { CanSeal (area_len meta.now) (content meta.now) like (new_members new.now) }
+    ensures made { IfOk result (λ m.
+        IsGained slot like (new_members new.now) (content meta.now) (content m)) }
+    ensures length { IfOk result (λ m. area_len m ≡ area_len meta.now) }
+    ensures memory { IfErr result (λ f. f ≡ EditFault.Memory) }
+{
+    addition_keeps_the_rest();
+    made_keyslot_has_room();
+    new_fits(new);
+    match meta.with_slot(alloc, slot, like, new) {
+        Ok(made) => Ok(made),
+        Err(_) => Err(EditFault::Memory),
+    }
+}
+
+/// The metadata with what is new in the keyslot, or `Memory`.
+fn renewed(alloc: Global, meta: &Meta, slot: u8, new: &New<'_>) -> Result<Meta, EditFault>
+    requires { CanSeal (area_len meta.now) (content meta.now) slot (new_members new.now) }
+    ensures made { IfOk result (λ m.
+        IsRenewed slot (new_members new.now) (content meta.now) (content m)) }
+    ensures length { IfOk result (λ m. area_len m ≡ area_len meta.now) }
+    ensures memory { IfErr result (λ f. f ≡ EditFault.Memory) }
+{
+    change_keeps_the_rest();
+    new_fits(new);
+    match meta.changed_slot(alloc, slot, new) {
+        Ok(made) => Ok(made),
+        Err(_) => Err(EditFault::Memory),
+    }
 }

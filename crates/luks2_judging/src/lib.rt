@@ -13,4 +13,4 @@ mod unlocking;
 
 pub use judging::{Judged, judge_luks2};
 pub use laws::salts_are_as_long;
-pub use needing::needed_luks2;
+pub use needing::{needed_luks2, sealed_need};

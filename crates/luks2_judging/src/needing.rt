@@ -77,8 +77,8 @@ pub(crate) fn need(meta: &Meta, edit: &Edit<'_>) -> u64
     }
 }
 
-/// What an edit takes that seals a keyslot like the keyslot `n`.
-fn sealed_need(meta: &Meta, n: u8) -> u64
+/// How many random bytes an edit takes that seals a keyslot like the keyslot `n`, which is there.
+pub fn sealed_need(meta: &Meta, n: u8) -> u64
     ensures { IsInUse (content meta.now) n → NeedsLike (content meta.now) n result }
 {
     match meta.keyslot(n) {

@@ -3,8 +3,12 @@ use Rattle.std.proofs.Common.{◌≡◌, ℕ, ◌+◌, ◌<◌, ◌≤◌, List,
 use Rattle.std.proofs.lemmas.List.{drop_more}
 use Rattle.std.proofs.Math.ListN.{drop_of_length-le}
 use Rattle.luks_edit.specs.declared.edit.Step.{Step}
-use Rattle.luks_edit.specs.Ran.{AreRun, IsFailure, Ran, Reply, Replying}
-use Rattle.luks_volume.specs.Running.{IsUnderWay}
+use Rattle.luks_edit.specs.Kept.{Keeps}
+use Rattle.luks_edit.specs.Ran.{AreRun, HasNoFailure, IsFailure, IsNamedIn, Ran, Reply, Replying}
+use Rattle.luks_reading.specs.declared.report.Data.{Data}
+use Rattle.luks_reading.specs.Checked.{WellFormed}
+use Rattle.luks_volume.specs.Edits.{NamedSlots, Replies}
+use Rattle.luks_volume.specs.Running.{IsKeptByRun, IsUnderWay}
 
 module _ (R : Replying) where
   -- nothing was run yet
@@ -53,3 +57,16 @@ module _ (R : Replying) where
             (subst (λ (ts : List Reply). AreRun R v steps ts (x.volumes ++ []) u) (append-nil x.replies)
             (x.goes_on [] [] u (subst (λ (ss : List Step). AreRun R u ss [] [] u) (sym nothing) refl)));
       }
+
+-- what a list that was run keeps
+pub kept_by_run : ((payload : Data) (steps : List Step) (replies : List Reply) (volumes : List (List ℕ)) (v w : List ℕ) → WellFormed v payload
+    → AreRun (Replies payload) v steps replies volumes w → HasNoFailure replies → Keeps payload (IsNamedIn NamedSlots v steps replies volumes) v w)
+    → (payload : Data) (v : List ℕ) (steps : List Step) (before after : List Reply) (w : List ℕ) → WellFormed v payload
+    → Ran (Replies payload) v steps before after w → IsKeptByRun payload v steps before after w
+kept_by_run keeps payload v steps before after w well x = record {
+  replies = x.replies;
+  volumes = x.volumes;
+  appended = x.appended;
+  run = x.run;
+  keeps = λ fine. keeps payload steps x.replies x.volumes v w well x.run fine;
+}

@@ -1,8 +1,13 @@
 //! A LUKS volume of either version: the calls that a program makes, each of which stands in a crate beneath this one.
 #![tactic(auto)]
 
+mod applying;
+mod header;
 mod laws;
+mod needing;
+mod running;
 
+pub use applying::apply;
 pub use laws::{edits_keep_volume, list_runs_by_steps};
 pub use luks_edit::{Done, Edit, EditFault, RunFault, Step};
 pub use luks_formatting::{FORMAT1_RANDOM, FORMAT2_RANDOM, Format, FormatFault, format1, format2};
@@ -15,3 +20,5 @@ pub use luks_reading::{
     one_unlocking, open_header_slot, open_slot, read_header, select, text_field, unlock,
     unlock_header, well_formed_volume,
 };
+pub use needing::needed;
+pub use running::run;

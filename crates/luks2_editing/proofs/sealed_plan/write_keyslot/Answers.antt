@@ -19,10 +19,12 @@ write_sealed-requires-clause-iterations g c =
     let naming = rw c.unwrap-number.ensures at c.digest_of_keyslot.ensures.some in
     let digest = rw c.unwrap-digest.ensures at c.digest.ensures.some in
     let plan = c.luks2_plan-plan.result in
+    let is = c.luks2_plan-plan.ensures k n c.unwrap-number.result slot.object digest.object slot.tells_members naming digest.is digest.tells_members in
     let p : IsPlanOf k n plan = record {
       object = slot.object;
       there = record { numbered = refl; named = c.requires.sealable.slot.there.named; is = slot.is };
-      is = c.luks2_plan-plan.ensures k n c.unwrap-number.result slot.object digest.object slot.tells_members naming digest.is digest.tells_members;
+      is = is;
+      one = λ m names. (let this = c.digest_of_keyslot.ensures.only m names in let that = c.digest_of_keyslot.ensures.only is.digest.number is.digest.names in cc (this, that));
     } in
     (ready h total k n c.args.key.now c.args.random.now c.requires.sealable plan p).iterations
 
@@ -36,10 +38,12 @@ write_sealed-requires-clause-key_length g c =
     let naming = rw c.unwrap-number.ensures at c.digest_of_keyslot.ensures.some in
     let digest = rw c.unwrap-digest.ensures at c.digest.ensures.some in
     let plan = c.luks2_plan-plan.result in
+    let is = c.luks2_plan-plan.ensures k n c.unwrap-number.result slot.object digest.object slot.tells_members naming digest.is digest.tells_members in
     let p : IsPlanOf k n plan = record {
       object = slot.object;
       there = record { numbered = refl; named = c.requires.sealable.slot.there.named; is = slot.is };
-      is = c.luks2_plan-plan.ensures k n c.unwrap-number.result slot.object digest.object slot.tells_members naming digest.is digest.tells_members;
+      is = is;
+      one = λ m names. (let this = c.digest_of_keyslot.ensures.only m names in let that = c.digest_of_keyslot.ensures.only is.digest.number is.digest.names in cc (this, that));
     } in
     (ready h total k n c.args.key.now c.args.random.now c.requires.sealable plan p).key_length
 
@@ -53,10 +57,12 @@ write_sealed-requires-clause-some_stripes g c =
     let naming = rw c.unwrap-number.ensures at c.digest_of_keyslot.ensures.some in
     let digest = rw c.unwrap-digest.ensures at c.digest.ensures.some in
     let plan = c.luks2_plan-plan.result in
+    let is = c.luks2_plan-plan.ensures k n c.unwrap-number.result slot.object digest.object slot.tells_members naming digest.is digest.tells_members in
     let p : IsPlanOf k n plan = record {
       object = slot.object;
       there = record { numbered = refl; named = c.requires.sealable.slot.there.named; is = slot.is };
-      is = c.luks2_plan-plan.ensures k n c.unwrap-number.result slot.object digest.object slot.tells_members naming digest.is digest.tells_members;
+      is = is;
+      one = λ m names. (let this = c.digest_of_keyslot.ensures.only m names in let that = c.digest_of_keyslot.ensures.only is.digest.number is.digest.names in cc (this, that));
     } in
     (ready h total k n c.args.key.now c.args.random.now c.requires.sealable plan p).some_stripes
 
@@ -70,10 +76,12 @@ write_sealed-requires-clause-random g c =
     let naming = rw c.unwrap-number.ensures at c.digest_of_keyslot.ensures.some in
     let digest = rw c.unwrap-digest.ensures at c.digest.ensures.some in
     let plan = c.luks2_plan-plan.result in
+    let is = c.luks2_plan-plan.ensures k n c.unwrap-number.result slot.object digest.object slot.tells_members naming digest.is digest.tells_members in
     let p : IsPlanOf k n plan = record {
       object = slot.object;
       there = record { numbered = refl; named = c.requires.sealable.slot.there.named; is = slot.is };
-      is = c.luks2_plan-plan.ensures k n c.unwrap-number.result slot.object digest.object slot.tells_members naming digest.is digest.tells_members;
+      is = is;
+      one = λ m names. (let this = c.digest_of_keyslot.ensures.only m names in let that = c.digest_of_keyslot.ensures.only is.digest.number is.digest.names in cc (this, that));
     } in
     (ready h total k n c.args.key.now c.args.random.now c.requires.sealable plan p).random_length
 
@@ -87,10 +95,12 @@ write_sealed-requires-clause-sectors g c =
     let naming = rw c.unwrap-number.ensures at c.digest_of_keyslot.ensures.some in
     let digest = rw c.unwrap-digest.ensures at c.digest.ensures.some in
     let plan = c.luks2_plan-plan.result in
+    let is = c.luks2_plan-plan.ensures k n c.unwrap-number.result slot.object digest.object slot.tells_members naming digest.is digest.tells_members in
     let p : IsPlanOf k n plan = record {
       object = slot.object;
       there = record { numbered = refl; named = c.requires.sealable.slot.there.named; is = slot.is };
-      is = c.luks2_plan-plan.ensures k n c.unwrap-number.result slot.object digest.object slot.tells_members naming digest.is digest.tells_members;
+      is = is;
+      one = λ m names. (let this = c.digest_of_keyslot.ensures.only m names in let that = c.digest_of_keyslot.ensures.only is.digest.number is.digest.names in cc (this, that));
     } in
     (ready h total k n c.args.key.now c.args.random.now c.requires.sealable plan p).sectors
 
@@ -104,10 +114,12 @@ write_sealed-requires-clause-inside g c =
     let naming = rw c.unwrap-number.ensures at c.digest_of_keyslot.ensures.some in
     let digest = rw c.unwrap-digest.ensures at c.digest.ensures.some in
     let plan = c.luks2_plan-plan.result in
+    let is = c.luks2_plan-plan.ensures k n c.unwrap-number.result slot.object digest.object slot.tells_members naming digest.is digest.tells_members in
     let p : IsPlanOf k n plan = record {
       object = slot.object;
       there = record { numbered = refl; named = c.requires.sealable.slot.there.named; is = slot.is };
-      is = c.luks2_plan-plan.ensures k n c.unwrap-number.result slot.object digest.object slot.tells_members naming digest.is digest.tells_members;
+      is = is;
+      one = λ m names. (let this = c.digest_of_keyslot.ensures.only m names in let that = c.digest_of_keyslot.ensures.only is.digest.number is.digest.names in cc (this, that));
     } in
     (ready h total k n c.args.key.now c.args.random.now c.requires.sealable plan p).inside
 
@@ -121,10 +133,12 @@ write_sealed-requires-clause-behind g c =
     let naming = rw c.unwrap-number.ensures at c.digest_of_keyslot.ensures.some in
     let digest = rw c.unwrap-digest.ensures at c.digest.ensures.some in
     let plan = c.luks2_plan-plan.result in
+    let is = c.luks2_plan-plan.ensures k n c.unwrap-number.result slot.object digest.object slot.tells_members naming digest.is digest.tells_members in
     let p : IsPlanOf k n plan = record {
       object = slot.object;
       there = record { numbered = refl; named = c.requires.sealable.slot.there.named; is = slot.is };
-      is = c.luks2_plan-plan.ensures k n c.unwrap-number.result slot.object digest.object slot.tells_members naming digest.is digest.tells_members;
+      is = is;
+      one = λ m names. (let this = c.digest_of_keyslot.ensures.only m names in let that = c.digest_of_keyslot.ensures.only is.digest.number is.digest.names in cc (this, that));
     } in
     (ready h total k n c.args.key.now c.args.random.now c.requires.sealable plan p).behind
 
@@ -138,10 +152,12 @@ returns-clause-fault g c =
     let naming = rw c.unwrap-number.ensures at c.digest_of_keyslot.ensures.some in
     let digest = rw c.unwrap-digest.ensures at c.digest.ensures.some in
     let plan = c.luks2_plan-plan.result in
+    let is = c.luks2_plan-plan.ensures k n c.unwrap-number.result slot.object digest.object slot.tells_members naming digest.is digest.tells_members in
     let p : IsPlanOf k n plan = record {
       object = slot.object;
       there = record { numbered = refl; named = c.requires.sealable.slot.there.named; is = slot.is };
-      is = c.luks2_plan-plan.ensures k n c.unwrap-number.result slot.object digest.object slot.tells_members naming digest.is digest.tells_members;
+      is = is;
+      one = λ m names. (let this = c.digest_of_keyslot.ensures.only m names in let that = c.digest_of_keyslot.ensures.only is.digest.number is.digest.names in cc (this, that));
     } in
     IfErr-weaker c.write_sealed.result _ _ (plan_unsealed h total k n c.args.key.now c.args.random.now c.requires.sealable plan p) c.write_sealed.ensures.fault
 
@@ -155,10 +171,12 @@ returns-clause-torn g c = λ tells payload e j renews seals.
     let naming = rw c.unwrap-number.ensures at c.digest_of_keyslot.ensures.some in
     let digest = rw c.unwrap-digest.ensures at c.digest.ensures.some in
     let plan = c.luks2_plan-plan.result in
+    let is = c.luks2_plan-plan.ensures k n c.unwrap-number.result slot.object digest.object slot.tells_members naming digest.is digest.tells_members in
     let p : IsPlanOf k n plan = record {
       object = slot.object;
       there = record { numbered = refl; named = c.requires.sealable.slot.there.named; is = slot.is };
-      is = c.luks2_plan-plan.ensures k n c.unwrap-number.result slot.object digest.object slot.tells_members naming digest.is digest.tells_members;
+      is = is;
+      one = λ m names. (let this = c.digest_of_keyslot.ensures.only m names in let that = c.digest_of_keyslot.ensures.only is.digest.number is.digest.names in cc (this, that));
     } in
     let v = g.D.Device.bytes c.args.device.now in
     let w = g.D.Device.bytes c.write_sealed.new.device in
@@ -177,10 +195,12 @@ returns-clause-written g c = λ tells e renews.
     let naming = rw c.unwrap-number.ensures at c.digest_of_keyslot.ensures.some in
     let digest = rw c.unwrap-digest.ensures at c.digest.ensures.some in
     let plan = c.luks2_plan-plan.result in
+    let is = c.luks2_plan-plan.ensures k n c.unwrap-number.result slot.object digest.object slot.tells_members naming digest.is digest.tells_members in
     let p : IsPlanOf k n plan = record {
       object = slot.object;
       there = record { numbered = refl; named = c.requires.sealable.slot.there.named; is = slot.is };
-      is = c.luks2_plan-plan.ensures k n c.unwrap-number.result slot.object digest.object slot.tells_members naming digest.is digest.tells_members;
+      is = is;
+      one = λ m names. (let this = c.digest_of_keyslot.ensures.only m names in let that = c.digest_of_keyslot.ensures.only is.digest.number is.digest.names in cc (this, that));
     } in
     let v = g.D.Device.bytes c.args.device.now in
     let w = g.D.Device.bytes c.write_sealed.new.device in

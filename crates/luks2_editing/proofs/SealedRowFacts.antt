@@ -1,0 +1,145 @@
+-- An edit of a LUKS2 volume that seals a keyslot: its last refusals, before the first write.
+use Rattle.std.proofs.Common.{◌≡◌, ℕ, ◌+◌, ◌-◌, ◌^◌, ◌<◌, ◌≤◌, List, length, refl, sym, ap, ◌∙◌, subst, arith}
+use Rattle.base64.specs.GeneralPurpose.{IsBytes}
+use Rattle.serde_json.specs.Data.{Data as Value}
+use Rattle.serde_json.specs.Written.{compact_text}
+use Rattle.luks_head.specs.Header2.{header_at, hdr_size, seqid}
+use Rattle.luks_making.specs.Conditions.{HasPbkdf2}
+use Rattle.luks_making.specs.Naming.{IsDigestOf}
+use Rattle.luks_meta.specs.Accepted.{IsMeta}
+use Rattle.luks_meta.specs.Content.{area_len, content}
+use Rattle.luks_reading.specs.declared.header.ChosenCopy.{ChosenCopy}
+use Rattle.luks_reading.specs.declared.report.Data.{Data}
+use Rattle.luks_reading.specs.Header.{json_at}
+use Rattle.luks_edit.specs.declared.edit.Edit.{Edit}
+use Rattle.luks_edit.specs.declared.edit_fault.EditFault.{EditFault}
+use Rattle.luks_edit.specs.declared.edit_fault.EditFault.TheVariants as fault
+use Rattle.luks2_edits.specs.Edited.{members_of, IsEdited}
+use Rattle.luks2_edits.specs.Refused.{HasSaid, IsFull, IsMiscounted, IsUnrefused2, Need2, NeedsLike}
+use Rattle.luks2_judging.specs.Salts.{HasOneDigest}
+use Rattle.luks2_judging.proofs.StripeFacts.{need_once}
+use Rattle.luks2_editing.specs.declared.sealed_metadata.Sealing.{Sealing}
+use Rattle.luks2_editing.specs.MadeMetadata.{like_of, IsMadeBy, IsSealingEdit}
+use Rattle.luks2_editing.specs.Prepared.{IsPrepared, IsUnprepared}
+use Rattle.luks2_editing.specs.Replies.{EndsBy2}
+use Rattle.luks2_editing.proofs.MadeMetadataFacts.{asked_need, made_edited}
+use Rattle.luks2_editing.proofs.OpenedFacts.{opened_kdf, opened_plan, HasOpenPlan}
+use Rattle.luks2_editing.proofs.RenewalFacts.{len_here, metadata_here, said, said_here, VolumeLaws}
+use Rattle.luks2_editing.proofs.RowFacts.{first_of_row, passed_before, passed_then, unrefused, Passed}
+
+-- the laws of the crates below on which these facts rest
+pub record SealingLaws : Type 0 where
+  pub volume : VolumeLaws
+  pub digest : (area : List ℕ) (j : Value) → IsMeta area j → (n m k : ℕ) → IsDigestOf j n m → IsDigestOf j n k → m ≡ k
+  pub salts : (h total : ℕ) (payload : Data) (e : Edit) (a b : List ℕ) (j x y : Value)
+      → IsBytes a → IsBytes b → length a ≡ length b → HasOneDigest j
+      → IsEdited h total payload e a j x → IsEdited h total payload e b j y → length (compact_text x) ≡ length (compact_text y)
+
+module _ (laws : SealingLaws) (v : List ℕ) (payload : Data) (e : Edit) (random : List ℕ) (copy : ChosenCopy) (sealing : Sealing)
+    (x : IsSealingEdit v payload e random copy sealing) where
+  -- the metadata with a salt is what the edit makes with it
+  pub edited_by : (salt : List ℕ) (new : Value) → IsMadeBy sealing.keyslot (members_of sealing.iterations salt sealing.area) (content copy.meta) new
+      → IsEdited (hdr_size (header_at v copy.header.hdr_offset)) (length v) payload e salt (content copy.meta) new
+  edited_by salt new made =
+      made_edited (hdr_size (header_at v copy.header.hdr_offset)) (length v) payload e (content copy.meta) new sealing.keyslot sealing.iterations salt sealing.area x.asked x.place made
+
+  passed : Passed 12 v payload e random
+  passed = passed_before v payload e random x.before.each
+
+  module _ (salt : List ℕ) (bytes : IsBytes salt) (long : length salt ≡ 32) (new : Value)
+      (made : IsMadeBy sealing.keyslot (members_of sealing.iterations salt sealing.area) (content copy.meta) new)
+      (n : ℕ) (needs : NeedsLike (content copy.meta) (like_of sealing.keyslot) n) where
+    edited : IsEdited (hdr_size (header_at v copy.header.hdr_offset)) (length v) payload e salt (content copy.meta) new
+    edited = edited_by salt new made
+
+    need : Need2 (content copy.meta) e n
+    need = asked_need e (content copy.meta) sealing.keyslot sealing.iterations n x.asked needs
+
+    len_is : area_len copy.meta ≡ hdr_size (header_at v copy.header.hdr_offset) - 4096
+    len_is = len_here laws.volume v payload copy x.chosen x.well
+
+    numbered_of : copy.header.seqid + 1 < 2 ^ 64 → HasSaid v (λ o j. seqid (header_at v o) + 1 ≡ 2 ^ 64) → ⊥
+    numbered_of low bad =
+        let is : seqid (header_at v copy.header.hdr_offset) ≡ copy.header.seqid = x.chosen.header.seqid in
+        let high : seqid (header_at v copy.header.hdr_offset) + 1 ≡ 2 ^ 64 =
+        said_here laws.volume v payload copy x.chosen x.well (λ o j. seqid (header_at v o) + 1 ≡ 2 ^ 64) bad in
+        omega (arith, is, high, low)
+
+    -- with another salt the text is as long
+    roomy_of : length (compact_text new) < area_len copy.meta → HasSaid v (λ o j. IsFull (hdr_size (header_at v o)) (length v) payload j e) → ⊥
+    roomy_of low bad =
+        let full : IsFull (hdr_size (header_at v copy.header.hdr_offset)) (length v) payload (content copy.meta) e =
+        said_here laws.volume v payload copy x.chosen x.well (λ o j. IsFull (hdr_size (header_at v o)) (length v) payload j e) bad in
+        let same : length (compact_text full.new) ≡ length (compact_text new) =
+        laws.salts (hdr_size (header_at v copy.header.hdr_offset)) (length v) payload e full.salt salt (content copy.meta) full.new new
+        full.salt_bytes bytes (full.salt_length ∙ sym long) (record { one = laws.digest (json_at v copy.header.hdr_offset) (content copy.meta) x.chosen.metadata })
+        full.edited edited in
+        let high : hdr_size (header_at v copy.header.hdr_offset) - 4096 ≤ length (compact_text full.new) = full.full in
+        let len : area_len copy.meta ≡ hdr_size (header_at v copy.header.hdr_offset) - 4096 = len_is in
+        omega (arith, low, high, len, same)
+
+    counted_of : length random ≡ n → HasSaid v (λ o j. IsMiscounted j e random) → ⊥
+    counted_of count bad =
+        let other : IsMiscounted (content copy.meta) e random = said_here laws.volume v payload copy x.chosen x.well (λ o j. IsMiscounted j e random) bad in
+        other.other (count ∙ need_once (content copy.meta) e n other.need need other.is)
+
+    rest_passed : (k : ℕ) (low : 12 < k → copy.header.seqid + 1 < 2 ^ 64) (room : 13 < k → length (compact_text new) < area_len copy.meta) (count : 14 < k → length random ≡ n)
+        → Passed k v payload e random
+    rest_passed k low room count = passed_then k v payload e random passed (λ lt. numbered_of (low lt)) (λ lt. roomy_of (room lt)) (λ lt. counted_of (count lt))
+
+    -- nothing refuses it where all was prepared
+    pub sealing_unrefused : IsPrepared copy.header.seqid (area_len copy.meta) new random n → IsUnrefused2 v payload e random
+    sealing_unrefused p = unrefused v payload e random (rest_passed 17 (λ _. p.numbered) (λ _. p.room) (λ _. p.counted))
+
+    -- how it ends where it wasn't
+    pub unprepared_ends : (f : EditFault) → IsUnprepared copy.header.seqid (area_len copy.meta) new random n f → EndsBy2 payload v e random f v
+    unprepared_ends fault.SeqExhausted bad = (
+      first_of_row v payload e random fault.SeqExhausted refl (rest_passed 12 (λ lt. absurd (omega (arith, lt))) (λ lt. absurd (omega (arith, lt))) (λ lt. absurd (omega (arith, lt))))
+          (said laws.volume v payload copy x.chosen x.well (λ o j. seqid (header_at v o) + 1 ≡ 2 ^ 64) (ap (λ n. n + 1) x.chosen.header.seqid ∙ bad)),
+      refl,
+    )
+    unprepared_ends fault.MetadataFull bad = (
+      first_of_row v payload e random fault.MetadataFull refl (rest_passed 13 (λ lt. bad.numbered) (λ lt. absurd (omega (arith, lt))) (λ lt. absurd (omega (arith, lt))))
+          (said laws.volume v payload copy x.chosen x.well (λ o j. IsFull (hdr_size (header_at v o)) (length v) payload j e) (record {
+            salt = salt;
+            salt_bytes = bytes;
+            salt_length = long;
+            new = new;
+            edited = edited;
+            full = subst (λ n. n ≤ length (compact_text new)) len_is bad.full;
+          })),
+      refl,
+    )
+    unprepared_ends fault.RandomLength bad = (
+      first_of_row v payload e random fault.RandomLength refl (rest_passed 14 (λ lt. bad.numbered) (λ lt. bad.room) (λ lt. absurd (omega (arith, lt))))
+          (said laws.volume v payload copy x.chosen x.well (λ o j. IsMiscounted j e random) (record { need = n; is = need; other = bad.other })),
+      refl,
+    )
+    unprepared_ends fault.Memory bad = refl
+    unprepared_ends fault.Device bad = absurd bad
+    unprepared_ends (fault.NotAccepted f) bad = absurd bad
+    unprepared_ends fault.Requirements bad = absurd bad
+    unprepared_ends fault.NoSuchSlot bad = absurd bad
+    unprepared_ends fault.Locked bad = absurd bad
+    unprepared_ends (fault.Slot f) bad = absurd bad
+    unprepared_ends fault.SlotTaken bad = absurd bad
+    unprepared_ends fault.NoFreeSlot bad = absurd bad
+    unprepared_ends fault.NoRoom bad = absurd bad
+    unprepared_ends fault.LastSlot bad = absurd bad
+    unprepared_ends fault.Iterations bad = absurd bad
+    unprepared_ends fault.BadLabel bad = absurd bad
+
+-- ---- the keyslot like which it is sealed
+
+module _ (laws : VolumeLaws) (v : List ℕ) (payload : Data) (e : Edit) (random : List ℕ) (copy : ChosenCopy) (sealing : Sealing)
+    (x : IsSealingEdit v payload e random copy sealing) where
+  -- it was opened, so its key is derived by PBKDF2
+  pub opened_pbkdf2 : like_of sealing.keyslot < 32 → HasPbkdf2 (content copy.meta) (like_of sealing.keyslot)
+  opened_pbkdf2 small =
+      let plan : HasOpenPlan (content copy.meta) (like_of sealing.keyslot) =
+      opened_plan laws v copy.header.hdr_offset (content copy.meta) (like_of sealing.keyslot) x.passphrase x.key (metadata_here laws v payload copy x.chosen x.well) x.opened in
+      record {
+        object = plan.object;
+        there = record { numbered = refl; named = small; is = plan.there };
+        derived = opened_kdf (content copy.meta) (like_of sealing.keyslot) plan;
+      }

@@ -1,0 +1,189 @@
+use Rattle.std.proofs.Common.{◌≡◌, ℕ, ◌+◌, length, refl, sym, ◌∙◌, subst}
+use Rattle.std.proofs.lemmas.Bool.{false≢true}
+use Rattle.std.proofs.lemmas.Result.{err_from_is_err_and}
+use Rattle.luks_area.specs.Area.{IsInside}
+use Rattle.luks_area.specs.declared.area.Area.{Area}
+use Rattle.luks_edit.specs.declared.edit.Edit.TheVariants.{Change}
+use Rattle.luks_meta.specs.Content.{area_len, content}
+use Rattle.luks2_edits.specs.Metadata.{IsKeyArea}
+use Rattle.luks2_editing.specs.Lost.{HasKeyArea}
+use Rattle.luks2_editing.specs.MadeMetadata.{IsSealingEdit}
+use Rattle.luks2_editing.specs.declared.sealed_metadata.SealedSlot.TheVariants.{Renewed}
+use Rattle.luks2_editing.specs.declared.sealed_metadata.Sealing.{Sealing}
+use Rattle.luks2_editing.specs.Rewriting.{IsRenewing}
+use Rattle.luks2_editing.proofs.ChangeFacts.{change_sealing, changed_after, renewed_sealable, torn_lost, unsealed_ends}
+use Rattle.luks2_editing.proofs.LostFacts.{lost_inside}
+use Rattle.luks2_editing.proofs.RenewalFacts.{renewing, VolumeLaws}
+use Rattle.luks2_editing.proofs.changing.change.Goals as goal
+
+pub returns-in_err-lost-clause-replies : goal.returns-in_err-lost-clause-replies
+returns-in_err-lost-clause-replies g c = λ tells payload x well before opened place.
+    let v = g.D.Device.bytes c.args.device.now in
+    let copy = c.args.copy.now in
+    let random = c.args.random.now in
+    let slot = c.args.slot in
+    let old = c.args.old in
+    let new = c.args.new in
+    let turns = c.args.iterations in
+    let key = c.args.key.now in
+    let area = c.args.area in
+    let laws : VolumeLaws = record { only = c.one_choice.ensures.only; sound = c.chosen_copy_is_sound.ensures; value = c.one_value.ensures; fits = c.well_formed_volume.ensures } in
+    let size : length v ≡ g.D.Device.size c.args.device.now = g.met.D.Device.sized c.args.device.now tells in
+    let total : length v ≡ c.len.result = size ∙ sym c.len.ensures in
+    let there : HasKeyArea (content copy.meta) slot c.len.result = record {
+      used = c.requires.there;
+      inside = subst (λ (n : ℕ). (a : Area) → IsKeyArea (content copy.meta) slot a → IsInside a n) total (lost_inside laws v payload copy x well slot);
+    } in
+    absurd (false≢true (c.in_err-lost.ensures.found there))
+
+pub returns-in_err-made-clause-replies : goal.returns-in_err-made-clause-replies
+returns-in_err-made-clause-replies g c = λ tells payload x well before opened place.
+    let v = g.D.Device.bytes c.args.device.now in
+    let copy = c.args.copy.now in
+    let random = c.args.random.now in
+    let slot = c.args.slot in
+    let old = c.args.old in
+    let new = c.args.new in
+    let turns = c.args.iterations in
+    let key = c.args.key.now in
+    let area = c.args.area in
+    let laws : VolumeLaws = record { only = c.one_choice.ensures.only; sound = c.chosen_copy_is_sound.ensures; value = c.one_value.ensures; fits = c.well_formed_volume.ensures } in
+    let size : length v ≡ g.D.Device.size c.args.device.now = g.met.D.Device.sized c.args.device.now tells in
+    let total : length v ≡ c.len-2.result = size ∙ sym c.len-2.ensures in
+    let sealing : Sealing = record { keyslot = Renewed slot; iterations = turns; area = area } in
+    let edit : IsSealingEdit v payload (Change slot old new turns) random copy sealing = record {
+      chosen = x;
+      well = well;
+      before = before;
+      asked = (refl, refl);
+      place = place;
+      passphrase = old.now;
+      key = key;
+      opened = opened;
+    } in
+    let p = err_from_is_err_and c.from_residual-in_err-made.result c.from_residual-in_err-made.ensures.1 in
+    rw (p.1, p.2) (c.in_err-made.ensures.refused v payload (Change slot old new turns) edit total)
+
+pub write_keyslot-requires-clause-sealable : goal.write_keyslot-requires-clause-sealable
+write_keyslot-requires-clause-sealable g c =
+    let copy = c.args.copy.now in
+    let made = c.in_ok-made.ensures in
+    renewed_sealable (content copy.meta) (content c.in_ok-made.made.meta) c.args.slot c.args.iterations _ c.args.area made.made
+    copy.header.hdr_size (area_len copy.meta) (g.D.Device.size c.args.device.now) c.args.key.now c.args.random.now
+    (subst (λ (n : ℕ). 4096 + n ≡ copy.header.hdr_size) made.length made.within.size) c.requires.placed c.requires.key_length made.counted
+
+pub returns-in_err-write_keyslot-clause-replies : goal.returns-in_err-write_keyslot-clause-replies
+returns-in_err-write_keyslot-clause-replies g c = λ tells payload x well before opened place.
+    let v = g.D.Device.bytes c.args.device.now in
+    let copy = c.args.copy.now in
+    let random = c.args.random.now in
+    let slot = c.args.slot in
+    let old = c.args.old in
+    let new = c.args.new in
+    let turns = c.args.iterations in
+    let key = c.args.key.now in
+    let area = c.args.area in
+    let laws : VolumeLaws = record { only = c.one_choice.ensures.only; sound = c.chosen_copy_is_sound.ensures; value = c.one_value.ensures; fits = c.well_formed_volume.ensures } in
+    let size : length v ≡ g.D.Device.size c.args.device.now = g.met.D.Device.sized c.args.device.now tells in
+    let total : length v ≡ c.len-2.result = size ∙ sym c.len-2.ensures in
+    let sealing : Sealing = record { keyslot = Renewed slot; iterations = turns; area = area } in
+    let edit : IsSealingEdit v payload (Change slot old new turns) random copy sealing = record {
+      chosen = x;
+      well = well;
+      before = before;
+      asked = (refl, refl);
+      place = place;
+      passphrase = old.now;
+      key = key;
+      opened = opened;
+    } in
+    let made = c.in_ok-made.ensures in
+    let k = content c.in_ok-made.made.meta in
+    let free = made.unrefused v payload (Change slot old new turns) edit total in
+    let edited = made.edited v payload (Change slot old new turns) edit total in
+    let renews = subst (λ (n : ℕ). IsRenewing v (Change slot old new turns) copy.header copy.header.label n) (sym made.length)
+    (renewing laws v payload copy x well (Change slot old new turns) copy.header.label (sym x.header.label)) in
+    let p = err_from_is_err_and c.from_residual-in_err-write_keyslot.result c.from_residual-in_err-write_keyslot.ensures.1 in
+    rw (p.1, p.2)
+    (unsealed_ends laws v payload copy x well slot old new turns key random area k opened place made.made free edited
+    (g.D.Device.bytes c.write_keyslot.new.device) c.in_err-write_keyslot.field-0.0 c.in_err-write_keyslot.ensures.fault
+    (c.write_keyslot.ensures.torn tells payload (Change slot old new turns) (content copy.meta) renews
+    (change_sealing laws v payload copy x well slot old new turns key random area k opened place made.made)))
+
+pub returns-in-Ok-clause-replies : goal.returns-in-Ok-clause-replies
+returns-in-Ok-clause-replies g c = λ tells payload x well before opened place.
+    let v = g.D.Device.bytes c.args.device.now in
+    let copy = c.args.copy.now in
+    let random = c.args.random.now in
+    let slot = c.args.slot in
+    let old = c.args.old in
+    let new = c.args.new in
+    let turns = c.args.iterations in
+    let key = c.args.key.now in
+    let area = c.args.area in
+    let laws : VolumeLaws = record { only = c.one_choice.ensures.only; sound = c.chosen_copy_is_sound.ensures; value = c.one_value.ensures; fits = c.well_formed_volume.ensures } in
+    let size : length v ≡ g.D.Device.size c.args.device.now = g.met.D.Device.sized c.args.device.now tells in
+    let total : length v ≡ c.len-2.result = size ∙ sym c.len-2.ensures in
+    let sealing : Sealing = record { keyslot = Renewed slot; iterations = turns; area = area } in
+    let edit : IsSealingEdit v payload (Change slot old new turns) random copy sealing = record {
+      chosen = x;
+      well = well;
+      before = before;
+      asked = (refl, refl);
+      place = place;
+      passphrase = old.now;
+      key = key;
+      opened = opened;
+    } in
+    let made = c.in_ok-made.ensures in
+    let k = content c.in_ok-made.made.meta in
+    let free = made.unrefused v payload (Change slot old new turns) edit total in
+    let edited = made.edited v payload (Change slot old new turns) edit total in
+    let renews = subst (λ (n : ℕ). IsRenewing v (Change slot old new turns) copy.header copy.header.label n) (sym made.length)
+    (renewing laws v payload copy x well (Change slot old new turns) copy.header.label (sym x.header.label)) in
+    let w = g.D.Device.bytes c.write_keyslot.new.device in
+    let y = g.D.Device.bytes c.wipe_area.new.device in
+    let written = c.in_ok-write_keyslot.ensures.written tells (Change slot old new turns) renews in
+    record {
+      unrefused = free;
+      after = changed_after laws v payload copy x well slot old new turns key random area k opened place made.made free edited
+          c.soundness_is_local.ensures.range c.in_ok-lost.lost c.in_ok-lost.ensures.area w y written (c.wipe_area.ensures.rest tells) (c.in-Ok.ensures.wiped tells);
+      told = refl;
+    }
+
+pub returns-clause-replies : goal.returns-clause-replies
+returns-clause-replies g c = λ tells payload x well before opened place.
+    let v = g.D.Device.bytes c.args.device.now in
+    let copy = c.args.copy.now in
+    let random = c.args.random.now in
+    let slot = c.args.slot in
+    let old = c.args.old in
+    let new = c.args.new in
+    let turns = c.args.iterations in
+    let key = c.args.key.now in
+    let area = c.args.area in
+    let laws : VolumeLaws = record { only = c.one_choice.ensures.only; sound = c.chosen_copy_is_sound.ensures; value = c.one_value.ensures; fits = c.well_formed_volume.ensures } in
+    let size : length v ≡ g.D.Device.size c.args.device.now = g.met.D.Device.sized c.args.device.now tells in
+    let total : length v ≡ c.len-2.result = size ∙ sym c.len-2.ensures in
+    let sealing : Sealing = record { keyslot = Renewed slot; iterations = turns; area = area } in
+    let edit : IsSealingEdit v payload (Change slot old new turns) random copy sealing = record {
+      chosen = x;
+      well = well;
+      before = before;
+      asked = (refl, refl);
+      place = place;
+      passphrase = old.now;
+      key = key;
+      opened = opened;
+    } in
+    let made = c.in_ok-made.ensures in
+    let k = content c.in_ok-made.made.meta in
+    let free = made.unrefused v payload (Change slot old new turns) edit total in
+    let edited = made.edited v payload (Change slot old new turns) edit total in
+    let renews = subst (λ (n : ℕ). IsRenewing v (Change slot old new turns) copy.header copy.header.label n) (sym made.length)
+    (renewing laws v payload copy x well (Change slot old new turns) copy.header.label (sym x.header.label)) in
+    let w = g.D.Device.bytes c.write_keyslot.new.device in
+    let y = g.D.Device.bytes c.wipe_area.new.device in
+    let written = c.in_ok-write_keyslot.ensures.written tells (Change slot old new turns) renews in
+    torn_lost laws v payload copy x well slot old new turns key random area k opened place made.made free edited
+    c.soundness_is_local.ensures.range c.in_ok-lost.lost c.in_ok-lost.ensures.area w y written (c.wipe_area.ensures.rest tells)

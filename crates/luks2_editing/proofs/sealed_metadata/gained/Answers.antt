@@ -1,0 +1,20 @@
+use Rattle.luks_making.specs.Keyslots.{new_members}
+use Rattle.luks_meta.specs.Content.{area_len, content}
+use Rattle.luks2_editing.proofs.sealed_metadata.gained.Goals as goal
+
+pub returns-in-Ok-clause-made : goal.returns-in-Ok-clause-made
+returns-in-Ok-clause-made c =
+    let len = area_len c.args.meta.now in
+    let f = new_members c.args.new.now in
+    let j = content c.args.meta.now in
+    let k = content c.in-Ok.made in
+    let held = c.args.meta.now.held in
+    let unique = c.with_slot.ensures.unique in
+    let added = c.in-Ok.ensures.value in
+    let laws = c.made_keyslot_has_room.ensures in
+    let room = laws.room len c.args.slot c.args.like f j k held unique c.requires.number c.requires.suits c.new_fits.ensures added in
+    record {
+      added = added;
+      gains = laws.rest len c.args.slot c.args.like f j k held unique c.requires.number c.requires.suits c.new_fits.ensures added;
+      says = c.addition_keeps_the_rest.ensures.says added.slot room.fits;
+    }

@@ -1,0 +1,76 @@
+-- The new metadata of an edit of a LUKS2 volume that seals a keyslot: words of private contracts.
+use Rattle.std.specs.Prelude.{◌≡◌, ℕ, List, length, ⊤}
+use Rattle.serde_json.specs.Data.{Data as Value}
+use Rattle.luks_head.specs.Header2.{hdr_size, header_at}
+use Rattle.luks_making.specs.Changed.{changed_slot}
+use Rattle.luks_making.specs.Conditions.{IsFree}
+use Rattle.luks_making.specs.Keyslots.{slot_value, NewMembers}
+use Rattle.luks_making.specs.Unchanged.{ChangesSlot, GainsSlot, SaysMembers}
+use Rattle.luks_making.specs.With.{IsAdded}
+use Rattle.luks_meta.specs.Content.{content}
+use Rattle.luks_reading.specs.declared.header.ChosenCopy.{ChosenCopy}
+use Rattle.luks_reading.specs.declared.report.Data.{Data}
+use Rattle.luks_reading.specs.Answer.{Answer, opens}
+use Rattle.luks_reading.specs.Checked.{WellFormed}
+use Rattle.luks_reading.specs.Header.{IsChosenCopy}
+use Rattle.luks_edit.specs.declared.edit.Edit.{Edit}
+use Rattle.luks_edit.specs.declared.edit.Edit.TheVariants.{Add, Change}
+use Rattle.luks2_edits.specs.Metadata.{IsNewKeyslot}
+use Rattle.luks2_edits.specs.Places.{IsNewArea}
+use Rattle.luks2_judging.specs.Rows.{HasNoFaultBefore}
+use Rattle.luks2_editing.specs.declared.sealed_metadata.SealedSlot.{SealedSlot}
+use Rattle.luks2_editing.specs.declared.sealed_metadata.SealedSlot.TheVariants.{Made, Renewed}
+use Rattle.luks2_editing.specs.declared.sealed_metadata.Sealing.{Sealing}
+
+-- ---- the keyslot that is sealed
+
+-- the keyslot whose members it has
+abbrev pub like_of : SealedSlot → ℕ
+like_of (Made slot like) = like
+like_of (Renewed slot) = slot
+
+-- the number of a new one is free
+abbrev pub HasNumber : Value → SealedSlot → Type 0
+HasNumber j (Made slot like) = IsFree j slot
+HasNumber j (Renewed slot) = ⊤
+
+-- the edit of the metadata `j` seals it, by so many iterations
+abbrev pub AsksFor : Edit → Value → SealedSlot → ℕ → Type 0
+AsksFor (Add by_ old new to iterations) j (Made slot like) n =
+    (like ≡ by_) × (n ≡ iterations) × IsNewKeyslot j to slot
+AsksFor (Change named old new iterations) j (Renewed slot) n = (slot ≡ named) × (n ≡ iterations)
+AsksFor e j keyslot n = ⊥
+
+-- ---- the metadata `k`, made of the metadata `j`
+
+-- it has a new keyslot `slot` with the members of the keyslot `like`, and all else as it was
+pub record IsGained (slot like : ℕ) (f : NewMembers) (j k : Value) : Type 0 where
+  pub added : IsAdded slot like f j k
+  pub gains : GainsSlot slot added.digest added.slot j k
+  pub says : SaysMembers added.slot (slot_value added.slot)
+
+-- it has what is new in the keyslot `slot`, and all else as it was
+pub record IsRenewed (slot : ℕ) (f : NewMembers) (j k : Value) : Type 0 where
+  pub is : k ≡ changed_slot slot f j
+  pub changes : ChangesSlot slot f j k
+
+abbrev pub IsMadeBy : SealedSlot → NewMembers → Value → Value → Type 0
+IsMadeBy (Made slot like) f j k = IsGained slot like f j k
+IsMadeBy (Renewed slot) f j k = IsRenewed slot f j k
+
+-- ---- the edit
+
+-- the rows of the edit `e` of the volume `v` were judged up to that of the label, its keyslot was
+-- opened, and it seals a keyslot in the area that is found for it
+pub record IsSealingEdit
+    (v : List ℕ) (payload : Data) (e : Edit) (random : List ℕ) (copy : ChosenCopy) (sealing : Sealing)
+    : Type 0 where
+  pub chosen : IsChosenCopy v copy
+  pub well : WellFormed v payload
+  pub before : HasNoFaultBefore 12 v payload e random
+  pub asked : AsksFor e (content copy.meta) sealing.keyslot sealing.iterations
+  pub place : IsNewArea (hdr_size (header_at v copy.header.hdr_offset)) (length v) payload
+      (content copy.meta) (like_of sealing.keyslot) sealing.area
+  pub passphrase : List ℕ
+  pub key : List ℕ
+  pub opened : Answer v (like_of sealing.keyslot) passphrase (opens key)

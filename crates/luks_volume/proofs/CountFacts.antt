@@ -1,0 +1,97 @@
+-- Which steps of a list of edits have a reply, and how often the device failed in them.
+use Rattle.std.proofs.Common.{◌≡◌, ℕ, ◌+◌, ◌<◌, List, [], ◌∷◌, ◌++◌, length, Err, Ok, refl, sym, ap, ◌∙◌, subst, append_assoc, append-nil, length-append, inl, inr, arith}
+use Rattle.luks_edit.specs.declared.edit_fault.EditFault.TheVariants as fault
+use Rattle.luks_area.specs.Device.{CountsFailure}
+use Rattle.luks_edit.specs.EditFaults.{is_edit_failure}
+use Rattle.luks_edit.specs.Ran.{HasNoFailure, IsFailure, Reply}
+use Rattle.luks_volume.specs.Running.{CountsRun}
+
+-- the first `k` steps have their replies, and the device failed in none
+pub record AreRepliedSoFar (k : ℕ) (before now : List Reply) : Type 0 where
+  pub replies : List Reply
+  pub appended : now ≡ before ++ replies
+  pub each : length replies ≡ k
+  pub fine : HasNoFailure replies
+
+-- the device's failure is one reply
+the_failure : (r : Reply) → IsFailure r → r ≡ Err fault.Device
+the_failure (Ok done) x = absurd x
+the_failure (Err (fault.NotAccepted f)) x = absurd x
+the_failure (Err fault.Requirements) x = absurd x
+the_failure (Err fault.NoSuchSlot) x = absurd x
+the_failure (Err fault.Locked) x = absurd x
+the_failure (Err (fault.Slot s)) x = absurd x
+the_failure (Err fault.SlotTaken) x = absurd x
+the_failure (Err fault.NoFreeSlot) x = absurd x
+the_failure (Err fault.NoRoom) x = absurd x
+the_failure (Err fault.LastSlot) x = absurd x
+the_failure (Err fault.Iterations) x = absurd x
+the_failure (Err fault.BadLabel) x = absurd x
+the_failure (Err fault.SeqExhausted) x = absurd x
+the_failure (Err fault.MetadataFull) x = absurd x
+the_failure (Err fault.RandomLength) x = absurd x
+the_failure (Err fault.Memory) x = absurd x
+the_failure (Err fault.Device) x = refl
+
+-- no failure among them, and none behind them
+none_then : (rs : List Reply) (r : Reply) → HasNoFailure rs → (IsFailure r → ⊥) → HasNoFailure (rs ++ r ∷ [])
+none_then [] r fine last = (last, tt)
+none_then (q ∷ rs) r fine last = (fine.0, none_then rs r fine.1 last)
+
+pub replied_none : (before : List Reply) → AreRepliedSoFar 0 before before
+replied_none before = record { replies = []; appended = sym (append-nil before); each = refl; fine = tt }
+
+pub replied_more : (k : ℕ) (before now : List Reply) (r : Reply) → (IsFailure r → ⊥) → AreRepliedSoFar k before now → AreRepliedSoFar (k + 1) before (now ++ r ∷ [])
+replied_more k before now r fine x = record {
+  replies = x.replies ++ r ∷ [];
+  appended = ap (λ rs. rs ++ r ∷ []) x.appended ∙ append_assoc before x.replies (r ∷ []);
+  each = let long = length-append x.replies (r ∷ []) in let each = x.each in omega arith;
+  fine = none_then x.replies r x.fine fine;
+}
+
+pub counts_all : (count k : ℕ) (before now : List Reply) (failures : ℕ) → k ≡ count → AreRepliedSoFar k before now → CountsRun count before now failures failures
+counts_all count k before now failures over x = record {
+  replies = x.replies;
+  appended = x.appended;
+  counted = inl (record { each = x.each ∙ over; fine = x.fine }, refl);
+}
+
+pub counts_failure : (count k : ℕ) (before now : List Reply) (r : Reply) (failures : ℕ) → k < count → IsFailure r → AreRepliedSoFar k before now
+    → CountsRun count before (now ++ r ∷ []) failures (failures + 1)
+counts_failure count k before now r failures lt failed x = record {
+  replies = x.replies ++ r ∷ [];
+  appended = ap (λ rs. rs ++ r ∷ []) x.appended ∙ append_assoc before x.replies (r ∷ []);
+  counted = inr (
+    record {
+      others = x.replies;
+      last = ap (λ q. x.replies ++ q ∷ []) (the_failure r failed);
+      fine = x.fine;
+      within = let long = length-append x.replies (r ∷ []) in let each = x.each in omega arith;
+    },
+    refl,
+  );
+}
+
+-- ---- the count of failures after a reply
+
+pub failure_counted : (r : Reply) (old new : ℕ) → IsFailure r → CountsFailure is_edit_failure r old new → new ≡ old + 1
+failure_counted r old new failed x = subst (λ q. CountsFailure is_edit_failure q old new) (the_failure r failed) x
+
+pub no_failure_counted : (r : Reply) (old new : ℕ) → (IsFailure r → ⊥) → CountsFailure is_edit_failure r old new → new ≡ old
+no_failure_counted (Ok done) old new fine x = x
+no_failure_counted (Err (fault.NotAccepted f)) old new fine x = x
+no_failure_counted (Err fault.Requirements) old new fine x = x
+no_failure_counted (Err fault.NoSuchSlot) old new fine x = x
+no_failure_counted (Err fault.Locked) old new fine x = x
+no_failure_counted (Err (fault.Slot s)) old new fine x = x
+no_failure_counted (Err fault.SlotTaken) old new fine x = x
+no_failure_counted (Err fault.NoFreeSlot) old new fine x = x
+no_failure_counted (Err fault.NoRoom) old new fine x = x
+no_failure_counted (Err fault.LastSlot) old new fine x = x
+no_failure_counted (Err fault.Iterations) old new fine x = x
+no_failure_counted (Err fault.BadLabel) old new fine x = x
+no_failure_counted (Err fault.SeqExhausted) old new fine x = x
+no_failure_counted (Err fault.MetadataFull) old new fine x = x
+no_failure_counted (Err fault.RandomLength) old new fine x = x
+no_failure_counted (Err fault.Memory) old new fine x = x
+no_failure_counted (Err fault.Device) old new fine x = absurd (fine tt)

@@ -1,0 +1,68 @@
+-- A header that isn't read refuses the edit; what its version replies is the volume's reply.
+use Rattle.std.proofs.Common.{◌<◌, ◌^◌, length, arith}
+use Rattle.std.proofs.lemmas.Result.{err_from_is_err_and}
+use Rattle.luks2_edits.specs.Edited.{HasRanges}
+use Rattle.luks_volume.proofs.EditFacts.{edit_keeps}
+use Rattle.luks_volume.proofs.NeedFacts.{unread_without_memory}
+use Rattle.luks_volume.proofs.ReplyFacts.{replies_by1, replies_by2, unread_replies}
+use Rattle.luks_volume.proofs.VersionFacts.{needs_of, takes_none}
+use Rattle.luks_volume.proofs.applying.apply.Goals as goal
+
+pub returns-in_err-header-clause-replies : goal.returns-in_err-header-clause-replies
+returns-in_err-header-clause-replies g c = λ tells.
+    let v = g.D.Device.bytes c.args.device.now in
+    let p = err_from_is_err_and c.from_residual.result c.from_residual.ensures.1 in
+    let same = c.in_err-header.ensures.unchanged.same tells in
+    rw (p.1, p.2, same)
+    (unread_replies c.one_choice.ensures.some v c.args.data_ c.args.edit.now c.args.random.now c.in_err-header.field-0.0 (c.in_err-header.ensures.refused tells c.args.data_))
+
+pub returns-in_err-header-clause-memory : goal.returns-in_err-header-clause-memory
+returns-in_err-header-clause-memory g c = λ tells free.
+    let v = g.D.Device.bytes c.args.device.now in
+    let p = err_from_is_err_and c.from_residual.result c.from_residual.ensures.1 in
+    rw (p.1, p.2) (unread_without_memory c.one_choice.ensures.only v c.args.data_ c.args.edit.now free c.in_err-header.field-0.0 (c.in_err-header.ensures.refused tells c.args.data_))
+
+pub returns-in-Luks1-clause-replies : goal.returns-in-Luks1-clause-replies
+returns-in-Luks1-clause-replies g c = λ tells.
+    let v = g.D.Device.bytes c.args.device.now in
+    let w = g.D.Device.bytes c.apply_luks1.new.device in
+    let same = c.in_ok-header.ensures.unchanged.same tells in
+    let is = rw c.in-Luks1.is at (c.in_ok-header.ensures.read tells) in
+    let size : length v < 2 ^ 64 = omega (arith, g.met.D.Device.sized c.args.device.now tells, g.met.D.Device.bounded c.args.device.now) in
+    let ranges : HasRanges v c.args.edit.now c.args.random.now =
+    record { size = size; iterations = c.iterations_have_32_bits.ensures; random_bytes = λ k. (c.type_inv.random k).fits } in
+    replies_by1 c.one_choice.ensures.only v c.args.data_ c.args.edit.now c.args.random.now w is.0 ranges c.apply_luks1.result
+    (rw same at (c.apply_luks1.ensures.replies tells (rw same is)))
+
+pub returns-in-Luks1-clause-keeps : goal.returns-in-Luks1-clause-keeps
+returns-in-Luks1-clause-keeps g c = λ tells well fine.
+    edit_keeps c.luks1_edit_keeps_volume.ensures.keeps c.luks2_edit_keeps_volume.ensures.keeps c.args.data_
+    (g.D.Device.bytes c.args.device.now) (g.D.Device.bytes c.apply_luks1.new.device) c.args.edit.now c.args.random.now c.apply_luks1.result
+    well (returns-in-Luks1-clause-replies g c tells) fine
+
+pub returns-clause-replies : goal.returns-clause-replies
+returns-clause-replies g c = λ tells.
+    let v = g.D.Device.bytes c.args.device.now in
+    let w = g.D.Device.bytes c.apply_luks2.new.device in
+    let same = c.in_ok-header.ensures.unchanged.same tells in
+    let read = c.in_ok-header.ensures.read tells in
+    let copy = rw c.in-Luks2.is at read in
+    let size : length v < 2 ^ 64 = omega (arith, g.met.D.Device.sized c.args.device.now tells, g.met.D.Device.bounded c.args.device.now) in
+    let ranges : HasRanges v c.args.edit.now c.args.random.now =
+    record { size = size; iterations = c.iterations_have_32_bits.ensures; random_bytes = λ k. (c.type_inv.random k).fits } in
+    replies_by2 c.one_choice.ensures.only v c.args.data_ c.args.edit.now c.args.random.now w
+    c.in-Luks2.field-0.header.hdr_offset c.in-Luks2.field-0.copies copy.chosen
+    (needs_of c.luks2_without_faults.ensures.uuid v c.in-Luks2.field-0 copy) ranges c.apply_luks2.result
+    (rw same at (c.apply_luks2.ensures.replies tells (rw same read)))
+
+pub returns-clause-memory : goal.returns-clause-memory
+returns-clause-memory g c = λ tells free.
+    let v = g.D.Device.bytes c.args.device.now in
+    let copy = rw c.in-Luks2.is at (c.in_ok-header.ensures.read tells) in
+    absurd (takes_none c.one_choice.ensures.only v free (needs_of c.luks2_without_faults.ensures.uuid v c.in-Luks2.field-0 copy))
+
+pub returns-clause-keeps : goal.returns-clause-keeps
+returns-clause-keeps g c = λ tells well fine.
+    edit_keeps c.luks1_edit_keeps_volume.ensures.keeps c.luks2_edit_keeps_volume.ensures.keeps c.args.data_
+    (g.D.Device.bytes c.args.device.now) (g.D.Device.bytes c.apply_luks2.new.device) c.args.edit.now c.args.random.now c.apply_luks2.result
+    well (returns-clause-replies g c tells) fine

@@ -1,0 +1,8 @@
+use Rattle.luks_volume.proofs.UnreadFacts.{refused_as_edit}
+use Rattle.luks_volume.proofs.header.edited_header.Goals as goal
+
+pub returns-in-Err-clause-refused : goal.returns-in-Err-clause-refused
+returns-in-Err-clause-refused g c = λ tells payload.
+    let v = g.D.Device.bytes c.args.device.now in
+    rw c.unread.ensures
+    (refused_as_edit v payload c.in-Err.fault (c.unread_volume_is_refused.ensures v payload c.in-Err.fault (c.in-Err.ensures.refused tells)))

@@ -1,0 +1,66 @@
+-- The list is run step by step.
+use Rattle.std.proofs.Common.{length, arith, refl, ◌∙◌}
+use Rattle.luks_edit.specs.Ran.{IsFailure}
+use Rattle.luks_volume.specs.Edits.{Replies}
+use Rattle.luks_volume.proofs.CountFacts.{counts_failure, failure_counted, no_failure_counted, replied_more, replied_none}
+use Rattle.luks_volume.proofs.RunFacts.{kept_by_run, run_ends, run_more, run_starts, run_stops}
+use Rattle.luks_volume.proofs.running.run.Goals as goal
+
+pub loop-step-init : goal.loop-step-init
+loop-step-init g c = record {
+  size = refl;
+  count = refl;
+  room = omega (arith, c.in-Ok.ensures.ok);
+  replied = rw c.try_reserve.ensures.items (replied_none c.args.replies.now.items);
+  run = λ tells. rw c.try_reserve.ensures.items
+      (run_starts (Replies c.args.data_) (g.D.Device.bytes c.args.device.now) c.args.steps.now c.args.replies.now.items);
+}
+
+pub loop-step-preserved : goal.loop-step-preserved
+loop-step-preserved g c =
+    let r = c.apply-reply.result in
+    let fine : IsFailure r → ⊥ = λ failed. let no = c.if-is_failure.ensures.1 failed in cc in
+    let now = c.loop-step.invariant in
+    record {
+      size = c.apply-reply.ensures.size ∙ now.size;
+      count = no_failure_counted r (g.D.Device.failed c.loop-step.device) (g.D.Device.failed c.apply-reply.new.device) fine c.apply-reply.ensures.count ∙ now.count;
+      room = omega arith;
+      replied = rw c.push_reserved.ensures.items (replied_more c.loop-step.step-index c.args.replies.now.items c.loop-step.replies.items r fine now.replied);
+      run = λ tells. rw c.push_reserved.ensures.items
+          (run_more (Replies c.args.data_) (g.D.Device.bytes c.args.device.now) (g.D.Device.bytes c.loop-step.device) (g.D.Device.bytes c.apply-reply.new.device)
+          c.args.steps.now c.loop-step.step-index c.args.replies.now.items c.loop-step.replies.items _ r c.loop-step-test.true (c.apply-reply.ensures.replies tells) fine (now.run tells));
+    }
+
+pub returns-then-is_failure-clause-count : goal.returns-then-is_failure-clause-count
+returns-then-is_failure-clause-count g c =
+    let r = c.apply-reply.result in
+    let failed : IsFailure r = c.if-is_failure.ensures.0 refl in
+    let now = c.loop-step.invariant in
+    let counted = failure_counted r (g.D.Device.failed c.loop-step.device) (g.D.Device.failed c.apply-reply.new.device) failed c.apply-reply.ensures.count in
+    rw (c.push_reserved.ensures.items, counted, now.count)
+    (counts_failure (length c.args.steps.now) c.loop-step.step-index c.args.replies.now.items c.loop-step.replies.items r (g.D.Device.failed c.args.device.now)
+    c.loop-step-test.true failed now.replied)
+
+pub returns-then-is_failure-clause-ran : goal.returns-then-is_failure-clause-ran
+returns-then-is_failure-clause-ran g c = λ tells.
+    let r = c.apply-reply.result in
+    let failed : IsFailure r = c.if-is_failure.ensures.0 refl in
+    rw c.push_reserved.ensures.items
+    (run_stops (Replies c.args.data_) (g.D.Device.bytes c.args.device.now) (g.D.Device.bytes c.loop-step.device) (g.D.Device.bytes c.apply-reply.new.device)
+    c.args.steps.now c.loop-step.step-index c.args.replies.now.items c.loop-step.replies.items _ r c.loop-step-test.true (c.apply-reply.ensures.replies tells) failed
+    (c.loop-step.invariant.run tells))
+
+pub returns-then-is_failure-clause-keeps : goal.returns-then-is_failure-clause-keeps
+returns-then-is_failure-clause-keeps g c = λ tells well.
+    kept_by_run c.edits_keep_volume.ensures c.args.data_ (g.D.Device.bytes c.args.device.now) c.args.steps.now c.args.replies.now.items
+    c.push_reserved.new.self.items (g.D.Device.bytes c.apply-reply.new.device) well (returns-then-is_failure-clause-ran g c tells)
+
+pub returns-clause-ran : goal.returns-clause-ran
+returns-clause-ran g c = λ tells.
+    run_ends (Replies c.args.data_) (g.D.Device.bytes c.args.device.now) (g.D.Device.bytes c.loop-step.device) c.args.steps.now c.loop-step.step-index
+    c.args.replies.now.items c.loop-step.replies.items c.loop-step-test.false (c.loop-step.invariant.run tells)
+
+pub returns-clause-keeps : goal.returns-clause-keeps
+returns-clause-keeps g c = λ tells well.
+    kept_by_run c.edits_keep_volume.ensures c.args.data_ (g.D.Device.bytes c.args.device.now) c.args.steps.now c.args.replies.now.items
+    c.loop-step.replies.items (g.D.Device.bytes c.loop-step.device) well (returns-clause-ran g c tells)

@@ -1,0 +1,92 @@
+//! Applying an edit to a volume.
+ghost use Rattle.std.specs.Prelude.{◌≡◌, ◌≢◌, ◌+◌, ◌^◌, ◌<◌, IfErr};
+ghost use Rattle.luks_area.specs.Device.{CountsFailure};
+ghost use Rattle.luks_edit.specs.EditFaults.{is_edit_failure};
+ghost use Rattle.luks_edit.specs.Kept.{Keeps};
+ghost use Rattle.luks_edit.specs.Ran.{IsCompleted, IsFailure};
+ghost use Rattle.luks_reading.specs.Checked.{WellFormed};
+ghost use Rattle.luks_reading.specs.Header.{TakesNoMemory};
+ghost use Rattle.luks2_edits.specs.Edited.{HasRangedIterations};
+ghost use Rattle.luks_volume.specs.Edits.{NamedSlots, Replies};
+
+use crate::header::edited_header;
+use luks_edit::{Done, Edit, EditFault};
+use luks_head::{luks2_without_faults, one_choice};
+use luks_reading::{Data, Device, Header};
+use luks1_edits::{apply_luks1, luks1_edit_keeps_volume};
+use luks2_editing::apply_luks2;
+use luks2_edits::luks2_edit_keeps_volume;
+use std::alloc::Global;
+
+/// Applies the edit to the volume, with as many random bytes as `needed` tells.
+///
+/// The first refusal is answered: one of `NotAccepted` to `RandomLength`, in the order of the fault
+/// type. No refusal changes a byte, nor does `Memory`; memory is taken for a LUKS2 volume alone,
+/// before the first write. `Device` comes exactly where a device call failed; of LUKS1 it leaves
+/// each keyslot that the edit doesn't name as it was, and of LUKS2 it leaves one of the two copies
+/// of the header.
+pub fn apply<D: Device>(
+    alloc: Global,
+    device: &mut D,
+    data_: Data,
+    edit: &Edit<'_>,
+    random: &[u8],
+) -> Result<Done, EditFault>
+    requires { D.failed device.old + 1 < 2 ^ 64 }
+    ensures size { D.size device.new ≡ D.size device.old }
+    ensures count { CountsFailure is_edit_failure result
+        (D.failed device.old) (D.failed device.new) }
+    ensures replies { D.tells → Replies data_ (D.bytes device.old) edit.now random.now result
+        (D.bytes device.new) }
+    ensures memory { D.tells → TakesNoMemory (D.bytes device.old)
+        → IfErr result (λ f. f ≢ EditFault.Memory) }
+    // A volume that was well formed is so again, and nothing changed that the edit doesn't name.
+    ensures keeps { D.tells → WellFormed (D.bytes device.old) data_ → (IsFailure result → ⊥)
+        → Keeps data_ (λ n. IsCompleted result × NamedSlots (D.bytes device.old) edit.now n)
+        (D.bytes device.old) (D.bytes device.new) }
+{
+    one_choice();
+    luks2_without_faults();
+    luks1_edit_keeps_volume();
+    luks2_edit_keeps_volume();
+    iterations_have_32_bits(edit);
+    let header = edited_header(alloc, device)?;
+    match &header {
+        Header::Luks1(bytes) => apply_luks1(alloc, device, bytes, data_, edit, random),
+        Header::Luks2(_) => apply_luks2(alloc, device, &header, data_, edit, random),
+    }
+}
+
+/// The iterations of an edit's new keyslot have the range of their type.
+fn iterations_have_32_bits(edit: &Edit<'_>)
+    ensures { HasRangedIterations edit.now }
+{
+    match *edit {
+        Edit::Add {
+            by_: _,
+            old: _,
+            new: _,
+            to: _,
+            iterations,
+        } => has_32_bits(iterations),
+        Edit::Change {
+            slot: _,
+            old: _,
+            new: _,
+            iterations,
+        } => has_32_bits(iterations),
+        Edit::Remove {
+            slot: _,
+            passphrase: _,
+        } => {}
+        Edit::Repair => {}
+        Edit::Label { text: _ } => {}
+    }
+}
+
+/// A number of the type has its range.
+fn has_32_bits(n: u32)
+    ensures { n < 2 ^ 32 }
+{
+    let _n = n;
+}

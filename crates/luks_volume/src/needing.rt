@@ -1,0 +1,42 @@
+//! How many random bytes an edit of a volume takes.
+ghost use Rattle.std.specs.Prelude.{◌≡◌, ◌≢◌, ◌+◌, ◌^◌, ◌<◌, IfErr};
+ghost use Rattle.luks_area.specs.Device.{CountsFailure, IsUnchanged};
+ghost use Rattle.luks_edit.specs.EditFaults.{is_edit_failure};
+ghost use Rattle.luks_reading.specs.Header.{TakesNoMemory};
+ghost use Rattle.luks_volume.specs.Needed.{TellsNeed};
+
+use crate::header::edited_header;
+use luks_edit::{Edit, EditFault};
+use luks_head::one_choice;
+use luks_reading::{Data, Device, Header};
+use luks1_edits::needed_luks1;
+use luks2_judging::needed_luks2;
+use std::alloc::Global;
+
+/// How many random bytes `apply` takes for the edit, or the first of the faults that are seen without
+/// opening a keyslot: `NotAccepted`, `Requirements`, `NoSuchSlot`, `SlotTaken` and `NoFreeSlot`.
+///
+/// `data_` says where the payload lies. `Device` comes exactly where a device call failed. Memory
+/// is taken for the metadata of LUKS2 alone.
+pub fn needed<D: Device>(
+    alloc: Global,
+    device: &mut D,
+    data_: Data,
+    edit: &Edit<'_>,
+) -> Result<u64, EditFault>
+    requires { D.failed device.old + 1 < 2 ^ 64 }
+    ensures unchanged { IsUnchanged D.tells D.size D.bytes device.old device.new }
+    ensures count { CountsFailure is_edit_failure result
+        (D.failed device.old) (D.failed device.new) }
+    ensures tells { D.tells → TellsNeed data_ (D.bytes device.old) edit.now result }
+    ensures memory { D.tells → TakesNoMemory (D.bytes device.old)
+        → IfErr result (λ f. f ≢ EditFault.Memory) }
+{
+    one_choice();
+    let header = edited_header(alloc, device)?;
+    let total = device.len();
+    match &header {
+        Header::Luks1(bytes) => needed_luks1(bytes, data_, total, edit),
+        Header::Luks2(_) => needed_luks2(&header, data_, total, edit),
+    }
+}
