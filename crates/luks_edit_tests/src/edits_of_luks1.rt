@@ -2,7 +2,7 @@
 
 ghost use Rattle.std.specs.Prelude.{◌+◌, ◌<◌, ◌^◌};
 
-mod lists;
+pub mod lists;
 
 use crate::answers::line_of;
 use crate::bytes::put;
@@ -21,7 +21,7 @@ use std::test::Fail;
 
 /// A volume of 66048 bytes: keyslot n of 40 stripes at sector 8 + 8 n, the payload at 128; keyslot 0
 /// opens by `one`.
-fn volume(alloc: Global, hash: HashName) -> Result<Vec<u8>, Fail> {
+pub fn volume(alloc: Global, hash: HashName) -> Result<Vec<u8>, Fail> {
     let mut image = vec![in alloc; 0u8; 66048]?;
     put(&mut image, 0, b"LUKS\xBA\xBE\x00\x01aes");
     put(&mut image, 40, b"xts-plain64");
@@ -40,7 +40,7 @@ fn volume(alloc: Global, hash: HashName) -> Result<Vec<u8>, Fail> {
     }
     put(&mut image, 208, &[0, 0xAC, 0x71, 0xF3, 0, 0, 3, 0xE8]);
     put(&mut image, 216, &[0x11; 32]);
-    put(&mut image, 4096, key_area(alloc, hash)?.as_slice());
+    put(&mut image, 4096, key_area(alloc, hash, b"one")?.as_slice());
     Ok(image)
 }
 

@@ -1,9 +1,9 @@
 //! Edits of small LUKS2 volumes: lists of them beside the model in testdata/oracle.
 
-mod lists;
+pub mod lists;
 
 use crate::answers::line_of;
-use crate::interim::{apply, needed};
+use luks_volume::{apply, needed};
 use crate::small2::small2;
 use crate::sums::{counted, is_sum};
 use lists::Row;
@@ -43,7 +43,7 @@ fn compare(
     Ok(())
 }
 
-#[test]
+
 fn lists_of_edits(rt: HostRuntime) -> Result<(), Fail> {
     compare(
         &rt,

@@ -18,9 +18,7 @@ mod formats;
 #[cfg(test)]
 mod formatting;
 #[cfg(test)]
-mod interim;
-#[cfg(test)]
-mod new_luks2;
+mod little_memory;
 #[cfg(test)]
 mod refused_memory;
 #[cfg(test)]
@@ -28,4 +26,8 @@ mod sealed;
 #[cfg(test)]
 mod small2;
 #[cfg(test)]
+mod stray;
+#[cfg(test)]
 mod sums;
+#[cfg(test)]
+mod texts;

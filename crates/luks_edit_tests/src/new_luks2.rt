@@ -5,9 +5,10 @@ mod scripts;
 use crate::answers::line_of;
 use crate::bytes::{part, put};
 use crate::devices::Front;
-use crate::interim::{apply, needed};
+use luks_volume::{apply, needed};
 use crate::small2::{Fields, copy_of};
 use crate::sums::{counted, is_sum};
+use crate::texts::changed;
 use luks_area::MemDevice;
 use luks_edit::Edit;
 use luks_formatting::{Format, format2};
@@ -80,15 +81,6 @@ fn new_volume(alloc: Global, script: &Script) -> Result<Front, Fail> {
         len: script.len,
         beyond: 0,
     })
-}
-
-/// The text with the change made at the first place that it names.
-fn changed(alloc: Global, text: &str, old: &str, new: &str) -> Result<String, Fail> {
-    let (before, after) = text.split_once(old).ok_or("no such text")?;
-    let mut changed = String::from_str(alloc, before)?;
-    changed.push_str(new)?;
-    changed.push_str(after)?;
-    Ok(changed)
 }
 
 /// The text, in which an empty member `pad` is filled until the text is full.

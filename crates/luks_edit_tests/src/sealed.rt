@@ -31,14 +31,14 @@ fn seal(cipher: &XtsKey, area: &mut [u8]) {
     }
 }
 
-/// The five sectors of a key area: 40 stripes, sealed by the passphrase `one`.
-pub fn key_area(alloc: Global, hash: HashName) -> Result<Vec<u8>, Fail> {
+/// The five sectors of a key area: 40 stripes, sealed by the passphrase.
+pub fn key_area(alloc: Global, hash: HashName, passphrase: &[u8]) -> Result<Vec<u8>, Fail> {
     let mut random = vec![in alloc; 0u8; 2496]?;
     count(&mut random, 0);
     let mut area = vec![in alloc; 0u8; 2560]?;
     hash.split(&mut area, &volume_key(), &random);
     let mut slot_key = [0; 64];
-    hash.pbkdf2(&mut slot_key, b"one", &[0x11; 32], 1000);
+    hash.pbkdf2(&mut slot_key, passphrase, &[0x11; 32], 1000);
     let cipher = XtsKey::new(&slot_key).ok_or("no key")?;
     seal(&cipher, &mut area);
     Ok(area)

@@ -22,6 +22,10 @@ const SHA1: &str =
 pub const SHA256: &str =
     r#"{"config":{"json_size":"12288","keyslots_size":"32768"},"digests":{"0":{"digest":"r0tW0F0ITOoPYBUmFjGzXZTVowAGtTYAjvCjGDabwpo=","hash":"sha256","iterations":1000,"keyslots":["0"],"salt":"IiIiIiIiIiIiIiIiIiIiIiIiIiIiIiIiIiIiIiIiIiI=","segments":["0"],"type":"pbkdf2"}},"keyslots":{"0":{"af":{"hash":"sha256","stripes":40,"type":"luks1"},"area":{"encryption":"aes-xts-plain64","key_size":64,"offset":"32768","size":"4096","type":"raw"},"kdf":{"hash":"sha256","iterations":1000,"salt":"ERERERERERERERERERERERERERERERERERERERERERE=","type":"pbkdf2"},"key_size":64,"type":"luks2"}},"segments":{"0":{"encryption":"aes-xts-plain64","iv_tweak":"0","offset":"65536","sector_size":512,"size":"dynamic","type":"crypt"}},"tokens":{}}"#;
 
+/// The same with a second keyslot, whose area is the second one.
+const TWO: &str =
+    r#"{"config":{"json_size":"12288","keyslots_size":"32768"},"digests":{"0":{"digest":"r0tW0F0ITOoPYBUmFjGzXZTVowAGtTYAjvCjGDabwpo=","hash":"sha256","iterations":1000,"keyslots":["0","1"],"salt":"IiIiIiIiIiIiIiIiIiIiIiIiIiIiIiIiIiIiIiIiIiI=","segments":["0"],"type":"pbkdf2"}},"keyslots":{"0":{"af":{"hash":"sha256","stripes":40,"type":"luks1"},"area":{"encryption":"aes-xts-plain64","key_size":64,"offset":"32768","size":"4096","type":"raw"},"kdf":{"hash":"sha256","iterations":1000,"salt":"ERERERERERERERERERERERERERERERERERERERERERE=","type":"pbkdf2"},"key_size":64,"type":"luks2"},"1":{"af":{"hash":"sha256","stripes":40,"type":"luks1"},"area":{"encryption":"aes-xts-plain64","key_size":64,"offset":"36864","size":"4096","type":"raw"},"kdf":{"hash":"sha256","iterations":1000,"salt":"ERERERERERERERERERERERERERERERERERERERERERE=","type":"pbkdf2"},"key_size":64,"type":"luks2"}},"segments":{"0":{"encryption":"aes-xts-plain64","iv_tweak":"0","offset":"65536","sector_size":512,"size":"dynamic","type":"crypt"}},"tokens":{}}"#;
+
 /// The fields of a copy of a LUKS2 header that differ among the volumes here.
 #[derive(Debug, Clone, Copy)]
 pub struct Fields<'a> {
@@ -72,7 +76,11 @@ pub fn volume_of(alloc: Global, hash: HashName, text: &str) -> Result<Vec<u8>, F
         16384,
         copy_of(alloc, 16384, &fields)?.as_slice(),
     );
-    put(&mut volume, 32768, key_area(alloc, hash)?.as_slice());
+    put(
+        &mut volume,
+        32768,
+        key_area(alloc, hash, b"one")?.as_slice(),
+    );
     Ok(volume)
 }
 
@@ -83,4 +91,12 @@ pub fn small2(alloc: Global, hash: HashName) -> Result<Vec<u8>, Fail> {
         HashName::Sha256 => SHA256,
     };
     volume_of(alloc, hash, text)
+}
+
+/// The small volume with keyslot 1, which opens by the passphrase `two`.
+pub fn two_keyslots(alloc: Global) -> Result<Vec<u8>, Fail> {
+    let mut volume = volume_of(alloc, HashName::Sha256, TWO)?;
+    let area = key_area(alloc, HashName::Sha256, b"two")?;
+    put(&mut volume, 36864, &area);
+    Ok(volume)
 }
