@@ -3,13 +3,13 @@
 pub mod lists;
 
 use crate::answers::line_of;
-use luks_volume::{apply, needed};
 use crate::small2::small2;
 use crate::sums::{counted, is_sum};
 use lists::Row;
 use luks_area::MemDevice;
 use luks_kdf::HashName;
 use luks_reading::Data;
+use luks_volume::{apply, needed};
 use std::alloc::Global;
 use std::process::Abort;
 use std::test::Fail;
@@ -43,18 +43,11 @@ fn compare(
     Ok(())
 }
 
-
-fn lists_of_edits(rt: HostRuntime) -> Result<(), Fail> {
+fn lists_of_edits(rt: &impl Abort, alloc: Global) -> Result<(), Fail> {
+    compare(rt, alloc, HashName::Sha1, lists::SHA1_BEFORE, &lists::SHA1)?;
     compare(
-        &rt,
-        rt.alloc(),
-        HashName::Sha1,
-        lists::SHA1_BEFORE,
-        &lists::SHA1,
-    )?;
-    compare(
-        &rt,
-        rt.alloc(),
+        rt,
+        alloc,
         HashName::Sha256,
         lists::SHA256_BEFORE,
         &lists::SHA256,
