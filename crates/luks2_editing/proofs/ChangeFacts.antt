@@ -38,7 +38,8 @@ use Rattle.luks2_editing.specs.Rewriting.{AreWrittenAnew}
 use Rattle.luks2_editing.specs.SealedKeyslot.{HasRefusedKeyslot, IsKeyslotWritten, IsOfStripesOf, IsSealable, IsSealing, IsUnsealed}
 use Rattle.luks2_editing.proofs.KeyAreaFacts.{area_of_object}
 use Rattle.luks2_editing.proofs.LostFacts.{beside_first, beside_second, both_beside}
-use Rattle.luks2_editing.proofs.PlanFacts.{like_changed, like_unrefused, opened_kdf, opened_plan, HasOpenPlan, SaysLike}
+use Rattle.luks2_editing.proofs.OpenedFacts.{opened_kdf, opened_plan, HasOpenPlan}
+use Rattle.luks2_editing.proofs.PlanFacts.{like_changed, like_unrefused, SaysLike}
 use Rattle.luks2_editing.proofs.RenewalFacts.{listed_at_least, metadata_here, sound_here, VolumeLaws}
 use Rattle.luks2_editing.proofs.SealedFacts.{some_same}
 

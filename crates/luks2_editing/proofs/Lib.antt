@@ -4,6 +4,7 @@ mod RowFacts
 mod RenewalFacts
 mod PlainEditFacts
 mod KeyAreaFacts
+mod JudgedFacts
 mod LostFacts
 mod RemovalFacts
 mod SealingFacts
@@ -11,5 +12,6 @@ mod MadeMetadataFacts
 mod OpenedFacts
 mod SealedRowFacts
 mod SealedFacts
+mod AdditionFacts
 mod PlanFacts
 mod ChangeFacts

@@ -1,6 +1,7 @@
 //! The edits of LUKS2 volumes: the calls that do what `luks2_edits` defines.
 #![tactic(auto)]
 
+mod adding;
 mod applying;
 mod changing;
 mod labelling;
