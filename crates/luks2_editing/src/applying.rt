@@ -6,6 +6,7 @@ ghost use Rattle.luks_reading.specs.Header.{IsAcceptedHeader, IsHeader};
 ghost use Rattle.luks2_judging.specs.Header.{IsOfLuks2};
 ghost use Rattle.luks2_editing.specs.Replies.{Replies2};
 
+use crate::adding::{Addition, add};
 use crate::changing::change;
 use crate::labelling::set_label;
 use crate::removing::remove;
@@ -44,35 +45,39 @@ pub fn apply_luks2<D: Device>(
         → Replies2 data_ (D.bytes device.old) edit.now random.now result (D.bytes device.new) }
 {
     let judged = judge_luks2(alloc, device, header, data_, edit)?;
+    let copy = judged.copy;
     match *edit {
         Edit::Add {
-            by_: _,
+            by_,
             old: _,
-            new: _,
+            new,
             to: _,
-            iterations: _,
-        } => Err(EditFault::Memory),
+            iterations,
+        } => {
+            let addition = Addition {
+                by_,
+                new,
+                iterations,
+                made: judged.made.unwrap(),
+                area: judged.area.unwrap(),
+            };
+            let key = judged.key.unwrap();
+            add(alloc, device, copy, &addition, &key, random)
+        }
         Edit::Change {
             slot,
             old,
             new,
             iterations,
-        } => change(
-            alloc,
-            device,
-            judged.copy,
-            slot,
-            old,
-            new,
-            iterations,
-            &judged.key.unwrap(),
-            judged.area.unwrap(),
-            random,
-        ),
-        Edit::Remove { slot, passphrase } => {
-            remove(alloc, device, judged.copy, slot, passphrase, random)
+        } => {
+            let key = judged.key.unwrap();
+            let area = judged.area.unwrap();
+            change(
+                alloc, device, copy, slot, old, new, iterations, &key, area, random,
+            )
         }
-        Edit::Repair => repair(alloc, device, judged.copy, random),
-        Edit::Label { text } => set_label(alloc, device, judged.copy, text, random),
+        Edit::Remove { slot, passphrase } => remove(alloc, device, copy, slot, passphrase, random),
+        Edit::Repair => repair(alloc, device, copy, random),
+        Edit::Label { text } => set_label(alloc, device, copy, text, random),
     }
 }

@@ -3,11 +3,12 @@ use Rattle.std.proofs.lemmas.Result.{err_from_is_err_and}
 use Rattle.luks_head.specs.Header2.{hdr_size, header_at}
 use Rattle.luks_meta.specs.Content.{content}
 use Rattle.luks_edit.specs.declared.edit.Edit.{Edit}
-use Rattle.luks_edit.specs.declared.edit.Edit.TheVariants.{Change, Label, Remove, Repair}
+use Rattle.luks_edit.specs.declared.edit.Edit.TheVariants.{Add, Change, Label, Remove, Repair}
 use Rattle.luks_reading.specs.Answer.{Answer, opens}
 use Rattle.luks_reading.specs.Header.{IsHeader}
 use Rattle.luks2_edits.specs.Places.{IsNewArea}
 use Rattle.luks2_edits.specs.Refused.{IsAbsent}
+use Rattle.luks2_judging.specs.Judged.{IsMade, IsMadeNumber, IsNewNumber}
 use Rattle.luks2_judging.specs.Judging.{IsUnrefusedSoFar}
 use Rattle.luks2_judging.specs.Opened.{IsKeyOf}
 use Rattle.luks2_judging.specs.Room.{IsRoomLike}
@@ -71,10 +72,37 @@ returns-in-Change-clause-replies g c = λ tells is.
     let judged : IsUnrefusedSoFar v payload e c.in_ok-judged.judged =
     subst (λ x. IsUnrefusedSoFar v payload x c.in_ok-judged.judged) c.in-Change.is
     (subst (λ u. IsUnrefusedSoFar u payload c.args.edit.now c.in_ok-judged.judged) (sym same) (c.in_ok-judged.ensures.unrefused tells is)) in
-    let opened : Answer v slot old (opens c.unwrap.result) =
-    subst (λ k. IsKeyOf v slot old k) c.unwrap.ensures (judged.unlocked.key slot old (refl, refl)) in
-    let place : IsNewArea (hdr_size (header_at v copy.header.hdr_offset)) (length v) payload (content copy.meta) slot c.unwrap-in-Change.result =
-    subst (λ a. IsRoomLike (hdr_size (header_at v copy.header.hdr_offset)) (length v) payload (content copy.meta) slot a) c.unwrap-in-Change.ensures judged.room in
+    let opened : Answer v slot old (opens c.unwrap-key-in-Change.result) =
+    subst (λ k. IsKeyOf v slot old k) c.unwrap-key-in-Change.ensures (judged.unlocked.key slot old (refl, refl)) in
+    let place : IsNewArea (hdr_size (header_at v copy.header.hdr_offset)) (length v) payload (content copy.meta) slot c.unwrap-area.result =
+    subst (λ a. IsRoomLike (hdr_size (header_at v copy.header.hdr_offset)) (length v) payload (content copy.meta) slot a) c.unwrap-area.ensures judged.room in
     subst (λ x. Replies2 payload (g.D.Device.bytes c.args.device.now) x random c.change.result w) (sym c.in-Change.is)
     (subst (λ u. Replies2 payload u e random c.change.result w) same
     (c.change.ensures.replies tells payload chosen judged.well (judged.none random) opened place))
+
+pub returns-in-Add-clause-replies : goal.returns-in-Add-clause-replies
+returns-in-Add-clause-replies g c = λ tells is.
+    let v = g.D.Device.bytes c.judge_luks2.new.device in
+    let same : v ≡ g.D.Device.bytes c.args.device.now = c.judge_luks2.ensures.unchanged.same tells in
+    let payload = c.args.data_ in
+    let random = c.args.random.now in
+    let w = g.D.Device.bytes c.add.new.device in
+    let copy = c.in_ok-judged.judged.copy.now in
+    let j = content copy.meta in
+    let opener = c.in-Add.by_ in
+    let old = c.in-Add.old.now in
+    let to = c.in-Add.to in
+    let e : Edit = Add opener c.in-Add.old c.in-Add.new to c.in-Add.iterations in
+    let chosen = chosen_copy v c.args.header.now copy c.in_ok-judged.ensures.judged.copy (subst (λ u. IsHeader u c.args.header.now) (sym same) is) in
+    let judged : IsUnrefusedSoFar v payload e c.in_ok-judged.judged =
+    subst (λ x. IsUnrefusedSoFar v payload x c.in_ok-judged.judged) c.in-Add.is
+    (subst (λ u. IsUnrefusedSoFar u payload c.args.edit.now c.in_ok-judged.judged) (sym same) (c.in_ok-judged.ensures.unrefused tells is)) in
+    let numbered : IsNewNumber j to c.unwrap.result =
+    subst (λ n. IsMadeNumber j to n) c.unwrap.ensures (subst (λ x. IsMade j x c.in_ok-judged.judged.made) c.in-Add.is c.in_ok-judged.ensures.judged.made) in
+    let opened : Answer v opener old (opens c.unwrap-key.result) =
+    subst (λ k. IsKeyOf v opener old k) c.unwrap-key.ensures (judged.unlocked.key opener old (refl, refl)) in
+    let place : IsNewArea (hdr_size (header_at v copy.header.hdr_offset)) (length v) payload j opener c.unwrap-in-Add.result =
+    subst (λ a. IsRoomLike (hdr_size (header_at v copy.header.hdr_offset)) (length v) payload j opener a) c.unwrap-in-Add.ensures judged.room in
+    subst (λ x. Replies2 payload (g.D.Device.bytes c.args.device.now) x random c.add.result w) (sym c.in-Add.is)
+    (subst (λ u. Replies2 payload u e random c.add.result w) same
+    (c.add.ensures.replies tells payload c.in-Add.old to chosen judged.well (judged.none random) opened numbered.is_new place))
