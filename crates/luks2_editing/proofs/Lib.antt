@@ -4,6 +4,7 @@ mod RowFacts
 mod RenewalFacts
 mod PlainEditFacts
 mod KeyAreaFacts
+mod JudgedFacts
 mod LostFacts
 mod RemovalFacts
 mod SealingFacts
@@ -11,5 +12,7 @@ mod MadeMetadataFacts
 mod OpenedFacts
 mod SealedRowFacts
 mod SealedFacts
+mod NewKeyslotFacts
+mod AdditionFacts
 mod PlanFacts
 mod ChangeFacts

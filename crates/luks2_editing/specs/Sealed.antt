@@ -52,7 +52,8 @@ pub record IsChosenTorn
 
 -- what is left of the volume `u` by the step that was under way, or all of them
 abbrev pub MayBeHalfSealed :
-    List ℕ → ℕ → Edit → List ℕ → Value → SlotPlan → List ℕ → List ℕ → List ℕ → List ℕ → List ℕ → Type 0
+    List ℕ → ℕ → Edit → List ℕ → Value → SlotPlan → List ℕ → List ℕ → List ℕ → List ℕ → List ℕ
+    → Type 0
 MayBeHalfSealed v o e random j plan passphrase key stripes u w =
     SameBut (IsOfStripes plan) u w
     ⊎ IsOtherTorn v o plan passphrase key stripes u w

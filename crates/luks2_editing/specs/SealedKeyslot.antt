@@ -1,4 +1,5 @@
--- Sealing a key in a keyslot of new metadata, and writing that metadata: words of private contracts.
+-- Sealing a key in a keyslot of new metadata, and writing that metadata: words of private
+-- contracts.
 use Rattle.std.specs.Prelude.{◌≡◌, ℕ, ◌+◌, ◌-◌, ◌*◌, ◌≤◌, List, length, Some, ⊤}
 use Rattle.serde_json.specs.Data.{Data as Value}
 use Rattle.luks_area.specs.declared.area.Area.{Area}
@@ -24,8 +25,8 @@ use Rattle.luks2_editing.specs.Rewriting.{AreWrittenAnew}
 
 -- ---- what is needed
 
--- the keyslot `n` of the metadata `k` has an area for the key and the stripes of the random bytes: it
--- lies behind copies of `h` bytes, inside a volume of `total` bytes
+-- the keyslot `n` of the metadata `k` has an area for the key and the stripes of the random bytes:
+-- it lies behind copies of `h` bytes, inside a volume of `total` bytes
 pub record IsSealable (h : ℕ) (k : Value) (n : ℕ) (key random : List ℕ) (total : ℕ) : Type 0 where
   pub key_bytes : ℕ
   pub stripes : ℕ
@@ -47,14 +48,16 @@ pub record IsOfStripesOf (k : Value) (n p : ℕ) : Type 0 where
   pub slot : HasStripes k n key_bytes stripes
   pub at : IsAt area.start (rounded_to_sectors (key_bytes * stripes)) p
 
--- the edit `e` of the volume `v`, whose metadata `j` stands in the copy at `o`, makes the metadata `k`
--- and seals the key in its keyslot `n`
+-- the edit `e` of the volume `v`, whose metadata `j` stands in the copy at `o`, makes the metadata
+-- `k` and seals the key in its keyslot `n`
 pub record IsSealing
     (v : List ℕ) (payload : Data) (e : Edit) (random : List ℕ) (o : ℕ) (j k : Value) (n : ℕ)
     (passphrase key : List ℕ)
     : Type 0 where
-  pub sealed : (w : List ℕ) → HoldsKey w k n passphrase key (stripes_random random) → IsSealedBy v e random j w k
-  pub place : (p : ℕ) → IsOfStripesOf k n p → IsOfSealed (hdr_size (header_at v o)) (length v) payload j e p
+  pub sealed : (w : List ℕ) → HoldsKey w k n passphrase key (stripes_random random)
+      → IsSealedBy v e random j w k
+  pub place : (p : ℕ) → IsOfStripesOf k n p
+      → IsOfSealed (hdr_size (header_at v o)) (length v) payload j e p
 
 -- ---- what is answered
 
@@ -73,8 +76,8 @@ IsUnsealed k n (fault.Slot f) = HasRefusedKeyslot k n f
 IsUnsealed k n fault.Device = ⊤
 IsUnsealed k n f = ⊥
 
--- the keyslot `n` of the metadata `k` holds the key, both copies of `w` take the place of the copy of `v`
--- at `o` with that metadata, and nothing else changed
+-- the keyslot `n` of the metadata `k` holds the key, both copies of `w` take the place of the copy
+-- of `v` at `o` with that metadata, and nothing else changed
 pub record IsKeyslotWritten
     (v : List ℕ) (o : ℕ) (e : Edit) (random : List ℕ) (k : Value) (n : ℕ)
     (passphrase key w : List ℕ)

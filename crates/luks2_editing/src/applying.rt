@@ -6,13 +6,27 @@ ghost use Rattle.luks_reading.specs.Header.{IsAcceptedHeader, IsHeader};
 ghost use Rattle.luks2_judging.specs.Header.{IsOfLuks2};
 ghost use Rattle.luks2_editing.specs.Replies.{Replies2};
 
+use crate::adding::{Addition, add};
+use crate::changing::change;
+use crate::labelling::set_label;
+use crate::removing::remove;
+use crate::repairing::repair;
 use luks_area::Device;
 use luks_edit::{Done, Edit, EditFault};
 use luks_reading::{Data, Header};
+use luks2_judging::judge_luks2;
 use std::alloc::Global;
 
 /// Applies the edit to the LUKS2 volume with this header, with as many random bytes as
-/// `needed_luks2` tells.
+/// `needed_luks2` tells: the salts of both copies of the header, 64 bytes each, and for a keyslot
+/// that is sealed its salt, 32 bytes, and its stripes but the last.
+///
+/// The first refusal is answered, or `Memory`, and then no byte changes: all memory is taken before
+/// the first write. What is written is written in this order, each range with a flush: the area of
+/// the keyslot that is made or sealed again, the copy of the header that didn't count, the one that
+/// did, and zeros over the area that a keyslot lost. `Device` comes exactly where a device call
+/// failed; what that leaves, the volume as it was or one torn in that range, keeps every other
+/// keyslot, unless bytes of a torn write are taken for a header.
 pub fn apply_luks2<D: Device>(
     alloc: Global,
     device: &mut D,
@@ -30,5 +44,40 @@ pub fn apply_luks2<D: Device>(
     ensures replies { D.tells → IsHeader (D.bytes device.old) header.now
         → Replies2 data_ (D.bytes device.old) edit.now random.now result (D.bytes device.new) }
 {
-    Err(EditFault::Memory)
+    let judged = judge_luks2(alloc, device, header, data_, edit)?;
+    let copy = judged.copy;
+    match *edit {
+        Edit::Add {
+            by_,
+            old: _,
+            new,
+            to: _,
+            iterations,
+        } => {
+            let addition = Addition {
+                by_,
+                new,
+                iterations,
+                made: judged.made.unwrap(),
+                area: judged.area.unwrap(),
+            };
+            let key = judged.key.unwrap();
+            add(alloc, device, copy, &addition, &key, random)
+        }
+        Edit::Change {
+            slot,
+            old,
+            new,
+            iterations,
+        } => {
+            let key = judged.key.unwrap();
+            let area = judged.area.unwrap();
+            change(
+                alloc, device, copy, slot, old, new, iterations, &key, area, random,
+            )
+        }
+        Edit::Remove { slot, passphrase } => remove(alloc, device, copy, slot, passphrase, random),
+        Edit::Repair => repair(alloc, device, copy, random),
+        Edit::Label { text } => set_label(alloc, device, copy, text, random),
+    }
 }

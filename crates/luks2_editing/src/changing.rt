@@ -30,12 +30,12 @@ use std::alloc::Global;
 
 /// Seals the key, which the old passphrase opens in the keyslot, under the new one in the keyslot's
 /// new area; writes both copies of the header anew, the other copy first; and then overwrites the
-/// keyslot's old area with zeros. A flush follows each. The rows of the faults up to `BadLabel` were
-/// judged, and `area` is where the keyslot's new area goes.
+/// keyslot's old area with zeros. A flush follows each. The rows of the faults up to `BadLabel`
+/// were judged, and `area` is where the keyslot's new area goes.
 ///
-/// Refused by `SeqExhausted`, `MetadataFull` or `RandomLength`; the random bytes are the salts of the
-/// copies, 64 bytes each, the keyslot's salt, 32 bytes, and its stripes but the last. Takes memory for
-/// the metadata and the JSON area, before the first write.
+/// Refused by `SeqExhausted`, `MetadataFull` or `RandomLength`; the random bytes are the salts of
+/// the copies, 64 bytes each, the keyslot's salt, 32 bytes, and its stripes but the last. Takes
+/// memory for the metadata and the JSON area, before the first write.
 pub(crate) fn change<D: Device>(
     alloc: Global,
     device: &mut D,

@@ -1,6 +1,7 @@
 //! The edits of LUKS2 volumes: the calls that do what `luks2_edits` defines.
 #![tactic(auto)]
 
+mod adding;
 mod applying;
 mod changing;
 mod labelling;
@@ -16,6 +17,3 @@ mod sealing;
 mod writing;
 
 pub use applying::apply_luks2;
-pub use labelling::set_label;
-pub use removing::remove;
-pub use repairing::repair;

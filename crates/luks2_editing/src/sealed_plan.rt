@@ -10,7 +10,8 @@ ghost use Rattle.luks_edit.specs.declared.edit.Edit.{Edit as TheEdit};
 ghost use Rattle.luks2_edits.specs.Leftovers.{IsTornAt};
 ghost use Rattle.luks2_editing.specs.Prepared.{IsCopyWithin};
 ghost use Rattle.luks2_editing.specs.Rewriting.{IsRenewing};
-ghost use Rattle.luks2_editing.specs.SealedKeyslot.{IsKeyslotWritten, IsSealable, IsSealing, IsUnsealed};
+ghost use Rattle.luks2_editing.specs.SealedKeyslot.{IsKeyslotWritten, IsSealable};
+ghost use Rattle.luks2_editing.specs.SealedKeyslot.{IsSealing, IsUnsealed};
 
 use crate::sealed_metadata::NewMetadata;
 use crate::sealing::write_sealed;
@@ -20,12 +21,12 @@ use luks_head::Bin2;
 use luks_reading::luks2_plan;
 use luks_slot::Key;
 
-/// Seals the key in the area of the keyslot `n` of the new metadata, and then writes both copies anew
-/// with that metadata from the chosen one's binary header: the other one first. A flush follows each.
-/// A keyslot whose plan is refused is answered as `Slot`, and then no byte changes.
+/// Seals the key in the area of the keyslot `n` of the new metadata, and then writes both copies
+/// anew with that metadata from the chosen one's binary header: the other one first. A flush follows
+/// each. A keyslot whose plan is refused is answered as `Slot`, and then no byte changes.
 ///
-/// Of the random bytes the salts of the copies are the first 128; the keyslot's stripes but the last
-/// are those from the place 160 on.
+/// Of the random bytes the salts of the copies are the first 128; the keyslot's stripes but the
+/// last are those from the place 160 on.
 pub(crate) fn write_keyslot<D: Device>(
     device: &mut D,
     chosen: &Bin2,

@@ -23,11 +23,11 @@ use luks_slot::{Key, SlotFault, SlotPlan};
 use luks_steps::seal_area;
 
 /// Seals the key in the area of the plan, which lies behind the copies, and then writes both copies
-/// anew from the chosen one's binary header: the other one first. A flush follows each. A plan that is
-/// refused is answered as `Slot`, and then no byte changes.
+/// anew from the chosen one's binary header: the other one first. A flush follows each. A plan that
+/// is refused is answered as `Slot`, and then no byte changes.
 ///
-/// Of the random bytes the salts of the copies are the first 128; the keyslot's stripes but the last
-/// are those from the place 160 on.
+/// Of the random bytes the salts of the copies are the first 128; the keyslot's stripes but the
+/// last are those from the place 160 on.
 pub(crate) fn write_sealed<D: Device>(
     device: &mut D,
     plan: &SlotPlan<'_>,

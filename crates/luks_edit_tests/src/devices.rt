@@ -60,16 +60,25 @@ impl Device for Front {
     ghost bounded = { λ d. d.fits };
 }
 
-/// A device that counts the calls that read, write or flush it, and passes them on.
-#[derive(Drop)]
-pub struct Counting<D: Device> {
-    /// The device behind.
-    pub device: D,
-    /// How many calls there were.
-    pub calls: u64,
+/// A call of a device.
+#[derive(Debug, Clone, Copy, PartialEq, Eq)]
+pub enum Call {
+    Read,
+    /// A write from the place `at` on, of so many bytes.
+    Write { at: usize, len: usize },
+    Flush,
 }
 
-impl<D: Device> Device for Counting<D> {
+/// A device that keeps a list of its calls, and passes them on.
+#[derive(Drop)]
+pub struct Recording<D: Device> {
+    /// The device behind.
+    pub device: D,
+    /// The calls that read, write or flush it.
+    pub calls: Vec<Call>,
+}
+
+impl<D: Device> Device for Recording<D> {
     ghost tells = { D.tells };
 
     ghost bytes = { λ d. D.bytes d.device };
@@ -87,17 +96,20 @@ impl<D: Device> Device for Counting<D> {
     }
 
     fn read_at(&mut self, at: u64, into: &mut [u8]) -> Result<(), DeviceFault> {
-        self.calls = self.calls.saturating_add(1);
+        let _ = self.calls.push(Call::Read);
         self.device.read_at(at, into)
     }
 
     fn write_at(&mut self, at: u64, from: &[u8]) -> Result<(), DeviceFault> {
-        self.calls = self.calls.saturating_add(1);
+        let _ = self.calls.push(Call::Write {
+            at: at as usize,
+            len: from.len(),
+        });
         self.device.write_at(at, from)
     }
 
     fn flush(&mut self) -> Result<(), DeviceFault> {
-        self.calls = self.calls.saturating_add(1);
+        let _ = self.calls.push(Call::Flush);
         self.device.flush()
     }
 

@@ -2,9 +2,11 @@
 
 ghost use Rattle.std.specs.Prelude.{◌+◌, ◌<◌, ◌^◌};
 
-mod lists;
+pub mod lists;
 
+use crate::answers::line_of;
 use crate::bytes::put;
+use crate::sealed::{key_area, volume_key};
 use crate::sums::{count, counted, is_sum};
 use lists::Row;
 use luks_area::{Device, FaultyDevice, Leave, MemDevice};
@@ -17,47 +19,9 @@ use std::alloc::{AllocError, Global};
 use std::process::Abort;
 use std::test::Fail;
 
-/// The volume key: 00 01 .. 3f.
-fn volume_key() -> [u8; 64] {
-    let mut key = [0; 64];
-    let mut next = 0u8;
-    for byte in key.iter_mut() {
-        *byte = next;
-        next = next.wrapping_add(1);
-    }
-    key
-}
-
-/// Encrypts the sectors, numbered from 0.
-fn seal(cipher: &XtsKey, area: &mut [u8]) {
-    let mut left = area;
-    for n in 0..5 {
-        match left.split_at_mut_checked(512) {
-            Some((sector, later)) => {
-                cipher.seal_unit(n, sector);
-                left = later;
-            }
-            None => return,
-        }
-    }
-}
-
-/// The five sectors of keyslot 0: 40 stripes, sealed by the passphrase `one`.
-fn key_area(alloc: Global, hash: HashName) -> Result<Vec<u8>, Fail> {
-    let mut random = vec![in alloc; 0u8; 2496]?;
-    count(&mut random, 0);
-    let mut area = vec![in alloc; 0u8; 2560]?;
-    hash.split(&mut area, &volume_key(), &random);
-    let mut slot_key = [0; 64];
-    hash.pbkdf2(&mut slot_key, b"one", &[0x11; 32], 1000);
-    let cipher = XtsKey::new(&slot_key).ok_or("no key")?;
-    seal(&cipher, &mut area);
-    Ok(area)
-}
-
 /// A volume of 66048 bytes: keyslot n of 40 stripes at sector 8 + 8 n, the payload at 128; keyslot 0
 /// opens by `one`.
-fn volume(alloc: Global, hash: HashName) -> Result<Vec<u8>, Fail> {
+pub fn volume(alloc: Global, hash: HashName) -> Result<Vec<u8>, Fail> {
     let mut image = vec![in alloc; 0u8; 66048]?;
     put(&mut image, 0, b"LUKS\xBA\xBE\x00\x01aes");
     put(&mut image, 40, b"xts-plain64");
@@ -76,7 +40,7 @@ fn volume(alloc: Global, hash: HashName) -> Result<Vec<u8>, Fail> {
     }
     put(&mut image, 208, &[0, 0xAC, 0x71, 0xF3, 0, 0, 3, 0xE8]);
     put(&mut image, 216, &[0x11; 32]);
-    put(&mut image, 4096, key_area(alloc, hash)?.as_slice());
+    put(&mut image, 4096, key_area(alloc, hash, b"one")?.as_slice());
     Ok(image)
 }
 
@@ -85,15 +49,6 @@ fn header_of(volume: &[u8]) -> [u8; 592] {
     let mut header = [0; 592];
     put(&mut header, 0, volume.get(..592).unwrap_or(&[]));
     header
-}
-
-/// What the program prints of the answer.
-fn line_of(alloc: Global, answer: &Result<Done, EditFault>) -> Result<String, AllocError> {
-    match answer {
-        Ok(Done { slot: Some(n) }) => format!(in alloc; "done slot {n}"),
-        Ok(_) => String::from_str(alloc, "done"),
-        Err(fault) => format!(in alloc; "refused {fault}"),
-    }
 }
 
 /// Whether the edit of this number in its list is answered so, and leaves the volume of this sum.
@@ -141,6 +96,13 @@ fn lists_of_edits(rt: HostRuntime) -> Result<(), Fail> {
         HashName::Sha256,
         lists::SHA256_BEFORE,
         &lists::SHA256,
+    )?;
+    compare(
+        &rt,
+        rt.alloc(),
+        HashName::Sha512,
+        lists::SHA512_BEFORE,
+        &lists::SHA512,
     )
 }
 

@@ -2,7 +2,7 @@
 ghost use Rattle.std.specs.Prelude.{◌+◌, ◌<◌, ◌^◌};
 
 use crate::bytes::{leave_behind, part, put};
-use crate::devices::{Counting, Front};
+use crate::devices::{Front, Recording};
 use crate::formats::FORMATS;
 use crate::formatting::{Asked, format, places};
 use crate::sums::{counted, is_sum};
@@ -77,18 +77,19 @@ fn left_by(
         len: asked.len as u64,
         beyond: 0,
     };
-    let mut device = Counting {
+    let mut device = Recording {
         device: FaultyDevice::new(front, call, leave),
-        calls: 0,
+        calls: Vec::with_capacity(alloc, 512)?,
     };
     let end = match format(alloc, &mut device, asked, random) {
         Ok(_) if device.failures() == 0 => End::Done,
         Err(FormatFault::Device) if device.failures() == 1 => End::Told,
         _ => End::Other,
     };
-    let Counting { device, calls } = device;
+    let Recording { device, calls } = device;
     let Front { front, beyond, .. } = device.into_inner();
-    Ok((end, calls, if beyond == 0 { Some(front) } else { None }))
+    let left = if beyond == 0 { Some(front) } else { None };
+    Ok((end, calls.len() as u64, left))
 }
 
 /// The volume that is made where no call fails, as far as it is kept: its sums are the model's.

@@ -2,11 +2,15 @@
 #![tactic(auto)]
 
 #[cfg(test)]
+mod answers;
+#[cfg(test)]
 mod bytes;
 #[cfg(test)]
 mod devices;
 #[cfg(test)]
 mod edits_of_luks1;
+#[cfg(test)]
+mod edits_of_luks2;
 #[cfg(test)]
 mod failing_formats;
 #[cfg(test)]
@@ -14,6 +18,16 @@ mod formats;
 #[cfg(test)]
 mod formatting;
 #[cfg(test)]
+mod little_memory;
+#[cfg(test)]
 mod refused_memory;
 #[cfg(test)]
+mod sealed;
+#[cfg(test)]
+mod small2;
+#[cfg(test)]
+mod stray;
+#[cfg(test)]
 mod sums;
+#[cfg(test)]
+mod texts;

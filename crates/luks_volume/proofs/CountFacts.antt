@@ -14,7 +14,7 @@ pub record AreRepliedSoFar (k : ℕ) (before now : List Reply) : Type 0 where
   pub fine : HasNoFailure replies
 
 -- the device's failure is one reply
-the_failure : (r : Reply) → IsFailure r → r ≡ Err fault.Device
+pub the_failure : (r : Reply) → IsFailure r → r ≡ Err fault.Device
 the_failure (Ok done) x = absurd x
 the_failure (Err (fault.NotAccepted f)) x = absurd x
 the_failure (Err fault.Requirements) x = absurd x

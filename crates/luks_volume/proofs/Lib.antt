@@ -1,6 +1,7 @@
 pub mod CountFacts
 pub mod EditFacts
 pub mod NeedFacts
+pub mod OutcomeFacts
 pub mod RanFacts
 pub mod ReplyFacts
 pub mod RunFacts

@@ -1,5 +1,5 @@
--- What an edit is of a volume of either version: the keyslots that it names, why it is refused, what
--- it makes of the volume, what a failing device call may leave, and its reply.
+-- What an edit is of a volume of either version: the keyslots that it names, why it is refused,
+-- what it makes of the volume, what a failing device call may leave, and its reply.
 use Rattle.std.specs.Prelude.{◌≡◌, ℕ, List, Option, Some, None, Ok, Err}
 use Rattle.luks_area.specs.First.{IsLeast}
 use Rattle.luks_head.specs.Selection.{Choice, luks1, luks2, nothing, Chosen}
@@ -56,7 +56,9 @@ pub record NamedSlots (v : List ℕ) (e : Edit) (n : ℕ) : Type 0 where
   pub named : NamesAs v e choice n
 
 -- the set of its faults
-pub record IsEditFault (v : List ℕ) (payload : Data) (e : Edit) (random : List ℕ) (f : EditFault) : Type 0 where
+pub record IsEditFault
+    (v : List ℕ) (payload : Data) (e : Edit) (random : List ℕ) (f : EditFault)
+    : Type 0 where
   pub choice : Choice
   pub chosen : Chosen v choice
   pub fault : IsEditFaultAs v payload e random choice f

@@ -1,5 +1,6 @@
 pub mod Edits
 pub mod Needed
+pub mod Outcome
 pub mod Unread
 pub mod Running
 pub use Rattle.luks_reading.specs.Conversions

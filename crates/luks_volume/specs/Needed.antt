@@ -1,5 +1,5 @@
--- What asking for an edit's random bytes answers, of a volume of either version: no keyslot is opened
--- for it.
+-- What asking for an edit's random bytes answers, of a volume of either version: no keyslot is
+-- opened for it.
 use Rattle.std.specs.Prelude.{ℕ, List, Result, Ok, Err, ⊤}
 use Rattle.luks_area.specs.First.{IsLeast}
 use Rattle.luks_head.specs.Selection.{Choice, luks1, luks2, nothing, Chosen}

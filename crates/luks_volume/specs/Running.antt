@@ -9,11 +9,14 @@ use Rattle.luks_volume.specs.Edits.{NamedSlots, Replies}
 
 -- the first `k` steps were run from the volume `v` to `u`: whatever a run of the others leaves, the
 -- whole run leaves
-pub record IsUnderWay (R : Replying) (v u : List ℕ) (steps : List Step) (k : ℕ) (before now : List Reply) : Type 0 where
+pub record IsUnderWay
+    (R : Replying) (v u : List ℕ) (steps : List Step) (k : ℕ) (before now : List Reply)
+    : Type 0 where
   pub replies : List Reply
   pub volumes : List (List ℕ)
   pub appended : now ≡ before ++ replies
-  pub goes_on : (rs : List Reply) (us : List (List ℕ)) (w : List ℕ) → AreRun R u (drop k steps) rs us w
+  pub goes_on : (rs : List Reply) (us : List (List ℕ)) (w : List ℕ)
+      → AreRun R u (drop k steps) rs us w
       → AreRun R v steps (replies ++ rs) (volumes ++ us) w
 
 -- ---- on any device: which steps have a reply, of `count` steps
@@ -30,9 +33,11 @@ pub record AreCutShort (count : ℕ) (replies : List Reply) : Type 0 where
   pub fine : HasNoFailure others
   pub within : length replies ≤ count
 
--- replies were appended; the device's count of failures rose by one exactly where the last of them is
--- its failure
-pub record CountsRun (count : ℕ) (before after : List Reply) (failures failures_after : ℕ) : Type 0 where
+-- replies were appended; the device's count of failures rose by one exactly where the last of them
+-- is its failure
+pub record CountsRun
+    (count : ℕ) (before after : List Reply) (failures failures_after : ℕ)
+    : Type 0 where
   pub replies : List Reply
   pub appended : after ≡ before ++ replies
   pub counted : (AreAllReplied count replies × (failures_after ≡ failures))
@@ -42,9 +47,12 @@ pub record CountsRun (count : ℕ) (before after : List Reply) (failures failure
 
 -- the steps were run from the well formed volume `v` to `w`, and their replies appended; unless the
 -- device failed, `w` keeps all that no completed edit named
-pub record IsKeptByRun (payload : Data) (v : List ℕ) (steps : List Step) (before after : List Reply) (w : List ℕ) : Type 0 where
+pub record IsKeptByRun
+    (payload : Data) (v : List ℕ) (steps : List Step) (before after : List Reply) (w : List ℕ)
+    : Type 0 where
   pub replies : List Reply
   pub volumes : List (List ℕ)
   pub appended : after ≡ before ++ replies
   pub run : AreRun (Replies payload) v steps replies volumes w
-  pub keeps : HasNoFailure replies → Keeps payload (IsNamedIn NamedSlots v steps replies volumes) v w
+  pub keeps : HasNoFailure replies
+      → Keeps payload (IsNamedIn NamedSlots v steps replies volumes) v w

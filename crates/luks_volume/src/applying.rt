@@ -1,5 +1,5 @@
 //! Applying an edit to a volume.
-ghost use Rattle.std.specs.Prelude.{◌≡◌, ◌≢◌, ◌+◌, ◌^◌, ◌<◌, IfErr};
+ghost use Rattle.std.specs.Prelude.{◌≡◌, ◌≢◌, ◌+◌, ◌^◌, ◌<◌, IfErr, OnOk};
 ghost use Rattle.luks_area.specs.Device.{CountsFailure};
 ghost use Rattle.luks_edit.specs.EditFaults.{is_edit_failure};
 ghost use Rattle.luks_edit.specs.Kept.{Keeps};
@@ -8,14 +8,15 @@ ghost use Rattle.luks_reading.specs.Checked.{WellFormed};
 ghost use Rattle.luks_reading.specs.Header.{TakesNoMemory};
 ghost use Rattle.luks2_edits.specs.Edited.{HasRangedIterations};
 ghost use Rattle.luks_volume.specs.Edits.{NamedSlots, Replies};
+ghost use Rattle.luks_volume.specs.Outcome.{OpensMade, Spares, WipesLost};
 
 use crate::header::edited_header;
 use luks_edit::{Done, Edit, EditFault};
 use luks_head::{luks2_without_faults, one_choice};
 use luks_reading::{Data, Device, Header};
-use luks1_edits::{apply_luks1, luks1_edit_keeps_volume};
+use luks1_edits::{apply_luks1, luks1_edit_keeps_volume, luks1_edit_opens, luks1_failing_edit};
 use luks2_editing::apply_luks2;
-use luks2_edits::luks2_edit_keeps_volume;
+use luks2_edits::{luks2_edit_keeps_volume, luks2_edit_opens, luks2_failing_edit};
 use std::alloc::Global;
 
 /// Applies the edit to the volume, with as many random bytes as `needed` tells.
@@ -44,11 +45,23 @@ pub fn apply<D: Device>(
     ensures keeps { D.tells → WellFormed (D.bytes device.old) data_ → (IsFailure result → ⊥)
         → Keeps data_ (λ n. IsCompleted result × NamedSlots (D.bytes device.old) edit.now n)
         (D.bytes device.old) (D.bytes device.new) }
+    // The keyslot that was made opens, and the area that a keyslot lost is zeros.
+    ensures opens { D.tells → WellFormed (D.bytes device.old) data_ → OnOk result
+        (OpensMade (D.bytes device.old) edit.now (D.bytes device.new)) }
+    ensures wiped { D.tells → WellFormed (D.bytes device.old) data_ → OnOk result
+        (WipesLost (D.bytes device.old) data_ edit.now (D.bytes device.new)) }
+    // What is left where the device failed.
+    ensures spared { D.tells → WellFormed (D.bytes device.old) data_ → IsFailure result
+        → Spares (D.bytes device.old) data_ edit.now random.now (D.bytes device.new) }
 {
     one_choice();
     luks2_without_faults();
     luks1_edit_keeps_volume();
+    luks1_edit_opens();
+    luks1_failing_edit();
     luks2_edit_keeps_volume();
+    luks2_edit_opens();
+    luks2_failing_edit();
     iterations_have_32_bits(edit);
     let header = edited_header(alloc, device)?;
     match &header {

@@ -1,5 +1,5 @@
-//! Laws on the definitions of this crate. Each function only calls those whose laws it follows from;
-//! its contract is the law.
+//! Laws on the definitions of this crate. Each function only calls those whose laws it follows
+//! from; its contract is the law.
 ghost use Rattle.std.specs.Prelude.{◌≡◌, ◌+◌, ◌<◌, ◌≤◌, ◌++◌, ◌∷◌, [], ℕ, List, get_or, length};
 ghost use Rattle.luks_edit.specs.declared.edit.Edit.{Edit as TheEdit};
 ghost use Rattle.luks_edit.specs.declared.edit.Step.{Step as TheStep};

@@ -1,4 +1,5 @@
-//! A LUKS volume of either version: the calls that a program makes, each of which stands in a crate beneath this one.
+//! A LUKS volume of either version: the calls that a program makes. Those that change keyslots
+//! stand here, the others in the crates beneath this one.
 #![tactic(auto)]
 
 mod applying;

@@ -13,8 +13,9 @@ use luks1_edits::needed_luks1;
 use luks2_judging::needed_luks2;
 use std::alloc::Global;
 
-/// How many random bytes `apply` takes for the edit, or the first of the faults that are seen without
-/// opening a keyslot: `NotAccepted`, `Requirements`, `NoSuchSlot`, `SlotTaken` and `NoFreeSlot`.
+/// How many random bytes `apply` takes for the edit, or the first of the faults that are seen
+/// without opening a keyslot: `NotAccepted`, `Requirements`, `NoSuchSlot`, `SlotTaken` and
+/// `NoFreeSlot`.
 ///
 /// `data_` says where the payload lies. `Device` comes exactly where a device call failed. Memory
 /// is taken for the metadata of LUKS2 alone.

@@ -1,5 +1,6 @@
 //! Running a list of edits.
-ghost use Rattle.std.specs.Prelude.{◌≡◌, ◌+◌, ◌^◌, ◌<◌, ◌≤◌, ◌↔◌, length, vec_len, IsOk, IsTrue, OnErr, OnOk};
+ghost use Rattle.std.specs.Prelude.{◌≡◌, ◌+◌, ◌^◌, ◌<◌, ◌≤◌, ◌↔◌, length, vec_len};
+ghost use Rattle.std.specs.Prelude.{IsOk, IsTrue, OnErr, OnOk};
 ghost use Rattle.std.specs.Vec.{vec_capacity};
 ghost use Rattle.luks_edit.specs.Ran.{IsFailure, Ran};
 ghost use Rattle.luks_reading.specs.Checked.{WellFormed};
@@ -12,9 +13,9 @@ use luks_edit::{Done, EditFault, RunFault, Step};
 use luks_reading::{Data, Device};
 use std::alloc::Global;
 
-/// Applies the steps one after the other, each with its own random bytes, and appends the replies in
-/// their order. A refused step changes nothing, and the next one follows; after a reply `Device` no
-/// further step runs.
+/// Applies the steps one after the other, each with its own random bytes, and appends the replies
+/// in their order. A refused step changes nothing, and the next one follows; after a reply `Device`
+/// no further step runs.
 ///
 /// Room for all replies is taken first. `Memory` comes only where there was none, and then nothing
 /// ran: no device call was made, and the replies are as they were.

@@ -1,0 +1,8 @@
+//! Laws over the definitions of a whole volume: of which there is always one. No call stands here.
+#![tactic(auto)]
+
+mod laws;
+
+pub use laws::{
+    first_fault_or_well_formed, first_refusal_or_key, first_refusal_or_unrefused, luks1_is_decided,
+};

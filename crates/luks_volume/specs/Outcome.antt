@@ -1,0 +1,75 @@
+-- What an edit brings about in a well formed volume of either version, beside what it keeps: the
+-- keyslot that it made opens, the area that a keyslot lost is zeros; and what is left of it by a
+-- failing device call.
+use Rattle.std.specs.Prelude.{◌≡◌, ◌⊎◌, ℕ, List, replicate, ⊤}
+use Rattle.luks_area.specs.declared.area.Area.{Area}
+use Rattle.luks_area.specs.declared.area.AreaName.TheVariants.{Slot}
+use Rattle.luks_area.specs.Ranges.{part, SameBut}
+use Rattle.luks_head.specs.Selection.{Choice, luks1, luks2, nothing, Chosen}
+use Rattle.luks_reading.specs.declared.report.Data.{Data}
+use Rattle.luks_reading.specs.Answer.{Answer, opens}
+use Rattle.luks_reading.specs.Checked.{AreaOf}
+use Rattle.luks_edit.specs.declared.edit.Edit.{Edit}
+use Rattle.luks_edit.specs.declared.edit.Edit.TheVariants.{Add, Change, Remove, Repair, Label}
+use Rattle.luks_edit.specs.Kept.{Keeps}
+use Rattle.luks1_edits.specs.Edited.{NamedKeyslots1}
+use Rattle.luks1_edits.specs.Kept.{KeepsOthers}
+use Rattle.luks1_edits.specs.Leftovers.{OpensEither1}
+use Rattle.luks1_edits.specs.Places.{IsOfKeyslots}
+use Rattle.luks2_edits.specs.Edited.{NamedKeyslots2}
+use Rattle.luks2_edits.specs.Leftovers.{CountsAsAfter, CountsAsBefore, IsNotStray, OpensEither2}
+use Rattle.luks2_edits.specs.Places.{Loses}
+use Rattle.luks_volume.specs.Edits.{Makes}
+
+-- the keyslot that the edit of `v` made, or sealed again, opens in `w` by the new passphrase to the
+-- key that the old one opened
+abbrev pub OpensMade : List ℕ → Edit → List ℕ → Type 0
+OpensMade v (Add by_ old new to iterations) w = (n : ℕ) (key : List ℕ)
+    → Makes v (Add by_ old new to iterations) n
+    → Answer v by_ old.now (opens key) → Answer w n new.now (opens key)
+OpensMade v (Change slot old new iterations) w = (n : ℕ) (key : List ℕ)
+    → Makes v (Change slot old new iterations) n
+    → Answer v slot old.now (opens key) → Answer w n new.now (opens key)
+OpensMade v (Remove slot passphrase) w = ⊤
+OpensMade v Repair w = ⊤
+OpensMade v (Label text) w = ⊤
+
+-- the area that a keyslot of `v` lost by the edit is zeros in `w`
+pub record WipesLost (v : List ℕ) (payload : Data) (e : Edit) (w : List ℕ) : Type 0 where
+  pub zeros : (n : ℕ) (a : Area) → Loses e n → AreaOf v payload (Slot n) a
+      → part w a.start a.len ≡ replicate a.len 0
+
+-- ---- a failing device call
+
+-- of a LUKS1 volume: no byte changed outside the entries and the areas of the keyslots that the edit
+-- names, the segments and the other keyslots are as they were, and a changed keyslot opens by the
+-- old passphrase, or the new one by the new passphrase
+pub record Spares1 (v : List ℕ) (payload : Data) (e : Edit) (w : List ℕ) : Type 0 where
+  pub rest : SameBut (IsOfKeyslots v (NamedKeyslots1 v e)) v w
+  pub keeps : KeepsOthers payload (NamedKeyslots1 v e) v w
+  pub opens_either : OpensEither1 v e w
+
+-- of a LUKS2 volume: it is well formed, the segments and the keyslots that the edit doesn't name are
+-- as they were, what counts is the copy that counted or one that the edit writes, and a changed
+-- keyslot opens by the old passphrase or by the new one
+pub record Spares2
+    (v : List ℕ) (payload : Data) (e : Edit) (random w : List ℕ)
+    : Type 0 where
+  pub keeps : Keeps payload (NamedKeyslots2 v e) v w
+  pub counts : CountsAsBefore v w ⊎ CountsAsAfter v payload e random w
+  pub opens_either : OpensEither2 v e w
+
+-- by what counts of the volume `v`; of LUKS2 unless bytes of a torn write are taken for a header
+abbrev pub SparesAs : List ℕ → Data → Edit → List ℕ → Choice → List ℕ → Type 0
+SparesAs v payload e random luks1 w = Spares1 v payload e w
+SparesAs v payload e random (luks2 o copies) w = IsNotStray v payload e random w
+    → Spares2 v payload e random w
+SparesAs v payload e random nothing w = ⊥
+
+-- what a failing device call leaves of the well formed volume `v`
+pub record Spares
+    (v : List ℕ) (payload : Data) (e : Edit) (random w : List ℕ)
+    : Type 0 where
+  pub choice : Choice
+  pub chosen : Chosen v choice
+  pub spared : SparesAs v payload e random choice w
