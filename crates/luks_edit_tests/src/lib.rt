@@ -18,6 +18,8 @@ mod formats;
 #[cfg(test)]
 mod formatting;
 #[cfg(test)]
+mod lists;
+#[cfg(test)]
 mod little_memory;
 #[cfg(test)]
 mod refused_memory;
