@@ -154,9 +154,11 @@ fn stripes_in_turn(rt: HostRuntime) {
 fn make_last(block: &mut [u8])
     requires { length block.old ≡ 64 }
 {
-    HashName::Sha256.take_in(block, &RANDOM[..64]);
-    HashName::Sha256.take_in(block, &RANDOM[64..128]);
-    xor_into(block, &KEY[..64]);
+    let random = RANDOM.as_slice();
+    let key = KEY.as_slice();
+    HashName::Sha256.take_in(block, &random[..64]);
+    HashName::Sha256.take_in(block, &random[64..128]);
+    xor_into(block, &key[..64]);
 }
 
 // The same by the hash's name, a running block beside the stripes.
