@@ -29,7 +29,7 @@ use Rattle.luks2_edits.specs.Edited.{stripes_random, HoldsKey}
 use Rattle.luks2_edits.specs.Leftovers.{IsTornAt}
 use Rattle.luks2_edits.specs.Places.{IsOfCopies, IsOfSealed}
 use Rattle.luks2_editing.specs.Rewriting.{AreWrittenAnew}
-use Rattle.luks2_editing.specs.Sealed.{IsOfStripes, IsPlanFault, MayBeHalfSealed}
+use Rattle.luks2_editing.specs.Sealed.{IsOfStripes, IsPlanFault, IsReadyPlan, MayBeHalfSealed}
 use Rattle.luks2_editing.specs.SealedKeyslot.{IsKeyslotWritten, IsOfStripesOf, IsSealable, IsSealing, IsUnsealed}
 use Rattle.luks2_editing.proofs.KeyAreaFacts.{area_of_object}
 
@@ -70,16 +70,6 @@ pub record IsPlanOf (k : Value) (n : ℕ) (plan : SlotPlan) : Type 0 where
   pub there : HasObject k Keyslots n object
   pub is : IsLuks2Plan k n object plan
   pub one : (m : ℕ) → IsDigestOf k n m → m ≡ is.digest.number
-
--- the key can be sealed by it
-pub record IsReadyPlan (h : ℕ) (plan : SlotPlan) (key random : List ℕ) (total : ℕ) : Type 0 where
-  pub iterations : HasIterations plan.derivation
-  pub key_length : length key ≡ plan.key_bytes
-  pub some_stripes : 1 ≤ plan.stripes
-  pub random_length : length random ≡ 160 + (plan.stripes - 1) * plan.key_bytes
-  pub sectors : rounded_to_sectors (stripe_bytes plan) ≤ plan.area.len
-  pub inside : IsInside plan.area total
-  pub behind : 2 * h ≤ plan.area.start
 
 module _ (h total : ℕ) (k : Value) (n : ℕ) (key random : List ℕ) (x : IsSealable h k n key random total) (plan : SlotPlan) (p : IsPlanOf k n plan) where
   object_is : p.object ≡ x.slot.object
