@@ -24,7 +24,7 @@ use std::alloc::Global;
 ///
 /// Refused by `BadLabel`, `SeqExhausted`, `MetadataFull` or `RandomLength`; 128 random bytes are
 /// needed, the salts of the copies. Takes memory for the JSON area, before the first write.
-pub fn set_label<D: Device>(
+pub(crate) fn set_label<D: Device>(
     alloc: Global,
     device: &mut D,
     copy: &ChosenCopy,

@@ -17,6 +17,3 @@ mod sealing;
 mod writing;
 
 pub use applying::apply_luks2;
-pub use labelling::set_label;
-pub use removing::remove;
-pub use repairing::repair;

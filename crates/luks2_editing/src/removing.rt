@@ -29,7 +29,7 @@ use std::alloc::Global;
 ///
 /// Refused by `SeqExhausted`, `MetadataFull` or `RandomLength`; 128 random bytes are needed, the salts
 /// of the copies. Takes memory for the metadata and the JSON area, before the first write.
-pub fn remove<D: Device>(
+pub(crate) fn remove<D: Device>(
     alloc: Global,
     device: &mut D,
     copy: &ChosenCopy,

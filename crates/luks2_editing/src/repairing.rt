@@ -23,7 +23,7 @@ use std::alloc::Global;
 ///
 /// Refused by `SeqExhausted`, `MetadataFull` or `RandomLength`; 128 random bytes are needed, the salts
 /// of the copies. Takes memory for the JSON area, before the first write.
-pub fn repair<D: Device>(
+pub(crate) fn repair<D: Device>(
     alloc: Global,
     device: &mut D,
     copy: &ChosenCopy,
