@@ -1,10 +1,8 @@
 -- A keyslot of new metadata that is sealed by its plan: what that takes, and what it leaves.
 use Rattle.std.proofs.Common.{◌≡◌, ℕ, ◌+◌, ◌-◌, ◌*◌, ◌≤◌, List, length, drop, Option, Some, Result, Ok, Err, OnOk, inl, inr, sym, ap, ◌∙◌, arith, length-drop}
 use Rattle.serde_json.specs.Data.{Data as Value}
-use Rattle.luks_area.specs.Area.{IsInside}
 use Rattle.luks_area.specs.Ranges.{IsOfEither, SameBut}
 use Rattle.luks_area.specs.RangeFacts.{same_but-wider}
-use Rattle.luks_area.specs.Sectors.{rounded_to_sectors}
 use Rattle.luks_head.specs.Header2.{hdr_size, header_at}
 use Rattle.luks_rules.specs.declared.table.Member.TheVariants as name
 use Rattle.luks_rules.specs.declared.table.Outer.TheVariants as outer
@@ -16,7 +14,7 @@ use Rattle.luks_making.specs.Naming.{IsDigestOf}
 use Rattle.luks_slot.specs.declared.plan.Derivation.{Derivation}
 use Rattle.luks_slot.specs.declared.plan.Derivation.TheVariants.{Pbkdf2, Argon2}
 use Rattle.luks_slot.specs.declared.plan.SlotPlan.{SlotPlan}
-use Rattle.luks_slot.specs.Opening.{area_bytes, stripe_bytes, HasIterations}
+use Rattle.luks_slot.specs.Opening.{area_bytes, HasIterations}
 use Rattle.luks_slot.specs.Sealing.{IsSealed}
 use Rattle.luks_reading.specs.declared.report.Data.{Data}
 use Rattle.luks_reading.specs.Plans.{IsLuks2Derivation, IsLuks2Plan}
