@@ -19,7 +19,7 @@ _luks() {
     elif [[ $before == --version ]]; then
         words="1 2"
     elif [[ $before == --hash ]]; then
-        words="sha1 sha256"
+        words="sha1 sha256 sha512"
     elif [[ $word == -* ]]; then
         words=${options[${COMP_WORDS[1]}]}
     fi

@@ -21,7 +21,7 @@ complete -c luks -n '__fish_seen_subcommand_from format' -F
 complete -c luks -n '__fish_seen_subcommand_from format' -l passphrase -r -F -d 'The file of the passphrase'
 complete -c luks -n '__fish_seen_subcommand_from format' -l random -r -F -d 'The file of the random bytes'
 complete -c luks -n '__fish_seen_subcommand_from format' -l version -x -a '1 2' -d 'The version of LUKS'
-complete -c luks -n '__fish_seen_subcommand_from format' -l hash -x -a 'sha1 sha256' -d 'The hash'
+complete -c luks -n '__fish_seen_subcommand_from format' -l hash -x -a 'sha1 sha256 sha512' -d 'The hash'
 complete -c luks -n '__fish_seen_subcommand_from format' -l iterations -x -d 'The iterations of PBKDF2'
 complete -c luks -n '__fish_seen_subcommand_from format' -l detached -d 'The payload lies on another device'
 

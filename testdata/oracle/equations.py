@@ -9,6 +9,9 @@ except ImportError:
 
 SECTOR = 512
 
+# The hashes of FIPS 180-4 that open.
+HASHES = ("sha1", "sha256", "sha512")
+
 
 def pbkdf2(hash_name, passphrase, salt, iterations, length):
     return hashlib.pbkdf2_hmac(hash_name, passphrase, salt, iterations, length) if length else b""

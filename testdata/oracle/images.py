@@ -5,7 +5,7 @@ import json
 import struct
 from dataclasses import dataclass, field
 
-from equations import pbkdf2, round_up, sealed_area
+from equations import HASHES, pbkdf2, round_up, sealed_area
 
 UUID = b"00000000-0000-4000-8000-000000000000"
 ENABLED, DISABLED = 0x00AC71F3, 0x0000DEAD
@@ -142,6 +142,19 @@ def opening1(hash_name="sha256", key_bytes=64, passphrase=b"one"):
     head.slots[0] = Entry(ENABLED, 1000, b"\x11" * 32, OFFSETS[0], 4000)
     area = head.seal(0, passphrase, key, pattern(3999 * key_bytes))
     return head, area, volume(SAMPLE_LENGTH, (0, head.header()), (4096, area))
+
+
+def two_hashes(stripes=4000):
+    """LUKS2 of the digest and keyslot 0 by sha256, keyslot 1 by sha512: both open, by `one` and by `two`."""
+    key = counting(64)
+    slots, parts = {}, []
+    for n, hash_name, passphrase in ((0, "sha256", b"one"), (1, "sha512", b"two")):
+        salt, offset = bytes([0x11 + n]) * 32, 32768 + 258048 * n
+        slots[str(n)] = keyslot(hash_name, 1000, salt, offset, stripes=stripes)
+        slot_key = pbkdf2(hash_name, passphrase, salt, 1000, 64)
+        parts.append((offset, sealed_area(hash_name, slot_key, key, pattern((stripes - 1) * 64))))
+    value = metadata(slots, "sha256", 1000, pbkdf2("sha256", key, b"\x22" * 32, 1000, 32), b"\x22" * 32)
+    return volume(LUKS2_LENGTH, *copies(compact(value)), *parts)
 
 
 def opening2(hash_name="sha256", key_size=64, area_key_size=64, stripes=4000, af_hash=None, digest_length=None, passphrase=b"one"):

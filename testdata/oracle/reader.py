@@ -5,7 +5,7 @@ import json
 import re
 import struct
 
-from equations import opened_area, pbkdf2, round_up
+from equations import HASHES, opened_area, pbkdf2, round_up
 
 FIRST_MAGIC, SECOND_MAGIC = b"LUKS\xba\xbe", b"SKUL\xba\xbe"
 ENABLED, DISABLED = 0x00AC71F3, 0x0000DEAD
@@ -430,7 +430,7 @@ def known(volume, area, cipher, cipher_key, length, stripes, hashes, derivation,
         raise Fault("Argon2")
     if cipher not in (b"aes-xts-plain64", b"aes-xts-plain"):
         raise Fault("Cipher")
-    if any(name not in ("sha1", "sha256") for name in hashes):
+    if any(name not in HASHES for name in hashes):
         raise Fault("Hash")
     if cipher_key not in (32, 64):
         raise Fault("KeySize")

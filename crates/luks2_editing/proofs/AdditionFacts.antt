@@ -1,11 +1,9 @@
 -- A keyslot that is added to a LUKS2 volume: what its metadata says, and what the addition leaves.
-use Rattle.std.proofs.Common.{◌≡◌, ℕ, ◌+◌, ◌*◌, ◌<◌, ◌≤◌, Bor, List, length, codes, Option, Some, inl, inr, refl, sym, ap, ◌∙◌, subst, arith}
+use Rattle.std.proofs.Common.{◌≡◌, ℕ, ◌<◌, Bor, List, length, codes, Option, Some, inl, inr, refl, sym, ap, ◌∙◌, subst}
 use Rattle.serde_json.specs.Data.{Data as Value}
 use Rattle.luks_area.specs.declared.area.Area.{Area}
-use Rattle.luks_area.specs.Ranges.{IsAt, IsOfEither}
+use Rattle.luks_area.specs.Ranges.{IsOfEither}
 use Rattle.luks_area.specs.RangeFacts.{same_but-wider}
-use Rattle.luks_area.specs.Sectors.{rounded_to_sectors}
-use Rattle.luks_head.specs.declared.bin2.Bin2.{Bin2}
 use Rattle.luks_head.specs.Header2.{header_at, hdr_size}
 use Rattle.luks_rules.specs.declared.table.Outer.TheVariants as outer
 use Rattle.luks_rules.specs.declared.table.Section.TheVariants.{Keyslots}
@@ -21,28 +19,20 @@ use Rattle.luks_reading.specs.declared.report.Data.{Data}
 use Rattle.luks_reading.specs.Answer.{opens, Answer}
 use Rattle.luks_reading.specs.Checked.{WellFormed}
 use Rattle.luks_reading.specs.Header.{IsChosenCopy}
-use Rattle.luks_reading.specs.Plans.{HasLuks2KeyBytes}
 use Rattle.luks_edit.specs.declared.edit.Edit.TheVariants.{Add}
-use Rattle.luks_edit.specs.declared.edit_fault.EditFault.{EditFault}
-use Rattle.luks_edit.specs.declared.edit_fault.EditFault.TheVariants as fault
 use Rattle.luks2_edits.specs.Edited.{keyslot_salt, members_of, stripes_random, After2, HoldsKey, HoldsOpened, IsEdited, IsMadeIn}
-use Rattle.luks2_edits.specs.Leftovers.{IsTornAt, Leftover2}
 use Rattle.luks2_edits.specs.Metadata.{HasStripes, IsKeyArea, IsNewKeyslot}
-use Rattle.luks2_edits.specs.Places.{rounded_to_blocks, IsNewArea, IsOfCopies, IsOfNewKeyslot, IsTouched}
-use Rattle.luks2_edits.specs.Refused.{IsUnrefused2, NeedsLike}
-use Rattle.luks2_judging.specs.Room.{IsPlaced}
+use Rattle.luks2_edits.specs.Places.{IsNewArea, IsOfCopies, IsOfNewKeyslot, IsTouched}
 use Rattle.luks2_judging.specs.Rows.{HasNoFaultBefore}
 use Rattle.luks2_judging.specs.Salts.{HasOneDigest}
-use Rattle.luks2_judging.proofs.StripeFacts.{same_stripes, some_same}
+use Rattle.luks2_judging.proofs.StripeFacts.{some_same}
 use Rattle.luks2_editing.specs.declared.adding.Addition.{Addition}
 use Rattle.luks2_editing.specs.declared.sealed_metadata.SealedSlot.TheVariants.{Made}
 use Rattle.luks2_editing.specs.declared.sealed_metadata.Sealing.{Sealing}
 use Rattle.luks2_editing.specs.MadeMetadata.{IsGained, IsSealingEdit}
-use Rattle.luks2_editing.specs.Prepared.{IsCopyWithin}
-use Rattle.luks2_editing.specs.Replies.{EndsBy2}
-use Rattle.luks2_editing.specs.SealedKeyslot.{HasRefusedKeyslot, IsKeyslotWritten, IsOfStripesOf, IsSealable, IsSealing, IsUnsealed}
+use Rattle.luks2_editing.specs.SealedKeyslot.{HasRefusedKeyslot, IsKeyslotWritten, IsOfStripesOf, IsSealing}
 use Rattle.luks2_editing.proofs.KeyAreaFacts.{area_of_object}
-use Rattle.luks2_editing.proofs.MadeMetadataFacts.{sectors_in_blocks}
+use Rattle.luks2_editing.proofs.NewKeyslotFacts.{alike_place, SealsLike}
 use Rattle.luks2_editing.proofs.OpenedFacts.{opened_plan, HasOpenPlan}
 use Rattle.luks2_editing.proofs.PlanFacts.{like_unrefused, SaysLike}
 use Rattle.luks2_editing.proofs.RenewalFacts.{metadata_here, VolumeLaws}
@@ -54,7 +44,7 @@ module _ (j k : Value) (slot like iterations : ℕ) (salt : List ℕ) (area : Ar
   made_object = record { numbered = refl; named = small; is = x.gains.there }
 
   -- its key and stripes are those of the other
-  pub made_stripes : (a b : ℕ) → HasStripes j like a b → HasStripes k slot a b
+  made_stripes : (a b : ℕ) → HasStripes j like a b → HasStripes k slot a b
   made_stripes a b s =
       let from : s.object ≡ x.added.from = some_same s.object x.added.from (sym s.there.is ∙ x.added.there.is) in
       let key : a ≡ x.added.slot.key_size = some_same a x.added.slot.key_size
@@ -69,45 +59,12 @@ module _ (j k : Value) (slot like iterations : ℕ) (salt : List ℕ) (area : Ar
       }
 
   -- its area is the one that was found for it
-  pub made_area : IsKeyArea k slot area
+  made_area : IsKeyArea k slot area
   made_area = area_of_object k (slot_value x.added.slot) slot area.start area.len small x.gains.there
       (x.says.offset ∙ ap Some x.added.made.offset) (x.says.size ∙ ap Some x.added.made.size)
 
-  -- the key can be sealed in it
-  pub made_sealable : (len total : ℕ) (header : Bin2) (key random : List ℕ) → NeedsLike j like (length random) → HasLuks2KeyBytes j like (length key)
-      → IsPlaced len j total like area → IsCopyWithin header len total → IsSealable header.hdr_size k slot key random total
-  made_sealable len total header key random needs bytes placed within =
-      let object : bytes.object ≡ needs.slot.object = some_same bytes.object needs.slot.object (sym bytes.there ∙ needs.slot.there.is) in
-      let same = same_stripes j like needs.key_bytes needs.stripes placed.blocks.key_bytes placed.blocks.stripes needs.slot placed.blocks.slot in
-      let fits : rounded_to_sectors (placed.blocks.key_bytes * placed.blocks.stripes) ≤ rounded_to_blocks (placed.blocks.key_bytes * placed.blocks.stripes) =
-      sectors_in_blocks (placed.blocks.key_bytes * placed.blocks.stripes) in
-      let from : 2 * (len + 4096) ≤ area.start = placed.from in
-      let size : 4096 + len ≡ header.hdr_size = within.size in
-      record {
-        key_bytes = needs.key_bytes;
-        stripes = needs.stripes;
-        slot = made_stripes needs.key_bytes needs.stripes needs.slot;
-        area = area;
-        place = made_area;
-        key_length = some_same (length key) needs.key_bytes (sym bytes.is ∙ ap (λ d. number_in 1 128 (inside_at outer.Top (codes "key_size") d)) object ∙ needs.slot.key_bytes_are);
-        random_length = needs.count;
-        large = rw (same.key_bytes, same.stripes, placed.blocks.is) fits;
-        behind = omega (arith, from, size);
-        inside = placed.inside;
-      }
-
-  -- its sectors are those of the new area
-  pub made_place : (h total : ℕ) (payload : Data) (p : ℕ) → IsNewArea h total payload j like area → IsOfStripesOf k slot p → IsOfNewKeyslot h total payload j like p
-  made_place h total payload p new at =
-      let start : at.area.start ≡ area.start = some_same at.area.start area.start (sym at.place.1 ∙ made_area.1) in
-      let same = same_stripes k slot at.key_bytes at.stripes new.key_bytes new.stripes at.slot (made_stripes new.key_bytes new.stripes new.slot) in
-      record {
-        area = area;
-        is = new;
-        at = subst (λ s. IsAt s (rounded_to_sectors (new.key_bytes * new.stripes)) p) start
-            (subst (λ s. IsAt at.area.start (rounded_to_sectors (new.key_bytes * s)) p) same.stripes
-            (subst (λ b. IsAt at.area.start (rounded_to_sectors (b * at.stripes)) p) same.key_bytes at.at));
-      }
+  pub made_alike : SealsLike j k like slot area
+  made_alike = record { stripes = made_stripes; place = made_area }
 
   -- ---- its plan
 
@@ -122,7 +79,7 @@ module _ (j k : Value) (slot like iterations : ℕ) (salt : List ℕ) (area : Ar
   }
 
   -- where the other was opened, its plan isn't refused
-  pub made_unrefused : (g : SlotFault) → HasOpenPlan j like → HasOneDigest j → HasRefusedKeyslot k slot g → ⊥
+  made_unrefused : (g : SlotFault) → HasOpenPlan j like → HasOneDigest j → HasRefusedKeyslot k slot g → ⊥
   made_unrefused g open_ digests bad =
       let was : open_.object ≡ x.added.from = some_same open_.object x.added.from (sym open_.there ∙ x.added.there.is) in
       let now : bad.object ≡ slot_value x.added.slot = some_same bad.object (slot_value x.added.slot) (sym bad.there.is ∙ x.gains.there) in
@@ -164,7 +121,8 @@ module _ (v : List ℕ) (payload : Data) (copy : ChosenCopy) (addition : Additio
       (gained : IsGained addition.made addition.by_ (members_of addition.iterations (keyslot_salt random) addition.area) (content copy.meta) k) where
     place_in : (p : ℕ) → IsOfStripesOf k addition.made p
         → IsOfNewKeyslot (hdr_size (header_at v copy.header.hdr_offset)) (length v) payload (content copy.meta) addition.by_ p
-    place_in p at = made_place (content copy.meta) k addition.made addition.by_ addition.iterations (keyslot_salt random) addition.area gained small
+    place_in p at = alike_place (content copy.meta) k addition.by_ addition.made addition.area
+        (made_alike (content copy.meta) k addition.made addition.by_ addition.iterations (keyslot_salt random) addition.area gained small)
         (hdr_size (header_at v copy.header.hdr_offset)) (length v) payload p x.place at
 
     sealed_in : (w : List ℕ) → HoldsKey w k addition.made addition.new.now key (stripes_random random)
@@ -174,48 +132,14 @@ module _ (v : List ℕ) (payload : Data) (copy : ChosenCopy) (addition : Additio
     pub addition_sealing : IsSealing v payload (Add addition.by_ old addition.new to addition.iterations) random copy.header.hdr_offset (content copy.meta) k addition.made addition.new.now key
     addition_sealing = record { sealed = sealed_in; place = place_in }
 
+    -- its plan isn't refused
+    pub addition_fine : (g : SlotFault) → HasRefusedKeyslot k addition.made g → ⊥
+    addition_fine g bad = made_unrefused (content copy.meta) k addition.made addition.by_ addition.iterations (keyslot_salt random) addition.area gained small g
+        (opened_plan laws v copy.header.hdr_offset (content copy.meta) addition.by_ old.now key (metadata_here laws v payload copy x.chosen x.well) x.opened)
+        digests bad
+
     module _ (edited : IsEdited (hdr_size (header_at v copy.header.hdr_offset)) (length v) payload (Add addition.by_ old addition.new to addition.iterations) (keyslot_salt random) (content copy.meta) k)
-        (unrefused : IsUnrefused2 v payload (Add addition.by_ old addition.new to addition.iterations) random) (w : List ℕ) where
-      torn : IsTornAt v payload (Add addition.by_ old addition.new to addition.iterations) random copy.header.hdr_offset (content copy.meta) k w
-          → Leftover2 v payload (Add addition.by_ old addition.new to addition.iterations) random w
-      torn t = inr (
-        unrefused,
-        record {
-          place = copy.header.hdr_offset;
-          value = content copy.meta;
-          metadata = metadata_here laws v payload copy x.chosen x.well;
-          new = k;
-          edited = edited;
-          torn = t;
-        },
-      )
-
-      shut : (g : SlotFault) → HasRefusedKeyslot k addition.made g → ⊥
-      shut g bad = made_unrefused (content copy.meta) k addition.made addition.by_ addition.iterations (keyslot_salt random) addition.area gained small g
-          (opened_plan laws v copy.header.hdr_offset (content copy.meta) addition.by_ old.now key (metadata_here laws v payload copy x.chosen x.well) x.opened)
-          digests bad
-
-      -- what it leaves where it was ended
-      pub unsealed_ends : (f : EditFault) → IsUnsealed k addition.made f
-          → IsTornAt v payload (Add addition.by_ old addition.new to addition.iterations) random copy.header.hdr_offset (content copy.meta) k w
-          → EndsBy2 payload v (Add addition.by_ old addition.new to addition.iterations) random f w
-      unsealed_ends fault.Device why t = torn t
-      unsealed_ends (fault.Slot g) why t = absurd (shut g why)
-      unsealed_ends fault.Memory why t = absurd why
-      unsealed_ends (fault.NotAccepted f) why t = absurd why
-      unsealed_ends fault.Requirements why t = absurd why
-      unsealed_ends fault.NoSuchSlot why t = absurd why
-      unsealed_ends fault.Locked why t = absurd why
-      unsealed_ends fault.SlotTaken why t = absurd why
-      unsealed_ends fault.NoFreeSlot why t = absurd why
-      unsealed_ends fault.NoRoom why t = absurd why
-      unsealed_ends fault.LastSlot why t = absurd why
-      unsealed_ends fault.Iterations why t = absurd why
-      unsealed_ends fault.BadLabel why t = absurd why
-      unsealed_ends fault.SeqExhausted why t = absurd why
-      unsealed_ends fault.MetadataFull why t = absurd why
-      unsealed_ends fault.RandomLength why t = absurd why
-
+        (w : List ℕ) where
       touched : (p : ℕ) → IsOfEither (IsOfStripesOf k addition.made) (IsOfCopies (hdr_size (header_at v copy.header.hdr_offset))) p
           → IsTouched (hdr_size (header_at v copy.header.hdr_offset)) (length v) payload (content copy.meta) (Add addition.by_ old addition.new to addition.iterations) p
       touched p (inl at) = inr (inl (place_in p at))

@@ -1,12 +1,11 @@
 -- A keyslot of a LUKS2 volume that is sealed again: its new area, and what the edit leaves.
-use Rattle.std.proofs.Common.{◌≡◌, ◌↔◌, ℕ, ◌+◌, ◌-◌, ◌*◌, ◌≤◌, Bor, List, length, replicate, codes, Some, option_and_then, inl, inr, refl, sym, ap, ◌∙◌, subst, arith}
+use Rattle.std.proofs.Common.{◌≡◌, ◌↔◌, ℕ, ◌≤◌, Bor, List, length, replicate, codes, Some, option_and_then, inl, inr, refl, sym, ap, ◌∙◌, subst, arith}
 use Rattle.serde_json.specs.Data.{Data as Value}
 use Rattle.serde_json.specs.Find.{get}
 use Rattle.luks_area.specs.declared.area.Area.{Area}
 use Rattle.luks_area.specs.declared.area.AreaName.TheVariants.{Slot}
 use Rattle.luks_area.specs.Ranges.{part, IsAt, IsOfEither, SameBut}
 use Rattle.luks_area.specs.RangeFacts.{part-same_but, same_but-then, same_but-wider}
-use Rattle.luks_area.specs.Sectors.{rounded_to_sectors}
 use Rattle.luks_head.specs.Header2.{header_at, hdr_size, IsSound}
 use Rattle.luks_rules.specs.declared.table.Outer.TheVariants as outer
 use Rattle.luks_rules.specs.Faults.{type_at}
@@ -22,58 +21,28 @@ use Rattle.luks_reading.specs.declared.report.Data.{Data}
 use Rattle.luks_reading.specs.Answer.{Answer, opens}
 use Rattle.luks_reading.specs.Checked.{WellFormed}
 use Rattle.luks_reading.specs.Header.{IsChosenCopy}
-use Rattle.luks_reading.specs.Plans.{HasLuks2KeyBytes}
 use Rattle.luks_edit.specs.declared.edit.Edit.TheVariants.{Change}
-use Rattle.luks_edit.specs.declared.edit_fault.EditFault.{EditFault}
-use Rattle.luks_edit.specs.declared.edit_fault.EditFault.TheVariants as fault
 use Rattle.luks2_edits.specs.Edited.{keyslot_salt, members_of, stripes_random, After2, HoldsKey, IsEdited}
-use Rattle.luks2_edits.specs.Leftovers.{IsTornAt, Leftover2}
+use Rattle.luks2_edits.specs.Leftovers.{Leftover2}
 use Rattle.luks2_edits.specs.Metadata.{HasStripes, IsKeyArea}
-use Rattle.luks2_edits.specs.Places.{rounded_to_blocks, IsNewArea, IsOfCopies, IsTouched}
-use Rattle.luks2_edits.specs.Refused.{IsUnrefused2, NeedsLike}
-use Rattle.luks2_judging.specs.Room.{IsPlaced}
+use Rattle.luks2_edits.specs.Places.{IsNewArea, IsOfCopies, IsTouched}
+use Rattle.luks2_edits.specs.Refused.{IsUnrefused2}
+use Rattle.luks2_judging.proofs.StripeFacts.{some_same}
 use Rattle.luks2_editing.specs.MadeMetadata.{IsRenewed}
-use Rattle.luks2_editing.specs.Replies.{EndsBy2}
 use Rattle.luks2_editing.specs.Rewriting.{AreWrittenAnew}
-use Rattle.luks2_editing.specs.SealedKeyslot.{HasRefusedKeyslot, IsKeyslotWritten, IsOfStripesOf, IsSealable, IsSealing, IsUnsealed}
+use Rattle.luks2_editing.specs.SealedKeyslot.{HasRefusedKeyslot, IsKeyslotWritten, IsOfStripesOf, IsSealing}
 use Rattle.luks2_editing.proofs.KeyAreaFacts.{area_of_object}
 use Rattle.luks2_editing.proofs.LostFacts.{beside_first, beside_second, both_beside}
+use Rattle.luks2_editing.proofs.NewKeyslotFacts.{alike_place, same_len, same_start, torn_leftover, SealsLike}
 use Rattle.luks2_editing.proofs.OpenedFacts.{opened_kdf, opened_plan, HasOpenPlan}
 use Rattle.luks2_editing.proofs.PlanFacts.{like_changed, like_unrefused, SaysLike}
 use Rattle.luks2_editing.proofs.RenewalFacts.{listed_at_least, metadata_here, sound_here, VolumeLaws}
-use Rattle.luks2_editing.proofs.SealedFacts.{some_same}
-
--- ---- what one keyslot says
-
--- a keyslot has one key length and one number of stripes
-pub record SameStripes (a b c d : ℕ) : Type 0 where
-  pub key_bytes : a ≡ c
-  pub stripes : b ≡ d
-
-pub same_stripes : (j : Value) (n a b c d : ℕ) → HasStripes j n a b → HasStripes j n c d → SameStripes a b c d
-same_stripes j n a b c d x y =
-    let object : x.object ≡ y.object = some_same x.object y.object (sym x.there.is ∙ y.there.is) in
-    record {
-      key_bytes = some_same a c (sym x.key_bytes_are ∙ ap (λ o. number_in 1 128 (inside_at outer.Top (codes "key_size") o)) object ∙ y.key_bytes_are);
-      stripes = some_same b d (sym x.stripes_are ∙ ap (λ o. number_in 1 4294967295 (inside_at outer.Af (codes "stripes") o)) object ∙ y.stripes_are);
-    }
-
--- and one area
-pub same_start : (j : Value) (n : ℕ) (a b : Area) → IsKeyArea j n a → IsKeyArea j n b → a.start ≡ b.start
-same_start j n a b x y = some_same a.start b.start (sym x.1 ∙ y.1)
-
-pub same_len : (j : Value) (n : ℕ) (a b : Area) → IsKeyArea j n a → IsKeyArea j n b → a.len ≡ b.len
-same_len j n a b x y = some_same a.len b.len (sym x.2 ∙ y.2)
-
--- its stripes take no more sectors than blocks
-pub sectors_in_blocks : (bytes : ℕ) → rounded_to_sectors bytes ≤ rounded_to_blocks bytes
-sectors_in_blocks bytes = omega arith
 
 -- ---- the keyslot in the new metadata
 
 module _ (j k : Value) (slot iterations : ℕ) (salt : List ℕ) (area : Area) (made : IsRenewed slot (members_of iterations salt area) j k) where
   -- its stripes are as before
-  pub stripes_stay : (bytes stripes : ℕ) → HasStripes j slot bytes stripes → HasStripes k slot bytes stripes
+  stripes_stay : (bytes stripes : ℕ) → HasStripes j slot bytes stripes → HasStripes k slot bytes stripes
   stripes_stay bytes stripes x =
       let was = made.changes.was in
       let says = made.changes.says in
@@ -88,35 +57,12 @@ module _ (j k : Value) (slot iterations : ℕ) (salt : List ℕ) (area : Area) (
       }
 
   -- its area is the new one
-  pub area_there : IsKeyArea k slot area
+  area_there : IsKeyArea k slot area
   area_there = area_of_object k (renewed_slot (members_of iterations salt area) made.changes.was) slot area.start area.len
       made.changes.there.named made.changes.is made.changes.says.offset made.changes.says.size
 
-  -- so it can be sealed
-  pub renewed_sealable : (h len total : ℕ) (key random : List ℕ) → 4096 + len ≡ h → IsPlaced len j total slot area → HasLuks2KeyBytes j slot (length key)
-      → NeedsLike j slot (length random) → IsSealable h k slot key random total
-  renewed_sealable h len total key random size placed keyed needs =
-      let object : keyed.object ≡ needs.slot.object = some_same keyed.object needs.slot.object (sym keyed.there ∙ needs.slot.there.is) in
-      let same = same_stripes j slot placed.blocks.key_bytes placed.blocks.stripes needs.key_bytes needs.stripes placed.blocks.slot needs.slot in
-      let fits : rounded_to_sectors (needs.key_bytes * needs.stripes) ≤ rounded_to_blocks (needs.key_bytes * needs.stripes) =
-      sectors_in_blocks (needs.key_bytes * needs.stripes) in
-      let bytes : area.len ≡ rounded_to_blocks (needs.key_bytes * needs.stripes) =
-      placed.blocks.is ∙ ap (λ n. rounded_to_blocks (n * placed.blocks.stripes)) same.key_bytes ∙ ap (λ n. rounded_to_blocks (needs.key_bytes * n)) same.stripes in
-      let from : 2 * (len + 4096) ≤ area.start = placed.from in
-      let count : length random ≡ 64 + 64 + 32 + (needs.stripes - 1) * needs.key_bytes = needs.count in
-      record {
-        key_bytes = needs.key_bytes;
-        stripes = needs.stripes;
-        slot = stripes_stay needs.key_bytes needs.stripes needs.slot;
-        area = area;
-        place = area_there;
-        key_length = some_same (length key) needs.key_bytes
-            (sym keyed.is ∙ ap (λ o. number_in 1 128 (inside_at outer.Top (codes "key_size") o)) object ∙ needs.slot.key_bytes_are);
-        random_length = omega (arith, count);
-        large = omega (arith, fits, bytes);
-        behind = omega (arith, from, size);
-        inside = placed.inside;
-      }
+  pub renewed_alike : SealsLike j k slot slot area
+  renewed_alike = record { stripes = stripes_stay; place = area_there }
 
 -- ---- the volume
 
@@ -129,20 +75,12 @@ module _ (laws : VolumeLaws) (v : List ℕ) (payload : Data) (copy : ChosenCopy)
   pub change_sealing : IsSealing v payload (Change slot old new iterations) random copy.header.hdr_offset (content copy.meta) k slot new.now key
   change_sealing = record {
     sealed = λ w holds. record { slot = slot; is_made = refl; key = key; opened = opened; holds = holds };
-    place = λ p at. record { area = area; is = place; at = at_new p at };
+    place = λ p at. alike_place (content copy.meta) k slot slot area (renewed_alike (content copy.meta) k slot iterations (keyslot_salt random) area made)
+        (hdr_size (header_at v copy.header.hdr_offset)) (length v) payload p place at;
   }
-    where
-      at_new : (p : ℕ) (at : IsOfStripesOf k slot p) → IsAt area.start (rounded_to_sectors (place.key_bytes * place.stripes)) p
-      at_new p at =
-          let start : at.area.start ≡ area.start = same_start k slot at.area area at.place (area_there (content copy.meta) k slot iterations (keyslot_salt random) area made) in
-          let same = same_stripes k slot at.key_bytes at.stripes place.key_bytes place.stripes at.slot
-          (stripes_stay (content copy.meta) k slot iterations (keyslot_salt random) area made place.key_bytes place.stripes place.slot) in
-          subst (λ q. IsAt q (rounded_to_sectors (place.key_bytes * place.stripes)) p) start
-          (subst (λ m. IsAt at.area.start (rounded_to_sectors (m * place.stripes)) p) same.key_bytes
-          (subst (λ m. IsAt at.area.start (rounded_to_sectors (at.key_bytes * m)) p) same.stripes at.at))
 
   -- its plan isn't refused
-  renewed_unrefused : (g : SlotFault) → HasRefusedKeyslot k slot g → ⊥
+  pub renewed_unrefused : (g : SlotFault) → HasRefusedKeyslot k slot g → ⊥
   renewed_unrefused g y =
       let j : Value = content copy.meta in
       let was : HasOpenPlan j slot = opened_plan laws v copy.header.hdr_offset j slot old.now key (metadata_here laws v payload copy x well) opened in
@@ -158,34 +96,6 @@ module _ (laws : VolumeLaws) (v : List ℕ) (payload : Data) (copy : ChosenCopy)
 
   module _ (free : IsUnrefused2 v payload (Change slot old new iterations) random)
       (edited : IsEdited (hdr_size (header_at v copy.header.hdr_offset)) (length v) payload (Change slot old new iterations) (keyslot_salt random) (content copy.meta) k) where
-    -- what it leaves where it was ended while it wrote
-    leftover : (w : List ℕ) → IsTornAt v payload (Change slot old new iterations) random copy.header.hdr_offset (content copy.meta) k w
-        → Leftover2 v payload (Change slot old new iterations) random w
-    leftover w torn = inr (
-      free,
-      record { place = copy.header.hdr_offset; value = content copy.meta; metadata = metadata_here laws v payload copy x well; new = k; edited = edited; torn = torn },
-    )
-
-    pub unsealed_ends : (w : List ℕ) (f : EditFault) → IsUnsealed k slot f
-        → IsTornAt v payload (Change slot old new iterations) random copy.header.hdr_offset (content copy.meta) k w
-        → EndsBy2 payload v (Change slot old new iterations) random f w
-    unsealed_ends w fault.Device un torn = leftover w torn
-    unsealed_ends w (fault.Slot g) un torn = absurd (renewed_unrefused g un)
-    unsealed_ends w fault.Memory un torn = absurd un
-    unsealed_ends w (fault.NotAccepted f) un torn = absurd un
-    unsealed_ends w fault.Requirements un torn = absurd un
-    unsealed_ends w fault.NoSuchSlot un torn = absurd un
-    unsealed_ends w fault.Locked un torn = absurd un
-    unsealed_ends w fault.SlotTaken un torn = absurd un
-    unsealed_ends w fault.NoFreeSlot un torn = absurd un
-    unsealed_ends w fault.NoRoom un torn = absurd un
-    unsealed_ends w fault.LastSlot un torn = absurd un
-    unsealed_ends w fault.Iterations un torn = absurd un
-    unsealed_ends w fault.BadLabel un torn = absurd un
-    unsealed_ends w fault.SeqExhausted un torn = absurd un
-    unsealed_ends w fault.MetadataFull un torn = absurd un
-    unsealed_ends w fault.RandomLength un torn = absurd un
-
     -- ---- the old area
 
     module _ (local : (v w : List ℕ) (o n : ℕ) → length v ≡ length w → 4096 ≤ n → hdr_size (header_at v o) ≤ n → part v o n ≡ part w o n → IsSound v o ↔ IsSound w o)
@@ -238,7 +148,7 @@ module _ (laws : VolumeLaws) (v : List ℕ) (payload : Data) (copy : ChosenCopy)
 
       -- while it was overwritten
       pub torn_lost : Leftover2 v payload (Change slot old new iterations) random y
-      torn_lost = leftover y (inr (inr (inr (record {
+      torn_lost = torn_leftover laws v payload copy x well (Change slot old new iterations) random k free edited y (inr (inr (inr (record {
         sealed = change_sealing.sealed y holds_kept;
         first = anew_kept.first;
         second = anew_kept.second;

@@ -12,6 +12,7 @@ mod MadeMetadataFacts
 mod OpenedFacts
 mod SealedRowFacts
 mod SealedFacts
+mod NewKeyslotFacts
 mod AdditionFacts
 mod PlanFacts
 mod ChangeFacts

@@ -23,7 +23,7 @@ use Rattle.luks_slot.specs.Refusal.{is_argon2, is_known_derivation, is_open_ciph
 use Rattle.luks_reading.specs.Plans.{IsLuks2Cipher, IsLuks2Derivation, IsLuks2Digest}
 use Rattle.luks2_editing.specs.SealedKeyslot.{HasRefusedKeyslot}
 use Rattle.luks2_editing.proofs.OpenedFacts.{not_argon2, HasOpenPlan}
-use Rattle.luks2_editing.proofs.SealedFacts.{some_same}
+use Rattle.luks2_judging.proofs.StripeFacts.{some_same}
 
 -- ---- a keyslot that says of its opening what another says
 

@@ -1,7 +1,5 @@
 -- A keyslot of new metadata that is sealed by its plan: what that takes, and what it leaves.
-use Rattle.std.proofs.Common.{◌≡◌, ℕ, ◌+◌, ◌-◌, ◌*◌, ◌≤◌, List, length, drop, Bool, true, false, Option, Some, None, Result, Ok, Err, OnOk, option_and_then, inl, inr, refl, sym, ap, ◌∙◌, subst, arith, length-drop}
-use Rattle.std.specs.Prelude.{if◌then◌else◌}
-use Rattle.std.proofs.lemmas.Bool.{and_parts, leb-true}
+use Rattle.std.proofs.Common.{◌≡◌, ℕ, ◌+◌, ◌-◌, ◌*◌, ◌≤◌, List, length, drop, Option, Some, Result, Ok, Err, OnOk, inl, inr, sym, ap, ◌∙◌, arith, length-drop}
 use Rattle.serde_json.specs.Data.{Data as Value}
 use Rattle.luks_area.specs.Area.{IsInside}
 use Rattle.luks_area.specs.Ranges.{IsOfEither, SameBut}
@@ -13,7 +11,7 @@ use Rattle.luks_rules.specs.declared.table.Outer.TheVariants as outer
 use Rattle.luks_rules.specs.declared.table.Section.TheVariants.{Keyslots}
 use Rattle.luks_rules.specs.Accepted.{HasObject}
 use Rattle.luks_rules.specs.Faults.{member_at}
-use Rattle.luks_rules.specs.Reading.{is_between, kept, number_in, number_of}
+use Rattle.luks_rules.specs.Reading.{number_in}
 use Rattle.luks_making.specs.Naming.{IsDigestOf}
 use Rattle.luks_slot.specs.declared.plan.Derivation.{Derivation}
 use Rattle.luks_slot.specs.declared.plan.Derivation.TheVariants.{Pbkdf2, Argon2}
@@ -28,14 +26,11 @@ use Rattle.luks_edit.specs.declared.edit_fault.EditFault.TheVariants as fault
 use Rattle.luks2_edits.specs.Edited.{stripes_random, HoldsKey}
 use Rattle.luks2_edits.specs.Leftovers.{IsTornAt}
 use Rattle.luks2_edits.specs.Places.{IsOfCopies, IsOfSealed}
+use Rattle.luks2_judging.proofs.StripeFacts.{in_between, some_same}
 use Rattle.luks2_editing.specs.Rewriting.{AreWrittenAnew}
 use Rattle.luks2_editing.specs.Sealed.{IsOfStripes, IsPlanFault, MayBeHalfSealed}
 use Rattle.luks2_editing.specs.SealedKeyslot.{IsKeyslotWritten, IsOfStripesOf, IsSealable, IsSealing, IsUnsealed}
 use Rattle.luks2_editing.proofs.KeyAreaFacts.{area_of_object}
-
--- what is one value is the other
-pub some_same : {A : Type 0} (a b : A) → Some a ≡ Some b → a ≡ b
-some_same a b same = (cc)
 
 -- what follows of two facts where a call succeeds
 pub on_ok_both : {T E P Q R : Type 0} (r : Result T E) → (P → Q → R) → OnOk r P → OnOk r Q → OnOk r R
@@ -44,18 +39,9 @@ on_ok_both (Err e) step a b = tt
 
 -- ---- the numbers of a plan
 
--- a number that was read passes its test
-kept_by : (test : ℕ → Bool) (m n : ℕ) (b : Bool) → test m ≡ b → (if b then Some m else None) ≡ Some n → test n ≡ true
-kept_by test m n true is e = subst (λ k. test k ≡ true) (some_same m n e) is
-kept_by test m n false is e = absurd (let no : None ≡ Some n = e in cc)
-
-number_passes : (test : ℕ → Bool) (o : Option ℕ) (n : ℕ) → option_and_then (kept test) o ≡ Some n → test n ≡ true
-number_passes test None n e = absurd (cc)
-number_passes test (Some m) n e = kept_by test m n (test m) refl e
-
 -- one is at least the least
 at_least_one : (d : Option Value) (n : ℕ) → number_in 1 4294967295 d ≡ Some n → 1 ≤ n
-at_least_one d n e = leb-true 1 n ((and_parts _ _ (number_passes (is_between 1 4294967295) (number_of d) n e)).0)
+at_least_one d n e = (in_between 1 4294967295 n d e).from
 
 -- the derivation has an iteration
 iterated : (d : Value) (a : Derivation) → IsLuks2Derivation d a → HasIterations a

@@ -96,6 +96,13 @@ fn lists_of_edits(rt: HostRuntime) -> Result<(), Fail> {
         HashName::Sha256,
         lists::SHA256_BEFORE,
         &lists::SHA256,
+    )?;
+    compare(
+        &rt,
+        rt.alloc(),
+        HashName::Sha512,
+        lists::SHA512_BEFORE,
+        &lists::SHA512,
     )
 }
 

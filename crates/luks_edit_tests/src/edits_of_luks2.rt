@@ -3,7 +3,7 @@
 pub mod lists;
 
 use crate::answers::line_of;
-use crate::small2::small2;
+use crate::small2::{small2, two_hashes};
 use crate::sums::{counted, is_sum};
 use lists::Row;
 use luks_area::MemDevice;
@@ -30,11 +30,11 @@ fn leaves(alloc: Global, device: &mut MemDevice, number: usize, row: &Row) -> Re
 fn compare(
     rt: &impl Abort,
     alloc: Global,
-    hash: HashName,
+    volume: Vec<u8>,
     before: &str,
     rows: &[Row],
 ) -> Result<(), Fail> {
-    let mut device = MemDevice::new(small2(alloc, hash)?);
+    let mut device = MemDevice::new(volume);
     assert!(rt; is_sum(device.contents(), before), "the volume");
     for (i, row) in rows.iter().enumerate() {
         let number = i.wrapping_add(1);
@@ -43,13 +43,25 @@ fn compare(
     Ok(())
 }
 
-fn lists_of_edits(rt: &impl Abort, alloc: Global) -> Result<(), Fail> {
-    compare(rt, alloc, HashName::Sha1, lists::SHA1_BEFORE, &lists::SHA1)?;
-    compare(
-        rt,
-        alloc,
-        HashName::Sha256,
-        lists::SHA256_BEFORE,
-        &lists::SHA256,
-    )
+/// One list by each hash.
+const BY_HASHES: [(HashName, &str, &[Row]); 3] = [
+    (HashName::Sha1, lists::SHA1_BEFORE, &lists::SHA1),
+    (HashName::Sha256, lists::SHA256_BEFORE, &lists::SHA256),
+    (HashName::Sha512, lists::SHA512_BEFORE, &lists::SHA512),
+];
+
+#[test]
+fn lists_of_edits(rt: HostRuntime) -> Result<(), Fail> {
+    for (hash, before, rows) in BY_HASHES {
+        compare(&rt, rt.alloc(), small2(rt.alloc(), hash)?, before, rows)?;
+    }
+    Ok(())
+}
+
+// What is made has the hashes of the keyslot that opened.
+#[test]
+fn keyslots_of_two_hashes(rt: HostRuntime) -> Result<(), Fail> {
+    let volume = two_hashes(rt.alloc())?;
+    let before = lists::TWO_HASHES_BEFORE;
+    compare(&rt, rt.alloc(), volume, before, &lists::TWO_HASHES)
 }

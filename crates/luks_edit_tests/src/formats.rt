@@ -1,7 +1,7 @@
 //! What formatting leaves of a volume that was filled with 0xA5: printed by `testdata/oracle/edit_values formats`.
 
 /// Version, hash, whether the data is elsewhere, and SHA-256 of the whole volume, of the header (or both copies) and of the key area.
-pub const FORMATS: [(u8, &str, bool, &str, &str, &str); 8] = [
+pub const FORMATS: [(u8, &str, bool, &str, &str, &str); 12] = [
     (
         1,
         "sha1",
@@ -35,6 +35,22 @@ pub const FORMATS: [(u8, &str, bool, &str, &str, &str); 8] = [
         "453c922132760e09632093b5c1060ae104b9915f9ae583a0e1966516297d7b35",
     ),
     (
+        1,
+        "sha512",
+        false,
+        "d9979f405a39a884f615bc8690065806d28ccce1a42b7c441f8419e7550c9201",
+        "7ad043102012238d2b93efbc817f8af69b1d39b48c20ac7d264028d473224a83",
+        "50564150f3427c3d7ae88e22459139b5d62e9c492232da5812fb135fcceffa61",
+    ),
+    (
+        1,
+        "sha512",
+        true,
+        "6d7d71c925517b22df67560dfb4f555ed8658b893bff3a8948076d9cd011c5b8",
+        "32ec8d3444504ab8e36de0b32b99016d3ce55dc9a73aa832c396d555b7c76f40",
+        "50564150f3427c3d7ae88e22459139b5d62e9c492232da5812fb135fcceffa61",
+    ),
+    (
         2,
         "sha1",
         false,
@@ -65,5 +81,21 @@ pub const FORMATS: [(u8, &str, bool, &str, &str, &str); 8] = [
         "04aec40b2f2b9a35e88b078f6ac66c952bed166810bf9a234cea8d647dd9d0c7",
         "951d13fe8436931ed1ecacd18b104054c0c65a04403e1abc0b81d58ff6fc2479",
         "6a772c1ef3e69ccc9dba3bd050f8dc1f6c01e883fe6e6c37ed498bf4ebe8f41e",
+    ),
+    (
+        2,
+        "sha512",
+        false,
+        "6b4d342eff4aecf39c4234e41473f2cc982c66e0bd4e624f9decb16aee00606d",
+        "b8beb1d3bdd8ddde565907a6979e5b5b6852383f08637e41c86bc5becc71fe0f",
+        "26d2d0ef36b1e58023e1999351b20931aabcae4913147c0cf98c65639494a3ad",
+    ),
+    (
+        2,
+        "sha512",
+        true,
+        "7db5baac7298cb686dd28e33471f864d4007ba094f5a1e0bf36fa00ff138afb0",
+        "6046d287cfb07ba7faaf3c3c669120d7655bf5f52ef2c1b441c25383bed7e9fa",
+        "26d2d0ef36b1e58023e1999351b20931aabcae4913147c0cf98c65639494a3ad",
     ),
 ];

@@ -2,6 +2,7 @@
 
 use crate::bytes::put;
 use crate::sealed::key_area;
+use crate::texts::changed;
 use luks_kdf::HashName;
 use sha2::{Digest, Sha256};
 use std::alloc::Global;
@@ -22,7 +23,11 @@ const SHA1: &str =
 pub const SHA256: &str =
     r#"{"config":{"json_size":"12288","keyslots_size":"32768"},"digests":{"0":{"digest":"r0tW0F0ITOoPYBUmFjGzXZTVowAGtTYAjvCjGDabwpo=","hash":"sha256","iterations":1000,"keyslots":["0"],"salt":"IiIiIiIiIiIiIiIiIiIiIiIiIiIiIiIiIiIiIiIiIiI=","segments":["0"],"type":"pbkdf2"}},"keyslots":{"0":{"af":{"hash":"sha256","stripes":40,"type":"luks1"},"area":{"encryption":"aes-xts-plain64","key_size":64,"offset":"32768","size":"4096","type":"raw"},"kdf":{"hash":"sha256","iterations":1000,"salt":"ERERERERERERERERERERERERERERERERERERERERERE=","type":"pbkdf2"},"key_size":64,"type":"luks2"}},"segments":{"0":{"encryption":"aes-xts-plain64","iv_tweak":"0","offset":"65536","sector_size":512,"size":"dynamic","type":"crypt"}},"tokens":{}}"#;
 
-/// The same with a second keyslot, whose area is the second one.
+/// The same by SHA-512.
+const SHA512: &str =
+    r#"{"config":{"json_size":"12288","keyslots_size":"32768"},"digests":{"0":{"digest":"elWX7m2TdJO854yMGPJGGk2xh+ztWZ/2TbHPYmWgWz2Dt6jBWTjmMIVGXAAOE3K0KCNlYpnZEZzaSNYB2ZPacw==","hash":"sha512","iterations":1000,"keyslots":["0"],"salt":"IiIiIiIiIiIiIiIiIiIiIiIiIiIiIiIiIiIiIiIiIiI=","segments":["0"],"type":"pbkdf2"}},"keyslots":{"0":{"af":{"hash":"sha512","stripes":40,"type":"luks1"},"area":{"encryption":"aes-xts-plain64","key_size":64,"offset":"32768","size":"4096","type":"raw"},"kdf":{"hash":"sha512","iterations":1000,"salt":"ERERERERERERERERERERERERERERERERERERERERERE=","type":"pbkdf2"},"key_size":64,"type":"luks2"}},"segments":{"0":{"encryption":"aes-xts-plain64","iv_tweak":"0","offset":"65536","sector_size":512,"size":"dynamic","type":"crypt"}},"tokens":{}}"#;
+
+/// The text by SHA-256 with a second keyslot, whose area is the second one.
 const TWO: &str =
     r#"{"config":{"json_size":"12288","keyslots_size":"32768"},"digests":{"0":{"digest":"r0tW0F0ITOoPYBUmFjGzXZTVowAGtTYAjvCjGDabwpo=","hash":"sha256","iterations":1000,"keyslots":["0","1"],"salt":"IiIiIiIiIiIiIiIiIiIiIiIiIiIiIiIiIiIiIiIiIiI=","segments":["0"],"type":"pbkdf2"}},"keyslots":{"0":{"af":{"hash":"sha256","stripes":40,"type":"luks1"},"area":{"encryption":"aes-xts-plain64","key_size":64,"offset":"32768","size":"4096","type":"raw"},"kdf":{"hash":"sha256","iterations":1000,"salt":"ERERERERERERERERERERERERERERERERERERERERERE=","type":"pbkdf2"},"key_size":64,"type":"luks2"},"1":{"af":{"hash":"sha256","stripes":40,"type":"luks1"},"area":{"encryption":"aes-xts-plain64","key_size":64,"offset":"36864","size":"4096","type":"raw"},"kdf":{"hash":"sha256","iterations":1000,"salt":"ERERERERERERERERERERERERERERERERERERERERERE=","type":"pbkdf2"},"key_size":64,"type":"luks2"}},"segments":{"0":{"encryption":"aes-xts-plain64","iv_tweak":"0","offset":"65536","sector_size":512,"size":"dynamic","type":"crypt"}},"tokens":{}}"#;
 
@@ -89,6 +94,7 @@ pub fn small2(alloc: Global, hash: HashName) -> Result<Vec<u8>, Fail> {
     let text = match hash {
         HashName::Sha1 => SHA1,
         HashName::Sha256 => SHA256,
+        HashName::Sha512 => SHA512,
     };
     volume_of(alloc, hash, text)
 }
@@ -97,6 +103,30 @@ pub fn small2(alloc: Global, hash: HashName) -> Result<Vec<u8>, Fail> {
 pub fn two_keyslots(alloc: Global) -> Result<Vec<u8>, Fail> {
     let mut volume = volume_of(alloc, HashName::Sha256, TWO)?;
     let area = key_area(alloc, HashName::Sha256, b"two")?;
+    put(&mut volume, 36864, &area);
+    Ok(volume)
+}
+
+/// The changes by which keyslot 1 is derived and split by SHA-512.
+const SHA512_1: [(&str, &str); 2] = [
+    (
+        r#""1":{"af":{"hash":"sha256""#,
+        r#""1":{"af":{"hash":"sha512""#,
+    ),
+    (
+        r#""offset":"36864","size":"4096","type":"raw"},"kdf":{"hash":"sha256""#,
+        r#""offset":"36864","size":"4096","type":"raw"},"kdf":{"hash":"sha512""#,
+    ),
+];
+
+/// The same with keyslot 1 by SHA-512; the digest and keyslot 0 are by SHA-256.
+pub fn two_hashes(alloc: Global) -> Result<Vec<u8>, Fail> {
+    let mut text = String::from_str(alloc, TWO)?;
+    for (old, new) in SHA512_1 {
+        text = changed(alloc, text.as_str(), old, new)?;
+    }
+    let mut volume = volume_of(alloc, HashName::Sha256, text.as_str())?;
+    let area = key_area(alloc, HashName::Sha512, b"two")?;
     put(&mut volume, 36864, &area);
     Ok(volume)
 }

@@ -16,9 +16,8 @@ use Rattle.luks_json.specs.Decimal.{IsDecimal, decimal_of}
 use Rattle.luks_json.specs.Encoded.{IsBase64, encoded_of}
 use Rattle.luks_json.specs.Number.{number_of as number_named, number_text}
 use Rattle.luks_json.specs.Values.{bytes_in, decimal_in, is_between, number_in}
-use Rattle.luks_kdf.specs.Names.{digest_size_of}
+use Rattle.luks_kdf.specs.Names.{digest_size_of, each_at_least, each_at_most}
 use Rattle.luks_kdf.specs.declared.hash_name.HashName.{HashName}
-use Rattle.luks_kdf.specs.declared.hash_name.HashName.TheVariants.{Sha1, Sha256}
 use Rattle.luks_rules.specs.Faults.{object_at}
 use Rattle.luks_rules.specs.Sizes.{keyslots_size}
 use Rattle.luks_rules.specs.declared.table.Section.TheVariants.{Digests, Keyslots, Segments}
@@ -32,12 +31,10 @@ use Rattle.luks_formatting.specs.NewPlan.{key_digest}
 use Rattle.luks_formatting.specs.RandomBytes.{digest_salt, slot_place2, slot_salt}
 
 digest_sizes : (hash : HashName) → Between 20 64 (digest_size_of hash)
-digest_sizes Sha1 = record { from = lit≤ tt; to = lit≤ tt }
-digest_sizes Sha256 = record { from = lit≤ tt; to = lit≤ tt }
+digest_sizes hash = record { from = each_at_least 20 digest_size_of refl hash; to = each_at_most 64 digest_size_of refl hash }
 
-pub digest_short : (hash : HashName) → digest_size_of hash ≤ 32
-digest_short Sha1 = lit≤ tt
-digest_short Sha256 = lit≤ tt
+pub digest_short : (hash : HashName) → digest_size_of hash ≤ 64
+digest_short = each_at_most 64 digest_size_of refl
 
 pub length-digest_salt : (random : List ℕ) → 272 ≤ length random → length (digest_salt random) ≡ 32
 length-digest_salt random long = length-part_inside random 80 32 (omega (arith, long))

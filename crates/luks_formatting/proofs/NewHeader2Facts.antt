@@ -2,10 +2,10 @@
 use Rattle.std.proofs.Common.{◌≡◌, ℕ, ◌+◌, ◌≤◌, ◌⊎◌, ◌++◌, List, length, take, drop, replicate, inl, inr, arith, refl, sym, ap, ◌∙◌, subst}
 use Rattle.std.proofs.Math.Seq.{drop-append_seam, take-append_seam}
 use Rattle.sha2.specs.Sha256.{sha256}
+use Rattle.sha2.proofs.Facts256.{length-sha256}
 use Rattle.luks_area.specs.Ranges.{part, written, IsAt, SameBut, SameOutside}
 use Rattle.luks_area.specs.RangeFacts.{length-written, part-same_but_at, part-written, same_but-same_outside, same_outside-longer, same_outside-then, same_outside-wider}
 use Rattle.luks_area.specs.Text.{text_of}
-use Rattle.luks_kdf.specs.Lengths.{length-sha256_of}
 use Rattle.luks_head.specs.Header2.{with_zero_checksum}
 use Rattle.luks_head.specs.Written.{WritesBin2}
 use Rattle.luks_head.specs.declared.bin2.Bin2.{Bin2}
@@ -13,10 +13,10 @@ use Rattle.luks_formatting.specs.Formatted2.{HasNewCopy}
 use Rattle.luks_formatting.specs.NewHeader2.{IsNewCopy}
 
 digest_front : (m : List ℕ) → take 32 (sha256 m ++ replicate 32 0) ≡ sha256 m
-digest_front m = ap (λ n. take n (sha256 m ++ replicate 32 0)) (sym (length-sha256_of m)) ∙ take-append_seam (sha256 m) (replicate 32 0)
+digest_front m = ap (λ n. take n (sha256 m ++ replicate 32 0)) (sym (length-sha256 m)) ∙ take-append_seam (sha256 m) (replicate 32 0)
 
 digest_rest : (m : List ℕ) → drop 32 (sha256 m ++ replicate 32 0) ≡ replicate 32 0
-digest_rest m = ap (λ n. drop n (sha256 m ++ replicate 32 0)) (sym (length-sha256_of m)) ∙ drop-append_seam (sha256 m) (replicate 32 0)
+digest_rest m = ap (λ n. drop n (sha256 m ++ replicate 32 0)) (sym (length-sha256 m)) ∙ drop-append_seam (sha256 m) (replicate 32 0)
 
 -- a header with another checksum is that of a new copy too
 module _ (random salt m : List ℕ) (at : ℕ) (blank : Bin2) (new : IsNewCopy random salt at blank) where

@@ -1,12 +1,11 @@
 -- The plan of keyslot 0 of a new volume: it isn't refused, and the volume key meets its digest.
-use Rattle.std.proofs.Common.{◌≡◌, ◌≤◌, ℕ, List, length, true, false, Some, None, refl, sym, ap, subst}
+use Rattle.std.proofs.Common.{◌≡◌, ◌≤◌, ℕ, List, length, true, false, Some, None, bytes_eq, refl, sym, ap, subst}
 use Rattle.std.proofs.lemmas.Slice.Eq.{bytes_eq-Decides}
 use Rattle.luks_area.specs.Text.{is_plain, text_of}
 use Rattle.luks_area.specs.declared.area.Area.{Area}
 use Rattle.luks_kdf.specs.Derivation.{pbkdf2}
-use Rattle.luks_kdf.specs.Names.{block_size_of, hash_named, hash_of, name_of}
+use Rattle.luks_kdf.specs.Names.{block_size_of, each_passes, hash_of, name_of, named}
 use Rattle.luks_kdf.specs.declared.hash_name.HashName.{HashName}
-use Rattle.luks_kdf.specs.declared.hash_name.HashName.TheVariants.{Sha1, Sha256}
 use Rattle.luks_slot.specs.declared.plan.Derivation.{Derivation}
 use Rattle.luks_slot.specs.declared.plan.Derivation.TheVariants.{Pbkdf2, Argon2}
 use Rattle.luks_slot.specs.declared.plan.DigestPlan.{DigestPlan}
@@ -18,21 +17,16 @@ use Rattle.luks_formatting.specs.NewPlan.{key_digest, IsNewDerivation, IsNewDige
 use Rattle.luks_formatting.specs.RandomBytes.{digest_salt, volume_key}
 
 -- the names of the hashes
-pub named : (hash : HashName) → hash_named (name_of hash) ≡ Some hash
-named Sha1 = refl
-named Sha256 = refl
-
 pub by_name : (hash : HashName) → hash_by_name (name_of hash) ≡ hash
-by_name Sha1 = refl
-by_name Sha256 = refl
+by_name hash = rw (named hash) refl
 
 pub name_plain : (hash : HashName) → is_plain (name_of hash) ≡ true
-name_plain Sha1 = refl
-name_plain Sha256 = refl
+name_plain = each_passes (λ h. is_plain (name_of h)) refl
 
 pub name_whole : (hash : HashName) → text_of (name_of hash) ≡ name_of hash
-name_whole Sha1 = refl
-name_whole Sha256 = refl
+name_whole hash =
+    let same = each_passes (λ h. bytes_eq (text_of (name_of h)) (name_of h)) refl hash in
+    (bytes_eq-Decides (text_of (name_of hash)) (name_of hash)).0 same
 
 -- the derivation
 not_argon2 : (format : Format) (salt : List ℕ) (d : Derivation) → IsNewDerivation format salt d → is_argon2 d ≡ false

@@ -1,5 +1,5 @@
 -- The text of a new volume's metadata is shorter than its JSON area.
-use Rattle.std.proofs.Common.{◌≡◌, ℕ, ◌+◌, ◌*◌, ◌<◌, ◌≤◌, ◌^◌, List, [], ◌∷◌, ◌++◌, length, replicate, Bool, true, false, nat_lt, inl, inr, arith, lit<, lit≤, length-append}
+use Rattle.std.proofs.Common.{◌≡◌, ℕ, ◌+◌, ◌*◌, ◌<◌, ◌≤◌, ◌^◌, List, [], ◌∷◌, ◌++◌, length, replicate, Bool, true, false, nat_lt, inl, inr, arith, lit<, lit≤, length-append, refl}
 use Rattle.std.specs.Prelude.{decimal}
 use Rattle.std.proofs.lemmas.Bool.{cases_Bool}
 use Rattle.std.proofs.lemmas.Fmt.{length-decimal-le}
@@ -9,9 +9,8 @@ use Rattle.json.specs.Print.{escape, escape_byte, escape_letter, quoted}
 use Rattle.serde_json.specs.Data.{Data, null, boolean, number, string, array, object, Items, no_items, item, Members, no_members, member}
 use Rattle.serde_json.specs.Written.{comma_if, compact_text, items_text, members_text, number_text}
 use Rattle.luks_json.specs.Encoded.{alphabet}
-use Rattle.luks_kdf.specs.Names.{name_of}
+use Rattle.luks_kdf.specs.Names.{each_at_most, name_of}
 use Rattle.luks_kdf.specs.declared.hash_name.HashName.{HashName}
-use Rattle.luks_kdf.specs.declared.hash_name.HashName.TheVariants.{Sha1, Sha256}
 use Rattle.luks_making.specs.Formatted.{VolumeMembers, formatted}
 use Rattle.luks_making.specs.Keyslots.{base64_text}
 
@@ -111,12 +110,11 @@ encoded_short bytes =
     omega (arith, symbols, pad, all)
 
 pub name_short : (hash : HashName) → length (name_of hash) ≤ 6
-name_short Sha1 = lit≤ tt
-name_short Sha256 = lit≤ tt
+name_short = each_at_most 6 (λ h. length (name_of h)) refl
 
 -- the whole text
 module _ (v : VolumeMembers) (hash : length v.hash ≤ 6) (iterations : v.iterations < 2 ^ 32) (offset : v.segment_offset < 2 ^ 64)
-    (digest_salt : length v.digest_salt ≤ 32) (digest : length v.digest ≤ 32) (slot_salt : length v.slot_salt ≤ 32) where
+    (digest_salt : length v.digest_salt ≤ 32) (digest : length v.digest ≤ 64) (slot_salt : length v.slot_salt ≤ 32) where
   pub text_fits : length (compact_text (formatted v)) < 12288
   text_fits =
       let text = value_short (formatted v) in

@@ -4,7 +4,7 @@ use borrow.Rule.Slice.PartMut.{put_mid}
 use Rattle.std.proofs.Math.Nat.{mul-div_cancel}
 use Rattle.std.proofs.lemmas.List.{append-nil, drop_at, drop_all, drop-append-le, length-drop, length-replicate, take_all, take_at, take-append-le}
 use Rattle.luks_kdf.specs.Xor.{xor_bytes}
-use Rattle.luks_kdf.specs.Splitter.{block_at, diffuse, stripe_at, mixed, merge, split, Splits, TakesIn}
+use Rattle.luks_kdf.specs.Splitter.{block_at, diffuse, stripe_at, mixed, merge, split, Splits, TakesIn, UndoesSplit}
 use Rattle.luks_kdf.proofs.XorFacts.{length-xor_bytes, xor_bytes-twice}
 use Rattle.luks_kdf.proofs.DiffuseFacts.{length-block_at, length-diffuse}
 
@@ -70,6 +70,13 @@ merge-last hash size digests some key random last i whole is_last =
     let front = mixed-append hash size k random last i (omega (arith, whole)) in
     let end = stripe_at-last k random last i whole last_length in
     rw (count, front, end, is_last) (xor_bytes-twice block key block_length)
+
+-- merging undoes splitting
+pub merge-split : (hash : List ℕ → List ℕ) (size : ℕ) → ((m : List ℕ) → length (hash m) ≡ size) → 1 ≤ size → UndoesSplit hash size
+unfolding split
+merge-split hash size digests some key random n whole =
+    let count : n + 1 - 1 ≡ n = omega arith in
+    rw count (merge-last hash size digests some key random _ n whole refl)
 
 -- one stripe more
 pub takes_in : (hash : List ℕ → List ℕ) (size : ℕ) → ((m : List ℕ) → length (hash m) ≡ size) → 1 ≤ size

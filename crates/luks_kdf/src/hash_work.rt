@@ -2,10 +2,10 @@
 
 ghost use Rattle.std.specs.Prelude.{◌≡◌, ◌≤◌, ℕ, List, length, ⊤};
 ghost use Rattle.luks_kdf.specs.Derivation.{hmac, pbkdf2};
-ghost use Rattle.luks_kdf.specs.Splitter.{CanSplit, Splits, CanMerge, Merges, UndoesSplit};
+ghost use Rattle.luks_kdf.specs.Splitter.{CanSplit, Splits, CanMerge, Merges, TakesIn};
 
 use crate::hash::HashFn;
-use crate::{derive, keyed, merger, splitter};
+use crate::{derive, keyed, merger, running_block, splitter};
 
 // Work that is done by a hash function, and may write into `out`. Its members take the function,
 // the length of a digest, the length of a block, and what `out` holds before and after.
@@ -117,18 +117,20 @@ impl HashWork for Merge<'_> {
     }
 }
 
-// Nothing: what it promises is the law that merging undoes splitting.
+// The next step of the running block, by a stripe.
 #[derive(Drop)]
-pub(crate) struct MergeUndoesSplit;
+pub(crate) struct TakeIn<'a> {
+    pub(crate) stripe: &'a [u8],
+}
 
-impl HashWork for MergeUndoesSplit {
+impl HashWork for TakeIn<'_> {
     type Answer = ();
 
-    ghost fits = { λ w size out. ⊤ };
+    ghost fits = { λ w size out. (length out ≤ 128) × (length w.stripe.now ≡ length out) };
 
-    ghost gives = { λ w hash size block old new answer. UndoesSplit hash size };
+    ghost gives = { λ w hash size block old new answer. TakesIn hash size old w.stripe.now new };
 
-    fn run<H: HashFn>(self, _out: &mut [u8]) {
-        splitter::merge_undoes_split::<H>();
+    fn run<H: HashFn>(self, out: &mut [u8]) {
+        running_block::take_in::<H>(out, self.stripe);
     }
 }

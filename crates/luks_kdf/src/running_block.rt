@@ -38,14 +38,12 @@ impl<H: HashFn> RunningBlock<H> {
         }
     }
 
-    // Takes in the next stripe: xors it into the block, and diffuses that.
+    // Takes in the next stripe.
     pub(crate) fn take_in(&mut self, stripe: &[u8])
         requires { length stripe.now ≡ length self.old }
         ensures { TakesIn H.digest H.LEN self.old stripe.now self.new }
     {
-        let block = &mut self.block[..self.len];
-        xor_into(block, stripe);
-        diffuse::<H>(block);
+        take_in::<H>(&mut self.block[..self.len], stripe);
     }
 
     // Writes the block xored with `mask`.
@@ -57,4 +55,14 @@ impl<H: HashFn> RunningBlock<H> {
         out.copy_from_slice(&self.block[..self.len]);
         xor_into(out, mask);
     }
+}
+
+// The step from `d_i` to `d_(i+1)`: xors the stripe into the block, and diffuses that.
+pub(crate) fn take_in<H: HashFn>(block: &mut [u8], stripe: &[u8])
+    requires at_most_128 { length block.old ≤ 128 }
+    requires stripe_length { length stripe.now ≡ length block.old }
+    ensures { TakesIn H.digest H.LEN block.old stripe.now block.new }
+{
+    xor_into(block, stripe);
+    diffuse::<H>(block);
 }

@@ -5,3 +5,9 @@ pub mod AnswerFacts
 pub mod UniqueFacts
 pub mod DigestFacts
 pub mod PlanFacts2
+pub mod DecidedFacts
+pub mod AreaDecisions
+pub mod HeaderDecisions1
+pub mod KeyslotDecisions1
+pub mod EditDecisions1
+pub mod VolumeDecisions1

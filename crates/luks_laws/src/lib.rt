@@ -3,4 +3,6 @@
 
 mod laws;
 
-pub use laws::{first_fault_or_well_formed, first_refusal_or_key, first_refusal_or_unrefused};
+pub use laws::{
+    first_fault_or_well_formed, first_refusal_or_key, first_refusal_or_unrefused, luks1_is_decided,
+};

@@ -161,17 +161,14 @@ fn version_option<'a>(alloc: Global) -> Arg<'a> {
         .help("LUKS1 or LUKS2")
 }
 
-/// The hashes that a volume can be made with.
-const HASHES: &[&str] = &["sha1", "sha256"];
-
 fn hash_option<'a>(alloc: Global) -> Arg<'a> {
     Arg::new(alloc, "hash")
         .long("hash")
         .value_name("HASH")
-        .value_parser(ValueParser::Names(HASHES))
+        .value_parser(ValueParser::Names(HashName::NAMES))
         .default_value("sha256")
         .hide_possible_values(true)
-        .help("The hash, sha1 or sha256")
+        .help(HashName::LISTED)
 }
 
 fn iterations_option<'a>(alloc: Global) -> Arg<'a> {

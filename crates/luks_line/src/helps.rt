@@ -84,8 +84,8 @@ volume key that is found is neither printed nor kept.
 Without --slot the keyslots are tried in turn: by number, but of LUKS2 those of
 priority 2 first. Passed over are keyslots of priority 0 and those that --slot
 would refuse: of Argon2 (cryptsetup's default for LUKS2), of another cipher than
-aes-xts-plain64 or aes-xts-plain, of another hash than sha1 or sha256, or
-damaged. Where none opens, standard error names them.
+aes-xts-plain64 or aes-xts-plain, of another hash than format takes, or damaged.
+Where none opens, standard error names them.
 
 Prints one line:
   slot N opens          the passphrase opens keyslot N

@@ -77,6 +77,14 @@ const OF_LUKS1: Making<'static> = Making {
     ..NEW
 };
 
+const BY_SHA512: Making<'static> = Making {
+    format: Format {
+        hash: HashName::Sha512,
+        iterations: 100000,
+    },
+    ..NEW
+};
+
 const LARGEST: Making<'static> = Making {
     format: Format {
         hash: HashName::Sha256,
@@ -86,7 +94,7 @@ const LARGEST: Making<'static> = Making {
 };
 
 /// What follows the name of the command, and what it asks to make of the volume `v`.
-const MAKINGS: [(&[&str], Making<'static>); 4] = [
+const MAKINGS: [(&[&str], Making<'static>); 5] = [
     (
         &["luks", "format", "v", "--passphrase", "p", "--random", "r"],
         NEW,
@@ -102,6 +110,17 @@ const MAKINGS: [(&[&str], Making<'static>); 4] = [
             "--hash=sha256",
         ],
         NEW,
+    ),
+    (
+        &[
+            "luks",
+            "format",
+            "v",
+            "--random=r",
+            "--passphrase=p",
+            "--hash=sha512",
+        ],
+        BY_SHA512,
     ),
     (
         &[

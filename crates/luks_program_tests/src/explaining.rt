@@ -119,7 +119,7 @@ const LUKS1: [(&[Change], usize, &[&str], &[u8], &str, &str); 11] = [
         "luks: keyslot 0 was passed over: Cipher\n",
     ),
     (
-        &[(72, b"sha512")],
+        &[(72, b"sha224")],
         2097664,
         OPEN,
         b"one\n",
@@ -180,7 +180,7 @@ const UNKNOWN: [Edit; 3] = [
     ),
     (
         r#""offset":"40960","size":"4096","type":"raw"},"kdf":{"hash":"sha256""#,
-        r#""offset":"40960","size":"4096","type":"raw"},"kdf":{"hash":"sha512""#,
+        r#""offset":"40960","size":"4096","type":"raw"},"kdf":{"hash":"sha224""#,
     ),
 ];
 
@@ -189,7 +189,7 @@ const ODD: [Edit; 3] = [
     (r#""0":{"af""#, r#""0":{"priority":0,"af""#),
     (
         r#""1":{"af":{"hash":"sha256""#,
-        r#""1":{"af":{"hash":"sha512""#,
+        r#""1":{"af":{"hash":"sha224""#,
     ),
     (
         r#""key_size":64,"offset":"40960""#,
@@ -198,7 +198,7 @@ const ODD: [Edit; 3] = [
 ];
 
 /// The digest by another hash.
-const DIGEST: [Edit; 1] = [(r#"wpo=","hash":"sha256""#, r#"wpo=","hash":"sha512""#)];
+const DIGEST: [Edit; 1] = [(r#"wpo=","hash":"sha256""#, r#"wpo=","hash":"sha224""#)];
 
 /// What is edited of the LUKS2 volume, to which length it is cut, the words, the passphrase, and
 /// what is said on both.

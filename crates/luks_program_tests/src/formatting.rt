@@ -145,6 +145,27 @@ const FORMAT1_DETACHED: &[&str] = &[
     "--detached",
 ];
 
+const FORMAT_SHA512: &[&str] = &[
+    "luks",
+    "format",
+    "volume",
+    "--passphrase=file",
+    "--random=file",
+    "--iterations=1000",
+    "--hash=sha512",
+];
+
+const FORMAT1_SHA512: &[&str] = &[
+    "luks",
+    "format",
+    "volume",
+    "--passphrase=file",
+    "--random=file",
+    "--iterations=1000",
+    "--version=1",
+    "--hash=sha512",
+];
+
 const FEW: &[&str] = &[
     "luks",
     "format",
@@ -164,7 +185,7 @@ struct Made {
     elsewhere: (&'static str, u8),
 }
 
-const MADE: [Made; 4] = [
+const MADE: [Made; 6] = [
     Made {
         words: FORMAT,
         len: 16777728,
@@ -181,6 +202,20 @@ const MADE: [Made; 4] = [
     },
     Made {
         words: FORMAT1,
+        len: 2097664,
+        needed: FORMAT1_RANDOM,
+        here: ("accepted luks1 areas 10\n", 0),
+        elsewhere: ("accepted luks1 areas 9\n", 0),
+    },
+    Made {
+        words: FORMAT_SHA512,
+        len: 16777728,
+        needed: FORMAT2_RANDOM,
+        here: ("accepted luks2 in-step seqid 1 areas 4\n", 0),
+        elsewhere: ("accepted luks2 in-step seqid 1 areas 3\n", 0),
+    },
+    Made {
+        words: FORMAT1_SHA512,
         len: 2097664,
         needed: FORMAT1_RANDOM,
         here: ("accepted luks1 areas 10\n", 0),

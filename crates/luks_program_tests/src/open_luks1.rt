@@ -1,5 +1,7 @@
 //! What `open` prints of LUKS1 volumes.
-use crate::images::{Change, MK_DIGEST, luks1, opening_luks1, overwrite, put};
+use crate::images::{
+    Change, MK_DIGEST, MK_DIGEST_BY_SHA512, STRIPE_BY_SHA512, luks1, opening_luks1, overwrite, put,
+};
 use crate::keys::{is_sum, key_area};
 use crate::printing::{OPEN, OPEN_0, OPEN_1, OPEN_3, Row, compare};
 use std::alloc::Global;
@@ -61,9 +63,16 @@ fn passphrases_and_keyslots(rt: HostRuntime) -> Result<(), Fail> {
     Ok(())
 }
 
+/// The volume by SHA-512.
+const OF_SHA512: &[Change] = &[
+    (72, b"sha512"),
+    (112, &MK_DIGEST_BY_SHA512),
+    (4096, &STRIPE_BY_SHA512),
+];
+
 /// What is changed, the words, what is printed by the passphrase `one`, and the status. The keyslot
 /// has one stripe.
-const CHANGES: [(&[Change], &[&str], &str, u8); 10] = [
+const CHANGES: [(&[Change], &[&str], &str, u8); 12] = [
     (&[(50, b"\0")], OPEN_0, "refused Cipher\n", 1),
     (&[(49, b"\0\0")], OPEN_0, "slot 0 opens\n", 0),
     (&[(131, b"\x01")], OPEN_0, "slot 0 does not open\n", 1),
@@ -72,7 +81,9 @@ const CHANGES: [(&[Change], &[&str], &str, u8); 10] = [
     (&[(352, &[0; 4])], OPEN, "slot 0 opens\n", 0),
     (&[(8, b"serpent")], OPEN_0, "refused Cipher\n", 1),
     (&[(8, b"serpent")], OPEN, "no slot opens\n", 1),
-    (&[(72, b"sha512")], OPEN_0, "refused Hash\n", 1),
+    (&[(72, b"sha224")], OPEN_0, "refused Hash\n", 1),
+    (&[(72, b"sha512")], OPEN_0, "slot 0 does not open\n", 1),
+    (OF_SHA512, OPEN_0, "slot 0 opens\n", 0),
     (&[(0, b"l")], OPEN, "refused NotLuks\n", 1),
 ];
 

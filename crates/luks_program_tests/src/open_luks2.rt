@@ -1,5 +1,5 @@
 //! What `open` prints of a LUKS2 volume of three keyslots.
-use crate::images::{Change, opening_luks2, overwrite, put, zeros_luks2};
+use crate::images::{Change, STRIPE_BY_SHA512, opening_luks2, overwrite, put, zeros_luks2};
 use crate::keys::{is_sum, key_area};
 use crate::metadata::Edit;
 use crate::printing::{OPEN, OPEN_0, OPEN_1, OPEN_2, OPEN_3, Row, compare};
@@ -36,9 +36,9 @@ const SERPENT_2: Edit = (
     r#""serpent-xts-plain64","key_size":64,"offset":"40960""#,
 );
 
-const SHA512_2: Edit = (
+const SHA224_2: Edit = (
     r#""offset":"40960","size":"4096","type":"raw"},"kdf":{"hash":"sha256""#,
-    r#""offset":"40960","size":"4096","type":"raw"},"kdf":{"hash":"sha512""#,
+    r#""offset":"40960","size":"4096","type":"raw"},"kdf":{"hash":"sha224""#,
 );
 
 const ARGON2ID_0: Edit = (
@@ -68,7 +68,7 @@ const PRIORITIES: [(&[Edit], &str, u8); 11] = [
         0,
     ),
     (&[SERPENT_0, NORMAL_2], "slot 1 opens\n", 0),
-    (&[NEVER_0, SERPENT_1, SHA512_2], "no slot opens\n", 1),
+    (&[NEVER_0, SERPENT_1, SHA224_2], "no slot opens\n", 1),
 ];
 
 #[test]
@@ -89,7 +89,7 @@ fn priorities(rt: HostRuntime) -> Result<(), Fail> {
 /// Keyslots that are never tried without their number.
 const NEVER: &[Edit] = &[NEVER_0, NEVER_1, NEVER_2];
 
-const REFUSED: &[Edit] = &[ARGON2ID_0, SERPENT_1, SHA512_2];
+const REFUSED: &[Edit] = &[ARGON2ID_0, SERPENT_1, SHA224_2];
 
 const BESIDE_ARGON2: &[Edit] = &[ARGON2ID_0];
 
@@ -181,6 +181,42 @@ fn changed_volumes(rt: HostRuntime) -> Result<(), Fail> {
             passphrase: b"one",
             want,
             status,
+        };
+        compare(&rt, rt.alloc(), &image, &row)?;
+    }
+    Ok(())
+}
+
+/// The derivation and the splitter of keyslot 1 by SHA-512.
+const SHA512_1: &[Edit] = &[
+    (
+        r#""1":{"af":{"hash":"sha256""#,
+        r#""1":{"af":{"hash":"sha512""#,
+    ),
+    (
+        r#""offset":"36864","size":"4096","type":"raw"},"kdf":{"hash":"sha256""#,
+        r#""offset":"36864","size":"4096","type":"raw"},"kdf":{"hash":"sha512""#,
+    ),
+];
+
+// The digest and keyslot 0 by SHA-256, keyslot 1 by SHA-512.
+#[test]
+fn keyslots_of_two_hashes(rt: HostRuntime) -> Result<(), Fail> {
+    let mut image = opening_luks2(rt.alloc(), SHA512_1)?;
+    let row = Row {
+        words: OPEN_1,
+        passphrase: b"one",
+        want: "slot 1 does not open\n",
+        status: 1,
+    };
+    compare(&rt, rt.alloc(), &image, &row)?;
+    put(&mut image, 36864, &STRIPE_BY_SHA512);
+    for (words, want) in [(OPEN_0, "slot 0 opens\n"), (OPEN_1, "slot 1 opens\n")] {
+        let row = Row {
+            words,
+            want,
+            status: 0,
+            ..row
         };
         compare(&rt, rt.alloc(), &image, &row)?;
     }

@@ -7,7 +7,6 @@ use Rattle.luks_area.specs.RangeFacts.{part-part}
 use Rattle.luks_area.specs.Ranges.{part, IsAt, SameBut}
 use Rattle.luks_area.specs.Sectors.{rounded_to_sectors, sector_count}
 use Rattle.luks_kdf.specs.declared.hash_name.HashName.{HashName}
-use Rattle.luks_kdf.specs.declared.hash_name.HashName.TheVariants.{Sha1, Sha256}
 use Rattle.luks_kdf.specs.Names.{hash_of, digest_size_of}
 use Rattle.luks_kdf.specs.Splitter.{merge, split}
 use Rattle.luks_xts.specs.Xts.{XtsOpen}
@@ -163,11 +162,6 @@ abbrev pub UndoesSplitting : HashName → Type 0
 UndoesSplitting hash =
     (key random : List ℕ) (n : ℕ) → length random ≡ n * length key
     → merge (hash_of hash) (digest_size_of hash) (length key) (n + 1) (split (hash_of hash) (digest_size_of hash) key (n + 1) random) ≡ key
-
--- it does by each of the two
-pub undoes_splitting : UndoesSplitting Sha1 → UndoesSplitting Sha256 → (hash : HashName) → UndoesSplitting hash
-undoes_splitting by_sha1 by_sha256 Sha1 = by_sha1
-undoes_splitting by_sha1 by_sha256 Sha256 = by_sha256
 
 -- what merging the stripes gives, by the plan's numbers
 merge-split : (hash : HashName) (k n : ℕ) (key random : List ℕ) → 1 ≤ n → length key ≡ k

@@ -5,7 +5,7 @@ ghost use Rattle.luks_slot.specs.declared.plan.SlotPlan.{SlotPlan as ThePlan};
 ghost use Rattle.luks_slot.specs.Opening.{meets_digest, slot_key};
 ghost use Rattle.luks_slot.specs.Sealing.{IsSealed};
 
-use luks_kdf::{Sha1Fn, Sha256Fn, merge_undoes_split};
+use luks_kdf::HashName;
 
 /// Where an area holds what sealing a key leaves, opening it by the same passphrase answers that
 /// key where the key meets the plan's digest, and none where it doesn't.
@@ -17,8 +17,7 @@ pub fn sealed_area_opens()
         → slot_key plan area passphrase
         ≡ (if meets_digest plan.digest key then Some key else None) }
 {
-    merge_undoes_split::<Sha1Fn>();
-    merge_undoes_split::<Sha256Fn>();
+    HashName::merge_undoes_split();
 }
 
 /// What a keyslot opens to by a passphrase meets the plan's digest.

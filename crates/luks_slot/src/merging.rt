@@ -1,6 +1,6 @@
 //! From the stripes of a keyslot's area to what they hold.
 
-ghost use Rattle.std.specs.Prelude.{◌≡◌, ◌+◌, ◌*◌, ◌^◌, ◌<◌, ◌≤◌, length, OnOk};
+ghost use Rattle.std.specs.Prelude.{◌≡◌, ◌+◌, ◌*◌, ◌^◌, ◌<◌, ◌≤◌, length, replicate, OnOk};
 ghost use Rattle.luks_area.specs.Area.{IsInside};
 ghost use Rattle.luks_area.specs.Device.{CountsFailure, IsUnchanged, is_failure};
 ghost use Rattle.luks_area.specs.Sectors.{rounded_to_sectors};
@@ -10,41 +10,7 @@ ghost use Rattle.luks_slot.specs.Opening.{area_bytes, stripes_from};
 
 use crate::area_reader::AreaReader;
 use luks_area::{Device, DeviceFault};
-use luks_kdf::{HashFn, HashName, Merger, Sha1Fn, Sha256Fn};
-
-// Merges the stripes of the reader's area as they are read. `stripe` is room for one of them.
-fn merge_stripes<D: Device, H: HashFn>(
-    device: &mut D,
-    reader: &mut AreaReader,
-    stripes: u32,
-    stripe: &mut [u8],
-    out: &mut [u8],
-) -> Result<(), DeviceFault>
-    requires stripe_length { length stripe.old ≡ length out.old }
-    requires some_bytes { 1 ≤ length out.old }
-    requires at_most_128 { length out.old ≤ 128 }
-    requires some_stripes { 1 ≤ stripes }
-    requires sectors { rounded_to_sectors (length out.old * stripes) ≤ reader.old.area.len }
-    requires within { IsInside reader.old.area (D.size device.old) }
-    requires room { D.failed device.old + 1 < 2 ^ 64 }
-    ensures count { CountsFailure is_failure result
-        (D.failed device.old) (D.failed device.new) }
-    ensures unchanged { IsUnchanged D.tells D.size D.bytes device.old device.new }
-    ensures value { D.tells → OnOk result
-        (out.new ≡ merge H.digest H.LEN (length out.old) stripes (stripes_from reader.old.key
-        (area_bytes (D.bytes device.old) reader.old.area) (length out.old) stripes)) }
-{
-    let len = out.len();
-    let last = u64::from(stripes) - 1;
-    let mut merger = Merger::<H>::new(len);
-    for i in 0..last {
-        reader.read(device, i * len as u64, stripe)?;
-        merger.feed(stripe);
-    }
-    reader.read(device, last * len as u64, stripe)?;
-    merger.finish(out, stripe);
-    Ok(())
-}
+use luks_kdf::{HashName, xor_into};
 
 // What the stripes of the area hold, by the hash of the splitter.
 pub(crate) fn read_candidate<D: Device>(
@@ -70,8 +36,43 @@ pub(crate) fn read_candidate<D: Device>(
 {
     let mut buffer = [0u8; 128];
     let stripe = &mut buffer[..out.len()];
-    match hash {
-        HashName::Sha1 => merge_stripes::<D, Sha1Fn>(device, reader, stripes, stripe, out),
-        HashName::Sha256 => merge_stripes::<D, Sha256Fn>(device, reader, stripes, stripe, out),
+    out.fill(0);
+    merge_stripes(device, reader, hash, stripes, stripe, out)
+}
+
+// Merges the stripes as they are read. `stripe` is room for one of them; `block` is the running
+// block, zeros at first.
+fn merge_stripes<D: Device>(
+    device: &mut D,
+    reader: &mut AreaReader,
+    hash: HashName,
+    stripes: u32,
+    stripe: &mut [u8],
+    block: &mut [u8],
+) -> Result<(), DeviceFault>
+    requires zeros { block.old ≡ replicate (length block.old) 0 }
+    requires stripe_length { length stripe.old ≡ length block.old }
+    requires some_bytes { 1 ≤ length block.old }
+    requires at_most_128 { length block.old ≤ 128 }
+    requires some_stripes { 1 ≤ stripes }
+    requires sectors { rounded_to_sectors (length block.old * stripes) ≤ reader.old.area.len }
+    requires within { IsInside reader.old.area (D.size device.old) }
+    requires room { D.failed device.old + 1 < 2 ^ 64 }
+    ensures count { CountsFailure is_failure result
+        (D.failed device.old) (D.failed device.new) }
+    ensures unchanged { IsUnchanged D.tells D.size D.bytes device.old device.new }
+    ensures value { D.tells → OnOk result (block.new
+        ≡ merge (hash_of hash) (digest_size_of hash) (length block.old) stripes
+        (stripes_from reader.old.key (area_bytes (D.bytes device.old) reader.old.area)
+        (length block.old) stripes)) }
+{
+    let len = block.len() as u64;
+    let last = u64::from(stripes) - 1;
+    for i in 0..last {
+        reader.read(device, i * len, stripe)?;
+        hash.take_in(block, stripe);
     }
+    reader.read(device, last * len, stripe)?;
+    xor_into(block, stripe);
+    Ok(())
 }

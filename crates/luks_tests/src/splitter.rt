@@ -2,7 +2,7 @@
 ghost use Rattle.std.specs.Prelude.{◌≡◌, ◌+◌, ◌%◌, ◌≤◌, length};
 
 use crate::hexadecimal::is_hex;
-use luks_kdf::{HashName, Merger, Sha256Fn, Splitter, merge, split};
+use luks_kdf::{HashName, Merger, Sha256Fn, Splitter, merge, split, xor_into};
 
 const KEY: &[u8; 128] =
     b"0123456789abcdef0123456789ABCDEF0123456789ghijkl0123456789GHIJKL0123456789mnopqr0123456789MNOPQR0123456789stuvwx0123456789STUVWX";
@@ -90,6 +90,42 @@ fn stripes_of_sha256(rt: HostRuntime) {
     );
 }
 
+// The same for SHA-512: 33 bytes are less than a block, 65 a block and a byte.
+#[test]
+fn stripes_of_sha512(rt: HostRuntime) {
+    let sha512 = HashName::Sha512;
+    assert!(rt;
+        goes_round(
+            sha512,
+            &mut [0; 66],
+            &KEY[..33],
+            &RANDOM[..33],
+            "366f965a52d2a72c59b4728303e1468b107e788b67955ed7a1a6b1c047e53ec94f"
+        ),
+        "33"
+    );
+    assert!(rt;
+        goes_round(
+            sha512,
+            &mut [0; 192],
+            &KEY[..64],
+            &RANDOM[..128],
+            "b3b20ef7deec5b1326be2815d7ac000ebdd29ed37ebc998ca7832a6627f18cceca7410d88889ff34fa1ddcf27a42996747a3e0b973554e5aac5a8d5068d09364"
+        ),
+        "64"
+    );
+    assert!(rt;
+        goes_round(
+            sha512,
+            &mut [0; 195],
+            &KEY[..65],
+            &RANDOM[..130],
+            "a394575381bff890670f733833ff8a2e5d390d54cc97ec4900a55c478f8ab3a9d7326d1596adb4a7b3b80eedd74dd1e9826b6c2c0558f5dafb3be66f76d63afb9f"
+        ),
+        "65"
+    );
+}
+
 // The stripes of 64 bytes, one at a time.
 #[test]
 fn stripes_in_turn(rt: HostRuntime) {
@@ -112,6 +148,16 @@ fn stripes_in_turn(rt: HostRuntime) {
     merger.finish(&mut merged, &last);
     let merged = merged.as_slice();
     assert!(rt; merged == key, "the key");
+}
+
+// The same by the hash's name, a running block beside the stripes.
+#[test]
+fn stripes_by_name(rt: HostRuntime) {
+    let mut block = [0; 64];
+    HashName::Sha256.take_in(&mut block, &RANDOM[..64]);
+    HashName::Sha256.take_in(&mut block, &RANDOM[64..128]);
+    xor_into(&mut block, &KEY[..64]);
+    assert!(rt; is_hex(&block, OF_64), "the last stripe");
 }
 
 // The same by the generic calls.

@@ -571,3 +571,286 @@ pub const SHA256: [Row; 26] = [
         "1a09cc11ab1352ad0ec5efc960a80f61a5be8b070b43f09b794007206ada3ffc",
     ),
 ];
+
+/// SHA-256 of the volume before the list.
+pub const SHA512_BEFORE: &str = "fda061c3aa958efd657293d2cf1042edb7c7574056cb5903add07cba16dd6dc2";
+
+/// The list.
+pub const SHA512: [Row; 26] = [
+    (
+        Edit::Remove {
+            slot: 0,
+            passphrase: b"one",
+        },
+        0,
+        "refused LastSlot",
+        "fda061c3aa958efd657293d2cf1042edb7c7574056cb5903add07cba16dd6dc2",
+    ),
+    (
+        Edit::Add {
+            by_: 0,
+            old: b"one",
+            new: b"two",
+            to: None,
+            iterations: 1000,
+        },
+        2528,
+        "done slot 1",
+        "354b22228f0e60ecd1fe72a77e11b4765ceab55ea0c502dfa7a83d31b9ec64d7",
+    ),
+    (
+        Edit::Add {
+            by_: 0,
+            old: b"one",
+            new: b"three",
+            to: Some(7),
+            iterations: 1000,
+        },
+        2528,
+        "done slot 7",
+        "ad3fae60f1d55e28efe35952b9b72d8da7eeb5b314ad4f0eae6cb033707fe343",
+    ),
+    (
+        Edit::Add {
+            by_: 0,
+            old: b"one",
+            new: b"four",
+            to: Some(7),
+            iterations: 1000,
+        },
+        0,
+        "refused SlotTaken",
+        "ad3fae60f1d55e28efe35952b9b72d8da7eeb5b314ad4f0eae6cb033707fe343",
+    ),
+    (
+        Edit::Add {
+            by_: 1,
+            old: b"one",
+            new: b"four",
+            to: None,
+            iterations: 1000,
+        },
+        2528,
+        "refused Locked",
+        "ad3fae60f1d55e28efe35952b9b72d8da7eeb5b314ad4f0eae6cb033707fe343",
+    ),
+    (
+        Edit::Change {
+            slot: 1,
+            old: b"two",
+            new: b"four",
+            iterations: 1001,
+        },
+        2528,
+        "done slot 2",
+        "128d29bc347e4f8371eef1e07d03c04919d8c0ed0fd20a7545322dc30bc8bcca",
+    ),
+    (
+        Edit::Add {
+            by_: 0,
+            old: b"one",
+            new: b"",
+            to: Some(4),
+            iterations: 1000,
+        },
+        2528,
+        "done slot 4",
+        "9c972c25242722be11ed6d457e5360c398307cdd707aa84ad72a3150522d52e4",
+    ),
+    (
+        Edit::Remove {
+            slot: 0,
+            passphrase: b"one",
+        },
+        0,
+        "done",
+        "b06043c56b11e7cf8c661cece8974a3cf130f44719738b0a67820315e57850d1",
+    ),
+    (
+        Edit::Remove {
+            slot: 0,
+            passphrase: b"one",
+        },
+        0,
+        "refused NoSuchSlot",
+        "b06043c56b11e7cf8c661cece8974a3cf130f44719738b0a67820315e57850d1",
+    ),
+    (
+        Edit::Remove {
+            slot: 7,
+            passphrase: b"two",
+        },
+        0,
+        "refused Locked",
+        "b06043c56b11e7cf8c661cece8974a3cf130f44719738b0a67820315e57850d1",
+    ),
+    (
+        Edit::Remove {
+            slot: 7,
+            passphrase: b"three",
+        },
+        0,
+        "done",
+        "fd8689e03766cdf1f95a7caab562cc5ae7cd54a739fab44417bcf114d0b5e90c",
+    ),
+    (
+        Edit::Repair,
+        0,
+        "done",
+        "fd8689e03766cdf1f95a7caab562cc5ae7cd54a739fab44417bcf114d0b5e90c",
+    ),
+    (
+        Edit::Add {
+            by_: 4,
+            old: b"",
+            new: b"\x00\xff\x00\xff\x00\xff\x00\xff\x00\xff\x00\xff\x00\xff\x00\xff\x00\xff\x00\xff\x00\xff\x00\xff\x00\xff\x00\xff\x00\xff\x00\xff\x00\xff\x00\xff\x00\xff\x00\xff\x00\xff\x00\xff\x00\xff\x00\xff\x00\xff\x00\xff\x00\xff\x00\xff\x00\xff\x00\xff\x00\xff\x00\xff\x00\xff\x00\xff\x00\xff\x00\xff\x00\xff\x00\xff\x00\xff\x00\xff",
+            to: None,
+            iterations: 1500,
+        },
+        2528,
+        "done slot 0",
+        "3ce7ba967306ad4820c620531c2c4433973f4b820ae5903cf1498032e6005a46",
+    ),
+    (
+        Edit::Add {
+            by_: 4,
+            old: b"",
+            new: b"one",
+            to: None,
+            iterations: 999,
+        },
+        2528,
+        "refused Iterations",
+        "3ce7ba967306ad4820c620531c2c4433973f4b820ae5903cf1498032e6005a46",
+    ),
+    (
+        Edit::Label { text: b"disk" },
+        0,
+        "refused BadLabel",
+        "3ce7ba967306ad4820c620531c2c4433973f4b820ae5903cf1498032e6005a46",
+    ),
+    (
+        Edit::Add {
+            by_: 4,
+            old: b"",
+            new: b"one",
+            to: Some(8),
+            iterations: 1000,
+        },
+        0,
+        "refused NoFreeSlot",
+        "3ce7ba967306ad4820c620531c2c4433973f4b820ae5903cf1498032e6005a46",
+    ),
+    (
+        Edit::Add {
+            by_: 4,
+            old: b"",
+            new: b"one",
+            to: None,
+            iterations: 1000,
+        },
+        2528,
+        "done slot 1",
+        "c6eb43f08428330e5ac2742b00ad1e92607e8c852672a9387f93689572e5abf2",
+    ),
+    (
+        Edit::Add {
+            by_: 4,
+            old: b"",
+            new: b"one",
+            to: None,
+            iterations: 1000,
+        },
+        2528,
+        "done slot 3",
+        "75f7e8cefe17c0fd53d35e7daffc6271f5f2868df5c95d2eeacf5e16558a7708",
+    ),
+    (
+        Edit::Add {
+            by_: 4,
+            old: b"",
+            new: b"one",
+            to: None,
+            iterations: 1000,
+        },
+        2528,
+        "done slot 5",
+        "2df181a61a0d085cde14890abfb5c0cde1588e4fe1543bee8694403067f069e6",
+    ),
+    (
+        Edit::Add {
+            by_: 4,
+            old: b"",
+            new: b"one",
+            to: None,
+            iterations: 1000,
+        },
+        2528,
+        "done slot 6",
+        "2c3e3cea59140e76942bb0515b43ddded7db86b541bf0fa52ff073bac1923c42",
+    ),
+    (
+        Edit::Add {
+            by_: 4,
+            old: b"",
+            new: b"one",
+            to: None,
+            iterations: 1000,
+        },
+        2528,
+        "done slot 7",
+        "e5ee20284520acf03411c4e256c0fb6adb44337e17d39aac99a3db7d4b23e832",
+    ),
+    (
+        Edit::Add {
+            by_: 4,
+            old: b"",
+            new: b"one",
+            to: None,
+            iterations: 1000,
+        },
+        0,
+        "refused NoFreeSlot",
+        "e5ee20284520acf03411c4e256c0fb6adb44337e17d39aac99a3db7d4b23e832",
+    ),
+    (
+        Edit::Change {
+            slot: 4,
+            old: b"",
+            new: b"two",
+            iterations: 1000,
+        },
+        0,
+        "refused NoFreeSlot",
+        "e5ee20284520acf03411c4e256c0fb6adb44337e17d39aac99a3db7d4b23e832",
+    ),
+    (
+        Edit::Remove {
+            slot: 4,
+            passphrase: b"",
+        },
+        0,
+        "done",
+        "0361fe357427b3ae344409a62fe7bbe07ec04889e91c4b9536c54666f2dd5137",
+    ),
+    (
+        Edit::Change {
+            slot: 5,
+            old: b"one",
+            new: b"three",
+            iterations: 1000,
+        },
+        2528,
+        "done slot 4",
+        "9629cb67c131eacc4919ecbd3b9fb148967fa9e1971758ebbf141b94fbf7eadc",
+    ),
+    (
+        Edit::Remove {
+            slot: 5,
+            passphrase: b"one",
+        },
+        0,
+        "refused NoSuchSlot",
+        "9629cb67c131eacc4919ecbd3b9fb148967fa9e1971758ebbf141b94fbf7eadc",
+    ),
+];

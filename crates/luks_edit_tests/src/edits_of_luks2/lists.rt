@@ -615,3 +615,381 @@ pub const SHA256: [Row; 29] = [
         "2b5e195d8fb1856b9ed8616c068caa630da21b555b02dfd7718be9454744fc28",
     ),
 ];
+
+/// SHA-256 of the volume before the list.
+pub const SHA512_BEFORE: &str = "891d2b0c9e39c2bc1acfaa29e78744380f93900d7c22d34ccdd93aa3316212c4";
+
+/// The list.
+pub const SHA512: [Row; 29] = [
+    (
+        Edit::Remove {
+            slot: 0,
+            passphrase: b"one",
+        },
+        128,
+        "refused LastSlot",
+        "891d2b0c9e39c2bc1acfaa29e78744380f93900d7c22d34ccdd93aa3316212c4",
+    ),
+    (
+        Edit::Add {
+            by_: 0,
+            old: b"one",
+            new: b"two",
+            to: None,
+            iterations: 1000,
+        },
+        2656,
+        "done slot 1",
+        "f223fea3f2f29c91ca473554e6b2b21458534baae11b0e9886e33feee8e23310",
+    ),
+    (
+        Edit::Add {
+            by_: 0,
+            old: b"one",
+            new: b"three",
+            to: Some(7),
+            iterations: 1000,
+        },
+        2656,
+        "done slot 7",
+        "51d117a8c203efabce6303ad11516cacdce4a67e3df586f1aa53e0d6e50d55b0",
+    ),
+    (
+        Edit::Add {
+            by_: 0,
+            old: b"one",
+            new: b"four",
+            to: Some(7),
+            iterations: 1000,
+        },
+        0,
+        "refused SlotTaken",
+        "51d117a8c203efabce6303ad11516cacdce4a67e3df586f1aa53e0d6e50d55b0",
+    ),
+    (
+        Edit::Add {
+            by_: 1,
+            old: b"one",
+            new: b"four",
+            to: None,
+            iterations: 1000,
+        },
+        2656,
+        "refused Locked",
+        "51d117a8c203efabce6303ad11516cacdce4a67e3df586f1aa53e0d6e50d55b0",
+    ),
+    (
+        Edit::Change {
+            slot: 1,
+            old: b"two",
+            new: b"four",
+            iterations: 1001,
+        },
+        2656,
+        "done slot 1",
+        "76c14c71dcd6c91282191c026225c8d4ba8e10371c7cea7456169437ab18e241",
+    ),
+    (
+        Edit::Add {
+            by_: 0,
+            old: b"one",
+            new: b"",
+            to: Some(4),
+            iterations: 1000,
+        },
+        2656,
+        "done slot 4",
+        "b34cc2cd7c2448940b6dac0831c8993d116957fe00910b76c81e8adce4abb7f6",
+    ),
+    (
+        Edit::Remove {
+            slot: 0,
+            passphrase: b"one",
+        },
+        128,
+        "done",
+        "9a51a0e59a0abb19f65da30dbbbeac741c87a3eb6349c65a06e8aba475cef8a5",
+    ),
+    (
+        Edit::Remove {
+            slot: 0,
+            passphrase: b"one",
+        },
+        0,
+        "refused NoSuchSlot",
+        "9a51a0e59a0abb19f65da30dbbbeac741c87a3eb6349c65a06e8aba475cef8a5",
+    ),
+    (
+        Edit::Remove {
+            slot: 7,
+            passphrase: b"two",
+        },
+        128,
+        "refused Locked",
+        "9a51a0e59a0abb19f65da30dbbbeac741c87a3eb6349c65a06e8aba475cef8a5",
+    ),
+    (
+        Edit::Remove {
+            slot: 7,
+            passphrase: b"three",
+        },
+        128,
+        "done",
+        "61bb98a1337ac947ceb59d01c6193cd57fa3ac5384f2417d09c031aa9c088968",
+    ),
+    (
+        Edit::Repair,
+        128,
+        "done",
+        "412022f254bf321c1b0a6cf8f577041f028607e96a5ffa104585a8a44d2f6d9d",
+    ),
+    (
+        Edit::Add {
+            by_: 4,
+            old: b"",
+            new: b"\x00\xff\x00\xff\x00\xff\x00\xff\x00\xff\x00\xff\x00\xff\x00\xff\x00\xff\x00\xff\x00\xff\x00\xff\x00\xff\x00\xff\x00\xff\x00\xff\x00\xff\x00\xff\x00\xff\x00\xff\x00\xff\x00\xff\x00\xff\x00\xff\x00\xff\x00\xff\x00\xff\x00\xff\x00\xff\x00\xff\x00\xff\x00\xff\x00\xff\x00\xff\x00\xff\x00\xff\x00\xff\x00\xff\x00\xff\x00\xff",
+            to: None,
+            iterations: 1500,
+        },
+        2656,
+        "done slot 0",
+        "5ae7f9f338c5038fe9cfcad44c312ad88a03b268aaed1e5454d7ae53e6607535",
+    ),
+    (
+        Edit::Add {
+            by_: 4,
+            old: b"",
+            new: b"one",
+            to: None,
+            iterations: 999,
+        },
+        2656,
+        "refused Iterations",
+        "5ae7f9f338c5038fe9cfcad44c312ad88a03b268aaed1e5454d7ae53e6607535",
+    ),
+    (
+        Edit::Label { text: b"disk" },
+        128,
+        "done",
+        "01b6f4eb7a2b082793c261f17339dedb3bfef9998c6b20332180ca3f6a58f728",
+    ),
+    (
+        Edit::Label {
+            text: b"dddddddddddddddddddddddddddddddddddddddddddddddd",
+        },
+        128,
+        "refused BadLabel",
+        "01b6f4eb7a2b082793c261f17339dedb3bfef9998c6b20332180ca3f6a58f728",
+    ),
+    (
+        Edit::Add {
+            by_: 4,
+            old: b"",
+            new: b"one",
+            to: Some(32),
+            iterations: 1000,
+        },
+        0,
+        "refused NoFreeSlot",
+        "01b6f4eb7a2b082793c261f17339dedb3bfef9998c6b20332180ca3f6a58f728",
+    ),
+    (
+        Edit::Change {
+            slot: 4,
+            old: b"",
+            new: b"",
+            iterations: 1000,
+        },
+        2656,
+        "done slot 4",
+        "18cb411aedaafd4028150dde75ac3eeddfcbd5a3d6f61bdf63ef706822930e57",
+    ),
+    (
+        Edit::Add {
+            by_: 4,
+            old: b"",
+            new: b"one",
+            to: Some(31),
+            iterations: 1000,
+        },
+        2656,
+        "done slot 31",
+        "b106e099a62b119aff7d54631306e919533c319f41e1966be3f9d31f8ee560f1",
+    ),
+    (
+        Edit::Add {
+            by_: 4,
+            old: b"",
+            new: b"one",
+            to: None,
+            iterations: 1000,
+        },
+        2656,
+        "done slot 2",
+        "b92ccba09a29ca9f2cab9b74df8e69dc48b0fc9459f6070a1d77d54f67305dcb",
+    ),
+    (
+        Edit::Add {
+            by_: 4,
+            old: b"",
+            new: b"one",
+            to: None,
+            iterations: 1000,
+        },
+        2656,
+        "done slot 3",
+        "f4c5f5874edff0d0665ea60ad32b64f235de6584afd034f67efb40a29012208b",
+    ),
+    (
+        Edit::Add {
+            by_: 4,
+            old: b"",
+            new: b"one",
+            to: None,
+            iterations: 1000,
+        },
+        2656,
+        "done slot 5",
+        "2b628b6290aca29e4adfc5144e149fa4925e823f91be33292076644bdd6a8a1c",
+    ),
+    (
+        Edit::Add {
+            by_: 4,
+            old: b"",
+            new: b"one",
+            to: None,
+            iterations: 1000,
+        },
+        2656,
+        "done slot 6",
+        "52810d1e576520d299681307ed43478f351e479271256466beb546eb85ed8196",
+    ),
+    (
+        Edit::Add {
+            by_: 4,
+            old: b"",
+            new: b"one",
+            to: None,
+            iterations: 1000,
+        },
+        2656,
+        "refused NoRoom",
+        "52810d1e576520d299681307ed43478f351e479271256466beb546eb85ed8196",
+    ),
+    (
+        Edit::Change {
+            slot: 4,
+            old: b"",
+            new: b"two",
+            iterations: 1000,
+        },
+        2656,
+        "refused NoRoom",
+        "52810d1e576520d299681307ed43478f351e479271256466beb546eb85ed8196",
+    ),
+    (
+        Edit::Label { text: b"" },
+        128,
+        "done",
+        "51f4d95891fc806b61258c58855367af251381c7df020c2c76614d40480ad200",
+    ),
+    (
+        Edit::Remove {
+            slot: 31,
+            passphrase: b"one",
+        },
+        128,
+        "done",
+        "e51ea760ed9d1f1d91d681682c6d39c5706ac28075434487803f4e2ae4d31764",
+    ),
+    (
+        Edit::Change {
+            slot: 4,
+            old: b"",
+            new: b"two",
+            iterations: 1000,
+        },
+        2656,
+        "done slot 4",
+        "5905decf12567224f42322283635a2da6d494bc2142ee5280af6995805535c28",
+    ),
+    (
+        Edit::Repair,
+        128,
+        "done",
+        "fd1bedd19226f013b89dc68c1982a0b7710e508e89bb052bafd816a1869f4037",
+    ),
+];
+
+/// SHA-256 of the volume before the list.
+pub const TWO_HASHES_BEFORE: &str =
+    "58d7ac1da18eaf042eb0f658e21ce32e92928fe13e85f98e85c297cb3bc3eabf";
+
+/// The list.
+pub const TWO_HASHES: [Row; 6] = [
+    (
+        Edit::Add {
+            by_: 1,
+            old: b"two",
+            new: b"three",
+            to: None,
+            iterations: 1000,
+        },
+        2656,
+        "done slot 2",
+        "7f4c13ca339388b2109d4ff004d715d92affc01a9ba17de8be5277ff34fe483b",
+    ),
+    (
+        Edit::Add {
+            by_: 0,
+            old: b"one",
+            new: b"four",
+            to: None,
+            iterations: 1000,
+        },
+        2656,
+        "done slot 3",
+        "5ec8bd1c671c24f5c055ef3e9bfacdb9c2a4c40e09b3ddfd4fbe4363abf1a63f",
+    ),
+    (
+        Edit::Change {
+            slot: 1,
+            old: b"two",
+            new: b"four",
+            iterations: 1000,
+        },
+        2656,
+        "done slot 1",
+        "ad5fbb65a99e5769f23c67bbe7142cc4309e1fb54a8171ffe95cb5433f3fcb85",
+    ),
+    (
+        Edit::Remove {
+            slot: 1,
+            passphrase: b"four",
+        },
+        128,
+        "done",
+        "7d306024f5549eeb67e0adf9a7d07252c5043403ff7f69d8139a51500217a778",
+    ),
+    (
+        Edit::Remove {
+            slot: 0,
+            passphrase: b"one",
+        },
+        128,
+        "done",
+        "e8e165da4aa71eac661743183cd35e4531ffb4568a949d83e23825b561480da3",
+    ),
+    (
+        Edit::Add {
+            by_: 2,
+            old: b"three",
+            new: b"two",
+            to: None,
+            iterations: 1000,
+        },
+        2656,
+        "done slot 0",
+        "00e5496b12daa9079822e92282edcaaec992515461516634c7602b07d2cdc2de",
+    ),
+];

@@ -39,7 +39,7 @@ const ONES: &str = "111111111111111111111111111111111111111111111111111111111111
 const TWOS: &str = "2222222222222222222222222222222222222222222222222222222222222222";
 
 /// Another implementation made these: testdata/oracle/values.txt.
-const OF_4000_STRIPES: [Row; 4] = [
+const OF_4000_STRIPES: [Row; 5] = [
     Row {
         name: "luks1-sha1-32",
         hash: "sha1",
@@ -92,6 +92,19 @@ const OF_4000_STRIPES: [Row; 4] = [
         digest: "6fbe76ffb8a15ca6e64f89876b1952c252d7135496df731d286698b870f73f84",
         area: "02f47d0296bda292bb58665da5274b882889a01e320f7ded5bad044d78e99f07",
     },
+    Row {
+        name: "luks2-key-33-af-sha512",
+        hash: "sha256",
+        splitter: "sha512",
+        key_bytes: 33,
+        area_key_bytes: 64,
+        stripes: 4000,
+        random: Random::Counting,
+        salt: ONES,
+        digest_salt: TWOS,
+        digest: "6fbe76ffb8a15ca6e64f89876b1952c252d7135496df731d286698b870f73f84",
+        area: "88e4d9d2e7edb1b295b2088e65f2e9263e589ef4a7098ac42862593d9066fb85",
+    },
 ];
 
 /// A key of 128 bytes, likewise.
@@ -110,7 +123,7 @@ const OF_128_BYTES: [Row; 1] = [Row {
 }];
 
 /// Few stripes, likewise.
-const OF_FEW_STRIPES: [Row; 4] = [
+const OF_FEW_STRIPES: [Row; 5] = [
     Row {
         name: "two stripes of 33 bytes by sha1",
         hash: "sha256",
@@ -151,6 +164,19 @@ const OF_FEW_STRIPES: [Row; 4] = [
         area: "c153a05ab99934cce5c68c7ab22c83526fa99a25d1e7b0b44863b718f05e9fff",
     },
     Row {
+        name: "luks2-sha512-stripes-40",
+        hash: "sha512",
+        splitter: "sha512",
+        key_bytes: 64,
+        area_key_bytes: 64,
+        stripes: 40,
+        random: Random::Counting,
+        salt: ONES,
+        digest_salt: TWOS,
+        digest: "7a5597ee6d937493bce78c8c18f2461a4db187eced599ff64db1cf6265a05b3d83b7a8c15938e63085465c000e1372b42823656299d9119cda48d601d993da73",
+        area: "e8d3788decbc59c670c4ac52965d724b1c917ff8940342cfc3e39d57d9cd8931",
+    },
+    Row {
         name: "luks2-digest-64, with 40 stripes",
         hash: "sha256",
         splitter: "sha256",
@@ -166,7 +192,7 @@ const OF_FEW_STRIPES: [Row; 4] = [
 ];
 
 /// cryptsetup 2.6.1 wrote these over a fixed stream of random bytes: testdata/cryptsetup/areas.
-const OF_CRYPTSETUP: [Row; 4] = [
+const OF_CRYPTSETUP: [Row; 6] = [
     Row {
         name: "luks1-sha1",
         hash: "sha1",
@@ -194,6 +220,19 @@ const OF_CRYPTSETUP: [Row; 4] = [
         area: "b7c198b477f7b8f9921e45f24a2b83871aa21ed8a35b175909590f99ecf8dcfa",
     },
     Row {
+        name: "luks1-sha512",
+        hash: "sha512",
+        splitter: "sha512",
+        key_bytes: 32,
+        area_key_bytes: 32,
+        stripes: 4000,
+        random: Random::Stream(1024096),
+        salt: "b8ef235782397417246f4ba71dfa0ffc4e32aa2f5bce17820dafc7937c4370ab",
+        digest_salt: "61a375c38371367cdb6d65e4e92dcdc656c0b0c46a18c87a71395938565c3b1b",
+        digest: "d8f579234c77ece8e92a0ea28ea6aaf156976c10",
+        area: "0f32b561f93b05c7f6e485ce1124f7854c1ade0431c4fefeec3c874a93fbff27",
+    },
+    Row {
         name: "luks2-sha1",
         hash: "sha1",
         splitter: "sha1",
@@ -218,6 +257,19 @@ const OF_CRYPTSETUP: [Row; 4] = [
         digest_salt: "b1452efde6b04ccc4cb7359938602b918aa34a0fd8a5c7812641a1973a1f9938",
         digest: "53b31b542b3da11a4976ca2ecd2182018f17f9cbfc6c646eb11190c87fbf20cc",
         area: "6b86ad803e8cdbfe6b8410f21e27829013bc9915b3c5b009691665b20c26ea0c",
+    },
+    Row {
+        name: "luks2-sha512",
+        hash: "sha512",
+        splitter: "sha512",
+        key_bytes: 32,
+        area_key_bytes: 32,
+        stripes: 4000,
+        random: Random::Stream(1048804),
+        salt: "91e47966b625b2d84fa410a924eb003f2867f0ab85353060341dea9035086290",
+        digest_salt: "b1452efde6b04ccc4cb7359938602b918aa34a0fd8a5c7812641a1973a1f9938",
+        digest: "2cffe0030b1cdf04ecf83d54624044239902e8f751a4855dfefefcfb998e26d776260abcedf233409977e37c8ab109c4a3bda00c22dc1687a3b99f1b8a7a83da",
+        area: "9a31a5f80e915a21f2e61a90e0b6174187c2590141edfd39de268c6f98b8f296",
     },
 ];
 

@@ -96,13 +96,17 @@ const CBC: AreaCipher<'static> = AreaCipher::Whole("aes-cbc-essiv:sha256");
 /// The hash of the derivation, or none where it is by Argon2, the cipher, the hashes of the splitter
 /// and of the digest, the bytes of the area's key, and the answer: the first that stands of Argon2,
 /// Cipher, Hash and KeySize.
-const TERMS: [(Option<&str>, AreaCipher<'static>, &str, &str, usize, &str); 14] = [
+const TERMS: [(Option<&str>, AreaCipher<'static>, &str, &str, usize, &str); 18] = [
     (None, CBC, "sha384", "sha384", 16, "Argon2"),
     (None, XTS, "sha256", "sha256", 64, "Argon2"),
     (Some("sha384"), CBC, "sha384", "sha384", 16, "Cipher"),
     (Some("sha384"), XTS, "sha1", "sha1", 16, "Hash"),
     (Some("sha1"), XTS, "SHA1", "sha1", 16, "Hash"),
     (Some("sha1"), XTS, "sha1", "sha256 ", 16, "Hash"),
+    (Some("sha224"), XTS, "sha1", "sha1", 64, "Hash"),
+    (Some("sha512"), XTS, "sha224", "sha1", 64, "Hash"),
+    (Some("sha512"), XTS, "sha512", "sha224", 64, "Hash"),
+    (Some("sha512"), XTS, "sha512", "sha512", 64, "none"),
     (Some("sha1"), XTS, "sha256", "sha1", 0, "KeySize"),
     (Some("sha1"), XTS, "sha256", "sha1", 16, "KeySize"),
     (Some("sha1"), XTS, "sha256", "sha1", 31, "KeySize"),

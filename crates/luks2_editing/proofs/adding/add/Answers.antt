@@ -6,7 +6,8 @@ use Rattle.luks_reading.specs.Header.{json_at}
 use Rattle.luks2_judging.specs.Salts.{HasOneDigest}
 use Rattle.luks2_editing.specs.Prepared.{IsCopyWithin}
 use Rattle.luks2_editing.specs.Rewriting.{IsRenewing}
-use Rattle.luks2_editing.proofs.AdditionFacts.{added_after, addition_sealing, addition_seals, made_in, made_sealable, unsealed_ends, IsJudgedAddition}
+use Rattle.luks2_editing.proofs.AdditionFacts.{added_after, addition_fine, addition_sealing, addition_seals, made_alike, made_in, IsJudgedAddition}
+use Rattle.luks2_editing.proofs.NewKeyslotFacts.{alike_sealable, unsealed_ends}
 use Rattle.luks2_editing.proofs.RenewalFacts.{renewing, VolumeLaws}
 use Rattle.luks2_editing.proofs.adding.add.Goals as goal
 
@@ -30,7 +31,9 @@ write_keyslot-requires-clause-sealable g c =
     let within : IsCopyWithin copy.header (area_len copy.meta) (g.D.Device.size c.args.device.now) =
     subst (λ (n : ℕ). IsCopyWithin copy.header n (g.D.Device.size c.args.device.now)) c.in_ok-made.ensures.length
     (subst (λ (n : ℕ). IsCopyWithin copy.header (area_len c.in_ok-made.made.meta) n) c.len.ensures c.in_ok-made.ensures.within) in
-    made_sealable (content copy.meta) (content c.in_ok-made.made.meta) addition.made addition.by_ addition.iterations _ addition.area c.in_ok-made.ensures.made c.requires.free.small
+    let j = content copy.meta in
+    let k = content c.in_ok-made.made.meta in
+    alike_sealable j k addition.by_ addition.made addition.area (made_alike j k addition.made addition.by_ addition.iterations _ addition.area c.in_ok-made.ensures.made c.requires.free.small)
     (area_len copy.meta) (g.D.Device.size c.args.device.now) copy.header c.args.key.now c.args.random.now c.in_ok-made.ensures.counted c.requires.key_length c.requires.placed within
 
 pub returns-in_err-write_keyslot-clause-replies : goal.returns-in_err-write_keyslot-clause-replies
@@ -50,10 +53,10 @@ returns-in_err-write_keyslot-clause-replies g c = λ tells payload old to chosen
     let renews = subst (λ (n : ℕ). IsRenewing v e copy.header copy.header.label n) (sym c.in_ok-made.ensures.length) (renewing laws v payload copy chosen well e copy.header.label (sym chosen.header.label)) in
     let p = err_from_is_err_and c.from_residual-in_err-write_keyslot.result c.from_residual-in_err-write_keyslot.ensures.1 in
     rw (p.1, p.2)
-    (unsealed_ends v payload copy addition old to key random x laws digests c.requires.free.small k c.in_ok-made.ensures.made
-    (c.in_ok-made.ensures.edited v payload e seals total) (c.in_ok-made.ensures.unrefused v payload e seals total) (g.D.Device.bytes c.write_keyslot.new.device)
-    c.in_err-write_keyslot.field-0.0 c.in_err-write_keyslot.ensures.fault
-    (c.write_keyslot.ensures.torn tells payload e (content copy.meta) renews (addition_sealing v payload copy addition old to key random x laws digests c.requires.free.small k c.in_ok-made.ensures.made)))
+    (unsealed_ends laws v payload copy chosen well e random k (c.in_ok-made.ensures.unrefused v payload e seals total) (c.in_ok-made.ensures.edited v payload e seals total)
+    (g.D.Device.bytes c.write_keyslot.new.device) addition.made (addition_fine v payload copy addition old to key random x laws digests c.requires.free.small k c.in_ok-made.ensures.made)
+    (c.write_keyslot.ensures.torn tells payload e (content copy.meta) renews (addition_sealing v payload copy addition old to key random x laws digests c.requires.free.small k c.in_ok-made.ensures.made))
+    c.in_err-write_keyslot.field-0.0 c.in_err-write_keyslot.ensures.fault)
 
 pub returns-clause-replies : goal.returns-clause-replies
 returns-clause-replies g c = λ tells payload old to chosen well before opened is_new place.
@@ -75,6 +78,6 @@ returns-clause-replies g c = λ tells payload old to chosen well before opened i
     let w = g.D.Device.bytes c.write_keyslot.new.device in
     record {
       unrefused = unrefused;
-      after = added_after v payload copy addition old to key random x laws digests c.requires.free.small k c.in_ok-made.ensures.made edited unrefused w (c.in_ok-write_keyslot.ensures.written tells e renews);
-      told = made_in v payload copy addition old to key random x laws digests c.requires.free.small k c.in_ok-made.ensures.made edited unrefused w;
+      after = added_after v payload copy addition old to key random x laws digests c.requires.free.small k c.in_ok-made.ensures.made edited w (c.in_ok-write_keyslot.ensures.written tells e renews);
+      told = made_in v payload copy addition old to key random x laws digests c.requires.free.small k c.in_ok-made.ensures.made edited w;
     }

@@ -1,4 +1,4 @@
-use Rattle.std.proofs.Common.{◌≡◌, ℕ, ◌+◌, length, refl, sym, ◌∙◌, subst}
+use Rattle.std.proofs.Common.{◌≡◌, ℕ, length, refl, sym, ◌∙◌, subst}
 use Rattle.std.proofs.lemmas.Bool.{false≢true}
 use Rattle.std.proofs.lemmas.Result.{err_from_is_err_and}
 use Rattle.luks_area.specs.Area.{IsInside}
@@ -10,9 +10,11 @@ use Rattle.luks2_editing.specs.Lost.{HasKeyArea}
 use Rattle.luks2_editing.specs.MadeMetadata.{IsSealingEdit}
 use Rattle.luks2_editing.specs.declared.sealed_metadata.SealedSlot.TheVariants.{Renewed}
 use Rattle.luks2_editing.specs.declared.sealed_metadata.Sealing.{Sealing}
+use Rattle.luks2_editing.specs.Prepared.{IsCopyWithin}
 use Rattle.luks2_editing.specs.Rewriting.{IsRenewing}
-use Rattle.luks2_editing.proofs.ChangeFacts.{change_sealing, changed_after, renewed_sealable, torn_lost, unsealed_ends}
+use Rattle.luks2_editing.proofs.ChangeFacts.{change_sealing, changed_after, renewed_alike, renewed_unrefused, torn_lost}
 use Rattle.luks2_editing.proofs.LostFacts.{lost_inside}
+use Rattle.luks2_editing.proofs.NewKeyslotFacts.{alike_sealable, unsealed_ends}
 use Rattle.luks2_editing.proofs.RenewalFacts.{renewing, VolumeLaws}
 use Rattle.luks2_editing.proofs.changing.change.Goals as goal
 
@@ -68,9 +70,13 @@ pub write_keyslot-requires-clause-sealable : goal.write_keyslot-requires-clause-
 write_keyslot-requires-clause-sealable g c =
     let copy = c.args.copy.now in
     let made = c.in_ok-made.ensures in
-    renewed_sealable (content copy.meta) (content c.in_ok-made.made.meta) c.args.slot c.args.iterations _ c.args.area made.made
-    copy.header.hdr_size (area_len copy.meta) (g.D.Device.size c.args.device.now) c.args.key.now c.args.random.now
-    (subst (λ (n : ℕ). 4096 + n ≡ copy.header.hdr_size) made.length made.within.size) c.requires.placed c.requires.key_length made.counted
+    let j = content copy.meta in
+    let k = content c.in_ok-made.made.meta in
+    let within : IsCopyWithin copy.header (area_len copy.meta) (g.D.Device.size c.args.device.now) =
+    subst (λ (n : ℕ). IsCopyWithin copy.header n (g.D.Device.size c.args.device.now)) made.length
+    (subst (λ (n : ℕ). IsCopyWithin copy.header (area_len c.in_ok-made.made.meta) n) c.len-2.ensures made.within) in
+    alike_sealable j k c.args.slot c.args.slot c.args.area (renewed_alike j k c.args.slot c.args.iterations _ c.args.area made.made)
+    (area_len copy.meta) (g.D.Device.size c.args.device.now) copy.header c.args.key.now c.args.random.now made.counted c.requires.key_length c.requires.placed within
 
 pub returns-in_err-write_keyslot-clause-replies : goal.returns-in_err-write_keyslot-clause-replies
 returns-in_err-write_keyslot-clause-replies g c = λ tells payload x well before opened place.
@@ -105,10 +111,11 @@ returns-in_err-write_keyslot-clause-replies g c = λ tells payload x well before
     (renewing laws v payload copy x well (Change slot old new turns) copy.header.label (sym x.header.label)) in
     let p = err_from_is_err_and c.from_residual-in_err-write_keyslot.result c.from_residual-in_err-write_keyslot.ensures.1 in
     rw (p.1, p.2)
-    (unsealed_ends laws v payload copy x well slot old new turns key random area k opened place made.made free edited
-    (g.D.Device.bytes c.write_keyslot.new.device) c.in_err-write_keyslot.field-0.0 c.in_err-write_keyslot.ensures.fault
+    (unsealed_ends laws v payload copy x well (Change slot old new turns) random k free edited (g.D.Device.bytes c.write_keyslot.new.device)
+    slot (renewed_unrefused laws v payload copy x well slot old new turns key random area k opened place made.made)
     (c.write_keyslot.ensures.torn tells payload (Change slot old new turns) (content copy.meta) renews
-    (change_sealing laws v payload copy x well slot old new turns key random area k opened place made.made)))
+    (change_sealing laws v payload copy x well slot old new turns key random area k opened place made.made))
+    c.in_err-write_keyslot.field-0.0 c.in_err-write_keyslot.ensures.fault)
 
 pub returns-in-Ok-clause-replies : goal.returns-in-Ok-clause-replies
 returns-in-Ok-clause-replies g c = λ tells payload x well before opened place.

@@ -5,6 +5,7 @@ ghost use Rattle.luks_reading.specs.Header.{IsAcceptedHeader};
 
 use luks_area::{SECTOR, rounded_to_sectors};
 use luks_head::Luks1Common;
+use luks_kdf::HashName;
 use luks_volume::{
     Area, Cost, Device, Header, Keyslot, Luks1, Luks1Slot, Meta, OpenFault, SlotState,
     open_header_slot,
@@ -139,5 +140,5 @@ fn is_usual_luks2(keyslot: &Keyslot<'_>, digest_hash: &str, total: u64) -> bool 
 }
 
 fn is_usual_hash(name: &str) -> bool {
-    name == "sha1" || name == "sha256"
+    HashName::parse(name).is_some()
 }

@@ -1,16 +1,29 @@
-use Rattle.std.proofs.Common.{◌≡◌, ◌+◌, ◌-◌, ◌*◌, ◌<◌, ◌∙◌, length, arith, ap, refl, subst}
+use Rattle.std.proofs.Common.{◌≡◌, ◌+◌, ◌-◌, ◌*◌, ◌<◌, ◌∙◌, length, arith, ap, refl, rules, subst}
 use Rattle.luks_area.specs.Device.{unchanged-then}
-use Rattle.luks_kdf.specs.Splitter.{merge}
+use Rattle.luks_kdf.specs.Names.{digest_size_of, hash_of}
+use Rattle.luks_kdf.specs.Splitter.{mixed}
 use Rattle.luks_slot.specs.Opening.{area_bytes, stripes_from}
 use Rattle.luks_slot.specs.Reading.{IsReading}
 use Rattle.luks_slot.proofs.AreaFacts.{stripe_on}
+use Rattle.luks_slot.proofs.SplittingFacts.{merges}
 use Rattle.luks_slot.proofs.merging.merge_stripes.Goals as goal
+
+pub loop-i-init : goal.loop-i-init
+unfolding mixed
+loop-i-init g c = record {
+  count = refl;
+  unchanged = search rules;
+  same_area = refl;
+  same_key = refl;
+  reading = λ tells. search rules;
+  block = λ tells. c.requires.zeros;
+}
 
 pub loop-i-preserved : goal.loop-i-preserved
 loop-i-preserved g c =
     let reader = c.args.reader.now in
     let i = c.loop-i.i in
-    let k = length c.args.out.now in
+    let k = length c.args.block.now in
     let before = g.D.Device.bytes c.args.device.now in
     let now = g.D.Device.bytes c.loop-i.device in
     let stripe_len = c.loop-i.auto.stripe ∙ c.requires.stripe_length in
@@ -23,10 +36,9 @@ loop-i-preserved g c =
       same_key = c.in_ok-read.ensures.same_key ∙ c.loop-i.invariant.same_key;
       reading = λ tells.
           subst (IsReading c.read.new.self (g.D.Device.bytes c.read.new.device)) next (c.in_ok-read.ensures.after tells);
-      block_length = c.feed.ensures.len ∙ c.loop-i.invariant.block_length;
       block = λ tells.
           let long = g.met.D.Device.sized c.args.device.now tells in
-          c.feed.ensures.in_turn k i (stripes_from reader.key (area_bytes before reader.area) k c.args.stripes) (c.loop-i.invariant.block tells)
+          c.take_in.ensures.in_turn k i (stripes_from reader.key (area_bytes before reader.area) k c.args.stripes) (c.loop-i.invariant.block tells)
           (stripe_on before now reader.key c.loop-i.reader.key reader.area c.loop-i.reader.area k c.args.stripes i (i * k) c.read.new.out
           (c.loop-i.invariant.unchanged.same tells) c.loop-i.invariant.same_key c.loop-i.invariant.same_area
           refl (c.read.auto.out ∙ stripe_len) below c.requires.sectors
@@ -37,7 +49,7 @@ pub returns-clause-value : goal.returns-clause-value
 returns-clause-value g c tells =
     let reader = c.args.reader.now in
     let i = c.loop-i.i in
-    let k = length c.args.out.now in
+    let k = length c.args.block.now in
     let n = c.args.stripes in
     let before = g.D.Device.bytes c.args.device.now in
     let now = g.D.Device.bytes c.loop-i.device in
@@ -50,6 +62,5 @@ returns-clause-value g c tells =
     (c.loop-i.invariant.unchanged.same tells) c.loop-i.invariant.same_key c.loop-i.invariant.same_area
     (ap (λ m. m * k) last) (c.read-2.auto.out ∙ stripe_len) (omega (arith, more)) c.requires.sectors
     (omega (arith, long, c.requires.within)) (c.in_ok-read-2.ensures.value tells) in
-    c.finish.ensures.whole k i (stripes_from reader.key (area_bytes before reader.area) k n) (c.loop-i.invariant.block tells) stripe
-    ∙ ap (λ m. merge g.H.HashFn.digest g.H.HashFn.LEN k m
-    (stripes_from reader.key (area_bytes before reader.area) k n)) more
+    merges (hash_of c.args.hash) (digest_size_of c.args.hash) k n i (stripes_from reader.key (area_bytes before reader.area) k n)
+    _ _ _ more (c.loop-i.invariant.block tells) stripe c.xor_into.ensures

@@ -1,0 +1,123 @@
+-- A keyslot of new metadata that is sealed like another one, by an addition or a change.
+use Rattle.std.proofs.Common.{◌≡◌, ℕ, ◌+◌, ◌*◌, ◌≤◌, List, length, codes, sym, ap, ◌∙◌, subst, arith, inr}
+use Rattle.serde_json.specs.Data.{Data as Value}
+use Rattle.luks_area.specs.declared.area.Area.{Area}
+use Rattle.luks_area.specs.Ranges.{IsAt}
+use Rattle.luks_area.specs.Sectors.{rounded_to_sectors}
+use Rattle.luks_head.specs.declared.bin2.Bin2.{Bin2}
+use Rattle.luks_head.specs.Header2.{header_at, hdr_size}
+use Rattle.luks_rules.specs.declared.table.Outer.TheVariants as outer
+use Rattle.luks_rules.specs.Reading.{number_in}
+use Rattle.luks_rules.specs.Sizes.{inside_at}
+use Rattle.luks_meta.specs.Content.{content}
+use Rattle.luks_slot.specs.declared.fault.SlotFault.{SlotFault}
+use Rattle.luks_reading.specs.declared.header.ChosenCopy.{ChosenCopy}
+use Rattle.luks_reading.specs.declared.report.Data.{Data}
+use Rattle.luks_reading.specs.Checked.{WellFormed}
+use Rattle.luks_reading.specs.Header.{IsChosenCopy}
+use Rattle.luks_reading.specs.Plans.{HasLuks2KeyBytes}
+use Rattle.luks_edit.specs.declared.edit.Edit.{Edit}
+use Rattle.luks_edit.specs.declared.edit_fault.EditFault.{EditFault}
+use Rattle.luks_edit.specs.declared.edit_fault.EditFault.TheVariants as fault
+use Rattle.luks2_edits.specs.Edited.{keyslot_salt, IsEdited}
+use Rattle.luks2_edits.specs.Leftovers.{IsTornAt, Leftover2}
+use Rattle.luks2_edits.specs.Metadata.{HasStripes, IsKeyArea}
+use Rattle.luks2_edits.specs.Places.{rounded_to_blocks, IsNewArea, IsOfNewKeyslot}
+use Rattle.luks2_edits.specs.Refused.{IsUnrefused2, NeedsLike}
+use Rattle.luks2_judging.specs.Room.{IsPlaced}
+use Rattle.luks2_judging.proofs.StripeFacts.{same_stripes, some_same}
+use Rattle.luks2_editing.specs.Prepared.{IsCopyWithin}
+use Rattle.luks2_editing.specs.Replies.{EndsBy2}
+use Rattle.luks2_editing.specs.SealedKeyslot.{HasRefusedKeyslot, IsOfStripesOf, IsSealable, IsUnsealed}
+use Rattle.luks2_editing.proofs.MadeMetadataFacts.{sectors_in_blocks}
+use Rattle.luks2_editing.proofs.RenewalFacts.{metadata_here, VolumeLaws}
+
+-- ---- its numbers
+
+-- a keyslot has one area
+pub same_start : (j : Value) (n : ℕ) (a b : Area) → IsKeyArea j n a → IsKeyArea j n b → a.start ≡ b.start
+same_start j n a b x y = some_same a.start b.start (sym x.1 ∙ y.1)
+
+pub same_len : (j : Value) (n : ℕ) (a b : Area) → IsKeyArea j n a → IsKeyArea j n b → a.len ≡ b.len
+same_len j n a b x y = some_same a.len b.len (sym x.2 ∙ y.2)
+
+-- the keyslot `n` of the metadata `k` has the stripes of the keyslot `like` of `j`, and this area
+pub record SealsLike (j k : Value) (like n : ℕ) (area : Area) : Type 0 where
+  pub stripes : (a b : ℕ) → HasStripes j like a b → HasStripes k n a b
+  pub place : IsKeyArea k n area
+
+module _ (j k : Value) (like n : ℕ) (area : Area) (x : SealsLike j k like n area) where
+  -- the key can be sealed in it
+  pub alike_sealable : (len total : ℕ) (header : Bin2) (key random : List ℕ) → NeedsLike j like (length random) → HasLuks2KeyBytes j like (length key)
+      → IsPlaced len j total like area → IsCopyWithin header len total → IsSealable header.hdr_size k n key random total
+  alike_sealable len total header key random needs bytes placed within =
+      let object : bytes.object ≡ needs.slot.object = some_same bytes.object needs.slot.object (sym bytes.there ∙ needs.slot.there.is) in
+      let same = same_stripes j like needs.key_bytes needs.stripes placed.blocks.key_bytes placed.blocks.stripes needs.slot placed.blocks.slot in
+      let fits : rounded_to_sectors (placed.blocks.key_bytes * placed.blocks.stripes) ≤ rounded_to_blocks (placed.blocks.key_bytes * placed.blocks.stripes) =
+      sectors_in_blocks (placed.blocks.key_bytes * placed.blocks.stripes) in
+      let from : 2 * (len + 4096) ≤ area.start = placed.from in
+      let size : 4096 + len ≡ header.hdr_size = within.size in
+      record {
+        key_bytes = needs.key_bytes;
+        stripes = needs.stripes;
+        slot = x.stripes needs.key_bytes needs.stripes needs.slot;
+        area = area;
+        place = x.place;
+        key_length = some_same (length key) needs.key_bytes (sym bytes.is ∙ ap (λ d. number_in 1 128 (inside_at outer.Top (codes "key_size") d)) object ∙ needs.slot.key_bytes_are);
+        random_length = needs.count;
+        large = rw (same.key_bytes, same.stripes, placed.blocks.is) fits;
+        behind = omega (arith, from, size);
+        inside = placed.inside;
+      }
+
+  -- its sectors are those of the new area
+  pub alike_place : (h total : ℕ) (payload : Data) (p : ℕ) → IsNewArea h total payload j like area → IsOfStripesOf k n p → IsOfNewKeyslot h total payload j like p
+  alike_place h total payload p new at =
+      let start : at.area.start ≡ area.start = same_start k n at.area area at.place x.place in
+      let same = same_stripes k n at.key_bytes at.stripes new.key_bytes new.stripes at.slot (x.stripes new.key_bytes new.stripes new.slot) in
+      record {
+        area = area;
+        is = new;
+        at = subst (λ s. IsAt s (rounded_to_sectors (new.key_bytes * new.stripes)) p) start
+            (subst (λ s. IsAt at.area.start (rounded_to_sectors (new.key_bytes * s)) p) same.stripes
+            (subst (λ b. IsAt at.area.start (rounded_to_sectors (b * at.stripes)) p) same.key_bytes at.at));
+      }
+
+-- ---- an edit that didn't write it all
+
+module _ (laws : VolumeLaws) (v : List ℕ) (payload : Data) (copy : ChosenCopy) (x : IsChosenCopy v copy) (well : WellFormed v payload)
+    (e : Edit) (random : List ℕ) (k : Value) (unrefused : IsUnrefused2 v payload e random)
+    (edited : IsEdited (hdr_size (header_at v copy.header.hdr_offset)) (length v) payload e (keyslot_salt random) (content copy.meta) k) (w : List ℕ) where
+  -- what it leaves
+  pub torn_leftover : IsTornAt v payload e random copy.header.hdr_offset (content copy.meta) k w → Leftover2 v payload e random w
+  torn_leftover torn = inr (
+    unrefused,
+    record {
+      place = copy.header.hdr_offset;
+      value = content copy.meta;
+      metadata = metadata_here laws v payload copy x well;
+      new = k;
+      edited = edited;
+      torn = torn;
+    },
+  )
+
+  -- how it ends, where the keyslot's plan isn't refused
+  pub unsealed_ends : (n : ℕ) → ((g : SlotFault) → HasRefusedKeyslot k n g → ⊥) → IsTornAt v payload e random copy.header.hdr_offset (content copy.meta) k w
+      → (f : EditFault) → IsUnsealed k n f → EndsBy2 payload v e random f w
+  unsealed_ends n fine torn fault.Device why = torn_leftover torn
+  unsealed_ends n fine torn (fault.Slot g) why = absurd (fine g why)
+  unsealed_ends n fine torn fault.Memory why = absurd why
+  unsealed_ends n fine torn (fault.NotAccepted f) why = absurd why
+  unsealed_ends n fine torn fault.Requirements why = absurd why
+  unsealed_ends n fine torn fault.NoSuchSlot why = absurd why
+  unsealed_ends n fine torn fault.Locked why = absurd why
+  unsealed_ends n fine torn fault.SlotTaken why = absurd why
+  unsealed_ends n fine torn fault.NoFreeSlot why = absurd why
+  unsealed_ends n fine torn fault.NoRoom why = absurd why
+  unsealed_ends n fine torn fault.LastSlot why = absurd why
+  unsealed_ends n fine torn fault.Iterations why = absurd why
+  unsealed_ends n fine torn fault.BadLabel why = absurd why
+  unsealed_ends n fine torn fault.SeqExhausted why = absurd why
+  unsealed_ends n fine torn fault.MetadataFull why = absurd why
+  unsealed_ends n fine torn fault.RandomLength why = absurd why

@@ -1,0 +1,184 @@
+-- A keyslot of a LUKS1 volume has a refusal or none.
+use Rattle.std.proofs.Common.{◌≡◌, ℕ, ◌+◌, List, [], ◌∷◌, ◌++◌, map, Option, Some, None, refl, sym, ap, ◌∙◌, arith, inl, inr}
+use Rattle.std.proofs.lemmas.Bool.{cases_eq, cases_lt}
+use Rattle.luks_head.specs.declared.fault.HeadFault.{HeadFault}
+use Rattle.luks_head.specs.declared.fault.HeadFault.TheVariants as head
+use Rattle.luks_head.specs.declared.fault.IterationsOf.TheVariants as of
+use Rattle.luks_head.specs.Header1.{active_word, disabled_word, entry, entry_stripes}
+use Rattle.luks_rules.specs.Faults.{Among}
+use Rattle.luks_slot.specs.declared.fault.SlotFault.{SlotFault}
+use Rattle.luks_slot.specs.declared.fault.SlotFault.TheVariants as slot
+use Rattle.luks_slot.specs.declared.plan.AreaCipher.{AreaCipher}
+use Rattle.luks_slot.specs.declared.plan.AreaCipher.TheVariants.{Apart, Whole}
+use Rattle.luks_slot.specs.declared.plan.Derivation.{Derivation}
+use Rattle.luks_slot.specs.declared.plan.Derivation.TheVariants.{Argon2, Pbkdf2}
+use Rattle.luks_slot.specs.declared.plan.SlotPlan.{SlotPlan}
+use Rattle.luks_slot.specs.Refusal.{is_argon2, is_known_derivation, is_open_cipher, slot_refusal}
+use Rattle.luks_reading.specs.declared.open_fault.OpenFault.{OpenFault}
+use Rattle.luks_reading.specs.declared.open_fault.OpenFault.TheVariants as opening
+use Rattle.luks_reading.specs.Answer.{HasAreaPast, HasRefusedPlan, IsLuks1HeadRefusal, IsLuks1Refusal, open_key}
+use Rattle.luks_reading.specs.Plans.{HasLuks1Plan, IsLuks1Cipher, IsLuks1Derivation}
+use Rattle.luks_laws.proofs.DecidedFacts.{among_left, among_map, among_right, both_decided, Decided, LeastOrNone, least_or_none, less_decided, at_most_decided}
+use Rattle.luks_laws.proofs.HeaderDecisions1.{among_texts, head_fault_decided, lacks_iterations_decided, unknown_state_decided, whole_faults}
+use Rattle.luks_laws.proofs.PlanFacts1.{has_luks1_plan}
+
+-- ---- the header
+
+head_refusal_decided : (h : List ℕ) (n : ℕ) (f : HeadFault) → Decided (IsLuks1HeadRefusal h n f)
+head_refusal_decided h n head.TooShort = inr (λ bad. bad.0)
+head_refusal_decided h n head.NotLuks = both_decided _ _ (inl tt) (head_fault_decided h head.NotLuks)
+head_refusal_decided h n head.Version = both_decided _ _ (inl tt) (head_fault_decided h head.Version)
+head_refusal_decided h n head.NoSoundCopy = inr (λ bad. bad.0)
+head_refusal_decided h n (head.Text t) = both_decided _ _ (inl tt) (head_fault_decided h (head.Text t))
+head_refusal_decided h n head.Uuid = both_decided _ _ (inl tt) (head_fault_decided h head.Uuid)
+head_refusal_decided h n (head.SlotState m) = both_decided _ _ (less_decided n 8) (both_decided _ _ (cases_eq m n) (unknown_state_decided (entry h n)))
+head_refusal_decided h n head.KeyBytes = both_decided _ _ (inl tt) (head_fault_decided h head.KeyBytes)
+head_refusal_decided h n (head.Stripes m) = both_decided _ _ (less_decided n 8) (both_decided _ _ (cases_eq m n) (cases_eq (entry_stripes (entry h n)) 0))
+head_refusal_decided h n (head.Iterations (of.Slot m)) = both_decided _ _ (less_decided n 8) (both_decided _ _ (cases_eq m n) (lacks_iterations_decided (entry h n)))
+head_refusal_decided h n (head.Iterations of.Digest) = both_decided _ _ (inl tt) (head_fault_decided h (head.Iterations of.Digest))
+head_refusal_decided h n head.Device = inr (λ bad. bad.0)
+head_refusal_decided h n head.Memory = inr (λ bad. bad.0)
+
+-- the faults that may stand
+of_entry : ℕ → List HeadFault
+of_entry n = head.SlotState n ∷ head.Stripes n ∷ head.Iterations (of.Slot n) ∷ []
+
+heads_of : ℕ → List HeadFault
+heads_of n = whole_faults ++ of_entry n
+
+among_whole : (n : ℕ) (f : HeadFault) → Among f whole_faults → Among f (heads_of n)
+unfolding heads_of
+among_whole n f at = among_left f whole_faults (of_entry n) at
+
+among_entry : (n : ℕ) (f : HeadFault) → Among f (of_entry n) → Among f (heads_of n)
+unfolding heads_of
+among_entry n f at = among_right f whole_faults (of_entry n) at
+
+among_heads : (h : List ℕ) (n : ℕ) (f : HeadFault) → IsLuks1HeadRefusal h n f → Among f (heads_of n)
+unfolding whole_faults of_entry
+among_heads h n head.TooShort bad = absurd bad.0
+among_heads h n head.NotLuks bad = among_whole n _ (inr (inl refl))
+among_heads h n head.Version bad = among_whole n _ (inr (inr (inl refl)))
+among_heads h n head.NoSoundCopy bad = absurd bad.0
+among_heads h n (head.Text t) bad = among_whole n _ (among_texts t)
+among_heads h n head.Uuid bad = among_whole n _ (inr (inr (inr (inr (inr (inr (inr (inl refl))))))))
+among_heads h n (head.SlotState m) bad = among_entry n _ (inl (ap head.SlotState bad.1.0))
+among_heads h n head.KeyBytes bad = among_whole n _ (inr (inr (inr (inr (inr (inr (inr (inr (inl refl)))))))))
+among_heads h n (head.Stripes m) bad = among_entry n _ (inr (inl (ap head.Stripes bad.1.0)))
+among_heads h n (head.Iterations (of.Slot m)) bad = among_entry n _ (inr (inr (inl (ap (λ k. head.Iterations (of.Slot k)) bad.1.0))))
+among_heads h n (head.Iterations of.Digest) bad = among_whole n _ (inr (inr (inr (inr (inr (inr (inr (inr (inr (inl refl))))))))))
+among_heads h n head.Device bad = absurd bad.0
+among_heads h n head.Memory bad = absurd bad.0
+
+-- ---- the plan
+
+same_argon2 : (h e : List ℕ) (a b : Derivation) → IsLuks1Derivation h e a → IsLuks1Derivation h e b → is_argon2 a ≡ is_argon2 b
+same_argon2 h e (Pbkdf2 k i s) (Pbkdf2 l j t) x y = refl
+same_argon2 h e (Pbkdf2 k i s) Argon2 x y = absurd y
+same_argon2 h e Argon2 b x y = absurd x
+
+same_known : (h e : List ℕ) (a b : Derivation) → IsLuks1Derivation h e a → IsLuks1Derivation h e b → is_known_derivation a ≡ is_known_derivation b
+same_known h e (Pbkdf2 k i s) (Pbkdf2 l j t) x y = let hash = x.0 ∙ sym y.0 in simp hash
+same_known h e (Pbkdf2 k i s) Argon2 x y = absurd y
+same_known h e Argon2 b x y = absurd x
+
+same_cipher : (h : List ℕ) (a b : AreaCipher) → IsLuks1Cipher h a → IsLuks1Cipher h b → is_open_cipher a ≡ is_open_cipher b
+same_cipher h (Apart n m) (Apart k l) x y = let name = x.0 ∙ sym y.0 in let mode = x.1 ∙ sym y.1 in simp (name, mode)
+same_cipher h (Apart n m) (Whole t) x y = absurd y
+same_cipher h (Whole t) b x y = absurd x
+
+-- two plans of a keyslot are refused alike
+same_refusal : (h : List ℕ) (n : ℕ) (a b : SlotPlan) → HasLuks1Plan h n a → HasLuks1Plan h n b → slot_refusal a ≡ slot_refusal b
+same_refusal h n a b x y =
+    let argon2 = same_argon2 h (entry h n) a.derivation b.derivation x.is.derivation y.is.derivation in
+    let known = same_known h (entry h n) a.derivation b.derivation x.is.derivation y.is.derivation in
+    let cipher = same_cipher h a.cipher b.cipher x.is.cipher y.is.cipher in
+    let size = x.is.area_key_bytes ∙ sym y.is.area_key_bytes in
+    let splitter = x.is.splitter_hash ∙ sym y.is.splitter_hash in
+    let digest = x.is.digest.hash ∙ sym y.is.digest.hash in
+    simp (argon2, known, cipher, size, splitter, digest)
+
+same_fault_decided : (f g : SlotFault) → Decided (f ≡ g)
+same_fault_decided slot.Argon2 slot.Argon2 = inl refl
+same_fault_decided slot.Cipher slot.Cipher = inl refl
+same_fault_decided slot.Hash slot.Hash = inl refl
+same_fault_decided slot.KeySize slot.KeySize = inl refl
+same_fault_decided slot.Device slot.Device = inl refl
+same_fault_decided slot.Memory slot.Memory = inl refl
+same_fault_decided f g = inr (λ e. cc)
+
+is_fault_decided : (o : Option SlotFault) (f : SlotFault) → Decided (o ≡ Some f)
+is_fault_decided None f = inr (λ e. cc)
+is_fault_decided (Some g) f = elim (same_fault_decided g f) [ inl same ↦ inl (ap Some same) | inr other ↦ inr (λ e. other (cc)) ]
+
+refused_plan_decided : (h : List ℕ) (n : ℕ) (f : SlotFault) → Decided (HasRefusedPlan (HasLuks1Plan h n) f)
+refused_plan_decided h n f = elim (cases_lt n 8) [
+  | inl low ↦ (let own = has_luks1_plan h n low in elim (is_fault_decided (slot_refusal own.0) f) [
+    | inl bad ↦ inl (record { plan = own.0; is = own.1; refused = bad })
+    | inr good ↦ inr (λ x. good (same_refusal h n own.0 x.plan own.1 x.is ∙ x.refused))
+  ])
+  | inr high ↦ inr (λ x. let low = x.is.numbered in absurd (omega (arith, low, high)))
+]
+
+area_past_decided : (h : List ℕ) (n total : ℕ) → Decided (HasAreaPast (HasLuks1Plan h n) total)
+area_past_decided h n total = elim (cases_lt n 8) [
+  | inl low ↦ (let own = has_luks1_plan h n low in elim (less_decided total (own.0.area.start + own.0.area.len)) [
+    | inl past ↦ inl (record { plan = own.0; is = own.1; past = past })
+    | inr within ↦ inr (λ x. within (
+        let start = own.1.is.start ∙ sym x.is.is.start in
+        let len = own.1.is.len ∙ sym x.is.is.len in
+        let past = x.past in
+        omega (arith, start, len, past)))
+  ])
+  | inr high ↦ inr (λ x. let low = x.is.numbered in absurd (omega (arith, low, high)))
+]
+
+-- ---- the keyslot
+
+pub luks1_refusal_decided : (h : List ℕ) (total n : ℕ) (f : OpenFault) → Decided (IsLuks1Refusal h total n f)
+luks1_refusal_decided h total n (opening.Head f) = head_refusal_decided h n f
+luks1_refusal_decided h total n (opening.Meta f) = inr (λ bad. bad)
+luks1_refusal_decided h total n opening.NoSuchSlot = at_most_decided 8 n
+luks1_refusal_decided h total n opening.SlotFree = both_decided _ _ (less_decided n 8) (cases_eq (active_word (entry h n)) disabled_word)
+luks1_refusal_decided h total n opening.Outside = area_past_decided h n total
+luks1_refusal_decided h total n (opening.Slot f) = refused_plan_decided h n f
+luks1_refusal_decided h total n opening.Device = inr (λ bad. bad)
+luks1_refusal_decided h total n opening.Memory = inr (λ bad. bad)
+
+-- the faults of a plan
+unfoldable pub slot_faults : List SlotFault
+slot_faults = slot.Argon2 ∷ slot.Cipher ∷ slot.Hash ∷ slot.KeySize ∷ slot.Device ∷ slot.Memory ∷ []
+
+pub among_slots : (f : SlotFault) → Among f slot_faults
+unfolding slot_faults
+among_slots slot.Argon2 = inl refl
+among_slots slot.Cipher = inr (inl refl)
+among_slots slot.Hash = inr (inr (inl refl))
+among_slots slot.KeySize = inr (inr (inr (inl refl)))
+among_slots slot.Device = inr (inr (inr (inr (inl refl))))
+among_slots slot.Memory = inr (inr (inr (inr (inr (inl refl)))))
+
+of_keyslot : List OpenFault
+of_keyslot = opening.NoSuchSlot ∷ opening.SlotFree ∷ opening.Outside ∷ map opening.Slot slot_faults
+
+open_candidates : ℕ → List OpenFault
+open_candidates n = map opening.Head (heads_of n) ++ of_keyslot
+
+among_own : (n : ℕ) (f : OpenFault) → Among f of_keyslot → Among f (open_candidates n)
+unfolding open_candidates
+among_own n f at = among_right f (map opening.Head (heads_of n)) of_keyslot at
+
+among_opens : (h : List ℕ) (total n : ℕ) (f : OpenFault) → IsLuks1Refusal h total n f → Among f (open_candidates n)
+unfolding open_candidates of_keyslot
+among_opens h total n (opening.Head f) bad = among_left _ (map opening.Head (heads_of n)) of_keyslot (among_map opening.Head f (heads_of n) (among_heads h n f bad))
+among_opens h total n (opening.Meta f) bad = absurd bad
+among_opens h total n opening.NoSuchSlot bad = among_own n _ (inl refl)
+among_opens h total n opening.SlotFree bad = among_own n _ (inr (inl refl))
+among_opens h total n opening.Outside bad = among_own n _ (inr (inr (inl refl)))
+among_opens h total n (opening.Slot f) bad = among_own n _ (inr (inr (inr (among_map opening.Slot f slot_faults (among_slots f)))))
+among_opens h total n opening.Device bad = absurd bad
+among_opens h total n opening.Memory bad = absurd bad
+
+pub luks1_refusal_or_none : (h : List ℕ) (total n : ℕ) → LeastOrNone OpenFault open_key (IsLuks1Refusal h total n)
+luks1_refusal_or_none h total n =
+    least_or_none OpenFault open_key (IsLuks1Refusal h total n) (luks1_refusal_decided h total n) (open_candidates n) (among_opens h total n)
