@@ -12,6 +12,10 @@ mod edits_of_luks1;
 #[cfg(test)]
 mod edits_of_luks2;
 #[cfg(test)]
+mod edits_without_memory;
+#[cfg(test)]
+mod failing_edits;
+#[cfg(test)]
 mod failing_formats;
 #[cfg(test)]
 mod formats;
@@ -19,6 +23,8 @@ mod formats;
 mod formatting;
 #[cfg(test)]
 mod little_memory;
+#[cfg(test)]
+mod new_luks2;
 #[cfg(test)]
 mod refused_memory;
 #[cfg(test)]
@@ -31,3 +37,5 @@ mod stray;
 mod sums;
 #[cfg(test)]
 mod texts;
+#[cfg(test)]
+mod torn_labels;
