@@ -73,13 +73,12 @@ fn run_line<R: AllocGlobal + Files<File = File> + Print + Eprint>(
     rt: &R,
     line: &Line<'_>,
 ) -> io::Result<u8> {
-    let words = passphrase(rt, line);
+    let old = passphrase(rt, line.passphrase());
+    let new = passphrase(rt, line.new_passphrase());
     let mut inputs = Inputs {
         volume: open_volume(rt, line),
-        passphrase: match &words {
-            Ok(bytes) => Ok(bytes.as_slice()),
-            Err(fault) => Err(*fault),
-        },
+        passphrase: reader(&old),
+        new_passphrase: reader(&new),
         random: open_random(rt, line),
     };
     let mut out = Vec::new(rt.alloc());
@@ -98,16 +97,24 @@ fn explain<R: Eprint>(rt: &R, lines: &[u8]) {
     }
 }
 
-/// What its file has of the passphrase, read before the volume is opened.
+/// What the file of this name has of a passphrase, read before the volume is opened.
 fn passphrase<R: AllocGlobal + Files<File = File>>(
     rt: &R,
-    line: &Line<'_>,
+    name: Option<&str>,
 ) -> Result<Vec<u8>, InputFault> {
-    let Some(path) = line.passphrase() else {
+    let Some(path) = name else {
         return Err(InputFault::Absent);
     };
     let mut file = File::open(rt, path)?;
     first_bytes(rt.alloc(), &mut file)
+}
+
+/// What was read of a file, to be read once more.
+fn reader(read: &Result<Vec<u8>, InputFault>) -> Result<&[u8], InputFault> {
+    match read {
+        Ok(bytes) => Ok(bytes.as_slice()),
+        Err(fault) => Err(*fault),
+    }
 }
 
 /// The volume, opened for reading, and for writing where the command writes to it. A file of another
@@ -129,7 +136,7 @@ fn open_volume<R: Files<File = File>>(
     Ok(FileDevice::new(file)?)
 }
 
-/// The file of the random bytes, of any kind, where the command needs them.
+/// The file of the random bytes, of any kind, where the command line names one.
 fn open_random<R: Files<File = File>>(rt: &R, line: &Line<'_>) -> Result<File, InputFault> {
     let Some(path) = line.random() else {
         return Err(InputFault::Absent);

@@ -1,3 +1,4 @@
+pub mod EditFacts
 pub mod ExitFacts
 pub mod FileFacts
 pub mod FormatFacts

@@ -1,8 +1,10 @@
 -- The files of a command line.
-use Rattle.std.specs.Prelude.{◌≡◌, List, ℕ, Option, IfSome, Result, Ok, Err, take}
+use Rattle.std.specs.Prelude.{◌≡◌, ◌<◌, List, [], ℕ, Option, IfSome, Result, Ok, Err, length, take}
 use Rattle.std.specs.declared.io.ErrorKind.{ErrorKind}
 use Rattle.std.specs.declared.io.ErrorKind.TheVariants.{OutOfMemory}
 use Rattle.luks_area.specs.Device.{IsUnchanged}
+use Rattle.luks_line.specs.declared.request.Command.{Command}
+use Rattle.luks_line.specs.declared.request.Command.TheVariants.{Edit, Format}
 use Rattle.luks_cli.specs.declared.inputs.InputFault.{InputFault}
 use Rattle.luks_cli.specs.declared.inputs.InputFault.TheVariants.{Absent, Unreadable, NoMemory}
 
@@ -23,9 +25,16 @@ OfFile remaining (Err fault) holds = ⊥
 abbrev pub IsWhole : {R : Type 0} → (R → Option (List ℕ)) → Result R InputFault → List ℕ → Type 0
 IsWhole remaining file bytes = OfFile remaining file (λ known. bytes ≡ known)
 
--- these bytes are the first `count` of the file, or all of a shorter one
+-- the file has more bytes than a passphrase may have
+abbrev pub IsLong : {R : Type 0} → (R → Option (List ℕ)) → Result R InputFault → Type 0
+IsLong remaining file = OfFile remaining file (λ known. 65536 < length known)
+
+-- these bytes are the first `count` of the file, or all of a shorter one; where none is named, there
+-- are none
 abbrev pub IsTaken : {R : Type 0} → ℕ → (R → Option (List ℕ)) → Result R InputFault → List ℕ → Type 0
-IsTaken count remaining file bytes = OfFile remaining file (λ known. bytes ≡ take count known)
+IsTaken count remaining (Ok file) bytes = IfSome (remaining file) (λ known. bytes ≡ take count known)
+IsTaken count remaining (Err Absent) bytes = bytes ≡ []
+IsTaken count remaining (Err fault) bytes = ⊥
 
 -- ---- what becomes of the volume
 
@@ -46,3 +55,9 @@ abbrev pub LeavesVolume : {D : Type 0} → Type 0 → (D → ℕ) → (D → Lis
 LeavesVolume tells size bytes says (Ok old) (Ok new) = IsLeft tells size bytes says old new
 LeavesVolume tells size bytes says (Ok old) (Err fault) = ⊥
 LeavesVolume tells size bytes says (Err fault) new = new ≡ Err fault
+
+-- what holds of the commands that write nothing
+abbrev pub UnlessWriter : Command → Type 0 → Type 0
+UnlessWriter (Edit editing) holds = Unit {0}
+UnlessWriter (Format making) holds = Unit {0}
+UnlessWriter _ holds = holds

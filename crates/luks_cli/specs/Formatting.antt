@@ -54,8 +54,3 @@ pub record SaysFormat (making : Making) (HasWords HasRandom : List ℕ → Type 
 abbrev pub WhereFormat : Command → (Making → Type 0) → Type 0
 WhereFormat (command.Format making) holds = holds making
 WhereFormat _ holds = Unit {0}
-
--- what holds of every other command
-abbrev pub UnlessFormat : Command → Type 0 → Type 0
-UnlessFormat (command.Format making) holds = Unit {0}
-UnlessFormat _ holds = holds

@@ -2,3 +2,4 @@ pub mod Exit
 pub mod Files
 pub mod Checked
 pub mod Formatting
+pub mod Editing

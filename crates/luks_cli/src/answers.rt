@@ -69,6 +69,22 @@ pub(crate) fn write_fault<W: Write, E: Write>(
     Ok(Status::Fault)
 }
 
+/// What is printed where the device failed in the midst of an edit of the volume of this name.
+pub(crate) fn edit_failed<W: Write, E: Write>(
+    volume: &str,
+    out: &mut W,
+    err: &mut E,
+) -> io::Result<Status>
+    ensures { IfOk result (λ s. s ≡ Status.Fault) }
+{
+    let _ = writeln!(
+        err,
+        "luks: {volume}: reading or writing failed, part of the edit may be written"
+    );
+    writeln!(out, "device fault")?;
+    Ok(Status::Fault)
+}
+
 pub(crate) fn no_memory<W: Write>(out: &mut W) -> io::Result<Status>
     ensures { IfOk result (λ s. s ≡ Status.Fault) }
 {

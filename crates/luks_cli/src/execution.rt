@@ -1,13 +1,14 @@
 ghost use Rattle.std.specs.Prelude.{◌≡◌, ◌≢◌, ◌+◌, ◌<◌, ◌≤◌, ◌^◌, IfOk, IfErr};
 ghost use Rattle.std.specs.Result.{ForOk};
 ghost use Rattle.luks_cli.specs.Checked.{SaysCheck, WhereCheck};
+ghost use Rattle.luks_cli.specs.Editing.{given_by, KeepsUnnamed, SaysEdit, WhereEdit, WhereFailed};
 ghost use Rattle.luks_cli.specs.Exit.{IsExitStatus};
-ghost use Rattle.luks_cli.specs.Files.{IsTaken, IsWhole, KeepsVolume, LeavesVolume};
-ghost use Rattle.luks_cli.specs.Formatting.{needed, SaysFormat, UnlessFormat, WhereFormat};
+ghost use Rattle.luks_cli.specs.Files.{IsTaken, IsWhole, KeepsVolume, LeavesVolume, UnlessWriter};
+ghost use Rattle.luks_cli.specs.Formatting.{needed, SaysFormat, WhereFormat};
 
 use crate::answers::exit_code;
 use crate::commands::open::Tried;
-use crate::commands::{check, format, open, show};
+use crate::commands::{check, edit, format, open, show};
 use crate::inputs::Inputs;
 use luks_line::{Command, Line};
 use luks_volume::Device;
@@ -21,7 +22,7 @@ use std::io::{Read, Write};
 /// 0: accepted, shown, opened or done; 1: refused, or it doesn't open; 3: accepted, but the two
 /// copies of the header aren't in step; 4: the device failed, a file can't be read, memory was
 /// refused, or `out` failed, which says nothing of what was done. The passphrase is read before the
-/// volume, and the random bytes after it.
+/// volume, a new one after the old one, and the random bytes after the volume.
 pub fn execute<D: Device, R: Read, N: Read, W: Write, E: Write>(
     alloc: Global,
     line: &Line<'_>,
@@ -31,9 +32,19 @@ pub fn execute<D: Device, R: Read, N: Read, W: Write, E: Write>(
 ) -> u8
     requires { ForOk inputs.old.volume (λ d. D.failed d + 1 < 2 ^ 64) }
     ensures status { IsExitStatus result }
-    // No command but `format` changes its volume.
-    ensures unchanged { UnlessFormat line.now.command
+    // No command changes its volume but those that edit and `format`.
+    ensures unchanged { UnlessWriter line.now.command
         (KeepsVolume D.tells D.size D.bytes inputs.old.volume inputs.new.volume) }
+    // A command that edits: what 0 and 1 say of the volume, what is kept, and that 4 tells of a
+    // device call that failed.
+    ensures edit { WhereEdit line.now.command (λ editing. LeavesVolume D.tells D.size D.bytes
+        (λ old new. SaysEdit editing.data_
+        (given_by editing.request R.remaining N.remaining inputs.old) old new
+        (result ≡ 0) (result ≡ 1)) inputs.old.volume inputs.new.volume) }
+    ensures keeps { WhereEdit line.now.command (λ editing. KeepsUnnamed D.tells D.failed D.bytes
+        editing inputs.old.volume inputs.new.volume) }
+    ensures failure { WhereEdit line.now.command (λ editing. WhereFailed D.failed
+        inputs.old.volume inputs.new.volume (result ≡ 4)) }
     ensures format { WhereFormat line.now.command (λ making. LeavesVolume D.tells D.size D.bytes
         (λ old new. SaysFormat making (IsWhole R.remaining inputs.old.passphrase)
         (IsTaken (needed making.version) N.remaining inputs.old.random) old new result)
@@ -57,6 +68,7 @@ pub fn execute<D: Device, R: Read, N: Read, W: Write, E: Write>(
             };
             exit_code(open::run(alloc, inputs, &tried, out, err))
         }
+        Command::Edit(editing) => edit::run(alloc, inputs, name, &editing, out, err),
         Command::Format(making) => format::run(alloc, inputs, name, &making, out, err),
     }
 }

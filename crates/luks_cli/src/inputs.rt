@@ -68,6 +68,8 @@ pub struct Inputs<D, R, N> {
     pub volume: Result<D, InputFault>,
     /// The passphrase: all bytes of its file, a last line feed too.
     pub passphrase: Result<R, InputFault>,
+    /// The new passphrase, likewise.
+    pub new_passphrase: Result<R, InputFault>,
     /// The random bytes, of which no more are read than the command needs.
     pub random: Result<N, InputFault>,
 }

@@ -6,7 +6,8 @@ use crate::inputs::InputFault;
 use std::alloc::Global;
 use std::io::Read;
 
-/// So many random bytes: the first of their file, and no more; fewer where the file ends before.
+/// So many random bytes: the first of their file, and no more; fewer where the file ends before, and
+/// none where none is named.
 pub(crate) fn random_bytes<R: Read>(
     alloc: Global,
     file: &mut Result<R, InputFault>,
@@ -16,6 +17,7 @@ pub(crate) fn random_bytes<R: Read>(
 {
     match file {
         Ok(reader) => first_random_bytes(alloc, reader, count),
+        Err(InputFault::Absent) => Ok(Vec::new(alloc)),
         Err(fault) => Err(*fault),
     }
 }

@@ -1,5 +1,5 @@
 use crate::helps;
-use crate::request::{Command as Asked, Line, Making, NewVersion};
+use crate::request::{Command as Asked, EditRequest, Editing, Line, Making, NewVersion};
 use clap::builder::ValueParser;
 use clap::error::ErrorKind;
 use clap::{Arg, ArgAction, ArgMatches, Command, Error};
@@ -34,9 +34,44 @@ fn asked<'a>(matches: &ArgMatches<'a>) -> Option<Line<'a>> {
             slot: given.get_one::<u8>("slot"),
         },
         "format" => Asked::Format(making_of(given)?),
-        _ => return None,
+        _ => Asked::Edit(editing_of(name, given)?),
     };
     Some(Line { volume, command })
+}
+
+fn editing_of<'a>(name: &str, given: &ArgMatches<'a>) -> Option<Editing<'a>> {
+    Some(Editing {
+        request: edit_request(name, given)?,
+        random: given.get_str("random"),
+        data_: data_of(given),
+    })
+}
+
+fn edit_request<'a>(name: &str, given: &ArgMatches<'a>) -> Option<EditRequest<'a>> {
+    match name {
+        "add" => Some(EditRequest::Add {
+            by_: given.get_one::<u8>("slot")?,
+            passphrase: given.get_str("passphrase")?,
+            new: given.get_str("new")?,
+            to: given.get_one::<u8>("to"),
+            iterations: given.get_one::<u32>("iterations")?,
+        }),
+        "change" => Some(EditRequest::Change {
+            slot: given.get_one::<u8>("slot")?,
+            passphrase: given.get_str("passphrase")?,
+            new: given.get_str("new")?,
+            iterations: given.get_one::<u32>("iterations")?,
+        }),
+        "remove" => Some(EditRequest::Remove {
+            slot: given.get_one::<u8>("slot")?,
+            passphrase: given.get_str("passphrase")?,
+        }),
+        "repair" => Some(EditRequest::Repair),
+        "label" => Some(EditRequest::Label {
+            text: given.get_str("TEXT")?,
+        }),
+        _ => None,
+    }
 }
 
 fn making_of<'a>(given: &ArgMatches<'a>) -> Option<Making<'a>> {
@@ -72,6 +107,11 @@ fn program<'a>(alloc: Global) -> Result<Command<'a>, AllocError> {
         .subcommand(check_command(alloc)?)?
         .subcommand(show_command(alloc)?)?
         .subcommand(open_command(alloc)?)?
+        .subcommand(add_command(alloc)?)?
+        .subcommand(change_command(alloc)?)?
+        .subcommand(remove_command(alloc)?)?
+        .subcommand(repair_command(alloc)?)?
+        .subcommand(label_command(alloc)?)?
         .subcommand(format_command(alloc)?)
 }
 
@@ -96,7 +136,64 @@ fn open_command<'a>(alloc: Global) -> Result<Command<'a>, AllocError> {
         .after_help(helps::OPEN_MORE)
         .arg(volume_argument(alloc))?
         .arg(passphrase_option(alloc))?
-        .arg(slot_option(alloc))
+        .arg(slot_option(alloc).help("The keyslot to try, 0 to 31; else all"))
+}
+
+fn add_command<'a>(alloc: Global) -> Result<Command<'a>, AllocError> {
+    Command::new(alloc, "add")
+        .about(helps::ADD)
+        .after_help(helps::ADD_MORE)
+        .arg(volume_argument(alloc))?
+        .arg(opened_slot_option(alloc))?
+        .arg(passphrase_option(alloc))?
+        .arg(new_option(alloc))?
+        .arg(random_option(alloc).required(true))?
+        .arg(to_option(alloc))?
+        .arg(iterations_option(alloc))?
+        .arg(detached_option(alloc))
+}
+
+fn change_command<'a>(alloc: Global) -> Result<Command<'a>, AllocError> {
+    Command::new(alloc, "change")
+        .about(helps::CHANGE)
+        .after_help(helps::CHANGE_MORE)
+        .arg(volume_argument(alloc))?
+        .arg(opened_slot_option(alloc))?
+        .arg(passphrase_option(alloc))?
+        .arg(new_option(alloc))?
+        .arg(random_option(alloc).required(true))?
+        .arg(iterations_option(alloc))?
+        .arg(detached_option(alloc))
+}
+
+fn remove_command<'a>(alloc: Global) -> Result<Command<'a>, AllocError> {
+    Command::new(alloc, "remove")
+        .about(helps::REMOVE)
+        .after_help(helps::REMOVE_MORE)
+        .arg(volume_argument(alloc))?
+        .arg(opened_slot_option(alloc))?
+        .arg(passphrase_option(alloc))?
+        .arg(random_option(alloc))?
+        .arg(detached_option(alloc))
+}
+
+fn repair_command<'a>(alloc: Global) -> Result<Command<'a>, AllocError> {
+    Command::new(alloc, "repair")
+        .about(helps::REPAIR)
+        .after_help(helps::REPAIR_MORE)
+        .arg(volume_argument(alloc))?
+        .arg(random_option(alloc))?
+        .arg(detached_option(alloc))
+}
+
+fn label_command<'a>(alloc: Global) -> Result<Command<'a>, AllocError> {
+    Command::new(alloc, "label")
+        .about(helps::LABEL)
+        .after_help(helps::LABEL_MORE)
+        .arg(volume_argument(alloc))?
+        .arg(text_argument(alloc))?
+        .arg(random_option(alloc).required(true))?
+        .arg(detached_option(alloc))
 }
 
 fn format_command<'a>(alloc: Global) -> Result<Command<'a>, AllocError> {
@@ -105,7 +202,7 @@ fn format_command<'a>(alloc: Global) -> Result<Command<'a>, AllocError> {
         .after_help(helps::FORMAT_MORE)
         .arg(volume_argument(alloc))?
         .arg(passphrase_option(alloc))?
-        .arg(random_option(alloc))?
+        .arg(random_option(alloc).required(true))?
         .arg(version_option(alloc))?
         .arg(hash_option(alloc))?
         .arg(iterations_option(alloc))?
@@ -116,6 +213,12 @@ fn volume_argument<'a>(alloc: Global) -> Arg<'a> {
     Arg::new(alloc, "VOLUME")
         .required(true)
         .help("The volume, or its detached header")
+}
+
+fn text_argument<'a>(alloc: Global) -> Arg<'a> {
+    Arg::new(alloc, "TEXT")
+        .required(true)
+        .help("The label, at most 47 plain characters")
 }
 
 fn detached_option<'a>(alloc: Global) -> Arg<'a> {
@@ -138,14 +241,34 @@ fn slot_option<'a>(alloc: Global) -> Arg<'a> {
         .long("slot")
         .value_name("N")
         .value_parser(clap::value_parser!(u8).range(0..=31))
-        .help("The keyslot to try, 0 to 31; else all")
+}
+
+fn opened_slot_option<'a>(alloc: Global) -> Arg<'a> {
+    slot_option(alloc)
+        .required(true)
+        .help("The keyslot that the passphrase opens, 0 to 31")
+}
+
+fn to_option<'a>(alloc: Global) -> Arg<'a> {
+    Arg::new(alloc, "to")
+        .long("to")
+        .value_name("N")
+        .value_parser(clap::value_parser!(u8).range(0..=31))
+        .help("The new keyslot, 0 to 31; else the least free")
+}
+
+fn new_option<'a>(alloc: Global) -> Arg<'a> {
+    Arg::new(alloc, "new")
+        .long("new")
+        .value_name("FILE")
+        .required(true)
+        .help("The file of the new passphrase, taken whole")
 }
 
 fn random_option<'a>(alloc: Global) -> Arg<'a> {
     Arg::new(alloc, "random")
         .long("random")
         .value_name("FILE")
-        .required(true)
         .help("The file of the random bytes, as /dev/urandom")
 }
 

@@ -4,11 +4,13 @@
 pub(crate) const VERSION: &str = "0.1.0";
 
 pub(crate) const PROGRAM: &str =
-    "Checks the header of a LUKS volume, lists it, tries passphrases, makes volumes";
+    "Checks and lists the header of a LUKS volume, and manages its keyslots";
 
 pub(crate) const PROGRAM_MORE: &str = "\
-A volume is a device, an image, or the detached header of one. No command but
-format writes to it, and none reads its payload.
+A volume is a device, an image, or the detached header of one. The commands
+check, show and open write nothing; the others write to the header and to the
+areas of the keyslots that they name, and format over whatever stands there.
+None reads the payload.
 
 Each command prints its answer on standard output, in the lines that its help
 lists: luks COMMAND --help. What stops it is an answer too: 'refused FAULT',
@@ -17,7 +19,7 @@ these lines don't, as which file and why.
 
 Exit status:
   0  accepted, shown, opened or done, or help was asked for
-  1  refused, or it doesn't open
+  1  refused, or it doesn't open; nothing was written
   2  the command line is wrong; the text is on standard error
   3  check: accepted, but the two copies of the header aren't in step
   4  device fault, no memory, or the output can't be written
@@ -99,6 +101,163 @@ Prints one line:
 Exit status:
   0  the keyslot opens, or help was asked for
   1  refused, or it doesn't open
+  2  the command line is wrong; the text is on standard error
+  4  device fault, no memory, or the output can't be written";
+
+pub(crate) const ADD: &str = "Adds a keyslot for a new passphrase";
+
+pub(crate) const ADD_MORE: &str = "\
+The passphrase opens keyslot --slot. A new keyslot is made, in which the new
+passphrase opens the same volume key: keyslot --to, or the least that is free,
+of 0 to 7 in LUKS1 and 0 to 31 in LUKS2. All others stay as they are. A
+passphrase is all bytes of its file, a last line feed too, at most 65536.
+
+Written are, with a flush after each: the area of the new keyslot; then of LUKS1
+its entry in the header, of LUKS2 the copy of the header that doesn't count and
+the one that does. Salts and stripes are the first bytes of the random file, as
+many as that takes, and no more are read. Give it /dev/urandom.
+
+Prints one line:
+  done slot N    keyslot N is made
+  refused FAULT  the first fault, and nothing was written: what check refuses,
+                 Requirements, NoSuchSlot, Locked (the passphrase doesn't open
+                 it), Argon2, Cipher, Hash, KeySize, SlotTaken, NoFreeSlot,
+                 NoRoom, Iterations, SeqExhausted, MetadataFull, RandomLength
+                 (the random file is too short), or Passphrase (one is too long)
+  device fault   a file can't be read, or the volume read or written
+  no memory      memory was refused; nothing was written
+
+If the device fails in the midst, each keyslot that was there opens as before;
+the new one may be there or not. Then run luks repair (LUKS2), and luks show. Of
+LUKS1 the new keyslot's entry may be damaged: luks check tells, and refuses.
+
+Exit status:
+  0  done, or help was asked for
+  1  refused; nothing was written
+  2  the command line is wrong; the text is on standard error
+  4  device fault, no memory, or the output can't be written";
+
+pub(crate) const CHANGE: &str = "Puts a new passphrase in the place of an old one";
+
+pub(crate) const CHANGE_MORE: &str = "\
+The passphrase opens keyslot --slot; then the new one does, and the old no more.
+LUKS2 keeps the keyslot's number, and takes a free area. LUKS1 makes the least
+keyslot that is free, and disables the old one. All others stay as they are. A
+passphrase is all bytes of its file, a last line feed too, at most 65536.
+
+Written are, with a flush after each: the new area; then of LUKS1 the new
+keyslot's entry and the old one's, of LUKS2 the copy of the header that doesn't
+count and the one that does; at last zeros over the old area. Salts and stripes
+are the first bytes of the random file, as many as that takes, and no more are
+read. Give it /dev/urandom.
+
+Prints one line:
+  done slot N    the new passphrase opens keyslot N
+  refused FAULT  the first fault, and nothing was written: what check refuses,
+                 Requirements, NoSuchSlot, Locked (the passphrase doesn't open
+                 it), Argon2, Cipher, Hash, KeySize, NoFreeSlot, NoRoom,
+                 Iterations, SeqExhausted, MetadataFull, RandomLength (the
+                 random file is too short), or Passphrase (one is too long)
+  device fault   a file can't be read, or the volume read or written
+  no memory      memory was refused; nothing was written
+
+If the device fails in the midst, the old passphrase or the new one opens, and
+each other keyslot as before. Try both by luks open; then run luks repair
+(LUKS2), and the change again if it is the old one that opens. Of LUKS1 one of
+the two entries may be damaged: luks check tells, and refuses.
+
+Exit status:
+  0  done, or help was asked for
+  1  refused; nothing was written
+  2  the command line is wrong; the text is on standard error
+  4  device fault, no memory, or the output can't be written";
+
+pub(crate) const REMOVE: &str = "Removes a keyslot by its own passphrase";
+
+pub(crate) const REMOVE_MORE: &str = "\
+Keyslot --slot, which the passphrase opens, is removed, and its area is
+overwritten with zeros, once. The last keyslot isn't removed. All others stay as
+they are. The passphrase is all bytes of its file, a last line feed too, at most
+65536.
+
+Written are, with a flush after each: of LUKS1 the keyslot's entry, of LUKS2 the
+copy of the header that doesn't count and the one that does; then the zeros. Of
+LUKS2 the salts are the first 128 bytes of the random file; LUKS1 takes none.
+
+Prints one line:
+  done           the keyslot is removed
+  refused FAULT  the first fault, and nothing was written: what check refuses,
+                 Requirements, NoSuchSlot, Locked (the passphrase doesn't open
+                 it), Argon2, Cipher, Hash, KeySize, LastSlot, SeqExhausted,
+                 MetadataFull, RandomLength (of LUKS2, the random file is too
+                 short or none is named), or Passphrase (it is too long)
+  device fault   a file can't be read, or the volume read or written
+  no memory      memory was refused; nothing was written
+
+If the device fails in the midst, each other keyslot opens as before; this one
+may be there, or be gone with its area not wiped. Run luks repair (LUKS2), and
+luks show; if it is there, remove it again. Of LUKS1 its entry may be damaged:
+luks check tells, and refuses.
+
+Exit status:
+  0  done, or help was asked for
+  1  refused; nothing was written
+  2  the command line is wrong; the text is on standard error
+  4  device fault, no memory, or the output can't be written";
+
+pub(crate) const REPAIR: &str = "Writes both copies of a LUKS2 header anew";
+
+pub(crate) const REPAIR_MORE: &str = "\
+Both copies of the header are written from the one that counts, so that they are
+in step: with its metadata and the next sequence number, new salts and new
+checksums. What check refuses isn't repaired. LUKS1 has one header, so that
+nothing is done.
+
+Written are, with a flush after each, the copy that doesn't count and the one
+that does. The salts are the first 128 bytes of the random file; LUKS1 takes
+none.
+
+Prints one line:
+  done           the copies are in step
+  refused FAULT  the first fault, and nothing was written: what check refuses,
+                 Requirements, SeqExhausted, MetadataFull or RandomLength (of
+                 LUKS2, the random file is too short or none is named)
+  device fault   a file can't be read, or the volume read or written
+  no memory      memory was refused; nothing was written
+
+If the device fails in the midst, a copy is sound and says what the one that
+counted said, and each keyslot opens as before. Run it again.
+
+Exit status:
+  0  done, or help was asked for
+  1  refused; nothing was written
+  2  the command line is wrong; the text is on standard error
+  4  device fault, no memory, or the output can't be written";
+
+pub(crate) const LABEL: &str = "Sets the label of a LUKS2 volume";
+
+pub(crate) const LABEL_MORE: &str = "\
+The label is at most 47 bytes of 0x20 to 0x7E, and may be empty. One that begins
+with a hyphen comes after --, with the volume: luks label .. -- VOLUME TEXT.
+
+Written are, with a flush after each, the copy of the header that doesn't count
+and the one that does. The salts are the first 128 bytes of the random file.
+
+Prints one line:
+  done           the label is set, and the copies are in step
+  refused FAULT  the first fault, and nothing was written: what check refuses,
+                 Requirements, BadLabel (it is too long, has another character,
+                 or the volume is of LUKS1), SeqExhausted, MetadataFull or
+                 RandomLength (the random file is too short)
+  device fault   a file can't be read, or the volume read or written
+  no memory      memory was refused; nothing was written
+
+If the device fails in the midst, a copy is sound and has the old label or the
+new one, and each keyslot opens as before. Run luks repair, and luks show.
+
+Exit status:
+  0  done, or help was asked for
+  1  refused; nothing was written
   2  the command line is wrong; the text is on standard error
   4  device fault, no memory, or the output can't be written";
 

@@ -7,4 +7,4 @@ mod helps;
 mod request;
 
 pub use command_line::line;
-pub use request::{Command, Line, Making, NewVersion};
+pub use request::{Command, EditRequest, Editing, Line, Making, NewVersion};

@@ -1,5 +1,5 @@
 ghost use Rattle.std.specs.Prelude.{◌≡◌, option_map};
-ghost use Rattle.luks_line.specs.Named.{is_writer, passphrase_of, random_of};
+ghost use Rattle.luks_line.specs.Named.{edit_new_of, edit_passphrase_of, is_writer, new_of, passphrase_of, random_of};
 
 use luks_formatting::Format;
 use luks_reading::Data;
@@ -30,8 +30,91 @@ pub enum Command<'a> {
         /// The keyslot to try, 0 to 31; without one all are tried.
         slot: Option<u8>,
     },
+    /// Edit the volume's keyslots, its header or its label.
+    Edit(Editing<'a>),
     /// Make a new volume over whatever stands there.
     Format(Making<'a>),
+}
+
+/// An edit of the volume, and of which files.
+#[derive(Debug, Clone, Copy, PartialEq, Eq)]
+pub struct Editing<'a> {
+    /// What is edited.
+    pub request: EditRequest<'a>,
+    /// The file of the random bytes; none counts as an empty one.
+    pub random: Option<&'a str>,
+    /// Where the payload lies.
+    pub data_: Data,
+}
+
+/// What an edit does. Its passphrases are named by their files.
+///
+/// The keyslot that an edit names as `by_` or `slot`, 0 to 31, is the one that the file
+/// `passphrase` opens.
+#[derive(Debug, Clone, Copy, PartialEq, Eq)]
+pub enum EditRequest<'a> {
+    /// Add a keyslot for a new passphrase.
+    Add {
+        /// The keyslot that the old passphrase opens.
+        by_: u8,
+        /// The file of the old passphrase.
+        passphrase: &'a str,
+        /// The file of the new passphrase.
+        new: &'a str,
+        /// The number of the new keyslot, 0 to 31; without one the least that is free.
+        to: Option<u8>,
+        /// The iterations of its derivation.
+        iterations: u32,
+    },
+    /// Put a new passphrase in the place of an old one.
+    Change {
+        /// The keyslot that the old passphrase opens.
+        slot: u8,
+        /// The file of the old passphrase.
+        passphrase: &'a str,
+        /// The file of the new passphrase.
+        new: &'a str,
+        /// The iterations of its derivation.
+        iterations: u32,
+    },
+    /// Remove a keyslot by its own passphrase.
+    Remove {
+        /// The keyslot.
+        slot: u8,
+        /// The file of its passphrase.
+        passphrase: &'a str,
+    },
+    /// Write both copies of the header anew.
+    Repair,
+    /// Set the volume's label.
+    Label {
+        /// The label.
+        text: &'a str,
+    },
+}
+
+impl<'a> EditRequest<'a> {
+    /// The file of the passphrase that opens a keyslot, where the edit opens one.
+    pub fn passphrase(&self) -> Option<&'a str>
+        ensures { option_map (λ name. name.now) result ≡ edit_passphrase_of self.now }
+    {
+        match *self {
+            EditRequest::Add { passphrase, .. }
+            | EditRequest::Change { passphrase, .. }
+            | EditRequest::Remove { passphrase, .. } => Some(passphrase),
+            EditRequest::Repair | EditRequest::Label { .. } => None,
+        }
+    }
+
+    /// The file of the new passphrase, where the edit seals a keyslot.
+    pub fn new_passphrase(&self) -> Option<&'a str>
+        ensures { option_map (λ name. name.now) result ≡ edit_new_of self.now }
+    {
+        match *self {
+            EditRequest::Add { new, .. } | EditRequest::Change { new, .. } => Some(new),
+            _ => None,
+        }
+    }
 }
 
 /// What is made by formatting, and of which files.
@@ -66,15 +149,28 @@ impl<'a> Line<'a> {
         match self.command {
             Command::Check { .. } | Command::Show => None,
             Command::Open { passphrase, .. } => Some(passphrase),
+            Command::Edit(editing) => editing.request.passphrase(),
             Command::Format(making) => Some(making.passphrase),
         }
     }
 
-    /// The file of the random bytes, where the command needs them.
+    /// The file of the new passphrase, where the command seals a keyslot beside or in the place of
+    /// another.
+    pub fn new_passphrase(&self) -> Option<&'a str>
+        ensures { option_map (λ name. name.now) result ≡ new_of self.now.command }
+    {
+        match self.command {
+            Command::Edit(editing) => editing.request.new_passphrase(),
+            _ => None,
+        }
+    }
+
+    /// The file of the random bytes, where the command takes them from one.
     pub fn random(&self) -> Option<&'a str>
         ensures { option_map (λ name. name.now) result ≡ random_of self.now.command }
     {
         match self.command {
+            Command::Edit(editing) => editing.random,
             Command::Format(making) => Some(making.random),
             _ => None,
         }
@@ -84,6 +180,6 @@ impl<'a> Line<'a> {
     pub fn writes(&self) -> bool
         ensures { result ≡ is_writer self.now.command }
     {
-        matches!(self.command, Command::Format(_))
+        matches!(self.command, Command::Edit(_) | Command::Format(_))
     }
 }

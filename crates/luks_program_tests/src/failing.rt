@@ -33,6 +33,7 @@ fn end_of(alloc: Global, words: &[&str], image: &[u8], call: u64, want: &str) ->
     let mut inputs = Inputs {
         volume: Ok(FaultyDevice::new(device, call, Leave::Old)),
         passphrase: Ok(b"one".as_slice()),
+        new_passphrase: NO_FILE,
         random: NO_FILE,
     };
     let mut out = Vec::new(alloc);

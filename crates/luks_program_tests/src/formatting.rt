@@ -1,7 +1,7 @@
 //! Volumes that `format` makes, and why it makes none.
 ghost use Rattle.std.specs.Prelude.{◌<◌, ◌^◌};
 
-use crate::printing::{CHECK, DETACHED, OPEN};
+use crate::printing::{CHECK, DETACHED, NO_FILE, OPEN};
 use luks_area::{DeviceFault, FaultyDevice, Leave};
 use luks_cli::{InputFault, Inputs, Reason, execute, line};
 use luks_volume::{Device, FORMAT1_RANDOM, FORMAT2_RANDOM, MemDevice};
@@ -236,6 +236,7 @@ fn makes(rt: &impl Abort, alloc: Global, made: &Made) -> Result<(), Fail> {
     let mut files = Inputs {
         volume: Ok(disk(alloc, made.len)?),
         passphrase: Ok(b"one".as_slice()),
+        new_passphrase: NO_FILE,
         random: Ok(bytes.as_slice()),
     };
     assert!(rt;
@@ -316,6 +317,7 @@ fn refusals(rt: HostRuntime) -> Result<(), Fail> {
         let mut files = Inputs {
             volume: Ok(disk(alloc, len)?),
             passphrase: Ok(b"one".as_slice()),
+            new_passphrase: NO_FILE,
             random: Ok(bytes.as_slice()),
         };
         assert!(rt;
@@ -335,6 +337,7 @@ fn files(rt: HostRuntime) -> Result<(), Fail> {
     let mut files = Inputs {
         volume: Ok(disk(alloc, 16777216)?),
         passphrase: Ok(long.as_slice()),
+        new_passphrase: NO_FILE,
         random: Err(InputFault::Unreadable(Reason::NotFound)),
     };
     assert!(rt;
@@ -372,6 +375,7 @@ fn failing_write(rt: HostRuntime) -> Result<(), Fail> {
     let mut files = Inputs {
         volume: Ok(device),
         passphrase: Ok(b"one".as_slice()),
+        new_passphrase: NO_FILE,
         random: Ok(bytes.as_slice()),
     };
     let line = line(alloc, FORMAT1)?;

@@ -88,6 +88,7 @@ pub fn run<D: Device, R: Read + Drop, W: Write, E: Write>(
     let mut inputs = Inputs {
         volume,
         passphrase,
+        new_passphrase: Err(InputFault::Absent),
         random: NO_FILE,
     };
     Ok(execute(alloc, &line, &mut inputs, out, err))

@@ -95,6 +95,7 @@ fn ends_with_little_memory(alloc: Global, image: &[u8], row: &Row) -> Result<(En
     let mut inputs = Inputs {
         volume: Ok(MemDevice::new(image.to_vec(alloc)?)),
         passphrase: Ok(b"one".as_slice()),
+        new_passphrase: NO_FILE,
         random: NO_FILE,
     };
     let mut held = Vec::with_capacity(alloc, 1 << 20)?;

@@ -1,0 +1,387 @@
+-- What an edit leaves of a volume, by how the command ended.
+use Rattle.std.proofs.Common.{◌≡◌, ◌≢◌, ◌⊎◌, ℕ, List, [], ◌∷◌, ◌++◌, Option, Some, None, IfSome, Result, Ok, Err, IfOk, OnErr, option_map, refl, sym, ap, ◌∙◌, subst, inl, inr, arith}
+use Rattle.luks_area.specs.First.{IsLeast}
+use Rattle.luks_area.specs.declared.area.AreaName.{AreaName}
+use Rattle.luks_area.specs.declared.area.AreaName.TheVariants.{Slot, Segment}
+use Rattle.luks_reading.specs.declared.report.Data.{Data}
+use Rattle.luks_reading.specs.Checked.{WellFormed}
+use Rattle.luks_edit.specs.declared.edit.Done.{Done as Made}
+use Rattle.luks_edit.specs.declared.edit.Edit.{Edit}
+use Rattle.luks_edit.specs.declared.edit.Edit.TheVariants as edit
+use Rattle.luks_edit.specs.declared.edit.Step.{Step}
+use Rattle.luks_edit.specs.declared.edit_fault.EditFault.{EditFault}
+use Rattle.luks_edit.specs.declared.edit_fault.EditFault.TheVariants as fault
+use Rattle.luks_edit.specs.EditFaults.{edit_key}
+use Rattle.luks_edit.specs.Kept.{Keeps, KeepsArea, KeepsSlot}
+use Rattle.luks_edit.specs.Ran.{HasNoFailure, IsNamedIn, Reply}
+use Rattle.luks_volume.specs.Edits.{NamedSlots, Refusal, Replies}
+use Rattle.luks_volume.specs.Needed.{IsNeedFault, NeedsRandom, TellsNeed}
+use Rattle.luks_volume.specs.Running.{CountsRun, IsKeptByRun}
+use Rattle.luks_line.specs.declared.request.EditRequest.{EditRequest}
+use Rattle.luks_line.specs.declared.request.EditRequest.TheVariants.{Add, Change, Remove, Repair, Label}
+use Rattle.luks_line.specs.Named.{edit_new_of, edit_passphrase_of}
+use Rattle.luks_line.specs.declared.request.Editing.{Editing}
+use Rattle.luks_cli.specs.declared.answers.Status.{Status}
+use Rattle.luks_cli.specs.declared.answers.Status.TheVariants.{Done, Refused, NotInStep, Fault}
+use Rattle.luks_cli.specs.Editing.{Given, IsAsked, KeepsUnnamed, NamesSlot, WhereFailed, IsCompleted, IsRefused, IsRefusedAtOnce, IsRefusedLate, IsReplied, RepliesAlone, SaysEdit, ended_by, given_edit}
+use Rattle.luks_cli.specs.declared.inputs.InputFault.{InputFault}
+use Rattle.luks_cli.specs.Exit.{exit_status}
+use Rattle.luks_cli.specs.Files.{LeavesVolume}
+
+-- ---- what is kept
+
+-- what fewer names keep, more names keep
+pub keeps_fewer : (payload : Data) (named more : ℕ → Type 0) (v w : List ℕ) → ((n : ℕ) → named n → more n) → Keeps payload named v w → Keeps payload more v w
+keeps_fewer payload named more v w of x = record {
+  size = x.size;
+  well = x.well;
+  segments = x.segments;
+  slots = λ n not. x.slots n (λ is. not (of n is));
+}
+
+area_same : (payload : Data) (n : AreaName) (v : List ℕ) → KeepsArea payload n v v
+area_same payload n v = record { same = λ a. ((λ is. is), (λ is. is)); bytes = λ a is. refl }
+
+slot_same : (payload : Data) (n : ℕ) (v : List ℕ) → KeepsSlot payload n v v
+slot_same payload n v = record {
+  area = area_same payload (Slot n) v;
+  entry = λ b. ((λ is. is), (λ is. is));
+  value = λ d. ((λ is. is), (λ is. is));
+  answers = λ p a. ((λ is. is), (λ is. is));
+}
+
+-- a volume keeps itself
+kept_same : (payload : Data) (named : ℕ → Type 0) (v : List ℕ) → WellFormed v payload → Keeps payload named v v
+kept_same payload named v well = record {
+  size = refl;
+  well = well;
+  segments = λ n. area_same payload (Segment n) v;
+  slots = λ n not. slot_same payload n v;
+}
+
+-- a list of one step names what its edit names
+named_alone : (v : List ℕ) (s : Step) (rs : List Reply) (us : List (List ℕ)) (n : ℕ) → IsNamedIn NamedSlots v (s ∷ []) rs us n → NamedSlots v s.edit n
+named_alone v s [] us n is = absurd is
+named_alone v s (r ∷ rs) [] n is = absurd is
+named_alone v s (r ∷ rs) (u ∷ us) n (inl is) = is.1
+named_alone v s (r ∷ rs) (u ∷ us) n (inr is) = absurd is
+
+-- where the count of failures didn't rise, no reply of the list is the device's failure
+fine_by : (count : ℕ) (before after : List Reply) (f f' : ℕ) (x : CountsRun count before after f f') → f' ≡ f → HasNoFailure x.replies
+fine_by count before after f f' x same = elim x.counted [
+  | inl all ↦ all.0.fine
+  | inr cut ↦ absurd (omega (arith, cut.1, same))
+]
+
+-- a list of one step in which the device didn't fail keeps what its edit doesn't name
+pub kept_alone : (payload : Data) (v w : List ℕ) (s : Step) (before after : List Reply) (f f' : ℕ) → before ≡ [] → CountsRun 1 before after f f'
+    → f' ≡ f → IsKeptByRun payload v (s ∷ []) before after w → Keeps payload (NamedSlots v s.edit) v w
+kept_alone payload v w s before after f f' none x same k =
+    let appended : (rs : List Reply) → after ≡ before ++ rs → after ≡ rs = λ rs is. subst (λ (b : List Reply). after ≡ b ++ rs) none is in
+    let one : x.replies ≡ k.replies = sym (appended x.replies x.appended) ∙ appended k.replies k.appended in
+    keeps_fewer payload (IsNamedIn NamedSlots v (s ∷ []) k.replies k.volumes) (NamedSlots v s.edit) v w (named_alone v s k.replies k.volumes)
+    (k.keeps (subst HasNoFailure one (fine_by 1 before after f f' x same)))
+
+-- ---- how the edit ended
+
+abbrev ended_in : EditFault → Reply
+ended_in f = Err f
+
+err_same : (f g : EditFault) → ended_in f ≡ ended_in g → f ≡ g
+err_same f g is = cc
+
+not_refused : (f : EditFault) → f ≡ fault.Memory → ended_by f ≡ Refused → ⊥
+not_refused f is refused = let ends : Fault ≡ Refused = sym (ap ended_by is) ∙ refused in cc
+
+abbrev made_in : Made → Reply
+made_in made = Ok made
+
+not_made : (made : Made) (f : EditFault) → made_in made ≡ ended_in f → ⊥
+not_made made f is = cc
+
+no_refusal : Fault ≡ Refused → ⊥
+no_refusal is = cc
+
+-- a fault that the command is refused by leaves the volume as it was, and is the edit's refusal
+pub refused_by : (payload : Data) (v w : List ℕ) (e : Edit) (random : List ℕ) (f : EditFault) → RepliesAlone payload v e random (Err f) w
+    → ended_by f ≡ Refused → (w ≡ v) × Refusal v payload e random f
+refused_by payload v w e random f (inl none) refused = absurd (not_refused f (err_same f fault.Memory none.0) refused)
+refused_by payload v w e random (fault.NotAccepted f) (inr is) refused = (is.1, is.0)
+refused_by payload v w e random fault.Requirements (inr is) refused = (is.1, is.0)
+refused_by payload v w e random fault.NoSuchSlot (inr is) refused = (is.1, is.0)
+refused_by payload v w e random fault.Locked (inr is) refused = (is.1, is.0)
+refused_by payload v w e random (fault.Slot f) (inr is) refused = (is.1, is.0)
+refused_by payload v w e random fault.SlotTaken (inr is) refused = (is.1, is.0)
+refused_by payload v w e random fault.NoFreeSlot (inr is) refused = (is.1, is.0)
+refused_by payload v w e random fault.NoRoom (inr is) refused = (is.1, is.0)
+refused_by payload v w e random fault.LastSlot (inr is) refused = (is.1, is.0)
+refused_by payload v w e random fault.Iterations (inr is) refused = (is.1, is.0)
+refused_by payload v w e random fault.BadLabel (inr is) refused = (is.1, is.0)
+refused_by payload v w e random fault.SeqExhausted (inr is) refused = (is.1, is.0)
+refused_by payload v w e random fault.MetadataFull (inr is) refused = (is.1, is.0)
+refused_by payload v w e random fault.RandomLength (inr is) refused = (is.1, is.0)
+refused_by payload v w e random fault.Memory (inr is) refused = absurd (no_refusal refused)
+refused_by payload v w e random fault.Device (inr is) refused = absurd (no_refusal refused)
+
+-- the same of what is told before a keyslot is opened
+refused_at_once : (payload : Data) (v : List ℕ) (e : Edit) (f : EditFault) → TellsNeed payload v e (Err f) → ended_by f ≡ Refused
+    → IsLeast edit_key (IsNeedFault v payload e) f
+refused_at_once payload v e (fault.NotAccepted f) is refused = is
+refused_at_once payload v e fault.Requirements is refused = is
+refused_at_once payload v e fault.NoSuchSlot is refused = is
+refused_at_once payload v e fault.Locked is refused = is
+refused_at_once payload v e (fault.Slot f) is refused = is
+refused_at_once payload v e fault.SlotTaken is refused = is
+refused_at_once payload v e fault.NoFreeSlot is refused = is
+refused_at_once payload v e fault.NoRoom is refused = is
+refused_at_once payload v e fault.LastSlot is refused = is
+refused_at_once payload v e fault.Iterations is refused = is
+refused_at_once payload v e fault.BadLabel is refused = is
+refused_at_once payload v e fault.SeqExhausted is refused = is
+refused_at_once payload v e fault.MetadataFull is refused = is
+refused_at_once payload v e fault.RandomLength is refused = is
+refused_at_once payload v e fault.Memory is refused = absurd (no_refusal refused)
+refused_at_once payload v e fault.Device is refused = absurd (no_refusal refused)
+
+-- ---- what the command tells, by how it ended
+
+-- how a command ended isn't how it didn't
+not_so : {F : Type 0} (ended : Result Status F) (is other : Status) → IfOk ended (λ s. s ≡ is) → is ≢ other → ended ≡ Ok other → ⊥
+not_so (Ok s) is other told apart same = let e : s ≡ other = cc in apart (sym told ∙ e)
+not_so (Err f) is other told apart same = cc
+
+so : {F : Type 0} (ended : Result Status F) (is other : Status) → IfOk ended (λ s. s ≡ is) → ended ≡ Ok other → is ≡ other
+so (Ok s) is other told same = let e : s ≡ other = cc in sym told ∙ e
+so (Err f) is other told same = absurd (let e : Err f ≡ Ok other = same in cc)
+
+never_done : (f : EditFault) → ended_by f ≡ Done → ⊥
+never_done (fault.NotAccepted f) is = cc
+never_done fault.Requirements is = cc
+never_done fault.NoSuchSlot is = cc
+never_done fault.Locked is = cc
+never_done (fault.Slot f) is = cc
+never_done fault.SlotTaken is = cc
+never_done fault.NoFreeSlot is = cc
+never_done fault.NoRoom is = cc
+never_done fault.LastSlot is = cc
+never_done fault.Iterations is = cc
+never_done fault.BadLabel is = cc
+never_done fault.SeqExhausted is = cc
+never_done fault.MetadataFull is = cc
+never_done fault.RandomLength is = cc
+never_done fault.Memory is = cc
+never_done fault.Device is = cc
+
+module _ {F : Type 0} (payload : Data) (v w : List ℕ) (ended : Result Status F) where
+  -- a file couldn't be read
+  pub says_unread : (given : Given) → w ≡ v → IfOk ended (λ s. s ≡ Fault) → SaysEdit payload given v w (ended ≡ Ok Done) (ended ≡ Ok Refused)
+  says_unread given same told = record {
+    done = λ is. absurd (not_so ended Fault Done told (λ e. cc) is);
+    refused = λ is. absurd (not_so ended Fault Refused told (λ e. cc) is);
+    rest = inl same;
+  }
+
+  -- there is no passphrase
+  pub says_wordless : (given : Given) → w ≡ v → IfOk ended (λ s. s ≢ Fault → (s ≡ Refused) × given.is_long)
+      → SaysEdit payload given v w (ended ≡ Ok Done) (ended ≡ Ok Refused)
+  says_wordless given same told = record {
+    done = λ is. let held : (Done ≢ Fault → (Done ≡ Refused) × given.is_long) = subst (λ e. IfOk e (λ s. s ≢ Fault → (s ≡ Refused) × given.is_long)) is told in
+        absurd (let e : Done ≡ Refused = (held (λ x. cc)).0 in cc);
+    refused = λ is. let held : (Refused ≢ Fault → (Refused ≡ Refused) × given.is_long) = subst (λ e. IfOk e (λ s. s ≢ Fault → (s ≡ Refused) × given.is_long)) is told in
+        (same, inl (held (λ x. cc)).1);
+    rest = inl same;
+  }
+
+  module _ (e : Edit) (has_random : ℕ → List ℕ → Type 0) where
+    -- how many random bytes it takes wasn't told
+    pub says_untold : (f : EditFault) → w ≡ v → TellsNeed payload v e (Err f) → IfOk ended (λ s. s ≡ ended_by f)
+        → SaysEdit payload (given_edit e has_random) v w (ended ≡ Ok Done) (ended ≡ Ok Refused)
+    says_untold f same tells told = record {
+      done = λ is. absurd (never_done f (so ended (ended_by f) Done told is));
+      refused = λ is. (
+        same,
+        inr (inl (record {
+          edit = e;
+          asked = refl;
+          fault = f;
+          first = refused_at_once payload v e f tells (so ended (ended_by f) Refused told is);
+        })),
+      );
+      rest = inl same;
+    }
+
+    module _ (u : List ℕ) (unchanged : u ≡ v) (count : ℕ) (random : List ℕ) (needs : NeedsRandom v payload e count) (taken : has_random count random) where
+      replied : (reply : Reply) → Replies payload u e random reply w → IsReplied payload (given_edit e has_random) v w reply
+      replied reply is = record {
+        edit = e;
+        asked = refl;
+        count = count;
+        needs = needs;
+        random = random;
+        taken = taken;
+        replies = subst (λ x. Replies payload x e random reply w) unchanged is;
+      }
+
+      -- the edit was completed
+      pub says_made : (made : Made) → RepliesAlone payload u e random (Ok made) w → IfOk ended (λ s. s ≡ Done)
+          → SaysEdit payload (given_edit e has_random) v w (ended ≡ Ok Done) (ended ≡ Ok Refused)
+      says_made made (inl none) told = absurd (not_made made fault.Memory none.0)
+      says_made made (inr is) told = record {
+        done = λ _. record { done = made; replied = replied (Ok made) is };
+        refused = λ same. absurd (not_so ended Done Refused told (λ e. cc) same);
+        rest = inr (Ok made, replied (Ok made) is);
+      }
+
+      -- a fault ended it
+      pub says_fault : (f : EditFault) → RepliesAlone payload u e random (Err f) w → IfOk ended (λ s. s ≡ ended_by f)
+          → SaysEdit payload (given_edit e has_random) v w (ended ≡ Ok Done) (ended ≡ Ok Refused)
+      says_fault f is told = record {
+        done = λ same. absurd (never_done f (so ended (ended_by f) Done told same));
+        refused = λ same. let by = refused_by payload u w e random f is (so ended (ended_by f) Refused told same) in (
+          by.0 ∙ unchanged,
+          inr (inr (record {
+            edit = e;
+            asked = refl;
+            count = count;
+            needs = needs;
+            random = random;
+            taken = taken;
+            fault = f;
+            first = subst (λ x. Refusal x payload e random f) unchanged by.1;
+          })),
+        );
+        rest = elim is [
+          | inl none ↦ inl (none.1 ∙ unchanged)
+          | inr by ↦ inr (Err f, replied (Err f) by)
+        ];
+      }
+
+-- what is told of an edit that is given so, is told of one that is given otherwise
+replied_as : (payload : Data) (given other : Given) (v w : List ℕ) (reply : Reply) → ((e : Edit) → given.asks e → other.asks e)
+    → ((n : ℕ) (b : List ℕ) → given.has_random n b → other.has_random n b) → IsReplied payload given v w reply → IsReplied payload other v w reply
+replied_as payload given other v w reply asks has x = record {
+  edit = x.edit;
+  asked = asks x.edit x.asked;
+  count = x.count;
+  needs = x.needs;
+  random = x.random;
+  taken = has x.count x.random x.taken;
+  replies = x.replies;
+}
+
+refused_as : (payload : Data) (given other : Given) (v : List ℕ) → ((e : Edit) → given.asks e → other.asks e)
+    → ((n : ℕ) (b : List ℕ) → given.has_random n b → other.has_random n b) → (given.is_long → other.is_long) → IsRefused payload given v → IsRefused payload other v
+refused_as payload given other v asks has long (inl is) = inl (long is)
+refused_as payload given other v asks has long (inr (inl x)) = inr (inl (record {
+  edit = x.edit;
+  asked = asks x.edit x.asked;
+  fault = x.fault;
+  first = x.first;
+}))
+refused_as payload given other v asks has long (inr (inr x)) = inr (inr (record {
+  edit = x.edit;
+  asked = asks x.edit x.asked;
+  count = x.count;
+  needs = x.needs;
+  random = x.random;
+  taken = has x.count x.random x.taken;
+  fault = x.fault;
+  first = x.first;
+}))
+
+pub says_as : (payload : Data) (given other : Given) (v w : List ℕ) (D R D' R' : Type 0) → ((e : Edit) → given.asks e → other.asks e)
+    → ((n : ℕ) (b : List ℕ) → given.has_random n b → other.has_random n b) → (given.is_long → other.is_long) → (D' → D) → (R' → R)
+    → SaysEdit payload given v w D R → SaysEdit payload other v w D' R'
+says_as payload given other v w D R D' R' asks has long of_done of_refused x = record {
+  done = λ is. let c = x.done (of_done is) in record { done = c.done; replied = replied_as payload given other v w (Ok c.done) asks has c.replied };
+  refused = λ is. let r = x.refused (of_refused is) in (r.0, refused_as payload given other v asks has long r.1);
+  rest = elim x.rest [
+    | inl same ↦ inl same
+    | inr y ↦ inr (y.0, replied_as payload given other v w y.0 asks has y.1)
+  ];
+}
+
+-- the exit status tells how the command ended
+pub done_by : {F : Type 0} (ended : Result Status F) (status : ℕ) → IfOk ended (λ s. status ≡ exit_status s) → OnErr ended (status ≡ 4) → status ≡ 0
+    → ended ≡ Ok Done
+done_by (Ok Done) status told lost is = refl
+done_by (Ok Refused) status told lost is = absurd (omega (arith, told, is))
+done_by (Ok NotInStep) status told lost is = absurd (omega (arith, told, is))
+done_by (Ok Fault) status told lost is = absurd (omega (arith, told, is))
+done_by (Err x) status told lost is = absurd (omega (arith, lost, is))
+
+pub refusal_by : {F : Type 0} (ended : Result Status F) (status : ℕ) → IfOk ended (λ s. status ≡ exit_status s) → OnErr ended (status ≡ 4) → status ≡ 1
+    → ended ≡ Ok Refused
+refusal_by (Ok Done) status told lost is = absurd (omega (arith, told, is))
+refusal_by (Ok Refused) status told lost is = refl
+refusal_by (Ok NotInStep) status told lost is = absurd (omega (arith, told, is))
+refusal_by (Ok Fault) status told lost is = absurd (omega (arith, told, is))
+refusal_by (Err x) status told lost is = absurd (omega (arith, lost, is))
+
+-- ---- what is asked for
+
+-- the passphrases are those that the files have, where the edit needs them
+pub asked_of : (request : EditRequest) (IsOld IsNew : List ℕ → Type 0) (p q : List ℕ) (e : Edit) → IfSome (edit_passphrase_of request) (λ name. IsOld p)
+    → IfSome (edit_new_of request) (λ name. IsNew q) → IsAsked request (λ x. x ≡ p) (λ x. x ≡ q) e → IsAsked request IsOld IsNew e
+asked_of (Add by_ passphrase new to iterations) IsOld IsNew p q (edit.Add b o n t i) old fresh is =
+    (is.0, subst IsOld (sym is.1) old, subst IsNew (sym is.2) fresh, is.3, is.4)
+asked_of (Change slot passphrase new iterations) IsOld IsNew p q (edit.Change s o n i) old fresh is =
+    (is.0, subst IsOld (sym is.1) old, subst IsNew (sym is.2) fresh, is.3)
+asked_of (Remove slot passphrase) IsOld IsNew p q (edit.Remove s o) old fresh is = (is.0, subst IsOld (sym is.1) old)
+asked_of Repair IsOld IsNew p q edit.Repair old fresh is = is
+asked_of (Label text) IsOld IsNew p q (edit.Label t) old fresh is = is
+asked_of (Add by_ passphrase new to iterations) IsOld IsNew p q e old fresh is = absurd is
+asked_of (Change slot passphrase new iterations) IsOld IsNew p q e old fresh is = absurd is
+asked_of (Remove slot passphrase) IsOld IsNew p q e old fresh is = absurd is
+asked_of Repair IsOld IsNew p q e old fresh is = absurd is
+asked_of (Label text) IsOld IsNew p q e old fresh is = absurd is
+
+-- what holds where there is a name, holds where there are its bytes
+pub some_as : {A B : Type 0} (f : A → B) (o : Option A) (named : Option B) (P : Type 0) → option_map f o ≡ named → IfSome o (λ x. P) → IfSome named (λ x. P)
+some_as {A} {B} f None named P is held = subst (λ (x : Option B). IfSome x (λ y. P)) is tt
+some_as {A} {B} f (Some x) named P is held = subst (λ (x : Option B). IfSome x (λ y. P)) is held
+
+-- whatever they are
+pub asked_somehow : (request : EditRequest) (IsOld IsNew : List ℕ → Type 0) (e : Edit) → IsAsked request IsOld IsNew e
+    → IsAsked request (λ p. Unit {0}) (λ p. Unit {0}) e
+asked_somehow (Add by_ passphrase new to iterations) IsOld IsNew (edit.Add b o n t i) is = (is.0, tt, tt, is.3, is.4)
+asked_somehow (Change slot passphrase new iterations) IsOld IsNew (edit.Change s o n i) is = (is.0, tt, tt, is.3)
+asked_somehow (Remove slot passphrase) IsOld IsNew (edit.Remove s o) is = (is.0, tt)
+asked_somehow Repair IsOld IsNew edit.Repair is = is
+asked_somehow (Label text) IsOld IsNew (edit.Label t) is = is
+asked_somehow (Add by_ passphrase new to iterations) IsOld IsNew e is = absurd is
+asked_somehow (Change slot passphrase new iterations) IsOld IsNew e is = absurd is
+asked_somehow (Remove slot passphrase) IsOld IsNew e is = absurd is
+asked_somehow Repair IsOld IsNew e is = absurd is
+asked_somehow (Label text) IsOld IsNew e is = absurd is
+
+-- ---- over devices
+
+-- a volume that no call was made on
+pub left_same : {D : Type 0} (tells : Type 0) (size : D → ℕ) (bytes : D → List ℕ) (says : List ℕ → List ℕ → Type 0) → ((v : List ℕ) → says v v)
+    → (volume : Result D InputFault) → LeavesVolume tells size bytes says volume volume
+left_same tells size bytes says of (Ok device) = record { size = refl; said = λ t. of (bytes device) }
+left_same tells size bytes says of (Err f) = refl
+
+pub unnamed_same : {D : Type 0} (tells : Type 0) (failed : D → ℕ) (bytes : D → List ℕ) (editing : Editing) (volume : Result D InputFault)
+    → KeepsUnnamed tells failed bytes editing volume volume
+unnamed_same tells failed bytes editing (Ok device) = λ t well same. kept_same _ _ _ well
+unnamed_same tells failed bytes editing (Err f) = tt
+
+pub failed_same : {D : Type 0} (failed : D → ℕ) (holds : Type 0) (volume : Result D InputFault) → WhereFailed failed volume volume holds
+failed_same failed holds (Ok device) = λ apart. absurd (apart refl)
+failed_same failed holds (Err f) = tt
+
+-- what is told of a volume otherwise
+pub left_as : {D : Type 0} (tells : Type 0) (size : D → ℕ) (bytes : D → List ℕ) (says told : List ℕ → List ℕ → Type 0)
+    → ((v w : List ℕ) → says v w → told v w) → (old new : Result D InputFault) → LeavesVolume tells size bytes says old new
+    → LeavesVolume tells size bytes told old new
+left_as tells size bytes says told of (Ok old) (Ok new) x = record { size = x.size; said = λ t. of (bytes old) (bytes new) (x.said t) }
+left_as tells size bytes says told of (Ok old) (Err f) x = absurd x
+left_as tells size bytes says told of (Err f) new x = x
+
+pub failed_as : {D : Type 0} (failed : D → ℕ) (holds told : Type 0) → (holds → told) → (old new : Result D InputFault) → WhereFailed failed old new holds
+    → WhereFailed failed old new told
+failed_as failed holds told of (Ok old) (Ok new) x = λ apart. of (x apart)
+failed_as failed holds told of (Ok old) (Err f) x = tt
+failed_as failed holds told of (Err f) new x = tt
