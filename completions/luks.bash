@@ -6,6 +6,11 @@ _luks() {
         [check]="--detached --help"
         [show]="--help"
         [open]="--passphrase --slot --help"
+        [add]="--slot --passphrase --new --random --to --iterations --detached --help"
+        [change]="--slot --passphrase --new --random --iterations --detached --help"
+        [remove]="--slot --passphrase --random --detached --help"
+        [repair]="--random --detached --help"
+        [label]="--random --detached --help"
         [format]="--passphrase --random --version --hash --iterations --detached --help"
         [help]="--help"
     )
@@ -14,7 +19,7 @@ _luks() {
         words="${!options[*]} --help --version"
     elif [[ ${COMP_WORDS[1]} == help ]]; then
         words="${!options[*]}"
-    elif [[ $before == --slot ]]; then
+    elif [[ $before == --slot || $before == --to ]]; then
         words=$(echo {0..31})
     elif [[ $before == --version ]]; then
         words="1 2"

@@ -16,6 +16,42 @@ complete -c luks -n '__fish_seen_subcommand_from open' -F
 complete -c luks -n '__fish_seen_subcommand_from open' -l passphrase -r -F -d 'The file of the passphrase'
 complete -c luks -n '__fish_seen_subcommand_from open' -l slot -x -a '(seq 0 31)' -d 'The keyslot to try'
 
+complete -c luks -n __fish_use_subcommand -a add -d 'Add a keyslot for a new passphrase'
+complete -c luks -n '__fish_seen_subcommand_from add' -F
+complete -c luks -n '__fish_seen_subcommand_from add' -l slot -x -a '(seq 0 31)' -d 'The keyslot that the passphrase opens'
+complete -c luks -n '__fish_seen_subcommand_from add' -l passphrase -r -F -d 'The file of the passphrase'
+complete -c luks -n '__fish_seen_subcommand_from add' -l new -r -F -d 'The file of the new passphrase'
+complete -c luks -n '__fish_seen_subcommand_from add' -l random -r -F -d 'The file of the random bytes'
+complete -c luks -n '__fish_seen_subcommand_from add' -l to -x -a '(seq 0 31)' -d 'The new keyslot'
+complete -c luks -n '__fish_seen_subcommand_from add' -l iterations -x -d 'The iterations of PBKDF2'
+complete -c luks -n '__fish_seen_subcommand_from add' -l detached -d 'The payload lies on another device'
+
+complete -c luks -n __fish_use_subcommand -a change -d 'Put a new passphrase in the place of an old one'
+complete -c luks -n '__fish_seen_subcommand_from change' -F
+complete -c luks -n '__fish_seen_subcommand_from change' -l slot -x -a '(seq 0 31)' -d 'The keyslot that the passphrase opens'
+complete -c luks -n '__fish_seen_subcommand_from change' -l passphrase -r -F -d 'The file of the passphrase'
+complete -c luks -n '__fish_seen_subcommand_from change' -l new -r -F -d 'The file of the new passphrase'
+complete -c luks -n '__fish_seen_subcommand_from change' -l random -r -F -d 'The file of the random bytes'
+complete -c luks -n '__fish_seen_subcommand_from change' -l iterations -x -d 'The iterations of PBKDF2'
+complete -c luks -n '__fish_seen_subcommand_from change' -l detached -d 'The payload lies on another device'
+
+complete -c luks -n __fish_use_subcommand -a remove -d 'Remove a keyslot by its own passphrase'
+complete -c luks -n '__fish_seen_subcommand_from remove' -F
+complete -c luks -n '__fish_seen_subcommand_from remove' -l slot -x -a '(seq 0 31)' -d 'The keyslot that the passphrase opens'
+complete -c luks -n '__fish_seen_subcommand_from remove' -l passphrase -r -F -d 'The file of the passphrase'
+complete -c luks -n '__fish_seen_subcommand_from remove' -l random -r -F -d 'The file of the random bytes'
+complete -c luks -n '__fish_seen_subcommand_from remove' -l detached -d 'The payload lies on another device'
+
+complete -c luks -n __fish_use_subcommand -a repair -d 'Write both copies of a LUKS2 header anew'
+complete -c luks -n '__fish_seen_subcommand_from repair' -F
+complete -c luks -n '__fish_seen_subcommand_from repair' -l random -r -F -d 'The file of the random bytes'
+complete -c luks -n '__fish_seen_subcommand_from repair' -l detached -d 'The payload lies on another device'
+
+complete -c luks -n __fish_use_subcommand -a label -d 'Set the label of a LUKS2 volume'
+complete -c luks -n '__fish_seen_subcommand_from label' -F
+complete -c luks -n '__fish_seen_subcommand_from label' -l random -r -F -d 'The file of the random bytes'
+complete -c luks -n '__fish_seen_subcommand_from label' -l detached -d 'The payload lies on another device'
+
 complete -c luks -n __fish_use_subcommand -a format -d 'Make a LUKS volume over whatever stands there'
 complete -c luks -n '__fish_seen_subcommand_from format' -F
 complete -c luks -n '__fish_seen_subcommand_from format' -l passphrase -r -F -d 'The file of the passphrase'

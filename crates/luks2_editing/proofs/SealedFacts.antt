@@ -1,10 +1,8 @@
 -- A keyslot of new metadata that is sealed by its plan: what that takes, and what it leaves.
 use Rattle.std.proofs.Common.{◌≡◌, ℕ, ◌+◌, ◌-◌, ◌*◌, ◌≤◌, List, length, drop, Option, Some, Result, Ok, Err, OnOk, inl, inr, sym, ap, ◌∙◌, arith, length-drop}
 use Rattle.serde_json.specs.Data.{Data as Value}
-use Rattle.luks_area.specs.Area.{IsInside}
 use Rattle.luks_area.specs.Ranges.{IsOfEither, SameBut}
 use Rattle.luks_area.specs.RangeFacts.{same_but-wider}
-use Rattle.luks_area.specs.Sectors.{rounded_to_sectors}
 use Rattle.luks_head.specs.Header2.{hdr_size, header_at}
 use Rattle.luks_rules.specs.declared.table.Member.TheVariants as name
 use Rattle.luks_rules.specs.declared.table.Outer.TheVariants as outer
@@ -16,7 +14,7 @@ use Rattle.luks_making.specs.Naming.{IsDigestOf}
 use Rattle.luks_slot.specs.declared.plan.Derivation.{Derivation}
 use Rattle.luks_slot.specs.declared.plan.Derivation.TheVariants.{Pbkdf2, Argon2}
 use Rattle.luks_slot.specs.declared.plan.SlotPlan.{SlotPlan}
-use Rattle.luks_slot.specs.Opening.{area_bytes, stripe_bytes, HasIterations}
+use Rattle.luks_slot.specs.Opening.{area_bytes, HasIterations}
 use Rattle.luks_slot.specs.Sealing.{IsSealed}
 use Rattle.luks_reading.specs.declared.report.Data.{Data}
 use Rattle.luks_reading.specs.Plans.{IsLuks2Derivation, IsLuks2Plan}
@@ -28,7 +26,7 @@ use Rattle.luks2_edits.specs.Leftovers.{IsTornAt}
 use Rattle.luks2_edits.specs.Places.{IsOfCopies, IsOfSealed}
 use Rattle.luks2_judging.proofs.StripeFacts.{in_between, some_same}
 use Rattle.luks2_editing.specs.Rewriting.{AreWrittenAnew}
-use Rattle.luks2_editing.specs.Sealed.{IsOfStripes, IsPlanFault, MayBeHalfSealed}
+use Rattle.luks2_editing.specs.Sealed.{IsOfStripes, IsPlanFault, IsReadyPlan, MayBeHalfSealed}
 use Rattle.luks2_editing.specs.SealedKeyslot.{IsKeyslotWritten, IsOfStripesOf, IsSealable, IsSealing, IsUnsealed}
 use Rattle.luks2_editing.proofs.KeyAreaFacts.{area_of_object}
 
@@ -56,16 +54,6 @@ pub record IsPlanOf (k : Value) (n : ℕ) (plan : SlotPlan) : Type 0 where
   pub there : HasObject k Keyslots n object
   pub is : IsLuks2Plan k n object plan
   pub one : (m : ℕ) → IsDigestOf k n m → m ≡ is.digest.number
-
--- the key can be sealed by it
-pub record IsReadyPlan (h : ℕ) (plan : SlotPlan) (key random : List ℕ) (total : ℕ) : Type 0 where
-  pub iterations : HasIterations plan.derivation
-  pub key_length : length key ≡ plan.key_bytes
-  pub some_stripes : 1 ≤ plan.stripes
-  pub random_length : length random ≡ 160 + (plan.stripes - 1) * plan.key_bytes
-  pub sectors : rounded_to_sectors (stripe_bytes plan) ≤ plan.area.len
-  pub inside : IsInside plan.area total
-  pub behind : 2 * h ≤ plan.area.start
 
 module _ (h total : ℕ) (k : Value) (n : ℕ) (key random : List ℕ) (x : IsSealable h k n key random total) (plan : SlotPlan) (p : IsPlanOf k n plan) where
   object_is : p.object ≡ x.slot.object

@@ -12,7 +12,7 @@ ghost use Rattle.luks_edit.specs.EditFaults.{is_edit_failure};
 ghost use Rattle.luks_edit.specs.declared.edit.Edit.{Edit as TheEdit};
 ghost use Rattle.luks2_edits.specs.Places.{IsOfCopies};
 ghost use Rattle.luks2_editing.specs.Rewriting.{AreWrittenAnew, IsRewriting};
-ghost use Rattle.luks2_editing.specs.Sealed.{unsealed, IsOfStripes, IsPlanFault, MayBeHalfSealed};
+ghost use Rattle.luks2_editing.specs.Sealed.{unsealed, IsOfStripes, IsPlanFault, IsReadyPlan, MayBeHalfSealed};
 
 use crate::random::stripes_in;
 use crate::writing::write_copies;
@@ -37,13 +37,8 @@ pub(crate) fn write_sealed<D: Device>(
     random: &[u8],
     json: &[u8],
 ) -> Result<(), EditFault>
-    requires iterations { HasIterations plan.now.derivation }
-    requires key_length { length key.now ≡ plan.now.key_bytes }
-    requires some_stripes { 1 ≤ plan.now.stripes }
-    requires random { length random.now ≡ 160 + (plan.now.stripes - 1) * plan.now.key_bytes }
-    requires sectors { rounded_to_sectors (stripe_bytes plan.now) ≤ plan.now.area.len }
-    requires inside { IsInside plan.now.area (D.size device.old) }
-    requires behind { 2 * chosen.now.hdr_size ≤ plan.now.area.start }
+    requires ready { IsReadyPlan chosen.now.hdr_size plan.now key.now random.now
+        (D.size device.old) }
     requires number { chosen.now.seqid + 1 < 2 ^ 64 }
     requires json { binary_header_size + length json.now ≡ chosen.now.hdr_size }
     requires place { chosen.now.hdr_offset ≤ chosen.now.hdr_size }

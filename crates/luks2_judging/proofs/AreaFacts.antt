@@ -1,5 +1,5 @@
 -- The areas of a volume that was accepted.
-use Rattle.std.proofs.Common.{◌≡◌, ℕ, ◌+◌, ◌-◌, ◌≤◌, List, length, refl, ◌∙◌, subst, arith, nat_le, Result, Ok, Err, IsOk, IfErr, Bool, true, inl, inr}
+use Rattle.std.proofs.Common.{Option, ◌≡◌, ℕ, ◌+◌, ◌-◌, ◌≤◌, List, length, refl, ◌∙◌, subst, arith, nat_le, Result, Ok, Err, IsOk, IfErr, Bool, true, inl, inr}
 use Rattle.std.specs.Prelude.{◌==◌, [], ◌∷◌}
 use Rattle.std.specs.List.{list_all}
 use Rattle.std.proofs.lemmas.Bool.{and_parts, eqb-true, false≢true, leb-true, or_cases}
@@ -9,8 +9,9 @@ use Rattle.luks_area.specs.declared.areas.Entry.{Entry}
 use Rattle.luks_area.specs.Area.{Fit, IsInside}
 use Rattle.luks_area.specs.Names.{HasArea}
 use Rattle.luks_area.specs.RangeFacts.{length-part_inside}
+use Rattle.luks_head.specs.declared.selection.Copies.{Copies}
 use Rattle.luks_head.specs.Header2.{hdr_size, header_at, IsSound}
-use Rattle.luks_head.specs.Selection.{luks2}
+use Rattle.luks_head.specs.Selection.{luks2, Chosen}
 use Rattle.luks_head.specs.Sizes.{is_among, listed_sizes, IsListed}
 use Rattle.luks_meta.specs.Content.{area_len, content}
 use Rattle.luks_reading.specs.declared.header.ChosenCopy.{ChosenCopy}
@@ -19,6 +20,9 @@ use Rattle.luks_reading.specs.Checked.{AreaOf, HasAreaAs}
 use Rattle.luks_reading.specs.Header.{json_at, IsChosenCopy}
 use Rattle.luks_reading.specs.Layout2.{Luks2Area}
 use Rattle.luks_reading.specs.Listing.{Lists}
+use Rattle.luks_edit.specs.declared.edit.Edit.{Edit}
+use Rattle.luks2_edits.specs.Refused.{HasNoRoom}
+use Rattle.luks2_judging.specs.Room.{IsRoomFor}
 use Rattle.luks2_judging.proofs.ChosenFacts.{ReadingLaws}
 
 -- an answer isn't a fault
@@ -74,3 +78,26 @@ module _ (laws : ReadingLaws) (v : List ℕ) (copy : ChosenCopy) (x : IsChosenCo
     only = λ n a there. named_here payload n a (lists.only n a there);
     all = λ n a there. lists.all n a (record { choice = luks2 copy.header.hdr_offset copy.copies; chosen = x.chosen; area = record { value = content copy.meta; holds = x.metadata.json; area = there } });
   })
+
+-- ---- the row `NoRoom`, of the areas that were listed in a volume of `total` bytes
+
+module _ (laws : ReadingLaws) (sound : (v : List ℕ) (o : ℕ) (copies : Copies) → Chosen v (luks2 o copies) → IsSound v o)
+    (v : List ℕ) (copy : ChosenCopy) (x : IsChosenCopy v copy) (payload : Data) (total : ℕ) (size : length v ≡ total) where
+  header_long : area_len copy.meta + 4096 ≡ hdr_size (header_at v copy.header.hdr_offset)
+  header_long = copy_long laws v copy x (sound v copy.header.hdr_offset copy.copies x.chosen)
+
+  pub listed_here : (entries : List Entry) → Lists entries (AreaOf v payload) → Lists entries (Luks2Area (content copy.meta) (area_len copy.meta + 4096) payload total)
+  listed_here entries lists = lists_here laws v copy x entries payload (area_len copy.meta + 4096) total header_long size lists
+
+  -- it says the same of the header's size and the volume's length
+  pub no_room_here : (e : Edit) → HasNoRoom (area_len copy.meta + 4096) total payload (content copy.meta) e
+      → HasNoRoom (hdr_size (header_at v copy.header.hdr_offset)) (length v) payload (content copy.meta) e
+  no_room_here e bad = rw (size, ← header_long) bad
+
+  pub no_room_listed : (e : Edit) → HasNoRoom (hdr_size (header_at v copy.header.hdr_offset)) (length v) payload (content copy.meta) e
+      → HasNoRoom (area_len copy.meta + 4096) total payload (content copy.meta) e
+  no_room_listed e bad = rw (← size, header_long) bad
+
+  pub room_here : (e : Edit) (area : Option Area) → IsRoomFor (area_len copy.meta + 4096) total payload (content copy.meta) e area
+      → IsRoomFor (hdr_size (header_at v copy.header.hdr_offset)) (length v) payload (content copy.meta) e area
+  room_here e area room = rw (size, ← header_long) room

@@ -81,29 +81,19 @@ fn compare(
     Ok(())
 }
 
+/// One list by each hash.
+const BY_HASHES: [(HashName, &str, &[Row]); 3] = [
+    (HashName::Sha1, lists::SHA1_BEFORE, &lists::SHA1),
+    (HashName::Sha256, lists::SHA256_BEFORE, &lists::SHA256),
+    (HashName::Sha512, lists::SHA512_BEFORE, &lists::SHA512),
+];
+
 #[test]
 fn lists_of_edits(rt: HostRuntime) -> Result<(), Fail> {
-    compare(
-        &rt,
-        rt.alloc(),
-        HashName::Sha1,
-        lists::SHA1_BEFORE,
-        &lists::SHA1,
-    )?;
-    compare(
-        &rt,
-        rt.alloc(),
-        HashName::Sha256,
-        lists::SHA256_BEFORE,
-        &lists::SHA256,
-    )?;
-    compare(
-        &rt,
-        rt.alloc(),
-        HashName::Sha512,
-        lists::SHA512_BEFORE,
-        &lists::SHA512,
-    )
+    for (hash, before, rows) in BY_HASHES {
+        compare(&rt, rt.alloc(), hash, before, rows)?;
+    }
+    Ok(())
 }
 
 /// How an edit ended on a device of which one call failed.

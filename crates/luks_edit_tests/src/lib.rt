@@ -12,13 +12,21 @@ mod edits_of_luks1;
 #[cfg(test)]
 mod edits_of_luks2;
 #[cfg(test)]
+mod edits_without_memory;
+#[cfg(test)]
+mod failing_edits;
+#[cfg(test)]
 mod failing_formats;
 #[cfg(test)]
 mod formats;
 #[cfg(test)]
 mod formatting;
 #[cfg(test)]
+mod lists;
+#[cfg(test)]
 mod little_memory;
+#[cfg(test)]
+mod new_luks2;
 #[cfg(test)]
 mod refused_memory;
 #[cfg(test)]
@@ -31,3 +39,5 @@ mod stray;
 mod sums;
 #[cfg(test)]
 mod texts;
+#[cfg(test)]
+mod torn_labels;

@@ -150,13 +150,22 @@ fn stripes_in_turn(rt: HostRuntime) {
     assert!(rt; merged == key, "the key");
 }
 
+/// Makes the last stripe of the block, which is zeros at first.
+fn make_last(block: &mut [u8])
+    requires { length block.old ≡ 64 }
+{
+    let random = RANDOM.as_slice();
+    let key = KEY.as_slice();
+    HashName::Sha256.take_in(block, &random[..64]);
+    HashName::Sha256.take_in(block, &random[64..128]);
+    xor_into(block, &key[..64]);
+}
+
 // The same by the hash's name, a running block beside the stripes.
 #[test]
 fn stripes_by_name(rt: HostRuntime) {
     let mut block = [0; 64];
-    HashName::Sha256.take_in(&mut block, &RANDOM[..64]);
-    HashName::Sha256.take_in(&mut block, &RANDOM[64..128]);
-    xor_into(&mut block, &KEY[..64]);
+    make_last(&mut block);
     assert!(rt; is_hex(&block, OF_64), "the last stripe");
 }
 

@@ -9,8 +9,8 @@ use Rattle.luks2_editing.proofs.RewritingFacts.{rewriting_of}
 use Rattle.luks2_editing.proofs.SealedFacts.{keyslot_written, on_ok_both, plan_unsealed, ready, torn_keyslot, IsPlanOf}
 use Rattle.luks2_editing.proofs.sealed_plan.write_keyslot.Goals as goal
 
-pub write_sealed-requires-clause-iterations : goal.write_sealed-requires-clause-iterations
-write_sealed-requires-clause-iterations g c =
+pub write_sealed-requires-clause-ready : goal.write_sealed-requires-clause-ready
+write_sealed-requires-clause-ready g c =
     let h = c.args.chosen.now.hdr_size in
     let total = g.D.Device.size c.args.device.now in
     let k = content c.args.made.now.meta in
@@ -26,121 +26,7 @@ write_sealed-requires-clause-iterations g c =
       is = is;
       one = λ m names. (let this = c.digest_of_keyslot.ensures.only m names in let that = c.digest_of_keyslot.ensures.only is.digest.number is.digest.names in cc (this, that));
     } in
-    (ready h total k n c.args.key.now c.args.random.now c.requires.sealable plan p).iterations
-
-pub write_sealed-requires-clause-key_length : goal.write_sealed-requires-clause-key_length
-write_sealed-requires-clause-key_length g c =
-    let h = c.args.chosen.now.hdr_size in
-    let total = g.D.Device.size c.args.device.now in
-    let k = content c.args.made.now.meta in
-    let n = c.args.n in
-    let slot = rw c.unwrap-keyslot.ensures at c.keyslot.ensures.some in
-    let naming = rw c.unwrap-number.ensures at c.digest_of_keyslot.ensures.some in
-    let digest = rw c.unwrap-digest.ensures at c.digest.ensures.some in
-    let plan = c.luks2_plan-plan.result in
-    let is = c.luks2_plan-plan.ensures k n c.unwrap-number.result slot.object digest.object slot.tells_members naming digest.is digest.tells_members in
-    let p : IsPlanOf k n plan = record {
-      object = slot.object;
-      there = record { numbered = refl; named = c.requires.sealable.slot.there.named; is = slot.is };
-      is = is;
-      one = λ m names. (let this = c.digest_of_keyslot.ensures.only m names in let that = c.digest_of_keyslot.ensures.only is.digest.number is.digest.names in cc (this, that));
-    } in
-    (ready h total k n c.args.key.now c.args.random.now c.requires.sealable plan p).key_length
-
-pub write_sealed-requires-clause-some_stripes : goal.write_sealed-requires-clause-some_stripes
-write_sealed-requires-clause-some_stripes g c =
-    let h = c.args.chosen.now.hdr_size in
-    let total = g.D.Device.size c.args.device.now in
-    let k = content c.args.made.now.meta in
-    let n = c.args.n in
-    let slot = rw c.unwrap-keyslot.ensures at c.keyslot.ensures.some in
-    let naming = rw c.unwrap-number.ensures at c.digest_of_keyslot.ensures.some in
-    let digest = rw c.unwrap-digest.ensures at c.digest.ensures.some in
-    let plan = c.luks2_plan-plan.result in
-    let is = c.luks2_plan-plan.ensures k n c.unwrap-number.result slot.object digest.object slot.tells_members naming digest.is digest.tells_members in
-    let p : IsPlanOf k n plan = record {
-      object = slot.object;
-      there = record { numbered = refl; named = c.requires.sealable.slot.there.named; is = slot.is };
-      is = is;
-      one = λ m names. (let this = c.digest_of_keyslot.ensures.only m names in let that = c.digest_of_keyslot.ensures.only is.digest.number is.digest.names in cc (this, that));
-    } in
-    (ready h total k n c.args.key.now c.args.random.now c.requires.sealable plan p).some_stripes
-
-pub write_sealed-requires-clause-random : goal.write_sealed-requires-clause-random
-write_sealed-requires-clause-random g c =
-    let h = c.args.chosen.now.hdr_size in
-    let total = g.D.Device.size c.args.device.now in
-    let k = content c.args.made.now.meta in
-    let n = c.args.n in
-    let slot = rw c.unwrap-keyslot.ensures at c.keyslot.ensures.some in
-    let naming = rw c.unwrap-number.ensures at c.digest_of_keyslot.ensures.some in
-    let digest = rw c.unwrap-digest.ensures at c.digest.ensures.some in
-    let plan = c.luks2_plan-plan.result in
-    let is = c.luks2_plan-plan.ensures k n c.unwrap-number.result slot.object digest.object slot.tells_members naming digest.is digest.tells_members in
-    let p : IsPlanOf k n plan = record {
-      object = slot.object;
-      there = record { numbered = refl; named = c.requires.sealable.slot.there.named; is = slot.is };
-      is = is;
-      one = λ m names. (let this = c.digest_of_keyslot.ensures.only m names in let that = c.digest_of_keyslot.ensures.only is.digest.number is.digest.names in cc (this, that));
-    } in
-    (ready h total k n c.args.key.now c.args.random.now c.requires.sealable plan p).random_length
-
-pub write_sealed-requires-clause-sectors : goal.write_sealed-requires-clause-sectors
-write_sealed-requires-clause-sectors g c =
-    let h = c.args.chosen.now.hdr_size in
-    let total = g.D.Device.size c.args.device.now in
-    let k = content c.args.made.now.meta in
-    let n = c.args.n in
-    let slot = rw c.unwrap-keyslot.ensures at c.keyslot.ensures.some in
-    let naming = rw c.unwrap-number.ensures at c.digest_of_keyslot.ensures.some in
-    let digest = rw c.unwrap-digest.ensures at c.digest.ensures.some in
-    let plan = c.luks2_plan-plan.result in
-    let is = c.luks2_plan-plan.ensures k n c.unwrap-number.result slot.object digest.object slot.tells_members naming digest.is digest.tells_members in
-    let p : IsPlanOf k n plan = record {
-      object = slot.object;
-      there = record { numbered = refl; named = c.requires.sealable.slot.there.named; is = slot.is };
-      is = is;
-      one = λ m names. (let this = c.digest_of_keyslot.ensures.only m names in let that = c.digest_of_keyslot.ensures.only is.digest.number is.digest.names in cc (this, that));
-    } in
-    (ready h total k n c.args.key.now c.args.random.now c.requires.sealable plan p).sectors
-
-pub write_sealed-requires-clause-inside : goal.write_sealed-requires-clause-inside
-write_sealed-requires-clause-inside g c =
-    let h = c.args.chosen.now.hdr_size in
-    let total = g.D.Device.size c.args.device.now in
-    let k = content c.args.made.now.meta in
-    let n = c.args.n in
-    let slot = rw c.unwrap-keyslot.ensures at c.keyslot.ensures.some in
-    let naming = rw c.unwrap-number.ensures at c.digest_of_keyslot.ensures.some in
-    let digest = rw c.unwrap-digest.ensures at c.digest.ensures.some in
-    let plan = c.luks2_plan-plan.result in
-    let is = c.luks2_plan-plan.ensures k n c.unwrap-number.result slot.object digest.object slot.tells_members naming digest.is digest.tells_members in
-    let p : IsPlanOf k n plan = record {
-      object = slot.object;
-      there = record { numbered = refl; named = c.requires.sealable.slot.there.named; is = slot.is };
-      is = is;
-      one = λ m names. (let this = c.digest_of_keyslot.ensures.only m names in let that = c.digest_of_keyslot.ensures.only is.digest.number is.digest.names in cc (this, that));
-    } in
-    (ready h total k n c.args.key.now c.args.random.now c.requires.sealable plan p).inside
-
-pub write_sealed-requires-clause-behind : goal.write_sealed-requires-clause-behind
-write_sealed-requires-clause-behind g c =
-    let h = c.args.chosen.now.hdr_size in
-    let total = g.D.Device.size c.args.device.now in
-    let k = content c.args.made.now.meta in
-    let n = c.args.n in
-    let slot = rw c.unwrap-keyslot.ensures at c.keyslot.ensures.some in
-    let naming = rw c.unwrap-number.ensures at c.digest_of_keyslot.ensures.some in
-    let digest = rw c.unwrap-digest.ensures at c.digest.ensures.some in
-    let plan = c.luks2_plan-plan.result in
-    let is = c.luks2_plan-plan.ensures k n c.unwrap-number.result slot.object digest.object slot.tells_members naming digest.is digest.tells_members in
-    let p : IsPlanOf k n plan = record {
-      object = slot.object;
-      there = record { numbered = refl; named = c.requires.sealable.slot.there.named; is = slot.is };
-      is = is;
-      one = λ m names. (let this = c.digest_of_keyslot.ensures.only m names in let that = c.digest_of_keyslot.ensures.only is.digest.number is.digest.names in cc (this, that));
-    } in
-    (ready h total k n c.args.key.now c.args.random.now c.requires.sealable plan p).behind
+    ready h total k n c.args.key.now c.args.random.now c.requires.sealable plan p
 
 pub returns-clause-fault : goal.returns-clause-fault
 returns-clause-fault g c =

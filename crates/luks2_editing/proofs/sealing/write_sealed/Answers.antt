@@ -11,7 +11,7 @@ returns-in-Ok-clause-sealed g c tells =
     let mid = g.D.Device.bytes c.seal.new.device in
     let w = g.D.Device.bytes c.write_copies.new.device in
     let plan = c.args.plan.now in
-    let stays = area_behind c.args.chosen.now.hdr_size plan.area mid w c.requires.behind (c.write_copies.ensures.rest tells) in
+    let stays = area_behind c.args.chosen.now.hdr_size plan.area mid w c.requires.ready.behind (c.write_copies.ensures.rest tells) in
     let sealed : IsSealed plan (area_bytes w plan.area) c.args.passphrase.now c.args.key.now (drop 160 c.args.random.now) =
     subst (λ (l : List ℕ). IsSealed plan l c.args.passphrase.now c.args.key.now (drop 160 c.args.random.now)) (sym stays)
     (subst (λ (r : List ℕ). IsSealed plan (area_bytes mid plan.area) c.args.passphrase.now c.args.key.now r) c.stripes_in-stripes.ensures (c.in_ok-seal.ensures.sealed tells)) in
@@ -23,7 +23,7 @@ returns-in-Ok-clause-torn g c tells v e j is =
     let mid = g.D.Device.bytes c.seal.new.device in
     let w = g.D.Device.bytes c.write_copies.new.device in
     let plan = c.args.plan.now in
-    let stays = area_behind c.args.chosen.now.hdr_size plan.area mid w c.requires.behind (c.write_copies.ensures.rest tells) in
+    let stays = area_behind c.args.chosen.now.hdr_size plan.area mid w c.requires.ready.behind (c.write_copies.ensures.rest tells) in
     let sealed : IsSealed plan (area_bytes w plan.area) c.args.passphrase.now c.args.key.now (drop 160 c.args.random.now) =
     subst (λ (l : List ℕ). IsSealed plan l c.args.passphrase.now c.args.key.now (drop 160 c.args.random.now)) (sym stays)
     (subst (λ (r : List ℕ). IsSealed plan (area_bytes mid plan.area) c.args.passphrase.now c.args.key.now r) c.stripes_in-stripes.ensures (c.in_ok-seal.ensures.sealed tells)) in
@@ -39,7 +39,7 @@ returns-in-Err-clause-torn g c tells v e j is =
     let mid = g.D.Device.bytes c.seal.new.device in
     let w = g.D.Device.bytes c.write_copies.new.device in
     let plan = c.args.plan.now in
-    let stays = area_behind c.args.chosen.now.hdr_size plan.area mid w c.requires.behind (c.write_copies.ensures.rest tells) in
+    let stays = area_behind c.args.chosen.now.hdr_size plan.area mid w c.requires.ready.behind (c.write_copies.ensures.rest tells) in
     let sealed : IsSealed plan (area_bytes w plan.area) c.args.passphrase.now c.args.key.now (drop 160 c.args.random.now) =
     subst (λ (l : List ℕ). IsSealed plan l c.args.passphrase.now c.args.key.now (drop 160 c.args.random.now)) (sym stays)
     (subst (λ (r : List ℕ). IsSealed plan (area_bytes mid plan.area) c.args.passphrase.now c.args.key.now r) c.stripes_in-stripes.ensures (c.in_ok-seal.ensures.sealed tells)) in
@@ -53,5 +53,5 @@ pub seal-requires-clause-random : goal.seal-requires-clause-random
 seal-requires-clause-random g c =
     let is : length c.stripes_in-stripes.result.now ≡ length (drop 160 c.args.random.now) = ap length c.stripes_in-stripes.ensures in
     let long : length (drop 160 c.args.random.now) ≡ length c.args.random.now - 160 = length-drop 160 c.args.random.now in
-    let all = c.requires.random in
+    let all = c.requires.ready.random_length in
     omega (arith, is, long, all)

@@ -1,12 +1,8 @@
-use Rattle.std.proofs.Common.{◌≡◌, ◌+◌, length, subst, sym}
+use Rattle.std.proofs.Common.{subst, sym}
 use Rattle.std.proofs.lemmas.Result.{err_from_is_err_and}
-use Rattle.luks_head.specs.Header2.{hdr_size, header_at}
-use Rattle.luks_meta.specs.Content.{area_len, content}
-use Rattle.luks_reading.specs.Layout2.{Luks2Area}
-use Rattle.luks_reading.specs.Listing.{Lists}
-use Rattle.luks2_edits.specs.Refused.{HasNoRoom, Refusal2}
-use Rattle.luks2_judging.specs.Room.{IsRoomFor}
-use Rattle.luks2_judging.proofs.AreaFacts.{copy_long, lists_here}
+use Rattle.luks_meta.specs.Content.{content}
+use Rattle.luks2_edits.specs.Refused.{Refusal2}
+use Rattle.luks2_judging.proofs.AreaFacts.{listed_here, no_room_here, no_room_listed, room_here}
 use Rattle.luks2_judging.proofs.ChosenFacts.{metadata_of, ReadingLaws}
 use Rattle.luks2_judging.proofs.JudgedFacts.{before_of, few_first, last_first, passed_of, past_few, past_label, past_last, past_made, past_room, roomless_first, unlabelled_first, unmade_first}
 use Rattle.luks2_judging.proofs.judging.judge_opened.Goals as goal
@@ -32,16 +28,12 @@ returns-in_err-area-clause-refused c = λ v random payload size x.
     let m = metadata_of v copy x.chosen in
     let past6 = passed_of 6 v payload e random x.passed in
     let past8 = past_made laws v payload o j m e random c.in-Ok.made past6 c.in-Ok.ensures in
-    let long : area_len copy.meta + 4096 ≡ hdr_size (header_at v o) = copy_long laws v copy x.chosen (c.chosen_copy_is_sound.ensures v o copy.copies x.chosen.chosen) in
-    let lists : Lists c.args.areas.now (Luks2Area j (area_len copy.meta + 4096) payload c.args.total) =
-    lists_here laws v copy x.chosen c.args.areas.now payload (area_len copy.meta + 4096) c.args.total long size x.lists in
+    let lists = listed_here laws c.chosen_copy_is_sound.ensures v copy x.chosen payload c.args.total size c.args.areas.now x.lists in
     let p = err_from_is_err_and c.from_residual.result c.from_residual.ensures.1 in
     let judged = c.in_err-area.ensures.row payload lists in
-    let bad : HasNoRoom (hdr_size (header_at v o)) (length v) payload j e =
-    subst (λ n. HasNoRoom (hdr_size (header_at v o)) n payload j e) (sym size) (subst (λ n. HasNoRoom n c.args.total payload j e) long judged.1) in
     rw (p.1, p.2)
     (subst (λ f. Refusal2 v payload e random f) (sym judged.0)
-    (roomless_first laws v payload o j m e random past8 bad))
+    (roomless_first laws v payload o j m e random past8 (no_room_here laws c.chosen_copy_is_sound.ensures v copy x.chosen payload c.args.total size e judged.1)))
 
 pub returns-in_err-judge_last-clause-refused : goal.returns-in_err-judge_last-clause-refused
 returns-in_err-judge_last-clause-refused c = λ v random payload size x.
@@ -53,13 +45,9 @@ returns-in_err-judge_last-clause-refused c = λ v random payload size x.
     let m = metadata_of v copy x.chosen in
     let past6 = passed_of 6 v payload e random x.passed in
     let past8 = past_made laws v payload o j m e random c.in-Ok.made past6 c.in-Ok.ensures in
-    let long : area_len copy.meta + 4096 ≡ hdr_size (header_at v o) = copy_long laws v copy x.chosen (c.chosen_copy_is_sound.ensures v o copy.copies x.chosen.chosen) in
-    let lists : Lists c.args.areas.now (Luks2Area j (area_len copy.meta + 4096) payload c.args.total) =
-    lists_here laws v copy x.chosen c.args.areas.now payload (area_len copy.meta + 4096) c.args.total long size x.lists in
-    let roomy : HasNoRoom (hdr_size (header_at v o)) (length v) payload j e → ⊥ =
-    λ bad. c.in_ok-area.ensures.row payload lists
-    (subst (λ n. HasNoRoom (area_len copy.meta + 4096) n payload j e) size (subst (λ n. HasNoRoom n (length v) payload j e) (sym long) bad)) in
-    let past9 = past_room laws v payload o j m e random past8 roomy in
+    let lists = listed_here laws c.chosen_copy_is_sound.ensures v copy x.chosen payload c.args.total size c.args.areas.now x.lists in
+    let past9 = past_room laws v payload o j m e random past8
+    (λ bad. c.in_ok-area.ensures.row payload lists (no_room_listed laws c.chosen_copy_is_sound.ensures v copy x.chosen payload c.args.total size e bad)) in
     let p = err_from_is_err_and c.from_residual-in_err-judge_last.result c.from_residual-in_err-judge_last.ensures.1 in
     let judged = c.in_err-judge_last.ensures in
     rw (p.1, p.2)
@@ -75,13 +63,9 @@ returns-in_err-judge_iterations-clause-refused c = λ v random payload size x.
     let m = metadata_of v copy x.chosen in
     let past6 = passed_of 6 v payload e random x.passed in
     let past8 = past_made laws v payload o j m e random c.in-Ok.made past6 c.in-Ok.ensures in
-    let long : area_len copy.meta + 4096 ≡ hdr_size (header_at v o) = copy_long laws v copy x.chosen (c.chosen_copy_is_sound.ensures v o copy.copies x.chosen.chosen) in
-    let lists : Lists c.args.areas.now (Luks2Area j (area_len copy.meta + 4096) payload c.args.total) =
-    lists_here laws v copy x.chosen c.args.areas.now payload (area_len copy.meta + 4096) c.args.total long size x.lists in
-    let roomy : HasNoRoom (hdr_size (header_at v o)) (length v) payload j e → ⊥ =
-    λ bad. c.in_ok-area.ensures.row payload lists
-    (subst (λ n. HasNoRoom (area_len copy.meta + 4096) n payload j e) size (subst (λ n. HasNoRoom n (length v) payload j e) (sym long) bad)) in
-    let past9 = past_room laws v payload o j m e random past8 roomy in
+    let lists = listed_here laws c.chosen_copy_is_sound.ensures v copy x.chosen payload c.args.total size c.args.areas.now x.lists in
+    let past9 = past_room laws v payload o j m e random past8
+    (λ bad. c.in_ok-area.ensures.row payload lists (no_room_listed laws c.chosen_copy_is_sound.ensures v copy x.chosen payload c.args.total size e bad)) in
     let past10 = past_last laws v payload o j m e random past9 c.in_ok-judge_last.ensures in
     let p = err_from_is_err_and c.from_residual-in_err-judge_iterations.result c.from_residual-in_err-judge_iterations.ensures.1 in
     let judged = c.in_err-judge_iterations.ensures in
@@ -98,13 +82,9 @@ returns-in_err-judge_label-clause-refused c = λ v random payload size x.
     let m = metadata_of v copy x.chosen in
     let past6 = passed_of 6 v payload e random x.passed in
     let past8 = past_made laws v payload o j m e random c.in-Ok.made past6 c.in-Ok.ensures in
-    let long : area_len copy.meta + 4096 ≡ hdr_size (header_at v o) = copy_long laws v copy x.chosen (c.chosen_copy_is_sound.ensures v o copy.copies x.chosen.chosen) in
-    let lists : Lists c.args.areas.now (Luks2Area j (area_len copy.meta + 4096) payload c.args.total) =
-    lists_here laws v copy x.chosen c.args.areas.now payload (area_len copy.meta + 4096) c.args.total long size x.lists in
-    let roomy : HasNoRoom (hdr_size (header_at v o)) (length v) payload j e → ⊥ =
-    λ bad. c.in_ok-area.ensures.row payload lists
-    (subst (λ n. HasNoRoom (area_len copy.meta + 4096) n payload j e) size (subst (λ n. HasNoRoom n (length v) payload j e) (sym long) bad)) in
-    let past9 = past_room laws v payload o j m e random past8 roomy in
+    let lists = listed_here laws c.chosen_copy_is_sound.ensures v copy x.chosen payload c.args.total size c.args.areas.now x.lists in
+    let past9 = past_room laws v payload o j m e random past8
+    (λ bad. c.in_ok-area.ensures.row payload lists (no_room_listed laws c.chosen_copy_is_sound.ensures v copy x.chosen payload c.args.total size e bad)) in
     let past10 = past_last laws v payload o j m e random past9 c.in_ok-judge_last.ensures in
     let past11 = past_few v payload e random past10 c.in_ok-judge_iterations.ensures in
     let p = err_from_is_err_and c.from_residual-in_err-judge_label.result c.from_residual-in_err-judge_label.ensures.1 in
@@ -122,13 +102,9 @@ returns-clause-passed c = λ v random payload size x.
     let m = metadata_of v copy x.chosen in
     let past6 = passed_of 6 v payload e random x.passed in
     let past8 = past_made laws v payload o j m e random c.in-Ok.made past6 c.in-Ok.ensures in
-    let long : area_len copy.meta + 4096 ≡ hdr_size (header_at v o) = copy_long laws v copy x.chosen (c.chosen_copy_is_sound.ensures v o copy.copies x.chosen.chosen) in
-    let lists : Lists c.args.areas.now (Luks2Area j (area_len copy.meta + 4096) payload c.args.total) =
-    lists_here laws v copy x.chosen c.args.areas.now payload (area_len copy.meta + 4096) c.args.total long size x.lists in
-    let roomy : HasNoRoom (hdr_size (header_at v o)) (length v) payload j e → ⊥ =
-    λ bad. c.in_ok-area.ensures.row payload lists
-    (subst (λ n. HasNoRoom (area_len copy.meta + 4096) n payload j e) size (subst (λ n. HasNoRoom n (length v) payload j e) (sym long) bad)) in
-    let past9 = past_room laws v payload o j m e random past8 roomy in
+    let lists = listed_here laws c.chosen_copy_is_sound.ensures v copy x.chosen payload c.args.total size c.args.areas.now x.lists in
+    let past9 = past_room laws v payload o j m e random past8
+    (λ bad. c.in_ok-area.ensures.row payload lists (no_room_listed laws c.chosen_copy_is_sound.ensures v copy x.chosen payload c.args.total size e bad)) in
     let past10 = past_last laws v payload o j m e random past9 c.in_ok-judge_last.ensures in
     let past11 = past_few v payload e random past10 c.in_ok-judge_iterations.ensures in
     before_of 12 v payload e random (past_label v payload e random past11 c.in_ok-judge_label.ensures)
@@ -137,11 +113,6 @@ pub returns-clause-room : goal.returns-clause-room
 returns-clause-room c = λ v random payload size x.
     let laws : ReadingLaws = record { one = c.one_choice.ensures.only; value = c.one_value.ensures } in
     let copy = c.args.copy.now in
-    let o = copy.header.hdr_offset in
-    let j = content copy.meta in
     let e = c.args.edit.now in
-    let long : area_len copy.meta + 4096 ≡ hdr_size (header_at v o) = copy_long laws v copy x.chosen (c.chosen_copy_is_sound.ensures v o copy.copies x.chosen.chosen) in
-    let lists : Lists c.args.areas.now (Luks2Area j (area_len copy.meta + 4096) payload c.args.total) =
-    lists_here laws v copy x.chosen c.args.areas.now payload (area_len copy.meta + 4096) c.args.total long size x.lists in
-    subst (λ n. IsRoomFor (hdr_size (header_at v o)) n payload j e c.in_ok-area.area) (sym size)
-    (subst (λ n. IsRoomFor n c.args.total payload j e c.in_ok-area.area) long (c.in_ok-area.ensures.area payload lists))
+    let lists = listed_here laws c.chosen_copy_is_sound.ensures v copy x.chosen payload c.args.total size c.args.areas.now x.lists in
+    room_here laws c.chosen_copy_is_sound.ensures v copy x.chosen payload c.args.total size e c.in_ok-area.area (c.in_ok-area.ensures.area payload lists)
