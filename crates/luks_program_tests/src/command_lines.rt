@@ -1,5 +1,5 @@
 //! Which command a command line asks for.
-use luks_cli::{Command, Line, Making, NewVersion, line};
+use luks_cli::{Command, EditRequest, Editing, Line, Making, NewVersion, line};
 use luks_volume::{Data, Format, HashName};
 use std::alloc::{AllocError, Global};
 use std::test::Fail;
@@ -157,6 +157,159 @@ const MAKINGS: [(&[&str], Making<'static>); 5] = [
     ),
 ];
 
+const ADD: EditRequest<'static> = EditRequest::Add {
+    by_: 3,
+    passphrase: "p",
+    new: "n",
+    to: None,
+    iterations: 100000,
+};
+
+const ADD_TO: EditRequest<'static> = EditRequest::Add {
+    by_: 0,
+    passphrase: "p",
+    new: "n",
+    to: Some(31),
+    iterations: 1000,
+};
+
+const CHANGE: EditRequest<'static> = EditRequest::Change {
+    slot: 31,
+    passphrase: "p",
+    new: "n",
+    iterations: 100000,
+};
+
+const REMOVE: EditRequest<'static> = EditRequest::Remove {
+    slot: 7,
+    passphrase: "p",
+};
+
+/// The words, what they ask to edit of the volume `v`, whether the file `r` has the random bytes, and
+/// whether the payload is there.
+const EDITINGS: [(&[&str], EditRequest<'static>, bool, bool); 9] = [
+    (
+        &[
+            "luks",
+            "add",
+            "v",
+            "--slot=3",
+            "--passphrase=p",
+            "--new=n",
+            "--random=r",
+        ],
+        ADD,
+        true,
+        true,
+    ),
+    (
+        &[
+            "luks",
+            "add",
+            "--detached",
+            "--to",
+            "31",
+            "--iterations",
+            "1000",
+            "--random",
+            "r",
+            "--new",
+            "n",
+            "--passphrase",
+            "p",
+            "--slot",
+            "0",
+            "v",
+        ],
+        ADD_TO,
+        true,
+        false,
+    ),
+    (
+        &[
+            "luks",
+            "change",
+            "v",
+            "--slot=31",
+            "--passphrase=p",
+            "--new=n",
+            "--random=r",
+        ],
+        CHANGE,
+        true,
+        true,
+    ),
+    (
+        &["luks", "remove", "v", "--slot=7", "--passphrase=p"],
+        REMOVE,
+        false,
+        true,
+    ),
+    (
+        &[
+            "luks",
+            "remove",
+            "v",
+            "--slot=7",
+            "--passphrase=p",
+            "--random=r",
+            "--detached",
+        ],
+        REMOVE,
+        true,
+        false,
+    ),
+    (&["luks", "repair", "v"], EditRequest::Repair, false, true),
+    (
+        &["luks", "repair", "v", "--random=r", "--detached"],
+        EditRequest::Repair,
+        true,
+        false,
+    ),
+    (
+        &["luks", "label", "v", "", "--random=r"],
+        EditRequest::Label { text: "" },
+        true,
+        true,
+    ),
+    (
+        &["luks", "label", "--detached", "--random=r", "--", "v", "-t"],
+        EditRequest::Label { text: "-t" },
+        true,
+        false,
+    ),
+];
+
+#[test]
+fn editings(rt: HostRuntime) -> Result<(), Fail> {
+    for (i, (words, request, has_random, is_here)) in EDITINGS.into_iter().enumerate() {
+        let found = line(rt.alloc(), words)?;
+        let random = if has_random { Some("r") } else { None };
+        let data_ = if is_here { Data::Here } else { Data::Elsewhere };
+        let command = Command::Edit(Editing {
+            request,
+            random,
+            data_,
+        });
+        assert!(rt;
+            found
+                == Line {
+                    volume: "v",
+                    command
+                },
+            "row {i}"
+        );
+        assert!(rt; found.passphrase() == request.passphrase(), "row {i}");
+        assert!(rt;
+            found.new_passphrase() == request.new_passphrase(),
+            "row {i}"
+        );
+        assert!(rt; found.random() == random, "row {i}");
+        assert!(rt; found.writes(), "row {i}");
+    }
+    Ok(())
+}
+
 #[test]
 fn makings(rt: HostRuntime) -> Result<(), Fail> {
     for (i, (words, making)) in MAKINGS.into_iter().enumerate() {
@@ -200,7 +353,7 @@ fn answers(alloc: Global, words: &[&str], part: &str, is_help: bool) -> Result<b
     Ok(text.as_str().contains(part) && fault.use_stderr() != is_help && fault.exit_code() == status)
 }
 
-const FAULTS: [(&[&str], &str); 19] = [
+const FAULTS: [(&[&str], &str); 25] = [
     (&["luks"], "subcommand"),
     (&["luks", "check"], "<VOLUME>"),
     (&["luks", "check", "a", "b"], "'b'"),
@@ -276,6 +429,47 @@ const FAULTS: [(&[&str], &str); 19] = [
         &["luks", "open", "a", "--passphrase=p", "--random=r"],
         "'--random'",
     ),
+    (
+        &["luks", "add", "a", "--slot=0", "--passphrase=p", "--new=n"],
+        "--random <FILE>",
+    ),
+    (
+        &[
+            "luks",
+            "add",
+            "a",
+            "--passphrase=p",
+            "--new=n",
+            "--random=r",
+        ],
+        "--slot <N>",
+    ),
+    (
+        &[
+            "luks",
+            "change",
+            "a",
+            "--slot=0",
+            "--passphrase=p",
+            "--random=r",
+        ],
+        "--new <FILE>",
+    ),
+    (
+        &[
+            "luks",
+            "change",
+            "a",
+            "--slot=0",
+            "--passphrase=p",
+            "--new=n",
+            "--random=r",
+            "--to=1",
+        ],
+        "'--to'",
+    ),
+    (&["luks", "remove", "a", "--passphrase=p"], "--slot <N>"),
+    (&["luks", "label", "a", "--random=r"], "<TEXT>"),
 ];
 
 #[test]
@@ -287,12 +481,17 @@ fn faults_of_usage(rt: HostRuntime) -> Result<(), Fail> {
     Ok(())
 }
 
-const HELPS: [(&[&str], &str); 9] = [
+const HELPS: [(&[&str], &str); 14] = [
     (&["luks", "--help"], "  3  check: accepted, but "),
     (&["luks", "-h"], "luks COMMAND --help"),
     (&["luks", "check", "--help"], "  accepted luks1 areas N "),
     (&["luks", "show", "--help"], "  0  shown, "),
     (&["luks", "open", "-h"], "  no slot opens "),
+    (&["luks", "add", "-h"], "  done slot N "),
+    (&["luks", "change", "-h"], "  done slot N "),
+    (&["luks", "remove", "-h"], "  done "),
+    (&["luks", "repair", "-h"], "  done "),
+    (&["luks", "label", "-h"], "  done "),
     (&["luks", "format", "-h"], "  refused TooSmall "),
     (&["luks", "help", "check"], "  4  device fault, no memory, "),
     (&["luks", "--version"], "luks 0.1.0"),

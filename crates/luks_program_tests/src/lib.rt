@@ -9,6 +9,10 @@ mod check_luks2;
 #[cfg(test)]
 mod command_lines;
 #[cfg(test)]
+mod editing_luks1;
+#[cfg(test)]
+mod editing_luks2;
+#[cfg(test)]
 mod explaining;
 #[cfg(test)]
 mod failing;
@@ -34,6 +38,8 @@ mod printing;
 mod reading;
 #[cfg(test)]
 mod refused_memory;
+#[cfg(test)]
+mod sessions;
 #[cfg(test)]
 mod shapes;
 #[cfg(test)]
