@@ -15,6 +15,17 @@ both_decided A B (inl a) (inl b) = inl (a, b)
 both_decided A B (inl a) (inr b) = inr (λ x. b x.1)
 both_decided A B (inr a) b = inr (λ x. a x.0)
 
+pub three_decided : (A B C : Type 0) → Decided A → Decided B → Decided C → Decided (A × B × C)
+three_decided A B C (inl a) (inl b) (inl c) = inl (a, b, c)
+three_decided A B C (inl a) (inl b) (inr c) = inr (λ x. c x.2)
+three_decided A B C (inl a) (inr b) c = inr (λ x. b x.1)
+three_decided A B C (inr a) b c = inr (λ x. a x.0)
+
+pub one_decided : (A B : Type 0) → Decided A → Decided B → Decided (A ⊎ B)
+one_decided A B (inl a) b = inl (inl a)
+one_decided A B (inr a) (inl b) = inl (inr b)
+one_decided A B (inr a) (inr b) = inr (λ x. elim x [ inl here ↦ a here | inr there ↦ b there ])
+
 pub not_decided : (A : Type 0) → Decided A → Decided (A → ⊥)
 not_decided A (inl a) = inr (λ x. x a)
 not_decided A (inr a) = inl a
@@ -185,6 +196,13 @@ module _ (F : Type 0) (key : F → List ℕ) (faults : F → Type 0) (decide : (
   least_or_none cs all = elim (search_candidates cs) [
     | inl found ↦ inl (found.0, (found.1.0, λ h is. found.1.1 h (all h is) is))
     | inr none ↦ inr (λ h is. none h (all h is) is)
+  ]
+
+  -- it is enough that a candidate has the same key
+  pub least_or_none_by_key : (cs : List F) → ((f : F) → faults f → (g : F) × Among g cs × faults g × (key g ≡ key f)) → LeastOrNone F key faults
+  least_or_none_by_key cs all = elim (search_candidates cs) [
+    | inl found ↦ inl (found.0, (found.1.0, λ h is. let x = all h is in subst (NotAfter (key found.0)) x.3 (found.1.1 x.0 x.1 x.2)))
+    | inr none ↦ inr (λ h is. let x = all h is in none x.0 x.1 x.2)
   ]
 
   pub least_decided : LeastOrNone F key faults → (f : F) → Decided (IsLeast {F = F} key faults f)

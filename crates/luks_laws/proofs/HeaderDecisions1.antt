@@ -27,7 +27,7 @@ use Rattle.luks_laws.proofs.DecidedFacts.{among_each, among_left, among_map, amo
 
 -- ---- the header
 
-uuid_decided : (text : List ℕ) → Decided (IsUuid text)
+pub uuid_decided : (text : List ℕ) → Decided (IsUuid text)
 uuid_decided text = elim (cases_eq (length text) 36) [
   | inl long ↦ elim (some_below_decided (λ k. is_uuid_byte k (slice_index text k) ≡ true → ⊥) (λ k. not_decided (is_uuid_byte k (slice_index text k) ≡ true) (true_decided (is_uuid_byte k (slice_index text k)))) 36) [
     | inl bad ↦ inr (λ u. bad.2 (u.digits bad.0 bad.1))
@@ -132,7 +132,7 @@ among_heads h head.Memory bad = absurd bad
 
 -- ---- the areas
 
-same_area : (a b : TheArea) → a.start ≡ b.start → a.len ≡ b.len → a ≡ b
+pub same_area : (a b : TheArea) → a.start ≡ b.start → a.len ≡ b.len → a ≡ b
 same_area a b starts lens = let P : ℕ → TheArea = λ s. record { start = s; len = a.len } in let Q : ℕ → TheArea = λ l. record { start = b.start; len = l } in ap P starts ∙ ap Q lens
 
 module _ (h : List ℕ) (payload : Data) (total : ℕ) where

@@ -11,3 +11,6 @@ pub mod HeaderDecisions1
 pub mod KeyslotDecisions1
 pub mod EditDecisions1
 pub mod VolumeDecisions1
+pub mod PlaceDecisions2
+pub mod HeaderDecisions2
+pub mod VolumeDecisions

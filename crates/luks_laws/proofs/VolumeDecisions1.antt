@@ -1,4 +1,4 @@
--- Of a LUKS1 volume it is told what stands: its first fault, what a keyslot opens to, why an edit is refused.
+-- Of a LUKS1 volume it is told what stands: what a keyslot opens to, and why an edit is refused.
 use Rattle.std.proofs.Common.{◌≡◌, ◌⊎◌, ℕ, List, length, Option, subst, inl, inr}
 use Rattle.luks_area.specs.Ranges.{part}
 use Rattle.luks_head.specs.Selection.{Choice, luks1, Chosen}
@@ -8,7 +8,7 @@ use Rattle.luks_reading.specs.declared.open_fault.OpenFault.{OpenFault}
 use Rattle.luks_reading.specs.declared.report.Data.{Data}
 use Rattle.luks_reading.specs.Agreement.{IsSameAnswer}
 use Rattle.luks_reading.specs.Answer.{Answer, IsLuks1Refusal, IsRefusal, IsRefusalAs, open_key, Opened, opened_to, refused}
-use Rattle.luks_reading.specs.Checked.{check_key, First, IsFault, IsFaultAs, IsLuks1Fault, WellFormed}
+use Rattle.luks_reading.specs.Checked.{IsFault, IsFaultAs, IsLuks1Fault}
 use Rattle.luks_edit.specs.declared.edit.Edit.{Edit}
 use Rattle.luks_edit.specs.declared.edit_fault.EditFault.{EditFault}
 use Rattle.luks_edit.specs.EditFaults.{edit_key}
@@ -16,7 +16,7 @@ use Rattle.luks1_edits.specs.Refused.{IsEditFault1, IsUnrefused1, Refusal1}
 use Rattle.luks_volume.specs.Edits.{IsEditFault, IsEditFaultAs, IsUnrefused, Refusal}
 use Rattle.luks_laws.proofs.DecidedFacts.{alike_decided, carry_least, Decided, LeastOrNone}
 use Rattle.luks_laws.proofs.EditDecisions1.{edit_refusal_or_none}
-use Rattle.luks_laws.proofs.HeaderDecisions1.{among_checks, check_candidates, luks1_fault_decided, luks1_least_or_none}
+use Rattle.luks_laws.proofs.HeaderDecisions1.{among_checks, check_candidates, luks1_fault_decided}
 use Rattle.luks_laws.proofs.KeyslotDecisions1.{luks1_refusal_decided, luks1_refusal_or_none}
 
 module _ (only : (v : List ℕ) (b c : Choice) → Chosen v b → Chosen v c → b ≡ c) (v : List ℕ) (chosen : Chosen v luks1) where
@@ -34,13 +34,6 @@ module _ (only : (v : List ℕ) (b c : Choice) → Chosen v b → Chosen v c →
 
     among_faults : (f : CheckFault) → IsFault v payload f → Among f check_candidates
     among_faults f is = among_checks (part v 0 592) payload (length v) f (of_fault f is)
-
-    pub fault_or_well_formed : (((f : CheckFault) → IsFault v payload f → ⊥) → WellFormed v payload) → ((f : CheckFault) × First v payload f) ⊎ WellFormed v payload
-    fault_or_well_formed formed =
-        elim (carry_least CheckFault check_key (IsLuks1Fault (part v 0 592) payload (length v)) (IsFault v payload) to_fault of_fault (luks1_least_or_none (part v 0 592) payload (length v))) [
-          | inl first ↦ inl first
-          | inr none ↦ inr (formed none)
-        ]
 
   -- ---- a keyslot
 

@@ -1,6 +1,6 @@
-//! Laws that something always stands. The logic has no excluded middle, so those of both versions
-//! say it of the other case: where no first fault stands, none does. Of LUKS1 the one or the other
-//! is told, by deciding each fault that may stand.
+//! Laws that something always stands. Where each fault that may stand is decided, the one or the
+//! other is told. The logic has no excluded middle, so the other laws speak of the second case:
+//! where no first refusal stands, none does.
 ghost use Rattle.std.specs.Prelude.{◌⊎◌, ℕ, List, Option};
 ghost use Rattle.luks_head.specs.Selection.{luks1, Chosen};
 ghost use Rattle.luks_reading.specs.declared.report.Data.{Data as Payload};
@@ -13,15 +13,18 @@ ghost use Rattle.luks_volume.specs.Edits.{IsUnrefused, Refusal};
 
 use luks_edit::EditFault;
 use luks_head::one_choice;
-use luks_json::names_say_numbers;
+use luks_json::{names_say_numbers, one_kind_of_area, one_value};
 use luks_meta::metadata_without_faults;
 use luks_reading::{CheckFault, OpenFault, no_fault_is_well_formed, one_answer};
 
-/// A volume that has no first fault is well formed.
+/// A volume has a first fault, or it is well formed.
 pub fn first_fault_or_well_formed()
     ensures { (v : List ℕ) (payload : Payload)
-        → ((f : CheckFault) → First v payload f → ⊥) → WellFormed v payload }
+        → ((f : CheckFault) × First v payload f) ⊎ WellFormed v payload }
 {
+    one_kind_of_area();
+    one_value();
+    one_choice();
     no_fault_is_well_formed();
 }
 
@@ -49,11 +52,9 @@ pub fn first_refusal_or_unrefused()
         → IsUnrefused v payload e random }
 {}
 
-/// Of a LUKS1 volume it is told which of the two stands: its first fault or that it is well formed,
-/// what a keyslot opens to, and why an edit is refused or that nothing refuses it.
+/// Of a LUKS1 volume a keyslot has an answer by each passphrase, and an edit has a first refusal or
+/// is refused by nothing.
 pub fn luks1_is_decided()
-    ensures fault { (v : List ℕ) (payload : Payload) → Chosen v luks1
-        → ((f : CheckFault) × First v payload f) ⊎ WellFormed v payload }
     ensures answer { (v : List ℕ) (n : ℕ) (p : List ℕ) → Chosen v luks1
         → (a : Opened) × Answer v n p a }
     ensures edit { (v : List ℕ) (payload : Payload) (e : TheEdit) (random : List ℕ)
@@ -66,6 +67,5 @@ pub fn luks1_is_decided()
     names_say_numbers();
     one_choice();
     metadata_without_faults();
-    no_fault_is_well_formed();
     one_answer();
 }

@@ -1,5 +1,5 @@
 use Rattle.luks_laws.proofs.AnswerFacts.{answer_unrefused}
-use Rattle.luks_laws.proofs.VolumeDecisions1.{fault_or_well_formed, refusal1_or_unrefused, refusal_or_unrefused, some_answer}
+use Rattle.luks_laws.proofs.VolumeDecisions1.{refusal1_or_unrefused, refusal_or_unrefused, some_answer}
 use Rattle.luks_laws.proofs.laws.luks1_is_decided.Goals as goal
 
 pub returns : goal.returns
@@ -8,7 +8,6 @@ returns c =
     let unrefused = answer_unrefused c.names_say_numbers.ensures.says c.metadata_without_faults.ensures c.one_choice.ensures.some in
     let one = c.one_answer.ensures in
     record {
-      fault = λ v payload chosen. fault_or_well_formed only v chosen payload (c.no_fault_is_well_formed.ensures v payload).1;
       answer = λ v n p chosen. some_answer only v chosen (unrefused v) n p;
       edit = λ v payload e random chosen. refusal1_or_unrefused only v chosen (unrefused v) (one v) payload e random;
       volume = λ v payload e random chosen. refusal_or_unrefused only v chosen (unrefused v) (one v) payload e random;

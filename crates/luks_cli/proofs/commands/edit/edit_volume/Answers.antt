@@ -16,14 +16,14 @@ returns-clause-left g c =
     let p = c.as_slice.result.now in
     let q = c.as_slice-2.result.now in
     let old : IfSome (edit_passphrase_of request) (λ name. IsOld p) =
-        some_as (λ name. name.now) c.passphrase.result (edit_passphrase_of request) (IsOld p) c.passphrase.ensures
-        (subst (λ x. IfSome c.passphrase.result (λ name. IsOld x)) (sym c.as_slice.ensures.value) c.in-Ok.ensures.whole) in
+    some_as (λ name. name.now) c.passphrase.result (edit_passphrase_of request) (IsOld p) c.passphrase.ensures
+    (subst (λ x. IfSome c.passphrase.result (λ name. IsOld x)) (sym c.as_slice.ensures.value) c.in-Ok.ensures.whole) in
     let fresh : IfSome (edit_new_of request) (λ name. IsNew q) =
-        some_as (λ name. name.now) c.new_passphrase.result (edit_new_of request) (IsNew q) c.new_passphrase.ensures
-        (subst (λ x. IfSome c.new_passphrase.result (λ name. IsNew x)) (sym c.as_slice-2.ensures.value) c.in-Ok-words.ensures.whole) in
+    some_as (λ name. name.now) c.new_passphrase.result (edit_new_of request) (IsNew q) c.new_passphrase.ensures
+    (subst (λ x. IfSome c.new_passphrase.result (λ name. IsNew x)) (sym c.as_slice-2.ensures.value) c.in-Ok-words.ensures.whole) in
     let edit : Edit = c.edit_of-edit.result in
     let asks : (e : Edit) → e ≡ edit → IsAsked request IsOld IsNew e =
-        λ e is. subst (IsAsked request IsOld IsNew) (sym is) (asked_of request IsOld IsNew p q edit old fresh c.edit_of-edit.ensures) in
+    λ e is. subst (IsAsked request IsOld IsNew) (sym is) (asked_of request IsOld IsNew p q edit old fresh c.edit_of-edit.ensures) in
     rw c.in-Ok-volume.is (record {
       size = c.edit_device.ensures.size;
       said = λ tells. says_as c.args.editing.now.data_ (given_edit edit HasRandom)
@@ -38,7 +38,7 @@ returns-clause-keeps g c =
     let q = c.as_slice-2.result.now in
     let edit : Edit = c.edit_of-edit.result in
     rw c.in-Ok-volume.is (λ tells well same.
-        let v = g.D.Device.bytes c.in-Ok-volume.device in
-        keeps_fewer c.args.editing.now.data_ (NamedSlots v edit) (NamesSlot request v) v _
-        (λ n named. record { edit = edit; asked = asked_somehow request (λ x. x ≡ p) (λ x. x ≡ q) edit c.edit_of-edit.ensures; named = named })
-        (c.edit_device.ensures.keeps tells well same))
+    let v = g.D.Device.bytes c.in-Ok-volume.device in
+    keeps_fewer c.args.editing.now.data_ (NamedSlots v edit) (NamesSlot request v) v _
+    (λ n named. record { edit = edit; asked = asked_somehow request (λ x. x ≡ p) (λ x. x ≡ q) edit c.edit_of-edit.ensures; named = named })
+    (c.edit_device.ensures.keeps tells well same))
