@@ -1,0 +1,1 @@
+//! Laws on the area of a new keyslot.
