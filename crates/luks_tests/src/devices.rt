@@ -92,13 +92,22 @@ fn first_bytes_are_read_once(rt: HostRuntime) -> Result<(), Fail> {
     let mut two = [0; 2];
     let mut three = [0; 3];
     let went_on = device.read_at(0, &mut two).is_ok() && device.read_at(2, &mut three).is_ok();
-    assert!(rt; went_on && two == [1, 2] && three == [3, 4, 5], "two calls of the device");
+    assert!(rt;
+        went_on && two == [1, 2] && three == [3, 4, 5],
+        "two calls of the device"
+    );
     let mut five = [0; 5];
     let again = device.read_at(3, &mut two).is_ok() && device.read_at(0, &mut five).is_ok();
-    assert!(rt; again && two == [4, 5] && five == [1, 2, 3, 4, 5], "from memory, without a call");
+    assert!(rt;
+        again && two == [4, 5] && five == [1, 2, 3, 4, 5],
+        "from memory, without a call"
+    );
     let mut six = [0; 6];
     let failed = device.read_at(0, &mut six).is_err();
-    assert!(rt; failed && device.failures() == 1, "the third call, for a byte that wasn't read");
+    assert!(rt;
+        failed && device.failures() == 1,
+        "the third call, for a byte that wasn't read"
+    );
     Ok(())
 }
 
@@ -106,7 +115,10 @@ fn first_bytes_are_read_once(rt: HostRuntime) -> Result<(), Fail> {
 fn other_bytes_are_read_each_time(rt: HostRuntime) -> Result<(), Fail> {
     let mut device = cached(rt.alloc(), 1)?;
     let mut two = [0; 2];
-    assert!(rt; device.read_at(3, &mut two).is_ok() && two == [4, 5], "behind the first byte");
+    assert!(rt;
+        device.read_at(3, &mut two).is_ok() && two == [4, 5],
+        "behind the first byte"
+    );
     assert!(rt; device.read_at(3, &mut two).is_err(), "a second call");
     Ok(())
 }
@@ -115,10 +127,16 @@ fn other_bytes_are_read_each_time(rt: HostRuntime) -> Result<(), Fail> {
 fn written_bytes_are_read_anew(rt: HostRuntime) -> Result<(), Fail> {
     let mut device = cached(rt.alloc(), 9)?;
     let mut six = [0; 6];
-    assert!(rt; device.read_at(0, &mut six).is_ok() && six == [1, 2, 3, 4, 5, 6], "as they were");
+    assert!(rt;
+        device.read_at(0, &mut six).is_ok() && six == [1, 2, 3, 4, 5, 6],
+        "as they were"
+    );
     let wrote = device.write_at(1, &[8, 9]).is_ok() && device.flush().is_ok();
     assert!(rt; wrote && device.failures() == 0, "written");
-    assert!(rt; device.read_at(0, &mut six).is_ok() && six == [1, 8, 9, 4, 5, 6], "as they are");
+    assert!(rt;
+        device.read_at(0, &mut six).is_ok() && six == [1, 8, 9, 4, 5, 6],
+        "as they are"
+    );
     Ok(())
 }
 
@@ -126,13 +144,21 @@ fn written_bytes_are_read_anew(rt: HostRuntime) -> Result<(), Fail> {
 fn no_more_is_remembered_than_there_is_room_for(rt: HostRuntime) -> Result<(), Fail> {
     let inner = MemDevice::new(vec![in rt.alloc(); 7; ROOM + 2]?);
     let mut device = CachedDevice::new(FaultyDevice::new(inner, 3, Leave::Old));
-    let mut most = [0; ROOM];
+    let mut most = vec![in rt.alloc(); 0; ROOM]?;
     let mut one = [0];
-    let read = device.read_at(0, &mut most).is_ok() && device.read_at(ROOM as u64, &mut one).is_ok();
-    assert!(rt; read && most == [7; ROOM] && one == [7], "two calls");
-    assert!(rt; device.read_at(ROOM as u64 - 1, &mut one).is_ok() && one == [7], "from memory");
-    assert!(rt; device.read_at(ROOM as u64, &mut one).is_ok(), "a third call");
-    assert!(rt; device.read_at(ROOM as u64, &mut one).is_err(), "a fourth one");
+    let end = ROOM as u64;
+    let read = device.read_at(0, most.as_mut_slice()).is_ok()
+        && device.read_at(end, &mut one).is_ok();
+    assert!(rt;
+        read && most.iter().all(|byte| *byte == 7) && one == [7],
+        "two calls"
+    );
+    assert!(rt;
+        device.read_at(end - 1, &mut one).is_ok() && one == [7],
+        "from memory"
+    );
+    assert!(rt; device.read_at(end, &mut one).is_ok(), "a third call");
+    assert!(rt; device.read_at(end, &mut one).is_err(), "a fourth one");
     Ok(())
 }
 
