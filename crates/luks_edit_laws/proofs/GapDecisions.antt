@@ -2,6 +2,7 @@
 use Rattle.std.proofs.Common.{◌⊎◌, ℕ, zero, suc, ◌+◌, ◌≤◌, ◌<◌, sym, subst, arith, inl, inr}
 use Rattle.std.proofs.lemmas.Bool.{cases_eq, cases_lt}
 use Rattle.luks_area.specs.declared.area.Area.{Area}
+use Rattle.luks_area.specs.declared.area.AreaName.{AreaName}
 use Rattle.luks_area.specs.Area.{AreDisjoint}
 
 -- ---- decisions
@@ -10,7 +11,7 @@ use Rattle.luks_area.specs.Area.{AreDisjoint}
 abbrev pub Decided : Type 0 → Type 0
 Decided A = A ⊎ (A → ⊥)
 
--- two facts hold, or one of them doesn't
+-- two facts hold both, or they don't
 pub both_decided : (A B : Type 0) → Decided A → Decided B → Decided (A × B)
 both_decided A B (inl a) (inl b) = inl (a, b)
 both_decided A B (inl a) (inr b) = inr (λ x. b x.1)
@@ -21,9 +22,11 @@ pub alike_decided : (A B : Type 0) → (A → B) → (B → A) → Decided A →
 alike_decided A B into back (inl a) = inl (into a)
 alike_decided A B into back (inr a) = inr (λ b. a (back b))
 
+-- a number is below another one, or it isn't
 pub less_decided : (a b : ℕ) → Decided (a < b)
 less_decided a b = elim (cases_lt a b) [ inl low ↦ inl low | inr high ↦ inr (λ low. absurd (omega (arith, low, high))) ]
 
+-- a number is at most another one, or it isn't
 pub at_most_decided : (a b : ℕ) → Decided (a ≤ b)
 at_most_decided a b = elim (cases_lt b a) [ inl over ↦ inr (λ low. absurd (omega (arith, low, over))) | inr low ↦ inl low ]
 
@@ -74,3 +77,7 @@ disjoint_decided a b = elim (cases_lt b.start a.start) [
       (in_order_decided b a (omega (arith, first)))
   | inr second ↦ in_order_decided a b second
 ]
+
+-- no area of the set meets the area `x`
+abbrev pub IsBeside : (AreaName → Area → Type 0) → Area → Type 0
+IsBeside areas x = (n : AreaName) (a : Area) → areas n a → AreDisjoint a x

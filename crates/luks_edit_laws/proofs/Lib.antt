@@ -1,4 +1,8 @@
 pub mod GapDecisions
+pub mod GapPlaces
+pub mod GapAreas
+pub mod GapNumbers
+pub mod GapVolumes
 pub mod LeastDecisions
 pub mod MemberDecisions2
 pub mod RowDecisions2

@@ -2,3 +2,5 @@
 #![tactic(auto)]
 
 mod gaps;
+
+pub use gaps::area_or_no_room;
