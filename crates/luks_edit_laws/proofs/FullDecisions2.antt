@@ -52,19 +52,23 @@ added_alike to other by f g j new x =
       },
     )
 
+-- a keyslot is added, or its members or its digest aren't there
 added_or_none : (to by : ℕ) (f : NewMembers) (j : Value) → SomeOrNone Value (IsAdded to by f j)
 added_or_none to by f j = elim (object_or_none j by) [
   | inl d ↦ elim (made_or_none d.0 f) [
     | inl s ↦ elim (digest_or_none j by) [
-      | inl m ↦ inl (with_slot to m.0 s.0 j, record {
-        from = d.0;
-        there = record { numbered = refl; named = d.1.0; is = d.1.1 };
-        slot = s.0;
-        made = s.1;
-        digest = m.0;
-        names = m.1;
-        is = refl;
-      })
+      | inl m ↦ inl (
+        with_slot to m.0 s.0 j,
+        record {
+          from = d.0;
+          there = record { numbered = refl; named = d.1.0; is = d.1.1 };
+          slot = s.0;
+          made = s.1;
+          digest = m.0;
+          names = m.1;
+          is = refl;
+        },
+      )
       | inr none ↦ inr (λ k x. none x.digest x.names)
     ]
     | inr none ↦ inr (λ k x. none x.slot (subst (λ o. IsMadeFrom o f x.slot) (some_same x.from d.0 (sym x.there.is ∙ d.1.1)) x.made))
@@ -76,6 +80,7 @@ added_or_none to by f j = elim (object_or_none j by) [
 
 module _ (h total : ℕ) (payload : Data) (j : Value)
     (area : (n : ℕ) → IsInUse j n → ((a : Area) × IsNewArea h total payload j n a) ⊎ HasNoNewArea h total payload j n) where
+  -- an addition makes a value, or it lacks a number, an area, a member or a digest
   add_or_none : (by : ℕ) (to : Option ℕ) (iterations : ℕ) (salt : List ℕ) → SomeOrNone Value (HasAdded h total payload by to iterations salt j)
   add_or_none by to iterations salt = elim (new_number j to) [
     | inl n ↦ elim (area_or_none h total payload j area by) [
@@ -88,12 +93,14 @@ module _ (h total : ℕ) (payload : Data) (j : Value)
     | inr none ↦ inr (λ k x. none x.slot x.is_new)
   ]
 
+  -- a change makes a value, or it lacks an area
   change_or_none : (slot iterations : ℕ) (salt : List ℕ) → SomeOrNone Value (HasChanged h total payload slot iterations salt j)
   change_or_none slot iterations salt = elim (area_or_none h total payload j area slot) [
     | inl a ↦ inl (changed_slot slot (members_of iterations salt a.0) j, record { area = a.0; place = a.1; is = refl })
     | inr none ↦ inr (λ k x. none x.area x.place)
   ]
 
+  -- an edit makes a value with a salt, or it makes none
   edited_or_none : (e : Edit) (salt : List ℕ) → SomeOrNone Value (IsEdited h total payload e salt j)
   edited_or_none (Add by_ old new to iterations) salt = add_or_none by_ to iterations salt
   edited_or_none (Change slot old new iterations) salt = change_or_none slot iterations salt
@@ -114,18 +121,22 @@ salted_anew h total payload (Label text) a b j x is = (x, is)
 
 -- ---- its text
 
+-- a salt of zeros
 zero_salt : List ℕ
 zero_salt = replicate 32 0
 
+-- its places hold bytes
 zero_at : (n i : ℕ) → slice_index (replicate n 0) i < 256
 zero_at zero i = omega arith
 zero_at (suc n) zero = omega arith
 zero_at (suc n) (suc i) = zero_at n i
 
+-- it is of bytes
 zeros_are_bytes : IsBytes zero_salt
 unfolding zero_salt
 zeros_are_bytes i = zero_at 32 i
 
+-- and has the length of a salt
 zero_salt_length : length zero_salt ≡ 32
 unfolding zero_salt
 zero_salt_length = length-replicate {A = ℕ} 32 0
@@ -142,6 +153,7 @@ module _ (h total : ℕ) (payload : Data) (j : Value)
         (alike x.salt zero_salt x.new new x.salt_bytes zeros_are_bytes (x.salt_length ∙ sym zero_salt_length) x.edited is) x.full))
   ]
 
+  -- the text of the metadata that an edit makes is too long, or it isn't, or there is none
   pub full_decided : Decided (IsFull h total payload j e)
   full_decided = elim (edited_or_none h total payload j area e zero_salt) [
     | inl new ↦ full_by_zeros new.0 new.1

@@ -7,13 +7,16 @@ use Rattle.luks_edit_laws.proofs.GapDecisions.{Decided}
 
 -- ---- decisions
 
+-- a test holds, or it doesn't
 pub true_decided : (b : Bool) → Decided (b ≡ true)
 true_decided b = elim (cases_Bool b) [ inl passed ↦ inl passed | inr failed ↦ inr (λ passed. true≢false (sym passed ∙ failed)) ]
 
+-- that a fact doesn't hold is decided with the fact
 pub not_decided : (A : Type 0) → Decided A → Decided (A → ⊥)
 not_decided A (inl a) = inr (λ x. x a)
 not_decided A (inr a) = inl a
 
+-- of two facts one holds, or neither does
 pub one_decided : (A B : Type 0) → Decided A → Decided B → Decided (A ⊎ B)
 one_decided A B (inl a) b = inl (inl a)
 one_decided A B (inr a) (inl b) = inl (inr b)
@@ -23,6 +26,7 @@ one_decided A B (inr a) (inr b) = inr (λ x. elim x [ inl here ↦ a here | inr 
 abbrev pub SomeOrNone : (A : Type 0) → (A → Type 0) → Type 0
 SomeOrNone A P = ((a : A) × P a) ⊎ ((a : A) → P a → ⊥)
 
+-- an option holds one value
 pub some_same : {A : Type 0} (x y : A) → Some x ≡ Some y → x ≡ y
 some_same x y e = cc
 
@@ -31,8 +35,23 @@ pub held_or_none : {A : Type 0} (o : Option A) → SomeOrNone A (λ x. o ≡ Som
 held_or_none None = inr (λ x e. cc)
 held_or_none (Some x) = inl (x, refl)
 
+-- ---- numbers
+
+-- one number has the property, or none has it
+abbrev pub OneOrNone : (ℕ → Type 0) → Type 0
+OneOrNone P = ((k : ℕ) × P k × ((m : ℕ) → P m → m ≡ k)) ⊎ ((k : ℕ) → P k → ⊥)
+
+-- so there is such a number that isn't `n`, or there isn't
+pub other_decided : (P : ℕ → Type 0) → OneOrNone P → (n : ℕ) → Decided ((k : ℕ) × P k × (n ≡ k → ⊥))
+other_decided P (inl found) n = elim (cases_eq n found.0) [
+  | inl same ↦ inr (λ x. x.2 (same ∙ sym (found.2 x.0 x.1)))
+  | inr other ↦ inl (found.0, found.1, other)
+]
+other_decided P (inr none) n = inr (λ x. none x.0 x.1)
+
 -- ---- keys
 
+-- no key stands after itself
 not_after_itself : (xs : List ℕ) → NotAfter xs xs
 not_after_itself [] = tt
 not_after_itself (x ∷ xs) = (omega arith, λ _. not_after_itself xs)
@@ -52,6 +71,7 @@ one_not_after (x ∷ xs) (y ∷ ys) = elim (cases_eq x y) [
   ]
 ]
 
+-- keys stand in one order
 not_after_trans : (xs ys zs : List ℕ) → NotAfter xs ys → NotAfter ys zs → NotAfter xs zs
 not_after_trans [] ys zs a b = tt
 not_after_trans (x ∷ xs) [] zs a b = absurd a
@@ -104,6 +124,7 @@ module _ (F : Type 0) (key : F → List ℕ) (faults : F → Type 0) where
   )
 
   module _ (decide : (f : F) → Decided (faults f)) where
+    -- a list of faults has a first one that stands, or none
     first_among : (cs : List F) → ((g : F) × FirstAmong cs g) ⊎ ((h : F) → Among h cs → faults h → ⊥)
     first_among [] = inr (λ h at is. at)
     first_among (c ∷ cs) = elim (decide c) [

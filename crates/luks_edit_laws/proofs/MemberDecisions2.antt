@@ -19,6 +19,7 @@ use Rattle.luks_edit_laws.proofs.LeastDecisions.{held_or_none, not_decided, some
 
 -- ---- keyslots in use and free
 
+-- a keyslot is in use, or it isn't
 pub in_use_decided : (j : Value) (n : ℕ) → Decided (IsInUse j n)
 in_use_decided j n = both_decided _ _ (less_decided n 32) (true_decided (is_some (object_at j Keyslots n)))
 
@@ -27,16 +28,19 @@ none_decided : {A : Type 0} (o : Option A) → Decided (o ≡ None)
 none_decided None = inl refl
 none_decided (Some x) = inr (λ e. cc)
 
+-- a number is free, or it isn't
 free_decided : (j : Value) (n : ℕ) → Decided (IsFree j n)
 free_decided j n = alike_decided ((n < 32) × (object_at j Keyslots n ≡ None)) (IsFree j n)
     (λ x. record { small = x.0; free = x.1 }) (λ x. (x.small, x.free)) (both_decided _ _ (less_decided n 32) (none_decided (object_at j Keyslots n)))
 
+-- there is a least number that is free, or none is
 least_free : (j : Value) → SomeOrNone ℕ (IsLeastFree j)
 least_free j = elim (least_or_none_below (IsFree j) (free_decided j) 32) [
   | inl found ↦ inl (found.0, record { free = found.1; least = found.2 })
   | inr none ↦ inr (λ n x. none n x.free.small x.free)
 ]
 
+-- no number is free, or some is
 pub none_free_decided : (j : Value) → Decided ((n : ℕ) → IsFree j n → ⊥)
 none_free_decided j = elim (least_or_none_below (IsFree j) (free_decided j) 32) [
   | inl found ↦ inr (λ none. none found.0 found.1)
@@ -65,12 +69,15 @@ pub stripes_or_none : (j : Value) (n : ℕ) → SomeOrNone (ℕ × ℕ) (λ x. H
 stripes_or_none j n = elim (object_or_none j n) [
   | inl d ↦ elim (held_or_none (number_in 1 128 (inside_at outer.Top (codes "key_size") d.0))) [
     | inl key ↦ elim (held_or_none (number_in 1 4294967295 (inside_at outer.Af (codes "stripes") d.0))) [
-      | inl stripes ↦ inl ((key.0, stripes.0), record {
-        object = d.0;
-        there = record { numbered = refl; named = d.1.0; is = d.1.1 };
-        key_bytes_are = key.1;
-        stripes_are = stripes.1;
-      })
+      | inl stripes ↦ inl (
+        (key.0, stripes.0),
+        record {
+          object = d.0;
+          there = record { numbered = refl; named = d.1.0; is = d.1.1 };
+          key_bytes_are = key.1;
+          stripes_are = stripes.1;
+        },
+      )
       | inr none ↦ inr (λ x y. none x.1 (subst (λ o. number_in 1 4294967295 (inside_at outer.Af (codes "stripes") o) ≡ Some x.1)
           (some_same y.object d.0 (sym y.there.is ∙ d.1.1)) y.stripes_are))
     ]
@@ -81,12 +88,15 @@ stripes_or_none j n = elim (object_or_none j n) [
 ]
 
 module _ (j : Value) (n a b c d : ℕ) (x : HasStripes j n a b) (y : HasStripes j n c d) where
+  -- a keyslot has one object
   one_object : x.object ≡ y.object
   one_object = some_same x.object y.object (sym x.there.is ∙ y.there.is)
 
+  -- and one length of its key
   pub one_key_length : a ≡ c
   one_key_length = some_same a c (sym x.key_bytes_are ∙ ap (λ o. number_in 1 128 (inside_at outer.Top (codes "key_size") o)) one_object ∙ y.key_bytes_are)
 
+  -- and one number of stripes
   pub one_stripes : b ≡ d
   one_stripes = some_same b d (sym x.stripes_are ∙ ap (λ o. number_in 1 4294967295 (inside_at outer.Af (codes "stripes") o)) one_object ∙ y.stripes_are)
 
@@ -153,6 +163,7 @@ held_decided test o = elim (held_or_none o) [
   | inr none ↦ inr (λ y is. none y is.0)
 ]
 
+-- a digest names a keyslot, or it doesn't
 pub digest_decided : (j : Value) (n m : ℕ) → Decided (IsDigestOf j n m)
 digest_decided j n m = elim (both_decided (IsInUse j n) (m < 32) (in_use_decided j n) (less_decided m 32)) [
   | inl low ↦ elim (held_decided (λ d. names (number_text n) (get (codes "keyslots") d)) (object_at j Digests m)) [
@@ -162,6 +173,7 @@ digest_decided j n m = elim (both_decided (IsInUse j n) (m < 32) (in_use_decided
   | inr high ↦ inr (λ x. high ((x.named, x.keyslot), x.numbered))
 ]
 
+-- some digest names a keyslot, or none does
 pub digest_or_none : (j : Value) (n : ℕ) → SomeOrNone ℕ (IsDigestOf j n)
 digest_or_none j n = elim (least_or_none_below (IsDigestOf j n) (digest_decided j n) 32) [
   | inl found ↦ inl (found.0, found.1)

@@ -10,45 +10,32 @@ use Rattle.luks_reading.specs.declared.report.Data.{Data}
 use Rattle.luks_reading.specs.Layout2.{Luks2Area}
 use Rattle.luks_edit.specs.declared.edit.Edit.{Edit}
 use Rattle.luks_edit.specs.declared.edit.Edit.TheVariants.{Add, Change, Label, Remove, Repair}
-use Rattle.luks_edit.specs.Asked.{HasFewIterations, OpensBy}
+use Rattle.luks_edit.specs.Asked.{OpensBy}
 use Rattle.luks2_edits.specs.Gap.{IsGap}
 use Rattle.luks2_edits.specs.Metadata.{IsInUse}
 use Rattle.luks2_edits.specs.Places.{HasNoNewArea, IsNewArea, key_areas_end, rounded_to_blocks}
 use Rattle.luks2_edits.specs.Refused.{HasNoFree, HasNoNumber, HasNoRoom, IsAbsent, IsBadLabel, IsLast, IsMiscounted, IsNumberTaken, IsOnlyOne, IsTaken, Need2, NeedsLike}
-use Rattle.luks_edit_laws.proofs.GapDecisions.{both_decided, Decided, least_or_none_below, less_decided}
-use Rattle.luks_edit_laws.proofs.LeastDecisions.{not_decided, one_decided, some_same, SomeOrNone, true_decided}
+use Rattle.luks_edit_laws.proofs.AskedDecisions.{opener_decided}
+use Rattle.luks_edit_laws.proofs.GapDecisions.{alike_decided, both_decided, Decided, least_or_none_below, less_decided}
+use Rattle.luks_edit_laws.proofs.LeastDecisions.{not_decided, one_decided, OneOrNone, other_decided, some_same, SomeOrNone, true_decided}
 use Rattle.luks_edit_laws.proofs.MemberDecisions2.{digest_decided, digest_or_none, in_use_decided, none_free_decided, one_key_length, one_stripes, stripes_in_use, stripes_or_none}
 
 -- ---- the keyslot that the edit opens
 
-pub record Opener (e : Edit) : Type 0 where
-  pub slot : ℕ
-  pub passphrase : List ℕ
-  pub asked : OpensBy e slot passphrase
-  pub only : (n : ℕ) (p : List ℕ) → OpensBy e n p → (n ≡ slot) × (p ≡ passphrase)
-
-pub find_opener : (e : Edit) → Opener e ⊎ ((n : ℕ) (p : List ℕ) → OpensBy e n p → ⊥)
-find_opener (Add by_ old new to iterations) = inl (record { slot = by_; passphrase = old.now; asked = (refl, refl); only = λ n p x. x })
-find_opener (Change slot old new iterations) = inl (record { slot = slot; passphrase = old.now; asked = (refl, refl); only = λ n p x. x })
-find_opener (Remove slot passphrase) = inl (record { slot = slot; passphrase = passphrase.now; asked = (refl, refl); only = λ n p x. x })
-find_opener Repair = inr (λ n p x. x)
-find_opener (Label text) = inr (λ n p x. x)
-
+-- that keyslot isn't there, or it is
 pub absent_decided : (j : Value) (e : Edit) → Decided (IsAbsent j e)
-absent_decided j e = elim (find_opener e) [
-  | inl o ↦ elim (in_use_decided j o.slot) [
-    | inl used ↦ inr (λ x. x.unused (subst (IsInUse j) (sym (o.only x.slot x.passphrase x.asked).0) used))
-    | inr unused ↦ inl (record { slot = o.slot; passphrase = o.passphrase; asked = o.asked; unused = unused })
-  ]
-  | inr none ↦ inr (λ x. none x.slot x.passphrase x.asked)
-]
+absent_decided j e = alike_decided ((n : ℕ) × (p : List ℕ) × OpensBy e n p × (IsInUse j n → ⊥)) (IsAbsent j e)
+    (λ x. record { slot = x.0; passphrase = x.1; asked = x.2; unused = x.3 }) (λ x. (x.slot, x.passphrase, x.asked, x.unused))
+    (opener_decided e (λ n p. IsInUse j n → ⊥) (λ n p. not_decided (IsInUse j n) (in_use_decided j n)))
 
 -- ---- the keyslot that the edit makes
 
+-- the number that is asked for is taken, or it isn't
 number_taken_decided : (j : Value) (to : Option ℕ) → Decided (IsNumberTaken j to)
 number_taken_decided j (Some t) = in_use_decided j t
 number_taken_decided j None = inr (λ bad. bad)
 
+-- the same of an edit
 pub taken_decided : (j : Value) (e : Edit) → Decided (IsTaken j e)
 taken_decided j (Add by_ old new to iterations) = number_taken_decided j to
 taken_decided j (Change slot old new iterations) = inr (λ bad. bad)
@@ -56,10 +43,12 @@ taken_decided j (Remove slot passphrase) = inr (λ bad. bad)
 taken_decided j Repair = inr (λ bad. bad)
 taken_decided j (Label text) = inr (λ bad. bad)
 
+-- there is no number for a new keyslot, or there is one
 no_number_decided : (j : Value) (to : Option ℕ) → Decided (HasNoNumber j to)
 no_number_decided j (Some t) = less_decided 31 t
 no_number_decided j None = none_free_decided j
 
+-- the same of an edit
 pub no_free_decided : (j : Value) (e : Edit) → Decided (HasNoFree j e)
 no_free_decided j (Add by_ old new to iterations) = no_number_decided j to
 no_free_decided j (Change slot old new iterations) = inr (λ bad. bad)
@@ -74,12 +63,13 @@ room_or_area : (h total : ℕ) (payload : Data) (j : Value) (n : ℕ) → HasNoN
 room_or_area h total payload j n x a y =
     let region : y.region ≡ x.region = some_same y.region x.region (sym y.region_is ∙ x.region_is) in
     let len : a.len ≡ rounded_to_blocks (x.key_bytes * x.stripes) = y.len ∙ ap (λ k. rounded_to_blocks (k * y.stripes)) (one_key_length j n _ _ _ _ y.slot x.slot)
-        ∙ ap (λ s. rounded_to_blocks (x.key_bytes * s)) (one_stripes j n _ _ _ _ y.slot x.slot) in
+    ∙ ap (λ s. rounded_to_blocks (x.key_bytes * s)) (one_stripes j n _ _ _ _ y.slot x.slot) in
     x.none a.start (subst (λ l. IsGap (Luks2Area j h payload total) (2 * h) (key_areas_end h total x.region) l a.start) len
-        (subst (λ r. IsGap (Luks2Area j h payload total) (2 * h) (key_areas_end h total r) a.len a.start) region y.gap.gap))
+    (subst (λ r. IsGap (Luks2Area j h payload total) (2 * h) (key_areas_end h total r) a.len a.start) region y.gap.gap))
 
 module _ (h total : ℕ) (payload : Data) (j : Value)
     (area : (n : ℕ) → IsInUse j n → ((a : Area) × IsNewArea h total payload j n a) ⊎ HasNoNewArea h total payload j n) where
+  -- a keyslot that is made like `n` has its area, or none
   pub area_or_none : (n : ℕ) → SomeOrNone Area (IsNewArea h total payload j n)
   area_or_none n = elim (in_use_decided j n) [
     | inl used ↦ elim (area n used) [
@@ -89,6 +79,7 @@ module _ (h total : ℕ) (payload : Data) (j : Value)
     | inr unused ↦ inr (λ a x. unused (stripes_in_use j n _ _ x.slot))
   ]
 
+  -- there is no room for it, or there is
   no_area_decided : (n : ℕ) → Decided (HasNoNewArea h total payload j n)
   no_area_decided n = elim (in_use_decided j n) [
     | inl used ↦ elim (area n used) [
@@ -98,6 +89,7 @@ module _ (h total : ℕ) (payload : Data) (j : Value)
     | inr unused ↦ inr (λ x. unused (stripes_in_use j n _ _ x.slot))
   ]
 
+  -- the same of an edit
   pub no_room_decided : (e : Edit) → Decided (HasNoRoom h total payload j e)
   no_room_decided (Add by_ old new to iterations) = no_area_decided by_
   no_room_decided (Change slot old new iterations) = no_area_decided slot
@@ -115,6 +107,7 @@ module _ (j : Value) (one : (n m k : ℕ) → IsDigestOf j n m → IsDigestOf j 
     | inr none ↦ inr (λ n x. none n x.0.named x)
   ]
 
+  -- the digest that names a keyslot names no other one, or there is no such digest, or it names another
   only_one_decided : (slot : ℕ) → Decided (IsOnlyOne j slot)
   only_one_decided slot = elim (digest_or_none j slot) [
     | inl d ↦ elim (other_or_none slot d.0) [
@@ -124,6 +117,7 @@ module _ (j : Value) (one : (n m k : ℕ) → IsDigestOf j n m → IsDigestOf j 
     | inr none ↦ inr (λ x. none x.digest x.names)
   ]
 
+  -- the edit removes the last keyslot, or it doesn't
   pub last_decided : (e : Edit) → Decided (IsLast j e)
   last_decided (Add by_ old new to iterations) = inr (λ bad. bad)
   last_decided (Change slot old new iterations) = inr (λ bad. bad)
@@ -131,15 +125,9 @@ module _ (j : Value) (one : (n m k : ℕ) → IsDigestOf j n m → IsDigestOf j 
   last_decided Repair = inr (λ bad. bad)
   last_decided (Label text) = inr (λ bad. bad)
 
--- ---- iterations and labels
+-- ---- the label
 
-pub few_decided : (e : Edit) → Decided (HasFewIterations e)
-few_decided (Add by_ old new to iterations) = less_decided iterations 1000
-few_decided (Change slot old new iterations) = less_decided iterations 1000
-few_decided (Remove slot passphrase) = inr (λ bad. bad)
-few_decided Repair = inr (λ bad. bad)
-few_decided (Label text) = inr (λ bad. bad)
-
+-- its label is a bad one, or it isn't
 pub bad_label_decided : (e : Edit) → Decided (IsBadLabel e)
 bad_label_decided (Add by_ old new to iterations) = inr (λ bad. bad)
 bad_label_decided (Change slot old new iterations) = inr (λ bad. bad)
@@ -149,11 +137,8 @@ bad_label_decided (Label text) = one_decided _ _ (less_decided 47 (length text.n
 
 -- ---- random bytes
 
--- the number of random bytes is one, or there is none
-abbrev OneNeed : (ℕ → Type 0) → Type 0
-OneNeed needs = ((k : ℕ) × needs k × ((m : ℕ) → needs m → m ≡ k)) ⊎ ((k : ℕ) → needs k → ⊥)
-
-need_like : (j : Value) (n : ℕ) → OneNeed (NeedsLike j n)
+-- of a keyslot that is sealed like `n` the random bytes are so many, or its stripes aren't said
+need_like : (j : Value) (n : ℕ) → OneOrNone (NeedsLike j n)
 need_like j n = elim (stripes_or_none j n) [
   | inl x ↦ inl (
     64 + 64 + 32 + (x.0.1 - 1) * x.0.0,
@@ -165,21 +150,18 @@ need_like j n = elim (stripes_or_none j n) [
 ]
 
 -- the salts of both copies
-need_of_copies : OneNeed (λ k. k ≡ 64 + 64)
+need_of_copies : OneOrNone (λ k. k ≡ 64 + 64)
 need_of_copies = inl (64 + 64, refl, λ m x. x)
 
-one_need : (j : Value) (e : Edit) → OneNeed (Need2 j e)
+-- the same of an edit
+one_need : (j : Value) (e : Edit) → OneOrNone (Need2 j e)
 one_need j (Add by_ old new to iterations) = need_like j by_
 one_need j (Change slot old new iterations) = need_like j slot
 one_need j (Remove slot passphrase) = need_of_copies
 one_need j Repair = need_of_copies
 one_need j (Label text) = need_of_copies
 
+-- the random bytes aren't as many, or they are
 pub miscounted_decided : (j : Value) (e : Edit) (r : List ℕ) → Decided (IsMiscounted j e r)
-miscounted_decided j e r = elim (one_need j e) [
-  | inl found ↦ elim (cases_eq (length r) found.0) [
-    | inl same ↦ inr (λ x. x.other (same ∙ sym (found.2 x.need x.is)))
-    | inr other ↦ inl (record { need = found.0; is = found.1; other = other })
-  ]
-  | inr none ↦ inr (λ x. none x.need x.is)
-]
+miscounted_decided j e r = alike_decided ((k : ℕ) × Need2 j e k × (length r ≡ k → ⊥)) (IsMiscounted j e r) (λ x. record { need = x.0; is = x.1; other = x.2 })
+    (λ x. (x.need, x.is, x.other)) (other_decided (Need2 j e) (one_need j e) (length r))
