@@ -1,5 +1,5 @@
 -- Facts that hold or don't, and the least member of a set that is decided at each of some candidates.
-use Rattle.std.proofs.Common.{◌≡◌, ◌⊎◌, ℕ, zero, suc, ◌≤◌, ◌<◌, Bool, true, List, [], ◌∷◌, ◌++◌, map, refl, sym, ap, subst, ◌∙◌, arith, inl, inr}
+use Rattle.std.proofs.Common.{◌≡◌, ◌⊎◌, ℕ, zero, suc, ◌≤◌, ◌<◌, Bool, true, List, [], ◌∷◌, ◌++◌, map, Option, Some, None, refl, sym, ap, subst, ◌∙◌, arith, inl, inr}
 use Rattle.std.proofs.lemmas.Bool.{cases_Bool, cases_eq, cases_lt, true≢false}
 use Rattle.luks_area.specs.First.{IsLeast, NotAfter}
 use Rattle.luks_rules.specs.Faults.{Among}
@@ -65,6 +65,21 @@ some_below_decided P each (suc n) = elim (each n) [
     ])
   ]
 ]
+
+-- ---- options
+
+-- an option has a value or is none
+pub option_there : {A : Type 0} (o : Option A) → ((x : A) × (o ≡ Some x)) ⊎ (o ≡ None)
+option_there None = inr refl
+option_there (Some x) = inl (x, refl)
+
+-- an option has one value at most
+pub some_same : {A : Type 0} (o : Option A) (x y : A) → o ≡ Some x → o ≡ Some y → x ≡ y
+some_same o x y p q = let e : Some x ≡ Some y = sym p ∙ q in cc
+
+-- none isn't a value
+pub none_some : {A : Type 0} (o : Option A) (x : A) → o ≡ None → o ≡ Some x → ⊥
+none_some o x p q = let e : None ≡ Some x = sym p ∙ q in cc
 
 -- ---- keys
 

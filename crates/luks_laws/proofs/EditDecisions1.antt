@@ -21,7 +21,7 @@ use Rattle.luks_edit.specs.Opener.{IsLocked, IsShut}
 use Rattle.luks1_edits.specs.Edited.{IsFree, IsInUse, IsLeastFree, IsNewKeyslot}
 use Rattle.luks1_edits.specs.Refused.{HasNoFree, IsAbsent, IsEditFault1, IsLabel, IsLast, IsMiscounted, IsTaken, IsTakenFor, keyslot_need, LacksFree, Need1, NeedsFor}
 use Rattle.luks_laws.proofs.DecidedFacts.{among_each, among_left, among_map, among_right, both_decided, Decided, each, LeastOrNone, least_decided, least_or_none, less_decided, not_decided, some_below_decided}
-use Rattle.luks_laws.proofs.KeyslotDecisions1.{among_slots, slot_faults}
+use Rattle.luks_laws.proofs.PlanDecisions.{among_slots, slot_faults}
 
 -- ---- keyslots
 

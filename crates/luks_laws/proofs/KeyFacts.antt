@@ -25,10 +25,7 @@ use Rattle.luks_rules.specs.Table.{member_name, section_name}
 use Rattle.luks_head.specs.Selection.{Choice, luks1, luks2, nothing}
 use Rattle.luks_reading.specs.declared.check_fault.CheckFault.{CheckFault}
 use Rattle.luks_reading.specs.declared.check_fault.CheckFault.TheVariants as check
-use Rattle.luks_reading.specs.declared.open_fault.OpenFault.{OpenFault}
-use Rattle.luks_reading.specs.declared.open_fault.OpenFault.TheVariants as opening
 use Rattle.luks_reading.specs.declared.report.Data.{Data}
-use Rattle.luks_reading.specs.Answer.{IsRefusal, IsRefusalAs, open_key}
 use Rattle.luks_reading.specs.Checked.{check_key, IsFault, IsFaultAs, IsLuks2MetaFault}
 use Rattle.luks_reading.specs.Header.{json_at}
 use Rattle.luks_edit.specs.declared.edit.Edit.{Edit}
@@ -170,23 +167,6 @@ check_key_as_short v payload c check.Memory bad = omega arith
 
 pub check_key_short : (v : List ℕ) (payload : Data) (f : CheckFault) → IsFault v payload f → length (check_key f) ≤ 32
 check_key_short v payload f bad = check_key_as_short v payload bad.choice f bad.fault
-
--- ---- a keyslot
-
-open_key_as_short : (v : List ℕ) (n : ℕ) (c : Choice) (f : OpenFault) → IsRefusalAs v n c f → length (open_key f) ≤ 32
-open_key_as_short v n c (opening.Head f) bad = let low = head_key_short f in omega (arith, low)
-open_key_as_short v n luks1 (opening.Meta f) bad = absurd bad
-open_key_as_short v n (luks2 o copies) (opening.Meta f) bad = let low = meta_key_short (json_at v o) f bad in omega (arith, low)
-open_key_as_short v n nothing (opening.Meta f) bad = absurd bad
-open_key_as_short v n c opening.NoSuchSlot bad = omega arith
-open_key_as_short v n c opening.SlotFree bad = omega arith
-open_key_as_short v n c opening.Outside bad = omega arith
-open_key_as_short v n c (opening.Slot f) bad = omega arith
-open_key_as_short v n c opening.Device bad = omega arith
-open_key_as_short v n c opening.Memory bad = omega arith
-
-pub open_key_short : (v : List ℕ) (n : ℕ) (f : OpenFault) → IsRefusal v n f → length (open_key f) ≤ 32
-open_key_short v n f bad = open_key_as_short v n bad.choice f bad.fault
 
 -- ---- an edit
 

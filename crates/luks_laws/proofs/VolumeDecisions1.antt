@@ -1,5 +1,5 @@
--- Of a LUKS1 volume it is told what stands: what a keyslot opens to, and why an edit is refused.
-use Rattle.std.proofs.Common.{◌≡◌, ◌⊎◌, ℕ, List, length, Option, subst, inl, inr}
+-- Of a LUKS1 volume it is told why an edit is refused.
+use Rattle.std.proofs.Common.{◌≡◌, ◌⊎◌, ℕ, List, length, subst, inl, inr}
 use Rattle.luks_area.specs.Ranges.{part}
 use Rattle.luks_head.specs.Selection.{Choice, luks1, Chosen}
 use Rattle.luks_rules.specs.Faults.{Among}
@@ -7,7 +7,7 @@ use Rattle.luks_reading.specs.declared.check_fault.CheckFault.{CheckFault}
 use Rattle.luks_reading.specs.declared.open_fault.OpenFault.{OpenFault}
 use Rattle.luks_reading.specs.declared.report.Data.{Data}
 use Rattle.luks_reading.specs.Agreement.{IsSameAnswer}
-use Rattle.luks_reading.specs.Answer.{Answer, IsLuks1Refusal, IsRefusal, IsRefusalAs, open_key, Opened, opened_to, refused}
+use Rattle.luks_reading.specs.Answer.{Answer, IsLuks1Refusal, IsRefusal, IsRefusalAs, open_key, Opened}
 use Rattle.luks_reading.specs.Checked.{IsFault, IsFaultAs, IsLuks1Fault}
 use Rattle.luks_edit.specs.declared.edit.Edit.{Edit}
 use Rattle.luks_edit.specs.declared.edit_fault.EditFault.{EditFault}
@@ -50,30 +50,24 @@ module _ (only : (v : List ℕ) (b c : Choice) → Chosen v b → Chosen v c →
   refusal_or_none n = carry_least OpenFault open_key (IsLuks1Refusal (part v 0 592) (length v) n) (IsRefusal v n) (to_refusal n) (of_refusal n)
       (luks1_refusal_or_none (part v 0 592) (length v) n)
 
-  module _ (unrefused : (n : ℕ) (p : List ℕ) → ((f : OpenFault) → IsRefusal v n f → ⊥) → (found : Option (List ℕ)) × Answer v n p (opened_to found)) where
-    pub some_answer : (n : ℕ) (p : List ℕ) → (a : Opened) × Answer v n p a
-    some_answer n p = elim (refusal_or_none n) [
-      | inl first ↦ (refused first.0, first.1)
-      | inr none ↦ (let x = unrefused n p none in (opened_to x.0, x.1))
+  -- ---- an edit
+
+  module _ (one : (n : ℕ) (p : List ℕ) (a b : Opened) → Answer v n p a → Answer v n p b → IsSameAnswer a b) (answers : (n : ℕ) (p : List ℕ) → (a : Opened) × Answer v n p a)
+      (payload : Data) (e : Edit) (r : List ℕ) where
+    refusal_of_edit : LeastOrNone EditFault edit_key (IsEditFault1 v payload e r)
+    refusal_of_edit =
+        edit_refusal_or_none v payload one answers refusal_or_none refusal_decided (fault_decided payload) check_candidates (among_faults payload) e r
+
+    pub refusal1_or_unrefused : ((f : EditFault) × Refusal1 v payload e r f) ⊎ IsUnrefused1 v payload e r
+    refusal1_or_unrefused = elim refusal_of_edit [
+      | inl first ↦ inl first
+      | inr none ↦ inr (record { none = none })
     ]
 
-    -- ---- an edit
-
-    module _ (one : (n : ℕ) (p : List ℕ) (a b : Opened) → Answer v n p a → Answer v n p b → IsSameAnswer a b) (payload : Data) (e : Edit) (r : List ℕ) where
-      refusal_of_edit : LeastOrNone EditFault edit_key (IsEditFault1 v payload e r)
-      refusal_of_edit =
-          edit_refusal_or_none v payload one some_answer refusal_or_none refusal_decided (fault_decided payload) check_candidates (among_faults payload) e r
-
-      pub refusal1_or_unrefused : ((f : EditFault) × Refusal1 v payload e r f) ⊎ IsUnrefused1 v payload e r
-      refusal1_or_unrefused = elim refusal_of_edit [
-        | inl first ↦ inl first
-        | inr none ↦ inr (record { none = none })
-      ]
-
-      pub refusal_or_unrefused : ((f : EditFault) × Refusal v payload e r f) ⊎ IsUnrefused v payload e r
-      refusal_or_unrefused = elim (carry_least EditFault edit_key (IsEditFault1 v payload e r) (IsEditFault v payload e r)
-          (λ f is. record { choice = luks1; chosen = chosen; fault = is })
-          (λ f x. subst (λ c. IsEditFaultAs v payload e r c f) (only v x.choice luks1 x.chosen chosen) x.fault) refusal_of_edit) [
-            | inl first ↦ inl first
-            | inr none ↦ inr (record { none = none })
-          ]
+    pub refusal_or_unrefused : ((f : EditFault) × Refusal v payload e r f) ⊎ IsUnrefused v payload e r
+    refusal_or_unrefused = elim (carry_least EditFault edit_key (IsEditFault1 v payload e r) (IsEditFault v payload e r)
+        (λ f is. record { choice = luks1; chosen = chosen; fault = is })
+        (λ f x. subst (λ c. IsEditFaultAs v payload e r c f) (only v x.choice luks1 x.chosen chosen) x.fault) refusal_of_edit) [
+          | inl first ↦ inl first
+          | inr none ↦ inr (record { none = none })
+        ]
