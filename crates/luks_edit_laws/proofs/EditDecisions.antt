@@ -1,5 +1,5 @@
 -- An edit of which each fault is decided has a first refusal, or it is refused by nothing.
-use Rattle.std.proofs.Common.{◌≡◌, ◌⊎◌, ℕ, zero, suc, ◌≤◌, ◌<◌, List, [], ◌∷◌, length, get_or, refl, arith, inl, inr}
+use Rattle.std.proofs.Common.{◌⊎◌, ℕ, zero, suc, ◌<◌, List, [], ◌∷◌, length, get_or, refl, arith, inl, inr}
 use Rattle.luks_area.specs.First.{IsLeast, NotAfter}
 use Rattle.luks_rules.specs.Faults.{Among}
 use Rattle.luks_slot.specs.declared.fault.SlotFault.TheVariants as slot

@@ -1,5 +1,5 @@
 -- Each fault of an edit of an accepted LUKS1 volume stands, or it doesn't.
-use Rattle.std.proofs.Common.{◌≡◌, ◌⊎◌, ℕ, List, inl, inr}
+use Rattle.std.proofs.Common.{ℕ, List, inr}
 use Rattle.luks_reading.specs.declared.check_fault.CheckFault.{CheckFault}
 use Rattle.luks_reading.specs.declared.report.Data.{Data}
 use Rattle.luks_reading.specs.Agreement.{IsSameAnswer}

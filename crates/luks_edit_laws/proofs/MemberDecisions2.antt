@@ -1,6 +1,5 @@
 -- What the metadata of a LUKS2 volume says of a keyslot, and which digest names it: each is there once, or not at all.
-use Rattle.std.proofs.Common.{◌≡◌, ◌⊎◌, ℕ, ◌<◌, Bool, true, List, Option, Some, None, is_some, codes, refl, sym, ap, subst, ◌∙◌, arith, inl, inr}
-use Rattle.std.proofs.lemmas.Bool.{cases_eq}
+use Rattle.std.proofs.Common.{◌≡◌, ℕ, ◌<◌, Bool, true, Option, Some, None, is_some, codes, refl, sym, ap, subst, ◌∙◌, inl, inr}
 use Rattle.serde_json.specs.Data.{Data as Value}
 use Rattle.serde_json.specs.Find.{get}
 use Rattle.luks_json.specs.Arrays.{names}
@@ -15,7 +14,7 @@ use Rattle.luks_making.specs.Keyslots.{IsMadeFrom, NewMembers, SlotMembers}
 use Rattle.luks_making.specs.Naming.{IsDigestOf}
 use Rattle.luks2_edits.specs.Metadata.{HasStripes, IsInUse, IsLeastFree, IsNewKeyslot}
 use Rattle.luks_edit_laws.proofs.GapDecisions.{alike_decided, both_decided, Decided, least_or_none_below, less_decided}
-use Rattle.luks_edit_laws.proofs.LeastDecisions.{held_or_none, not_decided, some_same, SomeOrNone, true_decided}
+use Rattle.luks_edit_laws.proofs.LeastDecisions.{held_or_none, some_same, SomeOrNone, true_decided}
 
 -- ---- keyslots in use and free
 

@@ -1,10 +1,9 @@
 -- An edit of a volume has a first refusal, or it is refused by nothing, whatever counts of the volume.
-use Rattle.std.proofs.Common.{◌≡◌, ◌⊎◌, ℕ, List, length, refl, ap, sym, subst, inl, inr}
+use Rattle.std.proofs.Common.{◌≡◌, ◌⊎◌, ℕ, List, length, subst, inl, inr}
 use Rattle.base64.specs.GeneralPurpose.{IsBytes}
 use Rattle.serde_json.specs.Data.{Data as Value}
 use Rattle.serde_json.specs.Written.{compact_text}
 use Rattle.luks_area.specs.declared.area.Area.{Area}
-use Rattle.luks_head.specs.declared.selection.Copies.{Copies}
 use Rattle.luks_head.specs.Header2.{hdr_size, header_at}
 use Rattle.luks_head.specs.Selection.{Choice, Chosen, luks1, luks2, nothing}
 use Rattle.luks_json.specs.AreaText.{Json}
