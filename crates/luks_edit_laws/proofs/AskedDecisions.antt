@@ -14,7 +14,7 @@ use Rattle.luks_edit.specs.declared.edit.Edit.{Edit}
 use Rattle.luks_edit.specs.declared.edit.Edit.TheVariants.{Add, Change, Label, Remove, Repair}
 use Rattle.luks_edit.specs.Asked.{HasFewIterations, OpensBy}
 use Rattle.luks_edit.specs.Opener.{IsLocked, IsShut}
-use Rattle.luks_edit_laws.proofs.GapDecisions.{alike_decided, Decided, less_decided}
+use Rattle.luks_edit_laws.proofs.DecidedFacts.{alike_decided, Decided, less_decided}
 
 -- ---- iterations
 

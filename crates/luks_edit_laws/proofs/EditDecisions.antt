@@ -9,7 +9,7 @@ use Rattle.luks_reading.specs.Checked.{First, IsFault, WellFormed}
 use Rattle.luks_edit.specs.declared.edit_fault.EditFault.{EditFault}
 use Rattle.luks_edit.specs.declared.edit_fault.EditFault.TheVariants as edit
 use Rattle.luks_edit.specs.EditFaults.{edit_key}
-use Rattle.luks_edit_laws.proofs.GapDecisions.{Decided}
+use Rattle.luks_edit_laws.proofs.DecidedFacts.{Decided}
 use Rattle.luks_edit_laws.proofs.LeastDecisions.{first_or_none}
 
 -- the faults of an edit of an accepted volume

@@ -10,7 +10,7 @@ use Rattle.luks_edit.specs.declared.edit_fault.EditFault.{EditFault}
 use Rattle.luks_edit.specs.declared.edit_fault.EditFault.TheVariants as edit
 use Rattle.luks1_edits.specs.Refused.{IsEditFault1}
 use Rattle.luks_edit_laws.proofs.AskedDecisions.{few_decided, locked_decided, shut_decided}
-use Rattle.luks_edit_laws.proofs.GapDecisions.{Decided}
+use Rattle.luks_edit_laws.proofs.DecidedFacts.{Decided}
 use Rattle.luks_edit_laws.proofs.RowDecisions1.{absent_decided, label_decided, last_decided, miscounted_decided, no_free_decided, taken_decided}
 
 module _ (v : List ℕ) (payload : Data) (same : (n : ℕ) (p : List ℕ) (a b : Opened) → Answer v n p a → Answer v n p b → IsSameAnswer a b)

@@ -21,9 +21,8 @@ use Rattle.luks2_edits.specs.Metadata.{HasMetadata, IsInUse}
 use Rattle.luks2_edits.specs.Places.{HasNoNewArea, IsNewArea}
 use Rattle.luks2_edits.specs.Refused.{HasSaid, IsEditFault2}
 use Rattle.luks_edit_laws.proofs.AskedDecisions.{few_decided, locked_decided, shut_decided}
+use Rattle.luks_edit_laws.proofs.DecidedFacts.{Decided, true_decided}
 use Rattle.luks_edit_laws.proofs.FullDecisions2.{full_decided}
-use Rattle.luks_edit_laws.proofs.GapDecisions.{Decided}
-use Rattle.luks_edit_laws.proofs.LeastDecisions.{true_decided}
 use Rattle.luks_edit_laws.proofs.RowDecisions2.{absent_decided, bad_label_decided, last_decided, miscounted_decided, no_free_decided, no_room_decided, taken_decided}
 
 -- ---- the metadata that counts

@@ -17,8 +17,7 @@ use Rattle.luks2_edits.specs.Edited.{HasAdded, HasChanged, IsEdited, members_of}
 use Rattle.luks2_edits.specs.Metadata.{IsInUse}
 use Rattle.luks2_edits.specs.Places.{HasNoNewArea, IsNewArea}
 use Rattle.luks2_edits.specs.Refused.{IsFull}
-use Rattle.luks_edit_laws.proofs.GapDecisions.{at_most_decided, Decided}
-use Rattle.luks_edit_laws.proofs.LeastDecisions.{some_same, SomeOrNone}
+use Rattle.luks_edit_laws.proofs.DecidedFacts.{at_most_decided, Decided, some_same, SomeOrNone}
 use Rattle.luks_edit_laws.proofs.MemberDecisions2.{digest_or_none, made_or_none, new_number, object_or_none}
 use Rattle.luks_edit_laws.proofs.RowDecisions2.{area_or_none}
 

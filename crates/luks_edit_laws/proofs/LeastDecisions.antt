@@ -1,53 +1,9 @@
--- What there is one of or none, and the first of some faults each of which stands or doesn't.
-use Rattle.std.proofs.Common.{◌≡◌, ◌⊎◌, ℕ, ◌≤◌, Bool, true, List, [], ◌∷◌, Option, Some, None, sym, subst, refl, ◌∙◌, arith, inl, inr}
-use Rattle.std.proofs.lemmas.Bool.{cases_Bool, cases_eq, cases_lt, true≢false}
+-- The first of some faults each of which stands or doesn't.
+use Rattle.std.proofs.Common.{◌⊎◌, ℕ, ◌≤◌, List, [], ◌∷◌, sym, subst, arith, inl, inr}
+use Rattle.std.proofs.lemmas.Bool.{cases_eq, cases_lt}
 use Rattle.luks_area.specs.First.{IsLeast, NotAfter}
 use Rattle.luks_rules.specs.Faults.{Among}
-use Rattle.luks_edit_laws.proofs.GapDecisions.{Decided}
-
--- ---- decisions
-
--- a test holds, or it doesn't
-pub true_decided : (b : Bool) → Decided (b ≡ true)
-true_decided b = elim (cases_Bool b) [ inl passed ↦ inl passed | inr failed ↦ inr (λ passed. true≢false (sym passed ∙ failed)) ]
-
--- that a fact doesn't hold is decided with the fact
-pub not_decided : (A : Type 0) → Decided A → Decided (A → ⊥)
-not_decided A (inl a) = inr (λ x. x a)
-not_decided A (inr a) = inl a
-
--- of two facts one holds, or neither does
-pub one_decided : (A B : Type 0) → Decided A → Decided B → Decided (A ⊎ B)
-one_decided A B (inl a) b = inl (inl a)
-one_decided A B (inr a) (inl b) = inl (inr b)
-one_decided A B (inr a) (inr b) = inr (λ x. elim x [ inl here ↦ a here | inr there ↦ b there ])
-
--- something has the property, or nothing has it
-abbrev pub SomeOrNone : (A : Type 0) → (A → Type 0) → Type 0
-SomeOrNone A P = ((a : A) × P a) ⊎ ((a : A) → P a → ⊥)
-
--- an option holds one value
-pub some_same : {A : Type 0} (x y : A) → Some x ≡ Some y → x ≡ y
-some_same x y e = cc
-
--- what an option holds
-pub held_or_none : {A : Type 0} (o : Option A) → SomeOrNone A (λ x. o ≡ Some x)
-held_or_none None = inr (λ x e. cc)
-held_or_none (Some x) = inl (x, refl)
-
--- ---- numbers
-
--- one number has the property, or none has it
-abbrev pub OneOrNone : (ℕ → Type 0) → Type 0
-OneOrNone P = ((k : ℕ) × P k × ((m : ℕ) → P m → m ≡ k)) ⊎ ((k : ℕ) → P k → ⊥)
-
--- so there is such a number that isn't `n`, or there isn't
-pub other_decided : (P : ℕ → Type 0) → OneOrNone P → (n : ℕ) → Decided ((k : ℕ) × P k × (n ≡ k → ⊥))
-other_decided P (inl found) n = elim (cases_eq n found.0) [
-  | inl same ↦ inr (λ x. x.2 (same ∙ sym (found.2 x.0 x.1)))
-  | inr other ↦ inl (found.0, found.1, other)
-]
-other_decided P (inr none) n = inr (λ x. none x.0 x.1)
+use Rattle.luks_edit_laws.proofs.DecidedFacts.{Decided}
 
 -- ---- keys
 

@@ -1,3 +1,4 @@
+pub mod DecidedFacts
 pub mod GapDecisions
 pub mod GapPlaces
 pub mod GapAreas

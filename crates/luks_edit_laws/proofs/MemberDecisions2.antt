@@ -13,8 +13,7 @@ use Rattle.luks_making.specs.Conditions.{IsFree}
 use Rattle.luks_making.specs.Keyslots.{IsMadeFrom, NewMembers, SlotMembers}
 use Rattle.luks_making.specs.Naming.{IsDigestOf}
 use Rattle.luks2_edits.specs.Metadata.{HasStripes, IsInUse, IsLeastFree, IsNewKeyslot}
-use Rattle.luks_edit_laws.proofs.GapDecisions.{alike_decided, both_decided, Decided, least_or_none_below, less_decided}
-use Rattle.luks_edit_laws.proofs.LeastDecisions.{held_or_none, some_same, SomeOrNone, true_decided}
+use Rattle.luks_edit_laws.proofs.DecidedFacts.{alike_decided, both_decided, Decided, held_or_none, least_or_none_below, less_decided, some_same, SomeOrNone, true_decided}
 
 -- ---- keyslots in use and free
 

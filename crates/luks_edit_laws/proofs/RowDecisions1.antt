@@ -8,8 +8,7 @@ use Rattle.luks_edit.specs.Asked.{OpensBy}
 use Rattle.luks1_edits.specs.Edited.{IsFree, IsInUse, IsLeastFree, IsNewKeyslot}
 use Rattle.luks1_edits.specs.Refused.{HasNoFree, IsAbsent, IsLabel, IsLast, IsMiscounted, IsTaken, IsTakenFor, keyslot_need, LacksFree, Need1, NeedsFor}
 use Rattle.luks_edit_laws.proofs.AskedDecisions.{opener_decided}
-use Rattle.luks_edit_laws.proofs.GapDecisions.{alike_decided, both_decided, Decided, least_or_none_below, less_decided}
-use Rattle.luks_edit_laws.proofs.LeastDecisions.{not_decided, OneOrNone, other_decided, SomeOrNone}
+use Rattle.luks_edit_laws.proofs.DecidedFacts.{alike_decided, both_decided, Decided, least_or_none_below, less_decided, not_decided, OneOrNone, other_decided, SomeOrNone}
 
 -- ---- keyslots in use and free
 

@@ -15,8 +15,7 @@ use Rattle.luks2_edits.specs.Metadata.{IsInUse}
 use Rattle.luks2_edits.specs.Places.{HasNoNewArea, IsNewArea, key_areas_end, rounded_to_blocks}
 use Rattle.luks2_edits.specs.Refused.{HasNoFree, HasNoNumber, HasNoRoom, IsAbsent, IsBadLabel, IsLast, IsMiscounted, IsNumberTaken, IsOnlyOne, IsTaken, Need2, NeedsLike}
 use Rattle.luks_edit_laws.proofs.AskedDecisions.{opener_decided}
-use Rattle.luks_edit_laws.proofs.GapDecisions.{alike_decided, both_decided, Decided, least_or_none_below, less_decided}
-use Rattle.luks_edit_laws.proofs.LeastDecisions.{not_decided, one_decided, OneOrNone, other_decided, some_same, SomeOrNone, true_decided}
+use Rattle.luks_edit_laws.proofs.DecidedFacts.{alike_decided, both_decided, Decided, least_or_none_below, less_decided, not_decided, one_decided, OneOrNone, other_decided, some_same, SomeOrNone, true_decided}
 use Rattle.luks_edit_laws.proofs.MemberDecisions2.{digest_decided, digest_or_none, in_use_decided, none_free_decided, one_key_length, one_stripes, stripes_in_use, stripes_or_none}
 
 -- ---- the keyslot that the edit opens

@@ -25,10 +25,10 @@ use Rattle.luks2_edits.specs.Places.{HasNoNewArea, IsNewArea}
 use Rattle.luks2_edits.specs.Refused.{IsEditFault2, IsUnrefused2, Refusal2}
 use Rattle.luks2_judging.specs.Salts.{HasOneDigest}
 use Rattle.luks_volume.specs.Edits.{IsEditFault, IsEditFaultAs, IsUnrefused, Refusal}
+use Rattle.luks_edit_laws.proofs.DecidedFacts.{alike_decided, Decided}
 use Rattle.luks_edit_laws.proofs.EditDecisions.{first_edit_fault_or_none}
 use Rattle.luks_edit_laws.proofs.EditDecisions1.{fault1_decided}
 use Rattle.luks_edit_laws.proofs.EditDecisions2.{Counting, fault2_decided}
-use Rattle.luks_edit_laws.proofs.GapDecisions.{alike_decided, Decided}
 
 -- ---- the faults of any volume, by what counts of it
 
