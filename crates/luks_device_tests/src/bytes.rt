@@ -30,13 +30,18 @@ pub fn leave_behind(volume: &mut [u8], at: usize, from: &[u8], leave: Leave) {
     }
 }
 
-/// Bytes in place of random ones: they count up from 1, modulo 256.
-pub fn counted(alloc: Global, len: usize) -> Result<Vec<u8>, AllocError> {
-    let mut bytes = vec![in alloc; 0u8; len]?;
+/// Counts the bytes up from 1, modulo 256: they stand in place of random ones.
+pub fn count(bytes: &mut [u8]) {
     let mut next = 1u8;
     for byte in bytes.iter_mut() {
         *byte = next;
         next = next.wrapping_add(1);
     }
+}
+
+/// As many bytes, counted up.
+pub fn counted(alloc: Global, len: usize) -> Result<Vec<u8>, AllocError> {
+    let mut bytes = vec![in alloc; 0u8; len]?;
+    count(&mut bytes);
     Ok(bytes)
 }

@@ -146,7 +146,10 @@ fn fails_at_each_call(
     let image = luks1(alloc, 24, 128)?;
     let done = end_of(alloc, &image, trial, u64::MAX, leave)?;
     assert!(rt; done.end == trial.end, "no call fails");
-    assert!(rt; done.calls.first() == Some(&Call::Read), "the header's read");
+    assert!(rt;
+        done.calls.first() == Some(&Call::Read),
+        "the header's read"
+    );
     let after = done.left.contents();
     let mut want = image.to_vec(alloc)?;
     for (i, call) in done.calls.iter().enumerate() {
@@ -162,7 +165,10 @@ fn fails_at_each_call(
         assert!(rt; end == End::Told, "call {i}: the answer");
         assert!(rt; calls.len() == i.wrapping_add(1), "call {i}: the calls");
         assert!(rt; left.contents() == want.as_slice(), "call {i}: the bytes");
-        assert!(rt; still_opens(alloc, &mut left, trial), "call {i}: the keyslots");
+        assert!(rt;
+            still_opens(alloc, &mut left, trial),
+            "call {i}: the keyslots"
+        );
         put(&mut want, at, new);
     }
     assert!(rt; after == want.as_slice(), "all writes");

@@ -13,7 +13,14 @@ use std::test::Fail;
 
 /// A command over a volume of LUKS1 or LUKS2, the bytes of its passphrase, what it prints and its
 /// status where there is room, and whether it leaves the volume as it is.
-type Row = (u8, &'static [&'static str], &'static str, &'static str, u8, bool);
+type Row = (
+    u8,
+    &'static [&'static str],
+    &'static str,
+    &'static str,
+    u8,
+    bool,
+);
 
 const ADD: &[&str] = &[
     "luks",
@@ -122,7 +129,10 @@ fn compare(rt: &impl Abort, alloc: Global, number: usize, row: &Row) -> Result<(
     let image = image_of(alloc, row)?;
     let whole = end_of(alloc, &image, row, want.len())?;
     assert!(rt; whole.status == status, "row {number}: the status");
-    assert!(rt; holds(&whole.printed, want), "row {number}: what is printed");
+    assert!(rt;
+        holds(&whole.printed, want),
+        "row {number}: what is printed"
+    );
     assert!(rt; (whole.left == image) == same, "row {number}: the volume");
     for room in 0..want.len() {
         let full = end_of(alloc, &image, row, room)?;

@@ -1,7 +1,7 @@
 //! A volume key, and the key area that holds it.
 ghost use Rattle.std.specs.Prelude.{◌+◌, ◌<◌, ◌^◌};
 
-use crate::bytes::counted;
+use crate::bytes::count;
 use luks_volume::{Device, HashName, open_slot};
 use luks_xts::XtsKey;
 use std::alloc::Global;
@@ -34,7 +34,8 @@ fn seal(cipher: &XtsKey, area: &mut [u8]) {
 
 /// The five sectors of a key area: 40 stripes, sealed by the passphrase.
 pub fn key_area(alloc: Global, passphrase: &[u8]) -> Result<Vec<u8>, Fail> {
-    let random = counted(alloc, 2496)?;
+    let mut random = vec![in alloc; 0u8; 2496]?;
+    count(&mut random);
     let mut area = vec![in alloc; 0u8; 2560]?;
     HashName::Sha256.split(&mut area, &volume_key(), &random);
     let mut slot_key = [0; 64];

@@ -78,7 +78,10 @@ fn compare(
     let ranges = written_ranges(alloc, &calls)?;
     assert!(rt; ranges.as_slice() == row.calls, "row {number}: the calls");
     let mut disk = device;
-    assert!(rt; open_as_owed(alloc, &mut disk, row), "row {number}: the keyslots");
+    assert!(rt;
+        open_as_owed(alloc, &mut disk, row),
+        "row {number}: the keyslots"
+    );
     assert!(rt; disk.beyond == 0, "row {number}: a call beyond");
     Ok(())
 }

@@ -65,11 +65,7 @@ const AS_BEFORE: &[(u8, &[u8], bool)] = &[(0, b"one", true), (1, b"two", true)];
 /// The same, and a new keyslot 2.
 const ADDED: &[(u8, &[u8], bool)] = &[(0, b"one", true), (1, b"two", true), (2, b"three", true)];
 
-const CHANGED: &[(u8, &[u8], bool)] = &[
-    (0, b"one", false),
-    (0, b"three", true),
-    (1, b"two", true),
-];
+const CHANGED: &[(u8, &[u8], bool)] = &[(0, b"one", false), (0, b"three", true), (1, b"two", true)];
 
 const REMOVED: &[(u8, &[u8], bool)] = &[(0, b"one", true), (1, b"two", false)];
 
