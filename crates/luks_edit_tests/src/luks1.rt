@@ -45,7 +45,7 @@ fn leaves(
 }
 
 /// Asserts that the list's edits of the volume are answered so, and leave its sums.
-fn compare(rt: &impl Abort, alloc: Global, volume: Vec<u8>, list: List) -> Result<(), Fail> {
+fn compare(rt: &impl Abort, alloc: Global, volume: Vec<u8>, list: List<'_>) -> Result<(), Fail> {
     let [before, after @ ..] = list.sums else {
         return Err("no sum".into());
     };

@@ -8,9 +8,9 @@ pub(crate) type Row = (Edit<'static>, Option<usize>, &'static str);
 
 /// A list of edits of a volume, with SHA-256 of the volume before it and after each edit.
 #[derive(Clone, Copy)]
-pub(crate) struct List {
+pub(crate) struct List<'a> {
     /// The edits.
-    pub(crate) rows: &'static [Row],
+    pub(crate) rows: &'a [Row],
     /// One sum more than there are edits.
-    pub(crate) sums: &'static [&'static str],
+    pub(crate) sums: &'a [&'static str],
 }

@@ -54,7 +54,7 @@ fn are_told(alloc: Global, rows: &[Row], replies: &[Reply]) -> Result<bool, Fail
 }
 
 /// Whether the list has its replies, and leaves the last volume.
-fn runs(alloc: Global, image: Vec<u8>, list: List) -> Result<bool, Fail> {
+fn runs(alloc: Global, image: Vec<u8>, list: List<'_>) -> Result<bool, Fail> {
     let List { rows, sums } = list;
     let random = random_of(alloc, rows)?;
     let steps = steps_of(alloc, rows, &random)?;
@@ -67,13 +67,13 @@ fn runs(alloc: Global, image: Vec<u8>, list: List) -> Result<bool, Fail> {
 }
 
 /// The list over the small LUKS1 volume by SHA-256.
-pub(crate) const LUKS1: List = List {
+pub(crate) const LUKS1: List<'static> = List {
     rows: &luks1::table::LIST,
     sums: &luks1::table::SHA256,
 };
 
 /// That over the LUKS2 volume.
-const LUKS2: List = List {
+const LUKS2: List<'static> = List {
     rows: &luks2::table::LIST,
     sums: &luks2::table::SHA256,
 };

@@ -78,7 +78,7 @@ fn ends_with_little_memory(
 
 /// Whether the list over a LUKS1 volume is refused memory for its replies alone, and leaves the last
 /// volume.
-fn takes_memory_once(alloc: Global, list: List) -> Result<bool, Fail> {
+fn takes_memory_once(alloc: Global, list: List<'_>) -> Result<bool, Fail> {
     let List { rows, sums } = list;
     let [before, .., last] = sums else {
         return Ok(false);

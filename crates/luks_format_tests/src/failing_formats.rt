@@ -103,6 +103,7 @@ fn made(
         "no call fails"
     );
     let (header, from, to) = places(asked.version);
+    let mut rows = 0usize;
     for (version, hash, detached, _, head, area) in FORMATS {
         if let Some(front) = &left
             && version == asked.version
@@ -112,8 +113,10 @@ fn made(
             let volume = front.contents();
             assert!(rt; is_sum(part(volume, 0, header), head), "the header");
             assert!(rt; is_sum(part(volume, from, to), area), "the key area");
+            rows = rows.wrapping_add(1);
         }
     }
+    assert!(rt; rows == 1, "the row of the table");
     Ok(left)
 }
 

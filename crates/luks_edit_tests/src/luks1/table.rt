@@ -8,7 +8,7 @@ use luks_test_devices::{add, change, label, remove};
 const LONG: &[u8] = &[0x00, 0xff, 0x00, 0xff, 0x00, 0xff, 0x00, 0xff, 0x00, 0xff, 0x00, 0xff, 0x00, 0xff, 0x00, 0xff, 0x00, 0xff, 0x00, 0xff, 0x00, 0xff, 0x00, 0xff, 0x00, 0xff, 0x00, 0xff, 0x00, 0xff, 0x00, 0xff, 0x00, 0xff, 0x00, 0xff, 0x00, 0xff, 0x00, 0xff, 0x00, 0xff, 0x00, 0xff, 0x00, 0xff, 0x00, 0xff, 0x00, 0xff, 0x00, 0xff, 0x00, 0xff, 0x00, 0xff, 0x00, 0xff, 0x00, 0xff, 0x00, 0xff, 0x00, 0xff, 0x00, 0xff, 0x00, 0xff, 0x00, 0xff, 0x00, 0xff, 0x00, 0xff, 0x00, 0xff, 0x00, 0xff, 0x00, 0xff];
 
 /// The list.
-pub const LIST: [Row; 26] = [
+pub(crate) const LIST: [Row; 26] = [
     (remove!(0, b"one"), Some(0), "refused LastSlot"),
     (add!(0, b"one", b"two", None), Some(2528), "done slot 1"),
     (add!(0, b"one", b"three", Some(7)), Some(2528), "done slot 7"),
@@ -38,7 +38,7 @@ pub const LIST: [Row; 26] = [
 ];
 
 /// SHA-256 of the volume before the list, and of the whole volume after each edit, by sha1.
-pub const SHA1: [&str; 27] = [
+pub(crate) const SHA1: [&str; 27] = [
     "3853ecad8161642193901a38b6fe5ec75f1a1c009feb4e463000956cd4362871",
     "3853ecad8161642193901a38b6fe5ec75f1a1c009feb4e463000956cd4362871",
     "bb1d6c89804cfda5703a5506e4e48bdfbd12b2901af79906a5e179bfe4c15342",
@@ -69,7 +69,7 @@ pub const SHA1: [&str; 27] = [
 ];
 
 /// SHA-256 of the volume before the list, and of the whole volume after each edit, by sha256.
-pub const SHA256: [&str; 27] = [
+pub(crate) const SHA256: [&str; 27] = [
     "49c146b90a6cc8d0a840a2e39f93b73d79540be7401a1278b50ecc5c931b70ce",
     "49c146b90a6cc8d0a840a2e39f93b73d79540be7401a1278b50ecc5c931b70ce",
     "659d971cfcf59ae3dba03f3bb35285b2d3108464eb67efdfd7dc91578768301c",
@@ -100,7 +100,7 @@ pub const SHA256: [&str; 27] = [
 ];
 
 /// SHA-256 of the volume before the list, and of the whole volume after each edit, by sha512.
-pub const SHA512: [&str; 27] = [
+pub(crate) const SHA512: [&str; 27] = [
     "fda061c3aa958efd657293d2cf1042edb7c7574056cb5903add07cba16dd6dc2",
     "fda061c3aa958efd657293d2cf1042edb7c7574056cb5903add07cba16dd6dc2",
     "354b22228f0e60ecd1fe72a77e11b4765ceab55ea0c502dfa7a83d31b9ec64d7",

@@ -8,7 +8,7 @@ use luks_test_devices::{add, change, label, remove};
 const LONG: &[u8] = &[0x00, 0xff, 0x00, 0xff, 0x00, 0xff, 0x00, 0xff, 0x00, 0xff, 0x00, 0xff, 0x00, 0xff, 0x00, 0xff, 0x00, 0xff, 0x00, 0xff, 0x00, 0xff, 0x00, 0xff, 0x00, 0xff, 0x00, 0xff, 0x00, 0xff, 0x00, 0xff, 0x00, 0xff, 0x00, 0xff, 0x00, 0xff, 0x00, 0xff, 0x00, 0xff, 0x00, 0xff, 0x00, 0xff, 0x00, 0xff, 0x00, 0xff, 0x00, 0xff, 0x00, 0xff, 0x00, 0xff, 0x00, 0xff, 0x00, 0xff, 0x00, 0xff, 0x00, 0xff, 0x00, 0xff, 0x00, 0xff, 0x00, 0xff, 0x00, 0xff, 0x00, 0xff, 0x00, 0xff, 0x00, 0xff, 0x00, 0xff];
 
 /// The list.
-pub const LIST: [Row; 29] = [
+pub(crate) const LIST: [Row; 29] = [
     (remove!(0, b"one"), Some(128), "refused LastSlot"),
     (add!(0, b"one", b"two", None), Some(2656), "done slot 1"),
     (add!(0, b"one", b"three", Some(7)), Some(2656), "done slot 7"),
@@ -41,7 +41,7 @@ pub const LIST: [Row; 29] = [
 ];
 
 /// SHA-256 of the volume before the list, and of the whole volume after each edit, by sha1.
-pub const SHA1: [&str; 30] = [
+pub(crate) const SHA1: [&str; 30] = [
     "c8df6c2d1405ad24ff6a3a77de527d19b4743557bfebd54dd9511e06c500f200",
     "c8df6c2d1405ad24ff6a3a77de527d19b4743557bfebd54dd9511e06c500f200",
     "ae9ab9f162bee21f1c3c7067f95d20d568ae7f9c7748819a018bf614373bb1b9",
@@ -75,7 +75,7 @@ pub const SHA1: [&str; 30] = [
 ];
 
 /// SHA-256 of the volume before the list, and of the whole volume after each edit, by sha256.
-pub const SHA256: [&str; 30] = [
+pub(crate) const SHA256: [&str; 30] = [
     "af156ffb590a89e9ff381ebbdd10221ff67a34f693270d682256e37f9b25a274",
     "af156ffb590a89e9ff381ebbdd10221ff67a34f693270d682256e37f9b25a274",
     "ea8c2c2cf6f5a5719f1a2f14825458693778615ea196135cf1f47e8a0f5ae135",
@@ -109,7 +109,7 @@ pub const SHA256: [&str; 30] = [
 ];
 
 /// SHA-256 of the volume before the list, and of the whole volume after each edit, by sha512.
-pub const SHA512: [&str; 30] = [
+pub(crate) const SHA512: [&str; 30] = [
     "891d2b0c9e39c2bc1acfaa29e78744380f93900d7c22d34ccdd93aa3316212c4",
     "891d2b0c9e39c2bc1acfaa29e78744380f93900d7c22d34ccdd93aa3316212c4",
     "f223fea3f2f29c91ca473554e6b2b21458534baae11b0e9886e33feee8e23310",
@@ -143,7 +143,7 @@ pub const SHA512: [&str; 30] = [
 ];
 
 /// A list over the volume with keyslots of two hashes.
-pub const TWO_HASHES: [Row; 6] = [
+pub(crate) const TWO_HASHES: [Row; 6] = [
     (add!(1, b"two", b"three", None), Some(2656), "done slot 2"),
     (add!(0, b"one", b"four", None), Some(2656), "done slot 3"),
     (change!(1, b"two", b"four"), Some(2656), "done slot 1"),
@@ -153,7 +153,7 @@ pub const TWO_HASHES: [Row; 6] = [
 ];
 
 /// SHA-256 of the volume before the list, and of the whole volume after each edit, over that volume.
-pub const TWO_HASHES_SUMS: [&str; 7] = [
+pub(crate) const TWO_HASHES_SUMS: [&str; 7] = [
     "58d7ac1da18eaf042eb0f658e21ce32e92928fe13e85f98e85c297cb3bc3eabf",
     "7f4c13ca339388b2109d4ff004d715d92affc01a9ba17de8be5277ff34fe483b",
     "5ec8bd1c671c24f5c055ef3e9bfacdb9c2a4c40e09b3ddfd4fbe4363abf1a63f",

@@ -6,7 +6,7 @@ use luks_reading::Data;
 use luks_test_devices::{add, change, label, remove};
 
 /// The scripts.
-pub const SCRIPTS: [Script; 15] = [
+pub(super) const SCRIPTS: [Script; 15] = [
     // the random bytes, and a keyslot that takes the place of the first
     Script {
         len: 16777728,
@@ -14,10 +14,22 @@ pub const SCRIPTS: [Script; 15] = [
         seqids: (1, 1),
         flipped: None,
         turns: &[
-            Turn::Edit(add!(0, b"one", b"two", None), Ok(256095), "refused RandomLength"),
-            Turn::Edit(add!(0, b"one", b"two", None), Ok(256097), "refused RandomLength"),
+            Turn::Edit(
+                add!(0, b"one", b"two", None),
+                Ok(256095),
+                "refused RandomLength",
+            ),
+            Turn::Edit(
+                add!(0, b"one", b"two", None),
+                Ok(256097),
+                "refused RandomLength",
+            ),
             Turn::Edit(Edit::Repair, Ok(0), "refused RandomLength"),
-            Turn::Edit(add!(0, b"one", b"two", None, 999), Ok(256096), "refused Iterations"),
+            Turn::Edit(
+                add!(0, b"one", b"two", None, 999),
+                Ok(256096),
+                "refused Iterations",
+            ),
             Turn::Edit(add!(0, b"one", b"two", None), Ok(256096), "done slot 1"),
             Turn::Edit(remove!(0, b"one"), Ok(128), "done"),
             Turn::Edit(remove!(1, b"two"), Ok(128), "refused LastSlot"),
@@ -42,7 +54,10 @@ pub const SCRIPTS: [Script; 15] = [
             Turn::Edit(add!(0, b"one", b"two", None), Ok(256096), "done slot 1"),
             Turn::Edit(add!(0, b"one", b"two", None), Ok(256096), "done slot 2"),
             Turn::Edit(remove!(0, b"two"), Ok(128), "refused Locked"),
-            Turn::Text(&[(r#"{"hash":"sha256","iterations":1000,"salt":"8PHy8/T19vf4+foAAQIDBAUGBwgJCgsMDQ4PEBESExQ=","type":"pbkdf2"}"#, r#"{"cpus":1,"memory":32,"salt":"AAAAAAAAAAAAAAAAAAAAAAAAAAAAAAAAAAAAAAAAAAA=","time":4,"type":"argon2id"}"#)]),
+            Turn::Text(&[(
+                r#"{"hash":"sha256","iterations":1000,"salt":"8PHy8/T19vf4+foAAQIDBAUGBwgJCgsMDQ4PEBESExQ=","type":"pbkdf2"}"#,
+                r#"{"cpus":1,"memory":32,"salt":"AAAAAAAAAAAAAAAAAAAAAAAAAAAAAAAAAAAAAAAAAAA=","time":4,"type":"argon2id"}"#,
+            )]),
             Turn::Edit(add!(0, b"one", b"two", None), Ok(256096), "refused Argon2"),
             Turn::Edit(remove!(1, b"two"), Ok(128), "done"),
         ],
@@ -63,7 +78,11 @@ pub const SCRIPTS: [Script; 15] = [
         turns: &[
             Turn::Text(&[(r#"{"#, r#"{"#)]),
             Turn::Edit(label!(b"x"), Ok(128), "refused SeqExhausted"),
-            Turn::Edit(label!(b"xxxxxxxxxxxxxxxxxxxxxxxxxxxxxxxxxxxxxxxxxxxxxxxx"), Ok(128), "refused BadLabel"),
+            Turn::Edit(
+                label!(b"xxxxxxxxxxxxxxxxxxxxxxxxxxxxxxxxxxxxxxxxxxxxxxxx"),
+                Ok(128),
+                "refused BadLabel",
+            ),
             Turn::Edit(Edit::Repair, Ok(128), "refused SeqExhausted"),
         ],
         sums: &[
@@ -95,9 +114,17 @@ pub const SCRIPTS: [Script; 15] = [
         seqids: (1, 1),
         flipped: None,
         turns: &[
-            Turn::Edit(label!(b"xxxxxxxxxxxxxxxxxxxxxxxxxxxxxxxxxxxxxxxxxxxxxxxx"), Ok(128), "refused BadLabel"),
+            Turn::Edit(
+                label!(b"xxxxxxxxxxxxxxxxxxxxxxxxxxxxxxxxxxxxxxxxxxxxxxxx"),
+                Ok(128),
+                "refused BadLabel",
+            ),
             Turn::Edit(label!(b"x\x0a"), Ok(128), "refused BadLabel"),
-            Turn::Edit(label!(b"xxxxxxxxxxxxxxxxxxxxxxxxxxxxxxxxxxxxxxxxxxxxxxx"), Ok(128), "done"),
+            Turn::Edit(
+                label!(b"xxxxxxxxxxxxxxxxxxxxxxxxxxxxxxxxxxxxxxxxxxxxxxx"),
+                Ok(128),
+                "done",
+            ),
             Turn::Edit(label!(b""), Ok(128), "done"),
         ],
         sums: &[
@@ -114,7 +141,10 @@ pub const SCRIPTS: [Script; 15] = [
         seqids: (1, 1),
         flipped: None,
         turns: &[
-            Turn::Text(&[(r#""keyslots_size":"16744448""#, r#""keyslots_size":"258048""#)]),
+            Turn::Text(&[(
+                r#""keyslots_size":"16744448""#,
+                r#""keyslots_size":"258048""#,
+            )]),
             Turn::Edit(add!(0, b"one", b"two", None), Ok(256096), "refused NoRoom"),
             Turn::Text(&[(r#""keyslots_size":"258048""#, r#""keyslots_size":"516095""#)]),
             Turn::Edit(add!(0, b"one", b"two", None), Ok(256096), "refused NoRoom"),
@@ -133,12 +163,8 @@ pub const SCRIPTS: [Script; 15] = [
         data: Data::Elsewhere,
         seqids: (1, 1),
         flipped: None,
-        turns: &[
-            Turn::Edit(add!(0, b"one", b"two", None), Ok(256096), "refused NoRoom"),
-        ],
-        sums: &[
-            "3692da4ab327fb99e8c6d97ab6cf990048b5216a2296f2ec6c19cf9127114c5f",
-        ],
+        turns: &[Turn::Edit(add!(0, b"one", b"two", None), Ok(256096), "refused NoRoom")],
+        sums: &["3692da4ab327fb99e8c6d97ab6cf990048b5216a2296f2ec6c19cf9127114c5f"],
     },
     // a detached header long enough
     Script {
@@ -146,12 +172,8 @@ pub const SCRIPTS: [Script; 15] = [
         data: Data::Elsewhere,
         seqids: (1, 1),
         flipped: None,
-        turns: &[
-            Turn::Edit(add!(0, b"one", b"two", None), Ok(256096), "done slot 1"),
-        ],
-        sums: &[
-            "1ed146da783e555228de47f75af854a9c2e1c38411593f92c5699289ffa7c1e2",
-        ],
+        turns: &[Turn::Edit(add!(0, b"one", b"two", None), Ok(256096), "done slot 1")],
+        sums: &["1ed146da783e555228de47f75af854a9c2e1c38411593f92c5699289ffa7c1e2"],
     },
     // a gap of 4096 bytes
     Script {
@@ -160,12 +182,16 @@ pub const SCRIPTS: [Script; 15] = [
         seqids: (1, 1),
         flipped: None,
         turns: &[
-            Turn::Text(&[(r#"["0"],"salt""#, r#"["0","1"],"salt""#), (r#""type":"luks2"}}"#, r#""type":"luks2"},"1":{"af":{"hash":"sha256","stripes":4000,"type":"luks1"},"area":{"encryption":"aes-xts-plain64","key_size":64,"offset":"294912","size":"258048","type":"raw"},"kdf":{"hash":"sha256","iterations":1000,"salt":"8PHy8/T19vf4+foAAQIDBAUGBwgJCgsMDQ4PEBESExQ=","type":"pbkdf2"},"key_size":64,"type":"luks2"}}"#)]),
+            Turn::Text(&[
+                (r#"["0"],"salt""#, r#"["0","1"],"salt""#),
+                (
+                    r#""type":"luks2"}}"#,
+                    r#""type":"luks2"},"1":{"af":{"hash":"sha256","stripes":4000,"type":"luks1"},"area":{"encryption":"aes-xts-plain64","key_size":64,"offset":"294912","size":"258048","type":"raw"},"kdf":{"hash":"sha256","iterations":1000,"salt":"8PHy8/T19vf4+foAAQIDBAUGBwgJCgsMDQ4PEBESExQ=","type":"pbkdf2"},"key_size":64,"type":"luks2"}}"#,
+                ),
+            ]),
             Turn::Edit(add!(0, b"one", b"two", None), Ok(256096), "done slot 2"),
         ],
-        sums: &[
-            "0a4a46dea0ed1ad580da3bf0b4a60921b9abc0f37f8f2dabe3a5754f4ee28119",
-        ],
+        sums: &["0a4a46dea0ed1ad580da3bf0b4a60921b9abc0f37f8f2dabe3a5754f4ee28119"],
     },
     // a full JSON area
     Script {
@@ -174,8 +200,15 @@ pub const SCRIPTS: [Script; 15] = [
         seqids: (1, 1),
         flipped: None,
         turns: &[
-            Turn::Text(&[(r#""keyslots_size":"16744448""#, r#""keyslots_size":"16744448","pad":"""#)]),
-            Turn::Edit(add!(0, b"one", b"two", None), Ok(256096), "refused MetadataFull"),
+            Turn::Text(&[(
+                r#""keyslots_size":"16744448""#,
+                r#""keyslots_size":"16744448","pad":"""#,
+            )]),
+            Turn::Edit(
+                add!(0, b"one", b"two", None),
+                Ok(256096),
+                "refused MetadataFull",
+            ),
             Turn::Edit(label!(b"x"), Ok(128), "done"),
         ],
         sums: &[
@@ -190,12 +223,35 @@ pub const SCRIPTS: [Script; 15] = [
         seqids: (1, 1),
         flipped: None,
         turns: &[
-            Turn::Text(&[(r#""keyslots_size":"16744448""#, r#""keyslots_size":"16744448","requirements":{"mandatory":["online-reencrypt"]}"#)]),
-            Turn::Edit(add!(0, b"one", b"two", None), Err("refused Requirements"), "refused Requirements"),
-            Turn::Edit(remove!(0, b"one"), Err("refused Requirements"), "refused Requirements"),
-            Turn::Edit(change!(0, b"one", b"three"), Err("refused Requirements"), "refused Requirements"),
-            Turn::Edit(Edit::Repair, Err("refused Requirements"), "refused Requirements"),
-            Turn::Edit(label!(b"xxxxxxxxxxxxxxxxxxxxxxxxxxxxxxxxxxxxxxxxxxxxxxxx"), Err("refused Requirements"), "refused Requirements"),
+            Turn::Text(&[(
+                r#""keyslots_size":"16744448""#,
+                r#""keyslots_size":"16744448","requirements":{"mandatory":["online-reencrypt"]}"#,
+            )]),
+            Turn::Edit(
+                add!(0, b"one", b"two", None),
+                Err("refused Requirements"),
+                "refused Requirements",
+            ),
+            Turn::Edit(
+                remove!(0, b"one"),
+                Err("refused Requirements"),
+                "refused Requirements",
+            ),
+            Turn::Edit(
+                change!(0, b"one", b"three"),
+                Err("refused Requirements"),
+                "refused Requirements",
+            ),
+            Turn::Edit(
+                Edit::Repair,
+                Err("refused Requirements"),
+                "refused Requirements",
+            ),
+            Turn::Edit(
+                label!(b"xxxxxxxxxxxxxxxxxxxxxxxxxxxxxxxxxxxxxxxxxxxxxxxx"),
+                Err("refused Requirements"),
+                "refused Requirements",
+            ),
             Turn::Text(&[(r#"["online-reencrypt"]"#, r#"[]"#)]),
             Turn::Edit(label!(b"x"), Ok(128), "done"),
             Turn::Text(&[(r#"{"mandatory":[]}"#, r#"{}"#)]),
@@ -244,9 +300,7 @@ pub const SCRIPTS: [Script; 15] = [
             Turn::Text(&[(r#"{"#, r#"{"#)]),
             Turn::Edit(Edit::Repair, Ok(128), "done"),
         ],
-        sums: &[
-            "f7630ace08c24a85202a8f059e1e5d7d141856dc13edd21faa70e399dbf3401b",
-        ],
+        sums: &["f7630ace08c24a85202a8f059e1e5d7d141856dc13edd21faa70e399dbf3401b"],
     },
     // the second copy alone
     Script {
@@ -254,12 +308,8 @@ pub const SCRIPTS: [Script; 15] = [
         data: Data::Here,
         seqids: (1, 1),
         flipped: Some(4100),
-        turns: &[
-            Turn::Edit(Edit::Repair, Ok(128), "done"),
-        ],
-        sums: &[
-            "e631dda48d8f6df2f1a3bb457932f42d1aef31e5b6a9f31af06decda58808024",
-        ],
+        turns: &[Turn::Edit(Edit::Repair, Ok(128), "done")],
+        sums: &["e631dda48d8f6df2f1a3bb457932f42d1aef31e5b6a9f31af06decda58808024"],
     },
     // the order of the refusals
     Script {
@@ -268,13 +318,36 @@ pub const SCRIPTS: [Script; 15] = [
         seqids: (1, 1),
         flipped: None,
         turns: &[
-            Turn::Edit(add!(0, b"two", b"two", Some(0)), Err("refused SlotTaken"), "refused Locked"),
-            Turn::Edit(add!(1, b"two", b"two", None), Err("refused NoSuchSlot"), "refused NoSuchSlot"),
-            Turn::Edit(add!(0, b"one", b"two", Some(32)), Err("refused NoFreeSlot"), "refused NoFreeSlot"),
-            Turn::Edit(add!(0, b"one", b"two", Some(0)), Err("refused SlotTaken"), "refused SlotTaken"),
+            Turn::Edit(
+                add!(0, b"two", b"two", Some(0)),
+                Err("refused SlotTaken"),
+                "refused Locked",
+            ),
+            Turn::Edit(
+                add!(1, b"two", b"two", None),
+                Err("refused NoSuchSlot"),
+                "refused NoSuchSlot",
+            ),
+            Turn::Edit(
+                add!(0, b"one", b"two", Some(32)),
+                Err("refused NoFreeSlot"),
+                "refused NoFreeSlot",
+            ),
+            Turn::Edit(
+                add!(0, b"one", b"two", Some(0)),
+                Err("refused SlotTaken"),
+                "refused SlotTaken",
+            ),
             Turn::Edit(remove!(0, b"one"), Ok(129), "refused LastSlot"),
-            Turn::Text(&[(r#""keyslots_size":"16744448""#, r#""keyslots_size":"258047""#)]),
-            Turn::Edit(label!(b"x"), Err("refused Region(Slot(0))"), "refused Region(Slot(0))"),
+            Turn::Text(&[(
+                r#""keyslots_size":"16744448""#,
+                r#""keyslots_size":"258047""#,
+            )]),
+            Turn::Edit(
+                label!(b"x"),
+                Err("refused Region(Slot(0))"),
+                "refused Region(Slot(0))",
+            ),
         ],
         sums: &[
             "48296eda1bb5b6cad161f3bbbd706a7cba7b6b3212abb547107d11c47876a7b2",
