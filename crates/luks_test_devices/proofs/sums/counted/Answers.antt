@@ -1,4 +1,4 @@
-use Rattle.std.proofs.Common.{◌≡◌, length, ap, ◌∙◌, rules, arith}
+use Rattle.std.proofs.Common.{length, ap, rules}
 use Rattle.luks_test_devices.specs.Numbers.{counted_from}
 use Rattle.luks_test_devices.proofs.Counting.{counted_more}
 use Rattle.luks_test_devices.proofs.sums.counted.Goals as goal
