@@ -4,7 +4,7 @@ use Rattle.std.proofs.lemmas.Bool.{cases_lt, cases_eq}
 use Rattle.luks_area.specs.declared.area.Area.{Area}
 use Rattle.luks_area.specs.declared.area.AreaName.TheVariants.{Slot}
 use Rattle.luks_area.specs.Ranges.{part, SameBut}
-use Rattle.luks_area.specs.RangeFacts.{same_but-same, same_but-equal, same_but-wider}
+use Rattle.luks_area.specs.RangeFacts.{same_but-same, same_but-equal, same_but-then, same_but-wider}
 use Rattle.luks_head.specs.Header1.{active_word, disabled_word, enabled_word, entry}
 use Rattle.luks_head.specs.Selection.{luks1, Chosen}
 use Rattle.luks_reading.specs.declared.report.Data.{Data}
@@ -18,7 +18,7 @@ use Rattle.luks_edit.specs.declared.edit_fault.EditFault.TheVariants as fault
 use Rattle.luks_edit.specs.Kept.{Keeps}
 use Rattle.luks1_edits.specs.Edited.{After1, HoldsKey, IsFreed, IsInUse, IsLeastFree, IsMade, IsNewKeyslot, IsWiped, NamedKeyslots1, OpensAfter1, Removes}
 use Rattle.luks1_edits.specs.Kept.{AreKeyslots, ChangesKeyslots, IsEither, IsFitFor, KeepsOthers}
-use Rattle.luks1_edits.specs.Leftovers.{IsTorn1, Leftover1, OpensEither1}
+use Rattle.luks1_edits.specs.Leftovers.{IsSealedFirst, IsTorn1, Leftover1, OpensEither1}
 use Rattle.luks1_edits.specs.Places.{area_len, area_start, IsOfKeyslots}
 use Rattle.luks1_edits.specs.Refused.{IsUnrefused1}
 use Rattle.luks1_edits.proofs.AnswerFacts.{answer_moves}
@@ -101,6 +101,11 @@ one_named named slot is n either = let one : n ≡ slot = elim either [ inl y �
 
 pub two_named : (named : ℕ → Type 0) (a b : ℕ) → named a → named b → (n : ℕ) → IsEither a b n → named n
 two_named named a b is_a is_b n either = elim either [ inl y ↦ subst named (sym y) is_a | inr y ↦ subst named (sym y) is_b ]
+
+-- while a keyslot was made, no byte of another one changed
+half_made_rest : {v p key random w : List ℕ} {n iterations : ℕ} → IsSealedFirst v n iterations p key random w → SameBut (IsOfKeyslots v (IsEither n n)) v w
+half_made_rest {n = n} (inl same) = same_but-wider (λ q at. record { keyslot = n; is_named = inl refl; of = inr at }) same
+half_made_rest {n = n} (inr x) = same_but-then x.made.rest (same_but-wider (λ q at. record { keyslot = n; is_named = inl refl; of = inl at }) x.rest)
 
 -- the least free keyslot is one
 least_free_once : (v : List ℕ) (a b : ℕ) → IsLeastFree v a → IsLeastFree v b → a ≡ b
@@ -211,13 +216,13 @@ module _ (laws : HeaderLaws) (payload : Data) (v : List ℕ) (chosen : Chosen v 
     opens_either (Add by_ old new to iterations) r w free x = tt
     opens_either (Change slot old new iterations) r w free (inl x) = λ key opened.
         let used = in_use v slot (λ not. free.none fault.NoSuchSlot (record { slot = slot; passphrase = old.now; asked = (refl, refl); unused = not })) in
-        let lt : x.slot < 8 = x.is.free.0 in
+        let lt : x.slot < 8 = x.is_new.free.0 in
         let other : IsEither x.slot x.slot slot → ⊥ = λ either.
         let one : slot ≡ x.slot = elim either [ inl y ↦ y | inr y ↦ y ] in
-        let two : enabled_word ≡ disabled_word = sym used.1 ∙ ap (λ k. active_word (entry v k)) one ∙ x.is.free.1 in
+        let two : enabled_word ≡ disabled_word = sym used.1 ∙ ap (λ k. active_word (entry v k)) one ∙ x.is_new.free.1 in
         omega (arith, two) in
         inl (answer_moves laws slot v w old.now (opens key) chosen
-        (same_keyslot v payload (volume_of laws v payload chosen well).fit w (IsEither x.slot x.slot) (either_keyslots x.slot x.slot lt lt) x.rest slot other) opened)
+        (same_keyslot v payload (volume_of laws v payload chosen well).fit w (IsEither x.slot x.slot) (either_keyslots x.slot x.slot lt lt) (half_made_rest x.order) slot other) opened)
     opens_either (Change slot old new iterations) r w free (inr x) = λ key opened.
         let used : slot < 8 = named_numbered v payload (Change slot old new iterations) r free slot (inl refl) in
         inr (
@@ -245,10 +250,10 @@ module _ (laws : HeaderLaws) (payload : Data) (v : List ℕ) (chosen : Chosen v 
 
   torn_rest : (e : Edit) (r w : List ℕ) → IsTorn1 v e r w → SameBut (IsOfKeyslots v (NamedKeyslots1 v e)) v w
   torn_rest (Add by_ old new to iterations) r w x =
-      places_wider (IsEither x.slot x.slot) (IsNewKeyslot v to) v w (one_named (IsNewKeyslot v to) x.slot x.is) x.rest
+      places_wider (IsEither x.slot x.slot) (IsNewKeyslot v to) v w (one_named (IsNewKeyslot v to) x.slot x.is_new) (half_made_rest x.order)
   torn_rest (Change slot old new iterations) r w (inl x) =
       places_wider (IsEither x.slot x.slot) (NamedKeyslots1 v (Change slot old new iterations)) v w
-      (one_named (NamedKeyslots1 v (Change slot old new iterations)) x.slot (inr x.is)) x.rest
+      (one_named (NamedKeyslots1 v (Change slot old new iterations)) x.slot (inr x.is_new)) (half_made_rest x.order)
   torn_rest (Change slot old new iterations) r w (inr x) =
       places_wider (IsEither slot x.fresh) (NamedKeyslots1 v (Change slot old new iterations)) v w
       (two_named (NamedKeyslots1 v (Change slot old new iterations)) slot x.fresh (inl refl) (inr x.is_free)) x.rest
