@@ -5,8 +5,11 @@ use Rattle.luks_area.specs.declared.area.Area.{Area}
 use Rattle.luks_area.specs.declared.area.AreaName.TheVariants.{Slot}
 use Rattle.luks_area.specs.Ranges.{part, SameBut}
 use Rattle.luks_area.specs.RangeFacts.{same_but-same, same_but-equal, same_but-then, same_but-wider}
-use Rattle.luks_head.specs.Header1.{active_word, disabled_word, enabled_word, entry}
+use Rattle.luks_head.specs.Faults.{HasUnknownState, LacksIterations}
+use Rattle.luks_head.specs.Header1.{active_word, disabled_word, enabled_word, entry, entry_key_material_offset, entry_stripes}
 use Rattle.luks_head.specs.Selection.{luks1, Chosen}
+use Rattle.luks_head.specs.declared.fault.HeadFault.TheVariants as head
+use Rattle.luks_head.specs.declared.fault.IterationsOf.TheVariants as of
 use Rattle.luks_reading.specs.declared.report.Data.{Data}
 use Rattle.luks_reading.specs.Agreement.{IsSameAnswer}
 use Rattle.luks_reading.specs.Answer.{Answer, Opened, opens}
@@ -18,11 +21,11 @@ use Rattle.luks_edit.specs.declared.edit_fault.EditFault.TheVariants as fault
 use Rattle.luks_edit.specs.Kept.{Keeps}
 use Rattle.luks1_edits.specs.Edited.{After1, HoldsKey, IsFreed, IsInUse, IsLeastFree, IsMade, IsNewKeyslot, IsWiped, NamedKeyslots1, OpensAfter1, Removes}
 use Rattle.luks1_edits.specs.Kept.{AreKeyslots, ChangesKeyslots, IsEither, IsFitFor, KeepsOthers}
-use Rattle.luks1_edits.specs.Leftovers.{IsSealedFirst, IsTorn1, Leftover1, OpensEither1}
+use Rattle.luks1_edits.specs.Leftovers.{IsSealedFirst, IsTorn1, IsUntorn, Leftover1, OpensEither1}
 use Rattle.luks1_edits.specs.Places.{area_len, area_start, IsOfKeyslots}
 use Rattle.luks1_edits.specs.Refused.{IsUnrefused1}
 use Rattle.luks1_edits.proofs.AnswerFacts.{answer_moves}
-use Rattle.luks1_edits.proofs.HeaderFacts.{HeaderLaws, len_is, start_is, volume_of}
+use Rattle.luks1_edits.proofs.HeaderFacts.{HeaderLaws, entry_is, header_clear, len_is, start_is, volume_of}
 use Rattle.luks1_edits.proofs.KeptFacts.{either_decided, keeps_others, kept_common, luks1_after, luks1_area_of, same_keyslot, stays_well_formed}
 use Rattle.luks1_edits.proofs.MadeKeyslotFacts.{IsMadeFrom, KeyslotLaws, made_opens}
 
@@ -271,6 +274,49 @@ module _ (laws : HeaderLaws) (payload : Data) (v : List ℕ) (chosen : Chosen v 
   leftover_keeps e r w (inr x) =
       keeps_others laws payload (NamedKeyslots1 v e) v w
       (record { keyslots = record { numbered = named_numbered v payload e r x.0 }; chosen = chosen; well = well; rest = torn_rest e r w x.1 })
+
+  -- ---- where no entry was torn
+
+  -- an entry that isn't torn is fit for use
+  untorn_fits : (w : List ℕ) (n : ℕ) → n < 8 → IsUntorn v w n → IsFitFor (entry v n) (entry w n)
+  untorn_fits w n lt (inl same) =
+      let clear = header_clear laws v payload chosen well in
+      let here : entry (part v 0 592) n ≡ entry w n = entry_is v n lt ∙ sym same in
+      record {
+        stated = λ none. clear (head.SlotState n) (lt, subst HasUnknownState (sym here) none);
+        offset = ap entry_key_material_offset same;
+        stripes = ap entry_stripes same;
+        iterated = λ none. clear (head.Iterations (of.Slot n)) (lt, subst LacksIterations (sym here) none);
+      }
+  untorn_fits w n lt (inr fits) = fits
+
+  -- so the volume is accepted still
+  untorn_well : (e : Edit) (r w : List ℕ) → IsUnrefused1 v payload e r → IsTorn1 v e r w → ((n : ℕ) → NamedKeyslots1 v e n → IsUntorn v w n) → WellFormed w payload
+  untorn_well (Add by_ old new to iterations) r w free x untorn =
+      let lt : x.slot < 8 = named_numbered v payload (Add by_ old new to iterations) r free x.slot x.is_new in
+      let fits = untorn_fits w x.slot lt (untorn x.slot x.is_new) in
+      (both_leave (IsNewKeyslot v to) x.slot x.slot w lt lt (half_made_rest x.order) fits fits x.is_new x.is_new).well
+  untorn_well (Change slot old new iterations) r w free (inl x) untorn =
+      let lt : x.slot < 8 = x.is_new.free.0 in
+      let fits = untorn_fits w x.slot lt (untorn x.slot (inr x.is_new)) in
+      (both_leave (NamedKeyslots1 v (Change slot old new iterations)) x.slot x.slot w lt lt (half_made_rest x.order) fits fits (inr x.is_new) (inr x.is_new)).well
+  untorn_well (Change slot old new iterations) r w free (inr x) untorn =
+      let used : slot < 8 = named_numbered v payload (Change slot old new iterations) r free slot (inl refl) in
+      let lt : x.fresh < 8 = x.is_free.free.0 in
+      (both_leave (NamedKeyslots1 v (Change slot old new iterations)) slot x.fresh w used lt x.rest
+      (untorn_fits w slot used (untorn slot (inl refl))) (untorn_fits w x.fresh lt (untorn x.fresh (inr x.is_free))) (inl refl) (inr x.is_free)).well
+  untorn_well (Remove slot passphrase) r w free x untorn =
+      let used : slot < 8 = named_numbered v payload (Remove slot passphrase) r free slot refl in
+      let fits = untorn_fits w slot used (untorn slot refl) in
+      (both_leave (λ n. n ≡ slot) slot slot w used used x.rest fits fits refl refl).well
+  untorn_well Repair r w free x untorn = absurd x
+  untorn_well (Label text) r w free x untorn = absurd x
+
+  pub leftover_accepted : (e : Edit) (r w : List ℕ) → Leftover1 v payload e r w → ((n : ℕ) → NamedKeyslots1 v e n → IsUntorn v w n) → Keeps payload (NamedKeyslots1 v e) v w
+  leftover_accepted e r w left untorn =
+      let others = leftover_keeps e r w left in
+      let still : WellFormed w payload = elim left [ inl same ↦ subst (λ u. WellFormed u payload) (sym same) well | inr x ↦ untorn_well e r w x.0 x.1 untorn ] in
+      record { size = others.size; well = still; segments = others.segments; slots = others.slots }
 
   -- ---- the area of a keyslot that was removed
 

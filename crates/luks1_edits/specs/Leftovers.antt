@@ -9,7 +9,7 @@ use Rattle.luks_reading.specs.Answer.{Answer, opens}
 use Rattle.luks_edit.specs.declared.edit.Edit.{Edit}
 use Rattle.luks_edit.specs.declared.edit.Edit.TheVariants.{Add, Change, Remove, Repair, Label}
 use Rattle.luks1_edits.specs.Edited.{HoldsKey, IsFreed, IsLeastFree, IsMade, IsNewKeyslot}
-use Rattle.luks1_edits.specs.Kept.{IsEither}
+use Rattle.luks1_edits.specs.Kept.{IsEither, IsFitFor}
 use Rattle.luks1_edits.specs.Places.{area_len, area_start, entry_place, IsOfKeyslots}
 use Rattle.luks1_edits.specs.Refused.{IsUnrefused1}
 use Rattle.luks1_edits.specs.Steps.{IsMadeIn}
@@ -80,6 +80,10 @@ IsTorn1 v (Label text) random w = ⊥
 -- was torn while it wrote
 abbrev pub Leftover1 : List ℕ → Data → Edit → List ℕ → List ℕ → Type 0
 Leftover1 v payload e random w = (w ≡ v) ⊎ (IsUnrefused1 v payload e random × IsTorn1 v e random w)
+
+-- the entry of the keyslot `n` isn't torn: it is as it was, or fit for use in its place
+abbrev pub IsUntorn : List ℕ → List ℕ → ℕ → Type 0
+IsUntorn v w n = (entry w n ≡ entry v n) ⊎ IsFitFor (entry v n) (entry w n)
 
 -- the keyslot that was changed opens by the old passphrase, or the new one by the new passphrase,
 -- to the key that the old one opened before
