@@ -91,10 +91,10 @@ module _ (j k : Value) (slot like iterations : ℕ) (salt : List ℕ) (area : Ar
 -- ---- the addition to a volume
 
 -- its rows up to that of the label were judged
-pub record IsJudgedAddition (v : List ℕ) (payload : Data) (copy : ChosenCopy) (addition : Addition) (old : Bor (List ℕ)) (to : Option ℕ) (key random : List ℕ) : Type 0 where
+pub record IsJudgedAddition (v : List ℕ) (payload : Data) (copy : ChosenCopy) (addition : Addition) (old new : Bor (List ℕ)) (to : Option ℕ) (key random : List ℕ) : Type 0 where
   pub chosen : IsChosenCopy v copy
   pub well : WellFormed v payload
-  pub before : HasNoFaultBefore 12 v payload (Add addition.by_ old addition.new to addition.iterations) random
+  pub before : HasNoFaultBefore 12 v payload (Add addition.by_ old new to addition.iterations) random
   pub opened : Answer v addition.by_ old.now (opens key)
   pub is_new : IsNewKeyslot (content copy.meta) to addition.made
   pub place : IsNewArea (hdr_size (header_at v copy.header.hdr_offset)) (length v) payload (content copy.meta) addition.by_ addition.area
@@ -103,9 +103,9 @@ pub record IsJudgedAddition (v : List ℕ) (payload : Data) (copy : ChosenCopy) 
 abbrev pub sealing_of : Addition → Sealing
 sealing_of a = record { keyslot = Made a.made a.by_; iterations = a.iterations; area = a.area }
 
-module _ (v : List ℕ) (payload : Data) (copy : ChosenCopy) (addition : Addition) (old : Bor (List ℕ)) (to : Option ℕ) (key random : List ℕ)
-    (x : IsJudgedAddition v payload copy addition old to key random) where
-  pub addition_seals : IsSealingEdit v payload (Add addition.by_ old addition.new to addition.iterations) random copy (sealing_of addition)
+module _ (v : List ℕ) (payload : Data) (copy : ChosenCopy) (addition : Addition) (old new : Bor (List ℕ)) (to : Option ℕ) (key random : List ℕ)
+    (x : IsJudgedAddition v payload copy addition old new to key random) where
+  pub addition_seals : IsSealingEdit v payload (Add addition.by_ old new to addition.iterations) random copy (sealing_of addition)
   addition_seals = record {
     chosen = x.chosen;
     well = x.well;
@@ -125,11 +125,11 @@ module _ (v : List ℕ) (payload : Data) (copy : ChosenCopy) (addition : Additio
         (made_alike (content copy.meta) k addition.made addition.by_ addition.iterations (keyslot_salt random) addition.area gained small)
         (hdr_size (header_at v copy.header.hdr_offset)) (length v) payload p x.place at
 
-    sealed_in : (w : List ℕ) → HoldsKey w k addition.made addition.new.now key (stripes_random random)
-        → HoldsOpened v addition.by_ old.now addition.new.now (IsNewKeyslot (content copy.meta) to) random w k
+    sealed_in : (w : List ℕ) → HoldsKey w k addition.made new.now key (stripes_random random)
+        → HoldsOpened v addition.by_ old.now new.now (IsNewKeyslot (content copy.meta) to) random w k
     sealed_in w holds = record { slot = addition.made; is_made = x.is_new; key = key; opened = x.opened; holds = holds }
 
-    pub addition_sealing : IsSealing v payload (Add addition.by_ old addition.new to addition.iterations) random copy.header.hdr_offset (content copy.meta) k addition.made addition.new.now key
+    pub addition_sealing : IsSealing v payload (Add addition.by_ old new to addition.iterations) random copy.header.hdr_offset (content copy.meta) k addition.made new.now key
     addition_sealing = record { sealed = sealed_in; place = place_in }
 
     -- its plan isn't refused
@@ -138,16 +138,16 @@ module _ (v : List ℕ) (payload : Data) (copy : ChosenCopy) (addition : Additio
         (opened_plan laws v copy.header.hdr_offset (content copy.meta) addition.by_ old.now key (metadata_here laws v payload copy x.chosen x.well) x.opened)
         digests bad
 
-    module _ (edited : IsEdited (hdr_size (header_at v copy.header.hdr_offset)) (length v) payload (Add addition.by_ old addition.new to addition.iterations) (keyslot_salt random) (content copy.meta) k)
+    module _ (edited : IsEdited (hdr_size (header_at v copy.header.hdr_offset)) (length v) payload (Add addition.by_ old new to addition.iterations) (keyslot_salt random) (content copy.meta) k)
         (w : List ℕ) where
       touched : (p : ℕ) → IsOfEither (IsOfStripesOf k addition.made) (IsOfCopies (hdr_size (header_at v copy.header.hdr_offset))) p
-          → IsTouched (hdr_size (header_at v copy.header.hdr_offset)) (length v) payload (content copy.meta) (Add addition.by_ old addition.new to addition.iterations) p
+          → IsTouched (hdr_size (header_at v copy.header.hdr_offset)) (length v) payload (content copy.meta) (Add addition.by_ old new to addition.iterations) p
       touched p (inl at) = inr (inl (place_in p at))
       touched p (inr at) = inl at
 
       -- what it leaves where it was done
-      pub added_after : IsKeyslotWritten v copy.header.hdr_offset (Add addition.by_ old addition.new to addition.iterations) random k addition.made addition.new.now key w
-          → After2 v payload (Add addition.by_ old addition.new to addition.iterations) random w
+      pub added_after : IsKeyslotWritten v copy.header.hdr_offset (Add addition.by_ old new to addition.iterations) random k addition.made new.now key w
+          → After2 v payload (Add addition.by_ old new to addition.iterations) random w
       added_after written = record {
         place = copy.header.hdr_offset;
         value = content copy.meta;

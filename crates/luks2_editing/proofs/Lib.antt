@@ -2,7 +2,6 @@ mod NewCopyFacts
 mod RewritingFacts
 mod RowFacts
 mod RenewalFacts
-mod PlainEditFacts
 mod KeyAreaFacts
 mod JudgedFacts
 mod LostFacts

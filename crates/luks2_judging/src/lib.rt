@@ -5,6 +5,7 @@ mod accepted;
 mod asked;
 mod judging;
 mod keyslots;
+mod labels;
 mod laws;
 mod needing;
 mod room;

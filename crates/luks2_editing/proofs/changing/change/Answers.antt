@@ -19,16 +19,15 @@ use Rattle.luks2_editing.proofs.RenewalFacts.{renewing, VolumeLaws}
 use Rattle.luks2_editing.proofs.changing.change.Goals as goal
 
 pub returns-in_err-lost-clause-replies : goal.returns-in_err-lost-clause-replies
-returns-in_err-lost-clause-replies g c = λ tells payload x well before opened place.
+returns-in_err-lost-clause-replies g c = λ tells payload old x well before opened place.
     let v = g.D.Device.bytes c.args.device.now in
     let copy = c.args.copy.now in
-    let random = c.args.random.now in
-    let slot = c.args.slot in
-    let old = c.args.old in
-    let new = c.args.new in
-    let turns = c.args.iterations in
-    let key = c.args.key.now in
-    let area = c.args.area in
+    let random = c.args.secrets.now.random.now in
+    let slot = c.args.renewal.now.slot in
+    let new = c.args.secrets.now.passphrase in
+    let turns = c.args.renewal.now.iterations in
+    let key = c.args.secrets.now.key.now in
+    let area = c.args.renewal.now.area in
     let laws : VolumeLaws = record { only = c.one_choice.ensures.only; sound = c.chosen_copy_is_sound.ensures; value = c.one_value.ensures; fits = c.well_formed_volume.ensures } in
     let size : length v ≡ g.D.Device.size c.args.device.now = g.met.D.Device.sized c.args.device.now tells in
     let total : length v ≡ c.len.result = size ∙ sym c.len.ensures in
@@ -39,16 +38,15 @@ returns-in_err-lost-clause-replies g c = λ tells payload x well before opened p
     absurd (false≢true (c.in_err-lost.ensures.found there))
 
 pub returns-in_err-made-clause-replies : goal.returns-in_err-made-clause-replies
-returns-in_err-made-clause-replies g c = λ tells payload x well before opened place.
+returns-in_err-made-clause-replies g c = λ tells payload old x well before opened place.
     let v = g.D.Device.bytes c.args.device.now in
     let copy = c.args.copy.now in
-    let random = c.args.random.now in
-    let slot = c.args.slot in
-    let old = c.args.old in
-    let new = c.args.new in
-    let turns = c.args.iterations in
-    let key = c.args.key.now in
-    let area = c.args.area in
+    let random = c.args.secrets.now.random.now in
+    let slot = c.args.renewal.now.slot in
+    let new = c.args.secrets.now.passphrase in
+    let turns = c.args.renewal.now.iterations in
+    let key = c.args.secrets.now.key.now in
+    let area = c.args.renewal.now.area in
     let laws : VolumeLaws = record { only = c.one_choice.ensures.only; sound = c.chosen_copy_is_sound.ensures; value = c.one_value.ensures; fits = c.well_formed_volume.ensures } in
     let size : length v ≡ g.D.Device.size c.args.device.now = g.met.D.Device.sized c.args.device.now tells in
     let total : length v ≡ c.len-2.result = size ∙ sym c.len-2.ensures in
@@ -69,26 +67,26 @@ returns-in_err-made-clause-replies g c = λ tells payload x well before opened p
 pub write_keyslot-requires-clause-sealable : goal.write_keyslot-requires-clause-sealable
 write_keyslot-requires-clause-sealable g c =
     let copy = c.args.copy.now in
+    let renewal = c.args.renewal.now in
     let made = c.in_ok-made.ensures in
     let j = content copy.meta in
     let k = content c.in_ok-made.made.meta in
     let within : IsCopyWithin copy.header (area_len copy.meta) (g.D.Device.size c.args.device.now) =
     subst (λ (n : ℕ). IsCopyWithin copy.header n (g.D.Device.size c.args.device.now)) made.length
     (subst (λ (n : ℕ). IsCopyWithin copy.header (area_len c.in_ok-made.made.meta) n) c.len-2.ensures made.within) in
-    alike_sealable j k c.args.slot c.args.slot c.args.area (renewed_alike j k c.args.slot c.args.iterations _ c.args.area made.made)
-    (area_len copy.meta) (g.D.Device.size c.args.device.now) copy.header c.args.key.now c.args.random.now made.counted c.requires.key_length c.requires.placed within
+    alike_sealable j k renewal.slot renewal.slot renewal.area (renewed_alike j k renewal.slot renewal.iterations _ renewal.area made.made)
+    (area_len copy.meta) (g.D.Device.size c.args.device.now) copy.header c.args.secrets.now.key.now c.args.secrets.now.random.now made.counted c.requires.key_length c.requires.placed within
 
 pub returns-in_err-write_keyslot-clause-replies : goal.returns-in_err-write_keyslot-clause-replies
-returns-in_err-write_keyslot-clause-replies g c = λ tells payload x well before opened place.
+returns-in_err-write_keyslot-clause-replies g c = λ tells payload old x well before opened place.
     let v = g.D.Device.bytes c.args.device.now in
     let copy = c.args.copy.now in
-    let random = c.args.random.now in
-    let slot = c.args.slot in
-    let old = c.args.old in
-    let new = c.args.new in
-    let turns = c.args.iterations in
-    let key = c.args.key.now in
-    let area = c.args.area in
+    let random = c.args.secrets.now.random.now in
+    let slot = c.args.renewal.now.slot in
+    let new = c.args.secrets.now.passphrase in
+    let turns = c.args.renewal.now.iterations in
+    let key = c.args.secrets.now.key.now in
+    let area = c.args.renewal.now.area in
     let laws : VolumeLaws = record { only = c.one_choice.ensures.only; sound = c.chosen_copy_is_sound.ensures; value = c.one_value.ensures; fits = c.well_formed_volume.ensures } in
     let size : length v ≡ g.D.Device.size c.args.device.now = g.met.D.Device.sized c.args.device.now tells in
     let total : length v ≡ c.len-2.result = size ∙ sym c.len-2.ensures in
@@ -118,16 +116,15 @@ returns-in_err-write_keyslot-clause-replies g c = λ tells payload x well before
     c.in_err-write_keyslot.field-0.0 c.in_err-write_keyslot.ensures.fault)
 
 pub returns-in-Ok-clause-replies : goal.returns-in-Ok-clause-replies
-returns-in-Ok-clause-replies g c = λ tells payload x well before opened place.
+returns-in-Ok-clause-replies g c = λ tells payload old x well before opened place.
     let v = g.D.Device.bytes c.args.device.now in
     let copy = c.args.copy.now in
-    let random = c.args.random.now in
-    let slot = c.args.slot in
-    let old = c.args.old in
-    let new = c.args.new in
-    let turns = c.args.iterations in
-    let key = c.args.key.now in
-    let area = c.args.area in
+    let random = c.args.secrets.now.random.now in
+    let slot = c.args.renewal.now.slot in
+    let new = c.args.secrets.now.passphrase in
+    let turns = c.args.renewal.now.iterations in
+    let key = c.args.secrets.now.key.now in
+    let area = c.args.renewal.now.area in
     let laws : VolumeLaws = record { only = c.one_choice.ensures.only; sound = c.chosen_copy_is_sound.ensures; value = c.one_value.ensures; fits = c.well_formed_volume.ensures } in
     let size : length v ≡ g.D.Device.size c.args.device.now = g.met.D.Device.sized c.args.device.now tells in
     let total : length v ≡ c.len-2.result = size ∙ sym c.len-2.ensures in
@@ -159,16 +156,15 @@ returns-in-Ok-clause-replies g c = λ tells payload x well before opened place.
     }
 
 pub returns-clause-replies : goal.returns-clause-replies
-returns-clause-replies g c = λ tells payload x well before opened place.
+returns-clause-replies g c = λ tells payload old x well before opened place.
     let v = g.D.Device.bytes c.args.device.now in
     let copy = c.args.copy.now in
-    let random = c.args.random.now in
-    let slot = c.args.slot in
-    let old = c.args.old in
-    let new = c.args.new in
-    let turns = c.args.iterations in
-    let key = c.args.key.now in
-    let area = c.args.area in
+    let random = c.args.secrets.now.random.now in
+    let slot = c.args.renewal.now.slot in
+    let new = c.args.secrets.now.passphrase in
+    let turns = c.args.renewal.now.iterations in
+    let key = c.args.secrets.now.key.now in
+    let area = c.args.renewal.now.area in
     let laws : VolumeLaws = record { only = c.one_choice.ensures.only; sound = c.chosen_copy_is_sound.ensures; value = c.one_value.ensures; fits = c.well_formed_volume.ensures } in
     let size : length v ≡ g.D.Device.size c.args.device.now = g.met.D.Device.sized c.args.device.now tells in
     let total : length v ≡ c.len-2.result = size ∙ sym c.len-2.ensures in
