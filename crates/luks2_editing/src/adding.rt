@@ -26,6 +26,7 @@ use luks_edit::{Done, EditFault};
 use luks_head::{chosen_copy_is_sound, one_choice};
 use luks_meta::{one_digest, one_value};
 use luks_reading::{ChosenCopy, well_formed_volume};
+use luks2_judging::told_once;
 use std::alloc::Global;
 
 /// A keyslot that is added, as the rows of the faults up to `BadLabel` were judged.
@@ -80,6 +81,7 @@ pub(crate) fn add<D: Device>(
     one_digest();
     chosen_copy_is_sound();
     well_formed_volume();
+    told_once();
     let keyslot = SealedSlot::Made {
         slot: addition.made,
         like: addition.by_,

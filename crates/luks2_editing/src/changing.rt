@@ -27,6 +27,7 @@ use luks_head::{chosen_copy_is_sound, one_choice, soundness_is_local};
 use luks_meta::one_value;
 use luks_reading::{ChosenCopy, well_formed_volume};
 use luks_steps::wipe_area;
+use luks2_judging::told_once;
 use std::alloc::Global;
 
 /// A keyslot that is sealed again, as the rows of the faults up to `BadLabel` were judged.
@@ -79,6 +80,7 @@ pub(crate) fn change<D: Device>(
     chosen_copy_is_sound();
     soundness_is_local();
     well_formed_volume();
+    told_once();
     let lost = lost_area(&copy.meta, renewal.slot, device.len())?;
     let sealing = Sealing {
         keyslot: SealedSlot::Renewed { slot: renewal.slot },

@@ -20,6 +20,7 @@ use luks_area::Device;
 use luks_edit::EditFault;
 use luks_head::Bin2;
 use luks_reading::luks2_plan;
+use luks2_judging::told_once;
 
 /// Seals the key in the area of the keyslot `n` of the new metadata, and then writes both copies
 /// anew with that metadata from the chosen one's binary header: the other one first. A flush follows
@@ -59,6 +60,7 @@ pub(crate) fn write_keyslot<D: Device>(
         → IsTornAt (D.bytes device.old) payload e secrets.now.random.now chosen.now.hdr_offset j
         (content made.now.meta) (D.bytes device.new) }
 {
+    told_once();
     let keyslot = made.meta.keyslot(n).unwrap();
     let number = made.meta.digest_of_keyslot(n).unwrap();
     let digest = made.meta.digest(number).unwrap();

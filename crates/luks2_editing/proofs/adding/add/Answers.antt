@@ -9,6 +9,7 @@ use Rattle.luks2_editing.specs.Rewriting.{IsRenewing}
 use Rattle.luks2_editing.proofs.AdditionFacts.{added_after, addition_fine, addition_sealing, addition_seals, made_alike, made_in, IsJudgedAddition}
 use Rattle.luks2_editing.proofs.NewKeyslotFacts.{alike_sealable, unsealed_ends}
 use Rattle.luks2_editing.proofs.RenewalFacts.{renewing, VolumeLaws}
+use Rattle.luks2_editing.proofs.ToldFacts.{ToldLaws}
 use Rattle.luks2_editing.proofs.adding.add.Goals as goal
 
 pub returns-in_err-made-clause-replies : goal.returns-in_err-made-clause-replies
@@ -27,6 +28,7 @@ returns-in_err-made-clause-replies g c = λ tells payload old to chosen well bef
 
 pub write_keyslot-requires-clause-sealable : goal.write_keyslot-requires-clause-sealable
 write_keyslot-requires-clause-sealable g c =
+    let told : ToldLaws = record { range = c.told_once.ensures.range; stripes = c.told_once.ensures.stripes; need = c.told_once.ensures.need } in
     let copy = c.args.copy.now in
     let addition = c.args.addition.now in
     let within : IsCopyWithin copy.header (area_len copy.meta) (g.D.Device.size c.args.device.now) =
@@ -34,11 +36,12 @@ write_keyslot-requires-clause-sealable g c =
     (subst (λ (n : ℕ). IsCopyWithin copy.header (area_len c.in_ok-made.made.meta) n) c.len.ensures c.in_ok-made.ensures.within) in
     let j = content copy.meta in
     let k = content c.in_ok-made.made.meta in
-    alike_sealable j k addition.by_ addition.made addition.area (made_alike j k addition.made addition.by_ addition.iterations _ addition.area c.in_ok-made.ensures.made c.requires.free.small)
+    alike_sealable told j k addition.by_ addition.made addition.area (made_alike j k addition.made addition.by_ addition.iterations _ addition.area c.in_ok-made.ensures.made c.requires.free.small)
     (area_len copy.meta) (g.D.Device.size c.args.device.now) copy.header c.args.secrets.now.key.now c.args.secrets.now.random.now c.in_ok-made.ensures.counted c.requires.key_length c.requires.placed within
 
 pub returns-in_err-write_keyslot-clause-replies : goal.returns-in_err-write_keyslot-clause-replies
 returns-in_err-write_keyslot-clause-replies g c = λ tells payload old to chosen well before opened is_new place.
+    let told : ToldLaws = record { range = c.told_once.ensures.range; stripes = c.told_once.ensures.stripes; need = c.told_once.ensures.need } in
     let v = g.D.Device.bytes c.args.device.now in
     let copy = c.args.copy.now in
     let addition = c.args.addition.now in
@@ -56,12 +59,13 @@ returns-in_err-write_keyslot-clause-replies g c = λ tells payload old to chosen
     let p = err_from_is_err_and c.from_residual-in_err-write_keyslot.result c.from_residual-in_err-write_keyslot.ensures.1 in
     rw (p.1, p.2)
     (unsealed_ends laws v payload copy chosen well e random k (c.in_ok-made.ensures.unrefused v payload e seals total) (c.in_ok-made.ensures.edited v payload e seals total)
-    (g.D.Device.bytes c.write_keyslot.new.device) addition.made (addition_fine v payload copy addition old new to key random x laws digests c.requires.free.small k c.in_ok-made.ensures.made)
-    (c.write_keyslot.ensures.torn tells payload e (content copy.meta) renews (addition_sealing v payload copy addition old new to key random x laws digests c.requires.free.small k c.in_ok-made.ensures.made))
+    (g.D.Device.bytes c.write_keyslot.new.device) addition.made (addition_fine v payload copy addition old new to key random x laws told digests c.requires.free.small k c.in_ok-made.ensures.made)
+    (c.write_keyslot.ensures.torn tells payload e (content copy.meta) renews (addition_sealing v payload copy addition old new to key random x laws told digests c.requires.free.small k c.in_ok-made.ensures.made))
     c.in_err-write_keyslot.field-0.0 c.in_err-write_keyslot.ensures.fault)
 
 pub returns-clause-replies : goal.returns-clause-replies
 returns-clause-replies g c = λ tells payload old to chosen well before opened is_new place.
+    let told : ToldLaws = record { range = c.told_once.ensures.range; stripes = c.told_once.ensures.stripes; need = c.told_once.ensures.need } in
     let v = g.D.Device.bytes c.args.device.now in
     let copy = c.args.copy.now in
     let addition = c.args.addition.now in
@@ -81,6 +85,6 @@ returns-clause-replies g c = λ tells payload old to chosen well before opened i
     let w = g.D.Device.bytes c.write_keyslot.new.device in
     record {
       unrefused = unrefused;
-      after = added_after v payload copy addition old new to key random x laws digests c.requires.free.small k c.in_ok-made.ensures.made edited w (c.in_ok-write_keyslot.ensures.written tells e renews);
-      told = made_in v payload copy addition old new to key random x laws digests c.requires.free.small k c.in_ok-made.ensures.made edited w;
+      after = added_after v payload copy addition old new to key random x laws told digests c.requires.free.small k c.in_ok-made.ensures.made edited w (c.in_ok-write_keyslot.ensures.written tells e renews);
+      told = made_in v payload copy addition old new to key random x laws told digests c.requires.free.small k c.in_ok-made.ensures.made edited w;
     }
