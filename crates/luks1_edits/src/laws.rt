@@ -16,7 +16,7 @@ ghost use Rattle.luks1_edits.specs.Edited.{After1, NamedKeyslots1, OpensAfter1, 
 ghost use Rattle.luks1_edits.specs.Kept.{HasSameKeyslot, KeepsOthers};
 ghost use Rattle.luks1_edits.specs.Leftovers.{IsUntorn, Leftover1, OpensEither1};
 ghost use Rattle.luks1_edits.specs.Places.{IsOfKeyslots};
-ghost use Rattle.luks1_edits.specs.Refused.{IsUnrefused1, Refusal1};
+ghost use Rattle.luks1_edits.specs.Refused.{IsEditFault1, IsUnrefused1, Refusal1};
 
 use luks_head::{luks1_is_first_bytes, luks1_without_faults, one_choice};
 use luks_reading::one_answer;
@@ -74,7 +74,8 @@ pub fn luks1_edit_opens()
 /// What a failing device call leaves of a well formed LUKS1 volume has its length and its segments'
 /// bytes, and each keyslot that the edit didn't name has its answers, its entry and its area. Where
 /// no entry that it named is torn, the volume is well formed still. A keyslot that was changed opens
-/// by the old passphrase, or the new one by the new passphrase, to the same key.
+/// by the old passphrase, or the new one by the new passphrase, to the same key. Where a fault
+/// refuses the edit, no byte changed.
 pub fn luks1_failing_edit()
     ensures rest { (payload : Payload) (e : TheEdit) (v random w : List ℕ)
         → Chosen v luks1 → WellFormed v payload → Leftover1 v payload e random w
@@ -89,6 +90,8 @@ pub fn luks1_failing_edit()
     ensures opens { (payload : Payload) (e : TheEdit) (v random w : List ℕ)
         → Chosen v luks1 → WellFormed v payload → Leftover1 v payload e random w
         → OpensEither1 v e w }
+    ensures refused { (payload : Payload) (e : TheEdit) (v random w : List ℕ) (f : TheFault)
+        → IsEditFault1 v payload e random f → Leftover1 v payload e random w → w ≡ v }
 {
     one_choice();
     luks1_is_first_bytes();
