@@ -10,12 +10,13 @@ use Rattle.luks_area.specs.Text.{is_plain, text_of}
 use Rattle.luks_head.specs.declared.fault.HeadFault.{HeadFault}
 use Rattle.luks_head.specs.declared.fault.HeadFault.TheVariants as head
 use Rattle.luks_head.specs.declared.fault.TextField.TheVariants as field
+use Rattle.luks_head.specs.Faults.{head_key}
 use Rattle.luks_head.specs.Header2.{hdr_size, IsUuidFault, uuid_field}
 use Rattle.luks_json.specs.AreaText.{IsBadJson, Json, JsonText}
 use Rattle.luks_rules.specs.declared.fault.MetaFault.{MetaFault}
 use Rattle.luks_rules.specs.declared.fault.MetaFault.TheVariants as meta
 use Rattle.luks_rules.specs.Faults.{Among}
-use Rattle.luks_rules.specs.MetaFault.{HasDataFault, IsDataFault, meta_key}
+use Rattle.luks_rules.specs.MetaFault.{HasDataFault, IsDataFault, IsMetaFault, meta_key}
 use Rattle.luks_rules.specs.Reading.{dynamic, Field, whole}
 use Rattle.luks_rules.specs.Sizes.{has_other_size, has_segment_below, has_slot_outside, has_small_area}
 use Rattle.luks_reading.specs.declared.check_fault.CheckFault.{CheckFault}
@@ -25,7 +26,7 @@ use Rattle.luks_reading.specs.declared.report.Data.TheVariants.{Elsewhere, Here}
 use Rattle.luks_reading.specs.Checked.{check_key, HasLuks2Area, HasSegmentBelow, IsLuks2Fault, IsLuks2MetaFault}
 use Rattle.luks_reading.specs.Layout2.{HasExtent, Luks2Area, segment_extent, segment_offset, slot_number}
 use Rattle.luks_laws.proofs.AreaDecisions.{among_areas, area_candidates, area_fault_decided}
-use Rattle.luks_laws.proofs.DecidedFacts.{alike_decided, among_each, among_left, among_map, among_right, both_decided, Decided, each, LeastOrNone, least_or_none_by_key, less_decided, not_decided, three_decided, true_decided}
+use Rattle.luks_laws.proofs.DecidedFacts.{alike_decided, among_each, among_left, among_map, among_right, both_decided, carry_least, Decided, each, LeastOrNone, least_or_none, least_or_none_by_key, less_decided, none_some, not_decided, option_there, some_same, three_decided, true_decided}
 use Rattle.luks_laws.proofs.HeaderDecisions1.{same_area, uuid_decided}
 use Rattle.luks_laws.proofs.PlaceDecisions2.{all_paths, among_places, path_fault_decided, path_of}
 
@@ -69,6 +70,10 @@ among_uuids text (head.Iterations o) bad = absurd bad
 among_uuids text head.Device bad = absurd bad
 among_uuids text head.Memory bad = absurd bad
 
+-- the uuid's text has a first fault or none
+pub uuid_fault_or_none : (text : List ℕ) → LeastOrNone HeadFault head_key (IsUuidFault text)
+uuid_fault_or_none text = least_or_none HeadFault head_key (IsUuidFault text) (uuid_fault_decided text) uuid_faults (among_uuids text)
+
 -- ---- a value
 
 data_fault_decided : (len : ℕ) (j : Value) (f : MetaFault) → Decided (IsDataFault len j f)
@@ -98,16 +103,6 @@ data_fault_decided len j meta.Memory = inr (λ bad. bad)
 here_decided : (payload : Data) → Decided (payload ≡ Here)
 here_decided Here = inl refl
 here_decided Elsewhere = inr (λ e. cc)
-
-option_there : {A : Type 0} (o : Option A) → ((x : A) × (o ≡ Some x)) ⊎ (o ≡ None)
-option_there None = inr refl
-option_there (Some x) = inl (x, refl)
-
-some_same : {A : Type 0} (o : Option A) (x y : A) → o ≡ Some x → o ≡ Some y → x ≡ y
-some_same o x y p q = let e : Some x ≡ Some y = sym p ∙ q in cc
-
-none_some : {A : Type 0} (o : Option A) (x : A) → o ≡ None → o ≡ Some x → ⊥
-none_some o x p q = let e : None ≡ Some x = sym p ∙ q in cc
 
 -- the length that an extent says
 find_length : (total start : ℕ) (o : Option Field) → ((len : ℕ) × HasExtent total start len o) ⊎ ((len : ℕ) → HasExtent total start len o → ⊥)
@@ -355,6 +350,20 @@ module _ (kinds : (json : List ℕ) → ((j : Value) × Json json j) ⊎ IsBadJs
   known_meta json payload (meta.Region (Slot n)) bad = (meta.Region (Slot n), among_slot_regions n bad.fault.0, bad, refl)
   known_meta json payload (meta.Region (Segment n)) bad = (meta.Region (Segment n), among_segment_regions n bad.numbered, bad, refl)
   known_meta json payload meta.Memory bad = absurd bad
+
+  -- without the payload the faults of the JSON area are those of the metadata
+  to_own_fault : (json : List ℕ) (f : MetaFault) → IsLuks2MetaFault json Elsewhere f → IsMetaFault json f
+  to_own_fault json (meta.Region (Segment n)) bad = let e = bad.here in absurd (cc)
+  to_own_fault json f bad = bad
+
+  of_own_fault : (json : List ℕ) (f : MetaFault) → IsMetaFault json f → IsLuks2MetaFault json Elsewhere f
+  of_own_fault json (meta.Region (Segment n)) bad = absurd bad.fault
+  of_own_fault json f bad = bad
+
+  -- a JSON area has a first fault or none
+  pub meta_fault_or_none : (json : List ℕ) → LeastOrNone MetaFault meta_key (IsMetaFault json)
+  meta_fault_or_none json = carry_least MetaFault meta_key (IsLuks2MetaFault json Elsewhere) (IsMetaFault json) (to_own_fault json) (of_own_fault json)
+      (least_or_none_by_key MetaFault meta_key (IsLuks2MetaFault json Elsewhere) (meta_fault_decided json Elsewhere) meta_candidates (known_meta json Elsewhere))
 
   -- ---- the volume
 

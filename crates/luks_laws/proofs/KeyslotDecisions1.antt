@@ -1,13 +1,11 @@
 -- A keyslot of a LUKS1 volume has a refusal or none.
-use Rattle.std.proofs.Common.{◌≡◌, ℕ, ◌+◌, List, [], ◌∷◌, ◌++◌, map, Option, Some, None, refl, sym, ap, ◌∙◌, arith, inl, inr}
+use Rattle.std.proofs.Common.{◌≡◌, ℕ, List, [], ◌∷◌, ◌++◌, map, refl, sym, ap, ◌∙◌, arith, inl, inr}
 use Rattle.std.proofs.lemmas.Bool.{cases_eq, cases_lt}
 use Rattle.luks_head.specs.declared.fault.HeadFault.{HeadFault}
 use Rattle.luks_head.specs.declared.fault.HeadFault.TheVariants as head
 use Rattle.luks_head.specs.declared.fault.IterationsOf.TheVariants as of
 use Rattle.luks_head.specs.Header1.{active_word, disabled_word, entry, entry_stripes}
 use Rattle.luks_rules.specs.Faults.{Among}
-use Rattle.luks_slot.specs.declared.fault.SlotFault.{SlotFault}
-use Rattle.luks_slot.specs.declared.fault.SlotFault.TheVariants as slot
 use Rattle.luks_slot.specs.declared.plan.AreaCipher.{AreaCipher}
 use Rattle.luks_slot.specs.declared.plan.AreaCipher.TheVariants.{Apart, Whole}
 use Rattle.luks_slot.specs.declared.plan.Derivation.{Derivation}
@@ -16,10 +14,11 @@ use Rattle.luks_slot.specs.declared.plan.SlotPlan.{SlotPlan}
 use Rattle.luks_slot.specs.Refusal.{is_argon2, is_known_derivation, is_open_cipher, slot_refusal}
 use Rattle.luks_reading.specs.declared.open_fault.OpenFault.{OpenFault}
 use Rattle.luks_reading.specs.declared.open_fault.OpenFault.TheVariants as opening
-use Rattle.luks_reading.specs.Answer.{HasAreaPast, HasRefusedPlan, IsLuks1HeadRefusal, IsLuks1Refusal, open_key}
+use Rattle.luks_reading.specs.Answer.{IsLuks1HeadRefusal, IsLuks1Refusal, open_key}
 use Rattle.luks_reading.specs.Plans.{HasLuks1Plan, IsLuks1Cipher, IsLuks1Derivation}
 use Rattle.luks_laws.proofs.DecidedFacts.{among_left, among_map, among_right, both_decided, Decided, LeastOrNone, least_or_none, less_decided, at_most_decided}
 use Rattle.luks_laws.proofs.HeaderDecisions1.{among_texts, head_fault_decided, lacks_iterations_decided, unknown_state_decided, whole_faults}
+use Rattle.luks_laws.proofs.PlanDecisions.{among_slots, AreAlike, area_past_decided, of_keyslot, PlanOrNone, refused_plan_decided, slot_faults}
 use Rattle.luks_laws.proofs.PlanFacts1.{has_luks1_plan}
 
 -- ---- the header
@@ -98,68 +97,29 @@ same_refusal h n a b x y =
     let digest = x.is.digest.hash ∙ sym y.is.digest.hash in
     simp (argon2, known, cipher, size, splitter, digest)
 
-same_fault_decided : (f g : SlotFault) → Decided (f ≡ g)
-same_fault_decided slot.Argon2 slot.Argon2 = inl refl
-same_fault_decided slot.Cipher slot.Cipher = inl refl
-same_fault_decided slot.Hash slot.Hash = inl refl
-same_fault_decided slot.KeySize slot.KeySize = inl refl
-same_fault_decided slot.Device slot.Device = inl refl
-same_fault_decided slot.Memory slot.Memory = inl refl
-same_fault_decided f g = inr (λ e. cc)
+module _ (h : List ℕ) (n : ℕ) where
+  -- a keyslot has a plan where it has a number below 8
+  find_plan : PlanOrNone (HasLuks1Plan h n)
+  find_plan = elim (cases_lt n 8) [
+    | inl low ↦ inl (has_luks1_plan h n low)
+    | inr high ↦ inr (λ plan x. let low = x.numbered in absurd (omega (arith, low, high)))
+  ]
 
-is_fault_decided : (o : Option SlotFault) (f : SlotFault) → Decided (o ≡ Some f)
-is_fault_decided None f = inr (λ e. cc)
-is_fault_decided (Some g) f = elim (same_fault_decided g f) [ inl same ↦ inl (ap Some same) | inr other ↦ inr (λ e. other (cc)) ]
-
-refused_plan_decided : (h : List ℕ) (n : ℕ) (f : SlotFault) → Decided (HasRefusedPlan (HasLuks1Plan h n) f)
-refused_plan_decided h n f = elim (cases_lt n 8) [
-  | inl low ↦ (let own = has_luks1_plan h n low in elim (is_fault_decided (slot_refusal own.0) f) [
-    | inl bad ↦ inl (record { plan = own.0; is = own.1; refused = bad })
-    | inr good ↦ inr (λ x. good (same_refusal h n own.0 x.plan own.1 x.is ∙ x.refused))
-  ])
-  | inr high ↦ inr (λ x. let low = x.is.numbered in absurd (omega (arith, low, high)))
-]
-
-area_past_decided : (h : List ℕ) (n total : ℕ) → Decided (HasAreaPast (HasLuks1Plan h n) total)
-area_past_decided h n total = elim (cases_lt n 8) [
-  | inl low ↦ (let own = has_luks1_plan h n low in elim (less_decided total (own.0.area.start + own.0.area.len)) [
-    | inl past ↦ inl (record { plan = own.0; is = own.1; past = past })
-    | inr within ↦ inr (λ x. within (
-        let start = own.1.is.start ∙ sym x.is.is.start in
-        let len = own.1.is.len ∙ sym x.is.is.len in
-        let past = x.past in
-        omega (arith, start, len, past)))
-  ])
-  | inr high ↦ inr (λ x. let low = x.is.numbered in absurd (omega (arith, low, high)))
-]
+  -- its plans are alike
+  alike_plans : (a b : SlotPlan) → HasLuks1Plan h n a → HasLuks1Plan h n b → AreAlike a b
+  alike_plans a b x y = record { start = x.is.start ∙ sym y.is.start; len = x.is.len ∙ sym y.is.len; refusal = same_refusal h n a b x y }
 
 -- ---- the keyslot
 
-pub luks1_refusal_decided : (h : List ℕ) (total n : ℕ) (f : OpenFault) → Decided (IsLuks1Refusal h total n f)
+luks1_refusal_decided : (h : List ℕ) (total n : ℕ) (f : OpenFault) → Decided (IsLuks1Refusal h total n f)
 luks1_refusal_decided h total n (opening.Head f) = head_refusal_decided h n f
 luks1_refusal_decided h total n (opening.Meta f) = inr (λ bad. bad)
 luks1_refusal_decided h total n opening.NoSuchSlot = at_most_decided 8 n
 luks1_refusal_decided h total n opening.SlotFree = both_decided _ _ (less_decided n 8) (cases_eq (active_word (entry h n)) disabled_word)
-luks1_refusal_decided h total n opening.Outside = area_past_decided h n total
-luks1_refusal_decided h total n (opening.Slot f) = refused_plan_decided h n f
+luks1_refusal_decided h total n opening.Outside = area_past_decided (HasLuks1Plan h n) (find_plan h n) (alike_plans h n) total
+luks1_refusal_decided h total n (opening.Slot f) = refused_plan_decided (HasLuks1Plan h n) (find_plan h n) (alike_plans h n) f
 luks1_refusal_decided h total n opening.Device = inr (λ bad. bad)
 luks1_refusal_decided h total n opening.Memory = inr (λ bad. bad)
-
--- the faults of a plan
-unfoldable pub slot_faults : List SlotFault
-slot_faults = slot.Argon2 ∷ slot.Cipher ∷ slot.Hash ∷ slot.KeySize ∷ slot.Device ∷ slot.Memory ∷ []
-
-pub among_slots : (f : SlotFault) → Among f slot_faults
-unfolding slot_faults
-among_slots slot.Argon2 = inl refl
-among_slots slot.Cipher = inr (inl refl)
-among_slots slot.Hash = inr (inr (inl refl))
-among_slots slot.KeySize = inr (inr (inr (inl refl)))
-among_slots slot.Device = inr (inr (inr (inr (inl refl))))
-among_slots slot.Memory = inr (inr (inr (inr (inr (inl refl)))))
-
-of_keyslot : List OpenFault
-of_keyslot = opening.NoSuchSlot ∷ opening.SlotFree ∷ opening.Outside ∷ map opening.Slot slot_faults
 
 open_candidates : ℕ → List OpenFault
 open_candidates n = map opening.Head (heads_of n) ++ of_keyslot

@@ -1,5 +1,3 @@
-pub mod LeastFacts
-pub mod KeyFacts
 pub mod PlanFacts1
 pub mod AnswerFacts
 pub mod UniqueFacts
@@ -8,9 +6,11 @@ pub mod PlanFacts2
 pub mod DecidedFacts
 pub mod AreaDecisions
 pub mod HeaderDecisions1
+pub mod PlanDecisions
+pub mod PlanLikeness2
 pub mod KeyslotDecisions1
-pub mod EditDecisions1
-pub mod VolumeDecisions1
 pub mod PlaceDecisions2
 pub mod HeaderDecisions2
+pub mod KeyslotDecisions2
+pub mod SelectDecisions
 pub mod VolumeDecisions

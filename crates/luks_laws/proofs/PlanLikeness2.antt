@@ -1,0 +1,92 @@
+-- The plans of a keyslot of LUKS2 are alike.
+use Rattle.std.proofs.Common.{◌≡◌, ℕ, List, codes, refl, ap, subst, true, false, Option, Some}
+use Rattle.serde_json.specs.Data.{Data}
+use Rattle.luks_json.specs.AreaText.{Json}
+use Rattle.luks_making.specs.Naming.{IsDigestOf}
+use Rattle.luks_rules.specs.declared.table.Member.TheVariants as name
+use Rattle.luks_rules.specs.declared.table.Outer.TheVariants as outer
+use Rattle.luks_rules.specs.declared.table.Section.TheVariants.{Digests, Keyslots}
+use Rattle.luks_rules.specs.declared.table.When.TheVariants as when
+use Rattle.luks_rules.specs.Faults.{member_at, object_at, suits, type_at}
+use Rattle.luks_rules.specs.Reading.{decimal_in, number_in, text_of}
+use Rattle.luks_slot.specs.declared.plan.AreaCipher.{AreaCipher}
+use Rattle.luks_slot.specs.declared.plan.AreaCipher.TheVariants.{Apart, Whole}
+use Rattle.luks_slot.specs.declared.plan.Derivation.{Derivation}
+use Rattle.luks_slot.specs.declared.plan.Derivation.TheVariants.{Argon2, Pbkdf2}
+use Rattle.luks_slot.specs.declared.plan.DigestPlan.{DigestPlan}
+use Rattle.luks_slot.specs.declared.plan.SlotPlan.{SlotPlan}
+use Rattle.luks_slot.specs.Refusal.{is_argon2, is_known_derivation, is_open_cipher, slot_refusal}
+use Rattle.luks_reading.specs.Plans.{HasLuks2Plan, IsLuks2Cipher, IsLuks2Derivation, IsLuks2Digest, IsLuks2Plan}
+use Rattle.luks_laws.proofs.DecidedFacts.{some_same}
+use Rattle.luks_laws.proofs.PlanDecisions.{AreAlike}
+
+-- ---- the parts of a plan
+
+-- a type isn't both
+two_types : (t : Option (List ℕ)) → t ≡ Some (codes "pbkdf2") → suits when.Argon2 t ≡ true → ⊥
+two_types t is suited = let off : suits when.Argon2 t ≡ false = ap (suits when.Argon2) is in cc
+
+-- both derivations are Argon2, or neither is
+same_argon2 : (d : Data) (a b : Derivation) → IsLuks2Derivation d a → IsLuks2Derivation d b → is_argon2 a ≡ is_argon2 b
+same_argon2 d (Pbkdf2 k i s) (Pbkdf2 l j t) x y = refl
+same_argon2 d (Pbkdf2 k i s) Argon2 x y = absurd (two_types (type_at d outer.Kdf) x.0 y)
+same_argon2 d Argon2 (Pbkdf2 k i s) x y = absurd (two_types (type_at d outer.Kdf) y.0 x)
+same_argon2 d Argon2 Argon2 x y = refl
+
+-- the hashes of both derivations are known, or neither is
+same_known : (d : Data) (a b : Derivation) → IsLuks2Derivation d a → IsLuks2Derivation d b → is_known_derivation a ≡ is_known_derivation b
+same_known d (Pbkdf2 k i s) (Pbkdf2 l j t) x y = let hash = some_same (text_of (member_at d outer.Kdf name.Hash)) k.now l.now x.1 y.1 in simp hash
+same_known d (Pbkdf2 k i s) Argon2 x y = absurd (two_types (type_at d outer.Kdf) x.0 y)
+same_known d Argon2 (Pbkdf2 k i s) x y = absurd (two_types (type_at d outer.Kdf) y.0 x)
+same_known d Argon2 Argon2 x y = refl
+
+-- both ciphers open, or neither does
+same_cipher : (d : Data) (a b : AreaCipher) → IsLuks2Cipher d a → IsLuks2Cipher d b → is_open_cipher a ≡ is_open_cipher b
+same_cipher d (Apart n m) b x y = absurd x
+same_cipher d (Whole t) (Apart n m) x y = absurd y
+same_cipher d (Whole t) (Whole u) x y = let text = some_same (text_of (member_at d outer.Area name.Encryption)) t.now u.now x y in simp text
+
+-- a keyslot has one digest, and so one name of its hash
+same_digest_hash : (j : Data) (n : ℕ) (a b : DigestPlan) → ((m k : ℕ) → IsDigestOf j n m → IsDigestOf j n k → m ≡ k)
+    → IsLuks2Digest j n a → IsLuks2Digest j n b → a.hash.now ≡ b.hash.now
+same_digest_hash j n a b one x y =
+    let there = subst (λ m. object_at j Digests m ≡ Some x.object) (one x.number y.number x.names y.names) x.there in
+    let hash = subst (λ o. text_of (member_at o outer.Top name.Hash) ≡ Some a.hash.now) (some_same (object_at j Digests y.number) x.object y.object there y.there) x.hash in
+    some_same (text_of (member_at y.object outer.Top name.Hash)) a.hash.now b.hash.now hash y.hash
+
+-- ---- the plans
+
+-- the plans of an object are alike
+alike_in : (j : Data) (n : ℕ) (d : Data) (a b : SlotPlan) → ((m k : ℕ) → IsDigestOf j n m → IsDigestOf j n k → m ≡ k)
+    → IsLuks2Plan j n d a → IsLuks2Plan j n d b → AreAlike a b
+alike_in j n d a b one x y =
+    let argon2 = same_argon2 d a.derivation b.derivation x.derivation y.derivation in
+    let known = same_known d a.derivation b.derivation x.derivation y.derivation in
+    let cipher = same_cipher d a.cipher b.cipher x.cipher y.cipher in
+    let size = some_same (number_in 1 128 (member_at d outer.Area name.KeySize)) a.area_key_bytes b.area_key_bytes x.area_key_bytes y.area_key_bytes in
+    let splitter = some_same (text_of (member_at d outer.Af name.Hash)) a.splitter_hash.now b.splitter_hash.now x.splitter_hash y.splitter_hash in
+    let digest = same_digest_hash j n a.digest b.digest one x.digest y.digest in
+    let refusal : slot_refusal a ≡ slot_refusal b = simp (argon2, known, cipher, size, splitter, digest) in
+    record {
+      start = some_same (decimal_in (member_at d outer.Area name.Offset)) a.area.start b.area.start x.start y.start;
+      len = some_same (decimal_in (member_at d outer.Area name.Size)) a.area.len b.area.len x.len y.len;
+      refusal = refusal;
+    }
+
+-- a JSON area with one value, in which one digest at most names the keyslot
+module _ (json : List ℕ) (j : Data) (n : ℕ) (value : (i : Data) → Json json i → i ≡ j) (digest : (m k : ℕ) → IsDigestOf j n m → IsDigestOf j n k → m ≡ k) where
+  -- the object of a plan is that of the value
+  pub object_of_plan : (plan : SlotPlan) (x : HasLuks2Plan json n plan) → object_at j Keyslots n ≡ Some x.object
+  object_of_plan plan x = subst (λ i. object_at i Keyslots n ≡ Some x.object) (value x.value x.holds) x.there
+
+  -- a plan is that of the value's object
+  plan_of_object : (d : Data) → object_at j Keyslots n ≡ Some d → (plan : SlotPlan) → HasLuks2Plan json n plan → IsLuks2Plan j n d plan
+  plan_of_object d there plan x =
+      subst (λ o. IsLuks2Plan j n o plan) (some_same (object_at j Keyslots n) x.object d (object_of_plan plan x) there)
+      (subst (λ i. IsLuks2Plan i n x.object plan) (value x.value x.holds) x.is)
+
+  -- the plans of a keyslot are alike
+  pub alike_plans : (a b : SlotPlan) → HasLuks2Plan json n a → HasLuks2Plan json n b → AreAlike a b
+  alike_plans a b x y =
+      let there = object_of_plan a x in
+      alike_in j n x.object a b digest (plan_of_object x.object there a x) (plan_of_object x.object there b y)
