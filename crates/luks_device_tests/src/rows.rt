@@ -1,7 +1,7 @@
 //! What is owed to edits: their answers, the writes and flushes that they make, and what opens then.
 //!
-//! The order of the steps is that of the format's rules for edits: of LUKS1 the key area, the new entry,
-//! the old entry, the old area; of LUKS2 the key area, the copy that doesn't count, the one that counts,
+//! The order of the steps is that of the rules for edits. Of LUKS1: the key area, the new entry, the
+//! old entry, the old area. Of LUKS2: the key area, the copy that doesn't count, the one that counts,
 //! zeros over the old area. A flush follows each.
 
 use crate::devices::Call;
@@ -340,7 +340,7 @@ pub const LUKS2: [Row; 15] = [
     },
 ];
 
-/// On disks of 1 TiB: the new area 40960 bytes before the end, or the data behind the first 65536 bytes.
+/// On disks of 1 TiB: the new area is 40960 bytes before the end, or the data begins at 65536.
 pub const DISKS: [Row; 5] = [
     Row {
         volume: Volume::Luks1Wide,

@@ -80,6 +80,7 @@ module _ (v : List ℕ) (payload : Data) (same : (n : ℕ) (p : List ℕ) (a b :
   fault_of_none none edit.Device = inr (λ bad. bad)
   fault_of_none none f = inr (λ x. none x.place x.value x.metadata)
 
+  -- in either case
   pub fault2_decided : Counting v payload ⊎ ((p : ℕ) (i : Value) → HasMetadata v p i → ⊥) → (f : EditFault) → Decided (IsEditFault2 v payload e r f)
   fault2_decided (inl c) = fault_of_counting c
   fault2_decided (inr none) = fault_of_none none

@@ -86,9 +86,11 @@ module _ (only : (v : List ℕ) (b c : Choice) → Chosen v b → Chosen v c →
   module _ (checked : ((f : CheckFault) × First v payload f) ⊎ WellFormed v payload) (sound : WellFormed v payload → (f : CheckFault) → IsFault v payload f → ⊥)
       (same : (n : ℕ) (p : List ℕ) (a b : Opened) → Answer v n p a → Answer v n p b → IsSameAnswer a b) (answer : (n : ℕ) (p : List ℕ) → (a : Opened) × Answer v n p a)
       (e : Edit) (r : List ℕ) where
+    -- each fault is decided by the rules of LUKS1
     decided1 : WellFormed v payload → (f : EditFault) → Decided (IsEditFault1 v payload e r f)
     decided1 formed = fault1_decided v payload same answer (sound formed) e r
 
+    -- and by those of LUKS2
     decided2 : WellFormed v payload → (f : EditFault) → Decided (IsEditFault2 v payload e r f)
     decided2 formed = fault2_decided v payload same answer (sound formed) e r (counting_as formed formed.choice formed.chosen formed.formed)
 
