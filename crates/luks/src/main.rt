@@ -6,10 +6,11 @@
 #![tactic(auto)]
 
 ghost use Rattle.std.specs.Prelude.{◌≡◌, IfOk};
-ghost use Rattle.luks_area.specs.Files.{file_failures};
+ghost use Rattle.luks_cache.specs.Cached.{cached_failures};
 
 use clap::error::ErrorKind as FaultKind;
 use luks_area::FileDevice;
+use luks_cache::CachedDevice;
 use luks_cli::{InputFault, Inputs, Line, Reason, execute, first_bytes, line};
 use std::fs::{File, OpenOptions};
 use std::io::{ErrorKind, Write};
@@ -119,12 +120,13 @@ fn reader(read: &Result<Vec<u8>, InputFault>) -> Result<&[u8], InputFault> {
 
 /// The volume, opened for reading, and for writing where the command writes to it. A file of another
 /// kind, as a folder or a pipe, has no length, and isn't opened at all: opening a pipe would wait for
-/// its writer.
+/// its writer. Its first bytes are remembered, so that an edit, which looks at the header to know how
+/// many random bytes it takes and then to do it, reads it once.
 fn open_volume<R: Files<File = File>>(
     rt: &R,
     line: &Line<'_>,
-) -> Result<FileDevice<File>, InputFault>
-    ensures { IfOk result (λ device. file_failures device ≡ 0) }
+) -> Result<CachedDevice<FileDevice<File>>, InputFault>
+    ensures { IfOk result (λ device. cached_failures device ≡ 0) }
 {
     let path = line.volume;
     let kind = fs::metadata(rt, path)?.file_type();
@@ -133,7 +135,7 @@ fn open_volume<R: Files<File = File>>(
     }
     let mut options = OpenOptions::new();
     let file = options.read(true).write(line.writes()).open(rt, path)?;
-    Ok(FileDevice::new(file)?)
+    Ok(CachedDevice::new(FileDevice::new(file)?))
 }
 
 /// The file of the random bytes, of any kind, where the command line names one.

@@ -1,5 +1,6 @@
 -- A keyslot that is added to a LUKS2 volume: what its metadata says, and what the addition leaves.
 use Rattle.std.proofs.Common.{◌≡◌, ℕ, ◌<◌, Bor, List, length, codes, Option, Some, inl, inr, refl, sym, ap, ◌∙◌, subst}
+use Rattle.std.proofs.lemmas.Option.{same_Some}
 use Rattle.serde_json.specs.Data.{Data as Value}
 use Rattle.luks_area.specs.declared.area.Area.{Area}
 use Rattle.luks_area.specs.Ranges.{IsOfEither}
@@ -25,7 +26,6 @@ use Rattle.luks2_edits.specs.Metadata.{HasStripes, IsKeyArea, IsNewKeyslot}
 use Rattle.luks2_edits.specs.Places.{IsNewArea, IsOfCopies, IsOfNewKeyslot, IsTouched}
 use Rattle.luks2_judging.specs.Rows.{HasNoFaultBefore}
 use Rattle.luks2_judging.specs.Salts.{HasOneDigest}
-use Rattle.luks2_judging.proofs.StripeFacts.{some_same}
 use Rattle.luks2_editing.specs.declared.adding.Addition.{Addition}
 use Rattle.luks2_editing.specs.declared.sealed_metadata.SealedSlot.TheVariants.{Made}
 use Rattle.luks2_editing.specs.declared.sealed_metadata.Sealing.{Sealing}
@@ -36,6 +36,7 @@ use Rattle.luks2_editing.proofs.NewKeyslotFacts.{alike_place, SealsLike}
 use Rattle.luks2_editing.proofs.OpenedFacts.{opened_plan, HasOpenPlan}
 use Rattle.luks2_editing.proofs.PlanFacts.{like_unrefused, SaysLike}
 use Rattle.luks2_editing.proofs.RenewalFacts.{metadata_here, VolumeLaws}
+use Rattle.luks2_editing.proofs.ToldFacts.{ToldLaws}
 
 -- ---- the new keyslot, made with the members of the keyslot `like`
 
@@ -46,10 +47,10 @@ module _ (j k : Value) (slot like iterations : ℕ) (salt : List ℕ) (area : Ar
   -- its key and stripes are those of the other
   made_stripes : (a b : ℕ) → HasStripes j like a b → HasStripes k slot a b
   made_stripes a b s =
-      let from : s.object ≡ x.added.from = some_same s.object x.added.from (sym s.there.is ∙ x.added.there.is) in
-      let key : a ≡ x.added.slot.key_size = some_same a x.added.slot.key_size
+      let from : s.object ≡ x.added.from = same_Some s.object x.added.from (sym s.there.is ∙ x.added.there.is) in
+      let key : a ≡ x.added.slot.key_size = same_Some a x.added.slot.key_size
       (sym s.key_bytes_are ∙ ap (λ d. number_in 1 128 (inside_at outer.Top (codes "key_size") d)) from ∙ x.added.made.key_size) in
-      let stripes : b ≡ x.added.slot.stripes = some_same b x.added.slot.stripes
+      let stripes : b ≡ x.added.slot.stripes = same_Some b x.added.slot.stripes
       (sym s.stripes_are ∙ ap (λ d. number_in 1 4294967295 (inside_at outer.Af (codes "stripes") d)) from ∙ x.added.made.stripes) in
       record {
         object = slot_value x.added.slot;
@@ -81,8 +82,8 @@ module _ (j k : Value) (slot like iterations : ℕ) (salt : List ℕ) (area : Ar
   -- where the other was opened, its plan isn't refused
   made_unrefused : (g : SlotFault) → HasOpenPlan j like → HasOneDigest j → HasRefusedKeyslot k slot g → ⊥
   made_unrefused g open_ digests bad =
-      let was : open_.object ≡ x.added.from = some_same open_.object x.added.from (sym open_.there ∙ x.added.there.is) in
-      let now : bad.object ≡ slot_value x.added.slot = some_same bad.object (slot_value x.added.slot) (sym bad.there.is ∙ x.gains.there) in
+      let was : open_.object ≡ x.added.from = same_Some open_.object x.added.from (sym open_.there ∙ x.added.there.is) in
+      let now : bad.object ≡ slot_value x.added.slot = same_Some bad.object (slot_value x.added.slot) (sym bad.there.is ∙ x.gains.there) in
       like_unrefused j k like slot g open_ bad
       (subst (λ d. SaysLike d bad.object) (sym was) (subst (λ d. SaysLike x.added.from d) (sym now) made_like))
       (λ m names. subst (λ i. IsDigestOf k slot i) (digests.one like x.added.digest m x.added.names names) x.gains.names)
@@ -91,10 +92,10 @@ module _ (j k : Value) (slot like iterations : ℕ) (salt : List ℕ) (area : Ar
 -- ---- the addition to a volume
 
 -- its rows up to that of the label were judged
-pub record IsJudgedAddition (v : List ℕ) (payload : Data) (copy : ChosenCopy) (addition : Addition) (old : Bor (List ℕ)) (to : Option ℕ) (key random : List ℕ) : Type 0 where
+pub record IsJudgedAddition (v : List ℕ) (payload : Data) (copy : ChosenCopy) (addition : Addition) (old new : Bor (List ℕ)) (to : Option ℕ) (key random : List ℕ) : Type 0 where
   pub chosen : IsChosenCopy v copy
   pub well : WellFormed v payload
-  pub before : HasNoFaultBefore 12 v payload (Add addition.by_ old addition.new to addition.iterations) random
+  pub before : HasNoFaultBefore 12 v payload (Add addition.by_ old new to addition.iterations) random
   pub opened : Answer v addition.by_ old.now (opens key)
   pub is_new : IsNewKeyslot (content copy.meta) to addition.made
   pub place : IsNewArea (hdr_size (header_at v copy.header.hdr_offset)) (length v) payload (content copy.meta) addition.by_ addition.area
@@ -103,9 +104,9 @@ pub record IsJudgedAddition (v : List ℕ) (payload : Data) (copy : ChosenCopy) 
 abbrev pub sealing_of : Addition → Sealing
 sealing_of a = record { keyslot = Made a.made a.by_; iterations = a.iterations; area = a.area }
 
-module _ (v : List ℕ) (payload : Data) (copy : ChosenCopy) (addition : Addition) (old : Bor (List ℕ)) (to : Option ℕ) (key random : List ℕ)
-    (x : IsJudgedAddition v payload copy addition old to key random) where
-  pub addition_seals : IsSealingEdit v payload (Add addition.by_ old addition.new to addition.iterations) random copy (sealing_of addition)
+module _ (v : List ℕ) (payload : Data) (copy : ChosenCopy) (addition : Addition) (old new : Bor (List ℕ)) (to : Option ℕ) (key random : List ℕ)
+    (x : IsJudgedAddition v payload copy addition old new to key random) where
+  pub addition_seals : IsSealingEdit v payload (Add addition.by_ old new to addition.iterations) random copy (sealing_of addition)
   addition_seals = record {
     chosen = x.chosen;
     well = x.well;
@@ -117,19 +118,19 @@ module _ (v : List ℕ) (payload : Data) (copy : ChosenCopy) (addition : Additio
     opened = x.opened;
   }
 
-  module _ (laws : VolumeLaws) (digests : HasOneDigest (content copy.meta)) (small : addition.made < 32) (k : Value)
+  module _ (laws : VolumeLaws) (told : ToldLaws) (digests : HasOneDigest (content copy.meta)) (small : addition.made < 32) (k : Value)
       (gained : IsGained addition.made addition.by_ (members_of addition.iterations (keyslot_salt random) addition.area) (content copy.meta) k) where
     place_in : (p : ℕ) → IsOfStripesOf k addition.made p
         → IsOfNewKeyslot (hdr_size (header_at v copy.header.hdr_offset)) (length v) payload (content copy.meta) addition.by_ p
-    place_in p at = alike_place (content copy.meta) k addition.by_ addition.made addition.area
+    place_in p at = alike_place told (content copy.meta) k addition.by_ addition.made addition.area
         (made_alike (content copy.meta) k addition.made addition.by_ addition.iterations (keyslot_salt random) addition.area gained small)
         (hdr_size (header_at v copy.header.hdr_offset)) (length v) payload p x.place at
 
-    sealed_in : (w : List ℕ) → HoldsKey w k addition.made addition.new.now key (stripes_random random)
-        → HoldsOpened v addition.by_ old.now addition.new.now (IsNewKeyslot (content copy.meta) to) random w k
+    sealed_in : (w : List ℕ) → HoldsKey w k addition.made new.now key (stripes_random random)
+        → HoldsOpened v addition.by_ old.now new.now (IsNewKeyslot (content copy.meta) to) random w k
     sealed_in w holds = record { slot = addition.made; is_made = x.is_new; key = key; opened = x.opened; holds = holds }
 
-    pub addition_sealing : IsSealing v payload (Add addition.by_ old addition.new to addition.iterations) random copy.header.hdr_offset (content copy.meta) k addition.made addition.new.now key
+    pub addition_sealing : IsSealing v payload (Add addition.by_ old new to addition.iterations) random copy.header.hdr_offset (content copy.meta) k addition.made new.now key
     addition_sealing = record { sealed = sealed_in; place = place_in }
 
     -- its plan isn't refused
@@ -138,16 +139,16 @@ module _ (v : List ℕ) (payload : Data) (copy : ChosenCopy) (addition : Additio
         (opened_plan laws v copy.header.hdr_offset (content copy.meta) addition.by_ old.now key (metadata_here laws v payload copy x.chosen x.well) x.opened)
         digests bad
 
-    module _ (edited : IsEdited (hdr_size (header_at v copy.header.hdr_offset)) (length v) payload (Add addition.by_ old addition.new to addition.iterations) (keyslot_salt random) (content copy.meta) k)
+    module _ (edited : IsEdited (hdr_size (header_at v copy.header.hdr_offset)) (length v) payload (Add addition.by_ old new to addition.iterations) (keyslot_salt random) (content copy.meta) k)
         (w : List ℕ) where
       touched : (p : ℕ) → IsOfEither (IsOfStripesOf k addition.made) (IsOfCopies (hdr_size (header_at v copy.header.hdr_offset))) p
-          → IsTouched (hdr_size (header_at v copy.header.hdr_offset)) (length v) payload (content copy.meta) (Add addition.by_ old addition.new to addition.iterations) p
+          → IsTouched (hdr_size (header_at v copy.header.hdr_offset)) (length v) payload (content copy.meta) (Add addition.by_ old new to addition.iterations) p
       touched p (inl at) = inr (inl (place_in p at))
       touched p (inr at) = inl at
 
       -- what it leaves where it was done
-      pub added_after : IsKeyslotWritten v copy.header.hdr_offset (Add addition.by_ old addition.new to addition.iterations) random k addition.made addition.new.now key w
-          → After2 v payload (Add addition.by_ old addition.new to addition.iterations) random w
+      pub added_after : IsKeyslotWritten v copy.header.hdr_offset (Add addition.by_ old new to addition.iterations) random k addition.made new.now key w
+          → After2 v payload (Add addition.by_ old new to addition.iterations) random w
       added_after written = record {
         place = copy.header.hdr_offset;
         value = content copy.meta;

@@ -1,5 +1,6 @@
 -- A keyslot of a LUKS2 volume that is sealed again: its new area, and what the edit leaves.
 use Rattle.std.proofs.Common.{◌≡◌, ◌↔◌, ℕ, ◌≤◌, Bor, List, length, replicate, codes, Some, option_and_then, inl, inr, refl, sym, ap, ◌∙◌, subst, arith}
+use Rattle.std.proofs.lemmas.Option.{same_Some}
 use Rattle.serde_json.specs.Data.{Data as Value}
 use Rattle.serde_json.specs.Find.{get}
 use Rattle.luks_area.specs.declared.area.Area.{Area}
@@ -27,7 +28,6 @@ use Rattle.luks2_edits.specs.Leftovers.{Leftover2}
 use Rattle.luks2_edits.specs.Metadata.{HasStripes, IsKeyArea}
 use Rattle.luks2_edits.specs.Places.{IsNewArea, IsOfCopies, IsTouched}
 use Rattle.luks2_edits.specs.Refused.{IsUnrefused2}
-use Rattle.luks2_judging.proofs.StripeFacts.{some_same}
 use Rattle.luks2_editing.specs.MadeMetadata.{IsRenewed}
 use Rattle.luks2_editing.specs.Rewriting.{AreWrittenAnew}
 use Rattle.luks2_editing.specs.SealedKeyslot.{HasRefusedKeyslot, IsKeyslotWritten, IsOfStripesOf, IsSealing}
@@ -37,6 +37,7 @@ use Rattle.luks2_editing.proofs.NewKeyslotFacts.{alike_place, same_len, same_sta
 use Rattle.luks2_editing.proofs.OpenedFacts.{opened_kdf, opened_plan, HasOpenPlan}
 use Rattle.luks2_editing.proofs.PlanFacts.{like_changed, like_unrefused, SaysLike}
 use Rattle.luks2_editing.proofs.RenewalFacts.{listed_at_least, metadata_here, sound_here, VolumeLaws}
+use Rattle.luks2_editing.proofs.ToldFacts.{ToldLaws}
 
 -- ---- the keyslot in the new metadata
 
@@ -46,7 +47,7 @@ module _ (j k : Value) (slot iterations : ℕ) (salt : List ℕ) (area : Area) (
   stripes_stay bytes stripes x =
       let was = made.changes.was in
       let says = made.changes.says in
-      let object : was ≡ x.object = some_same was x.object (sym made.changes.there.is ∙ x.there.is) in
+      let object : was ≡ x.object = same_Some was x.object (sym made.changes.there.is ∙ x.there.is) in
       record {
         object = renewed_slot (members_of iterations salt area) was;
         there = record { numbered = refl; named = made.changes.there.named; is = made.changes.is };
@@ -66,7 +67,7 @@ module _ (j k : Value) (slot iterations : ℕ) (salt : List ℕ) (area : Area) (
 
 -- ---- the volume
 
-module _ (laws : VolumeLaws) (v : List ℕ) (payload : Data) (copy : ChosenCopy) (x : IsChosenCopy v copy) (well : WellFormed v payload)
+module _ (laws : VolumeLaws) (told : ToldLaws) (v : List ℕ) (payload : Data) (copy : ChosenCopy) (x : IsChosenCopy v copy) (well : WellFormed v payload)
     (slot : ℕ) (old new : Bor (List ℕ)) (iterations : ℕ) (key random : List ℕ) (area : Area) (k : Value)
     (opened : Answer v slot old.now (opens key))
     (place : IsNewArea (hdr_size (header_at v copy.header.hdr_offset)) (length v) payload (content copy.meta) slot area)
@@ -75,7 +76,7 @@ module _ (laws : VolumeLaws) (v : List ℕ) (payload : Data) (copy : ChosenCopy)
   pub change_sealing : IsSealing v payload (Change slot old new iterations) random copy.header.hdr_offset (content copy.meta) k slot new.now key
   change_sealing = record {
     sealed = λ w holds. record { slot = slot; is_made = refl; key = key; opened = opened; holds = holds };
-    place = λ p at. alike_place (content copy.meta) k slot slot area (renewed_alike (content copy.meta) k slot iterations (keyslot_salt random) area made)
+    place = λ p at. alike_place told (content copy.meta) k slot slot area (renewed_alike (content copy.meta) k slot iterations (keyslot_salt random) area made)
         (hdr_size (header_at v copy.header.hdr_offset)) (length v) payload p place at;
   }
 
@@ -85,8 +86,8 @@ module _ (laws : VolumeLaws) (v : List ℕ) (payload : Data) (copy : ChosenCopy)
       let j : Value = content copy.meta in
       let was : HasOpenPlan j slot = opened_plan laws v copy.header.hdr_offset j slot old.now key (metadata_here laws v payload copy x well) opened in
       let now : renewed_slot (members_of iterations (keyslot_salt random) area) made.changes.was ≡ y.object =
-      some_same (renewed_slot (members_of iterations (keyslot_salt random) area) made.changes.was) y.object (sym made.changes.is ∙ y.there.is) in
-      let object : made.changes.was ≡ was.object = some_same made.changes.was was.object (sym made.changes.there.is ∙ was.there) in
+      same_Some (renewed_slot (members_of iterations (keyslot_salt random) area) made.changes.was) y.object (sym made.changes.is ∙ y.there.is) in
+      let object : made.changes.was ≡ was.object = same_Some made.changes.was was.object (sym made.changes.there.is ∙ was.there) in
       let derived : type_at made.changes.was outer.Kdf ≡ Some (codes "pbkdf2") = ap (λ d. type_at d outer.Kdf) object ∙ opened_kdf j slot was in
       let like : SaysLike made.changes.was (renewed_slot (members_of iterations (keyslot_salt random) area) made.changes.was) =
       like_changed made.changes.was (renewed_slot (members_of iterations (keyslot_salt random) area) made.changes.was)

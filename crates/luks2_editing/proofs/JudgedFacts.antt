@@ -1,9 +1,7 @@
 -- What is known of an edit that was judged, and how it ends where it is refused.
-use Rattle.std.proofs.Common.{◌≡◌, ◌≢◌, ◌⊎◌, ℕ, ◌≤◌, List, false, inl, inr, refl, sym, ◌∙◌, subst, arith, is_some}
+use Rattle.std.proofs.Common.{◌≡◌, ◌≢◌, ◌⊎◌, ℕ, List, inl, inr, refl, sym, ◌∙◌, subst, arith, is_some}
 use Rattle.std.proofs.lemmas.Bool.{cases_Bool, cases_lt, false≢true}
 use Rattle.serde_json.specs.Data.{Data as Value}
-use Rattle.luks_meta.specs.Content.{content}
-use Rattle.luks_meta.specs.Requirements.{has_requirements}
 use Rattle.luks_rules.specs.declared.table.Section.TheVariants.{Keyslots}
 use Rattle.luks_rules.specs.Faults.{object_at}
 use Rattle.luks_reading.specs.declared.header.ChosenCopy.{ChosenCopy}
@@ -18,7 +16,6 @@ use Rattle.luks_edit.specs.Asked.{OpensBy}
 use Rattle.luks2_edits.specs.Metadata.{IsInUse}
 use Rattle.luks2_edits.specs.Refused.{IsAbsent}
 use Rattle.luks2_judging.specs.Judging.{IsRefusedEarly}
-use Rattle.luks2_judging.specs.Rows.{HasNoFaultBefore}
 use Rattle.luks2_editing.specs.Replies.{EndsBy2}
 
 -- the header that was read is that of the copy
@@ -60,17 +57,4 @@ pub opener_used : (j : Value) (e : Edit) (n : ℕ) (p : List ℕ) → OpensBy e 
 opener_used j e n p asked there = elim (in_use_or_not j n) [
   | inl used ↦ used
   | inr unused ↦ absurd (there (record { slot = n; passphrase = p; asked = asked; unused = unused }))
-]
-
--- no requirements are named
-pub none_required : (v : List ℕ) (payload : Data) (e : Edit) (random : List ℕ) (copy : ChosenCopy) → IsChosenCopy v copy
-    → HasNoFaultBefore 12 v payload e random → has_requirements (content copy.meta) ≡ false
-none_required v payload e random copy x before = elim (cases_Bool (has_requirements (content copy.meta))) [
-  | inl required ↦ absurd (let low : 12 ≤ 2 = before.each fault.Requirements (record {
-    place = copy.header.hdr_offset;
-    value = content copy.meta;
-    metadata = record { copies = copy.copies; chosen = x.chosen; holds = x.metadata.json };
-    is = required;
-  }) in omega (arith, low))
-  | inr none ↦ none
 ]

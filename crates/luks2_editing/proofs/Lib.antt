@@ -2,12 +2,12 @@ mod NewCopyFacts
 mod RewritingFacts
 mod RowFacts
 mod RenewalFacts
-mod PlainEditFacts
 mod KeyAreaFacts
 mod JudgedFacts
 mod LostFacts
 mod RemovalFacts
 mod SealingFacts
+mod ToldFacts
 mod MadeMetadataFacts
 mod OpenedFacts
 mod SealedRowFacts

@@ -1,5 +1,6 @@
 -- The metadata that an edit of a LUKS2 volume makes with a keyslot that it seals.
 use Rattle.std.proofs.Common.{◌≡◌, ℕ, ◌+◌, ◌-◌, ◌*◌, ◌≤◌, List, length, is_some, sym, ap, subst, ◌∙◌, arith}
+use Rattle.std.proofs.lemmas.Option.{same_Some}
 use Rattle.serde_json.specs.Data.{Data as Value}
 use Rattle.luks_area.specs.declared.area.Area.{Area}
 use Rattle.luks_area.specs.Sectors.{rounded_to_sectors}
@@ -13,10 +14,10 @@ use Rattle.luks2_edits.specs.Metadata.{HasStripes, IsInUse}
 use Rattle.luks2_edits.specs.Places.{rounded_to_blocks, IsNewArea}
 use Rattle.luks2_edits.specs.Refused.{Need2, NeedsLike}
 use Rattle.luks2_judging.specs.Room.{IsPlaced}
-use Rattle.luks2_judging.proofs.StripeFacts.{same_stripes, some_same}
 use Rattle.luks2_editing.specs.declared.sealed_metadata.SealedSlot.{SealedSlot}
 use Rattle.luks2_editing.specs.declared.sealed_metadata.SealedSlot.TheVariants.{Made, Renewed}
 use Rattle.luks2_editing.specs.MadeMetadata.{like_of, AsksFor, IsMadeBy}
+use Rattle.luks2_editing.proofs.ToldFacts.{ToldLaws}
 
 -- ---- the area that is found for a keyslot
 
@@ -29,21 +30,21 @@ pub placed_used : (len : ℕ) (j : Value) (total n : ℕ) (area : Area) → IsPl
 placed_used len j total n area x = (x.blocks.slot.there.named, ap is_some x.blocks.slot.there.is)
 
 -- it suits the keyslot
-pub placed_suits : (len : ℕ) (j : Value) (total n : ℕ) (area : Area) (iterations : ℕ) (salt : List ℕ)
+pub placed_suits : (told : ToldLaws) (len : ℕ) (j : Value) (total n : ℕ) (area : Area) (iterations : ℕ) (salt : List ℕ)
     → IsPlaced len j total n area → HasPbkdf2 j n → 1 ≤ iterations → length salt ≡ 32 → CanSeal len j n (members_of iterations salt area)
-placed_suits len j total n area iterations salt x slot turns long = record {
+placed_suits told len j total n area iterations salt x slot turns long = record {
   slot = slot;
   iterations = turns;
   salt = record { from = omega (arith, long); to = omega (arith, long) };
   large = λ key stripes is_key are_stripes. (
       let here : HasStripes j n key stripes = record { object = slot.object; there = slot.there; key_bytes_are = is_key; stripes_are = are_stripes } in
-      let same = same_stripes j n key stripes x.blocks.key_bytes x.blocks.stripes here x.blocks.slot in
+      let same = told.stripes j n key stripes x.blocks.key_bytes x.blocks.stripes here x.blocks.slot in
       let fits : rounded_to_sectors (x.blocks.key_bytes * x.blocks.stripes) ≤ rounded_to_blocks (x.blocks.key_bytes * x.blocks.stripes) = sectors_in_blocks (x.blocks.key_bytes * x.blocks.stripes) in
-      subst (λ k. rounded_to_sectors (k * stripes) ≤ area.len) (sym same.key_bytes)
-      (subst (λ s. rounded_to_sectors (x.blocks.key_bytes * s) ≤ area.len) (sym same.stripes)
+      subst (λ k. rounded_to_sectors (k * stripes) ≤ area.len) (sym same.0)
+      (subst (λ s. rounded_to_sectors (x.blocks.key_bytes * s) ≤ area.len) (sym same.1)
       (subst (λ m. rounded_to_sectors (x.blocks.key_bytes * x.blocks.stripes) ≤ m) (sym x.blocks.is) fits)));
   within = λ bytes says. (
-      let region : x.bytes ≡ bytes = some_same x.bytes bytes (sym x.bytes_are ∙ says) in
+      let region : x.bytes ≡ bytes = same_Some x.bytes bytes (sym x.bytes_are ∙ says) in
       (x.from, subst (λ b. area.start + area.len ≤ region_start len + b) region x.to));
 }
 

@@ -1,6 +1,7 @@
 -- The plan of a keyslot that an edit makes or seals again, beside that of the keyslot that it opened.
 use Rattle.std.proofs.Common.{◌≡◌, ℕ, [], ◌∷◌, true, false, codes, Some, None, is_some, option_and_then, refl, sym, ap, ◌∙◌}
 use Rattle.std.proofs.lemmas.Bool.{false≢true, true≢false}
+use Rattle.std.proofs.lemmas.Option.{same_Some}
 use Rattle.serde_json.specs.Data.{Data as Value}
 use Rattle.serde_json.specs.Find.{get}
 use Rattle.luks_kdf.specs.Names.{hash_named}
@@ -23,7 +24,6 @@ use Rattle.luks_slot.specs.Refusal.{is_argon2, is_known_derivation, is_open_ciph
 use Rattle.luks_reading.specs.Plans.{IsLuks2Cipher, IsLuks2Derivation, IsLuks2Digest}
 use Rattle.luks2_editing.specs.SealedKeyslot.{HasRefusedKeyslot}
 use Rattle.luks2_editing.proofs.OpenedFacts.{not_argon2, HasOpenPlan}
-use Rattle.luks2_judging.proofs.StripeFacts.{some_same}
 
 -- ---- a keyslot that says of its opening what another says
 
@@ -59,7 +59,7 @@ known_both : (d f : Value) (a b : Derivation) → type_at f outer.Kdf ≡ Some (
     → text_of (member_at f outer.Kdf name.Hash) ≡ text_of (member_at d outer.Kdf name.Hash) → IsLuks2Derivation d a → IsLuks2Derivation f b
     → is_known_derivation a ≡ is_known_derivation b
 known_both d f (Pbkdf2 k i s) (Pbkdf2 l t u) derived off same x y =
-    let hash : k.now ≡ l.now = some_same k.now l.now (sym x.1 ∙ sym same ∙ y.1) in
+    let hash : k.now ≡ l.now = same_Some k.now l.now (sym x.1 ∙ sym same ∙ y.1) in
     ap (λ h. is_some (hash_named h)) hash
 known_both d f (Pbkdf2 k i s) Argon2 derived off same x y = absurd (no_argon2 f derived y)
 known_both d f Argon2 b derived off same x y = absurd (true≢false off)
@@ -68,7 +68,7 @@ cipher_both : (d f : Value) (a b : AreaCipher) → text_of (member_at f outer.Ar
     → IsLuks2Cipher d a → IsLuks2Cipher f b → is_open_cipher a ≡ is_open_cipher b
 cipher_both d f (Apart n m) b same x y = absurd x
 cipher_both d f (Whole t) (Apart n m) same x y = absurd y
-cipher_both d f (Whole t) (Whole u) same x y = let text : t.now ≡ u.now = some_same t.now u.now (sym x ∙ sym same ∙ y) in simp text
+cipher_both d f (Whole t) (Whole u) same x y = let text : t.now ≡ u.now = same_Some t.now u.now (sym x ∙ sym same ∙ y) in simp text
 
 -- what decides whether two plans are refused is the same
 record SameTerms (a b : SlotPlan) : Type 0 where
@@ -91,7 +91,7 @@ like_unrefused j k opener n g x y like names keeps =
     let now : IsLuks2Digest k n y.plan.digest = y.is.digest in
     let number : was.number ≡ now.number = y.one was.number (names was.number was.names) in
     let there = keeps.there was.number was.object was.there in
-    let object : there.0 ≡ now.object = some_same there.0 now.object (sym there.1 ∙ ap (object_at k Digests) number ∙ now.there) in
+    let object : there.0 ≡ now.object = same_Some there.0 now.object (sym there.1 ∙ ap (object_at k Digests) number ∙ now.there) in
     let hash : text_of (member_at now.object outer.Top name.Hash) ≡ text_of (member_at was.object outer.Top name.Hash) =
     ap (λ d. text_of (member_at d outer.Top name.Hash)) (sym object) ∙ ap text_of (there.2 (codes "hash") refl) in
     let off : is_argon2 x.plan.derivation ≡ false = not_argon2 x.plan x.refused (is_argon2 x.plan.derivation) refl in
@@ -99,9 +99,9 @@ like_unrefused j k opener n g x y like names keeps =
       argon2 = argon2_both x.object y.object x.plan.derivation y.plan.derivation like.derived off x.is.derivation y.is.derivation;
       known = known_both x.object y.object x.plan.derivation y.plan.derivation like.derived off like.hash x.is.derivation y.is.derivation;
       cipher = cipher_both x.object y.object x.plan.cipher y.plan.cipher like.encryption x.is.cipher y.is.cipher;
-      area_key_bytes = some_same x.plan.area_key_bytes y.plan.area_key_bytes (sym x.is.area_key_bytes ∙ sym like.area_key ∙ y.is.area_key_bytes);
-      splitter_hash = some_same x.plan.splitter_hash.now y.plan.splitter_hash.now (sym x.is.splitter_hash ∙ sym like.splitter ∙ y.is.splitter_hash);
-      digest_hash = some_same x.plan.digest.hash.now y.plan.digest.hash.now (sym was.hash ∙ sym hash ∙ now.hash);
+      area_key_bytes = same_Some x.plan.area_key_bytes y.plan.area_key_bytes (sym x.is.area_key_bytes ∙ sym like.area_key ∙ y.is.area_key_bytes);
+      splitter_hash = same_Some x.plan.splitter_hash.now y.plan.splitter_hash.now (sym x.is.splitter_hash ∙ sym like.splitter ∙ y.is.splitter_hash);
+      digest_hash = same_Some x.plan.digest.hash.now y.plan.digest.hash.now (sym was.hash ∙ sym hash ∙ now.hash);
     } in
     let both : None ≡ Some g = sym x.refused ∙ same_refusal x.plan y.plan terms ∙ y.refused in
     absurd (cc)

@@ -1,5 +1,6 @@
 -- A keyslot of new metadata that is sealed by its plan: what that takes, and what it leaves.
 use Rattle.std.proofs.Common.{◌≡◌, ℕ, ◌+◌, ◌-◌, ◌*◌, ◌≤◌, List, length, drop, Option, Some, Result, Ok, Err, OnOk, inl, inr, sym, ap, ◌∙◌, arith, length-drop}
+use Rattle.std.proofs.lemmas.Option.{same_Some}
 use Rattle.serde_json.specs.Data.{Data as Value}
 use Rattle.luks_area.specs.Ranges.{IsOfEither, SameBut}
 use Rattle.luks_area.specs.RangeFacts.{same_but-wider}
@@ -24,11 +25,11 @@ use Rattle.luks_edit.specs.declared.edit_fault.EditFault.TheVariants as fault
 use Rattle.luks2_edits.specs.Edited.{stripes_random, HoldsKey}
 use Rattle.luks2_edits.specs.Leftovers.{IsTornAt}
 use Rattle.luks2_edits.specs.Places.{IsOfCopies, IsOfSealed}
-use Rattle.luks2_judging.proofs.StripeFacts.{in_between, some_same}
 use Rattle.luks2_editing.specs.Rewriting.{AreWrittenAnew}
 use Rattle.luks2_editing.specs.Sealed.{IsOfStripes, IsPlanFault, IsReadyPlan, MayBeHalfSealed}
 use Rattle.luks2_editing.specs.SealedKeyslot.{IsKeyslotWritten, IsOfStripesOf, IsSealable, IsSealing, IsUnsealed}
 use Rattle.luks2_editing.proofs.KeyAreaFacts.{area_of_object}
+use Rattle.luks2_editing.proofs.ToldFacts.{ToldLaws}
 
 -- what follows of two facts where a call succeeds
 pub on_ok_both : {T E P Q R : Type 0} (r : Result T E) → (P → Q → R) → OnOk r P → OnOk r Q → OnOk r R
@@ -38,13 +39,13 @@ on_ok_both (Err e) step a b = tt
 -- ---- the numbers of a plan
 
 -- one is at least the least
-at_least_one : (d : Option Value) (n : ℕ) → number_in 1 4294967295 d ≡ Some n → 1 ≤ n
-at_least_one d n e = (in_between 1 4294967295 n d e).from
+at_least_one : (told : ToldLaws) (d : Option Value) (n : ℕ) → number_in 1 4294967295 d ≡ Some n → 1 ≤ n
+at_least_one told d n e = (told.range 1 4294967295 n d e).from
 
 -- the derivation has an iteration
-iterated : (d : Value) (a : Derivation) → IsLuks2Derivation d a → HasIterations a
-iterated d (Pbkdf2 hash iterations salt) x = at_least_one (member_at d outer.Kdf name.Iterations) iterations x.2
-iterated d Argon2 x = tt
+iterated : (told : ToldLaws) (d : Value) (a : Derivation) → IsLuks2Derivation d a → HasIterations a
+iterated told d (Pbkdf2 hash iterations salt) x = at_least_one told (member_at d outer.Kdf name.Iterations) iterations x.2
+iterated told d Argon2 x = tt
 
 -- ---- a plan of the keyslot
 
@@ -55,23 +56,23 @@ pub record IsPlanOf (k : Value) (n : ℕ) (plan : SlotPlan) : Type 0 where
   pub is : IsLuks2Plan k n object plan
   pub one : (m : ℕ) → IsDigestOf k n m → m ≡ is.digest.number
 
-module _ (h total : ℕ) (k : Value) (n : ℕ) (key random : List ℕ) (x : IsSealable h k n key random total) (plan : SlotPlan) (p : IsPlanOf k n plan) where
+module _ (told : ToldLaws) (h total : ℕ) (k : Value) (n : ℕ) (key random : List ℕ) (x : IsSealable h k n key random total) (plan : SlotPlan) (p : IsPlanOf k n plan) where
   object_is : p.object ≡ x.slot.object
-  object_is = some_same p.object x.slot.object (sym p.there.is ∙ x.slot.there.is)
+  object_is = same_Some p.object x.slot.object (sym p.there.is ∙ x.slot.there.is)
 
   key_bytes_are : plan.key_bytes ≡ x.key_bytes
-  key_bytes_are = some_same plan.key_bytes x.key_bytes (sym p.is.key_bytes ∙ ap (λ d. number_in 1 128 (member_at d outer.Top name.KeySize)) object_is ∙ x.slot.key_bytes_are)
+  key_bytes_are = same_Some plan.key_bytes x.key_bytes (sym p.is.key_bytes ∙ ap (λ d. number_in 1 128 (member_at d outer.Top name.KeySize)) object_is ∙ x.slot.key_bytes_are)
 
   stripes_are : plan.stripes ≡ x.stripes
-  stripes_are = some_same plan.stripes x.stripes (sym p.is.stripes ∙ ap (λ d. number_in 1 4294967295 (member_at d outer.Af name.Stripes)) object_is ∙ x.slot.stripes_are)
+  stripes_are = same_Some plan.stripes x.stripes (sym p.is.stripes ∙ ap (λ d. number_in 1 4294967295 (member_at d outer.Af name.Stripes)) object_is ∙ x.slot.stripes_are)
 
   start_is : plan.area.start ≡ x.area.start
   start_is = let here = area_of_object k p.object n plan.area.start plan.area.len p.there.named p.there.is p.is.start p.is.len in
-      some_same plan.area.start x.area.start (sym here.1 ∙ x.place.1)
+      same_Some plan.area.start x.area.start (sym here.1 ∙ x.place.1)
 
   len_is : plan.area.len ≡ x.area.len
   len_is = let here = area_of_object k p.object n plan.area.start plan.area.len p.there.named p.there.is p.is.start p.is.len in
-      some_same plan.area.len x.area.len (sym here.2 ∙ x.place.2)
+      same_Some plan.area.len x.area.len (sym here.2 ∙ x.place.2)
 
   pub ready : IsReadyPlan h plan key random total
   ready =
@@ -82,9 +83,9 @@ module _ (h total : ℕ) (k : Value) (n : ℕ) (key random : List ℕ) (x : IsSe
       let inside : x.area.start + x.area.len ≤ total = x.inside in
       let behind = x.behind in
       record {
-        iterations = iterated p.object plan.derivation p.is.derivation;
+        iterations = iterated told p.object plan.derivation p.is.derivation;
         key_length = x.key_length ∙ sym bytes;
-        some_stripes = at_least_one (member_at p.object outer.Af name.Stripes) plan.stripes p.is.stripes;
+        some_stripes = at_least_one told (member_at p.object outer.Af name.Stripes) plan.stripes p.is.stripes;
         random_length = rw (bytes, stripes) x.random_length;
         sectors = rw (bytes, stripes, len) x.large;
         inside = omega (arith, start, len, inside);

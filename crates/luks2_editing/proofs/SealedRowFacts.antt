@@ -17,7 +17,6 @@ use Rattle.luks_edit.specs.declared.edit_fault.EditFault.TheVariants as fault
 use Rattle.luks2_edits.specs.Edited.{members_of, IsEdited}
 use Rattle.luks2_edits.specs.Refused.{HasSaid, IsFull, IsMiscounted, IsUnrefused2, Need2, NeedsLike}
 use Rattle.luks2_judging.specs.Salts.{HasOneDigest}
-use Rattle.luks2_judging.proofs.StripeFacts.{need_once}
 use Rattle.luks2_editing.specs.declared.sealed_metadata.Sealing.{Sealing}
 use Rattle.luks2_editing.specs.MadeMetadata.{like_of, IsMadeBy, IsSealingEdit}
 use Rattle.luks2_editing.specs.Prepared.{IsPrepared, IsUnprepared}
@@ -26,10 +25,12 @@ use Rattle.luks2_editing.proofs.MadeMetadataFacts.{asked_need, made_edited}
 use Rattle.luks2_editing.proofs.OpenedFacts.{opened_kdf, opened_plan, HasOpenPlan}
 use Rattle.luks2_editing.proofs.RenewalFacts.{len_here, metadata_here, said, said_here, VolumeLaws}
 use Rattle.luks2_editing.proofs.RowFacts.{first_of_row, passed_before, passed_then, unrefused, Passed}
+use Rattle.luks2_editing.proofs.ToldFacts.{ToldLaws}
 
 -- the laws of the crates below on which these facts rest
 pub record SealingLaws : Type 0 where
   pub volume : VolumeLaws
+  pub told : ToldLaws
   pub digest : (area : List ℕ) (j : Value) → IsMeta area j → (n m k : ℕ) → IsDigestOf j n m → IsDigestOf j n k → m ≡ k
   pub salts : (h total : ℕ) (payload : Data) (e : Edit) (a b : List ℕ) (j x y : Value)
       → IsBytes a → IsBytes b → length a ≡ length b → HasOneDigest j
@@ -81,7 +82,7 @@ module _ (laws : SealingLaws) (v : List ℕ) (payload : Data) (e : Edit) (random
     counted_of : length random ≡ n → HasSaid v (λ o j. IsMiscounted j e random) → ⊥
     counted_of count bad =
         let other : IsMiscounted (content copy.meta) e random = said_here laws.volume v payload copy x.chosen x.well (λ o j. IsMiscounted j e random) bad in
-        other.other (count ∙ need_once (content copy.meta) e n other.need need other.is)
+        other.other (count ∙ laws.told.need (content copy.meta) e n other.need need other.is)
 
     rest_passed : (k : ℕ) (low : 12 < k → copy.header.seqid + 1 < 2 ^ 64) (room : 13 < k → length (compact_text new) < area_len copy.meta) (count : 14 < k → length random ≡ n)
         → Passed k v payload e random

@@ -20,21 +20,20 @@ ghost use Rattle.luks2_editing.specs.Replies.{Replies2};
 
 use crate::sealed_metadata::{SealedSlot, Sealing, new_metadata};
 use crate::sealed_plan::write_keyslot;
+use crate::secrets::Secrets;
 use luks_area::{Area, Device};
 use luks_edit::{Done, EditFault};
 use luks_head::{chosen_copy_is_sound, one_choice};
 use luks_meta::{one_digest, one_value};
 use luks_reading::{ChosenCopy, well_formed_volume};
-use luks_slot::Key;
+use luks2_judging::told_once;
 use std::alloc::Global;
 
 /// A keyslot that is added, as the rows of the faults up to `BadLabel` were judged.
 #[derive(Clone, Copy)]
-pub(crate) struct Addition<'a> {
+pub(crate) struct Addition {
     /// The keyslot that the old passphrase opened; the new one is made with its members.
     pub(crate) by_: u8,
-    /// The new passphrase.
-    pub(crate) new: &'a [u8],
     /// The iterations of the new keyslot's derivation.
     pub(crate) iterations: u32,
     /// The number of the new keyslot.
@@ -47,22 +46,20 @@ pub(crate) struct Addition<'a> {
 /// of the new keyslot, and then writes both copies of the header anew with it, the other copy first.
 /// A flush follows each.
 ///
-/// Refused by `SeqExhausted`, `MetadataFull` or `RandomLength`; the random bytes are the salts of the
-/// copies, 64 bytes each, the keyslot's salt, 32 bytes, and its stripes but the last. Takes memory for
-/// the metadata and the JSON area, before the first write.
+/// Refused by `SeqExhausted`, `MetadataFull` or `RandomLength`. Takes memory for the metadata and the
+/// JSON area, before the first write.
 pub(crate) fn add<D: Device>(
     alloc: Global,
     device: &mut D,
     copy: &ChosenCopy,
-    addition: &Addition<'_>,
-    key: &Key,
-    random: &[u8],
+    addition: &Addition,
+    secrets: &Secrets<'_>,
 ) -> Result<Done, EditFault>
     requires room { D.failed device.old + 1 < 2 ^ 64 }
     requires free { IsFree (content copy.now.meta) addition.now.made }
     requires iterated { 1000 ≤ addition.now.iterations }
     requires key_length { HasLuks2KeyBytes (content copy.now.meta) addition.now.by_
-        (length key.now) }
+        (length secrets.now.key.now) }
     requires placed { IsPlaced (area_len copy.now.meta) (content copy.now.meta)
         (D.size device.old) addition.now.by_ addition.now.area }
     ensures size { D.size device.new ≡ D.size device.old }
@@ -70,20 +67,21 @@ pub(crate) fn add<D: Device>(
         (D.failed device.old) (D.failed device.new) }
     ensures replies { D.tells → (payload : Payload) (old : Bor (List ℕ)) (to : Option ℕ)
         → IsChosenCopy (D.bytes device.old) copy.now → WellFormed (D.bytes device.old) payload
-        → let e = Add addition.now.by_ old addition.now.new to addition.now.iterations in
-        HasNoFaultBefore 12 (D.bytes device.old) payload e random.now
-        → Answer (D.bytes device.old) addition.now.by_ old.now (opens key.now)
+        → let e = Add addition.now.by_ old secrets.now.passphrase to addition.now.iterations in
+        HasNoFaultBefore 12 (D.bytes device.old) payload e secrets.now.random.now
+        → Answer (D.bytes device.old) addition.now.by_ old.now (opens secrets.now.key.now)
         → IsNewKeyslot (content copy.now.meta) to addition.now.made
         → IsNewArea (hdr_size (header_at (D.bytes device.old) copy.now.header.hdr_offset))
         (length (D.bytes device.old)) payload (content copy.now.meta) addition.now.by_
         addition.now.area
-        → Replies2 payload (D.bytes device.old) e random.now result (D.bytes device.new) }
+        → Replies2 payload (D.bytes device.old) e secrets.now.random.now result (D.bytes device.new) }
 {
     one_choice();
     one_value();
     one_digest();
     chosen_copy_is_sound();
     well_formed_volume();
+    told_once();
     let keyslot = SealedSlot::Made {
         slot: addition.made,
         like: addition.by_,
@@ -93,16 +91,8 @@ pub(crate) fn add<D: Device>(
         iterations: addition.iterations,
         area: addition.area,
     };
-    let made = new_metadata(alloc, copy, &sealing, random, device.len())?;
-    write_keyslot(
-        device,
-        &copy.header,
-        &made,
-        addition.made,
-        addition.new,
-        key,
-        random,
-    )?;
+    let made = new_metadata(alloc, copy, &sealing, secrets.random, device.len())?;
+    write_keyslot(device, &copy.header, &made, addition.made, secrets)?;
     Ok(Done {
         slot: Some(addition.made),
     })

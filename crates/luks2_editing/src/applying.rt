@@ -7,10 +7,11 @@ ghost use Rattle.luks2_judging.specs.Header.{IsOfLuks2};
 ghost use Rattle.luks2_editing.specs.Replies.{Replies2};
 
 use crate::adding::{Addition, add};
-use crate::changing::change;
+use crate::changing::{Renewal, change};
 use crate::labelling::set_label;
 use crate::removing::remove;
 use crate::repairing::repair;
+use crate::secrets::Secrets;
 use luks_area::Device;
 use luks_edit::{Done, Edit, EditFault};
 use luks_reading::{Data, Header};
@@ -49,35 +50,38 @@ pub fn apply_luks2<D: Device>(
     match *edit {
         Edit::Add {
             by_,
-            old: _,
             new,
-            to: _,
             iterations,
+            ..
         } => {
             let addition = Addition {
                 by_,
-                new,
                 iterations,
                 made: judged.made.unwrap(),
                 area: judged.area.unwrap(),
             };
             let key = judged.key.unwrap();
-            add(alloc, device, copy, &addition, &key, random)
+            let secrets = Secrets::new(&key, new, random);
+            add(alloc, device, copy, &addition, &secrets)
         }
         Edit::Change {
             slot,
-            old,
             new,
             iterations,
+            ..
         } => {
-            let key = judged.key.unwrap();
             let area = judged.area.unwrap();
-            change(
-                alloc, device, copy, slot, old, new, iterations, &key, area, random,
-            )
+            let renewal = Renewal {
+                slot,
+                iterations,
+                area,
+            };
+            let key = judged.key.unwrap();
+            let secrets = Secrets::new(&key, new, random);
+            change(alloc, device, copy, &renewal, &secrets)
         }
-        Edit::Remove { slot, passphrase } => remove(alloc, device, copy, slot, passphrase, random),
+        Edit::Remove { slot, .. } => remove(alloc, device, copy, slot, random),
         Edit::Repair => repair(alloc, device, copy, random),
-        Edit::Label { text } => set_label(alloc, device, copy, text, random),
+        Edit::Label { .. } => set_label(alloc, device, copy, judged.label.unwrap(), random),
     }
 }

@@ -1,5 +1,6 @@
 //! Changing the passphrase of a keyslot of a LUKS2 volume.
-ghost use Rattle.std.specs.Prelude.{◌≡◌, ◌+◌, ◌^◌, ◌<◌, ◌≤◌, length};
+ghost use Rattle.std.specs.Prelude.{◌≡◌, ◌+◌, ◌^◌, ◌<◌, ◌≤◌, ℕ, List, length};
+ghost use Rattle.std.specs.Borrow.{Bor};
 ghost use Rattle.luks_area.specs.Device.{CountsFailure};
 ghost use Rattle.luks_head.specs.Header2.{hdr_size, header_at};
 ghost use Rattle.luks_meta.specs.Content.{area_len, content};
@@ -19,69 +20,79 @@ ghost use Rattle.luks2_editing.specs.Replies.{Replies2};
 use crate::removing::lost_area;
 use crate::sealed_metadata::{SealedSlot, Sealing, new_metadata};
 use crate::sealed_plan::write_keyslot;
+use crate::secrets::Secrets;
 use luks_area::{Area, Device};
 use luks_edit::{Done, EditFault};
 use luks_head::{chosen_copy_is_sound, one_choice, soundness_is_local};
 use luks_meta::one_value;
 use luks_reading::{ChosenCopy, well_formed_volume};
-use luks_slot::Key;
 use luks_steps::wipe_area;
+use luks2_judging::told_once;
 use std::alloc::Global;
+
+/// A keyslot that is sealed again, as the rows of the faults up to `BadLabel` were judged.
+#[derive(Clone, Copy)]
+pub(crate) struct Renewal {
+    /// The keyslot, which the old passphrase opened.
+    pub(crate) slot: u8,
+    /// The iterations of its new derivation.
+    pub(crate) iterations: u32,
+    /// Its new area.
+    pub(crate) area: Area,
+}
 
 /// Seals the key, which the old passphrase opens in the keyslot, under the new one in the keyslot's
 /// new area; writes both copies of the header anew, the other copy first; and then overwrites the
-/// keyslot's old area with zeros. A flush follows each. The rows of the faults up to `BadLabel`
-/// were judged, and `area` is where the keyslot's new area goes.
+/// keyslot's old area with zeros. A flush follows each.
 ///
-/// Refused by `SeqExhausted`, `MetadataFull` or `RandomLength`; the random bytes are the salts of
-/// the copies, 64 bytes each, the keyslot's salt, 32 bytes, and its stripes but the last. Takes
-/// memory for the metadata and the JSON area, before the first write.
+/// Refused by `SeqExhausted`, `MetadataFull` or `RandomLength`. Takes memory for the metadata and the
+/// JSON area, before the first write.
 pub(crate) fn change<D: Device>(
     alloc: Global,
     device: &mut D,
     copy: &ChosenCopy,
-    slot: u8,
-    old: &[u8],
-    new: &[u8],
-    iterations: u32,
-    key: &Key,
-    area: Area,
-    random: &[u8],
+    renewal: &Renewal,
+    secrets: &Secrets<'_>,
 ) -> Result<Done, EditFault>
     requires room { D.failed device.old + 1 < 2 ^ 64 }
-    requires there { IsInUse (content copy.now.meta) slot }
-    requires iterated { 1000 ≤ iterations }
-    requires key_length { HasLuks2KeyBytes (content copy.now.meta) slot (length key.now) }
+    requires there { IsInUse (content copy.now.meta) renewal.now.slot }
+    requires iterated { 1000 ≤ renewal.now.iterations }
+    requires key_length { HasLuks2KeyBytes (content copy.now.meta) renewal.now.slot
+        (length secrets.now.key.now) }
     requires placed { IsPlaced (area_len copy.now.meta) (content copy.now.meta)
-        (D.size device.old) slot area }
+        (D.size device.old) renewal.now.slot renewal.now.area }
     ensures size { D.size device.new ≡ D.size device.old }
     ensures count { CountsFailure is_edit_failure result
         (D.failed device.old) (D.failed device.new) }
-    ensures replies { D.tells → (payload : Payload) → IsChosenCopy (D.bytes device.old) copy.now
-        → WellFormed (D.bytes device.old) payload
-        → HasNoFaultBefore 12 (D.bytes device.old) payload
-        (Change slot old.entry new.entry iterations) random.now
-        → Answer (D.bytes device.old) slot old.now (opens key.now)
+    ensures replies { D.tells → (payload : Payload) (old : Bor (List ℕ))
+        → IsChosenCopy (D.bytes device.old) copy.now → WellFormed (D.bytes device.old) payload
+        → let e = Change renewal.now.slot old secrets.now.passphrase renewal.now.iterations in
+        HasNoFaultBefore 12 (D.bytes device.old) payload e secrets.now.random.now
+        → Answer (D.bytes device.old) renewal.now.slot old.now (opens secrets.now.key.now)
         → IsNewArea (hdr_size (header_at (D.bytes device.old) copy.now.header.hdr_offset))
-        (length (D.bytes device.old)) payload (content copy.now.meta) slot area
-        → Replies2 payload (D.bytes device.old) (Change slot old.entry new.entry iterations)
-        random.now result (D.bytes device.new) }
+        (length (D.bytes device.old)) payload (content copy.now.meta) renewal.now.slot
+        renewal.now.area
+        → Replies2 payload (D.bytes device.old) e secrets.now.random.now result
+        (D.bytes device.new) }
 {
     one_choice();
     one_value();
     chosen_copy_is_sound();
     soundness_is_local();
     well_formed_volume();
-    let lost = lost_area(&copy.meta, slot, device.len())?;
+    told_once();
+    let lost = lost_area(&copy.meta, renewal.slot, device.len())?;
     let sealing = Sealing {
-        keyslot: SealedSlot::Renewed { slot },
-        iterations,
-        area,
+        keyslot: SealedSlot::Renewed { slot: renewal.slot },
+        iterations: renewal.iterations,
+        area: renewal.area,
     };
-    let made = new_metadata(alloc, copy, &sealing, random, device.len())?;
-    write_keyslot(device, &copy.header, &made, slot, new, key, random)?;
+    let made = new_metadata(alloc, copy, &sealing, secrets.random, device.len())?;
+    write_keyslot(device, &copy.header, &made, renewal.slot, secrets)?;
     match wipe_area(device, lost) {
-        Ok(()) => Ok(Done { slot: Some(slot) }),
+        Ok(()) => Ok(Done {
+            slot: Some(renewal.slot),
+        }),
         Err(_) => Err(EditFault::Device),
     }
 }

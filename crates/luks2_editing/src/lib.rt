@@ -14,6 +14,7 @@ mod rewriting;
 mod sealed_metadata;
 mod sealed_plan;
 mod sealing;
+mod secrets;
 mod writing;
 
 pub use applying::apply_luks2;

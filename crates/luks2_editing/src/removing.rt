@@ -1,5 +1,6 @@
 //! Removing a keyslot of a LUKS2 volume.
-ghost use Rattle.std.specs.Prelude.{◌≡◌, ◌+◌, ◌^◌, ◌<◌, false, IfErr, IfOk, IsOk};
+ghost use Rattle.std.specs.Prelude.{◌≡◌, ◌+◌, ◌^◌, ◌<◌, ℕ, List, false, IfErr, IfOk, IsOk};
+ghost use Rattle.std.specs.Borrow.{Bor};
 ghost use Rattle.luks_area.specs.Area.{IsInside};
 ghost use Rattle.luks_area.specs.Device.{CountsFailure};
 ghost use Rattle.luks_meta.specs.Content.{area_len, content};
@@ -34,7 +35,6 @@ pub(crate) fn remove<D: Device>(
     device: &mut D,
     copy: &ChosenCopy,
     slot: u8,
-    passphrase: &[u8],
     random: &[u8],
 ) -> Result<Done, EditFault>
     requires numbered { slot < 32 }
@@ -42,10 +42,10 @@ pub(crate) fn remove<D: Device>(
     ensures size { D.size device.new ≡ D.size device.old }
     ensures count { CountsFailure is_edit_failure result
         (D.failed device.old) (D.failed device.new) }
-    ensures replies { D.tells → (payload : Payload) → IsChosenCopy (D.bytes device.old) copy.now
-        → WellFormed (D.bytes device.old) payload
-        → HasNoFaultBefore 12 (D.bytes device.old) payload (Remove slot passphrase.entry) random.now
-        → Replies2 payload (D.bytes device.old) (Remove slot passphrase.entry) random.now
+    ensures replies { D.tells → (payload : Payload) (passphrase : Bor (List ℕ))
+        → IsChosenCopy (D.bytes device.old) copy.now → WellFormed (D.bytes device.old) payload
+        → HasNoFaultBefore 12 (D.bytes device.old) payload (Remove slot passphrase) random.now
+        → Replies2 payload (D.bytes device.old) (Remove slot passphrase) random.now
         result (D.bytes device.new) }
 {
     one_choice();

@@ -1,13 +1,12 @@
 //! Repairing a LUKS2 volume.
-ghost use Rattle.std.specs.Prelude.{◌≡◌, ◌+◌, ◌^◌, ◌<◌, false};
+ghost use Rattle.std.specs.Prelude.{◌≡◌, ◌+◌, ◌^◌, ◌<◌};
 ghost use Rattle.luks_area.specs.Device.{CountsFailure};
-ghost use Rattle.luks_meta.specs.Content.{content};
-ghost use Rattle.luks_meta.specs.Requirements.{has_requirements};
 ghost use Rattle.luks_reading.specs.Checked.{WellFormed};
 ghost use Rattle.luks_reading.specs.Header.{IsChosenCopy};
 ghost use Rattle.luks_reading.specs.declared.report.Data.{Data as Payload};
 ghost use Rattle.luks_edit.specs.EditFaults.{is_edit_failure};
 ghost use Rattle.luks_edit.specs.declared.edit.Edit.TheVariants.{Repair};
+ghost use Rattle.luks2_judging.specs.Rows.{HasNoFaultBefore};
 ghost use Rattle.luks2_editing.specs.Replies.{Replies2};
 
 use crate::rewriting::rewrite;
@@ -15,11 +14,11 @@ use luks_area::Device;
 use luks_edit::{Done, EditFault};
 use luks_head::{chosen_copy_is_sound, one_choice};
 use luks_meta::one_value;
-use luks_reading::{ChosenCopy, no_fault_is_well_formed, well_formed_volume};
+use luks_reading::{ChosenCopy, well_formed_volume};
 use std::alloc::Global;
 
 /// Writes both copies of the header anew from the one that counts: the other copy first, each with a
-/// flush. The volume was accepted, and names no requirements.
+/// flush. The rows of the faults up to `BadLabel` were judged.
 ///
 /// Refused by `SeqExhausted`, `MetadataFull` or `RandomLength`; 128 random bytes are needed, the salts
 /// of the copies. Takes memory for the JSON area, before the first write.
@@ -35,13 +34,12 @@ pub(crate) fn repair<D: Device>(
         (D.failed device.old) (D.failed device.new) }
     ensures replies { D.tells → (payload : Payload) → IsChosenCopy (D.bytes device.old) copy.now
         → WellFormed (D.bytes device.old) payload
-        → has_requirements (content copy.now.meta) ≡ false
+        → HasNoFaultBefore 12 (D.bytes device.old) payload Repair random.now
         → Replies2 payload (D.bytes device.old) Repair random.now result (D.bytes device.new) }
 {
     one_choice();
     one_value();
     chosen_copy_is_sound();
-    no_fault_is_well_formed();
     well_formed_volume();
     rewrite(
         alloc,

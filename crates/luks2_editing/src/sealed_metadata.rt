@@ -26,7 +26,7 @@ use luks_making::{
 use luks_meta::{Cost, Meta, one_digest, one_value};
 use luks_reading::{ChosenCopy, well_formed_volume};
 use luks_slot::SlotFault;
-use luks2_judging::{salts_are_as_long, sealed_need};
+use luks2_judging::{salts_are_as_long, sealed_need, told_once};
 use std::alloc::Global;
 
 /// The keyslot that an edit seals.
@@ -112,6 +112,7 @@ pub(crate) fn new_metadata(
     chosen_copy_is_sound();
     well_formed_volume();
     salts_are_as_long();
+    told_once();
     let like = sealing.keyslot.like();
     if !has_pbkdf2(&copy.meta, like) {
         return Err(EditFault::Slot(SlotFault::Argon2));

@@ -15,11 +15,12 @@ ghost use Rattle.luks2_editing.specs.SealedKeyslot.{IsSealing, IsUnsealed};
 
 use crate::sealed_metadata::NewMetadata;
 use crate::sealing::write_sealed;
+use crate::secrets::Secrets;
 use luks_area::Device;
 use luks_edit::EditFault;
 use luks_head::Bin2;
 use luks_reading::luks2_plan;
-use luks_slot::Key;
+use luks2_judging::told_once;
 
 /// Seals the key in the area of the keyslot `n` of the new metadata, and then writes both copies
 /// anew with that metadata from the chosen one's binary header: the other one first. A flush follows
@@ -32,17 +33,15 @@ pub(crate) fn write_keyslot<D: Device>(
     chosen: &Bin2,
     made: &NewMetadata,
     n: u8,
-    passphrase: &[u8],
-    key: &Key,
-    random: &[u8],
+    secrets: &Secrets<'_>,
 ) -> Result<(), EditFault>
     requires room { D.failed device.old + 1 < 2 ^ 64 }
     requires numbered { chosen.now.seqid + 1 < 2 ^ 64 }
     requires json { IsWrittenArea (area_len made.now.meta) (content made.now.meta)
         made.now.json.items }
     requires within { IsCopyWithin chosen.now (area_len made.now.meta) (D.size device.old) }
-    requires sealable { IsSealable chosen.now.hdr_size (content made.now.meta) n key.now random.now
-        (D.size device.old) }
+    requires sealable { IsSealable chosen.now.hdr_size (content made.now.meta) n secrets.now.key.now
+        secrets.now.random.now (D.size device.old) }
     ensures size { D.size device.new ≡ D.size device.old }
     ensures count { CountsFailure is_edit_failure result
         (D.failed device.old) (D.failed device.new) }
@@ -51,26 +50,20 @@ pub(crate) fn write_keyslot<D: Device>(
         → D.bytes device.new ≡ D.bytes device.old) }
     ensures written { D.tells → (e : TheEdit)
         → IsRenewing (D.bytes device.old) e chosen.now chosen.now.label (area_len made.now.meta)
-        → OnOk result (IsKeyslotWritten (D.bytes device.old) chosen.now.hdr_offset e random.now
-        (content made.now.meta) n passphrase.now key.now (D.bytes device.new)) }
+        → OnOk result (IsKeyslotWritten (D.bytes device.old) chosen.now.hdr_offset e
+        secrets.now.random.now (content made.now.meta) n secrets.now.passphrase.now
+        secrets.now.key.now (D.bytes device.new)) }
     ensures torn { D.tells → (payload : Payload) (e : TheEdit) (j : Value)
         → IsRenewing (D.bytes device.old) e chosen.now chosen.now.label (area_len made.now.meta)
-        → IsSealing (D.bytes device.old) payload e random.now chosen.now.hdr_offset j
-        (content made.now.meta) n passphrase.now key.now
-        → IsTornAt (D.bytes device.old) payload e random.now chosen.now.hdr_offset j
+        → IsSealing (D.bytes device.old) payload e secrets.now.random.now chosen.now.hdr_offset j
+        (content made.now.meta) n secrets.now.passphrase.now secrets.now.key.now
+        → IsTornAt (D.bytes device.old) payload e secrets.now.random.now chosen.now.hdr_offset j
         (content made.now.meta) (D.bytes device.new) }
 {
+    told_once();
     let keyslot = made.meta.keyslot(n).unwrap();
     let number = made.meta.digest_of_keyslot(n).unwrap();
     let digest = made.meta.digest(number).unwrap();
     let plan = luks2_plan(&keyslot, &digest);
-    write_sealed(
-        device,
-        &plan,
-        passphrase,
-        key,
-        chosen,
-        random,
-        made.json.as_slice(),
-    )
+    write_sealed(device, chosen, &plan, secrets, made.json.as_slice())
 }

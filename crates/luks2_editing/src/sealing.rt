@@ -15,6 +15,7 @@ ghost use Rattle.luks2_editing.specs.Rewriting.{AreWrittenAnew, IsRewriting};
 ghost use Rattle.luks2_editing.specs.Sealed.{unsealed, IsOfStripes, IsPlanFault, IsReadyPlan, MayBeHalfSealed};
 
 use crate::random::stripes_in;
+use crate::secrets::Secrets;
 use crate::writing::write_copies;
 use luks_area::Device;
 use luks_edit::EditFault;
@@ -30,15 +31,13 @@ use luks_steps::seal_area;
 /// last are those from the place 160 on.
 pub(crate) fn write_sealed<D: Device>(
     device: &mut D,
-    plan: &SlotPlan<'_>,
-    passphrase: &[u8],
-    key: &Key,
     chosen: &Bin2,
-    random: &[u8],
+    plan: &SlotPlan<'_>,
+    secrets: &Secrets<'_>,
     json: &[u8],
 ) -> Result<(), EditFault>
-    requires ready { IsReadyPlan chosen.now.hdr_size plan.now key.now random.now
-        (D.size device.old) }
+    requires ready { IsReadyPlan chosen.now.hdr_size plan.now secrets.now.key.now
+        secrets.now.random.now (D.size device.old) }
     requires number { chosen.now.seqid + 1 < 2 ^ 64 }
     requires json { binary_header_size + length json.now ≡ chosen.now.hdr_size }
     requires place { chosen.now.hdr_offset ≤ chosen.now.hdr_size }
@@ -51,21 +50,22 @@ pub(crate) fn write_sealed<D: Device>(
         → D.bytes device.new ≡ D.bytes device.old) }
     ensures sealed { D.tells → OnOk result
         (IsSealed plan.now (area_bytes (D.bytes device.new) plan.now.area)
-        passphrase.now key.now (drop 160 random.now)) }
+        secrets.now.passphrase.now secrets.now.key.now (drop 160 secrets.now.random.now)) }
     ensures anew { D.tells → (v : List ℕ) (e : TheEdit) (j : Value)
         → IsRewriting v e chosen.now chosen.now.label j json.now → OnOk result
-        (AreWrittenAnew v chosen.now.hdr_offset e random.now j (D.bytes device.new)) }
+        (AreWrittenAnew v chosen.now.hdr_offset e secrets.now.random.now j (D.bytes device.new)) }
     ensures torn { D.tells → (v : List ℕ) (e : TheEdit) (j : Value)
         → IsRewriting v e chosen.now chosen.now.label j json.now
-        → MayBeHalfSealed v chosen.now.hdr_offset e random.now j plan.now passphrase.now key.now
-        (drop 160 random.now) (D.bytes device.old) (D.bytes device.new) }
+        → MayBeHalfSealed v chosen.now.hdr_offset e secrets.now.random.now j plan.now
+        secrets.now.passphrase.now secrets.now.key.now (drop 160 secrets.now.random.now)
+        (D.bytes device.old) (D.bytes device.new) }
     ensures rest { D.tells
         → SameBut (IsOfEither (IsOfStripes plan.now) (IsOfCopies chosen.now.hdr_size))
         (D.bytes device.old) (D.bytes device.new) }
 {
-    let stripes = stripes_in(random);
-    seal(device, plan, passphrase, key, stripes)?;
-    match write_copies(device, chosen, chosen.label, random, json) {
+    let stripes = stripes_in(secrets.random);
+    seal(device, plan, secrets.passphrase, secrets.key, stripes)?;
+    match write_copies(device, chosen, chosen.label, secrets.random, json) {
         Ok(()) => Ok(()),
         Err(_) => Err(EditFault::Device),
     }

@@ -13,5 +13,6 @@ mod PlaceFacts
 mod RefusalFacts
 mod SealFacts
 mod TornFacts
+mod TouchedFacts
 mod UniqueFacts
 mod VolumeFacts

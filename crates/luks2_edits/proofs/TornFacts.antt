@@ -38,6 +38,7 @@ use Rattle.luks2_edits.proofs.KeptFacts.{all_kept}
 use Rattle.luks2_edits.proofs.LeftoverFacts.{first_size_left, is_sound, left_of, not_other, place_is, same_header, Left}
 use Rattle.luks2_edits.proofs.LowerLaws.{MakingLaws, VolumeLaws}
 use Rattle.luks2_edits.proofs.PlaceFacts.{left_bytes}
+use Rattle.luks2_edits.proofs.TouchedFacts.{torn_rest}
 use Rattle.luks2_edits.proofs.VolumeFacts.{copy_of, layout_of, listed_at_least, one_metadata, one_place, HasCopy, IsLayout}
 
 -- on what opens
@@ -348,10 +349,6 @@ module _
     not_sealed q at p here x = crossed h p (inside_copies h q p at here) (sealed_behind h (length v) payload j e p x)
 
     -- of the other copy
-    touched_by : (p : ℕ) → (other_place h o ≡ 0) ⊎ (other_place h o ≡ h) → IsOfEither Sealed (IsAt (other_place h o) h) p → Touched p
-    touched_by p at (inl x) = inr (inl x)
-    touched_by p at (inr x) = inl (inside_copies h (other_place h o) p at x)
-
     of_copies : (p : ℕ) → (other_place h o ≡ 0) ⊎ (other_place h o ≡ h) → IsOfEither Sealed (IsAt (other_place h o) h) p → IsOfEither Sealed (IsOfCopies h) p
     of_copies p at (inl x) = inl x
     of_copies p at (inr x) = inr (inside_copies h (other_place h o) p at x)
@@ -359,10 +356,6 @@ module _
     apart_by : (p : ℕ) → IsAt o h p → IsOfEither Sealed (IsAt (other_place h o) h) p → ⊥
     apart_by p here (inl x) = not_sealed o at_o p here x
     apart_by p here (inr x) = copies_apart h o p at_o room here x
-
-    chosen_touched : (p : ℕ) → IsOfEither Sealed (IsOfCopies h) p → Touched p
-    chosen_touched p (inl x) = inr (inl x)
-    chosen_touched p (inr x) = inl x
 
     -- ---- while the new area was sealed
 
@@ -374,7 +367,7 @@ module _
     torn_area : SameBut Sealed v w → Outcome v payload e random w
     torn_area rest =
         let long : length w ≡ length v = rest.length_same in
-        let all : SameBut Touched v w = same_but-wider (λ p x. inr (inl x)) rest in
+        let all : SameBut Touched v w = torn_rest v payload e random o j new w (inl rest) in
         let was : copy_at w o ≡ copy_at v o = untouched_copy v w Sealed h o rest room (not_sealed o at_o) (inl refl) in
         let sound : IsSound w o = is_sound laws v w long o was (laws.sound v o stray.copies stray.chosen) in
         let l : Left w h = left_of laws v payload e random w long stray o at_o sound (laws.some w).0 (laws.some w).1 in
@@ -390,7 +383,7 @@ module _
     torn_other t =
         let long : length w ≡ length v = t.rest.length_same in
         let other_is : (other_place h o ≡ 0) ⊎ (other_place h o ≡ h) = other_at h o at_o room in
-        let all : SameBut Touched v w = same_but-wider (λ p. touched_by p other_is) t.rest in
+        let all : SameBut Touched v w = torn_rest v payload e random o j new w (inr (inl t)) in
         let was : copy_at w o ≡ copy_at v o = untouched_copy v w (IsOfEither Sealed (IsAt (other_place h o) h)) h o t.rest room (apart_by) (inl refl) in
         let sound : IsSound w o = is_sound laws v w long o was (laws.sound v o stray.copies stray.chosen) in
         let l : Left w h = left_of laws v payload e random w long stray o at_o sound (laws.some w).0 (laws.some w).1 in
@@ -407,7 +400,7 @@ module _
     torn_chosen : IsTornChosen v payload e random o j new w → Outcome v payload e random w
     torn_chosen t =
         let long : length w ≡ length v = t.rest.length_same in
-        let all : SameBut Touched v w = same_but-wider chosen_touched t.rest in
+        let all : SameBut Touched v w = torn_rest v payload e random o j new w (inr (inr (inl t))) in
         let l : Left w h =
         left_of laws v payload e random w long stray (other_place h o) (other_at h o at_o room) t.other.renewed.sound (laws.some w).0 (laws.some w).1 in
         elim (chosen_at l.place o h room l.at at_o) [

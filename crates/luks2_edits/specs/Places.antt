@@ -1,17 +1,18 @@
 -- Where a new keyslot's area goes, and which bytes of a LUKS2 volume an edit may change. In a volume
 -- of `total` bytes both copies have `h` bytes each, and the metadata that counts is `j`.
-use Rattle.std.specs.Prelude.{◌≡◌, ℕ, ◌+◌, ◌*◌, ◌/◌, ◌<◌, ◌⊎◌, Some, min}
+use Rattle.std.specs.Prelude.{◌≡◌, ℕ, ◌+◌, ◌*◌, ◌/◌, ◌<◌, ◌⊎◌, List, length, Some, min}
 use Rattle.serde_json.specs.Data.{Data as Value}
 use Rattle.luks_area.specs.declared.area.Area.{Area}
 use Rattle.luks_area.specs.Ranges.{IsAt}
 use Rattle.luks_area.specs.Sectors.{rounded_to_sectors}
+use Rattle.luks_head.specs.Header2.{hdr_size, header_at}
 use Rattle.luks_rules.specs.Sizes.{keyslots_size}
 use Rattle.luks_reading.specs.declared.report.Data.{Data}
 use Rattle.luks_reading.specs.Layout2.{Luks2Area}
 use Rattle.luks_edit.specs.declared.edit.Edit.{Edit}
 use Rattle.luks_edit.specs.declared.edit.Edit.TheVariants.{Add, Change, Remove, Repair, Label}
 use Rattle.luks2_edits.specs.Gap.{HasNoGap, IsLeastGap}
-use Rattle.luks2_edits.specs.Metadata.{HasStripes, IsKeyArea}
+use Rattle.luks2_edits.specs.Metadata.{HasMetadata, HasStripes, IsKeyArea}
 
 -- the bytes of the whole blocks of 4096 bytes that hold so many bytes
 abbrev pub rounded_to_blocks : ℕ → ℕ
@@ -87,3 +88,12 @@ IsOfLost j (Label text) p = ⊥
 -- the edit may change the byte at the place
 abbrev pub IsTouched : ℕ → ℕ → Data → Value → Edit → ℕ → Type 0
 IsTouched h total payload j e p = IsOfCopies h p ⊎ IsOfSealed h total payload j e p ⊎ IsOfLost j e p
+
+-- the edit may change the byte at the place of the LUKS2 volume `v`: by the metadata that counts it is
+-- of one of the copies, of the sectors of a keyslot that the edit makes or seals again, or of the area
+-- that a keyslot loses
+pub record IsTouchedIn (v : List ℕ) (payload : Data) (e : Edit) (p : ℕ) : Type 0 where
+  pub place : ℕ
+  pub value : Value
+  pub metadata : HasMetadata v place value
+  pub is : IsTouched (hdr_size (header_at v place)) (length v) payload value e p

@@ -4,7 +4,7 @@
 ghost use Rattle.std.specs.Prelude.{◌≡◌, ◌↔◌, ◌⊎◌, ℕ, List, replicate};
 ghost use Rattle.luks_area.specs.declared.area.Area.{Area as TheArea};
 ghost use Rattle.luks_area.specs.declared.area.AreaName.TheVariants.{Slot};
-ghost use Rattle.luks_area.specs.Ranges.{part};
+ghost use Rattle.luks_area.specs.Ranges.{part, SameBut};
 ghost use Rattle.luks_head.specs.Selection.{luks2, Chosen};
 ghost use Rattle.luks_reading.specs.Answer.{Answer, Opened};
 ghost use Rattle.luks_reading.specs.Checked.{AreaOf, WellFormed};
@@ -14,8 +14,8 @@ ghost use Rattle.luks_edit.specs.Kept.{Keeps};
 ghost use Rattle.luks2_edits.specs.Edited.{After2, HasRanges, NamedKeyslots2, OpensAfter2};
 ghost use Rattle.luks2_edits.specs.Kept.{HasSameKeyslot};
 ghost use Rattle.luks2_edits.specs.Leftovers.{CountsAsAfter, CountsAsBefore, IsNotStray, Leftover2, OpensEither2};
-ghost use Rattle.luks2_edits.specs.Places.{Loses};
-ghost use Rattle.luks2_edits.specs.Refused.{IsUnrefused2, Refusal2};
+ghost use Rattle.luks2_edits.specs.Places.{IsTouchedIn, Loses};
+ghost use Rattle.luks2_edits.specs.Refused.{IsEditFault2, IsUnrefused2, Refusal2};
 ghost use Rattle.luks_edit.specs.EditFaults.{edit_key};
 ghost use Rattle.luks_edit.specs.declared.edit_fault.EditFault.{EditFault as TheFault};
 
@@ -91,7 +91,15 @@ pub fn luks2_edit_opens()
 /// the edit doesn't name; and what counts is the copy that counted before, or one that the edit
 /// writes: its metadata, its uuid, its label and its subsystem. A keyslot that was to be sealed again
 /// opens by the old passphrase or by the new one, to the same key.
+///
+/// Whatever it leaves of any LUKS2 volume, no byte changed beside the copies, the keyslot's sectors
+/// that the edit seals and the area that a keyslot loses by it; and none where a fault refuses the
+/// edit.
 pub fn luks2_failing_edit()
+    ensures rest { (payload : Payload) (e : TheEdit) (v random w : List ℕ)
+        → Leftover2 v payload e random w → SameBut (IsTouchedIn v payload e) v w }
+    ensures refused { (payload : Payload) (e : TheEdit) (v random w : List ℕ) (f : TheFault)
+        → IsEditFault2 v payload e random f → Leftover2 v payload e random w → w ≡ v }
     ensures keeps { (payload : Payload) (e : TheEdit) (v random w : List ℕ) → WellFormed v payload
         → HasRanges v e random → Leftover2 v payload e random w → IsNotStray v payload e random w
         → Keeps payload (NamedKeyslots2 v e) v w }

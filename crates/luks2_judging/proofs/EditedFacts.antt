@@ -1,5 +1,6 @@
 -- The metadata that an edit makes is one but for the salt.
 use Rattle.std.proofs.Common.{◌≡◌, ℕ, ◌*◌, List, length, Option, Some, None, refl, sym, ap, subst, ◌∙◌, arith}
+use Rattle.std.proofs.lemmas.Option.{same_Some}
 use Rattle.base64.specs.GeneralPurpose.{IsBytes}
 use Rattle.serde_json.specs.Data.{Data as Value}
 use Rattle.luks_area.specs.declared.area.Area.{Area}
@@ -17,7 +18,7 @@ use Rattle.luks2_edits.specs.Places.{key_areas_end, rounded_to_blocks, IsNewArea
 use Rattle.luks2_judging.specs.Salts.{HasOneDigest}
 use Rattle.luks2_judging.proofs.EncodedFacts.{quoted_length}
 use Rattle.luks2_judging.proofs.SaltFacts.{AsLong, changed_as_long, SaltsAsLong, SameButSalt, with_as_long}
-use Rattle.luks2_judging.proofs.StripeFacts.{same_stripes, some_same}
+use Rattle.luks2_judging.proofs.StripeFacts.{same_stripes}
 
 pub new_once : (j : Value) (to : Option ℕ) (n m : ℕ) → IsNewKeyslot j to n → IsNewKeyslot j to m → n ≡ m
 new_once j (Some t) n m x y = x ∙ sym y
@@ -32,7 +33,7 @@ module _ (h total : ℕ) (payload : Data) (j : Value) (n : ℕ) (a b : Area) (x 
       x.len ∙ ap (λ k. rounded_to_blocks (k * x.stripes)) s.key_bytes ∙ ap (λ k. rounded_to_blocks (y.key_bytes * k)) s.stripes ∙ sym y.len
 
   region_once : x.region ≡ y.region
-  region_once = some_same x.region y.region (sym x.region_is ∙ y.region_is)
+  region_once = same_Some x.region y.region (sym x.region_is ∙ y.region_is)
 
   there : IsGap (Luks2Area j h payload total) (2 * h) (key_areas_end h total x.region) a.len b.start
   there =
@@ -52,14 +53,14 @@ module _ (h total : ℕ) (payload : Data) (j : Value) (n : ℕ) (a b : Area) (x 
 made_once : (d : Value) (f g : NewMembers) (s t : SlotMembers) → IsMadeFrom d f s → IsMadeFrom d g t
     → f.offset ≡ g.offset → f.size ≡ g.size → f.iterations ≡ g.iterations → SaltsAsLong f.salt g.salt → SameButSalt s t
 made_once d f g s t x y offset size iterations salts = record {
-  key_size = some_same s.key_size t.key_size (sym x.key_size ∙ y.key_size);
-  stripes = some_same s.stripes t.stripes (sym x.stripes ∙ y.stripes);
-  splitter_hash = some_same s.splitter_hash t.splitter_hash (sym x.splitter_hash ∙ y.splitter_hash);
+  key_size = same_Some s.key_size t.key_size (sym x.key_size ∙ y.key_size);
+  stripes = same_Some s.stripes t.stripes (sym x.stripes ∙ y.stripes);
+  splitter_hash = same_Some s.splitter_hash t.splitter_hash (sym x.splitter_hash ∙ y.splitter_hash);
   offset = x.offset ∙ offset ∙ sym y.offset;
   size = x.size ∙ size ∙ sym y.size;
-  encryption = some_same s.encryption t.encryption (sym x.encryption ∙ y.encryption);
-  area_key_size = some_same s.area_key_size t.area_key_size (sym x.area_key_size ∙ y.area_key_size);
-  hash = some_same s.hash t.hash (sym x.hash ∙ y.hash);
+  encryption = same_Some s.encryption t.encryption (sym x.encryption ∙ y.encryption);
+  area_key_size = same_Some s.area_key_size t.area_key_size (sym x.area_key_size ∙ y.area_key_size);
+  hash = same_Some s.hash t.hash (sym x.hash ∙ y.hash);
   iterations = x.iterations ∙ iterations ∙ sym y.iterations;
   salt = subst (λ l. SaltsAsLong l t.salt) (sym x.salt) (subst (λ l. SaltsAsLong f.salt l) (sym y.salt) salts);
 }
@@ -71,7 +72,7 @@ module _ (h total : ℕ) (payload : Data) (j : Value) (a b : List ℕ) (salts : 
       → HasAdded h total payload opener to iterations a j x → HasAdded h total payload opener to iterations b j y → AsLong x y
   added_as_long opener to iterations x y one two =
       let slot : one.slot ≡ two.slot = new_once j to one.slot two.slot one.is_new two.is_new in
-      let from : one.is.from ≡ two.is.from = some_same one.is.from two.is.from (sym one.is.there.is ∙ two.is.there.is) in
+      let from : one.is.from ≡ two.is.from = same_Some one.is.from two.is.from (sym one.is.there.is ∙ two.is.there.is) in
       let digest : one.is.digest ≡ two.is.digest = digests.one opener one.is.digest two.is.digest one.is.names two.is.names in
       let made : SameButSalt one.is.slot two.is.slot =
       made_once two.is.from (members_of iterations a one.area) (members_of iterations b two.area) one.is.slot two.is.slot

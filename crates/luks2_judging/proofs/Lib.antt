@@ -1,15 +1,15 @@
-pub mod AreaFacts
-pub mod ChosenFacts
-pub mod EditedFacts
-pub mod EncodedFacts
-pub mod JudgedFacts
-pub mod KeyFacts
-pub mod KeyslotFacts
-pub mod LastFacts
-pub mod MadeFacts
-pub mod NeedFacts
-pub mod OpenerFacts
-pub mod RoomFacts
-pub mod RowFacts
-pub mod SaltFacts
-pub mod StripeFacts
+mod AreaFacts
+mod ChosenFacts
+mod EditedFacts
+mod EncodedFacts
+mod JudgedFacts
+mod KeyFacts
+mod KeyslotFacts
+mod LastFacts
+mod MadeFacts
+mod NeedFacts
+mod OpenerFacts
+mod RoomFacts
+mod RowFacts
+mod SaltFacts
+mod StripeFacts

@@ -1,5 +1,6 @@
 -- The least gap of the key areas' region.
 use Rattle.std.proofs.Common.{◌≡◌, ℕ, ◌+◌, ◌-◌, ◌*◌, ◌^◌, ◌<◌, ◌≤◌, List, sym, ap, ◌∙◌, min, arith, subst}
+use Rattle.std.proofs.lemmas.Option.{same_Some}
 use Rattle.serde_json.specs.Data.{Data as Value}
 use Rattle.luks_area.specs.declared.area.Area.{Area}
 use Rattle.luks_area.specs.declared.areas.Entry.{Entry}
@@ -9,7 +10,7 @@ use Rattle.luks_reading.specs.Layout2.{Luks2Area}
 use Rattle.luks_reading.specs.Listing.{Lists}
 use Rattle.luks2_edits.specs.Gap.{HasNoGap, IsGap, IsLeastGap}
 use Rattle.luks2_edits.specs.Places.{HasNoNewArea, IsNewArea, key_areas_end, rounded_to_blocks}
-use Rattle.luks2_judging.proofs.StripeFacts.{same_stripes, some_same}
+use Rattle.luks2_judging.proofs.StripeFacts.{same_stripes}
 use Rattle.luks2_judging.specs.Room.{IsPlaced, IsRegion, TakesBlocks}
 
 module _ (entries : List Entry) (len : ℕ) (j : Value) (total low high : ℕ) (x : IsRegion len j total low high) (small : total < 2 ^ 64)
@@ -103,7 +104,7 @@ module _ (entries : List Entry) (len : ℕ) (j : Value) (total low high : ℕ) (
 pub area_excludes : (h total : ℕ) (payload : Data) (j : Value) (n : ℕ) (a : Area) → IsNewArea h total payload j n a → HasNoNewArea h total payload j n → ⊥
 area_excludes h total payload j n a x y =
     let s = same_stripes j n x.key_bytes x.stripes y.key_bytes y.stripes x.slot y.slot in
-    let region : x.region ≡ y.region = some_same x.region y.region (sym x.region_is ∙ y.region_is) in
+    let region : x.region ≡ y.region = same_Some x.region y.region (sym x.region_is ∙ y.region_is) in
     let len : a.len ≡ rounded_to_blocks (y.key_bytes * y.stripes) =
     x.len ∙ ap (λ k. rounded_to_blocks (k * x.stripes)) s.key_bytes ∙ ap (λ k. rounded_to_blocks (y.key_bytes * k)) s.stripes in
     y.none a.start

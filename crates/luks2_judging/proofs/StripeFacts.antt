@@ -1,7 +1,8 @@
 -- What a keyslot says is one thing, and so is how many random bytes an edit takes.
-use Rattle.std.proofs.Common.{◌≡◌, ℕ, ◌+◌, ◌-◌, ◌*◌, ◌≤◌, Some, None, Option, unwrap_or, sym, ap, ◌∙◌, refl, codes, true, false, cond, Bool, option_and_then, arith}
+use Rattle.std.proofs.Common.{◌≡◌, ℕ, ◌+◌, ◌-◌, ◌*◌, ◌≤◌, Some, None, Option, sym, ap, ◌∙◌, refl, codes, true, false, cond, Bool, option_and_then, arith}
 use Rattle.std.proofs.Math.Nat.{mul-le-mul_left}
 use Rattle.std.proofs.lemmas.Bool.{and_parts, leb-true}
+use Rattle.std.proofs.lemmas.Option.{same_Some}
 use Rattle.serde_json.specs.Data.{Data as Value}
 use Rattle.luks_making.specs.Conditions.{Between}
 use Rattle.luks_rules.specs.declared.table.Outer.TheVariants as outer
@@ -18,9 +19,6 @@ use Rattle.luks2_edits.specs.Metadata.{HasStripes, IsInUse}
 use Rattle.luks2_edits.specs.Places.{rounded_to_blocks}
 use Rattle.luks2_edits.specs.Refused.{Need2, NeedsLike}
 
-pub some_same : {A : Type 0} (a b : A) → Some a ≡ Some b → a ≡ b
-some_same a b e = ap (λ o. unwrap_or o a) e
-
 -- the numbers of a keyslot are one pair
 pub record SameStripes (a b x y : ℕ) : Type 0 where
   pub key_bytes : a ≡ x
@@ -28,10 +26,10 @@ pub record SameStripes (a b x y : ℕ) : Type 0 where
 
 pub same_stripes : (j : Value) (n a b x y : ℕ) → HasStripes j n a b → HasStripes j n x y → SameStripes a b x y
 same_stripes j n a b x y one two =
-    let object : one.object ≡ two.object = some_same one.object two.object (sym one.there.is ∙ two.there.is) in
+    let object : one.object ≡ two.object = same_Some one.object two.object (sym one.there.is ∙ two.there.is) in
     record {
-      key_bytes = some_same a x (sym one.key_bytes_are ∙ ap (λ d. number_in 1 128 (inside_at outer.Top (codes "key_size") d)) object ∙ two.key_bytes_are);
-      stripes = some_same b y (sym one.stripes_are ∙ ap (λ d. number_in 1 4294967295 (inside_at outer.Af (codes "stripes") d)) object ∙ two.stripes_are);
+      key_bytes = same_Some a x (sym one.key_bytes_are ∙ ap (λ d. number_in 1 128 (inside_at outer.Top (codes "key_size") d)) object ∙ two.key_bytes_are);
+      stripes = same_Some b y (sym one.stripes_are ∙ ap (λ d. number_in 1 4294967295 (inside_at outer.Af (codes "stripes") d)) object ∙ two.stripes_are);
     }
 
 needed_once : (j : Value) (n a b : ℕ) → NeedsLike j n a → NeedsLike j n b → a ≡ b

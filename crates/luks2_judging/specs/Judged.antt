@@ -1,5 +1,5 @@
 -- How the rows of the table of faults are judged that need no key, each by the metadata `j`.
-use Rattle.std.specs.Prelude.{◌≡◌, ℕ, Option, Some, None, Result, Ok, Err}
+use Rattle.std.specs.Prelude.{◌≡◌, ℕ, ◌++◌, ◌-◌, List, length, replicate, Option, Some, None, Result, Ok, Err}
 use Rattle.serde_json.specs.Data.{Data as Value}
 use Rattle.luks_making.specs.Conditions.{IsFree}
 use Rattle.luks_making.specs.Naming.{IsDigestOf}
@@ -43,6 +43,21 @@ abbrev pub IsUnmade : Value → Edit → EditFault → Type 0
 IsUnmade j e fault.SlotTaken = IsTaken j e
 IsUnmade j e fault.NoFreeSlot = HasNoFree j e
 IsUnmade j e f = ⊥
+
+-- ---- the label
+
+-- the field of 48 bytes holds the text, and zeros
+abbrev pub IsLabelField : List ℕ → Option (List ℕ) → Type 0
+IsLabelField text (Some field_) = field_ ≡ text ++ replicate (48 - length text) 0
+IsLabelField text None = ⊥
+
+-- the label's field, if the edit sets a label
+abbrev pub IsLabelled : Edit → Option (List ℕ) → Type 0
+IsLabelled (Add by_ old new to iterations) label = label ≡ None
+IsLabelled (Change slot old new iterations) label = label ≡ None
+IsLabelled (Remove slot passphrase) label = label ≡ None
+IsLabelled Repair label = label ≡ None
+IsLabelled (Label text) label = IsLabelField text.now label
 
 -- ---- the keyslots of a digest
 

@@ -18,7 +18,7 @@ use Rattle.luks_edit.specs.declared.edit_fault.EditFault.TheVariants as fault
 use Rattle.luks_edit.specs.Asked.{HasFewIterations}
 use Rattle.luks2_edits.specs.Refused.{IsAbsent, Refusal2}
 use Rattle.luks2_judging.specs.declared.judging.Judged.{Judged}
-use Rattle.luks2_judging.specs.Judged.{IsMade}
+use Rattle.luks2_judging.specs.Judged.{IsLabelled, IsMade}
 use Rattle.luks2_judging.specs.Opened.{IsUnlocked}
 use Rattle.luks2_judging.specs.Room.{IsPlacedFor, IsRoomFor}
 use Rattle.luks2_judging.specs.Rows.{HasNoFaultBefore}
@@ -47,6 +47,7 @@ pub record IsJudged (header : Header) (total : ℕ) (e : Edit) (judged : Judged)
   pub placed : IsPlacedFor (area_len judged.copy.now.meta) (content judged.copy.now.meta) total e
       judged.area
   pub iterations : HasFewIterations e → ⊥
+  pub label : IsLabelled e judged.label
 
 -- ---- of the volume `v`
 

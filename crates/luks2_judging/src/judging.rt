@@ -15,15 +15,16 @@ ghost use Rattle.luks_edit.specs.Asked.{HasFewIterations};
 ghost use Rattle.luks_edit.specs.EditFaults.{is_edit_failure};
 ghost use Rattle.luks2_edits.specs.Refused.{IsAbsent, Refusal2};
 ghost use Rattle.luks2_judging.specs.Header.{IsOfLuks2};
-ghost use Rattle.luks2_judging.specs.Judged.{IsMade};
+ghost use Rattle.luks2_judging.specs.Judged.{IsLabelled, IsMade};
 ghost use Rattle.luks2_judging.specs.Judging.{IsJudged, IsJudgedTo, IsRefusedEarly, IsUnrefusedSoFar};
 ghost use Rattle.luks2_judging.specs.Room.{IsPlacedFor, IsRoomFor};
 ghost use Rattle.luks2_judging.specs.Rows.{HasNoFaultBefore};
 
 use crate::accepted::{accepted_areas, copy_of};
 use crate::keyslots::{judge_number, judge_opener, judge_requirements};
+use crate::labels::judge_label;
 use crate::room::judge_room;
-use crate::rows::{judge_iterations, judge_label, judge_last};
+use crate::rows::{judge_iterations, judge_last};
 use crate::unlocking::unlock;
 use luks_area::{Area, Areas, Device, Entry};
 use luks_edit::{Edit, EditFault};
@@ -44,6 +45,8 @@ pub struct Judged<'a> {
     pub made: Option<u8>,
     /// The area of the keyslot that the edit makes or seals again, if it does.
     pub area: Option<Area>,
+    /// The label's field of the header, where the edit sets a label: its text and zeros.
+    pub label: Option<[u8; 48]>,
 }
 
 /// An accepted volume without requirements that has the keyslot that the edit opens.
@@ -53,11 +56,12 @@ struct Accepted<'a> {
     areas: Areas,
 }
 
-/// The keyslot that an edit makes or seals again.
+/// The keyslot that an edit makes or seals again, and the label that it sets.
 #[derive(Clone, Copy, Drop)]
 struct Target {
     made: Option<u8>,
     area: Option<Area>,
+    label: Option<[u8; 48]>,
 }
 
 /// Judges the edit of the LUKS2 volume with this header by the rows `NotAccepted` to `BadLabel` of
@@ -99,6 +103,7 @@ pub fn judge_luks2<'a, D: Device>(
         key,
         made: target.made,
         area: target.area,
+        label: target.label,
     })
 }
 
@@ -150,6 +155,7 @@ fn judge_opened(
     ensures placed { IfOk result (λ t.
         IsPlacedFor (area_len copy.now.meta) (content copy.now.meta) total edit.now t.area) }
     ensures iterations { OnOk result (HasFewIterations edit.now → ⊥) }
+    ensures labelled { IfOk result (λ t. IsLabelled edit.now t.label) }
     ensures room { (v random : List ℕ) (payload : Payload) → length v ≡ total
         → IsJudgedTo 6 copy.now areas.now v payload edit.now random → IfOk result (λ t.
         IsRoomFor (hdr_size (header_at v copy.now.header.hdr_offset)) (length v) payload
@@ -171,6 +177,6 @@ fn judge_opened(
     let area = judge_room(&copy.meta, areas, total, edit)?;
     judge_last(&copy.meta, edit)?;
     judge_iterations(edit)?;
-    judge_label(edit)?;
-    Ok(Target { made, area })
+    let label = judge_label(edit)?;
+    Ok(Target { made, area, label })
 }

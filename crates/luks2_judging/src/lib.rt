@@ -5,6 +5,7 @@ mod accepted;
 mod asked;
 mod judging;
 mod keyslots;
+mod labels;
 mod laws;
 mod needing;
 mod room;
@@ -12,5 +13,5 @@ mod rows;
 mod unlocking;
 
 pub use judging::{Judged, judge_luks2};
-pub use laws::salts_are_as_long;
+pub use laws::{salts_are_as_long, told_once};
 pub use needing::{needed_luks2, sealed_need};

@@ -1,10 +1,9 @@
 //! Judging an edit by the rows that name no keyslot to open or to make.
 ghost use Rattle.std.specs.Prelude.{◌≡◌, ◌+◌, ◌<◌, ◌^◌, false, IsTrue};
-ghost use Rattle.luks_area.specs.Text.{is_plain, is_printable};
 ghost use Rattle.luks_edit.specs.Asked.{HasFewIterations};
 ghost use Rattle.luks_making.specs.Naming.{IsDigestOf};
 ghost use Rattle.luks_meta.specs.Content.{content};
-ghost use Rattle.luks2_edits.specs.Refused.{IsAbsent, IsBadLabel, IsLast, IsMiscounted, IsOnlyOne};
+ghost use Rattle.luks2_edits.specs.Refused.{IsAbsent, IsLast, IsMiscounted, IsOnlyOne};
 ghost use Rattle.luks2_judging.specs.Judged.{IsOnlyName, Judges};
 
 use crate::needing::need;
@@ -14,9 +13,6 @@ use luks_meta::Meta;
 
 /// The least iterations of a new keyslot.
 const LEAST_ITERATIONS: u32 = 1000;
-
-/// The most bytes of a label; a zero byte ends it.
-const MOST_LABEL: usize = 47;
 
 /// Whether another keyslot gives the key of the one to remove. Refused by `LastSlot`.
 pub(crate) fn judge_last(meta: &Meta, edit: &Edit<'_>) -> Result<(), EditFault>
@@ -119,51 +115,6 @@ fn enough(iterations: u32) -> Result<(), EditFault>
         return Err(EditFault::Iterations);
     }
     Ok(())
-}
-
-/// Whether a label is one. Refused by `BadLabel`.
-pub(crate) fn judge_label(edit: &Edit<'_>) -> Result<(), EditFault>
-    ensures { Judges (IsBadLabel edit.now) EditFault.BadLabel result }
-{
-    match *edit {
-        Edit::Label { text } => {
-            if text.len() > MOST_LABEL || !is_plain(text) {
-                return Err(EditFault::BadLabel);
-            }
-            Ok(())
-        }
-        Edit::Add {
-            by_: _,
-            old: _,
-            new: _,
-            to: _,
-            iterations: _,
-        } => Ok(()),
-        Edit::Change {
-            slot: _,
-            old: _,
-            new: _,
-            iterations: _,
-        } => Ok(()),
-        Edit::Remove {
-            slot: _,
-            passphrase: _,
-        } => Ok(()),
-        Edit::Repair => Ok(()),
-    }
-}
-
-/// Whether each byte is printable.
-fn is_plain(text: &[u8]) -> bool
-    ensures { result ≡ is_plain text.now }
-{
-    text.iter().all(|c| is_printable(*c))
-}
-
-fn is_printable(c: u8) -> bool
-    ensures { result ≡ is_printable c }
-{
-    c >= 0x20 && c <= 0x7E
 }
 
 /// Whether there is a higher sequence number. Refused by `SeqExhausted`.

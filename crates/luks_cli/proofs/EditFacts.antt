@@ -1,5 +1,5 @@
 -- What an edit leaves of a volume, by how the command ended.
-use Rattle.std.proofs.Common.{◌≡◌, ◌≢◌, ◌⊎◌, ℕ, List, [], ◌∷◌, ◌++◌, Option, Some, None, IfSome, Result, Ok, Err, IfOk, OnErr, option_map, refl, sym, ap, ◌∙◌, subst, inl, inr, arith}
+use Rattle.std.proofs.Common.{◌≡◌, ◌≢◌, ℕ, List, [], ◌∷◌, ◌++◌, Option, Some, None, IfSome, Result, Ok, Err, IfOk, OnErr, option_map, refl, sym, ap, ◌∙◌, subst, inl, inr, arith}
 use Rattle.luks_area.specs.First.{IsLeast}
 use Rattle.luks_area.specs.declared.area.AreaName.{AreaName}
 use Rattle.luks_area.specs.declared.area.AreaName.TheVariants.{Slot, Segment}
@@ -13,17 +13,18 @@ use Rattle.luks_edit.specs.declared.edit_fault.EditFault.{EditFault}
 use Rattle.luks_edit.specs.declared.edit_fault.EditFault.TheVariants as fault
 use Rattle.luks_edit.specs.EditFaults.{edit_key}
 use Rattle.luks_edit.specs.Kept.{Keeps, KeepsArea, KeepsSlot}
-use Rattle.luks_edit.specs.Ran.{HasNoFailure, IsNamedIn, Reply}
+use Rattle.luks_edit.specs.Ran.{AreRun, HasNoFailure, IsNamedIn, Reply, Replying}
 use Rattle.luks_volume.specs.Edits.{NamedSlots, Refusal, Replies}
 use Rattle.luks_volume.specs.Needed.{IsNeedFault, NeedsRandom, TellsNeed}
-use Rattle.luks_volume.specs.Running.{CountsRun, IsKeptByRun}
+use Rattle.luks_volume.specs.Outcome.{Spares}
+use Rattle.luks_volume.specs.Running.{CountsRun, IsKeptByRun, IsSparedByRun}
 use Rattle.luks_line.specs.declared.request.EditRequest.{EditRequest}
 use Rattle.luks_line.specs.declared.request.EditRequest.TheVariants.{Add, Change, Remove, Repair, Label}
 use Rattle.luks_line.specs.Named.{edit_new_of, edit_passphrase_of}
 use Rattle.luks_line.specs.declared.request.Editing.{Editing}
 use Rattle.luks_cli.specs.declared.answers.Status.{Status}
 use Rattle.luks_cli.specs.declared.answers.Status.TheVariants.{Done, Refused, NotInStep, Fault}
-use Rattle.luks_cli.specs.Editing.{Given, IsAsked, KeepsUnnamed, NamesSlot, WhereFailed, IsCompleted, IsRefused, IsRefusedAtOnce, IsRefusedLate, IsReplied, RepliesAlone, SaysEdit, ended_by, given_edit}
+use Rattle.luks_cli.specs.Editing.{Given, IsAsked, KeepsUnnamed, WhereFailed, IsRefused, IsReplied, RepliesAlone, SaysEdit, SparesEdit, SparesVolume, ended_by, given_edit}
 use Rattle.luks_cli.specs.declared.inputs.InputFault.{InputFault}
 use Rattle.luks_cli.specs.Exit.{exit_status}
 use Rattle.luks_cli.specs.Files.{LeavesVolume}
@@ -82,6 +83,24 @@ kept_alone payload v w s before after f f' none x same k =
     keeps_fewer payload (IsNamedIn NamedSlots v (s ∷ []) k.replies k.volumes) (NamedSlots v s.edit) v w (named_alone v s k.replies k.volumes)
     (k.keeps (subst HasNoFailure one (fine_by 1 before after f f' x same)))
 
+-- a list of one step that the device's failure stopped was stopped in this step, at the first volume
+stopped_alone : (R : Replying) (v met : List ℕ) (s step : Step) (firsts left : List Step) (rs : List Reply) (us : List (List ℕ)) → s ∷ [] ≡ firsts ++ step ∷ left
+    → AreRun R v firsts rs us met → (step ≡ s) × (rs ≡ []) × (met ≡ v)
+stopped_alone R v met s step [] left [] [] is run = (let e : s ≡ step = cc in sym e, refl, run)
+stopped_alone R v met s step [] left [] (u ∷ us) is run = absurd run
+stopped_alone R v met s step [] left (r ∷ rs) us is run = absurd run
+stopped_alone R v met s step (f ∷ []) left rs us is run = cc
+stopped_alone R v met s step (f ∷ g ∷ firsts) left rs us is run = cc
+
+-- so what it left is what its edit spares
+pub spared_alone : (payload : Data) (v w : List ℕ) (s : Step) (before after : List Reply) → before ≡ [] → IsSparedByRun payload v (s ∷ []) before after w
+    → (after ≡ Err fault.Device ∷ []) × Spares v payload s.edit s.random.now w
+spared_alone payload v w s before after none x =
+    let one = stopped_alone (Replies payload) v x.met s x.step x.firsts x.left x.replies x.volumes x.steps_are x.run in
+    let said : after ≡ [] ++ [] ++ Err fault.Device ∷ [] =
+    subst (λ (b : List Reply). after ≡ b ++ [] ++ Err fault.Device ∷ []) none (subst (λ (rs : List Reply). after ≡ before ++ rs ++ Err fault.Device ∷ []) one.1 x.appended) in
+    (said, subst (λ (t : Step). Spares v payload t.edit t.random.now w) one.0 (subst (λ u. Spares u payload x.step.edit x.step.random.now w) one.2 x.spares))
+
 -- ---- how the edit ended
 
 abbrev ended_in : EditFault → Reply
@@ -98,6 +117,10 @@ made_in made = Ok made
 
 not_made : (made : Made) (f : EditFault) → made_in made ≡ ended_in f → ⊥
 not_made made f is = cc
+
+-- an edit that was completed isn't one that the device failed in
+pub never_failed : (made : Made) → made_in made ≡ ended_in fault.Device → ⊥
+never_failed made is = cc
 
 no_refusal : Fault ≡ Refused → ⊥
 no_refusal is = cc
@@ -301,6 +324,31 @@ says_as payload given other v w D R D' R' asks has long of_done of_refused x = r
   ];
 }
 
+-- what is spared by an edit that is given so, is spared by one that is given otherwise
+pub spared_as : (payload : Data) (given other : Given) (v w : List ℕ) → ((e : Edit) → given.asks e → other.asks e)
+    → ((n : ℕ) (b : List ℕ) → given.has_random n b → other.has_random n b) → SparesEdit payload given v w → SparesEdit payload other v w
+unfolding replied_as
+spared_as payload given other v w asks has (inl same) = inl same
+spared_as payload given other v w asks has (inr x) = inr (record { replied = replied_as payload given other v w (Err fault.Device) asks has x.replied; spares = x.spares })
+
+-- where the device failed in the edit that was run, its reply and what it spares are those of the command
+pub spared_edit : (payload : Data) (v u w : List ℕ) (e : Edit) (has_random : ℕ → List ℕ → Type 0) → u ≡ v → (count : ℕ) (random : List ℕ)
+    → NeedsRandom v payload e count → has_random count random → (f : EditFault) → RepliesAlone payload u e random (Err f) w
+    → (ended_in f ≡ Err fault.Device) × Spares u payload e random w → SparesEdit payload (given_edit e has_random) v w
+spared_edit payload v u w e has_random unchanged count random needs taken f (inl none) x = inl (none.1 ∙ unchanged)
+spared_edit payload v u w e has_random unchanged count random needs taken f (inr by) x = inr (record {
+  replied = record {
+    edit = e;
+    asked = refl;
+    count = count;
+    needs = needs;
+    random = random;
+    taken = taken;
+    replies = subst (λ r. Replies payload v e random r w) x.0 (subst (λ y. Replies payload y e random (Err f) w) unchanged by);
+  };
+  spares = subst (λ y. Spares y payload e random w) unchanged x.1;
+})
+
 -- the exit status tells how the command ended
 pub done_by : {F : Type 0} (ended : Result Status F) (status : ℕ) → IfOk ended (λ s. status ≡ exit_status s) → OnErr ended (status ≡ 4) → status ≡ 0
     → ended ≡ Ok Done
@@ -371,6 +419,12 @@ unnamed_same tells failed bytes editing (Err f) = tt
 pub failed_same : {D : Type 0} (failed : D → ℕ) (holds : Type 0) (volume : Result D InputFault) → WhereFailed failed volume volume holds
 failed_same failed holds (Ok device) = λ apart. absurd (apart refl)
 failed_same failed holds (Err f) = tt
+
+-- so no call failed on it, and there is nothing to spare
+pub spared_same : {D : Type 0} (tells : Type 0) (failed : D → ℕ) (bytes : D → List ℕ) (payload : Data) (given : Given) (volume : Result D InputFault)
+    → SparesVolume tells failed bytes payload given volume volume
+spared_same tells failed bytes payload given (Ok device) = λ t well apart. absurd (apart refl)
+spared_same tells failed bytes payload given (Err f) = tt
 
 -- what is told of a volume otherwise
 pub left_as : {D : Type 0} (tells : Type 0) (size : D → ℕ) (bytes : D → List ℕ) (says told : List ℕ → List ℕ → Type 0)

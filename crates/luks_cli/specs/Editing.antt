@@ -13,6 +13,7 @@ use Rattle.luks_edit.specs.Kept.{Keeps}
 use Rattle.luks_edit.specs.Ran.{Reply}
 use Rattle.luks_volume.specs.Edits.{NamedSlots, Refusal, Replies}
 use Rattle.luks_volume.specs.Needed.{IsNeedFault, NeedsRandom}
+use Rattle.luks_volume.specs.Outcome.{Spares}
 use Rattle.luks_line.specs.declared.request.Command.{Command}
 use Rattle.luks_line.specs.declared.request.Command.TheVariants as command
 use Rattle.luks_line.specs.declared.request.EditRequest.{EditRequest}
@@ -108,6 +109,15 @@ pub record SaysEdit (payload : Data) (given : Given) (v w : List ℕ) (is_done i
   pub refused : is_refused → (w ≡ v) × IsRefused payload given v
   pub rest : (w ≡ v) ⊎ ((reply : Reply) × IsReplied payload given v w reply)
 
+-- the edit was run over `v`, a device call failed in it, and `w` is what it spares
+pub record IsSpared (payload : Data) (given : Given) (v w : List ℕ) : Type 0 where
+  pub replied : IsReplied payload given v w (Err Device)
+  pub spares : Spares v payload replied.edit replied.random w
+
+-- where a device call failed, nothing was begun, or this holds
+abbrev pub SparesEdit : Data → Given → List ℕ → List ℕ → Type 0
+SparesEdit payload given v w = (w ≡ v) ⊎ IsSpared payload given v w
+
 -- ---- one edit, that is run
 
 -- the reply of a list of this one edit; where there was no memory for the list, nothing ran
@@ -128,6 +138,13 @@ abbrev pub KeepsUnnamed : {D : Type 0} → Type 0 → (D → ℕ) → (D → Lis
 KeepsUnnamed tells failed bytes editing (Ok old) (Ok new) = tells → WellFormed (bytes old) editing.data_ → failed new ≡ failed old
     → Keeps editing.data_ (NamesSlot editing.request (bytes old)) (bytes old) (bytes new)
 KeepsUnnamed tells failed bytes editing old new = ⊤
+
+-- where a device call failed, of a volume that is there, tells its bytes and was well formed what the
+-- edit spares is left
+abbrev pub SparesVolume : {D : Type 0} → Type 0 → (D → ℕ) → (D → List ℕ) → Data → Given → Result D InputFault → Result D InputFault → Type 0
+SparesVolume tells failed bytes payload given (Ok old) (Ok new) = tells → WellFormed (bytes old) payload
+    → (failed new ≡ failed old → ⊥) → SparesEdit payload given (bytes old) (bytes new)
+SparesVolume tells failed bytes payload given old new = ⊤
 
 -- where a device call failed, this holds
 abbrev pub WhereFailed : {D : Type 0} → (D → ℕ) → Result D InputFault → Result D InputFault → Type 0 → Type 0

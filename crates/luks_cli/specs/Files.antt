@@ -30,11 +30,11 @@ abbrev pub IsLong : {R : Type 0} → (R → Option (List ℕ)) → Result R Inpu
 IsLong remaining file = OfFile remaining file (λ known. 65536 < length known)
 
 -- these bytes are the first `count` of the file, or all of a shorter one; where none is named, there
--- are none
+-- are none, and of a file that can't be read there are none to be taken
 abbrev pub IsTaken : {R : Type 0} → ℕ → (R → Option (List ℕ)) → Result R InputFault → List ℕ → Type 0
 IsTaken count remaining (Ok file) bytes = IfSome (remaining file) (λ known. bytes ≡ take count known)
 IsTaken count remaining (Err Absent) bytes = bytes ≡ []
-IsTaken count remaining (Err fault) bytes = ⊥
+IsTaken count remaining (Err fault) bytes = (count ≡ 0) × (bytes ≡ [])
 
 -- ---- what becomes of the volume
 

@@ -1,7 +1,8 @@
 ghost use Rattle.std.specs.Prelude.{◌≡◌, ◌≢◌, ◌+◌, ◌<◌, ◌≤◌, ◌^◌, IfOk, IfErr};
 ghost use Rattle.std.specs.Result.{ForOk};
 ghost use Rattle.luks_cli.specs.Checked.{SaysCheck, WhereCheck};
-ghost use Rattle.luks_cli.specs.Editing.{given_by, KeepsUnnamed, SaysEdit, WhereEdit, WhereFailed};
+ghost use Rattle.luks_cli.specs.Editing.{given_by, KeepsUnnamed, SaysEdit, SparesVolume};
+ghost use Rattle.luks_cli.specs.Editing.{WhereEdit, WhereFailed};
 ghost use Rattle.luks_cli.specs.Exit.{IsExitStatus};
 ghost use Rattle.luks_cli.specs.Files.{IsTaken, IsWhole, KeepsVolume, LeavesVolume, UnlessWriter};
 ghost use Rattle.luks_cli.specs.Formatting.{needed, SaysFormat, WhereFormat};
@@ -35,8 +36,8 @@ pub fn execute<D: Device, R: Read, N: Read, W: Write, E: Write>(
     // No command changes its volume but those that edit and `format`.
     ensures unchanged { UnlessWriter line.now.command
         (KeepsVolume D.tells D.size D.bytes inputs.old.volume inputs.new.volume) }
-    // A command that edits: what 0 and 1 say of the volume, what is kept, and that 4 tells of a
-    // device call that failed.
+    // A command that edits: what 0 and 1 say of the volume, what is kept, and where a device call
+    // failed that 4 tells of it, and what is spared.
     ensures edit { WhereEdit line.now.command (λ editing. LeavesVolume D.tells D.size D.bytes
         (λ old new. SaysEdit editing.data_
         (given_by editing.request R.remaining N.remaining inputs.old) old new
@@ -45,6 +46,9 @@ pub fn execute<D: Device, R: Read, N: Read, W: Write, E: Write>(
         editing inputs.old.volume inputs.new.volume) }
     ensures failure { WhereEdit line.now.command (λ editing. WhereFailed D.failed
         inputs.old.volume inputs.new.volume (result ≡ 4)) }
+    ensures spared { WhereEdit line.now.command (λ editing. SparesVolume D.tells D.failed D.bytes
+        editing.data_ (given_by editing.request R.remaining N.remaining inputs.old)
+        inputs.old.volume inputs.new.volume) }
     ensures format { WhereFormat line.now.command (λ making. LeavesVolume D.tells D.size D.bytes
         (λ old new. SaysFormat making (IsWhole R.remaining inputs.old.passphrase)
         (IsTaken (needed making.version) N.remaining inputs.old.random) old new result)

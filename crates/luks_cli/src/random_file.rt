@@ -7,7 +7,7 @@ use std::alloc::Global;
 use std::io::Read;
 
 /// So many random bytes: the first of their file, and no more; fewer where the file ends before, and
-/// none where none is named.
+/// none where none is named. The file isn't touched where no byte is asked for.
 pub(crate) fn random_bytes<R: Read>(
     alloc: Global,
     file: &mut Result<R, InputFault>,
@@ -15,6 +15,9 @@ pub(crate) fn random_bytes<R: Read>(
 ) -> Result<Vec<u8>, InputFault>
     ensures taken { IfOk result (λ b. IsTaken count R.remaining file.old b.items) }
 {
+    if count == 0 {
+        return Ok(Vec::new(alloc));
+    }
     match file {
         Ok(reader) => first_random_bytes(alloc, reader, count),
         Err(InputFault::Absent) => Ok(Vec::new(alloc)),

@@ -9,7 +9,8 @@ use Rattle.luks_rules.specs.Reading.{dynamic, Field, whole}
 use Rattle.luks_reading.specs.declared.report.Data.{Data}
 use Rattle.luks_reading.specs.declared.report.Data.TheVariants.{Elsewhere, Here}
 use Rattle.luks_reading.specs.Layout2.{HasExtent, Luks2Area, segment_extent, segment_offset, slot_number}
-use Rattle.luks_edit_laws.proofs.GapDecisions.{alike_decided, all_below_decided, both_decided, Decided, disjoint_decided, IsBeside, less_decided}
+use Rattle.luks_edit_laws.proofs.DecidedFacts.{alike_decided, all_below_decided, both_decided, Decided, less_decided}
+use Rattle.luks_edit_laws.proofs.GapDecisions.{disjoint_decided, IsBeside}
 
 -- ---- numbers
 

@@ -3,7 +3,8 @@ use Rattle.std.proofs.Common.{◌⊎◌, ℕ, suc, ◌+◌, ◌*◌, ◌≤◌, 
 use Rattle.luks_area.specs.declared.area.Area.{Area}
 use Rattle.luks_area.specs.declared.area.AreaName.{AreaName}
 use Rattle.luks2_edits.specs.Gap.{area_at, HasNoGap, IsGap, IsLeastGap}
-use Rattle.luks_edit_laws.proofs.GapDecisions.{alike_decided, at_most_decided, both_decided, Decided, IsBeside, least_or_none_below}
+use Rattle.luks_edit_laws.proofs.DecidedFacts.{alike_decided, at_most_decided, both_decided, Decided, least_or_none_below}
+use Rattle.luks_edit_laws.proofs.GapDecisions.{IsBeside}
 
 module _ (areas : AreaName → Area → Type 0) (low high len : ℕ) (free : (x : Area) → Decided (IsBeside areas x)) where
   -- at the block's place there is a gap

@@ -1,5 +1,16 @@
+pub mod DecidedFacts
 pub mod GapDecisions
 pub mod GapPlaces
 pub mod GapAreas
 pub mod GapNumbers
 pub mod GapVolumes
+pub mod LeastDecisions
+pub mod AskedDecisions
+pub mod RowDecisions1
+pub mod MemberDecisions2
+pub mod RowDecisions2
+pub mod FullDecisions2
+pub mod EditDecisions
+pub mod EditDecisions1
+pub mod EditDecisions2
+pub mod VolumeDecisions

@@ -2,5 +2,7 @@
 #![tactic(auto)]
 
 mod gaps;
+mod laws;
 
 pub use gaps::area_or_no_room;
+pub use laws::first_refusal_or_unrefused;

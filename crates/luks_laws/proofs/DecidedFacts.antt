@@ -3,7 +3,6 @@ use Rattle.std.proofs.Common.{◌≡◌, ◌⊎◌, ℕ, zero, suc, ◌≤◌, �
 use Rattle.std.proofs.lemmas.Bool.{cases_Bool, cases_eq, cases_lt, true≢false}
 use Rattle.luks_area.specs.First.{IsLeast, NotAfter}
 use Rattle.luks_rules.specs.Faults.{Among}
-use Rattle.luks_laws.proofs.LeastFacts.{LacksAny}
 
 -- ---- decisions
 
@@ -110,20 +109,6 @@ not_after_trans (x ∷ xs) (y ∷ ys) (z ∷ zs) a b =
     let high : y ≤ z = b.0 in
     (omega (arith, low, high), λ same. not_after_trans xs ys zs (a.1 (omega (arith, low, high, same))) (b.1 (omega (arith, low, high, same))))
 
-not_after_decided : (xs ys : List ℕ) → Decided (NotAfter xs ys)
-not_after_decided [] ys = inl tt
-not_after_decided (x ∷ xs) [] = inr (λ bad. bad)
-not_after_decided (x ∷ xs) (y ∷ ys) = elim (cases_eq x y) [
-  | inl same ↦ elim (not_after_decided xs ys) [
-    | inl first ↦ inl (omega (arith, same), λ _. first)
-    | inr after ↦ inr (λ z. after (z.1 same))
-  ]
-  | inr other ↦ elim (cases_lt x y) [
-    | inl low ↦ inl (omega (arith, low), λ same. absurd (other same))
-    | inr high ↦ inr (λ z. let low = z.0 in other (omega (arith, low, high)))
-  ]
-]
-
 -- ---- candidates
 
 abbrev pub each : {F : Type 0} → (ℕ → F) → ℕ → List F
@@ -154,7 +139,7 @@ among_map g f (x ∷ xs) (inr later) = inr (among_map g f xs later)
 -- ---- the least member
 
 abbrev pub LeastOrNone : (F : Type 0) → (F → List ℕ) → (F → Type 0) → Type 0
-LeastOrNone F key faults = ((f : F) × IsLeast {F = F} key faults f) ⊎ LacksAny F faults
+LeastOrNone F key faults = ((f : F) × IsLeast {F = F} key faults f) ⊎ ((f : F) → faults f → ⊥)
 
 module _ (F : Type 0) (key : F → List ℕ) (faults : F → Type 0) (decide : (f : F) → Decided (faults f)) where
   -- the least of the candidates that are members
@@ -218,16 +203,6 @@ module _ (F : Type 0) (key : F → List ℕ) (faults : F → Type 0) (decide : (
   least_or_none_by_key cs all = elim (search_candidates cs) [
     | inl found ↦ inl (found.0, (found.1.0, λ h is. let x = all h is in subst (NotAfter (key found.0)) x.3 (found.1.1 x.0 x.1 x.2)))
     | inr none ↦ inr (λ h is. let x = all h is in none x.0 x.1 x.2)
-  ]
-
-  pub least_decided : LeastOrNone F key faults → (f : F) → Decided (IsLeast {F = F} key faults f)
-  least_decided (inr none) f = inr (λ least. none f least.0)
-  least_decided (inl found) f = elim (decide f) [
-    | inl is ↦ elim (not_after_decided (key f) (key found.0)) [
-      | inl first ↦ inl (is, λ h other. not_after_trans (key f) (key found.0) (key h) first (found.1.1 h other))
-      | inr after ↦ inr (λ least. after (least.1 found.0 found.1.0))
-    ]
-    | inr isnt ↦ inr (λ least. isnt least.0)
   ]
 
 -- a set with the same members has the same least one

@@ -170,17 +170,17 @@ among_names h payload total (Segment n) a x = inr (among_right (Segment n) (each
 
 -- ---- the volume
 
-pub luks1_fault_decided : (h : List ℕ) (payload : Data) (total : ℕ) (f : CheckFault) → Decided (IsLuks1Fault h payload total f)
+luks1_fault_decided : (h : List ℕ) (payload : Data) (total : ℕ) (f : CheckFault) → Decided (IsLuks1Fault h payload total f)
 luks1_fault_decided h payload total (check.Head f) = head_fault_decided h f
 luks1_fault_decided h payload total (check.Meta f) = inr (λ bad. bad)
 luks1_fault_decided h payload total (check.Area f) = area_fault_decided (Luks1Area h payload total) total (find_area h payload total) (one_area h payload total) f
 luks1_fault_decided h payload total check.Device = inr (λ bad. bad)
 luks1_fault_decided h payload total check.Memory = inr (λ bad. bad)
 
-pub check_candidates : List CheckFault
+check_candidates : List CheckFault
 check_candidates = map check.Head head_candidates ++ map check.Area (area_candidates names)
 
-pub among_checks : (h : List ℕ) (payload : Data) (total : ℕ) (f : CheckFault) → IsLuks1Fault h payload total f → Among f check_candidates
+among_checks : (h : List ℕ) (payload : Data) (total : ℕ) (f : CheckFault) → IsLuks1Fault h payload total f → Among f check_candidates
 unfolding check_candidates
 among_checks h payload total (check.Head f) bad =
     among_left _ (map check.Head head_candidates) (map check.Area (area_candidates names)) (among_map check.Head f head_candidates (among_heads h f bad))

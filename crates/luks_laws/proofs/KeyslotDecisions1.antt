@@ -111,7 +111,7 @@ module _ (h : List ℕ) (n : ℕ) where
 
 -- ---- the keyslot
 
-pub luks1_refusal_decided : (h : List ℕ) (total n : ℕ) (f : OpenFault) → Decided (IsLuks1Refusal h total n f)
+luks1_refusal_decided : (h : List ℕ) (total n : ℕ) (f : OpenFault) → Decided (IsLuks1Refusal h total n f)
 luks1_refusal_decided h total n (opening.Head f) = head_refusal_decided h n f
 luks1_refusal_decided h total n (opening.Meta f) = inr (λ bad. bad)
 luks1_refusal_decided h total n opening.NoSuchSlot = at_most_decided 8 n

@@ -1,5 +1,3 @@
-pub mod LeastFacts
-pub mod KeyFacts
 pub mod PlanFacts1
 pub mod AnswerFacts
 pub mod UniqueFacts
@@ -11,8 +9,6 @@ pub mod HeaderDecisions1
 pub mod PlanDecisions
 pub mod PlanLikeness2
 pub mod KeyslotDecisions1
-pub mod EditDecisions1
-pub mod VolumeDecisions1
 pub mod PlaceDecisions2
 pub mod HeaderDecisions2
 pub mod KeyslotDecisions2

@@ -3,7 +3,4 @@
 
 mod laws;
 
-pub use laws::{
-    every_keyslot_has_an_answer, first_fault_or_well_formed, first_refusal_or_unrefused,
-    luks1_is_decided,
-};
+pub use laws::{every_keyslot_has_an_answer, first_fault_or_well_formed};

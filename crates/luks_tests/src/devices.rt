@@ -1,5 +1,6 @@
 //! Devices, and text fields.
 use luks_area::{Device, DeviceFault, FaultyDevice, Leave, MemDevice, text_field};
+use luks_cache::{CachedDevice, ROOM};
 use std::alloc::{AllocError, Global};
 use std::test::Fail;
 
@@ -76,6 +77,108 @@ fn failed_writes(rt: HostRuntime) -> Result<(), Fail> {
             "row {i}"
         );
     }
+    Ok(())
+}
+
+/// Whether this range of a device could be read, where it lies inside.
+fn reads<D: Device>(device: &mut D, at: u64, into: &mut [u8]) -> bool {
+    let len = into.len() as u64;
+    device.failures() < 9
+        && at <= device.len()
+        && len <= device.len() - at
+        && device.read_at(at, into).is_ok()
+}
+
+/// A device that remembers its first bytes, over one of six whose call of the number `call` fails.
+fn cached(alloc: Global, call: u64) -> Result<CachedDevice<FaultyDevice<MemDevice>>, AllocError> {
+    let inner = MemDevice::new([1, 2, 3, 4, 5, 6].to_vec(alloc)?);
+    Ok(CachedDevice::new(FaultyDevice::new(inner, call, Leave::Old)))
+}
+
+/// Reads of the first bytes, in turn: the place and what is read. The third call of the device fails,
+/// and two of these make one.
+const READ_ONCE: [(u64, &[u8]); 5] = [
+    (0, &[1, 2]),
+    (2, &[3, 4, 5]),
+    (3, &[4, 5]),
+    (0, &[1, 2, 3, 4, 5]),
+    (4, &[5]),
+];
+
+#[test]
+fn first_bytes_are_read_once(rt: HostRuntime) -> Result<(), Fail> {
+    let mut device = cached(rt.alloc(), 2)?;
+    let mut bytes = [0; 6];
+    for (i, (at, want)) in READ_ONCE.into_iter().enumerate() {
+        let into = &mut bytes[..want.len().min(6)];
+        let read = reads(&mut device, at, into);
+        assert!(rt; read && *into == *want, "row {i}");
+    }
+    assert!(rt;
+        !reads(&mut device, 0, &mut bytes),
+        "the third call, for the last byte"
+    );
+    assert!(rt; reads(&mut device, 0, &mut bytes[..5]), "from memory still");
+    Ok(())
+}
+
+#[test]
+fn other_bytes_are_read_each_time(rt: HostRuntime) -> Result<(), Fail> {
+    let mut device = cached(rt.alloc(), 1)?;
+    let mut two = [0; 2];
+    assert!(rt;
+        reads(&mut device, 3, &mut two) && two == [4, 5],
+        "behind the first byte"
+    );
+    assert!(rt;
+        !reads(&mut device, 3, &mut two),
+        "a second call, which fails"
+    );
+    Ok(())
+}
+
+#[test]
+fn written_bytes_are_read_anew(rt: HostRuntime) -> Result<(), Fail> {
+    let mut device = cached(rt.alloc(), 9)?;
+    let mut six = [0; 6];
+    assert!(rt;
+        reads(&mut device, 0, &mut six) && six == [1, 2, 3, 4, 5, 6],
+        "as they were"
+    );
+    if device.failures() == 0 && device.len() == 6 {
+        let _ = device.write_at(1, &[8, 9]);
+    }
+    assert!(rt;
+        reads(&mut device, 0, &mut six) && six == [1, 8, 9, 4, 5, 6],
+        "as they are"
+    );
+    Ok(())
+}
+
+#[test]
+fn no_more_is_remembered_than_there_is_room_for(rt: HostRuntime) -> Result<(), Fail> {
+    let inner = MemDevice::new(vec![in rt.alloc(); 7u8; ROOM + 2]?);
+    let mut device = CachedDevice::new(FaultyDevice::new(inner, 3, Leave::Old));
+    let mut most = vec![in rt.alloc(); 0u8; ROOM]?;
+    let mut one = [0];
+    let end = ROOM as u64;
+    assert!(rt;
+        reads(&mut device, 0, most.as_mut_slice()) && most[ROOM - 1] == 7,
+        "a call"
+    );
+    assert!(rt;
+        reads(&mut device, end, &mut one) && one == [7],
+        "a second one"
+    );
+    assert!(rt;
+        reads(&mut device, end - 1, &mut one) && one == [7],
+        "from memory"
+    );
+    assert!(rt; reads(&mut device, end, &mut one), "a third call");
+    assert!(rt;
+        !reads(&mut device, end, &mut one),
+        "a fourth one, which fails"
+    );
     Ok(())
 }
 

@@ -34,7 +34,7 @@ the_failure (Err fault.Memory) x = absurd x
 the_failure (Err fault.Device) x = refl
 
 -- no failure among them, and none behind them
-none_then : (rs : List Reply) (r : Reply) → HasNoFailure rs → (IsFailure r → ⊥) → HasNoFailure (rs ++ r ∷ [])
+pub none_then : (rs : List Reply) (r : Reply) → HasNoFailure rs → (IsFailure r → ⊥) → HasNoFailure (rs ++ r ∷ [])
 none_then [] r fine last = (last, tt)
 none_then (q ∷ rs) r fine last = (fine.0, none_then rs r fine.1 last)
 

@@ -5,5 +5,6 @@ pub mod OutcomeFacts
 pub mod RanFacts
 pub mod ReplyFacts
 pub mod RunFacts
+pub mod StoppedFacts
 pub mod UnreadFacts
 pub mod VersionFacts

@@ -10,20 +10,23 @@ use Rattle.luks_reading.specs.declared.report.Data.{Data}
 use Rattle.luks_reading.specs.Checked.{AreaOf, WellFormed, WellFormedAs}
 use Rattle.luks_edit.specs.declared.edit.Edit.{Edit}
 use Rattle.luks_edit.specs.declared.edit.Edit.TheVariants.{Add, Change, Remove, Repair, Label}
+use Rattle.luks_edit.specs.declared.edit_fault.EditFault.{EditFault}
+use Rattle.luks_edit.specs.declared.edit_fault.EditFault.TheVariants as fault
 use Rattle.luks_edit.specs.Kept.{Keeps}
 use Rattle.luks_edit.specs.Ran.{Reply, IsFailure}
 use Rattle.luks1_edits.specs.Edited.{After1, NamedKeyslots1, OpensAfter1, Removes}
 use Rattle.luks1_edits.specs.Kept.{KeepsOthers}
 use Rattle.luks1_edits.specs.Leftovers.{Leftover1, OpensEither1}
 use Rattle.luks1_edits.specs.Places.{IsOfKeyslots}
-use Rattle.luks1_edits.specs.Refused.{IsUnrefused1}
+use Rattle.luks1_edits.specs.Refused.{IsEditFault1, IsUnrefused1}
 use Rattle.luks2_edits.specs.Edited.{After2, HasRanges, NamedKeyslots2, OpensAfter2}
 use Rattle.luks2_edits.specs.Leftovers.{CountsAsAfter, CountsAsBefore, IsNotStray, Leftover2, OpensEither2}
-use Rattle.luks2_edits.specs.Places.{Loses}
-use Rattle.luks2_edits.specs.Refused.{IsUnrefused2}
-use Rattle.luks_volume.specs.Edits.{AfterAs, IsUnrefused, LeftoverAs, Leftover, Makes, MakesAs, Replies}
+use Rattle.luks2_edits.specs.Places.{IsTouchedIn, Loses}
+use Rattle.luks2_edits.specs.Refused.{IsEditFault2, IsUnrefused2}
+use Rattle.luks_volume.specs.Edits.{AfterAs, IsEditFault, IsUnrefused, LeftoverAs, Leftover, Makes, MakesAs, Replies}
 use Rattle.luks_volume.specs.Outcome.{OpensMade, Spares, SparesAs, WipesLost}
 use Rattle.luks_volume.proofs.CountFacts.{the_failure}
+use Rattle.luks_volume.proofs.VersionFacts.{fault_by}
 
 -- a keyslot that is lost is removed
 removes : (e : Edit) (n : ℕ) → Loses e n → Removes e n
@@ -97,6 +100,40 @@ module _ (only : (v : List ℕ) (b c : Choice) → Chosen v b → Chosen v c →
       edit_wipes payload v w e random (Ok done) well is = wipes_as payload e v random w is.3.choice is.3.chosen well is.3.after
       edit_wipes payload v w e random (Err f) well is = tt
 
+  -- an edit that a fault refuses
+
+  module _
+      (refused1 : (payload : Data) (e : Edit) (v random w : List ℕ) (f : EditFault) → IsEditFault1 v payload e random f → Leftover1 v payload e random w → w ≡ v)
+      (refused2 : (payload : Data) (e : Edit) (v random w : List ℕ) (f : EditFault) → IsEditFault2 v payload e random f → Leftover2 v payload e random w → w ≡ v)
+    where
+      left_refused : (payload : Data) (e : Edit) (v random w : List ℕ) (f : EditFault) (c : Choice) → Chosen v c → IsEditFault v payload e random f
+          → LeftoverAs v payload e random c w → w ≡ v
+      left_refused payload e v random w f luks1 chosen is left = refused1 payload e v random w f (fault_by only v payload e luks1 chosen random f is) left
+      left_refused payload e v random w f (luks2 o copies) chosen is left =
+          refused2 payload e v random w f (fault_by only v payload e (luks2 o copies) chosen random f is) left
+      left_refused payload e v random w f nothing chosen is left = left
+
+      -- it changes nothing, whatever is replied
+      pub edit_refused : (payload : Data) (v w : List ℕ) (e : Edit) (random : List ℕ) (r : Reply) → Replies payload v e random r w
+          → (f : EditFault) → IsEditFault v payload e random f → w ≡ v
+      edit_refused payload v w e random (Ok done) is f bad = absurd (is.1.none f bad)
+      edit_refused payload v w e random (Err fault.Device) is f bad = left_refused payload e v random w f is.choice is.chosen bad is.left
+      edit_refused payload v w e random (Err fault.Memory) is f bad = is.1
+      edit_refused payload v w e random (Err (fault.NotAccepted g)) is f bad = is.1
+      edit_refused payload v w e random (Err fault.Requirements) is f bad = is.1
+      edit_refused payload v w e random (Err fault.NoSuchSlot) is f bad = is.1
+      edit_refused payload v w e random (Err fault.Locked) is f bad = is.1
+      edit_refused payload v w e random (Err (fault.Slot s)) is f bad = is.1
+      edit_refused payload v w e random (Err fault.SlotTaken) is f bad = is.1
+      edit_refused payload v w e random (Err fault.NoFreeSlot) is f bad = is.1
+      edit_refused payload v w e random (Err fault.NoRoom) is f bad = is.1
+      edit_refused payload v w e random (Err fault.LastSlot) is f bad = is.1
+      edit_refused payload v w e random (Err fault.Iterations) is f bad = is.1
+      edit_refused payload v w e random (Err fault.BadLabel) is f bad = is.1
+      edit_refused payload v w e random (Err fault.SeqExhausted) is f bad = is.1
+      edit_refused payload v w e random (Err fault.MetadataFull) is f bad = is.1
+      edit_refused payload v w e random (Err fault.RandomLength) is f bad = is.1
+
   -- an edit in which a device call failed
 
   well_chosen : (v : List ℕ) (payload : Data) → WellFormed v payload → Chosen v nothing → ⊥
@@ -108,6 +145,7 @@ module _ (only : (v : List ℕ) (b c : Choice) → Chosen v b → Chosen v c →
       (keeps1 : (payload : Data) (e : Edit) (v random w : List ℕ) → Chosen v luks1 → WellFormed v payload → Leftover1 v payload e random w
       → KeepsOthers payload (NamedKeyslots1 v e) v w)
       (opens1 : (payload : Data) (e : Edit) (v random w : List ℕ) → Chosen v luks1 → WellFormed v payload → Leftover1 v payload e random w → OpensEither1 v e w)
+      (rest2 : (payload : Data) (e : Edit) (v random w : List ℕ) → Leftover2 v payload e random w → SameBut (IsTouchedIn v payload e) v w)
       (keeps2 : (payload : Data) (e : Edit) (v random w : List ℕ) → WellFormed v payload → HasRanges v e random → Leftover2 v payload e random w
       → IsNotStray v payload e random w → Keeps payload (NamedKeyslots2 v e) v w)
       (whole2 : (payload : Data) (e : Edit) (v random w : List ℕ) → WellFormed v payload → HasRanges v e random → Leftover2 v payload e random w
@@ -122,15 +160,23 @@ module _ (only : (v : List ℕ) (b c : Choice) → Chosen v b → Chosen v c →
         keeps = keeps1 payload e v random w chosen well left;
         opens_either = opens1 payload e v random w chosen well left;
       }
-      spares_as payload e v random w (luks2 o copies) chosen well ranges left = λ whole. record {
-        keeps = keeps2 payload e v random w well ranges left whole;
-        counts = whole2 payload e v random w well ranges left whole;
-        opens_either = opens2 payload e v random w well ranges left whole;
+      spares_as payload e v random w (luks2 o copies) chosen well ranges left = record {
+        rest = rest2 payload e v random w left;
+        whole = λ stray. record {
+          keeps = keeps2 payload e v random w well ranges left stray;
+          counts = whole2 payload e v random w well ranges left stray;
+          opens_either = opens2 payload e v random w well ranges left stray;
+        };
       }
       spares_as payload e v random w nothing chosen well ranges left = well_chosen v payload well chosen
 
       pub edit_spares : (payload : Data) (v w : List ℕ) (e : Edit) (random : List ℕ) (r : Reply) → WellFormed v payload → HasRanges v e random
-          → Replies payload v e random r w → IsFailure r → Spares v payload e random w
-      edit_spares payload v w e random r well ranges is failed =
+          → Replies payload v e random r w → IsFailure r → ((f : EditFault) → IsEditFault v payload e random f → w ≡ v) → Spares v payload e random w
+      edit_spares payload v w e random r well ranges is failed refused =
           let left : Leftover v payload e random w = subst (λ q. Replies payload v e random q w) (the_failure r failed) is in
-          record { choice = left.choice; chosen = left.chosen; spared = spares_as payload e v random w left.choice left.chosen well ranges left.left }
+          record {
+            choice = left.choice;
+            chosen = left.chosen;
+            refused = refused;
+            spared = spares_as payload e v random w left.choice left.chosen well ranges left.left;
+          }

@@ -10,13 +10,13 @@ use Rattle.luks_edit.specs.Kept.{Keeps, KeepsArea, KeepsSlot}
 use Rattle.luks_edit.specs.Ran.{AreRun, HasNoFailure, IsCompleted, IsFailure, IsNamedIn, Naming, Reply, Replying}
 
 -- what is kept twice is kept
-area_then : (payload : Data) (n : AreaName) (v u w : List ℕ) → KeepsArea payload n v u → KeepsArea payload n u w → KeepsArea payload n v w
+pub area_then : (payload : Data) (n : AreaName) (v u w : List ℕ) → KeepsArea payload n v u → KeepsArea payload n u w → KeepsArea payload n v w
 area_then payload n v u w x y = record {
   same = λ a. ((λ is. (y.same a).0 ((x.same a).0 is)), (λ is. (x.same a).1 ((y.same a).1 is)));
   bytes = λ a is. y.bytes a ((x.same a).0 is) ∙ x.bytes a is;
 }
 
-slot_then : (payload : Data) (n : ℕ) (v u w : List ℕ) → KeepsSlot payload n v u → KeepsSlot payload n u w → KeepsSlot payload n v w
+pub slot_then : (payload : Data) (n : ℕ) (v u w : List ℕ) → KeepsSlot payload n v u → KeepsSlot payload n u w → KeepsSlot payload n v w
 slot_then payload n v u w x y = record {
   area = area_then payload (Slot n) v u w x.area y.area;
   entry = λ b. ((λ is. (y.entry b).0 ((x.entry b).0 is)), (λ is. (x.entry b).1 ((y.entry b).1 is)));

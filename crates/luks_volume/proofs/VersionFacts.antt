@@ -106,7 +106,7 @@ module _ (only : (v : List ℕ) (b c : Choice) → Chosen v b → Chosen v c →
   first_need_by f least = (record { choice = c; chosen = chosen; fault = least.0 }, λ g bad. least.1 g (need_fault_by g bad))
 
   module _ (r : List ℕ) where
-    fault_by : (f : EditFault) → IsEditFault v payload e r f → IsEditFaultAs v payload e r c f
+    pub fault_by : (f : EditFault) → IsEditFault v payload e r f → IsEditFaultAs v payload e r c f
     fault_by f x = subst (λ d. IsEditFaultAs v payload e r d f) (only v x.choice c x.chosen chosen) x.fault
 
     pub refusal_by : (f : EditFault) → IsLeast edit_key (IsEditFaultAs v payload e r c) f → Refusal v payload e r f

@@ -1,16 +1,18 @@
 -- What an edit brings about in a well formed volume of either version, beside what it keeps: the
--- keyslot that it made opens, the area that a keyslot lost is zeros; and what is left of it by a
--- failing device call.
+-- keyslot that it made opens, the area that a keyslot lost is zeros; and what a failing device call
+-- spares of it.
 use Rattle.std.specs.Prelude.{◌≡◌, ◌⊎◌, ℕ, List, replicate, ⊤}
 use Rattle.luks_area.specs.declared.area.Area.{Area}
 use Rattle.luks_area.specs.declared.area.AreaName.TheVariants.{Slot}
 use Rattle.luks_area.specs.Ranges.{part, SameBut}
+use Rattle.luks_head.specs.declared.selection.Copies.{Copies}
 use Rattle.luks_head.specs.Selection.{Choice, luks1, luks2, nothing, Chosen}
 use Rattle.luks_reading.specs.declared.report.Data.{Data}
 use Rattle.luks_reading.specs.Answer.{Answer, opens}
 use Rattle.luks_reading.specs.Checked.{AreaOf}
 use Rattle.luks_edit.specs.declared.edit.Edit.{Edit}
 use Rattle.luks_edit.specs.declared.edit.Edit.TheVariants.{Add, Change, Remove, Repair, Label}
+use Rattle.luks_edit.specs.declared.edit_fault.EditFault.{EditFault}
 use Rattle.luks_edit.specs.Kept.{Keeps}
 use Rattle.luks1_edits.specs.Edited.{NamedKeyslots1}
 use Rattle.luks1_edits.specs.Kept.{KeepsOthers}
@@ -18,8 +20,8 @@ use Rattle.luks1_edits.specs.Leftovers.{OpensEither1}
 use Rattle.luks1_edits.specs.Places.{IsOfKeyslots}
 use Rattle.luks2_edits.specs.Edited.{NamedKeyslots2}
 use Rattle.luks2_edits.specs.Leftovers.{CountsAsAfter, CountsAsBefore, IsNotStray, OpensEither2}
-use Rattle.luks2_edits.specs.Places.{Loses}
-use Rattle.luks_volume.specs.Edits.{Makes}
+use Rattle.luks2_edits.specs.Places.{IsTouchedIn, Loses}
+use Rattle.luks_volume.specs.Edits.{IsEditFault, Makes}
 
 -- the keyslot that the edit of `v` made, or sealed again, opens in `w` by the new passphrase to the
 -- key that the old one opened
@@ -49,27 +51,42 @@ pub record Spares1 (v : List ℕ) (payload : Data) (e : Edit) (w : List ℕ) : T
   pub keeps : KeepsOthers payload (NamedKeyslots1 v e) v w
   pub opens_either : OpensEither1 v e w
 
--- of a LUKS2 volume: it is well formed, the segments and the keyslots that the edit doesn't name are
--- as they were, what counts is the copy that counted or one that the edit writes, and a changed
--- keyslot opens by the old passphrase or by the new one
-pub record Spares2
+-- of a LUKS2 volume of which no bytes of a torn write are taken for a header: it is well formed, the
+-- segments and the keyslots that the edit doesn't name are as they were, what counts is the copy that
+-- counted or one that the edit writes, and a changed keyslot opens by the old passphrase or by the
+-- new one
+pub record StaysWhole
     (v : List ℕ) (payload : Data) (e : Edit) (random w : List ℕ)
     : Type 0 where
   pub keeps : Keeps payload (NamedKeyslots2 v e) v w
   pub counts : CountsAsBefore v w ⊎ CountsAsAfter v payload e random w
   pub opens_either : OpensEither2 v e w
 
--- by what counts of the volume `v`; of LUKS2 unless bytes of a torn write are taken for a header
+-- of a LUKS2 volume: no byte changed outside the two copies, the sectors of the keyslot that the edit
+-- makes or seals again, and the area that a keyslot loses
+pub record Spares2
+    (v : List ℕ) (payload : Data) (e : Edit) (random w : List ℕ)
+    : Type 0 where
+  pub rest : SameBut (IsTouchedIn v payload e) v w
+  pub whole : IsNotStray v payload e random w → StaysWhole v payload e random w
+
+-- by what counts of the volume `v`
 abbrev pub SparesAs : List ℕ → Data → Edit → List ℕ → Choice → List ℕ → Type 0
 SparesAs v payload e random luks1 w = Spares1 v payload e w
-SparesAs v payload e random (luks2 o copies) w = IsNotStray v payload e random w
-    → Spares2 v payload e random w
+SparesAs v payload e random (luks2 o copies) w = Spares2 v payload e random w
 SparesAs v payload e random nothing w = ⊥
 
--- what a failing device call leaves of the well formed volume `v`
+-- what a failing device call leaves of the well formed volume `v`; where a fault refuses the edit,
+-- no byte changed
 pub record Spares
     (v : List ℕ) (payload : Data) (e : Edit) (random w : List ℕ)
     : Type 0 where
   pub choice : Choice
   pub chosen : Chosen v choice
+  pub refused : (f : EditFault) → IsEditFault v payload e random f → w ≡ v
   pub spared : SparesAs v payload e random choice w
+
+-- where the volume `v` is one of LUKS2, no bytes of a torn write are taken for a header in `w`
+abbrev pub IsUnstray : List ℕ → Data → Edit → List ℕ → List ℕ → Type 0
+IsUnstray v payload e random w = (o : ℕ) (copies : Copies) → Chosen v (luks2 o copies)
+    → IsNotStray v payload e random w

@@ -5,7 +5,9 @@ use Rattle.luks_edit.specs.declared.edit.Step.{Step}
 use Rattle.luks_edit.specs.declared.edit_fault.EditFault.TheVariants.{Device}
 use Rattle.luks_edit.specs.Kept.{Keeps}
 use Rattle.luks_edit.specs.Ran.{AreRun, HasNoFailure, IsNamedIn, Reply, Replying}
+use Rattle.luks1_edits.specs.Kept.{KeepsOthers}
 use Rattle.luks_volume.specs.Edits.{NamedSlots, Replies}
+use Rattle.luks_volume.specs.Outcome.{IsUnstray, Spares}
 
 -- the first `k` steps were run from the volume `v` to `u`: whatever a run of the others leaves, the
 -- whole run leaves
@@ -56,3 +58,26 @@ pub record IsKeptByRun
   pub run : AreRun (Replies payload) v steps replies volumes w
   pub keeps : HasNoFailure replies
       → Keeps payload (IsNamedIn NamedSlots v steps replies volumes) v w
+
+-- the steps were run from the well formed volume `v` until the device failed in `step`, which left `w`:
+-- the steps before it left the volume `met`, which keeps all that no completed edit named, and the
+-- failing step spared of `met` what an edit alone spares. So the segments are as in `v`, and so is
+-- each keyslot that neither a completed edit nor the failing one names
+pub record IsSparedByRun
+    (payload : Data) (v : List ℕ) (steps : List Step) (before after : List Reply) (w : List ℕ)
+    : Type 0 where
+  pub firsts : List Step
+  pub step : Step
+  pub left : List Step
+  pub steps_are : steps ≡ firsts ++ step ∷ left
+  pub replies : List Reply
+  pub volumes : List (List ℕ)
+  pub appended : after ≡ before ++ replies ++ Err Device ∷ []
+  pub fine : HasNoFailure replies
+  pub met : List ℕ
+  pub run : AreRun (Replies payload) v firsts replies volumes met
+  pub keeps : Keeps payload (IsNamedIn NamedSlots v firsts replies volumes) v met
+  pub spares : Spares met payload step.edit step.random.now w
+  pub others : IsUnstray met payload step.edit step.random.now w
+      → KeepsOthers payload (λ n. IsNamedIn NamedSlots v firsts replies volumes n
+      ⊎ NamedSlots met step.edit n) v w

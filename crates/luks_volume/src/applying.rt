@@ -1,13 +1,14 @@
 //! Applying an edit to a volume.
 ghost use Rattle.std.specs.Prelude.{◌≡◌, ◌≢◌, ◌+◌, ◌^◌, ◌<◌, IfErr, OnOk};
 ghost use Rattle.luks_area.specs.Device.{CountsFailure};
+ghost use Rattle.luks_edit.specs.declared.edit_fault.EditFault.{EditFault as TheFault};
 ghost use Rattle.luks_edit.specs.EditFaults.{is_edit_failure};
 ghost use Rattle.luks_edit.specs.Kept.{Keeps};
 ghost use Rattle.luks_edit.specs.Ran.{IsCompleted, IsFailure};
 ghost use Rattle.luks_reading.specs.Checked.{WellFormed};
 ghost use Rattle.luks_reading.specs.Header.{TakesNoMemory};
 ghost use Rattle.luks2_edits.specs.Edited.{HasRangedIterations};
-ghost use Rattle.luks_volume.specs.Edits.{NamedSlots, Replies};
+ghost use Rattle.luks_volume.specs.Edits.{IsEditFault, NamedSlots, Replies};
 ghost use Rattle.luks_volume.specs.Outcome.{OpensMade, Spares, WipesLost};
 
 use crate::header::edited_header;
@@ -23,9 +24,9 @@ use std::alloc::Global;
 ///
 /// The first refusal is answered: one of `NotAccepted` to `RandomLength`, in the order of the fault
 /// type. No refusal changes a byte, nor does `Memory`; memory is taken for a LUKS2 volume alone,
-/// before the first write. `Device` comes exactly where a device call failed; of LUKS1 it leaves
-/// each keyslot that the edit doesn't name as it was, and of LUKS2 it leaves one of the two copies
-/// of the header.
+/// before the first write. `Device` comes exactly where a device call failed; no byte has changed
+/// then but those that the edit writes. Of LUKS1 it leaves each keyslot that the edit doesn't name
+/// as it was, and of LUKS2 it leaves one of the two copies of the header.
 pub fn apply<D: Device>(
     alloc: Global,
     device: &mut D,
@@ -50,6 +51,10 @@ pub fn apply<D: Device>(
         (OpensMade (D.bytes device.old) edit.now (D.bytes device.new)) }
     ensures wiped { D.tells → WellFormed (D.bytes device.old) data_ → OnOk result
         (WipesLost (D.bytes device.old) data_ edit.now (D.bytes device.new)) }
+    // An edit that a fault refuses changes no byte, whatever is replied: where the device failed too.
+    ensures refused { D.tells → (f : TheFault)
+        → IsEditFault (D.bytes device.old) data_ edit.now random.now f
+        → D.bytes device.new ≡ D.bytes device.old }
     // What is left where the device failed.
     ensures spared { D.tells → WellFormed (D.bytes device.old) data_ → IsFailure result
         → Spares (D.bytes device.old) data_ edit.now random.now (D.bytes device.new) }

@@ -5,7 +5,7 @@ ghost use Rattle.std.specs.Vec.{vec_capacity};
 ghost use Rattle.luks_edit.specs.Ran.{IsFailure, Ran};
 ghost use Rattle.luks_reading.specs.Checked.{WellFormed};
 ghost use Rattle.luks_volume.specs.Edits.{Replies};
-ghost use Rattle.luks_volume.specs.Running.{CountsRun, IsKeptByRun};
+ghost use Rattle.luks_volume.specs.Running.{CountsRun, IsKeptByRun, IsSparedByRun};
 
 use crate::applying::apply;
 use crate::laws::edits_keep_volume;
@@ -45,6 +45,12 @@ pub fn run<D: Device>(
     // they were, and each keyslot that no completed step named opens as before.
     ensures keeps { D.tells → WellFormed (D.bytes device.old) data_ → OnOk result
         (IsKeptByRun data_ (D.bytes device.old) steps.now
+        replies.old.items replies.new.items (D.bytes device.new)) }
+    // Where the device failed, the steps before left a volume that keeps all that no completed one
+    // named, and the failing step spared of it what `apply` spares.
+    ensures spared { D.tells → WellFormed (D.bytes device.old) data_
+        → (D.failed device.new ≡ D.failed device.old → ⊥) → OnOk result
+        (IsSparedByRun data_ (D.bytes device.old) steps.now
         replies.old.items replies.new.items (D.bytes device.new)) }
 {
     edits_keep_volume();

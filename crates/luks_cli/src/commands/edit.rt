@@ -4,7 +4,8 @@ ghost use Rattle.std.specs.Result.{ForOk};
 ghost use Rattle.luks_reading.specs.Checked.{WellFormed};
 ghost use Rattle.luks_edit.specs.Kept.{Keeps};
 ghost use Rattle.luks_volume.specs.Edits.{NamedSlots};
-ghost use Rattle.luks_cli.specs.Editing.{ended_by, given_by, given_edit, KeepsUnnamed, SaysEdit, WhereFailed};
+ghost use Rattle.luks_cli.specs.Editing.{ended_by, given_by, given_edit, KeepsUnnamed, SaysEdit};
+ghost use Rattle.luks_cli.specs.Editing.{SparesEdit, SparesVolume, WhereFailed};
 ghost use Rattle.luks_cli.specs.Exit.{IsExitStatus};
 ghost use Rattle.luks_cli.specs.Files.{IsTaken, LeavesVolume};
 
@@ -42,6 +43,9 @@ pub(crate) fn run<D: Device, R: Read, N: Read, W: Write, E: Write>(
     ensures keeps { KeepsUnnamed D.tells D.failed D.bytes editing.now
         inputs.old.volume inputs.new.volume }
     ensures failure { WhereFailed D.failed inputs.old.volume inputs.new.volume (result ≡ 4) }
+    ensures spared { SparesVolume D.tells D.failed D.bytes editing.now.data_
+        (given_by editing.now.request R.remaining N.remaining inputs.old)
+        inputs.old.volume inputs.new.volume }
     ensures kinds { result ≢ 3 }
     ensures unread { IfErr inputs.old.volume (λ _. result ≢ 0) }
 {
@@ -65,6 +69,9 @@ fn edit_volume<D: Device, R: Read, N: Read, W: Write, E: Write>(
         inputs.old.volume inputs.new.volume }
     ensures failure { WhereFailed D.failed inputs.old.volume inputs.new.volume
         (IfOk result (λ s. s ≡ Status.Fault)) }
+    ensures spared { SparesVolume D.tells D.failed D.bytes editing.now.data_
+        (given_by editing.now.request R.remaining N.remaining inputs.old)
+        inputs.old.volume inputs.new.volume }
     ensures kinds { IfOk result (λ s. s ≢ Status.NotInStep) }
     ensures unread { IfErr inputs.old.volume (λ _. IfOk result (λ s. s ≢ Status.Done)) }
 {
@@ -129,6 +136,10 @@ fn edit_device<D: Device, N: Read, W: Write, E: Write>(
         (D.bytes device.old) (D.bytes device.new) }
     ensures failure { (D.failed device.new ≡ D.failed device.old → ⊥)
         → IfOk result (λ s. s ≡ Status.Fault) }
+    ensures spared { D.tells → WellFormed (D.bytes device.old) editing.now.data_
+        → (D.failed device.new ≡ D.failed device.old → ⊥) → SparesEdit editing.now.data_
+        (given_edit edit.now (λ count. IsTaken count N.remaining random.old))
+        (D.bytes device.old) (D.bytes device.new) }
     ensures kinds { IfOk result (λ s. s ≢ Status.NotInStep) }
 {
     let payload = editing.data_;

@@ -1,4 +1,4 @@
-use Rattle.std.proofs.Common.{◌≡◌, length, refl, subst, sym}
+use Rattle.std.proofs.Common.{◌≡◌, length, refl, subst, sym, Some}
 use Rattle.std.proofs.lemmas.Result.{err_from_is_err_and}
 use Rattle.luks_head.specs.Header2.{hdr_size, header_at}
 use Rattle.luks_meta.specs.Content.{content}
@@ -8,12 +8,12 @@ use Rattle.luks_reading.specs.Answer.{Answer, opens}
 use Rattle.luks_reading.specs.Header.{IsHeader}
 use Rattle.luks2_edits.specs.Places.{IsNewArea}
 use Rattle.luks2_edits.specs.Refused.{IsAbsent}
-use Rattle.luks2_judging.specs.Judged.{IsMade, IsMadeNumber, IsNewNumber}
+use Rattle.luks2_judging.specs.Judged.{IsLabelField, IsLabelled, IsMade, IsMadeNumber, IsNewNumber}
 use Rattle.luks2_judging.specs.Judging.{IsUnrefusedSoFar}
 use Rattle.luks2_judging.specs.Opened.{IsKeyOf}
 use Rattle.luks2_judging.specs.Room.{IsRoomLike}
 use Rattle.luks2_editing.specs.Replies.{Replies2}
-use Rattle.luks2_editing.proofs.JudgedFacts.{chosen_copy, none_required, opener_used, refused_ends}
+use Rattle.luks2_editing.proofs.JudgedFacts.{chosen_copy, opener_used, refused_ends}
 use Rattle.luks2_editing.proofs.applying.apply_luks2.Goals as goal
 
 pub returns-in_err-judged-clause-replies : goal.returns-in_err-judged-clause-replies
@@ -38,10 +38,12 @@ returns-in-Repair-clause-replies g c = λ tells is.
     let w = g.D.Device.bytes c.repair.new.device in
     let copy = c.in_ok-judged.judged.copy.now in
     let chosen = chosen_copy v c.args.header.now copy c.in_ok-judged.ensures.judged.copy (subst (λ u. IsHeader u c.args.header.now) (sym same) is) in
-    let judged = subst (λ u. IsUnrefusedSoFar u payload c.args.edit.now c.in_ok-judged.judged) (sym same) (c.in_ok-judged.ensures.unrefused tells is) in
+    let judged : IsUnrefusedSoFar v payload Repair c.in_ok-judged.judged =
+    subst (λ x. IsUnrefusedSoFar v payload x c.in_ok-judged.judged) c.in-Repair.is
+    (subst (λ u. IsUnrefusedSoFar u payload c.args.edit.now c.in_ok-judged.judged) (sym same) (c.in_ok-judged.ensures.unrefused tells is)) in
     subst (λ x. Replies2 payload (g.D.Device.bytes c.args.device.now) x random c.repair.result w) (sym c.in-Repair.is)
     (subst (λ u. Replies2 payload u Repair random c.repair.result w) same
-    (c.repair.ensures.replies tells payload chosen judged.well (none_required v payload c.args.edit.now random copy chosen (judged.none random))))
+    (c.repair.ensures.replies tells payload chosen judged.well (judged.none random)))
 
 pub returns-in-Label-clause-replies : goal.returns-in-Label-clause-replies
 returns-in-Label-clause-replies g c = λ tells is.
@@ -52,10 +54,16 @@ returns-in-Label-clause-replies g c = λ tells is.
     let w = g.D.Device.bytes c.set_label.new.device in
     let copy = c.in_ok-judged.judged.copy.now in
     let chosen = chosen_copy v c.args.header.now copy c.in_ok-judged.ensures.judged.copy (subst (λ u. IsHeader u c.args.header.now) (sym same) is) in
-    let judged = subst (λ u. IsUnrefusedSoFar u payload c.args.edit.now c.in_ok-judged.judged) (sym same) (c.in_ok-judged.ensures.unrefused tells is) in
+    let text = c.in-Label.text in
+    let judged : IsUnrefusedSoFar v payload (Label text) c.in_ok-judged.judged =
+    subst (λ x. IsUnrefusedSoFar v payload x c.in_ok-judged.judged) c.in-Label.is
+    (subst (λ u. IsUnrefusedSoFar u payload c.args.edit.now c.in_ok-judged.judged) (sym same) (c.in_ok-judged.ensures.unrefused tells is)) in
+    let field_ : IsLabelField text.now (Some c.unwrap-in-Label.result) =
+    subst (λ l. IsLabelField text.now l) c.unwrap-in-Label.ensures
+    (subst (λ x. IsLabelled x c.in_ok-judged.judged.label) c.in-Label.is c.in_ok-judged.ensures.judged.label) in
     subst (λ x. Replies2 payload (g.D.Device.bytes c.args.device.now) x random c.set_label.result w) (sym c.in-Label.is)
-    (subst (λ u. Replies2 payload u (Label c.in-Label.text) random c.set_label.result w) same
-    (c.set_label.ensures.replies tells payload chosen judged.well (none_required v payload c.args.edit.now random copy chosen (judged.none random))))
+    (subst (λ u. Replies2 payload u (Label text) random c.set_label.result w) same
+    (c.set_label.ensures.replies tells payload text chosen judged.well (judged.none random) field_))
 
 pub returns-in-Change-clause-replies : goal.returns-in-Change-clause-replies
 returns-in-Change-clause-replies g c = λ tells is.
@@ -78,7 +86,8 @@ returns-in-Change-clause-replies g c = λ tells is.
     subst (λ a. IsRoomLike (hdr_size (header_at v copy.header.hdr_offset)) (length v) payload (content copy.meta) slot a) c.unwrap-area.ensures judged.room in
     subst (λ x. Replies2 payload (g.D.Device.bytes c.args.device.now) x random c.change.result w) (sym c.in-Change.is)
     (subst (λ u. Replies2 payload u e random c.change.result w) same
-    (c.change.ensures.replies tells payload chosen judged.well (judged.none random) opened place))
+    (let replies = rw c.new-secrets-in-Change.ensures at (c.change.ensures.replies tells payload c.in-Change.old) in
+    replies chosen judged.well (judged.none random) opened place))
 
 pub returns-in-Add-clause-replies : goal.returns-in-Add-clause-replies
 returns-in-Add-clause-replies g c = λ tells is.
@@ -105,4 +114,5 @@ returns-in-Add-clause-replies g c = λ tells is.
     subst (λ a. IsRoomLike (hdr_size (header_at v copy.header.hdr_offset)) (length v) payload j opener a) c.unwrap-in-Add.ensures judged.room in
     subst (λ x. Replies2 payload (g.D.Device.bytes c.args.device.now) x random c.add.result w) (sym c.in-Add.is)
     (subst (λ u. Replies2 payload u e random c.add.result w) same
-    (c.add.ensures.replies tells payload c.in-Add.old to chosen judged.well (judged.none random) opened numbered.is_new place))
+    (let replies = rw c.new-secrets.ensures at (c.add.ensures.replies tells payload c.in-Add.old to) in
+    replies chosen judged.well (judged.none random) opened numbered.is_new place))

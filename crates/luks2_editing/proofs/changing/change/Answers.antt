@@ -16,19 +16,19 @@ use Rattle.luks2_editing.proofs.ChangeFacts.{change_sealing, changed_after, rene
 use Rattle.luks2_editing.proofs.LostFacts.{lost_inside}
 use Rattle.luks2_editing.proofs.NewKeyslotFacts.{alike_sealable, unsealed_ends}
 use Rattle.luks2_editing.proofs.RenewalFacts.{renewing, VolumeLaws}
+use Rattle.luks2_editing.proofs.ToldFacts.{ToldLaws}
 use Rattle.luks2_editing.proofs.changing.change.Goals as goal
 
 pub returns-in_err-lost-clause-replies : goal.returns-in_err-lost-clause-replies
-returns-in_err-lost-clause-replies g c = λ tells payload x well before opened place.
+returns-in_err-lost-clause-replies g c = λ tells payload old x well before opened place.
     let v = g.D.Device.bytes c.args.device.now in
     let copy = c.args.copy.now in
-    let random = c.args.random.now in
-    let slot = c.args.slot in
-    let old = c.args.old in
-    let new = c.args.new in
-    let turns = c.args.iterations in
-    let key = c.args.key.now in
-    let area = c.args.area in
+    let random = c.args.secrets.now.random.now in
+    let slot = c.args.renewal.now.slot in
+    let new = c.args.secrets.now.passphrase in
+    let turns = c.args.renewal.now.iterations in
+    let key = c.args.secrets.now.key.now in
+    let area = c.args.renewal.now.area in
     let laws : VolumeLaws = record { only = c.one_choice.ensures.only; sound = c.chosen_copy_is_sound.ensures; value = c.one_value.ensures; fits = c.well_formed_volume.ensures } in
     let size : length v ≡ g.D.Device.size c.args.device.now = g.met.D.Device.sized c.args.device.now tells in
     let total : length v ≡ c.len.result = size ∙ sym c.len.ensures in
@@ -39,16 +39,15 @@ returns-in_err-lost-clause-replies g c = λ tells payload x well before opened p
     absurd (false≢true (c.in_err-lost.ensures.found there))
 
 pub returns-in_err-made-clause-replies : goal.returns-in_err-made-clause-replies
-returns-in_err-made-clause-replies g c = λ tells payload x well before opened place.
+returns-in_err-made-clause-replies g c = λ tells payload old x well before opened place.
     let v = g.D.Device.bytes c.args.device.now in
     let copy = c.args.copy.now in
-    let random = c.args.random.now in
-    let slot = c.args.slot in
-    let old = c.args.old in
-    let new = c.args.new in
-    let turns = c.args.iterations in
-    let key = c.args.key.now in
-    let area = c.args.area in
+    let random = c.args.secrets.now.random.now in
+    let slot = c.args.renewal.now.slot in
+    let new = c.args.secrets.now.passphrase in
+    let turns = c.args.renewal.now.iterations in
+    let key = c.args.secrets.now.key.now in
+    let area = c.args.renewal.now.area in
     let laws : VolumeLaws = record { only = c.one_choice.ensures.only; sound = c.chosen_copy_is_sound.ensures; value = c.one_value.ensures; fits = c.well_formed_volume.ensures } in
     let size : length v ≡ g.D.Device.size c.args.device.now = g.met.D.Device.sized c.args.device.now tells in
     let total : length v ≡ c.len-2.result = size ∙ sym c.len-2.ensures in
@@ -68,27 +67,29 @@ returns-in_err-made-clause-replies g c = λ tells payload x well before opened p
 
 pub write_keyslot-requires-clause-sealable : goal.write_keyslot-requires-clause-sealable
 write_keyslot-requires-clause-sealable g c =
+    let told : ToldLaws = record { range = c.told_once.ensures.range; stripes = c.told_once.ensures.stripes; need = c.told_once.ensures.need } in
     let copy = c.args.copy.now in
+    let renewal = c.args.renewal.now in
     let made = c.in_ok-made.ensures in
     let j = content copy.meta in
     let k = content c.in_ok-made.made.meta in
     let within : IsCopyWithin copy.header (area_len copy.meta) (g.D.Device.size c.args.device.now) =
     subst (λ (n : ℕ). IsCopyWithin copy.header n (g.D.Device.size c.args.device.now)) made.length
     (subst (λ (n : ℕ). IsCopyWithin copy.header (area_len c.in_ok-made.made.meta) n) c.len-2.ensures made.within) in
-    alike_sealable j k c.args.slot c.args.slot c.args.area (renewed_alike j k c.args.slot c.args.iterations _ c.args.area made.made)
-    (area_len copy.meta) (g.D.Device.size c.args.device.now) copy.header c.args.key.now c.args.random.now made.counted c.requires.key_length c.requires.placed within
+    alike_sealable told j k renewal.slot renewal.slot renewal.area (renewed_alike j k renewal.slot renewal.iterations _ renewal.area made.made)
+    (area_len copy.meta) (g.D.Device.size c.args.device.now) copy.header c.args.secrets.now.key.now c.args.secrets.now.random.now made.counted c.requires.key_length c.requires.placed within
 
 pub returns-in_err-write_keyslot-clause-replies : goal.returns-in_err-write_keyslot-clause-replies
-returns-in_err-write_keyslot-clause-replies g c = λ tells payload x well before opened place.
+returns-in_err-write_keyslot-clause-replies g c = λ tells payload old x well before opened place.
+    let told : ToldLaws = record { range = c.told_once.ensures.range; stripes = c.told_once.ensures.stripes; need = c.told_once.ensures.need } in
     let v = g.D.Device.bytes c.args.device.now in
     let copy = c.args.copy.now in
-    let random = c.args.random.now in
-    let slot = c.args.slot in
-    let old = c.args.old in
-    let new = c.args.new in
-    let turns = c.args.iterations in
-    let key = c.args.key.now in
-    let area = c.args.area in
+    let random = c.args.secrets.now.random.now in
+    let slot = c.args.renewal.now.slot in
+    let new = c.args.secrets.now.passphrase in
+    let turns = c.args.renewal.now.iterations in
+    let key = c.args.secrets.now.key.now in
+    let area = c.args.renewal.now.area in
     let laws : VolumeLaws = record { only = c.one_choice.ensures.only; sound = c.chosen_copy_is_sound.ensures; value = c.one_value.ensures; fits = c.well_formed_volume.ensures } in
     let size : length v ≡ g.D.Device.size c.args.device.now = g.met.D.Device.sized c.args.device.now tells in
     let total : length v ≡ c.len-2.result = size ∙ sym c.len-2.ensures in
@@ -112,22 +113,22 @@ returns-in_err-write_keyslot-clause-replies g c = λ tells payload x well before
     let p = err_from_is_err_and c.from_residual-in_err-write_keyslot.result c.from_residual-in_err-write_keyslot.ensures.1 in
     rw (p.1, p.2)
     (unsealed_ends laws v payload copy x well (Change slot old new turns) random k free edited (g.D.Device.bytes c.write_keyslot.new.device)
-    slot (renewed_unrefused laws v payload copy x well slot old new turns key random area k opened place made.made)
+    slot (renewed_unrefused laws told v payload copy x well slot old new turns key random area k opened place made.made)
     (c.write_keyslot.ensures.torn tells payload (Change slot old new turns) (content copy.meta) renews
-    (change_sealing laws v payload copy x well slot old new turns key random area k opened place made.made))
+    (change_sealing laws told v payload copy x well slot old new turns key random area k opened place made.made))
     c.in_err-write_keyslot.field-0.0 c.in_err-write_keyslot.ensures.fault)
 
 pub returns-in-Ok-clause-replies : goal.returns-in-Ok-clause-replies
-returns-in-Ok-clause-replies g c = λ tells payload x well before opened place.
+returns-in-Ok-clause-replies g c = λ tells payload old x well before opened place.
+    let told : ToldLaws = record { range = c.told_once.ensures.range; stripes = c.told_once.ensures.stripes; need = c.told_once.ensures.need } in
     let v = g.D.Device.bytes c.args.device.now in
     let copy = c.args.copy.now in
-    let random = c.args.random.now in
-    let slot = c.args.slot in
-    let old = c.args.old in
-    let new = c.args.new in
-    let turns = c.args.iterations in
-    let key = c.args.key.now in
-    let area = c.args.area in
+    let random = c.args.secrets.now.random.now in
+    let slot = c.args.renewal.now.slot in
+    let new = c.args.secrets.now.passphrase in
+    let turns = c.args.renewal.now.iterations in
+    let key = c.args.secrets.now.key.now in
+    let area = c.args.renewal.now.area in
     let laws : VolumeLaws = record { only = c.one_choice.ensures.only; sound = c.chosen_copy_is_sound.ensures; value = c.one_value.ensures; fits = c.well_formed_volume.ensures } in
     let size : length v ≡ g.D.Device.size c.args.device.now = g.met.D.Device.sized c.args.device.now tells in
     let total : length v ≡ c.len-2.result = size ∙ sym c.len-2.ensures in
@@ -153,22 +154,22 @@ returns-in-Ok-clause-replies g c = λ tells payload x well before opened place.
     let written = c.in_ok-write_keyslot.ensures.written tells (Change slot old new turns) renews in
     record {
       unrefused = free;
-      after = changed_after laws v payload copy x well slot old new turns key random area k opened place made.made free edited
+      after = changed_after laws told v payload copy x well slot old new turns key random area k opened place made.made free edited
           c.soundness_is_local.ensures.range c.in_ok-lost.lost c.in_ok-lost.ensures.area w y written (c.wipe_area.ensures.rest tells) (c.in-Ok.ensures.wiped tells);
       told = refl;
     }
 
 pub returns-clause-replies : goal.returns-clause-replies
-returns-clause-replies g c = λ tells payload x well before opened place.
+returns-clause-replies g c = λ tells payload old x well before opened place.
+    let told : ToldLaws = record { range = c.told_once.ensures.range; stripes = c.told_once.ensures.stripes; need = c.told_once.ensures.need } in
     let v = g.D.Device.bytes c.args.device.now in
     let copy = c.args.copy.now in
-    let random = c.args.random.now in
-    let slot = c.args.slot in
-    let old = c.args.old in
-    let new = c.args.new in
-    let turns = c.args.iterations in
-    let key = c.args.key.now in
-    let area = c.args.area in
+    let random = c.args.secrets.now.random.now in
+    let slot = c.args.renewal.now.slot in
+    let new = c.args.secrets.now.passphrase in
+    let turns = c.args.renewal.now.iterations in
+    let key = c.args.secrets.now.key.now in
+    let area = c.args.renewal.now.area in
     let laws : VolumeLaws = record { only = c.one_choice.ensures.only; sound = c.chosen_copy_is_sound.ensures; value = c.one_value.ensures; fits = c.well_formed_volume.ensures } in
     let size : length v ≡ g.D.Device.size c.args.device.now = g.met.D.Device.sized c.args.device.now tells in
     let total : length v ≡ c.len-2.result = size ∙ sym c.len-2.ensures in
@@ -192,5 +193,5 @@ returns-clause-replies g c = λ tells payload x well before opened place.
     let w = g.D.Device.bytes c.write_keyslot.new.device in
     let y = g.D.Device.bytes c.wipe_area.new.device in
     let written = c.in_ok-write_keyslot.ensures.written tells (Change slot old new turns) renews in
-    torn_lost laws v payload copy x well slot old new turns key random area k opened place made.made free edited
+    torn_lost laws told v payload copy x well slot old new turns key random area k opened place made.made free edited
     c.soundness_is_local.ensures.range c.in_ok-lost.lost c.in_ok-lost.ensures.area w y written (c.wipe_area.ensures.rest tells)

@@ -1,41 +1,38 @@
 use Rattle.std.proofs.Common.{◌≡◌, length, refl, subst}
-use Rattle.std.proofs.lemmas.Bool.{false≢true}
 use Rattle.std.proofs.lemmas.Result.{err_from_is_err_and}
 use Rattle.luks_edit.specs.declared.edit.Edit.TheVariants.{Label}
 use Rattle.luks_meta.specs.Content.{area_len, content}
 use Rattle.luks2_editing.specs.Prepared.{IsCopyWithin}
-use Rattle.luks2_editing.proofs.PlainEditFacts.{bad_label, fine_label, label_passed, label_refused}
 use Rattle.luks2_editing.proofs.RenewalFacts.{copies_touched, copy_within, prepared_unrefused, renewing, unwritten_ends, written_after, VolumeLaws}
+use Rattle.luks2_editing.proofs.RowFacts.{passed_before}
 use Rattle.luks2_editing.proofs.labelling.set_label.Goals as goal
 
 pub returns-in_err-rewrite-clause-replies : goal.returns-in_err-rewrite-clause-replies
-returns-in_err-rewrite-clause-replies g c = λ tells payload x well none.
+returns-in_err-rewrite-clause-replies g c = λ tells payload text x well before field_.
     let v = g.D.Device.bytes c.args.device.now in
     let w = g.D.Device.bytes c.rewrite.new.device in
     let copy = c.args.copy.now in
     let random = c.args.random.now in
-    let text = c.args.text in
     let laws : VolumeLaws = record { only = c.one_choice.ensures.only; sound = c.chosen_copy_is_sound.ensures; value = c.one_value.ensures; fits = c.well_formed_volume.ensures } in
-    let passed = label_passed laws v payload copy x well ((c.no_fault_is_well_formed.ensures v payload).0 well) none random text (fine_label text (c.if-not-is_label.ensures.0 refl)) in
+    let passed = passed_before v payload (Label text) random before.each in
     let size : length v ≡ g.D.Device.size c.args.device.now = g.met.D.Device.sized c.args.device.now tells in
     let within : IsCopyWithin copy.header (area_len copy.meta) (g.D.Device.size c.args.device.now) =
     subst (λ n. IsCopyWithin copy.header (area_len copy.meta) n) size (copy_within laws v payload copy x well) in
-    let renews = renewing laws v payload copy x well (Label text) c.label_field-label.result c.label_field-label.ensures in
+    let renews = renewing laws v payload copy x well (Label text) c.args.label field_ in
     let p = err_from_is_err_and c.from_residual.result c.from_residual.ensures.1 in
     rw (p.1, p.2)
     (unwritten_ends laws v payload copy x well (Label text) random (content copy.meta) passed (λ salt. refl) (λ salt k is. is) refl (λ k is. is) (λ u. tt)
     w c.in_err-rewrite.field-0.0 (c.in_err-rewrite.ensures.refused within) (c.in_err-rewrite.ensures.same tells) (c.rewrite.ensures.torn tells v (Label text) renews))
 
 pub returns-clause-replies : goal.returns-clause-replies
-returns-clause-replies g c = λ tells payload x well none.
+returns-clause-replies g c = λ tells payload text x well before field_.
     let v = g.D.Device.bytes c.args.device.now in
     let w = g.D.Device.bytes c.rewrite.new.device in
     let copy = c.args.copy.now in
     let random = c.args.random.now in
-    let text = c.args.text in
     let laws : VolumeLaws = record { only = c.one_choice.ensures.only; sound = c.chosen_copy_is_sound.ensures; value = c.one_value.ensures; fits = c.well_formed_volume.ensures } in
-    let passed = label_passed laws v payload copy x well ((c.no_fault_is_well_formed.ensures v payload).0 well) none random text (fine_label text (c.if-not-is_label.ensures.0 refl)) in
-    let renews = renewing laws v payload copy x well (Label text) c.label_field-label.result c.label_field-label.ensures in
+    let passed = passed_before v payload (Label text) random before.each in
+    let renews = renewing laws v payload copy x well (Label text) c.args.label field_ in
     record {
       unrefused = prepared_unrefused laws v payload copy x well (Label text) random (content copy.meta) passed (λ salt. refl) (λ salt k is. is) refl (λ k is. is) (λ u. tt) c.in_ok-rewrite.ensures.ready;
       after = written_after laws v payload copy x well (Label text) random (content copy.meta) passed (λ salt. refl) (λ salt k is. is) refl (λ k is. is) (λ u. tt) w tt
@@ -43,11 +40,3 @@ returns-clause-replies g c = λ tells payload x well none.
           (copies_touched laws v payload copy x well (Label text) random (content copy.meta) passed (λ salt. refl) (λ salt k is. is) refl (λ k is. is) (λ u. tt) w (c.rewrite.ensures.rest tells));
       told = refl;
     }
-
-pub returns-then-not-is_label-clause-replies : goal.returns-then-not-is_label-clause-replies
-returns-then-not-is_label-clause-replies g c = λ tells payload x well none.
-    let v = g.D.Device.bytes c.args.device.now in
-    let copy = c.args.copy.now in
-    let text = c.args.text in
-    let laws : VolumeLaws = record { only = c.one_choice.ensures.only; sound = c.chosen_copy_is_sound.ensures; value = c.one_value.ensures; fits = c.well_formed_volume.ensures } in
-    (label_refused laws v payload copy x well ((c.no_fault_is_well_formed.ensures v payload).0 well) none c.args.random.now text (bad_label text (λ p. false≢true (c.if-not-is_label.ensures.1 p))), refl)

@@ -11,12 +11,11 @@ use Rattle.luks2_editing.proofs.RenewalFacts.{copy_within, prepared_unrefused, r
 use Rattle.luks2_editing.proofs.removing.remove.Goals as goal
 
 pub returns-in_err-area-clause-replies : goal.returns-in_err-area-clause-replies
-returns-in_err-area-clause-replies g c = λ tells payload x well before.
+returns-in_err-area-clause-replies g c = λ tells payload pass x well before.
     let v = g.D.Device.bytes c.args.device.now in
     let copy = c.args.copy.now in
     let random = c.args.random.now in
     let slot = c.args.slot in
-    let pass = c.args.passphrase in
     let laws : VolumeLaws = record { only = c.one_choice.ensures.only; sound = c.chosen_copy_is_sound.ensures; value = c.one_value.ensures; fits = c.well_formed_volume.ensures } in
     let size : length v ≡ g.D.Device.size c.args.device.now = g.met.D.Device.sized c.args.device.now tells in
     let total : length v ≡ c.len.result = size ∙ sym c.len.ensures in
@@ -25,12 +24,11 @@ returns-in_err-area-clause-replies g c = λ tells payload x well before.
     absurd (false≢true (c.in_err-area.ensures.found there))
 
 pub returns-in_err-rewrite-clause-replies : goal.returns-in_err-rewrite-clause-replies
-returns-in_err-rewrite-clause-replies g c = λ tells payload x well before.
+returns-in_err-rewrite-clause-replies g c = λ tells payload pass x well before.
     let v = g.D.Device.bytes c.args.device.now in
     let copy = c.args.copy.now in
     let random = c.args.random.now in
     let slot = c.args.slot in
-    let pass = c.args.passphrase in
     let laws : VolumeLaws = record { only = c.one_choice.ensures.only; sound = c.chosen_copy_is_sound.ensures; value = c.one_value.ensures; fits = c.well_formed_volume.ensures } in
     let size : length v ≡ g.D.Device.size c.args.device.now = g.met.D.Device.sized c.args.device.now tells in
     let new = content c.in_ok-meta.meta in
@@ -49,12 +47,11 @@ returns-in_err-rewrite-clause-replies g c = λ tells payload x well before.
     (c.in_err-rewrite.ensures.same tells) (c.rewrite.ensures.torn tells v (Remove slot pass) renews))
 
 pub returns-in-Ok-clause-replies : goal.returns-in-Ok-clause-replies
-returns-in-Ok-clause-replies g c = λ tells payload x well before.
+returns-in-Ok-clause-replies g c = λ tells payload pass x well before.
     let v = g.D.Device.bytes c.args.device.now in
     let copy = c.args.copy.now in
     let random = c.args.random.now in
     let slot = c.args.slot in
-    let pass = c.args.passphrase in
     let laws : VolumeLaws = record { only = c.one_choice.ensures.only; sound = c.chosen_copy_is_sound.ensures; value = c.one_value.ensures; fits = c.well_formed_volume.ensures } in
     let new = content c.in_ok-meta.meta in
     let made = c.in_ok-meta.ensures.value in
@@ -72,12 +69,11 @@ returns-in-Ok-clause-replies g c = λ tells payload x well before.
     }
 
 pub returns-clause-replies : goal.returns-clause-replies
-returns-clause-replies g c = λ tells payload x well before.
+returns-clause-replies g c = λ tells payload pass x well before.
     let v = g.D.Device.bytes c.args.device.now in
     let copy = c.args.copy.now in
     let random = c.args.random.now in
     let slot = c.args.slot in
-    let pass = c.args.passphrase in
     let laws : VolumeLaws = record { only = c.one_choice.ensures.only; sound = c.chosen_copy_is_sound.ensures; value = c.one_value.ensures; fits = c.well_formed_volume.ensures } in
     let new = content c.in_ok-meta.meta in
     let made = c.in_ok-meta.ensures.value in

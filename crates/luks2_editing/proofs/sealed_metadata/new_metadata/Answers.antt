@@ -11,6 +11,7 @@ use Rattle.luks2_editing.specs.Prepared.{IsCopyWithin, IsPrepared, IsUnprepared}
 use Rattle.luks2_editing.proofs.MadeMetadataFacts.{enough_random, placed_suits, placed_used}
 use Rattle.luks2_editing.proofs.RenewalFacts.{copy_within, VolumeLaws}
 use Rattle.luks2_editing.proofs.SealedRowFacts.{edited_by, opened_pbkdf2, sealing_unrefused, unprepared_ends, SealingLaws}
+use Rattle.luks2_editing.proofs.ToldFacts.{ToldLaws}
 use Rattle.luks2_editing.proofs.sealed_metadata.new_metadata.Goals as goal
 
 pub returns-then-not-has_pbkdf2-clause-refused : goal.returns-then-not-has_pbkdf2-clause-refused
@@ -24,19 +25,21 @@ returns-then-not-has_pbkdf2-clause-refused c = λ v payload e x total.
 
 pub made_metadata-requires-clause-suits : goal.made_metadata-requires-clause-suits
 made_metadata-requires-clause-suits c =
+    let told : ToldLaws = record { range = c.told_once.ensures.range; stripes = c.told_once.ensures.stripes; need = c.told_once.ensures.need } in
     let copy = c.args.copy.now in
     let sealing = c.args.sealing.now in
     let derived = subst (λ (n : ℕ). HasPbkdf2 (content copy.meta) n) c.like-like.ensures (c.has_pbkdf2.ensures.0 c.if-not-has_pbkdf2.false) in
-    placed_suits (area_len copy.meta) (content copy.meta) c.args.total (like_of sealing.keyslot) sealing.area sealing.iterations c.keyslot_salt-salt.result
+    placed_suits told (area_len copy.meta) (content copy.meta) c.args.total (like_of sealing.keyslot) sealing.area sealing.iterations c.keyslot_salt-salt.result
     c.requires.placed derived c.requires.iterated c.keyslot_salt-salt.ensures.long
 
 pub returns-in_err-json-clause-refused : goal.returns-in_err-json-clause-refused
 returns-in_err-json-clause-refused c = λ v payload e x total.
+    let told : ToldLaws = record { range = c.told_once.ensures.range; stripes = c.told_once.ensures.stripes; need = c.told_once.ensures.need } in
     let copy = c.args.copy.now in
     let sealing = c.args.sealing.now in
     let random = c.args.random.now in
     let volume : VolumeLaws = record { only = c.one_choice.ensures.only; sound = c.chosen_copy_is_sound.ensures; value = c.one_value.ensures; fits = c.well_formed_volume.ensures } in
-    let laws : SealingLaws = record { volume = volume; digest = c.one_digest.ensures; salts = c.salts_are_as_long.ensures } in
+    let laws : SealingLaws = record { volume = volume; told = told; digest = c.one_digest.ensures; salts = c.salts_are_as_long.ensures } in
     let new = content c.in_ok-meta.meta in
     let len : area_len c.in_ok-meta.meta ≡ area_len copy.meta = c.in_ok-meta.ensures.length in
     let used = placed_used (area_len copy.meta) (content copy.meta) c.args.total (like_of sealing.keyslot) sealing.area c.requires.placed in
@@ -52,11 +55,12 @@ returns-in_err-json-clause-refused c = λ v payload e x total.
 
 pub returns-clause-unrefused : goal.returns-clause-unrefused
 returns-clause-unrefused c = λ v payload e x total.
+    let told : ToldLaws = record { range = c.told_once.ensures.range; stripes = c.told_once.ensures.stripes; need = c.told_once.ensures.need } in
     let copy = c.args.copy.now in
     let sealing = c.args.sealing.now in
     let random = c.args.random.now in
     let volume : VolumeLaws = record { only = c.one_choice.ensures.only; sound = c.chosen_copy_is_sound.ensures; value = c.one_value.ensures; fits = c.well_formed_volume.ensures } in
-    let laws : SealingLaws = record { volume = volume; digest = c.one_digest.ensures; salts = c.salts_are_as_long.ensures } in
+    let laws : SealingLaws = record { volume = volume; told = told; digest = c.one_digest.ensures; salts = c.salts_are_as_long.ensures } in
     let new = content c.in_ok-meta.meta in
     let len : area_len c.in_ok-meta.meta ≡ area_len copy.meta = c.in_ok-meta.ensures.length in
     let used = placed_used (area_len copy.meta) (content copy.meta) c.args.total (like_of sealing.keyslot) sealing.area c.requires.placed in
@@ -67,11 +71,12 @@ returns-clause-unrefused c = λ v payload e x total.
 
 pub returns-clause-edited : goal.returns-clause-edited
 returns-clause-edited c = λ v payload e x total.
+    let told : ToldLaws = record { range = c.told_once.ensures.range; stripes = c.told_once.ensures.stripes; need = c.told_once.ensures.need } in
     let copy = c.args.copy.now in
     let sealing = c.args.sealing.now in
     let random = c.args.random.now in
     let volume : VolumeLaws = record { only = c.one_choice.ensures.only; sound = c.chosen_copy_is_sound.ensures; value = c.one_value.ensures; fits = c.well_formed_volume.ensures } in
-    let laws : SealingLaws = record { volume = volume; digest = c.one_digest.ensures; salts = c.salts_are_as_long.ensures } in
+    let laws : SealingLaws = record { volume = volume; told = told; digest = c.one_digest.ensures; salts = c.salts_are_as_long.ensures } in
     let used = placed_used (area_len copy.meta) (content copy.meta) c.args.total (like_of sealing.keyslot) sealing.area c.requires.placed in
     let needs = subst (λ (n : ℕ). IsInUse (content copy.meta) n → NeedsLike (content copy.meta) n c.sealed_need-need.result) c.like-like.ensures c.sealed_need-need.ensures used in
     let enough : 160 ≤ length random = subst (λ (n : ℕ). 160 ≤ n) (sym c.in_ok-json.ensures.ready.counted) (enough_random (content copy.meta) (like_of sealing.keyslot) c.sealed_need-need.result needs) in

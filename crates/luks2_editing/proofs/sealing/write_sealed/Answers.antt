@@ -12,9 +12,9 @@ returns-in-Ok-clause-sealed g c tells =
     let w = g.D.Device.bytes c.write_copies.new.device in
     let plan = c.args.plan.now in
     let stays = area_behind c.args.chosen.now.hdr_size plan.area mid w c.requires.ready.behind (c.write_copies.ensures.rest tells) in
-    let sealed : IsSealed plan (area_bytes w plan.area) c.args.passphrase.now c.args.key.now (drop 160 c.args.random.now) =
-    subst (λ (l : List ℕ). IsSealed plan l c.args.passphrase.now c.args.key.now (drop 160 c.args.random.now)) (sym stays)
-    (subst (λ (r : List ℕ). IsSealed plan (area_bytes mid plan.area) c.args.passphrase.now c.args.key.now r) c.stripes_in-stripes.ensures (c.in_ok-seal.ensures.sealed tells)) in
+    let sealed : IsSealed plan (area_bytes w plan.area) c.args.secrets.now.passphrase.now c.args.secrets.now.key.now (drop 160 c.args.secrets.now.random.now) =
+    subst (λ (l : List ℕ). IsSealed plan l c.args.secrets.now.passphrase.now c.args.secrets.now.key.now (drop 160 c.args.secrets.now.random.now)) (sym stays)
+    (subst (λ (r : List ℕ). IsSealed plan (area_bytes mid plan.area) c.args.secrets.now.passphrase.now c.args.secrets.now.key.now r) c.stripes_in-stripes.ensures (c.in_ok-seal.ensures.sealed tells)) in
     sealed
 
 pub returns-in-Ok-clause-torn : goal.returns-in-Ok-clause-torn
@@ -24,10 +24,10 @@ returns-in-Ok-clause-torn g c tells v e j is =
     let w = g.D.Device.bytes c.write_copies.new.device in
     let plan = c.args.plan.now in
     let stays = area_behind c.args.chosen.now.hdr_size plan.area mid w c.requires.ready.behind (c.write_copies.ensures.rest tells) in
-    let sealed : IsSealed plan (area_bytes w plan.area) c.args.passphrase.now c.args.key.now (drop 160 c.args.random.now) =
-    subst (λ (l : List ℕ). IsSealed plan l c.args.passphrase.now c.args.key.now (drop 160 c.args.random.now)) (sym stays)
-    (subst (λ (r : List ℕ). IsSealed plan (area_bytes mid plan.area) c.args.passphrase.now c.args.key.now r) c.stripes_in-stripes.ensures (c.in_ok-seal.ensures.sealed tells)) in
-    half_sealed v c.args.chosen.now.hdr_offset e c.args.random.now j plan c.args.passphrase.now c.args.key.now (drop 160 c.args.random.now) u mid w (c.seal.ensures.rest tells) sealed
+    let sealed : IsSealed plan (area_bytes w plan.area) c.args.secrets.now.passphrase.now c.args.secrets.now.key.now (drop 160 c.args.secrets.now.random.now) =
+    subst (λ (l : List ℕ). IsSealed plan l c.args.secrets.now.passphrase.now c.args.secrets.now.key.now (drop 160 c.args.secrets.now.random.now)) (sym stays)
+    (subst (λ (r : List ℕ). IsSealed plan (area_bytes mid plan.area) c.args.secrets.now.passphrase.now c.args.secrets.now.key.now r) c.stripes_in-stripes.ensures (c.in_ok-seal.ensures.sealed tells)) in
+    half_sealed v c.args.chosen.now.hdr_offset e c.args.secrets.now.random.now j plan c.args.secrets.now.passphrase.now c.args.secrets.now.key.now (drop 160 c.args.secrets.now.random.now) u mid w (c.seal.ensures.rest tells) sealed
     (c.write_copies.ensures.torn tells v e j is)
 
 pub returns-in-Ok-clause-rest : goal.returns-in-Ok-clause-rest
@@ -40,10 +40,10 @@ returns-in-Err-clause-torn g c tells v e j is =
     let w = g.D.Device.bytes c.write_copies.new.device in
     let plan = c.args.plan.now in
     let stays = area_behind c.args.chosen.now.hdr_size plan.area mid w c.requires.ready.behind (c.write_copies.ensures.rest tells) in
-    let sealed : IsSealed plan (area_bytes w plan.area) c.args.passphrase.now c.args.key.now (drop 160 c.args.random.now) =
-    subst (λ (l : List ℕ). IsSealed plan l c.args.passphrase.now c.args.key.now (drop 160 c.args.random.now)) (sym stays)
-    (subst (λ (r : List ℕ). IsSealed plan (area_bytes mid plan.area) c.args.passphrase.now c.args.key.now r) c.stripes_in-stripes.ensures (c.in_ok-seal.ensures.sealed tells)) in
-    half_sealed v c.args.chosen.now.hdr_offset e c.args.random.now j plan c.args.passphrase.now c.args.key.now (drop 160 c.args.random.now) u mid w (c.seal.ensures.rest tells) sealed
+    let sealed : IsSealed plan (area_bytes w plan.area) c.args.secrets.now.passphrase.now c.args.secrets.now.key.now (drop 160 c.args.secrets.now.random.now) =
+    subst (λ (l : List ℕ). IsSealed plan l c.args.secrets.now.passphrase.now c.args.secrets.now.key.now (drop 160 c.args.secrets.now.random.now)) (sym stays)
+    (subst (λ (r : List ℕ). IsSealed plan (area_bytes mid plan.area) c.args.secrets.now.passphrase.now c.args.secrets.now.key.now r) c.stripes_in-stripes.ensures (c.in_ok-seal.ensures.sealed tells)) in
+    half_sealed v c.args.chosen.now.hdr_offset e c.args.secrets.now.random.now j plan c.args.secrets.now.passphrase.now c.args.secrets.now.key.now (drop 160 c.args.secrets.now.random.now) u mid w (c.seal.ensures.rest tells) sealed
     (c.write_copies.ensures.torn tells v e j is)
 
 pub returns-in-Err-clause-rest : goal.returns-in-Err-clause-rest
@@ -51,7 +51,7 @@ returns-in-Err-clause-rest g c tells = same_but-either (c.seal.ensures.rest tell
 
 pub seal-requires-clause-random : goal.seal-requires-clause-random
 seal-requires-clause-random g c =
-    let is : length c.stripes_in-stripes.result.now ≡ length (drop 160 c.args.random.now) = ap length c.stripes_in-stripes.ensures in
-    let long : length (drop 160 c.args.random.now) ≡ length c.args.random.now - 160 = length-drop 160 c.args.random.now in
+    let is : length c.stripes_in-stripes.result.now ≡ length (drop 160 c.args.secrets.now.random.now) = ap length c.stripes_in-stripes.ensures in
+    let long : length (drop 160 c.args.secrets.now.random.now) ≡ length c.args.secrets.now.random.now - 160 = length-drop 160 c.args.secrets.now.random.now in
     let all = c.requires.ready.random_length in
     omega (arith, is, long, all)

@@ -1,6 +1,8 @@
 use Rattle.luks2_edits.proofs.LowerLaws.{MakingLaws, VolumeLaws}
 use Rattle.luks2_edits.proofs.OpenFacts.{KeyslotLaws}
+use Rattle.luks2_edits.proofs.RefusalFacts.{leftover_refused}
 use Rattle.luks2_edits.proofs.TornFacts.{leftover_outcome, OpeningLaws}
+use Rattle.luks2_edits.proofs.TouchedFacts.{leftover_rest}
 use Rattle.luks2_edits.proofs.laws.luks2_failing_edit.Goals as goal
 
 pub returns : goal.returns
@@ -30,6 +32,8 @@ returns c =
     } in
     let opening : OpeningLaws = record { keyslots = keyslots; once = c.one_digest.ensures; answers = c.one_answer.ensures } in
     record {
+      rest = λ payload e v random w. leftover_rest v payload e random w;
+      refused = λ payload e v random w. leftover_refused v payload e random w;
       keeps = λ payload e v random w well ranges left stray. (leftover_outcome laws making opening v payload e random w well ranges left stray).keeps;
       whole = λ payload e v random w well ranges left stray. (leftover_outcome laws making opening v payload e random w well ranges left stray).whole;
       opens = λ payload e v random w well ranges left stray. (leftover_outcome laws making opening v payload e random w well ranges left stray).opens_either;

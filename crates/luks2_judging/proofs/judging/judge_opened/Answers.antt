@@ -72,8 +72,8 @@ returns-in_err-judge_iterations-clause-refused c = λ v random payload size x.
     rw (p.1, p.2)
     (subst (λ f. Refusal2 v payload e random f) (sym judged.0) (few_first v payload e random past10 judged.1))
 
-pub returns-in_err-judge_label-clause-refused : goal.returns-in_err-judge_label-clause-refused
-returns-in_err-judge_label-clause-refused c = λ v random payload size x.
+pub returns-in_err-label-clause-refused : goal.returns-in_err-label-clause-refused
+returns-in_err-label-clause-refused c = λ v random payload size x.
     let laws : ReadingLaws = record { one = c.one_choice.ensures.only; value = c.one_value.ensures } in
     let copy = c.args.copy.now in
     let o = copy.header.hdr_offset in
@@ -87,8 +87,8 @@ returns-in_err-judge_label-clause-refused c = λ v random payload size x.
     (λ bad. c.in_ok-area.ensures.row payload lists (no_room_listed laws c.chosen_copy_is_sound.ensures v copy x.chosen payload c.args.total size e bad)) in
     let past10 = past_last laws v payload o j m e random past9 c.in_ok-judge_last.ensures in
     let past11 = past_few v payload e random past10 c.in_ok-judge_iterations.ensures in
-    let p = err_from_is_err_and c.from_residual-in_err-judge_label.result c.from_residual-in_err-judge_label.ensures.1 in
-    let judged = c.in_err-judge_label.ensures in
+    let p = err_from_is_err_and c.from_residual-in_err-label.result c.from_residual-in_err-label.ensures.1 in
+    let judged = c.in_err-label.ensures.row in
     rw (p.1, p.2)
     (subst (λ f. Refusal2 v payload e random f) (sym judged.0) (unlabelled_first v payload e random past11 judged.1))
 
@@ -107,7 +107,7 @@ returns-clause-passed c = λ v random payload size x.
     (λ bad. c.in_ok-area.ensures.row payload lists (no_room_listed laws c.chosen_copy_is_sound.ensures v copy x.chosen payload c.args.total size e bad)) in
     let past10 = past_last laws v payload o j m e random past9 c.in_ok-judge_last.ensures in
     let past11 = past_few v payload e random past10 c.in_ok-judge_iterations.ensures in
-    before_of 12 v payload e random (past_label v payload e random past11 c.in_ok-judge_label.ensures)
+    before_of 12 v payload e random (past_label v payload e random past11 c.in_ok-label.ensures.row)
 
 pub returns-clause-room : goal.returns-clause-room
 returns-clause-room c = λ v random payload size x.

@@ -1,10 +1,11 @@
 //! Running one edit.
-ghost use Rattle.std.specs.Prelude.{◌≡◌, ◌+◌, ◌<◌, ◌^◌};
+ghost use Rattle.std.specs.Prelude.{◌≡◌, ◌+◌, ◌<◌, ◌^◌, Err};
 ghost use Rattle.luks_area.specs.Device.{CountsFailure};
 ghost use Rattle.luks_reading.specs.Checked.{WellFormed};
 ghost use Rattle.luks_edit.specs.EditFaults.{is_edit_failure};
 ghost use Rattle.luks_edit.specs.Kept.{Keeps};
 ghost use Rattle.luks_volume.specs.Edits.{NamedSlots};
+ghost use Rattle.luks_volume.specs.Outcome.{Spares};
 ghost use Rattle.luks_cli.specs.Editing.{RepliesAlone};
 
 use luks_volume::{Data, Device, Done, Edit, EditFault, Step, run};
@@ -29,6 +30,9 @@ pub(super) fn run_edit<D: Device>(
         → D.failed device.new ≡ D.failed device.old
         → Keeps data_ (NamedSlots (D.bytes device.old) edit.now)
         (D.bytes device.old) (D.bytes device.new) }
+    ensures spared { D.tells → WellFormed (D.bytes device.old) data_
+        → (D.failed device.new ≡ D.failed device.old → ⊥) → (result ≡ Err EditFault.Device)
+        × Spares (D.bytes device.old) data_ edit.now random.now (D.bytes device.new) }
 {
     let steps = [Step {
         edit: *edit,

@@ -4,7 +4,7 @@ use Rattle.std.proofs.lemmas.Result.{err_from_is_err_and}
 use Rattle.luks2_edits.specs.Edited.{HasRanges}
 use Rattle.luks_volume.proofs.EditFacts.{edit_keeps}
 use Rattle.luks_volume.proofs.NeedFacts.{unread_without_memory}
-use Rattle.luks_volume.proofs.OutcomeFacts.{edit_opens, edit_spares, edit_wipes}
+use Rattle.luks_volume.proofs.OutcomeFacts.{edit_opens, edit_refused, edit_spares, edit_wipes}
 use Rattle.luks_volume.proofs.ReplyFacts.{replies_by1, replies_by2, unread_replies}
 use Rattle.luks_volume.proofs.VersionFacts.{needs_of, takes_none}
 use Rattle.luks_volume.proofs.applying.apply.Goals as goal
@@ -78,6 +78,11 @@ returns-in_err-header-clause-wiped g c = λ tells well.
     edit_wipes c.one_choice.ensures.only c.luks1_edit_keeps_volume.ensures.removed c.luks2_edit_keeps_volume.ensures.lost c.args.data_
     (g.D.Device.bytes c.args.device.now) (g.D.Device.bytes c.edited_header.new.device) c.args.edit.now c.args.random.now c.from_residual.result well (returns-in_err-header-clause-replies g c tells)
 
+pub returns-in_err-header-clause-refused : goal.returns-in_err-header-clause-refused
+returns-in_err-header-clause-refused g c = λ tells.
+    edit_refused c.one_choice.ensures.only c.luks1_failing_edit.ensures.refused c.luks2_failing_edit.ensures.refused c.args.data_
+    (g.D.Device.bytes c.args.device.now) (g.D.Device.bytes c.edited_header.new.device) c.args.edit.now c.args.random.now c.from_residual.result (returns-in_err-header-clause-replies g c tells)
+
 pub returns-in_err-header-clause-spared : goal.returns-in_err-header-clause-spared
 returns-in_err-header-clause-spared g c = λ tells well failed.
     let v = g.D.Device.bytes c.args.device.now in
@@ -85,9 +90,9 @@ returns-in_err-header-clause-spared g c = λ tells well failed.
     let ranges : HasRanges v c.args.edit.now c.args.random.now =
     record { size = size; iterations = c.iterations_have_32_bits.ensures; random_bytes = λ k. (c.type_inv.random k).fits } in
     edit_spares c.one_choice.ensures.only c.luks1_failing_edit.ensures.rest c.luks1_failing_edit.ensures.keeps c.luks1_failing_edit.ensures.opens
-    c.luks2_failing_edit.ensures.keeps c.luks2_failing_edit.ensures.whole c.luks2_failing_edit.ensures.opens c.args.data_
+    c.luks2_failing_edit.ensures.rest c.luks2_failing_edit.ensures.keeps c.luks2_failing_edit.ensures.whole c.luks2_failing_edit.ensures.opens c.args.data_
     (g.D.Device.bytes c.args.device.now) (g.D.Device.bytes c.edited_header.new.device) c.args.edit.now c.args.random.now c.from_residual.result
-    well ranges (returns-in_err-header-clause-replies g c tells) failed
+    well ranges (returns-in_err-header-clause-replies g c tells) failed (returns-in_err-header-clause-refused g c tells)
 
 pub returns-in-Luks1-clause-opens : goal.returns-in-Luks1-clause-opens
 returns-in-Luks1-clause-opens g c = λ tells well.
@@ -99,6 +104,11 @@ returns-in-Luks1-clause-wiped g c = λ tells well.
     edit_wipes c.one_choice.ensures.only c.luks1_edit_keeps_volume.ensures.removed c.luks2_edit_keeps_volume.ensures.lost c.args.data_
     (g.D.Device.bytes c.args.device.now) (g.D.Device.bytes c.apply_luks1.new.device) c.args.edit.now c.args.random.now c.apply_luks1.result well (returns-in-Luks1-clause-replies g c tells)
 
+pub returns-in-Luks1-clause-refused : goal.returns-in-Luks1-clause-refused
+returns-in-Luks1-clause-refused g c = λ tells.
+    edit_refused c.one_choice.ensures.only c.luks1_failing_edit.ensures.refused c.luks2_failing_edit.ensures.refused c.args.data_
+    (g.D.Device.bytes c.args.device.now) (g.D.Device.bytes c.apply_luks1.new.device) c.args.edit.now c.args.random.now c.apply_luks1.result (returns-in-Luks1-clause-replies g c tells)
+
 pub returns-in-Luks1-clause-spared : goal.returns-in-Luks1-clause-spared
 returns-in-Luks1-clause-spared g c = λ tells well failed.
     let v = g.D.Device.bytes c.args.device.now in
@@ -106,9 +116,9 @@ returns-in-Luks1-clause-spared g c = λ tells well failed.
     let ranges : HasRanges v c.args.edit.now c.args.random.now =
     record { size = size; iterations = c.iterations_have_32_bits.ensures; random_bytes = λ k. (c.type_inv.random k).fits } in
     edit_spares c.one_choice.ensures.only c.luks1_failing_edit.ensures.rest c.luks1_failing_edit.ensures.keeps c.luks1_failing_edit.ensures.opens
-    c.luks2_failing_edit.ensures.keeps c.luks2_failing_edit.ensures.whole c.luks2_failing_edit.ensures.opens c.args.data_
+    c.luks2_failing_edit.ensures.rest c.luks2_failing_edit.ensures.keeps c.luks2_failing_edit.ensures.whole c.luks2_failing_edit.ensures.opens c.args.data_
     (g.D.Device.bytes c.args.device.now) (g.D.Device.bytes c.apply_luks1.new.device) c.args.edit.now c.args.random.now c.apply_luks1.result
-    well ranges (returns-in-Luks1-clause-replies g c tells) failed
+    well ranges (returns-in-Luks1-clause-replies g c tells) failed (returns-in-Luks1-clause-refused g c tells)
 
 pub returns-clause-opens : goal.returns-clause-opens
 returns-clause-opens g c = λ tells well.
@@ -120,6 +130,11 @@ returns-clause-wiped g c = λ tells well.
     edit_wipes c.one_choice.ensures.only c.luks1_edit_keeps_volume.ensures.removed c.luks2_edit_keeps_volume.ensures.lost c.args.data_
     (g.D.Device.bytes c.args.device.now) (g.D.Device.bytes c.apply_luks2.new.device) c.args.edit.now c.args.random.now c.apply_luks2.result well (returns-clause-replies g c tells)
 
+pub returns-clause-refused : goal.returns-clause-refused
+returns-clause-refused g c = λ tells.
+    edit_refused c.one_choice.ensures.only c.luks1_failing_edit.ensures.refused c.luks2_failing_edit.ensures.refused c.args.data_
+    (g.D.Device.bytes c.args.device.now) (g.D.Device.bytes c.apply_luks2.new.device) c.args.edit.now c.args.random.now c.apply_luks2.result (returns-clause-replies g c tells)
+
 pub returns-clause-spared : goal.returns-clause-spared
 returns-clause-spared g c = λ tells well failed.
     let v = g.D.Device.bytes c.args.device.now in
@@ -127,6 +142,6 @@ returns-clause-spared g c = λ tells well failed.
     let ranges : HasRanges v c.args.edit.now c.args.random.now =
     record { size = size; iterations = c.iterations_have_32_bits.ensures; random_bytes = λ k. (c.type_inv.random k).fits } in
     edit_spares c.one_choice.ensures.only c.luks1_failing_edit.ensures.rest c.luks1_failing_edit.ensures.keeps c.luks1_failing_edit.ensures.opens
-    c.luks2_failing_edit.ensures.keeps c.luks2_failing_edit.ensures.whole c.luks2_failing_edit.ensures.opens c.args.data_
+    c.luks2_failing_edit.ensures.rest c.luks2_failing_edit.ensures.keeps c.luks2_failing_edit.ensures.whole c.luks2_failing_edit.ensures.opens c.args.data_
     (g.D.Device.bytes c.args.device.now) (g.D.Device.bytes c.apply_luks2.new.device) c.args.edit.now c.args.random.now c.apply_luks2.result
-    well ranges (returns-clause-replies g c tells) failed
+    well ranges (returns-clause-replies g c tells) failed (returns-clause-refused g c tells)

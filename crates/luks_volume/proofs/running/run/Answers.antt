@@ -4,6 +4,7 @@ use Rattle.luks_edit.specs.Ran.{IsFailure}
 use Rattle.luks_volume.specs.Edits.{Replies}
 use Rattle.luks_volume.proofs.CountFacts.{counts_failure, failure_counted, no_failure_counted, replied_more, replied_none}
 use Rattle.luks_volume.proofs.RunFacts.{kept_by_run, run_ends, run_more, run_starts, run_stops}
+use Rattle.luks_volume.proofs.StoppedFacts.{so_far_more, so_far_none, spared_by_run}
 use Rattle.luks_volume.proofs.running.run.Goals as goal
 
 pub loop-step-init : goal.loop-step-init
@@ -14,6 +15,8 @@ loop-step-init g c = record {
   replied = rw c.try_reserve.ensures.items (replied_none c.args.replies.now.items);
   run = λ tells. rw c.try_reserve.ensures.items
       (run_starts (Replies c.args.data_) (g.D.Device.bytes c.args.device.now) c.args.steps.now c.args.replies.now.items);
+  so_far = λ tells. rw c.try_reserve.ensures.items
+      (so_far_none (Replies c.args.data_) (g.D.Device.bytes c.args.device.now) c.args.steps.now c.args.replies.now.items);
 }
 
 pub loop-step-preserved : goal.loop-step-preserved
@@ -29,6 +32,9 @@ loop-step-preserved g c =
       run = λ tells. rw c.push_reserved.ensures.items
           (run_more (Replies c.args.data_) (g.D.Device.bytes c.args.device.now) (g.D.Device.bytes c.loop-step.device) (g.D.Device.bytes c.apply-reply.new.device)
           c.args.steps.now c.loop-step.step-index c.args.replies.now.items c.loop-step.replies.items _ r c.loop-step-test.true (c.apply-reply.ensures.replies tells) fine (now.run tells));
+      so_far = λ tells. rw c.push_reserved.ensures.items
+          (so_far_more (Replies c.args.data_) (g.D.Device.bytes c.args.device.now) (g.D.Device.bytes c.loop-step.device) (g.D.Device.bytes c.apply-reply.new.device)
+          c.args.steps.now c.loop-step.step-index c.args.replies.now.items c.loop-step.replies.items _ r c.loop-step-test.true (c.apply-reply.ensures.replies tells) fine (now.so_far tells));
     }
 
 pub returns-then-is_failure-clause-count : goal.returns-then-is_failure-clause-count
@@ -55,6 +61,15 @@ returns-then-is_failure-clause-keeps g c = λ tells well.
     kept_by_run c.edits_keep_volume.ensures c.args.data_ (g.D.Device.bytes c.args.device.now) c.args.steps.now c.args.replies.now.items
     c.push_reserved.new.self.items (g.D.Device.bytes c.apply-reply.new.device) well (returns-then-is_failure-clause-ran g c tells)
 
+pub returns-then-is_failure-clause-spared : goal.returns-then-is_failure-clause-spared
+returns-then-is_failure-clause-spared g c = λ tells well apart.
+    let r = c.apply-reply.result in
+    let failed : IsFailure r = c.if-is_failure.ensures.0 refl in
+    rw c.push_reserved.ensures.items
+    (spared_by_run c.edits_keep_volume.ensures c.args.data_ (g.D.Device.bytes c.args.device.now) (g.D.Device.bytes c.loop-step.device)
+    (g.D.Device.bytes c.apply-reply.new.device) c.args.steps.now c.loop-step.step-index c.args.replies.now.items c.loop-step.replies.items _ r c.loop-step-test.true
+    well failed (λ met. c.apply-reply.ensures.spared tells met failed) (c.loop-step.invariant.so_far tells))
+
 pub returns-clause-ran : goal.returns-clause-ran
 returns-clause-ran g c = λ tells.
     run_ends (Replies c.args.data_) (g.D.Device.bytes c.args.device.now) (g.D.Device.bytes c.loop-step.device) c.args.steps.now c.loop-step.step-index
@@ -64,3 +79,6 @@ pub returns-clause-keeps : goal.returns-clause-keeps
 returns-clause-keeps g c = λ tells well.
     kept_by_run c.edits_keep_volume.ensures c.args.data_ (g.D.Device.bytes c.args.device.now) c.args.steps.now c.args.replies.now.items
     c.loop-step.replies.items (g.D.Device.bytes c.loop-step.device) well (returns-clause-ran g c tells)
+
+pub returns-clause-spared : goal.returns-clause-spared
+returns-clause-spared g c = λ tells well apart. absurd (apart c.loop-step.invariant.count)

@@ -5,6 +5,7 @@ use Rattle.std.specs.Vec.{vec_capacity}
 use Rattle.luks_volume.specs.Edits.{Replies}
 use Rattle.luks_volume.specs.Running.{IsUnderWay}
 use Rattle.luks_volume.proofs.CountFacts.{AreRepliedSoFar}
+use Rattle.luks_volume.proofs.StoppedFacts.{AreRunSoFar}
 use Rattle.luks_volume.proofs.running.run.Given as goal
 
 abbrev pub invariant-loop-step : goal.invariant-loop-step
@@ -14,5 +15,7 @@ invariant-loop-step g l = record {
   room : vec_len l.replies + length l.steps ≤ vec_capacity l.replies + l.step-index;
   replied : AreRepliedSoFar l.step-index l.fn.replies.items l.replies.items;
   run : g.D.Device.tells → IsUnderWay (Replies l.data_) (g.D.Device.bytes l.fn.device) (g.D.Device.bytes l.device) l.steps l.step-index
+      l.fn.replies.items l.replies.items;
+  so_far : g.D.Device.tells → AreRunSoFar (Replies l.data_) (g.D.Device.bytes l.fn.device) (g.D.Device.bytes l.device) l.steps l.step-index
       l.fn.replies.items l.replies.items;
 }

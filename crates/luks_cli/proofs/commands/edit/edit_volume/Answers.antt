@@ -4,7 +4,7 @@ use Rattle.luks_volume.specs.Edits.{NamedSlots}
 use Rattle.luks_line.specs.Named.{edit_new_of, edit_passphrase_of}
 use Rattle.luks_cli.specs.Editing.{given_by, given_edit, IsAsked, NamesSlot}
 use Rattle.luks_cli.specs.Files.{IsTaken, IsWhole}
-use Rattle.luks_cli.proofs.EditFacts.{asked_of, asked_somehow, keeps_fewer, says_as, some_as}
+use Rattle.luks_cli.proofs.EditFacts.{asked_of, asked_somehow, keeps_fewer, says_as, some_as, spared_as}
 use Rattle.luks_cli.proofs.commands.edit.edit_volume.Goals as goal
 
 pub returns-clause-left : goal.returns-clause-left
@@ -42,3 +42,24 @@ returns-clause-keeps g c =
     keeps_fewer c.args.editing.now.data_ (NamedSlots v edit) (NamesSlot request v) v _
     (λ n named. record { edit = edit; asked = asked_somehow request (λ x. x ≡ p) (λ x. x ≡ q) edit c.edit_of-edit.ensures; named = named })
     (c.edit_device.ensures.keeps tells well same))
+
+pub returns-clause-spared : goal.returns-clause-spared
+returns-clause-spared g c =
+    let request = c.args.editing.now.request in
+    let IsOld : List ℕ → Type 0 = IsWhole g.R.Read.remaining c.args.inputs.now.passphrase in
+    let IsNew : List ℕ → Type 0 = IsWhole g.R.Read.remaining c.args.inputs.now.new_passphrase in
+    let HasRandom : ℕ → List ℕ → Type 0 = λ count. IsTaken count g.N.Read.remaining c.args.inputs.now.random in
+    let p = c.as_slice.result.now in
+    let q = c.as_slice-2.result.now in
+    let old : IfSome (edit_passphrase_of request) (λ name. IsOld p) =
+    some_as (λ name. name.now) c.passphrase.result (edit_passphrase_of request) (IsOld p) c.passphrase.ensures
+    (subst (λ x. IfSome c.passphrase.result (λ name. IsOld x)) (sym c.as_slice.ensures.value) c.in-Ok.ensures.whole) in
+    let fresh : IfSome (edit_new_of request) (λ name. IsNew q) =
+    some_as (λ name. name.now) c.new_passphrase.result (edit_new_of request) (IsNew q) c.new_passphrase.ensures
+    (subst (λ x. IfSome c.new_passphrase.result (λ name. IsNew x)) (sym c.as_slice-2.ensures.value) c.in-Ok-words.ensures.whole) in
+    let edit : Edit = c.edit_of-edit.result in
+    let asks : (e : Edit) → e ≡ edit → IsAsked request IsOld IsNew e =
+    λ e is. subst (IsAsked request IsOld IsNew) (sym is) (asked_of request IsOld IsNew p q edit old fresh c.edit_of-edit.ensures) in
+    rw c.in-Ok-volume.is (λ tells well apart.
+    spared_as c.args.editing.now.data_ (given_edit edit HasRandom) (given_by request g.R.Read.remaining g.N.Read.remaining c.args.inputs.now) _ _
+    asks (λ n b is. is) (c.edit_device.ensures.spared tells well apart))

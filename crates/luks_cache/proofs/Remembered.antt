@@ -1,0 +1,16 @@
+-- What is remembered after more was read.
+use Rattle.std.proofs.Common.{◌≡◌, ℕ, ◌+◌, ◌-◌, ◌≤◌, List, ◌++◌, length, take, sym, ap, ◌∙◌, arith}
+use Rattle.std.proofs.lemmas.Slice.{take-put_mid}
+use borrow.Rule.Slice.PartMut.{put_mid}
+use Rattle.luks_area.specs.Ranges.{part}
+use Rattle.luks_area.specs.RangeFacts.{part-add}
+
+-- bytes that follow those that are remembered are remembered with them
+pub remembered_with : (v held read now : List ℕ) (count : ℕ) → count ≤ length held → now ≡ read → take count held ≡ part v 0 count → read ≡ part v count (length read)
+    → take (count + length read) (put_mid count (count + length read - count) held now) ≡ part v 0 (count + length read)
+remembered_with v held read now count room copied before follows =
+    take-put_mid count (count + length read - count) held now (count + length read) (ap (λ l. count + length l) (sym copied)) room
+    ∙ ap (λ l. take count held ++ l) (copied ∙ follows)
+    ∙ ap (λ l. l ++ part v count (length read)) before
+    ∙ ap (λ k. part v 0 count ++ part v k (length read)) (omega arith)
+    ∙ sym (part-add v 0 count (length read))

@@ -1,0 +1,119 @@
+ghost use Rattle.std.specs.Prelude.{◌≡◌, ◌+◌, ◌^◌, ◌<◌, ◌≤◌, ◌↔◌, IsOk, IsTrue, length, take};
+ghost use Rattle.luks_area.specs.Ranges.{part};
+
+use luks_area::{Device, DeviceFault};
+
+/// How many bytes there is room for: both copies of a LUKS2 header of the least size.
+pub const ROOM: usize = 32768;
+
+/// A device over another one that remembers what was read of its first bytes, and reads them from
+/// memory when they are asked for again. A write forgets them.
+///
+/// It remembers bytes from the place 0 on alone, as many as were read one after the other, and at
+/// most `ROOM`. It takes no memory beside itself. Its calls fail exactly where those of the device
+/// behind do.
+#[derive(Drop)]
+pub struct CachedDevice<D: Device> {
+    device: D,
+    bytes: [u8; ROOM],
+    count: usize,
+    ghost fits: { count ≤ 32768 },
+    ghost same: { D.tells → take count bytes ≡ part (D.bytes device) 0 count },
+}
+
+impl<D: Device> CachedDevice<D> {
+    ghost use Rattle.luks_cache.specs.Cached.{Follows, IsRemembered, device_behind, remembered};
+
+    /// A device over `device` that remembers nothing yet.
+    pub fn new(device: D) -> Self
+        ensures device { device_behind result ≡ device }
+        ensures nothing { remembered result ≡ 0 }
+    {
+        CachedDevice {
+            device,
+            bytes: [0; ROOM],
+            count: 0,
+        }
+    }
+
+    /// Whether the bytes of this range are remembered.
+    fn has(&self, at: u64, len: usize) -> bool
+        requires { at + len < 2 ^ 64 }
+        ensures { IsTrue result ↔ IsRemembered self.now at len }
+    {
+        at + len as u64 <= self.count as u64
+    }
+
+    /// Remembers bytes that were read at `at`, where they follow those that are remembered and there
+    /// is room for them.
+    fn remember(&mut self, at: u64, read: &[u8])
+        requires { D.tells → read.now ≡ part (D.bytes (device_behind self.old)) at (length read.now) }
+        ensures device { device_behind self.new ≡ device_behind self.old }
+        ensures follows { Follows self.old at (length read.now)
+            → IsRemembered self.new at (length read.now) }
+    {
+        if at == self.count as u64 && read.len() <= ROOM - self.count {
+            let end = self.count + read.len();
+            self.bytes[self.count..end].copy_from_slice(read);
+            self.count = end;
+        }
+    }
+}
+
+impl<D: Device> Device for CachedDevice<D> {
+    ghost use Rattle.std.specs.Prelude.{OnOk};
+    ghost use Rattle.luks_area.specs.Device.{CountsFailure, IsUnchanged, is_failure};
+    ghost use Rattle.luks_cache.specs.Cached.{Follows, IsRemembered};
+    ghost use Rattle.luks_cache.specs.Cached.{cached_bytes, cached_failures, cached_size};
+
+    ghost tells = { D.tells };
+
+    ghost bytes = { cached_bytes };
+
+    ghost size = { cached_size };
+
+    ghost failed = { cached_failures };
+
+    fn len(&self) -> u64 {
+        self.device.len()
+    }
+
+    fn failures(&self) -> u64 {
+        self.device.failures()
+    }
+
+    fn read_at(&mut self, at: u64, into: &mut [u8]) -> Result<(), DeviceFault>
+        requires within { at + length into.old ≤ cached_size self.old }
+        requires room { cached_failures self.old + 1 < 2 ^ 64 }
+        ensures memory { IsRemembered self.old at (length into.old) → self.new ≡ self.old }
+        ensures follows { OnOk result (Follows self.old at (length into.old)
+            → IsRemembered self.new at (length into.old)) }
+        ensures count { CountsFailure is_failure result
+            (cached_failures self.old) (cached_failures self.new) }
+        ensures unchanged { IsUnchanged D.tells cached_size cached_bytes self.old self.new }
+        ensures read { D.tells → OnOk result
+            (into.new ≡ part (cached_bytes self.old) at (length into.old)) }
+    {
+        if self.has(at, into.len()) {
+            let at = at as usize;
+            into.copy_from_slice(&self.bytes[at..at + into.len()]);
+            return Ok(());
+        }
+        self.device.read_at(at, into)?;
+        self.remember(at, into);
+        Ok(())
+    }
+
+    fn write_at(&mut self, at: u64, from: &[u8]) -> Result<(), DeviceFault> {
+        self.count = 0;
+        self.device.write_at(at, from)
+    }
+
+    fn flush(&mut self) -> Result<(), DeviceFault> {
+        self.device.flush()
+    }
+
+    ghost sized = { λ d t. D.sized d.device t };
+
+    ghost bounded = { λ d. D.bounded d.device };
+}

@@ -1,0 +1,6 @@
+//! A device that remembers its first bytes, so that a header which is asked for twice is read once.
+#![tactic(auto)]
+
+mod cached;
+
+pub use cached::{CachedDevice, ROOM};

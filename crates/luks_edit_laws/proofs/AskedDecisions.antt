@@ -1,0 +1,132 @@
+-- What an edit asks for: its iterations are enough or too few, and the answer of the keyslot that it opens tells why it gives no key.
+use Rattle.std.proofs.Common.{◌≡◌, ◌⊎◌, ℕ, List, [], ◌∷◌, get_or, refl, sym, ap, subst, ◌∙◌, arith, inl, inr}
+use Rattle.std.proofs.lemmas.Bool.{cases_eq}
+use Rattle.luks_head.specs.declared.fault.HeadFault.{HeadFault}
+use Rattle.luks_head.specs.declared.fault.HeadFault.TheVariants as head
+use Rattle.luks_head.specs.declared.fault.IterationsOf.TheVariants as of
+use Rattle.luks_slot.specs.declared.fault.SlotFault.{SlotFault}
+use Rattle.luks_slot.specs.declared.fault.SlotFault.TheVariants as slot
+use Rattle.luks_reading.specs.declared.open_fault.OpenFault.{OpenFault}
+use Rattle.luks_reading.specs.declared.open_fault.OpenFault.TheVariants as opening
+use Rattle.luks_reading.specs.Agreement.{IsSameAnswer}
+use Rattle.luks_reading.specs.Answer.{Answer, head_step, no_key, open_key, Opened, opens, refused, slot_row}
+use Rattle.luks_edit.specs.declared.edit.Edit.{Edit}
+use Rattle.luks_edit.specs.declared.edit.Edit.TheVariants.{Add, Change, Label, Remove, Repair}
+use Rattle.luks_edit.specs.Asked.{HasFewIterations, OpensBy}
+use Rattle.luks_edit.specs.Opener.{IsLocked, IsShut}
+use Rattle.luks_edit_laws.proofs.DecidedFacts.{alike_decided, Decided, less_decided}
+
+-- ---- iterations
+
+-- the iterations of the edit are too few, or they aren't
+pub few_decided : (e : Edit) → Decided (HasFewIterations e)
+few_decided (Add by_ old new to iterations) = less_decided iterations 1000
+few_decided (Change slot old new iterations) = less_decided iterations 1000
+few_decided (Remove slot passphrase) = inr (λ bad. bad)
+few_decided Repair = inr (λ bad. bad)
+few_decided (Label text) = inr (λ bad. bad)
+
+-- ---- the keyslot that it opens
+
+-- the keyslot that the edit opens, the only one
+record Opener (e : Edit) : Type 0 where
+  slot : ℕ
+  passphrase : List ℕ
+  asked : OpensBy e slot passphrase
+  only : (n : ℕ) (p : List ℕ) → OpensBy e n p → (n ≡ slot) × (p ≡ passphrase)
+
+-- the edit opens one keyslot, or none
+find_opener : (e : Edit) → Opener e ⊎ ((n : ℕ) (p : List ℕ) → OpensBy e n p → ⊥)
+find_opener (Add by_ old new to iterations) = inl (record { slot = by_; passphrase = old.now; asked = (refl, refl); only = λ n p x. x })
+find_opener (Change slot old new iterations) = inl (record { slot = slot; passphrase = old.now; asked = (refl, refl); only = λ n p x. x })
+find_opener (Remove slot passphrase) = inl (record { slot = slot; passphrase = passphrase.now; asked = (refl, refl); only = λ n p x. x })
+find_opener Repair = inr (λ n p x. x)
+find_opener (Label text) = inr (λ n p x. x)
+
+-- what is decided of each keyslot and passphrase is decided of those that the edit opens by
+pub opener_decided : (e : Edit) (P : ℕ → List ℕ → Type 0) → ((n : ℕ) (p : List ℕ) → Decided (P n p)) → Decided ((n : ℕ) × (p : List ℕ) × OpensBy e n p × P n p)
+opener_decided e P decide = elim (find_opener e) [
+  | inl o ↦ elim (decide o.slot o.passphrase) [
+    | inl is ↦ inl (o.slot, o.passphrase, o.asked, is)
+    | inr isnt ↦ inr (λ x. isnt (subst (P o.slot) (o.only x.0 x.1 x.2).1 (subst (λ n. P n x.1) (o.only x.0 x.1 x.2).0 x.3)))
+  ]
+  | inr none ↦ inr (λ x. none x.0 x.1 x.2)
+]
+
+-- ---- refusals of a keyslot
+
+-- the faults of a plan, each at its row
+slot_faults : List SlotFault
+slot_faults = slot.Memory ∷ slot.Argon2 ∷ slot.Cipher ∷ slot.Hash ∷ slot.KeySize ∷ slot.Device ∷ []
+
+-- each of them stands there
+at_its_row : (f : SlotFault) → get_or slot_faults (slot_row f) slot.Memory ≡ f
+unfolding slot_faults
+at_its_row slot.Argon2 = refl
+at_its_row slot.Cipher = refl
+at_its_row slot.Hash = refl
+at_its_row slot.KeySize = refl
+at_its_row slot.Device = refl
+at_its_row slot.Memory = refl
+
+-- a row has one fault
+one_of_row : (f g : SlotFault) → slot_row f ≡ slot_row g → f ≡ g
+one_of_row f g same = sym (at_its_row f) ∙ ap (λ k. get_or slot_faults k slot.Memory) same ∙ at_its_row g
+
+-- the row of a key
+first_number : List ℕ → ℕ
+first_number [] = 0
+first_number (x ∷ xs) = x
+
+-- and the number behind it
+second_number : List ℕ → ℕ
+second_number [] = 0
+second_number (x ∷ xs) = first_number xs
+
+-- a fault of the header isn't judged where the plan is
+head_apart : (f : HeadFault) → head_step f ≡ 7 → ⊥
+head_apart (head.SlotState m) e = omega (arith, e)
+head_apart (head.Stripes m) e = omega (arith, e)
+head_apart (head.Iterations (of.Slot m)) e = omega (arith, e)
+head_apart f e = omega (arith, e)
+
+-- ---- answers
+
+module _ (v : List ℕ) (n : ℕ) (p : List ℕ) (one : (a b : Opened) → Answer v n p a → Answer v n p b → IsSameAnswer a b) where
+  -- an answer is that there is no key, or it isn't
+  no_key_as : (a : Opened) → Answer v n p a → Decided (Answer v n p no_key)
+  no_key_as (refused f) x = inr (λ y. one (refused f) no_key x y)
+  no_key_as (opens key) x = inr (λ y. one (opens key) no_key x y)
+  no_key_as no_key x = inl x
+
+  -- the refusal by the plan's fault, where the answer is a refusal
+  refused_as : (f : SlotFault) (g : OpenFault) → Answer v n p (refused g) → Decided (Answer v n p (refused (opening.Slot f)))
+  unfolding first_number second_number
+  refused_as f (opening.Slot g) x = elim (cases_eq (slot_row g) (slot_row f)) [
+    | inl same ↦ inl (subst (λ h. Answer v n p (refused (opening.Slot h))) (one_of_row g f same) x)
+    | inr other ↦ inr (λ y. other (ap second_number (one (refused (opening.Slot g)) (refused (opening.Slot f)) x y)))
+  ]
+  refused_as f (opening.Head g) x = inr (λ y. head_apart g (ap first_number (one (refused (opening.Head g)) (refused (opening.Slot f)) x y)))
+  refused_as f g x = inr (λ y. let e : first_number (open_key g) ≡ 7 = ap first_number (one (refused g) (refused (opening.Slot f)) x y) in omega (arith, e))
+
+  -- an answer is the refusal by a plan's fault, or it isn't
+  shut_as : (f : SlotFault) (a : Opened) → Answer v n p a → Decided (Answer v n p (refused (opening.Slot f)))
+  shut_as f (refused g) x = refused_as f g x
+  shut_as f (opens key) x = inr (λ y. one (opens key) (refused (opening.Slot f)) x y)
+  shut_as f no_key x = inr (λ y. one no_key (refused (opening.Slot f)) x y)
+
+-- ---- the answer of the keyslot that it opens
+
+module _ (v : List ℕ) (one : (n : ℕ) (p : List ℕ) (a b : Opened) → Answer v n p a → Answer v n p b → IsSameAnswer a b)
+    (answer : (n : ℕ) (p : List ℕ) → (a : Opened) × Answer v n p a) (e : Edit) where
+  -- the passphrase gives no key, or it does, or the keyslot is refused
+  pub locked_decided : Decided (IsLocked v e)
+  locked_decided = alike_decided ((n : ℕ) × (p : List ℕ) × OpensBy e n p × Answer v n p no_key) (IsLocked v e)
+      (λ x. record { slot = x.0; passphrase = x.1; asked = x.2; answer = x.3 }) (λ x. (x.slot, x.passphrase, x.asked, x.answer))
+      (opener_decided e (λ n p. Answer v n p no_key) (λ n p. no_key_as v n p (one n p) (answer n p).0 (answer n p).1))
+
+  -- the keyslot is refused by a plan's fault, or it isn't
+  pub shut_decided : (f : SlotFault) → Decided (IsShut v e f)
+  shut_decided f = alike_decided ((n : ℕ) × (p : List ℕ) × OpensBy e n p × Answer v n p (refused (opening.Slot f))) (IsShut v e f)
+      (λ x. record { slot = x.0; passphrase = x.1; asked = x.2; answer = x.3 }) (λ x. (x.slot, x.passphrase, x.asked, x.answer))
+      (opener_decided e (λ n p. Answer v n p (refused (opening.Slot f))) (λ n p. shut_as v n p (one n p) f (answer n p).0 (answer n p).1))

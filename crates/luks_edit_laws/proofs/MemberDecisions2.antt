@@ -1,0 +1,179 @@
+-- What the metadata of a LUKS2 volume says of a keyslot, and which digest names it: each is there once, or not at all.
+use Rattle.std.proofs.Common.{◌≡◌, ℕ, ◌<◌, Bool, true, Option, Some, None, is_some, codes, refl, sym, ap, subst, ◌∙◌, inl, inr}
+use Rattle.serde_json.specs.Data.{Data as Value}
+use Rattle.serde_json.specs.Find.{get}
+use Rattle.luks_json.specs.Arrays.{names}
+use Rattle.luks_json.specs.Number.{number_text}
+use Rattle.luks_rules.specs.declared.table.Outer.TheVariants as outer
+use Rattle.luks_rules.specs.declared.table.Section.TheVariants.{Digests, Keyslots}
+use Rattle.luks_rules.specs.Faults.{object_at}
+use Rattle.luks_rules.specs.Reading.{number_in, text_of}
+use Rattle.luks_rules.specs.Sizes.{inside_at}
+use Rattle.luks_making.specs.Conditions.{IsFree}
+use Rattle.luks_making.specs.Keyslots.{IsMadeFrom, NewMembers, SlotMembers}
+use Rattle.luks_making.specs.Naming.{IsDigestOf}
+use Rattle.luks2_edits.specs.Metadata.{HasStripes, IsInUse, IsLeastFree, IsNewKeyslot}
+use Rattle.luks_edit_laws.proofs.DecidedFacts.{alike_decided, both_decided, Decided, held_or_none, least_or_none_below, less_decided, some_same, SomeOrNone, true_decided}
+
+-- ---- keyslots in use and free
+
+-- a keyslot is in use, or it isn't
+pub in_use_decided : (j : Value) (n : ℕ) → Decided (IsInUse j n)
+in_use_decided j n = both_decided _ _ (less_decided n 32) (true_decided (is_some (object_at j Keyslots n)))
+
+-- an option that is decided to hold nothing
+none_decided : {A : Type 0} (o : Option A) → Decided (o ≡ None)
+none_decided None = inl refl
+none_decided (Some x) = inr (λ e. cc)
+
+-- a number is free, or it isn't
+free_decided : (j : Value) (n : ℕ) → Decided (IsFree j n)
+free_decided j n = alike_decided ((n < 32) × (object_at j Keyslots n ≡ None)) (IsFree j n)
+    (λ x. record { small = x.0; free = x.1 }) (λ x. (x.small, x.free)) (both_decided _ _ (less_decided n 32) (none_decided (object_at j Keyslots n)))
+
+-- there is a least number that is free, or none is
+least_free : (j : Value) → SomeOrNone ℕ (IsLeastFree j)
+least_free j = elim (least_or_none_below (IsFree j) (free_decided j) 32) [
+  | inl found ↦ inl (found.0, record { free = found.1; least = found.2 })
+  | inr none ↦ inr (λ n x. none n x.free.small x.free)
+]
+
+-- no number is free, or some is
+pub none_free_decided : (j : Value) → Decided ((n : ℕ) → IsFree j n → ⊥)
+none_free_decided j = elim (least_or_none_below (IsFree j) (free_decided j) 32) [
+  | inl found ↦ inr (λ none. none found.0 found.1)
+  | inr none ↦ inl (λ n free. none n free.small free)
+]
+
+-- the number of a keyslot that is made
+pub new_number : (j : Value) (to : Option ℕ) → SomeOrNone ℕ (IsNewKeyslot j to)
+new_number j (Some t) = inl (t, refl)
+new_number j None = least_free j
+
+-- ---- what a keyslot says
+
+-- the object of a keyslot
+pub object_or_none : (j : Value) (n : ℕ) → SomeOrNone Value (λ d. (n < 32) × (object_at j Keyslots n ≡ Some d))
+object_or_none j n = elim (less_decided n 32) [
+  | inl low ↦ elim (held_or_none (object_at j Keyslots n)) [
+    | inl d ↦ inl (d.0, (low, d.1))
+    | inr none ↦ inr (λ d x. none d x.1)
+  ]
+  | inr high ↦ inr (λ d x. high x.0)
+]
+
+-- the key's length and the stripes of a keyslot
+pub stripes_or_none : (j : Value) (n : ℕ) → SomeOrNone (ℕ × ℕ) (λ x. HasStripes j n x.0 x.1)
+stripes_or_none j n = elim (object_or_none j n) [
+  | inl d ↦ elim (held_or_none (number_in 1 128 (inside_at outer.Top (codes "key_size") d.0))) [
+    | inl key ↦ elim (held_or_none (number_in 1 4294967295 (inside_at outer.Af (codes "stripes") d.0))) [
+      | inl stripes ↦ inl (
+        (key.0, stripes.0),
+        record {
+          object = d.0;
+          there = record { numbered = refl; named = d.1.0; is = d.1.1 };
+          key_bytes_are = key.1;
+          stripes_are = stripes.1;
+        },
+      )
+      | inr none ↦ inr (λ x y. none x.1 (subst (λ o. number_in 1 4294967295 (inside_at outer.Af (codes "stripes") o) ≡ Some x.1)
+          (some_same y.object d.0 (sym y.there.is ∙ d.1.1)) y.stripes_are))
+    ]
+    | inr none ↦ inr (λ x y. none x.0 (subst (λ o. number_in 1 128 (inside_at outer.Top (codes "key_size") o) ≡ Some x.0)
+        (some_same y.object d.0 (sym y.there.is ∙ d.1.1)) y.key_bytes_are))
+  ]
+  | inr none ↦ inr (λ x y. none y.object (y.there.named, y.there.is))
+]
+
+module _ (j : Value) (n a b c d : ℕ) (x : HasStripes j n a b) (y : HasStripes j n c d) where
+  -- a keyslot has one object
+  one_object : x.object ≡ y.object
+  one_object = some_same x.object y.object (sym x.there.is ∙ y.there.is)
+
+  -- and one length of its key
+  pub one_key_length : a ≡ c
+  one_key_length = some_same a c (sym x.key_bytes_are ∙ ap (λ o. number_in 1 128 (inside_at outer.Top (codes "key_size") o)) one_object ∙ y.key_bytes_are)
+
+  -- and one number of stripes
+  pub one_stripes : b ≡ d
+  one_stripes = some_same b d (sym x.stripes_are ∙ ap (λ o. number_in 1 4294967295 (inside_at outer.Af (codes "stripes") o)) one_object ∙ y.stripes_are)
+
+-- a keyslot with stripes is in use
+pub stripes_in_use : (j : Value) (n a b : ℕ) → HasStripes j n a b → IsInUse j n
+stripes_in_use j n a b x = (x.there.named, rw x.there.is refl)
+
+-- what a keyslot has that is made with the members of the keyslot `d`
+pub made_or_none : (d : Value) (f : NewMembers) → SomeOrNone SlotMembers (IsMadeFrom d f)
+made_or_none d f = elim (held_or_none (number_in 1 128 (inside_at outer.Top (codes "key_size") d))) [
+  | inr none ↦ inr (λ s x. none s.key_size x.key_size)
+  | inl key ↦ elim (held_or_none (number_in 1 4294967295 (inside_at outer.Af (codes "stripes") d))) [
+    | inr none ↦ inr (λ s x. none s.stripes x.stripes)
+    | inl stripes ↦ elim (held_or_none (text_of (inside_at outer.Af (codes "hash") d))) [
+      | inr none ↦ inr (λ s x. none s.splitter_hash x.splitter_hash)
+      | inl splitter ↦ elim (held_or_none (text_of (inside_at outer.Area (codes "encryption") d))) [
+        | inr none ↦ inr (λ s x. none s.encryption x.encryption)
+        | inl encryption ↦ elim (held_or_none (number_in 1 128 (inside_at outer.Area (codes "key_size") d))) [
+          | inr none ↦ inr (λ s x. none s.area_key_size x.area_key_size)
+          | inl area_key ↦ elim (held_or_none (text_of (inside_at outer.Kdf (codes "hash") d))) [
+            | inr none ↦ inr (λ s x. none s.hash x.hash)
+            | inl hash ↦ inl (
+              record {
+                key_size = key.0;
+                stripes = stripes.0;
+                splitter_hash = splitter.0;
+                offset = f.offset;
+                size = f.size;
+                encryption = encryption.0;
+                area_key_size = area_key.0;
+                hash = hash.0;
+                iterations = f.iterations;
+                salt = f.salt;
+              },
+              record {
+                key_size = key.1;
+                stripes = stripes.1;
+                splitter_hash = splitter.1;
+                encryption = encryption.1;
+                area_key_size = area_key.1;
+                hash = hash.1;
+                offset = refl;
+                size = refl;
+                iterations = refl;
+                salt = refl;
+              },
+            )
+          ]
+        ]
+      ]
+    ]
+  ]
+]
+
+-- ---- the digest that names a keyslot
+
+-- an option that holds something of which a test holds
+held_decided : {A : Type 0} (test : A → Bool) (o : Option A) → SomeOrNone A (λ x. (o ≡ Some x) × (test x ≡ true))
+held_decided test o = elim (held_or_none o) [
+  | inl x ↦ elim (true_decided (test x.0)) [
+    | inl holds ↦ inl (x.0, (x.1, holds))
+    | inr fails ↦ inr (λ y is. fails (subst (λ z. test z ≡ true) (some_same y x.0 (sym is.0 ∙ x.1)) is.1))
+  ]
+  | inr none ↦ inr (λ y is. none y is.0)
+]
+
+-- a digest names a keyslot, or it doesn't
+pub digest_decided : (j : Value) (n m : ℕ) → Decided (IsDigestOf j n m)
+digest_decided j n m = elim (both_decided (IsInUse j n) (m < 32) (in_use_decided j n) (less_decided m 32)) [
+  | inl low ↦ elim (held_decided (λ d. names (number_text n) (get (codes "keyslots") d)) (object_at j Digests m)) [
+    | inl d ↦ inl (record { named = low.0.0; keyslot = low.0.1; numbered = low.1; object = d.0; is = d.1.0; lists = d.1.1 })
+    | inr none ↦ inr (λ x. none x.object (x.is, x.lists))
+  ]
+  | inr high ↦ inr (λ x. high ((x.named, x.keyslot), x.numbered))
+]
+
+-- some digest names a keyslot, or none does
+pub digest_or_none : (j : Value) (n : ℕ) → SomeOrNone ℕ (IsDigestOf j n)
+digest_or_none j n = elim (least_or_none_below (IsDigestOf j n) (digest_decided j n) 32) [
+  | inl found ↦ inl (found.0, found.1)
+  | inr none ↦ inr (λ m x. none m x.numbered x)
+]
