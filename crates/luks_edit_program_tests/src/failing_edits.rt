@@ -149,11 +149,11 @@ digest 0 sha256 keyslots 0 segments 0
 
 /// Which call of a label fails, the first write or flush after so many flushes, what it leaves in its
 /// range, and what is answered then. The second copy is written first, then the first, which counts.
-const LABELS: [((Call, usize), Leave, [Turn; 4]); 5] = [
+const LABELS: [((Call, usize), Leave, &[Turn]); 5] = [
     (
         (Call::Write, 0),
         Leave::Ones,
-        [
+        &[
             (
                 CHECK,
                 "",
@@ -169,7 +169,7 @@ const LABELS: [((Call, usize), Leave, [Turn; 4]); 5] = [
     (
         (Call::Flush, 0),
         Leave::Old,
-        [
+        &[
             (
                 CHECK,
                 "",
@@ -185,7 +185,7 @@ const LABELS: [((Call, usize), Leave, [Turn; 4]); 5] = [
     (
         (Call::Write, 1),
         Leave::Ones,
-        [
+        &[
             (
                 CHECK,
                 "",
@@ -201,7 +201,7 @@ const LABELS: [((Call, usize), Leave, [Turn; 4]); 5] = [
     (
         (Call::Write, 1),
         Leave::Old,
-        [
+        &[
             (
                 CHECK,
                 "",
@@ -217,7 +217,7 @@ const LABELS: [((Call, usize), Leave, [Turn; 4]); 5] = [
     (
         (Call::Flush, 1),
         Leave::Old,
-        [
+        &[
             (CHECK, "", "", "accepted luks2 in-step seqid 2 areas 4\n", 0),
             (SHOW, "", "", IN_STEP, 0),
             (REPAIR, "", "", "done\n", 0),
@@ -225,6 +225,22 @@ const LABELS: [((Call, usize), Leave, [Turn; 4]); 5] = [
         ],
     ),
 ];
+
+const OPENS: [Turn; 1] = [(OPEN_0, "one", "", "slot 0 opens\n", 0)];
+
+/// Asserts that the volume that is left is answered so, and that its keyslot opens before and after.
+fn is_answered(
+    rt: &impl Abort,
+    alloc: Global,
+    left: &[u8],
+    random: &[u8],
+    turns: &[Turn],
+) -> Result<(), Fail> {
+    let mut files = files_of(left.to_vec(alloc)?);
+    take_turns(rt, alloc, &mut files, random, &OPENS)?;
+    take_turns(rt, alloc, &mut files, random, turns)?;
+    take_turns(rt, alloc, &mut files, random, &OPENS)
+}
 
 #[test]
 fn failing_labels(rt: HostRuntime) -> Result<(), Fail> {
@@ -238,11 +254,7 @@ fn failing_labels(rt: HostRuntime) -> Result<(), Fail> {
         let ended = end_of(alloc, LABEL_X, &image, &random, place, leave)?;
         assert!(rt; ended.is_told(IN_THE_MIDST), "row {i}: the lines");
         let left = ended.into_volume();
-        let mut files = files_of(left.contents().to_vec(alloc)?);
-        let opens = (OPEN_0, "one", "", "slot 0 opens\n", 0);
-        take_turns(&rt, alloc, &mut files, &random, &[opens])?;
-        take_turns(&rt, alloc, &mut files, &random, &turns)?;
-        take_turns(&rt, alloc, &mut files, &random, &[opens])?;
+        is_answered(&rt, alloc, left.contents(), &random, turns)?;
     }
     Ok(())
 }
