@@ -1,7 +1,7 @@
 //! What `check` prints of LUKS1 volumes.
-use crate::images::{Change, LUKS1, changed_luks1, luks1};
-use crate::printing::{CHECK, DETACHED, compare_header, run};
+use crate::printing::{compare_header, run};
 use luks_cli::InputFault;
+use luks_samples::{CHECK, Change, DETACHED, LUKS1, changed_luks1, luks1};
 use luks_volume::MemDevice;
 use std::alloc::Global;
 use std::io::Cursor;

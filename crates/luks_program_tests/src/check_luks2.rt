@@ -1,7 +1,9 @@
 //! What `check` prints of LUKS2 volumes.
-use crate::images::{Change, Fields, LUKS2, copy_of, luks2, overwrite, zeros_luks2};
-use crate::metadata::{Edit, ZEROS};
-use crate::printing::{CHECK, DETACHED, OPEN, OPEN_0, Row, SHOW, compare, compare_header};
+use crate::printing::{Row, compare, compare_header};
+use luks_samples::{
+    CHECK, Change, DETACHED, Edit, Fields, LUKS2, OPEN, OPEN_0, SHOW, ZEROS, copy_of, luks2,
+    overwrite, zeros_luks2,
+};
 use std::alloc::{AllocError, Global};
 use std::test::Fail;
 

@@ -1,8 +1,9 @@
 //! The lines on standard error, which say what the answer doesn't.
-use crate::images::{Change, opening_luks1, opening_luks2, overwrite};
-use crate::metadata::Edit;
-use crate::printing::{CHECK, OPEN, OPEN_0, SHOW, run};
+use crate::printing::run;
 use luks_cli::{InputFault, Reason};
+use luks_samples::{
+    CHECK, Change, Edit, OPEN, OPEN_0, SHOW, opening_luks1, opening_luks2, overwrite,
+};
 use luks_volume::MemDevice;
 use std::alloc::Global;
 use std::io::Cursor;

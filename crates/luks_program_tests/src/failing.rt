@@ -1,8 +1,10 @@
 //! Devices of which one call fails.
-use crate::images::{opening_luks1, opening_luks2, zeros_luks2};
-use crate::printing::{CHECK, DETACHED, NO_FILE, OPEN, OPEN_0, SHOW};
+use crate::printing::NO_FILE;
 use luks_area::{FaultyDevice, Leave};
 use luks_cli::{InputFault, Inputs, execute, line};
+use luks_samples::{
+    CHECK, DETACHED, OPEN, OPEN_0, SHOW, opening_luks1, opening_luks2, zeros_luks2,
+};
 use luks_volume::{Device, MemDevice};
 use std::alloc::Global;
 use std::process::Abort;

@@ -7,25 +7,13 @@ mod check_luks1;
 #[cfg(test)]
 mod check_luks2;
 #[cfg(test)]
-mod command_lines;
-#[cfg(test)]
-mod editing_luks1;
-#[cfg(test)]
-mod editing_luks2;
-#[cfg(test)]
 mod explaining;
 #[cfg(test)]
 mod failing;
 #[cfg(test)]
-mod formatting;
-#[cfg(test)]
-mod images;
-#[cfg(test)]
 mod keys;
 #[cfg(test)]
 mod made;
-#[cfg(test)]
-mod metadata;
 #[cfg(test)]
 mod open_luks1;
 #[cfg(test)]
@@ -38,8 +26,6 @@ mod printing;
 mod reading;
 #[cfg(test)]
 mod refused_memory;
-#[cfg(test)]
-mod sessions;
 #[cfg(test)]
 mod shapes;
 #[cfg(test)]

@@ -1,7 +1,7 @@
 //! Volumes whose metadata cryptsetup 2.6.1 wrote.
-use crate::images::{Fields, copy_of, luks2};
-use crate::printing::{CHECK, DETACHED, SHOW, compare_header};
+use crate::printing::compare_header;
 use crate::shapes;
+use luks_samples::{CHECK, DETACHED, Fields, SHOW, copy_of, luks2};
 use std::test::Fail;
 
 /// Metadata with the length of its volume, the fields of its copies, and what is printed by `check`,

@@ -1,9 +1,10 @@
 //! What `open` prints of LUKS1 volumes.
-use crate::images::{
-    Change, MK_DIGEST, MK_DIGEST_BY_SHA512, STRIPE_BY_SHA512, luks1, opening_luks1, overwrite, put,
+use crate::keys::key_area;
+use crate::printing::{Row, compare};
+use luks_samples::{
+    Change, MK_DIGEST, MK_DIGEST_BY_SHA512, OPEN, OPEN_0, OPEN_1, OPEN_3, STRIPE_BY_SHA512, is_sum,
+    luks1, opening_luks1, overwrite, put,
 };
-use crate::keys::{is_sum, key_area};
-use crate::printing::{OPEN, OPEN_0, OPEN_1, OPEN_3, Row, compare};
 use std::alloc::Global;
 use std::test::Fail;
 

@@ -1,8 +1,10 @@
 //! What `open` prints of a LUKS2 volume of three keyslots.
-use crate::images::{Change, STRIPE_BY_SHA512, opening_luks2, overwrite, put, zeros_luks2};
-use crate::keys::{is_sum, key_area};
-use crate::metadata::Edit;
-use crate::printing::{OPEN, OPEN_0, OPEN_1, OPEN_2, OPEN_3, Row, compare};
+use crate::keys::key_area;
+use crate::printing::{Row, compare};
+use luks_samples::{
+    Change, Edit, OPEN, OPEN_0, OPEN_1, OPEN_2, OPEN_3, STRIPE_BY_SHA512, is_sum, opening_luks2,
+    overwrite, put, zeros_luks2,
+};
 use std::test::Fail;
 
 const NEVER_0: Edit = (r#""0":{"af""#, r#""0":{"priority":0,"af""#);

@@ -1,7 +1,7 @@
 //! The passphrase's file, and volumes that can't be read.
-use crate::images::{changed_luks1, opening_luks1};
-use crate::printing::{CHECK, DETACHED, OPEN, OPEN_0, Row, SHOW, compare, prints};
+use crate::printing::{Row, compare, prints};
 use luks_cli::{InputFault, Reason};
+use luks_samples::{CHECK, DETACHED, OPEN, OPEN_0, SHOW, changed_luks1, opening_luks1};
 use luks_volume::MemDevice;
 use std::alloc::Global;
 use std::io;

@@ -9,54 +9,6 @@ use std::io::{Read, Write};
 use std::process::Abort;
 use std::test::Fail;
 
-pub const CHECK: &[&str] = &["luks", "check", "volume"];
-
-pub const DETACHED: &[&str] = &["luks", "check", "volume", "--detached"];
-
-pub const SHOW: &[&str] = &["luks", "show", "volume"];
-
-pub const OPEN: &[&str] = &["luks", "open", "volume", "--passphrase", "file"];
-
-pub const OPEN_0: &[&str] = &[
-    "luks",
-    "open",
-    "volume",
-    "--passphrase",
-    "file",
-    "--slot",
-    "0",
-];
-
-pub const OPEN_1: &[&str] = &[
-    "luks",
-    "open",
-    "volume",
-    "--passphrase",
-    "file",
-    "--slot",
-    "1",
-];
-
-pub const OPEN_2: &[&str] = &[
-    "luks",
-    "open",
-    "volume",
-    "--passphrase",
-    "file",
-    "--slot",
-    "2",
-];
-
-pub const OPEN_3: &[&str] = &[
-    "luks",
-    "open",
-    "volume",
-    "--passphrase",
-    "file",
-    "--slot",
-    "3",
-];
-
 /// A command line and what is owed to it.
 #[derive(Debug, Clone, Copy)]
 pub struct Row<'a> {

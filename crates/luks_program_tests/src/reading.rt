@@ -2,13 +2,15 @@
 //! larger than any memory.
 ghost use Rattle.std.specs.Prelude.{◌<◌, ◌^◌};
 
-use crate::images::{Fields, copy_of, luks2, opening_luks1, opening_luks2, put, zeros_luks2};
 use crate::keys::key_area;
-use crate::metadata::{Edit, THREE, ZEROS, edited};
 use crate::open_luks2::OF_4000_STRIPES;
-use crate::printing::{CHECK, DETACHED, OPEN, OPEN_0, prints};
+use crate::printing::prints;
 use luks_area::DeviceFault;
 use luks_cli::InputFault;
+use luks_samples::{
+    CHECK, DETACHED, Edit, Fields, OPEN, OPEN_0, THREE, ZEROS, copy_of, edited, luks2,
+    opening_luks1, opening_luks2, put, zeros_luks2,
+};
 use luks_volume::{Device, MemDevice};
 use std::alloc::Global;
 use std::process::Abort;

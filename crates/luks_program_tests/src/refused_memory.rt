@@ -1,7 +1,7 @@
 //! Refused memory.
-use crate::images::{opening_luks1, opening_luks2};
-use crate::printing::{CHECK, DETACHED, NO_FILE, OPEN, OPEN_0, SHOW};
+use crate::printing::NO_FILE;
 use luks_cli::{Inputs, Line, execute, line};
+use luks_samples::{CHECK, DETACHED, OPEN, OPEN_0, SHOW, opening_luks1, opening_luks2};
 use luks_volume::{MemDevice, open_slot, unlock};
 use std::alloc::{AllocError, Global};
 use std::io::Cursor;

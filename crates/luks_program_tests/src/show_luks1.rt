@@ -1,6 +1,6 @@
 //! What `show` prints of LUKS1 volumes.
-use crate::images::{Change, changed_luks1};
-use crate::printing::{SHOW, compare_header};
+use crate::printing::compare_header;
+use luks_samples::{Change, SHOW, changed_luks1};
 use std::test::Fail;
 
 const LINES: &str = "\

@@ -1,7 +1,6 @@
 //! What `show` prints of LUKS2 volumes.
-use crate::images::{Change, Fields, copy_of, luks2, overwrite};
-use crate::metadata::{Edit, ZEROS, edited};
-use crate::printing::{SHOW, compare_header};
+use crate::printing::compare_header;
+use luks_samples::{Change, Edit, Fields, SHOW, ZEROS, copy_of, edited, luks2, overwrite};
 use std::alloc::{AllocError, Global};
 use std::test::Fail;
 

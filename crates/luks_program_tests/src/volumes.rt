@@ -1,7 +1,5 @@
 //! The areas and the keys of volumes, as the library tells them.
-use crate::images::{copy_of, luks1, luks2, opening_luks1, opening_luks2};
-use crate::keys::is_sum;
-use crate::metadata::{Edit, ZEROS};
+use luks_samples::{Edit, ZEROS, copy_of, is_sum, luks1, luks2, opening_luks1, opening_luks2};
 use luks_volume::{
     Area, AreaName, Copies, Data, Entry, Key, MemDevice, Version, check, open_slot, unlock,
 };

@@ -1,6 +1,8 @@
 //! Which command a command line asks for.
-use luks_cli::{Command, EditRequest, Editing, Line, Making, NewVersion, line};
-use luks_volume::{Data, Format, HashName};
+use luks_formatting::Format;
+use luks_kdf::HashName;
+use luks_line::{Command, EditRequest, Editing, Line, Making, NewVersion, line};
+use luks_reading::Data;
 use std::alloc::{AllocError, Global};
 use std::test::Fail;
 
@@ -472,6 +474,116 @@ const FAULTS: [(&[&str], &str); 25] = [
     (&["luks", "label", "a", "--random=r"], "<TEXT>"),
 ];
 
+/// Words that single spaces part, and what the text of the refusal holds.
+const EDIT_FAULTS: [(&str, &str); 30] = [
+    (
+        "luks add --slot=0 --passphrase=p --new=n --random=r",
+        "<VOLUME>",
+    ),
+    (
+        "luks add a --slot=0 --new=n --random=r",
+        "--passphrase <FILE>",
+    ),
+    (
+        "luks add a --slot=0 --passphrase=p --random=r",
+        "--new <FILE>",
+    ),
+    (
+        "luks add a --slot=32 --passphrase=p --new=n --random=r",
+        "32 is not in 0..=31",
+    ),
+    (
+        "luks add a --slot=-1 --passphrase=p --new=n --random=r",
+        "'-1'",
+    ),
+    (
+        "luks add a --slot=0 --passphrase=p --new=n --random=r --to=32",
+        "32 is not in 0..=31",
+    ),
+    (
+        "luks add a --slot=0 --passphrase=p --new=n --random=r --to=x",
+        "'x'",
+    ),
+    (
+        "luks add a --slot=0 --passphrase=p --new=n --random=r --to=1 --to=2",
+        "'--to <N>'",
+    ),
+    (
+        "luks add a --slot=0 --slot=1 --passphrase=p --new=n --random=r",
+        "'--slot <N>'",
+    ),
+    (
+        "luks add a --slot=0 --passphrase=p --new=n --new=m --random=r",
+        "'--new <FILE>'",
+    ),
+    (
+        "luks add a --slot=0 --passphrase=p --new=n --random=r --iterations=4294967296",
+        "'4294967296'",
+    ),
+    (
+        "luks add a --slot=0 --passphrase=p --new=n --random=r --iterations=-1",
+        "'-1'",
+    ),
+    (
+        "luks add a --slot=0 --passphrase=p --new=n --random=r --hash=sha1",
+        "'--hash'",
+    ),
+    (
+        "luks add a b --slot=0 --passphrase=p --new=n --random=r",
+        "'b'",
+    ),
+    (
+        "luks change --slot=0 --passphrase=p --new=n --random=r",
+        "<VOLUME>",
+    ),
+    (
+        "luks change a --passphrase=p --new=n --random=r",
+        "--slot <N>",
+    ),
+    (
+        "luks change a --slot=0 --new=n --random=r",
+        "--passphrase <FILE>",
+    ),
+    (
+        "luks change a --slot=0 --passphrase=p --new=n",
+        "--random <FILE>",
+    ),
+    (
+        "luks change a --slot=32 --passphrase=p --new=n --random=r",
+        "32 is not in 0..=31",
+    ),
+    ("luks remove --slot=0 --passphrase=p", "<VOLUME>"),
+    ("luks remove a --slot=0", "--passphrase <FILE>"),
+    (
+        "luks remove a --slot=32 --passphrase=p",
+        "32 is not in 0..=31",
+    ),
+    ("luks remove a --slot=0 --passphrase=p --new=n", "'--new'"),
+    (
+        "luks remove a --slot=0 --passphrase=p --iterations=1000",
+        "'--iterations'",
+    ),
+    ("luks repair", "<VOLUME>"),
+    ("luks repair a --slot=0", "'--slot'"),
+    ("luks repair a --passphrase=p", "'--passphrase'"),
+    ("luks label a x", "--random <FILE>"),
+    ("luks label a x --random=r --slot=0", "'--slot'"),
+    ("luks label a x y --random=r", "'y'"),
+];
+
+#[test]
+fn faults_of_editing(rt: HostRuntime) -> Result<(), Fail> {
+    for (text, part) in EDIT_FAULTS {
+        let mut words = Vec::new(rt.alloc());
+        for word in text.split(' ') {
+            words.push(word)?;
+        }
+        assert!(rt; answers(rt.alloc(), &words, part, false)?, "{text}");
+        assert!(rt; answers(rt.alloc(), &words, "error: ", false)?, "{text}");
+    }
+    Ok(())
+}
+
 #[test]
 fn faults_of_usage(rt: HostRuntime) -> Result<(), Fail> {
     for (words, part) in FAULTS {
@@ -502,6 +614,65 @@ const HELPS: [(&[&str], &str); 14] = [
 fn helps(rt: HostRuntime) -> Result<(), Fail> {
     for (words, part) in HELPS {
         assert!(rt; answers(rt.alloc(), words, part, true)?, "{part}");
+    }
+    Ok(())
+}
+
+/// The commands.
+const COMMANDS: [&str; 9] = [
+    "check", "show", "open", "add", "change", "remove", "repair", "label", "format",
+];
+
+/// The text on the words, and whether each of its lines has at most 80 bytes.
+fn fits(alloc: Global, words: &[&str]) -> Result<bool, AllocError> {
+    let Err(fault) = line(alloc, words) else {
+        return Ok(false);
+    };
+    let text = format!(in alloc; "{fault}")?;
+    Ok(text.as_str().lines().all(|line| line.len() <= 80))
+}
+
+// No line of the help has more than 80 columns, nor of what is said where a command's arguments are
+// missing. What is said where the command is missing is clap's own list of them.
+#[test]
+fn widths(rt: HostRuntime) -> Result<(), Fail> {
+    assert!(rt; fits(rt.alloc(), &["luks", "--help"])?, "the help");
+    for name in COMMANDS {
+        assert!(rt;
+            fits(rt.alloc(), &["luks", name, "--help"])?,
+            "{name}: the help"
+        );
+        assert!(rt;
+            fits(rt.alloc(), &["luks", name])?,
+            "{name}: what is missing"
+        );
+    }
+    Ok(())
+}
+
+/// The usage of the commands whose line would be longer.
+const USAGES: [(&str, &str); 2] = [
+    (
+        "add",
+        "Usage: luks add [OPTIONS] --slot <N> --passphrase <FILE> --new <FILE>\n                --random <FILE> <VOLUME>\n",
+    ),
+    (
+        "change",
+        "Usage: luks change [OPTIONS] --slot <N> --passphrase <FILE> --new <FILE>\n                   --random <FILE> <VOLUME>\n",
+    ),
+];
+
+#[test]
+fn usages(rt: HostRuntime) -> Result<(), Fail> {
+    for (name, usage) in USAGES {
+        assert!(rt;
+            answers(rt.alloc(), &["luks", name, "-h"], usage, true)?,
+            "{name}"
+        );
+        assert!(rt;
+            answers(rt.alloc(), &["luks", name], usage, false)?,
+            "{name}"
+        );
     }
     Ok(())
 }

@@ -136,7 +136,7 @@ pub fn zeros_luks2(alloc: Global, edits: &[Edit], len: usize) -> Result<Vec<u8>,
 /// The volume key's one stripe, which is the key, the bytes 0 to 63, encrypted by AES-XTS in sector
 /// 0 under PBKDF2 of the passphrase `one` with 32 bytes 0x11, by SHA-256 and 1000 iterations:
 /// Python's hashlib and cryptography.
-const STRIPE: [u8; 64] = [
+pub const STRIPE: [u8; 64] = [
     0xCC, 0x14, 0x78, 0x95, 0x68, 0x2F, 0x99, 0x74, 0x2B, 0x5D, 0x57, 0x8B, 0x28, 0x8B, 0x64, 0x68,
     0xA2, 0xEA, 0x01, 0x80, 0xD2, 0x98, 0x16, 0xC1, 0x71, 0x9E, 0xED, 0xC4, 0xA1, 0xC5, 0x41, 0x16,
     0x7F, 0xBB, 0x3A, 0xB8, 0x69, 0x90, 0x18, 0x80, 0xD3, 0xB4, 0x6B, 0xC7, 0x72, 0x9A, 0x88, 0x8A,
@@ -181,8 +181,34 @@ pub fn opening_luks2(alloc: Global, edits: &[Edit]) -> Result<Vec<u8>, AllocErro
     let text = edited(alloc, THREE, edits)?;
     let copy = copy_of(text.as_str());
     let mut image = luks2(alloc, &copy, &copy, 45056)?;
-    put(&mut image, 32768, &STRIPE);
-    put(&mut image, 36864, &STRIPE);
-    put(&mut image, 40960, &STRIPE);
+    put_stripes(&mut image);
+    Ok(image)
+}
+
+/// Puts the key areas of the three keyslots that open by the passphrase `one`.
+fn put_stripes(image: &mut [u8]) {
+    for at in [32768, 36864, 40960] {
+        put(image, at, &STRIPE);
+    }
+}
+
+/// The bytes of the LUKS2 volume of three keyslots with room for a fourth.
+pub const ROOMY: usize = 49152;
+
+/// The keyslots' region, with that room.
+const ROOM: Edit = (r#""keyslots_size":"12288""#, r#""keyslots_size":"16384""#);
+
+/// The metadata of the LUKS2 volume of three keyslots with room for a fourth, edited so.
+pub fn roomy_text(alloc: Global, edits: &[Edit]) -> Result<String, AllocError> {
+    let text = edited(alloc, THREE, &[ROOM])?;
+    edited(alloc, text.as_str(), edits)
+}
+
+/// The LUKS2 volume of three keyslots with room for a fourth, with this metadata and sequence number.
+pub fn roomy_luks2(alloc: Global, text: &str, seqid: u64) -> Result<Vec<u8>, AllocError> {
+    let mut copy = copy_of(text);
+    copy.seqid = seqid;
+    let mut image = luks2(alloc, &copy, &copy, ROOMY)?;
+    put_stripes(&mut image);
     Ok(image)
 }

@@ -1,9 +1,10 @@
 //! Volumes that `format` makes, and why it makes none.
 ghost use Rattle.std.specs.Prelude.{◌<◌, ◌^◌};
 
-use crate::printing::{CHECK, DETACHED, NO_FILE, OPEN};
+use crate::sessions::NO_FILE;
 use luks_area::{DeviceFault, FaultyDevice, Leave};
 use luks_cli::{InputFault, Inputs, Reason, execute, line};
+use luks_samples::{CHECK, DETACHED, OPEN};
 use luks_volume::{Device, FORMAT1_RANDOM, FORMAT2_RANDOM, MemDevice};
 use std::alloc::{AllocError, Global};
 use std::process::Abort;

@@ -1,11 +1,10 @@
 //! Edits of LUKS1 volumes by the program's commands.
-use crate::images::{LUKS1, luks1};
-use crate::printing::{CHECK, NO_FILE, OPEN, OPEN_0, OPEN_1};
 use crate::sessions::{
-    ADD_BY_0, CHANGE_0, FORMAT1, LABEL_X, RANDOM, REMOVE_0, REMOVE_1, REPAIR, Turn, answers,
-    are_zeros, bytes_of, counted, files_of, take_turns,
+    ADD_BY_0, CHANGE_0, FORMAT1, LABEL_X, NO_FILE, RANDOM, REMOVE_0, REMOVE_1, REPAIR, Turn,
+    answers, are_zeros, bytes_of, counted, files_of, take_turns,
 };
 use luks_cli::{InputFault, Reason};
+use luks_samples::{CHECK, LUKS1, OPEN, OPEN_0, OPEN_1, luks1, opening_luks1};
 use std::alloc::{AllocError, Global};
 use std::test::Fail;
 
@@ -174,22 +173,36 @@ fn random_bytes(rt: HostRuntime) -> Result<(), Fail> {
     Ok(())
 }
 
-// A refusal that needs no random byte is answered before their file is read, and an unreadable file
-// is a fault where it is named.
+// A refusal that needs no random byte is answered before their file is read, an edit that takes none
+// doesn't touch it, and for any other an unreadable file is a fault where it is named.
 #[test]
 fn unread_random_bytes(rt: HostRuntime) -> Result<(), Fail> {
     let alloc = rt.alloc();
-    let mut files = files_of(luks1(alloc)?);
+    let mut files = files_of(opening_luks1(alloc)?);
     files.random = Err(InputFault::Unreadable(Reason::NotFound));
-    let refused = (ADD_BY_0, "one", "two", "refused NoSuchSlot\n", 1);
+    let refused = (REMOVE_1, "one", "", "refused NoSuchSlot\n", 1);
     assert!(rt; answers(alloc, &refused, &mut files)?, "a refusal");
-    let fault = (REPAIR, "", "", "device fault\n", 4);
+    let done = (REPAIR, "", "", "done\n", 0);
+    assert!(rt; answers(alloc, &done, &mut files)?, "none taken");
+    let fault = (ADD_BY_0, "one", "two", "device fault\n", 4);
     assert!(rt; answers(alloc, &fault, &mut files)?, "no file");
     files.random = Err(InputFault::NoMemory);
-    let memory = (REPAIR, "", "", "no memory\n", 4);
+    let memory = (ADD_BY_0, "one", "two", "no memory\n", 4);
     assert!(rt; answers(alloc, &memory, &mut files)?, "no memory");
     files.volume = Err(InputFault::Unreadable(Reason::Denied));
     let denied = (REMOVE_0, "one", "", "device fault\n", 4);
     assert!(rt; answers(alloc, &denied, &mut files)?, "no volume");
+    Ok(())
+}
+
+// Repair has nothing to do, and changes no byte.
+#[test]
+fn repaired(rt: HostRuntime) -> Result<(), Fail> {
+    let image = luks1(rt.alloc())?;
+    let before = image.to_vec(rt.alloc())?;
+    let mut files = files_of(image);
+    let done = (REPAIR, "", "", "done\n", 0);
+    assert!(rt; answers(rt.alloc(), &done, &mut files)?, "repair");
+    assert!(rt; bytes_of(&files) == before.as_slice(), "the bytes");
     Ok(())
 }

@@ -1,14 +1,12 @@
 //! Edits of LUKS2 volumes by the program's commands.
-use crate::images::{LUKS2, copy_of, luks2, opening_luks2, put, put_copy, zeros_luks2};
-use crate::metadata::{Edit, ZEROS, edited};
-use crate::printing::{CHECK, DETACHED, NO_FILE, OPEN_0, OPEN_1, OPEN_2, SHOW};
 use crate::sessions::{
-    ADD_BY_0, CHANGE_0, FORMAT, LABEL_X, RANDOM, REMOVE_0, REMOVE_1, REPAIR, Turn, answers,
-    are_zeros, bytes_of, counted, files_of, take_turns,
+    ADD_BY_0, CHANGE_0, FORMAT, LABEL_X, NO_FILE, RANDOM, REMOVE_0, REMOVE_1, REPAIR, Turn,
+    answers, are_zeros, bytes_of, counted, files_of, take_turns,
 };
-use luks_area::{FaultyDevice, Leave};
-use luks_cli::{Inputs, execute, line};
-use luks_volume::MemDevice;
+use luks_samples::{
+    CHECK, DETACHED, Edit, LUKS2, OPEN_0, OPEN_1, OPEN_2, SHOW, ZEROS, copy_of, edited, luks2,
+    opening_luks2, put, put_copy, zeros_luks2,
+};
 use std::alloc::{AllocError, Global};
 use std::process::Abort;
 use std::test::Fail;
@@ -310,8 +308,46 @@ fn small_volumes(rt: HostRuntime) -> Result<(), Fail> {
     Ok(())
 }
 
+const ADD_TO_1: &[&str] = &[
+    "luks",
+    "add",
+    "v",
+    "--slot=0",
+    "--passphrase=p",
+    "--new=n",
+    "--random=r",
+    "--iterations=1000",
+    "--to=1",
+];
+
+// A refused edit of a list changes nothing, and those after it are done.
+const LIST: [Turn; 8] = [
+    FORMATTED,
+    (ADD_BY_0, "one", "two", "done slot 1\n", 0),
+    (ADD_TO_1, "one", "three", "refused SlotTaken\n", 1),
+    (REMOVE_0, "one", "", "done\n", 0),
+    (REMOVE_1, "two", "", "refused LastSlot\n", 1),
+    (REPAIR, "", "", "done\n", 0),
+    (CHECK, "", "", "accepted luks2 in-step seqid 4 areas 4\n", 0),
+    (OPEN_1, "two", "", "slot 1 opens\n", 0),
+];
+
+#[test]
+fn list_of_edits(rt: HostRuntime) -> Result<(), Fail> {
+    let random = counted(rt.alloc(), RANDOM)?;
+    let mut image = new_image(rt.alloc())?;
+    put(&mut image, 16777216, &[0xA5; 512]);
+    let mut files = files_of(image);
+    take_turns(&rt, rt.alloc(), &mut files, &random, &LIST)?;
+    assert!(rt;
+        bytes_of(&files).get(16777216..) == Some([0xA5; 512].as_slice()),
+        "the payload"
+    );
+    Ok(())
+}
+
 /// The formatted volume, its metadata edited so.
-fn formatted(rt: &impl Abort, alloc: Global, edits: &[Edit]) -> Result<Vec<u8>, Fail> {
+pub fn formatted(rt: &impl Abort, alloc: Global, edits: &[Edit]) -> Result<Vec<u8>, Fail> {
     let random = counted(alloc, RANDOM)?;
     let mut files = files_of(new_image(alloc)?);
     take_turns(rt, alloc, &mut files, &random, &[FORMATTED])?;
@@ -348,74 +384,6 @@ fn rooms(rt: HostRuntime) -> Result<(), Fail> {
         let mut files = files_of(image);
         let add = (ADD_BY_0, "one", "two", want, status);
         take_turns(&rt, rt.alloc(), &mut files, &random, &[add])?;
-    }
-    Ok(())
-}
-
-/// What a label's failing call leaves: its number and what stands in its range, what `check` prints
-/// then, and what a repair leaves. A read comes before the first write.
-const FAULTS: [(Leave, &str, &str); 2] = [
-    (
-        Leave::Ones,
-        "accepted luks2 first-only seqid 1 areas 4\n",
-        "accepted luks2 in-step seqid 2 areas 4\n",
-    ),
-    (
-        Leave::New,
-        "accepted luks2 second-newer seqid 2 areas 4\n",
-        "accepted luks2 in-step seqid 3 areas 4\n",
-    ),
-];
-
-/// How many calls come before a label's first write: as many as end with `reading or writing failed`
-/// or `reading failed` and leave every byte.
-fn first_write(alloc: Global, image: &[u8]) -> Result<u64, Fail> {
-    for call in 0..64 {
-        let left = labelled(alloc, image, call, Leave::Ones)?;
-        if left.as_slice() != image {
-            return Ok(call);
-        }
-    }
-    Ok(64)
-}
-
-/// What a label leaves of the volume where the call of this number fails.
-fn labelled(alloc: Global, image: &[u8], call: u64, leave: Leave) -> Result<Vec<u8>, Fail> {
-    let random = counted(alloc, 128)?;
-    let device = MemDevice::new(image.to_vec(alloc)?);
-    let mut files = Inputs {
-        volume: Ok(FaultyDevice::new(device, call, leave)),
-        passphrase: NO_FILE,
-        new_passphrase: NO_FILE,
-        random: Ok(random.as_slice()),
-    };
-    let line = line(alloc, LABEL_X)?;
-    let mut out = Vec::new(alloc);
-    let mut err = Vec::new(alloc);
-    let status = execute(alloc, &line, &mut files, &mut out, &mut err);
-    let told = status == 4 && out.as_slice() == b"device fault\n".as_slice();
-    match files.volume {
-        Ok(device) if told => Ok(device.into_inner().contents().to_vec(alloc)?),
-        _ => Ok(Vec::new(alloc)),
-    }
-}
-
-#[test]
-fn failing_labels(rt: HostRuntime) -> Result<(), Fail> {
-    let random = counted(rt.alloc(), RANDOM)?;
-    let alloc = rt.alloc();
-    let image = formatted(&rt, alloc, &[])?;
-    let call = first_write(alloc, &image)?;
-    for (leave, checked, repaired) in FAULTS {
-        let left = labelled(alloc, &image, call, leave)?;
-        let mut files = files_of(left);
-        let turns = [
-            (CHECK, "", "", checked, 3),
-            (OPEN_0, "one", "", "slot 0 opens\n", 0),
-            (REPAIR, "", "", "done\n", 0),
-            (CHECK, "", "", repaired, 0),
-        ];
-        take_turns(&rt, alloc, &mut files, &random, &turns)?;
     }
     Ok(())
 }

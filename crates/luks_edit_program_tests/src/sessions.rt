@@ -1,6 +1,5 @@
 //! Commands over one volume, one after another.
-use crate::printing::NO_FILE;
-use luks_cli::{Inputs, execute, line};
+use luks_cli::{InputFault, Inputs, execute, line};
 use luks_volume::MemDevice;
 use std::alloc::{AllocError, Global};
 use std::process::Abort;
@@ -15,6 +14,9 @@ pub type Turn = (
     &'static str,
     u8,
 );
+
+/// A file that the command line doesn't name.
+pub const NO_FILE: Result<&[u8], InputFault> = Err(InputFault::Absent);
 
 /// The files of a session.
 pub type Files<'a> = Inputs<MemDevice, &'a [u8], &'a [u8]>;
@@ -49,6 +51,26 @@ pub fn answers(alloc: Global, turn: &Turn, files: &mut Files<'_>) -> Result<bool
     files.passphrase = Ok(passphrase.as_bytes());
     files.new_passphrase = Ok(new.as_bytes());
     let line = line(alloc, words)?;
+    let mut out = Vec::new(alloc);
+    let mut err = Vec::new(alloc);
+    let found = execute(alloc, &line, files, &mut out, &mut err);
+    Ok(found == status && out.as_slice() == want.as_bytes())
+}
+
+/// Whether the command of these words, which single spaces part, prints what is owed over these files,
+/// and answers the status.
+pub fn says(
+    alloc: Global,
+    words: &str,
+    want: &str,
+    status: u8,
+    files: &mut Files<'_>,
+) -> Result<bool, Fail> {
+    let mut parts = Vec::new(alloc);
+    for word in words.split(' ') {
+        parts.push(word)?;
+    }
+    let line = line(alloc, parts.as_slice())?;
     let mut out = Vec::new(alloc);
     let mut err = Vec::new(alloc);
     let found = execute(alloc, &line, files, &mut out, &mut err);

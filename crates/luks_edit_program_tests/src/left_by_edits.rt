@@ -1,0 +1,314 @@
+//! What the commands that edit leave of new LUKS2 volumes, byte for byte. The sums are those that
+//! `testdata/oracle/edit_scripts` prints of its scripts.
+use crate::sessions::{Files, NO_FILE, bytes_of, files_of, says};
+use luks_samples::{Edit, LUKS2, copy_of, edited, is_sum, put_copy};
+use std::alloc::{AllocError, Global};
+use std::process::Abort;
+use std::test::Fail;
+
+/// The bytes of which the sum is taken: no edit here writes behind them.
+const KEPT: usize = 1048576;
+
+/// The most bytes that metadata has in a JSON area of 12288 bytes, with the zero behind it.
+const FULL: usize = 12287;
+
+/// A command, and what is owed to it.
+struct Step {
+    /// What is edited of the metadata before: where it is, both copies are written anew.
+    edits: &'static [Edit],
+    words: &'static str,
+    passphrase: &'static str,
+    /// The number that the random bytes are counted from, and how many there are.
+    random: (usize, usize),
+    /// What is printed, and the exit status.
+    answer: (&'static str, u8),
+    /// SHA-256 of the volume's first bytes afterwards.
+    sum: &'static str,
+}
+
+/// A new volume, and commands in turn.
+struct Script {
+    /// How it is formatted.
+    words: &'static str,
+    /// To how many bytes it is cut then.
+    len: usize,
+    steps: &'static [Step],
+}
+
+const FORMAT: &str = "luks format v --passphrase=p --random=r --iterations=1000";
+
+const FORMAT_DETACHED: &str =
+    "luks format v --passphrase=p --random=r --iterations=1000 --detached";
+
+const ADD: &str = "luks add v --slot=0 --passphrase=p --new=n --random=r --iterations=1000";
+
+const ADD_999: &str = "luks add v --slot=0 --passphrase=p --new=n --random=r --iterations=999";
+
+const ADD_DETACHED: &str =
+    "luks add v --slot=0 --passphrase=p --new=n --random=r --iterations=1000 --detached";
+
+const CHANGE: &str = "luks change v --slot=0 --passphrase=p --new=n --random=r --iterations=1000";
+
+const REMOVE_0: &str = "luks remove v --slot=0 --passphrase=p --random=r";
+
+const REMOVE_1: &str = "luks remove v --slot=1 --passphrase=p --random=r";
+
+const REPAIR: &str = "luks repair v --random=r";
+
+const LABEL: &str = "luks label v x --random=r";
+
+const NEW: &str = "48296eda1bb5b6cad161f3bbbd706a7cba7b6b3212abb547107d11c47876a7b2";
+
+const WITHOUT_0: &str = "58b2137fc834a7db89d6ea667d8830d3655b2e088cfbadf0ca796753cf666bb8";
+
+// As many random bytes are read as the edit takes, and no more: one further changes nothing.
+const ADDED_AND_REMOVED: &[Step] = &[
+    Step {
+        edits: &[],
+        words: ADD,
+        passphrase: "one",
+        random: (1, 256095),
+        answer: ("refused RandomLength\n", 1),
+        sum: NEW,
+    },
+    Step {
+        edits: &[],
+        words: REPAIR,
+        passphrase: "",
+        random: (3, 0),
+        answer: ("refused RandomLength\n", 1),
+        sum: NEW,
+    },
+    Step {
+        edits: &[],
+        words: ADD_999,
+        passphrase: "one",
+        random: (4, 256096),
+        answer: ("refused Iterations\n", 1),
+        sum: NEW,
+    },
+    Step {
+        edits: &[],
+        words: ADD,
+        passphrase: "one",
+        random: (5, 256097),
+        answer: ("done slot 1\n", 0),
+        sum: "ddcc30d065fb8ab09ed7111b1bc12010b47ae34b0f0cc9cb8d32252926e27325",
+    },
+    Step {
+        edits: &[],
+        words: REMOVE_0,
+        passphrase: "one",
+        random: (6, 129),
+        answer: ("done\n", 0),
+        sum: WITHOUT_0,
+    },
+    Step {
+        edits: &[],
+        words: REMOVE_1,
+        passphrase: "two",
+        random: (7, 128),
+        answer: ("refused LastSlot\n", 1),
+        sum: WITHOUT_0,
+    },
+];
+
+// A header in a file of its own, which ends a byte before the second area of 258048 bytes would.
+const SHORT: &[Step] = &[Step {
+    edits: &[],
+    words: ADD_DETACHED,
+    passphrase: "one",
+    random: (1, 256096),
+    answer: ("refused NoRoom\n", 1),
+    sum: "3692da4ab327fb99e8c6d97ab6cf990048b5216a2296f2ec6c19cf9127114c5f",
+}];
+
+const LONG_ENOUGH: &[Step] = &[Step {
+    edits: &[],
+    words: ADD_DETACHED,
+    passphrase: "one",
+    random: (1, 256096),
+    answer: ("done slot 1\n", 0),
+    sum: "1ed146da783e555228de47f75af854a9c2e1c38411593f92c5699289ffa7c1e2",
+}];
+
+// Keyslot 1's area leaves a hole of 4096 bytes behind keyslot 0's; the new one lies behind both.
+const HOLE: &[Step] = &[Step {
+    edits: &[
+        (r#"["0"],"salt""#, r#"["0","1"],"salt""#),
+        (
+            r#""type":"luks2"}}"#,
+            r#""type":"luks2"},"1":{"af":{"hash":"sha256","stripes":4000,"type":"luks1"},"area":{"encryption":"aes-xts-plain64","key_size":64,"offset":"294912","size":"258048","type":"raw"},"kdf":{"hash":"sha256","iterations":1000,"salt":"8PHy8/T19vf4+foAAQIDBAUGBwgJCgsMDQ4PEBESExQ=","type":"pbkdf2"},"key_size":64,"type":"luks2"}}"#,
+        ),
+    ],
+    words: ADD,
+    passphrase: "one",
+    random: (1, 256096),
+    answer: ("done slot 2\n", 0),
+    sum: "0a4a46dea0ed1ad580da3bf0b4a60921b9abc0f37f8f2dabe3a5754f4ee28119",
+}];
+
+const PADDED: &str = "21e9888ec56415f017960ee2463ea9f221ba38b9b85a38f0b38af6429b181f43";
+
+// A member that isn't known fills the metadata. A changed keyslot's area begins at 290816 in the place
+// of 32768, which is a digit more.
+const PAD: &[Step] = &[
+    Step {
+        edits: &[(
+            r#""keyslots_size":"16744448""#,
+            r#""keyslots_size":"16744448","pad":"""#,
+        )],
+        words: ADD,
+        passphrase: "one",
+        random: (1, 256096),
+        answer: ("refused MetadataFull\n", 1),
+        sum: PADDED,
+    },
+    Step {
+        edits: &[],
+        words: CHANGE,
+        passphrase: "one",
+        random: (1, 256096),
+        answer: ("refused MetadataFull\n", 1),
+        sum: PADDED,
+    },
+    Step {
+        edits: &[],
+        words: LABEL,
+        passphrase: "",
+        random: (2, 128),
+        answer: ("done\n", 0),
+        sum: "366daeca8f3f797397f150144694ef97ab85271e6d254b113e58df5ea0e80a3f",
+    },
+];
+
+const SCRIPTS: [Script; 5] = [
+    Script {
+        words: FORMAT,
+        len: LUKS2,
+        steps: ADDED_AND_REMOVED,
+    },
+    Script {
+        words: FORMAT_DETACHED,
+        len: 548863,
+        steps: SHORT,
+    },
+    Script {
+        words: FORMAT_DETACHED,
+        len: 548864,
+        steps: LONG_ENOUGH,
+    },
+    Script {
+        words: FORMAT,
+        len: LUKS2,
+        steps: HOLE,
+    },
+    Script {
+        words: FORMAT,
+        len: LUKS2,
+        steps: PAD,
+    },
+];
+
+/// Bytes that count up from the number on, modulo 251.
+fn counted_from(alloc: Global, from: usize, len: usize) -> Result<Vec<u8>, AllocError> {
+    let mut bytes = vec![in alloc; 0u8; len]?;
+    for (i, byte) in bytes.iter_mut().enumerate() {
+        *byte = (i.wrapping_add(from) % 251) as u8;
+    }
+    Ok(bytes)
+}
+
+/// The text, in which an empty member `pad` is filled until the text is full.
+fn filled(alloc: Global, text: &str) -> Result<String, AllocError> {
+    let Some((before, after)) = text.split_once(r#""pad":"""#) else {
+        return String::from_str(alloc, text);
+    };
+    let mut filled = String::from_str(alloc, before)?;
+    filled.push_str(r#""pad":""#)?;
+    for _ in text.len()..FULL {
+        filled.push_str("p")?;
+    }
+    filled.push_str("\"")?;
+    filled.push_str(after)?;
+    Ok(filled)
+}
+
+/// The metadata of the first copy.
+fn text_of(image: &[u8]) -> &str {
+    match image.get(4096..16384) {
+        Some(area) => match area.split(|byte| *byte == 0).next() {
+            Some(text) => str::from_utf8(text).unwrap_or_default(),
+            None => "",
+        },
+        None => "",
+    }
+}
+
+/// Writes both copies anew with the metadata edited so.
+fn rewrite(alloc: Global, files: &mut Files<'_>, edits: &[Edit]) -> Result<(), AllocError> {
+    let mut image = bytes_of(files).to_vec(alloc)?;
+    let text = edited(alloc, text_of(&image), edits)?;
+    let text = filled(alloc, text.as_str())?;
+    let mut copy = copy_of(text.as_str());
+    copy.uuid = b"00010203-0405-4607-8809-0a0b0c0d0e0f";
+    for byte in image.iter_mut().take(32768) {
+        *byte = 0;
+    }
+    put_copy(&mut image, 0, &copy);
+    put_copy(&mut image, 16384, &copy);
+    *files = files_of(image);
+    Ok(())
+}
+
+/// The new volume of a script.
+fn new_files<'a>(alloc: Global, script: &Script) -> Result<(bool, Files<'a>), Fail> {
+    let random = counted_from(alloc, 0, 256208)?;
+    let mut files = files_of(vec![in alloc; 0u8; LUKS2]?);
+    files.passphrase = Ok(b"one".as_slice());
+    files.random = Ok(random.as_slice());
+    let made = says(alloc, script.words, "done slot 0\n", 0, &mut files)?;
+    let mut image = bytes_of(&files).to_vec(alloc)?;
+    image.truncate(script.len);
+    Ok((made, files_of(image)))
+}
+
+/// Whether the command is answered what is owed to it, and leaves the bytes of that sum.
+fn takes(alloc: Global, files: &mut Files<'_>, step: &Step) -> Result<bool, Fail> {
+    if !step.edits.is_empty() {
+        rewrite(alloc, files, step.edits)?;
+    }
+    let (from, len) = step.random;
+    let random = counted_from(alloc, from, len)?;
+    let mut given = files_of(bytes_of(files).to_vec(alloc)?);
+    given.passphrase = Ok(step.passphrase.as_bytes());
+    given.new_passphrase = Ok(b"two");
+    given.random = Ok(random.as_slice());
+    let (want, status) = step.answer;
+    let held = says(alloc, step.words, want, status, &mut given)?;
+    let left = bytes_of(&given);
+    let part = left.get(..KEPT).unwrap_or(left);
+    *files = files_of(left.to_vec(alloc)?);
+    Ok(held && is_sum(part, step.sum))
+}
+
+fn compare(rt: &impl Abort, alloc: Global, number: usize, script: &Script) -> Result<(), Fail> {
+    let (made, mut files) = new_files(alloc, script)?;
+    assert!(rt; made, "script {number}: the volume");
+    files.random = NO_FILE;
+    for (i, step) in script.steps.iter().enumerate() {
+        assert!(rt;
+            takes(alloc, &mut files, step)?,
+            "script {number}, step {i}"
+        );
+    }
+    Ok(())
+}
+
+#[test]
+fn scripts_of_commands(rt: HostRuntime) -> Result<(), Fail> {
+    for (i, script) in SCRIPTS.iter().enumerate() {
+        compare(&rt, rt.alloc(), i, script)?;
+    }
+    Ok(())
+}
