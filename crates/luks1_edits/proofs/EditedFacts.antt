@@ -4,9 +4,12 @@ use Rattle.std.proofs.lemmas.Bool.{cases_lt, cases_eq}
 use Rattle.luks_area.specs.declared.area.Area.{Area}
 use Rattle.luks_area.specs.declared.area.AreaName.TheVariants.{Slot}
 use Rattle.luks_area.specs.Ranges.{part, SameBut}
-use Rattle.luks_area.specs.RangeFacts.{same_but-same, same_but-equal, same_but-wider}
-use Rattle.luks_head.specs.Header1.{active_word, disabled_word, enabled_word, entry}
+use Rattle.luks_area.specs.RangeFacts.{same_but-same, same_but-equal, same_but-then, same_but-wider}
+use Rattle.luks_head.specs.Faults.{HasUnknownState, LacksIterations}
+use Rattle.luks_head.specs.Header1.{active_word, disabled_word, enabled_word, entry, entry_key_material_offset, entry_stripes}
 use Rattle.luks_head.specs.Selection.{luks1, Chosen}
+use Rattle.luks_head.specs.declared.fault.HeadFault.TheVariants as head
+use Rattle.luks_head.specs.declared.fault.IterationsOf.TheVariants as of
 use Rattle.luks_reading.specs.declared.report.Data.{Data}
 use Rattle.luks_reading.specs.Agreement.{IsSameAnswer}
 use Rattle.luks_reading.specs.Answer.{Answer, Opened, opens}
@@ -18,11 +21,11 @@ use Rattle.luks_edit.specs.declared.edit_fault.EditFault.TheVariants as fault
 use Rattle.luks_edit.specs.Kept.{Keeps}
 use Rattle.luks1_edits.specs.Edited.{After1, HoldsKey, IsFreed, IsInUse, IsLeastFree, IsMade, IsNewKeyslot, IsWiped, NamedKeyslots1, OpensAfter1, Removes}
 use Rattle.luks1_edits.specs.Kept.{AreKeyslots, ChangesKeyslots, IsEither, IsFitFor, KeepsOthers}
-use Rattle.luks1_edits.specs.Leftovers.{IsTorn1, Leftover1, OpensEither1}
+use Rattle.luks1_edits.specs.Leftovers.{IsSealedFirst, IsTorn1, IsUntorn, Leftover1, OpensEither1}
 use Rattle.luks1_edits.specs.Places.{area_len, area_start, IsOfKeyslots}
 use Rattle.luks1_edits.specs.Refused.{IsUnrefused1}
 use Rattle.luks1_edits.proofs.AnswerFacts.{answer_moves}
-use Rattle.luks1_edits.proofs.HeaderFacts.{HeaderLaws, len_is, start_is, volume_of}
+use Rattle.luks1_edits.proofs.HeaderFacts.{HeaderLaws, entry_is, header_clear, len_is, start_is, volume_of}
 use Rattle.luks1_edits.proofs.KeptFacts.{either_decided, keeps_others, kept_common, luks1_after, luks1_area_of, same_keyslot, stays_well_formed}
 use Rattle.luks1_edits.proofs.MadeKeyslotFacts.{IsMadeFrom, KeyslotLaws, made_opens}
 
@@ -101,6 +104,11 @@ one_named named slot is n either = let one : n ≡ slot = elim either [ inl y �
 
 pub two_named : (named : ℕ → Type 0) (a b : ℕ) → named a → named b → (n : ℕ) → IsEither a b n → named n
 two_named named a b is_a is_b n either = elim either [ inl y ↦ subst named (sym y) is_a | inr y ↦ subst named (sym y) is_b ]
+
+-- while a keyslot was made, no byte of another one changed
+half_made_rest : {v p key random w : List ℕ} {n iterations : ℕ} → IsSealedFirst v n iterations p key random w → SameBut (IsOfKeyslots v (IsEither n n)) v w
+half_made_rest {n = n} (inl same) = same_but-wider (λ q at. record { keyslot = n; is_named = inl refl; of = inr at }) same
+half_made_rest {n = n} (inr x) = same_but-then x.made.rest (same_but-wider (λ q at. record { keyslot = n; is_named = inl refl; of = inl at }) x.rest)
 
 -- the least free keyslot is one
 least_free_once : (v : List ℕ) (a b : ℕ) → IsLeastFree v a → IsLeastFree v b → a ≡ b
@@ -211,13 +219,13 @@ module _ (laws : HeaderLaws) (payload : Data) (v : List ℕ) (chosen : Chosen v 
     opens_either (Add by_ old new to iterations) r w free x = tt
     opens_either (Change slot old new iterations) r w free (inl x) = λ key opened.
         let used = in_use v slot (λ not. free.none fault.NoSuchSlot (record { slot = slot; passphrase = old.now; asked = (refl, refl); unused = not })) in
-        let lt : x.slot < 8 = x.is.free.0 in
+        let lt : x.slot < 8 = x.is_new.free.0 in
         let other : IsEither x.slot x.slot slot → ⊥ = λ either.
         let one : slot ≡ x.slot = elim either [ inl y ↦ y | inr y ↦ y ] in
-        let two : enabled_word ≡ disabled_word = sym used.1 ∙ ap (λ k. active_word (entry v k)) one ∙ x.is.free.1 in
+        let two : enabled_word ≡ disabled_word = sym used.1 ∙ ap (λ k. active_word (entry v k)) one ∙ x.is_new.free.1 in
         omega (arith, two) in
         inl (answer_moves laws slot v w old.now (opens key) chosen
-        (same_keyslot v payload (volume_of laws v payload chosen well).fit w (IsEither x.slot x.slot) (either_keyslots x.slot x.slot lt lt) x.rest slot other) opened)
+        (same_keyslot v payload (volume_of laws v payload chosen well).fit w (IsEither x.slot x.slot) (either_keyslots x.slot x.slot lt lt) (half_made_rest x.order) slot other) opened)
     opens_either (Change slot old new iterations) r w free (inr x) = λ key opened.
         let used : slot < 8 = named_numbered v payload (Change slot old new iterations) r free slot (inl refl) in
         inr (
@@ -245,10 +253,10 @@ module _ (laws : HeaderLaws) (payload : Data) (v : List ℕ) (chosen : Chosen v 
 
   torn_rest : (e : Edit) (r w : List ℕ) → IsTorn1 v e r w → SameBut (IsOfKeyslots v (NamedKeyslots1 v e)) v w
   torn_rest (Add by_ old new to iterations) r w x =
-      places_wider (IsEither x.slot x.slot) (IsNewKeyslot v to) v w (one_named (IsNewKeyslot v to) x.slot x.is) x.rest
+      places_wider (IsEither x.slot x.slot) (IsNewKeyslot v to) v w (one_named (IsNewKeyslot v to) x.slot x.is_new) (half_made_rest x.order)
   torn_rest (Change slot old new iterations) r w (inl x) =
       places_wider (IsEither x.slot x.slot) (NamedKeyslots1 v (Change slot old new iterations)) v w
-      (one_named (NamedKeyslots1 v (Change slot old new iterations)) x.slot (inr x.is)) x.rest
+      (one_named (NamedKeyslots1 v (Change slot old new iterations)) x.slot (inr x.is_new)) (half_made_rest x.order)
   torn_rest (Change slot old new iterations) r w (inr x) =
       places_wider (IsEither slot x.fresh) (NamedKeyslots1 v (Change slot old new iterations)) v w
       (two_named (NamedKeyslots1 v (Change slot old new iterations)) slot x.fresh (inl refl) (inr x.is_free)) x.rest
@@ -266,6 +274,49 @@ module _ (laws : HeaderLaws) (payload : Data) (v : List ℕ) (chosen : Chosen v 
   leftover_keeps e r w (inr x) =
       keeps_others laws payload (NamedKeyslots1 v e) v w
       (record { keyslots = record { numbered = named_numbered v payload e r x.0 }; chosen = chosen; well = well; rest = torn_rest e r w x.1 })
+
+  -- ---- where no entry was torn
+
+  -- an entry that isn't torn is fit for use
+  untorn_fits : (w : List ℕ) (n : ℕ) → n < 8 → IsUntorn v w n → IsFitFor (entry v n) (entry w n)
+  untorn_fits w n lt (inl same) =
+      let clear = header_clear laws v payload chosen well in
+      let here : entry (part v 0 592) n ≡ entry w n = entry_is v n lt ∙ sym same in
+      record {
+        stated = λ none. clear (head.SlotState n) (lt, subst HasUnknownState (sym here) none);
+        offset = ap entry_key_material_offset same;
+        stripes = ap entry_stripes same;
+        iterated = λ none. clear (head.Iterations (of.Slot n)) (lt, subst LacksIterations (sym here) none);
+      }
+  untorn_fits w n lt (inr fits) = fits
+
+  -- so the volume is accepted still
+  untorn_well : (e : Edit) (r w : List ℕ) → IsUnrefused1 v payload e r → IsTorn1 v e r w → ((n : ℕ) → NamedKeyslots1 v e n → IsUntorn v w n) → WellFormed w payload
+  untorn_well (Add by_ old new to iterations) r w free x untorn =
+      let lt : x.slot < 8 = named_numbered v payload (Add by_ old new to iterations) r free x.slot x.is_new in
+      let fits = untorn_fits w x.slot lt (untorn x.slot x.is_new) in
+      (both_leave (IsNewKeyslot v to) x.slot x.slot w lt lt (half_made_rest x.order) fits fits x.is_new x.is_new).well
+  untorn_well (Change slot old new iterations) r w free (inl x) untorn =
+      let lt : x.slot < 8 = x.is_new.free.0 in
+      let fits = untorn_fits w x.slot lt (untorn x.slot (inr x.is_new)) in
+      (both_leave (NamedKeyslots1 v (Change slot old new iterations)) x.slot x.slot w lt lt (half_made_rest x.order) fits fits (inr x.is_new) (inr x.is_new)).well
+  untorn_well (Change slot old new iterations) r w free (inr x) untorn =
+      let used : slot < 8 = named_numbered v payload (Change slot old new iterations) r free slot (inl refl) in
+      let lt : x.fresh < 8 = x.is_free.free.0 in
+      (both_leave (NamedKeyslots1 v (Change slot old new iterations)) slot x.fresh w used lt x.rest
+      (untorn_fits w slot used (untorn slot (inl refl))) (untorn_fits w x.fresh lt (untorn x.fresh (inr x.is_free))) (inl refl) (inr x.is_free)).well
+  untorn_well (Remove slot passphrase) r w free x untorn =
+      let used : slot < 8 = named_numbered v payload (Remove slot passphrase) r free slot refl in
+      let fits = untorn_fits w slot used (untorn slot refl) in
+      (both_leave (λ n. n ≡ slot) slot slot w used used x.rest fits fits refl refl).well
+  untorn_well Repair r w free x untorn = absurd x
+  untorn_well (Label text) r w free x untorn = absurd x
+
+  pub leftover_accepted : (e : Edit) (r w : List ℕ) → Leftover1 v payload e r w → ((n : ℕ) → NamedKeyslots1 v e n → IsUntorn v w n) → Keeps payload (NamedKeyslots1 v e) v w
+  leftover_accepted e r w left untorn =
+      let others = leftover_keeps e r w left in
+      let still : WellFormed w payload = elim left [ inl same ↦ subst (λ u. WellFormed u payload) (sym same) well | inr x ↦ untorn_well e r w x.0 x.1 untorn ] in
+      record { size = others.size; well = still; segments = others.segments; slots = others.slots }
 
   -- ---- the area of a keyslot that was removed
 

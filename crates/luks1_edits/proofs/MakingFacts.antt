@@ -1,8 +1,8 @@
 -- A keyslot that is made: its area is sealed, then its entry is written.
 use Rattle.std.proofs.Common.{◌≡◌, ℕ, ◌+◌, ◌-◌, ◌*◌, ◌<◌, ◌≤◌, List, length, take, drop, subst, refl, sym, ap, ◌∙◌, arith, inl, inr, length-drop}
 use Rattle.luks_area.specs.declared.area.AreaName.TheVariants.{Slot}
-use Rattle.luks_area.specs.Ranges.{part, IsAt, SameBut}
-use Rattle.luks_area.specs.RangeFacts.{part-same_but, same_but-then, same_but-wider}
+use Rattle.luks_area.specs.Ranges.{part, written, IsAt, SameBut}
+use Rattle.luks_area.specs.RangeFacts.{part-same_but, same_but-then, same_but-wider, same_outside-written}
 use Rattle.luks_area.specs.Sectors.{rounded_to_sectors}
 use Rattle.luks_head.specs.Bytes.{number_at}
 use Rattle.luks_head.specs.Header1.{active_word, enabled_word, entry, entry_iterations, entry_stripes, HoldsEntry, HoldsSlots, IsCommon, IsEntry, IsLuks1}
@@ -22,12 +22,18 @@ use Rattle.luks_reading.specs.Plans.{IsLuks1Plan}
 use Rattle.luks1_edits.specs.Accepted.{IsHeaderOf}
 use Rattle.luks1_edits.specs.Edited.{IsMade}
 use Rattle.luks1_edits.specs.Kept.{AreKeyslots, IsEither}
+use Rattle.luks1_edits.specs.Leftovers.{IsMadeButEntry}
 use Rattle.luks1_edits.specs.Places.{area_len, area_start, entry_place, IsOfKeyslots}
 use Rattle.luks1_edits.specs.Refused.{keyslot_need}
 use Rattle.luks1_edits.specs.Steps.{unsealed, IsMadeIn, IsUnmade}
 use Rattle.luks1_edits.proofs.AnswerFacts.{SameFront, plan_moves}
 use Rattle.luks1_edits.proofs.HeaderFacts.{HeaderLaws, entry_is, header_moves, key_is, volume_of}
 use Rattle.luks1_edits.proofs.KeptFacts.{header_apart, kept_common}
+use Rattle.luks1_edits.proofs.StepFacts.{entry_range, entry_written}
+
+-- what agrees but in a set agrees the other way round
+same_but-back : {T : ℕ → Type 0} {u v : List ℕ} → SameBut T u v → SameBut T v u
+same_but-back same = record { length_same = sym same.length_same; each = λ p apart. sym (same.each p apart) }
 
 -- the plan of a new keyslot `n` of the header `h`, whose entry is `e`
 pub record IsNewPlan (h : List ℕ) (n : ℕ) (e : List ℕ) (iterations : ℕ) (salt : List ℕ) (plan : SlotPlan) : Type 0 where
@@ -84,15 +90,15 @@ module _ (h : List ℕ) (n : ℕ) (e : List ℕ) (iterations : ℕ) (salt : List
     len_at = x.is.len ∙ ap (λ k. rounded_to_sectors (k * entry_stripes e)) key_in ∙ ap (λ s. rounded_to_sectors (number_at v 108 4 * s)) made_in.stripes
 
     -- while the area was sealed
-    pub area_touched : (u : List ℕ) → SameBut (IsAt plan.area.start plan.area.len) v u → SameBut (IsOfKeyslots v (IsEither n n)) v u
-    area_touched u same = same_but-wider (λ p at. record {
-      keyslot = n;
-      is_named = inl refl;
-      of = inr (subst (λ k. IsAt (area_start v n) k p) len_at (subst (λ k. IsAt k plan.area.len p) start_at at));
-    }) same
+    pub area_torn : (u : List ℕ) → SameBut (IsAt plan.area.start plan.area.len) v u → SameBut (IsAt (area_start v n) (area_len v n)) v u
+    area_torn u same = same_but-wider (λ p at. subst (λ k. IsAt (area_start v n) k p) len_at (subst (λ k. IsAt k plan.area.len p) start_at at)) same
 
-    -- while the entry was written
-    pub entry_touched : (u w : List ℕ) → SameBut (IsAt plan.area.start plan.area.len) v u → SameBut (IsAt (entry_place n) 48) u w → SameBut (IsOfKeyslots v (IsEither n n)) v w
+    -- the area is of the keyslot
+    area_touched : (u : List ℕ) → SameBut (IsAt plan.area.start plan.area.len) v u → SameBut (IsOfKeyslots v (IsEither n n)) v u
+    area_touched u same = same_but-wider (λ p at. record { keyslot = n; is_named = inl refl; of = inr at }) (area_torn u same)
+
+    -- so are both
+    entry_touched : (u w : List ℕ) → SameBut (IsAt plan.area.start plan.area.len) v u → SameBut (IsAt (entry_place n) 48) u w → SameBut (IsOfKeyslots v (IsEither n n)) v w
     entry_touched u w first second = same_but-then (area_touched u first) (same_but-wider (λ p at. record { keyslot = n; is_named = inl refl; of = inl at }) second)
 
     apart : (p : ℕ) → IsAt plan.area.start plan.area.len p → IsAt (entry_place n) 48 p → ⊥
@@ -125,6 +131,23 @@ module _ (h : List ℕ) (n : ℕ) (e : List ℕ) (iterations : ℕ) (salt : List
             random_length = plan_random_length random random_size;
             sealed = subst (λ b. IsSealed plan b passphrase key (drop 32 random)) (sym (part-same_but plan.area.start plan.area.len second apart)) sealed;
           };
+        }
+
+    -- while the entry was written: it might have been written whole
+    pub entry_torn : (u w passphrase key random : List ℕ) → salt ≡ take 32 random → length key ≡ number_at h 108 4 → length random ≡ keyslot_need h n → length e ≡ 48
+        → SameBut (IsAt plan.area.start plan.area.len) v u → IsSealed plan (area_bytes u plan.area) passphrase key (drop 32 random)
+        → SameBut (IsAt (entry_place n) 48) u w → IsMadeButEntry v n iterations passphrase key random w
+    entry_torn u w passphrase key random salt_is key_size random_size entry_len first sealed second =
+        let long : 592 ≤ length v = of.chosen.long in
+        let size = first.length_same in
+        let whole : List ℕ = written u (208 + 48 * n) e in
+        let within : (208 + 48 * n) + length e ≤ length u = omega (arith, long, size, entry_len, lt) in
+        let after : SameBut (IsAt (entry_place n) 48) u whole = entry_range u whole whole n (length e) entry_len (same_outside-written u (208 + 48 * n) e within) refl in
+        record {
+          done = whole;
+          made = keyslot_made u whole passphrase key random salt_is key_size random_size first sealed after
+              (entry_written u whole whole e n entry_len lt (omega (arith, long, size)) refl refl);
+          rest = same_but-then (same_but-back after) second;
         }
 
 -- the sectors of the stripes are of the area

@@ -1,6 +1,6 @@
 -- What an edit that makes a keyslot replies, from what was judged of it.
 use Rattle.std.proofs.Common.{◌≡◌, ℕ, ◌<◌, ◌≤◌, List, length, subst, refl, sym, ap, ◌∙◌, arith, inr, Option, Some, None}
-use Rattle.luks_area.specs.Ranges.{part, SameBut}
+use Rattle.luks_area.specs.Ranges.{part}
 use Rattle.luks_head.specs.Header1.{active_word, disabled_word, enabled_word, entry}
 use Rattle.luks_head.specs.Selection.{luks1}
 use Rattle.luks_slot.specs.declared.fault.SlotFault.{SlotFault}
@@ -16,9 +16,7 @@ use Rattle.luks_edit.specs.declared.edit_fault.EditFault.TheVariants as fault
 use Rattle.luks_edit.specs.Asked.{HasFewIterations, OpensBy}
 use Rattle.luks1_edits.specs.Accepted.{IsHeaderOf, IsNewFault, IsNewFree, IsNewRefused, IsOpenedBy}
 use Rattle.luks1_edits.specs.Edited.{IsNewKeyslot}
-use Rattle.luks1_edits.specs.Kept.{IsEither}
-use Rattle.luks1_edits.specs.Leftovers.{IsTorn1}
-use Rattle.luks1_edits.specs.Places.{IsOfKeyslots}
+use Rattle.luks1_edits.specs.Leftovers.{IsSealedFirst, IsTorn1}
 use Rattle.luks1_edits.specs.Refused.{HasNoFree, IsLabel, IsLast, IsTaken, IsTakenFor, IsUnrefused1, keyslot_need, LacksFree, Need1, NeedsFor}
 use Rattle.luks1_edits.specs.Replies.{EndsBy1}
 use Rattle.luks1_edits.specs.Steps.{HasRefusedKeyslot, IsMadeIn, IsUnmade}
@@ -162,5 +160,5 @@ header_of_same {h} {payload} {u} {v} same x = subst (λ k. IsHeaderOf h payload 
 pub made_same : {u v w p key random : List ℕ} {n iterations : ℕ} → u ≡ v → IsMadeIn u n iterations p key random w → IsMadeIn v n iterations p key random w
 made_same {u} {v} {w} {p} {key} {random} {n} {iterations} same x = subst (λ k. IsMadeIn k n iterations p key random w) same x
 
-pub rest_same : {u v w : List ℕ} {n : ℕ} → u ≡ v → SameBut (IsOfKeyslots u (IsEither n n)) u w → SameBut (IsOfKeyslots v (IsEither n n)) v w
-rest_same {u} {v} {w} {n} same x = subst (λ k. SameBut (IsOfKeyslots k (IsEither n n)) k w) same x
+pub torn_same : {u v w p key random : List ℕ} {n iterations : ℕ} → u ≡ v → IsSealedFirst u n iterations p key random w → IsSealedFirst v n iterations p key random w
+torn_same {u} {v} {w} {p} {key} {random} {n} {iterations} same x = subst (λ k. IsSealedFirst k n iterations p key random w) same x

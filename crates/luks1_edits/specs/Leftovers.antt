@@ -1,17 +1,18 @@
 -- What an edit of a LUKS1 volume may leave that a failing device call ended. A failed write leaves
 -- any bytes in its range; the ranges are written in this order: the area of a new keyslot, its
 -- entry, then the entry of the keyslot that is removed, its area.
-use Rattle.std.specs.Prelude.{◌≡◌, ℕ, ◌⊎◌, List, drop, take}
-use Rattle.luks_area.specs.Ranges.{part, SameBut}
-use Rattle.luks_head.specs.Header1.{entry}
+use Rattle.std.specs.Prelude.{◌≡◌, ℕ, ◌⊎◌, List, drop, take, Option, None}
+use Rattle.luks_area.specs.Ranges.{part, IsAt, SameBut}
+use Rattle.luks_head.specs.Header1.{entry, entry_size}
 use Rattle.luks_reading.specs.declared.report.Data.{Data}
 use Rattle.luks_reading.specs.Answer.{Answer, opens}
 use Rattle.luks_edit.specs.declared.edit.Edit.{Edit}
 use Rattle.luks_edit.specs.declared.edit.Edit.TheVariants.{Add, Change, Remove, Repair, Label}
 use Rattle.luks1_edits.specs.Edited.{HoldsKey, IsFreed, IsLeastFree, IsMade, IsNewKeyslot}
-use Rattle.luks1_edits.specs.Kept.{IsEither}
-use Rattle.luks1_edits.specs.Places.{area_len, area_start, IsOfKeyslots}
+use Rattle.luks1_edits.specs.Kept.{IsEither, IsFitFor}
+use Rattle.luks1_edits.specs.Places.{area_len, area_start, entry_place, IsOfKeyslots}
 use Rattle.luks1_edits.specs.Refused.{IsUnrefused1}
+use Rattle.luks1_edits.specs.Steps.{IsMadeIn}
 
 -- the area that the keyslot `n` had keeps its bytes, or its entry was freed before
 abbrev pub IsFreedFirst : List ℕ → ℕ → List ℕ → Type 0
@@ -19,11 +20,31 @@ IsFreedFirst v n w =
     (part w (area_start v n) (area_len v n) ≡ part v (area_start v n) (area_len v n))
     ⊎ IsFreed (entry v n) (entry w n)
 
--- while a keyslot was made: its entry and area have any bytes
-pub record IsHalfMade (v : List ℕ) (is_new : ℕ → Type 0) (w : List ℕ) : Type 0 where
+-- in the volume `done` the keyslot `n` was made, and `w` differs from it in the keyslot's entry alone
+pub record IsMadeButEntry
+    (v : List ℕ) (n iterations : ℕ) (passphrase key random w : List ℕ)
+    : Type 0 where
+  pub done : List ℕ
+  pub made : IsMadeIn v n iterations passphrase key random done
+  pub rest : SameBut (IsAt (entry_place n) entry_size) done w
+
+-- no byte changed but in the area of the keyslot `n`, or the area holds the key already, and the
+-- keyslot's entry has any bytes
+abbrev pub IsSealedFirst : List ℕ → ℕ → ℕ → List ℕ → List ℕ → List ℕ → List ℕ → Type 0
+IsSealedFirst v n iterations passphrase key random w =
+    SameBut (IsAt (area_start v n) (area_len v n)) v w
+    ⊎ IsMadeButEntry v n iterations passphrase key random w
+
+-- while a keyslot was made in which `new` opens the key that `old` opened in the keyslot `opener`
+pub record IsHalfMade
+    (v : List ℕ) (opener : ℕ) (old new : List ℕ) (to : Option ℕ) (iterations : ℕ)
+    (random w : List ℕ)
+    : Type 0 where
   pub slot : ℕ
-  pub is : is_new slot
-  pub rest : SameBut (IsOfKeyslots v (IsEither slot slot)) v w
+  pub is_new : IsNewKeyslot v to slot
+  pub key : List ℕ
+  pub opened : Answer v opener old (opens key)
+  pub order : IsSealedFirst v slot iterations new key random w
 
 -- while a keyslot was removed: its entry has any bytes and its area its own, or the entry is freed
 -- and the area has any bytes
@@ -46,9 +67,11 @@ pub record IsHalfChanged
 
 -- the edit was ended while it wrote
 abbrev pub IsTorn1 : List ℕ → Edit → List ℕ → List ℕ → Type 0
-IsTorn1 v (Add by_ old new to iterations) random w = IsHalfMade v (IsNewKeyslot v to) w
+IsTorn1 v (Add by_ old new to iterations) random w =
+    IsHalfMade v by_ old.now new.now to iterations random w
 IsTorn1 v (Change slot old new iterations) random w =
-    IsHalfMade v (IsLeastFree v) w ⊎ IsHalfChanged v slot old.now new.now iterations random w
+    IsHalfMade v slot old.now new.now None iterations random w
+    ⊎ IsHalfChanged v slot old.now new.now iterations random w
 IsTorn1 v (Remove slot passphrase) random w = IsHalfRemoved v slot w
 IsTorn1 v Repair random w = ⊥
 IsTorn1 v (Label text) random w = ⊥
@@ -57,6 +80,10 @@ IsTorn1 v (Label text) random w = ⊥
 -- was torn while it wrote
 abbrev pub Leftover1 : List ℕ → Data → Edit → List ℕ → List ℕ → Type 0
 Leftover1 v payload e random w = (w ≡ v) ⊎ (IsUnrefused1 v payload e random × IsTorn1 v e random w)
+
+-- the entry of the keyslot `n` isn't torn: it is as it was, or fit for use in its place
+abbrev pub IsUntorn : List ℕ → List ℕ → ℕ → Type 0
+IsUntorn v w n = (entry w n ≡ entry v n) ⊎ IsFitFor (entry v n) (entry w n)
 
 -- the keyslot that was changed opens by the old passphrase, or the new one by the new passphrase,
 -- to the key that the old one opened before

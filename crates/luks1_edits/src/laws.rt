@@ -14,7 +14,7 @@ ghost use Rattle.luks_edit.specs.EditFaults.{edit_key};
 ghost use Rattle.luks_edit.specs.Kept.{Keeps};
 ghost use Rattle.luks1_edits.specs.Edited.{After1, NamedKeyslots1, OpensAfter1, Removes};
 ghost use Rattle.luks1_edits.specs.Kept.{HasSameKeyslot, KeepsOthers};
-ghost use Rattle.luks1_edits.specs.Leftovers.{Leftover1, OpensEither1};
+ghost use Rattle.luks1_edits.specs.Leftovers.{IsUntorn, Leftover1, OpensEither1};
 ghost use Rattle.luks1_edits.specs.Places.{IsOfKeyslots};
 ghost use Rattle.luks1_edits.specs.Refused.{IsEditFault1, IsUnrefused1, Refusal1};
 
@@ -72,9 +72,10 @@ pub fn luks1_edit_opens()
 }
 
 /// What a failing device call leaves of a well formed LUKS1 volume has its length and its segments'
-/// bytes, and each keyslot that the edit didn't name has its answers, its entry and its area. A
-/// keyslot that was changed opens by the old passphrase, or the new one by the new passphrase, to
-/// the same key. Where a fault refuses the edit, no byte changed.
+/// bytes, and each keyslot that the edit didn't name has its answers, its entry and its area. Where
+/// no entry that it named is torn, the volume is well formed still. A keyslot that was changed opens
+/// by the old passphrase, or the new one by the new passphrase, to the same key. Where a fault
+/// refuses the edit, no byte changed.
 pub fn luks1_failing_edit()
     ensures rest { (payload : Payload) (e : TheEdit) (v random w : List ℕ)
         → Chosen v luks1 → WellFormed v payload → Leftover1 v payload e random w
@@ -82,6 +83,10 @@ pub fn luks1_failing_edit()
     ensures keeps { (payload : Payload) (e : TheEdit) (v random w : List ℕ)
         → Chosen v luks1 → WellFormed v payload → Leftover1 v payload e random w
         → KeepsOthers payload (NamedKeyslots1 v e) v w }
+    ensures accepted { (payload : Payload) (e : TheEdit) (v random w : List ℕ)
+        → Chosen v luks1 → WellFormed v payload → Leftover1 v payload e random w
+        → ((n : ℕ) → NamedKeyslots1 v e n → IsUntorn v w n)
+        → Keeps payload (NamedKeyslots1 v e) v w }
     ensures opens { (payload : Payload) (e : TheEdit) (v random w : List ℕ)
         → Chosen v luks1 → WellFormed v payload → Leftover1 v payload e random w
         → OpensEither1 v e w }

@@ -1,13 +1,11 @@
 //! Making a keyslot of a LUKS1 volume.
-ghost use Rattle.std.specs.Prelude.{◌≡◌, ◌+◌, ◌^◌, ◌<◌, ◌≤◌, ℕ, List, drop, length, take, IfErr, OnOk};
+ghost use Rattle.std.specs.Prelude.{◌≡◌, ◌+◌, ◌^◌, ◌<◌, ◌≤◌, ℕ, List, drop, length, take, IfErr, OnErr, OnOk};
 ghost use Rattle.luks_area.specs.Device.{CountsFailure};
-ghost use Rattle.luks_area.specs.Ranges.{SameBut};
 ghost use Rattle.luks_head.specs.Header1.{entry, key_bytes_of, HoldsEntry, HoldsSlots};
 ghost use Rattle.luks_edit.specs.EditFaults.{is_edit_failure};
 ghost use Rattle.luks1_edits.specs.Accepted.{IsAcceptedAt, IsHeaderOf};
 ghost use Rattle.luks1_edits.specs.Edited.{IsMade};
-ghost use Rattle.luks1_edits.specs.Kept.{IsEither};
-ghost use Rattle.luks1_edits.specs.Places.{IsOfKeyslots};
+ghost use Rattle.luks1_edits.specs.Leftovers.{IsSealedFirst};
 ghost use Rattle.luks1_edits.specs.Refused.{keyslot_need};
 ghost use Rattle.luks1_edits.specs.Steps.{unsealed, IsMadeIn, IsUnmade};
 
@@ -94,10 +92,10 @@ pub(crate) fn make_keyslot<D: Device>(
         → IsHeaderOf header.now.bytes.now header.now.data_ (D.bytes device.old)
         → OnOk result (IsMadeIn (D.bytes device.old) n iterations passphrase.now key.now
         random.now (D.bytes device.new)) }
-    ensures rest { D.tells
+    ensures torn { D.tells
         → IsHeaderOf header.now.bytes.now header.now.data_ (D.bytes device.old)
-        → SameBut (IsOfKeyslots (D.bytes device.old) (IsEither n n))
-        (D.bytes device.old) (D.bytes device.new) }
+        → OnErr result (IsSealedFirst (D.bytes device.old) n iterations passphrase.now key.now
+        random.now (D.bytes device.new)) }
 {
     one_choice();
     luks1_is_first_bytes();

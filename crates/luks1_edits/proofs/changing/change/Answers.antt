@@ -1,21 +1,18 @@
 use Rattle.std.proofs.Common.{◌≡◌, None, refl, subst, arith, inl, inr}
 use Rattle.std.proofs.lemmas.Result.{err_from_is_err_and}
-use Rattle.luks_area.specs.Ranges.{SameBut}
 use Rattle.luks_head.specs.Header1.{HoldsSlots}
 use Rattle.luks_head.specs.Bytes.{number_at}
 use Rattle.luks_edit.specs.declared.edit.Edit.{Edit}
 use Rattle.luks_edit.specs.declared.edit.Edit.TheVariants.{Change}
 use Rattle.luks1_edits.specs.Accepted.{IsNewFree, IsOpenedBy}
 use Rattle.luks1_edits.specs.Edited.{IsInUse, IsRemoved}
-use Rattle.luks1_edits.specs.Kept.{IsEither}
-use Rattle.luks1_edits.specs.Leftovers.{IsHalfRemoved}
-use Rattle.luks1_edits.specs.Places.{IsOfKeyslots}
+use Rattle.luks1_edits.specs.Leftovers.{IsHalfRemoved, IsSealedFirst}
 use Rattle.luks1_edits.specs.Steps.{IsMadeIn}
 use Rattle.luks1_edits.proofs.ChangeFacts.{both_rest, freed_after, order_before, still_at, still_holds, still_made, wiped_after}
 use Rattle.luks1_edits.proofs.HeaderFacts.{HeaderLaws}
 use Rattle.luks1_edits.proofs.KeptFacts.{header_inside}
 use Rattle.luks1_edits.proofs.KeyslotPlaces.{key_bytes_in, keyslot_at, keyslot_inside}
-use Rattle.luks1_edits.proofs.NewKeyslotFacts.{header_of_same, IsMaking, made_same, making_unrefused, new_refused, none_made, rest_same, unmade_ends}
+use Rattle.luks1_edits.proofs.NewKeyslotFacts.{header_of_same, IsMaking, made_same, making_unrefused, new_refused, none_made, torn_same, unmade_ends}
 use Rattle.luks1_edits.proofs.OpenerFacts.{slots_in, used_or_free}
 use Rattle.luks1_edits.proofs.RowFacts.{unopened_ends}
 use Rattle.luks1_edits.proofs.changing.change.Goals as goal
@@ -119,11 +116,12 @@ returns-in_err-make_keyslot-clause-replies g c = λ tells x.
     let laws : HeaderLaws = record { one = c.one_choice.ensures.only; common = c.luks1_is_first_bytes.ensures.common_faults; faultless = c.luks1_without_faults.ensures.header } in
     let same = c.unlock.ensures.unchanged.same tells in
     let w = g.D.Device.bytes c.make_keyslot.new.device in
-    let rest : SameBut (IsOfKeyslots v (IsEither c.in_ok-n.n c.in_ok-n.n)) v w = rest_same same (c.make_keyslot.ensures.rest tells (header_of_same same x)) in
+    let torn : IsSealedFirst v c.in_ok-n.n c.args.iterations c.args.new.now c.in_ok-key.key c.args.random.now w =
+    torn_same same (c.in_err-make_keyslot.ensures.torn tells (header_of_same same x)) in
     let p = err_from_is_err_and c.from_residual-in_err-make_keyslot.result c.from_residual-in_err-make_keyslot.ensures.1 in
     rw (p.1, p.2)
     (unmade_ends v payload e c.args.random.now accepted c.args.slot c.args.old.now c.in_ok-key.key None c.args.iterations is opened c.in_ok-n.n new c.in_ok-judge_new.ensures.many (c.in_ok-judge_new.ensures.counted v slots key_bytes) laws h w c.in_err-make_keyslot.field-0.0 x
-    (inl (record { slot = c.in_ok-n.n; is = new.is_new; rest = rest })) c.in_err-make_keyslot.ensures.fault)
+    (inl (record { slot = c.in_ok-n.n; is_new = new.is_new; key = c.in_ok-key.key; opened = opened.opened; order = torn })) c.in_err-make_keyslot.ensures.fault)
 
 pub free_keyslot-requires-clause-within : goal.free_keyslot-requires-clause-within
 free_keyslot-requires-clause-within g c =
