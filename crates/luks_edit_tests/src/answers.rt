@@ -4,7 +4,10 @@ use luks_edit::{Done, EditFault};
 use std::alloc::{AllocError, Global};
 
 /// What the program prints of the answer.
-pub fn line_of(alloc: Global, answer: &Result<Done, EditFault>) -> Result<String, AllocError> {
+pub(crate) fn line_of(
+    alloc: Global,
+    answer: &Result<Done, EditFault>,
+) -> Result<String, AllocError> {
     match answer {
         Ok(Done { slot: Some(n) }) => format!(in alloc; "done slot {n}"),
         Ok(_) => String::from_str(alloc, "done"),

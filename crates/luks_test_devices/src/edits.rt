@@ -1,0 +1,56 @@
+//! Short words for edits, so that a table has one in a line; macros, since a table calls no function.
+//! Where one is used, `luks_edit::Edit` has to be at hand.
+
+/// Adds a keyslot: the one that opens, the old passphrase, the new one, the new keyslot's number, and
+/// the iterations where they aren't 1000.
+#[macro_export]
+macro_rules! add {
+    ($by:expr, $old:expr, $new:expr, $to:expr) => {
+        $crate::add!($by, $old, $new, $to, 1000)
+    };
+    ($by:expr, $old:expr, $new:expr, $to:expr, $iterations:expr) => {
+        Edit::Add {
+            by_: $by,
+            old: $old,
+            new: $new,
+            to: $to,
+            iterations: $iterations,
+        }
+    };
+}
+
+/// Changes a passphrase: the keyslot, the old one, the new one, and the iterations where they aren't
+/// 1000.
+#[macro_export]
+macro_rules! change {
+    ($slot:expr, $old:expr, $new:expr) => {
+        $crate::change!($slot, $old, $new, 1000)
+    };
+    ($slot:expr, $old:expr, $new:expr, $iterations:expr) => {
+        Edit::Change {
+            slot: $slot,
+            old: $old,
+            new: $new,
+            iterations: $iterations,
+        }
+    };
+}
+
+/// Removes a keyslot by its passphrase.
+#[macro_export]
+macro_rules! remove {
+    ($slot:expr, $passphrase:expr) => {
+        Edit::Remove {
+            slot: $slot,
+            passphrase: $passphrase,
+        }
+    };
+}
+
+/// Sets a label.
+#[macro_export]
+macro_rules! label {
+    ($text:expr) => {
+        Edit::Label { text: $text }
+    };
+}

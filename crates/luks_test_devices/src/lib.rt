@@ -1,0 +1,20 @@
+//! What the tests of formatting and of edits share: devices, small volumes, sums, taking all memory,
+//! and short words for edits.
+#![tactic(auto)]
+
+mod bytes;
+mod devices;
+mod edits;
+mod luks1_volumes;
+mod luks2_volumes;
+mod memory;
+mod sealed;
+mod sums;
+
+pub use bytes::{leave_behind, part, put};
+pub use devices::{Call, Front, Recording};
+pub use luks1_volumes::small1;
+pub use luks2_volumes::{Fields, TEXT, UUID, copy_of, small2, two_hashes, two_keyslots};
+pub use memory::{BLOCKS, TakenMemory};
+pub use sealed::{VOLUME_KEY, key_area};
+pub use sums::{counted, is_sum};
