@@ -142,6 +142,7 @@ fn open_command<'a>(alloc: Global) -> Result<Command<'a>, AllocError> {
 fn add_command<'a>(alloc: Global) -> Result<Command<'a>, AllocError> {
     Command::new(alloc, "add")
         .about(helps::ADD)
+        .override_usage(helps::ADD_USAGE)
         .after_help(helps::ADD_MORE)
         .arg(volume_argument(alloc))?
         .arg(opened_slot_option(alloc))?
@@ -156,6 +157,7 @@ fn add_command<'a>(alloc: Global) -> Result<Command<'a>, AllocError> {
 fn change_command<'a>(alloc: Global) -> Result<Command<'a>, AllocError> {
     Command::new(alloc, "change")
         .about(helps::CHANGE)
+        .override_usage(helps::CHANGE_USAGE)
         .after_help(helps::CHANGE_MORE)
         .arg(volume_argument(alloc))?
         .arg(opened_slot_option(alloc))?

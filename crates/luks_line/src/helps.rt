@@ -106,6 +106,11 @@ Exit status:
 
 pub(crate) const ADD: &str = "Adds a keyslot for a new passphrase";
 
+/// The usage after `Usage: `, on two lines, since one would have more than 80 columns.
+pub(crate) const ADD_USAGE: &str = "\
+luks add [OPTIONS] --slot <N> --passphrase <FILE> --new <FILE>
+                --random <FILE> <VOLUME>";
+
 pub(crate) const ADD_MORE: &str = "\
 The passphrase opens keyslot --slot. A new keyslot is made, in which the new
 passphrase opens the same volume key: keyslot --to, or the least that is free,
@@ -138,6 +143,11 @@ Exit status:
   4  device fault, no memory, or the output can't be written";
 
 pub(crate) const CHANGE: &str = "Puts a new passphrase in the place of an old one";
+
+/// The usage after `Usage: `, on two lines, since one would have more than 80 columns.
+pub(crate) const CHANGE_USAGE: &str = "\
+luks change [OPTIONS] --slot <N> --passphrase <FILE> --new <FILE>
+                   --random <FILE> <VOLUME>";
 
 pub(crate) const CHANGE_MORE: &str = "\
 The passphrase opens keyslot --slot; then the new one does, and the old no more.
