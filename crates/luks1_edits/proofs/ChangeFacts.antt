@@ -17,13 +17,13 @@ use Rattle.luks1_edits.specs.Edited.{HoldsKey, IsFreed, IsMade, IsRemoved, IsWip
 use Rattle.luks1_edits.specs.Kept.{AreKeyslots, HasSameKeyslot, IsEither}
 use Rattle.luks1_edits.specs.Leftovers.{IsFreedFirst}
 use Rattle.luks1_edits.specs.Places.{area_len, area_start, entry_place, IsOfKeyslot, IsOfKeyslots}
-use Rattle.luks1_edits.specs.Steps.{IsKeyslotAt, IsMadeIn}
+use Rattle.luks1_edits.specs.Steps.{IsKeyslotAt, IsKeyslotMade}
 use Rattle.luks1_edits.proofs.AnswerFacts.{has_plan_moves, same_front}
 use Rattle.luks1_edits.proofs.HeaderFacts.{HeaderLaws, entry_is, front_moves, len_is, number_same, start_is, volume_of}
 use Rattle.luks1_edits.proofs.KeptFacts.{area_apart, common_apart, entry_apart, same_keyslot}
 
 module _ (laws : HeaderLaws) (payload : Data) (v : List ℕ) (chosen : Chosen v luks1) (well : WellFormed v payload)
-    (slot n : ℕ) (slot_lt : slot < 8) (n_lt : n < 8) (other : slot ≡ n → ⊥) (iterations : ℕ) (p key random u : List ℕ) (made : IsMadeIn v n iterations p key random u) where
+    (slot n : ℕ) (slot_lt : slot < 8) (n_lt : n < 8) (other : slot ≡ n → ⊥) (iterations : ℕ) (p key random u : List ℕ) (made : IsKeyslotMade v n iterations p key random u) where
   fit : Fit (Luks1Area (part v 0 592) payload (length v)) (length v)
   fit = (volume_of laws v payload chosen well).fit
 

@@ -25,7 +25,7 @@ use Rattle.luks1_edits.specs.Kept.{AreKeyslots, IsEither}
 use Rattle.luks1_edits.specs.Leftovers.{IsMadeButEntry}
 use Rattle.luks1_edits.specs.Places.{area_len, area_start, entry_place, IsOfKeyslots}
 use Rattle.luks1_edits.specs.Refused.{keyslot_need}
-use Rattle.luks1_edits.specs.Steps.{unsealed, IsMadeIn, IsUnmade}
+use Rattle.luks1_edits.specs.Steps.{unsealed, IsKeyslotMade, IsUnmade}
 use Rattle.luks1_edits.proofs.AnswerFacts.{SameFront, plan_moves}
 use Rattle.luks1_edits.proofs.HeaderFacts.{HeaderLaws, entry_is, header_moves, key_is, volume_of}
 use Rattle.luks1_edits.proofs.KeptFacts.{header_apart, kept_common}
@@ -113,7 +113,7 @@ module _ (h : List ℕ) (n : ℕ) (e : List ℕ) (iterations : ℕ) (salt : List
     -- after both
     pub keyslot_made : (u w passphrase key random : List ℕ) → salt ≡ take 32 random → length key ≡ number_at h 108 4 → length random ≡ keyslot_need h n
         → SameBut (IsAt plan.area.start plan.area.len) v u → IsSealed plan (area_bytes u plan.area) passphrase key (drop 32 random)
-        → SameBut (IsAt (entry_place n) 48) u w → entry w n ≡ e → IsMadeIn v n iterations passphrase key random w
+        → SameBut (IsAt (entry_place n) 48) u w → entry w n ≡ e → IsKeyslotMade v n iterations passphrase key random w
     keyslot_made u w passphrase key random salt_is key_size random_size first sealed second written =
         let rest : SameBut (IsOfKeyslots v (IsEither n n)) v w = entry_touched u w first second in
         let front : part w 0 208 ≡ part v 0 208 = kept_common v payload (volume_of laws v payload of.chosen of.well).fit w (IsEither n n) numbered rest in

@@ -19,7 +19,7 @@ use Rattle.luks1_edits.specs.Edited.{IsNewKeyslot}
 use Rattle.luks1_edits.specs.Leftovers.{IsSealedFirst, IsTorn1}
 use Rattle.luks1_edits.specs.Refused.{HasNoFree, IsLabel, IsLast, IsTaken, IsTakenFor, IsUnrefused1, keyslot_need, LacksFree, Need1, NeedsFor}
 use Rattle.luks1_edits.specs.Replies.{EndsBy1}
-use Rattle.luks1_edits.specs.Steps.{HasRefusedKeyslot, IsMadeIn, IsUnmade}
+use Rattle.luks1_edits.specs.Steps.{HasRefusedKeyslot, IsKeyslotMade, IsUnmade}
 use Rattle.luks1_edits.proofs.AnswerFacts.{SameFront}
 use Rattle.luks1_edits.proofs.EditedFacts.{new_once}
 use Rattle.luks1_edits.proofs.HeaderFacts.{HeaderLaws}
@@ -157,8 +157,8 @@ module _ (v : List ℕ) (payload : Data) (e : Edit) (r : List ℕ) (accepted : (
 pub header_of_same : {h : List ℕ} {payload : Data} {u v : List ℕ} → u ≡ v → IsHeaderOf h payload v → IsHeaderOf h payload u
 header_of_same {h} {payload} {u} {v} same x = subst (λ k. IsHeaderOf h payload k) (sym same) x
 
-pub made_same : {u v w p key random : List ℕ} {n iterations : ℕ} → u ≡ v → IsMadeIn u n iterations p key random w → IsMadeIn v n iterations p key random w
-made_same {u} {v} {w} {p} {key} {random} {n} {iterations} same x = subst (λ k. IsMadeIn k n iterations p key random w) same x
+pub made_same : {u v w p key random : List ℕ} {n iterations : ℕ} → u ≡ v → IsKeyslotMade u n iterations p key random w → IsKeyslotMade v n iterations p key random w
+made_same {u} {v} {w} {p} {key} {random} {n} {iterations} same x = subst (λ k. IsKeyslotMade k n iterations p key random w) same x
 
 pub torn_same : {u v w p key random : List ℕ} {n iterations : ℕ} → u ≡ v → IsSealedFirst u n iterations p key random w → IsSealedFirst v n iterations p key random w
 torn_same {u} {v} {w} {p} {key} {random} {n} {iterations} same x = subst (λ k. IsSealedFirst k n iterations p key random w) same x

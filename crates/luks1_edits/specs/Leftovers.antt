@@ -12,7 +12,7 @@ use Rattle.luks1_edits.specs.Edited.{HoldsKey, IsFreed, IsLeastFree, IsMade, IsN
 use Rattle.luks1_edits.specs.Kept.{IsEither, IsFitFor}
 use Rattle.luks1_edits.specs.Places.{area_len, area_start, entry_place, IsOfKeyslots}
 use Rattle.luks1_edits.specs.Refused.{IsUnrefused1}
-use Rattle.luks1_edits.specs.Steps.{IsMadeIn}
+use Rattle.luks1_edits.specs.Steps.{IsKeyslotMade}
 
 -- the area that the keyslot `n` had keeps its bytes, or its entry was freed before
 abbrev pub IsFreedFirst : List ℕ → ℕ → List ℕ → Type 0
@@ -25,7 +25,7 @@ pub record IsMadeButEntry
     (v : List ℕ) (n iterations : ℕ) (passphrase key random w : List ℕ)
     : Type 0 where
   pub done : List ℕ
-  pub made : IsMadeIn v n iterations passphrase key random done
+  pub made : IsKeyslotMade v n iterations passphrase key random done
   pub rest : SameBut (IsAt (entry_place n) entry_size) done w
 
 -- no byte changed but in the area of the keyslot `n`, or the area holds the key already, and the

@@ -23,7 +23,7 @@ pub record IsKeyslotAt (v : List ℕ) (n : ℕ) (s : Luks1Slot) (a : Area) : Typ
   pub apart : (p : ℕ) → IsAt (entry_place n) entry_size p → IsAt a.start a.len p → ⊥
 
 -- the keyslot `n` was made, in which the passphrase opens the key, and nothing else changed
-pub record IsMadeIn
+pub record IsKeyslotMade
     (v : List ℕ) (n iterations : ℕ) (passphrase key random w : List ℕ)
     : Type 0 where
   pub rest : SameBut (IsOfKeyslots v (IsEither n n)) v w

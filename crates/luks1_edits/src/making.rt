@@ -7,7 +7,7 @@ ghost use Rattle.luks1_edits.specs.Accepted.{IsAcceptedAt, IsHeaderOf};
 ghost use Rattle.luks1_edits.specs.Edited.{IsMade};
 ghost use Rattle.luks1_edits.specs.Leftovers.{IsSealedFirst};
 ghost use Rattle.luks1_edits.specs.Refused.{keyslot_need};
-ghost use Rattle.luks1_edits.specs.Steps.{unsealed, IsMadeIn, IsUnmade};
+ghost use Rattle.luks1_edits.specs.Steps.{unsealed, IsKeyslotMade, IsUnmade};
 
 use crate::accepted::AcceptedHeader;
 use crate::freeing::entry_bytes;
@@ -90,7 +90,7 @@ pub(crate) fn make_keyslot<D: Device>(
     ensures fault { IfErr result (IsUnmade header.now.bytes.now) }
     ensures made { D.tells
         → IsHeaderOf header.now.bytes.now header.now.data_ (D.bytes device.old)
-        → OnOk result (IsMadeIn (D.bytes device.old) n iterations passphrase.now key.now
+        → OnOk result (IsKeyslotMade (D.bytes device.old) n iterations passphrase.now key.now
         random.now (D.bytes device.new)) }
     ensures torn { D.tells
         → IsHeaderOf header.now.bytes.now header.now.data_ (D.bytes device.old)

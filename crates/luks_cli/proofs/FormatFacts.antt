@@ -12,7 +12,7 @@ use Rattle.luks_cli.specs.declared.answers.Status.TheVariants.{Done, Refused, No
 use Rattle.luks_line.specs.declared.request.Making.{Making}
 use Rattle.luks_line.specs.declared.request.NewVersion.{NewVersion}
 use Rattle.luks_cli.specs.Exit.{exit_status}
-use Rattle.luks_cli.specs.Formatting.{IsFormatted, IsMade, IsNewVolume, SaysFormat}
+use Rattle.luks_cli.specs.Formatting.{IsFormatted, IsOfNewVolume, IsNewVolume, SaysFormat}
 
 -- a fault that isn't the device's leaves the same where each fault that stands does
 pub same_by : {D Same : Type 0} (result : Result D FormatFault) (faults : FormatFault → Type 0) → IfErr result (IsAnsweredFault faults)
@@ -52,7 +52,7 @@ pub says_ended : {F : Type 0} (making : Making) (HasWords HasRandom : List ℕ �
     (ended : Result Status F) (status : ℕ) → HasWords passphrase → HasRandom random
     → IfOk ended (λ s. status ≡ exit_status s) → OnErr ended (status ≡ 4)
     → IfOk ended (λ s. s ≡ Done → IsNewVolume making passphrase random old new) → IfOk ended (λ s. s ≡ Refused → new ≡ old)
-    → SameBut (IsMade making.version) old new → SaysFormat making HasWords HasRandom old new status
+    → SameBut (IsOfNewVolume making.version) old new → SaysFormat making HasWords HasRandom old new status
 says_ended making HasWords HasRandom passphrase random old new (Ok Done) status words taken told lost done refused rest = record {
   done = λ is. record { passphrase = passphrase; words = words; random = random; taken = taken; volume = done refl };
   refused = λ is. absurd (omega (arith, told, is));

@@ -20,9 +20,9 @@ needed Luks1 = 256080
 needed Luks2 = 256208
 
 -- the places of the header, or of its two copies, and of keyslot 0's area
-abbrev pub IsMade : NewVersion → ℕ → Type 0
-IsMade Luks1 = IsOfLuks1
-IsMade Luks2 = IsOfLuks2
+abbrev pub IsOfNewVolume : NewVersion → ℕ → Type 0
+IsOfNewVolume Luks1 = IsOfLuks1
+IsOfNewVolume Luks2 = IsOfLuks2
 
 -- `new` is `old` formatted by this version
 abbrev pub IsFormatted : NewVersion → Data → Format → List ℕ → List ℕ → List ℕ → List ℕ → Type 0
@@ -48,7 +48,7 @@ pub record IsDone (making : Making) (HasWords HasRandom : List ℕ → Type 0) (
 pub record SaysFormat (making : Making) (HasWords HasRandom : List ℕ → Type 0) (old new : List ℕ) (status : ℕ) : Type 0 where
   pub done : status ≡ 0 → IsDone making HasWords HasRandom old new
   pub refused : status ≡ 1 → new ≡ old
-  pub rest : SameBut (IsMade making.version) old new
+  pub rest : SameBut (IsOfNewVolume making.version) old new
 
 -- what holds of the command where it is `format`
 abbrev pub WhereFormat : Command → (Making → Type 0) → Type 0

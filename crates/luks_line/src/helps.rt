@@ -38,7 +38,7 @@ material nor payload is read.
 
 Prints one line:
   accepted luks1 areas N  a LUKS1 volume; N counts the header, the eight
-                          keyslots and the payload
+                          keyslots and the payload, unless it is detached
   accepted luks2 COPIES seqid S areas N
                           a LUKS2 volume; S is the sequence number of the copy
                           that counts, and N counts both copies, the keyslots
@@ -66,7 +66,8 @@ the other fields, then a line for each keyslot, and of LUKS2 for each token,
 segment and digest. Texts have each byte outside 0x20 to 0x7E, and the
 backslash, as a backslash and two hexadecimal digits. An empty list is a hyphen.
 Places are in sectors of 512 bytes in LUKS1, in bytes in LUKS2. Or it prints:
-  refused FAULT  the first fault of the header; where areas lie isn't judged
+  refused FAULT  the first fault of the header; whether areas lie inside the
+                 volume and apart isn't judged
   device fault   the volume can't be read
   no memory      memory was refused
 
@@ -186,9 +187,9 @@ pub(crate) const REMOVE: &str = "Removes a keyslot by its own passphrase";
 
 pub(crate) const REMOVE_MORE: &str = "\
 Keyslot --slot, which the passphrase opens, is removed, and its area is
-overwritten with zeros, once. The last keyslot isn't removed. All others stay as
-they are. The passphrase is all bytes of its file, a last line feed too, at most
-65536.
+overwritten with zeros, once. The last keyslot of its key isn't removed. All
+others stay as they are. The passphrase is all bytes of its file, a last line
+feed too, at most 65536.
 
 Written are, with a flush after each: of LUKS1 the keyslot's entry, of LUKS2 the
 copy of the header that doesn't count and the one that does; then the zeros. Of

@@ -4,7 +4,7 @@ ghost use Rattle.std.specs.Result.{ForOk};
 ghost use Rattle.luks_area.specs.Ranges.{SameBut};
 ghost use Rattle.luks_cli.specs.Exit.{IsExitStatus};
 ghost use Rattle.luks_cli.specs.Files.{IsTaken, IsWhole, LeavesVolume};
-ghost use Rattle.luks_cli.specs.Formatting.{IsMade, IsNewVolume, needed, SaysFormat};
+ghost use Rattle.luks_cli.specs.Formatting.{IsOfNewVolume, IsNewVolume, needed, SaysFormat};
 
 use crate::answers::{Status, exit_code, no_memory, refused, unread, write_fault};
 use crate::inputs::Inputs;
@@ -81,7 +81,7 @@ fn format_device<D: Device, W: Write, E: Write>(
     ensures refused { D.tells → IfOk result (λ s. s ≡ Status.Refused
         → D.bytes device.new ≡ D.bytes device.old) }
     ensures kinds { IfOk result (λ s. s ≢ Status.NotInStep) }
-    ensures rest { D.tells → SameBut (IsMade making.now.version)
+    ensures rest { D.tells → SameBut (IsOfNewVolume making.now.version)
         (D.bytes device.old) (D.bytes device.new) }
 {
     match make(alloc, device, making, passphrase, random) {
@@ -108,7 +108,7 @@ fn make<D: Device>(
         passphrase.now random.now (D.bytes device.old) (D.bytes device.new)) }
     ensures refused { D.tells → IfErr result (λ f. f ≢ FormatFault.Device
         → D.bytes device.new ≡ D.bytes device.old) }
-    ensures rest { D.tells → SameBut (IsMade making.now.version)
+    ensures rest { D.tells → SameBut (IsOfNewVolume making.now.version)
         (D.bytes device.old) (D.bytes device.new) }
 {
     let format = &making.format;

@@ -6,7 +6,7 @@ use Rattle.luks_edit.specs.declared.edit.Edit.{Edit}
 use Rattle.luks_edit.specs.declared.edit.Edit.TheVariants.{Add}
 use Rattle.luks1_edits.specs.Accepted.{IsNewFree, IsOpenedBy}
 use Rattle.luks1_edits.specs.Leftovers.{IsSealedFirst}
-use Rattle.luks1_edits.specs.Steps.{IsMadeIn}
+use Rattle.luks1_edits.specs.Steps.{IsKeyslotMade}
 use Rattle.luks1_edits.proofs.HeaderFacts.{HeaderLaws}
 use Rattle.luks1_edits.proofs.KeyslotPlaces.{key_bytes_in}
 use Rattle.luks1_edits.proofs.NewKeyslotFacts.{header_of_same, IsMaking, made_same, making_unrefused, new_refused, none_made, torn_same, unmade_ends}
@@ -146,7 +146,7 @@ returns-clause-replies g c = λ tells x.
     let key_bytes : number_at v 108 4 ≡ c.args.header.now.fields.common.key_bytes = key_bytes_in h c.args.header.now.fields payload v x c.requires.accepted.fields in
     let same = c.unlock.ensures.unchanged.same tells in
     let u = g.D.Device.bytes c.make_keyslot.new.device in
-    let made : IsMadeIn v c.in_ok-n.n c.args.iterations c.args.new.now c.in_ok-key.key c.args.random.now u =
+    let made : IsKeyslotMade v c.in_ok-n.n c.args.iterations c.args.new.now c.in_ok-key.key c.args.random.now u =
     made_same same (c.in_ok-make_keyslot.ensures.made tells (header_of_same same x)) in
     record {
       unrefused = making_unrefused v payload e c.args.random.now accepted c.args.by_ c.args.old.now c.in_ok-key.key c.args.to c.args.iterations is opened c.in_ok-n.n new c.in_ok-judge_new.ensures.many (c.in_ok-judge_new.ensures.counted v slots key_bytes);

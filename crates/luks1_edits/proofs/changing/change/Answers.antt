@@ -7,7 +7,7 @@ use Rattle.luks_edit.specs.declared.edit.Edit.TheVariants.{Change}
 use Rattle.luks1_edits.specs.Accepted.{IsNewFree, IsOpenedBy}
 use Rattle.luks1_edits.specs.Edited.{IsInUse, IsRemoved}
 use Rattle.luks1_edits.specs.Leftovers.{IsHalfRemoved, IsSealedFirst}
-use Rattle.luks1_edits.specs.Steps.{IsMadeIn}
+use Rattle.luks1_edits.specs.Steps.{IsKeyslotMade}
 use Rattle.luks1_edits.proofs.ChangeFacts.{both_rest, freed_after, order_before, still_at, still_holds, still_made, wiped_after}
 use Rattle.luks1_edits.proofs.HeaderFacts.{HeaderLaws}
 use Rattle.luks1_edits.proofs.KeptFacts.{header_inside}
@@ -165,7 +165,7 @@ returns-in-Ok-clause-replies g c = λ tells x.
     let laws : HeaderLaws = record { one = c.one_choice.ensures.only; common = c.luks1_is_first_bytes.ensures.common_faults; faultless = c.luks1_without_faults.ensures.header } in
     let same = c.unlock.ensures.unchanged.same tells in
     let u = g.D.Device.bytes c.make_keyslot.new.device in
-    let made : IsMadeIn v c.in_ok-n.n c.args.iterations c.args.new.now c.in_ok-key.key c.args.random.now u =
+    let made : IsKeyslotMade v c.in_ok-n.n c.args.iterations c.args.new.now c.in_ok-key.key c.args.random.now u =
     made_same same (c.in_ok-make_keyslot.ensures.made tells (header_of_same same x)) in
     let w = g.D.Device.bytes c.free_keyslot.new.device in
     let other : c.args.slot ≡ c.in_ok-n.n → ⊥ = λ one. used_or_free v c.in_ok-n.n (subst (λ k. IsInUse v k) one opened.used) new.free in
@@ -215,7 +215,7 @@ returns-in-Err-clause-replies g c = λ tells x.
     let laws : HeaderLaws = record { one = c.one_choice.ensures.only; common = c.luks1_is_first_bytes.ensures.common_faults; faultless = c.luks1_without_faults.ensures.header } in
     let same = c.unlock.ensures.unchanged.same tells in
     let u = g.D.Device.bytes c.make_keyslot.new.device in
-    let made : IsMadeIn v c.in_ok-n.n c.args.iterations c.args.new.now c.in_ok-key.key c.args.random.now u =
+    let made : IsKeyslotMade v c.in_ok-n.n c.args.iterations c.args.new.now c.in_ok-key.key c.args.random.now u =
     made_same same (c.in_ok-make_keyslot.ensures.made tells (header_of_same same x)) in
     let w = g.D.Device.bytes c.free_keyslot.new.device in
     let other : c.args.slot ≡ c.in_ok-n.n → ⊥ = λ one. used_or_free v c.in_ok-n.n (subst (λ k. IsInUse v k) one opened.used) new.free in
