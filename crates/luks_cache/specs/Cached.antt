@@ -15,9 +15,13 @@ cached_size {D} {ghosts} cached = ghosts.size (device_behind cached)
 abbrev pub cached_bytes : {D : Type 0} {ghosts : Ghosts D} → CachedDevice D ghosts → List ℕ
 cached_bytes {D} {ghosts} cached = ghosts.bytes (device_behind cached)
 
--- how many calls of the device behind have failed
+-- how many writes failed since a byte that is remembered had changed behind
+abbrev pub changes_seen : {D : Type 0} {ghosts : Ghosts D} → CachedDevice D ghosts → ℕ
+changes_seen cached = cached.changes
+
+-- how many calls have failed, those of the device behind among them
 abbrev pub cached_failures : {D : Type 0} {ghosts : Ghosts D} → CachedDevice D ghosts → ℕ
-cached_failures {D} {ghosts} cached = ghosts.failed (device_behind cached)
+cached_failures {D} {ghosts} cached = ghosts.failed (device_behind cached) + changes_seen cached
 
 -- how many bytes are remembered, from the place 0 on
 abbrev pub remembered : {D : Type 0} {ghosts : Ghosts D} → CachedDevice D ghosts → ℕ

@@ -1,39 +1,57 @@
-ghost use Rattle.std.specs.Prelude.{◌≡◌, ◌+◌, ◌^◌, ◌<◌, ◌≤◌, ◌↔◌, IsOk, IsTrue, length, take};
+ghost use Rattle.std.specs.Prelude.{◌≡◌, ◌≢◌, ◌+◌, ◌^◌, ◌<◌, ◌≤◌, ◌↔◌, IsOk, IsTrue, length, take};
 ghost use Rattle.luks_area.specs.Ranges.{part};
 
+use crate::beginning::begins_with;
 use luks_area::{Device, DeviceFault};
 
 /// How many bytes there is room for: both copies of a LUKS2 header of the least size.
 pub const ROOM: usize = 32768;
 
 /// A device over another one that remembers what was read of its first bytes, and reads them from
-/// memory when they are asked for again. A write forgets them.
+/// memory when they are asked for again. Before a write they are read from the device behind once
+/// more and compared; the write forgets them. Where one has changed, since something else wrote it,
+/// nothing is written: the call fails, and is counted.
 ///
 /// It remembers bytes from the place 0 on alone, as many as were read one after the other, and at
-/// most `ROOM`. It takes no memory beside itself. Its calls fail exactly where those of the device
-/// behind do.
+/// most `ROOM`; others aren't compared. It takes no memory beside itself. Over a device that tells
+/// its bytes its calls fail exactly where those of the device behind do.
 #[derive(Drop)]
 pub struct CachedDevice<D: Device> {
     device: D,
     bytes: [u8; ROOM],
     count: usize,
+    changes: u64,
     ghost fits: { count ≤ 32768 },
+    ghost within: { count ≤ D.size device },
+    ghost counted: { D.failed device + changes < 2 ^ 64 },
     ghost same: { D.tells → take count bytes ≡ part (D.bytes device) 0 count },
 }
 
 impl<D: Device> CachedDevice<D> {
-    ghost use Rattle.luks_cache.specs.Cached.{Follows, IsRemembered, device_behind, remembered};
+    ghost use Rattle.luks_cache.specs.Cached.{Follows, IsRemembered, cached_size, changes_seen};
+    ghost use Rattle.luks_cache.specs.Cached.{device_behind, remembered};
 
     /// A device over `device` that remembers nothing yet.
     pub fn new(device: D) -> Self
         ensures device { device_behind result ≡ device }
         ensures nothing { remembered result ≡ 0 }
+        ensures none_seen { changes_seen result ≡ 0 }
     {
+        let _counted = device.failures();
         CachedDevice {
             device,
             bytes: [0; ROOM],
             count: 0,
+            changes: 0,
         }
+    }
+
+    /// Whether a write failed since a byte that is remembered had changed behind it. Nothing was
+    /// written by that call.
+    pub fn has_changed(&self) -> bool
+        ensures { IsTrue result ↔ (changes_seen self.now ≢ 0) }
+    {
+        self.changes != 0
     }
 
     /// Whether the bytes of this range are remembered.
@@ -47,8 +65,10 @@ impl<D: Device> CachedDevice<D> {
     /// Remembers bytes that were read at `at`, where they follow those that are remembered and there
     /// is room for them.
     fn remember(&mut self, at: u64, read: &[u8])
-        requires { D.tells → read.now ≡ part (D.bytes (device_behind self.old)) at (length read.now) }
+        requires within { at + length read.now ≤ cached_size self.old }
+        requires told { D.tells → read.now ≡ part (D.bytes (device_behind self.old)) at (length read.now) }
         ensures device { device_behind self.new ≡ device_behind self.old }
+        ensures changes { changes_seen self.new ≡ changes_seen self.old }
         ensures follows { Follows self.old at (length read.now)
             → IsRemembered self.new at (length read.now) }
     {
@@ -63,8 +83,10 @@ impl<D: Device> CachedDevice<D> {
 impl<D: Device> Device for CachedDevice<D> {
     ghost use Rattle.std.specs.Prelude.{OnOk};
     ghost use Rattle.luks_area.specs.Device.{CountsFailure, IsUnchanged, is_failure};
+    ghost use Rattle.luks_area.specs.Ranges.{written, SameOutside};
     ghost use Rattle.luks_cache.specs.Cached.{Follows, IsRemembered};
     ghost use Rattle.luks_cache.specs.Cached.{cached_bytes, cached_failures, cached_size};
+    ghost use Rattle.luks_cache.specs.Cached.{changes_seen};
 
     ghost tells = { D.tells };
 
@@ -79,7 +101,7 @@ impl<D: Device> Device for CachedDevice<D> {
     }
 
     fn failures(&self) -> u64 {
-        self.device.failures()
+        self.device.failures() + self.changes
     }
 
     fn read_at(&mut self, at: u64, into: &mut [u8]) -> Result<(), DeviceFault>
@@ -88,6 +110,7 @@ impl<D: Device> Device for CachedDevice<D> {
         ensures memory { IsRemembered self.old at (length into.old) → self.new ≡ self.old }
         ensures follows { OnOk result (Follows self.old at (length into.old)
             → IsRemembered self.new at (length into.old)) }
+        ensures changes { changes_seen self.new ≡ changes_seen self.old }
         ensures count { CountsFailure is_failure result
             (cached_failures self.old) (cached_failures self.new) }
         ensures unchanged { IsUnchanged D.tells cached_size cached_bytes self.old self.new }
@@ -104,7 +127,22 @@ impl<D: Device> Device for CachedDevice<D> {
         Ok(())
     }
 
-    fn write_at(&mut self, at: u64, from: &[u8]) -> Result<(), DeviceFault> {
+    fn write_at(&mut self, at: u64, from: &[u8]) -> Result<(), DeviceFault>
+        requires within { at + length from.now ≤ cached_size self.old }
+        requires room { cached_failures self.old + 1 < 2 ^ 64 }
+        ensures still { D.tells → changes_seen self.new ≡ changes_seen self.old }
+        ensures count { CountsFailure is_failure result
+            (cached_failures self.old) (cached_failures self.new) }
+        ensures size { cached_size self.new ≡ cached_size self.old }
+        ensures wrote { D.tells → OnOk result
+            (cached_bytes self.new ≡ written (cached_bytes self.old) at from.now) }
+        ensures outside { D.tells → SameOutside (cached_bytes self.old) (cached_bytes self.new)
+            at (length from.now) }
+    {
+        if !begins_with(&mut self.device, &self.bytes[..self.count])? {
+            self.changes += 1;
+            return Err(DeviceFault);
+        }
         self.count = 0;
         self.device.write_at(at, from)
     }

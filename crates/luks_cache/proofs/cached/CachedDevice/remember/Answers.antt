@@ -12,4 +12,4 @@ invariant_of-self-clause-same g c = λ tells.
     (let fits : cached.count ≤ 32768 = cached.fits in omega (arith, fits))
     c.copy_from_slice.ensures.after
     (cached.same tells)
-    (subst (λ k. read ≡ part v k (length read)) c.if-at-self.true (c.requires tells))
+    (subst (λ k. read ≡ part v k (length read)) c.if-at-self.true (c.requires.told tells))
