@@ -12,12 +12,15 @@ use clap::error::ErrorKind as FaultKind;
 use luks_area::FileDevice;
 use luks_cache::CachedDevice;
 use luks_cli::{InputFault, Inputs, Line, Reason, execute, first_bytes, line};
-use std::fs::{File, OpenOptions};
+use luks_lock::{FOLDER, LockedDevice, OpenFault, open_locked};
+use std::fs::File;
 use std::io::{ErrorKind, Write};
-use std::os::unix::fs::FileTypeExt;
 use std::process::ExitCode;
-use std::rt::{Env, Files};
-use std::{env, fs, io};
+use std::rt::{Clock, Env, Files};
+use std::{env, io};
+
+/// The volume of a command line: its file, measured under its lock, and its first bytes remembered.
+type Volume = CachedDevice<LockedDevice<FileDevice<File>>>;
 
 /// The exit status after a command line that can't be read.
 const USAGE: u8 = 2;
@@ -30,7 +33,9 @@ fn main(rt: HostRuntime) -> ExitCode {
 }
 
 /// Reads the command line and runs it. An error is that of the output.
-fn run<R: AllocGlobal + Env + Files<File = File> + Print + Eprint>(rt: &R) -> io::Result<u8> {
+fn run<R: AllocGlobal + Clock + Env + Files<File = File> + Print + Eprint>(
+    rt: &R,
+) -> io::Result<u8> {
     let Ok(_held) = hold_standard_numbers(rt) else {
         let _ = eprintln!(rt; "luks: the root folder can't be opened");
         return device_fault(rt);
@@ -70,7 +75,7 @@ fn hold_standard_numbers<R: Files<File = File>>(rt: &R) -> io::Result<[File; 3]>
     ])
 }
 
-fn run_line<R: AllocGlobal + Files<File = File> + Print + Eprint>(
+fn run_line<R: AllocGlobal + Clock + Files<File = File> + Print + Eprint>(
     rt: &R,
     line: &Line<'_>,
 ) -> io::Result<u8> {
@@ -86,7 +91,14 @@ fn run_line<R: AllocGlobal + Files<File = File> + Print + Eprint>(
     let mut err = Vec::new(rt.alloc());
     let status = execute(rt.alloc(), line, &mut inputs, &mut out, &mut err);
     let printed = io::writer(rt).write_all(out.as_slice());
-    explain(rt, err.as_slice());
+    if has_changed(&inputs.volume) {
+        let volume = line.volume;
+        let _ = eprintln!(rt;
+            "luks: {volume}: another program wrote it meanwhile, nothing was written"
+        );
+    } else {
+        explain(rt, err.as_slice());
+    }
     printed?;
     Ok(status)
 }
@@ -118,24 +130,35 @@ fn reader(read: &Result<Vec<u8>, InputFault>) -> Result<&[u8], InputFault> {
     }
 }
 
-/// The volume, opened for reading, and for writing where the command writes to it. A file of another
-/// kind, as a folder or a pipe, has no length, and isn't opened at all: opening a pipe would wait for
-/// its writer. Its first bytes are remembered, so that an edit, which looks at the header to know how
-/// many random bytes it takes and then to do it, reads it once.
-fn open_volume<R: Files<File = File>>(
+/// The volume, opened for reading, and for writing where the command writes to it, under its lock;
+/// what of the lock isn't held is said. Its first bytes are remembered, so that an edit, which looks
+/// at the header to know how many random bytes it takes and then to do it, reads it once.
+fn open_volume<R: AllocGlobal + Clock + Files<File = File> + Eprint>(
     rt: &R,
     line: &Line<'_>,
-) -> Result<CachedDevice<FileDevice<File>>, InputFault>
+) -> Result<Volume, InputFault>
     ensures { IfOk result (λ device. cached_failures device ≡ 0) }
 {
-    let path = line.volume;
-    let kind = fs::metadata(rt, path)?.file_type();
-    if !kind.is_file() && !kind.is_block_device() {
-        return Err(InputFault::Unreadable(Reason::NoVolume));
+    let volume = line.volume;
+    match open_locked(rt, volume, line.writes(), FOLDER) {
+        Ok(device) => {
+            for notice in device.lock().notices().iter().flatten() {
+                let _ = eprintln!(rt; "luks: {volume}: {notice}");
+            }
+            Ok(CachedDevice::new(device))
+        }
+        Err(OpenFault::NoVolume) => Err(InputFault::Unreadable(Reason::NoVolume)),
+        Err(OpenFault::Edited) => Err(InputFault::Unreadable(Reason::Edited)),
+        Err(OpenFault::File(error)) => Err(InputFault::from(error)),
     }
-    let mut options = OpenOptions::new();
-    let file = options.read(true).write(line.writes()).open(rt, path)?;
-    Ok(CachedDevice::new(FileDevice::new(file)?))
+}
+
+/// Whether an edit of the volume ended since another program had written its header.
+fn has_changed(volume: &Result<Volume, InputFault>) -> bool {
+    match volume {
+        Ok(device) => device.has_changed(),
+        Err(_) => false,
+    }
 }
 
 /// The file of the random bytes, of any kind, where the command line names one.

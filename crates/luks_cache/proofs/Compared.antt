@@ -10,10 +10,10 @@ compared_on v now b done len held inside before follows =
     let short : done + len - done ≡ len = omega arith in
     let long : length (part b done len) ≡ len = length-part_inside b done len inside in
     let here : part b done len ≡ part v done len =
-        ap (part b done) (sym short) ∙ follows
-        ∙ ap (λ n. part now done (length (part b done n))) short
-        ∙ ap (part now done) long
-        ∙ ap (λ u. part u done len) held in
+    ap (part b done) (sym short) ∙ follows
+    ∙ ap (λ n. part now done (length (part b done n))) short
+    ∙ ap (part now done) long
+    ∙ ap (λ u. part u done len) held in
     part-add b 0 done len
     ∙ ap (λ k. part b 0 done ++ part b k len) (omega arith)
     ∙ ap (λ l. l ++ part b done len) before

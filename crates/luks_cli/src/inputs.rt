@@ -18,6 +18,8 @@ pub enum Reason {
     Busy,
     /// A volume is neither a regular file nor a block device.
     NoVolume,
+    /// A volume that is to be written, whose lock another program holds.
+    Edited,
     /// Anything else, as a disk's failure.
     Other,
 }
@@ -30,6 +32,7 @@ impl fmt::Display for Reason {
             Reason::Folder => "is a folder",
             Reason::Busy => "is in use",
             Reason::NoVolume => "neither a regular file nor a block device",
+            Reason::Edited => "another program is editing it",
             Reason::Other => "can't be opened or read",
         })
     }
