@@ -1,98 +1,84 @@
-"""The crates of this repository, and rooms: folders in which rt works on one crate without waiting for the others.
+"""Runs rt on several crates at once, each in a room: a folder with hard links of the crate and of those beneath it.
 
-rt locks its crate and every crate beneath it, so that of several runs in one tree only one works. A room has hard links of those crates:
-rt writes nothing into what is proved. The crate's own out/ is moved into the room, and back.
+rt locks its crate and every crate beneath it, so that of several runs in one tree only one works. In its room each works by itself: rt
+writes nothing into a crate that is proved, and the crate's own out/ is moved into the room, and back.
 """
 import contextlib
 import fcntl
-import functools
-import hashlib
 import os
+import queue
 import shutil
+import signal
 import subprocess
 import sys
 import tempfile
+import threading
 import time
 
-TOP = os.path.dirname(os.path.dirname(os.path.abspath(__file__)))
-RT = os.environ.get("RT", "rt")
+import crates
+
 GIB = 1 << 30
 # what one check takes at most, with a second processor's share
 MEMORY_OF_A_CHECK = 5 * GIB
 
 
-def lines():
-    """Each crate with its line of crates.txt."""
-    with open(os.path.join(TOP, "crates.txt")) as it:
-        wanted = [line.split("#")[0].strip() for line in it]
-    return {line.split()[0].rstrip(":"): line for line in wanted if ":" in line}
+class Stopped(Exception):
+    """The run was ended before this task."""
 
 
-def libraries():
-    """Each crate with the crates of this repository that its line names."""
-    named = lines()
-    return {crate: [low for low in line.partition(":")[2].split() if low in named] for crate, line in named.items()}
-
-
-def below(uses, top):
-    """The crates that `top` stands on, the lowest first."""
-    found = []
-    for low in uses[top]:
-        found += [it for it in [*below(uses, low), low] if it not in found]
-    return found
-
-
-def above(uses, lows):
-    """These crates and all that stand on one of them."""
-    return {it for it in uses if not set(lows).isdisjoint([it, *below(uses, it)])}
-
-
-def folder(crate, top=TOP):
-    return os.path.join(top, "crates", crate)
-
-
-def out(crate, top=TOP):
-    return os.path.join(folder(crate, top), "out")
-
-
-def files(crate):
-    """The files of a crate, without what rt made."""
-    for at, folders, names in os.walk(folder(crate)):
-        folders[:] = sorted(it for it in folders if it != "out")
-        yield from (os.path.join(at, name) for name in sorted(names))
-
-
-def say(text):
-    print(f"luks: {text}", file=sys.stderr, flush=True)
+def taken(file, is_stopped):
+    """Waits until the lock of the file is ours."""
+    while not is_stopped():
+        with contextlib.suppress(BlockingIOError):
+            return fcntl.flock(file, fcntl.LOCK_EX | fcntl.LOCK_NB)
+        time.sleep(0.2)
+    raise Stopped
 
 
 @contextlib.contextmanager
-def held(crate):
+def held(crate, is_stopped):
     """Keeps other runs of rt out of the crate's folder, by rt's own lock."""
-    it = os.open(folder(crate), os.O_RDONLY)
+    it = os.open(crates.folder(crate), os.O_RDONLY)
     try:
-        fcntl.flock(it, fcntl.LOCK_EX)
+        taken(it, is_stopped)
         yield
     finally:
         os.close(it)
 
 
 @contextlib.contextmanager
-def room(uses, crate, copy=os.link):
-    """A folder with the crate, its out/ and the crates beneath it; its path. The crate's own files are linked, or copied by `copy`."""
-    top = tempfile.mkdtemp(prefix=".room-", dir=TOP)
-    try:
-        lows = below(uses, crate)
-        for low in lows:
-            shutil.copytree(folder(low), folder(low, top), copy_function=os.link, ignore=shutil.ignore_patterns("incremental"))
-        shutil.copytree(folder(crate), folder(crate, top), copy_function=copy, ignore=shutil.ignore_patterns("out"))
-        shutil.copy(os.path.join(TOP, "HANDLES"), top)
-        with open(os.path.join(top, "crates.txt"), "w") as it:
-            it.writelines(f"{lines()[name]}\n" for name in [*lows, crate])
-        with moved(out(crate), out(crate, top)):
+def room(uses, crate):
+    """A folder with the crate, its out/ and the crates beneath it; its path."""
+    with empty_room(uses, crate) as top:
+        linked(crates.folder(crate), crates.folder(crate, top), "out")
+        with moved(crates.out(crate), crates.out(crate, top)):
             yield top
+
+
+@contextlib.contextmanager
+def room_of_copies(uses, crate):
+    """The same, but the crate may be changed in it: its files and its out/ are copies."""
+    with empty_room(uses, crate) as top:
+        shutil.copytree(crates.folder(crate), crates.folder(crate, top))
+        yield top
+
+
+@contextlib.contextmanager
+def empty_room(uses, crate):
+    top, lows = tempfile.mkdtemp(prefix=".room-", dir=crates.TOP), crates.below(uses, crate)
+    try:
+        for low in lows:
+            linked(crates.folder(low), crates.folder(low, top), "incremental")
+        shutil.copy(os.path.join(crates.TOP, "HANDLES"), top)
+        with open(os.path.join(top, "crates.txt"), "w") as it:
+            it.writelines(f"{crates.lines()[name]}\n" for name in [*lows, crate])
+        yield top
     finally:
         removed(top)
+
+
+def linked(there, here, left_out):
+    shutil.copytree(there, here, copy_function=os.link, ignore=shutil.ignore_patterns(left_out))
 
 
 @contextlib.contextmanager
@@ -116,44 +102,151 @@ def removed(top):
         time.sleep(0.1)
 
 
-@functools.cache
-def kit():
-    return subprocess.run([RT, "version"], stdout=subprocess.PIPE, check=True).stdout
+def places():
+    """How many checks the machine holds at once."""
+    with open("/proc/meminfo") as it:
+        free = next(int(line.split()[1]) << 10 for line in it if line.startswith("MemAvailable"))
+    return max(1, min(len(os.sched_getaffinity(0)), free // MEMORY_OF_A_CHECK))
 
 
-def own_sum(crate):
-    """A sum of the crate's files and its line of crates.txt."""
-    total = hashlib.sha256(repr((kit(), lines()[crate])).encode())
-    for file in files(crate):
-        with open(file, "rb") as it:
-            total.update(repr((os.path.relpath(file, folder(crate)), it.read())).encode())
-    return total.hexdigest()
+class Task:
+    """A command of rt on a crate, as `lib` or `test`, with its further words."""
+
+    def __init__(self, verb, crate, words=()):
+        self.verb, self.crate, self.words = verb, crate, words
+        self.status, self.text = 1, ""
+
+    def name(self):
+        return self.crate if self.verb == "lib" else f"{self.crate} ({self.verb})"
 
 
-class Record:
-    """What is known to be proved: in each crate's out/ the sums of what was proved, beside rt's own stamp of what it made."""
+class Runs:
+    """Tasks under way, each in a room. Those that end are put into `ended`."""
 
-    def __init__(self, uses):
-        self.uses, self.own = uses, {}
+    def __init__(self, uses, record):
+        self.uses, self.record, self.ended = uses, record, queue.Queue()
+        self.lock, self.stopped, self.processes, self.threads = threading.Lock(), False, [], []
 
-    def sums(self, crate):
-        for it in [*below(self.uses, crate), crate]:
-            self.own.setdefault(it, own_sum(it))
-        return "\n".join(self.own[it] for it in sorted([*below(self.uses, crate), crate]))
+    def start(self, task, jobs):
+        thread = threading.Thread(target=self.work, args=(task, jobs))
+        self.threads.append(thread)
+        thread.start()
 
-    def text(self, crate):
-        with open(os.path.join(out(crate), "rlib", "stamp")) as it:
-            return f"{self.sums(crate)}\n{it.read()}"
-
-    def has(self, crate):
+    def work(self, task, jobs):
         try:
-            with open(os.path.join(out(crate), "proved")) as it:
-                return it.read() == self.text(crate)
-        except FileNotFoundError:
-            return False
+            with held(task.crate, lambda: self.stopped):
+                self.run_in_room(task, ["--jobs", str(jobs), *task.words])
+        except (Stopped, OSError) as error:
+            task.status, task.text = 1, f"{task.text}{error}\n"
+        finally:
+            self.ended.put(task)
 
-    def add(self, crate):
-        """The crate was proved, if its files are as they were when this record first saw them."""
-        if own_sum(crate) == self.own[crate]:
-            with open(os.path.join(out(crate), "proved"), "w") as it:
-                it.write(self.text(crate))
+    def run_in_room(self, task, words):
+        proves = task.verb == "lib"
+        self.record.sums(task.crate)
+        if proves and self.record.has(task.crate):
+            task.status = 0
+            return
+        with room(self.uses, task.crate) as top:
+            self.run(task, [crates.RT, task.verb, *words], crates.folder(task.crate, top))
+        if proves and task.status == 0:
+            self.record.add(task.crate)
+
+    def run(self, task, words, folder):
+        with self.lock:
+            if self.stopped:
+                raise Stopped
+            process = subprocess.Popen(words, cwd=folder, stdin=subprocess.DEVNULL, stdout=subprocess.PIPE, stderr=subprocess.STDOUT,
+                                       text=True, errors="replace", start_new_session=True)
+            self.processes.append(process)
+        task.text = process.communicate()[0]
+        task.status = process.returncode
+
+    def stop(self):
+        """Ends what runs, and waits until every room is removed."""
+        with self.lock:
+            self.stopped = True
+            for process in self.processes:
+                if process.poll() is None:
+                    os.killpg(process.pid, signal.SIGTERM)
+        for thread in self.threads:
+            thread.join()
+
+
+def size(crate):
+    """What a proof's time goes by: the bytes of the crate's files."""
+    return sum(os.path.getsize(it) for it in crates.files(crate))
+
+
+def chains(uses, names):
+    """Of each crate the sizes of the longest chain of crates that wait for one another, from it upwards."""
+    found = {}
+    for crate in sorted(names, key=lambda it: -len(crates.below(uses, it))):
+        found[crate] = size(crate) + max((found[it] for it in names if crate in uses[it]), default=0)
+    return found
+
+
+class Plan:
+    """The tasks that are left and those that run: the longest chain first, each where what it stands on is proved."""
+
+    def __init__(self, uses, tasks):
+        self.uses, self.longest, self.running = uses, chains(uses, {it.crate for it in tasks}), []
+        self.left = sorted(tasks, key=lambda it: -self.longest[it.crate])
+        self.total, self.places = len(tasks), places()
+
+    def waits(self, task):
+        """Whether a crate beneath is unproved, or a folder in use: a room takes its crate's out/ away from the rooms of those above."""
+        proofs = [it.crate for it in self.left if it.verb == "lib"] + [it.crate for it in self.running]
+        lows = [*crates.below(self.uses, task.crate), *[task.crate] * (task.verb != "lib")]
+        return not set(lows).isdisjoint(proofs) or any(task.crate in crates.below(self.uses, it.crate) for it in self.running)
+
+    def begun(self):
+        """The tasks that start now, each with its jobs: the processors are shared, and the first of the longest chain has a job more."""
+        ready = []
+        for task in list(self.left):
+            if len(self.running) < self.places and not self.waits(task):
+                self.left.remove(task)
+                self.running.append(task)
+                ready.append(task)
+        share = -(-self.places // max(1, len(self.running)))
+        return [(task, share + self.leads(task)) for task in ready]
+
+    def leads(self, task):
+        """Whether the task is of the longest chain of several that run."""
+        return len(self.running) > 1 and task is max(self.running, key=lambda it: self.longest[it.crate])
+
+    def told(self):
+        names = ", ".join(it.name() for it in self.running)
+        return f"at work on {names}; {self.total - len(self.left) - len(self.running)} of {self.total} are done, {len(self.left)} wait"
+
+
+def all_done(uses, tasks, record):
+    """Runs the tasks side by side, and says on standard error which. Whether all ended well; at the first that doesn't the others end."""
+    plan, runs = Plan(uses, tasks), Runs(uses, record)
+    try:
+        while plan.left or plan.running:
+            begun = plan.begun()
+            for task, jobs in begun:
+                runs.start(task, jobs)
+            if begun:
+                crates.say(plan.told())
+            task = runs.ended.get()
+            plan.running.remove(task)
+            if task.status != 0:
+                sys.stderr.write(task.text)
+                crates.say(f"{task.name()} failed")
+                return False
+        return True
+    finally:
+        runs.stop()
+
+
+def ended_by_signals(main):
+    """Runs `main` so that Ctrl-C, a closed terminal and `kill` end it in order, and ends with its status."""
+    def end(number, _):
+        signal.signal(number, signal.SIG_IGN)
+        sys.exit(128 + number)
+
+    for it in (signal.SIGINT, signal.SIGTERM, signal.SIGHUP):
+        signal.signal(it, end)
+    sys.exit(main())
