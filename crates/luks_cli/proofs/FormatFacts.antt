@@ -3,8 +3,8 @@ use Rattle.std.proofs.Common.{◌≡◌, ◌≢◌, ℕ, List, Result, Ok, Err, 
 use Rattle.luks_area.specs.Ranges.{SameBut}
 use Rattle.luks_reading.specs.Answer.{Answer, opens}
 use Rattle.luks_reading.specs.Checked.{WellFormed}
-use Rattle.luks_formatting.specs.declared.format.FormatFault.{FormatFault}
-use Rattle.luks_formatting.specs.declared.format.FormatFault.TheVariants.{TooSmall, Iterations, RandomLength, Memory, Device}
+use Rattle.luks_formatting.specs.declared.format_fault.FormatFault.{FormatFault}
+use Rattle.luks_formatting.specs.declared.format_fault.FormatFault.TheVariants.{TooSmall, Iterations, RandomLength, Memory, Device}
 use Rattle.luks_formatting.specs.FormatFaults.{IsAnsweredFault, IsAnsweredFaultOrMemory}
 use Rattle.luks_formatting.specs.RandomBytes.{volume_key}
 use Rattle.luks_cli.specs.declared.answers.Status.{Status}

@@ -37,7 +37,7 @@ use Rattle.luks_reading.specs.Layout2.{HasExtent, Luks2Area, segment_extent, seg
 use Rattle.luks_reading.specs.Plans.{HasLuks2Plan, IsLuks2Cipher, IsLuks2Derivation, IsLuks2Digest, IsLuks2Plan}
 use Rattle.luks_reading.specs.declared.report.Data.{Data}
 use Rattle.luks_reading.specs.declared.report.Data.TheVariants.{Here}
-use Rattle.luks_formatting.specs.declared.format.Format.{Format}
+use Rattle.luks_terms.specs.declared.format.Format.{Format}
 use Rattle.luks_formatting.specs.NewHeader2.{area2, new_members, segment_start, FitsMetadata, IsNewCipher2}
 use Rattle.luks_formatting.specs.NewPlan.{key_digest, IsNewDerivation, IsNewPlan}
 use Rattle.luks_formatting.specs.RandomBytes.{digest_salt, slot_place2, slot_salt}

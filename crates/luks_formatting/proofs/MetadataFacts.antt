@@ -25,7 +25,7 @@ use Rattle.luks_making.specs.Conditions.{Between, CanFormat, FitsSlot, FitsVolum
 use Rattle.luks_making.specs.Formatted.{VolumeMembers, digest_value, first_slot, formatted, segment_value, sole}
 use Rattle.luks_making.specs.Keyslots.{base64_text, slot_value}
 use Rattle.luks_reading.specs.declared.report.Data.{Data}
-use Rattle.luks_formatting.specs.declared.format.Format.{Format}
+use Rattle.luks_terms.specs.declared.format.Format.{Format}
 use Rattle.luks_formatting.specs.NewHeader2.{new_members}
 use Rattle.luks_formatting.specs.NewPlan.{key_digest}
 use Rattle.luks_formatting.specs.RandomBytes.{digest_salt, slot_place2, slot_salt}

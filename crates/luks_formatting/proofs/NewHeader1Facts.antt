@@ -17,7 +17,7 @@ use Rattle.luks_head.specs.declared.luks1.Luks1Slot.{Luks1Slot}
 use Rattle.luks_reading.specs.Layout1.{Luks1Area}
 use Rattle.luks_reading.specs.declared.report.Data.{Data}
 use Rattle.luks_reading.specs.declared.report.Data.TheVariants.{Here}
-use Rattle.luks_formatting.specs.declared.format.Format.{Format}
+use Rattle.luks_terms.specs.declared.format.Format.{Format}
 use Rattle.luks_formatting.specs.NewHeader1.{free_slot, material_sector, new_slot, payload_sector, IsNewHeader1}
 use Rattle.luks_formatting.specs.RandomBytes.{uuid_bytes}
 use Rattle.luks_formatting.proofs.NewPlanFacts.{name_plain, name_whole}

@@ -17,7 +17,7 @@ use Rattle.luks_slot.specs.declared.plan.Derivation.TheVariants.{Pbkdf2, Argon2}
 use Rattle.luks_slot.specs.declared.plan.SlotPlan.{SlotPlan}
 use Rattle.luks_reading.specs.Plans.{HasLuks1Plan, IsLuks1Cipher, IsLuks1Derivation}
 use Rattle.luks_reading.specs.declared.report.Data.{Data}
-use Rattle.luks_formatting.specs.declared.format.Format.{Format}
+use Rattle.luks_terms.specs.declared.format.Format.{Format}
 use Rattle.luks_formatting.specs.Formatted1.{IsFormatted1, IsOfLuks1}
 use Rattle.luks_formatting.specs.NewHeader1.{area1, IsNewCipher1, IsNewHeader1}
 use Rattle.luks_formatting.specs.NewPlan.{key_digest, IsNewDerivation, IsNewPlan}

@@ -10,7 +10,7 @@ use Rattle.luks_slot.specs.Sealing.{IsSealed}
 use Rattle.luks_slot.specs.declared.plan.SlotPlan.{SlotPlan}
 use Rattle.luks_reading.specs.Plans.{HasLuks2Plan}
 use Rattle.luks_reading.specs.declared.report.Data.{Data}
-use Rattle.luks_formatting.specs.declared.format.Format.{Format}
+use Rattle.luks_terms.specs.declared.format.Format.{Format}
 use Rattle.luks_formatting.specs.Formatted2.{HasNewCopy, IsFormatted2, IsOfLuks2}
 use Rattle.luks_formatting.specs.NewHeader2.{area2, new_members}
 use Rattle.luks_formatting.specs.RandomBytes.{first_copy_salt, random_stripes, second_copy_salt, slot_place2, volume_key}

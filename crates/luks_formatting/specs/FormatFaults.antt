@@ -1,9 +1,9 @@
 -- The faults of formatting, and their order.
 use Rattle.std.specs.Prelude.{◌≡◌, ◌≢◌, ℕ, ◌<◌, ◌≤◌, List, [], ◌∷◌, length, Bool, true, false}
 use Rattle.luks_area.specs.First.{IsLeast}
-use Rattle.luks_formatting.specs.declared.format.Format.{Format}
-use Rattle.luks_formatting.specs.declared.format.FormatFault.{FormatFault}
-use Rattle.luks_formatting.specs.declared.format.FormatFault.TheVariants.{TooSmall, Iterations, RandomLength, Memory, Device}
+use Rattle.luks_terms.specs.declared.format.Format.{Format}
+use Rattle.luks_formatting.specs.declared.format_fault.FormatFault.{FormatFault}
+use Rattle.luks_formatting.specs.declared.format_fault.FormatFault.TheVariants.{TooSmall, Iterations, RandomLength, Memory, Device}
 
 -- the rows of the table of faults, in their order
 abbrev pub format_row : FormatFault → ℕ

@@ -5,7 +5,7 @@ use Rattle.luks_head.specs.Written.{WritesLuks1}
 use Rattle.luks_head.specs.declared.luks1.Luks1.{Luks1}
 use Rattle.luks_reading.specs.declared.report.Data.{Data}
 use Rattle.luks_reading.specs.Plans.{HasLuks1Plan}
-use Rattle.luks_formatting.specs.declared.format.Format.{Format}
+use Rattle.luks_terms.specs.declared.format.Format.{Format}
 use Rattle.luks_formatting.specs.NewHeader1.{IsNewHeader1}
 use Rattle.luks_formatting.specs.NewPlan.{HoldsKey}
 use Rattle.luks_formatting.specs.RandomBytes.{random_stripes, slot_place1, volume_key}

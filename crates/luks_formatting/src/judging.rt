@@ -3,7 +3,8 @@ ghost use Rattle.std.specs.Prelude.{IfErr, OnOk};
 ghost use Rattle.luks_area.specs.First.{IsLeast};
 ghost use Rattle.luks_formatting.specs.FormatFaults.{format_key, HasNoFault, IsFormatFault, IsFormattable};
 
-use crate::format::{Format, FormatFault};
+use crate::format_fault::FormatFault;
+use luks_terms::Format;
 
 /// The least number of iterations of a new keyslot.
 const LEAST_ITERATIONS: u32 = 1000;

@@ -14,7 +14,7 @@ ghost use Rattle.luks_making.specs.Formatted.{formatted};
 ghost use Rattle.luks_reading.specs.Plans.{HasLuks2Plan};
 ghost use Rattle.luks_slot.specs.declared.plan.SlotPlan.{SlotPlan as ThePlan};
 ghost use Rattle.luks_formatting.specs.RandomBytes.{digest_salt, slot_place2, slot_salt, volume_key};
-ghost use Rattle.luks_formatting.specs.declared.format.Format.{Format as TheFormat};
+ghost use Rattle.luks_terms.specs.declared.format.Format.{Format as TheFormat};
 
 use luks_head::{luks1_without_faults, luks2_without_faults, written_copies_are_chosen};
 use luks_json::{decimals_say_numbers, encodings_say_bytes, names_say_numbers, one_value};

@@ -1,7 +1,7 @@
 //! Making a LUKS volume of either version.
 #![tactic(auto)]
 
-mod format;
+mod format_fault;
 mod judging;
 mod laws;
 mod luks1;
@@ -14,7 +14,8 @@ mod plan;
 mod random;
 mod sealing;
 
-pub use format::{Format, FormatFault};
+pub use format_fault::FormatFault;
 pub use laws::{formatted1_opens, formatted2_opens};
+pub use luks_terms::Format;
 pub use luks1::{FORMAT1_RANDOM, format1};
 pub use luks2::{FORMAT2_RANDOM, format2};

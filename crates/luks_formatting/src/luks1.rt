@@ -10,9 +10,9 @@ ghost use Rattle.luks_formatting.specs.NewHeader1.{area1, IsNewCipher1, IsNewHea
 ghost use Rattle.luks_formatting.specs.NewPlan.{key_digest, IsNewPlan, IsSealable};
 ghost use Rattle.luks_formatting.specs.RandomBytes.{digest_salt, slot_place1, slot_salt, volume_key};
 ghost use Rattle.luks_reading.specs.declared.report.Data.{Data as Payload};
-ghost use Rattle.luks_formatting.specs.declared.format.FormatFault.{FormatFault as TheFault};
+ghost use Rattle.luks_formatting.specs.declared.format_fault.FormatFault.{FormatFault as TheFault};
 
-use crate::format::{Format, FormatFault};
+use crate::format_fault::FormatFault;
 use crate::judging::judge;
 use crate::laws::formatted1_opens;
 use crate::luks1_header::{SLOT_SALT, new_header};
@@ -25,6 +25,7 @@ use luks_head::Luks1;
 use luks_reading::Data;
 use luks_slot::{AreaCipher, SlotPlan};
 use luks_steps::write_range;
+use luks_terms::Format;
 
 /// How many random bytes `format1` takes.
 pub const FORMAT1_RANDOM: u64 = 256080;

@@ -3,12 +3,12 @@ ghost use Rattle.std.specs.Prelude.{◌≡◌, ◌≤◌, ◌<◌, ℕ, length, 
 ghost use Rattle.luks_head.specs.declared.luks1.Luks1Slot.{Luks1Slot as TheSlot};
 ghost use Rattle.luks_formatting.specs.NewHeader1.{first_slot, free_slot, material_sector, new_slot, payload_sector, IsNewCommon, IsNewHeader1};
 
-use crate::format::Format;
 use crate::new_uuid::{text, uuid_text};
 use crate::plan::put_key_digest;
 use crate::random::{DIGEST_SALT, STRIPES, UUID, taken_array};
 use luks_head::{Luks1, Luks1Common, Luks1Slot, SlotState};
 use luks_reading::Data;
+use luks_terms::Format;
 
 /// Where the salt of keyslot 0 stands among the random bytes.
 pub(crate) const SLOT_SALT: usize = 112;

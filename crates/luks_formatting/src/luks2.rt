@@ -12,10 +12,10 @@ ghost use Rattle.luks_formatting.specs.Formatted2.{IsFormatted2, IsOfLuks2};
 ghost use Rattle.luks_formatting.specs.NewHeader2.{area2, copy_size, json_size, new_members, FitsMetadata, IsNewCipher2};
 ghost use Rattle.luks_formatting.specs.NewPlan.{key_digest, IsNewPlan, IsSealable};
 ghost use Rattle.luks_formatting.specs.RandomBytes.{digest_salt, slot_place2, slot_salt, volume_key};
-ghost use Rattle.luks_formatting.specs.declared.format.FormatFault.{FormatFault as TheFault};
+ghost use Rattle.luks_formatting.specs.declared.format_fault.FormatFault.{FormatFault as TheFault};
 ghost use Rattle.luks_reading.specs.declared.report.Data.{Data as Payload};
 
-use crate::format::{Format, FormatFault};
+use crate::format_fault::FormatFault;
 use crate::judging::judge;
 use crate::laws::{formatted2_opens, new_keyslot_has_plan};
 use crate::luks2_header::{COPY_SIZE, FIRST_SALT, SECOND_SALT, SLOT_SALT, write_copy};
@@ -27,6 +27,7 @@ use luks_area::{Area, Device, DeviceFault};
 use luks_edit::Done;
 use luks_reading::Data;
 use luks_slot::{AreaCipher, SlotPlan};
+use luks_terms::Format;
 use std::alloc::Global;
 
 /// How many random bytes `format2` takes.

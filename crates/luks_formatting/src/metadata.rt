@@ -6,11 +6,11 @@ ghost use Rattle.luks_making.specs.WrittenArea.{IsWrittenArea};
 ghost use Rattle.luks_formatting.specs.NewHeader2.{json_size, new_members, segment_start, FitsMetadata};
 ghost use Rattle.luks_formatting.specs.NewPlan.{key_digest};
 
-use crate::format::Format;
 use crate::luks2_header::{JSON_SIZE, SLOT_SALT};
 use crate::random::{DIGEST_SALT, SALT_BYTES, taken};
 use luks_making::{NewVolume, formatted, new_volume_is_accepted, volume_fits, written_area};
 use luks_reading::Data;
+use luks_terms::Format;
 use std::alloc::{AllocError, Global};
 
 /// The JSON area of both copies of the header, with this digest of the volume key.

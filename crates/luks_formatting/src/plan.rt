@@ -3,10 +3,10 @@ ghost use Rattle.std.specs.Prelude.{◌≡◌, ◌≤◌, length};
 ghost use Rattle.luks_slot.specs.Opening.{HasIterations};
 ghost use Rattle.luks_formatting.specs.NewPlan.{key_digest, IsNewPlan};
 
-use crate::format::Format;
 use crate::random::{DIGEST_SALT, KEY, KEY_BYTES, SALT_BYTES, STRIPES, taken};
 use luks_area::Area;
 use luks_slot::{AreaCipher, Derivation, DigestPlan, SlotPlan};
+use luks_terms::Format;
 
 /// The plan of a keyslot with this salt and area, and of a digest with that salt that stores these
 /// bytes.

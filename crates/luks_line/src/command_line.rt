@@ -3,9 +3,9 @@ use crate::request::{Command as Asked, EditRequest, Editing, Line, Making, NewVe
 use clap::builder::ValueParser;
 use clap::error::ErrorKind;
 use clap::{Arg, ArgAction, ArgMatches, Command, Error};
-use luks_formatting::Format;
 use luks_kdf::HashName;
 use luks_reading::Data;
+use luks_terms::Format;
 use std::alloc::{AllocError, Global};
 
 /// Reads a command line, of which the first word is the program's name.

@@ -1,8 +1,8 @@
 ghost use Rattle.std.specs.Prelude.{◌≡◌, option_map};
 ghost use Rattle.luks_line.specs.Named.{edit_new_of, edit_passphrase_of, is_writer, new_of, passphrase_of, random_of};
 
-use luks_formatting::Format;
 use luks_reading::Data;
+use luks_terms::Format;
 
 /// What a command line asks for. Its files are named as the command line names them.
 #[derive(Debug, Clone, Copy, PartialEq, Eq)]

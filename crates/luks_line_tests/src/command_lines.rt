@@ -1,8 +1,8 @@
 //! Which command a command line asks for.
-use luks_formatting::Format;
 use luks_kdf::HashName;
 use luks_line::{Command, EditRequest, Editing, Line, Making, NewVersion, line};
 use luks_reading::Data;
+use luks_terms::Format;
 use std::alloc::{AllocError, Global};
 use std::test::Fail;
 

@@ -1,17 +1,5 @@
-//! How a volume is made, and why one isn't.
-
 use luks_area::DeviceFault;
-use luks_kdf::HashName;
 use thiserror::Error;
-
-/// How a new volume is made; all else is fixed.
-#[derive(Clone, Copy, Debug, PartialEq, Eq)]
-pub struct Format {
-    /// The hash of the derivation, the splitter and the digest.
-    pub hash: HashName,
-    /// The iterations of the derivation and of the digest, at least 1000.
-    pub iterations: u32,
-}
 
 /// Why a volume isn't made: the first in this order, but for want of memory and the device's
 /// failure.
@@ -38,7 +26,7 @@ pub enum FormatFault {
 
 impl From<DeviceFault> for FormatFault {
     ghost use Rattle.std.specs.Prelude.{◌≡◌};
-    ghost use Rattle.luks_formatting.specs.declared.format.FormatFault.{FormatFault};
+    ghost use Rattle.luks_formatting.specs.declared.format_fault.FormatFault.{FormatFault};
 
     ghost from_gives = { λ _ fault. fault ≡ FormatFault.Device };
 

@@ -1,0 +1,97 @@
+"""The crates of this repository: what each stands on, its files, and the record of what is proved."""
+import functools
+import hashlib
+import os
+import subprocess
+import sys
+
+TOP = os.path.dirname(os.path.dirname(os.path.abspath(__file__)))
+RT = os.environ.get("RT", "rt")
+
+
+def lines():
+    """Each crate with its line of crates.txt."""
+    with open(os.path.join(TOP, "crates.txt")) as it:
+        wanted = [line.split("#")[0].strip() for line in it]
+    return {line.split()[0].rstrip(":"): line for line in wanted if ":" in line}
+
+
+def libraries():
+    """Each crate with the crates of this repository that its line names."""
+    named = lines()
+    return {crate: [low for low in line.partition(":")[2].split() if low in named] for crate, line in named.items()}
+
+
+def below(uses, top):
+    """The crates that `top` stands on, the lowest first."""
+    found = []
+    for low in uses[top]:
+        found += [it for it in [*below(uses, low), low] if it not in found]
+    return found
+
+
+def above(uses, lows):
+    """These crates and all that stand on one of them."""
+    return {it for it in uses if not set(lows).isdisjoint([it, *below(uses, it)])}
+
+
+def folder(crate, top=TOP):
+    return os.path.join(top, "crates", crate)
+
+
+def out(crate, top=TOP):
+    return os.path.join(folder(crate, top), "out")
+
+
+def files(crate):
+    """The files of a crate, without what rt made."""
+    for at, folders, names in os.walk(folder(crate)):
+        folders[:] = sorted(it for it in folders if it != "out")
+        yield from (os.path.join(at, name) for name in sorted(names))
+
+
+def say(text):
+    print(f"luks: {text}", file=sys.stderr, flush=True)
+
+
+@functools.cache
+def kit():
+    return subprocess.run([RT, "version"], stdout=subprocess.PIPE, check=True).stdout
+
+
+def own_sum(crate):
+    """A sum of the crate's files and its line of crates.txt."""
+    total = hashlib.sha256(repr((kit(), lines()[crate])).encode())
+    for file in files(crate):
+        with open(file, "rb") as it:
+            total.update(repr((os.path.relpath(file, folder(crate)), it.read())).encode())
+    return total.hexdigest()
+
+
+class Record:
+    """What is known to be proved: in each crate's out/ the sums of what was proved, beside rt's own stamp of what it made."""
+
+    def __init__(self, uses):
+        self.uses, self.own = uses, {}
+
+    def sums(self, crate):
+        for it in [*below(self.uses, crate), crate]:
+            self.own.setdefault(it, own_sum(it))
+        return "\n".join(self.own[it] for it in sorted([*below(self.uses, crate), crate]))
+
+    def text(self, crate):
+        with open(os.path.join(out(crate), "rlib", "stamp")) as it:
+            return f"{self.sums(crate)}\n{it.read()}"
+
+    def has(self, crate):
+        try:
+            with open(os.path.join(out(crate), "proved")) as it:
+                return it.read() == self.text(crate)
+        except FileNotFoundError:
+            return False
+
+    def add(self, crate):
+        """The crate was proved, if its files are as they were when this record first saw them."""
+        if own_sum(crate) == self.own[crate]:
+            with open(os.path.join(out(crate), "proved"), "w") as it:
+                it.write(self.text(crate))
