@@ -4,9 +4,7 @@ ghost use Rattle.luks_area.specs.First.{IsLeast};
 ghost use Rattle.luks_formatting.specs.FormatFaults.{format_key, HasNoFault, IsFormatFault, IsFormattable};
 
 use crate::format::{Format, FormatFault};
-
-/// The least number of iterations of a new keyslot.
-const LEAST_ITERATIONS: u32 = 1000;
+use luks_edit::LEAST_ITERATIONS;
 
 /// The first fault of formatting a volume of `total` bytes, where `least` bytes and `needed` random
 /// ones are wanted.
