@@ -6,7 +6,7 @@ ghost use Rattle.luks1_edits.specs.Accepted.{HasOther, IsNewFault, IsNewFree, Is
 ghost use Rattle.luks1_edits.specs.Edited.{IsFree, IsInUse, IsLeastFree};
 ghost use Rattle.luks1_edits.specs.Refused.{keyslot_need};
 
-use luks_edit::EditFault;
+use luks_edit::{EditFault, LEAST_ITERATIONS};
 use luks_head::{Luks1, SlotState};
 
 /// Whether the keyslot is in use.
@@ -107,7 +107,7 @@ pub(crate) fn judge_new(
         → key_bytes_of v ≡ header.now.common.key_bytes
         → IfErr result (IsNewRefused v n iterations random.now) }
 {
-    if iterations < 1000 {
+    if iterations < LEAST_ITERATIONS {
         return Err(EditFault::Iterations);
     }
     if random.len() as u64 != keyslot_need(header, n) {

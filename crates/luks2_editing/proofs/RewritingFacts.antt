@@ -1,20 +1,20 @@
 -- Both copies of a LUKS2 header, written anew one after the other.
-use Rattle.std.proofs.Common.{◌≡◌, ◌≢◌, ℕ, ◌+◌, ◌-◌, ◌*◌, ◌≤◌, ◌⊎◌, List, ◌++◌, length, get_or, Bool, true, false, inl, inr, arith, refl, sym, ap, ◌∙◌, subst}
+use Rattle.std.proofs.Common.{◌≡◌, ◌≢◌, ℕ, ◌+◌, ◌-◌, ◌*◌, ◌≤◌, ◌⊎◌, List, length, get_or, Bool, true, false, inl, inr, arith, refl, sym, ap, ◌∙◌, subst}
 use Rattle.std.specs.Prelude.{◌==◌, if◌then◌else◌}
 use Rattle.std.proofs.lemmas.Bool.{eqb-true, eqb-false}
 use Rattle.std.proofs.lemmas.List.{get_or-drop, get_or-replicate}
 use Rattle.serde_json.specs.Data.{Data as Value}
-use Rattle.sha2.specs.Sha256.{sha256}
 use Rattle.luks_area.specs.Ranges.{part, IsAt, SameBut}
 use Rattle.luks_area.specs.RangeFacts.{get_or-part, part-same_but_at, same_but-then, same_but-wider}
-use Rattle.luks_head.specs.Header2.{header_at, hdr_size, with_zero_checksum, IsSound}
-use Rattle.luks_head.specs.Written.{AreZeros, IsWrittenCopy, WritesBin2}
+use Rattle.luks_head.specs.Header2.{header_at, hdr_size, IsSound}
+use Rattle.luks_head.specs.Written.{AreZeros, IsWrittenCopy}
 use Rattle.luks_head.specs.declared.bin2.Bin2.{Bin2}
 use Rattle.luks_making.specs.WrittenArea.{IsWrittenArea}
 use Rattle.luks_reading.specs.Header.{json_at}
 use Rattle.luks_edit.specs.declared.edit.Edit.{Edit}
 use Rattle.luks2_edits.specs.Copies.{copy_salt, other_place, IsWrittenAnew}
 use Rattle.luks2_edits.specs.Places.{IsOfCopies}
+use Rattle.luks2_copy.proofs.CopyFacts.{copy_stays as written_stays}
 use Rattle.luks2_editing.specs.NewCopy.{HasNewCopy, IsCopyPlace}
 use Rattle.luks2_editing.specs.Rewriting.{AreWrittenAnew, IsRenewing, IsRewriting, MayBeHalfWritten}
 
@@ -69,19 +69,7 @@ pub copy_stays : (old : Bin2) (label salt json v w : List ℕ) (at : ℕ) → le
 copy_stays old label salt json v w at long head area x = record {
   header = x.header;
   fields = x.fields;
-  written = record {
-    header = subst (λ (b : List ℕ). WritesBin2 b x.header) (sym head) x.written.header;
-    area = area ∙ x.written.area;
-    size = x.written.size;
-    inside = (let within = x.written.inside in omega (arith, within, long));
-    listed = x.written.listed;
-    second = x.written.second;
-    magic = x.written.magic;
-    version = x.written.version;
-    hdr_offset = x.written.hdr_offset;
-    csum_alg = x.written.csum_alg;
-    csum = x.written.csum ∙ ap (λ b. sha256 (with_zero_checksum (b ++ json))) (sym head);
-  };
+  written = written_stays v w json at x.header long head area x.written;
 }
 
 -- and so beside a range that was written

@@ -1,8 +1,8 @@
 //! The steps that write copies of a LUKS2 header.
 ghost use Rattle.std.specs.Prelude.{◌≡◌, ◌+◌, ◌*◌, ◌^◌, ◌<◌, ◌≤◌, ℕ, List, length, OnOk};
 ghost use Rattle.luks_area.specs.Device.{CountsFailure, is_failure};
-ghost use Rattle.luks_area.specs.Ranges.{part, IsAt, SameBut};
-ghost use Rattle.luks_head.specs.Header2.{binary_header_size, header_at};
+ghost use Rattle.luks_area.specs.Ranges.{IsAt, SameBut};
+ghost use Rattle.luks_head.specs.Header2.{binary_header_size};
 ghost use Rattle.serde_json.specs.Data.{Data as Value};
 ghost use Rattle.luks_edit.specs.declared.edit.Edit.{Edit as TheEdit};
 ghost use Rattle.luks2_edits.specs.Copies.{other_place};
@@ -14,6 +14,7 @@ use crate::new_copy::new_header;
 use crate::random::copy_salt;
 use luks_area::{Device, DeviceFault};
 use luks_head::{Bin2, written_copies_are_chosen};
+use luks2_copy::write_copy;
 
 /// Writes both copies anew from the chosen one's binary header, each with a flush: the other one
 /// first, then the chosen one. Of the random bytes the first 128 are taken.
@@ -44,9 +45,9 @@ pub(crate) fn write_copies<D: Device>(
 {
     written_copies_are_chosen();
     let other = other_place(chosen);
-    write_copy(device, chosen, other, label, copy_salt(random, other), json)?;
+    write_new_copy(device, chosen, other, label, copy_salt(random, other), json)?;
     let place = chosen.hdr_offset;
-    write_copy(device, chosen, place, label, copy_salt(random, place), json)?;
+    write_new_copy(device, chosen, place, label, copy_salt(random, place), json)?;
     Ok(())
 }
 
@@ -63,7 +64,7 @@ fn other_place(chosen: &Bin2) -> u64
 
 /// Writes the copy at the place `at` that takes the place of the copy of `old`, and flushes. Also
 /// where the device fails no byte outside the copy changes.
-fn write_copy<D: Device>(
+fn write_new_copy<D: Device>(
     device: &mut D,
     old: &Bin2,
     at: u64,
@@ -82,34 +83,6 @@ fn write_copy<D: Device>(
     ensures rest { D.tells
         → SameBut (IsAt at old.now.hdr_size) (D.bytes device.old) (D.bytes device.new) }
 {
-    written_copies_are_chosen();
-    let header = new_header(old, at, label, salt, json);
-    let head = header.write();
-    write_both(device, at, &head, json)?;
-    Ok(())
-}
-
-/// Writes the binary header and the JSON area behind it, and flushes.
-fn write_both<D: Device>(
-    device: &mut D,
-    at: u64,
-    head: &[u8],
-    json: &[u8],
-) -> Result<(), DeviceFault>
-    requires head { length head.now ≡ binary_header_size }
-    requires within { at + (binary_header_size + length json.now) ≤ D.size device.old }
-    requires room { D.failed device.old + 1 < 2 ^ 64 }
-    ensures count { CountsFailure is_failure result (D.failed device.old) (D.failed device.new) }
-    ensures size { D.size device.new ≡ D.size device.old }
-    ensures head { D.tells → OnOk result (header_at (D.bytes device.new) at ≡ head.now) }
-    ensures area { D.tells → OnOk result
-        (part (D.bytes device.new) (at + binary_header_size) (length json.now) ≡ json.now) }
-    ensures rest { D.tells
-        → SameBut (IsAt at (binary_header_size + length json.now))
-        (D.bytes device.old) (D.bytes device.new) }
-{
-    device.write_at(at, head)?;
-    device.write_at(at + 4096, json)?;
-    device.flush()?;
-    Ok(())
+    let header = new_header(old, at, label, salt);
+    write_copy(device, &header, json)
 }

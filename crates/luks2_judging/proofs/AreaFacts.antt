@@ -1,13 +1,11 @@
 -- The areas of a volume that was accepted.
-use Rattle.std.proofs.Common.{Option, ◌≡◌, ℕ, ◌+◌, ◌-◌, ◌≤◌, List, length, refl, ◌∙◌, subst, arith, nat_le, Result, Ok, Err, IsOk, IfErr, Bool, true, inl, inr}
+use Rattle.std.proofs.Common.{Option, ◌≡◌, ℕ, ◌+◌, ◌-◌, ◌≤◌, List, length, refl, ◌∙◌, subst, arith, nat_le, Bool, true, inl, inr}
 use Rattle.std.specs.Prelude.{◌==◌, [], ◌∷◌}
 use Rattle.std.specs.List.{list_all}
 use Rattle.std.proofs.lemmas.Bool.{and_parts, eqb-true, false≢true, leb-true, or_cases}
 use Rattle.luks_area.specs.declared.area.Area.{Area}
 use Rattle.luks_area.specs.declared.area.AreaName.{AreaName}
 use Rattle.luks_area.specs.declared.areas.Entry.{Entry}
-use Rattle.luks_area.specs.Area.{Fit, IsInside}
-use Rattle.luks_area.specs.Names.{HasArea}
 use Rattle.luks_area.specs.RangeFacts.{length-part_inside}
 use Rattle.luks_head.specs.declared.selection.Copies.{Copies}
 use Rattle.luks_head.specs.Header2.{hdr_size, header_at, IsSound}
@@ -24,18 +22,6 @@ use Rattle.luks_edit.specs.declared.edit.Edit.{Edit}
 use Rattle.luks2_edits.specs.Refused.{HasNoRoom}
 use Rattle.luks2_judging.specs.Room.{IsRoomFor}
 use Rattle.luks2_judging.proofs.ChosenFacts.{ReadingLaws}
-
--- an answer isn't a fault
-pub not_err : {T E : Type 0} (r : Result T E) (P : E → Type 0) → IsOk r → IfErr r P
-not_err (Ok x) P is = tt
-not_err (Err f) P is = absurd (false≢true is)
-
--- a list of the areas of a set fits as the set does
-pub listed_fit : (entries : List Entry) (areas : AreaName → Area → Type 0) (total size : ℕ) → Lists entries areas → size ≡ total → Fit areas size → Fit (HasArea entries) total
-listed_fit entries areas total size lists same x = record {
-  inside = λ n a there. subst (λ (k : ℕ). IsInside a k) same (x.inside n a (lists.only n a there));
-  disjoint = λ m n a b one two apart. x.disjoint m n a b (lists.only m a one) (lists.only n b two) apart;
-}
 
 -- ---- a header's size
 

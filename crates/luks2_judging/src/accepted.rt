@@ -1,8 +1,8 @@
 //! The copy that counts of a LUKS2 volume that is accepted, and its areas.
-ghost use Rattle.std.specs.Prelude.{◌≡◌, ◌≢◌, ℕ, List, false, length, IfErr, IfOk, IsOk, OnOk};
+ghost use Rattle.std.specs.Prelude.{◌≡◌, ◌≢◌, ℕ, List, false, length, IfErr, IfOk, OnOk};
 ghost use Rattle.luks_area.specs.declared.area.Area.{Area as TheArea};
 ghost use Rattle.luks_area.specs.declared.area.AreaName.{AreaName};
-ghost use Rattle.luks_area.specs.Area.{Fit, IsInside};
+ghost use Rattle.luks_area.specs.Area.{IsInside};
 ghost use Rattle.luks_area.specs.Names.{HasArea};
 ghost use Rattle.luks_edit.specs.EditFaults.{is_edit_failure};
 ghost use Rattle.luks_reading.specs.Checked.{AreaOf, WellFormed};
@@ -11,9 +11,9 @@ ghost use Rattle.luks_reading.specs.Listing.{Lists};
 ghost use Rattle.luks_reading.specs.declared.header.Header.TheVariants.{Luks2 as OfLuks2};
 ghost use Rattle.luks2_judging.specs.Header.{IsOfLuks2, IsUnaccepted};
 
-use luks_area::{Areas, fit};
+use luks_area::Areas;
 use luks_edit::EditFault;
-use luks_reading::{CheckFault, ChosenCopy, Data, Header, check_header, well_formed_volume};
+use luks_reading::{ChosenCopy, Data, Header, check_header};
 
 /// The copy that counts of a volume of `total` bytes, or why the volume isn't accepted.
 pub(crate) fn accepted_copy(
@@ -51,25 +51,9 @@ pub(crate) fn accepted_areas(header: &Header, data_: Data, total: u64) -> Result
     ensures refused { (v : List ℕ) → IsHeader v header.now → length v ≡ total
         → IfErr result (IsUnaccepted v data_) }
 {
-    well_formed_volume();
     match check_header(header, data_, total) {
-        Ok(report) => fitting_areas(report.areas, total),
+        Ok(report) => Ok(report.areas),
         Err(fault) => Err(EditFault::NotAccepted(fault)),
-    }
-}
-
-/// The areas, which fit into a volume of `total` bytes where they are those of an accepted one.
-fn fitting_areas(areas: Areas, total: u64) -> Result<Areas, EditFault>
-    ensures same { IfOk result (λ found. found ≡ areas) }
-    ensures inside { IfOk result (λ found. (m : AreaName) (a : TheArea) → HasArea found m a
-        → IsInside a total) }
-    ensures own { IfErr result (λ f. is_edit_failure f ≡ false) }
-    ensures memory { IfErr result (λ f. f ≢ EditFault.Memory) }
-    ensures only { Fit (HasArea areas) total → IsOk result }
-{
-    match fit(&areas, total) {
-        Ok(()) => Ok(areas),
-        Err(fault) => Err(EditFault::NotAccepted(CheckFault::Area(fault))),
     }
 }
 

@@ -1,18 +1,13 @@
 //! Judging an edit by the rows that name no keyslot to open or to make.
-ghost use Rattle.std.specs.Prelude.{◌≡◌, ◌+◌, ◌<◌, ◌^◌, false, IsTrue};
+ghost use Rattle.std.specs.Prelude.{◌≡◌, ◌<◌, false, IsTrue};
 ghost use Rattle.luks_edit.specs.Asked.{HasFewIterations};
 ghost use Rattle.luks_making.specs.Naming.{IsDigestOf};
 ghost use Rattle.luks_meta.specs.Content.{content};
-ghost use Rattle.luks2_edits.specs.Refused.{IsAbsent, IsLast, IsMiscounted, IsOnlyOne};
+ghost use Rattle.luks2_edits.specs.Refused.{IsLast, IsOnlyOne};
 ghost use Rattle.luks2_judging.specs.Judged.{IsOnlyName, Judges};
 
-use crate::needing::need;
-use luks_edit::{Edit, EditFault};
-use luks_head::Bin2;
+use luks_edit::{Edit, EditFault, LEAST_ITERATIONS};
 use luks_meta::Meta;
-
-/// The least iterations of a new keyslot.
-const LEAST_ITERATIONS: u32 = 1000;
 
 /// Whether another keyslot gives the key of the one to remove. Refused by `LastSlot`.
 pub(crate) fn judge_last(meta: &Meta, edit: &Edit<'_>) -> Result<(), EditFault>
@@ -113,28 +108,6 @@ fn enough(iterations: u32) -> Result<(), EditFault>
 {
     if iterations < LEAST_ITERATIONS {
         return Err(EditFault::Iterations);
-    }
-    Ok(())
-}
-
-/// Whether there is a higher sequence number. Refused by `SeqExhausted`.
-pub(crate) fn judge_number_of_copy(header: &Bin2) -> Result<(), EditFault>
-    ensures { Judges (header.now.seqid + 1 ≡ 2 ^ 64) EditFault.SeqExhausted result }
-{
-    if header.seqid == u64::MAX {
-        return Err(EditFault::SeqExhausted);
-    }
-    Ok(())
-}
-
-/// Whether the random bytes are as many as the edit takes. Refused by `RandomLength`.
-pub(crate) fn judge_random(meta: &Meta, edit: &Edit<'_>, random: &[u8]) -> Result<(), EditFault>
-    ensures { (IsAbsent (content meta.now) edit.now → ⊥)
-        → Judges (IsMiscounted (content meta.now) edit.now random.now)
-        EditFault.RandomLength result }
-{
-    if random.len() as u64 != need(meta, edit) {
-        return Err(EditFault::RandomLength);
     }
     Ok(())
 }

@@ -1,5 +1,8 @@
 //! The edits of a volume.
 
+/// The least iterations of a keyslot that is made.
+pub const LEAST_ITERATIONS: u32 = 1000;
+
 /// An edit of a volume's keyslots, header or label.
 ///
 /// The keyslot that an edit names as `by_` or `slot` is the one that its old passphrase has to open.

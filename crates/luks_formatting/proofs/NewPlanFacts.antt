@@ -1,5 +1,5 @@
 -- The plan of keyslot 0 of a new volume: it isn't refused, and the volume key meets its digest.
-use Rattle.std.proofs.Common.{◌≡◌, ◌≤◌, ℕ, List, length, true, false, Some, None, bytes_eq, refl, sym, ap, subst}
+use Rattle.std.proofs.Common.{◌≡◌, ◌≤◌, ℕ, List, length, true, false, None, bytes_eq, refl, sym, ap, subst}
 use Rattle.std.proofs.lemmas.Slice.Eq.{bytes_eq-Decides}
 use Rattle.luks_area.specs.Text.{is_plain, text_of}
 use Rattle.luks_area.specs.declared.area.Area.{Area}

@@ -4,10 +4,8 @@ ghost use Rattle.luks_area.specs.First.{IsLeast};
 ghost use Rattle.luks_formatting.specs.FormatFaults.{format_key, HasNoFault, IsFormatFault, IsFormattable};
 
 use crate::format_fault::FormatFault;
+use luks_edit::LEAST_ITERATIONS;
 use luks_terms::Format;
-
-/// The least number of iterations of a new keyslot.
-const LEAST_ITERATIONS: u32 = 1000;
 
 /// The first fault of formatting a volume of `total` bytes, where `least` bytes and `needed` random
 /// ones are wanted.

@@ -18,7 +18,7 @@ ghost use Rattle.luks_reading.specs.declared.report.Data.{Data as Payload};
 use crate::format_fault::FormatFault;
 use crate::judging::judge;
 use crate::laws::{formatted2_opens, new_keyslot_has_plan};
-use crate::luks2_header::{COPY_SIZE, FIRST_SALT, SECOND_SALT, SLOT_SALT, write_copy};
+use crate::luks2_header::{COPY_SIZE, FIRST_SALT, SECOND_SALT, SLOT_SALT, write_new_copy};
 use crate::metadata::new_area;
 use crate::plan::{new_plan, put_key_digest};
 use crate::random::{DIGEST_SALT, KEY, KEY_BYTES, RANDOM_STRIPES, SALT_BYTES, taken, taken_array};
@@ -137,14 +137,14 @@ fn write_volume<D: Device>(
     let key = taken(random, KEY, KEY_BYTES);
     let stripes = taken(random, SLOT_SALT + SALT_BYTES, RANDOM_STRIPES);
     seal_key(device, &plan, passphrase, key, stripes)?;
-    write_copy(
+    write_new_copy(
         device,
         COPY_SIZE,
         random,
         taken_array(random, SECOND_SALT),
         json,
     )?;
-    write_copy(device, 0, random, taken_array(random, FIRST_SALT), json)?;
+    write_new_copy(device, 0, random, taken_array(random, FIRST_SALT), json)?;
     Ok(())
 }
 

@@ -1,10 +1,7 @@
 //! The copies of the header of a new LUKS2 volume.
-ghost use Rattle.std.specs.Prelude.{◌≡◌, ◌+◌, ◌++◌, ◌^◌, ◌<◌, ◌≤◌, ◌⊎◌, ℕ, List, length, replicate, OnOk};
-ghost use Rattle.sha2.specs.Sha256.{sha256};
+ghost use Rattle.std.specs.Prelude.{◌≡◌, ◌+◌, ◌++◌, ◌^◌, ◌<◌, ◌≤◌, ◌⊎◌, length, replicate, OnOk};
 ghost use Rattle.luks_area.specs.Device.{CountsFailure, is_failure};
-ghost use Rattle.luks_area.specs.Ranges.{part, IsAt, SameBut};
-ghost use Rattle.luks_head.specs.Header2.{binary_header_size, csum_size, header_at, sha256_size, with_zero_checksum};
-ghost use Rattle.luks_head.specs.Written.{WritesBin2};
+ghost use Rattle.luks_area.specs.Ranges.{IsAt, SameBut};
 ghost use Rattle.luks_formatting.specs.Formatted2.{HasNewCopy};
 ghost use Rattle.luks_formatting.specs.NewHeader2.{copy_size, json_size, IsNewCopy};
 ghost use Rattle.luks_formatting.specs.NewUuid.{uuid_text};
@@ -13,8 +10,8 @@ ghost use Rattle.luks_formatting.specs.RandomBytes.{uuid_bytes};
 use crate::new_uuid::uuid_text;
 use crate::random::{UUID, taken_array};
 use luks_area::{Device, DeviceFault};
-use luks_head::{Bin2, written_copies_are_chosen};
-use sha2::Digest;
+use luks_head::Bin2;
+use luks2_copy::write_copy;
 
 /// The length of a copy of the header in bytes, which is also the second copy's place.
 pub(crate) const COPY_SIZE: u64 = 16384;
@@ -33,7 +30,7 @@ pub(crate) const SLOT_SALT: usize = 240;
 
 /// Writes the copy of the header that stands at the place `at`, with its salt, and flushes. Also
 /// where the device fails no byte outside the copy changes.
-pub(crate) fn write_copy<D: Device>(
+pub(crate) fn write_new_copy<D: Device>(
     device: &mut D,
     at: u64,
     random: &[u8],
@@ -51,68 +48,14 @@ pub(crate) fn write_copy<D: Device>(
         (HasNewCopy (D.bytes device.new) random.now salt json.now at) }
     ensures rest { D.tells → SameBut (IsAt at copy_size) (D.bytes device.old) (D.bytes device.new) }
 {
-    written_copies_are_chosen();
-    let header = new_header(at, random, salt, json);
-    let head = header.write();
-    write_both(device, at, &head, json)?;
-    Ok(())
+    let header = new_header(at, random, salt);
+    write_copy(device, &header, json)
 }
 
-// Writes the binary header and the JSON area behind it, and flushes.
-fn write_both<D: Device>(
-    device: &mut D,
-    at: u64,
-    head: &[u8],
-    json: &[u8],
-) -> Result<(), DeviceFault>
-    requires head { length head.now ≡ binary_header_size }
-    requires json { length json.now ≡ json_size }
-    requires within { at + copy_size ≤ D.size device.old }
-    requires small { at ≤ copy_size }
-    requires room { D.failed device.old + 1 < 2 ^ 64 }
-    ensures count { CountsFailure is_failure result (D.failed device.old) (D.failed device.new) }
-    ensures size { D.size device.new ≡ D.size device.old }
-    ensures head { D.tells → OnOk result (header_at (D.bytes device.new) at ≡ head.now) }
-    ensures area { D.tells → OnOk result
-        (part (D.bytes device.new) (at + binary_header_size) json_size ≡ json.now) }
-    ensures rest { D.tells → SameBut (IsAt at copy_size) (D.bytes device.old) (D.bytes device.new) }
-{
-    device.write_at(at, head)?;
-    device.write_at(at + 4096, json)?;
-    device.flush()?;
-    Ok(())
-}
-
-// The binary header of the copy with this JSON area, its checksum made.
-fn new_header(at: u64, random: &[u8], salt: [u8; 64], json: &[u8]) -> Bin2
+// The binary header, whose checksum is made where it is written.
+fn new_header(at: u64, random: &[u8], salt: [u8; 64]) -> Bin2
     requires long { 16 ≤ length random.now }
-    ensures fields { IsNewCopy random.now salt at result }
-    ensures csum { (b : List ℕ) → WritesBin2 b result
-        → result.csum ≡ sha256 (with_zero_checksum b ++ json.now) ++ replicate sha256_size 0 }
-{
-    let blank = blank_header(at, random, salt);
-    sealed_header(&blank, json)
-}
-
-// The header with the checksum of the copy with this JSON area.
-fn sealed_header(blank: &Bin2, json: &[u8]) -> Bin2
-    ensures made { (b : List ℕ) (c : List ℕ) → WritesBin2 b (record blank.now { csum = c })
-        → result ≡ record blank.now
-        { csum = sha256 (with_zero_checksum b ++ json.now) ++ replicate sha256_size 0 } }
-    ensures some { (b : List ℕ) × WritesBin2 b blank.now }
-{
-    // That the header has bytes at all: what the hasher was fed is said of any such bytes.
-    let _bytes = blank.write();
-    let mut hasher = blank.hasher();
-    hasher.update(json);
-    blank.with_checksum(hasher)
-}
-
-// The binary header with zeros for its checksum.
-fn blank_header(at: u64, random: &[u8], salt: [u8; 64]) -> Bin2
-    requires long { 16 ≤ length random.now }
-    ensures fields { IsNewCopy random.now salt at result }
-    ensures csum { result.csum ≡ replicate csum_size 0 }
+    ensures { IsNewCopy random.now salt at result }
 {
     let first = Bin2 {
         magic: [0; 6],

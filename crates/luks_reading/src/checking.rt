@@ -1,6 +1,8 @@
 //! Checking a volume by the header that counts.
 ghost use Rattle.std.specs.Prelude.{◌≡◌, ◌≢◌, ◌+◌, ◌^◌, ◌<◌, ℕ, List, length, IfOk, IfErr, IsOk, OnOk, MatchResult, ⊤};
+ghost use Rattle.luks_area.specs.Area.{Fit};
 ghost use Rattle.luks_area.specs.Device.{CountsFailure, IsUnchanged};
+ghost use Rattle.luks_area.specs.Names.{HasArea};
 ghost use Rattle.luks_reading.specs.Checked.{First, IsCheckRefusal, WellFormed};
 ghost use Rattle.luks_reading.specs.Failures.{is_check_failure};
 ghost use Rattle.luks_reading.specs.Header.{IsAcceptedHeader, IsHeader, TakesNoMemory};
@@ -47,6 +49,7 @@ pub fn check_header(header: &Header, data_: Data, total: u64) -> Result<Report, 
     requires { IsAcceptedHeader header.now }
     ensures accepted { (v : List ℕ) → IsHeader v header.now → length v ≡ total
         → OnOk result (WellFormed v data_) }
+    ensures fits { IfOk result (λ report. Fit (HasArea report.areas) total) }
     ensures report { (v : List ℕ) → IsHeader v header.now → length v ≡ total
         → IfOk result (Reports v data_) }
     ensures refused { (v : List ℕ) → IsHeader v header.now → length v ≡ total

@@ -1,5 +1,7 @@
 ghost use Rattle.std.specs.Prelude.{◌≡◌, ◌≢◌, ℕ, List, length, IfOk, IfErr, OnOk, IsOk, IfSome, IsNone, MatchResult, ⊤};
+ghost use Rattle.luks_area.specs.Area.{Fit};
 ghost use Rattle.luks_area.specs.First.{IsLeast};
+ghost use Rattle.luks_area.specs.Names.{HasArea};
 ghost use Rattle.luks_reading.specs.Layout1.{Luks1Area};
 ghost use Rattle.luks_reading.specs.Listing.{Lists};
 ghost use Rattle.luks_head.specs.Header2.{HoldsBin2};
@@ -19,6 +21,7 @@ use luks_meta::{Meta, MetaFault, one_value};
 pub fn judge_luks1(header: &[u8], data_: Data, total: u64) -> Result<Areas, CheckFault>
     requires { length header.now ≡ 592 }
     ensures accepted { OnOk result (IsLuks1Volume header.now data_ total) }
+    ensures fits { IfOk result (λ areas. Fit (HasArea areas) total) }
     ensures areas { IfOk result (λ areas. Lists areas (Luks1Area header.now data_ total)) }
     ensures refused { IfErr result (IsLeast check_key (IsLuks1Fault header.now data_ total)) }
     ensures only { IsLuks1Volume header.now data_ total → IsOk result }
@@ -36,6 +39,7 @@ pub(crate) fn judge_layout(
     data_: Data,
     total: u64,
 ) -> Result<Areas, CheckFault>
+    ensures fits { IfOk result (λ areas. Fit (HasArea areas) total) }
     ensures accepted { (b json : List ℕ) → HoldsBin2 b header.now → HoldsMeta json meta.now
         → OnOk result (IsLuks2Layout b json data_ total (content meta.now)) }
     ensures areas { (b json : List ℕ) → HoldsBin2 b header.now → HoldsMeta json meta.now

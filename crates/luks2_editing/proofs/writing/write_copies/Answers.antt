@@ -6,80 +6,80 @@ use Rattle.luks2_editing.specs.NewCopy.{HasNewCopy, IsCopyPlace}
 use Rattle.luks2_editing.proofs.RewritingFacts.{all_done, half_begun, half_done, of_chosen, of_other, other_inside, other_is_place, own_is_place}
 use Rattle.luks2_editing.proofs.writing.write_copies.Goals as goal
 
-pub write_copy-requires-clause-within : goal.write_copy-requires-clause-within
-write_copy-requires-clause-within g c =
+pub write_new_copy-requires-clause-within : goal.write_new_copy-requires-clause-within
+write_new_copy-requires-clause-within g c =
     other_inside c.args.chosen.now.hdr_size c.args.chosen.now.hdr_offset (g.D.Device.size c.args.device.now) c.other_place-other.result c.other_place-other.ensures c.requires.within
 
-pub returns-in_err-write_copy-clause-rest : goal.returns-in_err-write_copy-clause-rest
-returns-in_err-write_copy-clause-rest g c tells =
+pub returns-in_err-write_new_copy-clause-rest : goal.returns-in_err-write_new_copy-clause-rest
+returns-in_err-write_new_copy-clause-rest g c tells =
     let h = c.args.chosen.now.hdr_size in
     let o = c.args.chosen.now.hdr_offset in
-    same_but-wider (of_other h o) (subst (λ (q : ℕ). SameBut (IsAt q h) (g.D.Device.bytes c.args.device.now) (g.D.Device.bytes c.write_copy.new.device)) c.other_place-other.ensures (c.write_copy.ensures.rest tells))
+    same_but-wider (of_other h o) (subst (λ (q : ℕ). SameBut (IsAt q h) (g.D.Device.bytes c.args.device.now) (g.D.Device.bytes c.write_new_copy.new.device)) c.other_place-other.ensures (c.write_new_copy.ensures.rest tells))
 
-pub returns-in_err-write_copy-2-clause-rest : goal.returns-in_err-write_copy-2-clause-rest
-returns-in_err-write_copy-2-clause-rest g c tells =
+pub returns-in_err-write_new_copy-2-clause-rest : goal.returns-in_err-write_new_copy-2-clause-rest
+returns-in_err-write_new_copy-2-clause-rest g c tells =
     let h = c.args.chosen.now.hdr_size in
     let o = c.args.chosen.now.hdr_offset in
-    same_but-then (same_but-wider (of_other h o) (subst (λ (q : ℕ). SameBut (IsAt q h) (g.D.Device.bytes c.args.device.now) (g.D.Device.bytes c.write_copy.new.device)) c.other_place-other.ensures (c.write_copy.ensures.rest tells)))
-    (same_but-wider (λ p at. of_chosen h o p c.requires.place at) (c.write_copy-2.ensures.rest tells))
+    same_but-then (same_but-wider (of_other h o) (subst (λ (q : ℕ). SameBut (IsAt q h) (g.D.Device.bytes c.args.device.now) (g.D.Device.bytes c.write_new_copy.new.device)) c.other_place-other.ensures (c.write_new_copy.ensures.rest tells)))
+    (same_but-wider (λ p at. of_chosen h o p c.requires.place at) (c.write_new_copy-2.ensures.rest tells))
 
 pub returns-clause-rest : goal.returns-clause-rest
 returns-clause-rest g c tells =
     let h = c.args.chosen.now.hdr_size in
     let o = c.args.chosen.now.hdr_offset in
-    same_but-then (same_but-wider (of_other h o) (subst (λ (q : ℕ). SameBut (IsAt q h) (g.D.Device.bytes c.args.device.now) (g.D.Device.bytes c.write_copy.new.device)) c.other_place-other.ensures (c.write_copy.ensures.rest tells)))
-    (same_but-wider (λ p at. of_chosen h o p c.requires.place at) (c.write_copy-2.ensures.rest tells))
+    same_but-then (same_but-wider (of_other h o) (subst (λ (q : ℕ). SameBut (IsAt q h) (g.D.Device.bytes c.args.device.now) (g.D.Device.bytes c.write_new_copy.new.device)) c.other_place-other.ensures (c.write_new_copy.ensures.rest tells)))
+    (same_but-wider (λ p at. of_chosen h o p c.requires.place at) (c.write_new_copy-2.ensures.rest tells))
 
-pub returns-in_err-write_copy-clause-torn : goal.returns-in_err-write_copy-clause-torn
-returns-in_err-write_copy-clause-torn g c tells v e j is =
+pub returns-in_err-write_new_copy-clause-torn : goal.returns-in_err-write_new_copy-clause-torn
+returns-in_err-write_new_copy-clause-torn g c tells v e j is =
     let old = c.args.chosen.now in
     let h = old.hdr_size in
-    half_begun c.written_copies_are_chosen.ensures.sound v e old c.args.label c.args.random.now j c.args.json.now is c.requires.json (g.D.Device.bytes c.args.device.now) (g.D.Device.bytes c.write_copy.new.device)
-    (subst (λ (q : ℕ). SameBut (IsAt q h) (g.D.Device.bytes c.args.device.now) (g.D.Device.bytes c.write_copy.new.device)) c.other_place-other.ensures (c.write_copy.ensures.rest tells))
+    half_begun c.written_copies_are_chosen.ensures.sound v e old c.args.label c.args.random.now j c.args.json.now is c.requires.json (g.D.Device.bytes c.args.device.now) (g.D.Device.bytes c.write_new_copy.new.device)
+    (subst (λ (q : ℕ). SameBut (IsAt q h) (g.D.Device.bytes c.args.device.now) (g.D.Device.bytes c.write_new_copy.new.device)) c.other_place-other.ensures (c.write_new_copy.ensures.rest tells))
 
-pub returns-in_err-write_copy-2-clause-torn : goal.returns-in_err-write_copy-2-clause-torn
-returns-in_err-write_copy-2-clause-torn g c tells v e j is =
+pub returns-in_err-write_new_copy-2-clause-torn : goal.returns-in_err-write_new_copy-2-clause-torn
+returns-in_err-write_new_copy-2-clause-torn g c tells v e j is =
     let old = c.args.chosen.now in
     let h = old.hdr_size in
     let o = old.hdr_offset in
-    let w = g.D.Device.bytes c.write_copy.new.device in
+    let w = g.D.Device.bytes c.write_new_copy.new.device in
     let place : IsCopyPlace old c.other_place-other.result = subst (λ (q : ℕ). IsCopyPlace old q) (sym c.other_place-other.ensures) (other_is_place old v e c.args.label j c.args.json.now is) in
     let made : HasNewCopy old c.args.label (copy_salt c.args.random.now c.other_place-other.result) c.args.json.now w c.other_place-other.result =
-    subst (λ (s : List ℕ). HasNewCopy old c.args.label s c.args.json.now w c.other_place-other.result) c.copy_salt.ensures (c.in_ok-write_copy.ensures.copy tells place) in
+    subst (λ (s : List ℕ). HasNewCopy old c.args.label s c.args.json.now w c.other_place-other.result) c.copy_salt.ensures (c.in_ok-write_new_copy.ensures.copy tells place) in
     let other : HasNewCopy old c.args.label (copy_salt c.args.random.now (other_place h o)) c.args.json.now w (other_place h o) =
     subst (λ (q : ℕ). HasNewCopy old c.args.label (copy_salt c.args.random.now q) c.args.json.now w q) c.other_place-other.ensures made in
     half_done c.written_copies_are_chosen.ensures.sound v e old c.args.label c.args.random.now j c.args.json.now is c.requires.json (g.D.Device.bytes c.args.device.now) w
-    (g.D.Device.bytes c.write_copy-2.new.device) other
-    (subst (λ (q : ℕ). SameBut (IsAt q h) (g.D.Device.bytes c.args.device.now) (g.D.Device.bytes c.write_copy.new.device)) c.other_place-other.ensures (c.write_copy.ensures.rest tells)) c.requires.place (c.write_copy-2.ensures.rest tells)
+    (g.D.Device.bytes c.write_new_copy-2.new.device) other
+    (subst (λ (q : ℕ). SameBut (IsAt q h) (g.D.Device.bytes c.args.device.now) (g.D.Device.bytes c.write_new_copy.new.device)) c.other_place-other.ensures (c.write_new_copy.ensures.rest tells)) c.requires.place (c.write_new_copy-2.ensures.rest tells)
 
 pub returns-clause-torn : goal.returns-clause-torn
 returns-clause-torn g c tells v e j is =
     let old = c.args.chosen.now in
     let h = old.hdr_size in
     let o = old.hdr_offset in
-    let w = g.D.Device.bytes c.write_copy.new.device in
+    let w = g.D.Device.bytes c.write_new_copy.new.device in
     let place : IsCopyPlace old c.other_place-other.result = subst (λ (q : ℕ). IsCopyPlace old q) (sym c.other_place-other.ensures) (other_is_place old v e c.args.label j c.args.json.now is) in
     let made : HasNewCopy old c.args.label (copy_salt c.args.random.now c.other_place-other.result) c.args.json.now w c.other_place-other.result =
-    subst (λ (s : List ℕ). HasNewCopy old c.args.label s c.args.json.now w c.other_place-other.result) c.copy_salt.ensures (c.in_ok-write_copy.ensures.copy tells place) in
+    subst (λ (s : List ℕ). HasNewCopy old c.args.label s c.args.json.now w c.other_place-other.result) c.copy_salt.ensures (c.in_ok-write_new_copy.ensures.copy tells place) in
     let other : HasNewCopy old c.args.label (copy_salt c.args.random.now (other_place h o)) c.args.json.now w (other_place h o) =
     subst (λ (q : ℕ). HasNewCopy old c.args.label (copy_salt c.args.random.now q) c.args.json.now w q) c.other_place-other.ensures made in
     half_done c.written_copies_are_chosen.ensures.sound v e old c.args.label c.args.random.now j c.args.json.now is c.requires.json (g.D.Device.bytes c.args.device.now) w
-    (g.D.Device.bytes c.write_copy-2.new.device) other
-    (subst (λ (q : ℕ). SameBut (IsAt q h) (g.D.Device.bytes c.args.device.now) (g.D.Device.bytes c.write_copy.new.device)) c.other_place-other.ensures (c.write_copy.ensures.rest tells)) c.requires.place (c.write_copy-2.ensures.rest tells)
+    (g.D.Device.bytes c.write_new_copy-2.new.device) other
+    (subst (λ (q : ℕ). SameBut (IsAt q h) (g.D.Device.bytes c.args.device.now) (g.D.Device.bytes c.write_new_copy.new.device)) c.other_place-other.ensures (c.write_new_copy.ensures.rest tells)) c.requires.place (c.write_new_copy-2.ensures.rest tells)
 
 pub returns-clause-anew : goal.returns-clause-anew
 returns-clause-anew g c tells v e j is =
     let old = c.args.chosen.now in
     let h = old.hdr_size in
     let o = old.hdr_offset in
-    let w = g.D.Device.bytes c.write_copy.new.device in
+    let w = g.D.Device.bytes c.write_new_copy.new.device in
     let place : IsCopyPlace old c.other_place-other.result = subst (λ (q : ℕ). IsCopyPlace old q) (sym c.other_place-other.ensures) (other_is_place old v e c.args.label j c.args.json.now is) in
     let made : HasNewCopy old c.args.label (copy_salt c.args.random.now c.other_place-other.result) c.args.json.now w c.other_place-other.result =
-    subst (λ (s : List ℕ). HasNewCopy old c.args.label s c.args.json.now w c.other_place-other.result) c.copy_salt.ensures (c.in_ok-write_copy.ensures.copy tells place) in
+    subst (λ (s : List ℕ). HasNewCopy old c.args.label s c.args.json.now w c.other_place-other.result) c.copy_salt.ensures (c.in_ok-write_new_copy.ensures.copy tells place) in
     let other : HasNewCopy old c.args.label (copy_salt c.args.random.now (other_place h o)) c.args.json.now w (other_place h o) =
     subst (λ (q : ℕ). HasNewCopy old c.args.label (copy_salt c.args.random.now q) c.args.json.now w q) c.other_place-other.ensures made in
     all_done c.written_copies_are_chosen.ensures.sound v e old c.args.label c.args.random.now j c.args.json.now is c.requires.json (g.D.Device.bytes c.args.device.now) w
-    (g.D.Device.bytes c.write_copy-2.new.device) other
-    (subst (λ (q : ℕ). SameBut (IsAt q h) (g.D.Device.bytes c.args.device.now) (g.D.Device.bytes c.write_copy.new.device)) c.other_place-other.ensures (c.write_copy.ensures.rest tells)) c.requires.place (c.write_copy-2.ensures.rest tells)
-    (subst (λ (s : List ℕ). HasNewCopy old c.args.label s c.args.json.now (g.D.Device.bytes c.write_copy-2.new.device) o) c.copy_salt-2.ensures
-    (c.in_ok-write_copy-2.ensures.copy tells (own_is_place old v e c.args.label j c.args.json.now is)))
+    (g.D.Device.bytes c.write_new_copy-2.new.device) other
+    (subst (λ (q : ℕ). SameBut (IsAt q h) (g.D.Device.bytes c.args.device.now) (g.D.Device.bytes c.write_new_copy.new.device)) c.other_place-other.ensures (c.write_new_copy.ensures.rest tells)) c.requires.place (c.write_new_copy-2.ensures.rest tells)
+    (subst (λ (s : List ℕ). HasNewCopy old c.args.label s c.args.json.now (g.D.Device.bytes c.write_new_copy-2.new.device) o) c.copy_salt-2.ensures
+    (c.in_ok-write_new_copy-2.ensures.copy tells (own_is_place old v e c.args.label j c.args.json.now is)))

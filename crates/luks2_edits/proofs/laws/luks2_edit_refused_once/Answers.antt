@@ -1,6 +1,6 @@
 use Rattle.luks_edit.specs.EditFaults.{edit_key}
 use Rattle.luks2_edits.specs.Refused.{IsEditFault2}
-use Rattle.luks2_edits.proofs.RefusalFacts.{least_once}
+use Rattle.luks_reading.proofs.OneAnswer.{least_once}
 use Rattle.luks2_edits.proofs.laws.luks2_edit_refused_once.Goals as goal
 
 pub returns : goal.returns

@@ -9,7 +9,7 @@ use Rattle.luks_formatting.proofs.luks2.write_volume.Goals as goal
 
 pub returns-clause-rest : goal.returns-clause-rest
 returns-clause-rest g c tells =
-    all_rest c.slot_plan-plan.result.area c.slot_plan-plan.ensures.area (c.seal_key.ensures.rest tells) (c.write_copy.ensures.rest tells) (c.write_copy-2.ensures.rest tells)
+    all_rest c.slot_plan-plan.result.area c.slot_plan-plan.ensures.area (c.seal_key.ensures.rest tells) (c.write_new_copy.ensures.rest tells) (c.write_new_copy-2.ensures.rest tells)
 
 pub returns-clause-formatted : goal.returns-clause-formatted
 returns-clause-formatted g c tells =
@@ -22,9 +22,9 @@ returns-clause-formatted g c tells =
     subst (λ (d : List ℕ). IsNewPlan c.args.format.now (slot_salt slot_place2 random) area2 (digest_salt random) d plan) c.requires.digest c.slot_plan-plan.ensures.plan in
     let has_plan = c.new_keyslot_has_plan.ensures c.args.data_ c.args.format.now random c.args.json.now plan c.requires.iterations (omega (arith, counted)) c.requires.fits c.requires.area.json is
     c.slot_plan-plan.ensures.cipher in
-    formatted2 c.args.data_ c.args.format.now c.args.passphrase.now random (bytes c.args.device.now) (bytes c.seal_key.new.device) (bytes c.write_copy.new.device)
-    (bytes c.write_copy-2.new.device) c.args.json.now c.taken-key.result.now c.taken-stripes.result.now plan c.requires.area has_plan c.slot_plan-plan.ensures.area
-    (c.seal_key.ensures.rest tells) (c.write_copy.ensures.rest tells) (c.write_copy-2.ensures.rest tells)
-    (subst (λ (s : List ℕ). HasNewCopy (bytes c.write_copy.new.device) random s c.args.json.now 16384) c.taken_array.ensures (c.in_ok-write_copy.ensures.copy tells))
-    (subst (λ (s : List ℕ). HasNewCopy (bytes c.write_copy-2.new.device) random s c.args.json.now 0) c.taken_array-2.ensures (c.in_ok-write_copy-2.ensures.copy tells))
+    formatted2 c.args.data_ c.args.format.now c.args.passphrase.now random (bytes c.args.device.now) (bytes c.seal_key.new.device) (bytes c.write_new_copy.new.device)
+    (bytes c.write_new_copy-2.new.device) c.args.json.now c.taken-key.result.now c.taken-stripes.result.now plan c.requires.area has_plan c.slot_plan-plan.ensures.area
+    (c.seal_key.ensures.rest tells) (c.write_new_copy.ensures.rest tells) (c.write_new_copy-2.ensures.rest tells)
+    (subst (λ (s : List ℕ). HasNewCopy (bytes c.write_new_copy.new.device) random s c.args.json.now 16384) c.taken_array.ensures (c.in_ok-write_new_copy.ensures.copy tells))
+    (subst (λ (s : List ℕ). HasNewCopy (bytes c.write_new_copy-2.new.device) random s c.args.json.now 0) c.taken_array-2.ensures (c.in_ok-write_new_copy-2.ensures.copy tells))
     c.taken-key.ensures.value c.taken-stripes.ensures.value (c.in_ok-seal_key.ensures.sealed tells)

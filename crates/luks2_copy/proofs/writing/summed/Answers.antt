@@ -1,6 +1,6 @@
-use Rattle.luks_head.specs.Header2.{with_zero_checksum}
 use Rattle.std.proofs.Common.{◌++◌}
-use Rattle.luks_formatting.proofs.luks2_header.sealed_header.Goals as goal
+use Rattle.luks_head.specs.Header2.{with_zero_checksum}
+use Rattle.luks2_copy.proofs.writing.summed.Goals as goal
 
 pub returns-clause-made : goal.returns-clause-made
 returns-clause-made c b sum put =

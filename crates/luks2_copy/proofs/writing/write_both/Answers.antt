@@ -1,7 +1,7 @@
 use Rattle.std.proofs.Common.{◌≡◌, ℕ, ◌+◌, List, length, arith, sym, ap, ◌∙◌, subst}
 use Rattle.luks_area.specs.Ranges.{part, IsAt, SameBut}
-use Rattle.luks2_editing.proofs.NewCopyFacts.{area_there, copy_begun, copy_rest, head_there}
-use Rattle.luks2_editing.proofs.writing.write_both.Goals as goal
+use Rattle.luks2_copy.proofs.CopyFacts.{area_there, copy_begun, copy_rest, head_there}
+use Rattle.luks2_copy.proofs.writing.write_both.Goals as goal
 
 pub returns-in_err-write_at-clause-rest : goal.returns-in_err-write_at-clause-rest
 returns-in_err-write_at-clause-rest g c tells =
