@@ -73,12 +73,7 @@ column_at x j = (
   λ n lt. get_or-map-range_with_len (λ n. slice_index x (16 * (n / 2) + 2 * j + n % 2)) 0 16 n n 0 lt (omega arith),
 )
 
--- a row that is as it was
-pub row_kept : (x y : List ℕ) (i : ℕ) → ((m : ℕ) → i ≤ m / 16 → slice_index x m ≡ slice_index y m) → row x i ≡ row y i
-row_kept x y i same =
-    let at = row_at x i in
-    row_is (row x i) y i at.0 (λ n lt. at.1 n lt ∙ same (16 * i + n) (omega arith))
-
+-- a column that is as it was
 pub column_kept : (x y : List ℕ) (j : ℕ) → j < 8 → ((m : ℕ) → j ≤ m % 16 / 2 → slice_index x m ≡ slice_index y m) → column x j ≡ column y j
 column_kept x y j few same =
     let at = column_at x j in
@@ -109,24 +104,29 @@ pub xored_is : (z x y : List ℕ) → length z ≡ 128
 unfolding xor_blocks
 xored_is z x y long at = same_as_map z (λ n. bit_xor (slice_index x n) (slice_index y n)) 128 long at
 
+-- a word of two blocks xored
+xor_blocks-at : (x y : List ℕ) (n : ℕ) → n < 128 → slice_index (xor_blocks x y) n ≡ bit_xor (slice_index x n) (slice_index y n)
+unfolding xor_blocks
+xor_blocks-at x y n lt = get_or-map-range_with_len (λ k. bit_xor (slice_index x k) (slice_index y k)) 0 128 n n 0 lt (omega arith)
+
+pub xored_over_is : (z x y old : List ℕ) → length z ≡ 128
+    → ((n : ℕ) → n < 128 → slice_index z n ≡ bit_xor (bit_xor (slice_index x n) (slice_index y n)) (slice_index old n))
+    → z ≡ xor_blocks (xor_blocks x y) old
+xored_over_is z x y old long at =
+    xored_is z (xor_blocks x y) old long (λ n lt. rw (xor_blocks-at x y n lt) (at n lt))
+
 -- the rows before i + 1 are permuted, where row i has just been
-pub rows_next : (x now next v : List ℕ) (i : ℕ) → v ≡ permuted (row now i)
+pub rows_next : (x now next v : List ℕ) (i : ℕ) → v ≡ permuted (row x i)
     → ((h n : ℕ) → h < i → n < 16 → slice_index now (16 * h + n) ≡ slice_index (permuted (row x h)) n)
-    → ((m : ℕ) → i ≤ m / 16 → slice_index now m ≡ slice_index x m)
     → ((n : ℕ) → n < 16 → slice_index next (16 * i + n) ≡ slice_index v n)
     → ((m : ℕ) → m / 16 ≢ i → slice_index next m ≡ slice_index now m)
-    → ((h n : ℕ) → h < i + 1 → n < 16 → slice_index next (16 * h + n) ≡ slice_index (permuted (row x h)) n)
-    × ((m : ℕ) → i + 1 ≤ m / 16 → slice_index next m ≡ slice_index x m)
-rows_next x now next v i is before after done kept =
-    let whole : v ≡ permuted (row x i) = is ∙ ap permuted (row_kept now x i after) in (
-      λ h n lt small. elim (cases_lt h i) [
-        | inl a ↦ kept (16 * h + n) (omega arith) ∙ before h n a small
-        | inr b ↦
-            let e : i ≡ h = omega arith in
-            rw (← e) (done n small ∙ ap (λ w. slice_index w n) whole)
-      ],
-      λ m le. kept m (omega arith) ∙ after m (omega arith),
-    )
+    → (h n : ℕ) → h < i + 1 → n < 16 → slice_index next (16 * h + n) ≡ slice_index (permuted (row x h)) n
+rows_next x now next v i whole before done kept h n lt small = elim (cases_lt h i) [
+  | inl a ↦ kept (16 * h + n) (omega arith) ∙ before h n a small
+  | inr b ↦
+      let e : i ≡ h = omega arith in
+      rw (← e) (done n small ∙ ap (λ w. slice_index w n) whole)
+]
 
 pub columns_next : (x now next v : List ℕ) (i : ℕ) → i < 8 → v ≡ permuted (column now i)
     → ((h n : ℕ) → h < i → n < 16 → slice_index now (16 * (n / 2) + 2 * h + n % 2) ≡ slice_index (permuted (column x h)) n)

@@ -1,4 +1,5 @@
 pub mod BlockFacts
+pub mod LaneFacts
 pub mod SigmaFacts
 pub mod Blake2bFacts
 pub mod HasherFacts

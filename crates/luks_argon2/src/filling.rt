@@ -6,45 +6,49 @@ ghost use Rattle.luks_argon2.specs.Indexing.{window_start};
 ghost use Rattle.luks_argon2.specs.Memory.{HoldsAll, HoldsLane, HoldsOthers, HasPairs, HasPairsBefore, IsBefore, work_of};
 
 use crate::addressing::{is_independent, refresh};
-use crate::block_compression::{compressed, xored};
+use crate::block_compression::Scratch;
 use crate::indexing::{place_of, reference};
 use crate::shape::Shape;
 
-// The block number `slice * segment + i` of a lane.
+// Makes the block number `slice * segment + i` of a lane, and puts it in its place.
 #[inline(always)]
-pub(crate) fn next_block(
-    memory: &[[u64; 128]],
+fn next_block(
+    memory: &mut [[u64; 128]],
     shape: Shape,
     slice: usize,
     lane: usize,
     i: usize,
     word: u64,
-) -> [u64; 128]
-    requires whole { length memory.now ≡ 4 * (shape.lanes * shape.segment) }
+    scratch: &mut Scratch,
+)
+    requires whole { length memory.old ≡ 4 * (shape.lanes * shape.segment) }
     requires lane_in { lane < shape.lanes }
     requires slice_in { slice * shape.segment + shape.segment < 2 ^ 64 }
     requires i_in { i < shape.segment }
     requires not_first { 2 ≤ slice * shape.segment + i }
-    ensures { (lanes : List (List (List ℕ))) (own : List (List ℕ))
-        → HoldsLane memory.now (4 * shape.segment) lane own (slice * shape.segment + i - 4 * shape.segment) (slice * shape.segment + i)
-        → HoldsOthers memory.now shape lanes slice lane
+    ensures kept { (k r : ℕ) → k ≢ lane → r < 4 * shape.segment
+        → get_or memory.new (k * (4 * shape.segment) + r) [] ≡ get_or memory.old (k * (4 * shape.segment) + r) [] }
+    ensures made { (lanes : List (List (List ℕ))) (own : List (List ℕ))
+        → HoldsLane memory.old (4 * shape.segment) lane own (slice * shape.segment + i - 4 * shape.segment) (slice * shape.segment + i)
+        → HoldsOthers memory.old shape lanes slice lane
         → word ≡ pair (work_of shape) slice lane i (get_or own (slice * shape.segment + i - 1) [])
-        → result ≡ next_block (work_of shape) lanes own slice lane i }
+        → memory.new ≡ slice_set memory.old (lane * (4 * shape.segment) + (slice * shape.segment + i) % (4 * shape.segment))
+        (next_block (work_of shape) lanes own slice lane i) }
 {
     let n = slice * shape.segment + i;
     let previous = place_of(shape, lane, n - 1);
     let (lane_there, number) = reference(shape, slice, lane, i, word);
     let there = place_of(shape, lane_there, number);
-    let made = compressed(&memory[previous], &memory[there]);
+    scratch.compress(&memory[previous], &memory[there]);
+    let place = place_of(shape, lane, n);
     if slice < 4 {
-        made
+        scratch.put(&mut memory[place]);
     } else {
-        let old = place_of(shape, lane, n);
-        xored(&made, &memory[old])
+        scratch.put_over(&mut memory[place]);
     }
 }
 
-// Makes that block, and puts it in its place.
+// Makes that block with the pair that it needs.
 #[inline(always)]
 fn fill_one(
     memory: &mut [[u64; 128]],
@@ -53,6 +57,7 @@ fn fill_one(
     lane: usize,
     i: usize,
     pairs: &[u64; 128],
+    scratch: &mut Scratch,
 )
     requires whole { length memory.old ≡ 4 * (shape.lanes * shape.segment) }
     requires lane_in { lane < shape.lanes }
@@ -68,16 +73,13 @@ fn fill_one(
         → memory.new ≡ slice_set memory.old (lane * (4 * shape.segment) + (slice * shape.segment + i) % (4 * shape.segment))
         (next_block (work_of shape) lanes own slice lane i) }
 {
-    let n = slice * shape.segment + i;
-    let previous = place_of(shape, lane, n - 1);
+    let previous = place_of(shape, lane, slice * shape.segment + i - 1);
     let word = if is_independent(shape.variant, slice) {
         pairs[i % 128]
     } else {
         memory[previous][0]
     };
-    let next = next_block(memory, shape, slice, lane, i, word);
-    let place = place_of(shape, lane, n);
-    memory[place] = next;
+    next_block(memory, shape, slice, lane, i, word, scratch);
 }
 
 // The blocks of a slice in one lane.
@@ -95,11 +97,12 @@ pub(crate) fn fill_segment(memory: &mut [[u64; 128]], shape: Shape, slice: usize
         → get_or memory.new (k * (4 * shape.segment) + r) [] ≡ get_or memory.old (k * (4 * shape.segment) + r) [] }
 {
     let mut pairs = [0u64; 128];
+    let mut scratch = Scratch::new();
     'each: for i in 0..shape.segment {
         refresh(&mut pairs, shape, slice, lane, i);
         let n = slice * shape.segment + i;
         if n >= 2 {
-            fill_one(memory, shape, slice, lane, i, &pairs);
+            fill_one(memory, shape, slice, lane, i, &pairs, &mut scratch);
         }
     }
 }

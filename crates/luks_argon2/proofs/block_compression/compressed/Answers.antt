@@ -1,7 +1,5 @@
-use Rattle.std.proofs.Common.{refl}
-use Rattle.luks_argon2.specs.BlockCompression.{compressed}
+use Rattle.std.proofs.Common.{◌∙◌}
 use Rattle.luks_argon2.proofs.block_compression.compressed.Goals as goal
 
 pub returns : goal.returns
-unfolding compressed
-returns c = rw (c.xored.ensures, c.permute_columns.ensures, c.permute_rows.ensures, c.xored-r.ensures) refl
+returns c = c.put.ensures ∙ c.compress.ensures

@@ -1,7 +1,7 @@
 use Rattle.std.proofs.Common.{◌≡◌, ℕ, ◌+◌, ◌-◌, ◌*◌, List, [], get_or, slice_index, ◌%◌, ◌<◌, arith, mod-lt, refl, sym, ap, ◌∙◌}
 use Rattle.luks_argon2.specs.Argon2.{pair}
 use Rattle.luks_argon2.specs.Memory.{work_of}
-use Rattle.luks_argon2.proofs.SegmentFacts.{kept_next, pair_made, pair_read}
+use Rattle.luks_argon2.proofs.SegmentFacts.{pair_made, pair_read}
 use Rattle.luks_argon2.proofs.filling.fill_one.Goals as goal
 use Rattle.luks_argon2.proofs.filling.fill_one.Goals.{then-is_independent, else-is_independent}
 
@@ -18,13 +18,4 @@ returns-clause-made c = λ lanes own held others pairs.
           let at = ap (λ (k : ℕ). get_or c.args.memory.now k []) c.place_of-previous.ensures.exact ∙ held (n - 1) (omega arith) (omega arith) in
           pair_read (work_of c.args.shape) c.args.slice c.args.lane c.args.i previous _ (sym variant ∙ w.if-is_independent.false) (w.word-is ∙ ap (λ (b : List ℕ). slice_index b 0) at)
     ] in
-    rw (c.place_of-place.ensures.exact, c.next_block-next.ensures lanes own held others word) refl
-
-pub returns-clause-kept : goal.returns-clause-kept
-returns-clause-kept c = λ k r ne few.
-    let g : ℕ = c.args.shape.segment in
-    let q : ℕ = 4 * g in
-    let n : ℕ = c.args.slice * g + c.args.i in
-    let some : 0 < q = omega arith in
-    rw c.place_of-place.ensures.exact
-    (kept_next c.args.memory.now c.args.memory.now q c.args.lane (n % q) c.next_block-next.result (mod-lt n some) (λ k r ne few. refl) k r ne few)
+    c.next_block.ensures.made lanes own held others word
