@@ -1,0 +1,9 @@
+pub mod BlockFacts
+pub mod LaneFacts
+pub mod SigmaFacts
+pub mod Blake2bFacts
+pub mod HasherFacts
+pub mod VariableHashFacts
+pub mod SegmentFacts
+pub mod SliceFacts
+pub mod StartFacts

@@ -1,0 +1,5 @@
+use Rattle.std.proofs.Common.{◌≡◌, ℕ, ◌+◌, ◌*◌, ◌/◌, ◌%◌, ◌<◌, length, slice_index}
+use Rattle.luks_argon2.proofs.block_compression.column.Given as goal
+
+abbrev pub invariant-get : goal.invariant-get
+invariant-get l = (length l.v ≡ 16) × ((k : ℕ) → k < l.n → slice_index l.v k ≡ slice_index l.b (16 * (k / 2) + 2 * l.j + k % 2))
