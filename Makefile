@@ -7,6 +7,8 @@
 #   install   put the program into PREFIX/bin, its manual page into MANDIR, its completions into BASHCOMPDIR, ZSHCOMPDIR and FISHCOMPDIR
 #             (PREFIX is /usr/local, the others are Debian's places under it; all under DESTDIR where that is given)
 #   uninstall  take these away again
+#   dist      the archive dist/luks-VERSION-linux-x86_64.tar.gz: the program, also static, its pages and install.sh, for a system without rt
+#   deb       the package dist/luks_VERSION_amd64.deb, for Debian; beside both, dist/SHA256SUMS has their sums
 #   bench     times and memory, beside other implementations
 #   interop   volumes that cryptsetup makes, checked and opened by bin/luks; each command of docs/RESCUE.md; the manual page
 #   clean     what the others made
@@ -25,7 +27,7 @@ FISHCOMPDIR ?= $(PREFIX)/share/fish/vendor_completions.d
 
 SOURCES := crates.txt $(shell find crates -name out -prune -o -type f -print)
 
-.PHONY: help demo build test test-times install uninstall bench interop clean toolchain
+.PHONY: help demo build test test-times install uninstall dist deb bench interop clean toolchain
 
 help:
 	@sed -n '/^#/!q; s/^#$$//p; s/^# //p' $(firstword $(MAKEFILE_LIST))
@@ -48,7 +50,7 @@ bin/luks: $(SOURCES)
 	@$(MAKE) --no-print-directory build
 
 test: toolchain
-	$(RT) ci
+	@RT="$(RT)" tools/gate
 
 test-times: toolchain
 	@RT="$(RT)" tools/times
@@ -64,6 +66,12 @@ uninstall:
 	rm -f "$(DESTDIR)$(PREFIX)/bin/luks" "$(DESTDIR)$(MANDIR)/man1/luks.1" "$(DESTDIR)$(BASHCOMPDIR)/luks" \
 	  "$(DESTDIR)$(ZSHCOMPDIR)/_luks" "$(DESTDIR)$(FISHCOMPDIR)/luks.fish"
 
+dist: bin/luks
+	@RT="$(RT)" tools/package archive
+
+deb: bin/luks
+	@RT="$(RT)" tools/package debian
+
 bench: bin/luks
 	bench/run
 
@@ -71,7 +79,7 @@ interop: bin/luks
 	interop/run
 
 clean:
-	rm -rf bin crates/*/out
+	rm -rf bin dist crates/*/out
 
 toolchain:
 	@command -v $(RT) >/dev/null || { \

@@ -1,7 +1,8 @@
 //! The texts of `--help`, of at most 80 columns.
 
-/// What `--version` prints after the program's name.
-pub(crate) const VERSION: &str = "0.1.0";
+/// What `--version` prints after the program's name: the version, whose section is the first of
+/// CHANGELOG.md, and the kit that proves and builds the program, as `rt version` says it.
+pub(crate) const VERSION: &str = "0.2.0 (rattle-kit-13b logic dac8208d650f15bf)";
 
 pub(crate) const PROGRAM: &str =
     "Checks and lists the header of a LUKS volume, and manages its keyslots";

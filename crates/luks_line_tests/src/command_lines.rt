@@ -606,8 +606,8 @@ const HELPS: [(&[&str], &str); 14] = [
     (&["luks", "label", "-h"], "  done "),
     (&["luks", "format", "-h"], "  refused TooSmall "),
     (&["luks", "help", "check"], "  4  device fault, no memory, "),
-    (&["luks", "--version"], "luks 0.1.0"),
-    (&["luks", "-V"], "luks 0.1.0"),
+    (&["luks", "--version"], "luks 0.2.0 (rattle-kit-13b "),
+    (&["luks", "-V"], "luks 0.2.0 (rattle-kit-13b "),
 ];
 
 #[test]
