@@ -1,0 +1,105 @@
+//! What is written where another program writes a volume without a lock.
+ghost use Rattle.std.specs.Prelude.{◌<◌, ◌^◌};
+
+use luks_area::{Device, DeviceFault, MemDevice};
+use luks_cache::CachedDevice;
+use std::alloc::{AllocError, Global};
+use std::test::Fail;
+
+/// A device in memory, of which something else changes the byte at `place` before the read of the
+/// number `before`, counted from 1, and before each later one.
+#[derive(Drop)]
+struct Meddled {
+    device: MemDevice,
+    len: u64,
+    before: u64,
+    place: u64,
+    ghost fits: { len < 2 ^ 64 },
+}
+
+impl Device for Meddled {
+    ghost use Rattle.std.specs.Prelude.{[]};
+
+    ghost tells = { ⊥ };
+
+    ghost bytes = { λ _. [] };
+
+    ghost size = { λ d. d.len };
+
+    ghost failed = { λ _. 0 };
+
+    fn len(&self) -> u64 {
+        self.len
+    }
+
+    fn failures(&self) -> u64 {
+        0
+    }
+
+    fn read_at(&mut self, at: u64, into: &mut [u8]) -> Result<(), DeviceFault> {
+        self.before = self.before.saturating_sub(1);
+        if self.before == 0 && self.place < self.device.len() {
+            self.device.write_at(self.place, &[99])?;
+        }
+        if at + into.len() as u64 <= self.device.len() {
+            return self.device.read_at(at, into);
+        }
+        Ok(())
+    }
+
+    fn write_at(&mut self, at: u64, from: &[u8]) -> Result<(), DeviceFault> {
+        if at + from.len() as u64 <= self.device.len() {
+            return self.device.write_at(at, from);
+        }
+        Ok(())
+    }
+
+    fn flush(&mut self) -> Result<(), DeviceFault> {
+        Ok(())
+    }
+
+    ghost sized = { λ d t. absurd t };
+
+    ghost bounded = { λ d. d.fits };
+}
+
+/// What is told after six bytes were read and two others written at the place 7: whether the write
+/// was done, whether a change was seen, and how many calls failed.
+fn told(alloc: Global, before: u64, place: u64) -> Result<(bool, bool, u64), AllocError> {
+    let mut device = CachedDevice::new(Meddled {
+        device: MemDevice::new([1, 2, 3, 4, 5, 6, 7, 8, 9].to_vec(alloc)?),
+        len: 9,
+        before,
+        place,
+    });
+    let mut six = [0; 6];
+    let read = device.failures() == 0 && device.len() == 9 && device.read_at(0, &mut six).is_ok();
+    let wrote = read
+        && device.failures() == 0
+        && device.len() == 9
+        && device.write_at(7, &[70, 80]).is_ok();
+    Ok((wrote, device.has_changed(), device.failures()))
+}
+
+/// Before which read which byte is changed, and what is told.
+const ROWS: [(u64, u64, (bool, bool, u64)); 6] = [
+    // nothing changes
+    (9, 0, (true, false, 0)),
+    // changed before it was read
+    (1, 0, (true, false, 0)),
+    // the first byte that is remembered, one in their midst, and the last one
+    (2, 0, (false, true, 1)),
+    (2, 3, (false, true, 1)),
+    (2, 5, (false, true, 1)),
+    // one behind them
+    (2, 6, (true, false, 0)),
+];
+
+#[test]
+fn changed_bytes_stop_a_write(rt: HostRuntime) -> Result<(), Fail> {
+    for (i, (before, place, want)) in ROWS.into_iter().enumerate() {
+        let found = told(rt.alloc(), before, place)?;
+        assert!(rt; found == want, "row {i}");
+    }
+    Ok(())
+}

@@ -1,0 +1,12 @@
+//! Tests of locks and of what an edit compares before it writes, over files in a temporary folder and
+//! a device in memory. They stand here so that no crate is proved a second time for them.
+#![tactic(auto)]
+
+#[cfg(test)]
+mod changed_meanwhile;
+#[cfg(test)]
+mod folders;
+#[cfg(test)]
+mod named_locks;
+#[cfg(test)]
+mod volumes;

@@ -1,0 +1,106 @@
+//! The locks of the files that stand for block devices.
+use crate::folders::new_folder;
+use luks_lock::{Answer, Named, Node, Share, ask, hold_name};
+use std::fs::{self, File, OpenOptions};
+use std::os::unix::fs::{MetadataExt, symlink};
+use std::test::Fail;
+
+/// The number that Linux gives, the major and the minor one, and the name of the file. The third is
+/// 12345678 and 9abcdef0 in hexadecimal digits, MMMMm mmmmm MMM mm by glibc's sysmacros.h.
+const NODES: [(u64, u32, u32, &str); 4] = [
+    (0x700, 7, 0, "L_7:0"),
+    (0x10_0301, 3, 257, "L_3:257"),
+    (
+        0x1234_59ab_cde6_78f0,
+        0x1234_5678,
+        0x9abc_def0,
+        "L_305419896:2596069104",
+    ),
+    (0xFD03, 253, 3, "L_253:3"),
+];
+
+#[test]
+fn names_block_devices(rt: HostRuntime) -> Result<(), Fail> {
+    for (i, (number, major, minor, name)) in NODES.into_iter().enumerate() {
+        let node = Node::of(number);
+        let text = format!(in rt.alloc(); "{node}")?;
+        assert!(rt;
+            node == Node { major, minor } && text.as_str() == name,
+            "row {i}"
+        );
+    }
+    Ok(())
+}
+
+/// The device of these tests.
+const LOOP: Node = Node { major: 7, minor: 0 };
+
+#[test]
+fn a_named_lock_keeps_others_out(rt: HostRuntime) -> Result<(), Fail> {
+    let top = new_folder(&rt, "named")?;
+    let folder = format!(in rt.alloc(); "{top}/cryptsetup")?;
+    let folder = folder.as_str();
+    let held = hold_name(&rt, folder, LOOP, Share::Exclusive);
+    assert!(rt; matches!(held, Named::Held(_)), "made and held");
+    let mode = fs::symlink_metadata(&rt, folder)?.mode() % 0o1000;
+    assert!(rt; mode == 0o700, "the folder's mode");
+    let path = format!(in rt.alloc(); "{folder}/L_7:0")?;
+    let mode = fs::symlink_metadata(&rt, path.as_str())?.mode() % 0o1000;
+    assert!(rt; mode == 0o600, "the file's mode");
+    let other = hold_name(&rt, folder, LOOP, Share::Shared);
+    assert!(rt; matches!(other, Named::Taken), "not shared with it");
+    drop(held);
+    let one = hold_name(&rt, folder, LOOP, Share::Shared);
+    let two = hold_name(&rt, folder, LOOP, Share::Shared);
+    assert!(rt;
+        matches!(one, Named::Held(_)) && matches!(two, Named::Held(_)),
+        "shared by two"
+    );
+    fs::remove_dir_all(&rt, top.as_str())?;
+    Ok(())
+}
+
+#[test]
+fn no_symbolic_link_is_followed(rt: HostRuntime) -> Result<(), Fail> {
+    let top = new_folder(&rt, "linked")?;
+    let folder = format!(in rt.alloc(); "{top}/cryptsetup")?;
+    fs::create_dir(&rt, folder.as_str())?;
+    let aim = format!(in rt.alloc(); "{top}/aim")?;
+    fs::write(&rt, aim.as_str(), "aim")?;
+    let path = format!(in rt.alloc(); "{folder}/L_7:0")?;
+    symlink(&rt, aim.as_str(), path.as_str())?;
+    let named = hold_name(&rt, folder.as_str(), LOOP, Share::Exclusive);
+    assert!(rt; matches!(named, Named::Unheld), "a file that is a link");
+    let path = format!(in rt.alloc(); "{top}/link")?;
+    symlink(&rt, folder.as_str(), path.as_str())?;
+    let other = Node { major: 7, minor: 1 };
+    let named = hold_name(&rt, path.as_str(), other, Share::Exclusive);
+    assert!(rt; matches!(named, Named::Unheld), "a folder that is a link");
+    fs::remove_dir_all(&rt, top.as_str())?;
+    Ok(())
+}
+
+#[test]
+fn a_lock_is_held_by_the_open_file(rt: HostRuntime) -> Result<(), Fail> {
+    let top = new_folder(&rt, "asked")?;
+    let path = format!(in rt.alloc(); "{top}/v")?;
+    fs::write(&rt, path.as_str(), "v")?;
+    let one = OpenOptions::new()
+        .read(true)
+        .write(true)
+        .open(&rt, path.as_str())?;
+    let two = File::open(&rt, path.as_str())?;
+    assert!(rt; ask(&one, Share::Exclusive) == Answer::Held, "held");
+    assert!(rt;
+        ask(&one, Share::Exclusive) == Answer::Held,
+        "asked for again"
+    );
+    assert!(rt;
+        ask(&two, Share::Shared) == Answer::Taken,
+        "not shared with it"
+    );
+    drop(one);
+    assert!(rt; ask(&two, Share::Exclusive) == Answer::Held, "let go");
+    fs::remove_dir_all(&rt, top.as_str())?;
+    Ok(())
+}

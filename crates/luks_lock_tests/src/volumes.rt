@@ -1,0 +1,122 @@
+//! Commands over a file whose lock another open file holds, opened as the program does.
+use crate::folders::new_folder;
+use luks_area::FileDevice;
+use luks_cache::CachedDevice;
+use luks_cli::{InputFault, Inputs, Reason, execute, line};
+use luks_lock::{LockedDevice, Notice, OpenFault, open_locked};
+use std::alloc::Global;
+use std::fs::{self, File};
+use std::rt::{Clock, Files};
+use std::test::Fail;
+
+/// The least length of a LUKS1 volume.
+const LENGTH: usize = 2097152;
+
+const FORMAT: &[&str] = &[
+    "luks",
+    "format",
+    "v",
+    "--passphrase=p",
+    "--random=r",
+    "--iterations=1000",
+    "--version=1",
+];
+
+const CHECK: &[&str] = &["luks", "check", "v"];
+
+/// The volume, as the program opens it.
+fn opened<R: AllocGlobal + Clock + Files<File = File>>(
+    rt: &R,
+    path: &str,
+    writes: bool,
+) -> Result<LockedDevice<FileDevice<File>>, InputFault> {
+    open_locked(rt, path, writes, "/nowhere").map_err(|fault| match fault {
+        OpenFault::Edited => InputFault::Unreadable(Reason::Edited),
+        OpenFault::NoVolume => InputFault::Unreadable(Reason::NoVolume),
+        OpenFault::File(_) => InputFault::Unreadable(Reason::Other),
+    })
+}
+
+/// Whether the command over the file of this name prints what is owed, to standard error too, and
+/// answers the status.
+fn says<R: AllocGlobal + Clock + Files<File = File>>(
+    rt: &R,
+    path: &str,
+    words: &[&str],
+    want: (&str, &str, u8),
+) -> Result<bool, Fail> {
+    let line = line(rt.alloc(), words)?;
+    let random = vec![in rt.alloc(); 7u8; 260000]?;
+    let mut inputs = Inputs {
+        volume: opened(rt, path, line.writes()).map(CachedDevice::new),
+        passphrase: Ok("one".as_bytes()),
+        new_passphrase: Err(InputFault::Absent),
+        random: Ok(random.as_slice()),
+    };
+    let mut out = Vec::new(rt.alloc());
+    let mut err = Vec::new(rt.alloc());
+    let status = execute(rt.alloc(), &line, &mut inputs, &mut out, &mut err);
+    let printed = out.as_slice() == want.0.as_bytes() && err.as_slice() == want.1.as_bytes();
+    Ok(printed && status == want.2)
+}
+
+const EDITED: (&str, &str, u8) = (
+    "device fault\n",
+    "luks: v: another program is editing it\n",
+    4,
+);
+
+#[test]
+fn a_lock_held_elsewhere_refuses_an_edit(rt: HostRuntime) -> Result<(), Fail> {
+    let top = new_folder(&rt, "edited")?;
+    let path = format!(in rt.alloc(); "{top}/v")?;
+    let path = path.as_str();
+    fs::write(&rt, path, vec![in rt.alloc(); 0u8; LENGTH]?.as_slice())?;
+    let holder = File::open(&rt, path)?;
+    assert!(rt; holder.try_lock().is_ok(), "another program holds it");
+    assert!(rt; says(&rt, path, FORMAT, EDITED)?, "refused");
+    let bytes = fs::read(&rt, path)?;
+    assert!(rt;
+        bytes.len() == LENGTH && bytes.iter().all(|byte| *byte == 0),
+        "no byte changed"
+    );
+    drop(holder);
+    assert!(rt;
+        says(&rt, path, FORMAT, ("done slot 0\n", "", 0))?,
+        "then done"
+    );
+    let accepted = ("accepted luks1 areas 10\n", "", 0);
+    let holder = File::open(&rt, path)?;
+    assert!(rt; holder.try_lock_shared().is_ok(), "another reader");
+    assert!(rt; says(&rt, path, CHECK, accepted)?, "read beside a reader");
+    assert!(rt;
+        says(&rt, path, FORMAT, EDITED)?,
+        "not edited beside a reader"
+    );
+    fs::remove_dir_all(&rt, top.as_str())?;
+    Ok(())
+}
+
+#[test]
+fn readers_go_on_beside_an_edit(rt: HostRuntime) -> Result<(), Fail> {
+    let top = new_folder(&rt, "read")?;
+    let path = format!(in rt.alloc(); "{top}/v")?;
+    let path = path.as_str();
+    fs::write(&rt, path, "no volume")?;
+    let editor = opened(&rt, path, true);
+    assert!(rt; editor.is_ok(), "an edit is begun");
+    let noticed = match opened(&rt, path, false) {
+        Ok(device) => device.lock().notices() == [Some(Notice::Edited), None],
+        Err(_) => false,
+    };
+    assert!(rt; noticed, "read, and told");
+    assert!(rt; opened(&rt, path, true).is_err(), "no second edit");
+    drop(editor);
+    let quiet = match opened(&rt, path, false) {
+        Ok(device) => device.lock().notices() == [None, None],
+        Err(_) => false,
+    };
+    assert!(rt; quiet, "nothing to tell");
+    fs::remove_dir_all(&rt, top.as_str())?;
+    Ok(())
+}
