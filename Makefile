@@ -4,6 +4,8 @@
 #   build     prove and build the program, and leave it at bin/luks
 #   test      the merge gate: every proof from nothing, the edits that must fail, each test, each program
 #   test-times  the same, and what it took: processor time by crate for its proof, its tests and its edits
+#   quick     between gates: proofs and tests of the crates that changed since BASE (the last commit) and of what stands on them
+#   plants    between gates: the edits that must fail of CRATE (of all), planted at once, each refused at its own function
 #   install   put the program into PREFIX/bin, its manual page into MANDIR, its completions into BASHCOMPDIR, ZSHCOMPDIR and FISHCOMPDIR
 #             (PREFIX is /usr/local, the others are Debian's places under it; all under DESTDIR where that is given)
 #   uninstall  take these away again
@@ -14,7 +16,7 @@
 #   clean     what the others made
 #   help      this list
 #
-# The first target that needs the program proves everything first, which takes some 15 minutes on 4 processors.
+# The first target that needs the program proves everything first, which takes some 10 minutes on 4 processors.
 # Rattle's command rt proves and builds; it writes its progress on standard error, and `rt run` ends with the program's own status.
 
 RT ?= rt
@@ -27,7 +29,7 @@ FISHCOMPDIR ?= $(PREFIX)/share/fish/vendor_completions.d
 
 SOURCES := crates.txt $(shell find crates -name out -prune -o -type f -print)
 
-.PHONY: help demo build test test-times install uninstall dist deb bench interop clean toolchain
+.PHONY: help demo build test test-times quick plants install uninstall dist deb bench interop clean toolchain
 
 help:
 	@sed -n '/^#/!q; s/^#$$//p; s/^# //p' $(firstword $(MAKEFILE_LIST))
@@ -54,6 +56,12 @@ test: toolchain
 
 test-times: toolchain
 	@RT="$(RT)" tools/times
+
+quick: toolchain
+	@RT="$(RT)" tools/quick $(or $(BASE),HEAD)
+
+plants: toolchain
+	@RT="$(RT)" tools/plants $(CRATE)
 
 install: bin/luks
 	install -D -m 755 bin/luks "$(DESTDIR)$(PREFIX)/bin/luks"

@@ -44,10 +44,11 @@ def out(crate, top=TOP):
 
 
 def files(crate):
-    """The files of a crate, without what rt made."""
-    for at, folders, names in os.walk(folder(crate)):
-        folders[:] = sorted(it for it in folders if it != "out")
-        yield from (os.path.join(at, name) for name in sorted(names))
+    """The files that a crate's proof goes by."""
+    for part in ("src", "specs", "proofs"):
+        for at, folders, names in os.walk(os.path.join(folder(crate), part)):
+            folders.sort()
+            yield from (os.path.join(at, name) for name in sorted(names))
 
 
 def say(text):

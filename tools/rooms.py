@@ -225,11 +225,9 @@ def all_done(uses, tasks, record):
     plan, runs = Plan(uses, tasks), Runs(uses, record)
     try:
         while plan.left or plan.running:
-            begun = plan.begun()
-            for task, jobs in begun:
+            for task, jobs in plan.begun():
                 runs.start(task, jobs)
-            if begun:
-                crates.say(plan.told())
+            crates.say(plan.told())
             task = runs.ended.get()
             plan.running.remove(task)
             if task.status != 0:
