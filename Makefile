@@ -12,7 +12,7 @@
 #   dist      the archive dist/luks-VERSION-linux-x86_64.tar.gz: the program, also static, its pages and install.sh, for a system without rt
 #   deb       the package dist/luks_VERSION_amd64.deb, for Debian; beside both, dist/SHA256SUMS has their sums
 #   bench     times and memory, beside other implementations
-#   interop   volumes that cryptsetup makes, checked and opened by bin/luks; each command of docs/RESCUE.md; the manual page
+#   interop   volumes that cryptsetup makes, checked and opened by bin/luks; each command of docs/RESCUE.md; the manual page; both packages
 #   clean     what the others made
 #   help      this list
 #

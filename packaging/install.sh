@@ -6,7 +6,7 @@
 #
 # PREFIX/share/doc/luks/INSTALLED lists what was put there. No other file is written over or removed: where one stands in the way, it is
 # named, and nothing is installed. The status is 0 where all is done, 1 where it isn't, 2 where the words are wrong.
-set -eu
+set -euf
 umask 022
 LC_ALL=C
 export LC_ALL
@@ -47,8 +47,13 @@ missing_folders() {
     done | sort -u
 }
 
+# What INSTALLED lists, of places that this script can have made.
+listed() {
+    grep -E '^(bin|share)/[A-Za-z0-9._/-]*$' "$prefix/$list" 2>/dev/null | grep -v -F .. || :
+}
+
 is_listed() {
-    [ -f "$prefix/$list" ] && grep -Fqx -e "$1" "$prefix/$list"
+    listed | grep -Fqx -e "$1"
 }
 
 compare_sums() {
@@ -84,7 +89,7 @@ install_all() {
     refuse_strangers
     new=$(files)
     folders=$(printf '%s\n' "$new" | missing_folders)
-    old=$(cat "$prefix/$list" 2>/dev/null || :)
+    old=$(listed)
     mkdir -p "$prefix/${list%/*}" || stop "nothing is installed"
     printf '%s\n' "$folders" "$new" "$old" | grep . | sort -u >"$prefix/$list" || stop "nothing is installed"
     for place in $new; do
@@ -108,7 +113,7 @@ install_all() {
 remove_all() {
     prefix=$(whole_name "$prefix")
     [ -f "$prefix/$list" ] || stop "$prefix/$list isn't there: nothing was installed under $prefix by this script"
-    all=$(sort -r "$prefix/$list")
+    all=$(listed | sort -r)
     for place in $all; do
         case $place in */) ;; *) rm -f "$prefix/$place" "$prefix/$place.new" || stop "not all is removed" ;; esac
     done
