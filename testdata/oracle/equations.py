@@ -1,4 +1,4 @@
-"""The equations of docs/FORMATS.md in Python, over hashlib and the AES of `cryptography`; no code is shared with the program."""
+"""The equations of docs/PROFILE.md in Python, over hashlib and the AES of `cryptography`; no code is shared with the program."""
 import hashlib
 import struct
 

@@ -1,4 +1,4 @@
-"""Volumes that tests speak of, as bytes: put together from docs/FORMATS.md alone."""
+"""Volumes that tests speak of, as bytes: put together from docs/PROFILE.md alone."""
 import base64
 import hashlib
 import json

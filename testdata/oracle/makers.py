@@ -1,6 +1,6 @@
 """New metadata made of old, on values as Python's json reads them; each call answers a new value and leaves the old one as it was.
 
-What an edit doesn't name is kept: members that docs/FORMATS.md doesn't list, numbers of tokens, the order in arrays.
+What an edit doesn't name is kept: members that docs/PROFILE.md doesn't list, numbers of tokens, the order in arrays.
 """
 import copy
 import json

@@ -1,4 +1,4 @@
-"""What docs/PROFILE.md, docs/FORMATS.md and docs/COMMANDS.md owe to a volume, in Python: `check`, `show` and `open` as (status, text). No code is shared."""
+"""What docs/PROFILE.md and docs/COMMANDS.md owe to a volume, in Python: `check`, `show` and `open` as (status, text). No code is shared."""
 import base64
 import hashlib
 import json
