@@ -1,6 +1,6 @@
 //! The locks of the files that stand for block devices.
 use crate::folders::new_folder;
-use luks_lock::{Answer, Named, Node, Share, ask, hold_name};
+use luks_lock::{Answer, Lock, Named, Node, Notice, Share, ask, hold_name};
 use std::fs::{self, File, OpenOptions};
 use std::os::unix::fs::{MetadataExt, symlink};
 use std::test::Fail;
@@ -103,4 +103,26 @@ fn a_lock_is_held_by_the_open_file(rt: HostRuntime) -> Result<(), Fail> {
     assert!(rt; ask(&two, Share::Exclusive) == Answer::Held, "let go");
     fs::remove_dir_all(&rt, top.as_str())?;
     Ok(())
+}
+
+#[test]
+fn tells_which_lock_is_not_held(rt: HostRuntime) {
+    let neither = Lock {
+        share: Share::Shared,
+        node: Answer::Unknown,
+        name: Named::Unheld,
+    };
+    assert!(rt;
+        neither.notices() == [Some(Notice::NoLock), Some(Notice::NoName)],
+        "neither"
+    );
+    let taken = Lock {
+        share: Share::Exclusive,
+        node: Answer::Held,
+        name: Named::Taken,
+    };
+    assert!(rt;
+        taken.is_taken() && taken.notices() == [Some(Notice::Edited), None],
+        "the name is another program's"
+    );
 }

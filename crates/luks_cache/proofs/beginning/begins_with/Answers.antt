@@ -1,4 +1,4 @@
-use Rattle.std.proofs.Common.{◌≡◌, ◌∙◌, IsTrue, List, ℕ, arith}
+use Rattle.std.proofs.Common.{◌∙◌, IsTrue, List, ℕ, arith}
 use Rattle.luks_area.specs.Device.{unchanged-then}
 use Rattle.luks_cache.proofs.Compared.{compared_on}
 use Rattle.luks_cache.proofs.beginning.begins_with.Goals as goal
