@@ -243,6 +243,7 @@ def ended_by_signals(main):
     """Runs `main` so that Ctrl-C, a closed terminal and `kill` end it in order, and ends with its status."""
     def end(number, _):
         signal.signal(number, signal.SIG_IGN)
+        crates.say(f"ended by {signal.Signals(number).name}")
         sys.exit(128 + number)
 
     for it in (signal.SIGINT, signal.SIGTERM, signal.SIGHUP):

@@ -135,38 +135,8 @@ fn still_opens(alloc: Global, left: &mut MemDevice, trial: &Trial) -> bool {
     either && opens(alloc, left, 1, b"two")
 }
 
-/// What is wrong where the call of this number fails: it is told after that call, and is the last; the
-/// bytes `want` are left, and the keyslots open.
-fn wrong_at(
-    alloc: Global,
-    image: &[u8],
-    trial: &Trial,
-    leave: Leave,
-    call: usize,
-    want: &[u8],
-) -> Result<Option<&'static str>, Fail> {
-    let Ended {
-        end,
-        calls,
-        mut left,
-    } = end_of(alloc, image, trial, call as u64, leave)?;
-    if end != End::Told {
-        return Ok(Some("the answer"));
-    }
-    if calls.len() != call.wrapping_add(1) {
-        return Ok(Some("the calls"));
-    }
-    if left.contents() != want {
-        return Ok(Some("the bytes"));
-    }
-    if !still_opens(alloc, &mut left, trial) {
-        return Ok(Some("the keyslots"));
-    }
-    Ok(None)
-}
-
-/// Whichever call fails, nothing is wrong: earlier calls have written their bytes, the failing one
-/// leaves what it leaves, and all others are as they were.
+/// Whichever call fails, it is told after that call, and is the last; the bytes that earlier calls
+/// wrote are left, what the failing one leaves, and all others as they were.
 fn fails_at_each_call(
     rt: &impl Abort,
     alloc: Global,
@@ -187,8 +157,18 @@ fn fails_at_each_call(
         let at = at as usize;
         let new = part(after, at, at.wrapping_add(len as usize));
         leave_behind(&mut want, at, new, leave);
-        let wrong = wrong_at(alloc, &image, trial, leave, i, &want)?.unwrap_or("");
-        assert!(rt; wrong.is_empty(), "call {i}: {wrong}");
+        let Ended {
+            end,
+            calls,
+            mut left,
+        } = end_of(alloc, &image, trial, i as u64, leave)?;
+        assert!(rt; end == End::Told, "call {i}: the answer");
+        assert!(rt; calls.len() == i.wrapping_add(1), "call {i}: the calls");
+        assert!(rt; left.contents() == want.as_slice(), "call {i}: the bytes");
+        assert!(rt;
+            still_opens(alloc, &mut left, trial),
+            "call {i}: the keyslots"
+        );
         put(&mut want, at, new);
     }
     assert!(rt; after == want.as_slice(), "all writes");

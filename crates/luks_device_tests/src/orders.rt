@@ -51,47 +51,46 @@ fn open_as_owed(alloc: Global, disk: &mut Disk, row: &Row) -> bool {
     true
 }
 
-/// What isn't as the row owes it, of its edit alone or as the only one of a list.
-fn wrong_of(alloc: Global, row: &Row, listed: bool) -> Result<Option<&'static str>, Fail> {
+/// Asserts what is owed to the row's edit, alone or as the only one of a list.
+fn compare(
+    rt: &impl Abort,
+    alloc: Global,
+    number: usize,
+    row: &Row,
+    listed: bool,
+) -> Result<(), Fail> {
     let random = counted(alloc, row.random)?;
     let mut device = Recording {
         device: disk_of(alloc, row.volume)?,
         calls: Vec::new(alloc),
     };
     let need = needed(alloc, &mut device, Data::Here, &row.edit);
-    if !need.is_ok_and(|need| need == row.random as u64) {
-        return Ok(Some("the random bytes"));
-    }
+    let enough = need.is_ok_and(|need| need == row.random as u64);
+    assert!(rt; enough, "row {number}: the random bytes");
     let answer = if listed {
         answer_of_list(alloc, &mut device, row, &random)?
     } else {
         apply(alloc, &mut device, Data::Here, &row.edit, &random)
     };
-    if line_of(alloc, &answer)?.as_str() != row.line {
-        return Ok(Some("the answer"));
-    }
+    let line = line_of(alloc, &answer)?;
+    assert!(rt; line.as_str() == row.line, "row {number}: the answer");
     let Recording { device, calls } = device;
     let ranges = written_ranges(alloc, &calls)?;
-    if ranges.as_slice() != row.calls {
-        return Ok(Some("the calls"));
-    }
+    assert!(rt; ranges.as_slice() == row.calls, "row {number}: the calls");
     let mut disk = device;
-    if !open_as_owed(alloc, &mut disk, row) {
-        return Ok(Some("the keyslots"));
-    }
-    if disk.beyond != 0 {
-        return Ok(Some("a call beyond"));
-    }
-    Ok(None)
+    assert!(rt;
+        open_as_owed(alloc, &mut disk, row),
+        "row {number}: the keyslots"
+    );
+    assert!(rt; disk.beyond == 0, "row {number}: a call beyond");
+    Ok(())
 }
 
 /// Asserts what is owed to each row.
 fn compare_all(rt: &impl Abort, alloc: Global, rows: &[Row]) -> Result<(), Fail> {
     for (number, row) in rows.iter().enumerate() {
-        for listed in [false, true] {
-            let wrong = wrong_of(alloc, row, listed)?.unwrap_or("");
-            assert!(rt; wrong.is_empty(), "row {number}: {wrong}");
-        }
+        compare(rt, alloc, number, row, false)?;
+        compare(rt, alloc, number, row, true)?;
     }
     Ok(())
 }

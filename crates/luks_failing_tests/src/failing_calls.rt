@@ -103,74 +103,38 @@ fn range_of(call: Call) -> (usize, usize) {
     }
 }
 
-/// A volume that is edited, with what a call that fails leaves of its own bytes.
-#[derive(Clone, Copy)]
-struct Case<'a> {
-    before: &'a [u8],
-    trial: &'a Trial,
-    random: &'a [u8],
-    leave: Leave,
-}
-
-/// What is wrong where the call of this number fails: it is told after that call, and is the last; the
-/// bytes `want` are left, and the keyslots open. `after` is the volume where no call fails.
-fn wrong_at(
+/// Whichever call fails, it is told after that call, and is the last; the bytes that earlier calls
+/// wrote are left, what the failing one leaves, and all others as they were.
+fn fails_at_each_call(
+    rt: &impl Abort,
     alloc: Global,
-    case: &Case<'_>,
-    call: usize,
-    want: &[u8],
-    after: &[u8],
-) -> Result<Option<&'static str>, Fail> {
-    let Case {
-        before,
-        trial,
-        random,
-        leave,
-    } = *case;
-    let Ended {
-        end,
-        calls,
-        mut left,
-    } = end_of(alloc, before, &trial.edit, random, call as u64, leave)?;
-    let is_luks2 = part(before, 6, 8) == [0, 2].as_slice();
-    if end != End::Told {
-        return Ok(Some("the answer"));
-    }
-    if calls.len() != call.wrapping_add(1) {
-        return Ok(Some("the calls"));
-    }
-    if left.contents() != want {
-        return Ok(Some("the bytes"));
-    }
-    if !keyslots_open(alloc, &mut left, trial) {
-        return Ok(Some("the keyslots"));
-    }
-    if is_luks2 && !is_before_or_after(alloc, &mut left, before, after)? {
-        return Ok(Some("the copy that counts"));
-    }
-    Ok(None)
-}
-
-/// Whichever call fails, nothing is wrong: earlier calls have written their bytes, the failing one
-/// leaves what it leaves, and all others are as they were.
-fn fails_at_each_call(rt: &impl Abort, alloc: Global, case: &Case<'_>) -> Result<(), Fail> {
-    let Case {
-        before,
-        trial,
-        random,
-        leave,
-    } = *case;
-    let done = end_of(alloc, before, &trial.edit, random, u64::MAX, leave)?;
+    before: &[u8],
+    trial: &Trial,
+    leave: Leave,
+) -> Result<(), Fail> {
+    let random = counted(alloc, 7, trial.random)?;
+    let done = end_of(alloc, before, &trial.edit, &random, u64::MAX, leave)?;
     assert!(rt; done.end == End::Done, "no call fails");
     assert!(rt; done.calls.len() > 8, "the calls");
     let after = done.left.contents();
+    let is_luks2 = part(before, 6, 8) == [0, 2].as_slice();
     let mut want = before.to_vec(alloc)?;
     for (i, call) in done.calls.iter().enumerate() {
         let (at, len) = range_of(*call);
         let new = part(after, at, at.wrapping_add(len));
         leave_behind(&mut want, at, new, leave);
-        let wrong = wrong_at(alloc, case, i, &want, after)?.unwrap_or("");
-        assert!(rt; wrong.is_empty(), "call {i}: {wrong}");
+        let Ended {
+            end,
+            calls,
+            mut left,
+        } = end_of(alloc, before, &trial.edit, &random, i as u64, leave)?;
+        assert!(rt; end == End::Told, "call {i}: the answer");
+        assert!(rt; calls.len() == i.wrapping_add(1), "call {i}: the calls");
+        assert!(rt; left.contents() == want.as_slice(), "call {i}: the bytes");
+        let opened = keyslots_open(alloc, &mut left, trial);
+        assert!(rt; opened, "call {i}: the keyslots");
+        let known = !is_luks2 || is_before_or_after(alloc, &mut left, before, after)?;
+        assert!(rt; known, "call {i}: the copy that counts");
         put(&mut want, at, new);
     }
     assert!(rt; after == want.as_slice(), "all writes");
@@ -179,33 +143,26 @@ fn fails_at_each_call(rt: &impl Abort, alloc: Global, case: &Case<'_>) -> Result
 
 const LEAVES: [Leave; 4] = [Leave::Old, Leave::New, Leave::Ones, Leave::Half];
 
-/// The trials' edits of the volume, whatever a failing call leaves.
-fn each_edit(rt: &impl Abort, alloc: Global, before: &[u8], trials: &[Trial]) -> Result<(), Fail> {
-    for trial in trials.iter() {
-        let random = counted(alloc, 7, trial.random)?;
+#[test]
+fn each_edit_of_luks1(rt: HostRuntime) -> Result<(), Fail> {
+    let before = two_luks1_keyslots(rt.alloc())?;
+    for trial in LUKS1.iter() {
         for leave in LEAVES {
-            let case = Case {
-                before,
-                trial,
-                random: &random,
-                leave,
-            };
-            fails_at_each_call(rt, alloc, &case)?;
+            fails_at_each_call(&rt, rt.alloc(), &before, trial, leave)?;
         }
     }
     Ok(())
 }
 
 #[test]
-fn each_edit_of_luks1(rt: HostRuntime) -> Result<(), Fail> {
-    let before = two_luks1_keyslots(rt.alloc())?;
-    each_edit(&rt, rt.alloc(), &before, &LUKS1)
-}
-
-#[test]
 fn each_edit_of_luks2(rt: HostRuntime) -> Result<(), Fail> {
     let before = two_keyslots(rt.alloc())?;
-    each_edit(&rt, rt.alloc(), &before, &LUKS2)
+    for trial in LUKS2.iter() {
+        for leave in LEAVES {
+            fails_at_each_call(&rt, rt.alloc(), &before, trial, leave)?;
+        }
+    }
+    Ok(())
 }
 
 /// Where the passphrase is wrong no byte changes, whichever call fails.
