@@ -15,6 +15,7 @@ use Rattle.luks_edit.specs.declared.edit_fault.EditFault.TheVariants as fault
 use Rattle.luks_edit.specs.Asked.{HasFewIterations, OpensBy}
 use Rattle.luks_edit.specs.EditFaults.{edit_place, edit_row}
 use Rattle.luks_edit.specs.Opener.{IsLocked, IsShut}
+use Rattle.luks_edit.specs.RowFacts.{in_table, plan_of}
 use Rattle.luks1_edits.specs.Accepted.{IsNewFault, IsOpenedBy, IsUnopened}
 use Rattle.luks1_edits.specs.Edited.{IsInUse}
 use Rattle.luks1_edits.specs.Refused.{HasNoFree, IsAbsent, IsEditFault1, IsLabel, IsLast, IsMiscounted, IsTaken, IsTakenFor, IsUnrefused1, LacksFree, Refusal1}
@@ -85,22 +86,7 @@ rows_from k v payload e r x fault.Device bad = absurd bad
 
 -- no fault stands past the last row
 pub no_row_past : (f : EditFault) → 17 ≤ edit_row f → ⊥
-no_row_past (fault.NotAccepted f) over = omega arith
-no_row_past fault.Requirements over = omega arith
-no_row_past fault.NoSuchSlot over = omega arith
-no_row_past fault.Locked over = omega arith
-no_row_past (fault.Slot s) over = omega arith
-no_row_past fault.SlotTaken over = omega arith
-no_row_past fault.NoFreeSlot over = omega arith
-no_row_past fault.NoRoom over = omega arith
-no_row_past fault.LastSlot over = omega arith
-no_row_past fault.Iterations over = omega arith
-no_row_past fault.BadLabel over = omega arith
-no_row_past fault.SeqExhausted over = omega arith
-no_row_past fault.MetadataFull over = omega arith
-no_row_past fault.RandomLength over = omega arith
-no_row_past fault.Memory over = omega arith
-no_row_past fault.Device over = omega arith
+no_row_past f over = let row : edit_row f < 17 = in_table f in omega (arith, row, over)
 
 -- nothing refuses where all rows were passed
 pub unrefused : (v : List ℕ) (payload : Data) (e : Edit) (r : List ℕ) → Passed 17 v payload e r → IsUnrefused1 v payload e r
@@ -158,22 +144,9 @@ module _ (v : List ℕ) (payload : Data) (e : Edit) (r : List ℕ) (accepted : (
       }
 
       place : (g : EditFault) → IsEditFault1 v payload e r g → 5 ≡ edit_row g → NotAfter (slot_row f ∷ []) (edit_place g)
-      place (fault.NotAccepted g) bad same = absurd (omega arith)
-      place fault.Requirements bad same = absurd (omega arith)
-      place fault.NoSuchSlot bad same = absurd (omega arith)
-      place fault.Locked bad same = absurd (omega arith)
-      place (fault.Slot g) bad same = (here.1 (opening.Slot g) (shut_here g bad).0).1 refl
-      place fault.SlotTaken bad same = absurd (omega arith)
-      place fault.NoFreeSlot bad same = absurd (omega arith)
-      place fault.NoRoom bad same = absurd (omega arith)
-      place fault.LastSlot bad same = absurd (omega arith)
-      place fault.Iterations bad same = absurd (omega arith)
-      place fault.BadLabel bad same = absurd (omega arith)
-      place fault.SeqExhausted bad same = absurd (omega arith)
-      place fault.MetadataFull bad same = absurd (omega arith)
-      place fault.RandomLength bad same = absurd (omega arith)
-      place fault.Memory bad same = absurd (omega arith)
-      place fault.Device bad same = absurd (omega arith)
+      place g bad same =
+          let s = plan_of g (sym same) in
+          rw s.1 ((here.1 (opening.Slot s.0) (shut_here s.0 (subst (IsEditFault1 v payload e r) s.1 bad)).0).1 refl)
 
   -- the keyslot doesn't open
   pub unopened_ends : (w : List ℕ) (f : EditFault) → w ≡ v → IsUnopened v n p f → EndsBy1 payload v e r f w

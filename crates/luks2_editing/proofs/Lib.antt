@@ -1,6 +1,5 @@
 mod NewCopyFacts
 mod RewritingFacts
-mod RowFacts
 mod RenewalFacts
 mod KeyAreaFacts
 mod JudgedFacts

@@ -15,32 +15,33 @@ use Rattle.luks_reading.specs.declared.report.Data.{Data}
 use Rattle.luks_reading.specs.Checked.{WellFormed}
 use Rattle.luks_reading.specs.Header.{IsChosenCopy}
 use Rattle.luks_edit.specs.declared.edit.Edit.TheVariants.{Remove}
+use Rattle.luks_edit.specs.declared.edit_fault.EditFault.TheVariants as fault
+use Rattle.luks_edit.specs.RowFacts.{passed_from, Passed}
 use Rattle.luks2_edits.specs.Edited.{After2}
 use Rattle.luks2_edits.specs.Leftovers.{Leftover2}
 use Rattle.luks2_edits.specs.Metadata.{IsKeyArea}
 use Rattle.luks2_edits.specs.Places.{IsOfCopies, IsTouched}
-use Rattle.luks2_edits.specs.Refused.{IsAbsent}
+use Rattle.luks2_edits.specs.Refused.{IsEditFault2, IsAbsent}
 use Rattle.luks2_judging.specs.Rows.{HasNoFaultBefore}
 use Rattle.luks2_editing.specs.Lost.{HasKeyArea}
 use Rattle.luks2_editing.specs.Prepared.{IsPrepared}
 use Rattle.luks2_editing.specs.Rewriting.{AreWrittenAnew}
 use Rattle.luks2_editing.proofs.LostFacts.{beside_first, beside_second, both_beside, lost_inside}
 use Rattle.luks2_editing.proofs.RenewalFacts.{listed_at_least, metadata_here, prepared_unrefused, said, size_is, sound_here, written_after, VolumeLaws}
-use Rattle.luks2_editing.proofs.RowFacts.{passed_before, Passed}
 
 -- ---- the keyslot's area
 
 module _ (laws : VolumeLaws) (v : List ℕ) (payload : Data) (copy : ChosenCopy) (x : IsChosenCopy v copy) (well : WellFormed v payload)
     (slot : ℕ) (passphrase : Bor (List ℕ)) (random : List ℕ) (numbered : slot < 32) (before : HasNoFaultBefore 12 v payload (Remove slot passphrase) random) where
-  pub removal_passed : Passed 12 v payload (Remove slot passphrase) random
-  removal_passed = passed_before v payload (Remove slot passphrase) random before.each
+  pub removal_passed : Passed (IsEditFault2 v payload (Remove slot passphrase) random) 12
+  removal_passed = passed_from (IsEditFault2 v payload (Remove slot passphrase) random) 12 before.each
 
   -- it is there, inside the volume
   pub key_area_there : HasKeyArea (content copy.meta) slot (length v)
   key_area_there = record {
     used = elim (cases_Bool (is_some (object_at (content copy.meta) Keyslots slot))) [
       | inl some ↦ (numbered, some)
-      | inr none ↦ absurd (removal_passed.opener.there (omega arith)
+      | inr none ↦ absurd (removal_passed.none fault.NoSuchSlot (omega arith)
           (said laws v payload copy x well (λ o j. IsAbsent j (Remove slot passphrase))
           (record { slot = slot; passphrase = passphrase.now; asked = (refl, refl); unused = λ used. true≢false (sym used.1 ∙ none) })))
     ];

@@ -24,16 +24,16 @@ use Rattle.luks_reading.specs.Header.{json_at, IsChosenCopy}
 use Rattle.luks_edit.specs.declared.edit.Edit.{Edit}
 use Rattle.luks_edit.specs.declared.edit_fault.EditFault.{EditFault}
 use Rattle.luks_edit.specs.declared.edit_fault.EditFault.TheVariants as fault
+use Rattle.luks_edit.specs.RowFacts.{first_of_row, next, none_at_all, Passed}
 use Rattle.luks2_edits.specs.Copies.{label_after, label_field}
 use Rattle.luks2_edits.specs.Edited.{keyslot_salt, After2, IsEdited, IsSealedBy, IsWipedBy}
 use Rattle.luks2_edits.specs.Leftovers.{IsTornAt}
 use Rattle.luks2_edits.specs.Metadata.{HasMetadata}
 use Rattle.luks2_edits.specs.Places.{IsOfCopies, IsTouched}
-use Rattle.luks2_edits.specs.Refused.{HasSaid, IsFull, IsMiscounted, IsUnrefused2, Need2}
+use Rattle.luks2_edits.specs.Refused.{IsEditFault2, HasSaid, IsFull, IsMiscounted, IsUnrefused2, Need2}
 use Rattle.luks2_editing.specs.Prepared.{IsCopyWithin, IsPrepared, IsUnwritten}
 use Rattle.luks2_editing.specs.Replies.{EndsBy2}
 use Rattle.luks2_editing.specs.Rewriting.{AreWrittenAnew, IsRenewing, MayBeHalfWritten}
-use Rattle.luks2_editing.proofs.RowFacts.{first_of_row, passed_then, unrefused, Passed}
 
 -- the laws of the crates below on which these facts rest
 pub record VolumeLaws : Type 0 where
@@ -139,7 +139,7 @@ module _ (laws : VolumeLaws) (v : List ℕ) (payload : Data) (copy : ChosenCopy)
 
   -- ---- an edit that makes `new` of the metadata, once the rows before that of the number were passed
 
-  module _ (e : Edit) (random : List ℕ) (new : Value) (passed : Passed 12 v payload e random)
+  module _ (e : Edit) (random : List ℕ) (new : Value) (passed : Passed (IsEditFault2 v payload e random) 12)
       (edited : (salt : List ℕ) → IsEdited (hdr_size (header_at v copy.header.hdr_offset)) (length v) payload e salt (content copy.meta) new)
       (edited_only : (salt : List ℕ) (k : Value) → IsEdited (hdr_size (header_at v copy.header.hdr_offset)) (length v) payload e salt (content copy.meta) k → k ≡ new)
       (need : Need2 (content copy.meta) e 128) (need_only : (k : ℕ) → Need2 (content copy.meta) e k → k ≡ 128)
@@ -165,13 +165,20 @@ module _ (laws : VolumeLaws) (v : List ℕ) (payload : Data) (copy : ChosenCopy)
         let other : IsMiscounted (content copy.meta) e random = said_here (λ o j. IsMiscounted j e random) bad in
         other.other (count ∙ sym (need_only other.need other.is))
 
-    rest_passed : (k : ℕ) (low : 12 < k → copy.header.seqid + 1 < 2 ^ 64) (room : 13 < k → length (compact_text new) < area_len copy.meta) (count : 14 < k → length random ≡ 128)
-        → Passed k v payload e random
-    rest_passed k low room count = passed_then k v payload e random passed (λ lt. numbered_of (low lt)) (λ lt. roomy_of (room lt)) (λ lt. counted_of (count lt))
+    past_number : copy.header.seqid + 1 < 2 ^ 64 → Passed (IsEditFault2 v payload e random) 13
+    past_number low = next (IsEditFault2 v payload e random) fault.SeqExhausted refl passed (numbered_of low)
+
+    past_room : copy.header.seqid + 1 < 2 ^ 64 → length (compact_text new) < area_len copy.meta → Passed (IsEditFault2 v payload e random) 14
+    past_room low room = next (IsEditFault2 v payload e random) fault.MetadataFull refl (past_number low) (roomy_of room)
+
+    past_all : copy.header.seqid + 1 < 2 ^ 64 → length (compact_text new) < area_len copy.meta → length random ≡ 128 → Passed (IsEditFault2 v payload e random) 17
+    past_all low room count =
+        let s = IsEditFault2 v payload e random in
+        next s fault.Device refl (next s fault.Memory refl (next s fault.RandomLength refl (past_room low room) (counted_of count)) (λ bad. bad)) (λ bad. bad)
 
     -- nothing refuses it where all was prepared
     pub prepared_unrefused : IsPrepared copy.header.seqid (area_len copy.meta) new random 128 → IsUnrefused2 v payload e random
-    prepared_unrefused p = unrefused v payload e random (rest_passed 17 (λ _. p.numbered) (λ _. p.room) (λ _. p.counted))
+    prepared_unrefused p = record { none = none_at_all (IsEditFault2 v payload e random) (past_all p.numbered p.room p.counted) }
 
     torn_here : (w : List ℕ) → MayBeHalfWritten v copy.header.hdr_offset e random new v w → IsTornAt v payload e random copy.header.hdr_offset (content copy.meta) new w
     torn_here w (inl same) = inr (inl (record { sealed = sealed w; rest = same_but-wider (λ p at. inr at) same }))
@@ -181,12 +188,12 @@ module _ (laws : VolumeLaws) (v : List ℕ) (payload : Data) (copy : ChosenCopy)
     pub unwritten_ends : (w : List ℕ) (f : EditFault) → IsUnwritten copy.header.seqid (area_len copy.meta) new random 128 f → (f ≢ fault.Device → w ≡ v)
         → MayBeHalfWritten v copy.header.hdr_offset e random new v w → EndsBy2 payload v e random f w
     unwritten_ends w fault.SeqExhausted bad same half = (
-      first_of_row v payload e random fault.SeqExhausted refl (rest_passed 12 (λ lt. absurd (omega (arith, lt))) (λ lt. absurd (omega (arith, lt))) (λ lt. absurd (omega (arith, lt))))
+      first_of_row (IsEditFault2 v payload e random) fault.SeqExhausted refl passed
           (said (λ o j. seqid (header_at v o) + 1 ≡ 2 ^ 64) (ap (λ n. n + 1) x.header.seqid ∙ bad)),
       same (λ t. cc),
     )
     unwritten_ends w fault.MetadataFull bad same half = (
-      first_of_row v payload e random fault.MetadataFull refl (rest_passed 13 (λ lt. bad.numbered) (λ lt. absurd (omega (arith, lt))) (λ lt. absurd (omega (arith, lt))))
+      first_of_row (IsEditFault2 v payload e random) fault.MetadataFull refl (past_number bad.numbered)
           (said (λ o j. IsFull (hdr_size (header_at v o)) (length v) payload j e) (record {
             salt = replicate 32 0;
             salt_bytes = zeros_are_bytes 32;
@@ -198,7 +205,7 @@ module _ (laws : VolumeLaws) (v : List ℕ) (payload : Data) (copy : ChosenCopy)
       same (λ t. cc),
     )
     unwritten_ends w fault.RandomLength bad same half = (
-      first_of_row v payload e random fault.RandomLength refl (rest_passed 14 (λ lt. bad.numbered) (λ lt. bad.room) (λ lt. absurd (omega (arith, lt))))
+      first_of_row (IsEditFault2 v payload e random) fault.RandomLength refl (past_room bad.numbered bad.room)
           (said (λ o j. IsMiscounted j e random) (record { need = 128; is = need; other = bad.other })),
       same (λ t. cc),
     )

@@ -14,8 +14,9 @@ use Rattle.luks_reading.specs.Header.{json_at}
 use Rattle.luks_edit.specs.declared.edit.Edit.{Edit}
 use Rattle.luks_edit.specs.declared.edit_fault.EditFault.{EditFault}
 use Rattle.luks_edit.specs.declared.edit_fault.EditFault.TheVariants as fault
+use Rattle.luks_edit.specs.RowFacts.{first_of_row, next, none_at_all, passed_from, Passed}
 use Rattle.luks2_edits.specs.Edited.{members_of, IsEdited}
-use Rattle.luks2_edits.specs.Refused.{HasSaid, IsFull, IsMiscounted, IsUnrefused2, Need2, NeedsLike}
+use Rattle.luks2_edits.specs.Refused.{IsEditFault2, HasSaid, IsFull, IsMiscounted, IsUnrefused2, Need2, NeedsLike}
 use Rattle.luks2_judging.specs.Salts.{HasOneDigest}
 use Rattle.luks2_editing.specs.declared.sealed_metadata.Sealing.{Sealing}
 use Rattle.luks2_editing.specs.MadeMetadata.{like_of, IsMadeBy, IsSealingEdit}
@@ -24,7 +25,6 @@ use Rattle.luks2_editing.specs.Replies.{EndsBy2}
 use Rattle.luks2_editing.proofs.MadeMetadataFacts.{asked_need, made_edited}
 use Rattle.luks2_editing.proofs.OpenedFacts.{opened_kdf, opened_plan, HasOpenPlan}
 use Rattle.luks2_editing.proofs.RenewalFacts.{len_here, metadata_here, said, said_here, VolumeLaws}
-use Rattle.luks2_editing.proofs.RowFacts.{first_of_row, passed_before, passed_then, unrefused, Passed}
 use Rattle.luks2_editing.proofs.ToldFacts.{ToldLaws}
 
 -- the laws of the crates below on which these facts rest
@@ -44,8 +44,8 @@ module _ (laws : SealingLaws) (v : List ℕ) (payload : Data) (e : Edit) (random
   edited_by salt new made =
       made_edited (hdr_size (header_at v copy.header.hdr_offset)) (length v) payload e (content copy.meta) new sealing.keyslot sealing.iterations salt sealing.area x.asked x.place made
 
-  passed : Passed 12 v payload e random
-  passed = passed_before v payload e random x.before.each
+  passed : Passed (IsEditFault2 v payload e random) 12
+  passed = passed_from (IsEditFault2 v payload e random) 12 x.before.each
 
   module _ (salt : List ℕ) (bytes : IsBytes salt) (long : length salt ≡ 32) (new : Value)
       (made : IsMadeBy sealing.keyslot (members_of sealing.iterations salt sealing.area) (content copy.meta) new)
@@ -84,23 +84,30 @@ module _ (laws : SealingLaws) (v : List ℕ) (payload : Data) (e : Edit) (random
         let other : IsMiscounted (content copy.meta) e random = said_here laws.volume v payload copy x.chosen x.well (λ o j. IsMiscounted j e random) bad in
         other.other (count ∙ laws.told.need (content copy.meta) e n other.need need other.is)
 
-    rest_passed : (k : ℕ) (low : 12 < k → copy.header.seqid + 1 < 2 ^ 64) (room : 13 < k → length (compact_text new) < area_len copy.meta) (count : 14 < k → length random ≡ n)
-        → Passed k v payload e random
-    rest_passed k low room count = passed_then k v payload e random passed (λ lt. numbered_of (low lt)) (λ lt. roomy_of (room lt)) (λ lt. counted_of (count lt))
+    past_number : copy.header.seqid + 1 < 2 ^ 64 → Passed (IsEditFault2 v payload e random) 13
+    past_number low = next (IsEditFault2 v payload e random) fault.SeqExhausted refl passed (numbered_of low)
+
+    past_room : copy.header.seqid + 1 < 2 ^ 64 → length (compact_text new) < area_len copy.meta → Passed (IsEditFault2 v payload e random) 14
+    past_room low room = next (IsEditFault2 v payload e random) fault.MetadataFull refl (past_number low) (roomy_of room)
+
+    past_all : copy.header.seqid + 1 < 2 ^ 64 → length (compact_text new) < area_len copy.meta → length random ≡ n → Passed (IsEditFault2 v payload e random) 17
+    past_all low room count =
+        let s = IsEditFault2 v payload e random in
+        next s fault.Device refl (next s fault.Memory refl (next s fault.RandomLength refl (past_room low room) (counted_of count)) (λ bad. bad)) (λ bad. bad)
 
     -- nothing refuses it where all was prepared
     pub sealing_unrefused : IsPrepared copy.header.seqid (area_len copy.meta) new random n → IsUnrefused2 v payload e random
-    sealing_unrefused p = unrefused v payload e random (rest_passed 17 (λ _. p.numbered) (λ _. p.room) (λ _. p.counted))
+    sealing_unrefused p = record { none = none_at_all (IsEditFault2 v payload e random) (past_all p.numbered p.room p.counted) }
 
     -- how it ends where it wasn't
     pub unprepared_ends : (f : EditFault) → IsUnprepared copy.header.seqid (area_len copy.meta) new random n f → EndsBy2 payload v e random f v
     unprepared_ends fault.SeqExhausted bad = (
-      first_of_row v payload e random fault.SeqExhausted refl (rest_passed 12 (λ lt. absurd (omega (arith, lt))) (λ lt. absurd (omega (arith, lt))) (λ lt. absurd (omega (arith, lt))))
+      first_of_row (IsEditFault2 v payload e random) fault.SeqExhausted refl passed
           (said laws.volume v payload copy x.chosen x.well (λ o j. seqid (header_at v o) + 1 ≡ 2 ^ 64) (ap (λ n. n + 1) x.chosen.header.seqid ∙ bad)),
       refl,
     )
     unprepared_ends fault.MetadataFull bad = (
-      first_of_row v payload e random fault.MetadataFull refl (rest_passed 13 (λ lt. bad.numbered) (λ lt. absurd (omega (arith, lt))) (λ lt. absurd (omega (arith, lt))))
+      first_of_row (IsEditFault2 v payload e random) fault.MetadataFull refl (past_number bad.numbered)
           (said laws.volume v payload copy x.chosen x.well (λ o j. IsFull (hdr_size (header_at v o)) (length v) payload j e) (record {
             salt = salt;
             salt_bytes = bytes;
@@ -112,7 +119,7 @@ module _ (laws : SealingLaws) (v : List ℕ) (payload : Data) (e : Edit) (random
       refl,
     )
     unprepared_ends fault.RandomLength bad = (
-      first_of_row v payload e random fault.RandomLength refl (rest_passed 14 (λ lt. bad.numbered) (λ lt. bad.room) (λ lt. absurd (omega (arith, lt))))
+      first_of_row (IsEditFault2 v payload e random) fault.RandomLength refl (past_room bad.numbered bad.room)
           (said laws.volume v payload copy x.chosen x.well (λ o j. IsMiscounted j e random) (record { need = n; is = need; other = bad.other })),
       refl,
     )

@@ -10,6 +10,5 @@ mod MadeFacts
 mod NeedFacts
 mod OpenerFacts
 mod RoomFacts
-mod RowFacts
 mod SaltFacts
 mod StripeFacts

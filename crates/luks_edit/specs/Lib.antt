@@ -3,3 +3,4 @@ pub mod Asked
 pub mod Kept
 pub mod Ran
 pub mod Opener
+pub mod RowFacts
