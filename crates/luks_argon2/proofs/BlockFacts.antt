@@ -18,27 +18,6 @@ same_as_map xs f n long at =
     let below : k < n = omega (arith, long) in
     at k below ∙ sym (get_or-map-range_with_len f 0 n k k 0 below (omega arith)))
 
--- one place more is written
-pub written_next : (xs : List ℕ) (f : ℕ → ℕ) (n x : ℕ) → n < length xs → ((k : ℕ) → k < n → slice_index xs k ≡ f k) → x ≡ f n
-    → (k : ℕ) → k < n + 1 → slice_index (slice_set xs n x) k ≡ f k
-written_next xs f n x fits before is k lt = elim (cases_lt k n) [
-  | inl a ↦ get_or-set_other xs n k x 0 (omega arith) ∙ before k a
-  | inr b ↦
-      let e : n ≡ k = omega arith in
-      rw (← e) (get_or-set_same xs n x 0 fits ∙ is)
-]
-
--- a write at place p n, for places that differ
-pub scattered_next : (xs vs : List ℕ) (p : ℕ → ℕ) (n : ℕ) → p n < length xs
-    → ((k : ℕ) → k < n → p n ≢ p k) → ((k : ℕ) → k < n → slice_index xs (p k) ≡ slice_index vs k)
-    → (k : ℕ) → k < n + 1 → slice_index (slice_set xs (p n) (slice_index vs n)) (p k) ≡ slice_index vs k
-scattered_next xs vs p n fits apart before k lt = elim (cases_lt k n) [
-  | inl a ↦ get_or-set_other xs (p n) (p k) (slice_index vs n) 0 (λ e. apart k a (sym e)) ∙ before k a
-  | inr b ↦
-      let e : n ≡ k = omega arith in
-      rw (← e) (get_or-set_same xs (p n) (slice_index vs n) 0 fits)
-]
-
 -- the code's sum with twice its product is the standard's
 pub multiplied_sum-is : (x y s p : ℕ) → p ≡ bit_and x 0xFFFFFFFF * bit_and y 0xFFFFFFFF % 2 ^ 64
     → s ≡ ((x + y) % 2 ^ 64 + (p + p) % 2 ^ 64) % 2 ^ 64 → s ≡ multiplied_sum x y
@@ -60,14 +39,6 @@ pub column_is : (v x : List ℕ) (j : ℕ) → length v ≡ 16
     → ((n : ℕ) → n < 16 → slice_index v n ≡ slice_index x (16 * (n / 2) + 2 * j + n % 2)) → v ≡ column x j
 unfolding column
 column_is v x j long at = same_as_map v (λ n. slice_index x (16 * (n / 2) + 2 * j + n % 2)) 16 long at
-
--- the words of a row
-pub row_at : (x : List ℕ) (i : ℕ) → (length (row x i) ≡ 16) × ((n : ℕ) → n < 16 → slice_index (row x i) n ≡ slice_index x (16 * i + n))
-unfolding row
-row_at x i = (
-  length-map-range_with_len (λ n. slice_index x (16 * i + n)) 0 16,
-  λ n lt. get_or-map-range_with_len (λ n. slice_index x (16 * i + n)) 0 16 n n 0 lt (omega arith),
-)
 
 -- the words of a column
 pub column_at : (x : List ℕ) (j : ℕ) → (length (column x j) ≡ 16)
