@@ -5,7 +5,7 @@ use luks_argon2::Blake2b;
 /// Whether the bytes are those of the text.
 fn is_hex(bytes: &[u8; 64], text: &str) -> bool {
     let mut want = [0u8; 64];
-    hex::decode_to_slice(text, &mut want).is_ok() && *bytes == want
+    hex::decode_to_slice(text.as_bytes(), &mut want).is_ok() && *bytes == want
 }
 
 /// The digest of 64 bytes of two pieces.
@@ -71,7 +71,7 @@ const DIGESTS: [(usize, &str); 9] = [
 fn digest_of_the_standard(rt: HostRuntime) {
     // RFC 7693, appendix A
     let want =
-        "ba80a53f981c4d0d6a2797b69f12f6e94c212f14685ac4b74b12bb6fdbffa2d17d87c5392aab792dc252d5de4533cc9518d38aa8dbc4925ab92386edd4009923";
+        "ba80a53f981c4d0d6a2797b69f12f6e94c212f14685ac4b74b12bb6fdbffa2d17d87c5392aab792dc252d5de4533cc9518d38aa8dbf1925ab92386edd4009923";
     assert!(rt; is_hex(&digest_of(b"abc", b""), want), "whole");
     assert!(rt; is_hex(&digest_of(b"a", b"bc"), want), "in pieces");
 }
@@ -79,9 +79,9 @@ fn digest_of_the_standard(rt: HostRuntime) {
 #[test]
 fn digests_of_fronts(rt: HostRuntime) {
     let bytes = message();
-    for (len, want) in &DIGESTS {
-        assert!(rt; *len <= 300, "no such front");
-        let (first, second) = bytes[..*len].split_at(*len / 3);
+    for (len, want) in DIGESTS {
+        assert!(rt; len <= 300, "no such front");
+        let (first, second) = bytes[..len].split_at(len / 3);
         assert!(rt; is_hex(&digest_of(first, second), want), "another digest");
     }
 }

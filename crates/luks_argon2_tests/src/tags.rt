@@ -363,12 +363,12 @@ const SALT: [u8; 64] = [
 fn is_hex(bytes: &[u8], text: &str) -> bool {
     let mut want = [0u8; 128];
     let len = bytes.len();
-    len <= 128 && hex::decode_to_slice(text, &mut want[..len]).is_ok() && bytes == &want[..len]
+    len <= 128 && hex::decode_to_slice(text.as_bytes(), &mut want[..len]).is_ok() && bytes == &want[..len]
 }
 
 /// Whether this is the tag; not where a row is none that Argon2 takes.
-fn is_tag(alloc: Global, row: &Row) -> Result<bool, Argon2Fault> {
-    let (variant, lanes, memory, time, salt_len, want) = *row;
+fn is_tag(alloc: Global, row: Row) -> Result<bool, Argon2Fault> {
+    let (variant, lanes, memory, time, salt_len, want) = row;
     let len = want.len() / 2;
     if lanes == 0 || lanes >= 1 << 24 || memory / 8 < lanes || time == 0 {
         return Ok(false);
@@ -394,7 +394,7 @@ fn is_tag(alloc: Global, row: &Row) -> Result<bool, Argon2Fault> {
 #[test]
 fn tags_of_other_implementations(rt: HostRuntime) {
     let alloc = rt.alloc();
-    for row in &TAGS {
+    for row in TAGS {
         assert!(rt; is_tag(alloc, row) == Ok(true), "another tag");
     }
 }
@@ -423,11 +423,11 @@ fn tags_of_the_standard(rt: HostRuntime) {
         memory: 32,
         lanes: 4,
     };
-    for (variant, want) in &STANDARD {
+    for (variant, want) in STANDARD {
         let mut tag = [0u8; 32];
         let made = argon2_with_secret(
             rt.alloc(),
-            *variant,
+            variant,
             &mut tag,
             costs,
             &[1; 32],
