@@ -18,27 +18,7 @@ same_as_map xs f n long at =
     let below : k < n = omega (arith, long) in
     at k below ∙ sym (get_or-map-range_with_len f 0 n k k 0 below (omega arith)))
 
--- one place more is written
-pub written_next : (xs : List ℕ) (f : ℕ → ℕ) (n x : ℕ) → n < length xs → ((k : ℕ) → k < n → slice_index xs k ≡ f k) → x ≡ f n
-    → (k : ℕ) → k < n + 1 → slice_index (slice_set xs n x) k ≡ f k
-written_next xs f n x fits before is k lt = elim (cases_lt k n) [
-  | inl a ↦ get_or-set_other xs n k x 0 (omega arith) ∙ before k a
-  | inr b ↦
-      let e : n ≡ k = omega arith in
-      rw (← e) (get_or-set_same xs n x 0 fits ∙ is)
-]
-
--- a write at place p n, for places that differ
-pub scattered_next : (xs vs : List ℕ) (p : ℕ → ℕ) (n : ℕ) → p n < length xs
-    → ((k : ℕ) → k < n → p n ≢ p k) → ((k : ℕ) → k < n → slice_index xs (p k) ≡ slice_index vs k)
-    → (k : ℕ) → k < n + 1 → slice_index (slice_set xs (p n) (slice_index vs n)) (p k) ≡ slice_index vs k
-scattered_next xs vs p n fits apart before k lt = elim (cases_lt k n) [
-  | inl a ↦ get_or-set_other xs (p n) (p k) (slice_index vs n) 0 (λ e. apart k a (sym e)) ∙ before k a
-  | inr b ↦
-      let e : n ≡ k = omega arith in
-      rw (← e) (get_or-set_same xs (p n) (slice_index vs n) 0 fits)
-]
-
+-- the code's sum with twice its product is the standard's
 pub multiplied_sum-is : (x y s p : ℕ) → p ≡ bit_and x 0xFFFFFFFF * bit_and y 0xFFFFFFFF % 2 ^ 64
     → s ≡ ((x + y) % 2 ^ 64 + (p + p) % 2 ^ 64) % 2 ^ 64 → s ≡ multiplied_sum x y
 unfolding multiplied_sum
@@ -49,22 +29,18 @@ multiplied_sum-is x y s p ep es =
     let ep2 : p ≡ q % 2 ^ 64 = rw (mx, my) at ep in
     omega (arith, ep2, es)
 
+-- sixteen words that are those of a row
 pub row_is : (v x : List ℕ) (i : ℕ) → length v ≡ 16 → ((n : ℕ) → n < 16 → slice_index v n ≡ slice_index x (16 * i + n)) → v ≡ row x i
 unfolding row
 row_is v x i long at = same_as_map v (λ n. slice_index x (16 * i + n)) 16 long at
 
+-- sixteen words that are those of a column
 pub column_is : (v x : List ℕ) (j : ℕ) → length v ≡ 16
     → ((n : ℕ) → n < 16 → slice_index v n ≡ slice_index x (16 * (n / 2) + 2 * j + n % 2)) → v ≡ column x j
 unfolding column
 column_is v x j long at = same_as_map v (λ n. slice_index x (16 * (n / 2) + 2 * j + n % 2)) 16 long at
 
-pub row_at : (x : List ℕ) (i : ℕ) → (length (row x i) ≡ 16) × ((n : ℕ) → n < 16 → slice_index (row x i) n ≡ slice_index x (16 * i + n))
-unfolding row
-row_at x i = (
-  length-map-range_with_len (λ n. slice_index x (16 * i + n)) 0 16,
-  λ n lt. get_or-map-range_with_len (λ n. slice_index x (16 * i + n)) 0 16 n n 0 lt (omega arith),
-)
-
+-- the words of a column
 pub column_at : (x : List ℕ) (j : ℕ) → (length (column x j) ≡ 16)
     × ((n : ℕ) → n < 16 → slice_index (column x j) n ≡ slice_index x (16 * (n / 2) + 2 * j + n % 2))
 unfolding column
@@ -89,6 +65,7 @@ rows_done b x long at =
     let e : 16 * (k / 16) + k % 16 ≡ k = omega arith in
     rw e at (at (k / 16) (k % 16) (omega arith) (omega arith)))
 
+-- every column permuted is all columns permuted
 pub columns_done : (b x : List ℕ) → length b ≡ 128
     → ((h n : ℕ) → h < 8 → n < 16 → slice_index b (16 * (n / 2) + 2 * h + n % 2) ≡ slice_index (permuted (column x h)) n) → b ≡ columns_permuted x
 unfolding columns_permuted
@@ -99,6 +76,7 @@ columns_done b x long at =
     let e : 16 * (n / 2) + 2 * (k % 16 / 2) + n % 2 ≡ k = omega arith in
     rw e at (at (k % 16 / 2) n (omega arith) (omega arith)))
 
+-- a block that is the exclusive or of two at each place
 pub xored_is : (z x y : List ℕ) → length z ≡ 128
     → ((n : ℕ) → n < 128 → slice_index z n ≡ bit_xor (slice_index x n) (slice_index y n)) → z ≡ xor_blocks x y
 unfolding xor_blocks
@@ -109,6 +87,7 @@ xor_blocks-at : (x y : List ℕ) (n : ℕ) → n < 128 → slice_index (xor_bloc
 unfolding xor_blocks
 xor_blocks-at x y n lt = get_or-map-range_with_len (λ k. bit_xor (slice_index x k) (slice_index y k)) 0 128 n n 0 lt (omega arith)
 
+-- and of those with a third
 pub xored_over_is : (z x y old : List ℕ) → length z ≡ 128
     → ((n : ℕ) → n < 128 → slice_index z n ≡ bit_xor (bit_xor (slice_index x n) (slice_index y n)) (slice_index old n))
     → z ≡ xor_blocks (xor_blocks x y) old
@@ -128,6 +107,7 @@ rows_next x now next v i whole before done kept h n lt small = elim (cases_lt h 
       rw (← e) (done n small ∙ ap (λ w. slice_index w n) whole)
 ]
 
+-- the columns before i + 1 are permuted, where column i has just been
 pub columns_next : (x now next v : List ℕ) (i : ℕ) → i < 8 → v ≡ permuted (column now i)
     → ((h n : ℕ) → h < i → n < 16 → slice_index now (16 * (n / 2) + 2 * h + n % 2) ≡ slice_index (permuted (column x h)) n)
     → ((m : ℕ) → i ≤ m % 16 / 2 → slice_index now m ≡ slice_index x m)

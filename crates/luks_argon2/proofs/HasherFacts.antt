@@ -6,10 +6,12 @@ use Rattle.luks_argon2.specs.Hasher.{Holds}
 use Rattle.luks_argon2.specs.declared.hasher.Blake2b.{Blake2b}
 use Rattle.luks_argon2.proofs.Blake2bFacts.{hash_after-append, hash_after_next, compress-count}
 
+-- a new hasher holds the empty message
 pub Holds_none : (n : ℕ) (s : Blake2b) → s.total ≡ 0 → s.used ≡ 0 → s.h ≡ initial n → Holds n s []
 unfolding Holds hash_after
 Holds_none n s total used h = (total, omega (arith, used), h, rw used refl)
 
+-- a byte goes into the last block
 pub Holds_more : (n : ℕ) (s t : Blake2b) (m : List ℕ) (x : ℕ) → Holds n s m → length s.buffer ≡ 128 → s.used < 128
     → t.total ≡ (s.total + 1) % 2 ^ 128 → t.used ≡ s.used + 1 → t.h ≡ s.h → t.buffer ≡ slice_set s.buffer s.used x
     → Holds n t (m ++ x ∷ [])
@@ -28,6 +30,7 @@ Holds_more n s t m x held long room total used h buffer =
       rw (same, used, buffer) tail,
     )
 
+-- a byte begins the next block
 pub Holds_full : (n : ℕ) (s t : Blake2b) (m : List ℕ) (x : ℕ) → Holds n s m → length s.buffer ≡ 128 → s.used ≡ 128
     → t.total ≡ (s.total + 1) % 2 ^ 128 → t.used ≡ 1 → t.h ≡ compress s.h s.buffer s.total false → t.buffer ≡ slice_set s.buffer 0 x
     → Holds n t (m ++ x ∷ [])

@@ -21,10 +21,12 @@ two_lanes P p (a ∷ b ∷ c ∷ xs) h = absurd (omega arith)
 abbrev sums : List ℕ → List ℕ → List ℕ
 sums x y = zip2 (λ a b. (a + b) % 2 ^ 64) x y
 
+-- the products of the low halves of two lanes, with the carry dropped
 abbrev products : List ℕ → List ℕ → List ℕ
 products x y =
     zip2 (λ a b. a * b % 2 ^ 64) (zip2 bit_and x (0xFFFFFFFF ∷ 0xFFFFFFFF ∷ [])) (zip2 bit_and y (0xFFFFFFFF ∷ 0xFFFFFFFF ∷ []))
 
+-- in each lane, the sum of two words with twice the product of their low halves
 abbrev Multiplies : List ℕ → List ℕ → Type 0
 Multiplies x y = (j : ℕ) → j < 2
     → slice_index (sums (sums x y) (sums (products x y) (products x y))) j ≡ multiplied_sum (slice_index x j) (slice_index y j)
@@ -44,6 +46,7 @@ Rotates k x y = (j : ℕ) → j < 2
     (zip2 (λ a n. a * 2 ^ n % 2 ^ 64) (zip2 bit_xor x y) ((64 - k) ∷ (64 - k) ∷ []))) j
     ≡ xor_rotate (slice_index x j) (slice_index y j) k
 
+-- the exclusive or of two lanes, rotated
 pub lanes_rotated : (k : ℕ) → 0 < k → k < 64 → (x : List ℕ) → length x ≡ 2 → (y : List ℕ) → length y ≡ 2 → Rotates k x y
 unfolding xor_rotate
 lanes_rotated k low high =

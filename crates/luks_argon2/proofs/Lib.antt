@@ -6,4 +6,5 @@ pub mod HasherFacts
 pub mod VariableHashFacts
 pub mod SegmentFacts
 pub mod SliceFacts
+pub mod SmallCases
 pub mod StartFacts

@@ -20,6 +20,7 @@ reference_held memory own lanes q p s g l k m n mine others inside from near bel
   | inr ne ↦ rw (ne_eqb k l ne) (others k inside ne m from (below_other ne))
 ]
 
+-- the next block in the first pass
 pub next_first : (w : Work) (lanes : List (List (List ℕ))) (own : List (List ℕ)) (s l i j : ℕ) (at : ℕ × ℕ) (previous there made : List ℕ)
     → s < 4
     → j ≡ pair w s l i (get_or own (s * w.segment + i - 1) [])
@@ -32,6 +33,7 @@ unfolding next_block
 next_first w lanes own s l i j at previous there made few ej ea ep et em =
     rw (← ej, ← ea, ← ep, ← et, lt-ltb s 4 few) em
 
+-- the next block in a later pass
 pub next_later : (w : Work) (lanes : List (List (List ℕ))) (own : List (List ℕ)) (s l i j : ℕ) (at : ℕ × ℕ) (previous there made old next : List ℕ)
     → 4 ≤ s
     → j ≡ pair w s l i (get_or own (s * w.segment + i - 1) [])
@@ -52,6 +54,7 @@ round_again n q le =
     let e : n - q + q ≡ n = omega arith in
     sym (rw e at (sym (add-mod_right (n - q) q)))
 
+-- from the second pass on, a whole lane lies before a slice
 pub four_at_least : (s g : ℕ) → 4 ≤ s → 4 * g ≤ s * g
 four_at_least s g le = mul-le-mul_right g le
 
@@ -99,11 +102,13 @@ ring_next memory own q l n b some fits long held m from to = elim (cases_lt m n)
       rw (← e) (get_or-set_same memory (l * q + n % q) b [] fits ∙ sym (get_or_push own b [] n long))
 ]
 
+-- the pair that is read from the block of addresses
 pub pair_made : (w : Work) (s l i : ℕ) (previous pairs : List ℕ) (word : ℕ) → is_independent w.variant s ≡ true
     → HasPairs w s l i pairs → word ≡ slice_index pairs (i % 128) → word ≡ pair w s l i previous
 unfolding pair
 pair_made w s l i previous pairs word free made e = rw free (e ∙ ap (λ (b : List ℕ). slice_index b (i % 128)) (made free))
 
+-- the pair that is read from the block before
 pub pair_read : (w : Work) (s l i : ℕ) (previous : List ℕ) (word : ℕ) → is_independent w.variant s ≡ false
     → word ≡ slice_index previous 0 → word ≡ pair w s l i previous
 unfolding pair
@@ -117,22 +122,26 @@ pub others_kept : (memory first : List (List ℕ)) (lanes : List (List (List ℕ
 others_kept memory first lanes q p s g l some kept others k inside ne m from below =
     kept k (m % q) ne (mod-lt m some) ∙ others k inside ne m from below
 
+-- a write to a place of lane l changes no other lane
 pub kept_next : (memory first : List (List ℕ)) (q l t : ℕ) (b : List ℕ) → t < q
     → ((k r : ℕ) → k ≢ l → r < q → get_or memory (k * q + r) [] ≡ get_or first (k * q + r) [])
     → (k r : ℕ) → k ≢ l → r < q → get_or (slice_set memory (l * q + t) b) (k * q + r) [] ≡ get_or first (k * q + r) []
 kept_next memory first q l t b small kept k r ne few =
     get_or-set_other memory (l * q + t) (k * q + r) b [] (λ e. rows_apart q k l r t ne few small e) ∙ kept k r ne few
 
+-- the lane has one block more
 extended_more : (w : Work) (lanes : List (List (List ℕ))) (s l i : ℕ) → 2 ≤ s * w.segment + i
     → extended w lanes s l (i + 1) ≡ extended w lanes s l i ++ next_block w lanes (extended w lanes s l i) s l i ∷ []
 unfolding extended
 extended_more w lanes s l i many = rw (add-one, le-ltb (s * w.segment + i) 2 many) refl
 
+-- the first two blocks were there
 extended_same : (w : Work) (lanes : List (List (List ℕ))) (s l i : ℕ) → s * w.segment + i < 2
     → extended w lanes s l (i + 1) ≡ extended w lanes s l i
 unfolding extended
 extended_same w lanes s l i few = rw (add-one, lt-ltb (s * w.segment + i) 2 few) refl
 
+-- the lane before the slice
 pub extended_none : (w : Work) (lanes : List (List (List ℕ))) (s l : ℕ) → extended w lanes s l 0 ≡ get_or lanes l []
 unfolding extended
 extended_none w lanes s l = refl
@@ -157,6 +166,7 @@ segment_next w lanes memory next q s l i some many fits long held en =
     let ring = ring_next memory (extended w lanes s l i) q l n b some fits (long ∙ e0) (λ m from to. held m from (omega (arith, e0))) in
     rw (later, e1, more, en) (len, ring)
 
+-- the first two blocks of a lane are passed over
 pub segment_waits : (w : Work) (lanes : List (List (List ℕ))) (memory : List (List ℕ)) (q s l i : ℕ)
     → s * w.segment + i < 2
     → (length (extended w lanes s l i) ≡ max 2 (s * w.segment + i))
@@ -168,11 +178,13 @@ segment_waits w lanes memory q s l i few long held =
     let e : max 2 (s * w.segment + (i + 1)) ≡ max 2 (s * w.segment + i) = omega arith in
     rw (same, e) (long, λ m from to. held m (omega (arith, from)) to)
 
+-- a place of a lane's row is a place of the memory
 pub place_fits : (l p g t : ℕ) → l < p → t < 4 * g → l * (4 * g) + t < 4 * (p * g)
 place_fits l p g t inside small =
     let h : (l + 1) * g ≤ p * g = mul-le-mul_right g (omega arith) in
     omega (arith, h)
 
+-- the addresses last until 128 of them are used
 pub pairs_next : (w : Work) (s l i : ℕ) (pairs : List ℕ) → HasPairs w s l i pairs → HasPairsBefore w s l (i + 1) pairs
 pairs_next w s l i pairs made free more =
     let e : i / 128 + 1 ≡ (i + 1) / 128 + 1 = omega (arith, more) in

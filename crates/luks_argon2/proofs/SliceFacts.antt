@@ -25,12 +25,14 @@ extended_keeps w lanes s l (suc i) m inside =
       )
     ]
 
+-- a lane after a slice
 pub slice_added_at : (w : Work) (lanes : List (List (List ℕ))) (s l : ℕ) → l < w.lanes
     → get_or (slice_added w lanes s) l [] ≡ extended w lanes s l w.segment
 unfolding slice_added
 slice_added_at w lanes s l inside =
     get_or-map-range_with_len (λ l. extended w lanes s l w.segment) 0 w.lanes l l [] inside (omega arith)
 
+-- all lanes, one slice later
 pub lanes_before_next : (w : Work) (first : List (List (List ℕ))) (s : ℕ) → lanes_before w first (s + 1) ≡ slice_added w (lanes_before w first s) s
 unfolding lanes_before
 lanes_before_next w first s = rw add-one refl
@@ -47,6 +49,7 @@ start_in_ring s g = elim (cases_lt s 3) [
       omega (arith, h)
 ]
 
+-- they are in the ring before the slice
 pub start_in_old_ring : (s g : ℕ) → s * g - 4 * g ≤ window_start s g
 start_in_old_ring s g = let h = start_in_ring s g in omega (arith, h)
 

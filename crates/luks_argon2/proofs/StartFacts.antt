@@ -9,6 +9,7 @@ use Rattle.luks_argon2.specs.BlockCompression.{xor_blocks}
 use Rattle.luks_argon2.specs.Memory.{HoldsLane}
 use Rattle.luks_argon2.proofs.SegmentFacts.{rows_apart}
 
+-- the memory holds the first two blocks of each lane
 pub lanes_started : (memory : List (List ℕ)) (digest : List ℕ) (q p g : ℕ) → q ≡ 4 * g → 2 ≤ g
     → ((k : ℕ) → k < p → (get_or memory (k * q + 0) [] ≡ first_block digest 0 k) × (get_or memory (k * q + 1) [] ≡ first_block digest 1 k))
     → (l : ℕ) → l < p → (length (get_or (first_lanes digest p) l []) ≡ max 2 (0 * g))
@@ -32,6 +33,7 @@ lanes_started memory digest q p g eq two at l inside =
       ],
     )
 
+-- one lane more has its first two blocks
 pub started_next : (memory : List (List ℕ)) (digest : List ℕ) (q l x y : ℕ) (b c : List ℕ) → 8 ≤ q → l * q + 1 < length memory
     → x ≡ l * q + 0 % q → y ≡ l * q + 1 % q → b ≡ first_block digest 0 l → c ≡ first_block digest 1 l
     → ((k : ℕ) → k < l → (get_or memory (k * q + 0) [] ≡ first_block digest 0 k) × (get_or memory (k * q + 1) [] ≡ first_block digest 1 k))
@@ -59,12 +61,14 @@ started_next memory digest q l x y b c many fits ex ey eb ec at k lt =
           )
     ])
 
+-- the last block of a lane is the last place of its row
 last_place : (n g : ℕ) → 2 ≤ g → 1 ≤ n → 4 * n * g - 1 ≡ 4 * g - 1 + (n - 1) * (4 * g)
 last_place n g two some =
     let e : n - 1 + 1 ≡ n = omega arith in
     let h : (n - 1 + 1) * g ≡ n * g = ap (λ (k : ℕ). k * g) e in
     omega (arith, h)
 
+-- the last block of one lane more
 pub last_next : (memory : List (List ℕ)) (lanes : List (List (List ℕ))) (q g l n place : ℕ) (last next : List ℕ) → q ≡ 4 * g → 2 ≤ g → 1 ≤ n
     → (length (get_or lanes l []) ≡ max 2 (4 * n * g)) × HoldsLane memory q l (get_or lanes l []) (4 * n * g - 4 * g) (max 2 (4 * n * g))
     → place ≡ l * q + (4 * g - 1) % q → last ≡ last_xored lanes l → next ≡ xor_blocks last (get_or memory place [])

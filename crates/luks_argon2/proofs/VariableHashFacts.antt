@@ -8,6 +8,7 @@ use Rattle.luks_argon2.specs.VariableHash.{chain, half_count, halves, variable_h
 use Rattle.std.specs.Int.{w32, to_le_bytes}
 use Rattle.std.proofs.lemmas.Bool.{lt-ltb, le-ltb}
 
+-- one digest more of the chain
 pub chain_next : (first now next : List ℕ) (i : ℕ) → now ≡ chain first i → next ≡ blake2b 64 now → next ≡ chain first (i + 1)
 unfolding chain
 chain_next first now next i at made = rw add-one (made ∙ ap (blake2b 64) at)
@@ -24,6 +25,7 @@ halves_more first out ys now i k held fits at long ey =
     let ey2 : ys ≡ take 32 (chain first i) = ey ∙ ap (λ (v : List ℕ). take 32 v) at in
     rw (front, held, ey2, add-one) refl
 
+-- the first half
 pub halves_first : (first out : List ℕ) → take 32 out ≡ take 32 first → take 32 out ≡ halves first 1
 unfolding halves chain
 halves_first first out e = e
@@ -42,11 +44,13 @@ long_done first out turn ys n r i k long many er ei held at ek ey =
     let last : ys ≡ blake2b (n - 32 * r) (chain first (r - 1)) = ey ∙ rw (room, at, before) refl in
     rw (rest, append-nil, front, last, ← er) refl
 
+-- H' of more than 64 bytes
 pub variable_hash-long : (n : ℕ) (m first ys : List ℕ) → 64 < n → first ≡ blake2b 64 (to_le_bytes w32 n ++ m)
     → ys ≡ halves first (half_count n) ++ blake2b (n - 32 * half_count n) (chain first (half_count n - 1)) → ys ≡ variable_hash n m
 unfolding variable_hash
 variable_hash-long n m first ys many ef ey = rw (lt-ltb 64 n many, ← ef) ey
 
+-- H' of at most 64 bytes
 pub variable_hash-short : (n : ℕ) (m ys : List ℕ) → n ≤ 64 → ys ≡ blake2b n (to_le_bytes w32 n ++ m) → ys ≡ variable_hash n m
 unfolding variable_hash
 variable_hash-short n m ys few ey = rw (le-ltb 64 n few) ey

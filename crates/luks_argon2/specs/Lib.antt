@@ -5,3 +5,4 @@ pub mod Indexing
 pub mod VariableHash
 pub mod BlockCompression
 pub mod Memory
+pub mod Laws

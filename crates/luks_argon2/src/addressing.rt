@@ -8,6 +8,7 @@ use crate::block_compression::compressed;
 use crate::shape::Shape;
 use crate::variant::{Variant, variant_number};
 
+// Whether the references of a slice depend on no password (RFC 9106, 3.4).
 pub(crate) fn is_independent(variant: Variant, slice: usize) -> bool
     ensures { result ≡ is_independent (variant_number variant) slice }
 {

@@ -45,7 +45,12 @@ fn mix(a: u64x2, b: u64x2, c: u64x2, d: u64x2) -> (u64x2, u64x2, u64x2, u64x2)
 
 // GB on two times four words.
 #[inline(always)]
-fn mix_two(a: [u64; 2], b: [u64; 2], c: [u64; 2], d: [u64; 2]) -> ([u64; 2], [u64; 2], [u64; 2], [u64; 2])
+fn mix_two(
+    a: [u64; 2],
+    b: [u64; 2],
+    c: [u64; 2],
+    d: [u64; 2],
+) -> ([u64; 2], [u64; 2], [u64; 2], [u64; 2])
     ensures { (j : ℕ) → j < 2
         → (slice_index result.0 j, slice_index result.1 j, slice_index result.2 j, slice_index result.3 j)
         ≡ mix (slice_index a j) (slice_index b j) (slice_index c j) (slice_index d j) }
@@ -59,11 +64,29 @@ fn mix_two(a: [u64; 2], b: [u64; 2], c: [u64; 2], d: [u64; 2]) -> ([u64; 2], [u6
     (a.to_array(), b.to_array(), c.to_array(), d.to_array())
 }
 
+// GB on the four columns of the words.
 #[inline(always)]
 fn columns_mixed(v: [u64; 16]) -> [u64; 16]
     ensures { result ≡ columns_mixed v }
 {
-    let [v0, v1, v2, v3, v4, v5, v6, v7, v8, v9, v10, v11, v12, v13, v14, v15] = v;
+    let [
+        v0,
+        v1,
+        v2,
+        v3,
+        v4,
+        v5,
+        v6,
+        v7,
+        v8,
+        v9,
+        v10,
+        v11,
+        v12,
+        v13,
+        v14,
+        v15,
+    ] = v;
     let (a, b, c, d) = mix_two([v0, v1], [v4, v5], [v8, v9], [v12, v13]);
     let (e, f, g, h) = mix_two([v2, v3], [v6, v7], [v10, v11], [v14, v15]);
     [
@@ -72,11 +95,29 @@ fn columns_mixed(v: [u64; 16]) -> [u64; 16]
     ]
 }
 
+// GB on the four diagonals of the words.
 #[inline(always)]
 fn diagonals_mixed(v: [u64; 16]) -> [u64; 16]
     ensures { result ≡ diagonals_mixed v }
 {
-    let [v0, v1, v2, v3, v4, v5, v6, v7, v8, v9, v10, v11, v12, v13, v14, v15] = v;
+    let [
+        v0,
+        v1,
+        v2,
+        v3,
+        v4,
+        v5,
+        v6,
+        v7,
+        v8,
+        v9,
+        v10,
+        v11,
+        v12,
+        v13,
+        v14,
+        v15,
+    ] = v;
     let (a, b, c, d) = mix_two([v0, v1], [v5, v6], [v10, v11], [v15, v12]);
     let (e, f, g, h) = mix_two([v2, v3], [v7, v4], [v8, v9], [v13, v14]);
     [
@@ -85,6 +126,7 @@ fn diagonals_mixed(v: [u64; 16]) -> [u64; 16]
     ]
 }
 
+// The words of row i.
 #[inline(always)]
 fn row(b: &[u64; 128], i: usize) -> [u64; 16]
     requires { i < 8 }
@@ -97,6 +139,7 @@ fn row(b: &[u64; 128], i: usize) -> [u64; 16]
     v
 }
 
+// The words of column j.
 #[inline(always)]
 fn column(b: &[u64; 128], j: usize) -> [u64; 16]
     requires { j < 8 }
@@ -109,6 +152,7 @@ fn column(b: &[u64; 128], j: usize) -> [u64; 16]
     v
 }
 
+// Writes the words of row i.
 #[inline(always)]
 fn put_row(b: &mut [u64; 128], i: usize, v: [u64; 16])
     requires { i < 8 }
@@ -120,6 +164,7 @@ fn put_row(b: &mut [u64; 128], i: usize, v: [u64; 16])
     }
 }
 
+// Writes the words of column j.
 #[inline(always)]
 fn put_column(b: &mut [u64; 128], j: usize, v: [u64; 16])
     requires { j < 8 }
@@ -141,6 +186,7 @@ fn permute_rows(turned: &mut [u64; 128], sum: &[u64; 128])
     }
 }
 
+// Permutes each column.
 fn permute_columns(b: &mut [u64; 128])
     ensures { b.new ≡ columns_permuted b.old }
 {

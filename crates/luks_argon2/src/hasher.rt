@@ -4,7 +4,8 @@ ghost use Rattle.std.specs.Prelude.{◌≡◌, ℕ, ◌≤◌, ◌<◌, ◌+◌,
 
 use crate::blake2b_compression::{INITIAL, compress, digest_of, padded};
 
-/// A hasher that takes in a message. The last block is held back until the message ends.
+/// BLAKE2b of a message that comes piece by piece. It takes no memory. A contract sees it by the
+/// message that it holds; the last block is held back until the message ends.
 #[derive(Drop)]
 pub struct Blake2b {
     h: [u64; 8],
@@ -18,7 +19,7 @@ impl Blake2b {
     ghost use Rattle.luks_argon2.specs.Blake2b.{blake2b};
     ghost use Rattle.luks_argon2.specs.Hasher.{Holds};
 
-    /// The empty message, for a digest of `len` bytes.
+    /// Holds the empty message, for a digest of `len` bytes, 1 to 64 (RFC 7693, 2.1).
     pub fn new(len: u8) -> Blake2b
         ensures { Holds len result [] }
     {
@@ -39,7 +40,7 @@ impl Blake2b {
         }
     }
 
-    // Where the last block has room.
+    // Takes in a byte where the last block has room.
     fn push_into_last(&mut self, byte: u8)
         requires { self.old.used < 128 }
         ensures { (n : ℕ) (m : List ℕ) → Holds n self.old m → Holds n self.new (m ++ byte ∷ []) }
@@ -49,7 +50,7 @@ impl Blake2b {
         self.total = self.total.wrapping_add(1);
     }
 
-    // Where the last block is full, and turns out not to be the last.
+    // Takes in a byte where the last block is full, and turns out not to be the last.
     fn push_into_next(&mut self, byte: u8)
         requires { self.old.used ≡ 128 }
         ensures { (n : ℕ) (m : List ℕ) → Holds n self.old m → Holds n self.new (m ++ byte ∷ []) }
@@ -60,6 +61,7 @@ impl Blake2b {
         self.total = self.total.wrapping_add(1);
     }
 
+    // Takes in a byte.
     fn push(&mut self, byte: u8)
         ensures { (n : ℕ) (m : List ℕ) → Holds n self.old m → Holds n self.new (m ++ byte ∷ []) }
     {
@@ -70,7 +72,7 @@ impl Blake2b {
         }
     }
 
-    /// Adds bytes to the message.
+    /// Takes in more bytes of the message.
     pub fn update(&mut self, bytes: &[u8])
         ensures { (n : ℕ) (m : List ℕ) → Holds n self.old m → Holds n self.new (m ++ bytes.now) }
     {
@@ -79,7 +81,7 @@ impl Blake2b {
         }
     }
 
-    /// Writes the digest, as many bytes as `out` has.
+    /// Writes the digest of the message. `out` has as many bytes as the hasher was begun for.
     pub fn finish(self, out: &mut [u8])
         requires { length out.old ≤ 64 }
         ensures { (m : List ℕ) → Holds (length out.old) self m → out.new ≡ blake2b (length out.old) m }

@@ -8,6 +8,7 @@ mod fault;
 mod filling;
 mod hasher;
 mod indexing;
+mod laws;
 mod shape;
 mod starting;
 mod tag;
@@ -17,7 +18,7 @@ mod wiping;
 
 pub use fault::Argon2Fault;
 pub use hasher::Blake2b;
+pub use laws::definitions_give;
 pub use shape::Costs;
 pub use tag::{argon2, argon2_with_secret};
-pub use variable_length::variable_hash;
 pub use variant::Variant;

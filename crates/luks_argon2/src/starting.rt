@@ -13,6 +13,7 @@ use crate::shape::{Costs, Shape};
 use crate::variable_length::variable_hash;
 use crate::variant::{Variant, variant_number};
 
+// The words of a block of bytes.
 fn words_of(bytes: &[u8]) -> [u64; 128]
     requires { length bytes.now ≡ 1024 }
     ensures { result ≡ words_of bytes.now }
@@ -56,12 +57,14 @@ pub(crate) fn first_digest(
     digest
 }
 
+// Takes in a number in four bytes, low byte first.
 fn feed_number(hasher: &mut Blake2b, number: u32)
     ensures { (n : ℕ) (m : List ℕ) → Holds n hasher.old m → Holds n hasher.new (m ++ to_le_bytes w32 number) }
 {
     hasher.update(&number.to_le_bytes());
 }
 
+// Takes in a text under its length.
 fn feed_counted(hasher: &mut Blake2b, bytes: &[u8])
     requires { length bytes.now < 2 ^ 32 }
     ensures { (n : ℕ) (m : List ℕ) → Holds n hasher.old m → Holds n hasher.new (m ++ counted bytes.now) }
@@ -70,6 +73,7 @@ fn feed_counted(hasher: &mut Blake2b, bytes: &[u8])
     hasher.update(bytes);
 }
 
+// Two numbers in four bytes each.
 fn two_numbers(column: u32, lane: u32) -> [u8; 8]
     ensures { result ≡ to_le_bytes w32 column ++ to_le_bytes w32 lane }
 {
@@ -80,6 +84,7 @@ fn two_numbers(column: u32, lane: u32) -> [u8; 8]
     ]
 }
 
+// Block 0 or 1 of a lane.
 fn first_block(digest: &[u8; 64], column: u32, lane: u32) -> [u64; 128]
     ensures { result ≡ first_block digest.now column lane }
 {

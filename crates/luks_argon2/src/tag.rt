@@ -16,6 +16,7 @@ use crate::variant::Variant;
 use crate::wiping::wipe;
 use std::alloc::Global;
 
+// The bytes of a block.
 fn bytes_of(words: &[u64; 128]) -> [u8; 1024]
     ensures { result ≡ digest_bytes words.now 128 }
 {
@@ -27,8 +28,9 @@ fn bytes_of(words: &[u64; 128]) -> [u8; 1024]
 }
 
 /// Writes the tag of a password and a salt into `out`, by one thread (RFC 9106, 3.2, version 0x13).
-/// `out` has 4 to 128 bytes, `time` counts the passes over the memory, and `memory` is in KiB. Where
-/// that memory is refused, nothing was computed.
+/// `time` counts the passes over the memory, and `memory` is in KiB; what it has above a multiple of
+/// four times the lanes isn't taken. The memory is taken before anything is computed, and is zeros
+/// when it is given back. `Memory` where it is refused.
 pub fn argon2(
     alloc: Global,
     variant: Variant,
@@ -59,7 +61,7 @@ pub fn argon2(
     argon2_with_secret(alloc, variant, out, costs, password, salt, &[], &[])
 }
 
-/// Writes the tag of a password, a salt, a secret and associated data, which may all be empty.
+/// As `argon2`, with a secret and associated data (RFC 9106, 3.1), which LUKS has neither of.
 pub fn argon2_with_secret(
     alloc: Global,
     variant: Variant,
@@ -101,7 +103,7 @@ fn write_tag(memory: &mut [[u64; 128]], shape: Shape, digest: &[u8; 64], out: &m
     wipe(memory);
 }
 
-// The whole work in the memory.
+// All passes over the memory, and the last blocks xored.
 fn run(memory: &mut [[u64; 128]], shape: Shape, digest: &[u8; 64]) -> [u64; 128]
     requires whole { length memory.old ≡ 4 * (shape.lanes * shape.segment) }
     requires some { 1 ≤ shape.passes }
@@ -112,7 +114,7 @@ fn run(memory: &mut [[u64; 128]], shape: Shape, digest: &[u8; 64]) -> [u64; 128]
     last_xored(memory, shape)
 }
 
-// The blocks at the ends of all lanes, xored.
+// The last blocks of all lanes, xored.
 fn last_xored(memory: &[[u64; 128]], shape: Shape) -> [u64; 128]
     requires whole { length memory.now ≡ 4 * (shape.lanes * shape.segment) }
     requires some { 1 ≤ shape.passes }

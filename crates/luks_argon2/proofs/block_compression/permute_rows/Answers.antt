@@ -7,7 +7,7 @@ pub all-preserved : goal.all-preserved
 all-preserved c = (
   omega arith,
   rows_next c.args.sum.now c.all.turned c.put_row.new.b c.diagonals_mixed.result c.all.i (c.diagonals_mixed.ensures ∙ ap diagonals_mixed (c.columns_mixed.ensures ∙ ap columns_mixed c.row-v.ensures))
-  c.all.invariant.1 c.put_row.ensures.done c.put_row.ensures.kept,
+      c.all.invariant.1 c.put_row.ensures.done c.put_row.ensures.kept,
 )
 
 pub returns : goal.returns
