@@ -1,4 +1,7 @@
 //! Commands over a file whose lock another open file holds, opened as the program does.
+ghost use Rattle.std.specs.Prelude.{◌≡◌, IfOk};
+ghost use Rattle.luks_cache.specs.Cached.{cached_failures};
+
 use crate::folders::new_folder;
 use luks_area::FileDevice;
 use luks_cache::CachedDevice;
@@ -8,6 +11,9 @@ use std::alloc::Global;
 use std::fs::{self, File};
 use std::rt::{Clock, Files};
 use std::test::Fail;
+
+/// A folder that isn't there; a regular file needs none.
+const NO_FOLDER: &str = "/nowhere";
 
 /// The least length of a LUKS1 volume.
 const LENGTH: usize = 2097152;
@@ -29,12 +35,15 @@ fn opened<R: AllocGlobal + Clock + Files<File = File>>(
     rt: &R,
     path: &str,
     writes: bool,
-) -> Result<LockedDevice<FileDevice<File>>, InputFault> {
-    open_locked(rt, path, writes, "/nowhere").map_err(|fault| match fault {
-        OpenFault::Edited => InputFault::Unreadable(Reason::Edited),
-        OpenFault::NoVolume => InputFault::Unreadable(Reason::NoVolume),
-        OpenFault::File(_) => InputFault::Unreadable(Reason::Other),
-    })
+) -> Result<CachedDevice<LockedDevice<FileDevice<File>>>, InputFault>
+    ensures { IfOk result (λ device. cached_failures device ≡ 0) }
+{
+    match open_locked(rt, path, writes, NO_FOLDER) {
+        Ok(device) => Ok(CachedDevice::new(device)),
+        Err(OpenFault::Edited) => Err(InputFault::Unreadable(Reason::Edited)),
+        Err(OpenFault::NoVolume) => Err(InputFault::Unreadable(Reason::NoVolume)),
+        Err(OpenFault::File(_)) => Err(InputFault::Unreadable(Reason::Other)),
+    }
 }
 
 /// Whether the command over the file of this name prints what is owed, to standard error too, and
@@ -48,7 +57,7 @@ fn says<R: AllocGlobal + Clock + Files<File = File>>(
     let line = line(rt.alloc(), words)?;
     let random = vec![in rt.alloc(); 7u8; 260000]?;
     let mut inputs = Inputs {
-        volume: opened(rt, path, line.writes()).map(CachedDevice::new),
+        volume: opened(rt, path, line.writes()),
         passphrase: Ok("one".as_bytes()),
         new_passphrase: Err(InputFault::Absent),
         random: Ok(random.as_slice()),
@@ -105,14 +114,14 @@ fn readers_go_on_beside_an_edit(rt: HostRuntime) -> Result<(), Fail> {
     fs::write(&rt, path, "no volume")?;
     let editor = opened(&rt, path, true);
     assert!(rt; editor.is_ok(), "an edit is begun");
-    let noticed = match opened(&rt, path, false) {
+    let noticed = match open_locked(&rt, path, false, NO_FOLDER) {
         Ok(device) => device.lock().notices() == [Some(Notice::Edited), None],
         Err(_) => false,
     };
     assert!(rt; noticed, "read, and told");
     assert!(rt; opened(&rt, path, true).is_err(), "no second edit");
     drop(editor);
-    let quiet = match opened(&rt, path, false) {
+    let quiet = match open_locked(&rt, path, false, NO_FOLDER) {
         Ok(device) => device.lock().notices() == [None, None],
         Err(_) => false,
     };
