@@ -76,7 +76,7 @@ rows_permuted x = block_of (λ k. slice_index (permuted (row x (k / 16))) (k % 1
 unfoldable pub columns_permuted : List ℕ → List ℕ
 columns_permuted x = block_of (λ k. slice_index (permuted (column x (k % 16 / 2))) (2 * (k / 16) + k % 2))
 
--- G: R = X xor Y, Q from its rows, Z from the columns_mixed of Q, and R xor Z (3.5)
+-- G: R = X xor Y, Q from its rows, Z from the columns of Q, and R xor Z (3.5)
 unfoldable pub compressed : List ℕ → List ℕ → List ℕ
 compressed x y =
     let r = xor_blocks x y in
