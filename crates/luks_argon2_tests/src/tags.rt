@@ -363,7 +363,9 @@ const SALT: [u8; 64] = [
 fn is_hex(bytes: &[u8], text: &str) -> bool {
     let mut want = [0u8; 128];
     let len = bytes.len();
-    len <= 128 && hex::decode_to_slice(text.as_bytes(), &mut want[..len]).is_ok() && bytes == &want[..len]
+    len <= 128
+        && hex::decode_to_slice(text.as_bytes(), &mut want[..len]).is_ok()
+        && bytes == &want[..len]
 }
 
 /// Whether this is the tag; not where a row is none that Argon2 takes.
