@@ -1,5 +1,5 @@
 -- The definitions on small cases.
-use Rattle.std.proofs.Common.{◌≡◌, ℕ, List, [], ◌∷◌, codes, true, false, refl}
+use Rattle.std.proofs.Common.{refl}
 use Rattle.luks_argon2.specs.Blake2b.{add64, blake2b, block_words, columns_mixed, compress, diagonals_mixed, digest_bytes, final_hash, folded_all, hash_after, initial, mix, rounds, sigma, working, xor_rotate}
 use Rattle.luks_argon2.specs.Laws.{DigestOfAbc, IndexesFirstBlocks, IndexesLaterBlocks}
 use Rattle.luks_argon2.specs.Indexing.{place_in_window, reference, reference_lane, window_length}

@@ -1,5 +1,5 @@
 -- What the definitions give on small cases.
-use Rattle.std.specs.Prelude.{◌≡◌, ℕ, ◌-◌, ◌^◌, List, [], ◌∷◌, codes}
+use Rattle.std.specs.Prelude.{◌≡◌, ◌-◌, ◌^◌, [], ◌∷◌, codes}
 use Rattle.luks_argon2.specs.Blake2b.{blake2b}
 use Rattle.luks_argon2.specs.Indexing.{reference}
 

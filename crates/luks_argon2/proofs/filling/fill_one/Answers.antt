@@ -1,4 +1,4 @@
-use Rattle.std.proofs.Common.{◌≡◌, ℕ, ◌+◌, ◌-◌, ◌*◌, List, [], get_or, slice_index, ◌%◌, ◌<◌, arith, mod-lt, refl, sym, ap, ◌∙◌}
+use Rattle.std.proofs.Common.{◌≡◌, ℕ, ◌+◌, ◌-◌, ◌*◌, List, [], get_or, slice_index, arith, sym, ap, ◌∙◌}
 use Rattle.luks_argon2.specs.Argon2.{pair}
 use Rattle.luks_argon2.specs.Memory.{work_of}
 use Rattle.luks_argon2.proofs.SegmentFacts.{pair_made, pair_read}
