@@ -8,7 +8,7 @@ use crate::block_compression::compressed;
 use crate::shape::Shape;
 use crate::variant::{Variant, variant_number};
 
-// Whether the references of a slice depend on no password (RFC 9106, 3.4).
+/// Whether the references of a slice depend on no password (RFC 9106, 3.4).
 pub(crate) fn is_independent(variant: Variant, slice: usize) -> bool
     ensures { result ≡ is_independent (variant_number variant) slice }
 {
@@ -19,7 +19,7 @@ pub(crate) fn is_independent(variant: Variant, slice: usize) -> bool
     }
 }
 
-// The block of 128 pairs J1, J2 (RFC 9106, 3.4.1.2).
+/// The block of 128 pairs J1, J2 (RFC 9106, 3.4.1.2).
 fn address_block(shape: Shape, slice: usize, lane: usize, counter: u64) -> [u64; 128]
     ensures { result ≡ address_block (work_of shape) slice lane counter }
 {
@@ -35,7 +35,7 @@ fn address_block(shape: Shape, slice: usize, lane: usize, counter: u64) -> [u64;
     compressed(&zero, &compressed(&zero, &input))
 }
 
-// Makes the pairs that block i of a segment needs.
+/// Makes the pairs that block i of a segment needs.
 #[inline(always)]
 pub(crate) fn refresh(pairs: &mut [u64; 128], shape: Shape, slice: usize, lane: usize, i: usize)
     ensures { HasPairsBefore (work_of shape) slice lane i pairs.old → HasPairs (work_of shape) slice lane i pairs.new }

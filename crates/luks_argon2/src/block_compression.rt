@@ -5,7 +5,7 @@ ghost use Rattle.luks_argon2.specs.BlockCompression.{multiplied_sum, column, col
 
 use std::simd::u64x2;
 
-// Of two words in each, the sums with twice the product of the low halves.
+/// Of two words in each, the sums with twice the product of the low halves.
 #[inline(always)]
 fn multiplied_sum(x: u64x2, y: u64x2) -> u64x2
     ensures { (j : ℕ) → j < 2 → slice_index result j ≡ multiplied_sum (slice_index x j) (slice_index y j) }
@@ -15,7 +15,7 @@ fn multiplied_sum(x: u64x2, y: u64x2) -> u64x2
     x + y + (product + product)
 }
 
-// Of two words in each, the exclusive or, rotated right by k bits.
+/// Of two words in each, the exclusive or, rotated right by k bits.
 #[inline(always)]
 fn xor_rotate(x: u64x2, y: u64x2, k: u32) -> u64x2
     requires { (0 < k) × (k < 64) }
@@ -25,7 +25,7 @@ fn xor_rotate(x: u64x2, y: u64x2, k: u32) -> u64x2
     (z >> u64x2::splat(k as u64)) | (z << u64x2::splat(64 - k as u64))
 }
 
-// GB on two columns or two diagonals side by side.
+/// GB on two columns or two diagonals side by side.
 #[inline(always)]
 fn mix(a: u64x2, b: u64x2, c: u64x2, d: u64x2) -> (u64x2, u64x2, u64x2, u64x2)
     ensures { (j : ℕ) → j < 2
@@ -43,7 +43,7 @@ fn mix(a: u64x2, b: u64x2, c: u64x2, d: u64x2) -> (u64x2, u64x2, u64x2, u64x2)
     (a2, b2, c2, d2)
 }
 
-// GB on two times four words.
+/// GB on two times four words.
 #[inline(always)]
 fn mix_two(
     a: [u64; 2],
@@ -64,7 +64,7 @@ fn mix_two(
     (a.to_array(), b.to_array(), c.to_array(), d.to_array())
 }
 
-// GB on the four columns of the words.
+/// GB on the four columns of the words.
 #[inline(always)]
 fn columns_mixed(v: [u64; 16]) -> [u64; 16]
     ensures { result ≡ columns_mixed v }
@@ -95,7 +95,7 @@ fn columns_mixed(v: [u64; 16]) -> [u64; 16]
     ]
 }
 
-// GB on the four diagonals of the words.
+/// GB on the four diagonals of the words.
 #[inline(always)]
 fn diagonals_mixed(v: [u64; 16]) -> [u64; 16]
     ensures { result ≡ diagonals_mixed v }
@@ -126,7 +126,7 @@ fn diagonals_mixed(v: [u64; 16]) -> [u64; 16]
     ]
 }
 
-// The words of row i.
+/// The words of row i.
 #[inline(always)]
 fn row(b: &[u64; 128], i: usize) -> [u64; 16]
     requires { i < 8 }
@@ -139,7 +139,7 @@ fn row(b: &[u64; 128], i: usize) -> [u64; 16]
     v
 }
 
-// The words of column j.
+/// The words of column j.
 #[inline(always)]
 fn column(b: &[u64; 128], j: usize) -> [u64; 16]
     requires { j < 8 }
@@ -152,7 +152,7 @@ fn column(b: &[u64; 128], j: usize) -> [u64; 16]
     v
 }
 
-// Writes the words of row i.
+/// Writes the words of row i.
 #[inline(always)]
 fn put_row(b: &mut [u64; 128], i: usize, v: [u64; 16])
     requires { i < 8 }
@@ -164,7 +164,7 @@ fn put_row(b: &mut [u64; 128], i: usize, v: [u64; 16])
     }
 }
 
-// Writes the words of column j.
+/// Writes the words of column j.
 #[inline(always)]
 fn put_column(b: &mut [u64; 128], j: usize, v: [u64; 16])
     requires { j < 8 }
@@ -176,7 +176,7 @@ fn put_column(b: &mut [u64; 128], j: usize, v: [u64; 16])
     }
 }
 
-// Writes the rows of `sum`, each permuted.
+/// Writes the rows of `sum`, each permuted.
 fn permute_rows(turned: &mut [u64; 128], sum: &[u64; 128])
     ensures { turned.new ≡ rows_permuted sum.now }
 {
@@ -186,7 +186,7 @@ fn permute_rows(turned: &mut [u64; 128], sum: &[u64; 128])
     }
 }
 
-// Permutes each column.
+/// Permutes each column.
 fn permute_columns(b: &mut [u64; 128])
     ensures { b.new ≡ columns_permuted b.old }
 {
@@ -196,7 +196,7 @@ fn permute_columns(b: &mut [u64; 128])
     }
 }
 
-// Writes two blocks xored, word by word.
+/// Writes two blocks xored, word by word.
 #[inline(always)]
 fn set_xored(z: &mut [u64; 128], x: &[u64; 128], y: &[u64; 128])
     ensures { z.new ≡ xor_blocks x.now y.now }
@@ -206,7 +206,7 @@ fn set_xored(z: &mut [u64; 128], x: &[u64; 128], y: &[u64; 128])
     }
 }
 
-// Two blocks xored.
+/// Two blocks xored.
 pub(crate) fn xored(x: &[u64; 128], y: &[u64; 128]) -> [u64; 128]
     ensures { result ≡ xor_blocks x.now y.now }
 {
@@ -215,7 +215,7 @@ pub(crate) fn xored(x: &[u64; 128], y: &[u64; 128]) -> [u64; 128]
     z
 }
 
-// Where a block is made: R and Z of the standard. The block is R xor Z.
+/// Where a block is made: R and Z of the standard. The block is R xor Z.
 #[derive(Drop)]
 pub(crate) struct Scratch {
     sum: [u64; 128],
@@ -230,7 +230,7 @@ impl Scratch {
         }
     }
 
-    // Makes G of two blocks.
+    /// Makes G of two blocks.
     pub(crate) fn compress(&mut self, x: &[u64; 128], y: &[u64; 128])
         ensures { xor_blocks self.new.sum self.new.turned ≡ compressed x.now y.now }
     {
@@ -239,7 +239,7 @@ impl Scratch {
         permute_columns(&mut self.turned);
     }
 
-    // Writes the block that was made.
+    /// Writes the block that was made.
     #[inline(always)]
     pub(crate) fn put(&self, block: &mut [u64; 128])
         ensures { block.new ≡ xor_blocks self.now.sum self.now.turned }
@@ -247,7 +247,7 @@ impl Scratch {
         set_xored(block, &self.sum, &self.turned);
     }
 
-    // Writes the block that was made, xored with the old one.
+    /// Writes the block that was made, xored with the old one.
     #[inline(always)]
     pub(crate) fn put_over(&self, block: &mut [u64; 128])
         ensures { block.new ≡ xor_blocks (xor_blocks self.now.sum self.now.turned) block.old }
@@ -258,7 +258,7 @@ impl Scratch {
     }
 }
 
-// G of two blocks.
+/// G of two blocks.
 pub(crate) fn compressed(x: &[u64; 128], y: &[u64; 128]) -> [u64; 128]
     ensures { result ≡ compressed x.now y.now }
 {

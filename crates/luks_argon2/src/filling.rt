@@ -10,7 +10,7 @@ use crate::block_compression::Scratch;
 use crate::indexing::{place_of, reference};
 use crate::shape::Shape;
 
-// Makes the block number `slice * segment + i` of a lane, and puts it in its place.
+/// Makes the block number `slice * segment + i` of a lane, and puts it in its place.
 #[inline(always)]
 fn next_block(
     memory: &mut [[u64; 128]],
@@ -48,7 +48,7 @@ fn next_block(
     }
 }
 
-// Makes that block with the pair that it needs.
+/// Makes that block with the pair that it needs.
 #[inline(always)]
 fn fill_one(
     memory: &mut [[u64; 128]],
@@ -82,7 +82,7 @@ fn fill_one(
     next_block(memory, shape, slice, lane, i, word, scratch);
 }
 
-// The blocks of a slice in one lane.
+/// The blocks of a slice in one lane.
 pub(crate) fn fill_segment(memory: &mut [[u64; 128]], shape: Shape, slice: usize, lane: usize)
     requires whole { length memory.old ≡ 4 * (shape.lanes * shape.segment) }
     requires lane_in { lane < shape.lanes }
@@ -107,7 +107,7 @@ pub(crate) fn fill_segment(memory: &mut [[u64; 128]], shape: Shape, slice: usize
     }
 }
 
-// A slice of all lanes.
+/// A slice of all lanes.
 fn fill_slice(memory: &mut [[u64; 128]], shape: Shape, slice: usize)
     requires whole { length memory.old ≡ 4 * (shape.lanes * shape.segment) }
     requires slice_in { slice < 2 ^ 34 }
@@ -120,7 +120,7 @@ fn fill_slice(memory: &mut [[u64; 128]], shape: Shape, slice: usize)
     }
 }
 
-// All slices of all passes.
+/// All slices of all passes.
 pub(crate) fn fill(memory: &mut [[u64; 128]], shape: Shape)
     requires whole { length memory.old ≡ 4 * (shape.lanes * shape.segment) }
     ensures { (lanes : List (List (List ℕ))) → HoldsAll memory.old shape lanes 0

@@ -40,7 +40,7 @@ impl Blake2b {
         }
     }
 
-    // Takes in a byte where the last block has room.
+    /// Takes in a byte where the last block has room.
     fn push_into_last(&mut self, byte: u8)
         requires { self.old.used < 128 }
         ensures { (n : ℕ) (m : List ℕ) → Holds n self.old m → Holds n self.new (m ++ byte ∷ []) }
@@ -50,7 +50,7 @@ impl Blake2b {
         self.total = self.total.wrapping_add(1);
     }
 
-    // Takes in a byte where the last block is full, and turns out not to be the last.
+    /// Takes in a byte where the last block is full, and turns out not to be the last.
     fn push_into_next(&mut self, byte: u8)
         requires { self.old.used ≡ 128 }
         ensures { (n : ℕ) (m : List ℕ) → Holds n self.old m → Holds n self.new (m ++ byte ∷ []) }
@@ -61,7 +61,7 @@ impl Blake2b {
         self.total = self.total.wrapping_add(1);
     }
 
-    // Takes in a byte.
+    /// Takes in a byte.
     fn push(&mut self, byte: u8)
         ensures { (n : ℕ) (m : List ℕ) → Holds n self.old m → Holds n self.new (m ++ byte ∷ []) }
     {

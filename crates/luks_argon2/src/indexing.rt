@@ -5,7 +5,7 @@ ghost use Rattle.luks_argon2.specs.Indexing.{place_in_window, reference_lane, re
 
 use crate::shape::Shape;
 
-// How far into a window the block lies.
+/// How far into a window the block lies.
 #[inline(always)]
 fn place_in_window(count: usize, low: u32) -> usize
     requires some { 1 ≤ count }
@@ -18,7 +18,7 @@ fn place_in_window(count: usize, low: u32) -> usize
     count - 1 - back as usize
 }
 
-// The first block of a lane that may be referred to: three segments before the slice.
+/// The first block of a lane that may be referred to: three segments before the slice.
 #[inline(always)]
 fn window_start(slice: usize, segment: usize) -> usize
     requires { slice * segment < 2 ^ 64 }
@@ -29,7 +29,7 @@ fn window_start(slice: usize, segment: usize) -> usize
     slice.saturating_sub(3) * segment
 }
 
-// How many blocks may be referred to, of those from `start`. The slice begins at `end`.
+/// How many blocks may be referred to, of those from `start`. The slice begins at `end`.
 #[inline(always)]
 fn window_length(start: usize, end: usize, i: usize, is_own: bool) -> usize
     requires ordered { start ≤ end }
@@ -61,7 +61,7 @@ fn reference_lane(slice: usize, lane: usize, lanes: usize, high: usize) -> usize
     if slice == 0 { lane } else { high % lanes }
 }
 
-// The lane and the number of the block that is referred to.
+/// The lane and the number of the block that is referred to.
 #[inline(always)]
 pub(crate) fn reference(
     shape: Shape,
@@ -89,7 +89,7 @@ pub(crate) fn reference(
     (other, start + place_in_window(count, low))
 }
 
-// Where the block number n of a lane lies in the memory.
+/// Where the block number n of a lane lies in the memory.
 #[inline(always)]
 pub(crate) fn place_of(shape: Shape, lane: usize, n: usize) -> usize
     requires lane_in { lane < shape.lanes }

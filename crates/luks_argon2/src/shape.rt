@@ -19,7 +19,7 @@ pub struct Costs {
     ghost few_lanes: { lanes < 2 ^ 24 },
 }
 
-// The shape of the work: lanes, blocks of a segment, passes. A lane has four segments.
+/// The shape of the work: lanes, blocks of a segment, passes. A lane has four segments.
 #[derive(Clone, Copy)]
 pub(crate) struct Shape {
     pub(crate) lanes: usize,
@@ -34,7 +34,7 @@ pub(crate) struct Shape {
     ghost passes_fit: { passes < 2 ^ 32 },
 }
 
-// The shape of a derivation.
+/// The shape of a derivation.
 pub(crate) fn shape_of(variant: Variant, costs: Costs) -> Shape
     ensures lanes { result.lanes ≡ costs.lanes }
     ensures segment { result.segment ≡ costs.memory / (4 * costs.lanes) }

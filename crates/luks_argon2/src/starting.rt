@@ -13,7 +13,7 @@ use crate::shape::{Costs, Shape};
 use crate::variable_length::variable_hash;
 use crate::variant::{Variant, variant_number};
 
-// The words of a block of bytes.
+/// The words of a block of bytes.
 fn words_of(bytes: &[u8]) -> [u64; 128]
     requires { length bytes.now ≡ 1024 }
     ensures { result ≡ words_of bytes.now }
@@ -25,7 +25,7 @@ fn words_of(bytes: &[u8]) -> [u64; 128]
     words
 }
 
-// H_0
+/// H_0.
 pub(crate) fn first_digest(
     variant: Variant,
     len: u32,
@@ -57,14 +57,14 @@ pub(crate) fn first_digest(
     digest
 }
 
-// Takes in a number in four bytes, low byte first.
+/// Takes in a number in four bytes, low byte first.
 fn feed_number(hasher: &mut Blake2b, number: u32)
     ensures { (n : ℕ) (m : List ℕ) → Holds n hasher.old m → Holds n hasher.new (m ++ to_le_bytes w32 number) }
 {
     hasher.update(&number.to_le_bytes());
 }
 
-// Takes in a text under its length.
+/// Takes in a text under its length.
 fn feed_counted(hasher: &mut Blake2b, bytes: &[u8])
     requires { length bytes.now < 2 ^ 32 }
     ensures { (n : ℕ) (m : List ℕ) → Holds n hasher.old m → Holds n hasher.new (m ++ counted bytes.now) }
@@ -73,7 +73,7 @@ fn feed_counted(hasher: &mut Blake2b, bytes: &[u8])
     hasher.update(bytes);
 }
 
-// Two numbers in four bytes each.
+/// Two numbers in four bytes each.
 fn two_numbers(column: u32, lane: u32) -> [u8; 8]
     ensures { result ≡ to_le_bytes w32 column ++ to_le_bytes w32 lane }
 {
@@ -84,7 +84,7 @@ fn two_numbers(column: u32, lane: u32) -> [u8; 8]
     ]
 }
 
-// Block 0 or 1 of a lane.
+/// Block 0 or 1 of a lane.
 fn first_block(digest: &[u8; 64], column: u32, lane: u32) -> [u64; 128]
     ensures { result ≡ first_block digest.now column lane }
 {
@@ -94,7 +94,7 @@ fn first_block(digest: &[u8; 64], column: u32, lane: u32) -> [u64; 128]
     words_of(&bytes)
 }
 
-// The first two blocks of each lane.
+/// The first two blocks of each lane.
 pub(crate) fn start_lanes(memory: &mut [[u64; 128]], shape: Shape, digest: &[u8; 64])
     requires whole { length memory.old ≡ 4 * (shape.lanes * shape.segment) }
     ensures { HoldsAll memory.new shape (first_lanes digest.now shape.lanes) 0 }

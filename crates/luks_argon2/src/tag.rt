@@ -16,7 +16,7 @@ use crate::variant::Variant;
 use crate::wiping::wipe;
 use std::alloc::Global;
 
-// The bytes of a block.
+/// The bytes of a block.
 fn bytes_of(words: &[u64; 128]) -> [u8; 1024]
     ensures { result ≡ digest_bytes words.now 128 }
 {
@@ -90,7 +90,7 @@ pub fn argon2_with_secret(
     Ok(())
 }
 
-// The tag that follows from the first digest. The memory is zeros when it is written.
+/// The tag that follows from the first digest. The memory is zeros when it is written.
 fn write_tag(memory: &mut [[u64; 128]], shape: Shape, digest: &[u8; 64], out: &mut [u8])
     requires whole { length memory.old ≡ 4 * (shape.lanes * shape.segment) }
     requires some { 1 ≤ shape.passes }
@@ -103,7 +103,7 @@ fn write_tag(memory: &mut [[u64; 128]], shape: Shape, digest: &[u8; 64], out: &m
     wipe(memory);
 }
 
-// All passes over the memory, and the last blocks xored.
+/// All passes over the memory, and the last blocks xored.
 fn run(memory: &mut [[u64; 128]], shape: Shape, digest: &[u8; 64]) -> [u64; 128]
     requires whole { length memory.old ≡ 4 * (shape.lanes * shape.segment) }
     requires some { 1 ≤ shape.passes }
@@ -114,7 +114,7 @@ fn run(memory: &mut [[u64; 128]], shape: Shape, digest: &[u8; 64]) -> [u64; 128]
     last_xored(memory, shape)
 }
 
-// The last blocks of all lanes, xored.
+/// The last blocks of all lanes, xored.
 fn last_xored(memory: &[[u64; 128]], shape: Shape) -> [u64; 128]
     requires whole { length memory.now ≡ 4 * (shape.lanes * shape.segment) }
     requires some { 1 ≤ shape.passes }

@@ -7,8 +7,8 @@ ghost use Rattle.std.specs.Int.{w32, to_le_bytes};
 
 use crate::hasher::Blake2b;
 
-// Writes H' of the message and the number after it into `out`, whose length is the length that is asked
-// for.
+/// Writes H' of the message and the number after it into `out`, whose length is the length that is asked
+/// for.
 pub(crate) fn variable_hash(out: &mut [u8], message: &[u8], number: &[u8])
     requires { length out.old < 2 ^ 32 }
     ensures { out.new ≡ variable_hash (length out.old) (message.now ++ number.now) }
@@ -24,7 +24,7 @@ pub(crate) fn variable_hash(out: &mut [u8], message: &[u8], number: &[u8])
     }
 }
 
-// The digest of a length in four bytes, the message and the number.
+/// The digest of a length in four bytes, the message and the number.
 fn hash_counted(out: &mut [u8], count: u32, message: &[u8], number: &[u8])
     requires { length out.old ≤ 64 }
     ensures { out.new ≡ blake2b (length out.old) (to_le_bytes w32 count ++ (message.now ++ number.now)) }
@@ -36,7 +36,7 @@ fn hash_counted(out: &mut [u8], count: u32, message: &[u8], number: &[u8])
     hasher.finish(out);
 }
 
-// Writes W_1 to W_r and the last V, from V_1 in `turn`.
+/// Writes W_1 to W_r and the last V, from V_1 in `turn`.
 fn fill_long(out: &mut [u8], turn: &mut [u8])
     requires long { 64 < length out.old }
     requires turn_length { length turn.old ≡ 64 }
@@ -52,7 +52,7 @@ fn fill_long(out: &mut [u8], turn: &mut [u8])
     hash_turn(&mut out[32 * count..], turn);
 }
 
-// Writes the first 32 bytes of a digest.
+/// Writes the first 32 bytes of a digest.
 fn put_half(half: &mut [u8], turn: &[u8])
     requires half_length { length half.old ≡ 32 }
     requires turn_length { length turn.now ≡ 64 }
@@ -61,7 +61,7 @@ fn put_half(half: &mut [u8], turn: &[u8])
     half.copy_from_slice(&turn[..32]);
 }
 
-// Writes them at the front.
+/// Writes them at the front.
 fn put_first(out: &mut [u8], turn: &[u8])
     requires room { 32 ≤ length out.old }
     requires turn_length { length turn.now ≡ 64 }
@@ -70,7 +70,7 @@ fn put_first(out: &mut [u8], turn: &[u8])
     put_half(&mut out[..32], turn);
 }
 
-// The digest of a digest, as long as `out`.
+/// The digest of a digest, as long as `out`.
 fn hash_turn(out: &mut [u8], turn: &[u8])
     requires { length out.old ≤ 64 }
     ensures { out.new ≡ blake2b (length out.old) turn.now }
@@ -80,7 +80,7 @@ fn hash_turn(out: &mut [u8], turn: &[u8])
     hasher.finish(out);
 }
 
-// The digest of 64 bytes of what `turn` holds.
+/// The digest of 64 bytes of what `turn` holds.
 fn rehash(turn: &mut [u8])
     requires turn_length { length turn.old ≡ 64 }
     ensures { turn.new ≡ blake2b 64 turn.old }

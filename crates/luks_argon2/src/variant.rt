@@ -14,7 +14,7 @@ pub enum Variant {
     Id,
 }
 
-// The number of the variant, y (RFC 9106, 3.1).
+/// The number of the variant, y (RFC 9106, 3.1).
 pub(crate) fn variant_number(variant: Variant) -> u64
     ensures exact { result ≡ variant_number variant }
     ensures small { result < 3 }

@@ -2,7 +2,7 @@
 
 ghost use Rattle.std.specs.Prelude.{◌≡◌, length, replicate};
 
-// Writes zeros over all blocks.
+/// Writes zeros over all blocks.
 #[inline(never)]
 pub(crate) fn wipe(memory: &mut [[u64; 128]])
     ensures { memory.new ≡ replicate (length memory.old) (replicate 128 0) }
