@@ -16,7 +16,7 @@
 #   clean     what the others made
 #   help      this list
 #
-# The first target that needs the program proves everything first, which takes some 10 minutes on 4 processors.
+# The first target that needs the program proves everything first, which takes some 12 minutes on 4 processors.
 # Rattle's command rt proves and builds; it writes its progress on standard error, and `rt run` ends with the program's own status.
 
 RT ?= rt
