@@ -82,7 +82,7 @@ impl Blake2b {
     }
 
     /// Writes the digest of the message. `out` has as many bytes as the hasher was begun for.
-    pub fn finish(self, out: &mut [u8])
+    pub fn finalize(self, out: &mut [u8])
         requires { length out.old ≤ 64 }
         ensures { (m : List ℕ) → Holds (length out.old) self m → out.new ≡ blake2b (length out.old) m }
     {

@@ -53,7 +53,7 @@ pub(crate) fn first_digest(
     feed_counted(&mut hasher, secret);
     feed_counted(&mut hasher, associated);
     let mut digest = [0u8; 64];
-    hasher.finish(&mut digest);
+    hasher.finalize(&mut digest);
     digest
 }
 

@@ -33,7 +33,7 @@ fn hash_counted(out: &mut [u8], count: u32, message: &[u8], number: &[u8])
     hasher.update(&count.to_le_bytes());
     hasher.update(message);
     hasher.update(number);
-    hasher.finish(out);
+    hasher.finalize(out);
 }
 
 /// Writes W_1 to W_r and the last V, from V_1 in `turn`.
@@ -77,7 +77,7 @@ fn hash_turn(out: &mut [u8], turn: &[u8])
 {
     let mut hasher = Blake2b::new(out.len() as u8);
     hasher.update(turn);
-    hasher.finish(out);
+    hasher.finalize(out);
 }
 
 /// The digest of 64 bytes of what `turn` holds.
@@ -87,5 +87,5 @@ fn rehash(turn: &mut [u8])
 {
     let mut hasher = Blake2b::new(64);
     hasher.update(turn);
-    hasher.finish(turn);
+    hasher.finalize(turn);
 }

@@ -14,7 +14,7 @@ fn digest_of(first: &[u8], second: &[u8]) -> [u8; 64] {
     let mut hasher = Blake2b::new(64);
     hasher.update(first);
     hasher.update(second);
-    hasher.finish(&mut digest);
+    hasher.finalize(&mut digest);
     digest
 }
 
@@ -95,7 +95,7 @@ fn digests_of_all_lengths(rt: HostRuntime) {
         all.update(&digest_of(&bytes[..len], b""));
     }
     let mut sum = [0u8; 64];
-    all.finish(&mut sum);
+    all.finalize(&mut sum);
     let want =
         "b6e92e8500fff38c4e359c2371b89d5f2f8148f1f6e2ba53c71375f13a2a7770d8c459fec4024309f7731597dbf57d1c8cbd5bdd7e4a07beccb3c063a504ddc0";
     assert!(rt; is_hex(&sum, want), "another digest");
@@ -111,11 +111,11 @@ fn short_digests_of_all_lengths(rt: HostRuntime) {
         let short = &mut digest[..len % 64 + 1];
         let mut hasher = Blake2b::new((len % 64 + 1) as u8);
         hasher.update(&bytes[..len]);
-        hasher.finish(short);
+        hasher.finalize(short);
         all.update(short);
     }
     let mut sum = [0u8; 64];
-    all.finish(&mut sum);
+    all.finalize(&mut sum);
     let want =
         "b7b2da4f1310fa8c9238c4bfb26020fd378f5820868ebf6715df970c0c4b892a7562615445e1f533f523c016f32dc90b9daec0065b8e731b1bef442cf314588f";
     assert!(rt; is_hex(&sum, want), "another digest");

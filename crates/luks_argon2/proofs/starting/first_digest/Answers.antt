@@ -13,7 +13,7 @@ pub returns : goal.returns
 unfolding first_digest
 returns c =
     rw (← c.variant_number.ensures.exact) (
-    c.finish.ensures _ (c.feed_counted-4.ensures 64 _ (c.feed_counted-3.ensures 64 _ (c.feed_counted-2.ensures 64 _ (c.feed_counted.ensures 64 _
+    c.finalize.ensures _ (c.feed_counted-4.ensures 64 _ (c.feed_counted-3.ensures 64 _ (c.feed_counted-2.ensures 64 _ (c.feed_counted.ensures 64 _
     (c.feed_number-6.ensures 64 _ (c.feed_number-5.ensures 64 _ (c.feed_number-4.ensures 64 _ (c.feed_number-3.ensures 64 _ (c.feed_number-2.ensures 64 _
     (c.feed_number.ensures 64 _ c.new-hasher.ensures))))))))))
     ∙ ap (blake2b 64) (joined (to_le_bytes w32 c.args.costs.lanes) (to_le_bytes w32 c.args.len) (to_le_bytes w32 c.args.costs.memory)

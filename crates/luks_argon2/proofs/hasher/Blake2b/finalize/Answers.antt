@@ -1,6 +1,6 @@
 use Rattle.std.proofs.Common.{ℕ, List, length, take, ap, ◌∙◌}
 use Rattle.luks_argon2.proofs.HasherFacts.{Holds_final}
-use Rattle.luks_argon2.proofs.hasher.Blake2b.finish.Goals as goal
+use Rattle.luks_argon2.proofs.hasher.Blake2b.finalize.Goals as goal
 
 pub returns : goal.returns
 returns c = λ m held.
