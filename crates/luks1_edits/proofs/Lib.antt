@@ -15,3 +15,4 @@ pub mod RemovalFacts
 pub mod RowFacts
 pub mod SlotSetFacts
 pub mod StepFacts
+pub mod SettledFacts

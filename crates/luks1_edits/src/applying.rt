@@ -1,6 +1,6 @@
 //! Edits of LUKS1 volumes.
 ghost use Rattle.std.specs.Prelude.{◌≡◌, ◌≢◌, ◌+◌, ◌^◌, ◌<◌, length, IfErr, MatchResult, None};
-ghost use Rattle.luks_area.specs.Device.{CountsFailure};
+ghost use Rattle.luks_area.specs.Device.{CountsFailure, IsSettled};
 ghost use Rattle.luks_edit.specs.EditFaults.{is_edit_failure};
 ghost use Rattle.luks_reading.specs.Header.{IsHeader};
 ghost use Rattle.luks_reading.specs.declared.header.Header.TheVariants.{Luks1 as OfLuks1};
@@ -30,8 +30,10 @@ pub fn apply_luks1<D: Device>(
     edit: &Edit<'_>,
     random: &[u8],
 ) -> Result<Done, EditFault>
-    requires { D.failed device.old + 1 < 2 ^ 64 }
+    requires room { D.failed device.old + 1 < 2 ^ 64 }
+    requires settled { D.tells → IsSettled D.unsettled device.old }
     ensures size { D.size device.new ≡ D.size device.old }
+    ensures settled { D.tells → D.failed device.new ≡ D.failed device.old → IsSettled D.unsettled device.new }
     ensures count { CountsFailure is_edit_failure result
         (D.failed device.old) (D.failed device.new) }
     ensures memory { IfErr result (λ f. f ≢ EditFault.Memory) }

@@ -1,7 +1,7 @@
 //! Freeing a keyslot of a LUKS1 volume.
 ghost use Rattle.std.specs.Prelude.{◌≡◌, ◌+◌, ◌^◌, ◌<◌, ◌≤◌, ℕ, List, slice_index_or, OnOk};
 ghost use Rattle.luks_area.specs.Area.{IsInside};
-ghost use Rattle.luks_area.specs.Device.{CountsFailure, is_failure};
+ghost use Rattle.luks_area.specs.Device.{CountsFailure, IsSettled, is_failure};
 ghost use Rattle.luks_head.specs.Header1.{luks1_size};
 ghost use Rattle.luks_head.specs.Written.{WritesEntry};
 ghost use Rattle.luks1_edits.specs.Edited.{IsRemoved};
@@ -36,8 +36,10 @@ pub(crate) fn free_keyslot<D: Device>(
     requires within { luks1_size ≤ D.size device.old }
     requires inside { IsInside area (D.size device.old) }
     requires room { D.failed device.old + 1 < 2 ^ 64 }
+    requires settled { D.tells → IsSettled D.unsettled device.old }
     ensures count { CountsFailure is_failure result (D.failed device.old) (D.failed device.new) }
     ensures size { D.size device.new ≡ D.size device.old }
+    ensures settled { D.tells → D.failed device.new ≡ D.failed device.old → IsSettled D.unsettled device.new }
     ensures removed { D.tells → IsKeyslotAt (D.bytes device.old) n slot.now area
         → OnOk result (IsRemoved (D.bytes device.old) n (D.bytes device.new)) }
     ensures torn { D.tells → IsKeyslotAt (D.bytes device.old) n slot.now area

@@ -1,6 +1,6 @@
 //! Making a keyslot of a LUKS1 volume.
 ghost use Rattle.std.specs.Prelude.{◌≡◌, ◌+◌, ◌^◌, ◌<◌, ◌≤◌, ℕ, List, drop, length, take, IfErr, OnErr, OnOk};
-ghost use Rattle.luks_area.specs.Device.{CountsFailure};
+ghost use Rattle.luks_area.specs.Device.{CountsFailure, IsSettled};
 ghost use Rattle.luks_head.specs.Header1.{entry, key_bytes_of, HoldsEntry, HoldsSlots};
 ghost use Rattle.luks_edit.specs.EditFaults.{is_edit_failure};
 ghost use Rattle.luks1_edits.specs.Accepted.{IsAcceptedAt, IsHeaderOf};
@@ -84,7 +84,9 @@ pub(crate) fn make_keyslot<D: Device>(
     requires random_length { length random.now ≡ keyslot_need header.now.bytes.now n }
     requires accepted { IsAcceptedAt header.now (D.size device.old) }
     requires room { D.failed device.old + 1 < 2 ^ 64 }
+    requires settled { D.tells → IsSettled D.unsettled device.old }
     ensures size { D.size device.new ≡ D.size device.old }
+    ensures settled { D.tells → D.failed device.new ≡ D.failed device.old → IsSettled D.unsettled device.new }
     ensures count { CountsFailure is_edit_failure result
         (D.failed device.old) (D.failed device.new) }
     ensures fault { IfErr result (IsUnmade header.now.bytes.now) }

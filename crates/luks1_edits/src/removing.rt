@@ -1,6 +1,6 @@
 //! Removing a keyslot of a LUKS1 volume.
 ghost use Rattle.std.specs.Prelude.{◌≡◌, ◌≢◌, ◌+◌, ◌^◌, ◌<◌, IfErr};
-ghost use Rattle.luks_area.specs.Device.{CountsFailure};
+ghost use Rattle.luks_area.specs.Device.{CountsFailure, IsSettled};
 ghost use Rattle.luks_edit.specs.EditFaults.{is_edit_failure};
 ghost use Rattle.luks_edit.specs.declared.edit.Edit.TheVariants.{Remove};
 ghost use Rattle.luks1_edits.specs.Accepted.{IsAcceptedAt, IsHeaderOf};
@@ -26,8 +26,10 @@ pub(crate) fn remove<D: Device>(
     random: &[u8],
 ) -> Result<Done, EditFault>
     requires room { D.failed device.old + 1 < 2 ^ 64 }
+    requires settled { D.tells → IsSettled D.unsettled device.old }
     requires accepted { IsAcceptedAt header.now (D.size device.old) }
     ensures size { D.size device.new ≡ D.size device.old }
+    ensures settled { D.tells → D.failed device.new ≡ D.failed device.old → IsSettled D.unsettled device.new }
     ensures count { CountsFailure is_edit_failure result
         (D.failed device.old) (D.failed device.new) }
     ensures memory { IfErr result (λ f. f ≢ EditFault.Memory) }

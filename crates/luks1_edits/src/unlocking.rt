@@ -43,7 +43,7 @@ pub(crate) fn unlock<D: Device>(
 ) -> Result<Key, EditFault>
     requires room { D.failed device.old + 1 < 2 ^ 64 }
     requires accepted { IsAcceptedAt header.now (D.size device.old) }
-    ensures unchanged { IsUnchanged D.tells D.size D.bytes device.old device.new }
+    ensures unchanged { IsUnchanged D.tells D.size D.bytes D.unsettled device.old device.new }
     ensures count { CountsFailure is_edit_failure result
         (D.failed device.old) (D.failed device.new) }
     ensures memory { IfErr result (λ f. f ≢ EditFault.Memory) }

@@ -3,8 +3,10 @@ use Rattle.std.proofs.Common.{◌≡◌, ℕ, ◌+◌, ◌≤◌, ◌++◌, List
 use Rattle.std.proofs.Math.Seq.{drop-append_seam, take-append_seam}
 use Rattle.sha2.specs.Sha256.{sha256}
 use Rattle.sha2.proofs.Facts256.{length-sha256}
-use Rattle.luks_area.specs.Ranges.{part, written, IsAt, SameBut, SameOutside}
-use Rattle.luks_area.specs.RangeFacts.{length-written, part-same_but_at, part-written, same_but-same_outside, same_outside-longer, same_outside-then, same_outside-wider}
+use Rattle.luks_area.specs.Device.{Touches}
+use Rattle.luks_area.specs.DeviceFacts.{touches-inside, touches-then, touches-wider}
+use Rattle.luks_area.specs.Ranges.{part, written, IsAt, SameOutside}
+use Rattle.luks_area.specs.RangeFacts.{length-written, part-same_but_at, part-written, same_but-same_outside, same_outside-written}
 use Rattle.luks_head.specs.Header2.{with_zero_checksum}
 use Rattle.luks_head.specs.Written.{IsWrittenCopy, WritesBin2}
 use Rattle.luks_head.specs.declared.bin2.Bin2.{Bin2}
@@ -19,19 +21,24 @@ digest_rest : (m : List ℕ) → drop 32 (sha256 m ++ replicate 32 0) ≡ replic
 digest_rest m = ap (λ n. drop n (sha256 m ++ replicate 32 0)) (sym (length-sha256 m)) ∙ drop-append_seam (sha256 m) (replicate 32 0)
 
 -- the write of the header is within the copy
-pub copy_begun : {u v : List ℕ} (at n m : ℕ) → n ≡ 4096 → SameOutside u v at n → SameBut (IsAt at (4096 + m)) u v
-copy_begun {u} {v} at n m size first = same_but-same_outside (same_outside-longer at (4096 + m) n (omega (arith, size)) first)
+pub copy_begun : {D : Type 0} {bytes_of : D → List ℕ} {unsettled_of : D → ℕ → Type 0} {old new : D} (at n m : ℕ) → n ≡ 4096
+    → Touches bytes_of unsettled_of (IsAt at n) old new → Touches bytes_of unsettled_of (IsAt at (4096 + m)) old new
+copy_begun at n m size first = touches-wider (λ p here. (here.0, let high = here.1 in omega (arith, high, size))) first
 
 -- and so is that of the area behind it
-pub copy_rest : {u v w : List ℕ} (at n m : ℕ) → n ≡ 4096 → SameOutside u v at n → SameOutside v w (at + 4096) m → SameBut (IsAt at (4096 + m)) u w
-copy_rest {u} {v} {w} at n m size first second =
-    same_but-same_outside (same_outside-then (same_outside-longer at (4096 + m) n (omega (arith, size)) first) (same_outside-wider at (4096 + m) 4096 m (omega arith) second))
+pub copy_rest : {D : Type 0} {bytes_of : D → List ℕ} {unsettled_of : D → ℕ → Type 0} {first mid last : D} (at n m : ℕ) → n ≡ 4096
+    → Touches bytes_of unsettled_of (IsAt at n) first mid → Touches bytes_of unsettled_of (IsAt (at + 4096) m) mid last
+    → Touches bytes_of unsettled_of (IsAt at (4096 + m)) first last
+copy_rest at n m size header area = touches-then (copy_begun at n m size header) (touches-inside at (4096 + m) 4096 m (omega arith) area)
 
 -- header and area stand where both were written
 module _ (v w x head json : List ℕ) (at : ℕ) (inside : at + (4096 + length json) ≤ length v) (size : length head ≡ 4096)
-    (first : w ≡ written v at head) (second : x ≡ written w (at + 4096) json) (behind : SameOutside w x (at + 4096) (length json)) where
+    (first : w ≡ written v at head) (second : x ≡ written w (at + 4096) json) where
   long : length w ≡ length v
   long = ap length first ∙ length-written v at head (omega (arith, inside, size))
+
+  behind : SameOutside w x (at + 4096) (length json)
+  behind = subst (λ (l : List ℕ). SameOutside w l (at + 4096) (length json)) (sym second) (same_outside-written w (at + 4096) json (omega (arith, inside, long)))
 
   pub area_there : part x (at + 4096) (length json) ≡ json
   area_there = ap (λ l. part l (at + 4096) (length json)) second ∙ part-written w (at + 4096) json (omega (arith, inside, long))

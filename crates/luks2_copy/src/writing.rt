@@ -1,6 +1,6 @@
 ghost use Rattle.std.specs.Prelude.{◌≡◌, ◌+◌, ◌++◌, ◌^◌, ◌<◌, ◌≤◌, ℕ, List, length, replicate, OnOk};
 ghost use Rattle.sha2.specs.Sha256.{sha256};
-ghost use Rattle.luks_area.specs.Device.{CountsFailure, is_failure};
+ghost use Rattle.luks_area.specs.Device.{CountsFailure, IsSettled, is_failure};
 ghost use Rattle.luks_area.specs.Ranges.{part, IsAt, SameBut};
 ghost use Rattle.luks_head.specs.Header2.{binary_header_size, header_at, sha256_size, with_zero_checksum};
 ghost use Rattle.luks_head.specs.Written.{WritesBin2};
@@ -23,8 +23,11 @@ pub fn write_copy<D: Device>(device: &mut D, header: &Bin2, json: &[u8]) -> Resu
     requires json { binary_header_size + length json.now ≡ header.now.hdr_size }
     requires within { header.now.hdr_offset + header.now.hdr_size ≤ D.size device.old }
     requires room { D.failed device.old + 1 < 2 ^ 64 }
+    requires settled { D.tells → IsSettled D.unsettled device.old }
     ensures count { CountsFailure is_failure result (D.failed device.old) (D.failed device.new) }
     ensures size { D.size device.new ≡ D.size device.old }
+    ensures settled { D.tells → D.failed device.new ≡ D.failed device.old
+        → IsSettled D.unsettled device.new }
     ensures copy { D.tells → IsCopyHeader header.now
         → OnOk result (HasCopy (D.bytes device.new) json.now header.now) }
     ensures rest { D.tells → SameBut (IsAt header.now.hdr_offset header.now.hdr_size)
@@ -60,8 +63,11 @@ fn write_both<D: Device>(
     requires head { length head.now ≡ binary_header_size }
     requires within { at + (binary_header_size + length json.now) ≤ D.size device.old }
     requires room { D.failed device.old + 1 < 2 ^ 64 }
+    requires settled { D.tells → IsSettled D.unsettled device.old }
     ensures count { CountsFailure is_failure result (D.failed device.old) (D.failed device.new) }
     ensures size { D.size device.new ≡ D.size device.old }
+    ensures settled { D.tells → D.failed device.new ≡ D.failed device.old
+        → IsSettled D.unsettled device.new }
     ensures head { D.tells → OnOk result (header_at (D.bytes device.new) at ≡ head.now) }
     ensures area { D.tells → OnOk result
         (part (D.bytes device.new) (at + binary_header_size) (length json.now) ≡ json.now) }

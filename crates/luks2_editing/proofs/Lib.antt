@@ -15,3 +15,4 @@ mod NewKeyslotFacts
 mod AdditionFacts
 mod PlanFacts
 mod ChangeFacts
+mod SettledFacts

@@ -1,7 +1,7 @@
 //! Adding a keyslot to a LUKS2 volume.
 ghost use Rattle.std.specs.Prelude.{◌≡◌, ℕ, ◌+◌, ◌^◌, ◌<◌, ◌≤◌, List, Option, length};
 ghost use Rattle.std.specs.Borrow.{Bor};
-ghost use Rattle.luks_area.specs.Device.{CountsFailure};
+ghost use Rattle.luks_area.specs.Device.{CountsFailure, IsSettled};
 ghost use Rattle.luks_head.specs.Header2.{hdr_size, header_at};
 ghost use Rattle.luks_making.specs.Conditions.{IsFree};
 ghost use Rattle.luks_meta.specs.Content.{area_len, content};
@@ -56,6 +56,7 @@ pub(crate) fn add<D: Device>(
     secrets: &Secrets<'_>,
 ) -> Result<Done, EditFault>
     requires room { D.failed device.old + 1 < 2 ^ 64 }
+    requires settled { D.tells → IsSettled D.unsettled device.old }
     requires free { IsFree (content copy.now.meta) addition.now.made }
     requires iterated { 1000 ≤ addition.now.iterations }
     requires key_length { HasLuks2KeyBytes (content copy.now.meta) addition.now.by_
@@ -63,6 +64,8 @@ pub(crate) fn add<D: Device>(
     requires placed { IsPlaced (area_len copy.now.meta) (content copy.now.meta)
         (D.size device.old) addition.now.by_ addition.now.area }
     ensures size { D.size device.new ≡ D.size device.old }
+    ensures settled { D.tells → D.failed device.new ≡ D.failed device.old
+        → IsSettled D.unsettled device.new }
     ensures count { CountsFailure is_edit_failure result
         (D.failed device.old) (D.failed device.new) }
     ensures replies { D.tells → (payload : Payload) (old : Bor (List ℕ)) (to : Option ℕ)

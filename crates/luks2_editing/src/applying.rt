@@ -1,6 +1,6 @@
 //! Edits of LUKS2 volumes.
 ghost use Rattle.std.specs.Prelude.{◌≡◌, ◌+◌, ◌^◌, ◌<◌};
-ghost use Rattle.luks_area.specs.Device.{CountsFailure};
+ghost use Rattle.luks_area.specs.Device.{CountsFailure, IsSettled};
 ghost use Rattle.luks_edit.specs.EditFaults.{is_edit_failure};
 ghost use Rattle.luks_reading.specs.Header.{IsAcceptedHeader, IsHeader};
 ghost use Rattle.luks2_judging.specs.Header.{IsOfLuks2};
@@ -28,6 +28,7 @@ use std::alloc::Global;
 /// did, and zeros over the area that a keyslot lost. `Device` comes exactly where a device call
 /// failed; what that leaves, the volume as it was or one torn in that range, keeps every other
 /// keyslot, unless bytes of a torn write are taken for a header.
+#[tactic(auto, using(crate::proofs::SettledFacts::settled_unchanged))]
 pub fn apply_luks2<D: Device>(
     alloc: Global,
     device: &mut D,
@@ -37,9 +38,12 @@ pub fn apply_luks2<D: Device>(
     random: &[u8],
 ) -> Result<Done, EditFault>
     requires room { D.failed device.old + 1 < 2 ^ 64 }
+    requires settled { D.tells → IsSettled D.unsettled device.old }
     requires accepted { IsAcceptedHeader header.now }
     requires luks2 { IsOfLuks2 header.now }
     ensures size { D.size device.new ≡ D.size device.old }
+    ensures settled { D.tells → D.failed device.new ≡ D.failed device.old
+        → IsSettled D.unsettled device.new }
     ensures count { CountsFailure is_edit_failure result
         (D.failed device.old) (D.failed device.new) }
     ensures replies { D.tells → IsHeader (D.bytes device.old) header.now

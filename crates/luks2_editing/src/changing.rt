@@ -1,7 +1,7 @@
 //! Changing the passphrase of a keyslot of a LUKS2 volume.
 ghost use Rattle.std.specs.Prelude.{◌≡◌, ◌+◌, ◌^◌, ◌<◌, ◌≤◌, ℕ, List, length};
 ghost use Rattle.std.specs.Borrow.{Bor};
-ghost use Rattle.luks_area.specs.Device.{CountsFailure};
+ghost use Rattle.luks_area.specs.Device.{CountsFailure, IsSettled};
 ghost use Rattle.luks_head.specs.Header2.{hdr_size, header_at};
 ghost use Rattle.luks_meta.specs.Content.{area_len, content};
 ghost use Rattle.luks_reading.specs.declared.report.Data.{Data as Payload};
@@ -55,6 +55,7 @@ pub(crate) fn change<D: Device>(
     secrets: &Secrets<'_>,
 ) -> Result<Done, EditFault>
     requires room { D.failed device.old + 1 < 2 ^ 64 }
+    requires settled { D.tells → IsSettled D.unsettled device.old }
     requires there { IsInUse (content copy.now.meta) renewal.now.slot }
     requires iterated { 1000 ≤ renewal.now.iterations }
     requires key_length { HasLuks2KeyBytes (content copy.now.meta) renewal.now.slot
@@ -62,6 +63,8 @@ pub(crate) fn change<D: Device>(
     requires placed { IsPlaced (area_len copy.now.meta) (content copy.now.meta)
         (D.size device.old) renewal.now.slot renewal.now.area }
     ensures size { D.size device.new ≡ D.size device.old }
+    ensures settled { D.tells → D.failed device.new ≡ D.failed device.old
+        → IsSettled D.unsettled device.new }
     ensures count { CountsFailure is_edit_failure result
         (D.failed device.old) (D.failed device.new) }
     ensures replies { D.tells → (payload : Payload) (old : Bor (List ℕ))

@@ -1,7 +1,7 @@
 //! Setting the label of a LUKS2 volume.
 ghost use Rattle.std.specs.Prelude.{◌≡◌, ◌+◌, ◌++◌, ◌-◌, ◌^◌, ◌<◌, ℕ, List, length, replicate};
 ghost use Rattle.std.specs.Borrow.{Bor};
-ghost use Rattle.luks_area.specs.Device.{CountsFailure};
+ghost use Rattle.luks_area.specs.Device.{CountsFailure, IsSettled};
 ghost use Rattle.luks_reading.specs.Checked.{WellFormed};
 ghost use Rattle.luks_reading.specs.Header.{IsChosenCopy};
 ghost use Rattle.luks_reading.specs.declared.report.Data.{Data as Payload};
@@ -31,8 +31,11 @@ pub(crate) fn set_label<D: Device>(
     label: [u8; 48],
     random: &[u8],
 ) -> Result<Done, EditFault>
-    requires { D.failed device.old + 1 < 2 ^ 64 }
+    requires room { D.failed device.old + 1 < 2 ^ 64 }
+    requires settled { D.tells → IsSettled D.unsettled device.old }
     ensures size { D.size device.new ≡ D.size device.old }
+    ensures settled { D.tells → D.failed device.new ≡ D.failed device.old
+        → IsSettled D.unsettled device.new }
     ensures count { CountsFailure is_edit_failure result
         (D.failed device.old) (D.failed device.new) }
     ensures replies { D.tells → (payload : Payload) (text : Bor (List ℕ))

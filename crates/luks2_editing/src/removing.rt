@@ -2,7 +2,7 @@
 ghost use Rattle.std.specs.Prelude.{◌≡◌, ◌+◌, ◌^◌, ◌<◌, ℕ, List, false, IfErr, IfOk, IsOk};
 ghost use Rattle.std.specs.Borrow.{Bor};
 ghost use Rattle.luks_area.specs.Area.{IsInside};
-ghost use Rattle.luks_area.specs.Device.{CountsFailure};
+ghost use Rattle.luks_area.specs.Device.{CountsFailure, IsSettled};
 ghost use Rattle.luks_meta.specs.Content.{area_len, content};
 ghost use Rattle.luks_making.specs.Without.{without_slot};
 ghost use Rattle.luks_reading.specs.Checked.{WellFormed};
@@ -39,7 +39,10 @@ pub(crate) fn remove<D: Device>(
 ) -> Result<Done, EditFault>
     requires numbered { slot < 32 }
     requires room { D.failed device.old + 1 < 2 ^ 64 }
+    requires settled { D.tells → IsSettled D.unsettled device.old }
     ensures size { D.size device.new ≡ D.size device.old }
+    ensures settled { D.tells → D.failed device.new ≡ D.failed device.old
+        → IsSettled D.unsettled device.new }
     ensures count { CountsFailure is_edit_failure result
         (D.failed device.old) (D.failed device.new) }
     ensures replies { D.tells → (payload : Payload) (passphrase : Bor (List ℕ))

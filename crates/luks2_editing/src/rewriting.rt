@@ -1,6 +1,6 @@
 //! Writing the header of a LUKS2 volume anew with new metadata.
 ghost use Rattle.std.specs.Prelude.{◌≡◌, ◌≢◌, ◌+◌, ◌^◌, ◌<◌, ℕ, List, IfErr, OnOk};
-ghost use Rattle.luks_area.specs.Device.{CountsFailure};
+ghost use Rattle.luks_area.specs.Device.{CountsFailure, IsSettled};
 ghost use Rattle.luks_area.specs.Ranges.{SameBut};
 ghost use Rattle.luks_meta.specs.Content.{area_len, content};
 ghost use Rattle.luks_edit.specs.EditFaults.{is_edit_failure};
@@ -32,8 +32,11 @@ pub(crate) fn rewrite<D: Device>(
     label: [u8; 48],
     random: &[u8],
 ) -> Result<(), EditFault>
-    requires { D.failed device.old + 1 < 2 ^ 64 }
+    requires room { D.failed device.old + 1 < 2 ^ 64 }
+    requires settled { D.tells → IsSettled D.unsettled device.old }
     ensures size { D.size device.new ≡ D.size device.old }
+    ensures settled { D.tells → D.failed device.new ≡ D.failed device.old
+        → IsSettled D.unsettled device.new }
     ensures count { CountsFailure is_edit_failure result
         (D.failed device.old) (D.failed device.new) }
     ensures ready { OnOk result (IsPrepared header.now.seqid

@@ -1,7 +1,7 @@
 //! Sealing a keyslot of new metadata, and writing that metadata.
 ghost use Rattle.std.specs.Prelude.{◌≡◌, ◌≢◌, ◌+◌, ◌^◌, ◌<◌, IfErr, OnOk};
 ghost use Rattle.serde_json.specs.Data.{Data as Value};
-ghost use Rattle.luks_area.specs.Device.{CountsFailure};
+ghost use Rattle.luks_area.specs.Device.{CountsFailure, IsSettled};
 ghost use Rattle.luks_making.specs.WrittenArea.{IsWrittenArea};
 ghost use Rattle.luks_meta.specs.Content.{area_len, content};
 ghost use Rattle.luks_reading.specs.declared.report.Data.{Data as Payload};
@@ -36,6 +36,7 @@ pub(crate) fn write_keyslot<D: Device>(
     secrets: &Secrets<'_>,
 ) -> Result<(), EditFault>
     requires room { D.failed device.old + 1 < 2 ^ 64 }
+    requires settled { D.tells → IsSettled D.unsettled device.old }
     requires numbered { chosen.now.seqid + 1 < 2 ^ 64 }
     requires json { IsWrittenArea (area_len made.now.meta) (content made.now.meta)
         made.now.json.items }
@@ -43,6 +44,8 @@ pub(crate) fn write_keyslot<D: Device>(
     requires sealable { IsSealable chosen.now.hdr_size (content made.now.meta) n secrets.now.key.now
         secrets.now.random.now (D.size device.old) }
     ensures size { D.size device.new ≡ D.size device.old }
+    ensures settled { D.tells → D.failed device.new ≡ D.failed device.old
+        → IsSettled D.unsettled device.new }
     ensures count { CountsFailure is_edit_failure result
         (D.failed device.old) (D.failed device.new) }
     ensures fault { IfErr result (IsUnsealed (content made.now.meta) n) }

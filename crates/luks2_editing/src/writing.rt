@@ -1,6 +1,6 @@
 //! The steps that write copies of a LUKS2 header.
 ghost use Rattle.std.specs.Prelude.{◌≡◌, ◌+◌, ◌*◌, ◌^◌, ◌<◌, ◌≤◌, ℕ, List, length, OnOk};
-ghost use Rattle.luks_area.specs.Device.{CountsFailure, is_failure};
+ghost use Rattle.luks_area.specs.Device.{CountsFailure, IsSettled, is_failure};
 ghost use Rattle.luks_area.specs.Ranges.{IsAt, SameBut};
 ghost use Rattle.luks_head.specs.Header2.{binary_header_size};
 ghost use Rattle.serde_json.specs.Data.{Data as Value};
@@ -31,8 +31,11 @@ pub(crate) fn write_copies<D: Device>(
     requires within { 2 * chosen.now.hdr_size ≤ D.size device.old }
     requires random { 128 ≤ length random.now }
     requires room { D.failed device.old + 1 < 2 ^ 64 }
+    requires settled { D.tells → IsSettled D.unsettled device.old }
     ensures count { CountsFailure is_failure result (D.failed device.old) (D.failed device.new) }
     ensures size { D.size device.new ≡ D.size device.old }
+    ensures settled { D.tells → D.failed device.new ≡ D.failed device.old
+        → IsSettled D.unsettled device.new }
     ensures anew { D.tells → (v : List ℕ) (e : TheEdit) (j : Value)
         → IsRewriting v e chosen.now label j json.now → OnOk result
         (AreWrittenAnew v chosen.now.hdr_offset e random.now j (D.bytes device.new)) }
@@ -76,8 +79,11 @@ fn write_new_copy<D: Device>(
     requires json { binary_header_size + length json.now ≡ old.now.hdr_size }
     requires within { at + old.now.hdr_size ≤ D.size device.old }
     requires room { D.failed device.old + 1 < 2 ^ 64 }
+    requires settled { D.tells → IsSettled D.unsettled device.old }
     ensures count { CountsFailure is_failure result (D.failed device.old) (D.failed device.new) }
     ensures size { D.size device.new ≡ D.size device.old }
+    ensures settled { D.tells → D.failed device.new ≡ D.failed device.old
+        → IsSettled D.unsettled device.new }
     ensures copy { D.tells → IsCopyPlace old.now at → OnOk result
         (HasNewCopy old.now label salt json.now (D.bytes device.new) at) }
     ensures rest { D.tells

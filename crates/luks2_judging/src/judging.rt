@@ -80,7 +80,7 @@ pub fn judge_luks2<'a, D: Device>(
     requires room { D.failed device.old + 1 < 2 ^ 64 }
     requires accepted { IsAcceptedHeader header.now }
     requires luks2 { IsOfLuks2 header.now }
-    ensures unchanged { IsUnchanged D.tells D.size D.bytes device.old device.new }
+    ensures unchanged { IsUnchanged D.tells D.size D.bytes D.unsettled device.old device.new }
     ensures count { CountsFailure is_edit_failure result
         (D.failed device.old) (D.failed device.new) }
     ensures memory { IfErr result (λ f. f ≢ EditFault.Memory) }

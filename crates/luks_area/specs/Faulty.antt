@@ -19,6 +19,10 @@ faulty_size {D} {ghosts} faulty = ghosts.size (inner_device faulty)
 abbrev pub faulty_bytes : {D : Type 0} {ghosts : Ghosts D} → FaultyDevice D ghosts → List ℕ
 faulty_bytes {D} {ghosts} faulty = ghosts.bytes (inner_device faulty)
 
+-- the unsettled places of the device behind
+abbrev pub faulty_unsettled : {D : Type 0} {ghosts : Ghosts D} → FaultyDevice D ghosts → ℕ → Type 0
+faulty_unsettled {D} {ghosts} faulty = ghosts.unsettled (inner_device faulty)
+
 -- how many calls come before the one that fails; none once it has failed
 abbrev pub calls_before : {D : Type 0} {ghosts : Ghosts D} → FaultyDevice D ghosts → Option ℕ
 calls_before faulty = faulty.before

@@ -3,6 +3,7 @@ pub mod Files
 pub mod First
 pub mod Area
 pub mod Device
+pub mod DeviceFacts
 pub mod Memory
 pub mod Names
 pub mod Printed

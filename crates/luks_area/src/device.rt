@@ -1,6 +1,6 @@
 ghost use Rattle.std.specs.Prelude.{◌≡◌, ℕ, ◌+◌, ◌^◌, ◌<◌, ◌≤◌, List, length, OnOk};
-ghost use Rattle.luks_area.specs.Device.{CountsFailure, IsUnchanged, is_failure};
-ghost use Rattle.luks_area.specs.Ranges.{part, written, SameOutside};
+ghost use Rattle.luks_area.specs.Device.{CountsFailure, IsSettled, IsUnchanged, Touches, is_failure, no_place};
+ghost use Rattle.luks_area.specs.Ranges.{part, written, IsAt};
 
 use std::error::Error;
 use std::fmt;
@@ -34,6 +34,10 @@ pub trait Device: Drop {
     /// The bytes, from the place 0 on.
     ghost bytes: { Self → List ℕ };
 
+    /// The places that were written and not flushed since, and no others: what a failing call may
+    /// change beside its own range.
+    ghost unsettled: { Self → ℕ → Type 0 };
+
     /// The length in bytes.
     ghost size: { Self → ℕ };
 
@@ -56,14 +60,15 @@ pub trait Device: Drop {
         requires within { at + length into.old ≤ size self.old }
         requires room { failed self.old + 1 < 2 ^ 64 }
         ensures count { CountsFailure is_failure result (failed self.old) (failed self.new) }
-        ensures unchanged { IsUnchanged tells size bytes self.old self.new }
+        ensures unchanged { IsUnchanged tells size bytes unsettled self.old self.new }
         ensures read { tells → OnOk result
             (into.new ≡ part (bytes self.old) at (length into.old)) };
 
     /// Writes `from` from the place `at` on; that range lies inside the device.
     ///
-    /// A failed write leaves any bytes in that range, and all others as they were. The error comes
-    /// exactly where the count of failures rose in this call.
+    /// The range is unsettled then. A failed write leaves any bytes in that range and at the places
+    /// that were unsettled, and all others as they were. The error comes exactly where the count of
+    /// failures rose in this call.
     fn write_at(&mut self, at: u64, from: &[u8]) -> Result<(), DeviceFault>
         requires within { at + length from.now ≤ size self.old }
         requires room { failed self.old + 1 < 2 ^ 64 }
@@ -71,14 +76,18 @@ pub trait Device: Drop {
         ensures size { size self.new ≡ size self.old }
         ensures wrote { tells → OnOk result
             (bytes self.new ≡ written (bytes self.old) at from.now) }
-        ensures outside { tells → SameOutside (bytes self.old) (bytes self.new)
-            at (length from.now) };
+        ensures touches { tells → Touches bytes unsettled (IsAt at (length from.now))
+            self.old self.new };
 
-    /// Asks that all that was written stays. A flush changes no byte, nor does one that fails.
+    /// Asks that all that was written stays. A flush changes no byte, and leaves none unsettled; one
+    /// that fails leaves any bytes at the places that were unsettled.
     fn flush(&mut self) -> Result<(), DeviceFault>
         requires { failed self.old + 1 < 2 ^ 64 }
         ensures count { CountsFailure is_failure result (failed self.old) (failed self.new) }
-        ensures unchanged { IsUnchanged tells size bytes self.old self.new };
+        ensures size { size self.new ≡ size self.old }
+        ensures same { tells → OnOk result (bytes self.new ≡ bytes self.old) }
+        ensures settled { tells → OnOk result (IsSettled unsettled self.new) }
+        ensures touches { tells → Touches bytes unsettled no_place self.old self.new };
 
     /// A device that tells its bytes has as many as its length.
     ghost sized: { (d : Self) → tells → length (bytes d) ≡ size d };

@@ -1,6 +1,6 @@
 ghost use Rattle.std.specs.Prelude.{◌≡◌, ◌+◌, ◌^◌, ◌<◌, ◌≤◌, ◌↔◌, IsTrue, OnOk, length};
-ghost use Rattle.luks_area.specs.Device.{CountsFailure, IsUnchanged, count_after, is_failure};
-ghost use Rattle.luks_area.specs.Ranges.{part, written, SameOutside};
+ghost use Rattle.luks_area.specs.Device.{CountsFailure, IsSettled, IsUnchanged, Touches, count_after, is_failure, no_place};
+ghost use Rattle.luks_area.specs.Ranges.{part, written, IsAt};
 
 use crate::area::Area;
 use crate::device::{Device, DeviceFault};
@@ -37,7 +37,7 @@ pub struct FaultyDevice<D: Device> {
 impl<D: Device> FaultyDevice<D> {
     ghost use Rattle.std.specs.Prelude.{Some};
     ghost use Rattle.luks_area.specs.Faulty.{IsDue, LeavesBehind, inner_device, leave_of, one_fewer};
-    ghost use Rattle.luks_area.specs.Faulty.{calls_before, faulty_bytes, faulty_failures, faulty_size};
+    ghost use Rattle.luks_area.specs.Faulty.{calls_before, faulty_bytes, faulty_failures, faulty_size, faulty_unsettled};
 
     /// A device over `device` of which the call of the number `call` fails, counted from 0.
     pub fn new(device: D, call: u64, leave: Leave) -> Self
@@ -95,8 +95,8 @@ impl<D: Device> FaultyDevice<D> {
         ensures before { calls_before self.new ≡ calls_before self.old }
         ensures leave { leave_of self.new ≡ leave_of self.old }
         ensures size { faulty_size self.new ≡ faulty_size self.old }
-        ensures outside { D.tells → SameOutside (faulty_bytes self.old) (faulty_bytes self.new)
-            at (length from.now) }
+        ensures touches { D.tells → Touches faulty_bytes faulty_unsettled
+            (IsAt at (length from.now)) self.old self.new }
         ensures left { D.tells → LeavesBehind self.old self.new at from.now }
     {
         let range = Area {
@@ -114,11 +114,13 @@ impl<D: Device> FaultyDevice<D> {
 
 impl<D: Device> Device for FaultyDevice<D> {
     ghost use Rattle.luks_area.specs.Faulty.{FailsWhereDue, IsDue, LeavesBehind};
-    ghost use Rattle.luks_area.specs.Faulty.{faulty_bytes, faulty_failures, faulty_size};
+    ghost use Rattle.luks_area.specs.Faulty.{faulty_bytes, faulty_failures, faulty_size, faulty_unsettled};
 
     ghost tells = { D.tells };
 
     ghost bytes = { faulty_bytes };
+
+    ghost unsettled = { faulty_unsettled };
 
     ghost size = { faulty_size };
 
@@ -138,7 +140,7 @@ impl<D: Device> Device for FaultyDevice<D> {
         ensures fails { FailsWhereDue self.old self.new result }
         ensures count { CountsFailure is_failure result
             (faulty_failures self.old) (faulty_failures self.new) }
-        ensures unchanged { IsUnchanged D.tells faulty_size faulty_bytes self.old self.new }
+        ensures unchanged { IsUnchanged D.tells faulty_size faulty_bytes faulty_unsettled self.old self.new }
         ensures read { D.tells → OnOk result
             (into.new ≡ part (faulty_bytes self.old) at (length into.old)) }
     {
@@ -160,8 +162,8 @@ impl<D: Device> Device for FaultyDevice<D> {
         ensures size { faulty_size self.new ≡ faulty_size self.old }
         ensures wrote { D.tells → OnOk result
             (faulty_bytes self.new ≡ written (faulty_bytes self.old) at from.now) }
-        ensures outside { D.tells → SameOutside (faulty_bytes self.old) (faulty_bytes self.new)
-            at (length from.now) }
+        ensures touches { D.tells → Touches faulty_bytes faulty_unsettled
+            (IsAt at (length from.now)) self.old self.new }
     {
         if self.count_call() {
             self.leave_behind(at, from);
@@ -177,7 +179,11 @@ impl<D: Device> Device for FaultyDevice<D> {
         ensures fails { FailsWhereDue self.old self.new result }
         ensures count { CountsFailure is_failure result
             (faulty_failures self.old) (faulty_failures self.new) }
-        ensures unchanged { IsUnchanged D.tells faulty_size faulty_bytes self.old self.new }
+        ensures size { faulty_size self.new ≡ faulty_size self.old }
+        ensures same { D.tells → OnOk result (faulty_bytes self.new ≡ faulty_bytes self.old) }
+        ensures settled { D.tells → OnOk result (IsSettled faulty_unsettled self.new) }
+        ensures touches { D.tells → Touches faulty_bytes faulty_unsettled no_place
+            self.old self.new }
     {
         if self.count_call() {
             return Err(DeviceFault);

@@ -75,6 +75,8 @@ impl<F: OpenFile + FileExt + Drop> Device for FileDevice<F> {
 
     ghost bytes = { λ _. [] };
 
+    ghost unsettled = { λ _ _. ⊥ };
+
     ghost size = { file_size };
 
     ghost failed = { file_failures };

@@ -37,6 +37,8 @@ impl Device for MemDevice {
 
     ghost bytes = { memory_bytes };
 
+    ghost unsettled = { λ _ _. ⊥ };
+
     ghost size = { λ d. length (memory_bytes d) };
 
     ghost failed = { λ _. 0 };

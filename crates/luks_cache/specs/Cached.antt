@@ -15,6 +15,10 @@ cached_size {D} {ghosts} cached = ghosts.size (device_behind cached)
 abbrev pub cached_bytes : {D : Type 0} {ghosts : Ghosts D} → CachedDevice D ghosts → List ℕ
 cached_bytes {D} {ghosts} cached = ghosts.bytes (device_behind cached)
 
+-- the unsettled places of the device behind
+abbrev pub cached_unsettled : {D : Type 0} {ghosts : Ghosts D} → CachedDevice D ghosts → ℕ → Type 0
+cached_unsettled {D} {ghosts} cached = ghosts.unsettled (device_behind cached)
+
 -- how many writes failed since a byte that is remembered had changed behind
 abbrev pub changes_seen : {D : Type 0} {ghosts : Ghosts D} → CachedDevice D ghosts → ℕ
 changes_seen cached = cached.changes

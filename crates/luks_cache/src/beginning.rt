@@ -12,7 +12,7 @@ const WINDOW: usize = 4096;
 pub fn begins_with<D: Device>(device: &mut D, bytes: &[u8]) -> Result<bool, DeviceFault>
     requires within { length bytes.now ≤ D.size device.old }
     requires room { D.failed device.old + 1 < 2 ^ 64 }
-    ensures unchanged { IsUnchanged D.tells D.size D.bytes device.old device.new }
+    ensures unchanged { IsUnchanged D.tells D.size D.bytes D.unsettled device.old device.new }
     ensures count { CountsFailure is_failure result (D.failed device.old) (D.failed device.new) }
     ensures same { D.tells → IfOk result (λ same. IsTrue same
         ↔ (bytes.now ≡ part (D.bytes device.old) 0 (length bytes.now))) }
@@ -33,7 +33,7 @@ fn holds_piece<D: Device>(device: &mut D, at: u64, piece: &[u8]) -> Result<bool,
     requires within { at + length piece.now ≤ D.size device.old }
     requires window { length piece.now ≤ 4096 }
     requires room { D.failed device.old + 1 < 2 ^ 64 }
-    ensures unchanged { IsUnchanged D.tells D.size D.bytes device.old device.new }
+    ensures unchanged { IsUnchanged D.tells D.size D.bytes D.unsettled device.old device.new }
     ensures count { CountsFailure is_failure result (D.failed device.old) (D.failed device.new) }
     ensures same { D.tells → IfOk result (λ same. IsTrue same
         ↔ (piece.now ≡ part (D.bytes device.old) at (length piece.now))) }

@@ -9,8 +9,9 @@ pub const ROOM: usize = 32768;
 
 /// A device over another one that remembers what was read of its first bytes, and reads them from
 /// memory when they are asked for again. Before a write they are read from the device behind once
-/// more and compared; the write forgets them. Where one has changed, since something else wrote it,
-/// nothing is written: the call fails, and is counted.
+/// more and compared; the write forgets them, and so does a flush, which may fail and change them.
+/// Where one has changed before a write, since something else wrote it, nothing is written: the call
+/// fails, and is counted.
 ///
 /// It remembers bytes from the place 0 on alone, as many as were read one after the other, and at
 /// most `ROOM`; others aren't compared. It takes no memory beside itself. Over a device that tells
@@ -82,15 +83,17 @@ impl<D: Device> CachedDevice<D> {
 
 impl<D: Device> Device for CachedDevice<D> {
     ghost use Rattle.std.specs.Prelude.{OnOk};
-    ghost use Rattle.luks_area.specs.Device.{CountsFailure, IsUnchanged, is_failure};
-    ghost use Rattle.luks_area.specs.Ranges.{written, SameOutside};
+    ghost use Rattle.luks_area.specs.Device.{CountsFailure, IsUnchanged, Touches, is_failure};
+    ghost use Rattle.luks_area.specs.Ranges.{written, IsAt};
     ghost use Rattle.luks_cache.specs.Cached.{Follows, IsRemembered};
-    ghost use Rattle.luks_cache.specs.Cached.{cached_bytes, cached_failures, cached_size};
+    ghost use Rattle.luks_cache.specs.Cached.{cached_bytes, cached_failures, cached_size, cached_unsettled};
     ghost use Rattle.luks_cache.specs.Cached.{changes_seen};
 
     ghost tells = { D.tells };
 
     ghost bytes = { cached_bytes };
+
+    ghost unsettled = { cached_unsettled };
 
     ghost size = { cached_size };
 
@@ -113,7 +116,7 @@ impl<D: Device> Device for CachedDevice<D> {
         ensures changes { changes_seen self.new ≡ changes_seen self.old }
         ensures count { CountsFailure is_failure result
             (cached_failures self.old) (cached_failures self.new) }
-        ensures unchanged { IsUnchanged D.tells cached_size cached_bytes self.old self.new }
+        ensures unchanged { IsUnchanged D.tells cached_size cached_bytes cached_unsettled self.old self.new }
         ensures read { D.tells → OnOk result
             (into.new ≡ part (cached_bytes self.old) at (length into.old)) }
     {
@@ -136,8 +139,8 @@ impl<D: Device> Device for CachedDevice<D> {
         ensures size { cached_size self.new ≡ cached_size self.old }
         ensures wrote { D.tells → OnOk result
             (cached_bytes self.new ≡ written (cached_bytes self.old) at from.now) }
-        ensures outside { D.tells → SameOutside (cached_bytes self.old) (cached_bytes self.new)
-            at (length from.now) }
+        ensures touches { D.tells → Touches cached_bytes cached_unsettled
+            (IsAt at (length from.now)) self.old self.new }
     {
         if !begins_with(&mut self.device, &self.bytes[..self.count])? {
             self.changes += 1;
@@ -148,6 +151,7 @@ impl<D: Device> Device for CachedDevice<D> {
     }
 
     fn flush(&mut self) -> Result<(), DeviceFault> {
+        self.count = 0;
         self.device.flush()
     }
 

@@ -2,7 +2,7 @@
 use Rattle.std.specs.Prelude.{◌≡◌, ◌<◌, List, [], ℕ, Option, IfSome, Result, Ok, Err, length, take}
 use Rattle.std.specs.declared.io.ErrorKind.{ErrorKind}
 use Rattle.std.specs.declared.io.ErrorKind.TheVariants.{OutOfMemory}
-use Rattle.luks_area.specs.Device.{IsUnchanged}
+use Rattle.luks_area.specs.Device.{IsSettled, IsUnchanged}
 use Rattle.luks_line.specs.declared.request.Command.{Command}
 use Rattle.luks_line.specs.declared.request.Command.TheVariants.{Edit, Format}
 use Rattle.luks_cli.specs.declared.inputs.InputFault.{InputFault}
@@ -39,10 +39,16 @@ IsTaken count remaining (Err fault) bytes = (count ≡ 0) × (bytes ≡ [])
 -- ---- what becomes of the volume
 
 -- the volume is there as it was, and nothing of it changed
-abbrev pub KeepsVolume : {T : Type 0} → Type 0 → (T → ℕ) → (T → List ℕ) → Result T InputFault → Result T InputFault → Type 0
-KeepsVolume {T} tells size bytes (Ok old) (Ok new) = IsUnchanged tells size bytes old new
-KeepsVolume {T} tells size bytes (Ok old) (Err fault) = ⊥
-KeepsVolume {T} tells size bytes (Err fault) new = new ≡ Err fault
+abbrev pub KeepsVolume : {T : Type 0} → Type 0 → (T → ℕ) → (T → List ℕ) → (T → ℕ → Type 0) → Result T InputFault → Result T InputFault → Type 0
+KeepsVolume {T} tells size bytes unsettled (Ok old) (Ok new) = IsUnchanged tells size bytes unsettled old new
+KeepsVolume {T} tells size bytes unsettled (Ok old) (Err fault) = ⊥
+KeepsVolume {T} tells size bytes unsettled (Err fault) new = new ≡ Err fault
+
+-- nothing of a volume that is there is unsettled, unless a device call failed
+abbrev pub LeavesSettled : {T : Type 0} → Type 0 → (T → ℕ) → (T → ℕ → Type 0) → Result T InputFault → Result T InputFault → Type 0
+LeavesSettled {T} tells failed unsettled (Ok old) (Ok new) = tells → failed new ≡ failed old → IsSettled unsettled new
+LeavesSettled {T} tells failed unsettled (Ok old) (Err fault) = ⊥
+LeavesSettled {T} tells failed unsettled (Err fault) new = new ≡ Err fault
 
 -- the device is as long as it was, and where it tells its bytes, this is said of them
 pub record IsLeft {D : Type 0} (tells : Type 0) (size_of : D → ℕ) (bytes_of : D → List ℕ) (says : List ℕ → List ℕ → Type 0) (old new : D) : Type 0 where

@@ -1,10 +1,11 @@
 ghost use Rattle.std.specs.Prelude.{◌≡◌, ◌≢◌, ◌+◌, ◌<◌, ◌≤◌, ◌^◌, IfOk, IfErr};
 ghost use Rattle.std.specs.Result.{ForOk};
+ghost use Rattle.luks_area.specs.Device.{IsSettled};
 ghost use Rattle.luks_cli.specs.Checked.{SaysCheck, WhereCheck};
 ghost use Rattle.luks_cli.specs.Editing.{given_by, KeepsUnnamed, SaysEdit, SparesVolume};
 ghost use Rattle.luks_cli.specs.Editing.{WhereEdit, WhereFailed};
 ghost use Rattle.luks_cli.specs.Exit.{IsExitStatus};
-ghost use Rattle.luks_cli.specs.Files.{IsTaken, IsWhole, KeepsVolume, LeavesVolume, UnlessWriter};
+ghost use Rattle.luks_cli.specs.Files.{IsTaken, IsWhole, KeepsVolume, LeavesSettled, LeavesVolume, UnlessWriter};
 ghost use Rattle.luks_cli.specs.Formatting.{needed, SaysFormat, WhereFormat};
 
 use crate::answers::exit_code;
@@ -24,6 +25,7 @@ use std::io::{Read, Write};
 /// copies of the header aren't in step; 4: the device failed, a file can't be read, memory was
 /// refused, or `out` failed, which says nothing of what was done. The passphrase is read before the
 /// volume, a new one after the old one, and the random bytes after the volume.
+#[tactic(auto, using(crate::proofs::FileFacts::settled_kept))]
 pub fn execute<D: Device, R: Read, N: Read, W: Write, E: Write>(
     alloc: Global,
     line: &Line<'_>,
@@ -31,11 +33,14 @@ pub fn execute<D: Device, R: Read, N: Read, W: Write, E: Write>(
     out: &mut W,
     err: &mut E,
 ) -> u8
-    requires { ForOk inputs.old.volume (λ d. D.failed d + 1 < 2 ^ 64) }
+    requires room { ForOk inputs.old.volume (λ d. D.failed d + 1 < 2 ^ 64) }
+    requires settled { D.tells → ForOk inputs.old.volume (IsSettled D.unsettled) }
+    ensures settled { LeavesSettled D.tells D.failed D.unsettled
+        inputs.old.volume inputs.new.volume }
     ensures status { IsExitStatus result }
     // No command changes its volume but those that edit and `format`.
     ensures unchanged { UnlessWriter line.now.command
-        (KeepsVolume D.tells D.size D.bytes inputs.old.volume inputs.new.volume) }
+        (KeepsVolume D.tells D.size D.bytes D.unsettled inputs.old.volume inputs.new.volume) }
     // A command that edits: what 0 and 1 say of the volume, what is kept, and where a device call
     // failed that 4 tells of it, and what is spared.
     ensures edit { WhereEdit line.now.command (λ editing. LeavesVolume D.tells D.size D.bytes

@@ -28,6 +28,8 @@ impl Device for Disk {
 
     ghost bytes = { λ _. [] };
 
+    ghost unsettled = { λ _ _. ⊥ };
+
     ghost size = { λ d. d.len };
 
     ghost failed = { λ _. 0 };
@@ -138,6 +140,8 @@ impl<D: Device> Device for Recording<D> {
     ghost tells = { D.tells };
 
     ghost bytes = { λ d. D.bytes d.device };
+
+    ghost unsettled = { λ d. D.unsettled d.device };
 
     ghost size = { λ d. D.size d.device };
 

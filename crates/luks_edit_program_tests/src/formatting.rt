@@ -31,6 +31,8 @@ impl Device for Front {
 
     ghost bytes = { λ _. [] };
 
+    ghost unsettled = { λ _ _. ⊥ };
+
     ghost size = { λ d. d.len };
 
     ghost failed = { λ _. 0 };

@@ -40,6 +40,8 @@ impl<D: Device> Device for Recording<D> {
 
     ghost bytes = { λ d. D.bytes d.device };
 
+    ghost unsettled = { λ d. D.unsettled d.device };
+
     ghost size = { λ d. D.size d.device };
 
     ghost failed = { λ d. D.failed d.device };

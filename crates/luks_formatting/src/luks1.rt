@@ -1,6 +1,6 @@
 //! Formatting by LUKS1.
 ghost use Rattle.std.specs.Prelude.{◌≡◌, ◌+◌, ◌^◌, ◌<◌, ◌≤◌, ℕ, List, length, Some, IfErr, IfOk, OnOk};
-ghost use Rattle.luks_area.specs.Device.{CountsFailure, is_failure};
+ghost use Rattle.luks_area.specs.Device.{CountsFailure, IsSettled, is_failure};
 ghost use Rattle.luks_area.specs.Ranges.{SameBut};
 ghost use Rattle.luks_reading.specs.Answer.{Answer, opens};
 ghost use Rattle.luks_reading.specs.Checked.{WellFormed};
@@ -52,7 +52,8 @@ pub fn format1<D: Device>(
     passphrase: &[u8],
     random: &[u8],
 ) -> Result<Done, FormatFault>
-    requires { D.failed device.old + 1 < 2 ^ 64 }
+    requires room { D.failed device.old + 1 < 2 ^ 64 }
+    requires settled { D.tells → IsSettled D.unsettled device.old }
 
     // The first fault that stands, and then no byte changes; else the device's.
     ensures fault { IfErr result
@@ -67,6 +68,8 @@ pub fn format1<D: Device>(
     ensures count { CountsFailure is_device_fault result
         (D.failed device.old) (D.failed device.new) }
     ensures size { D.size device.new ≡ D.size device.old }
+    ensures settled { D.tells → D.failed device.new ≡ D.failed device.old
+        → IsSettled D.unsettled device.new }
     ensures rest { D.tells → SameBut IsOfLuks1 (D.bytes device.old) (D.bytes device.new) }
 
     // The volume that was made.
@@ -95,8 +98,11 @@ fn write_volume<D: Device>(
     requires long { length random.now ≡ 256080 }
     requires within { 2097152 ≤ D.size device.old }
     requires room { D.failed device.old + 1 < 2 ^ 64 }
+    requires settled { D.tells → IsSettled D.unsettled device.old }
     ensures count { CountsFailure is_failure result (D.failed device.old) (D.failed device.new) }
     ensures size { D.size device.new ≡ D.size device.old }
+    ensures settled { D.tells → D.failed device.new ≡ D.failed device.old
+        → IsSettled D.unsettled device.new }
     ensures rest { D.tells → SameBut IsOfLuks1 (D.bytes device.old) (D.bytes device.new) }
     ensures formatted { D.tells → OnOk result (IsFormatted1 data_ format.now
         passphrase.now random.now (D.bytes device.old) (D.bytes device.new)) }

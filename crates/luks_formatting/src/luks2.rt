@@ -1,6 +1,6 @@
 //! Formatting by LUKS2.
 ghost use Rattle.std.specs.Prelude.{◌≡◌, ◌+◌, ◌^◌, ◌<◌, ◌≤◌, List, ℕ, length, Some, IfErr, IfOk, OnOk};
-ghost use Rattle.luks_area.specs.Device.{CountsFailure, is_failure};
+ghost use Rattle.luks_area.specs.Device.{CountsFailure, IsSettled, is_failure};
 ghost use Rattle.luks_area.specs.Ranges.{SameBut};
 ghost use Rattle.luks_kdf.specs.Names.{digest_size_of};
 ghost use Rattle.luks_making.specs.Formatted.{formatted};
@@ -58,7 +58,8 @@ pub fn format2<D: Device>(
     passphrase: &[u8],
     random: &[u8],
 ) -> Result<Done, FormatFault>
-    requires { D.failed device.old + 1 < 2 ^ 64 }
+    requires room { D.failed device.old + 1 < 2 ^ 64 }
+    requires settled { D.tells → IsSettled D.unsettled device.old }
 
     // The first fault that stands, or want of memory, and then no byte changes; else the device's.
     ensures fault { IfErr result
@@ -75,6 +76,8 @@ pub fn format2<D: Device>(
     ensures count { CountsFailure is_device_fault result
         (D.failed device.old) (D.failed device.new) }
     ensures size { D.size device.new ≡ D.size device.old }
+    ensures settled { D.tells → D.failed device.new ≡ D.failed device.old
+        → IsSettled D.unsettled device.new }
     ensures rest { D.tells → SameBut IsOfLuks2 (D.bytes device.old) (D.bytes device.new) }
 
     // The volume that was made.
@@ -126,8 +129,11 @@ fn write_volume<D: Device>(
     requires area { IsWrittenArea json_size
         (formatted (new_members data_ format.now random.now)) json.now }
     requires room { D.failed device.old + 1 < 2 ^ 64 }
+    requires settled { D.tells → IsSettled D.unsettled device.old }
     ensures count { CountsFailure is_failure result (D.failed device.old) (D.failed device.new) }
     ensures size { D.size device.new ≡ D.size device.old }
+    ensures settled { D.tells → D.failed device.new ≡ D.failed device.old
+        → IsSettled D.unsettled device.new }
     ensures rest { D.tells → SameBut IsOfLuks2 (D.bytes device.old) (D.bytes device.new) }
     ensures formatted { D.tells → OnOk result (IsFormatted2 data_ format.now
         passphrase.now random.now (D.bytes device.old) (D.bytes device.new)) }

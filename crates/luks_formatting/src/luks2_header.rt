@@ -1,6 +1,6 @@
 //! The copies of the header of a new LUKS2 volume.
 ghost use Rattle.std.specs.Prelude.{◌≡◌, ◌+◌, ◌++◌, ◌^◌, ◌<◌, ◌≤◌, ◌⊎◌, length, replicate, OnOk};
-ghost use Rattle.luks_area.specs.Device.{CountsFailure, is_failure};
+ghost use Rattle.luks_area.specs.Device.{CountsFailure, IsSettled, is_failure};
 ghost use Rattle.luks_area.specs.Ranges.{IsAt, SameBut};
 ghost use Rattle.luks_formatting.specs.Formatted2.{HasNewCopy};
 ghost use Rattle.luks_formatting.specs.NewHeader2.{copy_size, json_size, IsNewCopy};
@@ -42,8 +42,11 @@ pub(crate) fn write_new_copy<D: Device>(
     requires json { length json.now ≡ json_size }
     requires within { 32768 ≤ D.size device.old }
     requires room { D.failed device.old + 1 < 2 ^ 64 }
+    requires settled { D.tells → IsSettled D.unsettled device.old }
     ensures count { CountsFailure is_failure result (D.failed device.old) (D.failed device.new) }
     ensures size { D.size device.new ≡ D.size device.old }
+    ensures settled { D.tells → D.failed device.new ≡ D.failed device.old
+        → IsSettled D.unsettled device.new }
     ensures copy { D.tells → OnOk result
         (HasNewCopy (D.bytes device.new) random.now salt json.now at) }
     ensures rest { D.tells → SameBut (IsAt at copy_size) (D.bytes device.old) (D.bytes device.new) }

@@ -100,7 +100,7 @@ fn digest_of_copy<D: Device>(
     requires head { D.tells → head.now ≡ header_at (D.bytes device.old) at }
     requires kept { length json.old ≡ kept_size }
     requires room { D.failed device.old + 1 < 2 ^ 64 }
-    ensures unchanged { IsUnchanged D.tells D.size D.bytes device.old device.new }
+    ensures unchanged { IsUnchanged D.tells D.size D.bytes D.unsettled device.old device.new }
     ensures count { CountsFailure is_failure result (D.failed device.old) (D.failed device.new) }
     ensures digest { D.tells
         → IfOk result (λ d. d ≡ sha256 (with_zero_checksum (part (D.bytes device.old) at size))) }
@@ -125,7 +125,7 @@ fn digest_from<D: Device>(
     requires fed { D.tells → Holds256 hasher
         (take 16384 (with_zero_checksum (part (D.bytes device.old) at size))) }
     requires room { D.failed device.old + 1 < 2 ^ 64 }
-    ensures unchanged { IsUnchanged D.tells D.size D.bytes device.old device.new }
+    ensures unchanged { IsUnchanged D.tells D.size D.bytes D.unsettled device.old device.new }
     ensures count { CountsFailure is_failure result (D.failed device.old) (D.failed device.new) }
     ensures digest { D.tells
         → IfOk result (λ d. d ≡ sha256 (with_zero_checksum (part (D.bytes device.old) at size))) }
@@ -157,7 +157,7 @@ fn judged_copy<D: Device>(
     requires head { D.tells → head.now ≡ header_at (D.bytes device.old) at }
     requires kept { length json.old ≡ kept_size }
     requires room { D.failed device.old + 1 < 2 ^ 64 }
-    ensures unchanged { IsUnchanged D.tells D.size D.bytes device.old device.new }
+    ensures unchanged { IsUnchanged D.tells D.size D.bytes D.unsettled device.old device.new }
     ensures count { CountsFailure is_failure result (D.failed device.old) (D.failed device.new) }
     ensures within { IfOk result (IsFoundWithin (D.size device.old)) }
     ensures judged { D.tells → IfOk result (FindsSoundCopy (D.bytes device.old) at) }
@@ -185,7 +185,7 @@ pub(crate) fn sound_copy<D: Device>(
 ) -> Result<Option<Bin2>, DeviceFault>
     requires kept { length json.old ≡ kept_size }
     requires room { D.failed device.old + 1 < 2 ^ 64 }
-    ensures unchanged { IsUnchanged D.tells D.size D.bytes device.old device.new }
+    ensures unchanged { IsUnchanged D.tells D.size D.bytes D.unsettled device.old device.new }
     ensures count { CountsFailure is_failure result (D.failed device.old) (D.failed device.new) }
     ensures within { IfOk result (IsFoundWithin (D.size device.old)) }
     ensures judged { D.tells → IfOk result (FindsSoundCopy (D.bytes device.old) at) }
@@ -207,7 +207,7 @@ fn first_header<D: Device>(device: &mut D, begun: &[u8]) -> Result<[u8; 4096], D
     requires begun { D.tells → begun.now ≡ part (D.bytes device.old) 0 luks1_size }
     requires within { binary_header_size ≤ D.size device.old }
     requires room { D.failed device.old + 1 < 2 ^ 64 }
-    ensures unchanged { IsUnchanged D.tells D.size D.bytes device.old device.new }
+    ensures unchanged { IsUnchanged D.tells D.size D.bytes D.unsettled device.old device.new }
     ensures count { CountsFailure is_failure result (D.failed device.old) (D.failed device.new) }
     ensures read { D.tells → IfOk result (λ head. head ≡ header_at (D.bytes device.old) 0) }
 {
@@ -229,7 +229,7 @@ pub(crate) fn sound_first_copy<D: Device>(
     requires begun { D.tells → begun.now ≡ part (D.bytes device.old) 0 luks1_size }
     requires kept { length json.old ≡ kept_size }
     requires room { D.failed device.old + 1 < 2 ^ 64 }
-    ensures unchanged { IsUnchanged D.tells D.size D.bytes device.old device.new }
+    ensures unchanged { IsUnchanged D.tells D.size D.bytes D.unsettled device.old device.new }
     ensures count { CountsFailure is_failure result (D.failed device.old) (D.failed device.new) }
     ensures within { IfOk result (IsFoundWithin (D.size device.old)) }
     ensures judged { D.tells → IfOk result (FindsSoundCopy (D.bytes device.old) 0) }
@@ -251,7 +251,7 @@ pub(crate) fn least_second<D: Device>(
 ) -> Result<Option<Bin2>, DeviceFault>
     requires kept { length json.old ≡ kept_size }
     requires room { D.failed device.old + 1 < 2 ^ 64 }
-    ensures unchanged { IsUnchanged D.tells D.size D.bytes device.old device.new }
+    ensures unchanged { IsUnchanged D.tells D.size D.bytes D.unsettled device.old device.new }
     ensures count { CountsFailure is_failure result (D.failed device.old) (D.failed device.new) }
     ensures within { IfOk result (IsFoundWithin (D.size device.old)) }
     ensures found { D.tells → IfOk result (FindsSecondCopy (D.bytes device.old)) }

@@ -71,7 +71,7 @@ fn copy_beside<D: Device>(
     requires within { IsCopyWithin (D.size device.old) first }
     requires json { D.tells → KeepsJson (D.bytes device.old) json.old first }
     requires room { D.failed device.old + 1 < 2 ^ 64 }
-    ensures unchanged { IsUnchanged D.tells D.size D.bytes device.old device.new }
+    ensures unchanged { IsUnchanged D.tells D.size D.bytes D.unsettled device.old device.new }
     ensures count { CountsFailure is_failure result (D.failed device.old) (D.failed device.new) }
     ensures within { IfOk result (λ copy. IsCopyWithin (D.size device.old) copy.0) }
     ensures chosen { D.tells → IfOk result
@@ -101,7 +101,7 @@ fn chosen_copy<D: Device>(
     requires begun { D.tells → begun.now ≡ part (D.bytes device.old) 0 luks1_size }
     requires kept { length json.old ≡ kept_size }
     requires room { D.failed device.old + 1 < 2 ^ 64 }
-    ensures unchanged { IsUnchanged D.tells D.size D.bytes device.old device.new }
+    ensures unchanged { IsUnchanged D.tells D.size D.bytes D.unsettled device.old device.new }
     ensures count { CountsFailure is_failure result (D.failed device.old) (D.failed device.new) }
     ensures within { IfOk result
         (λ found. IsFoundWithin (D.size device.old) (option_map (λ copy. copy.0) found)) }
@@ -146,7 +146,7 @@ fn is_version1(head: &[u8]) -> bool
 /// `Device` where a device call failed.
 pub fn select<D: Device>(_alloc: Global, device: &mut D) -> Result<Selected, HeadFault>
     requires room { D.failed device.old + 1 < 2 ^ 64 }
-    ensures unchanged { IsUnchanged D.tells D.size D.bytes device.old device.new }
+    ensures unchanged { IsUnchanged D.tells D.size D.bytes D.unsettled device.old device.new }
     ensures count { CountsFailure is_device_fault result
         (D.failed device.old) (D.failed device.new) }
     ensures kinds { IfErr result IsOfSelection }
@@ -165,7 +165,7 @@ pub fn select_with_json<D: Device>(
     json: &mut [u8; KEPT_JSON],
 ) -> Result<Selected, HeadFault>
     requires room { D.failed device.old + 1 < 2 ^ 64 }
-    ensures unchanged { IsUnchanged D.tells D.size D.bytes device.old device.new }
+    ensures unchanged { IsUnchanged D.tells D.size D.bytes D.unsettled device.old device.new }
     ensures count { CountsFailure is_device_fault result
         (D.failed device.old) (D.failed device.new) }
     ensures kinds { IfErr result IsOfSelection }

@@ -70,6 +70,8 @@ impl<D: Device> Device for LockedDevice<D> {
 
     ghost bytes = { λ d. D.bytes (device_inside d) };
 
+    ghost unsettled = { λ d. D.unsettled (device_inside d) };
+
     ghost size = { λ d. D.size (device_inside d) };
 
     ghost failed = { λ d. D.failed (device_inside d) };

@@ -24,6 +24,8 @@ impl Device for Meddled {
 
     ghost bytes = { λ _. [] };
 
+    ghost unsettled = { λ _ _. ⊥ };
+
     ghost size = { λ d. d.len };
 
     ghost failed = { λ _. 0 };

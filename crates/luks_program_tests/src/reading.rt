@@ -66,6 +66,8 @@ impl Device for Disk {
 
     ghost bytes = { λ _. [] };
 
+    ghost unsettled = { λ _ _. ⊥ };
+
     ghost size = { λ d. d.len };
 
     ghost failed = { λ d. d.failures };

@@ -25,7 +25,7 @@ use std::alloc::Global;
 /// is taken for the metadata of LUKS2 alone.
 pub fn check<D: Device>(alloc: Global, device: &mut D, data_: Data) -> Result<Report, CheckFault>
     requires { D.failed device.old + 1 < 2 ^ 64 }
-    ensures unchanged { IsUnchanged D.tells D.size D.bytes device.old device.new }
+    ensures unchanged { IsUnchanged D.tells D.size D.bytes D.unsettled device.old device.new }
     ensures count { CountsFailure is_check_failure result
         (D.failed device.old) (D.failed device.new) }
     ensures accepted { D.tells → OnOk result (WellFormed (D.bytes device.old) data_) }

@@ -50,7 +50,7 @@ pub enum Header {
 /// alone.
 pub fn read_header<D: Device>(alloc: Global, device: &mut D) -> Result<Header, ReadFault>
     requires { D.failed device.old + 1 < 2 ^ 64 }
-    ensures unchanged { IsUnchanged D.tells D.size D.bytes device.old device.new }
+    ensures unchanged { IsUnchanged D.tells D.size D.bytes D.unsettled device.old device.new }
     ensures count { CountsFailure is_read_failure result
         (D.failed device.old) (D.failed device.new) }
     ensures accepted { IfOk result IsAcceptedHeader }
@@ -86,7 +86,7 @@ fn read_metadata<D: Device>(
     requires within { IsCopyWithin (D.size device.old) header.now }
     requires kept { D.tells → header.now.hdr_size ≡ 16384
         → kept.now ≡ json_of (D.bytes device.old) header.now }
-    ensures unchanged { IsUnchanged D.tells D.size D.bytes device.old device.new }
+    ensures unchanged { IsUnchanged D.tells D.size D.bytes D.unsettled device.old device.new }
     ensures count { CountsFailure is_read_failure result
         (D.failed device.old) (D.failed device.new) }
     ensures uuid { IfOk result (λ _. IsUuidField header.now.uuid) }
@@ -111,7 +111,7 @@ fn read_metadata<D: Device>(
 fn json_area<D: Device>(alloc: Global, device: &mut D, header: &Bin2) -> Result<Vec<u8>, ReadFault>
     requires room { D.failed device.old + 1 < 2 ^ 64 }
     requires within { IsCopyWithin (D.size device.old) header.now }
-    ensures unchanged { IsUnchanged D.tells D.size D.bytes device.old device.new }
+    ensures unchanged { IsUnchanged D.tells D.size D.bytes D.unsettled device.old device.new }
     ensures count { CountsFailure is_read_failure result
         (D.failed device.old) (D.failed device.new) }
     ensures kinds { IfErr result IsFromOutside }

@@ -45,7 +45,7 @@ pub fn open_slot<D: Device>(
     passphrase: &[u8],
 ) -> Result<Option<Key>, OpenFault>
     requires { D.failed device.old + 1 < 2 ^ 64 }
-    ensures unchanged { IsUnchanged D.tells D.size D.bytes device.old device.new }
+    ensures unchanged { IsUnchanged D.tells D.size D.bytes D.unsettled device.old device.new }
     ensures count { CountsFailure is_open_failure result
         (D.failed device.old) (D.failed device.new) }
     ensures opens { D.tells
@@ -73,7 +73,7 @@ pub fn open_header_slot<D: Device>(
 ) -> Result<Option<Key>, OpenFault>
     requires room { D.failed device.old + 1 < 2 ^ 64 }
     requires accepted { IsAcceptedHeader header.now }
-    ensures unchanged { IsUnchanged D.tells D.size D.bytes device.old device.new }
+    ensures unchanged { IsUnchanged D.tells D.size D.bytes D.unsettled device.old device.new }
     ensures count { CountsFailure is_open_failure result
         (D.failed device.old) (D.failed device.new) }
     ensures opens { D.tells → IsHeader (D.bytes device.old) header.now
@@ -103,7 +103,7 @@ fn open_luks1<D: Device>(
 ) -> Result<Option<Key>, OpenFault>
     requires room { D.failed device.old + 1 < 2 ^ 64 }
     requires header { length header.now ≡ 592 }
-    ensures unchanged { IsUnchanged D.tells D.size D.bytes device.old device.new }
+    ensures unchanged { IsUnchanged D.tells D.size D.bytes D.unsettled device.old device.new }
     ensures count { CountsFailure is_open_failure result
         (D.failed device.old) (D.failed device.new) }
     ensures opens { D.tells
@@ -129,7 +129,7 @@ pub(crate) fn open_luks1_slot<D: Device>(
     requires header { length header.now ≡ 592 }
     requires common { IsCommon header.now common.now }
     requires faultless { (f : TheFault) → IsCommonFault header.now f → ⊥ }
-    ensures unchanged { IsUnchanged D.tells D.size D.bytes device.old device.new }
+    ensures unchanged { IsUnchanged D.tells D.size D.bytes D.unsettled device.old device.new }
     ensures count { CountsFailure is_open_failure result
         (D.failed device.old) (D.failed device.new) }
     ensures opens { D.tells
@@ -153,7 +153,7 @@ pub(crate) fn open_luks2<D: Device>(
 ) -> Result<Option<Key>, OpenFault>
     requires room { D.failed device.old + 1 < 2 ^ 64 }
     requires accepted { IsAccepted (content meta.now) }
-    ensures unchanged { IsUnchanged D.tells D.size D.bytes device.old device.new }
+    ensures unchanged { IsUnchanged D.tells D.size D.bytes D.unsettled device.old device.new }
     ensures count { CountsFailure is_open_failure result
         (D.failed device.old) (D.failed device.new) }
     ensures opens { D.tells → (b json : List ℕ) → IsCleared (uuid_field b) json (content meta.now)
@@ -186,7 +186,7 @@ fn open_planned<D: Device>(
 ) -> Result<Option<Key>, OpenFault>
     requires room { D.failed device.old + 1 < 2 ^ 64 }
     requires judged { IsOpenable plan.now }
-    ensures unchanged { IsUnchanged D.tells D.size D.bytes device.old device.new }
+    ensures unchanged { IsUnchanged D.tells D.size D.bytes D.unsettled device.old device.new }
     ensures count { CountsFailure is_open_failure result
         (D.failed device.old) (D.failed device.new) }
     ensures opens { D.tells → IfOk result (PlanOpens plan.now (D.bytes device.old) passphrase.now) }

@@ -50,7 +50,7 @@ pub fn unlock<D: Device>(
     passphrase: &[u8],
 ) -> Result<Option<(u8, Key)>, OpenFault>
     requires { D.failed device.old + 1 < 2 ^ 64 }
-    ensures unchanged { IsUnchanged D.tells D.size D.bytes device.old device.new }
+    ensures unchanged { IsUnchanged D.tells D.size D.bytes D.unsettled device.old device.new }
     ensures count { CountsFailure is_open_failure result
         (D.failed device.old) (D.failed device.new) }
     ensures unlocks { D.tells → IfOk result (Unlocks (D.bytes device.old) passphrase.now) }
@@ -76,7 +76,7 @@ pub fn unlock_header<D: Device>(
 ) -> Result<Option<(u8, Key)>, OpenFault>
     requires room { D.failed device.old + 1 < 2 ^ 64 }
     requires accepted { IsAcceptedHeader header.now }
-    ensures unchanged { IsUnchanged D.tells D.size D.bytes device.old device.new }
+    ensures unchanged { IsUnchanged D.tells D.size D.bytes D.unsettled device.old device.new }
     ensures count { CountsFailure is_open_failure result
         (D.failed device.old) (D.failed device.new) }
     ensures unlocks { D.tells → IsHeader (D.bytes device.old) header.now
@@ -104,7 +104,7 @@ fn unlock_luks1<D: Device>(
 ) -> Result<Option<(u8, Key)>, OpenFault>
     requires room { D.failed device.old + 1 < 2 ^ 64 }
     requires header { length header.now ≡ 592 }
-    ensures unchanged { IsUnchanged D.tells D.size D.bytes device.old device.new }
+    ensures unchanged { IsUnchanged D.tells D.size D.bytes D.unsettled device.old device.new }
     ensures count { CountsFailure is_open_failure result
         (D.failed device.old) (D.failed device.new) }
     ensures unrefused { IfOk result (λ _. (f : TheFault) → IsCommonFault header.now f → ⊥) }
@@ -137,7 +137,7 @@ fn try_luks1<D: Device>(
     requires header { length header.now ≡ 592 }
     requires common { IsCommon header.now common.now }
     requires faultless { (f : TheFault) → IsCommonFault header.now f → ⊥ }
-    ensures unchanged { IsUnchanged D.tells D.size D.bytes device.old device.new }
+    ensures unchanged { IsUnchanged D.tells D.size D.bytes D.unsettled device.old device.new }
     ensures count { CountsFailure is_open_failure result
         (D.failed device.old) (D.failed device.new) }
     ensures tried { D.tells
@@ -160,7 +160,7 @@ fn unlock_luks2<D: Device>(
 ) -> Result<Option<(u8, Key)>, OpenFault>
     requires room { D.failed device.old + 1 < 2 ^ 64 }
     requires accepted { IsAccepted (content meta.now) }
-    ensures unchanged { IsUnchanged D.tells D.size D.bytes device.old device.new }
+    ensures unchanged { IsUnchanged D.tells D.size D.bytes D.unsettled device.old device.new }
     ensures count { CountsFailure is_open_failure result
         (D.failed device.old) (D.failed device.new) }
     ensures tries { D.tells → (b json : List ℕ) → IsCleared (uuid_field b) json (content meta.now)
@@ -188,7 +188,7 @@ fn try_rank<D: Device>(
 ) -> Result<Option<(u8, Key)>, OpenFault>
     requires room { D.failed device.old + 1 < 2 ^ 64 }
     requires accepted { IsAccepted (content meta.now) }
-    ensures unchanged { IsUnchanged D.tells D.size D.bytes device.old device.new }
+    ensures unchanged { IsUnchanged D.tells D.size D.bytes D.unsettled device.old device.new }
     ensures count { CountsFailure is_open_failure result
         (D.failed device.old) (D.failed device.new) }
     ensures tries { D.tells → (b json : List ℕ) → IsCleared (uuid_field b) json (content meta.now)
@@ -235,7 +235,7 @@ fn try_luks2<D: Device>(
 ) -> Result<Option<Key>, OpenFault>
     requires room { D.failed device.old + 1 < 2 ^ 64 }
     requires accepted { IsAccepted (content meta.now) }
-    ensures unchanged { IsUnchanged D.tells D.size D.bytes device.old device.new }
+    ensures unchanged { IsUnchanged D.tells D.size D.bytes D.unsettled device.old device.new }
     ensures count { CountsFailure is_open_failure result
         (D.failed device.old) (D.failed device.new) }
     ensures tried { D.tells → (b json : List ℕ) → IsCleared (uuid_field b) json (content meta.now)

@@ -2,8 +2,8 @@
 use Rattle.std.proofs.Common.{◌≡◌, ◌≢◌, ℕ, ◌+◌, ◌*◌, ◌/◌, ◌%◌, ◌<◌, ◌≤◌, inl, inr, List, length, get_or, set, ap, sym, ◌∙◌, subst, arith, get_or-set_other, get_or-set_same}
 use Rattle.std.proofs.lemmas.Bool.{cases_lt}
 use Rattle.luks_area.specs.declared.area.Area.{Area}
-use Rattle.luks_area.specs.RangeFacts.{at-inside, part-part, part-same_but_at, part-written, same_but-same_outside, same_but-wider}
-use Rattle.luks_area.specs.Ranges.{part, written, IsAt, SameBut, SameOutside}
+use Rattle.luks_area.specs.RangeFacts.{at-inside, part-part, part-same_but_at, part-written, same_but-same_outside, same_but-wider, same_outside-written}
+use Rattle.luks_area.specs.Ranges.{part, written, IsAt, SameBut}
 use Rattle.luks_xts.specs.Xts.{XtsOpen}
 use Rattle.luks_slot.specs.Opening.{area_bytes, opened_sector}
 use Rattle.luks_slot.specs.Reading.{plain_byte}
@@ -23,8 +23,10 @@ opened_sector-written v w key sealed plain area n fits within size is undone =
     ap (XtsOpen key n) (there ∙ same ∙ part-written v at sealed (omega (arith, fits, within, size))) ∙ undone
 
 -- a write of one sector changes that sector alone
-pub one_sector : (v w : List ℕ) (at size : ℕ) → size ≡ 512 → SameOutside v w at size → SameBut (IsAt at 512) v w
-one_sector v w at size is same = subst (λ (n : ℕ). SameBut (IsAt at n) v w) is (same_but-same_outside same)
+pub one_sector_written : (v w : List ℕ) (at : ℕ) (sector : List ℕ) → length sector ≡ 512 → at + 512 ≤ length v → w ≡ written v at sector → SameBut (IsAt at 512) v w
+one_sector_written v w at sector is inside wrote =
+    let same : SameBut (IsAt at (length sector)) v (written v at sector) = same_but-same_outside (same_outside-written v at sector (omega (arith, inside, is))) in
+    subst (λ (n : ℕ). SameBut (IsAt at n) v w) is (subst (λ (u : List ℕ). SameBut (IsAt at (length sector)) v u) (sym wrote) same)
 
 -- a sector of an area lies in the area
 pub sector_in_area : (v w : List ℕ) (start len n : ℕ) → 512 * (n + 1) ≤ len → SameBut (IsAt (start + 512 * n) 512) v w → SameBut (IsAt start len) v w

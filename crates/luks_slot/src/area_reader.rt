@@ -41,7 +41,7 @@ impl AreaReader {
         requires room { D.failed device.old + 1 < 2 ^ 64 }
         ensures count { CountsFailure is_failure result
             (D.failed device.old) (D.failed device.new) }
-        ensures unchanged { IsUnchanged D.tells D.size D.bytes device.old device.new }
+        ensures unchanged { IsUnchanged D.tells D.size D.bytes D.unsettled device.old device.new }
         ensures same_area { self.new.area ≡ self.old.area }
         ensures same_key { self.new.key ≡ self.old.key }
         ensures value { D.tells → OnOk result (self.new.sector
@@ -61,7 +61,7 @@ impl AreaReader {
         requires before { D.tells → IsReading self.old (D.bytes device.old) place }
         ensures count { CountsFailure is_failure result
             (D.failed device.old) (D.failed device.new) }
-        ensures unchanged { IsUnchanged D.tells D.size D.bytes device.old device.new }
+        ensures unchanged { IsUnchanged D.tells D.size D.bytes D.unsettled device.old device.new }
         ensures same_area { self.new.area ≡ self.old.area }
         ensures same_key { self.new.key ≡ self.old.key }
         ensures after { D.tells → OnOk result
@@ -88,7 +88,7 @@ impl AreaReader {
         requires before { D.tells → IsReading self.old (D.bytes device.old) from }
         ensures count { CountsFailure is_failure result
             (D.failed device.old) (D.failed device.new) }
-        ensures unchanged { IsUnchanged D.tells D.size D.bytes device.old device.new }
+        ensures unchanged { IsUnchanged D.tells D.size D.bytes D.unsettled device.old device.new }
         ensures same_area { self.new.area ≡ self.old.area }
         ensures same_key { self.new.key ≡ self.old.key }
         ensures after { D.tells → OnOk result

@@ -2,7 +2,7 @@
 
 ghost use Rattle.std.specs.Prelude.{◌≡◌, ◌+◌, ◌*◌, ◌/◌, ◌%◌, ◌^◌, ◌<◌, ◌≤◌, ℕ, List, length, slice_index, OnOk};
 ghost use Rattle.luks_area.specs.Area.{IsInside};
-ghost use Rattle.luks_area.specs.Device.{CountsFailure, is_failure};
+ghost use Rattle.luks_area.specs.Device.{CountsFailure, Touches, is_failure};
 ghost use Rattle.luks_area.specs.Ranges.{IsAt, SameBut};
 ghost use Rattle.luks_slot.specs.Opening.{area_bytes, opened_sector};
 ghost use Rattle.luks_slot.specs.Writing.{ArePlaced, IsWriting};
@@ -44,8 +44,11 @@ impl AreaWriter {
         ensures same_key { self.new.key ≡ self.old.key }
         ensures value { D.tells → OnOk result (opened_sector self.old.key
             (area_bytes (D.bytes device.new) self.old.area) number ≡ self.old.sector) }
-        ensures rest { D.tells → SameBut (IsAt (self.old.area.start + 512 * number) 512)
-            (D.bytes device.old) (D.bytes device.new) }
+        ensures alone { D.tells → OnOk result
+            (SameBut (IsAt (self.old.area.start + 512 * number) 512)
+            (D.bytes device.old) (D.bytes device.new)) }
+        ensures touches { D.tells → Touches D.bytes D.unsettled
+            (IsAt (self.old.area.start + 512 * number) 512) device.old device.new }
     {
         self.key.seal_unit(number, &mut self.sector);
         device.write_at(self.area.start + SECTOR * number, &self.sector)?;
@@ -67,8 +70,8 @@ impl AreaWriter {
             → IsWriting self.old (D.bytes device.old) wanted place
             → byte ≡ slice_index wanted place
             → OnOk result (IsWriting self.new (D.bytes device.new) wanted (place + 1)) }
-        ensures rest { D.tells → SameBut (IsAt self.old.area.start self.old.area.len)
-            (D.bytes device.old) (D.bytes device.new) }
+        ensures touches { D.tells → Touches D.bytes D.unsettled
+            (IsAt self.old.area.start self.old.area.len) device.old device.new }
     {
         self.sector[(place % SECTOR) as usize] = byte;
         if place % SECTOR == SECTOR - 1 {
@@ -97,8 +100,8 @@ impl AreaWriter {
             → IsWriting self.old (D.bytes device.old) wanted from → ArePlaced wanted from bytes.now
             → OnOk result
             (IsWriting self.new (D.bytes device.new) wanted (from + length bytes.now)) }
-        ensures rest { D.tells → SameBut (IsAt self.old.area.start self.old.area.len)
-            (D.bytes device.old) (D.bytes device.new) }
+        ensures touches { D.tells → Touches D.bytes D.unsettled
+            (IsAt self.old.area.start self.old.area.len) device.old device.new }
     {
         for j in 0..bytes.len() {
             self.put(device, from + j as u64, bytes[j])?;

@@ -28,7 +28,7 @@ pub(crate) fn read_candidate<D: Device>(
     requires room { D.failed device.old + 1 < 2 ^ 64 }
     ensures count { CountsFailure is_failure result
         (D.failed device.old) (D.failed device.new) }
-    ensures unchanged { IsUnchanged D.tells D.size D.bytes device.old device.new }
+    ensures unchanged { IsUnchanged D.tells D.size D.bytes D.unsettled device.old device.new }
     ensures value { D.tells → OnOk result (out.new
         ≡ merge (hash_of hash) (digest_size_of hash) (length out.old) stripes
         (stripes_from reader.old.key (area_bytes (D.bytes device.old) reader.old.area)
@@ -60,7 +60,7 @@ fn merge_stripes<D: Device>(
     requires room { D.failed device.old + 1 < 2 ^ 64 }
     ensures count { CountsFailure is_failure result
         (D.failed device.old) (D.failed device.new) }
-    ensures unchanged { IsUnchanged D.tells D.size D.bytes device.old device.new }
+    ensures unchanged { IsUnchanged D.tells D.size D.bytes D.unsettled device.old device.new }
     ensures value { D.tells → OnOk result (block.new
         ≡ merge (hash_of hash) (digest_size_of hash) (length block.old) stripes
         (stripes_from reader.old.key (area_bytes (D.bytes device.old) reader.old.area)

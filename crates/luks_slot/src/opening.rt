@@ -54,7 +54,7 @@ pub fn open<D: Device>(
     // The device: `Device` exactly where a call of it failed.
     ensures count { CountsFailure is_device_fault result
         (D.failed device.old) (D.failed device.new) }
-    ensures unchanged { IsUnchanged D.tells D.size D.bytes device.old device.new }
+    ensures unchanged { IsUnchanged D.tells D.size D.bytes D.unsettled device.old device.new }
 {
     let parameters = parameters_of(plan)?;
     let key = area_key(plan, &parameters, passphrase);

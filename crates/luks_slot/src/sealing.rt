@@ -1,9 +1,9 @@
 //! Sealing a keyslot.
 
-ghost use Rattle.std.specs.Prelude.{◌≡◌, ◌+◌, ◌-◌, ◌*◌, ◌/◌, ◌^◌, ◌<◌, ◌≤◌, ◌++◌, length, replicate, Some, None, OnOk, IfErr, if◌then◌else◌};
+ghost use Rattle.std.specs.Prelude.{◌≡◌, ◌+◌, ◌-◌, ◌*◌, ◌/◌, ◌^◌, ◌<◌, ◌≤◌, ◌++◌, length, replicate, Some, None, OnOk, IsErr, IfErr, if◌then◌else◌};
 ghost use Rattle.luks_area.specs.Area.{IsInside};
-ghost use Rattle.luks_area.specs.Device.{CountsFailure, is_failure};
-ghost use Rattle.luks_area.specs.Ranges.{part, IsAt, SameBut};
+ghost use Rattle.luks_area.specs.Device.{CountsFailure, Touches, is_failure};
+ghost use Rattle.luks_area.specs.Ranges.{part, IsAt};
 ghost use Rattle.luks_area.specs.Sectors.{rounded_to_sectors, sector_count};
 ghost use Rattle.luks_slot.specs.Fault.{IsAnsweredFault, is_device_fault};
 ghost use Rattle.luks_slot.specs.Opening.{area_bytes, meets_digest, opened_sectors, slot_key, stripe_bytes, HasIterations};
@@ -26,7 +26,8 @@ use luks_xts::XtsKey;
 /// Seals the key in the keyslot's area under the passphrase: the stripes that hold it, of which all
 /// but the last are the random bytes, and zeros to the end of their last sector of 512 bytes, all
 /// of it encrypted (LUKS1 On-Disk Format 1.2.3, 4.1; LUKS2 On-Disk Format 1.1, 4.3). No byte but
-/// those of these sectors changes, also where the device fails. Nothing is flushed.
+/// those of these sectors changes, and those that were unsettled where the device fails. Nothing is
+/// flushed.
 ///
 /// A refusal is of the plan alone, the first of `Argon2`, `Cipher`, `Hash` and `KeySize`, and then
 /// no byte changes. `Device` comes exactly where the device failed. A sector is held at a time, and
@@ -61,11 +62,13 @@ pub fn seal<D: Device>(
     ensures count { CountsFailure is_device_fault result
         (D.failed device.old) (D.failed device.new) }
     ensures size { D.size device.new ≡ D.size device.old }
+    ensures untouched { IsErr result → D.failed device.new ≡ D.failed device.old
+        → device.new ≡ device.old }
     ensures same { D.tells → (f : TheFault) → slot_refusal plan.now ≡ Some f
         → D.bytes device.new ≡ D.bytes device.old }
-    ensures rest { D.tells
-        → SameBut (IsAt plan.now.area.start (rounded_to_sectors (stripe_bytes plan.now)))
-        (D.bytes device.old) (D.bytes device.new) }
+    ensures touches { D.tells → Touches D.bytes D.unsettled
+        (IsAt plan.now.area.start (rounded_to_sectors (stripe_bytes plan.now)))
+        device.old device.new }
 {
     let parameters = parameters_of(plan)?;
     let cipher_key = area_key(plan, &parameters, passphrase);
@@ -95,9 +98,9 @@ fn write_stripes<D: Device>(
         let used = length random.now + length last.now in
         opened_sectors key (part (D.bytes device.new) start (rounded_to_sectors used))
         (sector_count used) ≡ filled (rounded_to_sectors used) (random.now ++ last.now)) }
-    ensures rest { D.tells
-        → SameBut (IsAt start (rounded_to_sectors (length random.now + length last.now)))
-        (D.bytes device.old) (D.bytes device.new) }
+    ensures touches { D.tells → Touches D.bytes D.unsettled
+        (IsAt start (rounded_to_sectors (length random.now + length last.now)))
+        device.old device.new }
 {
     let len = rounded_to_sectors(random.len() as u64 + last.len() as u64);
     let mut writer = AreaWriter::new(Area { start, len }, key);
@@ -124,8 +127,8 @@ fn write_filled<D: Device>(
         (opened_sectors writer.old.key (area_bytes (D.bytes device.new) writer.old.area)
         (sector_count (length random.now + length last.now))
         ≡ filled writer.old.area.len (random.now ++ last.now)) }
-    ensures rest { D.tells → SameBut (IsAt writer.old.area.start writer.old.area.len)
-        (D.bytes device.old) (D.bytes device.new) }
+    ensures touches { D.tells → Touches D.bytes D.unsettled
+        (IsAt writer.old.area.start writer.old.area.len) device.old device.new }
 {
     let before = random.len() as u64;
     let used = before + last.len() as u64;

@@ -1,6 +1,6 @@
 ghost use Rattle.std.specs.Prelude.{◌≡◌, ◌+◌, ◌-◌, ◌*◌, ◌^◌, ◌<◌, ◌≤◌, length, replicate, Err, Some, IfErr, OnOk};
 ghost use Rattle.luks_area.specs.Area.{IsInside};
-ghost use Rattle.luks_area.specs.Device.{CountsFailure, is_failure};
+ghost use Rattle.luks_area.specs.Device.{CountsFailure, IsSettled, is_failure};
 ghost use Rattle.luks_area.specs.Ranges.{written, IsAt, SameBut, SameOutside};
 ghost use Rattle.luks_area.specs.Sectors.{rounded_to_sectors};
 ghost use Rattle.luks_slot.specs.declared.fault.SlotFault.{SlotFault as TheFault};
@@ -16,8 +16,10 @@ use luks_slot::{Key, SlotFault, SlotPlan, seal, wipe};
 pub fn write_range<D: Device>(device: &mut D, at: u64, bytes: &[u8]) -> Result<(), DeviceFault>
     requires within { at + length bytes.now ≤ D.size device.old }
     requires room { D.failed device.old + 1 < 2 ^ 64 }
+    requires settled { D.tells → IsSettled D.unsettled device.old }
     ensures count { CountsFailure is_failure result (D.failed device.old) (D.failed device.new) }
     ensures size { D.size device.new ≡ D.size device.old }
+    ensures settled { D.tells → D.failed device.new ≡ D.failed device.old → IsSettled D.unsettled device.new }
     ensures wrote { D.tells → OnOk result
         (D.bytes device.new ≡ written (D.bytes device.old) at bytes.now) }
     ensures outside { D.tells
@@ -32,8 +34,10 @@ pub fn write_range<D: Device>(device: &mut D, at: u64, bytes: &[u8]) -> Result<(
 pub fn wipe_area<D: Device>(device: &mut D, area: Area) -> Result<(), DeviceFault>
     requires within { IsInside area (D.size device.old) }
     requires room { D.failed device.old + 1 < 2 ^ 64 }
+    requires settled { D.tells → IsSettled D.unsettled device.old }
     ensures count { CountsFailure is_failure result (D.failed device.old) (D.failed device.new) }
     ensures size { D.size device.new ≡ D.size device.old }
+    ensures settled { D.tells → D.failed device.new ≡ D.failed device.old → IsSettled D.unsettled device.new }
     ensures wiped { D.tells → OnOk result
         (area_bytes (D.bytes device.new) area ≡ replicate area.len 0) }
     ensures rest { D.tells
@@ -60,11 +64,13 @@ pub fn seal_area<D: Device>(
     requires sectors { rounded_to_sectors (stripe_bytes plan.now) ≤ plan.now.area.len }
     requires within { IsInside plan.now.area (D.size device.old) }
     requires room { D.failed device.old + 1 < 2 ^ 64 }
+    requires settled { D.tells → IsSettled D.unsettled device.old }
     ensures refused { (f : TheFault) → slot_refusal plan.now ≡ Some f → result ≡ Err f }
     ensures fault { IfErr result (IsAnsweredFault plan.now) }
     ensures count { CountsFailure is_device_fault result
         (D.failed device.old) (D.failed device.new) }
     ensures size { D.size device.new ≡ D.size device.old }
+    ensures settled { D.tells → D.failed device.new ≡ D.failed device.old → IsSettled D.unsettled device.new }
     ensures same { D.tells → (f : TheFault) → slot_refusal plan.now ≡ Some f
         → D.bytes device.new ≡ D.bytes device.old }
     ensures sealed { D.tells → OnOk result

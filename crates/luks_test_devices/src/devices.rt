@@ -23,6 +23,8 @@ impl Device for Front {
 
     ghost bytes = { λ _. [] };
 
+    ghost unsettled = { λ _ _. ⊥ };
+
     ghost size = { λ d. d.len };
 
     ghost failed = { λ _. 0 };
@@ -82,6 +84,8 @@ impl<D: Device> Device for Recording<D> {
     ghost tells = { D.tells };
 
     ghost bytes = { λ d. D.bytes d.device };
+
+    ghost unsettled = { λ d. D.unsettled d.device };
 
     ghost size = { λ d. D.size d.device };
 

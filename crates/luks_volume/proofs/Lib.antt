@@ -8,3 +8,4 @@ pub mod RunFacts
 pub mod StoppedFacts
 pub mod UnreadFacts
 pub mod VersionFacts
+pub mod SettledFacts

@@ -1,6 +1,6 @@
 //! Applying an edit to a volume.
 ghost use Rattle.std.specs.Prelude.{◌≡◌, ◌≢◌, ◌+◌, ◌^◌, ◌<◌, IfErr, OnOk};
-ghost use Rattle.luks_area.specs.Device.{CountsFailure};
+ghost use Rattle.luks_area.specs.Device.{CountsFailure, IsSettled};
 ghost use Rattle.luks_edit.specs.declared.edit_fault.EditFault.{EditFault as TheFault};
 ghost use Rattle.luks_edit.specs.EditFaults.{is_edit_failure};
 ghost use Rattle.luks_edit.specs.Kept.{Keeps};
@@ -27,6 +27,7 @@ use std::alloc::Global;
 /// before the first write. `Device` comes exactly where a device call failed; no byte has changed
 /// then but those that the edit writes. Of LUKS1 it leaves each keyslot that the edit doesn't name
 /// as it was, and of LUKS2 it leaves one of the two copies of the header.
+#[tactic(auto, using(crate::proofs::SettledFacts::settled_unchanged))]
 pub fn apply<D: Device>(
     alloc: Global,
     device: &mut D,
@@ -34,8 +35,11 @@ pub fn apply<D: Device>(
     edit: &Edit<'_>,
     random: &[u8],
 ) -> Result<Done, EditFault>
-    requires { D.failed device.old + 1 < 2 ^ 64 }
+    requires room { D.failed device.old + 1 < 2 ^ 64 }
+    requires settled { D.tells → IsSettled D.unsettled device.old }
     ensures size { D.size device.new ≡ D.size device.old }
+    ensures settled { D.tells → D.failed device.new ≡ D.failed device.old
+        → IsSettled D.unsettled device.new }
     ensures count { CountsFailure is_edit_failure result
         (D.failed device.old) (D.failed device.new) }
     ensures replies { D.tells → Replies data_ (D.bytes device.old) edit.now random.now result

@@ -13,7 +13,7 @@ use std::alloc::Global;
 /// The header that counts, or why it isn't read.
 pub(crate) fn edited_header<D: Device>(alloc: Global, device: &mut D) -> Result<Header, EditFault>
     requires { D.failed device.old + 1 < 2 ^ 64 }
-    ensures unchanged { IsUnchanged D.tells D.size D.bytes device.old device.new }
+    ensures unchanged { IsUnchanged D.tells D.size D.bytes D.unsettled device.old device.new }
     ensures count { CountsFailure is_edit_failure result
         (D.failed device.old) (D.failed device.new) }
     ensures accepted { IfOk result IsAcceptedHeader }

@@ -26,7 +26,7 @@ pub fn needed<D: Device>(
     edit: &Edit<'_>,
 ) -> Result<u64, EditFault>
     requires { D.failed device.old + 1 < 2 ^ 64 }
-    ensures unchanged { IsUnchanged D.tells D.size D.bytes device.old device.new }
+    ensures unchanged { IsUnchanged D.tells D.size D.bytes D.unsettled device.old device.new }
     ensures count { CountsFailure is_edit_failure result
         (D.failed device.old) (D.failed device.new) }
     ensures tells { D.tells → TellsNeed data_ (D.bytes device.old) edit.now result }

@@ -2,6 +2,7 @@
 ghost use Rattle.std.specs.Prelude.{◌≡◌, ◌+◌, ◌^◌, ◌<◌, ◌≤◌, ◌↔◌, length, vec_len};
 ghost use Rattle.std.specs.Prelude.{IsOk, IsTrue, OnErr, OnOk};
 ghost use Rattle.std.specs.Vec.{vec_capacity};
+ghost use Rattle.luks_area.specs.Device.{IsSettled};
 ghost use Rattle.luks_edit.specs.Ran.{IsFailure, Ran};
 ghost use Rattle.luks_reading.specs.Checked.{WellFormed};
 ghost use Rattle.luks_volume.specs.Edits.{Replies};
@@ -26,8 +27,11 @@ pub fn run<D: Device>(
     steps: &[Step<'_>],
     replies: &mut Vec<Result<Done, EditFault>>,
 ) -> Result<(), RunFault>
-    requires { D.failed device.old + 1 < 2 ^ 64 }
+    requires room { D.failed device.old + 1 < 2 ^ 64 }
+    requires settled { D.tells → IsSettled D.unsettled device.old }
     ensures size { D.size device.new ≡ D.size device.old }
+    ensures settled { D.tells → D.failed device.new ≡ D.failed device.old
+        → IsSettled D.unsettled device.new }
 
     // Nothing ran; and that comes only where there was no room for the replies.
     ensures untouched { OnErr result (device.new ≡ device.old) }

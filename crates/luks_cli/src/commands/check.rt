@@ -23,7 +23,7 @@ pub(crate) fn run<D: Device, W: Write, E: Write>(
     err: &mut E,
 ) -> io::Result<Status>
     requires { ForOk volume.old (λ d. D.failed d + 1 < 2 ^ 64) }
-    ensures unchanged { KeepsVolume D.tells D.size D.bytes volume.old volume.new }
+    ensures unchanged { KeepsVolume D.tells D.size D.bytes D.unsettled volume.old volume.new }
     ensures status { D.tells → IfOk result (λ s. IfOk volume.old (λ d. EndsCheck (D.bytes d) data_ s)) }
     ensures unread { IfOk result (λ s. IfErr volume.old (λ _. s ≡ Status.Fault)) }
 {
@@ -42,7 +42,7 @@ fn check_device<D: Device, W: Write, E: Write>(
     err: &mut E,
 ) -> io::Result<Status>
     requires { D.failed device.old + 1 < 2 ^ 64 }
-    ensures unchanged { IsUnchanged D.tells D.size D.bytes device.old device.new }
+    ensures unchanged { IsUnchanged D.tells D.size D.bytes D.unsettled device.old device.new }
     ensures status { D.tells → IfOk result (EndsCheck (D.bytes device.old) data_) }
 {
     match check(alloc, device, data_) {

@@ -1,13 +1,14 @@
 //! The commands that edit a volume: `add`, `change`, `remove`, `repair` and `label`.
 ghost use Rattle.std.specs.Prelude.{◌≡◌, ◌≢◌, ◌+◌, ◌<◌, ◌^◌, IfOk, IfErr, Ok};
 ghost use Rattle.std.specs.Result.{ForOk};
+ghost use Rattle.luks_area.specs.Device.{IsSettled};
 ghost use Rattle.luks_reading.specs.Checked.{WellFormed};
 ghost use Rattle.luks_edit.specs.Kept.{Keeps};
 ghost use Rattle.luks_volume.specs.Edits.{NamedSlots};
 ghost use Rattle.luks_cli.specs.Editing.{ended_by, given_by, given_edit, KeepsUnnamed, SaysEdit};
 ghost use Rattle.luks_cli.specs.Editing.{SparesEdit, SparesVolume, WhereFailed};
 ghost use Rattle.luks_cli.specs.Exit.{IsExitStatus};
-ghost use Rattle.luks_cli.specs.Files.{IsTaken, LeavesVolume};
+ghost use Rattle.luks_cli.specs.Files.{IsTaken, LeavesSettled, LeavesVolume};
 
 mod asked;
 mod one_edit;
@@ -35,7 +36,10 @@ pub(crate) fn run<D: Device, R: Read, N: Read, W: Write, E: Write>(
     out: &mut W,
     err: &mut E,
 ) -> u8
-    requires { ForOk inputs.old.volume (λ d. D.failed d + 1 < 2 ^ 64) }
+    requires room { ForOk inputs.old.volume (λ d. D.failed d + 1 < 2 ^ 64) }
+    requires settled { D.tells → ForOk inputs.old.volume (IsSettled D.unsettled) }
+    ensures settled { LeavesSettled D.tells D.failed D.unsettled
+        inputs.old.volume inputs.new.volume }
     ensures status { IsExitStatus result }
     ensures left { LeavesVolume D.tells D.size D.bytes (λ old new. SaysEdit editing.now.data_
         (given_by editing.now.request R.remaining N.remaining inputs.old) old new
@@ -52,6 +56,7 @@ pub(crate) fn run<D: Device, R: Read, N: Read, W: Write, E: Write>(
     exit_code(edit_volume(alloc, inputs, name, editing, out, err))
 }
 
+#[tactic(auto, using(crate::proofs::FileFacts::settled_same))]
 fn edit_volume<D: Device, R: Read, N: Read, W: Write, E: Write>(
     alloc: Global,
     inputs: &mut Inputs<D, R, N>,
@@ -60,7 +65,10 @@ fn edit_volume<D: Device, R: Read, N: Read, W: Write, E: Write>(
     out: &mut W,
     err: &mut E,
 ) -> io::Result<Status>
-    requires { ForOk inputs.old.volume (λ d. D.failed d + 1 < 2 ^ 64) }
+    requires room { ForOk inputs.old.volume (λ d. D.failed d + 1 < 2 ^ 64) }
+    requires settled { D.tells → ForOk inputs.old.volume (IsSettled D.unsettled) }
+    ensures settled { LeavesSettled D.tells D.failed D.unsettled
+        inputs.old.volume inputs.new.volume }
     ensures left { LeavesVolume D.tells D.size D.bytes (λ old new. SaysEdit editing.now.data_
         (given_by editing.now.request R.remaining N.remaining inputs.old) old new
         (result ≡ Ok Status.Done) (result ≡ Ok Status.Refused))
@@ -114,6 +122,7 @@ fn edit_volume<D: Device, R: Read, N: Read, W: Write, E: Write>(
 }
 
 /// Edits the volume by this edit, which is the one that the command line asks for.
+#[tactic(auto, using(crate::proofs::SettledFacts::settled_unchanged))]
 fn edit_device<D: Device, N: Read, W: Write, E: Write>(
     alloc: Global,
     device: &mut D,
@@ -124,7 +133,10 @@ fn edit_device<D: Device, N: Read, W: Write, E: Write>(
     out: &mut W,
     err: &mut E,
 ) -> io::Result<Status>
-    requires { D.failed device.old + 1 < 2 ^ 64 }
+    requires room { D.failed device.old + 1 < 2 ^ 64 }
+    requires settled { D.tells → IsSettled D.unsettled device.old }
+    ensures settled { D.tells → D.failed device.new ≡ D.failed device.old
+        → IsSettled D.unsettled device.new }
     ensures size { D.size device.new ≡ D.size device.old }
     ensures says { D.tells → SaysEdit editing.now.data_
         (given_edit edit.now (λ count. IsTaken count N.remaining random.old))

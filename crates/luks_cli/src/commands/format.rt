@@ -1,9 +1,10 @@
 //! The command `format`.
 ghost use Rattle.std.specs.Prelude.{◌≡◌, ◌≢◌, ◌+◌, ◌<◌, ◌^◌, IfOk, IfErr, OnOk};
 ghost use Rattle.std.specs.Result.{ForOk};
+ghost use Rattle.luks_area.specs.Device.{IsSettled};
 ghost use Rattle.luks_area.specs.Ranges.{SameBut};
 ghost use Rattle.luks_cli.specs.Exit.{IsExitStatus};
-ghost use Rattle.luks_cli.specs.Files.{IsTaken, IsWhole, LeavesVolume};
+ghost use Rattle.luks_cli.specs.Files.{IsTaken, IsWhole, LeavesSettled, LeavesVolume};
 ghost use Rattle.luks_cli.specs.Formatting.{IsOfNewVolume, IsNewVolume, needed, SaysFormat};
 
 use crate::answers::{Status, exit_code, no_memory, refused, unread, write_fault};
@@ -18,6 +19,7 @@ use std::io::{Read, Write};
 
 /// Makes a new volume of the volume of this name, and prints that it is done; answers the exit
 /// status. The passphrase is read first, the random bytes last.
+#[tactic(auto, using(crate::proofs::FileFacts::settled_same))]
 pub(crate) fn run<D: Device, R: Read, N: Read, W: Write, E: Write>(
     alloc: Global,
     inputs: &mut Inputs<D, R, N>,
@@ -26,7 +28,10 @@ pub(crate) fn run<D: Device, R: Read, N: Read, W: Write, E: Write>(
     out: &mut W,
     err: &mut E,
 ) -> u8
-    requires { ForOk inputs.old.volume (λ d. D.failed d + 1 < 2 ^ 64) }
+    requires room { ForOk inputs.old.volume (λ d. D.failed d + 1 < 2 ^ 64) }
+    requires settled { D.tells → ForOk inputs.old.volume (IsSettled D.unsettled) }
+    ensures settled { LeavesSettled D.tells D.failed D.unsettled
+        inputs.old.volume inputs.new.volume }
     ensures status { IsExitStatus result }
     ensures left { LeavesVolume D.tells D.size D.bytes (λ old new. SaysFormat making.now
         (IsWhole R.remaining inputs.old.passphrase)
@@ -74,7 +79,10 @@ fn format_device<D: Device, W: Write, E: Write>(
     out: &mut W,
     err: &mut E,
 ) -> io::Result<Status>
-    requires { D.failed device.old + 1 < 2 ^ 64 }
+    requires room { D.failed device.old + 1 < 2 ^ 64 }
+    requires settled { D.tells → IsSettled D.unsettled device.old }
+    ensures settled { D.tells → D.failed device.new ≡ D.failed device.old
+        → IsSettled D.unsettled device.new }
     ensures size { D.size device.new ≡ D.size device.old }
     ensures done { D.tells → IfOk result (λ s. s ≡ Status.Done → IsNewVolume making.now
         passphrase.now random.now (D.bytes device.old) (D.bytes device.new)) }
@@ -102,7 +110,10 @@ fn make<D: Device>(
     passphrase: &[u8],
     random: &[u8],
 ) -> Result<Done, FormatFault>
-    requires { D.failed device.old + 1 < 2 ^ 64 }
+    requires room { D.failed device.old + 1 < 2 ^ 64 }
+    requires settled { D.tells → IsSettled D.unsettled device.old }
+    ensures settled { D.tells → D.failed device.new ≡ D.failed device.old
+        → IsSettled D.unsettled device.new }
     ensures size { D.size device.new ≡ D.size device.old }
     ensures made { D.tells → OnOk result (IsNewVolume making.now
         passphrase.now random.now (D.bytes device.old) (D.bytes device.new)) }

@@ -37,7 +37,7 @@ pub(crate) fn run<D: Device, R: Read, N: Read, W: Write, E: Write>(
     err: &mut E,
 ) -> io::Result<Status>
     requires { ForOk inputs.old.volume (λ d. D.failed d + 1 < 2 ^ 64) }
-    ensures unchanged { KeepsVolume D.tells D.size D.bytes inputs.old.volume inputs.new.volume }
+    ensures unchanged { KeepsVolume D.tells D.size D.bytes D.unsettled inputs.old.volume inputs.new.volume }
     ensures kinds { IfOk result (λ s. s ≢ Status.NotInStep) }
     ensures unread { IfOk result (λ s. IfErr inputs.old.volume (λ _. s ≢ Status.Done)) }
 {
@@ -61,7 +61,7 @@ fn open_device<D: Device, W: Write, E: Write>(
     err: &mut E,
 ) -> io::Result<Status>
     requires { D.failed device.old + 1 < 2 ^ 64 }
-    ensures unchanged { IsUnchanged D.tells D.size D.bytes device.old device.new }
+    ensures unchanged { IsUnchanged D.tells D.size D.bytes D.unsettled device.old device.new }
     ensures kinds { IfOk result (λ s. s ≢ Status.NotInStep) }
 {
     match tried.slot {
@@ -80,7 +80,7 @@ fn open_one<D: Device, W: Write, E: Write>(
     err: &mut E,
 ) -> io::Result<Status>
     requires { D.failed device.old + 1 < 2 ^ 64 }
-    ensures unchanged { IsUnchanged D.tells D.size D.bytes device.old device.new }
+    ensures unchanged { IsUnchanged D.tells D.size D.bytes D.unsettled device.old device.new }
     ensures kinds { IfOk result (λ s. s ≢ Status.NotInStep) }
 {
     match open_slot(alloc, device, n, passphrase) {
@@ -103,7 +103,7 @@ fn open_any<D: Device, W: Write, E: Write>(
     err: &mut E,
 ) -> io::Result<Status>
     requires { D.failed device.old + 1 < 2 ^ 64 }
-    ensures unchanged { IsUnchanged D.tells D.size D.bytes device.old device.new }
+    ensures unchanged { IsUnchanged D.tells D.size D.bytes D.unsettled device.old device.new }
     ensures kinds { IfOk result (λ s. s ≢ Status.NotInStep) }
 {
     let header = match read_header(alloc, device) {

@@ -28,7 +28,7 @@ pub(crate) fn run<D: Device, W: Write, E: Write>(
     err: &mut E,
 ) -> io::Result<Status>
     requires { ForOk volume.old (λ d. D.failed d + 1 < 2 ^ 64) }
-    ensures unchanged { KeepsVolume D.tells D.size D.bytes volume.old volume.new }
+    ensures unchanged { KeepsVolume D.tells D.size D.bytes D.unsettled volume.old volume.new }
     ensures kinds { IfOk result (λ s. s ≢ Status.NotInStep) }
     ensures unread { IfOk result (λ s. IfErr volume.old (λ _. s ≢ Status.Done)) }
 {
@@ -46,7 +46,7 @@ fn show_device<D: Device, W: Write, E: Write>(
     err: &mut E,
 ) -> io::Result<Status>
     requires { D.failed device.old + 1 < 2 ^ 64 }
-    ensures unchanged { IsUnchanged D.tells D.size D.bytes device.old device.new }
+    ensures unchanged { IsUnchanged D.tells D.size D.bytes D.unsettled device.old device.new }
     ensures kinds { IfOk result (λ s. s ≢ Status.NotInStep) }
 {
     match read_header(alloc, device) {

@@ -7,6 +7,7 @@ use Rattle.luks_edit.specs.declared.edit.Edit.TheVariants.{Add}
 use Rattle.luks1_edits.specs.Accepted.{IsNewFree, IsOpenedBy}
 use Rattle.luks1_edits.specs.Leftovers.{IsSealedFirst}
 use Rattle.luks1_edits.specs.Steps.{IsKeyslotMade}
+use Rattle.luks1_edits.proofs.SettledFacts.{settled_unchanged}
 use Rattle.luks1_edits.proofs.HeaderFacts.{HeaderLaws}
 use Rattle.luks1_edits.proofs.KeyslotPlaces.{key_bytes_in}
 use Rattle.luks1_edits.proofs.NewKeyslotFacts.{header_of_same, IsMaking, made_same, making_unrefused, new_refused, none_made, torn_same, unmade_ends}
@@ -153,3 +154,15 @@ returns-clause-replies g c = λ tells x.
       after = record { slot = c.in_ok-n.n; is_new = new.is_new; key = c.in_ok-key.key; opened = opened.opened; rest = made.rest; made = made.made; holds = made.holds };
       told = new.is_new;
     }
+
+pub returns-in_err-key-clause-settled : goal.returns-in_err-key-clause-settled
+returns-in_err-key-clause-settled g c = λ tells same. settled_unchanged tells c.unlock.ensures.unchanged (c.requires.settled tells)
+
+pub returns-in_err-n-clause-settled : goal.returns-in_err-n-clause-settled
+returns-in_err-n-clause-settled g c = λ tells same. settled_unchanged tells c.unlock.ensures.unchanged (c.requires.settled tells)
+
+pub returns-in_err-judge_new-clause-settled : goal.returns-in_err-judge_new-clause-settled
+returns-in_err-judge_new-clause-settled g c = λ tells same. settled_unchanged tells c.unlock.ensures.unchanged (c.requires.settled tells)
+
+pub make_keyslot-requires-clause-settled : goal.make_keyslot-requires-clause-settled
+make_keyslot-requires-clause-settled g c = λ tells. settled_unchanged tells c.unlock.ensures.unchanged (c.requires.settled tells)

@@ -8,6 +8,7 @@ use Rattle.luks1_edits.specs.Accepted.{IsNewFree, IsOpenedBy}
 use Rattle.luks1_edits.specs.Edited.{IsInUse, IsRemoved}
 use Rattle.luks1_edits.specs.Leftovers.{IsHalfRemoved, IsSealedFirst}
 use Rattle.luks1_edits.specs.Steps.{IsKeyslotMade}
+use Rattle.luks1_edits.proofs.SettledFacts.{settled_unchanged}
 use Rattle.luks1_edits.proofs.ChangeFacts.{both_rest, freed_after, order_before, still_at, still_holds, still_made, wiped_after}
 use Rattle.luks1_edits.proofs.HeaderFacts.{HeaderLaws}
 use Rattle.luks1_edits.proofs.KeptFacts.{header_inside}
@@ -235,3 +236,15 @@ returns-in-Err-clause-replies g c = λ tells x.
         order = order_before laws payload v x.chosen x.well c.args.slot c.in_ok-n.n c.in_ok-key.ensures.numbered c.in_ok-n.ensures.numbered other c.args.iterations c.args.new.now c.in_ok-key.key c.args.random.now u made w half.rest half.order;
       }),
     )
+
+pub returns-in_err-key-clause-settled : goal.returns-in_err-key-clause-settled
+returns-in_err-key-clause-settled g c = λ tells same. settled_unchanged tells c.unlock.ensures.unchanged (c.requires.settled tells)
+
+pub returns-in_err-n-clause-settled : goal.returns-in_err-n-clause-settled
+returns-in_err-n-clause-settled g c = λ tells same. settled_unchanged tells c.unlock.ensures.unchanged (c.requires.settled tells)
+
+pub returns-in_err-judge_new-clause-settled : goal.returns-in_err-judge_new-clause-settled
+returns-in_err-judge_new-clause-settled g c = λ tells same. settled_unchanged tells c.unlock.ensures.unchanged (c.requires.settled tells)
+
+pub make_keyslot-requires-clause-settled : goal.make_keyslot-requires-clause-settled
+make_keyslot-requires-clause-settled g c = λ tells. settled_unchanged tells c.unlock.ensures.unchanged (c.requires.settled tells)

@@ -1,6 +1,7 @@
 use Rattle.std.proofs.Common.{refl, arith}
 use Rattle.std.proofs.lemmas.Result.{err_from_is_err_and}
 use Rattle.luks_edit.specs.declared.edit.Edit.TheVariants.{Remove}
+use Rattle.luks1_edits.proofs.SettledFacts.{settled_unchanged}
 use Rattle.luks1_edits.proofs.HeaderFacts.{HeaderLaws}
 use Rattle.luks1_edits.proofs.KeyslotPlaces.{half_removed_same, keyslot_at, keyslot_at_same, keyslot_inside, removed_same}
 use Rattle.luks1_edits.proofs.KeptFacts.{header_inside}
@@ -143,3 +144,15 @@ returns-in-Err-clause-replies g c = λ tells x.
     (c.if-is_last.ensures.other refl v (slots_in h payload v c.args.header.now.fields.slots x c.requires.accepted.fields.slots))
     c.if-random-ne0.false w
     (half_removed_same (c.unlock.ensures.unchanged.same tells) (c.in-Err.ensures.torn tells (keyslot_at_same (c.unlock.ensures.unchanged.same tells) at)))
+
+pub returns-in_err-unlock-clause-settled : goal.returns-in_err-unlock-clause-settled
+returns-in_err-unlock-clause-settled g c = λ tells same. settled_unchanged tells c.unlock.ensures.unchanged (c.requires.settled tells)
+
+pub returns-then-is_last-clause-settled : goal.returns-then-is_last-clause-settled
+returns-then-is_last-clause-settled g c = λ tells same. settled_unchanged tells c.unlock.ensures.unchanged (c.requires.settled tells)
+
+pub returns-then-random-ne0-clause-settled : goal.returns-then-random-ne0-clause-settled
+returns-then-random-ne0-clause-settled g c = λ tells same. settled_unchanged tells c.unlock.ensures.unchanged (c.requires.settled tells)
+
+pub free_keyslot-requires-clause-settled : goal.free_keyslot-requires-clause-settled
+free_keyslot-requires-clause-settled g c = λ tells. settled_unchanged tells c.unlock.ensures.unchanged (c.requires.settled tells)

@@ -1,6 +1,7 @@
 use Rattle.std.proofs.Common.{◌≡◌, ℕ, ◌+◌, ◌≤◌, List, length, replicate, sym, ap, ◌∙◌, arith}
 use Rattle.std.proofs.lemmas.List.{length-replicate, replicate-append-replicate}
-use Rattle.luks_area.specs.RangeFacts.{same_outside-then, same_outside-wider, written-written}
+use Rattle.luks_area.specs.DeviceFacts.{touches-then, touches-wider}
+use Rattle.luks_area.specs.RangeFacts.{at-inside, written-written}
 use Rattle.luks_area.specs.Ranges.{written}
 use Rattle.luks_area.proofs.filling.fill.Goals as goal
 
@@ -15,10 +16,10 @@ filled_on v w new at m n byte inside before after =
     ∙ written-written v at (replicate m byte) (replicate n byte) (omega (arith, first, second, inside))
     ∙ ap (written v at) (replicate-append-replicate {A = ℕ} m n byte)
 
-pub returns-in_err-fill_piece-clause-outside : goal.returns-in_err-fill_piece-clause-outside
-returns-in_err-fill_piece-clause-outside g c = λ tells.
-    same_outside-then (c.loop-done.invariant.outside tells)
-    (same_outside-wider c.args.area.start c.args.area.len c.loop-done.done c.min-len.result (omega arith) (c.fill_piece.ensures.outside tells))
+pub returns-in_err-fill_piece-clause-touches : goal.returns-in_err-fill_piece-clause-touches
+returns-in_err-fill_piece-clause-touches g c = λ tells.
+    touches-then (c.loop-done.invariant.touches tells)
+    (touches-wider (λ p is. at-inside c.args.area.start c.args.area.len c.loop-done.done c.min-len.result p (omega arith) is) (c.fill_piece.ensures.touches tells))
 
 pub loop-done-preserved : goal.loop-done-preserved
 loop-done-preserved g c = record {
@@ -31,7 +32,7 @@ loop-done-preserved g c = record {
       let within = c.requires.within in
       filled_on v _ _ c.args.area.start c.loop-done.done c.min-len.result c.args.byte (omega (arith, size, within))
       (c.loop-done.invariant.filled tells) (c.in_ok-fill_piece.ensures.filled tells);
-  outside = λ tells.
-      same_outside-then (c.loop-done.invariant.outside tells)
-      (same_outside-wider c.args.area.start c.args.area.len c.loop-done.done c.min-len.result (omega arith) (c.in_ok-fill_piece.ensures.outside tells));
+  touches = λ tells.
+      touches-then (c.loop-done.invariant.touches tells)
+      (touches-wider (λ p is. at-inside c.args.area.start c.args.area.len c.loop-done.done c.min-len.result p (omega arith) is) (c.in_ok-fill_piece.ensures.touches tells));
 }

@@ -7,7 +7,7 @@ use Rattle.luks_cache.proofs.beginning.begins_with.Given as goal
 abbrev pub invariant-loop-done : goal.invariant-loop-done
 invariant-loop-done g l = record {
   below : l.done ≤ length l.bytes;
-  unchanged : IsUnchanged g.D.Device.tells g.D.Device.size g.D.Device.bytes l.initial.device l.device;
+  unchanged : IsUnchanged g.D.Device.tells g.D.Device.size g.D.Device.bytes g.D.Device.unsettled l.initial.device l.device;
   count : g.D.Device.failed l.device ≡ g.D.Device.failed l.initial.device;
   same : g.D.Device.tells → take l.done l.bytes ≡ part (g.D.Device.bytes l.initial.device) 0 l.done;
 }

@@ -39,7 +39,7 @@ pub(crate) fn note_passed_over<D: Device, E: Write>(
 )
     requires room { D.failed device.old + 1 < 2 ^ 64 }
     requires accepted { IsAcceptedHeader header.now }
-    ensures unchanged { IsUnchanged D.tells D.size D.bytes device.old device.new }
+    ensures unchanged { IsUnchanged D.tells D.size D.bytes D.unsettled device.old device.new }
 {
     for n in 0..32 {
         match standing_of(header, n, device.len()) {

@@ -8,7 +8,7 @@ use Rattle.luks_head.proofs.copies.digest_from.Given as goal
 -- the hasher holds the windows before this one, and the device is as it was
 abbrev pub invariant-loop-k : goal.invariant-loop-k
 invariant-loop-k g l = record {
-  unchanged : IsUnchanged g.D.Device.tells g.D.Device.size g.D.Device.bytes l.initial.device l.device;
+  unchanged : IsUnchanged g.D.Device.tells g.D.Device.size g.D.Device.bytes g.D.Device.unsettled l.initial.device l.device;
   count : g.D.Device.failed l.device ≡ g.D.Device.failed l.initial.device;
   fed : g.D.Device.tells
       → Holds256 l.hasher (take (4096 * l.k) (with_zero_checksum (part (g.D.Device.bytes l.initial.device) l.at l.size)));

@@ -8,7 +8,7 @@ use Rattle.luks_head.proofs.copies.least_second.Given as goal
 -- each listed place of a sound copy is still to come
 abbrev pub invariant-loop-left : goal.invariant-loop-left
 invariant-loop-left g l = record {
-  unchanged : IsUnchanged g.D.Device.tells g.D.Device.size g.D.Device.bytes l.initial.device l.device;
+  unchanged : IsUnchanged g.D.Device.tells g.D.Device.size g.D.Device.bytes g.D.Device.unsettled l.initial.device l.device;
   count : g.D.Device.failed l.device ≡ g.D.Device.failed l.initial.device;
   rising : is_rising l.left ≡ true;
   listed : (p : ℕ) → is_among p l.left ≡ true → IsListed p;

@@ -23,7 +23,7 @@ returns-in-Ok-Some-clause-tries g c = λ tells b json clear.
 pub loop-n-preserved : goal.loop-n-preserved
 loop-n-preserved g c = elim c.if-is_of_rank.branch [
   | then-is_of_rank+in-Ok-None w ↦ record {
-    unchanged = subst (λ d. IsUnchanged g.D.Device.tells g.D.Device.size g.D.Device.bytes c.args.device.now d) (sym w.device-is)
+    unchanged = subst (λ d. IsUnchanged g.D.Device.tells g.D.Device.size g.D.Device.bytes g.D.Device.unsettled c.args.device.now d) (sym w.device-is)
         (unchanged-then c.loop-n.invariant.unchanged w.try_luks2.ensures.unchanged);
     count = ap g.D.Device.failed w.device-is ∙ w.in-Ok-None.ensures.count ∙ c.loop-n.invariant.count;
     shut = λ t b json clear.
@@ -35,7 +35,7 @@ loop-n-preserved g c = elim c.if-is_of_rank.branch [
         (c.loop-n.invariant.shut t b json clear) (λ on. here);
   }
   | else-is_of_rank w ↦ record {
-    unchanged = subst (λ d. IsUnchanged g.D.Device.tells g.D.Device.size g.D.Device.bytes c.args.device.now d) (sym w.device-is) c.loop-n.invariant.unchanged;
+    unchanged = subst (λ d. IsUnchanged g.D.Device.tells g.D.Device.size g.D.Device.bytes g.D.Device.unsettled c.args.device.now d) (sym w.device-is) c.loop-n.invariant.unchanged;
     count = ap g.D.Device.failed w.device-is ∙ c.loop-n.invariant.count;
     shut = λ t b json clear.
         let v = g.D.Device.bytes c.args.device.now in

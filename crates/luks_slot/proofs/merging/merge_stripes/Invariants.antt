@@ -10,7 +10,7 @@ use Rattle.luks_slot.proofs.merging.merge_stripes.Given as goal
 abbrev pub invariant-loop-i : goal.invariant-loop-i
 invariant-loop-i g l = record {
   count : g.D.Device.failed l.device ≡ g.D.Device.failed l.initial.device;
-  unchanged : IsUnchanged g.D.Device.tells g.D.Device.size g.D.Device.bytes l.initial.device l.device;
+  unchanged : IsUnchanged g.D.Device.tells g.D.Device.size g.D.Device.bytes g.D.Device.unsettled l.initial.device l.device;
   same_area : l.reader.area ≡ l.initial.reader.area;
   same_key : l.reader.key ≡ l.initial.reader.key;
   reading : g.D.Device.tells → IsReading l.reader (g.D.Device.bytes l.device) (l.i * l.len);

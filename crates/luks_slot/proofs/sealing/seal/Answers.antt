@@ -2,7 +2,9 @@ use Rattle.std.proofs.Common.{◌≡◌, ◌+◌, ◌-◌, ◌*◌, ◌++◌, �
 use Rattle.luks_kdf.specs.Names.{hash_of, digest_size_of}
 use Rattle.luks_kdf.specs.Splitter.{split}
 use Rattle.luks_slot.specs.Opening.{area_bytes}
-use Rattle.luks_slot.proofs.SealingFacts.{length-stripes, same_sectors, sealed_by, written_opens}
+use Rattle.luks_area.specs.DeviceFacts.{touches-range}
+use Rattle.luks_area.specs.Sectors.{rounded_to_sectors}
+use Rattle.luks_slot.proofs.SealingFacts.{length-stripes, sealed_by, written_opens}
 use Rattle.luks_slot.proofs.sealing.seal.Goals as goal
 
 pub returns-clause-sealed : goal.returns-clause-sealed
@@ -34,12 +36,20 @@ returns-clause-opens g c tells =
     c.in_ok-parameters.ensures.accepted.splitter_hash (c.write_last_stripe.ensures.whole (plan.stripes - 1) row)
     (c.write_last_stripe.ensures.merges_back (plan.stripes - 1) row) (returns-clause-sealed g c tells)
 
-pub returns-clause-rest : goal.returns-clause-rest
-returns-clause-rest g c tells =
+pub returns-clause-touches : goal.returns-clause-touches
+returns-clause-touches g c tells =
     let plan = c.args.plan.now in
     let random = c.args.random.now in
     let last = c.write_last_stripe.new.last in
     let key_size : length c.as_bytes-bytes.result.now ≡ plan.key_bytes = ap length c.as_bytes-bytes.ensures.value ∙ c.requires.key_length in
-    same_sectors (g.D.Device.bytes c.args.device.now) (g.D.Device.bytes c.write_stripes.new.device) plan.area.start
-    (length random + length last) _
-    (length-stripes plan random last c.requires.some_stripes c.requires.random_length (c.write_last_stripe.ensures.len ∙ key_size)) (c.write_stripes.ensures.rest tells)
+    let all = length-stripes plan random last c.requires.some_stripes c.requires.random_length (c.write_last_stripe.ensures.len ∙ key_size) in
+    touches-range (ap rounded_to_sectors all) (c.write_stripes.ensures.touches tells)
+
+pub returns-in_err-write_stripes-clause-touches : goal.returns-in_err-write_stripes-clause-touches
+returns-in_err-write_stripes-clause-touches g c tells =
+    let plan = c.args.plan.now in
+    let random = c.args.random.now in
+    let last = c.write_last_stripe.new.last in
+    let key_size : length c.as_bytes-bytes.result.now ≡ plan.key_bytes = ap length c.as_bytes-bytes.ensures.value ∙ c.requires.key_length in
+    let all = length-stripes plan random last c.requires.some_stripes c.requires.random_length (c.write_last_stripe.ensures.len ∙ key_size) in
+    touches-range (ap rounded_to_sectors all) (c.write_stripes.ensures.touches tells)

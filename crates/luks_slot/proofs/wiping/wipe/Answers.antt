@@ -1,6 +1,6 @@
 use Rattle.std.proofs.Common.{◌≡◌, ℕ, ◌∙◌, length, replicate, ap, sym, arith}
 use Rattle.std.proofs.lemmas.List.{length-replicate}
-use Rattle.luks_area.specs.RangeFacts.{part-written, same_but-same_outside}
+use Rattle.luks_area.specs.RangeFacts.{part-written}
 use Rattle.luks_area.specs.Ranges.{part, written}
 use Rattle.luks_slot.proofs.wiping.wipe.Goals as goal
 
@@ -15,9 +15,3 @@ returns-clause-wiped g c tells =
     ap (λ u. part u area.start area.len) (c.in_ok-fill.ensures.filled tells)
     ∙ ap (part (written v area.start zeros) area.start) (sym size)
     ∙ part-written v area.start zeros (omega (arith, long, size, within))
-
-pub returns-clause-rest : goal.returns-clause-rest
-returns-clause-rest g c tells = same_but-same_outside (c.fill.ensures.outside tells)
-
-pub returns-in_err-fill-clause-rest : goal.returns-in_err-fill-clause-rest
-returns-in_err-fill-clause-rest g c tells = same_but-same_outside (c.fill.ensures.outside tells)

@@ -11,6 +11,7 @@ pub loop-step-init : goal.loop-step-init
 loop-step-init g c = record {
   size = refl;
   count = refl;
+  settled = c.requires.settled;
   room = omega (arith, c.in-Ok.ensures.ok);
   replied = rw c.try_reserve.ensures.items (replied_none c.args.replies.now.items);
   run = λ tells. rw c.try_reserve.ensures.items
@@ -27,6 +28,8 @@ loop-step-preserved g c =
     record {
       size = c.apply-reply.ensures.size ∙ now.size;
       count = no_failure_counted r (g.D.Device.failed c.loop-step.device) (g.D.Device.failed c.apply-reply.new.device) fine c.apply-reply.ensures.count ∙ now.count;
+      settled = λ tells. c.apply-reply.ensures.settled tells
+          (no_failure_counted r (g.D.Device.failed c.loop-step.device) (g.D.Device.failed c.apply-reply.new.device) fine c.apply-reply.ensures.count);
       room = omega arith;
       replied = rw c.push_reserved.ensures.items (replied_more c.loop-step.step-index c.args.replies.now.items c.loop-step.replies.items r fine now.replied);
       run = λ tells. rw c.push_reserved.ensures.items

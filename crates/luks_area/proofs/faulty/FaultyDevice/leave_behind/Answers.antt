@@ -1,10 +1,11 @@
 use Rattle.std.proofs.Common.{◌/◌, length, take, arith}
 use Rattle.std.proofs.lemmas.List.{length-take}
-use Rattle.luks_area.specs.RangeFacts.{same_outside-longer}
+use Rattle.luks_area.specs.Ranges.{IsAt}
+use Rattle.luks_area.specs.DeviceFacts.{touches-wider}
 use Rattle.luks_area.proofs.faulty.FaultyDevice.leave_behind.Goals as goal
 
-pub returns-in-Half-clause-outside : goal.returns-in-Half-clause-outside
-returns-in-Half-clause-outside g c = λ tells.
+pub returns-in-Half-clause-touches : goal.returns-in-Half-clause-touches
+returns-in-Half-clause-touches g c = λ tells.
     let from = c.args.from.now in
-    same_outside-longer c.args.at (length from) (length (take (length from / 2) from))
-    (omega (arith, length-take (length from / 2) from)) (c.write_at-in-Half.ensures.outside tells)
+    let inner = touches-wider {Q = IsAt c.args.at (length from)} (λ p (is : IsAt c.args.at (length (take (length from / 2) from)) p). (is.0, let high = is.1 in omega (arith, high, length-take (length from / 2) from))) (c.write_at-in-Half.ensures.touches tells) in
+    record { bytes = inner.bytes; unsettled = inner.unsettled }

@@ -8,7 +8,7 @@ use Rattle.luks_slot.proofs.area_reader.AreaReader.read.Given as goal
 abbrev pub invariant-loop-j : goal.invariant-loop-j
 invariant-loop-j g l = record {
   count : g.D.Device.failed l.device ≡ g.D.Device.failed l.initial.device;
-  unchanged : IsUnchanged g.D.Device.tells g.D.Device.size g.D.Device.bytes l.initial.device l.device;
+  unchanged : IsUnchanged g.D.Device.tells g.D.Device.size g.D.Device.bytes g.D.Device.unsettled l.initial.device l.device;
   same_area : l.self.area ≡ l.initial.self.area;
   same_key : l.self.key ≡ l.initial.self.key;
   reading : g.D.Device.tells → IsReading l.self (g.D.Device.bytes l.device) (l.from + l.j);

@@ -10,4 +10,4 @@ returns-in_ok-store-clause-more g c tells wanted begun is =
     byte_written (g.D.Device.bytes c.args.device.now) (g.D.Device.bytes c.store.new.device) writer.key stored.key wanted
     writer.sector stored.sector writer.area stored.area c.args.place c.args.byte
     c.store.ensures.same_key c.store.ensures.same_area begun is whole c.if-place.true c.requires.in_area
-    (c.in_ok-store.ensures.value tells) (c.store.ensures.rest tells)
+    (c.in_ok-store.ensures.value tells) (c.in_ok-store.ensures.alone tells)

@@ -1,5 +1,6 @@
 use Rattle.std.proofs.Common.{◌≡◌, ℕ, ◌+◌, List}
-use Rattle.luks_area.specs.Ranges.{IsAt, SameBut}
+use Rattle.luks_area.specs.Device.{Touches}
+use Rattle.luks_area.specs.Ranges.{IsAt}
 use Rattle.luks_slot.specs.Writing.{ArePlaced, IsWriting}
 use Rattle.luks_slot.proofs.area_writer.AreaWriter.write.Given as goal
 
@@ -14,6 +15,6 @@ invariant-loop-j g l = record {
       → IsWriting l.initial.self (g.D.Device.bytes l.initial.device) wanted l.from
       → ArePlaced wanted l.from l.bytes
       → IsWriting l.self (g.D.Device.bytes l.device) wanted (l.from + l.j);
-  rest : g.D.Device.tells
-      → SameBut (IsAt l.initial.self.area.start l.initial.self.area.len) (g.D.Device.bytes l.initial.device) (g.D.Device.bytes l.device);
+  touches : g.D.Device.tells
+      → Touches g.D.Device.bytes g.D.Device.unsettled (IsAt l.initial.self.area.start l.initial.self.area.len) l.initial.device l.device;
 }

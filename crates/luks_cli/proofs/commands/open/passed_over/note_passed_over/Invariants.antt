@@ -5,6 +5,6 @@ use Rattle.luks_cli.proofs.commands.open.passed_over.note_passed_over.Given as g
 -- nothing changed, and no call has failed
 abbrev pub invariant-loop-n : goal.invariant-loop-n
 invariant-loop-n g l = record {
-  unchanged : IsUnchanged g.D.Device.tells g.D.Device.size g.D.Device.bytes l.initial.device l.device;
+  unchanged : IsUnchanged g.D.Device.tells g.D.Device.size g.D.Device.bytes g.D.Device.unsettled l.initial.device l.device;
   count : g.D.Device.failed l.device ≡ g.D.Device.failed l.initial.device;
 }

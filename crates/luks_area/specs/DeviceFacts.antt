@@ -1,0 +1,80 @@
+-- Facts on what calls of a device touch, for the proofs of every crate that stands on this one.
+use Rattle.std.proofs.Common.{◌≡◌, ℕ, ◌+◌, ◌≤◌, List, ◌⊎◌, inl, inr, length, arith}
+use Rattle.luks_area.specs.Device.{IsSettled, Touches, no_place}
+use Rattle.luks_area.specs.RangeFacts.{at-inside, same_but-equal, same_but-same, same_but-same_outside, same_but-then, same_but-wider, same_outside-same_but, same_outside-written}
+use Rattle.luks_area.specs.Ranges.{written, IsAt, IsOfEither, SameBut, SameOutside}
+
+-- no call
+pub touches-same : {D : Type 0} {bytes_of : D → List ℕ} {unsettled_of : D → ℕ → Type 0} (places : ℕ → Type 0) (device : D)
+    → Touches bytes_of unsettled_of places device device
+touches-same {D} {bytes_of} {unsettled_of} places device = record {
+  bytes = same_but-same (IsOfEither (unsettled_of device) places) (bytes_of device);
+  unsettled = λ p is. inl is;
+}
+
+-- calls that touch some places touch these and more
+pub touches-wider : {D : Type 0} {bytes_of : D → List ℕ} {unsettled_of : D → ℕ → Type 0} {P Q : ℕ → Type 0} {old new : D}
+    → ((p : ℕ) → P p → Q p) → Touches bytes_of unsettled_of P old new → Touches bytes_of unsettled_of Q old new
+touches-wider {D} {bytes_of} {unsettled_of} {P} {Q} {old} wider touches =
+    let either : (p : ℕ) → IsOfEither (unsettled_of old) P p → IsOfEither (unsettled_of old) Q p = λ p is. elim is [
+      | inl before ↦ inl before
+      | inr there ↦ inr (wider p there)
+    ] in
+    record {
+      bytes = same_but-wider either touches.bytes;
+      unsettled = λ p is. either p (touches.unsettled p is);
+    }
+
+-- calls in turn
+pub touches-then : {D : Type 0} {bytes_of : D → List ℕ} {unsettled_of : D → ℕ → Type 0} {places : ℕ → Type 0} {first mid last : D}
+    → Touches bytes_of unsettled_of places first mid → Touches bytes_of unsettled_of places mid last → Touches bytes_of unsettled_of places first last
+touches-then {D} {bytes_of} {unsettled_of} {places} {first} {mid} before after =
+    let either : (p : ℕ) → IsOfEither (unsettled_of mid) places p → IsOfEither (unsettled_of first) places p = λ p is. elim is [
+      | inl pending ↦ before.unsettled p pending
+      | inr there ↦ inr there
+    ] in
+    record {
+      bytes = same_but-then before.bytes (same_but-wider either after.bytes);
+      unsettled = λ p is. either p (after.unsettled p is);
+    }
+
+-- a flush after them, failed or not
+pub touches-flush : {D : Type 0} {bytes_of : D → List ℕ} {unsettled_of : D → ℕ → Type 0} {places : ℕ → Type 0} {first mid last : D}
+    → Touches bytes_of unsettled_of places first mid → Touches bytes_of unsettled_of no_place mid last → Touches bytes_of unsettled_of places first last
+touches-flush before after = touches-then before (touches-wider (λ p is. absurd is) after)
+
+-- of a device on which nothing was unsettled they change these places alone
+pub touches-settled : {D : Type 0} {bytes_of : D → List ℕ} {unsettled_of : D → ℕ → Type 0} {places : ℕ → Type 0} {old new : D}
+    → IsSettled unsettled_of old → Touches bytes_of unsettled_of places old new → SameBut places (bytes_of old) (bytes_of new)
+touches-settled settled touches = same_but-wider (λ p is. elim is [
+  | inl before ↦ absurd (settled.none p before)
+  | inr there ↦ there
+]) touches.bytes
+
+-- the same of a range
+pub touches-outside : {D : Type 0} {bytes_of : D → List ℕ} {unsettled_of : D → ℕ → Type 0} {at len : ℕ} {old new : D}
+    → IsSettled unsettled_of old → Touches bytes_of unsettled_of (IsAt at len) old new → SameOutside (bytes_of old) (bytes_of new) at len
+touches-outside {D} {bytes_of} {unsettled_of} {at} {len} settled touches = same_outside-same_but at len (touches-settled settled touches)
+
+-- the same by another length
+pub touches-range : {D : Type 0} {bytes_of : D → List ℕ} {unsettled_of : D → ℕ → Type 0} {at m n : ℕ} {old new : D}
+    → m ≡ n → Touches bytes_of unsettled_of (IsAt at m) old new → Touches bytes_of unsettled_of (IsAt at n) old new
+touches-range {at = at} is touches = touches-wider (λ p here. (here.0, let high = here.1 in omega (arith, is, high))) touches
+
+-- a range that lies in another
+pub touches-inside : {D : Type 0} {bytes_of : D → List ℕ} {unsettled_of : D → ℕ → Type 0} (at len i n : ℕ) {old new : D}
+    → i + n ≤ len → Touches bytes_of unsettled_of (IsAt (at + i) n) old new → Touches bytes_of unsettled_of (IsAt at len) old new
+touches-inside at len i n inside touches = touches-wider (λ p here. at-inside at len i n p inside here) touches
+
+-- a write that left these bytes, on a device that has nothing unsettled
+pub touches-written : {D : Type 0} {bytes_of : D → List ℕ} {unsettled_of : D → ℕ → Type 0} {old new : D} (at : ℕ) (from : List ℕ)
+    → at + length from ≤ length (bytes_of old) → bytes_of new ≡ written (bytes_of old) at from
+    → ((p : ℕ) → unsettled_of new p → IsOfEither (unsettled_of old) (IsAt at (length from)) p)
+    → Touches bytes_of unsettled_of (IsAt at (length from)) old new
+touches-written {D} {bytes_of} {unsettled_of} {old} {new} at from inside is joined =
+    let same : SameBut (IsAt at (length from)) (bytes_of old) (written (bytes_of old) at from) =
+    same_but-same_outside (same_outside-written (bytes_of old) at from inside) in
+    record {
+      bytes = same_but-then (same_but-wider (λ p there. inr there) same) (same_but-equal (IsOfEither (unsettled_of old) (IsAt at (length from))) is);
+      unsettled = joined;
+    }
