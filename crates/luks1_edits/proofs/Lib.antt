@@ -15,4 +15,3 @@ pub mod RemovalFacts
 pub mod RowFacts
 pub mod SlotSetFacts
 pub mod StepFacts
-pub mod SettledFacts

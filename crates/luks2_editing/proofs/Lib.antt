@@ -15,4 +15,3 @@ mod NewKeyslotFacts
 mod AdditionFacts
 mod PlanFacts
 mod ChangeFacts
-mod SettledFacts

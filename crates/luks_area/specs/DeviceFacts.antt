@@ -1,8 +1,13 @@
 -- Facts on what calls of a device touch, for the proofs of every crate that stands on this one.
 use Rattle.std.proofs.Common.{◌≡◌, ℕ, ◌+◌, ◌≤◌, List, ◌⊎◌, inl, inr, length, arith}
-use Rattle.luks_area.specs.Device.{IsSettled, Touches, no_place}
+use Rattle.luks_area.specs.Device.{IsSettled, IsUnchanged, Touches, no_place}
 use Rattle.luks_area.specs.RangeFacts.{at-inside, same_but-equal, same_but-same, same_but-same_outside, same_but-then, same_but-wider, same_outside-same_but, same_outside-written}
 use Rattle.luks_area.specs.Ranges.{written, IsAt, IsOfEither, SameBut, SameOutside}
+
+-- a device of which nothing changed is settled as before
+pub settled_unchanged : {D : Type 0} {tells : Type 0} {size_of : D → ℕ} {bytes_of : D → List ℕ} {unsettled_of : D → ℕ → Type 0} {old new : D}
+    → tells → IsUnchanged tells size_of bytes_of unsettled_of old new → IsSettled unsettled_of old → IsSettled unsettled_of new
+settled_unchanged told same settled = record { none = λ p is. settled.none p (same.unsettled told p is) }
 
 -- no call
 pub touches-same : {D : Type 0} {bytes_of : D → List ℕ} {unsettled_of : D → ℕ → Type 0} (places : ℕ → Type 0) (device : D)

@@ -27,6 +27,13 @@ impl Error for DeviceFault {}
 /// Places and lengths are in bytes. Contracts see the device's bytes where it tells them (memory
 /// does, a file that others may write doesn't), its length, and its count of failed calls, which
 /// each failing call raises by one. No call may be made once the count is 2^64 - 1.
+///
+/// A place is unsettled from when it is written until a flush has ended well, and what stands there
+/// may be lost till then. So a power cut is a device of which the last write before the cut fails,
+/// whatever it leaves in its range and at the unsettled places, and of which no later call does
+/// anything; what is read after the cut is what was left. Not said by this are disks that lose bytes
+/// that were flushed, that write beside the range, or that write later what was written before a
+/// flush.
 pub trait Device: Drop {
     /// Holds where the clauses on bytes are promised.
     ghost tells: { Type 0 };
@@ -34,8 +41,8 @@ pub trait Device: Drop {
     /// The bytes, from the place 0 on.
     ghost bytes: { Self → List ℕ };
 
-    /// The places that were written and not flushed since, and no others: what a failing call may
-    /// change beside its own range.
+    /// The places that may have been written and not flushed since: what a failing write or flush
+    /// may change beside its own range.
     ghost unsettled: { Self → ℕ → Type 0 };
 
     /// The length in bytes.
@@ -66,9 +73,9 @@ pub trait Device: Drop {
 
     /// Writes `from` from the place `at` on; that range lies inside the device.
     ///
-    /// The range is unsettled then. A failed write leaves any bytes in that range and at the places
-    /// that were unsettled, and all others as they were. The error comes exactly where the count of
-    /// failures rose in this call.
+    /// The range may be unsettled then, and no place beside it that wasn't. A failed write leaves any
+    /// bytes in that range and at the places that were unsettled, and all others as they were. The
+    /// error comes exactly where the count of failures rose in this call.
     fn write_at(&mut self, at: u64, from: &[u8]) -> Result<(), DeviceFault>
         requires within { at + length from.now ≤ size self.old }
         requires room { failed self.old + 1 < 2 ^ 64 }

@@ -3,4 +3,3 @@ pub mod ExitFacts
 pub mod FileFacts
 pub mod FormatFacts
 pub mod Fronts
-pub mod SettledFacts

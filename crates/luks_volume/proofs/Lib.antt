@@ -8,4 +8,3 @@ pub mod RunFacts
 pub mod StoppedFacts
 pub mod UnreadFacts
 pub mod VersionFacts
-pub mod SettledFacts

@@ -27,7 +27,7 @@ use std::alloc::Global;
 /// before the first write. `Device` comes exactly where a device call failed; no byte has changed
 /// then but those that the edit writes. Of LUKS1 it leaves each keyslot that the edit doesn't name
 /// as it was, and of LUKS2 it leaves one of the two copies of the header.
-#[tactic(auto, using(crate::proofs::SettledFacts::settled_unchanged))]
+#[tactic(auto, using(luks_area::specs::DeviceFacts::settled_unchanged))]
 pub fn apply<D: Device>(
     alloc: Global,
     device: &mut D,

@@ -122,7 +122,7 @@ fn edit_volume<D: Device, R: Read, N: Read, W: Write, E: Write>(
 }
 
 /// Edits the volume by this edit, which is the one that the command line asks for.
-#[tactic(auto, using(crate::proofs::SettledFacts::settled_unchanged))]
+#[tactic(auto, using(luks_area::specs::DeviceFacts::settled_unchanged))]
 fn edit_device<D: Device, N: Read, W: Write, E: Write>(
     alloc: Global,
     device: &mut D,

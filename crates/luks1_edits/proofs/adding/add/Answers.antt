@@ -7,7 +7,7 @@ use Rattle.luks_edit.specs.declared.edit.Edit.TheVariants.{Add}
 use Rattle.luks1_edits.specs.Accepted.{IsNewFree, IsOpenedBy}
 use Rattle.luks1_edits.specs.Leftovers.{IsSealedFirst}
 use Rattle.luks1_edits.specs.Steps.{IsKeyslotMade}
-use Rattle.luks1_edits.proofs.SettledFacts.{settled_unchanged}
+use Rattle.luks_area.specs.DeviceFacts.{settled_unchanged}
 use Rattle.luks1_edits.proofs.HeaderFacts.{HeaderLaws}
 use Rattle.luks1_edits.proofs.KeyslotPlaces.{key_bytes_in}
 use Rattle.luks1_edits.proofs.NewKeyslotFacts.{header_of_same, IsMaking, made_same, making_unrefused, new_refused, none_made, torn_same, unmade_ends}

@@ -8,7 +8,7 @@ use Rattle.luks1_edits.specs.Accepted.{IsNewFree, IsOpenedBy}
 use Rattle.luks1_edits.specs.Edited.{IsInUse, IsRemoved}
 use Rattle.luks1_edits.specs.Leftovers.{IsHalfRemoved, IsSealedFirst}
 use Rattle.luks1_edits.specs.Steps.{IsKeyslotMade}
-use Rattle.luks1_edits.proofs.SettledFacts.{settled_unchanged}
+use Rattle.luks_area.specs.DeviceFacts.{settled_unchanged}
 use Rattle.luks1_edits.proofs.ChangeFacts.{both_rest, freed_after, order_before, still_at, still_holds, still_made, wiped_after}
 use Rattle.luks1_edits.proofs.HeaderFacts.{HeaderLaws}
 use Rattle.luks1_edits.proofs.KeptFacts.{header_inside}

@@ -1,7 +1,7 @@
 use Rattle.std.proofs.Common.{refl, arith}
 use Rattle.std.proofs.lemmas.Result.{err_from_is_err_and}
 use Rattle.luks_edit.specs.declared.edit.Edit.TheVariants.{Remove}
-use Rattle.luks1_edits.proofs.SettledFacts.{settled_unchanged}
+use Rattle.luks_area.specs.DeviceFacts.{settled_unchanged}
 use Rattle.luks1_edits.proofs.HeaderFacts.{HeaderLaws}
 use Rattle.luks1_edits.proofs.KeyslotPlaces.{half_removed_same, keyslot_at, keyslot_at_same, keyslot_inside, removed_same}
 use Rattle.luks1_edits.proofs.KeptFacts.{header_inside}
