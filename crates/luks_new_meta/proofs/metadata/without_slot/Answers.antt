@@ -5,4 +5,4 @@ pub of_value-requires : goal.of_value-requires
 of_value-requires c =
     let meta = c.args.meta.now in
     rw c.area_len.ensures (rw c.in_ok-value.ensures (rw c.value.ensures (
-        c.removal_keeps_the_rest.ensures.held (area_len meta) c.args.number (content meta) meta.held)))
+    c.removal_keeps_the_rest.ensures.held (area_len meta) c.args.number (content meta) meta.held)))
