@@ -43,7 +43,8 @@ impl From<io::Error> for OpenFault {
 /// known of it from before the lock.
 ///
 /// To write, the lock is exclusive, and where another program holds it for 3 s, nothing is opened; to
-/// read, it is shared, and where it can't be had, the device comes without it. A file of another
+/// read, it is shared, and where it can't be had, the device comes without it. A volume that is to be
+/// written is asked to settle first what an earlier program may have left unsettled. A file of another
 /// kind, as a folder or a pipe, has no length, and isn't opened at all: opening a pipe would wait for
 /// its writer. `folder` has the files that stand for block devices.
 pub fn open_locked<R: AllocGlobal + Clock + Files<File = File>>(
@@ -70,6 +71,9 @@ pub fn open_locked<R: AllocGlobal + Clock + Files<File = File>>(
     let lock = hold(rt, &file, node, share, folder);
     if writes && lock.is_taken() {
         return Err(OpenFault::Edited);
+    }
+    if writes {
+        file.sync_all()?;
     }
     Ok(LockedDevice::new(FileDevice::new(file)?, lock))
 }
