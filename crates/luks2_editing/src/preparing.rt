@@ -7,6 +7,7 @@ ghost use Rattle.luks2_editing.specs.Prepared.{IsAreaFault, IsCopyWithin, IsPrep
 use luks_edit::EditFault;
 use luks_head::Bin2;
 use luks_meta::Meta;
+use luks_new_meta::json_area;
 use std::alloc::Global;
 
 /// The JSON area of the new metadata, once there is a next sequence number, the text leaves a zero
@@ -50,7 +51,7 @@ fn written_area(alloc: Global, meta: &Meta) -> Result<Vec<u8>, EditFault>
         IsWrittenArea (area_len meta.now) (content meta.now) json.items) }
     ensures refused { IfErr result (IsAreaFault (area_len meta.now) (content meta.now)) }
 {
-    match meta.area(alloc) {
+    match json_area(alloc, meta) {
         Ok(found) => match found {
             Some(json) => Ok(json),
             None => Err(EditFault::MetadataFull),

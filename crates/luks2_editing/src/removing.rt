@@ -103,7 +103,7 @@ fn without_slot(alloc: Global, meta: &Meta, slot: u8) -> Result<Meta, EditFault>
     ensures length { IfOk result (λ m. area_len m ≡ area_len meta.now) }
     ensures memory { IfErr result (λ f. f ≡ EditFault.Memory) }
 {
-    match meta.without_slot(alloc, slot) {
+    match luks_new_meta::without_slot(alloc, meta, slot) {
         Ok(made) => Ok(made),
         Err(_) => Err(EditFault::Memory),
     }

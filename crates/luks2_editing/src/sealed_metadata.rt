@@ -24,6 +24,7 @@ use luks_making::{
     New, addition_keeps_the_rest, change_keeps_the_rest, made_keyslot_has_room, new_fits,
 };
 use luks_meta::{Cost, Meta, one_digest, one_value};
+use luks_new_meta::{changed_slot, with_slot};
 use luks_reading::{ChosenCopy, well_formed_volume};
 use luks_slot::SlotFault;
 use luks2_judging::{salts_are_as_long, sealed_need, told_once};
@@ -179,7 +180,7 @@ fn gained(alloc: Global, meta: &Meta, slot: u8, like: u8, new: &New<'_>) -> Resu
     addition_keeps_the_rest();
     made_keyslot_has_room();
     new_fits(new);
-    match meta.with_slot(alloc, slot, like, new) {
+    match with_slot(alloc, meta, slot, like, new) {
         Ok(made) => Ok(made),
         Err(_) => Err(EditFault::Memory),
     }
@@ -195,7 +196,7 @@ fn renewed(alloc: Global, meta: &Meta, slot: u8, new: &New<'_>) -> Result<Meta, 
 {
     change_keeps_the_rest();
     new_fits(new);
-    match meta.changed_slot(alloc, slot, new) {
+    match changed_slot(alloc, meta, slot, new) {
         Ok(made) => Ok(made),
         Err(_) => Err(EditFault::Memory),
     }

@@ -18,10 +18,10 @@ use Rattle.luks_volume.specs.Edits.{NamedSlots, Refusal, Replies}
 use Rattle.luks_volume.specs.Needed.{IsNeedFault, NeedsRandom, TellsNeed}
 use Rattle.luks_volume.specs.Outcome.{Spares}
 use Rattle.luks_volume.specs.Running.{CountsRun, IsKeptByRun, IsSparedByRun}
-use Rattle.luks_line.specs.declared.request.EditRequest.{EditRequest}
-use Rattle.luks_line.specs.declared.request.EditRequest.TheVariants.{Add, Change, Remove, Repair, Label}
-use Rattle.luks_line.specs.Named.{edit_new_of, edit_passphrase_of}
-use Rattle.luks_line.specs.declared.request.Editing.{Editing}
+use Rattle.luks_request.specs.declared.request.EditRequest.{EditRequest}
+use Rattle.luks_request.specs.declared.request.EditRequest.TheVariants.{Add, Change, Remove, Repair, Label}
+use Rattle.luks_request.specs.Named.{edit_new_of, edit_passphrase_of}
+use Rattle.luks_request.specs.declared.request.Editing.{Editing}
 use Rattle.luks_cli.specs.declared.answers.Status.{Status}
 use Rattle.luks_cli.specs.declared.answers.Status.TheVariants.{Done, Refused, NotInStep, Fault}
 use Rattle.luks_cli.specs.Editing.{Given, IsAsked, KeepsUnnamed, WhereFailed, IsRefused, IsReplied, RepliesAlone, SaysEdit, SparesEdit, SparesVolume, ended_by, given_edit}

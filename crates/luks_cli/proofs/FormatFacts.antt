@@ -9,8 +9,8 @@ use Rattle.luks_formatting.specs.FormatFaults.{IsAnsweredFault, IsAnsweredFaultO
 use Rattle.luks_formatting.specs.RandomBytes.{volume_key}
 use Rattle.luks_cli.specs.declared.answers.Status.{Status}
 use Rattle.luks_cli.specs.declared.answers.Status.TheVariants.{Done, Refused, NotInStep, Fault}
-use Rattle.luks_line.specs.declared.request.Making.{Making}
-use Rattle.luks_line.specs.declared.request.NewVersion.{NewVersion}
+use Rattle.luks_request.specs.declared.request.Making.{Making}
+use Rattle.luks_request.specs.declared.request.NewVersion.{NewVersion}
 use Rattle.luks_cli.specs.Exit.{exit_status}
 use Rattle.luks_cli.specs.Formatting.{IsFormatted, IsOfNewVolume, IsNewVolume, SaysFormat}
 

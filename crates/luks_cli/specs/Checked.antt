@@ -9,8 +9,8 @@ use Rattle.luks_reading.specs.declared.report.Version.TheVariants.{Luks1, Luks2}
 use Rattle.luks_reading.specs.Checked.{WellFormed}
 use Rattle.luks_cli.specs.declared.answers.Status.{Status}
 use Rattle.luks_cli.specs.declared.answers.Status.TheVariants.{Done, Refused, NotInStep, Fault}
-use Rattle.luks_line.specs.declared.request.Command.{Command}
-use Rattle.luks_line.specs.declared.request.Command.TheVariants.{Check}
+use Rattle.luks_request.specs.declared.request.Command.{Command}
+use Rattle.luks_request.specs.declared.request.Command.TheVariants.{Check}
 
 -- a LUKS1 header counts, or a copy of a LUKS2 header that the other copy is in step with
 abbrev pub IsInStep : List ℕ → Type 0

@@ -14,11 +14,11 @@ use Rattle.luks_edit.specs.Ran.{Reply}
 use Rattle.luks_volume.specs.Edits.{NamedSlots, Refusal, Replies}
 use Rattle.luks_volume.specs.Needed.{IsNeedFault, NeedsRandom}
 use Rattle.luks_volume.specs.Outcome.{Spares}
-use Rattle.luks_line.specs.declared.request.Command.{Command}
-use Rattle.luks_line.specs.declared.request.Command.TheVariants as command
-use Rattle.luks_line.specs.declared.request.EditRequest.{EditRequest}
-use Rattle.luks_line.specs.declared.request.EditRequest.TheVariants.{Add, Change, Remove, Repair, Label}
-use Rattle.luks_line.specs.declared.request.Editing.{Editing}
+use Rattle.luks_request.specs.declared.request.Command.{Command}
+use Rattle.luks_request.specs.declared.request.Command.TheVariants as command
+use Rattle.luks_request.specs.declared.request.EditRequest.{EditRequest}
+use Rattle.luks_request.specs.declared.request.EditRequest.TheVariants.{Add, Change, Remove, Repair, Label}
+use Rattle.luks_request.specs.declared.request.Editing.{Editing}
 use Rattle.luks_cli.specs.declared.answers.Status.{Status}
 use Rattle.luks_cli.specs.declared.answers.Status.TheVariants.{Fault, Refused}
 use Rattle.luks_cli.specs.declared.inputs.InputFault.{InputFault}

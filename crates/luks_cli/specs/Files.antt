@@ -3,8 +3,8 @@ use Rattle.std.specs.Prelude.{◌≡◌, ◌<◌, List, [], ℕ, Option, IfSome,
 use Rattle.std.specs.declared.io.ErrorKind.{ErrorKind}
 use Rattle.std.specs.declared.io.ErrorKind.TheVariants.{OutOfMemory}
 use Rattle.luks_area.specs.Device.{IsSettled, IsUnchanged}
-use Rattle.luks_line.specs.declared.request.Command.{Command}
-use Rattle.luks_line.specs.declared.request.Command.TheVariants.{Edit, Format}
+use Rattle.luks_request.specs.declared.request.Command.{Command}
+use Rattle.luks_request.specs.declared.request.Command.TheVariants.{Edit, Format}
 use Rattle.luks_cli.specs.declared.inputs.InputFault.{InputFault}
 use Rattle.luks_cli.specs.declared.inputs.InputFault.TheVariants.{Absent, Unreadable, NoMemory}
 

@@ -8,11 +8,11 @@ use Rattle.luks_terms.specs.declared.format.Format.{Format}
 use Rattle.luks_formatting.specs.Formatted1.{IsFormatted1, IsOfLuks1}
 use Rattle.luks_formatting.specs.Formatted2.{IsFormatted2, IsOfLuks2}
 use Rattle.luks_formatting.specs.RandomBytes.{volume_key}
-use Rattle.luks_line.specs.declared.request.Command.{Command}
-use Rattle.luks_line.specs.declared.request.Command.TheVariants as command
-use Rattle.luks_line.specs.declared.request.Making.{Making}
-use Rattle.luks_line.specs.declared.request.NewVersion.{NewVersion}
-use Rattle.luks_line.specs.declared.request.NewVersion.TheVariants.{Luks1, Luks2}
+use Rattle.luks_request.specs.declared.request.Command.{Command}
+use Rattle.luks_request.specs.declared.request.Command.TheVariants as command
+use Rattle.luks_request.specs.declared.request.Making.{Making}
+use Rattle.luks_request.specs.declared.request.NewVersion.{NewVersion}
+use Rattle.luks_request.specs.declared.request.NewVersion.TheVariants.{Luks1, Luks2}
 
 -- how many random bytes a new volume of this version takes
 abbrev pub needed : NewVersion → ℕ

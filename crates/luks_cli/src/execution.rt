@@ -12,7 +12,7 @@ use crate::answers::exit_code;
 use crate::commands::open::Tried;
 use crate::commands::{check, edit, format, open, show};
 use crate::inputs::Inputs;
-use luks_line::{Command, Line};
+use luks_request::{Command, Line};
 use luks_volume::Device;
 use std::alloc::Global;
 use std::io::{Read, Write};

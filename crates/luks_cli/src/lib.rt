@@ -12,5 +12,5 @@ mod random_file;
 
 pub use execution::execute;
 pub use inputs::{InputFault, Inputs, Reason};
-pub use luks_line::{Command, EditRequest, Editing, Line, Making, NewVersion, line};
+pub use luks_request::{Command, EditRequest, Editing, Line, Making, NewVersion};
 pub use passphrase_file::first_bytes;

@@ -4,7 +4,8 @@
 use crate::bytes::counted;
 use crate::luks1::luks1;
 use crate::luks2::{SMALL, luks2};
-use luks_cli::{InputFault, Inputs, execute, line};
+use luks_cli::{InputFault, Inputs, execute};
+use luks_line::line;
 use luks_volume::{Copies, MemDevice};
 use std::alloc::Global;
 use std::io::Cursor;

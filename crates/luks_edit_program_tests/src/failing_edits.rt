@@ -3,7 +3,8 @@ use crate::editing_luks2::formatted;
 use crate::recording::{Call, Recording};
 use crate::sessions::{REPAIR, Turn, answers, counted, files_of, take_turns};
 use luks_area::{FaultyDevice, Leave};
-use luks_cli::{Inputs, execute, line};
+use luks_cli::{Inputs, execute};
+use luks_line::line;
 use luks_samples::{
     CHECK, OPEN_0, OPEN_1, SHOW, STRIPE, opening_luks1, put, roomy_luks2, roomy_text,
 };

@@ -3,7 +3,8 @@ ghost use Rattle.std.specs.Prelude.{◌<◌, ◌^◌};
 
 use crate::sessions::NO_FILE;
 use luks_area::{DeviceFault, FaultyDevice, Leave};
-use luks_cli::{InputFault, Inputs, Reason, execute, line};
+use luks_cli::{InputFault, Inputs, Reason, execute};
+use luks_line::line;
 use luks_samples::{CHECK, DETACHED, OPEN};
 use luks_volume::{Device, FORMAT1_RANDOM, FORMAT2_RANDOM, MemDevice};
 use std::alloc::{AllocError, Global};

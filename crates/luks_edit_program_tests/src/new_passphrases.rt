@@ -1,6 +1,7 @@
 //! The file of the new passphrase, and the order in which a command that edits reads its files.
 use crate::sessions::{ADD_BY_0, Files, RANDOM, bytes_of, counted, files_of};
-use luks_cli::{InputFault, Reason, execute, line};
+use luks_cli::{InputFault, Reason, execute};
+use luks_line::line;
 use luks_samples::{OPEN_3, roomy_luks2, roomy_text};
 use std::alloc::Global;
 use std::test::Fail;

@@ -1,5 +1,6 @@
 //! Commands over one volume, one after another.
-use luks_cli::{InputFault, Inputs, execute, line};
+use luks_cli::{InputFault, Inputs, execute};
+use luks_line::line;
 use luks_volume::MemDevice;
 use std::alloc::{AllocError, Global};
 use std::process::Abort;

@@ -1,10 +1,10 @@
 use crate::helps;
-use crate::request::{Command as Asked, EditRequest, Editing, Line, Making, NewVersion};
 use clap::builder::ValueParser;
 use clap::error::ErrorKind;
 use clap::{Arg, ArgAction, ArgMatches, Command, Error};
 use luks_kdf::HashName;
 use luks_reading::Data;
+use luks_request::{Command as Asked, EditRequest, Editing, Line, Making, NewVersion};
 use luks_terms::Format;
 use std::alloc::{AllocError, Global};
 

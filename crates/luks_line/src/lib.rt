@@ -4,7 +4,6 @@
 
 mod command_line;
 mod helps;
-mod request;
 
 pub use command_line::line;
-pub use request::{Command, EditRequest, Editing, Line, Making, NewVersion};
+pub use luks_request::{Command, EditRequest, Editing, Line, Making, NewVersion};

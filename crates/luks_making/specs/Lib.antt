@@ -1,5 +1,4 @@
 pub mod Changing
-pub mod Naming
 pub mod Without
 pub mod Keyslots
 pub mod With
@@ -9,3 +8,4 @@ pub mod Conditions
 pub mod Unchanged
 pub mod NewVolumes
 pub mod WrittenArea
+pub use Rattle.luks_rules.specs.Naming

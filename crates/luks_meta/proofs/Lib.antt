@@ -4,5 +4,3 @@ pub mod Listed
 pub mod ObjectsRead
 pub mod Requiring
 pub mod Namings
-mod KeyslotsMade
-mod RecordFacts

@@ -3,7 +3,6 @@ pub mod Content
 pub mod Objects
 pub mod Requirements
 pub mod Naming
-pub mod Records
 pub use Rattle.luks_json.specs.AreaText
 pub use Rattle.luks_json.specs.Decimal
 pub use Rattle.luks_json.specs.Encoded

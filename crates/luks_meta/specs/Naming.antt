@@ -4,7 +4,7 @@ use Rattle.serde_json.specs.Data.{Members, no_members, member}
 use Rattle.serde_json.specs.Find.{get}
 use Rattle.luks_json.specs.Number.{number_of}
 use Rattle.luks_json.specs.Arrays.{names}
-pub use Rattle.luks_making.specs.Naming.{HasUniqueDigests, IsDigestOf, IsUnique}
+pub use Rattle.luks_rules.specs.Naming.{HasUniqueDigests, IsDigestOf, IsUnique}
 
 -- the number of the first member that has the text in its array
 abbrev pub first_naming : List ℕ → Members → Option ℕ

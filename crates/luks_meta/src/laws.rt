@@ -3,13 +3,9 @@
 ghost use Rattle.std.specs.Prelude.{◌≡◌, ℕ, List};
 ghost use Rattle.serde_json.specs.Data.{Data};
 ghost use Rattle.luks_rules.specs.Accepted.{IsMeta};
-ghost use Rattle.luks_making.specs.Keyslots.{NewMembers, SlotMembers};
-ghost use Rattle.luks_making.specs.Unchanged.{ChangesSlot, GainsSlot, KeepsRest, LosesSlot};
 ghost use Rattle.luks_meta.specs.Naming.{IsDigestOf};
-ghost use Rattle.luks_meta.specs.Records.{GainsNumber, KeepsNumbers, KeepsRecords, LosesNumber};
 
 use luks_json::names_say_numbers;
-use luks_making::names_are_apart;
 
 /// In metadata that is accepted, one digest at most names a keyslot.
 pub fn one_digest()
@@ -17,18 +13,4 @@ pub fn one_digest()
         → (n m k : ℕ) → IsDigestOf j n m → IsDigestOf j n k → m ≡ k }
 {
     names_say_numbers();
-}
-
-/// Of what an edit of a keyslot doesn't name the readers tell the same records; of a digest or
-/// token that it names they tell the same but for its keyslots, which lose or gain that one.
-pub fn edits_keep_records()
-    ensures rest { (n : ℕ) (old new : Data) → KeepsRest n old new → KeepsRecords n old new }
-    ensures removed { (n : ℕ) (old new : Data) → LosesSlot n old new → LosesNumber n old new }
-    ensures added { (n m : ℕ) (s : SlotMembers) (old new : Data) → GainsSlot n m s old new
-        → GainsNumber n m old new }
-    ensures changed { (n : ℕ) (f : NewMembers) (old new : Data) → ChangesSlot n f old new
-        → KeepsNumbers old new }
-{
-    names_say_numbers();
-    names_are_apart();
 }

@@ -1,7 +1,6 @@
 #![tactic(auto)]
 //! The metadata of a LUKS2 header: the JSON area, read exactly, and what its objects tell.
 
-mod adding;
 mod configuration;
 mod digests;
 mod keyslots;
@@ -17,9 +16,8 @@ mod tokens;
 pub use configuration::Config;
 pub use digests::Digest;
 pub use keyslots::{Argon2, Cost, Derivation, KeyArea, Keyslot, Pbkdf2, Splitter};
-pub use laws::{edits_keep_records, one_digest};
+pub use laws::one_digest;
 pub use luks_json::one_value;
-pub use luks_making::{New, NewVolume};
 pub use luks_rules::{MetaFault, metadata_without_faults};
 pub use member::Extent;
 pub use meta::Meta;

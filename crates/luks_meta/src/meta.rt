@@ -4,7 +4,6 @@ ghost use Rattle.std.specs.Prelude.{◌≡◌, ◌≢◌, ◌<◌, ◌≤◌, �
 ghost use Rattle.serde_json.specs.View.{view};
 ghost use Rattle.luks_rules.specs.Held.{IsHeld};
 
-use crate::adding::added;
 use crate::configuration::Config;
 use crate::digests::Digest;
 use crate::keyslots::Keyslot;
@@ -14,11 +13,6 @@ use crate::requirements::has_requirements;
 use crate::segments::Segment;
 use crate::tokens::Token;
 use luks_json::compact_text_of;
-use luks_making::{
-    New, NewVolume, change_keeps_the_rest, changed_slot, formatted, made_keyslot_has_room,
-    new_fits, new_volume_is_accepted, removal_keeps_the_rest, volume_fits, without_slot,
-    written_area,
-};
 use luks_rules::{MetaFault, Section, first_segment_below, read_content};
 use serde_json::Value;
 use std::alloc::{AllocError, Global};
@@ -41,19 +35,11 @@ impl Meta {
     ghost use Rattle.luks_rules.specs.Accepted.{IsMeta};
     ghost use Rattle.luks_meta.specs.Content.{area_len, content};
     ghost use Rattle.luks_rules.specs.Faults.{object_at};
-    ghost use Rattle.luks_meta.specs.Naming.{IsDigestOf};
+    ghost use Rattle.luks_meta.specs.Naming.{HasUniqueDigests, IsDigestOf};
     ghost use Rattle.luks_meta.specs.Objects.{IsConfig, IsMissing, IsObject};
     ghost use Rattle.luks_meta.specs.Says.{TellsDigest, TellsKeyslot, TellsSegment, TellsToken};
     ghost use Rattle.luks_meta.specs.Requirements.{has_requirements};
     ghost use Rattle.luks_rules.specs.Sizes.{has_segment_below, IsFirst};
-    ghost use Rattle.luks_making.specs.Changed.{changed_slot};
-    ghost use Rattle.luks_making.specs.Conditions.{CanFormat, CanSeal, IsFree};
-    ghost use Rattle.luks_making.specs.Formatted.{formatted, volume_members};
-    ghost use Rattle.luks_making.specs.Keyslots.{new_members};
-    ghost use Rattle.luks_making.specs.Naming.{HasUniqueDigests};
-    ghost use Rattle.luks_making.specs.With.{IsAdded};
-    ghost use Rattle.luks_making.specs.Without.{without_slot};
-    ghost use Rattle.luks_making.specs.WrittenArea.{IsWrittenArea};
     ghost use Rattle.serde_json.specs.Read.{read};
     ghost use Rattle.serde_json.specs.Written.{compact_text};
 
@@ -76,18 +62,27 @@ impl Meta {
         })
     }
 
-    /// The metadata of a new volume with one keyslot, for a header of 16384 bytes.
-    ///
-    /// Takes memory for the value.
-    pub fn formatted(alloc: Global, volume: &NewVolume<'_>) -> Result<Meta, AllocError>
-        requires { CanFormat (volume_members volume.now) }
-        ensures value { IfOk result (λ m. content m ≡ formatted (volume_members volume.now)) }
-        ensures length { IfOk result (λ m. area_len m ≡ 12288) }
+    /// The metadata of a value that meets the rules of an area of `len` bytes.
+    pub fn of_value(value: Value, len: usize) -> Meta
+        requires { IsHeld len (view value) }
+        ensures value { content result ≡ view value }
+        ensures length { area_len result ≡ len }
     {
-        new_volume_is_accepted();
-        volume_fits(volume);
-        let value = formatted(alloc, volume)?;
-        Ok(Meta { value, len: 12288 })
+        Meta { value, len }
+    }
+
+    /// The value.
+    pub fn value(&self) -> &Value
+        ensures { view result.now ≡ content self.now }
+    {
+        &self.value
+    }
+
+    /// The length in bytes of the JSON area that it was read from.
+    pub fn area_len(&self) -> usize
+        ensures { result ≡ area_len self.now }
+    {
+        self.len
     }
 
     /// Whether `config.requirements` is there and is none of `null`, `[]`, `{}` and
@@ -116,82 +111,6 @@ impl Meta {
         ensures back { IfOk result (λ s. read (string_bytes s) ≡ Some (content self.now)) }
     {
         compact_text_of(alloc, &self.value)
-    }
-
-    /// The JSON area as it is written: the metadata's text and zeros after it, as long as the area
-    /// that was read; none where the text is longer than the area less one byte.
-    ///
-    /// Takes memory for the text and the area.
-    pub fn area(&self, alloc: Global) -> Result<Option<Vec<u8>>, AllocError>
-        ensures holds { IfOk result (λ o. IfSome o (λ a.
-            IsWrittenArea (area_len self.now) (content self.now) a.items)) }
-        ensures full { IfOk result (λ o. IsNone o
-            → area_len self.now ≤ length (compact_text (content self.now))) }
-    {
-        written_area(alloc, &self.value, self.len)
-    }
-
-    /// The metadata without the keyslot, and without its name in the arrays of digests and tokens.
-    /// All else stays as it is.
-    ///
-    /// Takes memory for the new value.
-    pub fn without_slot(&self, alloc: Global, number: u8) -> Result<Meta, AllocError>
-        requires { number < 32 }
-        ensures value { IfOk result (λ m. content m ≡ without_slot number (content self.now)) }
-        ensures length { IfOk result (λ m. area_len m ≡ area_len self.now) }
-    {
-        removal_keeps_the_rest();
-        let value = without_slot(alloc, &self.value, number)?;
-        Ok(Meta {
-            value,
-            len: self.len,
-        })
-    }
-
-    /// The metadata with the keyslot `to`, derived by PBKDF2 and without a priority: it has the
-    /// members of the keyslot `by`, but for what is new. Its name goes last in the array of the
-    /// digest that names `by`. All else stays as it is. No digest's name stands twice in the metadata.
-    ///
-    /// Takes memory for the new value.
-    pub fn with_slot(
-        &self,
-        alloc: Global,
-        to: u8,
-        by: u8,
-        new: &New<'_>,
-    ) -> Result<Meta, AllocError>
-        requires to { IsFree (content self.now) to }
-        requires by { CanSeal (area_len self.now) (content self.now) by (new_members new.now) }
-        ensures value { IfOk result (λ m.
-            IsAdded to by (new_members new.now) (content self.now) (content m)) }
-        ensures length { IfOk result (λ m. area_len m ≡ area_len self.now) }
-        ensures unique { HasUniqueDigests (content self.now) }
-    {
-        made_keyslot_has_room();
-        new_fits(new);
-        let value = added(alloc, &self.value, to, by, new)?;
-        Ok(Meta {
-            value,
-            len: self.len,
-        })
-    }
-
-    /// The metadata with the keyslot's new iterations, salt and area. All else stays as it is.
-    ///
-    /// Takes memory for the new value.
-    pub fn changed_slot(&self, alloc: Global, number: u8, new: &New<'_>) -> Result<Meta, AllocError>
-        requires { CanSeal (area_len self.now) (content self.now) number (new_members new.now) }
-        ensures value { IfOk result (λ m.
-            content m ≡ changed_slot number (new_members new.now) (content self.now)) }
-        ensures length { IfOk result (λ m. area_len m ≡ area_len self.now) }
-    {
-        change_keeps_the_rest();
-        new_fits(new);
-        let value = changed_slot(alloc, &self.value, number, new)?;
-        Ok(Meta {
-            value,
-            len: self.len,
-        })
     }
 
     /// The members of `config`.
@@ -230,6 +149,7 @@ impl Meta {
         ensures some { IfSome result (IsDigestOf (content self.now) number) }
         ensures only { (m : ℕ) → IsDigestOf (content self.now) number m → result ≡ Some m }
         ensures there { number < 32 → is_some (object_at (content self.now) Section.Keyslots number) ≡ true → IsSome result }
+        ensures unique { IfSome result (λ _. HasUniqueDigests (content self.now)) }
     {
         digest_of_keyslot(&self.value, number)
     }

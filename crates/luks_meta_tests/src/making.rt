@@ -12,7 +12,8 @@ mod odd;
 
 use crate::rows::{AREA, edited, read};
 use luks_area::rounded_to_sectors;
-use luks_meta::{Cost, Meta, New, NewVolume};
+use luks_meta::{Cost, Meta};
+use luks_new_meta::{New, NewVolume};
 use std::alloc::{AllocError, Global};
 use std::process::Abort;
 use std::test::Fail;
@@ -76,17 +77,19 @@ pub fn made(alloc: Global, meta: &Meta, maker: Maker) -> Result<Option<Meta>, Al
     };
     match maker {
         Maker::Add { to, by_ } if is_free(meta, to) && suits(meta, by_, &new) => {
-            Ok(Some(meta.with_slot(alloc, to, by_, &new)?))
+            Ok(Some(luks_new_meta::with_slot(alloc, meta, to, by_, &new)?))
         }
-        Maker::Change(n) if suits(meta, n, &new) => Ok(Some(meta.changed_slot(alloc, n, &new)?)),
-        Maker::Remove(n) if n < 32 => Ok(Some(meta.without_slot(alloc, n)?)),
+        Maker::Change(n) if suits(meta, n, &new) => Ok(Some(luks_new_meta::changed_slot(
+            alloc, meta, n, &new,
+        )?)),
+        Maker::Remove(n) if n < 32 => Ok(Some(luks_new_meta::without_slot(alloc, meta, n)?)),
         _ => Ok(None),
     }
 }
 
 /// Whether this is the text, and zeros follow it in the area that is written.
 fn is_text(alloc: Global, meta: &Meta, want: &str) -> Result<bool, Fail> {
-    let area = meta.area(alloc)?.ok_or("no room")?;
+    let area = luks_new_meta::json_area(alloc, meta)?.ok_or("no room")?;
     let (text, zeros) = area.split_at_checked(want.len()).ok_or("a short area")?;
     let same = text == want.as_bytes() && zeros.iter().all(|byte| *byte == 0);
     Ok(same && area.len() == AREA && meta.text(alloc)?.as_str() == want)
@@ -164,7 +167,7 @@ fn forms(
     if iterations == 0 || len < 20 || len > 64 {
         return Ok(false);
     }
-    is_text(alloc, &Meta::formatted(alloc, &volume)?, want)
+    is_text(alloc, &luks_new_meta::formatted(alloc, &volume)?, want)
 }
 
 #[test]
@@ -196,7 +199,11 @@ fn has_no_area(alloc: Global, maker: Maker) -> Result<bool, Fail> {
     let text = edited(alloc, crate::rows::PLAIN, "\"config\":{", member.as_str())?;
     let meta = read(alloc, text.as_str())?;
     let after = made(alloc, &meta, maker)?.ok_or("nothing is made")?;
-    Ok(text.len() == 12287 && is_text(alloc, &meta, text.as_str())? && after.area(alloc)?.is_none())
+    Ok(
+        text.len() == 12287
+            && is_text(alloc, &meta, text.as_str())?
+            && luks_new_meta::json_area(alloc, &after)?.is_none(),
+    )
 }
 
 #[test]

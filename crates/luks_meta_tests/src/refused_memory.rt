@@ -5,7 +5,8 @@ ghost use Rattle.luks_meta.specs.Content.{area_len};
 
 use crate::making::{Maker, made};
 use crate::rows::{AREA, PLAIN, area_of, read};
-use luks_meta::{Meta, MetaFault, NewVolume};
+use luks_meta::{Meta, MetaFault};
+use luks_new_meta::NewVolume;
 use std::alloc::{AllocError, Global};
 use std::process::Abort;
 use std::test::Fail;
@@ -59,13 +60,13 @@ fn formed(alloc: Global) -> Result<Meta, AllocError> {
         digest: &[0x33; 20],
         slot_salt: &[0x22; 32],
     };
-    Meta::formatted(alloc, &volume)
+    luks_new_meta::formatted(alloc, &volume)
 }
 
 /// The text that stands in the area that is written; none where it isn't the metadata's.
 fn text_in_area(alloc: Global, meta: &Meta) -> Result<Option<String>, AllocError> {
     let text = meta.text(alloc)?;
-    match meta.area(alloc)? {
+    match luks_new_meta::json_area(alloc, meta)? {
         Some(area) if area.as_slice().starts_with(text.as_bytes()) => Ok(Some(text)),
         _ => Ok(None),
     }

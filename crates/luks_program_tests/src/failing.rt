@@ -1,7 +1,8 @@
 //! Devices of which one call fails.
 use crate::printing::NO_FILE;
 use luks_area::{FaultyDevice, Leave};
-use luks_cli::{InputFault, Inputs, execute, line};
+use luks_cli::{InputFault, Inputs, execute};
+use luks_line::line;
 use luks_samples::{
     CHECK, DETACHED, OPEN, OPEN_0, SHOW, opening_luks1, opening_luks2, zeros_luks2,
 };

@@ -2,7 +2,8 @@
 ghost use Rattle.std.specs.Prelude.{◌+◌, ◌<◌, ◌^◌};
 ghost use Rattle.std.specs.Result.{ForOk};
 
-use luks_cli::{InputFault, Inputs, execute, line};
+use luks_cli::{InputFault, Inputs, execute};
+use luks_line::line;
 use luks_volume::{Device, MemDevice};
 use std::alloc::Global;
 use std::io::{Read, Write};

@@ -1,6 +1,7 @@
 //! Refused memory.
 use crate::printing::NO_FILE;
-use luks_cli::{Inputs, Line, execute, line};
+use luks_cli::{Inputs, Line, execute};
+use luks_line::line;
 use luks_samples::{CHECK, DETACHED, OPEN, OPEN_0, SHOW, opening_luks1, opening_luks2};
 use luks_volume::{MemDevice, open_slot, unlock};
 use std::alloc::{AllocError, Global};

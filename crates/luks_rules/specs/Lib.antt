@@ -6,3 +6,4 @@ pub mod Sizes
 pub mod Accepted
 pub mod MetaFault
 pub mod Held
+pub mod Naming

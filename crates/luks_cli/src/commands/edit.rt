@@ -18,7 +18,7 @@ use crate::answers::{Status, device_fault, edit_failed, exit_code, no_memory, re
 use crate::inputs::{InputFault, Inputs};
 use crate::random_file::random_bytes;
 use asked::edit_of;
-use luks_line::Editing;
+use luks_request::Editing;
 use luks_volume::{Device, Done, Edit, EditFault, needed};
 use one_edit::run_edit;
 use std::alloc::Global;

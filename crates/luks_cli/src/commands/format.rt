@@ -11,7 +11,7 @@ use crate::answers::{Status, exit_code, no_memory, refused, unread, write_fault}
 use crate::inputs::Inputs;
 use crate::passphrase_file::{PassphraseFault, passphrase};
 use crate::random_file::random_bytes;
-use luks_line::{Making, NewVersion};
+use luks_request::{Making, NewVersion};
 use luks_volume::{Device, Done, FORMAT1_RANDOM, FORMAT2_RANDOM, FormatFault, format1, format2};
 use std::alloc::Global;
 use std::io;

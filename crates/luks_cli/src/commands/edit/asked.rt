@@ -2,7 +2,7 @@
 ghost use Rattle.std.specs.Prelude.{◌≡◌};
 ghost use Rattle.luks_cli.specs.Editing.{IsAsked};
 
-use luks_line::EditRequest;
+use luks_request::EditRequest;
 use luks_volume::Edit;
 
 /// The edit, with the bytes of its passphrases in the place of their files.

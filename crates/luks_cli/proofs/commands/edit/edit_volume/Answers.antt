@@ -1,7 +1,7 @@
 use Rattle.std.proofs.Common.{◌≡◌, List, ℕ, sym, subst, IfSome}
 use Rattle.luks_edit.specs.declared.edit.Edit.{Edit}
 use Rattle.luks_volume.specs.Edits.{NamedSlots}
-use Rattle.luks_line.specs.Named.{edit_new_of, edit_passphrase_of}
+use Rattle.luks_request.specs.Named.{edit_new_of, edit_passphrase_of}
 use Rattle.luks_cli.specs.Editing.{given_by, given_edit, IsAsked, NamesSlot}
 use Rattle.luks_cli.specs.Files.{IsTaken, IsWhole}
 use Rattle.luks_cli.proofs.EditFacts.{asked_of, asked_somehow, keeps_fewer, says_as, some_as, spared_as}

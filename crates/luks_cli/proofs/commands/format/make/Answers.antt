@@ -1,5 +1,5 @@
 use Rattle.luks_cli.proofs.FormatFacts.{made, same_by, same_or_memory_by}
-use Rattle.luks_line.specs.declared.request.NewVersion.TheVariants.{Luks1, Luks2}
+use Rattle.luks_request.specs.declared.request.NewVersion.TheVariants.{Luks1, Luks2}
 use Rattle.luks_cli.proofs.commands.format.make.Goals as goal
 
 pub returns-in-Luks1-clause-made : goal.returns-in-Luks1-clause-made

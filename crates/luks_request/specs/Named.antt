@@ -1,9 +1,9 @@
 -- What a command does to its volume, and the files that it reads beside it, as the bytes of their names.
 use Rattle.std.specs.Prelude.{ℕ, List, Option, None, Some, option_map, Bool, true, false}
-use Rattle.luks_line.specs.declared.request.Command.{Command}
-use Rattle.luks_line.specs.declared.request.Command.TheVariants.{Check, Show, Open, Edit, Format}
-use Rattle.luks_line.specs.declared.request.EditRequest.{EditRequest}
-use Rattle.luks_line.specs.declared.request.EditRequest.TheVariants.{Add, Change, Remove, Repair, Label}
+use Rattle.luks_request.specs.declared.request.Command.{Command}
+use Rattle.luks_request.specs.declared.request.Command.TheVariants.{Check, Show, Open, Edit, Format}
+use Rattle.luks_request.specs.declared.request.EditRequest.{EditRequest}
+use Rattle.luks_request.specs.declared.request.EditRequest.TheVariants.{Add, Change, Remove, Repair, Label}
 
 -- the edits that open a keyslot need its passphrase
 abbrev pub edit_passphrase_of : EditRequest → Option (List ℕ)

@@ -19,7 +19,7 @@ use Rattle.luks_meta.specs.declared.configuration.Config.{Config}
 use Rattle.luks_meta.specs.declared.digests.Digest.{Digest}
 use Rattle.luks_meta.specs.declared.tokens.Token.{Token}
 use Rattle.luks_meta.specs.Objects.{IsConfig, IsMissing, IsObject}
-use Rattle.luks_meta.specs.Records.{GainsNumber, KeepsNumbers, KeepsRecords, LosesNumber, SameDigest, others}
+use Rattle.luks_new_meta.specs.Records.{GainsNumber, KeepsNumbers, KeepsRecords, LosesNumber, SameDigest, others}
 use Rattle.luks_meta.specs.Says.{TellsDigest, TellsKeyslot, TellsSegment, TellsToken}
 
 some_same : {A : Type 0} (x y : A) → Some x ≡ Some y → x ≡ y

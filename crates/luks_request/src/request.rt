@@ -1,5 +1,5 @@
 ghost use Rattle.std.specs.Prelude.{◌≡◌, option_map};
-ghost use Rattle.luks_line.specs.Named.{edit_new_of, edit_passphrase_of, is_writer, new_of, passphrase_of, random_of};
+ghost use Rattle.luks_request.specs.Named.{edit_new_of, edit_passphrase_of, is_writer, new_of, passphrase_of, random_of};
 
 use luks_reading::Data;
 use luks_terms::Format;

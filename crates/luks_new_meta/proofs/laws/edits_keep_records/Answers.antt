@@ -1,5 +1,5 @@
-use Rattle.luks_meta.proofs.RecordFacts.{number_added, numbers_removed, numbers_same, records_kept}
-use Rattle.luks_meta.proofs.laws.edits_keep_records.Goals as goal
+use Rattle.luks_new_meta.proofs.RecordFacts.{number_added, numbers_removed, numbers_same, records_kept}
+use Rattle.luks_new_meta.proofs.laws.edits_keep_records.Goals as goal
 
 pub returns-clause-rest : goal.returns-clause-rest
 returns-clause-rest c = records_kept

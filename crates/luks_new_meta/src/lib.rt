@@ -1,0 +1,11 @@
+//! New metadata of a LUKS2 header, made of accepted metadata or from nothing, and the JSON area that it
+//! is written in.
+#![tactic(auto)]
+
+mod adding;
+mod laws;
+mod metadata;
+
+pub use laws::edits_keep_records;
+pub use luks_making::{New, NewVolume};
+pub use metadata::{changed_slot, formatted, json_area, with_slot, without_slot};

@@ -1,0 +1,107 @@
+//! New metadata, and the JSON area that metadata is written in.
+
+ghost use Rattle.std.specs.Prelude.{◌≡◌, ◌<◌, ◌≤◌, length, IfOk, IfSome, IsNone};
+ghost use Rattle.serde_json.specs.Written.{compact_text};
+ghost use Rattle.luks_making.specs.Changed.{changed_slot};
+ghost use Rattle.luks_making.specs.Conditions.{CanFormat, CanSeal, IsFree};
+ghost use Rattle.luks_making.specs.Formatted.{formatted, volume_members};
+ghost use Rattle.luks_making.specs.Keyslots.{new_members};
+ghost use Rattle.luks_making.specs.Naming.{HasUniqueDigests};
+ghost use Rattle.luks_making.specs.With.{IsAdded};
+ghost use Rattle.luks_making.specs.Without.{without_slot};
+ghost use Rattle.luks_making.specs.WrittenArea.{IsWrittenArea};
+ghost use Rattle.luks_meta.specs.Content.{area_len, content};
+
+use crate::adding::added;
+use luks_making::{
+    New, NewVolume, change_keeps_the_rest, made_keyslot_has_room, new_fits, new_volume_is_accepted,
+    removal_keeps_the_rest, volume_fits, written_area,
+};
+use luks_meta::Meta;
+use std::alloc::{AllocError, Global};
+
+/// The metadata of a new volume with one keyslot, for a header of 16384 bytes.
+///
+/// Takes memory for the value.
+pub fn formatted(alloc: Global, volume: &NewVolume<'_>) -> Result<Meta, AllocError>
+    requires { CanFormat (volume_members volume.now) }
+    ensures value { IfOk result (λ m. content m ≡ formatted (volume_members volume.now)) }
+    ensures length { IfOk result (λ m. area_len m ≡ 12288) }
+{
+    new_volume_is_accepted();
+    volume_fits(volume);
+    let value = luks_making::formatted(alloc, volume)?;
+    Ok(Meta::of_value(value, 12288))
+}
+
+/// The JSON area as it is written: the metadata's text and zeros after it, as long as the area
+/// that was read; none where the text is longer than the area less one byte.
+///
+/// Takes memory for the text and the area.
+pub fn json_area(alloc: Global, meta: &Meta) -> Result<Option<Vec<u8>>, AllocError>
+    ensures holds { IfOk result (λ o. IfSome o (λ a.
+        IsWrittenArea (area_len meta.now) (content meta.now) a.items)) }
+    ensures full { IfOk result (λ o. IsNone o
+        → area_len meta.now ≤ length (compact_text (content meta.now))) }
+{
+    written_area(alloc, meta.value(), meta.area_len())
+}
+
+/// The metadata without the keyslot, and without its name in the arrays of digests and tokens.
+/// All else stays as it is.
+///
+/// Takes memory for the new value.
+pub fn without_slot(alloc: Global, meta: &Meta, number: u8) -> Result<Meta, AllocError>
+    requires { number < 32 }
+    ensures value { IfOk result (λ m. content m ≡ without_slot number (content meta.now)) }
+    ensures length { IfOk result (λ m. area_len m ≡ area_len meta.now) }
+{
+    removal_keeps_the_rest();
+    let value = luks_making::without_slot(alloc, meta.value(), number)?;
+    Ok(Meta::of_value(value, meta.area_len()))
+}
+
+/// The metadata with the keyslot `to`, derived by PBKDF2 and without a priority: it has the
+/// members of the keyslot `by`, but for what is new. Its name goes last in the array of the
+/// digest that names `by`. All else stays as it is. No digest's name stands twice in the metadata.
+///
+/// Takes memory for the new value.
+pub fn with_slot(
+    alloc: Global,
+    meta: &Meta,
+    to: u8,
+    by: u8,
+    new: &New<'_>,
+) -> Result<Meta, AllocError>
+    requires to { IsFree (content meta.now) to }
+    requires by { CanSeal (area_len meta.now) (content meta.now) by (new_members new.now) }
+    ensures value { IfOk result (λ m.
+        IsAdded to by (new_members new.now) (content meta.now) (content m)) }
+    ensures length { IfOk result (λ m. area_len m ≡ area_len meta.now) }
+    ensures unique { HasUniqueDigests (content meta.now) }
+{
+    made_keyslot_has_room();
+    new_fits(new);
+    let value = added(alloc, meta, to, by, new)?;
+    Ok(Meta::of_value(value, meta.area_len()))
+}
+
+/// The metadata with the keyslot's new iterations, salt and area. All else stays as it is.
+///
+/// Takes memory for the new value.
+pub fn changed_slot(
+    alloc: Global,
+    meta: &Meta,
+    number: u8,
+    new: &New<'_>,
+) -> Result<Meta, AllocError>
+    requires { CanSeal (area_len meta.now) (content meta.now) number (new_members new.now) }
+    ensures value { IfOk result (λ m.
+        content m ≡ changed_slot number (new_members new.now) (content meta.now)) }
+    ensures length { IfOk result (λ m. area_len m ≡ area_len meta.now) }
+{
+    change_keeps_the_rest();
+    new_fits(new);
+    let value = luks_making::changed_slot(alloc, meta.value(), number, new)?;
+    Ok(Meta::of_value(value, meta.area_len()))
+}

@@ -1,0 +1,6 @@
+//! What a command line of the program `luks` asks for: the command, its volume and its files.
+#![tactic(auto)]
+
+mod request;
+
+pub use request::{Command, EditRequest, Editing, Line, Making, NewVersion};
