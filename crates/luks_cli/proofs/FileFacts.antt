@@ -14,12 +14,12 @@ keeps_same {T} tells size bytes unsettled (Err fault) = refl
 -- a volume that was settled and that nothing changed of is settled
 pub settled_kept : {T : Type 0} (tells : Type 0) (size failed : T → ℕ) (bytes : T → List ℕ) (unsettled : T → ℕ → Type 0) (old new : Result T InputFault)
     → (tells → ForOk old (IsSettled unsettled)) → KeepsVolume tells size bytes unsettled old new → LeavesSettled tells failed unsettled old new
-settled_kept {T} tells size failed bytes unsettled (Ok old) (Ok new) settled kept = λ told same. record { none = λ p is. (settled told).none p (kept.unsettled told p is) }
+settled_kept {T} tells size failed bytes unsettled (Ok old) (Ok new) settled kept = λ told same. record { none = λ p is. (settled told old refl).none p (kept.unsettled told p is) }
 settled_kept {T} tells size failed bytes unsettled (Ok old) (Err fault) settled kept = kept
 settled_kept {T} tells size failed bytes unsettled (Err fault) new settled kept = kept
 
 -- and so is one that no call was made on
 pub settled_same : {T : Type 0} (tells : Type 0) (failed : T → ℕ) (unsettled : T → ℕ → Type 0) (volume : Result T InputFault)
     → (tells → ForOk volume (IsSettled unsettled)) → LeavesSettled tells failed unsettled volume volume
-settled_same {T} tells failed unsettled (Ok device) settled = λ told same. settled told
+settled_same {T} tells failed unsettled (Ok device) settled = λ told same. settled told device refl
 settled_same {T} tells failed unsettled (Err fault) settled = refl
