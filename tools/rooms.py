@@ -109,6 +109,14 @@ def places():
     return max(1, min(len(os.sched_getaffinity(0)), free // MEMORY_OF_A_CHECK))
 
 
+def give_way(process, nice):
+    """Lowers the priority of a run, and of its session, where the system shares the processors by sessions."""
+    with contextlib.suppress(OSError):
+        os.setpriority(os.PRIO_PROCESS, process, nice)
+        with open(f"/proc/{process}/autogroup", "w") as it:
+            it.write(str(nice))
+
+
 class Task:
     """A command of rt on a crate, as `lib` or `test`, with its further words."""
 
@@ -127,38 +135,39 @@ class Runs:
         self.uses, self.record, self.ended = uses, record, queue.Queue()
         self.lock, self.stopped, self.processes, self.threads = threading.Lock(), False, [], []
 
-    def start(self, task, jobs):
-        thread = threading.Thread(target=self.work, args=(task, jobs))
+    def start(self, task, jobs, nice):
+        thread = threading.Thread(target=self.work, args=(task, jobs, nice))
         self.threads.append(thread)
         thread.start()
 
-    def work(self, task, jobs):
+    def work(self, task, jobs, nice):
         try:
             with held(task.crate, lambda: self.stopped):
-                self.run_in_room(task, ["--jobs", str(jobs), *task.words])
+                self.run_in_room(task, ["--jobs", str(jobs), *task.words], nice)
         except (Stopped, OSError) as error:
             task.status, task.text = 1, f"{task.text}{error}\n"
         finally:
             self.ended.put(task)
 
-    def run_in_room(self, task, words):
+    def run_in_room(self, task, words, nice):
         proves = task.verb == "lib"
         self.record.sums(task.crate)
         if proves and self.record.has(task.crate):
             task.status = 0
             return
         with room(self.uses, task.crate) as top:
-            self.run(task, [crates.RT, task.verb, *words], crates.folder(task.crate, top))
+            self.run(task, [crates.RT, task.verb, *words], crates.folder(task.crate, top), nice)
         if proves and task.status == 0:
             self.record.add(task.crate)
 
-    def run(self, task, words, folder):
+    def run(self, task, words, folder, nice):
         with self.lock:
             if self.stopped:
                 raise Stopped
             process = subprocess.Popen(words, cwd=folder, stdin=subprocess.DEVNULL, stdout=subprocess.PIPE, stderr=subprocess.STDOUT,
                                        text=True, errors="replace", start_new_session=True)
             self.processes.append(process)
+        give_way(process.pid, nice)
         task.text = process.communicate()[0]
         task.status = process.returncode
 
@@ -174,8 +183,9 @@ class Runs:
 
 
 def size(crate):
-    """What a proof's time goes by: the bytes of the crate's files."""
-    return sum(os.path.getsize(it) for it in crates.files(crate))
+    """What a proof's time goes by: the bytes of the code, and of what is said of it a tenth."""
+    code = crates.folder(crate) + "/src/"
+    return sum(os.path.getsize(it) * (10 if it.startswith(code) else 1) for it in crates.files(crate))
 
 
 def chains(uses, names):
@@ -201,7 +211,8 @@ class Plan:
         return not set(lows).isdisjoint(proofs) or any(task.crate in crates.below(self.uses, it.crate) for it in self.running)
 
     def begun(self):
-        """The tasks that start now, each with its jobs: the processors are shared, and the first of the longest chain has a job more."""
+        """The tasks that start now, each with its jobs and its niceness: the processors are shared, and the first of the longest chain has a
+        job more."""
         ready = []
         for task in list(self.left):
             if len(self.running) < self.places and not self.waits(task):
@@ -209,7 +220,12 @@ class Plan:
                 self.running.append(task)
                 ready.append(task)
         share = -(-self.places // max(1, len(self.running)))
-        return [(task, share + self.leads(task)) for task in ready]
+        return [(task, share + self.leads(task), self.niceness(task)) for task in ready]
+
+    def niceness(self, task):
+        """How far a task gives way to the others: 0 for the longest chain of all that run or are left, and more for shorter ones."""
+        most = max(self.longest[it.crate] for it in [*self.left, *self.running])
+        return round(15 * (1 - self.longest[task.crate] / most))
 
     def leads(self, task):
         """Whether the task is of the longest chain of several that run."""
@@ -225,8 +241,8 @@ def all_done(uses, tasks, record):
     plan, runs = Plan(uses, tasks), Runs(uses, record)
     try:
         while plan.left or plan.running:
-            for task, jobs in plan.begun():
-                runs.start(task, jobs)
+            for task, jobs, nice in plan.begun():
+                runs.start(task, jobs, nice)
             crates.say(plan.told())
             task = runs.ended.get()
             plan.running.remove(task)
