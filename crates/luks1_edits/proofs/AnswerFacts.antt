@@ -16,13 +16,14 @@ use Rattle.luks_slot.specs.declared.plan.Derivation.{Derivation}
 use Rattle.luks_slot.specs.declared.plan.Derivation.TheVariants.{Pbkdf2, Argon2}
 use Rattle.luks_slot.specs.declared.plan.SlotPlan.{SlotPlan}
 use Rattle.luks_slot.specs.Opening.{slot_key}
+use Rattle.luks_head.proofs.ChoiceFacts.{choices_agree}
 use Rattle.luks_reading.specs.declared.open_fault.OpenFault.{OpenFault}
 use Rattle.luks_reading.specs.declared.open_fault.OpenFault.TheVariants.{Head, Meta, NoSuchSlot, SlotFree, Outside, Slot, Device, Memory}
 use Rattle.luks_reading.specs.Answer.{Answer, IsLuks1HeadRefusal, IsLuks1Refusal, IsRefusal, IsRefusalAs, HasPlanAs, Opened, refused, opens, no_key, Opens}
 use Rattle.luks_reading.specs.Plans.{HasLuks1Plan, IsLuks1Cipher, IsLuks1Derivation, IsLuks1Plan}
 use Rattle.luks1_edits.specs.Kept.{HasSameKeyslot}
 use Rattle.luks1_edits.specs.Places.{area_len, area_start}
-use Rattle.luks1_edits.proofs.HeaderFacts.{HeaderLaws, chosen_moves, common_moves, entry_is, front_moves, header_moves, len_is, number_same, start_is, text_same}
+use Rattle.luks1_edits.proofs.HeaderFacts.{chosen_moves, common_moves, entry_is, front_moves, header_moves, len_is, number_same, start_is, text_same}
 
 -- the two headers have the same 208 bytes before the keyslots
 pub record SameFront (h g : List ℕ) : Type 0 where
@@ -89,32 +90,14 @@ pub common_or_entry : (h : List ℕ) (n : ℕ) (f : HeadFault) → IsLuks1HeadRe
 common_or_entry h n (head.SlotState m) x = inr (record { numbered = x.0; fault = x.1 })
 common_or_entry h n (head.Stripes m) x = inr (record { numbered = x.0; fault = x.1 })
 common_or_entry h n (head.Iterations (of.Slot m)) x = inr (record { numbered = x.0; fault = x.1 })
-common_or_entry h n (head.Iterations of.Digest) x = inl x
-common_or_entry h n head.TooShort x = inl x
-common_or_entry h n head.NotLuks x = inl x
-common_or_entry h n head.Version x = inl x
-common_or_entry h n head.NoSoundCopy x = inl x
-common_or_entry h n (head.Text t) x = inl x
-common_or_entry h n head.Uuid x = inl x
-common_or_entry h n head.KeyBytes x = inl x
-common_or_entry h n head.Device x = inl x
-common_or_entry h n head.Memory x = inl x
+common_or_entry h n f x = inl x
 
 head_moves : (h g : List ℕ) (n : ℕ) (f : HeadFault) → (IsCommonFault h f → IsCommonFault g f) → (n < 8 → entry h n ≡ entry g n)
     → IsLuks1HeadRefusal h n f → IsLuks1HeadRefusal g n f
 head_moves h g n (head.SlotState m) common at x = (x.0, subst (λ e. IsEntryFault n e (head.SlotState m)) (at x.0) x.1)
 head_moves h g n (head.Stripes m) common at x = (x.0, subst (λ e. IsEntryFault n e (head.Stripes m)) (at x.0) x.1)
 head_moves h g n (head.Iterations (of.Slot m)) common at x = (x.0, subst (λ e. IsEntryFault n e (head.Iterations (of.Slot m))) (at x.0) x.1)
-head_moves h g n (head.Iterations of.Digest) common at x = common x
-head_moves h g n head.TooShort common at x = common x
-head_moves h g n head.NotLuks common at x = common x
-head_moves h g n head.Version common at x = common x
-head_moves h g n head.NoSoundCopy common at x = common x
-head_moves h g n (head.Text t) common at x = common x
-head_moves h g n head.Uuid common at x = common x
-head_moves h g n head.KeyBytes common at x = common x
-head_moves h g n head.Device common at x = common x
-head_moves h g n head.Memory common at x = common x
+head_moves h g n f common at x = common x
 
 refusal_moves : (h g : List ℕ) (total n : ℕ) (f : OpenFault) → SameFront h g → ((f : HeadFault) → IsCommonFault h f → IsCommonFault g f)
     → (n < 8 → entry h n ≡ entry g n) → IsLuks1Refusal h total n f → IsLuks1Refusal g total n f
@@ -147,49 +130,48 @@ same_keyslot_back n v w same = record {
       (subst (λ s. part v s (area_len v n) ≡ part w s (area_len v n)) starts (sym (same.area lt)));
 }
 
-module _ (laws : HeaderLaws) where
-  -- what refuses the keyslot in one of the headers does in the other
-  luks1_refusal_moves : (n : ℕ) (v w : List ℕ) (f : OpenFault) → HasSameKeyslot n v w
-      → IsLuks1Refusal (part v 0 592) (length v) n f → IsLuks1Refusal (part w 0 592) (length w) n f
-  luks1_refusal_moves n v w f same x =
-      subst (λ t. IsLuks1Refusal (part w 0 592) t n f) (sym same.length_same)
-      (refusal_moves (part v 0 592) (part w 0 592) (length v) n f (same_front v w same.common) (common_moves laws v w same.common) (entries_same n v w same) x)
+-- what refuses the keyslot in one of the headers does in the other
+luks1_refusal_moves : (n : ℕ) (v w : List ℕ) (f : OpenFault) → HasSameKeyslot n v w
+    → IsLuks1Refusal (part v 0 592) (length v) n f → IsLuks1Refusal (part w 0 592) (length w) n f
+luks1_refusal_moves n v w f same x =
+    subst (λ t. IsLuks1Refusal (part w 0 592) t n f) (sym same.length_same)
+    (refusal_moves (part v 0 592) (part w 0 592) (length v) n f (same_front v w same.common) (common_moves v w same.common) (entries_same n v w same) x)
 
-  is_refusal_moves : (n : ℕ) (v w : List ℕ) (f : OpenFault) → Chosen v luks1 → HasSameKeyslot n v w → IsRefusal v n f → IsRefusal w n f
-  is_refusal_moves n v w f chosen same x = record {
-    choice = luks1;
-    chosen = chosen_moves v w same.length_same same.common chosen;
-    fault = luks1_refusal_moves n v w f same (subst (λ c. IsRefusalAs v n c f) (laws.one v x.choice luks1 x.chosen chosen) x.fault);
-  }
+is_refusal_moves : (n : ℕ) (v w : List ℕ) (f : OpenFault) → Chosen v luks1 → HasSameKeyslot n v w → IsRefusal v n f → IsRefusal w n f
+is_refusal_moves n v w f chosen same x = record {
+  choice = luks1;
+  chosen = chosen_moves v w same.length_same same.common chosen;
+  fault = luks1_refusal_moves n v w f same (subst (λ c. IsRefusalAs v n c f) (choices_agree v x.choice luks1 x.chosen chosen) x.fault);
+}
 
-  opens_moves : (n : ℕ) (v w p : List ℕ) (found : Option (List ℕ)) → Chosen v luks1 → HasSameKeyslot n v w → Opens v n p found → Opens w n p found
-  opens_moves n v w p found chosen same x =
-      let one = laws.one v x.choice luks1 x.chosen chosen in
-      let there : HasLuks1Plan (part v 0 592) n x.plan = subst (λ c. HasPlanAs v n c x.plan) one x.is in
-      let start : x.plan.area.start ≡ area_start v n = there.is.start ∙ start_is v n there.numbered in
-      let len : x.plan.area.len ≡ area_len v n = there.is.len ∙ len_is v n there.numbered in
-      let bytes : part w x.plan.area.start x.plan.area.len ≡ part v x.plan.area.start x.plan.area.len =
-      subst (λ s. part w s x.plan.area.len ≡ part v s x.plan.area.len) (sym start)
-      (subst (λ l. part w (area_start v n) l ≡ part v (area_start v n) l) (sym len) (same.area there.numbered)) in
-      record {
-        choice = luks1;
-        chosen = chosen_moves v w same.length_same same.common chosen;
-        plan = x.plan;
-        is = has_plan_moves (part v 0 592) (part w 0 592) n x.plan (same_front v w same.common) (entries_same n v w same) there;
-        unrefused = λ f y. x.unrefused f (subst (λ c. IsRefusalAs v n c f) (sym one) (luks1_refusal_moves n w v f (same_keyslot_back n v w same) y));
-        key = ap (λ b. slot_key x.plan b p) bytes ∙ x.key;
-      }
+opens_moves : (n : ℕ) (v w p : List ℕ) (found : Option (List ℕ)) → Chosen v luks1 → HasSameKeyslot n v w → Opens v n p found → Opens w n p found
+opens_moves n v w p found chosen same x =
+    let one = choices_agree v x.choice luks1 x.chosen chosen in
+    let there : HasLuks1Plan (part v 0 592) n x.plan = subst (λ c. HasPlanAs v n c x.plan) one x.is in
+    let start : x.plan.area.start ≡ area_start v n = there.is.start ∙ start_is v n there.numbered in
+    let len : x.plan.area.len ≡ area_len v n = there.is.len ∙ len_is v n there.numbered in
+    let bytes : part w x.plan.area.start x.plan.area.len ≡ part v x.plan.area.start x.plan.area.len =
+    subst (λ s. part w s x.plan.area.len ≡ part v s x.plan.area.len) (sym start)
+    (subst (λ l. part w (area_start v n) l ≡ part v (area_start v n) l) (sym len) (same.area there.numbered)) in
+    record {
+      choice = luks1;
+      chosen = chosen_moves v w same.length_same same.common chosen;
+      plan = x.plan;
+      is = has_plan_moves (part v 0 592) (part w 0 592) n x.plan (same_front v w same.common) (entries_same n v w same) there;
+      unrefused = λ f y. x.unrefused f (subst (λ c. IsRefusalAs v n c f) (sym one) (luks1_refusal_moves n w v f (same_keyslot_back n v w same) y));
+      key = ap (λ b. slot_key x.plan b p) bytes ∙ x.key;
+    }
 
-  -- the answer depends on these bytes alone
-  pub answer_moves : (n : ℕ) (v w p : List ℕ) (a : Opened) → Chosen v luks1 → HasSameKeyslot n v w → Answer v n p a → Answer w n p a
-  answer_moves n v w p (refused f) chosen same x = (
-    is_refusal_moves n v w f chosen same x.0,
-    λ g y. x.1 g (is_refusal_moves n w v g (chosen_moves v w same.length_same same.common chosen) (same_keyslot_back n v w same) y),
-  )
-  answer_moves n v w p (opens k) chosen same x = opens_moves n v w p (Some k) chosen same x
-  answer_moves n v w p no_key chosen same x = opens_moves n v w p None chosen same x
+-- the answer depends on these bytes alone
+pub answer_moves : (n : ℕ) (v w p : List ℕ) (a : Opened) → Chosen v luks1 → HasSameKeyslot n v w → Answer v n p a → Answer w n p a
+answer_moves n v w p (refused f) chosen same x = (
+  is_refusal_moves n v w f chosen same x.0,
+  λ g y. x.1 g (is_refusal_moves n w v g (chosen_moves v w same.length_same same.common chosen) (same_keyslot_back n v w same) y),
+)
+answer_moves n v w p (opens k) chosen same x = opens_moves n v w p (Some k) chosen same x
+answer_moves n v w p no_key chosen same x = opens_moves n v w p None chosen same x
 
-  -- and so it does the other way round
-  pub answer_returns : (n : ℕ) (v w p : List ℕ) (a : Opened) → Chosen v luks1 → HasSameKeyslot n v w → Answer w n p a → Answer v n p a
-  answer_returns n v w p a chosen same x =
-      answer_moves n w v p a (chosen_moves v w same.length_same same.common chosen) (same_keyslot_back n v w same) x
+-- and so it does the other way round
+pub answer_returns : (n : ℕ) (v w p : List ℕ) (a : Opened) → Chosen v luks1 → HasSameKeyslot n v w → Answer w n p a → Answer v n p a
+answer_returns n v w p a chosen same x =
+    answer_moves n w v p a (chosen_moves v w same.length_same same.common chosen) (same_keyslot_back n v w same) x

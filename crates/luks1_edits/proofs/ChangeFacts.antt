@@ -7,25 +7,35 @@ use Rattle.luks_area.specs.RangeFacts.{part-same_but, same_but-then, same_but-wi
 use Rattle.luks_area.specs.Sectors.{rounded_to_sectors}
 use Rattle.luks_head.specs.Bytes.{number_at}
 use Rattle.luks_head.specs.Header1.{entry, entry_stripes, HoldsEntry}
-use Rattle.luks_head.specs.Selection.{luks1, Chosen}
 use Rattle.luks_head.specs.declared.luks1.Luks1Slot.{Luks1Slot}
 use Rattle.luks_slot.specs.Sealing.{IsSealed}
 use Rattle.luks_reading.specs.declared.report.Data.{Data}
-use Rattle.luks_reading.specs.Checked.{WellFormed}
+use Rattle.luks_reading.specs.Answer.{Answer, opens}
 use Rattle.luks_reading.specs.Layout1.{Luks1Area}
-use Rattle.luks1_edits.specs.Edited.{HoldsKey, IsFreed, IsMade, IsRemoved, IsWiped}
+use Rattle.luks1_edits.specs.Accepted.{IsHeaderOf}
+use Rattle.luks1_edits.specs.Edited.{HoldsKey, IsChanged, IsFreed, IsInUse, IsLeastFree, IsMade, IsRemoved, IsWiped}
 use Rattle.luks1_edits.specs.Kept.{AreKeyslots, HasSameKeyslot, IsEither}
-use Rattle.luks1_edits.specs.Leftovers.{IsFreedFirst}
+use Rattle.luks1_edits.specs.Leftovers.{IsFreedFirst, IsHalfChanged, IsHalfRemoved}
 use Rattle.luks1_edits.specs.Places.{area_len, area_start, entry_place, IsOfKeyslot, IsOfKeyslots}
 use Rattle.luks1_edits.specs.Steps.{IsKeyslotAt, IsKeyslotMade}
 use Rattle.luks1_edits.proofs.AnswerFacts.{has_plan_moves, same_front}
-use Rattle.luks1_edits.proofs.HeaderFacts.{HeaderLaws, entry_is, front_moves, len_is, number_same, start_is, volume_of}
+use Rattle.luks1_edits.proofs.HeaderFacts.{entry_is, front_moves, len_is, number_same, start_is, volume_of}
+use Rattle.luks1_edits.proofs.OpenerFacts.{used_or_free}
 use Rattle.luks1_edits.proofs.KeptFacts.{area_apart, common_apart, entry_apart, same_keyslot}
 
-module _ (laws : HeaderLaws) (payload : Data) (v : List ℕ) (chosen : Chosen v luks1) (well : WellFormed v payload)
-    (slot n : ℕ) (slot_lt : slot < 8) (n_lt : n < 8) (other : slot ≡ n → ⊥) (iterations : ℕ) (p key random u : List ℕ) (made : IsKeyslotMade v n iterations p key random u) where
+module _ (h : List ℕ) (payload : Data) (v : List ℕ) (of : IsHeaderOf h payload v) (slot n : ℕ) (used : IsInUse v slot) (least : IsLeastFree v n)
+    (iterations : ℕ) (p key random u : List ℕ) (made : IsKeyslotMade v n iterations p key random u) where
+  slot_lt : slot < 8
+  slot_lt = used.0
+
+  n_lt : n < 8
+  n_lt = least.free.0
+
+  other : slot ≡ n → ⊥
+  other same = used_or_free v n (subst (λ k. IsInUse v k) same used) least.free
+
   fit : Fit (Luks1Area (part v 0 592) payload (length v)) (length v)
-  fit = (volume_of laws v payload chosen well).fit
+  fit = (volume_of v payload of.chosen of.well).fit
 
   one : AreKeyslots (IsEither n n)
   one = record { numbered = λ m either. elim either [ inl y ↦ omega (arith, y, n_lt) | inr y ↦ omega (arith, y, n_lt) ] }
@@ -75,7 +85,7 @@ module _ (laws : HeaderLaws) (payload : Data) (v : List ℕ) (chosen : Chosen v 
     of_slot : (q : ℕ) → IsOfKeyslots v (IsEither slot slot) q → IsOfKeyslot v slot q
     of_slot q x = let is : x.keyslot ≡ slot = elim x.is_named [ inl y ↦ y | inr y ↦ y ] in subst (λ k. IsOfKeyslot v k q) is x.of
 
-    pub both_rest : SameBut (IsOfKeyslots v (IsEither slot n)) v w
+    both_rest : SameBut (IsOfKeyslots v (IsEither slot n)) v w
     both_rest = same_but-then
         (same_but-wider (λ q x. record { keyslot = x.keyslot; is_named = elim x.is_named [ inl y ↦ inr y | inr y ↦ inr y ]; of = x.of }) made.rest)
         (same_but-wider (λ q x. record { keyslot = x.keyslot; is_named = elim x.is_named [ inl y ↦ inl y | inr y ↦ inl y ]; of = x.of }) before)
@@ -86,7 +96,7 @@ module _ (laws : HeaderLaws) (payload : Data) (v : List ℕ) (chosen : Chosen v 
     front_kept : part w 0 208 ≡ part u 0 208
     front_kept = part-same_but 0 208 before (λ q at x. common_apart v payload fit slot q slot_lt (let high = at.1 in omega (arith, high)) (of_slot q x))
 
-    pub still_made : IsMade (entry v n) (entry w n) iterations (take 32 random)
+    still_made : IsMade (entry v n) (entry w n) iterations (take 32 random)
     still_made = subst (λ e. IsMade (entry v n) e iterations (take 32 random)) (sym entry_kept) made.made
 
     -- where the new keyslot's area stands
@@ -102,7 +112,7 @@ module _ (laws : HeaderLaws) (payload : Data) (v : List ℕ) (chosen : Chosen v 
         area_apart v payload fit slot n q slot_lt n_lt other
         (subst (λ l. IsAt (area_start v n) l q) new_len (subst (λ s. IsAt s made.holds.plan.area.len q) new_start at)) (of_slot q x))
 
-    pub still_holds : HoldsKey w n p key (drop 32 random)
+    still_holds : HoldsKey w n p key (drop 32 random)
     still_holds = record {
       plan = made.holds.plan;
       is = has_plan_moves (part u 0 592) (part w 0 592) n made.holds.plan (same_front u w front_kept)
@@ -115,7 +125,7 @@ module _ (laws : HeaderLaws) (payload : Data) (v : List ℕ) (chosen : Chosen v 
     freed_before : IsFreed (entry u slot) (entry w slot) → IsFreed (entry v slot) (entry w slot)
     freed_before x = subst (λ e. IsFreed e (entry w slot)) (same.entry slot_lt) x
 
-    pub order_before : IsFreedFirst u slot w → IsFreedFirst v slot w
+    order_before : IsFreedFirst u slot w → IsFreedFirst v slot w
     order_before (inl kept) =
         let here : part w (area_start v slot) (area_len v slot) ≡ part u (area_start v slot) (area_len v slot) =
         subst (λ l. part w (area_start v slot) l ≡ part u (area_start v slot) l) len_same
@@ -123,10 +133,34 @@ module _ (laws : HeaderLaws) (payload : Data) (v : List ℕ) (chosen : Chosen v 
         inl (here ∙ same.area slot_lt)
     order_before (inr freed) = inr (freed_before freed)
 
-    pub freed_after : IsRemoved u slot w → IsFreed (entry v slot) (entry w slot)
-    freed_after x = freed_before x.freed
-
-    pub wiped_after : IsRemoved u slot w → IsWiped v slot w
+    wiped_after : IsRemoved u slot w → IsWiped v slot w
     wiped_after x =
         subst (λ l. part w (area_start v slot) l ≡ replicate l 0) len_same
         (subst (λ s. part w s (area_len u slot) ≡ replicate (area_len u slot) 0) start_same x.wiped)
+
+  -- after both
+  pub changed : (old w : List ℕ) → Answer v slot old (opens key) → IsRemoved u slot w → IsChanged v slot old p iterations random w
+  changed old w opened x = record {
+    fresh = n;
+    is_free = least;
+    key = key;
+    opened = opened;
+    rest = both_rest w x.rest;
+    made = still_made w x.rest;
+    holds = still_holds w x.rest;
+    freed = freed_before w x.rest x.freed;
+    wiped = wiped_after w x.rest x;
+  }
+
+  -- while the other one was removed
+  pub half_changed : (old w : List ℕ) → Answer v slot old (opens key) → IsHalfRemoved u slot w → IsHalfChanged v slot old p iterations random w
+  half_changed old w opened x = record {
+    fresh = n;
+    is_free = least;
+    key = key;
+    opened = opened;
+    rest = both_rest w x.rest;
+    made = still_made w x.rest;
+    holds = still_holds w x.rest;
+    order = order_before w x.rest x.order;
+  }

@@ -25,9 +25,9 @@ use Rattle.luks1_edits.specs.Leftovers.{IsSealedFirst, IsTorn1, IsUntorn, Leftov
 use Rattle.luks1_edits.specs.Places.{area_len, area_start, IsOfKeyslots}
 use Rattle.luks1_edits.specs.Refused.{IsUnrefused1}
 use Rattle.luks1_edits.proofs.AnswerFacts.{answer_moves}
-use Rattle.luks1_edits.proofs.HeaderFacts.{HeaderLaws, entry_is, header_clear, len_is, start_is, volume_of}
+use Rattle.luks1_edits.proofs.HeaderFacts.{entry_is, header_clear, len_is, start_is, volume_of}
 use Rattle.luks1_edits.proofs.KeptFacts.{either_decided, keeps_others, kept_common, luks1_after, luks1_area_of, same_keyslot, stays_well_formed}
-use Rattle.luks1_edits.proofs.MadeKeyslotFacts.{IsMadeFrom, KeyslotLaws, made_opens}
+use Rattle.luks1_edits.proofs.MadeKeyslotFacts.{IsMadeFrom, made_opens}
 
 -- ---- what no refusal means
 
@@ -126,7 +126,7 @@ pub record Leaves (payload : Data) (named : ℕ → Type 0) (v w : List ℕ) : T
   pub others : KeepsOthers payload named v w
   pub rest : SameBut (IsOfKeyslots v named) v w
 
-module _ (laws : HeaderLaws) (payload : Data) (v : List ℕ) (chosen : Chosen v luks1) (well : WellFormed v payload) where
+module _ (payload : Data) (v : List ℕ) (chosen : Chosen v luks1) (well : WellFormed v payload) where
   changes : (a b : ℕ) (w : List ℕ) → a < 8 → b < 8 → SameBut (IsOfKeyslots v (IsEither a b)) v w → ChangesKeyslots payload (IsEither a b) v w
   changes a b w lta ltb rest = record { keyslots = either_keyslots a b lta ltb; chosen = chosen; well = well; rest = rest }
 
@@ -135,10 +135,10 @@ module _ (laws : HeaderLaws) (payload : Data) (v : List ℕ) (chosen : Chosen v 
   both_leave named a b w lta ltb rest fits_a fits_b is_a is_b =
       let x = changes a b w lta ltb rest in
       record {
-        chosen = luks1_after laws payload (IsEither a b) v w x;
-        well = stays_well_formed laws payload (IsEither a b) v w x
+        chosen = luks1_after payload (IsEither a b) v w x;
+        well = stays_well_formed payload (IsEither a b) v w x
             (two_named (λ n. IsFitFor (entry v n) (entry w n)) a b fits_a fits_b) (either_decided a b);
-        others = keeps_wider payload (IsEither a b) named v w (two_named named a b is_a is_b) (keeps_others laws payload (IsEither a b) v w x);
+        others = keeps_wider payload (IsEither a b) named v w (two_named named a b is_a is_b) (keeps_others payload (IsEither a b) v w x);
         rest = places_wider (IsEither a b) named v w (two_named named a b is_a is_b) rest;
       }
 
@@ -149,7 +149,7 @@ module _ (laws : HeaderLaws) (payload : Data) (v : List ℕ) (chosen : Chosen v 
       subst (λ u. Leaves payload named v u) (sym same) (record {
         chosen = chosen;
         well = well;
-        others = keeps_wider payload (λ n. ⊥) named v v (λ n is. absurd is) (keeps_others laws payload (λ n. ⊥) v v x);
+        others = keeps_wider payload (λ n. ⊥) named v v (λ n is. absurd is) (keeps_others payload (λ n. ⊥) v v x);
         rest = same_but-same (IsOfKeyslots v named) v;
       })
 
@@ -177,7 +177,7 @@ module _ (laws : HeaderLaws) (payload : Data) (v : List ℕ) (chosen : Chosen v 
 
   -- ---- what opens
 
-  module _ (keyslots : KeyslotLaws) (once : (n : ℕ) (p : List ℕ) (a b : Opened) → Answer v n p a → Answer v n p b → IsSameAnswer a b) where
+  module _ (once : (n : ℕ) (p : List ℕ) (a b : Opened) → Answer v n p a → Answer v n p b → IsSameAnswer a b) where
     -- a keyslot that was made opens to each key that the opener opened to
     made_to : (opener : ℕ) (old : List ℕ) (fresh iterations : ℕ) (salt new key other random w : List ℕ) → fresh < 8 → 1000 ≤ iterations
         → (a b : ℕ) → a < 8 → b < 8 → SameBut (IsOfKeyslots v (IsEither a b)) v w
@@ -189,14 +189,14 @@ module _ (laws : HeaderLaws) (payload : Data) (v : List ℕ) (chosen : Chosen v 
           chosen = chosen;
           well = well;
           length_same = rest.length_same;
-          common = kept_common v payload (volume_of laws v payload chosen well).fit w (IsEither a b) (either_keyslots a b lta ltb) rest;
+          common = kept_common v payload (volume_of v payload chosen well).fit w (IsEither a b) (either_keyslots a b lta ltb) rest;
           opened = opened;
           numbered = lt;
           iterated = omega (arith, many);
           made = made;
           holds = holds;
         } in
-        subst (λ k. Answer w fresh new (opens k)) same (made_opens laws keyslots payload v opener old fresh iterations salt new key random w x)
+        subst (λ k. Answer w fresh new (opens k)) same (made_opens payload v opener old fresh iterations salt new key random w x)
 
     pub opens_after : (e : Edit) (r w : List ℕ) → IsUnrefused1 v payload e r → After1 v e r w → OpensAfter1 v e w
     opens_after (Add by_ old new to iterations) r w free x = λ n key is opened.
@@ -224,8 +224,8 @@ module _ (laws : HeaderLaws) (payload : Data) (v : List ℕ) (chosen : Chosen v 
         let one : slot ≡ x.slot = elim either [ inl y ↦ y | inr y ↦ y ] in
         let two : enabled_word ≡ disabled_word = sym used.1 ∙ ap (λ k. active_word (entry v k)) one ∙ x.is_new.free.1 in
         omega (arith, two) in
-        inl (answer_moves laws slot v w old.now (opens key) chosen
-        (same_keyslot v payload (volume_of laws v payload chosen well).fit w (IsEither x.slot x.slot) (either_keyslots x.slot x.slot lt lt) (half_made_rest x.order) slot other) opened)
+        inl (answer_moves slot v w old.now (opens key) chosen
+        (same_keyslot v payload (volume_of v payload chosen well).fit w (IsEither x.slot x.slot) (either_keyslots x.slot x.slot lt lt) (half_made_rest x.order) slot other) opened)
     opens_either (Change slot old new iterations) r w free (inr x) = λ key opened.
         let used : slot < 8 = named_numbered v payload (Change slot old new iterations) r free slot (inl refl) in
         inr (
@@ -272,7 +272,7 @@ module _ (laws : HeaderLaws) (payload : Data) (v : List ℕ) (chosen : Chosen v 
   pub leftover_keeps : (e : Edit) (r w : List ℕ) → Leftover1 v payload e r w → KeepsOthers payload (NamedKeyslots1 v e) v w
   leftover_keeps e r w (inl same) = (nothing_left (NamedKeyslots1 v e) w same).others
   leftover_keeps e r w (inr x) =
-      keeps_others laws payload (NamedKeyslots1 v e) v w
+      keeps_others payload (NamedKeyslots1 v e) v w
       (record { keyslots = record { numbered = named_numbered v payload e r x.0 }; chosen = chosen; well = well; rest = torn_rest e r w x.1 })
 
   -- ---- where no entry was torn
@@ -280,7 +280,7 @@ module _ (laws : HeaderLaws) (payload : Data) (v : List ℕ) (chosen : Chosen v 
   -- an entry that isn't torn is fit for use
   untorn_fits : (w : List ℕ) (n : ℕ) → n < 8 → IsUntorn v w n → IsFitFor (entry v n) (entry w n)
   untorn_fits w n lt (inl same) =
-      let clear = header_clear laws v payload chosen well in
+      let clear = header_clear v payload chosen well in
       let here : entry (part v 0 592) n ≡ entry w n = entry_is v n lt ∙ sym same in
       record {
         stated = λ none. clear (head.SlotState n) (lt, subst HasUnknownState (sym here) none);
@@ -322,7 +322,7 @@ module _ (laws : HeaderLaws) (payload : Data) (v : List ℕ) (chosen : Chosen v 
 
   wiped_area : (n : ℕ) (w : List ℕ) (a : Area) → IsWiped v n w → AreaOf v payload (Slot n) a → part w a.start a.len ≡ replicate a.len 0
   wiped_area n w a zeros has =
-      let is : Luks1Area (part v 0 592) payload (length v) (Slot n) a = luks1_area_of laws v payload (Slot n) a chosen has in
+      let is : Luks1Area (part v 0 592) payload (length v) (Slot n) a = luks1_area_of v payload (Slot n) a chosen has in
       let start : a.start ≡ area_start v n = is.1 ∙ start_is v n is.0 in
       let len : a.len ≡ area_len v n = is.2 ∙ len_is v n is.0 in
       subst (λ s. part w s a.len ≡ replicate a.len 0) (sym start) (subst (λ l. part w (area_start v n) l ≡ replicate l 0) (sym len) zeros)

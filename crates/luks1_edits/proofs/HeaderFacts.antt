@@ -1,27 +1,23 @@
 -- The fields of a LUKS1 header: in the volume, in its first 592 bytes, and in another volume with
 -- the same bytes before the keyslots.
-use Rattle.std.proofs.Common.{◌≡◌, ℕ, ◌+◌, ◌*◌, ◌<◌, ◌≤◌, ◌↔◌, List, length, sym, ap, subst, ◌∙◌, arith, lit≤, zero-add}
+use Rattle.std.proofs.Common.{◌≡◌, ℕ, ◌+◌, ◌*◌, ◌<◌, ◌≤◌, List, length, sym, ap, subst, ◌∙◌, arith, lit≤, zero-add}
 use Rattle.luks_area.specs.Ranges.{part}
 use Rattle.luks_area.specs.RangeFacts.{part-part}
 use Rattle.luks_area.specs.Sectors.{rounded_to_sectors}
 use Rattle.luks_area.specs.Text.{text_of}
 use Rattle.luks_head.specs.Bytes.{number_at, text_at}
 use Rattle.luks_head.specs.Faults.{IsCommonFault, IsEntryFault, IsLuks1Fault as IsLuks1HeadFault}
-use Rattle.luks_head.specs.Header1.{entry, entry_stripes, IsLuks1}
-use Rattle.luks_head.specs.Selection.{Choice, luks1, Chosen}
+use Rattle.luks_head.specs.Header1.{entry, entry_stripes}
+use Rattle.luks_head.specs.Selection.{luks1, Chosen}
 use Rattle.luks_head.specs.declared.fault.HeadFault.{HeadFault}
 use Rattle.luks_head.specs.declared.fault.HeadFault.TheVariants as fault
 use Rattle.luks_head.specs.declared.fault.IterationsOf.TheVariants as of
-use Rattle.luks_head.specs.declared.luks1.Luks1.{Luks1}
+use Rattle.luks_head.proofs.ChoiceFacts.{choices_agree}
+use Rattle.luks_head.proofs.Luks1FaultFacts.{sound}
+use Rattle.luks_head.proofs.Luks1HeaderFacts.{common_fault_moves}
 use Rattle.luks_reading.specs.declared.report.Data.{Data}
 use Rattle.luks_reading.specs.Checked.{IsLuks1Volume, WellFormed, WellFormedAs}
 use Rattle.luks1_edits.specs.Places.{area_len, area_start}
-
--- the laws on headers that the facts here rest on
-pub record HeaderLaws : Type 0 where
-  pub one : (v : List ℕ) (b c : Choice) → Chosen v b → Chosen v c → b ≡ c
-  pub common : (v : List ℕ) (f : HeadFault) → IsCommonFault (part v 0 208) f ↔ IsCommonFault v f
-  pub faultless : (v : List ℕ) → ((f : HeadFault) → IsLuks1HeadFault v f → ⊥) ↔ ((d : Luks1) × IsLuks1 v d)
 
 -- ---- parts of the front
 
@@ -69,32 +65,19 @@ pub entry_fault : (h : List ℕ) (n : ℕ) (f : HeadFault) → n < 8 → IsEntry
 entry_fault h n (fault.SlotState m) lt x = subst (λ k. IsLuks1HeadFault h (fault.SlotState k)) (sym x.0) (lt, x.1)
 entry_fault h n (fault.Stripes m) lt x = subst (λ k. IsLuks1HeadFault h (fault.Stripes k)) (sym x.0) (lt, x.1)
 entry_fault h n (fault.Iterations (of.Slot m)) lt x = subst (λ k. IsLuks1HeadFault h (fault.Iterations (of.Slot k))) (sym x.0) (lt, x.1)
-entry_fault h n (fault.Iterations of.Digest) lt x = absurd x
-entry_fault h n fault.TooShort lt x = absurd x
-entry_fault h n fault.NotLuks lt x = absurd x
-entry_fault h n fault.Version lt x = absurd x
-entry_fault h n fault.NoSoundCopy lt x = absurd x
-entry_fault h n (fault.Text t) lt x = absurd x
-entry_fault h n fault.Uuid lt x = absurd x
-entry_fault h n fault.KeyBytes lt x = absurd x
-entry_fault h n fault.Device lt x = absurd x
-entry_fault h n fault.Memory lt x = absurd x
+entry_fault h n f lt x = absurd x
 
-module _ (laws : HeaderLaws) where
-  -- the faults before the keyslots are those of the same 208 bytes
-  pub common_moves : (v w : List ℕ) → part w 0 208 ≡ part v 0 208 → (f : HeadFault) → IsCommonFault (part v 0 592) f → IsCommonFault (part w 0 592) f
-  common_moves v w e f x =
-      let front : part (part v 0 592) 0 208 ≡ part (part w 0 592) 0 208 =
-      part_of_front v 592 0 208 (lit≤ tt) ∙ sym e ∙ sym (part_of_front w 592 0 208 (lit≤ tt)) in
-      (laws.common (part w 0 592) f).0 (subst (λ b. IsCommonFault b f) front ((laws.common (part v 0 592) f).1 x))
+-- the faults before the keyslots are those of the same 208 bytes
+pub common_moves : (v w : List ℕ) → part w 0 208 ≡ part v 0 208 → (f : HeadFault) → IsCommonFault (part v 0 592) f → IsCommonFault (part w 0 592) f
+common_moves v w e f x = common_fault_moves 208 (part v 0 592) (part w 0 592) (lit≤ tt) (record { same = λ o l within. sym (header_moves v w e o l within) }) f x
 
-  -- a well formed volume of LUKS1 is one by its header
-  pub volume_of : (v : List ℕ) (payload : Data) → Chosen v luks1 → WellFormed v payload → IsLuks1Volume (part v 0 592) payload (length v)
-  volume_of v payload chosen well = subst (WellFormedAs v payload) (laws.one v well.choice luks1 well.chosen chosen) well.formed
+-- a well formed volume of LUKS1 is one by its header
+pub volume_of : (v : List ℕ) (payload : Data) → Chosen v luks1 → WellFormed v payload → IsLuks1Volume (part v 0 592) payload (length v)
+volume_of v payload chosen well = subst (WellFormedAs v payload) (choices_agree v well.choice luks1 well.chosen chosen) well.formed
 
-  -- and its header has no fault
-  pub header_clear : (v : List ℕ) (payload : Data) → Chosen v luks1 → WellFormed v payload → (f : HeadFault) → IsLuks1HeadFault (part v 0 592) f → ⊥
-  header_clear v payload chosen well = (laws.faultless (part v 0 592)).1 (volume_of v payload chosen well).header
+-- and its header has no fault
+pub header_clear : (v : List ℕ) (payload : Data) → Chosen v luks1 → WellFormed v payload → (f : HeadFault) → IsLuks1HeadFault (part v 0 592) f → ⊥
+header_clear v payload chosen well f bad = let said = (volume_of v payload chosen well).header in sound (part v 0 592) said.0 said.1 f bad
 
 -- a volume with the same front is of LUKS1 too
 pub chosen_moves : (v w : List ℕ) → length w ≡ length v → part w 0 208 ≡ part v 0 208 → Chosen v luks1 → Chosen w luks1

@@ -16,13 +16,15 @@ use Rattle.luks_head.specs.Selection.{luks1, luks2, Chosen}
 use Rattle.luks_head.specs.declared.fault.HeadFault.{HeadFault}
 use Rattle.luks_head.specs.declared.fault.HeadFault.TheVariants as fault
 use Rattle.luks_head.specs.declared.fault.IterationsOf.TheVariants as of
+use Rattle.luks_head.proofs.Luks1HeaderFacts.{header_found}
+use Rattle.luks_head.proofs.ChoiceFacts.{choices_agree}
 use Rattle.luks_reading.specs.declared.report.Data.{Data}
 use Rattle.luks_reading.specs.Checked.{AreaOf, HasAreaAs, IsLuks1Volume, WellFormed}
 use Rattle.luks_reading.specs.Layout1.{Luks1Area}
 use Rattle.luks_edit.specs.Kept.{KeepsArea, KeepsSlot}
 use Rattle.luks1_edits.specs.Kept.{AreKeyslots, ChangesKeyslots, HasSameKeyslot, IsEither, IsFitFor, KeepsOthers}
 use Rattle.luks1_edits.specs.Places.{area_len, area_start, entry_place, IsOfKeyslot, IsOfKeyslots}
-use Rattle.luks1_edits.proofs.HeaderFacts.{HeaderLaws, chosen_moves, common_moves, entry_is, header_clear, header_moves, len_is, number_same, start_is, volume_of}
+use Rattle.luks1_edits.proofs.HeaderFacts.{chosen_moves, common_moves, entry_is, header_clear, header_moves, len_is, number_same, start_is, volume_of}
 use Rattle.luks1_edits.proofs.AnswerFacts.{answer_moves, answer_returns}
 
 -- ---- the areas of a volume, by its header
@@ -118,96 +120,95 @@ module _ (v : List ℕ) (payload : Data) (fit : Fit (Luks1Area (part v 0 592) pa
 
 -- ---- what is kept
 
-module _ (laws : HeaderLaws) where
-  pub luks1_area_of : (v : List ℕ) (payload : Data) (n : AreaName) (a : Area) → Chosen v luks1 → AreaOf v payload n a → Luks1Area (part v 0 592) payload (length v) n a
-  luks1_area_of v payload n a chosen x = subst (λ c. HasAreaAs v payload c n a) (laws.one v x.choice luks1 x.chosen chosen) x.area
+pub luks1_area_of : (v : List ℕ) (payload : Data) (n : AreaName) (a : Area) → Chosen v luks1 → AreaOf v payload n a → Luks1Area (part v 0 592) payload (length v) n a
+luks1_area_of v payload n a chosen x = subst (λ c. HasAreaAs v payload c n a) (choices_agree v x.choice luks1 x.chosen chosen) x.area
 
-  -- the areas of the volume are those of its header
-  luks1_area_in : (v : List ℕ) (payload : Data) (n : AreaName) (a : Area) → Chosen v luks1 → Luks1Area (part v 0 592) payload (length v) n a → AreaOf v payload n a
-  luks1_area_in v payload n a chosen has = record { choice = luks1; chosen = chosen; area = has }
+-- the areas of the volume are those of its header
+luks1_area_in : (v : List ℕ) (payload : Data) (n : AreaName) (a : Area) → Chosen v luks1 → Luks1Area (part v 0 592) payload (length v) n a → AreaOf v payload n a
+luks1_area_in v payload n a chosen has = record { choice = luks1; chosen = chosen; area = has }
 
-  module _ (payload : Data) (named : ℕ → Type 0) (v w : List ℕ) (x : ChangesKeyslots payload named v w) where
-    placed : Fit (Luks1Area (part v 0 592) payload (length v)) (length v)
-    placed = (volume_of laws v payload x.chosen x.well).fit
+module _ (payload : Data) (named : ℕ → Type 0) (v w : List ℕ) (x : ChangesKeyslots payload named v w) where
+  placed : Fit (Luks1Area (part v 0 592) payload (length v)) (length v)
+  placed = (volume_of v payload x.chosen x.well).fit
 
-    front : part w 0 208 ≡ part v 0 208
-    front = kept_common v payload placed w named x.keyslots x.rest
+  front : part w 0 208 ≡ part v 0 208
+  front = kept_common v payload placed w named x.keyslots x.rest
 
-    pub luks1_after : Chosen w luks1
-    luks1_after = chosen_moves v w x.rest.length_same front x.chosen
+  pub luks1_after : Chosen w luks1
+  luks1_after = chosen_moves v w x.rest.length_same front x.chosen
 
-    -- an area by the one header is there by the other, where the volume is as long and the entry the same
-    area_same : (u z : List ℕ) → length z ≡ length u → part z 0 208 ≡ part u 0 208 → (n : AreaName) (a : Area)
-        → ((m : ℕ) → n ≡ Slot m → m < 8 → entry z m ≡ entry u m)
-        → Luks1Area (part u 0 592) payload (length u) n a → Luks1Area (part z 0 592) payload (length z) n a
-    area_same u z size same Head1 a at has = has
-    area_same u z size same Head2 a at has = has
-    area_same u z size same (Slot n) a at has =
-        let key : number_at (part u 0 592) 108 4 ≡ number_at (part z 0 592) 108 4 = sym (number_same (part z 0 592) (part u 0 592) 108 4 (header_moves u z same 108 4 (lit≤ tt))) in
-        let entries : entry (part u 0 592) n ≡ entry (part z 0 592) n = entry_is u n has.0 ∙ sym (at n refl has.0) ∙ sym (entry_is z n has.0) in (
-          has.0,
-          has.1 ∙ ap (λ e. number_at e 40 4 * 512) entries,
-          has.2 ∙ ap (λ k. rounded_to_sectors (k * entry_stripes (entry (part u 0 592) n))) key ∙ ap (λ e. rounded_to_sectors (number_at (part z 0 592) 108 4 * entry_stripes e)) entries,
-        )
-    area_same u z size same (Segment n) a at has =
-        let start : number_at (part u 0 592) 104 4 ≡ number_at (part z 0 592) 104 4 = sym (number_same (part z 0 592) (part u 0 592) 104 4 (header_moves u z same 104 4 (lit≤ tt))) in
-        (has.0, has.1, has.2 ∙ ap (λ k. k * 512) start, has.3 ∙ ap (λ t. t - a.start) (sym size))
+  -- an area by the one header is there by the other, where the volume is as long and the entry the same
+  area_same : (u z : List ℕ) → length z ≡ length u → part z 0 208 ≡ part u 0 208 → (n : AreaName) (a : Area)
+      → ((m : ℕ) → n ≡ Slot m → m < 8 → entry z m ≡ entry u m)
+      → Luks1Area (part u 0 592) payload (length u) n a → Luks1Area (part z 0 592) payload (length z) n a
+  area_same u z size same Head1 a at has = has
+  area_same u z size same Head2 a at has = has
+  area_same u z size same (Slot n) a at has =
+      let key : number_at (part u 0 592) 108 4 ≡ number_at (part z 0 592) 108 4 = sym (number_same (part z 0 592) (part u 0 592) 108 4 (header_moves u z same 108 4 (lit≤ tt))) in
+      let entries : entry (part u 0 592) n ≡ entry (part z 0 592) n = entry_is u n has.0 ∙ sym (at n refl has.0) ∙ sym (entry_is z n has.0) in (
+        has.0,
+        has.1 ∙ ap (λ e. number_at e 40 4 * 512) entries,
+        has.2 ∙ ap (λ k. rounded_to_sectors (k * entry_stripes (entry (part u 0 592) n))) key ∙ ap (λ e. rounded_to_sectors (number_at (part z 0 592) 108 4 * entry_stripes e)) entries,
+      )
+  area_same u z size same (Segment n) a at has =
+      let start : number_at (part u 0 592) 104 4 ≡ number_at (part z 0 592) 104 4 = sym (number_same (part z 0 592) (part u 0 592) 104 4 (header_moves u z same 104 4 (lit≤ tt))) in
+      (has.0, has.1, has.2 ∙ ap (λ k. k * 512) start, has.3 ∙ ap (λ t. t - a.start) (sym size))
 
-    keeps_area : (n : AreaName) → ((m : ℕ) → n ≡ Slot m → m < 8 → entry w m ≡ entry v m)
-        → ((a : Area) → Luks1Area (part v 0 592) payload (length v) n a → part w a.start a.len ≡ part v a.start a.len) → KeepsArea payload n v w
-    keeps_area n at bytes = record {
-      same = λ a. (
-        λ has. luks1_area_in w payload n a luks1_after (area_same v w x.rest.length_same front n a at (luks1_area_of v payload n a x.chosen has)),
-        λ has. luks1_area_in v payload n a x.chosen
-            (area_same w v (sym x.rest.length_same) (sym front) n a (λ m is lt. sym (at m is lt)) (luks1_area_of w payload n a luks1_after has)),
-      );
-      bytes = λ a has. bytes a (luks1_area_of v payload n a x.chosen has);
-    }
+  keeps_area : (n : AreaName) → ((m : ℕ) → n ≡ Slot m → m < 8 → entry w m ≡ entry v m)
+      → ((a : Area) → Luks1Area (part v 0 592) payload (length v) n a → part w a.start a.len ≡ part v a.start a.len) → KeepsArea payload n v w
+  keeps_area n at bytes = record {
+    same = λ a. (
+      λ has. luks1_area_in w payload n a luks1_after (area_same v w x.rest.length_same front n a at (luks1_area_of v payload n a x.chosen has)),
+      λ has. luks1_area_in v payload n a x.chosen
+          (area_same w v (sym x.rest.length_same) (sym front) n a (λ m is lt. sym (at m is lt)) (luks1_area_of w payload n a luks1_after has)),
+    );
+    bytes = λ a has. bytes a (luks1_area_of v payload n a x.chosen has);
+  }
 
-    keeps_slot_area : (n : ℕ) → (named n → ⊥) → KeepsArea payload (Slot n) v w
-    keeps_slot_area n not = keeps_area (Slot n)
-        (λ m is lt. kept_entry v payload placed w named x.keyslots x.rest m lt (λ there. not (subst named (sym (ap name_number is)) there)))
-        (λ a is.
-        let start : a.start ≡ area_start v n = is.1 ∙ start_is v n is.0 in
-        let len : a.len ≡ area_len v n = is.2 ∙ len_is v n is.0 in
-        subst (λ s. part w s a.len ≡ part v s a.len) (sym start)
-        (subst (λ l. part w (area_start v n) l ≡ part v (area_start v n) l) (sym len) (kept_area v payload placed w named x.keyslots x.rest n is.0 not)))
+  keeps_slot_area : (n : ℕ) → (named n → ⊥) → KeepsArea payload (Slot n) v w
+  keeps_slot_area n not = keeps_area (Slot n)
+      (λ m is lt. kept_entry v payload placed w named x.keyslots x.rest m lt (λ there. not (subst named (sym (ap name_number is)) there)))
+      (λ a is.
+      let start : a.start ≡ area_start v n = is.1 ∙ start_is v n is.0 in
+      let len : a.len ≡ area_len v n = is.2 ∙ len_is v n is.0 in
+      subst (λ s. part w s a.len ≡ part v s a.len) (sym start)
+      (subst (λ l. part w (area_start v n) l ≡ part v (area_start v n) l) (sym len) (kept_area v payload placed w named x.keyslots x.rest n is.0 not)))
 
-    -- LUKS1 has no keyslots in metadata
-    no_value : (u : List ℕ) → Chosen u luks1 → (place : ℕ) (copies : Copies) → Chosen u (luks2 place copies) → ⊥
-    no_value u one place copies two = let same = laws.one u luks1 (luks2 place copies) one two in cc
+  -- LUKS1 has no keyslots in metadata
+  no_value : (u : List ℕ) → Chosen u luks1 → (place : ℕ) (copies : Copies) → Chosen u (luks2 place copies) → ⊥
+  no_value u one place copies two = let same = choices_agree u luks1 (luks2 place copies) one two in cc
 
-    keeps_slot : (n : ℕ) → (named n → ⊥) → KeepsSlot payload n v w
-    keeps_slot n not =
-        let same : HasSameKeyslot n v w = same_keyslot v payload placed w named x.keyslots x.rest n not in
-        record {
-          area = keeps_slot_area n not;
-          entry = λ bytes. (
-            λ is. record { chosen = luks1_after; numbered = is.numbered; is = is.is ∙ sym (same.entry is.numbered) },
-            λ is. record { chosen = x.chosen; numbered = is.numbered; is = is.is ∙ same.entry is.numbered },
-          );
-          value = λ d. (
-            λ is. absurd (no_value v x.chosen is.place is.copies is.chosen),
-            λ is. absurd (no_value w luks1_after is.place is.copies is.chosen),
-          );
-          answers = λ p a. (answer_moves laws n v w p a x.chosen same, answer_returns laws n v w p a x.chosen same);
-        }
+  keeps_slot : (n : ℕ) → (named n → ⊥) → KeepsSlot payload n v w
+  keeps_slot n not =
+      let same : HasSameKeyslot n v w = same_keyslot v payload placed w named x.keyslots x.rest n not in
+      record {
+        area = keeps_slot_area n not;
+        entry = λ bytes. (
+          λ is. record { chosen = luks1_after; numbered = is.numbered; is = is.is ∙ sym (same.entry is.numbered) },
+          λ is. record { chosen = x.chosen; numbered = is.numbered; is = is.is ∙ same.entry is.numbered },
+        );
+        value = λ d. (
+          λ is. absurd (no_value v x.chosen is.place is.copies is.chosen),
+          λ is. absurd (no_value w luks1_after is.place is.copies is.chosen),
+        );
+        answers = λ p a. (answer_moves n v w p a x.chosen same, answer_returns n v w p a x.chosen same);
+      }
 
-    pub keeps_others : KeepsOthers payload named v w
-    keeps_others = record {
-      size = x.rest.length_same;
-      segments = λ n. keeps_area (Segment n) (λ m is lt. absurd (cc)) (λ a has. kept_segment v payload placed w named x.keyslots x.rest n a has);
-      slots = keeps_slot;
-    }
+  pub keeps_others : KeepsOthers payload named v w
+  keeps_others = record {
+    size = x.rest.length_same;
+    segments = λ n. keeps_area (Segment n) (λ m is lt. absurd (cc)) (λ a has. kept_segment v payload placed w named x.keyslots x.rest n a has);
+    slots = keeps_slot;
+  }
 
 -- ---- the volume stays well formed
 
-module _ (laws : HeaderLaws) (payload : Data) (named : ℕ → Type 0) (v w : List ℕ) (x : ChangesKeyslots payload named v w) (fits : (n : ℕ) → named n → IsFitFor (entry v n) (entry w n)) (decided : (n : ℕ) → named n ⊎ (named n → ⊥)) where
+module _ (payload : Data) (named : ℕ → Type 0) (v w : List ℕ) (x : ChangesKeyslots payload named v w) (fits : (n : ℕ) → named n → IsFitFor (entry v n) (entry w n)) (decided : (n : ℕ) → named n ⊎ (named n → ⊥)) where
   whole : IsLuks1Volume (part v 0 592) payload (length v)
-  whole = volume_of laws v payload x.chosen x.well
+  whole = volume_of v payload x.chosen x.well
 
   clear : (f : HeadFault) → IsLuks1HeadFault (part v 0 592) f → ⊥
-  clear = header_clear laws v payload x.chosen x.well
+  clear = header_clear v payload x.chosen x.well
 
   entry_kept : (n : ℕ) → n < 8 → (named n → ⊥) → entry w n ≡ entry v n
   entry_kept n lt not = kept_entry v payload whole.fit w named x.keyslots x.rest n lt not
@@ -231,7 +232,7 @@ module _ (laws : HeaderLaws) (payload : Data) (named : ℕ → Type 0) (v w : Li
       ]))
 
   common_clear : (f : HeadFault) → IsCommonFault (part w 0 592) f → ⊥
-  common_clear f bad = clear f (common_moves laws w v (sym common_same) f bad).1
+  common_clear f bad = clear f (common_moves w v (sym common_same) f bad).1
 
   clear_after : (f : HeadFault) → IsLuks1HeadFault (part w 0 592) f → ⊥
   clear_after fault.TooShort bad =
@@ -277,7 +278,7 @@ module _ (laws : HeaderLaws) (payload : Data) (named : ℕ → Type 0) (v w : Li
     choice = luks1;
     chosen = chosen_moves v w x.rest.length_same common_same x.chosen;
     formed = subst (λ t. IsLuks1Volume (part w 0 592) payload t) (sym x.rest.length_same)
-        (record { header = (laws.faultless (part w 0 592)).0 clear_after; fit = fit_after });
+        (record { header = header_found (part w 0 592) clear_after; fit = fit_after });
   }
 
 -- whether a keyslot is one of two is decided

@@ -15,7 +15,7 @@ use Rattle.luks1_edits.specs.Edited.{IsRemoved}
 use Rattle.luks1_edits.specs.Leftovers.{IsHalfRemoved}
 use Rattle.luks1_edits.specs.Places.{area_len, area_start}
 use Rattle.luks1_edits.specs.Steps.{IsKeyslotAt}
-use Rattle.luks1_edits.proofs.HeaderFacts.{HeaderLaws, key_is, volume_of}
+use Rattle.luks1_edits.proofs.HeaderFacts.{key_is, volume_of}
 use Rattle.luks1_edits.proofs.KeptFacts.{header_apart}
 use Rattle.luks1_edits.proofs.OpenerFacts.{slots_in}
 
@@ -37,12 +37,12 @@ pub key_bytes_in : (h : List ℕ) (d : Luks1) (payload : Data) (v : List ℕ) �
 key_bytes_in h d payload v x is = sym (ap (λ b. number_at b 108 4) x.begins ∙ key_is v) ∙ is.common.fields.key_bytes
 
 -- the area of a keyslot as the fields say it is the volume's, apart from the entry
-pub keyslot_at : (laws : HeaderLaws) (h : List ℕ) (d : Luks1) (payload : Data) (v : List ℕ) (n : ℕ) (s : Luks1Slot) (a : Area)
+pub keyslot_at : (h : List ℕ) (d : Luks1) (payload : Data) (v : List ℕ) (n : ℕ) (s : Luks1Slot) (a : Area)
     → IsHeaderOf h payload v → IsLuks1 h d → n < 8
     → a.start ≡ (slice_index_or d.slots n s).key_material_offset * 512
     → a.len ≡ rounded_to_sectors (d.common.key_bytes * (slice_index_or d.slots n s).stripes)
     → IsKeyslotAt v n (slice_index_or d.slots n s) a
-keyslot_at laws h d payload v n s a x is lt start len =
+keyslot_at h d payload v n s a x is lt start len =
     let says : HoldsEntry (entry v n) (slice_index_or d.slots n s) = ((slots_in h payload v d.slots x is.slots).each n s lt).fields in
     let start_at : a.start ≡ area_start v n = start ∙ ap (λ k. k * 512) (sym says.key_material_offset) in
     let len_at : a.len ≡ area_len v n =
@@ -54,7 +54,7 @@ keyslot_at laws h d payload v n s a x is lt start len =
       len = len_at;
       apart = λ p at in_area.
           let high = at.1 in
-          header_apart v payload (volume_of laws v payload x.chosen x.well).fit n p lt (omega (arith, high, lt))
+          header_apart v payload (volume_of v payload x.chosen x.well).fit n p lt (omega (arith, high, lt))
           (subst (λ k. IsAt (area_start v n) k p) len_at (subst (λ k. IsAt k a.len p) start_at in_area));
     }
 

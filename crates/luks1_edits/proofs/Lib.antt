@@ -8,6 +8,7 @@ pub mod KeyslotChoice
 pub mod KeyslotPlaces
 pub mod MadeKeyslotFacts
 pub mod MakingFacts
+pub mod NeedFacts
 pub mod NewKeyslotFacts
 pub mod OpenerFacts
 pub mod RefusalFacts

@@ -19,6 +19,12 @@ use Rattle.luks_slot.specs.declared.plan.SlotPlan.{SlotPlan}
 use Rattle.luks_slot.specs.Opening.{meets_digest, slot_key}
 use Rattle.luks_slot.specs.Refusal.{is_argon2, is_known_derivation, is_open_cipher, slot_refusal}
 use Rattle.luks_slot.specs.Sealing.{IsSealed}
+use Rattle.luks_kdf.specs.Names.{digest_size_of, each_at_least, hash_of, length-digest}
+use Rattle.luks_kdf.proofs.SplitterFacts.{merge-split}
+use Rattle.luks_slot.specs.Opening.{hash_by_name}
+use Rattle.luks_slot.proofs.OpeningFacts.{found_meets}
+use Rattle.luks_slot.proofs.SealingFacts.{sealed_opens}
+use Rattle.luks_head.proofs.ChoiceFacts.{choices_agree}
 use Rattle.luks_reading.specs.declared.open_fault.OpenFault.{OpenFault}
 use Rattle.luks_reading.specs.declared.open_fault.OpenFault.TheVariants.{Head, Meta, NoSuchSlot, SlotFree, Outside, Slot, Device, Memory}
 use Rattle.luks_reading.specs.declared.report.Data.{Data}
@@ -28,16 +34,8 @@ use Rattle.luks_reading.specs.Plans.{HasLuks1Plan, IsLuks1Cipher, IsLuks1Derivat
 use Rattle.luks1_edits.specs.Edited.{HoldsKey, IsMade}
 use Rattle.luks1_edits.specs.Places.{area_len, area_start}
 use Rattle.luks1_edits.proofs.AnswerFacts.{SameFront, common_or_entry, number_moves, same_front, text_moves}
-use Rattle.luks1_edits.proofs.HeaderFacts.{HeaderLaws, chosen_moves, common_moves, entry_is, front_moves, header_clear, len_is, number_same, start_is, volume_of}
+use Rattle.luks1_edits.proofs.HeaderFacts.{chosen_moves, common_moves, entry_is, front_moves, header_clear, len_is, number_same, start_is, volume_of}
 use Rattle.luks1_edits.proofs.KeptFacts.{area_inside}
-
--- the laws on keyslots that the facts here rest on
-pub record KeyslotLaws : Type 0 where
-  pub sealed : (plan : SlotPlan) (area passphrase key random : List ℕ)
-      → 1 ≤ plan.stripes → length key ≡ plan.key_bytes → length random ≡ (plan.stripes - 1) * plan.key_bytes
-      → IsSealed plan area passphrase key random
-      → slot_key plan area passphrase ≡ (if meets_digest plan.digest key then Some key else None)
-  pub found : (plan : SlotPlan) (area passphrase key : List ℕ) → slot_key plan area passphrase ≡ Some key → meets_digest plan.digest key ≡ true
 
 -- what two plans share whose headers say the same before the keyslots
 pub record SameTerms (a b : SlotPlan) : Type 0 where
@@ -109,22 +107,22 @@ pub record IsMadeFrom (payload : Data) (v : List ℕ) (opener : ℕ) (old : List
   pub made : IsMade (entry v n) (entry w n) iterations salt
   pub holds : HoldsKey w n new key random
 
-module _ (laws : HeaderLaws) (keyslots : KeyslotLaws) (payload : Data) (v : List ℕ) (opener : ℕ) (old : List ℕ) (n iterations : ℕ) (salt new key random w : List ℕ)
+module _ (payload : Data) (v : List ℕ) (opener : ℕ) (old : List ℕ) (n iterations : ℕ) (salt new key random w : List ℕ)
     (x : IsMadeFrom payload v opener old n iterations salt new key random w) where
   whole : IsLuks1Volume (part v 0 592) payload (length v)
-  whole = volume_of laws v payload x.chosen x.well
+  whole = volume_of v payload x.chosen x.well
 
   clear : (f : HeadFault) → IsLuks1HeadFault (part v 0 592) f → ⊥
-  clear = header_clear laws v payload x.chosen x.well
+  clear = header_clear v payload x.chosen x.well
 
   front : SameFront (part v 0 592) (part w 0 592)
   front = same_front v w x.common
 
   there : HasLuks1Plan (part v 0 592) opener x.opened.plan
-  there = subst (λ c. HasPlanAs v opener c x.opened.plan) (laws.one v x.opened.choice luks1 x.opened.chosen x.chosen) x.opened.is
+  there = subst (λ c. HasPlanAs v opener c x.opened.plan) (choices_agree v x.opened.choice luks1 x.opened.chosen x.chosen) x.opened.is
 
   unrefused_before : (f : OpenFault) → IsLuks1Refusal (part v 0 592) (length v) opener f → ⊥
-  unrefused_before f y = x.opened.unrefused f (subst (λ c. IsRefusalAs v opener c f) (sym (laws.one v x.opened.choice luks1 x.opened.chosen x.chosen)) y)
+  unrefused_before f y = x.opened.unrefused f (subst (λ c. IsRefusalAs v opener c f) (sym (choices_agree v x.opened.choice luks1 x.opened.chosen x.chosen)) y)
 
   terms : (b : SlotPlan) → HasLuks1Plan (part w 0 592) n b → SameTerms x.opened.plan b
   terms b is = same_terms (part v 0 592) (part w 0 592) (entry (part v 0 592) opener) (entry (part w 0 592) n) x.opened.plan b front there.is is.is
@@ -141,10 +139,12 @@ module _ (laws : HeaderLaws) (keyslots : KeyslotLaws) (payload : Data) (v : List
   -- the key meets the digest, which is the volume's
   meets : meets_digest x.holds.plan.digest key ≡ true
   meets = sym (same_digest x.opened.plan x.holds.plan key (terms x.holds.plan x.holds.is))
-      ∙ keyslots.found x.opened.plan (part v x.opened.plan.area.start x.opened.plan.area.len) old key x.opened.key
+      ∙ found_meets x.opened.plan (part v x.opened.plan.area.start x.opened.plan.area.len) old key x.opened.key
 
   found : slot_key x.holds.plan (part w x.holds.plan.area.start x.holds.plan.area.len) new ≡ Some key
-  found = keyslots.sealed x.holds.plan (part w x.holds.plan.area.start x.holds.plan.area.len) new key random striped x.holds.key_length x.holds.random_length x.holds.sealed
+  found = let hash = hash_by_name x.holds.plan.splitter_hash.now in
+      sealed_opens x.holds.plan (part w x.holds.plan.area.start x.holds.plan.area.len) new key random striped x.holds.key_length x.holds.random_length
+      (merge-split (hash_of hash) (digest_size_of hash) (length-digest hash) (each_at_least 1 digest_size_of refl hash)) x.holds.sealed
       ∙ ap (λ (b : Bool). if b then Some key else None) meets
 
   -- the new entry has no fault
@@ -179,7 +179,7 @@ module _ (laws : HeaderLaws) (keyslots : KeyslotLaws) (payload : Data) (v : List
 
   unrefused : (f : OpenFault) → IsLuks1Refusal (part w 0 592) (length w) n f → ⊥
   unrefused (Head f) y = elim (common_or_entry (part w 0 592) n f y) [
-    | inl z ↦ clear f (common_moves laws w v (sym x.common) f z).1
+    | inl z ↦ clear f (common_moves w v (sym x.common) f z).1
     | inr z ↦ entry_clear f z.fault
   ]
   unrefused (Meta f) y = y

@@ -27,7 +27,7 @@ use Rattle.luks1_edits.specs.Places.{area_len, area_start, entry_place, IsOfKeys
 use Rattle.luks1_edits.specs.Refused.{keyslot_need}
 use Rattle.luks1_edits.specs.Steps.{unsealed, IsKeyslotMade, IsUnmade}
 use Rattle.luks1_edits.proofs.AnswerFacts.{SameFront, plan_moves}
-use Rattle.luks1_edits.proofs.HeaderFacts.{HeaderLaws, entry_is, header_moves, key_is, volume_of}
+use Rattle.luks1_edits.proofs.HeaderFacts.{entry_is, header_moves, key_is, volume_of}
 use Rattle.luks1_edits.proofs.KeptFacts.{header_apart, kept_common}
 use Rattle.luks1_edits.proofs.StepFacts.{entry_range, entry_written}
 
@@ -73,7 +73,7 @@ module _ (h : List ℕ) (n : ℕ) (e : List ℕ) (iterations : ℕ) (salt : List
 
   -- ---- in the volume
 
-  module _ (laws : HeaderLaws) (payload : Data) (v : List ℕ) (of : IsHeaderOf h payload v) (lt : n < 8) where
+  module _ (payload : Data) (v : List ℕ) (of : IsHeaderOf h payload v) (lt : n < 8) where
     entry_in : entry h n ≡ entry v n
     entry_in = ap (λ b. entry b n) of.begins ∙ entry_is v n lt
 
@@ -104,7 +104,7 @@ module _ (h : List ℕ) (n : ℕ) (e : List ℕ) (iterations : ℕ) (salt : List
     apart : (p : ℕ) → IsAt plan.area.start plan.area.len p → IsAt (entry_place n) 48 p → ⊥
     apart p in_area at =
         let high = at.1 in
-        header_apart v payload (volume_of laws v payload of.chosen of.well).fit n p lt (omega (arith, high, lt))
+        header_apart v payload (volume_of v payload of.chosen of.well).fit n p lt (omega (arith, high, lt))
         (subst (λ k. IsAt (area_start v n) k p) len_at (subst (λ k. IsAt k plan.area.len p) start_at in_area))
 
     numbered : AreKeyslots (IsEither n n)
@@ -116,7 +116,7 @@ module _ (h : List ℕ) (n : ℕ) (e : List ℕ) (iterations : ℕ) (salt : List
         → SameBut (IsAt (entry_place n) 48) u w → entry w n ≡ e → IsKeyslotMade v n iterations passphrase key random w
     keyslot_made u w passphrase key random salt_is key_size random_size first sealed second written =
         let rest : SameBut (IsOfKeyslots v (IsEither n n)) v w = entry_touched u w first second in
-        let front : part w 0 208 ≡ part v 0 208 = kept_common v payload (volume_of laws v payload of.chosen of.well).fit w (IsEither n n) numbered rest in
+        let front : part w 0 208 ≡ part v 0 208 = kept_common v payload (volume_of v payload of.chosen of.well).fit w (IsEither n n) numbered rest in
         let moved : SameFront h (part w 0 592) = record { parts = λ o l within. ap (λ b. part b o l) of.begins ∙ sym (header_moves v w front o l within) } in
         record {
           rest = rest;

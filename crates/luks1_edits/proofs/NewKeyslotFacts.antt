@@ -4,6 +4,7 @@ use Rattle.luks_area.specs.Ranges.{part}
 use Rattle.luks_head.specs.Header1.{active_word, disabled_word, enabled_word, entry}
 use Rattle.luks_head.specs.Selection.{luks1}
 use Rattle.luks_slot.specs.declared.fault.SlotFault.{SlotFault}
+use Rattle.luks_head.proofs.ChoiceFacts.{choices_agree}
 use Rattle.luks_reading.specs.declared.check_fault.CheckFault.{CheckFault}
 use Rattle.luks_reading.specs.declared.open_fault.OpenFault.TheVariants as opening
 use Rattle.luks_reading.specs.declared.report.Data.{Data}
@@ -11,20 +12,21 @@ use Rattle.luks_reading.specs.Answer.{Answer, HasPlanAs, IsLuks1Refusal, IsRefus
 use Rattle.luks_reading.specs.Checked.{IsFault}
 use Rattle.luks_reading.specs.Plans.{HasLuks1Plan}
 use Rattle.luks_edit.specs.declared.edit.Edit.{Edit}
+use Rattle.luks_edit.specs.declared.edit.Edit.TheVariants.{Add, Change}
 use Rattle.luks_edit.specs.declared.edit_fault.EditFault.{EditFault}
 use Rattle.luks_edit.specs.declared.edit_fault.EditFault.TheVariants as fault
 use Rattle.luks_edit.specs.Asked.{HasFewIterations, OpensBy}
+use Rattle.luks_edit.specs.RowFacts.{Passed, first_of_row, next}
 use Rattle.luks1_edits.specs.Accepted.{IsHeaderOf, IsNewFault, IsNewFree, IsNewRefused, IsOpenedBy}
 use Rattle.luks1_edits.specs.Edited.{IsNewKeyslot}
 use Rattle.luks1_edits.specs.Leftovers.{IsSealedFirst, IsTorn1}
-use Rattle.luks1_edits.specs.Refused.{HasNoFree, IsLabel, IsLast, IsTaken, IsTakenFor, IsUnrefused1, keyslot_need, LacksFree, Need1, NeedsFor}
+use Rattle.luks1_edits.specs.Refused.{HasNoFree, IsEditFault1, IsLabel, IsLast, IsTaken, IsTakenFor, IsUnrefused1, keyslot_need, LacksFree, Need1, NeedsFor}
 use Rattle.luks1_edits.specs.Replies.{EndsBy1}
 use Rattle.luks1_edits.specs.Steps.{HasRefusedKeyslot, IsKeyslotMade, IsUnmade}
 use Rattle.luks1_edits.proofs.AnswerFacts.{SameFront}
 use Rattle.luks1_edits.proofs.EditedFacts.{new_once}
-use Rattle.luks1_edits.proofs.HeaderFacts.{HeaderLaws}
 use Rattle.luks1_edits.proofs.MadeKeyslotFacts.{same_refusal, same_terms}
-use Rattle.luks1_edits.proofs.RowFacts.{PassedNew, first_of_row, new_ends, opener_passed, unrefused}
+use Rattle.luks1_edits.proofs.RowFacts.{opener_passed, past_label, past_new, unrefused}
 
 -- the edit opens the keyslot `opener` by the passphrase, and makes the keyslot `to`, or the least free
 pub record IsMaking (v : List ℕ) (e : Edit) (opener : ℕ) (p : List ℕ) (to : Option ℕ) (iterations : ℕ) : Type 0 where
@@ -40,117 +42,116 @@ pub record IsMaking (v : List ℕ) (e : Edit) (opener : ℕ) (p : List ℕ) (to 
   pub need : (k : ℕ) → NeedsFor v (IsNewKeyslot v to) k → Need1 v e k
   pub need_only : (k : ℕ) → Need1 v e k → NeedsFor v (IsNewKeyslot v to) k
 
+-- an addition does, and so does a change
+abbrev pub MakingOf : List ℕ → Edit → Type 0
+MakingOf v (Add by_ old new to iterations) = IsMaking v (Add by_ old new to iterations) by_ old.now to iterations
+MakingOf v (Change slot old new iterations) = IsMaking v (Change slot old new iterations) slot old.now None iterations
+MakingOf v e = Unit {0}
+
+pub making : (v : List ℕ) (e : Edit) → MakingOf v e
+making v (Add by_ old new to iterations) = record {
+  asked = (refl, refl);
+  taken_is = λ y. y;
+  taken_only = λ y. y;
+  free_is = λ y. y;
+  free_only = λ y. y;
+  not_last = λ y. y;
+  no_label = λ y. y;
+  few_is = λ y. y;
+  few_only = λ y. y;
+  need = λ k y. y;
+  need_only = λ k y. y;
+}
+making v (Change slot old new iterations) = record {
+  asked = (refl, refl);
+  taken_is = λ y. y;
+  taken_only = λ y. y;
+  free_is = λ y. y;
+  free_only = λ y. y;
+  not_last = λ y. y;
+  no_label = λ y. y;
+  few_is = λ y. y;
+  few_only = λ y. y;
+  need = λ k y. y;
+  need_only = λ k y. y;
+}
+making v e = tt
+
 -- a keyslot that is free isn't taken
-free_untaken : (v : List ℕ) (to : Option ℕ) (n : ℕ) → IsNewFree v to n → IsTakenFor v to → ⊥
+pub free_untaken : (v : List ℕ) (to : Option ℕ) (n : ℕ) → IsNewFree v to n → IsTakenFor v to → ⊥
 free_untaken v (Some t) n new taken =
     let two : enabled_word ≡ disabled_word = sym taken.1 ∙ ap (λ k. active_word (entry v k)) (sym new.is_new) ∙ new.free.1 in
     omega (arith, two)
 free_untaken v None n new taken = taken
 
-free_found : (v : List ℕ) (to : Option ℕ) (n : ℕ) → IsNewFree v to n → LacksFree v to → ⊥
+pub free_found : (v : List ℕ) (to : Option ℕ) (n : ℕ) → IsNewFree v to n → LacksFree v to → ⊥
 free_found v (Some t) n new none = let low = new.free.0 in let same = new.is_new in omega (arith, low, same, none)
 free_found v None n new none = none n new.free
 
+-- a keyslot of the number asked for is there, taken or free
+pub taken_excludes : (v : List ℕ) (to : Option ℕ) → IsTakenFor v to → LacksFree v to → ⊥
+taken_excludes v (Some t) used over = let low = used.0 in omega (arith, low, over)
+taken_excludes v None used over = used
+
 -- no keyslot of the header is refused by its plan where one of them opens
-not_refused : (laws : HeaderLaws) (h : List ℕ) (payload : Data) (v : List ℕ) (opener : ℕ) (p key : List ℕ) (f : SlotFault) → IsHeaderOf h payload v
+not_refused : (h : List ℕ) (payload : Data) (v : List ℕ) (opener : ℕ) (p key : List ℕ) (f : SlotFault) → IsHeaderOf h payload v
     → Answer v opener p (opens key) → HasRefusedKeyslot h f → ⊥
-not_refused laws h payload v opener p key f of x bad =
-    let one = laws.one v x.choice luks1 x.chosen of.chosen in
+not_refused h payload v opener p key f of x bad =
+    let one = choices_agree v x.choice luks1 x.chosen of.chosen in
     let there : HasLuks1Plan (part v 0 592) opener x.plan = subst (λ c. HasPlanAs v opener c x.plan) one x.is in
     let front : SameFront (part v 0 592) h = record { parts = λ o l within. ap (λ b. part b o l) (sym of.begins) } in
     let terms = same_terms (part v 0 592) h (entry (part v 0 592) opener) bad.bytes x.plan bad.plan front there.is bad.is in
     let refusal : IsLuks1Refusal (part v 0 592) (length v) opener (opening.Slot f) = record { plan = x.plan; is = there; refused = same_refusal x.plan bad.plan terms ∙ bad.refused } in
     x.unrefused (opening.Slot f) (subst (λ c. IsRefusalAs v opener c (opening.Slot f)) (sym one) refusal)
 
-module _ (v : List ℕ) (payload : Data) (e : Edit) (r : List ℕ) (accepted : (f : CheckFault) → IsFault v payload f → ⊥)
-    (opener : ℕ) (p key : List ℕ) (to : Option ℕ) (iterations : ℕ) (is : IsMaking v e opener p to iterations) (opened : IsOpenedBy v opener p key) where
+module _ (v : List ℕ) (payload : Data) (e : Edit) (r : List ℕ) (opener : ℕ) (p key : List ℕ) (to : Option ℕ) (iterations : ℕ) (is : IsMaking v e opener p to iterations)
+    (h : List ℕ) (of : IsHeaderOf h payload v) (opened : IsOpenedBy v opener p key) where
+  before : Passed (IsEditFault1 v payload e r) 6
+  before = opener_passed v payload e r of.faultless opener p is.asked key opened
+
   -- none can be made
   pub none_made : (w : List ℕ) (f : EditFault) → w ≡ v → IsNewFault v to f → EndsBy1 payload v e r f w
-  none_made w f same bad = new_ends v payload e r accepted opener p is.asked key opened to is.taken_is is.taken_only is.free_is w f same bad
+  none_made w fault.SlotTaken same bad = (first_of_row (IsEditFault1 v payload e r) fault.SlotTaken refl before (is.taken_is bad), same)
+  none_made w fault.NoFreeSlot same bad = (
+    let s = IsEditFault1 v payload e r in
+        first_of_row s fault.NoFreeSlot refl (next s fault.SlotTaken refl before (λ taken. taken_excludes v to (is.taken_only taken) bad)) (is.free_is bad),
+    same,
+  )
+  none_made w f same bad = absurd bad
 
   module _ (n : ℕ) (new : IsNewFree v to n) where
-    new_passed : (k : ℕ) → PassedNew k v e
-    new_passed k = record { untaken = λ _ bad. free_untaken v to n new (is.taken_only bad); some_free = λ _ bad. free_found v to n new (is.free_only bad) }
+    made_passed : Passed (IsEditFault1 v payload e r) 9
+    made_passed = past_new v payload e r before (λ bad. free_untaken v to n new (is.taken_only bad)) (λ bad. free_found v to n new (is.free_only bad))
 
     need_is : (k : ℕ) → Need1 v e k → k ≡ keyslot_need v n
     need_is k needs = let x = is.need_only k needs in x.count ∙ ap (keyslot_need v) (new_once v to x.slot n x.is new.is_new)
 
+    enough_passed : 1000 ≤ iterations → Passed (IsEditFault1 v payload e r) 14
+    enough_passed many = past_label v payload e r made_passed is.not_last (λ few. let lt = is.few_only few in omega (arith, lt, many)) is.no_label
+
     -- its iterations or the random bytes are refused
     pub new_refused : (w : List ℕ) (f : EditFault) → w ≡ v → IsNewRefused v n iterations r f → EndsBy1 payload v e r f w
     new_refused w fault.Iterations same few = (
-      first_of_row v payload e r fault.Iterations refl
-          (record {
-            accepted = accepted;
-            opener = opener_passed v payload e r accepted opener p is.asked key opened 10;
-            new = new_passed 10;
-            rest = record { not_last = λ _. is.not_last; many = λ lt. absurd (omega (arith, lt)); no_label = λ lt. absurd (omega (arith, lt)); counted = λ lt. absurd (omega (arith, lt)) };
-          })
-          (is.few_is few),
+      let s = IsEditFault1 v payload e r in
+          first_of_row s fault.Iterations refl (next s fault.LastSlot refl made_passed is.not_last) (is.few_is few),
       same,
     )
     new_refused w fault.RandomLength same bad = (
-      first_of_row v payload e r fault.RandomLength refl
-          (record {
-            accepted = accepted;
-            opener = opener_passed v payload e r accepted opener p is.asked key opened 14;
-            new = new_passed 14;
-            rest = record {
-              not_last = λ _. is.not_last;
-              many = λ _ few. (let lt = is.few_only few in let enough = bad.many in omega (arith, lt, enough));
-              no_label = λ _. is.no_label;
-              counted = λ lt. absurd (omega (arith, lt));
-            };
-          })
+      first_of_row (IsEditFault1 v payload e r) fault.RandomLength refl (enough_passed bad.many)
           (record { need = keyslot_need v n; is = is.need (keyslot_need v n) (record { slot = n; is = new.is_new; count = refl }); other = bad.other }),
       same,
     )
-    new_refused w (fault.NotAccepted f) same bad = absurd bad
-    new_refused w fault.Requirements same bad = absurd bad
-    new_refused w fault.NoSuchSlot same bad = absurd bad
-    new_refused w fault.Locked same bad = absurd bad
-    new_refused w (fault.Slot f) same bad = absurd bad
-    new_refused w fault.SlotTaken same bad = absurd bad
-    new_refused w fault.NoFreeSlot same bad = absurd bad
-    new_refused w fault.NoRoom same bad = absurd bad
-    new_refused w fault.LastSlot same bad = absurd bad
-    new_refused w fault.BadLabel same bad = absurd bad
-    new_refused w fault.SeqExhausted same bad = absurd bad
-    new_refused w fault.MetadataFull same bad = absurd bad
-    new_refused w fault.Memory same bad = absurd bad
-    new_refused w fault.Device same bad = absurd bad
+    new_refused w f same bad = absurd bad
 
     module _ (many : 1000 ≤ iterations) (counted : length r ≡ keyslot_need v n) where
       pub making_unrefused : IsUnrefused1 v payload e r
-      making_unrefused = unrefused v payload e r (record {
-        accepted = accepted;
-        opener = opener_passed v payload e r accepted opener p is.asked key opened 17;
-        new = new_passed 17;
-        rest = record {
-          not_last = λ _. is.not_last;
-          many = λ _ few. (let lt = is.few_only few in omega (arith, lt, many));
-          no_label = λ _. is.no_label;
-          counted = λ _ bad. bad.other (counted ∙ sym (need_is bad.need bad.is));
-        };
-      })
+      making_unrefused = unrefused v payload e r (enough_passed many) (λ bad. bad.other (counted ∙ sym (need_is bad.need bad.is)))
 
       -- the keyslot wasn't made
-      pub unmade_ends : (laws : HeaderLaws) (h w : List ℕ) (f : EditFault) → IsHeaderOf h payload v → IsTorn1 v e r w → IsUnmade h f → EndsBy1 payload v e r f w
-      unmade_ends laws h w (fault.Slot f) of torn bad = absurd (not_refused laws h payload v opener p key f of opened.opened bad)
-      unmade_ends laws h w fault.Device of torn bad = inr (making_unrefused, torn)
-      unmade_ends laws h w (fault.NotAccepted f) of torn bad = absurd bad
-      unmade_ends laws h w fault.Requirements of torn bad = absurd bad
-      unmade_ends laws h w fault.NoSuchSlot of torn bad = absurd bad
-      unmade_ends laws h w fault.Locked of torn bad = absurd bad
-      unmade_ends laws h w fault.SlotTaken of torn bad = absurd bad
-      unmade_ends laws h w fault.NoFreeSlot of torn bad = absurd bad
-      unmade_ends laws h w fault.NoRoom of torn bad = absurd bad
-      unmade_ends laws h w fault.LastSlot of torn bad = absurd bad
-      unmade_ends laws h w fault.Iterations of torn bad = absurd bad
-      unmade_ends laws h w fault.BadLabel of torn bad = absurd bad
-      unmade_ends laws h w fault.SeqExhausted of torn bad = absurd bad
-      unmade_ends laws h w fault.MetadataFull of torn bad = absurd bad
-      unmade_ends laws h w fault.RandomLength of torn bad = absurd bad
-      unmade_ends laws h w fault.Memory of torn bad = absurd bad
+      pub unmade_ends : (w : List ℕ) (f : EditFault) → IsTorn1 v e r w → IsUnmade h f → EndsBy1 payload v e r f w
+      unmade_ends w (fault.Slot f) torn bad = absurd (not_refused h payload v opener p key f of opened.opened bad)
+      unmade_ends w fault.Device torn bad = inr (making_unrefused, torn)
+      unmade_ends w f torn bad = absurd bad
 
 -- ---- the same of an equal volume
 

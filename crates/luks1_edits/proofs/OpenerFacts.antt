@@ -7,6 +7,7 @@ use Rattle.luks_head.specs.Header1.{active_word, disabled_word, enabled_word, en
 use Rattle.luks_head.specs.Selection.{luks1, luks2}
 use Rattle.luks_head.specs.declared.fault.HeadFault.{HeadFault}
 use Rattle.luks_head.specs.declared.luks1.Luks1Slot.{Luks1Slot}
+use Rattle.luks_head.proofs.ChoiceFacts.{choices_agree}
 use Rattle.luks_reading.specs.declared.open_fault.OpenFault.{OpenFault}
 use Rattle.luks_reading.specs.declared.open_fault.OpenFault.TheVariants as opening
 use Rattle.luks_reading.specs.declared.report.Data.{Data}
@@ -16,7 +17,7 @@ use Rattle.luks_reading.specs.Checked.{IsLuks1Volume}
 use Rattle.luks1_edits.specs.Accepted.{IsHeaderOf, IsLockedBy, IsOpenedBy, IsUnopened, unopened}
 use Rattle.luks1_edits.specs.Edited.{IsFree, IsInUse}
 use Rattle.luks1_edits.proofs.AnswerFacts.{common_or_entry}
-use Rattle.luks1_edits.proofs.HeaderFacts.{HeaderLaws, entry_fault, entry_is, header_clear, volume_of}
+use Rattle.luks1_edits.proofs.HeaderFacts.{entry_fault, entry_is, header_clear, volume_of}
 
 -- the keyslots of the header are those of the volume
 pub slots_in : (h : List ℕ) (payload : Data) (v : List ℕ) (slots : List Luks1Slot) → IsHeaderOf h payload v → HoldsSlots h slots → HoldsSlots v slots
@@ -29,16 +30,16 @@ slots_in h payload v slots x holds = record {
 pub used_or_free : (v : List ℕ) (n : ℕ) → IsInUse v n → IsFree v n → ⊥
 used_or_free v n used free = let two : enabled_word ≡ disabled_word = sym used.1 ∙ free.1 in omega (arith, two)
 
-module _ (laws : HeaderLaws) (h : List ℕ) (payload : Data) (v : List ℕ) (x : IsHeaderOf h payload v)
+module _ (h : List ℕ) (payload : Data) (v : List ℕ) (x : IsHeaderOf h payload v)
     (once : (n : ℕ) (p : List ℕ) (a b : Opened) → Answer v n p a → Answer v n p b → IsSameAnswer a b) where
   whole : IsLuks1Volume (part v 0 592) payload (length v)
-  whole = volume_of laws v payload x.chosen x.well
+  whole = volume_of v payload x.chosen x.well
 
   clear : (f : HeadFault) → IsLuks1HeadFault (part v 0 592) f → ⊥
-  clear = header_clear laws v payload x.chosen x.well
+  clear = header_clear v payload x.chosen x.well
 
   as_luks1 : (n : ℕ) (p : List ℕ) (f : OpenFault) → Answer v n p (refused f) → IsLuks1Refusal (part v 0 592) (length v) n f
-  as_luks1 n p f is = subst (λ c. IsRefusalAs v n c f) (laws.one v is.0.choice luks1 is.0.chosen x.chosen) is.0.fault
+  as_luks1 n p f is = subst (λ c. IsRefusalAs v n c f) (choices_agree v is.0.choice luks1 is.0.chosen x.chosen) is.0.fault
 
   pub opened_by : (n : ℕ) (p key : List ℕ) (found : Option (List ℕ)) → IsInUse v n → found ≡ Some key → Answer v n p (opened_to found) → IsOpenedBy v n p key
   opened_by n p key found used is answer =
@@ -76,4 +77,4 @@ module _ (laws : HeaderLaws) (h : List ℕ) (payload : Data) (v : List ℕ) (x :
     answer = is;
   }
   unopened_by n p opening.Device used is = tt
-  unopened_by n p opening.Memory used is = let same = laws.one v luks1 (luks2 is.place is.copies) x.chosen is.chosen in cc
+  unopened_by n p opening.Memory used is = let same = choices_agree v luks1 (luks2 is.place is.copies) x.chosen is.chosen in cc

@@ -1,6 +1,5 @@
 -- The header of a LUKS1 volume that was accepted, and what is judged by it.
 use Rattle.std.specs.Prelude.{◌≡◌, ◌≢◌, ℕ, ◌<◌, ◌≤◌, List, length, Option, ⊤}
-use Rattle.luks_area.specs.First.{IsLeast}
 use Rattle.luks_area.specs.Ranges.{part}
 use Rattle.luks_head.specs.Header1.{luks1_size, IsLuks1}
 use Rattle.luks_head.specs.Selection.{luks1, Chosen}
@@ -8,12 +7,13 @@ use Rattle.luks_head.specs.declared.luks1.Luks1.{Luks1}
 use Rattle.luks_area.specs.declared.area.AreaFault.TheVariants as areas
 use Rattle.luks_area.specs.declared.area.AreaName.TheVariants as area_name
 use Rattle.luks_slot.specs.declared.fault.SlotFault.{SlotFault}
+use Rattle.luks_reading.specs.declared.check_fault.CheckFault.{CheckFault}
 use Rattle.luks_reading.specs.declared.check_fault.CheckFault.TheVariants as checking
 use Rattle.luks_reading.specs.declared.open_fault.OpenFault.{OpenFault}
 use Rattle.luks_reading.specs.declared.open_fault.OpenFault.TheVariants as opening
 use Rattle.luks_reading.specs.declared.report.Data.{Data}
 use Rattle.luks_reading.specs.Answer.{Answer, no_key, opens, refused}
-use Rattle.luks_reading.specs.Checked.{check_key, IsLuks1Fault, IsLuks1Volume, WellFormed}
+use Rattle.luks_reading.specs.Checked.{First, IsFault, IsLuks1Volume, WellFormed}
 use Rattle.luks_edit.specs.declared.edit_fault.EditFault.{EditFault}
 use Rattle.luks_edit.specs.declared.edit_fault.EditFault.TheVariants as fault
 use Rattle.luks1_edits.specs.declared.accepted.AcceptedHeader.{AcceptedHeader}
@@ -29,17 +29,17 @@ pub record IsAccepted (h : List ℕ) (d : Luks1) (payload : Data) (total : ℕ) 
 abbrev pub IsAcceptedAt : AcceptedHeader → ℕ → Type 0
 IsAcceptedAt a total = IsAccepted a.bytes.now a.fields a.data_ total
 
--- `h` is the header of the well formed LUKS1 volume `v`
+-- `h` is the header of the well formed LUKS1 volume `v`, which has no fault
 pub record IsHeaderOf (h : List ℕ) (payload : Data) (v : List ℕ) : Type 0 where
   pub chosen : Chosen v luks1
   pub begins : h ≡ part v 0 luks1_size
   pub well : WellFormed v payload
+  pub faultless : (f : CheckFault) → IsFault v payload f → ⊥
 
--- the volume isn't accepted, by the first fault of its header `h`
-abbrev pub IsUnaccepted : List ℕ → Data → ℕ → EditFault → Type 0
-IsUnaccepted h payload total (fault.NotAccepted f) =
-    IsLeast check_key (IsLuks1Fault h payload total) f
-IsUnaccepted h payload total f = ⊥
+-- the volume isn't accepted, by its first fault
+abbrev pub IsUnaccepted : List ℕ → Data → EditFault → Type 0
+IsUnaccepted v payload (fault.NotAccepted f) = First v payload f
+IsUnaccepted v payload f = ⊥
 
 -- ---- the keyslot that an edit opens
 

@@ -5,7 +5,7 @@ use Rattle.luks_edit.specs.declared.edit.Done.{Done}
 use Rattle.luks_edit.specs.declared.edit.Edit.{Edit}
 use Rattle.luks_edit.specs.declared.edit.Edit.TheVariants.{Add, Change, Remove, Repair, Label}
 use Rattle.luks_edit.specs.declared.edit_fault.EditFault.{EditFault}
-use Rattle.luks_edit.specs.declared.edit_fault.EditFault.TheVariants as fault
+use Rattle.luks_edit.specs.Endings.{EndsBy}
 use Rattle.luks1_edits.specs.Edited.{After1, IsLeastFree, IsNewKeyslot}
 use Rattle.luks1_edits.specs.Leftovers.{Leftover1}
 use Rattle.luks1_edits.specs.Refused.{IsUnrefused1, Refusal1}
@@ -33,9 +33,8 @@ pub record IsDone1
 
 -- the edit of the volume `v` ends with this fault, and leaves `w`; no memory is taken
 abbrev pub EndsBy1 : Data → List ℕ → Edit → List ℕ → EditFault → List ℕ → Type 0
-EndsBy1 payload v e random fault.Device w = Leftover1 v payload e random w
-EndsBy1 payload v e random fault.Memory w = ⊥
-EndsBy1 payload v e random f w = Refusal1 v payload e random f × (w ≡ v)
+EndsBy1 payload v e random f w =
+    EndsBy (λ g. Refusal1 v payload e random g × (w ≡ v)) ⊥ (Leftover1 v payload e random w) f
 
 -- the reply of the edit of the volume `v`, and the volume `w` that it leaves
 abbrev pub Replies1 : Data → List ℕ → Edit → List ℕ → Result Done EditFault → List ℕ → Type 0

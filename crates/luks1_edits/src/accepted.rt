@@ -1,10 +1,13 @@
 //! The header of a LUKS1 volume that was accepted.
-ghost use Rattle.std.specs.Prelude.{◌≡◌, IfOk, IfErr};
-ghost use Rattle.luks1_edits.specs.Accepted.{IsAcceptedAt, IsUnaccepted};
+ghost use Rattle.std.specs.Prelude.{◌≡◌, ◌≢◌, ℕ, List, false, length, IfOk, IfErr};
+ghost use Rattle.luks_edit.specs.EditFaults.{is_edit_failure};
+ghost use Rattle.luks_reading.specs.Header.{IsHeader};
+ghost use Rattle.luks_reading.specs.declared.header.Header.TheVariants.{Luks1 as OfLuks1};
+ghost use Rattle.luks1_edits.specs.Accepted.{IsAcceptedAt, IsHeaderOf, IsUnaccepted};
 
 use luks_edit::EditFault;
 use luks_head::Luks1;
-use luks_reading::{Data, judge_luks1};
+use luks_reading::{Data, judge_luks1, no_fault_is_well_formed};
 
 /// The header of a LUKS1 volume that was accepted.
 #[derive(Drop)]
@@ -24,10 +27,15 @@ pub(crate) fn accepted_header(
     total: u64,
 ) -> Result<AcceptedHeader<'_>, EditFault>
     ensures accepted { IfOk result (λ a. IsAcceptedAt a total) }
-    ensures bytes { IfOk result (λ a. a.bytes.now ≡ bytes.now) }
     ensures payload { IfOk result (λ a. a.data_ ≡ data_) }
-    ensures refused { IfErr result (IsUnaccepted bytes.now data_ total) }
+    ensures header { (v : List ℕ) → IsHeader v (OfLuks1 bytes.now) → length v ≡ total
+        → IfOk result (λ a. IsHeaderOf a.bytes.now data_ v) }
+    ensures own { IfErr result (λ f. is_edit_failure f ≡ false) }
+    ensures memory { IfErr result (λ f. f ≢ EditFault.Memory) }
+    ensures refused { (v : List ℕ) → IsHeader v (OfLuks1 bytes.now) → length v ≡ total
+        → IfErr result (IsUnaccepted v data_) }
 {
+    no_fault_is_well_formed();
     match judge_luks1(bytes.as_slice(), data_, total) {
         Ok(_) => Ok(AcceptedHeader {
             bytes,

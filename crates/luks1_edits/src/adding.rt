@@ -12,8 +12,6 @@ use crate::making::make_keyslot;
 use crate::unlocking::unlock;
 use luks_area::Device;
 use luks_edit::{Done, EditFault};
-use luks_head::{luks1_is_first_bytes, luks1_without_faults, one_choice};
-use luks_reading::no_fault_is_well_formed;
 use std::alloc::Global;
 
 /// Makes a keyslot, `to` or the least that is free, in which the new passphrase opens the key that
@@ -42,10 +40,6 @@ pub(crate) fn add<D: Device>(
         → Replies1 header.now.data_ (D.bytes device.old)
         (Add by_ old.entry new.entry to iterations) random.now result (D.bytes device.new) }
 {
-    one_choice();
-    luks1_is_first_bytes();
-    luks1_without_faults();
-    no_fault_is_well_formed();
     let key = unlock(alloc, device, header, by_, old)?;
     let n = new_keyslot(&header.fields, to)?;
     judge_new(&header.fields, n, iterations, random)?;

@@ -12,8 +12,7 @@ use crate::changing::change;
 use crate::removing::remove;
 use luks_area::Device;
 use luks_edit::{Done, Edit, EditFault};
-use luks_head::one_choice;
-use luks_reading::{Data, no_fault_is_well_formed};
+use luks_reading::Data;
 use std::alloc::Global;
 
 /// Applies the edit to the LUKS1 volume whose header has these 592 bytes, with as many random bytes
@@ -40,8 +39,6 @@ pub fn apply_luks1<D: Device>(
     ensures replies { D.tells → IsHeader (D.bytes device.old) (OfLuks1 header.now)
         → Replies1 data_ (D.bytes device.old) edit.now random.now result (D.bytes device.new) }
 {
-    one_choice();
-    no_fault_is_well_formed();
     let header = match accepted_header(header, data_, device.len()) {
         Ok(header) => header,
         Err(fault) => return Err(fault),

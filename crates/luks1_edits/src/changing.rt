@@ -13,8 +13,7 @@ use crate::making::make_keyslot;
 use crate::unlocking::unlock;
 use luks_area::Device;
 use luks_edit::{Done, EditFault};
-use luks_head::{luks1_is_first_bytes, luks1_without_faults, one_choice};
-use luks_reading::{luks1_area, no_fault_is_well_formed};
+use luks_reading::luks1_area;
 use std::alloc::Global;
 
 /// Makes the least free keyslot, in which the new passphrase opens the key that the old one opens
@@ -42,10 +41,6 @@ pub(crate) fn change<D: Device>(
         → Replies1 header.now.data_ (D.bytes device.old)
         (Change slot old.entry new.entry iterations) random.now result (D.bytes device.new) }
 {
-    one_choice();
-    luks1_is_first_bytes();
-    luks1_without_faults();
-    no_fault_is_well_formed();
     let key = unlock(alloc, device, header, slot, old)?;
     let n = new_keyslot(&header.fields, None)?;
     judge_new(&header.fields, n, iterations, random)?;

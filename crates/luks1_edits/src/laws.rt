@@ -18,20 +18,14 @@ ghost use Rattle.luks1_edits.specs.Leftovers.{IsUntorn, Leftover1, OpensEither1}
 ghost use Rattle.luks1_edits.specs.Places.{IsOfKeyslots};
 ghost use Rattle.luks1_edits.specs.Refused.{IsEditFault1, IsUnrefused1, Refusal1};
 
-use luks_head::{luks1_is_first_bytes, luks1_without_faults, one_choice};
 use luks_reading::one_answer;
-use luks_slot::{found_key_meets_digest, sealed_area_opens};
 
 /// The answer of a keyslot of LUKS1 depends on the 208 bytes before the keyslots, its entry, its
 /// area and the volume's length alone.
 pub fn luks1_answer_is_local()
     ensures { (n : ℕ) (v w p : List ℕ) (a : Opened) → Chosen v luks1 → HasSameKeyslot n v w
         → Answer v n p a ↔ Answer w n p a }
-{
-    one_choice();
-    luks1_is_first_bytes();
-    luks1_without_faults();
-}
+{}
 
 /// After an edit of a well formed LUKS1 volume that nothing refused, the volume is a well formed
 /// LUKS1 volume; its length, its segments and their bytes are as before, and so are the answers, the
@@ -50,11 +44,7 @@ pub fn luks1_edit_keeps_volume()
     ensures removed { (payload : Payload) (e : TheEdit) (v random w : List ℕ) (n : ℕ) (a : TheArea)
         → Chosen v luks1 → WellFormed v payload → After1 v e random w → Removes e n
         → AreaOf v payload (Slot n) a → part w a.start a.len ≡ replicate a.len 0 }
-{
-    one_choice();
-    luks1_is_first_bytes();
-    luks1_without_faults();
-}
+{}
 
 /// After an edit of a well formed LUKS1 volume that nothing refused, a keyslot that it made opens
 /// by its new passphrase to the key that the old one opened.
@@ -63,12 +53,7 @@ pub fn luks1_edit_opens()
         → Chosen v luks1 → WellFormed v payload → IsUnrefused1 v payload e random
         → After1 v e random w → OpensAfter1 v e w }
 {
-    one_choice();
-    luks1_is_first_bytes();
-    luks1_without_faults();
     one_answer();
-    sealed_area_opens();
-    found_key_meets_digest();
 }
 
 /// What a failing device call leaves of a well formed LUKS1 volume has its length and its segments'
@@ -93,12 +78,7 @@ pub fn luks1_failing_edit()
     ensures refused { (payload : Payload) (e : TheEdit) (v random w : List ℕ) (f : TheFault)
         → IsEditFault1 v payload e random f → Leftover1 v payload e random w → w ≡ v }
 {
-    one_choice();
-    luks1_is_first_bytes();
-    luks1_without_faults();
     one_answer();
-    sealed_area_opens();
-    found_key_meets_digest();
 }
 
 /// An edit has one refusal at most.

@@ -14,9 +14,7 @@ use crate::freeing::entry_bytes;
 use crate::steps::write_entry;
 use luks_area::Device;
 use luks_edit::EditFault;
-use luks_head::{
-    Luks1, Luks1Slot, SlotState, luks1_is_first_bytes, luks1_without_faults, one_choice,
-};
+use luks_head::{Luks1, Luks1Slot, SlotState};
 use luks_reading::luks1_plan;
 use luks_slot::{Key, SlotFault};
 use luks_steps::seal_area;
@@ -99,9 +97,6 @@ pub(crate) fn make_keyslot<D: Device>(
         → OnErr result (IsSealedFirst (D.bytes device.old) n iterations passphrase.now key.now
         random.now (D.bytes device.new)) }
 {
-    one_choice();
-    luks1_is_first_bytes();
-    luks1_without_faults();
     let slot = new_slot(&header.fields, n, iterations, random);
     let entry = entry_bytes(&header.fields, n, slot);
     let plan = luks1_plan(&header.fields.common, &slot);

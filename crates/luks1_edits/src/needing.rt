@@ -11,8 +11,8 @@ ghost use Rattle.luks1_edits.specs.Needed.{TellsNeed1};
 use crate::accepted::accepted_header;
 use crate::keyslots::{is_used, keyslot_need, new_keyslot};
 use luks_edit::{Edit, EditFault};
-use luks_head::{Luks1, one_choice};
-use luks_reading::{Data, no_fault_is_well_formed};
+use luks_head::Luks1;
+use luks_reading::Data;
 
 /// How many random bytes the edit takes of the LUKS1 volume of `total` bytes whose header has these
 /// 592 bytes, or the first of `NotAccepted`, `NoSuchSlot`, `SlotTaken` and `NoFreeSlot`.
@@ -30,8 +30,6 @@ pub fn needed_luks1(
     ensures tells { (v : List ℕ) → IsHeader v (OfLuks1 header.now) → length v ≡ total
         → TellsNeed1 data_ v edit.now result }
 {
-    one_choice();
-    no_fault_is_well_formed();
     let header = match accepted_header(header, data_, total) {
         Ok(header) => header,
         Err(fault) => return Err(fault),

@@ -12,8 +12,7 @@ use crate::keyslots::is_last;
 use crate::unlocking::unlock;
 use luks_area::Device;
 use luks_edit::{Done, EditFault};
-use luks_head::{luks1_is_first_bytes, luks1_without_faults, one_choice};
-use luks_reading::{luks1_area, no_fault_is_well_formed};
+use luks_reading::luks1_area;
 use std::alloc::Global;
 
 /// Removes the keyslot that the passphrase opens.
@@ -38,10 +37,6 @@ pub(crate) fn remove<D: Device>(
         → Replies1 header.now.data_ (D.bytes device.old) (Remove slot passphrase.entry)
         random.now result (D.bytes device.new) }
 {
-    one_choice();
-    luks1_is_first_bytes();
-    luks1_without_faults();
-    no_fault_is_well_formed();
     unlock(alloc, device, header, slot, passphrase)?;
     if is_last(&header.fields, slot) {
         return Err(EditFault::LastSlot);

@@ -10,7 +10,6 @@ use crate::accepted::AcceptedHeader;
 use crate::keyslots::is_used;
 use luks_area::{AreaFault, AreaName, Device};
 use luks_edit::EditFault;
-use luks_head::{luks1_is_first_bytes, luks1_without_faults, one_choice};
 use luks_reading::{CheckFault, Header, OpenFault, one_answer, open_header_slot};
 use luks_slot::Key;
 use std::alloc::Global;
@@ -56,9 +55,6 @@ pub(crate) fn unlock<D: Device>(
         → IsHeaderOf header.now.bytes.now header.now.data_ (D.bytes device.old)
         → IfErr result (IsUnopened (D.bytes device.old) n passphrase.now) }
 {
-    one_choice();
-    luks1_is_first_bytes();
-    luks1_without_faults();
     one_answer();
     if n > 7 || !is_used(&header.fields, n) {
         return Err(EditFault::NoSuchSlot);

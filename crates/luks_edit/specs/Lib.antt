@@ -4,3 +4,4 @@ pub mod Kept
 pub mod Ran
 pub mod Opener
 pub mod RowFacts
+pub mod Endings

@@ -1,23 +1,18 @@
 use Rattle.luks1_edits.proofs.EditedFacts.{keeps, leaves, removed_area}
-use Rattle.luks1_edits.proofs.HeaderFacts.{HeaderLaws}
 use Rattle.luks1_edits.proofs.laws.luks1_edit_keeps_volume.Goals as goal
 
 pub returns-clause-keeps : goal.returns-clause-keeps
 returns-clause-keeps c = λ payload e v random w chosen well free after.
-    let laws : HeaderLaws = record { one = c.one_choice.ensures.only; common = c.luks1_is_first_bytes.ensures.common_faults; faultless = c.luks1_without_faults.ensures.header } in
-    keeps laws payload v chosen well e random w free after
+    keeps payload v chosen well e random w free after
 
 pub returns-clause-chosen : goal.returns-clause-chosen
 returns-clause-chosen c = λ payload e v random w chosen well free after.
-    let laws : HeaderLaws = record { one = c.one_choice.ensures.only; common = c.luks1_is_first_bytes.ensures.common_faults; faultless = c.luks1_without_faults.ensures.header } in
-    (leaves laws payload v chosen well e random w free after).chosen
+    (leaves payload v chosen well e random w free after).chosen
 
 pub returns-clause-rest : goal.returns-clause-rest
 returns-clause-rest c = λ payload e v random w chosen well free after.
-    let laws : HeaderLaws = record { one = c.one_choice.ensures.only; common = c.luks1_is_first_bytes.ensures.common_faults; faultless = c.luks1_without_faults.ensures.header } in
-    (leaves laws payload v chosen well e random w free after).rest
+    (leaves payload v chosen well e random w free after).rest
 
 pub returns-clause-removed : goal.returns-clause-removed
 returns-clause-removed c = λ payload e v random w n a chosen well after is has.
-    let laws : HeaderLaws = record { one = c.one_choice.ensures.only; common = c.luks1_is_first_bytes.ensures.common_faults; faultless = c.luks1_without_faults.ensures.header } in
-    removed_area laws payload v chosen well e random w n a after is has
+    removed_area payload v chosen well e random w n a after is has

@@ -1,5 +1,4 @@
 use Rattle.std.proofs.Common.{length, take, refl, ap, subst, ◌∙◌, arith, inl, inr}
-use Rattle.luks1_edits.proofs.HeaderFacts.{HeaderLaws}
 use Rattle.luks1_edits.proofs.KeptFacts.{header_inside}
 use Rattle.luks1_edits.proofs.MakingFacts.{area_torn, entry_torn, IsNewPlan, keyslot_made, new_plan, plan_inside, plan_key_length, plan_random_length, sealed_rest, unsealed_unmade}
 use Rattle.luks_slot.specs.Opening.{area_bytes}
@@ -68,8 +67,7 @@ returns-in-Err-clause-torn g c = λ tells x.
     let p : IsNewPlan h c.args.n c.entry_bytes-entry.result c.args.iterations (take 32 c.args.random.now) c.luks1_plan-plan.result =
     new_plan h c.args.header.now.fields c.args.n c.entry_bytes-entry.result c.new_slot-slot.result c.args.iterations (take 32 c.args.random.now) c.luks1_plan-plan.result
     c.requires.accepted.fields c.requires.numbered c.requires.iterated c.new_slot-slot.ensures c.entry_bytes-entry.ensures c.luks1_plan-plan.ensures.is c.luks1_plan-plan.ensures.judged in
-    let laws : HeaderLaws = record { one = c.one_choice.ensures.only; common = c.luks1_is_first_bytes.ensures.common_faults; faultless = c.luks1_without_faults.ensures.header } in
-    inl (area_torn h c.args.n c.entry_bytes-entry.result c.args.iterations (take 32 c.args.random.now) c.luks1_plan-plan.result p laws c.args.header.now.data_ (g.D.Device.bytes c.args.device.now) x c.requires.numbered (g.D.Device.bytes c.seal_area.new.device) (sealed_rest c.luks1_plan-plan.result p.openable.sectors (c.seal_area.ensures.rest tells)))
+    inl (area_torn h c.args.n c.entry_bytes-entry.result c.args.iterations (take 32 c.args.random.now) c.luks1_plan-plan.result p c.args.header.now.data_ (g.D.Device.bytes c.args.device.now) x c.requires.numbered (g.D.Device.bytes c.seal_area.new.device) (sealed_rest c.luks1_plan-plan.result p.openable.sectors (c.seal_area.ensures.rest tells)))
 
 pub write_entry-requires-clause-within : goal.write_entry-requires-clause-within
 write_entry-requires-clause-within g c =
@@ -83,10 +81,9 @@ returns-in-Ok-write_entry-clause-made g c = λ tells x.
     let p : IsNewPlan h c.args.n c.entry_bytes-entry.result c.args.iterations (take 32 c.args.random.now) c.luks1_plan-plan.result =
     new_plan h c.args.header.now.fields c.args.n c.entry_bytes-entry.result c.new_slot-slot.result c.args.iterations (take 32 c.args.random.now) c.luks1_plan-plan.result
     c.requires.accepted.fields c.requires.numbered c.requires.iterated c.new_slot-slot.ensures c.entry_bytes-entry.ensures c.luks1_plan-plan.ensures.is c.luks1_plan-plan.ensures.judged in
-    let laws : HeaderLaws = record { one = c.one_choice.ensures.only; common = c.luks1_is_first_bytes.ensures.common_faults; faultless = c.luks1_without_faults.ensures.header } in
     let sealed = c.in-Ok.ensures.sealed tells in
     let same = c.stripes_in.ensures in
-    keyslot_made h c.args.n c.entry_bytes-entry.result c.args.iterations (take 32 c.args.random.now) c.luks1_plan-plan.result p laws c.args.header.now.data_ (g.D.Device.bytes c.args.device.now) x c.requires.numbered (g.D.Device.bytes c.seal_area.new.device) (g.D.Device.bytes c.write_entry.new.device)
+    keyslot_made h c.args.n c.entry_bytes-entry.result c.args.iterations (take 32 c.args.random.now) c.luks1_plan-plan.result p c.args.header.now.data_ (g.D.Device.bytes c.args.device.now) x c.requires.numbered (g.D.Device.bytes c.seal_area.new.device) (g.D.Device.bytes c.write_entry.new.device)
     c.args.passphrase.now c.args.key.now c.args.random.now refl c.requires.key_length c.requires.random_length (sealed_rest c.luks1_plan-plan.result p.openable.sectors (c.seal_area.ensures.rest tells)) (subst (λ r. IsSealed c.luks1_plan-plan.result (area_bytes (g.D.Device.bytes c.seal_area.new.device) c.luks1_plan-plan.result.area) c.args.passphrase.now c.args.key.now r) same sealed)
     (c.write_entry.ensures.rest tells) (c.in-Ok-write_entry.ensures.entry tells)
 
@@ -96,9 +93,8 @@ returns-in-Err-write_entry-clause-torn g c = λ tells x.
     let p : IsNewPlan h c.args.n c.entry_bytes-entry.result c.args.iterations (take 32 c.args.random.now) c.luks1_plan-plan.result =
     new_plan h c.args.header.now.fields c.args.n c.entry_bytes-entry.result c.new_slot-slot.result c.args.iterations (take 32 c.args.random.now) c.luks1_plan-plan.result
     c.requires.accepted.fields c.requires.numbered c.requires.iterated c.new_slot-slot.ensures c.entry_bytes-entry.ensures c.luks1_plan-plan.ensures.is c.luks1_plan-plan.ensures.judged in
-    let laws : HeaderLaws = record { one = c.one_choice.ensures.only; common = c.luks1_is_first_bytes.ensures.common_faults; faultless = c.luks1_without_faults.ensures.header } in
     let sealed = c.in-Ok.ensures.sealed tells in
     let same = c.stripes_in.ensures in
-    inr (entry_torn h c.args.n c.entry_bytes-entry.result c.args.iterations (take 32 c.args.random.now) c.luks1_plan-plan.result p laws c.args.header.now.data_ (g.D.Device.bytes c.args.device.now) x c.requires.numbered (g.D.Device.bytes c.seal_area.new.device) (g.D.Device.bytes c.write_entry.new.device)
+    inr (entry_torn h c.args.n c.entry_bytes-entry.result c.args.iterations (take 32 c.args.random.now) c.luks1_plan-plan.result p c.args.header.now.data_ (g.D.Device.bytes c.args.device.now) x c.requires.numbered (g.D.Device.bytes c.seal_area.new.device) (g.D.Device.bytes c.write_entry.new.device)
     c.args.passphrase.now c.args.key.now c.args.random.now refl c.requires.key_length c.requires.random_length c.entry_bytes-entry.ensures.long (sealed_rest c.luks1_plan-plan.result p.openable.sectors (c.seal_area.ensures.rest tells)) (subst (λ r. IsSealed c.luks1_plan-plan.result (area_bytes (g.D.Device.bytes c.seal_area.new.device) c.luks1_plan-plan.result.area) c.args.passphrase.now c.args.key.now r) same sealed)
     (c.write_entry.ensures.rest tells))

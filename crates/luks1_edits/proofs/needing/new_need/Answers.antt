@@ -1,6 +1,6 @@
 use Rattle.std.proofs.Common.{refl}
 use Rattle.std.proofs.lemmas.Result.{err_from_is_err_and}
-use Rattle.luks1_edits.proofs.AcceptedFacts.{fault_of_used}
+use Rattle.luks1_edits.proofs.NeedFacts.{fault_of_used}
 use Rattle.luks1_edits.proofs.needing.new_need.Goals as goal
 
 pub returns-in_err-n-clause-need : goal.returns-in_err-n-clause-need

@@ -1,76 +1,38 @@
 use Rattle.std.proofs.Common.{refl, arith}
 use Rattle.std.proofs.lemmas.Result.{err_from_is_err_and}
+use Rattle.luks_edit.specs.declared.edit.Edit.{Edit}
 use Rattle.luks_edit.specs.declared.edit.Edit.TheVariants.{Remove}
 use Rattle.luks_area.specs.DeviceFacts.{settled_unchanged}
-use Rattle.luks1_edits.proofs.HeaderFacts.{HeaderLaws}
 use Rattle.luks1_edits.proofs.KeyslotPlaces.{half_removed_same, keyslot_at, keyslot_at_same, keyslot_inside, removed_same}
 use Rattle.luks1_edits.proofs.KeptFacts.{header_inside}
 use Rattle.luks1_edits.proofs.OpenerFacts.{slots_in}
-use Rattle.luks1_edits.proofs.RemovalFacts.{IsRemoval, last_refused, random_refused, removal_done, removal_torn}
+use Rattle.luks1_edits.proofs.RemovalFacts.{last_refused, random_refused, removal, removal_done, removal_torn}
 use Rattle.luks1_edits.proofs.RowFacts.{unopened_ends}
 use Rattle.luks1_edits.proofs.removing.remove.Goals as goal
 
 pub returns-in_err-unlock-clause-replies : goal.returns-in_err-unlock-clause-replies
 returns-in_err-unlock-clause-replies g c = λ tells x.
     let v = g.D.Device.bytes c.args.device.now in
-    let payload = c.args.header.now.data_ in
+    let a = c.args.header.now in
+    let e : Edit = Remove c.args.slot c.args.passphrase in
     let p = err_from_is_err_and c.from_residual.result c.from_residual.ensures.1 in
     rw (p.1, p.2)
-    (unopened_ends v payload (Remove c.args.slot c.args.passphrase) c.args.random.now ((c.no_fault_is_well_formed.ensures v payload).0 x.well) c.args.slot c.args.passphrase.now (refl, refl)
+    (unopened_ends v a.data_ e c.args.random.now x.faultless c.args.slot c.args.passphrase.now (refl, refl)
     (g.D.Device.bytes c.unlock.new.device) c.in_err-unlock.field-0.0 (c.unlock.ensures.unchanged.same tells) (c.in_err-unlock.ensures.refused tells x))
 
 pub returns-then-is_last-clause-replies : goal.returns-then-is_last-clause-replies
 returns-then-is_last-clause-replies g c = λ tells x.
     let v = g.D.Device.bytes c.args.device.now in
-    let h = c.args.header.now.bytes.now in
-    let payload = c.args.header.now.data_ in
-    let e = Remove c.args.slot c.args.passphrase in
-    let is : IsRemoval v e c.args.slot c.args.passphrase.now c.args.random.now = record {
-      asked = (refl, refl);
-      untaken = λ y. y;
-      some_free = λ y. y;
-      last_is = λ y. y;
-      last_only = λ y. y;
-      many = λ y. y;
-      no_label = λ y. y;
-      need = refl;
-      need_only = λ k y. y;
-      after = λ w y. y;
-      torn = λ w y. y;
-      told = refl;
-    } in (
-      last_refused v payload e c.args.random.now ((c.no_fault_is_well_formed.ensures v payload).0 x.well) c.args.slot c.args.passphrase.now c.in_ok-unlock.field-0 is
-          (c.in_ok-unlock.ensures.opened tells x)
-          (c.if-is_last.ensures.last refl v (slots_in h payload v c.args.header.now.fields.slots x c.requires.accepted.fields.slots)),
-      c.unlock.ensures.unchanged.same tells,
-    )
+    let a = c.args.header.now in
+    let e : Edit = Remove c.args.slot c.args.passphrase in
+    (last_refused v a.data_ e c.args.random.now c.args.slot c.args.passphrase.now c.in_ok-unlock.field-0 (removal v e c.args.random.now) a.bytes.now x (c.in_ok-unlock.ensures.opened tells x) (c.if-is_last.ensures.last refl v (slots_in a.bytes.now a.data_ v a.fields.slots x c.requires.accepted.fields.slots)), c.unlock.ensures.unchanged.same tells)
 
 pub returns-then-random-ne0-clause-replies : goal.returns-then-random-ne0-clause-replies
 returns-then-random-ne0-clause-replies g c = λ tells x.
     let v = g.D.Device.bytes c.args.device.now in
-    let h = c.args.header.now.bytes.now in
-    let payload = c.args.header.now.data_ in
-    let e = Remove c.args.slot c.args.passphrase in
-    let is : IsRemoval v e c.args.slot c.args.passphrase.now c.args.random.now = record {
-      asked = (refl, refl);
-      untaken = λ y. y;
-      some_free = λ y. y;
-      last_is = λ y. y;
-      last_only = λ y. y;
-      many = λ y. y;
-      no_label = λ y. y;
-      need = refl;
-      need_only = λ k y. y;
-      after = λ w y. y;
-      torn = λ w y. y;
-      told = refl;
-    } in (
-      random_refused v payload e c.args.random.now ((c.no_fault_is_well_formed.ensures v payload).0 x.well) c.args.slot c.args.passphrase.now c.in_ok-unlock.field-0 is
-          (c.in_ok-unlock.ensures.opened tells x)
-          (c.if-is_last.ensures.other refl v (slots_in h payload v c.args.header.now.fields.slots x c.requires.accepted.fields.slots))
-          c.if-random-ne0.true,
-      c.unlock.ensures.unchanged.same tells,
-    )
+    let a = c.args.header.now in
+    let e : Edit = Remove c.args.slot c.args.passphrase in
+    (random_refused v a.data_ e c.args.random.now c.args.slot c.args.passphrase.now c.in_ok-unlock.field-0 (removal v e c.args.random.now) a.bytes.now x (c.in_ok-unlock.ensures.opened tells x) (c.if-is_last.ensures.other refl v (slots_in a.bytes.now a.data_ v a.fields.slots x c.requires.accepted.fields.slots)) c.if-random-ne0.true, c.unlock.ensures.unchanged.same tells)
 
 pub free_keyslot-requires-clause-within : goal.free_keyslot-requires-clause-within
 free_keyslot-requires-clause-within g c =
@@ -88,62 +50,26 @@ free_keyslot-requires-clause-inside g c =
 pub returns-in-Ok-clause-replies : goal.returns-in-Ok-clause-replies
 returns-in-Ok-clause-replies g c = λ tells x.
     let v = g.D.Device.bytes c.args.device.now in
-    let w = g.D.Device.bytes c.free_keyslot.new.device in
-    let h = c.args.header.now.bytes.now in
-    let payload = c.args.header.now.data_ in
-    let e = Remove c.args.slot c.args.passphrase in
-    let laws : HeaderLaws = record { one = c.one_choice.ensures.only; common = c.luks1_is_first_bytes.ensures.common_faults; faultless = c.luks1_without_faults.ensures.header } in
-    let is : IsRemoval v e c.args.slot c.args.passphrase.now c.args.random.now = record {
-      asked = (refl, refl);
-      untaken = λ y. y;
-      some_free = λ y. y;
-      last_is = λ y. y;
-      last_only = λ y. y;
-      many = λ y. y;
-      no_label = λ y. y;
-      need = refl;
-      need_only = λ k y. y;
-      after = λ w y. y;
-      torn = λ w y. y;
-      told = refl;
-    } in
-    let at = keyslot_at laws h c.args.header.now.fields payload v c.args.slot _ c.luks1_area-area.result x c.requires.accepted.fields
+    let a = c.args.header.now in
+    let e : Edit = Remove c.args.slot c.args.passphrase in
+    let at = keyslot_at a.bytes.now a.fields a.data_ v c.args.slot _ c.luks1_area-area.result x c.requires.accepted.fields
     c.in_ok-unlock.ensures.numbered c.luks1_area-area.ensures.start c.luks1_area-area.ensures.len in
-    removal_done v payload e c.args.random.now ((c.no_fault_is_well_formed.ensures v payload).0 x.well) c.args.slot c.args.passphrase.now c.in_ok-unlock.field-0 is
-    (c.in_ok-unlock.ensures.opened tells x)
-    (c.if-is_last.ensures.other refl v (slots_in h payload v c.args.header.now.fields.slots x c.requires.accepted.fields.slots))
-    c.if-random-ne0.false w
-    (removed_same (c.unlock.ensures.unchanged.same tells) (c.in-Ok.ensures.removed tells (keyslot_at_same (c.unlock.ensures.unchanged.same tells) at)))
+    let same = c.unlock.ensures.unchanged.same tells in
+    let w = g.D.Device.bytes c.free_keyslot.new.device in
+    removal_done v a.data_ e c.args.random.now c.args.slot c.args.passphrase.now c.in_ok-unlock.field-0 (removal v e c.args.random.now) a.bytes.now x (c.in_ok-unlock.ensures.opened tells x)
+    (c.if-is_last.ensures.other refl v (slots_in a.bytes.now a.data_ v a.fields.slots x c.requires.accepted.fields.slots)) c.if-random-ne0.false w (removed_same same (c.in-Ok.ensures.removed tells (keyslot_at_same same at)))
 
 pub returns-in-Err-clause-replies : goal.returns-in-Err-clause-replies
 returns-in-Err-clause-replies g c = λ tells x.
     let v = g.D.Device.bytes c.args.device.now in
-    let w = g.D.Device.bytes c.free_keyslot.new.device in
-    let h = c.args.header.now.bytes.now in
-    let payload = c.args.header.now.data_ in
-    let e = Remove c.args.slot c.args.passphrase in
-    let laws : HeaderLaws = record { one = c.one_choice.ensures.only; common = c.luks1_is_first_bytes.ensures.common_faults; faultless = c.luks1_without_faults.ensures.header } in
-    let is : IsRemoval v e c.args.slot c.args.passphrase.now c.args.random.now = record {
-      asked = (refl, refl);
-      untaken = λ y. y;
-      some_free = λ y. y;
-      last_is = λ y. y;
-      last_only = λ y. y;
-      many = λ y. y;
-      no_label = λ y. y;
-      need = refl;
-      need_only = λ k y. y;
-      after = λ w y. y;
-      torn = λ w y. y;
-      told = refl;
-    } in
-    let at = keyslot_at laws h c.args.header.now.fields payload v c.args.slot _ c.luks1_area-area.result x c.requires.accepted.fields
+    let a = c.args.header.now in
+    let e : Edit = Remove c.args.slot c.args.passphrase in
+    let at = keyslot_at a.bytes.now a.fields a.data_ v c.args.slot _ c.luks1_area-area.result x c.requires.accepted.fields
     c.in_ok-unlock.ensures.numbered c.luks1_area-area.ensures.start c.luks1_area-area.ensures.len in
-    removal_torn v payload e c.args.random.now ((c.no_fault_is_well_formed.ensures v payload).0 x.well) c.args.slot c.args.passphrase.now c.in_ok-unlock.field-0 is
-    (c.in_ok-unlock.ensures.opened tells x)
-    (c.if-is_last.ensures.other refl v (slots_in h payload v c.args.header.now.fields.slots x c.requires.accepted.fields.slots))
-    c.if-random-ne0.false w
-    (half_removed_same (c.unlock.ensures.unchanged.same tells) (c.in-Err.ensures.torn tells (keyslot_at_same (c.unlock.ensures.unchanged.same tells) at)))
+    let same = c.unlock.ensures.unchanged.same tells in
+    let w = g.D.Device.bytes c.free_keyslot.new.device in
+    removal_torn v a.data_ e c.args.random.now c.args.slot c.args.passphrase.now c.in_ok-unlock.field-0 (removal v e c.args.random.now) a.bytes.now x (c.in_ok-unlock.ensures.opened tells x)
+    (c.if-is_last.ensures.other refl v (slots_in a.bytes.now a.data_ v a.fields.slots x c.requires.accepted.fields.slots)) c.if-random-ne0.false w (half_removed_same same (c.in-Err.ensures.torn tells (keyslot_at_same same at)))
 
 pub returns-in_err-unlock-clause-settled : goal.returns-in_err-unlock-clause-settled
 returns-in_err-unlock-clause-settled g c = λ tells same. settled_unchanged tells c.unlock.ensures.unchanged (c.requires.settled tells)

@@ -1,5 +1,4 @@
 use Rattle.std.proofs.Common.{refl, arith}
-use Rattle.luks1_edits.proofs.HeaderFacts.{HeaderLaws}
 use Rattle.luks1_edits.proofs.OpenerFacts.{locked_by, opened_by, slots_in, unopened_by, used_or_free}
 use Rattle.luks1_edits.proofs.unlocking.unlock.Goals as goal
 use Rattle.luks1_edits.proofs.unlocking.unlock.Goals.{then-n-gt7-via-then-n-gt7, then-n-gt7-via-else-n-gt7+then-not-is_used}
@@ -18,9 +17,8 @@ returns-in-Some-clause-opened g c = λ tells x.
     let v = g.D.Device.bytes c.args.device.now in
     let h = c.args.header.now.bytes.now in
     let payload = c.args.header.now.data_ in
-    let laws : HeaderLaws = record { one = c.one_choice.ensures.only; common = c.luks1_is_first_bytes.ensures.common_faults; faultless = c.luks1_without_faults.ensures.header } in
     let used = c.if-not-is_used.ensures.used refl v (slots_in h payload v c.args.header.now.fields.slots x c.requires.accepted.fields.slots) in
-    opened_by laws h payload v x (c.one_answer.ensures v) c.args.n c.args.passphrase.now c.in-Some.key c.in-Ok.found used c.in-Some.is
+    opened_by h payload v x (c.one_answer.ensures v) c.args.n c.args.passphrase.now c.in-Some.key c.in-Ok.found used c.in-Some.is
     (c.in-Ok.ensures.opens tells (x.chosen, x.begins))
 
 pub returns-in-Ok-clause-refused : goal.returns-in-Ok-clause-refused
@@ -28,16 +26,14 @@ returns-in-Ok-clause-refused g c = λ tells x.
     let v = g.D.Device.bytes c.args.device.now in
     let h = c.args.header.now.bytes.now in
     let payload = c.args.header.now.data_ in
-    let laws : HeaderLaws = record { one = c.one_choice.ensures.only; common = c.luks1_is_first_bytes.ensures.common_faults; faultless = c.luks1_without_faults.ensures.header } in
     let used = c.if-not-is_used.ensures.used refl v (slots_in h payload v c.args.header.now.fields.slots x c.requires.accepted.fields.slots) in
-    locked_by laws h payload v x (c.one_answer.ensures v) c.args.n c.args.passphrase.now c.in-Ok.found used c.in-None.is (c.in-Ok.ensures.opens tells (x.chosen, x.begins))
+    locked_by h payload v x (c.one_answer.ensures v) c.args.n c.args.passphrase.now c.in-Ok.found used c.in-None.is (c.in-Ok.ensures.opens tells (x.chosen, x.begins))
 
 pub returns-clause-refused : goal.returns-clause-refused
 returns-clause-refused g c = λ tells x.
     let v = g.D.Device.bytes c.args.device.now in
     let h = c.args.header.now.bytes.now in
     let payload = c.args.header.now.data_ in
-    let laws : HeaderLaws = record { one = c.one_choice.ensures.only; common = c.luks1_is_first_bytes.ensures.common_faults; faultless = c.luks1_without_faults.ensures.header } in
     let used = c.if-not-is_used.ensures.used refl v (slots_in h payload v c.args.header.now.fields.slots x c.requires.accepted.fields.slots) in
     rw c.unopened.ensures
-    (unopened_by laws h payload v x (c.one_answer.ensures v) c.args.n c.args.passphrase.now c.in-Err.fault used (c.in-Err.ensures.refused tells (x.chosen, x.begins)))
+    (unopened_by h payload v x (c.one_answer.ensures v) c.args.n c.args.passphrase.now c.in-Err.fault used (c.in-Err.ensures.refused tells (x.chosen, x.begins)))
