@@ -16,3 +16,4 @@ mod TornFacts
 mod TouchedFacts
 mod UniqueFacts
 mod VolumeFacts
+pub mod VolumeLaws
