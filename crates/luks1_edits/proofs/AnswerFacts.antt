@@ -1,6 +1,6 @@
 -- The answer of a keyslot of LUKS1 depends on the fields before the keyslots, its entry, its area and
 -- the volume's length alone.
-use Rattle.std.proofs.Common.{◌≡◌, ℕ, ◌+◌, ◌*◌, ◌<◌, ◌≤◌, ◌⊎◌, List, length, subst, sym, ap, ◌∙◌, lit≤, Option, Some, None, inl, inr}
+use Rattle.std.proofs.Common.{◌≡◌, ℕ, ◌+◌, ◌*◌, ◌<◌, ◌≤◌, ◌⊎◌, List, length, subst, sym, ap, ◌∙◌, Option, Some, None, inl, inr, lit≤}
 use Rattle.luks_area.specs.Ranges.{part}
 use Rattle.luks_area.specs.Sectors.{rounded_to_sectors}
 use Rattle.luks_head.specs.Bytes.{number_at, text_at}

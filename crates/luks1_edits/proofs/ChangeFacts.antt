@@ -1,5 +1,5 @@
 -- A change: after a keyslot was made, another one is removed.
-use Rattle.std.proofs.Common.{◌≡◌, ℕ, ◌*◌, ◌<◌, List, length, replicate, take, drop, subst, refl, sym, ap, ◌∙◌, arith, lit≤, inl, inr}
+use Rattle.std.proofs.Common.{◌≡◌, ℕ, ◌*◌, ◌<◌, List, length, replicate, take, drop, subst, refl, sym, ap, ◌∙◌, arith, inl, inr, lit≤}
 use Rattle.luks_area.specs.declared.area.Area.{Area}
 use Rattle.luks_area.specs.Area.{Fit}
 use Rattle.luks_area.specs.Ranges.{part, IsAt, SameBut}

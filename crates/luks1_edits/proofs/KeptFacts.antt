@@ -1,5 +1,5 @@
 -- A LUKS1 volume of which only some keyslots' entries and areas were changed.
-use Rattle.std.proofs.Common.{◌≡◌, ℕ, ◌+◌, ◌-◌, ◌*◌, ◌<◌, ◌≤◌, ◌⊎◌, List, length, subst, refl, sym, ap, ◌∙◌, arith, lit≤, inl, inr}
+use Rattle.std.proofs.Common.{◌≡◌, ℕ, ◌+◌, ◌-◌, ◌*◌, ◌<◌, ◌≤◌, ◌⊎◌, List, length, subst, refl, sym, ap, ◌∙◌, arith, inl, inr, lit≤}
 use Rattle.std.proofs.lemmas.Bool.{cases_eq}
 use Rattle.luks_area.specs.declared.area.Area.{Area}
 use Rattle.luks_area.specs.declared.area.AreaName.{AreaName}
@@ -240,18 +240,13 @@ module _ (payload : Data) (named : ℕ → Type 0) (v w : List ℕ) (x : Changes
       let size = x.rest.length_same in
       let all = length-part_inside w 0 592 (omega (arith, long, size)) in
       omega (arith, bad, all)
-  clear_after fault.NotLuks bad = common_clear fault.NotLuks (tt, bad)
-  clear_after fault.Version bad = common_clear fault.Version (tt, bad)
   clear_after fault.NoSoundCopy bad = bad
-  clear_after (fault.Text t) bad = common_clear (fault.Text t) (tt, bad)
-  clear_after fault.Uuid bad = common_clear fault.Uuid (tt, bad)
   clear_after (fault.SlotState n) bad = (fit_entry n bad.0).stated bad.1
-  clear_after fault.KeyBytes bad = common_clear fault.KeyBytes (tt, bad)
   clear_after (fault.Stripes n) bad = clear (fault.Stripes n) (bad.0, sym (fit_entry n bad.0).stripes ∙ bad.1)
   clear_after (fault.Iterations (of.Slot n)) bad = (fit_entry n bad.0).iterated bad.1
-  clear_after (fault.Iterations of.Digest) bad = common_clear (fault.Iterations of.Digest) (tt, bad)
   clear_after fault.Device bad = bad
   clear_after fault.Memory bad = bad
+  clear_after f bad = common_clear f (tt, bad)
 
   field_same : (o : ℕ) → o + 4 ≤ 208 → number_at (part w 0 592) o 4 ≡ number_at (part v 0 592) o 4
   field_same o within = number_same (part w 0 592) (part v 0 592) o 4 (header_moves v w common_same o 4 within)

@@ -1,5 +1,5 @@
 -- A keyslot that was made opens by its passphrase to the key that another one opened.
-use Rattle.std.proofs.Common.{◌≡◌, ℕ, ◌-◌, ◌*◌, ◌<◌, ◌≤◌, List, length, subst, refl, sym, ap, ◌∙◌, arith, lit≤, inl, inr, true, Bool, Some, None}
+use Rattle.std.proofs.Common.{◌≡◌, ℕ, ◌-◌, ◌*◌, ◌<◌, ◌≤◌, List, length, subst, refl, sym, ap, ◌∙◌, arith, inl, inr, true, Bool, Some, None, lit≤}
 use Rattle.std.specs.Prelude.{if◌then◌else◌}
 use Rattle.std.proofs.lemmas.Bool.{cases_eq}
 use Rattle.luks_area.specs.Ranges.{part}
@@ -18,7 +18,6 @@ use Rattle.luks_slot.specs.declared.plan.Derivation.TheVariants.{Pbkdf2, Argon2}
 use Rattle.luks_slot.specs.declared.plan.SlotPlan.{SlotPlan}
 use Rattle.luks_slot.specs.Opening.{meets_digest, slot_key}
 use Rattle.luks_slot.specs.Refusal.{is_argon2, is_known_derivation, is_open_cipher, slot_refusal}
-use Rattle.luks_slot.specs.Sealing.{IsSealed}
 use Rattle.luks_kdf.specs.Names.{digest_size_of, each_at_least, hash_of, length-digest}
 use Rattle.luks_kdf.proofs.SplitterFacts.{merge-split}
 use Rattle.luks_slot.specs.Opening.{hash_by_name}
@@ -158,16 +157,7 @@ module _ (payload : Data) (v : List ℕ) (opener : ℕ) (old : List ℕ) (n iter
       let none : iterations ≡ 0 = sym x.made.iterations_are ∙ sym (ap entry_iterations (entry_is w n x.numbered)) ∙ bad.1.1 in
       let many = x.iterated in
       omega (arith, none, many)
-  entry_clear (fault.Iterations of.Digest) bad = bad
-  entry_clear fault.TooShort bad = bad
-  entry_clear fault.NotLuks bad = bad
-  entry_clear fault.Version bad = bad
-  entry_clear fault.NoSoundCopy bad = bad
-  entry_clear (fault.Text t) bad = bad
-  entry_clear fault.Uuid bad = bad
-  entry_clear fault.KeyBytes bad = bad
-  entry_clear fault.Device bad = bad
-  entry_clear fault.Memory bad = bad
+  entry_clear f bad = bad
 
   -- the new area is where the old one was
   place_kept : (area_start w n ≡ area_start v n) × (area_len w n ≡ area_len v n)

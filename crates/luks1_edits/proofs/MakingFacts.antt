@@ -19,13 +19,13 @@ use Rattle.luks_reading.specs.declared.report.Data.{Data}
 use Rattle.luks_reading.specs.Checked.{IsLuks1Volume}
 use Rattle.luks_reading.specs.PlanAnswers.{IsOpenable}
 use Rattle.luks_reading.specs.Plans.{IsLuks1Plan}
-use Rattle.luks1_edits.specs.Accepted.{IsHeaderOf}
+use Rattle.luks1_edits.specs.Accepted.{IsHeaderOf, keyslot_fault}
 use Rattle.luks1_edits.specs.Edited.{IsMade}
 use Rattle.luks1_edits.specs.Kept.{AreKeyslots, IsEither}
 use Rattle.luks1_edits.specs.Leftovers.{IsMadeButEntry}
 use Rattle.luks1_edits.specs.Places.{area_len, area_start, entry_place, IsOfKeyslots}
 use Rattle.luks1_edits.specs.Refused.{keyslot_need}
-use Rattle.luks1_edits.specs.Steps.{unsealed, IsKeyslotMade, IsUnmade}
+use Rattle.luks1_edits.specs.Steps.{IsKeyslotMade, IsUnmade}
 use Rattle.luks1_edits.proofs.AnswerFacts.{SameFront, plan_moves}
 use Rattle.luks1_edits.proofs.HeaderFacts.{entry_is, header_moves, key_is, volume_of}
 use Rattle.luks1_edits.proofs.KeptFacts.{header_apart, kept_common}
@@ -156,10 +156,7 @@ pub sealed_rest : (plan : SlotPlan) {v u : List ℕ} → rounded_to_sectors (str
 sealed_rest plan fits same = same_but-wider (λ p at. (at.0, (let high = at.1 in omega (arith, high, fits)))) same
 
 -- why sealing failed
-pub unsealed_unmade : (h e : List ℕ) (plan : SlotPlan) (f : SlotFault) → IsLuks1Plan h e plan → IsAnsweredFault plan f → IsUnmade h (unsealed f)
-unsealed_unmade h e plan sealing.Argon2 is x = record { plan = plan; bytes = e; is = is; refused = x }
-unsealed_unmade h e plan sealing.Cipher is x = record { plan = plan; bytes = e; is = is; refused = x }
-unsealed_unmade h e plan sealing.Hash is x = record { plan = plan; bytes = e; is = is; refused = x }
-unsealed_unmade h e plan sealing.KeySize is x = record { plan = plan; bytes = e; is = is; refused = x }
+pub unsealed_unmade : (h e : List ℕ) (plan : SlotPlan) (f : SlotFault) → IsLuks1Plan h e plan → IsAnsweredFault plan f → IsUnmade h (keyslot_fault f)
 unsealed_unmade h e plan sealing.Device is x = tt
 unsealed_unmade h e plan sealing.Memory is x = x
+unsealed_unmade h e plan f is x = record { plan = plan; bytes = e; is = is; refused = x }

@@ -1,5 +1,5 @@
 -- How many random bytes an edit takes, and the first fault that is seen without opening a keyslot.
-use Rattle.std.proofs.Common.{◌≡◌, ◌≢◌, ℕ, List, subst, refl, sym, Option, Result, Ok, Err, MatchResult}
+use Rattle.std.proofs.Common.{◌≡◌, ℕ, List, subst, refl, sym, Option, Result, Ok, Err, MatchResult}
 use Rattle.luks_area.specs.First.{IsLeast}
 use Rattle.luks_reading.specs.declared.check_fault.CheckFault.{CheckFault}
 use Rattle.luks_reading.specs.declared.report.Data.{Data}

@@ -5,11 +5,9 @@ use Rattle.luks_head.specs.Header1.{active_word, disabled_word, enabled_word, en
 use Rattle.luks_head.specs.Selection.{luks1}
 use Rattle.luks_slot.specs.declared.fault.SlotFault.{SlotFault}
 use Rattle.luks_head.proofs.ChoiceFacts.{choices_agree}
-use Rattle.luks_reading.specs.declared.check_fault.CheckFault.{CheckFault}
 use Rattle.luks_reading.specs.declared.open_fault.OpenFault.TheVariants as opening
 use Rattle.luks_reading.specs.declared.report.Data.{Data}
 use Rattle.luks_reading.specs.Answer.{Answer, HasPlanAs, IsLuks1Refusal, IsRefusalAs, opens}
-use Rattle.luks_reading.specs.Checked.{IsFault}
 use Rattle.luks_reading.specs.Plans.{HasLuks1Plan}
 use Rattle.luks_edit.specs.declared.edit.Edit.{Edit}
 use Rattle.luks_edit.specs.declared.edit.Edit.TheVariants.{Add, Change}

@@ -1,22 +1,34 @@
 -- The keyslot that an edit opens: what opening it says of a well formed LUKS1 volume.
-use Rattle.std.proofs.Common.{◌≡◌, ℕ, List, length, subst, sym, ap, ◌∙◌, arith, inl, inr, Option, Some, None, slice_index_or}
+use Rattle.std.proofs.Common.{◌≡◌, ℕ, List, length, subst, refl, sym, ap, ◌∙◌, arith, inl, inr, Option, Some, None, slice_index_or}
 use Rattle.luks_area.specs.declared.area.AreaName.TheVariants as area_name
+use Rattle.std.proofs.lemmas.Option.{same_Some}
+use Rattle.luks_area.specs.First.{NotAfter}
 use Rattle.luks_area.specs.Ranges.{part}
 use Rattle.luks_head.specs.Faults.{IsLuks1Fault as IsLuks1HeadFault}
-use Rattle.luks_head.specs.Header1.{active_word, disabled_word, enabled_word, entry, HoldsSlots, IsEntry}
-use Rattle.luks_head.specs.Selection.{luks1, luks2}
+use Rattle.luks_head.specs.Header1.{active_word, disabled_word, enabled_word, entry, HoldsSlots, IsCommon, IsEntry, IsLuks1}
+use Rattle.luks_head.specs.Selection.{luks1}
 use Rattle.luks_head.specs.declared.fault.HeadFault.{HeadFault}
+use Rattle.luks_head.specs.declared.luks1.Luks1.{Luks1}
 use Rattle.luks_head.specs.declared.luks1.Luks1Slot.{Luks1Slot}
 use Rattle.luks_head.proofs.ChoiceFacts.{choices_agree}
+use Rattle.luks_slot.specs.declared.fault.SlotFault.{SlotFault}
+use Rattle.luks_slot.specs.declared.fault.SlotFault.TheVariants as slot
+use Rattle.luks_slot.specs.declared.plan.SlotPlan.{SlotPlan}
+use Rattle.luks_slot.specs.Fault.{IsAnsweredFault}
+use Rattle.luks_slot.specs.Opening.{slot_key}
+use Rattle.luks_slot.specs.Refusal.{slot_refusal}
 use Rattle.luks_reading.specs.declared.open_fault.OpenFault.{OpenFault}
 use Rattle.luks_reading.specs.declared.open_fault.OpenFault.TheVariants as opening
 use Rattle.luks_reading.specs.declared.report.Data.{Data}
 use Rattle.luks_reading.specs.Agreement.{IsSameAnswer}
-use Rattle.luks_reading.specs.Answer.{Answer, IsLuks1Refusal, IsRefusalAs, IsRefusedBy, no_key, Opened, opened_to, opens, refused}
+use Rattle.luks_reading.specs.Answer.{Answer, HasRefusedPlan, IsLuks1Refusal, IsRefusal, IsRefusalAs, no_key, open_key, Opened, Opens, opens, refused}
 use Rattle.luks_reading.specs.Checked.{IsLuks1Volume}
-use Rattle.luks1_edits.specs.Accepted.{IsHeaderOf, IsLockedBy, IsOpenedBy, IsUnopened, unopened}
+use Rattle.luks_reading.specs.PlanAnswers.{IsOpenable}
+use Rattle.luks_reading.specs.Plans.{HasLuks1Plan, IsLuks1Plan}
+use Rattle.luks1_edits.specs.Accepted.{IsHeaderOf, IsLockedBy, IsOpenedBy, IsUnopened, keyslot_fault}
 use Rattle.luks1_edits.specs.Edited.{IsFree, IsInUse}
-use Rattle.luks1_edits.proofs.AnswerFacts.{common_or_entry}
+use Rattle.luks1_edits.proofs.AnswerFacts.{common_or_entry, same_front}
+use Rattle.luks1_edits.proofs.MadeKeyslotFacts.{same_refusal, same_terms}
 use Rattle.luks1_edits.proofs.HeaderFacts.{entry_fault, entry_is, header_clear, volume_of}
 
 -- the keyslots of the header are those of the volume
@@ -30,51 +42,92 @@ slots_in h payload v slots x holds = record {
 pub used_or_free : (v : List ℕ) (n : ℕ) → IsInUse v n → IsFree v n → ⊥
 used_or_free v n used free = let two : enabled_word ≡ disabled_word = sym used.1 ∙ free.1 in omega (arith, two)
 
-module _ (h : List ℕ) (payload : Data) (v : List ℕ) (x : IsHeaderOf h payload v)
-    (once : (n : ℕ) (p : List ℕ) (a b : Opened) → Answer v n p a → Answer v n p b → IsSameAnswer a b) where
+-- the plan of a keyslot in use of the header
+module _ (h : List ℕ) (d : Luks1) (n : ℕ) (s : Luks1Slot) (plan : SlotPlan) (is : IsLuks1 h d) (used : (v : List ℕ) → HoldsSlots v d.slots → IsInUse v n) where
+  pub plan_openable : ((h e : List ℕ) → IsCommon h d.common → IsEntry e (slice_index_or d.slots n s) → active_word e ≡ enabled_word → IsOpenable plan) → IsOpenable plan
+  plan_openable judged = let u = used h is.slots in judged h (entry h n) is.common (is.slots.each n s u.0) u.1
+
+  pub plan_there : ((h e : List ℕ) → IsCommon h d.common → IsEntry e (slice_index_or d.slots n s) → IsLuks1Plan h e plan) → HasLuks1Plan h n plan
+  plan_there says = let u = used h is.slots in record { numbered = u.0; is = says h (entry h n) is.common (is.slots.each n s u.0) }
+
+module _ (h : List ℕ) (payload : Data) (v : List ℕ) (x : IsHeaderOf h payload v) (n : ℕ) (used : IsInUse v n) where
   whole : IsLuks1Volume (part v 0 592) payload (length v)
   whole = volume_of v payload x.chosen x.well
 
   clear : (f : HeadFault) → IsLuks1HeadFault (part v 0 592) f → ⊥
   clear = header_clear v payload x.chosen x.well
 
-  as_luks1 : (n : ℕ) (p : List ℕ) (f : OpenFault) → Answer v n p (refused f) → IsLuks1Refusal (part v 0 592) (length v) n f
-  as_luks1 n p f is = subst (λ c. IsRefusalAs v n c f) (choices_agree v is.0.choice luks1 is.0.chosen x.chosen) is.0.fault
-
-  pub opened_by : (n : ℕ) (p key : List ℕ) (found : Option (List ℕ)) → IsInUse v n → found ≡ Some key → Answer v n p (opened_to found) → IsOpenedBy v n p key
-  opened_by n p key found used is answer =
-      let opened : Answer v n p (opens key) = subst (λ o. Answer v n p (opened_to o)) is answer in
-      record {
-        used = used;
-        opened = opened;
-        unlocked = λ locked. once n p (opens key) no_key opened locked;
-        unshut = λ f shut. once n p (opens key) (refused (opening.Slot f)) opened shut;
-      }
-
-  pub locked_by : (n : ℕ) (p : List ℕ) (found : Option (List ℕ)) → IsInUse v n → found ≡ None → Answer v n p (opened_to found) → IsLockedBy v n p
-  locked_by n p found used is answer = record { used = used; answer = subst (λ o. Answer v n p (opened_to o)) is answer }
-
   -- a keyslot in use of a well formed volume is refused by its plan alone
-  pub unopened_by : (n : ℕ) (p : List ℕ) (f : OpenFault) → IsInUse v n → IsRefusedBy v n p f → IsUnopened v n p (unopened n f)
-  unopened_by n p (opening.Head f) used is = elim (common_or_entry (part v 0 592) n f (as_luks1 n p (opening.Head f) is)) [
-    | inl y ↦ clear f y.1
-    | inr y ↦ clear f (entry_fault (part v 0 592) n f y.numbered y.fault)
+  plan_alone : (f : OpenFault) → IsLuks1Refusal (part v 0 592) (length v) n f → (s : SlotFault) × ((f ≡ opening.Slot s) × HasRefusedPlan (HasLuks1Plan (part v 0 592) n) s)
+  plan_alone (opening.Head f) is = elim (common_or_entry (part v 0 592) n f is) [
+    | inl y ↦ absurd (clear f y.1)
+    | inr y ↦ absurd (clear f (entry_fault (part v 0 592) n f y.numbered y.fault))
   ]
-  unopened_by n p (opening.Meta f) used is = as_luks1 n p (opening.Meta f) is
-  unopened_by n p opening.NoSuchSlot used is = λ again. let over = as_luks1 n p opening.NoSuchSlot is in let lt = used.0 in omega (arith, over, lt)
-  unopened_by n p opening.SlotFree used is = λ again.
-      let off = as_luks1 n p opening.SlotFree is in
+  plan_alone opening.NoSuchSlot over = absurd (let lt = used.0 in omega (arith, over, lt))
+  plan_alone opening.SlotFree off = absurd (
       let two : disabled_word ≡ enabled_word = sym off.1 ∙ ap active_word (entry_is v n off.0) ∙ used.1 in
       omega (arith, two)
-  unopened_by n p opening.Outside used is =
-      let out = as_luks1 n p opening.Outside is in
+      )
+  plan_alone opening.Outside out = absurd (
       let past = out.past in
       let within = whole.fit.inside (area_name.Slot n) out.plan.area (out.is.numbered, out.is.is.start, out.is.is.len) in
       omega (arith, past, within)
-  unopened_by n p (opening.Slot f) used is = record {
-    used = used;
-    unlocked = λ locked. once n p (refused (opening.Slot f)) no_key is locked;
-    answer = is;
-  }
-  unopened_by n p opening.Device used is = tt
-  unopened_by n p opening.Memory used is = let same = choices_agree v luks1 (luks2 is.place is.copies) x.chosen is.chosen in cc
+      )
+  plan_alone (opening.Slot s) is = (s, (refl, is))
+  plan_alone f is = absurd is
+
+  module _ (plan : SlotPlan) (there : HasLuks1Plan h n plan) where
+    at : HasLuks1Plan (part v 0 592) n plan
+    at = subst (λ b. HasLuks1Plan b n plan) x.begins there
+
+    -- each plan of it is refused alike
+    refused_alike : (s : SlotFault) → HasRefusedPlan (HasLuks1Plan (part v 0 592) n) s → slot_refusal plan ≡ Some s
+    refused_alike s y =
+        same_refusal plan y.plan
+        (same_terms (part v 0 592) (part v 0 592) (entry (part v 0 592) n) (entry (part v 0 592) n) plan y.plan (same_front v v refl) at.is y.is.is) ∙ y.refused
+
+    planned : (p : List ℕ) (found : Option (List ℕ)) → slot_refusal plan ≡ None → slot_key plan (part v plan.area.start plan.area.len) p ≡ found → Opens v n p found
+    planned p found fine is = record {
+      choice = luks1;
+      chosen = x.chosen;
+      plan = plan;
+      is = at;
+      unrefused = λ f bad.
+          let y = plan_alone f bad in
+          let two : None ≡ Some y.0 = sym fine ∙ refused_alike y.0 y.1.1 in
+          cc;
+      key = is;
+    }
+
+    shut : (p : List ℕ) (s : SlotFault) → slot_refusal plan ≡ Some s → Answer v n p (refused (opening.Slot s))
+    shut p s why = (record { choice = luks1; chosen = x.chosen; fault = record { plan = plan; is = at; refused = why } }, least)
+      where
+        least : (g : OpenFault) → IsRefusal v n g → NotAfter (open_key (opening.Slot s)) (open_key g)
+        least g bad =
+            let y = plan_alone g (subst (λ c. IsRefusalAs v n c g) (choices_agree v bad.choice luks1 bad.chosen x.chosen) bad.fault) in
+            let same : s ≡ y.0 = same_Some s y.0 (sym why ∙ refused_alike y.0 y.1.1) in
+            rw y.1.0 (subst (λ t. NotAfter (open_key (opening.Slot s)) (open_key (opening.Slot t))) same (omega arith, λ _. (omega arith, λ _. tt)))
+
+    module _ (once : (n : ℕ) (p : List ℕ) (a b : Opened) → Answer v n p a → Answer v n p b → IsSameAnswer a b) (p : List ℕ) where
+      pub opened_by : (key : List ℕ) (found : Option (List ℕ)) → slot_refusal plan ≡ None → found ≡ slot_key plan (part v plan.area.start plan.area.len) p → found ≡ Some key → IsOpenedBy v n p key
+      opened_by key found fine is some =
+          let opened : Answer v n p (opens key) = planned p (Some key) fine (sym is ∙ some) in
+          record {
+            used = used;
+            opened = opened;
+            unlocked = λ locked. once n p (opens key) no_key opened locked;
+            unshut = λ f y. once n p (opens key) (refused (opening.Slot f)) opened y;
+          }
+
+      pub locked_by : (found : Option (List ℕ)) → slot_refusal plan ≡ None → found ≡ slot_key plan (part v plan.area.start plan.area.len) p → found ≡ None → IsLockedBy v n p
+      locked_by found fine is none = record { used = used; answer = planned p None fine (sym is ∙ none) }
+
+      -- or the device failed
+      pub unopened_by : (f : SlotFault) → IsAnsweredFault plan f → IsUnopened v n p (keyslot_fault f)
+      unopened_by slot.Device is = tt
+      unopened_by slot.Memory is = absurd is
+      unopened_by f is = record {
+        used = used;
+        unlocked = λ locked. once n p (refused (opening.Slot f)) no_key (shut p f is) locked;
+        answer = shut p f is;
+      }

@@ -4,12 +4,9 @@ use Rattle.luks_area.specs.Ranges.{part}
 use Rattle.luks_head.specs.Header1.{luks1_size, IsLuks1}
 use Rattle.luks_head.specs.Selection.{luks1, Chosen}
 use Rattle.luks_head.specs.declared.luks1.Luks1.{Luks1}
-use Rattle.luks_area.specs.declared.area.AreaFault.TheVariants as areas
-use Rattle.luks_area.specs.declared.area.AreaName.TheVariants as area_name
 use Rattle.luks_slot.specs.declared.fault.SlotFault.{SlotFault}
+use Rattle.luks_slot.specs.declared.fault.SlotFault.TheVariants as slot
 use Rattle.luks_reading.specs.declared.check_fault.CheckFault.{CheckFault}
-use Rattle.luks_reading.specs.declared.check_fault.CheckFault.TheVariants as checking
-use Rattle.luks_reading.specs.declared.open_fault.OpenFault.{OpenFault}
 use Rattle.luks_reading.specs.declared.open_fault.OpenFault.TheVariants as opening
 use Rattle.luks_reading.specs.declared.report.Data.{Data}
 use Rattle.luks_reading.specs.Answer.{Answer, no_key, opens, refused}
@@ -66,17 +63,11 @@ IsUnopened v n passphrase (fault.Slot f) = IsShutBy v n passphrase f
 IsUnopened v n passphrase fault.Device = ⊤
 IsUnopened v n passphrase f = ⊥
 
--- the fault of opening the keyslot `n` as that of an edit; of a keyslot in use of an accepted
--- volume it is that of its plan, or the device's
-abbrev pub unopened : ℕ → OpenFault → EditFault
-unopened n (opening.Head f) = fault.NotAccepted (checking.Head f)
-unopened n (opening.Meta f) = fault.NotAccepted (checking.Meta f)
-unopened n opening.NoSuchSlot = fault.NoSuchSlot
-unopened n opening.SlotFree = fault.NoSuchSlot
-unopened n opening.Outside = fault.NotAccepted (checking.Area (areas.Outside (area_name.Slot n)))
-unopened n (opening.Slot f) = fault.Slot f
-unopened n opening.Device = fault.Device
-unopened n opening.Memory = fault.Memory
+-- the fault of a keyslot, opened or sealed, as that of an edit
+abbrev pub keyslot_fault : SlotFault → EditFault
+keyslot_fault slot.Device = fault.Device
+keyslot_fault slot.Memory = fault.Memory
+keyslot_fault f = fault.Slot f
 
 -- ---- the keyslots in use
 

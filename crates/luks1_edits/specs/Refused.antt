@@ -96,21 +96,16 @@ pub record IsMiscounted (v : List ℕ) (e : Edit) (random : List ℕ) : Type 0 w
 -- the faults of an edit of the LUKS1 volume `v` with the random bytes
 abbrev pub IsEditFault1 : List ℕ → Data → Edit → List ℕ → EditFault → Type 0
 IsEditFault1 v payload e random (fault.NotAccepted f) = IsFault v payload f
-IsEditFault1 v payload e random fault.Requirements = ⊥
 IsEditFault1 v payload e random fault.NoSuchSlot = IsAbsent v e
 IsEditFault1 v payload e random fault.Locked = IsLocked v e
 IsEditFault1 v payload e random (fault.Slot f) = IsShut v e f
 IsEditFault1 v payload e random fault.SlotTaken = IsTaken v e
 IsEditFault1 v payload e random fault.NoFreeSlot = HasNoFree v e
-IsEditFault1 v payload e random fault.NoRoom = ⊥
 IsEditFault1 v payload e random fault.LastSlot = IsLast v e
 IsEditFault1 v payload e random fault.Iterations = HasFewIterations e
 IsEditFault1 v payload e random fault.BadLabel = IsLabel e
-IsEditFault1 v payload e random fault.SeqExhausted = ⊥
-IsEditFault1 v payload e random fault.MetadataFull = ⊥
 IsEditFault1 v payload e random fault.RandomLength = IsMiscounted v e random
-IsEditFault1 v payload e random fault.Memory = ⊥
-IsEditFault1 v payload e random fault.Device = ⊥
+IsEditFault1 v payload e random f = ⊥
 
 -- the refusal: the first of them
 abbrev pub Refusal1 : List ℕ → Data → Edit → List ℕ → EditFault → Type 0

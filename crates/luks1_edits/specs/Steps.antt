@@ -4,7 +4,6 @@ use Rattle.luks_area.specs.declared.area.Area.{Area}
 use Rattle.luks_area.specs.Ranges.{IsAt, SameBut}
 use Rattle.luks_head.specs.Header1.{entry, entry_size, HoldsEntry}
 use Rattle.luks_head.specs.declared.luks1.Luks1Slot.{Luks1Slot}
-use Rattle.luks_slot.specs.declared.fault.SlotFault.TheVariants as sealing
 use Rattle.luks_slot.specs.declared.plan.SlotPlan.{SlotPlan}
 use Rattle.luks_slot.specs.Refusal.{slot_refusal}
 use Rattle.luks_slot.specs.declared.fault.SlotFault.{SlotFault}
@@ -42,9 +41,3 @@ abbrev pub IsUnmade : List ℕ → EditFault → Type 0
 IsUnmade h (fault.Slot f) = HasRefusedKeyslot h f
 IsUnmade h fault.Device = ⊤
 IsUnmade h f = ⊥
-
--- the fault of sealing as that of an edit
-abbrev pub unsealed : SlotFault → EditFault
-unsealed sealing.Device = fault.Device
-unsealed sealing.Memory = fault.Memory
-unsealed f = fault.Slot f

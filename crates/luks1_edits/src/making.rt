@@ -7,16 +7,17 @@ ghost use Rattle.luks1_edits.specs.Accepted.{IsAcceptedAt, IsHeaderOf};
 ghost use Rattle.luks1_edits.specs.Edited.{IsMade};
 ghost use Rattle.luks1_edits.specs.Leftovers.{IsSealedFirst};
 ghost use Rattle.luks1_edits.specs.Refused.{keyslot_need};
-ghost use Rattle.luks1_edits.specs.Steps.{unsealed, IsKeyslotMade, IsUnmade};
+ghost use Rattle.luks1_edits.specs.Steps.{IsKeyslotMade, IsUnmade};
 
 use crate::accepted::AcceptedHeader;
 use crate::freeing::entry_bytes;
 use crate::steps::write_entry;
+use crate::unlocking::keyslot_fault;
 use luks_area::Device;
 use luks_edit::EditFault;
 use luks_head::{Luks1, Luks1Slot, SlotState};
 use luks_reading::luks1_plan;
-use luks_slot::{Key, SlotFault};
+use luks_slot::Key;
 use luks_steps::seal_area;
 
 /// The salt of a new keyslot: the first 32 of the random bytes.
@@ -35,17 +36,6 @@ fn stripes_in(random: &[u8]) -> &[u8]
     ensures { result.now ≡ drop 32 random.now }
 {
     &random[32..]
-}
-
-/// The fault of sealing as that of an edit.
-fn unsealed(fault: SlotFault) -> EditFault
-    ensures { result ≡ unsealed fault }
-{
-    match fault {
-        SlotFault::Device => EditFault::Device,
-        SlotFault::Memory => EditFault::Memory,
-        other => EditFault::Slot(other),
-    }
 }
 
 /// What the keyslot `n` says once it is made: its area and its stripes are as before.
@@ -102,7 +92,7 @@ pub(crate) fn make_keyslot<D: Device>(
     let plan = luks1_plan(&header.fields.common, &slot);
     match seal_area(device, &plan, passphrase, key, stripes_in(random)) {
         Ok(()) => {}
-        Err(fault) => return Err(unsealed(fault)),
+        Err(fault) => return Err(keyslot_fault(fault)),
     }
     match write_entry(device, n, &entry) {
         Ok(()) => Ok(()),

@@ -3,31 +3,25 @@ ghost use Rattle.std.specs.Prelude.{◌≡◌, ◌≢◌, ◌+◌, ◌^◌, ◌<
 ghost use Rattle.luks_area.specs.Device.{CountsFailure, IsUnchanged};
 ghost use Rattle.luks_head.specs.Header1.{key_bytes_of};
 ghost use Rattle.luks_edit.specs.EditFaults.{is_edit_failure};
-ghost use Rattle.luks1_edits.specs.Accepted.{IsAcceptedAt, IsHeaderOf, IsOpenedBy, IsUnopened, unopened};
+ghost use Rattle.luks1_edits.specs.Accepted.{IsAcceptedAt, IsHeaderOf, IsOpenedBy, IsUnopened, keyslot_fault};
 ghost use Rattle.luks1_edits.specs.Edited.{IsInUse};
 
 use crate::accepted::AcceptedHeader;
 use crate::keyslots::is_used;
-use luks_area::{AreaFault, AreaName, Device};
+use luks_area::Device;
 use luks_edit::EditFault;
-use luks_reading::{CheckFault, Header, OpenFault, one_answer, open_header_slot};
-use luks_slot::Key;
+use luks_reading::{luks1_plan, one_answer};
+use luks_slot::{Key, SlotFault, open};
 use std::alloc::Global;
 
-/// The fault of opening the keyslot `n` as that of an edit.
-fn unopened(n: u8, fault: OpenFault) -> EditFault
-    ensures { result ≡ unopened n fault }
+/// The fault of a keyslot, opened or sealed, as that of an edit.
+pub(crate) fn keyslot_fault(fault: SlotFault) -> EditFault
+    ensures { result ≡ keyslot_fault fault }
 {
     match fault {
-        OpenFault::Head(fault) => EditFault::NotAccepted(CheckFault::Head(fault)),
-        OpenFault::Meta(fault) => EditFault::NotAccepted(CheckFault::Meta(fault)),
-        OpenFault::NoSuchSlot | OpenFault::SlotFree => EditFault::NoSuchSlot,
-        OpenFault::Outside => {
-            EditFault::NotAccepted(CheckFault::Area(AreaFault::Outside(AreaName::Slot(n))))
-        }
-        OpenFault::Slot(fault) => EditFault::Slot(fault),
-        OpenFault::Device => EditFault::Device,
-        OpenFault::Memory => EditFault::Memory,
+        SlotFault::Device => EditFault::Device,
+        SlotFault::Memory => EditFault::Memory,
+        other => EditFault::Slot(other),
     }
 }
 
@@ -59,12 +53,13 @@ pub(crate) fn unlock<D: Device>(
     if n > 7 || !is_used(&header.fields, n) {
         return Err(EditFault::NoSuchSlot);
     }
-    let luks1 = Header::Luks1(*header.bytes);
-    match open_header_slot(alloc, device, &luks1, n, passphrase) {
+    let slot = &header.fields.slots[n as usize];
+    let plan = luks1_plan(&header.fields.common, slot);
+    match open(alloc, device, &plan, passphrase) {
         Ok(found) => match found {
             Some(key) => Ok(key),
             None => Err(EditFault::Locked),
         },
-        Err(fault) => Err(unopened(n, fault)),
+        Err(fault) => Err(keyslot_fault(fault)),
     }
 }

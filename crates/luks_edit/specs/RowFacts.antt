@@ -49,20 +49,7 @@ View f = ((c : CheckFault) × (f ≡ fault.NotAccepted c)) ⊎ (((s : SlotFault)
 pub view : (f : EditFault) → View f
 view (fault.NotAccepted c) = inl (c, refl)
 view (fault.Slot s) = inr (inl (s, refl))
-view fault.Requirements = inr (inr (record { plain = refl; is = refl; place = refl; low = omega arith; high = omega arith }))
-view fault.NoSuchSlot = inr (inr (record { plain = refl; is = refl; place = refl; low = omega arith; high = omega arith }))
-view fault.Locked = inr (inr (record { plain = refl; is = refl; place = refl; low = omega arith; high = omega arith }))
-view fault.SlotTaken = inr (inr (record { plain = refl; is = refl; place = refl; low = omega arith; high = omega arith }))
-view fault.NoFreeSlot = inr (inr (record { plain = refl; is = refl; place = refl; low = omega arith; high = omega arith }))
-view fault.NoRoom = inr (inr (record { plain = refl; is = refl; place = refl; low = omega arith; high = omega arith }))
-view fault.LastSlot = inr (inr (record { plain = refl; is = refl; place = refl; low = omega arith; high = omega arith }))
-view fault.Iterations = inr (inr (record { plain = refl; is = refl; place = refl; low = omega arith; high = omega arith }))
-view fault.BadLabel = inr (inr (record { plain = refl; is = refl; place = refl; low = omega arith; high = omega arith }))
-view fault.SeqExhausted = inr (inr (record { plain = refl; is = refl; place = refl; low = omega arith; high = omega arith }))
-view fault.MetadataFull = inr (inr (record { plain = refl; is = refl; place = refl; low = omega arith; high = omega arith }))
-view fault.RandomLength = inr (inr (record { plain = refl; is = refl; place = refl; low = omega arith; high = omega arith }))
-view fault.Memory = inr (inr (record { plain = refl; is = refl; place = refl; low = omega arith; high = omega arith }))
-view fault.Device = inr (inr (record { plain = refl; is = refl; place = refl; low = omega arith; high = omega arith }))
+view f = inr (inr (record { plain = refl; is = refl; place = refl; low = omega arith; high = omega arith }))
 
 -- a row that isn't plain isn't that of an only fault
 not_plain : (k : ℕ) (f : EditFault) → edit_row f ≡ k → is_plain k ≡ false → is_plain (edit_row f) ≡ true → ⊥

@@ -59,7 +59,7 @@ returns-in-Err-clause-fault g c =
     let p : IsNewPlan h c.args.n c.entry_bytes-entry.result c.args.iterations (take 32 c.args.random.now) c.luks1_plan-plan.result =
     new_plan h c.args.header.now.fields c.args.n c.entry_bytes-entry.result c.new_slot-slot.result c.args.iterations (take 32 c.args.random.now) c.luks1_plan-plan.result
     c.requires.accepted.fields c.requires.numbered c.requires.iterated c.new_slot-slot.ensures c.entry_bytes-entry.ensures c.luks1_plan-plan.ensures.is c.luks1_plan-plan.ensures.judged in
-    rw c.unsealed.ensures (unsealed_unmade h c.entry_bytes-entry.result c.luks1_plan-plan.result c.in-Err.fault p.is c.in-Err.ensures.fault)
+    rw c.keyslot_fault.ensures (unsealed_unmade h c.entry_bytes-entry.result c.luks1_plan-plan.result c.in-Err.fault p.is c.in-Err.ensures.fault)
 
 pub returns-in-Err-clause-torn : goal.returns-in-Err-clause-torn
 returns-in-Err-clause-torn g c = λ tells x.

@@ -1,5 +1,6 @@
-use Rattle.std.proofs.Common.{refl, arith}
-use Rattle.luks1_edits.proofs.OpenerFacts.{locked_by, opened_by, slots_in, unopened_by, used_or_free}
+use Rattle.std.proofs.Common.{◌≡◌, IfSome, length, refl, subst, ◌∙◌, arith}
+use Rattle.luks_area.specs.declared.area.AreaName.TheVariants.{Slot}
+use Rattle.luks1_edits.proofs.OpenerFacts.{locked_by, opened_by, plan_openable, plan_there, slots_in, unopened_by, used_or_free}
 use Rattle.luks1_edits.proofs.unlocking.unlock.Goals as goal
 use Rattle.luks1_edits.proofs.unlocking.unlock.Goals.{then-n-gt7-via-then-n-gt7, then-n-gt7-via-else-n-gt7+then-not-is_used}
 
@@ -12,28 +13,76 @@ returns-then-n-gt7-clause-refused g c = λ tells x used. elim c.then-n-gt7.branc
       (slots_in c.args.header.now.bytes.now c.args.header.now.data_ (g.D.Device.bytes c.args.device.now) c.args.header.now.fields.slots x c.requires.accepted.fields.slots))
 ]
 
+pub open-requires-clause-iterations : goal.open-requires-clause-iterations
+open-requires-clause-iterations g c =
+    let a = c.args.header.now in
+    (plan_openable a.bytes.now a.fields c.args.n _ c.luks1_plan-plan.result c.requires.accepted.fields (c.if-not-is_used.ensures.used refl) c.luks1_plan-plan.ensures.judged).turns
+
+pub open-requires-clause-digest_iterations : goal.open-requires-clause-digest_iterations
+open-requires-clause-digest_iterations g c =
+    let a = c.args.header.now in
+    (plan_openable a.bytes.now a.fields c.args.n _ c.luks1_plan-plan.result c.requires.accepted.fields (c.if-not-is_used.ensures.used refl) c.luks1_plan-plan.ensures.judged).digest_turns
+
+pub open-requires-clause-digest_length : goal.open-requires-clause-digest_length
+open-requires-clause-digest_length g c =
+    let a = c.args.header.now in
+    (plan_openable a.bytes.now a.fields c.args.n _ c.luks1_plan-plan.result c.requires.accepted.fields (c.if-not-is_used.ensures.used refl) c.luks1_plan-plan.ensures.judged).digest_length
+
+pub open-requires-clause-some_bytes : goal.open-requires-clause-some_bytes
+open-requires-clause-some_bytes g c =
+    let a = c.args.header.now in
+    (plan_openable a.bytes.now a.fields c.args.n _ c.luks1_plan-plan.result c.requires.accepted.fields (c.if-not-is_used.ensures.used refl) c.luks1_plan-plan.ensures.judged).some_bytes
+
+pub open-requires-clause-at_most_128 : goal.open-requires-clause-at_most_128
+open-requires-clause-at_most_128 g c =
+    let a = c.args.header.now in
+    (plan_openable a.bytes.now a.fields c.args.n _ c.luks1_plan-plan.result c.requires.accepted.fields (c.if-not-is_used.ensures.used refl) c.luks1_plan-plan.ensures.judged).at_most_128
+
+pub open-requires-clause-some_stripes : goal.open-requires-clause-some_stripes
+open-requires-clause-some_stripes g c =
+    let a = c.args.header.now in
+    (plan_openable a.bytes.now a.fields c.args.n _ c.luks1_plan-plan.result c.requires.accepted.fields (c.if-not-is_used.ensures.used refl) c.luks1_plan-plan.ensures.judged).some_stripes
+
+pub open-requires-clause-sectors : goal.open-requires-clause-sectors
+open-requires-clause-sectors g c =
+    let a = c.args.header.now in
+    (plan_openable a.bytes.now a.fields c.args.n _ c.luks1_plan-plan.result c.requires.accepted.fields (c.if-not-is_used.ensures.used refl) c.luks1_plan-plan.ensures.judged).sectors
+
+pub open-requires-clause-within : goal.open-requires-clause-within
+open-requires-clause-within g c =
+    let a = c.args.header.now in
+    let there = plan_there a.bytes.now a.fields c.args.n _ c.luks1_plan-plan.result c.requires.accepted.fields (c.if-not-is_used.ensures.used refl) c.luks1_plan-plan.ensures.is in
+    c.requires.accepted.volume.fit.inside (Slot c.args.n) c.luks1_plan-plan.result.area (there.numbered, there.is.start, there.is.len)
+
+pub returns-in-Some-clause-length : goal.returns-in-Some-clause-length
+returns-in-Some-clause-length g c =
+    let a = c.args.header.now in
+    let there = plan_there a.bytes.now a.fields c.args.n _ c.luks1_plan-plan.result c.requires.accepted.fields (c.if-not-is_used.ensures.used refl) c.luks1_plan-plan.ensures.is in
+    subst (λ o. IfSome o (λ k. length k ≡ c.luks1_plan-plan.result.key_bytes)) c.in-Some.is c.in-Ok.ensures.length ∙ there.is.key_bytes
+
 pub returns-in-Some-clause-opened : goal.returns-in-Some-clause-opened
 returns-in-Some-clause-opened g c = λ tells x.
     let v = g.D.Device.bytes c.args.device.now in
-    let h = c.args.header.now.bytes.now in
-    let payload = c.args.header.now.data_ in
-    let used = c.if-not-is_used.ensures.used refl v (slots_in h payload v c.args.header.now.fields.slots x c.requires.accepted.fields.slots) in
-    opened_by h payload v x (c.one_answer.ensures v) c.args.n c.args.passphrase.now c.in-Some.key c.in-Ok.found used c.in-Some.is
-    (c.in-Ok.ensures.opens tells (x.chosen, x.begins))
+    let a = c.args.header.now in
+    let there = plan_there a.bytes.now a.fields c.args.n _ c.luks1_plan-plan.result c.requires.accepted.fields (c.if-not-is_used.ensures.used refl) c.luks1_plan-plan.ensures.is in
+    let used = c.if-not-is_used.ensures.used refl v (slots_in a.bytes.now a.data_ v a.fields.slots x c.requires.accepted.fields.slots) in
+    opened_by a.bytes.now a.data_ v x c.args.n used c.luks1_plan-plan.result there (c.one_answer.ensures v) c.args.passphrase.now c.in-Some.key c.in-Ok.found
+    c.in-Ok.ensures.accepted (c.in-Ok.ensures.value tells) c.in-Some.is
 
-pub returns-in-Ok-clause-refused : goal.returns-in-Ok-clause-refused
-returns-in-Ok-clause-refused g c = λ tells x.
+pub returns-in-None-clause-refused : goal.returns-in-None-clause-refused
+returns-in-None-clause-refused g c = λ tells x.
     let v = g.D.Device.bytes c.args.device.now in
-    let h = c.args.header.now.bytes.now in
-    let payload = c.args.header.now.data_ in
-    let used = c.if-not-is_used.ensures.used refl v (slots_in h payload v c.args.header.now.fields.slots x c.requires.accepted.fields.slots) in
-    locked_by h payload v x (c.one_answer.ensures v) c.args.n c.args.passphrase.now c.in-Ok.found used c.in-None.is (c.in-Ok.ensures.opens tells (x.chosen, x.begins))
+    let a = c.args.header.now in
+    let there = plan_there a.bytes.now a.fields c.args.n _ c.luks1_plan-plan.result c.requires.accepted.fields (c.if-not-is_used.ensures.used refl) c.luks1_plan-plan.ensures.is in
+    let used = c.if-not-is_used.ensures.used refl v (slots_in a.bytes.now a.data_ v a.fields.slots x c.requires.accepted.fields.slots) in
+    locked_by a.bytes.now a.data_ v x c.args.n used c.luks1_plan-plan.result there (c.one_answer.ensures v) c.args.passphrase.now c.in-Ok.found
+    c.in-Ok.ensures.accepted (c.in-Ok.ensures.value tells) c.in-None.is
 
-pub returns-clause-refused : goal.returns-clause-refused
-returns-clause-refused g c = λ tells x.
+pub returns-in-Err-clause-refused : goal.returns-in-Err-clause-refused
+returns-in-Err-clause-refused g c = λ tells x.
     let v = g.D.Device.bytes c.args.device.now in
-    let h = c.args.header.now.bytes.now in
-    let payload = c.args.header.now.data_ in
-    let used = c.if-not-is_used.ensures.used refl v (slots_in h payload v c.args.header.now.fields.slots x c.requires.accepted.fields.slots) in
-    rw c.unopened.ensures
-    (unopened_by h payload v x (c.one_answer.ensures v) c.args.n c.args.passphrase.now c.in-Err.fault used (c.in-Err.ensures.refused tells (x.chosen, x.begins)))
+    let a = c.args.header.now in
+    let there = plan_there a.bytes.now a.fields c.args.n _ c.luks1_plan-plan.result c.requires.accepted.fields (c.if-not-is_used.ensures.used refl) c.luks1_plan-plan.ensures.is in
+    let used = c.if-not-is_used.ensures.used refl v (slots_in a.bytes.now a.data_ v a.fields.slots x c.requires.accepted.fields.slots) in
+    rw c.keyslot_fault.ensures
+    (unopened_by a.bytes.now a.data_ v x c.args.n used c.luks1_plan-plan.result there (c.one_answer.ensures v) c.args.passphrase.now c.in-Err.fault c.in-Err.ensures.fault)
