@@ -14,11 +14,12 @@ use Rattle.luks_reading.specs.declared.open_fault.OpenFault.{OpenFault}
 use Rattle.luks_reading.specs.declared.open_fault.OpenFault.TheVariants.{Head, Meta, NoSuchSlot, SlotFree, Outside, Slot, Device, Memory}
 use Rattle.luks_reading.specs.declared.read_fault.ReadFault.{ReadFault}
 use Rattle.luks_reading.specs.declared.read_fault.ReadFault.TheVariants as reading
-use Rattle.luks_reading.specs.Answer.{open_key, head_step, slot_row, Answer, IsRefusalAs, IsRefusedBy, refused, opened_to}
+use Rattle.luks_reading.specs.Answer.{open_key, head_step, slot_row, Answer, FirstRefusal, IsRefusal, IsRefusalAs, IsRefusedBy, refused, opened_to}
 use Rattle.luks_reading.specs.Conversions.{unread_opened}
 use Rattle.luks_reading.specs.Header.{json_at, read_key, IsReadFaultAs, IsUnread}
 use Rattle.luks_reading.specs.Luks1Keyslots.{Luks1Opens, Luks1Refused}
 use Rattle.luks_reading.specs.Luks2Keyslots.{Luks2Opens, Luks2Refused}
+use Rattle.luks_reading.proofs.OpenFaults.{refused_by}
 use Rattle.luks_reading.proofs.ReadFaults.{as_unread}
 use Rattle.luks_reading.proofs.Luks1Refusals.{sooner, together}
 use Rattle.luks_reading.proofs.Luks2Refusals.{uuid_step}
@@ -31,16 +32,18 @@ refused_as v n p c f chosen only least = (
   λ g is. least.1 g (subst (λ d. IsRefusalAs v n d g) (sym (only is.choice is.chosen)) is.fault),
 )
 
+-- so it is where there is one, and where there is none the volume has none
+pub first_as : (v : List ℕ) (n : ℕ) (c : Choice) (r : Option OpenFault) → Chosen v c → ((d : Choice) → Chosen v d → c ≡ d)
+    → FirstRefusal (IsRefusalAs v n c) r → FirstRefusal (IsRefusal v n) r
+first_as v n c (Some f) chosen only x = refused_as v n [] c f chosen only x
+first_as v n c None chosen only x = λ f is. x f (subst (λ d. IsRefusalAs v n d f) (sym (only is.choice is.chosen)) is.fault)
+
+-- so is a refusal by the header, unless the device failed
 pub luks1_refused : (v : List ℕ) (n : ℕ) (p : List ℕ) (f : OpenFault) → Chosen v luks1 → ((d : Choice) → Chosen v d → luks1 ≡ d)
     → Luks1Refused (part v 0 592) (length v) n f → IsRefusedBy v n p f
-luks1_refused v n p (Head f) chosen only x = refused_as v n p luks1 (Head f) chosen only x
-luks1_refused v n p (Meta f) chosen only x = refused_as v n p luks1 (Meta f) chosen only x
-luks1_refused v n p NoSuchSlot chosen only x = refused_as v n p luks1 NoSuchSlot chosen only x
-luks1_refused v n p SlotFree chosen only x = refused_as v n p luks1 SlotFree chosen only x
-luks1_refused v n p Outside chosen only x = refused_as v n p luks1 Outside chosen only x
-luks1_refused v n p (Slot f) chosen only x = refused_as v n p luks1 (Slot f) chosen only x
-luks1_refused v n p Device chosen only x = x
-luks1_refused v n p Memory chosen only x = absurd x
+luks1_refused v n p f chosen only x =
+    refused_by v n p f (λ own. refused_as v n p luks1 f chosen only (x own))
+    (λ e. absurd (subst (Luks1Refused (part v 0 592) (length v) n) e x refl).0)
 
 pub luks1_opens : (v : List ℕ) (n : ℕ) (p : List ℕ) (found : Option (List ℕ)) → Chosen v luks1
     → Luks1Opens (part v 0 592) v n p found → Answer v n p (opened_to found)
@@ -51,14 +54,9 @@ luks1_opens v n p None chosen x = record { choice = luks1; chosen = chosen; plan
 
 pub luks2_refused : (v : List ℕ) (n : ℕ) (p : List ℕ) (o : ℕ) (copies : Copies) (f : OpenFault) → Chosen v (luks2 o copies)
     → ((d : Choice) → Chosen v d → luks2 o copies ≡ d) → Luks2Refused (header_at v o) (json_at v o) (length v) n f → IsRefusedBy v n p f
-luks2_refused v n p o copies (Head f) chosen only x = refused_as v n p (luks2 o copies) (Head f) chosen only x
-luks2_refused v n p o copies (Meta f) chosen only x = refused_as v n p (luks2 o copies) (Meta f) chosen only x
-luks2_refused v n p o copies NoSuchSlot chosen only x = refused_as v n p (luks2 o copies) NoSuchSlot chosen only x
-luks2_refused v n p o copies SlotFree chosen only x = refused_as v n p (luks2 o copies) SlotFree chosen only x
-luks2_refused v n p o copies Outside chosen only x = refused_as v n p (luks2 o copies) Outside chosen only x
-luks2_refused v n p o copies (Slot f) chosen only x = refused_as v n p (luks2 o copies) (Slot f) chosen only x
-luks2_refused v n p o copies Device chosen only x = x
-luks2_refused v n p o copies Memory chosen only x = record { place = o; copies = copies; chosen = chosen; uuid = x }
+luks2_refused v n p o copies f chosen only x =
+    refused_by v n p f (λ own. refused_as v n p (luks2 o copies) f chosen only (x own))
+    (λ e. absurd (subst (Luks2Refused (header_at v o) (json_at v o) (length v) n) e x refl).0)
 
 pub luks2_opens : (v : List ℕ) (n : ℕ) (p : List ℕ) (o : ℕ) (copies : Copies) (found : Option (List ℕ)) → Chosen v (luks2 o copies)
     → Luks2Opens (header_at v o) (json_at v o) v n p found → Answer v n p (opened_to found)

@@ -7,6 +7,7 @@ pub mod WellFormedFacts
 pub mod ListedAreaFacts
 pub mod Luks1AreaFacts
 pub mod Luks2AreaFacts
+pub mod OpenFaults
 pub mod SamePlans
 pub mod Luks1Plans
 pub mod Luks1Refusals

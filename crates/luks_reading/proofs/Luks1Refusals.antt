@@ -1,6 +1,6 @@
 -- The refusals of a LUKS1 keyslot, step by step: the first of a step is the first of all, where no
 -- earlier step has any.
-use Rattle.std.proofs.Common.{◌≡◌, ℕ, ◌<◌, List, [], ◌∷◌, length, ◌⊎◌, inl, inr, refl, sym, ap, subst, ◌∙◌, arith, Option, Some}
+use Rattle.std.proofs.Common.{◌≡◌, ℕ, ◌<◌, List, [], ◌∷◌, length, ◌⊎◌, inl, inr, refl, sym, ap, subst, ◌∙◌, arith, Option, Some, None, IfSome, IsNone}
 use Rattle.luks_area.specs.First.{NotAfter, IsLeast}
 use Rattle.luks_head.specs.declared.fault.HeadFault.{HeadFault}
 use Rattle.luks_head.specs.declared.fault.HeadFault.TheVariants as head
@@ -13,11 +13,11 @@ use Rattle.luks_slot.specs.declared.plan.SlotPlan.{SlotPlan}
 use Rattle.luks_slot.specs.Refusal.{slot_refusal}
 use Rattle.luks_reading.specs.declared.open_fault.OpenFault.{OpenFault}
 use Rattle.luks_reading.specs.declared.open_fault.OpenFault.TheVariants.{Head, Meta, NoSuchSlot, SlotFree, Outside, Slot, Device, Memory}
-use Rattle.luks_reading.specs.Answer.{open_key, head_step, slot_row, IsLuks1HeadRefusal, IsLuks1Refusal}
+use Rattle.luks_reading.specs.Answer.{open_key, head_step, slot_row, FirstRefusal, IsLuks1HeadRefusal, IsLuks1Refusal}
 use Rattle.luks_reading.specs.declared.read_fault.ReadFault.TheVariants as reading
 use Rattle.luks_reading.specs.Conversions.{head_unread, unread_opened}
-use Rattle.luks_reading.specs.Luks1Keyslots.{IsEnabled, EntryRefused, Luks1Refused, Luks1Opens}
-use Rattle.luks_reading.specs.PlanAnswers.{PlanOpens, PlanRefused}
+use Rattle.luks_reading.specs.Luks1Keyslots.{IsEnabled, EntryRefused, Luks1Opens}
+use Rattle.luks_reading.specs.PlanAnswers.{IsPlanAccepted, IsPlanRefusal, PlanOpens}
 use Rattle.luks_reading.specs.Plans.{HasLuks1Plan}
 use Rattle.luks_reading.proofs.SamePlans.{same_refusal}
 use Rattle.luks_reading.proofs.Luks1Plans.{one_luks1_plan}
@@ -113,14 +113,14 @@ common_first h total n f least = (refuses.0, after)
 
 -- in the words of an opening
 pub common_refused : (h : List ℕ) (total n : ℕ) (f : HeadFault) → IsLeast head_key (IsCommonFault h) f
-    → Luks1Refused h total n (unread_opened (head_unread f))
+    → IsLeast open_key (IsLuks1Refusal h total n) (unread_opened (head_unread f))
 common_refused h total n f least =
-    subst (λ r. Luks1Refused h total n (unread_opened r)) (sym (common_own h f least)) (common_first h total n f least)
+    subst (λ r. IsLeast open_key (IsLuks1Refusal h total n) (unread_opened r)) (sym (common_own h f least)) (common_first h total n f least)
 
 -- ---- the keyslot's number and its entry
 
 pub entry_first : (h : List ℕ) (total n : ℕ) (f : OpenFault) → ((g : HeadFault) → IsCommonFault h g → ⊥)
-    → EntryRefused h n f → Luks1Refused h total n f
+    → EntryRefused h n f → IsLeast open_key (IsLuks1Refusal h total n) f
 entry_first h total n (Head f) clear x = (refuses.0, after)
   where
     refuses : IsLuks1HeadRefusal h n f × (head_step f ≡ 4)
@@ -187,7 +187,8 @@ in_use : (h : List ℕ) (n : ℕ) (s : Luks1Slot) → IsEnabled h n s → active
 in_use h n s on off = let is = on.enabled in omega (arith, is, off)
 
 pub plan_first : (h : List ℕ) (total n : ℕ) (s : Luks1Slot) (plan : SlotPlan) (f : OpenFault) → ((g : HeadFault) → IsCommonFault h g → ⊥)
-    → IsEnabled h n s → HasLuks1Plan h n plan → PlanRefused plan total f → Luks1Refused h total n f
+    → IsEnabled h n s → HasLuks1Plan h n plan → IsPlanRefusal plan total f
+    → IsLeast open_key (IsLuks1Refusal h total n) f
 plan_first h total n s plan (Head f) clear on is x = absurd x
 plan_first h total n s plan (Meta f) clear on is x = absurd x
 plan_first h total n s plan NoSuchSlot clear on is x = absurd x
@@ -222,29 +223,43 @@ plan_first h total n s plan (Slot f) clear on is x = (record { plan = plan; is =
         together 7 7 (slot_row f ∷ []) (slot_row g ∷ []) refl (together (slot_row f) (slot_row g) [] [] (ap slot_row e) tt)
     after Device y = absurd y
     after Memory y = absurd y
-plan_first h total n s plan Device clear on is x = x
-plan_first h total n s plan Memory clear on is x = x
+plan_first h total n s plan Device clear on is x = absurd x
+plan_first h total n s plan Memory clear on is x = absurd x
+
+-- nothing refuses a keyslot whose plan is accepted
+pub plan_unrefused : (h : List ℕ) (total n : ℕ) (s : Luks1Slot) (plan : SlotPlan) → ((g : HeadFault) → IsCommonFault h g → ⊥)
+    → IsEnabled h n s → HasLuks1Plan h n plan → IsPlanAccepted plan total → (f : OpenFault) → IsLuks1Refusal h total n f → ⊥
+plan_unrefused h total n s plan clear on is x (Head g) y = not_of_head h n s g clear on y
+plan_unrefused h total n s plan clear on is x (Meta g) y = y
+plan_unrefused h total n s plan clear on is x NoSuchSlot y = let lt = on.numbered in omega (arith, lt, y)
+plan_unrefused h total n s plan clear on is x SlotFree y = in_use h n s on y.1
+plan_unrefused h total n s plan clear on is x Outside y =
+    let same = one_luks1_plan h n plan y.plan is y.is in
+    let start = same.start in
+    let len = same.len in
+    let inside = x.inside in
+    let past = y.past in
+    omega (arith, start, len, inside, past)
+plan_unrefused h total n s plan clear on is x (Slot g) y =
+    let same = same_refusal plan y.plan (one_luks1_plan h n plan y.plan is y.is) in
+    let accepted = x.accepted in
+    let refused = y.refused in
+    absurd (cc)
+plan_unrefused h total n s plan clear on is x Device y = y
+plan_unrefused h total n s plan clear on is x Memory y = y
 
 pub plan_opens : (h v : List ℕ) (n : ℕ) (s : Luks1Slot) (plan : SlotPlan) (p : List ℕ) (found : Option (List ℕ)) → ((g : HeadFault) → IsCommonFault h g → ⊥)
     → IsEnabled h n s → HasLuks1Plan h n plan → PlanOpens plan v p found → Luks1Opens h v n p found
-plan_opens h v n s plan p found clear on is x = record { plan = plan; is = is; unrefused = unrefused; key = sym x.is }
-  where
-    unrefused : (g : OpenFault) → IsLuks1Refusal h (length v) n g → ⊥
-    unrefused (Head g) y = not_of_head h n s g clear on y
-    unrefused (Meta g) y = y
-    unrefused NoSuchSlot y = let lt = on.numbered in omega (arith, lt, y)
-    unrefused SlotFree y = in_use h n s on y.1
-    unrefused Outside y =
-        let same = one_luks1_plan h n plan y.plan is y.is in
-        let start = same.start in
-        let len = same.len in
-        let inside = x.inside in
-        let past = y.past in
-        omega (arith, start, len, inside, past)
-    unrefused (Slot g) y =
-        let same = same_refusal plan y.plan (one_luks1_plan h n plan y.plan is y.is) in
-        let accepted = x.accepted in
-        let refused = y.refused in
-        absurd (cc)
-    unrefused Device y = y
-    unrefused Memory y = y
+plan_opens h v n s plan p found clear on is x = record {
+  plan = plan;
+  is = is;
+  unrefused = plan_unrefused h (length v) n s plan clear on is (record { inside = x.inside; accepted = x.accepted });
+  key = sym x.is;
+}
+
+-- what the plan is refused by is what the keyslot is refused by
+pub plan_judged : (h : List ℕ) (total n : ℕ) (s : Luks1Slot) (plan : SlotPlan) (r : Option OpenFault) → ((g : HeadFault) → IsCommonFault h g → ⊥)
+    → IsEnabled h n s → HasLuks1Plan h n plan → IfSome r (IsPlanRefusal plan total) → (IsNone r → IsPlanAccepted plan total)
+    → FirstRefusal (IsLuks1Refusal h total n) r
+plan_judged h total n s plan (Some f) clear on is refused accepted = plan_first h total n s plan f clear on is refused
+plan_judged h total n s plan None clear on is refused accepted = plan_unrefused h total n s plan clear on is (accepted refl)

@@ -1,8 +1,8 @@
 -- The refusals of a LUKS2 keyslot, step by step: the first of a step is the first of all, where no
 -- earlier step has any.
-use Rattle.std.proofs.Common.{◌≡◌, ℕ, ◌<◌, List, [], ◌∷◌, length, refl, sym, ap, ◌∙◌, arith, subst, Option, Some, None}
+use Rattle.std.proofs.Common.{◌≡◌, ℕ, ◌<◌, List, [], ◌∷◌, length, refl, sym, ap, ◌∙◌, arith, subst, Option, Some, None, IfSome, IsNone}
 use Rattle.serde_json.specs.Data.{Data}
-use Rattle.luks_area.specs.First.{NotAfter}
+use Rattle.luks_area.specs.First.{NotAfter, IsLeast}
 use Rattle.luks_head.specs.declared.fault.HeadFault.{HeadFault}
 use Rattle.luks_head.specs.declared.fault.HeadFault.TheVariants as head
 use Rattle.luks_head.specs.Header2.{uuid_field, IsUuidFault}
@@ -14,10 +14,10 @@ use Rattle.luks_slot.specs.declared.plan.SlotPlan.{SlotPlan}
 use Rattle.luks_slot.specs.Refusal.{slot_refusal}
 use Rattle.luks_reading.specs.declared.open_fault.OpenFault.{OpenFault}
 use Rattle.luks_reading.specs.declared.open_fault.OpenFault.TheVariants.{Head, Meta, NoSuchSlot, SlotFree, Outside, Slot, Device, Memory}
-use Rattle.luks_reading.specs.Answer.{open_key, head_step, slot_row, IsLuks2Refusal}
+use Rattle.luks_reading.specs.Answer.{open_key, head_step, slot_row, FirstRefusal, IsLuks2Refusal}
 use Rattle.luks_reading.specs.ChosenCopies.{IsCleared}
-use Rattle.luks_reading.specs.Luks2Keyslots.{Luks2Refused, Luks2Opens}
-use Rattle.luks_reading.specs.PlanAnswers.{PlanOpens, PlanRefused}
+use Rattle.luks_reading.specs.Luks2Keyslots.{Luks2Opens}
+use Rattle.luks_reading.specs.PlanAnswers.{IsPlanAccepted, IsPlanRefusal, PlanOpens}
 use Rattle.luks_reading.specs.Plans.{HasLuks2Plan}
 use Rattle.luks_reading.proofs.SamePlans.{same_refusal}
 use Rattle.luks_reading.proofs.Luks2Plans.{IsOnly, one_luks2_plan}
@@ -53,7 +53,7 @@ is_there json j n plan i only x holds gone =
     cc
 
 pub plan_first2 : (b json : List ℕ) (total n : ℕ) (j : Data) (plan : SlotPlan) (f : OpenFault) → IsCleared (uuid_field b) json j → IsOnly json j n
-    → HasLuks2Plan json n plan → PlanRefused plan total f → Luks2Refused b json total n f
+    → HasLuks2Plan json n plan → IsPlanRefusal plan total f → IsLeast open_key (IsLuks2Refusal b json total n) f
 plan_first2 b json total n j plan (Head f) clear only is x = absurd x
 plan_first2 b json total n j plan (Meta f) clear only is x = absurd x
 plan_first2 b json total n j plan NoSuchSlot clear only is x = absurd x
@@ -88,29 +88,43 @@ plan_first2 b json total n j plan (Slot f) clear only is x = (record { plan = pl
         together 7 7 (slot_row f ∷ []) (slot_row g ∷ []) refl (together (slot_row f) (slot_row g) [] [] (ap slot_row e) tt)
     after Device y = absurd y
     after Memory y = absurd y
-plan_first2 b json total n j plan Device clear only is x = x
+plan_first2 b json total n j plan Device clear only is x = absurd x
 plan_first2 b json total n j plan Memory clear only is x = absurd x
+
+-- nothing refuses a keyslot whose plan is accepted
+pub plan_unrefused2 : (b json : List ℕ) (total n : ℕ) (j : Data) (plan : SlotPlan) → IsCleared (uuid_field b) json j → IsOnly json j n
+    → HasLuks2Plan json n plan → IsPlanAccepted plan total → (f : OpenFault) → IsLuks2Refusal b json total n f → ⊥
+plan_unrefused2 b json total n j plan clear only is x (Head g) y = clear.uuid_faultless g y
+plan_unrefused2 b json total n j plan clear only is x (Meta g) y = clear.faultless g y
+plan_unrefused2 b json total n j plan clear only is x NoSuchSlot y = is_there json j n plan y.value only is y.holds y.absent
+plan_unrefused2 b json total n j plan clear only is x SlotFree y = y
+plan_unrefused2 b json total n j plan clear only is x Outside y =
+    let same = one_luks2_plan json j n plan y.plan only is y.is in
+    let start = same.start in
+    let len = same.len in
+    let inside = x.inside in
+    let past = y.past in
+    omega (arith, start, len, inside, past)
+plan_unrefused2 b json total n j plan clear only is x (Slot g) y =
+    let same = same_refusal plan y.plan (one_luks2_plan json j n plan y.plan only is y.is) in
+    let accepted = x.accepted in
+    let refused = y.refused in
+    absurd (cc)
+plan_unrefused2 b json total n j plan clear only is x Device y = y
+plan_unrefused2 b json total n j plan clear only is x Memory y = y
 
 pub plan_opens2 : (b json v : List ℕ) (n : ℕ) (j : Data) (plan : SlotPlan) (p : List ℕ) (found : Option (List ℕ)) → IsCleared (uuid_field b) json j → IsOnly json j n
     → HasLuks2Plan json n plan → PlanOpens plan v p found → Luks2Opens b json v n p found
-plan_opens2 b json v n j plan p found clear only is x = record { plan = plan; is = is; unrefused = unrefused; key = sym x.is }
-  where
-    unrefused : (g : OpenFault) → IsLuks2Refusal b json (length v) n g → ⊥
-    unrefused (Head g) y = clear.uuid_faultless g y
-    unrefused (Meta g) y = clear.faultless g y
-    unrefused NoSuchSlot y = is_there json j n plan y.value only is y.holds y.absent
-    unrefused SlotFree y = y
-    unrefused Outside y =
-        let same = one_luks2_plan json j n plan y.plan only is y.is in
-        let start = same.start in
-        let len = same.len in
-        let inside = x.inside in
-        let past = y.past in
-        omega (arith, start, len, inside, past)
-    unrefused (Slot g) y =
-        let same = same_refusal plan y.plan (one_luks2_plan json j n plan y.plan only is y.is) in
-        let accepted = x.accepted in
-        let refused = y.refused in
-        absurd (cc)
-    unrefused Device y = y
-    unrefused Memory y = y
+plan_opens2 b json v n j plan p found clear only is x = record {
+  plan = plan;
+  is = is;
+  unrefused = plan_unrefused2 b json (length v) n j plan clear only is (record { inside = x.inside; accepted = x.accepted });
+  key = sym x.is;
+}
+
+-- what the plan is refused by is what the keyslot is refused by
+pub plan_judged2 : (b json : List ℕ) (total n : ℕ) (j : Data) (plan : SlotPlan) (r : Option OpenFault) → IsCleared (uuid_field b) json j → IsOnly json j n
+    → HasLuks2Plan json n plan → IfSome r (IsPlanRefusal plan total) → (IsNone r → IsPlanAccepted plan total)
+    → FirstRefusal (IsLuks2Refusal b json total n) r
+plan_judged2 b json total n j plan (Some f) clear only is refused accepted = plan_first2 b json total n j plan f clear only is refused
+plan_judged2 b json total n j plan None clear only is refused accepted = plan_unrefused2 b json total n j plan clear only is (accepted refl)

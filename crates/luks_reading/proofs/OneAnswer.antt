@@ -1,5 +1,5 @@
 -- A keyslot has one answer.
-use Rattle.std.proofs.Common.{◌≡◌, ℕ, ◌≤◌, List, [], ◌∷◌, Option, Some, None, Result, Ok, Err, IfOk, IfErr, ◌↔◌, refl, ap, subst, sym, ◌∙◌, arith}
+use Rattle.std.proofs.Common.{◌≡◌, ℕ, ◌≤◌, List, [], ◌∷◌, Option, Some, None, Result, Ok, Err, IfOk, IfErr, ◌↔◌, inl, inr, refl, ap, subst, sym, ◌∙◌, arith}
 use Rattle.serde_json.specs.Data.{Data as Value}
 use Rattle.luks_area.specs.First.{NotAfter, IsLeast}
 use Rattle.luks_area.specs.Ranges.{part}
@@ -10,10 +10,11 @@ use Rattle.luks_meta.specs.MetaFault.{Json, IsMetaFault}
 use Rattle.luks_meta.specs.Naming.{IsDigestOf}
 use Rattle.luks_slot.specs.declared.plan.SlotPlan.{SlotPlan}
 use Rattle.luks_reading.specs.declared.open_fault.OpenFault.{OpenFault}
-use Rattle.luks_reading.specs.declared.open_fault.OpenFault.TheVariants.{Head, Meta, NoSuchSlot, SlotFree, Outside, Slot, Device, Memory}
+use Rattle.luks_reading.specs.declared.open_fault.OpenFault.TheVariants.{Meta, Device, Memory}
 use Rattle.luks_reading.specs.Answer.{open_key, Answer, HasPlanAs, IsRefusal, IsRefusalAs, IsRefusedBy, Opened, Opens, refused, opens, no_key, opened_to}
 use Rattle.luks_reading.specs.Agreement.{Agrees, IsSameAnswer}
 use Rattle.luks_reading.specs.Header.{json_at}
+use Rattle.luks_reading.proofs.OpenFaults.{IsOwn, ending}
 use Rattle.luks_reading.proofs.SamePlans.{SameFields, same_answer}
 use Rattle.luks_reading.proofs.Luks1Plans.{one_luks1_plan}
 use Rattle.luks_reading.proofs.Luks2Plans.{one_luks2_plan}
@@ -87,17 +88,10 @@ ok_agrees None no_key e = refl
 ok_agrees None (refused f) e = e
 
 -- a refusal by a fault of the volume's own
-own_agrees : (f : OpenFault) (a : Opened) → IsSameAnswer a (refused f) → Agrees a (Err f)
-own_agrees f (opens k) e = absurd e
-own_agrees f no_key e = absurd e
-own_agrees (Head f) (refused g) e = e
-own_agrees (Meta f) (refused g) e = e
-own_agrees NoSuchSlot (refused g) e = e
-own_agrees SlotFree (refused g) e = e
-own_agrees Outside (refused g) e = e
-own_agrees (Slot f) (refused g) e = e
-own_agrees Device (refused g) e = tt
-own_agrees Memory (refused g) e = tt
+own_agrees : (f : OpenFault) (a : Opened) → IsOwn f → IsSameAnswer a (refused f) → Agrees a (Err f)
+own_agrees f (opens k) own e = absurd e
+own_agrees f no_key own e = absurd e
+own_agrees f (refused g) own e = own.same g e
 
 -- the device's failure and want of memory agree with each answer
 device_agrees : (a : Opened) → Agrees a (Err Device)
@@ -112,14 +106,13 @@ memory_agrees (refused g) = tt
 
 pub err_agrees : (v : List ℕ) (n : ℕ) (p : List ℕ) → ((a b : Opened) → Answer v n p a → Answer v n p b → IsSameAnswer a b)
     → (f : OpenFault) → IsRefusedBy v n p f → (a : Opened) → Answer v n p a → Agrees a (Err f)
-err_agrees v n p one (Head f) why a y = own_agrees (Head f) a (one a (refused (Head f)) y why)
-err_agrees v n p one (Meta f) why a y = own_agrees (Meta f) a (one a (refused (Meta f)) y why)
-err_agrees v n p one NoSuchSlot why a y = own_agrees NoSuchSlot a (one a (refused NoSuchSlot) y why)
-err_agrees v n p one SlotFree why a y = own_agrees SlotFree a (one a (refused SlotFree) y why)
-err_agrees v n p one Outside why a y = own_agrees Outside a (one a (refused Outside) y why)
-err_agrees v n p one (Slot f) why a y = own_agrees (Slot f) a (one a (refused (Slot f)) y why)
-err_agrees v n p one Device why a y = device_agrees a
-err_agrees v n p one Memory why a y = memory_agrees a
+err_agrees v n p one f why a y = elim (ending f) [
+  | inl device ↦ subst (λ g. Agrees a (Err g)) (sym device) (device_agrees a)
+  | inr other ↦ (elim other [
+    | inl memory ↦ subst (λ g. Agrees a (Err g)) (sym memory) (memory_agrees a)
+    | inr own ↦ own_agrees f a own (one a (refused f) y (own.refused v n p why))
+  ])
+]
 
 pub agrees : (v : List ℕ) (n : ℕ) (p : List ℕ) → ((a b : Opened) → Answer v n p a → Answer v n p b → IsSameAnswer a b)
     → (r : Result (Option (List ℕ)) OpenFault) → IfOk r (λ found. Answer v n p (opened_to found)) → IfErr r (IsRefusedBy v n p)

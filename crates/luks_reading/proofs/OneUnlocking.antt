@@ -1,15 +1,16 @@
 -- Opening a volume has one answer.
-use Rattle.std.proofs.Common.{◌≡◌, ℕ, List, [], ◌∷◌, ◌++◌, All, Option, Some, None, Result, Ok, Err, IfOk, IfErr, refl, ap, subst, sym, ◌∙◌}
+use Rattle.std.proofs.Common.{◌≡◌, ℕ, List, [], ◌∷◌, ◌++◌, All, Option, Some, None, Result, Ok, Err, IfOk, IfErr, inl, inr, refl, ap, subst, sym, ◌∙◌}
 use Rattle.std.proofs.lemmas.List.Elements.{All-head, All-tail}
 use Rattle.serde_json.specs.Data.{Data as Value}
 use Rattle.luks_head.specs.Selection.{Choice, luks1, luks2, nothing, Chosen}
 use Rattle.luks_meta.specs.MetaFault.{Json}
 use Rattle.luks_reading.specs.declared.open_fault.OpenFault.{OpenFault}
-use Rattle.luks_reading.specs.declared.open_fault.OpenFault.TheVariants.{Head, Meta, NoSuchSlot, SlotFree, Outside, Slot, Device, Memory}
+use Rattle.luks_reading.specs.declared.open_fault.OpenFault.TheVariants.{Device, Memory}
 use Rattle.luks_reading.specs.Answer.{open_key, Answer, Opened, opens}
 use Rattle.luks_reading.specs.Agreement.{AgreesUnlocked, IsSameAnswer, IsSameUnlocking}
 use Rattle.luks_reading.specs.Header.{json_at}
 use Rattle.luks_reading.specs.Unlocking.{luks2_order, GivesFirst, IsVolumeRefusedBy, IsVolumeRefusal, IsVolumeRefusalAs, IsOrderAs, DoesNotOpen, Unlocked, UnlockAnswer, Unlocks, locked, gives}
+use Rattle.luks_reading.proofs.OpenFaults.{IsOwn, ending}
 use Rattle.luks_reading.proofs.OneAnswer.{least_once}
 
 -- ---- the first of a list is one
@@ -87,16 +88,9 @@ module _
 
 -- ---- so a call's answer is the only one
 
-own_agrees : (f : OpenFault) (a : Unlocked) → IsSameUnlocking a (locked f) → AgreesUnlocked a (Err f)
-own_agrees f (gives found) e = absurd e
-own_agrees (Head f) (locked g) e = e
-own_agrees (Meta f) (locked g) e = e
-own_agrees NoSuchSlot (locked g) e = e
-own_agrees SlotFree (locked g) e = e
-own_agrees Outside (locked g) e = e
-own_agrees (Slot f) (locked g) e = e
-own_agrees Device (locked g) e = tt
-own_agrees Memory (locked g) e = tt
+own_agrees : (f : OpenFault) (a : Unlocked) → IsOwn f → IsSameUnlocking a (locked f) → AgreesUnlocked a (Err f)
+own_agrees f (gives found) own e = absurd e
+own_agrees f (locked g) own e = own.same g e
 
 device_agrees : (a : Unlocked) → AgreesUnlocked a (Err Device)
 device_agrees (gives found) = tt
@@ -112,14 +106,13 @@ ok_agrees found (locked g) e = e
 
 pub err_agrees : (v p : List ℕ) → ((a b : Unlocked) → UnlockAnswer v p a → UnlockAnswer v p b → IsSameUnlocking a b)
     → (f : OpenFault) → IsVolumeRefusedBy v f → (a : Unlocked) → UnlockAnswer v p a → AgreesUnlocked a (Err f)
-err_agrees v p one (Head f) why a y = own_agrees (Head f) a (one a (locked (Head f)) y why)
-err_agrees v p one (Meta f) why a y = own_agrees (Meta f) a (one a (locked (Meta f)) y why)
-err_agrees v p one NoSuchSlot why a y = own_agrees NoSuchSlot a (one a (locked NoSuchSlot) y why)
-err_agrees v p one SlotFree why a y = own_agrees SlotFree a (one a (locked SlotFree) y why)
-err_agrees v p one Outside why a y = own_agrees Outside a (one a (locked Outside) y why)
-err_agrees v p one (Slot f) why a y = own_agrees (Slot f) a (one a (locked (Slot f)) y why)
-err_agrees v p one Device why a y = device_agrees a
-err_agrees v p one Memory why a y = memory_agrees a
+err_agrees v p one f why a y = elim (ending f) [
+  | inl device ↦ subst (λ g. AgreesUnlocked a (Err g)) (sym device) (device_agrees a)
+  | inr other ↦ (elim other [
+    | inl memory ↦ subst (λ g. AgreesUnlocked a (Err g)) (sym memory) (memory_agrees a)
+    | inr own ↦ own_agrees f a own (one a (locked f) y (own.locked v why))
+  ])
+]
 
 pub agrees : (v p : List ℕ) → ((a b : Unlocked) → UnlockAnswer v p a → UnlockAnswer v p b → IsSameUnlocking a b)
     → (r : Result (Option (ℕ × List ℕ)) OpenFault) → IfOk r (Unlocks v p) → IfErr r (IsVolumeRefusedBy v)

@@ -1,5 +1,5 @@
 -- From what counts of a volume to the volume: which fault locks it, and which keyslot opens first.
-use Rattle.std.proofs.Common.{◌≡◌, ◌≢◌, ℕ, List, ◌++◌, Option, Some, None, Result, Ok, Err, IfOk, refl, subst, sym, ◌∙◌}
+use Rattle.std.proofs.Common.{◌≡◌, ◌≢◌, ℕ, List, ◌++◌, true, Option, Some, None, Result, Ok, Err, IfOk, refl, subst, sym, ◌∙◌}
 use Rattle.serde_json.specs.Data.{Data}
 use Rattle.luks_area.specs.First.{NotAfter, IsLeast}
 use Rattle.luks_area.specs.Ranges.{part}
@@ -19,12 +19,13 @@ use Rattle.luks_reading.specs.ChosenCopies.{IsCleared}
 use Rattle.luks_reading.specs.Conversions.{head_unread, unread_opened}
 use Rattle.luks_reading.specs.Luks1Keyslots.{Luks1Opens}
 use Rattle.luks_reading.specs.Luks2Keyslots.{Luks2Opens}
+use Rattle.luks_reading.specs.Failures.{is_open_failure}
 use Rattle.luks_reading.specs.Header.{json_at, read_key, IsReadFault, IsReadFaultAs, IsUnread}
-use Rattle.luks_reading.specs.PlanAnswers.{IsFailure}
 use Rattle.luks_reading.specs.KeyslotsTried.{rank_order, Luks1VolumeRefused, Luks1DoesNotOpen, Luks1Tries, Luks2DoesNotOpen, Luks2Tries}
 use Rattle.luks_reading.specs.Unlocking.{luks1_order, luks2_order, IsVolumeRefusedBy, IsVolumeRefusal, IsVolumeRefusalAs, IsLuks1VolumeRefusal, IsLuks2VolumeRefusal, DoesNotOpen, Unlocks}
 use Rattle.luks_reading.proofs.KeyslotAnswers.{luks1_opens, unread_first}
 use Rattle.luks_reading.proofs.KeyslotOrders.{gives_left, gives_right, gives_weaker}
+use Rattle.luks_reading.proofs.OpenFaults.{failed, locked_by}
 use Rattle.luks_reading.proofs.ReadFaults.{as_unread}
 use Rattle.luks_reading.proofs.Luks1Refusals.{common_own, common_refuses, together}
 
@@ -47,7 +48,7 @@ common_locks h f least = (least.0, after)
 
 -- in the words of an opening
 pub common_locked : (h : List ℕ) (f : HeadFault) → IsLeast head_key (IsCommonFault h) f → Luks1VolumeRefused h (unread_opened (head_unread f))
-common_locked h f least = subst (λ r. Luks1VolumeRefused h (unread_opened r)) (sym (common_own h f least)) (common_locks h f least)
+common_locked h f least own = subst (λ r. IsLeast open_key (IsLuks1VolumeRefusal h) (unread_opened r)) (sym (common_own h f least)) (common_locks h f least)
 
 -- the first fault by what counts is the volume's first fault
 locked_as : (v : List ℕ) (c : Choice) (f : OpenFault) → Chosen v c → ((d : Choice) → Chosen v d → c ≡ d)
@@ -59,14 +60,9 @@ locked_as v c f chosen only least = (
 
 pub luks1_locked : (v : List ℕ) (f : OpenFault) → Chosen v luks1 → ((d : Choice) → Chosen v d → luks1 ≡ d)
     → Luks1VolumeRefused (part v 0 592) f → IsVolumeRefusedBy v f
-luks1_locked v (Head f) chosen only x = locked_as v luks1 (Head f) chosen only x
-luks1_locked v (Meta f) chosen only x = locked_as v luks1 (Meta f) chosen only x
-luks1_locked v NoSuchSlot chosen only x = locked_as v luks1 NoSuchSlot chosen only x
-luks1_locked v SlotFree chosen only x = locked_as v luks1 SlotFree chosen only x
-luks1_locked v Outside chosen only x = locked_as v luks1 Outside chosen only x
-luks1_locked v (Slot f) chosen only x = locked_as v luks1 (Slot f) chosen only x
-luks1_locked v Device chosen only x = x
-luks1_locked v Memory chosen only x = absurd x
+luks1_locked v f chosen only x =
+    locked_by v f (λ own. locked_as v luks1 f chosen only (x own))
+    (λ e. absurd (subst (Luks1VolumeRefused (part v 0 592)) e x refl).0)
 
 -- ---- a header that isn't read
 
@@ -211,20 +207,13 @@ luks2_unlocks v p o copies j found chosen only clear x = record {
 
 -- ---- a failed device
 
-pub device_locks : (v : List ℕ) (f : OpenFault) → IsFailure f → IsVolumeRefusedBy v f
-device_locks v (Head f) x = absurd x
-device_locks v (Meta f) x = absurd x
-device_locks v NoSuchSlot x = absurd x
-device_locks v SlotFree x = absurd x
-device_locks v Outside x = absurd x
-device_locks v (Slot f) x = absurd x
-device_locks v Device x = tt
-device_locks v Memory x = absurd x
+pub device_locks : (v : List ℕ) (f : OpenFault) → is_open_failure f ≡ true → IsVolumeRefusedBy v f
+device_locks v f x = subst (IsVolumeRefusedBy v) (sym (failed f x)) tt
 
 -- and it's no want of memory
-pub failure_own : (f : OpenFault) → IsFailure f → f ≢ Memory
-failure_own f x e = subst IsFailure e x
+pub failure_own : (f : OpenFault) → is_open_failure f ≡ true → f ≢ Memory
+failure_own f x e = let is = subst (λ g. is_open_failure g ≡ true) e x in cc
 
 -- no memory is taken for what locks a LUKS1 volume
 pub luks1_locked_own : (h : List ℕ) (f : OpenFault) → Luks1VolumeRefused h f → f ≢ Memory
-luks1_locked_own h f x e = subst (Luks1VolumeRefused h) e x
+luks1_locked_own h f x e = (subst (Luks1VolumeRefused h) e x refl).0

@@ -131,6 +131,11 @@ pub record IsRefusal (v : List ℕ) (n : ℕ) (f : OpenFault) : Type 0 where
   pub chosen : Chosen v choice
   pub fault : IsRefusalAs v n choice f
 
+-- the first of a set of refusals, or none where the set has none
+abbrev pub FirstRefusal : (OpenFault → Type 0) → Option OpenFault → Type 0
+FirstRefusal refusals (Some f) = IsLeast open_key refusals f
+FirstRefusal refusals None = (f : OpenFault) → refusals f → ⊥
+
 -- nothing refuses the keyslot `n` of the volume `v`, and its plan gives `found` by the passphrase `p`:
 -- the standards' equations applied to the area's bytes, where their key meets the stored digest
 pub record Opens (v : List ℕ) (n : ℕ) (p : List ℕ) (found : Option (List ℕ)) : Type 0 where

@@ -1,5 +1,5 @@
 -- What trying keyslots gives, by what counts of the volume.
-use Rattle.std.specs.Prelude.{ℕ, List, filter, Bool, Option, Some, None, Result, Ok, Err, ⊤}
+use Rattle.std.specs.Prelude.{◌≡◌, ℕ, List, filter, Bool, false, Option, Some, None, Result, Ok, Err}
 use Rattle.serde_json.specs.Data.{Data as Value}
 use Rattle.luks_area.specs.First.{IsLeast}
 use Rattle.luks_reading.specs.declared.open_fault.OpenFault.{OpenFault}
@@ -7,6 +7,7 @@ use Rattle.luks_reading.specs.declared.open_fault.OpenFault.TheVariants.{Head, M
 use Rattle.luks_reading.specs.declared.unlocking.Rank.{Rank}
 use Rattle.luks_reading.specs.declared.unlocking.Rank.TheVariants.{Preferred, Normal}
 use Rattle.luks_reading.specs.Answer.{open_key}
+use Rattle.luks_reading.specs.Failures.{is_open_failure}
 use Rattle.luks_reading.specs.Luks1Keyslots.{Luks1Opens}
 use Rattle.luks_reading.specs.Luks2Keyslots.{Luks2Opens}
 use Rattle.luks_reading.specs.Unlocking.{is_preferred, is_normal, priority_of, luks1_order, numbers_below, GivesFirst, IsLuks1VolumeRefusal}
@@ -38,9 +39,7 @@ Luks1Tries h v p found = GivesFirst (Luks1DoesNotOpen h v p) (λ n k. Luks1Opens
 
 -- the header `h` refuses the volume, unless the device failed; no memory is taken
 abbrev pub Luks1VolumeRefused : List ℕ → OpenFault → Type 0
-Luks1VolumeRefused h Device = ⊤
-Luks1VolumeRefused h Memory = ⊥
-Luks1VolumeRefused h f = IsLeast open_key (IsLuks1VolumeRefusal h) f
+Luks1VolumeRefused h f = is_open_failure f ≡ false → IsLeast open_key (IsLuks1VolumeRefusal h) f
 
 -- ---- LUKS2
 

@@ -1,5 +1,5 @@
 -- What has been judged of a LUKS1 header on the way to a keyslot.
-use Rattle.std.specs.Prelude.{◌≡◌, ℕ, ◌<◌, ◌≤◌, List, length, Option, ⊤}
+use Rattle.std.specs.Prelude.{◌≡◌, ℕ, ◌<◌, ◌≤◌, List, length, false, Option}
 use Rattle.luks_area.specs.First.{IsLeast}
 use Rattle.luks_area.specs.Ranges.{part}
 use Rattle.luks_head.specs.declared.fault.HeadFault.{HeadFault}
@@ -11,6 +11,7 @@ use Rattle.luks_slot.specs.Opening.{slot_key}
 use Rattle.luks_reading.specs.declared.open_fault.OpenFault.{OpenFault}
 use Rattle.luks_reading.specs.declared.open_fault.OpenFault.TheVariants.{Head, Meta, NoSuchSlot, SlotFree, Outside, Slot, Device, Memory}
 use Rattle.luks_reading.specs.Answer.{open_key, IsLuks1Refusal}
+use Rattle.luks_reading.specs.Failures.{is_open_failure}
 use Rattle.luks_reading.specs.Plans.{HasLuks1Plan}
 
 -- the keyslot `n` of the header `h` is fit for use and in use, and says `s`
@@ -43,9 +44,7 @@ EntryRefused h n Memory = ⊥
 -- opening the keyslot `n` is refused by the header `h` in a volume of `total` bytes, unless the device
 -- failed; no memory is taken
 abbrev pub Luks1Refused : List ℕ → ℕ → ℕ → OpenFault → Type 0
-Luks1Refused h total n Device = ⊤
-Luks1Refused h total n Memory = ⊥
-Luks1Refused h total n f = IsLeast open_key (IsLuks1Refusal h total n) f
+Luks1Refused h total n f = is_open_failure f ≡ false → IsLeast open_key (IsLuks1Refusal h total n) f
 
 -- the keyslot `n` of the volume `v` with the header `h` opens to `found`
 pub record Luks1Opens (h v : List ℕ) (n : ℕ) (p : List ℕ) (found : Option (List ℕ)) : Type 0 where

@@ -13,6 +13,7 @@ mod open_fault;
 mod opening;
 mod plan;
 mod read_fault;
+mod refusing;
 mod report;
 mod unlocking;
 
@@ -36,5 +37,6 @@ pub use open_fault::OpenFault;
 pub use opening::{open_header_slot, open_slot};
 pub use plan::{luks1_area, luks1_plan, luks2_plan};
 pub use read_fault::ReadFault;
+pub use refusing::refused_slot;
 pub use report::{Data, Report, Version};
 pub use unlocking::{unlock, unlock_header};

@@ -1,5 +1,5 @@
 //! Opening a volume by the first keyslot that opens.
-ghost use Rattle.std.specs.Prelude.{◌≡◌, ◌≢◌, ◌+◌, ◌^◌, ◌<◌, ℕ, List, length, IfOk, IfErr, IfSome};
+ghost use Rattle.std.specs.Prelude.{◌≡◌, ◌≢◌, ◌+◌, ◌^◌, ◌<◌, ℕ, List, length, true, IfOk, IfErr, IfSome};
 ghost use Rattle.luks_area.specs.Device.{CountsFailure, IsUnchanged};
 ghost use Rattle.luks_head.specs.declared.fault.HeadFault.{HeadFault as TheFault};
 ghost use Rattle.luks_head.specs.Bytes.{number_at};
@@ -12,7 +12,6 @@ ghost use Rattle.luks_reading.specs.Agreement.{AgreesUnlocked};
 ghost use Rattle.luks_reading.specs.ChosenCopies.{IsCleared};
 ghost use Rattle.luks_reading.specs.Failures.{is_open_failure};
 ghost use Rattle.luks_reading.specs.Header.{IsAcceptedHeader, IsHeader, TakesNoMemory};
-ghost use Rattle.luks_reading.specs.PlanAnswers.{IsFailure};
 ghost use Rattle.luks_reading.specs.Plans.{HasKeyBytes, HasLuks2KeyBytes};
 ghost use Rattle.luks_reading.specs.KeyslotsTried.{is_of_rank, passed_over, rank_order, Luks1VolumeRefused, Luks1Tried, Luks1Tries, Luks2Tried, Luks2Tries};
 ghost use Rattle.luks_reading.specs.Unlocking.{luks2_order, IsVolumeRefusedBy, Unlocked, UnlockAnswer, Unlocks};
@@ -142,7 +141,7 @@ fn try_luks1<D: Device>(
         (D.failed device.old) (D.failed device.new) }
     ensures tried { D.tells
         → IfOk result (Luks1Tried header.now (D.bytes device.old) n passphrase.now) }
-    ensures kinds { IfErr result IsFailure }
+    ensures kinds { IfErr result (λ f. is_open_failure f ≡ true) }
     ensures length { IfOk result
         (λ found. IfSome found (λ key. length key ≡ number_at header.now 108 4)) }
 {
@@ -166,7 +165,7 @@ fn unlock_luks2<D: Device>(
     ensures tries { D.tells → (b json : List ℕ) → IsCleared (uuid_field b) json (content meta.now)
         → IfOk result
         (Luks2Tries b json (D.bytes device.old) passphrase.now (luks2_order (content meta.now))) }
-    ensures kinds { IfErr result IsFailure }
+    ensures kinds { IfErr result (λ f. is_open_failure f ≡ true) }
     ensures length { IfOk result
         (λ found. IfSome found
         (λ opened. HasLuks2KeyBytes (content meta.now) opened.0 (length opened.1))) }
@@ -195,7 +194,7 @@ fn try_rank<D: Device>(
         → IfOk result
         (Luks2Tries b json (D.bytes device.old) passphrase.now
         (rank_order rank (content meta.now))) }
-    ensures kinds { IfErr result IsFailure }
+    ensures kinds { IfErr result (λ f. is_open_failure f ≡ true) }
     ensures length { IfOk result
         (λ found. IfSome found
         (λ opened. HasLuks2KeyBytes (content meta.now) opened.0 (length opened.1))) }
@@ -240,7 +239,7 @@ fn try_luks2<D: Device>(
         (D.failed device.old) (D.failed device.new) }
     ensures tried { D.tells → (b json : List ℕ) → IsCleared (uuid_field b) json (content meta.now)
         → IfOk result (Luks2Tried b json (D.bytes device.old) n passphrase.now) }
-    ensures kinds { IfErr result IsFailure }
+    ensures kinds { IfErr result (λ f. is_open_failure f ≡ true) }
     ensures length { IfOk result
         (λ found. IfSome found (λ key. HasLuks2KeyBytes (content meta.now) n (length key))) }
 {

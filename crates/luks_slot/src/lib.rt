@@ -20,6 +20,7 @@ pub use fault::SlotFault;
 pub use key::Key;
 pub use laws::{found_key_meets_digest, sealed_area_opens};
 pub use opening::open;
+pub use parameters::refusal;
 pub use plan::{AreaCipher, Derivation, DigestPlan, SlotPlan};
 pub use sealing::seal;
 pub use wiping::wipe;

@@ -1,4 +1,4 @@
-//! What a keyslot is opened and sealed by, where it isn't refused.
+//! Whether a keyslot is refused, and else by what it is opened and sealed.
 
 ghost use Rattle.std.specs.Prelude.{◌≡◌, ◌==◌, MatchResult, IfErr, IfOk, IsTrue};
 ghost use Rattle.luks_slot.specs.Parameters.{AreParameters};
@@ -17,6 +17,14 @@ pub(crate) struct Parameters<'a> {
     pub(crate) salt: &'a [u8],
     pub(crate) splitter_hash: HashName,
     pub(crate) digest_hash: HashName,
+}
+
+/// Why a keyslot of this plan can neither be opened nor sealed: the first of `Argon2`, `Cipher`,
+/// `Hash` and `KeySize`, or None. `open` and `seal` refuse exactly these plans, by the same judging.
+pub fn refusal(plan: &SlotPlan<'_>) -> Option<SlotFault>
+    ensures { result ≡ slot_refusal plan.now }
+{
+    parameters_of(plan).err()
 }
 
 // The parameters of the plan, or its first refusal.

@@ -11,7 +11,7 @@ pub returns-in_err-slot-clause-refused : goal.returns-in_err-slot-clause-refused
 returns-in_err-slot-clause-refused g c =
     let p = err_from_is_err_and c.from_residual.result c.from_residual.ensures.1 in
     rw (p.1, p.2)
-    (entry_first c.args.header.now (g.D.Device.size c.args.device.now) c.args.n c.in_err-slot.field-0.0
+    (λ own. entry_first c.args.header.now (g.D.Device.size c.args.device.now) c.args.n c.in_err-slot.field-0.0
     c.requires.faultless c.in_err-slot.ensures.refused)
 
 pub open_planned-requires-clause-judged : goal.open_planned-requires-clause-judged
@@ -34,9 +34,9 @@ returns-clause-refused g c =
     let on = c.in_ok-slot.ensures.found in
     let has : HasLuks1Plan c.args.header.now c.args.n c.luks1_plan-plan.result =
     record { numbered = on.numbered; is = c.luks1_plan-plan.ensures.is c.args.header.now (entry c.args.header.now c.args.n) c.requires.common on.says } in
-    IfErr-weaker c.open_planned.result _ _ (λ fault refused.
+    IfErr-weaker c.open_planned.result _ _ (λ fault refused own.
     plan_first c.args.header.now (g.D.Device.size c.args.device.now) c.args.n c.in_ok-slot.slot c.luks1_plan-plan.result
-    fault c.requires.faultless on has refused)
+    fault c.requires.faultless on has (refused own))
     c.open_planned.ensures.refused
 
 pub returns-clause-length : goal.returns-clause-length

@@ -49,8 +49,8 @@ returns-clause-refused g c = λ b json clear.
     let plan = c.luks2_plan-plan.ensures (content c.args.meta.now) c.args.n c.unwrap-number.result slot.object digest.object slot.tells_members naming digest.is digest.tells_members in
     let has : HasLuks2Plan json c.args.n c.luks2_plan-plan.result =
     record { numbered = low; value = content c.args.meta.now; holds = clear.meta.json; object = slot.object; there = slot.is; is = plan } in
-    IfErr-weaker c.open_planned.result _ _ (λ fault refused.
-    plan_first2 b json (g.D.Device.size c.args.device.now) c.args.n (content c.args.meta.now) c.luks2_plan-plan.result fault clear only has refused)
+    IfErr-weaker c.open_planned.result _ _ (λ fault refused own.
+    plan_first2 b json (g.D.Device.size c.args.device.now) c.args.n (content c.args.meta.now) c.luks2_plan-plan.result fault clear only has (refused own))
     c.open_planned.ensures.refused
 
 pub returns-clause-length : goal.returns-clause-length

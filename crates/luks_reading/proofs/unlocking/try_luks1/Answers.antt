@@ -1,7 +1,8 @@
 -- A keyslot that is refused or gives no key doesn't open.
 use Rattle.std.proofs.Common.{◌≡◌, ℕ, length, subst, sym}
 use Rattle.luks_reading.specs.Luks1Keyslots.{Luks1Refused}
-use Rattle.luks_reading.proofs.TriedKeyslots.{luks1_own, luks1_refused_tried, luks1_tried, passed_fails, passed_none}
+use Rattle.luks_reading.proofs.OpenFaults.{passed_fails}
+use Rattle.luks_reading.proofs.TriedKeyslots.{luks1_own, luks1_refused_tried, luks1_tried, passed_none}
 use Rattle.luks_reading.proofs.unlocking.try_luks1.Goals as goal
 
 pub returns-in-Ok-clause-tried : goal.returns-in-Ok-clause-tried

@@ -2,7 +2,8 @@
 use Rattle.std.proofs.Common.{◌≡◌, ℕ, length, subst, sym}
 use Rattle.luks_meta.specs.Content.{content}
 use Rattle.luks_reading.specs.Luks2Keyslots.{Luks2Refused}
-use Rattle.luks_reading.proofs.TriedKeyslots.{luks2_refused_tried, luks2_tried, passed_fails, passed_none}
+use Rattle.luks_reading.proofs.OpenFaults.{passed_fails}
+use Rattle.luks_reading.proofs.TriedKeyslots.{luks2_refused_tried, luks2_tried, passed_none}
 use Rattle.luks_reading.proofs.unlocking.try_luks2.Goals as goal
 
 pub returns-in-Ok-clause-tried : goal.returns-in-Ok-clause-tried

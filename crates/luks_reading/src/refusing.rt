@@ -1,0 +1,78 @@
+//! Why a keyslot is refused whatever the passphrase.
+ghost use Rattle.std.specs.Prelude.{◌≡◌, ℕ, List, length, IfSome, IsNone};
+ghost use Rattle.luks_head.specs.Header2.{uuid_field};
+ghost use Rattle.luks_meta.specs.Content.{content};
+ghost use Rattle.luks_meta.specs.Objects.{IsAccepted};
+ghost use Rattle.luks_reading.specs.Answer.{FirstRefusal, IsLuks1Refusal, IsLuks2Refusal, IsRefusal};
+ghost use Rattle.luks_reading.specs.ChosenCopies.{IsCleared};
+ghost use Rattle.luks_reading.specs.Header.{IsAcceptedHeader, IsHeader};
+ghost use Rattle.luks_reading.specs.PlanAnswers.{IsPlanAccepted, IsPlanRefusal};
+
+use crate::header::Header;
+use crate::luks1_fields::{luks1_common, luks1_entry};
+use crate::open_fault::OpenFault;
+use crate::plan::{luks1_plan, luks2_plan};
+use luks_head::{luks2_without_faults, one_choice};
+use luks_meta::{Meta, metadata_without_faults, one_value};
+use luks_slot::{SlotPlan, refusal};
+
+/// By what `open_header_slot` refuses the keyslot `n` of a volume of `total` bytes with this header,
+/// or None where it tries the passphrase. It takes no memory.
+pub fn refused_slot(header: &Header, n: u8, total: u64) -> Option<OpenFault>
+    requires accepted { IsAcceptedHeader header.now }
+    ensures { (v : List ℕ) → IsHeader v header.now → length v ≡ total
+        → FirstRefusal (IsRefusal v n) result }
+{
+    one_choice();
+    luks2_without_faults();
+    metadata_without_faults();
+    match header {
+        Header::Luks1(bytes) => luks1_refusal(bytes.as_slice(), n, total),
+        Header::Luks2(copy) => luks2_refusal(&copy.meta, n, total),
+    }
+}
+
+/// By what a LUKS1 header, these 592 bytes, refuses the keyslot `n` in a volume of `total` bytes.
+fn luks1_refusal(header: &[u8], n: u8, total: u64) -> Option<OpenFault>
+    requires { length header.now ≡ 592 }
+    ensures { FirstRefusal (IsLuks1Refusal header.now total n) result }
+{
+    let common = match luks1_common(header) {
+        Ok(common) => common,
+        Err(fault) => return Some(OpenFault::from(fault)),
+    };
+    match luks1_entry(header, n) {
+        Ok(slot) => plan_refusal(&luks1_plan(&common, &slot), total),
+        Err(fault) => Some(fault),
+    }
+}
+
+/// By what this metadata refuses the keyslot `n` in a volume of `total` bytes.
+fn luks2_refusal(meta: &Meta, n: u8, total: u64) -> Option<OpenFault>
+    requires { IsAccepted (content meta.now) }
+    ensures { (b json : List ℕ) → IsCleared (uuid_field b) json (content meta.now)
+        → FirstRefusal (IsLuks2Refusal b json total n) result }
+{
+    one_value();
+    if n > 31 {
+        return Some(OpenFault::NoSuchSlot);
+    }
+    let Some(keyslot) = meta.keyslot(n) else {
+        return Some(OpenFault::NoSuchSlot);
+    };
+    let number = meta.digest_of_keyslot(n).unwrap();
+    let digest = meta.digest(number).unwrap();
+    plan_refusal(&luks2_plan(&keyslot, &digest), total)
+}
+
+/// By what the plan is refused in a volume of `total` bytes: its area isn't inside, or it is refused
+/// itself.
+fn plan_refusal(plan: &SlotPlan<'_>, total: u64) -> Option<OpenFault>
+    ensures refused { IfSome result (IsPlanRefusal plan.now total) }
+    ensures accepted { IsNone result → IsPlanAccepted plan.now total }
+{
+    if !plan.area.is_inside(total) {
+        return Some(OpenFault::Outside);
+    }
+    refusal(plan).map(OpenFault::Slot)
+}
