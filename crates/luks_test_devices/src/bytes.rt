@@ -48,7 +48,7 @@ pub fn leave_behind(volume: &mut [u8], at: usize, from: &[u8], leave: Leave)
 }
 
 /// Writes so many bytes 0xFF from the place `at` on.
-fn put_ones(volume: &mut [u8], at: usize, len: usize)
+pub(crate) fn put_ones(volume: &mut [u8], at: usize, len: usize)
     requires { at + len ≤ length volume.old }
     ensures { volume.new ≡ written volume.old at (replicate len 0xFF) }
 {

@@ -5,6 +5,7 @@
 mod bytes;
 mod devices;
 mod edits;
+mod losing;
 mod luks1_volumes;
 mod luks2_volumes;
 mod memory;
@@ -13,6 +14,7 @@ mod sums;
 
 pub use bytes::{leave_behind, part, put};
 pub use devices::{Call, Front, Recording};
+pub use losing::{LosingDevice, Loss};
 pub use luks1_volumes::small1;
 pub use luks2_volumes::{Fields, TEXT, UUID, copy_of, small2, two_hashes, two_keyslots};
 pub use memory::{BLOCKS, TakenMemory};
