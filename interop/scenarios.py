@@ -1,0 +1,77 @@
+"""The volumes and the commands that `faults` and `power` try: edits of the program and of cryptsetup."""
+import os
+import subprocess
+import sys
+
+TOP = os.path.dirname(os.path.dirname(os.path.abspath(__file__)))
+
+MIB = 1 << 20
+LENGTH, PAYLOAD = 4 * MIB + 65536, 4 * MIB
+FAST = "--pbkdf-force-iterations 1000 "
+FORMATS = {"luks1": "luksFormat -q --type luks1 --cipher aes-xts-plain64 --key-size 256 --offset 8192 " + FAST,
+           "luks2": "luksFormat -q --type luks2 --cipher aes-xts-plain64 --key-size 256 --offset 8192 --luks2-keyslots-size 2m --pbkdf pbkdf2 " + FAST,
+           "luks2-full": "luksFormat -q --type luks2 --cipher aes-xts-plain64 --key-size 256 --offset 8192 --luks2-keyslots-size 262144 --pbkdf pbkdf2 " + FAST}
+# how a LUKS2 keyslot is made by cryptsetup
+DERIVATION = {"luks1": FAST, "luks2": "--pbkdf pbkdf2 " + FAST, "luks2-full": "--pbkdf pbkdf2 " + FAST}
+# where a copy of LUKS2's header is damaged: the place of some bytes of its metadata
+DAMAGES = {"first": 4096, "second": 16384 + 4096}
+WORDS = ("one", "two", "three")
+# what the edit is to do: (kept, one of these, opens where all went well, doesn't then)
+EDITS = {
+    "add": ({"one", "two"}, set(), {"three"}, set()),
+    "change": ({"two"}, {"one", "three"}, {"three"}, {"one"}),
+    "change-0": ({"two"}, {"one", "three"}, {"three"}, {"one"}),
+    "remove": ({"two"}, set(), set(), {"one"}),
+    "repair": ({"one", "two"}, set(), set(), set()),
+    "label": ({"one", "two"}, set(), set(), set()),
+}
+THEIRS = {
+    "add": "cryptsetup luksAddKey -q {derivation} --key-file one V three",
+    "change": "cryptsetup luksChangeKey -q {derivation} --key-file one V three",
+    "change-0": "cryptsetup luksChangeKey -q {derivation} --key-slot 0 --key-file one V three",
+    "remove": "cryptsetup luksKillSlot -q --key-file two V 0",
+    "repair": "cryptsetup repair -q V",
+    "label": "cryptsetup config -q --label disk V",
+}
+OURS = {
+    "add": "LUKS add V --slot 0 --passphrase one --new three --random random --iterations 1000",
+    "change": "LUKS change V --slot 0 --passphrase one --new three --random random --iterations 1000",
+    "remove": "LUKS remove V --slot 0 --passphrase one --random random",
+    "repair": "LUKS repair V --random random",
+    "label": "LUKS label V disk --random random",
+}
+# How often the program syncs the volume in each edit: once before it begins, and then after each step. A copy of LUKS2's header that is
+# damaged or older is written first, so that a repair has as many steps whichever it is.
+SYNCS = {
+    "luks1": {"add": 3, "change": 5, "remove": 3},
+    "luks2": {"add": 4, "change": 5, "remove": 4, "repair": 3, "label": 3},
+}
+
+
+def payload():
+    return bytes(i * 13 % 251 for i in range(LENGTH - PAYLOAD))
+
+
+def put(folder, name, data):
+    with open(os.path.join(folder, name), "wb") as out:
+        out.write(data)
+
+
+def cryptsetup(folder, words):
+    done = subprocess.run(["cryptsetup", *words], cwd=folder, capture_output=True, text=True)
+    if done.returncode:
+        sys.exit(f"cryptsetup {' '.join(words)}: {done.stdout}{done.stderr}")
+
+
+def make_volumes(folder):
+    """A volume of each format with the passphrases `one` in slot 0 and `two` in slot 1, and the files that the commands name."""
+    for word in WORDS:
+        put(folder, word, word.encode())
+    put(folder, "random", bytes(i * 7 % 251 for i in range(400000)))
+    for version, line in FORMATS.items():
+        put(folder, version, bytes(LENGTH))
+        cryptsetup(folder, (line + "--key-file one " + version).split())
+        cryptsetup(folder, f"luksAddKey -q {DERIVATION[version]} --key-file one {version} two".split())
+        with open(os.path.join(folder, version), "r+b") as volume:
+            volume.seek(PAYLOAD)
+            volume.write(payload())
