@@ -16,22 +16,8 @@ pub record AreRepliedSoFar (k : ℕ) (before now : List Reply) : Type 0 where
 -- the device's failure is one reply
 pub the_failure : (r : Reply) → IsFailure r → r ≡ Err fault.Device
 the_failure (Ok done) x = absurd x
-the_failure (Err (fault.NotAccepted f)) x = absurd x
-the_failure (Err fault.Requirements) x = absurd x
-the_failure (Err fault.NoSuchSlot) x = absurd x
-the_failure (Err fault.Locked) x = absurd x
-the_failure (Err (fault.Slot s)) x = absurd x
-the_failure (Err fault.SlotTaken) x = absurd x
-the_failure (Err fault.NoFreeSlot) x = absurd x
-the_failure (Err fault.NoRoom) x = absurd x
-the_failure (Err fault.LastSlot) x = absurd x
-the_failure (Err fault.Iterations) x = absurd x
-the_failure (Err fault.BadLabel) x = absurd x
-the_failure (Err fault.SeqExhausted) x = absurd x
-the_failure (Err fault.MetadataFull) x = absurd x
-the_failure (Err fault.RandomLength) x = absurd x
-the_failure (Err fault.Memory) x = absurd x
 the_failure (Err fault.Device) x = refl
+the_failure (Err f) x = absurd x
 
 -- no failure among them, and none behind them
 pub none_then : (rs : List Reply) (r : Reply) → HasNoFailure rs → (IsFailure r → ⊥) → HasNoFailure (rs ++ r ∷ [])
@@ -79,19 +65,5 @@ failure_counted r old new failed x = subst (λ q. CountsFailure is_edit_failure 
 
 pub no_failure_counted : (r : Reply) (old new : ℕ) → (IsFailure r → ⊥) → CountsFailure is_edit_failure r old new → new ≡ old
 no_failure_counted (Ok done) old new fine x = x
-no_failure_counted (Err (fault.NotAccepted f)) old new fine x = x
-no_failure_counted (Err fault.Requirements) old new fine x = x
-no_failure_counted (Err fault.NoSuchSlot) old new fine x = x
-no_failure_counted (Err fault.Locked) old new fine x = x
-no_failure_counted (Err (fault.Slot s)) old new fine x = x
-no_failure_counted (Err fault.SlotTaken) old new fine x = x
-no_failure_counted (Err fault.NoFreeSlot) old new fine x = x
-no_failure_counted (Err fault.NoRoom) old new fine x = x
-no_failure_counted (Err fault.LastSlot) old new fine x = x
-no_failure_counted (Err fault.Iterations) old new fine x = x
-no_failure_counted (Err fault.BadLabel) old new fine x = x
-no_failure_counted (Err fault.SeqExhausted) old new fine x = x
-no_failure_counted (Err fault.MetadataFull) old new fine x = x
-no_failure_counted (Err fault.RandomLength) old new fine x = x
-no_failure_counted (Err fault.Memory) old new fine x = x
 no_failure_counted (Err fault.Device) old new fine x = absurd (fine tt)
+no_failure_counted (Err f) old new fine x = x

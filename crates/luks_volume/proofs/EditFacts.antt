@@ -7,8 +7,8 @@ use Rattle.luks_edit.specs.declared.edit.Edit.{Edit}
 use Rattle.luks_edit.specs.declared.edit_fault.EditFault.TheVariants as fault
 use Rattle.luks_edit.specs.Kept.{Keeps}
 use Rattle.luks_edit.specs.Ran.{IsCompleted, IsFailure, Reply}
-use Rattle.luks1_edits.specs.Edited.{After1, NamedKeyslots1}
-use Rattle.luks1_edits.specs.Refused.{IsUnrefused1}
+use Rattle.luks1_edits.specs.Edited.{NamedKeyslots1}
+use Rattle.luks1_edits.proofs.EditedFacts.{keeps}
 use Rattle.luks2_edits.specs.Edited.{After2, HasRanges, NamedKeyslots2}
 use Rattle.luks2_edits.specs.Refused.{IsUnrefused2}
 use Rattle.luks_volume.specs.Edits.{AfterAs, IsUnrefused, NamedSlots, Replies}
@@ -28,8 +28,6 @@ unchanged : (payload : Data) (named : ℕ → Type 0) (v w : List ℕ) → WellF
 unchanged payload named v w well same = subst (λ u. Keeps payload named v u) (sym same) (kept_same payload named v well)
 
 module _
-    (keeps1 : (payload : Data) (e : Edit) (v random w : List ℕ) → Chosen v luks1 → WellFormed v payload → IsUnrefused1 v payload e random
-    → After1 v e random w → Keeps payload (NamedKeyslots1 v e) v w)
     (keeps2 : (payload : Data) (e : Edit) (v random w : List ℕ) → WellFormed v payload → HasRanges v e random
     → IsUnrefused2 v payload e random → After2 v payload e random w → Keeps payload (NamedKeyslots2 v e) v w)
   where
@@ -38,7 +36,7 @@ module _
         → AfterAs v payload e random c w → Keeps payload (NamedSlots v e) v w
     completed payload e v random w luks1 chosen well ranges fine after =
         keeps_fewer payload (NamedKeyslots1 v e) (NamedSlots v e) v w (λ n is. record { choice = luks1; chosen = chosen; named = is })
-        (keeps1 payload e v random w chosen well (record { none = λ f is. fine.none f (record { choice = luks1; chosen = chosen; fault = is }) }) after)
+        (keeps payload v chosen well e random w (record { none = λ f is. fine.none f (record { choice = luks1; chosen = chosen; fault = is }) }) after)
     completed payload e v random w (luks2 o copies) chosen well ranges fine after =
         keeps_fewer payload (NamedKeyslots2 v e) (NamedSlots v e) v w (λ n is. record { choice = luks2 o copies; chosen = chosen; named = is })
         (keeps2 payload e v random w well ranges (record { none = λ f is. fine.none f (record { choice = luks2 o copies; chosen = chosen; fault = is }) }) after)
@@ -51,18 +49,4 @@ module _
         keeps_fewer payload (NamedSlots v e) (λ n. IsCompleted (Ok done) × NamedSlots v e n) v w (λ n named. (tt, named))
         (completed payload e v random w is.3.choice is.3.chosen well is.0 is.1 is.3.after)
     edit_keeps payload v w e random (Err fault.Device) well is fine = absurd (fine tt)
-    edit_keeps payload v w e random (Err fault.Memory) well is fine = unchanged payload _ v w well is.1
-    edit_keeps payload v w e random (Err (fault.NotAccepted f)) well is fine = unchanged payload _ v w well is.1
-    edit_keeps payload v w e random (Err fault.Requirements) well is fine = unchanged payload _ v w well is.1
-    edit_keeps payload v w e random (Err fault.NoSuchSlot) well is fine = unchanged payload _ v w well is.1
-    edit_keeps payload v w e random (Err fault.Locked) well is fine = unchanged payload _ v w well is.1
-    edit_keeps payload v w e random (Err (fault.Slot s)) well is fine = unchanged payload _ v w well is.1
-    edit_keeps payload v w e random (Err fault.SlotTaken) well is fine = unchanged payload _ v w well is.1
-    edit_keeps payload v w e random (Err fault.NoFreeSlot) well is fine = unchanged payload _ v w well is.1
-    edit_keeps payload v w e random (Err fault.NoRoom) well is fine = unchanged payload _ v w well is.1
-    edit_keeps payload v w e random (Err fault.LastSlot) well is fine = unchanged payload _ v w well is.1
-    edit_keeps payload v w e random (Err fault.Iterations) well is fine = unchanged payload _ v w well is.1
-    edit_keeps payload v w e random (Err fault.BadLabel) well is fine = unchanged payload _ v w well is.1
-    edit_keeps payload v w e random (Err fault.SeqExhausted) well is fine = unchanged payload _ v w well is.1
-    edit_keeps payload v w e random (Err fault.MetadataFull) well is fine = unchanged payload _ v w well is.1
-    edit_keeps payload v w e random (Err fault.RandomLength) well is fine = unchanged payload _ v w well is.1
+    edit_keeps payload v w e random (Err f) well is fine = unchanged payload _ v w well is.1

@@ -1,10 +1,10 @@
 -- How many random bytes an edit takes: what is told of a volume of one version is told of the volume.
-use Rattle.std.proofs.Common.{◌≡◌, ℕ, List, Result, Ok, Err, ◌≢◌}
+use Rattle.std.proofs.Common.{ℕ, List, Result, Ok, Err, ◌≢◌, subst}
 use Rattle.luks_area.specs.First.{IsLeast}
 use Rattle.luks_head.specs.declared.selection.Copies.{Copies}
-use Rattle.luks_head.specs.Selection.{Choice, luks1, luks2, Chosen}
+use Rattle.luks_head.specs.Selection.{luks1, luks2, Chosen}
 use Rattle.luks_reading.specs.declared.report.Data.{Data}
-use Rattle.luks_reading.specs.Header.{NeedsMetadata, TakesNoMemory}
+use Rattle.luks_reading.specs.Header.{TakesNoMemory}
 use Rattle.luks_edit.specs.declared.edit.Edit.{Edit}
 use Rattle.luks_edit.specs.declared.edit_fault.EditFault.{EditFault}
 use Rattle.luks_edit.specs.declared.edit_fault.EditFault.TheVariants as fault
@@ -18,77 +18,34 @@ use Rattle.luks_volume.proofs.VersionFacts.{first_need_by, first_untold, need_fa
 -- no fault of reading the header is another
 pub unread_untold : (v : List ℕ) (payload : Data) (e : Edit) (f : EditFault) → IsHeaderRefused v payload f → IsUntold v payload e f
 unread_untold v payload e (fault.NotAccepted f) x = first_untold v payload e f x
-unread_untold v payload e fault.Requirements x = absurd x
-unread_untold v payload e fault.NoSuchSlot x = absurd x
-unread_untold v payload e fault.Locked x = absurd x
-unread_untold v payload e (fault.Slot s) x = absurd x
-unread_untold v payload e fault.SlotTaken x = absurd x
-unread_untold v payload e fault.NoFreeSlot x = absurd x
-unread_untold v payload e fault.NoRoom x = absurd x
-unread_untold v payload e fault.LastSlot x = absurd x
-unread_untold v payload e fault.Iterations x = absurd x
-unread_untold v payload e fault.BadLabel x = absurd x
-unread_untold v payload e fault.SeqExhausted x = absurd x
-unread_untold v payload e fault.MetadataFull x = absurd x
-unread_untold v payload e fault.RandomLength x = absurd x
 unread_untold v payload e fault.Memory x = x
 unread_untold v payload e fault.Device x = tt
+unread_untold v payload e f x = absurd x
 
 -- neither the device's failure nor want of memory is among the first faults
 first_untold_by : (v : List ℕ) (payload : Data) (e : Edit) (f : EditFault) → (IsNeedFault v payload e fault.Memory → ⊥)
     → IsLeast edit_key (IsNeedFault v payload e) f → IsUntold v payload e f
-first_untold_by v payload e (fault.NotAccepted f) none x = x
-first_untold_by v payload e fault.Requirements none x = x
-first_untold_by v payload e fault.NoSuchSlot none x = x
-first_untold_by v payload e fault.Locked none x = x
-first_untold_by v payload e (fault.Slot s) none x = x
-first_untold_by v payload e fault.SlotTaken none x = x
-first_untold_by v payload e fault.NoFreeSlot none x = x
-first_untold_by v payload e fault.NoRoom none x = x
-first_untold_by v payload e fault.LastSlot none x = x
-first_untold_by v payload e fault.Iterations none x = x
-first_untold_by v payload e fault.BadLabel none x = x
-first_untold_by v payload e fault.SeqExhausted none x = x
-first_untold_by v payload e fault.MetadataFull none x = x
-first_untold_by v payload e fault.RandomLength none x = x
 first_untold_by v payload e fault.Memory none x = absurd (none x.0)
 first_untold_by v payload e fault.Device none x = tt
+first_untold_by v payload e f none x = x
 
-module _ (only : (v : List ℕ) (b c : Choice) → Chosen v b → Chosen v c → b ≡ c) (v : List ℕ) (payload : Data) (e : Edit) where
+module _ (v : List ℕ) (payload : Data) (e : Edit) where
   pub tells_need1 : Chosen v luks1 → (result : Result ℕ EditFault) → TellsNeed1 payload v e result → TellsNeed payload v e result
   tells_need1 chosen (Ok k) x = record {
-    unrefused = λ f bad. x.unrefused f (need_fault_by only v payload e luks1 chosen f bad);
+    unrefused = λ f bad. x.unrefused f (need_fault_by v payload e luks1 chosen f bad);
     need = record { choice = luks1; chosen = chosen; is = x.need };
   }
   tells_need1 chosen (Err f) x =
-      first_untold_by v payload e f (need_fault_by only v payload e luks1 chosen fault.Memory) (first_need_by only v payload e luks1 chosen f x)
+      first_untold_by v payload e f (need_fault_by v payload e luks1 chosen fault.Memory) (first_need_by v payload e luks1 chosen f x)
 
   pub tells_need2 : (o : ℕ) (copies : Copies) → Chosen v (luks2 o copies) → (result : Result ℕ EditFault) → TellsNeed2 payload v e result → TellsNeed payload v e result
   tells_need2 o copies chosen (Ok k) x = record {
-    unrefused = λ f bad. x.unrefused f (need_fault_by only v payload e (luks2 o copies) chosen f bad);
+    unrefused = λ f bad. x.unrefused f (need_fault_by v payload e (luks2 o copies) chosen f bad);
     need = record { choice = luks2 o copies; chosen = chosen; is = x.need };
   }
   tells_need2 o copies chosen (Err f) x =
-      first_untold_by v payload e f (need_fault_by only v payload e (luks2 o copies) chosen fault.Memory) (first_need_by only v payload e (luks2 o copies) chosen f x)
+      first_untold_by v payload e f (need_fault_by v payload e (luks2 o copies) chosen fault.Memory) (first_need_by v payload e (luks2 o copies) chosen f x)
 
   -- memory that isn't taken isn't refused
   pub unread_without_memory : TakesNoMemory v → (f : EditFault) → IsHeaderRefused v payload f → f ≢ fault.Memory
-  unread_without_memory free f x same = takes_none only v free (needs f same x)
-    where
-      needs : (g : EditFault) → g ≡ fault.Memory → IsHeaderRefused v payload g → NeedsMetadata v
-      needs (fault.NotAccepted h) is y = cc
-      needs fault.Requirements is y = absurd y
-      needs fault.NoSuchSlot is y = absurd y
-      needs fault.Locked is y = absurd y
-      needs (fault.Slot s) is y = absurd y
-      needs fault.SlotTaken is y = absurd y
-      needs fault.NoFreeSlot is y = absurd y
-      needs fault.NoRoom is y = absurd y
-      needs fault.LastSlot is y = absurd y
-      needs fault.Iterations is y = absurd y
-      needs fault.BadLabel is y = absurd y
-      needs fault.SeqExhausted is y = absurd y
-      needs fault.MetadataFull is y = absurd y
-      needs fault.RandomLength is y = absurd y
-      needs fault.Memory is y = y
-      needs fault.Device is y = cc
+  unread_without_memory free f x same = takes_none v free (subst (IsHeaderRefused v payload) same x)

@@ -6,6 +6,7 @@ use Rattle.luks_area.specs.declared.area.AreaName.TheVariants.{Slot}
 use Rattle.luks_area.specs.Ranges.{part, SameBut}
 use Rattle.luks_head.specs.declared.selection.Copies.{Copies}
 use Rattle.luks_head.specs.Selection.{Choice, luks1, luks2, nothing, Chosen}
+use Rattle.luks_head.proofs.ChoiceFacts.{choices_agree}
 use Rattle.luks_reading.specs.declared.report.Data.{Data}
 use Rattle.luks_reading.specs.Checked.{AreaOf, WellFormed, WellFormedAs}
 use Rattle.luks_edit.specs.declared.edit.Edit.{Edit}
@@ -14,17 +15,17 @@ use Rattle.luks_edit.specs.declared.edit_fault.EditFault.{EditFault}
 use Rattle.luks_edit.specs.declared.edit_fault.EditFault.TheVariants as fault
 use Rattle.luks_edit.specs.Kept.{Keeps}
 use Rattle.luks_edit.specs.Ran.{Reply, IsFailure}
-use Rattle.luks1_edits.specs.Edited.{After1, NamedKeyslots1, OpensAfter1, Removes}
-use Rattle.luks1_edits.specs.Kept.{KeepsOthers}
+use Rattle.luks1_edits.specs.Edited.{After1, OpensAfter1, Removes}
 use Rattle.luks1_edits.specs.Leftovers.{Leftover1, OpensEither1}
-use Rattle.luks1_edits.specs.Places.{IsOfKeyslots}
-use Rattle.luks1_edits.specs.Refused.{IsEditFault1, IsUnrefused1}
+use Rattle.luks1_edits.specs.Refused.{IsUnrefused1}
 use Rattle.luks2_edits.specs.Edited.{After2, HasRanges, NamedKeyslots2, OpensAfter2}
 use Rattle.luks2_edits.specs.Leftovers.{CountsAsAfter, CountsAsBefore, IsNotStray, Leftover2, OpensEither2}
 use Rattle.luks2_edits.specs.Places.{IsTouchedIn, Loses}
 use Rattle.luks2_edits.specs.Refused.{IsEditFault2, IsUnrefused2}
 use Rattle.luks_volume.specs.Edits.{AfterAs, IsEditFault, IsUnrefused, LeftoverAs, Leftover, Makes, MakesAs, Replies}
 use Rattle.luks_volume.specs.Outcome.{OpensMade, Spares, SparesAs, WipesLost}
+use Rattle.luks1_edits.proofs.EditedFacts.{leftover_keeps, leftover_rest, removed_area}
+use Rattle.luks1_edits.proofs.RefusalFacts.{leftover_refused}
 use Rattle.luks_volume.proofs.CountFacts.{the_failure}
 use Rattle.luks_volume.proofs.VersionFacts.{fault_by}
 
@@ -44,139 +45,117 @@ unrefused1 v payload e r chosen fine = record { none = λ f is. fine.none f (rec
 unrefused2 : (v : List ℕ) (payload : Data) (e : Edit) (r : List ℕ) (o : ℕ) (copies : Copies) → Chosen v (luks2 o copies) → IsUnrefused v payload e r → IsUnrefused2 v payload e r
 unrefused2 v payload e r o copies chosen fine = record { none = λ f is. fine.none f (record { choice = luks2 o copies; chosen = chosen; fault = is }) }
 
-module _ (only : (v : List ℕ) (b c : Choice) → Chosen v b → Chosen v c → b ≡ c) where
-  makes_by : (v : List ℕ) (e : Edit) (c : Choice) (n : ℕ) → Chosen v c → Makes v e n → MakesAs v e c n
-  makes_by v e c n chosen x = subst (λ d. MakesAs v e d n) (only v x.choice c x.chosen chosen) x.makes
+makes_by : (v : List ℕ) (e : Edit) (c : Choice) (n : ℕ) → Chosen v c → Makes v e n → MakesAs v e c n
+makes_by v e c n chosen x = subst (λ d. MakesAs v e d n) (choices_agree v x.choice c x.chosen chosen) x.makes
 
-  opens_by1 : (v : List ℕ) (e : Edit) (w : List ℕ) → Chosen v luks1 → OpensAfter1 v e w → OpensMade v e w
-  opens_by1 v (Add by_ old new to iterations) w chosen x = λ n key made. x n key (makes_by v (Add by_ old new to iterations) luks1 n chosen made)
-  opens_by1 v (Change slot old new iterations) w chosen x = λ n key made. x n key (makes_by v (Change slot old new iterations) luks1 n chosen made)
-  opens_by1 v (Remove slot passphrase) w chosen x = tt
-  opens_by1 v Repair w chosen x = tt
-  opens_by1 v (Label text) w chosen x = tt
+opens_by1 : (v : List ℕ) (e : Edit) (w : List ℕ) → Chosen v luks1 → OpensAfter1 v e w → OpensMade v e w
+opens_by1 v (Add by_ old new to iterations) w chosen x = λ n key made. x n key (makes_by v (Add by_ old new to iterations) luks1 n chosen made)
+opens_by1 v (Change slot old new iterations) w chosen x = λ n key made. x n key (makes_by v (Change slot old new iterations) luks1 n chosen made)
+opens_by1 v (Remove slot passphrase) w chosen x = tt
+opens_by1 v Repair w chosen x = tt
+opens_by1 v (Label text) w chosen x = tt
 
-  opens_by2 : (v : List ℕ) (e : Edit) (w : List ℕ) (o : ℕ) (copies : Copies) → Chosen v (luks2 o copies) → OpensAfter2 v e w → OpensMade v e w
-  opens_by2 v (Add by_ old new to iterations) w o copies chosen x = λ n key made. x n key (makes_by v (Add by_ old new to iterations) (luks2 o copies) n chosen made)
-  opens_by2 v (Change slot old new iterations) w o copies chosen x = λ n key made opened.
-      let is : n ≡ slot = makes_by v (Change slot old new iterations) (luks2 o copies) n chosen made in rw is (x key opened)
-  opens_by2 v (Remove slot passphrase) w o copies chosen x = tt
-  opens_by2 v Repair w o copies chosen x = tt
-  opens_by2 v (Label text) w o copies chosen x = tt
+opens_by2 : (v : List ℕ) (e : Edit) (w : List ℕ) (o : ℕ) (copies : Copies) → Chosen v (luks2 o copies) → OpensAfter2 v e w → OpensMade v e w
+opens_by2 v (Add by_ old new to iterations) w o copies chosen x = λ n key made. x n key (makes_by v (Add by_ old new to iterations) (luks2 o copies) n chosen made)
+opens_by2 v (Change slot old new iterations) w o copies chosen x = λ n key made opened.
+    let is : n ≡ slot = makes_by v (Change slot old new iterations) (luks2 o copies) n chosen made in rw is (x key opened)
+opens_by2 v (Remove slot passphrase) w o copies chosen x = tt
+opens_by2 v Repair w o copies chosen x = tt
+opens_by2 v (Label text) w o copies chosen x = tt
 
-  -- a completed edit
+-- a completed edit
 
-  module _
-      (opens1 : (payload : Data) (e : Edit) (v random w : List ℕ) → Chosen v luks1 → WellFormed v payload → IsUnrefused1 v payload e random
-      → After1 v e random w → OpensAfter1 v e w)
-      (opens2 : (payload : Data) (e : Edit) (v random w : List ℕ) → WellFormed v payload → HasRanges v e random → IsUnrefused2 v payload e random
-      → After2 v payload e random w → OpensAfter2 v e w)
-    where
-      opens_as : (payload : Data) (e : Edit) (v random w : List ℕ) (c : Choice) → Chosen v c → WellFormed v payload → HasRanges v e random
-          → IsUnrefused v payload e random → AfterAs v payload e random c w → OpensMade v e w
-      opens_as payload e v random w luks1 chosen well ranges fine after =
-          opens_by1 v e w chosen (opens1 payload e v random w chosen well (unrefused1 v payload e random chosen fine) after)
-      opens_as payload e v random w (luks2 o copies) chosen well ranges fine after =
-          opens_by2 v e w o copies chosen (opens2 payload e v random w well ranges (unrefused2 v payload e random o copies chosen fine) after)
-      opens_as payload e v random w nothing chosen well ranges fine after = absurd after
+module _
+    (opens1 : (payload : Data) (e : Edit) (v random w : List ℕ) → Chosen v luks1 → WellFormed v payload → IsUnrefused1 v payload e random
+    → After1 v e random w → OpensAfter1 v e w)
+    (opens2 : (payload : Data) (e : Edit) (v random w : List ℕ) → WellFormed v payload → HasRanges v e random → IsUnrefused2 v payload e random
+    → After2 v payload e random w → OpensAfter2 v e w)
+  where
+    opens_as : (payload : Data) (e : Edit) (v random w : List ℕ) (c : Choice) → Chosen v c → WellFormed v payload → HasRanges v e random
+        → IsUnrefused v payload e random → AfterAs v payload e random c w → OpensMade v e w
+    opens_as payload e v random w luks1 chosen well ranges fine after =
+        opens_by1 v e w chosen (opens1 payload e v random w chosen well (unrefused1 v payload e random chosen fine) after)
+    opens_as payload e v random w (luks2 o copies) chosen well ranges fine after =
+        opens_by2 v e w o copies chosen (opens2 payload e v random w well ranges (unrefused2 v payload e random o copies chosen fine) after)
+    opens_as payload e v random w nothing chosen well ranges fine after = absurd after
 
-      pub edit_opens : (payload : Data) (v w : List ℕ) (e : Edit) (random : List ℕ) (r : Reply) → WellFormed v payload
-          → Replies payload v e random r w → OnOk r (OpensMade v e w)
-      edit_opens payload v w e random (Ok done) well is = opens_as payload e v random w is.3.choice is.3.chosen well is.0 is.1 is.3.after
-      edit_opens payload v w e random (Err f) well is = tt
+    pub edit_opens : (payload : Data) (v w : List ℕ) (e : Edit) (random : List ℕ) (r : Reply) → WellFormed v payload
+        → Replies payload v e random r w → OnOk r (OpensMade v e w)
+    edit_opens payload v w e random (Ok done) well is = opens_as payload e v random w is.3.choice is.3.chosen well is.0 is.1 is.3.after
+    edit_opens payload v w e random (Err f) well is = tt
 
-  module _
-      (wiped1 : (payload : Data) (e : Edit) (v random w : List ℕ) (n : ℕ) (a : Area) → Chosen v luks1 → WellFormed v payload → After1 v e random w
-      → Removes e n → AreaOf v payload (Slot n) a → part w a.start a.len ≡ replicate a.len 0)
-      (wiped2 : (payload : Data) (e : Edit) (v random w : List ℕ) (n : ℕ) (a : Area) → WellFormed v payload → After2 v payload e random w → Loses e n
-      → AreaOf v payload (Slot n) a → part w a.start a.len ≡ replicate a.len 0)
-    where
-      wipes_as : (payload : Data) (e : Edit) (v random w : List ℕ) (c : Choice) → Chosen v c → WellFormed v payload → AfterAs v payload e random c w → WipesLost v payload e w
-      wipes_as payload e v random w luks1 chosen well after = record { zeros = λ n a lost is. wiped1 payload e v random w n a chosen well after (removes e n lost) is }
-      wipes_as payload e v random w (luks2 o copies) chosen well after = record { zeros = λ n a lost is. wiped2 payload e v random w n a well after lost is }
-      wipes_as payload e v random w nothing chosen well after = absurd after
+module _
+    (wiped2 : (payload : Data) (e : Edit) (v random w : List ℕ) (n : ℕ) (a : Area) → WellFormed v payload → After2 v payload e random w → Loses e n
+    → AreaOf v payload (Slot n) a → part w a.start a.len ≡ replicate a.len 0)
+  where
+    wipes_as : (payload : Data) (e : Edit) (v random w : List ℕ) (c : Choice) → Chosen v c → WellFormed v payload → AfterAs v payload e random c w → WipesLost v payload e w
+    wipes_as payload e v random w luks1 chosen well after = record { zeros = λ n a lost is. removed_area payload v chosen well e random w n a after (removes e n lost) is }
+    wipes_as payload e v random w (luks2 o copies) chosen well after = record { zeros = λ n a lost is. wiped2 payload e v random w n a well after lost is }
+    wipes_as payload e v random w nothing chosen well after = absurd after
 
-      pub edit_wipes : (payload : Data) (v w : List ℕ) (e : Edit) (random : List ℕ) (r : Reply) → WellFormed v payload
-          → Replies payload v e random r w → OnOk r (WipesLost v payload e w)
-      edit_wipes payload v w e random (Ok done) well is = wipes_as payload e v random w is.3.choice is.3.chosen well is.3.after
-      edit_wipes payload v w e random (Err f) well is = tt
+    pub edit_wipes : (payload : Data) (v w : List ℕ) (e : Edit) (random : List ℕ) (r : Reply) → WellFormed v payload
+        → Replies payload v e random r w → OnOk r (WipesLost v payload e w)
+    edit_wipes payload v w e random (Ok done) well is = wipes_as payload e v random w is.3.choice is.3.chosen well is.3.after
+    edit_wipes payload v w e random (Err f) well is = tt
 
-  -- an edit that a fault refuses
+-- an edit that a fault refuses
 
-  module _
-      (refused1 : (payload : Data) (e : Edit) (v random w : List ℕ) (f : EditFault) → IsEditFault1 v payload e random f → Leftover1 v payload e random w → w ≡ v)
-      (refused2 : (payload : Data) (e : Edit) (v random w : List ℕ) (f : EditFault) → IsEditFault2 v payload e random f → Leftover2 v payload e random w → w ≡ v)
-    where
-      left_refused : (payload : Data) (e : Edit) (v random w : List ℕ) (f : EditFault) (c : Choice) → Chosen v c → IsEditFault v payload e random f
-          → LeftoverAs v payload e random c w → w ≡ v
-      left_refused payload e v random w f luks1 chosen is left = refused1 payload e v random w f (fault_by only v payload e luks1 chosen random f is) left
-      left_refused payload e v random w f (luks2 o copies) chosen is left =
-          refused2 payload e v random w f (fault_by only v payload e (luks2 o copies) chosen random f is) left
-      left_refused payload e v random w f nothing chosen is left = left
+module _
+    (refused2 : (payload : Data) (e : Edit) (v random w : List ℕ) (f : EditFault) → IsEditFault2 v payload e random f → Leftover2 v payload e random w → w ≡ v)
+  where
+    left_refused : (payload : Data) (e : Edit) (v random w : List ℕ) (f : EditFault) (c : Choice) → Chosen v c → IsEditFault v payload e random f
+        → LeftoverAs v payload e random c w → w ≡ v
+    left_refused payload e v random w f luks1 chosen is left = leftover_refused v payload e random w f (fault_by v payload e luks1 chosen random f is) left
+    left_refused payload e v random w f (luks2 o copies) chosen is left =
+        refused2 payload e v random w f (fault_by v payload e (luks2 o copies) chosen random f is) left
+    left_refused payload e v random w f nothing chosen is left = left
 
-      -- it changes nothing, whatever is replied
-      pub edit_refused : (payload : Data) (v w : List ℕ) (e : Edit) (random : List ℕ) (r : Reply) → Replies payload v e random r w
-          → (f : EditFault) → IsEditFault v payload e random f → w ≡ v
-      edit_refused payload v w e random (Ok done) is f bad = absurd (is.1.none f bad)
-      edit_refused payload v w e random (Err fault.Device) is f bad = left_refused payload e v random w f is.choice is.chosen bad is.left
-      edit_refused payload v w e random (Err fault.Memory) is f bad = is.1
-      edit_refused payload v w e random (Err (fault.NotAccepted g)) is f bad = is.1
-      edit_refused payload v w e random (Err fault.Requirements) is f bad = is.1
-      edit_refused payload v w e random (Err fault.NoSuchSlot) is f bad = is.1
-      edit_refused payload v w e random (Err fault.Locked) is f bad = is.1
-      edit_refused payload v w e random (Err (fault.Slot s)) is f bad = is.1
-      edit_refused payload v w e random (Err fault.SlotTaken) is f bad = is.1
-      edit_refused payload v w e random (Err fault.NoFreeSlot) is f bad = is.1
-      edit_refused payload v w e random (Err fault.NoRoom) is f bad = is.1
-      edit_refused payload v w e random (Err fault.LastSlot) is f bad = is.1
-      edit_refused payload v w e random (Err fault.Iterations) is f bad = is.1
-      edit_refused payload v w e random (Err fault.BadLabel) is f bad = is.1
-      edit_refused payload v w e random (Err fault.SeqExhausted) is f bad = is.1
-      edit_refused payload v w e random (Err fault.MetadataFull) is f bad = is.1
-      edit_refused payload v w e random (Err fault.RandomLength) is f bad = is.1
+    -- it changes nothing, whatever is replied
+    pub edit_refused : (payload : Data) (v w : List ℕ) (e : Edit) (random : List ℕ) (r : Reply) → Replies payload v e random r w
+        → (f : EditFault) → IsEditFault v payload e random f → w ≡ v
+    edit_refused payload v w e random (Ok done) is f bad = absurd (is.1.none f bad)
+    edit_refused payload v w e random (Err fault.Device) is f bad = left_refused payload e v random w f is.choice is.chosen bad is.left
+    edit_refused payload v w e random (Err g) is f bad = is.1
 
-  -- an edit in which a device call failed
+-- an edit in which a device call failed
 
-  well_chosen : (v : List ℕ) (payload : Data) → WellFormed v payload → Chosen v nothing → ⊥
-  well_chosen v payload well none = subst (λ c. WellFormedAs v payload c) (only v well.choice nothing well.chosen none) well.formed
+well_chosen : (v : List ℕ) (payload : Data) → WellFormed v payload → Chosen v nothing → ⊥
+well_chosen v payload well none = subst (λ c. WellFormedAs v payload c) (choices_agree v well.choice nothing well.chosen none) well.formed
 
-  module _
-      (rest1 : (payload : Data) (e : Edit) (v random w : List ℕ) → Chosen v luks1 → WellFormed v payload → Leftover1 v payload e random w
-      → SameBut (IsOfKeyslots v (NamedKeyslots1 v e)) v w)
-      (keeps1 : (payload : Data) (e : Edit) (v random w : List ℕ) → Chosen v luks1 → WellFormed v payload → Leftover1 v payload e random w
-      → KeepsOthers payload (NamedKeyslots1 v e) v w)
-      (opens1 : (payload : Data) (e : Edit) (v random w : List ℕ) → Chosen v luks1 → WellFormed v payload → Leftover1 v payload e random w → OpensEither1 v e w)
-      (rest2 : (payload : Data) (e : Edit) (v random w : List ℕ) → Leftover2 v payload e random w → SameBut (IsTouchedIn v payload e) v w)
-      (keeps2 : (payload : Data) (e : Edit) (v random w : List ℕ) → WellFormed v payload → HasRanges v e random → Leftover2 v payload e random w
-      → IsNotStray v payload e random w → Keeps payload (NamedKeyslots2 v e) v w)
-      (whole2 : (payload : Data) (e : Edit) (v random w : List ℕ) → WellFormed v payload → HasRanges v e random → Leftover2 v payload e random w
-      → IsNotStray v payload e random w → CountsAsBefore v w ⊎ CountsAsAfter v payload e random w)
-      (opens2 : (payload : Data) (e : Edit) (v random w : List ℕ) → WellFormed v payload → HasRanges v e random → Leftover2 v payload e random w
-      → IsNotStray v payload e random w → OpensEither2 v e w)
-    where
-      spares_as : (payload : Data) (e : Edit) (v random w : List ℕ) (c : Choice) → Chosen v c → WellFormed v payload → HasRanges v e random
-          → LeftoverAs v payload e random c w → SparesAs v payload e random c w
-      spares_as payload e v random w luks1 chosen well ranges left = record {
-        rest = rest1 payload e v random w chosen well left;
-        keeps = keeps1 payload e v random w chosen well left;
-        opens_either = opens1 payload e v random w chosen well left;
-      }
-      spares_as payload e v random w (luks2 o copies) chosen well ranges left = record {
-        rest = rest2 payload e v random w left;
-        whole = λ stray. record {
-          keeps = keeps2 payload e v random w well ranges left stray;
-          counts = whole2 payload e v random w well ranges left stray;
-          opens_either = opens2 payload e v random w well ranges left stray;
-        };
-      }
-      spares_as payload e v random w nothing chosen well ranges left = well_chosen v payload well chosen
+module _
+    (opens1 : (payload : Data) (e : Edit) (v random w : List ℕ) → Chosen v luks1 → WellFormed v payload → Leftover1 v payload e random w → OpensEither1 v e w)
+    (rest2 : (payload : Data) (e : Edit) (v random w : List ℕ) → Leftover2 v payload e random w → SameBut (IsTouchedIn v payload e) v w)
+    (keeps2 : (payload : Data) (e : Edit) (v random w : List ℕ) → WellFormed v payload → HasRanges v e random → Leftover2 v payload e random w
+    → IsNotStray v payload e random w → Keeps payload (NamedKeyslots2 v e) v w)
+    (whole2 : (payload : Data) (e : Edit) (v random w : List ℕ) → WellFormed v payload → HasRanges v e random → Leftover2 v payload e random w
+    → IsNotStray v payload e random w → CountsAsBefore v w ⊎ CountsAsAfter v payload e random w)
+    (opens2 : (payload : Data) (e : Edit) (v random w : List ℕ) → WellFormed v payload → HasRanges v e random → Leftover2 v payload e random w
+    → IsNotStray v payload e random w → OpensEither2 v e w)
+  where
+    spares_as : (payload : Data) (e : Edit) (v random w : List ℕ) (c : Choice) → Chosen v c → WellFormed v payload → HasRanges v e random
+        → LeftoverAs v payload e random c w → SparesAs v payload e random c w
+    spares_as payload e v random w luks1 chosen well ranges left = record {
+      rest = leftover_rest payload v chosen well e random w left;
+      keeps = leftover_keeps payload v chosen well e random w left;
+      opens_either = opens1 payload e v random w chosen well left;
+    }
+    spares_as payload e v random w (luks2 o copies) chosen well ranges left = record {
+      rest = rest2 payload e v random w left;
+      whole = λ stray. record {
+        keeps = keeps2 payload e v random w well ranges left stray;
+        counts = whole2 payload e v random w well ranges left stray;
+        opens_either = opens2 payload e v random w well ranges left stray;
+      };
+    }
+    spares_as payload e v random w nothing chosen well ranges left = well_chosen v payload well chosen
 
-      pub edit_spares : (payload : Data) (v w : List ℕ) (e : Edit) (random : List ℕ) (r : Reply) → WellFormed v payload → HasRanges v e random
-          → Replies payload v e random r w → IsFailure r → ((f : EditFault) → IsEditFault v payload e random f → w ≡ v) → Spares v payload e random w
-      edit_spares payload v w e random r well ranges is failed refused =
-          let left : Leftover v payload e random w = subst (λ q. Replies payload v e random q w) (the_failure r failed) is in
-          record {
-            choice = left.choice;
-            chosen = left.chosen;
-            refused = refused;
-            spared = spares_as payload e v random w left.choice left.chosen well ranges left.left;
-          }
+    pub edit_spares : (payload : Data) (v w : List ℕ) (e : Edit) (random : List ℕ) (r : Reply) → WellFormed v payload → HasRanges v e random
+        → Replies payload v e random r w → IsFailure r → ((f : EditFault) → IsEditFault v payload e random f → w ≡ v) → Spares v payload e random w
+    edit_spares payload v w e random r well ranges is failed refused =
+        let left : Leftover v payload e random w = subst (λ q. Replies payload v e random q w) (the_failure r failed) is in
+        record {
+          choice = left.choice;
+          chosen = left.chosen;
+          refused = refused;
+          spared = spares_as payload e v random w left.choice left.chosen well ranges left.left;
+        }

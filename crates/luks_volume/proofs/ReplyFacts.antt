@@ -1,7 +1,8 @@
 -- The reply of an edit: that of a volume of one version is that of the volume.
-use Rattle.std.proofs.Common.{◌≡◌, ℕ, List, Result, Ok, Err, refl, inl}
+use Rattle.std.proofs.Common.{ℕ, List, Result, Ok, Err, refl, inl}
 use Rattle.luks_head.specs.declared.selection.Copies.{Copies}
 use Rattle.luks_head.specs.Selection.{Choice, luks1, luks2, nothing, Chosen}
+use Rattle.luks_head.proofs.ChoiceFacts.{choice_exists}
 use Rattle.luks_reading.specs.declared.report.Data.{Data}
 use Rattle.luks_reading.specs.Header.{NeedsMetadata}
 use Rattle.luks_edit.specs.declared.edit.Done.{Done}
@@ -21,50 +22,25 @@ left_as_it_was v payload e r luks1 = inl refl
 left_as_it_was v payload e r (luks2 o copies) = inl refl
 left_as_it_was v payload e r nothing = refl
 
-pub unread_replies : ((v : List ℕ) → (c : Choice) × Chosen v c) → (v : List ℕ) (payload : Data) (e : Edit) (r : List ℕ) (f : EditFault)
+pub unread_replies : (v : List ℕ) (payload : Data) (e : Edit) (r : List ℕ) (f : EditFault)
     → IsHeaderRefused v payload f → Replies payload v e r (Err f) v
-unread_replies some v payload e r (fault.NotAccepted f) x = (first_refuses v payload e r f x, refl)
-unread_replies some v payload e r fault.Requirements x = absurd x
-unread_replies some v payload e r fault.NoSuchSlot x = absurd x
-unread_replies some v payload e r fault.Locked x = absurd x
-unread_replies some v payload e r (fault.Slot s) x = absurd x
-unread_replies some v payload e r fault.SlotTaken x = absurd x
-unread_replies some v payload e r fault.NoFreeSlot x = absurd x
-unread_replies some v payload e r fault.NoRoom x = absurd x
-unread_replies some v payload e r fault.LastSlot x = absurd x
-unread_replies some v payload e r fault.Iterations x = absurd x
-unread_replies some v payload e r fault.BadLabel x = absurd x
-unread_replies some v payload e r fault.SeqExhausted x = absurd x
-unread_replies some v payload e r fault.MetadataFull x = absurd x
-unread_replies some v payload e r fault.RandomLength x = absurd x
-unread_replies some v payload e r fault.Memory x = (x, refl)
-unread_replies some v payload e r fault.Device x =
-    record { choice = (some v).0; chosen = (some v).1; left = left_as_it_was v payload e r (some v).0 }
+unread_replies v payload e r (fault.NotAccepted f) x = (first_refuses v payload e r f x, refl)
+unread_replies v payload e r fault.Memory x = (x, refl)
+unread_replies v payload e r fault.Device x =
+    let some = choice_exists v in record { choice = some.0; chosen = some.1; left = left_as_it_was v payload e r some.0 }
+unread_replies v payload e r f x = absurd x
 
-module _ (only : (v : List ℕ) (b c : Choice) → Chosen v b → Chosen v c → b ≡ c) (v : List ℕ) (payload : Data) (e : Edit) (r w : List ℕ) where
+module _ (v : List ℕ) (payload : Data) (e : Edit) (r w : List ℕ) where
   module _ (chosen : Chosen v luks1) where
     ends1 : (f : EditFault) → EndsBy1 payload v e r f w → Replies payload v e r (Err f) w
     ends1 fault.Device x = record { choice = luks1; chosen = chosen; left = x }
     ends1 fault.Memory x = absurd x
-    ends1 (fault.NotAccepted f) x = (refusal_by only v payload e luks1 chosen r (fault.NotAccepted f) x.0, x.1)
-    ends1 fault.Requirements x = (refusal_by only v payload e luks1 chosen r fault.Requirements x.0, x.1)
-    ends1 fault.NoSuchSlot x = (refusal_by only v payload e luks1 chosen r fault.NoSuchSlot x.0, x.1)
-    ends1 fault.Locked x = (refusal_by only v payload e luks1 chosen r fault.Locked x.0, x.1)
-    ends1 (fault.Slot s) x = (refusal_by only v payload e luks1 chosen r (fault.Slot s) x.0, x.1)
-    ends1 fault.SlotTaken x = (refusal_by only v payload e luks1 chosen r fault.SlotTaken x.0, x.1)
-    ends1 fault.NoFreeSlot x = (refusal_by only v payload e luks1 chosen r fault.NoFreeSlot x.0, x.1)
-    ends1 fault.NoRoom x = (refusal_by only v payload e luks1 chosen r fault.NoRoom x.0, x.1)
-    ends1 fault.LastSlot x = (refusal_by only v payload e luks1 chosen r fault.LastSlot x.0, x.1)
-    ends1 fault.Iterations x = (refusal_by only v payload e luks1 chosen r fault.Iterations x.0, x.1)
-    ends1 fault.BadLabel x = (refusal_by only v payload e luks1 chosen r fault.BadLabel x.0, x.1)
-    ends1 fault.SeqExhausted x = (refusal_by only v payload e luks1 chosen r fault.SeqExhausted x.0, x.1)
-    ends1 fault.MetadataFull x = (refusal_by only v payload e luks1 chosen r fault.MetadataFull x.0, x.1)
-    ends1 fault.RandomLength x = (refusal_by only v payload e luks1 chosen r fault.RandomLength x.0, x.1)
+    ends1 f x = (refusal_by v payload e luks1 chosen r f x.0, x.1)
 
     pub replies_by1 : HasRanges v e r → (result : Result Done EditFault) → Replies1 payload v e r result w → Replies payload v e r result w
     replies_by1 ranges (Ok done) x = (
       ranges,
-      unrefused_by only v payload e luks1 chosen r x.unrefused.none,
+      unrefused_by v payload e luks1 chosen r x.unrefused.none,
       tells_slot1 v e done.slot chosen x.told,
       record { choice = luks1; chosen = chosen; after = x.after },
     )
@@ -74,25 +50,12 @@ module _ (only : (v : List ℕ) (b c : Choice) → Chosen v b → Chosen v c →
     ends2 : NeedsMetadata v → (f : EditFault) → EndsBy2 payload v e r f w → Replies payload v e r (Err f) w
     ends2 needs fault.Device x = record { choice = luks2 o copies; chosen = chosen; left = x }
     ends2 needs fault.Memory x = (needs, x)
-    ends2 needs (fault.NotAccepted f) x = (refusal_by only v payload e (luks2 o copies) chosen r (fault.NotAccepted f) x.0, x.1)
-    ends2 needs fault.Requirements x = (refusal_by only v payload e (luks2 o copies) chosen r fault.Requirements x.0, x.1)
-    ends2 needs fault.NoSuchSlot x = (refusal_by only v payload e (luks2 o copies) chosen r fault.NoSuchSlot x.0, x.1)
-    ends2 needs fault.Locked x = (refusal_by only v payload e (luks2 o copies) chosen r fault.Locked x.0, x.1)
-    ends2 needs (fault.Slot s) x = (refusal_by only v payload e (luks2 o copies) chosen r (fault.Slot s) x.0, x.1)
-    ends2 needs fault.SlotTaken x = (refusal_by only v payload e (luks2 o copies) chosen r fault.SlotTaken x.0, x.1)
-    ends2 needs fault.NoFreeSlot x = (refusal_by only v payload e (luks2 o copies) chosen r fault.NoFreeSlot x.0, x.1)
-    ends2 needs fault.NoRoom x = (refusal_by only v payload e (luks2 o copies) chosen r fault.NoRoom x.0, x.1)
-    ends2 needs fault.LastSlot x = (refusal_by only v payload e (luks2 o copies) chosen r fault.LastSlot x.0, x.1)
-    ends2 needs fault.Iterations x = (refusal_by only v payload e (luks2 o copies) chosen r fault.Iterations x.0, x.1)
-    ends2 needs fault.BadLabel x = (refusal_by only v payload e (luks2 o copies) chosen r fault.BadLabel x.0, x.1)
-    ends2 needs fault.SeqExhausted x = (refusal_by only v payload e (luks2 o copies) chosen r fault.SeqExhausted x.0, x.1)
-    ends2 needs fault.MetadataFull x = (refusal_by only v payload e (luks2 o copies) chosen r fault.MetadataFull x.0, x.1)
-    ends2 needs fault.RandomLength x = (refusal_by only v payload e (luks2 o copies) chosen r fault.RandomLength x.0, x.1)
+    ends2 needs f x = (refusal_by v payload e (luks2 o copies) chosen r f x.0, x.1)
 
     pub replies_by2 : NeedsMetadata v → HasRanges v e r → (result : Result Done EditFault) → Replies2 payload v e r result w → Replies payload v e r result w
     replies_by2 needs ranges (Ok done) x = (
       ranges,
-      unrefused_by only v payload e (luks2 o copies) chosen r x.unrefused.none,
+      unrefused_by v payload e (luks2 o copies) chosen r x.unrefused.none,
       tells_slot2 v e done.slot o copies chosen x.told,
       record { choice = luks2 o copies; chosen = chosen; after = x.after },
     )

@@ -1,48 +1,26 @@
 -- What is said of a volume by what counts of it, said of the volume.
-use Rattle.std.proofs.Common.{◌≡◌, ℕ, List, Option, Some, None, refl, subst, sym, arith, inl, inr, ◌↔◌}
-use Rattle.luks_area.specs.First.{IsLeast, NotAfter}
+use Rattle.std.proofs.Common.{ℕ, List, Option, Some, None, refl, subst, sym, inl, inr}
+use Rattle.luks_area.specs.First.{IsLeast}
 use Rattle.luks_head.specs.declared.selection.Copies.{Copies}
-use Rattle.luks_head.specs.declared.fault.HeadFault.{HeadFault}
-use Rattle.luks_head.specs.Header2.{header_at, uuid_field, IsUuidFault, IsUuidField}
+use Rattle.luks_head.specs.Header2.{header_at, uuid_field}
 use Rattle.luks_head.specs.Selection.{Choice, luks1, luks2, nothing, Chosen}
+use Rattle.luks_head.proofs.ChoiceFacts.{choices_agree, uuid_sound}
 use Rattle.luks_reading.specs.declared.check_fault.CheckFault.{CheckFault}
 use Rattle.luks_reading.specs.declared.read_fault.ReadFault.TheVariants as reading
 use Rattle.luks_reading.specs.declared.header.ChosenCopy.{ChosenCopy}
 use Rattle.luks_reading.specs.declared.report.Data.{Data}
-use Rattle.luks_reading.specs.Checked.{check_key, First, IsFault}
+use Rattle.luks_reading.specs.Checked.{First, IsFault}
 use Rattle.luks_reading.specs.Header.{IsChosenCopy, IsReadFaultAs, NeedsMetadata, TakesNoMemory}
 use Rattle.luks_edit.specs.declared.edit.Edit.{Edit}
 use Rattle.luks_edit.specs.declared.edit.Edit.TheVariants.{Add, Change, Remove, Repair, Label}
 use Rattle.luks_edit.specs.declared.edit_fault.EditFault.{EditFault}
 use Rattle.luks_edit.specs.declared.edit_fault.EditFault.TheVariants as fault
 use Rattle.luks_edit.specs.EditFaults.{edit_key}
+use Rattle.luks_edit.specs.RowFacts.{first_of_check}
 use Rattle.luks1_edits.specs.Replies.{Tells1}
 use Rattle.luks2_editing.specs.Replies.{Tells2}
 use Rattle.luks_volume.specs.Edits.{IsEditFault, IsEditFaultAs, IsUnrefused, Refusal, TellsSlot}
 use Rattle.luks_volume.specs.Needed.{IsNeedFault, IsNeedFaultAs}
-
--- the first fault of a volume that isn't accepted is that of an edit
-first_of_check : (S : EditFault → Type 0) (f : CheckFault) → S (fault.NotAccepted f)
-    → ((g : CheckFault) → S (fault.NotAccepted g) → NotAfter (check_key f) (check_key g)) → IsLeast edit_key S (fault.NotAccepted f)
-first_of_check S f is first = (is, after)
-  where
-    after : (g : EditFault) → S g → NotAfter (edit_key (fault.NotAccepted f)) (edit_key g)
-    after (fault.NotAccepted g) bad = (omega arith, λ _. first g bad)
-    after fault.Requirements bad = (omega arith, λ e. absurd (omega (arith, e)))
-    after fault.NoSuchSlot bad = (omega arith, λ e. absurd (omega (arith, e)))
-    after fault.Locked bad = (omega arith, λ e. absurd (omega (arith, e)))
-    after (fault.Slot s) bad = (omega arith, λ e. absurd (omega (arith, e)))
-    after fault.SlotTaken bad = (omega arith, λ e. absurd (omega (arith, e)))
-    after fault.NoFreeSlot bad = (omega arith, λ e. absurd (omega (arith, e)))
-    after fault.NoRoom bad = (omega arith, λ e. absurd (omega (arith, e)))
-    after fault.LastSlot bad = (omega arith, λ e. absurd (omega (arith, e)))
-    after fault.Iterations bad = (omega arith, λ e. absurd (omega (arith, e)))
-    after fault.BadLabel bad = (omega arith, λ e. absurd (omega (arith, e)))
-    after fault.SeqExhausted bad = (omega arith, λ e. absurd (omega (arith, e)))
-    after fault.MetadataFull bad = (omega arith, λ e. absurd (omega (arith, e)))
-    after fault.RandomLength bad = (omega arith, λ e. absurd (omega (arith, e)))
-    after fault.Memory bad = (omega arith, λ e. absurd (omega (arith, e)))
-    after fault.Device bad = (omega arith, λ e. absurd (omega (arith, e)))
 
 -- a fault of the volume is one of each edit of it, and back
 
@@ -98,16 +76,16 @@ tells_slot2 v (Remove slot passphrase) told o copies chosen x = subst (λ t. Tel
 tells_slot2 v Repair told o copies chosen x = subst (λ t. TellsSlot v Repair t) (sym x) (λ n made. made.makes)
 tells_slot2 v (Label text) told o copies chosen x = subst (λ t. TellsSlot v (Label text) t) (sym x) (λ n made. made.makes)
 
-module _ (only : (v : List ℕ) (b c : Choice) → Chosen v b → Chosen v c → b ≡ c) (v : List ℕ) (payload : Data) (e : Edit) (c : Choice) (chosen : Chosen v c) where
+module _ (v : List ℕ) (payload : Data) (e : Edit) (c : Choice) (chosen : Chosen v c) where
   pub need_fault_by : (f : EditFault) → IsNeedFault v payload e f → IsNeedFaultAs v payload e c f
-  need_fault_by f x = subst (λ d. IsNeedFaultAs v payload e d f) (only v x.choice c x.chosen chosen) x.fault
+  need_fault_by f x = subst (λ d. IsNeedFaultAs v payload e d f) (choices_agree v x.choice c x.chosen chosen) x.fault
 
   pub first_need_by : (f : EditFault) → IsLeast edit_key (IsNeedFaultAs v payload e c) f → IsLeast edit_key (IsNeedFault v payload e) f
   first_need_by f least = (record { choice = c; chosen = chosen; fault = least.0 }, λ g bad. least.1 g (need_fault_by g bad))
 
   module _ (r : List ℕ) where
     pub fault_by : (f : EditFault) → IsEditFault v payload e r f → IsEditFaultAs v payload e r c f
-    fault_by f x = subst (λ d. IsEditFaultAs v payload e r d f) (only v x.choice c x.chosen chosen) x.fault
+    fault_by f x = subst (λ d. IsEditFaultAs v payload e r d f) (choices_agree v x.choice c x.chosen chosen) x.fault
 
     pub refusal_by : (f : EditFault) → IsLeast edit_key (IsEditFaultAs v payload e r c) f → Refusal v payload e r f
     refusal_by f least = (record { choice = c; chosen = chosen; fault = least.0 }, λ g bad. least.1 g (fault_by g bad))
@@ -116,17 +94,17 @@ module _ (only : (v : List ℕ) (b c : Choice) → Chosen v b → Chosen v c →
     unrefused_by none = record { none = λ f bad. none f (fault_by f bad) }
 
 -- where no memory is taken, there is no metadata to take it for
-pub takes_none : ((v : List ℕ) (b c : Choice) → Chosen v b → Chosen v c → b ≡ c) → (v : List ℕ) → TakesNoMemory v → NeedsMetadata v → ⊥
-takes_none only v free needs = elim free [
-  | inl old ↦ let same = only v luks1 (luks2 needs.place needs.copies) old needs.chosen in cc
-  | inr bad ↦ needs.uuid bad.0 (subst (λ d. IsReadFaultAs v d (reading.Head bad.0)) (only v bad.1.choice (luks2 needs.place needs.copies) bad.1.chosen needs.chosen) bad.1.fault)
+pub takes_none : (v : List ℕ) → TakesNoMemory v → NeedsMetadata v → ⊥
+takes_none v free needs = elim free [
+  | inl old ↦ let same = choices_agree v luks1 (luks2 needs.place needs.copies) old needs.chosen in cc
+  | inr bad ↦ needs.uuid bad.0 (subst (λ d. IsReadFaultAs v d (reading.Head bad.0)) (choices_agree v bad.1.choice (luks2 needs.place needs.copies) bad.1.chosen needs.chosen) bad.1.fault)
 ]
 
 -- a LUKS2 copy that was read has metadata
-pub needs_of : ((field : List ℕ) → ((f : HeadFault) → IsUuidFault field f → ⊥) ↔ IsUuidField field) → (v : List ℕ) (copy : ChosenCopy) → IsChosenCopy v copy → NeedsMetadata v
-needs_of clear v copy is = record {
+pub needs_of : (v : List ℕ) (copy : ChosenCopy) → IsChosenCopy v copy → NeedsMetadata v
+needs_of v copy is = record {
   place = copy.header.hdr_offset;
   copies = copy.copies;
   chosen = is.chosen;
-  uuid = (clear (uuid_field (header_at v copy.header.hdr_offset))).1 is.uuid;
+  uuid = uuid_sound (uuid_field (header_at v copy.header.hdr_offset)) is.uuid;
 }

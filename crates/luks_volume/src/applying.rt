@@ -13,9 +13,8 @@ ghost use Rattle.luks_volume.specs.Outcome.{OpensMade, Spares, WipesLost};
 
 use crate::header::edited_header;
 use luks_edit::{Done, Edit, EditFault};
-use luks_head::{luks2_without_faults, one_choice};
 use luks_reading::{Data, Device, Header};
-use luks1_edits::{apply_luks1, luks1_edit_keeps_volume, luks1_edit_opens, luks1_failing_edit};
+use luks1_edits::{apply_luks1, luks1_edit_opens, luks1_failing_edit};
 use luks2_editing::apply_luks2;
 use luks2_edits::{luks2_edit_keeps_volume, luks2_edit_opens, luks2_failing_edit};
 use std::alloc::Global;
@@ -63,9 +62,6 @@ pub fn apply<D: Device>(
     ensures spared { D.tells → WellFormed (D.bytes device.old) data_ → IsFailure result
         → Spares (D.bytes device.old) data_ edit.now random.now (D.bytes device.new) }
 {
-    one_choice();
-    luks2_without_faults();
-    luks1_edit_keeps_volume();
     luks1_edit_opens();
     luks1_failing_edit();
     luks2_edit_keeps_volume();

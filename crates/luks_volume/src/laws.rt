@@ -10,7 +10,6 @@ ghost use Rattle.luks_reading.specs.declared.report.Data.{Data as Payload};
 ghost use Rattle.luks_volume.specs.Edits.{NamedSlots, Replies};
 ghost use Rattle.luks_volume.specs.Running.{IsUnderWay};
 
-use luks1_edits::luks1_edit_keeps_volume;
 use luks2_edits::luks2_edit_keeps_volume;
 
 /// After any list of edits of a well formed volume in which the device didn't fail, the volume is
@@ -22,7 +21,6 @@ pub fn edits_keep_volume()
         → AreRun (Replies payload) v steps replies volumes w → HasNoFailure replies
         → Keeps payload (IsNamedIn NamedSlots v steps replies volumes) v w }
 {
-    luks1_edit_keeps_volume();
     luks2_edit_keeps_volume();
 }
 

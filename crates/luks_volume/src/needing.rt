@@ -7,7 +7,6 @@ ghost use Rattle.luks_volume.specs.Needed.{TellsNeed};
 
 use crate::header::edited_header;
 use luks_edit::{Edit, EditFault};
-use luks_head::one_choice;
 use luks_reading::{Data, Device, Header};
 use luks1_edits::needed_luks1;
 use luks2_judging::needed_luks2;
@@ -33,7 +32,6 @@ pub fn needed<D: Device>(
     ensures memory { D.tells → TakesNoMemory (D.bytes device.old)
         → IfErr result (λ f. f ≢ EditFault.Memory) }
 {
-    one_choice();
     let header = edited_header(alloc, device)?;
     let total = device.len();
     match &header {

@@ -15,13 +15,13 @@ returns-in_err-header-clause-replies g c = λ tells.
     let p = err_from_is_err_and c.from_residual.result c.from_residual.ensures.1 in
     let same = c.in_err-header.ensures.unchanged.same tells in
     rw (p.1, p.2, same)
-    (unread_replies c.one_choice.ensures.some v c.args.data_ c.args.edit.now c.args.random.now c.in_err-header.field-0.0 (c.in_err-header.ensures.refused tells c.args.data_))
+    (unread_replies v c.args.data_ c.args.edit.now c.args.random.now c.in_err-header.field-0.0 (c.in_err-header.ensures.refused tells c.args.data_))
 
 pub returns-in_err-header-clause-memory : goal.returns-in_err-header-clause-memory
 returns-in_err-header-clause-memory g c = λ tells free.
     let v = g.D.Device.bytes c.args.device.now in
     let p = err_from_is_err_and c.from_residual.result c.from_residual.ensures.1 in
-    rw (p.1, p.2) (unread_without_memory c.one_choice.ensures.only v c.args.data_ c.args.edit.now free c.in_err-header.field-0.0 (c.in_err-header.ensures.refused tells c.args.data_))
+    rw (p.1, p.2) (unread_without_memory v c.args.data_ c.args.edit.now free c.in_err-header.field-0.0 (c.in_err-header.ensures.refused tells c.args.data_))
 
 pub returns-in-Luks1-clause-replies : goal.returns-in-Luks1-clause-replies
 returns-in-Luks1-clause-replies g c = λ tells.
@@ -32,12 +32,12 @@ returns-in-Luks1-clause-replies g c = λ tells.
     let size : length v < 2 ^ 64 = omega (arith, g.met.D.Device.sized c.args.device.now tells, g.met.D.Device.bounded c.args.device.now) in
     let ranges : HasRanges v c.args.edit.now c.args.random.now =
     record { size = size; iterations = c.iterations_have_32_bits.ensures; random_bytes = λ k. (c.type_inv.random k).fits } in
-    replies_by1 c.one_choice.ensures.only v c.args.data_ c.args.edit.now c.args.random.now w is.0 ranges c.apply_luks1.result
+    replies_by1 v c.args.data_ c.args.edit.now c.args.random.now w is.0 ranges c.apply_luks1.result
     (rw same at (c.apply_luks1.ensures.replies tells (rw same is)))
 
 pub returns-in-Luks1-clause-keeps : goal.returns-in-Luks1-clause-keeps
 returns-in-Luks1-clause-keeps g c = λ tells well fine.
-    edit_keeps c.luks1_edit_keeps_volume.ensures.keeps c.luks2_edit_keeps_volume.ensures.keeps c.args.data_
+    edit_keeps c.luks2_edit_keeps_volume.ensures.keeps c.args.data_
     (g.D.Device.bytes c.args.device.now) (g.D.Device.bytes c.apply_luks1.new.device) c.args.edit.now c.args.random.now c.apply_luks1.result
     well (returns-in-Luks1-clause-replies g c tells) fine
 
@@ -51,36 +51,36 @@ returns-clause-replies g c = λ tells.
     let size : length v < 2 ^ 64 = omega (arith, g.met.D.Device.sized c.args.device.now tells, g.met.D.Device.bounded c.args.device.now) in
     let ranges : HasRanges v c.args.edit.now c.args.random.now =
     record { size = size; iterations = c.iterations_have_32_bits.ensures; random_bytes = λ k. (c.type_inv.random k).fits } in
-    replies_by2 c.one_choice.ensures.only v c.args.data_ c.args.edit.now c.args.random.now w
+    replies_by2 v c.args.data_ c.args.edit.now c.args.random.now w
     c.in-Luks2.field-0.header.hdr_offset c.in-Luks2.field-0.copies copy.chosen
-    (needs_of c.luks2_without_faults.ensures.uuid v c.in-Luks2.field-0 copy) ranges c.apply_luks2.result
+    (needs_of v c.in-Luks2.field-0 copy) ranges c.apply_luks2.result
     (rw same at (c.apply_luks2.ensures.replies tells (rw same read)))
 
 pub returns-clause-memory : goal.returns-clause-memory
 returns-clause-memory g c = λ tells free.
     let v = g.D.Device.bytes c.args.device.now in
     let copy = rw c.in-Luks2.is at (c.in_ok-header.ensures.read tells) in
-    absurd (takes_none c.one_choice.ensures.only v free (needs_of c.luks2_without_faults.ensures.uuid v c.in-Luks2.field-0 copy))
+    absurd (takes_none v free (needs_of v c.in-Luks2.field-0 copy))
 
 pub returns-clause-keeps : goal.returns-clause-keeps
 returns-clause-keeps g c = λ tells well fine.
-    edit_keeps c.luks1_edit_keeps_volume.ensures.keeps c.luks2_edit_keeps_volume.ensures.keeps c.args.data_
+    edit_keeps c.luks2_edit_keeps_volume.ensures.keeps c.args.data_
     (g.D.Device.bytes c.args.device.now) (g.D.Device.bytes c.apply_luks2.new.device) c.args.edit.now c.args.random.now c.apply_luks2.result
     well (returns-clause-replies g c tells) fine
 
 pub returns-in_err-header-clause-opens : goal.returns-in_err-header-clause-opens
 returns-in_err-header-clause-opens g c = λ tells well.
-    edit_opens c.one_choice.ensures.only c.luks1_edit_opens.ensures c.luks2_edit_opens.ensures c.args.data_
+    edit_opens c.luks1_edit_opens.ensures c.luks2_edit_opens.ensures c.args.data_
     (g.D.Device.bytes c.args.device.now) (g.D.Device.bytes c.edited_header.new.device) c.args.edit.now c.args.random.now c.from_residual.result well (returns-in_err-header-clause-replies g c tells)
 
 pub returns-in_err-header-clause-wiped : goal.returns-in_err-header-clause-wiped
 returns-in_err-header-clause-wiped g c = λ tells well.
-    edit_wipes c.one_choice.ensures.only c.luks1_edit_keeps_volume.ensures.removed c.luks2_edit_keeps_volume.ensures.lost c.args.data_
+    edit_wipes c.luks2_edit_keeps_volume.ensures.lost c.args.data_
     (g.D.Device.bytes c.args.device.now) (g.D.Device.bytes c.edited_header.new.device) c.args.edit.now c.args.random.now c.from_residual.result well (returns-in_err-header-clause-replies g c tells)
 
 pub returns-in_err-header-clause-refused : goal.returns-in_err-header-clause-refused
 returns-in_err-header-clause-refused g c = λ tells.
-    edit_refused c.one_choice.ensures.only c.luks1_failing_edit.ensures.refused c.luks2_failing_edit.ensures.refused c.args.data_
+    edit_refused c.luks2_failing_edit.ensures.refused c.args.data_
     (g.D.Device.bytes c.args.device.now) (g.D.Device.bytes c.edited_header.new.device) c.args.edit.now c.args.random.now c.from_residual.result (returns-in_err-header-clause-replies g c tells)
 
 pub returns-in_err-header-clause-spared : goal.returns-in_err-header-clause-spared
@@ -89,24 +89,24 @@ returns-in_err-header-clause-spared g c = λ tells well failed.
     let size : length v < 2 ^ 64 = omega (arith, g.met.D.Device.sized c.args.device.now tells, g.met.D.Device.bounded c.args.device.now) in
     let ranges : HasRanges v c.args.edit.now c.args.random.now =
     record { size = size; iterations = c.iterations_have_32_bits.ensures; random_bytes = λ k. (c.type_inv.random k).fits } in
-    edit_spares c.one_choice.ensures.only c.luks1_failing_edit.ensures.rest c.luks1_failing_edit.ensures.keeps c.luks1_failing_edit.ensures.opens
+    edit_spares c.luks1_failing_edit.ensures.opens
     c.luks2_failing_edit.ensures.rest c.luks2_failing_edit.ensures.keeps c.luks2_failing_edit.ensures.whole c.luks2_failing_edit.ensures.opens c.args.data_
     (g.D.Device.bytes c.args.device.now) (g.D.Device.bytes c.edited_header.new.device) c.args.edit.now c.args.random.now c.from_residual.result
     well ranges (returns-in_err-header-clause-replies g c tells) failed (returns-in_err-header-clause-refused g c tells)
 
 pub returns-in-Luks1-clause-opens : goal.returns-in-Luks1-clause-opens
 returns-in-Luks1-clause-opens g c = λ tells well.
-    edit_opens c.one_choice.ensures.only c.luks1_edit_opens.ensures c.luks2_edit_opens.ensures c.args.data_
+    edit_opens c.luks1_edit_opens.ensures c.luks2_edit_opens.ensures c.args.data_
     (g.D.Device.bytes c.args.device.now) (g.D.Device.bytes c.apply_luks1.new.device) c.args.edit.now c.args.random.now c.apply_luks1.result well (returns-in-Luks1-clause-replies g c tells)
 
 pub returns-in-Luks1-clause-wiped : goal.returns-in-Luks1-clause-wiped
 returns-in-Luks1-clause-wiped g c = λ tells well.
-    edit_wipes c.one_choice.ensures.only c.luks1_edit_keeps_volume.ensures.removed c.luks2_edit_keeps_volume.ensures.lost c.args.data_
+    edit_wipes c.luks2_edit_keeps_volume.ensures.lost c.args.data_
     (g.D.Device.bytes c.args.device.now) (g.D.Device.bytes c.apply_luks1.new.device) c.args.edit.now c.args.random.now c.apply_luks1.result well (returns-in-Luks1-clause-replies g c tells)
 
 pub returns-in-Luks1-clause-refused : goal.returns-in-Luks1-clause-refused
 returns-in-Luks1-clause-refused g c = λ tells.
-    edit_refused c.one_choice.ensures.only c.luks1_failing_edit.ensures.refused c.luks2_failing_edit.ensures.refused c.args.data_
+    edit_refused c.luks2_failing_edit.ensures.refused c.args.data_
     (g.D.Device.bytes c.args.device.now) (g.D.Device.bytes c.apply_luks1.new.device) c.args.edit.now c.args.random.now c.apply_luks1.result (returns-in-Luks1-clause-replies g c tells)
 
 pub returns-in-Luks1-clause-spared : goal.returns-in-Luks1-clause-spared
@@ -115,24 +115,24 @@ returns-in-Luks1-clause-spared g c = λ tells well failed.
     let size : length v < 2 ^ 64 = omega (arith, g.met.D.Device.sized c.args.device.now tells, g.met.D.Device.bounded c.args.device.now) in
     let ranges : HasRanges v c.args.edit.now c.args.random.now =
     record { size = size; iterations = c.iterations_have_32_bits.ensures; random_bytes = λ k. (c.type_inv.random k).fits } in
-    edit_spares c.one_choice.ensures.only c.luks1_failing_edit.ensures.rest c.luks1_failing_edit.ensures.keeps c.luks1_failing_edit.ensures.opens
+    edit_spares c.luks1_failing_edit.ensures.opens
     c.luks2_failing_edit.ensures.rest c.luks2_failing_edit.ensures.keeps c.luks2_failing_edit.ensures.whole c.luks2_failing_edit.ensures.opens c.args.data_
     (g.D.Device.bytes c.args.device.now) (g.D.Device.bytes c.apply_luks1.new.device) c.args.edit.now c.args.random.now c.apply_luks1.result
     well ranges (returns-in-Luks1-clause-replies g c tells) failed (returns-in-Luks1-clause-refused g c tells)
 
 pub returns-clause-opens : goal.returns-clause-opens
 returns-clause-opens g c = λ tells well.
-    edit_opens c.one_choice.ensures.only c.luks1_edit_opens.ensures c.luks2_edit_opens.ensures c.args.data_
+    edit_opens c.luks1_edit_opens.ensures c.luks2_edit_opens.ensures c.args.data_
     (g.D.Device.bytes c.args.device.now) (g.D.Device.bytes c.apply_luks2.new.device) c.args.edit.now c.args.random.now c.apply_luks2.result well (returns-clause-replies g c tells)
 
 pub returns-clause-wiped : goal.returns-clause-wiped
 returns-clause-wiped g c = λ tells well.
-    edit_wipes c.one_choice.ensures.only c.luks1_edit_keeps_volume.ensures.removed c.luks2_edit_keeps_volume.ensures.lost c.args.data_
+    edit_wipes c.luks2_edit_keeps_volume.ensures.lost c.args.data_
     (g.D.Device.bytes c.args.device.now) (g.D.Device.bytes c.apply_luks2.new.device) c.args.edit.now c.args.random.now c.apply_luks2.result well (returns-clause-replies g c tells)
 
 pub returns-clause-refused : goal.returns-clause-refused
 returns-clause-refused g c = λ tells.
-    edit_refused c.one_choice.ensures.only c.luks1_failing_edit.ensures.refused c.luks2_failing_edit.ensures.refused c.args.data_
+    edit_refused c.luks2_failing_edit.ensures.refused c.args.data_
     (g.D.Device.bytes c.args.device.now) (g.D.Device.bytes c.apply_luks2.new.device) c.args.edit.now c.args.random.now c.apply_luks2.result (returns-clause-replies g c tells)
 
 pub returns-clause-spared : goal.returns-clause-spared
@@ -141,7 +141,7 @@ returns-clause-spared g c = λ tells well failed.
     let size : length v < 2 ^ 64 = omega (arith, g.met.D.Device.sized c.args.device.now tells, g.met.D.Device.bounded c.args.device.now) in
     let ranges : HasRanges v c.args.edit.now c.args.random.now =
     record { size = size; iterations = c.iterations_have_32_bits.ensures; random_bytes = λ k. (c.type_inv.random k).fits } in
-    edit_spares c.one_choice.ensures.only c.luks1_failing_edit.ensures.rest c.luks1_failing_edit.ensures.keeps c.luks1_failing_edit.ensures.opens
+    edit_spares c.luks1_failing_edit.ensures.opens
     c.luks2_failing_edit.ensures.rest c.luks2_failing_edit.ensures.keeps c.luks2_failing_edit.ensures.whole c.luks2_failing_edit.ensures.opens c.args.data_
     (g.D.Device.bytes c.args.device.now) (g.D.Device.bytes c.apply_luks2.new.device) c.args.edit.now c.args.random.now c.apply_luks2.result
     well ranges (returns-clause-replies g c tells) failed (returns-clause-refused g c tells)

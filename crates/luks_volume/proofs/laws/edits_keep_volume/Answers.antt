@@ -5,4 +5,4 @@ use Rattle.luks_volume.proofs.laws.edits_keep_volume.Goals as goal
 
 pub returns : goal.returns
 returns c = λ payload.
-    list_keeps (Replies payload) NamedSlots payload (edit_keeps c.luks1_edit_keeps_volume.ensures.keeps c.luks2_edit_keeps_volume.ensures.keeps payload)
+    list_keeps (Replies payload) NamedSlots payload (edit_keeps c.luks2_edit_keeps_volume.ensures.keeps payload)

@@ -14,19 +14,19 @@ pub returns-in_err-header-clause-memory : goal.returns-in_err-header-clause-memo
 returns-in_err-header-clause-memory g c = λ tells free.
     let v = g.D.Device.bytes c.args.device.now in
     let p = err_from_is_err_and c.from_residual.result c.from_residual.ensures.1 in
-    rw (p.1, p.2) (unread_without_memory c.one_choice.ensures.only v c.args.data_ c.args.edit.now free c.in_err-header.field-0.0 (c.in_err-header.ensures.refused tells c.args.data_))
+    rw (p.1, p.2) (unread_without_memory v c.args.data_ c.args.edit.now free c.in_err-header.field-0.0 (c.in_err-header.ensures.refused tells c.args.data_))
 
 pub returns-in-Luks1-clause-tells : goal.returns-in-Luks1-clause-tells
 returns-in-Luks1-clause-tells g c = λ tells.
     let v = g.D.Device.bytes c.args.device.now in
     let is = rw c.in-Luks1.is at (c.in_ok-header.ensures.read tells) in
     let long = g.met.D.Device.sized c.args.device.now tells ∙ sym c.in_ok-header.ensures.unchanged.size ∙ sym c.len-total.ensures in
-    tells_need1 c.one_choice.ensures.only v c.args.data_ c.args.edit.now is.0 c.needed_luks1.result (c.needed_luks1.ensures.tells v is long)
+    tells_need1 v c.args.data_ c.args.edit.now is.0 c.needed_luks1.result (c.needed_luks1.ensures.tells v is long)
 
 pub returns-clause-tells : goal.returns-clause-tells
 returns-clause-tells g c = λ tells.
     let v = g.D.Device.bytes c.args.device.now in
     let copy = rw c.in-Luks2.is at (c.in_ok-header.ensures.read tells) in
     let long = g.met.D.Device.sized c.args.device.now tells ∙ sym c.in_ok-header.ensures.unchanged.size ∙ sym c.len-total.ensures in
-    tells_need2 c.one_choice.ensures.only v c.args.data_ c.args.edit.now c.in-Luks2.field-0.header.hdr_offset c.in-Luks2.field-0.copies copy.chosen c.needed_luks2.result
+    tells_need2 v c.args.data_ c.args.edit.now c.in-Luks2.field-0.header.hdr_offset c.in-Luks2.field-0.copies copy.chosen c.needed_luks2.result
     (c.needed_luks2.ensures.tells v (c.in_ok-header.ensures.read tells) long)
