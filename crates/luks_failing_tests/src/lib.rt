@@ -5,6 +5,10 @@
 #[cfg(test)]
 mod failing_calls;
 #[cfg(test)]
+mod losing_edits;
+#[cfg(test)]
+mod losing_formats;
+#[cfg(test)]
 mod refused_memory;
 #[cfg(test)]
 mod stray;
