@@ -1,6 +1,8 @@
 //! Formatting on devices that lose what was written and not flushed.
+ghost use Rattle.std.specs.Prelude.{◌+◌, ◌<◌, ◌^◌};
+ghost use Rattle.luks_area.specs.Device.{IsSettled};
 
-use luks_area::Device;
+use luks_area::{Device, MemDevice};
 use luks_edit::Done;
 use luks_formatting::{FORMAT1_RANDOM, FORMAT2_RANDOM, Format, FormatFault, format1, format2};
 use luks_kdf::HashName;
@@ -10,11 +12,11 @@ use std::alloc::Global;
 use std::process::Abort;
 use std::test::Fail;
 
-/// The version of LUKS, the length of the volume, and the places where its header and its key area
-/// end and begin.
-const VOLUMES: [(u8, usize, usize, usize, usize); 2] = [
-    (1, 2097664, 592, 4096, 260096),
-    (2, 16777728, 32768, 32768, 288768),
+/// The version of LUKS, how many random bytes its formatting takes, the length of the volume, and where
+/// its header ends and its key area begins and ends.
+const VOLUMES: [(u8, u64, usize, usize, usize, usize); 2] = [
+    (1, FORMAT1_RANDOM, 2097664, 592, 4096, 260096),
+    (2, FORMAT2_RANDOM, 16777728, 32768, 32768, 288768),
 ];
 
 /// Some of the calls that write the key area, and all later ones: its 500 sectors are written first.
@@ -28,12 +30,15 @@ const LOSSES: [Loss; 5] = [
     Loss::Ones,
 ];
 
-fn format(
+fn format<D: Device>(
     alloc: Global,
-    device: &mut LosingDevice,
+    device: &mut D,
     version: u8,
     random: &[u8],
-) -> Result<Done, FormatFault> {
+) -> Result<Done, FormatFault>
+    requires room { D.failed device.old + 1 < 2 ^ 64 }
+    requires settled { D.tells → IsSettled D.unsettled device.old }
+{
     let format = Format {
         hash: HashName::Sha256,
         iterations: 1000,
@@ -54,11 +59,11 @@ fn rest_is_same(volume: &[u8], header: usize, from: usize, to: usize) -> bool {
 }
 
 /// Whether the volume is refused, or its keyslot opens.
-fn opens_where_accepted(alloc: Global, device: &mut LosingDevice) -> bool {
-    if check(alloc, device, Data::Here).is_err() {
+fn opens_where_accepted(alloc: Global, left: &mut MemDevice) -> bool {
+    if check(alloc, left, Data::Here).is_err() {
         return true;
     }
-    open_slot(alloc, device, 0, b"one").is_ok_and(|key| key.is_some())
+    open_slot(alloc, left, 0, b"one").is_ok_and(|key| key.is_some())
 }
 
 // The header is written over a key area that is flushed: no cut leaves a volume that is accepted and
@@ -66,26 +71,19 @@ fn opens_where_accepted(alloc: Global, device: &mut LosingDevice) -> bool {
 #[test]
 fn each_version(rt: HostRuntime) -> Result<(), Fail> {
     let alloc = rt.alloc();
-    for (version, len, header, from, to) in VOLUMES {
-        let random = counted(
-            alloc,
-            0,
-            if version == 1 {
-                FORMAT1_RANDOM
-            } else {
-                FORMAT2_RANDOM
-            } as usize,
-        )?;
+    for (version, random, len, header, from, to) in VOLUMES {
+        let random = counted(alloc, 0, random as usize)?;
         let volume = vec![in alloc; 0xA5u8; len]?;
         for loss in LOSSES {
             let mut is_done = false;
             for call in CALLS {
-                let mut device = LosingDevice::new(alloc, &volume, call, loss, false)?;
+                let mut device = LosingDevice::new(alloc, &volume, call, loss, true)?;
                 let answer = format(alloc, &mut device, version, &random);
                 let failed = device.failures();
                 is_done = answer.is_ok() && failed == 0 && device.contents() == device.settled();
                 let is_told = failed == 1 && matches!(answer, Err(FormatFault::Device));
-                let opened = opens_where_accepted(alloc, &mut device);
+                let mut left = MemDevice::new(device.contents().to_vec(alloc)?);
+                let opened = opens_where_accepted(alloc, &mut left);
                 let same = rest_is_same(device.contents(), header, from, to);
                 assert!(rt;
                     (is_done || is_told) && opened && same,
