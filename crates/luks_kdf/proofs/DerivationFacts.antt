@@ -1,8 +1,6 @@
 -- Facts about the definitions of HMAC and PBKDF2.
 use Rattle.std.proofs.Common.{◌≡◌, ℕ, zero, suc, ◌+◌, ◌-◌, ◌*◌, ◌<◌, ◌≤◌, true, false, List, ◌++◌, length, take, drop, refl, ap, sym, ◌∙◌, arith, length-append, add_comm, add-zero, add-suc, add-one}
 use Rattle.std.specs.Prelude.{replicate, nat_lt}
-use borrow.Rule.Slice.PartMut.{put_mid}
-use Rattle.std.proofs.lemmas.Slice.{take-put_mid}
 use Rattle.std.proofs.Math.Nat.{mul-le-mul_left}
 use Rattle.std.proofs.lemmas.List.{drop-replicate, take-append-le}
 use Rattle.std.proofs.lemmas.Bool.{lt-ltb, le-ltb}
@@ -101,16 +99,3 @@ turns_step prf first last next before after count some is_last is_before is_next
     let more : count + 1 - 1 ≡ suc (count - 1) = omega arith in
     let made : next ≡ prf (turn prf first (count - 1)) = is_next ∙ ap prf is_last in
     rw more (made, is_after ∙ ap (λ l. xor_bytes l next) is_before ∙ ap (xor_bytes _) made)
-
--- one block more, written at its place
-pub blocks_step : (prf : List ℕ → List ℕ) (len : ℕ) → ((m : List ℕ) → length (prf m) ≡ len)
-    → (salt blocks block : List ℕ) (c i at k : ℕ) → at ≡ i * len → (i + 1) * len ≤ length blocks
-    → take (i * len) blocks ≡ derived_blocks prf salt c i → block ≡ derived_block prf salt c (i + 1)
-    → take ((i + 1) * len) (put_mid at k blocks block) ≡ derived_blocks prf salt c (i + 1)
-unfolding derived_blocks
-blocks_step prf len tags salt blocks block c i at k is_at room front made =
-    let whole : length block ≡ len = ap length made ∙ length-derived_block prf len tags salt c (i + 1) in
-    let end : (i + 1) * len ≡ at + length block = omega (arith, whole, is_at) in
-    let inside : at ≤ length blocks = omega (arith, room, is_at) in
-    let begin : take at blocks ≡ derived_blocks prf salt c i = ap (λ n. take n blocks) is_at ∙ front in
-    take-put_mid at k blocks block _ end inside ∙ rw (begin, made, add-one) refl

@@ -1,4 +1,6 @@
 pub mod XorFacts
 pub mod DerivationFacts
+pub mod RowFacts
+pub mod LaneFacts
 pub mod DiffuseFacts
 pub mod SplitterFacts

@@ -1,5 +1,6 @@
 pub mod Xor
 pub mod Derivation
 pub mod Splitter
+pub mod Turns
 pub mod Lengths
 pub mod Names

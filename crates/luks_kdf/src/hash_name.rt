@@ -7,6 +7,7 @@ ghost use Rattle.luks_kdf.specs.Names.{name_of, hash_of, digest_size_of, block_s
 
 use crate::hash::HashFn;
 use crate::hash_work::HashWork;
+use luks_lanes::sha256_turns;
 use sha1::Sha1;
 use sha2::{Digest, Sha256, Sha512};
 
@@ -98,6 +99,10 @@ impl HashFn for Sha1Fn {
         out.copy_from_slice(&self.hasher.finalize());
     }
 
+    fn run_side_by_side(_blocks: &mut [u8], _key: &[u8], _iterations: u32) -> usize {
+        0
+    }
+
     ghost not_empty = { Prim.search rules };
 
     ghost in_64 = { Prim.search rules };
@@ -152,6 +157,10 @@ impl HashFn for Sha256Fn {
         out.copy_from_slice(&self.hasher.finalize());
     }
 
+    fn run_side_by_side(blocks: &mut [u8], key: &[u8], iterations: u32) -> usize {
+        sha256_turns(blocks, key, iterations)
+    }
+
     ghost not_empty = { Prim.search rules };
 
     ghost in_64 = { Prim.search rules };
@@ -204,6 +213,10 @@ impl HashFn for Sha512Fn {
 
     fn finish(self, out: &mut [u8]) {
         out.copy_from_slice(&self.hasher.finalize());
+    }
+
+    fn run_side_by_side(_blocks: &mut [u8], _key: &[u8], _iterations: u32) -> usize {
+        0
     }
 
     ghost not_empty = { Prim.search rules };

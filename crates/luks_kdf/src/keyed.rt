@@ -19,6 +19,15 @@ impl<H: HashFn> Keyed<H> {
         let mut buffer = [0u8; 128];
         let block = &mut buffer[..H::BLOCK];
         fill_block_key::<H>(block, key);
+        Keyed::of_block(block)
+    }
+
+    // Under the key that the block is made of.
+    pub(crate) fn of_block(block: &[u8]) -> Keyed<H>
+        requires { length block.now ≤ 128 }
+        ensures { (key : List ℕ) → block.now ≡ block_key H.digest H.BLOCK key
+            → HoldKey H.holds H.digest H.BLOCK result.inner result.outer key }
+    {
         let inner = padded_start(block, 0x36);
         let outer = padded_start(block, 0x5C);
         Keyed { inner, outer }
@@ -65,7 +74,7 @@ impl<H: HashFn> Keyed<H> {
 }
 
 // The key as one block: hashed if it is longer than a block, then zeros.
-fn fill_block_key<H: HashFn>(block: &mut [u8], key: &[u8])
+pub(crate) fn fill_block_key<H: HashFn>(block: &mut [u8], key: &[u8])
     requires { length block.old ≡ H.BLOCK }
     ensures { block.new ≡ block_key H.digest H.BLOCK key.now }
 {

@@ -1,0 +1,11 @@
+//! PBKDF2's turns on several blocks side by side: each block is a chain of its own, so words of two
+//! or four of them lie in the lanes of one vector.
+#![tactic(auto)]
+
+mod bytes;
+mod constants;
+mod pair;
+mod sha256;
+mod pair_turns;
+
+pub use pair_turns::sha256_turns;
