@@ -1,6 +1,7 @@
 //! New volumes, by the SHA-256 that testdata/oracle makes of them.
 
 ghost use Rattle.std.specs.Prelude.{◌+◌, ◌<◌, ◌^◌};
+ghost use Rattle.luks_area.specs.Device.{IsSettled};
 
 use crate::formats::FORMATS;
 use luks_area::{Device, MemDevice};
@@ -34,7 +35,8 @@ pub(crate) fn format<D: Device>(
     asked: Asked,
     random: &[u8],
 ) -> Result<Done, FormatFault>
-    requires { D.failed device.old + 1 < 2 ^ 64 }
+    requires room { D.failed device.old + 1 < 2 ^ 64 }
+    requires settled { D.tells → IsSettled D.unsettled device.old }
 {
     if asked.version == 1 {
         format1(device, asked.data, &asked.format, b"one", random)

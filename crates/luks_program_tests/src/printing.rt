@@ -1,6 +1,7 @@
 //! What the program prints.
 ghost use Rattle.std.specs.Prelude.{◌+◌, ◌<◌, ◌^◌};
 ghost use Rattle.std.specs.Result.{ForOk};
+ghost use Rattle.luks_area.specs.Device.{IsSettled};
 
 use luks_cli::{InputFault, Inputs, execute};
 use luks_line::line;
@@ -35,7 +36,8 @@ pub fn run<D: Device, R: Read + Drop, W: Write, E: Write>(
     out: &mut W,
     err: &mut E,
 ) -> Result<u8, Fail>
-    requires { ForOk volume (λ d. D.failed d + 1 < 2 ^ 64) }
+    requires room { ForOk volume (λ d. D.failed d + 1 < 2 ^ 64) }
+    requires settled { D.tells → ForOk volume (IsSettled D.unsettled) }
 {
     let line = line(alloc, words)?;
     let mut inputs = Inputs {
@@ -56,7 +58,8 @@ pub fn prints<D: Device, R: Read + Drop>(
     want: &str,
     status: u8,
 ) -> Result<bool, Fail>
-    requires { ForOk volume (λ d. D.failed d + 1 < 2 ^ 64) }
+    requires room { ForOk volume (λ d. D.failed d + 1 < 2 ^ 64) }
+    requires settled { D.tells → ForOk volume (IsSettled D.unsettled) }
 {
     let mut out = Vec::new(alloc);
     let mut err = Vec::new(alloc);
