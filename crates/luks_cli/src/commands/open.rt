@@ -114,7 +114,7 @@ fn open_any<D: Device, W: Write, E: Write>(
         Ok(Some((n, _))) => opens(n, out),
         Ok(None) => {
             note_line_feed(passphrase, err);
-            note_passed_over(alloc, device, &header, passphrase, err);
+            note_passed_over(&header, device.len(), err);
             writeln!(out, "no slot opens")?;
             Ok(Status::Refused)
         }
