@@ -1,7 +1,7 @@
 -- The window of the second block of a message of 96 bytes.
-use Rattle.std.proofs.Common.{◌≡◌, ℕ, zero, suc, ◌<◌, ◌+◌, ◌*◌, ◌/◌, ◌%◌, ◌^◌, List, [], ◌∷◌, slice_index, arith, refl, sym, subst}
+use Rattle.std.proofs.Common.{◌≡◌, ℕ, zero, suc, ◌<◌, ◌+◌, ◌*◌, ◌/◌, ◌%◌, ◌^◌, [], ◌∷◌, arith, refl, sym, subst}
 use Rattle.std.proofs.lemmas.Nat.{from_be_bytes-to_be_bytes_4}
-use Rattle.sha2.specs.Sha256.{IsWindow, schedule, word_at, digest_bytes}
+use Rattle.sha2.specs.Sha256.{IsWindow, schedule, digest_bytes}
 use Rattle.sha2.proofs.Schedule256.{IsWindow_first}
 use Rattle.luks_lanes.specs.Pair.{last_block}
 

@@ -1,10 +1,10 @@
 -- What the functions on two blocks do to the words of each.
-use Rattle.std.proofs.Common.{◌-◌, map, sym, ◌≡◌, ℕ, zero, suc, ◌<◌, ◌≤◌, ◌+◌, ◌*◌, ◌/◌, ◌%◌, ◌^◌, List, [], ◌∷◌, length, slice_index, bit_and, bit_xor, arith, refl, ap, ◌∙◌, Fits, w32}
+use Rattle.std.proofs.Common.{sym, ◌≡◌, ℕ, zero, suc, ◌<◌, ◌≤◌, ◌+◌, ◌*◌, ◌/◌, ◌%◌, ◌^◌, List, [], ◌∷◌, length, slice_index, bit_and, bit_xor, arith, refl, ◌∙◌, Fits, w32}
 use Rattle.std.proofs.lemmas.Nat.{xor_mod}
 use Rattle.std.proofs.lemmas.Simd.{get_or-zip2, Each1-get_or, length-zip2}
 use Rattle.std.specs.Simd.Lanes.{zip2, Each1}
-use Rattle.std.proofs.lemmas.List.{get_or-map, map-set, get_or-map}
-use Rattle.std.specs.Prelude.{slice_index_or, slice_set}
+use Rattle.std.proofs.lemmas.List.{get_or-map, get_or-map}
+use Rattle.std.specs.Prelude.{slice_index_or}
 use Rattle.sha2.specs.Sha256.{initial_hash_256, add32, ch, maj, small_sigma0, small_sigma1, window_word}
 use Rattle.luks_lanes.specs.Pair.{lane, word_of, window}
 use Rattle.luks_lanes.proofs.ChMaj.{ch_short, maj_short}
@@ -62,8 +62,14 @@ pub two_rotated : (d : List ℕ) → length d ≡ 2 → (x a b j r : ℕ) → j 
     → r ≡ slice_index (zip2 bit_xor (shifted d a) (shifted d b)) j % 2 ^ 32
     → r ≡ bit_xor (rotated 32 x a) (rotated 32 x b)
 two_rotated d l x a b j r lt fits ha hb e er =
-    rw (er, slice_index-xor d l a b j lt, e, xor_mod (x * (2 ^ 32 + 1) / 2 ^ a) (x * (2 ^ 32 + 1) / 2 ^ b) 32,
-      doubled_shifted x a ha fits, doubled_shifted x b hb fits) refl
+    rw (
+      er,
+      slice_index-xor d l a b j lt,
+      e,
+      xor_mod (x * (2 ^ 32 + 1) / 2 ^ a) (x * (2 ^ 32 + 1) / 2 ^ b) 32,
+      doubled_shifted x a ha fits,
+      doubled_shifted x b hb fits,
+    ) refl
 
 -- three of them
 pub three_rotated : (d : List ℕ) → length d ≡ 2 → (x a b c j r : ℕ) → j < 2 → x < 2 ^ 32 → a ≤ 32 → b ≤ 32 → c ≤ 32
@@ -71,10 +77,16 @@ pub three_rotated : (d : List ℕ) → length d ≡ 2 → (x a b c j r : ℕ) �
     → r ≡ slice_index (zip2 bit_xor (zip2 bit_xor (shifted d a) (shifted d b)) (shifted d c)) j % 2 ^ 32
     → r ≡ bit_xor (bit_xor (rotated 32 x a) (rotated 32 x b)) (rotated 32 x c)
 three_rotated d l x a b c j r lt fits ha hb hc e er =
-    rw (er, slice_index-xor3 d l a b c j lt, e,
+    rw (
+      er,
+      slice_index-xor3 d l a b c j lt,
+      e,
       xor_mod (bit_xor (x * (2 ^ 32 + 1) / 2 ^ a) (x * (2 ^ 32 + 1) / 2 ^ b)) (x * (2 ^ 32 + 1) / 2 ^ c) 32,
       xor_mod (x * (2 ^ 32 + 1) / 2 ^ a) (x * (2 ^ 32 + 1) / 2 ^ b) 32,
-      doubled_shifted x a ha fits, doubled_shifted x b hb fits, doubled_shifted x c hc fits) refl
+      doubled_shifted x a ha fits,
+      doubled_shifted x b hb fits,
+      doubled_shifted x c hc fits,
+    ) refl
 
 -- Ch of each word
 pub ch_words : (x y z : List ℕ) → Words x → Words y → Words z → (j : ℕ) → j < 2
@@ -92,9 +104,12 @@ maj_words x y z hx hy hz j lt =
     let lxy : length (zip2 bit_xor x y) ≡ 4 = length-zip2 bit_xor x y (omega (arith, hx.0, hy.0)) ∙ hx.0 in
     let lyz : length (zip2 bit_xor y z) ≡ 4 = length-zip2 bit_xor y z (omega (arith, hy.0, hz.0)) ∙ hy.0 in
     let la : length (zip2 bit_and (zip2 bit_xor x y) (zip2 bit_xor y z)) ≡ 4 = length-zip2 bit_and (zip2 bit_xor x y) (zip2 bit_xor y z) (omega arith) ∙ lxy in
-    rw (word_zip bit_xor y (zip2 bit_and (zip2 bit_xor x y) (zip2 bit_xor y z)) hy.0 la j lt,
+    rw (
+      word_zip bit_xor y (zip2 bit_and (zip2 bit_xor x y) (zip2 bit_xor y z)) hy.0 la j lt,
       word_zip bit_and (zip2 bit_xor x y) (zip2 bit_xor y z) lxy lyz j lt,
-      word_zip bit_xor x y hx.0 hy.0 j lt, word_zip bit_xor y z hy.0 hz.0 j lt)
+      word_zip bit_xor x y hx.0 hy.0 j lt,
+      word_zip bit_xor y z hy.0 hz.0 j lt,
+    )
     (maj_short (word_of j x) (word_of j y) (word_of j z))
 
 -- the words that the schedule takes, in a window of vectors
@@ -105,8 +120,13 @@ pub window_word_in : (j : ℕ) (w : List (List ℕ)) (place : ℕ) → length w 
     (small_sigma0 (word_of j (slice_index_or w ((place + 1) % 16) [])))) (word_of j (slice_index_or w place []))
 window_word_in j w place l lt =
     let at : place % 16 ≡ place = omega arith in
-    rw (at, get_or-map (word_of j) w ((place + 14) % 16) [] 0 (omega arith), get_or-map (word_of j) w ((place + 9) % 16) [] 0 (omega arith),
-      get_or-map (word_of j) w ((place + 1) % 16) [] 0 (omega arith), get_or-map (word_of j) w place [] 0 (omega arith)) refl
+    rw (
+      at,
+      get_or-map (word_of j) w ((place + 14) % 16) [] 0 (omega arith),
+      get_or-map (word_of j) w ((place + 9) % 16) [] 0 (omega arith),
+      get_or-map (word_of j) w ((place + 1) % 16) [] 0 (omega arith),
+      get_or-map (word_of j) w place [] 0 (omega arith),
+    ) refl
 
 -- a word of the window
 pub word_in_window : (j : ℕ) (w : List (List ℕ)) (k : ℕ) → k < length w → word_of j (slice_index_or w k []) ≡ slice_index (window j w) k

@@ -1,7 +1,6 @@
 -- A rotation as a shift of the word written twice.
-use Rattle.std.proofs.Common.{refl, ◌≡◌, ℕ, ◌+◌, ◌-◌, ◌*◌, ◌/◌, ◌%◌, ◌^◌, ◌<◌, ◌≤◌, bit_or, bit_xor, sym, ap, subst, ◌∙◌, arith, add-zero, add_comm, mod-lt, pow_pos, pow-add, shr-shr}
-use Rattle.std.proofs.lemmas.Nat.{mod-pow-add, mod_low, or_comm, or_lt, or_shifted, shl-shr, shr_below, shr_high, shr_le, shr_split, xor_block, xor_lt, xor_mod, xor_shr}
-use lib.Bits.{xor_assoc}
+use Rattle.std.proofs.Common.{refl, ◌≡◌, ℕ, ◌+◌, ◌-◌, ◌*◌, ◌/◌, ◌%◌, ◌^◌, ◌<◌, ◌≤◌, bit_or, sym, ap, subst, ◌∙◌, arith, add-zero, mod-lt, pow_pos, pow-add}
+use Rattle.std.proofs.lemmas.Nat.{mod-pow-add, mod_low, or_comm, or_shifted, shl-shr, shr_below, shr_high, shr_split}
 
 -- `rotate_right` by k, from 1 to w - 1, in a word of w bits
 abbrev pub rotated : ℕ → ℕ → ℕ → ℕ

@@ -1,7 +1,7 @@
 -- A row of blocks, of which some are written anew.
-use Rattle.std.proofs.Common.{◌≡◌, ℕ, ◌+◌, ◌-◌, ◌*◌, ◌<◌, ◌≤◌, List, ◌++◌, length, length-append, take, drop, refl, ap, sym, ◌∙◌, arith, inl, inr}
+use Rattle.std.proofs.Common.{◌≡◌, ℕ, ◌+◌, ◌-◌, ◌*◌, ◌<◌, ◌≤◌, List, ◌++◌, length, length-append, take, drop, ap, sym, ◌∙◌, arith, inl, inr}
 use borrow.Rule.Slice.PartMut.{put_mid}
-use Rattle.std.proofs.lemmas.Slice.{drop-put_mid, take-put_mid, take-put_mid_below}
+use Rattle.std.proofs.lemmas.Slice.{drop-put_mid, take-put_mid_below}
 use Rattle.std.proofs.lemmas.Bool.{cases_lt}
 use Rattle.std.proofs.lemmas.List.{drop-take, drop-drop, drop-append-le, take-append-le, drop_at, length-take-le, length-drop, take_all, take_at, take-take}
 use Rattle.std.proofs.Math.Nat.{mul-le-mul_right}
@@ -80,5 +80,5 @@ both_written pair first second long l1 l2 =
     let whole : length row ≡ 64 = omega (arith, length-append first (drop 32 pair), length-drop 32 pair, long, l1) in (
       part-before 32 (length row - 32) row second 32 0 (omega arith) (omega (arith, whole)) ∙ take_at first (drop 32 pair) 32 l1,
       part-within 32 (length row - 32) row second 32 0 (omega (arith, whole)) (omega (arith, whole)) (omega (arith, whole, l2))
-      ∙ take_all 32 second (omega (arith, l2)),
+          ∙ take_all 32 second (omega (arith, l2)),
     )

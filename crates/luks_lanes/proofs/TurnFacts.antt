@@ -1,5 +1,5 @@
 -- A turn on words is HMAC on their bytes.
-use Rattle.std.proofs.Common.{◌≡◌, ℕ, zero, suc, ◌<◌, ◌≤◌, ◌+◌, ◌-◌, ◌*◌, ◌/◌, ◌%◌, ◌^◌, List, [], ◌∷◌, ◌++◌, length, take, drop, map, slice_index, bit_xor, arith, refl, sym, ap, ap₂, ◌∙◌, length-append, w32}
+use Rattle.std.proofs.Common.{◌≡◌, ℕ, zero, suc, ◌<◌, ◌≤◌, ◌+◌, ◌-◌, ◌*◌, ◌/◌, ◌^◌, List, [], ◌∷◌, ◌++◌, length, take, drop, map, slice_index, bit_xor, arith, refl, sym, ap, ap₂, ◌∙◌, length-append, w32}
 use Rattle.std.specs.Int.{to_be_bytes}
 use Rattle.std.proofs.lemmas.Nat.{xor_mod, xor_shr}
 use Rattle.std.proofs.lemmas.List.{take-append-le, drop-append-le, take_all, drop_all, append_assoc, length-map}
@@ -63,8 +63,15 @@ xor_append (x ∷ xs) (y ∷ ys) c d h = ap (λ (l : List ℕ). bit_xor x y ∷ 
 to_be_xor : (x y : ℕ) → to_be_bytes w32 (bit_xor x y) ≡ xor_bytes (to_be_bytes w32 x) (to_be_bytes w32 y)
 unfolding xor_bytes
 to_be_xor x y =
-    rw (xor_shr x y 24, xor_shr x y 16, xor_shr x y 8, xor_mod (x / 2 ^ 24) (y / 2 ^ 24) 8, xor_mod (x / 2 ^ 16) (y / 2 ^ 16) 8,
-      xor_mod (x / 2 ^ 8) (y / 2 ^ 8) 8, xor_mod x y 8) refl
+    rw (
+      xor_shr x y 24,
+      xor_shr x y 16,
+      xor_shr x y 8,
+      xor_mod (x / 2 ^ 24) (y / 2 ^ 24) 8,
+      xor_mod (x / 2 ^ 16) (y / 2 ^ 16) 8,
+      xor_mod (x / 2 ^ 8) (y / 2 ^ 8) 8,
+      xor_mod x y 8,
+    ) refl
 
 -- of n words
 digest_xor_upto : (a b c : List ℕ) (n : ℕ) → ((k : ℕ) → k < n → slice_index c k ≡ bit_xor (slice_index a k) (slice_index b k))

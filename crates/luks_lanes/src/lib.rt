@@ -5,7 +5,7 @@
 mod bytes;
 mod constants;
 mod pair;
-mod sha256;
 mod pair_turns;
+mod sha256;
 
 pub use pair_turns::sha256_turns;

@@ -1,4 +1,4 @@
-use Rattle.std.proofs.Common.{rules, ◌≡◌, take, map, bit_xor, arith, refl, ap, sym, ◌∙◌}
+use Rattle.std.proofs.Common.{◌≡◌, map, bit_xor, arith, refl, ap, sym, ◌∙◌}
 use Rattle.std.proofs.lemmas.List.{length-set, map-append, take_all, take_more, take_more_set}
 use Rattle.luks_lanes.proofs.bytes.padded.Goals as goal
 

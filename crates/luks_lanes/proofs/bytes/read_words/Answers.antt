@@ -1,4 +1,4 @@
-use Rattle.std.proofs.Common.{◌≡◌, ◌*◌, length, arith, ap, ◌∙◌}
+use Rattle.std.proofs.Common.{◌*◌, length, arith, ◌∙◌}
 use Rattle.std.proofs.lemmas.List.{take_all}
 use Rattle.luks_lanes.proofs.ByteFacts.{words_read}
 use Rattle.luks_lanes.proofs.bytes.read_words.Goals as goal

@@ -1,4 +1,4 @@
-use Rattle.std.proofs.Common.{◌≡◌, ℕ, ◌<◌, ◌*◌, length, slice_index}
+use Rattle.std.proofs.Common.{◌≡◌, ℕ, ◌<◌, ◌*◌, slice_index}
 use Rattle.sha2.specs.Sha256.{word_at}
 use Rattle.luks_lanes.proofs.bytes.read_words.Given as goal
 

@@ -1,4 +1,4 @@
-use Rattle.std.proofs.Common.{refl, arith, sym, ap, ◌∙◌}
+use Rattle.std.proofs.Common.{refl, arith, ◌∙◌}
 use Rattle.sha2.specs.Sha256.{digest_bytes}
 use Rattle.sha2.proofs.Absorbing256.{digest_more}
 use Rattle.luks_lanes.proofs.bytes.write_words.Goals as goal

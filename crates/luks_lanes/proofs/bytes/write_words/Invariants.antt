@@ -1,4 +1,4 @@
-use Rattle.std.proofs.Common.{◌≡◌, ◌*◌, length, take}
+use Rattle.std.proofs.Common.{◌≡◌, ◌*◌, take}
 use Rattle.sha2.specs.Sha256.{digest_bytes}
 use Rattle.luks_lanes.proofs.bytes.write_words.Given as goal
 

@@ -1,6 +1,5 @@
-use Rattle.std.proofs.Common.{◌≡◌, ◌-◌, take, drop, arith, ap, sym, ◌∙◌}
+use Rattle.std.proofs.Common.{◌-◌, take, drop, arith, ap, sym, ◌∙◌}
 use Rattle.std.proofs.lemmas.List.{length-take-le}
-use Rattle.sha2.specs.Sha256.{digest_bytes}
 use Rattle.luks_lanes.proofs.PairFacts.{below_two}
 use Rattle.luks_lanes.proofs.pair_turns.load.Goals as goal
 

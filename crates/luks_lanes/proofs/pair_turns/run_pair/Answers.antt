@@ -1,7 +1,6 @@
 use Rattle.std.proofs.Common.{◌≡◌, ◌-◌, ap, sym, ◌∙◌, arith}
 use Rattle.sha2.specs.Sha256.{digest_bytes, sha256}
 use Rattle.luks_lanes.specs.Turns.{block_at, hmac, turn, turns_xored}
-use Rattle.luks_lanes.specs.Pair.{lane, last_block}
 use Rattle.luks_lanes.proofs.TurnFacts.{hmac_words, digest_xor, turns_step}
 use Rattle.luks_lanes.proofs.pair_turns.run_pair.Goals as goal
 

@@ -1,6 +1,5 @@
-use Rattle.std.proofs.Common.{◌≡◌, ℕ, ◌*◌, ◌+◌, ◌<◌, refl, arith, ap, sym, ◌∙◌}
+use Rattle.std.proofs.Common.{◌≡◌, ℕ, ◌*◌, ◌+◌, ◌<◌, arith, ap, ◌∙◌}
 use Rattle.sha2.specs.Sha256.{compress, initial_hash_256, sha256}
-use Rattle.luks_lanes.specs.Turns.{AreTurned}
 use Rattle.luks_lanes.proofs.RowFacts.{turned_more}
 use Rattle.luks_lanes.proofs.pair_turns.sha256_turns.Goals as goal
 

@@ -1,9 +1,9 @@
-use Rattle.std.proofs.Common.{rules, ◌≡◌, ◌<◌, refl, inl, inr, ap, length, ◌*◌, ◌∙◌, arith}
+use Rattle.std.proofs.Common.{rules, ◌≡◌, inl, inr, ap, ◌∙◌, arith}
 use Rattle.std.proofs.lemmas.List.{get_or-set_same, get_or-set_other, map-set, length-map}
 use Rattle.std.proofs.lemmas.Bool.{cases_lt}
-use Rattle.sha2.specs.Sha256.{compress, initial_hash_256}
+use Rattle.sha2.specs.Sha256.{compress}
 use Rattle.sha2.proofs.Schedule256.{IsWindow_first}
-use Rattle.luks_lanes.specs.Pair.{lane, window, word_of}
+use Rattle.luks_lanes.specs.Pair.{window, word_of}
 use Rattle.luks_lanes.proofs.PairFacts.{start_words}
 use Rattle.luks_lanes.proofs.pair_turns.state_after.Goals as goal
 

@@ -1,4 +1,3 @@
-use Rattle.std.proofs.Common.{refl}
 use Rattle.luks_lanes.proofs.sha256.compress.Goals as goal
 
 pub returns : goal.returns

@@ -1,7 +1,7 @@
-use Rattle.std.proofs.Common.{◌≡◌, refl, ap, ◌*◌, ◌∙◌, arith}
+use Rattle.std.proofs.Common.{◌≡◌, refl, ap, ◌*◌, arith}
 use Rattle.sha2.specs.Sha256.{add_state, compress, rounds}
 use Rattle.sha2.proofs.Schedule256.{IsRoundsAt_at}
-use Rattle.luks_lanes.specs.Pair.{lane, window}
+use Rattle.luks_lanes.specs.Pair.{lane}
 use Rattle.luks_lanes.proofs.sha256.compress_window.Goals as goal
 
 pub schedule-init : goal.schedule-init
@@ -26,6 +26,14 @@ pub returns : goal.returns
 unfolding compress
 returns c = λ j b lt win.
     let done : 16 * c.schedule.turn ≡ 64 = omega (arith, c.schedule.auto.turn-end (omega arith)) in
-    rw (c.add.ensures j lt, c.add-2.ensures j lt, c.add-3.ensures j lt, c.add-4.ensures j lt,
-      c.add-5.ensures j lt, c.add-6.ensures j lt, c.add-7.ensures j lt, c.add-8.ensures j lt)
+    rw (
+      c.add.ensures j lt,
+      c.add-2.ensures j lt,
+      c.add-3.ensures j lt,
+      c.add-4.ensures j lt,
+      c.add-5.ensures j lt,
+      c.add-6.ensures j lt,
+      c.add-7.ensures j lt,
+      c.add-8.ensures j lt,
+    )
     (ap (add_state (lane j c.args.state.now)) (rw done at (c.schedule.invariant j b lt win).1))

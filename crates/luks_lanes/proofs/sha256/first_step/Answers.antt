@@ -1,6 +1,6 @@
-use Rattle.std.proofs.Common.{refl, arith, ◌∙◌}
+use Rattle.std.proofs.Common.{refl, arith}
 use Rattle.sha2.proofs.Schedule256.{rounds_first}
-use Rattle.luks_lanes.specs.Pair.{lane, window, word_of}
+use Rattle.luks_lanes.specs.Pair.{lane, window}
 use Rattle.luks_lanes.proofs.PairFacts.{word_in_window}
 use Rattle.luks_lanes.proofs.sha256.first_step.Goals as goal
 
