@@ -91,8 +91,8 @@ returns-in-Change-clause-replies g c = λ tells is.
     let seals = subst (λ t. Seals (hdr_size (header_at v copy.header.hdr_offset)) v payload (content copy.meta) e t) c.in-Change.is judged.seals in
     subst (λ y. Replies2 payload (g.D.Device.bytes c.args.device.now) y random c.change.result w) (sym takes.asked)
     (subst (λ u. Replies2 payload u e random c.change.result w) same
-    (let replies = rw c.new-secrets-in-Change.ensures at (c.change.ensures.replies tells payload takes.old) in
-    replies chosen judged.well (judged.none random) (seals.0 c.in-Change.renewal.slot takes.old.now (refl, refl)) seals.1))
+    (let replies = rw (c.new-secrets-in-Change.ensures, c.in-Change.is) at (c.change.ensures.replies tells payload) in
+    replies takes.old chosen judged.well (judged.none random) (seals.0 c.in-Change.renewal.slot takes.old.now (refl, refl)) seals.1))
 
 pub returns-in-Add-clause-replies : goal.returns-in-Add-clause-replies
 returns-in-Add-clause-replies g c = λ tells is.
@@ -111,5 +111,5 @@ returns-in-Add-clause-replies g c = λ tells is.
     let seals = subst (λ t. Seals (hdr_size (header_at v copy.header.hdr_offset)) v payload (content copy.meta) e t) c.in-Add.is judged.seals in
     subst (λ y. Replies2 payload (g.D.Device.bytes c.args.device.now) y random c.add.result w) (sym takes.asked)
     (subst (λ u. Replies2 payload u e random c.add.result w) same
-    (let replies = rw c.new-secrets.ensures at (c.add.ensures.replies tells payload takes.old takes.to) in
-    replies chosen judged.well (judged.none random) (seals.0 c.in-Add.addition.by_ takes.old.now (refl, refl)) takes.number.is_new seals.1))
+    (let replies = rw (c.new-secrets.ensures, c.in-Add.is) at (c.add.ensures.replies tells payload) in
+    replies takes.old takes.to chosen judged.well (judged.none random) (seals.0 c.in-Add.addition.by_ takes.old.now (refl, refl)) takes.number.is_new seals.1))
