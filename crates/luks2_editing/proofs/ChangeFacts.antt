@@ -36,7 +36,8 @@ use Rattle.luks2_editing.proofs.LostFacts.{beside_first, beside_second, both_bes
 use Rattle.luks2_editing.proofs.NewKeyslotFacts.{alike_place, same_len, same_start, torn_leftover, SealsLike}
 use Rattle.luks2_editing.proofs.OpenedFacts.{opened_kdf, opened_plan, HasOpenPlan}
 use Rattle.luks2_editing.proofs.PlanFacts.{like_changed, like_unrefused, SaysLike}
-use Rattle.luks2_editing.proofs.RenewalFacts.{listed_at_least, metadata_here, sound_here, VolumeLaws}
+use Rattle.luks_head.proofs.CopyFacts.{listed_at_least}
+use Rattle.luks2_editing.proofs.RenewalFacts.{metadata_here, sound_here, VolumeLaws}
 use Rattle.luks2_editing.proofs.ToldFacts.{ToldLaws}
 
 -- ---- the keyslot in the new metadata

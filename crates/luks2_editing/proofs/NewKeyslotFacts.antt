@@ -108,17 +108,4 @@ module _ (laws : VolumeLaws) (v : List ℕ) (payload : Data) (copy : ChosenCopy)
       → (f : EditFault) → IsUnsealed k n f → EndsBy2 payload v e random f w
   unsealed_ends n fine torn fault.Device why = torn_leftover torn
   unsealed_ends n fine torn (fault.Slot g) why = absurd (fine g why)
-  unsealed_ends n fine torn fault.Memory why = absurd why
-  unsealed_ends n fine torn (fault.NotAccepted f) why = absurd why
-  unsealed_ends n fine torn fault.Requirements why = absurd why
-  unsealed_ends n fine torn fault.NoSuchSlot why = absurd why
-  unsealed_ends n fine torn fault.Locked why = absurd why
-  unsealed_ends n fine torn fault.SlotTaken why = absurd why
-  unsealed_ends n fine torn fault.NoFreeSlot why = absurd why
-  unsealed_ends n fine torn fault.NoRoom why = absurd why
-  unsealed_ends n fine torn fault.LastSlot why = absurd why
-  unsealed_ends n fine torn fault.Iterations why = absurd why
-  unsealed_ends n fine torn fault.BadLabel why = absurd why
-  unsealed_ends n fine torn fault.SeqExhausted why = absurd why
-  unsealed_ends n fine torn fault.MetadataFull why = absurd why
-  unsealed_ends n fine torn fault.RandomLength why = absurd why
+  unsealed_ends n fine torn f why = absurd why

@@ -27,7 +27,8 @@ use Rattle.luks2_editing.specs.Lost.{HasKeyArea}
 use Rattle.luks2_editing.specs.Prepared.{IsPrepared}
 use Rattle.luks2_editing.specs.Rewriting.{AreWrittenAnew}
 use Rattle.luks2_editing.proofs.LostFacts.{beside_first, beside_second, both_beside, lost_inside}
-use Rattle.luks2_editing.proofs.RenewalFacts.{listed_at_least, metadata_here, prepared_unrefused, said, size_is, sound_here, written_after, VolumeLaws}
+use Rattle.luks_head.proofs.CopyFacts.{listed_at_least}
+use Rattle.luks2_editing.proofs.RenewalFacts.{metadata_here, prepared_unrefused, said, size_is, sound_here, written_after, VolumeLaws}
 
 -- ---- the keyslot's area
 

@@ -2,7 +2,7 @@
 use Rattle.std.proofs.Common.{◌≡◌, ◌≢◌, ℕ, ◌+◌, ◌-◌, ◌^◌, ◌<◌, ◌≤◌, ◌⊎◌, List, [], ◌∷◌, length, get_or, replicate, Bool, true, nat_le, inl, inr, refl, sym, ap, ◌∙◌, subst, arith}
 use Rattle.std.specs.Prelude.{◌==◌}
 use Rattle.std.specs.List.{list_all}
-use Rattle.std.proofs.lemmas.Bool.{and_parts, cases_Bool, cases_lt, eqb-false, eqb-true, false≢true, leb-true, or_cases}
+use Rattle.std.proofs.lemmas.Bool.{cases_Bool, cases_lt, eqb-false, eqb-true}
 use Rattle.std.proofs.lemmas.List.{get_or-replicate, get_or_past, length-replicate}
 use Rattle.base64.specs.GeneralPurpose.{IsBytes}
 use Rattle.serde_json.specs.Data.{Data as Value}
@@ -13,7 +13,8 @@ use Rattle.luks_area.specs.RangeFacts.{length-part_inside, same_but-wider}
 use Rattle.luks_head.specs.declared.selection.Copies.{Copies}
 use Rattle.luks_head.specs.Header2.{header_at, hdr_size, seqid, IsSound}
 use Rattle.luks_head.specs.Selection.{Choice, luks1, luks2, nothing, Chosen}
-use Rattle.luks_head.specs.Sizes.{is_among, listed_sizes, IsListed}
+use Rattle.luks_head.specs.Sizes.{IsListed}
+use Rattle.luks_head.proofs.CopyFacts.{listed_at_least}
 use Rattle.luks_meta.specs.Content.{area_len, content}
 use Rattle.luks_meta.specs.MetaFault.{Json}
 use Rattle.luks_reading.specs.declared.header.ChosenCopy.{ChosenCopy}
@@ -41,19 +42,6 @@ pub record VolumeLaws : Type 0 where
   pub sound : (v : List ℕ) (o : ℕ) (copies : Copies) → Chosen v (luks2 o copies) → IsSound v o
   pub value : (area : List ℕ) (i j : Value) → Json area i → Json area j → i ≡ j
   pub fits : (v : List ℕ) (payload : Data) → WellFormed v payload → FitsAndResolves v payload
-
--- what passes for each number of a list passes for one of them
-among_pass : (test : ℕ → Bool) (sizes : List ℕ) (n : ℕ) → list_all test sizes ≡ true → is_among n sizes ≡ true → test n ≡ true
-among_pass test [] n every among = absurd (false≢true among)
-among_pass test (size ∷ sizes) n every among =
-    elim (or_cases (size == n) (is_among n sizes) among) [
-      | inl here ↦ (let same : size ≡ n = eqb-true size n here in rw (← same) ((and_parts (test size) (list_all test sizes) every).0))
-      | inr later ↦ among_pass test sizes n ((and_parts (test size) (list_all test sizes) every).1) later
-    ]
-
--- a header's size has room for its binary part
-pub listed_at_least : (n : ℕ) → IsListed n → 16384 ≤ n
-listed_at_least n listed = leb-true 16384 n (among_pass (λ m. nat_le 16384 m) listed_sizes n refl listed)
 
 -- the place of the copy that is chosen
 place_of : Choice → ℕ
@@ -221,17 +209,7 @@ module _ (laws : VolumeLaws) (v : List ℕ) (payload : Data) (copy : ChosenCopy)
         torn = torn_here w half;
       },
     )
-    unwritten_ends w (fault.NotAccepted f) bad same half = absurd bad
-    unwritten_ends w fault.Requirements bad same half = absurd bad
-    unwritten_ends w fault.NoSuchSlot bad same half = absurd bad
-    unwritten_ends w fault.Locked bad same half = absurd bad
-    unwritten_ends w (fault.Slot f) bad same half = absurd bad
-    unwritten_ends w fault.SlotTaken bad same half = absurd bad
-    unwritten_ends w fault.NoFreeSlot bad same half = absurd bad
-    unwritten_ends w fault.NoRoom bad same half = absurd bad
-    unwritten_ends w fault.LastSlot bad same half = absurd bad
-    unwritten_ends w fault.Iterations bad same half = absurd bad
-    unwritten_ends w fault.BadLabel bad same half = absurd bad
+    unwritten_ends w f bad same half = absurd bad
 
     -- what it leaves where it was done
     pub written_after : (w : List ℕ) → IsWipedBy e (content copy.meta) w → AreWrittenAnew v copy.header.hdr_offset e random new w

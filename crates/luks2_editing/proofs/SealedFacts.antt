@@ -124,20 +124,7 @@ module _ (told : ToldLaws) (h total : ℕ) (k : Value) (n : ℕ) (key random : L
   pub plan_unsealed : (f : EditFault) → IsPlanFault plan f → IsUnsealed k n f
   plan_unsealed (fault.Slot f) refused = record { object = p.object; there = p.there; plan = plan; is = p.is; one = p.one; refused = refused }
   plan_unsealed fault.Device x = tt
-  plan_unsealed fault.Memory x = absurd x
-  plan_unsealed (fault.NotAccepted f) x = absurd x
-  plan_unsealed fault.Requirements x = absurd x
-  plan_unsealed fault.NoSuchSlot x = absurd x
-  plan_unsealed fault.Locked x = absurd x
-  plan_unsealed fault.SlotTaken x = absurd x
-  plan_unsealed fault.NoFreeSlot x = absurd x
-  plan_unsealed fault.NoRoom x = absurd x
-  plan_unsealed fault.LastSlot x = absurd x
-  plan_unsealed fault.Iterations x = absurd x
-  plan_unsealed fault.BadLabel x = absurd x
-  plan_unsealed fault.SeqExhausted x = absurd x
-  plan_unsealed fault.MetadataFull x = absurd x
-  plan_unsealed fault.RandomLength x = absurd x
+  plan_unsealed f x = absurd x
 
   module _ (v : List ℕ) (o : ℕ) (e : Edit) (passphrase w : List ℕ) where
     -- all was written

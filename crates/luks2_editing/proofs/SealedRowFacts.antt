@@ -124,18 +124,7 @@ module _ (laws : SealingLaws) (v : List ℕ) (payload : Data) (e : Edit) (random
       refl,
     )
     unprepared_ends fault.Memory bad = refl
-    unprepared_ends fault.Device bad = absurd bad
-    unprepared_ends (fault.NotAccepted f) bad = absurd bad
-    unprepared_ends fault.Requirements bad = absurd bad
-    unprepared_ends fault.NoSuchSlot bad = absurd bad
-    unprepared_ends fault.Locked bad = absurd bad
-    unprepared_ends (fault.Slot f) bad = absurd bad
-    unprepared_ends fault.SlotTaken bad = absurd bad
-    unprepared_ends fault.NoFreeSlot bad = absurd bad
-    unprepared_ends fault.NoRoom bad = absurd bad
-    unprepared_ends fault.LastSlot bad = absurd bad
-    unprepared_ends fault.Iterations bad = absurd bad
-    unprepared_ends fault.BadLabel bad = absurd bad
+    unprepared_ends f bad = absurd bad
 
 -- ---- the keyslot like which it is sealed
 

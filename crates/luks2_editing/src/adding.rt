@@ -21,26 +21,13 @@ ghost use Rattle.luks2_editing.specs.Replies.{Replies2};
 use crate::sealed_metadata::{SealedSlot, Sealing, new_metadata};
 use crate::sealed_plan::write_keyslot;
 use crate::secrets::Secrets;
-use luks_area::{Area, Device};
+use luks_area::Device;
 use luks_edit::{Done, EditFault};
 use luks_head::{chosen_copy_is_sound, one_choice};
 use luks_meta::{one_digest, one_value};
 use luks_reading::{ChosenCopy, well_formed_volume};
-use luks2_judging::told_once;
+use luks2_judging::{Addition, told_once};
 use std::alloc::Global;
-
-/// A keyslot that is added, as the rows of the faults up to `BadLabel` were judged.
-#[derive(Clone, Copy)]
-pub(crate) struct Addition {
-    /// The keyslot that the old passphrase opened; the new one is made with its members.
-    pub(crate) by_: u8,
-    /// The iterations of the new keyslot's derivation.
-    pub(crate) iterations: u32,
-    /// The number of the new keyslot.
-    pub(crate) made: u8,
-    /// Its area.
-    pub(crate) area: Area,
-}
 
 /// Seals the key, which the old passphrase opens in the keyslot `by_`, under the new one in the area
 /// of the new keyslot, and then writes both copies of the header anew with it, the other copy first.

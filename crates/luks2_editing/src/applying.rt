@@ -6,8 +6,8 @@ ghost use Rattle.luks_reading.specs.Header.{IsAcceptedHeader, IsHeader};
 ghost use Rattle.luks2_judging.specs.Header.{IsOfLuks2};
 ghost use Rattle.luks2_editing.specs.Replies.{Replies2};
 
-use crate::adding::{Addition, add};
-use crate::changing::{Renewal, change};
+use crate::adding::add;
+use crate::changing::change;
 use crate::labelling::set_label;
 use crate::removing::remove;
 use crate::repairing::repair;
@@ -15,7 +15,7 @@ use crate::secrets::Secrets;
 use luks_area::Device;
 use luks_edit::{Done, Edit, EditFault};
 use luks_reading::{Data, Header};
-use luks2_judging::judge_luks2;
+use luks2_judging::{JudgedEdit, judge_luks2};
 use std::alloc::Global;
 
 /// Applies the edit to the LUKS2 volume with this header, with as many random bytes as
@@ -51,41 +51,25 @@ pub fn apply_luks2<D: Device>(
 {
     let judged = judge_luks2(alloc, device, header, data_, edit)?;
     let copy = judged.copy;
-    match *edit {
-        Edit::Add {
-            by_,
-            new,
-            iterations,
-            ..
+    match judged.edit {
+        JudgedEdit::Add {
+            addition,
+            key,
+            passphrase,
         } => {
-            let addition = Addition {
-                by_,
-                iterations,
-                made: judged.made.unwrap(),
-                area: judged.area.unwrap(),
-            };
-            let key = judged.key.unwrap();
-            let secrets = Secrets::new(&key, new, random);
+            let secrets = Secrets::new(&key, passphrase, random);
             add(alloc, device, copy, &addition, &secrets)
         }
-        Edit::Change {
-            slot,
-            new,
-            iterations,
-            ..
+        JudgedEdit::Change {
+            renewal,
+            key,
+            passphrase,
         } => {
-            let area = judged.area.unwrap();
-            let renewal = Renewal {
-                slot,
-                iterations,
-                area,
-            };
-            let key = judged.key.unwrap();
-            let secrets = Secrets::new(&key, new, random);
+            let secrets = Secrets::new(&key, passphrase, random);
             change(alloc, device, copy, &renewal, &secrets)
         }
-        Edit::Remove { slot, .. } => remove(alloc, device, copy, slot, random),
-        Edit::Repair => repair(alloc, device, copy, random),
-        Edit::Label { .. } => set_label(alloc, device, copy, judged.label.unwrap(), random),
+        JudgedEdit::Remove { slot } => remove(alloc, device, copy, slot, random),
+        JudgedEdit::Repair => repair(alloc, device, copy, random),
+        JudgedEdit::Label { field } => set_label(alloc, device, copy, field, random),
     }
 }

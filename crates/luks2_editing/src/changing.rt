@@ -21,25 +21,14 @@ use crate::removing::lost_area;
 use crate::sealed_metadata::{SealedSlot, Sealing, new_metadata};
 use crate::sealed_plan::write_keyslot;
 use crate::secrets::Secrets;
-use luks_area::{Area, Device};
+use luks_area::Device;
 use luks_edit::{Done, EditFault};
 use luks_head::{chosen_copy_is_sound, one_choice, soundness_is_local};
 use luks_meta::one_value;
 use luks_reading::{ChosenCopy, well_formed_volume};
 use luks_steps::wipe_area;
-use luks2_judging::told_once;
+use luks2_judging::{Renewal, told_once};
 use std::alloc::Global;
-
-/// A keyslot that is sealed again, as the rows of the faults up to `BadLabel` were judged.
-#[derive(Clone, Copy)]
-pub(crate) struct Renewal {
-    /// The keyslot, which the old passphrase opened.
-    pub(crate) slot: u8,
-    /// The iterations of its new derivation.
-    pub(crate) iterations: u32,
-    /// Its new area.
-    pub(crate) area: Area,
-}
 
 /// Seals the key, which the old passphrase opens in the keyslot, under the new one in the keyslot's
 /// new area; writes both copies of the header anew, the other copy first; and then overwrites the

@@ -1,7 +1,7 @@
 -- What the header that was read says of the volume.
 use Rattle.std.proofs.Common.{◌≡◌, ℕ, List, ap, refl, subst}
 use Rattle.serde_json.specs.Data.{Data as Value}
-use Rattle.luks_head.specs.Selection.{Choice, luks1, luks2, nothing, Chosen}
+use Rattle.luks_head.specs.Selection.{Choice, luks1, luks2, nothing}
 use Rattle.luks_rules.specs.MetaFault.{Json}
 use Rattle.luks_meta.specs.Content.{content}
 use Rattle.luks_reading.specs.declared.header.ChosenCopy.{ChosenCopy}
@@ -10,6 +10,7 @@ use Rattle.luks_reading.specs.declared.header.Header.TheVariants.{Luks1, Luks2}
 use Rattle.luks_reading.specs.Header.{json_at, IsChosenCopy, IsHeader}
 use Rattle.luks2_edits.specs.Metadata.{HasMetadata}
 use Rattle.luks2_edits.specs.Refused.{HasSaid}
+use Rattle.luks2_edits.proofs.VolumeLaws.{one_choice, one_value}
 use Rattle.luks2_judging.specs.Header.{IsOfLuks2}
 
 abbrev place_of : Choice → ℕ
@@ -23,17 +24,12 @@ copy_in v h c same x = subst (λ k. IsHeader v k) same x
 pub metadata_of : (v : List ℕ) (c : ChosenCopy) → IsChosenCopy v c → HasMetadata v c.header.hdr_offset (content c.meta)
 metadata_of v c x = record { copies = c.copies; chosen = x.chosen; holds = x.metadata.json }
 
--- one copy counts, and holds one value
-pub record ReadingLaws : Type 0 where
-  pub one : (v : List ℕ) (b c : Choice) → Chosen v b → Chosen v c → b ≡ c
-  pub value : (area : List ℕ) (i j : Value) → Json area i → Json area j → i ≡ j
-
-module _ (laws : ReadingLaws) (v : List ℕ) (o : ℕ) (j : Value) (m : HasMetadata v o j) where
+module _ (v : List ℕ) (o : ℕ) (j : Value) (m : HasMetadata v o j) where
   -- what a volume's metadata says is said of the copy that was read
   pub said : (says : ℕ → Value → Type 0) → HasSaid v says → says o j
   said says s =
-      let place : s.place ≡ o = ap place_of (laws.one v (luks2 s.place s.metadata.copies) (luks2 o m.copies) s.metadata.chosen m.chosen) in
-      let same : s.value ≡ j = laws.value (json_at v o) s.value j (subst (λ n. Json (json_at v n) s.value) place s.metadata.holds) m.holds in
+      let place : s.place ≡ o = ap place_of (one_choice v (luks2 s.place s.metadata.copies) (luks2 o m.copies) s.metadata.chosen m.chosen) in
+      let same : s.value ≡ j = one_value (json_at v o) s.value j (subst (λ n. Json (json_at v n) s.value) place s.metadata.holds) m.holds in
       subst (λ i. says o i) same (subst (λ n. says n s.value) place s.is)
 
   pub say : (says : ℕ → Value → Type 0) → says o j → HasSaid v says

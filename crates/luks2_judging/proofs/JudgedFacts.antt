@@ -1,5 +1,5 @@
 -- An edit judged row by row, up to `BadLabel`: the first fault, and what stands where none does.
-use Rattle.std.proofs.Common.{◌≡◌, ℕ, ◌≤◌, List, length, true, Option, arith, refl, subst}
+use Rattle.std.proofs.Common.{◌≡◌, ◌↔◌, ℕ, ◌+◌, ◌<◌, ◌≤◌, Bor, List, length, true, Option, arith, refl, subst}
 use Rattle.serde_json.specs.Data.{Data as Value}
 use Rattle.luks_area.specs.declared.areas.Entry.{Entry}
 use Rattle.luks_head.specs.Header2.{hdr_size, header_at}
@@ -12,21 +12,24 @@ use Rattle.luks_reading.specs.declared.report.Data.{Data}
 use Rattle.luks_reading.specs.Answer.{Answer, refused, slot_row}
 use Rattle.luks_reading.specs.Checked.{IsFault}
 use Rattle.luks_edit.specs.declared.edit.Edit.{Edit}
+use Rattle.luks_edit.specs.declared.edit.Edit.TheVariants.{Add, Change, Label, Remove, Repair}
 use Rattle.luks_edit.specs.declared.edit_fault.EditFault.{EditFault}
 use Rattle.luks_edit.specs.declared.edit_fault.EditFault.TheVariants as fault
-use Rattle.luks_edit.specs.Asked.{HasFewIterations}
+use Rattle.luks_edit.specs.Asked.{HasFewIterations, OpensBy}
 use Rattle.luks_edit.specs.EditFaults.{edit_row}
 use Rattle.luks_edit.specs.Opener.{IsShut}
 use Rattle.luks_edit.specs.RowFacts.{after_check, after_plan, first_of_check, first_of_plan, first_of_row, next, not_before, passed_from, Passed}
 use Rattle.luks2_edits.specs.Metadata.{HasMetadata}
-use Rattle.luks2_edits.specs.Refused.{HasNoFree, HasNoRoom, HasSaid, IsAbsent, IsBadLabel, IsEditFault2, IsLast, IsTaken, Refusal2}
+use Rattle.luks2_edits.specs.Places.{HasNoNewArea}
+use Rattle.luks2_edits.specs.Refused.{HasNoFree, HasNoRoom, HasSaid, IsAbsent, IsBadLabel, IsEditFault2, IsLast, IsOnlyOne, IsTaken, Refusal2}
 use Rattle.luks2_judging.specs.Header.{IsUnaccepted}
-use Rattle.luks2_judging.specs.Judged.{IsMade, IsUnmade}
+use Rattle.luks2_judging.specs.Judged.{IsNewNumber, IsNumberFault}
 use Rattle.luks2_judging.specs.Judging.{IsJudgedTo, IsRefusedEarly}
 use Rattle.luks2_judging.specs.Opened.{IsFirstShut, IsUnlocked, IsUnopened}
+use Rattle.luks2_judging.specs.Room.{IsUnsealable}
 use Rattle.luks2_judging.specs.Rows.{HasNoFaultBefore}
-use Rattle.luks2_judging.proofs.ChosenFacts.{said, say, ReadingLaws}
-use Rattle.luks2_judging.proofs.MadeFacts.{made_some_free, made_untaken, unmade_untaken}
+use Rattle.luks2_judging.proofs.ChosenFacts.{said, say}
+use Rattle.luks2_judging.proofs.NumberFacts.{new_numbered, new_untaken, unnumbered_untaken}
 use Rattle.luks2_judging.proofs.OpenerFacts.{opens_once}
 
 -- the set of the edit's faults has none of a row before the row `k`
@@ -43,21 +46,7 @@ before_of k v payload e random x = record { each = λ g bad. not_before (IsEditF
 
 pub unaccepted_first : (v : List ℕ) (payload : Data) (e : Edit) (random : List ℕ) (f : EditFault) → IsUnaccepted v payload f → Refusal2 v payload e random f
 unaccepted_first v payload e random (fault.NotAccepted f) bad = first_of_check (IsEditFault2 v payload e random) f bad.0 bad.1
-unaccepted_first v payload e random fault.Requirements bad = absurd bad
-unaccepted_first v payload e random fault.NoSuchSlot bad = absurd bad
-unaccepted_first v payload e random fault.Locked bad = absurd bad
-unaccepted_first v payload e random (fault.Slot s) bad = absurd bad
-unaccepted_first v payload e random fault.SlotTaken bad = absurd bad
-unaccepted_first v payload e random fault.NoFreeSlot bad = absurd bad
-unaccepted_first v payload e random fault.NoRoom bad = absurd bad
-unaccepted_first v payload e random fault.LastSlot bad = absurd bad
-unaccepted_first v payload e random fault.Iterations bad = absurd bad
-unaccepted_first v payload e random fault.BadLabel bad = absurd bad
-unaccepted_first v payload e random fault.SeqExhausted bad = absurd bad
-unaccepted_first v payload e random fault.MetadataFull bad = absurd bad
-unaccepted_first v payload e random fault.RandomLength bad = absurd bad
-unaccepted_first v payload e random fault.Memory bad = absurd bad
-unaccepted_first v payload e random fault.Device bad = absurd bad
+unaccepted_first v payload e random f bad = absurd bad
 
 -- ---- the keyslot that the edit opens
 
@@ -81,100 +70,72 @@ module _ (v : List ℕ) (payload : Data) (e : Edit) where
   unopened_first fault.Locked passed bad = λ random. first_of_row (IsEditFault2 v payload e random) fault.Locked refl (passed random) bad
   unopened_first (fault.Slot s) passed bad = λ random. shut_first random s (passed random) bad
   unopened_first fault.Device passed bad = tt
-  unopened_first (fault.NotAccepted f) passed bad = absurd bad
-  unopened_first fault.Requirements passed bad = absurd bad
-  unopened_first fault.NoSuchSlot passed bad = absurd bad
-  unopened_first fault.SlotTaken passed bad = absurd bad
-  unopened_first fault.NoFreeSlot passed bad = absurd bad
-  unopened_first fault.NoRoom passed bad = absurd bad
-  unopened_first fault.LastSlot passed bad = absurd bad
-  unopened_first fault.Iterations passed bad = absurd bad
-  unopened_first fault.BadLabel passed bad = absurd bad
-  unopened_first fault.SeqExhausted passed bad = absurd bad
-  unopened_first fault.MetadataFull passed bad = absurd bad
-  unopened_first fault.RandomLength passed bad = absurd bad
-  unopened_first fault.Memory passed bad = absurd bad
+  unopened_first f passed bad = absurd bad
 
--- it opens
-past_opened : (v : List ℕ) (payload : Data) (e : Edit) (random : List ℕ) (found : Option (List ℕ)) → IsUnlocked v e found
-    → IsPast 4 v payload e random → IsPast 6 v payload e random
-past_opened v payload e random found x passed =
+-- it is past that
+pub past_opened : (v : List ℕ) (payload : Data) (e : Edit) (random : List ℕ) → IsUnlocked v e → IsPast 4 v payload e random → IsPast 6 v payload e random
+past_opened v payload e random x passed =
     let s = IsEditFault2 v payload e random in
     after_plan s (next s fault.Locked refl passed x.unlocked) x.unshut
 
-pub opened_so_far : (v : List ℕ) (payload : Data) (e : Edit) (random : List ℕ) (found : Option (List ℕ)) (copy : ChosenCopy) (areas : List Entry)
-    → IsUnlocked v e found → IsJudgedTo 4 copy areas v payload e random → IsJudgedTo 6 copy areas v payload e random
-opened_so_far v payload e random found copy areas x y = record {
-  chosen = y.chosen;
-  lists = y.lists;
-  passed = before_of 6 v payload e random (past_opened v payload e random found x (passed_of 4 v payload e random y.passed));
+-- an edit that opens none is
+pub none_opened : (v : List ℕ) (e : Edit) → ((n : ℕ) (p : List ℕ) → OpensBy e n p → ⊥) → IsUnlocked v e
+none_opened v e none = record {
+  unlocked = λ bad. none bad.slot bad.passphrase bad.asked;
+  unshut = λ f bad. none bad.slot bad.passphrase bad.asked;
 }
 
 -- ---- the rows that the metadata tells, `j` being that of the copy at the place `o`
 
-module _ (laws : ReadingLaws) (v : List ℕ) (payload : Data) (o : ℕ) (j : Value) (m : HasMetadata v o j) (e : Edit) (random : List ℕ) where
+module _ (v : List ℕ) (payload : Data) (o : ℕ) (j : Value) (m : HasMetadata v o j) (e : Edit) (random : List ℕ) where
   -- NotAccepted
   pub past_check : ((f : CheckFault) → IsFault v payload f → ⊥) → IsPast 2 v payload e random
   past_check accepted = after_check (IsEditFault2 v payload e random) accepted
 
   -- Requirements
   pub required_first : IsPast 2 v payload e random → has_requirements j ≡ true → Refusal2 v payload e random fault.Requirements
-  required_first passed bad = first_of_row (IsEditFault2 v payload e random) fault.Requirements refl passed (say laws v o j m (λ p i. has_requirements i ≡ true) bad)
+  required_first passed bad = first_of_row (IsEditFault2 v payload e random) fault.Requirements refl passed (say v o j m (λ p i. has_requirements i ≡ true) bad)
 
   pub past_required : IsPast 2 v payload e random → (has_requirements j ≡ true → ⊥) → IsPast 3 v payload e random
   past_required passed not =
-      next (IsEditFault2 v payload e random) fault.Requirements refl passed (λ bad. not (said laws v o j m (λ p i. has_requirements i ≡ true) bad))
+      next (IsEditFault2 v payload e random) fault.Requirements refl passed (λ bad. not (said v o j m (λ p i. has_requirements i ≡ true) bad))
 
   -- NoSuchSlot
   pub absent_first : IsPast 3 v payload e random → IsAbsent j e → Refusal2 v payload e random fault.NoSuchSlot
-  absent_first passed bad = first_of_row (IsEditFault2 v payload e random) fault.NoSuchSlot refl passed (say laws v o j m (λ p i. IsAbsent i e) bad)
+  absent_first passed bad = first_of_row (IsEditFault2 v payload e random) fault.NoSuchSlot refl passed (say v o j m (λ p i. IsAbsent i e) bad)
 
   pub past_absent : IsPast 3 v payload e random → (IsAbsent j e → ⊥) → IsPast 4 v payload e random
-  past_absent passed not = next (IsEditFault2 v payload e random) fault.NoSuchSlot refl passed (λ bad. not (said laws v o j m (λ p i. IsAbsent i e) bad))
+  past_absent passed not = next (IsEditFault2 v payload e random) fault.NoSuchSlot refl passed (λ bad. not (said v o j m (λ p i. IsAbsent i e) bad))
 
   -- SlotTaken, NoFreeSlot
   past_taken : IsPast 6 v payload e random → (IsTaken j e → ⊥) → IsPast 7 v payload e random
-  past_taken passed not = next (IsEditFault2 v payload e random) fault.SlotTaken refl passed (λ bad. not (said laws v o j m (λ p i. IsTaken i e) bad))
+  past_taken passed not = next (IsEditFault2 v payload e random) fault.SlotTaken refl passed (λ bad. not (said v o j m (λ p i. IsTaken i e) bad))
 
-  pub unmade_first : (f : EditFault) → IsPast 6 v payload e random → IsUnmade j e f → Refusal2 v payload e random f
-  unmade_first fault.SlotTaken passed bad = first_of_row (IsEditFault2 v payload e random) fault.SlotTaken refl passed (say laws v o j m (λ p i. IsTaken i e) bad)
-  unmade_first fault.NoFreeSlot passed bad =
-      first_of_row (IsEditFault2 v payload e random) fault.NoFreeSlot refl (past_taken passed (unmade_untaken j e bad)) (say laws v o j m (λ p i. HasNoFree i e) bad)
-  unmade_first (fault.NotAccepted f) passed bad = absurd bad
-  unmade_first fault.Requirements passed bad = absurd bad
-  unmade_first fault.NoSuchSlot passed bad = absurd bad
-  unmade_first fault.Locked passed bad = absurd bad
-  unmade_first (fault.Slot s) passed bad = absurd bad
-  unmade_first fault.NoRoom passed bad = absurd bad
-  unmade_first fault.LastSlot passed bad = absurd bad
-  unmade_first fault.Iterations passed bad = absurd bad
-  unmade_first fault.BadLabel passed bad = absurd bad
-  unmade_first fault.SeqExhausted passed bad = absurd bad
-  unmade_first fault.MetadataFull passed bad = absurd bad
-  unmade_first fault.RandomLength passed bad = absurd bad
-  unmade_first fault.Memory passed bad = absurd bad
-  unmade_first fault.Device passed bad = absurd bad
+  pub taken_first : IsPast 6 v payload e random → IsTaken j e → Refusal2 v payload e random fault.SlotTaken
+  taken_first passed bad = first_of_row (IsEditFault2 v payload e random) fault.SlotTaken refl passed (say v o j m (λ p i. IsTaken i e) bad)
 
-  pub past_made : (made : Option ℕ) → IsPast 6 v payload e random → IsMade j e made → IsPast 8 v payload e random
-  past_made made passed x =
-      next (IsEditFault2 v payload e random) fault.NoFreeSlot refl (past_taken passed (made_untaken j e made x))
-      (λ bad. made_some_free j e made x (said laws v o j m (λ p i. HasNoFree i e) bad))
+  pub unfree_first : IsPast 6 v payload e random → (IsTaken j e → ⊥) → HasNoFree j e → Refusal2 v payload e random fault.NoFreeSlot
+  unfree_first passed untaken bad =
+      first_of_row (IsEditFault2 v payload e random) fault.NoFreeSlot refl (past_taken passed untaken) (say v o j m (λ p i. HasNoFree i e) bad)
+
+  pub past_number : IsPast 6 v payload e random → (IsTaken j e → ⊥) → (HasNoFree j e → ⊥) → IsPast 8 v payload e random
+  past_number passed untaken free = next (IsEditFault2 v payload e random) fault.NoFreeSlot refl (past_taken passed untaken) (λ bad. free (said v o j m (λ p i. HasNoFree i e) bad))
 
   -- NoRoom
   pub roomless_first : IsPast 8 v payload e random → HasNoRoom (hdr_size (header_at v o)) (length v) payload j e → Refusal2 v payload e random fault.NoRoom
   roomless_first passed bad =
-      first_of_row (IsEditFault2 v payload e random) fault.NoRoom refl passed (say laws v o j m (λ p i. HasNoRoom (hdr_size (header_at v p)) (length v) payload i e) bad)
+      first_of_row (IsEditFault2 v payload e random) fault.NoRoom refl passed (say v o j m (λ p i. HasNoRoom (hdr_size (header_at v p)) (length v) payload i e) bad)
 
   pub past_room : IsPast 8 v payload e random → (HasNoRoom (hdr_size (header_at v o)) (length v) payload j e → ⊥) → IsPast 9 v payload e random
   past_room passed not =
-      next (IsEditFault2 v payload e random) fault.NoRoom refl passed (λ bad. not (said laws v o j m (λ p i. HasNoRoom (hdr_size (header_at v p)) (length v) payload i e) bad))
+      next (IsEditFault2 v payload e random) fault.NoRoom refl passed (λ bad. not (said v o j m (λ p i. HasNoRoom (hdr_size (header_at v p)) (length v) payload i e) bad))
 
   -- LastSlot
   pub last_first : IsPast 9 v payload e random → IsLast j e → Refusal2 v payload e random fault.LastSlot
-  last_first passed bad = first_of_row (IsEditFault2 v payload e random) fault.LastSlot refl passed (say laws v o j m (λ p i. IsLast i e) bad)
+  last_first passed bad = first_of_row (IsEditFault2 v payload e random) fault.LastSlot refl passed (say v o j m (λ p i. IsLast i e) bad)
 
   pub past_last : IsPast 9 v payload e random → (IsLast j e → ⊥) → IsPast 10 v payload e random
-  past_last passed not = next (IsEditFault2 v payload e random) fault.LastSlot refl passed (λ bad. not (said laws v o j m (λ p i. IsLast i e) bad))
+  past_last passed not = next (IsEditFault2 v payload e random) fault.LastSlot refl passed (λ bad. not (said v o j m (λ p i. IsLast i e) bad))
 
 -- ---- the rows that the edit tells
 
@@ -193,25 +154,100 @@ module _ (v : List ℕ) (payload : Data) (e : Edit) (random : List ℕ) where
   pub past_label : IsPast 11 v payload e random → (IsBadLabel e → ⊥) → IsPast 12 v payload e random
   past_label passed not = next (IsEditFault2 v payload e random) fault.BadLabel refl passed not
 
--- a refusal whatever the random bytes are
-pub refused_early : (v : List ℕ) (payload : Data) (e : Edit) (f : EditFault) → ((random : List ℕ) → Refusal2 v payload e random f) → IsRefusedEarly v payload e f
-refused_early v payload e (fault.NotAccepted f) x = x
-refused_early v payload e fault.Requirements x = x
-refused_early v payload e fault.NoSuchSlot x = x
-refused_early v payload e fault.Locked x = x
-refused_early v payload e (fault.Slot s) x = x
-refused_early v payload e fault.SlotTaken x = x
-refused_early v payload e fault.NoFreeSlot x = x
-refused_early v payload e fault.NoRoom x = x
-refused_early v payload e fault.LastSlot x = x
-refused_early v payload e fault.Iterations x = x
-refused_early v payload e fault.BadLabel x = x
-refused_early v payload e fault.SeqExhausted x = x
-refused_early v payload e fault.MetadataFull x = x
-refused_early v payload e fault.RandomLength x = x
-refused_early v payload e fault.Memory x = x
-refused_early v payload e fault.Device x = tt
-
 -- the keyslot is there that the edit opens
 pub not_absent : (v : List ℕ) (payload : Data) (e : Edit) (random : List ℕ) → HasNoFaultBefore 4 v payload e random → HasSaid v (λ o j. IsAbsent j e) → ⊥
 not_absent v payload e random x bad = let low : 4 ≤ 3 = x.each fault.NoSuchSlot bad in omega (arith, low)
+
+-- ---- by the edit, once its keyslot was opened
+
+module _ (copy : ChosenCopy) (areas : List Entry) (v : List ℕ) (payload : Data) (e : Edit) where
+  six : (random : List ℕ) → IsJudgedTo 4 copy areas v payload e random → IsUnlocked v e → IsPast 6 v payload e random
+  six random x past = past_opened v payload e random past (passed_of 4 v payload e random x.passed)
+
+-- the same of the edit as it was read
+pub six_as : (copy : ChosenCopy) (areas : List Entry) (v : List ℕ) (payload : Data) (e it : Edit) → e ≡ it
+    → ((random : List ℕ) → IsJudgedTo 4 copy areas v payload e random) → IsUnlocked v e → (random : List ℕ) → IsPast 6 v payload it random
+six_as copy areas v payload e it is judged past random = subst (λ y. IsPast 6 v payload y random) is (six copy areas v payload e random (judged random) past)
+
+-- a keyslot is sealed like the keyslot `like`, with so many iterations: the rows `NoRoom` to `BadLabel`
+module _ (v : List ℕ) (payload : Data) (o : ℕ) (j : Value) (m : HasMetadata v o j) (e : Edit) (like iterations : ℕ)
+    (rooms : HasNoRoom (hdr_size (header_at v o)) (length v) payload j e ↔ HasNoNewArea (hdr_size (header_at v o)) (length v) payload j like)
+    (few : HasFewIterations e ↔ (iterations < 1000)) (kept : IsLast j e → ⊥) (good : IsBadLabel e → ⊥)
+    (eight : (random : List ℕ) → IsPast 8 v payload e random) where
+  past_area : (HasNoNewArea (hdr_size (header_at v o)) (length v) payload j like → ⊥) → (random : List ℕ) → IsPast 10 v payload e random
+  past_area room random = past_last v payload o j m e random (past_room v payload o j m e random (eight random) (λ bad. room (rooms.0 bad))) kept
+
+  pub unsealed_first : (f : EditFault) → IsUnsealable (hdr_size (header_at v o)) (length v) payload j like iterations f → IsRefusedEarly v payload e f
+  unsealed_first fault.NoRoom bad = λ random. roomless_first v payload o j m e random (eight random) (rooms.1 bad)
+  unsealed_first fault.Iterations bad = λ random. few_first v payload e random (past_area bad.0 random) (few.1 bad.1)
+  unsealed_first f bad = absurd bad
+
+  pub sealed_past : (HasNoNewArea (hdr_size (header_at v o)) (length v) payload j like → ⊥) → 1000 ≤ iterations → (random : List ℕ)
+      → HasNoFaultBefore 12 v payload e random
+  sealed_past room enough random = before_of 12 v payload e random
+      (past_label v payload e random (past_few v payload e random (past_area room random) (λ bad. (let under = few.0 bad in omega (arith, under, enough)))) good)
+
+-- ---- an addition
+
+module _ (v : List ℕ) (payload : Data) (o : ℕ) (j : Value) (m : HasMetadata v o j) (by_ : ℕ) (old new : Bor (List ℕ)) (to : Option ℕ) (iterations : ℕ)
+    (past : (random : List ℕ) → IsPast 6 v payload (Add by_ old new to iterations) random) where
+  pub number_first : (f : EditFault) → IsNumberFault j to f → IsRefusedEarly v payload (Add by_ old new to iterations) f
+  number_first fault.SlotTaken bad = λ random. taken_first v payload o j m (Add by_ old new to iterations) random (past random) bad
+  number_first fault.NoFreeSlot bad =
+      λ random. unfree_first v payload o j m (Add by_ old new to iterations) random (past random) (unnumbered_untaken j to bad) bad
+  number_first f bad = absurd bad
+
+  module _ (made : ℕ) (number : IsNewNumber j to made) where
+    eight : (random : List ℕ) → IsPast 8 v payload (Add by_ old new to iterations) random
+    eight random = past_number v payload o j m (Add by_ old new to iterations) random (past random) (new_untaken j to made number) (new_numbered j to made number)
+
+    pub unadded_first : (f : EditFault) → IsUnsealable (hdr_size (header_at v o)) (length v) payload j by_ iterations f
+        → IsRefusedEarly v payload (Add by_ old new to iterations) f
+    unadded_first f bad = unsealed_first v payload o j m (Add by_ old new to iterations) by_ iterations (λ x. x, λ x. x) (λ x. x, λ x. x) (λ x. x) (λ x. x) eight f bad
+
+    pub added_past : (HasNoNewArea (hdr_size (header_at v o)) (length v) payload j by_ → ⊥) → 1000 ≤ iterations → (random : List ℕ)
+        → HasNoFaultBefore 12 v payload (Add by_ old new to iterations) random
+    added_past = sealed_past v payload o j m (Add by_ old new to iterations) by_ iterations (λ x. x, λ x. x) (λ x. x, λ x. x) (λ x. x) (λ x. x) eight
+
+-- ---- the other edits
+
+module _ (v : List ℕ) (payload : Data) (o : ℕ) (j : Value) (m : HasMetadata v o j) (slot : ℕ) (old new : Bor (List ℕ)) (iterations : ℕ)
+    (past : (random : List ℕ) → IsPast 6 v payload (Change slot old new iterations) random) where
+  change_eight : (random : List ℕ) → IsPast 8 v payload (Change slot old new iterations) random
+  change_eight random = past_number v payload o j m (Change slot old new iterations) random (past random) (λ x. x) (λ x. x)
+
+  pub unchanged_first : (f : EditFault) → IsUnsealable (hdr_size (header_at v o)) (length v) payload j slot iterations f
+      → IsRefusedEarly v payload (Change slot old new iterations) f
+  unchanged_first f bad = unsealed_first v payload o j m (Change slot old new iterations) slot iterations (λ x. x, λ x. x) (λ x. x, λ x. x) (λ x. x) (λ x. x) change_eight f bad
+
+  pub changed_past : (HasNoNewArea (hdr_size (header_at v o)) (length v) payload j slot → ⊥) → 1000 ≤ iterations → (random : List ℕ)
+      → HasNoFaultBefore 12 v payload (Change slot old new iterations) random
+  changed_past = sealed_past v payload o j m (Change slot old new iterations) slot iterations (λ x. x, λ x. x) (λ x. x, λ x. x) (λ x. x) (λ x. x) change_eight
+
+module _ (v : List ℕ) (payload : Data) (o : ℕ) (j : Value) (m : HasMetadata v o j) (slot : ℕ) (passphrase : Bor (List ℕ))
+    (past : (random : List ℕ) → IsPast 6 v payload (Remove slot passphrase) random) where
+  nine : (random : List ℕ) → IsPast 9 v payload (Remove slot passphrase) random
+  nine random = past_room v payload o j m (Remove slot passphrase) random
+      (past_number v payload o j m (Remove slot passphrase) random (past random) (λ x. x) (λ x. x)) (λ x. x)
+
+  pub only_first : IsOnlyOne j slot → IsRefusedEarly v payload (Remove slot passphrase) fault.LastSlot
+  only_first bad = λ random. last_first v payload o j m (Remove slot passphrase) random (nine random) bad
+
+  pub removed_past : (IsOnlyOne j slot → ⊥) → (random : List ℕ) → HasNoFaultBefore 12 v payload (Remove slot passphrase) random
+  removed_past other random = before_of 12 v payload (Remove slot passphrase) random
+      (past_label v payload (Remove slot passphrase) random
+      (past_few v payload (Remove slot passphrase) random (past_last v payload o j m (Remove slot passphrase) random (nine random) other) (λ x. x)) (λ x. x))
+
+-- an edit that names no keyslot
+module _ (v : List ℕ) (payload : Data) (o : ℕ) (j : Value) (m : HasMetadata v o j) (e : Edit) (untaken : IsTaken j e → ⊥) (free : HasNoFree j e → ⊥)
+    (room : HasNoRoom (hdr_size (header_at v o)) (length v) payload j e → ⊥) (kept : IsLast j e → ⊥) (enough : HasFewIterations e → ⊥)
+    (past : (random : List ℕ) → IsPast 6 v payload e random) where
+  eleven : (random : List ℕ) → IsPast 11 v payload e random
+  eleven random = past_few v payload e random (past_last v payload o j m e random (past_room v payload o j m e random
+      (past_number v payload o j m e random (past random) untaken free) room) kept) enough
+
+  pub label_first : IsBadLabel e → IsRefusedEarly v payload e fault.BadLabel
+  label_first bad = λ random. unlabelled_first v payload e random (eleven random) bad
+
+  pub label_past : (IsBadLabel e → ⊥) → (random : List ℕ) → HasNoFaultBefore 12 v payload e random
+  label_past good random = before_of 12 v payload e random (past_label v payload e random (eleven random) good)

@@ -3,11 +3,10 @@ mod ChosenFacts
 mod EditedFacts
 mod EncodedFacts
 mod JudgedFacts
-mod KeyFacts
 mod KeyslotFacts
 mod LastFacts
-mod MadeFacts
 mod NeedFacts
+mod NumberFacts
 mod OpenerFacts
 mod RoomFacts
 mod SaltFacts

@@ -16,8 +16,7 @@ use Rattle.luks_slot.specs.declared.fault.SlotFault.{SlotFault}
 use Rattle.luks_reading.specs.declared.open_fault.OpenFault.{OpenFault}
 use Rattle.luks_reading.specs.declared.open_fault.OpenFault.TheVariants as opening
 use Rattle.luks_reading.specs.declared.report.Data.{Data}
-use Rattle.luks_reading.specs.Agreement.{IsSameAnswer}
-use Rattle.luks_reading.specs.Answer.{Answer, IsLuks2Refusal, IsRefusalAs, IsRefusedBy, no_key, Opened, opened_to, opens, refused}
+use Rattle.luks_reading.specs.Answer.{Answer, IsLuks2Refusal, IsRefusalAs, IsRefusedBy, no_key, opens, refused}
 use Rattle.luks_reading.specs.Checked.{IsLuks2Volume, WellFormed, WellFormedAs}
 use Rattle.luks_reading.specs.Header.{json_at}
 use Rattle.luks_reading.specs.Layout2.{slot_number}
@@ -27,8 +26,9 @@ use Rattle.luks_edit.specs.Asked.{OpensBy}
 use Rattle.luks_edit.specs.Opener.{IsLocked, IsShut}
 use Rattle.luks2_edits.specs.Metadata.{HasMetadata, IsInUse}
 use Rattle.luks2_edits.specs.Refused.{HasSaid, IsAbsent}
-use Rattle.luks2_judging.specs.Opened.{IsUnlocked, IsUnopened, unopened}
-use Rattle.luks2_judging.proofs.ChosenFacts.{ReadingLaws, say}
+use Rattle.luks2_judging.specs.Opened.{IsUnopened, Opens, unopened}
+use Rattle.luks2_edits.proofs.VolumeLaws.{metadata_faultless, one_answer, one_choice, one_value, uuid_faultless}
+use Rattle.luks2_judging.proofs.ChosenFacts.{say}
 use Rattle.luks2_judging.proofs.KeyslotFacts.{used_of, used_or_free}
 
 pub opens_once : (e : Edit) (n m : ℕ) (p q : List ℕ) → OpensBy e n p → OpensBy e m q → (m ≡ n) × (q ≡ p)
@@ -38,22 +38,7 @@ opens_once (Remove slot passphrase) n m p q x y = (y.0 ∙ sym x.0, y.1 ∙ sym 
 opens_once Repair n m p q x y = absurd x
 opens_once (Label text) n m p q x y = absurd x
 
--- where the edit opens no keyslot
-pub none_opened : (v : List ℕ) (e : Edit) (found : Option (List ℕ)) → ((n : ℕ) (p : List ℕ) → OpensBy e n p → ⊥) → IsUnlocked v e found
-none_opened v e found none = record {
-  key = λ n p asked. absurd (none n p asked);
-  unlocked = λ bad. none bad.slot bad.passphrase bad.asked;
-  unshut = λ f bad. none bad.slot bad.passphrase bad.asked;
-}
-
--- what the crates below say of a header and metadata with no fault
-pub record FaultLaws : Type 0 where
-  pub reading : ReadingLaws
-  pub uuid : (field : List ℕ) → ((f : HeadFault) → IsUuidFault field f → ⊥) ↔ IsUuidField field
-  pub metadata : (area : List ℕ) → ((f : MetaFault) → IsMetaFault area f → ⊥) ↔ ((j : Value) × IsMeta area j)
-
-module _ (v : List ℕ) (e : Edit) (n : ℕ) (p : List ℕ) (asked : OpensBy e n p)
-    (once : (m : ℕ) (q : List ℕ) (a b : Opened) → Answer v m q a → Answer v m q b → IsSameAnswer a b) where
+module _ (v : List ℕ) (e : Edit) (n : ℕ) (p : List ℕ) (asked : OpensBy e n p) where
   locked_here : IsLocked v e → Answer v n p no_key
   locked_here bad =
       let one = opens_once e n bad.slot p bad.passphrase asked bad.asked in
@@ -64,37 +49,37 @@ module _ (v : List ℕ) (e : Edit) (n : ℕ) (p : List ℕ) (asked : OpensBy e n
       let one = opens_once e n bad.slot p bad.passphrase asked bad.asked in
       subst (λ m. Answer v m p (refused (opening.Slot f))) one.0 (subst (λ q. Answer v bad.slot q (refused (opening.Slot f))) one.1 bad.answer)
 
-  pub unlocked_by : (key : List ℕ) (found : Option (List ℕ)) → found ≡ Some key → Answer v n p (opened_to found) → IsUnlocked v e (Some key)
-  unlocked_by key found is answer =
-      let opened : Answer v n p (opens key) = subst (λ o. Answer v n p (opened_to o)) is answer in
-      record {
-        key = λ m q other. (let one = opens_once e n m p q asked other in
-            subst (λ k. Answer v k q (opens key)) (sym one.0) (subst (λ r. Answer v n r (opens key)) (sym one.1) opened));
-        unlocked = λ bad. once n p (opens key) no_key opened (locked_here bad);
-        unshut = λ f bad. once n p (opens key) (refused (opening.Slot f)) opened (shut_here f bad);
-      }
+  pub opens_by : (key : List ℕ) → Answer v n p (opens key) → Opens v e key
+  opens_by key opened = record {
+    gives = λ m q other. (let one = opens_once e n m p q asked other in
+        subst (λ k. Answer v k q (opens key)) (sym one.0) (subst (λ r. Answer v n r (opens key)) (sym one.1) opened));
+    past = record {
+      unlocked = λ bad. one_answer v n p (opens key) no_key opened (locked_here bad);
+      unshut = λ f bad. one_answer v n p (opens key) (refused (opening.Slot f)) opened (shut_here f bad);
+    };
+  }
 
-  pub locked_by : (found : Option (List ℕ)) → found ≡ None → Answer v n p (opened_to found) → IsLocked v e
-  locked_by found is answer = record { slot = n; passphrase = p; asked = asked; answer = subst (λ o. Answer v n p (opened_to o)) is answer }
+  pub locked_by : Answer v n p no_key → IsLocked v e
+  locked_by answer = record { slot = n; passphrase = p; asked = asked; answer = answer }
 
-  module _ (laws : FaultLaws) (o : ℕ) (j : Value) (m : HasMetadata v o j) (payload : Data) (well : WellFormed v payload)
+  module _ (o : ℕ) (j : Value) (m : HasMetadata v o j) (payload : Data) (well : WellFormed v payload)
       (there : HasSaid v (λ q i. IsAbsent i e) → ⊥) where
     volume : IsLuks2Volume (header_at v o) (json_at v o) payload (length v)
-    volume = subst (λ b. WellFormedAs v payload b) (laws.reading.one v well.choice (luks2 o m.copies) well.chosen m.chosen) well.formed
+    volume = subst (λ b. WellFormedAs v payload b) (one_choice v well.choice (luks2 o m.copies) well.chosen m.chosen) well.formed
 
     as_luks2 : (f : OpenFault) → Answer v n p (refused f) → IsLuks2Refusal (header_at v o) (json_at v o) (length v) n f
-    as_luks2 f is = subst (λ c. IsRefusalAs v n c f) (laws.reading.one v is.0.choice (luks2 o m.copies) is.0.chosen m.chosen) is.0.fault
+    as_luks2 f is = subst (λ c. IsRefusalAs v n c f) (one_choice v is.0.choice (luks2 o m.copies) is.0.chosen m.chosen) is.0.fault
 
     used : IsInUse j n
-    used = used_of j e n p asked (λ absent. there (say laws.reading v o j m (λ q i. IsAbsent i e) absent))
+    used = used_of j e n p asked (λ absent. there (say v o j m (λ q i. IsAbsent i e) absent))
 
     same_value : (i : Value) → Json (json_at v o) i → i ≡ j
-    same_value i holds = laws.reading.value (json_at v o) i j holds m.holds
+    same_value i holds = one_value (json_at v o) i j holds m.holds
 
     not_outside : IsLuks2Refusal (header_at v o) (json_at v o) (length v) n opening.Outside → ⊥
     not_outside out =
         let layout = volume.layout.1 in
-        let same : out.is.value ≡ volume.layout.0 = laws.reading.value (json_at v o) out.is.value volume.layout.0 out.is.holds layout.metadata.json in
+        let same : out.is.value ≡ volume.layout.0 = one_value (json_at v o) out.is.value volume.layout.0 out.is.holds layout.metadata.json in
         let found : object_at volume.layout.0 Keyslots n ≡ Some out.is.object = subst (λ i. object_at i Keyslots n ≡ Some out.is.object) same out.is.there in
         let start : slot_number volume.layout.0 n (codes "offset") ≡ Some out.plan.area.start =
         ap (λ d. decimal_in (option_and_then (get (codes "offset")) (option_and_then (get (codes "area")) d))) found ∙ out.is.is.start in
@@ -106,8 +91,8 @@ module _ (v : List ℕ) (e : Edit) (n : ℕ) (p : List ℕ) (asked : OpensBy e n
 
     -- a keyslot of a well formed volume is refused by its plan alone
     pub unopened_by : (f : OpenFault) → IsRefusedBy v n p f → (f ≡ opening.Memory → ⊥) → IsUnopened v e (unopened n f)
-    unopened_by (opening.Head f) is other = (laws.uuid (uuid_field (header_at v o))).1 volume.uuid f (as_luks2 (opening.Head f) is)
-    unopened_by (opening.Meta f) is other = (laws.metadata (json_at v o)).1 (volume.layout.0, volume.layout.1.metadata) f (as_luks2 (opening.Meta f) is)
+    unopened_by (opening.Head f) is other = (uuid_faultless (uuid_field (header_at v o))).1 volume.uuid f (as_luks2 (opening.Head f) is)
+    unopened_by (opening.Meta f) is other = (metadata_faultless (json_at v o)).1 (volume.layout.0, volume.layout.1.metadata) f (as_luks2 (opening.Meta f) is)
     unopened_by opening.NoSuchSlot is other =
         let absent = as_luks2 opening.NoSuchSlot is in
         let none : object_at absent.value Keyslots n ≡ None = absent.absent used.0 in
@@ -116,7 +101,7 @@ module _ (v : List ℕ) (e : Edit) (n : ℕ) (p : List ℕ) (asked : OpensBy e n
     unopened_by opening.SlotFree is other = as_luks2 opening.SlotFree is
     unopened_by opening.Outside is other = not_outside (as_luks2 opening.Outside is)
     unopened_by (opening.Slot f) is other = record {
-      unlocked = λ bad. once n p (refused (opening.Slot f)) no_key is (locked_here bad);
+      unlocked = λ bad. one_answer v n p (refused (opening.Slot f)) no_key is (locked_here bad);
       slot = n;
       passphrase = p;
       asked = asked;

@@ -1,5 +1,7 @@
 -- What judging an edit of a LUKS2 volume by the rows up to `BadLabel` gives.
-use Rattle.std.specs.Prelude.{◌≡◌, ℕ, List, length, Option, Some, None, ⊤}
+use Rattle.std.specs.Prelude.{◌≡◌, ℕ, ◌++◌, ◌-◌, ◌≤◌, List, length, replicate, Option, ⊤}
+use Rattle.std.specs.Borrow.{Bor}
+use Rattle.serde_json.specs.Data.{Data as Value}
 use Rattle.luks_area.specs.declared.areas.Entry.{Entry}
 use Rattle.luks_head.specs.Header2.{hdr_size, header_at}
 use Rattle.luks_meta.specs.Content.{area_len, content}
@@ -10,59 +12,92 @@ use Rattle.luks_reading.specs.declared.report.Data.{Data}
 use Rattle.luks_reading.specs.Checked.{AreaOf, WellFormed}
 use Rattle.luks_reading.specs.Header.{IsChosenCopy}
 use Rattle.luks_reading.specs.Listing.{Lists}
-use Rattle.luks_reading.specs.Plans.{HasKeyBytes}
+use Rattle.luks_reading.specs.Plans.{HasLuks2KeyBytes}
 use Rattle.luks_edit.specs.declared.edit.Edit.{Edit}
 use Rattle.luks_edit.specs.declared.edit.Edit.TheVariants.{Add, Change, Remove, Repair, Label}
 use Rattle.luks_edit.specs.declared.edit_fault.EditFault.{EditFault}
-use Rattle.luks_edit.specs.declared.edit_fault.EditFault.TheVariants as fault
-use Rattle.luks_edit.specs.Asked.{HasFewIterations}
-use Rattle.luks2_edits.specs.Refused.{IsAbsent, Refusal2}
-use Rattle.luks2_judging.specs.declared.judging.Judged.{Judged}
-use Rattle.luks2_judging.specs.Judged.{IsLabelled, IsMade}
-use Rattle.luks2_judging.specs.Opened.{IsUnlocked}
-use Rattle.luks2_judging.specs.Room.{IsPlacedFor, IsRoomFor}
+use Rattle.luks_edit.specs.Endings.{EndsBy}
+use Rattle.luks2_edits.specs.Metadata.{IsInUse}
+use Rattle.luks2_edits.specs.Places.{IsNewArea}
+use Rattle.luks2_edits.specs.Refused.{Refusal2}
+use Rattle.luks2_judging.specs.declared.judged.Addition.{Addition}
+use Rattle.luks2_judging.specs.declared.judged.Judged.{Judged}
+use Rattle.luks2_judging.specs.declared.judged.JudgedEdit.{JudgedEdit}
+use Rattle.luks2_judging.specs.declared.judged.JudgedEdit.TheVariants as judged
+use Rattle.luks2_judging.specs.declared.judged.Renewal.{Renewal}
+use Rattle.luks2_judging.specs.Judged.{IsNewNumber}
+use Rattle.luks2_judging.specs.Opened.{IsOpenedTo}
+use Rattle.luks2_judging.specs.Room.{IsPlaced}
 use Rattle.luks2_judging.specs.Rows.{HasNoFaultBefore}
 
--- ---- on any device
+-- ---- on any device: what the edit `e` takes, by the metadata `j` of a JSON area of `len` bytes in a
+-- volume of `total` bytes
 
--- the keyslot `n` gave a key, as long as the header says
-abbrev pub IsKeyLong : Header → ℕ → Option (List ℕ) → Type 0
-IsKeyLong header n (Some key) = HasKeyBytes header n (length key)
-IsKeyLong header n None = ⊥
+-- it adds this keyslot, for the key under the passphrase
+pub record IsAddition
+    (len : ℕ) (j : Value) (total : ℕ) (e : Edit) (a : Addition) (key : List ℕ) (passphrase : Bor (List ℕ))
+    : Type 0 where
+  pub old : Bor (List ℕ)
+  pub to : Option ℕ
+  pub asked : e ≡ Add a.by_ old passphrase to a.iterations
+  pub number : IsNewNumber j to a.made
+  pub key_length : HasLuks2KeyBytes j a.by_ (length key)
+  pub placed : IsPlaced len j total a.by_ a.area
+  pub iterated : 1000 ≤ a.iterations
 
--- the same of the keyslot that the edit opens; there is no key where it opens none
-abbrev pub IsKeyFor : Header → Edit → Option (List ℕ) → Type 0
-IsKeyFor header (Add by_ old new to iterations) found = IsKeyLong header by_ found
-IsKeyFor header (Change slot old new iterations) found = IsKeyLong header slot found
-IsKeyFor header (Remove slot passphrase) found = IsKeyLong header slot found
-IsKeyFor header Repair found = found ≡ None
-IsKeyFor header (Label text) found = found ≡ None
+-- it seals this keyslot again, for the key under the passphrase
+pub record IsRenewal
+    (len : ℕ) (j : Value) (total : ℕ) (e : Edit) (r : Renewal) (key : List ℕ) (passphrase : Bor (List ℕ))
+    : Type 0 where
+  pub old : Bor (List ℕ)
+  pub asked : e ≡ Change r.slot old passphrase r.iterations
+  pub there : IsInUse j r.slot
+  pub key_length : HasLuks2KeyBytes j r.slot (length key)
+  pub placed : IsPlaced len j total r.slot r.area
+  pub iterated : 1000 ≤ r.iterations
 
--- what the edit takes, by the header that was read of a volume of `total` bytes
-pub record IsJudged (header : Header) (total : ℕ) (e : Edit) (judged : Judged) : Type 0 where
-  pub copy : header ≡ Luks2 judged.copy.now
-  pub there : IsAbsent (content judged.copy.now.meta) e → ⊥
-  pub key : IsKeyFor header e judged.key
-  pub made : IsMade (content judged.copy.now.meta) e judged.made
-  pub placed : IsPlacedFor (area_len judged.copy.now.meta) (content judged.copy.now.meta) total e
-      judged.area
-  pub iterations : HasFewIterations e → ⊥
-  pub label : IsLabelled e judged.label
+-- it removes this keyslot
+pub record IsRemoval (j : Value) (e : Edit) (slot : ℕ) : Type 0 where
+  pub passphrase : Bor (List ℕ)
+  pub asked : e ≡ Remove slot passphrase
+  pub there : IsInUse j slot
+
+-- it sets the label of this field of 48 bytes
+pub record IsLabelling (e : Edit) (field_ : List ℕ) : Type 0 where
+  pub text : Bor (List ℕ)
+  pub asked : e ≡ Label text
+  pub is : field_ ≡ text.now ++ replicate (48 - length text.now) 0
+
+abbrev pub Takes : ℕ → Value → ℕ → Edit → JudgedEdit → Type 0
+Takes len j total e (judged.Add a key passphrase) = IsAddition len j total e a key passphrase
+Takes len j total e (judged.Change r key passphrase) = IsRenewal len j total e r key passphrase
+Takes len j total e (judged.Remove slot) = IsRemoval j e slot
+Takes len j total e judged.Repair = e ≡ Repair
+Takes len j total e (judged.Label field_) = IsLabelling e field_
+
+-- by the header that was read
+pub record IsJudged (header : Header) (total : ℕ) (e : Edit) (it : Judged) : Type 0 where
+  pub copy : header ≡ Luks2 it.copy.now
+  pub takes : Takes (area_len it.copy.now.meta) (content it.copy.now.meta) total e it.edit
 
 -- ---- of the volume `v`
 
+-- the keyslot that a key is sealed again from opens to it, and a new one's area is the one that the
+-- header of `h` bytes leaves for it
+abbrev pub Seals : ℕ → List ℕ → Data → Value → Edit → JudgedEdit → Type 0
+Seals h v payload j e (judged.Add a key passphrase) = IsOpenedTo v e key × IsNewArea h (length v) payload j a.by_ a.area
+Seals h v payload j e (judged.Change r key passphrase) = IsOpenedTo v e key × IsNewArea h (length v) payload j r.slot r.area
+Seals h v payload j e it = ⊤
+
 -- none of the rows up to `BadLabel` refuses the edit, and this is what it takes
-pub record IsUnrefusedSoFar (v : List ℕ) (payload : Data) (e : Edit) (judged : Judged) : Type 0 where
+pub record IsUnrefusedSoFar (v : List ℕ) (payload : Data) (e : Edit) (it : Judged) : Type 0 where
   pub well : WellFormed v payload
-  pub unlocked : IsUnlocked v e judged.key
-  pub room : IsRoomFor (hdr_size (header_at v judged.copy.now.header.hdr_offset)) (length v)
-      payload (content judged.copy.now.meta) e judged.area
+  pub seals : Seals (hdr_size (header_at v it.copy.now.header.hdr_offset)) v payload (content it.copy.now.meta) e it.edit
   pub none : (random : List ℕ) → HasNoFaultBefore 12 v payload e random
 
 -- one of them does, whatever the random bytes are; or the device failed
 abbrev pub IsRefusedEarly : List ℕ → Data → Edit → EditFault → Type 0
-IsRefusedEarly v payload e fault.Device = ⊤
-IsRefusedEarly v payload e f = (random : List ℕ) → Refusal2 v payload e random f
+IsRefusedEarly v payload e = EndsBy (λ f. (random : List ℕ) → Refusal2 v payload e random f) ⊥ ⊤
 
 -- the copy counts, the volume has these areas, and no fault stands in a row before the row `k`
 pub record IsJudgedTo

@@ -1,5 +1,5 @@
 -- What opening the keyslot of an edit says of a well formed LUKS2 volume.
-use Rattle.std.specs.Prelude.{ℕ, List, Option, Some, None, ⊤}
+use Rattle.std.specs.Prelude.{ℕ, List, ⊤}
 use Rattle.luks_area.specs.declared.area.AreaFault.TheVariants as areas
 use Rattle.luks_area.specs.declared.area.AreaName.TheVariants as area_name
 use Rattle.luks_slot.specs.declared.fault.SlotFault.{SlotFault}
@@ -13,17 +13,21 @@ use Rattle.luks_edit.specs.declared.edit_fault.EditFault.TheVariants as fault
 use Rattle.luks_edit.specs.Asked.{OpensBy}
 use Rattle.luks_edit.specs.Opener.{IsLocked, IsShut}
 
--- the keyslot `n` opens to the key that was found
-abbrev pub IsKeyOf : List ℕ → ℕ → List ℕ → Option (List ℕ) → Type 0
-IsKeyOf v n p (Some key) = Answer v n p (opens key)
-IsKeyOf v n p None = ⊥
+-- the keyslot that the edit opens opens to the key
+abbrev pub IsOpenedTo : List ℕ → Edit → List ℕ → Type 0
+IsOpenedTo v e key = (n : ℕ) (p : List ℕ) → OpensBy e n p → Answer v n p (opens key)
 
--- the keyslot that the edit opens, if it opens one, opens to the key that was found
-pub record IsUnlocked (v : List ℕ) (e : Edit) (found : Option (List ℕ)) : Type 0 where
-  pub key : (n : ℕ) (p : List ℕ) → OpensBy e n p → IsKeyOf v n p found
+-- the edit is past the opening of its keyslot, if it opens one
+pub record IsUnlocked (v : List ℕ) (e : Edit) : Type 0 where
   pub unlocked : IsLocked v e → ⊥
   pub unshut : (f : SlotFault) → IsShut v e f → ⊥
 
+-- its keyslot opens to the key
+pub record Opens (v : List ℕ) (e : Edit) (key : List ℕ) : Type 0 where
+  pub gives : IsOpenedTo v e key
+  pub past : IsUnlocked v e
+
+-- the first refusal of its plan
 pub record IsFirstShut (v : List ℕ) (e : Edit) (f : SlotFault) : Type 0 where
   pub unlocked : IsLocked v e → ⊥
   pub slot : ℕ

@@ -1,14 +1,14 @@
 -- Where a new keyslot's area goes, by the numbers of the metadata `j` of a JSON area of `len` bytes in
 -- a volume of `total` bytes.
-use Rattle.std.specs.Prelude.{◌≡◌, ℕ, ◌+◌, ◌-◌, ◌*◌, ◌^◌, ◌≤◌, Option, Some, None, min}
+use Rattle.std.specs.Prelude.{◌≡◌, ℕ, ◌+◌, ◌-◌, ◌*◌, ◌^◌, ◌<◌, ◌≤◌, Some, min}
 use Rattle.serde_json.specs.Data.{Data as Value}
 use Rattle.luks_area.specs.declared.area.Area.{Area}
 use Rattle.luks_rules.specs.Sizes.{keyslots_size, region_start}
 use Rattle.luks_reading.specs.declared.report.Data.{Data}
-use Rattle.luks_edit.specs.declared.edit.Edit.{Edit}
-use Rattle.luks_edit.specs.declared.edit.Edit.TheVariants.{Add, Change, Remove, Repair, Label}
+use Rattle.luks_edit.specs.declared.edit_fault.EditFault.{EditFault}
+use Rattle.luks_edit.specs.declared.edit_fault.EditFault.TheVariants as fault
 use Rattle.luks2_edits.specs.Metadata.{HasStripes}
-use Rattle.luks2_edits.specs.Places.{rounded_to_blocks, IsNewArea}
+use Rattle.luks2_edits.specs.Places.{rounded_to_blocks, HasNoNewArea}
 
 -- the stripes of the keyslot `n` take `bytes` bytes of whole blocks
 pub record TakesBlocks (j : Value) (n bytes : ℕ) : Type 0 where
@@ -35,26 +35,9 @@ pub record IsPlaced (len : ℕ) (j : Value) (total n : ℕ) (area : Area) : Type
   pub to : area.start + area.len ≤ region_start len + bytes
   pub inside : area.start + area.len ≤ total
 
--- the area of the keyslot that the edit seals, if it seals one
-abbrev pub IsRoomLike : ℕ → ℕ → Data → Value → ℕ → Option Area → Type 0
-IsRoomLike h total payload j n (Some area) = IsNewArea h total payload j n area
-IsRoomLike h total payload j n None = ⊥
-
-abbrev pub IsRoomFor : ℕ → ℕ → Data → Value → Edit → Option Area → Type 0
-IsRoomFor h total payload j (Add by_ old new to iterations) room = IsRoomLike h total payload j by_ room
-IsRoomFor h total payload j (Change slot old new iterations) room = IsRoomLike h total payload j slot room
-IsRoomFor h total payload j (Remove slot passphrase) room = room ≡ None
-IsRoomFor h total payload j Repair room = room ≡ None
-IsRoomFor h total payload j (Label text) room = room ≡ None
-
--- on any device
-abbrev pub IsPlacedLike : ℕ → Value → ℕ → ℕ → Option Area → Type 0
-IsPlacedLike len j total n (Some area) = IsPlaced len j total n area
-IsPlacedLike len j total n None = ⊥
-
-abbrev pub IsPlacedFor : ℕ → Value → ℕ → Edit → Option Area → Type 0
-IsPlacedFor len j total (Add by_ old new to iterations) room = IsPlacedLike len j total by_ room
-IsPlacedFor len j total (Change slot old new iterations) room = IsPlacedLike len j total slot room
-IsPlacedFor len j total (Remove slot passphrase) room = room ≡ None
-IsPlacedFor len j total Repair room = room ≡ None
-IsPlacedFor len j total (Label text) room = room ≡ None
+-- why no keyslot is sealed like the keyslot `n`: there is no room for its area, or there is and its
+-- key would be derived with too few iterations
+abbrev pub IsUnsealable : ℕ → ℕ → Data → Value → ℕ → ℕ → EditFault → Type 0
+IsUnsealable h total payload j n iterations fault.NoRoom = HasNoNewArea h total payload j n
+IsUnsealable h total payload j n iterations fault.Iterations = (HasNoNewArea h total payload j n → ⊥) × (iterations < 1000)
+IsUnsealable h total payload j n iterations f = ⊥

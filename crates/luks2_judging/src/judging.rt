@@ -11,57 +11,29 @@ ghost use Rattle.luks_reading.specs.declared.header.Header.TheVariants.{Luks2 as
 ghost use Rattle.luks_reading.specs.declared.report.Data.{Data as Payload};
 ghost use Rattle.luks_reading.specs.Checked.{WellFormed};
 ghost use Rattle.luks_reading.specs.Header.{IsAcceptedHeader, IsHeader};
-ghost use Rattle.luks_edit.specs.Asked.{HasFewIterations};
 ghost use Rattle.luks_edit.specs.EditFaults.{is_edit_failure};
 ghost use Rattle.luks2_edits.specs.Refused.{IsAbsent, Refusal2};
 ghost use Rattle.luks2_judging.specs.Header.{IsOfLuks2};
-ghost use Rattle.luks2_judging.specs.Judged.{IsLabelled, IsMade};
-ghost use Rattle.luks2_judging.specs.Judging.{IsJudged, IsJudgedTo, IsRefusedEarly, IsUnrefusedSoFar};
-ghost use Rattle.luks2_judging.specs.Room.{IsPlacedFor, IsRoomFor};
+ghost use Rattle.luks2_judging.specs.Judging.{IsJudged, IsJudgedTo, IsRefusedEarly, IsUnrefusedSoFar, Seals, Takes};
 ghost use Rattle.luks2_judging.specs.Rows.{HasNoFaultBefore};
 
 use crate::accepted::{accepted_areas, copy_of};
-use crate::keyslots::{judge_number, judge_opener, judge_requirements};
-use crate::labels::judge_label;
-use crate::room::judge_room;
-use crate::rows::{judge_iterations, judge_last};
+use crate::judged::{Addition, Judged, JudgedEdit, Renewal};
+use crate::keyslots::{judge_opener, judge_requirements, new_number};
+use crate::labels::label_field;
+use crate::room::judge_sealing;
+use crate::rows::judge_last;
 use crate::unlocking::unlock;
-use luks_area::{Area, Areas, Device, Entry};
+use luks_area::{Areas, Device};
 use luks_edit::{Edit, EditFault};
-use luks_head::{chosen_copy_is_sound, one_choice};
-use luks_meta::one_value;
-use luks_reading::{ChosenCopy, Data, Header, no_fault_is_well_formed, one_answer};
-use luks_slot::Key;
+use luks_reading::{ChosenCopy, Data, Header};
 use std::alloc::Global;
-
-/// What an edit takes that none of the rows up to `BadLabel` refuses.
-#[derive(Drop)]
-pub struct Judged<'a> {
-    /// The copy of the header that counts.
-    pub copy: &'a ChosenCopy,
-    /// The volume key, where the edit opens a keyslot.
-    pub key: Option<Key>,
-    /// The number of the keyslot that the edit makes, 0 to 31, if it makes one.
-    pub made: Option<u8>,
-    /// The area of the keyslot that the edit makes or seals again, if it does.
-    pub area: Option<Area>,
-    /// The label's field of the header, where the edit sets a label: its text and zeros.
-    pub label: Option<[u8; 48]>,
-}
 
 /// An accepted volume without requirements that has the keyslot that the edit opens.
 #[derive(Drop)]
 struct Accepted<'a> {
     copy: &'a ChosenCopy,
     areas: Areas,
-}
-
-/// The keyslot that an edit makes or seals again, and the label that it sets.
-#[derive(Clone, Copy, Drop)]
-struct Target {
-    made: Option<u8>,
-    area: Option<Area>,
-    label: Option<[u8; 48]>,
 }
 
 /// Judges the edit of the LUKS2 volume with this header by the rows `NotAccepted` to `BadLabel` of
@@ -75,7 +47,7 @@ pub fn judge_luks2<'a, D: Device>(
     device: &mut D,
     header: &'a Header,
     data_: Data,
-    edit: &Edit<'_>,
+    edit: &Edit<'a>,
 ) -> Result<Judged<'a>, EditFault>
     requires room { D.failed device.old + 1 < 2 ^ 64 }
     requires accepted { IsAcceptedHeader header.now }
@@ -90,20 +62,11 @@ pub fn judge_luks2<'a, D: Device>(
     ensures refused { D.tells → IsHeader (D.bytes device.old) header.now
         → IfErr result (IsRefusedEarly (D.bytes device.old) data_ edit.now) }
 {
-    one_choice();
-    one_value();
-    one_answer();
-    no_fault_is_well_formed();
-    let total = device.len();
-    let accepted = judge_without_key(header, data_, total, edit)?;
-    let key = unlock(alloc, device, header, edit)?;
-    let target = judge_opened(accepted.copy, accepted.areas.as_slice(), total, edit)?;
+    let accepted = judge_without_key(header, data_, device.len(), edit)?;
+    let taken = judge_with_key(alloc, device, header, &accepted, edit)?;
     Ok(Judged {
         copy: accepted.copy,
-        key,
-        made: target.made,
-        area: target.area,
-        label: target.label,
+        edit: taken,
     })
 }
 
@@ -129,9 +92,6 @@ fn judge_without_key<'a>(
     ensures refused { (v random : List ℕ) → IsHeader v header.now → length v ≡ total
         → IfErr result (Refusal2 v data_ edit.now random) }
 {
-    one_choice();
-    one_value();
-    no_fault_is_well_formed();
     let areas = accepted_areas(header, data_, total)?;
     let copy = copy_of(header);
     judge_requirements(&copy.meta)?;
@@ -139,44 +99,98 @@ fn judge_without_key<'a>(
     Ok(Accepted { copy, areas })
 }
 
-/// The rows after the opening: `SlotTaken`, `NoFreeSlot`, `NoRoom`, `LastSlot`, `Iterations`,
-/// `BadLabel`.
-fn judge_opened(
-    copy: &ChosenCopy,
-    areas: &[Entry],
-    total: u64,
-    edit: &Edit<'_>,
-) -> Result<Target, EditFault>
-    requires there { IsAbsent (content copy.now.meta) edit.now → ⊥ }
-    requires inside { (m : AreaName) (a : TheArea) → HasArea areas.now m a → IsInside a total }
-    ensures own { IfErr result (λ f. is_edit_failure f ≡ false) }
+/// The rows from the opening of a keyslot on: `Locked`, `Slot`, `SlotTaken`, `NoFreeSlot`, `NoRoom`,
+/// `LastSlot`, `Iterations`, `BadLabel`.
+fn judge_with_key<'a, D: Device>(
+    alloc: Global,
+    device: &mut D,
+    header: &Header,
+    accepted: &Accepted<'_>,
+    edit: &Edit<'a>,
+) -> Result<JudgedEdit<'a>, EditFault>
+    requires room { D.failed device.old + 1 < 2 ^ 64 }
+    requires accepted { IsAcceptedHeader header.now }
+    requires copy { header.now ≡ OfLuks2 accepted.now.copy.now }
+    requires there { IsAbsent (content accepted.now.copy.now.meta) edit.now → ⊥ }
+    requires inside { (m : AreaName) (a : TheArea) → HasArea accepted.now.areas m a
+        → IsInside a (D.size device.old) }
+    ensures unchanged { IsUnchanged D.tells D.size D.bytes D.unsettled device.old device.new }
+    ensures count { CountsFailure is_edit_failure result
+        (D.failed device.old) (D.failed device.new) }
     ensures memory { IfErr result (λ f. f ≢ EditFault.Memory) }
-    ensures made { IfOk result (λ t. IsMade (content copy.now.meta) edit.now t.made) }
-    ensures placed { IfOk result (λ t.
-        IsPlacedFor (area_len copy.now.meta) (content copy.now.meta) total edit.now t.area) }
-    ensures iterations { OnOk result (HasFewIterations edit.now → ⊥) }
-    ensures labelled { IfOk result (λ t. IsLabelled edit.now t.label) }
-    ensures room { (v random : List ℕ) (payload : Payload) → length v ≡ total
-        → IsJudgedTo 6 copy.now areas.now v payload edit.now random → IfOk result (λ t.
-        IsRoomFor (hdr_size (header_at v copy.now.header.hdr_offset)) (length v) payload
-        (content copy.now.meta) edit.now t.area) }
-    ensures passed { (v random : List ℕ) (payload : Payload) → length v ≡ total
-        → IsJudgedTo 6 copy.now areas.now v payload edit.now random
-        → OnOk result (HasNoFaultBefore 12 v payload edit.now random) }
-    ensures refused { (v random : List ℕ) (payload : Payload) → length v ≡ total
-        → IsJudgedTo 6 copy.now areas.now v payload edit.now random
-        → IfErr result (Refusal2 v payload edit.now random) }
+    ensures takes { let meta = accepted.now.copy.now.meta in
+        IfOk result (Takes (area_len meta) (content meta) (D.size device.old) edit.now) }
+    ensures seals { D.tells → IsHeader (D.bytes device.old) header.now → (payload : Payload)
+        → ((random : List ℕ) → IsJudgedTo 4 accepted.now.copy.now accepted.now.areas
+        (D.bytes device.old) payload edit.now random)
+        → let copy = accepted.now.copy.now in
+        IfOk result (Seals (hdr_size (header_at (D.bytes device.old) copy.header.hdr_offset))
+        (D.bytes device.old) payload (content copy.meta) edit.now) }
+    ensures passed { D.tells → IsHeader (D.bytes device.old) header.now → (payload : Payload)
+        → ((random : List ℕ) → IsJudgedTo 4 accepted.now.copy.now accepted.now.areas
+        (D.bytes device.old) payload edit.now random)
+        → OnOk result
+        ((random : List ℕ) → HasNoFaultBefore 12 (D.bytes device.old) payload edit.now random) }
+    ensures refused { D.tells → IsHeader (D.bytes device.old) header.now → (payload : Payload)
+        → WellFormed (D.bytes device.old) payload
+        → ((random : List ℕ) → IsJudgedTo 4 accepted.now.copy.now accepted.now.areas
+        (D.bytes device.old) payload edit.now random)
+        → IfErr result (IsRefusedEarly (D.bytes device.old) payload edit.now) }
 {
-    one_choice();
-    one_value();
-    chosen_copy_is_sound();
-    let made = match judge_number(&copy.meta, edit) {
-        Ok(made) => made,
-        Err(fault) => return Err(fault),
-    };
-    let area = judge_room(&copy.meta, areas, total, edit)?;
-    judge_last(&copy.meta, edit)?;
-    judge_iterations(edit)?;
-    let label = judge_label(edit)?;
-    Ok(Target { made, area, label })
+    let meta = &accepted.copy.meta;
+    let areas = accepted.areas.as_slice();
+    let total = device.len();
+    match *edit {
+        Edit::Add {
+            by_,
+            old,
+            new,
+            to,
+            iterations,
+        } => {
+            let key = unlock(alloc, device, header, by_, old)?;
+            let made = new_number(meta, to)?;
+            let area = judge_sealing(meta, areas, total, by_, iterations)?;
+            let addition = Addition {
+                by_,
+                iterations,
+                made,
+                area,
+            };
+            Ok(JudgedEdit::Add {
+                addition,
+                key,
+                passphrase: new,
+            })
+        }
+        Edit::Change {
+            slot,
+            old,
+            new,
+            iterations,
+        } => {
+            let key = unlock(alloc, device, header, slot, old)?;
+            let area = judge_sealing(meta, areas, total, slot, iterations)?;
+            let renewal = Renewal {
+                slot,
+                iterations,
+                area,
+            };
+            Ok(JudgedEdit::Change {
+                renewal,
+                key,
+                passphrase: new,
+            })
+        }
+        Edit::Remove { slot, passphrase } => {
+            let _key = unlock(alloc, device, header, slot, passphrase)?;
+            judge_last(meta, slot)?;
+            Ok(JudgedEdit::Remove { slot })
+        }
+        Edit::Repair => Ok(JudgedEdit::Repair),
+        Edit::Label { text } => {
+            let field = label_field(text)?;
+            Ok(JudgedEdit::Label { field })
+        }
+    }
 }

@@ -4,8 +4,8 @@ ghost use Rattle.luks_making.specs.Conditions.{IsFree};
 ghost use Rattle.luks_meta.specs.Content.{content};
 ghost use Rattle.luks_meta.specs.Requirements.{has_requirements};
 ghost use Rattle.luks2_edits.specs.Metadata.{IsInUse, IsLeastFree};
-ghost use Rattle.luks2_edits.specs.Refused.{IsAbsent, Need2};
-ghost use Rattle.luks2_judging.specs.Judged.{IsMade, IsNewNumber, IsNumberFault, IsUnmade, Judges};
+ghost use Rattle.luks2_edits.specs.Refused.{IsAbsent};
+ghost use Rattle.luks2_judging.specs.Judged.{IsNewNumber, IsNumberFault, Judges};
 
 use crate::asked::keyslot_to_open;
 use luks_edit::{Edit, EditFault};
@@ -67,7 +67,7 @@ pub(crate) fn least_free(meta: &Meta) -> Option<u8>
 
 /// The number of the keyslot to make: `to`, or else the least that is free. Refused by `SlotTaken`,
 /// `NoFreeSlot`.
-fn new_number(meta: &Meta, to: Option<u8>) -> Result<u8, EditFault>
+pub(crate) fn new_number(meta: &Meta, to: Option<u8>) -> Result<u8, EditFault>
     ensures { MatchResult result (IsNewNumber (content meta.now) to)
         (IsNumberFault (content meta.now) to) }
 {
@@ -85,37 +85,5 @@ fn new_number(meta: &Meta, to: Option<u8>) -> Result<u8, EditFault>
             Some(n) => Ok(n),
             None => Err(EditFault::NoFreeSlot),
         },
-    }
-}
-
-/// The number of the keyslot that the edit makes, if it makes one. Refused by `SlotTaken`,
-/// `NoFreeSlot`.
-pub(crate) fn judge_number(meta: &Meta, edit: &Edit<'_>) -> Result<Option<u8>, EditFault>
-    ensures { MatchResult result (IsMade (content meta.now) edit.now)
-        (IsUnmade (content meta.now) edit.now) }
-{
-    match *edit {
-        Edit::Add {
-            by_: _,
-            old: _,
-            new: _,
-            to,
-            iterations: _,
-        } => match new_number(meta, to) {
-            Ok(n) => Ok(Some(n)),
-            Err(fault) => Err(fault),
-        },
-        Edit::Change {
-            slot: _,
-            old: _,
-            new: _,
-            iterations: _,
-        } => Ok(None),
-        Edit::Remove {
-            slot: _,
-            passphrase: _,
-        } => Ok(None),
-        Edit::Repair => Ok(None),
-        Edit::Label { text: _ } => Ok(None),
     }
 }

@@ -3,6 +3,7 @@
 
 mod accepted;
 mod asked;
+mod judged;
 mod judging;
 mod keyslots;
 mod labels;
@@ -12,6 +13,7 @@ mod room;
 mod rows;
 mod unlocking;
 
-pub use judging::{Judged, judge_luks2};
+pub use judged::{Addition, Judged, JudgedEdit, Renewal};
+pub use judging::judge_luks2;
 pub use laws::{salts_are_as_long, told_once};
 pub use needing::{needed_luks2, sealed_need};

@@ -4,16 +4,15 @@ ghost use Rattle.luks_edit.specs.EditFaults.{is_edit_failure};
 ghost use Rattle.luks_meta.specs.Content.{content};
 ghost use Rattle.luks_reading.specs.Header.{IsAcceptedHeader, IsHeader};
 ghost use Rattle.luks2_edits.specs.Metadata.{IsInUse};
-ghost use Rattle.luks2_edits.specs.Refused.{IsAbsent, Need2, NeedsLike};
+ghost use Rattle.luks2_edits.specs.Refused.{NeedsLike};
 ghost use Rattle.luks2_judging.specs.Header.{IsOfLuks2};
 ghost use Rattle.luks2_judging.specs.Needed.{TellsNeed2};
 
 use crate::accepted::accepted_copy;
-use crate::keyslots::{judge_number, judge_opener, judge_requirements};
+use crate::keyslots::{judge_opener, judge_requirements, new_number};
 use luks_edit::{Edit, EditFault};
-use luks_head::one_choice;
-use luks_meta::{Meta, one_value};
-use luks_reading::{Data, Header, no_fault_is_well_formed};
+use luks_meta::Meta;
+use luks_reading::{Data, Header};
 
 /// The salts of both copies of the header.
 const COPY_SALTS: u64 = 128;
@@ -40,40 +39,18 @@ pub fn needed_luks2(
     ensures tells { (v : List ℕ) → IsHeader v header.now → length v ≡ total
         → TellsNeed2 data_ v edit.now result }
 {
-    one_choice();
-    one_value();
-    no_fault_is_well_formed();
     let copy = accepted_copy(header, data_, total)?;
     judge_requirements(&copy.meta)?;
     judge_opener(&copy.meta, edit)?;
-    judge_number(&copy.meta, edit)?;
-    Ok(need(&copy.meta, edit))
-}
-
-/// How many random bytes the edit takes, where the keyslot is there that it opens.
-pub(crate) fn need(meta: &Meta, edit: &Edit<'_>) -> u64
-    ensures { (IsAbsent (content meta.now) edit.now → ⊥) → Need2 (content meta.now) edit.now result }
-{
     match *edit {
-        Edit::Add {
-            by_,
-            old: _,
-            new: _,
-            to: _,
-            iterations: _,
-        } => sealed_need(meta, by_),
-        Edit::Change {
-            slot,
-            old: _,
-            new: _,
-            iterations: _,
-        } => sealed_need(meta, slot),
-        Edit::Remove {
-            slot: _,
-            passphrase: _,
-        } => COPY_SALTS,
-        Edit::Repair => COPY_SALTS,
-        Edit::Label { text: _ } => COPY_SALTS,
+        Edit::Add { by_, to, .. } => {
+            new_number(&copy.meta, to)?;
+            Ok(sealed_need(&copy.meta, by_))
+        }
+        Edit::Change { slot, .. } => Ok(sealed_need(&copy.meta, slot)),
+        Edit::Remove { .. } => Ok(COPY_SALTS),
+        Edit::Repair => Ok(COPY_SALTS),
+        Edit::Label { .. } => Ok(COPY_SALTS),
     }
 }
 

@@ -1,5 +1,5 @@
 //! Where the area of a new keyslot goes.
-ghost use Rattle.std.specs.Prelude.{◌≡◌, ◌+◌, ◌-◌, ◌*◌, ◌^◌, ◌<◌, ℕ, IfErr, IfOk, IfSome, MatchOption};
+ghost use Rattle.std.specs.Prelude.{◌≡◌, ◌≢◌, ◌+◌, ◌-◌, ◌*◌, ◌^◌, ◌<◌, ◌≤◌, ℕ, false, IfErr, IfOk, IfSome, MatchOption, OnOk};
 ghost use Rattle.luks_area.specs.declared.area.Area.{Area as TheArea};
 ghost use Rattle.luks_area.specs.declared.area.AreaName.{AreaName};
 ghost use Rattle.luks_area.specs.Area.{IsInside};
@@ -10,12 +10,11 @@ ghost use Rattle.luks_reading.specs.Listing.{Lists};
 ghost use Rattle.luks_reading.specs.declared.report.Data.{Data as Payload};
 ghost use Rattle.luks2_edits.specs.Metadata.{IsInUse};
 ghost use Rattle.luks2_edits.specs.Places.{HasNoNewArea, IsNewArea, rounded_to_blocks};
-ghost use Rattle.luks2_edits.specs.Refused.{HasNoRoom, IsAbsent};
-ghost use Rattle.luks2_judging.specs.Judged.{Judges};
-ghost use Rattle.luks2_judging.specs.Room.{IsPlaced, IsPlacedFor, IsPlacedLike, IsRegion, IsRoomFor, IsRoomLike, TakesBlocks};
+ghost use Rattle.luks_edit.specs.EditFaults.{is_edit_failure};
+ghost use Rattle.luks2_judging.specs.Room.{IsPlaced, IsRegion, IsUnsealable, TakesBlocks};
 
 use luks_area::{Area, Entry};
-use luks_edit::{Edit, EditFault};
+use luks_edit::{EditFault, LEAST_ITERATIONS};
 use luks_meta::Meta;
 use luks2_edits::least_gap;
 
@@ -34,77 +33,42 @@ struct Region {
     high: u64,
 }
 
-/// The area of the keyslot that the edit seals, if it seals one. Refused by `NoRoom`.
-pub(crate) fn judge_room(
+/// The area of a keyslot that is sealed like the keyslot `n`, which is there, and derived with so
+/// many iterations. Refused by `NoRoom`, `Iterations`.
+pub(crate) fn judge_sealing(
     meta: &Meta,
     entries: &[Entry],
     total: u64,
-    edit: &Edit<'_>,
-) -> Result<Option<Area>, EditFault>
-    requires there { IsAbsent (content meta.now) edit.now → ⊥ }
-    requires ends { (m : AreaName) (a : TheArea) → HasArea entries.now m a
-        → IsInside a (2 ^ 64 - 1) }
-    ensures own { IfErr result (λ f. f ≡ EditFault.NoRoom) }
-    ensures row { (payload : Payload) → Lists entries.now
-        (Luks2Area (content meta.now) (area_len meta.now + 4096) payload total)
-        → Judges (HasNoRoom (area_len meta.now + 4096) total payload (content meta.now) edit.now)
-        EditFault.NoRoom result }
-    ensures area { (payload : Payload) → Lists entries.now
-        (Luks2Area (content meta.now) (area_len meta.now + 4096) payload total)
-        → IfOk result
-        (IsRoomFor (area_len meta.now + 4096) total payload (content meta.now) edit.now) }
-    ensures placed { IfOk result
-        (IsPlacedFor (area_len meta.now) (content meta.now) total edit.now) }
-{
-    match *edit {
-        Edit::Add {
-            by_,
-            old: _,
-            new: _,
-            to: _,
-            iterations: _,
-        } => room_like(meta, entries, total, by_),
-        Edit::Change {
-            slot,
-            old: _,
-            new: _,
-            iterations: _,
-        } => room_like(meta, entries, total, slot),
-        Edit::Remove {
-            slot: _,
-            passphrase: _,
-        } => Ok(None),
-        Edit::Repair => Ok(None),
-        Edit::Label { text: _ } => Ok(None),
-    }
-}
-
-/// The area of a keyslot that is made like the keyslot `n`. Refused by `NoRoom`.
-fn room_like(meta: &Meta, entries: &[Entry], total: u64, n: u8) -> Result<Option<Area>, EditFault>
+    n: u8,
+    iterations: u32,
+) -> Result<Area, EditFault>
     requires there { IsInUse (content meta.now) n }
     requires ends { (m : AreaName) (a : TheArea) → HasArea entries.now m a
         → IsInside a (2 ^ 64 - 1) }
-    ensures own { IfErr result (λ f. f ≡ EditFault.NoRoom) }
-    ensures row { (payload : Payload) → Lists entries.now
-        (Luks2Area (content meta.now) (area_len meta.now + 4096) payload total)
-        → Judges (HasNoNewArea (area_len meta.now + 4096) total payload (content meta.now) n)
-        EditFault.NoRoom result }
+    ensures own { IfErr result (λ f. is_edit_failure f ≡ false) }
+    ensures memory { IfErr result (λ f. f ≢ EditFault.Memory) }
+    ensures iterated { OnOk result (1000 ≤ iterations) }
+    ensures placed { IfOk result (IsPlaced (area_len meta.now) (content meta.now) total n) }
     ensures area { (payload : Payload) → Lists entries.now
         (Luks2Area (content meta.now) (area_len meta.now + 4096) payload total)
-        → IfOk result
-        (IsRoomLike (area_len meta.now + 4096) total payload (content meta.now) n) }
-    ensures placed { IfOk result
-        (IsPlacedLike (area_len meta.now) (content meta.now) total n) }
+        → IfOk result (IsNewArea (area_len meta.now + 4096) total payload (content meta.now) n) }
+    ensures refused { (payload : Payload) → Lists entries.now
+        (Luks2Area (content meta.now) (area_len meta.now + 4096) payload total)
+        → IfErr result
+        (IsUnsealable (area_len meta.now + 4096) total payload (content meta.now) n iterations) }
 {
-    match new_area(meta, entries, total, n) {
-        Some(area) => Ok(Some(area)),
-        None => Err(EditFault::NoRoom),
+    let Some(area) = new_area(meta, entries, total, n) else {
+        return Err(EditFault::NoRoom);
+    };
+    if iterations < LEAST_ITERATIONS {
+        return Err(EditFault::Iterations);
     }
+    Ok(area)
 }
 
 /// The least area for a keyslot that is made like the keyslot `n`, in a volume of `total` bytes with
 /// these areas; none where no gap is large enough.
-pub(crate) fn new_area(meta: &Meta, entries: &[Entry], total: u64, n: u8) -> Option<Area>
+fn new_area(meta: &Meta, entries: &[Entry], total: u64, n: u8) -> Option<Area>
     requires there { IsInUse (content meta.now) n }
     requires ends { (m : AreaName) (a : TheArea) → HasArea entries.now m a
         → IsInside a (2 ^ 64 - 1) }

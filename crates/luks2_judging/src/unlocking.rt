@@ -1,21 +1,20 @@
 //! Opening the keyslot that an edit of a LUKS2 volume names.
-ghost use Rattle.std.specs.Prelude.{◌≡◌, ◌≢◌, ◌+◌, ◌^◌, ◌<◌, IfOk, IfErr};
+ghost use Rattle.std.specs.Prelude.{◌≡◌, ◌≢◌, ◌+◌, ◌^◌, ◌<◌, length, IfOk, IfErr};
 ghost use Rattle.luks_area.specs.Device.{CountsFailure, IsUnchanged};
+ghost use Rattle.luks_edit.specs.Asked.{OpensBy};
 ghost use Rattle.luks_edit.specs.EditFaults.{is_edit_failure};
+ghost use Rattle.luks_edit.specs.declared.edit.Edit.{Edit as TheEdit};
 ghost use Rattle.luks_reading.specs.Checked.{WellFormed};
 ghost use Rattle.luks_reading.specs.Header.{IsAcceptedHeader, IsHeader};
+ghost use Rattle.luks_reading.specs.Plans.{HasKeyBytes};
 ghost use Rattle.luks_reading.specs.declared.report.Data.{Data as Payload};
 ghost use Rattle.luks2_edits.specs.Refused.{HasSaid, IsAbsent};
 ghost use Rattle.luks2_judging.specs.Header.{IsOfLuks2};
-ghost use Rattle.luks2_judging.specs.Judging.{IsKeyFor};
-ghost use Rattle.luks2_judging.specs.Opened.{IsUnlocked, IsUnopened, unopened};
+ghost use Rattle.luks2_judging.specs.Opened.{IsUnopened, Opens, unopened};
 
-use crate::asked::keyslot_to_open;
 use luks_area::{AreaFault, AreaName, Device};
-use luks_edit::{Edit, EditFault};
-use luks_head::{luks2_without_faults, one_choice};
-use luks_meta::{metadata_without_faults, one_value};
-use luks_reading::{CheckFault, Header, OpenFault, one_answer, open_header_slot};
+use luks_edit::EditFault;
+use luks_reading::{CheckFault, Header, OpenFault, open_header_slot};
 use luks_slot::Key;
 use std::alloc::Global;
 
@@ -36,14 +35,15 @@ fn unopened(n: u8, fault: OpenFault) -> EditFault
     }
 }
 
-/// The key that the edit's keyslot opens to, none where the edit opens none; or why it doesn't
-/// open: `Locked`, `Slot`, or the device's failure. No memory is taken.
+/// The key that the keyslot `n` opens to, which an edit opens; or why it doesn't open: `Locked`,
+/// `Slot`, or the device's failure. No memory is taken.
 pub(crate) fn unlock<D: Device>(
     alloc: Global,
     device: &mut D,
     header: &Header,
-    edit: &Edit<'_>,
-) -> Result<Option<Key>, EditFault>
+    n: u8,
+    passphrase: &[u8],
+) -> Result<Key, EditFault>
     requires room { D.failed device.old + 1 < 2 ^ 64 }
     requires accepted { IsAcceptedHeader header.now }
     requires luks2 { IsOfLuks2 header.now }
@@ -51,29 +51,21 @@ pub(crate) fn unlock<D: Device>(
     ensures count { CountsFailure is_edit_failure result
         (D.failed device.old) (D.failed device.new) }
     ensures memory { IfErr result (λ f. f ≢ EditFault.Memory) }
-    ensures key { IfOk result (IsKeyFor header.now edit.now) }
+    ensures length { IfOk result (λ key. HasKeyBytes header.now n (length key)) }
     ensures opened { D.tells → IsHeader (D.bytes device.old) header.now
-        → IfOk result (IsUnlocked (D.bytes device.old) edit.now) }
+        → (e : TheEdit) → OpensBy e n passphrase.now
+        → IfOk result (Opens (D.bytes device.old) e) }
     ensures refused { D.tells → IsHeader (D.bytes device.old) header.now
-        → (payload : Payload) → WellFormed (D.bytes device.old) payload
-        → (HasSaid (D.bytes device.old) (λ o j. IsAbsent j edit.now) → ⊥)
-        → IfErr result (IsUnopened (D.bytes device.old) edit.now) }
+        → (payload : Payload) (e : TheEdit) → WellFormed (D.bytes device.old) payload
+        → OpensBy e n passphrase.now
+        → (HasSaid (D.bytes device.old) (λ o j. IsAbsent j e) → ⊥)
+        → IfErr result (IsUnopened (D.bytes device.old) e) }
 {
-    one_choice();
-    one_value();
-    one_answer();
-    luks2_without_faults();
-    metadata_without_faults();
-    match keyslot_to_open(edit) {
-        None => Ok(None),
-        Some(opener) => {
-            match open_header_slot(alloc, device, header, opener.slot, opener.passphrase) {
-                Ok(found) => match found {
-                    Some(key) => Ok(Some(key)),
-                    None => Err(EditFault::Locked),
-                },
-                Err(fault) => Err(unopened(opener.slot, fault)),
-            }
-        }
+    match open_header_slot(alloc, device, header, n, passphrase) {
+        Ok(found) => match found {
+            Some(key) => Ok(key),
+            None => Err(EditFault::Locked),
+        },
+        Err(fault) => Err(unopened(n, fault)),
     }
 }

@@ -1,6 +1,6 @@
 use Rattle.std.proofs.Common.{ℕ, List, ◌++◌, length, drop, replicate, ap, ◌∙◌}
 use Rattle.std.proofs.lemmas.List.{drop-replicate}
-use Rattle.luks2_judging.proofs.labels.label_field.Goals as goal
+use Rattle.luks2_judging.proofs.labels.padded.Goals as goal
 
 pub returns : goal.returns
 returns c =
