@@ -1,16 +1,13 @@
 -- The keyslot that an edit opens: what opening it says of a well formed LUKS2 volume.
-use Rattle.std.proofs.Common.{◌≡◌, ℕ, ◌↔◌, List, length, codes, refl, subst, sym, ap, ◌∙◌, arith, Option, Some, None, option_and_then}
+use Rattle.std.proofs.Common.{◌≡◌, ℕ, List, length, codes, refl, subst, sym, ap, ◌∙◌, arith, Some, None, option_and_then}
 use Rattle.serde_json.specs.Data.{Data as Value}
 use Rattle.serde_json.specs.Find.{get}
 use Rattle.luks_area.specs.declared.area.AreaName.TheVariants as area_name
-use Rattle.luks_head.specs.declared.fault.HeadFault.{HeadFault}
-use Rattle.luks_head.specs.Header2.{header_at, uuid_field, IsUuidFault, IsUuidField}
+use Rattle.luks_head.specs.Header2.{header_at, uuid_field}
 use Rattle.luks_head.specs.Selection.{luks2}
-use Rattle.luks_rules.specs.declared.fault.MetaFault.{MetaFault}
 use Rattle.luks_rules.specs.declared.table.Section.TheVariants.{Keyslots}
-use Rattle.luks_rules.specs.Accepted.{IsMeta}
 use Rattle.luks_rules.specs.Faults.{object_at}
-use Rattle.luks_rules.specs.MetaFault.{Json, IsMetaFault}
+use Rattle.luks_rules.specs.MetaFault.{Json}
 use Rattle.luks_rules.specs.Reading.{decimal_in}
 use Rattle.luks_slot.specs.declared.fault.SlotFault.{SlotFault}
 use Rattle.luks_reading.specs.declared.open_fault.OpenFault.{OpenFault}

@@ -4,14 +4,13 @@ use Rattle.luks_area.specs.First.{IsLeast}
 use Rattle.luks_meta.specs.Content.{content}
 use Rattle.luks_edit.specs.declared.edit.Edit.{Edit}
 use Rattle.luks_edit.specs.declared.edit.Edit.TheVariants.{Add, Change, Label, Remove, Repair}
-use Rattle.luks_edit.specs.Asked.{OpensBy}
 use Rattle.luks_edit.specs.EditFaults.{edit_key}
 use Rattle.luks2_edits.specs.Refused.{IsAbsent}
 use Rattle.luks2_edits.proofs.VolumeLaws.{well_formed_faultless}
 use Rattle.luks2_judging.specs.Needed.{IsNeedFault2, NeedsRandom}
 use Rattle.luks2_judging.proofs.ChosenFacts.{copy_in, metadata_of}
 use Rattle.luks2_judging.proofs.KeyslotFacts.{used_of}
-use Rattle.luks2_judging.proofs.NeedFacts.{need_absent, need_required, need_told, need_unaccepted, need_unnumbered}
+use Rattle.luks2_judging.proofs.NeedFacts.{need_absent, need_required, need_told, need_unnumbered}
 use Rattle.luks2_judging.proofs.NumberFacts.{new_numbered, new_untaken}
 use Rattle.luks2_judging.proofs.needing.needed_luks2.Goals as goal
 

@@ -2,7 +2,7 @@ use Rattle.std.proofs.Common.{subst}
 use Rattle.luks_meta.specs.Content.{content}
 use Rattle.luks_reading.specs.Answer.{Answer, opened_to}
 use Rattle.luks2_judging.proofs.ChosenFacts.{copy_in, copy_of_header, metadata_of}
-use Rattle.luks2_judging.proofs.OpenerFacts.{locked_by, opens_by, unopened_by}
+use Rattle.luks2_judging.proofs.OpenerFacts.{opens_by, unopened_by}
 use Rattle.luks2_judging.proofs.unlocking.unlock.Goals as goal
 
 pub returns-in-Some-clause-opened : goal.returns-in-Some-clause-opened
