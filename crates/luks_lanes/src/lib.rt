@@ -1,5 +1,5 @@
-//! PBKDF2's turns on several blocks side by side: each block is a chain of its own, so words of two
-//! or four of them lie in the lanes of one vector.
+//! PBKDF2's turns on two blocks side by side: each block is a chain of its own, so words of both lie
+//! in the lanes of one vector.
 #![tactic(auto)]
 
 mod bytes;
