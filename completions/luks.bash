@@ -12,6 +12,7 @@ _luks() {
         [repair]="--random --detached --help"
         [label]="--random --detached --help"
         [format]="--passphrase --random --version --hash --iterations --detached --help"
+        [convert]="--random --detached --help"
         [help]="--help"
     )
     local word=${COMP_WORDS[COMP_CWORD]} before=${COMP_WORDS[COMP_CWORD - 1]} words=

@@ -61,4 +61,9 @@ complete -c luks -n '__fish_seen_subcommand_from format' -l hash -x -a 'sha1 sha
 complete -c luks -n '__fish_seen_subcommand_from format' -l iterations -x -d 'The iterations of PBKDF2'
 complete -c luks -n '__fish_seen_subcommand_from format' -l detached -d 'The payload lies on another device'
 
+complete -c luks -n __fish_use_subcommand -a convert -d 'Make a LUKS2 header of a LUKS1 volume, on another file'
+complete -c luks -n '__fish_seen_subcommand_from convert' -F
+complete -c luks -n '__fish_seen_subcommand_from convert' -l random -r -F -d 'The file of the random bytes'
+complete -c luks -n '__fish_seen_subcommand_from convert' -l detached -d 'The source is a detached header'
+
 complete -c luks -n __fish_use_subcommand -a help -d 'Print help'

@@ -66,3 +66,29 @@ def without_slot(value, n):
 def formatted(hash_name, iterations, segment_offset, digest_salt, digest, slot_salt):
     """What formatting writes."""
     return images.metadata({"0": images.keyslot(hash_name, iterations, slot_salt)}, hash_name, iterations, digest, digest_salt, segment_offset)
+
+
+def converted(header, slots):
+    """What converting makes of a LUKS1 header: its hash, encryption, key bytes, payload in bytes and digest (iterations, salt, bytes), and by
+    their numbers the enabled keyslots (iterations, salt, stripes)."""
+    name, encryption, key_bytes, payload, digest = header
+    value = without_slot(formatted(name, digest[0], payload, digest[1], digest[2], bytes(32)), 0)
+    value["segments"]["0"]["encryption"] = encryption
+    start = 32768
+    for n in sorted(slots):
+        iterations, salt, stripes = slots[n]
+        slot = images.keyslot(name, iterations, salt, start, key_bytes, key_bytes, stripes)
+        slot["area"]["encryption"] = encryption
+        value["keyslots"][str(n)] = slot
+        value["digests"]["0"]["keyslots"].append(str(n))
+        start += int(slot["area"]["size"])
+    value["config"]["keyslots_size"] = str(keyslots_size(start, payload))
+    return value
+
+
+def keyslots_size(end, payload):
+    """The bytes of the keyslots' region, whose areas end at `end`: cryptsetup takes no header whose region ends past the data's place, though the
+    data is on another device. So the blocks up to that place where the areas end by it; otherwise as in a new volume."""
+    if end <= payload < 16777216:
+        return (payload - 32768) // 4096 * 4096
+    return 16744448

@@ -11,9 +11,9 @@ ghost use Rattle.luks_cache.specs.Cached.{cached_failures};
 use clap::error::ErrorKind as FaultKind;
 use luks_area::FileDevice;
 use luks_cache::CachedDevice;
-use luks_cli::{InputFault, Inputs, Line, Reason, execute, first_bytes};
+use luks_cli::{CountingPrinter, InputFault, Inputs, Line, Reason, execute, first_bytes};
 use luks_line::line;
-use luks_lock::{FOLDER, LockedDevice, OpenFault, open_locked};
+use luks_lock::{FOLDER, LockedDevice, OpenFault, is_same_file, open_locked};
 use std::fs::File;
 use std::io::{ErrorKind, Write};
 use std::process::ExitCode;
@@ -82,16 +82,22 @@ fn run_line<R: AllocGlobal + Clock + Files<File = File> + Print + Eprint>(
 ) -> io::Result<u8> {
     let old = passphrase(rt, line.passphrase());
     let new = passphrase(rt, line.new_passphrase());
+    let Opened {
+        volume,
+        target,
+        random,
+    } = open_files(rt, line);
     let mut inputs = Inputs {
-        volume: open_volume(rt, line),
+        volume,
+        target,
         passphrase: reader(&old),
         new_passphrase: reader(&new),
-        random: open_random(rt, line),
+        random,
     };
-    let mut out = Vec::new(rt.alloc());
+    let mut out = CountingPrinter::new(Vec::new(rt.alloc()));
     let mut err = Vec::new(rt.alloc());
     let status = execute(rt.alloc(), line, &mut inputs, &mut out, &mut err);
-    let printed = io::writer(rt).write_all(out.as_slice());
+    let printed = io::writer(rt).write_all(out.writer.as_slice());
     if has_changed(&inputs.volume) {
         let volume = line.volume;
         let _ = eprintln!(rt;
@@ -131,17 +137,52 @@ fn reader(read: &Result<Vec<u8>, InputFault>) -> Result<&[u8], InputFault> {
     }
 }
 
-/// The volume, opened for reading, and for writing where the command writes to it, under its lock;
-/// what of the lock isn't held is said. Its first bytes are remembered, so that an edit, which looks
-/// at the header to know how many random bytes it takes and then to do it, reads it once.
-fn open_volume<R: AllocGlobal + Clock + Files<File = File> + Eprint>(
+/// What is opened before a command runs.
+struct Opened {
+    volume: Result<Volume, InputFault>,
+    target: Result<Volume, InputFault>,
+    random: Result<File, InputFault>,
+}
+
+/// Opens the volume, the target where the command writes beside it, and the file of the random bytes.
+/// Where the target is the volume itself, by whichever names, nothing is opened.
+fn open_files<R: AllocGlobal + Clock + Files<File = File> + Eprint>(
     rt: &R,
     line: &Line<'_>,
+) -> Opened
+    ensures volume { IfOk result.volume (λ device. cached_failures device ≡ 0) }
+    ensures target { IfOk result.target (λ device. cached_failures device ≡ 0) }
+{
+    match line.target() {
+        Some(target) if is_same_file(rt, line.volume, target) => Opened {
+            volume: Err(InputFault::Absent),
+            target: Err(InputFault::Unreadable(Reason::SameFile)),
+            random: Err(InputFault::Absent),
+        },
+        Some(target) => Opened {
+            volume: open_volume(rt, line.volume, line.writes()),
+            target: open_volume(rt, target, true),
+            random: open_random(rt, line),
+        },
+        None => Opened {
+            volume: open_volume(rt, line.volume, line.writes()),
+            target: Err(InputFault::Absent),
+            random: open_random(rt, line),
+        },
+    }
+}
+
+/// The volume of this name, opened for reading, or for writing too, under its lock; what of the lock
+/// isn't held is said. Its first bytes are remembered, so that an edit, which looks at the header to
+/// know how many random bytes it takes and then to do it, reads it once.
+fn open_volume<R: AllocGlobal + Clock + Files<File = File> + Eprint>(
+    rt: &R,
+    volume: &str,
+    writes: bool,
 ) -> Result<Volume, InputFault>
     ensures { IfOk result (λ device. cached_failures device ≡ 0) }
 {
-    let volume = line.volume;
-    match open_locked(rt, volume, line.writes(), FOLDER) {
+    match open_locked(rt, volume, writes, FOLDER) {
         Ok(device) => {
             for notice in device.lock().notices().iter().flatten() {
                 let _ = eprintln!(rt; "luks: {volume}: {notice}");

@@ -19,13 +19,15 @@ use Rattle.luks_reading.specs.declared.header.ChosenCopy.{ChosenCopy}
 use Rattle.luks_reading.specs.declared.report.Data.{Data}
 use Rattle.luks_reading.specs.Answer.{opens, Answer}
 use Rattle.luks_reading.specs.Checked.{WellFormed}
-use Rattle.luks_reading.specs.Header.{IsChosenCopy}
+use Rattle.luks_reading.specs.Header.{json_at, IsChosenCopy}
 use Rattle.luks_edit.specs.declared.edit.Edit.TheVariants.{Add}
 use Rattle.luks2_edits.specs.Edited.{keyslot_salt, members_of, stripes_random, After2, HoldsKey, HoldsOpened, IsEdited, IsMadeIn}
 use Rattle.luks2_edits.specs.Metadata.{HasStripes, IsKeyArea, IsNewKeyslot}
 use Rattle.luks2_edits.specs.Places.{IsNewArea, IsOfCopies, IsOfNewKeyslot, IsTouched}
+use Rattle.luks2_edits.proofs.AlikeFacts.{SaysLike}
+use Rattle.luks2_edits.proofs.SealFacts.{opened_plan, IsOpened}
+use Rattle.luks2_edits.proofs.VolumeLaws.{one_digest}
 use Rattle.luks2_judging.specs.Rows.{HasNoFaultBefore}
-use Rattle.luks2_judging.specs.Salts.{HasOneDigest}
 use Rattle.luks2_judging.specs.declared.judged.Addition.{Addition}
 use Rattle.luks2_editing.specs.declared.sealed_metadata.SealedSlot.TheVariants.{Made}
 use Rattle.luks2_editing.specs.declared.sealed_metadata.Sealing.{Sealing}
@@ -33,10 +35,8 @@ use Rattle.luks2_editing.specs.MadeMetadata.{IsGained, IsSealingEdit}
 use Rattle.luks2_editing.specs.SealedKeyslot.{HasRefusedKeyslot, IsKeyslotWritten, IsOfStripesOf, IsSealing}
 use Rattle.luks2_editing.proofs.KeyAreaFacts.{area_of_object}
 use Rattle.luks2_editing.proofs.NewKeyslotFacts.{alike_place, SealsLike}
-use Rattle.luks2_editing.proofs.OpenedFacts.{opened_plan, HasOpenPlan}
-use Rattle.luks2_editing.proofs.PlanFacts.{like_unrefused, SaysLike}
-use Rattle.luks2_editing.proofs.RenewalFacts.{metadata_here, VolumeLaws}
-use Rattle.luks2_editing.proofs.ToldFacts.{ToldLaws}
+use Rattle.luks2_editing.proofs.PlanFacts.{like_unrefused}
+use Rattle.luks2_editing.proofs.RenewalFacts.{metadata_here}
 
 -- ---- the new keyslot, made with the members of the keyslot `like`
 
@@ -80,13 +80,14 @@ module _ (j k : Value) (slot like iterations : ℕ) (salt : List ℕ) (area : Ar
   }
 
   -- where the other was opened, its plan isn't refused
-  made_unrefused : (g : SlotFault) → HasOpenPlan j like → HasOneDigest j → HasRefusedKeyslot k slot g → ⊥
-  made_unrefused g open_ digests bad =
+  made_unrefused : {v : List ℕ} {o : ℕ} (g : SlotFault) → IsOpened v o j like → ((n m : ℕ) → IsDigestOf j like n → IsDigestOf j like m → n ≡ m)
+      → HasRefusedKeyslot k slot g → ⊥
+  made_unrefused g open_ once bad =
       let was : open_.object ≡ x.added.from = same_Some open_.object x.added.from (sym open_.there ∙ x.added.there.is) in
       let now : bad.object ≡ slot_value x.added.slot = same_Some bad.object (slot_value x.added.slot) (sym bad.there.is ∙ x.gains.there) in
       like_unrefused j k like slot g open_ bad
       (subst (λ d. SaysLike d bad.object) (sym was) (subst (λ d. SaysLike x.added.from d) (sym now) made_like))
-      (λ m names. subst (λ i. IsDigestOf k slot i) (digests.one like x.added.digest m x.added.names names) x.gains.names)
+      (λ m names. subst (λ i. IsDigestOf k slot i) (once x.added.digest m x.added.names names) x.gains.names)
       x.gains.rest.digests
 
 -- ---- the addition to a volume
@@ -118,11 +119,11 @@ module _ (v : List ℕ) (payload : Data) (copy : ChosenCopy) (addition : Additio
     opened = x.opened;
   }
 
-  module _ (laws : VolumeLaws) (told : ToldLaws) (digests : HasOneDigest (content copy.meta)) (small : addition.made < 32) (k : Value)
+  module _ (small : addition.made < 32) (k : Value)
       (gained : IsGained addition.made addition.by_ (members_of addition.iterations (keyslot_salt random) addition.area) (content copy.meta) k) where
     place_in : (p : ℕ) → IsOfStripesOf k addition.made p
         → IsOfNewKeyslot (hdr_size (header_at v copy.header.hdr_offset)) (length v) payload (content copy.meta) addition.by_ p
-    place_in p at = alike_place told (content copy.meta) k addition.by_ addition.made addition.area
+    place_in p at = alike_place (content copy.meta) k addition.by_ addition.made addition.area
         (made_alike (content copy.meta) k addition.made addition.by_ addition.iterations (keyslot_salt random) addition.area gained small)
         (hdr_size (header_at v copy.header.hdr_offset)) (length v) payload p x.place at
 
@@ -136,8 +137,8 @@ module _ (v : List ℕ) (payload : Data) (copy : ChosenCopy) (addition : Additio
     -- its plan isn't refused
     pub addition_fine : (g : SlotFault) → HasRefusedKeyslot k addition.made g → ⊥
     addition_fine g bad = made_unrefused (content copy.meta) k addition.made addition.by_ addition.iterations (keyslot_salt random) addition.area gained small g
-        (opened_plan laws v copy.header.hdr_offset (content copy.meta) addition.by_ old.now key (metadata_here laws v payload copy x.chosen x.well) x.opened)
-        digests bad
+        (opened_plan v copy.header.hdr_offset (content copy.meta) addition.by_ old.now key (metadata_here v payload copy x.chosen x.well) x.opened)
+        (one_digest (json_at v copy.header.hdr_offset) (content copy.meta) x.chosen.metadata addition.by_) bad
 
     module _ (edited : IsEdited (hdr_size (header_at v copy.header.hdr_offset)) (length v) payload (Add addition.by_ old new to addition.iterations) (keyslot_salt random) (content copy.meta) k)
         (w : List ℕ) where
@@ -152,7 +153,7 @@ module _ (v : List ℕ) (payload : Data) (copy : ChosenCopy) (addition : Additio
       added_after written = record {
         place = copy.header.hdr_offset;
         value = content copy.meta;
-        metadata = metadata_here laws v payload copy x.chosen x.well;
+        metadata = metadata_here v payload copy x.chosen x.well;
         new = k;
         edited = edited;
         first = written.anew.first;
@@ -167,6 +168,6 @@ module _ (v : List ℕ) (payload : Data) (copy : ChosenCopy) (addition : Additio
       made_in = record {
         place = copy.header.hdr_offset;
         value = content copy.meta;
-        metadata = metadata_here laws v payload copy x.chosen x.well;
+        metadata = metadata_here v payload copy x.chosen x.well;
         is_new = x.is_new;
       }

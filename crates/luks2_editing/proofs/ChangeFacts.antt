@@ -1,5 +1,5 @@
 -- A keyslot of a LUKS2 volume that is sealed again: its new area, and what the edit leaves.
-use Rattle.std.proofs.Common.{◌≡◌, ◌↔◌, ℕ, ◌≤◌, Bor, List, length, replicate, codes, Some, option_and_then, inl, inr, refl, sym, ap, ◌∙◌, subst, arith}
+use Rattle.std.proofs.Common.{◌≡◌, ℕ, ◌≤◌, Bor, List, length, replicate, codes, Some, option_and_then, inl, inr, refl, sym, ap, ◌∙◌, subst, arith}
 use Rattle.std.proofs.lemmas.Option.{same_Some}
 use Rattle.serde_json.specs.Data.{Data as Value}
 use Rattle.serde_json.specs.Find.{get}
@@ -7,7 +7,7 @@ use Rattle.luks_area.specs.declared.area.Area.{Area}
 use Rattle.luks_area.specs.declared.area.AreaName.TheVariants.{Slot}
 use Rattle.luks_area.specs.Ranges.{part, IsAt, IsOfEither, SameBut}
 use Rattle.luks_area.specs.RangeFacts.{part-same_but, same_but-then, same_but-wider}
-use Rattle.luks_head.specs.Header2.{header_at, hdr_size, IsSound}
+use Rattle.luks_head.specs.Header2.{header_at, hdr_size}
 use Rattle.luks_rules.specs.declared.table.Outer.TheVariants as outer
 use Rattle.luks_rules.specs.Faults.{type_at}
 use Rattle.luks_rules.specs.Reading.{number_in}
@@ -28,21 +28,21 @@ use Rattle.luks2_edits.specs.Leftovers.{Leftover2}
 use Rattle.luks2_edits.specs.Metadata.{HasStripes, IsKeyArea}
 use Rattle.luks2_edits.specs.Places.{IsNewArea, IsOfCopies, IsTouched}
 use Rattle.luks2_edits.specs.Refused.{IsUnrefused2}
-use Rattle.luks2_editing.specs.MadeMetadata.{IsRenewed}
+use Rattle.luks2_edits.proofs.AlikeFacts.{SaysLike}
+use Rattle.luks2_edits.proofs.SealFacts.{opened_kdf, opened_plan, IsOpened}
+use Rattle.luks2_editing.specs.MadeMetadata.{IsSealedAgain}
 use Rattle.luks2_editing.specs.Rewriting.{AreWrittenAnew}
 use Rattle.luks2_editing.specs.SealedKeyslot.{HasRefusedKeyslot, IsKeyslotWritten, IsOfStripesOf, IsSealing}
 use Rattle.luks2_editing.proofs.KeyAreaFacts.{area_of_object}
 use Rattle.luks2_editing.proofs.LostFacts.{beside_first, beside_second, both_beside}
 use Rattle.luks2_editing.proofs.NewKeyslotFacts.{alike_place, same_len, same_start, torn_leftover, SealsLike}
-use Rattle.luks2_editing.proofs.OpenedFacts.{opened_kdf, opened_plan, HasOpenPlan}
-use Rattle.luks2_editing.proofs.PlanFacts.{like_changed, like_unrefused, SaysLike}
+use Rattle.luks2_editing.proofs.PlanFacts.{like_changed, like_unrefused}
 use Rattle.luks_head.proofs.CopyFacts.{listed_at_least}
-use Rattle.luks2_editing.proofs.RenewalFacts.{metadata_here, sound_here, VolumeLaws}
-use Rattle.luks2_editing.proofs.ToldFacts.{ToldLaws}
+use Rattle.luks2_editing.proofs.RenewalFacts.{metadata_here, sound_here}
 
 -- ---- the keyslot in the new metadata
 
-module _ (j k : Value) (slot iterations : ℕ) (salt : List ℕ) (area : Area) (made : IsRenewed slot (members_of iterations salt area) j k) where
+module _ (j k : Value) (slot iterations : ℕ) (salt : List ℕ) (area : Area) (made : IsSealedAgain slot (members_of iterations salt area) j k) where
   -- its stripes are as before
   stripes_stay : (bytes stripes : ℕ) → HasStripes j slot bytes stripes → HasStripes k slot bytes stripes
   stripes_stay bytes stripes x =
@@ -68,16 +68,16 @@ module _ (j k : Value) (slot iterations : ℕ) (salt : List ℕ) (area : Area) (
 
 -- ---- the volume
 
-module _ (laws : VolumeLaws) (told : ToldLaws) (v : List ℕ) (payload : Data) (copy : ChosenCopy) (x : IsChosenCopy v copy) (well : WellFormed v payload)
+module _ (v : List ℕ) (payload : Data) (copy : ChosenCopy) (x : IsChosenCopy v copy) (well : WellFormed v payload)
     (slot : ℕ) (old new : Bor (List ℕ)) (iterations : ℕ) (key random : List ℕ) (area : Area) (k : Value)
     (opened : Answer v slot old.now (opens key))
     (place : IsNewArea (hdr_size (header_at v copy.header.hdr_offset)) (length v) payload (content copy.meta) slot area)
-    (made : IsRenewed slot (members_of iterations (keyslot_salt random) area) (content copy.meta) k) where
+    (made : IsSealedAgain slot (members_of iterations (keyslot_salt random) area) (content copy.meta) k) where
   -- what is sealed is of the edit
   pub change_sealing : IsSealing v payload (Change slot old new iterations) random copy.header.hdr_offset (content copy.meta) k slot new.now key
   change_sealing = record {
     sealed = λ w holds. record { slot = slot; is_made = refl; key = key; opened = opened; holds = holds };
-    place = λ p at. alike_place told (content copy.meta) k slot slot area (renewed_alike (content copy.meta) k slot iterations (keyslot_salt random) area made)
+    place = λ p at. alike_place (content copy.meta) k slot slot area (renewed_alike (content copy.meta) k slot iterations (keyslot_salt random) area made)
         (hdr_size (header_at v copy.header.hdr_offset)) (length v) payload p place at;
   }
 
@@ -85,11 +85,11 @@ module _ (laws : VolumeLaws) (told : ToldLaws) (v : List ℕ) (payload : Data) (
   pub renewed_unrefused : (g : SlotFault) → HasRefusedKeyslot k slot g → ⊥
   renewed_unrefused g y =
       let j : Value = content copy.meta in
-      let was : HasOpenPlan j slot = opened_plan laws v copy.header.hdr_offset j slot old.now key (metadata_here laws v payload copy x well) opened in
+      let was : IsOpened v copy.header.hdr_offset j slot = opened_plan v copy.header.hdr_offset j slot old.now key (metadata_here v payload copy x well) opened in
       let now : renewed_slot (members_of iterations (keyslot_salt random) area) made.changes.was ≡ y.object =
       same_Some (renewed_slot (members_of iterations (keyslot_salt random) area) made.changes.was) y.object (sym made.changes.is ∙ y.there.is) in
       let object : made.changes.was ≡ was.object = same_Some made.changes.was was.object (sym made.changes.there.is ∙ was.there) in
-      let derived : type_at made.changes.was outer.Kdf ≡ Some (codes "pbkdf2") = ap (λ d. type_at d outer.Kdf) object ∙ opened_kdf j slot was in
+      let derived : type_at made.changes.was outer.Kdf ≡ Some (codes "pbkdf2") = ap (λ d. type_at d outer.Kdf) object ∙ opened_kdf v copy.header.hdr_offset j slot was in
       let like : SaysLike made.changes.was (renewed_slot (members_of iterations (keyslot_salt random) area) made.changes.was) =
       like_changed made.changes.was (renewed_slot (members_of iterations (keyslot_salt random) area) made.changes.was)
       (members_of iterations (keyslot_salt random) area) made.changes.says derived in
@@ -100,8 +100,7 @@ module _ (laws : VolumeLaws) (told : ToldLaws) (v : List ℕ) (payload : Data) (
       (edited : IsEdited (hdr_size (header_at v copy.header.hdr_offset)) (length v) payload (Change slot old new iterations) (keyslot_salt random) (content copy.meta) k) where
     -- ---- the old area
 
-    module _ (local : (v w : List ℕ) (o n : ℕ) → length v ≡ length w → 4096 ≤ n → hdr_size (header_at v o) ≤ n → part v o n ≡ part w o n → IsSound v o ↔ IsSound w o)
-        (lost : Area) (is : IsKeyArea (content copy.meta) slot lost) (w y : List ℕ)
+    module _ (lost : Area) (is : IsKeyArea (content copy.meta) slot lost) (w y : List ℕ)
         (written : IsKeyslotWritten v copy.header.hdr_offset (Change slot old new iterations) random k slot new.now key w)
         (wiping : SameBut (IsAt lost.start lost.len) w y) where
       -- the new one lies beside it
@@ -134,9 +133,9 @@ module _ (laws : VolumeLaws) (told : ToldLaws) (v : List ℕ) (payload : Data) (
       anew_kept : AreWrittenAnew v copy.header.hdr_offset (Change slot old new iterations) random k y
       anew_kept =
           let size : 16384 ≤ hdr_size (header_at v copy.header.hdr_offset) =
-          listed_at_least (hdr_size (header_at v copy.header.hdr_offset)) (sound_here laws v payload copy x well).form.listed in
-          both_beside local v copy.header.hdr_offset (Change slot old new iterations) random k w y lost.start lost.len (omega (arith, size)) wiping
-          (beside_first laws v payload copy x well slot lost is) (beside_second laws v payload copy x well slot lost is) written.anew
+          listed_at_least (hdr_size (header_at v copy.header.hdr_offset)) (sound_here v payload copy x well).form.listed in
+          both_beside v copy.header.hdr_offset (Change slot old new iterations) random k w y lost.start lost.len (omega (arith, size)) wiping
+          (beside_first v payload copy x well slot lost is) (beside_second v payload copy x well slot lost is) written.anew
 
       rest_touched : SameBut (IsTouched (hdr_size (header_at v copy.header.hdr_offset)) (length v) payload (content copy.meta) (Change slot old new iterations)) v y
       rest_touched = same_but-then
@@ -150,7 +149,7 @@ module _ (laws : VolumeLaws) (told : ToldLaws) (v : List ℕ) (payload : Data) (
 
       -- while it was overwritten
       pub torn_lost : Leftover2 v payload (Change slot old new iterations) random y
-      torn_lost = torn_leftover laws v payload copy x well (Change slot old new iterations) random k free edited y (inr (inr (inr (record {
+      torn_lost = torn_leftover v payload copy x well (Change slot old new iterations) random k free edited y (inr (inr (inr (record {
         sealed = change_sealing.sealed y holds_kept;
         first = anew_kept.first;
         second = anew_kept.second;
@@ -162,7 +161,7 @@ module _ (laws : VolumeLaws) (told : ToldLaws) (v : List ℕ) (payload : Data) (
       changed_after wiped = record {
         place = copy.header.hdr_offset;
         value = content copy.meta;
-        metadata = metadata_here laws v payload copy x well;
+        metadata = metadata_here v payload copy x well;
         new = k;
         edited = edited;
         first = anew_kept.first;

@@ -1,22 +1,51 @@
--- How an edit ends that is refused while it is judged.
-use Rattle.std.proofs.Common.{◌≡◌, ℕ, List, inl, subst}
-use Rattle.luks_reading.specs.declared.header.ChosenCopy.{ChosenCopy}
+-- An edit that was judged by the header that was read: how it ends where it is refused, and what is
+-- known of it where it isn't.
+use Rattle.std.proofs.Common.{◌≡◌, ℕ, List, Result, inl, subst, sym}
+use Rattle.luks_head.specs.Header2.{hdr_size, header_at}
+use Rattle.luks_meta.specs.Content.{content}
 use Rattle.luks_reading.specs.declared.header.Header.{Header}
 use Rattle.luks_reading.specs.declared.header.Header.TheVariants.{Luks2}
 use Rattle.luks_reading.specs.declared.report.Data.{Data}
+use Rattle.luks_reading.specs.Checked.{WellFormed}
 use Rattle.luks_reading.specs.Header.{IsChosenCopy, IsHeader}
+use Rattle.luks_edit.specs.declared.edit.Done.{Done}
 use Rattle.luks_edit.specs.declared.edit.Edit.{Edit}
 use Rattle.luks_edit.specs.declared.edit_fault.EditFault.{EditFault}
-use Rattle.luks_edit.specs.declared.edit_fault.EditFault.TheVariants as fault
-use Rattle.luks2_judging.specs.Judging.{IsRefusedEarly}
-use Rattle.luks2_editing.specs.Replies.{EndsBy2}
-
--- the header that was read is that of the copy
-pub chosen_copy : (v : List ℕ) (h : Header) (copy : ChosenCopy) → h ≡ Luks2 copy → IsHeader v h → IsChosenCopy v copy
-chosen_copy v h copy same x = subst (λ k. IsHeader v k) same x
+use Rattle.luks_edit.specs.Endings.{EndsBy-map}
+use Rattle.luks2_edits.specs.Leftovers.{Leftover2}
+use Rattle.luks2_edits.specs.Refused.{Refusal2}
+use Rattle.luks2_judging.specs.declared.judged.Judged.{Judged}
+use Rattle.luks2_judging.specs.Judging.{IsRefusedEarly, IsUnrefusedSoFar, Seals}
+use Rattle.luks2_judging.specs.Rows.{HasNoFaultBefore}
+use Rattle.luks2_editing.specs.Replies.{EndsBy2, Replies2}
 
 -- a refusal, or the device's failure while the edit was judged
 pub refused_ends : (v : List ℕ) (payload : Data) (e : Edit) (random w : List ℕ) (f : EditFault) → w ≡ v → IsRefusedEarly v payload e f → EndsBy2 payload v e random f w
-refused_ends v payload e random w fault.Memory same x = same
-refused_ends v payload e random w fault.Device same x = inl same
-refused_ends v payload e random w f same x = (x random, same)
+refused_ends v payload e random w f same x = EndsBy-map
+    (λ g. (random : List ℕ) → Refusal2 v payload e random g) (λ g. Refusal2 v payload e random g × (w ≡ v)) ⊥ (w ≡ v) (Unit {0}) (Leftover2 v payload e random w) f
+    (λ is refused. (refused random, same)) (λ none. absurd none) (λ any. inl same) x
+
+-- what is known of the edit `it` once it was judged, of the volume `v` that is still as it was read
+pub record IsJudgedEdit (v : List ℕ) (payload : Data) (it : Edit) (judged : Judged) : Type 0 where
+  pub chosen : IsChosenCopy v judged.copy.now
+  pub well : WellFormed v payload
+  pub none : (random : List ℕ) → HasNoFaultBefore 12 v payload it random
+  pub seals : Seals (hdr_size (header_at v judged.copy.now.header.hdr_offset)) v payload (content judged.copy.now.meta) it judged.edit
+
+module _ {u v : List ℕ} {e it : Edit} (same : v ≡ u) (asked : e ≡ it) where
+  pub judged_edit : {payload : Data} {header : Header} {judged : Judged} → header ≡ Luks2 judged.copy.now → IsHeader u header
+      → IsUnrefusedSoFar u payload e judged → IsJudgedEdit v payload it judged
+  judged_edit {payload} {header} {judged} copy is x =
+      let there : IsUnrefusedSoFar v payload it judged =
+      subst (λ y. IsUnrefusedSoFar v payload y judged) asked (subst (λ b. IsUnrefusedSoFar b payload e judged) (sym same) x) in
+      record {
+        chosen = subst (λ h. IsHeader v h) copy (subst (λ b. IsHeader b header) (sym same) is);
+        well = there.well;
+        none = there.none;
+        seals = there.seals;
+      }
+
+  -- its reply is that of the edit that was asked for
+  pub replied : (payload : Data) (random w : List ℕ) (result : Result Done EditFault) → Replies2 payload v it random result w → Replies2 payload u e random result w
+  replied payload random w result x =
+      subst (λ y. Replies2 payload u y random result w) (sym asked) (subst (λ b. Replies2 payload b it random result w) same x)

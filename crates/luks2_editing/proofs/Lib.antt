@@ -6,9 +6,7 @@ mod JudgedFacts
 mod LostFacts
 mod RemovalFacts
 mod SealingFacts
-mod ToldFacts
 mod MadeMetadataFacts
-mod OpenedFacts
 mod SealedRowFacts
 mod SealedFacts
 mod NewKeyslotFacts

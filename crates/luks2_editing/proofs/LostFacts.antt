@@ -1,12 +1,13 @@
 -- The area that a keyslot of a LUKS2 volume loses: the copies and a key beside it.
-use Rattle.std.proofs.Common.{◌≡◌, ◌↔◌, ℕ, ◌+◌, ◌-◌, ◌≤◌, List, length, refl, sym, ap, ◌∙◌, subst, arith}
+use Rattle.std.proofs.Common.{◌≡◌, ℕ, ◌+◌, ◌-◌, ◌≤◌, List, length, refl, sym, ap, ◌∙◌, subst, arith}
 use Rattle.serde_json.specs.Data.{Data as Value}
 use Rattle.luks_area.specs.declared.area.Area.{Area}
 use Rattle.luks_area.specs.declared.area.AreaName.TheVariants.{Head1, Head2, Slot}
 use Rattle.luks_area.specs.Area.{IsInside}
 use Rattle.luks_area.specs.Ranges.{part, IsAt, SameBut}
 use Rattle.luks_area.specs.RangeFacts.{part-same_but}
-use Rattle.luks_head.specs.Header2.{header_at, hdr_size, seqid, IsSound}
+use Rattle.luks_head.specs.Header2.{header_at, hdr_size, seqid}
+use Rattle.luks_head.proofs.SoundnessFacts.{sound_by_range}
 use Rattle.luks_head.specs.Selection.{luks2}
 use Rattle.luks_head.specs.Written.{AreZeros}
 use Rattle.luks_making.specs.WrittenArea.{IsWrittenArea}
@@ -18,13 +19,12 @@ use Rattle.luks_reading.specs.Header.{json_at, IsChosenCopy}
 use Rattle.luks_edit.specs.declared.edit.Edit.{Edit}
 use Rattle.luks2_edits.specs.Copies.{label_field, salt_field, subsystem_field, IsWrittenAnew}
 use Rattle.luks2_edits.specs.Metadata.{IsKeyArea}
+use Rattle.luks2_edits.proofs.VolumeLaws.{well_formed_fits}
 use Rattle.luks2_editing.specs.Rewriting.{AreWrittenAnew}
-use Rattle.luks2_editing.proofs.RenewalFacts.{VolumeLaws}
 
 -- ---- a copy beside a range that was written
 
-module _ (local : (v w : List ℕ) (o n : ℕ) → length v ≡ length w → 4096 ≤ n → hdr_size (header_at v o) ≤ n → part v o n ≡ part w o n → IsSound v o ↔ IsSound w o)
-    (v : List ℕ) (o : ℕ) (e : Edit) (random : List ℕ) (j : Value) (w x : List ℕ) (start m : ℕ) (least : 4096 ≤ hdr_size (header_at v o))
+module _ (v : List ℕ) (o : ℕ) (e : Edit) (random : List ℕ) (j : Value) (w x : List ℕ) (start m : ℕ) (least : 4096 ≤ hdr_size (header_at v o))
     (same : SameBut (IsAt start m) w x) where
   module _ (q : ℕ) (apart : (p : ℕ) → IsAt q (hdr_size (header_at v o)) p → IsAt start m p → ⊥) (a : IsWrittenAnew v o e random j w q) where
     head_same : header_at x q ≡ header_at w q
@@ -40,8 +40,8 @@ module _ (local : (v w : List ℕ) (o n : ℕ) → length v ≡ length w → 409
     anew_beside : IsWrittenAnew v o e random j x q
     anew_beside = record {
       renewed = record {
-        sound = (local w x q (hdr_size (header_at v o)) (sym same.length_same) least (let size = a.renewed.size in omega (arith, size))
-            (sym (part-same_but q (hdr_size (header_at v o)) same apart))).0 a.renewed.sound;
+        sound = sound_by_range w x q (hdr_size (header_at v o)) (sym same.length_same) least (let size = a.renewed.size in omega (arith, size))
+            (sym (part-same_but q (hdr_size (header_at v o)) same apart)) a.renewed.sound;
         size = ap hdr_size head_same ∙ a.renewed.size;
         number = ap seqid head_same ∙ a.renewed.number;
         label = ap label_field head_same ∙ a.renewed.label;
@@ -67,23 +67,23 @@ module _ (local : (v w : List ℕ) (o n : ℕ) → length v ≡ length w → 409
 
 -- ---- the keyslot's area
 
-module _ (laws : VolumeLaws) (v : List ℕ) (payload : Data) (copy : ChosenCopy) (x : IsChosenCopy v copy) (well : WellFormed v payload) (slot : ℕ) where
+module _ (v : List ℕ) (payload : Data) (copy : ChosenCopy) (x : IsChosenCopy v copy) (well : WellFormed v payload) (slot : ℕ) where
   area_named : (a : Area) → IsKeyArea (content copy.meta) slot a → AreaOf v payload (Slot slot) a
   area_named a is = record { choice = luks2 copy.header.hdr_offset copy.copies; chosen = x.chosen; area = record { value = content copy.meta; holds = x.metadata.json; area = is } }
 
   pub lost_inside : (a : Area) → IsKeyArea (content copy.meta) slot a → IsInside a (length v)
-  lost_inside a is = (laws.fits v payload well).fit.inside (Slot slot) a (area_named a is)
+  lost_inside a is = (well_formed_fits v payload well).fit.inside (Slot slot) a (area_named a is)
 
   module _ (area : Area) (is : IsKeyArea (content copy.meta) slot area) where
     pub beside_first : (p : ℕ) → IsAt 0 (hdr_size (header_at v copy.header.hdr_offset)) p → IsAt area.start area.len p → ⊥
     beside_first p here there =
-        (laws.fits v payload well).fit.disjoint Head1 (Slot slot) (record { start = 0; len = hdr_size (header_at v copy.header.hdr_offset) }) area
+        (well_formed_fits v payload well).fit.disjoint Head1 (Slot slot) (record { start = 0; len = hdr_size (header_at v copy.header.hdr_offset) }) area
         (record { choice = luks2 copy.header.hdr_offset copy.copies; chosen = x.chosen; area = record { value = content copy.meta; holds = x.metadata.json; area = (refl, refl) } })
         (area_named area is) (λ t. cc) p here there
 
     pub beside_second : (p : ℕ) → IsAt (hdr_size (header_at v copy.header.hdr_offset)) (hdr_size (header_at v copy.header.hdr_offset)) p → IsAt area.start area.len p → ⊥
     beside_second p here there =
-        (laws.fits v payload well).fit.disjoint Head2 (Slot slot)
+        (well_formed_fits v payload well).fit.disjoint Head2 (Slot slot)
         (record { start = hdr_size (header_at v copy.header.hdr_offset); len = hdr_size (header_at v copy.header.hdr_offset) }) area
         (record { choice = luks2 copy.header.hdr_offset copy.copies; chosen = x.chosen; area = record { value = content copy.meta; holds = x.metadata.json; area = (refl, refl) } })
         (area_named area is) (λ t. cc) p here there

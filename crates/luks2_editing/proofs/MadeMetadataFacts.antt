@@ -13,35 +13,32 @@ use Rattle.luks2_edits.specs.Edited.{members_of, HasAdded, HasChanged, IsEdited}
 use Rattle.luks2_edits.specs.Metadata.{HasStripes, IsInUse}
 use Rattle.luks2_edits.specs.Places.{rounded_to_blocks, IsNewArea}
 use Rattle.luks2_edits.specs.Refused.{Need2, NeedsLike}
+use Rattle.luks2_edits.proofs.PlaceFacts.{sectors_in_blocks}
+use Rattle.luks2_edits.proofs.ToldFacts.{same_stripes}
 use Rattle.luks2_judging.specs.Room.{IsPlaced}
 use Rattle.luks2_editing.specs.declared.sealed_metadata.SealedSlot.{SealedSlot}
 use Rattle.luks2_editing.specs.declared.sealed_metadata.SealedSlot.TheVariants.{Made, Renewed}
 use Rattle.luks2_editing.specs.MadeMetadata.{like_of, AsksFor, IsMadeBy}
-use Rattle.luks2_editing.proofs.ToldFacts.{ToldLaws}
 
 -- ---- the area that is found for a keyslot
-
--- the sectors of the stripes lie in their blocks
-pub sectors_in_blocks : (bytes : ℕ) → rounded_to_sectors bytes ≤ rounded_to_blocks bytes
-sectors_in_blocks bytes = omega arith
 
 -- the keyslot like which it is made is there
 pub placed_used : (len : ℕ) (j : Value) (total n : ℕ) (area : Area) → IsPlaced len j total n area → IsInUse j n
 placed_used len j total n area x = (x.blocks.slot.there.named, ap is_some x.blocks.slot.there.is)
 
 -- it suits the keyslot
-pub placed_suits : (told : ToldLaws) (len : ℕ) (j : Value) (total n : ℕ) (area : Area) (iterations : ℕ) (salt : List ℕ)
+pub placed_suits : (len : ℕ) (j : Value) (total n : ℕ) (area : Area) (iterations : ℕ) (salt : List ℕ)
     → IsPlaced len j total n area → HasPbkdf2 j n → 1 ≤ iterations → length salt ≡ 32 → CanSeal len j n (members_of iterations salt area)
-placed_suits told len j total n area iterations salt x slot turns long = record {
+placed_suits len j total n area iterations salt x slot turns long = record {
   slot = slot;
   iterations = turns;
   salt = record { from = omega (arith, long); to = omega (arith, long) };
   large = λ key stripes is_key are_stripes. (
       let here : HasStripes j n key stripes = record { object = slot.object; there = slot.there; key_bytes_are = is_key; stripes_are = are_stripes } in
-      let same = told.stripes j n key stripes x.blocks.key_bytes x.blocks.stripes here x.blocks.slot in
+      let same = same_stripes j n key stripes x.blocks.key_bytes x.blocks.stripes here x.blocks.slot in
       let fits : rounded_to_sectors (x.blocks.key_bytes * x.blocks.stripes) ≤ rounded_to_blocks (x.blocks.key_bytes * x.blocks.stripes) = sectors_in_blocks (x.blocks.key_bytes * x.blocks.stripes) in
-      subst (λ k. rounded_to_sectors (k * stripes) ≤ area.len) (sym same.0)
-      (subst (λ s. rounded_to_sectors (x.blocks.key_bytes * s) ≤ area.len) (sym same.1)
+      subst (λ k. rounded_to_sectors (k * stripes) ≤ area.len) (sym same.key_bytes)
+      (subst (λ s. rounded_to_sectors (x.blocks.key_bytes * s) ≤ area.len) (sym same.stripes)
       (subst (λ m. rounded_to_sectors (x.blocks.key_bytes * x.blocks.stripes) ≤ m) (sym x.blocks.is) fits)));
   within = λ bytes says. (
       let region : x.bytes ≡ bytes = same_Some x.bytes bytes (sym x.bytes_are ∙ says) in

@@ -25,13 +25,13 @@ use Rattle.luks2_edits.specs.Leftovers.{IsTornAt, Leftover2}
 use Rattle.luks2_edits.specs.Metadata.{HasStripes, IsKeyArea}
 use Rattle.luks2_edits.specs.Places.{rounded_to_blocks, IsNewArea, IsOfNewKeyslot}
 use Rattle.luks2_edits.specs.Refused.{IsUnrefused2, NeedsLike}
+use Rattle.luks2_edits.proofs.PlaceFacts.{sectors_in_blocks}
+use Rattle.luks2_edits.proofs.ToldFacts.{same_stripes}
 use Rattle.luks2_judging.specs.Room.{IsPlaced}
-use Rattle.luks2_editing.specs.Prepared.{IsCopyWithin}
+use Rattle.luks2_editing.specs.Prepared.{AreCopiesWithin}
 use Rattle.luks2_editing.specs.Replies.{EndsBy2}
 use Rattle.luks2_editing.specs.SealedKeyslot.{HasRefusedKeyslot, IsOfStripesOf, IsSealable, IsUnsealed}
-use Rattle.luks2_editing.proofs.MadeMetadataFacts.{sectors_in_blocks}
-use Rattle.luks2_editing.proofs.RenewalFacts.{metadata_here, VolumeLaws}
-use Rattle.luks2_editing.proofs.ToldFacts.{ToldLaws}
+use Rattle.luks2_editing.proofs.RenewalFacts.{metadata_here}
 
 -- ---- its numbers
 
@@ -47,13 +47,13 @@ pub record SealsLike (j k : Value) (like n : ℕ) (area : Area) : Type 0 where
   pub stripes : (a b : ℕ) → HasStripes j like a b → HasStripes k n a b
   pub place : IsKeyArea k n area
 
-module _ (told : ToldLaws) (j k : Value) (like n : ℕ) (area : Area) (x : SealsLike j k like n area) where
+module _ (j k : Value) (like n : ℕ) (area : Area) (x : SealsLike j k like n area) where
   -- the key can be sealed in it
   pub alike_sealable : (len total : ℕ) (header : Bin2) (key random : List ℕ) → NeedsLike j like (length random) → HasLuks2KeyBytes j like (length key)
-      → IsPlaced len j total like area → IsCopyWithin header len total → IsSealable header.hdr_size k n key random total
+      → IsPlaced len j total like area → AreCopiesWithin header len total → IsSealable header.hdr_size k n key random total
   alike_sealable len total header key random needs bytes placed within =
       let object : bytes.object ≡ needs.slot.object = same_Some bytes.object needs.slot.object (sym bytes.there ∙ needs.slot.there.is) in
-      let same = told.stripes j like needs.key_bytes needs.stripes placed.blocks.key_bytes placed.blocks.stripes needs.slot placed.blocks.slot in
+      let same = same_stripes j like needs.key_bytes needs.stripes placed.blocks.key_bytes placed.blocks.stripes needs.slot placed.blocks.slot in
       let fits : rounded_to_sectors (placed.blocks.key_bytes * placed.blocks.stripes) ≤ rounded_to_blocks (placed.blocks.key_bytes * placed.blocks.stripes) =
       sectors_in_blocks (placed.blocks.key_bytes * placed.blocks.stripes) in
       let from : 2 * (len + 4096) ≤ area.start = placed.from in
@@ -66,7 +66,7 @@ module _ (told : ToldLaws) (j k : Value) (like n : ℕ) (area : Area) (x : Seals
         place = x.place;
         key_length = same_Some (length key) needs.key_bytes (sym bytes.is ∙ ap (λ d. number_in 1 128 (inside_at outer.Top (codes "key_size") d)) object ∙ needs.slot.key_bytes_are);
         random_length = needs.count;
-        large = rw (same.0, same.1, placed.blocks.is) fits;
+        large = rw (same.key_bytes, same.stripes, placed.blocks.is) fits;
         behind = omega (arith, from, size);
         inside = placed.inside;
       }
@@ -75,18 +75,18 @@ module _ (told : ToldLaws) (j k : Value) (like n : ℕ) (area : Area) (x : Seals
   pub alike_place : (h total : ℕ) (payload : Data) (p : ℕ) → IsNewArea h total payload j like area → IsOfStripesOf k n p → IsOfNewKeyslot h total payload j like p
   alike_place h total payload p new at =
       let start : at.area.start ≡ area.start = same_start k n at.area area at.place x.place in
-      let same = told.stripes k n at.key_bytes at.stripes new.key_bytes new.stripes at.slot (x.stripes new.key_bytes new.stripes new.slot) in
+      let same = same_stripes k n at.key_bytes at.stripes new.key_bytes new.stripes at.slot (x.stripes new.key_bytes new.stripes new.slot) in
       record {
         area = area;
         is = new;
         at = subst (λ s. IsAt s (rounded_to_sectors (new.key_bytes * new.stripes)) p) start
-            (subst (λ s. IsAt at.area.start (rounded_to_sectors (new.key_bytes * s)) p) same.1
-            (subst (λ b. IsAt at.area.start (rounded_to_sectors (b * at.stripes)) p) same.0 at.at));
+            (subst (λ s. IsAt at.area.start (rounded_to_sectors (new.key_bytes * s)) p) same.stripes
+            (subst (λ b. IsAt at.area.start (rounded_to_sectors (b * at.stripes)) p) same.key_bytes at.at));
       }
 
 -- ---- an edit that didn't write it all
 
-module _ (laws : VolumeLaws) (v : List ℕ) (payload : Data) (copy : ChosenCopy) (x : IsChosenCopy v copy) (well : WellFormed v payload)
+module _ (v : List ℕ) (payload : Data) (copy : ChosenCopy) (x : IsChosenCopy v copy) (well : WellFormed v payload)
     (e : Edit) (random : List ℕ) (k : Value) (unrefused : IsUnrefused2 v payload e random)
     (edited : IsEdited (hdr_size (header_at v copy.header.hdr_offset)) (length v) payload e (keyslot_salt random) (content copy.meta) k) (w : List ℕ) where
   -- what it leaves
@@ -96,7 +96,7 @@ module _ (laws : VolumeLaws) (v : List ℕ) (payload : Data) (copy : ChosenCopy)
     record {
       place = copy.header.hdr_offset;
       value = content copy.meta;
-      metadata = metadata_here laws v payload copy x well;
+      metadata = metadata_here v payload copy x well;
       new = k;
       edited = edited;
       torn = torn;

@@ -1,11 +1,11 @@
 -- A keyslot that is removed of a LUKS2 volume: its area, and the copies beside it.
-use Rattle.std.proofs.Common.{◌≡◌, ◌↔◌, ℕ, ◌<◌, ◌≤◌, Bor, List, length, replicate, is_some, inl, inr, refl, sym, ◌∙◌, subst, arith}
+use Rattle.std.proofs.Common.{◌≡◌, ℕ, ◌<◌, ◌≤◌, Bor, List, length, replicate, is_some, inl, inr, refl, sym, ◌∙◌, subst, arith}
 use Rattle.std.proofs.lemmas.Bool.{cases_Bool, true≢false}
 use Rattle.serde_json.specs.Data.{Data as Value}
 use Rattle.luks_area.specs.declared.area.Area.{Area}
 use Rattle.luks_area.specs.Ranges.{part, IsAt, SameBut}
 use Rattle.luks_area.specs.RangeFacts.{same_but-then, same_but-wider}
-use Rattle.luks_head.specs.Header2.{header_at, hdr_size, IsSound}
+use Rattle.luks_head.specs.Header2.{header_at, hdr_size}
 use Rattle.luks_making.specs.Without.{without_slot}
 use Rattle.luks_meta.specs.Content.{area_len, content}
 use Rattle.luks_meta.specs.Faults.{object_at}
@@ -28,11 +28,11 @@ use Rattle.luks2_editing.specs.Prepared.{IsPrepared}
 use Rattle.luks2_editing.specs.Rewriting.{AreWrittenAnew}
 use Rattle.luks2_editing.proofs.LostFacts.{beside_first, beside_second, both_beside, lost_inside}
 use Rattle.luks_head.proofs.CopyFacts.{listed_at_least}
-use Rattle.luks2_editing.proofs.RenewalFacts.{metadata_here, prepared_unrefused, said, size_is, sound_here, written_after, VolumeLaws}
+use Rattle.luks2_editing.proofs.RenewalFacts.{metadata_here, prepared_unrefused, said, size_is, sound_here, written_after}
 
 -- ---- the keyslot's area
 
-module _ (laws : VolumeLaws) (v : List ℕ) (payload : Data) (copy : ChosenCopy) (x : IsChosenCopy v copy) (well : WellFormed v payload)
+module _ (v : List ℕ) (payload : Data) (copy : ChosenCopy) (x : IsChosenCopy v copy) (well : WellFormed v payload)
     (slot : ℕ) (passphrase : Bor (List ℕ)) (random : List ℕ) (numbered : slot < 32) (before : HasNoFaultBefore 12 v payload (Remove slot passphrase) random) where
   pub removal_passed : Passed (IsEditFault2 v payload (Remove slot passphrase) random) 12
   removal_passed = passed_from (IsEditFault2 v payload (Remove slot passphrase) random) 12 before.each
@@ -43,37 +43,36 @@ module _ (laws : VolumeLaws) (v : List ℕ) (payload : Data) (copy : ChosenCopy)
     used = elim (cases_Bool (is_some (object_at (content copy.meta) Keyslots slot))) [
       | inl some ↦ (numbered, some)
       | inr none ↦ absurd (removal_passed.none fault.NoSuchSlot (omega arith)
-          (said laws v payload copy x well (λ o j. IsAbsent j (Remove slot passphrase))
+          (said v payload copy x well (λ o j. IsAbsent j (Remove slot passphrase))
           (record { slot = slot; passphrase = passphrase.now; asked = (refl, refl); unused = λ used. true≢false (sym used.1 ∙ none) })))
     ];
-    inside = lost_inside laws v payload copy x well slot;
+    inside = lost_inside v payload copy x well slot;
   }
 
   module _ (area : Area) (is : IsKeyArea (content copy.meta) slot area) where
-    module _ (local : (v w : List ℕ) (o n : ℕ) → length v ≡ length w → 4096 ≤ n → hdr_size (header_at v o) ≤ n → part v o n ≡ part w o n → IsSound v o ↔ IsSound w o)
-        (new : Value) (made : new ≡ without_slot slot (content copy.meta)) (w y : List ℕ)
+    module _ (new : Value) (made : new ≡ without_slot slot (content copy.meta)) (w y : List ℕ)
         (ready : IsPrepared copy.header.seqid (area_len copy.meta) new random 128)
         (anew : AreWrittenAnew v copy.header.hdr_offset (Remove slot passphrase) random new w)
         (copies : SameBut (IsOfCopies copy.header.hdr_size) v w) (lost : SameBut (IsAt area.start area.len) w y) where
       anew_kept : AreWrittenAnew v copy.header.hdr_offset (Remove slot passphrase) random new y
       anew_kept =
-          let size : 16384 ≤ hdr_size (header_at v copy.header.hdr_offset) = listed_at_least (hdr_size (header_at v copy.header.hdr_offset)) (sound_here laws v payload copy x well).form.listed in
-          both_beside local v copy.header.hdr_offset (Remove slot passphrase) random new w y area.start area.len (omega (arith, size)) lost
-          (beside_first laws v payload copy x well slot area is) (beside_second laws v payload copy x well slot area is) anew
+          let size : 16384 ≤ hdr_size (header_at v copy.header.hdr_offset) = listed_at_least (hdr_size (header_at v copy.header.hdr_offset)) (sound_here v payload copy x well).form.listed in
+          both_beside v copy.header.hdr_offset (Remove slot passphrase) random new w y area.start area.len (omega (arith, size)) lost
+          (beside_first v payload copy x well slot area is) (beside_second v payload copy x well slot area is) anew
 
       rest_touched : SameBut (IsTouched (hdr_size (header_at v copy.header.hdr_offset)) (length v) payload (content copy.meta) (Remove slot passphrase)) v y
       rest_touched = same_but-then
-          (same_but-wider (λ p at. inl at) (subst (λ n. SameBut (IsOfCopies n) v w) (sym (size_is laws v payload copy x well)) copies))
+          (same_but-wider (λ p at. inl at) (subst (λ n. SameBut (IsOfCopies n) v w) (sym (size_is v payload copy x well)) copies))
           (same_but-wider (λ p at. inr (inr (record { area = area; is = is; at = at }))) lost)
 
       -- while it was overwritten
       pub torn_lost : Leftover2 v payload (Remove slot passphrase) random y
       torn_lost = inr (
-        prepared_unrefused laws v payload copy x well (Remove slot passphrase) random new removal_passed (λ salt. made) (λ salt k same. same ∙ sym made) refl (λ k same. same) (λ u. tt) ready,
+        prepared_unrefused v payload copy x well (Remove slot passphrase) random new removal_passed (λ salt. made) (λ salt k same. same ∙ sym made) refl (λ k same. same) (λ u. tt) ready,
         record {
           place = copy.header.hdr_offset;
           value = content copy.meta;
-          metadata = metadata_here laws v payload copy x well;
+          metadata = metadata_here v payload copy x well;
           new = new;
           edited = made;
           torn = inr (inr (inr (record { sealed = tt; first = anew_kept.first; second = anew_kept.second; rest = rest_touched })));
@@ -83,7 +82,7 @@ module _ (laws : VolumeLaws) (v : List ℕ) (payload : Data) (copy : ChosenCopy)
       -- once it was
       pub removed_after : part y area.start area.len ≡ replicate area.len 0 → After2 v payload (Remove slot passphrase) random y
       removed_after wiped =
-          written_after laws v payload copy x well (Remove slot passphrase) random new removal_passed (λ salt. made) (λ salt k same. same ∙ sym made) refl (λ k same. same) (λ u. tt) y
+          written_after v payload copy x well (Remove slot passphrase) random new removal_passed (λ salt. made) (λ salt k same. same ∙ sym made) refl (λ k same. same) (λ u. tt) y
           (λ a other.
           let begins = other.1 in
           let mine = is.1 in

@@ -19,7 +19,6 @@ use Rattle.luks_meta.specs.MetaFault.{Json}
 use Rattle.luks_reading.specs.declared.header.ChosenCopy.{ChosenCopy}
 use Rattle.luks_reading.specs.declared.report.Data.{Data}
 use Rattle.luks_reading.specs.Checked.{WellFormed}
-use Rattle.luks_reading.specs.FitsAndResolves.{FitsAndResolves}
 use Rattle.luks_reading.specs.Header.{json_at, IsChosenCopy}
 use Rattle.luks_edit.specs.declared.edit.Edit.{Edit}
 use Rattle.luks_edit.specs.declared.edit_fault.EditFault.{EditFault}
@@ -31,16 +30,10 @@ use Rattle.luks2_edits.specs.Leftovers.{IsTornAt}
 use Rattle.luks2_edits.specs.Metadata.{HasMetadata}
 use Rattle.luks2_edits.specs.Places.{IsOfCopies, IsTouched}
 use Rattle.luks2_edits.specs.Refused.{IsEditFault2, HasSaid, IsFull, IsMiscounted, IsUnrefused2, Need2}
-use Rattle.luks2_editing.specs.Prepared.{IsCopyWithin, IsPrepared, IsUnwritten}
+use Rattle.luks2_edits.proofs.VolumeLaws.{copy_sound, one_choice, one_value, well_formed_fits}
+use Rattle.luks2_editing.specs.Prepared.{AreCopiesWithin, IsPrepared, IsUnwritten}
 use Rattle.luks2_editing.specs.Replies.{EndsBy2}
 use Rattle.luks2_editing.specs.Rewriting.{AreWrittenAnew, IsRenewing, MayBeHalfWritten}
-
--- the laws of the crates below on which these facts rest
-pub record VolumeLaws : Type 0 where
-  pub only : (v : List ℕ) (b c : Choice) → Chosen v b → Chosen v c → b ≡ c
-  pub sound : (v : List ℕ) (o : ℕ) (copies : Copies) → Chosen v (luks2 o copies) → IsSound v o
-  pub value : (area : List ℕ) (i j : Value) → Json area i → Json area j → i ≡ j
-  pub fits : (v : List ℕ) (payload : Data) → WellFormed v payload → FitsAndResolves v payload
 
 -- the place of the copy that is chosen
 place_of : Choice → ℕ
@@ -65,20 +58,20 @@ zeros_are_bytes n i =
 
 -- ---- the copy that counts
 
-module _ (laws : VolumeLaws) (v : List ℕ) (payload : Data) (copy : ChosenCopy) (x : IsChosenCopy v copy) (well : WellFormed v payload) where
+module _ (v : List ℕ) (payload : Data) (copy : ChosenCopy) (x : IsChosenCopy v copy) (well : WellFormed v payload) where
   pub metadata_here : HasMetadata v copy.header.hdr_offset (content copy.meta)
   metadata_here = record { copies = copy.copies; chosen = x.chosen; holds = x.metadata.json }
 
   one_place : (q : ℕ) (c : Copies) → Chosen v (luks2 q c) → q ≡ copy.header.hdr_offset
   unfolding place_of
-  one_place q c y = ap place_of (laws.only v (luks2 q c) (luks2 copy.header.hdr_offset copy.copies) y x.chosen)
+  one_place q c y = ap place_of (one_choice v (luks2 q c) (luks2 copy.header.hdr_offset copy.copies) y x.chosen)
 
   -- what is said of the metadata that counts is said of this
   pub said_here : (says : ℕ → Value → Type 0) → HasSaid v says → says copy.header.hdr_offset (content copy.meta)
   said_here says s =
       let at : s.place ≡ copy.header.hdr_offset = one_place s.place s.metadata.copies s.metadata.chosen in
       let holds : Json (json_at v copy.header.hdr_offset) s.value = subst (λ q. Json (json_at v q) s.value) at s.metadata.holds in
-      let same : s.value ≡ content copy.meta = laws.value (json_at v copy.header.hdr_offset) s.value (content copy.meta) holds x.metadata.json in
+      let same : s.value ≡ content copy.meta = one_value (json_at v copy.header.hdr_offset) s.value (content copy.meta) holds x.metadata.json in
       subst (λ i. says copy.header.hdr_offset i) same (subst (λ q. says q s.value) at s.is)
 
   pub said : (says : ℕ → Value → Type 0) → says copy.header.hdr_offset (content copy.meta) → HasSaid v says
@@ -88,7 +81,7 @@ module _ (laws : VolumeLaws) (v : List ℕ) (payload : Data) (copy : ChosenCopy)
   size_is = x.header.hdr_size
 
   pub sound_here : IsSound v copy.header.hdr_offset
-  sound_here = laws.sound v copy.header.hdr_offset copy.copies x.chosen
+  sound_here = copy_sound v copy.header.hdr_offset copy.copies x.chosen
 
   pub len_here : area_len copy.meta ≡ hdr_size (header_at v copy.header.hdr_offset) - 4096
   len_here =
@@ -97,13 +90,13 @@ module _ (laws : VolumeLaws) (v : List ℕ) (payload : Data) (copy : ChosenCopy)
       x.area_len ∙ length-part_inside v (copy.header.hdr_offset + 4096) (hdr_size (header_at v copy.header.hdr_offset) - 4096) (omega (arith, least, inside))
 
   -- both copies lie in the volume
-  pub copy_within : IsCopyWithin copy.header (area_len copy.meta) (length v)
+  pub copy_within : AreCopiesWithin copy.header (area_len copy.meta) (length v)
   copy_within =
       let h : ℕ = hdr_size (header_at v copy.header.hdr_offset) in
       let least : 16384 ≤ h = listed_at_least h sound_here.form.listed in
       let size : h ≡ copy.header.hdr_size = size_is in
       let len : area_len copy.meta ≡ h - 4096 = len_here in
-      let behind : h + h ≤ length v = (laws.fits v payload well).fit.inside Head2 (record { start = h; len = h })
+      let behind : h + h ≤ length v = (well_formed_fits v payload well).fit.inside Head2 (record { start = h; len = h })
       (record { choice = luks2 copy.header.hdr_offset copy.copies; chosen = x.chosen; area = record { value = content copy.meta; holds = x.metadata.json; area = (refl, refl) } }) in
       record {
         size = omega (arith, least, size, len);

@@ -6,8 +6,9 @@ use Rattle.std.proofs.lemmas.List.{get_or-drop, get_or-replicate}
 use Rattle.serde_json.specs.Data.{Data as Value}
 use Rattle.luks_area.specs.Ranges.{part, IsAt, SameBut}
 use Rattle.luks_area.specs.RangeFacts.{get_or-part, part-same_but_at, same_but-then, same_but-wider}
-use Rattle.luks_head.specs.Header2.{header_at, hdr_size, IsSound}
-use Rattle.luks_head.specs.Written.{AreZeros, IsWrittenCopy}
+use Rattle.luks_head.specs.Header2.{header_at, hdr_size}
+use Rattle.luks_head.specs.Written.{AreZeros}
+use Rattle.luks_head.proofs.BinaryHeaderFacts.{written_is_sound}
 use Rattle.luks_head.specs.declared.bin2.Bin2.{Bin2}
 use Rattle.luks_making.specs.WrittenArea.{IsWrittenArea}
 use Rattle.luks_reading.specs.Header.{json_at}
@@ -19,8 +20,7 @@ use Rattle.luks2_editing.specs.NewCopy.{HasNewCopy, IsCopyPlace}
 use Rattle.luks2_editing.specs.Rewriting.{AreWrittenAnew, IsRenewing, IsRewriting, MayBeHalfWritten}
 
 -- a copy that was made of the old one's fields is written anew
-module _ (sound : (v : List ℕ) (o : ℕ) (h : Bin2) (json : List ℕ) → IsWrittenCopy v o h json → IsSound v o)
-    (v : List ℕ) (e : Edit) (old : Bin2) (label random : List ℕ) (j : Value) (json : List ℕ) (is : IsRewriting v e old label j json) where
+module _ (v : List ℕ) (e : Edit) (old : Bin2) (label random : List ℕ) (j : Value) (json : List ℕ) (is : IsRewriting v e old label j json) where
   module _ (w : List ℕ) (q : ℕ) (new : HasNewCopy old label (copy_salt random q) json w q) where
     rest_zeros : AreZeros (header_at w q) 480 512
     rest_zeros k low high =
@@ -48,7 +48,7 @@ module _ (sound : (v : List ℕ) (o : ℕ) (h : Bin2) (json : List ℕ) → IsWr
     pub written_anew : IsWrittenAnew v old.hdr_offset e random j w q
     written_anew = record {
       renewed = record {
-        sound = sound w q new.header json new.written;
+        sound = written_is_sound w q new.header json new.written;
         size = written_size ∙ sym is.header.hdr_size;
         number = new.written.header.fields.seqid ∙ new.fields.seqid ∙ ap (λ n. n + 1) (sym is.header.seqid);
         label = new.written.header.fields.label ∙ new.fields.own_label ∙ is.label_is;
@@ -129,8 +129,7 @@ own_is_place old v e label j json is = record { listed = is.listed; second = is.
 
 -- ---- the two writes
 
-module _ (sound : (v : List ℕ) (o : ℕ) (h : Bin2) (json : List ℕ) → IsWrittenCopy v o h json → IsSound v o)
-    (v : List ℕ) (e : Edit) (old : Bin2) (label random : List ℕ) (j : Value) (json : List ℕ) (is : IsRewriting v e old label j json) (size : 4096 + length json ≡ old.hdr_size) where
+module _ (v : List ℕ) (e : Edit) (old : Bin2) (label random : List ℕ) (j : Value) (json : List ℕ) (is : IsRewriting v e old label j json) (size : 4096 + length json ≡ old.hdr_size) where
   h_is : hdr_size (header_at v old.hdr_offset) ≡ old.hdr_size
   h_is = is.header.hdr_size
 
@@ -154,16 +153,16 @@ module _ (sound : (v : List ℕ) (o : ℕ) (h : Bin2) (json : List ℕ) → IsWr
     pub half_done : MayBeHalfWritten v old.hdr_offset e random j u x
     half_done = inr (record {
       other = subst (λ n. IsWrittenAnew v old.hdr_offset e random j x (other_place n old.hdr_offset)) (sym h_is)
-          (written_anew sound v e old label random j json is x (other_place old.hdr_size old.hdr_offset) other_stays);
+          (written_anew v e old label random j json is x (other_place old.hdr_size old.hdr_offset) other_stays);
       rest = subst (λ n. SameBut (IsOfCopies n) u x) (sym h_is) both_rest;
     })
 
     -- after both
     pub all_done : HasNewCopy old label (copy_salt random old.hdr_offset) json x old.hdr_offset → AreWrittenAnew v old.hdr_offset e random j x
     all_done own =
-        let mine : IsWrittenAnew v old.hdr_offset e random j x old.hdr_offset = written_anew sound v e old label random j json is x old.hdr_offset own in
+        let mine : IsWrittenAnew v old.hdr_offset e random j x old.hdr_offset = written_anew v e old label random j json is x old.hdr_offset own in
         let theirs : IsWrittenAnew v old.hdr_offset e random j x (other_place old.hdr_size old.hdr_offset) =
-        written_anew sound v e old label random j json is x (other_place old.hdr_size old.hdr_offset) other_stays in
+        written_anew v e old label random j json is x (other_place old.hdr_size old.hdr_offset) other_stays in
         elim (places_of old.hdr_size old.hdr_offset) [
           | at_start zero at ↦ record {
             first = subst (λ q. IsWrittenAnew v old.hdr_offset e random j x q) zero mine;

@@ -25,11 +25,11 @@ use Rattle.luks_edit.specs.declared.edit_fault.EditFault.TheVariants as fault
 use Rattle.luks2_edits.specs.Edited.{stripes_random, HoldsKey}
 use Rattle.luks2_edits.specs.Leftovers.{IsTornAt}
 use Rattle.luks2_edits.specs.Places.{IsOfCopies, IsOfSealed}
+use Rattle.luks2_edits.proofs.ToldFacts.{in_between}
 use Rattle.luks2_editing.specs.Rewriting.{AreWrittenAnew}
 use Rattle.luks2_editing.specs.Sealed.{IsOfStripes, IsPlanFault, IsReadyPlan, MayBeHalfSealed}
 use Rattle.luks2_editing.specs.SealedKeyslot.{IsKeyslotWritten, IsOfStripesOf, IsSealable, IsSealing, IsUnsealed}
 use Rattle.luks2_editing.proofs.KeyAreaFacts.{area_of_object}
-use Rattle.luks2_editing.proofs.ToldFacts.{ToldLaws}
 
 -- what follows of two facts where a call succeeds
 pub on_ok_both : {T E P Q R : Type 0} (r : Result T E) → (P → Q → R) → OnOk r P → OnOk r Q → OnOk r R
@@ -39,13 +39,13 @@ on_ok_both (Err e) step a b = tt
 -- ---- the numbers of a plan
 
 -- one is at least the least
-at_least_one : (told : ToldLaws) (d : Option Value) (n : ℕ) → number_in 1 4294967295 d ≡ Some n → 1 ≤ n
-at_least_one told d n e = (told.range 1 4294967295 n d e).from
+at_least_one : (d : Option Value) (n : ℕ) → number_in 1 4294967295 d ≡ Some n → 1 ≤ n
+at_least_one d n e = (in_between 1 4294967295 n d e).from
 
 -- the derivation has an iteration
-iterated : (told : ToldLaws) (d : Value) (a : Derivation) → IsLuks2Derivation d a → HasIterations a
-iterated told d (Pbkdf2 hash iterations salt) x = at_least_one told (member_at d outer.Kdf name.Iterations) iterations x.2
-iterated told d Argon2 x = tt
+iterated : (d : Value) (a : Derivation) → IsLuks2Derivation d a → HasIterations a
+iterated d (Pbkdf2 hash iterations salt) x = at_least_one (member_at d outer.Kdf name.Iterations) iterations x.2
+iterated d Argon2 x = tt
 
 -- ---- a plan of the keyslot
 
@@ -56,7 +56,7 @@ pub record IsPlanOf (k : Value) (n : ℕ) (plan : SlotPlan) : Type 0 where
   pub is : IsLuks2Plan k n object plan
   pub one : (m : ℕ) → IsDigestOf k n m → m ≡ is.digest.number
 
-module _ (told : ToldLaws) (h total : ℕ) (k : Value) (n : ℕ) (key random : List ℕ) (x : IsSealable h k n key random total) (plan : SlotPlan) (p : IsPlanOf k n plan) where
+module _ (h total : ℕ) (k : Value) (n : ℕ) (key random : List ℕ) (x : IsSealable h k n key random total) (plan : SlotPlan) (p : IsPlanOf k n plan) where
   object_is : p.object ≡ x.slot.object
   object_is = same_Some p.object x.slot.object (sym p.there.is ∙ x.slot.there.is)
 
@@ -83,9 +83,9 @@ module _ (told : ToldLaws) (h total : ℕ) (k : Value) (n : ℕ) (key random : L
       let inside : x.area.start + x.area.len ≤ total = x.inside in
       let behind = x.behind in
       record {
-        iterations = iterated told p.object plan.derivation p.is.derivation;
+        iterations = iterated p.object plan.derivation p.is.derivation;
         key_length = x.key_length ∙ sym bytes;
-        some_stripes = at_least_one told (member_at p.object outer.Af name.Stripes) plan.stripes p.is.stripes;
+        some_stripes = at_least_one (member_at p.object outer.Af name.Stripes) plan.stripes p.is.stripes;
         random_length = rw (bytes, stripes) x.random_length;
         sectors = rw (bytes, stripes, len) x.large;
         inside = omega (arith, start, len, inside);

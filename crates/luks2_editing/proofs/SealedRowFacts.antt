@@ -5,8 +5,6 @@ use Rattle.serde_json.specs.Data.{Data as Value}
 use Rattle.serde_json.specs.Written.{compact_text}
 use Rattle.luks_head.specs.Header2.{header_at, hdr_size, seqid}
 use Rattle.luks_making.specs.Conditions.{HasPbkdf2}
-use Rattle.luks_making.specs.Naming.{IsDigestOf}
-use Rattle.luks_meta.specs.Accepted.{IsMeta}
 use Rattle.luks_meta.specs.Content.{area_len, content}
 use Rattle.luks_reading.specs.declared.header.ChosenCopy.{ChosenCopy}
 use Rattle.luks_reading.specs.declared.report.Data.{Data}
@@ -17,26 +15,18 @@ use Rattle.luks_edit.specs.declared.edit_fault.EditFault.TheVariants as fault
 use Rattle.luks_edit.specs.RowFacts.{first_of_row, next, none_at_all, passed_from, Passed}
 use Rattle.luks2_edits.specs.Edited.{members_of, IsEdited}
 use Rattle.luks2_edits.specs.Refused.{IsEditFault2, HasSaid, IsFull, IsMiscounted, IsUnrefused2, Need2, NeedsLike}
-use Rattle.luks2_judging.specs.Salts.{HasOneDigest}
+use Rattle.luks2_edits.proofs.ToldFacts.{need_once}
+use Rattle.luks2_edits.proofs.SealFacts.{opened_pbkdf2, opened_plan}
+use Rattle.luks2_edits.proofs.VolumeLaws.{one_digest}
+use Rattle.luks2_judging.proofs.EditedFacts.{texts_as_long}
 use Rattle.luks2_editing.specs.declared.sealed_metadata.Sealing.{Sealing}
 use Rattle.luks2_editing.specs.MadeMetadata.{like_of, IsMadeBy, IsSealingEdit}
 use Rattle.luks2_editing.specs.Prepared.{IsPrepared, IsUnprepared}
 use Rattle.luks2_editing.specs.Replies.{EndsBy2}
 use Rattle.luks2_editing.proofs.MadeMetadataFacts.{asked_need, made_edited}
-use Rattle.luks2_editing.proofs.OpenedFacts.{opened_kdf, opened_plan, HasOpenPlan}
-use Rattle.luks2_editing.proofs.RenewalFacts.{len_here, metadata_here, said, said_here, VolumeLaws}
-use Rattle.luks2_editing.proofs.ToldFacts.{ToldLaws}
+use Rattle.luks2_editing.proofs.RenewalFacts.{len_here, metadata_here, said, said_here}
 
--- the laws of the crates below on which these facts rest
-pub record SealingLaws : Type 0 where
-  pub volume : VolumeLaws
-  pub told : ToldLaws
-  pub digest : (area : List ℕ) (j : Value) → IsMeta area j → (n m k : ℕ) → IsDigestOf j n m → IsDigestOf j n k → m ≡ k
-  pub salts : (h total : ℕ) (payload : Data) (e : Edit) (a b : List ℕ) (j x y : Value)
-      → IsBytes a → IsBytes b → length a ≡ length b → HasOneDigest j
-      → IsEdited h total payload e a j x → IsEdited h total payload e b j y → length (compact_text x) ≡ length (compact_text y)
-
-module _ (laws : SealingLaws) (v : List ℕ) (payload : Data) (e : Edit) (random : List ℕ) (copy : ChosenCopy) (sealing : Sealing)
+module _ (v : List ℕ) (payload : Data) (e : Edit) (random : List ℕ) (copy : ChosenCopy) (sealing : Sealing)
     (x : IsSealingEdit v payload e random copy sealing) where
   -- the metadata with a salt is what the edit makes with it
   pub edited_by : (salt : List ℕ) (new : Value) → IsMadeBy sealing.keyslot (members_of sealing.iterations salt sealing.area) (content copy.meta) new
@@ -57,23 +47,23 @@ module _ (laws : SealingLaws) (v : List ℕ) (payload : Data) (e : Edit) (random
     need = asked_need e (content copy.meta) sealing.keyslot sealing.iterations n x.asked needs
 
     len_is : area_len copy.meta ≡ hdr_size (header_at v copy.header.hdr_offset) - 4096
-    len_is = len_here laws.volume v payload copy x.chosen x.well
+    len_is = len_here v payload copy x.chosen x.well
 
     numbered_of : copy.header.seqid + 1 < 2 ^ 64 → HasSaid v (λ o j. seqid (header_at v o) + 1 ≡ 2 ^ 64) → ⊥
     numbered_of low bad =
         let is : seqid (header_at v copy.header.hdr_offset) ≡ copy.header.seqid = x.chosen.header.seqid in
         let high : seqid (header_at v copy.header.hdr_offset) + 1 ≡ 2 ^ 64 =
-        said_here laws.volume v payload copy x.chosen x.well (λ o j. seqid (header_at v o) + 1 ≡ 2 ^ 64) bad in
+        said_here v payload copy x.chosen x.well (λ o j. seqid (header_at v o) + 1 ≡ 2 ^ 64) bad in
         omega (arith, is, high, low)
 
     -- with another salt the text is as long
     roomy_of : length (compact_text new) < area_len copy.meta → HasSaid v (λ o j. IsFull (hdr_size (header_at v o)) (length v) payload j e) → ⊥
     roomy_of low bad =
         let full : IsFull (hdr_size (header_at v copy.header.hdr_offset)) (length v) payload (content copy.meta) e =
-        said_here laws.volume v payload copy x.chosen x.well (λ o j. IsFull (hdr_size (header_at v o)) (length v) payload j e) bad in
+        said_here v payload copy x.chosen x.well (λ o j. IsFull (hdr_size (header_at v o)) (length v) payload j e) bad in
         let same : length (compact_text full.new) ≡ length (compact_text new) =
-        laws.salts (hdr_size (header_at v copy.header.hdr_offset)) (length v) payload e full.salt salt (content copy.meta) full.new new
-        full.salt_bytes bytes (full.salt_length ∙ sym long) (record { one = laws.digest (json_at v copy.header.hdr_offset) (content copy.meta) x.chosen.metadata })
+        texts_as_long (hdr_size (header_at v copy.header.hdr_offset)) (length v) payload e full.salt salt (content copy.meta) full.new new
+        full.salt_bytes bytes (full.salt_length ∙ sym long) (record { one = one_digest (json_at v copy.header.hdr_offset) (content copy.meta) x.chosen.metadata })
         full.edited edited in
         let high : hdr_size (header_at v copy.header.hdr_offset) - 4096 ≤ length (compact_text full.new) = full.full in
         let len : area_len copy.meta ≡ hdr_size (header_at v copy.header.hdr_offset) - 4096 = len_is in
@@ -81,8 +71,8 @@ module _ (laws : SealingLaws) (v : List ℕ) (payload : Data) (e : Edit) (random
 
     counted_of : length random ≡ n → HasSaid v (λ o j. IsMiscounted j e random) → ⊥
     counted_of count bad =
-        let other : IsMiscounted (content copy.meta) e random = said_here laws.volume v payload copy x.chosen x.well (λ o j. IsMiscounted j e random) bad in
-        other.other (count ∙ laws.told.need (content copy.meta) e n other.need need other.is)
+        let other : IsMiscounted (content copy.meta) e random = said_here v payload copy x.chosen x.well (λ o j. IsMiscounted j e random) bad in
+        other.other (count ∙ need_once (content copy.meta) e n other.need need other.is)
 
     past_number : copy.header.seqid + 1 < 2 ^ 64 → Passed (IsEditFault2 v payload e random) 13
     past_number low = next (IsEditFault2 v payload e random) fault.SeqExhausted refl passed (numbered_of low)
@@ -103,12 +93,12 @@ module _ (laws : SealingLaws) (v : List ℕ) (payload : Data) (e : Edit) (random
     pub unprepared_ends : (f : EditFault) → IsUnprepared copy.header.seqid (area_len copy.meta) new random n f → EndsBy2 payload v e random f v
     unprepared_ends fault.SeqExhausted bad = (
       first_of_row (IsEditFault2 v payload e random) fault.SeqExhausted refl passed
-          (said laws.volume v payload copy x.chosen x.well (λ o j. seqid (header_at v o) + 1 ≡ 2 ^ 64) (ap (λ n. n + 1) x.chosen.header.seqid ∙ bad)),
+          (said v payload copy x.chosen x.well (λ o j. seqid (header_at v o) + 1 ≡ 2 ^ 64) (ap (λ n. n + 1) x.chosen.header.seqid ∙ bad)),
       refl,
     )
     unprepared_ends fault.MetadataFull bad = (
       first_of_row (IsEditFault2 v payload e random) fault.MetadataFull refl (past_number bad.numbered)
-          (said laws.volume v payload copy x.chosen x.well (λ o j. IsFull (hdr_size (header_at v o)) (length v) payload j e) (record {
+          (said v payload copy x.chosen x.well (λ o j. IsFull (hdr_size (header_at v o)) (length v) payload j e) (record {
             salt = salt;
             salt_bytes = bytes;
             salt_length = long;
@@ -120,7 +110,7 @@ module _ (laws : SealingLaws) (v : List ℕ) (payload : Data) (e : Edit) (random
     )
     unprepared_ends fault.RandomLength bad = (
       first_of_row (IsEditFault2 v payload e random) fault.RandomLength refl (past_room bad.numbered bad.room)
-          (said laws.volume v payload copy x.chosen x.well (λ o j. IsMiscounted j e random) (record { need = n; is = need; other = bad.other })),
+          (said v payload copy x.chosen x.well (λ o j. IsMiscounted j e random) (record { need = n; is = need; other = bad.other })),
       refl,
     )
     unprepared_ends fault.Memory bad = refl
@@ -128,15 +118,9 @@ module _ (laws : SealingLaws) (v : List ℕ) (payload : Data) (e : Edit) (random
 
 -- ---- the keyslot like which it is sealed
 
-module _ (laws : VolumeLaws) (v : List ℕ) (payload : Data) (e : Edit) (random : List ℕ) (copy : ChosenCopy) (sealing : Sealing)
+module _ (v : List ℕ) (payload : Data) (e : Edit) (random : List ℕ) (copy : ChosenCopy) (sealing : Sealing)
     (x : IsSealingEdit v payload e random copy sealing) where
   -- it was opened, so its key is derived by PBKDF2
-  pub opened_pbkdf2 : like_of sealing.keyslot < 32 → HasPbkdf2 (content copy.meta) (like_of sealing.keyslot)
-  opened_pbkdf2 small =
-      let plan : HasOpenPlan (content copy.meta) (like_of sealing.keyslot) =
-      opened_plan laws v copy.header.hdr_offset (content copy.meta) (like_of sealing.keyslot) x.passphrase x.key (metadata_here laws v payload copy x.chosen x.well) x.opened in
-      record {
-        object = plan.object;
-        there = record { numbered = refl; named = small; is = plan.there };
-        derived = opened_kdf (content copy.meta) (like_of sealing.keyslot) plan;
-      }
+  pub like_pbkdf2 : HasPbkdf2 (content copy.meta) (like_of sealing.keyslot)
+  like_pbkdf2 = opened_pbkdf2 v copy.header.hdr_offset (content copy.meta) (like_of sealing.keyslot)
+      (opened_plan v copy.header.hdr_offset (content copy.meta) (like_of sealing.keyslot) x.passphrase x.key (metadata_here v payload copy x.chosen x.well) x.opened)

@@ -50,13 +50,13 @@ pub record IsGained (slot like : ℕ) (f : NewMembers) (j k : Value) : Type 0 wh
   pub says : SaysMembers added.slot (slot_value added.slot)
 
 -- it has what is new in the keyslot `slot`, and all else as it was
-pub record IsRenewed (slot : ℕ) (f : NewMembers) (j k : Value) : Type 0 where
+pub record IsSealedAgain (slot : ℕ) (f : NewMembers) (j k : Value) : Type 0 where
   pub is : k ≡ changed_slot slot f j
   pub changes : ChangesSlot slot f j k
 
 abbrev pub IsMadeBy : SealedSlot → NewMembers → Value → Value → Type 0
 IsMadeBy (Made slot like) f j k = IsGained slot like f j k
-IsMadeBy (Renewed slot) f j k = IsRenewed slot f j k
+IsMadeBy (Renewed slot) f j k = IsSealedAgain slot f j k
 
 -- ---- the edit
 

@@ -10,7 +10,7 @@ use Rattle.luks_edit.specs.declared.edit_fault.EditFault.TheVariants as fault
 
 -- the binary header is of a copy with a JSON area of `len` bytes; both copies lie inside a volume of
 -- `total` bytes
-pub record IsCopyWithin (header : Bin2) (len total : ℕ) : Type 0 where
+pub record AreCopiesWithin (header : Bin2) (len total : ℕ) : Type 0 where
   pub size : binary_header_size + len ≡ header.hdr_size
   pub place : header.hdr_offset ≤ header.hdr_size
   pub within : 2 * header.hdr_size ≤ total

@@ -5,7 +5,7 @@ use Rattle.luks_edit.specs.declared.edit.Done.{Done}
 use Rattle.luks_edit.specs.declared.edit.Edit.{Edit}
 use Rattle.luks_edit.specs.declared.edit.Edit.TheVariants.{Add, Change, Remove, Repair, Label}
 use Rattle.luks_edit.specs.declared.edit_fault.EditFault.{EditFault}
-use Rattle.luks_edit.specs.declared.edit_fault.EditFault.TheVariants as fault
+use Rattle.luks_edit.specs.Endings.{EndsBy}
 use Rattle.luks2_edits.specs.Edited.{After2, IsMadeIn}
 use Rattle.luks2_edits.specs.Leftovers.{Leftover2}
 use Rattle.luks2_edits.specs.Refused.{IsUnrefused2, Refusal2}
@@ -31,9 +31,7 @@ pub record IsDone2 (payload : Data) (v : List ℕ) (e : Edit) (random : List ℕ
 
 -- the edit of the volume `v` ends with this fault, and leaves `w`
 abbrev pub EndsBy2 : Data → List ℕ → Edit → List ℕ → EditFault → List ℕ → Type 0
-EndsBy2 payload v e random fault.Device w = Leftover2 v payload e random w
-EndsBy2 payload v e random fault.Memory w = w ≡ v
-EndsBy2 payload v e random f w = Refusal2 v payload e random f × (w ≡ v)
+EndsBy2 payload v e random f w = EndsBy (λ g. Refusal2 v payload e random g × (w ≡ v)) (w ≡ v) (Leftover2 v payload e random w) f
 
 -- the reply of the edit of the volume `v`, and the volume `w` that it leaves
 abbrev pub Replies2 : Data → List ℕ → Edit → List ℕ → Result Done EditFault → List ℕ → Type 0

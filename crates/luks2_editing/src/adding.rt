@@ -23,10 +23,8 @@ use crate::sealed_plan::write_keyslot;
 use crate::secrets::Secrets;
 use luks_area::Device;
 use luks_edit::{Done, EditFault};
-use luks_head::{chosen_copy_is_sound, one_choice};
-use luks_meta::{one_digest, one_value};
-use luks_reading::{ChosenCopy, well_formed_volume};
-use luks2_judging::{Addition, told_once};
+use luks_reading::ChosenCopy;
+use luks2_judging::Addition;
 use std::alloc::Global;
 
 /// Seals the key, which the old passphrase opens in the keyslot `by_`, under the new one in the area
@@ -66,12 +64,6 @@ pub(crate) fn add<D: Device>(
         addition.now.area
         → Replies2 payload (D.bytes device.old) e secrets.now.random.now result (D.bytes device.new) }
 {
-    one_choice();
-    one_value();
-    one_digest();
-    chosen_copy_is_sound();
-    well_formed_volume();
-    told_once();
     let keyslot = SealedSlot::Made {
         slot: addition.made,
         like: addition.by_,

@@ -23,11 +23,9 @@ use crate::sealed_plan::write_keyslot;
 use crate::secrets::Secrets;
 use luks_area::Device;
 use luks_edit::{Done, EditFault};
-use luks_head::{chosen_copy_is_sound, one_choice, soundness_is_local};
-use luks_meta::one_value;
-use luks_reading::{ChosenCopy, well_formed_volume};
+use luks_reading::ChosenCopy;
 use luks_steps::wipe_area;
-use luks2_judging::{Renewal, told_once};
+use luks2_judging::Renewal;
 use std::alloc::Global;
 
 /// Seals the key, which the old passphrase opens in the keyslot, under the new one in the keyslot's
@@ -67,12 +65,6 @@ pub(crate) fn change<D: Device>(
         → Replies2 payload (D.bytes device.old) e secrets.now.random.now result
         (D.bytes device.new) }
 {
-    one_choice();
-    one_value();
-    chosen_copy_is_sound();
-    soundness_is_local();
-    well_formed_volume();
-    told_once();
     let lost = lost_area(&copy.meta, renewal.slot, device.len())?;
     let sealing = Sealing {
         keyslot: SealedSlot::Renewed { slot: renewal.slot },

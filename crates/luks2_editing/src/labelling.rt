@@ -13,9 +13,7 @@ ghost use Rattle.luks2_editing.specs.Replies.{Replies2};
 use crate::rewriting::rewrite;
 use luks_area::Device;
 use luks_edit::{Done, EditFault};
-use luks_head::{chosen_copy_is_sound, one_choice};
-use luks_meta::one_value;
-use luks_reading::{ChosenCopy, well_formed_volume};
+use luks_reading::ChosenCopy;
 use std::alloc::Global;
 
 /// Writes both copies of the header anew from the one that counts, with this field for the label: the
@@ -45,10 +43,6 @@ pub(crate) fn set_label<D: Device>(
         → Replies2 payload (D.bytes device.old) (Label text) random.now
         result (D.bytes device.new) }
 {
-    one_choice();
-    one_value();
-    chosen_copy_is_sound();
-    well_formed_volume();
     rewrite(alloc, device, &copy.header, &copy.meta, label, random)?;
     Ok(Done { slot: None })
 }

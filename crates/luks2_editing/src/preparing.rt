@@ -2,7 +2,7 @@
 ghost use Rattle.std.specs.Prelude.{◌≢◌, ◌↔◌, IsTrue, IfOk, IfErr, OnOk};
 ghost use Rattle.luks_making.specs.WrittenArea.{IsWrittenArea};
 ghost use Rattle.luks_meta.specs.Content.{area_len, content};
-ghost use Rattle.luks2_editing.specs.Prepared.{IsAreaFault, IsCopyWithin, IsPrepared, IsUnprepared};
+ghost use Rattle.luks2_editing.specs.Prepared.{IsAreaFault, AreCopiesWithin, IsPrepared, IsUnprepared};
 
 use luks_edit::EditFault;
 use luks_head::Bin2;
@@ -26,8 +26,8 @@ pub(crate) fn prepared(
         (area_len meta.now) (content meta.now) random.now need) }
     ensures area { IfOk result (λ json.
         IsWrittenArea (area_len meta.now) (content meta.now) json.items) }
-    ensures within { OnOk result (IsCopyWithin header.now (area_len meta.now) total) }
-    ensures refused { IsCopyWithin header.now (area_len meta.now) total
+    ensures within { OnOk result (AreCopiesWithin header.now (area_len meta.now) total) }
+    ensures refused { AreCopiesWithin header.now (area_len meta.now) total
         → IfErr result (IsUnprepared header.now.seqid
         (area_len meta.now) (content meta.now) random.now need) }
     ensures kinds { IfErr result (λ f. f ≢ EditFault.Device) }
@@ -63,7 +63,7 @@ fn written_area(alloc: Global, meta: &Meta) -> Result<Vec<u8>, EditFault>
 /// Whether the binary header is of a copy with a JSON area of `len` bytes, and both copies lie inside
 /// a volume of `total` bytes.
 fn is_copy_within(header: &Bin2, len: usize, total: u64) -> bool
-    ensures { IsTrue result ↔ IsCopyWithin header.now len total }
+    ensures { IsTrue result ↔ AreCopiesWithin header.now len total }
 {
     header.hdr_size >= 4096
         && header.hdr_size - 4096 == len as u64

@@ -18,9 +18,8 @@ ghost use Rattle.luks2_editing.specs.Replies.{Replies2};
 use crate::rewriting::rewrite;
 use luks_area::{Area, Device};
 use luks_edit::{Done, EditFault};
-use luks_head::{chosen_copy_is_sound, one_choice, soundness_is_local};
-use luks_meta::{Meta, one_value};
-use luks_reading::{ChosenCopy, well_formed_volume};
+use luks_meta::Meta;
+use luks_reading::ChosenCopy;
 use luks_steps::wipe_area;
 use std::alloc::Global;
 
@@ -51,11 +50,6 @@ pub(crate) fn remove<D: Device>(
         → Replies2 payload (D.bytes device.old) (Remove slot passphrase) random.now
         result (D.bytes device.new) }
 {
-    one_choice();
-    one_value();
-    chosen_copy_is_sound();
-    soundness_is_local();
-    well_formed_volume();
     let area = lost_area(&copy.meta, slot, device.len())?;
     let meta = without_slot(alloc, &copy.meta, slot)?;
     rewrite(

@@ -12,9 +12,7 @@ ghost use Rattle.luks2_editing.specs.Replies.{Replies2};
 use crate::rewriting::rewrite;
 use luks_area::Device;
 use luks_edit::{Done, EditFault};
-use luks_head::{chosen_copy_is_sound, one_choice};
-use luks_meta::one_value;
-use luks_reading::{ChosenCopy, well_formed_volume};
+use luks_reading::ChosenCopy;
 use std::alloc::Global;
 
 /// Writes both copies of the header anew from the one that counts: the other copy first, each with a
@@ -40,10 +38,6 @@ pub(crate) fn repair<D: Device>(
         → HasNoFaultBefore 12 (D.bytes device.old) payload Repair random.now
         → Replies2 payload (D.bytes device.old) Repair random.now result (D.bytes device.new) }
 {
-    one_choice();
-    one_value();
-    chosen_copy_is_sound();
-    well_formed_volume();
     rewrite(
         alloc,
         device,

@@ -6,7 +6,7 @@ ghost use Rattle.luks_meta.specs.Content.{area_len, content};
 ghost use Rattle.luks_edit.specs.EditFaults.{is_edit_failure};
 ghost use Rattle.luks_edit.specs.declared.edit.Edit.{Edit as TheEdit};
 ghost use Rattle.luks2_edits.specs.Places.{IsOfCopies};
-ghost use Rattle.luks2_editing.specs.Prepared.{IsCopyWithin, IsPrepared, IsUnwritten};
+ghost use Rattle.luks2_editing.specs.Prepared.{AreCopiesWithin, IsPrepared, IsUnwritten};
 ghost use Rattle.luks2_editing.specs.Rewriting.{AreWrittenAnew, IsRenewing, MayBeHalfWritten};
 
 use crate::preparing::prepared;
@@ -41,7 +41,7 @@ pub(crate) fn rewrite<D: Device>(
         (D.failed device.old) (D.failed device.new) }
     ensures ready { OnOk result (IsPrepared header.now.seqid
         (area_len meta.now) (content meta.now) random.now 128) }
-    ensures refused { IsCopyWithin header.now (area_len meta.now) (D.size device.old)
+    ensures refused { AreCopiesWithin header.now (area_len meta.now) (D.size device.old)
         → IfErr result (IsUnwritten header.now.seqid
         (area_len meta.now) (content meta.now) random.now 128) }
     ensures same { D.tells → IfErr result (λ f. f ≢ EditFault.Device

@@ -11,23 +11,22 @@ ghost use Rattle.luks_edit.specs.declared.edit.Edit.{Edit as TheEdit};
 ghost use Rattle.luks2_edits.specs.Edited.{keyslot_salt, members_of, IsEdited};
 ghost use Rattle.luks2_edits.specs.Refused.{IsUnrefused2, NeedsLike};
 ghost use Rattle.luks2_judging.specs.Room.{IsPlaced};
-ghost use Rattle.luks2_editing.specs.MadeMetadata.{like_of, HasNumber, IsGained, IsMadeBy, IsRenewed, IsSealingEdit};
-ghost use Rattle.luks2_editing.specs.Prepared.{IsCopyWithin};
+ghost use Rattle.luks2_editing.specs.MadeMetadata.{like_of, HasNumber, IsGained, IsMadeBy, IsSealedAgain, IsSealingEdit};
+ghost use Rattle.luks2_editing.specs.Prepared.{AreCopiesWithin};
 ghost use Rattle.luks2_editing.specs.Replies.{EndsBy2};
 
 use crate::preparing::prepared;
 use crate::random::keyslot_salt;
 use luks_area::Area;
 use luks_edit::EditFault;
-use luks_head::{chosen_copy_is_sound, one_choice};
 use luks_making::{
     New, addition_keeps_the_rest, change_keeps_the_rest, made_keyslot_has_room, new_fits,
 };
-use luks_meta::{Cost, Meta, one_digest, one_value};
+use luks_meta::{Cost, Meta};
 use luks_new_meta::{changed_slot, with_slot};
-use luks_reading::{ChosenCopy, well_formed_volume};
+use luks_reading::ChosenCopy;
 use luks_slot::SlotFault;
-use luks2_judging::{salts_are_as_long, sealed_need, told_once};
+use luks2_judging::sealed_need;
 use std::alloc::Global;
 
 /// The keyslot that an edit seals.
@@ -91,7 +90,7 @@ pub(crate) fn new_metadata(
     ensures length { IfOk result (λ m. area_len m.meta ≡ area_len copy.now.meta) }
     ensures json { IfOk result (λ m.
         IsWrittenArea (area_len m.meta) (content m.meta) m.json.items) }
-    ensures within { IfOk result (λ m. IsCopyWithin copy.now.header (area_len m.meta) total) }
+    ensures within { IfOk result (λ m. AreCopiesWithin copy.now.header (area_len m.meta) total) }
     ensures numbered { OnOk result (copy.now.header.seqid + 1 < 2 ^ 64) }
     ensures counted { OnOk result (NeedsLike (content copy.now.meta)
         (like_of sealing.now.keyslot) (length random.now)) }
@@ -107,13 +106,6 @@ pub(crate) fn new_metadata(
         → IsSealingEdit v payload e random.now copy.now sealing.now → length v ≡ total
         → IfErr result (λ f. EndsBy2 payload v e random.now f v) }
 {
-    one_choice();
-    one_value();
-    one_digest();
-    chosen_copy_is_sound();
-    well_formed_volume();
-    salts_are_as_long();
-    told_once();
     let like = sealing.keyslot.like();
     if !has_pbkdf2(&copy.meta, like) {
         return Err(EditFault::Slot(SlotFault::Argon2));
@@ -190,7 +182,7 @@ fn gained(alloc: Global, meta: &Meta, slot: u8, like: u8, new: &New<'_>) -> Resu
 fn renewed(alloc: Global, meta: &Meta, slot: u8, new: &New<'_>) -> Result<Meta, EditFault>
     requires { CanSeal (area_len meta.now) (content meta.now) slot (new_members new.now) }
     ensures made { IfOk result (λ m.
-        IsRenewed slot (new_members new.now) (content meta.now) (content m)) }
+        IsSealedAgain slot (new_members new.now) (content meta.now) (content m)) }
     ensures length { IfOk result (λ m. area_len m ≡ area_len meta.now) }
     ensures memory { IfErr result (λ f. f ≡ EditFault.Memory) }
 {

@@ -8,7 +8,7 @@ ghost use Rattle.luks_reading.specs.declared.report.Data.{Data as Payload};
 ghost use Rattle.luks_edit.specs.EditFaults.{is_edit_failure};
 ghost use Rattle.luks_edit.specs.declared.edit.Edit.{Edit as TheEdit};
 ghost use Rattle.luks2_edits.specs.Leftovers.{IsTornAt};
-ghost use Rattle.luks2_editing.specs.Prepared.{IsCopyWithin};
+ghost use Rattle.luks2_editing.specs.Prepared.{AreCopiesWithin};
 ghost use Rattle.luks2_editing.specs.Rewriting.{IsRenewing};
 ghost use Rattle.luks2_editing.specs.SealedKeyslot.{IsKeyslotWritten, IsSealable};
 ghost use Rattle.luks2_editing.specs.SealedKeyslot.{IsSealing, IsUnsealed};
@@ -20,7 +20,6 @@ use luks_area::Device;
 use luks_edit::EditFault;
 use luks_head::Bin2;
 use luks_reading::luks2_plan;
-use luks2_judging::told_once;
 
 /// Seals the key in the area of the keyslot `n` of the new metadata, and then writes both copies
 /// anew with that metadata from the chosen one's binary header: the other one first. A flush follows
@@ -40,7 +39,7 @@ pub(crate) fn write_keyslot<D: Device>(
     requires numbered { chosen.now.seqid + 1 < 2 ^ 64 }
     requires json { IsWrittenArea (area_len made.now.meta) (content made.now.meta)
         made.now.json.items }
-    requires within { IsCopyWithin chosen.now (area_len made.now.meta) (D.size device.old) }
+    requires within { AreCopiesWithin chosen.now (area_len made.now.meta) (D.size device.old) }
     requires sealable { IsSealable chosen.now.hdr_size (content made.now.meta) n secrets.now.key.now
         secrets.now.random.now (D.size device.old) }
     ensures size { D.size device.new ≡ D.size device.old }
@@ -63,7 +62,6 @@ pub(crate) fn write_keyslot<D: Device>(
         → IsTornAt (D.bytes device.old) payload e secrets.now.random.now chosen.now.hdr_offset j
         (content made.now.meta) (D.bytes device.new) }
 {
-    told_once();
     let keyslot = made.meta.keyslot(n).unwrap();
     let number = made.meta.digest_of_keyslot(n).unwrap();
     let digest = made.meta.digest(number).unwrap();

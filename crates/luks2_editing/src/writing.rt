@@ -13,7 +13,7 @@ ghost use Rattle.luks2_editing.specs.Rewriting.{AreWrittenAnew, IsRewriting, May
 use crate::new_copy::new_header;
 use crate::random::copy_salt;
 use luks_area::{Device, DeviceFault};
-use luks_head::{Bin2, written_copies_are_chosen};
+use luks_head::Bin2;
 use luks2_copy::write_copy;
 
 /// Writes both copies anew from the chosen one's binary header, each with a flush: the other one
@@ -46,7 +46,6 @@ pub(crate) fn write_copies<D: Device>(
     ensures rest { D.tells
         → SameBut (IsOfCopies chosen.now.hdr_size) (D.bytes device.old) (D.bytes device.new) }
 {
-    written_copies_are_chosen();
     let other = other_place(chosen);
     write_new_copy(device, chosen, other, label, copy_salt(random, other), json)?;
     let place = chosen.hdr_offset;

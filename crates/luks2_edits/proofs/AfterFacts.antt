@@ -10,6 +10,7 @@ use Rattle.luks_area.specs.Ranges.{part}
 use Rattle.luks_head.specs.Header2.{hdr_size, header_at, IsUuidField}
 use Rattle.luks_head.specs.Selection.{luks2, Chosen}
 use Rattle.luks_head.specs.declared.selection.Copies.TheVariants.{InStep}
+use Rattle.luks_head.proofs.CopyFacts.{listed_at_least}
 use Rattle.luks_rules.specs.declared.table.Section.TheVariants.{Keyslots}
 use Rattle.luks_rules.specs.Faults.{object_at}
 use Rattle.luks_rules.specs.Reading.{decimal_in}
@@ -33,12 +34,13 @@ use Rattle.luks2_edits.specs.Places.{key_areas_end, IsNewArea, Loses}
 use Rattle.luks2_edits.specs.Refused.{HasNoNumber, IsNumberTaken, IsUnrefused2, NeedsLike}
 use Rattle.luks2_edits.proofs.CopyFacts.{both_chosen}
 use Rattle.luks2_edits.proofs.KeptFacts.{all_kept, says_itself, KeepsMetadata}
-use Rattle.luks2_edits.proofs.LowerLaws.{MakingLaws, VolumeLaws}
+use Rattle.luks2_edits.proofs.LowerLaws.{MakingLaws}
+use Rattle.luks2_edits.proofs.VolumeLaws.{copy_sound}
 use Rattle.luks2_edits.proofs.MetadataFacts.{lost_metadata, placed_metadata}
 use Rattle.luks2_edits.proofs.PlaceFacts.{left_bytes}
 use Rattle.luks2_edits.proofs.SealFacts.{can_seal, enough_random, fits_new, none_of, opened_pbkdf2, opened_plan, part_bytes, salt_length, under, IsOpened}
 use Rattle.luks2_edits.proofs.UniqueFacts.{unique_digests}
-use Rattle.luks2_edits.proofs.VolumeFacts.{areas_are, copy_of, layout_of, listed_at_least, HasCopy, IsLayout}
+use Rattle.luks2_edits.proofs.VolumeFacts.{areas_are, copy_of, layout_of, HasCopy, IsLayout}
 
 -- a keyslot that loses its area is named
 pub lost_is_named : (v : List ℕ) (e : Edit) (n : ℕ) → Loses e n → NamedKeyslots2 v e n
@@ -97,11 +99,11 @@ pub record IsReady (v : List ℕ) (o : ℕ) (j : Value) (n iterations : ℕ) (ra
 above : {g h : ℕ} → g ≡ h → 16384 ≤ g → 4096 ≤ h
 above same least = omega (arith, same, least)
 
-module _ (laws : VolumeLaws) (making : MakingLaws) (v : List ℕ) (o h : ℕ) (payload : Data) (random : List ℕ) (j k : Value) (before : HasCopy v o h j)
+module _ (making : MakingLaws) (v : List ℕ) (o h : ℕ) (payload : Data) (random : List ℕ) (j k : Value) (before : HasCopy v o h j)
     (layout : IsLayout h (length v) payload j) (n iterations : ℕ) (ready : IsReady v o j n iterations random) where
   head_size : 4096 ≤ h
   head_size =
-      let least : 16384 ≤ hdr_size (header_at v o) = listed_at_least (hdr_size (header_at v o)) (laws.sound v o before.copies before.chosen).form.listed in
+      let least : 16384 ≤ hdr_size (header_at v o) = listed_at_least (hdr_size (header_at v o)) (copy_sound v o before.copies before.chosen).form.listed in
       let size : hdr_size (header_at v o) ≡ h = before.size in
       above size least
 
@@ -195,47 +197,47 @@ was_opened v (Label text) random j w k sealed = tt
 pub enough_turns : (iterations : ℕ) → (iterations < 1000 → ⊥) → 1000 ≤ iterations
 enough_turns iterations few = elim (cases_lt iterations 1000) [ inl lt ↦ absurd (few lt) | inr past ↦ past ]
 
-pub edited_metadata : (laws : VolumeLaws) (making : MakingLaws) (v : List ℕ) (o : ℕ) (payload : Data) (e : Edit) (random : List ℕ) (j k : Value)
+pub edited_metadata : (making : MakingLaws) (v : List ℕ) (o : ℕ) (payload : Data) (e : Edit) (random : List ℕ) (j k : Value)
     → HasMetadata v o j → HasCopy v o (hdr_size (header_at v o)) j → HasRanges v e random → IsUnrefused2 v payload e random → WasOpened v e
     → IsEdited (hdr_size (header_at v o)) (length v) payload e (keyslot_salt random) j k
     → IsLayout (hdr_size (header_at v o)) (length v) payload j
     → KeepsMetadata (hdr_size (header_at v o)) (length v) payload (NamedKeyslots2 v e) j k
-edited_metadata laws making v o payload (Add by_ old new to iterations) random j k m before ranges free sealed is layout =
+edited_metadata making v o payload (Add by_ old new to iterations) random j k m before ranges free sealed is layout =
     let ready : IsReady v o j by_ iterations random = record {
-      opened = opened_plan laws v o j by_ old.now sealed.0 m sealed.1;
+      opened = opened_plan v o j by_ old.now sealed.0 m sealed.1;
       turns = enough_turns iterations (λ few. free.none Iterations few);
       ranged = ranges.iterations;
       small = ranges.size;
       random_bytes = ranges.random_bytes;
       met = λ need like other. free.none RandomLength (record { place = o; value = j; metadata = m; is = record { need = need; is = like; other = other } });
     } in
-    added_metadata laws making v o (hdr_size (header_at v o)) payload random j k before layout by_ iterations ready (λ n. IsMadeIn v to n) to
+    added_metadata making v o (hdr_size (header_at v o)) payload random j k before layout by_ iterations ready (λ n. IsMadeIn v to n) to
     (λ taken. free.none SlotTaken (record { place = o; value = j; metadata = m; is = taken }))
     (λ none. free.none NoFreeSlot (record { place = o; value = j; metadata = m; is = none }))
     is (record { place = o; value = j; metadata = m; is_new = is.is_new })
-edited_metadata laws making v o payload (Change slot old new iterations) random j k m before ranges free sealed is layout =
+edited_metadata making v o payload (Change slot old new iterations) random j k m before ranges free sealed is layout =
     let ready : IsReady v o j slot iterations random = record {
-      opened = opened_plan laws v o j slot old.now sealed.0 m sealed.1;
+      opened = opened_plan v o j slot old.now sealed.0 m sealed.1;
       turns = enough_turns iterations (λ few. free.none Iterations few);
       ranged = ranges.iterations;
       small = ranges.size;
       random_bytes = ranges.random_bytes;
       met = λ need like other. free.none RandomLength (record { place = o; value = j; metadata = m; is = record { need = need; is = like; other = other } });
     } in
-    changed_metadata laws making v o (hdr_size (header_at v o)) payload random j k before layout slot iterations ready (λ n. n ≡ slot) is refl
-edited_metadata laws making v o payload (Remove slot passphrase) random j k m before ranges free sealed is layout =
+    changed_metadata making v o (hdr_size (header_at v o)) payload random j k before layout slot iterations ready (λ n. n ≡ slot) is refl
+edited_metadata making v o payload (Remove slot passphrase) random j k m before ranges free sealed is layout =
     without_metadata making (hdr_size (header_at v o)) (length v) payload (λ n. n ≡ slot) slot j k refl is layout
-edited_metadata laws making v o payload Repair random j k m before ranges free sealed is layout =
+edited_metadata making v o payload Repair random j k m before ranges free sealed is layout =
     same_metadata (hdr_size (header_at v o)) (length v) payload (λ n. ⊥) j k is layout
-edited_metadata laws making v o payload (Label text) random j k m before ranges free sealed is layout =
+edited_metadata making v o payload (Label text) random j k m before ranges free sealed is layout =
     same_metadata (hdr_size (header_at v o)) (length v) payload (λ n. ⊥) j k is layout
 
 module _
-    (laws : VolumeLaws) (making : MakingLaws) (v : List ℕ) (payload : Data) (e : Edit) (random w : List ℕ) (well : WellFormed v payload)
+    (making : MakingLaws) (v : List ℕ) (payload : Data) (e : Edit) (random w : List ℕ) (well : WellFormed v payload)
     (ranges : HasRanges v e random) (free : IsUnrefused2 v payload e random) (a : After2 v payload e random w)
   where
     pub before : HasCopy v a.place (hdr_size (header_at v a.place)) a.value
-    before = copy_of laws v payload a.place a.value a.metadata well
+    before = copy_of v payload a.place a.value a.metadata well
 
     pub now_chosen : Chosen w (luks2 0 InStep)
     now_chosen =
@@ -248,19 +250,19 @@ module _
       copies = InStep;
       chosen = now_chosen;
       size = a.first.renewed.size;
-      uuid = subst IsUuidField (sym a.first.renewed.uuid) (copy_of laws v payload a.place a.value a.metadata well).uuid;
+      uuid = subst IsUuidField (sym a.first.renewed.uuid) (copy_of v payload a.place a.value a.metadata well).uuid;
       holds = a.first.renewed.json.json;
     }
 
     pub layout : IsLayout (hdr_size (header_at v a.place)) (length v) payload a.value
-    layout = layout_of laws v payload a.place a.value a.metadata well
+    layout = layout_of v payload a.place a.value a.metadata well
 
     -- all that an edit promises
     pub after_keeps : Keeps payload (NamedKeyslots2 v e) v w
     after_keeps =
         let h : ℕ = hdr_size (header_at v a.place) in
-        all_kept laws v w payload a.place 0 h a.value a.new (NamedKeyslots2 v e) before after a.rest.length_same a.first.renewed.uuid layout
-        (edited_metadata laws making v a.place payload e random a.value a.new a.metadata before ranges free (was_opened v e random a.value w a.new a.sealed) a.edited layout)
+        all_kept v w payload a.place 0 h a.value a.new (NamedKeyslots2 v e) before after a.rest.length_same a.first.renewed.uuid layout
+        (edited_metadata making v a.place payload e random a.value a.new a.metadata before ranges free (was_opened v e random a.value w a.new a.sealed) a.edited layout)
         (λ n b x. left_bytes v w h (length v) payload a.value e layout.fit a.rest (name.Segment n) b tt x)
         (λ m unnamed b x. left_bytes v w h (length v) payload a.value e layout.fit a.rest (name.Slot m) b (λ lost. unnamed (lost_is_named v e m lost)) x)
 
@@ -273,9 +275,9 @@ wiped_is Repair j w n wiped lost = absurd lost
 wiped_is (Label text) j w n wiped lost = absurd lost
 
 -- so it is zeros
-pub lost_zeros : (laws : VolumeLaws) (v : List ℕ) (payload : Data) (e : Edit) (random w : List ℕ) (n : ℕ) (a : Area) → WellFormed v payload
+pub lost_zeros : (v : List ℕ) (payload : Data) (e : Edit) (random w : List ℕ) (n : ℕ) (a : Area) → WellFormed v payload
     → After2 v payload e random w → Loses e n → AreaOf v payload (name.Slot n) a → part w a.start a.len ≡ replicate a.len 0
-lost_zeros laws v payload e random w n a well after_ lost is =
+lost_zeros v payload e random w n a well after_ lost is =
     wiped_is e after_.value w n after_.wiped lost a
-    (areas_are laws v payload after_.place (hdr_size (header_at v after_.place)) after_.value
-    (copy_of laws v payload after_.place after_.value after_.metadata well) (name.Slot n) a is)
+    (areas_are v payload after_.place (hdr_size (header_at v after_.place)) after_.value
+    (copy_of v payload after_.place after_.value after_.metadata well) (name.Slot n) a is)

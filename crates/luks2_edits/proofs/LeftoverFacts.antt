@@ -7,11 +7,12 @@ use Rattle.luks_head.specs.Selection.{luks1, luks2, nothing, Choice, Chosen, IsS
 use Rattle.luks_head.specs.Sizes.{IsListed}
 use Rattle.luks_head.specs.declared.selection.Copies.{Copies}
 use Rattle.luks_head.specs.declared.selection.Copies.TheVariants.{InStep, FirstNewer, SecondNewer, FirstOnly, SecondOnly}
+use Rattle.luks_head.proofs.CopyFacts.{listed_at_least}
 use Rattle.luks_reading.specs.declared.report.Data.{Data}
 use Rattle.luks_edit.specs.declared.edit.Edit.{Edit}
 use Rattle.luks2_edits.specs.Leftovers.{IsAllowed, IsNotStray}
-use Rattle.luks2_edits.proofs.LowerLaws.{VolumeLaws}
-use Rattle.luks2_edits.proofs.VolumeFacts.{listed_at_least, one_place}
+use Rattle.luks2_edits.proofs.VolumeLaws.{copy_sound, sound_at_copy}
+use Rattle.luks2_edits.proofs.VolumeFacts.{one_place}
 
 -- ---- numbers
 
@@ -39,13 +40,13 @@ out_of_order now there old number before = absurd (omega (arith, now, there, old
 header_of_copy : (v : List ℕ) (q : ℕ) → 4096 ≤ hdr_size (header_at v q) → part (copy_at v q) 0 4096 ≡ header_at v q
 header_of_copy v q long = part-part v q (hdr_size (header_at v q)) 0 4096 (omega (arith, long)) ∙ ap (λ p. part v p 4096) (omega arith)
 
-module _ (laws : VolumeLaws) (v w : List ℕ) (long : length w ≡ length v) where
+module _ (v w : List ℕ) (long : length w ≡ length v) where
   -- a copy that is the one that was there was sound
   pub was_sound : (q : ℕ) → copy_at w q ≡ copy_at v q → IsSound w q → IsSound v q
-  was_sound q same sound = (laws.copy w v q long same).0 sound
+  was_sound q same sound = (sound_at_copy w v q long same).0 sound
 
   pub is_sound : (q : ℕ) → copy_at w q ≡ copy_at v q → IsSound v q → IsSound w q
-  is_sound q same sound = (laws.copy w v q long same).1 sound
+  is_sound q same sound = (sound_at_copy w v q long same).1 sound
 
   -- and has its header
   pub same_header : (q : ℕ) → copy_at w q ≡ copy_at v q → IsSound w q → header_at w q ≡ header_at v q
@@ -56,14 +57,14 @@ module _ (laws : VolumeLaws) (v w : List ℕ) (long : length w ≡ length v) whe
 
 -- ---- the copies of a volume whose copy at `o` counts
 
-module _ (laws : VolumeLaws) (v : List ℕ) (o : ℕ) where
+module _ (v : List ℕ) (o : ℕ) where
   -- both copies have one size, and stand at 0 and there
   abbrev pub size_of : ℕ
   size_of = hdr_size (header_at v o)
 
   at_size : (b : Copies) → Chosen v (luks2 o b) → IsListed o → o ≡ size_of
   at_size b chosen listed =
-      let sound = laws.sound v o b chosen in
+      let sound = copy_sound v o b chosen in
       let least : 16384 ≤ o = listed_at_least o listed in
       sym (sound.form.second (λ none. absurd (omega (arith, none, least))))
 
@@ -117,24 +118,24 @@ pub record Left (w : List ℕ) (h : ℕ) : Type 0 where
   pub at : (place ≡ 0) ⊎ (place ≡ h)
 
 module _
-    (laws : VolumeLaws) (v : List ℕ) (payload : Data) (e : Edit) (random w : List ℕ) (long : length w ≡ length v)
+    (v : List ℕ) (payload : Data) (e : Edit) (random w : List ℕ) (long : length w ≡ length v)
     (stray : IsNotStray v payload e random w)
   where
     abbrev pub half : ℕ
     half = hdr_size (header_at v stray.place)
 
     allowed_place : (q : ℕ) (a : IsAllowed v payload e random w q) → a.place ≡ stray.place
-    allowed_place q a = one_place laws v stray.place a.place stray.copies a.metadata.copies stray.chosen a.metadata.chosen
+    allowed_place q a = one_place v stray.place a.place stray.copies a.metadata.copies stray.chosen a.metadata.chosen
 
     pub first_size_left : IsSound w 0 → hdr_size (header_at w 0) ≡ half
     first_size_left sound = elim (stray.known 0 (inl refl) sound) [
-      | inl same ↦ ap (λ b. hdr_size b) (same_header laws v w long 0 same sound)
-          ∙ first_size laws v stray.place stray.copies stray.chosen (was_sound laws v w long 0 same sound)
+      | inl same ↦ ap (λ b. hdr_size b) (same_header v w long 0 same sound)
+          ∙ first_size v stray.place stray.copies stray.chosen (was_sound v w long 0 same sound)
       | inr written ↦ written.renewed.size ∙ ap (λ q. hdr_size (header_at v q)) (allowed_place 0 written)
     ]
 
     half_listed : IsListed half
-    half_listed = (laws.sound v stray.place stray.copies stray.chosen).form.listed
+    half_listed = (copy_sound v stray.place stray.copies stray.chosen).form.listed
 
     enough : 592 ≤ length w
     enough = rw long stray.chosen.0.long
@@ -165,32 +166,32 @@ module _
 
     module _ (was : copy_at w stray.place ≡ copy_at v stray.place) where
       old_sound : IsSound w stray.place
-      old_sound = is_sound laws v w long stray.place was (laws.sound v stray.place stray.copies stray.chosen)
+      old_sound = is_sound v w long stray.place was (copy_sound v stray.place stray.copies stray.chosen)
 
       old_number : seqid (header_at w stray.place) ≡ seqid (header_at v stray.place)
-      old_number = ap (λ b. seqid b) (same_header laws v w long stray.place was old_sound)
+      old_number = ap (λ b. seqid b) (same_header v w long stray.place was old_sound)
 
       -- the other one doesn't count as it was
       pub not_other : (p : ℕ) (b : Copies) → Chosen w (luks2 p b) → copy_at w p ≡ copy_at v p
           → (stray.place ≡ 0) × (p ≡ half) × ((p ≡ 0) → ⊥) ⊎ ((stray.place ≡ half) × (p ≡ 0) × ((stray.place ≡ 0) → ⊥)) → ⊥
       not_other p b c same (inl x) =
-          let sound : IsSound w p = laws.sound w p b c in
-          let number : seqid (header_at w p) ≡ seqid (header_at v p) = ap (λ d. seqid d) (same_header laws v w long p same sound) in
-          let now : seqid (header_at w 0) < seqid (header_at w p) = second_counts laws w p b c x.2 (subst (IsSound w) x.0 old_sound) in
+          let sound : IsSound w p = copy_sound w p b c in
+          let number : seqid (header_at w p) ≡ seqid (header_at v p) = ap (λ d. seqid d) (same_header v w long p same sound) in
+          let now : seqid (header_at w 0) < seqid (header_at w p) = second_counts w p b c x.2 (subst (IsSound w) x.0 old_sound) in
           let first_ : seqid (header_at w 0) ≡ seqid (header_at v 0) = subst (λ q. seqid (header_at w q) ≡ seqid (header_at v q)) x.0 old_number in
           let before : seqid (header_at v half) ≤ seqid (header_at v 0) =
-          first_counts laws v stray.place stray.copies stray.chosen x.0 (subst (IsSound v) x.1 (was_sound laws v w long p same sound)) in
+          first_counts v stray.place stray.copies stray.chosen x.0 (subst (IsSound v) x.1 (was_sound v w long p same sound)) in
           let there : seqid (header_at v p) ≡ seqid (header_at v half) = ap (λ q. seqid (header_at v q)) x.1 in
           in_order now first_ number there before
       not_other p b c same (inr x) =
-          let sound : IsSound w p = laws.sound w p b c in
+          let sound : IsSound w p = copy_sound w p b c in
           let sound0 : IsSound w 0 = subst (IsSound w) x.1 sound in
           let same0 : copy_at w 0 ≡ copy_at v 0 = subst (λ q. copy_at w q ≡ copy_at v q) x.1 same in
-          let number : seqid (header_at w 0) ≡ seqid (header_at v 0) = ap (λ d. seqid d) (same_header laws v w long 0 same0 sound0) in
+          let number : seqid (header_at w 0) ≡ seqid (header_at v 0) = ap (λ d. seqid d) (same_header v w long 0 same0 sound0) in
           let size : hdr_size (header_at w p) ≡ half = subst (λ q. hdr_size (header_at w q) ≡ half) (sym x.1) (first_size_left sound0) in
           let now : seqid (header_at w (hdr_size (header_at w p))) ≤ seqid (header_at w 0) =
-          first_counts laws w p b c x.1 (subst (IsSound w) (x.0 ∙ sym size) old_sound) in
+          first_counts w p b c x.1 (subst (IsSound w) (x.0 ∙ sym size) old_sound) in
           let before : seqid (header_at v 0) < seqid (header_at v stray.place) =
-          second_counts laws v stray.place stray.copies stray.chosen x.2 (was_sound laws v w long 0 same0 sound0) in
+          second_counts v stray.place stray.copies stray.chosen x.2 (was_sound v w long 0 same0 sound0) in
           let there : seqid (header_at w (hdr_size (header_at w p))) ≡ seqid (header_at w stray.place) = ap (λ q. seqid (header_at w q)) (size ∙ sym x.0) in
           out_of_order now there old_number number before

@@ -1,4 +1,5 @@
 mod AfterFacts
+pub mod AlikeFacts
 mod CopyFacts
 mod GapFacts
 mod KeptAnswers
@@ -9,11 +10,12 @@ mod MetadataFacts
 mod OpenFacts
 mod OpenedFacts
 mod OpensFacts
-mod PlaceFacts
+pub mod PlaceFacts
 mod RefusalFacts
-mod SealFacts
+pub mod SealFacts
+pub mod ToldFacts
 mod TornFacts
 mod TouchedFacts
 mod UniqueFacts
-mod VolumeFacts
+pub mod VolumeFacts
 pub mod VolumeLaws

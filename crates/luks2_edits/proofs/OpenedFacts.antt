@@ -19,15 +19,12 @@ use Rattle.luks_reading.specs.Header.{json_at}
 use Rattle.luks_reading.specs.Plans.{IsLuks2Digest}
 use Rattle.luks2_edits.specs.Edited.{HoldsKey}
 use Rattle.luks2_edits.specs.Metadata.{HasMetadata, IsNewKeyslot}
-use Rattle.luks2_edits.proofs.LowerLaws.{VolumeLaws}
 use Rattle.luks2_edits.proofs.MetadataFacts.{digest_moves, some_same}
-use Rattle.luks2_edits.proofs.OpenFacts.{holds_opens, KeyslotLaws, SaysLike}
+use Rattle.luks2_edits.proofs.AlikeFacts.{SaysLike}
+use Rattle.luks2_edits.proofs.OpenFacts.{holds_opens, KeyslotLaws}
 use Rattle.luks2_edits.proofs.SealFacts.{opened_meets, opened_plan, IsOpened}
+use Rattle.luks2_edits.proofs.VolumeLaws.{one_digest}
 use Rattle.luks2_edits.proofs.VolumeFacts.{copy_meta, HasCopy, IsLayout}
-
--- one digest at most names a keyslot of accepted metadata
-abbrev pub OneDigest : Type 0
-OneDigest = (area : List ℕ) (j : Value) → IsMeta area j → (n m k : ℕ) → IsDigestOf j n m → IsDigestOf j n k → m ≡ k
 
 -- the keyslot that an addition makes is one
 pub one_new : (j : Value) (to : Option ℕ) (a b : ℕ) → IsNewKeyslot j to a → IsNewKeyslot j to b → a ≡ b
@@ -61,23 +58,23 @@ like_changed d was f now new old is says derived = record {
 }
 
 module _
-    (laws : VolumeLaws) (keyslots : KeyslotLaws) (once : OneDigest) (v w : List ℕ) (payload : Data) (o p h : ℕ) (j k : Value) (opener n : ℕ)
+    (keyslots : KeyslotLaws) (v w : List ℕ) (payload : Data) (o p h : ℕ) (j k : Value) (opener n : ℕ)
     (old new key random : List ℕ) (m : HasMetadata v o j) (opened : Answer v opener old (opens key)) (before : HasCopy v o h j)
     (was : IsLayout h (length v) payload j) (after : HasCopy w p h k) (layout : IsLayout h (length w) payload k) (y : HoldsKey w k n new key random)
   where
     abbrev plan_of : IsOpened v o j opener
-    plan_of = opened_plan laws v o j opener old key m opened
+    plan_of = opened_plan v o j opener old key m opened
 
-    meets : meets_digest (opened_plan laws v o j opener old key m opened).plan.digest key ≡ true
-    meets = opened_meets laws keyslots.found v o j opener old key m opened
+    meets : meets_digest (opened_plan v o j opener old key m opened).plan.digest key ≡ true
+    meets = opened_meets v o j opener old key m opened
 
-    opens_by : SaysLike (opened_plan laws v o j opener old key m opened).object y.object
+    opens_by : SaysLike (opened_plan v o j opener old key m opened).object y.object
         → ((number : ℕ) → IsDigestOf j opener number → IsDigestOf k n number) → KeepsRest n j k → Answer w n new (opens key)
     opens_by like names rest =
         let dx : IsLuks2Digest j opener plan_of.plan.digest = plan_of.is.digest in
         let now = rest.digests.there dx.number dx.object dx.there in
-        holds_opens laws keyslots v w payload o p h j k opener n new key random plan_of meets after layout y like
-        (λ a b. once (json_at w p) k (copy_meta laws w p h k after layout.held) n a b)
+        holds_opens keyslots v w payload o p h j k opener n new key random plan_of meets after layout y like
+        (λ a b. one_digest (json_at w p) k (copy_meta w p h k after layout.held) n a b)
         (digest_moves j k opener n plan_of.plan.digest dx now.0 (names dx.number dx.names) now.1 now.2)
 
     -- a keyslot that was made
@@ -87,11 +84,11 @@ module _
         opens_by
         (like_made plan_of.object from y.object f s (some_same from plan_of.object (sym there ∙ plan_of.there))
         (some_same y.object (slot_value s) (sym y.there.is ∙ gains.there)) made says)
-        (λ number is. subst (IsDigestOf k n) (once (json_at v o) j (copy_meta laws v o h j before was.held) opener digest number names is) gains.names)
+        (λ number is. subst (IsDigestOf k n) (one_digest (json_at v o) j (copy_meta v o h j before was.held) opener digest number names is) gains.names)
         gains.rest
 
     -- a keyslot that was sealed again
-    pub changed_opens : (f : NewMembers) → opener ≡ n → type_at (opened_plan laws v o j opener old key m opened).object outer.Kdf ≡ Some (codes "pbkdf2")
+    pub changed_opens : (f : NewMembers) → opener ≡ n → type_at (opened_plan v o j opener old key m opened).object outer.Kdf ≡ Some (codes "pbkdf2")
         → ChangesSlot n f j k → Answer w n new (opens key)
     changed_opens f same derived c =
         let there : object_at j Keyslots opener ≡ Some c.was = ap (object_at j Keyslots) same ∙ c.there.is in

@@ -19,7 +19,8 @@ use Rattle.luks_slot.specs.declared.fault.SlotFault.TheVariants.{Argon2}
 use Rattle.luks_slot.specs.declared.plan.Derivation.{Derivation}
 use Rattle.luks_slot.specs.declared.plan.Derivation.TheVariants.{Pbkdf2, Argon2 as ByArgon2}
 use Rattle.luks_slot.specs.declared.plan.SlotPlan.{SlotPlan}
-use Rattle.luks_slot.specs.Opening.{meets_digest, slot_key}
+use Rattle.luks_slot.specs.Opening.{meets_digest}
+use Rattle.luks_slot.proofs.OpeningFacts.{found_meets}
 use Rattle.luks_slot.specs.Refusal.{is_argon2, slot_refusal}
 use Rattle.luks_reading.specs.declared.open_fault.OpenFault.TheVariants as opening
 use Rattle.luks_reading.specs.declared.report.Data.{Data}
@@ -30,7 +31,7 @@ use Rattle.luks2_edits.specs.Edited.{keyslot_salt, members_of}
 use Rattle.luks2_edits.specs.Metadata.{HasMetadata}
 use Rattle.luks2_edits.specs.Places.{IsNewArea}
 use Rattle.luks2_edits.specs.Refused.{NeedsLike}
-use Rattle.luks2_edits.proofs.LowerLaws.{VolumeLaws}
+use Rattle.luks2_edits.proofs.VolumeLaws.{one_choice, one_value}
 use Rattle.luks2_edits.proofs.MetadataFacts.{some_same}
 use Rattle.luks2_edits.proofs.PlaceFacts.{sectors_in_blocks}
 
@@ -75,43 +76,38 @@ pub none_of : {A : Type 0} (o : Option A) → ((a : A) → o ≡ Some a → ⊥)
 none_of None h = refl
 none_of (Some a) h = absurd (h a refl)
 
-module _ (laws : VolumeLaws) where
-  -- a keyslot that was opened has a plan that isn't refused
-  pub opened_plan : (v : List ℕ) (o : ℕ) (j : Value) (n : ℕ) (p key : List ℕ) → HasMetadata v o j → Answer v n p (opens key) → IsOpened v o j n
-  opened_plan v o j n p key m a =
-      let choice = laws.only v a.choice (luks2 o m.copies) a.chosen m.chosen in
-      let is : HasLuks2Plan (json_at v o) n a.plan = subst (λ c. HasPlanAs v n c a.plan) choice a.is in
-      let same : is.value ≡ j = laws.value (json_at v o) is.value j is.holds m.holds in
-      record {
-        numbered = is.numbered;
-        plan = a.plan;
-        object = is.object;
-        there = rw same at is.there;
-        is = rw same at is.is;
-        refused = none_of (slot_refusal a.plan) (λ f refused.
-            a.unrefused (opening.Slot f) (subst (λ c. IsRefusalAs v n c (opening.Slot f)) (sym choice) (record { plan = a.plan; is = is; refused = refused })));
-      }
+-- a keyslot that was opened has a plan that isn't refused
+pub opened_plan : (v : List ℕ) (o : ℕ) (j : Value) (n : ℕ) (p key : List ℕ) → HasMetadata v o j → Answer v n p (opens key) → IsOpened v o j n
+opened_plan v o j n p key m a =
+    let choice = one_choice v a.choice (luks2 o m.copies) a.chosen m.chosen in
+    let is : HasLuks2Plan (json_at v o) n a.plan = subst (λ c. HasPlanAs v n c a.plan) choice a.is in
+    let same : is.value ≡ j = one_value (json_at v o) is.value j is.holds m.holds in
+    record {
+      numbered = is.numbered;
+      plan = a.plan;
+      object = is.object;
+      there = rw same at is.there;
+      is = rw same at is.is;
+      refused = none_of (slot_refusal a.plan) (λ f refused.
+          a.unrefused (opening.Slot f) (subst (λ c. IsRefusalAs v n c (opening.Slot f)) (sym choice) (record { plan = a.plan; is = is; refused = refused })));
+    }
 
-  -- its key meets the digest
-  pub opened_meets : ((plan : SlotPlan) (area passphrase key : List ℕ) → slot_key plan area passphrase ≡ Some key → meets_digest plan.digest key ≡ true)
-      → (v : List ℕ) (o : ℕ) (j : Value) (n : ℕ) (p key : List ℕ) (m : HasMetadata v o j) (a : Answer v n p (opens key))
-      → meets_digest (opened_plan v o j n p key m a).plan.digest key ≡ true
-  unfolding opened_plan
-  opened_meets found v o j n p key m a = found a.plan (part v a.plan.area.start a.plan.area.len) p key a.key
+-- its key meets the digest
+pub opened_meets : (v : List ℕ) (o : ℕ) (j : Value) (n : ℕ) (p key : List ℕ) (m : HasMetadata v o j) (a : Answer v n p (opens key))
+    → meets_digest (opened_plan v o j n p key m a).plan.digest key ≡ true
+unfolding opened_plan
+opened_meets v o j n p key m a = found_meets a.plan (part v a.plan.area.start a.plan.area.len) p key a.key
 
 -- so its key is derived by PBKDF2
+pub opened_kdf : (v : List ℕ) (o : ℕ) (j : Value) (n : ℕ) (x : IsOpened v o j n) → type_at x.object outer.Kdf ≡ Some (codes "pbkdf2")
+opened_kdf v o j n x = derived_by x.object x.plan.derivation x.is.derivation (by_argon2 x.plan x.refused (is_argon2 x.plan.derivation) refl)
+
 pub opened_pbkdf2 : (v : List ℕ) (o : ℕ) (j : Value) (n : ℕ) → IsOpened v o j n → HasPbkdf2 j n
 opened_pbkdf2 v o j n x = record {
   object = x.object;
   there = record { numbered = refl; named = x.numbered; is = x.there };
-  derived = derived_by x.object x.plan.derivation x.is.derivation (by_argon2 x.plan x.refused (is_argon2 x.plan.derivation) refl);
+  derived = opened_kdf v o j n x;
 }
-
-pub opened_kdf : (laws : VolumeLaws) (v : List ℕ) (o : ℕ) (j : Value) (n : ℕ) (p key : List ℕ) (m : HasMetadata v o j) (a : Answer v n p (opens key))
-    → type_at (opened_plan laws v o j n p key m a).object outer.Kdf ≡ Some (codes "pbkdf2")
-opened_kdf laws v o j n p key m a =
-    let x : IsOpened v o j n = opened_plan laws v o j n p key m a in
-    derived_by x.object x.plan.derivation x.is.derivation (by_argon2 x.plan x.refused (is_argon2 x.plan.derivation) refl)
 
 -- ---- a new area
 

@@ -9,6 +9,7 @@ use Rattle.luks_head.specs.Header2.{copy_at, hdr_size, header_at, uuid_field, Is
 use Rattle.luks_head.specs.Selection.{luks2, Chosen}
 use Rattle.luks_head.specs.Sizes.{IsListed}
 use Rattle.luks_head.specs.declared.selection.Copies.{Copies}
+use Rattle.luks_head.proofs.CopyFacts.{listed_at_least}
 use Rattle.luks_rules.specs.MetaFault.{Json}
 use Rattle.luks_reading.specs.declared.report.Data.{Data}
 use Rattle.luks_making.specs.Changed.{changed_slot}
@@ -31,21 +32,16 @@ use Rattle.luks_edit.specs.declared.edit_fault.EditFault.TheVariants.{Iterations
 use Rattle.luks_area.specs.declared.area.Area.{Area}
 use Rattle.luks2_edits.proofs.MetadataFacts.{some_same}
 use Rattle.luks2_edits.proofs.OpenFacts.{KeyslotLaws}
-use Rattle.luks2_edits.proofs.OpenedFacts.{changed_opens, OneDigest}
+use Rattle.luks2_edits.proofs.OpenedFacts.{changed_opens}
 use Rattle.luks2_edits.proofs.SealFacts.{opened_kdf, opened_plan}
 use Rattle.luks2_edits.proofs.AfterFacts.{changed_changes, edited_metadata, enough_turns, lost_is_named, same_metadata, was_opened, IsReady, WasOpened}
 use Rattle.luks2_edits.proofs.KeptFacts.{all_kept}
 use Rattle.luks2_edits.proofs.LeftoverFacts.{first_size_left, is_sound, left_of, not_other, place_is, same_header, Left}
-use Rattle.luks2_edits.proofs.LowerLaws.{MakingLaws, VolumeLaws}
+use Rattle.luks2_edits.proofs.LowerLaws.{MakingLaws}
+use Rattle.luks2_edits.proofs.VolumeLaws.{copy_sound, one_answer, one_choice, some_choice}
 use Rattle.luks2_edits.proofs.PlaceFacts.{left_bytes}
 use Rattle.luks2_edits.proofs.TouchedFacts.{torn_rest}
-use Rattle.luks2_edits.proofs.VolumeFacts.{copy_of, layout_of, listed_at_least, one_metadata, one_place, HasCopy, IsLayout}
-
--- on what opens
-pub record OpeningLaws : Type 0 where
-  pub keyslots : KeyslotLaws
-  pub once : OneDigest
-  pub answers : (v : List ℕ) (n : ℕ) (p : List ℕ) (a b : Opened) → Answer v n p a → Answer v n p b → IsSameAnswer a b
+use Rattle.luks2_edits.proofs.VolumeFacts.{copy_of, layout_of, one_metadata, one_place, HasCopy, IsLayout}
 
 -- ---- places
 
@@ -110,7 +106,7 @@ json_of_copy v q long = part-part v q (hdr_size (header_at v q)) 4096 (hdr_size 
     joined least = omega (arith, least)
 
 module _
-    (laws : VolumeLaws) (making : MakingLaws) (v : List ℕ) (payload : Data) (e : Edit) (random w : List ℕ) (well : WellFormed v payload)
+    (making : MakingLaws) (v : List ℕ) (payload : Data) (e : Edit) (random w : List ℕ) (well : WellFormed v payload)
     (ranges : HasRanges v e random) (long : length w ≡ length v)
   where
     -- where the copy that counted still counts, all is kept but what was touched
@@ -119,12 +115,12 @@ module _
         → SameBut (IsTouched (hdr_size (header_at v o)) (length v) payload j d) v w → Keeps payload named v w
     kept_before named d lost_named o j m b chosen same rest =
         let h : ℕ = hdr_size (header_at v o) in
-        let before : HasCopy v o h j = copy_of laws v payload o j m well in
-        let layout : IsLayout h (length v) payload j = layout_of laws v payload o j m well in
-        let header : header_at w o ≡ header_at v o = same_header laws v w long o same (laws.sound w o b chosen) in
+        let before : HasCopy v o h j = copy_of v payload o j m well in
+        let layout : IsLayout h (length v) payload j = layout_of v payload o j m well in
+        let header : header_at w o ≡ header_at v o = same_header v w long o same (copy_sound w o b chosen) in
         let size : hdr_size (header_at w o) ≡ h = ap (λ x. hdr_size x) header in
-        let was : 4096 ≤ h = big (laws.sound v o m.copies m.chosen).form.listed in
-        let is : 4096 ≤ hdr_size (header_at w o) = big (laws.sound w o b chosen).form.listed in
+        let was : 4096 ≤ h = big (copy_sound v o m.copies m.chosen).form.listed in
+        let is : 4096 ≤ hdr_size (header_at w o) = big (copy_sound w o b chosen).form.listed in
         let json : json_at w o ≡ json_at v o = sym (json_of_copy w o is) ∙ ap (λ n. part (copy_at w o) 4096 (n - 4096)) size
         ∙ ap (λ c. part c 4096 (h - 4096)) same ∙ json_of_copy v o was in
         let after : HasCopy w o h j = record {
@@ -134,7 +130,7 @@ module _
           uuid = subst (λ x. IsUuidField (uuid_field x)) (sym header) before.uuid;
           holds = subst (λ a. Json a j) (sym json) before.holds;
         } in
-        all_kept laws v w payload o o h j j named before after long (ap (λ x. uuid_field x) header) layout
+        all_kept v w payload o o h j j named before after long (ap (λ x. uuid_field x) header) layout
         (same_metadata h (length v) payload named j j refl layout)
         (λ n a x. left_bytes v w h (length v) payload j d layout.fit rest (name.Segment n) a tt x)
         (λ n unnamed a x. left_bytes v w h (length v) payload j d layout.fit rest (name.Slot n) a (λ lost. unnamed (lost_named n lost)) x)
@@ -148,8 +144,8 @@ module _
         → SameBut (IsTouched (hdr_size (header_at v a.place)) (length v) payload a.value e) v w → Keeps payload (NamedKeyslots2 v e) v w
     keeps_after free opened p b chosen a rest =
         let h : ℕ = hdr_size (header_at v a.place) in
-        let before : HasCopy v a.place h a.value = copy_of laws v payload a.place a.value a.metadata well in
-        let layout : IsLayout h (length v) payload a.value = layout_of laws v payload a.place a.value a.metadata well in
+        let before : HasCopy v a.place h a.value = copy_of v payload a.place a.value a.metadata well in
+        let layout : IsLayout h (length v) payload a.value = layout_of v payload a.place a.value a.metadata well in
         let after : HasCopy w p h a.new = record {
           copies = b;
           chosen = chosen;
@@ -157,8 +153,8 @@ module _
           uuid = subst IsUuidField (sym a.renewed.uuid) before.uuid;
           holds = a.renewed.json.json;
         } in
-        all_kept laws v w payload a.place p h a.value a.new (NamedKeyslots2 v e) before after long a.renewed.uuid layout
-        (edited_metadata laws making v a.place payload e random a.value a.new a.metadata before ranges free opened a.edited layout)
+        all_kept v w payload a.place p h a.value a.new (NamedKeyslots2 v e) before after long a.renewed.uuid layout
+        (edited_metadata making v a.place payload e random a.value a.new a.metadata before ranges free opened a.edited layout)
         (λ n d x. left_bytes v w h (length v) payload a.value e layout.fit rest (name.Segment n) d tt x)
         (λ n unnamed d x. left_bytes v w h (length v) payload a.value e layout.fit rest (name.Slot n) d (λ lost. unnamed (lost_is_named v e n lost)) x)
 
@@ -189,16 +185,16 @@ changed_once h total payload n iterations salt j k i x y =
     x.is ∙ ap (λ a. changed_slot n (members_of iterations salt a) j) area ∙ sym y.is
 
 -- where one counts that the edit writes, a keyslot that was sealed again opens by the new passphrase
-opens_written : (laws : VolumeLaws) (making : MakingLaws) (opening : OpeningLaws) (v : List ℕ) (payload : Data) (e : Edit) (random w : List ℕ) → WellFormed v payload
+opens_written : (making : MakingLaws) (keyslots : KeyslotLaws) (v : List ℕ) (payload : Data) (e : Edit) (random w : List ℕ) → WellFormed v payload
     → HasRanges v e random → IsUnrefused2 v payload e random → length w ≡ length v → (j new : Value) (p : ℕ) (b : Copies) → Chosen w (luks2 p b)
     → (a : IsAllowed v payload e random w p) → IsEdited (hdr_size (header_at v a.place)) (length v) payload e (keyslot_salt random) a.value new
     → IsSealedBy v e random j w new → OpensEither2 v e w
-opens_written laws making opening v payload (Add by_ old new to iterations) random w well ranges free long j k p b chosen a edited sealed = tt
-opens_written laws making opening v payload (Change slot old new iterations) random w well ranges free long j k p b chosen a edited sealed =
+opens_written making keyslots v payload (Add by_ old new to iterations) random w well ranges free long j k p b chosen a edited sealed = tt
+opens_written making keyslots v payload (Change slot old new iterations) random w well ranges free long j k p b chosen a edited sealed =
     let e : Edit = Change slot old new iterations in
     let h : ℕ = hdr_size (header_at v a.place) in
-    let before : HasCopy v a.place h a.value = copy_of laws v payload a.place a.value a.metadata well in
-    let layout : IsLayout h (length v) payload a.value = layout_of laws v payload a.place a.value a.metadata well in
+    let before : HasCopy v a.place h a.value = copy_of v payload a.place a.value a.metadata well in
+    let layout : IsLayout h (length v) payload a.value = layout_of v payload a.place a.value a.metadata well in
     let after : HasCopy w p h a.new = record {
       copies = b;
       chosen = chosen;
@@ -207,30 +203,30 @@ opens_written laws making opening v payload (Change slot old new iterations) ran
       holds = a.renewed.json.json;
     } in
     let now : IsLayout h (length w) payload a.new = subst (λ n. IsLayout h n payload a.new) (sym long)
-    (edited_metadata laws making v a.place payload e random a.value a.new a.metadata before ranges free (sealed.key, sealed.opened) a.edited layout).layout in
+    (edited_metadata making v a.place payload e random a.value a.new a.metadata before ranges free (sealed.key, sealed.opened) a.edited layout).layout in
     let ready : IsReady v a.place a.value slot iterations random = record {
-      opened = opened_plan laws v a.place a.value slot old.now sealed.key a.metadata sealed.opened;
+      opened = opened_plan v a.place a.value slot old.now sealed.key a.metadata sealed.opened;
       turns = enough_turns iterations (λ few. free.none Iterations few);
       ranged = ranges.iterations;
       small = ranges.size;
       random_bytes = ranges.random_bytes;
       met = λ need like other. free.none RandomLength (record { place = a.place; value = a.value; metadata = a.metadata; is = record { need = need; is = like; other = other } });
     } in
-    let changes = changed_changes laws making v a.place h payload random a.value a.new before layout slot iterations ready a.edited in
+    let changes = changed_changes making v a.place h payload random a.value a.new before layout slot iterations ready a.edited in
     let same : k ≡ a.new = changed_once h (length v) payload slot iterations (keyslot_salt random) a.value k a.new edited a.edited in
     let there : HoldsKey w k slot new.now sealed.key (stripes_random random) =
     subst (λ n. HoldsKey w k n new.now sealed.key (stripes_random random)) sealed.is_made sealed.holds in
     let holds : HoldsKey w a.new slot new.now sealed.key (stripes_random random) = subst (λ i. HoldsKey w i slot new.now sealed.key (stripes_random random)) same there in
     let opened : Answer w slot new.now (opens sealed.key) =
-    changed_opens laws opening.keyslots opening.once v w payload a.place p h a.value a.new slot slot old.now new.now sealed.key (stripes_random random)
+    changed_opens keyslots v w payload a.place p h a.value a.new slot slot old.now new.now sealed.key (stripes_random random)
     a.metadata sealed.opened before layout after now holds
-    (members_of iterations (keyslot_salt random) a.edited.area) refl (opened_kdf laws v a.place a.value slot old.now sealed.key a.metadata sealed.opened) changes in
+    (members_of iterations (keyslot_salt random) a.edited.area) refl (opened_kdf v a.place a.value slot (opened_plan v a.place a.value slot old.now sealed.key a.metadata sealed.opened)) changes in
     λ key was.
-    (let key_same : sealed.key ≡ key = opening.answers v slot old.now (opens sealed.key) (opens key) sealed.opened was in
+    (let key_same : sealed.key ≡ key = one_answer v slot old.now (opens sealed.key) (opens key) sealed.opened was in
     inr (subst (λ x. Answer w slot new.now (opens x)) key_same opened))
-opens_written laws making opening v payload (Remove slot passphrase) random w well ranges free long j k p b chosen a edited sealed = tt
-opens_written laws making opening v payload Repair random w well ranges free long j k p b chosen a edited sealed = tt
-opens_written laws making opening v payload (Label text) random w well ranges free long j k p b chosen a edited sealed = tt
+opens_written making keyslots v payload (Remove slot passphrase) random w well ranges free long j k p b chosen a edited sealed = tt
+opens_written making keyslots v payload Repair random w well ranges free long j k p b chosen a edited sealed = tt
+opens_written making keyslots v payload (Label text) random w well ranges free long j k p b chosen a edited sealed = tt
 
 sealed_or_copy : (A B : Type 0) → A ⊎ B → B ⊎ A ⊎ ⊥
 sealed_or_copy A B (inl a) = inr (inl a)
@@ -253,20 +249,20 @@ pub record Outcome (v : List ℕ) (payload : Data) (e : Edit) (random w : List �
   pub opens_either : OpensEither2 v e w
 
 -- while neither the copy that counted nor the keyslot's own area was touched, it opens by the old passphrase
-opens_before : (laws : VolumeLaws) (making : MakingLaws) (opening : OpeningLaws) (v : List ℕ) (payload : Data) (e : Edit) (random w : List ℕ) → WellFormed v payload
+opens_before : (making : MakingLaws) (keyslots : KeyslotLaws) (v : List ℕ) (payload : Data) (e : Edit) (random w : List ℕ) → WellFormed v payload
     → HasRanges v e random → (o : ℕ) (j : Value) (m : HasMetadata v o j) (b : Copies) → Chosen w (luks2 o b) → copy_at w o ≡ copy_at v o
     → SameBut (IsOfEither (IsOfSealed (hdr_size (header_at v o)) (length v) payload j e) (IsOfCopies (hdr_size (header_at v o)))) v w → OpensEither2 v e w
-opens_before laws making opening v payload (Add by_ old new to iterations) random w well ranges o j m b chosen same rest = tt
-opens_before laws making opening v payload (Change slot old new iterations) random w well ranges o j m b chosen same rest = λ key was.
+opens_before making keyslots v payload (Add by_ old new to iterations) random w well ranges o j m b chosen same rest = tt
+opens_before making keyslots v payload (Change slot old new iterations) random w well ranges o j m b chosen same rest = λ key was.
     (let all : SameBut (IsTouched (hdr_size (header_at v o)) (length v) payload j (Add slot old new None iterations)) v w =
     same_but-wider (λ p x. sealed_or_copy (IsOfNewKeyslot (hdr_size (header_at v o)) (length v) payload j slot p) (IsOfCopies (hdr_size (header_at v o)) p) x) rest in
     let kept : Keeps payload (λ n. ⊥) v w =
-    kept_before laws making v payload (Change slot old new iterations) random w well ranges rest.length_same (λ n. ⊥) (Add slot old new None iterations) (λ n lost. lost)
+    kept_before making v payload (Change slot old new iterations) random w well ranges rest.length_same (λ n. ⊥) (Add slot old new None iterations) (λ n lost. lost)
     o j m b chosen same all in
     inl (((kept.slots slot (λ x. x)).answers old.now (opens key)).0 was))
-opens_before laws making opening v payload (Remove slot passphrase) random w well ranges o j m b chosen same rest = tt
-opens_before laws making opening v payload Repair random w well ranges o j m b chosen same rest = tt
-opens_before laws making opening v payload (Label text) random w well ranges o j m b chosen same rest = tt
+opens_before making keyslots v payload (Remove slot passphrase) random w well ranges o j m b chosen same rest = tt
+opens_before making keyslots v payload Repair random w well ranges o j m b chosen same rest = tt
+opens_before making keyslots v payload (Label text) random w well ranges o j m b chosen same rest = tt
 
 -- the other copy's place
 other_at : (h o : ℕ) → (o ≡ 0) ⊎ (o ≡ h) → 16384 ≤ h → (other_place h o ≡ 0) ⊎ (other_place h o ≡ h)
@@ -296,7 +292,7 @@ crossed : (h p : ℕ) → p < 2 * h → 2 * h ≤ p → ⊥
 crossed h p low high = absurd (omega (arith, low, high))
 
 module _
-    (laws : VolumeLaws) (making : MakingLaws) (opening : OpeningLaws) (v : List ℕ) (payload : Data) (e : Edit) (random w : List ℕ) (well : WellFormed v payload)
+    (making : MakingLaws) (keyslots : KeyslotLaws) (v : List ℕ) (payload : Data) (e : Edit) (random w : List ℕ) (well : WellFormed v payload)
     (ranges : HasRanges v e random) (free : IsUnrefused2 v payload e random) (stray : IsNotStray v payload e random w) (j new : Value)
     (m : HasMetadata v stray.place j)
     (edited : IsEdited (hdr_size (header_at v stray.place)) (length v) payload e (keyslot_salt random) j new)
@@ -314,34 +310,34 @@ module _
     Sealed = IsOfSealed (hdr_size (header_at v stray.place)) (length v) payload j e
 
     room : 16384 ≤ h
-    room = listed_at_least h (laws.sound v o stray.copies stray.chosen).form.listed
+    room = listed_at_least h (copy_sound v o stray.copies stray.chosen).form.listed
 
     at_o : (o ≡ 0) ⊎ (o ≡ h)
-    at_o = place_is laws v o stray.copies stray.chosen
+    at_o = place_is v o stray.copies stray.chosen
 
     before_outcome : (b : Copies) → Chosen w (luks2 o b) → copy_at w o ≡ copy_at v o → SameBut (IsOfEither Sealed (IsOfCopies h)) v w → SameBut Touched v w
         → Outcome v payload e random w
     before_outcome b chosen same unlost rest = record {
-      opens_either = opens_before laws making opening v payload e random w well ranges o j m b chosen same unlost;
+      opens_either = opens_before making keyslots v payload e random w well ranges o j m b chosen same unlost;
       whole = inl (record { place = o; old_copies = stray.copies; old_chosen = stray.chosen; new_copies = b; new_chosen = chosen; same = same });
-      keeps = keeps_before laws making v payload e random w well ranges rest.length_same o j m b chosen same rest;
+      keeps = keeps_before making v payload e random w well ranges rest.length_same o j m b chosen same rest;
     }
 
     after_outcome : IsSealedBy v e random j w new → (p : ℕ) (b : Copies) → Chosen w (luks2 p b) → IsAllowed v payload e random w p → SameBut Touched v w → Outcome v payload e random w
     after_outcome sealed p b chosen a rest =
         let opened : WasOpened v e = was_opened v e random j w new sealed in
-        let place : a.place ≡ o = one_place laws v o a.place m.copies a.metadata.copies m.chosen a.metadata.chosen in
-        let value : a.value ≡ j = one_metadata laws v o a.place m.copies a.metadata.copies j a.value m.chosen m.holds a.metadata.chosen a.metadata.holds in
+        let place : a.place ≡ o = one_place v o a.place m.copies a.metadata.copies m.chosen a.metadata.chosen in
+        let value : a.value ≡ j = one_metadata v o a.place m.copies a.metadata.copies j a.value m.chosen m.holds a.metadata.chosen a.metadata.holds in
         let there : SameBut (IsTouched (hdr_size (header_at v a.place)) (length v) payload j e) v w =
         subst (λ q. SameBut (IsTouched (hdr_size (header_at v q)) (length v) payload j e) v w) (sym place) rest in
         let all : SameBut (IsTouched (hdr_size (header_at v a.place)) (length v) payload a.value e) v w =
         subst (λ i. SameBut (IsTouched (hdr_size (header_at v a.place)) (length v) payload i e) v w) (sym value) there in
         record {
           whole = inr (record { place = p; copies = b; chosen = chosen; written = a });
-          opens_either = opens_written laws making opening v payload e random w well ranges free rest.length_same j new p b chosen a
+          opens_either = opens_written making keyslots v payload e random w well ranges free rest.length_same j new p b chosen a
               (subst (λ i. IsEdited (hdr_size (header_at v a.place)) (length v) payload e (keyslot_salt random) i new) (sym value)
               (subst (λ q. IsEdited (hdr_size (header_at v q)) (length v) payload e (keyslot_salt random) j new) (sym place) edited)) sealed;
-          keeps = keeps_after laws making v payload e random w well ranges rest.length_same free opened p b chosen a all;
+          keeps = keeps_after making v payload e random w well ranges rest.length_same free opened p b chosen a all;
         }
 
     -- the places of a copy aren't sealed
@@ -361,19 +357,19 @@ module _
 
     left_size_by : (l : Left w h) → length w ≡ length v → (l.place ≡ 0) ⊎ (l.place ≡ h) → hdr_size (header_at w l.place) ≡ h
     left_size_by l long (inl zero_) =
-        subst (λ q. hdr_size (header_at w q) ≡ h) (sym zero_) (first_size_left laws v payload e random w long stray (subst (IsSound w) zero_ (laws.sound w l.place l.copies l.chosen)))
-    left_size_by l long (inr there) = (laws.sound w l.place l.copies l.chosen).form.second (λ zero_. not_both zero_ there room) ∙ there
+        subst (λ q. hdr_size (header_at w q) ≡ h) (sym zero_) (first_size_left v payload e random w long stray (subst (IsSound w) zero_ (copy_sound w l.place l.copies l.chosen)))
+    left_size_by l long (inr there) = (copy_sound w l.place l.copies l.chosen).form.second (λ zero_. not_both zero_ there room) ∙ there
 
     torn_area : SameBut Sealed v w → Outcome v payload e random w
     torn_area rest =
         let long : length w ≡ length v = rest.length_same in
         let all : SameBut Touched v w = torn_rest v payload e random o j new w (inl rest) in
         let was : copy_at w o ≡ copy_at v o = untouched_copy v w Sealed h o rest room (not_sealed o at_o) (inl refl) in
-        let sound : IsSound w o = is_sound laws v w long o was (laws.sound v o stray.copies stray.chosen) in
-        let l : Left w h = left_of laws v payload e random w long stray o at_o sound (laws.some w).0 (laws.some w).1 in
+        let sound : IsSound w o = is_sound v w long o was (copy_sound v o stray.copies stray.chosen) in
+        let l : Left w h = left_of v payload e random w long stray o at_o sound (some_choice w).0 (some_choice w).1 in
         elim (chosen_at l.place o h room l.at at_o) [
           | inl same ↦ before_outcome l.copies (subst (λ q. Chosen w (luks2 q l.copies)) same l.chosen) was (same_but-wider (λ p x. inl x) rest) all
-          | inr other ↦ absurd (not_other laws v payload e random w long stray was l.place l.copies l.chosen
+          | inr other ↦ absurd (not_other v payload e random w long stray was l.place l.copies l.chosen
               (untouched_copy v w Sealed h l.place rest room (not_sealed l.place l.at) (inr (left_size_by l long l.at))) other)
         ]
 
@@ -385,12 +381,12 @@ module _
         let other_is : (other_place h o ≡ 0) ⊎ (other_place h o ≡ h) = other_at h o at_o room in
         let all : SameBut Touched v w = torn_rest v payload e random o j new w (inr (inl t)) in
         let was : copy_at w o ≡ copy_at v o = untouched_copy v w (IsOfEither Sealed (IsAt (other_place h o) h)) h o t.rest room (apart_by) (inl refl) in
-        let sound : IsSound w o = is_sound laws v w long o was (laws.sound v o stray.copies stray.chosen) in
-        let l : Left w h = left_of laws v payload e random w long stray o at_o sound (laws.some w).0 (laws.some w).1 in
+        let sound : IsSound w o = is_sound v w long o was (copy_sound v o stray.copies stray.chosen) in
+        let l : Left w h = left_of v payload e random w long stray o at_o sound (some_choice w).0 (some_choice w).1 in
         elim (chosen_at l.place o h room l.at at_o) [
           | inl same ↦ before_outcome l.copies (subst (λ q. Chosen w (luks2 q l.copies)) same l.chosen) was (same_but-wider (λ p. of_copies p other_is) t.rest) all
-          | inr other ↦ elim (stray.known l.place l.at (laws.sound w l.place l.copies l.chosen)) [
-            | inl same ↦ absurd (not_other laws v payload e random w long stray was l.place l.copies l.chosen same other)
+          | inr other ↦ elim (stray.known l.place l.at (copy_sound w l.place l.copies l.chosen)) [
+            | inl same ↦ absurd (not_other v payload e random w long stray was l.place l.copies l.chosen same other)
             | inr a ↦ after_outcome t.sealed l.place l.copies l.chosen a all
           ]
         ]
@@ -402,9 +398,9 @@ module _
         let long : length w ≡ length v = t.rest.length_same in
         let all : SameBut Touched v w = torn_rest v payload e random o j new w (inr (inr (inl t))) in
         let l : Left w h =
-        left_of laws v payload e random w long stray (other_place h o) (other_at h o at_o room) t.other.renewed.sound (laws.some w).0 (laws.some w).1 in
+        left_of v payload e random w long stray (other_place h o) (other_at h o at_o room) t.other.renewed.sound (some_choice w).0 (some_choice w).1 in
         elim (chosen_at l.place o h room l.at at_o) [
-          | inl same ↦ elim (stray.known l.place l.at (laws.sound w l.place l.copies l.chosen)) [
+          | inl same ↦ elim (stray.known l.place l.at (copy_sound w l.place l.copies l.chosen)) [
             | inl was ↦ before_outcome l.copies (subst (λ q. Chosen w (luks2 q l.copies)) same l.chosen) (subst (λ q. copy_at w q ≡ copy_at v q) same was) t.rest all
             | inr a ↦ after_outcome t.sealed l.place l.copies l.chosen a all
           ]
@@ -442,7 +438,7 @@ module _
     torn_lost : IsTornLost v payload e random o j new w → Outcome v payload e random w
     torn_lost t =
         let l : Left w h =
-        left_of laws v payload e random w t.rest.length_same stray 0 (inl refl) t.first.renewed.sound (laws.some w).0 (laws.some w).1 in
+        left_of v payload e random w t.rest.length_same stray 0 (inl refl) t.first.renewed.sound (some_choice w).0 (some_choice w).1 in
         after_outcome t.sealed l.place l.copies l.chosen (written_by t l.place l.at) t.rest
 
     pub torn_outcome : IsTornAt v payload e random o j new w → Outcome v payload e random w
@@ -454,38 +450,38 @@ module _
 -- ---- every leftover
 
 -- a volume that is left as it was
-same_outcome : (laws : VolumeLaws) (making : MakingLaws) (opening : OpeningLaws) (v : List ℕ) (payload : Data) (e : Edit) (random w : List ℕ) → WellFormed v payload
+same_outcome : (making : MakingLaws) (keyslots : KeyslotLaws) (v : List ℕ) (payload : Data) (e : Edit) (random w : List ℕ) → WellFormed v payload
     → HasRanges v e random → IsNotStray v payload e random w → w ≡ v → (j : Value) (o : ℕ) → HasMetadata v o j → Outcome v payload e random w
-same_outcome laws making opening v payload e random w well ranges stray same j o m =
+same_outcome making keyslots v payload e random w well ranges stray same j o m =
     let chosen : Chosen w (luks2 o m.copies) = subst (λ u. Chosen u (luks2 o m.copies)) (sym same) m.chosen in
     let copy : copy_at w o ≡ copy_at v o = ap (λ u. copy_at u o) same in
     record {
       whole = inl (record { place = o; old_copies = m.copies; old_chosen = m.chosen; new_copies = m.copies; new_chosen = chosen; same = copy });
-      opens_either = opens_before laws making opening v payload e random w well ranges o j m m.copies chosen copy
+      opens_either = opens_before making keyslots v payload e random w well ranges o j m m.copies chosen copy
           (same_but-equal (IsOfEither (IsOfSealed (hdr_size (header_at v o)) (length v) payload j e) (IsOfCopies (hdr_size (header_at v o)))) same);
-      keeps = keeps_before laws making v payload e random w well ranges (ap length same) o j m m.copies chosen copy
+      keeps = keeps_before making v payload e random w well ranges (ap length same) o j m m.copies chosen copy
           (same_but-equal (IsTouched (hdr_size (header_at v o)) (length v) payload j e) same);
     }
 
 -- what was torn, at the place that counted
-torn_there : (laws : VolumeLaws) (making : MakingLaws) (opening : OpeningLaws) (v : List ℕ) (payload : Data) (e : Edit) (random w : List ℕ) → WellFormed v payload
+torn_there : (making : MakingLaws) (keyslots : KeyslotLaws) (v : List ℕ) (payload : Data) (e : Edit) (random w : List ℕ) → WellFormed v payload
     → HasRanges v e random → IsUnrefused2 v payload e random → (stray : IsNotStray v payload e random w) → IsTorn2 v payload e random w → Outcome v payload e random w
-torn_there laws making opening v payload e random w well ranges free stray t =
-    let place : t.place ≡ stray.place = one_place laws v stray.place t.place stray.copies t.metadata.copies stray.chosen t.metadata.chosen in
-    torn_outcome laws making opening v payload e random w well ranges free stray t.value t.new
+torn_there making keyslots v payload e random w well ranges free stray t =
+    let place : t.place ≡ stray.place = one_place v stray.place t.place stray.copies t.metadata.copies stray.chosen t.metadata.chosen in
+    torn_outcome making keyslots v payload e random w well ranges free stray t.value t.new
     (subst (λ o. HasMetadata v o t.value) place t.metadata)
     (subst (λ o. IsEdited (hdr_size (header_at v o)) (length v) payload e (keyslot_salt random) t.value t.new) place t.edited)
     (subst (λ o. IsTornAt v payload e random o t.value t.new w) place t.torn)
 
 -- a well formed LUKS2 volume has metadata
-its_metadata : (laws : VolumeLaws) (v : List ℕ) (payload : Data) → WellFormed v payload → (o : ℕ) (b : Copies) → Chosen v (luks2 o b) → (j : Value) × HasMetadata v o j
-its_metadata laws v payload well o b chosen =
-    let formed = subst (λ c. WellFormedAs v payload c) (laws.only v well.choice (luks2 o b) well.chosen chosen) well.formed in
+its_metadata : (v : List ℕ) (payload : Data) → WellFormed v payload → (o : ℕ) (b : Copies) → Chosen v (luks2 o b) → (j : Value) × HasMetadata v o j
+its_metadata v payload well o b chosen =
+    let formed = subst (λ c. WellFormedAs v payload c) (one_choice v well.choice (luks2 o b) well.chosen chosen) well.formed in
     (formed.layout.0, record { copies = b; chosen = chosen; holds = formed.layout.1.metadata.json })
 
-pub leftover_outcome : (laws : VolumeLaws) (making : MakingLaws) (opening : OpeningLaws) (v : List ℕ) (payload : Data) (e : Edit) (random w : List ℕ) → WellFormed v payload
+pub leftover_outcome : (making : MakingLaws) (keyslots : KeyslotLaws) (v : List ℕ) (payload : Data) (e : Edit) (random w : List ℕ) → WellFormed v payload
     → HasRanges v e random → Leftover2 v payload e random w → IsNotStray v payload e random w → Outcome v payload e random w
-leftover_outcome laws making opening v payload e random w well ranges (inl same) stray =
-    let m = its_metadata laws v payload well stray.place stray.copies stray.chosen in
-    same_outcome laws making opening v payload e random w well ranges stray same m.0 stray.place m.1
-leftover_outcome laws making opening v payload e random w well ranges (inr t) stray = torn_there laws making opening v payload e random w well ranges t.0 stray t.1
+leftover_outcome making keyslots v payload e random w well ranges (inl same) stray =
+    let m = its_metadata v payload well stray.place stray.copies stray.chosen in
+    same_outcome making keyslots v payload e random w well ranges stray same m.0 stray.place m.1
+leftover_outcome making keyslots v payload e random w well ranges (inr t) stray = torn_there making keyslots v payload e random w well ranges t.0 stray t.1

@@ -12,7 +12,7 @@ use Rattle.luks_area.specs.RangeFacts.{length-part_inside}
 use Rattle.luks_head.specs.declared.selection.Copies.{Copies}
 use Rattle.luks_head.specs.Header2.{header_at, hdr_size, uuid_field, IsUuidField}
 use Rattle.luks_head.specs.Selection.{Choice, luks1, luks2, nothing, Chosen}
-use Rattle.luks_head.specs.Sizes.{is_among, listed_sizes, IsListed}
+use Rattle.luks_head.proofs.CopyFacts.{listed_at_least}
 use Rattle.luks_rules.specs.declared.fault.MetaFault.{MetaFault}
 use Rattle.luks_rules.specs.Accepted.{IsContent, IsMeta}
 use Rattle.luks_rules.specs.Held.{IsHeld}
@@ -23,20 +23,7 @@ use Rattle.luks_reading.specs.Checked.{AreaOf, HasAreaAs, IsLuks2Layout, IsLuks2
 use Rattle.luks_reading.specs.Header.{json_at}
 use Rattle.luks_reading.specs.Layout2.{Luks2Area}
 use Rattle.luks2_edits.specs.Metadata.{HasMetadata}
-use Rattle.luks2_edits.proofs.LowerLaws.{VolumeLaws}
-
--- what passes for each number of a list passes for one of them
-among_pass : (test : ℕ → Bool) (sizes : List ℕ) (n : ℕ) → list_all test sizes ≡ true → is_among n sizes ≡ true → test n ≡ true
-among_pass test [] n every among = absurd (false≢true among)
-among_pass test (size ∷ sizes) n every among =
-    elim (or_cases (size == n) (is_among n sizes) among) [
-      | inl here ↦ (let same : size ≡ n = eqb-true size n here in rw (← same) ((and_parts (test size) (list_all test sizes) every).0))
-      | inr later ↦ among_pass test sizes n ((and_parts (test size) (list_all test sizes) every).1) later
-    ]
-
--- a header's size has room for its binary part
-pub listed_at_least : (n : ℕ) → IsListed n → 16384 ≤ n
-listed_at_least n listed = leb-true 16384 n (among_pass (λ m. nat_le 16384 m) listed_sizes n refl listed)
+use Rattle.luks2_edits.proofs.VolumeLaws.{copy_sound, metadata_faultless, one_choice, one_value}
 
 -- the metadata `j` makes a well formed volume of `total` bytes with copies of `h` bytes
 pub record IsLayout (h total : ℕ) (payload : Data) (j : Value) : Type 0 where
@@ -63,105 +50,104 @@ is_luks1 luks1 = true
 is_luks1 (luks2 o copies) = false
 is_luks1 nothing = false
 
-module _ (laws : VolumeLaws) where
-  -- one copy counts
-  pub one_place : (v : List ℕ) (o q : ℕ) (b c : Copies) → Chosen v (luks2 o b) → Chosen v (luks2 q c) → q ≡ o
-  unfolding place_of
-  one_place v o q b c x y = ap place_of (laws.only v (luks2 q c) (luks2 o b) y x)
+-- one copy counts
+pub one_place : (v : List ℕ) (o q : ℕ) (b c : Copies) → Chosen v (luks2 o b) → Chosen v (luks2 q c) → q ≡ o
+unfolding place_of
+one_place v o q b c x y = ap place_of (one_choice v (luks2 q c) (luks2 o b) y x)
 
-  -- and no LUKS1 header beside it
-  pub no_luks1 : (v : List ℕ) (o : ℕ) (b : Copies) → Chosen v (luks2 o b) → Chosen v luks1 → ⊥
-  unfolding is_luks1
-  no_luks1 v o b x y = true≢false (ap is_luks1 (laws.only v luks1 (luks2 o b) y x))
+-- and no LUKS1 header beside it
+pub no_luks1 : (v : List ℕ) (o : ℕ) (b : Copies) → Chosen v (luks2 o b) → Chosen v luks1 → ⊥
+unfolding is_luks1
+no_luks1 v o b x y = true≢false (ap is_luks1 (one_choice v luks1 (luks2 o b) y x))
 
-  -- and holds one value
-  pub one_metadata : (v : List ℕ) (o q : ℕ) (b c : Copies) (j i : Value) → Chosen v (luks2 o b) → Json (json_at v o) j
-      → Chosen v (luks2 q c) → Json (json_at v q) i → i ≡ j
-  one_metadata v o q b c j i x holds y says =
-      laws.value (json_at v o) i j (subst (λ n. Json (json_at v n) i) (one_place v o q b c x y) says) holds
+-- and holds one value
+pub one_metadata : (v : List ℕ) (o q : ℕ) (b c : Copies) (j i : Value) → Chosen v (luks2 o b) → Json (json_at v o) j
+    → Chosen v (luks2 q c) → Json (json_at v q) i → i ≡ j
+one_metadata v o q b c j i x holds y says =
+    one_value (json_at v o) i j (subst (λ n. Json (json_at v n) i) (one_place v o q b c x y) says) holds
 
-  json_length : (v : List ℕ) (o : ℕ) (copies : Copies) → Chosen v (luks2 o copies) → length (json_at v o) ≡ hdr_size (header_at v o) - 4096
-  json_length v o copies chosen =
-      let sound = laws.sound v o copies chosen in
-      let least : 16384 ≤ hdr_size (header_at v o) = listed_at_least (hdr_size (header_at v o)) sound.form.listed in
-      let inside : o + hdr_size (header_at v o) ≤ length v = sound.form.inside in
-      length-part_inside v (o + 4096) (hdr_size (header_at v o) - 4096) (omega (arith, least, inside))
+json_length : (v : List ℕ) (o : ℕ) (copies : Copies) → Chosen v (luks2 o copies) → length (json_at v o) ≡ hdr_size (header_at v o) - 4096
+json_length v o copies chosen =
+    let sound = copy_sound v o copies chosen in
+    let least : 16384 ≤ hdr_size (header_at v o) = listed_at_least (hdr_size (header_at v o)) sound.form.listed in
+    let inside : o + hdr_size (header_at v o) ≤ length v = sound.form.inside in
+    length-part_inside v (o + 4096) (hdr_size (header_at v o) - 4096) (omega (arith, least, inside))
 
-  copy_length : (v : List ℕ) (o h : ℕ) (j : Value) (c : HasCopy v o h j) → length (json_at v o) ≡ h - 4096
-  copy_length v o h j c = json_length v o c.copies c.chosen ∙ ap (λ n. n - 4096) c.size
+copy_length : (v : List ℕ) (o h : ℕ) (j : Value) (c : HasCopy v o h j) → length (json_at v o) ≡ h - 4096
+copy_length v o h j c = json_length v o c.copies c.chosen ∙ ap (λ n. n - 4096) c.size
 
-  -- what the copy holds is accepted
-  pub copy_meta : (v : List ℕ) (o h : ℕ) (j : Value) → HasCopy v o h j → IsHeld (h - 4096) j → IsMeta (json_at v o) j
-  copy_meta v o h j c held = record { json = c.holds; content = subst (λ n. IsContent n j) (sym (copy_length v o h j c)) held.content }
+-- what the copy holds is accepted
+pub copy_meta : (v : List ℕ) (o h : ℕ) (j : Value) → HasCopy v o h j → IsHeld (h - 4096) j → IsMeta (json_at v o) j
+copy_meta v o h j c held = record { json = c.holds; content = subst (λ n. IsContent n j) (sym (copy_length v o h j c)) held.content }
 
-  -- so it has no fault
-  pub copy_faultless : (v : List ℕ) (o h : ℕ) (j : Value) → HasCopy v o h j → IsHeld (h - 4096) j → (f : MetaFault) → IsMetaFault (json_at v o) f → ⊥
-  copy_faultless v o h j c held = (laws.metadata (json_at v o)).1 (j, copy_meta v o h j c held)
+-- so it has no fault
+pub copy_faultless : (v : List ℕ) (o h : ℕ) (j : Value) → HasCopy v o h j → IsHeld (h - 4096) j → (f : MetaFault) → IsMetaFault (json_at v o) f → ⊥
+copy_faultless v o h j c held = (metadata_faultless (json_at v o)).1 (j, copy_meta v o h j c held)
 
-  -- a copy with a layout makes a volume well formed
-  pub formed : (v : List ℕ) (payload : Data) (o h : ℕ) (j : Value) → HasCopy v o h j → IsLayout h (length v) payload j → WellFormed v payload
-  formed v payload o h j c layout =
-      let len : length (json_at v o) ≡ h - 4096 = copy_length v o h j c in
-      record {
-        choice = luks2 o c.copies;
-        chosen = c.chosen;
-        formed = record {
-          uuid = c.uuid;
-          layout = (
-            j,
-            record {
-              metadata = copy_meta v o h j c layout.held;
-              segments = λ here. subst (λ n. SegmentsFollow n j) (sym len) (layout.segments here);
-              fit = subst (λ n. Fit (Luks2Area j n payload (length v)) (length v)) (sym c.size) layout.fit;
-            },
-          );
-        };
-      }
+-- a copy with a layout makes a volume well formed
+pub formed : (v : List ℕ) (payload : Data) (o h : ℕ) (j : Value) → HasCopy v o h j → IsLayout h (length v) payload j → WellFormed v payload
+formed v payload o h j c layout =
+    let len : length (json_at v o) ≡ h - 4096 = copy_length v o h j c in
+    record {
+      choice = luks2 o c.copies;
+      chosen = c.chosen;
+      formed = record {
+        uuid = c.uuid;
+        layout = (
+          j,
+          record {
+            metadata = copy_meta v o h j c layout.held;
+            segments = λ here. subst (λ n. SegmentsFollow n j) (sym len) (layout.segments here);
+            fit = subst (λ n. Fit (Luks2Area j n payload (length v)) (length v)) (sym c.size) layout.fit;
+          },
+        );
+      };
+    }
 
-  luks2_layout : (v : List ℕ) (payload : Data) (o : ℕ) (copies : Copies) (j : Value) → Chosen v (luks2 o copies) → Json (json_at v o) j
-      → IsLuks2Volume (header_at v o) (json_at v o) payload (length v) → IsLayout (hdr_size (header_at v o)) (length v) payload j
-  luks2_layout v payload o copies j chosen holds well =
-      let same : well.layout.0 ≡ j = laws.value (json_at v o) well.layout.0 j well.layout.1.metadata.json holds in
-      let layout : IsLuks2Layout (header_at v o) (json_at v o) payload (length v) j =
-      subst (λ k. IsLuks2Layout (header_at v o) (json_at v o) payload (length v) k) same well.layout.1 in
-      let len : length (json_at v o) ≡ hdr_size (header_at v o) - 4096 = json_length v o copies chosen in
-      record {
-        held = record { nests = depth-read holds.text j holds.reads; content = subst (λ n. IsContent n j) len layout.metadata.content };
-        segments = λ here. subst (λ n. SegmentsFollow n j) len (layout.segments here);
-        fit = layout.fit;
-      }
+luks2_layout : (v : List ℕ) (payload : Data) (o : ℕ) (copies : Copies) (j : Value) → Chosen v (luks2 o copies) → Json (json_at v o) j
+    → IsLuks2Volume (header_at v o) (json_at v o) payload (length v) → IsLayout (hdr_size (header_at v o)) (length v) payload j
+luks2_layout v payload o copies j chosen holds well =
+    let same : well.layout.0 ≡ j = one_value (json_at v o) well.layout.0 j well.layout.1.metadata.json holds in
+    let layout : IsLuks2Layout (header_at v o) (json_at v o) payload (length v) j =
+    subst (λ k. IsLuks2Layout (header_at v o) (json_at v o) payload (length v) k) same well.layout.1 in
+    let len : length (json_at v o) ≡ hdr_size (header_at v o) - 4096 = json_length v o copies chosen in
+    record {
+      held = record { nests = depth-read holds.text j holds.reads; content = subst (λ n. IsContent n j) len layout.metadata.content };
+      segments = λ here. subst (λ n. SegmentsFollow n j) len (layout.segments here);
+      fit = layout.fit;
+    }
 
-  well_formed_as : (v : List ℕ) (payload : Data) (c : Choice) → Chosen v c → WellFormed v payload → WellFormedAs v payload c
-  well_formed_as v payload c chosen well = subst (λ b. WellFormedAs v payload b) (laws.only v well.choice c well.chosen chosen) well.formed
+well_formed_as : (v : List ℕ) (payload : Data) (c : Choice) → Chosen v c → WellFormed v payload → WellFormedAs v payload c
+well_formed_as v payload c chosen well = subst (λ b. WellFormedAs v payload b) (one_choice v well.choice c well.chosen chosen) well.formed
 
-  -- a well formed volume has a copy with a layout
-  pub layout_of : (v : List ℕ) (payload : Data) (o : ℕ) (j : Value) → HasMetadata v o j → WellFormed v payload
-      → IsLayout (hdr_size (header_at v o)) (length v) payload j
-  layout_of v payload o j m well =
-      luks2_layout v payload o m.copies j m.chosen m.holds (well_formed_as v payload (luks2 o m.copies) m.chosen well)
+-- a well formed volume has a copy with a layout
+pub layout_of : (v : List ℕ) (payload : Data) (o : ℕ) (j : Value) → HasMetadata v o j → WellFormed v payload
+    → IsLayout (hdr_size (header_at v o)) (length v) payload j
+layout_of v payload o j m well =
+    luks2_layout v payload o m.copies j m.chosen m.holds (well_formed_as v payload (luks2 o m.copies) m.chosen well)
 
-  pub copy_of : (v : List ℕ) (payload : Data) (o : ℕ) (j : Value) → HasMetadata v o j → WellFormed v payload
-      → HasCopy v o (hdr_size (header_at v o)) j
-  copy_of v payload o j m well = record {
-    copies = m.copies;
-    chosen = m.chosen;
-    size = refl;
-    uuid = (well_formed_as v payload (luks2 o m.copies) m.chosen well).uuid;
-    holds = m.holds;
-  }
+pub copy_of : (v : List ℕ) (payload : Data) (o : ℕ) (j : Value) → HasMetadata v o j → WellFormed v payload
+    → HasCopy v o (hdr_size (header_at v o)) j
+copy_of v payload o j m well = record {
+  copies = m.copies;
+  chosen = m.chosen;
+  size = refl;
+  uuid = (well_formed_as v payload (luks2 o m.copies) m.chosen well).uuid;
+  holds = m.holds;
+}
 
-  -- the areas of the volume are those of its metadata
-  pub areas_are : (v : List ℕ) (payload : Data) (o h : ℕ) (j : Value) → HasCopy v o h j → (n : AreaName) (a : Area)
-      → AreaOf v payload n a → Luks2Area j h payload (length v) n a
-  areas_are v payload o h j c n a x =
-      let is = subst (λ b. HasAreaAs v payload b n a) (laws.only v x.choice (luks2 o c.copies) x.chosen c.chosen) x.area in
-      let same : is.value ≡ j = laws.value (json_at v o) is.value j is.holds c.holds in
-      subst (λ k. Luks2Area k h payload (length v) n a) same (subst (λ g. Luks2Area is.value g payload (length v) n a) c.size is.area)
+-- the areas of the volume are those of its metadata
+pub areas_are : (v : List ℕ) (payload : Data) (o h : ℕ) (j : Value) → HasCopy v o h j → (n : AreaName) (a : Area)
+    → AreaOf v payload n a → Luks2Area j h payload (length v) n a
+areas_are v payload o h j c n a x =
+    let is = subst (λ b. HasAreaAs v payload b n a) (one_choice v x.choice (luks2 o c.copies) x.chosen c.chosen) x.area in
+    let same : is.value ≡ j = one_value (json_at v o) is.value j is.holds c.holds in
+    subst (λ k. Luks2Area k h payload (length v) n a) same (subst (λ g. Luks2Area is.value g payload (length v) n a) c.size is.area)
 
-  pub areas_back : (v : List ℕ) (payload : Data) (o h : ℕ) (j : Value) → HasCopy v o h j → (n : AreaName) (a : Area)
-      → Luks2Area j h payload (length v) n a → AreaOf v payload n a
-  areas_back v payload o h j c n a x = record {
-    choice = luks2 o c.copies;
-    chosen = c.chosen;
-    area = record { value = j; holds = c.holds; area = subst (λ g. Luks2Area j g payload (length v) n a) (sym c.size) x };
-  }
+pub areas_back : (v : List ℕ) (payload : Data) (o h : ℕ) (j : Value) → HasCopy v o h j → (n : AreaName) (a : Area)
+    → Luks2Area j h payload (length v) n a → AreaOf v payload n a
+areas_back v payload o h j c n a x = record {
+  choice = luks2 o c.copies;
+  chosen = c.chosen;
+  area = record { value = j; holds = c.holds; area = subst (λ g. Luks2Area j g payload (length v) n a) (sym c.size) x };
+}

@@ -1,14 +1,15 @@
 -- The laws of the crates below on which the facts of whole LUKS2 volumes rest.
-use Rattle.std.proofs.Common.{◌≡◌, ◌↔◌, ℕ, List, sym, ap, ◌∙◌, unwrap_or}
+use Rattle.std.proofs.Common.{◌≡◌, ◌↔◌, ℕ, List, length, sym, ap, ◌∙◌, unwrap_or}
 use Rattle.serde_json.specs.Data.{Data as Value}
 use Rattle.serde_json.specs.Read.{read}
 use Rattle.luks_head.specs.declared.fault.HeadFault.{HeadFault}
 use Rattle.luks_head.specs.declared.selection.Copies.{Copies}
-use Rattle.luks_head.specs.Header2.{IsSound, IsUuidFault, IsUuidField}
+use Rattle.luks_head.specs.Header2.{copy_at, IsSound, IsUuidFault, IsUuidField}
 use Rattle.luks_head.specs.Selection.{Choice, luks2, Chosen}
-use Rattle.luks_head.proofs.ChoiceFacts.{chosen_is_sound, choices_agree, uuid_accepted, uuid_sound}
+use Rattle.luks_head.proofs.ChoiceFacts.{choice_exists, chosen_is_sound, choices_agree, uuid_accepted, uuid_sound}
 use Rattle.luks_head.proofs.Luks1FaultFacts.{sound}
 use Rattle.luks_head.proofs.Luks1HeaderFacts.{header_found}
+use Rattle.luks_head.proofs.SoundnessFacts.{sound_by_copy}
 use Rattle.luks_json.proofs.AreaKinds.{kind_of, not_bad}
 use Rattle.luks_json.proofs.AreaTexts.{one_text}
 use Rattle.luks_json.proofs.Numbers.{number_of_text}
@@ -27,13 +28,20 @@ use Rattle.luks_reading.specs.FitsAndResolves.{FitsAndResolves}
 use Rattle.luks_reading.proofs.OneAnswer.{one_answer as one_answer_by}
 use Rattle.luks_reading.proofs.WellFormedFacts.{fits_and_resolves, formed_sound}
 
--- one thing counts
+-- something counts, or nothing does; and one thing alone
+pub some_choice : (v : List ℕ) → (c : Choice) × Chosen v c
+some_choice = choice_exists
+
 pub one_choice : (v : List ℕ) (b c : Choice) → Chosen v b → Chosen v c → b ≡ c
 one_choice = choices_agree
 
 -- the copy that counts is sound
 pub copy_sound : (v : List ℕ) (o : ℕ) (copies : Copies) → Chosen v (luks2 o copies) → IsSound v o
 copy_sound v o copies chosen = chosen_is_sound v o copies chosen.1
+
+-- that a copy is sound depends on its own bytes alone
+pub sound_at_copy : (v w : List ℕ) (o : ℕ) → length v ≡ length w → copy_at v o ≡ copy_at w o → IsSound v o ↔ IsSound w o
+sound_at_copy v w o long copy = (sound_by_copy v w o long copy, sound_by_copy w v o (sym long) (sym copy))
 
 -- a JSON area holds one value at most
 pub one_value : (area : List ℕ) (i j : Value) → Json area i → Json area j → i ≡ j

@@ -19,24 +19,18 @@ ghost use Rattle.luks2_edits.specs.Refused.{IsEditFault2, IsUnrefused2, Refusal2
 ghost use Rattle.luks_edit.specs.EditFaults.{edit_key};
 ghost use Rattle.luks_edit.specs.declared.edit_fault.EditFault.{EditFault as TheFault};
 
-use luks_head::{
-    Copies, chosen_copy_is_sound, luks2_without_faults, one_choice, soundness_is_local,
-};
+use luks_head::Copies;
 use luks_making::{
     addition_keeps_the_rest, change_keeps_the_rest, made_keyslot_has_room, removal_keeps_the_rest,
 };
-use luks_meta::{metadata_without_faults, one_digest, one_value};
-use luks_reading::one_answer;
-use luks_slot::{found_key_meets_digest, sealed_area_opens};
+use luks_slot::sealed_area_opens;
 
 /// A keyslot that a change of a LUKS2 volume leaves as it was has the same answer for every
 /// passphrase: the same key, none, or the same refusals.
 pub fn alike_slots_answer_alike()
     ensures { (v w : List ℕ) (m : ℕ) → HasSameKeyslot v w m
         → (p : List ℕ) (a : Opened) → Answer v m p a ↔ Answer w m p a }
-{
-    one_choice();
-}
+{}
 
 /// After an edit of a well formed LUKS2 volume that nothing refused, the volume is well formed, and
 /// its copies are in step; the segments are as before, and so are the area, the value and the
@@ -52,11 +46,6 @@ pub fn luks2_edit_keeps_volume()
         → WellFormed v payload → After2 v payload e random w → Loses e n
         → AreaOf v payload (Slot n) a → part w a.start a.len ≡ replicate a.len 0 }
 {
-    one_choice();
-    chosen_copy_is_sound();
-    soundness_is_local();
-    one_value();
-    metadata_without_faults();
     removal_keeps_the_rest();
     addition_keeps_the_rest();
     made_keyslot_has_room();
@@ -70,20 +59,11 @@ pub fn luks2_edit_opens()
         → HasRanges v e random → IsUnrefused2 v payload e random → After2 v payload e random w
         → OpensAfter2 v e w }
 {
-    one_choice();
-    chosen_copy_is_sound();
-    soundness_is_local();
-    luks2_without_faults();
-    one_value();
-    metadata_without_faults();
-    one_digest();
     removal_keeps_the_rest();
     addition_keeps_the_rest();
     made_keyslot_has_room();
     change_keeps_the_rest();
     sealed_area_opens();
-    found_key_meets_digest();
-    one_answer();
 }
 
 /// What a failing device call leaves of a well formed LUKS2 volume is well formed, unless bytes of
@@ -110,20 +90,11 @@ pub fn luks2_failing_edit()
         → HasRanges v e random → Leftover2 v payload e random w → IsNotStray v payload e random w
         → OpensEither2 v e w }
 {
-    one_choice();
-    chosen_copy_is_sound();
-    soundness_is_local();
-    luks2_without_faults();
-    one_value();
-    metadata_without_faults();
-    one_digest();
     removal_keeps_the_rest();
     addition_keeps_the_rest();
     made_keyslot_has_room();
     change_keeps_the_rest();
     sealed_area_opens();
-    found_key_meets_digest();
-    one_answer();
 }
 
 /// An edit has one refusal at most.

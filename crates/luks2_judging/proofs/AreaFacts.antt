@@ -50,13 +50,10 @@ module _ (v : List ℕ) (copy : ChosenCopy) (x : IsChosenCopy v copy) where
 
 -- ---- the row `NoRoom`, of the areas that were listed in a volume of `total` bytes
 
-module _ (v : List ℕ) (copy : ChosenCopy) (x : IsChosenCopy v copy) (payload : Data) (total : ℕ) (size : length v ≡ total) where
-  header_long : area_len copy.meta + 4096 ≡ hdr_size (header_at v copy.header.hdr_offset)
+module _ (v : List ℕ) (copy : ChosenCopy) (x : IsChosenCopy v copy) where
+  pub header_long : area_len copy.meta + 4096 ≡ hdr_size (header_at v copy.header.hdr_offset)
   header_long = copy_long v copy x (copy_sound v copy.header.hdr_offset copy.copies x.chosen)
 
-  pub listed_here : (entries : List Entry) → Lists entries (AreaOf v payload) → Lists entries (Luks2Area (content copy.meta) (area_len copy.meta + 4096) payload total)
-  listed_here entries lists = lists_here v copy x entries payload (area_len copy.meta + 4096) total header_long size lists
-
-  -- what is said of the header's size and the volume's length
-  pub said_here : (says : ℕ → ℕ → Type 0) → says (area_len copy.meta + 4096) total → says (hdr_size (header_at v copy.header.hdr_offset)) (length v)
-  said_here says is = rw (size, ← header_long) is
+  pub listed_here : (payload : Data) (total : ℕ) → length v ≡ total → (entries : List Entry) → Lists entries (AreaOf v payload)
+      → Lists entries (Luks2Area (content copy.meta) (area_len copy.meta + 4096) payload total)
+  listed_here payload total size entries lists = lists_here v copy x entries payload (area_len copy.meta + 4096) total header_long size lists

@@ -3,6 +3,7 @@ use Rattle.std.proofs.Common.{◌≡◌, ℕ, ◌*◌, List, length, Option, Som
 use Rattle.std.proofs.lemmas.Option.{same_Some}
 use Rattle.base64.specs.GeneralPurpose.{IsBytes}
 use Rattle.serde_json.specs.Data.{Data as Value}
+use Rattle.serde_json.specs.Written.{compact_text}
 use Rattle.luks_area.specs.declared.area.Area.{Area}
 use Rattle.luks_making.specs.Changed.{changed_slot}
 use Rattle.luks_making.specs.Keyslots.{IsMadeFrom, NewMembers, SlotMembers}
@@ -18,7 +19,7 @@ use Rattle.luks2_edits.specs.Places.{key_areas_end, rounded_to_blocks, IsNewArea
 use Rattle.luks2_judging.specs.Salts.{HasOneDigest}
 use Rattle.luks2_judging.proofs.EncodedFacts.{quoted_length}
 use Rattle.luks2_judging.proofs.SaltFacts.{AsLong, changed_as_long, SaltsAsLong, SameButSalt, with_as_long}
-use Rattle.luks2_judging.proofs.StripeFacts.{same_stripes}
+use Rattle.luks2_edits.proofs.ToldFacts.{same_stripes}
 
 pub new_once : (j : Value) (to : Option ℕ) (n m : ℕ) → IsNewKeyslot j to n → IsNewKeyslot j to m → n ≡ m
 new_once j (Some t) n m x y = x ∙ sym y
@@ -97,12 +98,17 @@ module _ (h total : ℕ) (payload : Data) (j : Value) (a b : List ℕ) (salts : 
       changed_as_long iterations a b one.area slot j salts in
       subst (λ v. AsLong v y) (sym one.is) (subst (λ v. AsLong (changed_slot slot (members_of iterations a one.area) j) v) (same ∙ sym two.is) long)
 
-  pub edited_as_long : (e : Edit) (x y : Value) → IsEdited h total payload e a j x → IsEdited h total payload e b j y → AsLong x y
+  edited_as_long : (e : Edit) (x y : Value) → IsEdited h total payload e a j x → IsEdited h total payload e b j y → AsLong x y
   edited_as_long (Add by_ old new to iterations) x y one two = added_as_long by_ to iterations x y one two
   edited_as_long (Change slot old new iterations) x y one two = renewed_as_long slot iterations x y one two
   edited_as_long (Remove slot passphrase) x y one two = subst (λ v. AsLong x v) (one ∙ sym two) refl
   edited_as_long Repair x y one two = subst (λ v. AsLong x v) (one ∙ sym two) refl
   edited_as_long (Label text) x y one two = subst (λ v. AsLong x v) (one ∙ sym two) refl
 
-pub salts_long : (a b : List ℕ) → IsBytes a → IsBytes b → length a ≡ length b → SaltsAsLong a b
+salts_long : (a b : List ℕ) → IsBytes a → IsBytes b → length a ≡ length b → SaltsAsLong a b
 salts_long a b one two same = record { same = quoted_length a b one two same }
+
+-- so its text is as long with one salt as with another
+pub texts_as_long : (h total : ℕ) (payload : Data) (e : Edit) (a b : List ℕ) (j x y : Value) → IsBytes a → IsBytes b → length a ≡ length b → HasOneDigest j
+    → IsEdited h total payload e a j x → IsEdited h total payload e b j y → length (compact_text x) ≡ length (compact_text y)
+texts_as_long h total payload e a b j x y one two same digests first second = edited_as_long h total payload j a b (salts_long a b one two same) digests e x y first second

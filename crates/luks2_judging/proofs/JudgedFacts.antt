@@ -1,12 +1,10 @@
 -- An edit judged row by row, up to `BadLabel`: the first fault, and what stands where none does.
 use Rattle.std.proofs.Common.{◌≡◌, ◌↔◌, ℕ, ◌<◌, ◌≤◌, Bor, List, length, true, Option, arith, refl, subst}
 use Rattle.serde_json.specs.Data.{Data as Value}
-use Rattle.luks_area.specs.declared.areas.Entry.{Entry}
 use Rattle.luks_head.specs.Header2.{hdr_size, header_at}
 use Rattle.luks_meta.specs.Requirements.{has_requirements}
 use Rattle.luks_slot.specs.declared.fault.SlotFault.{SlotFault}
 use Rattle.luks_reading.specs.declared.check_fault.CheckFault.{CheckFault}
-use Rattle.luks_reading.specs.declared.header.ChosenCopy.{ChosenCopy}
 use Rattle.luks_reading.specs.declared.open_fault.OpenFault.TheVariants as opening
 use Rattle.luks_reading.specs.declared.report.Data.{Data}
 use Rattle.luks_reading.specs.Answer.{Answer, refused, slot_row}
@@ -20,10 +18,10 @@ use Rattle.luks_edit.specs.Opener.{IsShut}
 use Rattle.luks_edit.specs.RowFacts.{after_check, after_plan, first_of_check, first_of_plan, first_of_row, next, not_before, passed_from, Passed}
 use Rattle.luks2_edits.specs.Metadata.{HasMetadata}
 use Rattle.luks2_edits.specs.Places.{HasNoNewArea}
-use Rattle.luks2_edits.specs.Refused.{HasNoFree, HasNoRoom, HasSaid, IsAbsent, IsBadLabel, IsEditFault2, IsLast, IsOnlyOne, IsTaken, Refusal2}
+use Rattle.luks2_edits.specs.Refused.{HasNoFree, HasNoRoom, IsAbsent, IsBadLabel, IsEditFault2, IsLast, IsOnlyOne, IsTaken, Refusal2}
 use Rattle.luks2_judging.specs.Header.{IsUnaccepted}
 use Rattle.luks2_judging.specs.Judged.{IsNewNumber, IsNumberFault}
-use Rattle.luks2_judging.specs.Judging.{IsJudgedTo, IsRefusedEarly}
+use Rattle.luks2_judging.specs.Judging.{IsRefusedEarly}
 use Rattle.luks2_judging.specs.Opened.{IsFirstShut, IsUnlocked, IsUnopened}
 use Rattle.luks2_judging.specs.Room.{IsUnsealable}
 use Rattle.luks2_judging.specs.Rows.{HasNoFaultBefore}
@@ -152,21 +150,6 @@ module _ (v : List ℕ) (payload : Data) (e : Edit) (random : List ℕ) where
 
   pub past_label : IsPast 11 v payload e random → (IsBadLabel e → ⊥) → IsPast 12 v payload e random
   past_label passed not = next (IsEditFault2 v payload e random) fault.BadLabel refl passed not
-
--- the keyslot is there that the edit opens
-pub not_absent : (v : List ℕ) (payload : Data) (e : Edit) (random : List ℕ) → HasNoFaultBefore 4 v payload e random → HasSaid v (λ o j. IsAbsent j e) → ⊥
-not_absent v payload e random x bad = let low : 4 ≤ 3 = x.each fault.NoSuchSlot bad in omega (arith, low)
-
--- ---- by the edit, once its keyslot was opened
-
-module _ (copy : ChosenCopy) (areas : List Entry) (v : List ℕ) (payload : Data) (e : Edit) where
-  six : (random : List ℕ) → IsJudgedTo 4 copy areas v payload e random → IsUnlocked v e → IsPast 6 v payload e random
-  six random x past = past_opened v payload e random past (passed_of 4 v payload e random x.passed)
-
--- the same of the edit as it was read
-pub six_as : (copy : ChosenCopy) (areas : List Entry) (v : List ℕ) (payload : Data) (e it : Edit) → e ≡ it
-    → ((random : List ℕ) → IsJudgedTo 4 copy areas v payload e random) → IsUnlocked v e → (random : List ℕ) → IsPast 6 v payload it random
-six_as copy areas v payload e it is judged past random = subst (λ y. IsPast 6 v payload y random) is (six copy areas v payload e random (judged random) past)
 
 -- a keyslot is sealed like the keyslot `like`, with so many iterations: the rows `NoRoom` to `BadLabel`
 module _ (v : List ℕ) (payload : Data) (o : ℕ) (j : Value) (m : HasMetadata v o j) (e : Edit) (like iterations : ℕ)

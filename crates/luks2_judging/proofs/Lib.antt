@@ -1,6 +1,6 @@
 mod AreaFacts
 mod ChosenFacts
-mod EditedFacts
+pub mod EditedFacts
 mod EncodedFacts
 mod JudgedFacts
 mod KeyslotFacts
@@ -8,6 +8,7 @@ mod LastFacts
 mod NeedFacts
 mod NumberFacts
 mod OpenerFacts
+mod ReadFacts
 mod RoomFacts
 mod SaltFacts
 mod StripeFacts

@@ -1,11 +1,16 @@
 -- How many random bytes an edit takes, and the first of the faults that are seen without a key.
-use Rattle.std.proofs.Common.{Bor, Option, refl, ◌≡◌, ℕ, List, true}
+use Rattle.std.proofs.Common.{Bor, Option, refl, ◌≡◌, ℕ, List, true, subst, sym}
 use Rattle.luks_area.specs.First.{IsLeast}
 use Rattle.serde_json.specs.Data.{Data as Value}
+use Rattle.luks_meta.specs.Content.{content}
 use Rattle.luks_meta.specs.Requirements.{has_requirements}
 use Rattle.luks_reading.specs.declared.check_fault.CheckFault.{CheckFault}
+use Rattle.luks_reading.specs.declared.header.ChosenCopy.{ChosenCopy}
+use Rattle.luks_reading.specs.declared.header.Header.{Header}
+use Rattle.luks_reading.specs.declared.header.Header.TheVariants.{Luks2}
 use Rattle.luks_reading.specs.declared.report.Data.{Data}
-use Rattle.luks_reading.specs.Checked.{IsFault}
+use Rattle.luks_reading.specs.Checked.{IsFault, WellFormed}
+use Rattle.luks_reading.specs.Header.{IsHeader}
 use Rattle.luks_edit.specs.declared.edit.Edit.{Edit}
 use Rattle.luks_edit.specs.declared.edit.Edit.TheVariants.{Add}
 use Rattle.luks_edit.specs.declared.edit_fault.EditFault.{EditFault}
@@ -17,7 +22,8 @@ use Rattle.luks2_edits.specs.Refused.{HasNoFree, IsAbsent, IsTaken, Need2}
 use Rattle.luks2_judging.specs.Header.{IsUnaccepted}
 use Rattle.luks2_judging.specs.Judged.{IsNumberFault}
 use Rattle.luks2_judging.specs.Needed.{IsNeedFault2, NeedsRandom}
-use Rattle.luks2_judging.proofs.ChosenFacts.{said, say}
+use Rattle.luks2_edits.proofs.VolumeLaws.{well_formed_faultless}
+use Rattle.luks2_judging.proofs.ChosenFacts.{copy_in, metadata_of, said, say}
 use Rattle.luks2_judging.proofs.NumberFacts.{unnumbered_untaken}
 
 -- the volume isn't accepted
@@ -86,3 +92,24 @@ need_unnumbered v payload o j m by_ old new to iterations accepted unrequired th
 need_unnumbered v payload o j m by_ old new to iterations accepted unrequired there fault.NoFreeSlot bad =
     need_unfree v payload o j m (Add by_ old new to iterations) accepted unrequired there (unnumbered_untaken j to bad) bad
 need_unnumbered v payload o j m by_ old new to iterations accepted unrequired there f bad = absurd bad
+
+-- ---- by the header that was read
+
+-- a volume that was accepted, with the copy that counts
+pub record IsAcceptedCopy (v : List ℕ) (payload : Data) (copy : ChosenCopy) : Type 0 where
+  pub metadata : HasMetadata v copy.header.hdr_offset (content copy.meta)
+  pub accepted : (f : CheckFault) → IsFault v payload f → ⊥
+
+pub accepted_copy : {v : List ℕ} {payload : Data} {header : Header} {copy : ChosenCopy} → header ≡ Luks2 copy → IsHeader v header → WellFormed v payload
+    → IsAcceptedCopy v payload copy
+accepted_copy {v} {payload} {header} {copy} read is well = record { metadata = metadata_of v copy (copy_in v header copy read is); accepted = well_formed_faultless v payload well }
+
+-- how many random bytes the edit takes that was read as `it`
+pub need_as : {v : List ℕ} {payload : Data} {copy : ChosenCopy} {e it : Edit} → e ≡ it → IsAcceptedCopy v payload copy
+    → (has_requirements (content copy.meta) ≡ true → ⊥) → (IsAbsent (content copy.meta) e → ⊥)
+    → (k : ℕ) → (IsTaken (content copy.meta) it → ⊥) → (HasNoFree (content copy.meta) it → ⊥)
+    → ((IsAbsent (content copy.meta) it → ⊥) → Need2 (content copy.meta) it k) → NeedsRandom v payload e k
+need_as {v} {payload} {copy} {e} {it} asked a unrequired there k untaken free need =
+    let here : IsAbsent (content copy.meta) it → ⊥ = subst (λ y. IsAbsent (content copy.meta) y → ⊥) asked there in
+    subst (λ y. NeedsRandom v payload y k) (sym asked)
+    (need_told v payload copy.header.hdr_offset (content copy.meta) a.metadata it a.accepted unrequired here k untaken free (need here))

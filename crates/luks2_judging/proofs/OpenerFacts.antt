@@ -28,6 +28,10 @@ use Rattle.luks2_edits.proofs.VolumeLaws.{metadata_faultless, one_answer, one_ch
 use Rattle.luks2_judging.proofs.ChosenFacts.{say}
 use Rattle.luks2_judging.proofs.KeyslotFacts.{used_of, used_or_free}
 
+-- an edit that was read opens what it opens
+pub opens_as : (e it : Edit) (n : ℕ) (p : List ℕ) → e ≡ it → OpensBy it n p → OpensBy e n p
+opens_as e it n p is there = subst (λ y. OpensBy y n p) (sym is) there
+
 pub opens_once : (e : Edit) (n m : ℕ) (p q : List ℕ) → OpensBy e n p → OpensBy e m q → (m ≡ n) × (q ≡ p)
 opens_once (Add by_ old new to iterations) n m p q x y = (y.0 ∙ sym x.0, y.1 ∙ sym x.1)
 opens_once (Change slot old new iterations) n m p q x y = (y.0 ∙ sym x.0, y.1 ∙ sym x.1)

@@ -6,3 +6,4 @@ pub mod Opened
 pub mod Room
 pub mod Rows
 pub mod Salts
+pub mod Sealing

@@ -17,24 +17,32 @@ pub struct Judged<'a> {
 pub enum JudgedEdit<'a> {
     /// A keyslot is added, and the volume key sealed in it under the passphrase.
     Add {
+        /// The keyslot.
         addition: Addition,
+        /// The volume key, which the old passphrase opened.
         key: Key,
+        /// The new passphrase.
         passphrase: &'a [u8],
     },
     /// The volume key is sealed again in a keyslot, under the passphrase.
     Change {
+        /// The keyslot, with its new area.
         renewal: Renewal,
+        /// The volume key, which the old passphrase opened.
         key: Key,
+        /// The new passphrase.
         passphrase: &'a [u8],
     },
-    /// This keyslot is removed, which is there.
+    /// A keyslot is removed.
     Remove {
+        /// Its number, 0 to 31; it is there.
         slot: u8,
     },
     /// Both copies of the header are written anew.
     Repair,
-    /// The label is set by this field of the header: its text and zeros.
+    /// The label is set.
     Label {
+        /// Its field of the header, 48 bytes: its text and zeros.
         field: [u8; 48],
     },
 }

@@ -1,5 +1,5 @@
 //! Judging an edit of a LUKS2 volume by the rows that nothing has to be made for.
-ghost use Rattle.std.specs.Prelude.{◌≡◌, ◌≢◌, ◌+◌, ◌^◌, ◌<◌, ℕ, List, false, length, IfErr, IfOk, OnOk};
+ghost use Rattle.std.specs.Prelude.{◌≡◌, ◌≢◌, ◌+◌, ◌-◌, ◌^◌, ◌<◌, ◌≤◌, ℕ, List, false, length, IfErr, IfOk, OnOk};
 ghost use Rattle.luks_area.specs.declared.area.Area.{Area as TheArea};
 ghost use Rattle.luks_area.specs.declared.area.AreaName.{AreaName};
 ghost use Rattle.luks_area.specs.Area.{IsInside};
@@ -10,18 +10,25 @@ ghost use Rattle.luks_meta.specs.Content.{area_len, content};
 ghost use Rattle.luks_reading.specs.declared.header.Header.TheVariants.{Luks2 as OfLuks2};
 ghost use Rattle.luks_reading.specs.declared.report.Data.{Data as Payload};
 ghost use Rattle.luks_reading.specs.Checked.{WellFormed};
+ghost use Rattle.luks_reading.specs.Layout2.{Luks2Area};
+ghost use Rattle.luks_reading.specs.Listing.{Lists};
+ghost use Rattle.luks2_edits.specs.Metadata.{IsInUse};
+ghost use Rattle.luks2_edits.specs.Places.{IsNewArea};
 ghost use Rattle.luks_reading.specs.Header.{IsAcceptedHeader, IsHeader};
 ghost use Rattle.luks_edit.specs.EditFaults.{is_edit_failure};
 ghost use Rattle.luks2_edits.specs.Refused.{IsAbsent, Refusal2};
 ghost use Rattle.luks2_judging.specs.Header.{IsOfLuks2};
+ghost use Rattle.luks2_judging.specs.Judged.{IsNewNumber};
 ghost use Rattle.luks2_judging.specs.Judging.{IsJudged, IsJudgedTo, IsRefusedEarly, IsUnrefusedSoFar, Seals, Takes};
+ghost use Rattle.luks2_judging.specs.Room.{IsPlaced, IsUnsealable};
 ghost use Rattle.luks2_judging.specs.Rows.{HasNoFaultBefore};
+ghost use Rattle.luks2_judging.specs.Sealing.{IsUnadded};
 
 use crate::accepted::{accepted_areas, copy_of};
 use crate::judged::{Addition, Judged, JudgedEdit, Renewal};
 use crate::keyslots::{judge_opener, judge_requirements, new_number};
-use crate::labels::label_field;
-use crate::room::judge_sealing;
+use crate::labels::judge_label;
+use crate::room::{Room, judge_sealing};
 use crate::rows::judge_last;
 use crate::unlocking::unlock;
 use luks_area::{Areas, Device};
@@ -34,6 +41,23 @@ use std::alloc::Global;
 struct Accepted<'a> {
     copy: &'a ChosenCopy,
     areas: Areas,
+    /// The volume's length, in bytes.
+    total: u64,
+}
+
+impl Accepted<'_> {
+    /// The room for a keyslot's area.
+    fn room(&self) -> Room<'_>
+        ensures meta { result.meta.now ≡ self.now.copy.now.meta }
+        ensures entries { result.entries.now ≡ self.now.areas }
+        ensures total { result.total ≡ self.now.total }
+    {
+        Room {
+            meta: &self.copy.meta,
+            entries: self.areas.as_slice(),
+            total: self.total,
+        }
+    }
 }
 
 /// Judges the edit of the LUKS2 volume with this header by the rows `NotAccepted` to `BadLabel` of
@@ -82,6 +106,7 @@ fn judge_without_key<'a>(
     ensures own { IfErr result (λ f. is_edit_failure f ≡ false) }
     ensures memory { IfErr result (λ f. f ≢ EditFault.Memory) }
     ensures copy { IfOk result (λ a. header.now ≡ OfLuks2 a.copy.now) }
+    ensures total { IfOk result (λ a. a.total ≡ total) }
     ensures there { IfOk result (λ a. IsAbsent (content a.copy.now.meta) edit.now → ⊥) }
     ensures inside { IfOk result (λ a. (m : AreaName) (b : TheArea) → HasArea a.areas m b
         → IsInside b total) }
@@ -96,7 +121,7 @@ fn judge_without_key<'a>(
     let copy = copy_of(header);
     judge_requirements(&copy.meta)?;
     judge_opener(&copy.meta, edit)?;
-    Ok(Accepted { copy, areas })
+    Ok(Accepted { copy, areas, total })
 }
 
 /// The rows from the opening of a keyslot on: `Locked`, `Slot`, `SlotTaken`, `NoFreeSlot`, `NoRoom`,
@@ -112,8 +137,9 @@ fn judge_with_key<'a, D: Device>(
     requires accepted { IsAcceptedHeader header.now }
     requires copy { header.now ≡ OfLuks2 accepted.now.copy.now }
     requires there { IsAbsent (content accepted.now.copy.now.meta) edit.now → ⊥ }
+    requires total { accepted.now.total ≡ D.size device.old }
     requires inside { (m : AreaName) (a : TheArea) → HasArea accepted.now.areas m a
-        → IsInside a (D.size device.old) }
+        → IsInside a accepted.now.total }
     ensures unchanged { IsUnchanged D.tells D.size D.bytes D.unsettled device.old device.new }
     ensures count { CountsFailure is_edit_failure result
         (D.failed device.old) (D.failed device.new) }
@@ -137,9 +163,7 @@ fn judge_with_key<'a, D: Device>(
         (D.bytes device.old) payload edit.now random)
         → IfErr result (IsRefusedEarly (D.bytes device.old) payload edit.now) }
 {
-    let meta = &accepted.copy.meta;
-    let areas = accepted.areas.as_slice();
-    let total = device.len();
+    let room = accepted.room();
     match *edit {
         Edit::Add {
             by_,
@@ -149,14 +173,7 @@ fn judge_with_key<'a, D: Device>(
             iterations,
         } => {
             let key = unlock(alloc, device, header, by_, old)?;
-            let made = new_number(meta, to)?;
-            let area = judge_sealing(meta, areas, total, by_, iterations)?;
-            let addition = Addition {
-                by_,
-                iterations,
-                made,
-                area,
-            };
+            let addition = judge_addition(&room, by_, to, iterations)?;
             Ok(JudgedEdit::Add {
                 addition,
                 key,
@@ -170,12 +187,7 @@ fn judge_with_key<'a, D: Device>(
             iterations,
         } => {
             let key = unlock(alloc, device, header, slot, old)?;
-            let area = judge_sealing(meta, areas, total, slot, iterations)?;
-            let renewal = Renewal {
-                slot,
-                iterations,
-                area,
-            };
+            let renewal = judge_renewal(&room, slot, iterations)?;
             Ok(JudgedEdit::Change {
                 renewal,
                 key,
@@ -184,13 +196,85 @@ fn judge_with_key<'a, D: Device>(
         }
         Edit::Remove { slot, passphrase } => {
             let _key = unlock(alloc, device, header, slot, passphrase)?;
-            judge_last(meta, slot)?;
+            judge_last(room.meta, slot)?;
             Ok(JudgedEdit::Remove { slot })
         }
         Edit::Repair => Ok(JudgedEdit::Repair),
-        Edit::Label { text } => {
-            let field = label_field(text)?;
-            Ok(JudgedEdit::Label { field })
-        }
+        Edit::Label { text } => judge_label(text),
+    }
+}
+
+/// The keyslot that is added with the members of the keyslot `by_`, which is there: of the number `to`,
+/// or else of the least that is free. Refused by `SlotTaken`, `NoFreeSlot`, `NoRoom`, `Iterations`.
+fn judge_addition(
+    room: &Room<'_>,
+    by_: u8,
+    to: Option<u8>,
+    iterations: u32,
+) -> Result<Addition, EditFault>
+    requires there { IsInUse (content room.now.meta.now) by_ }
+    requires ends { (m : AreaName) (a : TheArea) → HasArea room.now.entries.now m a
+        → IsInside a (2 ^ 64 - 1) }
+    ensures own { IfErr result (λ f. is_edit_failure f ≡ false) }
+    ensures memory { IfErr result (λ f. f ≢ EditFault.Memory) }
+    ensures like { IfOk result (λ a. a.by_ ≡ by_) }
+    ensures iterations { IfOk result (λ a. a.iterations ≡ iterations) }
+    ensures iterated { IfOk result (λ a. 1000 ≤ a.iterations) }
+    ensures number { IfOk result (λ a. IsNewNumber (content room.now.meta.now) to a.made) }
+    ensures placed { IfOk result (λ a.
+        IsPlaced (area_len room.now.meta.now) (content room.now.meta.now) room.now.total a.by_ a.area) }
+    ensures area { (payload : Payload) → Lists room.now.entries.now
+        (Luks2Area (content room.now.meta.now) (area_len room.now.meta.now + 4096) payload room.now.total)
+        → IfOk result (λ a. IsNewArea (area_len room.now.meta.now + 4096) room.now.total payload
+        (content room.now.meta.now) a.by_ a.area) }
+    ensures refused { (payload : Payload) → Lists room.now.entries.now
+        (Luks2Area (content room.now.meta.now) (area_len room.now.meta.now + 4096) payload room.now.total)
+        → IfErr result (IsUnadded (area_len room.now.meta.now + 4096) room.now.total payload
+        (content room.now.meta.now) by_ to iterations) }
+{
+    // Not by `?`: the kit makes no proof of it where no parameter holds a fault of the metadata.
+    let made = match new_number(room.meta, to) {
+        Ok(made) => made,
+        Err(fault) => return Err(fault),
+    };
+    match judge_sealing(room, by_, iterations) {
+        Ok(area) => Ok(Addition {
+            by_,
+            iterations,
+            made,
+            area,
+        }),
+        Err(fault) => Err(fault),
+    }
+}
+
+/// The keyslot `slot`, which is there, with its new area. Refused by `NoRoom`, `Iterations`.
+fn judge_renewal(room: &Room<'_>, slot: u8, iterations: u32) -> Result<Renewal, EditFault>
+    requires there { IsInUse (content room.now.meta.now) slot }
+    requires ends { (m : AreaName) (a : TheArea) → HasArea room.now.entries.now m a
+        → IsInside a (2 ^ 64 - 1) }
+    ensures own { IfErr result (λ f. is_edit_failure f ≡ false) }
+    ensures memory { IfErr result (λ f. f ≢ EditFault.Memory) }
+    ensures slot { IfOk result (λ r. r.slot ≡ slot) }
+    ensures iterations { IfOk result (λ r. r.iterations ≡ iterations) }
+    ensures iterated { IfOk result (λ r. 1000 ≤ r.iterations) }
+    ensures placed { IfOk result (λ r.
+        IsPlaced (area_len room.now.meta.now) (content room.now.meta.now) room.now.total r.slot r.area) }
+    ensures area { (payload : Payload) → Lists room.now.entries.now
+        (Luks2Area (content room.now.meta.now) (area_len room.now.meta.now + 4096) payload room.now.total)
+        → IfOk result (λ r. IsNewArea (area_len room.now.meta.now + 4096) room.now.total payload
+        (content room.now.meta.now) r.slot r.area) }
+    ensures refused { (payload : Payload) → Lists room.now.entries.now
+        (Luks2Area (content room.now.meta.now) (area_len room.now.meta.now + 4096) payload room.now.total)
+        → IfErr result (IsUnsealable (area_len room.now.meta.now + 4096) room.now.total payload
+        (content room.now.meta.now) slot iterations) }
+{
+    match judge_sealing(room, slot, iterations) {
+        Ok(area) => Ok(Renewal {
+            slot,
+            iterations,
+            area,
+        }),
+        Err(fault) => Err(fault),
     }
 }

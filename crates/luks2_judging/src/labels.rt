@@ -1,16 +1,32 @@
 //! Judging the label that an edit sets.
-ghost use Rattle.std.specs.Prelude.{◌≡◌, ◌++◌, ◌-◌, ◌<◌, ◌≤◌, ◌⊎◌, length, replicate, true, IfOk};
+ghost use Rattle.std.specs.Prelude.{◌≡◌, ◌≢◌, ◌++◌, ◌-◌, ◌<◌, ◌≤◌, ◌⊎◌, length, replicate, false, true, IfErr, IfOk};
 ghost use Rattle.luks_area.specs.Text.{is_plain, is_printable};
+ghost use Rattle.luks_edit.specs.EditFaults.{is_edit_failure};
 ghost use Rattle.luks2_judging.specs.Judged.{Judges};
+ghost use Rattle.luks2_judging.specs.declared.judged.JudgedEdit.TheVariants.{Label as TheLabel};
 
+use crate::judged::JudgedEdit;
 use luks_edit::EditFault;
 
 /// The most bytes of a label; a zero byte ends it.
 const MOST_LABEL: usize = 47;
 
+/// What setting the label takes. Refused by `BadLabel`.
+pub(crate) fn judge_label<'a>(text: &[u8]) -> Result<JudgedEdit<'a>, EditFault>
+    ensures own { IfErr result (λ f. is_edit_failure f ≡ false) }
+    ensures memory { IfErr result (λ f. f ≢ EditFault.Memory) }
+    ensures row { Judges ((47 < length text.now) ⊎ (is_plain text.now ≡ true → ⊥))
+        EditFault.BadLabel result }
+    ensures field { IfOk result (λ it.
+        it ≡ TheLabel (text.now ++ replicate (48 - length text.now) 0)) }
+{
+    let field = label_field(text)?;
+    Ok(JudgedEdit::Label { field })
+}
+
 /// The label's field of the header: its text, which has at most 47 bytes, all printable, and zeros.
 /// Refused by `BadLabel`.
-pub(crate) fn label_field(text: &[u8]) -> Result<[u8; 48], EditFault>
+fn label_field(text: &[u8]) -> Result<[u8; 48], EditFault>
     ensures row { Judges ((47 < length text.now) ⊎ (is_plain text.now ≡ true → ⊥))
         EditFault.BadLabel result }
     ensures field { IfOk result

@@ -24,6 +24,16 @@ const BLOCK: u64 = 4096;
 /// The bytes of the binary header with which a copy begins; its JSON area follows.
 const BINARY_HEADER: u64 = 4096;
 
+/// An accepted volume, as far as it tells where another keyslot's area goes.
+#[derive(Clone, Copy)]
+pub(crate) struct Room<'a> {
+    pub(crate) meta: &'a Meta,
+    /// The areas that the header names.
+    pub(crate) entries: &'a [Entry],
+    /// The volume's length, in bytes.
+    pub(crate) total: u64,
+}
+
 /// The region of the key areas, as far as it lies in a volume.
 #[derive(Clone, Copy)]
 struct Region {
@@ -35,29 +45,23 @@ struct Region {
 
 /// The area of a keyslot that is sealed like the keyslot `n`, which is there, and derived with so
 /// many iterations. Refused by `NoRoom`, `Iterations`.
-pub(crate) fn judge_sealing(
-    meta: &Meta,
-    entries: &[Entry],
-    total: u64,
-    n: u8,
-    iterations: u32,
-) -> Result<Area, EditFault>
-    requires there { IsInUse (content meta.now) n }
-    requires ends { (m : AreaName) (a : TheArea) → HasArea entries.now m a
+pub(crate) fn judge_sealing(room: &Room<'_>, n: u8, iterations: u32) -> Result<Area, EditFault>
+    requires there { IsInUse (content room.now.meta.now) n }
+    requires ends { (m : AreaName) (a : TheArea) → HasArea room.now.entries.now m a
         → IsInside a (2 ^ 64 - 1) }
     ensures own { IfErr result (λ f. is_edit_failure f ≡ false) }
     ensures memory { IfErr result (λ f. f ≢ EditFault.Memory) }
     ensures iterated { OnOk result (1000 ≤ iterations) }
-    ensures placed { IfOk result (IsPlaced (area_len meta.now) (content meta.now) total n) }
-    ensures area { (payload : Payload) → Lists entries.now
-        (Luks2Area (content meta.now) (area_len meta.now + 4096) payload total)
-        → IfOk result (IsNewArea (area_len meta.now + 4096) total payload (content meta.now) n) }
-    ensures refused { (payload : Payload) → Lists entries.now
-        (Luks2Area (content meta.now) (area_len meta.now + 4096) payload total)
+    ensures placed { IfOk result (IsPlaced (area_len room.now.meta.now) (content room.now.meta.now) room.now.total n) }
+    ensures area { (payload : Payload) → Lists room.now.entries.now
+        (Luks2Area (content room.now.meta.now) (area_len room.now.meta.now + 4096) payload room.now.total)
+        → IfOk result (IsNewArea (area_len room.now.meta.now + 4096) room.now.total payload (content room.now.meta.now) n) }
+    ensures refused { (payload : Payload) → Lists room.now.entries.now
+        (Luks2Area (content room.now.meta.now) (area_len room.now.meta.now + 4096) payload room.now.total)
         → IfErr result
-        (IsUnsealable (area_len meta.now + 4096) total payload (content meta.now) n iterations) }
+        (IsUnsealable (area_len room.now.meta.now + 4096) room.now.total payload (content room.now.meta.now) n iterations) }
 {
-    let Some(area) = new_area(meta, entries, total, n) else {
+    let Some(area) = new_area(room.meta, room.entries, room.total, n) else {
         return Err(EditFault::NoRoom);
     };
     if iterations < LEAST_ITERATIONS {

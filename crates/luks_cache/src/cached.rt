@@ -63,8 +63,8 @@ impl<D: Device> CachedDevice<D> {
         at + len as u64 <= self.count as u64
     }
 
-    /// Remembers bytes that were read at `at`, where they follow those that are remembered and there
-    /// is room for them.
+    /// Remembers bytes that were read at `at`, where they follow those that are remembered: as many as
+    /// there is room for.
     fn remember(&mut self, at: u64, read: &[u8])
         requires within { at + length read.now ≤ cached_size self.old }
         requires told { D.tells → read.now ≡ part (D.bytes (device_behind self.old)) at (length read.now) }
@@ -73,9 +73,10 @@ impl<D: Device> CachedDevice<D> {
         ensures follows { Follows self.old at (length read.now)
             → IsRemembered self.new at (length read.now) }
     {
-        if at == self.count as u64 && read.len() <= ROOM - self.count {
-            let end = self.count + read.len();
-            self.bytes[self.count..end].copy_from_slice(read);
+        if at == self.count as u64 {
+            let len = read.len().min(ROOM - self.count);
+            let end = self.count + len;
+            self.bytes[self.count..end].copy_from_slice(&read[..len]);
             self.count = end;
         }
     }

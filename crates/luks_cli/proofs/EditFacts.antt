@@ -1,5 +1,5 @@
 -- What an edit leaves of a volume, by how the command ended.
-use Rattle.std.proofs.Common.{◌≡◌, ◌≢◌, ℕ, List, [], ◌∷◌, ◌++◌, Option, Some, None, IfSome, Result, Ok, Err, IfOk, OnErr, option_map, refl, sym, ap, ◌∙◌, subst, inl, inr, arith}
+use Rattle.std.proofs.Common.{◌≡◌, ◌≢◌, ℕ, List, [], ◌∷◌, ◌++◌, Option, Some, None, IfSome, Result, Ok, Err, option_map, refl, sym, ap, ◌∙◌, subst, inl, inr, arith}
 use Rattle.luks_area.specs.First.{IsLeast}
 use Rattle.luks_area.specs.declared.area.AreaName.{AreaName}
 use Rattle.luks_area.specs.declared.area.AreaName.TheVariants.{Slot, Segment}
@@ -22,12 +22,15 @@ use Rattle.luks_request.specs.declared.request.EditRequest.{EditRequest}
 use Rattle.luks_request.specs.declared.request.EditRequest.TheVariants.{Add, Change, Remove, Repair, Label}
 use Rattle.luks_request.specs.Named.{edit_new_of, edit_passphrase_of}
 use Rattle.luks_request.specs.declared.request.Editing.{Editing}
+use Rattle.luks_cli.specs.declared.answers.Answer.{Answer}
 use Rattle.luks_cli.specs.declared.answers.Status.{Status}
-use Rattle.luks_cli.specs.declared.answers.Status.TheVariants.{Done, Refused, NotInStep, Fault}
-use Rattle.luks_cli.specs.Editing.{Given, IsAsked, KeepsUnnamed, WhereFailed, IsRefused, IsReplied, RepliesAlone, SaysEdit, SparesEdit, SparesVolume, ended_by, given_edit}
+use Rattle.luks_cli.specs.declared.answers.Status.TheVariants.{Done, Refused, Fault}
+use Rattle.luks_cli.specs.Answer.{answer_status, edit_fault_answer}
+use Rattle.luks_cli.specs.EditAnswers.{IsWordless}
+use Rattle.luks_cli.specs.Editing.{Given, IsAsked, KeepsUnnamed, WhereFailed, IsRefused, IsReplied, RepliesAlone, SaysEdit, SparesEdit, SparesVolume, given_edit}
 use Rattle.luks_cli.specs.declared.inputs.InputFault.{InputFault}
-use Rattle.luks_cli.specs.Exit.{exit_status}
 use Rattle.luks_cli.specs.Files.{LeavesVolume}
+use Rattle.luks_cli.proofs.EndFacts.{unread_is_fault}
 
 -- ---- what is kept
 
@@ -103,19 +106,23 @@ spared_alone payload v w s before after none x =
 
 -- ---- how the edit ended
 
-abbrev ended_in : EditFault → Reply
+-- how the command ends by this fault
+abbrev pub ended_by : EditFault → Status
+ended_by f = answer_status (edit_fault_answer f)
+
+abbrev pub ended_in : EditFault → Reply
 ended_in f = Err f
 
-err_same : (f g : EditFault) → ended_in f ≡ ended_in g → f ≡ g
+pub err_same : (f g : EditFault) → ended_in f ≡ ended_in g → f ≡ g
 err_same f g is = cc
 
 not_refused : (f : EditFault) → f ≡ fault.Memory → ended_by f ≡ Refused → ⊥
 not_refused f is refused = let ends : Fault ≡ Refused = sym (ap ended_by is) ∙ refused in cc
 
-abbrev made_in : Made → Reply
+abbrev pub made_in : Made → Reply
 made_in made = Ok made
 
-not_made : (made : Made) (f : EditFault) → made_in made ≡ ended_in f → ⊥
+pub not_made : (made : Made) (f : EditFault) → made_in made ≡ ended_in f → ⊥
 not_made made f is = cc
 
 -- an edit that was completed isn't one that the device failed in
@@ -169,13 +176,11 @@ refused_at_once payload v e fault.Device is refused = absurd (no_refusal refused
 -- ---- what the command tells, by how it ended
 
 -- how a command ended isn't how it didn't
-not_so : {F : Type 0} (ended : Result Status F) (is other : Status) → IfOk ended (λ s. s ≡ is) → is ≢ other → ended ≡ Ok other → ⊥
-not_so (Ok s) is other told apart same = let e : s ≡ other = cc in apart (sym told ∙ e)
-not_so (Err f) is other told apart same = cc
+not_so : (ended is other : Status) → ended ≡ is → is ≢ other → ended ≡ other → ⊥
+not_so ended is other told apart same = apart (sym told ∙ same)
 
-so : {F : Type 0} (ended : Result Status F) (is other : Status) → IfOk ended (λ s. s ≡ is) → ended ≡ Ok other → is ≡ other
-so (Ok s) is other told same = let e : s ≡ other = cc in sym told ∙ e
-so (Err f) is other told same = absurd (let e : Err f ≡ Ok other = same in cc)
+so : (ended is other : Status) → ended ≡ is → ended ≡ other → is ≡ other
+so ended is other told same = sym told ∙ same
 
 never_done : (f : EditFault) → ended_by f ≡ Done → ⊥
 never_done (fault.NotAccepted f) is = cc
@@ -195,30 +200,33 @@ never_done fault.RandomLength is = cc
 never_done fault.Memory is = cc
 never_done fault.Device is = cc
 
-module _ {F : Type 0} (payload : Data) (v w : List ℕ) (ended : Result Status F) where
+-- the edit was run
+pub run_replied : (payload : Data) (v w : List ℕ) (e : Edit) (has_random : ℕ → List ℕ → Type 0) (u : List ℕ) → u ≡ v → (count : ℕ) (random : List ℕ)
+    → NeedsRandom v payload e count → has_random count random → (reply : Reply) → Replies payload u e random reply w
+    → IsReplied payload (given_edit e has_random) v w reply
+run_replied payload v w e has_random u unchanged count random needs taken reply is = record {
+  edit = e;
+  asked = refl;
+  count = count;
+  needs = needs;
+  random = random;
+  taken = taken;
+  replies = subst (λ x. Replies payload x e random reply w) unchanged is;
+}
+
+module _ (payload : Data) (v w : List ℕ) (ended : Status) where
   -- a file couldn't be read
-  pub says_unread : (given : Given) → w ≡ v → IfOk ended (λ s. s ≡ Fault) → SaysEdit payload given v w (ended ≡ Ok Done) (ended ≡ Ok Refused)
+  pub says_unread : (given : Given) → w ≡ v → ended ≡ Fault → SaysEdit payload given v w (ended ≡ Done) (ended ≡ Refused)
   says_unread given same told = record {
     done = λ is. absurd (not_so ended Fault Done told (λ e. cc) is);
     refused = λ is. absurd (not_so ended Fault Refused told (λ e. cc) is);
     rest = inl same;
   }
 
-  -- there is no passphrase
-  pub says_wordless : (given : Given) → w ≡ v → IfOk ended (λ s. s ≢ Fault → (s ≡ Refused) × given.is_long)
-      → SaysEdit payload given v w (ended ≡ Ok Done) (ended ≡ Ok Refused)
-  says_wordless given same told = record {
-    done = λ is. let held : (Done ≢ Fault → (Done ≡ Refused) × given.is_long) = subst (λ e. IfOk e (λ s. s ≢ Fault → (s ≡ Refused) × given.is_long)) is told in
-        absurd (let e : Done ≡ Refused = (held (λ x. cc)).0 in cc);
-    refused = λ is. let held : (Refused ≢ Fault → (Refused ≡ Refused) × given.is_long) = subst (λ e. IfOk e (λ s. s ≢ Fault → (s ≡ Refused) × given.is_long)) is told in
-        (same, inl (held (λ x. cc)).1);
-    rest = inl same;
-  }
-
   module _ (e : Edit) (has_random : ℕ → List ℕ → Type 0) where
     -- how many random bytes it takes wasn't told
-    pub says_untold : (f : EditFault) → w ≡ v → TellsNeed payload v e (Err f) → IfOk ended (λ s. s ≡ ended_by f)
-        → SaysEdit payload (given_edit e has_random) v w (ended ≡ Ok Done) (ended ≡ Ok Refused)
+    pub says_untold : (f : EditFault) → w ≡ v → TellsNeed payload v e (Err f) → ended ≡ ended_by f
+        → SaysEdit payload (given_edit e has_random) v w (ended ≡ Done) (ended ≡ Refused)
     says_untold f same tells told = record {
       done = λ is. absurd (never_done f (so ended (ended_by f) Done told is));
       refused = λ is. (
@@ -235,19 +243,11 @@ module _ {F : Type 0} (payload : Data) (v w : List ℕ) (ended : Result Status F
 
     module _ (u : List ℕ) (unchanged : u ≡ v) (count : ℕ) (random : List ℕ) (needs : NeedsRandom v payload e count) (taken : has_random count random) where
       replied : (reply : Reply) → Replies payload u e random reply w → IsReplied payload (given_edit e has_random) v w reply
-      replied reply is = record {
-        edit = e;
-        asked = refl;
-        count = count;
-        needs = needs;
-        random = random;
-        taken = taken;
-        replies = subst (λ x. Replies payload x e random reply w) unchanged is;
-      }
+      replied reply is = run_replied payload v w e has_random u unchanged count random needs taken reply is
 
       -- the edit was completed
-      pub says_made : (made : Made) → RepliesAlone payload u e random (Ok made) w → IfOk ended (λ s. s ≡ Done)
-          → SaysEdit payload (given_edit e has_random) v w (ended ≡ Ok Done) (ended ≡ Ok Refused)
+      pub says_made : (made : Made) → RepliesAlone payload u e random (Ok made) w → ended ≡ Done
+          → SaysEdit payload (given_edit e has_random) v w (ended ≡ Done) (ended ≡ Refused)
       says_made made (inl none) told = absurd (not_made made fault.Memory none.0)
       says_made made (inr is) told = record {
         done = λ _. record { done = made; replied = replied (Ok made) is };
@@ -256,8 +256,8 @@ module _ {F : Type 0} (payload : Data) (v w : List ℕ) (ended : Result Status F
       }
 
       -- a fault ended it
-      pub says_fault : (f : EditFault) → RepliesAlone payload u e random (Err f) w → IfOk ended (λ s. s ≡ ended_by f)
-          → SaysEdit payload (given_edit e has_random) v w (ended ≡ Ok Done) (ended ≡ Ok Refused)
+      pub says_fault : (f : EditFault) → RepliesAlone payload u e random (Err f) w → ended ≡ ended_by f
+          → SaysEdit payload (given_edit e has_random) v w (ended ≡ Done) (ended ≡ Refused)
       says_fault f is told = record {
         done = λ same. absurd (never_done f (so ended (ended_by f) Done told same));
         refused = λ same. let by = refused_by payload u w e random f is (so ended (ended_by f) Refused told same) in (
@@ -279,8 +279,18 @@ module _ {F : Type 0} (payload : Data) (v w : List ℕ) (ended : Result Status F
         ];
       }
 
+-- there is no passphrase
+pub says_wordless : (payload : Data) (given : Given) (unread : InputFault → Type 0) (v w : List ℕ) (a : Answer) → w ≡ v → IsWordless given.is_long unread a
+    → SaysEdit payload given v w (answer_status a ≡ Done) (answer_status a ≡ Refused)
+says_wordless payload given unread v w a same (inl x) = record {
+  done = λ e. absurd (not_so (answer_status a) Refused Done (ap answer_status x.0) (λ d. cc) e);
+  refused = λ e. (same, inl x.1);
+  rest = inl same;
+}
+says_wordless payload given unread v w a same (inr x) = says_unread payload v w (answer_status a) given same (ap answer_status x.2 ∙ unread_is_fault x.0)
+
 -- what is told of an edit that is given so, is told of one that is given otherwise
-replied_as : (payload : Data) (given other : Given) (v w : List ℕ) (reply : Reply) → ((e : Edit) → given.asks e → other.asks e)
+pub replied_as : (payload : Data) (given other : Given) (v w : List ℕ) (reply : Reply) → ((e : Edit) → given.asks e → other.asks e)
     → ((n : ℕ) (b : List ℕ) → given.has_random n b → other.has_random n b) → IsReplied payload given v w reply → IsReplied payload other v w reply
 replied_as payload given other v w reply asks has x = record {
   edit = x.edit;
@@ -348,23 +358,6 @@ spared_edit payload v u w e has_random unchanged count random needs taken f (inr
   };
   spares = subst (λ y. Spares y payload e random w) unchanged x.1;
 })
-
--- the exit status tells how the command ended
-pub done_by : {F : Type 0} (ended : Result Status F) (status : ℕ) → IfOk ended (λ s. status ≡ exit_status s) → OnErr ended (status ≡ 4) → status ≡ 0
-    → ended ≡ Ok Done
-done_by (Ok Done) status told lost is = refl
-done_by (Ok Refused) status told lost is = absurd (omega (arith, told, is))
-done_by (Ok NotInStep) status told lost is = absurd (omega (arith, told, is))
-done_by (Ok Fault) status told lost is = absurd (omega (arith, told, is))
-done_by (Err x) status told lost is = absurd (omega (arith, lost, is))
-
-pub refusal_by : {F : Type 0} (ended : Result Status F) (status : ℕ) → IfOk ended (λ s. status ≡ exit_status s) → OnErr ended (status ≡ 4) → status ≡ 1
-    → ended ≡ Ok Refused
-refusal_by (Ok Done) status told lost is = absurd (omega (arith, told, is))
-refusal_by (Ok Refused) status told lost is = refl
-refusal_by (Ok NotInStep) status told lost is = absurd (omega (arith, told, is))
-refusal_by (Ok Fault) status told lost is = absurd (omega (arith, told, is))
-refusal_by (Err x) status told lost is = absurd (omega (arith, lost, is))
 
 -- ---- what is asked for
 

@@ -19,11 +19,10 @@ use Rattle.luks_request.specs.declared.request.Command.TheVariants as command
 use Rattle.luks_request.specs.declared.request.EditRequest.{EditRequest}
 use Rattle.luks_request.specs.declared.request.EditRequest.TheVariants.{Add, Change, Remove, Repair, Label}
 use Rattle.luks_request.specs.declared.request.Editing.{Editing}
-use Rattle.luks_cli.specs.declared.answers.Status.{Status}
-use Rattle.luks_cli.specs.declared.answers.Status.TheVariants.{Fault, Refused}
 use Rattle.luks_cli.specs.declared.inputs.InputFault.{InputFault}
 use Rattle.luks_cli.specs.declared.inputs.Inputs.{Inputs}
-use Rattle.luks_cli.specs.Files.{IsLong, IsTaken, IsWhole}
+use Rattle.luks_request.specs.Named.{edit_new_of, edit_passphrase_of}
+use Rattle.luks_cli.specs.Files.{IsLong, IsTaken, IsUnread, IsUnreadRandom, IsWhole, OfNamed}
 
 -- ---- what is asked for
 
@@ -57,8 +56,24 @@ abbrev pub given_by : {D R N : Type 0} → EditRequest → (R → Option (List �
 given_by request of_passphrase of_random inputs = record {
   asks = IsAsked request (IsWhole of_passphrase inputs.passphrase) (IsWhole of_passphrase inputs.new_passphrase);
   has_random = λ count. IsTaken count of_random inputs.random;
-  is_long = IsLong of_passphrase inputs.passphrase ⊎ IsLong of_passphrase inputs.new_passphrase;
+  is_long = OfNamed (edit_passphrase_of request) (IsLong of_passphrase inputs.passphrase) ⊎ OfNamed (edit_new_of request) (IsLong of_passphrase inputs.new_passphrase);
 }
+
+-- by which faults the files of an edit can't be read: that of a passphrase, and that of so many random bytes
+pub record Lacking : Type 1 where
+  pub words : InputFault → Type 0
+  pub random : ℕ → InputFault → Type 0
+
+-- of the files of the command line, those that the edit needs
+abbrev pub lacking_by : {D R N : Type 0} → EditRequest → Inputs D R N → Lacking
+lacking_by request inputs = record {
+  words = λ f. OfNamed (edit_passphrase_of request) (IsUnread inputs.passphrase f) ⊎ OfNamed (edit_new_of request) (IsUnread inputs.new_passphrase f);
+  random = λ count. IsUnreadRandom count inputs.random;
+}
+
+-- of an edit that has its passphrases
+abbrev pub lacking_random : (ℕ → InputFault → Type 0) → Lacking
+lacking_random random = record { words = λ f. ⊥; random = random }
 
 -- the edit is this one
 abbrev pub given_edit : Edit → (ℕ → List ℕ → Type 0) → Given
@@ -123,12 +138,6 @@ SparesEdit payload given v w = (w ≡ v) ⊎ IsSpared payload given v w
 -- the reply of a list of this one edit; where there was no memory for the list, nothing ran
 abbrev pub RepliesAlone : Data → List ℕ → Edit → List ℕ → Reply → List ℕ → Type 0
 RepliesAlone payload v e random reply w = ((reply ≡ Err Memory) × (w ≡ v)) ⊎ Replies payload v e random reply w
-
--- how the command ends by this fault
-abbrev pub ended_by : EditFault → Status
-ended_by Memory = Fault
-ended_by Device = Fault
-ended_by f = Refused
 
 -- ---- over devices
 

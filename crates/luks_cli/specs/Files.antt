@@ -1,5 +1,5 @@
 -- The files of a command line.
-use Rattle.std.specs.Prelude.{◌≡◌, ◌<◌, List, [], ℕ, Option, IfSome, Result, Ok, Err, length, take}
+use Rattle.std.specs.Prelude.{◌≡◌, ◌≢◌, ◌<◌, List, [], ℕ, Option, Some, None, IfSome, Result, Ok, Err, length, take}
 use Rattle.std.specs.declared.io.ErrorKind.{ErrorKind}
 use Rattle.std.specs.declared.io.ErrorKind.TheVariants.{OutOfMemory}
 use Rattle.luks_area.specs.Device.{IsSettled, IsUnchanged}
@@ -35,6 +35,22 @@ abbrev pub IsTaken : {R : Type 0} → ℕ → (R → Option (List ℕ)) → Resu
 IsTaken count remaining (Ok file) bytes = IfSome (remaining file) (λ known. bytes ≡ take count known)
 IsTaken count remaining (Err Absent) bytes = bytes ≡ []
 IsTaken count remaining (Err fault) bytes = (count ≡ 0) × (bytes ≡ [])
+
+-- the fault of a file that can't be read: what it isn't there for, or any that its reading meets
+abbrev pub IsUnread : {R : Type 0} → Result R InputFault → InputFault → Type 0
+IsUnread (Ok file) f = f ≢ Absent
+IsUnread (Err fault) f = f ≡ fault
+
+-- the same of a file of random bytes that is to give so many: where none is named, none are missed
+pub record IsUnreadRandom {R : Type 0} (count : ℕ) (file : Result R InputFault) (f : InputFault) : Type 0 where
+  pub some : 0 < count
+  pub named : f ≢ Absent
+  pub unread : IsUnread file f
+
+-- a file has a name, and this holds of it
+abbrev pub OfNamed : {A : Type 0} → Option A → Type 0 → Type 0
+OfNamed None holds = ⊥
+OfNamed (Some name) holds = holds
 
 -- ---- what becomes of the volume
 

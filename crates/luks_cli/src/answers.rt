@@ -1,10 +1,15 @@
-//! What every command may answer.
-ghost use Rattle.std.specs.Prelude.{◌≡◌, IfOk, OnErr};
-ghost use Rattle.luks_cli.specs.Exit.{exit_status};
+//! What a command answers, how that is printed, and the exit status that it ends with.
+ghost use Rattle.std.specs.Prelude.{◌≡◌, ◌≢◌, ◌+◌, ◌<◌, ◌^◌, Some};
+ghost use Rattle.luks_cli.specs.Answer.{answer_status, check_fault_answer, convert_fault_answer, edit_fault_answer};
+ghost use Rattle.luks_cli.specs.Answer.{format_fault_answer, IsPrinted, line_of, open_fault_answer};
+ghost use Rattle.luks_cli.specs.Answer.{refusal_text, unread_answer};
 
+use crate::commands::show::Listing;
+use crate::copies::copies_name;
 use crate::inputs::InputFault;
-use std::fmt::Display;
-use std::io;
+use crate::printer::{Printer, Unprinted};
+use luks_volume::{CheckFault, ConvertFault, Copies, EditFault, FormatFault, OpenFault, Version};
+use std::fmt;
 use std::io::Write;
 
 /// How a command ends; the numbers are the program's exit statuses. Status 2, for a wrong command
@@ -21,95 +26,227 @@ pub(crate) enum Status {
     Fault = 4,
 }
 
-/// The exit status of a command that ended so. It ends with an error where its output can't be
-/// written.
-pub(crate) fn exit_code(ended: io::Result<Status>) -> u8
-    ensures ended { IfOk ended (λ s. result ≡ exit_status s) }
-    ensures unwritten { OnErr ended (result ≡ 4) }
-{
-    match ended {
-        Ok(status) => status as u8,
-        Err(_) => Status::Fault as u8,
+/// Why a command is refused.
+#[derive(Debug, Clone, Copy, Drop)]
+pub(crate) enum Refusal {
+    /// The passphrase's file has more bytes than a passphrase may have.
+    LongPassphrase,
+    /// The volume isn't accepted, or its header can't be shown.
+    Check(CheckFault),
+    /// The keyslot, or the volume, can't be opened whatever the passphrase.
+    Open(OpenFault),
+    /// The edit is refused.
+    Edit(EditFault),
+    /// The volume isn't made.
+    Format(FormatFault),
+    /// The volume isn't converted.
+    Convert(ConvertFault),
+    /// What is to be written is the volume itself.
+    SameFile,
+}
+
+impl fmt::Display for Refusal {
+    ghost output = { λ r. Some (refusal_text r) };
+
+    fn fmt<W: fmt::Write>(&self, f: &mut fmt::Formatter<W>) -> fmt::Result {
+        match self {
+            Refusal::LongPassphrase => f.write_str("Passphrase"),
+            Refusal::Check(fault) => write!(f, "{fault}"),
+            Refusal::Open(fault) => write!(f, "{fault}"),
+            Refusal::Edit(fault) => write!(f, "{fault}"),
+            Refusal::Format(fault) => write!(f, "{fault}"),
+            Refusal::Convert(fault) => write!(f, "{fault}"),
+            Refusal::SameFile => f.write_str("SameFile"),
+        }
     }
 }
 
-pub(crate) fn refused<F: Display, W: Write>(fault: &F, out: &mut W) -> io::Result<Status>
-    ensures { IfOk result (λ s. s ≡ Status.Refused) }
-{
-    writeln!(out, "refused {fault}")?;
-    Ok(Status::Refused)
+/// What a command answers, before it is printed.
+#[derive(Drop)]
+pub(crate) enum Answer {
+    /// The volume is accepted.
+    Accepted {
+        /// Its version.
+        version: Version,
+        /// How many areas it has.
+        areas: usize,
+    },
+    /// The header is shown.
+    Listed(Listing),
+    /// The passphrase opens the keyslot of this number.
+    Opens(u8),
+    /// It doesn't open the keyslot of this number.
+    Closed(u8),
+    /// It opens no keyslot.
+    NoneOpens,
+    /// The edit is done, or the volume made; the keyslot that was made or sealed again.
+    Done(Option<u8>),
+    /// The command is refused.
+    Refused(Refusal),
+    /// A device call failed, or a file can't be read.
+    DeviceFault,
+    /// Memory was refused.
+    NoMemory,
 }
 
-/// What is printed where reading the volume of this name failed.
-pub(crate) fn device_fault<W: Write, E: Write>(
-    volume: &str,
-    out: &mut W,
-    err: &mut E,
-) -> io::Result<Status>
-    ensures { IfOk result (λ s. s ≡ Status.Fault) }
-{
-    let _ = writeln!(err, "luks: {volume}: reading failed");
-    writeln!(out, "device fault")?;
-    Ok(Status::Fault)
+impl fmt::Display for Answer {
+    ghost output = { λ a. line_of a };
+
+    fn fmt<W: fmt::Write>(&self, f: &mut fmt::Formatter<W>) -> fmt::Result {
+        match self {
+            Answer::Accepted {
+                version: Version::Luks1,
+                areas,
+            } => writeln!(f, "accepted luks1 areas {areas}"),
+            Answer::Accepted {
+                version: Version::Luks2 { copies, seqid },
+                areas,
+            } => {
+                let name = copies_name(*copies);
+                writeln!(f, "accepted luks2 {name} seqid {seqid} areas {areas}")
+            }
+            Answer::Listed(listing) => write!(f, "{listing}"),
+            Answer::Opens(n) => writeln!(f, "slot {n} opens"),
+            Answer::Closed(n) => writeln!(f, "slot {n} does not open"),
+            Answer::NoneOpens => writeln!(f, "no slot opens"),
+            Answer::Done(Some(n)) => writeln!(f, "done slot {n}"),
+            Answer::Done(None) => writeln!(f, "done"),
+            Answer::Refused(refusal) => writeln!(f, "refused {refusal}"),
+            Answer::DeviceFault => writeln!(f, "device fault"),
+            Answer::NoMemory => writeln!(f, "no memory"),
+        }
+    }
 }
 
-/// What is printed where writing the volume of this name failed.
-pub(crate) fn write_fault<W: Write, E: Write>(
-    volume: &str,
-    out: &mut W,
-    err: &mut E,
-) -> io::Result<Status>
-    ensures { IfOk result (λ s. s ≡ Status.Fault) }
-{
-    let _ = writeln!(
-        err,
-        "luks: {volume}: writing failed, part of it may be written"
-    );
-    writeln!(out, "device fault")?;
-    Ok(Status::Fault)
+impl Answer {
+    /// How the command ends.
+    pub(crate) fn status(&self) -> Status
+        ensures { result ≡ answer_status self.now }
+    {
+        match self {
+            Answer::Accepted {
+                version: Version::Luks1,
+                ..
+            } => Status::Done,
+            Answer::Accepted {
+                version: Version::Luks2 { copies, .. },
+                ..
+            } => match copies {
+                Copies::InStep => Status::Done,
+                _ => Status::NotInStep,
+            },
+            Answer::Listed(_) | Answer::Opens(_) | Answer::Done(_) => Status::Done,
+            Answer::Closed(_) | Answer::NoneOpens | Answer::Refused(_) => Status::Refused,
+            Answer::DeviceFault | Answer::NoMemory => Status::Fault,
+        }
+    }
 }
 
-/// What is printed where the device failed in the midst of an edit of the volume of this name.
-pub(crate) fn edit_failed<W: Write, E: Write>(
-    volume: &str,
-    out: &mut W,
-    err: &mut E,
-) -> io::Result<Status>
-    ensures { IfOk result (λ s. s ≡ Status.Fault) }
+/// Prints the answer, and gives the exit status. It is 4 where the answer can't be printed.
+pub(crate) fn end<P: Printer>(answer: &Answer, out: &mut P) -> u8
+    requires { P.failures out.old + 1 < 2 ^ 64 }
+    ensures { IsPrinted answer.now (P.failures out.old) (P.failures out.new)
+        (P.printed out.old) (P.printed out.new) result }
 {
-    let _ = writeln!(
-        err,
-        "luks: {volume}: reading or writing failed, part of the edit may be written"
-    );
-    writeln!(out, "device fault")?;
-    Ok(Status::Fault)
+    match out.print(answer) {
+        Ok(()) => answer.status() as u8,
+        Err(Unprinted) => Status::Fault as u8,
+    }
 }
 
-pub(crate) fn no_memory<W: Write>(out: &mut W) -> io::Result<Status>
-    ensures { IfOk result (λ s. s ≡ Status.Fault) }
-{
-    writeln!(out, "no memory")?;
-    Ok(Status::Fault)
+impl From<CheckFault> for Answer {
+    ghost from_gives = { λ fault answer. answer ≡ check_fault_answer fault };
+
+    fn from(fault: CheckFault) -> Answer {
+        match fault {
+            CheckFault::Device => Answer::DeviceFault,
+            CheckFault::Memory => Answer::NoMemory,
+            fault => Answer::Refused(Refusal::Check(fault)),
+        }
+    }
 }
 
-/// What is printed where the file of this name can't be read.
-pub(crate) fn unread<W: Write, E: Write>(
-    fault: InputFault,
-    file: &str,
-    out: &mut W,
-    err: &mut E,
-) -> io::Result<Status>
-    ensures { IfOk result (λ s. s ≡ Status.Fault) }
+impl From<OpenFault> for Answer {
+    ghost from_gives = { λ fault answer. answer ≡ open_fault_answer fault };
+
+    fn from(fault: OpenFault) -> Answer {
+        match fault {
+            OpenFault::Device => Answer::DeviceFault,
+            OpenFault::Memory => Answer::NoMemory,
+            fault => Answer::Refused(Refusal::Open(fault)),
+        }
+    }
+}
+
+impl From<EditFault> for Answer {
+    ghost from_gives = { λ fault answer. answer ≡ edit_fault_answer fault };
+
+    fn from(fault: EditFault) -> Answer {
+        match fault {
+            EditFault::Device => Answer::DeviceFault,
+            EditFault::Memory => Answer::NoMemory,
+            fault => Answer::Refused(Refusal::Edit(fault)),
+        }
+    }
+}
+
+impl From<FormatFault> for Answer {
+    ghost from_gives = { λ fault answer. answer ≡ format_fault_answer fault };
+
+    fn from(fault: FormatFault) -> Answer {
+        match fault {
+            FormatFault::Device => Answer::DeviceFault,
+            FormatFault::Memory => Answer::NoMemory,
+            fault => Answer::Refused(Refusal::Format(fault)),
+        }
+    }
+}
+
+impl From<ConvertFault> for Answer {
+    ghost from_gives = { λ fault answer. answer ≡ convert_fault_answer fault };
+
+    fn from(fault: ConvertFault) -> Answer {
+        match fault {
+            ConvertFault::Device => Answer::DeviceFault,
+            ConvertFault::Memory => Answer::NoMemory,
+            fault => Answer::Refused(Refusal::Convert(fault)),
+        }
+    }
+}
+
+/// What is answered where a device call on the volume of this name failed: to `err` goes which volume
+/// it is, and `what` failed.
+pub(crate) fn device_fault<E: Write>(volume: &str, what: &str, err: &mut E) -> Answer
+    ensures { result ≡ Answer.DeviceFault }
 {
-    let answer = match fault {
-        InputFault::NoMemory => "no memory",
-        InputFault::Absent | InputFault::Unreadable(_) => "device fault",
-    };
+    let _ = writeln!(err, "luks: {volume}: {what}");
+    Answer::DeviceFault
+}
+
+/// What is answered where the volume of this name isn't accepted, or its header isn't read.
+#[tactic(auto, using(crate::proofs::CheckFacts::check_kinds))]
+pub(crate) fn refused<E: Write>(fault: CheckFault, volume: &str, err: &mut E) -> Answer
+    ensures answer { result ≡ check_fault_answer fault }
+    ensures kinds { answer_status result ≢ Status.NotInStep }
+{
+    match fault {
+        CheckFault::Device => device_fault(volume, "reading failed", err),
+        fault => Answer::from(fault),
+    }
+}
+
+/// What is answered where the file of this name can't be read.
+pub(crate) fn unread<E: Write>(fault: InputFault, file: &str, err: &mut E) -> Answer
+    ensures answer { result ≡ unread_answer fault }
+    ensures status { answer_status result ≡ Status.Fault }
+{
     let _ = match fault {
         InputFault::NoMemory => writeln!(err, "luks: {file}: no memory to read it"),
         InputFault::Absent => writeln!(err, "luks: {file}: not opened"),
         InputFault::Unreadable(reason) => writeln!(err, "luks: {file}: {reason}"),
     };
-    writeln!(out, "{answer}")?;
-    Ok(Status::Fault)
+    match fault {
+        InputFault::NoMemory => Answer::NoMemory,
+        InputFault::Absent | InputFault::Unreadable(_) => Answer::DeviceFault,
+    }
 }

@@ -1,7 +1,12 @@
+ghost use Rattle.std.specs.Prelude.{◌≡◌};
+ghost use Rattle.luks_cli.specs.Answer.{copies_text};
+
 use luks_volume::Copies;
 
 /// How the copies stand to each other, as the program's lines say it.
-pub(crate) fn copies_name(copies: Copies) -> &'static str {
+pub(crate) fn copies_name(copies: Copies) -> &'static str
+    ensures { result.now ≡ copies_text copies }
+{
     match copies {
         Copies::InStep => "in-step",
         Copies::FirstNewer => "first-newer",

@@ -1,17 +1,25 @@
 ghost use Rattle.std.specs.Prelude.{◌≡◌, ◌≢◌, ◌+◌, ◌<◌, ◌≤◌, ◌^◌, IfOk, IfErr};
 ghost use Rattle.std.specs.Result.{ForOk};
 ghost use Rattle.luks_area.specs.Device.{IsSettled};
+ghost use Rattle.luks_cli.specs.Answer.{Prints};
+ghost use Rattle.luks_cli.specs.CheckAnswers.{AnswersCheck};
 ghost use Rattle.luks_cli.specs.Checked.{SaysCheck, WhereCheck};
-ghost use Rattle.luks_cli.specs.Editing.{given_by, KeepsUnnamed, SaysEdit, SparesVolume};
+ghost use Rattle.luks_cli.specs.EditAnswers.{AnswersEdit};
+ghost use Rattle.luks_cli.specs.Converting.{AnswersConvert, AreOneFile, IsSameFile, KeepsRest, LeavesTarget};
+ghost use Rattle.luks_cli.specs.Converting.{random_count, SettlesTarget, UnlessConvert, WhereConvert};
+ghost use Rattle.luks_cli.specs.Editing.{given_by, KeepsUnnamed, lacking_by, SaysEdit, SparesVolume};
 ghost use Rattle.luks_cli.specs.Editing.{WhereEdit, WhereFailed};
 ghost use Rattle.luks_cli.specs.Exit.{IsExitStatus};
-ghost use Rattle.luks_cli.specs.Files.{IsTaken, IsWhole, KeepsVolume, LeavesSettled, LeavesVolume, UnlessWriter};
+ghost use Rattle.luks_cli.specs.Files.{IsLong, IsTaken, IsUnread, IsUnreadRandom, IsWhole, KeepsVolume, LeavesSettled, LeavesVolume};
+ghost use Rattle.luks_cli.specs.Files.{UnlessWriter};
+ghost use Rattle.luks_cli.specs.FormatAnswers.{AnswersFormat, IsUnreadEither};
 ghost use Rattle.luks_cli.specs.Formatting.{needed, SaysFormat, WhereFormat};
+ghost use Rattle.luks_cli.specs.OpenAnswers.{AnswersOpen, WhereOpen};
 
-use crate::answers::exit_code;
 use crate::commands::open::Tried;
-use crate::commands::{check, edit, format, open, show};
+use crate::commands::{check, convert, edit, format, open, show};
 use crate::inputs::Inputs;
+use crate::printer::Printer;
 use luks_request::{Command, Line};
 use luks_volume::Device;
 use std::alloc::Global;
@@ -24,17 +32,20 @@ use std::io::{Read, Write};
 /// 0: accepted, shown, opened or done; 1: refused, or it doesn't open; 3: accepted, but the two
 /// copies of the header aren't in step; 4: the device failed, a file can't be read, memory was
 /// refused, or `out` failed, which says nothing of what was done. The passphrase is read before the
-/// volume, a new one after the old one, and the random bytes after the volume.
+/// volume, a new one after the old one, and the random bytes after the volume and its target.
 #[tactic(auto, using(crate::proofs::FileFacts::settled_kept))]
-pub fn execute<D: Device, R: Read, N: Read, W: Write, E: Write>(
+pub fn execute<D: Device, R: Read, N: Read, P: Printer, E: Write>(
     alloc: Global,
     line: &Line<'_>,
     inputs: &mut Inputs<D, R, N>,
-    out: &mut W,
+    out: &mut P,
     err: &mut E,
 ) -> u8
     requires room { ForOk inputs.old.volume (λ d. D.failed d + 1 < 2 ^ 64) }
+    requires target_room { ForOk inputs.old.target (λ d. D.failed d + 1 < 2 ^ 64) }
+    requires printer { P.failures out.old + 1 < 2 ^ 64 }
     requires settled { D.tells → ForOk inputs.old.volume (IsSettled D.unsettled) }
+    requires target_settled { D.tells → ForOk inputs.old.target (IsSettled D.unsettled) }
     ensures settled { LeavesSettled D.tells D.failed D.unsettled
         inputs.old.volume inputs.new.volume }
     ensures status { IsExitStatus result }
@@ -58,26 +69,64 @@ pub fn execute<D: Device, R: Read, N: Read, W: Write, E: Write>(
         (λ old new. SaysFormat making (IsWhole R.remaining inputs.old.passphrase)
         (IsTaken (needed making.version) N.remaining inputs.old.random) old new result)
         inputs.old.volume inputs.new.volume) }
+    // `convert` alone makes calls on the target. Its answer where both files are one, for which no call is
+    // made, and where they aren't; and which bytes of the target it may have changed.
+    ensures target { UnlessConvert line.now.command (inputs.new.target ≡ inputs.old.target) }
+    ensures same_file { WhereConvert line.now.command (λ converting.
+        AreOneFile line.now.volume.now converting.target.now inputs.old.target
+        → (inputs.new ≡ inputs.old) × Prints IsSameFile
+        (P.failures out.old) (P.failures out.new) (P.printed out.old) (P.printed out.new) result) }
+    ensures converted { WhereConvert line.now.command (λ converting.
+        (AreOneFile line.now.volume.now converting.target.now inputs.old.target → ⊥)
+        → Prints (AnswersConvert D.tells D.size D.bytes D.failed converting.data_
+        (IsUnreadRandom random_count inputs.old.random)
+        (IsTaken random_count N.remaining inputs.old.random)
+        inputs.old.volume inputs.new.volume inputs.old.target inputs.new.target)
+        (P.failures out.old) (P.failures out.new) (P.printed out.old) (P.printed out.new) result) }
+    ensures target_rest { WhereConvert line.now.command (λ _. LeavesTarget D.tells D.size D.bytes
+        KeepsRest inputs.old.volume inputs.old.target inputs.new.target) }
+    ensures settles_target { WhereConvert line.now.command (λ _. SettlesTarget D.tells D.failed
+        D.unsettled inputs.old.volume inputs.new.volume inputs.old.target inputs.new.target) }
     ensures check { D.tells → WhereCheck line.now.command (λ payload. IfOk inputs.old.volume (λ d. SaysCheck (D.bytes d) payload result)) }
     // Without its volume no command succeeds.
     ensures unread { IfErr inputs.old.volume (λ _. (result ≢ 0) × (result ≢ 3)) }
+    // What the command answers, that this is what was printed and that the exit status is its own,
+    // but 4 where the print failed.
+    ensures checked { WhereCheck line.now.command (λ payload. Prints
+        (AnswersCheck D.tells D.bytes D.failed payload inputs.old.volume inputs.new.volume)
+        (P.failures out.old) (P.failures out.new) (P.printed out.old) (P.printed out.new) result) }
+    ensures opened { WhereOpen line.now.command (λ slot. Prints
+        (AnswersOpen D.tells D.bytes D.failed slot
+        (IsWhole R.remaining inputs.old.passphrase) (IsLong R.remaining inputs.old.passphrase)
+        (IsUnread inputs.old.passphrase) inputs.old.volume inputs.new.volume)
+        (P.failures out.old) (P.failures out.new) (P.printed out.old) (P.printed out.new) result) }
+    ensures edited { WhereEdit line.now.command (λ editing. Prints
+        (AnswersEdit D.tells D.bytes D.failed editing.data_
+        (given_by editing.request R.remaining N.remaining inputs.old)
+        (lacking_by editing.request inputs.old) inputs.old.volume inputs.new.volume)
+        (P.failures out.old) (P.failures out.new) (P.printed out.old) (P.printed out.new) result) }
+    ensures formatted { WhereFormat line.now.command (λ making. Prints
+        (AnswersFormat D.tells D.size D.bytes D.failed making
+        (IsWhole R.remaining inputs.old.passphrase) (IsLong R.remaining inputs.old.passphrase)
+        (IsUnreadEither inputs.old.passphrase (needed making.version) inputs.old.random)
+        (IsTaken (needed making.version) N.remaining inputs.old.random)
+        inputs.old.volume inputs.new.volume)
+        (P.failures out.old) (P.failures out.new) (P.printed out.old) (P.printed out.new) result) }
 {
     let name = line.volume;
     match line.command {
-        Command::Check { data_ } => {
-            let volume = &mut inputs.volume;
-            exit_code(check::run(alloc, volume, name, data_, out, err))
-        }
-        Command::Show => exit_code(show::run(alloc, &mut inputs.volume, name, out, err)),
+        Command::Check { data_ } => check::run(alloc, &mut inputs.volume, name, data_, out, err),
+        Command::Show => show::run(alloc, &mut inputs.volume, name, out, err),
         Command::Open { passphrase, slot } => {
             let tried = Tried {
                 volume: name,
                 passphrase,
                 slot,
             };
-            exit_code(open::run(alloc, inputs, &tried, out, err))
+            open::run(alloc, inputs, &tried, out, err)
         }
         Command::Edit(editing) => edit::run(alloc, inputs, name, &editing, out, err),
         Command::Format(making) => format::run(alloc, inputs, name, &making, out, err),
+        Command::Convert(converting) => convert::run(alloc, inputs, name, &converting, out, err),
     }
 }

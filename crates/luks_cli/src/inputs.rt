@@ -20,6 +20,8 @@ pub enum Reason {
     NoVolume,
     /// A volume that is to be written, whose lock another program holds.
     Edited,
+    /// What is to be written beside the volume is the volume itself: neither was opened.
+    SameFile,
     /// Anything else, as a disk's failure.
     Other,
 }
@@ -33,6 +35,7 @@ impl fmt::Display for Reason {
             Reason::Busy => "is in use",
             Reason::NoVolume => "neither a regular file nor a block device",
             Reason::Edited => "another program is editing it",
+            Reason::SameFile => "is the volume itself",
             Reason::Other => "can't be opened or read",
         })
     }
@@ -69,6 +72,8 @@ impl From<io::Error> for InputFault {
 pub struct Inputs<D, R, N> {
     /// The volume.
     pub volume: Result<D, InputFault>,
+    /// The device that a header is written to beside the volume.
+    pub target: Result<D, InputFault>,
     /// The passphrase: all bytes of its file, a last line feed too.
     pub passphrase: Result<R, InputFault>,
     /// The new passphrase, likewise.

@@ -8,9 +8,11 @@ mod copies;
 mod execution;
 mod inputs;
 mod passphrase_file;
+mod printer;
 mod random_file;
 
 pub use execution::execute;
 pub use inputs::{InputFault, Inputs, Reason};
-pub use luks_request::{Command, EditRequest, Editing, Line, Making, NewVersion};
+pub use luks_request::{Command, Converting, EditRequest, Editing, Line, Making, NewVersion};
 pub use passphrase_file::first_bytes;
+pub use printer::{CountingPrinter, Printer, Unprinted};

@@ -1,6 +1,6 @@
 //! Reading a passphrase from its file.
 ghost use Rattle.std.specs.Prelude.{◌≡◌, ◌≢◌, ◌≤◌, ◌<◌, IfOk, IfErr, IfSome, length, take};
-ghost use Rattle.luks_cli.specs.Files.{IsLong, IsWhole};
+ghost use Rattle.luks_cli.specs.Files.{IsLong, IsUnread, IsWhole};
 
 use crate::inputs::InputFault;
 use std::alloc::Global;
@@ -36,6 +36,8 @@ pub(crate) fn passphrase<R: Read>(
 ) -> Result<Vec<u8>, PassphraseFault>
     ensures length { IfOk result (λ p. length p.items ≤ 65536) }
     ensures whole { IfOk result (λ p. IsWhole R.remaining file.old p.items) }
+    ensures unread { IfErr result (λ f. (fault : InputFault)
+        → f ≡ PassphraseFault.Input fault → IsUnread file.old fault) }
     ensures long { IfErr result (λ f. f ≡ PassphraseFault.TooLong → IsLong R.remaining file.old) }
 {
     let reader = match file {

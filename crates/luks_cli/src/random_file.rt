@@ -1,6 +1,6 @@
 //! Reading random bytes from their file.
-ghost use Rattle.std.specs.Prelude.{◌≡◌, IfOk, IfSome, take};
-ghost use Rattle.luks_cli.specs.Files.{IsTaken};
+ghost use Rattle.std.specs.Prelude.{◌≡◌, ◌≢◌, IfOk, IfErr, IfSome, take};
+ghost use Rattle.luks_cli.specs.Files.{IsTaken, IsUnreadRandom};
 
 use crate::inputs::InputFault;
 use std::alloc::Global;
@@ -14,6 +14,7 @@ pub(crate) fn random_bytes<R: Read>(
     count: u64,
 ) -> Result<Vec<u8>, InputFault>
     ensures taken { IfOk result (λ b. IsTaken count R.remaining file.old b.items) }
+    ensures unread { IfErr result (IsUnreadRandom count file.old) }
 {
     if count == 0 {
         return Ok(Vec::new(alloc));
@@ -30,7 +31,8 @@ fn first_random_bytes<R: Read>(
     reader: &mut R,
     count: u64,
 ) -> Result<Vec<u8>, InputFault>
-    ensures { IfOk result (λ b. IfSome (R.remaining reader.old) (λ known. b.items ≡ take count known)) }
+    ensures kinds { IfErr result (λ f. f ≢ InputFault.Absent) }
+    ensures bytes { IfOk result (λ b. IfSome (R.remaining reader.old) (λ known. b.items ≡ take count known)) }
 {
     let mut bytes = Vec::new(alloc);
     reader.take(count).read_to_end(&mut bytes)?;

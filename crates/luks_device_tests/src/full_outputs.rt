@@ -4,7 +4,7 @@
 use crate::bytes::counted;
 use crate::luks1::luks1;
 use crate::luks2::{SMALL, luks2};
-use luks_cli::{InputFault, Inputs, execute};
+use luks_cli::{CountingPrinter, InputFault, Inputs, execute};
 use luks_line::line;
 use luks_volume::{Copies, MemDevice};
 use std::alloc::Global;
@@ -96,6 +96,7 @@ fn end_of(alloc: Global, image: &[u8], row: &Row, room: usize) -> Result<Ended, 
     let random = counted(alloc, 2656)?;
     let mut inputs: Inputs<MemDevice, &[u8], &[u8]> = Inputs {
         volume: Ok(MemDevice::new(image.to_vec(alloc)?)),
+        target: Err(InputFault::Absent),
         passphrase: Ok(row.2.as_bytes()),
         new_passphrase: Ok(b"three".as_slice()),
         random: Ok(random.as_slice()),
@@ -104,7 +105,7 @@ fn end_of(alloc: Global, image: &[u8], row: &Row, room: usize) -> Result<Ended, 
     let Some(buffer) = printed.get_mut(..room) else {
         return Err("no room".into());
     };
-    let mut out = Cursor::new(buffer);
+    let mut out = CountingPrinter::new(Cursor::new(buffer));
     let mut err = Vec::new(alloc);
     let status = execute(alloc, &line, &mut inputs, &mut out, &mut err);
     match &inputs.volume {

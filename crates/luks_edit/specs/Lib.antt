@@ -1,4 +1,5 @@
 pub mod EditFaults
+pub mod FaultTexts
 pub mod Asked
 pub mod Kept
 pub mod Ran

@@ -1,69 +1,94 @@
 //! Why an edit isn't completed.
+ghost use Rattle.std.specs.Prelude.{Some};
+ghost use Rattle.luks_edit.specs.FaultTexts.{edit_fault_text, run_fault_text};
 
 use luks_reading::CheckFault;
 use luks_slot::SlotFault;
-use thiserror::Error;
+use std::error::Error;
+use std::fmt;
 
 /// Why an edit isn't completed: the first in this order, but for want of memory and the device's
 /// failure.
 ///
 /// All but the device's failure leave every byte as it was.
-#[derive(Debug, Clone, Copy, Drop, Error)]
+#[derive(Debug, Clone, Copy, Drop)]
 pub enum EditFault {
     /// `check` refuses the volume.
-    #[error("{0}")]
     NotAccepted(CheckFault),
     /// LUKS2: the metadata names requirements that this program doesn't know.
-    #[error("Requirements")]
     Requirements,
     /// The keyslot to open isn't there or, in LUKS1, isn't enabled.
-    #[error("NoSuchSlot")]
     NoSuchSlot,
     /// The passphrase doesn't open the keyslot.
-    #[error("Locked")]
     Locked,
     /// What the keyslot says of its derivation or cipher can't be opened here.
-    #[error("{0}")]
     Slot(SlotFault),
     /// The keyslot to make is in use.
-    #[error("SlotTaken")]
     SlotTaken,
     /// There is no keyslot of that number, or none is free.
-    #[error("NoFreeSlot")]
     NoFreeSlot,
     /// LUKS2: no gap of the key areas' region holds the new area.
-    #[error("NoRoom")]
     NoRoom,
     /// No other keyslot would be left.
-    #[error("LastSlot")]
     LastSlot,
     /// Fewer than 1000 iterations.
-    #[error("Iterations")]
     Iterations,
     /// LUKS1 has no label; a label of LUKS2 has at most 47 bytes of 0x20 to 0x7E.
-    #[error("BadLabel")]
     BadLabel,
     /// LUKS2: there is no higher sequence number.
-    #[error("SeqExhausted")]
     SeqExhausted,
     /// LUKS2: the new metadata is longer than the JSON area holds.
-    #[error("MetadataFull")]
     MetadataFull,
     /// The random bytes aren't exactly as many as the edit takes.
-    #[error("RandomLength")]
     RandomLength,
     /// Memory was refused.
-    #[error("Memory")]
     Memory,
     /// A device call failed.
-    #[error("Device")]
     Device,
 }
 
+impl fmt::Display for EditFault {
+    ghost output = { λ f. Some (edit_fault_text f) };
+
+    fn fmt<W: fmt::Write>(&self, f: &mut fmt::Formatter<W>) -> fmt::Result {
+        match self {
+            EditFault::NotAccepted(fault) => write!(f, "{fault}"),
+            EditFault::Requirements => f.write_str("Requirements"),
+            EditFault::NoSuchSlot => f.write_str("NoSuchSlot"),
+            EditFault::Locked => f.write_str("Locked"),
+            EditFault::Slot(fault) => write!(f, "{fault}"),
+            EditFault::SlotTaken => f.write_str("SlotTaken"),
+            EditFault::NoFreeSlot => f.write_str("NoFreeSlot"),
+            EditFault::NoRoom => f.write_str("NoRoom"),
+            EditFault::LastSlot => f.write_str("LastSlot"),
+            EditFault::Iterations => f.write_str("Iterations"),
+            EditFault::BadLabel => f.write_str("BadLabel"),
+            EditFault::SeqExhausted => f.write_str("SeqExhausted"),
+            EditFault::MetadataFull => f.write_str("MetadataFull"),
+            EditFault::RandomLength => f.write_str("RandomLength"),
+            EditFault::Memory => f.write_str("Memory"),
+            EditFault::Device => f.write_str("Device"),
+        }
+    }
+}
+
+impl Error for EditFault {}
+
 /// Why a list of edits wasn't begun.
-#[derive(Debug, Clone, Copy, PartialEq, Eq, Drop, Error)]
+#[derive(Debug, Clone, Copy, PartialEq, Eq, Drop)]
 pub enum RunFault {
     /// Memory for the replies was refused; nothing ran.
-    #[error("Memory")]
     Memory,
 }
+
+impl fmt::Display for RunFault {
+    ghost output = { λ f. Some (run_fault_text f) };
+
+    fn fmt<W: fmt::Write>(&self, f: &mut fmt::Formatter<W>) -> fmt::Result {
+        match self {
+            RunFault::Memory => f.write_str("Memory"),
+        }
+    }
+}
+
+impl Error for RunFault {}

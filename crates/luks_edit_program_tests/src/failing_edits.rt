@@ -3,7 +3,7 @@ use crate::editing_luks2::formatted;
 use crate::recording::{Call, Recording};
 use crate::sessions::{REPAIR, Turn, answers, counted, files_of, take_turns};
 use luks_area::{FaultyDevice, Leave};
-use luks_cli::{Inputs, execute};
+use luks_cli::{CountingPrinter, InputFault, Inputs, execute};
 use luks_line::line;
 use luks_samples::{
     CHECK, OPEN_0, OPEN_1, SHOW, STRIPE, opening_luks1, put, roomy_luks2, roomy_text,
@@ -80,16 +80,17 @@ fn end_of(
             device: FaultyDevice::new(inner, call, leave),
             calls: Vec::new(alloc),
         }),
+        target: Err(InputFault::Absent),
         passphrase: Ok(b"one".as_slice()),
         new_passphrase: Ok(b"three".as_slice()),
         random: Ok(random),
     };
-    let mut out = Vec::new(alloc);
+    let mut out = CountingPrinter::new(Vec::new(alloc));
     let mut err = Vec::new(alloc);
     let status = execute(alloc, &line, &mut inputs, &mut out, &mut err);
     match inputs.volume {
         Ok(device) => Ok(Ended {
-            out,
+            out: out.writer,
             err,
             status,
             device,

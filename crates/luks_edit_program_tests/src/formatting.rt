@@ -3,7 +3,7 @@ ghost use Rattle.std.specs.Prelude.{◌<◌, ◌^◌};
 
 use crate::sessions::NO_FILE;
 use luks_area::{DeviceFault, FaultyDevice, Leave};
-use luks_cli::{InputFault, Inputs, Reason, execute};
+use luks_cli::{CountingPrinter, InputFault, Inputs, Reason, execute};
 use luks_line::line;
 use luks_samples::{CHECK, DETACHED, OPEN};
 use luks_volume::{Device, FORMAT1_RANDOM, FORMAT2_RANDOM, MemDevice};
@@ -102,10 +102,10 @@ fn answers(
     status: u8,
 ) -> Result<bool, Fail> {
     let line = line(alloc, words)?;
-    let mut out = Vec::new(alloc);
+    let mut out = CountingPrinter::new(Vec::new(alloc));
     let mut err = Vec::new(alloc);
     let found = execute(alloc, &line, files, &mut out, &mut err);
-    Ok(found == status && out.as_slice() == want.as_bytes())
+    Ok(found == status && out.writer.as_slice() == want.as_bytes())
 }
 
 const FORMAT: &[&str] = &[
@@ -239,6 +239,7 @@ fn makes(rt: &impl Abort, alloc: Global, made: &Made) -> Result<(), Fail> {
     let bytes = random(alloc, made.needed.saturating_add(1))?;
     let mut files = Inputs {
         volume: Ok(disk(alloc, made.len)?),
+        target: Err(InputFault::Absent),
         passphrase: Ok(b"one".as_slice()),
         new_passphrase: NO_FILE,
         random: Ok(bytes.as_slice()),
@@ -320,6 +321,7 @@ fn refusals(rt: HostRuntime) -> Result<(), Fail> {
         let bytes = random(alloc, given)?;
         let mut files = Inputs {
             volume: Ok(disk(alloc, len)?),
+            target: Err(InputFault::Absent),
             passphrase: Ok(b"one".as_slice()),
             new_passphrase: NO_FILE,
             random: Ok(bytes.as_slice()),
@@ -340,6 +342,7 @@ fn files(rt: HostRuntime) -> Result<(), Fail> {
     let long = vec![in alloc; 1u8; 65537]?;
     let mut files = Inputs {
         volume: Ok(disk(alloc, 16777216)?),
+        target: Err(InputFault::Absent),
         passphrase: Ok(long.as_slice()),
         new_passphrase: NO_FILE,
         random: Err(InputFault::Unreadable(Reason::NotFound)),
@@ -378,17 +381,18 @@ fn failing_write(rt: HostRuntime) -> Result<(), Fail> {
     let device = FaultyDevice::new(MemDevice::new(image), 0, Leave::Old);
     let mut files = Inputs {
         volume: Ok(device),
+        target: Err(InputFault::Absent),
         passphrase: Ok(b"one".as_slice()),
         new_passphrase: NO_FILE,
         random: Ok(bytes.as_slice()),
     };
     let line = line(alloc, FORMAT1)?;
-    let mut out = Vec::new(alloc);
+    let mut out = CountingPrinter::new(Vec::new(alloc));
     let mut err = Vec::new(alloc);
     let status = execute(alloc, &line, &mut files, &mut out, &mut err);
     assert!(rt; status == 4, "the status");
     assert!(rt;
-        out.as_slice() == b"device fault\n".as_slice(),
+        out.writer.as_slice() == b"device fault\n".as_slice(),
         "the answer"
     );
     let want = b"luks: volume: writing failed, part of it may be written\n";

@@ -1,6 +1,6 @@
 //! The file of the new passphrase, and the order in which a command that edits reads its files.
 use crate::sessions::{ADD_BY_0, Files, RANDOM, bytes_of, counted, files_of};
-use luks_cli::{InputFault, Reason, execute};
+use luks_cli::{CountingPrinter, InputFault, Reason, execute};
 use luks_line::line;
 use luks_samples::{OPEN_3, roomy_luks2, roomy_text};
 use std::alloc::Global;
@@ -218,10 +218,10 @@ fn told(
     files: &mut Files<'_>,
 ) -> Result<(Vec<u8>, Vec<u8>, u8), Fail> {
     let line = line(alloc, words)?;
-    let mut out = Vec::new(alloc);
+    let mut out = CountingPrinter::new(Vec::new(alloc));
     let mut err = Vec::new(alloc);
     let status = execute(alloc, &line, files, &mut out, &mut err);
-    Ok((out, err, status))
+    Ok((out.writer, err, status))
 }
 
 #[test]

@@ -1,5 +1,5 @@
 //! Commands over one volume, one after another.
-use luks_cli::{InputFault, Inputs, execute};
+use luks_cli::{CountingPrinter, InputFault, Inputs, execute};
 use luks_line::line;
 use luks_volume::MemDevice;
 use std::alloc::{AllocError, Global};
@@ -40,6 +40,7 @@ pub const RANDOM: usize = 260000;
 pub fn files_of<'a>(image: Vec<u8>) -> Files<'a> {
     Inputs {
         volume: Ok(MemDevice::new(image)),
+        target: Err(InputFault::Absent),
         passphrase: NO_FILE,
         new_passphrase: NO_FILE,
         random: NO_FILE,
@@ -52,10 +53,10 @@ pub fn answers(alloc: Global, turn: &Turn, files: &mut Files<'_>) -> Result<bool
     files.passphrase = Ok(passphrase.as_bytes());
     files.new_passphrase = Ok(new.as_bytes());
     let line = line(alloc, words)?;
-    let mut out = Vec::new(alloc);
+    let mut out = CountingPrinter::new(Vec::new(alloc));
     let mut err = Vec::new(alloc);
     let found = execute(alloc, &line, files, &mut out, &mut err);
-    Ok(found == status && out.as_slice() == want.as_bytes())
+    Ok(found == status && out.writer.as_slice() == want.as_bytes())
 }
 
 /// Whether the command of these words, which single spaces part, prints what is owed over these files,
@@ -72,10 +73,10 @@ pub fn says(
         parts.push(word)?;
     }
     let line = line(alloc, parts.as_slice())?;
-    let mut out = Vec::new(alloc);
+    let mut out = CountingPrinter::new(Vec::new(alloc));
     let mut err = Vec::new(alloc);
     let found = execute(alloc, &line, files, &mut out, &mut err);
-    Ok(found == status && out.as_slice() == want.as_bytes())
+    Ok(found == status && out.writer.as_slice() == want.as_bytes())
 }
 
 /// Asserts that each command is answered what is owed to it, each with the same random bytes.

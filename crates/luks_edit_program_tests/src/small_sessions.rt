@@ -1,6 +1,6 @@
 //! Edits of small LUKS2 volumes, one after another.
 use crate::sessions::{RANDOM, bytes_of, counted, says};
-use luks_cli::Inputs;
+use luks_cli::{InputFault, Inputs};
 use luks_samples::{Edit, STRIPE_BY_SHA512, THREE, edited, put, roomy_luks2, roomy_text};
 use luks_volume::MemDevice;
 use std::alloc::{AllocError, Global};
@@ -20,6 +20,7 @@ fn take_step(
     let (words, passphrase, new, want, status) = *step;
     let mut files = Inputs {
         volume: Ok(MemDevice::new(image)),
+        target: Err(InputFault::Absent),
         passphrase: Ok(passphrase.as_bytes()),
         new_passphrase: Ok(new.as_bytes()),
         random: Ok(random),

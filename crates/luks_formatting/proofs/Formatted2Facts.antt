@@ -6,11 +6,11 @@ use Rattle.luks_area.specs.RangeFacts.{length-part_inside}
 use Rattle.luks_area.specs.Text.{is_plain, text_of}
 use Rattle.luks_area.specs.declared.area.Area.{Area}
 use Rattle.luks_head.specs.Bytes.{IsUuid}
-use Rattle.luks_head.specs.Header2.{hdr_size, header_at, uuid_field, IsUuidFault, IsUuidField}
+use Rattle.luks_head.specs.Header2.{hdr_size, header_at, uuid_field, IsUuidField}
 use Rattle.luks_head.specs.Selection.{luks2, Chosen}
 use Rattle.luks_head.specs.Written.{IsWrittenCopy}
-use Rattle.luks_head.specs.declared.bin2.Bin2.{Bin2}
-use Rattle.luks_head.specs.declared.fault.HeadFault.{HeadFault}
+use Rattle.luks_head.proofs.BinaryHeaderFacts.{written_in_step}
+use Rattle.luks_head.proofs.ChoiceFacts.{uuid_sound}
 use Rattle.luks_head.specs.declared.selection.Copies.TheVariants.{InStep}
 use Rattle.luks_kdf.specs.Names.{digest_size_of}
 use Rattle.luks_json.specs.AreaText.{Json}
@@ -39,7 +39,7 @@ use Rattle.luks_formatting.specs.NewPlan.{key_digest, IsNewPlan}
 use Rattle.luks_formatting.specs.NewUuid.{uuid_text}
 use Rattle.luks_formatting.specs.RandomBytes.{digest_salt, random_stripes, slot_place2, slot_salt, uuid_bytes, volume_key}
 use Rattle.luks_formatting.proofs.Formatted1Facts.{length-volume_key, Reopens}
-use Rattle.luks_formatting.proofs.Keyslot2Facts.{cipher_opens, fit, plan_is, segments, Laws}
+use Rattle.luks_formatting.proofs.Keyslot2Facts.{cipher_opens, fit, plan_is, segments, SlotsSay}
 use Rattle.luks_formatting.proofs.MetadataFacts.{can_format, no_some}
 use Rattle.luks_formatting.proofs.NewPlanFacts.{key_meets, unrefused}
 use Rattle.luks_formatting.proofs.NewUuidFacts.{uuid_field-text, uuid_text-is, uuid_text-plain}
@@ -53,17 +53,14 @@ uuid_good random field_ is =
       uuid = subst IsUuid (sym text) (uuid_text-is random);
     }
 
--- what the laws say of copies and faults
-pub record VolumeLaws : Type 0 where
-  pub in_step : (v : List ℕ) (first second : Bin2) (a b : List ℕ) → IsWrittenCopy v 0 first a → IsWrittenCopy v first.hdr_size second b → first.seqid ≡ second.seqid
-      → Chosen v (luks2 0 InStep)
-  pub uuid : (field_ : List ℕ) → ((f : HeadFault) → IsUuidFault field_ f → ⊥) ↔ IsUuidField field_
+-- what the laws say of metadata
+pub record MetadataLaws : Type 0 where
   pub metadata : (area : List ℕ) → ((f : MetaFault) → IsMetaFault area f → ⊥) ↔ ((j : Value) × IsMeta area j)
   pub held : (v : VolumeMembers) → FitsVolume v → CanFormat v → IsHeld 12288 (formatted v)
   pub one : (area : List ℕ) (i k : Value) → Json area i → Json area k → i ≡ k
 
 module _ (payload : Data) (format : Format) (passphrase random old new : List ℕ) (some : 1 ≤ format.iterations) (large : 16777216 ≤ length new) (counted : length random ≡ 256208)
-    (fits : FitsMetadata payload format random) (laws : Laws) (volume : VolumeLaws) (x : IsFormatted2 payload format passphrase random old new) where
+    (fits : FitsMetadata payload format random) (say : SlotsSay) (laws : MetadataLaws) (x : IsFormatted2 payload format passphrase random old new) where
   long : 272 ≤ length random
   long = omega (arith, counted)
 
@@ -76,7 +73,7 @@ module _ (payload : Data) (format : Format) (passphrase random old new : List �
   chosen : Chosen new (luks2 0 InStep)
   chosen =
       let second = subst (λ (o : ℕ). IsWrittenCopy new o x.second.header x.json) (sym x.first.fields.hdr_size) x.second.written in
-      volume.in_step new x.first.header x.second.header x.json x.json x.first.written second (x.first.fields.seqid ∙ sym x.second.fields.seqid)
+      written_in_step new x.first.header x.second.header x.json x.json x.first.written second (x.first.fields.seqid ∙ sym x.second.fields.seqid)
 
   uuid : IsUuidField (uuid_field (header_at new 0))
   uuid = uuid_good (uuid_bytes random) (uuid_field (header_at new 0)) (x.first.written.header.fields.uuid ∙ x.first.fields.uuid)
@@ -85,7 +82,7 @@ module _ (payload : Data) (format : Format) (passphrase random old new : List �
   meta = record {
     json = x.metadata.json;
     content = subst (λ (n : ℕ). IsContent n (formatted (new_members payload format random))) (sym x.metadata.long)
-        (volume.held (new_members payload format random) fits.fits (can_format payload format random some long fits.digest_length)).content;
+        (laws.held (new_members payload format random) fits.fits (can_format payload format random some long fits.digest_length)).content;
   }
 
   formed : IsLuks2Volume (header_at new 0) x.json payload (length new)
@@ -96,8 +93,8 @@ module _ (payload : Data) (format : Format) (passphrase random old new : List �
       record {
         metadata = meta;
         segments = λ here. subst (λ (n : ℕ). SegmentsFollow n (formatted (new_members payload format random))) (sym x.metadata.long)
-            (segments payload format random some long fits laws here);
-        fit = fit payload format random some long fits laws (length new) (hdr_size (header_at new 0)) size large;
+            (segments payload format random some long fits say here);
+        fit = fit payload format random some long fits say (length new) (hdr_size (header_at new 0)) size large;
       },
     );
   }
@@ -111,7 +108,7 @@ module _ (payload : Data) (format : Format) (passphrase random old new : List �
 
   new_plan : (plan : SlotPlan) → HasLuks2Plan x.json 0 plan
       → IsNewPlan format (slot_salt slot_place2 random) area2 (digest_salt random) (key_digest format random (digest_size_of format.hash)) plan × IsNewCipher2 plan.cipher
-  new_plan = plan_is payload format random some long fits laws x.json x.metadata.json volume.one
+  new_plan = plan_is payload format random some long fits say x.json x.metadata.json laws.one
 
   plan_unrefused : (plan : SlotPlan) → HasLuks2Plan x.json 0 plan → slot_refusal plan ≡ None
   plan_unrefused plan y =
@@ -119,11 +116,11 @@ module _ (payload : Data) (format : Format) (passphrase random old new : List �
       unrefused format (slot_salt slot_place2 random) area2 (digest_salt random) (key_digest format random (digest_size_of format.hash)) plan is.0 (cipher_opens plan.cipher is.1)
 
   none : (f : OpenFault) → IsLuks2Refusal (header_at new 0) x.json (length new) 0 f → ⊥
-  none (Head f) y = (volume.uuid (uuid_field (header_at new 0))).1 uuid f y
-  none (Meta f) y = (volume.metadata x.json).1 (formatted (new_members payload format random), meta) f y
+  none (Head f) y = uuid_sound (uuid_field (header_at new 0)) uuid f y
+  none (Meta f) y = (laws.metadata x.json).1 (formatted (new_members payload format random), meta) f y
   none NoSuchSlot y =
       let v : VolumeMembers = new_members payload format random in
-      let same : y.value ≡ formatted v = volume.one x.json y.value (formatted v) y.holds x.metadata.json in
+      let same : y.value ≡ formatted v = laws.one x.json y.value (formatted v) y.holds x.metadata.json in
       let gone : object_at (formatted v) Keyslots 0 ≡ None = subst (λ (k : Value). object_at k Keyslots 0 ≡ None) same (y.absent (lit< tt)) in
       no_some (slot_value (first_slot v)) (sym gone)
   none SlotFree y = y

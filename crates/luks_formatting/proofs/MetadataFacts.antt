@@ -16,6 +16,9 @@ use Rattle.luks_json.specs.Decimal.{IsDecimal, decimal_of}
 use Rattle.luks_json.specs.Encoded.{IsBase64, encoded_of}
 use Rattle.luks_json.specs.Number.{number_of as number_named, number_text}
 use Rattle.luks_json.specs.Values.{bytes_in, decimal_in, is_between, number_in}
+use Rattle.luks_json.proofs.Decimals.{decimal_told}
+use Rattle.luks_json.proofs.Encodings.{encoded_told}
+use Rattle.luks_json.proofs.Numbers.{number_of_text}
 use Rattle.luks_kdf.specs.Names.{digest_size_of, each_at_least, each_at_most}
 use Rattle.luks_kdf.specs.declared.hash_name.HashName.{HashName}
 use Rattle.luks_rules.specs.Faults.{object_at}
@@ -60,30 +63,21 @@ can_format payload format random some long digest =
 
 -- ---- members by their values, from the laws on texts
 
-abbrev pub DecimalsTell : Type 0
-DecimalsTell = (text : List ℕ) (n : ℕ) → IsDecimal text n → decimal_of text ≡ Some n
-
-abbrev pub EncodingsTell : Type 0
-EncodingsTell = (text bytes : List ℕ) → IsBase64 text bytes → encoded_of text ≡ Some bytes
-
-abbrev pub NamesTell : Type 0
-NamesTell = (n : ℕ) → n < 32 → number_named (number_text n) ≡ Some n
-
 pub some_same : {A : Type 0} (x y : A) → Some x ≡ Some y → x ≡ y
 some_same x y e = cc
 
 pub no_some : {A : Type 0} (y : A) → None ≡ Some y → ⊥
 no_some y e = cc
 
-pub decimal_says : DecimalsTell → (n : ℕ) → n < 2 ^ 64 → decimal_in (Some (string (decimal n))) ≡ Some n
-decimal_says told n fits = told (decimal n) n (record { fits = fits; digits = refl })
+pub decimal_says : (n : ℕ) → n < 2 ^ 64 → decimal_in (Some (string (decimal n))) ≡ Some n
+decimal_says n fits = decimal_told (decimal n) n (record { fits = fits; digits = refl })
 
 keyslots_literal : codes "16744448" ≡ decimal 16744448
 unfolding digits
 keyslots_literal = refl
 
-pub keyslots_say : DecimalsTell → (v : VolumeMembers) → keyslots_size (formatted v) ≡ Some 16744448
-keyslots_say told v = told (codes "16744448") 16744448 (record { fits = lit< tt; digits = keyslots_literal })
+pub keyslots_say : (v : VolumeMembers) → keyslots_size (formatted v) ≡ Some 16744448
+keyslots_say v = decimal_told (codes "16744448") 16744448 (record { fits = lit< tt; digits = keyslots_literal })
 
 within_bounds : (least most n : ℕ) → least ≤ n → n ≤ most → is_between least most n ≡ true
 within_bounds least most n low high = grind (arith, nat_tests)
@@ -91,10 +85,10 @@ within_bounds least most n low high = grind (arith, nat_tests)
 pub number_says : (least most n : ℕ) → least ≤ n → n ≤ most → number_in least most (Some (number (unsigned n))) ≡ Some n
 number_says least most n low high = rw (within_bounds least most n low high) refl
 
-pub bytes_say : EncodingsTell → (least most : ℕ) (bytes : List ℕ) → IsBytes bytes → length bytes ≤ 128 → least ≤ length bytes → length bytes ≤ most
+pub bytes_say : (least most : ℕ) (bytes : List ℕ) → IsBytes bytes → length bytes ≤ 128 → least ≤ length bytes → length bytes ≤ most
     → bytes_in least most (Some (string (base64_text bytes))) ≡ Some bytes
-bytes_say told least most bytes are short low high =
-    let is : encoded_of (base64_text bytes) ≡ Some bytes = told (base64_text bytes) bytes (record { are_bytes = are; at_most = short; encodes = refl }) in
+bytes_say least most bytes are short low high =
+    let is : encoded_of (base64_text bytes) ≡ Some bytes = encoded_told (base64_text bytes) bytes (record { are_bytes = are; at_most = short; encodes = refl }) in
     rw (is, within_bounds least most (length bytes) low high) refl
 
 -- ---- the one object of a map
@@ -107,34 +101,34 @@ by_order Greater a b = refl
 seek : (k : List ℕ) (d : Value) → get k (sole d) ≡ cond (bytes_eq k (codes "0")) (Some d) None
 seek k d = by_order (slice_cmp nat_cmp k (codes "0")) None (Some d) ∙ ap (λ b. cond b (Some d) None) (is_eq-slice_cmp k (codes "0"))
 
-named_zero : NamesTell → (n : ℕ) → n < 32 → bytes_eq (number_text n) (codes "0") ≡ true → n ≡ 0
-named_zero told n small same =
+named_zero : (n : ℕ) → n < 32 → bytes_eq (number_text n) (codes "0") ≡ true → n ≡ 0
+named_zero n small same =
     let text : number_text n ≡ codes "0" = (bytes_eq-Decides (number_text n) (codes "0")).0 same in
-    some_same n 0 (sym (told n small) ∙ ap number_named text)
+    some_same n 0 (sym (number_of_text n small) ∙ ap number_named text)
 
-pub only_zero : NamesTell → (d e : Value) (n : ℕ) → n < 32 → get (number_text n) (sole d) ≡ Some e → (n ≡ 0) × (d ≡ e)
-only_zero told d e n small found = elim (cases_Bool (bytes_eq (number_text n) (codes "0"))) [
-  | inl same ↦ (named_zero told n small same, some_same d e (rw same at (sym (seek (number_text n) d) ∙ found)))
+pub only_zero : (d e : Value) (n : ℕ) → n < 32 → get (number_text n) (sole d) ≡ Some e → (n ≡ 0) × (d ≡ e)
+only_zero d e n small found = elim (cases_Bool (bytes_eq (number_text n) (codes "0"))) [
+  | inl same ↦ (named_zero n small same, some_same d e (rw same at (sym (seek (number_text n) d) ∙ found)))
   | inr other ↦ absurd (no_some e (rw other at (sym (seek (number_text n) d) ∙ found)))
 ]
 
-pub none_other : NamesTell → (d : Value) (n : ℕ) → n < 32 → n ≢ 0 → get (number_text n) (sole d) ≡ None
-none_other told d n small other = elim (cases_Bool (bytes_eq (number_text n) (codes "0"))) [
-  | inl same ↦ absurd (other (named_zero told n small same))
+pub none_other : (d : Value) (n : ℕ) → n < 32 → n ≢ 0 → get (number_text n) (sole d) ≡ None
+none_other d n small other = elim (cases_Bool (bytes_eq (number_text n) (codes "0"))) [
+  | inl same ↦ absurd (other (named_zero n small same))
   | inr apart ↦ seek (number_text n) d ∙ (rw apart refl)
 ]
 
 -- ---- the objects
 
-module _ (v : VolumeMembers) (names : NamesTell) where
+module _ (v : VolumeMembers) where
   pub slot_at : (n : ℕ) (d : Value) → n < 32 → object_at (formatted v) Keyslots n ≡ Some d → (n ≡ 0) × (slot_value (first_slot v) ≡ d)
-  slot_at n d small is = only_zero names (slot_value (first_slot v)) d n small is
+  slot_at n d small is = only_zero (slot_value (first_slot v)) d n small is
 
   pub digest_at : (n : ℕ) (d : Value) → n < 32 → object_at (formatted v) Digests n ≡ Some d → (n ≡ 0) × (digest_value v ≡ d)
-  digest_at n d small is = only_zero names (digest_value v) d n small is
+  digest_at n d small is = only_zero (digest_value v) d n small is
 
   pub segment_at : (n : ℕ) (d : Value) → n < 32 → object_at (formatted v) Segments n ≡ Some d → (n ≡ 0) × (segment_value v ≡ d)
-  segment_at n d small is = only_zero names (segment_value v) d n small is
+  segment_at n d small is = only_zero (segment_value v) d n small is
 
 -- the members of keyslot 0 are in their ranges
 pub slot_fits : (v : VolumeMembers) → FitsVolume v → CanFormat v → FitsSlot (first_slot v)

@@ -1,5 +1,5 @@
 -- The faults of formatting, and their order.
-use Rattle.std.specs.Prelude.{◌≡◌, ◌≢◌, ℕ, ◌<◌, ◌≤◌, List, [], ◌∷◌, length, Bool, true, false}
+use Rattle.std.specs.Prelude.{◌≡◌, ◌≢◌, ℕ, ◌<◌, ◌≤◌, List, [], ◌∷◌, length, Bool, true, false, codes}
 use Rattle.luks_area.specs.First.{IsLeast}
 use Rattle.luks_terms.specs.declared.format.Format.{Format}
 use Rattle.luks_formatting.specs.declared.format_fault.FormatFault.{FormatFault}
@@ -59,3 +59,11 @@ IsAnsweredFaultOrMemory faults f = IsAnsweredFault faults f
 abbrev pub is_device_fault : FormatFault → Bool
 is_device_fault Device = true
 is_device_fault f = false
+
+-- how a fault is written
+abbrev pub fault_text : FormatFault → List ℕ
+fault_text TooSmall = codes "TooSmall"
+fault_text Iterations = codes "Iterations"
+fault_text RandomLength = codes "RandomLength"
+fault_text Memory = codes "Memory"
+fault_text Device = codes "Device"

@@ -53,6 +53,7 @@ new_members payload format random = record {
   digest_salt = digest_salt random;
   digest = key_digest format random (digest_size_of format.hash);
   slot_salt = slot_salt slot_place2 random;
+  encryption = codes "aes-xts-plain64";
 }
 
 -- the area of keyslot 0, of which the first 256000 bytes are used, and its cipher

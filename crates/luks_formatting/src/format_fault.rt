@@ -1,28 +1,43 @@
 use luks_area::DeviceFault;
-use thiserror::Error;
+use std::error::Error;
+use std::fmt;
 
 /// Why a volume isn't made: the first in this order, but for want of memory and the device's
 /// failure.
 ///
 /// All but the device's failure leave every byte as it was.
-#[derive(Debug, Clone, Copy, PartialEq, Eq, Drop, Error)]
+#[derive(Debug, Clone, Copy, PartialEq, Eq, Drop)]
 pub enum FormatFault {
     /// The volume has fewer than 2097152 bytes, for LUKS2 16777216.
-    #[error("TooSmall")]
     TooSmall,
     /// Fewer than 1000 iterations.
-    #[error("Iterations")]
     Iterations,
     /// The random bytes aren't exactly as many as it takes.
-    #[error("RandomLength")]
     RandomLength,
     /// Memory was refused.
-    #[error("Memory")]
     Memory,
     /// A device call failed.
-    #[error("Device")]
     Device,
 }
+
+impl fmt::Display for FormatFault {
+    ghost use Rattle.std.specs.Prelude.{Some};
+    ghost use Rattle.luks_formatting.specs.FormatFaults.{fault_text};
+
+    ghost output = { λ f. Some (fault_text f) };
+
+    fn fmt<W: fmt::Write>(&self, f: &mut fmt::Formatter<W>) -> fmt::Result {
+        match self {
+            FormatFault::TooSmall => f.write_str("TooSmall"),
+            FormatFault::Iterations => f.write_str("Iterations"),
+            FormatFault::RandomLength => f.write_str("RandomLength"),
+            FormatFault::Memory => f.write_str("Memory"),
+            FormatFault::Device => f.write_str("Device"),
+        }
+    }
+}
+
+impl Error for FormatFault {}
 
 impl From<DeviceFault> for FormatFault {
     ghost use Rattle.std.specs.Prelude.{◌≡◌};

@@ -16,8 +16,8 @@ ghost use Rattle.luks_slot.specs.declared.plan.SlotPlan.{SlotPlan as ThePlan};
 ghost use Rattle.luks_formatting.specs.RandomBytes.{digest_salt, slot_place2, slot_salt, volume_key};
 ghost use Rattle.luks_terms.specs.declared.format.Format.{Format as TheFormat};
 
-use luks_head::{luks1_without_faults, luks2_without_faults, written_copies_are_chosen};
-use luks_json::{decimals_say_numbers, encodings_say_bytes, names_say_numbers, one_value};
+use luks_head::luks1_without_faults;
+use luks_json::one_value;
 use luks_making::{addition_keeps_the_rest, new_volume_is_accepted};
 use luks_meta::metadata_without_faults;
 use luks_slot::sealed_area_opens;
@@ -51,15 +51,10 @@ pub fn formatted2_opens()
         → IsFormatted2 payload format passphrase random old new
         → Answer new 0 passphrase (opens (volume_key random)) }
 {
-    written_copies_are_chosen();
-    luks2_without_faults();
     metadata_without_faults();
     new_volume_is_accepted();
     addition_keeps_the_rest();
     one_value();
-    decimals_say_numbers();
-    encodings_say_bytes();
-    names_say_numbers();
     sealed_area_opens();
 }
 
@@ -73,7 +68,4 @@ pub(crate) fn new_keyslot_has_plan()
         → IsNewCipher2 plan.cipher → HasLuks2Plan json 0 plan }
 {
     addition_keeps_the_rest();
-    decimals_say_numbers();
-    encodings_say_bytes();
-    names_say_numbers();
 }

@@ -37,6 +37,7 @@ pub(crate) fn new_area(
         digest_salt: taken(random, DIGEST_SALT, SALT_BYTES),
         digest,
         slot_salt: taken(random, SLOT_SALT, SALT_BYTES),
+        encryption: "aes-xts-plain64",
     };
     area_of(alloc, data_, format, random, &volume)
 }

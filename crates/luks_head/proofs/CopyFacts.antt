@@ -1,5 +1,5 @@
 -- Facts on the bytes of a copy: its size, and its windows one after another.
-use Rattle.std.proofs.Common.{◌≡◌, ℕ, ◌+◌, ◌-◌, ◌*◌, ◌%◌, ◌≤◌, ◌==◌, nat_le, List, [], ◌∷◌, ◌++◌, length, take, drop, replicate, Bool, true, inl, inr, arith, lit≤, refl, sym, ap, ◌∙◌, length-append, length-take-le, length-drop}
+use Rattle.std.proofs.Common.{◌≡◌, ℕ, ◌+◌, ◌-◌, ◌≤◌, ◌==◌, nat_le, List, [], ◌∷◌, ◌++◌, length, take, drop, replicate, Bool, true, inl, inr, arith, lit≤, refl, sym, ap, ◌∙◌, length-append, length-take-le, length-drop}
 use Rattle.std.specs.List.{list_all}
 use Rattle.std.proofs.lemmas.Bool.{or_cases, and_parts, eqb-true, leb-true, false≢true}
 use Rattle.std.proofs.lemmas.List.{take-take, drop-drop, drop-take, length-replicate, take_all}
@@ -20,12 +20,9 @@ among_pass test (size ∷ sizes) n every among =
       | inr later ↦ among_pass test sizes n ((and_parts (test size) (list_all test sizes) every).1) later
     ]
 
--- a listed size is a number of whole windows, and more than one
+-- a listed size is the least one at least
 pub listed_at_least : (n : ℕ) → IsListed n → 16384 ≤ n
 listed_at_least n listed = leb-true 16384 n (among_pass (λ m. nat_le 16384 m) listed_sizes n refl listed)
-
-pub listed_whole : (n : ℕ) → IsListed n → n % 4096 ≡ 0
-listed_whole n listed = eqb-true (n % 4096) 0 (among_pass (λ m. (m % 4096) == 0) listed_sizes n refl listed)
 
 -- the first window of a copy without its sum
 pub first_window : (copy : List ℕ) → 4096 ≤ length copy → take 4096 (with_zero_checksum copy) ≡ with_zero_checksum (take 4096 copy)
@@ -89,22 +86,20 @@ kept_fed v at size long inside =
     ∙ ap (λ xs. take 4096 (with_zero_checksum copy) ++ xs) (sym own)
     ∙ sym (later_window copy 4096 12288 (lit≤ tt) (rw (length-part_inside v at size inside) long))
 
--- what a hasher holds after one window more
-pub later_fed : (v : List ℕ) (at size k : ℕ) → 1 ≤ k → 4096 * k + 4096 ≤ size → at + size ≤ length v
-    → take (4096 * k) (with_zero_checksum (part v at size)) ++ part v (at + 4096 * k) 4096 ≡ take (4096 * (k + 1)) (with_zero_checksum (part v at size))
-later_fed v at size k first within inside =
+-- what a hasher holds after a window of m bytes more
+pub later_fed : (v : List ℕ) (at size n m : ℕ) → 512 ≤ n → n + m ≤ size → at + size ≤ length v
+    → take n (with_zero_checksum (part v at size)) ++ part v (at + n) m ≡ take (n + m) (with_zero_checksum (part v at size))
+later_fed v at size n m past within inside =
     let copy : List ℕ = part v at size in
-    let own : part copy (4096 * k) 4096 ≡ part v (at + 4096 * k) 4096 = part-part v at size (4096 * k) 4096 within in
-    let amount : 4096 * (k + 1) ≡ 4096 * k + 4096 = omega arith in
-    sym (ap (λ n. take n (with_zero_checksum copy)) amount
-    ∙ later_window copy (4096 * k) 4096 (omega arith) (rw (length-part_inside v at size inside) within)
-    ∙ ap (λ xs. take (4096 * k) (with_zero_checksum copy) ++ xs) own)
+    let own : part copy n m ≡ part v (at + n) m = part-part v at size n m within in
+    sym (later_window copy n m past (rw (length-part_inside v at size inside) within)
+    ∙ ap (λ xs. take n (with_zero_checksum copy) ++ xs) own)
 
 -- what a hasher holds after all windows
-pub all_fed : (v : List ℕ) (at size k : ℕ) → 512 ≤ size → 4096 * k ≡ size → at + size ≤ length v
-    → take (4096 * k) (with_zero_checksum (part v at size)) ≡ with_zero_checksum (part v at size)
-all_fed v at size k long whole inside =
-    ap (λ n. take n (with_zero_checksum (part v at size))) whole ∙ all_windows (part v at size) size long (length-part_inside v at size inside)
+pub all_fed : (v : List ℕ) (at size n : ℕ) → 512 ≤ size → n ≡ size → at + size ≤ length v
+    → take n (with_zero_checksum (part v at size)) ≡ with_zero_checksum (part v at size)
+all_fed v at size n long whole inside =
+    ap (λ k. take k (with_zero_checksum (part v at size))) whole ∙ all_windows (part v at size) size long (length-part_inside v at size inside)
 
 -- the digest that was taken is that of the copy
 pub digest_is : (v after head digest : List ℕ) (at size : ℕ) → head ≡ header_at v at → after ≡ v → hdr_size head ≡ size

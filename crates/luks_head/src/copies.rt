@@ -20,6 +20,12 @@ use sha2::{Digest, Sha256};
 /// The bytes of a binary header, by which a copy is read.
 const WINDOW: u64 = place::SIZE as u64;
 
+/// The bytes of a larger copy that are read at once, behind the first 16384.
+const LARGE_WINDOW: usize = 65536;
+
+/// The bytes of a copy of the least size. So many of any copy are fed to its checksum first.
+const BEGINNING: u64 = 16384;
+
 /// The bytes of the JSON area in a copy of the least size. So many are kept of the area of any copy.
 pub const KEPT_JSON: usize = 12288;
 
@@ -112,7 +118,8 @@ fn digest_of_copy<D: Device>(
     digest_from(device, at, size, hasher)
 }
 
-/// The same by a hasher that was fed the first four windows of 4096 bytes. It is fed the others.
+/// The same by a hasher that was fed the first 16384 bytes. It is fed the others, up to 65536 at a
+/// time, in a window of as many bytes on the stack.
 fn digest_from<D: Device>(
     device: &mut D,
     at: u64,
@@ -130,10 +137,14 @@ fn digest_from<D: Device>(
     ensures digest { D.tells
         → IfOk result (λ d. d ≡ sha256 (with_zero_checksum (part (D.bytes device.old) at size))) }
 {
-    let mut window = [0; place::SIZE];
-    for k in 4..size / WINDOW {
-        device.read_at(at + WINDOW * k, &mut window)?;
-        hasher.update(window.as_slice());
+    let mut window = [0; LARGE_WINDOW];
+    let mut done = BEGINNING;
+    while done < size {
+        let len = (size - done).min(LARGE_WINDOW as u64);
+        let piece = &mut window[..len as usize];
+        device.read_at(at + done, piece)?;
+        hasher.update(&*piece);
+        done += len;
     }
     Ok(hasher.finalize())
 }

@@ -7,7 +7,7 @@ ghost use Rattle.luks_kdf.specs.Names.{name_of, hash_of, digest_size_of, block_s
 
 use crate::hash::HashFn;
 use crate::hash_work::HashWork;
-use luks_lanes::sha256_turns;
+use luks_lanes::{sha1_turns, sha256_turns, sha512_turns};
 use sha1::Sha1;
 use sha2::{Digest, Sha256, Sha512};
 
@@ -99,8 +99,8 @@ impl HashFn for Sha1Fn {
         out.copy_from_slice(&self.hasher.finalize());
     }
 
-    fn run_side_by_side(_blocks: &mut [u8], _key: &[u8], _iterations: u32) -> usize {
-        0
+    fn run_side_by_side(blocks: &mut [u8], key: &[u8], iterations: u32) -> usize {
+        sha1_turns(blocks, key, iterations)
     }
 
     ghost not_empty = { Prim.search rules };
@@ -215,8 +215,8 @@ impl HashFn for Sha512Fn {
         out.copy_from_slice(&self.hasher.finalize());
     }
 
-    fn run_side_by_side(_blocks: &mut [u8], _key: &[u8], _iterations: u32) -> usize {
-        0
+    fn run_side_by_side(blocks: &mut [u8], key: &[u8], iterations: u32) -> usize {
+        sha512_turns(blocks, key, iterations)
     }
 
     ghost not_empty = { Prim.search rules };

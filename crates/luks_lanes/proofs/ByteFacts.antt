@@ -3,6 +3,8 @@ use Rattle.std.proofs.Common.{◌≡◌, ℕ, zero, suc, ◌+◌, ◌*◌, ◌<�
 use Rattle.std.specs.Int.{to_be_bytes}
 use Rattle.std.proofs.Math.Seq.{drop-cons, take-add}
 use Rattle.std.proofs.lemmas.Nat.{be_bytes_4}
+use Rattle.std.proofs.lemmas.List.{drop-drop}
+use Rattle.sha1.specs.Sha1 as Sha1
 use Rattle.sha2.specs.Sha256.{digest_bytes, word_at}
 
 -- a list from a place on
@@ -40,19 +42,19 @@ word_back bytes i small le =
     be_bytes_4 four _ refl fits refl ∙ sym (four_at bytes i le)
 
 -- the bytes of the words that were read are those that they were read from
-pub words_read : (bytes words : List ℕ) → ((i : ℕ) → get_or bytes i 0 < 256) → (n : ℕ) → n * 4 ≤ length bytes
-    → ((k : ℕ) → k < n → slice_index words k ≡ word_at bytes (k * 4)) → digest_bytes words n ≡ take (n * 4) bytes
+pub words_read : (bytes words : List ℕ) → ((i : ℕ) → get_or bytes i 0 < 256) → (at n : ℕ) → at + n * 4 ≤ length bytes
+    → ((k : ℕ) → k < n → slice_index words k ≡ word_at bytes (at + k * 4)) → digest_bytes words n ≡ take (n * 4) (drop at bytes)
 unfolding digest_bytes
-words_read bytes words small zero le read = refl
-words_read bytes words small (suc n) le read =
-    let before = words_read bytes words small n (omega arith) (λ k lt. read k (omega arith)) in
-    let last = ap (to_be_bytes w32) (read n (omega arith)) ∙ word_back bytes (n * 4) small (omega arith) in
+words_read bytes words small at zero le read = refl
+words_read bytes words small at (suc n) le read =
+    let before = words_read bytes words small at n (omega arith) (λ k lt. read k (omega arith)) in
+    let last = ap (to_be_bytes w32) (read n (omega arith)) ∙ word_back bytes (at + n * 4) small (omega arith)
+    ∙ ap (take 4) (sym (drop-drop (n * 4) at bytes)) in
     let more : suc n * 4 ≡ n * 4 + 4 = omega arith in
-    ap₂ (λ (s t : List ℕ). s ++ t) before last ∙ sym (take-add (n * 4) 4 bytes) ∙ ap (λ k. take k bytes) (sym more)
+    ap₂ (λ (s t : List ℕ). s ++ t) before last ∙ sym (take-add (n * 4) 4 (drop at bytes)) ∙ ap (λ k. take k (drop at bytes)) (sym more)
 
--- the bytes of eight words are those of the first eight of a list
-pub digest_eight : (h : List ℕ)
-    → digest_bytes (slice_index h 0 ∷ slice_index h 1 ∷ slice_index h 2 ∷ slice_index h 3
-    ∷ slice_index h 4 ∷ slice_index h 5 ∷ slice_index h 6 ∷ slice_index h 7 ∷ []) 8 ≡ digest_bytes h 8
-unfolding digest_bytes
-digest_eight h = refl
+-- the two hashes' bytes of words are the same
+pub same_bytes : (h : List ℕ) (n : ℕ) → Sha1.digest_bytes h n ≡ digest_bytes h n
+unfolding Sha1.digest_bytes digest_bytes
+same_bytes h zero = refl
+same_bytes h (suc n) = ap (λ (l : List ℕ). l ++ to_be_bytes w32 (slice_index h n)) (same_bytes h n)

@@ -1,7 +1,11 @@
 mod ChMaj
+mod Nested
 mod Rotations
-pub mod PairFacts
-pub mod FirstWindow
-pub mod TurnFacts
-pub mod RowFacts
 pub mod ByteFacts
+pub mod FirstWindow
+pub mod PairFacts
+pub mod QuadFacts
+pub mod RowFacts
+pub mod Sha1Facts
+pub mod TurnFacts
+pub mod WideFacts

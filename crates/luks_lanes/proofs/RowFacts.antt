@@ -1,9 +1,9 @@
 -- A row of blocks, of which some are written anew.
-use Rattle.std.proofs.Common.{◌≡◌, ℕ, ◌+◌, ◌-◌, ◌*◌, ◌<◌, ◌≤◌, List, ◌++◌, length, length-append, take, drop, ap, sym, ◌∙◌, arith, inl, inr}
+use Rattle.std.proofs.Common.{◌≡◌, ℕ, ◌+◌, ◌-◌, ◌*◌, ◌<◌, ◌≤◌, List, ◌++◌, length, take, drop, ap, sym, ◌∙◌, arith, inl, inr}
 use borrow.Rule.Slice.PartMut.{put_mid}
 use Rattle.std.proofs.lemmas.Slice.{drop-put_mid, take-put_mid_below}
 use Rattle.std.proofs.lemmas.Bool.{cases_lt}
-use Rattle.std.proofs.lemmas.List.{drop-take, drop-drop, drop-append-le, take-append-le, drop_at, length-take-le, length-drop, take_all, take_at, take-take}
+use Rattle.std.proofs.lemmas.List.{drop-take, drop-drop, drop-append-le, take-append-le, drop_at, length-take-le, length-drop, take_all, take-take}
 use Rattle.std.proofs.Math.Nat.{mul-le-mul_right}
 use Rattle.luks_lanes.specs.Turns.{AreTurned, block_at, hmac, turns_xored}
 
@@ -70,15 +70,21 @@ turned_more hash size key c n g old now group at k is_at is_k same room made bef
           ∙ before.kept i (omega arith);
     }
 
--- two blocks, written one after the other
-pub both_written : (pair first second : List ℕ) → length pair ≡ 64 → length first ≡ 32 → length second ≡ 32
-    → let row = first ++ drop 32 pair in
-    let written = put_mid 32 (length row - 32) row second in
-    (block_at 32 written 0 ≡ first) × (block_at 32 written 1 ≡ second)
-both_written pair first second long l1 l2 =
-    let row = first ++ drop 32 pair in
-    let whole : length row ≡ 64 = omega (arith, length-append first (drop 32 pair), length-drop 32 pair, long, l1) in (
-      part-before 32 (length row - 32) row second 32 0 (omega arith) (omega (arith, whole)) ∙ take_at first (drop 32 pair) 32 l1,
-      part-within 32 (length row - 32) row second 32 0 (omega (arith, whole)) (omega (arith, whole)) (omega (arith, whole, l2))
-          ∙ take_all 32 second (omega (arith, l2)),
-    )
+-- one value more is written to its place in a row
+pub written_more : (size n : ℕ) (value : ℕ → List ℕ) (row group : List ℕ) (at k : ℕ)
+    → at ≡ n * size → k ≡ size → length group ≡ length (take k (drop at row)) → at + k ≤ length row
+    → ((j : ℕ) → j < n → block_at size row j ≡ value j) → group ≡ value n
+    → (j : ℕ) → j < n + 1 → block_at size (put_mid at k row group) j ≡ value j
+written_more size n value row group at k is_at is_k same room before made j below =
+    let len : length group ≡ k = same ∙ length-take-le k (drop at row) (omega (arith, length-drop at row, room)) in
+    let inside : at ≤ length row = omega (arith, room) in elim (cases_lt j n) [
+      | inl lt ↦
+          let product = mul-le-mul_right size lt in
+          part-before at k row group size (j * size) (omega (arith, product, is_at)) inside ∙ before j lt
+      | inr ge ↦
+          let this : j ≡ n = omega arith in
+          let place : j * size ≡ at + 0 = omega (arith, is_at, ap (λ m. m * size) this) in
+          ap (λ p. part size p (put_mid at k row group)) place
+          ∙ part-within at k row group size 0 (omega (arith, is_k)) inside len
+          ∙ take_all size group (omega (arith, is_k, len)) ∙ made ∙ ap value (sym this)
+    ]

@@ -4,7 +4,7 @@ use Rattle.std.specs.Int.{to_be_bytes}
 use Rattle.std.proofs.lemmas.Nat.{xor_mod, xor_shr}
 use Rattle.std.proofs.lemmas.List.{take-append-le, drop-append-le, take_all, drop_all, append_assoc, length-map}
 use Rattle.sha2.specs.Sha256.{compress, digest_bytes, hash_after, initial_hash_256, padded_message, padding, sha256}
-use Rattle.luks_lanes.specs.Pair.{last_block, xor_words}
+use Rattle.luks_lanes.specs.Pair.{last_block}
 use Rattle.luks_lanes.specs.Turns.{hmac, turn, turns_xored, xor_bytes}
 
 -- each word has four bytes
@@ -52,7 +52,7 @@ hmac_words key i o t lk ei eo =
     ∙ sha256_two (map (bit_xor 0x5C) key) _ (padded 0x5C))
 
 -- the exclusive or of lists that are joined
-xor_append : (a b c d : List ℕ) → length a ≡ length b → xor_bytes (a ++ c) (b ++ d) ≡ xor_bytes a b ++ xor_bytes c d
+pub xor_append : (a b c d : List ℕ) → length a ≡ length b → xor_bytes (a ++ c) (b ++ d) ≡ xor_bytes a b ++ xor_bytes c d
 unfolding xor_bytes
 xor_append [] [] c d h = refl
 xor_append [] (y ∷ ys) c d h = absurd (omega arith)
@@ -73,20 +73,20 @@ to_be_xor x y =
       xor_mod x y 8,
     ) refl
 
--- of n words
-digest_xor_upto : (a b c : List ℕ) (n : ℕ) → ((k : ℕ) → k < n → slice_index c k ≡ bit_xor (slice_index a k) (slice_index b k))
+-- the bytes of n words xored
+pub digest_xor : (a b c : List ℕ) (n : ℕ) → ((k : ℕ) → k < n → slice_index c k ≡ bit_xor (slice_index a k) (slice_index b k))
     → digest_bytes c n ≡ xor_bytes (digest_bytes a n) (digest_bytes b n)
 unfolding digest_bytes xor_bytes
-digest_xor_upto a b c zero h = refl
-digest_xor_upto a b c (suc n) h =
-    let before = digest_xor_upto a b c n (λ k lt. h k (omega arith)) in
+digest_xor a b c zero h = refl
+digest_xor a b c (suc n) h =
+    let before = digest_xor a b c n (λ k lt. h k (omega arith)) in
     let word = ap (to_be_bytes w32) (h n (omega arith)) ∙ to_be_xor (slice_index a n) (slice_index b n) in
     let same : length (digest_bytes a n) ≡ length (digest_bytes b n) = length-digest_bytes a n ∙ sym (length-digest_bytes b n) in
     ap₂ (λ (s t : List ℕ). s ++ t) before word
     ∙ sym (xor_append (digest_bytes a n) (digest_bytes b n) (to_be_bytes w32 (slice_index a n)) (to_be_bytes w32 (slice_index b n)) same)
 
 -- each number below eight
-below_eight : (P : ℕ → Type 0) → P 0 → P 1 → P 2 → P 3 → P 4 → P 5 → P 6 → P 7 → (j : ℕ) → j < 8 → P j
+pub below_eight : (P : ℕ → Type 0) → P 0 → P 1 → P 2 → P 3 → P 4 → P 5 → P 6 → P 7 → (j : ℕ) → j < 8 → P j
 below_eight P p0 p1 p2 p3 p4 p5 p6 p7 zero h = p0
 below_eight P p0 p1 p2 p3 p4 p5 p6 p7 (suc zero) h = p1
 below_eight P p0 p1 p2 p3 p4 p5 p6 p7 (suc (suc zero)) h = p2
@@ -96,10 +96,6 @@ below_eight P p0 p1 p2 p3 p4 p5 p6 p7 (suc (suc (suc (suc (suc zero))))) h = p5
 below_eight P p0 p1 p2 p3 p4 p5 p6 p7 (suc (suc (suc (suc (suc (suc zero)))))) h = p6
 below_eight P p0 p1 p2 p3 p4 p5 p6 p7 (suc (suc (suc (suc (suc (suc (suc zero))))))) h = p7
 below_eight P p0 p1 p2 p3 p4 p5 p6 p7 (suc (suc (suc (suc (suc (suc (suc (suc n)))))))) h = absurd (omega arith)
-
--- the bytes of eight words xored
-pub digest_xor : (a b : List ℕ) → digest_bytes (xor_words a b) 8 ≡ xor_bytes (digest_bytes a 8) (digest_bytes b 8)
-digest_xor a b = digest_xor_upto a b (xor_words a b) 8 (below_eight _ refl refl refl refl refl refl refl refl)
 
 -- one turn more
 pub turns_step : (prf : List ℕ → List ℕ) (first last next before after : List ℕ) (count : ℕ) → 1 ≤ count

@@ -1,2 +1,4 @@
 pub mod Pair
+pub mod Quad
 pub mod Turns
+pub mod Wide

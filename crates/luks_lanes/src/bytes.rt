@@ -2,6 +2,7 @@
 
 ghost use Rattle.std.specs.Prelude.{◌≡◌, ℕ, ◌+◌, ◌*◌, ◌≤◌, length, map, bit_xor};
 ghost use Rattle.sha2.specs.Sha256.{digest_bytes, word_at};
+ghost use Rattle.sha2.specs.Sha512.{digest_bytes as wide_bytes, word_at as wide_at};
 
 // The word at byte `i`.
 #[inline(always)]
@@ -12,13 +13,15 @@ pub(crate) fn load_be(bytes: &[u8], i: usize) -> u32
     u32::from_be_bytes([bytes[i], bytes[i + 1], bytes[i + 2], bytes[i + 3]])
 }
 
-// Reads as many words as there is room for.
-pub(crate) fn read_words(words: &mut [u32], bytes: &[u8])
-    requires { length bytes.now ≡ length words.old * 4 }
-    ensures { digest_bytes words.new (length words.old) ≡ bytes.now }
+// The word at byte `i`, or 0 where the bytes end before it does.
+pub(crate) fn load_or_zero(bytes: &[u8], i: usize) -> u32
+    requires { i ≤ 128 }
+    ensures { i + 4 ≤ length bytes.now → result ≡ word_at bytes.now i }
 {
-    for i in 0..words.len() {
-        words[i] = load_be(bytes, i * 4);
+    if i + 4 <= bytes.len() {
+        load_be(bytes, i)
+    } else {
+        0
     }
 }
 
@@ -32,14 +35,52 @@ pub(crate) fn write_words(bytes: &mut [u8], words: &[u32])
     }
 }
 
-// The key's block, each byte xored with `pad` (RFC 2104, 2).
-pub(crate) fn padded(key: &[u8], pad: u8) -> [u8; 64]
-    requires { length key.now ≡ 64 }
-    ensures { result ≡ map (bit_xor pad) key.now }
+// The word of 64 bits at byte `i`.
+#[inline(always)]
+pub(crate) fn load_wide(bytes: &[u8], i: usize) -> u64
+    requires { i + 8 ≤ length bytes.now }
+    ensures { result ≡ wide_at bytes.now i }
 {
-    let mut bytes = [0; 64];
-    for i in 0..64 {
-        bytes[i] = pad ^ key[i];
+    u64::from_be_bytes([
+        bytes[i],
+        bytes[i + 1],
+        bytes[i + 2],
+        bytes[i + 3],
+        bytes[i + 4],
+        bytes[i + 5],
+        bytes[i + 6],
+        bytes[i + 7],
+    ])
+}
+
+// The word of 64 bits at byte `i`, or 0 where the bytes end before it does.
+pub(crate) fn load_wide_or_zero(bytes: &[u8], i: usize) -> u64
+    requires { i ≤ 128 }
+    ensures { i + 8 ≤ length bytes.now → result ≡ wide_at bytes.now i }
+{
+    if i + 8 <= bytes.len() {
+        load_wide(bytes, i)
+    } else {
+        0
     }
-    bytes
+}
+
+// Writes the words of 64 bits.
+pub(crate) fn write_wide(bytes: &mut [u8], words: &[u64])
+    requires { length bytes.old ≡ length words.now * 8 }
+    ensures { bytes.new ≡ wide_bytes words.now (length words.now) }
+{
+    for i in 0..words.len() {
+        bytes[8 * i..8 * i + 8].copy_from_slice(&words[i].to_be_bytes());
+    }
+}
+
+// Writes the bytes, each xored with `pad`.
+pub(crate) fn xor_with(out: &mut [u8], bytes: &[u8], pad: u8)
+    requires { length out.old ≡ length bytes.now }
+    ensures { out.new ≡ map (bit_xor pad) bytes.now }
+{
+    for i in 0..bytes.len() {
+        out[i] = pad ^ bytes[i];
+    }
 }

@@ -1,11 +1,12 @@
 // The turns of PBKDF2 with HMAC by SHA-256, on two blocks side by side.
 
-ghost use Rattle.std.specs.Prelude.{◌≡◌, ℕ, ◌-◌, ◌*◌, ◌/◌, ◌<◌, ◌≤◌, List, length, map, bit_xor};
-ghost use Rattle.sha2.specs.Sha256.{compress, digest_bytes, initial_hash_256, sha256};
-ghost use Rattle.luks_lanes.specs.Pair.{HoldKey, lane, word_of, xor_words};
-ghost use Rattle.luks_lanes.specs.Turns.{AreTurned, block_at, hmac, turns_xored};
+ghost use Rattle.std.specs.Prelude.{◌≡◌, ℕ, ◌+◌, ◌*◌, ◌/◌, ◌<◌, ◌≤◌, length};
+ghost use Rattle.sha2.specs.Sha256.{sha256, word_at};
+ghost use Rattle.luks_lanes.specs.Pair.{lane, word_of};
+ghost use Rattle.luks_lanes.specs.Turns.{AreTurned};
 
-use crate::bytes::{load_be, padded, read_words, write_words};
+use crate::bytes::{load_be, load_or_zero, write_words};
+use crate::lanes::{Keyed, Lanes};
 use crate::pair::xor;
 use crate::sha256::{compress, compress_window};
 use std::simd::u32x4;
@@ -19,89 +20,88 @@ pub fn sha256_turns(blocks: &mut [u8], key: &[u8], iterations: u32) -> usize
     ensures count { result ≡ length blocks.old / 64 * 2 }
     ensures turned { AreTurned sha256 32 key.now iterations result blocks.old blocks.new }
 {
-    let inner = state_after(&padded(key, 0x36));
-    let outer = state_after(&padded(key, 0x5C));
+    let keyed = Keyed::<[u32x4; 8]>::new(key);
     let pairs = blocks.len() / 64;
     for i in 0..pairs {
-        run_pair(&mut blocks[i * 64..i * 64 + 64], &inner, &outer, iterations);
+        keyed.run(&mut blocks[i * 64..i * 64 + 64], iterations);
     }
     pairs * 2
 }
 
-// The state that has taken in one block, in both lanes.
-fn state_after(block: &[u8; 64]) -> [u32x4; 8]
-    ensures { (j : ℕ) → j < 2 → lane j result ≡ compress initial_hash_256 block.now }
-{
-    let mut w = [u32x4::splat(0); 16];
-    'load: for i in 0..16 {
-        w[i] = in_both(load_be(block, 4 * i));
+// Two hash values of SHA-256: eight words of each.
+impl Lanes for [u32x4; 8] {
+    ghost use Rattle.sha2.specs.Sha256.{compress, digest_bytes, initial_hash_256};
+    ghost use Rattle.std.proofs.Common.{rules};
+
+    ghost COUNT = { 2 };
+
+    ghost LEN = { 32 };
+
+    ghost BLOCK = { 64 };
+
+    ghost digest = { sha256 };
+
+    ghost bytes = { λ j p. digest_bytes (lane j p) 8 };
+
+    ghost has_taken = { λ p block. (j : ℕ) → j < 2 → lane j p ≡ compress initial_hash_256 block };
+
+    fn of_block(block: &[u8]) -> [u32x4; 8] {
+        let mut w = [u32x4::splat(0); 16];
+        'load: for i in 0..16 {
+            w[i] = in_both(load_be(block, 4 * i));
+        }
+        let start = [
+            u32x4::splat(0x6a09_e667),
+            u32x4::splat(0xbb67_ae85),
+            u32x4::splat(0x3c6e_f372),
+            u32x4::splat(0xa54f_f53a),
+            u32x4::splat(0x510e_527f),
+            u32x4::splat(0x9b05_688c),
+            u32x4::splat(0x1f83_d9ab),
+            u32x4::splat(0x5be0_cd19),
+        ];
+        compress_window(&start, w)
     }
-    let start = [
-        u32x4::splat(0x6a09_e667),
-        u32x4::splat(0xbb67_ae85),
-        u32x4::splat(0x3c6e_f372),
-        u32x4::splat(0xa54f_f53a),
-        u32x4::splat(0x510e_527f),
-        u32x4::splat(0x9b05_688c),
-        u32x4::splat(0x1f83_d9ab),
-        u32x4::splat(0x5be0_cd19),
-    ];
-    compress_window(&start, w)
-}
 
-// Runs the turns on a pair of blocks, from the states that have taken in the key's block.
-fn run_pair(pair: &mut [u8], inner: &[u32x4; 8], outer: &[u32x4; 8], iterations: u32)
-    requires some_iterations { 1 ≤ iterations }
-    requires two_blocks { length pair.old ≡ 64 }
-    ensures { (j : ℕ) (key : List ℕ) → j < 2 → length key ≡ 64 → HoldKey inner.now outer.now key
-        → block_at 32 pair.new j ≡ turns_xored (hmac sha256 key) (block_at 32 pair.old j) (iterations - 1) }
-{
-    let mut turn = load(pair);
-    let mut block = turn;
-    for count in 1..iterations {
-        let middle = compress(inner, &turn);
-        turn = compress(outer, &middle);
-        xor_into(&mut block, &turn);
+    fn load(row: &[u8]) -> [u32x4; 8] {
+        [
+            words_at(row, 0),
+            words_at(row, 1),
+            words_at(row, 2),
+            words_at(row, 3),
+            words_at(row, 4),
+            words_at(row, 5),
+            words_at(row, 6),
+            words_at(row, 7),
+        ]
     }
-    store(pair, &block);
-}
 
-// The words of two blocks.
-fn load(pair: &[u8]) -> [u32x4; 8]
-    requires { length pair.now ≡ 64 }
-    ensures { (j : ℕ) → j < 2 → digest_bytes (lane j result) 8 ≡ block_at 32 pair.now j }
-{
-    let mut first = [0; 8];
-    let mut second = [0; 8];
-    read_words(&mut first, &pair[..32]);
-    read_words(&mut second, &pair[32..]);
-    side_by_side(&first, &second)
-}
+    fn store(&self, row: &mut [u8]) {
+        for j in 0..(row.len() / 32).min(2) {
+            write_words(&mut row[j * 32..j * 32 + 32], &lane_words(self, j));
+        }
+    }
 
-// The words of one block beside those of another.
-fn side_by_side(first: &[u32; 8], second: &[u32; 8]) -> [u32x4; 8]
-    ensures first { digest_bytes (lane 0 result) 8 ≡ digest_bytes first.now 8 }
-    ensures second { digest_bytes (lane 1 result) 8 ≡ digest_bytes second.now 8 }
-{
-    [
-        in_lanes(first[0], second[0]),
-        in_lanes(first[1], second[1]),
-        in_lanes(first[2], second[2]),
-        in_lanes(first[3], second[3]),
-        in_lanes(first[4], second[4]),
-        in_lanes(first[5], second[5]),
-        in_lanes(first[6], second[6]),
-        in_lanes(first[7], second[7]),
-    ]
-}
+    fn tagged(&self, inner: &[u32x4; 8], outer: &[u32x4; 8]) -> [u32x4; 8] {
+        let middle = compress(inner, self);
+        compress(outer, &middle)
+    }
 
-// Writes the words of two blocks.
-fn store(pair: &mut [u8], words: &[u32x4; 8])
-    requires { length pair.old ≡ 64 }
-    ensures { (j : ℕ) → j < 2 → block_at 32 pair.new j ≡ digest_bytes (lane j words.now) 8 }
-{
-    write_words(&mut pair[..32], &lane_of(words, 0));
-    write_words(&mut pair[32..], &lane_of(words, 1));
+    #[inline(always)]
+    fn xor(&self, other: &[u32x4; 8]) -> [u32x4; 8] {
+        [
+            xor(self[0], other[0]),
+            xor(self[1], other[1]),
+            xor(self[2], other[2]),
+            xor(self[3], other[3]),
+            xor(self[4], other[4]),
+            xor(self[5], other[5]),
+            xor(self[6], other[6]),
+            xor(self[7], other[7]),
+        ]
+    }
+
+    ghost block_in_128 = { Prim.search rules };
 }
 
 // A word in both lanes.
@@ -111,16 +111,19 @@ fn in_both(x: u32) -> u32x4
     u32x4::splat(x)
 }
 
-// A word of each block.
-fn in_lanes(first: u32, second: u32) -> u32x4
-    ensures first { word_of 0 result ≡ first }
-    ensures second { word_of 1 result ≡ second }
+// Word `i` of each of the values in a row.
+fn words_at(row: &[u8], i: usize) -> u32x4
+    requires { i < 8 }
+    ensures { (j : ℕ) → j < 2 → j * 32 + 32 ≤ length row.now
+        → word_of j result ≡ word_at row.now (j * 32 + i * 4) }
 {
+    let first = load_or_zero(row, i * 4);
+    let second = load_or_zero(row, 32 + i * 4);
     u32x4::from_array([first, 0, second, 0])
 }
 
-// The words of block `j`.
-fn lane_of(words: &[u32x4; 8], j: usize) -> [u32; 8]
+// The words of value `j`.
+fn lane_words(words: &[u32x4; 8], j: usize) -> [u32; 8]
     requires { j < 2 }
     ensures { result ≡ lane j words.now }
 {
@@ -134,22 +137,4 @@ fn lane_of(words: &[u32x4; 8], j: usize) -> [u32; 8]
         words[6].to_array()[2 * j],
         words[7].to_array()[2 * j],
     ]
-}
-
-// Xors the words of `turn` into those of `block`.
-#[inline(always)]
-fn xor_into(block: &mut [u32x4; 8], turn: &[u32x4; 8])
-    ensures { (j : ℕ) → j < 2 → lane j block.new ≡ xor_words (lane j block.old) (lane j turn.now) }
-{
-    let [a, b, c, d, e, f, g, h] = *block;
-    *block = [
-        xor(a, turn[0]),
-        xor(b, turn[1]),
-        xor(c, turn[2]),
-        xor(d, turn[3]),
-        xor(e, turn[4]),
-        xor(f, turn[5]),
-        xor(g, turn[6]),
-        xor(h, turn[7]),
-    ];
 }

@@ -4,7 +4,7 @@ use clap::error::ErrorKind;
 use clap::{Arg, ArgAction, ArgMatches, Command, Error};
 use luks_kdf::HashName;
 use luks_reading::Data;
-use luks_request::{Command as Asked, EditRequest, Editing, Line, Making, NewVersion};
+use luks_request::{Command as Asked, Converting, EditRequest, Editing, Line, Making, NewVersion};
 use luks_terms::Format;
 use std::alloc::{AllocError, Global};
 
@@ -23,7 +23,7 @@ pub fn line<'a>(alloc: Global, words: &'a [&'a str]) -> Result<Line<'a>, Error> 
 
 fn asked<'a>(matches: &ArgMatches<'a>) -> Option<Line<'a>> {
     let (name, given) = matches.subcommand()?;
-    let volume = given.get_str("VOLUME")?;
+    let volume = given.get_str(volume_word(name))?;
     let command = match name {
         "check" => Asked::Check {
             data_: data_of(given),
@@ -34,9 +34,18 @@ fn asked<'a>(matches: &ArgMatches<'a>) -> Option<Line<'a>> {
             slot: given.get_one::<u8>("slot"),
         },
         "format" => Asked::Format(making_of(given)?),
+        "convert" => Asked::Convert(converting_of(given)?),
         _ => Asked::Edit(editing_of(name, given)?),
     };
     Some(Line { volume, command })
+}
+
+/// The name of the argument that is the volume.
+fn volume_word(command: &str) -> &'static str {
+    match command {
+        "convert" => "SOURCE",
+        _ => "VOLUME",
+    }
 }
 
 fn editing_of<'a>(name: &str, given: &ArgMatches<'a>) -> Option<Editing<'a>> {
@@ -90,6 +99,14 @@ fn making_of<'a>(given: &ArgMatches<'a>) -> Option<Making<'a>> {
     })
 }
 
+fn converting_of<'a>(given: &ArgMatches<'a>) -> Option<Converting<'a>> {
+    Some(Converting {
+        target: given.get_str("TARGET")?,
+        random: given.get_str("random")?,
+        data_: data_of(given),
+    })
+}
+
 fn data_of(given: &ArgMatches<'_>) -> Data {
     if given.get_flag("detached") {
         Data::Elsewhere
@@ -112,7 +129,8 @@ fn program<'a>(alloc: Global) -> Result<Command<'a>, AllocError> {
         .subcommand(remove_command(alloc)?)?
         .subcommand(repair_command(alloc)?)?
         .subcommand(label_command(alloc)?)?
-        .subcommand(format_command(alloc)?)
+        .subcommand(format_command(alloc)?)?
+        .subcommand(convert_command(alloc)?)
 }
 
 fn check_command<'a>(alloc: Global) -> Result<Command<'a>, AllocError> {
@@ -211,10 +229,32 @@ fn format_command<'a>(alloc: Global) -> Result<Command<'a>, AllocError> {
         .arg(detached_option(alloc))
 }
 
+fn convert_command<'a>(alloc: Global) -> Result<Command<'a>, AllocError> {
+    Command::new(alloc, "convert")
+        .about(helps::CONVERT)
+        .after_help(helps::CONVERT_MORE)
+        .arg(source_argument(alloc))?
+        .arg(target_argument(alloc))?
+        .arg(random_option(alloc).required(true))?
+        .arg(detached_option(alloc).help("SOURCE is a detached header, no payload judged"))
+}
+
 fn volume_argument<'a>(alloc: Global) -> Arg<'a> {
     Arg::new(alloc, "VOLUME")
         .required(true)
         .help("The volume, or its detached header")
+}
+
+fn source_argument<'a>(alloc: Global) -> Arg<'a> {
+    Arg::new(alloc, "SOURCE")
+        .required(true)
+        .help("The LUKS1 volume, or its detached header")
+}
+
+fn target_argument<'a>(alloc: Global) -> Arg<'a> {
+    Arg::new(alloc, "TARGET")
+        .required(true)
+        .help("The file of the new header, of at least 16 MiB")
 }
 
 fn text_argument<'a>(alloc: Global) -> Arg<'a> {

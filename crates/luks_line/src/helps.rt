@@ -10,8 +10,8 @@ pub(crate) const PROGRAM: &str =
 pub(crate) const PROGRAM_MORE: &str = "\
 A volume is a device, an image, or the detached header of one. The commands
 check, show and open write nothing; the others write to the header and to the
-areas of the keyslots that they name, and format over whatever stands there.
-None reads the payload.
+areas of the keyslots that they name, format over whatever stands there, and
+convert to another file. None reads the payload.
 
 Each command prints its answer on standard output, in the lines that its help
 lists: luks COMMAND --help. What stops it is an answer too: 'refused FAULT',
@@ -296,6 +296,38 @@ Prints one line:
   device fault           a file can't be read, or the volume can't be written;
                          a write that failed leaves any part of it written
   no memory              memory was refused; nothing was written
+
+Exit status:
+  0  done, or help was asked for
+  1  refused; nothing was written
+  2  the command line is wrong; the text is on standard error
+  4  device fault, no memory, or the output can't be written";
+
+pub(crate) const CONVERT: &str = "Makes a LUKS2 header of a LUKS1 volume, on another file";
+
+pub(crate) const CONVERT_MORE: &str = "\
+A detached LUKS2 header is written to TARGET, which has to be there and to have
+at least 16777216 bytes. SOURCE is only read. Each passphrase that opens a
+keyslot of SOURCE opens the keyslot of the same number of TARGET, to the same
+volume key, so that cryptsetup opens the payload of SOURCE by either header.
+
+Written are, with a flush after each: the area of each enabled keyslot, from the
+byte 32768 of TARGET on; then the second copy of the header, and the first. No
+other byte is. The salts are the first 128 bytes of the random file, and no more
+are read. Give it /dev/urandom.
+
+Prints one line:
+  done           the header is made; standard error tells how cryptsetup opens
+                 the payload by it
+  refused FAULT  the first fault, and nothing was written: SameFile (TARGET is
+                 SOURCE), what check refuses of SOURCE, NotLuks1 (it is of
+                 LUKS2), TooSmall (TARGET is), NoRoom (the new areas end past
+                 16777216) or RandomLength (the random file is too short)
+  device fault   a file can't be read, SOURCE read, or TARGET read or written
+  no memory      memory was refused; nothing was written
+
+If a device fails in the midst, SOURCE is as it was, and TARGET may be no whole
+header; its bytes outside the areas and copies are as they were. Run it again.
 
 Exit status:
   0  done, or help was asked for

@@ -6,4 +6,4 @@ mod command_line;
 mod helps;
 
 pub use command_line::line;
-pub use luks_request::{Command, EditRequest, Editing, Line, Making, NewVersion};
+pub use luks_request::{Command, Converting, EditRequest, Editing, Line, Making, NewVersion};

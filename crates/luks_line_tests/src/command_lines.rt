@@ -1,6 +1,6 @@
 //! Which command a command line asks for.
 use luks_kdf::HashName;
-use luks_line::{Command, EditRequest, Editing, Line, Making, NewVersion, line};
+use luks_line::{Command, Converting, EditRequest, Editing, Line, Making, NewVersion, line};
 use luks_reading::Data;
 use luks_terms::Format;
 use std::alloc::{AllocError, Global};
@@ -332,6 +332,54 @@ fn makings(rt: HostRuntime) -> Result<(), Fail> {
     Ok(())
 }
 
+const FROM_HERE: Converting<'static> = Converting {
+    target: "t",
+    random: "r",
+    data_: Data::Here,
+};
+
+const FROM_ELSEWHERE: Converting<'static> = Converting {
+    data_: Data::Elsewhere,
+    ..FROM_HERE
+};
+
+/// The words, and what they ask to make of the volume `v`.
+const CONVERTINGS: [(&[&str], Converting<'static>); 3] = [
+    (&["luks", "convert", "v", "t", "--random", "r"], FROM_HERE),
+    (
+        &["luks", "convert", "--random=r", "--detached", "v", "t"],
+        FROM_ELSEWHERE,
+    ),
+    (
+        &["luks", "convert", "--random=r", "v", "--", "-t"],
+        Converting {
+            target: "-t",
+            ..FROM_HERE
+        },
+    ),
+];
+
+#[test]
+fn convertings(rt: HostRuntime) -> Result<(), Fail> {
+    for (i, (words, converting)) in CONVERTINGS.into_iter().enumerate() {
+        let found = line(rt.alloc(), words)?;
+        let command = Command::Convert(converting);
+        assert!(rt;
+            found
+                == Line {
+                    volume: "v",
+                    command
+                },
+            "row {i}"
+        );
+        assert!(rt; found.target() == Some(converting.target), "row {i}");
+        assert!(rt; found.random() == Some("r"), "row {i}");
+        assert!(rt; found.passphrase().is_none(), "row {i}");
+        assert!(rt; !found.writes(), "row {i}");
+    }
+    Ok(())
+}
+
 #[test]
 fn commands(rt: HostRuntime) -> Result<(), Fail> {
     for (i, (words, volume, command, passphrase)) in LINES.into_iter().enumerate() {
@@ -339,6 +387,7 @@ fn commands(rt: HostRuntime) -> Result<(), Fail> {
         assert!(rt; found == Line { volume, command }, "row {i}");
         assert!(rt; found.passphrase() == passphrase, "row {i}");
         assert!(rt; found.random().is_none(), "row {i}");
+        assert!(rt; found.target().is_none(), "row {i}");
         assert!(rt; !found.writes(), "row {i}");
     }
     Ok(())
@@ -475,7 +524,14 @@ const FAULTS: [(&[&str], &str); 25] = [
 ];
 
 /// Words that single spaces part, and what the text of the refusal holds.
-const EDIT_FAULTS: [(&str, &str); 30] = [
+const EDIT_FAULTS: [(&str, &str); 34] = [
+    ("luks convert a --random=r", "<TARGET>"),
+    ("luks convert a b", "--random <FILE>"),
+    ("luks convert a b c --random=r", "'c'"),
+    (
+        "luks convert a b --random=r --passphrase=p",
+        "'--passphrase'",
+    ),
     (
         "luks add --slot=0 --passphrase=p --new=n --random=r",
         "<VOLUME>",
@@ -593,7 +649,7 @@ fn faults_of_usage(rt: HostRuntime) -> Result<(), Fail> {
     Ok(())
 }
 
-const HELPS: [(&[&str], &str); 14] = [
+const HELPS: [(&[&str], &str); 15] = [
     (&["luks", "--help"], "  3  check: accepted, but "),
     (&["luks", "-h"], "luks COMMAND --help"),
     (&["luks", "check", "--help"], "  accepted luks1 areas N "),
@@ -605,6 +661,7 @@ const HELPS: [(&[&str], &str); 14] = [
     (&["luks", "repair", "-h"], "  done "),
     (&["luks", "label", "-h"], "  done "),
     (&["luks", "format", "-h"], "  refused TooSmall "),
+    (&["luks", "convert", "-h"], " SameFile (TARGET is"),
     (&["luks", "help", "check"], "  4  device fault, no memory, "),
     (&["luks", "--version"], "luks 0.2.0 (rattle-kit-13b "),
     (&["luks", "-V"], "luks 0.2.0 (rattle-kit-13b "),
@@ -619,8 +676,8 @@ fn helps(rt: HostRuntime) -> Result<(), Fail> {
 }
 
 /// The commands.
-const COMMANDS: [&str; 9] = [
-    "check", "show", "open", "add", "change", "remove", "repair", "label", "format",
+const COMMANDS: [&str; 10] = [
+    "check", "show", "open", "add", "change", "remove", "repair", "label", "format", "convert",
 ];
 
 /// The text on the words, and whether each of its lines has at most 80 bytes.

@@ -4,6 +4,7 @@
 #![tactic(auto)]
 
 mod asking;
+mod identity;
 mod locked;
 mod names;
 mod node;
@@ -11,6 +12,7 @@ mod notice;
 mod opening;
 
 pub use asking::{Answer, Share, ask};
+pub use identity::is_same_file;
 pub use locked::{Lock, LockedDevice};
 pub use names::{Named, hold_name};
 pub use node::Node;

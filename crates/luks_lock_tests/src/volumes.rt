@@ -5,7 +5,7 @@ ghost use Rattle.luks_cache.specs.Cached.{cached_failures};
 use crate::folders::new_folder;
 use luks_area::FileDevice;
 use luks_cache::CachedDevice;
-use luks_cli::{InputFault, Inputs, Reason, execute};
+use luks_cli::{CountingPrinter, InputFault, Inputs, Reason, execute};
 use luks_line::line;
 use luks_lock::{LockedDevice, Notice, OpenFault, open_locked};
 use std::alloc::Global;
@@ -59,14 +59,15 @@ fn says<R: AllocGlobal + Clock + Files<File = File>>(
     let random = vec![in rt.alloc(); 7u8; 260000]?;
     let mut inputs = Inputs {
         volume: opened(rt, path, line.writes()),
+        target: Err(InputFault::Absent),
         passphrase: Ok("one".as_bytes()),
         new_passphrase: Err(InputFault::Absent),
         random: Ok(random.as_slice()),
     };
-    let mut out = Vec::new(rt.alloc());
+    let mut out = CountingPrinter::new(Vec::new(rt.alloc()));
     let mut err = Vec::new(rt.alloc());
     let status = execute(rt.alloc(), &line, &mut inputs, &mut out, &mut err);
-    let printed = out.as_slice() == want.0.as_bytes() && err.as_slice() == want.1.as_bytes();
+    let printed = out.writer.as_slice() == want.0.as_bytes() && err.as_slice() == want.1.as_bytes();
     Ok(printed && status == want.2)
 }
 

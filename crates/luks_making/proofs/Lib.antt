@@ -16,3 +16,7 @@ mod ItemFacts
 mod CopyFacts
 mod StepFacts
 mod AreaFacts
+mod NewAreaFacts
+mod RegionFacts
+mod ConversionFacts
+mod ConvertedTextFacts

@@ -31,7 +31,7 @@ use Rattle.luks_making.proofs.RowFacts.{NamesRow, RowRead, digest_row, each_of, 
 -- ---- a map with one object
 
 -- an object of another number isn't in it
-none_else : (d : Data) (n : ℕ) → (n ≡ 0 → ⊥) → get (number_text n) (sole d) ≡ None
+pub none_else : (d : Data) (n : ℕ) → (n ≡ 0 → ⊥) → get (number_text n) (sole d) ≡ None
 none_else d n other =
     let off : bytes_eq (number_text n) (codes "0") ≡ false = texts_differ n 0 other in
     seek (number_text n) (codes "0") d no_members ∙ rw off refl
@@ -45,7 +45,7 @@ only_zero d e n found = elim (cases_eq n 0) [
 
 -- ---- decimal literals
 
-json_digits : codes "12288" ≡ decimal 12288
+pub json_digits : codes "12288" ≡ decimal 12288
 unfolding digits
 json_digits = refl
 
@@ -61,10 +61,10 @@ fits_64 : (n : ℕ) → n ≤ 16777216 → n < 2 ^ 64
 fits_64 n h = omega (arith, h)
 
 module _ (say : TextsSay) where
-  literal_is : (t : List ℕ) (n : ℕ) → n ≤ 16777216 → t ≡ decimal n → decimal_in (Some (string t)) ≡ Some n
+  pub literal_is : (t : List ℕ) (n : ℕ) → n ≤ 16777216 → t ≡ decimal n → decimal_in (Some (string t)) ≡ Some n
   literal_is t n h same = say.decimals t n (record { fits = fits_64 n h; digits = same })
 
-  literal_read : (t : List ℕ) (n : ℕ) → n ≤ 16777216 → t ≡ decimal n → is_some (option_map whole (decimal_in (Some (string t)))) ≡ true
+  pub literal_read : (t : List ℕ) (n : ℕ) → n ≤ 16777216 → t ≡ decimal n → is_some (option_map whole (decimal_in (Some (string t)))) ≡ true
   literal_read t n h same = rw (literal_is t n h same) refl
 
 -- ---- the rows

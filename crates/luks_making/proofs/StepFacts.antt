@@ -4,6 +4,8 @@ use Rattle.serde_json.specs.Data.{Data, number, string, unsigned, put}
 use Rattle.luks_json.specs.Number.{number_text}
 use Rattle.luks_making.specs.Changing.{at_member, drop_member, each_member, in_object, set_member}
 use Rattle.luks_making.specs.Changed.{renewed_kdf}
+use Rattle.luks_making.specs.Converted.{with_region}
+use Rattle.luks_making.specs.Formatted.{VolumeMembers, formatted}
 use Rattle.luks_making.specs.Keyslots.{NewMembers, SlotMembers, base64_text, slot_value}
 use Rattle.luks_making.specs.With.{with_name, with_slot}
 use Rattle.luks_making.specs.Without.{without_name, without_slot}
@@ -27,3 +29,7 @@ with_steps n m s tm tn tk j a made first second third is named_by = rw (named_by
 pub kdf_steps : (f : NewMembers) (k a salt : Data) (count : Data) → count ≡ number (unsigned f.iterations) → salt ≡ string (base64_text f.salt) → a ≡ set_member (codes "salt") salt k
     → set_member (codes "iterations") count a ≡ renewed_kdf f k
 kdf_steps f k a salt count counted encoded salted = rw (salted, encoded, counted) refl
+
+-- a new volume loses its keyslot, and gets another region
+pub region_steps : (u : VolumeMembers) (size n : ℕ) (a b : Data) → a ≡ formatted u → b ≡ without_slot 0 a → n ≡ size → with_region n b ≡ with_region size (without_slot 0 (formatted u))
+region_steps u size n a b made bare same = ap (λ k. with_region k b) same ∙ ap (with_region size) (bare ∙ ap (without_slot 0) made)

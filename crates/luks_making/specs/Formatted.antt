@@ -12,6 +12,7 @@ pub record VolumeMembers : Type 0 where
   pub digest_salt : List ℕ
   pub digest : List ℕ
   pub slot_salt : List ℕ
+  pub encryption : List ℕ
 
 abbrev pub volume_members : NewVolume → VolumeMembers
 volume_members v = record {
@@ -21,6 +22,7 @@ volume_members v = record {
   digest_salt = v.digest_salt.now;
   digest = v.digest.now;
   slot_salt = v.slot_salt.now;
+  encryption = v.encryption.now;
 }
 
 -- a map with one object, the one of number 0
@@ -53,7 +55,7 @@ first_slot v = record {
   splitter_hash = v.hash;
   offset = 32768;
   size = 258048;
-  encryption = codes "aes-xts-plain64";
+  encryption = v.encryption;
   area_key_size = 64;
   hash = v.hash;
   iterations = v.iterations;
@@ -62,7 +64,7 @@ first_slot v = record {
 
 abbrev pub segment_value : VolumeMembers → Data
 segment_value v = object (
-    text_member (codes "encryption") (codes "aes-xts-plain64") (
+    text_member (codes "encryption") v.encryption (
     text_member (codes "iv_tweak") (codes "0") (
     text_member (codes "offset") (decimal v.segment_offset) (
     number_member (codes "sector_size") 512 (

@@ -8,4 +8,8 @@ pub mod Conditions
 pub mod Unchanged
 pub mod NewVolumes
 pub mod WrittenArea
+pub mod Converted
+pub mod Conversions
+pub mod TextLengths
+pub mod SourceFacts
 pub use Rattle.luks_rules.specs.Naming

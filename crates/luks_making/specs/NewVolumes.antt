@@ -24,8 +24,7 @@ pub record SaysDigest (v : VolumeMembers) (d : Data) : Type 0 where
 -- the segment's members
 pub record SaysSegment (v : VolumeMembers) (d : Data) : Type 0 where
   pub kind : type_at d outer.Top ≡ Some (codes "crypt")
-  pub encryption : text_of (member_at d outer.Top name.Encryption)
-      ≡ Some (codes "aes-xts-plain64")
+  pub encryption : text_of (member_at d outer.Top name.Encryption) ≡ Some v.encryption
   pub iv_tweak : decimal_in (member_at d outer.Top name.IvTweak) ≡ Some 0
   pub offset : decimal_in (member_at d outer.Top name.Offset) ≡ Some v.segment_offset
   pub sector_size : option_and_then (kept is_sector_size)

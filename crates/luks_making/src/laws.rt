@@ -1,11 +1,14 @@
 //! Laws on the definitions of this crate. Each function does nothing; its contract is the law.
 
-ghost use Rattle.std.specs.Prelude.{◌≡◌, ℕ};
+ghost use Rattle.std.specs.Prelude.{◌≡◌, ◌≤◌, ℕ, length};
 ghost use Rattle.serde_json.specs.Data.{Data};
+ghost use Rattle.serde_json.specs.Written.{compact_text};
 ghost use Rattle.luks_json.specs.Number.{number_text};
 ghost use Rattle.luks_rules.specs.Held.{IsHeld};
 ghost use Rattle.luks_making.specs.Changed.{changed_slot};
 ghost use Rattle.luks_making.specs.Conditions.{CanFormat, CanSeal, FitsNew, FitsSlot, FitsVolume, IsFree, IsRoom};
+ghost use Rattle.luks_making.specs.Conversions.{CanConvert, FitsSource, SaysSource};
+ghost use Rattle.luks_making.specs.Converted.{SourceMembers, converted};
 ghost use Rattle.luks_making.specs.Formatted.{VolumeMembers, formatted};
 ghost use Rattle.luks_making.specs.NewVolumes.{SaysVolume};
 ghost use Rattle.luks_making.specs.Unchanged.{ChangesSlot, GainsSlot, LosesSlot, SaysMembers};
@@ -80,6 +83,20 @@ pub fn new_volume_is_accepted()
         → IsHeld 12288 (formatted v) }
     ensures says { (v : VolumeMembers) → FitsVolume v → CanFormat v
         → SaysVolume v (formatted v) }
+{
+    decimals_say_numbers();
+    encodings_say_bytes();
+    names_say_numbers();
+}
+
+/// The metadata of a header that is made from a LUKS1 volume meets every rule, and says the source's
+/// enabled keyslots, each under its number, its digest, that names them in order, and one segment. Its
+/// text leaves room for a zero byte in an area of 12288 bytes.
+pub fn converted_volume_is_accepted()
+    ensures held { (v : SourceMembers) → FitsSource v → CanConvert v → IsHeld 12288 (converted v) }
+    ensures says { (v : SourceMembers) → FitsSource v → CanConvert v → SaysSource v (converted v) }
+    ensures short { (v : SourceMembers) → FitsSource v → CanConvert v
+        → length (compact_text (converted v)) ≤ 12287 }
 {
     decimals_say_numbers();
     encodings_say_bytes();

@@ -27,6 +27,8 @@ pub struct NewVolume<'a> {
     pub digest: &'a [u8],
     /// The keyslot's salt.
     pub slot_salt: &'a [u8],
+    /// The cipher of the keyslot's area and of the segment, with its mode.
+    pub encryption: &'a str,
 }
 
 /// What a new volume says has the ranges of its types. The function does nothing; its contract is
@@ -41,6 +43,7 @@ pub fn volume_fits(volume: &NewVolume<'_>)
         digest_salt,
         digest,
         slot_salt,
+        encryption,
     } = *volume;
     are_bytes(digest_salt);
     are_bytes(digest);
@@ -78,7 +81,7 @@ fn first_slot(alloc: Global, volume: &NewVolume<'_>) -> Result<Value, AllocError
         splitter_hash: volume.hash,
         offset: 32768,
         size: 258048,
-        encryption: "aes-xts-plain64",
+        encryption: volume.encryption,
         area_key_size: 64,
         hash: volume.hash,
         iterations: volume.iterations,
@@ -92,7 +95,7 @@ fn segment_value(alloc: Global, volume: &NewVolume<'_>) -> Result<Value, AllocEr
 {
     let offset = volume.segment_offset.to_string(alloc)?;
     json!(in alloc; {
-        "encryption": "aes-xts-plain64",
+        "encryption": volume.encryption,
         "iv_tweak": "0",
         "offset": offset,
         "sector_size": 512,

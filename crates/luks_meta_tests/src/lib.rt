@@ -4,6 +4,8 @@
 #[cfg(test)]
 mod areas;
 #[cfg(test)]
+mod converting;
+#[cfg(test)]
 mod made;
 #[cfg(test)]
 mod making;

@@ -5,6 +5,7 @@ ghost use Rattle.luks_making.specs.Conditions.{CanSeal, IsFree};
 ghost use Rattle.luks_making.specs.Keyslots.{new_members};
 ghost use Rattle.luks_meta.specs.Content.{area_len, content};
 
+pub mod converted;
 mod cryptsetup;
 mod many;
 mod new;
@@ -162,6 +163,7 @@ fn forms(
         digest_salt: &[0x11; 32],
         digest,
         slot_salt: &[0x22; 32],
+        encryption: "aes-xts-plain64",
     };
     let len = digest.len();
     if iterations == 0 || len < 20 || len > 64 {

@@ -6,7 +6,7 @@ ghost use Rattle.luks_meta.specs.Content.{area_len};
 use crate::making::{Maker, made};
 use crate::rows::{AREA, PLAIN, area_of, read};
 use luks_meta::{Meta, MetaFault};
-use luks_new_meta::NewVolume;
+use luks_new_meta::{NewVolume, SourceSlot, SourceVolume};
 use std::alloc::{AllocError, Global};
 use std::process::Abort;
 use std::test::Fail;
@@ -43,6 +43,7 @@ enum Work {
     Read,
     Make(Maker),
     Form,
+    Convert,
 }
 
 /// The text of what is read.
@@ -59,8 +60,30 @@ fn formed(alloc: Global) -> Result<Meta, AllocError> {
         digest_salt: &[0x11; 32],
         digest: &[0x33; 20],
         slot_salt: &[0x22; 32],
+        encryption: "aes-xts-plain64",
     };
     luks_new_meta::formatted(alloc, &volume)
+}
+
+/// A header's two keyslots are converted, and the value is let go.
+fn converted(alloc: Global) -> Result<String, AllocError> {
+    let slot = Some(SourceSlot {
+        iterations: 1000,
+        salt: [0x22; 32],
+        stripes: 4000,
+    });
+    let volume = SourceVolume {
+        hash: "sha1",
+        encryption: "aes-xts-plain64",
+        key_bytes: 64,
+        digest_iterations: 1000,
+        digest_salt: [0x11; 32],
+        digest: [0x33; 20],
+        payload_offset: 2097152,
+        slots: [slot, None, None, slot, None, None, None, None],
+    };
+    drop(luks_making::converted(alloc, &volume)?);
+    String::from_str(alloc, "converted")
 }
 
 /// The text that stands in the area that is written; none where it isn't the metadata's.
@@ -84,6 +107,9 @@ fn text_after(
     let after = match work {
         Work::Read => return Ok(Some(text_of(alloc, area)?)),
         Work::Form => formed(alloc).map(Some),
+        Work::Convert => {
+            return converted(alloc).map(Some).map_err(|_| MetaFault::Memory);
+        }
         Work::Make(maker) => made(alloc, meta, maker),
     };
     match after {
@@ -152,5 +178,6 @@ fn makers_tell_refused_memory(rt: HostRuntime) -> Result<(), Fail> {
     ] {
         compare(&rt, rt.alloc(), Work::Make(maker))?;
     }
-    compare(&rt, rt.alloc(), Work::Form)
+    compare(&rt, rt.alloc(), Work::Form)?;
+    compare(&rt, rt.alloc(), Work::Convert)
 }

@@ -7,5 +7,5 @@ mod laws;
 mod metadata;
 
 pub use laws::edits_keep_records;
-pub use luks_making::{New, NewVolume};
-pub use metadata::{changed_slot, formatted, json_area, with_slot, without_slot};
+pub use luks_making::{New, NewVolume, SourceSlot, SourceVolume, area_size, area_start};
+pub use metadata::{changed_slot, converted, formatted, json_area, with_slot, without_slot};

@@ -4,6 +4,8 @@ ghost use Rattle.std.specs.Prelude.{◌≡◌, ◌<◌, ◌≤◌, length, IfOk,
 ghost use Rattle.serde_json.specs.Written.{compact_text};
 ghost use Rattle.luks_making.specs.Changed.{changed_slot};
 ghost use Rattle.luks_making.specs.Conditions.{CanFormat, CanSeal, IsFree};
+ghost use Rattle.luks_making.specs.Conversions.{CanConvert};
+ghost use Rattle.luks_making.specs.Converted.{converted, source_members};
 ghost use Rattle.luks_making.specs.Formatted.{formatted, volume_members};
 ghost use Rattle.luks_making.specs.Keyslots.{new_members};
 ghost use Rattle.luks_making.specs.Naming.{HasUniqueDigests};
@@ -14,11 +16,15 @@ ghost use Rattle.luks_meta.specs.Content.{area_len, content};
 
 use crate::adding::added;
 use luks_making::{
-    New, NewVolume, change_keeps_the_rest, made_keyslot_has_room, new_fits, new_volume_is_accepted,
-    removal_keeps_the_rest, volume_fits, written_area,
+    New, NewVolume, SourceVolume, change_keeps_the_rest, converted_volume_is_accepted,
+    made_keyslot_has_room, new_fits, new_volume_is_accepted, removal_keeps_the_rest, source_fits,
+    volume_fits, written_area,
 };
 use luks_meta::Meta;
 use std::alloc::{AllocError, Global};
+
+/// The length of the JSON area of a header of 16384 bytes.
+const JSON_SIZE: usize = 12288;
 
 /// The metadata of a new volume with one keyslot, for a header of 16384 bytes.
 ///
@@ -31,7 +37,24 @@ pub fn formatted(alloc: Global, volume: &NewVolume<'_>) -> Result<Meta, AllocErr
     new_volume_is_accepted();
     volume_fits(volume);
     let value = luks_making::formatted(alloc, volume)?;
-    Ok(Meta::of_value(value, 12288))
+    Ok(Meta::of_value(value, JSON_SIZE))
+}
+
+/// The metadata of a header of 16384 bytes that is made from a LUKS1 volume: each enabled keyslot
+/// under its own number, in an area of whole blocks of 4096 bytes behind those of lower numbers, the
+/// source's digest with its 20 bytes, and one segment, the source's payload.
+///
+/// Takes memory for the value.
+pub fn converted(alloc: Global, volume: &SourceVolume<'_>) -> Result<Meta, AllocError>
+    requires { CanConvert (source_members volume.now) }
+    ensures value { IfOk result (λ m. content m ≡ converted (source_members volume.now)) }
+    ensures length { IfOk result (λ m. area_len m ≡ 12288) }
+    ensures short { IfOk result (λ m. length (compact_text (content m)) ≤ 12287) }
+{
+    converted_volume_is_accepted();
+    source_fits(volume);
+    let value = luks_making::converted(alloc, volume)?;
+    Ok(Meta::of_value(value, JSON_SIZE))
 }
 
 /// The JSON area as it is written: the metadata's text and zeros after it, as long as the area

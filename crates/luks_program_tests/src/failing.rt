@@ -1,7 +1,7 @@
 //! Devices of which one call fails.
 use crate::printing::NO_FILE;
 use luks_area::{FaultyDevice, Leave};
-use luks_cli::{InputFault, Inputs, execute};
+use luks_cli::{CountingPrinter, InputFault, Inputs, execute};
 use luks_line::line;
 use luks_samples::{
     CHECK, DETACHED, OPEN, OPEN_0, SHOW, opening_luks1, opening_luks2, zeros_luks2,
@@ -35,15 +35,16 @@ fn end_of(alloc: Global, words: &[&str], image: &[u8], call: u64, want: &str) ->
     let device = MemDevice::new(image.to_vec(alloc)?);
     let mut inputs = Inputs {
         volume: Ok(FaultyDevice::new(device, call, Leave::Old)),
+        target: Err(InputFault::Absent),
         passphrase: Ok(b"one".as_slice()),
         new_passphrase: NO_FILE,
         random: NO_FILE,
     };
-    let mut out = Vec::new(alloc);
+    let mut out = CountingPrinter::new(Vec::new(alloc));
     let mut err = Vec::new(alloc);
     let status = execute(alloc, &line, &mut inputs, &mut out, &mut err);
     let failures = failures_of(&inputs.volume);
-    let printed = out.as_slice();
+    let printed = out.writer.as_slice();
     let told = err.as_slice() == b"luks: volume: reading failed\n".as_slice();
     if failures == 0 && status == 0 && printed.starts_with(want.as_bytes()) {
         Ok(End::Done)

@@ -3,7 +3,7 @@ ghost use Rattle.std.specs.Prelude.{◌+◌, ◌<◌, ◌^◌};
 ghost use Rattle.std.specs.Result.{ForOk};
 ghost use Rattle.luks_area.specs.Device.{IsSettled};
 
-use luks_cli::{InputFault, Inputs, execute};
+use luks_cli::{CountingPrinter, InputFault, Inputs, execute};
 use luks_line::line;
 use luks_volume::{Device, MemDevice};
 use std::alloc::Global;
@@ -42,11 +42,13 @@ pub fn run<D: Device, R: Read + Drop, W: Write, E: Write>(
     let line = line(alloc, words)?;
     let mut inputs = Inputs {
         volume,
+        target: Err(InputFault::Absent),
         passphrase,
         new_passphrase: Err(InputFault::Absent),
         random: NO_FILE,
     };
-    Ok(execute(alloc, &line, &mut inputs, out, err))
+    let mut printer = CountingPrinter::new(out);
+    Ok(execute(alloc, &line, &mut inputs, &mut printer, err))
 }
 
 /// Whether the words print what is owed over these files, and answer the status.

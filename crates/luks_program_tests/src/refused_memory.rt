@@ -1,6 +1,6 @@
 //! Refused memory.
 use crate::printing::NO_FILE;
-use luks_cli::{Inputs, Line, execute};
+use luks_cli::{CountingPrinter, InputFault, Inputs, Line, execute};
 use luks_line::line;
 use luks_samples::{CHECK, DETACHED, OPEN, OPEN_0, SHOW, opening_luks1, opening_luks2};
 use luks_volume::{MemDevice, open_slot, unlock};
@@ -64,10 +64,10 @@ fn end_of(
     inputs: &mut Inputs<MemDevice, &[u8], &[u8]>,
     want: &str,
 ) -> End {
-    let mut out = Cursor::new([0u8; 1024]);
+    let mut out = CountingPrinter::new(Cursor::new([0u8; 1024]));
     let mut err = Cursor::new([0u8; 1024]);
     let status = execute(alloc, line, inputs, &mut out, &mut err);
-    let printed = out.into_inner();
+    let printed = out.writer.into_inner();
     if status == 0 && holds(&printed, want) {
         End::Done
     } else if status == 4 && holds(&printed, "no memory\n") {
@@ -95,6 +95,7 @@ fn ends_with_little_memory(alloc: Global, image: &[u8], row: &Row) -> Result<(En
     let line = line(alloc, row.words)?;
     let mut inputs = Inputs {
         volume: Ok(MemDevice::new(image.to_vec(alloc)?)),
+        target: Err(InputFault::Absent),
         passphrase: Ok(b"one".as_slice()),
         new_passphrase: NO_FILE,
         random: NO_FILE,

@@ -1,4 +1,5 @@
 pub mod Conversions
+pub mod FaultTexts
 pub mod Failures
 pub mod Header
 pub mod ChosenCopies

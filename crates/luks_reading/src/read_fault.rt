@@ -1,31 +1,44 @@
-ghost use Rattle.std.specs.Prelude.{◌≡◌};
+ghost use Rattle.std.specs.Prelude.{◌≡◌, Some};
 ghost use Rattle.luks_reading.specs.Conversions.{head_unread, meta_unread};
+ghost use Rattle.luks_reading.specs.FaultTexts.{read_fault_text};
 
 use luks_area::DeviceFault;
 use luks_head::HeadFault;
 use luks_meta::MetaFault;
 use std::alloc::AllocError;
-use thiserror::Error;
+use std::error::Error;
+use std::fmt;
 
 /// Why the header that counts isn't read.
 ///
 /// The faults of the selection and of the chosen copy's uuid come first, then those of its
 /// metadata. The device's failure and want of memory are answered as such, wherever they were met.
-#[derive(Debug, Clone, Copy, Drop, Error)]
+#[derive(Debug, Clone, Copy, Drop)]
 pub enum ReadFault {
     /// Nothing counts, or the uuid of the chosen copy breaks a rule.
-    #[error("{0}")]
     Head(HeadFault),
     /// The metadata of the chosen copy breaks a rule.
-    #[error("{0}")]
     Meta(MetaFault),
     /// A device call failed.
-    #[error("Device")]
     Device,
     /// Memory was refused.
-    #[error("Memory")]
     Memory,
 }
+
+impl fmt::Display for ReadFault {
+    ghost output = { λ f. Some (read_fault_text f) };
+
+    fn fmt<W: fmt::Write>(&self, f: &mut fmt::Formatter<W>) -> fmt::Result {
+        match self {
+            ReadFault::Head(fault) => write!(f, "{fault}"),
+            ReadFault::Meta(fault) => write!(f, "{fault}"),
+            ReadFault::Device => f.write_str("Device"),
+            ReadFault::Memory => f.write_str("Memory"),
+        }
+    }
+}
+
+impl Error for ReadFault {}
 
 impl From<HeadFault> for ReadFault {
     ghost from_gives = { λ fault outer. outer ≡ head_unread fault };

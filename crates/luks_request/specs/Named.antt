@@ -1,7 +1,7 @@
 -- What a command does to its volume, and the files that it reads beside it, as the bytes of their names.
 use Rattle.std.specs.Prelude.{ℕ, List, Option, None, Some, option_map, Bool, true, false}
 use Rattle.luks_request.specs.declared.request.Command.{Command}
-use Rattle.luks_request.specs.declared.request.Command.TheVariants.{Check, Show, Open, Edit, Format}
+use Rattle.luks_request.specs.declared.request.Command.TheVariants.{Check, Show, Open, Edit, Format, Convert}
 use Rattle.luks_request.specs.declared.request.EditRequest.{EditRequest}
 use Rattle.luks_request.specs.declared.request.EditRequest.TheVariants.{Add, Change, Remove, Repair, Label}
 
@@ -28,17 +28,24 @@ passphrase_of Show = None
 passphrase_of (Open passphrase slot) = Some passphrase.now
 passphrase_of (Edit editing) = edit_passphrase_of editing.request
 passphrase_of (Format making) = Some making.passphrase.now
+passphrase_of (Convert converting) = None
 
 -- some edits alone need a new one beside it
 abbrev pub new_of : Command → Option (List ℕ)
 new_of (Edit editing) = edit_new_of editing.request
 new_of command = None
 
--- edits, where they name its file, and formatting take random bytes
+-- edits, where they name its file, formatting and converting take random bytes
 abbrev pub random_of : Command → Option (List ℕ)
 random_of (Edit editing) = option_map (λ name. name.now) editing.random
 random_of (Format making) = Some making.random.now
+random_of (Convert converting) = Some converting.random.now
 random_of command = None
+
+-- converting writes to a file beside the volume
+abbrev pub target_of : Command → Option (List ℕ)
+target_of (Convert converting) = Some converting.target.now
+target_of command = None
 
 -- edits and formatting write to the volume
 abbrev pub is_writer : Command → Bool

@@ -3,4 +3,4 @@
 
 mod request;
 
-pub use request::{Command, EditRequest, Editing, Line, Making, NewVersion};
+pub use request::{Command, Converting, EditRequest, Editing, Line, Making, NewVersion};

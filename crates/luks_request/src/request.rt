@@ -1,5 +1,6 @@
 ghost use Rattle.std.specs.Prelude.{◌≡◌, option_map};
 ghost use Rattle.luks_request.specs.Named.{edit_new_of, edit_passphrase_of, is_writer, new_of, passphrase_of, random_of};
+ghost use Rattle.luks_request.specs.Named.{target_of};
 
 use luks_reading::Data;
 use luks_terms::Format;
@@ -34,6 +35,8 @@ pub enum Command<'a> {
     Edit(Editing<'a>),
     /// Make a new volume over whatever stands there.
     Format(Making<'a>),
+    /// Make a detached LUKS2 header of the volume, which stays as it is.
+    Convert(Converting<'a>),
 }
 
 /// An edit of the volume, and of which files.
@@ -132,6 +135,17 @@ pub struct Making<'a> {
     pub data_: Data,
 }
 
+/// What is made by converting, and of which files.
+#[derive(Debug, Clone, Copy, PartialEq, Eq)]
+pub struct Converting<'a> {
+    /// The file that the detached header is written to.
+    pub target: &'a str,
+    /// The file of the random bytes.
+    pub random: &'a str,
+    /// Where the volume's payload lies.
+    pub data_: Data,
+}
+
 /// The version of LUKS that a new volume has.
 #[derive(Debug, Clone, Copy, PartialEq, Eq)]
 pub enum NewVersion {
@@ -147,7 +161,7 @@ impl<'a> Line<'a> {
         ensures { option_map (λ name. name.now) result ≡ passphrase_of self.now.command }
     {
         match self.command {
-            Command::Check { .. } | Command::Show => None,
+            Command::Check { .. } | Command::Show | Command::Convert(_) => None,
             Command::Open { passphrase, .. } => Some(passphrase),
             Command::Edit(editing) => editing.request.passphrase(),
             Command::Format(making) => Some(making.passphrase),
@@ -172,6 +186,17 @@ impl<'a> Line<'a> {
         match self.command {
             Command::Edit(editing) => editing.random,
             Command::Format(making) => Some(making.random),
+            Command::Convert(converting) => Some(converting.random),
+            _ => None,
+        }
+    }
+
+    /// The file that the command writes to beside its volume, where there is one.
+    pub fn target(&self) -> Option<&'a str>
+        ensures { option_map (λ name. name.now) result ≡ target_of self.now.command }
+    {
+        match self.command {
+            Command::Convert(converting) => Some(converting.target),
             _ => None,
         }
     }

@@ -10,6 +10,10 @@ mod running;
 
 pub use applying::apply;
 pub use laws::{edits_keep_volume, list_runs_by_steps};
+pub use luks_converting::{
+    CONVERT_RANDOM, ConvertFault, convert, converted_volume_opens_alike,
+    copied_keyslot_opens_alike, metadata_is_never_full,
+};
 pub use luks_edit::{Done, Edit, EditFault, RunFault, Step};
 pub use luks_formatting::{FORMAT1_RANDOM, FORMAT2_RANDOM, Format, FormatFault, format1, format2};
 pub use luks_kdf::HashName;

@@ -2,75 +2,80 @@
 ghost use Rattle.std.specs.Prelude.{◌≡◌, ◌+◌, ◌<◌, ◌^◌, IfOk, IfErr};
 ghost use Rattle.std.specs.Result.{ForOk};
 ghost use Rattle.luks_area.specs.Device.{IsUnchanged};
-ghost use Rattle.luks_cli.specs.Checked.{EndsCheck, status_of};
+ghost use Rattle.luks_cli.specs.Answer.{answer_status, Prints};
+ghost use Rattle.luks_cli.specs.CheckAnswers.{AnswersCheck, IsCheckAnswer};
+ghost use Rattle.luks_cli.specs.Checked.{EndsCheck, SaysCheck};
+ghost use Rattle.luks_cli.specs.Exit.{IsExitStatus};
 ghost use Rattle.luks_cli.specs.Files.{KeepsVolume};
 
-use crate::answers::{Status, device_fault, no_memory, refused, unread};
-use crate::copies::copies_name;
+use crate::answers::{Answer, Status, end, refused, unread};
 use crate::inputs::InputFault;
-use luks_volume::{CheckFault, Copies, Data, Device, Report, Version, check};
+use crate::printer::Printer;
+use luks_volume::{Data, Device, check};
 use std::alloc::Global;
-use std::io;
 use std::io::Write;
 
-/// Prints whether the volume of this name is accepted, its payload lying at `data_`.
-pub(crate) fn run<D: Device, W: Write, E: Write>(
+/// Prints whether the volume of this name is accepted, its payload lying at `data_`; answers the exit
+/// status.
+pub(crate) fn run<D: Device, P: Printer, E: Write>(
     alloc: Global,
     volume: &mut Result<D, InputFault>,
     name: &str,
     data_: Data,
-    out: &mut W,
+    out: &mut P,
     err: &mut E,
-) -> io::Result<Status>
+) -> u8
+    requires room { ForOk volume.old (λ d. D.failed d + 1 < 2 ^ 64) }
+    requires printer { P.failures out.old + 1 < 2 ^ 64 }
+    ensures unchanged { KeepsVolume D.tells D.size D.bytes D.unsettled volume.old volume.new }
+    ensures status { IsExitStatus result }
+    ensures says { D.tells → IfOk volume.old (λ d. SaysCheck (D.bytes d) data_ result) }
+    ensures unread { IfErr volume.old (λ _. result ≡ 4) }
+    ensures answers { Prints (AnswersCheck D.tells D.bytes D.failed data_ volume.old volume.new)
+        (P.failures out.old) (P.failures out.new) (P.printed out.old) (P.printed out.new) result }
+{
+    let answer = check_volume(alloc, volume, name, data_, err);
+    end(&answer, out)
+}
+
+fn check_volume<D: Device, E: Write>(
+    alloc: Global,
+    volume: &mut Result<D, InputFault>,
+    name: &str,
+    data_: Data,
+    err: &mut E,
+) -> Answer
     requires { ForOk volume.old (λ d. D.failed d + 1 < 2 ^ 64) }
     ensures unchanged { KeepsVolume D.tells D.size D.bytes D.unsettled volume.old volume.new }
-    ensures status { D.tells → IfOk result (λ s. IfOk volume.old (λ d. EndsCheck (D.bytes d) data_ s)) }
-    ensures unread { IfOk result (λ s. IfErr volume.old (λ _. s ≡ Status.Fault)) }
+    ensures status { D.tells
+        → IfOk volume.old (λ d. EndsCheck (D.bytes d) data_ (answer_status result)) }
+    ensures unread { IfErr volume.old (λ _. answer_status result ≡ Status.Fault) }
+    ensures answers { AnswersCheck D.tells D.bytes D.failed data_ volume.old volume.new result }
 {
     match volume {
-        Ok(device) => check_device(alloc, device, name, data_, out, err),
-        Err(fault) => unread(*fault, name, out, err),
+        Ok(device) => check_device(alloc, device, name, data_, err),
+        Err(fault) => unread(*fault, name, err),
     }
 }
 
-fn check_device<D: Device, W: Write, E: Write>(
+fn check_device<D: Device, E: Write>(
     alloc: Global,
     device: &mut D,
     name: &str,
     data_: Data,
-    out: &mut W,
     err: &mut E,
-) -> io::Result<Status>
+) -> Answer
     requires { D.failed device.old + 1 < 2 ^ 64 }
     ensures unchanged { IsUnchanged D.tells D.size D.bytes D.unsettled device.old device.new }
-    ensures status { D.tells → IfOk result (EndsCheck (D.bytes device.old) data_) }
+    ensures status { D.tells → EndsCheck (D.bytes device.old) data_ (answer_status result) }
+    ensures answers { IsCheckAnswer D.tells (D.bytes device.old) data_
+        (D.failed device.old) (D.failed device.new) result }
 {
     match check(alloc, device, data_) {
-        Ok(report) => accepted(&report, out),
-        Err(CheckFault::Head(fault)) => refused(&fault, out),
-        Err(CheckFault::Meta(fault)) => refused(&fault, out),
-        Err(CheckFault::Area(fault)) => refused(&fault, out),
-        Err(CheckFault::Device) => device_fault(name, out, err),
-        Err(CheckFault::Memory) => no_memory(out),
-    }
-}
-
-fn accepted<W: Write>(report: &Report, out: &mut W) -> io::Result<Status>
-    ensures { IfOk result (λ s. s ≡ status_of report.now.version) }
-{
-    let areas = report.areas.len();
-    match report.version {
-        Version::Luks1 => {
-            writeln!(out, "accepted luks1 areas {areas}")?;
-            Ok(Status::Done)
-        }
-        Version::Luks2 { copies, seqid } => {
-            let name = copies_name(copies);
-            writeln!(out, "accepted luks2 {name} seqid {seqid} areas {areas}")?;
-            match copies {
-                Copies::InStep => Ok(Status::Done),
-                _ => Ok(Status::NotInStep),
-            }
-        }
+        Ok(report) => Answer::Accepted {
+            version: report.version,
+            areas: report.areas.len(),
+        },
+        Err(fault) => refused(fault, name, err),
     }
 }

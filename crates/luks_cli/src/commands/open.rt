@@ -1,18 +1,22 @@
 //! The command `open`.
-ghost use Rattle.std.specs.Prelude.{◌≡◌, ◌≢◌, ◌+◌, ◌<◌, ◌^◌, IfOk, IfErr};
+ghost use Rattle.std.specs.Prelude.{◌≡◌, ◌≢◌, ◌+◌, ◌<◌, ◌^◌, IfErr};
 ghost use Rattle.std.specs.Result.{ForOk};
 ghost use Rattle.luks_area.specs.Device.{IsUnchanged};
-ghost use Rattle.luks_cli.specs.Files.{KeepsVolume};
+ghost use Rattle.luks_cli.specs.Answer.{answer_status, Prints};
+ghost use Rattle.luks_cli.specs.Exit.{IsExitStatus};
+ghost use Rattle.luks_cli.specs.Files.{IsLong, IsUnread, IsWhole, KeepsVolume};
+ghost use Rattle.luks_cli.specs.OpenAnswers.{any_answer, AnswersOpen, IsAnyAnswer, IsOneAnswer, IsOpenAnswer, one_answer};
 
 mod passed_over;
 
-use crate::answers::{Status, device_fault, no_memory, refused, unread};
+use crate::answers::{Answer, Refusal, Status, end, unread};
 use crate::inputs::Inputs;
 use crate::passphrase_file::{PassphraseFault, passphrase};
-use luks_volume::{Device, OpenFault, open_slot, read_header, unlock_header};
+use crate::printer::Printer;
+use luks_head::one_choice;
+use luks_volume::{Device, Key, OpenFault, open_slot, read_header, unlock_header};
 use passed_over::note_passed_over;
 use std::alloc::Global;
-use std::io;
 use std::io::{Read, Write};
 
 /// What is tried, by the words of the command line.
@@ -27,98 +31,157 @@ pub(crate) struct Tried<'a> {
 }
 
 /// Prints whether the passphrase opens the keyslot that is tried, or without one which is the first
-/// that it opens. The passphrase is read before the volume.
-#[tactic(auto, using(crate::proofs::FileFacts::keeps_same))]
-pub(crate) fn run<D: Device, R: Read, N: Read, W: Write, E: Write>(
+/// that it opens; answers the exit status. The passphrase is read before the volume.
+pub(crate) fn run<D: Device, R: Read, N: Read, P: Printer, E: Write>(
     alloc: Global,
     inputs: &mut Inputs<D, R, N>,
     tried: &Tried<'_>,
-    out: &mut W,
+    out: &mut P,
     err: &mut E,
-) -> io::Result<Status>
+) -> u8
+    requires room { ForOk inputs.old.volume (λ d. D.failed d + 1 < 2 ^ 64) }
+    requires printer { P.failures out.old + 1 < 2 ^ 64 }
+    ensures unchanged { KeepsVolume D.tells D.size D.bytes D.unsettled inputs.old.volume inputs.new.volume }
+    ensures target { inputs.new.target ≡ inputs.old.target }
+    ensures status { IsExitStatus result }
+    ensures kinds { result ≢ 3 }
+    ensures unread { IfErr inputs.old.volume (λ _. result ≢ 0) }
+    ensures answers { Prints (AnswersOpen D.tells D.bytes D.failed tried.now.slot
+        (IsWhole R.remaining inputs.old.passphrase) (IsLong R.remaining inputs.old.passphrase)
+        (IsUnread inputs.old.passphrase) inputs.old.volume inputs.new.volume)
+        (P.failures out.old) (P.failures out.new) (P.printed out.old) (P.printed out.new) result }
+{
+    let answer = open_volume(alloc, inputs, tried, err);
+    end(&answer, out)
+}
+
+#[tactic(auto, using(crate::proofs::FileFacts::keeps_same))]
+fn open_volume<D: Device, R: Read, N: Read, E: Write>(
+    alloc: Global,
+    inputs: &mut Inputs<D, R, N>,
+    tried: &Tried<'_>,
+    err: &mut E,
+) -> Answer
     requires { ForOk inputs.old.volume (λ d. D.failed d + 1 < 2 ^ 64) }
     ensures unchanged { KeepsVolume D.tells D.size D.bytes D.unsettled inputs.old.volume inputs.new.volume }
-    ensures kinds { IfOk result (λ s. s ≢ Status.NotInStep) }
-    ensures unread { IfOk result (λ s. IfErr inputs.old.volume (λ _. s ≢ Status.Done)) }
+    ensures target { inputs.new.target ≡ inputs.old.target }
+    ensures kinds { answer_status result ≢ Status.NotInStep }
+    ensures unread { IfErr inputs.old.volume (λ _. answer_status result ≢ Status.Done) }
+    ensures answers { AnswersOpen D.tells D.bytes D.failed tried.now.slot
+        (IsWhole R.remaining inputs.old.passphrase) (IsLong R.remaining inputs.old.passphrase)
+        (IsUnread inputs.old.passphrase) inputs.old.volume inputs.new.volume result }
 {
     let words = match passphrase(alloc, &mut inputs.passphrase) {
         Ok(words) => words,
-        Err(PassphraseFault::TooLong) => return refused(&"Passphrase", out),
-        Err(PassphraseFault::Input(fault)) => return unread(fault, tried.passphrase, out, err),
+        Err(PassphraseFault::TooLong) => return Answer::Refused(Refusal::LongPassphrase),
+        Err(PassphraseFault::Input(fault)) => return unread(fault, tried.passphrase, err),
     };
     match &mut inputs.volume {
-        Ok(device) => open_device(alloc, device, tried, words.as_slice(), out, err),
-        Err(fault) => unread(*fault, tried.volume, out, err),
+        Ok(device) => open_device(alloc, device, tried, words.as_slice(), err),
+        Err(fault) => unread(*fault, tried.volume, err),
     }
 }
 
-fn open_device<D: Device, W: Write, E: Write>(
+fn open_device<D: Device, E: Write>(
     alloc: Global,
     device: &mut D,
     tried: &Tried<'_>,
     passphrase: &[u8],
-    out: &mut W,
     err: &mut E,
-) -> io::Result<Status>
+) -> Answer
     requires { D.failed device.old + 1 < 2 ^ 64 }
     ensures unchanged { IsUnchanged D.tells D.size D.bytes D.unsettled device.old device.new }
-    ensures kinds { IfOk result (λ s. s ≢ Status.NotInStep) }
+    ensures kinds { answer_status result ≢ Status.NotInStep }
+    ensures answers { IsOpenAnswer D.tells (D.bytes device.old) tried.now.slot passphrase.now
+        (D.failed device.old) (D.failed device.new) result }
 {
     match tried.slot {
-        Some(n) => open_one(alloc, device, tried.volume, n, passphrase, out, err),
-        None => open_any(alloc, device, tried.volume, passphrase, out, err),
+        Some(n) => open_one(alloc, device, tried.volume, n, passphrase, err),
+        None => open_any(alloc, device, tried.volume, passphrase, err),
     }
 }
 
-fn open_one<D: Device, W: Write, E: Write>(
+fn open_one<D: Device, E: Write>(
     alloc: Global,
     device: &mut D,
     volume: &str,
     n: u8,
     passphrase: &[u8],
-    out: &mut W,
     err: &mut E,
-) -> io::Result<Status>
+) -> Answer
     requires { D.failed device.old + 1 < 2 ^ 64 }
     ensures unchanged { IsUnchanged D.tells D.size D.bytes D.unsettled device.old device.new }
-    ensures kinds { IfOk result (λ s. s ≢ Status.NotInStep) }
+    ensures kinds { answer_status result ≢ Status.NotInStep }
+    ensures answers { IsOneAnswer D.tells (D.bytes device.old) n passphrase.now
+        (D.failed device.old) (D.failed device.new) result }
 {
-    match open_slot(alloc, device, n, passphrase) {
-        Ok(Some(_)) => opens(n, out),
-        Ok(None) => {
-            note_line_feed(passphrase, err);
-            writeln!(out, "slot {n} does not open")?;
-            Ok(Status::Refused)
-        }
-        Err(fault) => open_fault(&fault, volume, out, err),
+    let opened = open_slot(alloc, device, n, passphrase);
+    if matches!(&opened, Ok(None)) {
+        note_line_feed(passphrase, err);
+    }
+    let answer = one_answer(n, &opened);
+    note_failure(&answer, volume, err);
+    answer
+}
+
+/// What is answered where opening the keyslot `n` gave this.
+fn one_answer(n: u8, opened: &Result<Option<Key>, OpenFault>) -> Answer
+    ensures { result ≡ one_answer n opened.now }
+{
+    match opened {
+        Ok(Some(_)) => Answer::Opens(n),
+        Ok(None) => Answer::Closed(n),
+        Err(fault) => Answer::from(*fault),
     }
 }
 
-fn open_any<D: Device, W: Write, E: Write>(
+fn open_any<D: Device, E: Write>(
     alloc: Global,
     device: &mut D,
     volume: &str,
     passphrase: &[u8],
-    out: &mut W,
     err: &mut E,
-) -> io::Result<Status>
+) -> Answer
     requires { D.failed device.old + 1 < 2 ^ 64 }
     ensures unchanged { IsUnchanged D.tells D.size D.bytes D.unsettled device.old device.new }
-    ensures kinds { IfOk result (λ s. s ≢ Status.NotInStep) }
+    ensures kinds { answer_status result ≢ Status.NotInStep }
+    ensures answers { IsAnyAnswer D.tells (D.bytes device.old) passphrase.now
+        (D.failed device.old) (D.failed device.new) result }
 {
+    one_choice();
     let header = match read_header(alloc, device) {
         Ok(header) => header,
-        Err(fault) => return open_fault(&OpenFault::from(fault), volume, out, err),
-    };
-    match unlock_header(alloc, device, &header, passphrase) {
-        Ok(Some((n, _))) => opens(n, out),
-        Ok(None) => {
-            note_line_feed(passphrase, err);
-            note_passed_over(&header, device.len(), err);
-            writeln!(out, "no slot opens")?;
-            Ok(Status::Refused)
+        Err(fault) => {
+            let answer = Answer::from(OpenFault::from(fault));
+            note_failure(&answer, volume, err);
+            return answer;
         }
-        Err(fault) => open_fault(&fault, volume, out, err),
+    };
+    let opened = unlock_header(alloc, device, &header, passphrase);
+    if matches!(&opened, Ok(None)) {
+        note_line_feed(passphrase, err);
+        note_passed_over(&header, device.len(), err);
+    }
+    let answer = any_answer(&opened);
+    note_failure(&answer, volume, err);
+    answer
+}
+
+/// What is answered where opening the volume gave this.
+fn any_answer(opened: &Result<Option<(u8, Key)>, OpenFault>) -> Answer
+    ensures { result ≡ any_answer opened.now }
+{
+    match opened {
+        Ok(Some((n, _))) => Answer::Opens(*n),
+        Ok(None) => Answer::NoneOpens,
+        Err(fault) => Answer::from(*fault),
+    }
+}
+
+/// Says which volume it is, where a device call on it failed.
+fn note_failure<E: Write>(answer: &Answer, volume: &str, err: &mut E) {
+    if matches!(answer, Answer::DeviceFault) {
+        let _ = writeln!(err, "luks: {volume}: reading failed");
     }
 }
 
@@ -129,27 +192,5 @@ fn note_line_feed<E: Write>(passphrase: &[u8], err: &mut E) {
             err,
             "luks: the passphrase's file ends in a line feed, which was taken as part of it"
         );
-    }
-}
-
-fn opens<W: Write>(n: u8, out: &mut W) -> io::Result<Status>
-    ensures { IfOk result (λ s. s ≡ Status.Done) }
-{
-    writeln!(out, "slot {n} opens")?;
-    Ok(Status::Done)
-}
-
-fn open_fault<W: Write, E: Write>(
-    fault: &OpenFault,
-    volume: &str,
-    out: &mut W,
-    err: &mut E,
-) -> io::Result<Status>
-    ensures { IfOk result (λ s. s ≢ Status.NotInStep) }
-{
-    match fault {
-        OpenFault::Device => device_fault(volume, out, err),
-        OpenFault::Memory => no_memory(out),
-        fault => refused(fault, out),
     }
 }

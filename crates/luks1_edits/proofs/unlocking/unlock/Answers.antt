@@ -1,4 +1,4 @@
-use Rattle.std.proofs.Common.{◌≡◌, IfSome, length, refl, subst, ◌∙◌, arith}
+use Rattle.std.proofs.Common.{◌≡◌, IfSome, length, refl, subst, ◌∙◌, arith, rules}
 use Rattle.luks_area.specs.declared.area.AreaName.TheVariants.{Slot}
 use Rattle.luks1_edits.proofs.OpenerFacts.{locked_by, opened_by, plan_openable, plan_there, slots_in, unopened_by, used_or_free}
 use Rattle.luks1_edits.proofs.unlocking.unlock.Goals as goal
@@ -13,46 +13,23 @@ returns-then-n-gt7-clause-refused g c = λ tells x used. elim c.then-n-gt7.branc
       (slots_in c.args.header.now.bytes.now c.args.header.now.data_ (g.D.Device.bytes c.args.device.now) c.args.header.now.fields.slots x c.requires.accepted.fields.slots))
 ]
 
-pub open-requires-clause-iterations : goal.open-requires-clause-iterations
-open-requires-clause-iterations g c =
+pub open-requires : goal.open-requires
+open-requires g c =
     let a = c.args.header.now in
-    (plan_openable a.bytes.now a.fields c.args.n _ c.luks1_plan-plan.result c.requires.accepted.fields (c.if-not-is_used.ensures.used refl) c.luks1_plan-plan.ensures.judged).turns
-
-pub open-requires-clause-digest_iterations : goal.open-requires-clause-digest_iterations
-open-requires-clause-digest_iterations g c =
-    let a = c.args.header.now in
-    (plan_openable a.bytes.now a.fields c.args.n _ c.luks1_plan-plan.result c.requires.accepted.fields (c.if-not-is_used.ensures.used refl) c.luks1_plan-plan.ensures.judged).digest_turns
-
-pub open-requires-clause-digest_length : goal.open-requires-clause-digest_length
-open-requires-clause-digest_length g c =
-    let a = c.args.header.now in
-    (plan_openable a.bytes.now a.fields c.args.n _ c.luks1_plan-plan.result c.requires.accepted.fields (c.if-not-is_used.ensures.used refl) c.luks1_plan-plan.ensures.judged).digest_length
-
-pub open-requires-clause-some_bytes : goal.open-requires-clause-some_bytes
-open-requires-clause-some_bytes g c =
-    let a = c.args.header.now in
-    (plan_openable a.bytes.now a.fields c.args.n _ c.luks1_plan-plan.result c.requires.accepted.fields (c.if-not-is_used.ensures.used refl) c.luks1_plan-plan.ensures.judged).some_bytes
-
-pub open-requires-clause-at_most_128 : goal.open-requires-clause-at_most_128
-open-requires-clause-at_most_128 g c =
-    let a = c.args.header.now in
-    (plan_openable a.bytes.now a.fields c.args.n _ c.luks1_plan-plan.result c.requires.accepted.fields (c.if-not-is_used.ensures.used refl) c.luks1_plan-plan.ensures.judged).at_most_128
-
-pub open-requires-clause-some_stripes : goal.open-requires-clause-some_stripes
-open-requires-clause-some_stripes g c =
-    let a = c.args.header.now in
-    (plan_openable a.bytes.now a.fields c.args.n _ c.luks1_plan-plan.result c.requires.accepted.fields (c.if-not-is_used.ensures.used refl) c.luks1_plan-plan.ensures.judged).some_stripes
-
-pub open-requires-clause-sectors : goal.open-requires-clause-sectors
-open-requires-clause-sectors g c =
-    let a = c.args.header.now in
-    (plan_openable a.bytes.now a.fields c.args.n _ c.luks1_plan-plan.result c.requires.accepted.fields (c.if-not-is_used.ensures.used refl) c.luks1_plan-plan.ensures.judged).sectors
-
-pub open-requires-clause-within : goal.open-requires-clause-within
-open-requires-clause-within g c =
-    let a = c.args.header.now in
-    let there = plan_there a.bytes.now a.fields c.args.n _ c.luks1_plan-plan.result c.requires.accepted.fields (c.if-not-is_used.ensures.used refl) c.luks1_plan-plan.ensures.is in
-    c.requires.accepted.volume.fit.inside (Slot c.args.n) c.luks1_plan-plan.result.area (there.numbered, there.is.start, there.is.len)
+    let used = c.if-not-is_used.ensures.used refl in
+    let ready = plan_openable a.bytes.now a.fields c.args.n _ c.luks1_plan-plan.result c.requires.accepted.fields used c.luks1_plan-plan.ensures.judged in
+    let there = plan_there a.bytes.now a.fields c.args.n _ c.luks1_plan-plan.result c.requires.accepted.fields used c.luks1_plan-plan.ensures.is in
+    record {
+      room = search rules;
+      iterations = ready.turns;
+      digest_iterations = ready.digest_turns;
+      digest_length = ready.digest_length;
+      some_bytes = ready.some_bytes;
+      at_most_128 = ready.at_most_128;
+      some_stripes = ready.some_stripes;
+      sectors = ready.sectors;
+      within = c.requires.accepted.volume.fit.inside (Slot c.args.n) c.luks1_plan-plan.result.area (there.numbered, there.is.start, there.is.len);
+    }
 
 pub returns-in-Some-clause-length : goal.returns-in-Some-clause-length
 returns-in-Some-clause-length g c =

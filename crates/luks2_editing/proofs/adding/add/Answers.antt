@@ -2,14 +2,11 @@ use Rattle.std.proofs.Common.{◌≡◌, ℕ, length, sym, ◌∙◌, subst}
 use Rattle.std.proofs.lemmas.Result.{err_from_is_err_and}
 use Rattle.luks_edit.specs.declared.edit.Edit.TheVariants.{Add}
 use Rattle.luks_meta.specs.Content.{area_len, content}
-use Rattle.luks_reading.specs.Header.{json_at}
-use Rattle.luks2_judging.specs.Salts.{HasOneDigest}
-use Rattle.luks2_editing.specs.Prepared.{IsCopyWithin}
+use Rattle.luks2_editing.specs.Prepared.{AreCopiesWithin}
 use Rattle.luks2_editing.specs.Rewriting.{IsRenewing}
 use Rattle.luks2_editing.proofs.AdditionFacts.{added_after, addition_fine, addition_sealing, addition_seals, made_alike, made_in, IsJudgedAddition}
 use Rattle.luks2_editing.proofs.NewKeyslotFacts.{alike_sealable, unsealed_ends}
-use Rattle.luks2_editing.proofs.RenewalFacts.{renewing, VolumeLaws}
-use Rattle.luks2_editing.proofs.ToldFacts.{ToldLaws}
+use Rattle.luks2_editing.proofs.RenewalFacts.{renewing}
 use Rattle.luks2_editing.proofs.adding.add.Goals as goal
 
 pub returns-in_err-made-clause-replies : goal.returns-in_err-made-clause-replies
@@ -28,20 +25,18 @@ returns-in_err-made-clause-replies g c = λ tells payload old to chosen well bef
 
 pub write_keyslot-requires-clause-sealable : goal.write_keyslot-requires-clause-sealable
 write_keyslot-requires-clause-sealable g c =
-    let told : ToldLaws = record { range = c.told_once.ensures.range; stripes = c.told_once.ensures.stripes; need = c.told_once.ensures.need } in
     let copy = c.args.copy.now in
     let addition = c.args.addition.now in
-    let within : IsCopyWithin copy.header (area_len copy.meta) (g.D.Device.size c.args.device.now) =
-    subst (λ (n : ℕ). IsCopyWithin copy.header n (g.D.Device.size c.args.device.now)) c.in_ok-made.ensures.length
-    (subst (λ (n : ℕ). IsCopyWithin copy.header (area_len c.in_ok-made.made.meta) n) c.len.ensures c.in_ok-made.ensures.within) in
+    let within : AreCopiesWithin copy.header (area_len copy.meta) (g.D.Device.size c.args.device.now) =
+    subst (λ (n : ℕ). AreCopiesWithin copy.header n (g.D.Device.size c.args.device.now)) c.in_ok-made.ensures.length
+    (subst (λ (n : ℕ). AreCopiesWithin copy.header (area_len c.in_ok-made.made.meta) n) c.len.ensures c.in_ok-made.ensures.within) in
     let j = content copy.meta in
     let k = content c.in_ok-made.made.meta in
-    alike_sealable told j k addition.by_ addition.made addition.area (made_alike j k addition.made addition.by_ addition.iterations _ addition.area c.in_ok-made.ensures.made c.requires.free.small)
+    alike_sealable j k addition.by_ addition.made addition.area (made_alike j k addition.made addition.by_ addition.iterations _ addition.area c.in_ok-made.ensures.made c.requires.free.small)
     (area_len copy.meta) (g.D.Device.size c.args.device.now) copy.header c.args.secrets.now.key.now c.args.secrets.now.random.now c.in_ok-made.ensures.counted c.requires.key_length c.requires.placed within
 
 pub returns-in_err-write_keyslot-clause-replies : goal.returns-in_err-write_keyslot-clause-replies
 returns-in_err-write_keyslot-clause-replies g c = λ tells payload old to chosen well before opened is_new place.
-    let told : ToldLaws = record { range = c.told_once.ensures.range; stripes = c.told_once.ensures.stripes; need = c.told_once.ensures.need } in
     let v = g.D.Device.bytes c.args.device.now in
     let copy = c.args.copy.now in
     let addition = c.args.addition.now in
@@ -49,23 +44,20 @@ returns-in_err-write_keyslot-clause-replies g c = λ tells payload old to chosen
     let key = c.args.secrets.now.key.now in
     let random = c.args.secrets.now.random.now in
     let total : length v ≡ c.len.result = g.met.D.Device.sized c.args.device.now tells ∙ sym c.len.ensures in
-    let laws : VolumeLaws = record { only = c.one_choice.ensures.only; sound = c.chosen_copy_is_sound.ensures; value = c.one_value.ensures; fits = c.well_formed_volume.ensures } in
-    let digests : HasOneDigest (content copy.meta) = record { one = c.one_digest.ensures (json_at v copy.header.hdr_offset) (content copy.meta) chosen.metadata } in
     let x : IsJudgedAddition v payload copy addition old new to key random = record { chosen = chosen; well = well; before = before; opened = opened; is_new = is_new; place = place } in
     let e = Add addition.by_ old new to addition.iterations in
     let seals = addition_seals v payload copy addition old new to key random x in
     let k = content c.in_ok-made.made.meta in
-    let renews = subst (λ (n : ℕ). IsRenewing v e copy.header copy.header.label n) (sym c.in_ok-made.ensures.length) (renewing laws v payload copy chosen well e copy.header.label (sym chosen.header.label)) in
+    let renews = subst (λ (n : ℕ). IsRenewing v e copy.header copy.header.label n) (sym c.in_ok-made.ensures.length) (renewing v payload copy chosen well e copy.header.label (sym chosen.header.label)) in
     let p = err_from_is_err_and c.from_residual-in_err-write_keyslot.result c.from_residual-in_err-write_keyslot.ensures.1 in
     rw (p.1, p.2)
-    (unsealed_ends laws v payload copy chosen well e random k (c.in_ok-made.ensures.unrefused v payload e seals total) (c.in_ok-made.ensures.edited v payload e seals total)
-    (g.D.Device.bytes c.write_keyslot.new.device) addition.made (addition_fine v payload copy addition old new to key random x laws told digests c.requires.free.small k c.in_ok-made.ensures.made)
-    (c.write_keyslot.ensures.torn tells payload e (content copy.meta) renews (addition_sealing v payload copy addition old new to key random x laws told digests c.requires.free.small k c.in_ok-made.ensures.made))
+    (unsealed_ends v payload copy chosen well e random k (c.in_ok-made.ensures.unrefused v payload e seals total) (c.in_ok-made.ensures.edited v payload e seals total)
+    (g.D.Device.bytes c.write_keyslot.new.device) addition.made (addition_fine v payload copy addition old new to key random x c.requires.free.small k c.in_ok-made.ensures.made)
+    (c.write_keyslot.ensures.torn tells payload e (content copy.meta) renews (addition_sealing v payload copy addition old new to key random x c.requires.free.small k c.in_ok-made.ensures.made))
     c.in_err-write_keyslot.field-0.0 c.in_err-write_keyslot.ensures.fault)
 
 pub returns-clause-replies : goal.returns-clause-replies
 returns-clause-replies g c = λ tells payload old to chosen well before opened is_new place.
-    let told : ToldLaws = record { range = c.told_once.ensures.range; stripes = c.told_once.ensures.stripes; need = c.told_once.ensures.need } in
     let v = g.D.Device.bytes c.args.device.now in
     let copy = c.args.copy.now in
     let addition = c.args.addition.now in
@@ -73,18 +65,16 @@ returns-clause-replies g c = λ tells payload old to chosen well before opened i
     let key = c.args.secrets.now.key.now in
     let random = c.args.secrets.now.random.now in
     let total : length v ≡ c.len.result = g.met.D.Device.sized c.args.device.now tells ∙ sym c.len.ensures in
-    let laws : VolumeLaws = record { only = c.one_choice.ensures.only; sound = c.chosen_copy_is_sound.ensures; value = c.one_value.ensures; fits = c.well_formed_volume.ensures } in
-    let digests : HasOneDigest (content copy.meta) = record { one = c.one_digest.ensures (json_at v copy.header.hdr_offset) (content copy.meta) chosen.metadata } in
     let x : IsJudgedAddition v payload copy addition old new to key random = record { chosen = chosen; well = well; before = before; opened = opened; is_new = is_new; place = place } in
     let e = Add addition.by_ old new to addition.iterations in
     let seals = addition_seals v payload copy addition old new to key random x in
     let k = content c.in_ok-made.made.meta in
-    let renews = subst (λ (n : ℕ). IsRenewing v e copy.header copy.header.label n) (sym c.in_ok-made.ensures.length) (renewing laws v payload copy chosen well e copy.header.label (sym chosen.header.label)) in
+    let renews = subst (λ (n : ℕ). IsRenewing v e copy.header copy.header.label n) (sym c.in_ok-made.ensures.length) (renewing v payload copy chosen well e copy.header.label (sym chosen.header.label)) in
     let unrefused = c.in_ok-made.ensures.unrefused v payload e seals total in
     let edited = c.in_ok-made.ensures.edited v payload e seals total in
     let w = g.D.Device.bytes c.write_keyslot.new.device in
     record {
       unrefused = unrefused;
-      after = added_after v payload copy addition old new to key random x laws told digests c.requires.free.small k c.in_ok-made.ensures.made edited w (c.in_ok-write_keyslot.ensures.written tells e renews);
-      told = made_in v payload copy addition old new to key random x laws told digests c.requires.free.small k c.in_ok-made.ensures.made edited w;
+      after = added_after v payload copy addition old new to key random x c.requires.free.small k c.in_ok-made.ensures.made edited w (c.in_ok-write_keyslot.ensures.written tells e renews);
+      told = made_in v payload copy addition old new to key random x c.requires.free.small k c.in_ok-made.ensures.made edited w;
     }

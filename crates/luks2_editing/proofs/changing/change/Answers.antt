@@ -10,13 +10,12 @@ use Rattle.luks2_editing.specs.Lost.{HasKeyArea}
 use Rattle.luks2_editing.specs.MadeMetadata.{IsSealingEdit}
 use Rattle.luks2_editing.specs.declared.sealed_metadata.SealedSlot.TheVariants.{Renewed}
 use Rattle.luks2_editing.specs.declared.sealed_metadata.Sealing.{Sealing}
-use Rattle.luks2_editing.specs.Prepared.{IsCopyWithin}
+use Rattle.luks2_editing.specs.Prepared.{AreCopiesWithin}
 use Rattle.luks2_editing.specs.Rewriting.{IsRenewing}
 use Rattle.luks2_editing.proofs.ChangeFacts.{change_sealing, changed_after, renewed_alike, renewed_unrefused, torn_lost}
 use Rattle.luks2_editing.proofs.LostFacts.{lost_inside}
 use Rattle.luks2_editing.proofs.NewKeyslotFacts.{alike_sealable, unsealed_ends}
-use Rattle.luks2_editing.proofs.RenewalFacts.{renewing, VolumeLaws}
-use Rattle.luks2_editing.proofs.ToldFacts.{ToldLaws}
+use Rattle.luks2_editing.proofs.RenewalFacts.{renewing}
 use Rattle.luks2_editing.proofs.changing.change.Goals as goal
 
 pub returns-in_err-lost-clause-replies : goal.returns-in_err-lost-clause-replies
@@ -29,12 +28,11 @@ returns-in_err-lost-clause-replies g c = λ tells payload old x well before open
     let turns = c.args.renewal.now.iterations in
     let key = c.args.secrets.now.key.now in
     let area = c.args.renewal.now.area in
-    let laws : VolumeLaws = record { only = c.one_choice.ensures.only; sound = c.chosen_copy_is_sound.ensures; value = c.one_value.ensures; fits = c.well_formed_volume.ensures } in
     let size : length v ≡ g.D.Device.size c.args.device.now = g.met.D.Device.sized c.args.device.now tells in
     let total : length v ≡ c.len.result = size ∙ sym c.len.ensures in
     let there : HasKeyArea (content copy.meta) slot c.len.result = record {
       used = c.requires.there;
-      inside = subst (λ (n : ℕ). (a : Area) → IsKeyArea (content copy.meta) slot a → IsInside a n) total (lost_inside laws v payload copy x well slot);
+      inside = subst (λ (n : ℕ). (a : Area) → IsKeyArea (content copy.meta) slot a → IsInside a n) total (lost_inside v payload copy x well slot);
     } in
     absurd (false≢true (c.in_err-lost.ensures.found there))
 
@@ -48,7 +46,6 @@ returns-in_err-made-clause-replies g c = λ tells payload old x well before open
     let turns = c.args.renewal.now.iterations in
     let key = c.args.secrets.now.key.now in
     let area = c.args.renewal.now.area in
-    let laws : VolumeLaws = record { only = c.one_choice.ensures.only; sound = c.chosen_copy_is_sound.ensures; value = c.one_value.ensures; fits = c.well_formed_volume.ensures } in
     let size : length v ≡ g.D.Device.size c.args.device.now = g.met.D.Device.sized c.args.device.now tells in
     let total : length v ≡ c.len-2.result = size ∙ sym c.len-2.ensures in
     let sealing : Sealing = record { keyslot = Renewed slot; iterations = turns; area = area } in
@@ -67,21 +64,19 @@ returns-in_err-made-clause-replies g c = λ tells payload old x well before open
 
 pub write_keyslot-requires-clause-sealable : goal.write_keyslot-requires-clause-sealable
 write_keyslot-requires-clause-sealable g c =
-    let told : ToldLaws = record { range = c.told_once.ensures.range; stripes = c.told_once.ensures.stripes; need = c.told_once.ensures.need } in
     let copy = c.args.copy.now in
     let renewal = c.args.renewal.now in
     let made = c.in_ok-made.ensures in
     let j = content copy.meta in
     let k = content c.in_ok-made.made.meta in
-    let within : IsCopyWithin copy.header (area_len copy.meta) (g.D.Device.size c.args.device.now) =
-    subst (λ (n : ℕ). IsCopyWithin copy.header n (g.D.Device.size c.args.device.now)) made.length
-    (subst (λ (n : ℕ). IsCopyWithin copy.header (area_len c.in_ok-made.made.meta) n) c.len-2.ensures made.within) in
-    alike_sealable told j k renewal.slot renewal.slot renewal.area (renewed_alike j k renewal.slot renewal.iterations _ renewal.area made.made)
+    let within : AreCopiesWithin copy.header (area_len copy.meta) (g.D.Device.size c.args.device.now) =
+    subst (λ (n : ℕ). AreCopiesWithin copy.header n (g.D.Device.size c.args.device.now)) made.length
+    (subst (λ (n : ℕ). AreCopiesWithin copy.header (area_len c.in_ok-made.made.meta) n) c.len-2.ensures made.within) in
+    alike_sealable j k renewal.slot renewal.slot renewal.area (renewed_alike j k renewal.slot renewal.iterations _ renewal.area made.made)
     (area_len copy.meta) (g.D.Device.size c.args.device.now) copy.header c.args.secrets.now.key.now c.args.secrets.now.random.now made.counted c.requires.key_length c.requires.placed within
 
 pub returns-in_err-write_keyslot-clause-replies : goal.returns-in_err-write_keyslot-clause-replies
 returns-in_err-write_keyslot-clause-replies g c = λ tells payload old x well before opened place.
-    let told : ToldLaws = record { range = c.told_once.ensures.range; stripes = c.told_once.ensures.stripes; need = c.told_once.ensures.need } in
     let v = g.D.Device.bytes c.args.device.now in
     let copy = c.args.copy.now in
     let random = c.args.secrets.now.random.now in
@@ -90,7 +85,6 @@ returns-in_err-write_keyslot-clause-replies g c = λ tells payload old x well be
     let turns = c.args.renewal.now.iterations in
     let key = c.args.secrets.now.key.now in
     let area = c.args.renewal.now.area in
-    let laws : VolumeLaws = record { only = c.one_choice.ensures.only; sound = c.chosen_copy_is_sound.ensures; value = c.one_value.ensures; fits = c.well_formed_volume.ensures } in
     let size : length v ≡ g.D.Device.size c.args.device.now = g.met.D.Device.sized c.args.device.now tells in
     let total : length v ≡ c.len-2.result = size ∙ sym c.len-2.ensures in
     let sealing : Sealing = record { keyslot = Renewed slot; iterations = turns; area = area } in
@@ -109,18 +103,17 @@ returns-in_err-write_keyslot-clause-replies g c = λ tells payload old x well be
     let free = made.unrefused v payload (Change slot old new turns) edit total in
     let edited = made.edited v payload (Change slot old new turns) edit total in
     let renews = subst (λ (n : ℕ). IsRenewing v (Change slot old new turns) copy.header copy.header.label n) (sym made.length)
-    (renewing laws v payload copy x well (Change slot old new turns) copy.header.label (sym x.header.label)) in
+    (renewing v payload copy x well (Change slot old new turns) copy.header.label (sym x.header.label)) in
     let p = err_from_is_err_and c.from_residual-in_err-write_keyslot.result c.from_residual-in_err-write_keyslot.ensures.1 in
     rw (p.1, p.2)
-    (unsealed_ends laws v payload copy x well (Change slot old new turns) random k free edited (g.D.Device.bytes c.write_keyslot.new.device)
-    slot (renewed_unrefused laws told v payload copy x well slot old new turns key random area k opened place made.made)
+    (unsealed_ends v payload copy x well (Change slot old new turns) random k free edited (g.D.Device.bytes c.write_keyslot.new.device)
+    slot (renewed_unrefused v payload copy x well slot old new turns key random area k opened place made.made)
     (c.write_keyslot.ensures.torn tells payload (Change slot old new turns) (content copy.meta) renews
-    (change_sealing laws told v payload copy x well slot old new turns key random area k opened place made.made))
+    (change_sealing v payload copy x well slot old new turns key random area k opened place made.made))
     c.in_err-write_keyslot.field-0.0 c.in_err-write_keyslot.ensures.fault)
 
 pub returns-in-Ok-clause-replies : goal.returns-in-Ok-clause-replies
 returns-in-Ok-clause-replies g c = λ tells payload old x well before opened place.
-    let told : ToldLaws = record { range = c.told_once.ensures.range; stripes = c.told_once.ensures.stripes; need = c.told_once.ensures.need } in
     let v = g.D.Device.bytes c.args.device.now in
     let copy = c.args.copy.now in
     let random = c.args.secrets.now.random.now in
@@ -129,7 +122,6 @@ returns-in-Ok-clause-replies g c = λ tells payload old x well before opened pla
     let turns = c.args.renewal.now.iterations in
     let key = c.args.secrets.now.key.now in
     let area = c.args.renewal.now.area in
-    let laws : VolumeLaws = record { only = c.one_choice.ensures.only; sound = c.chosen_copy_is_sound.ensures; value = c.one_value.ensures; fits = c.well_formed_volume.ensures } in
     let size : length v ≡ g.D.Device.size c.args.device.now = g.met.D.Device.sized c.args.device.now tells in
     let total : length v ≡ c.len-2.result = size ∙ sym c.len-2.ensures in
     let sealing : Sealing = record { keyslot = Renewed slot; iterations = turns; area = area } in
@@ -148,20 +140,19 @@ returns-in-Ok-clause-replies g c = λ tells payload old x well before opened pla
     let free = made.unrefused v payload (Change slot old new turns) edit total in
     let edited = made.edited v payload (Change slot old new turns) edit total in
     let renews = subst (λ (n : ℕ). IsRenewing v (Change slot old new turns) copy.header copy.header.label n) (sym made.length)
-    (renewing laws v payload copy x well (Change slot old new turns) copy.header.label (sym x.header.label)) in
+    (renewing v payload copy x well (Change slot old new turns) copy.header.label (sym x.header.label)) in
     let w = g.D.Device.bytes c.write_keyslot.new.device in
     let y = g.D.Device.bytes c.wipe_area.new.device in
     let written = c.in_ok-write_keyslot.ensures.written tells (Change slot old new turns) renews in
     record {
       unrefused = free;
-      after = changed_after laws told v payload copy x well slot old new turns key random area k opened place made.made free edited
-          c.soundness_is_local.ensures.range c.in_ok-lost.lost c.in_ok-lost.ensures.area w y written (c.wipe_area.ensures.rest tells) (c.in-Ok.ensures.wiped tells);
+      after = changed_after v payload copy x well slot old new turns key random area k opened place made.made free edited
+          c.in_ok-lost.lost c.in_ok-lost.ensures.area w y written (c.wipe_area.ensures.rest tells) (c.in-Ok.ensures.wiped tells);
       told = refl;
     }
 
 pub returns-clause-replies : goal.returns-clause-replies
 returns-clause-replies g c = λ tells payload old x well before opened place.
-    let told : ToldLaws = record { range = c.told_once.ensures.range; stripes = c.told_once.ensures.stripes; need = c.told_once.ensures.need } in
     let v = g.D.Device.bytes c.args.device.now in
     let copy = c.args.copy.now in
     let random = c.args.secrets.now.random.now in
@@ -170,7 +161,6 @@ returns-clause-replies g c = λ tells payload old x well before opened place.
     let turns = c.args.renewal.now.iterations in
     let key = c.args.secrets.now.key.now in
     let area = c.args.renewal.now.area in
-    let laws : VolumeLaws = record { only = c.one_choice.ensures.only; sound = c.chosen_copy_is_sound.ensures; value = c.one_value.ensures; fits = c.well_formed_volume.ensures } in
     let size : length v ≡ g.D.Device.size c.args.device.now = g.met.D.Device.sized c.args.device.now tells in
     let total : length v ≡ c.len-2.result = size ∙ sym c.len-2.ensures in
     let sealing : Sealing = record { keyslot = Renewed slot; iterations = turns; area = area } in
@@ -189,9 +179,9 @@ returns-clause-replies g c = λ tells payload old x well before opened place.
     let free = made.unrefused v payload (Change slot old new turns) edit total in
     let edited = made.edited v payload (Change slot old new turns) edit total in
     let renews = subst (λ (n : ℕ). IsRenewing v (Change slot old new turns) copy.header copy.header.label n) (sym made.length)
-    (renewing laws v payload copy x well (Change slot old new turns) copy.header.label (sym x.header.label)) in
+    (renewing v payload copy x well (Change slot old new turns) copy.header.label (sym x.header.label)) in
     let w = g.D.Device.bytes c.write_keyslot.new.device in
     let y = g.D.Device.bytes c.wipe_area.new.device in
     let written = c.in_ok-write_keyslot.ensures.written tells (Change slot old new turns) renews in
-    torn_lost laws told v payload copy x well slot old new turns key random area k opened place made.made free edited
-    c.soundness_is_local.ensures.range c.in_ok-lost.lost c.in_ok-lost.ensures.area w y written (c.wipe_area.ensures.rest tells)
+    torn_lost v payload copy x well slot old new turns key random area k opened place made.made free edited
+    c.in_ok-lost.lost c.in_ok-lost.ensures.area w y written (c.wipe_area.ensures.rest tells)

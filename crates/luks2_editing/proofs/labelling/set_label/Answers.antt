@@ -4,8 +4,8 @@ use Rattle.luks_edit.specs.declared.edit.Edit.TheVariants.{Label}
 use Rattle.luks_meta.specs.Content.{area_len, content}
 use Rattle.luks_edit.specs.RowFacts.{passed_from}
 use Rattle.luks2_edits.specs.Refused.{IsEditFault2}
-use Rattle.luks2_editing.specs.Prepared.{IsCopyWithin}
-use Rattle.luks2_editing.proofs.RenewalFacts.{copies_touched, copy_within, prepared_unrefused, renewing, unwritten_ends, written_after, VolumeLaws}
+use Rattle.luks2_editing.specs.Prepared.{AreCopiesWithin}
+use Rattle.luks2_editing.proofs.RenewalFacts.{copies_touched, copy_within, prepared_unrefused, renewing, unwritten_ends, written_after}
 use Rattle.luks2_editing.proofs.labelling.set_label.Goals as goal
 
 pub returns-in_err-rewrite-clause-replies : goal.returns-in_err-rewrite-clause-replies
@@ -14,15 +14,14 @@ returns-in_err-rewrite-clause-replies g c = λ tells payload text x well before 
     let w = g.D.Device.bytes c.rewrite.new.device in
     let copy = c.args.copy.now in
     let random = c.args.random.now in
-    let laws : VolumeLaws = record { only = c.one_choice.ensures.only; sound = c.chosen_copy_is_sound.ensures; value = c.one_value.ensures; fits = c.well_formed_volume.ensures } in
     let passed = passed_from (IsEditFault2 v payload (Label text) random) 12 before.each in
     let size : length v ≡ g.D.Device.size c.args.device.now = g.met.D.Device.sized c.args.device.now tells in
-    let within : IsCopyWithin copy.header (area_len copy.meta) (g.D.Device.size c.args.device.now) =
-    subst (λ n. IsCopyWithin copy.header (area_len copy.meta) n) size (copy_within laws v payload copy x well) in
-    let renews = renewing laws v payload copy x well (Label text) c.args.label field_ in
+    let within : AreCopiesWithin copy.header (area_len copy.meta) (g.D.Device.size c.args.device.now) =
+    subst (λ n. AreCopiesWithin copy.header (area_len copy.meta) n) size (copy_within v payload copy x well) in
+    let renews = renewing v payload copy x well (Label text) c.args.label field_ in
     let p = err_from_is_err_and c.from_residual.result c.from_residual.ensures.1 in
     rw (p.1, p.2)
-    (unwritten_ends laws v payload copy x well (Label text) random (content copy.meta) passed (λ salt. refl) (λ salt k is. is) refl (λ k is. is) (λ u. tt)
+    (unwritten_ends v payload copy x well (Label text) random (content copy.meta) passed (λ salt. refl) (λ salt k is. is) refl (λ k is. is) (λ u. tt)
     w c.in_err-rewrite.field-0.0 (c.in_err-rewrite.ensures.refused within) (c.in_err-rewrite.ensures.same tells) (c.rewrite.ensures.torn tells v (Label text) renews))
 
 pub returns-clause-replies : goal.returns-clause-replies
@@ -31,13 +30,12 @@ returns-clause-replies g c = λ tells payload text x well before field_.
     let w = g.D.Device.bytes c.rewrite.new.device in
     let copy = c.args.copy.now in
     let random = c.args.random.now in
-    let laws : VolumeLaws = record { only = c.one_choice.ensures.only; sound = c.chosen_copy_is_sound.ensures; value = c.one_value.ensures; fits = c.well_formed_volume.ensures } in
     let passed = passed_from (IsEditFault2 v payload (Label text) random) 12 before.each in
-    let renews = renewing laws v payload copy x well (Label text) c.args.label field_ in
+    let renews = renewing v payload copy x well (Label text) c.args.label field_ in
     record {
-      unrefused = prepared_unrefused laws v payload copy x well (Label text) random (content copy.meta) passed (λ salt. refl) (λ salt k is. is) refl (λ k is. is) (λ u. tt) c.in_ok-rewrite.ensures.ready;
-      after = written_after laws v payload copy x well (Label text) random (content copy.meta) passed (λ salt. refl) (λ salt k is. is) refl (λ k is. is) (λ u. tt) w tt
+      unrefused = prepared_unrefused v payload copy x well (Label text) random (content copy.meta) passed (λ salt. refl) (λ salt k is. is) refl (λ k is. is) (λ u. tt) c.in_ok-rewrite.ensures.ready;
+      after = written_after v payload copy x well (Label text) random (content copy.meta) passed (λ salt. refl) (λ salt k is. is) refl (λ k is. is) (λ u. tt) w tt
           (c.in_ok-rewrite.ensures.anew tells v (Label text) renews)
-          (copies_touched laws v payload copy x well (Label text) random (content copy.meta) passed (λ salt. refl) (λ salt k is. is) refl (λ k is. is) (λ u. tt) w (c.rewrite.ensures.rest tells));
+          (copies_touched v payload copy x well (Label text) random (content copy.meta) passed (λ salt. refl) (λ salt k is. is) refl (λ k is. is) (λ u. tt) w (c.rewrite.ensures.rest tells));
       told = refl;
     }

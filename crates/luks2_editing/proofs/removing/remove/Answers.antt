@@ -4,10 +4,10 @@ use Rattle.std.proofs.lemmas.Result.{err_from_is_err_and}
 use Rattle.luks_edit.specs.declared.edit.Edit.TheVariants.{Remove}
 use Rattle.luks_meta.specs.Content.{area_len, content}
 use Rattle.luks2_editing.specs.Lost.{HasKeyArea}
-use Rattle.luks2_editing.specs.Prepared.{IsCopyWithin, IsPrepared, IsUnwritten}
+use Rattle.luks2_editing.specs.Prepared.{AreCopiesWithin, IsPrepared, IsUnwritten}
 use Rattle.luks2_editing.specs.Rewriting.{IsRenewing}
 use Rattle.luks2_editing.proofs.RemovalFacts.{key_area_there, removal_passed, removed_after, torn_lost}
-use Rattle.luks2_editing.proofs.RenewalFacts.{copy_within, prepared_unrefused, renewing, unwritten_ends, VolumeLaws}
+use Rattle.luks2_editing.proofs.RenewalFacts.{copy_within, prepared_unrefused, renewing, unwritten_ends}
 use Rattle.luks2_editing.proofs.removing.remove.Goals as goal
 
 pub returns-in_err-area-clause-replies : goal.returns-in_err-area-clause-replies
@@ -16,11 +16,10 @@ returns-in_err-area-clause-replies g c = λ tells payload pass x well before.
     let copy = c.args.copy.now in
     let random = c.args.random.now in
     let slot = c.args.slot in
-    let laws : VolumeLaws = record { only = c.one_choice.ensures.only; sound = c.chosen_copy_is_sound.ensures; value = c.one_value.ensures; fits = c.well_formed_volume.ensures } in
     let size : length v ≡ g.D.Device.size c.args.device.now = g.met.D.Device.sized c.args.device.now tells in
     let total : length v ≡ c.len.result = size ∙ sym c.len.ensures in
     let there : HasKeyArea (content copy.meta) slot c.len.result =
-    subst (λ (n : ℕ). HasKeyArea (content copy.meta) slot n) total (key_area_there laws v payload copy x well slot pass random c.requires.numbered before) in
+    subst (λ (n : ℕ). HasKeyArea (content copy.meta) slot n) total (key_area_there v payload copy x well slot pass random c.requires.numbered before) in
     absurd (false≢true (c.in_err-area.ensures.found there))
 
 pub returns-in_err-rewrite-clause-replies : goal.returns-in_err-rewrite-clause-replies
@@ -29,20 +28,19 @@ returns-in_err-rewrite-clause-replies g c = λ tells payload pass x well before.
     let copy = c.args.copy.now in
     let random = c.args.random.now in
     let slot = c.args.slot in
-    let laws : VolumeLaws = record { only = c.one_choice.ensures.only; sound = c.chosen_copy_is_sound.ensures; value = c.one_value.ensures; fits = c.well_formed_volume.ensures } in
     let size : length v ≡ g.D.Device.size c.args.device.now = g.met.D.Device.sized c.args.device.now tells in
     let new = content c.in_ok-meta.meta in
     let made = c.in_ok-meta.ensures.value in
     let len : area_len c.in_ok-meta.meta ≡ area_len copy.meta = c.in_ok-meta.ensures.length in
-    let renews = subst (λ (n : ℕ). IsRenewing v (Remove slot pass) copy.header copy.header.label n) (sym len) (renewing laws v payload copy x well (Remove slot pass) copy.header.label (sym x.header.label)) in
+    let renews = subst (λ (n : ℕ). IsRenewing v (Remove slot pass) copy.header copy.header.label n) (sym len) (renewing v payload copy x well (Remove slot pass) copy.header.label (sym x.header.label)) in
     let w = g.D.Device.bytes c.rewrite.new.device in
-    let passed = removal_passed laws v payload copy x well slot pass random c.requires.numbered before in
-    let within : IsCopyWithin copy.header (area_len c.in_ok-meta.meta) (g.D.Device.size c.args.device.now) =
-    subst (λ (n : ℕ). IsCopyWithin copy.header n (g.D.Device.size c.args.device.now)) (sym len)
-    (subst (λ (n : ℕ). IsCopyWithin copy.header (area_len copy.meta) n) size (copy_within laws v payload copy x well)) in
+    let passed = removal_passed v payload copy x well slot pass random c.requires.numbered before in
+    let within : AreCopiesWithin copy.header (area_len c.in_ok-meta.meta) (g.D.Device.size c.args.device.now) =
+    subst (λ (n : ℕ). AreCopiesWithin copy.header n (g.D.Device.size c.args.device.now)) (sym len)
+    (subst (λ (n : ℕ). AreCopiesWithin copy.header (area_len copy.meta) n) size (copy_within v payload copy x well)) in
     let p = err_from_is_err_and c.from_residual-in_err-rewrite.result c.from_residual-in_err-rewrite.ensures.1 in
     rw (p.1, p.2)
-    (unwritten_ends laws v payload copy x well (Remove slot pass) random new passed (λ salt. made) (λ salt k same. same ∙ sym made) refl (λ k same. same) (λ u. tt)
+    (unwritten_ends v payload copy x well (Remove slot pass) random new passed (λ salt. made) (λ salt k same. same ∙ sym made) refl (λ k same. same) (λ u. tt)
     w c.in_err-rewrite.field-0.0 (subst (λ (n : ℕ). IsUnwritten copy.header.seqid n new random 128 c.in_err-rewrite.field-0.0) len (c.in_err-rewrite.ensures.refused within))
     (c.in_err-rewrite.ensures.same tells) (c.rewrite.ensures.torn tells v (Remove slot pass) renews))
 
@@ -52,18 +50,17 @@ returns-in-Ok-clause-replies g c = λ tells payload pass x well before.
     let copy = c.args.copy.now in
     let random = c.args.random.now in
     let slot = c.args.slot in
-    let laws : VolumeLaws = record { only = c.one_choice.ensures.only; sound = c.chosen_copy_is_sound.ensures; value = c.one_value.ensures; fits = c.well_formed_volume.ensures } in
     let new = content c.in_ok-meta.meta in
     let made = c.in_ok-meta.ensures.value in
     let len : area_len c.in_ok-meta.meta ≡ area_len copy.meta = c.in_ok-meta.ensures.length in
-    let renews = subst (λ (n : ℕ). IsRenewing v (Remove slot pass) copy.header copy.header.label n) (sym len) (renewing laws v payload copy x well (Remove slot pass) copy.header.label (sym x.header.label)) in
+    let renews = subst (λ (n : ℕ). IsRenewing v (Remove slot pass) copy.header copy.header.label n) (sym len) (renewing v payload copy x well (Remove slot pass) copy.header.label (sym x.header.label)) in
     let w = g.D.Device.bytes c.rewrite.new.device in
     let ready = subst (λ (n : ℕ). IsPrepared copy.header.seqid n new random 128) len c.in_ok-rewrite.ensures.ready in
     let y = g.D.Device.bytes c.wipe_area.new.device in
     record {
-      unrefused = prepared_unrefused laws v payload copy x well (Remove slot pass) random new (removal_passed laws v payload copy x well slot pass random c.requires.numbered before)
+      unrefused = prepared_unrefused v payload copy x well (Remove slot pass) random new (removal_passed v payload copy x well slot pass random c.requires.numbered before)
           (λ salt. made) (λ salt k same. same ∙ sym made) refl (λ k same. same) (λ u. tt) ready;
-      after = removed_after laws v payload copy x well slot pass random c.requires.numbered before c.in_ok-area.area c.in_ok-area.ensures.area c.soundness_is_local.ensures.range new made w y ready
+      after = removed_after v payload copy x well slot pass random c.requires.numbered before c.in_ok-area.area c.in_ok-area.ensures.area new made w y ready
           (c.in_ok-rewrite.ensures.anew tells v (Remove slot pass) renews) (c.rewrite.ensures.rest tells) (c.wipe_area.ensures.rest tells) (c.in-Ok.ensures.wiped tells);
       told = refl;
     }
@@ -74,13 +71,12 @@ returns-clause-replies g c = λ tells payload pass x well before.
     let copy = c.args.copy.now in
     let random = c.args.random.now in
     let slot = c.args.slot in
-    let laws : VolumeLaws = record { only = c.one_choice.ensures.only; sound = c.chosen_copy_is_sound.ensures; value = c.one_value.ensures; fits = c.well_formed_volume.ensures } in
     let new = content c.in_ok-meta.meta in
     let made = c.in_ok-meta.ensures.value in
     let len : area_len c.in_ok-meta.meta ≡ area_len copy.meta = c.in_ok-meta.ensures.length in
-    let renews = subst (λ (n : ℕ). IsRenewing v (Remove slot pass) copy.header copy.header.label n) (sym len) (renewing laws v payload copy x well (Remove slot pass) copy.header.label (sym x.header.label)) in
+    let renews = subst (λ (n : ℕ). IsRenewing v (Remove slot pass) copy.header copy.header.label n) (sym len) (renewing v payload copy x well (Remove slot pass) copy.header.label (sym x.header.label)) in
     let w = g.D.Device.bytes c.rewrite.new.device in
     let ready = subst (λ (n : ℕ). IsPrepared copy.header.seqid n new random 128) len c.in_ok-rewrite.ensures.ready in
     let y = g.D.Device.bytes c.wipe_area.new.device in
-    torn_lost laws v payload copy x well slot pass random c.requires.numbered before c.in_ok-area.area c.in_ok-area.ensures.area c.soundness_is_local.ensures.range new made w y ready
+    torn_lost v payload copy x well slot pass random c.requires.numbered before c.in_ok-area.area c.in_ok-area.ensures.area new made w y ready
     (c.in_ok-rewrite.ensures.anew tells v (Remove slot pass) renews) (c.rewrite.ensures.rest tells) (c.wipe_area.ensures.rest tells)

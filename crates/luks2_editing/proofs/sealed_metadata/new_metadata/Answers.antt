@@ -7,78 +7,65 @@ use Rattle.luks2_edits.specs.Edited.{keyslot_salt, members_of}
 use Rattle.luks2_edits.specs.Metadata.{IsInUse}
 use Rattle.luks2_edits.specs.Refused.{NeedsLike}
 use Rattle.luks2_editing.specs.MadeMetadata.{like_of, IsMadeBy}
-use Rattle.luks2_editing.specs.Prepared.{IsCopyWithin, IsPrepared, IsUnprepared}
+use Rattle.luks2_editing.specs.Prepared.{AreCopiesWithin, IsPrepared, IsUnprepared}
 use Rattle.luks2_editing.proofs.MadeMetadataFacts.{enough_random, placed_suits, placed_used}
-use Rattle.luks2_editing.proofs.RenewalFacts.{copy_within, VolumeLaws}
-use Rattle.luks2_editing.proofs.SealedRowFacts.{edited_by, opened_pbkdf2, sealing_unrefused, unprepared_ends, SealingLaws}
-use Rattle.luks2_editing.proofs.ToldFacts.{ToldLaws}
+use Rattle.luks2_editing.proofs.RenewalFacts.{copy_within}
+use Rattle.luks2_editing.proofs.SealedRowFacts.{edited_by, like_pbkdf2, sealing_unrefused, unprepared_ends}
 use Rattle.luks2_editing.proofs.sealed_metadata.new_metadata.Goals as goal
 
 pub returns-then-not-has_pbkdf2-clause-refused : goal.returns-then-not-has_pbkdf2-clause-refused
 returns-then-not-has_pbkdf2-clause-refused c = λ v payload e x total.
     let copy = c.args.copy.now in
     let sealing = c.args.sealing.now in
-    let laws : VolumeLaws = record { only = c.one_choice.ensures.only; sound = c.chosen_copy_is_sound.ensures; value = c.one_value.ensures; fits = c.well_formed_volume.ensures } in
-    let used = placed_used (area_len copy.meta) (content copy.meta) c.args.total (like_of sealing.keyslot) sealing.area c.requires.placed in
-    let derived = opened_pbkdf2 laws v payload e c.args.random.now copy sealing x used.0 in
+    let derived = like_pbkdf2 v payload e c.args.random.now copy sealing x in
     absurd (false≢true (sym c.if-not-has_pbkdf2.true ∙ c.has_pbkdf2.ensures.1 (subst (λ (n : ℕ). HasPbkdf2 (content copy.meta) n) (sym c.like-like.ensures) derived)))
 
 pub made_metadata-requires-clause-suits : goal.made_metadata-requires-clause-suits
 made_metadata-requires-clause-suits c =
-    let told : ToldLaws = record { range = c.told_once.ensures.range; stripes = c.told_once.ensures.stripes; need = c.told_once.ensures.need } in
     let copy = c.args.copy.now in
     let sealing = c.args.sealing.now in
     let derived = subst (λ (n : ℕ). HasPbkdf2 (content copy.meta) n) c.like-like.ensures (c.has_pbkdf2.ensures.0 c.if-not-has_pbkdf2.false) in
-    placed_suits told (area_len copy.meta) (content copy.meta) c.args.total (like_of sealing.keyslot) sealing.area sealing.iterations c.keyslot_salt-salt.result
+    placed_suits (area_len copy.meta) (content copy.meta) c.args.total (like_of sealing.keyslot) sealing.area sealing.iterations c.keyslot_salt-salt.result
     c.requires.placed derived c.requires.iterated c.keyslot_salt-salt.ensures.long
 
 pub returns-in_err-json-clause-refused : goal.returns-in_err-json-clause-refused
 returns-in_err-json-clause-refused c = λ v payload e x total.
-    let told : ToldLaws = record { range = c.told_once.ensures.range; stripes = c.told_once.ensures.stripes; need = c.told_once.ensures.need } in
     let copy = c.args.copy.now in
     let sealing = c.args.sealing.now in
     let random = c.args.random.now in
-    let volume : VolumeLaws = record { only = c.one_choice.ensures.only; sound = c.chosen_copy_is_sound.ensures; value = c.one_value.ensures; fits = c.well_formed_volume.ensures } in
-    let laws : SealingLaws = record { volume = volume; told = told; digest = c.one_digest.ensures; salts = c.salts_are_as_long.ensures } in
     let new = content c.in_ok-meta.meta in
     let len : area_len c.in_ok-meta.meta ≡ area_len copy.meta = c.in_ok-meta.ensures.length in
     let used = placed_used (area_len copy.meta) (content copy.meta) c.args.total (like_of sealing.keyslot) sealing.area c.requires.placed in
     let needs = subst (λ (n : ℕ). IsInUse (content copy.meta) n → NeedsLike (content copy.meta) n c.sealed_need-need.result) c.like-like.ensures c.sealed_need-need.ensures used in
-    let within : IsCopyWithin copy.header (area_len c.in_ok-meta.meta) c.args.total =
-    subst (λ (n : ℕ). IsCopyWithin copy.header n c.args.total) (sym len)
-    (subst (λ (n : ℕ). IsCopyWithin copy.header (area_len copy.meta) n) total (copy_within volume v payload copy x.chosen x.well)) in
+    let within : AreCopiesWithin copy.header (area_len c.in_ok-meta.meta) c.args.total =
+    subst (λ (n : ℕ). AreCopiesWithin copy.header n c.args.total) (sym len)
+    (subst (λ (n : ℕ). AreCopiesWithin copy.header (area_len copy.meta) n) total (copy_within v payload copy x.chosen x.well)) in
     let p = err_from_is_err_and c.from_residual-in_err-json.result c.from_residual-in_err-json.ensures.1 in
     rw (p.1, p.2)
-    (unprepared_ends laws v payload e random copy sealing x c.keyslot_salt-salt.result c.new_fits.ensures.salt c.keyslot_salt-salt.ensures.long new c.in_ok-meta.ensures.made
+    (unprepared_ends v payload e random copy sealing x c.keyslot_salt-salt.result c.new_fits.ensures.salt c.keyslot_salt-salt.ensures.long new c.in_ok-meta.ensures.made
     c.sealed_need-need.result needs c.in_err-json.field-0.0
     (subst (λ (n : ℕ). IsUnprepared copy.header.seqid n new random c.sealed_need-need.result c.in_err-json.field-0.0) len (c.in_err-json.ensures.refused within)))
 
 pub returns-clause-unrefused : goal.returns-clause-unrefused
 returns-clause-unrefused c = λ v payload e x total.
-    let told : ToldLaws = record { range = c.told_once.ensures.range; stripes = c.told_once.ensures.stripes; need = c.told_once.ensures.need } in
     let copy = c.args.copy.now in
     let sealing = c.args.sealing.now in
     let random = c.args.random.now in
-    let volume : VolumeLaws = record { only = c.one_choice.ensures.only; sound = c.chosen_copy_is_sound.ensures; value = c.one_value.ensures; fits = c.well_formed_volume.ensures } in
-    let laws : SealingLaws = record { volume = volume; told = told; digest = c.one_digest.ensures; salts = c.salts_are_as_long.ensures } in
     let new = content c.in_ok-meta.meta in
     let len : area_len c.in_ok-meta.meta ≡ area_len copy.meta = c.in_ok-meta.ensures.length in
     let used = placed_used (area_len copy.meta) (content copy.meta) c.args.total (like_of sealing.keyslot) sealing.area c.requires.placed in
     let needs = subst (λ (n : ℕ). IsInUse (content copy.meta) n → NeedsLike (content copy.meta) n c.sealed_need-need.result) c.like-like.ensures c.sealed_need-need.ensures used in
-    sealing_unrefused laws v payload e random copy sealing x c.keyslot_salt-salt.result c.new_fits.ensures.salt c.keyslot_salt-salt.ensures.long new c.in_ok-meta.ensures.made
+    sealing_unrefused v payload e random copy sealing x c.keyslot_salt-salt.result c.new_fits.ensures.salt c.keyslot_salt-salt.ensures.long new c.in_ok-meta.ensures.made
     c.sealed_need-need.result needs
     (subst (λ (n : ℕ). IsPrepared copy.header.seqid n new random c.sealed_need-need.result) len c.in_ok-json.ensures.ready)
 
 pub returns-clause-edited : goal.returns-clause-edited
 returns-clause-edited c = λ v payload e x total.
-    let told : ToldLaws = record { range = c.told_once.ensures.range; stripes = c.told_once.ensures.stripes; need = c.told_once.ensures.need } in
     let copy = c.args.copy.now in
     let sealing = c.args.sealing.now in
     let random = c.args.random.now in
-    let volume : VolumeLaws = record { only = c.one_choice.ensures.only; sound = c.chosen_copy_is_sound.ensures; value = c.one_value.ensures; fits = c.well_formed_volume.ensures } in
-    let laws : SealingLaws = record { volume = volume; told = told; digest = c.one_digest.ensures; salts = c.salts_are_as_long.ensures } in
     let used = placed_used (area_len copy.meta) (content copy.meta) c.args.total (like_of sealing.keyslot) sealing.area c.requires.placed in
     let needs = subst (λ (n : ℕ). IsInUse (content copy.meta) n → NeedsLike (content copy.meta) n c.sealed_need-need.result) c.like-like.ensures c.sealed_need-need.ensures used in
     let enough : 160 ≤ length random = subst (λ (n : ℕ). 160 ≤ n) (sym c.in_ok-json.ensures.ready.counted) (enough_random (content copy.meta) (like_of sealing.keyslot) c.sealed_need-need.result needs) in
-    edited_by laws v payload e random copy sealing x (keyslot_salt random) (content c.in_ok-meta.meta)
+    edited_by v payload e random copy sealing x (keyslot_salt random) (content c.in_ok-meta.meta)
     (subst (λ (s : List ℕ). IsMadeBy sealing.keyslot (members_of sealing.iterations s sealing.area) (content copy.meta) (content c.in_ok-meta.meta)) (c.keyslot_salt-salt.ensures.salt enough) c.in_ok-meta.ensures.made)

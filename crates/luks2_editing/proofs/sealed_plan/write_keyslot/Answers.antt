@@ -7,12 +7,10 @@ use Rattle.luks2_editing.specs.Rewriting.{IsRewriting}
 use Rattle.luks2_editing.specs.Sealed.{IsOfStripes}
 use Rattle.luks2_editing.proofs.RewritingFacts.{rewriting_of}
 use Rattle.luks2_editing.proofs.SealedFacts.{keyslot_written, on_ok_both, plan_unsealed, ready, torn_keyslot, IsPlanOf}
-use Rattle.luks2_editing.proofs.ToldFacts.{ToldLaws}
 use Rattle.luks2_editing.proofs.sealed_plan.write_keyslot.Goals as goal
 
 pub write_sealed-requires-clause-ready : goal.write_sealed-requires-clause-ready
 write_sealed-requires-clause-ready g c =
-    let told : ToldLaws = record { range = c.told_once.ensures.range; stripes = c.told_once.ensures.stripes; need = c.told_once.ensures.need } in
     let h = c.args.chosen.now.hdr_size in
     let total = g.D.Device.size c.args.device.now in
     let k = content c.args.made.now.meta in
@@ -28,11 +26,10 @@ write_sealed-requires-clause-ready g c =
       is = is;
       one = λ m names. (let this = c.digest_of_keyslot.ensures.only m names in let that = c.digest_of_keyslot.ensures.only is.digest.number is.digest.names in cc (this, that));
     } in
-    ready told h total k n c.args.secrets.now.key.now c.args.secrets.now.random.now c.requires.sealable plan p
+    ready h total k n c.args.secrets.now.key.now c.args.secrets.now.random.now c.requires.sealable plan p
 
 pub returns-clause-fault : goal.returns-clause-fault
 returns-clause-fault g c =
-    let told : ToldLaws = record { range = c.told_once.ensures.range; stripes = c.told_once.ensures.stripes; need = c.told_once.ensures.need } in
     let h = c.args.chosen.now.hdr_size in
     let total = g.D.Device.size c.args.device.now in
     let k = content c.args.made.now.meta in
@@ -48,11 +45,10 @@ returns-clause-fault g c =
       is = is;
       one = λ m names. (let this = c.digest_of_keyslot.ensures.only m names in let that = c.digest_of_keyslot.ensures.only is.digest.number is.digest.names in cc (this, that));
     } in
-    IfErr-weaker c.write_sealed.result _ _ (plan_unsealed told h total k n c.args.secrets.now.key.now c.args.secrets.now.random.now c.requires.sealable plan p) c.write_sealed.ensures.fault
+    IfErr-weaker c.write_sealed.result _ _ (plan_unsealed h total k n c.args.secrets.now.key.now c.args.secrets.now.random.now c.requires.sealable plan p) c.write_sealed.ensures.fault
 
 pub returns-clause-torn : goal.returns-clause-torn
 returns-clause-torn g c = λ tells payload e j renews seals.
-    let told : ToldLaws = record { range = c.told_once.ensures.range; stripes = c.told_once.ensures.stripes; need = c.told_once.ensures.need } in
     let h = c.args.chosen.now.hdr_size in
     let total = g.D.Device.size c.args.device.now in
     let k = content c.args.made.now.meta in
@@ -70,14 +66,13 @@ returns-clause-torn g c = λ tells payload e j renews seals.
     } in
     let v = g.D.Device.bytes c.args.device.now in
     let w = g.D.Device.bytes c.write_sealed.new.device in
-    torn_keyslot told h total k n c.args.secrets.now.key.now c.args.secrets.now.random.now c.requires.sealable plan p v c.args.chosen.now.hdr_offset e c.args.secrets.now.passphrase.now w payload j seals
+    torn_keyslot h total k n c.args.secrets.now.key.now c.args.secrets.now.random.now c.requires.sealable plan p v c.args.chosen.now.hdr_offset e c.args.secrets.now.passphrase.now w payload j seals
     (c.write_sealed.ensures.torn tells v e k
     (subst (λ (b : List ℕ). IsRewriting v e c.args.chosen.now c.args.chosen.now.label k b) (sym c.as_slice.ensures.value)
     (rewriting_of v e c.args.chosen.now c.args.chosen.now.label k c.args.made.now.json.items (area_len c.args.made.now.meta) renews c.requires.json)))
 
 pub returns-clause-written : goal.returns-clause-written
 returns-clause-written g c = λ tells e renews.
-    let told : ToldLaws = record { range = c.told_once.ensures.range; stripes = c.told_once.ensures.stripes; need = c.told_once.ensures.need } in
     let h = c.args.chosen.now.hdr_size in
     let total = g.D.Device.size c.args.device.now in
     let k = content c.args.made.now.meta in
@@ -97,7 +92,7 @@ returns-clause-written g c = λ tells e renews.
     let w = g.D.Device.bytes c.write_sealed.new.device in
     let rest = subst (λ (b : ℕ). SameBut (IsOfEither (IsOfStripes plan) (IsOfCopies b)) v w) (sym renews.header.hdr_size) (c.write_sealed.ensures.rest tells) in
     on_ok_both c.write_sealed.result (λ sealed anew.
-    keyslot_written told h total k n c.args.secrets.now.key.now c.args.secrets.now.random.now c.requires.sealable plan p v c.args.chosen.now.hdr_offset e c.args.secrets.now.passphrase.now w sealed anew rest)
+    keyslot_written h total k n c.args.secrets.now.key.now c.args.secrets.now.random.now c.requires.sealable plan p v c.args.chosen.now.hdr_offset e c.args.secrets.now.passphrase.now w sealed anew rest)
     (c.write_sealed.ensures.sealed tells)
     (c.write_sealed.ensures.anew tells v e k
     (subst (λ (b : List ℕ). IsRewriting v e c.args.chosen.now c.args.chosen.now.label k b) (sym c.as_slice.ensures.value)

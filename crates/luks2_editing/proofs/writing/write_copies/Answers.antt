@@ -34,7 +34,7 @@ pub returns-in_err-write_new_copy-clause-torn : goal.returns-in_err-write_new_co
 returns-in_err-write_new_copy-clause-torn g c tells v e j is =
     let old = c.args.chosen.now in
     let h = old.hdr_size in
-    half_begun c.written_copies_are_chosen.ensures.sound v e old c.args.label c.args.random.now j c.args.json.now is c.requires.json (g.D.Device.bytes c.args.device.now) (g.D.Device.bytes c.write_new_copy.new.device)
+    half_begun v e old c.args.label c.args.random.now j c.args.json.now is c.requires.json (g.D.Device.bytes c.args.device.now) (g.D.Device.bytes c.write_new_copy.new.device)
     (subst (λ (q : ℕ). SameBut (IsAt q h) (g.D.Device.bytes c.args.device.now) (g.D.Device.bytes c.write_new_copy.new.device)) c.other_place-other.ensures (c.write_new_copy.ensures.rest tells))
 
 pub returns-in_err-write_new_copy-2-clause-torn : goal.returns-in_err-write_new_copy-2-clause-torn
@@ -48,7 +48,7 @@ returns-in_err-write_new_copy-2-clause-torn g c tells v e j is =
     subst (λ (s : List ℕ). HasNewCopy old c.args.label s c.args.json.now w c.other_place-other.result) c.copy_salt.ensures (c.in_ok-write_new_copy.ensures.copy tells place) in
     let other : HasNewCopy old c.args.label (copy_salt c.args.random.now (other_place h o)) c.args.json.now w (other_place h o) =
     subst (λ (q : ℕ). HasNewCopy old c.args.label (copy_salt c.args.random.now q) c.args.json.now w q) c.other_place-other.ensures made in
-    half_done c.written_copies_are_chosen.ensures.sound v e old c.args.label c.args.random.now j c.args.json.now is c.requires.json (g.D.Device.bytes c.args.device.now) w
+    half_done v e old c.args.label c.args.random.now j c.args.json.now is c.requires.json (g.D.Device.bytes c.args.device.now) w
     (g.D.Device.bytes c.write_new_copy-2.new.device) other
     (subst (λ (q : ℕ). SameBut (IsAt q h) (g.D.Device.bytes c.args.device.now) (g.D.Device.bytes c.write_new_copy.new.device)) c.other_place-other.ensures (c.write_new_copy.ensures.rest tells)) c.requires.place (c.write_new_copy-2.ensures.rest tells)
 
@@ -63,7 +63,7 @@ returns-clause-torn g c tells v e j is =
     subst (λ (s : List ℕ). HasNewCopy old c.args.label s c.args.json.now w c.other_place-other.result) c.copy_salt.ensures (c.in_ok-write_new_copy.ensures.copy tells place) in
     let other : HasNewCopy old c.args.label (copy_salt c.args.random.now (other_place h o)) c.args.json.now w (other_place h o) =
     subst (λ (q : ℕ). HasNewCopy old c.args.label (copy_salt c.args.random.now q) c.args.json.now w q) c.other_place-other.ensures made in
-    half_done c.written_copies_are_chosen.ensures.sound v e old c.args.label c.args.random.now j c.args.json.now is c.requires.json (g.D.Device.bytes c.args.device.now) w
+    half_done v e old c.args.label c.args.random.now j c.args.json.now is c.requires.json (g.D.Device.bytes c.args.device.now) w
     (g.D.Device.bytes c.write_new_copy-2.new.device) other
     (subst (λ (q : ℕ). SameBut (IsAt q h) (g.D.Device.bytes c.args.device.now) (g.D.Device.bytes c.write_new_copy.new.device)) c.other_place-other.ensures (c.write_new_copy.ensures.rest tells)) c.requires.place (c.write_new_copy-2.ensures.rest tells)
 
@@ -78,7 +78,7 @@ returns-clause-anew g c tells v e j is =
     subst (λ (s : List ℕ). HasNewCopy old c.args.label s c.args.json.now w c.other_place-other.result) c.copy_salt.ensures (c.in_ok-write_new_copy.ensures.copy tells place) in
     let other : HasNewCopy old c.args.label (copy_salt c.args.random.now (other_place h o)) c.args.json.now w (other_place h o) =
     subst (λ (q : ℕ). HasNewCopy old c.args.label (copy_salt c.args.random.now q) c.args.json.now w q) c.other_place-other.ensures made in
-    all_done c.written_copies_are_chosen.ensures.sound v e old c.args.label c.args.random.now j c.args.json.now is c.requires.json (g.D.Device.bytes c.args.device.now) w
+    all_done v e old c.args.label c.args.random.now j c.args.json.now is c.requires.json (g.D.Device.bytes c.args.device.now) w
     (g.D.Device.bytes c.write_new_copy-2.new.device) other
     (subst (λ (q : ℕ). SameBut (IsAt q h) (g.D.Device.bytes c.args.device.now) (g.D.Device.bytes c.write_new_copy.new.device)) c.other_place-other.ensures (c.write_new_copy.ensures.rest tells)) c.requires.place (c.write_new_copy-2.ensures.rest tells)
     (subst (λ (s : List ℕ). HasNewCopy old c.args.label s c.args.json.now (g.D.Device.bytes c.write_new_copy-2.new.device) o) c.copy_salt-2.ensures

@@ -1,17 +1,9 @@
 use Rattle.luks2_edits.proofs.AfterFacts.{after_keeps, lost_zeros, now_chosen}
-use Rattle.luks2_edits.proofs.LowerLaws.{MakingLaws, VolumeLaws}
+use Rattle.luks2_edits.proofs.LowerLaws.{MakingLaws}
 use Rattle.luks2_edits.proofs.laws.luks2_edit_keeps_volume.Goals as goal
 
 pub returns : goal.returns
 returns c =
-    let laws : VolumeLaws = record {
-      some = c.one_choice.ensures.some;
-      only = c.one_choice.ensures.only;
-      sound = c.chosen_copy_is_sound.ensures;
-      copy = c.soundness_is_local.ensures.copy;
-      value = c.one_value.ensures;
-      metadata = c.metadata_without_faults.ensures;
-    } in
     let making : MakingLaws = record {
       removed = c.removal_keeps_the_rest.ensures.held;
       removal = c.removal_keeps_the_rest.ensures.rest;
@@ -23,7 +15,7 @@ returns c =
       change = c.change_keeps_the_rest.ensures.rest;
     } in
     record {
-      keeps = λ payload e v random w well ranges free a. after_keeps laws making v payload e random w well ranges free a;
-      lost = λ payload e v random w n a well after_ lost is. lost_zeros laws v payload e random w n a well after_ lost is;
-      chosen = λ payload e v random w well ranges free a. now_chosen laws making v payload e random w well ranges free a;
+      keeps = λ payload e v random w well ranges free a. after_keeps making v payload e random w well ranges free a;
+      lost = λ payload e v random w n a well after_ lost is. lost_zeros v payload e random w n a well after_ lost is;
+      chosen = λ payload e v random w well ranges free a. now_chosen making v payload e random w well ranges free a;
     }

@@ -5,6 +5,6 @@ use Rattle.luks2_judging.proofs.room.judge_sealing.Goals as goal
 
 pub returns-then-iterations-lt-LEAST_ITERATIONS-clause-refused : goal.returns-then-iterations-lt-LEAST_ITERATIONS-clause-refused
 returns-then-iterations-lt-LEAST_ITERATIONS-clause-refused c = λ payload lists. (
-  λ none. area_excludes (area_len c.args.meta.now + 4096) c.args.total payload (content c.args.meta.now) c.args.n c.in-Some.area (c.in-Some.ensures.new payload lists) none,
+  λ none. area_excludes (area_len c.args.room.now.meta.now + 4096) c.args.room.now.total payload (content c.args.room.now.meta.now) c.args.n c.in-Some.area (c.in-Some.ensures.new payload lists) none,
   c.if-iterations-lt-LEAST_ITERATIONS.true,
 )

@@ -1,16 +1,10 @@
 //! The lines of a LUKS1 header.
-ghost use Rattle.std.specs.Prelude.{◌≡◌, IfOk};
-
 use super::escaped::Escaped;
-use crate::answers::Status;
 use luks_volume::{Luks1, Luks1Slot, SlotState};
-use std::io;
-use std::io::Write;
+use std::fmt;
 
 /// Lists a LUKS1 header, with a line for each keyslot.
-pub(crate) fn show_luks1<W: Write>(header: &Luks1, out: &mut W) -> io::Result<Status>
-    ensures { IfOk result (λ s. s ≡ Status.Done) }
-{
+pub(crate) fn list_luks1<W: fmt::Write>(header: &Luks1, f: &mut fmt::Formatter<W>) -> fmt::Result {
     let common = &header.common;
     let uuid = Escaped(common.uuid.as_str().as_bytes());
     let name = Escaped(common.cipher_name.as_str().as_bytes());
@@ -18,26 +12,30 @@ pub(crate) fn show_luks1<W: Write>(header: &Luks1, out: &mut W) -> io::Result<St
     let hash = Escaped(common.hash_spec.as_str().as_bytes());
     let key_bytes = common.key_bytes;
     let payload = common.payload_offset;
-    writeln!(out, "luks1")?;
-    writeln!(out, "uuid {uuid}")?;
-    writeln!(out, "cipher {name}-{mode} key-bytes {key_bytes}")?;
-    writeln!(out, "hash {hash}")?;
-    writeln!(out, "payload {payload}")?;
+    writeln!(f, "luks1")?;
+    writeln!(f, "uuid {uuid}")?;
+    writeln!(f, "cipher {name}-{mode} key-bytes {key_bytes}")?;
+    writeln!(f, "hash {hash}")?;
+    writeln!(f, "payload {payload}")?;
     for (n, slot) in header.slots.iter().enumerate() {
-        show_luks1_slot(n, slot, out)?;
+        list_luks1_slot(n, slot, f)?;
     }
-    Ok(Status::Done)
+    Ok(())
 }
 
-fn show_luks1_slot<W: Write>(n: usize, slot: &Luks1Slot, out: &mut W) -> io::Result<()> {
+fn list_luks1_slot<W: fmt::Write>(
+    n: usize,
+    slot: &Luks1Slot,
+    f: &mut fmt::Formatter<W>,
+) -> fmt::Result {
     let iterations = slot.iterations;
     let offset = slot.key_material_offset;
     let stripes = slot.stripes;
     match slot.state {
         SlotState::Enabled => writeln!(
-            out,
+            f,
             "slot {n} enabled iterations {iterations} offset {offset} stripes {stripes}"
         ),
-        SlotState::Disabled => writeln!(out, "slot {n} disabled offset {offset} stripes {stripes}"),
+        SlotState::Disabled => writeln!(f, "slot {n} disabled offset {offset} stripes {stripes}"),
     }
 }

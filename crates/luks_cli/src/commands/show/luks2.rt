@@ -1,27 +1,23 @@
 //! The lines of a LUKS2 header.
-ghost use Rattle.std.specs.Prelude.{◌≡◌, IfOk};
-
 use super::escaped::{Escaped, before_zero};
-use super::objects::{show_digests, show_keyslots, show_segments, show_tokens};
-use crate::answers::Status;
+use super::objects::{list_digests, list_keyslots, list_segments, list_tokens};
 use crate::copies::copies_name;
 use luks_volume::ChosenCopy;
-use std::io;
-use std::io::Write;
+use std::fmt;
 
 /// Lists the chosen copy of a LUKS2 header, with a line for each object of its metadata.
-pub(crate) fn show_luks2<W: Write>(copy: &ChosenCopy, out: &mut W) -> io::Result<Status>
-    ensures { IfOk result (λ s. s ≡ Status.Done) }
-{
-    show_header(copy, out)?;
-    show_keyslots(&copy.meta, out)?;
-    show_tokens(&copy.meta, out)?;
-    show_segments(&copy.meta, out)?;
-    show_digests(&copy.meta, out)?;
-    Ok(Status::Done)
+pub(crate) fn list_luks2<W: fmt::Write>(
+    copy: &ChosenCopy,
+    f: &mut fmt::Formatter<W>,
+) -> fmt::Result {
+    list_header(copy, f)?;
+    list_keyslots(&copy.meta, f)?;
+    list_tokens(&copy.meta, f)?;
+    list_segments(&copy.meta, f)?;
+    list_digests(&copy.meta, f)
 }
 
-fn show_header<W: Write>(copy: &ChosenCopy, out: &mut W) -> io::Result<()> {
+fn list_header<W: fmt::Write>(copy: &ChosenCopy, f: &mut fmt::Formatter<W>) -> fmt::Result {
     let header = &copy.header;
     let uuid = Escaped(before_zero(&header.uuid));
     let label = Escaped(before_zero(&header.label));
@@ -29,12 +25,9 @@ fn show_header<W: Write>(copy: &ChosenCopy, out: &mut W) -> io::Result<()> {
     let seqid = header.seqid;
     let header_size = header.hdr_size;
     let keyslots_size = copy.meta.config().keyslots_size;
-    writeln!(out, "luks2")?;
-    writeln!(out, "uuid {uuid}")?;
-    writeln!(out, "label {label}")?;
-    writeln!(out, "copies {copies} seqid {seqid}")?;
-    writeln!(
-        out,
-        "header-size {header_size} keyslots-size {keyslots_size}"
-    )
+    writeln!(f, "luks2")?;
+    writeln!(f, "uuid {uuid}")?;
+    writeln!(f, "label {label}")?;
+    writeln!(f, "copies {copies} seqid {seqid}")?;
+    writeln!(f, "header-size {header_size} keyslots-size {keyslots_size}")
 }

@@ -4,35 +4,13 @@ use Rattle.luks_formatting.proofs.laws.formatted2_opens.Goals as goal
 pub returns-clause-well_formed : goal.returns-clause-well_formed
 returns-clause-well_formed c payload format passphrase random old new some large counted fits x =
     well_formed payload format passphrase random old new some large counted fits
-    (record {
-      decimals = c.decimals_say_numbers.ensures.told;
-      encodings = c.encodings_say_bytes.ensures.told;
-      names = c.names_say_numbers.ensures.told;
-      says = c.addition_keeps_the_rest.ensures.says;
-    })
-    (record {
-      in_step = c.written_copies_are_chosen.ensures.in_step;
-      uuid = c.luks2_without_faults.ensures.uuid;
-      metadata = c.metadata_without_faults.ensures;
-      held = c.new_volume_is_accepted.ensures.held;
-      one = c.one_value.ensures;
-    })
+    c.addition_keeps_the_rest.ensures.says
+    (record { metadata = c.metadata_without_faults.ensures; held = c.new_volume_is_accepted.ensures.held; one = c.one_value.ensures })
     x
 
 pub returns-clause-opens : goal.returns-clause-opens
 returns-clause-opens c payload format passphrase random old new some large counted fits x =
     slot_opens payload format passphrase random old new some large counted fits
-    (record {
-      decimals = c.decimals_say_numbers.ensures.told;
-      encodings = c.encodings_say_bytes.ensures.told;
-      names = c.names_say_numbers.ensures.told;
-      says = c.addition_keeps_the_rest.ensures.says;
-    })
-    (record {
-      in_step = c.written_copies_are_chosen.ensures.in_step;
-      uuid = c.luks2_without_faults.ensures.uuid;
-      metadata = c.metadata_without_faults.ensures;
-      held = c.new_volume_is_accepted.ensures.held;
-      one = c.one_value.ensures;
-    })
+    c.addition_keeps_the_rest.ensures.says
+    (record { metadata = c.metadata_without_faults.ensures; held = c.new_volume_is_accepted.ensures.held; one = c.one_value.ensures })
     x c.sealed_area_opens.ensures

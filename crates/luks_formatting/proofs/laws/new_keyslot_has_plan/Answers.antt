@@ -4,10 +4,5 @@ use Rattle.luks_formatting.proofs.laws.new_keyslot_has_plan.Goals as goal
 pub returns : goal.returns
 returns c payload format random json plan some long fits holds is cipher =
     plan_by payload format random some long fits
-    (record {
-      decimals = c.decimals_say_numbers.ensures.told;
-      encodings = c.encodings_say_bytes.ensures.told;
-      names = c.names_say_numbers.ensures.told;
-      says = c.addition_keeps_the_rest.ensures.says;
-    })
+    c.addition_keeps_the_rest.ensures.says
     json holds plan is cipher

@@ -34,5 +34,6 @@ unreachable-requires c =
     let first : length v.digest_salt ≤ 32 = (let same = ap (λ (m : VolumeMembers). length m.digest_salt) members in let long = length-digest_salt c.args.random.now c.requires.long in omega (arith, same, long)) in
     let third : length v.slot_salt ≤ 32 = (let same = ap (λ (m : VolumeMembers). length m.slot_salt) members in let long = length-slot_salt c.args.random.now c.requires.long in omega (arith, same, long)) in
     let second : length v.digest ≤ 64 = (let long = c.requires.digest_length in let short = digest_short c.args.format.now.hash in omega (arith, long, short)) in
-    let short = text_fits v hash c.volume_fits.ensures.iterations c.volume_fits.ensures.segment_offset first second third in
+    let encryption : length v.encryption ≤ 15 = (let same = ap (λ (m : VolumeMembers). length m.encryption) members in omega (arith, same)) in
+    let short = text_fits v hash c.volume_fits.ensures.iterations c.volume_fits.ensures.segment_offset first second third encryption in
     short_text (length (compact_text (view c.in_ok-value.value))) (length (compact_text (formatted v))) full is short

@@ -1,20 +1,22 @@
-use Rattle.std.proofs.Common.{List, ℕ, sym, subst}
-use Rattle.luks_cli.specs.Files.{IsTaken, IsWhole}
-use Rattle.luks_cli.specs.Formatting.{needed}
-use Rattle.luks_cli.proofs.FormatFacts.{says_ended}
+use Rattle.luks_cli.specs.Answer.{answer_status}
+use Rattle.luks_cli.proofs.EditFacts.{left_as}
+use Rattle.luks_cli.proofs.EndFacts.{done_by, err_as, is_exit_status, not_in_step_by, told}
+use Rattle.luks_cli.proofs.FormatFacts.{says_told}
 use Rattle.luks_cli.proofs.commands.format.run.Goals as goal
 
+pub returns-clause-status : goal.returns-clause-status
+returns-clause-status g c = is_exit_status (answer_status c.format_volume-answer.result) _ (told c.format_volume-answer.result _ _ _ _ _ c.end.ensures)
+
 pub returns-clause-left : goal.returns-clause-left
-returns-clause-left g c =
-    let HasWords : List ℕ → Type 0 = IsWhole g.R.Read.remaining c.args.inputs.now.passphrase in
-    let HasCounted : ℕ → List ℕ → Type 0 = λ count. IsTaken count g.N.Read.remaining c.args.inputs.now.random in
-    let HasRandom : List ℕ → Type 0 = HasCounted (needed c.args.making.now.version) in
-    let words : HasWords c.as_slice-words.result.now = subst HasWords (sym c.as_slice-words.ensures.value) c.in-Ok.ensures.whole in
-    let counted : HasRandom c.in-Ok-random_bytes.bytes.items = subst (λ n. HasCounted n c.in-Ok-random_bytes.bytes.items) c.random_needed.ensures c.in-Ok-random_bytes.ensures.taken in
-    let taken : HasRandom c.as_slice-random.result.now = subst HasRandom (sym c.as_slice-random.ensures.value) counted in
-    rw c.in-Ok-volume.is (record {
-      size = c.format_device.ensures.size;
-      said = λ tells. says_ended c.args.making.now HasWords HasRandom _ _ _ _ c.format_device.result c.exit_code-2.result words taken
-          c.exit_code-2.ensures.ended c.exit_code-2.ensures.unwritten (c.format_device.ensures.done tells)
-          (c.format_device.ensures.refused tells) (c.format_device.ensures.rest tells);
-    })
+returns-clause-left g c = left_as _ _ _ _ _
+    (λ v w x. says_told c.args.making.now _ _ v w (answer_status c.format_volume-answer.result) _ (told c.format_volume-answer.result _ _ _ _ _ c.end.ensures) x)
+    _ _ c.format_volume-answer.ensures.left
+
+pub returns-clause-kinds : goal.returns-clause-kinds
+returns-clause-kinds g c = λ is. c.format_volume-answer.ensures.kinds
+    (not_in_step_by (answer_status c.format_volume-answer.result) _ (told c.format_volume-answer.result _ _ _ _ _ c.end.ensures) is)
+
+pub returns-clause-unread : goal.returns-clause-unread
+returns-clause-unread g c = err_as c.args.inputs.now.volume _ _
+    (λ apart is. apart (done_by (answer_status c.format_volume-answer.result) _ (told c.format_volume-answer.result _ _ _ _ _ c.end.ensures) is))
+    c.format_volume-answer.ensures.unread

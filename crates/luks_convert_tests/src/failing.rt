@@ -1,0 +1,127 @@
+//! Converting on devices of which one call fails: the lines and the status.
+use crate::sources::{LEAST, front, target, two_keyslots};
+use luks_area::{Device, FaultyDevice, Leave};
+use luks_cli::{CountingPrinter, InputFault, Inputs, execute};
+use luks_line::line;
+use luks_test_devices::{Front, counted};
+use std::alloc::Global;
+use std::process::Abort;
+use std::test::Fail;
+
+/// Which call of which device fails, counted from 0.
+#[derive(Debug, Clone, Copy)]
+enum Failing {
+    Volume(u64),
+    Target(u64),
+    /// The first one of each.
+    Both,
+}
+
+/// What a command came to.
+#[derive(Drop)]
+struct Ended {
+    out: Vec<u8>,
+    err: Vec<u8>,
+    status: u8,
+    /// How many calls of the volume and of the target failed.
+    failures: (u64, u64),
+}
+
+impl Ended {
+    /// Whether it printed these lines, on standard output and on standard error, and ended so.
+    fn says(&self, out: &str, err: &str, status: u8) -> bool {
+        self.status == status
+            && self.out.as_slice() == out.as_bytes()
+            && self.err.as_slice() == err.as_bytes()
+    }
+}
+
+/// The failures that a device counted; none where it isn't there.
+fn failures(device: &Result<FaultyDevice<Front>, InputFault>) -> u64 {
+    match device {
+        Ok(device) => device.failures(),
+        Err(_) => 0,
+    }
+}
+
+/// What the command comes to where this call fails.
+fn end_of(alloc: Global, words: &[&str], failing: Failing) -> Result<Ended, Fail> {
+    let line = line(alloc, words)?;
+    let random = counted(alloc, 0, 128)?;
+    let (of_volume, of_target) = match failing {
+        Failing::Volume(call) => (call, u64::MAX),
+        Failing::Target(call) => (u64::MAX, call),
+        Failing::Both => (0, 0),
+    };
+    let image = two_keyslots(alloc)?;
+    let len = image.len();
+    let volume = front(image, len);
+    let header = target(alloc, LEAST)?;
+    let mut inputs = Inputs {
+        volume: Ok(FaultyDevice::new(volume, of_volume, Leave::Ones)),
+        target: Ok(FaultyDevice::new(header, of_target, Leave::Ones)),
+        passphrase: Err::<&[u8], InputFault>(InputFault::Absent),
+        new_passphrase: Err(InputFault::Absent),
+        random: Ok(random.as_slice()),
+    };
+    let mut out = CountingPrinter::new(Vec::new(alloc));
+    let mut err = Vec::new(alloc);
+    let status = execute(alloc, &line, &mut inputs, &mut out, &mut err);
+    Ok(Ended {
+        out: out.writer,
+        err,
+        status,
+        failures: (failures(&inputs.volume), failures(&inputs.target)),
+    })
+}
+
+const CONVERT: &[&str] = &["luks", "convert", "v", "t", "--random=r"];
+
+const DONE: &str = "luks: cryptsetup open --header t v NAME opens it\n";
+
+const READING: &str = "luks: v: reading failed, the new header may be unfinished\n";
+
+const WRITING: &str = "luks: t: reading or writing failed, the new header may be unfinished\n";
+
+/// Whichever call of the volume, or of the target, fails is told. How many calls failed until it was done.
+fn fails_at_each_call(rt: &impl Abort, alloc: Global, of_volume: bool) -> Result<u64, Fail> {
+    for call in 0..256 {
+        let (failing, line, failures) = if of_volume {
+            (Failing::Volume(call), READING, (1, 0))
+        } else {
+            (Failing::Target(call), WRITING, (0, 1))
+        };
+        let ended = end_of(alloc, CONVERT, failing)?;
+        if ended.failures == (0, 0) {
+            assert!(rt; ended.says("done\n", DONE, 0), "done");
+            return Ok(call);
+        }
+        let told = ended.says("device fault\n", line, 4);
+        assert!(rt; told && ended.failures == failures, "call {call}");
+    }
+    Ok(0)
+}
+
+#[test]
+fn each_call(rt: HostRuntime) -> Result<(), Fail> {
+    let alloc = rt.alloc();
+    // the header, and the five sectors of both areas
+    let of_volume = fails_at_each_call(&rt, alloc, true)?;
+    assert!(rt; 11 <= of_volume, "{of_volume} calls of the volume");
+    // two areas and two copies, each with its flush
+    let of_target = fails_at_each_call(&rt, alloc, false)?;
+    assert!(rt; 8 <= of_target, "{of_target} calls of the target");
+    Ok(())
+}
+
+#[test]
+fn equal_words_read_nothing(rt: HostRuntime) -> Result<(), Fail> {
+    let words = &["luks", "convert", "v", "v", "--random=r"];
+    let ended = end_of(rt.alloc(), words, Failing::Both)?;
+    let refused = ended.says("refused SameFile\n", "", 1);
+    assert!(rt;
+        refused && ended.failures == (0, 0),
+        "refused before a call"
+    );
+    Ok(())
+}

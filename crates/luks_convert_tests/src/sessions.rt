@@ -1,0 +1,50 @@
+//! Commands over a volume and a target.
+use crate::sources::front;
+use luks_cli::{CountingPrinter, InputFault, Inputs, execute};
+use luks_line::line;
+use luks_test_devices::Front;
+use std::alloc::Global;
+use std::test::Fail;
+
+/// A file that the command line doesn't name.
+pub const NO_FILE: Result<&[u8], InputFault> = Err(InputFault::Absent);
+
+/// The files of a command.
+pub type Files<'a> = Inputs<Front, &'a [u8], &'a [u8]>;
+
+/// The files of a command over a volume with these bytes, and no others.
+pub fn files_of<'a>(image: Vec<u8>) -> Files<'a> {
+    let len = image.len();
+    Inputs {
+        volume: Ok(front(image, len)),
+        target: Err(InputFault::Absent),
+        passphrase: NO_FILE,
+        new_passphrase: NO_FILE,
+        random: NO_FILE,
+    }
+}
+
+/// What is owed to a command: what is printed, what is said on standard error, and the exit status.
+pub type Owed = (&'static str, &'static str, u8);
+
+/// Whether the command of these words, which single spaces part, is answered what is owed to it.
+pub fn says(alloc: Global, words: &str, owed: Owed, files: &mut Files<'_>) -> Result<bool, Fail> {
+    let mut parts = Vec::new(alloc);
+    for word in words.split(' ') {
+        parts.push(word)?;
+    }
+    let line = line(alloc, parts.as_slice())?;
+    let mut out = CountingPrinter::new(Vec::new(alloc));
+    let mut err = Vec::new(alloc);
+    let status = execute(alloc, &line, files, &mut out, &mut err);
+    let printed = out.writer.as_slice() == owed.0.as_bytes();
+    Ok(printed && err.as_slice() == owed.1.as_bytes() && status == owed.2)
+}
+
+/// The kept bytes of a device; none where it isn't there.
+pub fn bytes_of(device: &Result<Front, InputFault>) -> &[u8] {
+    match device {
+        Ok(device) => device.front.contents(),
+        Err(_) => &[],
+    }
+}

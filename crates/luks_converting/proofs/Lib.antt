@@ -1,0 +1,14 @@
+pub mod SourceFacts
+pub mod CopiedFacts
+pub mod PlaceFacts
+pub mod PlanFacts
+pub mod AnswerFacts
+pub mod FitFacts
+pub mod VolumeFacts
+pub mod MemberFacts
+pub mod CopyFacts
+pub mod AreaFacts
+pub mod AcceptedFacts
+pub mod CountFacts
+pub mod RowFacts
+pub mod WrittenFacts

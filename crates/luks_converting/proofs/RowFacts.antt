@@ -1,0 +1,139 @@
+-- The first fault of a conversion among the faults that stand, row by row of the table.
+use Rattle.std.proofs.Common.{◌≡◌, ◌≢◌, ℕ, ◌<◌, ◌≤◌, List, length, false, refl, sym, subst, arith, inl}
+use Rattle.luks_area.specs.First.{IsLeast, NotAfter}
+use Rattle.luks_head.specs.Selection.{Choice, luks1, luks2, Chosen}
+use Rattle.luks_reading.specs.declared.check_fault.CheckFault.{CheckFault}
+use Rattle.luks_reading.specs.declared.check_fault.CheckFault.TheVariants as check
+use Rattle.luks_reading.specs.declared.report.Data.{Data}
+use Rattle.luks_reading.specs.Checked.{First, IsCheckRefusal}
+use Rattle.luks_converting.specs.Accepted.{IsHeaderOf, IsOther, IsUnaccepted}
+use Rattle.luks_converting.specs.ConvertFaults.{checked_convert, convert_key, is_convert_failure}
+use Rattle.luks_converting.specs.Outcome.{IsAnsweredFault, IsConvertFault, IsConvertible, IsFull, IsLuks2, LacksRoom}
+use Rattle.luks_converting.specs.Source.{IsSource}
+use Rattle.luks_converting.specs.declared.convert_fault.ConvertFault.{ConvertFault}
+use Rattle.luks_converting.specs.declared.convert_fault.ConvertFault.TheVariants.{NotAccepted, NotLuks1, TooSmall, NoRoom, MetadataFull, RandomLength, Memory, Device}
+
+-- ---- the source's check
+
+-- what a check refuses by isn't a source
+pub unaccepted_of : (v : List ℕ) (payload : Data) (f : CheckFault) → IsCheckRefusal v payload f → IsUnaccepted v payload (checked_convert f)
+unaccepted_of v payload (check.Head f) x = x
+unaccepted_of v payload (check.Meta f) x = x
+unaccepted_of v payload (check.Area f) x = x
+unaccepted_of v payload check.Device x = tt
+unaccepted_of v payload check.Memory x = x
+
+pub first_unaccepted : (v : List ℕ) (payload : Data) (f : CheckFault) → f ≢ check.Device → f ≢ check.Memory → First v payload f → IsUnaccepted v payload (checked_convert f)
+first_unaccepted v payload (check.Head f) own memory x = x
+first_unaccepted v payload (check.Meta f) own memory x = x
+first_unaccepted v payload (check.Area f) own memory x = x
+first_unaccepted v payload check.Device own memory x = tt
+first_unaccepted v payload check.Memory own memory x = absurd (memory refl)
+
+-- the first fault of a check is the first of all
+check_first : (v : List ℕ) (payload : Data) (total : ℕ) (random : List ℕ) (f : CheckFault) → First v payload f → IsLeast convert_key (IsConvertFault v payload total random) (NotAccepted f)
+check_first v payload total random f first = (first.0, after)
+  where
+    after : (g : ConvertFault) → IsConvertFault v payload total random g → NotAfter (convert_key (NotAccepted f)) (convert_key g)
+    after (NotAccepted g) bad = (omega arith, λ same. first.1 g bad)
+    after NotLuks1 bad = (omega arith, λ same. absurd (omega (arith, same)))
+    after TooSmall bad = (omega arith, λ same. absurd (omega (arith, same)))
+    after NoRoom bad = (omega arith, λ same. absurd (omega (arith, same)))
+    after MetadataFull bad = (omega arith, λ same. absurd (omega (arith, same)))
+    after RandomLength bad = (omega arith, λ same. absurd (omega (arith, same)))
+    after Memory bad = absurd bad
+    after Device bad = absurd bad
+
+other_first : (v : List ℕ) (payload : Data) (total : ℕ) (random : List ℕ) → IsOther v payload → IsLeast convert_key (IsConvertFault v payload total random) NotLuks1
+other_first v payload total random other = (other.luks2, after)
+  where
+    after : (g : ConvertFault) → IsConvertFault v payload total random g → NotAfter (convert_key NotLuks1) (convert_key g)
+    after (NotAccepted g) bad = absurd (other.faultless g bad)
+    after NotLuks1 bad = (omega arith, λ same. tt)
+    after TooSmall bad = (omega arith, λ same. tt)
+    after NoRoom bad = (omega arith, λ same. tt)
+    after MetadataFull bad = (omega arith, λ same. tt)
+    after RandomLength bad = (omega arith, λ same. tt)
+    after Memory bad = absurd bad
+    after Device bad = absurd bad
+
+-- why the source isn't accepted is what is answered
+pub unaccepted_first : (v : List ℕ) (payload : Data) (total : ℕ) (random : List ℕ) (f : ConvertFault) → IsUnaccepted v payload f → IsAnsweredFault v payload total random f
+unaccepted_first v payload total random (NotAccepted f) x = check_first v payload total random f x
+unaccepted_first v payload total random NotLuks1 x = other_first v payload total random x
+unaccepted_first v payload total random TooSmall x = absurd x
+unaccepted_first v payload total random NoRoom x = absurd x
+unaccepted_first v payload total random MetadataFull x = absurd x
+unaccepted_first v payload total random RandomLength x = absurd x
+unaccepted_first v payload total random Memory x = inl x
+unaccepted_first v payload total random Device x = tt
+
+-- ---- of an accepted LUKS1 volume
+
+module _
+    (only : (v : List ℕ) (b c : Choice) → Chosen v b → Chosen v c → b ≡ c) (never : (h : List ℕ) → IsSource h → IsFull h → ⊥)
+    (h v : List ℕ) (payload : Data) (total : ℕ) (random : List ℕ) (is : IsHeaderOf h payload v)
+  where
+    not_luks2 : IsLuks2 v → ⊥
+    not_luks2 bad = let same : luks1 ≡ luks2 bad.place bad.copies = only v luks1 (luks2 bad.place bad.copies) is.chosen bad.chosen in absurd (let no = same in cc)
+
+    pub too_small : total < 16777216 → IsLeast convert_key (IsConvertFault v payload total random) TooSmall
+    too_small small = (small, after)
+      where
+        after : (g : ConvertFault) → IsConvertFault v payload total random g → NotAfter (convert_key TooSmall) (convert_key g)
+        after (NotAccepted g) bad = absurd (is.faultless g bad)
+        after NotLuks1 bad = absurd (not_luks2 bad)
+        after TooSmall bad = (omega arith, λ same. tt)
+        after NoRoom bad = (omega arith, λ same. tt)
+        after MetadataFull bad = (omega arith, λ same. tt)
+        after RandomLength bad = (omega arith, λ same. tt)
+        after Memory bad = absurd bad
+        after Device bad = absurd bad
+
+    pub no_room : 16777216 ≤ total → LacksRoom h → IsLeast convert_key (IsConvertFault v payload total random) NoRoom
+    no_room large lacks = (record { chosen = is.chosen; holds = subst LacksRoom is.begins lacks }, after)
+      where
+        after : (g : ConvertFault) → IsConvertFault v payload total random g → NotAfter (convert_key NoRoom) (convert_key g)
+        after (NotAccepted g) bad = absurd (is.faultless g bad)
+        after NotLuks1 bad = absurd (not_luks2 bad)
+        after TooSmall bad = absurd (omega (arith, bad, large))
+        after NoRoom bad = (omega arith, λ same. tt)
+        after MetadataFull bad = (omega arith, λ same. tt)
+        after RandomLength bad = (omega arith, λ same. tt)
+        after Memory bad = absurd bad
+        after Device bad = absurd bad
+
+    pub random_length : 16777216 ≤ total → IsSource h → length random ≢ 128 → IsLeast convert_key (IsConvertFault v payload total random) RandomLength
+    random_length large source other = (other, after)
+      where
+        after : (g : ConvertFault) → IsConvertFault v payload total random g → NotAfter (convert_key RandomLength) (convert_key g)
+        after (NotAccepted g) bad = absurd (is.faultless g bad)
+        after NotLuks1 bad = absurd (not_luks2 bad)
+        after TooSmall bad = absurd (omega (arith, bad, large))
+        after NoRoom bad = (let lacks : LacksRoom h = subst LacksRoom (sym is.begins) bad.holds in let room = source.room in absurd (omega (arith, lacks, room)))
+        after MetadataFull bad = absurd (never h source (subst IsFull (sym is.begins) bad.holds))
+        after RandomLength bad = (omega arith, λ same. tt)
+        after Memory bad = absurd bad
+        after Device bad = absurd bad
+
+    pub convertible : 16777216 ≤ total → IsSource h → length random ≡ 128 → IsConvertible v payload total random
+    convertible large source counted = record { none = none }
+      where
+        none : (f : ConvertFault) → IsConvertFault v payload total random f → ⊥
+        none (NotAccepted g) bad = is.faultless g bad
+        none NotLuks1 bad = not_luks2 bad
+        none TooSmall bad = absurd (omega (arith, bad, large))
+        none NoRoom bad = (let lacks : LacksRoom h = subst LacksRoom (sym is.begins) bad.holds in let room = source.room in absurd (omega (arith, lacks, room)))
+        none MetadataFull bad = never h source (subst IsFull (sym is.begins) bad.holds)
+        none RandomLength bad = bad counted
+        none Memory bad = bad
+        none Device bad = bad
+
+-- ---- what is answered of an accepted source
+
+-- a fault that is the first, and neither want of memory nor a device's
+pub answered_first : (v : List ℕ) (payload : Data) (total : ℕ) (random : List ℕ) (f : ConvertFault) → f ≢ Memory → is_convert_failure f ≡ false
+    → IsLeast convert_key (IsConvertFault v payload total random) f → IsAnsweredFault v payload total random f
+answered_first v payload total random Memory memory own x = absurd (memory refl)
+answered_first v payload total random Device memory own x = tt
+answered_first v payload total random f memory own x = x

@@ -1,8 +1,0 @@
-use Rattle.std.proofs.Common.{◌≡◌, ℕ, ◌<◌, ◌*◌, length, slice_index}
-use Rattle.sha2.specs.Sha256.{word_at}
-use Rattle.luks_lanes.specs.Pair.{window}
-use Rattle.luks_lanes.proofs.pair_turns.state_after.Given as goal
-
-abbrev pub invariant-load : goal.invariant-load
-invariant-load l = (length l.w ≡ 16)
-    × ((j k : ℕ) → j < 2 → k < l.i → slice_index (window j l.w) k ≡ word_at l.block (4 * k))

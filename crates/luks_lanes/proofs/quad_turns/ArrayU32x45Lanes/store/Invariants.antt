@@ -1,0 +1,9 @@
+use Rattle.std.proofs.Common.{◌≡◌, ℕ, ◌<◌}
+use Rattle.sha1.specs.Sha1.{digest_bytes}
+use Rattle.luks_lanes.specs.Quad.{lane}
+use Rattle.luks_lanes.specs.Turns.{block_at}
+use Rattle.luks_lanes.proofs.quad_turns.ArrayU32x45Lanes.store.Given as goal
+
+-- the values so far are written
+abbrev pub invariant-loop-j : goal.invariant-loop-j
+invariant-loop-j l = (k : ℕ) → k < l.j → block_at 20 l.row k ≡ digest_bytes (lane k l.self) 5
