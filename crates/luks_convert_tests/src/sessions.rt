@@ -37,8 +37,10 @@ pub fn says(alloc: Global, words: &str, owed: Owed, files: &mut Files<'_>) -> Re
     let mut out = CountingPrinter::new(Vec::new(alloc));
     let mut err = Vec::new(alloc);
     let status = execute(alloc, &line, files, &mut out, &mut err);
-    let printed = out.writer.as_slice() == owed.0.as_bytes();
-    Ok(printed && err.as_slice() == owed.1.as_bytes() && status == owed.2)
+    let (printed, told, ended) = owed;
+    let is_printed = out.writer.as_slice() == printed.as_bytes();
+    let is_told = err.as_slice() == told.as_bytes();
+    Ok(is_printed && is_told && status == ended)
 }
 
 /// The kept bytes of a device; none where it isn't there.

@@ -88,9 +88,11 @@ fn end_of(
     let mut out = CountingPrinter::new(Vec::new(alloc));
     let mut err = Vec::new(alloc);
     let status = execute(alloc, &line, &mut inputs, &mut out, &mut err);
-    match inputs.volume {
+    let CountingPrinter { writer: out, .. } = out;
+    let Inputs { volume, .. } = inputs;
+    match volume {
         Ok(device) => Ok(Ended {
-            out: out.writer,
+            out,
             err,
             status,
             device,

@@ -48,7 +48,8 @@ pub fn run(
     let mut err = Vec::new(alloc);
     let status = execute(alloc, &line, &mut inputs, &mut out, &mut err);
     add(answers, status, &out.writer)?;
-    match inputs.volume {
+    let Inputs { volume, .. } = inputs;
+    match volume {
         Ok(volume) => Ok(volume),
         Err(_) => Ok(MemDevice::new(Vec::new(alloc))),
     }
