@@ -38,9 +38,13 @@ pub fn says(alloc: Global, words: &str, owed: Owed, files: &mut Files<'_>) -> Re
     let mut err = Vec::new(alloc);
     let status = execute(alloc, &line, files, &mut out, &mut err);
     let (printed, told, ended) = owed;
-    let is_printed = out.writer.as_slice() == printed.as_bytes();
-    let is_told = err.as_slice() == told.as_bytes();
-    Ok(is_printed && is_told && status == ended)
+    let is_said = is_text(out.writer.as_slice(), printed) && is_text(err.as_slice(), told);
+    Ok(is_said && status == ended)
+}
+
+/// Whether the bytes are those of the text.
+fn is_text(bytes: &[u8], text: &str) -> bool {
+    bytes == text.as_bytes()
 }
 
 /// The kept bytes of a device; none where it isn't there.
