@@ -16,6 +16,16 @@ _luks() {
         [help]="--help"
     )
     local word=${COMP_WORDS[COMP_CWORD]} before=${COMP_WORDS[COMP_CWORD - 1]} words=
+    # of --slot=3 bash makes three words, --slot and = and 3
+    if [[ $word == = ]]; then
+        word=
+    elif [[ $before == = ]] && ((COMP_CWORD > 2)); then
+        before=${COMP_WORDS[COMP_CWORD - 2]}
+    fi
+    # these take no file
+    case $before in
+        --slot | --to | --version | --hash | --iterations) compopt +o default 2>/dev/null ;;
+    esac
     if ((COMP_CWORD == 1)); then
         words="${!options[*]} --help --version"
     elif [[ ${COMP_WORDS[1]} == help ]]; then

@@ -67,3 +67,4 @@ complete -c luks -n '__fish_seen_subcommand_from convert' -l random -r -F -d 'Th
 complete -c luks -n '__fish_seen_subcommand_from convert' -l detached -d 'The source is a detached header'
 
 complete -c luks -n __fish_use_subcommand -a help -d 'Print help'
+complete -c luks -n '__fish_seen_subcommand_from help' -a 'check show open add change remove repair label format convert'
