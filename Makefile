@@ -7,7 +7,8 @@
 #   quick     between gates: proofs and tests of the crates that changed since BASE (the last commit) and of what stands on them
 #   plants    between gates: the edits that must fail of CRATE (of all), planted at once, each refused at its own function
 #   install   put the program into PREFIX/bin, its manual page into MANDIR, its completions into BASHCOMPDIR, ZSHCOMPDIR and FISHCOMPDIR
-#             (PREFIX is /usr/local, the others are Debian's places under it; all under DESTDIR where that is given)
+#             (PREFIX is /usr/local, the others are Debian's places under it, for fish /etc/fish/completions, since fish looks into none there;
+#             all under DESTDIR where that is given)
 #   uninstall  take these away again
 #   dist      the archive dist/luks-VERSION-linux-x86_64.tar.gz: the program, also static, its pages and install.sh, for a system without rt
 #   deb       the package dist/luks_VERSION_amd64.deb, for Debian; beside both, dist/SHA256SUMS has their sums
@@ -25,7 +26,7 @@ DESTDIR ?=
 MANDIR ?= $(PREFIX)/share/man
 BASHCOMPDIR ?= $(PREFIX)/share/bash-completion/completions
 ZSHCOMPDIR ?= $(PREFIX)/share/zsh/$(if $(filter /usr,$(PREFIX)),vendor-completions,site-functions)
-FISHCOMPDIR ?= $(PREFIX)/share/fish/vendor_completions.d
+FISHCOMPDIR ?= $(if $(filter /usr/local,$(PREFIX)),/etc/fish/completions,$(PREFIX)/share/fish/vendor_completions.d)
 
 SOURCES := crates.txt $(shell find crates -name out -prune -o -type f -print)
 
