@@ -13,7 +13,7 @@ use luks_area::FileDevice;
 use luks_cache::CachedDevice;
 use luks_cli::{CountingPrinter, InputFault, Inputs, Line, Reason, execute, first_bytes};
 use luks_line::line;
-use luks_lock::{FOLDER, LockedDevice, OpenFault, is_same_file, open_locked};
+use luks_lock::{FOLDER, LazyFile, LockedDevice, OpenFault, is_same_file, open_locked};
 use std::fs::File;
 use std::io::{ErrorKind, Write};
 use std::process::ExitCode;
@@ -22,6 +22,9 @@ use std::{env, io};
 
 /// The volume of a command line: its file, measured under its lock, and its first bytes remembered.
 type Volume = CachedDevice<LockedDevice<FileDevice<File>>>;
+
+/// The most bytes that a passphrase has; of a longer one `first_bytes` reads one more.
+const LONGEST_PASSPHRASE: usize = 65536;
 
 /// The exit status after a command line that can't be read.
 const USAGE: u8 = 2;
@@ -80,19 +83,14 @@ fn run_line<R: AllocGlobal + Clock + Files<File = File> + Print + Eprint>(
     rt: &R,
     line: &Line<'_>,
 ) -> io::Result<u8> {
-    let old = passphrase(rt, line.passphrase());
-    let new = passphrase(rt, line.new_passphrase());
-    let Opened {
-        volume,
-        target,
-        random,
-    } = open_files(rt, line);
+    let passphrases = Passphrases::read(rt, line);
+    let Volumes { volume, target } = open_volumes(rt, line, &passphrases);
     let mut inputs = Inputs {
         volume,
         target,
-        passphrase: reader(&old),
-        new_passphrase: reader(&new),
-        random,
+        passphrase: reader(&passphrases.old),
+        new_passphrase: reader(&passphrases.new),
+        random: random(rt, line),
     };
     let mut out = CountingPrinter::new(Vec::new(rt.alloc()));
     let mut err = Vec::new(rt.alloc());
@@ -117,7 +115,43 @@ fn explain<R: Eprint>(rt: &R, lines: &[u8]) {
     }
 }
 
-/// What the file of this name has of a passphrase, read before the volume is opened.
+/// What was read of the passphrases' files, before the volume is opened.
+#[derive(Drop)]
+struct Passphrases {
+    old: Result<Vec<u8>, InputFault>,
+    new: Result<Vec<u8>, InputFault>,
+}
+
+impl Passphrases {
+    /// Reads the file of the passphrase, and then that of the new one. Where the first ends the
+    /// command, the second isn't opened.
+    fn read<R: AllocGlobal + Files<File = File>>(rt: &R, line: &Line<'_>) -> Self {
+        let old = passphrase(rt, line.passphrase());
+        let new = if ends_command(&old) {
+            Err(InputFault::Absent)
+        } else {
+            passphrase(rt, line.new_passphrase())
+        };
+        Passphrases { old, new }
+    }
+
+    /// Whether one of them ends the command, so that no volume is opened.
+    fn end_command(&self) -> bool {
+        ends_command(&self.old) || ends_command(&self.new)
+    }
+}
+
+/// Whether the command ends by what was read: a passphrase that its file doesn't give, or that is too
+/// long. One that the command line doesn't name ends nothing.
+fn ends_command(read: &Result<Vec<u8>, InputFault>) -> bool {
+    match read {
+        Ok(bytes) => bytes.len() > LONGEST_PASSPHRASE,
+        Err(InputFault::Absent) => false,
+        Err(InputFault::Unreadable(_) | InputFault::NoMemory) => true,
+    }
+}
+
+/// What the file of this name has of a passphrase.
 fn passphrase<R: AllocGlobal + Files<File = File>>(
     rt: &R,
     name: Option<&str>,
@@ -137,39 +171,67 @@ fn reader(read: &Result<Vec<u8>, InputFault>) -> Result<&[u8], InputFault> {
     }
 }
 
-/// What is opened before a command runs.
-struct Opened {
-    volume: Result<Volume, InputFault>,
-    target: Result<Volume, InputFault>,
-    random: Result<File, InputFault>,
+/// The file of the random bytes, of any kind, where the command line names one. The command reads it
+/// last, and opens it then.
+fn random<'a, R: Files<File = File>>(
+    rt: &'a R,
+    line: &Line<'a>,
+) -> Result<LazyFile<'a, R>, InputFault> {
+    match line.random() {
+        Some(path) => Ok(LazyFile::new(rt, path)),
+        None => Err(InputFault::Absent),
+    }
 }
 
-/// Opens the volume, the target where the command writes beside it, and the file of the random bytes.
-/// Where the target is the volume itself, by whichever names, nothing is opened.
-fn open_files<R: AllocGlobal + Clock + Files<File = File> + Eprint>(
+/// The volumes of a command line.
+struct Volumes {
+    volume: Result<Volume, InputFault>,
+    target: Result<Volume, InputFault>,
+}
+
+impl Volumes {
+    /// Neither of them, for this reason on the target's side.
+    fn unopened(target: InputFault) -> Self
+        ensures volume { IfOk result.volume (λ device. cached_failures device ≡ 0) }
+        ensures target { IfOk result.target (λ device. cached_failures device ≡ 0) }
+    {
+        Volumes {
+            volume: Err(InputFault::Absent),
+            target: Err(target),
+        }
+    }
+}
+
+/// Opens the volume, and then the target where the command writes beside it; neither where a
+/// passphrase ends the command, and no target where the volume can't be opened. Where the target is
+/// the volume itself, by whichever names, nothing is opened.
+fn open_volumes<R: AllocGlobal + Clock + Files<File = File> + Eprint>(
     rt: &R,
     line: &Line<'_>,
-) -> Opened
+    passphrases: &Passphrases,
+) -> Volumes
     ensures volume { IfOk result.volume (λ device. cached_failures device ≡ 0) }
     ensures target { IfOk result.target (λ device. cached_failures device ≡ 0) }
 {
-    match line.target() {
-        Some(target) if is_same_file(rt, line.volume, target) => Opened {
-            volume: Err(InputFault::Absent),
-            target: Err(InputFault::Unreadable(Reason::SameFile)),
-            random: Err(InputFault::Absent),
-        },
-        Some(target) => Opened {
-            volume: open_volume(rt, line.volume, line.writes()),
-            target: open_volume(rt, target, true),
-            random: open_random(rt, line),
-        },
-        None => Opened {
+    if passphrases.end_command() {
+        return Volumes::unopened(InputFault::Absent);
+    }
+    let Some(path) = line.target() else {
+        return Volumes {
             volume: open_volume(rt, line.volume, line.writes()),
             target: Err(InputFault::Absent),
-            random: open_random(rt, line),
-        },
+        };
+    };
+    if is_same_file(rt, line.volume, path) {
+        return Volumes::unopened(InputFault::Unreadable(Reason::SameFile));
     }
+    let volume = open_volume(rt, line.volume, line.writes());
+    let target = if volume.is_ok() {
+        open_volume(rt, path, true)
+    } else {
+        Err(InputFault::Absent)
+    };
+    Volumes { volume, target }
 }
 
 /// The volume of this name, opened for reading, or for writing too, under its lock; what of the lock
@@ -201,14 +263,6 @@ fn has_changed(volume: &Result<Volume, InputFault>) -> bool {
         Ok(device) => device.has_changed(),
         Err(_) => false,
     }
-}
-
-/// The file of the random bytes, of any kind, where the command line names one.
-fn open_random<R: Files<File = File>>(rt: &R, line: &Line<'_>) -> Result<File, InputFault> {
-    let Some(path) = line.random() else {
-        return Err(InputFault::Absent);
-    };
-    Ok(File::open(rt, path)?)
 }
 
 fn device_fault<R: Print>(rt: &R) -> io::Result<u8> {

@@ -1,3 +1,4 @@
+pub mod Lazy
 pub mod Locked
 pub mod Node
 pub mod Notices

@@ -1,0 +1,7 @@
+-- A file that is opened when it is first read.
+use Rattle.std.specs.Prelude.{Option}
+use Rattle.luks_lock.specs.declared.lazy.LazyFile.{LazyFile}
+
+-- what is open of it
+abbrev pub opened_file : {R F A : Type 0} → LazyFile R F A → Option F
+opened_file lazy = lazy.file
