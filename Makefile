@@ -2,8 +2,8 @@
 #
 #   demo      prove, build and run the main job: luks check on the sample image; prints 'accepted luks1 areas 10'
 #   build     prove and build the program, and leave it at bin/luks
-#   test      the merge gate: every proof from nothing, the edits that must fail, each test, each program
-#   test-times  the same, and what it took: processor time by crate for its proof, its tests and its edits
+#   test      the merge gate: every proof from nothing, the edits that must fail, each test, each program; and what it took:
+#             processor time by crate for its proof, its tests and its edits
 #   quick     between gates: proofs and tests of the crates that changed since BASE (the last commit) and of what stands on them
 #   plants    between gates: the edits that must fail of CRATE (of all), planted at once, each refused at its own function
 #   install   put the program into PREFIX/bin, its manual page into MANDIR, its completions into BASHCOMPDIR, ZSHCOMPDIR and FISHCOMPDIR
@@ -17,7 +17,7 @@
 #   clean     what the others made
 #   help      this list
 #
-# The first target that needs the program proves everything first, which takes some 12 minutes on 4 processors.
+# The first target that needs the program proves everything first, which takes 25 to 40 minutes on 4 processors.
 # Rattle's command rt proves and builds; it writes its progress on standard error, and `rt run` ends with the program's own status.
 
 RT ?= rt
@@ -30,7 +30,7 @@ FISHCOMPDIR ?= $(if $(filter /usr/local,$(PREFIX)),/etc/fish/completions,$(PREFI
 
 SOURCES := crates.txt $(shell find crates -name out -prune -o -type f -print)
 
-.PHONY: help demo build test test-times quick plants install uninstall dist deb bench interop clean toolchain
+.PHONY: help demo build test quick plants install uninstall dist deb bench interop clean toolchain
 
 help:
 	@sed -n '/^#/!q; s/^#$$//p; s/^# //p' $(firstword $(MAKEFILE_LIST))
@@ -53,9 +53,6 @@ bin/luks: $(SOURCES)
 	@$(MAKE) --no-print-directory build
 
 test: toolchain
-	@RT="$(RT)" tools/gate
-
-test-times: toolchain
 	@RT="$(RT)" tools/times
 
 quick: toolchain

@@ -4,15 +4,17 @@ _luks() {
     # each command with its options
     local -A options=(
         [check]="--detached --help"
-        [show]="--help"
-        [open]="--passphrase --slot --help"
-        [add]="--slot --passphrase --new --random --to --iterations --detached --help"
-        [change]="--slot --passphrase --new --random --iterations --detached --help"
-        [remove]="--slot --passphrase --random --detached --help"
+        [show]="--json --help"
+        [open]="--passphrase --slot --memory --help"
+        [add]="--slot --passphrase --new --random --to --iterations --memory --detached --help"
+        [change]="--slot --passphrase --new --random --iterations --memory --detached --help"
+        [remove]="--slot --passphrase --random --memory --detached --help"
         [repair]="--random --detached --help"
         [label]="--random --detached --help"
         [format]="--passphrase --random --version --hash --iterations --detached --help"
         [convert]="--random --detached --help"
+        [rebuild]="--random --second --uuid --help"
+        [explain]="--help"
         [help]="--help"
     )
     local word=${COMP_WORDS[COMP_CWORD]} before=${COMP_WORDS[COMP_CWORD - 1]} words=
@@ -24,7 +26,7 @@ _luks() {
     fi
     # these take no file
     case $before in
-        --slot | --to | --version | --hash | --iterations) compopt +o default 2>/dev/null ;;
+        --slot | --to | --version | --hash | --iterations | --uuid) compopt +o default 2>/dev/null ;;
     esac
     if ((COMP_CWORD == 1)); then
         words="${!options[*]} --help --version"
@@ -38,6 +40,10 @@ _luks() {
         words="sha1 sha256 sha512"
     elif [[ $word == -* ]]; then
         words=${options[${COMP_WORDS[1]}]}
+    elif [[ ${COMP_WORDS[1]} == explain ]]; then
+        # the program lists its faults, each at the beginning of a line; no file is named
+        compopt +o default 2>/dev/null
+        words=$("${COMP_WORDS[0]}" explain 2>/dev/null | cut -d' ' -f1)
     fi
     # where nothing is offered, -o default names files
     mapfile -t COMPREPLY < <(compgen -W "$words" -- "$word")

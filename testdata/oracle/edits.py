@@ -1,13 +1,13 @@
 """Edits of a volume in Python: the first refusal, or the volume that is left, byte for byte, of the old one and the random bytes.
 
-An edit is a list of writes, each followed by a flush, so that what a failing call leaves can be told too (`left`).
+An edit's `memory` is how many KiB Argon2 may take. An edit is a list of writes, each followed by a flush, so that what a failing call leaves can be told too (`left`).
 """
 from dataclasses import dataclass, replace
 
 import images
 import makers
 import reader
-from equations import pbkdf2, sealed_area
+from equations import argon2, pbkdf2, sealed_area
 from formatting import Drawn
 from images import DISABLED, ENABLED, Entry
 from reader import Fault
@@ -22,6 +22,7 @@ class Add:
     new: bytes
     to: int = None
     iterations: int = 1000
+    memory: int = 0
 
 
 @dataclass(frozen=True)
@@ -30,12 +31,14 @@ class Change:
     old: bytes
     new: bytes
     iterations: int = 1000
+    memory: int = 0
 
 
 @dataclass(frozen=True)
 class Remove:
     slot: int
     passphrase: bytes
+    memory: int = 0
 
 
 @dataclass(frozen=True)
@@ -67,7 +70,7 @@ class Volume1:
         self.entries = [Entry(*fields) for fields in self.d["slots"]]
         self.used = [n for n in range(8) if self.entries[n].active == ENABLED]
 
-    def plan(self, n):
+    def plan(self, n, memory):
         return reader.plan1(self.volume, self.d, n)
 
     def takes_a_free_slot(self, edit):
@@ -123,8 +126,8 @@ class Volume2:
         self.value = reader.metadata(self.copy)
         self.used = sorted(map(int, self.value["keyslots"]))
 
-    def plan(self, n):
-        return reader.plan2(self.volume, self.value, n)
+    def plan(self, n, memory):
+        return reader.plan2(self.volume, self.value, n, memory)
 
     def keyslot(self, n):
         return self.value["keyslots"][str(n)]
@@ -199,13 +202,18 @@ class Volume2:
         salt = drawn.take(32) if isinstance(edit, (Add, Change)) else None
         if salt:
             old = self.keyslot(opened_by(edit)[0])
-            slot_key = pbkdf2(old["kdf"]["hash"], edit.new, salt, edit.iterations, old["area"]["key_size"])
+            slot_key = derived(old["kdf"], edit, salt, old["area"]["key_size"])
             areas.append((self.gap(edit), sealed_area(old["af"]["hash"], slot_key, key, drawn.rest())))
         wiped = []
         if isinstance(edit, (Change, Remove)):
             start, length = reader.slot_area2(self.keyslot(edit.slot))
             wiped.append((start, bytes(length)))
         return areas + self.copies(edit, self.made(edit, salt), salts) + wiped
+
+
+def derived(kdf, edit, salt, length):
+    """The key that the new passphrase gives: derived as the keyslot that opened is."""
+    return pbkdf2(kdf["hash"], edit.new, salt, edit.iterations, length) if kdf["type"] == "pbkdf2" else argon2(kdf, edit.new, salt, length)
 
 
 def accepted(volume, detached):
@@ -232,7 +240,7 @@ def key_of(v, edit):
     if opened_by(edit) is None:
         return None
     slot, passphrase = opened_by(edit)
-    key = reader.opened(v.plan(slot), passphrase)
+    key = reader.opened(v.plan(slot, edit.memory), passphrase)
     if key is None:
         raise Fault("Locked")
     return key

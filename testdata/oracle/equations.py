@@ -2,6 +2,8 @@
 import hashlib
 import struct
 
+import argon2_keys
+
 try:
     from cryptography.hazmat.primitives.ciphers import Cipher, algorithms, modes
 except ImportError:
@@ -15,6 +17,12 @@ HASHES = ("sha1", "sha256", "sha512")
 
 def pbkdf2(hash_name, passphrase, salt, iterations, length):
     return hashlib.pbkdf2_hmac(hash_name, passphrase, salt, iterations, length) if length else b""
+
+
+def argon2(kdf, passphrase, salt, length):
+    """The key that libargon2 derives by the costs of such a keyslot."""
+    variant = {"argon2i": 1, "argon2id": 2}[kdf["type"]]
+    return argon2_keys.library(variant, kdf["cpus"], kdf["memory"], kdf["time"], passphrase, salt, length)
 
 
 def xor(a, b):

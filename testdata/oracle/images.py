@@ -134,6 +134,15 @@ def counting(length):
     return bytes(i % 256 for i in range(length))
 
 
+def example():
+    """LUKS1 of one stripe a keyslot, whose keyslot 0 opens by the passphrase `secret`."""
+    key = counting(64)
+    head = Luks1(payload_offset=16, digest_salt=bytes([0x22] * 32), slots=[Entry(offset=8 + n, stripes=1) for n in range(8)])
+    head.digest = pbkdf2("sha256", key, head.digest_salt, head.digest_iterations, 20)
+    head.slots[0] = Entry(ENABLED, 1000, bytes([0x11] * 32), 8, 1)
+    return volume(17 * 512, (0, head.header()), (8 * 512, head.seal(0, b"secret", key, b"")))
+
+
 def opening1(hash_name="sha256", key_bytes=64, passphrase=b"one"):
     """LUKS1, slot 0 opens: its header, its key area and the volume."""
     head = Luks1(hash_spec=hash_name.encode(), key_bytes=key_bytes, digest_salt=b"\x22" * 32)

@@ -29,6 +29,12 @@ def area_size(slot):
     return images.round_up(slot["key_size"] * slot["af"]["stripes"], 4096)
 
 
+def derived_like(kdf, iterations, salt):
+    """The same derivation with a new salt: by so many iterations where it is PBKDF2, at the same costs where it is Argon2."""
+    costs = {"hash": kdf["hash"], "iterations": iterations} if kdf["type"] == "pbkdf2" else {name: kdf[name] for name in ("time", "memory", "cpus")}
+    return {"type": kdf["type"], "salt": images.b64(salt), **costs}
+
+
 def with_slot(value, to, by, iterations, salt, offset, size):
     """With a new keyslot `to` that holds the key of keyslot `by`, after the manner of `by`."""
     value = copy.deepcopy(value)
@@ -38,17 +44,17 @@ def with_slot(value, to, by, iterations, salt, offset, size):
         "key_size": old["key_size"],
         "af": {"type": "luks1", "stripes": old["af"]["stripes"], "hash": old["af"]["hash"]},
         "area": {"type": "raw", "offset": str(offset), "size": str(size), "encryption": old["area"]["encryption"], "key_size": old["area"]["key_size"]},
-        "kdf": {"type": "pbkdf2", "hash": old["kdf"]["hash"], "iterations": iterations, "salt": images.b64(salt)},
+        "kdf": derived_like(old["kdf"], iterations, salt),
     }
     digest_of(value, by)["keyslots"].append(str(to))
     return value
 
 
 def changed_slot(value, n, iterations, salt, offset, size):
-    """With four members of keyslot n renewed."""
+    """With the salt and area of keyslot n renewed, and its iterations where its kdf has such a member, as PBKDF2 has."""
     value = copy.deepcopy(value)
     slot = value["keyslots"][str(n)]
-    slot["kdf"].update(iterations=iterations, salt=images.b64(salt))
+    slot["kdf"].update(salt=images.b64(salt), **({"iterations": iterations} if "iterations" in slot["kdf"] else {}))
     slot["area"].update(offset=str(offset), size=str(size))
     return value
 

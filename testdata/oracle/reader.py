@@ -5,7 +5,7 @@ import json
 import re
 import struct
 
-from equations import HASHES, opened_area, pbkdf2, round_up
+from equations import HASHES, argon2, opened_area, pbkdf2, round_up
 
 FIRST_MAGIC, SECOND_MAGIC = b"LUKS\xba\xbe", b"SKUL\xba\xbe"
 ENABLED, DISABLED = 0x00AC71F3, 0x0000DEAD
@@ -44,7 +44,7 @@ def sound(volume, at):
     """The fields of the copy at `at`, or none."""
     if len(volume) < at + 4096:
         return None
-    magic, version, size, seqid, label, algorithm, _, uuid, _, offset = struct.unpack(">6sHQQ48s32s64s40s48sQ", volume[at:at + 264])
+    magic, version, size, seqid, label, algorithm, _, uuid, subsystem, offset = struct.unpack(">6sHQQ48s32s64s40s48sQ", volume[at:at + 264])
     if magic != (FIRST_MAGIC if at == 0 else SECOND_MAGIC) or version != 2 or size not in SIZES or (at != 0 and size != at):
         return None
     if offset != at or at + size > len(volume) or text_field(algorithm) != b"sha256":
@@ -52,7 +52,7 @@ def sound(volume, at):
     whole = volume[at:at + size]
     if hashlib.sha256(whole[:448] + bytes(64) + whole[512:]).digest() != whole[448:480]:
         return None
-    return {"at": at, "size": size, "seqid": seqid, "label": text_field(label), "uuid": uuid, "json": whole[4096:]}
+    return {"at": at, "size": size, "seqid": seqid, "label": text_field(label), "subsystem": text_field(subsystem), "uuid": uuid, "json": whole[4096:]}
 
 
 def select(volume):
@@ -396,6 +396,77 @@ def shown(volume):
     return 0, "\n".join(lines) + "\n"
 
 
+def show_json(volume):
+    """Like `show`; the text is the object's, with its members by name."""
+    return answer(lambda: (0, json.dumps(shown_json(volume), ensure_ascii=False, separators=(",", ":"), sort_keys=True) + "\n"))
+
+
+def shown_json(volume):
+    chosen = select(volume)
+    if chosen == 1:
+        d = common1(volume, range(8))
+        return {"version": 1, "uuid": d["uuid"].decode(), "cipher_name": d["cipher"].decode(), "cipher_mode": d["mode"].decode(), "hash": d["hash"].decode(),
+                "key_bytes": d["key_bytes"], "payload_offset": d["payload"] * 512,
+                "digest": {"iterations": d["iterations"], "salt": base64_text(d["salt"]), "value": base64_text(d["digest"])},
+                "keyslots": [json_slot1(d, n) for n in range(8)]}
+    copy, state = chosen
+    uuid = checked_uuid(copy["uuid"])
+    value = metadata(copy)
+    config = value["config"]
+    return {"version": 2, "uuid": uuid.decode(), "label": text_or_bytes(copy["label"]), "subsystem": text_or_bytes(copy["subsystem"]), "copies": state,
+            "seqid": copy["seqid"], "sizes": {"header": copy["size"], "json": int(config["json_size"]), "keyslots": int(config["keyslots_size"])},
+            "flags": config.get("flags"), "requirements": config.get("requirements"), "keyslots": [json_slot2(value, n, it) for n, it in by_number(value["keyslots"])],
+            "tokens": [{"number": n, "type": it["type"], "keyslots": numbers(it["keyslots"])} for n, it in by_number(value["tokens"])],
+            "segments": [json_segment(n, it) for n, it in by_number(value["segments"])],
+            "digests": [{"number": n, "type": it["type"], "hash": it["hash"], "iterations": it["iterations"], "salt": it["salt"], "value": it["digest"],
+                         "keyslots": numbers(it["keyslots"]), "segments": numbers(it["segments"])} for n, it in by_number(value["digests"])],
+            "metadata": value}
+
+
+def base64_text(data):
+    return base64.b64encode(data).decode()
+
+
+def text_or_bytes(data):
+    try:
+        return data.decode()
+    except UnicodeDecodeError:
+        return list(data)
+
+
+def numbers(names):
+    return [int(name) for name in names]
+
+
+def json_slot1(d, n):
+    active, iterations, salt, _, stripes = d["slots"][n]
+    offset, size = slot_area1(d, n)
+    cipher, hash_name = (d["cipher"] + b"-" + d["mode"]).decode(), d["hash"].decode()
+    slot = {"number": n, "state": "enabled" if active == ENABLED else "disabled", "splitter": {"hash": hash_name, "stripes": stripes},
+            "area": {"offset": offset, "size": size, "cipher": cipher, "key_bytes": d["key_bytes"]}}
+    if active == ENABLED:
+        slot |= {"key_bytes": d["key_bytes"], "kdf": {"type": "pbkdf2", "hash": hash_name, "iterations": iterations, "salt": base64_text(salt)}}
+    return slot
+
+
+def json_slot2(value, n, slot):
+    area, kdf = slot["area"], slot["kdf"]
+    costs = ("hash", "iterations") if kdf["type"] == "pbkdf2" else ("time", "memory", "cpus")
+    return {"number": n, "state": "enabled", "priority": slot.get("priority", 1), "key_bytes": slot["key_size"],
+            "kdf": {name: kdf[name] for name in ("type", "salt", *costs)},
+            "area": {"offset": int(area["offset"]), "size": int(area["size"]), "cipher": area["encryption"], "key_bytes": area["key_size"]},
+            "splitter": {"hash": slot["af"]["hash"], "stripes": slot["af"]["stripes"]},
+            "digest": next(int(name) for name, it in value["digests"].items() if str(n) in it["keyslots"])}
+
+
+def json_segment(n, it):
+    size = it["size"] if it["size"] == "dynamic" else int(it["size"])
+    shown = {"number": n, "type": it["type"], "offset": int(it["offset"]), "size": size}
+    if it["type"] == "crypt":
+        shown |= {"cipher": it["encryption"], "sector_size": it["sector_size"], "iv_tweak": int(it["iv_tweak"])}
+    return shown
+
+
 # --- opening
 
 def plan1(volume, d, n):
@@ -413,14 +484,24 @@ def plan1(volume, d, n):
                  [name.decode() for name in (d["hash"],) * 3], (salt, iterations), (d["salt"], d["iterations"], d["digest"]))
 
 
-def plan2(volume, value, n):
+def plan2(volume, value, n, memory=0):
+    """The same of keyslot n of LUKS2, where Argon2 may take so many KiB."""
     slot = value["keyslots"][str(n)]
     digest = next(it for it in value["digests"].values() if str(n) in it["keyslots"])
     kdf = slot["kdf"]
-    derivation = (base64.b64decode(kdf["salt"]), kdf["iterations"]) if kdf["type"] == "pbkdf2" else None
-    hashes = [kdf.get("hash"), slot["af"]["hash"], digest["hash"]]
+    hashes = [kdf["hash"] if kdf["type"] == "pbkdf2" else digest["hash"], slot["af"]["hash"], digest["hash"]]
+    derivation = derivation2(kdf, memory)
     return known(volume, slot_area2(slot), slot["area"]["encryption"].encode(), slot["area"]["key_size"], slot["key_size"], slot["af"]["stripes"], hashes,
                  derivation, (base64.b64decode(digest["salt"]), digest["iterations"], base64.b64decode(digest["digest"])))
+
+
+def derivation2(kdf, memory):
+    """How the area's key is derived; none by Argon2 whose costs aren't allowed, or aren't such as RFC 9106 has."""
+    salt = base64.b64decode(kdf["salt"])
+    if kdf["type"] == "pbkdf2":
+        return salt, kdf["iterations"]
+    lanes = kdf["cpus"]
+    return (salt, kdf) if 8 * lanes <= kdf["memory"] <= memory and lanes < 1 << 24 and len(salt) >= 8 else None
 
 
 def known(volume, area, cipher, cipher_key, length, stripes, hashes, derivation, digest):
@@ -439,21 +520,21 @@ def known(volume, area, cipher, cipher_key, length, stripes, hashes, derivation,
 
 def opened(plan, passphrase):
     """The key, or none."""
-    area, cipher_key, length, stripes, hashes, (salt, iterations), (digest_salt, digest_iterations, digest) = plan
-    slot_key = pbkdf2(hashes[0], passphrase, salt, iterations, cipher_key)
+    area, cipher_key, length, stripes, hashes, (salt, cost), (digest_salt, digest_iterations, digest) = plan
+    slot_key = argon2(cost, passphrase, salt, cipher_key) if isinstance(cost, dict) else pbkdf2(hashes[0], passphrase, salt, cost, cipher_key)
     key = opened_area(hashes[1], slot_key, area, length, stripes)
     return key if pbkdf2(hashes[2], key, digest_salt, digest_iterations, len(digest)) == digest else None
 
 
-def open_volume(volume, passphrase, slot=None):
-    """(status, line) and the key where one was found."""
+def open_volume(volume, passphrase, slot=None, memory=0):
+    """(status, line) and the key where one was found; Argon2 may take so many KiB."""
     try:
-        return open_found(volume, passphrase, slot)
+        return open_found(volume, passphrase, slot, memory)
     except Fault as fault:
         return 1, f"refused {fault}\n", None
 
 
-def open_found(volume, passphrase, slot):
+def open_found(volume, passphrase, slot, memory):
     chosen = select(volume)
     if chosen == 1:
         d = common1(volume)
@@ -462,7 +543,7 @@ def open_found(volume, passphrase, slot):
     else:
         checked_uuid(chosen[0]["uuid"])
         value = metadata(chosen[0])
-        plan, exists = (lambda n: plan2(volume, value, n)), (lambda n: str(n) in value["keyslots"])
+        plan, exists = (lambda n: plan2(volume, value, n, memory)), (lambda n: str(n) in value["keyslots"])
         numbered = [(it.get("priority", 1), n) for n, it in by_number(value["keyslots"])]
         order = [n for wanted in (2, 1) for priority, n in numbered if priority == wanted]
     if slot is not None:

@@ -11,9 +11,15 @@ ghost use Rattle.luks_cache.specs.Cached.{cached_failures};
 use clap::error::ErrorKind as FaultKind;
 use luks_area::FileDevice;
 use luks_cache::CachedDevice;
-use luks_cli::{CountingPrinter, InputFault, Inputs, Line, Reason, execute, first_bytes};
-use luks_line::line;
+use luks_cli::{
+    Command, CountingPrinter, InputFault, Inputs, Line, NewVersion, Reason, execute, first_bytes,
+};
+use luks_explain::Fault;
+use luks_leftovers::{note_leftovers, read_front};
+use luks_line::{Asked, parse};
 use luks_lock::{FOLDER, LazyFile, LockedDevice, OpenFault, is_same_file, open_locked};
+use luks_metadata_notes::{note_taken, note_whole};
+use luks_rebuilding::Which;
 use std::fs::File;
 use std::io::{ErrorKind, Write};
 use std::process::ExitCode;
@@ -37,7 +43,7 @@ fn main(rt: HostRuntime) -> ExitCode {
 }
 
 /// Reads the command line and runs it. An error is that of the output.
-fn run<R: AllocGlobal + Clock + Env + Files<File = File> + Print + Eprint>(
+fn run<R: AllocGlobal + Clock + Env + Files<File = File> + Input + Print + Eprint>(
     rt: &R,
 ) -> io::Result<u8> {
     let Ok(_held) = hold_standard_numbers(rt) else {
@@ -54,8 +60,10 @@ fn run<R: AllocGlobal + Clock + Env + Files<File = File> + Print + Eprint>(
     };
     let args: Vec<String> = args.collect(rt.alloc())?;
     let words: Vec<&str> = args.iter().map(|word| word.as_str()).collect(rt.alloc())?;
-    match line(rt.alloc(), words.as_slice()) {
-        Ok(line) => run_line(rt, &line),
+    match parse(rt.alloc(), words.as_slice()) {
+        Ok(Asked::Volume(line)) => run_line(rt, &line),
+        Ok(Asked::Explain(Some(fault))) => explain(rt, fault),
+        Ok(Asked::Explain(None)) => list_faults(rt),
         Err(fault) if fault.kind() == FaultKind::OutOfMemory => no_memory(rt),
         Err(fault) if fault.use_stderr() => {
             let _ = fault.print(rt);
@@ -79,7 +87,7 @@ fn hold_standard_numbers<R: Files<File = File>>(rt: &R) -> io::Result<[File; 3]>
     ])
 }
 
-fn run_line<R: AllocGlobal + Clock + Files<File = File> + Print + Eprint>(
+fn run_line<R: AllocGlobal + Clock + Files<File = File> + Input + Print + Eprint>(
     rt: &R,
     line: &Line<'_>,
 ) -> io::Result<u8> {
@@ -102,14 +110,100 @@ fn run_line<R: AllocGlobal + Clock + Files<File = File> + Print + Eprint>(
             "luks: {volume}: another program wrote it meanwhile, nothing was written"
         );
     } else {
-        explain(rt, err.as_slice());
+        tell(rt, err.as_slice());
     }
+    drop(inputs);
+    tell_more(rt, line, status);
     printed?;
     Ok(status)
 }
 
+/// Says what the command itself doesn't look for: what formatting has left on the volume, where the
+/// metadata of a volume is whole of which no header counts, and of which metadata a header was made.
+fn tell_more<R: AllocGlobal + Clock + Files<File = File> + Eprint>(
+    rt: &R,
+    line: &Line<'_>,
+    status: u8,
+) {
+    match (line.command, status) {
+        (Command::Format(making), 0) => tell_leftovers(rt, line.volume, making.version),
+        (Command::Check { data_: _ } | Command::Show(_), 1) => tell_whole(rt, line.volume),
+        (Command::Rebuild(rebuilding), 0) => tell_taken(rt, line.volume, rebuilding.second),
+        _ => {}
+    }
+}
+
+/// Says in which copy the metadata of a volume is whole of which no header counts. Where the volume
+/// can't be read any more, it says nothing.
+fn tell_whole<R: AllocGlobal + Clock + Files<File = File> + Eprint>(rt: &R, volume: &str) {
+    let Ok(device) = open_locked(rt, volume, false, FOLDER) else {
+        return;
+    };
+    let mut err = Vec::new(rt.alloc());
+    note_whole(rt.alloc(), &mut CachedDevice::new(device), &mut err);
+    tell(rt, err.as_slice());
+}
+
+/// Says of which metadata of the volume a header was made, that of second copies alone or of any.
+/// Where the volume can't be read any more, it says nothing.
+fn tell_taken<R: AllocGlobal + Clock + Files<File = File> + Eprint>(
+    rt: &R,
+    volume: &str,
+    second: bool,
+) {
+    let Ok(device) = open_locked(rt, volume, false, FOLDER) else {
+        return;
+    };
+    let which = if second { Which::Second } else { Which::Any };
+    let mut err = Vec::new(rt.alloc());
+    note_taken(rt.alloc(), &mut CachedDevice::new(device), which, &mut err);
+    tell(rt, err.as_slice());
+}
+
+/// Says what formatting has left of what stood on the volume before. Where the volume can't be read
+/// any more, or memory is refused, it says nothing.
+fn tell_leftovers<R: AllocGlobal + Clock + Files<File = File> + Eprint>(
+    rt: &R,
+    volume: &str,
+    version: NewVersion,
+) {
+    let own = match version {
+        NewVersion::Luks1 => 592,
+        NewVersion::Luks2 => 32768,
+    };
+    let Ok(device) = open_locked(rt, volume, false, FOLDER) else {
+        return;
+    };
+    let mut device = CachedDevice::new(device);
+    let mut err = Vec::new(rt.alloc());
+    if let Ok(front) = read_front(rt.alloc(), &mut device) {
+        let _ = note_leftovers(rt.alloc(), &front, own, volume, &mut err);
+    }
+    tell(rt, err.as_slice());
+}
+
+/// Prints what is said of a fault; that no fault has the name is a mistake in the words.
+fn explain<R: Print + Eprint>(rt: &R, fault: &str) -> io::Result<u8> {
+    let Some(found) = Fault::find(fault) else {
+        let _ = eprintln!(rt; "luks: no fault has the name {fault}: luks explain lists them");
+        return Ok(USAGE);
+    };
+    let explanation = found.explanation();
+    println!(rt; "{explanation}")?;
+    Ok(0)
+}
+
+/// Prints a line for each fault.
+fn list_faults<R: Print>(rt: &R) -> io::Result<u8> {
+    for fault in Fault::ALL.iter() {
+        let explanation = fault.explanation();
+        println!(rt; "{:<12}  {}", explanation.name, explanation.means)?;
+    }
+    Ok(0)
+}
+
 /// Writes these lines to standard error, where that can be written.
-fn explain<R: Eprint>(rt: &R, lines: &[u8]) {
+fn tell<R: Eprint>(rt: &R, lines: &[u8]) {
     if let Ok(text) = str::from_utf8(lines) {
         let _ = eprint!(rt; "{text}");
     }
@@ -125,7 +219,7 @@ struct Passphrases {
 impl Passphrases {
     /// Reads the file of the passphrase, and then that of the new one. Where the first ends the
     /// command, the second isn't opened.
-    fn read<R: AllocGlobal + Files<File = File>>(rt: &R, line: &Line<'_>) -> Self {
+    fn read<R: AllocGlobal + Files<File = File> + Input>(rt: &R, line: &Line<'_>) -> Self {
         let old = passphrase(rt, line.passphrase());
         let new = if ends_command(&old) {
             Err(InputFault::Absent)
@@ -151,14 +245,17 @@ fn ends_command(read: &Result<Vec<u8>, InputFault>) -> bool {
     }
 }
 
-/// What the file of this name has of a passphrase.
-fn passphrase<R: AllocGlobal + Files<File = File>>(
+/// What the file of this name has of a passphrase; `-` is standard input.
+fn passphrase<R: AllocGlobal + Files<File = File> + Input>(
     rt: &R,
     name: Option<&str>,
 ) -> Result<Vec<u8>, InputFault> {
     let Some(path) = name else {
         return Err(InputFault::Absent);
     };
+    if path == "-" {
+        return first_bytes(rt.alloc(), &mut rt.reader());
+    }
     let mut file = File::open(rt, path)?;
     first_bytes(rt.alloc(), &mut file)
 }

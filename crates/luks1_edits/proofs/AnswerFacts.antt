@@ -19,7 +19,7 @@ use Rattle.luks_slot.specs.Opening.{slot_key}
 use Rattle.luks_head.proofs.ChoiceFacts.{choices_agree}
 use Rattle.luks_reading.specs.declared.open_fault.OpenFault.{OpenFault}
 use Rattle.luks_reading.specs.declared.open_fault.OpenFault.TheVariants.{Head, Meta, NoSuchSlot, SlotFree, Outside, Slot, Device, Memory}
-use Rattle.luks_reading.specs.Answer.{Answer, IsLuks1HeadRefusal, IsLuks1Refusal, IsRefusal, IsRefusalAs, HasPlanAs, Opened, refused, opens, no_key, Opens}
+use Rattle.luks_reading.specs.Answer.{AnswerWithin, IsLuks1HeadRefusal, IsLuks1Refusal, IsRefusalWithin, IsRefusalAsWithin, HasPlanAs, Opened, refused, opens, no_key, OpensWithin}
 use Rattle.luks_reading.specs.Plans.{HasLuks1Plan, IsLuks1Cipher, IsLuks1Derivation, IsLuks1Plan}
 use Rattle.luks1_edits.specs.Kept.{HasSameKeyslot}
 use Rattle.luks1_edits.specs.Places.{area_len, area_start}
@@ -45,7 +45,7 @@ same_front v w e = record { parts = λ o l within. sym (header_moves v w e o l w
 
 derivation_moves : (h g e : List ℕ) (d : Derivation) → SameFront h g → IsLuks1Derivation h e d → IsLuks1Derivation g e d
 derivation_moves h g e (Pbkdf2 hash iterations salt) same x = (x.0 ∙ text_moves h g same 72 32 (lit≤ tt), x.1, x.2)
-derivation_moves h g e Argon2 same x = absurd x
+derivation_moves h g e (Argon2 c) same x = absurd x
 
 cipher_moves : (h g : List ℕ) (c : AreaCipher) → SameFront h g → IsLuks1Cipher h c → IsLuks1Cipher g c
 cipher_moves h g (Apart name mode) same x = (x.0 ∙ text_moves h g same 8 32 (lit≤ tt), x.1 ∙ text_moves h g same 40 32 (lit≤ tt))
@@ -137,15 +137,15 @@ luks1_refusal_moves n v w f same x =
     subst (λ t. IsLuks1Refusal (part w 0 592) t n f) (sym same.length_same)
     (refusal_moves (part v 0 592) (part w 0 592) (length v) n f (same_front v w same.common) (common_moves v w same.common) (entries_same n v w same) x)
 
-is_refusal_moves : (n : ℕ) (v w : List ℕ) (f : OpenFault) → Chosen v luks1 → HasSameKeyslot n v w → IsRefusal v n f → IsRefusal w n f
-is_refusal_moves n v w f chosen same x = record {
+is_refusal_moves : (memory n : ℕ) (v w : List ℕ) (f : OpenFault) → Chosen v luks1 → HasSameKeyslot n v w → IsRefusalWithin memory v n f → IsRefusalWithin memory w n f
+is_refusal_moves memory n v w f chosen same x = record {
   choice = luks1;
   chosen = chosen_moves v w same.length_same same.common chosen;
-  fault = luks1_refusal_moves n v w f same (subst (λ c. IsRefusalAs v n c f) (choices_agree v x.choice luks1 x.chosen chosen) x.fault);
+  fault = luks1_refusal_moves n v w f same (subst (λ c. IsRefusalAsWithin memory v n c f) (choices_agree v x.choice luks1 x.chosen chosen) x.fault);
 }
 
-opens_moves : (n : ℕ) (v w p : List ℕ) (found : Option (List ℕ)) → Chosen v luks1 → HasSameKeyslot n v w → Opens v n p found → Opens w n p found
-opens_moves n v w p found chosen same x =
+opens_moves : (memory n : ℕ) (v w p : List ℕ) (found : Option (List ℕ)) → Chosen v luks1 → HasSameKeyslot n v w → OpensWithin memory v n p found → OpensWithin memory w n p found
+opens_moves memory n v w p found chosen same x =
     let one = choices_agree v x.choice luks1 x.chosen chosen in
     let there : HasLuks1Plan (part v 0 592) n x.plan = subst (λ c. HasPlanAs v n c x.plan) one x.is in
     let start : x.plan.area.start ≡ area_start v n = there.is.start ∙ start_is v n there.numbered in
@@ -158,20 +158,20 @@ opens_moves n v w p found chosen same x =
       chosen = chosen_moves v w same.length_same same.common chosen;
       plan = x.plan;
       is = has_plan_moves (part v 0 592) (part w 0 592) n x.plan (same_front v w same.common) (entries_same n v w same) there;
-      unrefused = λ f y. x.unrefused f (subst (λ c. IsRefusalAs v n c f) (sym one) (luks1_refusal_moves n w v f (same_keyslot_back n v w same) y));
+      unrefused = λ f y. x.unrefused f (subst (λ c. IsRefusalAsWithin memory v n c f) (sym one) (luks1_refusal_moves n w v f (same_keyslot_back n v w same) y));
       key = ap (λ b. slot_key x.plan b p) bytes ∙ x.key;
     }
 
 -- the answer depends on these bytes alone
-pub answer_moves : (n : ℕ) (v w p : List ℕ) (a : Opened) → Chosen v luks1 → HasSameKeyslot n v w → Answer v n p a → Answer w n p a
-answer_moves n v w p (refused f) chosen same x = (
-  is_refusal_moves n v w f chosen same x.0,
-  λ g y. x.1 g (is_refusal_moves n w v g (chosen_moves v w same.length_same same.common chosen) (same_keyslot_back n v w same) y),
+pub answer_moves : (memory n : ℕ) (v w p : List ℕ) (a : Opened) → Chosen v luks1 → HasSameKeyslot n v w → AnswerWithin memory v n p a → AnswerWithin memory w n p a
+answer_moves memory n v w p (refused f) chosen same x = (
+  is_refusal_moves memory n v w f chosen same x.0,
+  λ g y. x.1 g (is_refusal_moves memory n w v g (chosen_moves v w same.length_same same.common chosen) (same_keyslot_back n v w same) y),
 )
-answer_moves n v w p (opens k) chosen same x = opens_moves n v w p (Some k) chosen same x
-answer_moves n v w p no_key chosen same x = opens_moves n v w p None chosen same x
+answer_moves memory n v w p (opens k) chosen same x = opens_moves memory n v w p (Some k) chosen same x
+answer_moves memory n v w p no_key chosen same x = opens_moves memory n v w p None chosen same x
 
 -- and so it does the other way round
-pub answer_returns : (n : ℕ) (v w p : List ℕ) (a : Opened) → Chosen v luks1 → HasSameKeyslot n v w → Answer w n p a → Answer v n p a
-answer_returns n v w p a chosen same x =
-    answer_moves n w v p a (chosen_moves v w same.length_same same.common chosen) (same_keyslot_back n v w same) x
+pub answer_returns : (memory n : ℕ) (v w p : List ℕ) (a : Opened) → Chosen v luks1 → HasSameKeyslot n v w → AnswerWithin memory w n p a → AnswerWithin memory v n p a
+answer_returns memory n v w p a chosen same x =
+    answer_moves memory n w v p a (chosen_moves v w same.length_same same.common chosen) (same_keyslot_back n v w same) x

@@ -55,11 +55,11 @@ named_numbered v payload (Add by_ old new (Some t) iterations) r free n is =
     let low = at_most_seven t (λ over. free.none fault.NoFreeSlot over) in omega (arith, is, low)
 named_numbered v payload (Add by_ old new None iterations) r free n is = is.free.0
 named_numbered v payload (Change slot old new iterations) r free n is =
-    let used = in_use v slot (λ not. free.none fault.NoSuchSlot (record { slot = slot; passphrase = old.now; asked = (refl, refl); unused = not })) in
+    let used = in_use v slot (λ not. free.none fault.NoSuchSlot (record { slot = slot; passphrase = old.bytes.now; asked = (refl, refl); unused = not })) in
     let low = used.0 in
     elim is [ inl same ↦ omega (arith, same, low) | inr least ↦ least.free.0 ]
 named_numbered v payload (Remove slot passphrase) r free n is =
-    let used = in_use v slot (λ not. free.none fault.NoSuchSlot (record { slot = slot; passphrase = passphrase.now; asked = (refl, refl); unused = not })) in
+    let used = in_use v slot (λ not. free.none fault.NoSuchSlot (record { slot = slot; passphrase = passphrase.bytes.now; asked = (refl, refl); unused = not })) in
     let low = used.0 in
     omega (arith, is, low)
 named_numbered v payload Repair r free n is = absurd is
@@ -202,12 +202,12 @@ module _ (payload : Data) (v : List ℕ) (chosen : Chosen v luks1) (well : WellF
     opens_after (Add by_ old new to iterations) r w free x = λ n key is opened.
         let lt : x.slot < 8 = named_numbered v payload (Add by_ old new to iterations) r free x.slot x.is_new in
         subst (λ k. Answer w k new.now (opens key)) (new_once v to x.slot n x.is_new is)
-        (made_to by_ old.now x.slot iterations (take 32 r) new.now x.key key (drop 32 r) w lt (enough iterations (λ few. free.none fault.Iterations few))
+        (made_to by_ old.bytes.now x.slot iterations (take 32 r) new.now x.key key (drop 32 r) w lt (enough iterations (λ few. free.none fault.Iterations few))
         x.slot x.slot lt lt x.rest x.made x.holds x.opened opened)
     opens_after (Change slot old new iterations) r w free x = λ n key is opened.
         let used : slot < 8 = named_numbered v payload (Change slot old new iterations) r free slot (inl refl) in
         subst (λ k. Answer w k new.now (opens key)) (least_free_once v x.fresh n x.is_free is)
-        (made_to slot old.now x.fresh iterations (take 32 r) new.now x.key key (drop 32 r) w x.is_free.free.0 (enough iterations (λ few. free.none fault.Iterations few))
+        (made_to slot old.bytes.now x.fresh iterations (take 32 r) new.now x.key key (drop 32 r) w x.is_free.free.0 (enough iterations (λ few. free.none fault.Iterations few))
         slot x.fresh used x.is_free.free.0 x.rest x.made x.holds x.opened opened)
     opens_after (Remove slot passphrase) r w free x = tt
     opens_after Repair r w free x = tt
@@ -218,13 +218,13 @@ module _ (payload : Data) (v : List ℕ) (chosen : Chosen v luks1) (well : WellF
     opens_either : (e : Edit) (r w : List ℕ) → IsUnrefused1 v payload e r → IsTorn1 v e r w → OpensEither1 v e w
     opens_either (Add by_ old new to iterations) r w free x = tt
     opens_either (Change slot old new iterations) r w free (inl x) = λ key opened.
-        let used = in_use v slot (λ not. free.none fault.NoSuchSlot (record { slot = slot; passphrase = old.now; asked = (refl, refl); unused = not })) in
+        let used = in_use v slot (λ not. free.none fault.NoSuchSlot (record { slot = slot; passphrase = old.bytes.now; asked = (refl, refl); unused = not })) in
         let lt : x.slot < 8 = x.is_new.free.0 in
         let other : IsEither x.slot x.slot slot → ⊥ = λ either.
         let one : slot ≡ x.slot = elim either [ inl y ↦ y | inr y ↦ y ] in
         let two : enabled_word ≡ disabled_word = sym used.1 ∙ ap (λ k. active_word (entry v k)) one ∙ x.is_new.free.1 in
         omega (arith, two) in
-        inl (answer_moves slot v w old.now (opens key) chosen
+        inl (answer_moves 0 slot v w old.bytes.now (opens key) chosen
         (same_keyslot v payload (volume_of v payload chosen well).fit w (IsEither x.slot x.slot) (either_keyslots x.slot x.slot lt lt) (half_made_rest x.order) slot other) opened)
     opens_either (Change slot old new iterations) r w free (inr x) = λ key opened.
         let used : slot < 8 = named_numbered v payload (Change slot old new iterations) r free slot (inl refl) in
@@ -232,7 +232,7 @@ module _ (payload : Data) (v : List ℕ) (chosen : Chosen v luks1) (well : WellF
           x.fresh,
           (
             x.is_free,
-            made_to slot old.now x.fresh iterations (take 32 r) new.now x.key key (drop 32 r) w x.is_free.free.0 (enough iterations (λ few. free.none fault.Iterations few))
+            made_to slot old.bytes.now x.fresh iterations (take 32 r) new.now x.key key (drop 32 r) w x.is_free.free.0 (enough iterations (λ few. free.none fault.Iterations few))
                 slot x.fresh used x.is_free.free.0 x.rest x.made x.holds x.opened opened,
           ),
         )

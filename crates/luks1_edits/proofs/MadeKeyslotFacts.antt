@@ -50,13 +50,13 @@ pub record SameTerms (a b : SlotPlan) : Type 0 where
 
 argon2_both : (h g e f : List ℕ) (a b : Derivation) → IsLuks1Derivation h e a → IsLuks1Derivation g f b → is_argon2 a ≡ is_argon2 b
 argon2_both h g e f (Pbkdf2 k i s) (Pbkdf2 l j t) x y = refl
-argon2_both h g e f (Pbkdf2 k i s) Argon2 x y = absurd y
-argon2_both h g e f Argon2 b x y = absurd x
+argon2_both h g e f (Pbkdf2 k i s) (Argon2 c) x y = absurd y
+argon2_both h g e f (Argon2 c) b x y = absurd x
 
 known_both : (h g e f : List ℕ) (a b : Derivation) → text_at h 72 32 ≡ text_at g 72 32 → IsLuks1Derivation h e a → IsLuks1Derivation g f b → is_known_derivation a ≡ is_known_derivation b
 known_both h g e f (Pbkdf2 k i s) (Pbkdf2 l j t) same x y = let hash = x.0 ∙ same ∙ sym y.0 in simp hash
-known_both h g e f (Pbkdf2 k i s) Argon2 same x y = absurd y
-known_both h g e f Argon2 b same x y = absurd x
+known_both h g e f (Pbkdf2 k i s) (Argon2 c) same x y = absurd y
+known_both h g e f (Argon2 c) b same x y = absurd x
 
 cipher_both : (h g : List ℕ) (a b : AreaCipher) → text_at h 8 32 ≡ text_at g 8 32 → text_at h 40 32 ≡ text_at g 40 32 → IsLuks1Cipher h a → IsLuks1Cipher g b → is_open_cipher a ≡ is_open_cipher b
 cipher_both h g (Apart n m) (Apart k l) names modes x y =

@@ -42,8 +42,8 @@ pub record IsMaking (v : List ℕ) (e : Edit) (opener : ℕ) (p : List ℕ) (to 
 
 -- an addition does, and so does a change
 abbrev pub MakingOf : List ℕ → Edit → Type 0
-MakingOf v (Add by_ old new to iterations) = IsMaking v (Add by_ old new to iterations) by_ old.now to iterations
-MakingOf v (Change slot old new iterations) = IsMaking v (Change slot old new iterations) slot old.now None iterations
+MakingOf v (Add by_ old new to iterations) = IsMaking v (Add by_ old new to iterations) by_ old.bytes.now to iterations
+MakingOf v (Change slot old new iterations) = IsMaking v (Change slot old new iterations) slot old.bytes.now None iterations
 MakingOf v e = Unit {0}
 
 pub making : (v : List ℕ) (e : Edit) → MakingOf v e
@@ -105,7 +105,7 @@ not_refused h payload v opener p key f of x bad =
 module _ (v : List ℕ) (payload : Data) (e : Edit) (r : List ℕ) (opener : ℕ) (p key : List ℕ) (to : Option ℕ) (iterations : ℕ) (is : IsMaking v e opener p to iterations)
     (h : List ℕ) (of : IsHeaderOf h payload v) (opened : IsOpenedBy v opener p key) where
   before : Passed (IsEditFault1 v payload e r) 6
-  before = opener_passed v payload e r of.faultless opener p is.asked key opened
+  before = opener_passed v payload e r of.faultless of.chosen opener p is.asked key opened
 
   -- none can be made
   pub none_made : (w : List ℕ) (f : EditFault) → w ≡ v → IsNewFault v to f → EndsBy1 payload v e r f w

@@ -30,7 +30,7 @@ pub record IsRemoval (v : List ℕ) (e : Edit) (slot : ℕ) (p r : List ℕ) : T
 
 -- each removal does
 abbrev pub RemovalOf : List ℕ → Edit → List ℕ → Type 0
-RemovalOf v (Remove slot passphrase) r = IsRemoval v (Remove slot passphrase) slot passphrase.now r
+RemovalOf v (Remove slot passphrase) r = IsRemoval v (Remove slot passphrase) slot passphrase.bytes.now r
 RemovalOf v e r = Unit {0}
 
 pub removal : (v : List ℕ) (e : Edit) (r : List ℕ) → RemovalOf v e r
@@ -53,7 +53,7 @@ removal v e r = tt
 module _ (v : List ℕ) (payload : Data) (e : Edit) (r : List ℕ) (slot : ℕ) (p key : List ℕ) (is : IsRemoval v e slot p r)
     (h : List ℕ) (of : IsHeaderOf h payload v) (opened : IsOpenedBy v slot p key) where
   passed : Passed (IsEditFault1 v payload e r) 9
-  passed = past_new v payload e r (opener_passed v payload e r of.faultless slot p is.asked key opened) is.untaken is.some_free
+  passed = past_new v payload e r (opener_passed v payload e r of.faultless of.chosen slot p is.asked key opened) is.untaken is.some_free
 
   pub last_refused : ((m : ℕ) → IsInUse v m → m ≡ slot) → Refusal1 v payload e r fault.LastSlot
   last_refused last = first_of_row (IsEditFault1 v payload e r) fault.LastSlot refl passed (is.last_is last)

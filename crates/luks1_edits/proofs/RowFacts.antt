@@ -4,14 +4,16 @@ use Rattle.luks_slot.specs.declared.fault.SlotFault.{SlotFault}
 use Rattle.luks_reading.specs.declared.check_fault.CheckFault.{CheckFault}
 use Rattle.luks_reading.specs.declared.open_fault.OpenFault.TheVariants as opening
 use Rattle.luks_reading.specs.declared.report.Data.{Data}
-use Rattle.luks_reading.specs.Answer.{Answer, no_key, refused}
+use Rattle.luks_head.specs.Selection.{luks1, Chosen}
+use Rattle.luks_reading.specs.Answer.{Answer, AnswerWithin, no_key, Opened, refused}
 use Rattle.luks_reading.specs.Checked.{IsFault}
 use Rattle.luks_edit.specs.declared.edit.Edit.{Edit}
 use Rattle.luks_edit.specs.declared.edit.Edit.TheVariants.{Add, Change, Remove, Repair, Label}
 use Rattle.luks_edit.specs.declared.edit_fault.EditFault.{EditFault}
 use Rattle.luks_edit.specs.declared.edit_fault.EditFault.TheVariants as fault
-use Rattle.luks_edit.specs.Asked.{HasFewIterations, OpensBy}
+use Rattle.luks_edit.specs.Asked.{allowed_memory, HasFewIterations, OpensBy}
 use Rattle.luks_edit.specs.Opener.{IsLocked, IsShut}
+use Rattle.luks_edit.proofs.AllowedMemory.{luks1_answers_alike}
 use Rattle.luks_edit.specs.RowFacts.{Passed, after_check, after_plan, first_of_plan, first_of_row, next, none_at_all}
 use Rattle.luks1_edits.specs.Accepted.{IsOpenedBy, IsUnopened}
 use Rattle.luks1_edits.specs.Edited.{IsInUse}
@@ -66,16 +68,23 @@ module _ (v : List ℕ) (payload : Data) (e : Edit) (r : List ℕ) where
     pub none_to_open : ((n : ℕ) (p : List ℕ) → OpensBy e n p → ⊥) → Passed (IsEditFault1 v payload e r) 6
     none_to_open none = past_opener (λ bad. none bad.slot bad.passphrase bad.asked) (λ bad. none bad.slot bad.passphrase bad.asked) (λ f bad. none bad.slot bad.passphrase bad.asked)
 
-    module _ (n : ℕ) (p : List ℕ) (asked : OpensBy e n p) where
+    module _ (chosen : Chosen v luks1) (n : ℕ) (p : List ℕ) (asked : OpensBy e n p) where
+      -- what is said where the edit's memory is allowed is said where none is, and so the other way round
+      without : (m : ℕ) (q : List ℕ) (a : Opened) → AnswerWithin (allowed_memory e) v m q a → Answer v m q a
+      without m q a x = luks1_answers_alike v chosen (allowed_memory e) 0 m q a x
+
+      within : (a : Opened) → Answer v n p a → AnswerWithin (allowed_memory e) v n p a
+      within a x = luks1_answers_alike v chosen 0 (allowed_memory e) n p a x
+
       unlocked_of : (Answer v n p no_key → ⊥) → IsLocked v e → ⊥
       unlocked_of not bad =
           let one = opens_once e n bad.slot p bad.passphrase asked bad.asked in
-          not (subst (λ m. Answer v m p no_key) one.0 (subst (λ q. Answer v bad.slot q no_key) one.1 bad.answer))
+          not (subst (λ m. Answer v m p no_key) one.0 (subst (λ q. Answer v bad.slot q no_key) one.1 (without bad.slot bad.passphrase no_key bad.answer)))
 
       shut_here : (f : SlotFault) → IsShut v e f → Answer v n p (refused (opening.Slot f))
       shut_here f bad =
           let one = opens_once e n bad.slot p bad.passphrase asked bad.asked in
-          subst (λ m. Answer v m p (refused (opening.Slot f))) one.0 (subst (λ q. Answer v bad.slot q (refused (opening.Slot f))) one.1 bad.answer)
+          subst (λ m. Answer v m p (refused (opening.Slot f))) one.0 (subst (λ q. Answer v bad.slot q (refused (opening.Slot f))) one.1 (without bad.slot bad.passphrase (refused (opening.Slot f)) bad.answer))
 
       -- it opens
       pub opener_passed : (key : List ℕ) → IsOpenedBy v n p key → Passed (IsEditFault1 v payload e r) 6
@@ -90,13 +99,13 @@ module _ (v : List ℕ) (payload : Data) (e : Edit) (r : List ℕ) where
       unopened_ends w fault.Locked same bad = (
         let s = IsEditFault1 v payload e r in
             first_of_row s fault.Locked refl (next s fault.NoSuchSlot refl past_requirements (there_of v e n p asked bad.used))
-            (record { slot = n; passphrase = p; asked = asked; answer = bad.answer }),
+            (record { slot = n; passphrase = p; asked = asked; answer = within no_key bad.answer }),
         same,
       )
       unopened_ends w (fault.Slot f) same bad = (
         let s = IsEditFault1 v payload e r in
             first_of_plan s f (next s fault.Locked refl (next s fault.NoSuchSlot refl past_requirements (there_of v e n p asked bad.used)) (unlocked_of bad.unlocked))
-            (record { slot = n; passphrase = p; asked = asked; answer = bad.answer })
+            (record { slot = n; passphrase = p; asked = asked; answer = within (refused (opening.Slot f)) bad.answer })
             (λ g other. ((bad.answer.1 (opening.Slot g) (shut_here g other).0).1 refl).0),
         same,
       )

@@ -109,9 +109,9 @@ pub record IsChanged
 -- keyslot, then its stripes but the last
 abbrev pub After1 : List ℕ → Edit → List ℕ → List ℕ → Type 0
 After1 v (Add by_ old new to iterations) random w =
-    IsAdded v by_ old.now new.now to iterations random w
+    IsAdded v by_ old.bytes.now new.now to iterations random w
 After1 v (Change slot old new iterations) random w =
-    IsChanged v slot old.now new.now iterations random w
+    IsChanged v slot old.bytes.now new.now iterations random w
 After1 v (Remove slot passphrase) random w = IsRemoved v slot w
 After1 v Repair random w = w ≡ v
 After1 v (Label text) random w = ⊥
@@ -121,10 +121,10 @@ After1 v (Label text) random w = ⊥
 -- a keyslot that the edit made opens by its new passphrase to the key that the old one opened
 abbrev pub OpensAfter1 : List ℕ → Edit → List ℕ → Type 0
 OpensAfter1 v (Add by_ old new to iterations) w =
-    (n : ℕ) (key : List ℕ) → IsNewKeyslot v to n → Answer v by_ old.now (opens key)
+    (n : ℕ) (key : List ℕ) → IsNewKeyslot v to n → Answer v by_ old.bytes.now (opens key)
     → Answer w n new.now (opens key)
 OpensAfter1 v (Change slot old new iterations) w =
-    (n : ℕ) (key : List ℕ) → IsLeastFree v n → Answer v slot old.now (opens key)
+    (n : ℕ) (key : List ℕ) → IsLeastFree v n → Answer v slot old.bytes.now (opens key)
     → Answer w n new.now (opens key)
 OpensAfter1 v (Remove slot passphrase) w = Unit {0}
 OpensAfter1 v Repair w = Unit {0}

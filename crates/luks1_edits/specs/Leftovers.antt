@@ -68,10 +68,10 @@ pub record IsHalfChanged
 -- the edit was ended while it wrote
 abbrev pub IsTorn1 : List ℕ → Edit → List ℕ → List ℕ → Type 0
 IsTorn1 v (Add by_ old new to iterations) random w =
-    IsHalfMade v by_ old.now new.now to iterations random w
+    IsHalfMade v by_ old.bytes.now new.now to iterations random w
 IsTorn1 v (Change slot old new iterations) random w =
-    IsHalfMade v slot old.now new.now None iterations random w
-    ⊎ IsHalfChanged v slot old.now new.now iterations random w
+    IsHalfMade v slot old.bytes.now new.now None iterations random w
+    ⊎ IsHalfChanged v slot old.bytes.now new.now iterations random w
 IsTorn1 v (Remove slot passphrase) random w = IsHalfRemoved v slot w
 IsTorn1 v Repair random w = ⊥
 IsTorn1 v (Label text) random w = ⊥
@@ -90,8 +90,8 @@ IsUntorn v w n = (entry w n ≡ entry v n) ⊎ IsFitFor (entry v n) (entry w n)
 abbrev pub OpensEither1 : List ℕ → Edit → List ℕ → Type 0
 OpensEither1 v (Add by_ old new to iterations) w = Unit {0}
 OpensEither1 v (Change slot old new iterations) w =
-    (key : List ℕ) → Answer v slot old.now (opens key)
-    → Answer w slot old.now (opens key)
+    (key : List ℕ) → Answer v slot old.bytes.now (opens key)
+    → Answer w slot old.bytes.now (opens key)
     ⊎ ((n : ℕ) × (IsLeastFree v n × Answer w n new.now (opens key)))
 OpensEither1 v (Remove slot passphrase) w = Unit {0}
 OpensEither1 v Repair w = Unit {0}

@@ -11,7 +11,7 @@ use crate::keyslots::{judge_new, new_keyslot};
 use crate::making::make_keyslot;
 use crate::unlocking::unlock;
 use luks_area::Device;
-use luks_edit::{Done, EditFault};
+use luks_edit::{Done, EditFault, Passphrase};
 use std::alloc::Global;
 
 /// Makes a keyslot, `to` or the least that is free, in which the new passphrase opens the key that
@@ -21,7 +21,7 @@ pub(crate) fn add<D: Device>(
     device: &mut D,
     header: &AcceptedHeader<'_>,
     by_: u8,
-    old: &[u8],
+    old: Passphrase<'_>,
     new: &[u8],
     to: Option<u8>,
     iterations: u32,
@@ -40,7 +40,7 @@ pub(crate) fn add<D: Device>(
         → Replies1 header.now.data_ (D.bytes device.old)
         (Add by_ old.entry new.entry to iterations) random.now result (D.bytes device.new) }
 {
-    let key = unlock(alloc, device, header, by_, old)?;
+    let key = unlock(alloc, device, header, by_, old.bytes)?;
     let n = new_keyslot(&header.fields, to)?;
     judge_new(&header.fields, n, iterations, random)?;
     make_keyslot(device, header, n, new, &key, iterations, random)?;

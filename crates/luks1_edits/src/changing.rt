@@ -12,7 +12,7 @@ use crate::keyslots::{judge_new, new_keyslot};
 use crate::making::make_keyslot;
 use crate::unlocking::unlock;
 use luks_area::Device;
-use luks_edit::{Done, EditFault};
+use luks_edit::{Done, EditFault, Passphrase};
 use luks_reading::luks1_area;
 use std::alloc::Global;
 
@@ -23,7 +23,7 @@ pub(crate) fn change<D: Device>(
     device: &mut D,
     header: &AcceptedHeader<'_>,
     slot: u8,
-    old: &[u8],
+    old: Passphrase<'_>,
     new: &[u8],
     iterations: u32,
     random: &[u8],
@@ -41,7 +41,7 @@ pub(crate) fn change<D: Device>(
         → Replies1 header.now.data_ (D.bytes device.old)
         (Change slot old.entry new.entry iterations) random.now result (D.bytes device.new) }
 {
-    let key = unlock(alloc, device, header, slot, old)?;
+    let key = unlock(alloc, device, header, slot, old.bytes)?;
     let n = new_keyslot(&header.fields, None)?;
     judge_new(&header.fields, n, iterations, random)?;
     make_keyslot(device, header, n, new, &key, iterations, random)?;

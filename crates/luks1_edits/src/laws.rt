@@ -5,7 +5,7 @@ ghost use Rattle.luks_area.specs.declared.area.Area.{Area as TheArea};
 ghost use Rattle.luks_area.specs.declared.area.AreaName.TheVariants.{Slot};
 ghost use Rattle.luks_area.specs.Ranges.{part, SameBut};
 ghost use Rattle.luks_head.specs.Selection.{Chosen, luks1};
-ghost use Rattle.luks_reading.specs.Answer.{Answer, Opened};
+ghost use Rattle.luks_reading.specs.Answer.{AnswerWithin, Opened};
 ghost use Rattle.luks_reading.specs.Checked.{AreaOf, WellFormed};
 ghost use Rattle.luks_reading.specs.declared.report.Data.{Data as Payload};
 ghost use Rattle.luks_edit.specs.declared.edit.Edit.{Edit as TheEdit};
@@ -23,8 +23,8 @@ use luks_reading::one_answer;
 /// The answer of a keyslot of LUKS1 depends on the 208 bytes before the keyslots, its entry, its
 /// area and the volume's length alone.
 pub fn luks1_answer_is_local()
-    ensures { (n : ℕ) (v w p : List ℕ) (a : Opened) → Chosen v luks1 → HasSameKeyslot n v w
-        → Answer v n p a ↔ Answer w n p a }
+    ensures { (memory n : ℕ) (v w p : List ℕ) (a : Opened) → Chosen v luks1 → HasSameKeyslot n v w
+        → AnswerWithin memory v n p a ↔ AnswerWithin memory w n p a }
 {}
 
 /// After an edit of a well formed LUKS1 volume that nothing refused, the volume is a well formed

@@ -11,7 +11,7 @@ use crate::freeing::free_keyslot;
 use crate::keyslots::is_last;
 use crate::unlocking::unlock;
 use luks_area::Device;
-use luks_edit::{Done, EditFault};
+use luks_edit::{Done, EditFault, Passphrase};
 use luks_reading::luks1_area;
 use std::alloc::Global;
 
@@ -21,7 +21,7 @@ pub(crate) fn remove<D: Device>(
     device: &mut D,
     header: &AcceptedHeader<'_>,
     slot: u8,
-    passphrase: &[u8],
+    passphrase: Passphrase<'_>,
     random: &[u8],
 ) -> Result<Done, EditFault>
     requires room { D.failed device.old + 1 < 2 ^ 64 }
@@ -37,7 +37,7 @@ pub(crate) fn remove<D: Device>(
         → Replies1 header.now.data_ (D.bytes device.old) (Remove slot passphrase.entry)
         random.now result (D.bytes device.new) }
 {
-    unlock(alloc, device, header, slot, passphrase)?;
+    unlock(alloc, device, header, slot, passphrase.bytes)?;
     if is_last(&header.fields, slot) {
         return Err(EditFault::LastSlot);
     }

@@ -1,5 +1,5 @@
 -- A keyslot that is added to a LUKS2 volume: what its metadata says, and what the addition leaves.
-use Rattle.std.proofs.Common.{◌≡◌, ℕ, ◌<◌, Bor, List, length, codes, Option, Some, inl, inr, refl, sym, ap, ◌∙◌, subst}
+use Rattle.std.proofs.Common.{◌≡◌, ℕ, ◌<◌, ◌≤◌, Bor, List, length, codes, Option, Some, inl, inr, refl, sym, ap, ◌∙◌, subst}
 use Rattle.std.proofs.lemmas.Option.{same_Some}
 use Rattle.serde_json.specs.Data.{Data as Value}
 use Rattle.luks_area.specs.declared.area.Area.{Area}
@@ -17,14 +17,16 @@ use Rattle.luks_meta.specs.Content.{content}
 use Rattle.luks_slot.specs.declared.fault.SlotFault.{SlotFault}
 use Rattle.luks_reading.specs.declared.header.ChosenCopy.{ChosenCopy}
 use Rattle.luks_reading.specs.declared.report.Data.{Data}
-use Rattle.luks_reading.specs.Answer.{opens, Answer}
+use Rattle.luks_reading.specs.Answer.{opens, AnswerWithin}
 use Rattle.luks_reading.specs.Checked.{WellFormed}
 use Rattle.luks_reading.specs.Header.{json_at, IsChosenCopy}
 use Rattle.luks_edit.specs.declared.edit.Edit.TheVariants.{Add}
+use Rattle.luks_edit.specs.Asked.{memory_for}
+use Rattle.luks_edit.specs.declared.edit.Passphrase.{Passphrase}
 use Rattle.luks2_edits.specs.Edited.{keyslot_salt, members_of, stripes_random, After2, HoldsKey, HoldsOpened, IsEdited, IsMadeIn}
 use Rattle.luks2_edits.specs.Metadata.{HasStripes, IsKeyArea, IsNewKeyslot}
 use Rattle.luks2_edits.specs.Places.{IsNewArea, IsOfCopies, IsOfNewKeyslot, IsTouched}
-use Rattle.luks2_edits.proofs.AlikeFacts.{SaysLike}
+use Rattle.luks2_edits.proofs.AlikeFacts.{made_derived, SaysLike}
 use Rattle.luks2_edits.proofs.SealFacts.{opened_plan, IsOpened}
 use Rattle.luks2_edits.proofs.VolumeLaws.{one_digest}
 use Rattle.luks2_judging.specs.Rows.{HasNoFaultBefore}
@@ -35,7 +37,7 @@ use Rattle.luks2_editing.specs.MadeMetadata.{IsGained, IsSealingEdit}
 use Rattle.luks2_editing.specs.SealedKeyslot.{HasRefusedKeyslot, IsKeyslotWritten, IsOfStripesOf, IsSealing}
 use Rattle.luks2_editing.proofs.KeyAreaFacts.{area_of_object}
 use Rattle.luks2_editing.proofs.NewKeyslotFacts.{alike_place, SealsLike}
-use Rattle.luks2_editing.proofs.PlanFacts.{like_unrefused}
+use Rattle.luks2_editing.proofs.PlanFacts.{like_unrefused, long_salt}
 use Rattle.luks2_editing.proofs.RenewalFacts.{metadata_here}
 
 -- ---- the new keyslot, made with the members of the keyslot `like`
@@ -70,34 +72,35 @@ module _ (j k : Value) (slot like iterations : ℕ) (salt : List ℕ) (area : Ar
   -- ---- its plan
 
   -- it says of its opening what the other says
-  made_like : SaysLike x.added.from (slot_value x.added.slot)
-  made_like = record {
-    derived = x.says.derivation;
-    hash = x.says.hash ∙ sym x.added.made.hash;
+  made_like : 8 ≤ length salt → SaysLike x.added.from (slot_value x.added.slot)
+  made_like long = record {
+    derived = λ a b was now.
+        made_derived x.added.from (slot_value x.added.slot) x.added.slot.salt x.says.salt (rw x.added.made.salt long) iterations x.added.slot.derivation a b
+        x.added.made.derivation x.says.derivation was now;
     encryption = x.says.encryption ∙ sym x.added.made.encryption;
     area_key = x.says.area_key_size ∙ sym x.added.made.area_key_size;
     splitter = x.says.splitter_hash ∙ sym x.added.made.splitter_hash;
   }
 
   -- where the other was opened, its plan isn't refused
-  made_unrefused : {v : List ℕ} {o : ℕ} (g : SlotFault) → IsOpened v o j like → ((n m : ℕ) → IsDigestOf j like n → IsDigestOf j like m → n ≡ m)
-      → HasRefusedKeyslot k slot g → ⊥
-  made_unrefused g open_ once bad =
+  made_unrefused : {memory : ℕ} {v : List ℕ} {o : ℕ} (g : SlotFault) → 8 ≤ length salt → IsOpened memory v o j like → ((n m : ℕ) → IsDigestOf j like n → IsDigestOf j like m → n ≡ m)
+      → HasRefusedKeyslot memory k slot g → ⊥
+  made_unrefused g long open_ once bad =
       let was : open_.object ≡ x.added.from = same_Some open_.object x.added.from (sym open_.there ∙ x.added.there.is) in
       let now : bad.object ≡ slot_value x.added.slot = same_Some bad.object (slot_value x.added.slot) (sym bad.there.is ∙ x.gains.there) in
       like_unrefused j k like slot g open_ bad
-      (subst (λ d. SaysLike d bad.object) (sym was) (subst (λ d. SaysLike x.added.from d) (sym now) made_like))
+      (subst (λ d. SaysLike d bad.object) (sym was) (subst (λ d. SaysLike x.added.from d) (sym now) (made_like long)))
       (λ m names. subst (λ i. IsDigestOf k slot i) (once x.added.digest m x.added.names names) x.gains.names)
       x.gains.rest.digests
 
 -- ---- the addition to a volume
 
 -- its rows up to that of the label were judged
-pub record IsJudgedAddition (v : List ℕ) (payload : Data) (copy : ChosenCopy) (addition : Addition) (old new : Bor (List ℕ)) (to : Option ℕ) (key random : List ℕ) : Type 0 where
+pub record IsJudgedAddition (v : List ℕ) (payload : Data) (copy : ChosenCopy) (addition : Addition) (old : Passphrase) (new : Bor (List ℕ)) (to : Option ℕ) (key random : List ℕ) : Type 0 where
   pub chosen : IsChosenCopy v copy
   pub well : WellFormed v payload
   pub before : HasNoFaultBefore 12 v payload (Add addition.by_ old new to addition.iterations) random
-  pub opened : Answer v addition.by_ old.now (opens key)
+  pub opened : AnswerWithin (memory_for old new.now) v addition.by_ old.bytes.now (opens key)
   pub is_new : IsNewKeyslot (content copy.meta) to addition.made
   pub place : IsNewArea (hdr_size (header_at v copy.header.hdr_offset)) (length v) payload (content copy.meta) addition.by_ addition.area
 
@@ -105,7 +108,7 @@ pub record IsJudgedAddition (v : List ℕ) (payload : Data) (copy : ChosenCopy) 
 abbrev pub sealing_of : Addition → Sealing
 sealing_of a = record { keyslot = Made a.made a.by_; iterations = a.iterations; area = a.area }
 
-module _ (v : List ℕ) (payload : Data) (copy : ChosenCopy) (addition : Addition) (old new : Bor (List ℕ)) (to : Option ℕ) (key random : List ℕ)
+module _ (v : List ℕ) (payload : Data) (copy : ChosenCopy) (addition : Addition) (old : Passphrase) (new : Bor (List ℕ)) (to : Option ℕ) (key random : List ℕ)
     (x : IsJudgedAddition v payload copy addition old new to key random) where
   pub addition_seals : IsSealingEdit v payload (Add addition.by_ old new to addition.iterations) random copy (sealing_of addition)
   addition_seals = record {
@@ -114,7 +117,7 @@ module _ (v : List ℕ) (payload : Data) (copy : ChosenCopy) (addition : Additio
     before = x.before;
     asked = (refl, refl, x.is_new);
     place = x.place;
-    passphrase = old.now;
+    passphrase = old.bytes.now;
     key = key;
     opened = x.opened;
   }
@@ -128,16 +131,17 @@ module _ (v : List ℕ) (payload : Data) (copy : ChosenCopy) (addition : Additio
         (hdr_size (header_at v copy.header.hdr_offset)) (length v) payload p x.place at
 
     sealed_in : (w : List ℕ) → HoldsKey w k addition.made new.now key (stripes_random random)
-        → HoldsOpened v addition.by_ old.now new.now (IsNewKeyslot (content copy.meta) to) random w k
+        → HoldsOpened (memory_for old new.now) v addition.by_ old.bytes.now new.now (IsNewKeyslot (content copy.meta) to) random w k
     sealed_in w holds = record { slot = addition.made; is_made = x.is_new; key = key; opened = x.opened; holds = holds }
 
     pub addition_sealing : IsSealing v payload (Add addition.by_ old new to addition.iterations) random copy.header.hdr_offset (content copy.meta) k addition.made new.now key
     addition_sealing = record { sealed = sealed_in; place = place_in }
 
     -- its plan isn't refused
-    pub addition_fine : (g : SlotFault) → HasRefusedKeyslot k addition.made g → ⊥
-    addition_fine g bad = made_unrefused (content copy.meta) k addition.made addition.by_ addition.iterations (keyslot_salt random) addition.area gained small g
-        (opened_plan v copy.header.hdr_offset (content copy.meta) addition.by_ old.now key (metadata_here v payload copy x.chosen x.well) x.opened)
+    pub addition_fine : 160 ≤ length random → (g : SlotFault) → HasRefusedKeyslot (memory_for old new.now) k addition.made g → ⊥
+    addition_fine enough g bad = made_unrefused (content copy.meta) k addition.made addition.by_ addition.iterations (keyslot_salt random) addition.area gained small g
+        (long_salt random enough)
+        (opened_plan (memory_for old new.now) v copy.header.hdr_offset (content copy.meta) addition.by_ old.bytes.now key (metadata_here v payload copy x.chosen x.well) x.opened)
         (one_digest (json_at v copy.header.hdr_offset) (content copy.meta) x.chosen.metadata addition.by_) bad
 
     module _ (edited : IsEdited (hdr_size (header_at v copy.header.hdr_offset)) (length v) payload (Add addition.by_ old new to addition.iterations) (keyslot_salt random) (content copy.meta) k)

@@ -19,24 +19,26 @@ use Rattle.luks_slot.specs.Sealing.{IsSealed}
 use Rattle.luks_meta.specs.Content.{content}
 use Rattle.luks_reading.specs.declared.header.ChosenCopy.{ChosenCopy}
 use Rattle.luks_reading.specs.declared.report.Data.{Data}
-use Rattle.luks_reading.specs.Answer.{Answer, opens}
+use Rattle.luks_reading.specs.Answer.{AnswerWithin, opens}
 use Rattle.luks_reading.specs.Checked.{WellFormed}
 use Rattle.luks_reading.specs.Header.{IsChosenCopy}
 use Rattle.luks_edit.specs.declared.edit.Edit.TheVariants.{Change}
+use Rattle.luks_edit.specs.Asked.{memory_for}
+use Rattle.luks_edit.specs.declared.edit.Passphrase.{Passphrase}
 use Rattle.luks2_edits.specs.Edited.{keyslot_salt, members_of, stripes_random, After2, HoldsKey, IsEdited}
 use Rattle.luks2_edits.specs.Leftovers.{Leftover2}
 use Rattle.luks2_edits.specs.Metadata.{HasStripes, IsKeyArea}
 use Rattle.luks2_edits.specs.Places.{IsNewArea, IsOfCopies, IsTouched}
 use Rattle.luks2_edits.specs.Refused.{IsUnrefused2}
 use Rattle.luks2_edits.proofs.AlikeFacts.{SaysLike}
-use Rattle.luks2_edits.proofs.SealFacts.{opened_kdf, opened_plan, IsOpened}
+use Rattle.luks2_edits.proofs.SealFacts.{opened_plan, IsOpened}
 use Rattle.luks2_editing.specs.MadeMetadata.{IsSealedAgain}
 use Rattle.luks2_editing.specs.Rewriting.{AreWrittenAnew}
 use Rattle.luks2_editing.specs.SealedKeyslot.{HasRefusedKeyslot, IsKeyslotWritten, IsOfStripesOf, IsSealing}
 use Rattle.luks2_editing.proofs.KeyAreaFacts.{area_of_object}
 use Rattle.luks2_editing.proofs.LostFacts.{beside_first, beside_second, both_beside}
 use Rattle.luks2_editing.proofs.NewKeyslotFacts.{alike_place, same_len, same_start, torn_leftover, SealsLike}
-use Rattle.luks2_editing.proofs.PlanFacts.{like_changed, like_unrefused}
+use Rattle.luks2_editing.proofs.PlanFacts.{like_changed, like_unrefused, long_salt}
 use Rattle.luks_head.proofs.CopyFacts.{listed_at_least}
 use Rattle.luks2_editing.proofs.RenewalFacts.{metadata_here, sound_here}
 
@@ -69,8 +71,8 @@ module _ (j k : Value) (slot iterations : ℕ) (salt : List ℕ) (area : Area) (
 -- ---- the volume
 
 module _ (v : List ℕ) (payload : Data) (copy : ChosenCopy) (x : IsChosenCopy v copy) (well : WellFormed v payload)
-    (slot : ℕ) (old new : Bor (List ℕ)) (iterations : ℕ) (key random : List ℕ) (area : Area) (k : Value)
-    (opened : Answer v slot old.now (opens key))
+    (slot : ℕ) (old : Passphrase) (new : Bor (List ℕ)) (iterations : ℕ) (key random : List ℕ) (area : Area) (k : Value)
+    (opened : AnswerWithin (memory_for old new.now) v slot old.bytes.now (opens key))
     (place : IsNewArea (hdr_size (header_at v copy.header.hdr_offset)) (length v) payload (content copy.meta) slot area)
     (made : IsSealedAgain slot (members_of iterations (keyslot_salt random) area) (content copy.meta) k) where
   -- what is sealed is of the edit
@@ -82,17 +84,16 @@ module _ (v : List ℕ) (payload : Data) (copy : ChosenCopy) (x : IsChosenCopy v
   }
 
   -- its plan isn't refused
-  pub renewed_unrefused : (g : SlotFault) → HasRefusedKeyslot k slot g → ⊥
-  renewed_unrefused g y =
+  pub renewed_unrefused : 160 ≤ length random → (g : SlotFault) → HasRefusedKeyslot (memory_for old new.now) k slot g → ⊥
+  renewed_unrefused enough g y =
       let j : Value = content copy.meta in
-      let was : IsOpened v copy.header.hdr_offset j slot = opened_plan v copy.header.hdr_offset j slot old.now key (metadata_here v payload copy x well) opened in
+      let was : IsOpened (memory_for old new.now) v copy.header.hdr_offset j slot = opened_plan (memory_for old new.now) v copy.header.hdr_offset j slot old.bytes.now key (metadata_here v payload copy x well) opened in
       let now : renewed_slot (members_of iterations (keyslot_salt random) area) made.changes.was ≡ y.object =
       same_Some (renewed_slot (members_of iterations (keyslot_salt random) area) made.changes.was) y.object (sym made.changes.is ∙ y.there.is) in
       let object : made.changes.was ≡ was.object = same_Some made.changes.was was.object (sym made.changes.there.is ∙ was.there) in
-      let derived : type_at made.changes.was outer.Kdf ≡ Some (codes "pbkdf2") = ap (λ d. type_at d outer.Kdf) object ∙ opened_kdf v copy.header.hdr_offset j slot was in
       let like : SaysLike made.changes.was (renewed_slot (members_of iterations (keyslot_salt random) area) made.changes.was) =
       like_changed made.changes.was (renewed_slot (members_of iterations (keyslot_salt random) area) made.changes.was)
-      (members_of iterations (keyslot_salt random) area) made.changes.says derived in
+      (members_of iterations (keyslot_salt random) area) made.changes.says (long_salt random enough) in
       like_unrefused j k slot slot g was y (subst (λ d. SaysLike d y.object) object (subst (λ d. SaysLike made.changes.was d) now like))
       (λ m is. (made.changes.naming slot m).0 is) made.changes.rest.digests
 

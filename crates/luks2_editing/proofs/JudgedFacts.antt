@@ -16,24 +16,25 @@ use Rattle.luks2_edits.specs.Leftovers.{Leftover2}
 use Rattle.luks2_edits.specs.Refused.{Refusal2}
 use Rattle.luks2_judging.specs.declared.judged.Judged.{Judged}
 use Rattle.luks2_judging.specs.Judging.{IsRefusedEarly, IsUnrefusedSoFar, Seals}
+use Rattle.luks2_judging.specs.Opened.{TakesMemoryToOpen}
 use Rattle.luks2_judging.specs.Rows.{HasNoFaultBefore}
 use Rattle.luks2_editing.specs.Replies.{EndsBy2, Replies2}
 
--- a refusal, or the device's failure while the edit was judged
+-- a refusal, want of memory, or the device's failure while the edit was judged
 pub refused_ends : (v : List ℕ) (payload : Data) (e : Edit) (random w : List ℕ) (f : EditFault) → w ≡ v → IsRefusedEarly v payload e f → EndsBy2 payload v e random f w
 refused_ends v payload e random w f same x = EndsBy-map
-    (λ g. (random : List ℕ) → Refusal2 v payload e random g) (λ g. Refusal2 v payload e random g × (w ≡ v)) ⊥ (w ≡ v) (Unit {0}) (Leftover2 v payload e random w) f
-    (λ is refused. (refused random, same)) (λ none. absurd none) (λ any. inl same) x
+    (λ g. (random : List ℕ) → Refusal2 v payload e random g) (λ g. Refusal2 v payload e random g × (w ≡ v)) (TakesMemoryToOpen v e) (w ≡ v) (Unit {0}) (Leftover2 v payload e random w) f
+    (λ is refused. (refused random, same)) (λ wanting. same) (λ any. inl same) x
 
 -- what is known of the edit `it` once it was judged, of the volume `v` that is still as it was read
 pub record IsJudgedEdit (v : List ℕ) (payload : Data) (it : Edit) (judged : Judged) : Type 0 where
-  pub chosen : IsChosenCopy v judged.copy.now
+  pub chosen : IsChosenCopy v judged.copy
   pub well : WellFormed v payload
   pub none : (random : List ℕ) → HasNoFaultBefore 12 v payload it random
-  pub seals : Seals (hdr_size (header_at v judged.copy.now.header.hdr_offset)) v payload (content judged.copy.now.meta) it judged.edit
+  pub seals : Seals (hdr_size (header_at v judged.copy.header.hdr_offset)) v payload (content judged.copy.meta) it judged.edit
 
 module _ {u v : List ℕ} {e it : Edit} (same : v ≡ u) (asked : e ≡ it) where
-  pub judged_edit : {payload : Data} {header : Header} {judged : Judged} → header ≡ Luks2 judged.copy.now → IsHeader u header
+  pub judged_edit : {payload : Data} {header : Header} {judged : Judged} → header ≡ Luks2 judged.copy → IsHeader u header
       → IsUnrefusedSoFar u payload e judged → IsJudgedEdit v payload it judged
   judged_edit {payload} {header} {judged} copy is x =
       let there : IsUnrefusedSoFar v payload it judged =

@@ -5,7 +5,7 @@ use Rattle.serde_json.specs.Data.{Data as Value}
 use Rattle.luks_area.specs.declared.area.Area.{Area}
 use Rattle.luks_area.specs.Sectors.{rounded_to_sectors}
 use Rattle.luks_rules.specs.Sizes.{region_start}
-use Rattle.luks_making.specs.Conditions.{CanSeal, HasPbkdf2}
+use Rattle.luks_making.specs.Conditions.{CanSeal, IsThere}
 use Rattle.luks_reading.specs.declared.report.Data.{Data}
 use Rattle.luks_edit.specs.declared.edit.Edit.{Edit}
 use Rattle.luks_edit.specs.declared.edit.Edit.TheVariants.{Add, Change, Remove, Repair, Label}
@@ -28,7 +28,7 @@ placed_used len j total n area x = (x.blocks.slot.there.named, ap is_some x.bloc
 
 -- it suits the keyslot
 pub placed_suits : (len : ℕ) (j : Value) (total n : ℕ) (area : Area) (iterations : ℕ) (salt : List ℕ)
-    → IsPlaced len j total n area → HasPbkdf2 j n → 1 ≤ iterations → length salt ≡ 32 → CanSeal len j n (members_of iterations salt area)
+    → IsPlaced len j total n area → IsThere j n → 1 ≤ iterations → length salt ≡ 32 → CanSeal len j n (members_of iterations salt area)
 placed_suits len j total n area iterations salt x slot turns long = record {
   slot = slot;
   iterations = turns;

@@ -1,5 +1,5 @@
 -- A keyslot of new metadata that is sealed like another one, by an addition or a change.
-use Rattle.std.proofs.Common.{◌≡◌, ℕ, ◌+◌, ◌*◌, ◌≤◌, List, length, codes, sym, ap, ◌∙◌, subst, arith, inr}
+use Rattle.std.proofs.Common.{◌≢◌, ◌≡◌, ℕ, ◌+◌, ◌*◌, ◌≤◌, List, length, codes, sym, ap, ◌∙◌, subst, arith, inr}
 use Rattle.std.proofs.lemmas.Option.{same_Some}
 use Rattle.serde_json.specs.Data.{Data as Value}
 use Rattle.luks_area.specs.declared.area.Area.{Area}
@@ -86,6 +86,10 @@ module _ (j k : Value) (like n : ℕ) (area : Area) (x : SealsLike j k like n ar
 
 -- ---- an edit that didn't write it all
 
+-- want of memory isn't the device's failure
+memory_is_own : fault.Memory ≢ fault.Device
+memory_is_own e = cc
+
 module _ (v : List ℕ) (payload : Data) (copy : ChosenCopy) (x : IsChosenCopy v copy) (well : WellFormed v payload)
     (e : Edit) (random : List ℕ) (k : Value) (unrefused : IsUnrefused2 v payload e random)
     (edited : IsEdited (hdr_size (header_at v copy.header.hdr_offset)) (length v) payload e (keyslot_salt random) (content copy.meta) k) (w : List ℕ) where
@@ -104,8 +108,9 @@ module _ (v : List ℕ) (payload : Data) (copy : ChosenCopy) (x : IsChosenCopy v
   )
 
   -- how it ends, where the keyslot's plan isn't refused
-  pub unsealed_ends : (n : ℕ) → ((g : SlotFault) → HasRefusedKeyslot k n g → ⊥) → IsTornAt v payload e random copy.header.hdr_offset (content copy.meta) k w
-      → (f : EditFault) → IsUnsealed k n f → EndsBy2 payload v e random f w
-  unsealed_ends n fine torn fault.Device why = torn_leftover torn
-  unsealed_ends n fine torn (fault.Slot g) why = absurd (fine g why)
-  unsealed_ends n fine torn f why = absurd why
+  pub unsealed_ends : (memory n : ℕ) → ((g : SlotFault) → HasRefusedKeyslot memory k n g → ⊥) → IsTornAt v payload e random copy.header.hdr_offset (content copy.meta) k w
+      → (f : EditFault) → (f ≢ fault.Device → w ≡ v) → IsUnsealed memory k n f → EndsBy2 payload v e random f w
+  unsealed_ends memory n fine torn fault.Device same why = torn_leftover torn
+  unsealed_ends memory n fine torn fault.Memory same why = same memory_is_own
+  unsealed_ends memory n fine torn (fault.Slot g) same why = absurd (fine g why)
+  unsealed_ends memory n fine torn f same why = absurd why

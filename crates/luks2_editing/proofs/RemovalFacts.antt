@@ -15,6 +15,7 @@ use Rattle.luks_reading.specs.declared.report.Data.{Data}
 use Rattle.luks_reading.specs.Checked.{WellFormed}
 use Rattle.luks_reading.specs.Header.{IsChosenCopy}
 use Rattle.luks_edit.specs.declared.edit.Edit.TheVariants.{Remove}
+use Rattle.luks_edit.specs.declared.edit.Passphrase.{Passphrase}
 use Rattle.luks_edit.specs.declared.edit_fault.EditFault.TheVariants as fault
 use Rattle.luks_edit.specs.RowFacts.{passed_from, Passed}
 use Rattle.luks2_edits.specs.Edited.{After2}
@@ -33,7 +34,7 @@ use Rattle.luks2_editing.proofs.RenewalFacts.{metadata_here, prepared_unrefused,
 -- ---- the keyslot's area
 
 module _ (v : List ℕ) (payload : Data) (copy : ChosenCopy) (x : IsChosenCopy v copy) (well : WellFormed v payload)
-    (slot : ℕ) (passphrase : Bor (List ℕ)) (random : List ℕ) (numbered : slot < 32) (before : HasNoFaultBefore 12 v payload (Remove slot passphrase) random) where
+    (slot : ℕ) (passphrase : Passphrase) (random : List ℕ) (numbered : slot < 32) (before : HasNoFaultBefore 12 v payload (Remove slot passphrase) random) where
   pub removal_passed : Passed (IsEditFault2 v payload (Remove slot passphrase) random) 12
   removal_passed = passed_from (IsEditFault2 v payload (Remove slot passphrase) random) 12 before.each
 
@@ -44,7 +45,7 @@ module _ (v : List ℕ) (payload : Data) (copy : ChosenCopy) (x : IsChosenCopy v
       | inl some ↦ (numbered, some)
       | inr none ↦ absurd (removal_passed.none fault.NoSuchSlot (omega arith)
           (said v payload copy x well (λ o j. IsAbsent j (Remove slot passphrase))
-          (record { slot = slot; passphrase = passphrase.now; asked = (refl, refl); unused = λ used. true≢false (sym used.1 ∙ none) })))
+          (record { slot = slot; passphrase = passphrase.bytes.now; asked = (refl, refl); unused = λ used. true≢false (sym used.1 ∙ none) })))
     ];
     inside = lost_inside v payload copy x well slot;
   }

@@ -12,13 +12,12 @@ use Rattle.luks_rules.specs.Accepted.{HasObject}
 use Rattle.luks_rules.specs.Faults.{member_at}
 use Rattle.luks_rules.specs.Reading.{number_in}
 use Rattle.luks_making.specs.Naming.{IsDigestOf}
-use Rattle.luks_slot.specs.declared.plan.Derivation.{Derivation}
-use Rattle.luks_slot.specs.declared.plan.Derivation.TheVariants.{Pbkdf2, Argon2}
 use Rattle.luks_slot.specs.declared.plan.SlotPlan.{SlotPlan}
-use Rattle.luks_slot.specs.Opening.{area_bytes, HasIterations}
+use Rattle.luks_slot.specs.Opening.{area_bytes}
 use Rattle.luks_slot.specs.Sealing.{IsSealed}
 use Rattle.luks_reading.specs.declared.report.Data.{Data}
-use Rattle.luks_reading.specs.Plans.{IsLuks2Derivation, IsLuks2Plan}
+use Rattle.luks_reading.specs.Plans.{IsLuks2Plan}
+use Rattle.luks_reading.proofs.Luks2PlanNumbers.{has_turns}
 use Rattle.luks_edit.specs.declared.edit.Edit.{Edit}
 use Rattle.luks_edit.specs.declared.edit_fault.EditFault.{EditFault}
 use Rattle.luks_edit.specs.declared.edit_fault.EditFault.TheVariants as fault
@@ -41,11 +40,6 @@ on_ok_both (Err e) step a b = tt
 -- one is at least the least
 at_least_one : (d : Option Value) (n : ℕ) → number_in 1 4294967295 d ≡ Some n → 1 ≤ n
 at_least_one d n e = (in_between 1 4294967295 n d e).from
-
--- the derivation has an iteration
-iterated : (d : Value) (a : Derivation) → IsLuks2Derivation d a → HasIterations a
-iterated d (Pbkdf2 hash iterations salt) x = at_least_one (member_at d outer.Kdf name.Iterations) iterations x.2
-iterated d Argon2 x = tt
 
 -- ---- a plan of the keyslot
 
@@ -83,7 +77,7 @@ module _ (h total : ℕ) (k : Value) (n : ℕ) (key random : List ℕ) (x : IsSe
       let inside : x.area.start + x.area.len ≤ total = x.inside in
       let behind = x.behind in
       record {
-        iterations = iterated p.object plan.derivation p.is.derivation;
+        iterations = has_turns p.object plan.derivation p.is.derivation;
         key_length = x.key_length ∙ sym bytes;
         some_stripes = at_least_one (member_at p.object outer.Af name.Stripes) plan.stripes p.is.stripes;
         random_length = rw (bytes, stripes) x.random_length;
@@ -121,10 +115,11 @@ module _ (h total : ℕ) (k : Value) (n : ℕ) (key random : List ℕ) (x : IsSe
   }
 
   -- why it isn't sealed
-  pub plan_unsealed : (f : EditFault) → IsPlanFault plan f → IsUnsealed k n f
-  plan_unsealed (fault.Slot f) refused = record { object = p.object; there = p.there; plan = plan; is = p.is; one = p.one; refused = refused }
-  plan_unsealed fault.Device x = tt
-  plan_unsealed f x = absurd x
+  pub plan_unsealed : (memory : ℕ) (f : EditFault) → IsPlanFault memory plan f → IsUnsealed memory k n f
+  plan_unsealed memory (fault.Slot f) refused = record { object = p.object; there = p.there; plan = plan; is = p.is; one = p.one; refused = refused }
+  plan_unsealed memory fault.Memory x = tt
+  plan_unsealed memory fault.Device x = tt
+  plan_unsealed memory f x = absurd x
 
   module _ (v : List ℕ) (o : ℕ) (e : Edit) (passphrase w : List ℕ) where
     -- all was written

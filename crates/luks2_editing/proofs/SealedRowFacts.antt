@@ -4,7 +4,6 @@ use Rattle.base64.specs.GeneralPurpose.{IsBytes}
 use Rattle.serde_json.specs.Data.{Data as Value}
 use Rattle.serde_json.specs.Written.{compact_text}
 use Rattle.luks_head.specs.Header2.{header_at, hdr_size, seqid}
-use Rattle.luks_making.specs.Conditions.{HasPbkdf2}
 use Rattle.luks_meta.specs.Content.{area_len, content}
 use Rattle.luks_reading.specs.declared.header.ChosenCopy.{ChosenCopy}
 use Rattle.luks_reading.specs.declared.report.Data.{Data}
@@ -16,7 +15,6 @@ use Rattle.luks_edit.specs.RowFacts.{first_of_row, next, none_at_all, passed_fro
 use Rattle.luks2_edits.specs.Edited.{members_of, IsEdited}
 use Rattle.luks2_edits.specs.Refused.{IsEditFault2, HasSaid, IsFull, IsMiscounted, IsUnrefused2, Need2, NeedsLike}
 use Rattle.luks2_edits.proofs.ToldFacts.{need_once}
-use Rattle.luks2_edits.proofs.SealFacts.{opened_pbkdf2, opened_plan}
 use Rattle.luks2_edits.proofs.VolumeLaws.{one_digest}
 use Rattle.luks2_judging.proofs.EditedFacts.{texts_as_long}
 use Rattle.luks2_editing.specs.declared.sealed_metadata.Sealing.{Sealing}
@@ -115,12 +113,3 @@ module _ (v : List ℕ) (payload : Data) (e : Edit) (random : List ℕ) (copy : 
     )
     unprepared_ends fault.Memory bad = refl
     unprepared_ends f bad = absurd bad
-
--- ---- the keyslot like which it is sealed
-
-module _ (v : List ℕ) (payload : Data) (e : Edit) (random : List ℕ) (copy : ChosenCopy) (sealing : Sealing)
-    (x : IsSealingEdit v payload e random copy sealing) where
-  -- it was opened, so its key is derived by PBKDF2
-  pub like_pbkdf2 : HasPbkdf2 (content copy.meta) (like_of sealing.keyslot)
-  like_pbkdf2 = opened_pbkdf2 v copy.header.hdr_offset (content copy.meta) (like_of sealing.keyslot)
-      (opened_plan v copy.header.hdr_offset (content copy.meta) (like_of sealing.keyslot) x.passphrase x.key (metadata_here v payload copy x.chosen x.well) x.opened)

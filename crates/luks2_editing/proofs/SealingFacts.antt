@@ -1,5 +1,5 @@
 -- A new key area that is sealed before both copies of a LUKS2 header are written anew.
-use Rattle.std.proofs.Common.{◌≡◌, ◌≢◌, ℕ, ◌*◌, ◌≤◌, List, Some, inl, inr, refl, arith}
+use Rattle.std.proofs.Common.{◌≡◌, ◌≢◌, ℕ, ◌*◌, ◌≤◌, List, false, inl, inr, refl, arith}
 use Rattle.serde_json.specs.Data.{Data as Value}
 use Rattle.luks_area.specs.declared.area.Area.{Area}
 use Rattle.luks_area.specs.Ranges.{SameBut}
@@ -7,9 +7,8 @@ use Rattle.luks_area.specs.RangeFacts.{part-same_but, same_but-either}
 use Rattle.luks_slot.specs.declared.fault.SlotFault.{SlotFault}
 use Rattle.luks_slot.specs.declared.fault.SlotFault.TheVariants as sealing
 use Rattle.luks_slot.specs.declared.plan.SlotPlan.{SlotPlan}
-use Rattle.luks_slot.specs.Fault.{is_device_fault, IsAnsweredFault}
+use Rattle.luks_slot.specs.Fault.{is_device_fault, IsAnsweredWithin}
 use Rattle.luks_slot.specs.Opening.{area_bytes}
-use Rattle.luks_slot.specs.Refusal.{slot_refusal}
 use Rattle.luks_slot.specs.Sealing.{IsSealed}
 use Rattle.luks_edit.specs.EditFaults.{is_edit_failure}
 use Rattle.luks_edit.specs.declared.edit.Edit.{Edit}
@@ -21,13 +20,13 @@ use Rattle.luks2_editing.specs.Sealed.{unsealed, IsOfStripes, IsPlanFault, MayBe
 -- ---- the fault of sealing
 
 -- it is that of the plan
-pub unsealed_fault : (plan : SlotPlan) (f : SlotFault) → IsAnsweredFault plan f → IsPlanFault plan (unsealed f)
-unsealed_fault plan sealing.Argon2 x = x
-unsealed_fault plan sealing.Cipher x = x
-unsealed_fault plan sealing.Hash x = x
-unsealed_fault plan sealing.KeySize x = x
-unsealed_fault plan sealing.Device x = tt
-unsealed_fault plan sealing.Memory x = x
+pub unsealed_fault : (memory : ℕ) (plan : SlotPlan) (f : SlotFault) → IsAnsweredWithin memory plan f → IsPlanFault memory plan (unsealed f)
+unsealed_fault memory plan sealing.Argon2 x = x
+unsealed_fault memory plan sealing.Cipher x = x
+unsealed_fault memory plan sealing.Hash x = x
+unsealed_fault memory plan sealing.KeySize x = x
+unsealed_fault memory plan sealing.Device x = tt
+unsealed_fault memory plan sealing.Memory x = x.1
 
 -- it is the device's where the device's it was
 pub unsealed_failure : (f : SlotFault) → is_edit_failure (unsealed f) ≡ is_device_fault f
@@ -38,14 +37,14 @@ unsealed_failure sealing.KeySize = refl
 unsealed_failure sealing.Device = refl
 unsealed_failure sealing.Memory = refl
 
--- where it isn't, the plan is refused
-pub unsealed_refused : (plan : SlotPlan) (f : SlotFault) → IsAnsweredFault plan f → unsealed f ≢ fault.Device → slot_refusal plan ≡ Some f
-unsealed_refused plan sealing.Argon2 x other = x
-unsealed_refused plan sealing.Cipher x other = x
-unsealed_refused plan sealing.Hash x other = x
-unsealed_refused plan sealing.KeySize x other = x
-unsealed_refused plan sealing.Device x other = absurd (other refl)
-unsealed_refused plan sealing.Memory x other = absurd x
+-- where it isn't, nor was it
+pub unsealed_own : (f : SlotFault) → unsealed f ≢ fault.Device → is_device_fault f ≡ false
+unsealed_own sealing.Argon2 other = refl
+unsealed_own sealing.Cipher other = refl
+unsealed_own sealing.Hash other = refl
+unsealed_own sealing.KeySize other = refl
+unsealed_own sealing.Device other = absurd (other refl)
+unsealed_own sealing.Memory other = refl
 
 -- ---- an area and the copies
 

@@ -10,11 +10,12 @@ use Rattle.luks_making.specs.With.{IsAdded}
 use Rattle.luks_meta.specs.Content.{content}
 use Rattle.luks_reading.specs.declared.header.ChosenCopy.{ChosenCopy}
 use Rattle.luks_reading.specs.declared.report.Data.{Data}
-use Rattle.luks_reading.specs.Answer.{Answer, opens}
+use Rattle.luks_reading.specs.Answer.{AnswerWithin, opens}
 use Rattle.luks_reading.specs.Checked.{WellFormed}
 use Rattle.luks_reading.specs.Header.{IsChosenCopy}
 use Rattle.luks_edit.specs.declared.edit.Edit.{Edit}
 use Rattle.luks_edit.specs.declared.edit.Edit.TheVariants.{Add, Change}
+use Rattle.luks_edit.specs.Asked.{allowed_memory}
 use Rattle.luks2_edits.specs.Metadata.{IsNewKeyslot}
 use Rattle.luks2_edits.specs.Places.{IsNewArea}
 use Rattle.luks2_judging.specs.Rows.{HasNoFaultBefore}
@@ -73,4 +74,4 @@ pub record IsSealingEdit
       (content copy.meta) (like_of sealing.keyslot) sealing.area
   pub passphrase : List ℕ
   pub key : List ℕ
-  pub opened : Answer v (like_of sealing.keyslot) passphrase (opens key)
+  pub opened : AnswerWithin (allowed_memory e) v (like_of sealing.keyslot) passphrase (opens key)

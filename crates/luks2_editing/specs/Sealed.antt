@@ -1,6 +1,6 @@
 -- What writing a new key area and then both copies of a LUKS2 header may leave: words of private
 -- contracts.
-use Rattle.std.specs.Prelude.{◌≡◌, ℕ, ◌+◌, ◌-◌, ◌*◌, ◌≤◌, ◌⊎◌, List, length, Some, ⊤}
+use Rattle.std.specs.Prelude.{◌≡◌, ℕ, ◌+◌, ◌-◌, ◌*◌, ◌≤◌, ◌⊎◌, List, length, true, Some, ⊤}
 use Rattle.serde_json.specs.Data.{Data as Value}
 use Rattle.luks_area.specs.Area.{IsInside}
 use Rattle.luks_area.specs.Ranges.{IsAt, IsOfEither, SameBut}
@@ -10,7 +10,7 @@ use Rattle.luks_slot.specs.declared.fault.SlotFault.{SlotFault}
 use Rattle.luks_slot.specs.declared.fault.SlotFault.TheVariants as sealing
 use Rattle.luks_slot.specs.declared.plan.SlotPlan.{SlotPlan}
 use Rattle.luks_slot.specs.Opening.{area_bytes, stripe_bytes, HasIterations}
-use Rattle.luks_slot.specs.Refusal.{slot_refusal}
+use Rattle.luks_slot.specs.Refusal.{is_argon2, slot_refusal_within}
 use Rattle.luks_slot.specs.Sealing.{IsSealed}
 use Rattle.luks_edit.specs.declared.edit.Edit.{Edit}
 use Rattle.luks_edit.specs.declared.edit_fault.EditFault.{EditFault}
@@ -39,11 +39,13 @@ unsealed sealing.Device = fault.Device
 unsealed sealing.Memory = fault.Memory
 unsealed f = fault.Slot f
 
--- why the key isn't sealed: the plan is refused, or the device failed
-abbrev pub IsPlanFault : SlotPlan → EditFault → Type 0
-IsPlanFault plan (fault.Slot f) = slot_refusal plan ≡ Some f
-IsPlanFault plan fault.Device = ⊤
-IsPlanFault plan f = ⊥
+-- why the key isn't sealed, where Argon2 may take so many KiB of memory: the plan is refused, memory was
+-- refused to Argon2, or the device failed
+abbrev pub IsPlanFault : ℕ → SlotPlan → EditFault → Type 0
+IsPlanFault memory plan (fault.Slot f) = slot_refusal_within memory plan ≡ Some f
+IsPlanFault memory plan fault.Memory = is_argon2 plan.derivation ≡ true
+IsPlanFault memory plan fault.Device = ⊤
+IsPlanFault memory plan f = ⊥
 
 -- the key is sealed, and the copy of `v` that stands at the place `o` is as it was
 pub record IsOtherTorn

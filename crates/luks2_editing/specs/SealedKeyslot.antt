@@ -12,7 +12,7 @@ use Rattle.luks_rules.specs.Accepted.{HasObject}
 use Rattle.luks_making.specs.Naming.{IsDigestOf}
 use Rattle.luks_slot.specs.declared.fault.SlotFault.{SlotFault}
 use Rattle.luks_slot.specs.declared.plan.SlotPlan.{SlotPlan}
-use Rattle.luks_slot.specs.Refusal.{slot_refusal}
+use Rattle.luks_slot.specs.Refusal.{slot_refusal_within}
 use Rattle.luks_reading.specs.declared.report.Data.{Data}
 use Rattle.luks_reading.specs.Plans.{IsLuks2Plan}
 use Rattle.luks_edit.specs.declared.edit.Edit.{Edit}
@@ -61,20 +61,22 @@ pub record IsSealing
 
 -- ---- what is answered
 
--- the keyslot `n`, which one digest names, has a plan that is refused by `f`
-pub record HasRefusedKeyslot (k : Value) (n : ℕ) (f : SlotFault) : Type 0 where
+-- the keyslot `n`, which one digest names, has a plan that is refused by `f`, where Argon2 may take so
+-- many KiB of memory
+pub record HasRefusedKeyslot (memory : ℕ) (k : Value) (n : ℕ) (f : SlotFault) : Type 0 where
   pub object : Value
   pub there : HasObject k Keyslots n object
   pub plan : SlotPlan
   pub is : IsLuks2Plan k n object plan
   pub one : (m : ℕ) → IsDigestOf k n m → m ≡ is.digest.number
-  pub refused : slot_refusal plan ≡ Some f
+  pub refused : slot_refusal_within memory plan ≡ Some f
 
--- why the key isn't sealed in it, or not all was written
-abbrev pub IsUnsealed : Value → ℕ → EditFault → Type 0
-IsUnsealed k n (fault.Slot f) = HasRefusedKeyslot k n f
-IsUnsealed k n fault.Device = ⊤
-IsUnsealed k n f = ⊥
+-- why the key isn't sealed in it, memory being refused to Argon2, or not all was written
+abbrev pub IsUnsealed : ℕ → Value → ℕ → EditFault → Type 0
+IsUnsealed memory k n (fault.Slot f) = HasRefusedKeyslot memory k n f
+IsUnsealed memory k n fault.Memory = ⊤
+IsUnsealed memory k n fault.Device = ⊤
+IsUnsealed memory k n f = ⊥
 
 -- the keyslot `n` of the metadata `k` holds the key, both copies of `w` take the place of the copy
 -- of `v` at `o` with that metadata, and nothing else changed

@@ -1,16 +1,17 @@
 //! Adding a keyslot to a LUKS2 volume.
 ghost use Rattle.std.specs.Prelude.{◌≡◌, ℕ, ◌+◌, ◌^◌, ◌<◌, ◌≤◌, List, Option, length};
-ghost use Rattle.std.specs.Borrow.{Bor};
 ghost use Rattle.luks_area.specs.Device.{CountsFailure, IsSettled};
 ghost use Rattle.luks_head.specs.Header2.{hdr_size, header_at};
 ghost use Rattle.luks_making.specs.Conditions.{IsFree};
 ghost use Rattle.luks_meta.specs.Content.{area_len, content};
-ghost use Rattle.luks_reading.specs.Answer.{opens, Answer};
+ghost use Rattle.luks_reading.specs.Answer.{opens, AnswerWithin};
 ghost use Rattle.luks_reading.specs.Checked.{WellFormed};
 ghost use Rattle.luks_reading.specs.Header.{IsChosenCopy};
 ghost use Rattle.luks_reading.specs.Plans.{HasLuks2KeyBytes};
 ghost use Rattle.luks_reading.specs.declared.report.Data.{Data as Payload};
+ghost use Rattle.luks_edit.specs.Asked.{memory_for};
 ghost use Rattle.luks_edit.specs.EditFaults.{is_edit_failure};
+ghost use Rattle.luks_edit.specs.declared.edit.Passphrase.{Passphrase};
 ghost use Rattle.luks_edit.specs.declared.edit.Edit.TheVariants.{Add};
 ghost use Rattle.luks2_edits.specs.Metadata.{IsNewKeyslot};
 ghost use Rattle.luks2_edits.specs.Places.{IsNewArea};
@@ -29,38 +30,41 @@ use std::alloc::Global;
 
 /// Seals the key, which the old passphrase opens in the keyslot `by_`, under the new one in the area
 /// of the new keyslot, and then writes both copies of the header anew with it, the other copy first.
-/// A flush follows each.
+/// A flush follows each. The old metadata is given up for the new.
 ///
-/// Refused by `SeqExhausted`, `MetadataFull` or `RandomLength`. Takes memory for the metadata and the
-/// JSON area, before the first write.
+/// Refused by `SeqExhausted`, `MetadataFull` or `RandomLength`. Takes memory for the new keyslot,
+/// the JSON area and Argon2, before the first write.
 pub(crate) fn add<D: Device>(
     alloc: Global,
     device: &mut D,
-    copy: &ChosenCopy,
+    copy: ChosenCopy,
     addition: &Addition,
     secrets: &Secrets<'_>,
 ) -> Result<Done, EditFault>
     requires room { D.failed device.old + 1 < 2 ^ 64 }
     requires settled { D.tells → IsSettled D.unsettled device.old }
-    requires free { IsFree (content copy.now.meta) addition.now.made }
+    requires free { IsFree (content copy.meta) addition.now.made }
+    requires passphrase { 0 < secrets.now.memory → length secrets.now.passphrase.now < 2 ^ 32 }
     requires iterated { 1000 ≤ addition.now.iterations }
-    requires key_length { HasLuks2KeyBytes (content copy.now.meta) addition.now.by_
+    requires key_length { HasLuks2KeyBytes (content copy.meta) addition.now.by_
         (length secrets.now.key.now) }
-    requires placed { IsPlaced (area_len copy.now.meta) (content copy.now.meta)
+    requires placed { IsPlaced (area_len copy.meta) (content copy.meta)
         (D.size device.old) addition.now.by_ addition.now.area }
     ensures size { D.size device.new ≡ D.size device.old }
     ensures settled { D.tells → D.failed device.new ≡ D.failed device.old
         → IsSettled D.unsettled device.new }
     ensures count { CountsFailure is_edit_failure result
         (D.failed device.old) (D.failed device.new) }
-    ensures replies { D.tells → (payload : Payload) (old : Bor (List ℕ)) (to : Option ℕ)
-        → IsChosenCopy (D.bytes device.old) copy.now → WellFormed (D.bytes device.old) payload
+    ensures replies { D.tells → (payload : Payload) (old : Passphrase) (to : Option ℕ)
+        → IsChosenCopy (D.bytes device.old) copy → WellFormed (D.bytes device.old) payload
         → let e = Add addition.now.by_ old secrets.now.passphrase to addition.now.iterations in
         HasNoFaultBefore 12 (D.bytes device.old) payload e secrets.now.random.now
-        → Answer (D.bytes device.old) addition.now.by_ old.now (opens secrets.now.key.now)
-        → IsNewKeyslot (content copy.now.meta) to addition.now.made
-        → IsNewArea (hdr_size (header_at (D.bytes device.old) copy.now.header.hdr_offset))
-        (length (D.bytes device.old)) payload (content copy.now.meta) addition.now.by_
+        → memory_for old secrets.now.passphrase.now ≡ secrets.now.memory
+        → AnswerWithin (memory_for old secrets.now.passphrase.now) (D.bytes device.old) addition.now.by_ old.bytes.now
+        (opens secrets.now.key.now)
+        → IsNewKeyslot (content copy.meta) to addition.now.made
+        → IsNewArea (hdr_size (header_at (D.bytes device.old) copy.header.hdr_offset))
+        (length (D.bytes device.old)) payload (content copy.meta) addition.now.by_
         addition.now.area
         → Replies2 payload (D.bytes device.old) e secrets.now.random.now result (D.bytes device.new) }
 {
@@ -73,8 +77,9 @@ pub(crate) fn add<D: Device>(
         iterations: addition.iterations,
         area: addition.area,
     };
+    let header = copy.header;
     let made = new_metadata(alloc, copy, &sealing, secrets.random, device.len())?;
-    write_keyslot(device, &copy.header, &made, addition.made, secrets)?;
+    write_keyslot(alloc, device, &header, &made, addition.made, secrets)?;
     Ok(Done {
         slot: Some(addition.made),
     })

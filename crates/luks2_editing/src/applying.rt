@@ -23,32 +23,34 @@ use std::alloc::Global;
 /// that is sealed its salt, 32 bytes, and its stripes but the last.
 ///
 /// The first refusal is answered, or `Memory`, and then no byte changes: all memory is taken before
-/// the first write. What is written is written in this order, each range with a flush: the area of
-/// the keyslot that is made or sealed again, the copy of the header that didn't count, the one that
-/// did, and zeros over the area that a keyslot lost. `Device` comes exactly where a device call
-/// failed; what that leaves, the volume as it was or one torn in that range, keeps every other
-/// keyslot, unless bytes of a torn write are taken for a header.
+/// the first write, that of Argon2 too. The header is given up, so that the old metadata doesn't live beside the new. What
+/// is written is written in this order, each range with a flush: the area of the keyslot that is made
+/// or sealed again, the copy of the header that didn't count, the one that did, and zeros over the
+/// area that a keyslot lost. `Device` comes exactly where a device call failed; what that leaves, the
+/// volume as it was or one torn in that range, keeps every other keyslot, unless bytes of a torn write
+/// are taken for a header.
 #[tactic(auto, using(luks_area::specs::DeviceFacts::settled_unchanged))]
 pub fn apply_luks2<D: Device>(
     alloc: Global,
     device: &mut D,
-    header: &Header,
+    header: Header,
     data_: Data,
     edit: &Edit<'_>,
     random: &[u8],
 ) -> Result<Done, EditFault>
     requires room { D.failed device.old + 1 < 2 ^ 64 }
     requires settled { D.tells → IsSettled D.unsettled device.old }
-    requires accepted { IsAcceptedHeader header.now }
-    requires luks2 { IsOfLuks2 header.now }
+    requires accepted { IsAcceptedHeader header }
+    requires luks2 { IsOfLuks2 header }
     ensures size { D.size device.new ≡ D.size device.old }
     ensures settled { D.tells → D.failed device.new ≡ D.failed device.old
         → IsSettled D.unsettled device.new }
     ensures count { CountsFailure is_edit_failure result
         (D.failed device.old) (D.failed device.new) }
-    ensures replies { D.tells → IsHeader (D.bytes device.old) header.now
+    ensures replies { D.tells → IsHeader (D.bytes device.old) header
         → Replies2 data_ (D.bytes device.old) edit.now random.now result (D.bytes device.new) }
 {
+    let memory = edit.allowed_memory();
     let judged = judge_luks2(alloc, device, header, data_, edit)?;
     let copy = judged.copy;
     match judged.edit {
@@ -57,7 +59,7 @@ pub fn apply_luks2<D: Device>(
             key,
             passphrase,
         } => {
-            let secrets = Secrets::new(&key, passphrase, random);
+            let secrets = Secrets::new(&key, passphrase, memory, random);
             add(alloc, device, copy, &addition, &secrets)
         }
         JudgedEdit::Change {
@@ -65,11 +67,11 @@ pub fn apply_luks2<D: Device>(
             key,
             passphrase,
         } => {
-            let secrets = Secrets::new(&key, passphrase, random);
+            let secrets = Secrets::new(&key, passphrase, memory, random);
             change(alloc, device, copy, &renewal, &secrets)
         }
         JudgedEdit::Remove { slot } => remove(alloc, device, copy, slot, random),
-        JudgedEdit::Repair => repair(alloc, device, copy, random),
-        JudgedEdit::Label { field } => set_label(alloc, device, copy, field, random),
+        JudgedEdit::Repair => repair(alloc, device, &copy, random),
+        JudgedEdit::Label { field } => set_label(alloc, device, &copy, field, random),
     }
 }

@@ -1,6 +1,5 @@
 //! Removing a keyslot of a LUKS2 volume.
 ghost use Rattle.std.specs.Prelude.{◌≡◌, ◌+◌, ◌^◌, ◌<◌, ℕ, List, false, IfErr, IfOk, IsOk};
-ghost use Rattle.std.specs.Borrow.{Bor};
 ghost use Rattle.luks_area.specs.Area.{IsInside};
 ghost use Rattle.luks_area.specs.Device.{CountsFailure, IsSettled};
 ghost use Rattle.luks_meta.specs.Content.{area_len, content};
@@ -9,6 +8,7 @@ ghost use Rattle.luks_reading.specs.Checked.{WellFormed};
 ghost use Rattle.luks_reading.specs.Header.{IsChosenCopy};
 ghost use Rattle.luks_reading.specs.declared.report.Data.{Data as Payload};
 ghost use Rattle.luks_edit.specs.EditFaults.{is_edit_failure};
+ghost use Rattle.luks_edit.specs.declared.edit.Passphrase.{Passphrase};
 ghost use Rattle.luks_edit.specs.declared.edit.Edit.TheVariants.{Remove};
 ghost use Rattle.luks2_edits.specs.Metadata.{IsKeyArea};
 ghost use Rattle.luks2_judging.specs.Rows.{HasNoFaultBefore};
@@ -25,14 +25,15 @@ use std::alloc::Global;
 
 /// Removes the keyslot from the metadata, writes both copies of the header anew, the other copy first,
 /// and then overwrites the keyslot's area with zeros; each with a flush. The rows of the faults up to
-/// `BadLabel` were judged.
+/// `BadLabel` were judged. The old metadata is given up for the new.
 ///
 /// Refused by `SeqExhausted`, `MetadataFull` or `RandomLength`; 128 random bytes are needed, the salts
-/// of the copies. Takes memory for the metadata and the JSON area, before the first write.
+/// of the copies. Takes memory for the maps of tokens and digests and for the JSON area, before the
+/// first write.
 pub(crate) fn remove<D: Device>(
     alloc: Global,
     device: &mut D,
-    copy: &ChosenCopy,
+    copy: ChosenCopy,
     slot: u8,
     random: &[u8],
 ) -> Result<Done, EditFault>
@@ -44,22 +45,16 @@ pub(crate) fn remove<D: Device>(
         → IsSettled D.unsettled device.new }
     ensures count { CountsFailure is_edit_failure result
         (D.failed device.old) (D.failed device.new) }
-    ensures replies { D.tells → (payload : Payload) (passphrase : Bor (List ℕ))
-        → IsChosenCopy (D.bytes device.old) copy.now → WellFormed (D.bytes device.old) payload
+    ensures replies { D.tells → (payload : Payload) (passphrase : Passphrase)
+        → IsChosenCopy (D.bytes device.old) copy → WellFormed (D.bytes device.old) payload
         → HasNoFaultBefore 12 (D.bytes device.old) payload (Remove slot passphrase) random.now
         → Replies2 payload (D.bytes device.old) (Remove slot passphrase) random.now
         result (D.bytes device.new) }
 {
     let area = lost_area(&copy.meta, slot, device.len())?;
-    let meta = without_slot(alloc, &copy.meta, slot)?;
-    rewrite(
-        alloc,
-        device,
-        &copy.header,
-        &meta,
-        copy.header.label,
-        random,
-    )?;
+    let header = copy.header;
+    let meta = without_slot(alloc, copy.meta, slot)?;
+    rewrite(alloc, device, &header, &meta, header.label, random)?;
     match wipe_area(device, area) {
         Ok(()) => Ok(Done { slot: None }),
         Err(_) => Err(EditFault::Device),
@@ -91,10 +86,10 @@ pub(crate) fn lost_area(meta: &Meta, slot: u8, total: u64) -> Result<Area, EditF
 }
 
 /// The metadata without the keyslot, or `Memory`.
-fn without_slot(alloc: Global, meta: &Meta, slot: u8) -> Result<Meta, EditFault>
+fn without_slot(alloc: Global, meta: Meta, slot: u8) -> Result<Meta, EditFault>
     requires { slot < 32 }
-    ensures value { IfOk result (λ m. content m ≡ without_slot slot (content meta.now)) }
-    ensures length { IfOk result (λ m. area_len m ≡ area_len meta.now) }
+    ensures value { IfOk result (λ m. content m ≡ without_slot slot (content meta)) }
+    ensures length { IfOk result (λ m. area_len m ≡ area_len meta) }
     ensures memory { IfErr result (λ f. f ≡ EditFault.Memory) }
 {
     match luks_new_meta::without_slot(alloc, meta, slot) {

@@ -1,7 +1,7 @@
 //! The new metadata of an edit of a LUKS2 volume that seals a keyslot, made before its first write.
 ghost use Rattle.std.specs.Prelude.{◌≡◌, ◌↔◌, ◌+◌, ◌^◌, ◌<◌, ◌≤◌, ℕ, List, false, length, IfErr, IfOk, IsTrue, OnOk};
 ghost use Rattle.luks_head.specs.Header2.{hdr_size, header_at};
-ghost use Rattle.luks_making.specs.Conditions.{CanSeal, HasPbkdf2, IsFree};
+ghost use Rattle.luks_making.specs.Conditions.{CanSeal, IsThere, IsFree};
 ghost use Rattle.luks_making.specs.Keyslots.{new_members};
 ghost use Rattle.luks_making.specs.WrittenArea.{IsWrittenArea};
 ghost use Rattle.luks_meta.specs.Content.{area_len, content};
@@ -22,10 +22,9 @@ use luks_edit::EditFault;
 use luks_making::{
     New, addition_keeps_the_rest, change_keeps_the_rest, made_keyslot_has_room, new_fits,
 };
-use luks_meta::{Cost, Meta};
+use luks_meta::Meta;
 use luks_new_meta::{changed_slot, with_slot};
 use luks_reading::ChosenCopy;
-use luks_slot::SlotFault;
 use luks2_judging::sealed_need;
 use std::alloc::Global;
 
@@ -54,7 +53,7 @@ impl SealedSlot {
 #[derive(Clone, Copy)]
 pub(crate) struct Sealing {
     pub(crate) keyslot: SealedSlot,
-    /// The iterations of its derivation.
+    /// The iterations of its derivation, where that is PBKDF2.
     pub(crate) iterations: u32,
     /// Its area.
     pub(crate) area: Area,
@@ -71,44 +70,44 @@ pub(crate) struct NewMetadata {
 /// once there is a next sequence number, the text leaves a zero byte in the area, and the random
 /// bytes are as many as are needed. The keyslot like which it is sealed was opened.
 ///
-/// Refused by `SeqExhausted`, `MetadataFull` or `RandomLength`. Takes memory for the metadata and the
-/// JSON area.
+/// Refused by `SeqExhausted`, `MetadataFull` or `RandomLength`. The old metadata is given up for the
+/// new. Takes memory for what is new and the JSON area.
 pub(crate) fn new_metadata(
     alloc: Global,
-    copy: &ChosenCopy,
+    copy: ChosenCopy,
     sealing: &Sealing,
     random: &[u8],
     total: u64,
 ) -> Result<NewMetadata, EditFault>
-    requires number { HasNumber (content copy.now.meta) sealing.now.keyslot }
+    requires number { HasNumber (content copy.meta) sealing.now.keyslot }
     requires iterated { 1 ≤ sealing.now.iterations }
-    requires placed { IsPlaced (area_len copy.now.meta) (content copy.now.meta) total
+    requires placed { IsPlaced (area_len copy.meta) (content copy.meta) total
         (like_of sealing.now.keyslot) sealing.now.area }
     ensures made { IfOk result (λ m. IsMadeBy sealing.now.keyslot
         (members_of sealing.now.iterations (keyslot_salt random.now) sealing.now.area)
-        (content copy.now.meta) (content m.meta)) }
-    ensures length { IfOk result (λ m. area_len m.meta ≡ area_len copy.now.meta) }
+        (content copy.meta) (content m.meta)) }
+    ensures length { IfOk result (λ m. area_len m.meta ≡ area_len copy.meta) }
     ensures json { IfOk result (λ m.
         IsWrittenArea (area_len m.meta) (content m.meta) m.json.items) }
-    ensures within { IfOk result (λ m. AreCopiesWithin copy.now.header (area_len m.meta) total) }
-    ensures numbered { OnOk result (copy.now.header.seqid + 1 < 2 ^ 64) }
-    ensures counted { OnOk result (NeedsLike (content copy.now.meta)
+    ensures within { IfOk result (λ m. AreCopiesWithin copy.header (area_len m.meta) total) }
+    ensures numbered { OnOk result (copy.header.seqid + 1 < 2 ^ 64) }
+    ensures counted { OnOk result (NeedsLike (content copy.meta)
         (like_of sealing.now.keyslot) (length random.now)) }
     ensures own { IfErr result (λ f. is_edit_failure f ≡ false) }
     ensures unrefused { (v : List ℕ) (payload : Payload) (e : TheEdit)
-        → IsSealingEdit v payload e random.now copy.now sealing.now → length v ≡ total
+        → IsSealingEdit v payload e random.now copy sealing.now → length v ≡ total
         → OnOk result (IsUnrefused2 v payload e random.now) }
     ensures edited { (v : List ℕ) (payload : Payload) (e : TheEdit)
-        → IsSealingEdit v payload e random.now copy.now sealing.now → length v ≡ total
-        → IfOk result (λ m. IsEdited (hdr_size (header_at v copy.now.header.hdr_offset))
-        (length v) payload e (keyslot_salt random.now) (content copy.now.meta) (content m.meta)) }
+        → IsSealingEdit v payload e random.now copy sealing.now → length v ≡ total
+        → IfOk result (λ m. IsEdited (hdr_size (header_at v copy.header.hdr_offset))
+        (length v) payload e (keyslot_salt random.now) (content copy.meta) (content m.meta)) }
     ensures refused { (v : List ℕ) (payload : Payload) (e : TheEdit)
-        → IsSealingEdit v payload e random.now copy.now sealing.now → length v ≡ total
+        → IsSealingEdit v payload e random.now copy sealing.now → length v ≡ total
         → IfErr result (λ f. EndsBy2 payload v e random.now f v) }
 {
     let like = sealing.keyslot.like();
-    if !has_pbkdf2(&copy.meta, like) {
-        return Err(EditFault::Slot(SlotFault::Argon2));
+    if !is_there(&copy.meta, like) {
+        return Err(EditFault::NoSuchSlot);
     }
     let salt = keyslot_salt(random);
     let new = New {
@@ -118,23 +117,20 @@ pub(crate) fn new_metadata(
         size: sealing.area.len,
     };
     new_fits(&new);
-    let meta = made_metadata(alloc, &copy.meta, sealing.keyslot, &new)?;
     let need = sealed_need(&copy.meta, like) as usize;
-    let json = prepared(alloc, &copy.header, &meta, random, need, total)?;
+    let header = copy.header;
+    let meta = made_metadata(alloc, copy.meta, sealing.keyslot, &new)?;
+    let json = prepared(alloc, &header, &meta, random, need, total)?;
     Ok(NewMetadata { meta, json })
 }
 
-/// Whether the keyslot's key is derived by PBKDF2.
-fn has_pbkdf2(meta: &Meta, n: u8) -> bool
+/// Whether the keyslot is there.
+fn is_there(meta: &Meta, n: u8) -> bool
     requires { n < 32 }
-    ensures { IsTrue result ↔ HasPbkdf2 (content meta.now) n }
+    ensures { IsTrue result ↔ IsThere (content meta.now) n }
 {
     match meta.keyslot(n) {
-        Some(keyslot) => match keyslot.kdf.cost {
-            Cost::Pbkdf2(_) => true,
-            Cost::Argon2i(_) => false,
-            Cost::Argon2id(_) => false,
-        },
+        Some(_) => true,
         None => false,
     }
 }
@@ -142,16 +138,16 @@ fn has_pbkdf2(meta: &Meta, n: u8) -> bool
 /// The metadata with the keyslot, or `Memory`.
 fn made_metadata(
     alloc: Global,
-    meta: &Meta,
+    meta: Meta,
     keyslot: SealedSlot,
     new: &New<'_>,
 ) -> Result<Meta, EditFault>
-    requires number { HasNumber (content meta.now) keyslot }
-    requires suits { CanSeal (area_len meta.now) (content meta.now) (like_of keyslot)
+    requires number { HasNumber (content meta) keyslot }
+    requires suits { CanSeal (area_len meta) (content meta) (like_of keyslot)
         (new_members new.now) }
     ensures made { IfOk result (λ m.
-        IsMadeBy keyslot (new_members new.now) (content meta.now) (content m)) }
-    ensures length { IfOk result (λ m. area_len m ≡ area_len meta.now) }
+        IsMadeBy keyslot (new_members new.now) (content meta) (content m)) }
+    ensures length { IfOk result (λ m. area_len m ≡ area_len meta) }
     ensures memory { IfErr result (λ f. f ≡ EditFault.Memory) }
 {
     match keyslot {
@@ -161,12 +157,12 @@ fn made_metadata(
 }
 
 /// The metadata with a new keyslot, or `Memory`.
-fn gained(alloc: Global, meta: &Meta, slot: u8, like: u8, new: &New<'_>) -> Result<Meta, EditFault>
-    requires number { IsFree (content meta.now) slot }
-    requires suits { CanSeal (area_len meta.now) (content meta.now) like (new_members new.now) }
+fn gained(alloc: Global, meta: Meta, slot: u8, like: u8, new: &New<'_>) -> Result<Meta, EditFault>
+    requires number { IsFree (content meta) slot }
+    requires suits { CanSeal (area_len meta) (content meta) like (new_members new.now) }
     ensures made { IfOk result (λ m.
-        IsGained slot like (new_members new.now) (content meta.now) (content m)) }
-    ensures length { IfOk result (λ m. area_len m ≡ area_len meta.now) }
+        IsGained slot like (new_members new.now) (content meta) (content m)) }
+    ensures length { IfOk result (λ m. area_len m ≡ area_len meta) }
     ensures memory { IfErr result (λ f. f ≡ EditFault.Memory) }
 {
     addition_keeps_the_rest();
@@ -179,11 +175,11 @@ fn gained(alloc: Global, meta: &Meta, slot: u8, like: u8, new: &New<'_>) -> Resu
 }
 
 /// The metadata with what is new in the keyslot, or `Memory`.
-fn renewed(alloc: Global, meta: &Meta, slot: u8, new: &New<'_>) -> Result<Meta, EditFault>
-    requires { CanSeal (area_len meta.now) (content meta.now) slot (new_members new.now) }
+fn renewed(alloc: Global, meta: Meta, slot: u8, new: &New<'_>) -> Result<Meta, EditFault>
+    requires { CanSeal (area_len meta) (content meta) slot (new_members new.now) }
     ensures made { IfOk result (λ m.
-        IsSealedAgain slot (new_members new.now) (content meta.now) (content m)) }
-    ensures length { IfOk result (λ m. area_len m ≡ area_len meta.now) }
+        IsSealedAgain slot (new_members new.now) (content meta) (content m)) }
+    ensures length { IfOk result (λ m. area_len m ≡ area_len meta) }
     ensures memory { IfErr result (λ f. f ≡ EditFault.Memory) }
 {
     change_keeps_the_rest();

@@ -1,5 +1,5 @@
 //! Sealing a keyslot of new metadata, and writing that metadata.
-ghost use Rattle.std.specs.Prelude.{◌≡◌, ◌≢◌, ◌+◌, ◌^◌, ◌<◌, IfErr, OnOk};
+ghost use Rattle.std.specs.Prelude.{◌≡◌, ◌≢◌, ◌+◌, ◌^◌, ◌<◌, length, IfErr, OnOk};
 ghost use Rattle.serde_json.specs.Data.{Data as Value};
 ghost use Rattle.luks_area.specs.Device.{CountsFailure, IsSettled};
 ghost use Rattle.luks_making.specs.WrittenArea.{IsWrittenArea};
@@ -20,14 +20,17 @@ use luks_area::Device;
 use luks_edit::EditFault;
 use luks_head::Bin2;
 use luks_reading::luks2_plan;
+use std::alloc::Global;
 
 /// Seals the key in the area of the keyslot `n` of the new metadata, and then writes both copies
 /// anew with that metadata from the chosen one's binary header: the other one first. A flush follows
-/// each. A keyslot whose plan is refused is answered as `Slot`, and then no byte changes.
+/// each. A keyslot whose plan is refused is answered as `Slot`, and then no byte changes, nor where
+/// `Memory` is.
 ///
 /// Of the random bytes the salts of the copies are the first 128; the keyslot's stripes but the
 /// last are those from the place 160 on.
 pub(crate) fn write_keyslot<D: Device>(
+    alloc: Global,
     device: &mut D,
     chosen: &Bin2,
     made: &NewMetadata,
@@ -36,6 +39,7 @@ pub(crate) fn write_keyslot<D: Device>(
 ) -> Result<(), EditFault>
     requires room { D.failed device.old + 1 < 2 ^ 64 }
     requires settled { D.tells → IsSettled D.unsettled device.old }
+    requires passphrase { 0 < secrets.now.memory → length secrets.now.passphrase.now < 2 ^ 32 }
     requires numbered { chosen.now.seqid + 1 < 2 ^ 64 }
     requires json { IsWrittenArea (area_len made.now.meta) (content made.now.meta)
         made.now.json.items }
@@ -47,7 +51,7 @@ pub(crate) fn write_keyslot<D: Device>(
         → IsSettled D.unsettled device.new }
     ensures count { CountsFailure is_edit_failure result
         (D.failed device.old) (D.failed device.new) }
-    ensures fault { IfErr result (IsUnsealed (content made.now.meta) n) }
+    ensures fault { IfErr result (IsUnsealed secrets.now.memory (content made.now.meta) n) }
     ensures same { D.tells → IfErr result (λ f. f ≢ EditFault.Device
         → D.bytes device.new ≡ D.bytes device.old) }
     ensures written { D.tells → (e : TheEdit)
@@ -66,5 +70,5 @@ pub(crate) fn write_keyslot<D: Device>(
     let number = made.meta.digest_of_keyslot(n).unwrap();
     let digest = made.meta.digest(number).unwrap();
     let plan = luks2_plan(&keyslot, &digest);
-    write_sealed(device, chosen, &plan, secrets, made.json.as_slice())
+    write_sealed(alloc, device, chosen, &plan, secrets, made.json.as_slice())
 }

@@ -20,22 +20,25 @@ use crate::writing::write_copies;
 use luks_area::Device;
 use luks_edit::EditFault;
 use luks_head::Bin2;
-use luks_slot::{Key, SlotFault, SlotPlan};
-use luks_steps::seal_area;
+use luks_slot::{SlotFault, SlotPlan};
+use luks_steps::seal_area_within;
+use std::alloc::Global;
 
 /// Seals the key in the area of the plan, which lies behind the copies, and then writes both copies
 /// anew from the chosen one's binary header: the other one first. A flush follows each. A plan that
-/// is refused is answered as `Slot`, and then no byte changes.
+/// is refused is answered as `Slot`, want of memory for Argon2 as `Memory`, and then no byte changes.
 ///
 /// Of the random bytes the salts of the copies are the first 128; the keyslot's stripes but the
 /// last are those from the place 160 on.
 pub(crate) fn write_sealed<D: Device>(
+    alloc: Global,
     device: &mut D,
     chosen: &Bin2,
     plan: &SlotPlan<'_>,
     secrets: &Secrets<'_>,
     json: &[u8],
 ) -> Result<(), EditFault>
+    requires passphrase { 0 < secrets.now.memory → length secrets.now.passphrase.now < 2 ^ 32 }
     requires ready { IsReadyPlan chosen.now.hdr_size plan.now secrets.now.key.now
         secrets.now.random.now (D.size device.old) }
     requires number { chosen.now.seqid + 1 < 2 ^ 64 }
@@ -48,7 +51,7 @@ pub(crate) fn write_sealed<D: Device>(
         → IsSettled D.unsettled device.new }
     ensures count { CountsFailure is_edit_failure result
         (D.failed device.old) (D.failed device.new) }
-    ensures fault { IfErr result (IsPlanFault plan.now) }
+    ensures fault { IfErr result (IsPlanFault secrets.now.memory plan.now) }
     ensures same { D.tells → IfErr result (λ f. f ≢ EditFault.Device
         → D.bytes device.new ≡ D.bytes device.old) }
     ensures sealed { D.tells → OnOk result
@@ -67,7 +70,7 @@ pub(crate) fn write_sealed<D: Device>(
         (D.bytes device.old) (D.bytes device.new) }
 {
     let stripes = stripes_in(secrets.random);
-    seal(device, plan, secrets.passphrase, secrets.key, stripes)?;
+    seal(alloc, device, plan, secrets, stripes)?;
     match write_copies(device, chosen, chosen.label, secrets.random, json) {
         Ok(()) => Ok(()),
         Err(_) => Err(EditFault::Device),
@@ -87,14 +90,15 @@ fn unsealed(fault: SlotFault) -> EditFault
 
 /// Seals the key in the area of the plan, and flushes.
 fn seal<D: Device>(
+    alloc: Global,
     device: &mut D,
     plan: &SlotPlan<'_>,
-    passphrase: &[u8],
-    key: &Key,
+    secrets: &Secrets<'_>,
     stripes: &[u8],
 ) -> Result<(), EditFault>
+    requires passphrase { 0 < secrets.now.memory → length secrets.now.passphrase.now < 2 ^ 32 }
     requires iterations { HasIterations plan.now.derivation }
-    requires key_length { length key.now ≡ plan.now.key_bytes }
+    requires key_length { length secrets.now.key.now ≡ plan.now.key_bytes }
     requires some_stripes { 1 ≤ plan.now.stripes }
     requires random { length stripes.now ≡ (plan.now.stripes - 1) * plan.now.key_bytes }
     requires sectors { rounded_to_sectors (stripe_bytes plan.now) ≤ plan.now.area.len }
@@ -106,16 +110,24 @@ fn seal<D: Device>(
         → IsSettled D.unsettled device.new }
     ensures count { CountsFailure is_edit_failure result
         (D.failed device.old) (D.failed device.new) }
-    ensures fault { IfErr result (IsPlanFault plan.now) }
+    ensures fault { IfErr result (IsPlanFault secrets.now.memory plan.now) }
     ensures same { D.tells → IfErr result (λ f. f ≢ EditFault.Device
         → D.bytes device.new ≡ D.bytes device.old) }
     ensures sealed { D.tells → OnOk result
         (IsSealed plan.now (area_bytes (D.bytes device.new) plan.now.area)
-        passphrase.now key.now stripes.now) }
+        secrets.now.passphrase.now secrets.now.key.now stripes.now) }
     ensures rest { D.tells
         → SameBut (IsOfStripes plan.now) (D.bytes device.old) (D.bytes device.new) }
 {
-    match seal_area(device, plan, passphrase, key, stripes) {
+    match seal_area_within(
+        alloc,
+        device,
+        plan,
+        secrets.passphrase,
+        secrets.memory,
+        secrets.key,
+        stripes,
+    ) {
         Ok(()) => Ok(()),
         Err(fault) => Err(unsealed(fault)),
     }

@@ -21,11 +21,12 @@ use Rattle.luks_making.specs.Naming.{HasUniqueDigests}
 use Rattle.luks_making.specs.Unchanged.{ChangesSlot, GainsSlot, SaysMembers}
 use Rattle.luks_making.specs.Without.{without_slot}
 use Rattle.luks_reading.specs.declared.report.Data.{Data}
-use Rattle.luks_reading.specs.Answer.{opens, Answer}
+use Rattle.luks_reading.specs.Answer.{opens, AnswerWithin}
 use Rattle.luks_reading.specs.Checked.{AreaOf, WellFormed}
 use Rattle.luks_reading.specs.Layout2.{slot_number}
 use Rattle.luks_edit.specs.declared.edit.Edit.{Edit}
 use Rattle.luks_edit.specs.declared.edit.Edit.TheVariants.{Add, Change, Remove, Repair, Label}
+use Rattle.luks_edit.specs.Asked.{memory_for}
 use Rattle.luks_edit.specs.declared.edit_fault.EditFault.TheVariants.{Iterations, NoFreeSlot, RandomLength, SlotTaken}
 use Rattle.luks_edit.specs.Kept.{Keeps}
 use Rattle.luks2_edits.specs.Edited.{keyslot_salt, members_of, After2, HasAdded, HasChanged, HasRanges, IsEdited, IsMadeIn, IsSealedBy, IsWiped, IsWipedBy, NamedKeyslots2}
@@ -38,7 +39,7 @@ use Rattle.luks2_edits.proofs.LowerLaws.{MakingLaws}
 use Rattle.luks2_edits.proofs.VolumeLaws.{copy_sound}
 use Rattle.luks2_edits.proofs.MetadataFacts.{lost_metadata, placed_metadata}
 use Rattle.luks2_edits.proofs.PlaceFacts.{left_bytes}
-use Rattle.luks2_edits.proofs.SealFacts.{can_seal, enough_random, fits_new, none_of, opened_pbkdf2, opened_plan, part_bytes, salt_length, under, IsOpened}
+use Rattle.luks2_edits.proofs.SealFacts.{can_seal, enough_random, fits_new, none_of, opened_there, opened_plan, part_bytes, salt_length, under, IsOpened}
 use Rattle.luks2_edits.proofs.UniqueFacts.{unique_digests}
 use Rattle.luks2_edits.proofs.VolumeFacts.{areas_are, copy_of, layout_of, HasCopy, IsLayout}
 
@@ -87,8 +88,8 @@ need_met j n random key stripes slot met =
     ]
 
 -- what no refusal says of an edit that seals a keyslot like the keyslot `n`
-pub record IsReady (v : List ℕ) (o : ℕ) (j : Value) (n iterations : ℕ) (random : List ℕ) : Type 0 where
-  pub opened : IsOpened v o j n
+pub record IsReady (memory : ℕ) (v : List ℕ) (o : ℕ) (j : Value) (n iterations : ℕ) (random : List ℕ) : Type 0 where
+  pub opened : IsOpened memory v o j n
   pub turns : 1000 ≤ iterations
   pub ranged : iterations < 2 ^ 32
   pub small : length v < 2 ^ 64
@@ -99,8 +100,8 @@ pub record IsReady (v : List ℕ) (o : ℕ) (j : Value) (n iterations : ℕ) (ra
 above : {g h : ℕ} → g ≡ h → 16384 ≤ g → 4096 ≤ h
 above same least = omega (arith, same, least)
 
-module _ (making : MakingLaws) (v : List ℕ) (o h : ℕ) (payload : Data) (random : List ℕ) (j k : Value) (before : HasCopy v o h j)
-    (layout : IsLayout h (length v) payload j) (n iterations : ℕ) (ready : IsReady v o j n iterations random) where
+module _ (making : MakingLaws) (memory : ℕ) (v : List ℕ) (o h : ℕ) (payload : Data) (random : List ℕ) (j k : Value) (before : HasCopy v o h j)
+    (layout : IsLayout h (length v) payload j) (n iterations : ℕ) (ready : IsReady memory v o j n iterations random) where
   head_size : 4096 ≤ h
   head_size =
       let least : 16384 ≤ hdr_size (header_at v o) = listed_at_least (hdr_size (header_at v o)) (copy_sound v o before.copies before.chosen).form.listed in
@@ -110,8 +111,14 @@ module _ (making : MakingLaws) (v : List ℕ) (o h : ℕ) (payload : Data) (rand
   seals : (area : Area) → IsNewArea h (length v) payload j n area → CanSeal (h - 4096) j n (members_of iterations (keyslot_salt random) area)
   seals area place =
       let turns : 1000 ≤ iterations = ready.turns in
-      can_seal h (length v) payload j n area place iterations (keyslot_salt random) head_size (opened_pbkdf2 v o j n ready.opened) (omega (arith, turns))
+      can_seal h (length v) payload j n area place iterations (keyslot_salt random) head_size (opened_there memory v o j n ready.opened) (omega (arith, turns))
       (salt_length random (need_met j n random place.key_bytes place.stripes place.slot ready.met))
+
+  -- the new salt is long enough for Argon2
+  pub long_salt : (area : Area) → IsNewArea h (length v) payload j n area → 8 ≤ length (keyslot_salt random)
+  long_salt area place =
+      let long : length (keyslot_salt random) ≡ 32 = salt_length random (need_met j n random place.key_bytes place.stripes place.slot ready.met) in
+      omega (arith, long)
 
   fits : (area : Area) → IsNewArea h (length v) payload j n area → FitsNew (members_of iterations (keyslot_salt random) area)
   fits area place = fits_new h (length v) payload j n area place iterations (keyslot_salt random) ready.small ready.ranged (part_bytes random 128 32 ready.random_bytes)
@@ -180,8 +187,8 @@ module _ (making : MakingLaws) (v : List ℕ) (o h : ℕ) (payload : Data) (rand
 
 -- the keyslot that the edit opens was opened
 abbrev pub WasOpened : List ℕ → Edit → Type 0
-WasOpened v (Add by_ old new to iterations) = (key : List ℕ) × Answer v by_ old.now (opens key)
-WasOpened v (Change slot old new iterations) = (key : List ℕ) × Answer v slot old.now (opens key)
+WasOpened v (Add by_ old new to iterations) = (key : List ℕ) × AnswerWithin (memory_for old new.now) v by_ old.bytes.now (opens key)
+WasOpened v (Change slot old new iterations) = (key : List ℕ) × AnswerWithin (memory_for old new.now) v slot old.bytes.now (opens key)
 WasOpened v (Remove slot passphrase) = Unit {0}
 WasOpened v Repair = Unit {0}
 WasOpened v (Label text) = Unit {0}
@@ -203,28 +210,28 @@ pub edited_metadata : (making : MakingLaws) (v : List ℕ) (o : ℕ) (payload : 
     → IsLayout (hdr_size (header_at v o)) (length v) payload j
     → KeepsMetadata (hdr_size (header_at v o)) (length v) payload (NamedKeyslots2 v e) j k
 edited_metadata making v o payload (Add by_ old new to iterations) random j k m before ranges free sealed is layout =
-    let ready : IsReady v o j by_ iterations random = record {
-      opened = opened_plan v o j by_ old.now sealed.0 m sealed.1;
+    let ready : IsReady (memory_for old new.now) v o j by_ iterations random = record {
+      opened = opened_plan (memory_for old new.now) v o j by_ old.bytes.now sealed.0 m sealed.1;
       turns = enough_turns iterations (λ few. free.none Iterations few);
       ranged = ranges.iterations;
       small = ranges.size;
       random_bytes = ranges.random_bytes;
       met = λ need like other. free.none RandomLength (record { place = o; value = j; metadata = m; is = record { need = need; is = like; other = other } });
     } in
-    added_metadata making v o (hdr_size (header_at v o)) payload random j k before layout by_ iterations ready (λ n. IsMadeIn v to n) to
+    added_metadata making (memory_for old new.now) v o (hdr_size (header_at v o)) payload random j k before layout by_ iterations ready (λ n. IsMadeIn v to n) to
     (λ taken. free.none SlotTaken (record { place = o; value = j; metadata = m; is = taken }))
     (λ none. free.none NoFreeSlot (record { place = o; value = j; metadata = m; is = none }))
     is (record { place = o; value = j; metadata = m; is_new = is.is_new })
 edited_metadata making v o payload (Change slot old new iterations) random j k m before ranges free sealed is layout =
-    let ready : IsReady v o j slot iterations random = record {
-      opened = opened_plan v o j slot old.now sealed.0 m sealed.1;
+    let ready : IsReady (memory_for old new.now) v o j slot iterations random = record {
+      opened = opened_plan (memory_for old new.now) v o j slot old.bytes.now sealed.0 m sealed.1;
       turns = enough_turns iterations (λ few. free.none Iterations few);
       ranged = ranges.iterations;
       small = ranges.size;
       random_bytes = ranges.random_bytes;
       met = λ need like other. free.none RandomLength (record { place = o; value = j; metadata = m; is = record { need = need; is = like; other = other } });
     } in
-    changed_metadata making v o (hdr_size (header_at v o)) payload random j k before layout slot iterations ready (λ n. n ≡ slot) is refl
+    changed_metadata making (memory_for old new.now) v o (hdr_size (header_at v o)) payload random j k before layout slot iterations ready (λ n. n ≡ slot) is refl
 edited_metadata making v o payload (Remove slot passphrase) random j k m before ranges free sealed is layout =
     without_metadata making (hdr_size (header_at v o)) (length v) payload (λ n. n ≡ slot) slot j k refl is layout
 edited_metadata making v o payload Repair random j k m before ranges free sealed is layout =

@@ -22,12 +22,12 @@ use Rattle.luks_slot.specs.declared.plan.Derivation.TheVariants.{Pbkdf2, Argon2}
 use Rattle.luks_slot.specs.declared.plan.DigestPlan.{DigestPlan}
 use Rattle.luks_slot.specs.declared.plan.SlotPlan.{SlotPlan}
 use Rattle.luks_slot.specs.Opening.{area_bytes, meets_digest, slot_key}
-use Rattle.luks_slot.specs.Refusal.{is_argon2, is_known_derivation, is_open_cipher, slot_refusal}
+use Rattle.luks_slot.specs.Refusal.{slot_refusal_within}
 use Rattle.luks_slot.specs.Sealing.{IsSealed}
 use Rattle.luks_reading.specs.declared.open_fault.OpenFault.{OpenFault}
 use Rattle.luks_reading.specs.declared.open_fault.OpenFault.TheVariants.{Head, Meta, NoSuchSlot, SlotFree, Outside, Slot, Device, Memory}
 use Rattle.luks_reading.specs.declared.report.Data.{Data}
-use Rattle.luks_reading.specs.Answer.{opens, Answer, IsRefusalAs}
+use Rattle.luks_reading.specs.Answer.{opens, AnswerWithin, IsRefusalAsWithin}
 use Rattle.luks_reading.specs.Header.{json_at}
 use Rattle.luks_reading.specs.Plans.{HasLuks2Plan, IsLuks2Cipher, IsLuks2Derivation, IsLuks2Digest, IsLuks2Plan}
 use Rattle.luks2_edits.specs.Edited.{HoldsKey}
@@ -35,7 +35,7 @@ use Rattle.luks2_edits.proofs.AlikeFacts.{alike_refusal, SaysLike}
 use Rattle.luks2_edits.proofs.ToldFacts.{in_between}
 use Rattle.luks2_edits.proofs.VolumeLaws.{one_value, uuid_faultless}
 use Rattle.luks2_edits.proofs.MetadataFacts.{some_same}
-use Rattle.luks2_edits.proofs.SealFacts.{by_argon2, IsOpened}
+use Rattle.luks2_edits.proofs.SealFacts.{IsOpened}
 use Rattle.luks2_edits.proofs.VolumeFacts.{copy_faultless, HasCopy, IsLayout}
 
 -- what was sealed opens to its key
@@ -72,8 +72,8 @@ same_meeting a b key s = simp (s.hash, s.iterations, s.salt, s.stored)
 -- ---- the answer
 
 module _
-    (keyslots : KeyslotLaws) (v w : List ℕ) (payload : Data) (o p h : ℕ) (j k : Value) (opener n : ℕ) (new key random : List ℕ)
-    (x : IsOpened v o j opener) (meets : meets_digest x.plan.digest key ≡ true) (after : HasCopy w p h k) (layout : IsLayout h (length w) payload k)
+    (keyslots : KeyslotLaws) (memory : ℕ) (v w : List ℕ) (payload : Data) (o p h : ℕ) (j k : Value) (opener n : ℕ) (new key random : List ℕ)
+    (x : IsOpened memory v o j opener) (meets : meets_digest x.plan.digest key ≡ true) (after : HasCopy w p h k) (layout : IsLayout h (length w) payload k)
     (y : HoldsKey w k n new key random) (like : SaysLike x.object y.object)
     (one : (m l : ℕ) → IsDigestOf k n m → IsDigestOf k n l → m ≡ l) (digest : IsLuks2Digest k n x.plan.digest)
   where
@@ -88,7 +88,7 @@ module _
     met_as : (plan : SlotPlan) → IsLuks2Plan k n y.object plan → SameDigest x.plan.digest plan.digest
     met_as plan is = one_plan k n x.plan.digest plan.digest one digest is.digest
 
-    unrefused : (f : OpenFault) → IsRefusalAs w n (luks2 p after.copies) f → ⊥
+    unrefused : (f : OpenFault) → IsRefusalAsWithin memory w n (luks2 p after.copies) f → ⊥
     unrefused (Head g) z = (uuid_faultless (uuid_field (header_at w p))).1 after.uuid g z
     unrefused (Meta g) z = copy_faultless w p h k after layout.held g z
     unrefused NoSuchSlot z =
@@ -104,13 +104,13 @@ module _
         absurd (omega (arith, inside, past))
     unrefused (Slot g) z =
         let is : IsLuks2Plan k n y.object z.plan = plan_is z.plan z.is in
-        let same : slot_refusal x.plan ≡ slot_refusal z.plan = alike_refusal x.plan z.plan like x.refused x.is is (met_as z.plan is).hash in
+        let same : slot_refusal_within memory x.plan ≡ slot_refusal_within memory z.plan = alike_refusal memory x.plan z.plan like x.refused x.is is (met_as z.plan is).hash in
         absurd (let both : None ≡ Some g = sym x.refused ∙ same ∙ z.refused in cc)
     unrefused Device z = z
     unrefused Memory z = z
 
     -- the keyslot opens to the key
-    pub holds_opens : Answer w n new (opens key)
+    pub holds_opens : AnswerWithin memory w n new (opens key)
     holds_opens =
         let met : meets_digest y.plan.digest key ≡ true = sym (same_meeting x.plan.digest y.plan.digest key (met_as y.plan y.is)) ∙ meets in
         let open_ : slot_key y.plan (area_bytes w y.plan.area) new ≡ (if meets_digest y.plan.digest key then Some key else None) =

@@ -1,6 +1,6 @@
 -- What is known of a keyslot that an edit makes or seals again, where nothing refused the edit.
-use Rattle.std.proofs.Common.{◌≡◌, ℕ, ◌+◌, ◌-◌, ◌*◌, ◌<◌, ◌≤◌, ◌^◌, min, List, length, get_or, Bool, true, false, codes, Option, Some, None, inl, inr, refl, sym, subst, ◌∙◌, arith}
-use Rattle.std.proofs.lemmas.Bool.{cases_lt, true≢false}
+use Rattle.std.proofs.Common.{◌≡◌, ℕ, ◌+◌, ◌-◌, ◌*◌, ◌<◌, ◌≤◌, ◌^◌, min, List, length, get_or, Bool, true, false, codes, Option, Some, None, inl, inr, refl, sym, ap, subst, ◌∙◌, arith}
+use Rattle.std.proofs.lemmas.Bool.{cases_lt}
 use Rattle.std.proofs.lemmas.List.{get_or_past}
 use Rattle.base64.specs.GeneralPurpose.{IsBytes}
 use Rattle.serde_json.specs.Data.{Data as Value}
@@ -11,22 +11,20 @@ use Rattle.luks_area.specs.Sectors.{rounded_to_sectors}
 use Rattle.luks_head.specs.Selection.{luks2}
 use Rattle.luks_rules.specs.declared.table.Outer.TheVariants as outer
 use Rattle.luks_rules.specs.declared.table.Section.TheVariants.{Keyslots}
-use Rattle.luks_rules.specs.Faults.{object_at, type_at}
+use Rattle.luks_rules.specs.Faults.{object_at}
 use Rattle.luks_rules.specs.Reading.{number_in}
 use Rattle.luks_rules.specs.Sizes.{inside_at}
-use Rattle.luks_making.specs.Conditions.{CanSeal, FitsNew, HasPbkdf2}
+use Rattle.luks_making.specs.Conditions.{CanSeal, FitsNew, IsThere}
 use Rattle.luks_slot.specs.declared.fault.SlotFault.TheVariants.{Argon2}
-use Rattle.luks_slot.specs.declared.plan.Derivation.{Derivation}
-use Rattle.luks_slot.specs.declared.plan.Derivation.TheVariants.{Pbkdf2, Argon2 as ByArgon2}
 use Rattle.luks_slot.specs.declared.plan.SlotPlan.{SlotPlan}
 use Rattle.luks_slot.specs.Opening.{meets_digest}
 use Rattle.luks_slot.proofs.OpeningFacts.{found_meets}
-use Rattle.luks_slot.specs.Refusal.{is_argon2, slot_refusal}
+use Rattle.luks_slot.specs.Refusal.{first_refusal, is_argon2_refused, slot_refusal_within}
 use Rattle.luks_reading.specs.declared.open_fault.OpenFault.TheVariants as opening
 use Rattle.luks_reading.specs.declared.report.Data.{Data}
-use Rattle.luks_reading.specs.Answer.{Answer, HasPlanAs, IsRefusalAs, opens}
+use Rattle.luks_reading.specs.Answer.{AnswerWithin, HasPlanAs, IsRefusalAsWithin, opens}
 use Rattle.luks_reading.specs.Header.{json_at}
-use Rattle.luks_reading.specs.Plans.{HasLuks2Plan, IsLuks2Derivation, IsLuks2Plan}
+use Rattle.luks_reading.specs.Plans.{HasLuks2Plan, IsLuks2Plan}
 use Rattle.luks2_edits.specs.Edited.{keyslot_salt, members_of}
 use Rattle.luks2_edits.specs.Metadata.{HasMetadata}
 use Rattle.luks2_edits.specs.Places.{IsNewArea}
@@ -54,22 +52,20 @@ salt_length random enough = let long : length (part random 128 32) ≡ min 32 (l
 -- ---- the keyslot that was opened
 
 -- the keyslot that a passphrase opened, by the metadata that count
-pub record IsOpened (v : List ℕ) (o : ℕ) (j : Value) (n : ℕ) : Type 0 where
+pub record IsOpened (memory : ℕ) (v : List ℕ) (o : ℕ) (j : Value) (n : ℕ) : Type 0 where
   pub numbered : n < 32
   pub plan : SlotPlan
   pub object : Value
   pub there : object_at j Keyslots n ≡ Some object
   pub is : IsLuks2Plan j n object plan
-  pub refused : slot_refusal plan ≡ None
+  pub refused : slot_refusal_within memory plan ≡ None
 
-derived_by : (d : Value) (x : Derivation) → IsLuks2Derivation d x → is_argon2 x ≡ false → type_at d outer.Kdf ≡ Some (codes "pbkdf2")
-derived_by d (Pbkdf2 hash iterations salt) is not = is.0
-derived_by d ByArgon2 is not = absurd (true≢false not)
-
--- a plan that isn't refused derives its key by PBKDF2
-pub by_argon2 : (plan : SlotPlan) → slot_refusal plan ≡ None → (b : Bool) → is_argon2 plan.derivation ≡ b → b ≡ false
-by_argon2 plan none false is = refl
-by_argon2 plan none true is = let some : slot_refusal plan ≡ Some Argon2 = rw is refl in absurd (let both : Some Argon2 ≡ None = sym some ∙ none in cc)
+-- where a plan isn't refused, so isn't its derivation
+pub allowed_derivation : (memory : ℕ) (plan : SlotPlan) → slot_refusal_within memory plan ≡ None → (b : Bool) → is_argon2_refused memory plan.derivation ≡ b → b ≡ false
+allowed_derivation memory plan none false is = refl
+allowed_derivation memory plan none true is =
+    let some : slot_refusal_within memory plan ≡ Some Argon2 = ap (λ test. first_refusal test plan) is in
+    absurd (let both : Some Argon2 ≡ None = sym some ∙ none in cc)
 
 -- what is no value is none
 pub none_of : {A : Type 0} (o : Option A) → ((a : A) → o ≡ Some a → ⊥) → o ≡ None
@@ -77,8 +73,8 @@ none_of None h = refl
 none_of (Some a) h = absurd (h a refl)
 
 -- a keyslot that was opened has a plan that isn't refused
-pub opened_plan : (v : List ℕ) (o : ℕ) (j : Value) (n : ℕ) (p key : List ℕ) → HasMetadata v o j → Answer v n p (opens key) → IsOpened v o j n
-opened_plan v o j n p key m a =
+pub opened_plan : (memory : ℕ) (v : List ℕ) (o : ℕ) (j : Value) (n : ℕ) (p key : List ℕ) → HasMetadata v o j → AnswerWithin memory v n p (opens key) → IsOpened memory v o j n
+opened_plan memory v o j n p key m a =
     let choice = one_choice v a.choice (luks2 o m.copies) a.chosen m.chosen in
     let is : HasLuks2Plan (json_at v o) n a.plan = subst (λ c. HasPlanAs v n c a.plan) choice a.is in
     let same : is.value ≡ j = one_value (json_at v o) is.value j is.holds m.holds in
@@ -88,34 +84,30 @@ opened_plan v o j n p key m a =
       object = is.object;
       there = rw same at is.there;
       is = rw same at is.is;
-      refused = none_of (slot_refusal a.plan) (λ f refused.
-          a.unrefused (opening.Slot f) (subst (λ c. IsRefusalAs v n c (opening.Slot f)) (sym choice) (record { plan = a.plan; is = is; refused = refused })));
+      refused = none_of (slot_refusal_within memory a.plan) (λ f refused.
+          a.unrefused (opening.Slot f) (subst (λ c. IsRefusalAsWithin memory v n c (opening.Slot f)) (sym choice) (record { plan = a.plan; is = is; refused = refused })));
     }
 
 -- its key meets the digest
-pub opened_meets : (v : List ℕ) (o : ℕ) (j : Value) (n : ℕ) (p key : List ℕ) (m : HasMetadata v o j) (a : Answer v n p (opens key))
-    → meets_digest (opened_plan v o j n p key m a).plan.digest key ≡ true
+pub opened_meets : (memory : ℕ) (v : List ℕ) (o : ℕ) (j : Value) (n : ℕ) (p key : List ℕ) (m : HasMetadata v o j) (a : AnswerWithin memory v n p (opens key))
+    → meets_digest (opened_plan memory v o j n p key m a).plan.digest key ≡ true
 unfolding opened_plan
-opened_meets v o j n p key m a = found_meets a.plan (part v a.plan.area.start a.plan.area.len) p key a.key
+opened_meets memory v o j n p key m a = found_meets a.plan (part v a.plan.area.start a.plan.area.len) p key a.key
 
--- so its key is derived by PBKDF2
-pub opened_kdf : (v : List ℕ) (o : ℕ) (j : Value) (n : ℕ) (x : IsOpened v o j n) → type_at x.object outer.Kdf ≡ Some (codes "pbkdf2")
-opened_kdf v o j n x = derived_by x.object x.plan.derivation x.is.derivation (by_argon2 x.plan x.refused (is_argon2 x.plan.derivation) refl)
-
-pub opened_pbkdf2 : (v : List ℕ) (o : ℕ) (j : Value) (n : ℕ) → IsOpened v o j n → HasPbkdf2 j n
-opened_pbkdf2 v o j n x = record {
+-- it is there
+pub opened_there : (memory : ℕ) (v : List ℕ) (o : ℕ) (j : Value) (n : ℕ) → IsOpened memory v o j n → IsThere j n
+opened_there memory v o j n x = record {
   object = x.object;
   there = record { numbered = refl; named = x.numbered; is = x.there };
-  derived = opened_kdf v o j n x;
 }
 
 -- ---- a new area
 
 module _ (h total : ℕ) (payload : Data) (j : Value) (n : ℕ) (area : Area) (new : IsNewArea h total payload j n area) where
-  object_same : (slot : HasPbkdf2 j n) → slot.object ≡ new.slot.object
+  object_same : (slot : IsThere j n) → slot.object ≡ new.slot.object
   object_same slot = some_same slot.object new.slot.object (sym slot.there.is ∙ new.slot.there.is)
 
-  large : (slot : HasPbkdf2 j n) (key stripes : ℕ)
+  large : (slot : IsThere j n) (key stripes : ℕ)
       → number_in 1 128 (inside_at outer.Top (codes "key_size") slot.object) ≡ Some key
       → number_in 1 4294967295 (inside_at outer.Af (codes "stripes") slot.object) ≡ Some stripes
       → rounded_to_sectors (key * stripes) ≤ area.len
@@ -126,7 +118,7 @@ module _ (h total : ℕ) (payload : Data) (j : Value) (n : ℕ) (area : Area) (n
       rw (key_is, stripes_is, new.len) (sectors_in_blocks (new.key_bytes * new.stripes))
 
   -- what is new of the keyslot suits it
-  pub can_seal : (iterations : ℕ) (salt : List ℕ) → 4096 ≤ h → HasPbkdf2 j n → 1 ≤ iterations → length salt ≡ 32
+  pub can_seal : (iterations : ℕ) (salt : List ℕ) → 4096 ≤ h → IsThere j n → 1 ≤ iterations → length salt ≡ 32
       → CanSeal (h - 4096) j n (members_of iterations salt area)
   can_seal iterations salt head slot turns long = record {
     slot = slot;

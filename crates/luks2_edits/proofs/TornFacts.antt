@@ -14,12 +14,13 @@ use Rattle.luks_rules.specs.MetaFault.{Json}
 use Rattle.luks_reading.specs.declared.report.Data.{Data}
 use Rattle.luks_making.specs.Changed.{changed_slot}
 use Rattle.luks_reading.specs.Agreement.{IsSameAnswer}
-use Rattle.luks_reading.specs.Answer.{opens, Answer, Opened}
+use Rattle.luks_reading.specs.Answer.{opens, AnswerWithin, Opened}
 use Rattle.luks_reading.specs.Layout2.{Luks2Area}
 use Rattle.luks_reading.specs.Checked.{WellFormed, WellFormedAs}
 use Rattle.luks_reading.specs.Header.{json_at}
 use Rattle.luks_edit.specs.declared.edit.Edit.{Edit}
 use Rattle.luks_edit.specs.declared.edit.Edit.TheVariants.{Add, Change, Remove, Repair, Label}
+use Rattle.luks_edit.specs.Asked.{memory_for}
 use Rattle.luks_edit.specs.Kept.{Keeps}
 use Rattle.luks2_edits.specs.Copies.{other_place, IsRenewed}
 use Rattle.luks2_edits.specs.Edited.{keyslot_salt, members_of, stripes_random, HasChanged, HasRanges, HoldsKey, IsEdited, IsSealedBy, NamedKeyslots2}
@@ -33,8 +34,8 @@ use Rattle.luks_area.specs.declared.area.Area.{Area}
 use Rattle.luks2_edits.proofs.MetadataFacts.{some_same}
 use Rattle.luks2_edits.proofs.OpenFacts.{KeyslotLaws}
 use Rattle.luks2_edits.proofs.OpenedFacts.{changed_opens}
-use Rattle.luks2_edits.proofs.SealFacts.{opened_kdf, opened_plan}
-use Rattle.luks2_edits.proofs.AfterFacts.{changed_changes, edited_metadata, enough_turns, lost_is_named, same_metadata, was_opened, IsReady, WasOpened}
+use Rattle.luks2_edits.proofs.SealFacts.{opened_plan}
+use Rattle.luks2_edits.proofs.AfterFacts.{changed_changes, edited_metadata, enough_turns, lost_is_named, same_metadata, was_opened, IsReady, WasOpened, long_salt}
 use Rattle.luks2_edits.proofs.KeptFacts.{all_kept}
 use Rattle.luks2_edits.proofs.LeftoverFacts.{first_size_left, is_sound, left_of, not_other, place_is, same_header, Left}
 use Rattle.luks2_edits.proofs.LowerLaws.{MakingLaws}
@@ -204,26 +205,27 @@ opens_written making keyslots v payload (Change slot old new iterations) random 
     } in
     let now : IsLayout h (length w) payload a.new = subst (λ n. IsLayout h n payload a.new) (sym long)
     (edited_metadata making v a.place payload e random a.value a.new a.metadata before ranges free (sealed.key, sealed.opened) a.edited layout).layout in
-    let ready : IsReady v a.place a.value slot iterations random = record {
-      opened = opened_plan v a.place a.value slot old.now sealed.key a.metadata sealed.opened;
+    let ready : IsReady (memory_for old new.now) v a.place a.value slot iterations random = record {
+      opened = opened_plan (memory_for old new.now) v a.place a.value slot old.bytes.now sealed.key a.metadata sealed.opened;
       turns = enough_turns iterations (λ few. free.none Iterations few);
       ranged = ranges.iterations;
       small = ranges.size;
       random_bytes = ranges.random_bytes;
       met = λ need like other. free.none RandomLength (record { place = a.place; value = a.value; metadata = a.metadata; is = record { need = need; is = like; other = other } });
     } in
-    let changes = changed_changes making v a.place h payload random a.value a.new before layout slot iterations ready a.edited in
+    let changes = changed_changes making (memory_for old new.now) v a.place h payload random a.value a.new before layout slot iterations ready a.edited in
     let same : k ≡ a.new = changed_once h (length v) payload slot iterations (keyslot_salt random) a.value k a.new edited a.edited in
     let there : HoldsKey w k slot new.now sealed.key (stripes_random random) =
     subst (λ n. HoldsKey w k n new.now sealed.key (stripes_random random)) sealed.is_made sealed.holds in
     let holds : HoldsKey w a.new slot new.now sealed.key (stripes_random random) = subst (λ i. HoldsKey w i slot new.now sealed.key (stripes_random random)) same there in
-    let opened : Answer w slot new.now (opens sealed.key) =
-    changed_opens keyslots v w payload a.place p h a.value a.new slot slot old.now new.now sealed.key (stripes_random random)
+    let opened : AnswerWithin (memory_for old new.now) w slot new.now (opens sealed.key) =
+    changed_opens keyslots (memory_for old new.now) v w payload a.place p h a.value a.new slot slot old.bytes.now new.now sealed.key (stripes_random random)
     a.metadata sealed.opened before layout after now holds
-    (members_of iterations (keyslot_salt random) a.edited.area) refl (opened_kdf v a.place a.value slot (opened_plan v a.place a.value slot old.now sealed.key a.metadata sealed.opened)) changes in
+    (members_of iterations (keyslot_salt random) a.edited.area) refl
+    (long_salt making (memory_for old new.now) v a.place h payload random a.value a.new before layout slot iterations ready a.edited.area a.edited.place) changes in
     λ key was.
-    (let key_same : sealed.key ≡ key = one_answer v slot old.now (opens sealed.key) (opens key) sealed.opened was in
-    inr (subst (λ x. Answer w slot new.now (opens x)) key_same opened))
+    (let key_same : sealed.key ≡ key = one_answer (memory_for old new.now) v slot old.bytes.now (opens sealed.key) (opens key) sealed.opened was in
+    inr (subst (λ x. AnswerWithin (memory_for old new.now) w slot new.now (opens x)) key_same opened))
 opens_written making keyslots v payload (Remove slot passphrase) random w well ranges free long j k p b chosen a edited sealed = tt
 opens_written making keyslots v payload Repair random w well ranges free long j k p b chosen a edited sealed = tt
 opens_written making keyslots v payload (Label text) random w well ranges free long j k p b chosen a edited sealed = tt
@@ -259,7 +261,7 @@ opens_before making keyslots v payload (Change slot old new iterations) random w
     let kept : Keeps payload (λ n. ⊥) v w =
     kept_before making v payload (Change slot old new iterations) random w well ranges rest.length_same (λ n. ⊥) (Add slot old new None iterations) (λ n lost. lost)
     o j m b chosen same all in
-    inl (((kept.slots slot (λ x. x)).answers old.now (opens key)).0 was))
+    inl (((kept.slots slot (λ x. x)).answers (memory_for old new.now) old.bytes.now (opens key)).0 was))
 opens_before making keyslots v payload (Remove slot passphrase) random w well ranges o j m b chosen same rest = tt
 opens_before making keyslots v payload Repair random w well ranges o j m b chosen same rest = tt
 opens_before making keyslots v payload (Label text) random w well ranges o j m b chosen same rest = tt

@@ -22,7 +22,7 @@ use Rattle.luks_meta.proofs.Namings.{one_naming}
 use Rattle.luks_reading.specs.declared.check_fault.CheckFault.{CheckFault}
 use Rattle.luks_reading.specs.declared.report.Data.{Data}
 use Rattle.luks_reading.specs.Agreement.{IsSameAnswer}
-use Rattle.luks_reading.specs.Answer.{Answer, Opened}
+use Rattle.luks_reading.specs.Answer.{AnswerWithin, Opened}
 use Rattle.luks_reading.specs.Checked.{IsFault, WellFormed}
 use Rattle.luks_reading.specs.FitsAndResolves.{FitsAndResolves}
 use Rattle.luks_reading.proofs.OneAnswer.{one_answer as one_answer_by}
@@ -59,7 +59,7 @@ pub metadata_faultless : (area : List ℕ) → ((f : MetaFault) → IsMetaFault 
 metadata_faultless = without_faults kind_of one_value not_bad
 
 -- a keyslot has one answer
-pub one_answer : (v : List ℕ) (n : ℕ) (p : List ℕ) (a b : Opened) → Answer v n p a → Answer v n p b → IsSameAnswer a b
+pub one_answer : (memory : ℕ) (v : List ℕ) (n : ℕ) (p : List ℕ) (a b : Opened) → AnswerWithin memory v n p a → AnswerWithin memory v n p b → IsSameAnswer a b
 one_answer = one_answer_by one_choice one_value metadata_faultless one_digest
 
 -- a well formed volume has no fault, its areas fit, and its names resolve

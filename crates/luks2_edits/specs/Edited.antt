@@ -15,10 +15,11 @@ use Rattle.luks_slot.specs.declared.plan.SlotPlan.{SlotPlan}
 use Rattle.luks_slot.specs.Opening.{area_bytes}
 use Rattle.luks_slot.specs.Sealing.{IsSealed}
 use Rattle.luks_reading.specs.declared.report.Data.{Data}
-use Rattle.luks_reading.specs.Answer.{Answer, opens}
+use Rattle.luks_reading.specs.Answer.{AnswerWithin, opens}
 use Rattle.luks_reading.specs.Plans.{IsLuks2Plan}
 use Rattle.luks_edit.specs.declared.edit.Edit.{Edit}
 use Rattle.luks_edit.specs.declared.edit.Edit.TheVariants.{Add, Change, Remove, Repair, Label}
+use Rattle.luks_edit.specs.Asked.{memory_for}
 use Rattle.luks2_edits.specs.Copies.{IsWrittenAnew}
 use Rattle.luks2_edits.specs.Metadata.{HasMetadata, IsKeyArea, IsNewKeyslot}
 use Rattle.luks2_edits.specs.Places.{IsNewArea, IsTouched}
@@ -111,20 +112,20 @@ pub record HoldsKey (w : List ℕ) (j : Value) (n : ℕ) (passphrase key random 
   pub sealed : IsSealed plan (area_bytes w plan.area) passphrase key random
 
 -- a keyslot of the set `made` holds under `new`, by the metadata `j`, the key that `old` opens in the
--- keyslot `opener` of the volume `v`
+-- keyslot `opener` of the volume `v`, where Argon2 may take so many KiB of memory
 pub record HoldsOpened
-    (v : List ℕ) (opener : ℕ) (old new : List ℕ) (made : ℕ → Type 0) (random w : List ℕ) (j : Value)
+    (memory : ℕ) (v : List ℕ) (opener : ℕ) (old new : List ℕ) (made : ℕ → Type 0) (random w : List ℕ) (j : Value)
     : Type 0 where
   pub slot : ℕ
   pub is_made : made slot
   pub key : List ℕ
-  pub opened : Answer v opener old (opens key)
+  pub opened : AnswerWithin memory v opener old (opens key)
   pub holds : HoldsKey w j slot new key (stripes_random random)
 
 -- the keyslot that the edit makes of the metadata `j`, or seals again, holds the key that was opened
 abbrev pub IsSealedBy : List ℕ → Edit → List ℕ → Value → List ℕ → Value → Type 0
-IsSealedBy v (Add by_ old new to iterations) random j w k = HoldsOpened v by_ old.now new.now (IsNewKeyslot j to) random w k
-IsSealedBy v (Change slot old new iterations) random j w k = HoldsOpened v slot old.now new.now (λ n. n ≡ slot) random w k
+IsSealedBy v (Add by_ old new to iterations) random j w k = HoldsOpened (memory_for old new.now) v by_ old.bytes.now new.now (IsNewKeyslot j to) random w k
+IsSealedBy v (Change slot old new iterations) random j w k = HoldsOpened (memory_for old new.now) v slot old.bytes.now new.now (λ n. n ≡ slot) random w k
 IsSealedBy v (Remove slot passphrase) random j w k = ⊤
 IsSealedBy v Repair random j w k = ⊤
 IsSealedBy v (Label text) random j w k = ⊤
@@ -161,12 +162,14 @@ pub record After2 (v : List ℕ) (payload : Data) (e : Edit) (random w : List �
 -- ---- what opens after an edit
 
 -- a keyslot that the edit made or sealed again opens by its new passphrase to the key that the old one
--- opened
+-- opened, where Argon2 may take the same memory
 abbrev pub OpensAfter2 : List ℕ → Edit → List ℕ → Type 0
 OpensAfter2 v (Add by_ old new to iterations) w =
-    (n : ℕ) (key : List ℕ) → IsMadeIn v to n → Answer v by_ old.now (opens key) → Answer w n new.now (opens key)
+    (n : ℕ) (key : List ℕ) → IsMadeIn v to n → AnswerWithin (memory_for old new.now) v by_ old.bytes.now (opens key)
+    → AnswerWithin (memory_for old new.now) w n new.now (opens key)
 OpensAfter2 v (Change slot old new iterations) w =
-    (key : List ℕ) → Answer v slot old.now (opens key) → Answer w slot new.now (opens key)
+    (key : List ℕ) → AnswerWithin (memory_for old new.now) v slot old.bytes.now (opens key)
+    → AnswerWithin (memory_for old new.now) w slot new.now (opens key)
 OpensAfter2 v (Remove slot passphrase) w = ⊤
 OpensAfter2 v Repair w = ⊤
 OpensAfter2 v (Label text) w = ⊤

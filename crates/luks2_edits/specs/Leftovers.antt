@@ -9,9 +9,10 @@ use Rattle.luks_head.specs.Selection.{luks2, Chosen, IsVersion1}
 use Rattle.luks_head.specs.declared.selection.Copies.{Copies}
 use Rattle.luks_head.specs.Sizes.{IsListed}
 use Rattle.luks_reading.specs.declared.report.Data.{Data}
-use Rattle.luks_reading.specs.Answer.{opens, Answer}
+use Rattle.luks_reading.specs.Answer.{opens, AnswerWithin}
 use Rattle.luks_edit.specs.declared.edit.Edit.{Edit}
 use Rattle.luks_edit.specs.declared.edit.Edit.TheVariants.{Add, Change, Remove, Repair, Label}
+use Rattle.luks_edit.specs.Asked.{memory_for}
 use Rattle.luks2_edits.specs.Copies.{other_place, IsRenewed, IsWrittenAnew}
 use Rattle.luks2_edits.specs.Edited.{keyslot_salt, IsEdited, IsSealedBy}
 use Rattle.luks2_edits.specs.Metadata.{HasMetadata}
@@ -103,11 +104,13 @@ pub record CountsAsAfter (v : List ℕ) (payload : Data) (e : Edit) (random w : 
   pub chosen : Chosen w (luks2 place copies)
   pub written : IsAllowed v payload e random w place
 
--- a keyslot that was to be sealed again opens by the old passphrase or by the new one, to the same key
+-- a keyslot that was to be sealed again opens by the old passphrase or by the new one, to the same key,
+-- where Argon2 may take the same memory
 abbrev pub OpensEither2 : List ℕ → Edit → List ℕ → Type 0
 OpensEither2 v (Add by_ old new to iterations) w = ⊤
 OpensEither2 v (Change slot old new iterations) w =
-    (key : List ℕ) → Answer v slot old.now (opens key) → Answer w slot old.now (opens key) ⊎ Answer w slot new.now (opens key)
+    (key : List ℕ) → AnswerWithin (memory_for old new.now) v slot old.bytes.now (opens key)
+    → AnswerWithin (memory_for old new.now) w slot old.bytes.now (opens key) ⊎ AnswerWithin (memory_for old new.now) w slot new.now (opens key)
 OpensEither2 v (Remove slot passphrase) w = ⊤
 OpensEither2 v Repair w = ⊤
 OpensEither2 v (Label text) w = ⊤

@@ -1,12 +1,15 @@
 -- The metadata that an edit makes is one but for the salt.
-use Rattle.std.proofs.Common.{◌≡◌, ℕ, ◌*◌, List, length, Option, Some, None, refl, sym, ap, subst, ◌∙◌, arith}
+use Rattle.std.proofs.Common.{◌≡◌, ℕ, ◌*◌, List, length, codes, Option, Some, None, refl, sym, ap, subst, ◌∙◌, arith}
 use Rattle.std.proofs.lemmas.Option.{same_Some}
 use Rattle.base64.specs.GeneralPurpose.{IsBytes}
 use Rattle.serde_json.specs.Data.{Data as Value}
 use Rattle.serde_json.specs.Written.{compact_text}
 use Rattle.luks_area.specs.declared.area.Area.{Area}
 use Rattle.luks_making.specs.Changed.{changed_slot}
-use Rattle.luks_making.specs.Keyslots.{IsMadeFrom, NewMembers, SlotMembers}
+use Rattle.luks_rules.specs.declared.table.Outer.TheVariants as outer
+use Rattle.luks_rules.specs.Faults.{type_at}
+use Rattle.luks_making.specs.declared.new_keyslot.Argon2Costs.{Argon2Costs}
+use Rattle.luks_making.specs.Keyslots.{IsMadeFrom, NewMembers, SlotMembers, by_argon2i, by_argon2id, by_pbkdf2, Deriving, HasCosts, IsDerivedLike}
 use Rattle.luks_making.specs.With.{with_slot}
 use Rattle.luks_reading.specs.declared.report.Data.{Data}
 use Rattle.luks_reading.specs.Layout2.{Luks2Area}
@@ -51,6 +54,36 @@ module _ (h total : ℕ) (payload : Data) (j : Value) (n : ℕ) (a b : Area) (x 
 
 -- ---- a keyslot that is made
 
+-- costs of these numbers
+abbrev costs_of : ℕ → ℕ → ℕ → Argon2Costs
+costs_of t m c = record { time = t; memory = m; cpus = c }
+
+-- the costs of Argon2 are those of the other keyslot
+costs_once : (d : Value) (a b : Argon2Costs) → HasCosts d a → HasCosts d b → a ≡ b
+costs_once d a b x y =
+    ap (λ t. costs_of t a.memory a.cpus) (same_Some a.time b.time (sym x.time ∙ y.time))
+    ∙ (ap (λ m. costs_of b.time m a.cpus) (same_Some a.memory b.memory (sym x.memory ∙ y.memory))
+    ∙ ap (λ c. costs_of b.time b.memory c) (same_Some a.cpus b.cpus (sym x.cpus ∙ y.cpus)))
+
+-- a keyslot has one type of derivation
+other_kind : (d : Value) (k l : List ℕ) → type_at d outer.Kdf ≡ Some k → type_at d outer.Kdf ≡ Some l → (Some k ≡ Some l → ⊥) → ⊥
+other_kind d k l x y off = off (sym x ∙ y)
+
+-- so a keyslot that is made with its members has one derivation
+derived_once : (d : Value) (m n : ℕ) (a b : Deriving) → m ≡ n → IsDerivedLike d m a → IsDerivedLike d n b → a ≡ b
+derived_once d m n (by_pbkdf2 h i) (by_pbkdf2 g k) same x y =
+    let hash : h ≡ g = same_Some h g (sym x.1 ∙ y.1) in
+    let turns : i ≡ k = x.2 ∙ same ∙ sym y.2 in
+    rw (hash, turns) refl
+derived_once d m n (by_pbkdf2 h i) (by_argon2i c) same x y = absurd (other_kind d (codes "pbkdf2") (codes "argon2i") x.0 y.0 (λ e. cc))
+derived_once d m n (by_pbkdf2 h i) (by_argon2id c) same x y = absurd (other_kind d (codes "pbkdf2") (codes "argon2id") x.0 y.0 (λ e. cc))
+derived_once d m n (by_argon2i c) (by_pbkdf2 g k) same x y = absurd (other_kind d (codes "argon2i") (codes "pbkdf2") x.0 y.0 (λ e. cc))
+derived_once d m n (by_argon2i c) (by_argon2i e) same x y = ap by_argon2i (costs_once d c e x.1 y.1)
+derived_once d m n (by_argon2i c) (by_argon2id e) same x y = absurd (other_kind d (codes "argon2i") (codes "argon2id") x.0 y.0 (λ e. cc))
+derived_once d m n (by_argon2id c) (by_pbkdf2 g k) same x y = absurd (other_kind d (codes "argon2id") (codes "pbkdf2") x.0 y.0 (λ e. cc))
+derived_once d m n (by_argon2id c) (by_argon2i e) same x y = absurd (other_kind d (codes "argon2id") (codes "argon2i") x.0 y.0 (λ e. cc))
+derived_once d m n (by_argon2id c) (by_argon2id e) same x y = ap by_argon2id (costs_once d c e x.1 y.1)
+
 made_once : (d : Value) (f g : NewMembers) (s t : SlotMembers) → IsMadeFrom d f s → IsMadeFrom d g t
     → f.offset ≡ g.offset → f.size ≡ g.size → f.iterations ≡ g.iterations → SaltsAsLong f.salt g.salt → SameButSalt s t
 made_once d f g s t x y offset size iterations salts = record {
@@ -61,8 +94,7 @@ made_once d f g s t x y offset size iterations salts = record {
   size = x.size ∙ size ∙ sym y.size;
   encryption = same_Some s.encryption t.encryption (sym x.encryption ∙ y.encryption);
   area_key_size = same_Some s.area_key_size t.area_key_size (sym x.area_key_size ∙ y.area_key_size);
-  hash = same_Some s.hash t.hash (sym x.hash ∙ y.hash);
-  iterations = x.iterations ∙ iterations ∙ sym y.iterations;
+  derivation = derived_once d f.iterations g.iterations s.derivation t.derivation iterations x.derivation y.derivation;
   salt = subst (λ l. SaltsAsLong l t.salt) (sym x.salt) (subst (λ l. SaltsAsLong f.salt l) (sym y.salt) salts);
 }
 

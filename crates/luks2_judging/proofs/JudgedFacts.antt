@@ -7,13 +7,14 @@ use Rattle.luks_slot.specs.declared.fault.SlotFault.{SlotFault}
 use Rattle.luks_reading.specs.declared.check_fault.CheckFault.{CheckFault}
 use Rattle.luks_reading.specs.declared.open_fault.OpenFault.TheVariants as opening
 use Rattle.luks_reading.specs.declared.report.Data.{Data}
-use Rattle.luks_reading.specs.Answer.{Answer, refused, slot_row}
+use Rattle.luks_reading.specs.Answer.{AnswerWithin, refused, slot_row}
 use Rattle.luks_reading.specs.Checked.{IsFault}
 use Rattle.luks_edit.specs.declared.edit.Edit.{Edit}
 use Rattle.luks_edit.specs.declared.edit.Edit.TheVariants.{Add, Change, Remove}
+use Rattle.luks_edit.specs.declared.edit.Passphrase.{Passphrase}
 use Rattle.luks_edit.specs.declared.edit_fault.EditFault.{EditFault}
 use Rattle.luks_edit.specs.declared.edit_fault.EditFault.TheVariants as fault
-use Rattle.luks_edit.specs.Asked.{HasFewIterations, OpensBy}
+use Rattle.luks_edit.specs.Asked.{allowed_memory, HasFewIterations, OpensBy}
 use Rattle.luks_edit.specs.Opener.{IsShut}
 use Rattle.luks_edit.specs.RowFacts.{after_check, after_plan, first_of_check, first_of_plan, first_of_row, next, not_before, passed_from, Passed}
 use Rattle.luks2_edits.specs.Metadata.{HasMetadata}
@@ -52,8 +53,9 @@ module _ (v : List ℕ) (payload : Data) (e : Edit) where
   least_shut : (f g : SlotFault) → IsFirstShut v e f → IsShut v e g → slot_row f ≤ slot_row g
   least_shut f g x y =
       let one = opens_once e x.slot y.slot x.passphrase y.passphrase x.asked y.asked in
-      let answer : Answer v x.slot x.passphrase (refused (opening.Slot g)) =
-      subst (λ m. Answer v m x.passphrase (refused (opening.Slot g))) one.0 (subst (λ q. Answer v y.slot q (refused (opening.Slot g))) one.1 y.answer) in
+      let answer : AnswerWithin (allowed_memory e) v x.slot x.passphrase (refused (opening.Slot g)) =
+      subst (λ m. AnswerWithin (allowed_memory e) v m x.passphrase (refused (opening.Slot g))) one.0
+      (subst (λ q. AnswerWithin (allowed_memory e) v y.slot q (refused (opening.Slot g))) one.1 y.answer) in
       ((x.answer.1 (opening.Slot g) answer.0).1 refl).0
 
   shut_first : (random : List ℕ) (f : SlotFault) → IsPast 4 v payload e random → IsFirstShut v e f → Refusal2 v payload e random (fault.Slot f)
@@ -66,6 +68,7 @@ module _ (v : List ℕ) (payload : Data) (e : Edit) where
   pub unopened_first : (f : EditFault) → ((random : List ℕ) → IsPast 4 v payload e random) → IsUnopened v e f → IsRefusedEarly v payload e f
   unopened_first fault.Locked passed bad = λ random. first_of_row (IsEditFault2 v payload e random) fault.Locked refl (passed random) bad
   unopened_first (fault.Slot s) passed bad = λ random. shut_first random s (passed random) bad
+  unopened_first fault.Memory passed bad = bad
   unopened_first fault.Device passed bad = tt
   unopened_first f passed bad = absurd bad
 
@@ -171,7 +174,7 @@ module _ (v : List ℕ) (payload : Data) (o : ℕ) (j : Value) (m : HasMetadata 
 
 -- ---- an addition
 
-module _ (v : List ℕ) (payload : Data) (o : ℕ) (j : Value) (m : HasMetadata v o j) (by_ : ℕ) (old new : Bor (List ℕ)) (to : Option ℕ) (iterations : ℕ)
+module _ (v : List ℕ) (payload : Data) (o : ℕ) (j : Value) (m : HasMetadata v o j) (by_ : ℕ) (old : Passphrase) (new : Bor (List ℕ)) (to : Option ℕ) (iterations : ℕ)
     (past : (random : List ℕ) → IsPast 6 v payload (Add by_ old new to iterations) random) where
   pub number_first : (f : EditFault) → IsNumberFault j to f → IsRefusedEarly v payload (Add by_ old new to iterations) f
   number_first fault.SlotTaken bad = λ random. taken_first v payload o j m (Add by_ old new to iterations) random (past random) bad
@@ -193,7 +196,7 @@ module _ (v : List ℕ) (payload : Data) (o : ℕ) (j : Value) (m : HasMetadata 
 
 -- ---- the other edits
 
-module _ (v : List ℕ) (payload : Data) (o : ℕ) (j : Value) (m : HasMetadata v o j) (slot : ℕ) (old new : Bor (List ℕ)) (iterations : ℕ)
+module _ (v : List ℕ) (payload : Data) (o : ℕ) (j : Value) (m : HasMetadata v o j) (slot : ℕ) (old : Passphrase) (new : Bor (List ℕ)) (iterations : ℕ)
     (past : (random : List ℕ) → IsPast 6 v payload (Change slot old new iterations) random) where
   change_eight : (random : List ℕ) → IsPast 8 v payload (Change slot old new iterations) random
   change_eight random = past_number v payload o j m (Change slot old new iterations) random (past random) (λ x. x) (λ x. x)
@@ -206,7 +209,7 @@ module _ (v : List ℕ) (payload : Data) (o : ℕ) (j : Value) (m : HasMetadata 
       → HasNoFaultBefore 12 v payload (Change slot old new iterations) random
   changed_past = sealed_past v payload o j m (Change slot old new iterations) slot iterations (λ x. x, λ x. x) (λ x. x, λ x. x) (λ x. x) (λ x. x) change_eight
 
-module _ (v : List ℕ) (payload : Data) (o : ℕ) (j : Value) (m : HasMetadata v o j) (slot : ℕ) (passphrase : Bor (List ℕ))
+module _ (v : List ℕ) (payload : Data) (o : ℕ) (j : Value) (m : HasMetadata v o j) (slot : ℕ) (passphrase : Passphrase)
     (past : (random : List ℕ) → IsPast 6 v payload (Remove slot passphrase) random) where
   nine : (random : List ℕ) → IsPast 9 v payload (Remove slot passphrase) random
   nine random = past_room v payload o j m (Remove slot passphrase) random

@@ -12,3 +12,4 @@ mod ReadFacts
 mod RoomFacts
 mod SaltFacts
 mod StripeFacts
+mod TakenFacts

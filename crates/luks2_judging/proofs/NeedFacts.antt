@@ -13,6 +13,7 @@ use Rattle.luks_reading.specs.Checked.{IsFault, WellFormed}
 use Rattle.luks_reading.specs.Header.{IsHeader}
 use Rattle.luks_edit.specs.declared.edit.Edit.{Edit}
 use Rattle.luks_edit.specs.declared.edit.Edit.TheVariants.{Add}
+use Rattle.luks_edit.specs.declared.edit.Passphrase.{Passphrase}
 use Rattle.luks_edit.specs.declared.edit_fault.EditFault.{EditFault}
 use Rattle.luks_edit.specs.declared.edit_fault.EditFault.TheVariants as fault
 use Rattle.luks_edit.specs.EditFaults.{edit_key}
@@ -84,7 +85,7 @@ module _ (v : List ℕ) (payload : Data) (o : ℕ) (j : Value) (m : HasMetadata 
       }
 
 -- there is no number for a keyslot that is added
-pub need_unnumbered : (v : List ℕ) (payload : Data) (o : ℕ) (j : Value) (m : HasMetadata v o j) (by_ : ℕ) (old new : Bor (List ℕ)) (to : Option ℕ) (iterations : ℕ)
+pub need_unnumbered : (v : List ℕ) (payload : Data) (o : ℕ) (j : Value) (m : HasMetadata v o j) (by_ : ℕ) (old : Passphrase) (new : Bor (List ℕ)) (to : Option ℕ) (iterations : ℕ)
     → ((f : CheckFault) → IsFault v payload f → ⊥) → (has_requirements j ≡ true → ⊥) → (IsAbsent j (Add by_ old new to iterations) → ⊥)
     → (f : EditFault) → IsNumberFault j to f → IsLeast edit_key (IsNeedFault2 v payload (Add by_ old new to iterations)) f
 need_unnumbered v payload o j m by_ old new to iterations accepted unrequired there fault.SlotTaken bad =

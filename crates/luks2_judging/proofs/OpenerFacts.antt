@@ -13,13 +13,14 @@ use Rattle.luks_slot.specs.declared.fault.SlotFault.{SlotFault}
 use Rattle.luks_reading.specs.declared.open_fault.OpenFault.{OpenFault}
 use Rattle.luks_reading.specs.declared.open_fault.OpenFault.TheVariants as opening
 use Rattle.luks_reading.specs.declared.report.Data.{Data}
-use Rattle.luks_reading.specs.Answer.{Answer, IsLuks2Refusal, IsRefusalAs, IsRefusedBy, no_key, opens, refused}
+use Rattle.luks_reading.specs.Answer.{AnswerWithin, IsLuks2RefusalWithin, IsRefusalAsWithin, IsRefusedByWithin, no_key, opens, refused, TakesMemory}
 use Rattle.luks_reading.specs.Checked.{IsLuks2Volume, WellFormed, WellFormedAs}
 use Rattle.luks_reading.specs.Header.{json_at}
 use Rattle.luks_reading.specs.Layout2.{slot_number}
 use Rattle.luks_edit.specs.declared.edit.Edit.{Edit}
 use Rattle.luks_edit.specs.declared.edit.Edit.TheVariants.{Add, Change, Remove, Repair, Label}
-use Rattle.luks_edit.specs.Asked.{OpensBy}
+use Rattle.luks_edit.specs.declared.edit_fault.EditFault.TheVariants as edit_fault
+use Rattle.luks_edit.specs.Asked.{allowed_memory, OpensBy}
 use Rattle.luks_edit.specs.Opener.{IsLocked, IsShut}
 use Rattle.luks2_edits.specs.Metadata.{HasMetadata, IsInUse}
 use Rattle.luks2_edits.specs.Refused.{HasSaid, IsAbsent}
@@ -39,28 +40,39 @@ opens_once (Remove slot passphrase) n m p q x y = (y.0 ∙ sym x.0, y.1 ∙ sym 
 opens_once Repair n m p q x y = absurd x
 opens_once (Label text) n m p q x y = absurd x
 
+-- an edit wants memory where opening did
+pub wanting_of : (n : ℕ) (f : OpenFault) → unopened n f ≡ edit_fault.Memory → f ≡ opening.Memory
+wanting_of n (opening.Head f) wants = absurd (cc)
+wanting_of n (opening.Meta f) wants = absurd (cc)
+wanting_of n opening.NoSuchSlot wants = absurd (cc)
+wanting_of n opening.SlotFree wants = absurd (cc)
+wanting_of n opening.Outside wants = absurd (cc)
+wanting_of n (opening.Slot f) wants = absurd (cc)
+wanting_of n opening.Device wants = absurd (cc)
+wanting_of n opening.Memory wants = refl
+
 module _ (v : List ℕ) (e : Edit) (n : ℕ) (p : List ℕ) (asked : OpensBy e n p) where
-  locked_here : IsLocked v e → Answer v n p no_key
+  locked_here : IsLocked v e → AnswerWithin (allowed_memory e) v n p no_key
   locked_here bad =
       let one = opens_once e n bad.slot p bad.passphrase asked bad.asked in
-      subst (λ m. Answer v m p no_key) one.0 (subst (λ q. Answer v bad.slot q no_key) one.1 bad.answer)
+      subst (λ m. AnswerWithin (allowed_memory e) v m p no_key) one.0 (subst (λ q. AnswerWithin (allowed_memory e) v bad.slot q no_key) one.1 bad.answer)
 
-  shut_here : (f : SlotFault) → IsShut v e f → Answer v n p (refused (opening.Slot f))
+  shut_here : (f : SlotFault) → IsShut v e f → AnswerWithin (allowed_memory e) v n p (refused (opening.Slot f))
   shut_here f bad =
       let one = opens_once e n bad.slot p bad.passphrase asked bad.asked in
-      subst (λ m. Answer v m p (refused (opening.Slot f))) one.0 (subst (λ q. Answer v bad.slot q (refused (opening.Slot f))) one.1 bad.answer)
+      subst (λ m. AnswerWithin (allowed_memory e) v m p (refused (opening.Slot f))) one.0 (subst (λ q. AnswerWithin (allowed_memory e) v bad.slot q (refused (opening.Slot f))) one.1 bad.answer)
 
-  pub opens_by : (key : List ℕ) → Answer v n p (opens key) → Opens v e key
+  pub opens_by : (key : List ℕ) → AnswerWithin (allowed_memory e) v n p (opens key) → Opens v e key
   opens_by key opened = record {
     gives = λ m q other. (let one = opens_once e n m p q asked other in
-        subst (λ k. Answer v k q (opens key)) (sym one.0) (subst (λ r. Answer v n r (opens key)) (sym one.1) opened));
+        subst (λ k. AnswerWithin (allowed_memory e) v k q (opens key)) (sym one.0) (subst (λ r. AnswerWithin (allowed_memory e) v n r (opens key)) (sym one.1) opened));
     past = record {
-      unlocked = λ bad. one_answer v n p (opens key) no_key opened (locked_here bad);
-      unshut = λ f bad. one_answer v n p (opens key) (refused (opening.Slot f)) opened (shut_here f bad);
+      unlocked = λ bad. one_answer (allowed_memory e) v n p (opens key) no_key opened (locked_here bad);
+      unshut = λ f bad. one_answer (allowed_memory e) v n p (opens key) (refused (opening.Slot f)) opened (shut_here f bad);
     };
   }
 
-  pub locked_by : Answer v n p no_key → IsLocked v e
+  pub locked_by : AnswerWithin (allowed_memory e) v n p no_key → IsLocked v e
   locked_by answer = record { slot = n; passphrase = p; asked = asked; answer = answer }
 
   module _ (o : ℕ) (j : Value) (m : HasMetadata v o j) (payload : Data) (well : WellFormed v payload)
@@ -68,8 +80,8 @@ module _ (v : List ℕ) (e : Edit) (n : ℕ) (p : List ℕ) (asked : OpensBy e n
     volume : IsLuks2Volume (header_at v o) (json_at v o) payload (length v)
     volume = subst (λ b. WellFormedAs v payload b) (one_choice v well.choice (luks2 o m.copies) well.chosen m.chosen) well.formed
 
-    as_luks2 : (f : OpenFault) → Answer v n p (refused f) → IsLuks2Refusal (header_at v o) (json_at v o) (length v) n f
-    as_luks2 f is = subst (λ c. IsRefusalAs v n c f) (one_choice v is.0.choice (luks2 o m.copies) is.0.chosen m.chosen) is.0.fault
+    as_luks2 : (f : OpenFault) → AnswerWithin (allowed_memory e) v n p (refused f) → IsLuks2RefusalWithin (allowed_memory e) (header_at v o) (json_at v o) (length v) n f
+    as_luks2 f is = subst (λ c. IsRefusalAsWithin (allowed_memory e) v n c f) (one_choice v is.0.choice (luks2 o m.copies) is.0.chosen m.chosen) is.0.fault
 
     used : IsInUse j n
     used = used_of j e n p asked (λ absent. there (say v o j m (λ q i. IsAbsent i e) absent))
@@ -77,7 +89,7 @@ module _ (v : List ℕ) (e : Edit) (n : ℕ) (p : List ℕ) (asked : OpensBy e n
     same_value : (i : Value) → Json (json_at v o) i → i ≡ j
     same_value i holds = one_value (json_at v o) i j holds m.holds
 
-    not_outside : IsLuks2Refusal (header_at v o) (json_at v o) (length v) n opening.Outside → ⊥
+    not_outside : IsLuks2RefusalWithin (allowed_memory e) (header_at v o) (json_at v o) (length v) n opening.Outside → ⊥
     not_outside out =
         let layout = volume.layout.1 in
         let same : out.is.value ≡ volume.layout.0 = one_value (json_at v o) out.is.value volume.layout.0 out.is.holds layout.metadata.json in
@@ -90,8 +102,8 @@ module _ (v : List ℕ) (e : Edit) (n : ℕ) (p : List ℕ) (asked : OpensBy e n
         let inside = layout.fit.inside (area_name.Slot n) out.plan.area (out.is.numbered, start, len) in
         omega (arith, past, inside)
 
-    -- a keyslot of a well formed volume is refused by its plan alone
-    pub unopened_by : (f : OpenFault) → IsRefusedBy v n p f → (f ≡ opening.Memory → ⊥) → IsUnopened v e (unopened n f)
+    -- a keyslot of a well formed volume is refused by its plan alone, and memory only where it takes it
+    pub unopened_by : (f : OpenFault) → IsRefusedByWithin (allowed_memory e) v n p f → (f ≡ opening.Memory → TakesMemory (allowed_memory e) v n) → IsUnopened v e (unopened n f)
     unopened_by (opening.Head f) is other = (uuid_faultless (uuid_field (header_at v o))).1 volume.uuid f (as_luks2 (opening.Head f) is)
     unopened_by (opening.Meta f) is other = (metadata_faultless (json_at v o)).1 (volume.layout.0, volume.layout.1.metadata) f (as_luks2 (opening.Meta f) is)
     unopened_by opening.NoSuchSlot is other =
@@ -102,11 +114,11 @@ module _ (v : List ℕ) (e : Edit) (n : ℕ) (p : List ℕ) (asked : OpensBy e n
     unopened_by opening.SlotFree is other = as_luks2 opening.SlotFree is
     unopened_by opening.Outside is other = not_outside (as_luks2 opening.Outside is)
     unopened_by (opening.Slot f) is other = record {
-      unlocked = λ bad. one_answer v n p (refused (opening.Slot f)) no_key is (locked_here bad);
+      unlocked = λ bad. one_answer (allowed_memory e) v n p (refused (opening.Slot f)) no_key is (locked_here bad);
       slot = n;
       passphrase = p;
       asked = asked;
       answer = is;
     }
     unopened_by opening.Device is other = tt
-    unopened_by opening.Memory is other = other refl
+    unopened_by opening.Memory is other = record { slot = n; passphrase = p; asked = asked; takes = other refl }

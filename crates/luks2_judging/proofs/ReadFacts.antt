@@ -12,6 +12,7 @@ use Rattle.luks_reading.specs.Layout2.{Luks2Area}
 use Rattle.luks_reading.specs.Listing.{Lists}
 use Rattle.luks_edit.specs.declared.edit.Edit.{Edit}
 use Rattle.luks_edit.specs.declared.edit.Edit.TheVariants.{Add, Change, Remove, Repair, Label}
+use Rattle.luks_edit.specs.declared.edit.Passphrase.{Passphrase}
 use Rattle.luks_edit.specs.declared.edit_fault.EditFault.{EditFault}
 use Rattle.luks_edit.specs.declared.edit_fault.EditFault.TheVariants as fault
 use Rattle.luks_edit.specs.Asked.{OpensBy}
@@ -74,7 +75,7 @@ module _ {v : List ℕ} {payload : Data} {e : Edit} {o : ℕ} {meta : Meta} {ent
     six_of it is random = subst (λ y. IsPast 6 v payload y random) is (past_opened v payload e random past (r.four random))
 
     -- a keyslot is added
-    module _ {by_ : ℕ} {old new : Bor (List ℕ)} {to : Option ℕ} {iterations : ℕ} (is : e ≡ Add by_ old new to iterations) where
+    module _ {by_ : ℕ} {old : Passphrase} {new : Bor (List ℕ)} {to : Option ℕ} {iterations : ℕ} (is : e ≡ Add by_ old new to iterations) where
       pub unadded_refused : (f : EditFault) → IsUnadded (area_len meta + 4096) total payload (content meta) by_ to iterations f
           → IsRefusedEarly v payload e f
       unadded_refused f (inl bad) = subst (λ y. IsRefusedEarly v payload y f) (sym is)
@@ -90,7 +91,7 @@ module _ {v : List ℕ} {payload : Data} {e : Edit} {o : ℕ} {meta : Meta} {ent
           (λ none. area_excludes (hdr_size (header_at v o)) (length v) payload (content meta) by_ a (free_of place) none) enough random)
 
     -- one is sealed again
-    module _ {slot : ℕ} {old new : Bor (List ℕ)} {iterations : ℕ} (is : e ≡ Change slot old new iterations) where
+    module _ {slot : ℕ} {old : Passphrase} {new : Bor (List ℕ)} {iterations : ℕ} (is : e ≡ Change slot old new iterations) where
       pub unchanged_refused : (f : EditFault) → IsUnsealable (area_len meta + 4096) total payload (content meta) slot iterations f
           → IsRefusedEarly v payload e f
       unchanged_refused f bad = subst (λ y. IsRefusedEarly v payload y f) (sym is)
@@ -104,7 +105,7 @@ module _ {v : List ℕ} {payload : Data} {e : Edit} {o : ℕ} {meta : Meta} {ent
           (λ none. area_excludes (hdr_size (header_at v o)) (length v) payload (content meta) slot a (free_of place) none) enough random)
 
     -- one is removed
-    module _ {slot : ℕ} {passphrase : Bor (List ℕ)} (is : e ≡ Remove slot passphrase) where
+    module _ {slot : ℕ} {passphrase : Passphrase} (is : e ≡ Remove slot passphrase) where
       pub last_refused : IsOnlyOne (content meta) slot → IsRefusedEarly v payload e fault.LastSlot
       last_refused bad = subst (λ y. IsRefusedEarly v payload y fault.LastSlot) (sym is)
           (only_first v payload o (content meta) r.metadata slot passphrase (six_of (Remove slot passphrase) is) bad)

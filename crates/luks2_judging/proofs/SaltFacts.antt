@@ -1,5 +1,5 @@
 -- The text of new metadata is as long with one salt as with another.
-use Rattle.std.proofs.Common.{◌≡◌, ℕ, suc, ◌+◌, List, ◌∷◌, ◌++◌, length, length-append, Bool, true, false, cond, codes, decimal, Ordering, Less, Equal, Greater, refl, ap, arith}
+use Rattle.std.proofs.Common.{◌≡◌, ℕ, suc, ◌+◌, List, ◌∷◌, ◌++◌, length, length-append, Bool, true, false, cond, codes, decimal, Ordering, Less, Equal, Greater, refl, ap, arith, subst}
 use Rattle.std.specs.Cmp.Lexicographic.{slice_cmp}
 use Rattle.std.specs.Ordering.{match_ordering, nat_cmp}
 use Rattle.std.specs.Str.{bytes_eq}
@@ -10,7 +10,8 @@ use Rattle.luks_area.specs.declared.area.Area.{Area}
 use Rattle.luks_json.specs.Number.{number_text}
 use Rattle.luks_making.specs.Changed.{changed_slot, renewed_area, renewed_kdf, renewed_slot}
 use Rattle.luks_making.specs.Changing.{at_member, change_member, in_object}
-use Rattle.luks_making.specs.Keyslots.{area_value, base64_text, kdf_value, slot_value, splitter_value, SlotMembers}
+use Rattle.luks_making.specs.declared.new_keyslot.Argon2Costs.{Argon2Costs}
+use Rattle.luks_making.specs.Keyslots.{area_value, base64_text, kdf_value, slot_value, splitter_value, SlotMembers, argon2_value, by_argon2i, by_argon2id, by_pbkdf2, Deriving}
 use Rattle.luks_making.specs.With.{with_name, with_slot}
 use Rattle.luks2_edits.specs.Edited.{members_of}
 
@@ -125,23 +126,38 @@ pub record SameButSalt (s t : SlotMembers) : Type 0 where
   pub size : s.size ≡ t.size
   pub encryption : s.encryption ≡ t.encryption
   pub area_key_size : s.area_key_size ≡ t.area_key_size
-  pub hash : s.hash ≡ t.hash
-  pub iterations : s.iterations ≡ t.iterations
+  pub derivation : s.derivation ≡ t.derivation
   pub salt : SaltsAsLong s.salt t.salt
 
-kdf_as_long : (s t : SlotMembers) → SameButSalt s t → AsLong (kdf_value s) (kdf_value t)
-kdf_as_long s t x =
-    ap suc
-    (one_value_as_long (codes "hash") (string s.hash) (string t.hash)
-    (member (codes "iterations") (number (unsigned s.iterations)) (member (codes "salt") (string (base64_text s.salt)) (member (codes "type") (string (codes "pbkdf2")) no_members)))
-    (member (codes "iterations") (number (unsigned t.iterations)) (member (codes "salt") (string (base64_text t.salt)) (member (codes "type") (string (codes "pbkdf2")) no_members)))
-    (ap (λ h. length (quoted h)) x.hash)
-    (one_value_as_long (codes "iterations") (number (unsigned s.iterations)) (number (unsigned t.iterations))
-    (member (codes "salt") (string (base64_text s.salt)) (member (codes "type") (string (codes "pbkdf2")) no_members))
-    (member (codes "salt") (string (base64_text t.salt)) (member (codes "type") (string (codes "pbkdf2")) no_members))
-    (ap (λ n. length (decimal n)) x.iterations)
-    (one_value_as_long (codes "salt") (string (base64_text s.salt)) (string (base64_text t.salt))
-    (member (codes "type") (string (codes "pbkdf2")) no_members) (member (codes "type") (string (codes "pbkdf2")) no_members) x.salt.same (λ _. refl))) false)
+-- a derivation's text is as long by a salt whose text is as long
+module _ (a b : List ℕ) (salts : SaltsAsLong a b) where
+  argon2_as_long : (kind : List ℕ) (costs : Argon2Costs) → AsLong (argon2_value kind costs a) (argon2_value kind costs b)
+  argon2_as_long kind costs =
+      let last = member (codes "time") (number (unsigned costs.time)) (member (codes "type") (string kind) no_members) in
+      let salted = λ (salt : List ℕ). member (codes "salt") (string (base64_text salt)) last in
+      let more = λ (salt : List ℕ). member (codes "memory") (number (unsigned costs.memory)) (salted salt) in
+      ap suc
+      (one_value_as_long (codes "cpus") (number (unsigned costs.cpus)) (number (unsigned costs.cpus)) (more a) (more b) refl
+      (one_value_as_long (codes "memory") (number (unsigned costs.memory)) (number (unsigned costs.memory)) (salted a) (salted b) refl
+      (one_value_as_long (codes "salt") (string (base64_text a)) (string (base64_text b)) last last salts.same (λ _. refl))) false)
+
+  pbkdf2_as_long : (hash : List ℕ) (n : ℕ) → AsLong (kdf_value (by_pbkdf2 hash n) a) (kdf_value (by_pbkdf2 hash n) b)
+  pbkdf2_as_long hash n =
+      let last = member (codes "type") (string (codes "pbkdf2")) no_members in
+      let salted = λ (salt : List ℕ). member (codes "salt") (string (base64_text salt)) last in
+      let more = λ (salt : List ℕ). member (codes "iterations") (number (unsigned n)) (salted salt) in
+      ap suc
+      (one_value_as_long (codes "hash") (string hash) (string hash) (more a) (more b) refl
+      (one_value_as_long (codes "iterations") (number (unsigned n)) (number (unsigned n)) (salted a) (salted b) refl
+      (one_value_as_long (codes "salt") (string (base64_text a)) (string (base64_text b)) last last salts.same (λ _. refl))) false)
+
+  one_kdf_as_long : (d : Deriving) → AsLong (kdf_value d a) (kdf_value d b)
+  one_kdf_as_long (by_pbkdf2 hash n) = pbkdf2_as_long hash n
+  one_kdf_as_long (by_argon2i costs) = argon2_as_long (codes "argon2i") costs
+  one_kdf_as_long (by_argon2id costs) = argon2_as_long (codes "argon2id") costs
+
+kdf_as_long : (s t : SlotMembers) → SameButSalt s t → AsLong (kdf_value s.derivation s.salt) (kdf_value t.derivation t.salt)
+kdf_as_long s t x = subst (λ d. AsLong (kdf_value s.derivation s.salt) (kdf_value d t.salt)) x.derivation (one_kdf_as_long s.salt t.salt x.salt s.derivation)
 
 splitter_same : (s t : SlotMembers) → SameButSalt s t → splitter_value s ≡ splitter_value t
 splitter_same s t x = rw (x.splitter_hash, x.stripes) refl
@@ -153,14 +169,14 @@ slot_as_long : (s t : SlotMembers) → SameButSalt s t → AsLong (slot_value s)
 slot_as_long s t x =
     ap suc
     (one_value_as_long (codes "af") (splitter_value s) (splitter_value t)
-    (member (codes "area") (area_value s) (member (codes "kdf") (kdf_value s) (member (codes "key_size") (number (unsigned s.key_size)) (member (codes "type") (string (codes "luks2")) no_members))))
-    (member (codes "area") (area_value t) (member (codes "kdf") (kdf_value t) (member (codes "key_size") (number (unsigned t.key_size)) (member (codes "type") (string (codes "luks2")) no_members))))
+    (member (codes "area") (area_value s) (member (codes "kdf") (kdf_value s.derivation s.salt) (member (codes "key_size") (number (unsigned s.key_size)) (member (codes "type") (string (codes "luks2")) no_members))))
+    (member (codes "area") (area_value t) (member (codes "kdf") (kdf_value t.derivation t.salt) (member (codes "key_size") (number (unsigned t.key_size)) (member (codes "type") (string (codes "luks2")) no_members))))
     (ap (λ d. length (compact_text d)) (splitter_same s t x))
     (one_value_as_long (codes "area") (area_value s) (area_value t)
-    (member (codes "kdf") (kdf_value s) (member (codes "key_size") (number (unsigned s.key_size)) (member (codes "type") (string (codes "luks2")) no_members)))
-    (member (codes "kdf") (kdf_value t) (member (codes "key_size") (number (unsigned t.key_size)) (member (codes "type") (string (codes "luks2")) no_members)))
+    (member (codes "kdf") (kdf_value s.derivation s.salt) (member (codes "key_size") (number (unsigned s.key_size)) (member (codes "type") (string (codes "luks2")) no_members)))
+    (member (codes "kdf") (kdf_value t.derivation t.salt) (member (codes "key_size") (number (unsigned t.key_size)) (member (codes "type") (string (codes "luks2")) no_members)))
     (ap (λ d. length (compact_text d)) (area_same s t x))
-    (one_value_as_long (codes "kdf") (kdf_value s) (kdf_value t)
+    (one_value_as_long (codes "kdf") (kdf_value s.derivation s.salt) (kdf_value t.derivation t.salt)
     (member (codes "key_size") (number (unsigned s.key_size)) (member (codes "type") (string (codes "luks2")) no_members))
     (member (codes "key_size") (number (unsigned t.key_size)) (member (codes "type") (string (codes "luks2")) no_members))
     (kdf_as_long s t x)

@@ -15,6 +15,7 @@ use Rattle.luks_reading.specs.Listing.{Lists}
 use Rattle.luks_reading.specs.Plans.{HasLuks2KeyBytes}
 use Rattle.luks_edit.specs.declared.edit.Edit.{Edit}
 use Rattle.luks_edit.specs.declared.edit.Edit.TheVariants.{Add, Change, Remove, Repair, Label}
+use Rattle.luks_edit.specs.declared.edit.Passphrase.{Passphrase}
 use Rattle.luks_edit.specs.declared.edit_fault.EditFault.{EditFault}
 use Rattle.luks_edit.specs.Endings.{EndsBy}
 use Rattle.luks2_edits.specs.Metadata.{IsInUse}
@@ -26,7 +27,7 @@ use Rattle.luks2_judging.specs.declared.judged.JudgedEdit.{JudgedEdit}
 use Rattle.luks2_judging.specs.declared.judged.JudgedEdit.TheVariants as judged
 use Rattle.luks2_judging.specs.declared.judged.Renewal.{Renewal}
 use Rattle.luks2_judging.specs.Judged.{IsNewNumber}
-use Rattle.luks2_judging.specs.Opened.{IsOpenedTo}
+use Rattle.luks2_judging.specs.Opened.{IsOpenedTo, TakesMemoryToOpen}
 use Rattle.luks2_judging.specs.Room.{IsPlaced}
 use Rattle.luks2_judging.specs.Rows.{HasNoFaultBefore}
 
@@ -37,7 +38,7 @@ use Rattle.luks2_judging.specs.Rows.{HasNoFaultBefore}
 pub record IsAddition
     (len : ℕ) (j : Value) (total : ℕ) (e : Edit) (a : Addition) (key : List ℕ) (passphrase : Bor (List ℕ))
     : Type 0 where
-  pub old : Bor (List ℕ)
+  pub old : Passphrase
   pub to : Option ℕ
   pub asked : e ≡ Add a.by_ old passphrase to a.iterations
   pub number : IsNewNumber j to a.made
@@ -49,7 +50,7 @@ pub record IsAddition
 pub record IsRenewal
     (len : ℕ) (j : Value) (total : ℕ) (e : Edit) (r : Renewal) (key : List ℕ) (passphrase : Bor (List ℕ))
     : Type 0 where
-  pub old : Bor (List ℕ)
+  pub old : Passphrase
   pub asked : e ≡ Change r.slot old passphrase r.iterations
   pub there : IsInUse j r.slot
   pub key_length : HasLuks2KeyBytes j r.slot (length key)
@@ -58,7 +59,7 @@ pub record IsRenewal
 
 -- it removes this keyslot
 pub record IsRemoval (j : Value) (e : Edit) (slot : ℕ) : Type 0 where
-  pub passphrase : Bor (List ℕ)
+  pub passphrase : Passphrase
   pub asked : e ≡ Remove slot passphrase
   pub there : IsInUse j slot
 
@@ -77,8 +78,12 @@ Takes len j total e (judged.Label field_) = IsLabelling e field_
 
 -- by the header that was read
 pub record IsJudged (header : Header) (total : ℕ) (e : Edit) (it : Judged) : Type 0 where
-  pub copy : header ≡ Luks2 it.copy.now
-  pub takes : Takes (area_len it.copy.now.meta) (content it.copy.now.meta) total e it.edit
+  pub copy : header ≡ Luks2 it.copy
+  pub takes : Takes (area_len it.copy.meta) (content it.copy.meta) total e it.edit
+
+-- the same of any copy that the header is
+abbrev pub IsTakenOf : Header → ℕ → Edit → JudgedEdit → Type 0
+IsTakenOf header total e it = (copy : ChosenCopy) → header ≡ Luks2 copy → Takes (area_len copy.meta) (content copy.meta) total e it
 
 -- ---- of the volume `v`
 
@@ -92,12 +97,19 @@ Seals h v payload j e it = ⊤
 -- none of the rows up to `BadLabel` refuses the edit, and this is what it takes
 pub record IsUnrefusedSoFar (v : List ℕ) (payload : Data) (e : Edit) (it : Judged) : Type 0 where
   pub well : WellFormed v payload
-  pub seals : Seals (hdr_size (header_at v it.copy.now.header.hdr_offset)) v payload (content it.copy.now.meta) e it.edit
+  pub seals : Seals (hdr_size (header_at v it.copy.header.hdr_offset)) v payload (content it.copy.meta) e it.edit
   pub none : (random : List ℕ) → HasNoFaultBefore 12 v payload e random
 
--- one of them does, whatever the random bytes are; or the device failed
+-- the same of any copy that the header is
+pub record IsUnrefusedOf (header : Header) (v : List ℕ) (payload : Data) (e : Edit) (it : JudgedEdit) : Type 0 where
+  pub well : WellFormed v payload
+  pub seals : (copy : ChosenCopy) → header ≡ Luks2 copy → Seals (hdr_size (header_at v copy.header.hdr_offset)) v payload (content copy.meta) e it
+  pub none : (random : List ℕ) → HasNoFaultBefore 12 v payload e random
+
+-- one of them does, whatever the random bytes are; or memory was refused that opening its keyslot
+-- takes; or the device failed
 abbrev pub IsRefusedEarly : List ℕ → Data → Edit → EditFault → Type 0
-IsRefusedEarly v payload e = EndsBy (λ f. (random : List ℕ) → Refusal2 v payload e random f) ⊥ ⊤
+IsRefusedEarly v payload e = EndsBy (λ f. (random : List ℕ) → Refusal2 v payload e random f) (TakesMemoryToOpen v e) ⊤
 
 -- the copy counts, the volume has these areas, and no fault stands in a row before the row `k`
 pub record IsJudgedTo

@@ -67,3 +67,14 @@ pub(crate) fn copy_of(header: &Header) -> &ChosenCopy
         Header::Luks2(copy) => copy,
     }
 }
+
+/// The copy that counts, which the header gives up.
+pub(crate) fn into_copy(header: Header) -> ChosenCopy
+    requires { IsOfLuks2 header }
+    ensures { header ≡ OfLuks2 result }
+{
+    match header {
+        Header::Luks1(_) => unreachable!(),
+        Header::Luks2(copy) => copy,
+    }
+}

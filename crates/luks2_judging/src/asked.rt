@@ -2,19 +2,19 @@
 ghost use Rattle.std.specs.Prelude.{ℕ, List, MatchOption};
 ghost use Rattle.luks_edit.specs.Asked.{OpensBy};
 
-use luks_edit::Edit;
+use luks_edit::{Edit, Passphrase};
 
 /// The keyslot that an edit opens, and by which passphrase.
 #[derive(Clone, Copy)]
 pub(crate) struct Opener<'a> {
     pub(crate) slot: u8,
-    pub(crate) passphrase: &'a [u8],
+    pub(crate) passphrase: Passphrase<'a>,
 }
 
 /// The keyslot that the edit opens, if it opens one.
 pub(crate) fn keyslot_to_open<'a>(edit: &Edit<'a>) -> Option<Opener<'a>>
     ensures { MatchOption result ((n : ℕ) (p : List ℕ) → OpensBy edit.now n p → ⊥)
-        (λ o. OpensBy edit.now o.slot o.passphrase.now) }
+        (λ o. OpensBy edit.now o.slot o.passphrase.bytes.now) }
 {
     match *edit {
         Edit::Add {

@@ -7,7 +7,7 @@ use luks_slot::Key;
 #[derive(Drop)]
 pub struct Judged<'a> {
     /// The copy of the header that counts.
-    pub copy: &'a ChosenCopy,
+    pub copy: ChosenCopy,
     /// What the edit takes.
     pub edit: JudgedEdit<'a>,
 }

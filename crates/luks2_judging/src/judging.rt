@@ -15,16 +15,17 @@ ghost use Rattle.luks_reading.specs.Listing.{Lists};
 ghost use Rattle.luks2_edits.specs.Metadata.{IsInUse};
 ghost use Rattle.luks2_edits.specs.Places.{IsNewArea};
 ghost use Rattle.luks_reading.specs.Header.{IsAcceptedHeader, IsHeader};
+ghost use Rattle.luks_edit.specs.Asked.{allowed_memory};
 ghost use Rattle.luks_edit.specs.EditFaults.{is_edit_failure};
 ghost use Rattle.luks2_edits.specs.Refused.{IsAbsent, Refusal2};
 ghost use Rattle.luks2_judging.specs.Header.{IsOfLuks2};
 ghost use Rattle.luks2_judging.specs.Judged.{IsNewNumber};
-ghost use Rattle.luks2_judging.specs.Judging.{IsJudged, IsJudgedTo, IsRefusedEarly, IsUnrefusedSoFar, Seals, Takes};
+ghost use Rattle.luks2_judging.specs.Judging.{IsJudged, IsJudgedTo, IsRefusedEarly, IsTakenOf, IsUnrefusedOf, IsUnrefusedSoFar, Seals, Takes};
 ghost use Rattle.luks2_judging.specs.Room.{IsPlaced, IsUnsealable};
 ghost use Rattle.luks2_judging.specs.Rows.{HasNoFaultBefore};
 ghost use Rattle.luks2_judging.specs.Sealing.{IsUnadded};
 
-use crate::accepted::{accepted_areas, copy_of};
+use crate::accepted::{accepted_areas, copy_of, into_copy};
 use crate::judged::{Addition, Judged, JudgedEdit, Renewal};
 use crate::keyslots::{judge_opener, judge_requirements, new_number};
 use crate::labels::judge_label;
@@ -64,34 +65,59 @@ impl Accepted<'_> {
 /// the table of its faults, in their order: what the edit takes, or the first fault.
 ///
 /// The rows `SeqExhausted`, `MetadataFull` and `RandomLength` are left to the edit itself. A
-/// keyslot is opened at most, no byte is written, and no memory is taken. `Device` comes exactly
-/// where a device call failed.
+/// keyslot is opened at most, and no byte is written. Memory is taken for Argon2 alone, where the edit
+/// allows it: `Memory` comes only of a keyslot that derives by it. `Device` comes exactly where a device
+/// call failed. The header is given up for the copy of it that counts.
 pub fn judge_luks2<'a, D: Device>(
     alloc: Global,
     device: &mut D,
-    header: &'a Header,
+    header: Header,
     data_: Data,
     edit: &Edit<'a>,
 ) -> Result<Judged<'a>, EditFault>
+    requires room { D.failed device.old + 1 < 2 ^ 64 }
+    requires accepted { IsAcceptedHeader header }
+    requires luks2 { IsOfLuks2 header }
+    ensures unchanged { IsUnchanged D.tells D.size D.bytes D.unsettled device.old device.new }
+    ensures count { CountsFailure is_edit_failure result
+        (D.failed device.old) (D.failed device.new) }
+    ensures no_memory { allowed_memory edit.now ≡ 0 → IfErr result (λ f. f ≢ EditFault.Memory) }
+    ensures judged { IfOk result (IsJudged header (D.size device.old) edit.now) }
+    ensures unrefused { D.tells → IsHeader (D.bytes device.old) header
+        → IfOk result (IsUnrefusedSoFar (D.bytes device.old) data_ edit.now) }
+    ensures refused { D.tells → IsHeader (D.bytes device.old) header
+        → IfErr result (IsRefusedEarly (D.bytes device.old) data_ edit.now) }
+{
+    let taken = taken_by(alloc, device, &header, data_, edit)?;
+    Ok(Judged {
+        copy: into_copy(header),
+        edit: taken,
+    })
+}
+
+/// What the edit takes of the volume with this header, or the first fault.
+fn taken_by<'a, D: Device>(
+    alloc: Global,
+    device: &mut D,
+    header: &Header,
+    data_: Data,
+    edit: &Edit<'a>,
+) -> Result<JudgedEdit<'a>, EditFault>
     requires room { D.failed device.old + 1 < 2 ^ 64 }
     requires accepted { IsAcceptedHeader header.now }
     requires luks2 { IsOfLuks2 header.now }
     ensures unchanged { IsUnchanged D.tells D.size D.bytes D.unsettled device.old device.new }
     ensures count { CountsFailure is_edit_failure result
         (D.failed device.old) (D.failed device.new) }
-    ensures memory { IfErr result (λ f. f ≢ EditFault.Memory) }
-    ensures judged { IfOk result (IsJudged header.now (D.size device.old) edit.now) }
+    ensures no_memory { allowed_memory edit.now ≡ 0 → IfErr result (λ f. f ≢ EditFault.Memory) }
+    ensures judged { IfOk result (IsTakenOf header.now (D.size device.old) edit.now) }
     ensures unrefused { D.tells → IsHeader (D.bytes device.old) header.now
-        → IfOk result (IsUnrefusedSoFar (D.bytes device.old) data_ edit.now) }
+        → IfOk result (IsUnrefusedOf header.now (D.bytes device.old) data_ edit.now) }
     ensures refused { D.tells → IsHeader (D.bytes device.old) header.now
         → IfErr result (IsRefusedEarly (D.bytes device.old) data_ edit.now) }
 {
     let accepted = judge_without_key(header, data_, device.len(), edit)?;
-    let taken = judge_with_key(alloc, device, header, &accepted, edit)?;
-    Ok(Judged {
-        copy: accepted.copy,
-        edit: taken,
-    })
+    judge_with_key(alloc, device, header, &accepted, edit)
 }
 
 /// The rows before the opening of a keyslot: `NotAccepted`, `Requirements`, `NoSuchSlot`.
@@ -143,7 +169,7 @@ fn judge_with_key<'a, D: Device>(
     ensures unchanged { IsUnchanged D.tells D.size D.bytes D.unsettled device.old device.new }
     ensures count { CountsFailure is_edit_failure result
         (D.failed device.old) (D.failed device.new) }
-    ensures memory { IfErr result (λ f. f ≢ EditFault.Memory) }
+    ensures no_memory { allowed_memory edit.now ≡ 0 → IfErr result (λ f. f ≢ EditFault.Memory) }
     ensures takes { let meta = accepted.now.copy.now.meta in
         IfOk result (Takes (area_len meta) (content meta) (D.size device.old) edit.now) }
     ensures seals { D.tells → IsHeader (D.bytes device.old) header.now → (payload : Payload)
@@ -164,6 +190,7 @@ fn judge_with_key<'a, D: Device>(
         → IfErr result (IsRefusedEarly (D.bytes device.old) payload edit.now) }
 {
     let room = accepted.room();
+    let memory = edit.allowed_memory();
     match *edit {
         Edit::Add {
             by_,
@@ -172,7 +199,7 @@ fn judge_with_key<'a, D: Device>(
             to,
             iterations,
         } => {
-            let key = unlock(alloc, device, header, by_, old)?;
+            let key = unlock(alloc, device, header, by_, old.bytes, memory)?;
             let addition = judge_addition(&room, by_, to, iterations)?;
             Ok(JudgedEdit::Add {
                 addition,
@@ -186,7 +213,7 @@ fn judge_with_key<'a, D: Device>(
             new,
             iterations,
         } => {
-            let key = unlock(alloc, device, header, slot, old)?;
+            let key = unlock(alloc, device, header, slot, old.bytes, memory)?;
             let renewal = judge_renewal(&room, slot, iterations)?;
             Ok(JudgedEdit::Change {
                 renewal,
@@ -195,7 +222,7 @@ fn judge_with_key<'a, D: Device>(
             })
         }
         Edit::Remove { slot, passphrase } => {
-            let _key = unlock(alloc, device, header, slot, passphrase)?;
+            let _key = unlock(alloc, device, header, slot, passphrase.bytes, memory)?;
             judge_last(room.meta, slot)?;
             Ok(JudgedEdit::Remove { slot })
         }

@@ -1,9 +1,10 @@
 //! Opening the keyslot that an edit of a LUKS2 volume names.
 ghost use Rattle.std.specs.Prelude.{◌≡◌, ◌≢◌, ◌+◌, ◌^◌, ◌<◌, length, IfOk, IfErr};
 ghost use Rattle.luks_area.specs.Device.{CountsFailure, IsUnchanged};
-ghost use Rattle.luks_edit.specs.Asked.{OpensBy};
+ghost use Rattle.luks_edit.specs.Asked.{OpensBy, allowed_memory};
 ghost use Rattle.luks_edit.specs.EditFaults.{is_edit_failure};
 ghost use Rattle.luks_edit.specs.declared.edit.Edit.{Edit as TheEdit};
+ghost use Rattle.luks_reading.specs.Answer.{TakesMemory};
 ghost use Rattle.luks_reading.specs.Checked.{WellFormed};
 ghost use Rattle.luks_reading.specs.Header.{IsAcceptedHeader, IsHeader};
 ghost use Rattle.luks_reading.specs.Plans.{HasKeyBytes};
@@ -36,32 +37,38 @@ fn unopened(n: u8, fault: OpenFault) -> EditFault
 }
 
 /// The key that the keyslot `n` opens to, which an edit opens; or why it doesn't open: `Locked`,
-/// `Slot`, or the device's failure. No memory is taken.
+/// `Slot`, or the device's failure. Argon2 may take `memory` KiB; else no memory is taken.
 pub(crate) fn unlock<D: Device>(
     alloc: Global,
     device: &mut D,
     header: &Header,
     n: u8,
     passphrase: &[u8],
+    memory: u32,
 ) -> Result<Key, EditFault>
     requires room { D.failed device.old + 1 < 2 ^ 64 }
     requires accepted { IsAcceptedHeader header.now }
     requires luks2 { IsOfLuks2 header.now }
+    requires passphrase { 0 < memory → length passphrase.now < 2 ^ 32 }
     ensures unchanged { IsUnchanged D.tells D.size D.bytes D.unsettled device.old device.new }
     ensures count { CountsFailure is_edit_failure result
         (D.failed device.old) (D.failed device.new) }
-    ensures memory { IfErr result (λ f. f ≢ EditFault.Memory) }
+    // Memory is refused only to a keyslot that takes it, and to none where none is allowed.
+    ensures memory { D.tells → IsHeader (D.bytes device.old) header.now
+        → IfErr result (λ f. f ≡ EditFault.Memory
+        → TakesMemory memory (D.bytes device.old) n) }
+    ensures no_memory { memory ≡ 0 → IfErr result (λ f. f ≢ EditFault.Memory) }
     ensures length { IfOk result (λ key. HasKeyBytes header.now n (length key)) }
     ensures opened { D.tells → IsHeader (D.bytes device.old) header.now
-        → (e : TheEdit) → OpensBy e n passphrase.now
+        → (e : TheEdit) → allowed_memory e ≡ memory → OpensBy e n passphrase.now
         → IfOk result (Opens (D.bytes device.old) e) }
     ensures refused { D.tells → IsHeader (D.bytes device.old) header.now
         → (payload : Payload) (e : TheEdit) → WellFormed (D.bytes device.old) payload
-        → OpensBy e n passphrase.now
+        → allowed_memory e ≡ memory → OpensBy e n passphrase.now
         → (HasSaid (D.bytes device.old) (λ o j. IsAbsent j e) → ⊥)
         → IfErr result (IsUnopened (D.bytes device.old) e) }
 {
-    match open_header_slot(alloc, device, header, n, passphrase) {
+    match open_header_slot(alloc, device, header, n, passphrase, memory) {
         Ok(found) => match found {
             Some(key) => Ok(key),
             None => Err(EditFault::Locked),

@@ -8,17 +8,17 @@ use Rattle.luks_edit.specs.declared.edit_fault.EditFault.{EditFault}
 use Rattle.luks_edit.specs.declared.edit_fault.EditFault.TheVariants as fault
 use Rattle.luks_edit.specs.EditFaults.{is_edit_failure}
 use Rattle.luks_volume.specs.Needed.{IsUntold, NeedsRandom}
-use Rattle.luks_cli.specs.declared.answers.Answer.{Answer}
-use Rattle.luks_cli.specs.declared.answers.Answer.TheVariants as answer
-use Rattle.luks_cli.specs.declared.answers.Refusal.TheVariants as refusal
-use Rattle.luks_cli.specs.declared.inputs.InputFault.{InputFault}
-use Rattle.luks_cli.specs.declared.inputs.InputFault.TheVariants.{Absent, Unreadable, NoMemory}
-use Rattle.luks_cli.specs.declared.answers.Status.TheVariants.{Done, Refused, NotInStep, Fault}
-use Rattle.luks_cli.specs.Answer.{answer_status, edit_fault_answer, unread_answer}
-use Rattle.luks_cli.specs.EditAnswers.{AnswersEdit, IsEditAnswer, IsWordless, LacksFile}
+use Rattle.luks_commands.specs.declared.answers.Answer.{Answer}
+use Rattle.luks_commands.specs.declared.answers.Answer.TheVariants as answer
+use Rattle.luks_commands.specs.declared.answers.Refusal.TheVariants as refusal
+use Rattle.luks_commands.specs.declared.inputs.InputFault.{InputFault}
+use Rattle.luks_commands.specs.declared.inputs.InputFault.TheVariants.{Absent, Unreadable, NoMemory}
+use Rattle.luks_commands.specs.declared.answers.Status.TheVariants.{Done, Refused, NotInStep, Fault}
+use Rattle.luks_commands.specs.Answer.{answer_status, edit_fault_answer, IsWordless, unread_answer}
+use Rattle.luks_cli.specs.EditAnswers.{AnswersEdit, IsEditAnswer, LacksFile}
 use Rattle.luks_cli.specs.Editing.{Given, Lacking, RepliesAlone, given_edit}
-use Rattle.luks_cli.specs.Files.{OfNamed}
-use Rattle.luks_cli.proofs.EndFacts.{unread_is_fault}
+use Rattle.luks_commands.specs.Files.{OfNamed}
+use Rattle.luks_commands.proofs.EndFacts.{unread_is_fault}
 use Rattle.luks_cli.proofs.EditFacts.{err_same, not_made, replied_as, run_replied}
 
 module _ (tells : Type 0) (payload : Data) (lacks : Lacking) (v w : List ℕ) (before after : ℕ) where

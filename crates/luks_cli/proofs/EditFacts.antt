@@ -22,15 +22,14 @@ use Rattle.luks_request.specs.declared.request.EditRequest.{EditRequest}
 use Rattle.luks_request.specs.declared.request.EditRequest.TheVariants.{Add, Change, Remove, Repair, Label}
 use Rattle.luks_request.specs.Named.{edit_new_of, edit_passphrase_of}
 use Rattle.luks_request.specs.declared.request.Editing.{Editing}
-use Rattle.luks_cli.specs.declared.answers.Answer.{Answer}
-use Rattle.luks_cli.specs.declared.answers.Status.{Status}
-use Rattle.luks_cli.specs.declared.answers.Status.TheVariants.{Done, Refused, Fault}
-use Rattle.luks_cli.specs.Answer.{answer_status, edit_fault_answer}
-use Rattle.luks_cli.specs.EditAnswers.{IsWordless}
+use Rattle.luks_commands.specs.declared.answers.Answer.{Answer}
+use Rattle.luks_commands.specs.declared.answers.Status.{Status}
+use Rattle.luks_commands.specs.declared.answers.Status.TheVariants.{Done, Refused, Fault}
+use Rattle.luks_commands.specs.Answer.{answer_status, edit_fault_answer, IsWordless}
 use Rattle.luks_cli.specs.Editing.{Given, IsAsked, KeepsUnnamed, WhereFailed, IsRefused, IsReplied, RepliesAlone, SaysEdit, SparesEdit, SparesVolume, given_edit}
-use Rattle.luks_cli.specs.declared.inputs.InputFault.{InputFault}
-use Rattle.luks_cli.specs.Files.{LeavesVolume}
-use Rattle.luks_cli.proofs.EndFacts.{unread_is_fault}
+use Rattle.luks_commands.specs.declared.inputs.InputFault.{InputFault}
+use Rattle.luks_commands.specs.Files.{LeavesVolume}
+use Rattle.luks_commands.proofs.EndFacts.{unread_is_fault}
 
 -- ---- what is kept
 
@@ -51,7 +50,7 @@ slot_same payload n v = record {
   area = area_same payload (Slot n) v;
   entry = λ b. ((λ is. is), (λ is. is));
   value = λ d. ((λ is. is), (λ is. is));
-  answers = λ p a. ((λ is. is), (λ is. is));
+  answers = λ memory p a. ((λ is. is), (λ is. is));
 }
 
 -- a volume keeps itself
@@ -364,16 +363,16 @@ spared_edit payload v u w e has_random unchanged count random needs taken f (inr
 -- the passphrases are those that the files have, where the edit needs them
 pub asked_of : (request : EditRequest) (IsOld IsNew : List ℕ → Type 0) (p q : List ℕ) (e : Edit) → IfSome (edit_passphrase_of request) (λ name. IsOld p)
     → IfSome (edit_new_of request) (λ name. IsNew q) → IsAsked request (λ x. x ≡ p) (λ x. x ≡ q) e → IsAsked request IsOld IsNew e
-asked_of (Add by_ passphrase new to iterations) IsOld IsNew p q (edit.Add b o n t i) old fresh is =
-    (is.0, subst IsOld (sym is.1) old, subst IsNew (sym is.2) fresh, is.3, is.4)
-asked_of (Change slot passphrase new iterations) IsOld IsNew p q (edit.Change s o n i) old fresh is =
-    (is.0, subst IsOld (sym is.1) old, subst IsNew (sym is.2) fresh, is.3)
-asked_of (Remove slot passphrase) IsOld IsNew p q (edit.Remove s o) old fresh is = (is.0, subst IsOld (sym is.1) old)
+asked_of (Add by_ passphrase memory new to iterations) IsOld IsNew p q (edit.Add b o n t i) old fresh is =
+    (is.0, subst IsOld (sym is.1) old, is.2, subst IsNew (sym is.3) fresh, is.4, is.5)
+asked_of (Change slot passphrase memory new iterations) IsOld IsNew p q (edit.Change s o n i) old fresh is =
+    (is.0, subst IsOld (sym is.1) old, is.2, subst IsNew (sym is.3) fresh, is.4)
+asked_of (Remove slot passphrase memory) IsOld IsNew p q (edit.Remove s o) old fresh is = (is.0, subst IsOld (sym is.1) old, is.2)
 asked_of Repair IsOld IsNew p q edit.Repair old fresh is = is
 asked_of (Label text) IsOld IsNew p q (edit.Label t) old fresh is = is
-asked_of (Add by_ passphrase new to iterations) IsOld IsNew p q e old fresh is = absurd is
-asked_of (Change slot passphrase new iterations) IsOld IsNew p q e old fresh is = absurd is
-asked_of (Remove slot passphrase) IsOld IsNew p q e old fresh is = absurd is
+asked_of (Add by_ passphrase memory new to iterations) IsOld IsNew p q e old fresh is = absurd is
+asked_of (Change slot passphrase memory new iterations) IsOld IsNew p q e old fresh is = absurd is
+asked_of (Remove slot passphrase memory) IsOld IsNew p q e old fresh is = absurd is
 asked_of Repair IsOld IsNew p q e old fresh is = absurd is
 asked_of (Label text) IsOld IsNew p q e old fresh is = absurd is
 
@@ -385,14 +384,14 @@ some_as {A} {B} f (Some x) named P is held = subst (λ (x : Option B). IfSome x 
 -- whatever they are
 pub asked_somehow : (request : EditRequest) (IsOld IsNew : List ℕ → Type 0) (e : Edit) → IsAsked request IsOld IsNew e
     → IsAsked request (λ p. Unit {0}) (λ p. Unit {0}) e
-asked_somehow (Add by_ passphrase new to iterations) IsOld IsNew (edit.Add b o n t i) is = (is.0, tt, tt, is.3, is.4)
-asked_somehow (Change slot passphrase new iterations) IsOld IsNew (edit.Change s o n i) is = (is.0, tt, tt, is.3)
-asked_somehow (Remove slot passphrase) IsOld IsNew (edit.Remove s o) is = (is.0, tt)
+asked_somehow (Add by_ passphrase memory new to iterations) IsOld IsNew (edit.Add b o n t i) is = (is.0, tt, is.2, tt, is.4, is.5)
+asked_somehow (Change slot passphrase memory new iterations) IsOld IsNew (edit.Change s o n i) is = (is.0, tt, is.2, tt, is.4)
+asked_somehow (Remove slot passphrase memory) IsOld IsNew (edit.Remove s o) is = (is.0, tt, is.2)
 asked_somehow Repair IsOld IsNew edit.Repair is = is
 asked_somehow (Label text) IsOld IsNew (edit.Label t) is = is
-asked_somehow (Add by_ passphrase new to iterations) IsOld IsNew e is = absurd is
-asked_somehow (Change slot passphrase new iterations) IsOld IsNew e is = absurd is
-asked_somehow (Remove slot passphrase) IsOld IsNew e is = absurd is
+asked_somehow (Add by_ passphrase memory new to iterations) IsOld IsNew e is = absurd is
+asked_somehow (Change slot passphrase memory new iterations) IsOld IsNew e is = absurd is
+asked_somehow (Remove slot passphrase memory) IsOld IsNew e is = absurd is
 asked_somehow Repair IsOld IsNew e is = absurd is
 asked_somehow (Label text) IsOld IsNew e is = absurd is
 
@@ -419,14 +418,7 @@ pub spared_same : {D : Type 0} (tells : Type 0) (failed : D → ℕ) (bytes : D 
 spared_same tells failed bytes payload given (Ok device) = λ t well apart. absurd (apart refl)
 spared_same tells failed bytes payload given (Err f) = tt
 
--- what is told of a volume otherwise
-pub left_as : {D : Type 0} (tells : Type 0) (size : D → ℕ) (bytes : D → List ℕ) (says told : List ℕ → List ℕ → Type 0)
-    → ((v w : List ℕ) → says v w → told v w) → (old new : Result D InputFault) → LeavesVolume tells size bytes says old new
-    → LeavesVolume tells size bytes told old new
-left_as tells size bytes says told of (Ok old) (Ok new) x = record { size = x.size; said = λ t. of (bytes old) (bytes new) (x.said t) }
-left_as tells size bytes says told of (Ok old) (Err f) x = absurd x
-left_as tells size bytes says told of (Err f) new x = x
-
+-- where a call failed, another fact holds that follows
 pub failed_as : {D : Type 0} (failed : D → ℕ) (holds told : Type 0) → (holds → told) → (old new : Result D InputFault) → WhereFailed failed old new holds
     → WhereFailed failed old new told
 failed_as failed holds told of (Ok old) (Ok new) x = λ apart. of (x apart)

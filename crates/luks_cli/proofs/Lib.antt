@@ -1,10 +1,2 @@
-pub mod ConvertFacts
-pub mod CheckFacts
 pub mod EditAnswerFacts
 pub mod EditFacts
-pub mod EndFacts
-pub mod ExitFacts
-pub mod FileFacts
-pub mod FormatFacts
-pub mod Fronts
-pub mod OpenFacts

@@ -8,16 +8,12 @@ use Rattle.luks_edit.specs.declared.edit_fault.EditFault.{EditFault}
 use Rattle.luks_edit.specs.declared.edit_fault.EditFault.TheVariants as fault
 use Rattle.luks_edit.specs.EditFaults.{edit_key}
 use Rattle.luks_volume.specs.Needed.{IsNeedFault, NeedsRandom}
-use Rattle.luks_cli.specs.declared.answers.Answer.{Answer}
-use Rattle.luks_cli.specs.declared.answers.Answer.TheVariants.{Done, Refused, DeviceFault, NoMemory}
-use Rattle.luks_cli.specs.declared.answers.Refusal.TheVariants.{Edit, LongPassphrase}
-use Rattle.luks_cli.specs.declared.inputs.InputFault.{InputFault}
-use Rattle.luks_cli.specs.Answer.{unread_answer}
+use Rattle.luks_commands.specs.declared.answers.Answer.{Answer}
+use Rattle.luks_commands.specs.declared.answers.Answer.TheVariants.{Done, Refused, DeviceFault, NoMemory}
+use Rattle.luks_commands.specs.declared.answers.Refusal.TheVariants.{Edit, LongPassphrase}
+use Rattle.luks_commands.specs.declared.inputs.InputFault.{InputFault}
+use Rattle.luks_commands.specs.Answer.{IsWordless, unread_answer}
 use Rattle.luks_cli.specs.Editing.{Given, IsReplied, Lacking}
-
--- a command answers so that has no passphrase: it is too long, or its file can't be read, by such a fault
-abbrev pub IsWordless : Type 0 → (InputFault → Type 0) → Answer → Type 0
-IsWordless is_long unread a = ((a ≡ Refused LongPassphrase) × is_long) ⊎ ((f : InputFault) × unread f × (a ≡ unread_answer f))
 
 -- as many random bytes as the edit takes of the volume `v` can't be read
 pub record LacksRandom (payload : Data) (given : Given) (lacks : Lacking) (v : List ℕ) : Type 0 where

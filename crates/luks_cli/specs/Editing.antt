@@ -19,20 +19,22 @@ use Rattle.luks_request.specs.declared.request.Command.TheVariants as command
 use Rattle.luks_request.specs.declared.request.EditRequest.{EditRequest}
 use Rattle.luks_request.specs.declared.request.EditRequest.TheVariants.{Add, Change, Remove, Repair, Label}
 use Rattle.luks_request.specs.declared.request.Editing.{Editing}
-use Rattle.luks_cli.specs.declared.inputs.InputFault.{InputFault}
-use Rattle.luks_cli.specs.declared.inputs.Inputs.{Inputs}
+use Rattle.luks_commands.specs.declared.inputs.InputFault.{InputFault}
+use Rattle.luks_commands.specs.declared.inputs.Inputs.{Inputs}
 use Rattle.luks_request.specs.Named.{edit_new_of, edit_passphrase_of}
-use Rattle.luks_cli.specs.Files.{IsLong, IsTaken, IsUnread, IsUnreadRandom, IsWhole, OfNamed}
+use Rattle.luks_commands.specs.OpenAnswers.{kib_of}
+use Rattle.luks_commands.specs.Files.{IsLong, IsTaken, IsUnread, IsUnreadRandom, IsWhole, OfNamed}
 
 -- ---- what is asked for
 
--- the edit is the one that the command line asks for, its passphrases being such bytes
+-- the edit is the one that the command line asks for, with the memory that it allows to Argon2, its
+-- passphrases being such bytes
 abbrev pub IsAsked : EditRequest → (List ℕ → Type 0) → (List ℕ → Type 0) → Edit → Type 0
-IsAsked (Add by_ passphrase new to iterations) IsOld IsNew (edit.Add b o n t i) =
-    (b ≡ by_) × IsOld o.now × IsNew n.now × (t ≡ to) × (i ≡ iterations)
-IsAsked (Change slot passphrase new iterations) IsOld IsNew (edit.Change s o n i) =
-    (s ≡ slot) × IsOld o.now × IsNew n.now × (i ≡ iterations)
-IsAsked (Remove slot passphrase) IsOld IsNew (edit.Remove s p) = (s ≡ slot) × IsOld p.now
+IsAsked (Add by_ passphrase memory new to iterations) IsOld IsNew (edit.Add b o n t i) =
+    (b ≡ by_) × IsOld o.bytes.now × (o.memory ≡ kib_of memory) × IsNew n.now × (t ≡ to) × (i ≡ iterations)
+IsAsked (Change slot passphrase memory new iterations) IsOld IsNew (edit.Change s o n i) =
+    (s ≡ slot) × IsOld o.bytes.now × (o.memory ≡ kib_of memory) × IsNew n.now × (i ≡ iterations)
+IsAsked (Remove slot passphrase memory) IsOld IsNew (edit.Remove s p) = (s ≡ slot) × IsOld p.bytes.now × (p.memory ≡ kib_of memory)
 IsAsked Repair IsOld IsNew edit.Repair = ⊤
 IsAsked (Label text) IsOld IsNew (edit.Label t) = t.now ≡ text.now
 IsAsked request IsOld IsNew e = ⊥

@@ -1,12 +1,2 @@
-pub mod Exit
-pub mod Files
-pub mod Printing
-pub mod Checked
-pub mod Answer
-pub mod CheckAnswers
-pub mod Formatting
 pub mod Editing
-pub mod Converting
 pub mod EditAnswers
-pub mod OpenAnswers
-pub mod FormatAnswers

@@ -1,25 +1,27 @@
 ghost use Rattle.std.specs.Prelude.{◌≡◌, ◌≢◌, ◌+◌, ◌<◌, ◌≤◌, ◌^◌, IfOk, IfErr};
 ghost use Rattle.std.specs.Result.{ForOk};
 ghost use Rattle.luks_area.specs.Device.{IsSettled};
-ghost use Rattle.luks_cli.specs.Answer.{Prints};
-ghost use Rattle.luks_cli.specs.CheckAnswers.{AnswersCheck};
-ghost use Rattle.luks_cli.specs.Checked.{SaysCheck, WhereCheck};
+ghost use Rattle.luks_commands.specs.Answer.{Prints};
+ghost use Rattle.luks_commands.specs.CheckAnswers.{AnswersCheck};
+ghost use Rattle.luks_commands.specs.Checked.{SaysCheck, WhereCheck};
 ghost use Rattle.luks_cli.specs.EditAnswers.{AnswersEdit};
-ghost use Rattle.luks_cli.specs.Converting.{AnswersConvert, AreOneFile, IsSameFile, KeepsRest, LeavesTarget};
-ghost use Rattle.luks_cli.specs.Converting.{random_count, SettlesTarget, UnlessConvert, WhereConvert};
+ghost use Rattle.luks_commands.specs.Converting.{AnswersConvert, AreOneFile, IsSameFile, KeepsRest, LeavesTarget};
+ghost use Rattle.luks_commands.specs.Converting.{random_count, SettlesTarget, UnlessBeside, WhereConvert};
+ghost use Rattle.luks_commands.specs.Rebuilding.{AnswersRebuild, given_of, KeepsRest as KeepsOthers};
+ghost use Rattle.luks_commands.specs.Rebuilding.{random_count as rebuild_count, which_of, WhereRebuild};
 ghost use Rattle.luks_cli.specs.Editing.{given_by, KeepsUnnamed, lacking_by, SaysEdit, SparesVolume};
 ghost use Rattle.luks_cli.specs.Editing.{WhereEdit, WhereFailed};
-ghost use Rattle.luks_cli.specs.Exit.{IsExitStatus};
-ghost use Rattle.luks_cli.specs.Files.{IsLong, IsTaken, IsUnread, IsUnreadRandom, IsWhole, KeepsVolume, LeavesSettled, LeavesVolume};
-ghost use Rattle.luks_cli.specs.Files.{UnlessWriter};
-ghost use Rattle.luks_cli.specs.FormatAnswers.{AnswersFormat, IsUnreadEither};
-ghost use Rattle.luks_cli.specs.Formatting.{needed, SaysFormat, WhereFormat};
-ghost use Rattle.luks_cli.specs.OpenAnswers.{AnswersOpen, WhereOpen};
+ghost use Rattle.luks_commands.specs.Exit.{IsExitStatus};
+ghost use Rattle.luks_commands.specs.Files.{IsLong, IsTaken, IsUnread, IsUnreadRandom, IsWhole, KeepsVolume, LeavesSettled, LeavesVolume};
+ghost use Rattle.luks_commands.specs.Files.{UnlessWriter};
+ghost use Rattle.luks_commands.specs.FormatAnswers.{AnswersFormat, IsUnreadEither};
+ghost use Rattle.luks_commands.specs.Formatting.{needed, SaysFormat, WhereFormat};
+ghost use Rattle.luks_commands.specs.OpenAnswers.{AnswersOpen, kib_of, WhereOpen};
+ghost use Rattle.luks_commands.specs.ShowAnswers.{AnswersShow, WhereShow};
 
-use crate::commands::open::Tried;
-use crate::commands::{check, convert, edit, format, open, show};
-use crate::inputs::Inputs;
-use crate::printer::Printer;
+use crate::edit;
+use luks_commands::open::Tried;
+use luks_commands::{Inputs, Printer, check, convert, format, open, rebuild, show};
 use luks_request::{Command, Line};
 use luks_volume::Device;
 use std::alloc::Global;
@@ -33,7 +35,7 @@ use std::io::{Read, Write};
 /// copies of the header aren't in step; 4: the device failed, a file can't be read, memory was
 /// refused, or `out` failed, which says nothing of what was done. The passphrase is read before the
 /// volume, a new one after the old one, and the random bytes after the volume and its target.
-#[tactic(auto, using(crate::proofs::FileFacts::settled_kept))]
+#[tactic(auto, using(luks_commands::proofs::FileFacts::settled_kept))]
 pub fn execute<D: Device, R: Read, N: Read, P: Printer, E: Write>(
     alloc: Global,
     line: &Line<'_>,
@@ -69,9 +71,9 @@ pub fn execute<D: Device, R: Read, N: Read, P: Printer, E: Write>(
         (λ old new. SaysFormat making (IsWhole R.remaining inputs.old.passphrase)
         (IsTaken (needed making.version) N.remaining inputs.old.random) old new result)
         inputs.old.volume inputs.new.volume) }
-    // `convert` alone makes calls on the target. Its answer where both files are one, for which no call is
+    // `convert` and `rebuild` alone make calls on the target. The answer of `convert` where both files are one, for which no call is
     // made, and where they aren't; and which bytes of the target it may have changed.
-    ensures target { UnlessConvert line.now.command (inputs.new.target ≡ inputs.old.target) }
+    ensures target { UnlessBeside line.now.command (inputs.new.target ≡ inputs.old.target) }
     ensures same_file { WhereConvert line.now.command (λ converting.
         AreOneFile line.now.volume.now converting.target.now inputs.old.target
         → (inputs.new ≡ inputs.old) × Prints IsSameFile
@@ -87,6 +89,24 @@ pub fn execute<D: Device, R: Read, N: Read, P: Printer, E: Write>(
         KeepsRest inputs.old.volume inputs.old.target inputs.new.target) }
     ensures settles_target { WhereConvert line.now.command (λ _. SettlesTarget D.tells D.failed
         D.unsettled inputs.old.volume inputs.new.volume inputs.old.target inputs.new.target) }
+    // The same of `rebuild`.
+    ensures rebuilt_same_file { WhereRebuild line.now.command (λ rebuilding.
+        AreOneFile line.now.volume.now rebuilding.target.now inputs.old.target
+        → (inputs.new ≡ inputs.old) × Prints IsSameFile
+        (P.failures out.old) (P.failures out.new) (P.printed out.old) (P.printed out.new) result) }
+    ensures rebuilt { WhereRebuild line.now.command (λ rebuilding.
+        (AreOneFile line.now.volume.now rebuilding.target.now inputs.old.target → ⊥)
+        → Prints (AnswersRebuild D.tells D.size D.bytes D.failed
+        (which_of rebuilding.second) (given_of rebuilding)
+        (IsUnreadRandom rebuild_count inputs.old.random)
+        (IsTaken rebuild_count N.remaining inputs.old.random)
+        inputs.old.volume inputs.new.volume inputs.old.target inputs.new.target)
+        (P.failures out.old) (P.failures out.new) (P.printed out.old) (P.printed out.new) result) }
+    ensures rebuilt_rest { WhereRebuild line.now.command (λ rebuilding. LeavesTarget D.tells
+        D.size D.bytes (KeepsOthers (which_of rebuilding.second))
+        inputs.old.volume inputs.old.target inputs.new.target) }
+    ensures settles_rebuilt { WhereRebuild line.now.command (λ _. SettlesTarget D.tells D.failed
+        D.unsettled inputs.old.volume inputs.new.volume inputs.old.target inputs.new.target) }
     ensures check { D.tells → WhereCheck line.now.command (λ payload. IfOk inputs.old.volume (λ d. SaysCheck (D.bytes d) payload result)) }
     // Without its volume no command succeeds.
     ensures unread { IfErr inputs.old.volume (λ _. (result ≢ 0) × (result ≢ 3)) }
@@ -95,8 +115,11 @@ pub fn execute<D: Device, R: Read, N: Read, P: Printer, E: Write>(
     ensures checked { WhereCheck line.now.command (λ payload. Prints
         (AnswersCheck D.tells D.bytes D.failed payload inputs.old.volume inputs.new.volume)
         (P.failures out.old) (P.failures out.new) (P.printed out.old) (P.printed out.new) result) }
-    ensures opened { WhereOpen line.now.command (λ slot. Prints
-        (AnswersOpen D.tells D.bytes D.failed slot
+    ensures shown { WhereShow line.now.command (λ form. Prints
+        (AnswersShow form D.tells D.bytes D.failed inputs.old.volume inputs.new.volume)
+        (P.failures out.old) (P.failures out.new) (P.printed out.old) (P.printed out.new) result) }
+    ensures opened { WhereOpen line.now.command (λ slot memory. Prints
+        (AnswersOpen D.tells D.bytes D.failed (kib_of memory) slot
         (IsWhole R.remaining inputs.old.passphrase) (IsLong R.remaining inputs.old.passphrase)
         (IsUnread inputs.old.passphrase) inputs.old.volume inputs.new.volume)
         (P.failures out.old) (P.failures out.new) (P.printed out.old) (P.printed out.new) result) }
@@ -116,17 +139,23 @@ pub fn execute<D: Device, R: Read, N: Read, P: Printer, E: Write>(
     let name = line.volume;
     match line.command {
         Command::Check { data_ } => check::run(alloc, &mut inputs.volume, name, data_, out, err),
-        Command::Show => show::run(alloc, &mut inputs.volume, name, out, err),
-        Command::Open { passphrase, slot } => {
+        Command::Show(form) => show::run(alloc, &mut inputs.volume, name, form, out, err),
+        Command::Open {
+            passphrase,
+            slot,
+            memory,
+        } => {
             let tried = Tried {
                 volume: name,
                 passphrase,
                 slot,
+                memory,
             };
             open::run(alloc, inputs, &tried, out, err)
         }
         Command::Edit(editing) => edit::run(alloc, inputs, name, &editing, out, err),
         Command::Format(making) => format::run(alloc, inputs, name, &making, out, err),
         Command::Convert(converting) => convert::run(alloc, inputs, name, &converting, out, err),
+        Command::Rebuild(rebuilding) => rebuild::run(alloc, inputs, name, &rebuilding, out, err),
     }
 }

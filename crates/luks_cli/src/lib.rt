@@ -1,18 +1,15 @@
 //! The program `luks` over values: what the command that a command line asks for prints and answers.
-//! The files are opened by whoever calls this.
+//! The files are opened by whoever calls this. The commands that edit stand here, the others in
+//! `luks_commands`.
 #![tactic(auto)]
 
-mod answers;
-mod commands;
-mod copies;
+mod edit;
 mod execution;
-mod inputs;
-mod passphrase_file;
-mod printer;
-mod random_file;
 
 pub use execution::execute;
-pub use inputs::{InputFault, Inputs, Reason};
-pub use luks_request::{Command, Converting, EditRequest, Editing, Line, Making, NewVersion};
-pub use passphrase_file::first_bytes;
-pub use printer::{CountingPrinter, Printer, Unprinted};
+pub use luks_commands::{
+    CountingPrinter, InputFault, Inputs, Printer, Reason, Unprinted, first_bytes,
+};
+pub use luks_request::{
+    Command, Converting, EditRequest, Editing, Line, Making, NewVersion, Rebuilding, ShowAs,
+};

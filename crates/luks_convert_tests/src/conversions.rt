@@ -88,7 +88,11 @@ const ROWS: [(Source, usize, usize, &str, Owed); 11] = [
         LEAST,
         127,
         CONVERT,
-        ("refused RandomLength\n", "", 1),
+        (
+            "refused RandomLength\n",
+            "luks: 128 random bytes are needed, r has 127\n",
+            1,
+        ),
     ),
     (
         Source::Two,

@@ -1,8 +1,8 @@
 //! Converting on devices of which one call fails: the lines and the status.
 use crate::sources::{LEAST, front, target, two_keyslots};
 use luks_area::{Device, FaultyDevice, Leave};
-use luks_cli::{CountingPrinter, InputFault, Inputs, execute};
-use luks_line::line;
+use luks_cli::{InputFault, Inputs};
+use luks_sessions::{Told, run_words};
 use luks_test_devices::{Front, counted};
 use std::alloc::Global;
 use std::process::Abort;
@@ -20,20 +20,9 @@ enum Failing {
 /// What a command came to.
 #[derive(Drop)]
 struct Ended {
-    out: Vec<u8>,
-    err: Vec<u8>,
-    status: u8,
+    told: Told,
     /// How many calls of the volume and of the target failed.
     failures: (u64, u64),
-}
-
-impl Ended {
-    /// Whether it printed these lines, on standard output and on standard error, and ended so.
-    fn says(&self, out: &str, err: &str, status: u8) -> bool {
-        self.status == status
-            && self.out.as_slice() == out.as_bytes()
-            && self.err.as_slice() == err.as_bytes()
-    }
 }
 
 /// The failures that a device counted; none where it isn't there.
@@ -46,7 +35,6 @@ fn failures(device: &Result<FaultyDevice<Front>, InputFault>) -> u64 {
 
 /// What the command comes to where this call fails.
 fn end_of(alloc: Global, words: &[&str], failing: Failing) -> Result<Ended, Fail> {
-    let line = line(alloc, words)?;
     let random = counted(alloc, 0, 128)?;
     let (of_volume, of_target) = match failing {
         Failing::Volume(call) => (call, u64::MAX),
@@ -64,13 +52,9 @@ fn end_of(alloc: Global, words: &[&str], failing: Failing) -> Result<Ended, Fail
         new_passphrase: Err(InputFault::Absent),
         random: Ok(random.as_slice()),
     };
-    let mut out = CountingPrinter::new(Vec::new(alloc));
-    let mut err = Vec::new(alloc);
-    let status = execute(alloc, &line, &mut inputs, &mut out, &mut err);
+    let told = run_words(alloc, words, &mut inputs)?;
     Ok(Ended {
-        out: out.writer,
-        err,
-        status,
+        told,
         failures: (failures(&inputs.volume), failures(&inputs.target)),
     })
 }
@@ -93,10 +77,10 @@ fn fails_at_each_call(rt: &impl Abort, alloc: Global, of_volume: bool) -> Result
         };
         let ended = end_of(alloc, CONVERT, failing)?;
         if ended.failures == (0, 0) {
-            assert!(rt; ended.says("done\n", DONE, 0), "done");
+            assert!(rt; ended.told.says("done\n", DONE, 0), "done");
             return Ok(call);
         }
-        let told = ended.says("device fault\n", line, 4);
+        let told = ended.told.says("device fault\n", line, 4);
         assert!(rt; told && ended.failures == failures, "call {call}");
     }
     Ok(0)
@@ -118,7 +102,7 @@ fn each_call(rt: HostRuntime) -> Result<(), Fail> {
 fn equal_words_read_nothing(rt: HostRuntime) -> Result<(), Fail> {
     let words = &["luks", "convert", "v", "v", "--random=r"];
     let ended = end_of(rt.alloc(), words, Failing::Both)?;
-    let refused = ended.says("refused SameFile\n", "", 1);
+    let refused = ended.told.says("refused SameFile\n", "", 1);
     assert!(rt;
         refused && ended.failures == (0, 0),
         "refused before a call"

@@ -1,8 +1,9 @@
 //! Converting with little memory.
-use crate::sessions::{Files, NO_FILE, bytes_of, files_of};
+use crate::sessions::{Files, bytes_of, files_of};
 use crate::sources::{KEPT, LEAST, old_bytes, target, two_keyslots};
 use luks_cli::{CountingPrinter, Line, execute};
 use luks_line::line;
+use luks_sessions::NO_FILE;
 use luks_test_devices::{BLOCKS, TakenMemory, counted, part};
 use std::alloc::Global;
 use std::io::Cursor;

@@ -4,9 +4,9 @@ ghost use Rattle.luks_cache.specs.Cached.{cached_failures};
 
 use luks_area::FileDevice;
 use luks_cache::CachedDevice;
-use luks_cli::{CountingPrinter, InputFault, Inputs, Reason, execute};
-use luks_line::line;
+use luks_cli::{InputFault, Inputs, Reason};
 use luks_lock::{LockedDevice, OpenFault, is_same_file, open_locked};
+use luks_sessions::Told;
 use std::fs::{self, File};
 use std::os::unix::fs::symlink;
 use std::rt::{Clock, Files};
@@ -59,7 +59,6 @@ fn told<R: AllocGlobal + Clock + Files<File = File>>(
     target: &str,
 ) -> Result<(Vec<u8>, u8), Fail> {
     let words = ["luks", "convert", volume, target, "--random=r"];
-    let line = line(rt.alloc(), &words)?;
     let (volume, target) = both(rt, volume, target);
     let random = [7u8; 128];
     let mut inputs = Inputs {
@@ -69,10 +68,8 @@ fn told<R: AllocGlobal + Clock + Files<File = File>>(
         new_passphrase: Err(InputFault::Absent),
         random: Ok(random.as_slice()),
     };
-    let mut out = CountingPrinter::new(Vec::new(rt.alloc()));
-    let mut err = Vec::new(rt.alloc());
-    let status = execute(rt.alloc(), &line, &mut inputs, &mut out, &mut err);
-    Ok((out.writer, status))
+    let Told { out, status, .. } = luks_sessions::run_words(rt.alloc(), &words, &mut inputs)?;
+    Ok((out, status))
 }
 
 const SAME: (&str, u8) = ("refused SameFile\n", 1);

@@ -1,13 +1,10 @@
 //! Commands over a volume and a target.
 use crate::sources::front;
-use luks_cli::{CountingPrinter, InputFault, Inputs, execute};
-use luks_line::line;
+use luks_cli::{InputFault, Inputs};
+use luks_sessions::{NO_FILE, run};
 use luks_test_devices::Front;
 use std::alloc::Global;
 use std::test::Fail;
-
-/// A file that the command line doesn't name.
-pub const NO_FILE: Result<&[u8], InputFault> = Err(InputFault::Absent);
 
 /// The files of a command.
 pub type Files<'a> = Inputs<Front, &'a [u8], &'a [u8]>;
@@ -29,22 +26,8 @@ pub type Owed = (&'static str, &'static str, u8);
 
 /// Whether the command of these words, which single spaces part, is answered what is owed to it.
 pub fn says(alloc: Global, words: &str, owed: Owed, files: &mut Files<'_>) -> Result<bool, Fail> {
-    let mut parts = Vec::new(alloc);
-    for word in words.split(' ') {
-        parts.push(word)?;
-    }
-    let line = line(alloc, parts.as_slice())?;
-    let mut out = CountingPrinter::new(Vec::new(alloc));
-    let mut err = Vec::new(alloc);
-    let status = execute(alloc, &line, files, &mut out, &mut err);
-    let (printed, told, ended) = owed;
-    let is_said = is_text(out.writer.as_slice(), printed) && is_text(err.as_slice(), told);
-    Ok(is_said && status == ended)
-}
-
-/// Whether the bytes are those of the text.
-fn is_text(bytes: &[u8], text: &str) -> bool {
-    bytes == text.as_bytes()
+    let (printed, said, status) = owed;
+    Ok(run(alloc, words, files)?.says(printed, said, status))
 }
 
 /// The kept bytes of a device; none where it isn't there.

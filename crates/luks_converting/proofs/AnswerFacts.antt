@@ -26,8 +26,9 @@ use Rattle.luks_slot.specs.Opening.{stripe_bytes}
 use Rattle.luks_slot.specs.Refusal.{slot_refusal}
 use Rattle.luks_reading.specs.declared.open_fault.OpenFault.{OpenFault}
 use Rattle.luks_reading.specs.declared.open_fault.OpenFault.TheVariants.{Head, Meta, NoSuchSlot, SlotFree, Outside, Slot, Device, Memory}
-use Rattle.luks_reading.specs.Answer.{Answer, HasPlanAs, IsRefusalAs, Opens, open_key, refused}
+use Rattle.luks_reading.specs.Answer.{AnswerWithin, HasPlanAs, IsRefusalAsWithin, OpensWithin, open_key, refused}
 use Rattle.luks_reading.specs.Header.{json_at}
+use Rattle.luks_reading.specs.MemoryFacts.{accepted_within}
 use Rattle.luks_reading.specs.Plans.{HasLuks1Plan, HasLuks2Plan, IsLuks2Plan}
 use Rattle.luks_converting.specs.Copied.{HasSameSectors, IsCopiedPlan}
 use Rattle.luks_converting.specs.Converted.{new_size, new_start}
@@ -65,11 +66,11 @@ module _
     (was : Chosen v luks1) (has : HasRoom (part v 0 592)) (x : SaysSource (header_members (part v 0 592)) j) (new : HasHeader w j)
   where
     -- the faults that may stand of any keyslot
-    no_head : (n : ℕ) (f : HeadFault) → IsRefusalAs w n (luks2 0 new.copies) (Head f) → ⊥
-    no_head n f z = (laws.uuid (uuid_field (header_at w 0))).1 new.uuid f z
+    no_head : (memory n : ℕ) (f : HeadFault) → IsRefusalAsWithin memory w n (luks2 0 new.copies) (Head f) → ⊥
+    no_head memory n f z = (laws.uuid (uuid_field (header_at w 0))).1 new.uuid f z
 
-    no_meta : (n : ℕ) (f : MetaFault) → IsRefusalAs w n (luks2 0 new.copies) (Meta f) → ⊥
-    no_meta n f z = (laws.metadata (json_at w 0)).1 (j, new.meta) f z
+    no_meta : (memory n : ℕ) (f : MetaFault) → IsRefusalAsWithin memory w n (luks2 0 new.copies) (Meta f) → ⊥
+    no_meta memory n f z = (laws.metadata (json_at w 0)).1 (j, new.meta) f z
 
     module _ (n : ℕ) (on : is_enabled (part v 0 592) n ≡ true) where
       is_there : object_at j Keyslots n ≡ Some (slot_value (new_slot (part v 0 592) n))
@@ -86,15 +87,15 @@ module _
       -- what the old keyslot gave, the new one gives
       module _ (area_is : part w (new_start (part v 0 592) n) (new_size (part v 0 592) n)
           ≡ part v (source_start (part v 0 592) n) (source_size (part v 0 592) n) ++ replicate (new_size (part v 0 592) n - source_size (part v 0 592) n) 0)
-          (p : List ℕ) (found : Option (List ℕ)) (o : Opens v n p found) where
+          (memory : ℕ) (p : List ℕ) (found : Option (List ℕ)) (o : OpensWithin memory v n p found) where
         was_luks1 : o.choice ≡ luks1
         was_luks1 = laws.only v o.choice luks1 o.chosen was
 
         old_plan : HasLuks1Plan (part v 0 592) n o.plan
         old_plan = subst (λ (c : Choice). HasPlanAs v n c o.plan) was_luks1 o.is
 
-        not_refused : (f : OpenFault) → IsRefusalAs v n luks1 f → ⊥
-        not_refused f z = o.unrefused f (subst (λ (c : Choice). IsRefusalAs v n c f) (sym was_luks1) z)
+        not_refused : (f : OpenFault) → IsRefusalAsWithin memory v n luks1 f → ⊥
+        not_refused f z = o.unrefused f (subst (λ (c : Choice). IsRefusalAsWithin memory v n c f) (sym was_luks1) z)
 
         old_accepted : slot_refusal o.plan ≡ None
         old_accepted = none_of (slot_refusal o.plan) (λ (f : SlotFault) is. not_refused (Slot f) (record { plan = o.plan; is = old_plan; refused = is }))
@@ -105,9 +106,9 @@ module _
           | inr inside ↦ omega (arith, inside)
         ]
 
-        unrefused : (f : OpenFault) → IsRefusalAs w n (luks2 0 new.copies) f → ⊥
-        unrefused (Head f) z = no_head n f z
-        unrefused (Meta f) z = no_meta n f z
+        unrefused : (f : OpenFault) → IsRefusalAsWithin memory w n (luks2 0 new.copies) f → ⊥
+        unrefused (Head f) z = no_head memory n f z
+        unrefused (Meta f) z = no_meta memory n f z
         unrefused NoSuchSlot z =
             let value : z.value ≡ j = laws.value (json_at w 0) z.value j z.holds new.meta.json in
             let gone : object_at j Keyslots n ≡ None = subst (λ (k : Data). object_at k Keyslots n ≡ None) value (z.absent (let low = low_of (part v 0 592) n on in omega (arith, low))) in
@@ -124,7 +125,7 @@ module _
         unrefused (Slot f) z =
             let is = its_plan z.plan z.is in
             let copied = copied_plan (part v 0 592) j x n on o.plan z.plan old_plan.is is in
-            no_some f (sym (still_unrefused o.plan z.plan copied old_accepted) ∙ z.refused)
+            no_some f (sym (accepted_within memory z.plan (still_unrefused o.plan z.plan copied old_accepted)) ∙ z.refused)
         unrefused Device z = z
         unrefused Memory z = z
 
@@ -161,7 +162,7 @@ module _
             ∙ sym (front_of (part v (source_start (part v 0 592) n) (source_size (part v 0 592) n)) (replicate (new_size (part v 0 592) n - source_size (part v 0 592) n) 0) k sectors_long)
             ∙ sym (ap (λ bytes. part bytes 0 k) (new_bytes ∙ area_is))
 
-        pub converted_opens : Opens w n p found
+        pub converted_opens : OpensWithin memory w n p found
         converted_opens = record {
           choice = luks2 0 new.copies;
           chosen = new.chosen;
@@ -176,18 +177,18 @@ module _
       gone : object_at j Keyslots n ≡ None
       gone = x.no_keyslot n (inr (slot_absent (part v 0 592) n off))
 
-      first_as : (f : OpenFault) → IsRefusalAs w n (luks2 0 new.copies) f → NotAfter (open_key NoSuchSlot) (open_key f)
-      first_as (Head f) z = absurd (no_head n f z)
-      first_as (Meta f) z = absurd (no_meta n f z)
-      first_as NoSuchSlot z = (omega arith, λ e. tt)
-      first_as SlotFree z = absurd z
-      first_as Outside z = (omega arith, λ e. tt)
-      first_as (Slot f) z = (omega arith, λ e. tt)
-      first_as Device z = absurd z
-      first_as Memory z = absurd z
+      first_as : (memory : ℕ) (f : OpenFault) → IsRefusalAsWithin memory w n (luks2 0 new.copies) f → NotAfter (open_key NoSuchSlot) (open_key f)
+      first_as memory (Head f) z = absurd (no_head memory n f z)
+      first_as memory (Meta f) z = absurd (no_meta memory n f z)
+      first_as memory NoSuchSlot z = (omega arith, λ e. tt)
+      first_as memory SlotFree z = absurd z
+      first_as memory Outside z = (omega arith, λ e. tt)
+      first_as memory (Slot f) z = (omega arith, λ e. tt)
+      first_as memory Device z = absurd z
+      first_as memory Memory z = absurd z
 
-      pub converted_absent : (p : List ℕ) → Answer w n p (refused NoSuchSlot)
-      converted_absent p = (
+      pub converted_absent : (memory : ℕ) (p : List ℕ) → AnswerWithin memory w n p (refused NoSuchSlot)
+      converted_absent memory p = (
         record { choice = luks2 0 new.copies; chosen = new.chosen; fault = record { value = j; holds = new.meta.json; absent = λ small. gone } },
-        λ g z. first_as g (subst (λ (c : Choice). IsRefusalAs w n c g) (laws.only w z.choice (luks2 0 new.copies) z.chosen new.chosen) z.fault),
+        λ g z. first_as memory g (subst (λ (c : Choice). IsRefusalAsWithin memory w n c g) (laws.only w z.choice (luks2 0 new.copies) z.chosen new.chosen) z.fault),
       )

@@ -41,8 +41,8 @@ same_sectors key a b (suc n) same =
 
 same_area_key : (a b : Derivation) (n : ℕ) (passphrase : List ℕ) → IsSameDerivation a b → area_key_by a n passphrase ≡ area_key_by b n passphrase
 same_area_key (Pbkdf2 h i s) (Pbkdf2 k j t) n passphrase x = simp (x.0, x.1, x.2)
-same_area_key (Pbkdf2 h i s) Argon2 n passphrase x = absurd x
-same_area_key Argon2 b n passphrase x = absurd x
+same_area_key (Pbkdf2 h i s) (Argon2 c) n passphrase x = absurd x
+same_area_key (Argon2 c) b n passphrase x = absurd x
 
 -- a candidate by what it is made of
 of_parts : List ℕ → ℕ → ℕ → List ℕ → List ℕ → List ℕ
@@ -85,13 +85,13 @@ same_key a b area copy passphrase x same =
 
 same_kind : (a b : Derivation) → IsSameDerivation a b → is_argon2 a ≡ is_argon2 b
 same_kind (Pbkdf2 h i s) (Pbkdf2 k j t) x = refl
-same_kind (Pbkdf2 h i s) Argon2 x = absurd x
-same_kind Argon2 b x = absurd x
+same_kind (Pbkdf2 h i s) (Argon2 c) x = absurd x
+same_kind (Argon2 c) b x = absurd x
 
 same_known : (a b : Derivation) → IsSameDerivation a b → is_known_derivation a ≡ is_known_derivation b
 same_known (Pbkdf2 h i s) (Pbkdf2 k j t) x = ap (λ t. is_some (hash_named t)) x.0
-same_known (Pbkdf2 h i s) Argon2 x = absurd x
-same_known Argon2 b x = absurd x
+same_known (Pbkdf2 h i s) (Argon2 c) x = absurd x
+same_known (Argon2 c) b x = absurd x
 
 either : (p q : Bool) → (p || q) ≡ true → ((p ≡ true) ⊎ (q ≡ true))
 either true q e = inl refl

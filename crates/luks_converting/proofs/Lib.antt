@@ -9,6 +9,5 @@ pub mod MemberFacts
 pub mod CopyFacts
 pub mod AreaFacts
 pub mod AcceptedFacts
-pub mod CountFacts
 pub mod RowFacts
 pub mod WrittenFacts

@@ -18,6 +18,7 @@ use Rattle.luks_slot.specs.declared.plan.Derivation.{Derivation}
 use Rattle.luks_slot.specs.declared.plan.Derivation.TheVariants.{Pbkdf2, Argon2}
 use Rattle.luks_slot.specs.declared.plan.DigestPlan.{DigestPlan}
 use Rattle.luks_slot.specs.declared.plan.SlotPlan.{SlotPlan}
+use Rattle.luks_reading.specs.PlanFacts.{no_pbkdf2}
 use Rattle.luks_reading.specs.Plans.{IsLuks1Cipher, IsLuks1Derivation, IsLuks1Digest, IsLuks1Plan, IsLuks2Cipher, IsLuks2Derivation, IsLuks2Digest, IsLuks2Plan}
 use Rattle.luks_converting.specs.Converted.{new_size, new_start}
 use Rattle.luks_converting.specs.Copied.{IsCopiedPlan, IsJoinedCipher, IsSameDerivation, IsSameDigest}
@@ -39,12 +40,12 @@ module _ (h : List ℕ) (j : Data) (x : SaysSource (header_members h) j) (n : �
 
   same_derivation : (a b : Derivation) → IsLuks1Derivation h (entry h n) a → IsLuks2Derivation (slot_value (new_slot h n)) b → IsSameDerivation a b
   same_derivation (Pbkdf2 k i s) (Pbkdf2 l t u) y z = (
-    y.0 ∙ some_same (text_at h 72 32) l.now (sym says.hash ∙ z.1),
-    y.1 ∙ some_same (entry_iterations (entry h n)) t (sym says.iterations ∙ z.2),
+    y.0 ∙ some_same (text_at h 72 32) l.now (sym says.derivation.hash ∙ z.1),
+    y.1 ∙ some_same (entry_iterations (entry h n)) t (sym says.derivation.iterations ∙ z.2),
     y.2 ∙ some_same (entry_salt (entry h n)) u.now (sym says.salt ∙ z.3),
   )
-  same_derivation (Pbkdf2 k i s) Argon2 y z = (let off : false ≡ true = sym (ap (suits when.Argon2) says.derivation) ∙ z in absurd (false≢true off))
-  same_derivation Argon2 b y z = absurd y
+  same_derivation (Pbkdf2 k i s) (Argon2 c) y z = absurd (no_pbkdf2 (slot_value (new_slot h n)) c z says.derivation.kind)
+  same_derivation (Argon2 c) b y z = absurd y
 
   joined_cipher : (a b : AreaCipher) → IsLuks1Cipher h a → IsLuks2Cipher (slot_value (new_slot h n)) b → IsJoinedCipher a b
   joined_cipher (Apart k m) (Whole t) y z = (
@@ -110,7 +111,7 @@ module _ (h : List ℕ) (j : Data) (x : SaysSource (header_members h) j) (n : �
   pub has_plan : IsLuks2Plan j n (slot_value (new_slot h n)) new_plan
   unfolding new_plan
   has_plan = record {
-    derivation = (says.derivation, says.hash, says.iterations, says.salt);
+    derivation = (says.derivation.kind, says.derivation.hash, says.derivation.iterations, says.salt);
     cipher = says.encryption;
     start = says.offset;
     len = says.size;

@@ -14,7 +14,7 @@ use Rattle.luks_head.specs.declared.fault.TextField.TheVariants.{Uuid}
 use Rattle.luks_head.specs.declared.selection.Copies.TheVariants.{InStep}
 use Rattle.luks_rules.specs.Accepted.{IsContent, IsMeta}
 use Rattle.luks_rules.specs.Held.{IsHeld}
-use Rattle.luks_reading.specs.Answer.{Answer, opened_to, refused}
+use Rattle.luks_reading.specs.Answer.{AnswerWithin, opened_to, refused}
 use Rattle.luks_reading.specs.Checked.{WellFormed}
 use Rattle.luks_reading.specs.Header.{json_at}
 use Rattle.luks_reading.specs.declared.open_fault.OpenFault.TheVariants.{NoSuchSlot}
@@ -103,12 +103,12 @@ module _
       };
     }
 
-    pub opens_alike : Chosen v luks1 → (n : ℕ) (p : List ℕ) (found : Option (List ℕ)) → is_enabled (part v 0 592) n ≡ true
-        → Answer v n p (opened_to found) → Answer w n p (opened_to found)
-    opens_alike was n p None on o =
-        converted_opens laws v w (converted (header_members (part v 0 592))) was source.room says header n on (x.areas n on) p None o
-    opens_alike was n p (Some key) on o =
-        converted_opens laws v w (converted (header_members (part v 0 592))) was source.room says header n on (x.areas n on) p (Some key) o
+    pub opens_alike : Chosen v luks1 → (memory n : ℕ) (p : List ℕ) (found : Option (List ℕ)) → is_enabled (part v 0 592) n ≡ true
+        → AnswerWithin memory v n p (opened_to found) → AnswerWithin memory w n p (opened_to found)
+    opens_alike was memory n p None on o =
+        converted_opens laws v w (converted (header_members (part v 0 592))) was source.room says header n on (x.areas n on) memory p None o
+    opens_alike was memory n p (Some key) on o =
+        converted_opens laws v w (converted (header_members (part v 0 592))) was source.room says header n on (x.areas n on) memory p (Some key) o
 
-    pub absent : Chosen v luks1 → (n : ℕ) (p : List ℕ) → is_enabled (part v 0 592) n ≡ false → Answer w n p (refused NoSuchSlot)
-    absent was n p off = converted_absent laws v w (converted (header_members (part v 0 592))) was source.room says header n off p
+    pub absent : Chosen v luks1 → (memory n : ℕ) (p : List ℕ) → is_enabled (part v 0 592) n ≡ false → AnswerWithin memory w n p (refused NoSuchSlot)
+    absent was memory n p off = converted_absent laws v w (converted (header_members (part v 0 592))) was source.room says header n off memory p

@@ -13,8 +13,8 @@ use Rattle.luks_slot.specs.Opening.{stripe_bytes}
 abbrev pub IsSameDerivation : Derivation → Derivation → Type 0
 IsSameDerivation (Pbkdf2 hash iterations salt) (Pbkdf2 other turns own) =
     (hash.now ≡ other.now) × (iterations ≡ turns) × (salt.now ≡ own.now)
-IsSameDerivation (Pbkdf2 hash iterations salt) Argon2 = ⊥
-IsSameDerivation Argon2 other = ⊥
+IsSameDerivation (Pbkdf2 hash iterations salt) (Argon2 c) = ⊥
+IsSameDerivation (Argon2 c) other = ⊥
 
 -- the name and the mode of LUKS1, joined by a hyphen
 abbrev pub IsJoinedCipher : AreaCipher → AreaCipher → Type 0

@@ -1,5 +1,4 @@
 pub mod ConvertFaults
-pub mod TwoDevices
 pub mod Copied
 pub mod Source
 pub mod Converted

@@ -1,17 +1,16 @@
 //! Copying the key areas to their new places.
-ghost use Rattle.std.specs.Prelude.{◌≡◌, ◌+◌, ◌-◌, ◌++◌, ◌^◌, ◌<◌, ◌≤◌, ℕ, replicate, true, OnOk};
-ghost use Rattle.luks_area.specs.Area.{IsInside};
+ghost use Rattle.std.specs.Prelude.{◌≡◌, ◌+◌, ◌^◌, ◌<◌, ◌≤◌, ℕ, true, OnOk};
 ghost use Rattle.luks_area.specs.Device.{IsSettled, IsUnchanged, is_failure};
-ghost use Rattle.luks_area.specs.Ranges.{part, IsAt, SameBut};
+ghost use Rattle.luks_area.specs.Ranges.{SameBut};
 ghost use Rattle.luks_converting.specs.Accepted.{HasAreasInside, IsRead};
 ghost use Rattle.luks_converting.specs.Converted.{HasCopiedArea, IsOfArea, IsOfNewArea};
 ghost use Rattle.luks_converting.specs.Source.{is_enabled, HasRoom};
-ghost use Rattle.luks_converting.specs.TwoDevices.{CountsEither};
+ghost use Rattle.luks_copying.specs.TwoDevices.{CountsEither};
 
-use crate::copying::copy_range;
 use crate::places::new_area;
 use crate::source::SourceHeader;
-use luks_area::{Area, Device, DeviceFault, fill};
+use luks_area::{Device, DeviceFault};
+use luks_copying::copy_area;
 use luks_head::SlotState;
 use luks_reading::luks1_area;
 
@@ -80,38 +79,4 @@ fn copy_keyslot<S: Device, T: Device>(
         }
         SlotState::Disabled => Ok(()),
     }
-}
-
-/// Copies an area, writes zeros behind it to the end of the new one, and flushes. Also where a
-/// device fails no byte of the target outside the new area changes.
-pub(crate) fn copy_area<S: Device, T: Device>(
-    source: &mut S,
-    from: Area,
-    target: &mut T,
-    to: Area,
-) -> Result<(), DeviceFault>
-    requires there { IsInside from (S.size source.old) }
-    requires within { IsInside to (T.size target.old) }
-    requires large { from.len ≤ to.len }
-    requires source_room { S.failed source.old + 1 < 2 ^ 64 }
-    requires target_room { T.failed target.old + 1 < 2 ^ 64 }
-    requires settled { T.tells → IsSettled T.unsettled target.old }
-    ensures count { CountsEither is_failure result (S.failed source.old) (S.failed source.new)
-        (T.failed target.old) (T.failed target.new) }
-    ensures kept { IsUnchanged S.tells S.size S.bytes S.unsettled source.old source.new }
-    ensures size { T.size target.new ≡ T.size target.old }
-    ensures settled { T.tells → OnOk result (IsSettled T.unsettled target.new) }
-    ensures copied { S.tells → T.tells → OnOk result
-        (part (T.bytes target.new) to.start to.len
-        ≡ part (S.bytes source.old) from.start from.len ++ replicate (to.len - from.len) 0) }
-    ensures rest { T.tells → SameBut (IsAt to.start to.len) (T.bytes target.old) (T.bytes target.new) }
-{
-    copy_range(source, from.start, target, to.start, from.len)?;
-    let tail = Area {
-        start: to.start + from.len,
-        len: to.len - from.len,
-    };
-    fill(target, tail, 0)?;
-    target.flush()?;
-    Ok(())
 }

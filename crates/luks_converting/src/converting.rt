@@ -5,7 +5,7 @@ ghost use Rattle.luks_area.specs.Ranges.{part, SameBut};
 ghost use Rattle.luks_head.specs.Header1.{luks1_size};
 ghost use Rattle.luks_making.specs.Converted.{converted};
 ghost use Rattle.luks_making.specs.WrittenArea.{IsWrittenArea};
-ghost use Rattle.luks_reading.specs.Answer.{Answer, opened_to, refused};
+ghost use Rattle.luks_reading.specs.Answer.{AnswerWithin, opened_to, refused};
 ghost use Rattle.luks_reading.specs.Checked.{WellFormed};
 ghost use Rattle.luks_reading.specs.declared.open_fault.OpenFault.TheVariants.{NoSuchSlot};
 ghost use Rattle.luks_reading.specs.declared.report.Data.TheVariants.{Elsewhere};
@@ -14,7 +14,7 @@ ghost use Rattle.luks_converting.specs.ConvertFaults.{is_convert_failure};
 ghost use Rattle.luks_converting.specs.Converted.{json_size, IsConverted, IsOfConverted, WritesFirstLast};
 ghost use Rattle.luks_converting.specs.Outcome.{IsAnsweredFault, IsConvertFault, IsConvertible};
 ghost use Rattle.luks_converting.specs.Source.{header_members, is_enabled};
-ghost use Rattle.luks_converting.specs.TwoDevices.{CountsEither};
+ghost use Rattle.luks_copying.specs.TwoDevices.{CountsEither};
 ghost use Rattle.luks_converting.specs.declared.convert_fault.ConvertFault.{ConvertFault as TheFault};
 
 use crate::areas::copy_areas;
@@ -82,14 +82,14 @@ pub fn convert<S: Device, T: Device>(
         (IsConverted (S.bytes source.old) random.now (T.bytes target.old) (T.bytes target.new)) }
     ensures well_formed { S.tells → T.tells
         → OnOk result (WellFormed (T.bytes target.new) Elsewhere) }
-    ensures opens { S.tells → T.tells → OnOk result ((n : ℕ) (p : List ℕ)
+    ensures opens { S.tells → T.tells → OnOk result ((memory n : ℕ) (p : List ℕ)
         (found : Option (List ℕ))
         → is_enabled (part (S.bytes source.old) 0 luks1_size) n ≡ true
-        → Answer (S.bytes source.old) n p (opened_to found)
-        → Answer (T.bytes target.new) n p (opened_to found)) }
-    ensures absent { S.tells → T.tells → OnOk result ((n : ℕ) (p : List ℕ)
+        → AnswerWithin memory (S.bytes source.old) n p (opened_to found)
+        → AnswerWithin memory (T.bytes target.new) n p (opened_to found)) }
+    ensures absent { S.tells → T.tells → OnOk result ((memory n : ℕ) (p : List ℕ)
         → is_enabled (part (S.bytes source.old) 0 luks1_size) n ≡ false
-        → Answer (T.bytes target.new) n p (refused NoSuchSlot)) }
+        → AnswerWithin memory (T.bytes target.new) n p (refused NoSuchSlot)) }
 {
     converted_volume_opens_alike();
     let header = accepted_source(alloc, source, data_)?;

@@ -7,7 +7,7 @@ ghost use Rattle.luks_head.specs.Selection.{luks1, Chosen};
 ghost use Rattle.luks_slot.specs.Opening.{slot_key};
 ghost use Rattle.luks_slot.specs.Refusal.{slot_refusal};
 ghost use Rattle.luks_slot.specs.declared.plan.SlotPlan.{SlotPlan as ThePlan};
-ghost use Rattle.luks_reading.specs.Answer.{Answer, opened_to, refused};
+ghost use Rattle.luks_reading.specs.Answer.{AnswerWithin, opened_to, refused};
 ghost use Rattle.luks_reading.specs.Checked.{WellFormed};
 ghost use Rattle.luks_reading.specs.declared.open_fault.OpenFault.TheVariants.{NoSuchSlot};
 ghost use Rattle.luks_reading.specs.declared.report.Data.TheVariants.{Elsewhere};
@@ -37,13 +37,14 @@ pub fn converted_volume_opens_alike()
         → 16777216 ≤ length w → IsConverted v random old w → WellFormed w Elsewhere }
     ensures opens { (v random old w : List ℕ) → Chosen v luks1 → IsSource (part v 0 luks1_size)
         → 16777216 ≤ length w → IsConverted v random old w
-        → (n : ℕ) (p : List ℕ) (found : Option (List ℕ))
+        → (memory n : ℕ) (p : List ℕ) (found : Option (List ℕ))
         → is_enabled (part v 0 luks1_size) n ≡ true
-        → Answer v n p (opened_to found) → Answer w n p (opened_to found) }
+        → AnswerWithin memory v n p (opened_to found)
+        → AnswerWithin memory w n p (opened_to found) }
     ensures absent { (v random old w : List ℕ) → Chosen v luks1 → IsSource (part v 0 luks1_size)
         → 16777216 ≤ length w → IsConverted v random old w
-        → (n : ℕ) (p : List ℕ) → is_enabled (part v 0 luks1_size) n ≡ false
-        → Answer w n p (refused NoSuchSlot) }
+        → (memory n : ℕ) (p : List ℕ) → is_enabled (part v 0 luks1_size) n ≡ false
+        → AnswerWithin memory w n p (refused NoSuchSlot) }
 {
     one_choice();
     written_copies_are_chosen();

@@ -5,7 +5,6 @@ mod areas;
 mod convert_fault;
 mod converting;
 mod copies;
-mod copying;
 mod judging;
 mod laws;
 mod metadata;

@@ -22,7 +22,7 @@ fn converted(alloc: Global) -> Result<MemDevice, Fail> {
 
 /// Whether the keyslot opens by the passphrase to the volume key.
 fn opens(alloc: Global, header: &mut MemDevice, n: u8, passphrase: &[u8]) -> bool {
-    match open_slot(alloc, header, n, passphrase) {
+    match open_slot(alloc, header, n, passphrase, 0) {
         Ok(Some(key)) => key.as_bytes() == VOLUME_KEY.as_slice(),
         _ => false,
     }
@@ -31,7 +31,7 @@ fn opens(alloc: Global, header: &mut MemDevice, n: u8, passphrase: &[u8]) -> boo
 /// Whether there is no keyslot of this number.
 fn is_absent(alloc: Global, header: &mut MemDevice, n: u8) -> bool {
     matches!(
-        open_slot(alloc, header, n, b"one"),
+        open_slot(alloc, header, n, b"one", 0),
         Err(OpenFault::NoSuchSlot)
     )
 }

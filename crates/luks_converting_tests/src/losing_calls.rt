@@ -36,7 +36,7 @@ fn opens_where_accepted(alloc: Global, left: &mut Lengthened<MemDevice>) -> bool
     if check(alloc, left, Data::Elsewhere).is_err() {
         return true;
     }
-    open_slot(alloc, left, 0, b"one").is_ok_and(|key| key.is_some())
+    open_slot(alloc, left, 0, b"one", 0).is_ok_and(|key| key.is_some())
 }
 
 /// What converting comes to where the call of this number fails and no later one does anything. The source

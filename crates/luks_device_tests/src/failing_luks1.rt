@@ -5,7 +5,7 @@ use crate::devices::{Call, Recording};
 use crate::keys::opens;
 use crate::luks1::luks1;
 use luks_area::{FaultyDevice, Leave};
-use luks_volume::{Data, Device, Edit, EditFault, MemDevice, apply, needed};
+use luks_volume::{Data, Device, Edit, EditFault, MemDevice, Passphrase, apply, needed};
 use std::alloc::Global;
 use std::process::Abort;
 use std::test::Fail;
@@ -74,7 +74,10 @@ const TRIALS: [Trial; 6] = [
     Trial {
         edit: Edit::Add {
             by_: 0,
-            old: b"one",
+            old: Passphrase {
+                bytes: b"one",
+                memory: 0,
+            },
             new: b"three",
             to: None,
             iterations: 1000,
@@ -86,7 +89,10 @@ const TRIALS: [Trial; 6] = [
     Trial {
         edit: Edit::Change {
             slot: 0,
-            old: b"one",
+            old: Passphrase {
+                bytes: b"one",
+                memory: 0,
+            },
             new: b"three",
             iterations: 1000,
         },
@@ -97,7 +103,10 @@ const TRIALS: [Trial; 6] = [
     Trial {
         edit: Edit::Change {
             slot: 0,
-            old: b"two",
+            old: Passphrase {
+                bytes: b"two",
+                memory: 0,
+            },
             new: b"three",
             iterations: 1000,
         },
@@ -108,7 +117,10 @@ const TRIALS: [Trial; 6] = [
     Trial {
         edit: Edit::Remove {
             slot: 0,
-            passphrase: b"one",
+            passphrase: Passphrase {
+                bytes: b"one",
+                memory: 0,
+            },
         },
         random: 0,
         end: End::Done,

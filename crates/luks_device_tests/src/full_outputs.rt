@@ -4,8 +4,8 @@
 use crate::bytes::counted;
 use crate::luks1::luks1;
 use crate::luks2::{SMALL, luks2};
-use luks_cli::{CountingPrinter, InputFault, Inputs, execute};
-use luks_line::line;
+use luks_cli::{CountingPrinter, InputFault, Inputs};
+use luks_sessions::run_words_to;
 use luks_volume::{Copies, MemDevice};
 use std::alloc::Global;
 use std::io::Cursor;
@@ -92,7 +92,6 @@ struct Ended {
 
 /// What the row's command comes to where its output has room for so many bytes.
 fn end_of(alloc: Global, image: &[u8], row: &Row, room: usize) -> Result<Ended, Fail> {
-    let line = line(alloc, row.1)?;
     let random = counted(alloc, 2656)?;
     let mut inputs: Inputs<MemDevice, &[u8], &[u8]> = Inputs {
         volume: Ok(MemDevice::new(image.to_vec(alloc)?)),
@@ -106,8 +105,7 @@ fn end_of(alloc: Global, image: &[u8], row: &Row, room: usize) -> Result<Ended, 
         return Err("no room".into());
     };
     let mut out = CountingPrinter::new(Cursor::new(buffer));
-    let mut err = Vec::new(alloc);
-    let status = execute(alloc, &line, &mut inputs, &mut out, &mut err);
+    let (_, status) = run_words_to(alloc, row.1, &mut inputs, &mut out)?;
     match &inputs.volume {
         Ok(device) => Ok(Ended {
             status,

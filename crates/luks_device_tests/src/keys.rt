@@ -49,7 +49,7 @@ pub fn key_area(alloc: Global, passphrase: &[u8]) -> Result<Vec<u8>, Fail> {
 pub fn opens<D: Device>(alloc: Global, device: &mut D, n: u8, passphrase: &[u8]) -> bool
     requires { D.failed device.old + 1 < 2 ^ 64 }
 {
-    match open_slot(alloc, device, n, passphrase) {
+    match open_slot(alloc, device, n, passphrase, 0) {
         Ok(Some(key)) => key.as_bytes() == volume_key().as_slice(),
         _ => false,
     }

@@ -6,7 +6,7 @@
 
 use crate::devices::Call;
 use crate::volumes::Volume;
-use luks_volume::{Copies, Edit};
+use luks_volume::{Copies, Edit, Passphrase};
 
 /// An edit of a volume, and what is owed to it.
 pub struct Row {
@@ -24,7 +24,10 @@ pub struct Row {
 
 const ADD: Edit = Edit::Add {
     by_: 0,
-    old: b"one",
+    old: Passphrase {
+        bytes: b"one",
+        memory: 0,
+    },
     new: b"three",
     to: None,
     iterations: 1000,
@@ -32,7 +35,10 @@ const ADD: Edit = Edit::Add {
 
 const ADD_TO_5: Edit = Edit::Add {
     by_: 1,
-    old: b"two",
+    old: Passphrase {
+        bytes: b"two",
+        memory: 0,
+    },
     new: b"three",
     to: Some(5),
     iterations: 1000,
@@ -40,21 +46,30 @@ const ADD_TO_5: Edit = Edit::Add {
 
 const CHANGE: Edit = Edit::Change {
     slot: 0,
-    old: b"one",
+    old: Passphrase {
+        bytes: b"one",
+        memory: 0,
+    },
     new: b"three",
     iterations: 1000,
 };
 
 const LOCKED: Edit = Edit::Change {
     slot: 0,
-    old: b"two",
+    old: Passphrase {
+        bytes: b"two",
+        memory: 0,
+    },
     new: b"three",
     iterations: 1000,
 };
 
 const REMOVE: Edit = Edit::Remove {
     slot: 1,
-    passphrase: b"two",
+    passphrase: Passphrase {
+        bytes: b"two",
+        memory: 0,
+    },
 };
 
 const LABEL: Edit = Edit::Label { text: b"disk" };

@@ -1,15 +1,37 @@
 -- What an edit asks for, whatever the version of the volume.
-use Rattle.std.specs.Prelude.{◌≡◌, ℕ, ◌<◌, List}
+use Rattle.std.specs.Prelude.{◌≡◌, ℕ, ◌^◌, ◌<◌, ◌&&◌, nat_lt, if◌then◌else◌, List, [], length, ⊤}
 use Rattle.luks_edit.specs.declared.edit.Edit.{Edit}
+use Rattle.luks_edit.specs.declared.edit.Passphrase.{Passphrase}
 use Rattle.luks_edit.specs.declared.edit.Edit.TheVariants.{Add, Change, Remove, Repair, Label}
 
 -- the edit opens the keyslot `n` by the passphrase `p`
 abbrev pub OpensBy : Edit → ℕ → List ℕ → Type 0
-OpensBy (Add by_ old new to iterations) n p = (n ≡ by_) × (p ≡ old.now)
-OpensBy (Change slot old new iterations) n p = (n ≡ slot) × (p ≡ old.now)
-OpensBy (Remove slot passphrase) n p = (n ≡ slot) × (p ≡ passphrase.now)
+OpensBy (Add by_ old new to iterations) n p = (n ≡ by_) × (p ≡ old.bytes.now)
+OpensBy (Change slot old new iterations) n p = (n ≡ slot) × (p ≡ old.bytes.now)
+OpensBy (Remove slot passphrase) n p = (n ≡ slot) × (p ≡ passphrase.bytes.now)
 OpensBy Repair n p = ⊥
 OpensBy (Label text) n p = ⊥
+
+-- how many KiB of memory Argon2 may take for the passphrase, and for a new one beside it: none where
+-- one has 2^32 bytes or more, since Argon2 takes fewer (RFC 9106, 3.1)
+abbrev pub memory_for : Passphrase → List ℕ → ℕ
+memory_for old new = if nat_lt (length old.bytes.now) (2 ^ 32) && nat_lt (length new) (2 ^ 32) then old.memory else 0
+
+-- for each of the edit's passphrases
+abbrev pub allowed_memory : Edit → ℕ
+allowed_memory (Add by_ old new to iterations) = memory_for old new.now
+allowed_memory (Change slot old new iterations) = memory_for old new.now
+allowed_memory (Remove slot passphrase) = memory_for passphrase []
+allowed_memory Repair = 0
+allowed_memory (Label text) = 0
+
+-- the passphrases of the edit have fewer than 2^32 bytes
+abbrev pub HasShortPassphrases : Edit → Type 0
+HasShortPassphrases (Add by_ old new to iterations) = (length old.bytes.now < 2 ^ 32) × (length new.now < 2 ^ 32)
+HasShortPassphrases (Change slot old new iterations) = (length old.bytes.now < 2 ^ 32) × (length new.now < 2 ^ 32)
+HasShortPassphrases (Remove slot passphrase) = length passphrase.bytes.now < 2 ^ 32
+HasShortPassphrases Repair = ⊤
+HasShortPassphrases (Label text) = ⊤
 
 -- the edit derives a new keyslot's key with fewer iterations than new keyslots have
 abbrev pub HasFewIterations : Edit → Type 0

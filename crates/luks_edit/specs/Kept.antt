@@ -12,7 +12,7 @@ use Rattle.luks_rules.specs.declared.table.Section.TheVariants.{Keyslots}
 use Rattle.luks_rules.specs.Accepted.{HasObject}
 use Rattle.luks_rules.specs.MetaFault.{Json}
 use Rattle.luks_reading.specs.declared.report.Data.{Data}
-use Rattle.luks_reading.specs.Answer.{Answer, Opened}
+use Rattle.luks_reading.specs.Answer.{AnswerWithin, Opened}
 use Rattle.luks_reading.specs.Checked.{AreaOf, WellFormed}
 use Rattle.luks_reading.specs.Header.{json_at}
 
@@ -36,12 +36,13 @@ pub record IsKeyslot (v : List ℕ) (n : ℕ) (d : Value) : Type 0 where
   pub holds : Json (json_at v place) metadata
   pub is : HasObject metadata Keyslots n d
 
--- the keyslot `n` has its area, its entry or its value, and its answer to every passphrase
+-- the keyslot `n` has its area, its entry or its value, and its answer to every passphrase, however
+-- much memory Argon2 may take
 pub record KeepsSlot (payload : Data) (n : ℕ) (v w : List ℕ) : Type 0 where
   pub area : KeepsArea payload (Slot n) v w
   pub entry : (bytes : List ℕ) → IsEntry v n bytes ↔ IsEntry w n bytes
   pub value : (d : Value) → IsKeyslot v n d ↔ IsKeyslot w n d
-  pub answers : (p : List ℕ) (a : Opened) → Answer v n p a ↔ Answer w n p a
+  pub answers : (memory : ℕ) (p : List ℕ) (a : Opened) → AnswerWithin memory v n p a ↔ AnswerWithin memory w n p a
 
 -- the volume `w` is as long as `v` and well formed, the segments are as they were, and so is each
 -- keyslot that isn't named

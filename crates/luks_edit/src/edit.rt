@@ -1,40 +1,55 @@
 //! The edits of a volume.
+ghost use Rattle.std.specs.Prelude.{◌≡◌, ◌^◌, length, nat_lt};
+ghost use Rattle.luks_edit.specs.Asked.{allowed_memory, memory_for};
 
 /// The least iterations of a keyslot that is made.
 pub const LEAST_ITERATIONS: u32 = 1000;
+
+/// A passphrase, and how much memory may be spent on it.
+#[derive(Clone, Copy, Debug)]
+pub struct Passphrase<'a> {
+    /// The passphrase: any bytes, or none.
+    pub bytes: &'a [u8],
+    /// How many KiB of memory Argon2 may take; with 0 a keyslot is refused that derives by it. A
+    /// passphrase of 2^32 bytes or more allows none.
+    pub memory: u32,
+}
 
 /// An edit of a volume's keyslots, header or label.
 ///
 /// The keyslot that an edit names as `by_` or `slot` is the one that its old passphrase has to open.
 /// Keyslots are numbered 0 to 7 in LUKS1 and 0 to 31 in LUKS2. A passphrase is any bytes, and may
-/// be empty.
+/// be empty; the new one may take as much memory as the old one.
 #[derive(Clone, Copy, Debug)]
 pub enum Edit<'a> {
     /// Adds a keyslot in which a new passphrase opens the key that the old one opens.
+    ///
+    /// LUKS2 derives its key as that of the keyslot that the old passphrase opens: by Argon2 of the
+    /// same kind and costs, or by PBKDF2 with the same hash.
     Add {
         /// The keyslot that the old passphrase opens.
         by_: u8,
         /// The old passphrase.
-        old: &'a [u8],
+        old: Passphrase<'a>,
         /// The new passphrase.
         new: &'a [u8],
         /// The number of the new keyslot; where it isn't given, the least that is free.
         to: Option<u8>,
-        /// The iterations of the new keyslot's derivation, at least 1000.
+        /// The iterations of the new keyslot's derivation, at least 1000. Argon2 has none.
         iterations: u32,
     },
     /// Puts a new passphrase in the place of an old one.
     ///
-    /// LUKS2 keeps the keyslot's number; LUKS1 makes the least free keyslot, and then disables the
-    /// old one.
+    /// LUKS2 keeps the keyslot's number, and the kind and costs of Argon2; LUKS1 makes the least free
+    /// keyslot, and then disables the old one.
     Change {
         /// The keyslot that the old passphrase opens.
         slot: u8,
         /// The old passphrase.
-        old: &'a [u8],
+        old: Passphrase<'a>,
         /// The new passphrase.
         new: &'a [u8],
-        /// The iterations of the keyslot's derivation, at least 1000.
+        /// The iterations of the keyslot's derivation, at least 1000. Argon2 has none.
         iterations: u32,
     },
     /// Removes a keyslot by its own passphrase, and wipes its area.
@@ -42,7 +57,7 @@ pub enum Edit<'a> {
         /// The keyslot.
         slot: u8,
         /// Its passphrase.
-        passphrase: &'a [u8],
+        passphrase: Passphrase<'a>,
     },
     /// LUKS2: writes both copies of the header anew from the one that counts. LUKS1: nothing.
     Repair,
@@ -51,6 +66,54 @@ pub enum Edit<'a> {
         /// The label, at most 47 bytes of 0x20 to 0x7E.
         text: &'a [u8],
     },
+}
+
+impl Edit<'_> {
+    /// How many KiB of memory Argon2 may take for each of its passphrases: as many as the old one
+    /// allows, or none where a passphrase has 2^32 bytes or more.
+    pub fn allowed_memory(&self) -> u32
+        ensures { result ≡ allowed_memory self.now }
+    {
+        match *self {
+            Edit::Add {
+                by_: _,
+                old,
+                new,
+                to: _,
+                iterations: _,
+            } => memory_for(&old, new),
+            Edit::Change {
+                slot: _,
+                old,
+                new,
+                iterations: _,
+            } => memory_for(&old, new),
+            Edit::Remove {
+                slot: _,
+                passphrase,
+            } => memory_for(&passphrase, b""),
+            Edit::Repair => 0,
+            Edit::Label { text: _ } => 0,
+        }
+    }
+}
+
+/// The memory that the passphrase allows, for itself and a new one.
+fn memory_for(old: &Passphrase<'_>, new: &[u8]) -> u32
+    ensures { result ≡ memory_for old.now new.now }
+{
+    if is_short(old.bytes) && is_short(new) {
+        old.memory
+    } else {
+        0
+    }
+}
+
+/// Whether Argon2 takes a passphrase of this length.
+fn is_short(passphrase: &[u8]) -> bool
+    ensures { result ≡ nat_lt (length passphrase.now) (2 ^ 32) }
+{
+    passphrase.len() < 0x1_0000_0000
 }
 
 /// What a completed edit made.

@@ -11,7 +11,7 @@ use Rattle.luks_meta.specs.Requirements.{has_requirements}
 use Rattle.luks_reading.specs.declared.check_fault.CheckFault.{CheckFault}
 use Rattle.luks_reading.specs.declared.report.Data.{Data}
 use Rattle.luks_reading.specs.Agreement.{IsSameAnswer}
-use Rattle.luks_reading.specs.Answer.{Answer, Opened}
+use Rattle.luks_reading.specs.Answer.{AnswerWithin, Opened}
 use Rattle.luks_reading.specs.Checked.{IsFault}
 use Rattle.luks_edit.specs.declared.edit.Edit.{Edit}
 use Rattle.luks_edit.specs.declared.edit_fault.EditFault.{EditFault}
@@ -48,8 +48,8 @@ said_decided v payload c says (inr isnt) = inr (λ x. let same = c.only x.place 
 
 -- ---- the edit
 
-module _ (v : List ℕ) (payload : Data) (same : (n : ℕ) (p : List ℕ) (a b : Opened) → Answer v n p a → Answer v n p b → IsSameAnswer a b)
-    (answer : (n : ℕ) (p : List ℕ) → (a : Opened) × Answer v n p a) (sound : (f : CheckFault) → IsFault v payload f → ⊥) (e : Edit) (r : List ℕ) where
+module _ (v : List ℕ) (payload : Data) (same : (m n : ℕ) (p : List ℕ) (a b : Opened) → AnswerWithin m v n p a → AnswerWithin m v n p b → IsSameAnswer a b)
+    (answer : (m n : ℕ) (p : List ℕ) → (a : Opened) × AnswerWithin m v n p a) (sound : (f : CheckFault) → IsFault v payload f → ⊥) (e : Edit) (r : List ℕ) where
   -- where metadata counts
   fault_of_counting : Counting v payload → (f : EditFault) → Decided (IsEditFault2 v payload e r f)
   fault_of_counting c (edit.NotAccepted f) = inr (sound f)

@@ -7,7 +7,7 @@ use Rattle.serde_json.specs.Written.{compact_text}
 use Rattle.luks_area.specs.declared.area.Area.{Area}
 use Rattle.luks_head.specs.Header2.{binary_header_size}
 use Rattle.luks_making.specs.Changed.{changed_slot}
-use Rattle.luks_making.specs.Keyslots.{IsMadeFrom, NewMembers}
+use Rattle.luks_making.specs.Keyslots.{by_argon2i, by_argon2id, by_pbkdf2, Deriving, IsDerivedLike, IsMadeFrom, NewMembers}
 use Rattle.luks_making.specs.With.{IsAdded, with_slot}
 use Rattle.luks_making.specs.Without.{without_slot}
 use Rattle.luks_reading.specs.declared.report.Data.{Data}
@@ -23,10 +23,23 @@ use Rattle.luks_edit_laws.proofs.RowDecisions2.{area_or_none}
 
 -- ---- a value with one more keyslot
 
+-- the derivation by other iterations
+with_turns : ℕ → Deriving → Deriving
+with_turns n (by_pbkdf2 hash iterations) = by_pbkdf2 hash n
+with_turns n (by_argon2i costs) = by_argon2i costs
+with_turns n (by_argon2id costs) = by_argon2id costs
+
+-- is one like that of the keyslot too
+derived_anew : (d : Value) (m n : ℕ) (k : Deriving) → IsDerivedLike d m k → IsDerivedLike d n (with_turns n k)
+unfolding with_turns
+derived_anew d m n (by_pbkdf2 hash iterations) x = (x.0, x.1, refl)
+derived_anew d m n (by_argon2i costs) x = x
+derived_anew d m n (by_argon2id costs) x = x
+
 -- whether a keyslot is added depends neither on its number nor on what is new of it
 added_alike : (to other by : ℕ) (f g : NewMembers) (j new : Value) → IsAdded to by f j new → (k : Value) × IsAdded other by g j k
 added_alike to other by f g j new x =
-    let slot = record x.slot { offset = g.offset; size = g.size; iterations = g.iterations; salt = g.salt } in (
+    let slot = record x.slot { offset = g.offset; size = g.size; derivation = with_turns g.iterations x.slot.derivation; salt = g.salt } in (
       with_slot other x.digest slot j,
       record {
         from = x.from;
@@ -38,10 +51,9 @@ added_alike to other by f g j new x =
           splitter_hash = x.made.splitter_hash;
           encryption = x.made.encryption;
           area_key_size = x.made.area_key_size;
-          hash = x.made.hash;
+          derivation = derived_anew x.from f.iterations g.iterations x.slot.derivation x.made.derivation;
           offset = refl;
           size = refl;
-          iterations = refl;
           salt = refl;
         };
         digest = x.digest;

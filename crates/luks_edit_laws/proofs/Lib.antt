@@ -14,3 +14,4 @@ pub mod EditDecisions
 pub mod EditDecisions1
 pub mod EditDecisions2
 pub mod VolumeDecisions
+pub mod WithoutMemory

@@ -1,16 +1,18 @@
 -- What the metadata of a LUKS2 volume says of a keyslot, and which digest names it: each is there once, or not at all.
-use Rattle.std.proofs.Common.{◌≡◌, ℕ, ◌<◌, Bool, true, Option, Some, None, is_some, codes, refl, sym, ap, subst, ◌∙◌, inl, inr}
+use Rattle.std.proofs.Common.{◌≡◌, ℕ, ◌<◌, Bool, true, List, Option, Some, None, is_some, bytes_eq, codes, refl, sym, ap, subst, ◌∙◌, inl, inr}
+use Rattle.std.proofs.lemmas.Slice.Eq.{bytes_eq-Decides}
 use Rattle.serde_json.specs.Data.{Data as Value}
 use Rattle.serde_json.specs.Find.{get}
 use Rattle.luks_json.specs.Arrays.{names}
 use Rattle.luks_json.specs.Number.{number_text}
 use Rattle.luks_rules.specs.declared.table.Outer.TheVariants as outer
 use Rattle.luks_rules.specs.declared.table.Section.TheVariants.{Digests, Keyslots}
-use Rattle.luks_rules.specs.Faults.{object_at}
+use Rattle.luks_rules.specs.Faults.{object_at, type_at}
 use Rattle.luks_rules.specs.Reading.{number_in, text_of}
 use Rattle.luks_rules.specs.Sizes.{inside_at}
 use Rattle.luks_making.specs.Conditions.{IsFree}
-use Rattle.luks_making.specs.Keyslots.{IsMadeFrom, NewMembers, SlotMembers}
+use Rattle.luks_making.specs.declared.new_keyslot.Argon2Costs.{Argon2Costs}
+use Rattle.luks_making.specs.Keyslots.{by_argon2i, by_argon2id, by_pbkdf2, Deriving, HasCosts, IsDerivedLike, IsMadeFrom, NewMembers, SlotMembers}
 use Rattle.luks_making.specs.Naming.{IsDigestOf}
 use Rattle.luks2_edits.specs.Metadata.{HasStripes, IsInUse, IsLeastFree, IsNewKeyslot}
 use Rattle.luks_edit_laws.proofs.DecidedFacts.{alike_decided, both_decided, Decided, held_or_none, least_or_none_below, less_decided, some_same, SomeOrNone, true_decided}
@@ -102,6 +104,88 @@ module _ (j : Value) (n a b c d : ℕ) (x : HasStripes j n a b) (y : HasStripes 
 pub stripes_in_use : (j : Value) (n a b : ℕ) → HasStripes j n a b → IsInUse j n
 stripes_in_use j n a b x = (x.there.named, rw x.there.is refl)
 
+-- the costs of Argon2 of the keyslot `d`
+costs_or_none : (d : Value) → SomeOrNone Argon2Costs (HasCosts d)
+costs_or_none d = elim (held_or_none (number_in 1 4294967295 (inside_at outer.Kdf (codes "time") d))) [
+  | inr none ↦ inr (λ c x. none c.time x.time)
+  | inl time ↦ elim (held_or_none (number_in 1 4294967295 (inside_at outer.Kdf (codes "memory") d))) [
+    | inr none ↦ inr (λ c x. none c.memory x.memory)
+    | inl memory ↦ elim (held_or_none (number_in 1 4294967295 (inside_at outer.Kdf (codes "cpus") d))) [
+      | inr none ↦ inr (λ c x. none c.cpus x.cpus)
+      | inl cpus ↦ inl (record { time = time.0; memory = memory.0; cpus = cpus.0 }, record { time = time.1; memory = memory.1; cpus = cpus.1 })
+    ]
+  ]
+]
+
+-- its type is one of three, or none of them
+data KdfKind (d : Value) : Type 0 where
+  is_pbkdf2 : type_at d outer.Kdf ≡ Some (codes "pbkdf2") → KdfKind d
+  is_argon2i : type_at d outer.Kdf ≡ Some (codes "argon2i") → KdfKind d
+  is_argon2id : type_at d outer.Kdf ≡ Some (codes "argon2id") → KdfKind d
+
+-- a derivation like that of the keyslot is of its type
+kind_of : (d : Value) (n : ℕ) (k : Deriving) → IsDerivedLike d n k → KdfKind d
+kind_of d n (by_pbkdf2 hash iterations) x = is_pbkdf2 x.0
+kind_of d n (by_argon2i costs) x = is_argon2i x.0
+kind_of d n (by_argon2id costs) x = is_argon2id x.0
+
+-- whether it is a text
+text_decided : (d : Value) (t : List ℕ) → Decided (type_at d outer.Kdf ≡ Some t)
+text_decided d t = elim (held_or_none (type_at d outer.Kdf)) [
+  | inr none ↦ inr (λ is. none t is)
+  | inl found ↦ elim (true_decided (bytes_eq found.0 t)) [
+    | inl same ↦ inl (found.1 ∙ ap Some ((bytes_eq-Decides found.0 t).0 same))
+    | inr other ↦ inr (λ is. other ((bytes_eq-Decides found.0 t).1 (some_same found.0 t (sym found.1 ∙ is))))
+  ]
+]
+
+kind_decided : (d : Value) → Decided (KdfKind d)
+kind_decided d = elim (text_decided d (codes "pbkdf2")) [
+  | inl is ↦ inl (is_pbkdf2 is)
+  | inr other ↦ elim (text_decided d (codes "argon2i")) [
+    | inl is ↦ inl (is_argon2i is)
+    | inr nor ↦ elim (text_decided d (codes "argon2id")) [
+      | inl is ↦ inl (is_argon2id is)
+      | inr neither ↦ inr (λ x. elim x [ is_pbkdf2 is ↦ other is | is_argon2i is ↦ nor is | is_argon2id is ↦ neither is ])
+    ]
+  ]
+]
+
+-- without a hash there is none by PBKDF2, and without costs none by Argon2
+no_hash : (d : Value) (n : ℕ) → type_at d outer.Kdf ≡ Some (codes "pbkdf2") → ((h : List ℕ) → text_of (inside_at outer.Kdf (codes "hash") d) ≡ Some h → ⊥)
+    → (k : Deriving) → IsDerivedLike d n k → ⊥
+no_hash d n is none (by_pbkdf2 hash iterations) x = none hash x.1
+no_hash d n is none (by_argon2i costs) x = let both : Some (codes "pbkdf2") ≡ Some (codes "argon2i") = sym is ∙ x.0 in cc
+no_hash d n is none (by_argon2id costs) x = let both : Some (codes "pbkdf2") ≡ Some (codes "argon2id") = sym is ∙ x.0 in cc
+
+no_costs : (d : Value) (n : ℕ) (t : List ℕ) → type_at d outer.Kdf ≡ Some t → (Some t ≡ Some (codes "pbkdf2") → ⊥) → ((c : Argon2Costs) → HasCosts d c → ⊥)
+    → (k : Deriving) → IsDerivedLike d n k → ⊥
+no_costs d n t is other none (by_pbkdf2 hash iterations) x = other (sym is ∙ x.0)
+no_costs d n t is other none (by_argon2i costs) x = none costs x.1
+no_costs d n t is other none (by_argon2id costs) x = none costs x.1
+
+-- of the type that it has
+derived_by : (d : Value) (n : ℕ) → KdfKind d → SomeOrNone Deriving (IsDerivedLike d n)
+derived_by d n (is_pbkdf2 is) = elim (held_or_none (text_of (inside_at outer.Kdf (codes "hash") d))) [
+  | inl hash ↦ inl (by_pbkdf2 hash.0 n, (is, hash.1, refl))
+  | inr none ↦ inr (no_hash d n is none)
+]
+derived_by d n (is_argon2i is) = elim (costs_or_none d) [
+  | inl costs ↦ inl (by_argon2i costs.0, (is, costs.1))
+  | inr none ↦ inr (no_costs d n (codes "argon2i") is (λ e. cc) none)
+]
+derived_by d n (is_argon2id is) = elim (costs_or_none d) [
+  | inl costs ↦ inl (by_argon2id costs.0, (is, costs.1))
+  | inr none ↦ inr (no_costs d n (codes "argon2id") is (λ e. cc) none)
+]
+
+-- a derivation like that of a keyslot, or none
+derived_or_none : (d : Value) (n : ℕ) → SomeOrNone Deriving (IsDerivedLike d n)
+derived_or_none d n = elim (kind_decided d) [
+  | inl kind ↦ derived_by d n kind
+  | inr none ↦ inr (λ k x. none (kind_of d n k x))
+]
+
 -- what a keyslot has that is made with the members of the keyslot `d`
 pub made_or_none : (d : Value) (f : NewMembers) → SomeOrNone SlotMembers (IsMadeFrom d f)
 made_or_none d f = elim (held_or_none (number_in 1 128 (inside_at outer.Top (codes "key_size") d))) [
@@ -114,9 +198,9 @@ made_or_none d f = elim (held_or_none (number_in 1 128 (inside_at outer.Top (cod
         | inr none ↦ inr (λ s x. none s.encryption x.encryption)
         | inl encryption ↦ elim (held_or_none (number_in 1 128 (inside_at outer.Area (codes "key_size") d))) [
           | inr none ↦ inr (λ s x. none s.area_key_size x.area_key_size)
-          | inl area_key ↦ elim (held_or_none (text_of (inside_at outer.Kdf (codes "hash") d))) [
-            | inr none ↦ inr (λ s x. none s.hash x.hash)
-            | inl hash ↦ inl (
+          | inl area_key ↦ elim (derived_or_none d f.iterations) [
+            | inr none ↦ inr (λ s x. none s.derivation x.derivation)
+            | inl derivation ↦ inl (
               record {
                 key_size = key.0;
                 stripes = stripes.0;
@@ -125,8 +209,7 @@ made_or_none d f = elim (held_or_none (number_in 1 128 (inside_at outer.Top (cod
                 size = f.size;
                 encryption = encryption.0;
                 area_key_size = area_key.0;
-                hash = hash.0;
-                iterations = f.iterations;
+                derivation = derivation.0;
                 salt = f.salt;
               },
               record {
@@ -135,10 +218,9 @@ made_or_none d f = elim (held_or_none (number_in 1 128 (inside_at outer.Top (cod
                 splitter_hash = splitter.1;
                 encryption = encryption.1;
                 area_key_size = area_key.1;
-                hash = hash.1;
+                derivation = derivation.1;
                 offset = refl;
                 size = refl;
-                iterations = refl;
                 salt = refl;
               },
             )

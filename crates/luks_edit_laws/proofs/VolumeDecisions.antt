@@ -12,7 +12,7 @@ use Rattle.luks_rules.specs.Accepted.{IsMeta}
 use Rattle.luks_reading.specs.declared.check_fault.CheckFault.{CheckFault}
 use Rattle.luks_reading.specs.declared.report.Data.{Data}
 use Rattle.luks_reading.specs.Agreement.{IsSameAnswer}
-use Rattle.luks_reading.specs.Answer.{Answer, Opened}
+use Rattle.luks_reading.specs.Answer.{AnswerWithin, Opened}
 use Rattle.luks_reading.specs.Checked.{First, IsFault, WellFormed, WellFormedAs}
 use Rattle.luks_reading.specs.Header.{json_at}
 use Rattle.luks_edit.specs.declared.edit.Edit.{Edit}
@@ -84,7 +84,7 @@ module _ (only : (v : List ℕ) (b c : Choice) → Chosen v b → Chosen v c →
   -- ---- the edit
 
   module _ (checked : ((f : CheckFault) × First v payload f) ⊎ WellFormed v payload) (sound : WellFormed v payload → (f : CheckFault) → IsFault v payload f → ⊥)
-      (same : (n : ℕ) (p : List ℕ) (a b : Opened) → Answer v n p a → Answer v n p b → IsSameAnswer a b) (answer : (n : ℕ) (p : List ℕ) → (a : Opened) × Answer v n p a)
+      (same : (m n : ℕ) (p : List ℕ) (a b : Opened) → AnswerWithin m v n p a → AnswerWithin m v n p b → IsSameAnswer a b) (answer : (m n : ℕ) (p : List ℕ) → (a : Opened) × AnswerWithin m v n p a)
       (e : Edit) (r : List ℕ) where
     -- each fault is decided by the rules of LUKS1
     decided1 : WellFormed v payload → (f : EditFault) → Decided (IsEditFault1 v payload e r f)

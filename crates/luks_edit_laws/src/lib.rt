@@ -5,4 +5,4 @@ mod gaps;
 mod laws;
 
 pub use gaps::area_or_no_room;
-pub use laws::first_refusal_or_unrefused;
+pub use laws::{first_refusal_or_unrefused, no_memory_is_as_before};

@@ -1,11 +1,13 @@
 //! Edits of LUKS2 volumes by the program's commands.
 use crate::sessions::{
-    ADD_BY_0, CHANGE_0, FORMAT, LABEL_X, NO_FILE, RANDOM, REMOVE_0, REMOVE_1, REPAIR, Turn,
-    answers, are_zeros, bytes_of, counted, files_of, take_turns,
+    RANDOM, Turn, answers, are_zeros, bytes_of, counted, files_of, take_turns, taken, text_of,
+};
+use crate::words::{
+    ADD, ADD_BY_1_DETACHED, ADD_TO_1, CHANGE, CHECK, DETACHED, FORMAT, LABEL, LABEL_47, LABEL_48,
+    OPEN_0, OPEN_1, OPEN_2, REMOVE, REMOVE_1, REMOVE_1_DETACHED, REPAIR, SHOW,
 };
 use luks_samples::{
-    CHECK, DETACHED, Edit, LUKS2, OPEN_0, OPEN_1, OPEN_2, SHOW, ZEROS, copy_of, edited, luks2,
-    opening_luks2, put, put_copy, zeros_luks2,
+    Edit, LUKS2, ZEROS, copy_of, edited, luks2, opening_luks2, put, put_copy, zeros_luks2,
 };
 use std::alloc::{AllocError, Global};
 use std::process::Abort;
@@ -29,14 +31,14 @@ segment 0 crypt 16777216 dynamic
 digest 0 sha256 keyslots 0,1 segments 0
 ";
 
-const ADDED: [Turn; 10] = [
+static ADDED: [Turn; 10] = [
     FORMATTED,
-    (ADD_BY_0, "one", "two", "done slot 1\n", 0),
+    (ADD, "one", "two", "done slot 1\n", 0),
     (SHOW, "", "", AFTER_ADD, 0),
     (OPEN_0, "one", "", "slot 0 opens\n", 0),
     (OPEN_1, "two", "", "slot 1 opens\n", 0),
-    (REMOVE_0, "two", "", "refused Locked\n", 1),
-    (REMOVE_0, "one", "", "done\n", 0),
+    (REMOVE, "two", "", "refused Locked\n", 1),
+    (REMOVE, "one", "", "done\n", 0),
     (CHECK, "", "", "accepted luks2 in-step seqid 3 areas 4\n", 0),
     (OPEN_1, "two", "", "slot 1 opens\n", 0),
     (REMOVE_1, "two", "", "refused LastSlot\n", 1),
@@ -44,20 +46,15 @@ const ADDED: [Turn; 10] = [
 
 #[test]
 fn added_and_removed(rt: HostRuntime) -> Result<(), Fail> {
-    let random = counted(rt.alloc(), RANDOM)?;
-    let mut files = files_of(new_image(rt.alloc())?);
-    take_turns(&rt, rt.alloc(), &mut files, &random, &ADDED)?;
-    assert!(rt;
-        are_zeros(bytes_of(&files), 32768, 290816),
-        "the removed area"
-    );
+    let left = taken(&rt, rt.alloc(), new_image(rt.alloc())?, &ADDED)?;
+    assert!(rt; are_zeros(&left, 32768, 290816), "the removed area");
     Ok(())
 }
 
-const TWICE: [Turn; 6] = [
+static TWICE: [Turn; 6] = [
     FORMATTED,
-    (ADD_BY_0, "one", "two", "done slot 1\n", 0),
-    (ADD_BY_0, "one", "two", "done slot 2\n", 0),
+    (ADD, "one", "two", "done slot 1\n", 0),
+    (ADD, "one", "two", "done slot 2\n", 0),
     (OPEN_1, "two", "", "slot 1 opens\n", 0),
     (OPEN_2, "two", "", "slot 2 opens\n", 0),
     (OPEN_0, "two", "", "slot 0 does not open\n", 1),
@@ -65,9 +62,8 @@ const TWICE: [Turn; 6] = [
 
 #[test]
 fn one_passphrase_twice(rt: HostRuntime) -> Result<(), Fail> {
-    let random = counted(rt.alloc(), RANDOM)?;
-    let mut files = files_of(new_image(rt.alloc())?);
-    take_turns(&rt, rt.alloc(), &mut files, &random, &TWICE)
+    let _left = taken(&rt, rt.alloc(), new_image(rt.alloc())?, &TWICE)?;
+    Ok(())
 }
 
 const AFTER_CHANGE: &str = "\
@@ -90,46 +86,29 @@ segment 0 crypt 16777216 dynamic
 digest 0 sha256 keyslots 0 segments 0
 ";
 
-const CHANGED: [Turn; 5] = [
+static CHANGED: [Turn; 5] = [
     FORMATTED,
-    (CHANGE_0, "one", "three", "done slot 0\n", 0),
+    (CHANGE, "one", "three", "done slot 0\n", 0),
     (SHOW, "", "", AFTER_CHANGE, 0),
     (OPEN_0, "three", "", "slot 0 opens\n", 0),
     (OPEN_0, "one", "", "slot 0 does not open\n", 1),
 ];
 
-const CHANGED_AGAIN: [Turn; 3] = [
-    (CHANGE_0, "three", "four", "done slot 0\n", 0),
+static CHANGED_AGAIN: [Turn; 3] = [
+    (CHANGE, "three", "four", "done slot 0\n", 0),
     (SHOW, "", "", AFTER_BOTH, 0),
     (OPEN_0, "four", "", "slot 0 opens\n", 0),
 ];
 
 #[test]
 fn changed_keyslot(rt: HostRuntime) -> Result<(), Fail> {
-    let random = counted(rt.alloc(), RANDOM)?;
-    let mut files = files_of(new_image(rt.alloc())?);
-    take_turns(&rt, rt.alloc(), &mut files, &random, &CHANGED)?;
-    assert!(rt; are_zeros(bytes_of(&files), 32768, 290816), "the old area");
-    take_turns(&rt, rt.alloc(), &mut files, &random, &CHANGED_AGAIN)
+    let left = taken(&rt, rt.alloc(), new_image(rt.alloc())?, &CHANGED)?;
+    assert!(rt; are_zeros(&left, 32768, 290816), "the old area");
+    let _left = taken(&rt, rt.alloc(), left, &CHANGED_AGAIN)?;
+    Ok(())
 }
 
-const LABEL_47: &[&str] = &[
-    "luks",
-    "label",
-    "v",
-    "12345678901234567890123456789012345678901234567",
-    "--random=r",
-];
-
-const LABEL_48: &[&str] = &[
-    "luks",
-    "label",
-    "v",
-    "123456789012345678901234567890123456789012345678",
-    "--random=r",
-];
-
-const LABELS: [Turn; 4] = [
+static LABELS: [Turn; 4] = [
     (LABEL_48, "", "", "refused BadLabel\n", 1),
     (LABEL_47, "", "", "done\n", 0),
     (CHECK, "", "", "accepted luks2 in-step seqid 2 areas 4\n", 0),
@@ -138,18 +117,15 @@ const LABELS: [Turn; 4] = [
 
 #[test]
 fn labels(rt: HostRuntime) -> Result<(), Fail> {
-    let random = counted(rt.alloc(), RANDOM)?;
     let image = zeros_luks2(rt.alloc(), &[], LUKS2)?;
-    let mut files = files_of(image);
-    take_turns(&rt, rt.alloc(), &mut files, &random, &LABELS)?;
-    files.random = NO_FILE;
+    let mut files = files_of(taken(&rt, rt.alloc(), image, &LABELS)?);
     let none = (REPAIR, "", "", "refused RandomLength\n", 1);
     assert!(rt; answers(rt.alloc(), &none, &mut files)?, "no random file");
     Ok(())
 }
 
 /// The sequence numbers of the copies, and what is answered.
-const COPIES: [(u64, u64, &[Turn]); 2] = [
+static COPIES: [(u64, u64, &[Turn]); 2] = [
     (
         5,
         6,
@@ -168,26 +144,30 @@ const COPIES: [(u64, u64, &[Turn]); 2] = [
     (
         18446744073709551615,
         18446744073709551615,
-        &[(LABEL_X, "", "", "refused SeqExhausted\n", 1)],
+        &[(LABEL, "", "", "refused SeqExhausted\n", 1)],
     ),
 ];
 
+/// The volume whose copies have these sequence numbers.
+fn copies_of(alloc: Global, first: u64, second: u64) -> Result<Vec<u8>, AllocError> {
+    let mut one = copy_of(ZEROS);
+    let mut other = copy_of(ZEROS);
+    one.seqid = first;
+    other.seqid = second;
+    luks2(alloc, &one, &other, LUKS2)
+}
+
 #[test]
 fn copies(rt: HostRuntime) -> Result<(), Fail> {
-    let random = counted(rt.alloc(), RANDOM)?;
-    let alloc = rt.alloc();
-    for (first, second, turns) in COPIES {
-        let mut one = copy_of(ZEROS);
-        let mut other = copy_of(ZEROS);
-        one.seqid = first;
-        other.seqid = second;
-        let mut files = files_of(luks2(alloc, &one, &other, LUKS2)?);
-        take_turns(&rt, alloc, &mut files, &random, turns)?;
+    for row in COPIES.iter() {
+        let (first, second, turns) = *row;
+        let image = copies_of(rt.alloc(), first, second)?;
+        let _left = taken(&rt, rt.alloc(), image, turns)?;
     }
     Ok(())
 }
 
-const SECOND_ONLY: [Turn; 3] = [
+static SECOND_ONLY: [Turn; 3] = [
     (
         CHECK,
         "",
@@ -201,11 +181,10 @@ const SECOND_ONLY: [Turn; 3] = [
 
 #[test]
 fn damaged_copy(rt: HostRuntime) -> Result<(), Fail> {
-    let random = counted(rt.alloc(), RANDOM)?;
     let mut image = zeros_luks2(rt.alloc(), &[], LUKS2)?;
     put(&mut image, 4100, &[0]);
-    let mut files = files_of(image);
-    take_turns(&rt, rt.alloc(), &mut files, &random, &SECOND_ONLY)
+    let _left = taken(&rt, rt.alloc(), image, &SECOND_ONLY)?;
+    Ok(())
 }
 
 /// Requirements that no edit passes by.
@@ -215,7 +194,7 @@ const REQUIRED: Edit = (
 );
 
 /// Keyslot 0 by Argon2.
-const ARGON2: [Edit; 2] = [
+const ARGON2: &[Edit] = &[
     (
         "\"kdf\":{\"hash\":\"sha256\",\"iterations\":1000,",
         "\"kdf\":{\"cpus\":4,\"memory\":1048576,\"time\":4,",
@@ -226,43 +205,21 @@ const ARGON2: [Edit; 2] = [
     ),
 ];
 
-const ADD_DETACHED: &[&str] = &[
-    "luks",
-    "add",
-    "v",
-    "--slot=1",
-    "--passphrase=p",
-    "--new=n",
-    "--random=r",
-    "--iterations=1000",
-    "--detached",
-];
-
-const REMOVE_DETACHED: &[&str] = &[
-    "luks",
-    "remove",
-    "v",
-    "--slot=1",
-    "--passphrase=p",
-    "--random=r",
-    "--detached",
-];
-
 /// The edits of the metadata of the small volume, which has no room for a fourth keyslot, and what is
 /// answered.
-const SMALL: [(&[Edit], &[Turn]); 3] = [
+static SMALL: [(&[Edit], &[Turn]); 3] = [
     (
         &[],
         &[
-            (ADD_DETACHED, "one", "two", "refused NoRoom\n", 1),
-            (ADD_DETACHED, "two", "one", "refused Locked\n", 1),
+            (ADD_BY_1_DETACHED, "one", "two", "refused NoRoom\n", 1),
+            (ADD_BY_1_DETACHED, "two", "one", "refused Locked\n", 1),
         ],
     ),
     (
         &[REQUIRED],
         &[
-            (ADD_DETACHED, "one", "two", "refused Requirements\n", 1),
-            (REMOVE_DETACHED, "one", "", "refused Requirements\n", 1),
+            (ADD_BY_1_DETACHED, "one", "two", "refused Requirements\n", 1),
+            (REMOVE_1_DETACHED, "one", "", "refused Requirements\n", 1),
             (
                 DETACHED,
                 "",
@@ -274,7 +231,7 @@ const SMALL: [(&[Edit], &[Turn]); 3] = [
         ],
     ),
     (
-        &ARGON2,
+        ARGON2,
         &[
             (
                 DETACHED,
@@ -284,7 +241,7 @@ const SMALL: [(&[Edit], &[Turn]); 3] = [
                 0,
             ),
             (OPEN_0, "one", "", "refused Argon2\n", 1),
-            (REMOVE_DETACHED, "one", "", "done\n", 0),
+            (REMOVE_1_DETACHED, "one", "", "done\n", 0),
             (OPEN_0, "one", "", "refused Argon2\n", 1),
             (OPEN_2, "one", "", "slot 2 opens\n", 0),
             (
@@ -300,32 +257,20 @@ const SMALL: [(&[Edit], &[Turn]); 3] = [
 
 #[test]
 fn small_volumes(rt: HostRuntime) -> Result<(), Fail> {
-    let random = counted(rt.alloc(), RANDOM)?;
-    for (edits, turns) in SMALL {
-        let mut files = files_of(opening_luks2(rt.alloc(), edits)?);
-        take_turns(&rt, rt.alloc(), &mut files, &random, turns)?;
+    for row in SMALL.iter() {
+        let (edits, turns) = *row;
+        let image = opening_luks2(rt.alloc(), edits)?;
+        let _left = taken(&rt, rt.alloc(), image, turns)?;
     }
     Ok(())
 }
 
-const ADD_TO_1: &[&str] = &[
-    "luks",
-    "add",
-    "v",
-    "--slot=0",
-    "--passphrase=p",
-    "--new=n",
-    "--random=r",
-    "--iterations=1000",
-    "--to=1",
-];
-
 // A refused edit of a list changes nothing, and those after it are done.
-const LIST: [Turn; 8] = [
+static LIST: [Turn; 8] = [
     FORMATTED,
-    (ADD_BY_0, "one", "two", "done slot 1\n", 0),
+    (ADD, "one", "two", "done slot 1\n", 0),
     (ADD_TO_1, "one", "three", "refused SlotTaken\n", 1),
-    (REMOVE_0, "one", "", "done\n", 0),
+    (REMOVE, "one", "", "done\n", 0),
     (REMOVE_1, "two", "", "refused LastSlot\n", 1),
     (REPAIR, "", "", "done\n", 0),
     (CHECK, "", "", "accepted luks2 in-step seqid 4 areas 4\n", 0),
@@ -334,56 +279,59 @@ const LIST: [Turn; 8] = [
 
 #[test]
 fn list_of_edits(rt: HostRuntime) -> Result<(), Fail> {
-    let random = counted(rt.alloc(), RANDOM)?;
     let mut image = new_image(rt.alloc())?;
     put(&mut image, 16777216, &[0xA5; 512]);
-    let mut files = files_of(image);
-    take_turns(&rt, rt.alloc(), &mut files, &random, &LIST)?;
+    let left = taken(&rt, rt.alloc(), image, &LIST)?;
     assert!(rt;
-        bytes_of(&files).get(16777216..) == Some([0xA5; 512].as_slice()),
+        left.get(16777216..) == Some([0xA5; 512].as_slice()),
         "the payload"
     );
     Ok(())
 }
 
+static NEW: [Turn; 1] = [FORMATTED];
+
 /// The formatted volume, its metadata edited so.
 pub fn formatted(rt: &impl Abort, alloc: Global, edits: &[Edit]) -> Result<Vec<u8>, Fail> {
-    let random = counted(alloc, RANDOM)?;
-    let mut files = files_of(new_image(alloc)?);
-    take_turns(rt, alloc, &mut files, &random, &[FORMATTED])?;
-    let mut image = bytes_of(&files).to_vec(alloc)?;
-    let text = match image.get(4096..16384) {
-        Some(area) => match area.split(|byte| *byte == 0).next() {
-            Some(text) => edited(alloc, str::from_utf8(text).unwrap_or_default(), edits)?,
-            None => edited(alloc, "", &[])?,
-        },
-        None => edited(alloc, "", &[])?,
-    };
-    let mut copy = copy_of(text.as_str());
+    let mut image = taken(rt, alloc, new_image(alloc)?, &NEW)?;
+    let text = edited(alloc, text_of(&image), edits)?;
+    rewrite(&mut image, text.as_str());
+    Ok(image)
+}
+
+/// Writes both copies anew with this metadata.
+pub fn rewrite(image: &mut [u8], text: &str) {
+    let mut copy = copy_of(text);
     copy.uuid = b"00010203-0405-4607-8809-0a0b0c0d0e0f";
     for byte in image.iter_mut().take(32768) {
         *byte = 0;
     }
-    put_copy(&mut image, 0, &copy);
-    put_copy(&mut image, 16384, &copy);
-    Ok(image)
+    put_copy(image, 0, &copy);
+    put_copy(image, 16384, &copy);
 }
 
 /// The size of the keyslots' region, and what an Add is answered.
-const SIZES: [(&str, &str, u8); 3] = [
-    ("\"258048\"},\"digests\"", "refused NoRoom\n", 1),
-    ("\"516095\"},\"digests\"", "refused NoRoom\n", 1),
-    ("\"516096\"},\"digests\"", "done slot 1\n", 0),
+static SIZES: [(&str, &[Turn]); 3] = [
+    (
+        "\"258048\"},\"digests\"",
+        &[(ADD, "one", "two", "refused NoRoom\n", 1)],
+    ),
+    (
+        "\"516095\"},\"digests\"",
+        &[(ADD, "one", "two", "refused NoRoom\n", 1)],
+    ),
+    (
+        "\"516096\"},\"digests\"",
+        &[(ADD, "one", "two", "done slot 1\n", 0)],
+    ),
 ];
 
 #[test]
 fn rooms(rt: HostRuntime) -> Result<(), Fail> {
-    let random = counted(rt.alloc(), RANDOM)?;
-    for (size, want, status) in SIZES {
+    for row in SIZES.iter() {
+        let (size, turns) = *row;
         let image = formatted(&rt, rt.alloc(), &[("\"16744448\"},\"digests\"", size)])?;
-        let mut files = files_of(image);
-        let add = (ADD_BY_0, "one", "two", want, status);
-        take_turns(&rt, rt.alloc(), &mut files, &random, &[add])?;
+        let _left = taken(&rt, rt.alloc(), image, turns)?;
     }
     Ok(())
 }

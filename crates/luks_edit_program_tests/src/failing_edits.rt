@@ -1,32 +1,21 @@
 //! Edits on a device of which one call fails: the lines, the status, and what is left.
 use crate::editing_luks2::formatted;
-use crate::recording::{Call, Recording};
-use crate::sessions::{REPAIR, Turn, answers, counted, files_of, take_turns};
+use crate::sessions::{Turn, answers, counted, files_of, taken};
+use crate::words::{ADD, CHANGE, CHECK, FORMAT1, LABEL, OPEN_0, OPEN_1, REMOVE, REPAIR, SHOW};
 use luks_area::{FaultyDevice, Leave};
-use luks_cli::{CountingPrinter, InputFault, Inputs, execute};
-use luks_line::line;
-use luks_samples::{
-    CHECK, OPEN_0, OPEN_1, SHOW, STRIPE, opening_luks1, put, roomy_luks2, roomy_text,
-};
-use luks_volume::{Device, MemDevice};
+use luks_cli::{InputFault, Inputs};
+use luks_samples::{STRIPE, opening_luks1, put, roomy_luks2, roomy_text};
+use luks_sessions::{Told, run};
+use luks_test_devices::{Call, Recording};
+use luks_volume::{Device, FORMAT1_RANDOM, MemDevice};
 use std::alloc::Global;
 use std::process::Abort;
 use std::test::Fail;
 
-/// A command that edits, with the passphrases `one` and `three`, and how it is answered.
-#[derive(Debug, Clone, Copy)]
-struct Asked {
-    words: &'static [&'static str],
-    want: &'static str,
-}
-
 /// What a command came to on a device of which one call fails.
 #[derive(Drop)]
 struct Ended {
-    /// What it printed, on standard output and on standard error, and its status.
-    out: Vec<u8>,
-    err: Vec<u8>,
-    status: u8,
+    told: Told,
     /// The device, with the calls that were made.
     device: Recording<FaultyDevice<MemDevice>>,
 }
@@ -34,18 +23,18 @@ struct Ended {
 impl Ended {
     /// Whether it was done, and no call failed.
     fn is_done(&self, want: &str) -> bool {
-        self.status == 0
-            && self.out.as_slice() == want.as_bytes()
-            && self.err.is_empty()
-            && self.device.failures() == 0
+        self.told.says(want, "", 0) && self.device.failures() == 0
+    }
+
+    /// Whether the failing call was told by these lines, with the volume's name.
+    fn is_told(&self, line: &str) -> bool {
+        self.told.says("device fault\n", line, 4) && self.device.failures() == 1
     }
 
     /// The volume, as the calls have left it.
     fn into_volume(self) -> MemDevice {
         let Ended {
-            out: _out,
-            err: _err,
-            status: _status,
+            told: _told,
             device,
         } = self;
         let Recording {
@@ -54,28 +43,20 @@ impl Ended {
         } = device;
         device.into_inner()
     }
-
-    /// Whether the failing call was told by these lines, with the volume's name.
-    fn is_told(&self, line: &str) -> bool {
-        self.status == 4
-            && self.out.as_slice() == b"device fault\n".as_slice()
-            && self.err.as_slice() == line.as_bytes()
-            && self.device.failures() == 1
-    }
 }
 
-/// What the command comes to where the call of this number fails.
+/// What the command comes to, with the passphrases `one` and `three`, where the call of this number
+/// fails.
 fn end_of(
     alloc: Global,
-    words: &[&str],
+    words: &str,
     image: &[u8],
     random: &[u8],
     call: u64,
     leave: Leave,
 ) -> Result<Ended, Fail> {
-    let line = line(alloc, words)?;
     let inner = MemDevice::new(image.to_vec(alloc)?);
-    let mut inputs = Inputs {
+    let mut files = Inputs {
         volume: Ok(Recording {
             device: FaultyDevice::new(inner, call, leave),
             calls: Vec::new(alloc),
@@ -85,18 +66,10 @@ fn end_of(
         new_passphrase: Ok(b"three".as_slice()),
         random: Ok(random),
     };
-    let mut out = CountingPrinter::new(Vec::new(alloc));
-    let mut err = Vec::new(alloc);
-    let status = execute(alloc, &line, &mut inputs, &mut out, &mut err);
-    let CountingPrinter { writer: out, .. } = out;
-    let Inputs { volume, .. } = inputs;
+    let told = run(alloc, words, &mut files)?;
+    let Inputs { volume, .. } = files;
     match volume {
-        Ok(device) => Ok(Ended {
-            out,
-            err,
-            status,
-            device,
-        }),
+        Ok(device) => Ok(Ended { told, device }),
         Err(_) => Err("no volume".into()),
     }
 }
@@ -105,8 +78,6 @@ fn end_of(
 const READING: &str = "luks: v: reading failed\n";
 
 const IN_THE_MIDST: &str = "luks: v: reading or writing failed, part of the edit may be written\n";
-
-const LABEL_X: &[&str] = &["luks", "label", "v", "x", "--random=r"];
 
 const NO_LABEL: &str = "\
 luks2
@@ -151,11 +122,38 @@ segment 0 crypt 16777216 dynamic
 digest 0 sha256 keyslots 0 segments 0
 ";
 
+/// A write or a flush.
+#[derive(Clone, Copy)]
+enum Kind {
+    Write,
+    Flush,
+}
+
+/// The place of the first call of this kind after so many flushes, counted from 0; the number of all
+/// calls where there is none.
+fn place_of(calls: &[Call], kind: Kind, flushes: usize) -> u64 {
+    let mut before = 0usize;
+    for (i, made) in calls.iter().enumerate() {
+        let found = match kind {
+            Kind::Write => matches!(made, Call::Write { .. }),
+            Kind::Flush => matches!(made, Call::Flush),
+        };
+        if before == flushes && found {
+            return i as u64;
+        }
+        if matches!(made, Call::Flush) {
+            before = before.wrapping_add(1);
+        }
+    }
+    calls.len() as u64
+}
+
 /// Which call of a label fails, the first write or flush after so many flushes, what it leaves in its
 /// range, and what is answered then. The second copy is written first, then the first, which counts.
-const LABELS: [((Call, usize), Leave, &[Turn]); 5] = [
+static LABELS: [(Kind, usize, Leave, &[Turn]); 5] = [
     (
-        (Call::Write, 0),
+        Kind::Write,
+        0,
         Leave::Ones,
         &[
             (
@@ -171,7 +169,8 @@ const LABELS: [((Call, usize), Leave, &[Turn]); 5] = [
         ],
     ),
     (
-        (Call::Flush, 0),
+        Kind::Flush,
+        0,
         Leave::Old,
         &[
             (
@@ -187,7 +186,8 @@ const LABELS: [((Call, usize), Leave, &[Turn]); 5] = [
         ],
     ),
     (
-        (Call::Write, 1),
+        Kind::Write,
+        1,
         Leave::Ones,
         &[
             (
@@ -203,7 +203,8 @@ const LABELS: [((Call, usize), Leave, &[Turn]); 5] = [
         ],
     ),
     (
-        (Call::Write, 1),
+        Kind::Write,
+        1,
         Leave::Old,
         &[
             (
@@ -219,7 +220,8 @@ const LABELS: [((Call, usize), Leave, &[Turn]); 5] = [
         ],
     ),
     (
-        (Call::Flush, 1),
+        Kind::Flush,
+        1,
         Leave::Old,
         &[
             (CHECK, "", "", "accepted luks2 in-step seqid 2 areas 4\n", 0),
@@ -230,20 +232,19 @@ const LABELS: [((Call, usize), Leave, &[Turn]); 5] = [
     ),
 ];
 
-const OPENS: [Turn; 1] = [(OPEN_0, "one", "", "slot 0 opens\n", 0)];
+static OPENS: [Turn; 1] = [(OPEN_0, "one", "", "slot 0 opens\n", 0)];
 
 /// Asserts that the volume that is left is answered so, and that its keyslot opens before and after.
 fn is_answered(
     rt: &impl Abort,
     alloc: Global,
-    left: &[u8],
-    random: &[u8],
+    left: &MemDevice,
     turns: &[Turn],
 ) -> Result<(), Fail> {
-    let mut files = files_of(left.to_vec(alloc)?);
-    take_turns(rt, alloc, &mut files, random, &OPENS)?;
-    take_turns(rt, alloc, &mut files, random, turns)?;
-    take_turns(rt, alloc, &mut files, random, &OPENS)
+    let image = taken(rt, alloc, left.contents().to_vec(alloc)?, &OPENS)?;
+    let image = taken(rt, alloc, image, turns)?;
+    let _image = taken(rt, alloc, image, &OPENS)?;
+    Ok(())
 }
 
 #[test]
@@ -251,67 +252,49 @@ fn failing_labels(rt: HostRuntime) -> Result<(), Fail> {
     let alloc = rt.alloc();
     let image = formatted(&rt, alloc, &[])?;
     let random = counted(alloc, 128)?;
-    let done = end_of(alloc, LABEL_X, &image, &random, u64::MAX, Leave::Old)?;
+    let done = end_of(alloc, LABEL, &image, &random, u64::MAX, Leave::Old)?;
     assert!(rt; done.is_done("done\n"), "no call fails");
-    for (i, ((call, flushes), leave, turns)) in LABELS.into_iter().enumerate() {
-        let place = done.device.place_of(call, flushes);
-        let ended = end_of(alloc, LABEL_X, &image, &random, place, leave)?;
+    for (i, row) in LABELS.iter().enumerate() {
+        let (kind, flushes, leave, turns) = *row;
+        let place = place_of(&done.device.calls, kind, flushes);
+        let ended = end_of(alloc, LABEL, &image, &random, place, leave)?;
         assert!(rt; ended.is_told(IN_THE_MIDST), "row {i}: the lines");
-        let left = ended.into_volume();
-        is_answered(&rt, alloc, left.contents(), &random, turns)?;
+        is_answered(&rt, alloc, &ended.into_volume(), turns)?;
     }
     Ok(())
 }
 
-const ADD: Asked = Asked {
-    words: &[
-        "luks",
-        "add",
-        "v",
-        "--slot=0",
-        "--passphrase=p",
-        "--new=n",
-        "--random=r",
-        "--iterations=1000",
-    ],
-    want: "done slot 3\n",
-};
+/// How an edit went on a device of which one call fails.
+#[derive(Clone, Copy)]
+enum Course {
+    /// No call failed, and it was done.
+    Done,
+    /// A call failed before it began, and no byte changed.
+    Before,
+    /// A call failed in its midst.
+    Midst,
+    /// A call was told as one before it began, and a byte changed.
+    Changed,
+    /// It wasn't told what failed.
+    Untold,
+}
 
-const CHANGE: Asked = Asked {
-    words: &[
-        "luks",
-        "change",
-        "v",
-        "--slot=0",
-        "--passphrase=p",
-        "--new=n",
-        "--random=r",
-        "--iterations=1000",
-    ],
-    want: "done slot 0\n",
-};
+fn course_of(ended: Ended, want: &str, image: &[u8]) -> Course {
+    if ended.is_done(want) {
+        Course::Done
+    } else if ended.is_told(IN_THE_MIDST) {
+        Course::Midst
+    } else if !ended.is_told(READING) {
+        Course::Untold
+    } else if ended.into_volume().contents() == image {
+        Course::Before
+    } else {
+        Course::Changed
+    }
+}
 
-const REMOVE: Asked = Asked {
-    words: &[
-        "luks",
-        "remove",
-        "v",
-        "--slot=0",
-        "--passphrase=p",
-        "--random=r",
-    ],
-    want: "done\n",
-};
-
-const REPAIRED: Asked = Asked {
-    words: REPAIR,
-    want: "done\n",
-};
-
-const LABELLED: Asked = Asked {
-    words: LABEL_X,
-    want: "done\n",
-};
+/// A command that edits, and how it is answered.
+type Asked = (&'static str, &'static str);
 
 /// Whichever call fails it is told, and no byte changes before the edit begins; when none fails it is
 /// done. How many calls failed, and how many of these in the midst of the edit.
@@ -322,38 +305,38 @@ fn fails_at_each_call(
     asked: &Asked,
     leave: Leave,
 ) -> Result<(u64, u64), Fail> {
+    let (words, want) = *asked;
     let random = counted(alloc, 160)?;
-    let want = asked.want;
     let mut midst = 0u64;
     for call in 0..256 {
-        let ended = end_of(alloc, asked.words, image, &random, call, leave)?;
-        if ended.is_done(want) {
-            return Ok((call, midst));
-        }
-        let begun = ended.is_told(IN_THE_MIDST);
-        assert!(rt; begun || ended.is_told(READING), "{want}, call {call}");
-        assert!(rt; begun || midst == 0, "{want}, call {call}: the order");
-        let kept = ended.into_volume().contents() == image;
-        assert!(rt; begun || kept, "{want}, call {call}: the bytes");
-        if begun {
-            midst = midst.wrapping_add(1);
+        let ended = end_of(alloc, words, image, &random, call, leave)?;
+        match course_of(ended, want, image) {
+            Course::Done => return Ok((call, midst)),
+            Course::Midst => midst = midst.wrapping_add(1),
+            Course::Before => assert!(rt; midst == 0, "{words}, call {call}: the order"),
+            Course::Changed => assert!(rt; false, "{words}, call {call}: the bytes"),
+            Course::Untold => assert!(rt; false, "{words}, call {call}"),
         }
     }
     Ok((0, 0))
 }
 
-const OF_LUKS2: [Asked; 5] = [ADD, CHANGE, REMOVE, REPAIRED, LABELLED];
+static OF_LUKS2: [Asked; 5] = [
+    (ADD, "done slot 3\n"),
+    (CHANGE, "done slot 0\n"),
+    (REMOVE, "done\n"),
+    (REPAIR, "done\n"),
+    (LABEL, "done\n"),
+];
 
 #[test]
 fn luks2_volumes(rt: HostRuntime) -> Result<(), Fail> {
-    let alloc = rt.alloc();
-    let text = roomy_text(alloc, &[])?;
-    let image = roomy_luks2(alloc, text.as_str(), 1)?;
+    let text = roomy_text(rt.alloc(), &[])?;
+    let image = roomy_luks2(rt.alloc(), text.as_str(), 1)?;
     for asked in OF_LUKS2.iter() {
         for leave in [Leave::Old, Leave::New, Leave::Ones, Leave::Half] {
-            let (calls, midst) = fails_at_each_call(&rt, alloc, &image, asked, leave)?;
-            let want = asked.want;
-            assert!(rt; 0 < midst && midst < calls, "{want}: {midst} of {calls}");
+            let (calls, midst) = fails_at_each_call(&rt, rt.alloc(), &image, asked, leave)?;
+            assert!(rt; 0 < midst && midst < calls, "{midst} of {calls}");
         }
     }
     Ok(())
@@ -371,30 +354,41 @@ fn two_keyslots(alloc: Global) -> Result<Vec<u8>, Fail> {
     Ok(image)
 }
 
-const OF_LUKS1: [Asked; 3] = [
-    Asked {
-        want: "done slot 2\n",
-        ..ADD
-    },
-    Asked {
-        want: "done slot 2\n",
-        ..CHANGE
-    },
-    REMOVE,
+/// Edits, and whether a call in their midst is among them; a repair has none.
+static OF_LUKS1: [(Asked, bool); 4] = [
+    ((ADD, "done slot 2\n"), true),
+    ((CHANGE, "done slot 2\n"), true),
+    ((REMOVE, "done\n"), true),
+    ((REPAIR, "done\n"), false),
 ];
 
 #[test]
 fn luks1_volumes(rt: HostRuntime) -> Result<(), Fail> {
-    let alloc = rt.alloc();
-    let image = two_keyslots(alloc)?;
-    for asked in OF_LUKS1.iter() {
-        let (calls, midst) = fails_at_each_call(&rt, alloc, &image, asked, Leave::Half)?;
-        let want = asked.want;
-        assert!(rt; 0 < midst && midst < calls, "{want}: {midst} of {calls}");
+    let image = two_keyslots(rt.alloc())?;
+    for row in OF_LUKS1.iter() {
+        let (asked, edits) = *row;
+        let (calls, midst) = fails_at_each_call(&rt, rt.alloc(), &image, &asked, Leave::Half)?;
+        assert!(rt;
+            (0 < midst || !edits) && midst < calls,
+            "{midst} of {calls}"
+        );
     }
-    let (calls, midst) = fails_at_each_call(&rt, alloc, &image, &REPAIRED, Leave::Half)?;
-    assert!(rt; midst < calls, "repair: {midst} of {calls}");
     Ok(())
+}
+
+const BY_OLD: Turn = (OPEN_0, "one", "", "slot 0 opens\n", 0);
+
+const BY_NEW: Turn = (OPEN_0, "three", "", "slot 0 opens\n", 0);
+
+const OTHER: Turn = (OPEN_1, "one", "", "slot 1 opens\n", 0);
+
+/// Whether the old passphrase or the new one opens keyslot 0, and the old one keyslot 1.
+fn still_opens(alloc: Global, left: MemDevice) -> Result<bool, Fail> {
+    let mut files = files_of(left.contents().to_vec(alloc)?);
+    let by_old = answers(alloc, &BY_OLD, &mut files)?;
+    let by_new = answers(alloc, &BY_NEW, &mut files)?;
+    let other = answers(alloc, &OTHER, &mut files)?;
+    Ok((by_old || by_new) && other)
 }
 
 // In the midst of a change the old passphrase or the new one opens, and each other keyslot as before.
@@ -405,22 +399,23 @@ fn changed_keyslot(rt: HostRuntime) -> Result<(), Fail> {
     let text = roomy_text(alloc, &[])?;
     let image = roomy_luks2(alloc, text.as_str(), 1)?;
     for call in 0..256 {
-        let ended = end_of(alloc, CHANGE.words, &image, &random, call, Leave::Ones)?;
-        if ended.is_done(CHANGE.want) {
+        let ended = end_of(alloc, CHANGE, &image, &random, call, Leave::Ones)?;
+        if ended.is_done("done slot 0\n") {
             return Ok(());
         }
-        let left = ended.into_volume();
-        let mut files = files_of(left.contents().to_vec(alloc)?);
-        let by_old = answers(alloc, &(OPEN_0, "one", "", "slot 0 opens\n", 0), &mut files)?;
-        let by_new = answers(
-            alloc,
-            &(OPEN_0, "three", "", "slot 0 opens\n", 0),
-            &mut files,
-        )?;
-        assert!(rt; by_old || by_new, "call {call}");
-        let other = answers(alloc, &(OPEN_1, "one", "", "slot 1 opens\n", 0), &mut files)?;
-        assert!(rt; other, "call {call}: the other keyslot");
+        assert!(rt; still_opens(alloc, ended.into_volume())?, "call {call}");
     }
     assert!(rt; false, "never done");
+    Ok(())
+}
+
+// The first write of formatting fails.
+#[test]
+fn failing_format(rt: HostRuntime) -> Result<(), Fail> {
+    let random = vec![in rt.alloc(); 7u8; FORMAT1_RANDOM as usize]?;
+    let image = vec![in rt.alloc(); 0u8; 2097152]?;
+    let ended = end_of(rt.alloc(), FORMAT1, &image, &random, 0, Leave::Old)?;
+    let want = "luks: v: writing failed, part of it may be written\n";
+    assert!(rt; ended.is_told(want), "the first write");
     Ok(())
 }

@@ -1,25 +1,13 @@
 //! Metadata that a member which isn't known fills nearly: what an edit may add to it, and that each
 //! edit keeps such members.
-use crate::sessions::{RANDOM, bytes_of, counted, files_of, says};
+use crate::sessions::{Turn, taken};
+use crate::words::{ADD_BY_1, CHANGE_1, CHANGE_1_10000, LABEL, REMOVE_1, REPAIR};
 use luks_samples::{roomy_luks2, roomy_text};
 use std::alloc::{AllocError, Global};
 use std::test::Fail;
 
 /// The most bytes that metadata has in a JSON area of 12288 bytes, with the zero behind it.
 const FULL: usize = 12287;
-
-const ADD: &str = "luks add v --slot=1 --passphrase=p --new=n --random=r --iterations=1000";
-
-const CHANGE: &str = "luks change v --slot=1 --passphrase=p --new=n --random=r --iterations=1000";
-
-const CHANGE_10000: &str =
-    "luks change v --slot=1 --passphrase=p --new=n --random=r --iterations=10000";
-
-const REMOVE: &str = "luks remove v --slot=1 --passphrase=p --random=r";
-
-const REPAIR: &str = "luks repair v --random=r";
-
-const LABEL: &str = "luks label v x --random=r";
 
 /// The metadata with a member `pad` of the configuration, which makes it as long as this.
 fn padded(alloc: Global, len: usize) -> Result<(String, String), AllocError> {
@@ -53,26 +41,40 @@ fn text_at(image: &[u8], at: usize) -> &str {
 /// How many bytes a keyslot of one digit takes in the metadata, with its name in its digest.
 const ADDED: usize = 299;
 
-/// The commands, how long the metadata is before and after, what is printed, and the exit status. The
-/// changed keyslot's area begins at 45056 in the place of 36864, which has as many digits, and 10000
-/// iterations have one more than 1000.
-const ROWS: [(&str, usize, usize, &str, u8); 10] = [
-    (ADD, FULL - ADDED, FULL, "done slot 3\n", 0),
+/// The command, how long the metadata is before and after, and what is answered. The changed keyslot's
+/// area begins at 45056 in the place of 36864, which has as many digits, and 10000 iterations have one
+/// more than 1000.
+static ROWS: [(usize, usize, &[Turn]); 10] = [
     (
-        ADD,
-        FULL - ADDED + 1,
-        FULL - ADDED + 1,
-        "refused MetadataFull\n",
-        1,
+        FULL - ADDED,
+        FULL,
+        &[(ADD_BY_1, "one", "two", "done slot 3\n", 0)],
     ),
-    (ADD, FULL, FULL, "refused MetadataFull\n", 1),
-    (CHANGE, FULL, FULL, "done slot 1\n", 0),
-    (CHANGE_10000, FULL - 1, FULL, "done slot 1\n", 0),
-    (CHANGE_10000, FULL, FULL, "refused MetadataFull\n", 1),
-    (REMOVE, FULL, FULL - ADDED, "done\n", 0),
-    (REPAIR, FULL, FULL, "done\n", 0),
-    (LABEL, FULL, FULL, "done\n", 0),
-    (LABEL, FULL - 1, FULL - 1, "done\n", 0),
+    (
+        FULL - ADDED + 1,
+        FULL - ADDED + 1,
+        &[(ADD_BY_1, "one", "two", "refused MetadataFull\n", 1)],
+    ),
+    (
+        FULL,
+        FULL,
+        &[(ADD_BY_1, "one", "two", "refused MetadataFull\n", 1)],
+    ),
+    (FULL, FULL, &[(CHANGE_1, "one", "two", "done slot 1\n", 0)]),
+    (
+        FULL - 1,
+        FULL,
+        &[(CHANGE_1_10000, "one", "two", "done slot 1\n", 0)],
+    ),
+    (
+        FULL,
+        FULL,
+        &[(CHANGE_1_10000, "one", "two", "refused MetadataFull\n", 1)],
+    ),
+    (FULL, FULL - ADDED, &[(REMOVE_1, "one", "two", "done\n", 0)]),
+    (FULL, FULL, &[(REPAIR, "one", "two", "done\n", 0)]),
+    (FULL, FULL, &[(LABEL, "one", "two", "done\n", 0)]),
+    (FULL - 1, FULL - 1, &[(LABEL, "one", "two", "done\n", 0)]),
 ];
 
 /// Whether the copy has metadata of this length, with that member.
@@ -84,26 +86,19 @@ fn has(image: &[u8], at: usize, len: usize, pad: &str) -> bool {
 #[test]
 fn lengths(rt: HostRuntime) -> Result<(), Fail> {
     let alloc = rt.alloc();
-    let random = counted(alloc, RANDOM)?;
-    for (words, before, after, want, status) in ROWS {
+    for (i, row) in ROWS.iter().enumerate() {
+        let (before, after, turns) = *row;
         let (pad, text) = padded(alloc, before)?;
-        let mut files = files_of(roomy_luks2(alloc, text.as_str(), 1)?);
-        assert!(rt; has(bytes_of(&files), 0, before, pad.as_str()), "{before}");
-        files.passphrase = Ok(b"one");
-        files.new_passphrase = Ok(b"two");
-        files.random = Ok(random.as_slice());
+        let image = roomy_luks2(alloc, text.as_str(), 1)?;
+        assert!(rt; has(&image, 0, before, pad.as_str()), "row {i}: before");
+        let left = taken(&rt, alloc, image, turns)?;
         assert!(rt;
-            says(alloc, words, want, status, &mut files)?,
-            "{words}: {want}"
-        );
-        let left = bytes_of(&files);
-        assert!(rt;
-            has(left, 0, after, pad.as_str()),
-            "{words}: the first copy"
+            has(&left, 0, after, pad.as_str()),
+            "row {i}: the first copy"
         );
         assert!(rt;
-            has(left, 16384, after, pad.as_str()),
-            "{words}: the second"
+            has(&left, 16384, after, pad.as_str()),
+            "row {i}: the second"
         );
     }
     Ok(())

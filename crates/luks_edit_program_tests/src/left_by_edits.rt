@@ -1,7 +1,12 @@
 //! What the commands that edit leave of new LUKS2 volumes, byte for byte. The sums are those that
 //! `testdata/oracle/edit_scripts` prints of its scripts.
-use crate::sessions::{Files, NO_FILE, bytes_of, files_of, says};
-use luks_samples::{Edit, LUKS2, copy_of, edited, is_sum, put_copy};
+use crate::editing_luks2::rewrite;
+use crate::sessions::{Turn, answers, bytes_of, files_of, text_of};
+use crate::words::{
+    ADD, ADD_999, ADD_DETACHED, CHANGE, FORMAT, FORMAT_DETACHED, LABEL, REMOVE, REMOVE_1, REPAIR,
+};
+use luks_samples::{Edit, LUKS2, edited};
+use luks_test_devices::{counted, is_sum};
 use std::alloc::{AllocError, Global};
 use std::process::Abort;
 use std::test::Fail;
@@ -13,6 +18,7 @@ const KEPT: usize = 1048576;
 const FULL: usize = 12287;
 
 /// A command, and what is owed to it.
+#[derive(Clone, Copy)]
 struct Step {
     /// What is edited of the metadata before: where it is, both copies are written anew.
     edits: &'static [Edit],
@@ -27,6 +33,7 @@ struct Step {
 }
 
 /// A new volume, and commands in turn.
+#[derive(Clone, Copy)]
 struct Script {
     /// How it is formatted.
     words: &'static str,
@@ -34,28 +41,6 @@ struct Script {
     len: usize,
     steps: &'static [Step],
 }
-
-const FORMAT: &str = "luks format v --passphrase=p --random=r --iterations=1000";
-
-const FORMAT_DETACHED: &str =
-    "luks format v --passphrase=p --random=r --iterations=1000 --detached";
-
-const ADD: &str = "luks add v --slot=0 --passphrase=p --new=n --random=r --iterations=1000";
-
-const ADD_999: &str = "luks add v --slot=0 --passphrase=p --new=n --random=r --iterations=999";
-
-const ADD_DETACHED: &str =
-    "luks add v --slot=0 --passphrase=p --new=n --random=r --iterations=1000 --detached";
-
-const CHANGE: &str = "luks change v --slot=0 --passphrase=p --new=n --random=r --iterations=1000";
-
-const REMOVE_0: &str = "luks remove v --slot=0 --passphrase=p --random=r";
-
-const REMOVE_1: &str = "luks remove v --slot=1 --passphrase=p --random=r";
-
-const REPAIR: &str = "luks repair v --random=r";
-
-const LABEL: &str = "luks label v x --random=r";
 
 const NEW: &str = "48296eda1bb5b6cad161f3bbbd706a7cba7b6b3212abb547107d11c47876a7b2";
 
@@ -97,7 +82,7 @@ const ADDED_AND_REMOVED: &[Step] = &[
     },
     Step {
         edits: &[],
-        words: REMOVE_0,
+        words: REMOVE,
         passphrase: "one",
         random: (6, 129),
         answer: ("done\n", 0),
@@ -182,7 +167,7 @@ const PAD: &[Step] = &[
     },
 ];
 
-const SCRIPTS: [Script; 5] = [
+static SCRIPTS: [Script; 5] = [
     Script {
         words: FORMAT,
         len: LUKS2,
@@ -210,15 +195,6 @@ const SCRIPTS: [Script; 5] = [
     },
 ];
 
-/// Bytes that count up from the number on, modulo 251.
-fn counted_from(alloc: Global, from: usize, len: usize) -> Result<Vec<u8>, AllocError> {
-    let mut bytes = vec![in alloc; 0u8; len]?;
-    for (i, byte) in bytes.iter_mut().enumerate() {
-        *byte = (i.wrapping_add(from) % 251) as u8;
-    }
-    Ok(bytes)
-}
-
 /// The text, in which an empty member `pad` is filled until the text is full.
 fn filled(alloc: Global, text: &str) -> Result<String, AllocError> {
     let Some((before, after)) = text.split_once(r#""pad":"""#) else {
@@ -234,73 +210,68 @@ fn filled(alloc: Global, text: &str) -> Result<String, AllocError> {
     Ok(filled)
 }
 
-/// The metadata of the first copy.
-fn text_of(image: &[u8]) -> &str {
-    match image.get(4096..16384) {
-        Some(area) => match area.split(|byte| *byte == 0).next() {
-            Some(text) => str::from_utf8(text).unwrap_or_default(),
-            None => "",
-        },
-        None => "",
+/// The volume, both of its copies written anew with the metadata edited so.
+fn rewritten(alloc: Global, image: Vec<u8>, edits: &[Edit]) -> Result<Vec<u8>, AllocError> {
+    let mut image = image;
+    if !edits.is_empty() {
+        let text = edited(alloc, text_of(&image), edits)?;
+        let text = filled(alloc, text.as_str())?;
+        rewrite(&mut image, text.as_str());
     }
+    Ok(image)
 }
 
-/// Writes both copies anew with the metadata edited so.
-fn rewrite(alloc: Global, files: &mut Files<'_>, edits: &[Edit]) -> Result<(), AllocError> {
-    let mut image = bytes_of(files).to_vec(alloc)?;
-    let text = edited(alloc, text_of(&image), edits)?;
-    let text = filled(alloc, text.as_str())?;
-    let mut copy = copy_of(text.as_str());
-    copy.uuid = b"00010203-0405-4607-8809-0a0b0c0d0e0f";
-    for byte in image.iter_mut().take(32768) {
-        *byte = 0;
-    }
-    put_copy(&mut image, 0, &copy);
-    put_copy(&mut image, 16384, &copy);
-    *files = files_of(image);
-    Ok(())
-}
-
-/// The new volume of a script.
-fn new_files<'a>(alloc: Global, script: &Script) -> Result<(bool, Files<'a>), Fail> {
-    let random = counted_from(alloc, 0, 256208)?;
-    let mut files = files_of(vec![in alloc; 0u8; LUKS2]?);
-    files.passphrase = Ok(b"one".as_slice());
+/// Whether the turn is answered so over this volume, with the random bytes that are counted from this
+/// number on; and the volume that is left.
+fn left_by(
+    alloc: Global,
+    image: Vec<u8>,
+    random: (usize, usize),
+    turn: &Turn,
+) -> Result<(bool, Vec<u8>), Fail> {
+    let (from, len) = random;
+    let random = counted(alloc, from, len)?;
+    let mut files = files_of(image);
     files.random = Ok(random.as_slice());
-    let made = says(alloc, script.words, "done slot 0\n", 0, &mut files)?;
-    let mut image = bytes_of(&files).to_vec(alloc)?;
-    image.truncate(script.len);
-    Ok((made, files_of(image)))
+    let held = answers(alloc, turn, &mut files)?;
+    Ok((held, bytes_of(&files).to_vec(alloc)?))
 }
 
-/// Whether the command is answered what is owed to it, and leaves the bytes of that sum.
-fn takes(alloc: Global, files: &mut Files<'_>, step: &Step) -> Result<bool, Fail> {
-    if !step.edits.is_empty() {
-        rewrite(alloc, files, step.edits)?;
-    }
-    let (from, len) = step.random;
-    let random = counted_from(alloc, from, len)?;
-    let mut given = files_of(bytes_of(files).to_vec(alloc)?);
-    given.passphrase = Ok(step.passphrase.as_bytes());
-    given.new_passphrase = Ok(b"two");
-    given.random = Ok(random.as_slice());
-    let (want, status) = step.answer;
-    let held = says(alloc, step.words, want, status, &mut given)?;
-    let left = bytes_of(&given);
-    let part = left.get(..KEPT).unwrap_or(left);
-    *files = files_of(left.to_vec(alloc)?);
-    Ok(held && is_sum(part, step.sum))
+/// Whether the command is answered what is owed to it, and leaves the bytes of that sum; and the volume
+/// that is left.
+fn takes(alloc: Global, image: Vec<u8>, step: &Step) -> Result<(bool, Vec<u8>), Fail> {
+    let Step {
+        edits,
+        words,
+        passphrase,
+        random,
+        answer,
+        sum,
+    } = *step;
+    let (want, status) = answer;
+    let image = rewritten(alloc, image, edits)?;
+    let (held, left) = left_by(
+        alloc,
+        image,
+        random,
+        &(words, passphrase, "two", want, status),
+    )?;
+    let part = left.get(..KEPT).unwrap_or(left.as_slice());
+    let same = is_sum(part, sum);
+    Ok((held && same, left))
 }
 
 fn compare(rt: &impl Abort, alloc: Global, number: usize, script: &Script) -> Result<(), Fail> {
-    let (made, mut files) = new_files(alloc, script)?;
-    assert!(rt; made, "script {number}: the volume");
-    files.random = NO_FILE;
-    for (i, step) in script.steps.iter().enumerate() {
-        assert!(rt;
-            takes(alloc, &mut files, step)?,
-            "script {number}, step {i}"
-        );
+    let Script { words, len, steps } = *script;
+    let new = vec![in alloc; 0u8; LUKS2]?;
+    let made = (words, "one", "", "done slot 0\n", 0);
+    let (held, mut image) = left_by(alloc, new, (0, 256208), &made)?;
+    assert!(rt; held, "script {number}: the volume");
+    image.truncate(len);
+    for (i, step) in steps.iter().enumerate() {
+        let (held, left) = takes(alloc, image, step)?;
+        assert!(rt; held, "script {number}, step {i}");
+        image = left;
     }
     Ok(())
 }

@@ -3,6 +3,12 @@
 #![tactic(auto)]
 
 #[cfg(test)]
+mod argon2_edits;
+#[cfg(test)]
+mod argon2_memory;
+#[cfg(test)]
+mod argon2_sums;
+#[cfg(test)]
 mod editing_luks1;
 #[cfg(test)]
 mod editing_luks2;
@@ -13,14 +19,16 @@ mod formatting;
 #[cfg(test)]
 mod full_metadata;
 #[cfg(test)]
+mod iterations;
+#[cfg(test)]
 mod left_by_edits;
 #[cfg(test)]
 mod new_passphrases;
-#[cfg(test)]
-mod recording;
 #[cfg(test)]
 mod refused_edits;
 #[cfg(test)]
 mod sessions;
 #[cfg(test)]
 mod small_sessions;
+#[cfg(test)]
+mod words;

@@ -1,27 +1,17 @@
 //! The file of the new passphrase, and the order in which a command that edits reads its files.
-use crate::sessions::{ADD_BY_0, Files, RANDOM, bytes_of, counted, files_of};
-use luks_cli::{CountingPrinter, InputFault, Reason, execute};
-use luks_line::line;
-use luks_samples::{OPEN_3, roomy_luks2, roomy_text};
+use crate::sessions::{Files, RANDOM, Turn, bytes_of, counted, files_of, taken};
+use crate::words::{ADD, CHANGE_1, OPEN_3};
+use luks_cli::{InputFault, Reason};
+use luks_samples::{roomy_luks2, roomy_text};
+use luks_sessions::run;
 use std::alloc::Global;
 use std::test::Fail;
-
-const CHANGE_1: &[&str] = &[
-    "luks",
-    "change",
-    "v",
-    "--slot=1",
-    "--passphrase=p",
-    "--new=n",
-    "--random=r",
-    "--iterations=1000",
-];
 
 /// The most bytes that a passphrase has.
 const MOST: usize = 65536;
 
 /// What a file is.
-#[derive(Debug, Clone, Copy)]
+#[derive(Clone, Copy)]
 enum File {
     /// It has the passphrase `one`.
     One,
@@ -55,7 +45,17 @@ impl File {
 
 /// The files of the passphrase and of the new one, why the volume and the random bytes can't be read
 /// where they can't, what is printed on standard output and on standard error, and the exit status.
-const ROWS: [(File, File, Option<File>, Option<File>, &str, &str, u8); 17] = [
+type Row = (
+    File,
+    File,
+    Option<File>,
+    Option<File>,
+    &'static str,
+    &'static str,
+    u8,
+);
+
+static ROWS: [Row; 17] = [
     (
         File::TooLong,
         MISSING,
@@ -197,7 +197,7 @@ const ROWS: [(File, File, Option<File>, Option<File>, &str, &str, u8); 17] = [
         None,
         Some(ABSENT),
         "refused RandomLength\n",
-        "",
+        "luks: 160 random bytes are needed, r has 0\n",
         1,
     ),
     (
@@ -211,17 +211,40 @@ const ROWS: [(File, File, Option<File>, Option<File>, &str, &str, u8); 17] = [
     ),
 ];
 
-/// What the words print over the files, on standard output and on standard error, and their status.
-fn told(
+/// The files of a row over this volume, `long` being one more byte than a passphrase may have.
+fn files_of_row<'a>(
     alloc: Global,
-    words: &[&str],
+    image: &[u8],
+    long: &'a [u8],
+    random: &'a [u8],
+    row: &Row,
+) -> Result<Files<'a>, Fail> {
+    let (old, new, volume, taken, _, _, _) = *row;
+    let mut files = files_of(image.to_vec(alloc)?);
+    files.passphrase = old.reader(long);
+    files.new_passphrase = new.reader(long);
+    files.random = match taken {
+        Some(file) => file.reader(long),
+        None => Ok(random),
+    };
+    if let Some(File::Not(fault)) = volume {
+        files.volume = Err(fault);
+    }
+    Ok(files)
+}
+
+/// Whether the words are answered what is owed to the row over these files, and leave the volume as it
+/// is.
+fn holds(
+    alloc: Global,
+    words: &str,
     files: &mut Files<'_>,
-) -> Result<(Vec<u8>, Vec<u8>, u8), Fail> {
-    let line = line(alloc, words)?;
-    let mut out = CountingPrinter::new(Vec::new(alloc));
-    let mut err = Vec::new(alloc);
-    let status = execute(alloc, &line, files, &mut out, &mut err);
-    Ok((out.writer, err, status))
+    image: &[u8],
+    row: &Row,
+) -> Result<bool, Fail> {
+    let (_, _, _, _, answer, lines, status) = *row;
+    let said = run(alloc, words, files)?.says(answer, lines, status);
+    Ok(said && (files.volume.is_err() || bytes_of(files) == image))
 }
 
 #[test]
@@ -231,47 +254,47 @@ fn order_of_the_files(rt: HostRuntime) -> Result<(), Fail> {
     let random = counted(alloc, RANDOM)?;
     let text = roomy_text(alloc, &[])?;
     let image = roomy_luks2(alloc, text.as_str(), 1)?;
-    for words in [ADD_BY_0, CHANGE_1] {
-        for (i, row) in ROWS.iter().enumerate() {
-            let (old, new, volume, taken, answer, lines, status) = *row;
-            let mut files = files_of(image.to_vec(alloc)?);
-            files.passphrase = old.reader(&long);
-            files.new_passphrase = new.reader(&long);
-            files.random = match taken {
-                Some(file) => file.reader(&long),
-                None => Ok(random.as_slice()),
-            };
-            if let Some(File::Not(fault)) = volume {
-                files.volume = Err(fault);
-            }
-            let (out, err, found) = told(alloc, words, &mut files)?;
-            assert!(rt; found == status, "row {i}: the status");
-            assert!(rt; out.as_slice() == answer.as_bytes(), "row {i}: {answer}");
-            assert!(rt; err.as_slice() == lines.as_bytes(), "row {i}: {lines}");
-            let kept = files.volume.is_err() || bytes_of(&files) == image.as_slice();
-            assert!(rt; kept, "row {i}: the bytes");
+    for (i, row) in ROWS.iter().enumerate() {
+        for words in [ADD, CHANGE_1] {
+            let mut files = files_of_row(alloc, &image, &long, &random, row)?;
+            assert!(rt;
+                holds(alloc, words, &mut files, &image, row)?,
+                "row {i}: {words}"
+            );
         }
     }
     Ok(())
 }
 
-// The longest passphrase becomes the new one and opens its keyslot; one of no byte does too.
+/// Adds a keyslot, and opens it.
+static ADDED: [Turn; 2] = [
+    (ADD, "one", "", "done slot 3\n", 0),
+    (OPEN_3, "", "", "slot 3 opens\n", 0),
+];
+
 #[test]
-fn lengths(rt: HostRuntime) -> Result<(), Fail> {
+fn no_byte(rt: HostRuntime) -> Result<(), Fail> {
+    let text = roomy_text(rt.alloc(), &[])?;
+    let image = roomy_luks2(rt.alloc(), text.as_str(), 1)?;
+    let _left = taken(&rt, rt.alloc(), image, &ADDED)?;
+    Ok(())
+}
+
+// The longest passphrase becomes the new one and opens its keyslot.
+#[test]
+fn longest(rt: HostRuntime) -> Result<(), Fail> {
     let alloc = rt.alloc();
     let longest = vec![in alloc; b'x'; MOST]?;
     let random = counted(alloc, RANDOM)?;
     let text = roomy_text(alloc, &[])?;
-    for new in [longest.as_slice(), b"".as_slice()] {
-        let mut files = files_of(roomy_luks2(alloc, text.as_str(), 1)?);
-        files.passphrase = Ok(b"one");
-        files.new_passphrase = Ok(new);
-        files.random = Ok(random.as_slice());
-        let (out, _, _) = told(alloc, ADD_BY_0, &mut files)?;
-        assert!(rt; out.as_slice() == b"done slot 3\n".as_slice(), "add");
-        files.passphrase = Ok(new);
-        let (out, _, _) = told(alloc, OPEN_3, &mut files)?;
-        assert!(rt; out.as_slice() == b"slot 3 opens\n".as_slice(), "open");
-    }
+    let mut files = files_of(roomy_luks2(alloc, text.as_str(), 1)?);
+    files.passphrase = Ok(b"one");
+    files.new_passphrase = Ok(longest.as_slice());
+    files.random = Ok(random.as_slice());
+    let added = run(alloc, ADD, &mut files)?;
+    assert!(rt; added.is("done slot 3\n", 0), "add");
+    files.passphrase = Ok(longest.as_slice());
+    let opened = run(alloc, OPEN_3, &mut files)?;
+    assert!(rt; opened.is("slot 3 opens\n", 0), "open");
     Ok(())
 }

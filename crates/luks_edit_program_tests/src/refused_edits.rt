@@ -1,78 +1,33 @@
 //! What refuses an edit, for each command that edits: the line, the status, and that no byte is changed.
-use crate::sessions::{RANDOM, bytes_of, counted, files_of, says};
+use crate::sessions::{RANDOM, answers, bytes_of, counted, files_of};
+use crate::words::{
+    ADD, ADD_999, ADD_BY_3, ADD_BY_3_TO_0, ADD_FEWEST, ADD_TO_0, ADD_TO_1, ADD_TO_8, ADD_TO_31,
+    BARE_REMOVE, BARE_REPAIR, CHANGE, CHANGE_3, CHANGE_999, LABEL, LABEL_48, LABEL_E, REMOVE,
+    REMOVE_3, REMOVE_31, REPAIR,
+};
 use luks_samples::{Change, Edit, opening_luks1, overwrite, roomy_luks2, roomy_text};
+use luks_sessions::run;
 use std::alloc::Global;
 use std::process::Abort;
 use std::test::Fail;
 
-const ADD: &str = "luks add v --slot=0 --passphrase=p --new=n --random=r --iterations=1000";
-
-const CHANGE: &str = "luks change v --slot=0 --passphrase=p --new=n --random=r --iterations=1000";
-
-const REMOVE: &str = "luks remove v --slot=0 --passphrase=p --random=r";
-
-const REPAIR: &str = "luks repair v --random=r";
-
-const LABEL: &str = "luks label v x --random=r";
-
-const LABEL_48: &str = "luks label v 123456789012345678901234567890123456789012345678 --random=r";
-
-const ADD_TO_0: &str =
-    "luks add v --slot=0 --passphrase=p --new=n --random=r --iterations=1000 --to=0";
-
-const ADD_TO_1: &str =
-    "luks add v --slot=0 --passphrase=p --new=n --random=r --iterations=1000 --to=1";
-
-const ADD_TO_8: &str =
-    "luks add v --slot=0 --passphrase=p --new=n --random=r --iterations=1000 --to=8";
-
-const ADD_TO_31: &str =
-    "luks add v --slot=0 --passphrase=p --new=n --random=r --iterations=1000 --to=31";
-
-const ADD_BY_3: &str = "luks add v --slot=3 --passphrase=p --new=n --random=r --iterations=1000";
-
-const ADD_BY_3_TO_0: &str =
-    "luks add v --slot=3 --passphrase=p --new=n --random=r --iterations=1000 --to=0";
-
-const CHANGE_3: &str = "luks change v --slot=3 --passphrase=p --new=n --random=r --iterations=1000";
-
-const REMOVE_3: &str = "luks remove v --slot=3 --passphrase=p --random=r";
-
-const REMOVE_31: &str = "luks remove v --slot=31 --passphrase=p --random=r";
-
-const ADD_999: &str = "luks add v --slot=0 --passphrase=p --new=n --random=r --iterations=999";
-
-const ADD_FEWEST: &str = "luks add v --slot=0 --passphrase=p --new=n --random=r --iterations=0";
-
-const CHANGE_999: &str =
-    "luks change v --slot=0 --passphrase=p --new=n --random=r --iterations=999";
-
-/// A volume, the bytes of the passphrase, as many random bytes, a command, and how it is refused.
-#[derive(Drop)]
-struct Row<'a> {
+/// Asserts that over this volume the command is refused so, the new passphrase being `two`, with as
+/// many random bytes, and leaves every byte as it was.
+fn compare(
+    rt: &impl Abort,
+    alloc: Global,
     image: Vec<u8>,
-    passphrase: &'a str,
     random: usize,
-    words: &'a str,
-    want: &'a str,
-}
-
-/// Asserts that the command is refused so, and leaves every byte as it was.
-fn compare(rt: &impl Abort, alloc: Global, row: Row<'_>) -> Result<(), Fail> {
-    let Row {
-        image,
-        passphrase,
-        random,
-        words,
-        want,
-    } = row;
+    words: &'static str,
+    passphrase: &'static str,
+    want: &'static str,
+) -> Result<(), Fail> {
     let before = image.to_vec(alloc)?;
     let random = counted(alloc, random)?;
     let mut files = files_of(image);
-    files.passphrase = Ok(passphrase.as_bytes());
-    files.new_passphrase = Ok(b"two");
     files.random = Ok(random.as_slice());
-    assert!(rt; says(alloc, words, want, 1, &mut files)?, "{words}: {want}");
+    let held = answers(alloc, &(words, passphrase, "two", want, 1), &mut files)?;
+    assert!(rt; held, "{words}: {want}");
     assert!(rt; bytes_of(&files) == before.as_slice(), "{words}: the bytes");
     Ok(())
 }
@@ -140,7 +95,7 @@ const ALONE: &[Edit] = &[
 
 /// What is edited of the metadata of the volume of three keyslots, the command, the passphrase, and
 /// the refusal: the first in the order of their table that needs no keyslot opened, else the first.
-const LUKS2: [(&[Edit], &str, &str, &str); 47] = [
+static LUKS2: [(&[Edit], &str, &str, &str); 47] = [
     (&[OVERLAP], ADD, "one", "refused Overlap(Slot(0),Slot(1))\n"),
     (
         &[OVERLAP],
@@ -207,33 +162,23 @@ const LUKS2: [(&[Edit], &str, &str, &str); 47] = [
     (&[], ADD_FEWEST, "one", "refused Iterations\n"),
     (&[], CHANGE_999, "one", "refused Iterations\n"),
     (&[], LABEL_48, "", "refused BadLabel\n"),
-    (
-        &[],
-        "luks label v \u{e9} --random=r",
-        "",
-        "refused BadLabel\n",
-    ),
+    (&[], LABEL_E, "", "refused BadLabel\n"),
 ];
 
 #[test]
 fn edits_of_luks2(rt: HostRuntime) -> Result<(), Fail> {
     let alloc = rt.alloc();
-    for (edits, words, passphrase, want) in LUKS2 {
+    for row in LUKS2.iter() {
+        let (edits, words, passphrase, want) = *row;
         let text = roomy_text(alloc, edits)?;
-        let row = Row {
-            image: roomy_luks2(alloc, text.as_str(), 1)?,
-            passphrase,
-            random: RANDOM,
-            words,
-            want,
-        };
-        compare(&rt, alloc, row)?;
+        let image = roomy_luks2(alloc, text.as_str(), 1)?;
+        compare(&rt, alloc, image, RANDOM, words, passphrase, want)?;
     }
     Ok(())
 }
 
 /// The commands, and how they are refused where the sequence number is the last one.
-const LAST: [(&str, &str); 8] = [
+static LAST: [(&str, &str); 8] = [
     (ADD, "refused SeqExhausted\n"),
     (CHANGE, "refused SeqExhausted\n"),
     (REMOVE, "refused SeqExhausted\n"),
@@ -248,50 +193,71 @@ const LAST: [(&str, &str); 8] = [
 fn last_sequence_number(rt: HostRuntime) -> Result<(), Fail> {
     let alloc = rt.alloc();
     let text = roomy_text(alloc, &[])?;
-    for (words, want) in LAST {
-        let row = Row {
-            image: roomy_luks2(alloc, text.as_str(), 18446744073709551615)?,
-            passphrase: "one",
-            random: 0,
-            words,
-            want,
-        };
-        compare(&rt, alloc, row)?;
+    for row in LAST.iter() {
+        let (words, want) = *row;
+        let image = roomy_luks2(alloc, text.as_str(), 18446744073709551615)?;
+        compare(&rt, alloc, image, 0, words, "one", want)?;
     }
     Ok(())
 }
 
-/// The commands, and one random byte fewer than they take: 128 for the copies' salts, and 32 for the
-/// salt of a keyslot, of which one stripe takes none.
-const SHORT_OF_ONE: [(&str, usize); 6] = [
-    (ADD, 159),
-    (CHANGE, 159),
-    (REMOVE, 127),
-    (REPAIR, 127),
-    (LABEL, 127),
-    (LABEL, 0),
+/// The commands, how many random bytes there are, and the line on standard error. They take 128 for
+/// the copies' salts, and 32 for the salt of a keyslot, of which one stripe takes none.
+static FEW: &[(&str, usize, &str)] = &[
+    (ADD, 159, "luks: 160 random bytes are needed, r has 159\n"),
+    (
+        CHANGE,
+        159,
+        "luks: 160 random bytes are needed, r has 159\n",
+    ),
+    (
+        REMOVE,
+        127,
+        "luks: 128 random bytes are needed, r has 127\n",
+    ),
+    (
+        REPAIR,
+        127,
+        "luks: 128 random bytes are needed, r has 127\n",
+    ),
+    (LABEL, 0, "luks: 128 random bytes are needed, r has 0\n"),
+    (
+        BARE_REMOVE,
+        0,
+        "luks: 128 random bytes are needed: --random /dev/urandom\n",
+    ),
+    (
+        BARE_REPAIR,
+        0,
+        "luks: 128 random bytes are needed: --random /dev/urandom\n",
+    ),
 ];
 
 #[test]
 fn too_few_random_bytes(rt: HostRuntime) -> Result<(), Fail> {
     let alloc = rt.alloc();
     let text = roomy_text(alloc, &[])?;
-    for (words, random) in SHORT_OF_ONE {
-        let row = Row {
-            image: roomy_luks2(alloc, text.as_str(), 1)?,
-            passphrase: "one",
-            random,
-            words,
-            want: "refused RandomLength\n",
-        };
-        compare(&rt, alloc, row)?;
+    let image = roomy_luks2(alloc, text.as_str(), 1)?;
+    for row in FEW.iter() {
+        let (words, random, lines) = *row;
+        let random = counted(alloc, random)?;
+        let mut files = files_of(image.to_vec(alloc)?);
+        files.passphrase = Ok(b"one");
+        files.new_passphrase = Ok(b"two");
+        files.random = Ok(random.as_slice());
+        let refused = run(alloc, words, &mut files)?;
+        assert!(rt;
+            refused.says("refused RandomLength\n", lines, 1),
+            "{words}: {lines}"
+        );
+        assert!(rt; bytes_of(&files) == image.as_slice(), "{words}: the bytes");
     }
     Ok(())
 }
 
 /// What is changed of the LUKS1 volume, the command, the passphrase, as many random bytes, and the
 /// refusal. A new keyslot takes 32 bytes for its salt and 3999 stripes of 64.
-const LUKS1: [(&[Change], &str, &str, usize, &str); 36] = [
+static LUKS1: [(&[Change], &str, &str, usize, &str); 36] = [
     (&[(352, &[1])], ADD, "one", RANDOM, "refused SlotState(3)\n"),
     (
         &[(296, &[0, 0, 0, 8])],
@@ -357,17 +323,11 @@ const LUKS1: [(&[Change], &str, &str, usize, &str); 36] = [
 #[test]
 fn edits_of_luks1(rt: HostRuntime) -> Result<(), Fail> {
     let alloc = rt.alloc();
-    for (changes, words, passphrase, random, want) in LUKS1 {
+    for row in LUKS1.iter() {
+        let (changes, words, passphrase, random, want) = *row;
         let mut image = opening_luks1(alloc)?;
         overwrite(&mut image, changes);
-        let row = Row {
-            image,
-            passphrase,
-            random,
-            words,
-            want,
-        };
-        compare(&rt, alloc, row)?;
+        compare(&rt, alloc, image, random, words, passphrase, want)?;
     }
     Ok(())
 }

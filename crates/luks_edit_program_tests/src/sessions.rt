@@ -1,23 +1,14 @@
 //! Commands over one volume, one after another.
-use luks_cli::{CountingPrinter, InputFault, Inputs, execute};
-use luks_line::line;
+use luks_cli::{InputFault, Inputs};
+use luks_sessions::{NO_FILE, run};
 use luks_volume::MemDevice;
 use std::alloc::{AllocError, Global};
 use std::process::Abort;
 use std::test::Fail;
 
-/// A command, the bytes of its passphrase and of the new one, and what is owed to it: what is printed,
-/// and the exit status.
-pub type Turn = (
-    &'static [&'static str],
-    &'static str,
-    &'static str,
-    &'static str,
-    u8,
-);
-
-/// A file that the command line doesn't name.
-pub const NO_FILE: Result<&[u8], InputFault> = Err(InputFault::Absent);
+/// A command, its words parted by single spaces, the bytes of its passphrase and of the new one, and
+/// what is owed to it: what is printed, and the exit status.
+pub type Turn = (&'static str, &'static str, &'static str, &'static str, u8);
 
 /// The files of a session.
 pub type Files<'a> = Inputs<MemDevice, &'a [u8], &'a [u8]>;
@@ -52,31 +43,7 @@ pub fn answers(alloc: Global, turn: &Turn, files: &mut Files<'_>) -> Result<bool
     let (words, passphrase, new, want, status) = *turn;
     files.passphrase = Ok(passphrase.as_bytes());
     files.new_passphrase = Ok(new.as_bytes());
-    let line = line(alloc, words)?;
-    let mut out = CountingPrinter::new(Vec::new(alloc));
-    let mut err = Vec::new(alloc);
-    let found = execute(alloc, &line, files, &mut out, &mut err);
-    Ok(found == status && out.writer.as_slice() == want.as_bytes())
-}
-
-/// Whether the command of these words, which single spaces part, prints what is owed over these files,
-/// and answers the status.
-pub fn says(
-    alloc: Global,
-    words: &str,
-    want: &str,
-    status: u8,
-    files: &mut Files<'_>,
-) -> Result<bool, Fail> {
-    let mut parts = Vec::new(alloc);
-    for word in words.split(' ') {
-        parts.push(word)?;
-    }
-    let line = line(alloc, parts.as_slice())?;
-    let mut out = CountingPrinter::new(Vec::new(alloc));
-    let mut err = Vec::new(alloc);
-    let found = execute(alloc, &line, files, &mut out, &mut err);
-    Ok(found == status && out.writer.as_slice() == want.as_bytes())
+    Ok(run(alloc, words, files)?.is(want, status))
 }
 
 /// Asserts that each command is answered what is owed to it, each with the same random bytes.
@@ -97,6 +64,19 @@ pub fn take_turns<'a>(
     Ok(())
 }
 
+/// Asserts that of this volume each command is answered what is owed to it; the volume that is left.
+pub fn taken(
+    rt: &impl Abort,
+    alloc: Global,
+    image: Vec<u8>,
+    turns: &[Turn],
+) -> Result<Vec<u8>, Fail> {
+    let random = counted(alloc, RANDOM)?;
+    let mut files = files_of(image);
+    take_turns(rt, alloc, &mut files, &random, turns)?;
+    Ok(bytes_of(&files).to_vec(alloc)?)
+}
+
 /// The volume's bytes; none where it isn't there.
 pub fn bytes_of<'a>(files: &'a Files<'_>) -> &'a [u8] {
     match &files.volume {
@@ -113,65 +93,13 @@ pub fn are_zeros(bytes: &[u8], from: usize, to: usize) -> bool {
     }
 }
 
-pub const FORMAT: &[&str] = &[
-    "luks",
-    "format",
-    "v",
-    "--passphrase=p",
-    "--random=r",
-    "--iterations=1000",
-];
-
-pub const FORMAT1: &[&str] = &[
-    "luks",
-    "format",
-    "v",
-    "--passphrase=p",
-    "--random=r",
-    "--iterations=1000",
-    "--version=1",
-];
-
-pub const ADD_BY_0: &[&str] = &[
-    "luks",
-    "add",
-    "v",
-    "--slot=0",
-    "--passphrase=p",
-    "--new=n",
-    "--random=r",
-    "--iterations=1000",
-];
-
-pub const CHANGE_0: &[&str] = &[
-    "luks",
-    "change",
-    "v",
-    "--slot=0",
-    "--passphrase=p",
-    "--new=n",
-    "--random=r",
-    "--iterations=1000",
-];
-
-pub const REMOVE_0: &[&str] = &[
-    "luks",
-    "remove",
-    "v",
-    "--slot=0",
-    "--passphrase=p",
-    "--random=r",
-];
-
-pub const REMOVE_1: &[&str] = &[
-    "luks",
-    "remove",
-    "v",
-    "--slot=1",
-    "--passphrase=p",
-    "--random=r",
-];
-
-pub const REPAIR: &[&str] = &["luks", "repair", "v", "--random=r"];
-
-pub const LABEL_X: &[&str] = &["luks", "label", "v", "x", "--random=r"];
+/// The metadata of the first copy.
+pub fn text_of(image: &[u8]) -> &str {
+    match image.get(4096..16384) {
+        Some(area) => match area.split(|byte| *byte == 0).next() {
+            Some(text) => str::from_utf8(text).unwrap_or_default(),
+            None => "",
+        },
+        None => "",
+    }
+}

@@ -1,95 +1,13 @@
 //! Edits of small LUKS2 volumes, one after another.
-use crate::sessions::{RANDOM, bytes_of, counted, says};
-use luks_cli::{InputFault, Inputs};
+use crate::sessions::{Turn, are_zeros, taken, text_of};
+use crate::words::{
+    ADD, ADD_BY_1, ADD_TO_31, CHANGE, CHANGE_1_DETACHED, CHECK, DETACHED, LABEL, LABEL_DETACHED,
+    NO_LABEL, OPEN_0, OPEN_1, OPEN_3, OPEN_31, REMOVE, REMOVE_1, REMOVE_2_DETACHED, REMOVE_31,
+    REPAIR, REPAIR_DETACHED, SHOW,
+};
 use luks_samples::{Edit, STRIPE_BY_SHA512, THREE, edited, put, roomy_luks2, roomy_text};
-use luks_volume::MemDevice;
 use std::alloc::{AllocError, Global};
-use std::process::Abort;
 use std::test::Fail;
-
-/// A command, the bytes of the passphrase and of the new one, what is printed, and the exit status.
-type Step = (&'static str, &'static str, &'static str, &'static str, u8);
-
-/// Whether the command is answered what is owed to it over this volume, and the volume that is left.
-fn take_step(
-    alloc: Global,
-    image: Vec<u8>,
-    step: &Step,
-    random: &[u8],
-) -> Result<(bool, Vec<u8>), Fail> {
-    let (words, passphrase, new, want, status) = *step;
-    let mut files = Inputs {
-        volume: Ok(MemDevice::new(image)),
-        target: Err(InputFault::Absent),
-        passphrase: Ok(passphrase.as_bytes()),
-        new_passphrase: Ok(new.as_bytes()),
-        random: Ok(random),
-    };
-    let held = says(alloc, words, want, status, &mut files)?;
-    Ok((held, bytes_of(&files).to_vec(alloc)?))
-}
-
-/// Asserts that each command is answered what is owed to it; the volume that is left.
-fn take_steps(
-    rt: &impl Abort,
-    alloc: Global,
-    image: Vec<u8>,
-    steps: &[Step],
-) -> Result<Vec<u8>, Fail> {
-    let random = counted(alloc, RANDOM)?;
-    let mut image = image;
-    for (i, step) in steps.iter().enumerate() {
-        let (held, left) = take_step(alloc, image, step, &random)?;
-        let words = step.0;
-        assert!(rt; held, "step {i}: {words}");
-        image = left;
-    }
-    Ok(image)
-}
-
-const CHECK: &str = "luks check v";
-
-const DETACHED: &str = "luks check v --detached";
-
-const SHOW: &str = "luks show v";
-
-const OPEN_0: &str = "luks open v --slot=0 --passphrase=p";
-
-const OPEN_1: &str = "luks open v --slot=1 --passphrase=p";
-
-const OPEN_3: &str = "luks open v --slot=3 --passphrase=p";
-
-const OPEN_31: &str = "luks open v --slot=31 --passphrase=p";
-
-const ADD: &str = "luks add v --slot=0 --passphrase=p --new=n --random=r --iterations=1000";
-
-const ADD_BY_1: &str = "luks add v --slot=1 --passphrase=p --new=n --random=r --iterations=1000";
-
-const ADD_TO_31: &str =
-    "luks add v --slot=0 --passphrase=p --new=n --random=r --iterations=1000 --to=31";
-
-const CHANGE: &str = "luks change v --slot=0 --passphrase=p --new=n --random=r --iterations=1000";
-
-const CHANGE_1_DETACHED: &str =
-    "luks change v --slot=1 --passphrase=p --new=n --random=r --iterations=1001 --detached";
-
-const REMOVE: &str = "luks remove v --slot=0 --passphrase=p --random=r";
-
-const REMOVE_1: &str = "luks remove v --slot=1 --passphrase=p --random=r";
-
-const REMOVE_2_DETACHED: &str = "luks remove v --slot=2 --passphrase=p --random=r --detached";
-
-const REMOVE_31: &str = "luks remove v --slot=31 --passphrase=p --random=r";
-
-const REPAIR: &str = "luks repair v --random=r";
-
-const REPAIR_DETACHED: &str = "luks repair v --random=r --detached";
-
-const LABEL: &str = "luks label v x --random=r";
-
-const LABEL_DETACHED: &str = "luks label v x --random=r --detached";
-
-const NO_LABEL: &str = "luks label v  --random=r";
 
 const WITH_31: &str = "\
 luks2
@@ -124,7 +42,7 @@ digest 0 sha256 keyslots 1 segments -
 ";
 
 // The changed keyslot's area takes the place of the removed one.
-const EACH_EDIT: [Step; 17] = [
+static EACH_EDIT: [Turn; 17] = [
     (ADD_TO_31, "one", "two", "done slot 31\n", 0),
     (SHOW, "", "", WITH_31, 0),
     (OPEN_31, "two", "", "slot 31 opens\n", 0),
@@ -152,21 +70,19 @@ const EACH_EDIT: [Step; 17] = [
 
 #[test]
 fn each_edit(rt: HostRuntime) -> Result<(), Fail> {
-    let alloc = rt.alloc();
-    let text = roomy_text(alloc, &[])?;
-    let image = roomy_luks2(alloc, text.as_str(), 1)?;
-    let left = take_steps(&rt, alloc, image, &EACH_EDIT)?;
-    let zeros = |from: usize, to: usize| match left.get(from..to) {
-        Some(area) => area.iter().all(|byte| *byte == 0),
-        None => false,
-    };
-    assert!(rt; zeros(32768, 40960), "the areas of keyslots 0 and 1");
-    assert!(rt; zeros(45056, 49152), "the area of keyslot 31");
+    let text = roomy_text(rt.alloc(), &[])?;
+    let image = roomy_luks2(rt.alloc(), text.as_str(), 1)?;
+    let left = taken(&rt, rt.alloc(), image, &EACH_EDIT)?;
+    assert!(rt;
+        are_zeros(&left, 32768, 40960),
+        "the areas of keyslots 0 and 1"
+    );
+    assert!(rt; are_zeros(&left, 45056, 49152), "the area of keyslot 31");
     Ok(())
 }
 
 /// Requirements that are there and demand nothing.
-const EMPTY: [Edit; 4] = [
+static EMPTY: [Edit; 4] = [
     (
         r#""json_size":"#,
         r#""requirements":{"mandatory":[]},"json_size":"#,
@@ -176,7 +92,7 @@ const EMPTY: [Edit; 4] = [
     (r#""json_size":"#, r#""requirements":[],"json_size":"#),
 ];
 
-const EDITED: [Step; 6] = [
+static EDITED: [Turn; 6] = [
     (ADD, "one", "two", "done slot 3\n", 0),
     (REMOVE, "one", "", "done\n", 0),
     (REPAIR, "", "", "done\n", 0),
@@ -187,25 +103,24 @@ const EDITED: [Step; 6] = [
 
 #[test]
 fn empty_requirements(rt: HostRuntime) -> Result<(), Fail> {
-    let alloc = rt.alloc();
-    for edit in EMPTY {
-        let text = roomy_text(alloc, &[edit])?;
-        let image = roomy_luks2(alloc, text.as_str(), 1)?;
-        let _left = take_steps(&rt, alloc, image, &EDITED)?;
+    for edit in EMPTY.iter() {
+        let text = roomy_text(rt.alloc(), &[*edit])?;
+        let image = roomy_luks2(rt.alloc(), text.as_str(), 1)?;
+        let _left = taken(&rt, rt.alloc(), image, &EDITED)?;
     }
     Ok(())
 }
 
 /// Members that aren't known: each edit keeps them. A zero byte of a text stands in no JSON text.
-const UNKNOWN: [Edit; 3] = [
+static UNKNOWN: [Edit; 3] = [
     (r#""json_size":"#, r#""a":[1,{"b":null}],"json_size":"#),
     (r#""0":{"af":{"#, r#""0":{"x":true,"af":{"c":"d","#),
     (r#""tokens":{}"#, r#""tokens":{},"x":"\u0000""#),
 ];
 
-const KEPT: [&str; 3] = [r#""a":[1,{"b":null}]"#, r#""c":"d""#, r#""x":"\u0000""#];
+static KEPT: [&str; 3] = [r#""a":[1,{"b":null}]"#, r#""c":"d""#, r#""x":"\u0000""#];
 
-const KEEPING: [Step; 7] = [
+static KEEPING: [Turn; 7] = [
     (CHECK, "", "", "accepted luks2 in-step seqid 1 areas 5\n", 0),
     (LABEL, "", "", "done\n", 0),
     (ADD, "one", "two", "done slot 3\n", 0),
@@ -215,36 +130,30 @@ const KEEPING: [Step; 7] = [
     (CHECK, "", "", "accepted luks2 in-step seqid 6 areas 5\n", 0),
 ];
 
-/// The metadata of the first copy.
-fn text_of(image: &[u8]) -> &str {
-    match image.get(4096..16384) {
-        Some(area) => match area.split(|byte| *byte == 0).next() {
-            Some(text) => str::from_utf8(text).unwrap_or_default(),
-            None => "",
-        },
-        None => "",
-    }
+/// Whether the JSON area of the first copy has zeros alone behind its text.
+fn ends_in_zeros(image: &[u8]) -> bool {
+    let Some(area) = image.get(4096..16384) else {
+        return false;
+    };
+    area.iter()
+        .skip_while(|byte| **byte != 0)
+        .all(|byte| *byte == 0)
 }
 
 #[test]
 fn unknown_members(rt: HostRuntime) -> Result<(), Fail> {
-    let alloc = rt.alloc();
-    let text = roomy_text(alloc, &UNKNOWN)?;
-    let image = roomy_luks2(alloc, text.as_str(), 1)?;
-    let left = take_steps(&rt, alloc, image, &KEEPING)?;
-    for member in KEPT {
-        assert!(rt; text_of(&left).contains(member), "{member}");
+    let text = roomy_text(rt.alloc(), &UNKNOWN)?;
+    let image = roomy_luks2(rt.alloc(), text.as_str(), 1)?;
+    let left = taken(&rt, rt.alloc(), image, &KEEPING)?;
+    for member in KEPT.iter() {
+        assert!(rt; text_of(&left).contains(*member), "{member}");
     }
-    let zeros = left.get(4096..16384).is_some_and(|area| {
-        let behind = area.iter().skip_while(|byte| **byte != 0);
-        behind.into_iter().all(|byte| *byte == 0)
-    });
-    assert!(rt; zeros, "what is behind the text");
+    assert!(rt; ends_in_zeros(&left), "what is behind the text");
     Ok(())
 }
 
 /// Keyslot 1 derived and split by SHA-512.
-const SHA512_1: [Edit; 2] = [
+static SHA512_1: [Edit; 2] = [
     (
         r#""1":{"af":{"hash":"sha256""#,
         r#""1":{"af":{"hash":"sha512""#,
@@ -255,7 +164,7 @@ const SHA512_1: [Edit; 2] = [
     ),
 ];
 
-const BY_SHA512: [Step; 5] = [
+static BY_SHA512: [Turn; 5] = [
     (OPEN_0, "one", "", "slot 0 opens\n", 0),
     (OPEN_1, "one", "", "slot 1 opens\n", 0),
     (ADD_BY_1, "one", "two", "done slot 3\n", 0),
@@ -263,18 +172,22 @@ const BY_SHA512: [Step; 5] = [
     (OPEN_3, "one", "", "slot 3 does not open\n", 1),
 ];
 
+/// The hashes of the splitter and of the derivation of the keyslot that is made.
+static MADE_BY_SHA512: [&str; 2] = [
+    r#""3":{"af":{"hash":"sha512","stripes":1,"type":"luks1"}"#,
+    r#""offset":"45056","size":"4096","type":"raw"},"kdf":{"hash":"sha512""#,
+];
+
 // The new keyslot has the hashes of the one that it is added by.
 #[test]
 fn keyslot_by_sha512(rt: HostRuntime) -> Result<(), Fail> {
-    let alloc = rt.alloc();
-    let text = roomy_text(alloc, &SHA512_1)?;
-    let mut image = roomy_luks2(alloc, text.as_str(), 1)?;
+    let text = roomy_text(rt.alloc(), &SHA512_1)?;
+    let mut image = roomy_luks2(rt.alloc(), text.as_str(), 1)?;
     put(&mut image, 36864, &STRIPE_BY_SHA512);
-    let left = take_steps(&rt, alloc, image, &BY_SHA512)?;
-    let made = r#""3":{"af":{"hash":"sha512","stripes":1,"type":"luks1"}"#;
-    assert!(rt; text_of(&left).contains(made), "the splitter's hash");
-    let derived = r#""offset":"45056","size":"4096","type":"raw"},"kdf":{"hash":"sha512""#;
-    assert!(rt; text_of(&left).contains(derived), "the derivation's hash");
+    let left = taken(&rt, rt.alloc(), image, &BY_SHA512)?;
+    for made in MADE_BY_SHA512.iter() {
+        assert!(rt; text_of(&left).contains(*made), "{made}");
+    }
     Ok(())
 }
 
@@ -303,7 +216,7 @@ fn all_keyslots(alloc: Global) -> Result<String, AllocError> {
     )
 }
 
-const FULL_HOUSE: [Step; 7] = [
+static FULL_HOUSE: [Turn; 7] = [
     (
         CHECK,
         "",
@@ -321,11 +234,10 @@ const FULL_HOUSE: [Step; 7] = [
 
 #[test]
 fn all_numbers_taken(rt: HostRuntime) -> Result<(), Fail> {
-    let alloc = rt.alloc();
-    let text = all_keyslots(alloc)?;
-    let small = roomy_luks2(alloc, text.as_str(), 1)?;
-    let mut image = vec![in alloc; 0u8; 32768 + 135168]?;
+    let text = all_keyslots(rt.alloc())?;
+    let small = roomy_luks2(rt.alloc(), text.as_str(), 1)?;
+    let mut image = vec![in rt.alloc(); 0u8; 32768 + 135168]?;
     put(&mut image, 0, &small);
-    let _left = take_steps(&rt, alloc, image, &FULL_HOUSE)?;
+    let _left = taken(&rt, rt.alloc(), image, &FULL_HOUSE)?;
     Ok(())
 }

@@ -134,7 +134,7 @@ fn key_of(
     n: u8,
     passphrase: &[u8],
 ) -> Result<Vec<u8>, Fail> {
-    match open_slot(alloc, device, n, passphrase) {
+    match open_slot(alloc, device, n, passphrase, 0) {
         Ok(Some(key)) => Ok(key.as_bytes().to_vec(alloc)?),
         _ => Err("no key".into()),
     }
@@ -215,7 +215,7 @@ fn end_of(alloc: Global, call: u64) -> Result<End, Fail> {
 
 /// The keyslot that the first addition made opens, whatever is left of the second.
 fn second_end(alloc: Global, left: &mut MemDevice) -> End {
-    match open_slot(alloc, left, 1, b"two") {
+    match open_slot(alloc, left, 1, b"two", 0) {
         Ok(Some(key)) if key.as_bytes() == VOLUME_KEY.as_slice() => End::Second,
         _ => End::Other,
     }

@@ -63,7 +63,7 @@ fn opens_where_accepted(alloc: Global, left: &mut MemDevice) -> bool {
     if check(alloc, left, Data::Here).is_err() {
         return true;
     }
-    open_slot(alloc, left, 0, b"one").is_ok_and(|key| key.is_some())
+    open_slot(alloc, left, 0, b"one", 0).is_ok_and(|key| key.is_some())
 }
 
 // The header is written over a key area that is flushed: no cut leaves a volume that is accepted and

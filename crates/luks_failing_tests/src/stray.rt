@@ -77,7 +77,7 @@ fn bytes_of_a_torn_write_count(rt: HostRuntime) -> Result<(), Fail> {
     let found = counting(alloc, &mut device);
     assert!(rt; found == Some((0, 32768, Copies::InStep)), "the volume");
     assert!(rt; check(alloc, &mut device, Data::Here).is_ok(), "accepted");
-    let opened = open_slot(alloc, &mut device, 0, b"one").is_ok_and(|key| key.is_some());
+    let opened = open_slot(alloc, &mut device, 0, b"one", 0).is_ok_and(|key| key.is_some());
     assert!(rt; opened, "its keyslot");
     let mut device = MemDevice::new(torn);
     let found = counting(alloc, &mut device);
@@ -85,7 +85,7 @@ fn bytes_of_a_torn_write_count(rt: HostRuntime) -> Result<(), Fail> {
         found == Some((16384, 16384, Copies::SecondOnly)),
         "what counts"
     );
-    let opened = open_slot(alloc, &mut device, 0, b"one").is_ok_and(|key| key.is_some());
+    let opened = open_slot(alloc, &mut device, 0, b"one", 0).is_ok_and(|key| key.is_some());
     assert!(rt; !opened, "the keyslot");
     Ok(())
 }

@@ -95,7 +95,7 @@ pub(crate) fn two_luks1_keyslots(alloc: Global) -> Result<Vec<u8>, Fail> {
 /// Whether the keyslot opens by the passphrase to the volume key.
 pub(crate) fn opens(alloc: Global, device: &mut MemDevice, opening: Opening) -> bool {
     let (n, passphrase) = opening;
-    match open_slot(alloc, device, n, passphrase) {
+    match open_slot(alloc, device, n, passphrase, 0) {
         Ok(Some(key)) => key.as_bytes() == VOLUME_KEY.as_slice(),
         _ => false,
     }

@@ -11,6 +11,8 @@ mod formats;
 #[cfg(test)]
 mod formatting;
 #[cfg(test)]
+mod left_behind;
+#[cfg(test)]
 mod new_volumes;
 #[cfg(test)]
 mod refused_memory;

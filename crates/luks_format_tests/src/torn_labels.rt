@@ -148,7 +148,7 @@ fn leave_an_accepted_volume(rt: HostRuntime) -> Result<(), Fail> {
         let found = standing(alloc, &mut left);
         assert!(rt; found == Some((copies, seqid)), "row {i}: the copies");
         assert!(rt; has_label(alloc, &mut left, first), "row {i}: the label");
-        let opened = open_slot(alloc, &mut left, 0, b"one").is_ok_and(|key| key.is_some());
+        let opened = open_slot(alloc, &mut left, 0, b"one", 0).is_ok_and(|key| key.is_some());
         assert!(rt; opened, "row {i}: the keyslot");
         let again = apply(alloc, &mut left, Data::Here, &Edit::Repair, &random);
         assert!(rt; again.is_ok(), "row {i}: the repair");

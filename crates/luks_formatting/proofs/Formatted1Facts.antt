@@ -49,7 +49,7 @@ length-volume_key random long = length-part_inside random 16 64 (omega (arith, l
 derivation_is : (h e : List ℕ) (format : Format) (salt : List ℕ) (d : Derivation) → text_at h 72 32 ≡ name_of format.hash → entry_iterations e ≡ format.iterations → part e 8 32 ≡ salt
     → IsLuks1Derivation h e d → IsNewDerivation format salt d
 derivation_is h e format salt (Pbkdf2 hash iterations own) name turns is_salt is = (is.0 ∙ name, is.1 ∙ turns, is.2 ∙ is_salt)
-derivation_is h e format salt Argon2 name turns is_salt is = absurd is
+derivation_is h e format salt (Argon2 c) name turns is_salt is = absurd is
 
 cipher_is : (h : List ℕ) (cipher : AreaCipher) → text_at h 8 32 ≡ codes "aes" → text_at h 40 32 ≡ codes "xts-plain64" → IsLuks1Cipher h cipher → IsNewCipher1 cipher
 cipher_is h (Apart name mode) is_name is_mode is = (is.0 ∙ is_name, is.1 ∙ is_mode)

@@ -3,9 +3,7 @@ use Rattle.std.proofs.Common.{◌≡◌, ◌↔◌, ℕ, ◌*◌, ◌-◌, ◌�
 use Rattle.serde_json.specs.Data.{Data as Value}
 use Rattle.luks_area.specs.Ranges.{part}
 use Rattle.luks_area.specs.RangeFacts.{length-part_inside}
-use Rattle.luks_area.specs.Text.{is_plain, text_of}
 use Rattle.luks_area.specs.declared.area.Area.{Area}
-use Rattle.luks_head.specs.Bytes.{IsUuid}
 use Rattle.luks_head.specs.Header2.{hdr_size, header_at, uuid_field, IsUuidField}
 use Rattle.luks_head.specs.Selection.{luks2, Chosen}
 use Rattle.luks_head.specs.Written.{IsWrittenCopy}
@@ -28,30 +26,26 @@ use Rattle.luks_slot.specs.declared.plan.SlotPlan.{SlotPlan}
 use Rattle.luks_reading.specs.Answer.{Answer, IsLuks2Refusal, opens}
 use Rattle.luks_reading.specs.Checked.{IsLuks2Volume, SegmentsFollow, WellFormed}
 use Rattle.luks_reading.specs.Header.{json_at}
+use Rattle.luks_reading.specs.MemoryFacts.{refusal_at_zero}
 use Rattle.luks_reading.specs.Plans.{HasLuks2Plan}
 use Rattle.luks_reading.specs.declared.open_fault.OpenFault.{OpenFault}
 use Rattle.luks_reading.specs.declared.open_fault.OpenFault.TheVariants.{Head, Meta, NoSuchSlot, SlotFree, Outside, Slot, Device, Memory}
 use Rattle.luks_reading.specs.declared.report.Data.{Data}
 use Rattle.luks_terms.specs.declared.format.Format.{Format}
+use Rattle.luks_uuid.specs.NewUuid.{uuid_text}
+use Rattle.luks_uuid.proofs.UuidFacts.{fills, uuid_text-is}
 use Rattle.luks_formatting.specs.Formatted2.{IsFormatted2}
 use Rattle.luks_formatting.specs.NewHeader2.{area2, new_members, FitsMetadata, IsNewCipher2}
 use Rattle.luks_formatting.specs.NewPlan.{key_digest, IsNewPlan}
-use Rattle.luks_formatting.specs.NewUuid.{uuid_text}
 use Rattle.luks_formatting.specs.RandomBytes.{digest_salt, random_stripes, slot_place2, slot_salt, uuid_bytes, volume_key}
 use Rattle.luks_formatting.proofs.Formatted1Facts.{length-volume_key, Reopens}
 use Rattle.luks_formatting.proofs.Keyslot2Facts.{cipher_opens, fit, plan_is, segments, SlotsSay}
 use Rattle.luks_formatting.proofs.MetadataFacts.{can_format, no_some}
 use Rattle.luks_formatting.proofs.NewPlanFacts.{key_meets, unrefused}
-use Rattle.luks_formatting.proofs.NewUuidFacts.{uuid_field-text, uuid_text-is, uuid_text-plain}
 
 -- the uuid of a new header
 uuid_good : (random field_ : List ℕ) → field_ ≡ uuid_text random ++ replicate 4 0 → IsUuidField field_
-uuid_good random field_ is =
-    let text : text_of field_ ≡ uuid_text random = ap text_of is ∙ uuid_field-text random in
-    record {
-      plain = ap is_plain text ∙ uuid_text-plain random;
-      uuid = subst IsUuid (sym text) (uuid_text-is random);
-    }
+uuid_good random field_ is = subst IsUuidField (sym is) (fills (uuid_text random) (uuid_text-is random))
 
 -- what the laws say of metadata
 pub record MetadataLaws : Type 0 where
@@ -130,7 +124,7 @@ module _ (payload : Data) (format : Format) (passphrase random old new : List �
       let start = ap (λ (a : Area). a.start) is.area in
       let len = ap (λ (a : Area). a.len) is.area in
       absurd (omega (arith, past, start, len, large))
-  none (Slot s) y = (let both : None ≡ Some s = sym (plan_unrefused y.plan y.is) ∙ y.refused in no_some s both)
+  none (Slot s) y = (let both : None ≡ Some s = sym (plan_unrefused y.plan y.is) ∙ sym (refusal_at_zero y.plan) ∙ y.refused in no_some s both)
   none Device y = y
   none Memory y = y
 

@@ -1,15 +1,14 @@
 -- What the metadata of a new LUKS2 volume places: the areas, and the plan of keyslot 0.
-use Rattle.std.proofs.lemmas.Bool.{cases_eq, false≢true}
+use Rattle.std.proofs.lemmas.Bool.{cases_eq}
 use Rattle.serde_json.specs.Find.{get}
 use Rattle.luks_json.specs.Values.{bytes_in, number_in, text_of}
 use Rattle.luks_meta.specs.Says.{small_at}
-use Rattle.luks_rules.specs.Faults.{member_at, suits}
+use Rattle.luks_rules.specs.Faults.{member_at}
 use Rattle.luks_rules.specs.declared.table.Member.TheVariants as name
-use Rattle.luks_rules.specs.declared.table.When.TheVariants as when
 use Rattle.luks_making.specs.Keyslots.{base64_text}
 use Rattle.luks_slot.specs.declared.plan.DigestPlan.{DigestPlan}
 use Rattle.luks_formatting.specs.NewPlan.{IsNewDigest}
-use Rattle.std.proofs.Common.{◌≡◌, ◌≢◌, ℕ, ◌+◌, ◌-◌, ◌<◌, ◌≤◌, List, length, codes, Some, None, true, false, option_and_then, arith, refl, sym, ap, ◌∙◌, subst, lit<, inl, inr}
+use Rattle.std.proofs.Common.{◌≡◌, ◌≢◌, ℕ, ◌+◌, ◌-◌, ◌<◌, ◌≤◌, List, length, codes, Some, None, true, option_and_then, arith, refl, sym, ap, ◌∙◌, subst, lit<, inl, inr}
 use Rattle.serde_json.specs.Data.{Data as Value, number, string, unsigned}
 use Rattle.luks_area.specs.Area.{Fit, IsInside, LiesIn}
 use Rattle.luks_area.specs.declared.area.Area.{Area}
@@ -34,6 +33,7 @@ use Rattle.luks_slot.specs.declared.plan.Derivation.TheVariants.{Pbkdf2, Argon2}
 use Rattle.luks_slot.specs.declared.plan.SlotPlan.{SlotPlan}
 use Rattle.luks_reading.specs.Checked.{SegmentsFollow}
 use Rattle.luks_reading.specs.Layout2.{HasExtent, Luks2Area, segment_extent, segment_offset, slot_number}
+use Rattle.luks_reading.specs.PlanFacts.{no_pbkdf2}
 use Rattle.luks_reading.specs.Plans.{HasLuks2Plan, IsLuks2Cipher, IsLuks2Derivation, IsLuks2Digest, IsLuks2Plan}
 use Rattle.luks_reading.specs.declared.report.Data.{Data}
 use Rattle.luks_reading.specs.declared.report.Data.TheVariants.{Here}
@@ -152,20 +152,20 @@ module _ (payload : Data) (format : Format) (random : List ℕ) (some : 1 ≤ fo
   -- ---- the plans of keyslot 0
   derivation_is : (d : Derivation) → IsLuks2Derivation (slot_value (first_slot (new_members payload format random))) d → IsNewDerivation format (slot_salt slot_place2 random) d
   derivation_is (Pbkdf2 hash iterations salt) is = (
-    some_same hash.now (name_of format.hash) (sym is.1 ∙ slot_says.hash),
-    some_same iterations format.iterations (sym is.2 ∙ slot_says.iterations),
+    some_same hash.now (name_of format.hash) (sym is.1 ∙ slot_says.derivation.hash),
+    some_same iterations format.iterations (sym is.2 ∙ slot_says.derivation.iterations),
     some_same salt.now (slot_salt slot_place2 random) (sym is.3 ∙ slot_says.salt),
   )
-  derivation_is Argon2 is = (let off : false ≡ true = sym (ap (suits when.Argon2) slot_says.derivation) ∙ is in absurd (false≢true off))
+  derivation_is (Argon2 c) is = absurd (no_pbkdf2 (slot_value (first_slot (new_members payload format random))) c is slot_says.derivation.kind)
 
   derivation_by : (d : Derivation) → IsNewDerivation format (slot_salt slot_place2 random) d → IsLuks2Derivation (slot_value (first_slot (new_members payload format random))) d
   derivation_by (Pbkdf2 hash iterations salt) is = (
-    slot_says.derivation,
-    slot_says.hash ∙ ap Some (sym is.0),
-    slot_says.iterations ∙ ap Some (sym is.1),
+    slot_says.derivation.kind,
+    slot_says.derivation.hash ∙ ap Some (sym is.0),
+    slot_says.derivation.iterations ∙ ap Some (sym is.1),
     slot_says.salt ∙ ap Some (sym is.2),
   )
-  derivation_by Argon2 is = absurd is
+  derivation_by (Argon2 c) is = absurd is
 
   cipher_is : (cipher : AreaCipher) → IsLuks2Cipher (slot_value (first_slot (new_members payload format random))) cipher → IsNewCipher2 cipher
   cipher_is (Apart name mode) is = absurd is

@@ -1,4 +1,3 @@
-pub mod NewUuidFacts
 pub mod NewPlanFacts
 pub mod NewHeader1Facts
 pub mod Formatted1Facts

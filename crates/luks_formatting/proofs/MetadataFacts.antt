@@ -12,8 +12,7 @@ use Rattle.base64.specs.GeneralPurpose.{IsBytes}
 use Rattle.serde_json.specs.Data.{Data as Value, number, string, unsigned}
 use Rattle.serde_json.specs.Find.{get}
 use Rattle.luks_area.specs.RangeFacts.{length-part_inside}
-use Rattle.luks_json.specs.Decimal.{IsDecimal, decimal_of}
-use Rattle.luks_json.specs.Encoded.{IsBase64, encoded_of}
+use Rattle.luks_json.specs.Encoded.{encoded_of}
 use Rattle.luks_json.specs.Number.{number_of as number_named, number_text}
 use Rattle.luks_json.specs.Values.{bytes_in, decimal_in, is_between, number_in}
 use Rattle.luks_json.proofs.Decimals.{decimal_told}
@@ -140,6 +139,6 @@ slot_fits v fits can =
       offset = lit< tt;
       size = lit< tt;
       area_key_size = record { from = lit≤ tt; to = lit≤ tt };
-      iterations = record { from = can.iterations; to = omega (arith, turns) };
+      derivation = record { from = can.iterations; to = omega (arith, turns) };
       salt = record { are_bytes = fits.slot_salt; long = can.slot_salt };
     }

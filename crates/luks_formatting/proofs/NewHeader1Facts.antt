@@ -18,10 +18,11 @@ use Rattle.luks_reading.specs.Layout1.{Luks1Area}
 use Rattle.luks_reading.specs.declared.report.Data.{Data}
 use Rattle.luks_reading.specs.declared.report.Data.TheVariants.{Here}
 use Rattle.luks_terms.specs.declared.format.Format.{Format}
+use Rattle.luks_uuid.specs.NewUuid.{uuid_text}
+use Rattle.luks_uuid.proofs.UuidFacts as Uuid
 use Rattle.luks_formatting.specs.NewHeader1.{free_slot, material_sector, new_slot, payload_sector, IsNewHeader1}
 use Rattle.luks_formatting.specs.RandomBytes.{uuid_bytes}
 use Rattle.luks_formatting.proofs.NewPlanFacts.{name_plain, name_whole}
-use Rattle.luks_formatting.proofs.NewUuidFacts.{uuid_text-is, uuid_text-plain, uuid_text-whole}
 
 -- what every keyslot of a new volume says
 slot_stripes : (format : Format) (random : List ℕ) (n : ℕ) → (new_slot format random n).stripes ≡ 4000
@@ -46,7 +47,7 @@ module _ (payload : Data) (format : Format) (random h : List ℕ) (d : Luks1) (n
     | field.CipherName ↦ subst W (sym new.common.cipher_name) refl
     | field.CipherMode ↦ subst W (sym new.common.cipher_mode) refl
     | field.HashSpec ↦ subst W (sym new.common.hash_spec) (name_whole format.hash)
-    | field.Uuid ↦ subst W (sym new.common.uuid) (uuid_text-whole (uuid_bytes random))
+    | field.Uuid ↦ subst W (sym new.common.uuid) (Uuid.whole (uuid_text (uuid_bytes random)) (Uuid.uuid_text-is (uuid_bytes random)))
   ]
 
   pub fields : HoldsCommon h d.common
@@ -57,7 +58,7 @@ module _ (payload : Data) (format : Format) (random h : List ℕ) (d : Luks1) (n
     | field.CipherName ↦ subst P (sym (fields.cipher_name ∙ new.common.cipher_name)) refl
     | field.CipherMode ↦ subst P (sym (fields.cipher_mode ∙ new.common.cipher_mode)) refl
     | field.HashSpec ↦ subst P (sym (fields.hash_spec ∙ new.common.hash_spec)) (name_plain format.hash)
-    | field.Uuid ↦ subst P (sym (fields.uuid ∙ new.common.uuid)) (uuid_text-plain (uuid_bytes random))
+    | field.Uuid ↦ subst P (sym (fields.uuid ∙ new.common.uuid)) (Uuid.plain (uuid_text (uuid_bytes random)) (Uuid.uuid_text-is (uuid_bytes random)))
   ]
 
   pub common : 1 ≤ format.iterations → IsCommon h d.common
@@ -69,7 +70,7 @@ module _ (payload : Data) (format : Format) (random h : List ℕ) (d : Luks1) (n
         version = put.common.version;
         fields = fields;
         texts = plain;
-        uuid = subst IsUuid (sym (fields.uuid ∙ new.common.uuid)) (uuid_text-is (uuid_bytes random));
+        uuid = subst IsUuid (sym (fields.uuid ∙ new.common.uuid)) (Uuid.uuid_text-is (uuid_bytes random));
         key_at_least = omega (arith, key);
         key_at_most = omega (arith, key);
         digest_iterated = omega (arith, turns, some);

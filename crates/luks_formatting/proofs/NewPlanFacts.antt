@@ -31,15 +31,15 @@ name_whole hash =
 -- the derivation
 not_argon2 : (format : Format) (salt : List ℕ) (d : Derivation) → IsNewDerivation format salt d → is_argon2 d ≡ false
 not_argon2 format salt (Pbkdf2 hash iterations own) is = refl
-not_argon2 format salt Argon2 is = absurd is
+not_argon2 format salt (Argon2 c) is = absurd is
 
 known : (format : Format) (salt : List ℕ) (d : Derivation) → IsNewDerivation format salt d → is_known_derivation d ≡ true
 known format salt (Pbkdf2 hash iterations own) is = rw (is.0, named format.hash) refl
-known format salt Argon2 is = absurd is
+known format salt (Argon2 c) is = absurd is
 
 pub some_iterations : (format : Format) (salt : List ℕ) (d : Derivation) → 1 ≤ format.iterations → IsNewDerivation format salt d → HasIterations d
 some_iterations format salt (Pbkdf2 hash iterations own) some is = subst (λ (n : ℕ). 1 ≤ n) (sym is.1) some
-some_iterations format salt Argon2 some is = tt
+some_iterations format salt (Argon2 c) some is = absurd is
 
 module _ (format : Format) (salt : List ℕ) (area : Area) (digest stored : List ℕ) (plan : SlotPlan) (new : IsNewPlan format salt area digest stored plan) where
   -- a new plan whose cipher opens isn't refused

@@ -1,5 +1,5 @@
 -- The text of a new volume's metadata is shorter than its JSON area.
-use Rattle.std.proofs.Common.{◌≡◌, ℕ, ◌+◌, ◌*◌, ◌<◌, ◌≤◌, ◌^◌, length, arith, lit<, refl}
+use Rattle.std.proofs.Common.{◌<◌, ◌≤◌, ◌^◌, length, arith, lit<, refl}
 use Rattle.std.specs.Prelude.{decimal}
 use Rattle.std.proofs.lemmas.Fmt.{length-decimal-le}
 use Rattle.serde_json.specs.Written.{compact_text}

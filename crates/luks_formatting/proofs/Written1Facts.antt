@@ -39,7 +39,7 @@ both_rest {u} {v} {w} area n is size same outside =
 derivation_by : (h e : List ℕ) (format : Format) (salt : List ℕ) (d : Derivation) → text_at h 72 32 ≡ name_of format.hash → entry_iterations e ≡ format.iterations → part e 8 32 ≡ salt
     → IsNewDerivation format salt d → IsLuks1Derivation h e d
 derivation_by h e format salt (Pbkdf2 hash iterations own) name turns is_salt is = (is.0 ∙ sym name, is.1 ∙ sym turns, is.2 ∙ sym is_salt)
-derivation_by h e format salt Argon2 name turns is_salt is = absurd is
+derivation_by h e format salt (Argon2 c) name turns is_salt is = absurd is
 
 cipher_by : (h : List ℕ) (cipher : AreaCipher) → text_at h 8 32 ≡ codes "aes" → text_at h 40 32 ≡ codes "xts-plain64" → IsNewCipher1 cipher → IsLuks1Cipher h cipher
 cipher_by h (Apart name mode) is_name is_mode is = (is.0 ∙ sym is_name, is.1 ∙ sym is_mode)

@@ -11,8 +11,8 @@ use Rattle.luks_head.specs.declared.luks1.SlotState.TheVariants.{Enabled, Disabl
 use Rattle.luks_reading.specs.declared.report.Data.{Data}
 use Rattle.luks_reading.specs.declared.report.Data.TheVariants.{Here, Elsewhere}
 use Rattle.luks_terms.specs.declared.format.Format.{Format}
+use Rattle.luks_uuid.specs.NewUuid.{uuid_text}
 use Rattle.luks_formatting.specs.NewPlan.{key_digest}
-use Rattle.luks_formatting.specs.NewUuid.{uuid_text}
 use Rattle.luks_formatting.specs.RandomBytes.{digest_salt, slot_place1, slot_salt, uuid_bytes}
 
 -- where the payload begins, in sectors of 512 bytes: at 2 MiB, or on another device at its start

@@ -22,7 +22,7 @@ key_digest format random len =
 abbrev pub IsNewDerivation : Format → List ℕ → Derivation → Type 0
 IsNewDerivation format salt (Pbkdf2 hash iterations own_salt) =
     (hash.now ≡ name_of format.hash) × (iterations ≡ format.iterations) × (own_salt.now ≡ salt)
-IsNewDerivation format salt Argon2 = ⊥
+IsNewDerivation format salt (Argon2 c) = ⊥
 
 pub record IsNewDigest (format : Format) (salt stored : List ℕ) (digest : DigestPlan) : Type 0 where
   pub hash : digest.hash.now ≡ name_of format.hash

@@ -9,7 +9,6 @@ mod luks1_header;
 mod luks2;
 mod luks2_header;
 mod metadata;
-mod new_uuid;
 mod plan;
 mod random;
 mod sealing;

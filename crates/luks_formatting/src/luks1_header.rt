@@ -3,12 +3,13 @@ ghost use Rattle.std.specs.Prelude.{◌≡◌, ◌≤◌, ◌<◌, ℕ, length, 
 ghost use Rattle.luks_head.specs.declared.luks1.Luks1Slot.{Luks1Slot as TheSlot};
 ghost use Rattle.luks_formatting.specs.NewHeader1.{first_slot, free_slot, material_sector, new_slot, payload_sector, IsNewCommon, IsNewHeader1};
 
-use crate::new_uuid::{text, uuid_text};
 use crate::plan::put_key_digest;
 use crate::random::{DIGEST_SALT, STRIPES, UUID, taken_array};
+use arrayvec::ArrayString;
 use luks_head::{Luks1, Luks1Common, Luks1Slot, SlotState};
 use luks_reading::Data;
 use luks_terms::Format;
+use luks_uuid::uuid_text;
 
 /// Where the salt of keyslot 0 stands among the random bytes.
 pub(crate) const SLOT_SALT: usize = 112;
@@ -43,6 +44,16 @@ fn new_common(data_: Data, format: &Format, random: &[u8]) -> Luks1Common
         mk_digest_iterations: format.iterations,
         uuid: uuid_text(taken_array(random, UUID)),
     }
+}
+
+/// The text in place.
+fn text<const N: usize>(text: &str) -> ArrayString<N>
+    requires { length text.now ≤ N }
+    ensures { result.bytes ≡ text.now }
+{
+    let mut owned = ArrayString::new();
+    owned.push_str(text);
+    owned
 }
 
 fn payload_sector(data_: Data) -> u32

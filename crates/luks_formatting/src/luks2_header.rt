@@ -1,16 +1,14 @@
 //! The copies of the header of a new LUKS2 volume.
-ghost use Rattle.std.specs.Prelude.{◌≡◌, ◌+◌, ◌++◌, ◌^◌, ◌<◌, ◌≤◌, ◌⊎◌, length, replicate, OnOk};
+ghost use Rattle.std.specs.Prelude.{◌≡◌, ◌+◌, ◌^◌, ◌<◌, ◌≤◌, ◌⊎◌, length, OnOk};
 ghost use Rattle.luks_area.specs.Device.{CountsFailure, IsSettled, is_failure};
 ghost use Rattle.luks_area.specs.Ranges.{IsAt, SameBut};
 ghost use Rattle.luks_formatting.specs.Formatted2.{HasNewCopy};
 ghost use Rattle.luks_formatting.specs.NewHeader2.{copy_size, json_size, IsNewCopy};
-ghost use Rattle.luks_formatting.specs.NewUuid.{uuid_text};
-ghost use Rattle.luks_formatting.specs.RandomBytes.{uuid_bytes};
 
-use crate::new_uuid::uuid_text;
 use crate::random::{UUID, taken_array};
 use luks_area::{Device, DeviceFault};
 use luks_head::Bin2;
+use luks_uuid::{uuid_field, uuid_text};
 use luks2_copy::write_copy;
 
 /// The length of a copy of the header in bytes, which is also the second copy's place.
@@ -68,21 +66,10 @@ fn new_header(at: u64, random: &[u8], salt: [u8; 64]) -> Bin2
         label: [0; 48],
         csum_alg: [0; 32],
         salt,
-        uuid: uuid_field(random),
+        uuid: uuid_field(uuid_text(taken_array(random, UUID)).as_str()),
         subsystem: [0; 48],
         hdr_offset: at,
         csum: [0; 64],
     };
     first.renewed(at, 1, salt)
-}
-
-// The uuid's text, with zeros to the end of its field.
-fn uuid_field(random: &[u8]) -> [u8; 40]
-    requires { 16 ≤ length random.now }
-    ensures { result ≡ uuid_text (uuid_bytes random.now) ++ replicate 4 0 }
-{
-    let text = uuid_text(taken_array(random, UUID));
-    let mut field = [0; 40];
-    field[..36].copy_from_slice(text.as_str().as_bytes());
-    field
 }

@@ -1,6 +1,5 @@
 //! Commands over a volume, and what they answer, one after another.
-use luks_cli::{CountingPrinter, InputFault, Inputs, execute};
-use luks_line::line;
+use luks_cli::{InputFault, Inputs};
 use luks_volume::MemDevice;
 use std::alloc::{AllocError, Global};
 use std::test::Fail;
@@ -32,11 +31,6 @@ pub fn run(
     volume: MemDevice,
     answers: &mut Vec<u8>,
 ) -> Result<MemDevice, Fail> {
-    let mut parts = Vec::new(alloc);
-    for word in words.split(' ') {
-        parts.push(word)?;
-    }
-    let line = line(alloc, parts.as_slice())?;
     let mut inputs = Inputs {
         volume: held(volume),
         target: Err(InputFault::Absent),
@@ -44,10 +38,8 @@ pub fn run(
         new_passphrase: held(files.new),
         random: held(files.random),
     };
-    let mut out = CountingPrinter::new(Vec::new(alloc));
-    let mut err = Vec::new(alloc);
-    let status = execute(alloc, &line, &mut inputs, &mut out, &mut err);
-    add(answers, status, &out.writer)?;
+    let ended = luks_sessions::run(alloc, words, &mut inputs)?;
+    add(answers, ended.status, &ended.out)?;
     let Inputs { volume, .. } = inputs;
     match volume {
         Ok(volume) => Ok(volume),

@@ -263,15 +263,20 @@ impl Drawing {
                 &copy,
             );
         }
-        let damaged = dice.below(4);
-        if !has_older && damaged < 2 {
+        self.put_damage(image, !has_older);
+        Ok(())
+    }
+
+    /// Draws which copy is damaged, if any, and damages it where it `may_be`.
+    fn put_damage(&mut self, image: &mut [u8], may_be: bool) {
+        let damaged = self.dice.below(4);
+        if may_be && damaged < 2 {
             put(
                 image,
                 damaged.wrapping_mul(self.size).wrapping_add(4096) as usize,
                 &[0],
             );
         }
-        Ok(())
     }
 }
 

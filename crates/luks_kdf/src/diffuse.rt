@@ -5,13 +5,14 @@ ghost use Rattle.luks_kdf.specs.Splitter.{diffused, diffuse};
 
 use crate::hash::HashFn;
 
-// Diffuses each block of the hash's length by itself.
+// Diffuses each block of the hash's length by itself, the first ones side by side.
 pub(crate) fn diffuse<H: HashFn>(bytes: &mut [u8])
     requires { length bytes.old ≤ 128 }
     ensures { bytes.new ≡ diffuse H.digest H.LEN bytes.old }
 {
     let count = bytes.len().div_ceil(H::LEN);
-    for j in 0..count {
+    let done = H::diffuse_side_by_side(bytes);
+    for j in done..count {
         let start = j * H::LEN;
         let end = (start + H::LEN).min(bytes.len());
         diffuse_block::<H>(&mut bytes[start..end], j as u32);

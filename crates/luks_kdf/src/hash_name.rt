@@ -7,7 +7,7 @@ ghost use Rattle.luks_kdf.specs.Names.{name_of, hash_of, digest_size_of, block_s
 
 use crate::hash::HashFn;
 use crate::hash_work::HashWork;
-use luks_lanes::{sha1_turns, sha256_turns, sha512_turns};
+use luks_lanes::{sha1_turns, sha256_diffusion, sha256_turns, sha512_turns};
 use sha1::Sha1;
 use sha2::{Digest, Sha256, Sha512};
 
@@ -155,6 +155,14 @@ impl HashFn for Sha256Fn {
 
     fn finish(self, out: &mut [u8]) {
         out.copy_from_slice(&self.hasher.finalize());
+    }
+
+    fn diffuse_side_by_side(bytes: &mut [u8]) -> usize {
+        let pairs = bytes.len() / 64;
+        for i in 0..pairs {
+            sha256_diffusion(&mut bytes[i * 64..i * 64 + 64], i as u32 * 2);
+        }
+        pairs * 2
     }
 
     fn run_side_by_side(blocks: &mut [u8], key: &[u8], iterations: u32) -> usize {

@@ -1,9 +1,9 @@
--- The window of the second block of a message of 96 bytes.
-use Rattle.std.proofs.Common.{◌≡◌, ℕ, zero, suc, ◌<◌, ◌+◌, ◌*◌, ◌/◌, ◌%◌, ◌^◌, [], ◌∷◌, arith, refl, sym, subst}
+-- The windows of the second block of a message of 96 bytes, and of the one block of 36 bytes.
+use Rattle.std.proofs.Common.{◌≡◌, ℕ, zero, suc, ◌<◌, ◌+◌, ◌*◌, ◌/◌, ◌%◌, ◌^◌, List, [], ◌∷◌, slice_index, arith, refl, sym, subst}
 use Rattle.std.proofs.lemmas.Nat.{from_be_bytes-to_be_bytes_4}
 use Rattle.sha2.specs.Sha256.{IsWindow, schedule, digest_bytes}
 use Rattle.sha2.proofs.Schedule256.{IsWindow_first}
-use Rattle.luks_lanes.specs.Pair.{last_block}
+use Rattle.luks_lanes.specs.Pair.{last_block, numbered_block}
 
 -- each number below four
 pub below_four : (P : ℕ → Type 0) → P 0 → P 1 → P 2 → P 3 → (j : ℕ) → j < 4 → P j
@@ -36,3 +36,26 @@ first_window_is x0 x1 x2 x3 x4 x5 x6 x7 h0 h1 h2 h3 h4 h5 h6 h7 =
     (sym (from_be_bytes-to_be_bytes_4 x4 h4)) (sym (from_be_bytes-to_be_bytes_4 x5 h5))
     (sym (from_be_bytes-to_be_bytes_4 x6 h6)) (sym (from_be_bytes-to_be_bytes_4 x7 h7))
     refl refl refl refl refl refl refl refl)
+
+-- eight words of a list end the same block
+pub eight_words : (h : List ℕ)
+    → last_block (slice_index h 0 ∷ slice_index h 1 ∷ slice_index h 2 ∷ slice_index h 3
+    ∷ slice_index h 4 ∷ slice_index h 5 ∷ slice_index h 6 ∷ slice_index h 7 ∷ []) ≡ last_block h
+unfolding digest_bytes
+eight_words h = refl
+
+-- a number, eight words of a hash value, and the padding after them
+pub numbered_window_is : (n x0 x1 x2 x3 x4 x5 x6 x7 : ℕ)
+    → n < 2 ^ 32 → x0 < 2 ^ 32 → x1 < 2 ^ 32 → x2 < 2 ^ 32 → x3 < 2 ^ 32 → x4 < 2 ^ 32 → x5 < 2 ^ 32 → x6 < 2 ^ 32 → x7 < 2 ^ 32
+    → IsWindow (n ∷ x0 ∷ x1 ∷ x2 ∷ x3 ∷ x4 ∷ x5 ∷ x6 ∷ x7 ∷ 0x80000000 ∷ 0 ∷ 0 ∷ 0 ∷ 0 ∷ 0 ∷ 288 ∷ [])
+    (schedule (numbered_block n (x0 ∷ x1 ∷ x2 ∷ x3 ∷ x4 ∷ x5 ∷ x6 ∷ x7 ∷ [])) 48) 16
+unfolding digest_bytes
+numbered_window_is n x0 x1 x2 x3 x4 x5 x6 x7 hn h0 h1 h2 h3 h4 h5 h6 h7 =
+    IsWindow_first (numbered_block n (x0 ∷ x1 ∷ x2 ∷ x3 ∷ x4 ∷ x5 ∷ x6 ∷ x7 ∷ []))
+    (n ∷ x0 ∷ x1 ∷ x2 ∷ x3 ∷ x4 ∷ x5 ∷ x6 ∷ x7 ∷ 0x80000000 ∷ 0 ∷ 0 ∷ 0 ∷ 0 ∷ 0 ∷ 288 ∷ []) refl
+    (below_sixteen _ (sym (from_be_bytes-to_be_bytes_4 n hn))
+    (sym (from_be_bytes-to_be_bytes_4 x0 h0)) (sym (from_be_bytes-to_be_bytes_4 x1 h1))
+    (sym (from_be_bytes-to_be_bytes_4 x2 h2)) (sym (from_be_bytes-to_be_bytes_4 x3 h3))
+    (sym (from_be_bytes-to_be_bytes_4 x4 h4)) (sym (from_be_bytes-to_be_bytes_4 x5 h5))
+    (sym (from_be_bytes-to_be_bytes_4 x6 h6)) (sym (from_be_bytes-to_be_bytes_4 x7 h7))
+    refl refl refl refl refl refl refl)

@@ -2,6 +2,7 @@ mod ChMaj
 mod Nested
 mod Rotations
 pub mod ByteFacts
+pub mod DiffusionFacts
 pub mod FirstWindow
 pub mod PairFacts
 pub mod QuadFacts

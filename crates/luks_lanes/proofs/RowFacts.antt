@@ -34,7 +34,7 @@ part-within at k xs ys n d within inside same =
     ∙ take-append-le n (drop d ys) rest (omega (arith, same, length-drop d ys))
 
 -- a part of a part
-part-part : (k : ℕ) (xs : List ℕ) (n d : ℕ) → d + n ≤ k → part n d (take k xs) ≡ part n d xs
+pub part-part : (k : ℕ) (xs : List ℕ) (n d : ℕ) → d + n ≤ k → part n d (take k xs) ≡ part n d xs
 part-part k xs n d within =
     sym (drop-take d n (take k xs)) ∙ ap (drop d) (take-take (d + n) k xs within) ∙ drop-take d n xs
 

@@ -65,6 +65,12 @@ below_five P p0 p1 p2 p3 p4 (suc (suc (suc zero))) h = p3
 below_five P p0 p1 p2 p3 p4 (suc (suc (suc (suc zero)))) h = p4
 below_five P p0 p1 p2 p3 p4 (suc (suc (suc (suc (suc n))))) h = absurd (omega arith)
 
+-- five words of a list end the same block
+pub five_words : (h : List ℕ)
+    → last_block (slice_index h 0 ∷ slice_index h 1 ∷ slice_index h 2 ∷ slice_index h 3 ∷ slice_index h 4 ∷ []) ≡ last_block h
+unfolding digest_bytes
+five_words h = refl
+
 -- the window of five words of a hash value, and the padding after them
 pub five_window_is : (x0 x1 x2 x3 x4 : ℕ) → x0 < 2 ^ 32 → x1 < 2 ^ 32 → x2 < 2 ^ 32 → x3 < 2 ^ 32 → x4 < 2 ^ 32
     → IsWindow (x0 ∷ x1 ∷ x2 ∷ x3 ∷ x4 ∷ 0x80000000 ∷ 0 ∷ 0 ∷ 0 ∷ 0 ∷ 0 ∷ 0 ∷ 0 ∷ 0 ∷ 0 ∷ 672 ∷ [])

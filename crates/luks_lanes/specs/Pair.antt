@@ -1,5 +1,6 @@
 -- Two blocks side by side: a vector of four lanes holds a word of each, in its lanes 0 and 2.
 use Rattle.std.specs.Prelude.{ℕ, ◌*◌, List, [], ◌∷◌, ◌++◌, map, slice_index, slice_index_or}
+use Rattle.std.specs.Int.{w32, to_be_bytes}
 use Rattle.sha2.specs.Sha256.{digest_bytes, padding}
 
 -- the word of block j
@@ -23,3 +24,7 @@ window j w = map (word_of j) w
 -- the second block of a message of 96 bytes that ends with these words
 abbrev pub last_block : List ℕ → List ℕ
 last_block h = digest_bytes h 8 ++ padding 96
+
+-- the one block of a message of 36 bytes: a number in 4 bytes, high byte first, and these words
+abbrev pub numbered_block : ℕ → List ℕ → List ℕ
+numbered_block n h = (to_be_bytes w32 n ++ digest_bytes h 8) ++ padding 36

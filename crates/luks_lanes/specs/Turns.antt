@@ -1,6 +1,6 @@
 -- The turns of PBKDF2 (RFC 8018, 5.2) with HMAC (RFC 2104) under a key that is a whole block, on
 -- blocks that lie in a row.
-use Rattle.std.specs.Prelude.{◌≡◌, ℕ, zero, suc, ◌-◌, ◌*◌, ◌<◌, ◌≤◌, ◌+◌, ◌%◌, List, [], ◌∷◌, ◌++◌, take, drop, map, bit_xor, ◌≢◌}
+use Rattle.std.specs.Prelude.{◌≡◌, ℕ, zero, suc, ◌-◌, ◌*◌, ◌<◌, ◌≤◌, List, [], ◌∷◌, ◌++◌, take, drop, map, bit_xor}
 
 -- H (K xor opad, H (K xor ipad, m)) (RFC 2104, 2)
 abbrev pub hmac : (List ℕ → List ℕ) → List ℕ → List ℕ → List ℕ
@@ -37,8 +37,3 @@ block_at size row i = take size (drop (i * size) row)
 pub record AreTurned (hash : List ℕ → List ℕ) (size : ℕ) (key : List ℕ) (c n : ℕ) (before after : List ℕ) : Type 0 where
   pub turned : (i : ℕ) → i < n → block_at size after i ≡ turns_xored (hmac hash key) (block_at size before i) (c - 1)
   pub kept : (i : ℕ) → n ≤ i → block_at size after i ≡ block_at size before i
-
--- all of n blocks, in groups of a size, are done, but for a last one that is alone in its group
-pub record IsAllButOneAlone (size n done : ℕ) : Type 0 where
-  pub alone : n % size ≡ 1 → done + 1 ≡ n
-  pub others : n % size ≢ 1 → done ≡ n

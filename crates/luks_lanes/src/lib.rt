@@ -1,20 +1,27 @@
-//! PBKDF2's turns on blocks side by side: each block is a chain of its own, so words of several lie
-//! in the lanes of one vector.
+//! PBKDF2's turns on words, and the splitter's diffusion by SHA-256. Blocks go side by side, each a
+//! chain of its own, so that words of several lie in the lanes of one vector; the last one may be alone.
 #![tactic(auto)]
 
 mod bytes;
 mod constants;
 mod lanes;
 mod pair;
+mod pair_diffusion;
 mod pair_turns;
 mod quad;
 mod quad_rounds;
 mod quad_turns;
 mod sha256;
+mod single;
+mod single_rounds;
+mod single_sha1_rounds;
+mod single_sha1_turns;
+mod single_turns;
 mod wide;
 mod wide_rounds;
 mod wide_turns;
 
+pub use pair_diffusion::sha256_diffusion;
 pub use pair_turns::sha256_turns;
 pub use quad_turns::sha1_turns;
 pub use wide_turns::sha512_turns;

@@ -8,16 +8,16 @@ ghost use Rattle.luks_lanes.specs.Turns.{AreTurned};
 use crate::bytes::{load_be, load_or_zero, write_words};
 use crate::lanes::{Keyed, Lanes};
 use crate::pair::xor;
-use crate::sha256::{compress, compress_window};
+use crate::sha256::{compress, compress_window, start};
 use std::simd::u32x4;
 
 /// Runs the turns of PBKDF2 with HMAC by SHA-256 under a key that is a whole block (RFC 8018, 5.2) on
-/// a row of blocks, which hold their first turns: on two at a time. The result is how many blocks are
-/// done, all but an odd last one.
+/// a row of blocks, which hold their first turns: on two at a time, and on an odd last one alone. The
+/// result is how many blocks are done, all of them.
 pub fn sha256_turns(blocks: &mut [u8], key: &[u8], iterations: u32) -> usize
     requires some_iterations { 1 ≤ iterations }
     requires whole_key { length key.now ≡ 64 }
-    ensures count { result ≡ length blocks.old / 64 * 2 }
+    ensures count { result ≡ length blocks.old / 32 }
     ensures turned { AreTurned sha256 32 key.now iterations result blocks.old blocks.new }
 {
     let keyed = Keyed::<[u32x4; 8]>::new(key);
@@ -25,7 +25,13 @@ pub fn sha256_turns(blocks: &mut [u8], key: &[u8], iterations: u32) -> usize
     for i in 0..pairs {
         keyed.run(&mut blocks[i * 64..i * 64 + 64], iterations);
     }
-    pairs * 2
+    let done = pairs * 2;
+    if blocks.len() / 32 == done {
+        return done;
+    }
+    let alone = Keyed::<[u32; 8]>::new(key);
+    alone.run(&mut blocks[done * 32..done * 32 + 32], iterations);
+    done + 1
 }
 
 // Two hash values of SHA-256: eight words of each.
@@ -50,17 +56,7 @@ impl Lanes for [u32x4; 8] {
         'load: for i in 0..16 {
             w[i] = in_both(load_be(block, 4 * i));
         }
-        let start = [
-            u32x4::splat(0x6a09_e667),
-            u32x4::splat(0xbb67_ae85),
-            u32x4::splat(0x3c6e_f372),
-            u32x4::splat(0xa54f_f53a),
-            u32x4::splat(0x510e_527f),
-            u32x4::splat(0x9b05_688c),
-            u32x4::splat(0x1f83_d9ab),
-            u32x4::splat(0x5be0_cd19),
-        ];
-        compress_window(&start, w)
+        compress_window(&start(), w)
     }
 
     fn load(row: &[u8]) -> [u32x4; 8] {

@@ -3,7 +3,7 @@
 ghost use Rattle.std.specs.Prelude.{◌≡◌, ℕ, ◌+◌, ◌*◌, ◌/◌, ◌<◌, ◌≤◌, length};
 ghost use Rattle.sha1.specs.Sha1.{sha1, word_at};
 ghost use Rattle.luks_lanes.specs.Quad.{lane, word_of};
-ghost use Rattle.luks_lanes.specs.Turns.{AreTurned, IsAllButOneAlone};
+ghost use Rattle.luks_lanes.specs.Turns.{AreTurned};
 
 use crate::bytes::{load_be, load_or_zero, write_words};
 use crate::lanes::{Keyed, Lanes};
@@ -12,12 +12,12 @@ use crate::quad_rounds::{compress, compress_window};
 use std::simd::u32x4;
 
 /// Runs the turns of PBKDF2 with HMAC by SHA-1 under a key that is a whole block (RFC 8018, 5.2) on a
-/// row of blocks, which hold their first turns: on four at a time, and on two or three last ones. The
-/// result is how many blocks are done, all but a last one that would be alone.
+/// row of blocks, which hold their first turns: on four at a time, on two or three last ones, and on
+/// one last one alone. The result is how many blocks are done, all of them.
 pub fn sha1_turns(blocks: &mut [u8], key: &[u8], iterations: u32) -> usize
     requires some_iterations { 1 ≤ iterations }
     requires whole_key { length key.now ≡ 64 }
-    ensures count { IsAllButOneAlone 4 (length blocks.old / 20) result }
+    ensures count { result ≡ length blocks.old / 20 }
     ensures turned { AreTurned sha1 20 key.now iterations result blocks.old blocks.new }
 {
     let keyed = Keyed::<[u32x4; 5]>::new(key);
@@ -27,10 +27,16 @@ pub fn sha1_turns(blocks: &mut [u8], key: &[u8], iterations: u32) -> usize
     }
     let done = quads * 4;
     let left = blocks.len() / 20 - done;
-    if left < 2 {
+    if left == 0 {
         return done;
     }
-    keyed.run(&mut blocks[done * 20..(done + left) * 20], iterations);
+    let rest = &mut blocks[done * 20..(done + left) * 20];
+    if left == 1 {
+        let alone = Keyed::<[u32; 5]>::new(key);
+        alone.run(rest, iterations);
+        return done + 1;
+    }
+    keyed.run(rest, iterations);
     done + left
 }
 

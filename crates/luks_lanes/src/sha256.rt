@@ -1,12 +1,29 @@
 // The compression of SHA-256 on two blocks side by side (FIPS 180-4, 6.2.2).
 
 ghost use Rattle.std.specs.Prelude.{◌≡◌, ℕ, ◌+◌, ◌*◌, ◌<◌, ◌≤◌, List, [], ◌∷◌, slice_set};
-ghost use Rattle.sha2.specs.Sha256.{IsRoundsAt, IsWindow, compress, round, rounds, schedule, window_word};
+ghost use Rattle.sha2.specs.Sha256.{IsRoundsAt, IsWindow, compress, initial_hash_256, round, rounds, schedule, window_word};
 ghost use Rattle.luks_lanes.specs.Pair.{word_of, lane, last_block, window};
 
 use crate::constants::SHA256;
 use crate::pair::{add, big_sigma0, big_sigma1, ch, maj, small_sigma0, small_sigma1};
 use std::simd::u32x4;
+
+// The initial hash value, the same in both lanes (FIPS 180-4, 5.3.3).
+#[inline(always)]
+pub(crate) fn start() -> [u32x4; 8]
+    ensures { (j : ℕ) → j < 2 → lane j result ≡ initial_hash_256 }
+{
+    [
+        u32x4::splat(0x6a09_e667),
+        u32x4::splat(0xbb67_ae85),
+        u32x4::splat(0x3c6e_f372),
+        u32x4::splat(0xa54f_f53a),
+        u32x4::splat(0x510e_527f),
+        u32x4::splat(0x9b05_688c),
+        u32x4::splat(0x1f83_d9ab),
+        u32x4::splat(0x5be0_cd19),
+    ]
+}
 
 // `w` is a ring of the last 16 words: the next word goes at `place`, over the word 16 before it.
 #[inline(always)]

@@ -14,14 +14,14 @@ fn next(state: &mut u64) -> u64 {
     z ^ (z >> 31)
 }
 
-fn fill(state: &mut u64, bytes: &mut [u8]) {
+pub(crate) fn fill(state: &mut u64, bytes: &mut [u8]) {
     for byte in bytes.iter_mut() {
         *byte = (next(state) >> 56) as u8;
     }
 }
 
 /// FNV-1a of 64 bits.
-fn digest(bytes: &[u8]) -> u64 {
+pub(crate) fn digest(bytes: &[u8]) -> u64 {
     let mut digest = 0xcbf29ce484222325_u64;
     for byte in bytes {
         digest = (digest ^ u64::from(*byte)).wrapping_mul(0x100000001b3);

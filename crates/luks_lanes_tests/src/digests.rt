@@ -1,4 +1,4 @@
-//! The digest (FNV-1a, 64 bits) of what is derived in each case, made by vectors/make.py.
+//! The digest (FNV-1a, 64 bits) of what is derived or merged in each case, made by vectors/make.py.
 
 /// By sha1.
 pub static SHA1: [u64; 200] = [
@@ -611,3 +611,6 @@ pub static SHA512: [u64; 200] = [
     0x935e79a97cc43226,
     0x43c03a0254b09c15,
 ];
+
+/// Of keys of 65, 96 and 127 bytes that two stripes hold by sha256.
+pub static MERGED: [u64; 3] = [0xc060164102638af6, 0xbb5646b771b4eb54, 0xfc4962845df53f5d];

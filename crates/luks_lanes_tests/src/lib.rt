@@ -6,3 +6,5 @@
 mod derived;
 #[cfg(test)]
 mod digests;
+#[cfg(test)]
+mod merged;

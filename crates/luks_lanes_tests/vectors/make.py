@@ -1,7 +1,8 @@
 #!/usr/bin/env python3
-"""Prints src/digests.rt: digests of 200 keys that Python's hashlib (OpenSSL) derives by each hash. It
-was run once, and what it printed is stored. The password, the salt, the iterations and the length come
-from splitmix64, seeded with the number of the case; src/derived.rt makes the same ones."""
+"""Prints src/digests.rt: digests of 200 keys that Python's hashlib (OpenSSL) derives by each hash, and of
+three that two stripes hold. It was run once, and what it printed is stored. The password, the salt, the
+iterations and the length come from splitmix64, seeded with the number of the case; src/derived.rt makes
+the same ones. So do the stripes, seeded with the key's length, in src/merged.rt."""
 
 import hashlib
 
@@ -39,9 +40,19 @@ def derived(name, case):
     return hashlib.pbkdf2_hmac(name, password, salt, iterations, length)
 
 
-print("//! The digest (FNV-1a, 64 bits) of what is derived in each case, made by vectors/make.py.")
+def merged(length):
+    """The key of so many bytes that two stripes hold by sha256: the first one diffused, xored with the second."""
+    stripes = SplitMix64(length).bytes(2 * length)
+    blocks = [stripes[at : min(at + 32, length)] for at in range(0, length, 32)]
+    numbered = [hashlib.sha256(j.to_bytes(4, "big") + it).digest()[: len(it)] for j, it in enumerate(blocks)]
+    return bytes(a ^ b for a, b in zip(b"".join(numbered), stripes[length:]))
+
+
+print("//! The digest (FNV-1a, 64 bits) of what is derived or merged in each case, made by vectors/make.py.")
 for name in ("sha1", "sha256", "sha512"):
     print(f"\n/// By {name}.\npub static {name.upper()}: [u64; 200] = [")
     for case in range(200):
         print(f"    0x{fnv1a(derived(name, case)):016x},")
     print("];")
+keys = ", ".join(f"0x{fnv1a(merged(length)):016x}" for length in (65, 96, 127))
+print(f"\n/// Of keys of 65, 96 and 127 bytes that two stripes hold by sha256.\npub static MERGED: [u64; 3] = [{keys}];")

@@ -17,25 +17,25 @@ use Rattle.luks_slot.specs.declared.plan.SlotPlan.{SlotPlan}
 use Rattle.luks_slot.specs.Opening.{slot_key}
 use Rattle.luks_reading.specs.declared.open_fault.OpenFault.{OpenFault}
 use Rattle.luks_reading.specs.declared.open_fault.OpenFault.TheVariants as opening
-use Rattle.luks_reading.specs.Answer.{Answer, HasPlanAs, IsRefusal, IsRefusalAs, Opens, opened_to}
+use Rattle.luks_reading.specs.Answer.{AnswerWithin, HasPlanAs, IsRefusalWithin, IsRefusalAsWithin, OpensWithin, opened_to}
 use Rattle.luks_reading.specs.Header.{json_at}
 use Rattle.luks_laws.proofs.PlanFacts1.{has_luks1_plan}
 use Rattle.luks_laws.proofs.PlanFacts2.{has_luks2_plan}
 
 -- the equations' key, or none, is the answer
-opened : (v : List ℕ) (n : ℕ) (p : List ℕ) (found : Option (List ℕ)) → Opens v n p found → Answer v n p (opened_to found)
-opened v n p (Some key) x = x
-opened v n p None x = x
+opened : (memory : ℕ) (v : List ℕ) (n : ℕ) (p : List ℕ) (found : Option (List ℕ)) → OpensWithin memory v n p found → AnswerWithin memory v n p (opened_to found)
+opened memory v n p (Some key) x = x
+opened memory v n p None x = x
 
-answer_of_plan : (v : List ℕ) (n : ℕ) (p : List ℕ) (c : Choice) (plan : SlotPlan) → Chosen v c → HasPlanAs v n c plan → ((f : OpenFault) → IsRefusalAs v n c f → ⊥)
-    → (found : Option (List ℕ)) × Answer v n p (opened_to found)
-answer_of_plan v n p c plan chosen is none =
+answer_of_plan : (memory : ℕ) (v : List ℕ) (n : ℕ) (p : List ℕ) (c : Choice) (plan : SlotPlan) → Chosen v c → HasPlanAs v n c plan → ((f : OpenFault) → IsRefusalAsWithin memory v n c f → ⊥)
+    → (found : Option (List ℕ)) × AnswerWithin memory v n p (opened_to found)
+answer_of_plan memory v n p c plan chosen is none =
     let found = slot_key plan (part v plan.area.start plan.area.len) p in
-    (found, opened v n p found (record { choice = c; chosen = chosen; plan = plan; is = is; unrefused = none; key = refl }))
+    (found, opened memory v n p found (record { choice = c; chosen = chosen; plan = plan; is = is; unrefused = none; key = refl }))
 
 -- a keyslot of LUKS1 that nothing refuses has a number below 8, and so a plan
-luks1_plan : (v : List ℕ) (n : ℕ) → ((f : OpenFault) → IsRefusalAs v n luks1 f → ⊥) → (plan : SlotPlan) × HasPlanAs v n luks1 plan
-luks1_plan v n none = elim (cases_lt n 8) [
+luks1_plan : (memory : ℕ) (v : List ℕ) (n : ℕ) → ((f : OpenFault) → IsRefusalAsWithin memory v n luks1 f → ⊥) → (plan : SlotPlan) × HasPlanAs v n luks1 plan
+luks1_plan memory v n none = elim (cases_lt n 8) [
   | inl low ↦ has_luks1_plan (part v 0 592) n low
   | inr high ↦ absurd (none opening.NoSuchSlot high)
 ]
@@ -43,7 +43,7 @@ luks1_plan v n none = elim (cases_lt n 8) [
 -- a keyslot of LUKS2 that nothing refuses is one of accepted metadata, and so has a plan
 module _ (says : (text : List ℕ) (n : ℕ) → number_of text ≡ Some n → (text ≡ number_text n) × (n < 32))
     (metadata : (json : List ℕ) → ((f : MetaFault) → IsMetaFault json f → ⊥) ↔ ((j : Value) × IsMeta json j))
-    (v : List ℕ) (n o : ℕ) (copies : Copies) (none : (f : OpenFault) → IsRefusalAs v n (luks2 o copies) f → ⊥) where
+    (memory : ℕ) (v : List ℕ) (n o : ℕ) (copies : Copies) (none : (f : OpenFault) → IsRefusalAsWithin memory v n (luks2 o copies) f → ⊥) where
   plan_of_object : (j : Value) → IsMeta (json_at v o) j → n < 32 → (found : Option Value) → object_at j Keyslots n ≡ found → (plan : SlotPlan) × HasPlanAs v n (luks2 o copies) plan
   plan_of_object j accepted low (Some d) is = has_luks2_plan says (json_at v o) j n d accepted low is
   plan_of_object j accepted low None is = absurd (none opening.NoSuchSlot (record { value = j; holds = accepted.json; absent = λ _. is }))
@@ -59,17 +59,17 @@ module _ (says : (text : List ℕ) (n : ℕ) → number_of text ≡ Some n → (
 -- a keyslot that nothing refuses has a plan
 plan_as : ((text : List ℕ) (n : ℕ) → number_of text ≡ Some n → (text ≡ number_text n) × (n < 32))
     → ((json : List ℕ) → ((f : MetaFault) → IsMetaFault json f → ⊥) ↔ ((j : Value) × IsMeta json j))
-    → (v : List ℕ) (n : ℕ) (c : Choice) → Chosen v c → ((f : OpenFault) → IsRefusalAs v n c f → ⊥) → (plan : SlotPlan) × HasPlanAs v n c plan
-plan_as says metadata v n luks1 chosen none = luks1_plan v n none
-plan_as says metadata v n (luks2 o copies) chosen none = luks2_plan says metadata v n o copies none
-plan_as says metadata v n nothing chosen none = absurd (none (opening.Head head.NoSoundCopy) chosen)
+    → (memory : ℕ) (v : List ℕ) (n : ℕ) (c : Choice) → Chosen v c → ((f : OpenFault) → IsRefusalAsWithin memory v n c f → ⊥) → (plan : SlotPlan) × HasPlanAs v n c plan
+plan_as says metadata memory v n luks1 chosen none = luks1_plan memory v n none
+plan_as says metadata memory v n (luks2 o copies) chosen none = luks2_plan says metadata memory v n o copies none
+plan_as says metadata memory v n nothing chosen none = absurd (none (opening.Head head.NoSoundCopy) chosen)
 
 pub answer_unrefused : ((text : List ℕ) (n : ℕ) → number_of text ≡ Some n → (text ≡ number_text n) × (n < 32))
     → ((json : List ℕ) → ((f : MetaFault) → IsMetaFault json f → ⊥) ↔ ((j : Value) × IsMeta json j))
     → ((v : List ℕ) → (c : Choice) × Chosen v c)
-    → (v : List ℕ) (n : ℕ) (p : List ℕ) → ((f : OpenFault) → IsRefusal v n f → ⊥) → (found : Option (List ℕ)) × Answer v n p (opened_to found)
-answer_unrefused says metadata some v n p none =
+    → (memory : ℕ) (v : List ℕ) (n : ℕ) (p : List ℕ) → ((f : OpenFault) → IsRefusalWithin memory v n f → ⊥) → (found : Option (List ℕ)) × AnswerWithin memory v n p (opened_to found)
+answer_unrefused says metadata some memory v n p none =
     let c = some v in
-    let unrefused : (f : OpenFault) → IsRefusalAs v n c.0 f → ⊥ = λ f bad. none f (record { choice = c.0; chosen = c.1; fault = bad }) in
-    let plan = plan_as says metadata v n c.0 c.1 unrefused in
-    answer_of_plan v n p c.0 plan.0 c.1 plan.1 unrefused
+    let unrefused : (f : OpenFault) → IsRefusalAsWithin memory v n c.0 f → ⊥ = λ f bad. none f (record { choice = c.0; chosen = c.1; fault = bad }) in
+    let plan = plan_as says metadata memory v n c.0 c.1 unrefused in
+    answer_of_plan memory v n p c.0 plan.0 c.1 plan.1 unrefused

@@ -11,7 +11,7 @@ use Rattle.luks_slot.specs.declared.plan.AreaCipher.TheVariants.{Apart, Whole}
 use Rattle.luks_slot.specs.declared.plan.Derivation.{Derivation}
 use Rattle.luks_slot.specs.declared.plan.Derivation.TheVariants.{Argon2, Pbkdf2}
 use Rattle.luks_slot.specs.declared.plan.SlotPlan.{SlotPlan}
-use Rattle.luks_slot.specs.Refusal.{is_argon2, is_known_derivation, is_open_cipher, slot_refusal}
+use Rattle.luks_slot.specs.Refusal.{is_argon2, is_argon2_refused, is_known_derivation, is_open_cipher, slot_refusal, slot_refusal_within}
 use Rattle.luks_reading.specs.declared.open_fault.OpenFault.{OpenFault}
 use Rattle.luks_reading.specs.declared.open_fault.OpenFault.TheVariants as opening
 use Rattle.luks_reading.specs.Answer.{IsLuks1HeadRefusal, IsLuks1Refusal, open_key}
@@ -73,13 +73,18 @@ among_heads h n head.Memory bad = absurd bad.0
 
 same_argon2 : (h e : List ℕ) (a b : Derivation) → IsLuks1Derivation h e a → IsLuks1Derivation h e b → is_argon2 a ≡ is_argon2 b
 same_argon2 h e (Pbkdf2 k i s) (Pbkdf2 l j t) x y = refl
-same_argon2 h e (Pbkdf2 k i s) Argon2 x y = absurd y
-same_argon2 h e Argon2 b x y = absurd x
+same_argon2 h e (Pbkdf2 k i s) (Argon2 c) x y = absurd y
+same_argon2 h e (Argon2 c) b x y = absurd x
+
+same_refused : (h e : List ℕ) (a b : Derivation) (allowed : ℕ) → IsLuks1Derivation h e a → IsLuks1Derivation h e b → is_argon2_refused allowed a ≡ is_argon2_refused allowed b
+same_refused h e (Pbkdf2 k i s) (Pbkdf2 l j t) allowed x y = refl
+same_refused h e (Pbkdf2 k i s) (Argon2 c) allowed x y = absurd y
+same_refused h e (Argon2 c) b allowed x y = absurd x
 
 same_known : (h e : List ℕ) (a b : Derivation) → IsLuks1Derivation h e a → IsLuks1Derivation h e b → is_known_derivation a ≡ is_known_derivation b
 same_known h e (Pbkdf2 k i s) (Pbkdf2 l j t) x y = let hash = x.0 ∙ sym y.0 in simp hash
-same_known h e (Pbkdf2 k i s) Argon2 x y = absurd y
-same_known h e Argon2 b x y = absurd x
+same_known h e (Pbkdf2 k i s) (Argon2 c) x y = absurd y
+same_known h e (Argon2 c) b x y = absurd x
 
 same_cipher : (h : List ℕ) (a b : AreaCipher) → IsLuks1Cipher h a → IsLuks1Cipher h b → is_open_cipher a ≡ is_open_cipher b
 same_cipher h (Apart n m) (Apart k l) x y = let name = x.0 ∙ sym y.0 in let mode = x.1 ∙ sym y.1 in simp (name, mode)
@@ -97,6 +102,16 @@ same_refusal h n a b x y =
     let digest = x.is.digest.hash ∙ sym y.is.digest.hash in
     simp (argon2, known, cipher, size, splitter, digest)
 
+same_within : (allowed : ℕ) (h : List ℕ) (n : ℕ) (a b : SlotPlan) → HasLuks1Plan h n a → HasLuks1Plan h n b → slot_refusal_within allowed a ≡ slot_refusal_within allowed b
+same_within allowed h n a b x y =
+    let refused = same_refused h (entry h n) a.derivation b.derivation allowed x.is.derivation y.is.derivation in
+    let known = same_known h (entry h n) a.derivation b.derivation x.is.derivation y.is.derivation in
+    let cipher = same_cipher h a.cipher b.cipher x.is.cipher y.is.cipher in
+    let size = x.is.area_key_bytes ∙ sym y.is.area_key_bytes in
+    let splitter = x.is.splitter_hash ∙ sym y.is.splitter_hash in
+    let digest = x.is.digest.hash ∙ sym y.is.digest.hash in
+    simp (refused, known, cipher, size, splitter, digest)
+
 module _ (h : List ℕ) (n : ℕ) where
   -- a keyslot has a plan where it has a number below 8
   find_plan : PlanOrNone (HasLuks1Plan h n)
@@ -107,7 +122,12 @@ module _ (h : List ℕ) (n : ℕ) where
 
   -- its plans are alike
   alike_plans : (a b : SlotPlan) → HasLuks1Plan h n a → HasLuks1Plan h n b → AreAlike a b
-  alike_plans a b x y = record { start = x.is.start ∙ sym y.is.start; len = x.is.len ∙ sym y.is.len; refusal = same_refusal h n a b x y }
+  alike_plans a b x y = record {
+    start = x.is.start ∙ sym y.is.start;
+    len = x.is.len ∙ sym y.is.len;
+    refusal = same_refusal h n a b x y;
+    refusal_within = λ allowed. same_within allowed h n a b x y;
+  }
 
 -- ---- the keyslot
 

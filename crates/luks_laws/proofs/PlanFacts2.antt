@@ -16,12 +16,14 @@ use Rattle.luks_rules.specs.Faults.{member_at, object_at, outer_at, suits, type_
 use Rattle.luks_rules.specs.Reading.{bytes_in, decimal_in, is_listed, kept, number_in, text_of}
 use Rattle.luks_rules.specs.Table.{digest_rows, keyslot_rows}
 use Rattle.luks_meta.specs.Says.{small_at}
+use Rattle.luks_slot.specs.declared.plan.Argon2Kind.{Argon2Kind}
+use Rattle.luks_slot.specs.declared.plan.Argon2Kind.TheVariants.{I, Id}
 use Rattle.luks_slot.specs.declared.plan.AreaCipher.TheVariants.{Whole}
 use Rattle.luks_slot.specs.declared.plan.Derivation.{Derivation}
 use Rattle.luks_slot.specs.declared.plan.Derivation.TheVariants.{Argon2, Pbkdf2}
 use Rattle.luks_slot.specs.declared.plan.DigestPlan.{DigestPlan}
 use Rattle.luks_slot.specs.declared.plan.SlotPlan.{SlotPlan}
-use Rattle.luks_reading.specs.Plans.{HasLuks2Plan, IsLuks2Derivation, IsLuks2Digest}
+use Rattle.luks_reading.specs.Plans.{kind_text, HasLuks2Plan, IsLuks2Derivation, IsLuks2Digest}
 use Rattle.luks_laws.proofs.DigestFacts.{digest_there}
 use Rattle.luks_laws.proofs.UniqueFacts.{tidy_read}
 
@@ -45,6 +47,13 @@ or_last : (a b : Bool) → (a || (b || false)) ≡ true → (a || b) ≡ true
 or_last true b h = refl
 or_last false true h = refl
 or_last false false h = h
+
+-- the kind that a type names
+kind_of : (t : List ℕ) → (bytes_eq t (codes "argon2i") || bytes_eq t (codes "argon2id")) ≡ true → (k : Argon2Kind) × (t ≡ kind_text k)
+kind_of t same = elim (cases_Bool (bytes_eq t (codes "argon2i"))) [
+  | inl first ↦ (I, (bytes_eq-Decides t (codes "argon2i")).0 first)
+  | inr other ↦ (Id, (bytes_eq-Decides t (codes "argon2id")).0 (rw other at same))
+]
 
 -- the object at `o` inside the object is there, so the rows that are always judged are
 module _ (d : Data) (read : IsRead keyslot_rows d) where
@@ -92,7 +101,15 @@ module _ (d : Data) (read : IsRead keyslot_rows d) where
       )
 
   by_argon2 : (t : List ℕ) → type_at d outer.Kdf ≡ Some t → (bytes_eq t (codes "argon2i") || bytes_eq t (codes "argon2id")) ≡ true → (a : Derivation) × IsLuks2Derivation d a
-  by_argon2 t is same = (Argon2, rw is same)
+  by_argon2 t is same =
+      let suited : suits when.Argon2 (type_at d outer.Kdf) ≡ true = rw is same in
+      let cpus : (x : ℕ) × (small_at d outer.Kdf name.Cpus ≡ Some x) = said _ _ (read.each 11 _ refl (and_from _ _ kdf_there suited)) in
+      let memory : (x : ℕ) × (small_at d outer.Kdf name.Memory ≡ Some x) = said _ _ (read.each 14 _ refl (and_from _ _ kdf_there suited)) in
+      let time : (x : ℕ) × (small_at d outer.Kdf name.Time ≡ Some x) = said _ _ (read.each 16 _ refl (and_from _ _ kdf_there suited)) in
+      let kind : (k : Argon2Kind) × (t ≡ kind_text k) = kind_of t same in (
+        Argon2 (record { kind = kind.0; time = time.0; memory = memory.0; cpus = cpus.0; salt = record { ref_ptr = (0, 0); now = salt.0 } }),
+        (is ∙ ap Some kind.1, time.1, memory.1, cpus.1, salt.1),
+      )
 
   derivation : (a : Derivation) × IsLuks2Derivation d a
   derivation =

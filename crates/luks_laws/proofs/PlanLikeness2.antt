@@ -8,37 +8,46 @@ use Rattle.luks_rules.specs.declared.table.Outer.TheVariants as outer
 use Rattle.luks_rules.specs.declared.table.Section.TheVariants.{Digests, Keyslots}
 use Rattle.luks_rules.specs.declared.table.When.TheVariants as when
 use Rattle.luks_rules.specs.Faults.{member_at, object_at, suits, type_at}
-use Rattle.luks_rules.specs.Reading.{decimal_in, number_in, text_of}
+use Rattle.luks_rules.specs.Reading.{bytes_in, decimal_in, number_in, text_of}
+use Rattle.luks_meta.specs.Says.{small_at}
 use Rattle.luks_slot.specs.declared.plan.AreaCipher.{AreaCipher}
 use Rattle.luks_slot.specs.declared.plan.AreaCipher.TheVariants.{Apart, Whole}
 use Rattle.luks_slot.specs.declared.plan.Derivation.{Derivation}
 use Rattle.luks_slot.specs.declared.plan.Derivation.TheVariants.{Argon2, Pbkdf2}
 use Rattle.luks_slot.specs.declared.plan.DigestPlan.{DigestPlan}
 use Rattle.luks_slot.specs.declared.plan.SlotPlan.{SlotPlan}
-use Rattle.luks_slot.specs.Refusal.{is_argon2, is_known_derivation, is_open_cipher, slot_refusal}
+use Rattle.luks_slot.specs.Refusal.{is_argon2, is_argon2_refused, is_known_derivation, is_open_cipher, slot_refusal, slot_refusal_within}
+use Rattle.luks_reading.specs.PlanFacts.{no_pbkdf2}
 use Rattle.luks_reading.specs.Plans.{HasLuks2Plan, IsLuks2Cipher, IsLuks2Derivation, IsLuks2Digest, IsLuks2Plan}
 use Rattle.luks_laws.proofs.DecidedFacts.{some_same}
 use Rattle.luks_laws.proofs.PlanDecisions.{AreAlike}
 
 -- ---- the parts of a plan
 
--- a type isn't both
-two_types : (t : Option (List ℕ)) → t ≡ Some (codes "pbkdf2") → suits when.Argon2 t ≡ true → ⊥
-two_types t is suited = let off : suits when.Argon2 t ≡ false = ap (suits when.Argon2) is in cc
-
 -- both derivations are Argon2, or neither is
 same_argon2 : (d : Data) (a b : Derivation) → IsLuks2Derivation d a → IsLuks2Derivation d b → is_argon2 a ≡ is_argon2 b
 same_argon2 d (Pbkdf2 k i s) (Pbkdf2 l j t) x y = refl
-same_argon2 d (Pbkdf2 k i s) Argon2 x y = absurd (two_types (type_at d outer.Kdf) x.0 y)
-same_argon2 d Argon2 (Pbkdf2 k i s) x y = absurd (two_types (type_at d outer.Kdf) y.0 x)
-same_argon2 d Argon2 Argon2 x y = refl
+same_argon2 d (Pbkdf2 k i s) (Argon2 c) x y = absurd (no_pbkdf2 d c y x.0)
+same_argon2 d (Argon2 c) (Pbkdf2 k i s) x y = absurd (no_pbkdf2 d c x y.0)
+same_argon2 d (Argon2 c) (Argon2 f) x y = refl
+
+-- Argon2 is refused of both where some memory is allowed, or of neither
+same_refused : (d : Data) (a b : Derivation) (allowed : ℕ) → IsLuks2Derivation d a → IsLuks2Derivation d b → is_argon2_refused allowed a ≡ is_argon2_refused allowed b
+same_refused d (Pbkdf2 k i s) (Pbkdf2 l j t) allowed x y = refl
+same_refused d (Pbkdf2 k i s) (Argon2 c) allowed x y = absurd (no_pbkdf2 d c y x.0)
+same_refused d (Argon2 c) (Pbkdf2 k i s) allowed x y = absurd (no_pbkdf2 d c x y.0)
+same_refused d (Argon2 c) (Argon2 f) allowed x y =
+    let memory = some_same (small_at d outer.Kdf name.Memory) c.memory f.memory x.2 y.2 in
+    let cpus = some_same (small_at d outer.Kdf name.Cpus) c.cpus f.cpus x.3 y.3 in
+    let salt = some_same (bytes_in 1 128 (member_at d outer.Kdf name.Salt)) c.salt.now f.salt.now x.4 y.4 in
+    simp (memory, cpus, salt)
 
 -- the hashes of both derivations are known, or neither is
 same_known : (d : Data) (a b : Derivation) → IsLuks2Derivation d a → IsLuks2Derivation d b → is_known_derivation a ≡ is_known_derivation b
 same_known d (Pbkdf2 k i s) (Pbkdf2 l j t) x y = let hash = some_same (text_of (member_at d outer.Kdf name.Hash)) k.now l.now x.1 y.1 in simp hash
-same_known d (Pbkdf2 k i s) Argon2 x y = absurd (two_types (type_at d outer.Kdf) x.0 y)
-same_known d Argon2 (Pbkdf2 k i s) x y = absurd (two_types (type_at d outer.Kdf) y.0 x)
-same_known d Argon2 Argon2 x y = refl
+same_known d (Pbkdf2 k i s) (Argon2 c) x y = absurd (no_pbkdf2 d c y x.0)
+same_known d (Argon2 c) (Pbkdf2 k i s) x y = absurd (no_pbkdf2 d c x y.0)
+same_known d (Argon2 c) (Argon2 f) x y = refl
 
 -- both ciphers open, or neither does
 same_cipher : (d : Data) (a b : AreaCipher) → IsLuks2Cipher d a → IsLuks2Cipher d b → is_open_cipher a ≡ is_open_cipher b
@@ -67,10 +76,13 @@ alike_in j n d a b one x y =
     let splitter = some_same (text_of (member_at d outer.Af name.Hash)) a.splitter_hash.now b.splitter_hash.now x.splitter_hash y.splitter_hash in
     let digest = same_digest_hash j n a.digest b.digest one x.digest y.digest in
     let refusal : slot_refusal a ≡ slot_refusal b = simp (argon2, known, cipher, size, splitter, digest) in
+    let refusal_within : (allowed : ℕ) → slot_refusal_within allowed a ≡ slot_refusal_within allowed b =
+    λ allowed. (let refused = same_refused d a.derivation b.derivation allowed x.derivation y.derivation in simp (refused, known, cipher, size, splitter, digest)) in
     record {
       start = some_same (decimal_in (member_at d outer.Area name.Offset)) a.area.start b.area.start x.start y.start;
       len = some_same (decimal_in (member_at d outer.Area name.Size)) a.area.len b.area.len x.len y.len;
       refusal = refusal;
+      refusal_within = refusal_within;
     }
 
 -- a JSON area with one value, in which one digest at most names the keyslot

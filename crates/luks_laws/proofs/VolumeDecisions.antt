@@ -14,7 +14,7 @@ use Rattle.luks_rules.specs.MetaFault.{IsMetaFault}
 use Rattle.luks_reading.specs.declared.check_fault.CheckFault.{CheckFault}
 use Rattle.luks_reading.specs.declared.open_fault.OpenFault.{OpenFault}
 use Rattle.luks_reading.specs.declared.report.Data.{Data}
-use Rattle.luks_reading.specs.Answer.{Answer, IsRefusal, IsRefusalAs, open_key, Opened, opened_to, refused}
+use Rattle.luks_reading.specs.Answer.{AnswerWithin, IsRefusalWithin, IsRefusalAsWithin, open_key, Opened, opened_to, refused}
 use Rattle.luks_reading.specs.Checked.{check_key, First, IsFault, IsFaultAs, WellFormed}
 use Rattle.luks_reading.specs.Header.{json_at}
 use Rattle.luks_laws.proofs.AnswerFacts.{answer_unrefused}
@@ -54,21 +54,21 @@ module _ (kinds : (json : List ℕ) → ((j : Value) × Json json j) ⊎ IsBadJs
       (metadata : (json : List ℕ) → ((f : MetaFault) → IsMetaFault json f → ⊥) ↔ ((j : Value) × IsMeta json j))
       (digest : (json : List ℕ) (j : Value) → IsMeta json j → (n m k : ℕ) → IsDigestOf j n m → IsDigestOf j n k → m ≡ k) where
     -- by what counts of a volume a keyslot has a first refusal or none
-    refusal_as : (v : List ℕ) (n : ℕ) (c : Choice) → Chosen v c → LeastOrNone OpenFault open_key (IsRefusalAs v n c)
-    refusal_as v n luks1 chosen = luks1_refusal_or_none (part v 0 592) (length v) n
-    refusal_as v n (luks2 o copies) chosen = luks2_refusal_or_none kinds good one says metadata digest (header_at v o) (json_at v o) (length v) n
-    refusal_as v n nothing chosen = select_refusal_or_none v chosen
+    refusal_as : (memory : ℕ) (v : List ℕ) (n : ℕ) (c : Choice) → Chosen v c → LeastOrNone OpenFault open_key (IsRefusalAsWithin memory v n c)
+    refusal_as memory v n luks1 chosen = luks1_refusal_or_none (part v 0 592) (length v) n
+    refusal_as memory v n (luks2 o copies) chosen = luks2_refusal_or_none kinds good one says metadata digest memory (header_at v o) (json_at v o) (length v) n
+    refusal_as memory v n nothing chosen = select_refusal_or_none v chosen
 
     -- a keyslot has a first refusal or none
-    refusal_or_none : (v : List ℕ) (n : ℕ) → LeastOrNone OpenFault open_key (IsRefusal v n)
-    refusal_or_none v n =
+    refusal_or_none : (memory : ℕ) (v : List ℕ) (n : ℕ) → LeastOrNone OpenFault open_key (IsRefusalWithin memory v n)
+    refusal_or_none memory v n =
         let c = some v in
-        carry_least OpenFault open_key (IsRefusalAs v n c.0) (IsRefusal v n) (λ f is. record { choice = c.0; chosen = c.1; fault = is })
-        (λ f x. subst (λ d. IsRefusalAs v n d f) (only v x.choice c.0 x.chosen c.1) x.fault) (refusal_as v n c.0 c.1)
+        carry_least OpenFault open_key (IsRefusalAsWithin memory v n c.0) (IsRefusalWithin memory v n) (λ f is. record { choice = c.0; chosen = c.1; fault = is })
+        (λ f x. subst (λ d. IsRefusalAsWithin memory v n d f) (only v x.choice c.0 x.chosen c.1) x.fault) (refusal_as memory v n c.0 c.1)
 
     -- the first refusal, or what the plan gives
-    pub some_answer : (v : List ℕ) (n : ℕ) (p : List ℕ) → (a : Opened) × Answer v n p a
-    some_answer v n p = elim (refusal_or_none v n) [
+    pub some_answer : (memory : ℕ) (v : List ℕ) (n : ℕ) (p : List ℕ) → (a : Opened) × AnswerWithin memory v n p a
+    some_answer memory v n p = elim (refusal_or_none memory v n) [
       | inl first ↦ (refused first.0, first.1)
-      | inr none ↦ (let x = answer_unrefused says metadata some v n p none in (opened_to x.0, x.1))
+      | inr none ↦ (let x = answer_unrefused says metadata some memory v n p none in (opened_to x.0, x.1))
     ]

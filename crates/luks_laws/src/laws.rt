@@ -2,7 +2,7 @@
 //! decided, and so the one or the other is told.
 ghost use Rattle.std.specs.Prelude.{◌⊎◌, ℕ, List};
 ghost use Rattle.luks_reading.specs.declared.report.Data.{Data as Payload};
-ghost use Rattle.luks_reading.specs.Answer.{Answer, Opened};
+ghost use Rattle.luks_reading.specs.Answer.{AnswerWithin, Opened};
 ghost use Rattle.luks_reading.specs.Checked.{First, WellFormed};
 
 use luks_head::one_choice;
@@ -21,9 +21,11 @@ pub fn first_fault_or_well_formed()
     no_fault_is_well_formed();
 }
 
-/// Of each volume each keyslot has an answer by each passphrase: a key, none, or the first refusal.
+/// Of each volume each keyslot has an answer by each passphrase, however much memory Argon2 may take: a
+/// key, none, or the first refusal.
 pub fn every_keyslot_has_an_answer()
-    ensures { (v : List ℕ) (n : ℕ) (p : List ℕ) → (a : Opened) × Answer v n p a }
+    ensures { (memory : ℕ) (v : List ℕ) (n : ℕ) (p : List ℕ)
+        → (a : Opened) × AnswerWithin memory v n p a }
 {
     one_kind_of_area();
     one_value();

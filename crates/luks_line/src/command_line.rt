@@ -1,41 +1,99 @@
 use crate::helps;
+use crate::rebuild_line::{rebuild_command, rebuilding_of};
 use clap::builder::ValueParser;
 use clap::error::ErrorKind;
 use clap::{Arg, ArgAction, ArgMatches, Command, Error};
 use luks_kdf::HashName;
 use luks_reading::Data;
-use luks_request::{Command as Asked, Converting, EditRequest, Editing, Line, Making, NewVersion};
+use luks_request::{
+    Command as Requested, Converting, EditRequest, Editing, Line, Making, NewVersion, ShowAs,
+};
 use luks_terms::Format;
 use std::alloc::{AllocError, Global};
+
+/// What a command line asks for.
+#[derive(Debug, Clone, Copy, PartialEq, Eq)]
+pub enum Asked<'a> {
+    /// To explain a fault, which is named as it is printed or by its name alone; without one to list
+    /// them all. No file is read for it.
+    Explain(Option<&'a str>),
+    /// A command on a volume.
+    Volume(Line<'a>),
+}
 
 /// Reads a command line, of which the first word is the program's name.
 ///
 /// The fault is that of `clap`: a mistake in the words, a request for help, or memory that was
 /// refused.
-pub fn line<'a>(alloc: Global, words: &'a [&'a str]) -> Result<Line<'a>, Error> {
+pub fn parse<'a>(alloc: Global, words: &'a [&'a str]) -> Result<Asked<'a>, Error> {
     let mut program = program(alloc)?;
-    let matches = program.try_get_matches_from_mut(words)?;
-    match asked(&matches) {
-        Some(line) => Ok(line),
+    let matches = match program.try_get_matches_from_mut(words) {
+        Ok(matches) => matches,
+        Err(fault) => return Err(without_format(alloc, words, fault)),
+    };
+    match asked_by(&matches) {
+        Some(asked) => Ok(asked),
         None => Err(program.error(ErrorKind::MissingSubcommand, "no command was given")?),
     }
 }
 
-fn asked<'a>(matches: &ArgMatches<'a>) -> Option<Line<'a>> {
+/// The fault of the words. Where no command has the name that they begin with, it is told as if there
+/// were no `format`: what overwrites a volume without a question is suggested for no other word.
+fn without_format(alloc: Global, words: &[&str], fault: Error) -> Error {
+    if fault.kind() != ErrorKind::InvalidSubcommand {
+        return fault;
+    }
+    match fault_without_format(alloc, words) {
+        Ok(()) => fault,
+        Err(other) => other,
+    }
+}
+
+fn fault_without_format(alloc: Global, words: &[&str]) -> Result<(), Error> {
+    let mut program = readers_and_edits(alloc)?
+        .subcommand(convert_command(alloc)?)?
+        .subcommand(rebuild_command(alloc)?)?
+        .subcommand(explain_command(alloc)?)?;
+    let _ = program.try_get_matches_from_mut(words)?;
+    Ok(())
+}
+
+/// Reads a command line that names a volume, as `parse` does. One that names none is a mistake in the
+/// words, too.
+pub fn line<'a>(alloc: Global, words: &'a [&'a str]) -> Result<Line<'a>, Error> {
+    match parse(alloc, words)? {
+        Asked::Volume(line) => Ok(line),
+        Asked::Explain(_) => {
+            let mut program = program(alloc)?;
+            Err(program.error(ErrorKind::InvalidSubcommand, "no volume was named")?)
+        }
+    }
+}
+
+fn asked_by<'a>(matches: &ArgMatches<'a>) -> Option<Asked<'a>> {
     let (name, given) = matches.subcommand()?;
+    match name {
+        "explain" => Some(Asked::Explain(given.get_str("FAULT"))),
+        _ => Some(Asked::Volume(line_of(name, given)?)),
+    }
+}
+
+fn line_of<'a>(name: &str, given: &ArgMatches<'a>) -> Option<Line<'a>> {
     let volume = given.get_str(volume_word(name))?;
     let command = match name {
-        "check" => Asked::Check {
+        "check" => Requested::Check {
             data_: data_of(given),
         },
-        "show" => Asked::Show,
-        "open" => Asked::Open {
+        "show" => Requested::Show(form_of(given)),
+        "open" => Requested::Open {
             passphrase: given.get_str("passphrase")?,
             slot: given.get_one::<u8>("slot"),
+            memory: given.get_one::<u32>("memory")?,
         },
-        "format" => Asked::Format(making_of(given)?),
-        "convert" => Asked::Convert(converting_of(given)?),
-        _ => Asked::Edit(editing_of(name, given)?),
+        "format" => Requested::Format(making_of(given)?),
+        "convert" => Requested::Convert(converting_of(given)?),
+        "rebuild" => Requested::Rebuild(rebuilding_of(given)?),
+        _ => Requested::Edit(editing_of(name, given)?),
     };
     Some(Line { volume, command })
 }
@@ -43,7 +101,7 @@ fn asked<'a>(matches: &ArgMatches<'a>) -> Option<Line<'a>> {
 /// The name of the argument that is the volume.
 fn volume_word(command: &str) -> &'static str {
     match command {
-        "convert" => "SOURCE",
+        "convert" | "rebuild" => "SOURCE",
         _ => "VOLUME",
     }
 }
@@ -61,6 +119,7 @@ fn edit_request<'a>(name: &str, given: &ArgMatches<'a>) -> Option<EditRequest<'a
         "add" => Some(EditRequest::Add {
             by_: given.get_one::<u8>("slot")?,
             passphrase: given.get_str("passphrase")?,
+            memory: given.get_one::<u32>("memory")?,
             new: given.get_str("new")?,
             to: given.get_one::<u8>("to"),
             iterations: given.get_one::<u32>("iterations")?,
@@ -68,12 +127,14 @@ fn edit_request<'a>(name: &str, given: &ArgMatches<'a>) -> Option<EditRequest<'a
         "change" => Some(EditRequest::Change {
             slot: given.get_one::<u8>("slot")?,
             passphrase: given.get_str("passphrase")?,
+            memory: given.get_one::<u32>("memory")?,
             new: given.get_str("new")?,
             iterations: given.get_one::<u32>("iterations")?,
         }),
         "remove" => Some(EditRequest::Remove {
             slot: given.get_one::<u8>("slot")?,
             passphrase: given.get_str("passphrase")?,
+            memory: given.get_one::<u32>("memory")?,
         }),
         "repair" => Some(EditRequest::Repair),
         "label" => Some(EditRequest::Label {
@@ -115,7 +176,24 @@ fn data_of(given: &ArgMatches<'_>) -> Data {
     }
 }
 
+fn form_of(given: &ArgMatches<'_>) -> ShowAs {
+    if given.get_flag("json") {
+        ShowAs::Json
+    } else {
+        ShowAs::Lines
+    }
+}
+
 fn program<'a>(alloc: Global) -> Result<Command<'a>, AllocError> {
+    readers_and_edits(alloc)?
+        .subcommand(format_command(alloc)?)?
+        .subcommand(convert_command(alloc)?)?
+        .subcommand(rebuild_command(alloc)?)?
+        .subcommand(explain_command(alloc)?)
+}
+
+/// The program with the commands that stand before `format`.
+fn readers_and_edits<'a>(alloc: Global) -> Result<Command<'a>, AllocError> {
     Command::new(alloc, "luks")
         .version(helps::VERSION)
         .about(helps::PROGRAM)
@@ -128,9 +206,7 @@ fn program<'a>(alloc: Global) -> Result<Command<'a>, AllocError> {
         .subcommand(change_command(alloc)?)?
         .subcommand(remove_command(alloc)?)?
         .subcommand(repair_command(alloc)?)?
-        .subcommand(label_command(alloc)?)?
-        .subcommand(format_command(alloc)?)?
-        .subcommand(convert_command(alloc)?)
+        .subcommand(label_command(alloc)?)
 }
 
 fn check_command<'a>(alloc: Global) -> Result<Command<'a>, AllocError> {
@@ -145,7 +221,8 @@ fn show_command<'a>(alloc: Global) -> Result<Command<'a>, AllocError> {
     Command::new(alloc, "show")
         .about(helps::SHOW)
         .after_help(helps::SHOW_MORE)
-        .arg(volume_argument(alloc))
+        .arg(volume_argument(alloc))?
+        .arg(json_option(alloc))
 }
 
 fn open_command<'a>(alloc: Global) -> Result<Command<'a>, AllocError> {
@@ -154,7 +231,8 @@ fn open_command<'a>(alloc: Global) -> Result<Command<'a>, AllocError> {
         .after_help(helps::OPEN_MORE)
         .arg(volume_argument(alloc))?
         .arg(passphrase_option(alloc))?
-        .arg(slot_option(alloc).help("The keyslot to try, 0 to 31; else all"))
+        .arg(slot_option(alloc).help("The keyslot to try, 0 to 31; else all"))?
+        .arg(memory_option(alloc))
 }
 
 fn add_command<'a>(alloc: Global) -> Result<Command<'a>, AllocError> {
@@ -169,6 +247,7 @@ fn add_command<'a>(alloc: Global) -> Result<Command<'a>, AllocError> {
         .arg(random_option(alloc).required(true))?
         .arg(to_option(alloc))?
         .arg(iterations_option(alloc))?
+        .arg(memory_option(alloc))?
         .arg(detached_option(alloc))
 }
 
@@ -183,6 +262,7 @@ fn change_command<'a>(alloc: Global) -> Result<Command<'a>, AllocError> {
         .arg(new_option(alloc))?
         .arg(random_option(alloc).required(true))?
         .arg(iterations_option(alloc))?
+        .arg(memory_option(alloc))?
         .arg(detached_option(alloc))
 }
 
@@ -194,6 +274,7 @@ fn remove_command<'a>(alloc: Global) -> Result<Command<'a>, AllocError> {
         .arg(opened_slot_option(alloc))?
         .arg(passphrase_option(alloc))?
         .arg(random_option(alloc))?
+        .arg(memory_option(alloc))?
         .arg(detached_option(alloc))
 }
 
@@ -236,7 +317,14 @@ fn convert_command<'a>(alloc: Global) -> Result<Command<'a>, AllocError> {
         .arg(source_argument(alloc))?
         .arg(target_argument(alloc))?
         .arg(random_option(alloc).required(true))?
-        .arg(detached_option(alloc).help("SOURCE is a detached header, no payload judged"))
+        .arg(detached_option(alloc).help("SOURCE is a detached header, no segment judged"))
+}
+
+fn explain_command<'a>(alloc: Global) -> Result<Command<'a>, AllocError> {
+    Command::new(alloc, "explain")
+        .about(helps::EXPLAIN)
+        .after_help(helps::EXPLAIN_MORE)
+        .arg(fault_argument(alloc))
 }
 
 fn volume_argument<'a>(alloc: Global) -> Arg<'a> {
@@ -263,11 +351,22 @@ fn text_argument<'a>(alloc: Global) -> Arg<'a> {
         .help("The label, at most 47 plain characters")
 }
 
+fn fault_argument<'a>(alloc: Global) -> Arg<'a> {
+    Arg::new(alloc, "FAULT").help("The fault, or its name alone; else all are listed")
+}
+
 fn detached_option<'a>(alloc: Global) -> Arg<'a> {
     Arg::new(alloc, "detached")
         .long("detached")
         .action(ArgAction::SetTrue)
-        .help("The payload is on another device, no segment judged")
+        .help("The data is on another device, no segment judged")
+}
+
+fn json_option<'a>(alloc: Global) -> Arg<'a> {
+    Arg::new(alloc, "json")
+        .long("json")
+        .action(ArgAction::SetTrue)
+        .help("One JSON object in place of the lines, for scripts")
 }
 
 fn passphrase_option<'a>(alloc: Global) -> Arg<'a> {
@@ -283,6 +382,15 @@ fn slot_option<'a>(alloc: Global) -> Arg<'a> {
         .long("slot")
         .value_name("N")
         .value_parser(clap::value_parser!(u8).range(0..=31))
+}
+
+fn memory_option<'a>(alloc: Global) -> Arg<'a> {
+    Arg::new(alloc, "memory")
+        .long("memory")
+        .value_name("MIB")
+        .value_parser(clap::value_parser!(u32).range(0..=4194303))
+        .default_value("0")
+        .help("MiB of memory for Argon2, 0 to 4194303")
 }
 
 fn opened_slot_option<'a>(alloc: Global) -> Arg<'a> {
@@ -307,7 +415,7 @@ fn new_option<'a>(alloc: Global) -> Arg<'a> {
         .help("The file of the new passphrase, taken whole")
 }
 
-fn random_option<'a>(alloc: Global) -> Arg<'a> {
+pub(crate) fn random_option<'a>(alloc: Global) -> Arg<'a> {
     Arg::new(alloc, "random")
         .long("random")
         .value_name("FILE")

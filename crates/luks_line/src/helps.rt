@@ -2,7 +2,7 @@
 
 /// What `--version` prints after the program's name: the version, whose section is the first of
 /// CHANGELOG.md, and the kit that proves and builds the program, as `rt version` says it.
-pub(crate) const VERSION: &str = "0.2.0 (rattle-kit-13b logic dac8208d650f15bf)";
+pub(crate) const VERSION: &str = "0.2.0 (rattle-kit-13f logic dac8208d650f15bf)";
 
 pub(crate) const PROGRAM: &str =
     "Checks and lists the header of a LUKS volume, and manages its keyslots";
@@ -11,7 +11,8 @@ pub(crate) const PROGRAM_MORE: &str = "\
 A volume is a device, an image, or the detached header of one. The commands
 check, show and open write nothing; the others write to the header and to the
 areas of the keyslots that they name, format over whatever stands there, and
-convert to another file. None reads the payload.
+convert and rebuild to another file. None reads the data. explain says what a
+fault means.
 
 Each command prints its answer on standard output, in the lines that its help
 lists: luks COMMAND --help. What stops it is an answer too: 'refused FAULT',
@@ -19,7 +20,7 @@ lists: luks COMMAND --help. What stops it is an answer too: 'refused FAULT',
 these lines don't, as which file and why.
 
 Exit status:
-  0  accepted, shown, opened or done, or help was asked for
+  0  accepted, shown, opened, done or explained, or help was asked for
   1  refused, or it doesn't open; nothing was written
   2  the command line is wrong; the text is on standard error
   3  check: accepted, but the two copies of the header aren't in step
@@ -34,18 +35,18 @@ Judged is, in this order: which header counts, of LUKS2 the sound copy with the
 higher sequence number; its fields; of LUKS2 the metadata, its values, names and
 sizes; and the areas, each of which lies inside the volume and shares no byte
 with another. Areas are the header or both its copies, each keyslot's key
-material, and the payload's segments. The first fault is answered. Neither key
-material nor payload is read.
+material, and the data's segments. The first fault is answered. Neither key
+material nor data is read.
 
 Prints one line:
   accepted luks1 areas N  a LUKS1 volume; N counts the header, the eight
-                          keyslots and the payload, unless it is detached
+                          keyslots and the data, unless it is detached
   accepted luks2 COPIES seqid S areas N
                           a LUKS2 volume; S is the sequence number of the copy
                           that counts, and N counts both copies, the keyslots
-                          and the segments. COPIES is in-step, first-newer,
-                          second-newer, first-only or second-only: only that
-                          copy is sound
+                          and the segments. COPIES is in-step (both copies
+                          agree), first-newer, second-newer, first-only or
+                          second-only (only that copy is sound)
   refused FAULT           the first fault, as TooShort, NotLuks,
                           Text(cipher-name), Outside(Slot(0)) or
                           Overlap(Slot(0),Slot(1))
@@ -66,7 +67,9 @@ Prints the header line by line: the version, luks1 or luks2, then the uuid and
 the other fields, then a line for each keyslot, and of LUKS2 for each token,
 segment and digest. Texts have each byte outside 0x20 to 0x7E, and the
 backslash, as a backslash and two hexadecimal digits. An empty list is a hyphen.
-Places are in sectors of 512 bytes in LUKS1, in bytes in LUKS2. Or it prints:
+Places are in sectors of 512 bytes in LUKS1, in bytes in LUKS2. With --json it
+prints one JSON object on one line, with all that these lines tell and more, and
+every place in bytes. Or it prints, in either form:
   refused FAULT  the first fault of the header; whether areas lie inside the
                  volume and apart isn't judged
   device fault   the volume can't be read
@@ -81,15 +84,20 @@ Exit status:
 pub(crate) const OPEN: &str = "Tells whether a passphrase opens a keyslot";
 
 pub(crate) const OPEN_MORE: &str = "\
-The passphrase is all bytes of its file, a last line feed too, at most 65536.
-The file may be /dev/stdin, or <(printf %s ..) in a shell that has it. The
-volume key that is found is neither printed nor kept.
+The passphrase is all bytes of its file, a last newline too, at most 65536.
+The file may be -, standard input, or <(printf %s ..) in a shell that has it.
+The volume key that is found is neither printed nor kept.
 
 Without --slot the keyslots are tried in turn: by number, but of LUKS2 those of
 priority 2 first. Passed over are keyslots of priority 0 and those that --slot
-would refuse: of Argon2 (cryptsetup's default for LUKS2), of another cipher than
-aes-xts-plain64 or aes-xts-plain, of another hash than format takes, or damaged.
-Where none opens, standard error names them.
+would refuse: of Argon2 (cryptsetup's default for LUKS2) that takes more memory
+than --memory allows, of another cipher than aes-xts-plain64 or aes-xts-plain,
+of another hash than format takes, or damaged. Where none opens, standard error
+names them.
+
+The header names the memory of Argon2, 1024 MiB for most volumes, and anybody
+may have written it: so none is taken but by --memory. Standard error says how
+much a keyslot takes that was refused.
 
 Prints one line:
   slot N opens          the passphrase opens keyslot N
@@ -98,7 +106,8 @@ Prints one line:
   refused FAULT         why it can't be tried, as Passphrase (the file is too
                         long), SlotFree, NoSuchSlot, Argon2, Cipher or Hash
   device fault          the volume or the passphrase can't be read
-  no memory             memory was refused
+  no memory             memory was refused; of Argon2 standard error says how
+                        much was asked for
 
 Exit status:
   0  the keyslot opens, or help was asked for
@@ -117,12 +126,16 @@ pub(crate) const ADD_MORE: &str = "\
 The passphrase opens keyslot --slot. A new keyslot is made, in which the new
 passphrase opens the same volume key: keyslot --to, or the least that is free,
 of 0 to 7 in LUKS1 and 0 to 31 in LUKS2. All others stay as they are. A
-passphrase is all bytes of its file, a last line feed too, at most 65536.
+passphrase is all bytes of its file, a last newline too, at most 65536.
 
 Written are, with a flush after each: the area of the new keyslot; then of LUKS1
 its entry in the header, of LUKS2 the copy of the header that doesn't count and
 the one that does. Salts and stripes are the first bytes of the random file, as
 many as that takes, and no more are read. Give it /dev/urandom.
+
+Beside a keyslot by Argon2 the new one is by Argon2 too, of the same costs, and
+--iterations counts for nothing. Memory is taken for it by --memory alone, once
+to open the one and once to seal the other; standard error says how much.
 
 Prints one line:
   done slot N    keyslot N is made
@@ -155,13 +168,17 @@ pub(crate) const CHANGE_MORE: &str = "\
 The passphrase opens keyslot --slot; then the new one does, and the old no more.
 LUKS2 keeps the keyslot's number, and takes a free area. LUKS1 makes the least
 keyslot that is free, and disables the old one. All others stay as they are. A
-passphrase is all bytes of its file, a last line feed too, at most 65536.
+passphrase is all bytes of its file, a last newline too, at most 65536.
 
 Written are, with a flush after each: the new area; then of LUKS1 the new
 keyslot's entry and the old one's, of LUKS2 the copy of the header that doesn't
 count and the one that does; at last zeros over the old area. Salts and stripes
 are the first bytes of the random file, as many as that takes, and no more are
 read. Give it /dev/urandom.
+
+A keyslot by Argon2 stays so, by the same costs, and --iterations counts for
+nothing. Memory is taken for it by --memory alone, once to open it and once to
+seal it; standard error says how much.
 
 Prints one line:
   done slot N    the new passphrase opens keyslot N
@@ -189,12 +206,14 @@ pub(crate) const REMOVE: &str = "Removes a keyslot by its own passphrase";
 pub(crate) const REMOVE_MORE: &str = "\
 Keyslot --slot, which the passphrase opens, is removed, and its area is
 overwritten with zeros, once. The last keyslot of its key isn't removed. All
-others stay as they are. The passphrase is all bytes of its file, a last line
-feed too, at most 65536.
+others stay as they are. The passphrase is all bytes of its file, a last newline
+too, at most 65536.
 
 Written are, with a flush after each: of LUKS1 the keyslot's entry, of LUKS2 the
 copy of the header that doesn't count and the one that does; then the zeros. Of
 LUKS2 the salts are the first 128 bytes of the random file; LUKS1 takes none.
+
+Memory is taken for Argon2 by --memory alone; standard error says how much.
 
 Prints one line:
   done           the keyslot is removed
@@ -278,10 +297,10 @@ pub(crate) const FORMAT: &str = "Makes a LUKS volume over whatever stands there"
 pub(crate) const FORMAT_MORE: &str = "\
 What stood there is overwritten, without a question: of LUKS1 the bytes 0 to 591
 and 4096 to 260095, of LUKS2 the bytes 0 to 288767. No other byte is written.
-The volume has at least 2097152 bytes, of LUKS2 16777216, and its payload begins
+The volume has at least 2097152 bytes, of LUKS2 16777216, and its data begins
 there; with --detached it lies on another device, from its byte 0 on.
 
-Keyslot 0 opens by the passphrase: all bytes of its file, a last line feed too,
+Keyslot 0 opens by the passphrase: all bytes of its file, a last newline too,
 at most 65536. The cipher is aes-xts-plain64 with a volume key of 64 bytes, the
 derivation PBKDF2. The uuid, the key, the salts and the stripes are the first
 256080 bytes of the random file, of LUKS2 256208, and no more are read. Give it
@@ -309,7 +328,7 @@ pub(crate) const CONVERT_MORE: &str = "\
 A detached LUKS2 header is written to TARGET, which has to be there and to have
 at least 16777216 bytes. SOURCE is only read. Each passphrase that opens a
 keyslot of SOURCE opens the keyslot of the same number of TARGET, to the same
-volume key, so that cryptsetup opens the payload of SOURCE by either header.
+volume key, so that cryptsetup opens the data of SOURCE by either header.
 
 Written are, with a flush after each: the area of each enabled keyslot, from the
 byte 32768 of TARGET on; then the second copy of the header, and the first. No
@@ -318,7 +337,7 @@ are read. Give it /dev/urandom.
 
 Prints one line:
   done           the header is made; standard error tells how cryptsetup opens
-                 the payload by it
+                 the data by it
   refused FAULT  the first fault, and nothing was written: SameFile (TARGET is
                  SOURCE), what check refuses of SOURCE, NotLuks1 (it is of
                  LUKS2), TooSmall (TARGET is), NoRoom (the new areas end past
@@ -334,3 +353,23 @@ Exit status:
   1  refused; nothing was written
   2  the command line is wrong; the text is on standard error
   4  device fault, no memory, or the output can't be written";
+
+pub(crate) const EXPLAIN: &str = "Says what a fault means, and what to try next";
+
+pub(crate) const EXPLAIN_MORE: &str = "\
+FAULT is what stands behind 'refused', as 'Overlap(Slot(0),Slot(1))', in quotes
+because of its brackets; or its name alone, as Overlap. Without it all faults
+are listed. No file is read.
+
+Prints the fault's name, and a line or more of each of these:
+  means  what the fault says
+  where  where it can stand, and what its brackets hold
+  safe   what is still safe
+  next   what to try next
+Without FAULT, a line for each fault: its name, and what it says.
+
+Exit status:
+  0  explained or listed, or help was asked for
+  2  no fault has that name, or the command line is wrong; the text is on
+     standard error
+  4  no memory, or the output can't be written";

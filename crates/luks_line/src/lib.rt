@@ -4,6 +4,9 @@
 
 mod command_line;
 mod helps;
+mod rebuild_line;
 
-pub use command_line::line;
-pub use luks_request::{Command, Converting, EditRequest, Editing, Line, Making, NewVersion};
+pub use command_line::{Asked, line, parse};
+pub use luks_request::{
+    Command, Converting, EditRequest, Editing, Line, Making, NewVersion, Rebuilding, ShowAs,
+};

@@ -1,13 +1,16 @@
 //! Which command a command line asks for.
 use luks_kdf::HashName;
-use luks_line::{Command, Converting, EditRequest, Editing, Line, Making, NewVersion, line};
+use luks_line::{
+    Asked, Command, Converting, EditRequest, Editing, Line, Making, NewVersion, Rebuilding, ShowAs,
+    line, parse,
+};
 use luks_reading::Data;
 use luks_terms::Format;
 use std::alloc::{AllocError, Global};
 use std::test::Fail;
 
 /// The words, the file of the volume, the command and the file of the passphrase.
-const LINES: [(&[&str], &str, Command<'static>, Option<&str>); 7] = [
+const LINES: [(&[&str], &str, Command<'static>, Option<&str>); 9] = [
     (
         &["luks", "check", "v"],
         "v",
@@ -28,13 +31,25 @@ const LINES: [(&[&str], &str, Command<'static>, Option<&str>); 7] = [
         Command::Check { data_: Data::Here },
         None,
     ),
-    (&["luks", "show", "v"], "v", Command::Show, None),
+    (
+        &["luks", "show", "v"],
+        "v",
+        Command::Show(ShowAs::Lines),
+        None,
+    ),
+    (
+        &["luks", "show", "--json", "v"],
+        "v",
+        Command::Show(ShowAs::Json),
+        None,
+    ),
     (
         &["luks", "open", "v", "--passphrase", "p"],
         "v",
         Command::Open {
             passphrase: "p",
             slot: None,
+            memory: 0,
         },
         Some("p"),
     ),
@@ -44,6 +59,7 @@ const LINES: [(&[&str], &str, Command<'static>, Option<&str>); 7] = [
         Command::Open {
             passphrase: "p",
             slot: Some(0),
+            memory: 0,
         },
         Some("p"),
     ),
@@ -53,6 +69,17 @@ const LINES: [(&[&str], &str, Command<'static>, Option<&str>); 7] = [
         Command::Open {
             passphrase: "p",
             slot: Some(31),
+            memory: 0,
+        },
+        Some("p"),
+    ),
+    (
+        &["luks", "open", "v", "--passphrase=p", "--memory", "4194303"],
+        "v",
+        Command::Open {
+            passphrase: "p",
+            slot: None,
+            memory: 4194303,
         },
         Some("p"),
     ),
@@ -162,6 +189,7 @@ const MAKINGS: [(&[&str], Making<'static>); 5] = [
 const ADD: EditRequest<'static> = EditRequest::Add {
     by_: 3,
     passphrase: "p",
+    memory: 0,
     new: "n",
     to: None,
     iterations: 100000,
@@ -170,6 +198,7 @@ const ADD: EditRequest<'static> = EditRequest::Add {
 const ADD_TO: EditRequest<'static> = EditRequest::Add {
     by_: 0,
     passphrase: "p",
+    memory: 0,
     new: "n",
     to: Some(31),
     iterations: 1000,
@@ -178,6 +207,7 @@ const ADD_TO: EditRequest<'static> = EditRequest::Add {
 const CHANGE: EditRequest<'static> = EditRequest::Change {
     slot: 31,
     passphrase: "p",
+    memory: 0,
     new: "n",
     iterations: 100000,
 };
@@ -185,11 +215,35 @@ const CHANGE: EditRequest<'static> = EditRequest::Change {
 const REMOVE: EditRequest<'static> = EditRequest::Remove {
     slot: 7,
     passphrase: "p",
+    memory: 0,
+};
+
+const ADD_WITHIN: EditRequest<'static> = EditRequest::Add {
+    by_: 3,
+    passphrase: "p",
+    memory: 4194303,
+    new: "n",
+    to: None,
+    iterations: 100000,
+};
+
+const CHANGE_WITHIN: EditRequest<'static> = EditRequest::Change {
+    slot: 31,
+    passphrase: "p",
+    memory: 1024,
+    new: "n",
+    iterations: 100000,
+};
+
+const REMOVE_WITHIN: EditRequest<'static> = EditRequest::Remove {
+    slot: 7,
+    passphrase: "p",
+    memory: 1,
 };
 
 /// The words, what they ask to edit of the volume `v`, whether the file `r` has the random bytes, and
 /// whether the payload is there.
-const EDITINGS: [(&[&str], EditRequest<'static>, bool, bool); 9] = [
+const EDITINGS: [(&[&str], EditRequest<'static>, bool, bool); 12] = [
     (
         &[
             "luks",
@@ -260,6 +314,50 @@ const EDITINGS: [(&[&str], EditRequest<'static>, bool, bool); 9] = [
         REMOVE,
         true,
         false,
+    ),
+    (
+        &[
+            "luks",
+            "add",
+            "v",
+            "--slot=3",
+            "--passphrase=p",
+            "--new=n",
+            "--random=r",
+            "--memory=4194303",
+        ],
+        ADD_WITHIN,
+        true,
+        true,
+    ),
+    (
+        &[
+            "luks",
+            "change",
+            "--memory",
+            "1024",
+            "v",
+            "--slot=31",
+            "--passphrase=p",
+            "--new=n",
+            "--random=r",
+        ],
+        CHANGE_WITHIN,
+        true,
+        true,
+    ),
+    (
+        &[
+            "luks",
+            "remove",
+            "v",
+            "--slot=7",
+            "--memory=1",
+            "--passphrase=p",
+        ],
+        REMOVE_WITHIN,
+        false,
+        true,
     ),
     (&["luks", "repair", "v"], EditRequest::Repair, false, true),
     (
@@ -380,6 +478,52 @@ fn convertings(rt: HostRuntime) -> Result<(), Fail> {
     Ok(())
 }
 
+const OF_ANY: Rebuilding<'static> = Rebuilding {
+    target: "t",
+    random: "r",
+    second: false,
+    uuid: None,
+};
+
+/// The words, and what they ask to make of the volume `v`.
+const REBUILDINGS: [(&[&str], Rebuilding<'static>); 3] = [
+    (&["luks", "rebuild", "v", "t", "--random", "r"], OF_ANY),
+    (
+        &["luks", "rebuild", "--random=r", "--second", "v", "t"],
+        Rebuilding {
+            second: true,
+            ..OF_ANY
+        },
+    ),
+    (
+        &["luks", "rebuild", "--random=r", "v", "t", "--uuid", "u"],
+        Rebuilding {
+            uuid: Some("u"),
+            ..OF_ANY
+        },
+    ),
+];
+
+#[test]
+fn rebuildings(rt: HostRuntime) -> Result<(), Fail> {
+    for (i, (words, rebuilding)) in REBUILDINGS.into_iter().enumerate() {
+        let found = line(rt.alloc(), words)?;
+        let command = Command::Rebuild(rebuilding);
+        assert!(rt;
+            found
+                == Line {
+                    volume: "v",
+                    command
+                },
+            "row {i}"
+        );
+        assert!(rt; found.target() == Some("t"), "row {i}");
+        assert!(rt; found.random() == Some("r"), "row {i}");
+        assert!(rt; !found.writes(), "row {i}");
+    }
+    Ok(())
+}
+
 #[test]
 fn commands(rt: HostRuntime) -> Result<(), Fail> {
     for (i, (words, volume, command, passphrase)) in LINES.into_iter().enumerate() {
@@ -390,6 +534,36 @@ fn commands(rt: HostRuntime) -> Result<(), Fail> {
         assert!(rt; found.target().is_none(), "row {i}");
         assert!(rt; !found.writes(), "row {i}");
     }
+    Ok(())
+}
+
+/// The words, and the fault that they ask to explain.
+const EXPLAININGS: [(&[&str], Option<&str>); 4] = [
+    (&["luks", "explain"], None),
+    (&["luks", "explain", "Overlap"], Some("Overlap")),
+    (
+        &["luks", "explain", "Overlap(Slot(0),Slot(1))"],
+        Some("Overlap(Slot(0),Slot(1))"),
+    ),
+    (&["luks", "explain", "--", "-h"], Some("-h")),
+];
+
+#[test]
+fn explainings(rt: HostRuntime) -> Result<(), Fail> {
+    for (i, (words, fault)) in EXPLAININGS.into_iter().enumerate() {
+        let found = parse(rt.alloc(), words)?;
+        assert!(rt; found == Asked::Explain(fault), "row {i}");
+        assert!(rt;
+            answers(rt.alloc(), words, "error: no volume ", false)?,
+            "row {i}"
+        );
+    }
+    let of_a_volume = Asked::Volume(Line {
+        volume: "explain",
+        command: Command::Show(ShowAs::Lines),
+    });
+    let found = parse(rt.alloc(), &["luks", "show", "explain"])?;
+    assert!(rt; found == of_a_volume, "a volume of that name");
     Ok(())
 }
 
@@ -404,7 +578,25 @@ fn answers(alloc: Global, words: &[&str], part: &str, is_help: bool) -> Result<b
     Ok(text.as_str().contains(part) && fault.use_stderr() != is_help && fault.exit_code() == status)
 }
 
-const FAULTS: [(&[&str], &str); 25] = [
+/// What is said of a word that is near `format`, and of one that is near another command.
+#[test]
+fn unknown_commands(rt: HostRuntime) -> Result<(), Fail> {
+    for word in ["frobnicate", "formt", "Format"] {
+        let Err(fault) = line(rt.alloc(), &["luks", word, "a"]) else {
+            return Err(Fail::new("it is a command"));
+        };
+        let text = format!(in rt.alloc(); "{fault}")?;
+        assert!(rt; text.as_str().contains(word), "{word}: is named");
+        assert!(rt; !text.as_str().contains("'format'"), "{word}: format isn't");
+    }
+    assert!(rt;
+        answers(rt.alloc(), &["luks", "chek", "a"], "'check'", false)?,
+        "check is suggested"
+    );
+    Ok(())
+}
+
+const FAULTS: [(&[&str], &str); 32] = [
     (&["luks"], "subcommand"),
     (&["luks", "check"], "<VOLUME>"),
     (&["luks", "check", "a", "b"], "'b'"),
@@ -415,6 +607,9 @@ const FAULTS: [(&[&str], &str); 25] = [
     ),
     (&["luks", "unknown", "a"], "'unknown'"),
     (&["luks", "show", "a", "--detached"], "'--detached'"),
+    (&["luks", "show", "a", "--json", "--json"], "'--json'"),
+    (&["luks", "show", "a", "--json=yes"], "'--json'"),
+    (&["luks", "check", "a", "--json"], "'--json'"),
     (&["luks", "check", "a", "--version"], "'--version'"),
     (&["luks", "open", "a"], "--passphrase <FILE>"),
     (
@@ -428,6 +623,29 @@ const FAULTS: [(&[&str], &str); 25] = [
     (
         &["luks", "open", "a", "--passphrase", "p", "--slot", "x"],
         "'x'",
+    ),
+    (
+        &["luks", "open", "a", "--passphrase=p", "--memory", "4194304"],
+        "4194304 is not in 0..=4194303",
+    ),
+    (
+        &["luks", "open", "a", "--passphrase", "p", "--memory", "-1"],
+        "'-1'",
+    ),
+    (
+        &[
+            "luks",
+            "remove",
+            "a",
+            "--slot=0",
+            "--passphrase=p",
+            "--memory=4194304",
+        ],
+        "4194304 is not in 0..=4194303",
+    ),
+    (
+        &["luks", "repair", "a", "--random=r", "--memory=1"],
+        "--memory",
     ),
     (
         &["luks", "format", "--passphrase", "p", "--random", "r"],
@@ -524,7 +742,9 @@ const FAULTS: [(&[&str], &str); 25] = [
 ];
 
 /// Words that single spaces part, and what the text of the refusal holds.
-const EDIT_FAULTS: [(&str, &str); 34] = [
+const EDIT_FAULTS: [(&str, &str); 36] = [
+    ("luks explain a b", "'b'"),
+    ("luks explain a --detached", "'--detached'"),
     ("luks convert a --random=r", "<TARGET>"),
     ("luks convert a b", "--random <FILE>"),
     ("luks convert a b c --random=r", "'c'"),
@@ -649,7 +869,7 @@ fn faults_of_usage(rt: HostRuntime) -> Result<(), Fail> {
     Ok(())
 }
 
-const HELPS: [(&[&str], &str); 15] = [
+const HELPS: [(&[&str], &str); 16] = [
     (&["luks", "--help"], "  3  check: accepted, but "),
     (&["luks", "-h"], "luks COMMAND --help"),
     (&["luks", "check", "--help"], "  accepted luks1 areas N "),
@@ -662,9 +882,10 @@ const HELPS: [(&[&str], &str); 15] = [
     (&["luks", "label", "-h"], "  done "),
     (&["luks", "format", "-h"], "  refused TooSmall "),
     (&["luks", "convert", "-h"], " SameFile (TARGET is"),
+    (&["luks", "explain", "-h"], "  safe   what is still safe"),
     (&["luks", "help", "check"], "  4  device fault, no memory, "),
-    (&["luks", "--version"], "luks 0.2.0 (rattle-kit-13b "),
-    (&["luks", "-V"], "luks 0.2.0 (rattle-kit-13b "),
+    (&["luks", "--version"], "luks 0.2.0 (rattle-kit-13f "),
+    (&["luks", "-V"], "luks 0.2.0 (rattle-kit-13f "),
 ];
 
 #[test]
@@ -676,8 +897,9 @@ fn helps(rt: HostRuntime) -> Result<(), Fail> {
 }
 
 /// The commands.
-const COMMANDS: [&str; 10] = [
+const COMMANDS: [&str; 11] = [
     "check", "show", "open", "add", "change", "remove", "repair", "label", "format", "convert",
+    "explain",
 ];
 
 /// The text on the words, and whether each of its lines has at most 80 bytes.

@@ -5,9 +5,10 @@ ghost use Rattle.luks_cache.specs.Cached.{cached_failures};
 use crate::folders::new_folder;
 use luks_area::FileDevice;
 use luks_cache::CachedDevice;
-use luks_cli::{CountingPrinter, InputFault, Inputs, Reason, execute};
+use luks_cli::{InputFault, Inputs, Reason};
 use luks_line::line;
 use luks_lock::{LockedDevice, Notice, OpenFault, open_locked};
+use luks_sessions::run_words;
 use std::alloc::Global;
 use std::fs::{self, File};
 use std::rt::{Clock, Files};
@@ -64,11 +65,8 @@ fn says<R: AllocGlobal + Clock + Files<File = File>>(
         new_passphrase: Err(InputFault::Absent),
         random: Ok(random.as_slice()),
     };
-    let mut out = CountingPrinter::new(Vec::new(rt.alloc()));
-    let mut err = Vec::new(rt.alloc());
-    let status = execute(rt.alloc(), &line, &mut inputs, &mut out, &mut err);
-    let printed = out.writer.as_slice() == want.0.as_bytes() && err.as_slice() == want.1.as_bytes();
-    Ok(printed && status == want.2)
+    let (answer, said, status) = want;
+    Ok(run_words(rt.alloc(), words, &mut inputs)?.says(answer, said, status))
 }
 
 const EDITED: (&str, &str, u8) = (
@@ -96,7 +94,11 @@ fn a_lock_held_elsewhere_refuses_an_edit(rt: HostRuntime) -> Result<(), Fail> {
         says(&rt, path, FORMAT, ("done slot 0\n", "", 0))?,
         "then done"
     );
-    let accepted = ("accepted luks1 areas 10\n", "", 0);
+    let accepted = (
+        "accepted luks1 areas 10\n",
+        "luks: the last segment is empty: compare the partition's size\n",
+        0,
+    );
     let holder = File::open(&rt, path)?;
     assert!(rt; holder.try_lock_shared().is_ok(), "another reader");
     assert!(rt; says(&rt, path, CHECK, accepted)?, "read beside a reader");

@@ -5,6 +5,7 @@ use Rattle.std.specs.List.{list_any}
 use Rattle.std.proofs.lemmas.Bool.{false≢true, cases_eq}
 use Rattle.serde_json.specs.Data.{Data, Items, Members, depth, put}
 use Rattle.serde_json.specs.Find.{get, as_object, as_array}
+use Rattle.serde_json.specs.Written.{has_float}
 use Rattle.luks_area.specs.Sectors.{rounded_to_sectors}
 use Rattle.luks_json.specs.Arrays.{all_named, all_there, has_repeat, has_text, names, naming_count, naming_members}
 use Rattle.luks_json.specs.Number.{number_text}
@@ -25,9 +26,9 @@ use Rattle.luks_rules.specs.Reading.{reads, number_in, decimal_in, texts_of}
 use Rattle.luks_rules.specs.Sizes.{inside_at, keyslots_size, region_start}
 use Rattle.luks_rules.specs.Table.{member as row, digest_rows, keyslot_rows, rows_of, member_name}
 use Rattle.luks_making.specs.Changing.{add_text, at_member, change_member, in_array, in_object}
-use Rattle.luks_making.specs.Conditions.{FitsSlot, IsRoom}
+use Rattle.luks_making.specs.Conditions.{FitsDerivation, FitsSlot, IsRoom}
 use Rattle.luks_making.specs.Unchanged.{GainsSlot, KeepsObjects, KeepsOthers, KeepsRest}
-use Rattle.luks_making.specs.Keyslots.{SlotMembers, slot_value}
+use Rattle.luks_making.specs.Keyslots.{Deriving, by_pbkdf2, by_argon2i, by_argon2id, SlotMembers, slot_value, slot_value_by}
 use Rattle.luks_making.specs.Naming.{IsDigestOf}
 use Rattle.luks_making.specs.With.{with_name, with_slot}
 use Rattle.luks_making.proofs.MemberFacts.{array_map, beside, found_in, get_changed, get_kept, mapped, object_map, put_beside, put_here, put_more, some_same, still_object, tested_object, through}
@@ -40,11 +41,12 @@ use Rattle.luks_making.proofs.WholeFacts.{KeepsWhole, neither, or_off, whole_add
 
 -- ---- the new keyslot meets the rules
 
-pub slot_read : TextsSay → (s : SlotMembers) → FitsSlot s → IsRead keyslot_rows (slot_value s)
-slot_read say s f =
+-- by each derivation
+read_by : TextsSay → (s : SlotMembers) (d : Deriving) → FitsDerivation d → FitsSlot s → IsRead keyslot_rows (slot_value_by d s)
+read_by say s (by_pbkdf2 hash iterations) fits f =
     record {
       is_object = refl;
-      each = each_of (RowRead (slot_value s)) keyslot_rows (
+      each = each_of (RowRead (slot_value_by (by_pbkdf2 hash iterations) s)) keyslot_rows (
         (λ _. refl),
         (
           (λ _. refl),
@@ -71,7 +73,7 @@ slot_read say s f =
                               (
                                 (λ _. refl),
                                 (
-                                  (λ _. number_read 1 4294967295 s.iterations f.iterations),
+                                  (λ _. number_read 1 4294967295 iterations fits),
                                   (
                                     (λ j. absurd (false≢true j)),
                                     (
@@ -109,6 +111,145 @@ slot_read say s f =
         ),
       );
     }
+read_by say s (by_argon2i costs) fits f =
+    record {
+      is_object = refl;
+      each = each_of (RowRead (slot_value_by (by_argon2i costs) s)) keyslot_rows (
+        (λ _. refl),
+        (
+          (λ _. refl),
+          (
+            (λ _. number_read 1 4294967295 s.stripes f.stripes),
+            (
+              (λ _. refl),
+              (
+                (λ _. refl),
+                (
+                  (λ _. refl),
+                  (
+                    (λ _. number_read 1 128 s.area_key_size f.area_key_size),
+                    (
+                      (λ _. decimal_read say s.offset f.offset),
+                      (
+                        (λ _. decimal_read say s.size f.size),
+                        (
+                          (λ _. refl),
+                          (
+                            (λ _. refl),
+                            (
+                              (λ _. number_read 1 4294967295 costs.cpus fits.cpus),
+                              (
+                                (λ j. absurd (false≢true j)),
+                                (
+                                  (λ j. absurd (false≢true j)),
+                                  (
+                                    (λ _. number_read 1 4294967295 costs.memory fits.memory),
+                                    (
+                                      (λ _. salt_read say s.salt f.salt),
+                                      (
+                                        (λ _. number_read 1 4294967295 costs.time fits.time),
+                                        (
+                                          (λ _. refl),
+                                          (
+                                            (λ _. number_read 1 128 s.key_size f.key_size),
+                                            (
+                                              (λ _. refl),
+                                              (
+                                                (λ _. refl),
+                                                tt,
+                                              ),
+                                            ),
+                                          ),
+                                        ),
+                                      ),
+                                    ),
+                                  ),
+                                ),
+                              ),
+                            ),
+                          ),
+                        ),
+                      ),
+                    ),
+                  ),
+                ),
+              ),
+            ),
+          ),
+        ),
+      );
+    }
+read_by say s (by_argon2id costs) fits f =
+    record {
+      is_object = refl;
+      each = each_of (RowRead (slot_value_by (by_argon2id costs) s)) keyslot_rows (
+        (λ _. refl),
+        (
+          (λ _. refl),
+          (
+            (λ _. number_read 1 4294967295 s.stripes f.stripes),
+            (
+              (λ _. refl),
+              (
+                (λ _. refl),
+                (
+                  (λ _. refl),
+                  (
+                    (λ _. number_read 1 128 s.area_key_size f.area_key_size),
+                    (
+                      (λ _. decimal_read say s.offset f.offset),
+                      (
+                        (λ _. decimal_read say s.size f.size),
+                        (
+                          (λ _. refl),
+                          (
+                            (λ _. refl),
+                            (
+                              (λ _. number_read 1 4294967295 costs.cpus fits.cpus),
+                              (
+                                (λ j. absurd (false≢true j)),
+                                (
+                                  (λ j. absurd (false≢true j)),
+                                  (
+                                    (λ _. number_read 1 4294967295 costs.memory fits.memory),
+                                    (
+                                      (λ _. salt_read say s.salt f.salt),
+                                      (
+                                        (λ _. number_read 1 4294967295 costs.time fits.time),
+                                        (
+                                          (λ _. refl),
+                                          (
+                                            (λ _. number_read 1 128 s.key_size f.key_size),
+                                            (
+                                              (λ _. refl),
+                                              (
+                                                (λ _. refl),
+                                                tt,
+                                              ),
+                                            ),
+                                          ),
+                                        ),
+                                      ),
+                                    ),
+                                  ),
+                                ),
+                              ),
+                            ),
+                          ),
+                        ),
+                      ),
+                    ),
+                  ),
+                ),
+              ),
+            ),
+          ),
+        ),
+      );
+    }
+
+pub slot_read : TextsSay → (s : SlotMembers) → FitsSlot s → IsRead keyslot_rows (slot_value s)
+slot_read say s f = read_by say s s.derivation f.derivation f
 
 -- ---- the digest with the name
 
@@ -277,15 +418,26 @@ fewer_names k off =
 whole_named : (t : List ℕ) → KeepsWhole (with_name t)
 whole_named t = whole_in_object _ (whole_changed (codes "keyslots") (in_array (add_text t)) (whole_in_array (add_text t) (whole_added t)))
 
+-- the new keyslot has whole numbers, and two levels below it
+slot_whole : (s : SlotMembers) (d : Deriving) → has_float (slot_value_by d s) ≡ false
+slot_whole s (by_pbkdf2 hash iterations) = refl
+slot_whole s (by_argon2i costs) = refl
+slot_whole s (by_argon2id costs) = refl
+
+slot_depth : (s : SlotMembers) (d : Deriving) → depth (slot_value_by d s) ≡ 2
+slot_depth s (by_pbkdf2 hash iterations) = refl
+slot_depth s (by_argon2i costs) = refl
+slot_depth s (by_argon2id costs) = refl
+
 whole_with : (n m : ℕ) (s : SlotMembers) → KeepsWhole (with_slot n m s)
 whole_with n m s j h =
-    whole_in_object _ (whole_changed (codes "keyslots") (into_slots n s) (whole_in_object _ (whole_put (number_text n) (slot_value s) refl))) (digests_with n m j)
+    whole_in_object _ (whole_changed (codes "keyslots") (into_slots n s) (whole_in_object _ (whole_put (number_text n) (slot_value s) (slot_whole s s.derivation)))) (digests_with n m j)
     (whole_in_object _ (whole_changed (codes "digests") (into_digests n m) (whole_in_object _ (whole_changed (number_text m) (with_name (number_text n)) (whole_named (number_text n))))) j h)
 
 -- at most 127 levels, 126 below a section, 125 below a keyslot or digest, 124 below its array
 with_bounded : (n m : ℕ) (s : SlotMembers) → Bounded 127 (with_slot n m s)
 with_bounded n m s j h =
-    let slot : depth (slot_value s) ≤ 125 = (let e : depth (slot_value s) ≡ 2 = refl in omega (arith, e)) in
+    let slot : depth (slot_value s) ≤ 125 = (let e : depth (slot_value s) ≡ 2 = slot_depth s s.derivation in omega (arith, e)) in
     let names = array_bounded 123 (number_text n) in
     let digest = object_bounded 124 (change_member (codes "keyslots") (in_array (add_text (number_text n)))) (change_bounded 124 (codes "keyslots") (in_array (add_text (number_text n))) names) in
     let digests = object_bounded 125 (change_member (number_text m) (with_name (number_text n))) (change_bounded 125 (number_text m) (with_name (number_text n)) digest) in

@@ -275,15 +275,16 @@ module _ (f : NewMembers) (d : Data) (read : IsRead keyslot_rows d) where
   has_kdf : is_some (option_and_then as_object (get (codes "kdf") d)) ≡ true
   has_kdf = was_object 10 _ refl refl (and_from _ _ read.is_object refl)
 
-  says_new : TextsSay → FitsNew f → 1 ≤ f.iterations → Between 1 128 (length f.salt) → type_at d outer.Kdf ≡ Some (codes "pbkdf2") → SaysNew f d (renewed_slot f d)
-  says_new say new one long derived =
+  says_new : TextsSay → FitsNew f → 1 ≤ f.iterations → Between 1 128 (length f.salt) → SaysNew f d (renewed_slot f d)
+  says_new say new one long =
       let offset = there_by rule.Decimal (option_and_then (get (codes "offset")) (get (codes "area") d)) refl (read.each 7 _ refl (and_from _ _ has_area refl)) in
       let size = there_by rule.Decimal (option_and_then (get (codes "size")) (get (codes "area") d)) refl (read.each 8 _ refl (and_from _ _ has_area refl)) in
-      let suited : suits when.Pbkdf2 (type_at d outer.Kdf) ≡ true = rw derived refl in
-      let iterations = there_by (rule.Number 1 4294967295) (option_and_then (get (codes "iterations")) (get (codes "kdf") d)) refl (read.each 13 _ refl (and_from _ _ has_kdf suited)) in
       let salt = there_by (rule.Base64 1 128) (option_and_then (get (codes "salt")) (get (codes "kdf") d)) refl (read.each 15 _ refl (and_from _ _ has_kdf refl)) in
       record {
-        iterations = ap (number_in 1 4294967295) (new_iterations f d ∙ ap (option_map (λ _. counted f)) iterations.1) ∙ number_is 1 4294967295 f.iterations (below_32 f.iterations one new.iterations);
+        iterations = λ derived. (
+            let suited : suits when.Pbkdf2 (type_at d outer.Kdf) ≡ true = rw derived refl in
+            let iterations = there_by (rule.Number 1 4294967295) (option_and_then (get (codes "iterations")) (get (codes "kdf") d)) refl (read.each 13 _ refl (and_from _ _ has_kdf suited)) in
+            ap (number_in 1 4294967295) (new_iterations f d ∙ ap (option_map (λ _. counted f)) iterations.1) ∙ number_is 1 4294967295 f.iterations (below_32 f.iterations one new.iterations));
         salt = ap (bytes_in 1 128) (new_salt f d ∙ ap (option_map (λ _. salted f)) salt.1) ∙ bytes_are say 1 128 f.salt (omega arith) new.salt long;
         offset = ap decimal_in (new_offset f d ∙ ap (option_map (λ _. placed f)) offset.1) ∙ decimal_is say f.offset new.offset;
         size = ap decimal_in (new_size f d ∙ ap (option_map (λ _. sized f)) size.1) ∙ decimal_is say f.size new.size;
@@ -422,7 +423,7 @@ module _ (say : TextsSay) (len n : ℕ) (f : NewMembers) (j : Data) (c : IsConte
   was_read = c.objects Keyslots n can.slot.object can.slot.there
 
   says : SaysNew f can.slot.object (renewed_slot f can.slot.object)
-  says = says_new f can.slot.object was_read say new can.iterations can.salt can.slot.derived
+  says = says_new f can.slot.object was_read say new can.iterations can.salt
 
   objects_changed : (k : Section) (i : ℕ) (d : Data) → HasObject (changed_slot n f j) k i d → IsRead (rows_of k) d
   objects_changed Config i d h = absurd (false≢true h.numbered)

@@ -146,7 +146,7 @@ module _ (v : SourceMembers) (fits : FitsSource v) (can : CanConvert v) where
         offset = short (area_start v n) (omega (arith, end));
         size = short (area_size v s) (omega (arith, end));
         area_key_size = can.key_bytes;
-        iterations = below_32 s.iterations usable.iterations own.iterations;
+        derivation = below_32 s.iterations usable.iterations own.iterations;
         salt = record { are_bytes = own.salt.are_bytes; long = record { from = omega (arith, salt); to = omega (arith, salt) } };
       }
 

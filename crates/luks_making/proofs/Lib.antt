@@ -12,6 +12,7 @@ mod RoomFacts
 mod ChangeFacts
 mod NewVolumeFacts
 mod PutFacts
+mod TakenFacts
 mod ItemFacts
 mod CopyFacts
 mod StepFacts

@@ -143,7 +143,7 @@ module _ (say : TextsSay) (v : VolumeMembers) (fits : FitsVolume v) (can : CanFo
     offset = fits_64 32768 (omega arith);
     size = fits_64 258048 (omega arith);
     area_key_size = record { from = omega arith; to = omega arith };
-    iterations = iterations;
+    derivation = iterations;
     salt = record { are_bytes = fits.slot_salt; long = can.slot_salt };
   }
 

@@ -54,7 +54,7 @@ put_changes [] k f d h e = absurd (cc)
 put_changes (x ∷ es) k f d h e = put_by (slice_cmp nat_cmp k (string_bytes x.0)) k f d x es refl h.0 e (λ g. put_changes es k f d h.1 g)
 
 -- a value that has members is an object
-is_object : (d : Data) (ms : Members) → Some ms ≡ as_object d → d ≡ object ms
+pub is_object : (d : Data) (ms : Members) → Some ms ≡ as_object d → d ≡ object ms
 is_object null ms e = absurd (cc)
 is_object (boolean b) ms e = absurd (cc)
 is_object (number n) ms e = absurd (cc)

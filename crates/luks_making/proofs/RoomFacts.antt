@@ -1,20 +1,36 @@
 -- There is room for a keyslot that is made with the members of another.
-use Rattle.std.proofs.Common.{◌≡◌, ℕ, ◌*◌, ◌≤◌, codes, length, refl, sym, ◌∙◌, arith}
-use Rattle.serde_json.specs.Data.{Data}
+use Rattle.std.proofs.Common.{◌≡◌, ℕ, ◌*◌, ◌≤◌, codes, length, Some, option_and_then, refl, sym, ap, ◌∙◌, arith}
+use Rattle.serde_json.specs.Data.{Data, string}
+use Rattle.serde_json.specs.Find.{get}
 use Rattle.luks_area.specs.Sectors.{rounded_to_sectors}
 use Rattle.luks_rules.specs.declared.table.Outer.TheVariants as outer
 use Rattle.luks_rules.specs.Accepted.{IsContent}
 use Rattle.luks_rules.specs.Held.{IsHeld}
+use Rattle.luks_rules.specs.Reading.{bytes_in}
 use Rattle.luks_rules.specs.Sizes.{inside_at}
-use Rattle.luks_making.specs.Conditions.{Between, CanSeal, FitsNew, FitsSlot, IsFree, IsInRegion, IsRoom}
-use Rattle.luks_making.specs.Keyslots.{IsMadeFrom, NewMembers, SlotMembers, slot_value}
+use Rattle.luks_making.specs.Conditions.{Between, CanSeal, FitsCosts, FitsDerivation, FitsNew, FitsSlot, IsFree, IsInRegion, IsRoom}
+use Rattle.luks_making.specs.declared.new_keyslot.Argon2Costs.{Argon2Costs}
+use Rattle.luks_making.specs.Keyslots.{Deriving, by_pbkdf2, by_argon2i, by_argon2id, HasCosts, IsDerivedLike, IsMadeFrom, NewMembers, SlotMembers, base64_text, kdf_value, slot_value, slot_value_by}
 use Rattle.luks_making.specs.Naming.{HasUniqueDigests}
-use Rattle.luks_making.specs.Unchanged.{GainsSlot, SaysMembers}
+use Rattle.luks_making.specs.Unchanged.{GainsSlot, SaysDerivation, SaysMembers}
 use Rattle.luks_making.specs.With.{IsAdded}
 use Rattle.luks_making.proofs.AdditionFacts.{held_with, slot_gained}
 use Rattle.luks_making.proofs.FreeNumberFacts.{unnamed_free}
 use Rattle.luks_making.proofs.MemberFacts.{some_same}
 use Rattle.luks_making.proofs.ReadingFacts.{TextsSay, below_32, bytes_are, decimal_is, in_between, number_is}
+
+-- its derivation is one that its rows read
+costs_fit : (d : Data) (costs : Argon2Costs) → HasCosts d costs → FitsCosts costs
+costs_fit d costs x = record {
+  time = in_between 1 4294967295 costs.time (inside_at outer.Kdf (codes "time") d) x.time;
+  memory = in_between 1 4294967295 costs.memory (inside_at outer.Kdf (codes "memory") d) x.memory;
+  cpus = in_between 1 4294967295 costs.cpus (inside_at outer.Kdf (codes "cpus") d) x.cpus;
+}
+
+fits_derivation : (d : Data) (n : ℕ) (k : Deriving) → IsDerivedLike d n k → Between 1 4294967295 n → FitsDerivation k
+fits_derivation d n (by_pbkdf2 hash iterations) like turns = rw like.2 turns
+fits_derivation d n (by_argon2i costs) like turns = costs_fit d costs like.1
+fits_derivation d n (by_argon2id costs) like turns = costs_fit d costs like.1
 
 -- its members are ones that their rows read
 fits_slot : (d : Data) (f : NewMembers) (s : SlotMembers) → IsMadeFrom d f s → FitsNew f → 1 ≤ f.iterations → Between 1 128 (length f.salt) → FitsSlot s
@@ -24,7 +40,7 @@ fits_slot d f s made new one long = record {
   offset = rw made.offset new.offset;
   size = rw made.size new.size;
   area_key_size = in_between 1 128 s.area_key_size (inside_at outer.Area (codes "key_size") d) made.area_key_size;
-  iterations = rw made.iterations (below_32 f.iterations one new.iterations);
+  derivation = fits_derivation d f.iterations s.derivation made.derivation (below_32 f.iterations one new.iterations);
   salt = rw made.salt (record { are_bytes = new.salt; long = long });
 }
 
@@ -59,6 +75,28 @@ pub gained_added : TextsSay → (len to by : ℕ) (f : NewMembers) (j new : Data
 gained_added say len to by f j new h u free can types a =
     rw a.is (slot_gained say len to a.digest a.slot j a.names.object h.content (room say len to by f j new h.content u free can types a))
 
+-- the keyslot says its derivation
+says_by : (s : SlotMembers) (k : Deriving) → FitsDerivation k → SaysDerivation k (slot_value_by k s)
+says_by s (by_pbkdf2 hash iterations) fits = record { kind = refl; hash = refl; iterations = number_is 1 4294967295 iterations fits }
+says_by s (by_argon2i costs) fits = record {
+  kind = refl;
+  time = number_is 1 4294967295 costs.time fits.time;
+  memory = number_is 1 4294967295 costs.memory fits.memory;
+  cpus = number_is 1 4294967295 costs.cpus fits.cpus;
+}
+says_by s (by_argon2id costs) fits = record {
+  kind = refl;
+  time = number_is 1 4294967295 costs.time fits.time;
+  memory = number_is 1 4294967295 costs.memory fits.memory;
+  cpus = number_is 1 4294967295 costs.cpus fits.cpus;
+}
+
+-- its salt stands in it, however its key is derived
+salt_stands : (s : SlotMembers) (k : Deriving) → option_and_then (get (codes "salt")) (Some (kdf_value k s.salt)) ≡ Some (string (base64_text s.salt))
+salt_stands s (by_pbkdf2 hash iterations) = refl
+salt_stands s (by_argon2i costs) = refl
+salt_stands s (by_argon2id costs) = refl
+
 -- the keyslot says its members
 pub says_members : TextsSay → (s : SlotMembers) → FitsSlot s → SaysMembers s (slot_value s)
 says_members say s f = record {
@@ -73,8 +111,6 @@ says_members say s f = record {
   area_key_size = number_is 1 128 s.area_key_size f.area_key_size;
   offset = decimal_is say s.offset f.offset;
   size = decimal_is say s.size f.size;
-  derivation = refl;
-  hash = refl;
-  iterations = number_is 1 4294967295 s.iterations f.iterations;
-  salt = bytes_are say 1 128 s.salt (omega arith) f.salt.are_bytes f.salt.long;
+  derivation = says_by s s.derivation f.derivation;
+  salt = ap (bytes_in 1 128) (salt_stands s s.derivation) ∙ bytes_are say 1 128 s.salt (omega arith) f.salt.are_bytes f.salt.long;
 }

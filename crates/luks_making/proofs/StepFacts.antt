@@ -11,14 +11,11 @@ use Rattle.luks_making.specs.With.{with_name, with_slot}
 use Rattle.luks_making.specs.Without.{without_name, without_slot}
 
 -- a keyslot is taken out
-pub without_steps : (n : ℕ) (t : List ℕ) (j a b c d : Data) → t ≡ number_text n → a ≡ j
-    → b ≡ at_member (codes "tokens") (in_object (each_member (without_name t))) a
-    → c ≡ at_member (codes "digests") (in_object (each_member (without_name t))) b
-    → d ≡ at_member (codes "keyslots") (in_object (drop_member t)) c → d ≡ without_slot n j
-without_steps n t j a b c d named first second third fourth =
-    let into = in_object (each_member (without_name t)) in
-    fourth ∙ (ap (at_member (codes "keyslots") (in_object (drop_member t))) (third ∙ ap (at_member (codes "digests") into) (second ∙ ap (at_member (codes "tokens") into) first))
-    ∙ ap (λ s. at_member (codes "keyslots") (in_object (drop_member s)) (at_member (codes "digests") (in_object (each_member (without_name s))) (at_member (codes "tokens") (in_object (each_member (without_name s))) j))) named)
+pub without_steps : (n : ℕ) (t : List ℕ) (j a b : Data) → t ≡ number_text n
+    → a ≡ at_member (codes "tokens") (in_object (each_member (without_name t))) j
+    → b ≡ at_member (codes "digests") (in_object (each_member (without_name t))) a
+    → at_member (codes "keyslots") (in_object (drop_member t)) b ≡ without_slot n j
+without_steps n t j a b named first second = rw (second, first, named) refl
 
 -- a keyslot is put in
 pub with_steps : (n m : ℕ) (s : SlotMembers) (tm tn tk : List ℕ) (j a made : Data) → tm ≡ number_text m → tn ≡ number_text n → tk ≡ number_text n → made ≡ slot_value s

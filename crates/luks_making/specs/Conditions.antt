@@ -8,11 +8,12 @@ use Rattle.luks_json.specs.Arrays.{naming_count}
 use Rattle.luks_rules.specs.declared.table.Section.TheVariants.{Digests, Keyslots}
 use Rattle.luks_rules.specs.declared.table.Outer.TheVariants as outer
 use Rattle.luks_rules.specs.Accepted.{HasObject}
-use Rattle.luks_rules.specs.Faults.{object_at, section_at, type_at}
+use Rattle.luks_rules.specs.Faults.{object_at, section_at}
 use Rattle.luks_rules.specs.Reading.{number_in}
 use Rattle.luks_rules.specs.Sizes.{inside_at, keyslots_size, region_start}
 use Rattle.luks_making.specs.Formatted.{VolumeMembers}
-use Rattle.luks_making.specs.Keyslots.{NewMembers, SlotMembers}
+use Rattle.luks_making.specs.declared.new_keyslot.Argon2Costs.{Argon2Costs}
+use Rattle.luks_making.specs.Keyslots.{Deriving, by_pbkdf2, by_argon2i, by_argon2id, NewMembers, SlotMembers}
 
 pub record Between (least most n : ℕ) : Type 0 where
   pub from : least ≤ n
@@ -37,11 +38,10 @@ IsInRegion len j offset size = (bytes : ℕ) → keyslots_size j ≡ Some bytes
 
 -- ---- a keyslot that is sealed with the members of the keyslot `n`
 
--- the keyslot `n` is there, and its key is derived by PBKDF2
-pub record HasPbkdf2 (j : Data) (n : ℕ) : Type 0 where
+-- the keyslot `n` is there
+pub record IsThere (j : Data) (n : ℕ) : Type 0 where
   pub object : Data
   pub there : HasObject j Keyslots n object
-  pub derived : type_at object outer.Kdf ≡ Some (codes "pbkdf2")
 
 -- what is new has the ranges of its types: 32 bits, bytes, 64 bits
 pub record FitsNew (f : NewMembers) : Type 0 where
@@ -52,7 +52,7 @@ pub record FitsNew (f : NewMembers) : Type 0 where
 
 -- what is new suits the keyslot `n`: its area is large enough for the key and lies in the region
 pub record CanSeal (len : ℕ) (j : Data) (n : ℕ) (f : NewMembers) : Type 0 where
-  pub slot : HasPbkdf2 j n
+  pub slot : IsThere j n
   pub iterations : 1 ≤ f.iterations
   pub salt : Between 1 128 (length f.salt)
   pub large : (key stripes : ℕ)
@@ -63,6 +63,17 @@ pub record CanSeal (len : ℕ) (j : Data) (n : ℕ) (f : NewMembers) : Type 0 wh
 
 -- ---- a keyslot of any members
 
+-- its iterations, or the costs of Argon2, are such as their rows read
+pub record FitsCosts (costs : Argon2Costs) : Type 0 where
+  pub time : Between 1 4294967295 costs.time
+  pub memory : Between 1 4294967295 costs.memory
+  pub cpus : Between 1 4294967295 costs.cpus
+
+abbrev pub FitsDerivation : Deriving → Type 0
+FitsDerivation (by_pbkdf2 hash iterations) = Between 1 4294967295 iterations
+FitsDerivation (by_argon2i costs) = FitsCosts costs
+FitsDerivation (by_argon2id costs) = FitsCosts costs
+
 -- each member is one that its row reads
 pub record FitsSlot (s : SlotMembers) : Type 0 where
   pub key_size : Between 1 128 s.key_size
@@ -70,7 +81,7 @@ pub record FitsSlot (s : SlotMembers) : Type 0 where
   pub offset : s.offset < 2 ^ 64
   pub size : s.size < 2 ^ 64
   pub area_key_size : Between 1 128 s.area_key_size
-  pub iterations : Between 1 4294967295 s.iterations
+  pub derivation : FitsDerivation s.derivation
   pub salt : IsSalt s.salt
 
 -- the number `n` is free and no digest names it, the digest `m` is `d`, and the keyslot's area is

@@ -6,7 +6,7 @@ use Rattle.luks_making.specs.declared.source_volume.SourceSlot.{SourceSlot}
 use Rattle.luks_making.specs.declared.source_volume.SourceVolume.{SourceVolume}
 use Rattle.luks_making.specs.Changing.{at_member, set_member}
 use Rattle.luks_making.specs.Formatted.{VolumeMembers, formatted}
-use Rattle.luks_making.specs.Keyslots.{SlotMembers}
+use Rattle.luks_making.specs.Keyslots.{by_pbkdf2, SlotMembers}
 use Rattle.luks_making.specs.With.{with_slot}
 use Rattle.luks_making.specs.Without.{without_slot}
 
@@ -91,8 +91,7 @@ converted_slot v n s = record {
   size = area_size v s;
   encryption = v.encryption;
   area_key_size = v.key_bytes;
-  hash = v.hash;
-  iterations = s.iterations;
+  derivation = by_pbkdf2 v.hash s.iterations;
   salt = s.salt;
 }
 

@@ -2,7 +2,7 @@
 use Rattle.std.specs.Prelude.{ℕ, List, codes, decimal}
 use Rattle.serde_json.specs.Data.{Data, string, array, object, no_items, item, no_members, member}
 use Rattle.luks_making.specs.declared.new_volume.NewVolume.{NewVolume}
-use Rattle.luks_making.specs.Keyslots.{SlotMembers, base64_text, number_member, slot_value, text_member}
+use Rattle.luks_making.specs.Keyslots.{by_pbkdf2, SlotMembers, base64_text, number_member, slot_value, text_member}
 
 -- what the metadata of a new volume says
 pub record VolumeMembers : Type 0 where
@@ -57,8 +57,7 @@ first_slot v = record {
   size = 258048;
   encryption = v.encryption;
   area_key_size = 64;
-  hash = v.hash;
-  iterations = v.iterations;
+  derivation = by_pbkdf2 v.hash v.iterations;
   salt = v.slot_salt;
 }
 

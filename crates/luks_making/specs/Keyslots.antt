@@ -4,10 +4,25 @@ use Rattle.base64.specs.Rfc4648.{encode}
 use Rattle.serde_json.specs.Data.{Data, number, string, object, Members, no_members, member, unsigned}
 use Rattle.luks_json.specs.Encoded.{alphabet}
 use Rattle.luks_rules.specs.declared.table.Outer.TheVariants as outer
+use Rattle.luks_rules.specs.Faults.{type_at}
 use Rattle.luks_rules.specs.Reading.{number_in, text_of}
 use Rattle.luks_rules.specs.Sizes.{inside_at}
+use Rattle.luks_making.specs.declared.new_keyslot.Argon2Costs.{Argon2Costs}
 use Rattle.luks_making.specs.declared.new_keyslot.New.{New}
+use Rattle.luks_making.specs.declared.new_keyslot.NewDerivation.{NewDerivation}
+use Rattle.luks_making.specs.declared.new_keyslot.NewDerivation.TheVariants.{Pbkdf2, Argon2i, Argon2id}
 use Rattle.luks_making.specs.declared.new_keyslot.NewKeyslot.{NewKeyslot}
+
+-- how the key of a keyslot's area is derived, but for the salt
+pub data Deriving : Type 0 where
+  by_pbkdf2 : List ℕ → ℕ → Deriving
+  by_argon2i : Argon2Costs → Deriving
+  by_argon2id : Argon2Costs → Deriving
+
+abbrev pub derivation_of : NewDerivation → Deriving
+derivation_of (Pbkdf2 hash iterations) = by_pbkdf2 hash.now iterations
+derivation_of (Argon2i costs) = by_argon2i costs
+derivation_of (Argon2id costs) = by_argon2id costs
 
 -- what a keyslot that is made says
 pub record SlotMembers : Type 0 where
@@ -18,8 +33,7 @@ pub record SlotMembers : Type 0 where
   pub size : ℕ
   pub encryption : List ℕ
   pub area_key_size : ℕ
-  pub hash : List ℕ
-  pub iterations : ℕ
+  pub derivation : Deriving
   pub salt : List ℕ
 
 abbrev pub slot_members : NewKeyslot → SlotMembers
@@ -31,12 +45,12 @@ slot_members s = record {
   size = s.size;
   encryption = s.encryption.now;
   area_key_size = s.area_key_size;
-  hash = s.hash.now;
-  iterations = s.iterations;
+  derivation = derivation_of s.derivation;
   salt = s.salt.now;
 }
 
--- what is new of a keyslot that is sealed again, or made with the members of another
+-- what is new of a keyslot that is sealed again, or made with the members of another; PBKDF2 alone has
+-- iterations
 pub record NewMembers : Type 0 where
   pub iterations : ℕ
   pub salt : List ℕ
@@ -77,23 +91,51 @@ area_value s = object (
     text_member (codes "size") (decimal s.size) (
     text_member (codes "type") (codes "raw") no_members)))))
 
-abbrev pub kdf_value : SlotMembers → Data
-kdf_value s = object (
-    text_member (codes "hash") s.hash (
-    number_member (codes "iterations") s.iterations (
-    text_member (codes "salt") (base64_text s.salt) (
-    text_member (codes "type") (codes "pbkdf2") no_members))))
+abbrev pub argon2_value : List ℕ → Argon2Costs → List ℕ → Data
+argon2_value kind costs salt = object (
+    number_member (codes "cpus") costs.cpus (
+    number_member (codes "memory") costs.memory (
+    text_member (codes "salt") (base64_text salt) (
+    number_member (codes "time") costs.time (
+    text_member (codes "type") kind no_members)))))
 
--- the members of a keyslot (LUKS2 On-Disk Format 1.1, 3.2), in the order of their names, and no others
-abbrev pub slot_value : SlotMembers → Data
-slot_value s = object (
+abbrev pub kdf_value : Deriving → List ℕ → Data
+kdf_value (by_pbkdf2 hash iterations) salt = object (
+    text_member (codes "hash") hash (
+    number_member (codes "iterations") iterations (
+    text_member (codes "salt") (base64_text salt) (
+    text_member (codes "type") (codes "pbkdf2") no_members))))
+kdf_value (by_argon2i costs) salt = argon2_value (codes "argon2i") costs salt
+kdf_value (by_argon2id costs) salt = argon2_value (codes "argon2id") costs salt
+
+-- the members of a keyslot of this derivation (LUKS2 On-Disk Format 1.1, 3.2), in the order of their
+-- names, and no others
+abbrev pub slot_value_by : Deriving → SlotMembers → Data
+slot_value_by derivation s = object (
     member (codes "af") (splitter_value s) (
     member (codes "area") (area_value s) (
-    member (codes "kdf") (kdf_value s) (
+    member (codes "kdf") (kdf_value derivation s.salt) (
     number_member (codes "key_size") s.key_size (
     text_member (codes "type") (codes "luks2") no_members)))))
 
+abbrev pub slot_value : SlotMembers → Data
+slot_value s = slot_value_by s.derivation s
+
 -- ---- a keyslot that is made with the members of another
+
+-- the costs of Argon2 of the keyslot `d`
+pub record HasCosts (d : Data) (costs : Argon2Costs) : Type 0 where
+  pub time : number_in 1 4294967295 (inside_at outer.Kdf (codes "time") d) ≡ Some costs.time
+  pub memory : number_in 1 4294967295 (inside_at outer.Kdf (codes "memory") d) ≡ Some costs.memory
+  pub cpus : number_in 1 4294967295 (inside_at outer.Kdf (codes "cpus") d) ≡ Some costs.cpus
+
+-- the derivation is that of the keyslot `d`: the same hash with so many iterations, or the same kind and
+-- costs of Argon2
+abbrev pub IsDerivedLike : Data → ℕ → Deriving → Type 0
+IsDerivedLike d n (by_pbkdf2 hash iterations) = (type_at d outer.Kdf ≡ Some (codes "pbkdf2"))
+    × (text_of (inside_at outer.Kdf (codes "hash") d) ≡ Some hash) × (iterations ≡ n)
+IsDerivedLike d n (by_argon2i costs) = (type_at d outer.Kdf ≡ Some (codes "argon2i")) × HasCosts d costs
+IsDerivedLike d n (by_argon2id costs) = (type_at d outer.Kdf ≡ Some (codes "argon2id")) × HasCosts d costs
 
 -- `s` has the members of the keyslot `d`, but for what is new
 pub record IsMadeFrom (d : Data) (f : NewMembers) (s : SlotMembers) : Type 0 where
@@ -102,8 +144,7 @@ pub record IsMadeFrom (d : Data) (f : NewMembers) (s : SlotMembers) : Type 0 whe
   pub splitter_hash : text_of (inside_at outer.Af (codes "hash") d) ≡ Some s.splitter_hash
   pub encryption : text_of (inside_at outer.Area (codes "encryption") d) ≡ Some s.encryption
   pub area_key_size : number_in 1 128 (inside_at outer.Area (codes "key_size") d) ≡ Some s.area_key_size
-  pub hash : text_of (inside_at outer.Kdf (codes "hash") d) ≡ Some s.hash
+  pub derivation : IsDerivedLike d f.iterations s.derivation
   pub offset : s.offset ≡ f.offset
   pub size : s.size ≡ f.size
-  pub iterations : s.iterations ≡ f.iterations
   pub salt : s.salt ≡ f.salt

@@ -15,7 +15,8 @@ use Rattle.luks_rules.specs.Faults.{member_at, object_at, section_at, type_at}
 use Rattle.luks_rules.specs.Reading.{bytes_in, decimal_in, number_in, text_of, texts_of}
 use Rattle.luks_rules.specs.Sizes.{inside_at}
 use Rattle.luks_making.specs.Changed.{renewed_slot}
-use Rattle.luks_making.specs.Keyslots.{NewMembers, SlotMembers, slot_value}
+use Rattle.luks_making.specs.declared.new_keyslot.Argon2Costs.{Argon2Costs}
+use Rattle.luks_making.specs.Keyslots.{Deriving, by_pbkdf2, by_argon2i, by_argon2id, NewMembers, SlotMembers, slot_value}
 use Rattle.luks_making.specs.Naming.{IsDigestOf}
 use Rattle.luks_making.specs.With.{with_name}
 use Rattle.luks_making.specs.Without.{without_name}
@@ -83,6 +84,23 @@ pub record GainsSlot (n m : ℕ) (s : SlotMembers) (old new : Data) : Type 0 whe
   pub tokens : section_at new Tokens ≡ section_at old Tokens
   pub rest : KeepsRest n old new
 
+-- the keyslot `d` says the derivation
+pub record SaysPbkdf2 (h : List ℕ) (n : ℕ) (d : Data) : Type 0 where
+  pub kind : type_at d outer.Kdf ≡ Some (codes "pbkdf2")
+  pub hash : text_of (member_at d outer.Kdf name.Hash) ≡ Some h
+  pub iterations : number_in 1 4294967295 (member_at d outer.Kdf name.Iterations) ≡ Some n
+
+pub record SaysArgon2 (k : List ℕ) (costs : Argon2Costs) (d : Data) : Type 0 where
+  pub kind : type_at d outer.Kdf ≡ Some k
+  pub time : number_in 1 4294967295 (member_at d outer.Kdf name.Time) ≡ Some costs.time
+  pub memory : number_in 1 4294967295 (member_at d outer.Kdf name.Memory) ≡ Some costs.memory
+  pub cpus : number_in 1 4294967295 (member_at d outer.Kdf name.Cpus) ≡ Some costs.cpus
+
+abbrev pub SaysDerivation : Deriving → Data → Type 0
+SaysDerivation (by_pbkdf2 hash iterations) d = SaysPbkdf2 hash iterations d
+SaysDerivation (by_argon2i costs) d = SaysArgon2 (codes "argon2i") costs d
+SaysDerivation (by_argon2id costs) d = SaysArgon2 (codes "argon2id") costs d
+
 -- the keyslot `d` says the members, and has no priority
 pub record SaysMembers (s : SlotMembers) (d : Data) : Type 0 where
   pub kind : type_at d outer.Top ≡ Some (codes "luks2")
@@ -96,18 +114,15 @@ pub record SaysMembers (s : SlotMembers) (d : Data) : Type 0 where
   pub area_key_size : number_in 1 128 (member_at d outer.Area name.KeySize) ≡ Some s.area_key_size
   pub offset : decimal_in (member_at d outer.Area name.Offset) ≡ Some s.offset
   pub size : decimal_in (member_at d outer.Area name.Size) ≡ Some s.size
-  pub derivation : type_at d outer.Kdf ≡ Some (codes "pbkdf2")
-  pub hash : text_of (member_at d outer.Kdf name.Hash) ≡ Some s.hash
-  pub iterations : number_in 1 4294967295 (member_at d outer.Kdf name.Iterations)
-      ≡ Some s.iterations
+  pub derivation : SaysDerivation s.derivation d
   pub salt : bytes_in 1 128 (member_at d outer.Kdf name.Salt) ≡ Some s.salt
 
 -- ---- a value with a changed keyslot
 
--- the keyslot `d` is `was` with new iterations, salt and area
+-- the keyslot `d` is `was` with a new salt and area, and new iterations where it derives by PBKDF2
 pub record SaysNew (f : NewMembers) (was d : Data) : Type 0 where
-  pub iterations : number_in 1 4294967295 (member_at d outer.Kdf name.Iterations)
-      ≡ Some f.iterations
+  pub iterations : type_at was outer.Kdf ≡ Some (codes "pbkdf2")
+      → number_in 1 4294967295 (member_at d outer.Kdf name.Iterations) ≡ Some f.iterations
   pub salt : bytes_in 1 128 (member_at d outer.Kdf name.Salt) ≡ Some f.salt
   pub offset : decimal_in (member_at d outer.Area name.Offset) ≡ Some f.offset
   pub size : decimal_in (member_at d outer.Area name.Size) ≡ Some f.size

@@ -1,6 +1,6 @@
 //! The JSON area as it is written.
 
-ghost use Rattle.std.specs.Prelude.{◌≡◌, ◌-◌, ◌<◌, ◌≤◌, ◌++◌, length, replicate, IfOk, IfSome, IsNone};
+ghost use Rattle.std.specs.Prelude.{◌≡◌, ◌-◌, ◌<◌, ◌≤◌, ◌++◌, length, replicate, string_bytes, IfOk, IfSome, IsNone};
 ghost use Rattle.serde_json.specs.View.{view};
 ghost use Rattle.serde_json.specs.Written.{compact_text};
 ghost use Rattle.luks_rules.specs.Held.{IsHeld};
@@ -10,17 +10,18 @@ use luks_json::compact_text_of;
 use serde_json::Value;
 use std::alloc::{AllocError, Global};
 
-/// An area of `len` bytes with the text and zeros after it, if that leaves room for a zero.
-fn area_of(alloc: Global, text: &str, len: usize) -> Result<Option<Vec<u8>>, AllocError>
+/// An area of `len` bytes with the text and zeros after it, if that leaves room for a zero. The text's
+/// own bytes become the area.
+fn area_of(text: String, len: usize) -> Result<Option<Vec<u8>>, AllocError>
     ensures filled { IfOk result (λ o. IfSome o (λ a.
-        a.items ≡ text.now ++ replicate (len - length text.now) 0)) }
-    ensures room { IfOk result (λ o. IfSome o (λ a. length text.now < len)) }
-    ensures full { IfOk result (λ o. IsNone o → len ≤ length text.now) }
+        a.items ≡ string_bytes text ++ replicate (len - length (string_bytes text)) 0)) }
+    ensures room { IfOk result (λ o. IfSome o (λ a. length (string_bytes text) < len)) }
+    ensures full { IfOk result (λ o. IsNone o → len ≤ length (string_bytes text)) }
 {
     if text.len() >= len {
         return Ok(None);
     }
-    let mut area = Vec::from_slice(alloc, text.as_bytes())?;
+    let mut area = text.into_bytes();
     area.resize(len, 0)?;
     Ok(Some(area))
 }
@@ -28,7 +29,7 @@ fn area_of(alloc: Global, text: &str, len: usize) -> Result<Option<Vec<u8>>, All
 /// The JSON area of `len` bytes with the value's text and zeros after it; none where the text
 /// leaves no room for a zero byte (LUKS2 On-Disk Format 1.1, section 2.2).
 ///
-/// Takes memory for the text and the area.
+/// Takes memory for the area, in which the text is made.
 pub fn written_area(alloc: Global, value: &Value, len: usize) -> Result<Option<Vec<u8>>, AllocError>
     requires { IsHeld len (view value.now) }
     ensures holds { IfOk result (λ o. IfSome o (λ a.
@@ -36,5 +37,5 @@ pub fn written_area(alloc: Global, value: &Value, len: usize) -> Result<Option<V
     ensures full { IfOk result (λ o. IsNone o → len ≤ length (compact_text (view value.now))) }
 {
     let text = compact_text_of(alloc, value)?;
-    area_of(alloc, text.as_str(), len)
+    area_of(text, len)
 }

@@ -3,7 +3,7 @@
 ghost use Rattle.std.specs.Prelude.{◌≡◌, string_bytes, IfOk};
 ghost use Rattle.base64.specs.GeneralPurpose.{IsBytes};
 ghost use Rattle.serde_json.specs.View.{view};
-ghost use Rattle.luks_making.specs.Keyslots.{area_value, base64_text, kdf_value, new_members, slot_members, slot_value, splitter_value};
+ghost use Rattle.luks_making.specs.Keyslots.{area_value, argon2_value, base64_text, by_pbkdf2, derivation_of, kdf_value, new_members, slot_members, slot_value, splitter_value};
 ghost use Rattle.luks_making.specs.Conditions.{FitsNew};
 
 use base64::engine::general_purpose::STANDARD;
@@ -13,7 +13,7 @@ use std::alloc::{AllocError, Global};
 /// What is new of a keyslot that is sealed again, or made with the members of another.
 #[derive(Clone, Copy, Debug)]
 pub struct New<'a> {
-    /// The derivation's iterations.
+    /// The derivation's iterations, which PBKDF2 alone has.
     pub iterations: u32,
     /// The derivation's salt.
     pub salt: &'a [u8],
@@ -23,7 +23,34 @@ pub struct New<'a> {
     pub size: u64,
 }
 
-/// The members of a keyslot that is made, derived by PBKDF2 and without a priority.
+/// What Argon2 costs.
+#[derive(Clone, Copy, Debug)]
+pub struct Argon2Costs {
+    /// How many passes over the memory.
+    pub time: u32,
+    /// The memory in KiB.
+    pub memory: u32,
+    /// The number of lanes.
+    pub cpus: u32,
+}
+
+/// How the key of a keyslot's area is derived, but for the salt.
+#[derive(Clone, Copy, Debug)]
+pub enum NewDerivation<'a> {
+    /// The type `pbkdf2`.
+    Pbkdf2 {
+        /// The hash.
+        hash: &'a str,
+        /// The iterations.
+        iterations: u32,
+    },
+    /// The type `argon2i`.
+    Argon2i(Argon2Costs),
+    /// The type `argon2id`.
+    Argon2id(Argon2Costs),
+}
+
+/// The members of a keyslot that is made, without a priority.
 #[derive(Clone, Copy, Debug)]
 pub struct NewKeyslot<'a> {
     /// The length of the volume key in bytes.
@@ -40,10 +67,8 @@ pub struct NewKeyslot<'a> {
     pub encryption: &'a str,
     /// The length of the cipher's key in bytes.
     pub area_key_size: u8,
-    /// The derivation's hash.
-    pub hash: &'a str,
-    /// The derivation's iterations.
-    pub iterations: u32,
+    /// How the key of the area is derived.
+    pub derivation: NewDerivation<'a>,
     /// The derivation's salt.
     pub salt: &'a [u8],
 }
@@ -94,25 +119,59 @@ fn area_value(alloc: Global, keyslot: &NewKeyslot<'_>) -> Result<Value, AllocErr
     })
 }
 
-fn kdf_value(alloc: Global, keyslot: &NewKeyslot<'_>) -> Result<Value, AllocError>
-    ensures { IfOk result (λ v. view v ≡ kdf_value (slot_members keyslot.now)) }
+fn pbkdf2_value(
+    alloc: Global,
+    hash: &str,
+    iterations: u32,
+    salt: &[u8],
+) -> Result<Value, AllocError>
+    ensures { IfOk result (λ v. view v ≡ kdf_value (by_pbkdf2 hash.now iterations) salt.now) }
 {
-    let salt = base64_text(alloc, keyslot.salt)?;
+    let salt = base64_text(alloc, salt)?;
+    json!(in alloc; {"hash": hash, "iterations": iterations, "salt": salt, "type": "pbkdf2"})
+}
+
+fn argon2_value(
+    alloc: Global,
+    kind: &str,
+    costs: &Argon2Costs,
+    salt: &[u8],
+) -> Result<Value, AllocError>
+    ensures { IfOk result (λ v. view v ≡ argon2_value kind.now costs.now salt.now) }
+{
+    let salt = base64_text(alloc, salt)?;
     json!(in alloc; {
-        "hash": keyslot.hash,
-        "iterations": keyslot.iterations,
+        "cpus": costs.cpus,
+        "memory": costs.memory,
         "salt": salt,
-        "type": "pbkdf2"
+        "time": costs.time,
+        "type": kind
     })
 }
 
-/// The value of the keyslot.
-pub(crate) fn slot_value(alloc: Global, keyslot: &NewKeyslot<'_>) -> Result<Value, AllocError>
+fn kdf_value(
+    alloc: Global,
+    derivation: &NewDerivation<'_>,
+    salt: &[u8],
+) -> Result<Value, AllocError>
+    ensures { IfOk result (λ v. view v ≡ kdf_value (derivation_of derivation.now) salt.now) }
+{
+    match *derivation {
+        NewDerivation::Pbkdf2 { hash, iterations } => pbkdf2_value(alloc, hash, iterations, salt),
+        NewDerivation::Argon2i(costs) => argon2_value(alloc, "argon2i", &costs, salt),
+        NewDerivation::Argon2id(costs) => argon2_value(alloc, "argon2id", &costs, salt),
+    }
+}
+
+/// The value of the keyslot (LUKS2 On-Disk Format 1.1, section 3.2).
+///
+/// Takes memory for the value.
+pub fn slot_value(alloc: Global, keyslot: &NewKeyslot<'_>) -> Result<Value, AllocError>
     ensures { IfOk result (λ v. view v ≡ slot_value (slot_members keyslot.now)) }
 {
     let af = splitter_value(alloc, keyslot)?;
     let area = area_value(alloc, keyslot)?;
-    let kdf = kdf_value(alloc, keyslot)?;
+    let kdf = kdf_value(alloc, &keyslot.derivation, keyslot.salt)?;
     let key_size = keyslot.key_size;
     json!(in alloc; {"af": af, "area": area, "kdf": kdf, "key_size": key_size, "type": "luks2"})
 }

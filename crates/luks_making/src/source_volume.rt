@@ -8,8 +8,8 @@ ghost use Rattle.luks_making.specs.Conversions.{FitsSource, FitsSourceSlot, IsBy
 ghost use Rattle.luks_making.specs.Converted.{SourceSlotMembers, area_size, area_start, converted, converted_below, converted_slot, region_size, source_members, source_slot_members, with_region};
 ghost use Rattle.luks_making.specs.Keyslots.{slot_members};
 
-use crate::changing::{set_member, with_member};
-use crate::new_keyslot::{NewKeyslot, are_bytes};
+use crate::changing::{set_member, take_member, with_member};
+use crate::new_keyslot::{NewDerivation, NewKeyslot, are_bytes, slot_value};
 use crate::new_volume::{NewVolume, formatted};
 use crate::with::with_slot;
 use crate::without::without_slot;
@@ -151,24 +151,24 @@ fn region_size(volume: &SourceVolume<'_>) -> u64
 }
 
 /// The configuration with a region of the key areas of so many bytes.
-fn config_with_region(alloc: Global, config: &Value, size: u64) -> Result<Value, AllocError>
+fn config_with_region(alloc: Global, config: Value, size: u64) -> Result<Value, AllocError>
     ensures { IfOk result (λ v. view v
-        ≡ set_member (codes "keyslots_size") (string (decimal size)) (view config.now)) }
+        ≡ set_member (codes "keyslots_size") (string (decimal size)) (view config)) }
 {
     let size = size.to_string(alloc)?;
     set_member(alloc, config, "keyslots_size", Value::String(size))
 }
 
 /// The value with a region of the key areas of so many bytes.
-fn with_region(alloc: Global, value: &Value, size: u64) -> Result<Value, AllocError>
-    ensures { IfOk result (λ v. view v ≡ with_region size (view value.now)) }
+fn with_region(alloc: Global, mut value: Value, size: u64) -> Result<Value, AllocError>
+    ensures { IfOk result (λ v. view v ≡ with_region size (view value)) }
 {
-    match value.get("config") {
+    match take_member(&mut value, "config") {
         Some(config) => {
             let changed = config_with_region(alloc, config, size)?;
             with_member(alloc, value, "config", changed)
         }
-        None => value.clone(),
+        None => Ok(value),
     }
 }
 
@@ -187,8 +187,8 @@ fn without_keyslots(alloc: Global, volume: &SourceVolume<'_>) -> Result<Value, A
         encryption: volume.encryption,
     };
     let value = formatted(alloc, &like)?;
-    let bare = without_slot(alloc, &value, 0)?;
-    with_region(alloc, &bare, region_size(volume))
+    let bare = without_slot(alloc, value, 0)?;
+    with_region(alloc, bare, region_size(volume))
 }
 
 /// The keyslot of this number, which is enabled.
@@ -209,8 +209,10 @@ fn converted_slot<'a>(
         size: area_size(volume, slot),
         encryption: volume.encryption,
         area_key_size: volume.key_bytes,
-        hash: volume.hash,
-        iterations: slot.iterations,
+        derivation: NewDerivation::Pbkdf2 {
+            hash: volume.hash,
+            iterations: slot.iterations,
+        },
         salt: &slot.salt,
     }
 }
@@ -228,7 +230,8 @@ pub fn converted(alloc: Global, volume: &SourceVolume<'_>) -> Result<Value, Allo
     for (number, slot) in volume.slots.iter().enumerate() {
         if let Some(slot) = slot {
             let keyslot = converted_slot(volume, slot, number);
-            value = with_slot(alloc, &value, number as u8, 0, &keyslot)?;
+            let made = slot_value(alloc, &keyslot)?;
+            value = with_slot(alloc, value, number as u8, 0, made)?;
         }
     }
     Ok(value)

@@ -4,11 +4,10 @@ ghost use Rattle.std.specs.Prelude.{◌≡◌, ◌<◌, List, ℕ, codes, IfOk, 
 ghost use Rattle.serde_json.specs.Data.{put, string};
 ghost use Rattle.serde_json.specs.View.{view};
 ghost use Rattle.luks_making.specs.Changing.{add_text, at_member, in_array, in_object};
-ghost use Rattle.luks_making.specs.Keyslots.{slot_members};
+ghost use Rattle.luks_making.specs.Keyslots.{SlotMembers, slot_value};
 ghost use Rattle.luks_making.specs.With.{with_name, with_slot};
 
-use crate::changing::with_member;
-use crate::new_keyslot::{NewKeyslot, slot_value};
+use crate::changing::{take_member, with_member};
 use luks_json::number_text;
 use serde_json::Value;
 use std::alloc::{AllocError, Global};
@@ -24,58 +23,57 @@ fn add_item(array: &mut Value, item: Value) -> Result<(), AllocError>
 }
 
 /// The array with the text last.
-fn array_with(alloc: Global, array: &Value, text: &str) -> Result<Value, AllocError>
-    ensures { IfOk result (λ v. view v ≡ in_array (add_text text.now) (view array.now)) }
+fn array_with(alloc: Global, mut array: Value, text: &str) -> Result<Value, AllocError>
+    ensures { IfOk result (λ v. view v ≡ in_array (add_text text.now) (view array)) }
 {
-    let mut more = array.clone()?;
-    add_item(&mut more, Value::String(String::from_str(alloc, text)?))?;
-    Ok(more)
+    add_item(&mut array, Value::String(String::from_str(alloc, text)?))?;
+    Ok(array)
 }
 
 /// The digest with the name last in its array of keyslots.
-fn digest_with_name(alloc: Global, digest: &Value, name: &str) -> Result<Value, AllocError>
-    ensures { IfOk result (λ v. view v ≡ with_name name.now (view digest.now)) }
+fn digest_with_name(alloc: Global, mut digest: Value, name: &str) -> Result<Value, AllocError>
+    ensures { IfOk result (λ v. view v ≡ with_name name.now (view digest)) }
 {
-    match digest.get("keyslots") {
+    match take_member(&mut digest, "keyslots") {
         Some(names) => {
             let more = array_with(alloc, names, name)?;
             with_member(alloc, digest, "keyslots", more)
         }
-        None => digest.clone(),
+        None => Ok(digest),
     }
 }
 
 /// The digests with the name in one of them.
 fn digests_with_name(
     alloc: Global,
-    digests: &Value,
+    mut digests: Value,
     digest: &str,
     name: &str,
 ) -> Result<Value, AllocError>
     ensures { IfOk result (λ v. view v
-        ≡ at_member digest.now (with_name name.now) (view digests.now)) }
+        ≡ at_member digest.now (with_name name.now) (view digests)) }
 {
-    match digests.get(digest) {
+    match take_member(&mut digests, digest) {
         Some(found) => {
             let changed = digest_with_name(alloc, found, name)?;
             with_member(alloc, digests, digest, changed)
         }
-        None => digests.clone(),
+        None => Ok(digests),
     }
 }
 
 /// The metadata with the name in one of its digests.
-fn with_name(alloc: Global, value: &Value, digest: &str, name: &str) -> Result<Value, AllocError>
+fn with_name(alloc: Global, mut value: Value, digest: &str, name: &str) -> Result<Value, AllocError>
     ensures { IfOk result (λ v. view v
         ≡ at_member (codes "digests") (at_member digest.now (with_name name.now))
-        (view value.now)) }
+        (view value)) }
 {
-    match value.get("digests") {
+    match take_member(&mut value, "digests") {
         Some(digests) => {
             let changed = digests_with_name(alloc, digests, digest, name)?;
             with_member(alloc, value, "digests", changed)
         }
-        None => value.clone(),
+        None => Ok(value),
     }
 }
 
@@ -97,54 +95,53 @@ fn add_member(
 /// The map with one more object.
 fn map_with_object(
     alloc: Global,
-    map: &Value,
+    mut map: Value,
     name: &str,
     object: Value,
 ) -> Result<Value, AllocError>
-    ensures { IfOk result (λ v. view v ≡ in_object (put name.now (view object)) (view map.now)) }
+    ensures { IfOk result (λ v. view v ≡ in_object (put name.now (view object)) (view map)) }
 {
-    let mut more = map.clone()?;
-    add_member(alloc, &mut more, name, object)?;
-    Ok(more)
+    add_member(alloc, &mut map, name, object)?;
+    Ok(map)
 }
 
 /// The metadata with one more keyslot.
 fn with_object(
     alloc: Global,
-    value: &Value,
+    mut value: Value,
     name: &str,
     keyslot: Value,
 ) -> Result<Value, AllocError>
     ensures { IfOk result (λ v. view v
         ≡ at_member (codes "keyslots") (in_object (put name.now (view keyslot)))
-        (view value.now)) }
+        (view value)) }
 {
-    match value.get("keyslots") {
+    match take_member(&mut value, "keyslots") {
         Some(keyslots) => {
             let more = map_with_object(alloc, keyslots, name, keyslot)?;
             with_member(alloc, value, "keyslots", more)
         }
-        None => value.clone(),
+        None => Ok(value),
     }
 }
 
-/// The metadata with the new keyslot, whose name is last in the digest's array (LUKS2 On-Disk
-/// Format 1.1, sections 3.2 and 3.6). All else is as in `value`.
+/// The metadata with the new keyslot, a value that `slot_value` made; its name is last in the
+/// digest's array (LUKS2 On-Disk Format 1.1, sections 3.2 and 3.6). All else is as in `value`, which
+/// is edited in place.
 ///
-/// Takes memory for the new value.
+/// Takes memory for the names.
 pub fn with_slot(
     alloc: Global,
-    value: &Value,
+    value: Value,
     number: u8,
     digest: u8,
-    keyslot: &NewKeyslot<'_>,
+    keyslot: Value,
 ) -> Result<Value, AllocError>
     requires number { number < 32 }
     requires digest { digest < 32 }
-    ensures { IfOk result (λ v. view v
-        ≡ with_slot number digest (slot_members keyslot.now) (view value.now)) }
+    ensures { (s : SlotMembers) → view keyslot ≡ slot_value s
+        → IfOk result (λ v. view v ≡ with_slot number digest s (view value)) }
 {
-    let object = slot_value(alloc, keyslot)?;
     let named = with_name(alloc, value, number_text(digest), number_text(number))?;
-    with_object(alloc, &named, number_text(number), object)
+    with_object(alloc, named, number_text(number), keyslot)
 }

@@ -20,8 +20,11 @@ pub struct Digest<'a> {
     pub keyslots: ArrayVec<u8, 32>,
     /// The numbers of the segments that it names, in the order of its array.
     pub segments: ArrayVec<u8, 32>,
+    /// The name of its hash, as the metadata writes it.
     pub hash: &'a str,
+    /// The iterations of PBKDF2, at least 1.
     pub iterations: u32,
+    /// The salt of PBKDF2, 1 to 128 bytes.
     pub salt: ArrayVec<u8, 128>,
     /// 20 to 64 bytes.
     pub digest: ArrayVec<u8, 128>,

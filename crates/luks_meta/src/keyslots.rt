@@ -16,7 +16,9 @@ use serde_json::Value;
 /// How the key is split over its area.
 #[derive(Clone, Copy, Debug)]
 pub struct Splitter<'a> {
+    /// How many stripes the volume key is split into, at least 1.
     pub stripes: u32,
+    /// The name of the splitter's hash, as the metadata writes it.
     pub hash: &'a str,
 }
 
@@ -36,31 +38,40 @@ pub struct KeyArea<'a> {
 /// The cost of PBKDF2.
 #[derive(Clone, Copy, Debug)]
 pub struct Pbkdf2<'a> {
+    /// The name of the hash, as the metadata writes it.
     pub hash: &'a str,
+    /// The iterations, at least 1.
     pub iterations: u32,
 }
 
 /// The cost of Argon2.
 #[derive(Clone, Copy, Debug, PartialEq, Eq)]
 pub struct Argon2 {
+    /// How many passes over the memory, at least 1.
     pub time: u32,
-    /// In kibibytes.
+    /// The memory in KiB, at least 1.
     pub memory: u32,
+    /// The number of lanes, at least 1.
     pub cpus: u32,
 }
 
 /// Which derivation gives the area's key, and at what cost.
 #[derive(Clone, Copy, Debug)]
 pub enum Cost<'a> {
+    /// The type `pbkdf2`.
     Pbkdf2(Pbkdf2<'a>),
+    /// The type `argon2i`.
     Argon2i(Argon2),
+    /// The type `argon2id`.
     Argon2id(Argon2),
 }
 
 /// How a passphrase gives the area's key.
 #[derive(Debug, Drop)]
 pub struct Derivation<'a> {
+    /// The salt, 1 to 128 bytes.
     pub salt: ArrayVec<u8, 128>,
+    /// The derivation, and what it costs.
     pub cost: Cost<'a>,
 }
 
@@ -71,8 +82,11 @@ pub struct Keyslot<'a> {
     pub key_size: u8,
     /// 0: only when asked for; 2: before others.
     pub priority: Option<u8>,
+    /// How the key is split (LUKS2 On-Disk Format 1.1, 3.2.4).
     pub af: Splitter<'a>,
+    /// Where its key material lies (3.2.3).
     pub area: KeyArea<'a>,
+    /// How a passphrase gives the key of that area (3.2.5).
     pub kdf: Derivation<'a>,
 }
 

@@ -24,7 +24,9 @@ pub struct Encryption<'a> {
 /// What a segment is.
 #[derive(Clone, Copy, Debug)]
 pub enum SegmentKind<'a> {
+    /// The type `crypt`: its payload is encrypted (LUKS2 On-Disk Format 1.1, 3.3).
     Crypt(Encryption<'a>),
+    /// The type `linear`: its payload is plain.
     Linear,
 }
 
@@ -33,7 +35,9 @@ pub enum SegmentKind<'a> {
 pub struct Segment<'a> {
     /// Where it begins, in bytes.
     pub offset: u64,
+    /// Its length in bytes, or that it runs to the volume's end.
     pub size: Extent,
+    /// Its type, with the cipher of one that is encrypted.
     pub kind: SegmentKind<'a>,
 }
 

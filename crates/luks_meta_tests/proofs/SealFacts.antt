@@ -1,20 +1,17 @@
 -- When a keyslot can be sealed again, from what its members are told to be.
-use Rattle.std.proofs.Common.{rules, ◌≡◌, ℕ, ◌+◌, ◌*◌, ◌<◌, ◌≤◌, length, Some, codes, refl, subst}
+use Rattle.std.proofs.Common.{rules, ◌≡◌, ℕ, ◌+◌, ◌*◌, ◌<◌, ◌≤◌, length, Some, codes, refl}
 use Rattle.serde_json.specs.Data.{Data}
 use Rattle.luks_area.specs.Sectors.{rounded_to_sectors}
 use Rattle.luks_rules.specs.declared.table.Section.TheVariants.{Keyslots}
 use Rattle.luks_rules.specs.declared.table.Outer.TheVariants as outer
-use Rattle.luks_rules.specs.Faults.{type_at}
 use Rattle.luks_rules.specs.Reading.{number_in}
 use Rattle.luks_rules.specs.Sizes.{inside_at, keyslots_size, region_start}
 use Rattle.luks_making.specs.Conditions.{CanSeal, IsInRegion}
 use Rattle.luks_making.specs.Keyslots.{NewMembers}
 use Rattle.luks_meta.specs.declared.configuration.Config.{Config}
-use Rattle.luks_meta.specs.declared.keyslots.Cost.{Cost}
-use Rattle.luks_meta.specs.declared.keyslots.Cost.TheVariants.{Pbkdf2}
 use Rattle.luks_meta.specs.declared.keyslots.Keyslot.{Keyslot}
 use Rattle.luks_meta.specs.Objects.{IsConfig, IsObject}
-use Rattle.luks_meta.specs.Says.{TellsCost, TellsKeyslot}
+use Rattle.luks_meta.specs.Says.{TellsKeyslot}
 
 -- what was told of one object holds of it, whichever key and stripes it is read to have
 large_told : (d : Data) (key stripes size : ℕ)
@@ -36,21 +33,17 @@ within_told = search rules
 region_told : (j : Data) (k : Config) → IsConfig j k → keyslots_size j ≡ Some k.keyslots_size
 region_told j k told = rw told.is told.tells_members.1
 
-derived_told : (d : Data) (cost : Cost) (p : _) → cost ≡ Pbkdf2 p → TellsCost d cost → type_at d outer.Kdf ≡ Some (codes "pbkdf2")
-derived_told d cost p is told = let t : TellsCost d (Pbkdf2 p) = subst (TellsCost d) is told in t.0
-
--- a keyslot that is told to have PBKDF2, and room for what is new
-pub can_seal : (len : ℕ) (j : Data) (n : ℕ) (f : NewMembers) (k : Keyslot) (p : _) (sizes : Config)
-    → n < 32 → IsObject TellsKeyslot j Keyslots n k → k.kdf.cost ≡ Pbkdf2 p → IsConfig j sizes
+-- a keyslot that is told, with room for what is new
+pub can_seal : (len : ℕ) (j : Data) (n : ℕ) (f : NewMembers) (k : Keyslot) (sizes : Config)
+    → n < 32 → IsObject TellsKeyslot j Keyslots n k → IsConfig j sizes
     → 1 ≤ f.iterations → 1 ≤ length f.salt → length f.salt ≤ 128
     → rounded_to_sectors (k.key_size * k.af.stripes) ≤ f.size
     → region_start len ≤ f.offset → f.offset + f.size ≤ region_start len + sizes.keyslots_size
     → CanSeal len j n f
-can_seal len j n f k p sizes small told cost config turns some most large from to = record {
+can_seal len j n f k sizes small told config turns some most large from to = record {
   slot = record {
     object = told.object;
     there = record { numbered = refl; named = small; is = told.is };
-    derived = derived_told told.object k.kdf.cost p cost told.tells_members.5.0;
   };
   iterations = turns;
   salt = record { from = some; to = most };

@@ -13,7 +13,7 @@ mod odd;
 
 use crate::rows::{AREA, edited, read};
 use luks_area::rounded_to_sectors;
-use luks_meta::{Cost, Meta};
+use luks_meta::Meta;
 use luks_new_meta::{New, NewVolume};
 use std::alloc::{AllocError, Global};
 use std::process::Abort;
@@ -51,9 +51,6 @@ fn suits(meta: &Meta, number: u8, new: &New<'_>) -> bool
     let Some(keyslot) = meta.keyslot(number) else {
         return false;
     };
-    let Cost::Pbkdf2(_) = keyslot.kdf.cost else {
-        return false;
-    };
     let used = rounded_to_sectors(u64::from(keyslot.key_size) * u64::from(keyslot.af.stripes));
     let region = meta.config().keyslots_size;
     let salt = new.salt.len();
@@ -66,9 +63,9 @@ fn suits(meta: &Meta, number: u8, new: &New<'_>) -> bool
     new.size <= region - (new.offset - 32768)
 }
 
-/// What the maker makes; none where it can't be asked for that.
-pub fn made(alloc: Global, meta: &Meta, maker: Maker) -> Result<Option<Meta>, AllocError>
-    requires { area_len meta.now ≡ 12288 }
+/// What the maker makes of the metadata; none where it can't be asked for that.
+pub fn made(alloc: Global, meta: Meta, maker: Maker) -> Result<Option<Meta>, AllocError>
+    requires { area_len meta ≡ 12288 }
 {
     let new = New {
         iterations: 2345,
@@ -77,10 +74,10 @@ pub fn made(alloc: Global, meta: &Meta, maker: Maker) -> Result<Option<Meta>, Al
         size: 524288,
     };
     match maker {
-        Maker::Add { to, by_ } if is_free(meta, to) && suits(meta, by_, &new) => {
+        Maker::Add { to, by_ } if is_free(&meta, to) && suits(&meta, by_, &new) => {
             Ok(Some(luks_new_meta::with_slot(alloc, meta, to, by_, &new)?))
         }
-        Maker::Change(n) if suits(meta, n, &new) => Ok(Some(luks_new_meta::changed_slot(
+        Maker::Change(n) if suits(&meta, n, &new) => Ok(Some(luks_new_meta::changed_slot(
             alloc, meta, n, &new,
         )?)),
         Maker::Remove(n) if n < 32 => Ok(Some(luks_new_meta::without_slot(alloc, meta, n)?)),
@@ -99,7 +96,7 @@ fn is_text(alloc: Global, meta: &Meta, want: &str) -> Result<bool, Fail> {
 /// Whether the maker makes this, and it is read again.
 fn makes(alloc: Global, text: &str, maker: Maker, want: &str) -> Result<bool, Fail> {
     let meta = read(alloc, text)?;
-    let after = made(alloc, &meta, maker)?.ok_or("nothing is made")?;
+    let after = made(alloc, meta, maker)?.ok_or("nothing is made")?;
     Ok(is_text(alloc, &after, want)? && is_text(alloc, &read(alloc, want)?, want)?)
 }
 
@@ -200,12 +197,9 @@ fn has_no_area(alloc: Global, maker: Maker) -> Result<bool, Fail> {
     member.push_str("\",")?;
     let text = edited(alloc, crate::rows::PLAIN, "\"config\":{", member.as_str())?;
     let meta = read(alloc, text.as_str())?;
-    let after = made(alloc, &meta, maker)?.ok_or("nothing is made")?;
-    Ok(
-        text.len() == 12287
-            && is_text(alloc, &meta, text.as_str())?
-            && luks_new_meta::json_area(alloc, &after)?.is_none(),
-    )
+    let is_full = text.len() == 12287 && is_text(alloc, &meta, text.as_str())?;
+    let after = made(alloc, meta, maker)?.ok_or("nothing is made")?;
+    Ok(is_full && luks_new_meta::json_area(alloc, &after)?.is_none())
 }
 
 #[test]

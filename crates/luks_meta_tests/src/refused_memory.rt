@@ -1,10 +1,9 @@
 //! Refused memory.
 
-ghost use Rattle.std.specs.Prelude.{◌≡◌};
-ghost use Rattle.luks_meta.specs.Content.{area_len};
+ghost use Rattle.std.specs.Prelude.{◌≡◌, length};
 
 use crate::making::{Maker, made};
-use crate::rows::{AREA, PLAIN, area_of, read};
+use crate::rows::{AREA, PLAIN, area_of};
 use luks_meta::{Meta, MetaFault};
 use luks_new_meta::{NewVolume, SourceSlot, SourceVolume};
 use std::alloc::{AllocError, Global};
@@ -95,14 +94,9 @@ fn text_in_area(alloc: Global, meta: &Meta) -> Result<Option<String>, AllocError
     }
 }
 
-/// The text that the work gives of this metadata, or of this area; none where it can't be asked for.
-fn text_after(
-    alloc: Global,
-    work: Work,
-    area: &[u8],
-    meta: &Meta,
-) -> Result<Option<String>, MetaFault>
-    requires { area_len meta.now ≡ 12288 }
+/// The text that the work gives of the metadata in this area; none where it can't be asked for.
+fn text_after(alloc: Global, work: Work, area: &[u8]) -> Result<Option<String>, MetaFault>
+    requires { length area.now ≡ 12288 }
 {
     let after = match work {
         Work::Read => return Ok(Some(text_of(alloc, area)?)),
@@ -110,7 +104,7 @@ fn text_after(
         Work::Convert => {
             return converted(alloc).map(Some).map_err(|_| MetaFault::Memory);
         }
-        Work::Make(maker) => made(alloc, meta, maker),
+        Work::Make(maker) => made(alloc, Meta::read(alloc, area)?, maker),
     };
     match after {
         Ok(Some(after)) => text_in_area(alloc, &after).map_err(|_| MetaFault::Memory),
@@ -120,10 +114,10 @@ fn text_after(
 }
 
 /// How the work ends, beside the text that it gives where there is memory.
-fn end_of(alloc: Global, work: Work, area: &[u8], meta: &Meta, want: &str) -> End
-    requires { area_len meta.now ≡ 12288 }
+fn end_of(alloc: Global, work: Work, area: &[u8], want: &str) -> End
+    requires { length area.now ≡ 12288 }
 {
-    match text_after(alloc, work, area, meta) {
+    match text_after(alloc, work, area) {
         Ok(Some(text)) if text.as_str() == want => End::Done,
         Ok(_) => End::Other,
         Err(MetaFault::Memory) => End::Memory,
@@ -136,8 +130,7 @@ fn end_of(alloc: Global, work: Work, area: &[u8], meta: &Meta, want: &str) -> En
 // exhausted so.
 fn ends_with_little_memory(alloc: Global, work: Work) -> Result<(End, usize), Fail> {
     let area = area_of(alloc, PLAIN.as_bytes(), AREA)?;
-    let meta = read(alloc, PLAIN)?;
-    let want = text_after(alloc, work, area.as_slice(), &meta)?.ok_or("nothing is made")?;
+    let want = text_after(alloc, work, area.as_slice())?.ok_or("nothing is made")?;
     let mut held = Vec::with_capacity(alloc, 1 << 20)?;
     let mut blocks: Vec<Vec<u8>> = Vec::with_capacity(alloc, 1024)?;
     for _ in 0..1024 {
@@ -146,7 +139,7 @@ fn ends_with_little_memory(alloc: Global, work: Work) -> Result<(End, usize), Fa
     take_all(alloc, &mut held);
     let mut end = End::Memory;
     for _ in 0..1024 {
-        end = end_of(alloc, work, area.as_slice(), &meta, want.as_str());
+        end = end_of(alloc, work, area.as_slice(), want.as_str());
         if end != End::Memory {
             break;
         }

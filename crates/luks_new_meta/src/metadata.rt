@@ -60,7 +60,7 @@ pub fn converted(alloc: Global, volume: &SourceVolume<'_>) -> Result<Meta, Alloc
 /// The JSON area as it is written: the metadata's text and zeros after it, as long as the area
 /// that was read; none where the text is longer than the area less one byte.
 ///
-/// Takes memory for the text and the area.
+/// Takes memory for the area, in which the text is made.
 pub fn json_area(alloc: Global, meta: &Meta) -> Result<Option<Vec<u8>>, AllocError>
     ensures holds { IfOk result (λ o. IfSome o (λ a.
         IsWrittenArea (area_len meta.now) (content meta.now) a.items)) }
@@ -71,60 +71,66 @@ pub fn json_area(alloc: Global, meta: &Meta) -> Result<Option<Vec<u8>>, AllocErr
 }
 
 /// The metadata without the keyslot, and without its name in the arrays of digests and tokens.
-/// All else stays as it is.
+/// All else stays as it is. The metadata is given up: its value is edited in place.
 ///
-/// Takes memory for the new value.
-pub fn without_slot(alloc: Global, meta: &Meta, number: u8) -> Result<Meta, AllocError>
+/// Takes memory for the maps of tokens and digests.
+pub fn without_slot(alloc: Global, meta: Meta, number: u8) -> Result<Meta, AllocError>
     requires { number < 32 }
-    ensures value { IfOk result (λ m. content m ≡ without_slot number (content meta.now)) }
-    ensures length { IfOk result (λ m. area_len m ≡ area_len meta.now) }
+    ensures value { IfOk result (λ m. content m ≡ without_slot number (content meta)) }
+    ensures length { IfOk result (λ m. area_len m ≡ area_len meta) }
 {
     removal_keeps_the_rest();
-    let value = luks_making::without_slot(alloc, meta.value(), number)?;
-    Ok(Meta::of_value(value, meta.area_len()))
+    let len = meta.area_len();
+    let value = luks_making::without_slot(alloc, meta.into_value(), number)?;
+    Ok(Meta::of_value(value, len))
 }
 
-/// The metadata with the keyslot `to`, derived by PBKDF2 and without a priority: it has the
-/// members of the keyslot `by`, but for what is new. Its name goes last in the array of the
-/// digest that names `by`. All else stays as it is. No digest's name stands twice in the metadata.
+/// The metadata with the keyslot `to`, without a priority: it has the members of the keyslot `by`, the
+/// costs of its derivation too, but for what is new. Its name goes last in the array of the
+/// digest that names `by`. All else stays as it is. No digest's name stands twice in the metadata,
+/// which is given up: its value is edited in place.
 ///
-/// Takes memory for the new value.
+/// Takes memory for the new keyslot.
 pub fn with_slot(
     alloc: Global,
-    meta: &Meta,
+    meta: Meta,
     to: u8,
     by: u8,
     new: &New<'_>,
 ) -> Result<Meta, AllocError>
-    requires to { IsFree (content meta.now) to }
-    requires by { CanSeal (area_len meta.now) (content meta.now) by (new_members new.now) }
+    requires to { IsFree (content meta) to }
+    requires by { CanSeal (area_len meta) (content meta) by (new_members new.now) }
     ensures value { IfOk result (λ m.
-        IsAdded to by (new_members new.now) (content meta.now) (content m)) }
-    ensures length { IfOk result (λ m. area_len m ≡ area_len meta.now) }
-    ensures unique { HasUniqueDigests (content meta.now) }
+        IsAdded to by (new_members new.now) (content meta) (content m)) }
+    ensures length { IfOk result (λ m. area_len m ≡ area_len meta) }
+    ensures unique { HasUniqueDigests (content meta) }
 {
     made_keyslot_has_room();
     new_fits(new);
+    let len = meta.area_len();
     let value = added(alloc, meta, to, by, new)?;
-    Ok(Meta::of_value(value, meta.area_len()))
+    Ok(Meta::of_value(value, len))
 }
 
-/// The metadata with the keyslot's new iterations, salt and area. All else stays as it is.
+/// The metadata with the keyslot's new salt and area, and new iterations where it derives by PBKDF2. All
+/// else stays as it is. The
+/// metadata is given up: its value is edited in place.
 ///
-/// Takes memory for the new value.
+/// Takes memory for the new members.
 pub fn changed_slot(
     alloc: Global,
-    meta: &Meta,
+    meta: Meta,
     number: u8,
     new: &New<'_>,
 ) -> Result<Meta, AllocError>
-    requires { CanSeal (area_len meta.now) (content meta.now) number (new_members new.now) }
+    requires { CanSeal (area_len meta) (content meta) number (new_members new.now) }
     ensures value { IfOk result (λ m.
-        content m ≡ changed_slot number (new_members new.now) (content meta.now)) }
-    ensures length { IfOk result (λ m. area_len m ≡ area_len meta.now) }
+        content m ≡ changed_slot number (new_members new.now) (content meta)) }
+    ensures length { IfOk result (λ m. area_len m ≡ area_len meta) }
 {
     change_keeps_the_rest();
     new_fits(new);
-    let value = luks_making::changed_slot(alloc, meta.value(), number, new)?;
-    Ok(Meta::of_value(value, meta.area_len()))
+    let len = meta.area_len();
+    let value = luks_making::changed_slot(alloc, meta.into_value(), number, new)?;
+    Ok(Meta::of_value(value, len))
 }

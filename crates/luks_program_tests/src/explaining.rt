@@ -2,7 +2,7 @@
 use crate::printing::run;
 use luks_cli::{InputFault, Reason};
 use luks_samples::{
-    CHECK, Change, Edit, OPEN, OPEN_0, SHOW, opening_luks1, opening_luks2, overwrite,
+    CHECK, Change, DETACHED, Edit, OPEN, OPEN_0, SHOW, opening_luks1, opening_luks2, overwrite,
 };
 use luks_volume::MemDevice;
 use std::alloc::Global;
@@ -93,7 +93,7 @@ fn files_that_are_not_read(rt: HostRuntime) -> Result<(), Fail> {
 }
 
 const LINE_FEED: &str =
-    "luks: the passphrase's file ends in a line feed, which was taken as part of it\n";
+    "luks: the passphrase's file ends in a newline, which was taken as part of it\n";
 
 /// What is changed of the LUKS1 volume, to which length it is cut, the words, the passphrase, and
 /// what is said on both.
@@ -125,7 +125,7 @@ const LUKS1: [(&[Change], usize, &[&str], &[u8], &str, &str); 11] = [
         OPEN,
         b"one\n",
         "no slot opens\n",
-        "luks: the passphrase's file ends in a line feed, which was taken as part of it\nluks: keyslot 0 was passed over: Hash\n",
+        "luks: the passphrase's file ends in a newline, which was taken as part of it\nluks: keyslot 0 was passed over: Hash\n",
     ),
     (
         &[(208, &[1]), (352, &[1]), (300, &[0; 4])],
@@ -212,7 +212,7 @@ const LUKS2: [(&[Edit], usize, &[&str], &[u8], &str, &str); 6] = [
         OPEN,
         b"one",
         "no slot opens\n",
-        "luks: keyslot 0 was passed over: Argon2\nluks: keyslot 1 was passed over: Cipher\nluks: keyslot 2 was passed over: Hash\n",
+        "luks: keyslot 0 was passed over: Argon2\nluks: keyslot 0 is derived by argon2id, which takes 1024 MiB of memory: --memory 1024 allows it\nluks: keyslot 1 was passed over: Cipher\nluks: keyslot 2 was passed over: Hash\n",
     ),
     (
         &ODD,
@@ -230,7 +230,14 @@ const LUKS2: [(&[Edit], usize, &[&str], &[u8], &str, &str); 6] = [
         "no slot opens\n",
         "luks: keyslot 0 was passed over: Hash\nluks: keyslot 1 was passed over: Hash\nluks: keyslot 2 was passed over: Outside\n",
     ),
-    (&UNKNOWN, 45056, OPEN_0, b"one", "refused Argon2\n", ""),
+    (
+        &UNKNOWN,
+        45056,
+        OPEN_0,
+        b"one",
+        "refused Argon2\n",
+        "luks: keyslot 0 is derived by argon2id, which takes 1024 MiB of memory: --memory 1024 allows it\n",
+    ),
 ];
 
 #[test]
@@ -243,6 +250,93 @@ fn keyslots_of_luks2(rt: HostRuntime) -> Result<(), Fail> {
         assert!(rt;
             says(alloc, words, volume, Ok(passphrase), answer, lines)?,
             "{lines}"
+        );
+    }
+    Ok(())
+}
+
+const EMPTY: &str = "luks: the last segment is empty: compare the partition's size\n";
+
+const ACCEPTED_DETACHED: &str = "luks: it is accepted as a detached header: --detached\n";
+
+/// To which length the LUKS1 volume is cut, what is changed of it, the words, and what is said on both.
+const CUT: &[(usize, &[Change], &[&str], &str, &str)] = &[
+    (2097664, &[], CHECK, "accepted luks1 areas 10\n", ""),
+    (2097153, &[], CHECK, "accepted luks1 areas 10\n", ""),
+    (2097152, &[], CHECK, "accepted luks1 areas 10\n", EMPTY),
+    (2097152, &[], DETACHED, "accepted luks1 areas 9\n", ""),
+    (
+        2097151,
+        &[],
+        CHECK,
+        "refused Outside(Segment(0))\n",
+        ACCEPTED_DETACHED,
+    ),
+    (2097151, &[(352, &[1])], CHECK, "refused SlotState(3)\n", ""),
+    (4607, &[], CHECK, "refused Outside(Slot(0))\n", ""),
+];
+
+#[test]
+fn cut_luks1(rt: HostRuntime) -> Result<(), Fail> {
+    let alloc = rt.alloc();
+    for row in CUT.iter() {
+        let (len, changes, words, answer, lines) = *row;
+        let mut image = opening_luks1(alloc)?;
+        overwrite(&mut image, changes);
+        image.truncate(len);
+        let volume = Ok(MemDevice::new(image));
+        assert!(rt;
+            says(alloc, words, volume, Ok(b"one".as_slice()), answer, lines)?,
+            "{len}: {answer}"
+        );
+    }
+    Ok(())
+}
+
+/// A segment that begins where the volume ends.
+const AT_THE_END: Edit = (
+    r#""segments":{},"#,
+    r#""segments":{"0":{"encryption":"aes-xts-plain64","iv_tweak":"0","offset":"45056","sector_size":512,"size":"dynamic","type":"crypt"}},"#,
+);
+
+/// The digest that names it.
+const NAMED: Edit = (r#""segments":[]"#, r#""segments":["0"]"#);
+
+/// One that begins at 0, as that of a detached header.
+const AT_0: Edit = (r#""offset":"45056""#, r#""offset":"0""#);
+
+/// What is edited of the LUKS2 volume of 45056 bytes, the words, and what is said on both.
+const SEGMENTS: &[(&[Edit], &[&str], &str, &str)] = &[
+    (&[], CHECK, "accepted luks2 in-step seqid 1 areas 5\n", ""),
+    (
+        &[NAMED, AT_THE_END],
+        CHECK,
+        "accepted luks2 in-step seqid 1 areas 6\n",
+        EMPTY,
+    ),
+    (
+        &[NAMED, AT_THE_END],
+        DETACHED,
+        "accepted luks2 in-step seqid 1 areas 5\n",
+        "",
+    ),
+    (
+        &[NAMED, AT_THE_END, AT_0],
+        CHECK,
+        "refused Region(Segment(0))\n",
+        ACCEPTED_DETACHED,
+    ),
+];
+
+#[test]
+fn segments_of_luks2(rt: HostRuntime) -> Result<(), Fail> {
+    let alloc = rt.alloc();
+    for row in SEGMENTS.iter() {
+        let (edits, words, answer, lines) = *row;
+        let volume = Ok(MemDevice::new(opening_luks2(alloc, edits)?));
+        assert!(rt;
+            says(alloc, words, volume, Ok(b"one".as_slice()), answer, lines)?,
+            "{answer}"
         );
     }
     Ok(())

@@ -1,11 +1,10 @@
 //! Devices of which one call fails.
-use crate::printing::NO_FILE;
 use luks_area::{FaultyDevice, Leave};
-use luks_cli::{CountingPrinter, InputFault, Inputs, execute};
-use luks_line::line;
+use luks_cli::{InputFault, Inputs};
 use luks_samples::{
     CHECK, DETACHED, OPEN, OPEN_0, SHOW, opening_luks1, opening_luks2, zeros_luks2,
 };
+use luks_sessions::{NO_FILE, run_words};
 use luks_volume::{Device, MemDevice};
 use std::alloc::Global;
 use std::process::Abort;
@@ -29,9 +28,13 @@ fn failures_of(volume: &Result<FaultyDevice<MemDevice>, InputFault>) -> u64 {
     }
 }
 
+/// Whether the bytes begin with the text.
+fn begins(bytes: &[u8], text: &str) -> bool {
+    bytes.get(..text.len()) == Some(text.as_bytes())
+}
+
 /// What the words come to where the call of this number fails; `want` begins what they print else.
 fn end_of(alloc: Global, words: &[&str], image: &[u8], call: u64, want: &str) -> Result<End, Fail> {
-    let line = line(alloc, words)?;
     let device = MemDevice::new(image.to_vec(alloc)?);
     let mut inputs = Inputs {
         volume: Ok(FaultyDevice::new(device, call, Leave::Old)),
@@ -40,15 +43,11 @@ fn end_of(alloc: Global, words: &[&str], image: &[u8], call: u64, want: &str) ->
         new_passphrase: NO_FILE,
         random: NO_FILE,
     };
-    let mut out = CountingPrinter::new(Vec::new(alloc));
-    let mut err = Vec::new(alloc);
-    let status = execute(alloc, &line, &mut inputs, &mut out, &mut err);
+    let ended = run_words(alloc, words, &mut inputs)?;
     let failures = failures_of(&inputs.volume);
-    let printed = out.writer.as_slice();
-    let told = err.as_slice() == b"luks: volume: reading failed\n".as_slice();
-    if failures == 0 && status == 0 && printed.starts_with(want.as_bytes()) {
+    if failures == 0 && ended.status == 0 && begins(&ended.out, want) {
         Ok(End::Done)
-    } else if failures == 1 && status == 4 && printed == b"device fault\n".as_slice() && told {
+    } else if failures == 1 && ended.says("device fault\n", "luks: volume: reading failed\n", 4) {
         Ok(End::Told)
     } else {
         Ok(End::Other)

@@ -11,9 +11,13 @@ mod explaining;
 #[cfg(test)]
 mod failing;
 #[cfg(test)]
+mod json_texts;
+#[cfg(test)]
 mod keys;
 #[cfg(test)]
 mod made;
+#[cfg(test)]
+mod open_argon2;
 #[cfg(test)]
 mod open_luks1;
 #[cfg(test)]
@@ -28,6 +32,8 @@ mod reading;
 mod refused_memory;
 #[cfg(test)]
 mod shapes;
+#[cfg(test)]
+mod show_json;
 #[cfg(test)]
 mod show_luks1;
 #[cfg(test)]

@@ -5,6 +5,7 @@ ghost use Rattle.luks_area.specs.Device.{IsSettled};
 
 use luks_cli::{CountingPrinter, InputFault, Inputs, execute};
 use luks_line::line;
+use luks_sessions::NO_FILE;
 use luks_volume::{Device, MemDevice};
 use std::alloc::Global;
 use std::io::{Read, Write};
@@ -23,9 +24,6 @@ pub struct Row<'a> {
     /// The exit status.
     pub status: u8,
 }
-
-/// A file that the command line doesn't name.
-pub const NO_FILE: Result<&[u8], InputFault> = Err(InputFault::Absent);
 
 /// Runs the words over these files, prints to `out` and `err` and answers the status.
 pub fn run<D: Device, R: Read + Drop, W: Write, E: Write>(

@@ -1,42 +1,18 @@
 //! Refused memory.
-use crate::printing::NO_FILE;
+use crate::json_texts::{SAMPLE, ZEROS};
+use crate::show_json::SHOW_JSON;
 use luks_cli::{CountingPrinter, InputFault, Inputs, Line, execute};
 use luks_line::line;
-use luks_samples::{CHECK, DETACHED, OPEN, OPEN_0, SHOW, opening_luks1, opening_luks2};
+use luks_samples::{
+    CHECK, DETACHED, OPEN, OPEN_0, SHOW, changed_luks1, opening_luks1, opening_luks2, zeros_luks2,
+};
+use luks_sessions::NO_FILE;
+use luks_test_devices::{BLOCKS, TakenMemory};
 use luks_volume::{MemDevice, open_slot, unlock};
 use std::alloc::{AllocError, Global};
 use std::io::Cursor;
 use std::process::Abort;
 use std::test::Fail;
-
-/// How many blocks of 256 bytes are given back in turn.
-const BLOCKS: usize = 1024;
-
-/// Takes what memory there is into `held`, in blocks from 2^46 bytes down to 256.
-fn take_all(alloc: Global, held: &mut Vec<Vec<u8>>) {
-    let mut size = 1usize << 46;
-    for _ in 0..39 {
-        for _ in 0..1 << 17 {
-            match Vec::with_capacity(alloc, size) {
-                Ok(block) => {
-                    if held.push(block).is_err() {
-                        return;
-                    }
-                }
-                Err(_) => break,
-            }
-        }
-        size /= 2;
-    }
-}
-
-fn blocks_of(alloc: Global) -> Result<Vec<Vec<u8>>, AllocError> {
-    let mut blocks: Vec<Vec<u8>> = Vec::with_capacity(alloc, BLOCKS)?;
-    for _ in 0..BLOCKS {
-        blocks.push(Vec::with_capacity(alloc, 256)?)?;
-    }
-    Ok(blocks)
-}
 
 /// How a command ended.
 #[derive(Debug, Clone, Copy, PartialEq, Eq)]
@@ -64,7 +40,7 @@ fn end_of(
     inputs: &mut Inputs<MemDevice, &[u8], &[u8]>,
     want: &str,
 ) -> End {
-    let mut out = CountingPrinter::new(Cursor::new([0u8; 1024]));
+    let mut out = CountingPrinter::new(Cursor::new([0u8; 4096]));
     let mut err = Cursor::new([0u8; 1024]);
     let status = execute(alloc, line, inputs, &mut out, &mut err);
     let printed = out.writer.into_inner();
@@ -100,9 +76,7 @@ fn ends_with_little_memory(alloc: Global, image: &[u8], row: &Row) -> Result<(En
         new_passphrase: NO_FILE,
         random: NO_FILE,
     };
-    let mut held = Vec::with_capacity(alloc, 1 << 20)?;
-    let mut blocks = blocks_of(alloc)?;
-    take_all(alloc, &mut held);
+    let mut taken = TakenMemory::take(alloc)?;
     let mut end = End::Memory;
     let mut given = 0;
     for turn in 0..BLOCKS {
@@ -112,9 +86,9 @@ fn ends_with_little_memory(alloc: Global, image: &[u8], row: &Row) -> Result<(En
             given = turn;
             break;
         }
-        let _ = blocks.pop();
+        taken.give_back();
     }
-    drop(held);
+    drop(taken);
     Ok((end, given))
 }
 
@@ -219,14 +193,32 @@ fn luks2_volumes(rt: HostRuntime) -> Result<(), Fail> {
     compare(&rt, rt.alloc(), &image, &LUKS2)
 }
 
+/// The JSON object of a header takes memory, of either version.
+#[test]
+fn json_objects(rt: HostRuntime) -> Result<(), Fail> {
+    let of_luks1 = Row {
+        words: SHOW_JSON,
+        want: SAMPLE,
+        least: 1,
+        most: 1000,
+    };
+    let image = changed_luks1(rt.alloc(), &[], 592)?;
+    compare(&rt, rt.alloc(), &image, &[of_luks1])?;
+    let of_luks2 = Row {
+        want: ZEROS,
+        ..of_luks1
+    };
+    let image = zeros_luks2(rt.alloc(), &[], 32768)?;
+    compare(&rt, rt.alloc(), &image, &[of_luks2])
+}
+
 /// Whether the LUKS1 volume is opened with no memory at all, by its number and without it.
 fn opens_without_memory(alloc: Global) -> Result<(bool, bool), AllocError> {
     let mut device = MemDevice::new(opening_luks1(alloc)?);
-    let mut held = Vec::with_capacity(alloc, 1 << 20)?;
-    take_all(alloc, &mut held);
-    let by_number = open_slot(alloc, &mut device, 0, b"one").is_ok_and(|key| key.is_some());
-    let in_turn = unlock(alloc, &mut device, b"one").is_ok_and(|found| found.is_some());
-    drop(held);
+    let taken = TakenMemory::take(alloc)?;
+    let by_number = open_slot(alloc, &mut device, 0, b"one", 0).is_ok_and(|key| key.is_some());
+    let in_turn = unlock(alloc, &mut device, b"one", 0).is_ok_and(|found| found.is_some());
+    drop(taken);
     Ok((by_number, in_turn))
 }
 

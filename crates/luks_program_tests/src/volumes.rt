@@ -89,7 +89,7 @@ fn opens(
     n: u8,
     passphrase: &[u8],
 ) -> Result<Option<bool>, Fail> {
-    let found = open_slot(alloc, device, n, passphrase)?;
+    let found = open_slot(alloc, device, n, passphrase, 0)?;
     Ok(found.map(|key| is_the_key(&key)))
 }
 
@@ -99,7 +99,7 @@ fn unlocks(
     device: &mut MemDevice,
     passphrase: &[u8],
 ) -> Result<Option<(u8, bool)>, Fail> {
-    let found = unlock(alloc, device, passphrase)?;
+    let found = unlock(alloc, device, passphrase, 0)?;
     Ok(found.map(|(n, key)| (n, is_the_key(&key))))
 }
 

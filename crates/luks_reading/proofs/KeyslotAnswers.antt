@@ -14,54 +14,59 @@ use Rattle.luks_reading.specs.declared.open_fault.OpenFault.{OpenFault}
 use Rattle.luks_reading.specs.declared.open_fault.OpenFault.TheVariants.{Head, Meta, NoSuchSlot, SlotFree, Outside, Slot, Device, Memory}
 use Rattle.luks_reading.specs.declared.read_fault.ReadFault.{ReadFault}
 use Rattle.luks_reading.specs.declared.read_fault.ReadFault.TheVariants as reading
-use Rattle.luks_reading.specs.Answer.{open_key, head_step, slot_row, Answer, FirstRefusal, IsRefusal, IsRefusalAs, IsRefusedBy, refused, opened_to}
+use Rattle.luks_reading.specs.Answer.{open_key, head_step, slot_row, AnswerWithin, FirstRefusal, IsRefusalWithin, IsRefusalAsWithin, IsRefusedByWithin, TakesMemory, refused, opened_to}
 use Rattle.luks_reading.specs.Conversions.{unread_opened}
-use Rattle.luks_reading.specs.Header.{json_at, read_key, IsReadFaultAs, IsUnread}
+use Rattle.luks_reading.specs.Header.{json_at, read_key, IsReadFaultAs, IsUnread, NeedsMetadata}
 use Rattle.luks_reading.specs.Luks1Keyslots.{Luks1Opens, Luks1Refused}
-use Rattle.luks_reading.specs.Luks2Keyslots.{Luks2Opens, Luks2Refused}
-use Rattle.luks_reading.proofs.OpenFaults.{refused_by}
+use Rattle.luks_reading.specs.Luks2Keyslots.{Luks2Opens, Luks2Refused, Luks2TakesMemory}
+use Rattle.luks_reading.proofs.OpenFaults.{own_fault, refused_by}
 use Rattle.luks_reading.proofs.ReadFaults.{as_unread}
 use Rattle.luks_reading.proofs.Luks1Refusals.{sooner, together}
 use Rattle.luks_reading.proofs.Luks2Refusals.{uuid_step}
 
 -- the first refusal by what counts is the volume's first refusal
-pub refused_as : (v : List ℕ) (n : ℕ) (p : List ℕ) (c : Choice) (f : OpenFault) → Chosen v c → ((d : Choice) → Chosen v d → c ≡ d)
-    → IsLeast open_key (IsRefusalAs v n c) f → Answer v n p (refused f)
-refused_as v n p c f chosen only least = (
+pub refused_as : (memory : ℕ) (v : List ℕ) (n : ℕ) (p : List ℕ) (c : Choice) (f : OpenFault) → Chosen v c → ((d : Choice) → Chosen v d → c ≡ d)
+    → IsLeast open_key (IsRefusalAsWithin memory v n c) f → AnswerWithin memory v n p (refused f)
+refused_as memory v n p c f chosen only least = (
   record { choice = c; chosen = chosen; fault = least.0 },
-  λ g is. least.1 g (subst (λ d. IsRefusalAs v n d g) (sym (only is.choice is.chosen)) is.fault),
+  λ g is. least.1 g (subst (λ d. IsRefusalAsWithin memory v n d g) (sym (only is.choice is.chosen)) is.fault),
 )
 
 -- so it is where there is one, and where there is none the volume has none
-pub first_as : (v : List ℕ) (n : ℕ) (c : Choice) (r : Option OpenFault) → Chosen v c → ((d : Choice) → Chosen v d → c ≡ d)
-    → FirstRefusal (IsRefusalAs v n c) r → FirstRefusal (IsRefusal v n) r
-first_as v n c (Some f) chosen only x = refused_as v n [] c f chosen only x
-first_as v n c None chosen only x = λ f is. x f (subst (λ d. IsRefusalAs v n d f) (sym (only is.choice is.chosen)) is.fault)
+pub first_as : (memory : ℕ) (v : List ℕ) (n : ℕ) (c : Choice) (r : Option OpenFault) → Chosen v c → ((d : Choice) → Chosen v d → c ≡ d)
+    → FirstRefusal (IsRefusalAsWithin memory v n c) r → FirstRefusal (IsRefusalWithin memory v n) r
+first_as memory v n c (Some f) chosen only x = refused_as memory v n [] c f chosen only x
+first_as memory v n c None chosen only x = λ f is. x f (subst (λ d. IsRefusalAsWithin memory v n d f) (sym (only is.choice is.chosen)) is.fault)
 
 -- so is a refusal by the header, unless the device failed
-pub luks1_refused : (v : List ℕ) (n : ℕ) (p : List ℕ) (f : OpenFault) → Chosen v luks1 → ((d : Choice) → Chosen v d → luks1 ≡ d)
-    → Luks1Refused (part v 0 592) (length v) n f → IsRefusedBy v n p f
-luks1_refused v n p f chosen only x =
-    refused_by v n p f (λ own. refused_as v n p luks1 f chosen only (x own))
+pub luks1_refused : (memory : ℕ) (v : List ℕ) (n : ℕ) (p : List ℕ) (f : OpenFault) → Chosen v luks1 → ((d : Choice) → Chosen v d → luks1 ≡ d)
+    → Luks1Refused (part v 0 592) (length v) n f → IsRefusedByWithin memory v n p f
+luks1_refused memory v n p f chosen only x =
+    refused_by memory v n p f (λ own. refused_as memory v n p luks1 f chosen only (x (own_fault f own)))
     (λ e. absurd (subst (Luks1Refused (part v 0 592) (length v) n) e x refl).0)
 
-pub luks1_opens : (v : List ℕ) (n : ℕ) (p : List ℕ) (found : Option (List ℕ)) → Chosen v luks1
-    → Luks1Opens (part v 0 592) v n p found → Answer v n p (opened_to found)
-luks1_opens v n p (Some k) chosen x = record { choice = luks1; chosen = chosen; plan = x.plan; is = x.is; unrefused = x.unrefused; key = x.key }
-luks1_opens v n p None chosen x = record { choice = luks1; chosen = chosen; plan = x.plan; is = x.is; unrefused = x.unrefused; key = x.key }
+pub luks1_opens : (memory : ℕ) (v : List ℕ) (n : ℕ) (p : List ℕ) (found : Option (List ℕ)) → Chosen v luks1
+    → Luks1Opens (part v 0 592) v n p found → AnswerWithin memory v n p (opened_to found)
+luks1_opens memory v n p (Some k) chosen x = record { choice = luks1; chosen = chosen; plan = x.plan; is = x.is; unrefused = x.unrefused; key = x.key }
+luks1_opens memory v n p None chosen x = record { choice = luks1; chosen = chosen; plan = x.plan; is = x.is; unrefused = x.unrefused; key = x.key }
 
 -- ---- the LUKS2 copy that counts
 
-pub luks2_refused : (v : List ℕ) (n : ℕ) (p : List ℕ) (o : ℕ) (copies : Copies) (f : OpenFault) → Chosen v (luks2 o copies)
-    → ((d : Choice) → Chosen v d → luks2 o copies ≡ d) → Luks2Refused (header_at v o) (json_at v o) (length v) n f → IsRefusedBy v n p f
-luks2_refused v n p o copies f chosen only x =
-    refused_by v n p f (λ own. refused_as v n p (luks2 o copies) f chosen only (x own))
-    (λ e. absurd (subst (Luks2Refused (header_at v o) (json_at v o) (length v) n) e x refl).0)
+pub luks2_refused : (memory : ℕ) (v : List ℕ) (n : ℕ) (p : List ℕ) (o : ℕ) (copies : Copies) (f : OpenFault) → Chosen v (luks2 o copies)
+    → ((d : Choice) → Chosen v d → luks2 o copies ≡ d) → NeedsMetadata v → Luks2Refused memory (header_at v o) (json_at v o) (length v) n f
+    → IsRefusedByWithin memory v n p f
+luks2_refused memory v n p o copies f chosen only needs x =
+    refused_by memory v n p f (λ own. refused_as memory v n p (luks2 o copies) f chosen only (x.0 own)) (λ e. needs)
 
-pub luks2_opens : (v : List ℕ) (n : ℕ) (p : List ℕ) (o : ℕ) (copies : Copies) (found : Option (List ℕ)) → Chosen v (luks2 o copies)
-    → Luks2Opens (header_at v o) (json_at v o) v n p found → Answer v n p (opened_to found)
-luks2_opens v n p o copies (Some k) chosen x = record { choice = luks2 o copies; chosen = chosen; plan = x.plan; is = x.is; unrefused = x.unrefused; key = x.key }
-luks2_opens v n p o copies None chosen x = record { choice = luks2 o copies; chosen = chosen; plan = x.plan; is = x.is; unrefused = x.unrefused; key = x.key }
+pub luks2_takes : (memory : ℕ) (v : List ℕ) (n : ℕ) (o : ℕ) (copies : Copies) → Chosen v (luks2 o copies)
+    → Luks2TakesMemory memory (header_at v o) (json_at v o) (length v) n → TakesMemory memory v n
+luks2_takes memory v n o copies chosen x =
+    record { choice = luks2 o copies; chosen = chosen; plan = x.plan; is = x.is; unrefused = x.unrefused; argon2 = x.argon2 }
+
+pub luks2_opens : (memory : ℕ) (v : List ℕ) (n : ℕ) (p : List ℕ) (o : ℕ) (copies : Copies) (found : Option (List ℕ)) → Chosen v (luks2 o copies)
+    → Luks2Opens memory (header_at v o) (json_at v o) v n p found → AnswerWithin memory v n p (opened_to found)
+luks2_opens memory v n p o copies (Some k) chosen x = record { choice = luks2 o copies; chosen = chosen; plan = x.plan; is = x.is; unrefused = x.unrefused; key = x.key }
+luks2_opens memory v n p o copies None chosen x = record { choice = luks2 o copies; chosen = chosen; plan = x.plan; is = x.is; unrefused = x.unrefused; key = x.key }
 
 -- ---- a header that isn't read
 
@@ -85,39 +90,39 @@ read_step v luks1 f x = absurd x
 read_step v (luks2 o copies) f x = uuid_step (uuid_field (header_at v o)) f x
 read_step v nothing f x = step_one v f x
 
-head_refuses : (v : List ℕ) (n : ℕ) (c : Choice) (f : HeadFault) → IsReadFaultAs v c (reading.Head f) → IsRefusalAs v n c (Head f)
-head_refuses v n luks1 f x = absurd x
-head_refuses v n (luks2 o copies) f x = x
-head_refuses v n nothing f x = x
+head_refuses : (memory : ℕ) (v : List ℕ) (n : ℕ) (c : Choice) (f : HeadFault) → IsReadFaultAs v c (reading.Head f) → IsRefusalAsWithin memory v n c (Head f)
+head_refuses memory v n luks1 f x = absurd x
+head_refuses memory v n (luks2 o copies) f x = x
+head_refuses memory v n nothing f x = x
 
-meta_refuses : (v : List ℕ) (n : ℕ) (c : Choice) (f : MetaFault) → IsReadFaultAs v c (reading.Meta f) → IsRefusalAs v n c (Meta f)
-meta_refuses v n luks1 f x = absurd x
-meta_refuses v n (luks2 o copies) f x = x
-meta_refuses v n nothing f x = absurd x
+meta_refuses : (memory : ℕ) (v : List ℕ) (n : ℕ) (c : Choice) (f : MetaFault) → IsReadFaultAs v c (reading.Meta f) → IsRefusalAsWithin memory v n c (Meta f)
+meta_refuses memory v n luks1 f x = absurd x
+meta_refuses memory v n (luks2 o copies) f x = x
+meta_refuses memory v n nothing f x = absurd x
 
 -- where the header isn't read, the refusals of these two kinds are the faults of reading it
-head_read : (v : List ℕ) (n : ℕ) (c : Choice) (r : ReadFault) (f : HeadFault) → IsReadFaultAs v c r → IsRefusalAs v n c (Head f)
+head_read : (memory : ℕ) (v : List ℕ) (n : ℕ) (c : Choice) (r : ReadFault) (f : HeadFault) → IsReadFaultAs v c r → IsRefusalAsWithin memory v n c (Head f)
     → IsReadFaultAs v c (reading.Head f)
-head_read v n luks1 r f unread x = absurd unread
-head_read v n (luks2 o copies) r f unread x = x
-head_read v n nothing r f unread x = x
+head_read memory v n luks1 r f unread x = absurd unread
+head_read memory v n (luks2 o copies) r f unread x = x
+head_read memory v n nothing r f unread x = x
 
-meta_read : (v : List ℕ) (n : ℕ) (c : Choice) (r : ReadFault) (f : MetaFault) → IsReadFaultAs v c r → IsRefusalAs v n c (Meta f)
+meta_read : (memory : ℕ) (v : List ℕ) (n : ℕ) (c : Choice) (r : ReadFault) (f : MetaFault) → IsReadFaultAs v c r → IsRefusalAsWithin memory v n c (Meta f)
     → IsReadFaultAs v c (reading.Meta f)
-meta_read v n luks1 r f unread x = absurd unread
-meta_read v n (luks2 o copies) r f unread x = x
-meta_read v n nothing r f unread x = absurd x
+meta_read memory v n luks1 r f unread x = absurd unread
+meta_read memory v n (luks2 o copies) r f unread x = x
+meta_read memory v n nothing r f unread x = absurd x
 
-pub unread_first : (v : List ℕ) (n : ℕ) (c : Choice) (f : ReadFault) → IsLeast read_key (IsReadFaultAs v c) f
-    → IsLeast open_key (IsRefusalAs v n c) (unread_opened f)
-unread_first v n c (reading.Head f) least = (head_refuses v n c f least.0, after)
+pub unread_first : (memory : ℕ) (v : List ℕ) (n : ℕ) (c : Choice) (f : ReadFault) → IsLeast read_key (IsReadFaultAs v c) f
+    → IsLeast open_key (IsRefusalAsWithin memory v n c) (unread_opened f)
+unread_first memory v n c (reading.Head f) least = (head_refuses memory v n c f least.0, after)
   where
     step : head_step f ≡ 1
     step = read_step v c f least.0
 
-    after : (g : OpenFault) → IsRefusalAs v n c g → NotAfter (open_key (Head f)) (open_key g)
+    after : (g : OpenFault) → IsRefusalAsWithin memory v n c g → NotAfter (open_key (Head f)) (open_key g)
     after (Head g) is =
-        let read = head_read v n c (reading.Head f) g least.0 is in
+        let read = head_read memory v n c (reading.Head f) g least.0 is in
         together (head_step f) (head_step g) (head_key f) (head_key g) (step ∙ sym (read_step v c g read)) ((least.1 (reading.Head g) read).1 refl)
     after (Meta g) is = let here = step in sooner (head_step f) 2 (head_key f) (meta_key g) (omega (arith, here))
     after NoSuchSlot is = let here = step in sooner (head_step f) 3 (head_key f) [] (omega (arith, here))
@@ -126,32 +131,32 @@ unread_first v n c (reading.Head f) least = (head_refuses v n c f least.0, after
     after (Slot g) is = let here = step in sooner (head_step f) 7 (head_key f) (slot_row g ∷ []) (omega (arith, here))
     after Device is = let here = step in sooner (head_step f) 8 (head_key f) [] (omega (arith, here))
     after Memory is = let here = step in sooner (head_step f) 9 (head_key f) [] (omega (arith, here))
-unread_first v n c (reading.Meta f) least = (meta_refuses v n c f least.0, after)
+unread_first memory v n c (reading.Meta f) least = (meta_refuses memory v n c f least.0, after)
   where
-    after : (g : OpenFault) → IsRefusalAs v n c g → NotAfter (open_key (Meta f)) (open_key g)
+    after : (g : OpenFault) → IsRefusalAsWithin memory v n c g → NotAfter (open_key (Meta f)) (open_key g)
     after (Head g) is =
-        let low = (least.1 (reading.Head g) (head_read v n c (reading.Meta f) g least.0 is)).0 in absurd (omega (arith, low))
-    after (Meta g) is = least.1 (reading.Meta g) (meta_read v n c (reading.Meta f) g least.0 is)
+        let low = (least.1 (reading.Head g) (head_read memory v n c (reading.Meta f) g least.0 is)).0 in absurd (omega (arith, low))
+    after (Meta g) is = least.1 (reading.Meta g) (meta_read memory v n c (reading.Meta f) g least.0 is)
     after NoSuchSlot is = sooner 2 3 (meta_key f) [] (omega arith)
     after SlotFree is = sooner 2 5 (meta_key f) [] (omega arith)
     after Outside is = sooner 2 6 (meta_key f) [] (omega arith)
     after (Slot g) is = sooner 2 7 (meta_key f) (slot_row g ∷ []) (omega arith)
     after Device is = sooner 2 8 (meta_key f) [] (omega arith)
     after Memory is = sooner 2 9 (meta_key f) [] (omega arith)
-unread_first v n luks1 reading.Device least = absurd least.0
-unread_first v n (luks2 o copies) reading.Device least = absurd least.0
-unread_first v n nothing reading.Device least = absurd least.0
-unread_first v n luks1 reading.Memory least = absurd least.0
-unread_first v n (luks2 o copies) reading.Memory least = absurd least.0
-unread_first v n nothing reading.Memory least = absurd least.0
+unread_first memory v n luks1 reading.Device least = absurd least.0
+unread_first memory v n (luks2 o copies) reading.Device least = absurd least.0
+unread_first memory v n nothing reading.Device least = absurd least.0
+unread_first memory v n luks1 reading.Memory least = absurd least.0
+unread_first memory v n (luks2 o copies) reading.Memory least = absurd least.0
+unread_first memory v n nothing reading.Memory least = absurd least.0
 
-pub unread_refused : (v : List ℕ) (n : ℕ) (p : List ℕ) (f : ReadFault) → ((b c : Choice) → Chosen v b → Chosen v c → b ≡ c)
-    → IsUnread v f → IsRefusedBy v n p (unread_opened f)
-unread_refused v n p (reading.Head f) one x =
+pub unread_refused : (memory : ℕ) (v : List ℕ) (n : ℕ) (p : List ℕ) (f : ReadFault) → ((b c : Choice) → Chosen v b → Chosen v c → b ≡ c)
+    → IsUnread v f → IsRefusedByWithin memory v n p (unread_opened f)
+unread_refused memory v n p (reading.Head f) one x =
     let counted = as_unread v (reading.Head f) x in
-    refused_as v n p counted.choice (Head f) counted.chosen (λ d. one counted.choice d counted.chosen) (unread_first v n counted.choice (reading.Head f) counted.least)
-unread_refused v n p (reading.Meta f) one x =
+    refused_as memory v n p counted.choice (Head f) counted.chosen (λ d. one counted.choice d counted.chosen) (unread_first memory v n counted.choice (reading.Head f) counted.least)
+unread_refused memory v n p (reading.Meta f) one x =
     let counted = as_unread v (reading.Meta f) x in
-    refused_as v n p counted.choice (Meta f) counted.chosen (λ d. one counted.choice d counted.chosen) (unread_first v n counted.choice (reading.Meta f) counted.least)
-unread_refused v n p reading.Device one x = tt
-unread_refused v n p reading.Memory one x = x
+    refused_as memory v n p counted.choice (Meta f) counted.chosen (λ d. one counted.choice d counted.chosen) (unread_first memory v n counted.choice (reading.Meta f) counted.least)
+unread_refused memory v n p reading.Device one x = tt
+unread_refused memory v n p reading.Memory one x = x

@@ -23,3 +23,4 @@ pub mod OneAnswer
 pub mod OneUnlocking
 pub mod OptionFacts
 pub mod OneArea
+pub mod AllowedMemory

@@ -7,19 +7,24 @@ use Rattle.luks_slot.specs.declared.plan.Derivation.{Derivation}
 use Rattle.luks_slot.specs.declared.plan.Derivation.TheVariants.{Pbkdf2, Argon2}
 use Rattle.luks_slot.specs.declared.plan.SlotPlan.{SlotPlan}
 use Rattle.luks_slot.specs.Opening.{area_key_by}
-use Rattle.luks_slot.specs.Refusal.{is_argon2, is_known_derivation, is_open_cipher}
+use Rattle.luks_slot.specs.Refusal.{is_argon2, is_argon2_refused, is_known_derivation, is_open_cipher}
 use Rattle.luks_reading.specs.Plans.{IsLuks1Cipher, IsLuks1Derivation, HasLuks1Plan}
 use Rattle.luks_reading.proofs.SamePlans.{SameFields}
 
 argon2_of : (h e : List ℕ) (a b : Derivation) → IsLuks1Derivation h e a → IsLuks1Derivation h e b → is_argon2 a ≡ is_argon2 b
 argon2_of h e (Pbkdf2 k i s) (Pbkdf2 l j t) x y = refl
-argon2_of h e (Pbkdf2 k i s) Argon2 x y = absurd y
-argon2_of h e Argon2 b x y = absurd x
+argon2_of h e (Pbkdf2 k i s) (Argon2 c) x y = absurd y
+argon2_of h e (Argon2 c) b x y = absurd x
+
+refused_of : (h e : List ℕ) (a b : Derivation) (memory : ℕ) → IsLuks1Derivation h e a → IsLuks1Derivation h e b → is_argon2_refused memory a ≡ is_argon2_refused memory b
+refused_of h e (Pbkdf2 k i s) (Pbkdf2 l j t) memory x y = refl
+refused_of h e (Pbkdf2 k i s) (Argon2 c) memory x y = absurd y
+refused_of h e (Argon2 c) b memory x y = absurd x
 
 known_of : (h e : List ℕ) (a b : Derivation) → IsLuks1Derivation h e a → IsLuks1Derivation h e b → is_known_derivation a ≡ is_known_derivation b
 known_of h e (Pbkdf2 k i s) (Pbkdf2 l j t) x y = let hash = x.0 ∙ sym y.0 in simp hash
-known_of h e (Pbkdf2 k i s) Argon2 x y = absurd y
-known_of h e Argon2 b x y = absurd x
+known_of h e (Pbkdf2 k i s) (Argon2 c) x y = absurd y
+known_of h e (Argon2 c) b x y = absurd x
 
 key_of : (h e : List ℕ) (a b : Derivation) → IsLuks1Derivation h e a → IsLuks1Derivation h e b
     → (n : ℕ) (p : List ℕ) → area_key_by a n p ≡ area_key_by b n p
@@ -28,8 +33,8 @@ key_of h e (Pbkdf2 k i s) (Pbkdf2 l j t) x y n p =
     let turns = x.1 ∙ sym y.1 in
     let salt = x.2 ∙ sym y.2 in
     simp (hash, turns, salt)
-key_of h e (Pbkdf2 k i s) Argon2 x y n p = absurd y
-key_of h e Argon2 b x y n p = absurd x
+key_of h e (Pbkdf2 k i s) (Argon2 c) x y n p = absurd y
+key_of h e (Argon2 c) b x y n p = absurd x
 
 cipher_of : (h : List ℕ) (a b : AreaCipher) → IsLuks1Cipher h a → IsLuks1Cipher h b → is_open_cipher a ≡ is_open_cipher b
 cipher_of h (Apart n m) (Apart k l) x y =
@@ -42,6 +47,7 @@ cipher_of h (Whole t) b x y = absurd x
 pub one_luks1_plan : (h : List ℕ) (n : ℕ) (a b : SlotPlan) → HasLuks1Plan h n a → HasLuks1Plan h n b → SameFields a b
 one_luks1_plan h n a b x y = record {
   argon2 = argon2_of h (entry h n) a.derivation b.derivation x.is.derivation y.is.derivation;
+  argon2_refused = λ memory. refused_of h (entry h n) a.derivation b.derivation memory x.is.derivation y.is.derivation;
   known = known_of h (entry h n) a.derivation b.derivation x.is.derivation y.is.derivation;
   key = key_of h (entry h n) a.derivation b.derivation x.is.derivation y.is.derivation;
   cipher = cipher_of h a.cipher b.cipher x.is.cipher y.is.cipher;

@@ -17,6 +17,7 @@ use Rattle.luks_reading.specs.Answer.{open_key, head_step, slot_row, FirstRefusa
 use Rattle.luks_reading.specs.declared.read_fault.ReadFault.TheVariants as reading
 use Rattle.luks_reading.specs.Conversions.{head_unread, unread_opened}
 use Rattle.luks_reading.specs.Luks1Keyslots.{IsEnabled, EntryRefused, Luks1Opens}
+use Rattle.luks_reading.specs.MemoryFacts.{refusal_at_zero}
 use Rattle.luks_reading.specs.PlanAnswers.{IsPlanAccepted, IsPlanRefusal, PlanOpens}
 use Rattle.luks_reading.specs.Plans.{HasLuks1Plan}
 use Rattle.luks_reading.proofs.SamePlans.{same_refusal}
@@ -187,7 +188,7 @@ in_use : (h : List ℕ) (n : ℕ) (s : Luks1Slot) → IsEnabled h n s → active
 in_use h n s on off = let is = on.enabled in omega (arith, is, off)
 
 pub plan_first : (h : List ℕ) (total n : ℕ) (s : Luks1Slot) (plan : SlotPlan) (f : OpenFault) → ((g : HeadFault) → IsCommonFault h g → ⊥)
-    → IsEnabled h n s → HasLuks1Plan h n plan → IsPlanRefusal plan total f
+    → IsEnabled h n s → HasLuks1Plan h n plan → IsPlanRefusal 0 plan total f
     → IsLeast open_key (IsLuks1Refusal h total n) f
 plan_first h total n s plan (Head f) clear on is x = absurd x
 plan_first h total n s plan (Meta f) clear on is x = absurd x
@@ -204,7 +205,7 @@ plan_first h total n s plan Outside clear on is x = (record { plan = plan; is = 
     after (Slot g) y = sooner 6 7 [] (slot_row g ∷ []) (omega arith)
     after Device y = absurd y
     after Memory y = absurd y
-plan_first h total n s plan (Slot f) clear on is x = (record { plan = plan; is = is; refused = x.1 }, after)
+plan_first h total n s plan (Slot f) clear on is x = (record { plan = plan; is = is; refused = sym (refusal_at_zero plan) ∙ x.1 }, after)
   where
     after : (g : OpenFault) → IsLuks1Refusal h total n g → NotAfter (open_key (Slot f)) (open_key g)
     after (Head g) y = absurd (not_of_head h n s g clear on y)
@@ -219,7 +220,7 @@ plan_first h total n s plan (Slot f) clear on is x = (record { plan = plan; is =
         let past = y.past in
         absurd (omega (arith, start, len, inside, past))
     after (Slot g) y =
-        let e : f ≡ g = same_slot h n plan y.plan f g is y.is x.1 y.refused in
+        let e : f ≡ g = same_slot h n plan y.plan f g is y.is (sym (refusal_at_zero plan) ∙ x.1) y.refused in
         together 7 7 (slot_row f ∷ []) (slot_row g ∷ []) refl (together (slot_row f) (slot_row g) [] [] (ap slot_row e) tt)
     after Device y = absurd y
     after Memory y = absurd y
@@ -228,7 +229,7 @@ plan_first h total n s plan Memory clear on is x = absurd x
 
 -- nothing refuses a keyslot whose plan is accepted
 pub plan_unrefused : (h : List ℕ) (total n : ℕ) (s : Luks1Slot) (plan : SlotPlan) → ((g : HeadFault) → IsCommonFault h g → ⊥)
-    → IsEnabled h n s → HasLuks1Plan h n plan → IsPlanAccepted plan total → (f : OpenFault) → IsLuks1Refusal h total n f → ⊥
+    → IsEnabled h n s → HasLuks1Plan h n plan → IsPlanAccepted 0 plan total → (f : OpenFault) → IsLuks1Refusal h total n f → ⊥
 plan_unrefused h total n s plan clear on is x (Head g) y = not_of_head h n s g clear on y
 plan_unrefused h total n s plan clear on is x (Meta g) y = y
 plan_unrefused h total n s plan clear on is x NoSuchSlot y = let lt = on.numbered in omega (arith, lt, y)
@@ -242,14 +243,14 @@ plan_unrefused h total n s plan clear on is x Outside y =
     omega (arith, start, len, inside, past)
 plan_unrefused h total n s plan clear on is x (Slot g) y =
     let same = same_refusal plan y.plan (one_luks1_plan h n plan y.plan is y.is) in
-    let accepted = x.accepted in
+    let accepted = sym (refusal_at_zero plan) ∙ x.accepted in
     let refused = y.refused in
     absurd (cc)
 plan_unrefused h total n s plan clear on is x Device y = y
 plan_unrefused h total n s plan clear on is x Memory y = y
 
 pub plan_opens : (h v : List ℕ) (n : ℕ) (s : Luks1Slot) (plan : SlotPlan) (p : List ℕ) (found : Option (List ℕ)) → ((g : HeadFault) → IsCommonFault h g → ⊥)
-    → IsEnabled h n s → HasLuks1Plan h n plan → PlanOpens plan v p found → Luks1Opens h v n p found
+    → IsEnabled h n s → HasLuks1Plan h n plan → PlanOpens 0 plan v p found → Luks1Opens h v n p found
 plan_opens h v n s plan p found clear on is x = record {
   plan = plan;
   is = is;
@@ -259,7 +260,7 @@ plan_opens h v n s plan p found clear on is x = record {
 
 -- what the plan is refused by is what the keyslot is refused by
 pub plan_judged : (h : List ℕ) (total n : ℕ) (s : Luks1Slot) (plan : SlotPlan) (r : Option OpenFault) → ((g : HeadFault) → IsCommonFault h g → ⊥)
-    → IsEnabled h n s → HasLuks1Plan h n plan → IfSome r (IsPlanRefusal plan total) → (IsNone r → IsPlanAccepted plan total)
+    → IsEnabled h n s → HasLuks1Plan h n plan → IfSome r (IsPlanRefusal 0 plan total) → (IsNone r → IsPlanAccepted 0 plan total)
     → FirstRefusal (IsLuks1Refusal h total n) r
 plan_judged h total n s plan (Some f) clear on is refused accepted = plan_first h total n s plan f clear on is refused
 plan_judged h total n s plan None clear on is refused accepted = plan_unrefused h total n s plan clear on is (accepted refl)

@@ -34,9 +34,11 @@ pub long_enough : (least most : ℕ) (v : Option Data) (b : List ℕ) → bytes_
 long_enough least most v b e =
     between least most (length b) (kept_passes (λ c. is_between least most (length c)) (option_and_then encoded_of (text_of v)) b e)
 
-has_turns : (d : Data) (a : Derivation) → IsLuks2Derivation d a → HasIterations a
+-- a keyslot's derivation has an iteration
+pub has_turns : (d : Data) (a : Derivation) → IsLuks2Derivation d a → HasIterations a
 has_turns d (Pbkdf2 hash iterations salt) x = (in_limits 1 4294967295 (member_at d outer.Kdf name.Iterations) iterations x.2).0
-has_turns d Argon2 x = tt
+has_turns d (Argon2 costs) x =
+    ((in_limits 1 4294967295 (member_at d outer.Kdf name.Time) costs.time x.1).0, (long_enough 1 128 (member_at d outer.Kdf name.Salt) costs.salt.now x.4).1)
 
 -- the plan of a keyslot of accepted metadata is judged
 pub luks2_judged : (len n : ℕ) (j d : Data) (plan : SlotPlan) → IsContent len j → n < 32 → object_at j Keyslots n ≡ Some d

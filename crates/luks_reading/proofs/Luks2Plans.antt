@@ -1,15 +1,16 @@
 -- A keyslot of LUKS2 has one plan.
-use Rattle.std.proofs.Common.{◌≡◌, ℕ, List, codes, refl, sym, ap, ◌∙◌, subst, true, false, Option, Some, unwrap_or}
+use Rattle.std.proofs.Common.{◌≡◌, ℕ, List, refl, sym, ap, ◌∙◌, subst, Option, Some, unwrap_or}
 use Rattle.serde_json.specs.Data.{Data}
 use Rattle.luks_rules.specs.declared.table.Member.TheVariants as name
 use Rattle.luks_rules.specs.declared.table.Outer.TheVariants as outer
 use Rattle.luks_rules.specs.declared.table.Section.TheVariants.{Digests, Keyslots}
-use Rattle.luks_rules.specs.declared.table.When.TheVariants as when
-use Rattle.luks_meta.specs.Faults.{object_at, suits, type_at}
+use Rattle.luks_meta.specs.Faults.{object_at}
 use Rattle.luks_meta.specs.MetaFault.{Json}
 use Rattle.luks_meta.specs.Naming.{IsDigestOf}
 use Rattle.luks_meta.specs.Reading.{number_in, decimal_in, bytes_in, text_of}
 use Rattle.luks_meta.specs.Says.{member_at, small_at}
+use Rattle.luks_slot.specs.declared.plan.Argon2Kind.{Argon2Kind}
+use Rattle.luks_slot.specs.declared.plan.Argon2Kind.TheVariants.{I, Id}
 use Rattle.luks_slot.specs.declared.plan.AreaCipher.{AreaCipher}
 use Rattle.luks_slot.specs.declared.plan.AreaCipher.TheVariants.{Apart, Whole}
 use Rattle.luks_slot.specs.declared.plan.Derivation.{Derivation}
@@ -17,8 +18,9 @@ use Rattle.luks_slot.specs.declared.plan.Derivation.TheVariants.{Pbkdf2, Argon2}
 use Rattle.luks_slot.specs.declared.plan.DigestPlan.{DigestPlan}
 use Rattle.luks_slot.specs.declared.plan.SlotPlan.{SlotPlan}
 use Rattle.luks_slot.specs.Opening.{area_key_by}
-use Rattle.luks_slot.specs.Refusal.{is_argon2, is_known_derivation, is_open_cipher}
-use Rattle.luks_reading.specs.Plans.{IsLuks2Cipher, IsLuks2Derivation, IsLuks2Digest, IsLuks2Plan, HasLuks2Plan}
+use Rattle.luks_slot.specs.Refusal.{is_argon2, is_argon2_refused, is_known_derivation, is_open_cipher}
+use Rattle.luks_reading.specs.PlanFacts.{no_pbkdf2}
+use Rattle.luks_reading.specs.Plans.{kind_text, IsLuks2Cipher, IsLuks2Derivation, IsLuks2Digest, IsLuks2Plan, HasLuks2Plan}
 use Rattle.luks_reading.proofs.SamePlans.{SameFields}
 
 same_text : (o : Option (List ℕ)) (a b : List ℕ) → o ≡ Some a → o ≡ Some b → a ≡ b
@@ -30,21 +32,34 @@ same_number o a b p q = ap (λ v. unwrap_or v a) (sym p ∙ q)
 same_object : (o : Option Data) (a b : Data) → o ≡ Some a → o ≡ Some b → a ≡ b
 same_object o a b p q = ap (λ v. unwrap_or v a) (sym p ∙ q)
 
--- a type isn't both
-two_types : (t : Option (List ℕ)) → t ≡ Some (codes "pbkdf2") → suits when.Argon2 t ≡ true → ⊥
-two_types t is suited = let off : suits when.Argon2 t ≡ false = ap (suits when.Argon2) is in cc
+-- a type is that of one kind
+same_kind : (a b : Argon2Kind) → Some (kind_text a) ≡ Some (kind_text b) → a ≡ b
+same_kind I I same = refl
+same_kind Id Id same = refl
+same_kind I Id same = absurd (cc)
+same_kind Id I same = absurd (cc)
 
 argon2_of : (d : Data) (a b : Derivation) → IsLuks2Derivation d a → IsLuks2Derivation d b → is_argon2 a ≡ is_argon2 b
 argon2_of d (Pbkdf2 k i s) (Pbkdf2 l j t) x y = refl
-argon2_of d (Pbkdf2 k i s) Argon2 x y = absurd (two_types (type_at d outer.Kdf) x.0 y)
-argon2_of d Argon2 (Pbkdf2 k i s) x y = absurd (two_types (type_at d outer.Kdf) y.0 x)
-argon2_of d Argon2 Argon2 x y = refl
+argon2_of d (Pbkdf2 k i s) (Argon2 c) x y = absurd (no_pbkdf2 d c y x.0)
+argon2_of d (Argon2 c) (Pbkdf2 k i s) x y = absurd (no_pbkdf2 d c x y.0)
+argon2_of d (Argon2 c) (Argon2 f) x y = refl
+
+refused_of : (d : Data) (a b : Derivation) (allowed : ℕ) → IsLuks2Derivation d a → IsLuks2Derivation d b → is_argon2_refused allowed a ≡ is_argon2_refused allowed b
+refused_of d (Pbkdf2 k i s) (Pbkdf2 l j t) allowed x y = refl
+refused_of d (Pbkdf2 k i s) (Argon2 c) allowed x y = absurd (no_pbkdf2 d c y x.0)
+refused_of d (Argon2 c) (Pbkdf2 k i s) allowed x y = absurd (no_pbkdf2 d c x y.0)
+refused_of d (Argon2 c) (Argon2 f) allowed x y =
+    let memory = same_number (small_at d outer.Kdf name.Memory) c.memory f.memory x.2 y.2 in
+    let cpus = same_number (small_at d outer.Kdf name.Cpus) c.cpus f.cpus x.3 y.3 in
+    let salt = same_text (bytes_in 1 128 (member_at d outer.Kdf name.Salt)) c.salt.now f.salt.now x.4 y.4 in
+    simp (memory, cpus, salt)
 
 known_of : (d : Data) (a b : Derivation) → IsLuks2Derivation d a → IsLuks2Derivation d b → is_known_derivation a ≡ is_known_derivation b
 known_of d (Pbkdf2 k i s) (Pbkdf2 l j t) x y = let hash = same_text (text_of (member_at d outer.Kdf name.Hash)) k.now l.now x.1 y.1 in simp hash
-known_of d (Pbkdf2 k i s) Argon2 x y = absurd (two_types (type_at d outer.Kdf) x.0 y)
-known_of d Argon2 (Pbkdf2 k i s) x y = absurd (two_types (type_at d outer.Kdf) y.0 x)
-known_of d Argon2 Argon2 x y = refl
+known_of d (Pbkdf2 k i s) (Argon2 c) x y = absurd (no_pbkdf2 d c y x.0)
+known_of d (Argon2 c) (Pbkdf2 k i s) x y = absurd (no_pbkdf2 d c x y.0)
+known_of d (Argon2 c) (Argon2 f) x y = refl
 
 key_of : (d : Data) (a b : Derivation) → IsLuks2Derivation d a → IsLuks2Derivation d b
     → (n : ℕ) (p : List ℕ) → area_key_by a n p ≡ area_key_by b n p
@@ -53,9 +68,15 @@ key_of d (Pbkdf2 k i s) (Pbkdf2 l j t) x y n p =
     let turns = same_number (small_at d outer.Kdf name.Iterations) i j x.2 y.2 in
     let salt = same_text (bytes_in 1 128 (member_at d outer.Kdf name.Salt)) s.now t.now x.3 y.3 in
     simp (hash, turns, salt)
-key_of d (Pbkdf2 k i s) Argon2 x y n p = absurd (two_types (type_at d outer.Kdf) x.0 y)
-key_of d Argon2 (Pbkdf2 k i s) x y n p = absurd (two_types (type_at d outer.Kdf) y.0 x)
-key_of d Argon2 Argon2 x y n p = refl
+key_of d (Pbkdf2 k i s) (Argon2 c) x y n p = absurd (no_pbkdf2 d c y x.0)
+key_of d (Argon2 c) (Pbkdf2 k i s) x y n p = absurd (no_pbkdf2 d c x y.0)
+key_of d (Argon2 c) (Argon2 f) x y n p =
+    let kind = same_kind c.kind f.kind (sym x.0 ∙ y.0) in
+    let time = same_number (small_at d outer.Kdf name.Time) c.time f.time x.1 y.1 in
+    let memory = same_number (small_at d outer.Kdf name.Memory) c.memory f.memory x.2 y.2 in
+    let cpus = same_number (small_at d outer.Kdf name.Cpus) c.cpus f.cpus x.3 y.3 in
+    let salt = same_text (bytes_in 1 128 (member_at d outer.Kdf name.Salt)) c.salt.now f.salt.now x.4 y.4 in
+    simp (kind, time, memory, cpus, salt)
 
 cipher_of : (d : Data) (a b : AreaCipher) → IsLuks2Cipher d a → IsLuks2Cipher d b → is_open_cipher a ≡ is_open_cipher b
 cipher_of d (Apart n m) b x y = absurd x
@@ -76,6 +97,7 @@ same_fields j n d a b one x y =
     let same : y.digest.object ≡ o = sym (same_digest_object j n a.digest b.digest one x.digest y.digest) in
     record {
       argon2 = argon2_of d a.derivation b.derivation x.derivation y.derivation;
+      argon2_refused = λ allowed. refused_of d a.derivation b.derivation allowed x.derivation y.derivation;
       known = known_of d a.derivation b.derivation x.derivation y.derivation;
       key = key_of d a.derivation b.derivation x.derivation y.derivation;
       cipher = cipher_of d a.cipher b.cipher x.cipher y.cipher;

@@ -11,15 +11,15 @@ use Rattle.luks_meta.specs.Faults.{object_at}
 use Rattle.luks_meta.specs.MetaFault.{Json}
 use Rattle.luks_slot.specs.declared.fault.SlotFault.{SlotFault}
 use Rattle.luks_slot.specs.declared.plan.SlotPlan.{SlotPlan}
-use Rattle.luks_slot.specs.Refusal.{slot_refusal}
+use Rattle.luks_slot.specs.Refusal.{slot_refusal_within}
 use Rattle.luks_reading.specs.declared.open_fault.OpenFault.{OpenFault}
 use Rattle.luks_reading.specs.declared.open_fault.OpenFault.TheVariants.{Head, Meta, NoSuchSlot, SlotFree, Outside, Slot, Device, Memory}
-use Rattle.luks_reading.specs.Answer.{open_key, head_step, slot_row, FirstRefusal, IsLuks2Refusal}
+use Rattle.luks_reading.specs.Answer.{open_key, head_step, slot_row, FirstRefusal, IsLuks2RefusalWithin}
 use Rattle.luks_reading.specs.ChosenCopies.{IsCleared}
-use Rattle.luks_reading.specs.Luks2Keyslots.{Luks2Opens}
-use Rattle.luks_reading.specs.PlanAnswers.{IsPlanAccepted, IsPlanRefusal, PlanOpens}
+use Rattle.luks_reading.specs.Luks2Keyslots.{Luks2Opens, Luks2Refused, Luks2TakesMemory}
+use Rattle.luks_reading.specs.PlanAnswers.{IsPlanAccepted, IsPlanRefusal, PlanOpens, PlanRefused, PlanTakesMemory}
 use Rattle.luks_reading.specs.Plans.{HasLuks2Plan}
-use Rattle.luks_reading.proofs.SamePlans.{same_refusal}
+use Rattle.luks_reading.proofs.SamePlans.{same_refusal_within}
 use Rattle.luks_reading.proofs.Luks2Plans.{IsOnly, one_luks2_plan}
 use Rattle.luks_reading.proofs.Luks1Refusals.{sooner, together}
 
@@ -39,9 +39,9 @@ uuid_step uuid head.Memory x = absurd x
 
 -- ---- the keyslot
 
-same_slot : (json : List ℕ) (j : Data) (n : ℕ) (a b : SlotPlan) (f g : SlotFault) → IsOnly json j n → HasLuks2Plan json n a → HasLuks2Plan json n b
-    → slot_refusal a ≡ Some f → slot_refusal b ≡ Some g → f ≡ g
-same_slot json j n a b f g only x y p q = let same = same_refusal a b (one_luks2_plan json j n a b only x y) in cc
+same_slot : (memory : ℕ) (json : List ℕ) (j : Data) (n : ℕ) (a b : SlotPlan) (f g : SlotFault) → IsOnly json j n → HasLuks2Plan json n a → HasLuks2Plan json n b
+    → slot_refusal_within memory a ≡ Some f → slot_refusal_within memory b ≡ Some g → f ≡ g
+same_slot memory json j n a b f g only x y p q = let same = same_refusal_within memory a b (one_luks2_plan json j n a b only x y) in cc
 
 -- the keyslot that has a plan is there
 is_there : (json : List ℕ) (j : Data) (n : ℕ) (plan : SlotPlan) (i : Data) → IsOnly json j n → HasLuks2Plan json n plan → Json json i
@@ -52,15 +52,15 @@ is_there json j n plan i only x holds gone =
     let there = x.there in
     cc
 
-pub plan_first2 : (b json : List ℕ) (total n : ℕ) (j : Data) (plan : SlotPlan) (f : OpenFault) → IsCleared (uuid_field b) json j → IsOnly json j n
-    → HasLuks2Plan json n plan → IsPlanRefusal plan total f → IsLeast open_key (IsLuks2Refusal b json total n) f
-plan_first2 b json total n j plan (Head f) clear only is x = absurd x
-plan_first2 b json total n j plan (Meta f) clear only is x = absurd x
-plan_first2 b json total n j plan NoSuchSlot clear only is x = absurd x
-plan_first2 b json total n j plan SlotFree clear only is x = absurd x
-plan_first2 b json total n j plan Outside clear only is x = (record { plan = plan; is = is; past = x }, after)
+pub plan_first2 : (memory : ℕ) (b json : List ℕ) (total n : ℕ) (j : Data) (plan : SlotPlan) (f : OpenFault) → IsCleared (uuid_field b) json j → IsOnly json j n
+    → HasLuks2Plan json n plan → IsPlanRefusal memory plan total f → IsLeast open_key (IsLuks2RefusalWithin memory b json total n) f
+plan_first2 memory b json total n j plan (Head f) clear only is x = absurd x
+plan_first2 memory b json total n j plan (Meta f) clear only is x = absurd x
+plan_first2 memory b json total n j plan NoSuchSlot clear only is x = absurd x
+plan_first2 memory b json total n j plan SlotFree clear only is x = absurd x
+plan_first2 memory b json total n j plan Outside clear only is x = (record { plan = plan; is = is; past = x }, after)
   where
-    after : (g : OpenFault) → IsLuks2Refusal b json total n g → NotAfter (open_key Outside) (open_key g)
+    after : (g : OpenFault) → IsLuks2RefusalWithin memory b json total n g → NotAfter (open_key Outside) (open_key g)
     after (Head g) y = absurd (clear.uuid_faultless g y)
     after (Meta g) y = absurd (clear.faultless g y)
     after NoSuchSlot y = absurd (is_there json j n plan y.value only is y.holds y.absent)
@@ -69,9 +69,9 @@ plan_first2 b json total n j plan Outside clear only is x = (record { plan = pla
     after (Slot g) y = sooner 6 7 [] (slot_row g ∷ []) (omega arith)
     after Device y = absurd y
     after Memory y = absurd y
-plan_first2 b json total n j plan (Slot f) clear only is x = (record { plan = plan; is = is; refused = x.1 }, after)
+plan_first2 memory b json total n j plan (Slot f) clear only is x = (record { plan = plan; is = is; refused = x.1 }, after)
   where
-    after : (g : OpenFault) → IsLuks2Refusal b json total n g → NotAfter (open_key (Slot f)) (open_key g)
+    after : (g : OpenFault) → IsLuks2RefusalWithin memory b json total n g → NotAfter (open_key (Slot f)) (open_key g)
     after (Head g) y = absurd (clear.uuid_faultless g y)
     after (Meta g) y = absurd (clear.faultless g y)
     after NoSuchSlot y = absurd (is_there json j n plan y.value only is y.holds y.absent)
@@ -84,47 +84,61 @@ plan_first2 b json total n j plan (Slot f) clear only is x = (record { plan = pl
         let past = y.past in
         absurd (omega (arith, start, len, inside, past))
     after (Slot g) y =
-        let e : f ≡ g = same_slot json j n plan y.plan f g only is y.is x.1 y.refused in
+        let e : f ≡ g = same_slot memory json j n plan y.plan f g only is y.is x.1 y.refused in
         together 7 7 (slot_row f ∷ []) (slot_row g ∷ []) refl (together (slot_row f) (slot_row g) [] [] (ap slot_row e) tt)
     after Device y = absurd y
     after Memory y = absurd y
-plan_first2 b json total n j plan Device clear only is x = absurd x
-plan_first2 b json total n j plan Memory clear only is x = absurd x
+plan_first2 memory b json total n j plan Device clear only is x = absurd x
+plan_first2 memory b json total n j plan Memory clear only is x = absurd x
 
 -- nothing refuses a keyslot whose plan is accepted
-pub plan_unrefused2 : (b json : List ℕ) (total n : ℕ) (j : Data) (plan : SlotPlan) → IsCleared (uuid_field b) json j → IsOnly json j n
-    → HasLuks2Plan json n plan → IsPlanAccepted plan total → (f : OpenFault) → IsLuks2Refusal b json total n f → ⊥
-plan_unrefused2 b json total n j plan clear only is x (Head g) y = clear.uuid_faultless g y
-plan_unrefused2 b json total n j plan clear only is x (Meta g) y = clear.faultless g y
-plan_unrefused2 b json total n j plan clear only is x NoSuchSlot y = is_there json j n plan y.value only is y.holds y.absent
-plan_unrefused2 b json total n j plan clear only is x SlotFree y = y
-plan_unrefused2 b json total n j plan clear only is x Outside y =
+pub plan_unrefused2 : (memory : ℕ) (b json : List ℕ) (total n : ℕ) (j : Data) (plan : SlotPlan) → IsCleared (uuid_field b) json j → IsOnly json j n
+    → HasLuks2Plan json n plan → IsPlanAccepted memory plan total → (f : OpenFault) → IsLuks2RefusalWithin memory b json total n f → ⊥
+plan_unrefused2 memory b json total n j plan clear only is x (Head g) y = clear.uuid_faultless g y
+plan_unrefused2 memory b json total n j plan clear only is x (Meta g) y = clear.faultless g y
+plan_unrefused2 memory b json total n j plan clear only is x NoSuchSlot y = is_there json j n plan y.value only is y.holds y.absent
+plan_unrefused2 memory b json total n j plan clear only is x SlotFree y = y
+plan_unrefused2 memory b json total n j plan clear only is x Outside y =
     let same = one_luks2_plan json j n plan y.plan only is y.is in
     let start = same.start in
     let len = same.len in
     let inside = x.inside in
     let past = y.past in
     omega (arith, start, len, inside, past)
-plan_unrefused2 b json total n j plan clear only is x (Slot g) y =
-    let same = same_refusal plan y.plan (one_luks2_plan json j n plan y.plan only is y.is) in
+plan_unrefused2 memory b json total n j plan clear only is x (Slot g) y =
+    let same = same_refusal_within memory plan y.plan (one_luks2_plan json j n plan y.plan only is y.is) in
     let accepted = x.accepted in
     let refused = y.refused in
     absurd (cc)
-plan_unrefused2 b json total n j plan clear only is x Device y = y
-plan_unrefused2 b json total n j plan clear only is x Memory y = y
+plan_unrefused2 memory b json total n j plan clear only is x Device y = y
+plan_unrefused2 memory b json total n j plan clear only is x Memory y = y
 
-pub plan_opens2 : (b json v : List ℕ) (n : ℕ) (j : Data) (plan : SlotPlan) (p : List ℕ) (found : Option (List ℕ)) → IsCleared (uuid_field b) json j → IsOnly json j n
-    → HasLuks2Plan json n plan → PlanOpens plan v p found → Luks2Opens b json v n p found
-plan_opens2 b json v n j plan p found clear only is x = record {
+pub plan_opens2 : (memory : ℕ) (b json v : List ℕ) (n : ℕ) (j : Data) (plan : SlotPlan) (p : List ℕ) (found : Option (List ℕ)) → IsCleared (uuid_field b) json j → IsOnly json j n
+    → HasLuks2Plan json n plan → PlanOpens memory plan v p found → Luks2Opens memory b json v n p found
+plan_opens2 memory b json v n j plan p found clear only is x = record {
   plan = plan;
   is = is;
-  unrefused = plan_unrefused2 b json (length v) n j plan clear only is (record { inside = x.inside; accepted = x.accepted });
+  unrefused = plan_unrefused2 memory b json (length v) n j plan clear only is (record { inside = x.inside; accepted = x.accepted });
   key = sym x.is;
 }
 
 -- what the plan is refused by is what the keyslot is refused by
-pub plan_judged2 : (b json : List ℕ) (total n : ℕ) (j : Data) (plan : SlotPlan) (r : Option OpenFault) → IsCleared (uuid_field b) json j → IsOnly json j n
-    → HasLuks2Plan json n plan → IfSome r (IsPlanRefusal plan total) → (IsNone r → IsPlanAccepted plan total)
-    → FirstRefusal (IsLuks2Refusal b json total n) r
-plan_judged2 b json total n j plan (Some f) clear only is refused accepted = plan_first2 b json total n j plan f clear only is refused
-plan_judged2 b json total n j plan None clear only is refused accepted = plan_unrefused2 b json total n j plan clear only is (accepted refl)
+pub plan_judged2 : (memory : ℕ) (b json : List ℕ) (total n : ℕ) (j : Data) (plan : SlotPlan) (r : Option OpenFault) → IsCleared (uuid_field b) json j → IsOnly json j n
+    → HasLuks2Plan json n plan → IfSome r (IsPlanRefusal memory plan total) → (IsNone r → IsPlanAccepted memory plan total)
+    → FirstRefusal (IsLuks2RefusalWithin memory b json total n) r
+plan_judged2 memory b json total n j plan (Some f) clear only is refused accepted = plan_first2 memory b json total n j plan f clear only is refused
+plan_judged2 memory b json total n j plan None clear only is refused accepted = plan_unrefused2 memory b json total n j plan clear only is (accepted refl)
+
+-- so are the want of memory of the plan and of the keyslot
+pub plan_takes2 : (memory : ℕ) (b json : List ℕ) (total n : ℕ) (j : Data) (plan : SlotPlan) → IsCleared (uuid_field b) json j → IsOnly json j n
+    → HasLuks2Plan json n plan → PlanTakesMemory memory plan total → Luks2TakesMemory memory b json total n
+plan_takes2 memory b json total n j plan clear only is x =
+    record { plan = plan; is = is; unrefused = plan_unrefused2 memory b json total n j plan clear only is x.accepted; argon2 = x.argon2 }
+
+-- what the plan answers is what the keyslot answers
+pub plan_refused2 : (memory : ℕ) (b json : List ℕ) (total n : ℕ) (j : Data) (plan : SlotPlan) (f : OpenFault) → IsCleared (uuid_field b) json j → IsOnly json j n
+    → HasLuks2Plan json n plan → PlanRefused memory plan total f → Luks2Refused memory b json total n f
+plan_refused2 memory b json total n j plan f clear only is x = (
+  λ own. plan_first2 memory b json total n j plan f clear only is (x.0 own),
+  λ e. plan_takes2 memory b json total n j plan clear only is (x.1 e),
+)

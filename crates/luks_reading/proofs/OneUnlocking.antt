@@ -6,7 +6,7 @@ use Rattle.luks_head.specs.Selection.{Choice, luks1, luks2, nothing, Chosen}
 use Rattle.luks_meta.specs.MetaFault.{Json}
 use Rattle.luks_reading.specs.declared.open_fault.OpenFault.{OpenFault}
 use Rattle.luks_reading.specs.declared.open_fault.OpenFault.TheVariants.{Device, Memory}
-use Rattle.luks_reading.specs.Answer.{open_key, Answer, Opened, opens}
+use Rattle.luks_reading.specs.Answer.{open_key, AnswerWithin, Opened, opens}
 use Rattle.luks_reading.specs.Agreement.{AgreesUnlocked, IsSameAnswer, IsSameUnlocking}
 use Rattle.luks_reading.specs.Header.{json_at}
 use Rattle.luks_reading.specs.Unlocking.{luks2_order, GivesFirst, IsVolumeRefusedBy, IsVolumeRefusal, IsVolumeRefusalAs, IsOrderAs, DoesNotOpen, Unlocked, UnlockAnswer, Unlocks, locked, gives}
@@ -60,7 +60,7 @@ gives_once S O order (Some f) (Some g) apart one x y =
 module _
     (one : (v : List ℕ) (b c : Choice) → Chosen v b → Chosen v c → b ≡ c)
     (value : (json : List ℕ) (i k : Value) → Json json i → Json json k → i ≡ k)
-    (answer : (v : List ℕ) (n : ℕ) (p : List ℕ) (a b : Opened) → Answer v n p a → Answer v n p b → IsSameAnswer a b)
+    (answer : (memory : ℕ) (v : List ℕ) (n : ℕ) (p : List ℕ) (a b : Opened) → AnswerWithin memory v n p a → AnswerWithin memory v n p b → IsSameAnswer a b)
   where
     same_order : (v : List ℕ) (c : Choice) (a b : List ℕ) → IsOrderAs v c a → IsOrderAs v c b → a ≡ b
     same_order v luks1 a b x y = x ∙ sym y
@@ -68,23 +68,23 @@ module _
         x.1.1 ∙ ap luks2_order (value (json_at v o) x.0 y.0 x.1.0 y.1.0) ∙ sym y.1.1
     same_order v nothing a b x y = absurd x
 
-    unlocks_once : (v p : List ℕ) (a b : Option (ℕ × List ℕ)) → Unlocks v p a → Unlocks v p b → a ≡ b
-    unlocks_once v p a b x y =
+    unlocks_once : (memory : ℕ) (v p : List ℕ) (a b : Option (ℕ × List ℕ)) → Unlocks memory v p a → Unlocks memory v p b → a ≡ b
+    unlocks_once memory v p a b x y =
         let same : y.order ≡ x.order = same_order v x.choice y.order x.order
         (subst (λ c. IsOrderAs v c y.order) (one v y.choice x.choice y.chosen x.chosen) y.ordered) x.ordered in
-        gives_once (DoesNotOpen v p) (λ n k. Answer v n p (opens k)) x.order a b
-        (λ n k shut key. shut k key) (λ n k l f g. answer v n p (opens k) (opens l) f g)
-        x.gives (subst (λ order. GivesFirst (DoesNotOpen v p) (λ n k. Answer v n p (opens k)) order b) same y.gives)
+        gives_once (DoesNotOpen memory v p) (λ n k. AnswerWithin memory v n p (opens k)) x.order a b
+        (λ n k shut key. shut k key) (λ n k l f g. answer memory v n p (opens k) (opens l) f g)
+        x.gives (subst (λ order. GivesFirst (DoesNotOpen memory v p) (λ n k. AnswerWithin memory v n p (opens k)) order b) same y.gives)
 
-    clash : (v p : List ℕ) (f : OpenFault) (found : Option (ℕ × List ℕ)) → UnlockAnswer v p (locked f) → Unlocks v p found → ⊥
-    clash v p f found x y =
+    clash : (memory : ℕ) (v p : List ℕ) (f : OpenFault) (found : Option (ℕ × List ℕ)) → UnlockAnswer memory v p (locked f) → Unlocks memory v p found → ⊥
+    clash memory v p f found x y =
         y.unrefused f (subst (λ c. IsVolumeRefusalAs v c f) (one v x.0.choice y.choice x.0.chosen y.chosen) x.0.fault)
 
-    pub one_unlocking : (v p : List ℕ) (a b : Unlocked) → UnlockAnswer v p a → UnlockAnswer v p b → IsSameUnlocking a b
-    one_unlocking v p (gives found) (gives other) x y = unlocks_once v p found other x y
-    one_unlocking v p (gives found) (locked g) x y = clash v p g found y x
-    one_unlocking v p (locked f) (gives other) x y = clash v p f other x y
-    one_unlocking v p (locked f) (locked g) x y = least_once open_key (IsVolumeRefusal v) f g x y
+    pub one_unlocking : (memory : ℕ) (v p : List ℕ) (a b : Unlocked) → UnlockAnswer memory v p a → UnlockAnswer memory v p b → IsSameUnlocking a b
+    one_unlocking memory v p (gives found) (gives other) x y = unlocks_once memory v p found other x y
+    one_unlocking memory v p (gives found) (locked g) x y = clash memory v p g found y x
+    one_unlocking memory v p (locked f) (gives other) x y = clash memory v p f other x y
+    one_unlocking memory v p (locked f) (locked g) x y = least_once open_key (IsVolumeRefusal v) f g x y
 
 -- ---- so a call's answer is the only one
 
@@ -104,9 +104,9 @@ ok_agrees : (found : Option (ℕ × List ℕ)) (a : Unlocked) → IsSameUnlockin
 ok_agrees found (gives other) e = sym e
 ok_agrees found (locked g) e = e
 
-pub err_agrees : (v p : List ℕ) → ((a b : Unlocked) → UnlockAnswer v p a → UnlockAnswer v p b → IsSameUnlocking a b)
-    → (f : OpenFault) → IsVolumeRefusedBy v f → (a : Unlocked) → UnlockAnswer v p a → AgreesUnlocked a (Err f)
-err_agrees v p one f why a y = elim (ending f) [
+pub err_agrees : (memory : ℕ) (v p : List ℕ) → ((a b : Unlocked) → UnlockAnswer memory v p a → UnlockAnswer memory v p b → IsSameUnlocking a b)
+    → (f : OpenFault) → IsVolumeRefusedBy v f → (a : Unlocked) → UnlockAnswer memory v p a → AgreesUnlocked a (Err f)
+err_agrees memory v p one f why a y = elim (ending f) [
   | inl device ↦ subst (λ g. AgreesUnlocked a (Err g)) (sym device) (device_agrees a)
   | inr other ↦ (elim other [
     | inl memory ↦ subst (λ g. AgreesUnlocked a (Err g)) (sym memory) (memory_agrees a)
@@ -114,8 +114,8 @@ err_agrees v p one f why a y = elim (ending f) [
   ])
 ]
 
-pub agrees : (v p : List ℕ) → ((a b : Unlocked) → UnlockAnswer v p a → UnlockAnswer v p b → IsSameUnlocking a b)
-    → (r : Result (Option (ℕ × List ℕ)) OpenFault) → IfOk r (Unlocks v p) → IfErr r (IsVolumeRefusedBy v)
-    → (a : Unlocked) → UnlockAnswer v p a → AgreesUnlocked a r
-agrees v p one (Ok found) opened why a y = ok_agrees found a (one a (gives found) y opened)
-agrees v p one (Err f) opened why a y = err_agrees v p one f why a y
+pub agrees : (memory : ℕ) (v p : List ℕ) → ((a b : Unlocked) → UnlockAnswer memory v p a → UnlockAnswer memory v p b → IsSameUnlocking a b)
+    → (r : Result (Option (ℕ × List ℕ)) OpenFault) → IfOk r (Unlocks memory v p) → IfErr r (IsVolumeRefusedBy v)
+    → (a : Unlocked) → UnlockAnswer memory v p a → AgreesUnlocked a r
+agrees memory v p one (Ok found) opened why a y = ok_agrees found a (one a (gives found) y opened)
+agrees memory v p one (Err f) opened why a y = err_agrees memory v p one f why a y

@@ -3,11 +3,12 @@ use Rattle.std.proofs.Common.{◌≡◌, ℕ, List, ap, ◌∙◌}
 use Rattle.luks_area.specs.Ranges.{part}
 use Rattle.luks_slot.specs.declared.plan.SlotPlan.{SlotPlan}
 use Rattle.luks_slot.specs.Opening.{slot_key, candidate, stripes_in, area_key, area_key_by, meets_digest}
-use Rattle.luks_slot.specs.Refusal.{slot_refusal, is_argon2, is_known_derivation, is_open_cipher}
+use Rattle.luks_slot.specs.Refusal.{slot_refusal, slot_refusal_within, is_argon2, is_argon2_refused, is_known_derivation, is_open_cipher}
 
 -- the two plans say the same of what decides
 pub record SameFields (a b : SlotPlan) : Type 0 where
   pub argon2 : is_argon2 a.derivation ≡ is_argon2 b.derivation
+  pub argon2_refused : (memory : ℕ) → is_argon2_refused memory a.derivation ≡ is_argon2_refused memory b.derivation
   pub known : is_known_derivation a.derivation ≡ is_known_derivation b.derivation
   pub key : (n : ℕ) (p : List ℕ) → area_key_by a.derivation n p ≡ area_key_by b.derivation n p
   pub cipher : is_open_cipher a.cipher ≡ is_open_cipher b.cipher
@@ -25,6 +26,11 @@ pub record SameFields (a b : SlotPlan) : Type 0 where
 pub same_refusal : (a b : SlotPlan) → SameFields a b → slot_refusal a ≡ slot_refusal b
 same_refusal a b s =
     simp (s.argon2, s.known, s.cipher, s.area_key_bytes, s.splitter_hash, s.digest_hash)
+
+pub same_refusal_within : (memory : ℕ) (a b : SlotPlan) → SameFields a b → slot_refusal_within memory a ≡ slot_refusal_within memory b
+same_refusal_within memory a b s =
+    let argon2 = s.argon2_refused memory in
+    simp (argon2, s.known, s.cipher, s.area_key_bytes, s.splitter_hash, s.digest_hash)
 
 same_area_key : (a b : SlotPlan) (p : List ℕ) → SameFields a b → area_key a p ≡ area_key b p
 unfolding area_key

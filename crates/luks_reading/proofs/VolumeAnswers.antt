@@ -14,18 +14,18 @@ use Rattle.luks_reading.specs.declared.open_fault.OpenFault.TheVariants.{Head, M
 use Rattle.luks_reading.specs.declared.read_fault.ReadFault.{ReadFault}
 use Rattle.luks_reading.specs.declared.read_fault.ReadFault.TheVariants as reading
 use Rattle.luks_reading.specs.declared.unlocking.Rank.TheVariants.{Preferred, Normal}
-use Rattle.luks_reading.specs.Answer.{open_key, head_step, HasPlanAs, IsRefusalAs, Opens}
+use Rattle.luks_reading.specs.Answer.{open_key, head_step, HasPlanAs, IsRefusalAsWithin, OpensWithin}
 use Rattle.luks_reading.specs.ChosenCopies.{IsCleared}
 use Rattle.luks_reading.specs.Conversions.{head_unread, unread_opened}
 use Rattle.luks_reading.specs.Luks1Keyslots.{Luks1Opens}
 use Rattle.luks_reading.specs.Luks2Keyslots.{Luks2Opens}
-use Rattle.luks_reading.specs.Failures.{is_open_failure}
-use Rattle.luks_reading.specs.Header.{json_at, read_key, IsReadFault, IsReadFaultAs, IsUnread}
+use Rattle.luks_reading.specs.Header.{json_at, read_key, IsReadFault, IsReadFaultAs, IsUnread, NeedsMetadata}
+use Rattle.luks_reading.specs.PlanAnswers.{IsOfDevice}
 use Rattle.luks_reading.specs.KeyslotsTried.{rank_order, Luks1VolumeRefused, Luks1DoesNotOpen, Luks1Tries, Luks2DoesNotOpen, Luks2Tries}
 use Rattle.luks_reading.specs.Unlocking.{luks1_order, luks2_order, IsVolumeRefusedBy, IsVolumeRefusal, IsVolumeRefusalAs, IsLuks1VolumeRefusal, IsLuks2VolumeRefusal, DoesNotOpen, Unlocks}
 use Rattle.luks_reading.proofs.KeyslotAnswers.{luks1_opens, unread_first}
 use Rattle.luks_reading.proofs.KeyslotOrders.{gives_left, gives_right, gives_weaker}
-use Rattle.luks_reading.proofs.OpenFaults.{failed, locked_by}
+use Rattle.luks_reading.proofs.OpenFaults.{locked_by}
 use Rattle.luks_reading.proofs.ReadFaults.{as_unread}
 use Rattle.luks_reading.proofs.Luks1Refusals.{common_own, common_refuses, together}
 
@@ -67,17 +67,17 @@ luks1_locked v f chosen only x =
 -- ---- a header that isn't read
 
 -- where the header isn't read, a refusal of the volume is one of each keyslot
-lockout_refuses : (v : List ℕ) (n : ℕ) (c : Choice) (r : ReadFault) (f : OpenFault) → IsReadFaultAs v c r → IsVolumeRefusalAs v c f → IsRefusalAs v n c f
-lockout_refuses v n luks1 r f unread x = absurd unread
-lockout_refuses v n (luks2 o copies) r (Head f) unread x = x
-lockout_refuses v n (luks2 o copies) r (Meta f) unread x = x
-lockout_refuses v n (luks2 o copies) r NoSuchSlot unread x = absurd x
-lockout_refuses v n (luks2 o copies) r SlotFree unread x = absurd x
-lockout_refuses v n (luks2 o copies) r Outside unread x = absurd x
-lockout_refuses v n (luks2 o copies) r (Slot f) unread x = absurd x
-lockout_refuses v n (luks2 o copies) r Device unread x = absurd x
-lockout_refuses v n (luks2 o copies) r Memory unread x = absurd x
-lockout_refuses v n nothing r f unread x = x
+lockout_refuses : (memory : ℕ) (v : List ℕ) (n : ℕ) (c : Choice) (r : ReadFault) (f : OpenFault) → IsReadFaultAs v c r → IsVolumeRefusalAs v c f → IsRefusalAsWithin memory v n c f
+lockout_refuses memory v n luks1 r f unread x = absurd unread
+lockout_refuses memory v n (luks2 o copies) r (Head f) unread x = x
+lockout_refuses memory v n (luks2 o copies) r (Meta f) unread x = x
+lockout_refuses memory v n (luks2 o copies) r NoSuchSlot unread x = absurd x
+lockout_refuses memory v n (luks2 o copies) r SlotFree unread x = absurd x
+lockout_refuses memory v n (luks2 o copies) r Outside unread x = absurd x
+lockout_refuses memory v n (luks2 o copies) r (Slot f) unread x = absurd x
+lockout_refuses memory v n (luks2 o copies) r Device unread x = absurd x
+lockout_refuses memory v n (luks2 o copies) r Memory unread x = absurd x
+lockout_refuses memory v n nothing r f unread x = x
 
 read_locks : (v : List ℕ) (c : Choice) (f : ReadFault) → IsReadFaultAs v c f → IsVolumeRefusalAs v c (unread_opened f)
 read_locks v luks1 f x = absurd x
@@ -97,7 +97,7 @@ unread_locks v f one least =
     let c = counted.choice in
     locked_as v c (unread_opened f) counted.chosen (λ d. one c d counted.chosen) (
       read_locks v c f counted.least.0,
-      λ g is. (unread_first v 0 c f counted.least).1 g (lockout_refuses v 0 c f g counted.least.0 is),
+      λ g is. (unread_first 0 v 0 c f counted.least).1 g (lockout_refuses 0 v 0 c f g counted.least.0 is),
     )
 
 pub unread_locked : (v : List ℕ) (f : ReadFault) → ((b c : Choice) → Chosen v b → Chosen v c → b ≡ c) → IsUnread v f → IsVolumeRefusedBy v (unread_opened f)
@@ -109,21 +109,21 @@ unread_locked v reading.Memory one x = x
 -- ---- the keyslots
 
 -- the plan is the keyslot's, and nothing refuses it, by what counts
-pub record IsTaken (v : List ℕ) (n : ℕ) (c : Choice) (plan : SlotPlan) : Type 0 where
+pub record IsTaken (memory : ℕ) (v : List ℕ) (n : ℕ) (c : Choice) (plan : SlotPlan) : Type 0 where
   pub is : HasPlanAs v n c plan
-  pub unrefused : (f : OpenFault) → IsRefusalAs v n c f → ⊥
+  pub unrefused : (f : OpenFault) → IsRefusalAsWithin memory v n c f → ⊥
 
-taken : (v : List ℕ) (n : ℕ) (p : List ℕ) (c : Choice) (k : List ℕ) → ((d : Choice) → Chosen v d → c ≡ d) → (y : Opens v n p (Some k)) → IsTaken v n c y.plan
-taken v n p c k only y =
+taken : (memory : ℕ) (v : List ℕ) (n : ℕ) (p : List ℕ) (c : Choice) (k : List ℕ) → ((d : Choice) → Chosen v d → c ≡ d) → (y : OpensWithin memory v n p (Some k)) → IsTaken memory v n c y.plan
+taken memory v n p c k only y =
     let e : c ≡ y.choice = only y.choice y.chosen in
     record {
       is = subst (λ d. HasPlanAs v n d y.plan) (sym e) y.is;
-      unrefused = λ f r. y.unrefused f (subst (λ d. IsRefusalAs v n d f) e r);
+      unrefused = λ f r. y.unrefused f (subst (λ d. IsRefusalAsWithin memory v n d f) e r);
     }
 
-luks1_stays_shut : (v p : List ℕ) (n : ℕ) → ((d : Choice) → Chosen v d → luks1 ≡ d) → Luks1DoesNotOpen (part v 0 592) v p n → DoesNotOpen v p n
-luks1_stays_shut v p n only shut k y =
-    let x = taken v n p luks1 k only y in
+luks1_stays_shut : (memory : ℕ) (v p : List ℕ) (n : ℕ) → ((d : Choice) → Chosen v d → luks1 ≡ d) → Luks1DoesNotOpen (part v 0 592) v p n → DoesNotOpen memory v p n
+luks1_stays_shut memory v p n only shut k y =
+    let x = taken memory v n p luks1 k only y in
     shut k (record { plan = y.plan; is = x.is; unrefused = x.unrefused; key = y.key })
 
 not_locked : (h : List ℕ) (f : OpenFault) → ((g : HeadFault) → IsCommonFault h g → ⊥) → IsLuks1VolumeRefusal h f → ⊥
@@ -136,22 +136,22 @@ not_locked h (Slot f) clear x = x
 not_locked h Device clear x = x
 not_locked h Memory clear x = x
 
-luks1_unlocks : (v p : List ℕ) (found : Option (ℕ × List ℕ)) → Chosen v luks1 → ((d : Choice) → Chosen v d → luks1 ≡ d)
-    → ((g : HeadFault) → IsCommonFault (part v 0 592) g → ⊥) → Luks1Tries (part v 0 592) v p found → Unlocks v p found
-luks1_unlocks v p found chosen only clear x = record {
+luks1_unlocks : (memory : ℕ) (v p : List ℕ) (found : Option (ℕ × List ℕ)) → Chosen v luks1 → ((d : Choice) → Chosen v d → luks1 ≡ d)
+    → ((g : HeadFault) → IsCommonFault (part v 0 592) g → ⊥) → Luks1Tries (part v 0 592) v p found → Unlocks memory v p found
+luks1_unlocks memory v p found chosen only clear x = record {
   choice = luks1;
   chosen = chosen;
   unrefused = λ f y. not_locked (part v 0 592) f clear y;
   order = luks1_order (part v 0 592);
   ordered = refl;
-  gives = gives_weaker (Luks1DoesNotOpen (part v 0 592) v p) (DoesNotOpen v p) (λ n k. Luks1Opens (part v 0 592) v n p (Some k)) (λ n k. Opens v n p (Some k))
-      (luks1_order (part v 0 592)) found (λ n. luks1_stays_shut v p n only) (λ n k y. luks1_opens v n p (Some k) chosen y) x;
+  gives = gives_weaker (Luks1DoesNotOpen (part v 0 592) v p) (DoesNotOpen memory v p) (λ n k. Luks1Opens (part v 0 592) v n p (Some k)) (λ n k. OpensWithin memory v n p (Some k))
+      (luks1_order (part v 0 592)) found (λ n. luks1_stays_shut memory v p n only) (λ n k y. luks1_opens memory v n p (Some k) chosen y) x;
 }
 
-pub luks1_unlocks_as : (v p : List ℕ) (r : Result (Option (ℕ × List ℕ)) OpenFault) → Chosen v luks1 → ((d : Choice) → Chosen v d → luks1 ≡ d)
-    → IfOk r (λ _. (g : HeadFault) → IsCommonFault (part v 0 592) g → ⊥) → IfOk r (Luks1Tries (part v 0 592) v p) → IfOk r (Unlocks v p)
-luks1_unlocks_as v p (Ok found) chosen only clear x = luks1_unlocks v p found chosen only clear x
-luks1_unlocks_as v p (Err f) chosen only clear x = tt
+pub luks1_unlocks_as : (memory : ℕ) (v p : List ℕ) (r : Result (Option (ℕ × List ℕ)) OpenFault) → Chosen v luks1 → ((d : Choice) → Chosen v d → luks1 ≡ d)
+    → IfOk r (λ _. (g : HeadFault) → IsCommonFault (part v 0 592) g → ⊥) → IfOk r (Luks1Tries (part v 0 592) v p) → IfOk r (Unlocks memory v p)
+luks1_unlocks_as memory v p (Ok found) chosen only clear x = luks1_unlocks memory v p found chosen only clear x
+luks1_unlocks_as memory v p (Err f) chosen only clear x = tt
 
 pub cleared_not_locked : (b json : List ℕ) (j : Data) (f : OpenFault) → IsCleared (uuid_field b) json j → IsLuks2VolumeRefusal b json f → ⊥
 cleared_not_locked b json j (Head f) clear x = clear.uuid_faultless f x
@@ -168,51 +168,55 @@ unfolding luks2_order
 both_ranks j = refl
 
 -- a keyslot of priority 2 opens
-pub first_rank : (b json v p : List ℕ) (j : Data) (found : ℕ × List ℕ)
-    → Luks2Tries b json v p (rank_order Preferred j) (Some found) → Luks2Tries b json v p (luks2_order j) (Some found)
-first_rank b json v p j found x =
-    subst (λ order. Luks2Tries b json v p order (Some found)) (both_ranks j)
-    (gives_left (Luks2DoesNotOpen b json v p) (λ n k. Luks2Opens b json v n p (Some k)) (rank_order Preferred j) (rank_order Normal j) found.0 found.1 x)
+pub first_rank : (memory : ℕ) (b json v p : List ℕ) (j : Data) (found : ℕ × List ℕ)
+    → Luks2Tries memory b json v p (rank_order Preferred j) (Some found) → Luks2Tries memory b json v p (luks2_order j) (Some found)
+first_rank memory b json v p j found x =
+    subst (λ order. Luks2Tries memory b json v p order (Some found)) (both_ranks j)
+    (gives_left (Luks2DoesNotOpen memory b json v p) (λ n k. Luks2Opens memory b json v n p (Some k)) (rank_order Preferred j) (rank_order Normal j) found.0 found.1 x)
 
 -- none of them opens
-pub second_rank : (b json v p : List ℕ) (j : Data) (found : Option (ℕ × List ℕ))
-    → Luks2Tries b json v p (rank_order Preferred j) None → Luks2Tries b json v p (rank_order Normal j) found → Luks2Tries b json v p (luks2_order j) found
-second_rank b json v p j found shut x =
-    subst (λ order. Luks2Tries b json v p order found) (both_ranks j)
-    (gives_right (Luks2DoesNotOpen b json v p) (λ n k. Luks2Opens b json v n p (Some k)) (rank_order Preferred j) (rank_order Normal j) found shut x)
+pub second_rank : (memory : ℕ) (b json v p : List ℕ) (j : Data) (found : Option (ℕ × List ℕ))
+    → Luks2Tries memory b json v p (rank_order Preferred j) None → Luks2Tries memory b json v p (rank_order Normal j) found → Luks2Tries memory b json v p (luks2_order j) found
+second_rank memory b json v p j found shut x =
+    subst (λ order. Luks2Tries memory b json v p order found) (both_ranks j)
+    (gives_right (Luks2DoesNotOpen memory b json v p) (λ n k. Luks2Opens memory b json v n p (Some k)) (rank_order Preferred j) (rank_order Normal j) found shut x)
 
-luks2_stays_shut : (v p : List ℕ) (n o : ℕ) (copies : Copies) → ((d : Choice) → Chosen v d → luks2 o copies ≡ d)
-    → Luks2DoesNotOpen (header_at v o) (json_at v o) v p n → DoesNotOpen v p n
-luks2_stays_shut v p n o copies only shut k y =
-    let x = taken v n p (luks2 o copies) k only y in
+luks2_stays_shut : (memory : ℕ) (v p : List ℕ) (n o : ℕ) (copies : Copies) → ((d : Choice) → Chosen v d → luks2 o copies ≡ d)
+    → Luks2DoesNotOpen memory (header_at v o) (json_at v o) v p n → DoesNotOpen memory v p n
+luks2_stays_shut memory v p n o copies only shut k y =
+    let x = taken memory v n p (luks2 o copies) k only y in
     shut k (record { plan = y.plan; is = x.is; unrefused = x.unrefused; key = y.key })
 
-luks2_key : (v p : List ℕ) (n : ℕ) (k : List ℕ) (o : ℕ) (copies : Copies) → Chosen v (luks2 o copies)
-    → Luks2Opens (header_at v o) (json_at v o) v n p (Some k) → Opens v n p (Some k)
-luks2_key v p n k o copies chosen x = record { choice = luks2 o copies; chosen = chosen; plan = x.plan; is = x.is; unrefused = x.unrefused; key = x.key }
+luks2_key : (memory : ℕ) (v p : List ℕ) (n : ℕ) (k : List ℕ) (o : ℕ) (copies : Copies) → Chosen v (luks2 o copies)
+    → Luks2Opens memory (header_at v o) (json_at v o) v n p (Some k) → OpensWithin memory v n p (Some k)
+luks2_key memory v p n k o copies chosen x = record { choice = luks2 o copies; chosen = chosen; plan = x.plan; is = x.is; unrefused = x.unrefused; key = x.key }
 
-pub luks2_unlocks : (v p : List ℕ) (o : ℕ) (copies : Copies) (j : Data) (found : Option (ℕ × List ℕ)) → Chosen v (luks2 o copies)
+pub luks2_unlocks : (memory : ℕ) (v p : List ℕ) (o : ℕ) (copies : Copies) (j : Data) (found : Option (ℕ × List ℕ)) → Chosen v (luks2 o copies)
     → ((d : Choice) → Chosen v d → luks2 o copies ≡ d) → IsCleared (uuid_field (header_at v o)) (json_at v o) j
-    → Luks2Tries (header_at v o) (json_at v o) v p (luks2_order j) found → Unlocks v p found
-luks2_unlocks v p o copies j found chosen only clear x = record {
+    → Luks2Tries memory (header_at v o) (json_at v o) v p (luks2_order j) found → Unlocks memory v p found
+luks2_unlocks memory v p o copies j found chosen only clear x = record {
   choice = luks2 o copies;
   chosen = chosen;
   unrefused = λ f y. cleared_not_locked (header_at v o) (json_at v o) j f clear y;
   order = luks2_order j;
   ordered = (j, (clear.meta.json, refl));
-  gives = gives_weaker (Luks2DoesNotOpen (header_at v o) (json_at v o) v p) (DoesNotOpen v p)
-      (λ n k. Luks2Opens (header_at v o) (json_at v o) v n p (Some k)) (λ n k. Opens v n p (Some k))
-      (luks2_order j) found (λ n. luks2_stays_shut v p n o copies only) (λ n k z. luks2_key v p n k o copies chosen z) x;
+  gives = gives_weaker (Luks2DoesNotOpen memory (header_at v o) (json_at v o) v p) (DoesNotOpen memory v p)
+      (λ n k. Luks2Opens memory (header_at v o) (json_at v o) v n p (Some k)) (λ n k. OpensWithin memory v n p (Some k))
+      (luks2_order j) found (λ n. luks2_stays_shut memory v p n o copies only) (λ n k z. luks2_key memory v p n k o copies chosen z) x;
 }
 
 -- ---- a failed device
 
-pub device_locks : (v : List ℕ) (f : OpenFault) → is_open_failure f ≡ true → IsVolumeRefusedBy v f
-device_locks v f x = subst (IsVolumeRefusedBy v) (sym (failed f x)) tt
-
--- and it's no want of memory
-pub failure_own : (f : OpenFault) → is_open_failure f ≡ true → f ≢ Memory
-failure_own f x e = let is = subst (λ g. is_open_failure g ≡ true) e x in cc
+-- the device's failure and want of memory lock no volume by a fault of its own
+pub device_locks : (v : List ℕ) (f : OpenFault) → NeedsMetadata v → IsOfDevice f → IsVolumeRefusedBy v f
+device_locks v (Head f) needs x = absurd x
+device_locks v (Meta f) needs x = absurd x
+device_locks v NoSuchSlot needs x = absurd x
+device_locks v SlotFree needs x = absurd x
+device_locks v Outside needs x = absurd x
+device_locks v (Slot f) needs x = absurd x
+device_locks v Device needs x = tt
+device_locks v Memory needs x = needs
 
 -- no memory is taken for what locks a LUKS1 volume
 pub luks1_locked_own : (h : List ℕ) (f : OpenFault) → Luks1VolumeRefused h f → f ≢ Memory

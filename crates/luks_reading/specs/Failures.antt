@@ -29,3 +29,9 @@ is_open_failure opening.Outside = false
 is_open_failure (opening.Slot f) = false
 is_open_failure opening.Device = true
 is_open_failure opening.Memory = false
+
+-- the fault is the volume's own: neither did the device fail nor was memory refused
+abbrev pub is_own : OpenFault → Bool
+is_own opening.Device = false
+is_own opening.Memory = false
+is_own f = true

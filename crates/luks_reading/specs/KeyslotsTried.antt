@@ -9,7 +9,7 @@ use Rattle.luks_reading.specs.declared.unlocking.Rank.TheVariants.{Preferred, No
 use Rattle.luks_reading.specs.Answer.{open_key}
 use Rattle.luks_reading.specs.Failures.{is_open_failure}
 use Rattle.luks_reading.specs.Luks1Keyslots.{Luks1Opens}
-use Rattle.luks_reading.specs.Luks2Keyslots.{Luks2Opens}
+use Rattle.luks_reading.specs.Luks2Keyslots.{Luks2Opens, Luks2TakesMemory}
 use Rattle.luks_reading.specs.Unlocking.{is_preferred, is_normal, priority_of, luks1_order, numbers_below, GivesFirst, IsLuks1VolumeRefusal}
 
 -- what trying a keyslot that is refused gives: a fault of its own is passed over
@@ -41,14 +41,14 @@ Luks1Tries h v p found = GivesFirst (Luks1DoesNotOpen h v p) (λ n k. Luks1Opens
 abbrev pub Luks1VolumeRefused : List ℕ → OpenFault → Type 0
 Luks1VolumeRefused h f = is_open_failure f ≡ false → IsLeast open_key (IsLuks1VolumeRefusal h) f
 
--- ---- LUKS2
+-- ---- LUKS2, where Argon2 may take so many KiB of memory
 
-abbrev pub Luks2DoesNotOpen : List ℕ → List ℕ → List ℕ → List ℕ → ℕ → Type 0
-Luks2DoesNotOpen b json v p n = (k : List ℕ) → Luks2Opens b json v n p (Some k) → ⊥
+abbrev pub Luks2DoesNotOpen : ℕ → List ℕ → List ℕ → List ℕ → List ℕ → ℕ → Type 0
+Luks2DoesNotOpen memory b json v p n = (k : List ℕ) → Luks2Opens memory b json v n p (Some k) → ⊥
 
-abbrev pub Luks2Tried : List ℕ → List ℕ → List ℕ → ℕ → List ℕ → Option (List ℕ) → Type 0
-Luks2Tried b json v n p None = Luks2DoesNotOpen b json v p n
-Luks2Tried b json v n p (Some k) = Luks2Opens b json v n p (Some k)
+abbrev pub Luks2Tried : ℕ → List ℕ → List ℕ → List ℕ → ℕ → List ℕ → Option (List ℕ) → Type 0
+Luks2Tried memory b json v n p None = Luks2DoesNotOpen memory b json v p n
+Luks2Tried memory b json v n p (Some k) = Luks2Opens memory b json v n p (Some k)
 
 -- the keyslot is tried in this rank
 abbrev pub is_of_rank : Rank → Value → ℕ → Bool
@@ -60,5 +60,10 @@ abbrev pub rank_order : Rank → Value → List ℕ
 rank_order rank j = filter (λ n. is_of_rank rank j n) (numbers_below 32)
 
 -- the keyslots of the list have been tried in its order
-abbrev pub Luks2Tries : List ℕ → List ℕ → List ℕ → List ℕ → List ℕ → Option (ℕ × List ℕ) → Type 0
-Luks2Tries b json v p order found = GivesFirst (Luks2DoesNotOpen b json v p) (λ n k. Luks2Opens b json v n p (Some k)) order found
+abbrev pub Luks2Tries : ℕ → List ℕ → List ℕ → List ℕ → List ℕ → List ℕ → Option (ℕ × List ℕ) → Type 0
+Luks2Tries memory b json v p order found =
+    GivesFirst (Luks2DoesNotOpen memory b json v p) (λ n k. Luks2Opens memory b json v n p (Some k)) order found
+
+-- memory was refused to a keyslot of these only
+abbrev pub Luks2LacksMemory : ℕ → List ℕ → List ℕ → ℕ → OpenFault → Type 0
+Luks2LacksMemory memory b json total f = f ≡ Memory → (n : ℕ) × Luks2TakesMemory memory b json total n

@@ -1,13 +1,13 @@
 -- What a keyslot says of its opening (LUKS1 On-Disk Format 1.2.3, "The partition header"; LUKS2
 -- On-Disk Format 1.1, 3.2 and 3.4).
-use Rattle.std.specs.Prelude.{◌≡◌, ℕ, ◌*◌, ◌<◌, List, codes, true, Some}
+use Rattle.std.specs.Prelude.{◌≡◌, ℕ, ◌*◌, ◌<◌, List, codes, Some}
 use Rattle.serde_json.specs.Data.{Data}
 use Rattle.luks_area.specs.Ranges.{part}
 use Rattle.luks_area.specs.Sectors.{rounded_to_sectors}
 use Rattle.luks_head.specs.Bytes.{number_at, text_at}
 use Rattle.luks_head.specs.Header1.{entry, entry_iterations, entry_stripes}
 use Rattle.luks_meta.specs.Content.{content}
-use Rattle.luks_meta.specs.Faults.{object_at, suits, type_at}
+use Rattle.luks_meta.specs.Faults.{object_at, type_at}
 use Rattle.luks_meta.specs.MetaFault.{Json}
 use Rattle.luks_meta.specs.Naming.{IsDigestOf}
 use Rattle.luks_meta.specs.Reading.{number_in, decimal_in, bytes_in, text_of}
@@ -15,7 +15,8 @@ use Rattle.luks_meta.specs.Says.{member_at, small_at}
 use Rattle.luks_rules.specs.declared.table.Member.TheVariants as name
 use Rattle.luks_rules.specs.declared.table.Outer.TheVariants as outer
 use Rattle.luks_rules.specs.declared.table.Section.TheVariants.{Digests, Keyslots}
-use Rattle.luks_rules.specs.declared.table.When.TheVariants as when
+use Rattle.luks_slot.specs.declared.plan.Argon2Kind.{Argon2Kind}
+use Rattle.luks_slot.specs.declared.plan.Argon2Kind.TheVariants.{I, Id}
 use Rattle.luks_slot.specs.declared.plan.AreaCipher.{AreaCipher}
 use Rattle.luks_slot.specs.declared.plan.AreaCipher.TheVariants.{Apart, Whole}
 use Rattle.luks_slot.specs.declared.plan.Derivation.{Derivation}
@@ -30,7 +31,7 @@ use Rattle.luks_reading.specs.declared.header.Header.TheVariants.{Luks1, Luks2}
 abbrev pub IsLuks1Derivation : List ℕ → List ℕ → Derivation → Type 0
 IsLuks1Derivation h e (Pbkdf2 hash iterations salt) =
     (hash.now ≡ text_at h 72 32) × (iterations ≡ entry_iterations e) × (salt.now ≡ part e 8 32)
-IsLuks1Derivation h e Argon2 = ⊥
+IsLuks1Derivation h e (Argon2 costs) = ⊥
 
 abbrev pub IsLuks1Cipher : List ℕ → AreaCipher → Type 0
 IsLuks1Cipher h (Apart name mode) = (name.now ≡ text_at h 8 32) × (mode.now ≡ text_at h 40 32)
@@ -61,11 +62,19 @@ pub record HasLuks1Plan (h : List ℕ) (n : ℕ) (plan : SlotPlan) : Type 0 wher
 
 -- ---- LUKS2: `d` is the keyslot's object in the metadata `j`
 
+-- the type of a derivation by Argon2
+abbrev pub kind_text : Argon2Kind → List ℕ
+kind_text I = codes "argon2i"
+kind_text Id = codes "argon2id"
+
 abbrev pub IsLuks2Derivation : Data → Derivation → Type 0
 IsLuks2Derivation d (Pbkdf2 hash iterations salt) =
     (type_at d outer.Kdf ≡ Some (codes "pbkdf2")) × (text_of (member_at d outer.Kdf name.Hash) ≡ Some hash.now)
     × (small_at d outer.Kdf name.Iterations ≡ Some iterations) × (bytes_in 1 128 (member_at d outer.Kdf name.Salt) ≡ Some salt.now)
-IsLuks2Derivation d Argon2 = suits when.Argon2 (type_at d outer.Kdf) ≡ true
+IsLuks2Derivation d (Argon2 costs) =
+    (type_at d outer.Kdf ≡ Some (kind_text costs.kind)) × (small_at d outer.Kdf name.Time ≡ Some costs.time)
+    × (small_at d outer.Kdf name.Memory ≡ Some costs.memory) × (small_at d outer.Kdf name.Cpus ≡ Some costs.cpus)
+    × (bytes_in 1 128 (member_at d outer.Kdf name.Salt) ≡ Some costs.salt.now)
 
 abbrev pub IsLuks2Cipher : Data → AreaCipher → Type 0
 IsLuks2Cipher d (Apart name mode) = ⊥

@@ -1,21 +1,25 @@
 //! Laws on the definitions of this crate. Each function only calls those whose laws it follows
 //! from; its contract is the law.
-ghost use Rattle.std.specs.Prelude.{◌≡◌, ◌↔◌, ℕ, List};
+ghost use Rattle.std.specs.Prelude.{◌≡◌, ◌≤◌, ◌↔◌, ℕ, List, Option, true};
 ghost use Rattle.luks_area.specs.declared.area.Area.{Area as TheArea};
 ghost use Rattle.luks_area.specs.declared.area.AreaName.{AreaName as TheName};
+ghost use Rattle.luks_slot.specs.declared.plan.SlotPlan.{SlotPlan as ThePlan};
+ghost use Rattle.luks_slot.specs.Refusal.{is_argon2};
 ghost use Rattle.luks_reading.specs.declared.read_fault.ReadFault.{ReadFault as TheReadFault};
 ghost use Rattle.luks_reading.specs.declared.report.Data.{Data as Payload};
 ghost use Rattle.luks_reading.specs.Agreement.{IsSameAnswer, IsSameUnlocking};
-ghost use Rattle.luks_reading.specs.Answer.{Answer, Opened};
+ghost use Rattle.luks_reading.specs.Answer.{AnswerWithin, HasRefusedPlan, HasRefusedPlanWithin, Opened, OpensWithin, TakesMemory};
 ghost use Rattle.luks_reading.specs.Checked.{AreaOf, IsCheckRefusal, IsFault, WellFormed};
 ghost use Rattle.luks_reading.specs.Conversions.{unread_checked};
 ghost use Rattle.luks_reading.specs.FitsAndResolves.{FitsAndResolves};
 ghost use Rattle.luks_reading.specs.Header.{IsUnread};
+ghost use Rattle.luks_reading.specs.Plans.{HasLuks2Plan};
 ghost use Rattle.luks_reading.specs.Unlocking.{Unlocked, UnlockAnswer};
 
 use crate::check_fault::CheckFault;
 use luks_head::{luks1_without_faults, luks2_without_faults, one_choice};
 use luks_meta::{metadata_without_faults, one_digest, one_value};
+use luks_slot::SlotFault;
 
 /// A volume is well formed exactly where it has no fault: so the first fault is there exactly where
 /// it isn't well formed.
@@ -56,10 +60,11 @@ pub fn one_area()
     one_value();
 }
 
-/// A keyslot of a volume has one answer at most by a passphrase; of two refusals the key is one.
+/// A keyslot of a volume has one answer at most by a passphrase and the memory that is allowed; of two
+/// refusals the key is one.
 pub fn one_answer()
-    ensures { (v : List ℕ) (n : ℕ) (p : List ℕ) (a b : Opened) → Answer v n p a → Answer v n p b
-        → IsSameAnswer a b }
+    ensures { (memory : ℕ) (v : List ℕ) (n : ℕ) (p : List ℕ) (a b : Opened)
+        → AnswerWithin memory v n p a → AnswerWithin memory v n p b → IsSameAnswer a b }
 {
     one_choice();
     one_value();
@@ -67,12 +72,30 @@ pub fn one_answer()
     one_digest();
 }
 
-/// Opening a volume has one answer at most by a passphrase; of two refusals the key is one.
+/// Opening a volume has one answer at most by a passphrase and the memory that is allowed; of two
+/// refusals the key is one.
 pub fn one_unlocking()
-    ensures { (v p : List ℕ) (a b : Unlocked) → UnlockAnswer v p a → UnlockAnswer v p b
-        → IsSameUnlocking a b }
+    ensures { (memory : ℕ) (v p : List ℕ) (a b : Unlocked) → UnlockAnswer memory v p a
+        → UnlockAnswer memory v p b → IsSameUnlocking a b }
 {
     one_choice();
     one_value();
     one_answer();
 }
+
+/// Where no memory is allowed, the plan of a keyslot of LUKS2 is refused exactly as it is without
+/// Argon2: `Argon2` stands exactly where it derives by that. And no keyslot takes memory.
+pub fn nothing_allowed_is_as_before()
+    ensures refusal { (json : List ℕ) (n : ℕ) (f : SlotFault)
+        → HasRefusedPlanWithin 0 (HasLuks2Plan json n) f ↔ HasRefusedPlan (HasLuks2Plan json n) f }
+    ensures argon2 { (json : List ℕ) (n : ℕ)
+        → HasRefusedPlanWithin 0 (HasLuks2Plan json n) SlotFault.Argon2
+        ↔ ((plan : ThePlan) × (HasLuks2Plan json n plan × (is_argon2 plan.derivation ≡ true))) }
+    ensures memory { (v : List ℕ) (n : ℕ) → TakesMemory 0 v n → ⊥ }
+{}
+
+/// What a keyslot opens to where so much memory is allowed, a key or none, it opens to where more is.
+pub fn more_memory_opens_alike()
+    ensures { (memory more : ℕ) (v : List ℕ) (n : ℕ) (p : List ℕ) (found : Option (List ℕ))
+        → memory ≤ more → OpensWithin memory v n p found → OpensWithin more v n p found }
+{}

@@ -22,8 +22,8 @@ pub use checking::{check, check_header};
 pub use header::{ChosenCopy, Header, read_header};
 pub use judging::judge_luks1;
 pub use laws::{
-    no_fault_is_well_formed, one_answer, one_area, one_unlocking, unread_volume_is_refused,
-    well_formed_volume,
+    more_memory_opens_alike, no_fault_is_well_formed, nothing_allowed_is_as_before, one_answer,
+    one_area, one_unlocking, unread_volume_is_refused, well_formed_volume,
 };
 pub use luks_area::{
     Area, AreaFault, AreaName, Areas, Device, DeviceFault, Entry, MemDevice, text_field,

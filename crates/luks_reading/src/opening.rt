@@ -9,7 +9,7 @@ ghost use Rattle.luks_head.specs.Header2.{uuid_field};
 ghost use Rattle.luks_meta.specs.Content.{content};
 ghost use Rattle.luks_meta.specs.Objects.{IsAccepted};
 ghost use Rattle.luks_reading.specs.Agreement.{Agrees};
-ghost use Rattle.luks_reading.specs.Answer.{Answer, IsRefusedBy, Opened, opened_to};
+ghost use Rattle.luks_reading.specs.Answer.{AnswerWithin, IsRefusedByWithin, Opened, TakesMemory, opened_to};
 ghost use Rattle.luks_reading.specs.ChosenCopies.{IsCleared};
 ghost use Rattle.luks_reading.specs.Luks1Keyslots.{Luks1Opens, Luks1Refused};
 ghost use Rattle.luks_reading.specs.Luks2Keyslots.{Luks2Opens, Luks2Refused};
@@ -26,7 +26,7 @@ use crate::plan::{luks1_plan, luks2_plan};
 use luks_area::Device;
 use luks_head::{Luks1Common, luks2_without_faults, one_choice};
 use luks_meta::{Meta, metadata_without_faults, one_value};
-use luks_slot::{Key, SlotPlan, open};
+use luks_slot::{Key, SlotPlan, open_within};
 use std::alloc::Global;
 
 /// Opens the keyslot `n` by the passphrase: its volume key, or None where the passphrase doesn't
@@ -37,59 +37,71 @@ use std::alloc::Global;
 /// LUKS1 may be damaged. The first refusal is answered: `Head` by the selection of the header and
 /// the fields before the keyslots (LUKS2: the uuid), `Meta`, `NoSuchSlot`, of LUKS1 `Head` by the
 /// keyslot's own entry and `SlotFree`, `Outside`, `Slot`. `Device` comes exactly where a device
-/// call failed. Memory is taken for the metadata of LUKS2 alone.
+/// call failed.
+///
+/// Argon2 may take `memory` KiB: with 0 every keyslot is refused that derives by it. Else memory is
+/// taken for the metadata of LUKS2 alone.
 pub fn open_slot<D: Device>(
     alloc: Global,
     device: &mut D,
     n: u8,
     passphrase: &[u8],
+    memory: u32,
 ) -> Result<Option<Key>, OpenFault>
-    requires { D.failed device.old + 1 < 2 ^ 64 }
+    requires room { D.failed device.old + 1 < 2 ^ 64 }
+    requires passphrase { 0 < memory → length passphrase.now < 2 ^ 32 }
     ensures unchanged { IsUnchanged D.tells D.size D.bytes D.unsettled device.old device.new }
     ensures count { CountsFailure is_open_failure result
         (D.failed device.old) (D.failed device.new) }
-    ensures opens { D.tells
-        → IfOk result (λ found. Answer (D.bytes device.old) n passphrase.now (opened_to found)) }
-    ensures refused { D.tells → IfErr result (IsRefusedBy (D.bytes device.old) n passphrase.now) }
+    ensures opens { D.tells → IfOk result
+        (λ found. AnswerWithin memory (D.bytes device.old) n passphrase.now (opened_to found)) }
+    ensures refused { D.tells
+        → IfErr result (IsRefusedByWithin memory (D.bytes device.old) n passphrase.now) }
     ensures memory { D.tells → TakesNoMemory (D.bytes device.old)
         → IfErr result (λ f. f ≢ OpenFault.Memory) }
     // There is no other answer.
-    ensures only { D.tells → (a : Opened) → Answer (D.bytes device.old) n passphrase.now a
-        → Agrees a result }
+    ensures only { D.tells → (a : Opened)
+        → AnswerWithin memory (D.bytes device.old) n passphrase.now a → Agrees a result }
 {
     one_choice();
     one_answer();
     let header = read_header(alloc, device)?;
-    open_header_slot(alloc, device, &header, n, passphrase)
+    open_header_slot(alloc, device, &header, n, passphrase, memory)
 }
 
-/// What `open_slot` answers of a volume with this header. It takes no memory.
+/// What `open_slot` answers of a volume with this header. It takes memory for Argon2 alone, where it
+/// is allowed.
 pub fn open_header_slot<D: Device>(
     alloc: Global,
     device: &mut D,
     header: &Header,
     n: u8,
     passphrase: &[u8],
+    memory: u32,
 ) -> Result<Option<Key>, OpenFault>
     requires room { D.failed device.old + 1 < 2 ^ 64 }
     requires accepted { IsAcceptedHeader header.now }
+    requires passphrase { 0 < memory → length passphrase.now < 2 ^ 32 }
     ensures unchanged { IsUnchanged D.tells D.size D.bytes D.unsettled device.old device.new }
     ensures count { CountsFailure is_open_failure result
         (D.failed device.old) (D.failed device.new) }
-    ensures opens { D.tells → IsHeader (D.bytes device.old) header.now
-        → IfOk result (λ found. Answer (D.bytes device.old) n passphrase.now (opened_to found)) }
+    ensures opens { D.tells → IsHeader (D.bytes device.old) header.now → IfOk result
+        (λ found. AnswerWithin memory (D.bytes device.old) n passphrase.now (opened_to found)) }
     ensures refused { D.tells → IsHeader (D.bytes device.old) header.now
-        → IfErr result (IsRefusedBy (D.bytes device.old) n passphrase.now) }
+        → IfErr result (IsRefusedByWithin memory (D.bytes device.old) n passphrase.now) }
     ensures length { IfOk result
         (λ found. IfSome found (λ key. HasKeyBytes header.now n (length key))) }
-    ensures memory { IfErr result (λ f. f ≢ OpenFault.Memory) }
+    // Memory is refused only to a keyslot that takes it, and to none where none is allowed.
+    ensures memory { D.tells → IsHeader (D.bytes device.old) header.now
+        → IfErr result (λ f. f ≡ OpenFault.Memory → TakesMemory memory (D.bytes device.old) n) }
+    ensures no_memory { memory ≡ 0 → IfErr result (λ f. f ≢ OpenFault.Memory) }
 {
     one_choice();
     luks2_without_faults();
     metadata_without_faults();
     match header {
         Header::Luks1(bytes) => open_luks1(alloc, device, bytes.as_slice(), n, passphrase),
-        Header::Luks2(copy) => open_luks2(alloc, device, &copy.meta, n, passphrase),
+        Header::Luks2(copy) => open_luks2(alloc, device, &copy.meta, n, passphrase, memory),
     }
 }
 
@@ -140,7 +152,7 @@ pub(crate) fn open_luks1_slot<D: Device>(
 {
     let slot = luks1_entry(header, n)?;
     let plan = luks1_plan(common, &slot);
-    open_planned(alloc, device, &plan, passphrase)
+    open_planned(alloc, device, &plan, passphrase, 0)
 }
 
 /// What opening the keyslot `n` of a volume with this metadata gives.
@@ -150,19 +162,21 @@ pub(crate) fn open_luks2<D: Device>(
     meta: &Meta,
     n: u8,
     passphrase: &[u8],
+    memory: u32,
 ) -> Result<Option<Key>, OpenFault>
     requires room { D.failed device.old + 1 < 2 ^ 64 }
     requires accepted { IsAccepted (content meta.now) }
+    requires passphrase { 0 < memory → length passphrase.now < 2 ^ 32 }
     ensures unchanged { IsUnchanged D.tells D.size D.bytes D.unsettled device.old device.new }
     ensures count { CountsFailure is_open_failure result
         (D.failed device.old) (D.failed device.new) }
     ensures opens { D.tells → (b json : List ℕ) → IsCleared (uuid_field b) json (content meta.now)
-        → IfOk result (Luks2Opens b json (D.bytes device.old) n passphrase.now) }
+        → IfOk result (Luks2Opens memory b json (D.bytes device.old) n passphrase.now) }
     ensures refused { (b json : List ℕ) → IsCleared (uuid_field b) json (content meta.now)
-        → IfErr result (Luks2Refused b json (D.size device.old) n) }
+        → IfErr result (Luks2Refused memory b json (D.size device.old) n) }
     ensures length { IfOk result
         (λ found. IfSome found (λ key. HasLuks2KeyBytes (content meta.now) n (length key))) }
-    ensures memory { IfErr result (λ f. f ≢ OpenFault.Memory) }
+    ensures no_memory { memory ≡ 0 → IfErr result (λ f. f ≢ OpenFault.Memory) }
 {
     one_value();
     if n > 31 {
@@ -174,7 +188,7 @@ pub(crate) fn open_luks2<D: Device>(
     let number = meta.digest_of_keyslot(n).unwrap();
     let digest = meta.digest(number).unwrap();
     let plan = luks2_plan(&keyslot, &digest);
-    open_planned(alloc, device, &plan, passphrase)
+    open_planned(alloc, device, &plan, passphrase, memory)
 }
 
 /// What the plan gives in the volume by the passphrase: its key, none, or why it is refused.
@@ -183,20 +197,23 @@ fn open_planned<D: Device>(
     device: &mut D,
     plan: &SlotPlan<'_>,
     passphrase: &[u8],
+    memory: u32,
 ) -> Result<Option<Key>, OpenFault>
     requires room { D.failed device.old + 1 < 2 ^ 64 }
     requires judged { IsOpenable plan.now }
+    requires passphrase { 0 < memory → length passphrase.now < 2 ^ 32 }
     ensures unchanged { IsUnchanged D.tells D.size D.bytes D.unsettled device.old device.new }
     ensures count { CountsFailure is_open_failure result
         (D.failed device.old) (D.failed device.new) }
-    ensures opens { D.tells → IfOk result (PlanOpens plan.now (D.bytes device.old) passphrase.now) }
-    ensures refused { IfErr result (PlanRefused plan.now (D.size device.old)) }
+    ensures opens { D.tells
+        → IfOk result (PlanOpens memory plan.now (D.bytes device.old) passphrase.now) }
+    ensures refused { IfErr result (PlanRefused memory plan.now (D.size device.old)) }
     ensures length { IfOk result (λ found. IfSome found (λ key. length key ≡ plan.now.key_bytes)) }
-    ensures memory { IfErr result (λ f. f ≢ OpenFault.Memory) }
+    ensures no_memory { memory ≡ 0 → IfErr result (λ f. f ≢ OpenFault.Memory) }
 {
     if !plan.area.is_inside(device.len()) {
         return Err(OpenFault::Outside);
     }
-    let found = open(alloc, device, plan, passphrase)?;
+    let found = open_within(alloc, device, plan, passphrase, memory)?;
     Ok(found)
 }

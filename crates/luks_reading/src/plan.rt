@@ -12,8 +12,8 @@ ghost use Rattle.luks_reading.specs.Plans.{IsLuks1Plan, IsLuks2Plan, IsLuks2Deri
 
 use luks_area::{Area, SECTOR, rounded_to_sectors};
 use luks_head::{Luks1Common, Luks1Slot};
-use luks_meta::{Cost, Digest, Keyslot};
-use luks_slot::{AreaCipher, Derivation, DigestPlan, SlotPlan};
+use luks_meta::{Argon2, Cost, Digest, Keyslot};
+use luks_slot::{AreaCipher, Argon2Kind, Argon2Plan, Derivation, DigestPlan, SlotPlan};
 
 /// The plan of an enabled keyslot of a LUKS1 header (LUKS1 On-Disk Format 1.2.3, "The partition
 /// header").
@@ -90,12 +90,30 @@ pub fn luks2_plan<'a>(keyslot: &'a Keyslot<'a>, digest: &'a Digest<'a>) -> SlotP
 fn luks2_derivation<'a>(keyslot: &'a Keyslot<'a>) -> Derivation<'a>
     ensures { (d : Data) → TellsKeyslot d keyslot.now → IsLuks2Derivation d result }
 {
+    let salt = keyslot.kdf.salt.as_slice();
     match keyslot.kdf.cost {
         Cost::Pbkdf2(pbkdf2) => Derivation::Pbkdf2 {
             hash: pbkdf2.hash,
             iterations: pbkdf2.iterations,
-            salt: keyslot.kdf.salt.as_slice(),
+            salt,
         },
-        Cost::Argon2i(_) | Cost::Argon2id(_) => Derivation::Argon2,
+        Cost::Argon2i(costs) => Derivation::Argon2(argon2_plan(Argon2Kind::I, costs, salt)),
+        Cost::Argon2id(costs) => Derivation::Argon2(argon2_plan(Argon2Kind::Id, costs, salt)),
+    }
+}
+
+fn argon2_plan(kind: Argon2Kind, costs: Argon2, salt: &[u8]) -> Argon2Plan<'_>
+    ensures kind { result.kind ≡ kind }
+    ensures time { result.time ≡ costs.time }
+    ensures memory { result.memory ≡ costs.memory }
+    ensures cpus { result.cpus ≡ costs.cpus }
+    ensures salt { result.salt.now ≡ salt.now }
+{
+    Argon2Plan {
+        kind,
+        time: costs.time,
+        memory: costs.memory,
+        cpus: costs.cpus,
+        salt,
     }
 }

@@ -3,7 +3,7 @@ ghost use Rattle.std.specs.Prelude.{◌≡◌, ℕ, List, length, IfSome, IsNone
 ghost use Rattle.luks_head.specs.Header2.{uuid_field};
 ghost use Rattle.luks_meta.specs.Content.{content};
 ghost use Rattle.luks_meta.specs.Objects.{IsAccepted};
-ghost use Rattle.luks_reading.specs.Answer.{FirstRefusal, IsLuks1Refusal, IsLuks2Refusal, IsRefusal};
+ghost use Rattle.luks_reading.specs.Answer.{FirstRefusal, IsLuks1Refusal, IsLuks2RefusalWithin, IsRefusalWithin};
 ghost use Rattle.luks_reading.specs.ChosenCopies.{IsCleared};
 ghost use Rattle.luks_reading.specs.Header.{IsAcceptedHeader, IsHeader};
 ghost use Rattle.luks_reading.specs.PlanAnswers.{IsPlanAccepted, IsPlanRefusal};
@@ -14,21 +14,21 @@ use crate::open_fault::OpenFault;
 use crate::plan::{luks1_plan, luks2_plan};
 use luks_head::{luks2_without_faults, one_choice};
 use luks_meta::{Meta, metadata_without_faults, one_value};
-use luks_slot::{SlotPlan, refusal};
+use luks_slot::{SlotPlan, refusal_within};
 
-/// By what `open_header_slot` refuses the keyslot `n` of a volume of `total` bytes with this header,
-/// or None where it tries the passphrase. It takes no memory.
-pub fn refused_slot(header: &Header, n: u8, total: u64) -> Option<OpenFault>
+/// By what `open_header_slot` refuses the keyslot `n` of a volume of `total` bytes with this header
+/// where Argon2 may take `memory` KiB, or None where it tries the passphrase. It takes no memory.
+pub fn refused_slot(header: &Header, n: u8, total: u64, memory: u32) -> Option<OpenFault>
     requires accepted { IsAcceptedHeader header.now }
     ensures { (v : List ℕ) → IsHeader v header.now → length v ≡ total
-        → FirstRefusal (IsRefusal v n) result }
+        → FirstRefusal (IsRefusalWithin memory v n) result }
 {
     one_choice();
     luks2_without_faults();
     metadata_without_faults();
     match header {
         Header::Luks1(bytes) => luks1_refusal(bytes.as_slice(), n, total),
-        Header::Luks2(copy) => luks2_refusal(&copy.meta, n, total),
+        Header::Luks2(copy) => luks2_refusal(&copy.meta, n, total, memory),
     }
 }
 
@@ -42,16 +42,17 @@ fn luks1_refusal(header: &[u8], n: u8, total: u64) -> Option<OpenFault>
         Err(fault) => return Some(OpenFault::from(fault)),
     };
     match luks1_entry(header, n) {
-        Ok(slot) => plan_refusal(&luks1_plan(&common, &slot), total),
+        Ok(slot) => plan_refusal(&luks1_plan(&common, &slot), total, 0),
         Err(fault) => Some(fault),
     }
 }
 
-/// By what this metadata refuses the keyslot `n` in a volume of `total` bytes.
-fn luks2_refusal(meta: &Meta, n: u8, total: u64) -> Option<OpenFault>
+/// By what this metadata refuses the keyslot `n` in a volume of `total` bytes, where Argon2 may take
+/// `memory` KiB.
+fn luks2_refusal(meta: &Meta, n: u8, total: u64, memory: u32) -> Option<OpenFault>
     requires { IsAccepted (content meta.now) }
     ensures { (b json : List ℕ) → IsCleared (uuid_field b) json (content meta.now)
-        → FirstRefusal (IsLuks2Refusal b json total n) result }
+        → FirstRefusal (IsLuks2RefusalWithin memory b json total n) result }
 {
     one_value();
     if n > 31 {
@@ -62,17 +63,17 @@ fn luks2_refusal(meta: &Meta, n: u8, total: u64) -> Option<OpenFault>
     };
     let number = meta.digest_of_keyslot(n).unwrap();
     let digest = meta.digest(number).unwrap();
-    plan_refusal(&luks2_plan(&keyslot, &digest), total)
+    plan_refusal(&luks2_plan(&keyslot, &digest), total, memory)
 }
 
 /// By what the plan is refused in a volume of `total` bytes: its area isn't inside, or it is refused
-/// itself.
-fn plan_refusal(plan: &SlotPlan<'_>, total: u64) -> Option<OpenFault>
-    ensures refused { IfSome result (IsPlanRefusal plan.now total) }
-    ensures accepted { IsNone result → IsPlanAccepted plan.now total }
+/// itself where Argon2 may take `memory` KiB.
+fn plan_refusal(plan: &SlotPlan<'_>, total: u64, memory: u32) -> Option<OpenFault>
+    ensures refused { IfSome result (IsPlanRefusal memory plan.now total) }
+    ensures accepted { IsNone result → IsPlanAccepted memory plan.now total }
 {
     if !plan.area.is_inside(total) {
         return Some(OpenFault::Outside);
     }
-    refusal(plan).map(OpenFault::Slot)
+    refusal_within(plan, memory).map(OpenFault::Slot)
 }

@@ -12,8 +12,10 @@ ghost use Rattle.luks_reading.specs.Agreement.{AgreesUnlocked};
 ghost use Rattle.luks_reading.specs.ChosenCopies.{IsCleared};
 ghost use Rattle.luks_reading.specs.Failures.{is_open_failure};
 ghost use Rattle.luks_reading.specs.Header.{IsAcceptedHeader, IsHeader, TakesNoMemory};
+ghost use Rattle.luks_reading.specs.Answer.{TakesMemory};
+ghost use Rattle.luks_reading.specs.PlanAnswers.{IsOfDevice};
 ghost use Rattle.luks_reading.specs.Plans.{HasKeyBytes, HasLuks2KeyBytes};
-ghost use Rattle.luks_reading.specs.KeyslotsTried.{is_of_rank, passed_over, rank_order, Luks1VolumeRefused, Luks1Tried, Luks1Tries, Luks2Tried, Luks2Tries};
+ghost use Rattle.luks_reading.specs.KeyslotsTried.{is_of_rank, passed_over, rank_order, Luks1VolumeRefused, Luks1Tried, Luks1Tries, Luks2LacksMemory, Luks2Tried, Luks2Tries};
 ghost use Rattle.luks_reading.specs.Unlocking.{luks2_order, IsVolumeRefusedBy, Unlocked, UnlockAnswer, Unlocks};
 
 use crate::header::{Header, read_header};
@@ -41,57 +43,68 @@ pub(crate) enum Rank {
 /// those of priority 1 or none by number; one of priority 0 is never tried.
 ///
 /// A keyslot that is refused by a fault of its own is passed over. `Head` and `Meta` are those of
-/// the volume itself, the first of them. `Device` comes exactly where a device call failed. Memory
-/// is taken for the metadata of LUKS2 alone.
+/// the volume itself, the first of them. `Device` comes exactly where a device call failed.
+///
+/// Argon2 may take `memory` KiB for each keyslot; one that takes more is passed over, and where
+/// memory is refused that a keyslot may take, the answer is `Memory`. Else memory is taken for the
+/// metadata of LUKS2 alone.
 pub fn unlock<D: Device>(
     alloc: Global,
     device: &mut D,
     passphrase: &[u8],
+    memory: u32,
 ) -> Result<Option<(u8, Key)>, OpenFault>
-    requires { D.failed device.old + 1 < 2 ^ 64 }
+    requires room { D.failed device.old + 1 < 2 ^ 64 }
+    requires passphrase { 0 < memory → length passphrase.now < 2 ^ 32 }
     ensures unchanged { IsUnchanged D.tells D.size D.bytes D.unsettled device.old device.new }
     ensures count { CountsFailure is_open_failure result
         (D.failed device.old) (D.failed device.new) }
-    ensures unlocks { D.tells → IfOk result (Unlocks (D.bytes device.old) passphrase.now) }
+    ensures unlocks { D.tells → IfOk result (Unlocks memory (D.bytes device.old) passphrase.now) }
     ensures refused { D.tells → IfErr result (IsVolumeRefusedBy (D.bytes device.old)) }
     ensures memory { D.tells → TakesNoMemory (D.bytes device.old)
         → IfErr result (λ f. f ≢ OpenFault.Memory) }
     // There is no other answer.
-    ensures only { D.tells → (a : Unlocked) → UnlockAnswer (D.bytes device.old) passphrase.now a
-        → AgreesUnlocked a result }
+    ensures only { D.tells → (a : Unlocked)
+        → UnlockAnswer memory (D.bytes device.old) passphrase.now a → AgreesUnlocked a result }
 {
     one_choice();
     one_unlocking();
     let header = read_header(alloc, device)?;
-    unlock_header(alloc, device, &header, passphrase)
+    unlock_header(alloc, device, &header, passphrase, memory)
 }
 
-/// What `unlock` answers of a volume with this header. It takes no memory.
+/// What `unlock` answers of a volume with this header. It takes memory for Argon2 alone, where it is
+/// allowed.
 pub fn unlock_header<D: Device>(
     alloc: Global,
     device: &mut D,
     header: &Header,
     passphrase: &[u8],
+    memory: u32,
 ) -> Result<Option<(u8, Key)>, OpenFault>
     requires room { D.failed device.old + 1 < 2 ^ 64 }
     requires accepted { IsAcceptedHeader header.now }
+    requires passphrase { 0 < memory → length passphrase.now < 2 ^ 32 }
     ensures unchanged { IsUnchanged D.tells D.size D.bytes D.unsettled device.old device.new }
     ensures count { CountsFailure is_open_failure result
         (D.failed device.old) (D.failed device.new) }
     ensures unlocks { D.tells → IsHeader (D.bytes device.old) header.now
-        → IfOk result (Unlocks (D.bytes device.old) passphrase.now) }
+        → IfOk result (Unlocks memory (D.bytes device.old) passphrase.now) }
     ensures refused { D.tells → IsHeader (D.bytes device.old) header.now
         → IfErr result (IsVolumeRefusedBy (D.bytes device.old)) }
     ensures length { IfOk result
         (λ found. IfSome found (λ opened. HasKeyBytes header.now opened.0 (length opened.1))) }
-    ensures memory { IfErr result (λ f. f ≢ OpenFault.Memory) }
+    // Memory is refused only to a keyslot that takes it, and to none where none is allowed.
+    ensures memory { D.tells → IsHeader (D.bytes device.old) header.now → IfErr result
+        (λ f. f ≡ OpenFault.Memory → (n : ℕ) × TakesMemory memory (D.bytes device.old) n) }
+    ensures no_memory { memory ≡ 0 → IfErr result (λ f. f ≢ OpenFault.Memory) }
 {
     one_choice();
     luks2_without_faults();
     metadata_without_faults();
     match header {
         Header::Luks1(bytes) => unlock_luks1(alloc, device, bytes.as_slice(), passphrase),
-        Header::Luks2(copy) => unlock_luks2(alloc, device, &copy.meta, passphrase),
+        Header::Luks2(copy) => unlock_luks2(alloc, device, &copy.meta, passphrase, memory),
     }
 }
 
@@ -156,23 +169,28 @@ fn unlock_luks2<D: Device>(
     device: &mut D,
     meta: &Meta,
     passphrase: &[u8],
+    memory: u32,
 ) -> Result<Option<(u8, Key)>, OpenFault>
     requires room { D.failed device.old + 1 < 2 ^ 64 }
     requires accepted { IsAccepted (content meta.now) }
+    requires passphrase { 0 < memory → length passphrase.now < 2 ^ 32 }
     ensures unchanged { IsUnchanged D.tells D.size D.bytes D.unsettled device.old device.new }
     ensures count { CountsFailure is_open_failure result
         (D.failed device.old) (D.failed device.new) }
     ensures tries { D.tells → (b json : List ℕ) → IsCleared (uuid_field b) json (content meta.now)
         → IfOk result
-        (Luks2Tries b json (D.bytes device.old) passphrase.now (luks2_order (content meta.now))) }
-    ensures kinds { IfErr result (λ f. is_open_failure f ≡ true) }
+        (Luks2Tries memory b json (D.bytes device.old) passphrase.now (luks2_order (content meta.now))) }
+    ensures kinds { IfErr result IsOfDevice }
+    ensures memory { (b json : List ℕ) → IsCleared (uuid_field b) json (content meta.now)
+        → IfErr result (Luks2LacksMemory memory b json (D.size device.old)) }
+    ensures no_memory { memory ≡ 0 → IfErr result (λ f. f ≢ OpenFault.Memory) }
     ensures length { IfOk result
         (λ found. IfSome found
         (λ opened. HasLuks2KeyBytes (content meta.now) opened.0 (length opened.1))) }
 {
-    match try_rank(alloc, device, meta, Rank::Preferred, passphrase) {
+    match try_rank(alloc, device, meta, Rank::Preferred, passphrase, memory) {
         Ok(Some(found)) => Ok(Some(found)),
-        Ok(None) => try_rank(alloc, device, meta, Rank::Normal, passphrase),
+        Ok(None) => try_rank(alloc, device, meta, Rank::Normal, passphrase, memory),
         Err(fault) => Err(fault),
     }
 }
@@ -184,24 +202,29 @@ fn try_rank<D: Device>(
     meta: &Meta,
     rank: Rank,
     passphrase: &[u8],
+    memory: u32,
 ) -> Result<Option<(u8, Key)>, OpenFault>
     requires room { D.failed device.old + 1 < 2 ^ 64 }
     requires accepted { IsAccepted (content meta.now) }
+    requires passphrase { 0 < memory → length passphrase.now < 2 ^ 32 }
     ensures unchanged { IsUnchanged D.tells D.size D.bytes D.unsettled device.old device.new }
     ensures count { CountsFailure is_open_failure result
         (D.failed device.old) (D.failed device.new) }
     ensures tries { D.tells → (b json : List ℕ) → IsCleared (uuid_field b) json (content meta.now)
         → IfOk result
-        (Luks2Tries b json (D.bytes device.old) passphrase.now
+        (Luks2Tries memory b json (D.bytes device.old) passphrase.now
         (rank_order rank (content meta.now))) }
-    ensures kinds { IfErr result (λ f. is_open_failure f ≡ true) }
+    ensures kinds { IfErr result IsOfDevice }
+    ensures memory { (b json : List ℕ) → IsCleared (uuid_field b) json (content meta.now)
+        → IfErr result (Luks2LacksMemory memory b json (D.size device.old)) }
+    ensures no_memory { memory ≡ 0 → IfErr result (λ f. f ≢ OpenFault.Memory) }
     ensures length { IfOk result
         (λ found. IfSome found
         (λ opened. HasLuks2KeyBytes (content meta.now) opened.0 (length opened.1))) }
 {
     for n in 0..32 {
         if is_of_rank(meta, rank, n) {
-            match try_luks2(alloc, device, meta, n, passphrase) {
+            match try_luks2(alloc, device, meta, n, passphrase, memory) {
                 Ok(Some(key)) => return Ok(Some((n, key))),
                 Ok(None) => {}
                 Err(fault) => return Err(fault),
@@ -231,21 +254,26 @@ fn try_luks2<D: Device>(
     meta: &Meta,
     n: u8,
     passphrase: &[u8],
+    memory: u32,
 ) -> Result<Option<Key>, OpenFault>
     requires room { D.failed device.old + 1 < 2 ^ 64 }
     requires accepted { IsAccepted (content meta.now) }
+    requires passphrase { 0 < memory → length passphrase.now < 2 ^ 32 }
     ensures unchanged { IsUnchanged D.tells D.size D.bytes D.unsettled device.old device.new }
     ensures count { CountsFailure is_open_failure result
         (D.failed device.old) (D.failed device.new) }
     ensures tried { D.tells → (b json : List ℕ) → IsCleared (uuid_field b) json (content meta.now)
-        → IfOk result (Luks2Tried b json (D.bytes device.old) n passphrase.now) }
-    ensures kinds { IfErr result (λ f. is_open_failure f ≡ true) }
+        → IfOk result (Luks2Tried memory b json (D.bytes device.old) n passphrase.now) }
+    ensures kinds { IfErr result IsOfDevice }
+    ensures memory { (b json : List ℕ) → IsCleared (uuid_field b) json (content meta.now)
+        → IfErr result (Luks2LacksMemory memory b json (D.size device.old)) }
+    ensures no_memory { memory ≡ 0 → IfErr result (λ f. f ≢ OpenFault.Memory) }
     ensures length { IfOk result
         (λ found. IfSome found (λ key. HasLuks2KeyBytes (content meta.now) n (length key))) }
 {
     one_value();
     one_digest();
-    match open_luks2(alloc, device, meta, n, passphrase) {
+    match open_luks2(alloc, device, meta, n, passphrase, memory) {
         Ok(found) => Ok(found),
         Err(fault) => passed_over(fault),
     }

@@ -1,50 +1,53 @@
 -- What a command does to its volume, and the files that it reads beside it, as the bytes of their names.
 use Rattle.std.specs.Prelude.{ℕ, List, Option, None, Some, option_map, Bool, true, false}
 use Rattle.luks_request.specs.declared.request.Command.{Command}
-use Rattle.luks_request.specs.declared.request.Command.TheVariants.{Check, Show, Open, Edit, Format, Convert}
+use Rattle.luks_request.specs.declared.request.Command.TheVariants.{Check, Show, Open, Edit, Format, Convert, Rebuild}
 use Rattle.luks_request.specs.declared.request.EditRequest.{EditRequest}
 use Rattle.luks_request.specs.declared.request.EditRequest.TheVariants.{Add, Change, Remove, Repair, Label}
 
 -- the edits that open a keyslot need its passphrase
 abbrev pub edit_passphrase_of : EditRequest → Option (List ℕ)
-edit_passphrase_of (Add by_ passphrase new to iterations) = Some passphrase.now
-edit_passphrase_of (Change slot passphrase new iterations) = Some passphrase.now
-edit_passphrase_of (Remove slot passphrase) = Some passphrase.now
+edit_passphrase_of (Add by_ passphrase memory new to iterations) = Some passphrase.now
+edit_passphrase_of (Change slot passphrase memory new iterations) = Some passphrase.now
+edit_passphrase_of (Remove slot passphrase memory) = Some passphrase.now
 edit_passphrase_of Repair = None
 edit_passphrase_of (Label text) = None
 
 -- and those that seal one the new passphrase
 abbrev pub edit_new_of : EditRequest → Option (List ℕ)
-edit_new_of (Add by_ passphrase new to iterations) = Some new.now
-edit_new_of (Change slot passphrase new iterations) = Some new.now
-edit_new_of (Remove slot passphrase) = None
+edit_new_of (Add by_ passphrase memory new to iterations) = Some new.now
+edit_new_of (Change slot passphrase memory new iterations) = Some new.now
+edit_new_of (Remove slot passphrase memory) = None
 edit_new_of Repair = None
 edit_new_of (Label text) = None
 
 -- opening, editing and formatting need a passphrase
 abbrev pub passphrase_of : Command → Option (List ℕ)
 passphrase_of (Check payload) = None
-passphrase_of Show = None
-passphrase_of (Open passphrase slot) = Some passphrase.now
+passphrase_of (Show form) = None
+passphrase_of (Open passphrase slot memory) = Some passphrase.now
 passphrase_of (Edit editing) = edit_passphrase_of editing.request
 passphrase_of (Format making) = Some making.passphrase.now
 passphrase_of (Convert converting) = None
+passphrase_of (Rebuild rebuilding) = None
 
 -- some edits alone need a new one beside it
 abbrev pub new_of : Command → Option (List ℕ)
 new_of (Edit editing) = edit_new_of editing.request
 new_of command = None
 
--- edits, where they name its file, formatting and converting take random bytes
+-- edits, where they name its file, formatting, converting and rebuilding take random bytes
 abbrev pub random_of : Command → Option (List ℕ)
 random_of (Edit editing) = option_map (λ name. name.now) editing.random
 random_of (Format making) = Some making.random.now
 random_of (Convert converting) = Some converting.random.now
+random_of (Rebuild rebuilding) = Some rebuilding.random.now
 random_of command = None
 
--- converting writes to a file beside the volume
+-- converting and rebuilding write to a file beside the volume
 abbrev pub target_of : Command → Option (List ℕ)
 target_of (Convert converting) = Some converting.target.now
+target_of (Rebuild rebuilding) = Some rebuilding.target.now
 target_of command = None
 
 -- edits and formatting write to the volume

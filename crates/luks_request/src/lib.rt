@@ -1,6 +1,8 @@
 //! What a command line of the program `luks` asks for: the command, its volume and its files.
 #![tactic(auto)]
 
+mod rebuilding;
 mod request;
 
-pub use request::{Command, Converting, EditRequest, Editing, Line, Making, NewVersion};
+pub use rebuilding::Rebuilding;
+pub use request::{Command, Converting, EditRequest, Editing, Line, Making, NewVersion, ShowAs};

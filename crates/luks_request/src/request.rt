@@ -2,6 +2,7 @@ ghost use Rattle.std.specs.Prelude.{◌≡◌, option_map};
 ghost use Rattle.luks_request.specs.Named.{edit_new_of, edit_passphrase_of, is_writer, new_of, passphrase_of, random_of};
 ghost use Rattle.luks_request.specs.Named.{target_of};
 
+use crate::rebuilding::Rebuilding;
 use luks_reading::Data;
 use luks_terms::Format;
 
@@ -23,13 +24,15 @@ pub enum Command<'a> {
         data_: Data,
     },
     /// List what the volume's header says.
-    Show,
+    Show(ShowAs),
     /// Try a passphrase.
     Open {
         /// The file of the passphrase.
         passphrase: &'a str,
         /// The keyslot to try, 0 to 31; without one all are tried.
         slot: Option<u8>,
+        /// How many MiB of memory Argon2 may take for a keyslot.
+        memory: u32,
     },
     /// Edit the volume's keyslots, its header or its label.
     Edit(Editing<'a>),
@@ -37,6 +40,18 @@ pub enum Command<'a> {
     Format(Making<'a>),
     /// Make a detached LUKS2 header of the volume, which stays as it is.
     Convert(Converting<'a>),
+    /// Make a detached LUKS2 header out of metadata that is still whole in the volume, which stays as
+    /// it is.
+    Rebuild(Rebuilding<'a>),
+}
+
+/// In which form a header is shown.
+#[derive(Debug, Clone, Copy, PartialEq, Eq)]
+pub enum ShowAs {
+    /// Line by line, for who reads them.
+    Lines,
+    /// One JSON object, for scripts.
+    Json,
 }
 
 /// An edit of the volume, and of which files.
@@ -62,11 +77,13 @@ pub enum EditRequest<'a> {
         by_: u8,
         /// The file of the old passphrase.
         passphrase: &'a str,
+        /// How many MiB of memory Argon2 may take for each passphrase.
+        memory: u32,
         /// The file of the new passphrase.
         new: &'a str,
         /// The number of the new keyslot, 0 to 31; without one the least that is free.
         to: Option<u8>,
-        /// The iterations of its derivation.
+        /// The iterations of its derivation, where that is PBKDF2.
         iterations: u32,
     },
     /// Put a new passphrase in the place of an old one.
@@ -75,9 +92,11 @@ pub enum EditRequest<'a> {
         slot: u8,
         /// The file of the old passphrase.
         passphrase: &'a str,
+        /// How many MiB of memory Argon2 may take for each passphrase.
+        memory: u32,
         /// The file of the new passphrase.
         new: &'a str,
-        /// The iterations of its derivation.
+        /// The iterations of its derivation, where that is PBKDF2.
         iterations: u32,
     },
     /// Remove a keyslot by its own passphrase.
@@ -86,6 +105,8 @@ pub enum EditRequest<'a> {
         slot: u8,
         /// The file of its passphrase.
         passphrase: &'a str,
+        /// How many MiB of memory Argon2 may take for it.
+        memory: u32,
     },
     /// Write both copies of the header anew.
     Repair,
@@ -161,7 +182,8 @@ impl<'a> Line<'a> {
         ensures { option_map (λ name. name.now) result ≡ passphrase_of self.now.command }
     {
         match self.command {
-            Command::Check { .. } | Command::Show | Command::Convert(_) => None,
+            Command::Check { .. } | Command::Show(_) | Command::Convert(_) | Command::Rebuild(_) =>
+                None,
             Command::Open { passphrase, .. } => Some(passphrase),
             Command::Edit(editing) => editing.request.passphrase(),
             Command::Format(making) => Some(making.passphrase),
@@ -187,6 +209,7 @@ impl<'a> Line<'a> {
             Command::Edit(editing) => editing.random,
             Command::Format(making) => Some(making.random),
             Command::Convert(converting) => Some(converting.random),
+            Command::Rebuild(rebuilding) => Some(rebuilding.random),
             _ => None,
         }
     }
@@ -197,6 +220,7 @@ impl<'a> Line<'a> {
     {
         match self.command {
             Command::Convert(converting) => Some(converting.target),
+            Command::Rebuild(rebuilding) => Some(rebuilding.target),
             _ => None,
         }
     }

@@ -6,65 +6,105 @@ ghost use Rattle.luks_rules.specs.Table.{member_name, rows_of, section_name};
 /// The five members of the metadata that are read.
 #[derive(Clone, Copy)]
 pub enum Section {
+    /// `config`, one object (LUKS2 On-Disk Format 1.1, 3.5).
     Config,
+    /// `digests`, objects by their numbers (3.4).
     Digests,
+    /// `keyslots`, objects by their numbers, 0 to 31 (3.2).
     Keyslots,
+    /// `segments`, objects by their numbers (3.3).
     Segments,
+    /// `tokens`, objects by their numbers (3.6).
     Tokens,
 }
 
 /// The object that a member stands in: the named object itself, or an object inside it.
 #[derive(Clone, Copy)]
 pub enum Outer {
+    /// The named object itself.
     Top,
+    /// `af` in it, of a keyslot (LUKS2 On-Disk Format 1.1, 3.2.4).
     Af,
+    /// `area` in it, of a keyslot (3.2.3).
     Area,
+    /// `kdf` in it, of a keyslot (3.2.5).
     Kdf,
 }
 
 /// The names of members.
 #[derive(Clone, Copy)]
 pub enum Member {
+    /// `af`: how a key is split over its area.
     Af,
+    /// `area`: where a keyslot's key material lies.
     Area,
+    /// `cpus`: the lanes of Argon2.
     Cpus,
+    /// `digest`: what PBKDF2 of the volume key has to give.
     Digest,
+    /// `encryption`: a cipher with its mode.
     Encryption,
+    /// `hash`: the name of a hash.
     Hash,
+    /// `iterations`: those of PBKDF2.
     Iterations,
+    /// `iv_tweak`: the number of a segment's first sector.
     IvTweak,
+    /// `json_size`: the length of the JSON area in bytes.
     JsonSize,
+    /// `kdf`: how a passphrase gives the key of an area.
     Kdf,
+    /// `key_size`: the length of a key in bytes.
     KeySize,
+    /// `keyslots`: the keyslots that a digest or a token names.
     Keyslots,
+    /// `keyslots_size`: the length of the region of the key areas in bytes.
     KeyslotsSize,
+    /// `type`.
     Kind,
+    /// `memory`: that of Argon2 in KiB.
     Memory,
+    /// `offset`: where an area or a segment begins, in bytes.
     Offset,
+    /// `priority`: when a keyslot is tried, 0 to 2.
     Priority,
+    /// `salt`: that of PBKDF2 or of Argon2.
     Salt,
+    /// `sector_size`: that of a segment in bytes.
     SectorSize,
+    /// `segments`: the segments that a digest names.
     Segments,
+    /// `size`: the length of an area or a segment in bytes.
     Size,
+    /// `stripes`: how many a key is split into.
     Stripes,
+    /// `time`: the passes of Argon2.
     Time,
 }
 
 /// The objects whose types are listed.
 #[derive(Clone, Copy)]
 pub enum Listed {
+    /// A keyslot: `luks2` (LUKS2 On-Disk Format 1.1, 3.2.1).
     Keyslot,
+    /// The `af` of a keyslot: `luks1` (3.2.4).
     Splitter,
+    /// The `area` of a keyslot: `raw` (3.2.3).
     KeyArea,
+    /// The `kdf` of a keyslot: `pbkdf2`, `argon2i` or `argon2id` (3.2.5).
     Derivation,
+    /// A segment: `crypt` or `linear` (3.3).
     Segment,
+    /// A digest: `pbkdf2` (3.4).
     Digest,
 }
 
 /// What a member's value has to be.
 #[derive(Clone, Copy)]
 pub enum Rule {
+    /// An object.
     Object,
+    /// A text, any.
     Text,
     /// A text, one of the listed types.
     Type(Listed),
@@ -87,18 +127,26 @@ pub enum Rule {
 /// When a row is judged, by the type of the object that the member stands in.
 #[derive(Clone, Copy)]
 pub enum When {
+    /// Whatever its type.
     Always,
+    /// Where it is `pbkdf2`.
     Pbkdf2,
+    /// Where it is `argon2i` or `argon2id`.
     Argon2,
+    /// Where it is `crypt`.
     Crypt,
 }
 
 /// One row: a member, its rule, and when it is judged.
 #[derive(Clone, Copy)]
 pub struct Row {
+    /// The object that the member stands in.
     pub outer: Outer,
+    /// The member's name.
     pub name: Member,
+    /// What its value has to be.
     pub rule: Rule,
+    /// When that is judged.
     pub when: When,
 }
 

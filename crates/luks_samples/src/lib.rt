@@ -3,11 +3,13 @@
 //! gives.
 #![tactic(auto)]
 
+mod argon2;
 mod images;
 mod metadata;
 mod sums;
 mod words;
 
+pub use argon2::{ARGON2I_1, ARGON2ID_0, STRIPE_BY_ARGON2I, STRIPE_BY_ARGON2ID};
 pub use images::{
     Change, Fields, LUKS1, LUKS2, MK_DIGEST, MK_DIGEST_BY_SHA512, ROOMY, STRIPE, STRIPE_BY_SHA512,
     changed_luks1, copy_of, luks1, luks2, opening_luks1, opening_luks2, overwrite, put, put_copy,

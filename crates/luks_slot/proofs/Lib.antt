@@ -1,5 +1,6 @@
 pub mod SectorFacts
 pub mod AreaFacts
+pub mod DerivationFacts
 pub mod OpeningFacts
 pub mod WritingFacts
 pub mod SplittingFacts

@@ -11,6 +11,10 @@ use Rattle.luks_kdf.specs.Derivation.{pbkdf2}
 use Rattle.luks_kdf.specs.Names.{hash_named, hash_of, digest_size_of, block_size_of}
 use Rattle.luks_kdf.specs.Splitter.{merge}
 use Rattle.luks_xts.specs.Xts.{XtsOpen}
+use Rattle.luks_argon2.specs.Argon2.{argon2}
+use Rattle.luks_slot.specs.declared.plan.Argon2Kind.{Argon2Kind}
+use Rattle.luks_slot.specs.declared.plan.Argon2Kind.TheVariants.{I, Id}
+use Rattle.luks_slot.specs.declared.plan.Argon2Plan.{Argon2Plan}
 use Rattle.luks_slot.specs.declared.plan.Derivation.{Derivation}
 use Rattle.luks_slot.specs.declared.plan.Derivation.TheVariants.{Pbkdf2, Argon2}
 use Rattle.luks_slot.specs.declared.plan.DigestPlan.{DigestPlan}
@@ -29,15 +33,25 @@ abbrev pub derived : List ℕ → List ℕ → List ℕ → ℕ → ℕ → List
 derived name password salt iterations n =
     pbkdf2 (hash_of (hash_by_name name)) (block_size_of (hash_by_name name)) password salt iterations n
 
--- the derivation has at least one iteration
+-- the derivation has at least one iteration, or one pass of Argon2, whose salt has at most 128 bytes
 abbrev pub HasIterations : Derivation → Type 0
 HasIterations (Pbkdf2 hash iterations salt) = 1 ≤ iterations
-HasIterations Argon2 = Unit {0}
+HasIterations (Argon2 costs) = (1 ≤ costs.time) × (length costs.salt.now ≤ 128)
+
+-- the variant, y (RFC 9106, 3.1)
+abbrev pub variant_of : Argon2Kind → ℕ
+variant_of I = 1
+variant_of Id = 2
+
+-- Argon2 as a keyslot takes it: a lane for each of its cpus, and neither a secret nor associated data
+abbrev pub derived_by_argon2 : Argon2Plan → ℕ → List ℕ → List ℕ
+derived_by_argon2 costs n password =
+    argon2 (variant_of costs.kind) costs.cpus n costs.memory costs.time password costs.salt.now [] []
 
 -- the key of the area: as long as the area's cipher wants it
 abbrev pub area_key_by : Derivation → ℕ → List ℕ → List ℕ
 area_key_by (Pbkdf2 hash iterations salt) n passphrase = derived hash.now passphrase salt.now iterations n
-area_key_by Argon2 n passphrase = []
+area_key_by (Argon2 costs) n passphrase = derived_by_argon2 costs n passphrase
 
 unfoldable pub area_key : SlotPlan → List ℕ → List ℕ
 area_key plan passphrase = area_key_by plan.derivation plan.area_key_bytes passphrase

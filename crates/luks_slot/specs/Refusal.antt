@@ -1,5 +1,5 @@
--- When a keyslot is refused: its plan alone decides.
-use Rattle.std.specs.Prelude.{◌==◌, ◌&&◌, ◌||◌, not, Bool, true, false, Option, Some, None, is_some, codes, if◌then◌else◌}
+-- When a keyslot is refused: its plan and the memory that is allowed decide.
+use Rattle.std.specs.Prelude.{ℕ, ◌-◌, ◌*◌, ◌^◌, ◌==◌, ◌&&◌, ◌||◌, nat_lt, length, not, Bool, true, false, Option, Some, None, is_some, codes, if◌then◌else◌}
 use Rattle.std.specs.Str.{bytes_eq}
 use Rattle.luks_kdf.specs.Names.{hash_named}
 use Rattle.luks_slot.specs.declared.plan.Derivation.{Derivation}
@@ -22,11 +22,22 @@ is_open_cipher (Whole text) =
 -- a hash by a name that is known, or no hash at all
 abbrev pub is_known_derivation : Derivation → Bool
 is_known_derivation (Pbkdf2 hash iterations salt) = is_some (hash_named hash.now)
-is_known_derivation ByArgon2 = true
+is_known_derivation (ByArgon2 costs) = true
 
 abbrev pub is_argon2 : Derivation → Bool
 is_argon2 (Pbkdf2 hash iterations salt) = false
-is_argon2 ByArgon2 = true
+is_argon2 (ByArgon2 costs) = true
+
+-- Argon2 takes more memory than so many KiB, or less than 8 KiB for each lane, or it has not 1 to
+-- 2^24 - 1 lanes (RFC 9106, 3.1), or a salt of fewer than 8 bytes
+abbrev pub is_argon2_refused : ℕ → Derivation → Bool
+is_argon2_refused memory (Pbkdf2 hash iterations salt) = false
+is_argon2_refused memory (ByArgon2 costs) =
+    nat_lt memory costs.memory
+    || nat_lt costs.memory (8 * costs.cpus)
+    || nat_lt costs.cpus 1
+    || nat_lt (2 ^ 24 - 1) costs.cpus
+    || nat_lt (length costs.salt.now) 8
 
 abbrev pub are_known_hashes : SlotPlan → Bool
 are_known_hashes plan =
@@ -34,11 +45,19 @@ are_known_hashes plan =
     && is_some (hash_named plan.splitter_hash.now)
     && is_some (hash_named plan.digest.hash.now)
 
--- the first of the refusals that stands, or none
-abbrev pub slot_refusal : SlotPlan → Option SlotFault
-slot_refusal plan =
-    if is_argon2 plan.derivation then Some Argon2
+-- the first of the refusals that stands, or none, where the test says whether `Argon2` does
+abbrev pub first_refusal : Bool → SlotPlan → Option SlotFault
+first_refusal test plan =
+    if test then Some Argon2
     else if not (is_open_cipher plan.cipher) then Some Cipher
     else if not (are_known_hashes plan) then Some Hash
     else if not (plan.area_key_bytes == 32 || plan.area_key_bytes == 64) then Some KeySize
     else None
+
+-- the same where so many KiB of memory are allowed
+abbrev pub slot_refusal_within : ℕ → SlotPlan → Option SlotFault
+slot_refusal_within memory plan = first_refusal (is_argon2_refused memory plan.derivation) plan
+
+-- the same where none is allowed
+abbrev pub slot_refusal : SlotPlan → Option SlotFault
+slot_refusal plan = first_refusal (is_argon2 plan.derivation) plan

@@ -1,13 +1,15 @@
 //! Why a keyslot can't be opened or sealed.
 
 use luks_area::DeviceFault;
+use luks_argon2::Argon2Fault;
 use std::error::Error;
 use std::fmt;
 
 /// Why a keyslot can't be opened or sealed; the first in this order is answered.
 #[derive(Debug, Clone, Copy, PartialEq, Eq)]
 pub enum SlotFault {
-    /// The area's key is derived by Argon2.
+    /// The area's key is derived by Argon2, whose memory isn't allowed or whose costs are outside its
+    /// limits.
     Argon2,
     /// The area's cipher is another than aes with `xts-plain64` or `xts-plain`.
     Cipher,
@@ -49,5 +51,16 @@ impl From<DeviceFault> for SlotFault {
 
     fn from(_: DeviceFault) -> SlotFault {
         SlotFault::Device
+    }
+}
+
+impl From<Argon2Fault> for SlotFault {
+    ghost use Rattle.std.specs.Prelude.{◌≡◌};
+    ghost use Rattle.luks_slot.specs.declared.fault.SlotFault.{SlotFault};
+
+    ghost from_gives = { λ _ fault. fault ≡ SlotFault.Memory };
+
+    fn from(_: Argon2Fault) -> SlotFault {
+        SlotFault::Memory
     }
 }

@@ -1,44 +1,94 @@
-//! What PBKDF2 derives for a keyslot.
+//! What PBKDF2 and Argon2 derive for a keyslot.
 
-ghost use Rattle.std.specs.Prelude.{◌≡◌, ◌≤◌, length};
-ghost use Rattle.luks_slot.specs.Opening.{area_key, hash_by_name, meets_digest, HasIterations};
-ghost use Rattle.luks_slot.specs.Parameters.{AreParameters};
+ghost use Rattle.std.specs.Prelude.{◌≡◌, ◌*◌, ◌^◌, ◌<◌, ◌≤◌, ◌⊎◌, length, true, IfErr, IfOk, IfNone};
+ghost use Rattle.luks_slot.specs.Opening.{area_key, derived_by_argon2, hash_by_name, meets_digest, variant_of, HasIterations};
+ghost use Rattle.luks_slot.specs.Parameters.{derived_by_pbkdf2, AreParameters};
+ghost use Rattle.luks_slot.specs.Refusal.{is_argon2};
+ghost use Rattle.luks_slot.specs.declared.fault.SlotFault.{SlotFault as TheFault};
+ghost use Rattle.luks_argon2.specs.Memory.{variant_number};
 
-use crate::parameters::Parameters;
-use crate::plan::{DigestPlan, SlotPlan};
+use crate::fault::SlotFault;
+use crate::parameters::{KeyDerivation, Parameters, Pbkdf2Costs};
+use crate::plan::{Argon2Kind, Argon2Plan, DigestPlan, SlotPlan};
+use luks_argon2::{Variant, argon2};
 use luks_kdf::HashName;
 use luks_xts::XtsKey;
+use std::alloc::Global;
 
-// The key of the area.
+// The key of the area. Argon2 alone takes memory, before it computes anything.
 pub(crate) fn area_key(
+    alloc: Global,
     plan: &SlotPlan<'_>,
     parameters: &Parameters<'_>,
     passphrase: &[u8],
-) -> XtsKey
+) -> Result<XtsKey, SlotFault>
     requires parameters { AreParameters plan.now parameters.now }
     requires iterations { HasIterations plan.now.derivation }
-    ensures { result ≡ area_key plan.now passphrase.now }
+    requires passphrase { is_argon2 plan.now.derivation ≡ true → length passphrase.now < 2 ^ 32 }
+    ensures key { IfOk result (λ key. key ≡ area_key plan.now passphrase.now) }
+    ensures memory { IfErr result (λ f. f ≡ TheFault.Memory) }
+    ensures argon2 { IfErr result (λ _. is_argon2 plan.now.derivation ≡ true) }
+{
+    match parameters.derivation {
+        KeyDerivation::Pbkdf2(costs) => Ok(pbkdf2_key(plan.area_key_bytes, &costs, passphrase)),
+        KeyDerivation::Argon2(costs) => argon2_key(alloc, plan.area_key_bytes, &costs, passphrase),
+    }
+}
+
+// The key of `len` bytes that PBKDF2 derives.
+pub(crate) fn pbkdf2_key(len: usize, costs: &Pbkdf2Costs<'_>, passphrase: &[u8]) -> XtsKey
+    requires key_size { (len ≡ 32) ⊎ (len ≡ 64) }
+    requires iterations { 1 ≤ costs.now.iterations }
+    ensures { result ≡ derived_by_pbkdf2 costs.now len passphrase.now }
 {
     let mut buffer = [0u8; 64];
-    let bytes = &mut buffer[..plan.area_key_bytes];
-    fill_area_key(bytes, plan, parameters, passphrase);
+    let bytes = &mut buffer[..len];
+    costs
+        .hash
+        .pbkdf2(bytes, passphrase, costs.salt, costs.iterations);
     XtsKey::new(bytes).unwrap()
 }
 
-fn fill_area_key(
-    out: &mut [u8],
-    plan: &SlotPlan<'_>,
-    parameters: &Parameters<'_>,
+// The key of `len` bytes that Argon2 derives.
+fn argon2_key(
+    alloc: Global,
+    len: usize,
+    costs: &Argon2Plan<'_>,
     passphrase: &[u8],
-)
-    requires parameters { AreParameters plan.now parameters.now }
-    requires iterations { HasIterations plan.now.derivation }
-    requires out_length { length out.old ≡ plan.now.area_key_bytes }
-    ensures { out.new ≡ area_key plan.now passphrase.now }
+) -> Result<XtsKey, SlotFault>
+    requires key_size { (len ≡ 32) ⊎ (len ≡ 64) }
+    requires some_pass { 1 ≤ costs.now.time }
+    requires salt { length costs.now.salt.now ≤ 128 }
+    requires some_lane { 1 ≤ costs.now.cpus }
+    requires few_lanes { costs.now.cpus < 2 ^ 24 }
+    requires enough_memory { 8 * costs.now.cpus ≤ costs.now.memory }
+    requires passphrase { length passphrase.now < 2 ^ 32 }
+    ensures key { IfOk result (λ key. key ≡ derived_by_argon2 costs.now len passphrase.now) }
+    ensures memory { IfErr result (λ f. f ≡ TheFault.Memory) }
 {
-    parameters
-        .hash
-        .pbkdf2(out, passphrase, parameters.salt, parameters.iterations);
+    let mut buffer = [0u8; 64];
+    let bytes = &mut buffer[..len];
+    let variant = variant_of(costs.kind);
+    argon2(
+        alloc,
+        variant,
+        bytes,
+        passphrase,
+        costs.salt,
+        costs.time,
+        costs.memory,
+        costs.cpus,
+    )?;
+    Ok(XtsKey::new(bytes).unwrap())
+}
+
+fn variant_of(kind: Argon2Kind) -> Variant
+    ensures { variant_number result ≡ variant_of kind }
+{
+    match kind {
+        Argon2Kind::I => Variant::I,
+        Argon2Kind::Id => Variant::Id,
+    }
 }
 
 // Whether the key gives the stored digest, all its bytes.

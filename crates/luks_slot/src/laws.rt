@@ -2,7 +2,10 @@
 
 ghost use Rattle.std.specs.Prelude.{◌≡◌, ◌-◌, ◌*◌, ◌≤◌, ℕ, List, length, Some, None, true, if◌then◌else◌};
 ghost use Rattle.luks_slot.specs.declared.plan.SlotPlan.{SlotPlan as ThePlan};
+ghost use Rattle.luks_slot.specs.declared.fault.SlotFault.{SlotFault as TheFault};
+ghost use Rattle.luks_slot.specs.Fault.{IsAnsweredFault, IsAnsweredWithin};
 ghost use Rattle.luks_slot.specs.Opening.{meets_digest, slot_key};
+ghost use Rattle.luks_slot.specs.Refusal.{is_argon2, slot_refusal, slot_refusal_within};
 ghost use Rattle.luks_slot.specs.Sealing.{IsSealed};
 
 use luks_kdf::HashName;
@@ -19,6 +22,16 @@ pub fn sealed_area_opens()
 {
     HashName::merge_undoes_split();
 }
+
+/// Where no memory is allowed, a keyslot is refused exactly as it is without Argon2, for the same
+/// reason, and what is answered then is the same.
+pub fn nothing_allowed_is_as_before()
+    ensures refusal { (plan : ThePlan) → slot_refusal_within 0 plan ≡ slot_refusal plan }
+    ensures fault { (plan : ThePlan) (f : TheFault)
+        → IsAnsweredWithin 0 plan f → IsAnsweredFault plan f }
+    ensures argon2 { (plan : ThePlan) → is_argon2 plan.derivation ≡ true
+        → slot_refusal_within 0 plan ≡ Some TheFault.Argon2 }
+{}
 
 /// What a keyslot opens to by a passphrase meets the plan's digest.
 pub fn found_key_meets_digest()

@@ -18,9 +18,9 @@ mod wiping;
 
 pub use fault::SlotFault;
 pub use key::Key;
-pub use laws::{found_key_meets_digest, sealed_area_opens};
-pub use opening::open;
-pub use parameters::refusal;
-pub use plan::{AreaCipher, Derivation, DigestPlan, SlotPlan};
-pub use sealing::seal;
+pub use laws::{found_key_meets_digest, nothing_allowed_is_as_before, sealed_area_opens};
+pub use opening::{open, open_within};
+pub use parameters::{refusal, refusal_within};
+pub use plan::{AreaCipher, Argon2Kind, Argon2Plan, Derivation, DigestPlan, SlotPlan};
+pub use sealing::{seal, seal_within};
 pub use wiping::wipe;

@@ -4,9 +4,9 @@ ghost use Rattle.std.specs.Prelude.{◌≡◌, ◌+◌, ◌*◌, ◌^◌, ◌<�
 ghost use Rattle.luks_area.specs.Area.{IsInside};
 ghost use Rattle.luks_area.specs.Device.{CountsFailure, IsUnchanged};
 ghost use Rattle.luks_area.specs.Sectors.{rounded_to_sectors};
-ghost use Rattle.luks_slot.specs.Fault.{IsAnsweredFault, is_device_fault};
+ghost use Rattle.luks_slot.specs.Fault.{IsAnsweredFault, IsAnsweredWithin, is_device_fault};
 ghost use Rattle.luks_slot.specs.Opening.{area_bytes, hash_by_name, meets_digest, slot_key, stripe_bytes, HasIterations};
-ghost use Rattle.luks_slot.specs.Refusal.{slot_refusal};
+ghost use Rattle.luks_slot.specs.Refusal.{slot_refusal, slot_refusal_within};
 ghost use Rattle.luks_slot.specs.declared.fault.SlotFault.{SlotFault as TheFault};
 
 use crate::area_reader::AreaReader;
@@ -14,7 +14,7 @@ use crate::fault::SlotFault;
 use crate::hashing::{area_key, meets_digest};
 use crate::key::Key;
 use crate::merging::read_candidate;
-use crate::parameters::parameters_of;
+use crate::parameters::parameters_within;
 use crate::plan::{DigestPlan, SlotPlan};
 use luks_area::Device;
 use luks_kdf::HashName;
@@ -24,11 +24,11 @@ use std::alloc::Global;
 /// met; an empty passphrase is a passphrase (LUKS1 On-Disk Format 1.2.3, 4.3; LUKS2 On-Disk Format
 /// 1.1, 4.3).
 ///
-/// A refusal is of the plan alone, the first of `Argon2`, `Cipher`, `Hash` and `KeySize`. `Device`
-/// comes exactly where the device failed. The area is read a sector of 512 bytes at a time, and no
-/// memory is taken from the allocator.
+/// No memory is allowed to Argon2, so that a refusal is of the plan alone, the first of `Argon2`,
+/// `Cipher`, `Hash` and `KeySize`. `Device` comes exactly where the device failed. The area is read a
+/// sector of 512 bytes at a time, and no memory is taken from the allocator.
 pub fn open<D: Device>(
-    _alloc: Global,
+    alloc: Global,
     device: &mut D,
     plan: &SlotPlan<'_>,
     passphrase: &[u8],
@@ -56,8 +56,46 @@ pub fn open<D: Device>(
         (D.failed device.old) (D.failed device.new) }
     ensures unchanged { IsUnchanged D.tells D.size D.bytes D.unsettled device.old device.new }
 {
-    let parameters = parameters_of(plan)?;
-    let key = area_key(plan, &parameters, passphrase);
+    open_within(alloc, device, plan, passphrase, 0)
+}
+
+/// The same where Argon2 may take `memory` KiB, at once and before the area is read: then Argon2
+/// keyslots open too that take no more (`refusal_within`).
+///
+/// `Memory` comes only of an Argon2 keyslot that isn't refused, where the allocator refuses it.
+pub fn open_within<D: Device>(
+    alloc: Global,
+    device: &mut D,
+    plan: &SlotPlan<'_>,
+    passphrase: &[u8],
+    memory: u32,
+) -> Result<Option<Key>, SlotFault>
+    requires iterations { HasIterations plan.now.derivation }
+    requires passphrase { 0 < memory → length passphrase.now < 2 ^ 32 }
+    requires digest_iterations { 1 ≤ plan.now.digest.iterations }
+    requires digest_length { length plan.now.digest.stored.now ≤ 64 }
+    requires some_bytes { 1 ≤ plan.now.key_bytes }
+    requires at_most_128 { plan.now.key_bytes ≤ 128 }
+    requires some_stripes { 1 ≤ plan.now.stripes }
+    requires sectors { rounded_to_sectors (stripe_bytes plan.now) ≤ plan.now.area.len }
+    requires within { IsInside plan.now.area (D.size device.old) }
+    requires room { D.failed device.old + 1 < 2 ^ 64 }
+
+    // The plan is refused, the device failed, memory was refused, or there is an answer.
+    ensures refused { (f : TheFault) → slot_refusal_within memory plan.now ≡ Some f → result ≡ Err f }
+    ensures fault { IfErr result (IsAnsweredWithin memory plan.now) }
+    ensures accepted { OnOk result (slot_refusal_within memory plan.now ≡ None) }
+    ensures length { IfOk result (λ found. IfSome found (λ k. length k ≡ plan.now.key_bytes)) }
+    ensures value { D.tells → IfOk result (λ found. found
+        ≡ slot_key plan.now (area_bytes (D.bytes device.old) plan.now.area) passphrase.now) }
+
+    // The device: `Device` exactly where a call of it failed.
+    ensures count { CountsFailure is_device_fault result
+        (D.failed device.old) (D.failed device.new) }
+    ensures unchanged { IsUnchanged D.tells D.size D.bytes D.unsettled device.old device.new }
+{
+    let parameters = parameters_within(plan, memory)?;
+    let key = area_key(alloc, plan, &parameters, passphrase)?;
     let mut reader = AreaReader::new(plan.area, key);
     let mut buffer = [0u8; 128];
     let candidate = &mut buffer[..plan.key_bytes];

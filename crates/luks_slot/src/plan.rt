@@ -14,8 +14,32 @@ pub enum Derivation<'a> {
         /// The salt, of any length.
         salt: &'a [u8],
     },
-    /// Argon2, which is never derived: such a keyslot is refused.
-    Argon2,
+    /// Argon2, version 0x13, where its memory is allowed; else such a keyslot is refused.
+    Argon2(Argon2Plan<'a>),
+}
+
+/// The kinds of Argon2 that LUKS2 has (LUKS2 On-Disk Format 1.1, 3.2; RFC 9106, 3.1).
+#[derive(Clone, Copy, Debug)]
+pub enum Argon2Kind {
+    /// `argon2i`, Argon2i.
+    I,
+    /// `argon2id`, Argon2id.
+    Id,
+}
+
+/// What Argon2 derives by, as the header writes it.
+#[derive(Clone, Copy, Debug)]
+pub struct Argon2Plan<'a> {
+    /// The kind of Argon2.
+    pub kind: Argon2Kind,
+    /// How many passes over the memory, at least 1.
+    pub time: u32,
+    /// The memory in KiB.
+    pub memory: u32,
+    /// The number of lanes.
+    pub cpus: u32,
+    /// The salt, at most 128 bytes.
+    pub salt: &'a [u8],
 }
 
 /// The cipher of a keyslot's area, as the header writes it.

@@ -1,13 +1,13 @@
 //! Sealing a keyslot.
 
-ghost use Rattle.std.specs.Prelude.{◌≡◌, ◌+◌, ◌-◌, ◌*◌, ◌/◌, ◌^◌, ◌<◌, ◌≤◌, ◌++◌, length, replicate, Some, None, OnOk, IsErr, IfErr, if◌then◌else◌};
+ghost use Rattle.std.specs.Prelude.{◌≡◌, ◌+◌, ◌-◌, ◌*◌, ◌/◌, ◌^◌, ◌<◌, ◌≤◌, ◌++◌, ℕ, List, length, replicate, Some, None, OnOk, IsErr, IfErr, if◌then◌else◌};
 ghost use Rattle.luks_area.specs.Area.{IsInside};
 ghost use Rattle.luks_area.specs.Device.{CountsFailure, Touches, is_failure};
 ghost use Rattle.luks_area.specs.Ranges.{part, IsAt};
 ghost use Rattle.luks_area.specs.Sectors.{rounded_to_sectors, sector_count};
-ghost use Rattle.luks_slot.specs.Fault.{IsAnsweredFault, is_device_fault};
-ghost use Rattle.luks_slot.specs.Opening.{area_bytes, meets_digest, opened_sectors, slot_key, stripe_bytes, HasIterations};
-ghost use Rattle.luks_slot.specs.Refusal.{slot_refusal};
+ghost use Rattle.luks_slot.specs.Fault.{IsAnsweredFault, IsAnsweredWithin, is_device_fault};
+ghost use Rattle.luks_slot.specs.Opening.{area_bytes, area_key, hash_by_name, meets_digest, opened_sectors, slot_key, stripe_bytes, HasIterations};
+ghost use Rattle.luks_slot.specs.Refusal.{slot_refusal, slot_refusal_within};
 ghost use Rattle.luks_slot.specs.Sealing.{IsSealed};
 ghost use Rattle.luks_slot.specs.Writing.{filled};
 ghost use Rattle.luks_slot.specs.declared.fault.SlotFault.{SlotFault as TheFault};
@@ -15,13 +15,15 @@ ghost use Rattle.luks_slot.specs.declared.fault.SlotFault.{SlotFault as TheFault
 use crate::area_reader::SECTOR_BYTES;
 use crate::area_writer::AreaWriter;
 use crate::fault::SlotFault;
-use crate::hashing::area_key;
+use crate::hashing::{area_key, pbkdf2_key};
 use crate::key::Key;
-use crate::parameters::parameters_of;
+use crate::parameters::{KeyDerivation, parameters_within};
 use crate::plan::SlotPlan;
 use crate::splitting::write_last_stripe;
 use luks_area::{Area, Device, DeviceFault, rounded_to_sectors};
+use luks_kdf::HashName;
 use luks_xts::XtsKey;
+use std::alloc::Global;
 
 /// Seals the key in the keyslot's area under the passphrase: the stripes that hold it, of which all
 /// but the last are the random bytes, and zeros to the end of their last sector of 512 bytes, all
@@ -29,8 +31,8 @@ use luks_xts::XtsKey;
 /// those of these sectors changes, and those that were unsettled where the device fails. Nothing is
 /// flushed.
 ///
-/// A refusal is of the plan alone, the first of `Argon2`, `Cipher`, `Hash` and `KeySize`, and then
-/// no byte changes. `Device` comes exactly where the device failed. A sector is held at a time, and
+/// No memory is allowed to Argon2, so that a refusal is of the plan alone, the first of `Argon2`,
+/// `Cipher`, `Hash` and `KeySize`, and then no byte changes. `Device` comes exactly where the device failed. A sector is held at a time, and
 /// no memory is taken from an allocator.
 pub fn seal<D: Device>(
     device: &mut D,
@@ -70,12 +72,117 @@ pub fn seal<D: Device>(
         (IsAt plan.now.area.start (rounded_to_sectors (stripe_bytes plan.now)))
         device.old device.new }
 {
-    let parameters = parameters_of(plan)?;
-    let cipher_key = area_key(plan, &parameters, passphrase);
+    let parameters = parameters_within(plan, 0)?;
+    let KeyDerivation::Pbkdf2(costs) = parameters.derivation else {
+        return Err(SlotFault::Argon2);
+    };
+    let cipher_key = pbkdf2_key(plan.area_key_bytes, &costs, passphrase);
+    seal_under(
+        device,
+        plan,
+        parameters.splitter_hash,
+        cipher_key,
+        key,
+        random,
+    )?;
+    Ok(())
+}
+
+/// The same where Argon2 may take `memory` KiB, at once and before the first write: then Argon2
+/// keyslots are sealed too that take no more (`refusal_within`).
+///
+/// `Memory` comes only of an Argon2 keyslot that isn't refused, where the allocator refuses it, and
+/// then no byte has changed.
+pub fn seal_within<D: Device>(
+    alloc: Global,
+    device: &mut D,
+    plan: &SlotPlan<'_>,
+    passphrase: &[u8],
+    memory: u32,
+    key: &Key,
+    random: &[u8],
+) -> Result<(), SlotFault>
+    requires iterations { HasIterations plan.now.derivation }
+    requires passphrase { 0 < memory → length passphrase.now < 2 ^ 32 }
+    requires key_length { length key.now ≡ plan.now.key_bytes }
+    requires some_stripes { 1 ≤ plan.now.stripes }
+    requires random_length { length random.now ≡ (plan.now.stripes - 1) * plan.now.key_bytes }
+    requires sectors { rounded_to_sectors (stripe_bytes plan.now) ≤ plan.now.area.len }
+    requires within { IsInside plan.now.area (D.size device.old) }
+    requires room { D.failed device.old + 1 < 2 ^ 64 }
+
+    // The plan is refused, the device failed, memory was refused, or the area holds the key and
+    // opens to it.
+    ensures refused { (f : TheFault) → slot_refusal_within memory plan.now ≡ Some f → result ≡ Err f }
+    ensures fault { IfErr result (IsAnsweredWithin memory plan.now) }
+    ensures accepted { OnOk result (slot_refusal_within memory plan.now ≡ None) }
+    ensures sealed { D.tells → OnOk result
+        (IsSealed plan.now (area_bytes (D.bytes device.new) plan.now.area)
+        passphrase.now key.now random.now) }
+    ensures opens { D.tells → OnOk result
+        (slot_key plan.now (area_bytes (D.bytes device.new) plan.now.area) passphrase.now
+        ≡ (if meets_digest plan.now.digest key.now then Some key.now else None)) }
+
+    // The device: `Device` exactly where a call of it failed, and the bytes that may have changed.
+    ensures count { CountsFailure is_device_fault result
+        (D.failed device.old) (D.failed device.new) }
+    ensures size { D.size device.new ≡ D.size device.old }
+    ensures untouched { IsErr result → D.failed device.new ≡ D.failed device.old
+        → device.new ≡ device.old }
+    ensures same { D.tells → (f : TheFault) → slot_refusal_within memory plan.now ≡ Some f
+        → D.bytes device.new ≡ D.bytes device.old }
+    ensures touches { D.tells → Touches D.bytes D.unsettled
+        (IsAt plan.now.area.start (rounded_to_sectors (stripe_bytes plan.now)))
+        device.old device.new }
+{
+    let parameters = parameters_within(plan, memory)?;
+    let cipher_key = area_key(alloc, plan, &parameters, passphrase)?;
+    seal_under(
+        device,
+        plan,
+        parameters.splitter_hash,
+        cipher_key,
+        key,
+        random,
+    )?;
+    Ok(())
+}
+
+// Writes the stripes that hold the key, encrypted under the area's key.
+fn seal_under<D: Device>(
+    device: &mut D,
+    plan: &SlotPlan<'_>,
+    hash: HashName,
+    cipher_key: XtsKey,
+    key: &Key,
+    random: &[u8],
+) -> Result<(), DeviceFault>
+    requires hash { hash_by_name plan.now.splitter_hash.now ≡ hash }
+    requires key_length { length key.now ≡ plan.now.key_bytes }
+    requires some_stripes { 1 ≤ plan.now.stripes }
+    requires random_length { length random.now ≡ (plan.now.stripes - 1) * plan.now.key_bytes }
+    requires sectors { rounded_to_sectors (stripe_bytes plan.now) ≤ plan.now.area.len }
+    requires within { IsInside plan.now.area (D.size device.old) }
+    requires room { D.failed device.old + 1 < 2 ^ 64 }
+    ensures count { CountsFailure is_failure result
+        (D.failed device.old) (D.failed device.new) }
+    ensures size { D.size device.new ≡ D.size device.old }
+    ensures sealed { D.tells → OnOk result ((passphrase : List ℕ)
+        → cipher_key ≡ area_key plan.now passphrase
+        → IsSealed plan.now (area_bytes (D.bytes device.new) plan.now.area)
+        passphrase key.now random.now) }
+    ensures opens { D.tells → OnOk result ((passphrase : List ℕ)
+        → cipher_key ≡ area_key plan.now passphrase
+        → slot_key plan.now (area_bytes (D.bytes device.new) plan.now.area) passphrase
+        ≡ (if meets_digest plan.now.digest key.now then Some key.now else None)) }
+    ensures touches { D.tells → Touches D.bytes D.unsettled
+        (IsAt plan.now.area.start (rounded_to_sectors (stripe_bytes plan.now)))
+        device.old device.new }
+{
     let bytes = key.as_bytes();
     let mut buffer = [0u8; 128];
     let last = &mut buffer[..bytes.len()];
-    write_last_stripe(parameters.splitter_hash, last, bytes, random);
+    write_last_stripe(hash, last, bytes, random);
     write_stripes(device, plan.area.start, cipher_key, random, last)?;
     Ok(())
 }

@@ -5,4 +5,4 @@
 
 mod steps;
 
-pub use steps::{seal_area, wipe_area, write_range};
+pub use steps::{seal_area, seal_area_within, wipe_area, write_range};

@@ -1,16 +1,17 @@
-ghost use Rattle.std.specs.Prelude.{◌≡◌, ◌+◌, ◌-◌, ◌*◌, ◌^◌, ◌<◌, ◌≤◌, length, replicate, Err, Some, IfErr, OnOk};
+ghost use Rattle.std.specs.Prelude.{◌≡◌, ◌+◌, ◌-◌, ◌*◌, ◌^◌, ◌<◌, ◌≤◌, false, length, replicate, Err, Some, IfErr, OnOk};
 ghost use Rattle.luks_area.specs.Area.{IsInside};
 ghost use Rattle.luks_area.specs.Device.{CountsFailure, IsSettled, is_failure};
 ghost use Rattle.luks_area.specs.Ranges.{written, IsAt, SameBut, SameOutside};
 ghost use Rattle.luks_area.specs.Sectors.{rounded_to_sectors};
 ghost use Rattle.luks_slot.specs.declared.fault.SlotFault.{SlotFault as TheFault};
-ghost use Rattle.luks_slot.specs.Fault.{IsAnsweredFault, is_device_fault};
+ghost use Rattle.luks_slot.specs.Fault.{IsAnsweredFault, IsAnsweredWithin, is_device_fault};
 ghost use Rattle.luks_slot.specs.Opening.{area_bytes, stripe_bytes, HasIterations};
-ghost use Rattle.luks_slot.specs.Refusal.{slot_refusal};
+ghost use Rattle.luks_slot.specs.Refusal.{slot_refusal, slot_refusal_within};
 ghost use Rattle.luks_slot.specs.Sealing.{IsSealed};
 
 use luks_area::{Area, Device, DeviceFault};
-use luks_slot::{Key, SlotFault, SlotPlan, seal, wipe};
+use luks_slot::{Key, SlotFault, SlotPlan, seal, seal_within, wipe};
+use std::alloc::Global;
 
 /// Writes the bytes from the place `at` on, and flushes.
 pub fn write_range<D: Device>(device: &mut D, at: u64, bytes: &[u8]) -> Result<(), DeviceFault>
@@ -85,4 +86,44 @@ pub fn seal_area<D: Device>(
         Ok(()) => Ok(()),
         Err(_) => Err(SlotFault::Device),
     }
+}
+
+/// The same where Argon2 may take `memory` KiB, before the first write. `Memory` comes only of a plan
+/// that derives by Argon2 and isn't refused, and then no byte changes.
+pub fn seal_area_within<D: Device>(
+    alloc: Global,
+    device: &mut D,
+    plan: &SlotPlan<'_>,
+    passphrase: &[u8],
+    memory: u32,
+    key: &Key,
+    random: &[u8],
+) -> Result<(), SlotFault>
+    requires iterations { HasIterations plan.now.derivation }
+    requires passphrase { 0 < memory → length passphrase.now < 2 ^ 32 }
+    requires key_length { length key.now ≡ plan.now.key_bytes }
+    requires some_stripes { 1 ≤ plan.now.stripes }
+    requires random_length { length random.now ≡ (plan.now.stripes - 1) * plan.now.key_bytes }
+    requires sectors { rounded_to_sectors (stripe_bytes plan.now) ≤ plan.now.area.len }
+    requires within { IsInside plan.now.area (D.size device.old) }
+    requires room { D.failed device.old + 1 < 2 ^ 64 }
+    requires settled { D.tells → IsSettled D.unsettled device.old }
+    ensures refused { (f : TheFault) → slot_refusal_within memory plan.now ≡ Some f → result ≡ Err f }
+    ensures fault { IfErr result (IsAnsweredWithin memory plan.now) }
+    ensures count { CountsFailure is_device_fault result
+        (D.failed device.old) (D.failed device.new) }
+    ensures size { D.size device.new ≡ D.size device.old }
+    ensures settled { D.tells → D.failed device.new ≡ D.failed device.old → IsSettled D.unsettled device.new }
+    ensures same { D.tells → IfErr result (λ f. is_device_fault f ≡ false
+        → D.bytes device.new ≡ D.bytes device.old) }
+    ensures sealed { D.tells → OnOk result
+        (IsSealed plan.now (area_bytes (D.bytes device.new) plan.now.area)
+        passphrase.now key.now random.now) }
+    ensures rest { D.tells
+        → SameBut (IsAt plan.now.area.start (rounded_to_sectors (stripe_bytes plan.now)))
+        (D.bytes device.old) (D.bytes device.new) }
+{
+    seal_within(alloc, device, plan, passphrase, memory, key, random)?;
+    device.flush()?;
+    Ok(())
 }

@@ -1,5 +1,5 @@
 //! Short words for edits, so that a table has one in a line; macros, since a table calls no function.
-//! Where one is used, `luks_edit::Edit` has to be at hand.
+//! Where one is used, `Edit` and the crate `luks_volume` have to be at hand. No memory is allowed.
 
 /// Adds a keyslot: the one that opens, the old passphrase, the new one, the new keyslot's number, and
 /// the iterations where they aren't 1000.
@@ -11,7 +11,10 @@ macro_rules! add {
     ($by:expr, $old:expr, $new:expr, $to:expr, $iterations:expr) => {
         Edit::Add {
             by_: $by,
-            old: $old,
+            old: luks_volume::Passphrase {
+                bytes: $old,
+                memory: 0,
+            },
             new: $new,
             to: $to,
             iterations: $iterations,
@@ -29,7 +32,10 @@ macro_rules! change {
     ($slot:expr, $old:expr, $new:expr, $iterations:expr) => {
         Edit::Change {
             slot: $slot,
-            old: $old,
+            old: luks_volume::Passphrase {
+                bytes: $old,
+                memory: 0,
+            },
             new: $new,
             iterations: $iterations,
         }
@@ -42,7 +48,10 @@ macro_rules! remove {
     ($slot:expr, $passphrase:expr) => {
         Edit::Remove {
             slot: $slot,
-            passphrase: $passphrase,
+            passphrase: luks_volume::Passphrase {
+                bytes: $passphrase,
+                memory: 0,
+            },
         }
     };
 }

@@ -2,11 +2,15 @@
 //! so.
 ghost use Rattle.std.specs.Prelude.{◌≡◌, ◌↔◌, ◌-◌, ◌<◌, ℕ, length, IfOk, IsTrue};
 
+use sha2::{Digest, Sha256};
 use std::alloc::{AllocError, Global};
 use std::marker::Model;
 
 /// How many blocks of 256 bytes are given back in turn.
 pub const BLOCKS: usize = 1024;
+
+/// How many bytes of the stack are touched before memory is taken: it can't grow any more then.
+const STACK: usize = 1 << 20;
 
 /// All memory that there was, but for the blocks of 256 bytes that were given back.
 ///
@@ -30,7 +34,8 @@ impl TakenMemory {
     pub fn take(alloc: Global) -> Result<Self, AllocError>
         ensures { IfOk result (λ memory. memory ≡ BLOCKS) }
     {
-        let mut held = Vec::with_capacity(alloc, 1 << 20)?;
+        let more = usize::from(byte_of_the_stack());
+        let mut held = Vec::with_capacity(alloc, (1 << 20) + more)?;
         let blocks = blocks_of(alloc)?;
         take_all(alloc, &mut held);
         Ok(TakenMemory { held, blocks })
@@ -49,6 +54,17 @@ impl TakenMemory {
     {
         let _ = self.blocks.pop();
     }
+}
+
+/// A byte for which the stack has to grow, since it is worked out of as many bytes there. Inlined it
+/// would leave them above what is called later.
+#[inline(never)]
+fn byte_of_the_stack() -> u8 {
+    let bytes = [0x5A; STACK];
+    let mut hasher = Sha256::new();
+    hasher.update(bytes.as_slice());
+    let [first, ..] = hasher.finalize();
+    first
 }
 
 /// Takes what memory there is into `held`, in blocks from 2^46 bytes down to 256.

@@ -16,7 +16,7 @@ fn has_iterations(derivation: &Derivation<'_>) -> bool
 {
     match *derivation {
         Derivation::Pbkdf2 { iterations, .. } => iterations >= 1,
-        Derivation::Argon2 => true,
+        Derivation::Argon2(costs) => costs.time >= 1 && costs.salt.len() <= 128,
     }
 }
 

@@ -8,10 +8,11 @@ use Rattle.luks_area.specs.Ranges.{part, SameBut}
 use Rattle.luks_head.specs.declared.selection.Copies.{Copies}
 use Rattle.luks_head.specs.Selection.{Choice, luks1, luks2, nothing, Chosen}
 use Rattle.luks_reading.specs.declared.report.Data.{Data}
-use Rattle.luks_reading.specs.Answer.{Answer, opens}
+use Rattle.luks_reading.specs.Answer.{AnswerWithin, opens}
 use Rattle.luks_reading.specs.Checked.{AreaOf}
 use Rattle.luks_edit.specs.declared.edit.Edit.{Edit}
 use Rattle.luks_edit.specs.declared.edit.Edit.TheVariants.{Add, Change, Remove, Repair, Label}
+use Rattle.luks_edit.specs.Asked.{memory_for}
 use Rattle.luks_edit.specs.declared.edit_fault.EditFault.{EditFault}
 use Rattle.luks_edit.specs.Kept.{Keeps}
 use Rattle.luks1_edits.specs.Edited.{NamedKeyslots1}
@@ -24,14 +25,16 @@ use Rattle.luks2_edits.specs.Places.{IsTouchedIn, Loses}
 use Rattle.luks_volume.specs.Edits.{IsEditFault, Makes}
 
 -- the keyslot that the edit of `v` made, or sealed again, opens in `w` by the new passphrase to the
--- key that the old one opened
+-- key that the old one opened, where Argon2 may take the same memory
 abbrev pub OpensMade : List ℕ → Edit → List ℕ → Type 0
 OpensMade v (Add by_ old new to iterations) w = (n : ℕ) (key : List ℕ)
     → Makes v (Add by_ old new to iterations) n
-    → Answer v by_ old.now (opens key) → Answer w n new.now (opens key)
+    → AnswerWithin (memory_for old new.now) v by_ old.bytes.now (opens key)
+    → AnswerWithin (memory_for old new.now) w n new.now (opens key)
 OpensMade v (Change slot old new iterations) w = (n : ℕ) (key : List ℕ)
     → Makes v (Change slot old new iterations) n
-    → Answer v slot old.now (opens key) → Answer w n new.now (opens key)
+    → AnswerWithin (memory_for old new.now) v slot old.bytes.now (opens key)
+    → AnswerWithin (memory_for old new.now) w n new.now (opens key)
 OpensMade v (Remove slot passphrase) w = ⊤
 OpensMade v Repair w = ⊤
 OpensMade v (Label text) w = ⊤

@@ -1,4 +1,4 @@
--- Why the header of a volume that is to be edited isn't read: words of private contracts.
+-- Why the header of a volume that is to be edited isn't read.
 use Rattle.std.specs.Prelude.{List, ℕ, ⊤}
 use Rattle.luks_reading.specs.declared.check_fault.CheckFault.TheVariants as checking
 use Rattle.luks_reading.specs.declared.read_fault.ReadFault.{ReadFault}

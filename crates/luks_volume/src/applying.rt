@@ -23,7 +23,8 @@ use std::alloc::Global;
 ///
 /// The first refusal is answered: one of `NotAccepted` to `RandomLength`, in the order of the fault
 /// type. No refusal changes a byte, nor does `Memory`; memory is taken for a LUKS2 volume alone,
-/// before the first write. `Device` comes exactly where a device call failed; no byte has changed
+/// before the first write: for its metadata, and for Argon2 as much as the edit allows, once to open
+/// a keyslot and once to seal one. `Device` comes exactly where a device call failed; no byte has changed
 /// then but those that the edit writes. Of LUKS1 it leaves each keyslot that the edit doesn't name
 /// as it was, and of LUKS2 it leaves one of the two copies of the header.
 #[tactic(auto, using(luks_area::specs::DeviceFacts::settled_unchanged))]
@@ -69,9 +70,9 @@ pub fn apply<D: Device>(
     luks2_failing_edit();
     iterations_have_32_bits(edit);
     let header = edited_header(alloc, device)?;
-    match &header {
-        Header::Luks1(bytes) => apply_luks1(alloc, device, bytes, data_, edit, random),
-        Header::Luks2(_) => apply_luks2(alloc, device, &header, data_, edit, random),
+    match header {
+        Header::Luks1(bytes) => apply_luks1(alloc, device, &bytes, data_, edit, random),
+        Header::Luks2(_) => apply_luks2(alloc, device, header, data_, edit, random),
     }
 }
 

@@ -4,14 +4,19 @@ ghost use Rattle.luks_area.specs.Device.{CountsFailure, IsUnchanged};
 ghost use Rattle.luks_edit.specs.EditFaults.{is_edit_failure};
 ghost use Rattle.luks_reading.specs.Header.{IsAcceptedHeader, IsHeader};
 ghost use Rattle.luks_reading.specs.declared.report.Data.{Data as Payload};
+ghost use Rattle.luks_edit.specs.declared.edit.Edit.{Edit as TheEdit};
+ghost use Rattle.luks_volume.specs.Needed.{IsUntold};
 ghost use Rattle.luks_volume.specs.Unread.{IsHeaderRefused, unread_edit};
 
 use luks_edit::EditFault;
 use luks_reading::{CheckFault, Device, Header, ReadFault, read_header, unread_volume_is_refused};
 use std::alloc::Global;
 
-/// The header that counts, or why it isn't read.
-pub(crate) fn edited_header<D: Device>(alloc: Global, device: &mut D) -> Result<Header, EditFault>
+/// The header that counts of a volume that is to be edited, or why no edit of it is begun.
+///
+/// `Device` comes exactly where a device call failed. Memory is taken for the metadata of LUKS2
+/// alone.
+pub fn edited_header<D: Device>(alloc: Global, device: &mut D) -> Result<Header, EditFault>
     requires { D.failed device.old + 1 < 2 ^ 64 }
     ensures unchanged { IsUnchanged D.tells D.size D.bytes D.unsettled device.old device.new }
     ensures count { CountsFailure is_edit_failure result
@@ -20,6 +25,8 @@ pub(crate) fn edited_header<D: Device>(alloc: Global, device: &mut D) -> Result<
     ensures read { D.tells → IfOk result (IsHeader (D.bytes device.old)) }
     ensures refused { D.tells → (payload : Payload)
         → IfErr result (IsHeaderRefused (D.bytes device.old) payload) }
+    ensures untold { D.tells → (payload : Payload) (edit : TheEdit)
+        → IfErr result (IsUntold (D.bytes device.old) payload edit) }
 {
     unread_volume_is_refused();
     match read_header(alloc, device) {

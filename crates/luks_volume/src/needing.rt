@@ -1,8 +1,8 @@
 //! How many random bytes an edit of a volume takes.
-ghost use Rattle.std.specs.Prelude.{◌≡◌, ◌≢◌, ◌+◌, ◌^◌, ◌<◌, IfErr};
+ghost use Rattle.std.specs.Prelude.{◌≡◌, ◌≢◌, ◌+◌, ◌^◌, ◌<◌, ℕ, List, false, length, IfErr};
 ghost use Rattle.luks_area.specs.Device.{CountsFailure, IsUnchanged};
 ghost use Rattle.luks_edit.specs.EditFaults.{is_edit_failure};
-ghost use Rattle.luks_reading.specs.Header.{TakesNoMemory};
+ghost use Rattle.luks_reading.specs.Header.{IsAcceptedHeader, IsHeader, TakesNoMemory};
 ghost use Rattle.luks_volume.specs.Needed.{TellsNeed};
 
 use crate::header::edited_header;
@@ -33,9 +33,24 @@ pub fn needed<D: Device>(
         → IfErr result (λ f. f ≢ EditFault.Memory) }
 {
     let header = edited_header(alloc, device)?;
-    let total = device.len();
-    match &header {
+    needed_of_header(&header, data_, device.len(), edit)
+}
+
+/// What `needed` answers of a volume of `total` bytes with this header. It takes no memory.
+pub fn needed_of_header(
+    header: &Header,
+    data_: Data,
+    total: u64,
+    edit: &Edit<'_>,
+) -> Result<u64, EditFault>
+    requires { IsAcceptedHeader header.now }
+    ensures own { IfErr result (λ f. is_edit_failure f ≡ false) }
+    ensures memory { IfErr result (λ f. f ≢ EditFault.Memory) }
+    ensures tells { (v : List ℕ) → IsHeader v header.now → length v ≡ total
+        → TellsNeed data_ v edit.now result }
+{
+    match header {
         Header::Luks1(bytes) => needed_luks1(bytes, data_, total, edit),
-        Header::Luks2(_) => needed_luks2(&header, data_, total, edit),
+        Header::Luks2(_) => needed_luks2(header, data_, total, edit),
     }
 }

@@ -1,7 +1,9 @@
 //! Keyslots that are refused.
 use super::{open_by, seal_by};
 use luks_area::{Area, MemDevice};
-use luks_slot::{AreaCipher, Derivation, DigestPlan, Key, SlotFault, SlotPlan};
+use luks_slot::{
+    AreaCipher, Argon2Kind, Argon2Plan, Derivation, DigestPlan, Key, SlotFault, SlotPlan,
+};
 use std::alloc::{AllocError, Global};
 use std::process::Abort;
 use std::test::Fail;
@@ -93,6 +95,15 @@ const XTS: AreaCipher<'static> = AreaCipher::Whole("aes-xts-plain64");
 
 const CBC: AreaCipher<'static> = AreaCipher::Whole("aes-cbc-essiv:sha256");
 
+/// Argon2 within its limits: no memory is allowed.
+const BY_ARGON2: Derivation<'static> = Derivation::Argon2(Argon2Plan {
+    kind: Argon2Kind::Id,
+    time: 4,
+    memory: 32,
+    cpus: 1,
+    salt: b"0123456789abcdef",
+});
+
 /// The hash of the derivation, or none where it is by Argon2, the cipher, the hashes of the splitter
 /// and of the digest, the bytes of the area's key, and the answer: the first that stands of Argon2,
 /// Cipher, Hash and KeySize.
@@ -124,7 +135,7 @@ fn refuses_in_order(rt: HostRuntime) -> Result<(), Fail> {
         .enumerate()
     {
         let terms = Terms {
-            derivation: hash.map_or(Derivation::Argon2, by_pbkdf2),
+            derivation: hash.map_or(BY_ARGON2, by_pbkdf2),
             cipher,
             splitter_hash,
             digest_hash,

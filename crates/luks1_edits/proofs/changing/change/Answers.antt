@@ -18,7 +18,7 @@ returns-in_err-key-clause-replies g c = λ tells x.
     let e : Edit = Change c.args.slot c.args.old c.args.new c.args.iterations in
     let p = err_from_is_err_and c.from_residual.result c.from_residual.ensures.1 in
     rw (p.1, p.2)
-    (unopened_ends v a.data_ e c.args.random.now x.faultless c.args.slot c.args.old.now (refl, refl) (g.D.Device.bytes c.unlock.new.device) c.in_err-key.field-0.0 (c.unlock.ensures.unchanged.same tells) (c.in_err-key.ensures.refused tells x))
+    (unopened_ends v a.data_ e c.args.random.now x.faultless x.chosen c.args.slot c.args.old.bytes.now (refl, refl) (g.D.Device.bytes c.unlock.new.device) c.in_err-key.field-0.0 (c.unlock.ensures.unchanged.same tells) (c.in_err-key.ensures.refused tells x))
 
 pub returns-in_err-n-clause-replies : goal.returns-in_err-n-clause-replies
 returns-in_err-n-clause-replies g c = λ tells x.
@@ -27,7 +27,7 @@ returns-in_err-n-clause-replies g c = λ tells x.
     let e : Edit = Change c.args.slot c.args.old c.args.new c.args.iterations in
     let p = err_from_is_err_and c.from_residual-in_err-n.result c.from_residual-in_err-n.ensures.1 in
     rw (p.1, p.2)
-    (none_made v a.data_ e c.args.random.now c.args.slot c.args.old.now c.in_ok-key.key None c.args.iterations (making v e) a.bytes.now x (c.in_ok-key.ensures.opened tells x)
+    (none_made v a.data_ e c.args.random.now c.args.slot c.args.old.bytes.now c.in_ok-key.key None c.args.iterations (making v e) a.bytes.now x (c.in_ok-key.ensures.opened tells x)
     (g.D.Device.bytes c.unlock.new.device) c.in_err-n.field-0.0 (c.unlock.ensures.unchanged.same tells) (c.in_err-n.ensures.new v (slots_in a.bytes.now a.data_ v a.fields.slots x c.requires.accepted.fields.slots)))
 
 pub returns-in_err-judge_new-clause-replies : goal.returns-in_err-judge_new-clause-replies
@@ -38,7 +38,7 @@ returns-in_err-judge_new-clause-replies g c = λ tells x.
     let slots = slots_in a.bytes.now a.data_ v a.fields.slots x c.requires.accepted.fields.slots in
     let p = err_from_is_err_and c.from_residual-in_err-judge_new.result c.from_residual-in_err-judge_new.ensures.1 in
     rw (p.1, p.2)
-    (new_refused v a.data_ e c.args.random.now c.args.slot c.args.old.now c.in_ok-key.key None c.args.iterations (making v e) a.bytes.now x (c.in_ok-key.ensures.opened tells x)
+    (new_refused v a.data_ e c.args.random.now c.args.slot c.args.old.bytes.now c.in_ok-key.key None c.args.iterations (making v e) a.bytes.now x (c.in_ok-key.ensures.opened tells x)
     c.in_ok-n.n (c.in_ok-n.ensures.new v slots) (g.D.Device.bytes c.unlock.new.device) c.in_err-judge_new.field-0.0 (c.unlock.ensures.unchanged.same tells)
     (c.in_err-judge_new.ensures.refused v slots (key_bytes_in a.bytes.now a.fields a.data_ v x c.requires.accepted.fields)))
 
@@ -59,7 +59,7 @@ returns-in_err-make_keyslot-clause-replies g c = λ tells x.
     let torn = torn_same same (c.in_err-make_keyslot.ensures.torn tells (header_of_same same x)) in
     let p = err_from_is_err_and c.from_residual-in_err-make_keyslot.result c.from_residual-in_err-make_keyslot.ensures.1 in
     rw (p.1, p.2)
-    (unmade_ends v a.data_ e c.args.random.now c.args.slot c.args.old.now c.in_ok-key.key None c.args.iterations (making v e) a.bytes.now x (c.in_ok-key.ensures.opened tells x)
+    (unmade_ends v a.data_ e c.args.random.now c.args.slot c.args.old.bytes.now c.in_ok-key.key None c.args.iterations (making v e) a.bytes.now x (c.in_ok-key.ensures.opened tells x)
     c.in_ok-n.n new c.in_ok-judge_new.ensures.many (c.in_ok-judge_new.ensures.counted v slots (key_bytes_in a.bytes.now a.fields a.data_ v x c.requires.accepted.fields)) w c.in_err-make_keyslot.field-0.0
     (inl (record { slot = c.in_ok-n.n; is_new = new.is_new; key = c.in_ok-key.key; opened = opened.opened; order = torn })) c.in_err-make_keyslot.ensures.fault)
 
@@ -93,9 +93,9 @@ returns-in-Ok-clause-replies g c = λ tells x.
     let at = still_at a.bytes.now a.data_ v x c.args.slot c.in_ok-n.n opened.used new.is_new c.args.iterations c.args.new.now c.in_ok-key.key c.args.random.now u made
     (keyslot_at a.bytes.now a.fields a.data_ v c.args.slot _ c.luks1_area-area.result x c.requires.accepted.fields
     c.in_ok-key.ensures.numbered c.luks1_area-area.ensures.start c.luks1_area-area.ensures.len) in
-    let free = making_unrefused v a.data_ e c.args.random.now c.args.slot c.args.old.now c.in_ok-key.key None c.args.iterations (making v e) a.bytes.now x (c.in_ok-key.ensures.opened tells x)
+    let free = making_unrefused v a.data_ e c.args.random.now c.args.slot c.args.old.bytes.now c.in_ok-key.key None c.args.iterations (making v e) a.bytes.now x (c.in_ok-key.ensures.opened tells x)
     c.in_ok-n.n new c.in_ok-judge_new.ensures.many (c.in_ok-judge_new.ensures.counted v slots (key_bytes_in a.bytes.now a.fields a.data_ v x c.requires.accepted.fields)) in
-    record { unrefused = free; after = changed a.bytes.now a.data_ v x c.args.slot c.in_ok-n.n opened.used new.is_new c.args.iterations c.args.new.now c.in_ok-key.key c.args.random.now u made c.args.old.now w opened.opened (c.in-Ok.ensures.removed tells at); told = new.is_new }
+    record { unrefused = free; after = changed a.bytes.now a.data_ v x c.args.slot c.in_ok-n.n opened.used new.is_new c.args.iterations c.args.new.now c.in_ok-key.key c.args.random.now u made c.args.old.bytes.now w opened.opened (c.in-Ok.ensures.removed tells at); told = new.is_new }
 
 pub returns-in-Err-clause-replies : goal.returns-in-Err-clause-replies
 returns-in-Err-clause-replies g c = λ tells x.
@@ -112,9 +112,9 @@ returns-in-Err-clause-replies g c = λ tells x.
     let at = still_at a.bytes.now a.data_ v x c.args.slot c.in_ok-n.n opened.used new.is_new c.args.iterations c.args.new.now c.in_ok-key.key c.args.random.now u made
     (keyslot_at a.bytes.now a.fields a.data_ v c.args.slot _ c.luks1_area-area.result x c.requires.accepted.fields
     c.in_ok-key.ensures.numbered c.luks1_area-area.ensures.start c.luks1_area-area.ensures.len) in
-    let free = making_unrefused v a.data_ e c.args.random.now c.args.slot c.args.old.now c.in_ok-key.key None c.args.iterations (making v e) a.bytes.now x (c.in_ok-key.ensures.opened tells x)
+    let free = making_unrefused v a.data_ e c.args.random.now c.args.slot c.args.old.bytes.now c.in_ok-key.key None c.args.iterations (making v e) a.bytes.now x (c.in_ok-key.ensures.opened tells x)
     c.in_ok-n.n new c.in_ok-judge_new.ensures.many (c.in_ok-judge_new.ensures.counted v slots (key_bytes_in a.bytes.now a.fields a.data_ v x c.requires.accepted.fields)) in
-    inr (free, inr (half_changed a.bytes.now a.data_ v x c.args.slot c.in_ok-n.n opened.used new.is_new c.args.iterations c.args.new.now c.in_ok-key.key c.args.random.now u made c.args.old.now w opened.opened (c.in-Err.ensures.torn tells at)))
+    inr (free, inr (half_changed a.bytes.now a.data_ v x c.args.slot c.in_ok-n.n opened.used new.is_new c.args.iterations c.args.new.now c.in_ok-key.key c.args.random.now u made c.args.old.bytes.now w opened.opened (c.in-Err.ensures.torn tells at)))
 
 pub returns-in_err-key-clause-settled : goal.returns-in_err-key-clause-settled
 returns-in_err-key-clause-settled g c = λ tells same. settled_unchanged tells c.unlock.ensures.unchanged (c.requires.settled tells)

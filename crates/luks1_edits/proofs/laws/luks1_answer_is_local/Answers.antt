@@ -2,4 +2,4 @@ use Rattle.luks1_edits.proofs.AnswerFacts.{answer_moves, answer_returns}
 use Rattle.luks1_edits.proofs.laws.luks1_answer_is_local.Goals as goal
 
 pub returns : goal.returns
-returns c = λ n v w p a chosen same. (answer_moves n v w p a chosen same, answer_returns n v w p a chosen same)
+returns c = λ memory n v w p a chosen same. (answer_moves memory n v w p a chosen same, answer_returns memory n v w p a chosen same)

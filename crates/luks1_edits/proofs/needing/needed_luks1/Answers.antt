@@ -18,7 +18,7 @@ returns-in-Add-clause-tells c = λ v is size.
     let fields = c.in-Ok.ensures.accepted.fields in
     let e : Edit = Add c.in-Add.by_ c.in-Add.old c.in-Add.new c.in-Add.to c.in-Add.iterations in
     subst (λ x. TellsNeed1 c.args.data_ v x c.new_need.result) (sym c.in-Add.is)
-    (new_need_tells v c.args.data_ e header.faultless c.in-Add.by_ c.in-Add.old.now c.in-Add.to c.in-Add.iterations (making v e) c.new_need.result
+    (new_need_tells v c.args.data_ e header.faultless c.in-Add.by_ c.in-Add.old.bytes.now c.in-Add.to c.in-Add.iterations (making v e) c.new_need.result
     (c.new_need.ensures.need v (slots_in a.bytes.now c.args.data_ v a.fields.slots header fields.slots) (key_bytes_in a.bytes.now a.fields c.args.data_ v header fields)))
 
 pub returns-in-Change-clause-tells : goal.returns-in-Change-clause-tells
@@ -28,7 +28,7 @@ returns-in-Change-clause-tells c = λ v is size.
     let fields = c.in-Ok.ensures.accepted.fields in
     let e : Edit = Change c.in-Change.slot c.in-Change.old c.in-Change.new c.in-Change.iterations in
     subst (λ x. TellsNeed1 c.args.data_ v x c.new_need-in-Change.result) (sym c.in-Change.is)
-    (new_need_tells v c.args.data_ e header.faultless c.in-Change.slot c.in-Change.old.now None c.in-Change.iterations (making v e) c.new_need-in-Change.result
+    (new_need_tells v c.args.data_ e header.faultless c.in-Change.slot c.in-Change.old.bytes.now None c.in-Change.iterations (making v e) c.new_need-in-Change.result
     (c.new_need-in-Change.ensures.need v (slots_in a.bytes.now c.args.data_ v a.fields.slots header fields.slots) (key_bytes_in a.bytes.now a.fields c.args.data_ v header fields)))
 
 pub returns-in-Remove-clause-tells : goal.returns-in-Remove-clause-tells
@@ -38,7 +38,7 @@ returns-in-Remove-clause-tells c = λ v is size.
     let fields = c.in-Ok.ensures.accepted.fields in
     let e : Edit = Remove c.in-Remove.slot c.in-Remove.passphrase in
     subst (λ x. TellsNeed1 c.args.data_ v x c.removal_need.result) (sym c.in-Remove.is)
-    (removal_need_tells v c.args.data_ e header.faultless c.in-Remove.slot c.in-Remove.passphrase.now (refl, refl) (λ y. y) (λ y. y) refl c.removal_need.result
+    (removal_need_tells v c.args.data_ e header.faultless c.in-Remove.slot c.in-Remove.passphrase.bytes.now (refl, refl) (λ y. y) (λ y. y) refl c.removal_need.result
     (c.removal_need.ensures.need v (slots_in a.bytes.now c.args.data_ v a.fields.slots header fields.slots)))
 
 pub returns-in-Repair-clause-tells : goal.returns-in-Repair-clause-tells

@@ -17,7 +17,7 @@ returns-in_err-unlock-clause-replies g c = λ tells x.
     let e : Edit = Remove c.args.slot c.args.passphrase in
     let p = err_from_is_err_and c.from_residual.result c.from_residual.ensures.1 in
     rw (p.1, p.2)
-    (unopened_ends v a.data_ e c.args.random.now x.faultless c.args.slot c.args.passphrase.now (refl, refl)
+    (unopened_ends v a.data_ e c.args.random.now x.faultless x.chosen c.args.slot c.args.passphrase.bytes.now (refl, refl)
     (g.D.Device.bytes c.unlock.new.device) c.in_err-unlock.field-0.0 (c.unlock.ensures.unchanged.same tells) (c.in_err-unlock.ensures.refused tells x))
 
 pub returns-then-is_last-clause-replies : goal.returns-then-is_last-clause-replies
@@ -25,14 +25,14 @@ returns-then-is_last-clause-replies g c = λ tells x.
     let v = g.D.Device.bytes c.args.device.now in
     let a = c.args.header.now in
     let e : Edit = Remove c.args.slot c.args.passphrase in
-    (last_refused v a.data_ e c.args.random.now c.args.slot c.args.passphrase.now c.in_ok-unlock.field-0 (removal v e c.args.random.now) a.bytes.now x (c.in_ok-unlock.ensures.opened tells x) (c.if-is_last.ensures.last refl v (slots_in a.bytes.now a.data_ v a.fields.slots x c.requires.accepted.fields.slots)), c.unlock.ensures.unchanged.same tells)
+    (last_refused v a.data_ e c.args.random.now c.args.slot c.args.passphrase.bytes.now c.in_ok-unlock.field-0 (removal v e c.args.random.now) a.bytes.now x (c.in_ok-unlock.ensures.opened tells x) (c.if-is_last.ensures.last refl v (slots_in a.bytes.now a.data_ v a.fields.slots x c.requires.accepted.fields.slots)), c.unlock.ensures.unchanged.same tells)
 
 pub returns-then-random-ne0-clause-replies : goal.returns-then-random-ne0-clause-replies
 returns-then-random-ne0-clause-replies g c = λ tells x.
     let v = g.D.Device.bytes c.args.device.now in
     let a = c.args.header.now in
     let e : Edit = Remove c.args.slot c.args.passphrase in
-    (random_refused v a.data_ e c.args.random.now c.args.slot c.args.passphrase.now c.in_ok-unlock.field-0 (removal v e c.args.random.now) a.bytes.now x (c.in_ok-unlock.ensures.opened tells x) (c.if-is_last.ensures.other refl v (slots_in a.bytes.now a.data_ v a.fields.slots x c.requires.accepted.fields.slots)) c.if-random-ne0.true, c.unlock.ensures.unchanged.same tells)
+    (random_refused v a.data_ e c.args.random.now c.args.slot c.args.passphrase.bytes.now c.in_ok-unlock.field-0 (removal v e c.args.random.now) a.bytes.now x (c.in_ok-unlock.ensures.opened tells x) (c.if-is_last.ensures.other refl v (slots_in a.bytes.now a.data_ v a.fields.slots x c.requires.accepted.fields.slots)) c.if-random-ne0.true, c.unlock.ensures.unchanged.same tells)
 
 pub free_keyslot-requires-clause-within : goal.free_keyslot-requires-clause-within
 free_keyslot-requires-clause-within g c =
@@ -56,7 +56,7 @@ returns-in-Ok-clause-replies g c = λ tells x.
     c.in_ok-unlock.ensures.numbered c.luks1_area-area.ensures.start c.luks1_area-area.ensures.len in
     let same = c.unlock.ensures.unchanged.same tells in
     let w = g.D.Device.bytes c.free_keyslot.new.device in
-    removal_done v a.data_ e c.args.random.now c.args.slot c.args.passphrase.now c.in_ok-unlock.field-0 (removal v e c.args.random.now) a.bytes.now x (c.in_ok-unlock.ensures.opened tells x)
+    removal_done v a.data_ e c.args.random.now c.args.slot c.args.passphrase.bytes.now c.in_ok-unlock.field-0 (removal v e c.args.random.now) a.bytes.now x (c.in_ok-unlock.ensures.opened tells x)
     (c.if-is_last.ensures.other refl v (slots_in a.bytes.now a.data_ v a.fields.slots x c.requires.accepted.fields.slots)) c.if-random-ne0.false w (removed_same same (c.in-Ok.ensures.removed tells (keyslot_at_same same at)))
 
 pub returns-in-Err-clause-replies : goal.returns-in-Err-clause-replies
@@ -68,7 +68,7 @@ returns-in-Err-clause-replies g c = λ tells x.
     c.in_ok-unlock.ensures.numbered c.luks1_area-area.ensures.start c.luks1_area-area.ensures.len in
     let same = c.unlock.ensures.unchanged.same tells in
     let w = g.D.Device.bytes c.free_keyslot.new.device in
-    removal_torn v a.data_ e c.args.random.now c.args.slot c.args.passphrase.now c.in_ok-unlock.field-0 (removal v e c.args.random.now) a.bytes.now x (c.in_ok-unlock.ensures.opened tells x)
+    removal_torn v a.data_ e c.args.random.now c.args.slot c.args.passphrase.bytes.now c.in_ok-unlock.field-0 (removal v e c.args.random.now) a.bytes.now x (c.in_ok-unlock.ensures.opened tells x)
     (c.if-is_last.ensures.other refl v (slots_in a.bytes.now a.data_ v a.fields.slots x c.requires.accepted.fields.slots)) c.if-random-ne0.false w (half_removed_same same (c.in-Err.ensures.torn tells (keyslot_at_same same at)))
 
 pub returns-in_err-unlock-clause-settled : goal.returns-in_err-unlock-clause-settled

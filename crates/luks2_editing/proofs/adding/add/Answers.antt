@@ -2,6 +2,9 @@ use Rattle.std.proofs.Common.{◌≡◌, ℕ, length, sym, ◌∙◌, subst}
 use Rattle.std.proofs.lemmas.Result.{err_from_is_err_and}
 use Rattle.luks_edit.specs.declared.edit.Edit.TheVariants.{Add}
 use Rattle.luks_meta.specs.Content.{area_len, content}
+use Rattle.luks_slot.specs.declared.fault.SlotFault.{SlotFault}
+use Rattle.luks2_editing.specs.SealedKeyslot.{HasRefusedKeyslot}
+use Rattle.luks2_editing.proofs.MadeMetadataFacts.{enough_random}
 use Rattle.luks2_editing.specs.Prepared.{AreCopiesWithin}
 use Rattle.luks2_editing.specs.Rewriting.{IsRenewing}
 use Rattle.luks2_editing.proofs.AdditionFacts.{added_after, addition_fine, addition_sealing, addition_seals, made_alike, made_in, IsJudgedAddition}
@@ -10,9 +13,9 @@ use Rattle.luks2_editing.proofs.RenewalFacts.{renewing}
 use Rattle.luks2_editing.proofs.adding.add.Goals as goal
 
 pub returns-in_err-made-clause-replies : goal.returns-in_err-made-clause-replies
-returns-in_err-made-clause-replies g c = λ tells payload old to chosen well before opened is_new place.
+returns-in_err-made-clause-replies g c = λ tells payload old to chosen well before same opened is_new place.
     let v = g.D.Device.bytes c.args.device.now in
-    let copy = c.args.copy.now in
+    let copy = c.args.copy in
     let addition = c.args.addition.now in
     let new = c.args.secrets.now.passphrase in
     let key = c.args.secrets.now.key.now in
@@ -25,7 +28,7 @@ returns-in_err-made-clause-replies g c = λ tells payload old to chosen well bef
 
 pub write_keyslot-requires-clause-sealable : goal.write_keyslot-requires-clause-sealable
 write_keyslot-requires-clause-sealable g c =
-    let copy = c.args.copy.now in
+    let copy = c.args.copy in
     let addition = c.args.addition.now in
     let within : AreCopiesWithin copy.header (area_len copy.meta) (g.D.Device.size c.args.device.now) =
     subst (λ (n : ℕ). AreCopiesWithin copy.header n (g.D.Device.size c.args.device.now)) c.in_ok-made.ensures.length
@@ -36,9 +39,9 @@ write_keyslot-requires-clause-sealable g c =
     (area_len copy.meta) (g.D.Device.size c.args.device.now) copy.header c.args.secrets.now.key.now c.args.secrets.now.random.now c.in_ok-made.ensures.counted c.requires.key_length c.requires.placed within
 
 pub returns-in_err-write_keyslot-clause-replies : goal.returns-in_err-write_keyslot-clause-replies
-returns-in_err-write_keyslot-clause-replies g c = λ tells payload old to chosen well before opened is_new place.
+returns-in_err-write_keyslot-clause-replies g c = λ tells payload old to chosen well before same opened is_new place.
     let v = g.D.Device.bytes c.args.device.now in
-    let copy = c.args.copy.now in
+    let copy = c.args.copy in
     let addition = c.args.addition.now in
     let new = c.args.secrets.now.passphrase in
     let key = c.args.secrets.now.key.now in
@@ -52,14 +55,16 @@ returns-in_err-write_keyslot-clause-replies g c = λ tells payload old to chosen
     let p = err_from_is_err_and c.from_residual-in_err-write_keyslot.result c.from_residual-in_err-write_keyslot.ensures.1 in
     rw (p.1, p.2)
     (unsealed_ends v payload copy chosen well e random k (c.in_ok-made.ensures.unrefused v payload e seals total) (c.in_ok-made.ensures.edited v payload e seals total)
-    (g.D.Device.bytes c.write_keyslot.new.device) addition.made (addition_fine v payload copy addition old new to key random x c.requires.free.small k c.in_ok-made.ensures.made)
+    (g.D.Device.bytes c.write_keyslot.new.device) c.args.secrets.now.memory addition.made (subst (λ m. (g : SlotFault) → HasRefusedKeyslot m k addition.made g → ⊥) same
+    (addition_fine v payload copy addition old new to key random x c.requires.free.small k c.in_ok-made.ensures.made
+    (enough_random (content copy.meta) addition.by_ (length random) c.in_ok-made.ensures.counted)))
     (c.write_keyslot.ensures.torn tells payload e (content copy.meta) renews (addition_sealing v payload copy addition old new to key random x c.requires.free.small k c.in_ok-made.ensures.made))
-    c.in_err-write_keyslot.field-0.0 c.in_err-write_keyslot.ensures.fault)
+    c.in_err-write_keyslot.field-0.0 (c.in_err-write_keyslot.ensures.same tells) c.in_err-write_keyslot.ensures.fault)
 
 pub returns-clause-replies : goal.returns-clause-replies
-returns-clause-replies g c = λ tells payload old to chosen well before opened is_new place.
+returns-clause-replies g c = λ tells payload old to chosen well before same opened is_new place.
     let v = g.D.Device.bytes c.args.device.now in
-    let copy = c.args.copy.now in
+    let copy = c.args.copy in
     let addition = c.args.addition.now in
     let new = c.args.secrets.now.passphrase in
     let key = c.args.secrets.now.key.now in

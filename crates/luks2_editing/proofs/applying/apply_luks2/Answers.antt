@@ -1,7 +1,9 @@
-use Rattle.std.proofs.Common.{refl, subst}
+use Rattle.std.proofs.Common.{◌∙◌, ◌<◌, ap, refl, subst, sym}
 use Rattle.std.proofs.lemmas.Result.{err_from_is_err_and}
 use Rattle.luks_head.specs.Header2.{hdr_size, header_at}
 use Rattle.luks_meta.specs.Content.{area_len, content}
+use Rattle.luks_edit.proofs.AllowedMemory.{short_where_allowed}
+use Rattle.luks_edit.specs.Asked.{allowed_memory, HasShortPassphrases}
 use Rattle.luks_edit.specs.declared.edit.Edit.{Edit}
 use Rattle.luks_edit.specs.declared.edit.Edit.TheVariants.{Add, Change}
 use Rattle.luks2_judging.specs.Judging.{Seals, Takes}
@@ -17,13 +19,13 @@ returns-in_err-judged-clause-replies g c = λ tells is.
 
 pub remove-requires-clause-numbered : goal.remove-requires-clause-numbered
 remove-requires-clause-numbered g c =
-    let copy = c.in_ok-judged.judged.copy.now in
+    let copy = c.in_ok-judged.judged.copy in
     let takes = subst (λ t. Takes (area_len copy.meta) (content copy.meta) (g.D.Device.size c.args.device.now) c.args.edit.now t) c.in-Remove.is c.in_ok-judged.ensures.judged.takes in
     takes.there.0
 
 pub returns-in-Repair-clause-replies : goal.returns-in-Repair-clause-replies
 returns-in-Repair-clause-replies g c = λ tells is.
-    let copy = c.in_ok-judged.judged.copy.now in
+    let copy = c.in_ok-judged.judged.copy in
     let takes = subst (λ t. Takes (area_len copy.meta) (content copy.meta) (g.D.Device.size c.args.device.now) c.args.edit.now t) c.in-Repair.is c.in_ok-judged.ensures.judged.takes in
     let same = c.judge_luks2.ensures.unchanged.same tells in
     let judged = judged_edit same takes c.in_ok-judged.ensures.judged.copy is (c.in_ok-judged.ensures.unrefused tells is) in
@@ -31,7 +33,7 @@ returns-in-Repair-clause-replies g c = λ tells is.
 
 pub returns-in-Remove-clause-replies : goal.returns-in-Remove-clause-replies
 returns-in-Remove-clause-replies g c = λ tells is.
-    let copy = c.in_ok-judged.judged.copy.now in
+    let copy = c.in_ok-judged.judged.copy in
     let takes = subst (λ t. Takes (area_len copy.meta) (content copy.meta) (g.D.Device.size c.args.device.now) c.args.edit.now t) c.in-Remove.is c.in_ok-judged.ensures.judged.takes in
     let same = c.judge_luks2.ensures.unchanged.same tells in
     let judged = judged_edit same takes.asked c.in_ok-judged.ensures.judged.copy is (c.in_ok-judged.ensures.unrefused tells is) in
@@ -39,7 +41,7 @@ returns-in-Remove-clause-replies g c = λ tells is.
 
 pub returns-in-Label-clause-replies : goal.returns-in-Label-clause-replies
 returns-in-Label-clause-replies g c = λ tells is.
-    let copy = c.in_ok-judged.judged.copy.now in
+    let copy = c.in_ok-judged.judged.copy in
     let takes = subst (λ t. Takes (area_len copy.meta) (content copy.meta) (g.D.Device.size c.args.device.now) c.args.edit.now t) c.in-Label.is c.in_ok-judged.ensures.judged.takes in
     let same = c.judge_luks2.ensures.unchanged.same tells in
     let judged = judged_edit same takes.asked c.in_ok-judged.ensures.judged.copy is (c.in_ok-judged.ensures.unrefused tells is) in
@@ -47,7 +49,7 @@ returns-in-Label-clause-replies g c = λ tells is.
 
 pub returns-in-Change-clause-replies : goal.returns-in-Change-clause-replies
 returns-in-Change-clause-replies g c = λ tells is.
-    let copy = c.in_ok-judged.judged.copy.now in
+    let copy = c.in_ok-judged.judged.copy in
     let takes = subst (λ t. Takes (area_len copy.meta) (content copy.meta) (g.D.Device.size c.args.device.now) c.args.edit.now t) c.in-Change.is c.in_ok-judged.ensures.judged.takes in
     let same = c.judge_luks2.ensures.unchanged.same tells in
     let judged = judged_edit same takes.asked c.in_ok-judged.ensures.judged.copy is (c.in_ok-judged.ensures.unrefused tells is) in
@@ -55,11 +57,12 @@ returns-in-Change-clause-replies g c = λ tells is.
     let e : Edit = Change c.in-Change.renewal.slot takes.old c.in-Change.passphrase c.in-Change.renewal.iterations in
     let seals = subst (λ t. Seals (hdr_size (header_at v copy.header.hdr_offset)) v c.args.data_ (content copy.meta) e t) c.in-Change.is judged.seals in
     let replies = rw (c.new-secrets-in-Change.ensures, c.in-Change.is) at (c.change.ensures.replies tells c.args.data_) in
-    replied same takes.asked c.args.data_ c.args.random.now _ _ (replies takes.old judged.chosen judged.well (judged.none c.args.random.now) (seals.0 c.in-Change.renewal.slot takes.old.now (refl, refl)) seals.1)
+    replied same takes.asked c.args.data_ c.args.random.now _ _ (replies takes.old judged.chosen judged.well (judged.none c.args.random.now)
+    (sym (c.allowed_memory-memory.ensures ∙ ap allowed_memory takes.asked)) (seals.0 c.in-Change.renewal.slot takes.old.bytes.now (refl, refl)) seals.1)
 
 pub returns-in-Add-clause-replies : goal.returns-in-Add-clause-replies
 returns-in-Add-clause-replies g c = λ tells is.
-    let copy = c.in_ok-judged.judged.copy.now in
+    let copy = c.in_ok-judged.judged.copy in
     let takes = subst (λ t. Takes (area_len copy.meta) (content copy.meta) (g.D.Device.size c.args.device.now) c.args.edit.now t) c.in-Add.is c.in_ok-judged.ensures.judged.takes in
     let same = c.judge_luks2.ensures.unchanged.same tells in
     let judged = judged_edit same takes.asked c.in_ok-judged.ensures.judged.copy is (c.in_ok-judged.ensures.unrefused tells is) in
@@ -68,4 +71,18 @@ returns-in-Add-clause-replies g c = λ tells is.
     let seals = subst (λ t. Seals (hdr_size (header_at v copy.header.hdr_offset)) v c.args.data_ (content copy.meta) e t) c.in-Add.is judged.seals in
     let replies = rw (c.new-secrets.ensures, c.in-Add.is) at (c.add.ensures.replies tells c.args.data_) in
     replied same takes.asked c.args.data_ c.args.random.now _ _ (replies takes.old takes.to judged.chosen judged.well (judged.none c.args.random.now)
-    (seals.0 c.in-Add.addition.by_ takes.old.now (refl, refl)) takes.number.is_new seals.1)
+    (sym (c.allowed_memory-memory.ensures ∙ ap allowed_memory takes.asked)) (seals.0 c.in-Add.addition.by_ takes.old.bytes.now (refl, refl)) takes.number.is_new seals.1)
+
+pub add-requires-clause-passphrase : goal.add-requires-clause-passphrase
+add-requires-clause-passphrase g c =
+    let copy = c.in_ok-judged.judged.copy in
+    let takes = subst (λ t. Takes (area_len copy.meta) (content copy.meta) (g.D.Device.size c.args.device.now) c.args.edit.now t) c.in-Add.is c.in_ok-judged.ensures.judged.takes in
+    rw (c.new-secrets.ensures, c.in-Add.is)
+    (λ some. (subst HasShortPassphrases takes.asked (short_where_allowed c.args.edit.now (subst (λ m. 0 < m) c.allowed_memory-memory.ensures some))).1)
+
+pub change-requires-clause-passphrase : goal.change-requires-clause-passphrase
+change-requires-clause-passphrase g c =
+    let copy = c.in_ok-judged.judged.copy in
+    let takes = subst (λ t. Takes (area_len copy.meta) (content copy.meta) (g.D.Device.size c.args.device.now) c.args.edit.now t) c.in-Change.is c.in_ok-judged.ensures.judged.takes in
+    rw (c.new-secrets-in-Change.ensures, c.in-Change.is)
+    (λ some. (subst HasShortPassphrases takes.asked (short_where_allowed c.args.edit.now (subst (λ m. 0 < m) c.allowed_memory-memory.ensures some))).1)

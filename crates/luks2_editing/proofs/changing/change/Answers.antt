@@ -6,6 +6,9 @@ use Rattle.luks_area.specs.declared.area.Area.{Area}
 use Rattle.luks_edit.specs.declared.edit.Edit.TheVariants.{Change}
 use Rattle.luks_meta.specs.Content.{area_len, content}
 use Rattle.luks2_edits.specs.Metadata.{IsKeyArea}
+use Rattle.luks_slot.specs.declared.fault.SlotFault.{SlotFault}
+use Rattle.luks2_editing.specs.SealedKeyslot.{HasRefusedKeyslot}
+use Rattle.luks2_editing.proofs.MadeMetadataFacts.{enough_random}
 use Rattle.luks2_editing.specs.Lost.{HasKeyArea}
 use Rattle.luks2_editing.specs.MadeMetadata.{IsSealingEdit}
 use Rattle.luks2_editing.specs.declared.sealed_metadata.SealedSlot.TheVariants.{Renewed}
@@ -19,9 +22,9 @@ use Rattle.luks2_editing.proofs.RenewalFacts.{renewing}
 use Rattle.luks2_editing.proofs.changing.change.Goals as goal
 
 pub returns-in_err-lost-clause-replies : goal.returns-in_err-lost-clause-replies
-returns-in_err-lost-clause-replies g c = λ tells payload old x well before opened place.
+returns-in_err-lost-clause-replies g c = λ tells payload old x well before same opened place.
     let v = g.D.Device.bytes c.args.device.now in
-    let copy = c.args.copy.now in
+    let copy = c.args.copy in
     let random = c.args.secrets.now.random.now in
     let slot = c.args.renewal.now.slot in
     let new = c.args.secrets.now.passphrase in
@@ -37,9 +40,9 @@ returns-in_err-lost-clause-replies g c = λ tells payload old x well before open
     absurd (false≢true (c.in_err-lost.ensures.found there))
 
 pub returns-in_err-made-clause-replies : goal.returns-in_err-made-clause-replies
-returns-in_err-made-clause-replies g c = λ tells payload old x well before opened place.
+returns-in_err-made-clause-replies g c = λ tells payload old x well before same opened place.
     let v = g.D.Device.bytes c.args.device.now in
-    let copy = c.args.copy.now in
+    let copy = c.args.copy in
     let random = c.args.secrets.now.random.now in
     let slot = c.args.renewal.now.slot in
     let new = c.args.secrets.now.passphrase in
@@ -55,7 +58,7 @@ returns-in_err-made-clause-replies g c = λ tells payload old x well before open
       before = before;
       asked = (refl, refl);
       place = place;
-      passphrase = old.now;
+      passphrase = old.bytes.now;
       key = key;
       opened = opened;
     } in
@@ -64,7 +67,7 @@ returns-in_err-made-clause-replies g c = λ tells payload old x well before open
 
 pub write_keyslot-requires-clause-sealable : goal.write_keyslot-requires-clause-sealable
 write_keyslot-requires-clause-sealable g c =
-    let copy = c.args.copy.now in
+    let copy = c.args.copy in
     let renewal = c.args.renewal.now in
     let made = c.in_ok-made.ensures in
     let j = content copy.meta in
@@ -76,9 +79,9 @@ write_keyslot-requires-clause-sealable g c =
     (area_len copy.meta) (g.D.Device.size c.args.device.now) copy.header c.args.secrets.now.key.now c.args.secrets.now.random.now made.counted c.requires.key_length c.requires.placed within
 
 pub returns-in_err-write_keyslot-clause-replies : goal.returns-in_err-write_keyslot-clause-replies
-returns-in_err-write_keyslot-clause-replies g c = λ tells payload old x well before opened place.
+returns-in_err-write_keyslot-clause-replies g c = λ tells payload old x well before same opened place.
     let v = g.D.Device.bytes c.args.device.now in
-    let copy = c.args.copy.now in
+    let copy = c.args.copy in
     let random = c.args.secrets.now.random.now in
     let slot = c.args.renewal.now.slot in
     let new = c.args.secrets.now.passphrase in
@@ -94,7 +97,7 @@ returns-in_err-write_keyslot-clause-replies g c = λ tells payload old x well be
       before = before;
       asked = (refl, refl);
       place = place;
-      passphrase = old.now;
+      passphrase = old.bytes.now;
       key = key;
       opened = opened;
     } in
@@ -107,15 +110,17 @@ returns-in_err-write_keyslot-clause-replies g c = λ tells payload old x well be
     let p = err_from_is_err_and c.from_residual-in_err-write_keyslot.result c.from_residual-in_err-write_keyslot.ensures.1 in
     rw (p.1, p.2)
     (unsealed_ends v payload copy x well (Change slot old new turns) random k free edited (g.D.Device.bytes c.write_keyslot.new.device)
-    slot (renewed_unrefused v payload copy x well slot old new turns key random area k opened place made.made)
+    c.args.secrets.now.memory slot
+    (subst (λ m. (g : SlotFault) → HasRefusedKeyslot m k slot g → ⊥) same (renewed_unrefused v payload copy x well slot old new turns key random area k opened place made.made
+    (enough_random (content copy.meta) slot (length random) made.counted)))
     (c.write_keyslot.ensures.torn tells payload (Change slot old new turns) (content copy.meta) renews
     (change_sealing v payload copy x well slot old new turns key random area k opened place made.made))
-    c.in_err-write_keyslot.field-0.0 c.in_err-write_keyslot.ensures.fault)
+    c.in_err-write_keyslot.field-0.0 (c.in_err-write_keyslot.ensures.same tells) c.in_err-write_keyslot.ensures.fault)
 
 pub returns-in-Ok-clause-replies : goal.returns-in-Ok-clause-replies
-returns-in-Ok-clause-replies g c = λ tells payload old x well before opened place.
+returns-in-Ok-clause-replies g c = λ tells payload old x well before same opened place.
     let v = g.D.Device.bytes c.args.device.now in
-    let copy = c.args.copy.now in
+    let copy = c.args.copy in
     let random = c.args.secrets.now.random.now in
     let slot = c.args.renewal.now.slot in
     let new = c.args.secrets.now.passphrase in
@@ -131,7 +136,7 @@ returns-in-Ok-clause-replies g c = λ tells payload old x well before opened pla
       before = before;
       asked = (refl, refl);
       place = place;
-      passphrase = old.now;
+      passphrase = old.bytes.now;
       key = key;
       opened = opened;
     } in
@@ -152,9 +157,9 @@ returns-in-Ok-clause-replies g c = λ tells payload old x well before opened pla
     }
 
 pub returns-clause-replies : goal.returns-clause-replies
-returns-clause-replies g c = λ tells payload old x well before opened place.
+returns-clause-replies g c = λ tells payload old x well before same opened place.
     let v = g.D.Device.bytes c.args.device.now in
-    let copy = c.args.copy.now in
+    let copy = c.args.copy in
     let random = c.args.secrets.now.random.now in
     let slot = c.args.renewal.now.slot in
     let new = c.args.secrets.now.passphrase in
@@ -170,7 +175,7 @@ returns-clause-replies g c = λ tells payload old x well before opened place.
       before = before;
       asked = (refl, refl);
       place = place;
-      passphrase = old.now;
+      passphrase = old.bytes.now;
       key = key;
       opened = opened;
     } in

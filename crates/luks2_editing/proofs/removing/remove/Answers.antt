@@ -13,7 +13,7 @@ use Rattle.luks2_editing.proofs.removing.remove.Goals as goal
 pub returns-in_err-area-clause-replies : goal.returns-in_err-area-clause-replies
 returns-in_err-area-clause-replies g c = λ tells payload pass x well before.
     let v = g.D.Device.bytes c.args.device.now in
-    let copy = c.args.copy.now in
+    let copy = c.args.copy in
     let random = c.args.random.now in
     let slot = c.args.slot in
     let size : length v ≡ g.D.Device.size c.args.device.now = g.met.D.Device.sized c.args.device.now tells in
@@ -25,7 +25,7 @@ returns-in_err-area-clause-replies g c = λ tells payload pass x well before.
 pub returns-in_err-rewrite-clause-replies : goal.returns-in_err-rewrite-clause-replies
 returns-in_err-rewrite-clause-replies g c = λ tells payload pass x well before.
     let v = g.D.Device.bytes c.args.device.now in
-    let copy = c.args.copy.now in
+    let copy = c.args.copy in
     let random = c.args.random.now in
     let slot = c.args.slot in
     let size : length v ≡ g.D.Device.size c.args.device.now = g.met.D.Device.sized c.args.device.now tells in
@@ -47,7 +47,7 @@ returns-in_err-rewrite-clause-replies g c = λ tells payload pass x well before.
 pub returns-in-Ok-clause-replies : goal.returns-in-Ok-clause-replies
 returns-in-Ok-clause-replies g c = λ tells payload pass x well before.
     let v = g.D.Device.bytes c.args.device.now in
-    let copy = c.args.copy.now in
+    let copy = c.args.copy in
     let random = c.args.random.now in
     let slot = c.args.slot in
     let new = content c.in_ok-meta.meta in
@@ -68,7 +68,7 @@ returns-in-Ok-clause-replies g c = λ tells payload pass x well before.
 pub returns-clause-replies : goal.returns-clause-replies
 returns-clause-replies g c = λ tells payload pass x well before.
     let v = g.D.Device.bytes c.args.device.now in
-    let copy = c.args.copy.now in
+    let copy = c.args.copy in
     let random = c.args.random.now in
     let slot = c.args.slot in
     let new = content c.in_ok-meta.meta in

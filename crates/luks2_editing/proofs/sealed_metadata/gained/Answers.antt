@@ -4,11 +4,11 @@ use Rattle.luks2_editing.proofs.sealed_metadata.gained.Goals as goal
 
 pub returns-in-Ok-clause-made : goal.returns-in-Ok-clause-made
 returns-in-Ok-clause-made c =
-    let len = area_len c.args.meta.now in
+    let len = area_len c.args.meta in
     let f = new_members c.args.new.now in
-    let j = content c.args.meta.now in
+    let j = content c.args.meta in
     let k = content c.in-Ok.made in
-    let held = c.args.meta.now.held in
+    let held = c.args.meta.held in
     let unique = c.with_slot.ensures.unique in
     let added = c.in-Ok.ensures.value in
     let laws = c.made_keyslot_has_room.ensures in

@@ -1,7 +1,7 @@
 use Rattle.std.proofs.Common.{◌≡◌, ◌≤◌, ℕ, List, length, sym, ◌∙◌, subst}
 use Rattle.std.proofs.lemmas.Bool.{false≢true}
 use Rattle.std.proofs.lemmas.Result.{err_from_is_err_and}
-use Rattle.luks_making.specs.Conditions.{HasPbkdf2}
+use Rattle.luks_making.specs.Conditions.{IsThere}
 use Rattle.luks_meta.specs.Content.{area_len, content}
 use Rattle.luks2_edits.specs.Edited.{keyslot_salt, members_of}
 use Rattle.luks2_edits.specs.Metadata.{IsInUse}
@@ -10,27 +10,27 @@ use Rattle.luks2_editing.specs.MadeMetadata.{like_of, IsMadeBy}
 use Rattle.luks2_editing.specs.Prepared.{AreCopiesWithin, IsPrepared, IsUnprepared}
 use Rattle.luks2_editing.proofs.MadeMetadataFacts.{enough_random, placed_suits, placed_used}
 use Rattle.luks2_editing.proofs.RenewalFacts.{copy_within}
-use Rattle.luks2_editing.proofs.SealedRowFacts.{edited_by, like_pbkdf2, sealing_unrefused, unprepared_ends}
+use Rattle.luks2_editing.proofs.SealedRowFacts.{edited_by, sealing_unrefused, unprepared_ends}
 use Rattle.luks2_editing.proofs.sealed_metadata.new_metadata.Goals as goal
 
-pub returns-then-not-has_pbkdf2-clause-refused : goal.returns-then-not-has_pbkdf2-clause-refused
-returns-then-not-has_pbkdf2-clause-refused c = λ v payload e x total.
-    let copy = c.args.copy.now in
-    let sealing = c.args.sealing.now in
-    let derived = like_pbkdf2 v payload e c.args.random.now copy sealing x in
-    absurd (false≢true (sym c.if-not-has_pbkdf2.true ∙ c.has_pbkdf2.ensures.1 (subst (λ (n : ℕ). HasPbkdf2 (content copy.meta) n) (sym c.like-like.ensures) derived)))
+-- the keyslot is there, by the area that is found for one like it
+pub returns-then-not-is_there-clause-refused : goal.returns-then-not-is_there-clause-refused
+returns-then-not-is_there-clause-refused c = λ v payload e x total.
+    let slot = c.requires.placed.blocks.slot in
+    let there : IsThere (content c.args.copy.meta) (like_of c.args.sealing.now.keyslot) = record { object = slot.object; there = slot.there } in
+    absurd (false≢true (sym c.if-not-is_there.true ∙ c.is_there.ensures.1 (subst (λ (n : ℕ). IsThere (content c.args.copy.meta) n) (sym c.like-like.ensures) there)))
 
 pub made_metadata-requires-clause-suits : goal.made_metadata-requires-clause-suits
 made_metadata-requires-clause-suits c =
-    let copy = c.args.copy.now in
+    let copy = c.args.copy in
     let sealing = c.args.sealing.now in
-    let derived = subst (λ (n : ℕ). HasPbkdf2 (content copy.meta) n) c.like-like.ensures (c.has_pbkdf2.ensures.0 c.if-not-has_pbkdf2.false) in
+    let there = subst (λ (n : ℕ). IsThere (content copy.meta) n) c.like-like.ensures (c.is_there.ensures.0 c.if-not-is_there.false) in
     placed_suits (area_len copy.meta) (content copy.meta) c.args.total (like_of sealing.keyslot) sealing.area sealing.iterations c.keyslot_salt-salt.result
-    c.requires.placed derived c.requires.iterated c.keyslot_salt-salt.ensures.long
+    c.requires.placed there c.requires.iterated c.keyslot_salt-salt.ensures.long
 
 pub returns-in_err-json-clause-refused : goal.returns-in_err-json-clause-refused
 returns-in_err-json-clause-refused c = λ v payload e x total.
-    let copy = c.args.copy.now in
+    let copy = c.args.copy in
     let sealing = c.args.sealing.now in
     let random = c.args.random.now in
     let new = content c.in_ok-meta.meta in
@@ -48,7 +48,7 @@ returns-in_err-json-clause-refused c = λ v payload e x total.
 
 pub returns-clause-unrefused : goal.returns-clause-unrefused
 returns-clause-unrefused c = λ v payload e x total.
-    let copy = c.args.copy.now in
+    let copy = c.args.copy in
     let sealing = c.args.sealing.now in
     let random = c.args.random.now in
     let new = content c.in_ok-meta.meta in
@@ -61,7 +61,7 @@ returns-clause-unrefused c = λ v payload e x total.
 
 pub returns-clause-edited : goal.returns-clause-edited
 returns-clause-edited c = λ v payload e x total.
-    let copy = c.args.copy.now in
+    let copy = c.args.copy in
     let sealing = c.args.sealing.now in
     let random = c.args.random.now in
     let used = placed_used (area_len copy.meta) (content copy.meta) c.args.total (like_of sealing.keyslot) sealing.area c.requires.placed in

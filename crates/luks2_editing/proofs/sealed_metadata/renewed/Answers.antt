@@ -7,10 +7,10 @@ use Rattle.luks2_editing.proofs.sealed_metadata.renewed.Goals as goal
 pub returns-in-Ok-clause-made : goal.returns-in-Ok-clause-made
 returns-in-Ok-clause-made c =
     let f = new_members c.args.new.now in
-    let j = content c.args.meta.now in
+    let j = content c.args.meta in
     let is = c.in-Ok.ensures.value in
     record {
       is = is;
       changes = subst (λ k. ChangesSlot c.args.slot f j k) (sym is)
-          (c.change_keeps_the_rest.ensures.rest (area_len c.args.meta.now) c.args.slot f j c.args.meta.now.held c.requires c.new_fits.ensures);
+          (c.change_keeps_the_rest.ensures.rest (area_len c.args.meta) c.args.slot f j c.args.meta.held c.requires c.new_fits.ensures);
     }

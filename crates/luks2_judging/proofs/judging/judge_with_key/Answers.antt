@@ -1,7 +1,9 @@
-use Rattle.std.proofs.Common.{◌≡◌, refl, sym, ◌∙◌, subst}
+use Rattle.std.proofs.Common.{◌≡◌, ◌<◌, refl, sym, ◌∙◌, subst}
 use Rattle.std.proofs.lemmas.Result.{err_from_is_err_and}
 use Rattle.luks_meta.specs.Content.{content}
 use Rattle.luks_edit.specs.declared.edit.Edit.TheVariants.{Add, Change}
+use Rattle.luks_edit.specs.Asked.{HasShortPassphrases}
+use Rattle.luks_edit.proofs.AllowedMemory.{short_where_allowed}
 use Rattle.luks_meta.specs.declared.meta.Meta.{Meta}
 use Rattle.luks2_edits.specs.Metadata.{IsInUse}
 use Rattle.luks2_judging.proofs.KeyslotFacts.{used_of}
@@ -16,13 +18,13 @@ returns-in_err-key-in-Add-clause-refused g c = λ tells is payload well judged.
     (g.met.D.Device.sized c.args.device.now tells ∙ sym c.requires.total ∙ sym c.room-room.ensures.total) judged in
     let p = err_from_is_err_and c.from_residual.result c.from_residual.ensures.1 in
     rw (p.1, p.2)
-    (unopened_refused read c.in_err-key-in-Add.field-0.0 (c.in_err-key-in-Add.ensures.refused tells is payload c.args.edit.now well
+    (unopened_refused read c.in_err-key-in-Add.field-0.0 (c.in_err-key-in-Add.ensures.refused tells is payload c.args.edit.now well (sym c.allowed_memory-memory.ensures)
     (opens_as _ _ _ _ c.in-Add.is (refl, refl))))
 
 pub judge_addition-requires-clause-there : goal.judge_addition-requires-clause-there
 judge_addition-requires-clause-there g c =
     subst (λ (m : Meta). IsInUse (content m) c.in-Add.by_) (sym c.room-room.ensures.meta)
-    (used_of (content c.args.accepted.now.copy.now.meta) c.args.edit.now c.in-Add.by_ c.in-Add.old.now (opens_as _ _ _ _ c.in-Add.is (refl, refl)) c.requires.there)
+    (used_of (content c.args.accepted.now.copy.now.meta) c.args.edit.now c.in-Add.by_ c.in-Add.old.bytes.now (opens_as _ _ _ _ c.in-Add.is (refl, refl)) c.requires.there)
 
 pub returns-in_err-addition-in-Add-clause-refused : goal.returns-in_err-addition-in-Add-clause-refused
 returns-in_err-addition-in-Add-clause-refused g c = λ tells is payload well judged.
@@ -30,7 +32,7 @@ returns-in_err-addition-in-Add-clause-refused g c = λ tells is payload well jud
     (g.met.D.Device.sized c.args.device.now tells ∙ sym c.requires.total ∙ sym c.room-room.ensures.total) judged in
     let p = err_from_is_err_and c.from_residual-in_err-addition-in-Add.result c.from_residual-in_err-addition-in-Add.ensures.1 in
     rw (p.1, p.2)
-    (unadded_refused read (c.in_ok-key-in-Add.ensures.opened tells is c.args.edit.now (opens_as _ _ _ _ c.in-Add.is (refl, refl))).past c.in-Add.is c.in_err-addition-in-Add.field-0.0
+    (unadded_refused read (c.in_ok-key-in-Add.ensures.opened tells is c.args.edit.now (sym c.allowed_memory-memory.ensures) (opens_as _ _ _ _ c.in-Add.is (refl, refl))).past c.in-Add.is c.in_err-addition-in-Add.field-0.0
     (c.in_err-addition-in-Add.ensures.refused payload read.lists))
 
 pub returns-in_err-key-in-Change-clause-refused : goal.returns-in_err-key-in-Change-clause-refused
@@ -39,13 +41,13 @@ returns-in_err-key-in-Change-clause-refused g c = λ tells is payload well judge
     (g.met.D.Device.sized c.args.device.now tells ∙ sym c.requires.total ∙ sym c.room-room.ensures.total) judged in
     let p = err_from_is_err_and c.from_residual-in_err-key-in-Change.result c.from_residual-in_err-key-in-Change.ensures.1 in
     rw (p.1, p.2)
-    (unopened_refused read c.in_err-key-in-Change.field-0.0 (c.in_err-key-in-Change.ensures.refused tells is payload c.args.edit.now well
+    (unopened_refused read c.in_err-key-in-Change.field-0.0 (c.in_err-key-in-Change.ensures.refused tells is payload c.args.edit.now well (sym c.allowed_memory-memory.ensures)
     (opens_as _ _ _ _ c.in-Change.is (refl, refl))))
 
 pub judge_renewal-requires-clause-there : goal.judge_renewal-requires-clause-there
 judge_renewal-requires-clause-there g c =
     subst (λ (m : Meta). IsInUse (content m) c.in-Change.slot) (sym c.room-room.ensures.meta)
-    (used_of (content c.args.accepted.now.copy.now.meta) c.args.edit.now c.in-Change.slot c.in-Change.old.now (opens_as _ _ _ _ c.in-Change.is (refl, refl)) c.requires.there)
+    (used_of (content c.args.accepted.now.copy.now.meta) c.args.edit.now c.in-Change.slot c.in-Change.old.bytes.now (opens_as _ _ _ _ c.in-Change.is (refl, refl)) c.requires.there)
 
 pub returns-in_err-renewal-in-Change-clause-refused : goal.returns-in_err-renewal-in-Change-clause-refused
 returns-in_err-renewal-in-Change-clause-refused g c = λ tells is payload well judged.
@@ -53,7 +55,7 @@ returns-in_err-renewal-in-Change-clause-refused g c = λ tells is payload well j
     (g.met.D.Device.sized c.args.device.now tells ∙ sym c.requires.total ∙ sym c.room-room.ensures.total) judged in
     let p = err_from_is_err_and c.from_residual-in_err-renewal-in-Change.result c.from_residual-in_err-renewal-in-Change.ensures.1 in
     rw (p.1, p.2)
-    (unchanged_refused read (c.in_ok-key-in-Change.ensures.opened tells is c.args.edit.now (opens_as _ _ _ _ c.in-Change.is (refl, refl))).past c.in-Change.is c.in_err-renewal-in-Change.field-0.0
+    (unchanged_refused read (c.in_ok-key-in-Change.ensures.opened tells is c.args.edit.now (sym c.allowed_memory-memory.ensures) (opens_as _ _ _ _ c.in-Change.is (refl, refl))).past c.in-Change.is c.in_err-renewal-in-Change.field-0.0
     (c.in_err-renewal-in-Change.ensures.refused payload read.lists))
 
 pub returns-in_err-_key-in-Remove-clause-refused : goal.returns-in_err-_key-in-Remove-clause-refused
@@ -62,7 +64,7 @@ returns-in_err-_key-in-Remove-clause-refused g c = λ tells is payload well judg
     (g.met.D.Device.sized c.args.device.now tells ∙ sym c.requires.total ∙ sym c.room-room.ensures.total) judged in
     let p = err_from_is_err_and c.from_residual-in_err-_key-in-Remove.result c.from_residual-in_err-_key-in-Remove.ensures.1 in
     rw (p.1, p.2)
-    (unopened_refused read c.in_err-_key-in-Remove.field-0.0 (c.in_err-_key-in-Remove.ensures.refused tells is payload c.args.edit.now well
+    (unopened_refused read c.in_err-_key-in-Remove.field-0.0 (c.in_err-_key-in-Remove.ensures.refused tells is payload c.args.edit.now well (sym c.allowed_memory-memory.ensures)
     (opens_as _ _ _ _ c.in-Remove.is (refl, refl))))
 
 pub returns-in_err-judge_last-in-Remove-clause-refused : goal.returns-in_err-judge_last-in-Remove-clause-refused
@@ -72,13 +74,13 @@ returns-in_err-judge_last-in-Remove-clause-refused g c = λ tells is payload wel
     let p = err_from_is_err_and c.from_residual-in_err-judge_last-in-Remove.result c.from_residual-in_err-judge_last-in-Remove.ensures.1 in
     rw (p.1, p.2)
     rw c.in_err-judge_last-in-Remove.ensures.0
-    (last_refused read (c.in_ok-_key-in-Remove.ensures.opened tells is c.args.edit.now (opens_as _ _ _ _ c.in-Remove.is (refl, refl))).past c.in-Remove.is c.in_err-judge_last-in-Remove.ensures.1)
+    (last_refused read (c.in_ok-_key-in-Remove.ensures.opened tells is c.args.edit.now (sym c.allowed_memory-memory.ensures) (opens_as _ _ _ _ c.in-Remove.is (refl, refl))).past c.in-Remove.is c.in_err-judge_last-in-Remove.ensures.1)
 
 pub returns-in_ok-addition-in-Add-clause-seals : goal.returns-in_ok-addition-in-Add-clause-seals
 returns-in_ok-addition-in-Add-clause-seals g c = λ tells is payload judged.
     let read = read_as c.room-room.ensures.meta c.room-room.ensures.entries
     (g.met.D.Device.sized c.args.device.now tells ∙ sym c.requires.total ∙ sym c.room-room.ensures.total) judged in (
-      (c.in_ok-key-in-Add.ensures.opened tells is c.args.edit.now (opens_as _ _ _ _ c.in-Add.is (refl, refl))).gives,
+      (c.in_ok-key-in-Add.ensures.opened tells is c.args.edit.now (sym c.allowed_memory-memory.ensures) (opens_as _ _ _ _ c.in-Add.is (refl, refl))).gives,
       placed_of read c.room-room.ensures.meta (c.in_ok-addition-in-Add.ensures.area payload read.lists),
     )
 
@@ -89,14 +91,14 @@ returns-in_ok-addition-in-Add-clause-passed g c = λ tells is payload judged.
     let added = c.in_ok-addition-in-Add.addition in
     let asked : c.args.edit.now ≡ Add added.by_ c.in-Add.old c.in-Add.new c.in-Add.to added.iterations =
     rw (c.in_ok-addition-in-Add.ensures.like, c.in_ok-addition-in-Add.ensures.iterations) c.in-Add.is in
-    added_passed read (c.in_ok-key-in-Add.ensures.opened tells is c.args.edit.now (opens_as _ _ _ _ c.in-Add.is (refl, refl))).past asked
+    added_passed read (c.in_ok-key-in-Add.ensures.opened tells is c.args.edit.now (sym c.allowed_memory-memory.ensures) (opens_as _ _ _ _ c.in-Add.is (refl, refl))).past asked
     c.in_ok-addition-in-Add.ensures.number c.in_ok-addition-in-Add.ensures.iterated (c.in_ok-addition-in-Add.ensures.area payload read.lists)
 
 pub returns-in_ok-renewal-in-Change-clause-seals : goal.returns-in_ok-renewal-in-Change-clause-seals
 returns-in_ok-renewal-in-Change-clause-seals g c = λ tells is payload judged.
     let read = read_as c.room-room.ensures.meta c.room-room.ensures.entries
     (g.met.D.Device.sized c.args.device.now tells ∙ sym c.requires.total ∙ sym c.room-room.ensures.total) judged in (
-      (c.in_ok-key-in-Change.ensures.opened tells is c.args.edit.now (opens_as _ _ _ _ c.in-Change.is (refl, refl))).gives,
+      (c.in_ok-key-in-Change.ensures.opened tells is c.args.edit.now (sym c.allowed_memory-memory.ensures) (opens_as _ _ _ _ c.in-Change.is (refl, refl))).gives,
       placed_of read c.room-room.ensures.meta (c.in_ok-renewal-in-Change.ensures.area payload read.lists),
     )
 
@@ -107,14 +109,14 @@ returns-in_ok-renewal-in-Change-clause-passed g c = λ tells is payload judged.
     let renewed = c.in_ok-renewal-in-Change.renewal in
     let asked : c.args.edit.now ≡ Change renewed.slot c.in-Change.old c.in-Change.new renewed.iterations =
     rw (c.in_ok-renewal-in-Change.ensures.slot, c.in_ok-renewal-in-Change.ensures.iterations) c.in-Change.is in
-    changed_passed read (c.in_ok-key-in-Change.ensures.opened tells is c.args.edit.now (opens_as _ _ _ _ c.in-Change.is (refl, refl))).past asked
+    changed_passed read (c.in_ok-key-in-Change.ensures.opened tells is c.args.edit.now (sym c.allowed_memory-memory.ensures) (opens_as _ _ _ _ c.in-Change.is (refl, refl))).past asked
     c.in_ok-renewal-in-Change.ensures.iterated (c.in_ok-renewal-in-Change.ensures.area payload read.lists)
 
 pub returns-in_ok-judge_last-in-Remove-clause-takes : goal.returns-in_ok-judge_last-in-Remove-clause-takes
 returns-in_ok-judge_last-in-Remove-clause-takes g c = record {
   passphrase = c.in-Remove.passphrase;
   asked = c.in-Remove.is;
-  there = used_of (content c.args.accepted.now.copy.now.meta) c.args.edit.now c.in-Remove.slot c.in-Remove.passphrase.now
+  there = used_of (content c.args.accepted.now.copy.now.meta) c.args.edit.now c.in-Remove.slot c.in-Remove.passphrase.bytes.now
       (opens_as _ _ _ _ c.in-Remove.is (refl, refl)) c.requires.there;
 }
 
@@ -122,7 +124,7 @@ pub returns-in_ok-judge_last-in-Remove-clause-passed : goal.returns-in_ok-judge_
 returns-in_ok-judge_last-in-Remove-clause-passed g c = λ tells is payload judged.
     let read = read_as c.room-room.ensures.meta c.room-room.ensures.entries
     (g.met.D.Device.sized c.args.device.now tells ∙ sym c.requires.total ∙ sym c.room-room.ensures.total) judged in
-    removed_passed read (c.in_ok-_key-in-Remove.ensures.opened tells is c.args.edit.now (opens_as _ _ _ _ c.in-Remove.is (refl, refl))).past
+    removed_passed read (c.in_ok-_key-in-Remove.ensures.opened tells is c.args.edit.now (sym c.allowed_memory-memory.ensures) (opens_as _ _ _ _ c.in-Remove.is (refl, refl))).past
     c.in-Remove.is c.in_ok-judge_last-in-Remove.ensures
 
 pub returns-in-Repair-clause-passed : goal.returns-in-Repair-clause-passed
@@ -142,3 +144,15 @@ returns-in-Label-clause-refused g c = λ tells is payload well judged.
     let read = read_as c.room-room.ensures.meta c.room-room.ensures.entries
     (g.met.D.Device.sized c.args.device.now tells ∙ sym c.requires.total ∙ sym c.room-room.ensures.total) judged in
     label_ended read c.in-Label.is c.judge_label.result c.judge_label.ensures.row
+
+pub unlock-requires-clause-passphrase : goal.unlock-requires-clause-passphrase
+unlock-requires-clause-passphrase g c = λ some.
+    (subst HasShortPassphrases c.in-Add.is (short_where_allowed c.args.edit.now (subst (λ m. 0 < m) c.allowed_memory-memory.ensures some))).0
+
+pub unlock-requires-in-Change-clause-passphrase : goal.unlock-requires-in-Change-clause-passphrase
+unlock-requires-in-Change-clause-passphrase g c = λ some.
+    (subst HasShortPassphrases c.in-Change.is (short_where_allowed c.args.edit.now (subst (λ m. 0 < m) c.allowed_memory-memory.ensures some))).0
+
+pub unlock-requires-in-Remove-clause-passphrase : goal.unlock-requires-in-Remove-clause-passphrase
+unlock-requires-in-Remove-clause-passphrase g c = λ some.
+    subst HasShortPassphrases c.in-Remove.is (short_where_allowed c.args.edit.now (subst (λ m. 0 < m) c.allowed_memory-memory.ensures some))

@@ -48,7 +48,7 @@ returns-in_ok-new_number-in-Add-clause-tells c = λ v is size.
     (new_untaken (content copy.meta) c.in-Add.to c.in_ok-new_number-in-Add.field-0 c.in_ok-new_number-in-Add.ensures)
     (new_numbered (content copy.meta) c.in-Add.to c.in_ok-new_number-in-Add.field-0 c.in_ok-new_number-in-Add.ensures)
     (λ there. c.sealed_need.ensures (used_of (content copy.meta) (Add c.in-Add.by_ c.in-Add.old c.in-Add.new c.in-Add.to c.in-Add.iterations)
-    c.in-Add.by_ c.in-Add.old.now (refl, refl) there))
+    c.in-Add.by_ c.in-Add.old.bytes.now (refl, refl) there))
 
 pub returns-in-Change-clause-tells : goal.returns-in-Change-clause-tells
 returns-in-Change-clause-tells c = λ v is size.
@@ -56,7 +56,7 @@ returns-in-Change-clause-tells c = λ v is size.
     let a = accepted_copy c.in_ok-copy.ensures.copy is (c.in_ok-copy.ensures.well v is size) in
     need_as c.in-Change.is a c.in_ok-judge_requirements.ensures c.in_ok-judge_opener.ensures c.sealed_need-in-Change.result (λ x. x) (λ x. x)
     (λ there. c.sealed_need-in-Change.ensures (used_of (content copy.meta) (Change c.in-Change.slot c.in-Change.old c.in-Change.new c.in-Change.iterations)
-    c.in-Change.slot c.in-Change.old.now (refl, refl) there))
+    c.in-Change.slot c.in-Change.old.bytes.now (refl, refl) there))
 
 pub returns-in-Remove-clause-tells : goal.returns-in-Remove-clause-tells
 returns-in-Remove-clause-tells c = λ v is size.

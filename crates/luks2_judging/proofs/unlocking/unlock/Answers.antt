@@ -1,21 +1,28 @@
-use Rattle.std.proofs.Common.{subst}
+use Rattle.std.proofs.Common.{◌≡◌, ◌∙◌, subst, sym}
 use Rattle.luks_meta.specs.Content.{content}
-use Rattle.luks_reading.specs.Answer.{Answer, opened_to}
+use Rattle.luks_reading.specs.declared.open_fault.OpenFault.TheVariants.{Memory}
+use Rattle.luks_reading.specs.Answer.{AnswerWithin, IsRefusedByWithin, opened_to, opens, TakesMemory}
 use Rattle.luks2_judging.proofs.ChosenFacts.{copy_in, copy_of_header, metadata_of}
-use Rattle.luks2_judging.proofs.OpenerFacts.{opens_by, unopened_by}
+use Rattle.luks2_judging.proofs.OpenerFacts.{opens_by, unopened_by, wanting_of}
 use Rattle.luks2_judging.proofs.unlocking.unlock.Goals as goal
 
 pub returns-in-Some-clause-opened : goal.returns-in-Some-clause-opened
-returns-in-Some-clause-opened g c = λ tells is e asked.
+returns-in-Some-clause-opened g c = λ tells is e same asked.
     let v = g.D.Device.bytes c.args.device.now in
     opens_by v e c.args.n c.args.passphrase.now asked c.in-Some.key
-    (subst (λ o. Answer v c.args.n c.args.passphrase.now (opened_to o)) c.in-Some.is (c.in-Ok.ensures.opens tells is))
+    (subst (λ m. AnswerWithin m v c.args.n c.args.passphrase.now (opens c.in-Some.key)) (sym same)
+    (subst (λ o. AnswerWithin c.args.memory v c.args.n c.args.passphrase.now (opened_to o)) c.in-Some.is (c.in-Ok.ensures.opens tells is)))
 
 pub returns-in-Err-clause-refused : goal.returns-in-Err-clause-refused
-returns-in-Err-clause-refused g c = λ tells is payload e well asked there.
+returns-in-Err-clause-refused g c = λ tells is payload e well same asked there.
     let v = g.D.Device.bytes c.args.device.now in
     let h = copy_of_header c.args.header.now c.requires.luks2 in
     let x = copy_in v c.args.header.now h.0 h.1 is in
     rw c.unopened.ensures
     (unopened_by v e c.args.n c.args.passphrase.now asked h.0.header.hdr_offset (content h.0.meta) (metadata_of v h.0 x) payload well there
-    c.in-Err.fault (c.in-Err.ensures.refused tells is) c.in-Err.ensures.memory)
+    c.in-Err.fault (subst (λ m. IsRefusedByWithin m v c.args.n c.args.passphrase.now c.in-Err.fault) (sym same) (c.in-Err.ensures.refused tells is))
+    (subst (λ m. c.in-Err.fault ≡ Memory → TakesMemory m v c.args.n) (sym same) (c.in-Err.ensures.memory tells is)))
+
+pub returns-in-Err-clause-memory : goal.returns-in-Err-clause-memory
+returns-in-Err-clause-memory g c = λ tells is wants.
+    c.in-Err.ensures.memory tells is (wanting_of c.args.n c.in-Err.fault (sym c.unopened.ensures ∙ wants))

@@ -18,10 +18,10 @@ returns c =
     let sound : (v : List ℕ) (payload : Data) → WellFormed v payload → (f : CheckFault) → IsFault v payload f → ⊥ = λ v payload. (c.no_fault_is_well_formed.ensures v payload).0 in
     record {
       luks1 = λ v payload e random.
-          first_refusal1_or_unrefused only one digest salts area v payload (checked v payload) (sound v payload) (same v) (answer v) e random;
+          first_refusal1_or_unrefused only one digest salts area v payload (checked v payload) (sound v payload) (λ m. same m v) (λ m. answer m v) e random;
       luks2 = λ v payload e random.
-          first_refusal2_or_unrefused only one digest salts area v payload (checked v payload) (sound v payload) (same v) (answer v) e random;
+          first_refusal2_or_unrefused only one digest salts area v payload (checked v payload) (sound v payload) (λ m. same m v) (λ m. answer m v) e random;
       volume = λ v payload e random.
-          first_refusal_or_unrefused only one digest salts area v payload (checked v payload) (sound v payload) (same v) (answer v) e random
+          first_refusal_or_unrefused only one digest salts area v payload (checked v payload) (sound v payload) (λ m. same m v) (λ m. answer m v) e random
           (c.one_choice.ensures.some v);
     }

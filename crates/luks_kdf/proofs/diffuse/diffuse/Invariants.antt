@@ -5,5 +5,5 @@ use Rattle.luks_kdf.proofs.diffuse.diffuse.Given as goal
 -- the blocks so far are diffused, and the bytes after them are as before
 abbrev pub invariant-loop-j : goal.invariant-loop-j
 invariant-loop-j g l =
-    l.bytes ≡ diffused_blocks g.H.HashFn.digest g.H.HashFn.LEN l.initial.bytes l.j
-    ++ drop (l.j * g.H.HashFn.LEN) l.initial.bytes
+    l.bytes ≡ diffused_blocks g.H.HashFn.digest g.H.HashFn.LEN l.fn.bytes l.j
+    ++ drop (l.j * g.H.HashFn.LEN) l.fn.bytes

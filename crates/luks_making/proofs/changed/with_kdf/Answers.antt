@@ -2,11 +2,11 @@ use Rattle.std.proofs.Common.{codes, sym}
 use Rattle.serde_json.specs.View.{view}
 use Rattle.luks_making.specs.Changed.{renewed_kdf}
 use Rattle.luks_making.specs.Keyslots.{new_members}
-use Rattle.luks_making.proofs.PutFacts.{none_ok}
+use Rattle.luks_making.proofs.TakenFacts.{none_taken}
 use Rattle.luks_making.proofs.changed.with_kdf.Goals as goal
 
 pub returns-in_ok-changed-in-Some : goal.returns-in_ok-changed-in-Some
-returns-in_ok-changed-in-Some c = c.with_member.ensures (renewed_kdf (new_members c.args.new.now)) (view c.in-Some.kdf.now) (sym c.in-Some.ensures) c.in_ok-changed-in-Some.ensures
+returns-in_ok-changed-in-Some c = c.with_member.ensures (renewed_kdf (new_members c.args.new.now)) (view c.args.keyslot) (view c.in-Some.kdf) c.take_member.ensures.left (sym c.in-Some.ensures.taken) c.in_ok-changed-in-Some.ensures
 
 pub returns-in-None : goal.returns-in-None
-returns-in-None c = none_ok c.clone.result _ (codes "kdf") (renewed_kdf (new_members c.args.new.now)) (view c.args.keyslot.now) (sym c.in-None.ensures) c.clone.ensures.cases
+returns-in-None c = none_taken (codes "kdf") (renewed_kdf (new_members c.args.new.now)) (view c.args.keyslot) _ c.in-None.ensures.taken c.take_member.ensures.left

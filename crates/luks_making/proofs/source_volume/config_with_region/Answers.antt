@@ -5,4 +5,4 @@ use Rattle.luks_making.proofs.PutFacts.{same_ok, text_view}
 use Rattle.luks_making.proofs.source_volume.config_with_region.Goals as goal
 
 pub returns : goal.returns
-returns c = same_ok c.set_member.result _ _ (ap (λ t. set_member (codes "keyslots_size") t (view c.args.config.now)) (text_view _ _ c.in_ok-size.ensures.ok)) c.set_member.ensures
+returns c = same_ok c.set_member.result _ _ (ap (λ t. set_member (codes "keyslots_size") t (view c.args.config)) (text_view _ _ c.in_ok-size.ensures.ok)) c.set_member.ensures

@@ -7,4 +7,4 @@ use Rattle.luks_making.proofs.without.each_without_name.Given as goal
 
 abbrev pub invariant-loop-key : goal.invariant-loop-key
 invariant-loop-key l =
-    (done : List Entry) × (l.members.entries ≡ done ++ l.key-iterator) × (members_view l.copies.entries ≡ each_member (without_name l.name) (members_view done))
+    (done : List Entry) × (l.fn.members.entries ≡ done ++ l.key-iterator) × (members_view l.changed.entries ≡ each_member (without_name l.name) (members_view done))

@@ -7,6 +7,6 @@ use Rattle.luks_meta_tests.proofs.SealFacts.{can_seal}
 -- src/making.rt: suits
 pub returns : goal.returns
 returns c fits = can_seal (area_len c.args.meta.now) (content c.args.meta.now) c.args.number (new_members c.args.new.now)
-    c.in-Some.keyslot c.in-Pbkdf2.field-0 c.config-region.result
-    (search rules) c.in-Some.ensures.some (search rules) c.config-region.ensures
+    c.in-Some.keyslot c.config-region.result
+    (search rules) c.in-Some.ensures.some c.config-region.ensures
     (search rules) (search rules) (search rules) (search rules) (search rules) (search rules)

@@ -3,6 +3,6 @@ use Rattle.luks_new_meta.proofs.metadata.without_slot.Goals as goal
 
 pub of_value-requires : goal.of_value-requires
 of_value-requires c =
-    let meta = c.args.meta.now in
-    rw c.area_len.ensures (rw c.in_ok-value.ensures (rw c.value.ensures (
+    let meta = c.args.meta in
+    rw c.area_len-len.ensures (rw c.in_ok-value.ensures (rw c.into_value.ensures (
     c.removal_keeps_the_rest.ensures.held (area_len meta) c.args.number (content meta) meta.held)))

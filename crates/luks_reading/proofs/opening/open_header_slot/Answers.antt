@@ -4,10 +4,11 @@ use Rattle.std.proofs.lemmas.Result.{IfErr-weaker, IfOk-weaker}
 use Rattle.luks_head.specs.Header2.{header_at}
 use Rattle.luks_head.specs.Selection.{luks1, luks2}
 use Rattle.luks_reading.specs.Luks1Keyslots.{Luks1Opens, Luks1Refused}
-use Rattle.luks_reading.specs.Luks2Keyslots.{Luks2Refused}
+use Rattle.luks_reading.specs.Luks2Keyslots.{Luks2Refused, Luks2TakesMemory}
 use Rattle.luks_reading.specs.Header.{json_at, IsHeader}
-use Rattle.luks_reading.proofs.KeyslotAnswers.{luks1_opens, luks1_refused, luks2_opens, luks2_refused}
+use Rattle.luks_reading.proofs.KeyslotAnswers.{luks1_opens, luks1_refused, luks2_opens, luks2_refused, luks2_takes}
 use Rattle.luks_reading.proofs.ReadFaults.{cleared_copy}
+use Rattle.luks_reading.proofs.TriedKeyslots.{luks1_own}
 use Rattle.luks_reading.proofs.opening.open_header_slot.Goals as goal
 
 pub returns-in-Luks1-clause-opens : goal.returns-in-Luks1-clause-opens
@@ -17,7 +18,7 @@ returns-in-Luks1-clause-opens g c = λ tells is.
     let p = c.args.passphrase.now in
     let chosen = subst (IsHeader v) c.in-Luks1.is is in
     IfOk-weaker c.open_luks1.result _ _ (λ found opens.
-    luks1_opens v n p found chosen.0 (subst (λ (h : List ℕ). Luks1Opens h v n p found) (c.as_slice.ensures ∙ chosen.1) opens))
+    luks1_opens c.args.memory v n p found chosen.0 (subst (λ (h : List ℕ). Luks1Opens h v n p found) (c.as_slice.ensures ∙ chosen.1) opens))
     (c.open_luks1.ensures.opens tells)
 
 pub returns-in-Luks1-clause-refused : goal.returns-in-Luks1-clause-refused
@@ -27,7 +28,7 @@ returns-in-Luks1-clause-refused g c = λ tells is.
     let chosen = subst (IsHeader v) c.in-Luks1.is is in
     let long : g.D.Device.size c.args.device.now ≡ length v = sym (g.met.D.Device.sized c.args.device.now tells) in
     IfErr-weaker c.open_luks1.result _ _ (λ fault refused.
-    luks1_refused v n c.args.passphrase.now fault chosen.0 (λ d. c.one_choice.ensures.only v luks1 d chosen.0)
+    luks1_refused c.args.memory v n c.args.passphrase.now fault chosen.0 (λ d. c.one_choice.ensures.only v luks1 d chosen.0)
     (subst (λ (h : List ℕ). Luks1Refused h (length v) n fault) (c.as_slice.ensures ∙ chosen.1)
     (subst (λ (m : ℕ). Luks1Refused c.as_slice.result.now m n fault) long refused)))
     c.open_luks1.ensures.refused
@@ -39,7 +40,7 @@ returns-in-Luks2-clause-opens g c = λ tells is.
     let o = c.in-Luks2.copy.header.hdr_offset in
     let cleared = cleared_copy c.luks2_without_faults.ensures.uuid c.metadata_without_faults.ensures v c.in-Luks2.copy copy in
     IfOk-weaker c.open_luks2.result _ _ (λ found opens.
-    luks2_opens v c.args.n c.args.passphrase.now o c.in-Luks2.copy.copies found copy.chosen opens)
+    luks2_opens c.args.memory v c.args.n c.args.passphrase.now o c.in-Luks2.copy.copies found copy.chosen opens)
     (c.open_luks2.ensures.opens tells (header_at v o) (json_at v o) cleared)
 
 pub returns-in-Luks2-clause-refused : goal.returns-in-Luks2-clause-refused
@@ -52,6 +53,30 @@ returns-in-Luks2-clause-refused g c = λ tells is.
     let cleared = cleared_copy c.luks2_without_faults.ensures.uuid c.metadata_without_faults.ensures v c.in-Luks2.copy copy in
     let long : g.D.Device.size c.args.device.now ≡ length v = sym (g.met.D.Device.sized c.args.device.now tells) in
     IfErr-weaker c.open_luks2.result _ _ (λ fault refused.
-    luks2_refused v n c.args.passphrase.now o copies fault copy.chosen (λ d. c.one_choice.ensures.only v (luks2 o copies) d copy.chosen)
-    (subst (λ (m : ℕ). Luks2Refused (header_at v o) (json_at v o) m n fault) long refused))
+    luks2_refused c.args.memory v n c.args.passphrase.now o copies fault copy.chosen (λ d. c.one_choice.ensures.only v (luks2 o copies) d copy.chosen)
+    (record { place = o; copies = copies; chosen = copy.chosen; uuid = cleared.uuid_faultless })
+    (subst (λ (m : ℕ). Luks2Refused c.args.memory (header_at v o) (json_at v o) m n fault) long refused))
+    (c.open_luks2.ensures.refused (header_at v o) (json_at v o) cleared)
+
+pub returns-in-Luks1-clause-memory : goal.returns-in-Luks1-clause-memory
+returns-in-Luks1-clause-memory g c = λ tells is.
+    IfErr-weaker c.open_luks1.result _ _ (λ fault refused e. absurd (luks1_own c.as_slice.result.now (g.D.Device.size c.args.device.now) c.args.n fault refused e))
+    c.open_luks1.ensures.refused
+
+pub returns-in-Luks1-clause-no_memory : goal.returns-in-Luks1-clause-no_memory
+returns-in-Luks1-clause-no_memory g c = λ none.
+    IfErr-weaker c.open_luks1.result _ _ (λ fault refused e. luks1_own c.as_slice.result.now (g.D.Device.size c.args.device.now) c.args.n fault refused e)
+    c.open_luks1.ensures.refused
+
+pub returns-in-Luks2-clause-memory : goal.returns-in-Luks2-clause-memory
+returns-in-Luks2-clause-memory g c = λ tells is.
+    let v = g.D.Device.bytes c.args.device.now in
+    let n = c.args.n in
+    let copy = subst (IsHeader v) c.in-Luks2.is is in
+    let o = c.in-Luks2.copy.header.hdr_offset in
+    let cleared = cleared_copy c.luks2_without_faults.ensures.uuid c.metadata_without_faults.ensures v c.in-Luks2.copy copy in
+    let long : g.D.Device.size c.args.device.now ≡ length v = sym (g.met.D.Device.sized c.args.device.now tells) in
+    IfErr-weaker c.open_luks2.result _ _ (λ fault refused e.
+    luks2_takes c.args.memory v n o c.in-Luks2.copy.copies copy.chosen
+    (subst (λ (m : ℕ). Luks2TakesMemory c.args.memory (header_at v o) (json_at v o) m n) long (refused.1 e)))
     (c.open_luks2.ensures.refused (header_at v o) (json_at v o) cleared)

@@ -1,10 +1,11 @@
 -- Each exit is the first refusal of its step, or the answer of the keyslot's plan.
-use Rattle.std.proofs.Common.{◌∙◌}
-use Rattle.std.proofs.lemmas.Result.{err_from_is_err_and, IfErr-weaker, IfOk-weaker}
+use Rattle.std.proofs.Common.{◌∙◌, refl}
+use Rattle.std.proofs.lemmas.Result.{err_from_is_err_and, IfOk-weaker}
 use Rattle.luks_head.specs.Header1.{entry}
 use Rattle.luks_reading.specs.Plans.{HasLuks1Plan}
 use Rattle.luks_reading.proofs.OptionFacts.{some_weaker}
 use Rattle.luks_reading.proofs.Luks1Refusals.{entry_first, plan_first, plan_opens}
+use Rattle.luks_reading.proofs.OpenFaults.{both_errs, own_of}
 use Rattle.luks_reading.proofs.opening.open_luks1_slot.Goals as goal
 
 pub returns-in_err-slot-clause-refused : goal.returns-in_err-slot-clause-refused
@@ -34,10 +35,10 @@ returns-clause-refused g c =
     let on = c.in_ok-slot.ensures.found in
     let has : HasLuks1Plan c.args.header.now c.args.n c.luks1_plan-plan.result =
     record { numbered = on.numbered; is = c.luks1_plan-plan.ensures.is c.args.header.now (entry c.args.header.now c.args.n) c.requires.common on.says } in
-    IfErr-weaker c.open_planned.result _ _ (λ fault refused own.
+    both_errs c.open_planned.result _ _ _ (λ fault refused no_memory own.
     plan_first c.args.header.now (g.D.Device.size c.args.device.now) c.args.n c.in_ok-slot.slot c.luks1_plan-plan.result
-    fault c.requires.faultless on has (refused own))
-    c.open_planned.ensures.refused
+    fault c.requires.faultless on has (refused.0 (own_of fault own no_memory)))
+    c.open_planned.ensures.refused (c.open_planned.ensures.no_memory refl)
 
 pub returns-clause-length : goal.returns-clause-length
 returns-clause-length g c =

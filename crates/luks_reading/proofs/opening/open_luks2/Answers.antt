@@ -6,7 +6,7 @@ use Rattle.luks_reading.specs.Plans.{HasLuks2Plan}
 use Rattle.luks_reading.proofs.OptionFacts.{some_weaker}
 use Rattle.luks_reading.proofs.Luks2PlanNumbers.{luks2_judged}
 use Rattle.luks_reading.proofs.Luks2Plans.{IsOnly}
-use Rattle.luks_reading.proofs.Luks2Refusals.{plan_first2, plan_opens2}
+use Rattle.luks_reading.proofs.Luks2Refusals.{plan_opens2, plan_refused2}
 use Rattle.luks_reading.proofs.opening.open_luks2.Goals as goal
 
 pub open_planned-requires-clause-judged : goal.open_planned-requires-clause-judged
@@ -32,7 +32,7 @@ returns-clause-opens g c = λ tells b json clear.
     let has : HasLuks2Plan json c.args.n c.luks2_plan-plan.result =
     record { numbered = low; value = content c.args.meta.now; holds = clear.meta.json; object = slot.object; there = slot.is; is = plan } in
     IfOk-weaker c.open_planned.result _ _ (λ found opens.
-    plan_opens2 b json (g.D.Device.bytes c.args.device.now) c.args.n (content c.args.meta.now) c.luks2_plan-plan.result c.args.passphrase.now found
+    plan_opens2 c.args.memory b json (g.D.Device.bytes c.args.device.now) c.args.n (content c.args.meta.now) c.luks2_plan-plan.result c.args.passphrase.now found
     clear only has opens)
     (c.open_planned.ensures.opens tells)
 
@@ -49,8 +49,8 @@ returns-clause-refused g c = λ b json clear.
     let plan = c.luks2_plan-plan.ensures (content c.args.meta.now) c.args.n c.unwrap-number.result slot.object digest.object slot.tells_members naming digest.is digest.tells_members in
     let has : HasLuks2Plan json c.args.n c.luks2_plan-plan.result =
     record { numbered = low; value = content c.args.meta.now; holds = clear.meta.json; object = slot.object; there = slot.is; is = plan } in
-    IfErr-weaker c.open_planned.result _ _ (λ fault refused own.
-    plan_first2 b json (g.D.Device.size c.args.device.now) c.args.n (content c.args.meta.now) c.luks2_plan-plan.result fault clear only has (refused own))
+    IfErr-weaker c.open_planned.result _ _ (λ fault refused.
+    plan_refused2 c.args.memory b json (g.D.Device.size c.args.device.now) c.args.n (content c.args.meta.now) c.luks2_plan-plan.result fault clear only has refused)
     c.open_planned.ensures.refused
 
 pub returns-clause-length : goal.returns-clause-length

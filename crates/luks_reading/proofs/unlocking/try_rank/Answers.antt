@@ -3,7 +3,7 @@ use Rattle.std.proofs.Common.{◌≡◌, ◌∙◌, ◌<◌, ℕ, List, true, Op
 use Rattle.luks_area.specs.Device.{IsUnchanged, unchanged-then}
 use Rattle.luks_meta.specs.Content.{content}
 use Rattle.luks_reading.specs.Luks2Keyslots.{Luks2Opens}
-use Rattle.luks_reading.specs.KeyslotsTried.{is_of_rank, Luks2DoesNotOpen, Luks2Tried}
+use Rattle.luks_reading.specs.KeyslotsTried.{is_of_rank, Luks2DoesNotOpen, Luks2LacksMemory, Luks2Tried}
 use Rattle.luks_reading.proofs.KeyslotOrders.{all_shut, first_shut}
 use Rattle.luks_reading.proofs.unlocking.try_rank.Goals as goal
 use Rattle.luks_reading.proofs.unlocking.try_rank.Goals.{then-is_of_rank+in-Ok-None, else-is_of_rank}
@@ -14,10 +14,10 @@ returns-in-Ok-Some-clause-tries g c = λ tells b json clear.
     let p = c.args.passphrase.now in
     let n = c.loop-n.n in
     let k = c.in-Ok-Some.key in
-    let tried = subst (λ (o : Option (List ℕ)). Luks2Tried b json (g.D.Device.bytes c.loop-n.device) n p o) c.in-Ok-Some.field-0-is (c.in-Ok-Some.ensures.tried tells b json clear) in
-    let opens = subst (λ (w : List ℕ). Luks2Opens b json w n p (Some k)) (c.loop-n.invariant.unchanged.same tells) tried in
+    let tried = subst (λ (o : Option (List ℕ)). Luks2Tried c.args.memory b json (g.D.Device.bytes c.loop-n.device) n p o) c.in-Ok-Some.field-0-is (c.in-Ok-Some.ensures.tried tells b json clear) in
+    let opens = subst (λ (w : List ℕ). Luks2Opens c.args.memory b json w n p (Some k)) (c.loop-n.invariant.unchanged.same tells) tried in
     let low : n < 32 = omega arith in
-    first_shut (Luks2DoesNotOpen b json v p) (λ m l. Luks2Opens b json v m p (Some l)) (λ m. is_of_rank c.args.rank (content c.args.meta.now) m) 32 n k low
+    first_shut (Luks2DoesNotOpen c.args.memory b json v p) (λ m l. Luks2Opens c.args.memory b json v m p (Some l)) (λ m. is_of_rank c.args.rank (content c.args.meta.now) m) 32 n k low
     (sym c.if-is_of_rank.ensures) opens (λ m lt on. c.loop-n.invariant.shut tells b json clear m lt on)
 
 pub loop-n-preserved : goal.loop-n-preserved
@@ -29,9 +29,9 @@ loop-n-preserved g c = elim c.if-is_of_rank.branch [
     shut = λ t b json clear.
         let v = g.D.Device.bytes c.args.device.now in
         let p = c.args.passphrase.now in
-        let tried = subst (λ (o : Option (List ℕ)). Luks2Tried b json (g.D.Device.bytes c.loop-n.device) c.loop-n.n p o) w.in-Ok-None.field-0-is (w.in-Ok-None.ensures.tried t b json clear) in
-        let here = subst (λ (u : List ℕ). Luks2DoesNotOpen b json u p c.loop-n.n) (c.loop-n.invariant.unchanged.same t) tried in
-        below_more (λ m. is_of_rank c.args.rank (content c.args.meta.now) m ≡ true → Luks2DoesNotOpen b json v p m) c.loop-n.n
+        let tried = subst (λ (o : Option (List ℕ)). Luks2Tried c.args.memory b json (g.D.Device.bytes c.loop-n.device) c.loop-n.n p o) w.in-Ok-None.field-0-is (w.in-Ok-None.ensures.tried t b json clear) in
+        let here = subst (λ (u : List ℕ). Luks2DoesNotOpen c.args.memory b json u p c.loop-n.n) (c.loop-n.invariant.unchanged.same t) tried in
+        below_more (λ m. is_of_rank c.args.rank (content c.args.meta.now) m ≡ true → Luks2DoesNotOpen c.args.memory b json v p m) c.loop-n.n
         (c.loop-n.invariant.shut t b json clear) (λ on. here);
   }
   | else-is_of_rank w ↦ record {
@@ -40,12 +40,16 @@ loop-n-preserved g c = elim c.if-is_of_rank.branch [
     shut = λ t b json clear.
         let v = g.D.Device.bytes c.args.device.now in
         let p = c.args.passphrase.now in
-        below_more (λ m. is_of_rank c.args.rank (content c.args.meta.now) m ≡ true → Luks2DoesNotOpen b json v p m) c.loop-n.n
+        below_more (λ m. is_of_rank c.args.rank (content c.args.meta.now) m ≡ true → Luks2DoesNotOpen c.args.memory b json v p m) c.loop-n.n
         (c.loop-n.invariant.shut t b json clear) (λ on. let off = w.if-is_of_rank.ensures in absurd (cc (off, on)));
   }
 ]
 
 pub returns-clause-tries : goal.returns-clause-tries
 returns-clause-tries g c = λ tells b json clear.
-    all_shut (Luks2DoesNotOpen b json (g.D.Device.bytes c.args.device.now) c.args.passphrase.now)
+    all_shut (Luks2DoesNotOpen c.args.memory b json (g.D.Device.bytes c.args.device.now) c.args.passphrase.now)
     (λ m. is_of_rank c.args.rank (content c.args.meta.now) m) 32 (λ m lt on. c.loop-n.invariant.shut tells b json clear m (omega arith) on)
+
+pub returns-in-Err-clause-memory : goal.returns-in-Err-clause-memory
+returns-in-Err-clause-memory g c = λ b json clear.
+    subst (λ (total : ℕ). Luks2LacksMemory c.args.memory b json total c.in-Err.fault) c.loop-n.invariant.unchanged.size (c.in-Err.ensures.memory b json clear)

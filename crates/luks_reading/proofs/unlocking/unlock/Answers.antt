@@ -1,5 +1,8 @@
 -- A header that isn't read locks the volume; and there is no other answer.
-use Rattle.std.proofs.lemmas.Result.{err_from_is_err_and}
+use Rattle.std.proofs.Common.{ℕ, List, subst}
+use Rattle.std.proofs.lemmas.Result.{err_from_is_err_and, IfErr-weaker}
+use Rattle.luks_reading.specs.Answer.{TakesMemory}
+use Rattle.luks_reading.proofs.AllowedMemory.{none_taken}
 use Rattle.luks_reading.proofs.OneUnlocking.{agrees, err_agrees}
 use Rattle.luks_reading.proofs.VolumeAnswers.{unread_locked}
 use Rattle.luks_reading.proofs.unlocking.unlock.Goals as goal
@@ -15,7 +18,7 @@ returns-in_err-header-clause-only g c = λ tells a y.
     let v = g.D.Device.bytes c.args.device.now in
     let p = err_from_is_err_and c.from_residual.result c.from_residual.ensures.1 in
     rw (p.1, p.2)
-    (err_agrees v c.args.passphrase.now (c.one_unlocking.ensures v c.args.passphrase.now) _
+    (err_agrees c.args.memory v c.args.passphrase.now (c.one_unlocking.ensures c.args.memory v c.args.passphrase.now) _
     (unread_locked v c.in_err-header.field-0.0 (c.one_choice.ensures.only v) (c.in_err-header.ensures.refused tells)) a y)
 
 pub returns-clause-only : goal.returns-clause-only
@@ -23,5 +26,14 @@ returns-clause-only g c = λ tells a y.
     let v = g.D.Device.bytes c.args.device.now in
     let is = c.in_ok-header.ensures.read tells in
     let same = c.in_ok-header.ensures.unchanged.same tells in
-    agrees v c.args.passphrase.now (c.one_unlocking.ensures v c.args.passphrase.now) c.unlock_header.result
+    agrees c.args.memory v c.args.passphrase.now (c.one_unlocking.ensures c.args.memory v c.args.passphrase.now) c.unlock_header.result
     (rw same at (c.unlock_header.ensures.unlocks tells (rw same is))) (rw same at (c.unlock_header.ensures.refused tells (rw same is))) a y
+
+pub returns-clause-memory : goal.returns-clause-memory
+returns-clause-memory g c = λ tells none.
+    let v = g.D.Device.bytes c.args.device.now in
+    let is = c.in_ok-header.ensures.read tells in
+    let same = c.in_ok-header.ensures.unchanged.same tells in
+    IfErr-weaker c.unlock_header.result _ _ (λ fault takes e.
+    let x = takes e in none_taken c.one_choice.ensures.only c.args.memory v x.0 (subst (λ (w : List ℕ). TakesMemory c.args.memory w x.0) same x.1) none)
+    (c.unlock_header.ensures.memory tells (rw same is))

@@ -1,5 +1,5 @@
 -- What the header that counts gives is what the volume gives.
-use Rattle.std.proofs.Common.{ℕ, List, subst, ◌∙◌}
+use Rattle.std.proofs.Common.{◌≡◌, ◌∙◌, ℕ, List, length, subst, sym}
 use Rattle.std.proofs.lemmas.Result.{IfErr-weaker, IfOk-weaker}
 use Rattle.luks_head.specs.declared.fault.HeadFault.{HeadFault}
 use Rattle.luks_head.specs.Faults.{IsCommonFault}
@@ -8,8 +8,10 @@ use Rattle.luks_head.specs.Selection.{luks1, luks2}
 use Rattle.luks_meta.specs.Content.{content}
 use Rattle.luks_reading.specs.Header.{json_at, IsHeader}
 use Rattle.luks_reading.specs.KeyslotsTried.{Luks1VolumeRefused, Luks1Tries}
+use Rattle.luks_reading.specs.Luks2Keyslots.{Luks2TakesMemory}
+use Rattle.luks_reading.proofs.KeyslotAnswers.{luks2_takes}
 use Rattle.luks_reading.proofs.ReadFaults.{cleared_copy}
-use Rattle.luks_reading.proofs.VolumeAnswers.{device_locks, failure_own, luks1_locked, luks1_locked_own, luks1_unlocks_as, luks2_unlocks}
+use Rattle.luks_reading.proofs.VolumeAnswers.{device_locks, luks1_locked, luks1_locked_own, luks1_unlocks_as, luks2_unlocks}
 use Rattle.luks_reading.proofs.unlocking.unlock_header.Goals as goal
 
 pub returns-in-Luks1-clause-unlocks : goal.returns-in-Luks1-clause-unlocks
@@ -18,7 +20,7 @@ returns-in-Luks1-clause-unlocks g c = λ tells is.
     let p = c.args.passphrase.now in
     let chosen = subst (IsHeader v) c.in-Luks1.is is in
     let begins = c.as_slice.ensures ∙ chosen.1 in
-    luks1_unlocks_as v p c.unlock_luks1.result chosen.0 (λ d. c.one_choice.ensures.only v luks1 d chosen.0)
+    luks1_unlocks_as c.args.memory v p c.unlock_luks1.result chosen.0 (λ d. c.one_choice.ensures.only v luks1 d chosen.0)
     (IfOk-weaker c.unlock_luks1.result _ _ (λ found clear. subst (λ (h : List ℕ). (f : HeadFault) → IsCommonFault h f → ⊥) begins clear) c.unlock_luks1.ensures.unrefused)
     (IfOk-weaker c.unlock_luks1.result _ _ (λ found tries. subst (λ (h : List ℕ). Luks1Tries h v p found) begins tries) (c.unlock_luks1.ensures.tries tells))
 
@@ -32,7 +34,11 @@ returns-in-Luks1-clause-refused g c = λ tells is.
     c.unlock_luks1.ensures.refused
 
 pub returns-in-Luks1-clause-memory : goal.returns-in-Luks1-clause-memory
-returns-in-Luks1-clause-memory g c =
+returns-in-Luks1-clause-memory g c = λ tells is.
+    IfErr-weaker c.unlock_luks1.result _ _ (λ fault locked e. absurd (luks1_locked_own c.as_slice.result.now fault locked e)) c.unlock_luks1.ensures.refused
+
+pub returns-in-Luks1-clause-no_memory : goal.returns-in-Luks1-clause-no_memory
+returns-in-Luks1-clause-no_memory g c = λ none.
     IfErr-weaker c.unlock_luks1.result _ _ (luks1_locked_own c.as_slice.result.now) c.unlock_luks1.ensures.refused
 
 pub returns-in-Luks2-clause-unlocks : goal.returns-in-Luks2-clause-unlocks
@@ -44,13 +50,29 @@ returns-in-Luks2-clause-unlocks g c = λ tells is.
     let copies = c.in-Luks2.copy.copies in
     let cleared = cleared_copy c.luks2_without_faults.ensures.uuid c.metadata_without_faults.ensures v c.in-Luks2.copy copy in
     IfOk-weaker c.unlock_luks2.result _ _ (λ found tries.
-    luks2_unlocks v p o copies (content c.in-Luks2.copy.meta) found copy.chosen (λ d. c.one_choice.ensures.only v (luks2 o copies) d copy.chosen) cleared tries)
+    luks2_unlocks c.args.memory v p o copies (content c.in-Luks2.copy.meta) found copy.chosen (λ d. c.one_choice.ensures.only v (luks2 o copies) d copy.chosen) cleared tries)
     (c.unlock_luks2.ensures.tries tells (header_at v o) (json_at v o) cleared)
 
 pub returns-in-Luks2-clause-refused : goal.returns-in-Luks2-clause-refused
 returns-in-Luks2-clause-refused g c = λ tells is.
-    IfErr-weaker c.unlock_luks2.result _ _ (device_locks (g.D.Device.bytes c.args.device.now)) c.unlock_luks2.ensures.kinds
+    let v = g.D.Device.bytes c.args.device.now in
+    let copy = subst (IsHeader v) c.in-Luks2.is is in
+    let cleared = cleared_copy c.luks2_without_faults.ensures.uuid c.metadata_without_faults.ensures v c.in-Luks2.copy copy in
+    IfErr-weaker c.unlock_luks2.result _ _ (λ fault. device_locks v fault
+    (record { place = c.in-Luks2.copy.header.hdr_offset; copies = c.in-Luks2.copy.copies; chosen = copy.chosen; uuid = cleared.uuid_faultless }))
+    c.unlock_luks2.ensures.kinds
 
 pub returns-in-Luks2-clause-memory : goal.returns-in-Luks2-clause-memory
-returns-in-Luks2-clause-memory g c =
-    IfErr-weaker c.unlock_luks2.result _ _ failure_own c.unlock_luks2.ensures.kinds
+returns-in-Luks2-clause-memory g c = λ tells is.
+    let v = g.D.Device.bytes c.args.device.now in
+    let copy = subst (IsHeader v) c.in-Luks2.is is in
+    let o = c.in-Luks2.copy.header.hdr_offset in
+    let cleared = cleared_copy c.luks2_without_faults.ensures.uuid c.metadata_without_faults.ensures v c.in-Luks2.copy copy in
+    let long : g.D.Device.size c.args.device.now ≡ length v = sym (g.met.D.Device.sized c.args.device.now tells) in
+    IfErr-weaker c.unlock_luks2.result _ _ (λ fault lacks e.
+    let x = lacks e in (
+      x.0,
+      luks2_takes c.args.memory v x.0 o c.in-Luks2.copy.copies copy.chosen
+          (subst (λ (m : ℕ). Luks2TakesMemory c.args.memory (header_at v o) (json_at v o) m x.0) long x.1),
+    ))
+    (c.unlock_luks2.ensures.memory (header_at v o) (json_at v o) cleared)

@@ -1,4 +1,3 @@
-use Rattle.std.proofs.Common.{◌≡◌, length}
 use Rattle.luks_area.specs.Ranges.{SameBut}
 use Rattle.luks_test_devices.specs.Differing.{differ}
 use Rattle.luks_test_devices.proofs.losing.lose.Given as goal

@@ -41,8 +41,8 @@ returns-in-Luks1-clause-keeps g c = λ tells well fine.
     (g.D.Device.bytes c.args.device.now) (g.D.Device.bytes c.apply_luks1.new.device) c.args.edit.now c.args.random.now c.apply_luks1.result
     well (returns-in-Luks1-clause-replies g c tells) fine
 
-pub returns-clause-replies : goal.returns-clause-replies
-returns-clause-replies g c = λ tells.
+pub returns-in-Luks2-clause-replies : goal.returns-in-Luks2-clause-replies
+returns-in-Luks2-clause-replies g c = λ tells.
     let v = g.D.Device.bytes c.args.device.now in
     let w = g.D.Device.bytes c.apply_luks2.new.device in
     let same = c.in_ok-header.ensures.unchanged.same tells in
@@ -56,17 +56,17 @@ returns-clause-replies g c = λ tells.
     (needs_of v c.in-Luks2.field-0 copy) ranges c.apply_luks2.result
     (rw same at (c.apply_luks2.ensures.replies tells (rw same read)))
 
-pub returns-clause-memory : goal.returns-clause-memory
-returns-clause-memory g c = λ tells free.
+pub returns-in-Luks2-clause-memory : goal.returns-in-Luks2-clause-memory
+returns-in-Luks2-clause-memory g c = λ tells free.
     let v = g.D.Device.bytes c.args.device.now in
     let copy = rw c.in-Luks2.is at (c.in_ok-header.ensures.read tells) in
     absurd (takes_none v free (needs_of v c.in-Luks2.field-0 copy))
 
-pub returns-clause-keeps : goal.returns-clause-keeps
-returns-clause-keeps g c = λ tells well fine.
+pub returns-in-Luks2-clause-keeps : goal.returns-in-Luks2-clause-keeps
+returns-in-Luks2-clause-keeps g c = λ tells well fine.
     edit_keeps c.luks2_edit_keeps_volume.ensures.keeps c.args.data_
     (g.D.Device.bytes c.args.device.now) (g.D.Device.bytes c.apply_luks2.new.device) c.args.edit.now c.args.random.now c.apply_luks2.result
-    well (returns-clause-replies g c tells) fine
+    well (returns-in-Luks2-clause-replies g c tells) fine
 
 pub returns-in_err-header-clause-opens : goal.returns-in_err-header-clause-opens
 returns-in_err-header-clause-opens g c = λ tells well.
@@ -120,23 +120,23 @@ returns-in-Luks1-clause-spared g c = λ tells well failed.
     (g.D.Device.bytes c.args.device.now) (g.D.Device.bytes c.apply_luks1.new.device) c.args.edit.now c.args.random.now c.apply_luks1.result
     well ranges (returns-in-Luks1-clause-replies g c tells) failed (returns-in-Luks1-clause-refused g c tells)
 
-pub returns-clause-opens : goal.returns-clause-opens
-returns-clause-opens g c = λ tells well.
+pub returns-in-Luks2-clause-opens : goal.returns-in-Luks2-clause-opens
+returns-in-Luks2-clause-opens g c = λ tells well.
     edit_opens c.luks1_edit_opens.ensures c.luks2_edit_opens.ensures c.args.data_
-    (g.D.Device.bytes c.args.device.now) (g.D.Device.bytes c.apply_luks2.new.device) c.args.edit.now c.args.random.now c.apply_luks2.result well (returns-clause-replies g c tells)
+    (g.D.Device.bytes c.args.device.now) (g.D.Device.bytes c.apply_luks2.new.device) c.args.edit.now c.args.random.now c.apply_luks2.result well (returns-in-Luks2-clause-replies g c tells)
 
-pub returns-clause-wiped : goal.returns-clause-wiped
-returns-clause-wiped g c = λ tells well.
+pub returns-in-Luks2-clause-wiped : goal.returns-in-Luks2-clause-wiped
+returns-in-Luks2-clause-wiped g c = λ tells well.
     edit_wipes c.luks2_edit_keeps_volume.ensures.lost c.args.data_
-    (g.D.Device.bytes c.args.device.now) (g.D.Device.bytes c.apply_luks2.new.device) c.args.edit.now c.args.random.now c.apply_luks2.result well (returns-clause-replies g c tells)
+    (g.D.Device.bytes c.args.device.now) (g.D.Device.bytes c.apply_luks2.new.device) c.args.edit.now c.args.random.now c.apply_luks2.result well (returns-in-Luks2-clause-replies g c tells)
 
-pub returns-clause-refused : goal.returns-clause-refused
-returns-clause-refused g c = λ tells.
+pub returns-in-Luks2-clause-refused : goal.returns-in-Luks2-clause-refused
+returns-in-Luks2-clause-refused g c = λ tells.
     edit_refused c.luks2_failing_edit.ensures.refused c.args.data_
-    (g.D.Device.bytes c.args.device.now) (g.D.Device.bytes c.apply_luks2.new.device) c.args.edit.now c.args.random.now c.apply_luks2.result (returns-clause-replies g c tells)
+    (g.D.Device.bytes c.args.device.now) (g.D.Device.bytes c.apply_luks2.new.device) c.args.edit.now c.args.random.now c.apply_luks2.result (returns-in-Luks2-clause-replies g c tells)
 
-pub returns-clause-spared : goal.returns-clause-spared
-returns-clause-spared g c = λ tells well failed.
+pub returns-in-Luks2-clause-spared : goal.returns-in-Luks2-clause-spared
+returns-in-Luks2-clause-spared g c = λ tells well failed.
     let v = g.D.Device.bytes c.args.device.now in
     let size : length v < 2 ^ 64 = omega (arith, g.met.D.Device.sized c.args.device.now tells, g.met.D.Device.bounded c.args.device.now) in
     let ranges : HasRanges v c.args.edit.now c.args.random.now =
@@ -144,4 +144,4 @@ returns-clause-spared g c = λ tells well failed.
     edit_spares c.luks1_failing_edit.ensures.opens
     c.luks2_failing_edit.ensures.rest c.luks2_failing_edit.ensures.keeps c.luks2_failing_edit.ensures.whole c.luks2_failing_edit.ensures.opens c.args.data_
     (g.D.Device.bytes c.args.device.now) (g.D.Device.bytes c.apply_luks2.new.device) c.args.edit.now c.args.random.now c.apply_luks2.result
-    well ranges (returns-clause-replies g c tells) failed (returns-clause-refused g c tells)
+    well ranges (returns-in-Luks2-clause-replies g c tells) failed (returns-in-Luks2-clause-refused g c tells)

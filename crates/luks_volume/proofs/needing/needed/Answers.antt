@@ -1,14 +1,13 @@
--- A header that isn't read refuses the edit; what its version tells is told of the volume.
+-- A header that isn't read refuses the edit; what the header tells is told of the volume.
 use Rattle.std.proofs.Common.{sym, ◌∙◌}
 use Rattle.std.proofs.lemmas.Result.{err_from_is_err_and}
-use Rattle.luks_volume.proofs.NeedFacts.{tells_need1, tells_need2, unread_untold, unread_without_memory}
+use Rattle.luks_volume.proofs.NeedFacts.{unread_without_memory}
 use Rattle.luks_volume.proofs.needing.needed.Goals as goal
 
 pub returns-in_err-header-clause-tells : goal.returns-in_err-header-clause-tells
 returns-in_err-header-clause-tells g c = λ tells.
-    let v = g.D.Device.bytes c.args.device.now in
     let p = err_from_is_err_and c.from_residual.result c.from_residual.ensures.1 in
-    rw (p.1, p.2) (unread_untold v c.args.data_ c.args.edit.now c.in_err-header.field-0.0 (c.in_err-header.ensures.refused tells c.args.data_))
+    rw (p.1, p.2) (c.in_err-header.ensures.untold tells c.args.data_ c.args.edit.now)
 
 pub returns-in_err-header-clause-memory : goal.returns-in_err-header-clause-memory
 returns-in_err-header-clause-memory g c = λ tells free.
@@ -16,17 +15,8 @@ returns-in_err-header-clause-memory g c = λ tells free.
     let p = err_from_is_err_and c.from_residual.result c.from_residual.ensures.1 in
     rw (p.1, p.2) (unread_without_memory v c.args.data_ c.args.edit.now free c.in_err-header.field-0.0 (c.in_err-header.ensures.refused tells c.args.data_))
 
-pub returns-in-Luks1-clause-tells : goal.returns-in-Luks1-clause-tells
-returns-in-Luks1-clause-tells g c = λ tells.
-    let v = g.D.Device.bytes c.args.device.now in
-    let is = rw c.in-Luks1.is at (c.in_ok-header.ensures.read tells) in
-    let long = g.met.D.Device.sized c.args.device.now tells ∙ sym c.in_ok-header.ensures.unchanged.size ∙ sym c.len-total.ensures in
-    tells_need1 v c.args.data_ c.args.edit.now is.0 c.needed_luks1.result (c.needed_luks1.ensures.tells v is long)
-
 pub returns-clause-tells : goal.returns-clause-tells
 returns-clause-tells g c = λ tells.
     let v = g.D.Device.bytes c.args.device.now in
-    let copy = rw c.in-Luks2.is at (c.in_ok-header.ensures.read tells) in
-    let long = g.met.D.Device.sized c.args.device.now tells ∙ sym c.in_ok-header.ensures.unchanged.size ∙ sym c.len-total.ensures in
-    tells_need2 v c.args.data_ c.args.edit.now c.in-Luks2.field-0.header.hdr_offset c.in-Luks2.field-0.copies copy.chosen c.needed_luks2.result
-    (c.needed_luks2.ensures.tells v (c.in_ok-header.ensures.read tells) long)
+    let long = g.met.D.Device.sized c.args.device.now tells ∙ sym c.in_ok-header.ensures.unchanged.size ∙ sym c.len.ensures in
+    c.needed_of_header.ensures.tells v (c.in_ok-header.ensures.read tells) long

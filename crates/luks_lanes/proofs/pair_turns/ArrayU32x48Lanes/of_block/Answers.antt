@@ -4,7 +4,6 @@ use Rattle.std.proofs.lemmas.Bool.{cases_lt}
 use Rattle.sha2.specs.Sha256.{compress}
 use Rattle.sha2.proofs.Schedule256.{IsWindow_first}
 use Rattle.luks_lanes.specs.Pair.{window, word_of}
-use Rattle.luks_lanes.proofs.PairFacts.{start_words}
 use Rattle.luks_lanes.proofs.pair_turns.ArrayU32x48Lanes.of_block.Goals as goal
 
 pub load-preserved : goal.load-preserved
@@ -25,4 +24,4 @@ returns c = λ j lt.
     let long = length-map c.load.w (word_of j) in
     c.compress_window.ensures j c.args.block.now lt
     (IsWindow_first c.args.block.now (window j c.load.w) (long ∙ c.load.invariant.0) (λ k lk. c.load.invariant.1 j k lt (omega arith)))
-    ∙ ap (λ h. compress h c.args.block.now) (start_words j lt)
+    ∙ ap (λ h. compress h c.args.block.now) (c.start.ensures j lt)

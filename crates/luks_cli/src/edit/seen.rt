@@ -1,0 +1,148 @@
+//! What is seen of an edit before it is run.
+ghost use Rattle.std.specs.Prelude.{◌≡◌, ◌+◌, ◌<◌, ◌^◌, IfOk, IfErr};
+ghost use Rattle.luks_area.specs.Device.{CountsFailure, IsUnchanged};
+ghost use Rattle.luks_edit.specs.EditFaults.{is_edit_failure};
+ghost use Rattle.luks_reading.specs.Header.{IsAcceptedHeader};
+ghost use Rattle.luks_volume.specs.Needed.{IsUntold, NeedsRandom};
+
+use luks_commands::open::{MemoryNote, memory_note};
+use luks_volume::{
+    Cost, Data, Device, Edit, EditFault, Header, Luks1, edited_header, needed_of_header,
+};
+use std::alloc::Global;
+use std::io::Write;
+
+/// What is seen of an edit before it is run.
+#[derive(Debug, Clone, Copy)]
+pub(super) struct Seen {
+    /// How many random bytes it takes.
+    pub(super) needed: u64,
+    /// The keyslot that it makes, where that has fewer iterations than the one that it opens.
+    pub(super) weaker: Option<Weaker>,
+    /// The keyslot that it opens, where that derives by Argon2.
+    pub(super) argon2: Option<MemoryNote>,
+}
+
+/// A keyslot that is made with fewer iterations than the one that opens has.
+#[derive(Debug, Clone, Copy)]
+pub(super) struct Weaker {
+    /// The iterations of the new keyslot.
+    iterations: u32,
+    /// The number of the keyslot that opens.
+    opener: u8,
+    /// The iterations of that one.
+    opener_iterations: u32,
+}
+
+/// What is seen of the edit by the header, or the first of the faults that are seen without opening a
+/// keyslot. The header is read once.
+pub(super) fn see<D: Device>(
+    alloc: Global,
+    device: &mut D,
+    data_: Data,
+    edit: &Edit<'_>,
+) -> Result<Seen, EditFault>
+    requires { D.failed device.old + 1 < 2 ^ 64 }
+    ensures unchanged { IsUnchanged D.tells D.size D.bytes D.unsettled device.old device.new }
+    ensures count { CountsFailure is_edit_failure result
+        (D.failed device.old) (D.failed device.new) }
+    ensures tells { D.tells
+        → IfOk result (λ seen. NeedsRandom (D.bytes device.old) data_ edit.now seen.needed) }
+    ensures untold { D.tells → IfErr result (IsUntold (D.bytes device.old) data_ edit.now) }
+{
+    let header = edited_header(alloc, device)?;
+    let needed = needed_of_header(&header, data_, device.len(), edit)?;
+    Ok(Seen {
+        needed,
+        weaker: weaker_keyslot(&header, edit),
+        argon2: argon2_keyslot(&header, device.len(), edit),
+    })
+}
+
+/// The keyslot that the edit makes, where that has fewer iterations than the one that it opens in a
+/// volume with this header.
+fn weaker_keyslot(header: &Header, edit: &Edit<'_>) -> Option<Weaker> {
+    let (opener, iterations) = match *edit {
+        Edit::Add {
+            by_,
+            iterations,
+            ..
+        } => (by_, iterations),
+        Edit::Change {
+            slot,
+            iterations,
+            ..
+        } => (slot, iterations),
+        _ => return None,
+    };
+    let opener_iterations = iterations_of(header, opener)?;
+    if iterations >= opener_iterations {
+        return None;
+    }
+    Some(Weaker {
+        iterations,
+        opener,
+        opener_iterations,
+    })
+}
+
+/// The iterations of PBKDF2 that the keyslot `n` says; none where it isn't there, or by Argon2.
+fn iterations_of(header: &Header, n: u8) -> Option<u32> {
+    match header {
+        Header::Luks1(bytes) => {
+            let header = Luks1::read(bytes).ok()?;
+            let slot = header.slots.get(usize::from(n))?;
+            Some(slot.iterations)
+        }
+        Header::Luks2(copy) => match copy.meta.keyslot(n)?.kdf.cost {
+            Cost::Pbkdf2(cost) => Some(cost.iterations),
+            Cost::Argon2i(_) | Cost::Argon2id(_) => None,
+        },
+    }
+}
+
+/// The keyslot that the edit opens in a volume of `total` bytes with this header, where it derives by
+/// Argon2.
+fn argon2_keyslot(header: &Header, total: u64, edit: &Edit<'_>) -> Option<MemoryNote>
+    requires { IsAcceptedHeader header.now }
+{
+    let opener = match *edit {
+        Edit::Add { by_, .. } => by_,
+        Edit::Change { slot, .. } => slot,
+        Edit::Remove { slot, .. } => slot,
+        Edit::Repair => return None,
+        Edit::Label { .. } => return None,
+    };
+    memory_note(header, opener, total, edit.allowed_memory())
+}
+
+/// Says of the keyslot that was refused how much memory would have to be allowed, where that helps.
+pub(super) fn note_refused<E: Write>(argon2: Option<MemoryNote>, err: &mut E) {
+    if let Some(note) = argon2 {
+        note.say_refused(err);
+    }
+}
+
+/// Says of the keyslot how much memory it asked for, where memory was refused.
+pub(super) fn note_wanting<E: Write>(argon2: Option<MemoryNote>, err: &mut E) {
+    if let Some(note) = argon2 {
+        note.say_wanting(err);
+    }
+}
+
+/// Says of a keyslot that was made how many iterations it has, where these are fewer.
+pub(super) fn note_weaker<E: Write>(weaker: Option<Weaker>, err: &mut E) {
+    if let Some(
+        Weaker {
+            iterations,
+            opener,
+            opener_iterations,
+        },
+    ) = weaker
+    {
+        let _ = writeln!(
+            err,
+            "luks: the new keyslot has {iterations} iterations, keyslot {opener} has {opener_iterations}: --iterations"
+        );
+    }
+}

@@ -1,0 +1,31 @@
+//! Reading the passphrases of an edit.
+ghost use Rattle.std.specs.Prelude.{◌≡◌, IfOk, IfErr, IfSome};
+ghost use Rattle.luks_commands.specs.Answer.{IsWordless};
+ghost use Rattle.luks_commands.specs.Files.{IsLong, IsUnread, IsWhole, OfNamed};
+
+use luks_commands::{Answer, InputFault, PassphraseFault, Refusal, passphrase, unread};
+use std::alloc::Global;
+use std::io::{Read, Write};
+
+/// The bytes of the passphrase whose file has this name, none where the edit needs none; or what the
+/// command answers without it.
+pub(super) fn words<R: Read, E: Write>(
+    alloc: Global,
+    file: &mut Result<R, InputFault>,
+    name: Option<&str>,
+    err: &mut E,
+) -> Result<Vec<u8>, Answer>
+    ensures whole { IfOk result (λ p. IfSome name.entry (λ _. IsWhole R.remaining file.old p.items)) }
+    ensures wordless { IfErr result (IsWordless
+        (OfNamed name.entry (IsLong R.remaining file.old))
+        (λ f. OfNamed name.entry (IsUnread file.old f))) }
+{
+    let Some(name) = name else {
+        return Ok(Vec::new(alloc));
+    };
+    match passphrase(alloc, file) {
+        Ok(words) => Ok(words),
+        Err(PassphraseFault::TooLong) => Err(Answer::Refused(Refusal::LongPassphrase)),
+        Err(PassphraseFault::Input(fault)) => Err(unread(fault, name, err)),
+    }
+}

@@ -1,0 +1,117 @@
+-- What formatting leaves of a volume, by how it ended.
+use Rattle.std.proofs.Common.{◌≡◌, ◌≢◌, ℕ, List, Result, Ok, Err, refl, sym, ap, subst, IfErr, OnOk, inl, arith}
+use Rattle.luks_area.specs.RangeFacts.{same_but-same}
+use Rattle.luks_area.specs.Ranges.{SameBut}
+use Rattle.luks_reading.specs.Answer.{Answer, opens}
+use Rattle.luks_reading.specs.Checked.{WellFormed}
+use Rattle.luks_formatting.specs.declared.format_fault.FormatFault.{FormatFault}
+use Rattle.luks_formatting.specs.declared.format_fault.FormatFault.TheVariants.{TooSmall, Iterations, RandomLength, Memory, Device}
+use Rattle.luks_formatting.specs.FormatFaults.{IsAnsweredFault, IsAnsweredFaultOrMemory}
+use Rattle.luks_formatting.specs.RandomBytes.{volume_key}
+use Rattle.luks_commands.specs.declared.answers.Status.{Status}
+use Rattle.luks_commands.specs.declared.answers.Status.TheVariants.{Done, Refused, NotInStep, Fault}
+use Rattle.luks_request.specs.declared.request.Making.{Making}
+use Rattle.luks_request.specs.declared.request.NewVersion.{NewVersion}
+use Rattle.luks_commands.specs.Answer.{answer_status, format_fault_answer}
+use Rattle.luks_commands.specs.Exit.{exit_status}
+use Rattle.luks_commands.proofs.EndFacts.{done_by, refusal_by, Tells}
+use Rattle.luks_commands.specs.declared.inputs.InputFault.{InputFault}
+use Rattle.luks_commands.specs.Files.{LeavesVolume}
+use Rattle.luks_commands.specs.Formatting.{IsFormatted, IsOfNewVolume, IsNewVolume, SaysFormat}
+
+-- a fault that isn't the device's leaves the same where each fault that stands does
+pub same_by : {D Same : Type 0} (result : Result D FormatFault) (faults : FormatFault → Type 0) → IfErr result (IsAnsweredFault faults)
+    → ((f : FormatFault) → faults f → Same) → IfErr result (λ f. f ≢ Device → Same)
+same_by (Ok done) faults held same = tt
+same_by (Err TooSmall) faults held same = λ apart. same TooSmall held.0
+same_by (Err Iterations) faults held same = λ apart. same Iterations held.0
+same_by (Err RandomLength) faults held same = λ apart. same RandomLength held.0
+same_by (Err Memory) faults held same = λ apart. absurd held
+same_by (Err Device) faults held same = λ apart. absurd (apart refl)
+
+-- and where want of memory does
+pub same_or_memory_by : {D Same : Type 0} (result : Result D FormatFault) (faults : FormatFault → Type 0)
+    → IfErr result (IsAnsweredFaultOrMemory faults)
+    → ((f : FormatFault) → faults f → Same) → (result ≡ Err Memory → Same) → IfErr result (λ f. f ≢ Device → Same)
+same_or_memory_by (Ok done) faults held same memory = tt
+same_or_memory_by (Err TooSmall) faults held same memory = λ apart. same TooSmall held.0
+same_or_memory_by (Err Iterations) faults held same memory = λ apart. same Iterations held.0
+same_or_memory_by (Err RandomLength) faults held same memory = λ apart. same RandomLength held.0
+same_or_memory_by (Err Memory) faults held same memory = λ apart. memory refl
+same_or_memory_by (Err Device) faults held same memory = λ apart. absurd (apart refl)
+
+-- what was formatted by its version is the new volume
+pub made : {D : Type 0} (result : Result D FormatFault) (making : Making) (version : NewVersion) (passphrase random old new : List ℕ)
+    → making.version ≡ version → OnOk result (IsFormatted version making.data_ making.format passphrase random old new)
+    → OnOk result (WellFormed new making.data_) → OnOk result (Answer new 0 passphrase (opens (volume_key random)))
+    → OnOk result (IsNewVolume making passphrase random old new)
+made (Ok done) making version passphrase random old new is formatted well opened = record {
+  formatted = subst (λ v. IsFormatted v making.data_ making.format passphrase random old new) (sym is) formatted;
+  well_formed = well;
+  opens = opened;
+}
+made (Err fault) making version passphrase random old new is formatted well opened = tt
+
+-- how the answer tells of a command that ended so
+pub says_ended : (making : Making) (HasWords HasRandom : List ℕ → Type 0) (passphrase random old new : List ℕ) (s : Status)
+    → HasWords passphrase → HasRandom random → (s ≡ Done → IsNewVolume making passphrase random old new) → (s ≡ Refused → new ≡ old)
+    → SameBut (IsOfNewVolume making.version) old new → SaysFormat making HasWords HasRandom old new (exit_status s)
+says_ended making HasWords HasRandom passphrase random old new Done words taken done refused rest = record {
+  done = λ is. record { passphrase = passphrase; words = words; random = random; taken = taken; volume = done refl };
+  refused = λ is. absurd (omega (arith, is));
+  rest = rest;
+}
+says_ended making HasWords HasRandom passphrase random old new Refused words taken done refused rest = record {
+  done = λ is. absurd (omega (arith, is));
+  refused = λ is. refused refl;
+  rest = rest;
+}
+says_ended making HasWords HasRandom passphrase random old new NotInStep words taken done refused rest = record {
+  done = λ is. absurd (omega (arith, is));
+  refused = λ is. absurd (omega (arith, is));
+  rest = rest;
+}
+says_ended making HasWords HasRandom passphrase random old new Fault words taken done refused rest = record {
+  done = λ is. absurd (omega (arith, is));
+  refused = λ is. absurd (omega (arith, is));
+  rest = rest;
+}
+
+-- whether it was printed or not
+pub says_told : (making : Making) (HasWords HasRandom : List ℕ → Type 0) (old new : List ℕ) (s : Status) (n : ℕ) → Tells s n
+    → SaysFormat making HasWords HasRandom old new (exit_status s) → SaysFormat making HasWords HasRandom old new n
+says_told making HasWords HasRandom old new s n tells x = record {
+  done = λ is. x.done (ap exit_status (done_by s n tells is));
+  refused = λ is. x.refused (ap exit_status (refusal_by s n tells is));
+  rest = x.rest;
+}
+
+-- a volume that no call was made on, where the command isn't done
+pub left_undone : {D : Type 0} (tells : Type 0) (size : D → ℕ) (bytes : D → List ℕ) (making : Making) (HasWords HasRandom : List ℕ → Type 0)
+    (volume : Result D InputFault) (s : Status) → s ≢ Done
+    → LeavesVolume tells size bytes (λ old new. SaysFormat making HasWords HasRandom old new (exit_status s)) volume volume
+left_undone tells size bytes making HasWords HasRandom (Ok d) s apart = record {
+  size = refl;
+  said = λ t. record {
+    done = λ is. absurd (apart (done_by s (exit_status s) (inl refl) is));
+    refused = λ is. refl;
+    rest = same_but-same (IsOfNewVolume making.version) (bytes d);
+  };
+}
+left_undone tells size bytes making HasWords HasRandom (Err f) s apart = refl
+
+-- where the volume wasn't made, how the command ends
+pub format_kinds : (f : FormatFault) → answer_status (format_fault_answer f) ≢ NotInStep
+format_kinds Device = λ e. cc
+format_kinds Memory = λ e. cc
+format_kinds f = λ e. cc
+
+pub format_undone : (f : FormatFault) → answer_status (format_fault_answer f) ≢ Done
+format_undone Device = λ e. cc
+format_undone Memory = λ e. cc
+format_undone f = λ e. cc
+
+pub format_refused : (f : FormatFault) → answer_status (format_fault_answer f) ≡ Refused → f ≢ Device
+format_refused Device = λ is e. absurd (let x : Fault ≡ Refused = is in cc)
+format_refused Memory = λ is e. cc
+format_refused f = λ is e. cc

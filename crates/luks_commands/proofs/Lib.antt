@@ -1,0 +1,10 @@
+pub mod ConvertFacts
+pub mod RebuildFacts
+pub mod CheckFacts
+pub mod EndFacts
+pub mod ExitFacts
+pub mod FileFacts
+pub mod FormatFacts
+pub mod Fronts
+pub mod OpenFacts
+pub mod ShowFacts

@@ -1,0 +1,23 @@
+use Rattle.std.proofs.Common.{ap, sym, subst, ◌∙◌}
+use Rattle.luks_reading.proofs.VolumeAnswers.{unread_locked}
+use Rattle.luks_commands.specs.Answer.{open_fault_answer}
+use Rattle.luks_commands.specs.OpenAnswers.{IsAnyAnswer}
+use Rattle.luks_commands.proofs.OpenFacts.{answers_any, answers_unread_header}
+use Rattle.luks_commands.proofs.open.open_any.Goals as goal
+
+pub returns-clause-answers : goal.returns-clause-answers
+returns-clause-answers g c =
+    let v = g.D.Device.bytes c.args.device.now in
+    subst (IsAnyAnswer g.D.Device.tells c.args.memory v c.args.passphrase.now _ _) (sym c.any_answer-answer.ensures)
+    (answers_any g.D.Device.tells c.args.memory v c.args.passphrase.now _ _ c.unlock_header-opened.result (rw c.in-Ok.ensures.count at c.unlock_header-opened.ensures.count)
+    (λ tells. rw (c.read_header.ensures.unchanged.same tells) at
+    (c.unlock_header-opened.ensures.unlocks tells (rw (c.read_header.ensures.unchanged.same tells) (c.in-Ok.ensures.read tells))))
+    (λ tells. rw (c.read_header.ensures.unchanged.same tells) at
+    (c.unlock_header-opened.ensures.refused tells (rw (c.read_header.ensures.unchanged.same tells) (c.in-Ok.ensures.read tells)))))
+
+pub returns-in-Err-clause-answers : goal.returns-in-Err-clause-answers
+returns-in-Err-clause-answers g c =
+    let v = g.D.Device.bytes c.args.device.now in
+    subst (IsAnyAnswer g.D.Device.tells c.args.memory v c.args.passphrase.now _ _) (sym (c.from-answer.ensures ∙ ap open_fault_answer c.from.ensures))
+    (answers_unread_header g.D.Device.tells c.args.memory v c.args.passphrase.now _ _ c.in-Err.fault c.in-Err.ensures.count
+    (λ tells. unread_locked v c.in-Err.fault (c.one_choice.ensures.only v) (c.in-Err.ensures.refused tells)))

@@ -1,0 +1,64 @@
+-- What `format` may answer.
+use Rattle.std.specs.Prelude.{◌≡◌, ◌⊎◌, ℕ, ◌+◌, List, Some, Result, Ok, Err, ⊤}
+use Rattle.luks_area.specs.First.{IsLeast}
+use Rattle.luks_formatting.specs.declared.format_fault.FormatFault.{FormatFault}
+use Rattle.luks_formatting.specs.declared.format_fault.FormatFault.TheVariants.{Device, Memory}
+use Rattle.luks_formatting.specs.FormatFaults.{format_key, IsFormat1Fault, IsFormat2Fault}
+use Rattle.luks_request.specs.declared.request.Making.{Making}
+use Rattle.luks_request.specs.declared.request.NewVersion.{NewVersion}
+use Rattle.luks_request.specs.declared.request.NewVersion.TheVariants.{Luks1, Luks2}
+use Rattle.luks_commands.specs.declared.answers.Answer.{Answer}
+use Rattle.luks_commands.specs.declared.answers.Answer.TheVariants.{Done, Refused, DeviceFault, NoMemory}
+use Rattle.luks_commands.specs.declared.answers.Refusal.TheVariants.{Format}
+use Rattle.luks_commands.specs.declared.inputs.InputFault.{InputFault}
+use Rattle.luks_commands.specs.Answer.{IsWordless, unread_answer}
+use Rattle.luks_commands.specs.Files.{IsUnread, IsUnreadRandom}
+use Rattle.luks_commands.specs.Formatting.{IsNewVolume}
+
+-- the faults of making a volume of this version on a device of `total` bytes
+abbrev pub HasFormatFault : NewVersion → Making → ℕ → List ℕ → FormatFault → Type 0
+HasFormatFault Luks1 making total random f = IsFormat1Fault total making.format random f
+HasFormatFault Luks2 making total random f = IsFormat2Fault total making.format random f
+
+-- the first of them, unless the device failed or memory was refused
+abbrev pub IsMakingFault : Making → ℕ → List ℕ → FormatFault → Type 0
+IsMakingFault making total random Device = ⊤
+IsMakingFault making total random Memory = making.version ≡ Luks2
+IsMakingFault making total random f = IsLeast format_key (HasFormatFault making.version making total random) f
+
+-- with this passphrase and these random bytes, of a volume of `total` bytes that was `old` and was left
+-- as `new`, while the device's count of failures went from `before` to `after`: `device fault` comes
+-- exactly where a call failed
+abbrev pub IsFormatAnswer : Type 0 → Making → List ℕ → List ℕ → ℕ → List ℕ → List ℕ → ℕ → ℕ → Answer → Type 0
+IsFormatAnswer tells making passphrase random total old new before after (Done slot) =
+    (after ≡ before) × (slot ≡ Some 0) × (tells → IsNewVolume making passphrase random old new)
+IsFormatAnswer tells making passphrase random total old new before after (Refused (Format Device)) = ⊥
+IsFormatAnswer tells making passphrase random total old new before after (Refused (Format Memory)) = ⊥
+IsFormatAnswer tells making passphrase random total old new before after (Refused (Format f)) =
+    (after ≡ before) × IsMakingFault making total random f × (tells → new ≡ old)
+IsFormatAnswer tells making passphrase random total old new before after DeviceFault = after ≡ before + 1
+IsFormatAnswer tells making passphrase random total old new before after NoMemory =
+    (after ≡ before) × (making.version ≡ Luks2) × (tells → new ≡ old)
+IsFormatAnswer tells making passphrase random total old new before after a = ⊥
+
+-- the passphrase is what its file has, and the random bytes are the first that theirs has
+pub record IsMaking (tells : Type 0) (making : Making) (HasWords HasRandom : List ℕ → Type 0) (total : ℕ) (old new : List ℕ) (before after : ℕ) (a : Answer)
+    : Type 0 where
+  pub passphrase : List ℕ
+  pub words : HasWords passphrase
+  pub random : List ℕ
+  pub taken : HasRandom random
+  pub is : IsFormatAnswer tells making passphrase random total old new before after a
+
+-- the passphrase, or so many random bytes, can't be read, by this fault
+abbrev pub IsUnreadEither : {R N : Type 0} → Result R InputFault → ℕ → Result N InputFault → InputFault → Type 0
+IsUnreadEither passphrase count random f = IsUnread passphrase f ⊎ IsUnreadRandom count random f
+
+-- the same of a volume that may not be there, and of files that can't be read, which leaves it as it was
+abbrev pub AnswersFormat : {D : Type 0} → Type 0 → (D → ℕ) → (D → List ℕ) → (D → ℕ) → Making → (List ℕ → Type 0) → Type 0 → (InputFault → Type 0) → (List ℕ → Type 0)
+    → Result D InputFault → Result D InputFault → Answer → Type 0
+AnswersFormat {D} tells size bytes failed making HasWords is_long unread HasRandom (Ok old) (Ok new) a =
+    (IsWordless is_long unread a × (failed new ≡ failed old) × (tells → bytes new ≡ bytes old))
+    ⊎ IsMaking tells making HasWords HasRandom (size old) (bytes old) (bytes new) (failed old) (failed new) a
+AnswersFormat {D} tells size bytes failed making HasWords is_long unread HasRandom (Ok old) (Err fault) a = ⊥
+AnswersFormat {D} tells size bytes failed making HasWords is_long unread HasRandom (Err fault) new a = IsWordless is_long unread a ⊎ (a ≡ unread_answer fault)

@@ -1,0 +1,12 @@
+pub mod Exit
+pub mod Files
+pub mod Printing
+pub mod Checked
+pub mod Answer
+pub mod CheckAnswers
+pub mod Formatting
+pub mod Converting
+pub mod Rebuilding
+pub mod OpenAnswers
+pub mod FormatAnswers
+pub mod ShowAnswers

@@ -1,0 +1,121 @@
+//! The command `check`.
+ghost use Rattle.std.specs.Prelude.{◌≡◌, ◌+◌, ◌<◌, ◌^◌, IfOk, IfErr};
+ghost use Rattle.std.specs.Result.{ForOk};
+ghost use Rattle.luks_area.specs.Device.{IsUnchanged};
+ghost use Rattle.luks_commands.specs.Answer.{answer_status, Prints};
+ghost use Rattle.luks_commands.specs.CheckAnswers.{AnswersCheck, IsCheckAnswer};
+ghost use Rattle.luks_commands.specs.Checked.{EndsCheck, SaysCheck};
+ghost use Rattle.luks_commands.specs.Exit.{IsExitStatus};
+ghost use Rattle.luks_commands.specs.Files.{KeepsVolume};
+ghost use Rattle.luks_reading.specs.Header.{IsAcceptedHeader};
+
+use crate::answers::{Answer, Status, end, refused, unread};
+use crate::inputs::InputFault;
+use crate::printer::Printer;
+use luks_reading::{
+    AreaName, Areas, CheckFault, Data, Device, Header, check_header, no_fault_is_well_formed,
+    read_header, unread_volume_is_refused,
+};
+use std::alloc::Global;
+use std::io::Write;
+
+/// Prints whether the volume of this name is accepted, its payload lying at `data_`; answers the exit
+/// status.
+pub fn run<D: Device, P: Printer, E: Write>(
+    alloc: Global,
+    volume: &mut Result<D, InputFault>,
+    name: &str,
+    data_: Data,
+    out: &mut P,
+    err: &mut E,
+) -> u8
+    requires room { ForOk volume.old (λ d. D.failed d + 1 < 2 ^ 64) }
+    requires printer { P.failures out.old + 1 < 2 ^ 64 }
+    ensures unchanged { KeepsVolume D.tells D.size D.bytes D.unsettled volume.old volume.new }
+    ensures status { IsExitStatus result }
+    ensures says { D.tells → IfOk volume.old (λ d. SaysCheck (D.bytes d) data_ result) }
+    ensures unread { IfErr volume.old (λ _. result ≡ 4) }
+    ensures answers { Prints (AnswersCheck D.tells D.bytes D.failed data_ volume.old volume.new)
+        (P.failures out.old) (P.failures out.new) (P.printed out.old) (P.printed out.new) result }
+{
+    let answer = check_volume(alloc, volume, name, data_, err);
+    end(&answer, out)
+}
+
+fn check_volume<D: Device, E: Write>(
+    alloc: Global,
+    volume: &mut Result<D, InputFault>,
+    name: &str,
+    data_: Data,
+    err: &mut E,
+) -> Answer
+    requires { ForOk volume.old (λ d. D.failed d + 1 < 2 ^ 64) }
+    ensures unchanged { KeepsVolume D.tells D.size D.bytes D.unsettled volume.old volume.new }
+    ensures status { D.tells
+        → IfOk volume.old (λ d. EndsCheck (D.bytes d) data_ (answer_status result)) }
+    ensures unread { IfErr volume.old (λ _. answer_status result ≡ Status.Fault) }
+    ensures answers { AnswersCheck D.tells D.bytes D.failed data_ volume.old volume.new result }
+{
+    match volume {
+        Ok(device) => check_device(alloc, device, name, data_, err),
+        Err(fault) => unread(*fault, name, err),
+    }
+}
+
+fn check_device<D: Device, E: Write>(
+    alloc: Global,
+    device: &mut D,
+    name: &str,
+    data_: Data,
+    err: &mut E,
+) -> Answer
+    requires { D.failed device.old + 1 < 2 ^ 64 }
+    ensures unchanged { IsUnchanged D.tells D.size D.bytes D.unsettled device.old device.new }
+    ensures status { D.tells → EndsCheck (D.bytes device.old) data_ (answer_status result) }
+    ensures answers { IsCheckAnswer D.tells (D.bytes device.old) data_
+        (D.failed device.old) (D.failed device.new) result }
+{
+    no_fault_is_well_formed();
+    unread_volume_is_refused();
+    let header = match read_header(alloc, device) {
+        Ok(header) => header,
+        Err(fault) => return refused(CheckFault::from(fault), name, err),
+    };
+    let total = device.len();
+    match check_header(&header, data_, total) {
+        Ok(report) => {
+            note_empty_segment(&report.areas, err);
+            Answer::Accepted {
+                version: report.version,
+                areas: report.areas.len(),
+            }
+        }
+        Err(fault) => {
+            note_detached(&header, total, err);
+            refused(fault, name, err)
+        }
+    }
+}
+
+/// Says of an accepted volume with these areas where its last segment has no byte.
+fn note_empty_segment<E: Write>(areas: &Areas, err: &mut E) {
+    let Some(last) = areas.as_slice().last() else {
+        return;
+    };
+    if matches!(last.name, AreaName::Segment(_)) && last.area.len == 0 {
+        let _ = writeln!(
+            err,
+            "luks: the last segment is empty: compare the partition's size"
+        );
+    }
+}
+
+/// Says of a refused volume of `total` bytes with this header where it is accepted without its
+/// segments.
+fn note_detached<E: Write>(header: &Header, total: u64, err: &mut E)
+    requires { IsAcceptedHeader header.now }
+{
+    if check_header(header, Data::Elsewhere, total).is_ok() {
+        let _ = writeln!(err, "luks: it is accepted as a detached header: --detached");
+    }
+}

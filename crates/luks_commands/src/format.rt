@@ -1,0 +1,201 @@
+//! The command `format`.
+ghost use Rattle.std.specs.Prelude.{◌≡◌, ◌≢◌, ◌+◌, ◌<◌, ◌^◌, Some, IfOk, IfErr, OnOk};
+ghost use Rattle.std.specs.Result.{ForOk};
+ghost use Rattle.luks_area.specs.Device.{CountsFailure, IsSettled};
+ghost use Rattle.luks_area.specs.Ranges.{SameBut};
+ghost use Rattle.luks_formatting.specs.FormatFaults.{is_device_fault};
+ghost use Rattle.luks_commands.specs.Answer.{answer_status, format_fault_answer, Prints};
+ghost use Rattle.luks_commands.specs.Exit.{exit_status, IsExitStatus};
+ghost use Rattle.luks_commands.specs.Files.{IsLong, IsTaken, IsWhole, LeavesSettled, LeavesVolume};
+ghost use Rattle.luks_commands.specs.FormatAnswers.{AnswersFormat, IsFormatAnswer, IsMakingFault, IsUnreadEither};
+ghost use Rattle.luks_commands.specs.Formatting.{IsOfNewVolume, IsNewVolume, needed, SaysFormat};
+
+use crate::answers::{Answer, Refusal, Status, device_fault, end, unread};
+use crate::inputs::Inputs;
+use crate::passphrase_file::{PassphraseFault, passphrase};
+use crate::printer::Printer;
+use crate::random_file::{RandomBytes, few_random_bytes, random_bytes};
+use luks_edit::Done;
+use luks_formatting::{FORMAT1_RANDOM, FORMAT2_RANDOM, FormatFault, format1, format2};
+use luks_reading::Device;
+use luks_request::{Making, NewVersion};
+use std::alloc::Global;
+use std::io::{Read, Write};
+
+/// Makes a new volume of the volume of this name, and prints that it is done; answers the exit
+/// status. The passphrase is read first, the random bytes last.
+pub fn run<D: Device, R: Read, N: Read, P: Printer, E: Write>(
+    alloc: Global,
+    inputs: &mut Inputs<D, R, N>,
+    name: &str,
+    making: &Making<'_>,
+    out: &mut P,
+    err: &mut E,
+) -> u8
+    requires room { ForOk inputs.old.volume (λ d. D.failed d + 1 < 2 ^ 64) }
+    requires printer { P.failures out.old + 1 < 2 ^ 64 }
+    requires settled { D.tells → ForOk inputs.old.volume (IsSettled D.unsettled) }
+    ensures settled { LeavesSettled D.tells D.failed D.unsettled
+        inputs.old.volume inputs.new.volume }
+    ensures status { IsExitStatus result }
+    ensures left { LeavesVolume D.tells D.size D.bytes (λ old new. SaysFormat making.now
+        (IsWhole R.remaining inputs.old.passphrase)
+        (IsTaken (needed making.now.version) N.remaining inputs.old.random) old new result)
+        inputs.old.volume inputs.new.volume }
+    ensures target { inputs.new.target ≡ inputs.old.target }
+    ensures kinds { result ≢ 3 }
+    ensures unread { IfErr inputs.old.volume (λ _. result ≢ 0) }
+    ensures answers { Prints (AnswersFormat D.tells D.size D.bytes D.failed making.now
+        (IsWhole R.remaining inputs.old.passphrase) (IsLong R.remaining inputs.old.passphrase)
+        (IsUnreadEither inputs.old.passphrase (needed making.now.version) inputs.old.random)
+        (IsTaken (needed making.now.version) N.remaining inputs.old.random)
+        inputs.old.volume inputs.new.volume)
+        (P.failures out.old) (P.failures out.new) (P.printed out.old) (P.printed out.new) result }
+{
+    let answer = format_volume(alloc, inputs, name, making, err);
+    end(&answer, out)
+}
+
+#[tactic(auto, using(crate::proofs::FileFacts::settled_same, crate::proofs::FormatFacts::left_undone))]
+fn format_volume<D: Device, R: Read, N: Read, E: Write>(
+    alloc: Global,
+    inputs: &mut Inputs<D, R, N>,
+    name: &str,
+    making: &Making<'_>,
+    err: &mut E,
+) -> Answer
+    requires room { ForOk inputs.old.volume (λ d. D.failed d + 1 < 2 ^ 64) }
+    requires settled { D.tells → ForOk inputs.old.volume (IsSettled D.unsettled) }
+    ensures settled { LeavesSettled D.tells D.failed D.unsettled
+        inputs.old.volume inputs.new.volume }
+    ensures left { LeavesVolume D.tells D.size D.bytes (λ old new. SaysFormat making.now
+        (IsWhole R.remaining inputs.old.passphrase)
+        (IsTaken (needed making.now.version) N.remaining inputs.old.random) old new
+        (exit_status (answer_status result))) inputs.old.volume inputs.new.volume }
+    ensures target { inputs.new.target ≡ inputs.old.target }
+    ensures kinds { answer_status result ≢ Status.NotInStep }
+    ensures unread { IfErr inputs.old.volume (λ _. answer_status result ≢ Status.Done) }
+    ensures answers { AnswersFormat D.tells D.size D.bytes D.failed making.now
+        (IsWhole R.remaining inputs.old.passphrase) (IsLong R.remaining inputs.old.passphrase)
+        (IsUnreadEither inputs.old.passphrase (needed making.now.version) inputs.old.random)
+        (IsTaken (needed making.now.version) N.remaining inputs.old.random)
+        inputs.old.volume inputs.new.volume result }
+{
+    let words = match passphrase(alloc, &mut inputs.passphrase) {
+        Ok(words) => words,
+        Err(PassphraseFault::TooLong) => return Answer::Refused(Refusal::LongPassphrase),
+        Err(PassphraseFault::Input(fault)) => return unread(fault, making.passphrase, err),
+    };
+    let device = match &mut inputs.volume {
+        Ok(device) => device,
+        Err(fault) => return unread(*fault, name, err),
+    };
+    let random = match random_bytes(alloc, &mut inputs.random, random_needed(making.version)) {
+        Ok(bytes) => bytes,
+        Err(fault) => return unread(fault, making.random, err),
+    };
+    let (words, random) = (words.as_slice(), random.as_slice());
+    format_device(alloc, device, name, making, words, random, err)
+}
+
+/// How many random bytes a new volume of this version takes.
+fn random_needed(version: NewVersion) -> u64
+    ensures { result ≡ needed version }
+{
+    match version {
+        NewVersion::Luks1 => FORMAT1_RANDOM,
+        NewVersion::Luks2 => FORMAT2_RANDOM,
+    }
+}
+
+fn format_device<D: Device, E: Write>(
+    alloc: Global,
+    device: &mut D,
+    name: &str,
+    making: &Making<'_>,
+    passphrase: &[u8],
+    random: &[u8],
+    err: &mut E,
+) -> Answer
+    requires room { D.failed device.old + 1 < 2 ^ 64 }
+    requires settled { D.tells → IsSettled D.unsettled device.old }
+    ensures settled { D.tells → D.failed device.new ≡ D.failed device.old
+        → IsSettled D.unsettled device.new }
+    ensures size { D.size device.new ≡ D.size device.old }
+    ensures done { D.tells → answer_status result ≡ Status.Done → IsNewVolume making.now
+        passphrase.now random.now (D.bytes device.old) (D.bytes device.new) }
+    ensures refused { D.tells → answer_status result ≡ Status.Refused
+        → D.bytes device.new ≡ D.bytes device.old }
+    ensures kinds { answer_status result ≢ Status.NotInStep }
+    ensures rest { D.tells → SameBut (IsOfNewVolume making.now.version)
+        (D.bytes device.old) (D.bytes device.new) }
+    ensures answers { IsFormatAnswer D.tells making.now passphrase.now random.now
+        (D.size device.old) (D.bytes device.old) (D.bytes device.new)
+        (D.failed device.old) (D.failed device.new) result }
+{
+    match make(alloc, device, making, passphrase, random) {
+        Ok(done) => Answer::Done(done.slot),
+        Err(fault) => {
+            let random = RandomBytes {
+                file: Some(making.random),
+                needed: random_needed(making.version),
+                bytes: random,
+            };
+            not_made(fault, name, &random, err)
+        }
+    }
+}
+
+/// What is answered where this fault ended the making of the volume of this name by these random
+/// bytes.
+#[tactic(auto, using(crate::proofs::FormatFacts::format_kinds, crate::proofs::FormatFacts::format_undone, crate::proofs::FormatFacts::format_refused))]
+fn not_made<E: Write>(
+    fault: FormatFault,
+    name: &str,
+    random: &RandomBytes<'_>,
+    err: &mut E,
+) -> Answer
+    ensures answer { result ≡ format_fault_answer fault }
+    ensures kinds { answer_status result ≢ Status.NotInStep }
+    ensures undone { answer_status result ≢ Status.Done }
+    ensures refused { answer_status result ≡ Status.Refused → fault ≢ FormatFault.Device }
+{
+    match fault {
+        FormatFault::Device => device_fault(name, WRITING_FAILED, err),
+        FormatFault::RandomLength => few_random_bytes(Refusal::Format(fault), random, err),
+        fault => Answer::from(fault),
+    }
+}
+
+/// What failed where a device call failed while a volume was made.
+const WRITING_FAILED: &str = "writing failed, part of it may be written";
+
+fn make<D: Device>(
+    alloc: Global,
+    device: &mut D,
+    making: &Making<'_>,
+    passphrase: &[u8],
+    random: &[u8],
+) -> Result<Done, FormatFault>
+    requires room { D.failed device.old + 1 < 2 ^ 64 }
+    requires settled { D.tells → IsSettled D.unsettled device.old }
+    ensures settled { D.tells → D.failed device.new ≡ D.failed device.old
+        → IsSettled D.unsettled device.new }
+    ensures size { D.size device.new ≡ D.size device.old }
+    ensures made { D.tells → OnOk result (IsNewVolume making.now
+        passphrase.now random.now (D.bytes device.old) (D.bytes device.new)) }
+    ensures refused { D.tells → IfErr result (λ f. f ≢ FormatFault.Device
+        → D.bytes device.new ≡ D.bytes device.old) }
+    ensures rest { D.tells → SameBut (IsOfNewVolume making.now.version)
+        (D.bytes device.old) (D.bytes device.new) }
+    ensures slot { IfOk result (λ done. done.slot ≡ Some 0) }
+    ensures count { CountsFailure is_device_fault result
+        (D.failed device.old) (D.failed device.new) }
+    ensures fault { IfErr result (IsMakingFault making.now (D.size device.old) random.now) }
+{
+    let format = &making.format;
+    match making.version {
+        NewVersion::Luks1 => format1(device, making.data_, format, passphrase, random),
+        NewVersion::Luks2 => format2(alloc, device, making.data_, format, passphrase, random),
+    }
+}

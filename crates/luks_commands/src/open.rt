@@ -1,0 +1,230 @@
+//! The command `open`.
+ghost use Rattle.std.specs.Prelude.{◌≡◌, ◌≢◌, ◌+◌, ◌<◌, ◌^◌, IfErr, length};
+ghost use Rattle.std.specs.Result.{ForOk};
+ghost use Rattle.luks_area.specs.Device.{IsUnchanged};
+ghost use Rattle.luks_commands.specs.Answer.{answer_status, Prints};
+ghost use Rattle.luks_commands.specs.Exit.{IsExitStatus};
+ghost use Rattle.luks_commands.specs.Files.{IsLong, IsUnread, IsWhole, KeepsVolume};
+ghost use Rattle.luks_commands.specs.OpenAnswers.{any_answer, AnswersOpen, IsAnyAnswer, IsOneAnswer, IsOpenAnswer, kib_of, one_answer};
+
+mod memory_notes;
+mod passed_over;
+
+use crate::answers::{Answer, Refusal, Status, end, unread};
+use crate::inputs::Inputs;
+use crate::passphrase_file::{PassphraseFault, passphrase};
+use crate::printer::Printer;
+use luks_head::one_choice;
+use luks_reading::{Device, Key, OpenFault, open_header_slot, read_header, unlock_header};
+pub use memory_notes::{MemoryNote, memory_note};
+use memory_notes::{note_all_wanting, note_refused, note_wanting};
+use passed_over::note_passed_over;
+use std::alloc::Global;
+use std::io::{Read, Write};
+
+/// What is tried, by the words of the command line.
+#[derive(Debug, Clone, Copy)]
+pub struct Tried<'a> {
+    /// The file of the volume.
+    pub volume: &'a str,
+    /// The file of the passphrase.
+    pub passphrase: &'a str,
+    /// The keyslot; without one all are tried.
+    pub slot: Option<u8>,
+    /// How many MiB of memory Argon2 may take for a keyslot.
+    pub memory: u32,
+}
+
+/// Prints whether the passphrase opens the keyslot that is tried, or without one which is the first
+/// that it opens; answers the exit status. The passphrase is read before the volume.
+pub fn run<D: Device, R: Read, N: Read, P: Printer, E: Write>(
+    alloc: Global,
+    inputs: &mut Inputs<D, R, N>,
+    tried: &Tried<'_>,
+    out: &mut P,
+    err: &mut E,
+) -> u8
+    requires room { ForOk inputs.old.volume (λ d. D.failed d + 1 < 2 ^ 64) }
+    requires printer { P.failures out.old + 1 < 2 ^ 64 }
+    ensures unchanged { KeepsVolume D.tells D.size D.bytes D.unsettled inputs.old.volume inputs.new.volume }
+    ensures target { inputs.new.target ≡ inputs.old.target }
+    ensures status { IsExitStatus result }
+    ensures kinds { result ≢ 3 }
+    ensures unread { IfErr inputs.old.volume (λ _. result ≢ 0) }
+    ensures answers { Prints (AnswersOpen D.tells D.bytes D.failed (kib_of tried.now.memory) tried.now.slot
+        (IsWhole R.remaining inputs.old.passphrase) (IsLong R.remaining inputs.old.passphrase)
+        (IsUnread inputs.old.passphrase) inputs.old.volume inputs.new.volume)
+        (P.failures out.old) (P.failures out.new) (P.printed out.old) (P.printed out.new) result }
+{
+    let answer = open_volume(alloc, inputs, tried, err);
+    end(&answer, out)
+}
+
+#[tactic(auto, using(crate::proofs::FileFacts::keeps_same))]
+fn open_volume<D: Device, R: Read, N: Read, E: Write>(
+    alloc: Global,
+    inputs: &mut Inputs<D, R, N>,
+    tried: &Tried<'_>,
+    err: &mut E,
+) -> Answer
+    requires { ForOk inputs.old.volume (λ d. D.failed d + 1 < 2 ^ 64) }
+    ensures unchanged { KeepsVolume D.tells D.size D.bytes D.unsettled inputs.old.volume inputs.new.volume }
+    ensures target { inputs.new.target ≡ inputs.old.target }
+    ensures kinds { answer_status result ≢ Status.NotInStep }
+    ensures unread { IfErr inputs.old.volume (λ _. answer_status result ≢ Status.Done) }
+    ensures answers { AnswersOpen D.tells D.bytes D.failed (kib_of tried.now.memory) tried.now.slot
+        (IsWhole R.remaining inputs.old.passphrase) (IsLong R.remaining inputs.old.passphrase)
+        (IsUnread inputs.old.passphrase) inputs.old.volume inputs.new.volume result }
+{
+    let words = match passphrase(alloc, &mut inputs.passphrase) {
+        Ok(words) => words,
+        Err(PassphraseFault::TooLong) => return Answer::Refused(Refusal::LongPassphrase),
+        Err(PassphraseFault::Input(fault)) => return unread(fault, tried.passphrase, err),
+    };
+    match &mut inputs.volume {
+        Ok(device) => open_device(alloc, device, tried, words.as_slice(), err),
+        Err(fault) => unread(*fault, tried.volume, err),
+    }
+}
+
+fn open_device<D: Device, E: Write>(
+    alloc: Global,
+    device: &mut D,
+    tried: &Tried<'_>,
+    passphrase: &[u8],
+    err: &mut E,
+) -> Answer
+    requires room { D.failed device.old + 1 < 2 ^ 64 }
+    requires passphrase { length passphrase.now < 2 ^ 32 }
+    ensures unchanged { IsUnchanged D.tells D.size D.bytes D.unsettled device.old device.new }
+    ensures kinds { answer_status result ≢ Status.NotInStep }
+    ensures answers { IsOpenAnswer D.tells (kib_of tried.now.memory) (D.bytes device.old)
+        tried.now.slot passphrase.now (D.failed device.old) (D.failed device.new) result }
+{
+    let memory = kib_of(tried.memory);
+    match tried.slot {
+        Some(n) => open_one(alloc, device, tried.volume, n, passphrase, memory, err),
+        None => open_any(alloc, device, tried.volume, passphrase, memory, err),
+    }
+}
+
+/// So many MiB in KiB, and no more than a header can name.
+pub fn kib_of(mib: u32) -> u32
+    ensures { result ≡ kib_of mib }
+{
+    mib.saturating_mul(1024)
+}
+
+fn open_one<D: Device, E: Write>(
+    alloc: Global,
+    device: &mut D,
+    volume: &str,
+    n: u8,
+    passphrase: &[u8],
+    memory: u32,
+    err: &mut E,
+) -> Answer
+    requires room { D.failed device.old + 1 < 2 ^ 64 }
+    requires passphrase { length passphrase.now < 2 ^ 32 }
+    ensures unchanged { IsUnchanged D.tells D.size D.bytes D.unsettled device.old device.new }
+    ensures kinds { answer_status result ≢ Status.NotInStep }
+    ensures answers { IsOneAnswer D.tells memory (D.bytes device.old) n passphrase.now
+        (D.failed device.old) (D.failed device.new) result }
+{
+    one_choice();
+    let header = match read_header(alloc, device) {
+        Ok(header) => header,
+        Err(fault) => {
+            let answer = Answer::from(OpenFault::from(fault));
+            note_failure(&answer, volume, err);
+            return answer;
+        }
+    };
+    let opened = open_header_slot(alloc, device, &header, n, passphrase, memory);
+    match &opened {
+        Ok(None) => note_line_feed(passphrase, err),
+        Err(OpenFault::Slot(_)) => note_refused(&header, n, device.len(), memory, err),
+        Err(OpenFault::Memory) => note_wanting(&header, n, device.len(), memory, err),
+        _ => {}
+    }
+    let answer = one_answer(n, &opened);
+    note_failure(&answer, volume, err);
+    answer
+}
+
+/// What is answered where opening the keyslot `n` gave this.
+fn one_answer(n: u8, opened: &Result<Option<Key>, OpenFault>) -> Answer
+    ensures { result ≡ one_answer n opened.now }
+{
+    match opened {
+        Ok(Some(_)) => Answer::Opens(n),
+        Ok(None) => Answer::Closed(n),
+        Err(fault) => Answer::from(*fault),
+    }
+}
+
+fn open_any<D: Device, E: Write>(
+    alloc: Global,
+    device: &mut D,
+    volume: &str,
+    passphrase: &[u8],
+    memory: u32,
+    err: &mut E,
+) -> Answer
+    requires room { D.failed device.old + 1 < 2 ^ 64 }
+    requires passphrase { length passphrase.now < 2 ^ 32 }
+    ensures unchanged { IsUnchanged D.tells D.size D.bytes D.unsettled device.old device.new }
+    ensures kinds { answer_status result ≢ Status.NotInStep }
+    ensures answers { IsAnyAnswer D.tells memory (D.bytes device.old) passphrase.now
+        (D.failed device.old) (D.failed device.new) result }
+{
+    one_choice();
+    let header = match read_header(alloc, device) {
+        Ok(header) => header,
+        Err(fault) => {
+            let answer = Answer::from(OpenFault::from(fault));
+            note_failure(&answer, volume, err);
+            return answer;
+        }
+    };
+    let opened = unlock_header(alloc, device, &header, passphrase, memory);
+    match &opened {
+        Ok(None) => {
+            note_line_feed(passphrase, err);
+            note_passed_over(&header, device.len(), memory, err);
+        }
+        Err(OpenFault::Memory) => note_all_wanting(&header, device.len(), memory, err),
+        _ => {}
+    }
+    let answer = any_answer(&opened);
+    note_failure(&answer, volume, err);
+    answer
+}
+
+/// What is answered where opening the volume gave this.
+fn any_answer(opened: &Result<Option<(u8, Key)>, OpenFault>) -> Answer
+    ensures { result ≡ any_answer opened.now }
+{
+    match opened {
+        Ok(Some((n, _))) => Answer::Opens(*n),
+        Ok(None) => Answer::NoneOpens,
+        Err(fault) => Answer::from(*fault),
+    }
+}
+
+/// Says which volume it is, where a device call on it failed.
+fn note_failure<E: Write>(answer: &Answer, volume: &str, err: &mut E) {
+    if matches!(answer, Answer::DeviceFault) {
+        let _ = writeln!(err, "luks: {volume}: reading failed");
+    }
+}
+
+/// Says of a passphrase that opened nothing what its reader may not know of it.
+fn note_line_feed<E: Write>(passphrase: &[u8], err: &mut E) {
+    if passphrase.last() == Some(&b'\n') {
+        let _ = writeln!(
+            err,
+            "luks: the passphrase's file ends in a newline, which was taken as part of it"
+        );
+    }
+}

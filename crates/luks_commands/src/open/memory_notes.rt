@@ -1,0 +1,131 @@
+//! What is said of keyslots that derive by Argon2, and of the memory that they take.
+ghost use Rattle.luks_reading.specs.Header.{IsAcceptedHeader};
+
+use crate::open::passed_over::is_unasked;
+use luks_reading::{Cost, Header, refused_slot};
+use std::io::Write;
+
+/// The most MiB that a command line allows.
+const MOST_MIB: u64 = 4194303;
+
+/// How a keyslot derives by Argon2, and whether it is refused.
+#[derive(Debug, Clone, Copy, PartialEq, Eq)]
+pub struct MemoryNote {
+    /// The keyslot.
+    slot: u8,
+    /// The kind, as the header writes it.
+    kind: &'static str,
+    /// The memory that it takes, in KiB.
+    kib: u32,
+    /// It takes more than is allowed, and its passphrase is tried where that much is.
+    wants_more: bool,
+    /// It isn't refused where Argon2 may take what is allowed.
+    is_tried: bool,
+}
+
+impl MemoryNote {
+    /// The memory that it takes in MiB, rounded up.
+    fn mib(&self) -> u64 {
+        (u64::from(self.kib) + 1023) / 1024
+    }
+
+    /// Says of a keyslot that was refused how much would have to be allowed so that its passphrase is
+    /// tried.
+    pub fn say_refused<E: Write>(&self, err: &mut E) {
+        let mib = self.mib();
+        if self.wants_more && mib <= MOST_MIB {
+            let (n, kind) = (self.slot, self.kind);
+            let _ = writeln!(
+                err,
+                "luks: keyslot {n} is derived by {kind}, which takes {mib} MiB of memory: --memory {mib} allows it"
+            );
+        }
+    }
+
+    /// Says of a keyslot how much memory it asked for, where memory was refused.
+    pub fn say_wanting<E: Write>(&self, err: &mut E) {
+        if self.is_tried {
+            let (n, kind) = (self.slot, self.kind);
+            let mib = self.mib();
+            let _ = writeln!(
+                err,
+                "luks: keyslot {n} is derived by {kind}, which asks for {mib} MiB of memory"
+            );
+        }
+    }
+}
+
+/// How the keyslot `n` of a volume of `total` bytes derives by Argon2, where that may take `memory`
+/// KiB; None where the keyslot isn't there, or derives otherwise.
+pub fn memory_note(header: &Header, n: u8, total: u64, memory: u32) -> Option<MemoryNote>
+    requires { IsAcceptedHeader header.now }
+{
+    let argon2 = argon2_of(header, n)?;
+    let wants_more = argon2.kib > memory && refused_slot(header, n, total, argon2.kib).is_none();
+    let is_tried = refused_slot(header, n, total, memory).is_none();
+    Some(MemoryNote {
+        slot: n,
+        kind: argon2.kind,
+        kib: argon2.kib,
+        wants_more,
+        is_tried,
+    })
+}
+
+/// How a keyslot derives by Argon2.
+#[derive(Clone, Copy)]
+struct ByArgon2 {
+    kind: &'static str,
+    kib: u32,
+}
+
+/// Says of the keyslot `n` of a volume of `total` bytes, which was refused where Argon2 may take
+/// `memory` KiB, how much would have to be allowed.
+pub(crate) fn note_refused<E: Write>(header: &Header, n: u8, total: u64, memory: u32, err: &mut E)
+    requires { IsAcceptedHeader header.now }
+{
+    if let Some(note) = memory_note(header, n, total, memory) {
+        note.say_refused(err);
+    }
+}
+
+/// Says of the keyslot `n` how much memory it asked for, where it may take `memory` KiB.
+pub(crate) fn note_wanting<E: Write>(header: &Header, n: u8, total: u64, memory: u32, err: &mut E)
+    requires { IsAcceptedHeader header.now }
+{
+    if let Some(note) = memory_note(header, n, total, memory) {
+        note.say_wanting(err);
+    }
+}
+
+/// The same of each keyslot that is tried.
+pub(crate) fn note_all_wanting<E: Write>(header: &Header, total: u64, memory: u32, err: &mut E)
+    requires { IsAcceptedHeader header.now }
+{
+    for n in 0..32 {
+        if !is_unasked(header, n) {
+            note_wanting(header, n, total, memory, err);
+        }
+    }
+}
+
+/// How the keyslot `n` derives by Argon2, or None where it isn't there or derives otherwise.
+fn argon2_of(header: &Header, n: u8) -> Option<ByArgon2> {
+    let Header::Luks2(copy) = header else {
+        return None;
+    };
+    if n > 31 {
+        return None;
+    }
+    match copy.meta.keyslot(n)?.kdf.cost {
+        Cost::Pbkdf2(_) => None,
+        Cost::Argon2i(costs) => Some(ByArgon2 {
+            kind: "argon2i",
+            kib: costs.memory,
+        }),
+        Cost::Argon2id(costs) => Some(ByArgon2 {
+            kind: "argon2id",
+            kib: costs.memory,
+        }),
+    }
+}

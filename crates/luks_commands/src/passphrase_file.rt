@@ -1,0 +1,63 @@
+//! Reading a passphrase from its file.
+ghost use Rattle.std.specs.Prelude.{◌≡◌, ◌≢◌, ◌≤◌, ◌<◌, IfOk, IfErr, IfSome, length, take};
+ghost use Rattle.luks_commands.specs.Files.{IsLong, IsUnread, IsWhole};
+
+use crate::inputs::InputFault;
+use std::alloc::Global;
+use std::io::Read;
+
+/// The most bytes that a passphrase has.
+const MOST_BYTES: usize = 65536;
+
+/// Why there is no passphrase.
+#[derive(Debug, Clone, Copy, PartialEq, Eq)]
+pub enum PassphraseFault {
+    /// The file has more bytes than a passphrase may have.
+    TooLong,
+    /// The file can't be read.
+    Input(InputFault),
+}
+
+impl From<InputFault> for PassphraseFault {
+    ghost use Rattle.luks_commands.specs.declared.passphrase_file.PassphraseFault.TheVariants.{Input};
+
+    ghost from_gives = { λ fault outer. outer ≡ Input fault };
+
+    fn from(fault: InputFault) -> PassphraseFault {
+        PassphraseFault::Input(fault)
+    }
+}
+
+/// The whole bytes of a passphrase's file, a last newline too.
+#[tactic(auto, using(crate::proofs::Fronts::whole_of))]
+pub fn passphrase<R: Read>(
+    alloc: Global,
+    file: &mut Result<R, InputFault>,
+) -> Result<Vec<u8>, PassphraseFault>
+    ensures length { IfOk result (λ p. length p.items ≤ 65536) }
+    ensures whole { IfOk result (λ p. IsWhole R.remaining file.old p.items) }
+    ensures unread { IfErr result (λ f. (fault : InputFault)
+        → f ≡ PassphraseFault.Input fault → IsUnread file.old fault) }
+    ensures long { IfErr result (λ f. f ≡ PassphraseFault.TooLong → IsLong R.remaining file.old) }
+{
+    let reader = match file {
+        Ok(reader) => reader,
+        Err(fault) => return Err(PassphraseFault::Input(*fault)),
+    };
+    let bytes = first_bytes(alloc, reader)?;
+    if bytes.len() > MOST_BYTES {
+        return Err(PassphraseFault::TooLong);
+    }
+    Ok(bytes)
+}
+
+/// The bytes of a passphrase's file to its end, but at most 65537: one more than a passphrase has,
+/// which tells that the file is too long.
+pub fn first_bytes<R: Read>(alloc: Global, reader: &mut R) -> Result<Vec<u8>, InputFault>
+    ensures bytes { IfOk result (λ p. IfSome (R.remaining reader.old) (λ bytes. p.items ≡ take 65537 bytes)) }
+    ensures kinds { IfErr result (λ f. f ≢ InputFault.Absent) }
+{
+    let mut bytes = Vec::new(alloc);
+    reader.take(MOST_BYTES as u64 + 1).read_to_end(&mut bytes)?;
+    Ok(bytes)
+}

@@ -1,0 +1,73 @@
+//! Reading random bytes from their file.
+ghost use Rattle.std.specs.Prelude.{◌≡◌, ◌≢◌, IfOk, IfErr, IfSome, take};
+ghost use Rattle.luks_commands.specs.Files.{IsTaken, IsUnreadRandom};
+ghost use Rattle.luks_commands.specs.declared.answers.Answer.TheVariants.{Refused};
+
+use crate::answers::{Answer, Refusal};
+use crate::inputs::InputFault;
+use std::alloc::Global;
+use std::io::{Read, Write};
+
+/// The random bytes that a command needs, and those that it has.
+#[derive(Debug, Clone, Copy)]
+pub struct RandomBytes<'a> {
+    /// Their file, where the command line names one.
+    pub file: Option<&'a str>,
+    /// How many are needed.
+    pub needed: u64,
+    /// The first bytes of the file, as many as are needed or as it has; none without a file.
+    pub bytes: &'a [u8],
+}
+
+/// So many random bytes: the first of their file, and no more; fewer where the file ends before, and
+/// none where none is named. The file isn't touched where no byte is asked for.
+pub fn random_bytes<R: Read>(
+    alloc: Global,
+    file: &mut Result<R, InputFault>,
+    count: u64,
+) -> Result<Vec<u8>, InputFault>
+    ensures taken { IfOk result (λ b. IsTaken count R.remaining file.old b.items) }
+    ensures unread { IfErr result (IsUnreadRandom count file.old) }
+{
+    if count == 0 {
+        return Ok(Vec::new(alloc));
+    }
+    match file {
+        Ok(reader) => first_random_bytes(alloc, reader, count),
+        Err(InputFault::Absent) => Ok(Vec::new(alloc)),
+        Err(fault) => Err(*fault),
+    }
+}
+
+fn first_random_bytes<R: Read>(
+    alloc: Global,
+    reader: &mut R,
+    count: u64,
+) -> Result<Vec<u8>, InputFault>
+    ensures kinds { IfErr result (λ f. f ≢ InputFault.Absent) }
+    ensures bytes { IfOk result (λ b. IfSome (R.remaining reader.old) (λ known. b.items ≡ take count known)) }
+{
+    let mut bytes = Vec::new(alloc);
+    reader.take(count).read_to_end(&mut bytes)?;
+    Ok(bytes)
+}
+
+/// What is answered where a command is refused since it has fewer random bytes than it needs: to `err`
+/// goes how many it needs, and how many the file has.
+pub fn few_random_bytes<E: Write>(refusal: Refusal, random: &RandomBytes<'_>, err: &mut E) -> Answer
+    ensures { result ≡ Refused refusal }
+{
+    let needed = random.needed;
+    let had = random.bytes.len();
+    let _ = match random.file {
+        Some(file) => writeln!(
+            err,
+            "luks: {needed} random bytes are needed, {file} has {had}"
+        ),
+        None => writeln!(
+            err,
+            "luks: {needed} random bytes are needed: --random /dev/urandom"
+        ),
+    };
+    Answer::Refused(refusal)
+}

@@ -1,0 +1,2 @@
+pub mod TwoDevices
+pub mod CountFacts

@@ -1,0 +1,156 @@
+-- The faults that the program prints, by their names: what stands before a bracket.
+use Rattle.std.specs.Prelude.{◌≡◌, ◌==◌, ℕ, List, [], ◌∷◌, Option, Some, codes, find, refl}
+use Rattle.std.specs.List.{before_first}
+use Rattle.std.specs.Str.{bytes_eq}
+use Rattle.luks_explain.specs.declared.fault.Fault.{Fault}
+use Rattle.luks_explain.specs.declared.fault.Fault.TheVariants as fault
+
+-- the name in a fault as it is printed: what stands before its first bracket, or all of it
+abbrev pub name_in : List ℕ → List ℕ
+name_in printed = before_first (λ c. c == 40) printed
+
+abbrev pub name_of : Fault → List ℕ
+name_of fault.TooShort = codes "TooShort"
+name_of fault.NotLuks = codes "NotLuks"
+name_of fault.Version = codes "Version"
+name_of fault.NoSoundCopy = codes "NoSoundCopy"
+name_of fault.Text = codes "Text"
+name_of fault.Uuid = codes "Uuid"
+name_of fault.SlotState = codes "SlotState"
+name_of fault.KeyBytes = codes "KeyBytes"
+name_of fault.Stripes = codes "Stripes"
+name_of fault.Iterations = codes "Iterations"
+name_of fault.JsonArea = codes "JsonArea"
+name_of fault.BadJson = codes "BadJson"
+name_of fault.NotWhole = codes "NotWhole"
+name_of fault.Shape = codes "Shape"
+name_of fault.Kind = codes "Kind"
+name_of fault.NoSuchName = codes "NoSuchName"
+name_of fault.Assigned = codes "Assigned"
+name_of fault.Sizes = codes "Sizes"
+name_of fault.AreaTooSmall = codes "AreaTooSmall"
+name_of fault.Region = codes "Region"
+name_of fault.Outside = codes "Outside"
+name_of fault.Overlap = codes "Overlap"
+name_of fault.NoSuchSlot = codes "NoSuchSlot"
+name_of fault.SlotFree = codes "SlotFree"
+name_of fault.Argon2 = codes "Argon2"
+name_of fault.Cipher = codes "Cipher"
+name_of fault.Hash = codes "Hash"
+name_of fault.KeySize = codes "KeySize"
+name_of fault.Locked = codes "Locked"
+name_of fault.Passphrase = codes "Passphrase"
+name_of fault.Requirements = codes "Requirements"
+name_of fault.SlotTaken = codes "SlotTaken"
+name_of fault.NoFreeSlot = codes "NoFreeSlot"
+name_of fault.NoRoom = codes "NoRoom"
+name_of fault.LastSlot = codes "LastSlot"
+name_of fault.BadLabel = codes "BadLabel"
+name_of fault.SeqExhausted = codes "SeqExhausted"
+name_of fault.MetadataFull = codes "MetadataFull"
+name_of fault.RandomLength = codes "RandomLength"
+name_of fault.TooSmall = codes "TooSmall"
+name_of fault.NotLuks1 = codes "NotLuks1"
+name_of fault.SameFile = codes "SameFile"
+name_of fault.Counts = codes "Counts"
+name_of fault.NoMetadata = codes "NoMetadata"
+
+-- each of them, once
+abbrev pub all_faults : List Fault
+all_faults =
+    fault.TooShort
+    ∷ fault.NotLuks
+    ∷ fault.Version
+    ∷ fault.NoSoundCopy
+    ∷ fault.Text
+    ∷ fault.Uuid
+    ∷ fault.SlotState
+    ∷ fault.KeyBytes
+    ∷ fault.Stripes
+    ∷ fault.Iterations
+    ∷ fault.JsonArea
+    ∷ fault.BadJson
+    ∷ fault.NotWhole
+    ∷ fault.Shape
+    ∷ fault.Kind
+    ∷ fault.NoSuchName
+    ∷ fault.Assigned
+    ∷ fault.Sizes
+    ∷ fault.AreaTooSmall
+    ∷ fault.Region
+    ∷ fault.Outside
+    ∷ fault.Overlap
+    ∷ fault.NoSuchSlot
+    ∷ fault.SlotFree
+    ∷ fault.Argon2
+    ∷ fault.Cipher
+    ∷ fault.Hash
+    ∷ fault.KeySize
+    ∷ fault.Locked
+    ∷ fault.Passphrase
+    ∷ fault.Requirements
+    ∷ fault.SlotTaken
+    ∷ fault.NoFreeSlot
+    ∷ fault.NoRoom
+    ∷ fault.LastSlot
+    ∷ fault.BadLabel
+    ∷ fault.SeqExhausted
+    ∷ fault.MetadataFull
+    ∷ fault.RandomLength
+    ∷ fault.TooSmall
+    ∷ fault.NotLuks1
+    ∷ fault.SameFile
+    ∷ fault.Counts
+    ∷ fault.NoMetadata
+    ∷ []
+
+-- the fault of a name, if there is one
+abbrev pub fault_named : List ℕ → Option Fault
+fault_named name = find (λ f. bytes_eq name (name_of f)) all_faults
+
+-- each is known by its name, so that no two have the same
+pub named : (f : Fault) → fault_named (name_of f) ≡ Some f
+named fault.TooShort = refl
+named fault.NotLuks = refl
+named fault.Version = refl
+named fault.NoSoundCopy = refl
+named fault.Text = refl
+named fault.Uuid = refl
+named fault.SlotState = refl
+named fault.KeyBytes = refl
+named fault.Stripes = refl
+named fault.Iterations = refl
+named fault.JsonArea = refl
+named fault.BadJson = refl
+named fault.NotWhole = refl
+named fault.Shape = refl
+named fault.Kind = refl
+named fault.NoSuchName = refl
+named fault.Assigned = refl
+named fault.Sizes = refl
+named fault.AreaTooSmall = refl
+named fault.Region = refl
+named fault.Outside = refl
+named fault.Overlap = refl
+named fault.NoSuchSlot = refl
+named fault.SlotFree = refl
+named fault.Argon2 = refl
+named fault.Cipher = refl
+named fault.Hash = refl
+named fault.KeySize = refl
+named fault.Locked = refl
+named fault.Passphrase = refl
+named fault.Requirements = refl
+named fault.SlotTaken = refl
+named fault.NoFreeSlot = refl
+named fault.NoRoom = refl
+named fault.LastSlot = refl
+named fault.BadLabel = refl
+named fault.SeqExhausted = refl
+named fault.MetadataFull = refl
+named fault.RandomLength = refl
+named fault.TooSmall = refl
+named fault.NotLuks1 = refl
+named fault.SameFile = refl
+named fault.Counts = refl
+named fault.NoMetadata = refl

@@ -1,0 +1,244 @@
+ghost use Rattle.std.specs.Prelude.{◌≡◌, Some};
+ghost use Rattle.luks_explain.specs.Names.{fault_named, name_in, name_of};
+
+use crate::explanation::Explanation;
+use crate::texts::{means, next, place, safe};
+
+/// A fault by its name alone, without what it prints in brackets. Where several faults have one name,
+/// as `Outside` of an area and of the keyslot to open, it stands for all of them.
+#[derive(Debug, Clone, Copy, PartialEq, Eq)]
+pub enum Fault {
+    /// Fewer than 592 bytes, so that no header fits.
+    TooShort,
+    /// No header: the magic isn't there, and no second copy is sound.
+    NotLuks,
+    /// The magic is there, the version is neither 1 nor 2.
+    Version,
+    /// LUKS2: neither copy of the header agrees with its checksum.
+    NoSoundCopy,
+    /// A text of the header holds a byte that can't be printed.
+    Text,
+    /// The uuid isn't one.
+    Uuid,
+    /// LUKS1: keyslot N is neither enabled nor disabled.
+    SlotState,
+    /// LUKS1: a volume key of 0 bytes, or of more than 128.
+    KeyBytes,
+    /// LUKS1: keyslot N has 0 stripes.
+    Stripes,
+    /// LUKS1: 0 iterations; of add, change and format: fewer than 1000.
+    Iterations,
+    /// LUKS2: the metadata's area isn't an object and then zeros.
+    JsonArea,
+    /// LUKS2: the metadata isn't JSON, or nests more than 127 deep.
+    BadJson,
+    /// LUKS2: a number of the metadata isn't a whole one of 64 bits.
+    NotWhole,
+    /// LUKS2: a member is missing, or isn't what it has to be.
+    Shape,
+    /// LUKS2: a type that isn't known, as of an unfinished reencryption.
+    Kind,
+    /// LUKS2: a list names an object that isn't there.
+    NoSuchName,
+    /// LUKS2: a name twice in a list, or a keyslot not in just one digest.
+    Assigned,
+    /// LUKS2: json_size isn't that of the metadata's area.
+    Sizes,
+    /// LUKS2: the area of keyslot N can't hold its stripes.
+    AreaTooSmall,
+    /// LUKS2: a key area lies outside its region, or the data within it.
+    Region,
+    /// An area ends past the volume's end.
+    Outside,
+    /// Two areas share bytes, so that writing one destroys the other.
+    Overlap,
+    /// The keyslot isn't there; of an edit of LUKS1 also: it is disabled.
+    NoSuchSlot,
+    /// LUKS1: the keyslot is disabled.
+    SlotFree,
+    /// The keyslot derives by Argon2, with more memory than is allowed.
+    Argon2,
+    /// The key area's cipher isn't aes-xts-plain64 or aes-xts-plain.
+    Cipher,
+    /// One of the keyslot's hashes isn't sha1, sha256 or sha512.
+    Hash,
+    /// The key of the key area's cipher hasn't 32 or 64 bytes.
+    KeySize,
+    /// The passphrase doesn't open the keyslot.
+    Locked,
+    /// A passphrase's file has more than 65536 bytes.
+    Passphrase,
+    /// The metadata names requirements, as of a reencryption.
+    Requirements,
+    /// The keyslot of --to is in use.
+    SlotTaken,
+    /// No keyslot is free, or LUKS1 has none of that number.
+    NoFreeSlot,
+    /// No gap of the key areas holds a new one; of convert: too large.
+    NoRoom,
+    /// No other keyslot would give the key.
+    LastSlot,
+    /// More than 47 bytes, or one that can't be printed, or LUKS1.
+    BadLabel,
+    /// There is no higher sequence number.
+    SeqExhausted,
+    /// The new metadata is longer than its area.
+    MetadataFull,
+    /// The random file is too short, or none is given.
+    RandomLength,
+    /// The volume, or TARGET, is too short.
+    TooSmall,
+    /// Of convert: SOURCE is of LUKS2.
+    NotLuks1,
+    /// TARGET is SOURCE.
+    SameFile,
+    /// Of rebuild: a header of SOURCE counts.
+    Counts,
+    /// Of rebuild: no metadata of SOURCE is whole.
+    NoMetadata,
+}
+
+impl Fault {
+    /// Every fault: of the header, the metadata of LUKS2, the areas, the keyslot that is to be opened,
+    /// and at last of an edit, of formatting, of converting and of rebuilding.
+    pub const ALL: [Fault; 44] = [
+        Fault::TooShort,
+        Fault::NotLuks,
+        Fault::Version,
+        Fault::NoSoundCopy,
+        Fault::Text,
+        Fault::Uuid,
+        Fault::SlotState,
+        Fault::KeyBytes,
+        Fault::Stripes,
+        Fault::Iterations,
+        Fault::JsonArea,
+        Fault::BadJson,
+        Fault::NotWhole,
+        Fault::Shape,
+        Fault::Kind,
+        Fault::NoSuchName,
+        Fault::Assigned,
+        Fault::Sizes,
+        Fault::AreaTooSmall,
+        Fault::Region,
+        Fault::Outside,
+        Fault::Overlap,
+        Fault::NoSuchSlot,
+        Fault::SlotFree,
+        Fault::Argon2,
+        Fault::Cipher,
+        Fault::Hash,
+        Fault::KeySize,
+        Fault::Locked,
+        Fault::Passphrase,
+        Fault::Requirements,
+        Fault::SlotTaken,
+        Fault::NoFreeSlot,
+        Fault::NoRoom,
+        Fault::LastSlot,
+        Fault::BadLabel,
+        Fault::SeqExhausted,
+        Fault::MetadataFull,
+        Fault::RandomLength,
+        Fault::TooSmall,
+        Fault::NotLuks1,
+        Fault::SameFile,
+        Fault::Counts,
+        Fault::NoMetadata,
+    ];
+
+    /// The fault that is so printed, or that has this name; None where none has.
+    pub fn find(printed: &str) -> Option<Fault>
+        ensures { result ≡ fault_named (name_in printed.now) }
+    {
+        fault_of(front(printed))
+    }
+
+    /// What it prints before a bracket, by which it is found.
+    #[tactic(auto, using(crate::specs::Names::named))]
+    pub fn name(self) -> &'static str
+        ensures value { result.now ≡ name_of self }
+        ensures known { fault_named result.now ≡ Some self }
+    {
+        match self {
+            Fault::TooShort => "TooShort",
+            Fault::NotLuks => "NotLuks",
+            Fault::Version => "Version",
+            Fault::NoSoundCopy => "NoSoundCopy",
+            Fault::Text => "Text",
+            Fault::Uuid => "Uuid",
+            Fault::SlotState => "SlotState",
+            Fault::KeyBytes => "KeyBytes",
+            Fault::Stripes => "Stripes",
+            Fault::Iterations => "Iterations",
+            Fault::JsonArea => "JsonArea",
+            Fault::BadJson => "BadJson",
+            Fault::NotWhole => "NotWhole",
+            Fault::Shape => "Shape",
+            Fault::Kind => "Kind",
+            Fault::NoSuchName => "NoSuchName",
+            Fault::Assigned => "Assigned",
+            Fault::Sizes => "Sizes",
+            Fault::AreaTooSmall => "AreaTooSmall",
+            Fault::Region => "Region",
+            Fault::Outside => "Outside",
+            Fault::Overlap => "Overlap",
+            Fault::NoSuchSlot => "NoSuchSlot",
+            Fault::SlotFree => "SlotFree",
+            Fault::Argon2 => "Argon2",
+            Fault::Cipher => "Cipher",
+            Fault::Hash => "Hash",
+            Fault::KeySize => "KeySize",
+            Fault::Locked => "Locked",
+            Fault::Passphrase => "Passphrase",
+            Fault::Requirements => "Requirements",
+            Fault::SlotTaken => "SlotTaken",
+            Fault::NoFreeSlot => "NoFreeSlot",
+            Fault::NoRoom => "NoRoom",
+            Fault::LastSlot => "LastSlot",
+            Fault::BadLabel => "BadLabel",
+            Fault::SeqExhausted => "SeqExhausted",
+            Fault::MetadataFull => "MetadataFull",
+            Fault::RandomLength => "RandomLength",
+            Fault::TooSmall => "TooSmall",
+            Fault::NotLuks1 => "NotLuks1",
+            Fault::SameFile => "SameFile",
+            Fault::Counts => "Counts",
+            Fault::NoMetadata => "NoMetadata",
+        }
+    }
+
+    /// What is to be said of it.
+    pub fn explanation(self) -> Explanation
+        ensures { result.name.now ≡ name_of self }
+    {
+        Explanation {
+            name: self.name(),
+            means: means(self),
+            place: place(self),
+            safe: safe(self),
+            next: next(self),
+        }
+    }
+}
+
+// What stands before the first bracket.
+fn front(printed: &str) -> &str
+    ensures { result.now ≡ name_in printed.now }
+{
+    match printed.split_once('(') {
+        Some((name, _)) => name,
+        None => printed,
+    }
+}
+
+// The fault of this name.
+fn fault_of(name: &str) -> Option<Fault>
+    ensures { result ≡ fault_named name.now }
+{
+    Fault::ALL
+        .iter()
+        .copied()
+        .find(|fault| name == fault.name())
+}

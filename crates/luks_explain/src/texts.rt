@@ -1,0 +1,326 @@
+//! The texts, by what they answer.
+use crate::fault::Fault;
+
+// What the fault says.
+pub(crate) fn means(fault: Fault) -> &'static str {
+    match fault {
+        Fault::TooShort => "fewer than 592 bytes, so that no header fits",
+        Fault::NotLuks => "no header: the magic isn't there, and no second copy is sound",
+        Fault::Version => "the magic is there, the version is neither 1 nor 2",
+        Fault::NoSoundCopy => "LUKS2: neither copy of the header agrees with its checksum",
+        Fault::Text => "a text of the header holds a byte that can't be printed",
+        Fault::Uuid => "the uuid isn't one",
+        Fault::SlotState => "LUKS1: keyslot N is neither enabled nor disabled",
+        Fault::KeyBytes => "LUKS1: a volume key of 0 bytes, or of more than 128",
+        Fault::Stripes => "LUKS1: keyslot N has 0 stripes",
+        Fault::Iterations => "LUKS1: 0 iterations; of add, change and format: fewer than 1000",
+        Fault::JsonArea => "LUKS2: the metadata's area isn't an object and then zeros",
+        Fault::BadJson => "LUKS2: the metadata isn't JSON, or nests more than 127 deep",
+        Fault::NotWhole => "LUKS2: a number of the metadata isn't a whole one of 64 bits",
+        Fault::Shape => "LUKS2: a member is missing, or isn't what it has to be",
+        Fault::Kind => "LUKS2: a type that isn't known, as of an unfinished reencryption",
+        Fault::NoSuchName => "LUKS2: a list names an object that isn't there",
+        Fault::Assigned => "LUKS2: a name twice in a list, or a keyslot not in just one digest",
+        Fault::Sizes => "LUKS2: json_size isn't that of the metadata's area",
+        Fault::AreaTooSmall => "LUKS2: the area of keyslot N can't hold its stripes",
+        Fault::Region => "LUKS2: a key area lies outside its region, or the data within it",
+        Fault::Outside => "an area ends past the volume's end",
+        Fault::Overlap => "two areas share bytes, so that writing one destroys the other",
+        Fault::NoSuchSlot => "the keyslot isn't there; of an edit of LUKS1 also: it is disabled",
+        Fault::SlotFree => "LUKS1: the keyslot is disabled",
+        Fault::Argon2 => "the keyslot derives by Argon2, with more memory than is allowed",
+        Fault::Cipher => "the key area's cipher isn't aes-xts-plain64 or aes-xts-plain",
+        Fault::Hash => "one of the keyslot's hashes isn't sha1, sha256 or sha512",
+        Fault::KeySize => "the key of the key area's cipher hasn't 32 or 64 bytes",
+        Fault::Locked => "the passphrase doesn't open the keyslot",
+        Fault::Passphrase => "a passphrase's file has more than 65536 bytes",
+        Fault::Requirements => "the metadata names requirements, as of a reencryption",
+        Fault::SlotTaken => "the keyslot of --to is in use",
+        Fault::NoFreeSlot => "no keyslot is free, or LUKS1 has none of that number",
+        Fault::NoRoom => "no gap of the key areas holds a new one; of convert: too large",
+        Fault::LastSlot => "no other keyslot would give the key",
+        Fault::BadLabel => "more than 47 bytes, or one that can't be printed, or LUKS1",
+        Fault::SeqExhausted => "there is no higher sequence number",
+        Fault::MetadataFull => "the new metadata is longer than its area",
+        Fault::RandomLength => "the random file is too short, or none is given",
+        Fault::TooSmall => "the volume, or TARGET, is too short",
+        Fault::NotLuks1 => "of convert: SOURCE is of LUKS2",
+        Fault::SameFile => "TARGET is SOURCE",
+        Fault::Counts => "of rebuild: a header of SOURCE counts",
+        Fault::NoMetadata => "of rebuild: no metadata of SOURCE is whole",
+    }
+}
+
+// Where it can stand.
+pub(crate) fn place(fault: Fault) -> &'static str {
+    match fault {
+        Fault::TooShort => "the whole volume, of either version",
+        Fault::NotLuks => "byte 0, and the nine places where a second copy of LUKS2 can stand",
+        Fault::Version => "bytes 6 and 7 of the header",
+        Fault::NoSoundCopy => "both copies, with their metadata",
+        Fault::Text => {
+            "Text(FIELD): of LUKS1 cipher-name, cipher-mode, hash-spec or uuid, of
+       LUKS2 uuid"
+        }
+        Fault::Uuid => "the header's field uuid, of either version",
+        Fault::SlotState => "SlotState(N): 4 bytes of the header, at 208 + 48 * N",
+        Fault::KeyBytes => "bytes 108 to 111 of the header",
+        Fault::Stripes => "Stripes(N): 4 bytes of the header, at 252 + 48 * N",
+        Fault::Iterations => {
+            "Iterations(Slot(N)): keyslot N's entry in the header; Iterations(Digest):
+       the digest's number; Iterations alone: --iterations"
+        }
+        Fault::JsonArea | Fault::BadJson => {
+            "the metadata of the copy that counts, behind its first 4096 bytes"
+        }
+        Fault::NotWhole => "anywhere in the metadata, as 1.0 or 1e2",
+        Fault::Shape => "Shape(PATH): the member of the metadata, as keyslots.0.kdf",
+        Fault::Kind => "Kind(PATH): the type in the metadata, as keyslots.2.type",
+        Fault::NoSuchName => "NoSuchName(PATH): the list in the metadata, as digests.0.keyslots",
+        Fault::Assigned => {
+            "Assigned(PATH): the list, as digests.0.keyslots; or the keyslot or
+       segment that no digest or more than one names, as keyslots.3"
+        }
+        Fault::Sizes => "config.json_size in the metadata: the copy's length less 4096",
+        Fault::AreaTooSmall => "AreaTooSmall(N): area.size of keyslot N in the metadata",
+        Fault::Region => {
+            "Region(Slot(N)): keyslot N's area isn't in the region behind both copies;
+       Region(Segment(N)): the data begins before that region's end"
+        }
+        Fault::Outside => {
+            "Outside(NAME): Head1 and Head2 (the header), Slot(N) (the area of keyslot
+       N), Segment(N) (the data); Outside alone: the area of the keyslot that is
+       to be opened"
+        }
+        Fault::Overlap => {
+            "Overlap(NAME,NAME): Head1 and Head2 (the header), Slot(N) (the area of
+       keyslot N), Segment(N) (the data)"
+        }
+        Fault::NoSuchSlot | Fault::Cipher | Fault::KeySize => {
+            "open, add, change and remove: the keyslot of --slot"
+        }
+        Fault::SlotFree => "open: the keyslot of --slot",
+        Fault::Argon2 => "open, add, change and remove: the keyslot of --slot, of LUKS2",
+        Fault::Hash => {
+            "open, add, change and remove: the hash of the derivation, the splitter or
+       the digest of the keyslot of --slot"
+        }
+        Fault::Locked => "add, change and remove: the keyslot of --slot",
+        Fault::Passphrase => "the file of --passphrase or --new",
+        Fault::Requirements => {
+            "add, change, remove, repair and label, of LUKS2: config.requirements"
+        }
+        Fault::SlotTaken => "add: the keyslot of --to",
+        Fault::NoFreeSlot => "add, and change of LUKS1: LUKS1 has 0 to 7, LUKS2 0 to 31",
+        Fault::NoRoom => "add and change, of LUKS2; convert: the areas would end past 16777216",
+        Fault::LastSlot => "remove: the keyslot of --slot is the last one of its volume key",
+        Fault::BadLabel => "label: TEXT",
+        Fault::SeqExhausted => {
+            "add, change, remove, repair and label: seqid of the copy that counts, of
+       LUKS2"
+        }
+        Fault::MetadataFull => "add, change, remove, repair and label, of LUKS2",
+        Fault::RandomLength => "the commands that write: the file of --random",
+        Fault::TooSmall => {
+            "format: fewer than 2097152 bytes, of LUKS2 16777216; convert: TARGET,
+       16777216"
+        }
+        Fault::NotLuks1 => "convert: SOURCE",
+        Fault::SameFile => {
+            "convert and rebuild: one file or device, by the same words or by two names"
+        }
+        Fault::Counts => "rebuild: SOURCE",
+        Fault::NoMetadata => "rebuild: each copy's JSON area in SOURCE",
+    }
+}
+
+// What is still safe.
+pub(crate) fn safe(fault: Fault) -> &'static str {
+    match fault {
+        Fault::TooShort => {
+            "nothing of a volume is in this file; the disk that it came from is as it
+       was"
+        }
+        Fault::NotLuks | Fault::Version => {
+            "the data is as it was, but without a header nothing decrypts it"
+        }
+        Fault::NoSoundCopy => {
+            "key areas and data may be as they were; but the metadata held the salts,
+       without which no passphrase works"
+        }
+        Fault::Text | Fault::KeyBytes => {
+            "keyslots and data; but no keyslot opens before the field is put right"
+        }
+        Fault::Uuid => {
+            "keyslots and data: no key needs the uuid, but luks opens none before it
+       is put right"
+        }
+        Fault::SlotState | Fault::Stripes => {
+            "the data and every other keyslot: any other passphrase opens the volume"
+        }
+        Fault::Iterations => {
+            "with Slot(N) the data and every other keyslot; with Digest keyslots and
+       data, but none opens before it is put right; alone everything"
+        }
+        Fault::JsonArea
+        | Fault::BadJson
+        | Fault::NotWhole
+        | Fault::Shape
+        | Fault::Kind
+        | Fault::NoSuchName
+        | Fault::Assigned
+        | Fault::Sizes
+        | Fault::AreaTooSmall => {
+            "key areas and data: both checksums were right, so no disk failed here,
+       but some program wrote it so"
+        }
+        Fault::Region => "key areas and data; with a detached header nothing is wrong",
+        Fault::Outside => {
+            "key areas that are still there open; what is missing from the end of the
+       data is lost to this copy"
+        }
+        Fault::Overlap => {
+            "keyslots and data, as long as no keyslot is added, changed or removed;
+       opening one is safe"
+        }
+        Fault::NoSuchSlot
+        | Fault::SlotFree
+        | Fault::Locked
+        | Fault::Passphrase
+        | Fault::Requirements
+        | Fault::SlotTaken
+        | Fault::NoFreeSlot
+        | Fault::NoRoom
+        | Fault::LastSlot
+        | Fault::BadLabel
+        | Fault::SeqExhausted
+        | Fault::MetadataFull
+        | Fault::RandomLength
+        | Fault::TooSmall
+        | Fault::NotLuks1
+        | Fault::SameFile
+        | Fault::Counts
+        | Fault::NoMetadata => { "everything: nothing was written" }
+        Fault::Argon2 => { "everything: the passphrase goes through Argon2, which takes memory" }
+        Fault::Cipher | Fault::KeySize => "everything: luks doesn't decrypt such a key area",
+        Fault::Hash => "everything: luks doesn't know such a hash",
+    }
+}
+
+// What to try next.
+pub(crate) fn next(fault: Fault) -> &'static str {
+    match fault {
+        Fault::TooShort => {
+            "see whether it is the right file, and was copied whole; else restore a
+       header backup"
+        }
+        Fault::NotLuks => {
+            "see whether it is the right device: a partition of a disk's image begins
+       further in; after wipefs or mkswap put the magic back, on a copy of the
+       header; else restore a header backup"
+        }
+        Fault::Version => {
+            "of LUKS1 put \\0\\1 back at byte 6, on a copy of the header; of LUKS2 more
+       is damaged, as by a partition table: restore a header backup"
+        }
+        Fault::NoSoundCopy => {
+            "see whether the image is whole; read a disk that fails again, to an
+       image; else restore a header backup (no repair helps)"
+        }
+        Fault::Text => {
+            "of LUKS1 put the text back on a copy of the header, as aes at byte 8,
+       xts-plain64 at 40, sha256 at 72, with zeros behind it, and try luks open;
+       else restore a header backup"
+        }
+        Fault::Uuid => "set it anew: cryptsetup luksUUID VOLUME --uuid UUID",
+        Fault::SlotState => {
+            "if the keyslot is in use, put \\0\\254\\161\\363 back there, on a copy of the
+       header; if it is free, or a partition table was written over the header
+       (SlotState(5)), let cryptsetup repair it, on a copy first"
+        }
+        Fault::KeyBytes => "restore a header backup",
+        Fault::Stripes => {
+            "if the keyslot is free, let cryptsetup repair it, on a copy of the header
+       first; if it is in use, restore a header backup"
+        }
+        Fault::Iterations => "restore a header backup; alone: give --iterations 1000 or more",
+        Fault::JsonArea
+        | Fault::BadJson
+        | Fault::NotWhole
+        | Fault::Shape
+        | Fault::NoSuchName
+        | Fault::Assigned
+        | Fault::Sizes
+        | Fault::AreaTooSmall => {
+            "where cryptsetup opens the volume it is right to; else restore a header
+       backup"
+        }
+        Fault::Kind => {
+            "finish a reencryption by cryptsetup reencrypt --resume-only, after a
+       backup; else where cryptsetup opens the volume it is right to"
+        }
+        Fault::Region => {
+            "Region(Segment(0)) is mostly a detached header: give --detached; else
+       where cryptsetup opens the volume it is right to; else restore a header
+       backup"
+        }
+        Fault::Outside => {
+            "fetch an image that was cut off again, or set the partition to its old
+       size; of a header alone say --detached; add, change and remove no keyslot
+       before that"
+        }
+        Fault::Overlap => {
+            "of a header alone say --detached; luks show lists the places: put back
+       the wrong one, on a copy of the header; else restore a header backup"
+        }
+        Fault::NoSuchSlot => "luks show lists the keyslots that there are",
+        Fault::SlotFree => {
+            "luks show lists the keyslots that are enabled; open without --slot tries
+       all"
+        }
+        Fault::Argon2 => {
+            "the same command with --memory and the MiB that standard error says;
+       where there isn't as much: cryptsetup open --test-passphrase, on a copy of
+       the header"
+        }
+        Fault::Cipher | Fault::Hash | Fault::KeySize => {
+            "try it by cryptsetup open --test-passphrase, on a copy of the header"
+        }
+        Fault::Locked => {
+            "luks open tells which keyslot it opens; a newline at the end of its file
+       is a part of it, and printf %s writes none"
+        }
+        Fault::Passphrase => "see whether it is the right file; a longer passphrase isn't taken",
+        Fault::Requirements => {
+            "finish the reencryption by cryptsetup; such metadata is left to it"
+        }
+        Fault::SlotTaken => {
+            "luks show lists those in use; without --to the least that is free is made"
+        }
+        Fault::NoFreeSlot => {
+            "remove a keyslot that isn't needed (luks remove), or give --to a number
+       that there is"
+        }
+        Fault::NoRoom => "remove a keyslot that isn't needed; of convert, of SOURCE",
+        Fault::LastSlot => {
+            "add another keyslot first (luks add), or change this one (luks change)"
+        }
+        Fault::BadLabel => "give at most 47 bytes of 0x20 to 0x7E; LUKS1 has no label",
+        Fault::SeqExhausted => {
+            "no count of edits leads there: some program wrote it so; restore a header
+       backup with a lower one (luks show BACKUP prints it as seqid)"
+        }
+        Fault::MetadataFull => {
+            "remove a keyslot that isn't needed, or a token (cryptsetup token remove)"
+        }
+        Fault::RandomLength => "give --random /dev/urandom",
+        Fault::TooSmall => {
+            "make the file longer, as by truncate -s 16M FILE; format --version 1
+       takes 2 MiB"
+        }
+        Fault::NotLuks1 => "nothing is to be converted: luks opens it as it is",
+        Fault::SameFile => "give a file of its own as TARGET: truncate -s 16M TARGET makes one",
+        Fault::Counts => "luks opens it as it is; luks repair writes both copies anew",
+        Fault::NoMetadata => "a backup of the header, by cryptsetup luksHeaderRestore",
+    }
+}

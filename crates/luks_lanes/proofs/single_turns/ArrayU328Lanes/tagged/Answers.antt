@@ -1,0 +1,10 @@
+use Rattle.std.proofs.Common.{ap, sym, ◌∙◌}
+use Rattle.sha2.specs.Sha256.{compress, digest_bytes}
+use Rattle.luks_lanes.specs.Pair.{last_block}
+use Rattle.luks_lanes.proofs.TurnFacts.{hmac_words}
+use Rattle.luks_lanes.proofs.single_turns.ArrayU328Lanes.tagged.Goals as goal
+
+pub returns : goal.returns
+returns c = λ key j lt whole held.
+    ap (λ w. digest_bytes w 8) (c.compress.ensures ∙ ap (λ m. compress c.args.outer.now (last_block m)) c.compress-middle.ensures)
+    ∙ sym (hmac_words key _ _ _ whole held.0 held.1)

@@ -1,0 +1,3 @@
+pub mod BehindZeros
+pub mod FrontFailures
+pub mod Leftovers

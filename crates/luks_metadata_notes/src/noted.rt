@@ -1,0 +1,63 @@
+//! The lines.
+ghost use Rattle.std.specs.Prelude.{◌+◌, ◌^◌, ◌<◌};
+ghost use Rattle.luks_area.specs.Device.{IsUnchanged};
+
+use luks_area::Device;
+use luks_meta::Meta;
+use luks_rebuilding::{Candidate, Which, find_candidate};
+use std::alloc::Global;
+use std::io::Write;
+
+/// Says to `err` of a volume of which no header counts in which copy metadata is whole, the first in
+/// the order of `rebuild`, and that a header can be made of it. Where a header counts or no metadata is
+/// whole, where the device fails or memory is refused, it says nothing.
+pub fn note_whole<D: Device, E: Write>(alloc: Global, device: &mut D, err: &mut E)
+    requires { D.failed device.old + 1 < 2 ^ 64 }
+    ensures { IsUnchanged D.tells D.size D.bytes D.unsettled device.old device.new }
+{
+    if let Ok(found) = find_candidate(alloc, device, Which::Any) {
+        let (count, keyslots) = counted(&found.meta);
+        let copy = copy_of(&found);
+        let _ = writeln!(
+            err,
+            "luks: metadata of {count} {keyslots} is whole in the {copy} copy: luks rebuild makes a header of it"
+        );
+    }
+}
+
+/// Says to `err` of which copy's metadata a header was made, and how many keyslots it has. It is asked
+/// of the volume once more; where that fails it says nothing.
+pub fn note_taken<D: Device, E: Write>(alloc: Global, device: &mut D, which: Which, err: &mut E)
+    requires { D.failed device.old + 1 < 2 ^ 64 }
+    ensures { IsUnchanged D.tells D.size D.bytes D.unsettled device.old device.new }
+{
+    if let Ok(found) = find_candidate(alloc, device, which) {
+        let (count, keyslots) = counted(&found.meta);
+        let copy = copy_of(&found);
+        let _ = writeln!(
+            err,
+            "luks: made of the metadata in the {copy} copy, which has {count} {keyslots}"
+        );
+    }
+}
+
+/// Which copy the metadata was read from.
+fn copy_of(found: &Candidate) -> &'static str {
+    if found.place.at == 0 {
+        "first"
+    } else {
+        "second"
+    }
+}
+
+/// How many keyslots the metadata has, and what so many are called.
+fn counted(meta: &Meta) -> (u8, &'static str) {
+    let mut count: u8 = 0;
+    for n in 0..32 {
+        if meta.keyslot(n).is_some() {
+            count = count.saturating_add(1);
+        }
+    }
+    let name = if count == 1 { "keyslot" } else { "keyslots" };
+    (count, name)
+}

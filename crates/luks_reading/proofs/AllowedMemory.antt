@@ -1,0 +1,121 @@
+-- What the memory that is allowed changes: with none all is as it is without Argon2, and with more
+-- no keyslot is refused that wasn't.
+use Rattle.std.proofs.Common.{◌≡◌, ◌∙◌, ◌↔◌, ◌≤◌, ℕ, List, true, false, Option, Some, None, refl, ap, sym, subst, inl, inr}
+use Rattle.std.specs.Prelude.{◌||◌, ◌==◌, not, Bool, if◌then◌else◌}
+use Rattle.luks_area.specs.Ranges.{part}
+use Rattle.luks_head.specs.declared.fault.HeadFault.{HeadFault}
+use Rattle.luks_head.specs.Header1.{entry}
+use Rattle.luks_head.specs.Selection.{Choice, luks1, luks2, nothing, Chosen}
+use Rattle.luks_slot.specs.declared.fault.SlotFault.{SlotFault}
+use Rattle.luks_slot.specs.declared.fault.SlotFault.TheVariants as fault
+use Rattle.luks_slot.specs.declared.plan.Derivation.{Derivation}
+use Rattle.luks_slot.specs.declared.plan.Derivation.TheVariants.{Pbkdf2, Argon2}
+use Rattle.luks_slot.specs.declared.plan.SlotPlan.{SlotPlan}
+use Rattle.luks_slot.specs.Refusal.{are_known_hashes, first_refusal, is_argon2, is_open_cipher, slot_refusal, slot_refusal_within}
+use Rattle.luks_reading.specs.declared.open_fault.OpenFault.{OpenFault}
+use Rattle.luks_reading.specs.declared.open_fault.OpenFault.TheVariants.{Head, Meta, NoSuchSlot, SlotFree, Outside, Slot, Device, Memory}
+use Rattle.luks_reading.specs.Answer.{HasPlanAs, HasRefusedPlan, HasRefusedPlanWithin, IsRefusalAsWithin, OpensWithin, TakesMemory}
+use Rattle.luks_reading.specs.declared.read_fault.ReadFault.TheVariants as reading
+use Rattle.luks_reading.specs.Header.{IsReadFaultAs, TakesNoMemory}
+use Rattle.luks_reading.specs.MemoryFacts.{refusal_at_zero, still_accepted}
+use Rattle.luks_reading.specs.PlanAnswers.{PlanTakesMemory}
+use Rattle.luks_reading.specs.Plans.{HasLuks1Plan, HasLuks2Plan, IsLuks1Derivation}
+
+-- ---- none
+
+pub as_before : (json : List ℕ) (n : ℕ) (f : SlotFault) → HasRefusedPlanWithin 0 (HasLuks2Plan json n) f ↔ HasRefusedPlan (HasLuks2Plan json n) f
+as_before json n f = (
+  λ x. record { plan = x.plan; is = x.is; refused = sym (refusal_at_zero x.plan) ∙ x.refused },
+  λ x. record { plan = x.plan; is = x.is; refused = refusal_at_zero x.plan ∙ x.refused },
+)
+
+-- `Argon2` stands exactly where its test holds
+stands : (b : Bool) (plan : SlotPlan) → b ≡ true → first_refusal b plan ≡ Some fault.Argon2
+stands b plan is = ap (λ test. first_refusal test plan) is
+
+tested : (b cipher hashes size : Bool)
+    → (if b then Some fault.Argon2 else if not cipher then Some fault.Cipher else if not hashes then Some fault.Hash else if not size then Some fault.KeySize else None)
+    ≡ Some fault.Argon2 → b ≡ true
+tested true cipher hashes size is = refl
+tested false false hashes size is = absurd (cc)
+tested false true false size is = absurd (cc)
+tested false true true false is = absurd (cc)
+tested false true true true is = absurd (cc)
+
+holds : (plan : SlotPlan) → slot_refusal plan ≡ Some fault.Argon2 → is_argon2 plan.derivation ≡ true
+holds plan is =
+    tested (is_argon2 plan.derivation) (is_open_cipher plan.cipher) (are_known_hashes plan) (plan.area_key_bytes == 32 || plan.area_key_bytes == 64) is
+
+pub by_argon2 : (json : List ℕ) (n : ℕ)
+    → HasRefusedPlanWithin 0 (HasLuks2Plan json n) fault.Argon2 ↔ ((plan : SlotPlan) × (HasLuks2Plan json n plan × (is_argon2 plan.derivation ≡ true)))
+by_argon2 json n = (
+  λ x. (x.plan, (x.is, holds x.plan (sym (refusal_at_zero x.plan) ∙ x.refused))),
+  λ x. record { plan = x.0; is = x.1.0; refused = refusal_at_zero x.0 ∙ stands (is_argon2 x.0.derivation) x.0 x.1.1 },
+)
+
+luks1_never : (h e : List ℕ) (d : Derivation) → IsLuks1Derivation h e d → is_argon2 d ≡ true → ⊥
+luks1_never h e (Pbkdf2 k i s) x is = cc
+luks1_never h e (Argon2 c) x is = x
+
+taken_as : (v : List ℕ) (n : ℕ) (c : Choice) (plan : SlotPlan) → HasPlanAs v n c plan → ((f : OpenFault) → IsRefusalAsWithin 0 v n c f → ⊥)
+    → is_argon2 plan.derivation ≡ true → ⊥
+taken_as v n luks1 plan is clear argon2 = luks1_never (part v 0 592) (entry (part v 0 592) n) plan.derivation is.is.derivation argon2
+taken_as v n (luks2 o copies) plan is clear argon2 =
+    clear (Slot fault.Argon2) (record { plan = plan; is = is; refused = refusal_at_zero plan ∙ stands (is_argon2 plan.derivation) plan argon2 })
+taken_as v n nothing plan is clear argon2 = is
+
+pub nothing_taken : (v : List ℕ) (n : ℕ) → TakesMemory 0 v n → ⊥
+nothing_taken v n x = taken_as v n x.choice x.plan x.is x.unrefused x.argon2
+
+-- none is taken of a volume that takes none
+none_taken_as : (memory : ℕ) (v : List ℕ) (n : ℕ) (x : TakesMemory memory v n) (c : Choice) → x.choice ≡ c → (f : HeadFault) → IsReadFaultAs v c (reading.Head f) → ⊥
+none_taken_as memory v n x luks1 is f fault_ = fault_
+none_taken_as memory v n x (luks2 o copies) is f fault_ = x.unrefused (Head f) (subst (λ d. IsRefusalAsWithin memory v n d (Head f)) (sym is) fault_)
+none_taken_as memory v n x nothing is f fault_ = subst (λ d. HasPlanAs v n d x.plan) is x.is
+
+pub none_taken : ((v : List ℕ) (b c : Choice) → Chosen v b → Chosen v c → b ≡ c) → (memory : ℕ) (v : List ℕ) (n : ℕ) → TakesMemory memory v n → TakesNoMemory v → ⊥
+none_taken one memory v n x (inl chosen) =
+    let is : HasLuks1Plan (part v 0 592) n x.plan = subst (λ d. HasPlanAs v n d x.plan) (one v x.choice luks1 x.chosen chosen) x.is in
+    luks1_never (part v 0 592) (entry (part v 0 592) n) x.plan.derivation is.is.derivation x.argon2
+none_taken one memory v n x (inr unread) = none_taken_as memory v n x unread.1.choice (one v x.choice unread.1.choice x.chosen unread.1.chosen) unread.0 unread.1.fault
+
+-- and so it is of the plan alone
+pub no_plan_takes : (plan : SlotPlan) (total : ℕ) → PlanTakesMemory 0 plan total → ⊥
+no_plan_takes plan total x =
+    let none = x.accepted.accepted in
+    let some = refusal_at_zero plan ∙ stands (is_argon2 plan.derivation) plan x.argon2 in
+    cc
+
+-- ---- more
+
+none_of : (r : Option SlotFault) → ((f : SlotFault) → r ≡ Some f → ⊥) → r ≡ None
+none_of None some = refl
+none_of (Some f) some = absurd (some f refl)
+
+still_unrefused : (allowed more : ℕ) (v : List ℕ) (n : ℕ) (c : Choice) → allowed ≤ more → ((f : OpenFault) → IsRefusalAsWithin allowed v n c f → ⊥)
+    → (f : OpenFault) → IsRefusalAsWithin more v n c f → ⊥
+still_unrefused allowed more v n luks1 le clear f y = clear f y
+still_unrefused allowed more v n (luks2 o copies) le clear (Head f) y = clear (Head f) y
+still_unrefused allowed more v n (luks2 o copies) le clear (Meta f) y = clear (Meta f) y
+still_unrefused allowed more v n (luks2 o copies) le clear NoSuchSlot y = clear NoSuchSlot y
+still_unrefused allowed more v n (luks2 o copies) le clear SlotFree y = y
+still_unrefused allowed more v n (luks2 o copies) le clear Outside y = clear Outside y
+still_unrefused allowed more v n (luks2 o copies) le clear (Slot f) y =
+    let before = none_of (slot_refusal_within allowed y.plan) (λ g is. clear (Slot g) (record { plan = y.plan; is = y.is; refused = is })) in
+    let after = still_accepted allowed more y.plan le before in
+    let refused = y.refused in
+    cc
+still_unrefused allowed more v n (luks2 o copies) le clear Device y = y
+still_unrefused allowed more v n (luks2 o copies) le clear Memory y = y
+still_unrefused allowed more v n nothing le clear f y = clear f y
+
+pub opens_alike : (allowed more : ℕ) (v : List ℕ) (n : ℕ) (p : List ℕ) (found : Option (List ℕ)) → allowed ≤ more → OpensWithin allowed v n p found
+    → OpensWithin more v n p found
+opens_alike allowed more v n p found le x = record {
+  choice = x.choice;
+  chosen = x.chosen;
+  plan = x.plan;
+  is = x.is;
+  unrefused = still_unrefused allowed more v n x.choice le x.unrefused;
+  key = x.key;
+}

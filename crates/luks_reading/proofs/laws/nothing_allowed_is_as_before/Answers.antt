@@ -1,0 +1,11 @@
+use Rattle.luks_reading.proofs.AllowedMemory.{as_before, by_argon2, nothing_taken}
+use Rattle.luks_reading.proofs.laws.nothing_allowed_is_as_before.Goals as goal
+
+pub returns-clause-refusal : goal.returns-clause-refusal
+returns-clause-refusal c = as_before
+
+pub returns-clause-argon2 : goal.returns-clause-argon2
+returns-clause-argon2 c = by_argon2
+
+pub returns-clause-memory : goal.returns-clause-memory
+returns-clause-memory c = nothing_taken

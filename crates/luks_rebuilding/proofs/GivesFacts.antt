@@ -1,0 +1,232 @@
+-- The header that was made counts, is well formed, and its keyslots give what the metadata gives.
+use Rattle.std.proofs.Common.{◌≡◌, ◌↔◌, ℕ, ◌+◌, ◌-◌, ◌≤◌, List, ◌++◌, codes, length, replicate, Option, Some, None, option_and_then, refl, sym, ap, subst, ◌∙◌, arith, inl, inr}
+use Rattle.serde_json.specs.Data.{Data as Value}
+use Rattle.serde_json.specs.Find.{get}
+use Rattle.luks_area.specs.Area.{Fit, IsInside}
+use Rattle.luks_area.specs.Ranges.{part}
+use Rattle.luks_area.specs.declared.area.Area.{Area}
+use Rattle.luks_area.specs.declared.area.AreaName.{AreaName}
+use Rattle.luks_area.specs.declared.area.AreaName.TheVariants as name
+use Rattle.luks_head.proofs.CopyFacts.{listed_at_least}
+use Rattle.luks_head.specs.Bytes.{IsUuid}
+use Rattle.luks_head.specs.Header2.{hdr_size, header_at, uuid_field, IsUuidFault, IsUuidField}
+use Rattle.luks_head.specs.Selection.{Choice, luks2, Chosen}
+use Rattle.luks_head.specs.Sizes.{IsListed}
+use Rattle.luks_head.specs.Written.{IsWrittenCopy}
+use Rattle.luks_head.specs.declared.bin2.Bin2.{Bin2}
+use Rattle.luks_head.specs.declared.fault.HeadFault.{HeadFault}
+use Rattle.luks_head.specs.declared.selection.Copies.TheVariants.{InStep}
+use Rattle.luks_meta.specs.Accepted.{IsMeta}
+use Rattle.luks_meta.specs.MetaFault.{Json, IsMetaFault}
+use Rattle.luks_meta.specs.Reading.{decimal_in}
+use Rattle.luks_rules.specs.declared.fault.MetaFault.{MetaFault}
+use Rattle.luks_slot.specs.Opening.{slot_key}
+use Rattle.luks_slot.specs.declared.plan.SlotPlan.{SlotPlan}
+use Rattle.luks_reading.specs.Answer.{opens, no_key, refused, AnswerWithin, HasNoKeyslot, HasPlanAs, HasRefusedPlanWithin, IsRefusalAsWithin, IsRefusalWithin, Opened, OpensWithin}
+use Rattle.luks_reading.specs.Checked.{WellFormed}
+use Rattle.luks_reading.specs.Header.{json_at}
+use Rattle.luks_reading.specs.Layout2.{Luks2Area}
+use Rattle.luks_reading.specs.Plans.{HasLuks2Plan}
+use Rattle.luks_reading.specs.declared.open_fault.OpenFault.{OpenFault}
+use Rattle.luks_reading.specs.declared.open_fault.OpenFault.TheVariants.{Head, Meta, NoSuchSlot, SlotFree, Outside, Slot, Device, Memory}
+use Rattle.luks_reading.specs.declared.report.Data.TheVariants.{Here, Elsewhere}
+use Rattle.luks_uuid.specs.NewUuid.{uuid_text}
+use Rattle.luks_rebuilding.proofs.RegionFacts.{ends}
+use Rattle.luks_rebuilding.specs.Candidates.{json_of}
+use Rattle.luks_rebuilding.specs.Found.{HasRegionInside}
+use Rattle.luks_rebuilding.specs.Gives.{Gives, GivesKey, IsRefusedSlot}
+use Rattle.luks_rebuilding.specs.KeyAreas.{HasKeyArea, IsSlotArea}
+use Rattle.luks_rebuilding.specs.Rebuilt.{IsMade, IsUuidOf}
+use Rattle.luks_rebuilding.specs.declared.place.Place.{Place}
+
+-- what the crates below say of volumes
+pub record VolumeLaws : Type 0 where
+  pub only : (v : List ℕ) (b c : Choice) → Chosen v b → Chosen v c → b ≡ c
+  pub in_step : (v : List ℕ) (first second : Bin2) (a b : List ℕ) → IsWrittenCopy v 0 first a → IsWrittenCopy v first.hdr_size second b
+      → first.seqid ≡ second.seqid → Chosen v (luks2 0 InStep)
+  pub uuid : (field_ : List ℕ) → ((f : HeadFault) → IsUuidFault field_ f → ⊥) ↔ IsUuidField field_
+  pub metadata : (area : List ℕ) → ((f : MetaFault) → IsMetaFault area f → ⊥) ↔ ((j : Value) × IsMeta area j)
+  pub value : (area : List ℕ) (i k : Value) → Json area i → Json area k → i ≡ k
+  pub new : (random : List ℕ) → IsUuid (uuid_text random)
+  pub fills : (text : List ℕ) → IsUuid text → IsUuidField (text ++ replicate 4 0)
+
+-- the uuid of the new header is one
+uuid_is : (laws : VolumeLaws) (v : List ℕ) (place : Place) (given : Option (List ℕ)) (random uuid : List ℕ)
+    → ((text : List ℕ) → given ≡ Some text → IsUuid text) → IsUuidOf v place given random uuid → IsUuid uuid
+uuid_is laws v place (Some t) random uuid good is = subst IsUuid (sym is) (good t refl)
+uuid_is laws v place None random uuid good (inl kept) = subst IsUuid (sym kept.is) kept.there.uuid
+uuid_is laws v place None random uuid good (inr other) = elim other.1 [
+  | inl kept ↦ subst IsUuid (sym kept.is) kept.there.uuid
+  | inr new ↦ subst IsUuid (sym new.1) (laws.new _)
+]
+
+module _
+    (laws : VolumeLaws) (v random old w : List ℕ) (given : Option (List ℕ)) (place : Place) (j : Value)
+    (meta : IsMeta (json_of v place) j) (x : IsMade v given random old w place)
+    (good : (text : List ℕ) → given ≡ Some text → IsUuid text)
+    (fit : Fit (Luks2Area j place.size Elsewhere (length v)) (length v))
+    (region : HasRegionInside j place.size (length w))
+  where
+    -- ---- the copy that counts
+
+    size : hdr_size (header_at w 0) ≡ place.size
+    size = x.first.written.header.fields.hdr_size ∙ x.first.fields.hdr_size
+
+    large : 16384 ≤ place.size
+    large = listed_at_least place.size (subst IsListed x.first.fields.hdr_size x.first.written.listed)
+
+    json_long : length (json_of v place) ≡ place.size - 4096
+    json_long =
+        let sum = x.first.written.size in
+        let long = x.first.fields.hdr_size in
+        omega (arith, sum, long)
+
+    json_there : json_at w 0 ≡ json_of v place
+    json_there = ap (λ n. part w 4096 (n - 4096)) size ∙ sym (ap (λ n. part w 4096 n) json_long) ∙ x.first.written.area
+
+    chosen : Chosen w (luks2 0 InStep)
+    chosen =
+        let second = subst (λ (o : ℕ). IsWrittenCopy w o x.second.header (json_of v place)) (sym x.first.fields.hdr_size) x.second.written in
+        laws.in_step w x.first.header x.second.header (json_of v place) (json_of v place) x.first.written second (x.first.fields.seqid ∙ sym x.second.fields.seqid)
+
+    field_is : IsUuidField (uuid_field (header_at w 0))
+    field_is =
+        subst IsUuidField (sym (x.first.written.header.fields.uuid ∙ x.first.fields.own_uuid))
+        (laws.fills x.uuid (uuid_is laws v place given random x.uuid good x.own_uuid))
+
+    meta_there : IsMeta (json_at w 0) j
+    meta_there = subst (λ (a : List ℕ). IsMeta a j) (sym json_there) meta
+
+    -- ---- the areas
+
+    slot_inside : (n : ℕ) (a : Area) → IsSlotArea j n a → a.start + a.len ≤ length w
+    slot_inside n a is =
+        let end_ = ends j place.size large (length (json_of v place)) json_long meta.content region.bytes region.says n a is in
+        let inside = region.inside in
+        omega (arith, end_, inside)
+
+    area_inside : (n : AreaName) (a : Area) → Luks2Area j place.size Elsewhere (length w) n a → IsInside a (length w)
+    area_inside name.Head1 a is = let start = is.0 in let len = is.1 in let inside = region.inside in omega (arith, start, len, inside)
+    area_inside name.Head2 a is = let start = is.0 in let len = is.1 in let inside = region.inside in omega (arith, start, len, inside)
+    area_inside (name.Slot n) a is = slot_inside n a is
+    area_inside (name.Segment n) a is = absurd (let here : Elsewhere ≡ Here = is.1 in cc)
+
+    area_as : (n : AreaName) (a : Area) → Luks2Area j place.size Elsewhere (length w) n a → Luks2Area j place.size Elsewhere (length v) n a
+    area_as name.Head1 a is = is
+    area_as name.Head2 a is = is
+    area_as (name.Slot n) a is = is
+    area_as (name.Segment n) a is = absurd (let here : Elsewhere ≡ Here = is.1 in cc)
+
+    fit_there : Fit (Luks2Area j place.size Elsewhere (length w)) (length w)
+    fit_there = record {
+      inside = area_inside;
+      disjoint = λ m n a b p q. fit.disjoint m n a b (area_as m a p) (area_as n b q);
+    }
+
+    pub well_formed : WellFormed w Elsewhere
+    well_formed = record {
+      choice = luks2 0 InStep;
+      chosen = chosen;
+      formed = record {
+        uuid = field_is;
+        layout = (
+          j,
+          record {
+            metadata = meta_there;
+            segments = λ here. absurd (let is : Elsewhere ≡ Here = here in cc);
+            fit = subst (λ (h : ℕ). Fit (Luks2Area j h Elsewhere (length w)) (length w)) (sym size) fit_there;
+          },
+        );
+      };
+    }
+
+    -- ---- the keyslots
+
+    plan_area : (n : ℕ) (plan : SlotPlan) → HasLuks2Plan (json_of v place) n plan → HasKeyArea v place n plan.area
+    plan_area n plan z = record {
+      value = z.value;
+      holds = z.holds;
+      area = (
+        z.numbered,
+        ap (λ o. decimal_in (option_and_then (get (codes "offset")) (option_and_then (get (codes "area")) o))) z.there ∙ z.is.start,
+        ap (λ o. decimal_in (option_and_then (get (codes "size")) (option_and_then (get (codes "area")) o))) z.there ∙ z.is.len,
+      );
+    }
+
+    plan_inside : (n : ℕ) (plan : SlotPlan) → HasLuks2Plan (json_of v place) n plan → plan.area.start + plan.area.len ≤ length w
+    plan_inside n plan z =
+        let its = plan_area n plan z in
+        slot_inside n plan.area (subst (λ (k : Value). IsSlotArea k n plan.area) (laws.value (json_of v place) its.value j its.holds meta.json) its.area)
+
+    same_bytes : (n : ℕ) (plan : SlotPlan) → HasLuks2Plan (json_of v place) n plan
+        → part w plan.area.start plan.area.len ≡ part v plan.area.start plan.area.len
+    same_bytes n plan z = x.areas n plan.area (plan_area n plan z)
+
+    plan_there : (n : ℕ) (plan : SlotPlan) → HasLuks2Plan (json_of v place) n plan → HasLuks2Plan (json_at w 0) n plan
+    plan_there n plan z = subst (λ (a : List ℕ). HasLuks2Plan a n plan) (sym json_there) z
+
+    plan_here : (n : ℕ) (plan : SlotPlan) → HasLuks2Plan (json_at w 0) n plan → HasLuks2Plan (json_of v place) n plan
+    plan_here n plan z = subst (λ (a : List ℕ). HasLuks2Plan a n plan) json_there z
+
+    module _ (memory n : ℕ) where
+      to_refusal : (f : OpenFault) → IsRefusedSlot memory (json_of v place) n f → IsRefusalAsWithin memory w n (luks2 0 InStep) f
+      to_refusal (Head f) z = absurd z
+      to_refusal (Meta f) z = absurd z
+      to_refusal NoSuchSlot z = subst (λ (a : List ℕ). HasNoKeyslot a n) (sym json_there) z
+      to_refusal SlotFree z = absurd z
+      to_refusal Outside z = absurd z
+      to_refusal (Slot f) z = subst (λ (a : List ℕ). HasRefusedPlanWithin memory (HasLuks2Plan a n) f) (sym json_there) z
+      to_refusal Device z = absurd z
+      to_refusal Memory z = absurd z
+
+      from_refusal : (f : OpenFault) → IsRefusalAsWithin memory w n (luks2 0 InStep) f → IsRefusedSlot memory (json_of v place) n f
+      from_refusal (Head f) z = (laws.uuid (uuid_field (header_at w 0))).1 field_is f z
+      from_refusal (Meta f) z = (laws.metadata (json_at w 0)).1 (j, meta_there) f z
+      from_refusal NoSuchSlot z = subst (λ (a : List ℕ). HasNoKeyslot a n) json_there z
+      from_refusal SlotFree z = z
+      from_refusal Outside z = (
+          let inside = plan_inside n z.plan (plan_here n z.plan z.is) in
+          let past = z.past in
+          omega (arith, inside, past))
+      from_refusal (Slot f) z = subst (λ (a : List ℕ). HasRefusedPlanWithin memory (HasLuks2Plan a n) f) json_there z
+      from_refusal Device z = z
+      from_refusal Memory z = z
+
+      -- there, by whatever counts
+      by_chosen : (f : OpenFault) → IsRefusalWithin memory w n f → IsRefusedSlot memory (json_of v place) n f
+      by_chosen f z = from_refusal f (subst (λ (c : Choice). IsRefusalAsWithin memory w n c f) (laws.only w z.choice (luks2 0 InStep) z.chosen chosen) z.fault)
+
+      refused_there : (f : OpenFault) → IsRefusedSlot memory (json_of v place) n f → IsRefusalWithin memory w n f
+      refused_there f z = record { choice = luks2 0 InStep; chosen = chosen; fault = to_refusal f z }
+
+      module _ (p : List ℕ) where
+        key_there : (found : Option (List ℕ)) → GivesKey memory (json_of v place) v n p found → OpensWithin memory w n p found
+        key_there found z = record {
+          choice = luks2 0 InStep;
+          chosen = chosen;
+          plan = z.plan;
+          is = plan_there n z.plan z.is;
+          unrefused = λ f bad. z.unrefused f (from_refusal f bad);
+          key = ap (λ (b : List ℕ). slot_key z.plan b p) (same_bytes n z.plan z.is) ∙ z.key;
+        }
+
+        key_here : (found : Option (List ℕ)) → OpensWithin memory w n p found → GivesKey memory (json_of v place) v n p found
+        key_here found z =
+            let choice : z.choice ≡ luks2 0 InStep = laws.only w z.choice (luks2 0 InStep) z.chosen chosen in
+            let its = plan_here n z.plan (subst (λ (c : Choice). HasPlanAs w n c z.plan) choice z.is) in
+            record {
+              plan = z.plan;
+              is = its;
+              unrefused = λ f bad. z.unrefused f (subst (λ (c : Choice). IsRefusalAsWithin memory w n c f) (sym choice) (to_refusal f bad));
+              key = ap (λ (b : List ℕ). slot_key z.plan b p) (sym (same_bytes n z.plan its)) ∙ z.key;
+            }
+
+        pub gives_there : (a : Opened) → Gives memory (json_of v place) v n p a → AnswerWithin memory w n p a
+        gives_there (refused f) z = (refused_there f z.0, λ g bad. z.1 g (by_chosen g bad))
+        gives_there (opens k) z = key_there (Some k) z
+        gives_there no_key z = key_there None z
+
+        pub gives_here : (a : Opened) → AnswerWithin memory w n p a → Gives memory (json_of v place) v n p a
+        gives_here (refused f) z = (by_chosen f z.0, λ g bad. z.1 g (refused_there g bad))
+        gives_here (opens k) z = key_here (Some k) z
+        gives_here no_key z = key_here None z

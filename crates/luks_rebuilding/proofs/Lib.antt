@@ -1,0 +1,9 @@
+pub mod SlotFacts
+pub mod SearchFacts
+pub mod CopyFacts
+pub mod UuidFacts
+pub mod FaultFacts
+pub mod RegionFacts
+pub mod WrittenFacts
+pub mod GivesFacts
+pub mod RebuildFacts

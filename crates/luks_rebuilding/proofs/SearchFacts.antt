@@ -1,0 +1,220 @@
+-- The search for metadata that is whole, through ascending sizes, and which candidate is the first.
+use Rattle.std.proofs.Common.{◌≡◌, ◌≢◌, ℕ, ◌≤◌, ◌⊎◌, ◌==◌, nat_le, List, [], ◌∷◌, length, get_or, Bool, true, false, if◌then◌else◌, inl, inr, arith, refl, sym, ap, ◌∙◌, subst, Option, Some, None, Result, Ok, Err, IfOk}
+use Rattle.std.proofs.lemmas.Bool.{or_cases, or_left, and_parts, eqb-true, eq-eqb, leb-true, false≢true, cases_Bool}
+use Rattle.std.proofs.lemmas.List.{take_rest}
+use Rattle.luks_area.specs.First.{NotAfter}
+use Rattle.luks_head.specs.Sizes.{is_among, IsListed}
+use Rattle.luks_head.proofs.CopyFacts.{among_pass, listed_at_least}
+use Rattle.luks_head.proofs.SecondCopyFacts.{is_rising, later}
+use Rattle.luks_rebuilding.specs.Candidates.{json_of, place_key, IsCandidate, Taken}
+use Rattle.luks_rebuilding.specs.Found.{place_of, FindsAt, FindsFirst, FindsHalf, IsLeastOf, IsWholeAt}
+use Rattle.luks_rebuilding.specs.declared.candidate.Candidate.{Candidate}
+use Rattle.luks_rebuilding.specs.declared.place.Half.{Half}
+use Rattle.luks_rebuilding.specs.declared.place.Half.TheVariants.{First, Second}
+use Rattle.luks_rebuilding.specs.declared.place.Place.{Place}
+use Rattle.luks_rebuilding.specs.declared.place.Which.{Which}
+use Rattle.luks_rebuilding.specs.declared.place.Which.TheVariants as ask
+
+-- ---- sizes
+
+-- the first of ascending numbers is the least
+first_least : (xs : List ℕ) (p : ℕ) → is_rising xs ≡ true → is_among p xs ≡ true → get_or xs 0 0 ≤ p
+first_least [] p rising among = absurd (false≢true among)
+first_least (x ∷ xs) p rising among =
+    elim (or_cases (x == p) (is_among p xs) among) [
+      | inl here ↦ (let same : x ≡ p = eqb-true x p here in omega arith)
+      | inr after ↦ leb-true x p (among_pass (λ y. nat_le x y) xs p ((and_parts _ _ rising).0) after)
+    ]
+
+pub first_among : (xs : List ℕ) → 1 ≤ length xs → is_among (get_or xs 0 0) xs ≡ true
+first_among [] some = absurd (omega arith)
+first_among (x ∷ xs) some = or_left (x == x) (is_among x xs) (eq-eqb x x refl)
+
+-- where the copy of the first size isn't whole, one that is has a later size
+pub whole_later : (v : List ℕ) (half : Half) (xs : List ℕ) (p : ℕ) → (IsWholeAt v (place_of half (get_or xs 0 0)) → ⊥) → IsWholeAt v (place_of half p)
+    → is_among p xs ≡ true → is_among p (later xs) ≡ true
+whole_later v half [] p none whole among = among
+whole_later v half (x ∷ xs) p none whole among =
+    elim (or_cases (x == p) (is_among p xs) among) [
+      | inl here ↦ (let same : x ≡ p = eqb-true x p here in absurd (none (subst (λ n. IsWholeAt v (place_of half n)) (sym same) whole)))
+      | inr after ↦ later_among x xs p after
+    ]
+  where
+    later_among : (x : ℕ) (xs : List ℕ) (p : ℕ) → is_among p xs ≡ true → is_among p (later (x ∷ xs)) ≡ true
+    later_among x xs p after = subst (λ (l : List ℕ). is_among p l ≡ true) (sym (take_rest (x ∷ xs) 1)) after
+
+size_of : (half : Half) (size : ℕ) → (place_of half size).size ≡ size
+size_of First size = refl
+size_of Second size = refl
+
+pub half_place : (half : Half) (size : ℕ) → ((place_of half size).at ≡ 0) ⊎ ((place_of half size).at ≡ (place_of half size).size)
+half_place First size = inl refl
+half_place Second size = inr refl
+
+pub half_listed : (half : Half) (size : ℕ) → IsListed size → IsListed (place_of half size).size
+half_listed First size listed = listed
+half_listed Second size listed = listed
+
+-- what was found at the first of the sizes to come is the least of its half
+pub least_found : (v : List ℕ) (half : Half) (xs : List ℕ) (c : Candidate) → 1 ≤ length xs → is_rising xs ≡ true
+    → ((p : ℕ) → IsListed p → IsWholeAt v (place_of half p) → is_among p xs ≡ true)
+    → c.place ≡ place_of half (get_or xs 0 0) → FindsAt v (place_of half (get_or xs 0 0)) (Some c) → IsLeastOf v half c
+least_found v half xs c some rising left there found =
+    let size : c.place.size ≡ get_or xs 0 0 = ap (λ (q : Place). q.size) there ∙ size_of half (get_or xs 0 0) in
+    record {
+      is = there ∙ ap (place_of half) (sym size);
+      whole = subst (IsWholeAt v) (sym there) found.0;
+      read = subst (λ (q : Place). c.json.items ≡ json_of v q) (sym there) found.1;
+      least = λ p listed whole. rw size (first_least xs p rising (left p listed whole));
+    }
+
+-- ---- which candidate is the first
+
+place_eta : (half : Half) (q : Place) → q.at ≡ (place_of half q.size).at → q ≡ place_of half q.size
+place_eta First q at = ap (λ a. let r : Place = record { size = q.size; at = a } in r) at
+place_eta Second q at = ap (λ a. let r : Place = record { size = q.size; at = a } in r) at
+
+-- the key of a first copy, and of a second
+key_first : (q : Place) → q.at ≡ 0 → place_key q ≡ 1 ∷ q.size ∷ []
+key_first q at = ap (λ a. (if a == 0 then 1 else 2) ∷ q.size ∷ []) at
+
+eqb-not : (n : ℕ) → n ≢ 0 → (n == 0) ≡ false
+eqb-not n other = elim (cases_Bool (n == 0)) [ inl is ↦ absurd (other (eqb-true n 0 is)) | inr differs ↦ differs ]
+
+key_second : (q : Place) → q.at ≢ 0 → place_key q ≡ 2 ∷ q.size ∷ []
+key_second q other = ap (λ (b : Bool). (if b then 1 else 2) ∷ q.size ∷ []) (eqb-not q.at other)
+
+not_after_as : (a b : Place) (xs ys : List ℕ) → place_key a ≡ xs → place_key b ≡ ys → NotAfter xs ys → NotAfter (place_key a) (place_key b)
+not_after_as a b xs ys p q n = subst (λ (l : List ℕ). NotAfter l (place_key b)) (sym p) (subst (λ (l : List ℕ). NotAfter xs l) (sym q) n)
+
+module _ (v : List ℕ) where
+  whole_of : (which : Which) (q : Place) → IsCandidate v which q → IsWholeAt v q
+  whole_of which q x = record { is_place = x.is_place; faultless = x.faultless }
+
+  -- a candidate is a first copy or a second one
+  as_half : (which : Which) (q : Place) → IsCandidate v which q
+      → ((q.at ≡ 0) × IsWholeAt v (place_of First q.size)) ⊎ ((q.at ≢ 0) × IsWholeAt v (place_of Second q.size))
+  as_half which q x = elim x.is_place.first_or_second [
+    | inl zero ↦ inl (zero, subst (IsWholeAt v) (place_eta First q zero) (whole_of which q x))
+    | inr size ↦ (
+        let large = listed_at_least q.size x.is_place.listed in
+        inr ((λ e. omega (arith, e, size, large)), subst (IsWholeAt v) (place_eta Second q size) (whole_of which q x)))
+  ]
+
+  first_at : (c : Candidate) → IsLeastOf v First c → c.place.at ≡ 0
+  first_at c x = ap (λ (q : Place). q.at) x.is
+
+  second_at : (c : Candidate) → IsLeastOf v Second c → c.place.at ≢ 0
+  second_at c x e =
+      let at : c.place.at ≡ c.place.size = ap (λ (q : Place). q.at) x.is in
+      let large = listed_at_least c.place.size x.whole.is_place.listed in
+      omega (arith, e, at, large)
+
+  pub first_taken : (c : Candidate) → IsLeastOf v First c → FindsFirst v ask.Any (Some c)
+  first_taken c x = (
+    (
+      record { is_place = x.whole.is_place; asked = tt; faultless = x.whole.faultless },
+      λ (g : Place) is. elim (as_half ask.Any g is) [
+        | inl first ↦ (
+            let le = x.least g.size is.is_place.listed first.1 in
+            not_after_as c.place g (1 ∷ c.place.size ∷ []) (1 ∷ g.size ∷ []) (key_first c.place (first_at c x)) (key_first g first.0)
+            (omega arith, λ e. (omega (arith, le), λ f. tt)))
+        | inr second ↦
+            not_after_as c.place g (1 ∷ c.place.size ∷ []) (2 ∷ g.size ∷ []) (key_first c.place (first_at c x)) (key_second g second.0)
+            (omega arith, λ e. absurd (omega (arith, e)))
+      ],
+    ),
+    x.read,
+  )
+
+  second_least : (which : Which) (c : Candidate) → IsLeastOf v Second c
+      → ((g : Place) → IsCandidate v which g → g.at ≡ 0 → ⊥) → (g : Place) → IsCandidate v which g → NotAfter (place_key c.place) (place_key g)
+  second_least which c x none g is = elim (as_half which g is) [
+    | inl first ↦ absurd (none g is first.0)
+    | inr second ↦ (
+        let le = x.least g.size is.is_place.listed second.1 in
+        not_after_as c.place g (2 ∷ c.place.size ∷ []) (2 ∷ g.size ∷ []) (key_second c.place (second_at c x)) (key_second g second.0)
+        (omega arith, λ e. (omega (arith, le), λ f. tt)))
+  ]
+
+  -- only second copies are asked for
+  pub second_found : (found : Option Candidate) → FindsHalf v Second found → FindsFirst v ask.Second found
+  second_found None none = λ (q : Place) is. elim (as_half ask.Second q is) [
+    | inl first ↦ absurd (is.asked first.0)
+    | inr second ↦ none q.size is.is_place.listed second.1
+  ]
+  second_found (Some c) x = (
+    (
+      record { is_place = x.whole.is_place; asked = second_at c x; faultless = x.whole.faultless },
+      second_least ask.Second c x (λ g is zero. is.asked zero),
+    ),
+    x.read,
+  )
+
+  -- no first copy is whole
+  pub second_after : (found : Option Candidate) → FindsHalf v First None → FindsHalf v Second found → FindsFirst v ask.Any found
+  second_after None before none = λ (q : Place) is. elim (as_half ask.Any q is) [
+    | inl first ↦ before q.size is.is_place.listed first.1
+    | inr second ↦ none q.size is.is_place.listed second.1
+  ]
+  second_after (Some c) before x = (
+    (
+      record { is_place = x.whole.is_place; asked = tt; faultless = x.whole.faultless },
+      second_least ask.Any c x (λ (g : Place) is zero. before g.size is.is_place.listed (subst (IsWholeAt v) (place_eta First g zero) (whole_of ask.Any g is))),
+    ),
+    x.read,
+  )
+
+  -- of what the search for second copies answers
+  pub second_result : {F : Type 0} (r : Result (Option Candidate) F) → IfOk r (FindsHalf v Second) → IfOk r (FindsFirst v ask.Second)
+  second_result (Ok found) x = second_found found x
+  second_result (Err f) x = tt
+
+  pub after_result : {F : Type 0} (r : Result (Option Candidate) F) → FindsHalf v First None → IfOk r (FindsHalf v Second) → IfOk r (FindsFirst v ask.Any)
+  after_result (Ok found) before x = second_after found before x
+  after_result (Err f) before x = tt
+
+-- ---- there is one first candidate
+
+same_place : (a b : Place) → a.size ≡ b.size → a.at ≡ b.at → a ≡ b
+same_place a b size at =
+    let one : a ≡ record { size = b.size; at = a.at } = ap (λ s. let r : Place = record { size = s; at = a.at } in r) size in
+    let two : record { size = b.size; at = a.at } ≡ b = ap (λ x. let r : Place = record { size = b.size; at = x } in r) at in
+    one ∙ two
+
+-- of two candidates neither of which stands before the other
+pub one_place : (v : List ℕ) (which : Which) (a b : Place) → Taken v which a → Taken v which b → a ≡ b
+one_place v which a b x y =
+    let le : NotAfter (place_key a) (place_key b) = x.1 b y.0 in
+    let ge : NotAfter (place_key b) (place_key a) = y.1 a x.0 in
+    elim (as_half v which a x.0) [
+      | inl first ↦ elim (as_half v which b y.0) [
+        | inl other ↦ (
+            same_place a b (both_sizes a b (key_first a first.0) (key_first b other.0) le ge) (first.0 ∙ sym other.0))
+        | inr other ↦ absurd (apart a b (key_first a first.0) (key_second b other.0) ge)
+      ]
+      | inr second ↦ elim (as_half v which b y.0) [
+        | inl other ↦ absurd (apart b a (key_first b other.0) (key_second a second.0) le)
+        | inr other ↦ (
+            let sizes : a.size ≡ b.size = both_sizes a b (key_second a second.0) (key_second b other.0) le ge in
+            same_place a b sizes (at_size a x.0 second.0 ∙ sizes ∙ sym (at_size b y.0 other.0)))
+      ]
+    ]
+  where
+    keyed : (a b : Place) (xs ys : List ℕ) → place_key a ≡ xs → place_key b ≡ ys → NotAfter (place_key a) (place_key b) → NotAfter xs ys
+    keyed a b xs ys p q n = subst (λ (l : List ℕ). NotAfter l ys) p (subst (λ (l : List ℕ). NotAfter (place_key a) l) q n)
+
+    both_sizes : {k : ℕ} (a b : Place) → place_key a ≡ k ∷ a.size ∷ [] → place_key b ≡ k ∷ b.size ∷ []
+        → NotAfter (place_key a) (place_key b) → NotAfter (place_key b) (place_key a) → a.size ≡ b.size
+    both_sizes {k} a b p q le ge =
+        let up = keyed a b (k ∷ a.size ∷ []) (k ∷ b.size ∷ []) p q le in
+        let down = keyed b a (k ∷ b.size ∷ []) (k ∷ a.size ∷ []) q p ge in
+        let one = (up.1 refl).0 in
+        let two = (down.1 refl).0 in
+        omega (arith, one, two)
+
+    apart : (a b : Place) → place_key a ≡ 1 ∷ a.size ∷ [] → place_key b ≡ 2 ∷ b.size ∷ [] → NotAfter (place_key b) (place_key a) → ⊥
+    apart a b p q ge = let down = (keyed b a (2 ∷ b.size ∷ []) (1 ∷ a.size ∷ []) q p ge).0 in omega (arith, down)
+
+    at_size : (q : Place) → IsCandidate v which q → q.at ≢ 0 → q.at ≡ q.size
+    at_size q is other = elim is.is_place.first_or_second [ inl zero ↦ absurd (other zero) | inr there ↦ there ]

@@ -1,0 +1,35 @@
+-- The uuid of the new header, by where it was found.
+use Rattle.std.proofs.Common.{◌≡◌, ℕ, List, ◌++◌, replicate, Some, None, refl, inl, inr}
+use Rattle.luks_area.specs.Text.{text_of}
+use Rattle.luks_head.specs.Bytes.{IsUuid}
+use Rattle.luks_head.specs.Header2.{header_at, uuid_field}
+use Rattle.luks_uuid.specs.NewUuid.{uuid_text}
+use Rattle.luks_rebuilding.specs.Found.{FindsUuid, IsOwnField}
+use Rattle.luks_rebuilding.specs.Rebuilt.{other_at, uuid_bytes}
+use Rattle.luks_rebuilding.specs.declared.place.Place.{Place}
+
+module _ (v : List ℕ) (place : Place) (random field_ : List ℕ) where
+  pub kept_own : FindsUuid v place.at (Some field_) → IsOwnField v place None random field_
+  kept_own found = record {
+    uuid = text_of (uuid_field (header_at v place.at));
+    own = inl (record { there = found.0; is = refl });
+    is_uuid = found.0.uuid;
+    fills = found.1;
+  }
+
+  pub other_own : FindsUuid v place.at None → FindsUuid v (other_at place) (Some field_) → IsOwnField v place None random field_
+  other_own lacks found = record {
+    uuid = text_of (uuid_field (header_at v (other_at place)));
+    own = inr (lacks, inl (record { there = found.0; is = refl }));
+    is_uuid = found.0.uuid;
+    fills = found.1;
+  }
+
+  pub new_own : FindsUuid v place.at None → FindsUuid v (other_at place) None → ((bytes : List ℕ) → IsUuid (uuid_text bytes))
+      → field_ ≡ uuid_text (uuid_bytes random) ++ replicate 4 0 → IsOwnField v place None random field_
+  new_own lacks none new is = record {
+    uuid = uuid_text (uuid_bytes random);
+    own = inr (lacks, inr (none, refl));
+    is_uuid = new (uuid_bytes random);
+    fills = is;
+  }

@@ -1,0 +1,160 @@
+-- What has been found and judged on the way to a header: words of private contracts.
+use Rattle.std.specs.Prelude.{◌≡◌, ◌≢◌, ℕ, ◌+◌, ◌-◌, ◌*◌, ◌≤◌, ◌⊎◌, ◌++◌, List, length, replicate, Option, Some, None, ⊤}
+use Rattle.serde_json.specs.Data.{Data as Value}
+use Rattle.luks_area.specs.Area.{AreDisjoint, Fit}
+use Rattle.luks_area.specs.Ranges.{part, IsAt, IsOfEither}
+use Rattle.luks_area.specs.Text.{text_of}
+use Rattle.luks_area.specs.declared.area.Area.{Area}
+use Rattle.luks_head.specs.Bytes.{IsUuid}
+use Rattle.luks_head.specs.Header2.{header_at, uuid_field, IsUuidField}
+use Rattle.luks_head.specs.Selection.{nothing, Chosen}
+use Rattle.luks_head.specs.Sizes.{IsListed}
+use Rattle.luks_meta.specs.Accepted.{IsMeta}
+use Rattle.luks_meta.specs.Content.{content}
+use Rattle.luks_meta.specs.MetaFault.{IsMetaFault}
+use Rattle.luks_meta.specs.Sizes.{keyslots_size}
+use Rattle.luks_reading.specs.Layout2.{Luks2Area}
+use Rattle.luks_reading.specs.declared.report.Data.TheVariants.{Elsewhere}
+use Rattle.luks_rebuilding.specs.Candidates.{json_of, IsCandidate, IsPlace, Taken}
+use Rattle.luks_rebuilding.specs.KeyAreas.{IsSlotArea}
+use Rattle.luks_rebuilding.specs.Rebuilt.{first_copy_salt, random_size, second_copy_salt, HasRebuiltCopy, IsUuidOf, LacksUuid}
+use Rattle.luks_rebuilding.specs.declared.candidate.Candidate.{Candidate}
+use Rattle.luks_rebuilding.specs.declared.place.Half.{Half}
+use Rattle.luks_rebuilding.specs.declared.place.Half.TheVariants.{First, Second}
+use Rattle.luks_rebuilding.specs.declared.place.Place.{Place}
+use Rattle.luks_rebuilding.specs.declared.place.Which.{Which}
+use Rattle.luks_rebuilding.specs.declared.rebuild_fault.RebuildFault.{RebuildFault}
+use Rattle.luks_rebuilding.specs.declared.rebuild_fault.RebuildFault.TheVariants as fault
+use Rattle.luks_rules.specs.declared.fault.MetaFault.{MetaFault}
+
+-- on any device of `total` bytes: a place with metadata that was accepted
+pub record IsWhole (total : ℕ) (c : Candidate) : Type 0 where
+  pub place : IsPlace total c.place
+  pub long : length c.json.items ≡ c.place.size - 4096
+  pub meta : IsMeta c.json.items (content c.meta)
+
+-- the candidate is the first of the volume `v`, of which nothing counts
+pub record IsFoundIn (v : List ℕ) (which : Which) (c : Candidate) : Type 0 where
+  pub nothing_counts : Chosen v nothing
+  pub taken : Taken v which c.place
+  pub read : c.json.items ≡ json_of v c.place
+
+-- ---- the search, first copies or second copies, size by size
+
+-- the place of the first or of the second copy of a header of `size` bytes
+abbrev pub place_of : Half → ℕ → Place
+place_of First size = record { size = size; at = 0 }
+place_of Second size = record { size = size; at = size }
+
+-- the copy lies inside, and its metadata has no fault
+pub record IsWholeAt (v : List ℕ) (place : Place) : Type 0 where
+  pub is_place : IsPlace (length v) place
+  pub faultless : (f : MetaFault) → IsMetaFault (json_of v place) f → ⊥
+
+-- what is found at one place
+abbrev pub FindsAt : List ℕ → Place → Option Candidate → Type 0
+FindsAt v place None = IsWholeAt v place → ⊥
+FindsAt v place (Some c) = IsWholeAt v place × (c.json.items ≡ json_of v place)
+
+-- the candidate stands at the least size of its half
+pub record IsLeastOf (v : List ℕ) (half : Half) (c : Candidate) : Type 0 where
+  pub is : c.place ≡ place_of half c.place.size
+  pub whole : IsWholeAt v c.place
+  pub read : c.json.items ≡ json_of v c.place
+  pub least : (size : ℕ) → IsListed size → IsWholeAt v (place_of half size) → c.place.size ≤ size
+
+-- what is found of one half
+abbrev pub FindsHalf : List ℕ → Half → Option Candidate → Type 0
+FindsHalf v half None = (size : ℕ) → IsListed size → IsWholeAt v (place_of half size) → ⊥
+FindsHalf v half (Some c) = IsLeastOf v half c
+
+-- what is found of all that is asked for
+abbrev pub FindsFirst : List ℕ → Which → Option Candidate → Type 0
+FindsFirst v which None = (place : Place) → IsCandidate v which place → ⊥
+FindsFirst v which (Some c) = Taken v which c.place × (c.json.items ≡ json_of v c.place)
+
+-- the search was broken off: the device failed, or memory was refused
+abbrev pub IsFromOutside : RebuildFault → Type 0
+IsFromOutside fault.Memory = ⊤
+IsFromOutside fault.Device = ⊤
+IsFromOutside fault.Counts = ⊥
+IsFromOutside fault.NoMetadata = ⊥
+IsFromOutside (fault.Area f) = ⊥
+IsFromOutside fault.TooSmall = ⊥
+IsFromOutside fault.Uuid = ⊥
+IsFromOutside fault.RandomLength = ⊥
+
+-- a header of the volume counts, unless the device failed
+abbrev pub IsCounted : List ℕ → RebuildFault → Type 0
+IsCounted v fault.Counts = Chosen v nothing → ⊥
+IsCounted v fault.Device = ⊤
+IsCounted v f = ⊥
+
+-- ---- what is judged
+
+-- the region of key areas, behind both copies of `size` bytes, ends inside a device of `total` bytes
+pub record HasRegionInside (j : Value) (size total : ℕ) : Type 0 where
+  pub bytes : ℕ
+  pub says : keyslots_size j ≡ Some bytes
+  pub inside : 2 * size + bytes ≤ total
+
+-- what was judged lets a header be made on a target of `total` bytes
+pub record IsReady (c : Candidate) (source_total total : ℕ) (given : Option (List ℕ)) (random : List ℕ) : Type 0 where
+  pub fit : Fit (Luks2Area (content c.meta) c.place.size Elsewhere source_total) source_total
+  pub region : HasRegionInside (content c.meta) c.place.size total
+  pub uuid : (text : List ℕ) → given ≡ Some text → IsUuid text
+  pub counted : length random ≡ random_size
+
+-- each key area of the metadata `j` lies inside a device of `total` bytes
+abbrev pub HasSlotsInside : Value → ℕ → Type 0
+HasSlotsInside j total = (n : ℕ) (a : Area) → IsSlotArea j n a → a.start + a.len ≤ total
+
+-- no two of them meet
+abbrev pub AreSlotsApart : Value → Type 0
+AreSlotsApart j = (m n : ℕ) (a b : Area) → IsSlotArea j m a → IsSlotArea j n b → m ≢ n → AreDisjoint a b
+
+-- the byte place is of the key area of the keyslot `n`, or of any
+pub record IsOfSlot (j : Value) (n p : ℕ) : Type 0 where
+  pub area : Area
+  pub is : IsSlotArea j n area
+  pub at : IsAt area.start area.len p
+
+pub record IsOfSlots (j : Value) (p : ℕ) : Type 0 where
+  pub number : ℕ
+  pub of_slot : IsOfSlot j number p
+
+-- what the uuid field of a binary header holds
+abbrev pub FindsUuid : List ℕ → ℕ → Option (List ℕ) → Type 0
+FindsUuid v o None = LacksUuid v o
+FindsUuid v o (Some field_) =
+    IsUuidField (uuid_field (header_at v o)) × (field_ ≡ text_of (uuid_field (header_at v o)) ++ replicate 4 0)
+
+-- the field holds the uuid of the new header
+pub record IsOwnField (v : List ℕ) (place : Place) (given : Option (List ℕ)) (random field_ : List ℕ) : Type 0 where
+  pub uuid : List ℕ
+  pub own : IsUuidOf v place given random uuid
+  pub is_uuid : IsUuid uuid
+  pub fills : field_ ≡ uuid ++ replicate 4 0
+
+-- ---- what was written of the candidate `c`, read from the bytes `s`, with this uuid
+
+-- each key area has the bytes of the source
+abbrev pub HasSlots : Candidate → List ℕ → List ℕ → Type 0
+HasSlots c s new =
+    (n : ℕ) (a : Area) → IsSlotArea (content c.meta) n a → part new a.start a.len ≡ part s a.start a.len
+
+pub record IsAllButFirst (c : Candidate) (s uuid random new : List ℕ) : Type 0 where
+  pub second : HasRebuiltCopy new uuid (second_copy_salt random) c.json.items c.place.size c.place.size
+  pub areas : HasSlots c s new
+
+pub record IsWholeWritten (c : Candidate) (s uuid random new : List ℕ) : Type 0 where
+  pub first : HasRebuiltCopy new uuid (first_copy_salt random) c.json.items c.place.size 0
+  pub others : IsAllButFirst c s uuid random new
+
+abbrev pub WritesWholeLast : Candidate → List ℕ → List ℕ → List ℕ → List ℕ → List ℕ → Type 0
+WritesWholeLast c s uuid random old new =
+    (part new 0 c.place.size ≡ part old 0 c.place.size) ⊎ IsAllButFirst c s uuid random new
+
+-- the places that are written
+abbrev pub IsOfWhole : Candidate → ℕ → Type 0
+IsOfWhole c = IsOfEither (IsAt 0 (2 * c.place.size)) (IsOfSlots (content c.meta))

@@ -1,0 +1,52 @@
+-- When no header is made of a volume's metadata.
+use Rattle.std.specs.Prelude.{◌≢◌, ℕ, List, length, Option, Some, None, ⊤}
+use Rattle.luks_area.specs.Area.{IsAreaFault}
+use Rattle.luks_area.specs.First.{IsLeast}
+use Rattle.luks_head.specs.Bytes.{IsUuid}
+use Rattle.luks_head.specs.Selection.{nothing, Chosen}
+use Rattle.luks_rebuilding.specs.Candidates.{IsCandidate, OfTaken}
+use Rattle.luks_rebuilding.specs.KeyAreas.{EndsBeforeRegion, HasHeaderArea}
+use Rattle.luks_rebuilding.specs.RebuildFaults.{rebuild_key}
+use Rattle.luks_rebuilding.specs.Rebuilt.{random_size}
+use Rattle.luks_rebuilding.specs.declared.place.Place.{Place}
+use Rattle.luks_rebuilding.specs.declared.place.Which.{Which}
+use Rattle.luks_rebuilding.specs.declared.rebuild_fault.RebuildFault.{RebuildFault}
+use Rattle.luks_rebuilding.specs.declared.rebuild_fault.RebuildFault.TheVariants.{Counts, NoMetadata, Area, TooSmall, Uuid, RandomLength, Memory, Device}
+
+-- a uuid is given, and isn't one
+abbrev pub IsNoUuid : Option (List ℕ) → Type 0
+IsNoUuid None = ⊥
+IsNoUuid (Some text) = IsUuid text → ⊥
+
+-- the faults of rebuilding the header of the volume `v` on a target of `total` bytes
+abbrev pub IsRebuildFault : List ℕ → Which → Option (List ℕ) → ℕ → List ℕ → RebuildFault → Type 0
+IsRebuildFault v which given total random Counts = Chosen v nothing → ⊥
+IsRebuildFault v which given total random NoMetadata = (place : Place) → IsCandidate v which place → ⊥
+IsRebuildFault v which given total random (Area f) = OfTaken v which (λ place. IsAreaFault (HasHeaderArea v place) (length v) f)
+IsRebuildFault v which given total random TooSmall = OfTaken v which (EndsBeforeRegion v total)
+IsRebuildFault v which given total random Uuid = IsNoUuid given
+IsRebuildFault v which given total random RandomLength = length random ≢ random_size
+IsRebuildFault v which given total random Memory = ⊥
+IsRebuildFault v which given total random Device = ⊥
+
+-- none of the faults stands
+pub record IsRebuildable (v : List ℕ) (which : Which) (given : Option (List ℕ)) (total : ℕ) (random : List ℕ) : Type 0 where
+  pub none : (f : RebuildFault) → IsRebuildFault v which given total random f → ⊥
+
+-- the answer is the first of the faults; or memory was refused for the metadata of a copy, which is
+-- read where nothing counts; or a device failed
+abbrev pub IsAnsweredFault : List ℕ → Which → Option (List ℕ) → ℕ → List ℕ → RebuildFault → Type 0
+IsAnsweredFault v which given total random Memory = Chosen v nothing
+IsAnsweredFault v which given total random Device = ⊤
+IsAnsweredFault v which given total random f = IsLeast rebuild_key (IsRebuildFault v which given total random) f
+
+-- why no candidate is found: those of the faults that are looked for first
+abbrev pub IsNotFound : List ℕ → Which → RebuildFault → Type 0
+IsNotFound v which Counts = Chosen v nothing → ⊥
+IsNotFound v which NoMetadata = Chosen v nothing × ((place : Place) → IsCandidate v which place → ⊥)
+IsNotFound v which (Area f) = ⊥
+IsNotFound v which TooSmall = ⊥
+IsNotFound v which Uuid = ⊥
+IsNotFound v which RandomLength = ⊥
+IsNotFound v which Memory = Chosen v nothing
+IsNotFound v which Device = ⊤

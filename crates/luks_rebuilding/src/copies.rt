@@ -1,0 +1,77 @@
+//! The copies of the new header.
+ghost use Rattle.std.specs.Prelude.{◌≡◌, ◌+◌, ◌*◌, ◌++◌, ◌^◌, ◌<◌, ◌≤◌, ◌⊎◌, ℕ, List, length, replicate, OnOk};
+ghost use Rattle.luks_area.specs.Device.{CountsFailure, IsSettled, is_failure};
+ghost use Rattle.luks_area.specs.Ranges.{part, IsAt, SameBut};
+ghost use Rattle.luks_head.specs.Sizes.{IsListed};
+ghost use Rattle.luks_rebuilding.specs.Rebuilt.{HasRebuiltCopy, IsRebuiltHeader};
+
+use luks_area::{Device, DeviceFault};
+use luks_head::Bin2;
+use luks2_copy::write_copy;
+
+/// Where the salt of the first copy stands among the random bytes.
+pub(crate) const FIRST_SALT: usize = 0;
+
+/// Where the salt of the second copy stands.
+pub(crate) const SECOND_SALT: usize = 64;
+
+/// The salt at this place of the random bytes.
+pub(crate) fn taken_salt(random: &[u8], at: usize) -> [u8; 64]
+    requires { at + 64 ≤ length random.now }
+    ensures { result ≡ part random.now at 64 }
+{
+    let mut salt = [0; 64];
+    salt.copy_from_slice(&random[at..at + 64]);
+    salt
+}
+
+/// Writes the copy of a header of `size` bytes that stands at the place `at`, with this uuid field
+/// and this salt, and flushes. Also where the device fails no byte outside the copy changes.
+pub(crate) fn write_rebuilt_copy<D: Device>(
+    device: &mut D,
+    size: u64,
+    at: u64,
+    uuid: [u8; 40],
+    salt: [u8; 64],
+    json: &[u8],
+) -> Result<(), DeviceFault>
+    requires listed { IsListed size }
+    requires place { (at ≡ 0) ⊎ (at ≡ size) }
+    requires json { 4096 + length json.now ≡ size }
+    requires within { 2 * size ≤ D.size device.old }
+    requires room { D.failed device.old + 1 < 2 ^ 64 }
+    requires settled { D.tells → IsSettled D.unsettled device.old }
+    ensures count { CountsFailure is_failure result (D.failed device.old) (D.failed device.new) }
+    ensures size { D.size device.new ≡ D.size device.old }
+    ensures settled { D.tells → D.failed device.new ≡ D.failed device.old
+        → IsSettled D.unsettled device.new }
+    ensures copy { D.tells → OnOk result ((text : List ℕ) → uuid ≡ text ++ replicate 4 0
+        → HasRebuiltCopy (D.bytes device.new) text salt json.now size at) }
+    ensures rest { D.tells → SameBut (IsAt at size) (D.bytes device.old) (D.bytes device.new) }
+{
+    let header = new_header(size, at, uuid, salt);
+    write_copy(device, &header, json)
+}
+
+/// The binary header, whose checksum is made where it is written.
+fn new_header(size: u64, at: u64, uuid: [u8; 40], salt: [u8; 64]) -> Bin2
+    ensures made { (text : List ℕ) → uuid ≡ text ++ replicate 4 0
+        → IsRebuiltHeader text salt size at result }
+    ensures hdr_size { result.hdr_size ≡ size }
+    ensures hdr_offset { result.hdr_offset ≡ at }
+{
+    let first = Bin2 {
+        magic: [0; 6],
+        version: 2,
+        hdr_size: size,
+        seqid: 1,
+        label: [0; 48],
+        csum_alg: [0; 32],
+        salt,
+        uuid,
+        subsystem: [0; 48],
+        hdr_offset: at,
+        csum: [0; 64],
+    };
+    first.renewed(at, 1, salt)
+}

@@ -1,0 +1,52 @@
+//! Laws on the definitions of this crate. Each function only calls those whose laws it follows
+//! from; its contract is the law.
+ghost use Rattle.std.specs.Prelude.{◌≡◌, ◌↔◌, ◌+◌, ◌*◌, ◌≤◌, ℕ, List, Option, Some, length};
+ghost use Rattle.serde_json.specs.Data.{Data as Value};
+ghost use Rattle.luks_area.specs.Area.{Fit};
+ghost use Rattle.luks_head.specs.Bytes.{IsUuid};
+ghost use Rattle.luks_meta.specs.Accepted.{IsMeta};
+ghost use Rattle.luks_reading.specs.Answer.{AnswerWithin, Opened};
+ghost use Rattle.luks_reading.specs.Checked.{WellFormed};
+ghost use Rattle.luks_reading.specs.Layout2.{Luks2Area};
+ghost use Rattle.luks_reading.specs.declared.report.Data.TheVariants.{Elsewhere};
+ghost use Rattle.luks_rebuilding.specs.Candidates.{json_of, Taken};
+ghost use Rattle.luks_rebuilding.specs.Found.{HasRegionInside};
+ghost use Rattle.luks_rebuilding.specs.Gives.{Gives};
+ghost use Rattle.luks_rebuilding.specs.Rebuilt.{IsMade};
+ghost use Rattle.luks_rebuilding.specs.declared.place.Place.{Place as ThePlace};
+ghost use Rattle.luks_rebuilding.specs.declared.place.Which.{Which as TheWhich};
+
+use luks_head::{luks2_without_faults, one_choice, written_copies_are_chosen};
+use luks_meta::{metadata_without_faults, one_value};
+use luks_uuid::uuids_fill_fields;
+
+/// A volume has one first candidate at most.
+pub fn one_candidate()
+    ensures { (v : List ℕ) (which : TheWhich) (a b : ThePlace) → Taken v which a → Taken v which b
+        → a ≡ b }
+{}
+
+/// The header that is made of the metadata at a place is well formed where the payload is elsewhere;
+/// and each of its keyslots answers by each passphrase and memory as the metadata's equations give of
+/// the bytes where its key areas stand in the source.
+pub fn rebuilt_header_opens_alike()
+    ensures well_formed { (v random old w : List ℕ) (given : Option (List ℕ))
+        (place : ThePlace) (j : Value) → IsMeta (json_of v place) j → IsMade v given random old w place
+        → ((text : List ℕ) → given ≡ Some text → IsUuid text)
+        → Fit (Luks2Area j place.size Elsewhere (length v)) (length v)
+        → HasRegionInside j place.size (length w) → WellFormed w Elsewhere }
+    ensures opens { (v random old w : List ℕ) (given : Option (List ℕ))
+        (place : ThePlace) (j : Value) → IsMeta (json_of v place) j → IsMade v given random old w place
+        → ((text : List ℕ) → given ≡ Some text → IsUuid text)
+        → Fit (Luks2Area j place.size Elsewhere (length v)) (length v)
+        → HasRegionInside j place.size (length w)
+        → (memory n : ℕ) (p : List ℕ) (a : Opened)
+        → Gives memory (json_of v place) v n p a ↔ AnswerWithin memory w n p a }
+{
+    one_choice();
+    written_copies_are_chosen();
+    luks2_without_faults();
+    metadata_without_faults();
+    one_value();
+    uuids_fill_fields();
+}

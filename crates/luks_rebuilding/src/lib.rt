@@ -1,0 +1,21 @@
+//! A detached LUKS2 header made out of metadata that is still whole in a volume of which no header
+//! counts. The volume stays as it is.
+#![tactic(auto)]
+
+mod candidate;
+mod copies;
+mod header_areas;
+mod judging;
+mod key_areas;
+mod laws;
+mod own_uuid;
+mod place;
+mod rebuild_fault;
+mod rebuilding;
+mod search;
+
+pub use candidate::{Candidate, find_candidate};
+pub use laws::{one_candidate, rebuilt_header_opens_alike};
+pub use place::{Place, Which};
+pub use rebuild_fault::RebuildFault;
+pub use rebuilding::{REBUILD_RANDOM, rebuild};

@@ -1,0 +1,56 @@
+//! Where a copy of a header may stand.
+ghost use Rattle.std.specs.Prelude.{◌≡◌, ◌↔◌, ◌+◌, ◌≤◌, IsTrue};
+ghost use Rattle.luks_rebuilding.specs.Found.{place_of};
+ghost use Rattle.luks_rebuilding.specs.Rebuilt.{other_at};
+
+/// The place of a copy of a LUKS2 header (LUKS2 On-Disk Format 1.1, 2.1).
+#[derive(Debug, Clone, Copy, PartialEq, Eq)]
+pub struct Place {
+    /// The length of the copy in bytes, binary header and JSON area together: one of the nine that
+    /// the standard lists.
+    pub size: u64,
+    /// Where it begins, in bytes from the volume's start: 0, or its size for a second copy.
+    pub at: u64,
+}
+
+/// Which copies' metadata may be taken.
+#[derive(Debug, Clone, Copy, PartialEq, Eq)]
+pub enum Which {
+    /// Any: first copies by their size, then second copies by their size.
+    Any,
+    /// That of second copies alone.
+    Second,
+}
+
+/// The first copies, or the second.
+#[derive(Debug, Clone, Copy, PartialEq, Eq)]
+pub(crate) enum Half {
+    /// Those at the volume's start.
+    First,
+    /// Those that stand as far from it as they are long.
+    Second,
+}
+
+/// The place of a copy of `size` bytes.
+pub(crate) fn place_of(half: Half, size: u64) -> Place
+    ensures { result ≡ place_of half size }
+{
+    match half {
+        Half::First => Place { size, at: 0 },
+        Half::Second => Place { size, at: size },
+    }
+}
+
+/// Whether the copy lies inside a volume of `total` bytes. No sum is made.
+pub(crate) fn is_inside(place: Place, total: u64) -> bool
+    ensures { IsTrue result ↔ (place.at + place.size ≤ total) }
+{
+    place.size <= total && place.at <= total - place.size
+}
+
+/// Where the other copy of the same header stands.
+pub(crate) fn other_at(place: Place) -> u64
+    ensures { result ≡ other_at place }
+{
+    if place.at == 0 { place.size } else { 0 }
+}

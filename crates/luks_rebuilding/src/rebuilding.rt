@@ -1,0 +1,140 @@
+//! Making a header out of metadata that is still whole.
+ghost use Rattle.std.specs.Prelude.{◌≡◌, ◌↔◌, ◌+◌, ◌++◌, ◌^◌, ◌<◌, List, IfErr, OnOk, false, length, ℕ, option_map, replicate};
+ghost use Rattle.luks_area.specs.Device.{IsSettled, IsUnchanged, is_failure};
+ghost use Rattle.luks_area.specs.Ranges.{SameBut};
+ghost use Rattle.luks_copying.specs.TwoDevices.{CountsEither};
+ghost use Rattle.luks_meta.specs.Content.{content};
+ghost use Rattle.luks_reading.specs.Answer.{AnswerWithin, Opened};
+ghost use Rattle.luks_reading.specs.Checked.{WellFormed};
+ghost use Rattle.luks_reading.specs.declared.report.Data.TheVariants.{Elsewhere};
+ghost use Rattle.luks_rebuilding.specs.Candidates.{json_of, OfTaken};
+ghost use Rattle.luks_rebuilding.specs.Found.{AreSlotsApart, HasRegionInside, HasSlotsInside, IsOfWhole, IsWhole, IsWholeWritten, WritesWholeLast};
+ghost use Rattle.luks_rebuilding.specs.Gives.{Gives};
+ghost use Rattle.luks_rebuilding.specs.Outcome.{IsAnsweredFault, IsRebuildable, IsRebuildFault};
+ghost use Rattle.luks_rebuilding.specs.RebuildFaults.{is_rebuild_failure};
+ghost use Rattle.luks_rebuilding.specs.Rebuilt.{random_size, IsOfRebuilt, IsRebuilt, WritesFirstLast};
+ghost use Rattle.luks_rebuilding.specs.declared.rebuild_fault.RebuildFault.{RebuildFault as TheFault};
+
+use crate::candidate::{Candidate, find_candidate};
+use crate::copies::{FIRST_SALT, SECOND_SALT, taken_salt, write_rebuilt_copy};
+use crate::judging::judge;
+use crate::key_areas::copy_areas;
+use crate::laws::rebuilt_header_opens_alike;
+use crate::own_uuid::own_field;
+use crate::place::Which;
+use crate::rebuild_fault::RebuildFault;
+use luks_area::{Device, DeviceFault};
+use luks_meta::one_value;
+use std::alloc::Global;
+
+/// How many random bytes `rebuild` takes: the salts of the first and the second copy of the header,
+/// 64 each, and 16 for a new uuid.
+pub const REBUILD_RANDOM: u64 = 144;
+
+/// Makes a detached LUKS2 header of the first metadata that is whole in the source, of which no
+/// header counts, and writes it to the target, from its start on. What stood there before is
+/// overwritten without question. The source never changes.
+///
+/// The metadata stays byte by byte, and so does the size of the header; each key area has the
+/// source's bytes, and so each keyslot opens by its passphrase. The uuid is `uuid`, else that of the
+/// source's binary headers, else a new one; label and subsystem are empty. The key areas are written
+/// first, then the second copy of the header, then the first, a flush after each. Takes memory for
+/// the metadata, before the first write.
+pub fn rebuild<S: Device, T: Device>(
+    alloc: Global,
+    source: &mut S,
+    target: &mut T,
+    which: Which,
+    uuid: Option<&str>,
+    random: &[u8],
+) -> Result<(), RebuildFault>
+    requires source_room { S.failed source.old + 1 < 2 ^ 64 }
+    requires target_room { T.failed target.old + 1 < 2 ^ 64 }
+    requires settled { T.tells → IsSettled T.unsettled target.old }
+
+    // The devices: `Device` exactly where a call of one of the two failed.
+    ensures count { CountsEither is_rebuild_failure result (S.failed source.old)
+        (S.failed source.new) (T.failed target.old) (T.failed target.new) }
+    ensures kept { IsUnchanged S.tells S.size S.bytes S.unsettled source.old source.new }
+    ensures size { T.size target.new ≡ T.size target.old }
+    ensures settled { T.tells → OnOk result (IsSettled T.unsettled target.new) }
+
+    // The first fault that stands, or want of memory, and then nothing of the target changed.
+    ensures fault { S.tells → IfErr result (IsAnsweredFault (S.bytes source.old) which
+        (option_map (λ t. t.now) uuid.entry) (T.size target.old) random.now) }
+    ensures faultless { S.tells → OnOk result (IsRebuildable (S.bytes source.old) which
+        (option_map (λ t. t.now) uuid.entry) (T.size target.old) random.now) }
+    ensures refused { IfErr result (λ f. is_rebuild_failure f ≡ false
+        → IsUnchanged T.tells T.size T.bytes T.unsettled target.old target.new) }
+    ensures same { S.tells → T.tells → (f : TheFault)
+        → IsRebuildFault (S.bytes source.old) which (option_map (λ t. t.now) uuid.entry)
+        (T.size target.old) random.now f
+        → T.bytes target.new ≡ T.bytes target.old }
+
+    // Which bytes may have changed, also where a device failed.
+    ensures rest { S.tells → T.tells
+        → SameBut (IsOfRebuilt (S.bytes source.old) which)
+        (T.bytes target.old) (T.bytes target.new) }
+
+    // The first copy is written last: until all else is written its place is as it was.
+    ensures order { S.tells → T.tells → WritesFirstLast (S.bytes source.old) which
+        (option_map (λ t. t.now) uuid.entry) random.now (T.bytes target.old) (T.bytes target.new) }
+
+    // The header that was made: its metadata is the candidate's, and each keyslot gives by each
+    // passphrase and each memory what the equations give for that metadata and its key areas.
+    ensures rebuilt { S.tells → T.tells → OnOk result (IsRebuilt (S.bytes source.old) which
+        (option_map (λ t. t.now) uuid.entry) random.now (T.bytes target.old) (T.bytes target.new)) }
+    ensures well_formed { S.tells → T.tells
+        → OnOk result (WellFormed (T.bytes target.new) Elsewhere) }
+    ensures opens { S.tells → T.tells → OnOk result (OfTaken (S.bytes source.old) which
+        (λ place. (memory n : ℕ) (p : List ℕ) (a : Opened)
+        → Gives memory (json_of (S.bytes source.old) place) (S.bytes source.old) n p a
+        ↔ AnswerWithin memory (T.bytes target.new) n p a)) }
+{
+    one_value();
+    rebuilt_header_opens_alike();
+    let found = find_candidate(alloc, source, which)?;
+    judge(&found, source.len(), target.len(), uuid, random)?;
+    let field = own_field(source, found.place, uuid, random)?;
+    write_rebuilt(source, target, &found, field, random)?;
+    Ok(())
+}
+
+/// Writes the new header: the key areas, the second copy, the first.
+fn write_rebuilt<S: Device, T: Device>(
+    source: &mut S,
+    target: &mut T,
+    found: &Candidate,
+    field: [u8; 40],
+    random: &[u8],
+) -> Result<(), DeviceFault>
+    requires whole { IsWhole (S.size source.old) found.now }
+    requires apart { AreSlotsApart (content found.now.meta) }
+    requires there { HasSlotsInside (content found.now.meta) (S.size source.old) }
+    requires region { HasRegionInside (content found.now.meta) found.now.place.size (T.size target.old) }
+    requires random { length random.now ≡ random_size }
+    requires source_room { S.failed source.old + 1 < 2 ^ 64 }
+    requires target_room { T.failed target.old + 1 < 2 ^ 64 }
+    requires settled { T.tells → IsSettled T.unsettled target.old }
+    ensures count { CountsEither is_failure result (S.failed source.old) (S.failed source.new)
+        (T.failed target.old) (T.failed target.new) }
+    ensures kept { IsUnchanged S.tells S.size S.bytes S.unsettled source.old source.new }
+    ensures size { T.size target.new ≡ T.size target.old }
+    ensures settled { T.tells → OnOk result (IsSettled T.unsettled target.new) }
+    ensures rest { T.tells → SameBut (IsOfWhole found.now) (T.bytes target.old) (T.bytes target.new) }
+    ensures order { S.tells → T.tells → (uuid : List ℕ) → field ≡ uuid ++ replicate 4 0
+        → WritesWholeLast found.now (S.bytes source.old) uuid random.now
+        (T.bytes target.old) (T.bytes target.new) }
+    ensures written { S.tells → T.tells → OnOk result ((uuid : List ℕ)
+        → field ≡ uuid ++ replicate 4 0
+        → IsWholeWritten found.now (S.bytes source.old) uuid random.now (T.bytes target.new)) }
+{
+    copy_areas(source, target, &found.meta)?;
+    let size = found.place.size;
+    let json = found.json.as_slice();
+    let second = taken_salt(random, SECOND_SALT);
+    write_rebuilt_copy(target, size, size, field, second, json)?;
+    let first = taken_salt(random, FIRST_SALT);
+    write_rebuilt_copy(target, size, 0, field, first, json)?;
+    Ok(())
+}

@@ -1,0 +1,96 @@
+//! The search for metadata that is whole, first copies or second copies, by their size.
+ghost use Rattle.std.specs.Prelude.{◌≡◌, ◌+◌, ◌-◌, ◌^◌, ◌<◌, ◌≤◌, ◌⊎◌, length, IfOk, IfErr, IfSome};
+ghost use Rattle.luks_area.specs.Device.{CountsFailure, IsUnchanged};
+ghost use Rattle.luks_head.specs.Sizes.{IsListed};
+ghost use Rattle.luks_rebuilding.specs.Candidates.{json_of, IsPlace};
+ghost use Rattle.luks_rebuilding.specs.Found.{FindsAt, FindsHalf, IsFromOutside, IsWhole};
+ghost use Rattle.luks_rebuilding.specs.RebuildFaults.{is_rebuild_failure};
+
+use crate::candidate::Candidate;
+use crate::place::{Half, Place, is_inside, place_of};
+use crate::rebuild_fault::RebuildFault;
+use luks_area::Device;
+use luks_meta::{Meta, MetaFault};
+use std::alloc::Global;
+
+/// The bytes of the binary header with which a copy begins; its JSON area follows.
+const BINARY_HEADER: u64 = 4096;
+
+/// The sizes that a copy may have, in bytes.
+const LISTED_SIZES: [u64; 9] = [
+    0x4000, 0x8000, 0x1_0000, 0x2_0000, 0x4_0000, 0x8_0000, 0x10_0000, 0x20_0000, 0x40_0000,
+];
+
+/// The metadata that is whole, of the copy of the least size.
+pub(crate) fn least_of<D: Device>(
+    alloc: Global,
+    source: &mut D,
+    half: Half,
+) -> Result<Option<Candidate>, RebuildFault>
+    requires { D.failed source.old + 1 < 2 ^ 64 }
+    ensures unchanged { IsUnchanged D.tells D.size D.bytes D.unsettled source.old source.new }
+    ensures count { CountsFailure is_rebuild_failure result
+        (D.failed source.old) (D.failed source.new) }
+    ensures kinds { IfErr result IsFromOutside }
+    ensures whole { IfOk result (λ found. IfSome found (IsWhole (D.size source.old))) }
+    ensures found { D.tells → IfOk result (FindsHalf (D.bytes source.old) half) }
+{
+    let mut left = LISTED_SIZES.as_slice();
+    while let [size, later @ ..] = left {
+        match whole_at(alloc, source, place_of(half, *size))? {
+            Some(found) => return Ok(Some(found)),
+            None => left = later,
+        }
+    }
+    Ok(None)
+}
+
+/// The metadata of the copy at the place, if it lies inside and is whole.
+fn whole_at<D: Device>(
+    alloc: Global,
+    source: &mut D,
+    place: Place,
+) -> Result<Option<Candidate>, RebuildFault>
+    requires listed { IsListed place.size }
+    requires half { (place.at ≡ 0) ⊎ (place.at ≡ place.size) }
+    requires room { D.failed source.old + 1 < 2 ^ 64 }
+    ensures unchanged { IsUnchanged D.tells D.size D.bytes D.unsettled source.old source.new }
+    ensures count { CountsFailure is_rebuild_failure result
+        (D.failed source.old) (D.failed source.new) }
+    ensures kinds { IfErr result IsFromOutside }
+    ensures place { IfOk result (λ found. IfSome found (λ c. c.place ≡ place)) }
+    ensures whole { IfOk result (λ found. IfSome found (IsWhole (D.size source.old))) }
+    ensures found { D.tells → IfOk result (FindsAt (D.bytes source.old) place) }
+{
+    if !is_inside(place, source.len()) {
+        return Ok(None);
+    }
+    let json = json_area(alloc, source, place)?;
+    match Meta::read(alloc, &json) {
+        Ok(meta) => Ok(Some(Candidate { place, json, meta })),
+        Err(MetaFault::Memory) => Err(RebuildFault::Memory),
+        Err(_) => Ok(None),
+    }
+}
+
+/// The bytes of the JSON area of the copy at the place.
+fn json_area<D: Device>(
+    alloc: Global,
+    source: &mut D,
+    place: Place,
+) -> Result<Vec<u8>, RebuildFault>
+    requires place { IsPlace (D.size source.old) place }
+    requires room { D.failed source.old + 1 < 2 ^ 64 }
+    ensures unchanged { IsUnchanged D.tells D.size D.bytes D.unsettled source.old source.new }
+    ensures count { CountsFailure is_rebuild_failure result
+        (D.failed source.old) (D.failed source.new) }
+    ensures kinds { IfErr result IsFromOutside }
+    ensures long { IfOk result (λ json. length json.items ≡ place.size - 4096) }
+    ensures read { D.tells → IfOk result (λ json. json.items ≡ json_of (D.bytes source.old) place) }
+{
+    let _total = source.len();
+    let len = (place.size - BINARY_HEADER) as usize;
+    let mut json = vec![in alloc; 0u8; len]?;
+    source.read_at(place.at + BINARY_HEADER, &mut json)?;
+    Ok(json)
+}

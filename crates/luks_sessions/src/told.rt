@@ -1,0 +1,94 @@
+//! What a command comes to.
+ghost use Rattle.std.specs.Prelude.{◌≡◌, ◌+◌, ◌<◌, ◌^◌};
+ghost use Rattle.std.specs.Result.{ForOk};
+ghost use Rattle.luks_area.specs.Device.{IsSettled};
+
+use luks_cli::{CountingPrinter, InputFault, Inputs, Printer, execute};
+use luks_line::line;
+use luks_volume::Device;
+use std::alloc::{AllocError, Global};
+use std::io::Read;
+use std::test::Fail;
+
+/// A file that the command line doesn't name.
+pub const NO_FILE: Result<&[u8], InputFault> = Err(InputFault::Absent);
+
+/// What a command printed on standard output and on standard error, and its status.
+#[derive(Drop)]
+pub struct Told {
+    /// What was printed on standard output.
+    pub out: Vec<u8>,
+    /// What was printed on standard error.
+    pub err: Vec<u8>,
+    /// The exit status.
+    pub status: u8,
+}
+
+impl Told {
+    /// Whether it answered this, and ended with this status, whatever it said on standard error.
+    pub fn is(&self, answer: &str, status: u8) -> bool {
+        self.status == status && self.out.as_slice() == answer.as_bytes()
+    }
+
+    /// The same, and whether it said this on standard error.
+    pub fn says(&self, answer: &str, said: &str, status: u8) -> bool {
+        self.is(answer, status) && self.err.as_slice() == said.as_bytes()
+    }
+}
+
+/// The words, which single spaces part.
+pub fn words_of(alloc: Global, words: &str) -> Result<Vec<&str>, AllocError> {
+    words.split(' ').collect(alloc)
+}
+
+/// What the command of this text's words comes to over the files.
+pub fn run<D: Device, R: Read, N: Read>(
+    alloc: Global,
+    words: &str,
+    files: &mut Inputs<D, R, N>,
+) -> Result<Told, Fail>
+    requires room { ForOk files.old.volume (λ d. D.failed d + 1 < 2 ^ 64) }
+    requires target_room { ForOk files.old.target (λ d. D.failed d + 1 < 2 ^ 64) }
+    requires settled { D.tells → ForOk files.old.volume (IsSettled D.unsettled) }
+    requires target_settled { D.tells → ForOk files.old.target (IsSettled D.unsettled) }
+{
+    let words = words_of(alloc, words)?;
+    run_words(alloc, words.as_slice(), files)
+}
+
+/// What the command of these words comes to over the files.
+pub fn run_words<D: Device, R: Read, N: Read>(
+    alloc: Global,
+    words: &[&str],
+    files: &mut Inputs<D, R, N>,
+) -> Result<Told, Fail>
+    requires room { ForOk files.old.volume (λ d. D.failed d + 1 < 2 ^ 64) }
+    requires target_room { ForOk files.old.target (λ d. D.failed d + 1 < 2 ^ 64) }
+    requires settled { D.tells → ForOk files.old.volume (IsSettled D.unsettled) }
+    requires target_settled { D.tells → ForOk files.old.target (IsSettled D.unsettled) }
+{
+    let mut out = CountingPrinter::new(Vec::new(alloc));
+    let (err, status) = run_words_to(alloc, words, files, &mut out)?;
+    let CountingPrinter { writer: out, .. } = out;
+    Ok(Told { out, err, status })
+}
+
+/// The same where the answer is printed by this printer: what is said on standard error, and the
+/// status.
+pub fn run_words_to<D: Device, R: Read, N: Read, P: Printer>(
+    alloc: Global,
+    words: &[&str],
+    files: &mut Inputs<D, R, N>,
+    out: &mut P,
+) -> Result<(Vec<u8>, u8), Fail>
+    requires room { ForOk files.old.volume (λ d. D.failed d + 1 < 2 ^ 64) }
+    requires target_room { ForOk files.old.target (λ d. D.failed d + 1 < 2 ^ 64) }
+    requires printer { P.failures out.old + 1 < 2 ^ 64 }
+    requires settled { D.tells → ForOk files.old.volume (IsSettled D.unsettled) }
+    requires target_settled { D.tells → ForOk files.old.target (IsSettled D.unsettled) }
+{
+    let line = line(alloc, words)?;
+    let mut err = Vec::new(alloc);
+    let status = execute(alloc, &line, files, out, &mut err);
+    Ok((err, status))
+}

@@ -1,0 +1,1 @@
+pub mod Luks1Facts

@@ -1,0 +1,3 @@
+pub mod Texts
+pub mod Luks1Lines
+pub mod Listed

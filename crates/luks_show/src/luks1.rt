@@ -1,0 +1,53 @@
+//! The lines of a LUKS1 header.
+ghost use Rattle.std.specs.Fmt.{WritesOnOk};
+ghost use Rattle.luks_show.specs.Luks1Lines.{common_lines, luks1_lines, slot_line};
+
+use crate::escaped::Escaped;
+use luks_head::Luks1Common;
+use luks_reading::{Luks1, Luks1Slot, SlotState};
+use std::fmt;
+
+/// Lists a LUKS1 header, with a line for each keyslot.
+pub(crate) fn list_luks1<W: fmt::Write>(header: &Luks1, f: &mut fmt::Formatter<W>) -> fmt::Result
+    ensures { WritesOnOk W.write_str_gives f.old result (luks1_lines header.now) f.new }
+{
+    list_common(&header.common, f)?;
+    for (n, slot) in header.slots.as_slice().iter().enumerate() {
+        list_luks1_slot(n, slot, f)?;
+    }
+    Ok(())
+}
+
+fn list_common<W: fmt::Write>(common: &Luks1Common, f: &mut fmt::Formatter<W>) -> fmt::Result
+    ensures { WritesOnOk W.write_str_gives f.old result (common_lines common.now) f.new }
+{
+    let uuid = Escaped(common.uuid.as_str().as_bytes());
+    let name = Escaped(common.cipher_name.as_str().as_bytes());
+    let mode = Escaped(common.cipher_mode.as_str().as_bytes());
+    let hash = Escaped(common.hash_spec.as_str().as_bytes());
+    let key_bytes = common.key_bytes;
+    let payload = common.payload_offset;
+    write!(
+        f,
+        "luks1\nuuid {uuid}\ncipher {name}-{mode} key-bytes {key_bytes}\nhash {hash}\npayload {payload}\n"
+    )
+}
+
+fn list_luks1_slot<W: fmt::Write>(
+    n: usize,
+    slot: &Luks1Slot,
+    f: &mut fmt::Formatter<W>,
+) -> fmt::Result
+    ensures { WritesOnOk W.write_str_gives f.old result (slot_line n slot.now) f.new }
+{
+    let iterations = slot.iterations;
+    let offset = slot.key_material_offset;
+    let stripes = slot.stripes;
+    match slot.state {
+        SlotState::Enabled => writeln!(
+            f,
+            "slot {n} enabled iterations {iterations} offset {offset} stripes {stripes}"
+        ),
+        SlotState::Disabled => writeln!(f, "slot {n} disabled offset {offset} stripes {stripes}"),
+    }
+}

@@ -1,0 +1,33 @@
+//! The lines of a LUKS2 header.
+use crate::copies::copies_name;
+use crate::escaped::{Escaped, before_zero};
+use crate::objects::{list_digests, list_keyslots, list_segments, list_tokens};
+use luks_reading::ChosenCopy;
+use std::fmt;
+
+/// Lists the chosen copy of a LUKS2 header, with a line for each object of its metadata.
+pub(crate) fn list_luks2<W: fmt::Write>(
+    copy: &ChosenCopy,
+    f: &mut fmt::Formatter<W>,
+) -> fmt::Result {
+    list_header(copy, f)?;
+    list_keyslots(&copy.meta, f)?;
+    list_tokens(&copy.meta, f)?;
+    list_segments(&copy.meta, f)?;
+    list_digests(&copy.meta, f)
+}
+
+fn list_header<W: fmt::Write>(copy: &ChosenCopy, f: &mut fmt::Formatter<W>) -> fmt::Result {
+    let header = &copy.header;
+    let uuid = Escaped(before_zero(&header.uuid));
+    let label = Escaped(before_zero(&header.label));
+    let copies = copies_name(copy.copies);
+    let seqid = header.seqid;
+    let header_size = header.hdr_size;
+    let keyslots_size = copy.meta.config().keyslots_size;
+    writeln!(f, "luks2")?;
+    writeln!(f, "uuid {uuid}")?;
+    writeln!(f, "label {label}")?;
+    writeln!(f, "copies {copies} seqid {seqid}")?;
+    writeln!(f, "header-size {header_size} keyslots-size {keyslots_size}")
+}

@@ -1,0 +1,4 @@
+pub mod Texts
+pub mod Luks1Value
+pub mod Luks2Value
+pub mod JsonText
