@@ -127,7 +127,7 @@ pub(crate) fn place(fault: Fault) -> &'static str {
         }
         Fault::NotLuks1 => "convert: SOURCE",
         Fault::SameFile => {
-            "convert and rebuild: one file or device, by the same words or by two names"
+            "convert and rebuild: one file or device, by the same words or two names"
         }
         Fault::Counts => "rebuild: SOURCE",
         Fault::NoMetadata => "rebuild: each copy's JSON area in SOURCE",
@@ -280,8 +280,8 @@ pub(crate) fn next(fault: Fault) -> &'static str {
         }
         Fault::Argon2 => {
             "the same command with --memory and the MiB that standard error says;
-       where there isn't as much: cryptsetup open --test-passphrase, on a copy of
-       the header"
+       where there isn't as much: cryptsetup open --test-passphrase, on a copy
+       of the header"
         }
         Fault::Cipher | Fault::Hash | Fault::KeySize => {
             "try it by cryptsetup open --test-passphrase, on a copy of the header"
