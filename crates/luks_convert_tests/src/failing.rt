@@ -1,5 +1,6 @@
-//! Converting on devices of which one call fails: the lines and the status.
-use crate::sources::{LEAST, front, target, two_keyslots};
+//! Converting and rebuilding on devices of which one call fails: the lines and the status.
+use crate::making::Making;
+use crate::sources::{LEAST, front, target};
 use luks_area::{Device, FaultyDevice, Leave};
 use luks_cli::{InputFault, Inputs};
 use luks_sessions::{Told, run_words};
@@ -34,14 +35,14 @@ fn failures(device: &Result<FaultyDevice<Front>, InputFault>) -> u64 {
 }
 
 /// What the command comes to where this call fails.
-fn end_of(alloc: Global, words: &[&str], failing: Failing) -> Result<Ended, Fail> {
-    let random = counted(alloc, 0, 128)?;
+fn end_of(alloc: Global, making: Making, words: &[&str], failing: Failing) -> Result<Ended, Fail> {
+    let random = counted(alloc, 0, making.random())?;
     let (of_volume, of_target) = match failing {
         Failing::Volume(call) => (call, u64::MAX),
         Failing::Target(call) => (u64::MAX, call),
         Failing::Both => (0, 0),
     };
-    let image = two_keyslots(alloc)?;
+    let image = making.volume(alloc)?;
     let len = image.len();
     let volume = front(image, len);
     let header = target(alloc, LEAST)?;
@@ -59,25 +60,26 @@ fn end_of(alloc: Global, words: &[&str], failing: Failing) -> Result<Ended, Fail
     })
 }
 
-const CONVERT: &[&str] = &["luks", "convert", "v", "t", "--random=r"];
-
-const DONE: &str = "luks: cryptsetup open --header t v NAME opens it\n";
-
 const READING: &str = "luks: v: reading failed, the new header may be unfinished\n";
 
 const WRITING: &str = "luks: t: reading or writing failed, the new header may be unfinished\n";
 
 /// Whichever call of the volume, or of the target, fails is told. How many calls failed until it was done.
-fn fails_at_each_call(rt: &impl Abort, alloc: Global, of_volume: bool) -> Result<u64, Fail> {
+fn fails_at_each_call(
+    rt: &impl Abort,
+    alloc: Global,
+    making: Making,
+    of_volume: bool,
+) -> Result<u64, Fail> {
     for call in 0..256 {
         let (failing, line, failures) = if of_volume {
             (Failing::Volume(call), READING, (1, 0))
         } else {
             (Failing::Target(call), WRITING, (0, 1))
         };
-        let ended = end_of(alloc, CONVERT, failing)?;
+        let ended = end_of(alloc, making, &making.words(), failing)?;
         if ended.failures == (0, 0) {
-            assert!(rt; ended.told.says("done\n", DONE, 0), "done");
+            assert!(rt; ended.told.says("done\n", making.next(), 0), "done");
             return Ok(call);
         }
         let told = ended.told.says("device fault\n", line, 4);
@@ -87,25 +89,40 @@ fn fails_at_each_call(rt: &impl Abort, alloc: Global, of_volume: bool) -> Result
 }
 
 #[test]
-fn each_call(rt: HostRuntime) -> Result<(), Fail> {
+fn each_call_of_convert(rt: HostRuntime) -> Result<(), Fail> {
     let alloc = rt.alloc();
     // the header, and the five sectors of both areas
-    let of_volume = fails_at_each_call(&rt, alloc, true)?;
+    let of_volume = fails_at_each_call(&rt, alloc, Making::Converting, true)?;
     assert!(rt; 11 <= of_volume, "{of_volume} calls of the volume");
     // two areas and two copies, each with its flush
-    let of_target = fails_at_each_call(&rt, alloc, false)?;
+    let of_target = fails_at_each_call(&rt, alloc, Making::Converting, false)?;
+    assert!(rt; 8 <= of_target, "{of_target} calls of the target");
+    Ok(())
+}
+
+#[test]
+fn each_call_of_rebuild(rt: HostRuntime) -> Result<(), Fail> {
+    let alloc = rt.alloc();
+    // the metadata, and the eight sectors of both areas
+    let of_volume = fails_at_each_call(&rt, alloc, Making::Rebuilding, true)?;
+    assert!(rt; 17 <= of_volume, "{of_volume} calls of the volume");
+    // two areas and two copies, each with its flush
+    let of_target = fails_at_each_call(&rt, alloc, Making::Rebuilding, false)?;
     assert!(rt; 8 <= of_target, "{of_target} calls of the target");
     Ok(())
 }
 
 #[test]
 fn equal_words_read_nothing(rt: HostRuntime) -> Result<(), Fail> {
-    let words = &["luks", "convert", "v", "v", "--random=r"];
-    let ended = end_of(rt.alloc(), words, Failing::Both)?;
-    let refused = ended.told.says("refused SameFile\n", "", 1);
-    assert!(rt;
-        refused && ended.failures == (0, 0),
-        "refused before a call"
-    );
+    for making in [Making::Converting, Making::Rebuilding] {
+        let [program, command, volume, _, random] = making.words();
+        let words = [program, command, volume, volume, random];
+        let ended = end_of(rt.alloc(), making, &words, Failing::Both)?;
+        let refused = ended.told.says("refused SameFile\n", "", 1);
+        assert!(rt;
+            refused && ended.failures == (0, 0),
+            "refused before a call"
+        );
+    }
     Ok(())
 }

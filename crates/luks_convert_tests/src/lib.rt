@@ -1,5 +1,5 @@
-//! Tests of the command `convert`: what it prints, what it leaves of its target, by whichever call or
-//! allocation it is stopped, and which files it takes for one.
+//! Tests of the commands `convert` and `rebuild`: what they print, what they leave of their target, by
+//! whichever call or allocation they are stopped, and which files they take for one.
 #![tactic(auto)]
 
 #[cfg(test)]
@@ -10,6 +10,10 @@ mod failing;
 mod first_target;
 #[cfg(test)]
 mod made_header;
+#[cfg(test)]
+mod making;
+#[cfg(test)]
+mod rebuilding;
 #[cfg(test)]
 mod refused_memory;
 #[cfg(test)]

@@ -1,6 +1,7 @@
-//! Converting with little memory.
+//! Converting and rebuilding with little memory.
+use crate::making::Making;
 use crate::sessions::{Files, bytes_of, files_of};
-use crate::sources::{KEPT, LEAST, old_bytes, target, two_keyslots};
+use crate::sources::{KEPT, LEAST, old_bytes, target};
 use luks_cli::{CountingPrinter, Line, execute};
 use luks_line::line;
 use luks_sessions::NO_FILE;
@@ -9,7 +10,7 @@ use std::alloc::Global;
 use std::io::Cursor;
 use std::test::Fail;
 
-/// How a conversion ended.
+/// How it ended.
 #[derive(Debug, Clone, Copy, PartialEq, Eq)]
 enum End {
     Done,
@@ -36,11 +37,11 @@ fn end_of(alloc: Global, line: &Line<'_>, files: &mut Files<'_>) -> End {
 /// How it ended, how many blocks were given back until then, and whether each refusal left the target
 /// as it was: with all memory taken, and given back in blocks of 256 bytes, it is refused memory at one
 /// place after another.
-fn ends_with_little_memory(alloc: Global) -> Result<(End, usize, bool), Fail> {
-    let line = line(alloc, &["luks", "convert", "v", "t", "--random=r"])?;
-    let random = counted(alloc, 0, 128)?;
+fn ends_with_little_memory(alloc: Global, making: Making) -> Result<(End, usize, bool), Fail> {
+    let line = line(alloc, &making.words())?;
+    let random = counted(alloc, 0, making.random())?;
     let old = old_bytes(alloc, KEPT)?;
-    let mut files = files_of(two_keyslots(alloc)?);
+    let mut files = files_of(making.volume(alloc)?);
     files.target = Ok(target(alloc, LEAST)?);
     let mut taken = TakenMemory::take(alloc)?;
     let mut end = End::Memory;
@@ -63,9 +64,11 @@ fn ends_with_little_memory(alloc: Global) -> Result<(End, usize, bool), Fail> {
 
 #[test]
 fn each_allocation(rt: HostRuntime) -> Result<(), Fail> {
-    let (end, given, kept) = ends_with_little_memory(rt.alloc())?;
-    assert!(rt; end == End::Done, "done in the end");
-    assert!(rt; 1 <= given, "{given} blocks");
-    assert!(rt; kept, "no byte changed before");
+    for making in [Making::Converting, Making::Rebuilding] {
+        let (end, given, kept) = ends_with_little_memory(rt.alloc(), making)?;
+        assert!(rt; end == End::Done, "done in the end");
+        assert!(rt; 1 <= given, "{given} blocks");
+        assert!(rt; kept, "no byte changed before");
+    }
     Ok(())
 }

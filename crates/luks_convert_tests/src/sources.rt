@@ -1,10 +1,10 @@
-//! LUKS1 volumes that are converted, and targets.
+//! Volumes of LUKS1 that are converted, of LUKS2 whose header is rebuilt, and targets.
 ghost use Rattle.std.specs.Prelude.{◌≡◌, length, IfOk};
 
 use luks_area::MemDevice;
 use luks_kdf::HashName;
 use luks_samples::put;
-use luks_test_devices::{Front, part, small1};
+use luks_test_devices::{Front, part, small1, two_hashes};
 use std::alloc::{AllocError, Global};
 
 /// The least bytes of a target.
@@ -68,4 +68,13 @@ pub(crate) fn large_areas(alloc: Global, used: usize) -> Result<Vec<u8>, AllocEr
     put(&mut image, 584, &35008u32.to_be_bytes());
     put(&mut image, 588, &[0, 0, 0, 1]);
     Ok(image)
+}
+
+/// The small LUKS2 volume whose keyslots 0 and 1 open by `one` and by `two`, with a bit of both binary
+/// headers turned over: nothing counts.
+pub(crate) fn damaged(alloc: Global) -> Result<Vec<u8>, AllocError> {
+    let mut volume = two_hashes(alloc)?;
+    put(&mut volume, 104, &[1]);
+    put(&mut volume, 16488, &[1]);
+    Ok(volume)
 }

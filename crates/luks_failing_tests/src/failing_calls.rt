@@ -1,6 +1,6 @@
 //! Edits of volumes on devices of which each call fails in turn.
 
-use crate::trials::{LUKS1, LUKS2, Trial, opens, two_luks1_keyslots};
+use crate::trials::{ARGON2, LUKS1, LUKS2, Trial, argon2_keyslots, opens, two_luks1_keyslots};
 use luks_area::{Device, FaultyDevice, Leave, MemDevice};
 use luks_edit::{Edit, EditFault};
 use luks_head::{Selected, select};
@@ -165,6 +165,17 @@ fn each_edit_of_luks2(rt: HostRuntime) -> Result<(), Fail> {
     Ok(())
 }
 
+#[test]
+fn each_edit_of_argon2(rt: HostRuntime) -> Result<(), Fail> {
+    let before = argon2_keyslots(rt.alloc())?;
+    for trial in ARGON2.iter() {
+        for leave in LEAVES {
+            fails_at_each_call(&rt, rt.alloc(), &before, trial, leave)?;
+        }
+    }
+    Ok(())
+}
+
 /// Where the passphrase is wrong no byte changes, whichever call fails.
 fn stays(rt: &impl Abort, alloc: Global, before: &[u8], random: usize) -> Result<(), Fail> {
     let random = counted(alloc, 7, random)?;
@@ -224,5 +235,7 @@ fn each_need(rt: HostRuntime) -> Result<(), Fail> {
     let old = two_luks1_keyslots(rt.alloc())?;
     needs(&rt, rt.alloc(), &old, &LUKS1)?;
     let new = two_keyslots(rt.alloc())?;
-    needs(&rt, rt.alloc(), &new, &LUKS2)
+    needs(&rt, rt.alloc(), &new, &LUKS2)?;
+    let third = argon2_keyslots(rt.alloc())?;
+    needs(&rt, rt.alloc(), &third, &ARGON2)
 }

@@ -1,11 +1,12 @@
-//! Edits of volumes with two keyslots.
+//! Edits of volumes with two keyslots or three.
 
 use luks_area::MemDevice;
 use luks_edit::Edit;
 use luks_kdf::HashName;
 use luks_reading::{Data, open_slot};
-use luks_test_devices::{VOLUME_KEY, add, change, counted, label, remove, small1};
-use luks_volume::apply;
+use luks_samples::{ARGON2I_1, ARGON2ID_0, STRIPE_BY_ARGON2I, roomy_luks2, roomy_text};
+use luks_test_devices::{VOLUME_KEY, add, change, counted, label, put, remove, small1};
+use luks_volume::{Passphrase, apply};
 use std::alloc::Global;
 use std::test::Fail;
 
@@ -81,6 +82,57 @@ pub(crate) const LUKS2: [Trial; 5] = [
     },
 ];
 
+/// The passphrase of a keyslot of Argon2i, with the 64 KiB that it takes.
+const OF_ARGON2: Passphrase<'static> = Passphrase {
+    bytes: b"one",
+    memory: ALLOWED,
+};
+
+/// Edits of the LUKS2 volume with keyslots of Argon2, by its keyslot 1.
+pub(crate) const ARGON2: [Trial; 3] = [
+    Trial {
+        edit: Edit::Add {
+            by_: 1,
+            old: OF_ARGON2,
+            new: b"three",
+            to: None,
+            iterations: 1000,
+        },
+        random: 160,
+        either: [(1, b"one"), (1, b"one")],
+        other: (2, b"one"),
+    },
+    Trial {
+        edit: Edit::Change {
+            slot: 1,
+            old: OF_ARGON2,
+            new: b"three",
+            iterations: 1000,
+        },
+        random: 160,
+        either: [(1, b"one"), (1, b"three")],
+        other: (2, b"one"),
+    },
+    Trial {
+        edit: Edit::Remove {
+            slot: 1,
+            passphrase: OF_ARGON2,
+        },
+        random: 128,
+        either: [(2, b"one"), (2, b"one")],
+        other: (2, b"one"),
+    },
+];
+
+/// The LUKS2 volume of three keyslots of one stripe, which open by `one`: keyslot 0 is by Argon2id,
+/// keyslot 1 by Argon2i, keyslot 2 by PBKDF2.
+pub(crate) fn argon2_keyslots(alloc: Global) -> Result<Vec<u8>, Fail> {
+    let text = roomy_text(alloc, &[ARGON2ID_0, ARGON2I_1])?;
+    let mut volume = roomy_luks2(alloc, text.as_str(), 1)?;
+    put(&mut volume, 36864, &STRIPE_BY_ARGON2I);
+    Ok(volume)
+}
+
 /// The small LUKS1 volume by SHA-256 with keyslot 1, which opens by `two`.
 pub(crate) fn two_luks1_keyslots(alloc: Global) -> Result<Vec<u8>, Fail> {
     let mut device = MemDevice::new(small1(alloc, HashName::Sha256)?);
@@ -92,10 +144,13 @@ pub(crate) fn two_luks1_keyslots(alloc: Global) -> Result<Vec<u8>, Fail> {
     }
 }
 
+/// The memory that is allowed to each keyslot, in KiB.
+const ALLOWED: u32 = 64;
+
 /// Whether the keyslot opens by the passphrase to the volume key.
 pub(crate) fn opens(alloc: Global, device: &mut MemDevice, opening: Opening) -> bool {
     let (n, passphrase) = opening;
-    match open_slot(alloc, device, n, passphrase, 0) {
+    match open_slot(alloc, device, n, passphrase, ALLOWED) {
         Ok(Some(key)) => key.as_bytes() == VOLUME_KEY.as_slice(),
         _ => false,
     }
