@@ -150,7 +150,9 @@ const ALLOWED: u32 = 64;
 /// Whether the keyslot opens by the passphrase to the volume key.
 pub(crate) fn opens(alloc: Global, device: &mut MemDevice, opening: Opening) -> bool {
     let (n, passphrase) = opening;
-    match open_slot(alloc, device, n, passphrase, ALLOWED) {
+    // Argon2 takes no passphrase of 2^32 bytes.
+    let memory = if passphrase.len() < 16 { ALLOWED } else { 0 };
+    match open_slot(alloc, device, n, passphrase, memory) {
         Ok(Some(key)) => key.as_bytes() == VOLUME_KEY.as_slice(),
         _ => false,
     }
