@@ -38,7 +38,8 @@ fn end_of(alloc: Global, line: &Line<'_>, files: &mut Files<'_>) -> End {
 /// as it was: with all memory taken, and given back in blocks of 256 bytes, it is refused memory at one
 /// place after another.
 fn ends_with_little_memory(alloc: Global, making: Making) -> Result<(End, usize, bool), Fail> {
-    let line = line(alloc, &making.words())?;
+    let words = making.words();
+    let line = line(alloc, &words)?;
     let random = counted(alloc, 0, making.random())?;
     let old = old_bytes(alloc, KEPT)?;
     let mut files = files_of(making.volume(alloc)?);

@@ -1,6 +1,6 @@
 //! Edits that open keyslots of Argon2, by the memory that is allowed.
 use crate::argon2_sums::{BEFORE, LEFT};
-use crate::sessions::{RANDOM, bytes_of, counted, files_of};
+use crate::sessions::{Files, RANDOM, bytes_of, counted, files_of};
 use crate::words::{
     ADD, ADD_999_WITHIN_2, ADD_BY_1_WITHIN_1, ADD_WITHIN_1, ADD_WITHIN_2, CHANGE_1,
     CHANGE_1_WITHIN_1, CHANGE_WITHIN_2, REMOVE_1, REMOVE_1_WITHIN_1, REMOVE_2, REMOVE_2_WITHIN_1,
@@ -64,6 +64,23 @@ pub fn volume(alloc: Global) -> Result<Vec<u8>, AllocError> {
     Ok(image)
 }
 
+/// Whether the row is answered what is owed to it over these files.
+fn holds<'a>(
+    alloc: Global,
+    row: &Row,
+    random: &'a [u8],
+    files: &mut Files<'a>,
+) -> Result<bool, Fail> {
+    let (words, passphrase, new, answer, lines) = *row;
+    files.passphrase = Ok(passphrase.as_bytes());
+    files.new_passphrase = Ok(new.as_bytes());
+    files.random = Ok(random);
+    let status = u8::from(answer.as_bytes().first() == Some(&b'r'));
+    let ended = run(alloc, words, files)?;
+    files.random = NO_FILE;
+    Ok(ended.says(answer, lines, status))
+}
+
 #[test]
 fn within_the_memory_that_is_allowed(rt: HostRuntime) -> Result<(), Fail> {
     let alloc = rt.alloc();
@@ -71,14 +88,7 @@ fn within_the_memory_that_is_allowed(rt: HostRuntime) -> Result<(), Fail> {
     let mut files = files_of(volume(alloc)?);
     assert!(rt; is_sum(bytes_of(&files), BEFORE), "the volume");
     for (i, (row, left)) in ROWS.iter().zip(LEFT.iter()).enumerate() {
-        let (words, passphrase, new, answer, lines) = *row;
-        files.passphrase = Ok(passphrase.as_bytes());
-        files.new_passphrase = Ok(new.as_bytes());
-        files.random = Ok(random.as_slice());
-        let status = u8::from(answer.as_bytes().first() == Some(&b'r'));
-        let ended = run(alloc, words, &mut files)?;
-        files.random = NO_FILE;
-        assert!(rt; ended.says(answer, lines, status), "row {i}: {answer}");
+        assert!(rt; holds(alloc, row, &random, &mut files)?, "row {i}");
         assert!(rt; is_sum(bytes_of(&files), left), "row {i}: what is left");
     }
     Ok(())
