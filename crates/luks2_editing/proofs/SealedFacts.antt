@@ -76,13 +76,18 @@ module _ (h total : ℕ) (k : Value) (n : ℕ) (key random : List ℕ) (x : IsSe
       let len = len_is in
       let inside : x.area.start + x.area.len ≤ total = x.inside in
       let behind = x.behind in
+      let all : length random ≡ 160 + (plan.stripes - 1) * plan.key_bytes = rw (bytes, stripes) x.random_length in
+      let after : length (drop 160 random) ≡ length random - 160 = length-drop 160 random in
       record {
-        iterations = has_turns p.object plan.derivation p.is.derivation;
-        key_length = x.key_length ∙ sym bytes;
-        some_stripes = at_least_one (member_at p.object outer.Af name.Stripes) plan.stripes p.is.stripes;
-        random_length = rw (bytes, stripes) x.random_length;
-        sectors = rw (bytes, stripes, len) x.large;
-        inside = omega (arith, start, len, inside);
+        long = omega (arith, all);
+        sealed = record {
+          iterations = has_turns p.object plan.derivation p.is.derivation;
+          key_length = x.key_length ∙ sym bytes;
+          some_stripes = at_least_one (member_at p.object outer.Af name.Stripes) plan.stripes p.is.stripes;
+          random_length = omega (arith, after, all);
+          sectors = rw (bytes, stripes, len) x.large;
+          within = omega (arith, start, len, inside);
+        };
         behind = omega (arith, start, behind);
       }
 
@@ -90,18 +95,15 @@ module _ (h total : ℕ) (k : Value) (n : ℕ) (key random : List ℕ) (x : IsSe
 
   -- the keyslot holds the key
   pub holds : (passphrase w : List ℕ) → IsSealed plan (area_bytes w plan.area) passphrase key (drop 160 random) → HoldsKey w k n passphrase key (stripes_random random)
-  holds passphrase w sealed =
-      let long : length (drop 160 random) ≡ length random - 160 = length-drop 160 random in
-      let all : length random ≡ 160 + (plan.stripes - 1) * plan.key_bytes = ready.random_length in
-      record {
-        object = p.object;
-        there = p.there;
-        plan = plan;
-        is = p.is;
-        key_length = ready.key_length;
-        random_length = omega (arith, long, all);
-        sealed = sealed;
-      }
+  holds passphrase w sealed = record {
+    object = p.object;
+    there = p.there;
+    plan = plan;
+    is = p.is;
+    key_length = ready.sealed.key_length;
+    random_length = ready.sealed.random_length;
+    sealed = sealed;
+  }
 
   -- its sectors are those of the plan
   of_stripes : (q : ℕ) → IsOfStripes plan q → IsOfStripesOf k n q

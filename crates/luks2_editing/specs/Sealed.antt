@@ -1,17 +1,16 @@
 -- What writing a new key area and then both copies of a LUKS2 header may leave: words of private
 -- contracts.
-use Rattle.std.specs.Prelude.{◌≡◌, ℕ, ◌+◌, ◌-◌, ◌*◌, ◌≤◌, ◌⊎◌, List, length, true, Some, ⊤}
+use Rattle.std.specs.Prelude.{◌≡◌, ℕ, ◌*◌, ◌≤◌, ◌⊎◌, List, drop, length, true, Some, ⊤}
 use Rattle.serde_json.specs.Data.{Data as Value}
-use Rattle.luks_area.specs.Area.{IsInside}
 use Rattle.luks_area.specs.Ranges.{IsAt, IsOfEither, SameBut}
 use Rattle.luks_area.specs.Sectors.{rounded_to_sectors}
 use Rattle.luks_head.specs.Header2.{hdr_size, header_at}
 use Rattle.luks_slot.specs.declared.fault.SlotFault.{SlotFault}
 use Rattle.luks_slot.specs.declared.fault.SlotFault.TheVariants as sealing
 use Rattle.luks_slot.specs.declared.plan.SlotPlan.{SlotPlan}
-use Rattle.luks_slot.specs.Opening.{area_bytes, stripe_bytes, HasIterations}
+use Rattle.luks_slot.specs.Opening.{area_bytes, stripe_bytes}
 use Rattle.luks_slot.specs.Refusal.{is_argon2, slot_refusal_within}
-use Rattle.luks_slot.specs.Sealing.{IsSealed}
+use Rattle.luks_slot.specs.Sealing.{IsReadyToSeal, IsSealed}
 use Rattle.luks_edit.specs.declared.edit.Edit.{Edit}
 use Rattle.luks_edit.specs.declared.edit_fault.EditFault.{EditFault}
 use Rattle.luks_edit.specs.declared.edit_fault.EditFault.TheVariants as fault
@@ -22,15 +21,11 @@ use Rattle.luks2_edits.specs.Places.{IsOfCopies}
 abbrev pub IsOfStripes : SlotPlan → ℕ → Type 0
 IsOfStripes plan = IsAt plan.area.start (rounded_to_sectors (stripe_bytes plan))
 
--- the key can be sealed by the plan with these random bytes: its area lies behind copies of `h`
--- bytes, inside a volume of `total` bytes
+-- the key can be sealed by the plan with these random bytes but the first 160, of which the header takes: its area lies behind
+-- copies of `h` bytes
 pub record IsReadyPlan (h : ℕ) (plan : SlotPlan) (key random : List ℕ) (total : ℕ) : Type 0 where
-  pub iterations : HasIterations plan.derivation
-  pub key_length : length key ≡ plan.key_bytes
-  pub some_stripes : 1 ≤ plan.stripes
-  pub random_length : length random ≡ 160 + (plan.stripes - 1) * plan.key_bytes
-  pub sectors : rounded_to_sectors (stripe_bytes plan) ≤ plan.area.len
-  pub inside : IsInside plan.area total
+  pub long : 160 ≤ length random
+  pub sealed : IsReadyToSeal plan key (drop 160 random) total
   pub behind : 2 * h ≤ plan.area.start
 
 -- the fault of sealing as that of an edit

@@ -1,13 +1,11 @@
 //! Writing a new key area, and then both copies of a LUKS2 header.
 ghost use Rattle.std.specs.Prelude.{◌≡◌, ◌≢◌, ◌+◌, ◌-◌, ◌*◌, ◌^◌, ◌<◌, ◌≤◌, ℕ, List, length, IfErr, OnOk, drop};
 ghost use Rattle.serde_json.specs.Data.{Data as Value};
-ghost use Rattle.luks_area.specs.Area.{IsInside};
 ghost use Rattle.luks_area.specs.Device.{CountsFailure, IsSettled};
 ghost use Rattle.luks_area.specs.Ranges.{IsOfEither, SameBut};
-ghost use Rattle.luks_area.specs.Sectors.{rounded_to_sectors};
 ghost use Rattle.luks_head.specs.Header2.{binary_header_size};
-ghost use Rattle.luks_slot.specs.Opening.{area_bytes, stripe_bytes, HasIterations};
-ghost use Rattle.luks_slot.specs.Sealing.{IsSealed};
+ghost use Rattle.luks_slot.specs.Opening.{area_bytes};
+ghost use Rattle.luks_slot.specs.Sealing.{IsReadyToSeal, IsSealed};
 ghost use Rattle.luks_edit.specs.EditFaults.{is_edit_failure};
 ghost use Rattle.luks_edit.specs.declared.edit.Edit.{Edit as TheEdit};
 ghost use Rattle.luks2_edits.specs.Places.{IsOfCopies};
@@ -97,12 +95,7 @@ fn seal<D: Device>(
     stripes: &[u8],
 ) -> Result<(), EditFault>
     requires passphrase { 0 < secrets.now.memory → length secrets.now.passphrase.now < 2 ^ 32 }
-    requires iterations { HasIterations plan.now.derivation }
-    requires key_length { length secrets.now.key.now ≡ plan.now.key_bytes }
-    requires some_stripes { 1 ≤ plan.now.stripes }
-    requires random { length stripes.now ≡ (plan.now.stripes - 1) * plan.now.key_bytes }
-    requires sectors { rounded_to_sectors (stripe_bytes plan.now) ≤ plan.now.area.len }
-    requires inside { IsInside plan.now.area (D.size device.old) }
+    requires ready { IsReadyToSeal plan.now secrets.now.key.now stripes.now (D.size device.old) }
     requires room { D.failed device.old + 1 < 2 ^ 64 }
     requires settled { D.tells → IsSettled D.unsettled device.old }
     ensures size { D.size device.new ≡ D.size device.old }

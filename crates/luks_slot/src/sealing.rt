@@ -8,7 +8,7 @@ ghost use Rattle.luks_area.specs.Sectors.{rounded_to_sectors, sector_count};
 ghost use Rattle.luks_slot.specs.Fault.{IsAnsweredFault, IsAnsweredWithin, is_device_fault};
 ghost use Rattle.luks_slot.specs.Opening.{area_bytes, area_key, hash_by_name, meets_digest, opened_sectors, slot_key, stripe_bytes, HasIterations};
 ghost use Rattle.luks_slot.specs.Refusal.{slot_refusal, slot_refusal_within};
-ghost use Rattle.luks_slot.specs.Sealing.{IsSealed};
+ghost use Rattle.luks_slot.specs.Sealing.{IsReadyToSeal, IsSealed};
 ghost use Rattle.luks_slot.specs.Writing.{filled};
 ghost use Rattle.luks_slot.specs.declared.fault.SlotFault.{SlotFault as TheFault};
 
@@ -41,12 +41,7 @@ pub fn seal<D: Device>(
     key: &Key,
     random: &[u8],
 ) -> Result<(), SlotFault>
-    requires iterations { HasIterations plan.now.derivation }
-    requires key_length { length key.now ≡ plan.now.key_bytes }
-    requires some_stripes { 1 ≤ plan.now.stripes }
-    requires random_length { length random.now ≡ (plan.now.stripes - 1) * plan.now.key_bytes }
-    requires sectors { rounded_to_sectors (stripe_bytes plan.now) ≤ plan.now.area.len }
-    requires within { IsInside plan.now.area (D.size device.old) }
+    requires ready { IsReadyToSeal plan.now key.now random.now (D.size device.old) }
     requires room { D.failed device.old + 1 < 2 ^ 64 }
 
     // The plan is refused, the device failed, or the area holds the key and opens to it.
@@ -102,13 +97,8 @@ pub fn seal_within<D: Device>(
     key: &Key,
     random: &[u8],
 ) -> Result<(), SlotFault>
-    requires iterations { HasIterations plan.now.derivation }
     requires passphrase { 0 < memory → length passphrase.now < 2 ^ 32 }
-    requires key_length { length key.now ≡ plan.now.key_bytes }
-    requires some_stripes { 1 ≤ plan.now.stripes }
-    requires random_length { length random.now ≡ (plan.now.stripes - 1) * plan.now.key_bytes }
-    requires sectors { rounded_to_sectors (stripe_bytes plan.now) ≤ plan.now.area.len }
-    requires within { IsInside plan.now.area (D.size device.old) }
+    requires ready { IsReadyToSeal plan.now key.now random.now (D.size device.old) }
     requires room { D.failed device.old + 1 < 2 ^ 64 }
 
     // The plan is refused, the device failed, memory was refused, or the area holds the key and
@@ -158,11 +148,7 @@ fn seal_under<D: Device>(
     random: &[u8],
 ) -> Result<(), DeviceFault>
     requires hash { hash_by_name plan.now.splitter_hash.now ≡ hash }
-    requires key_length { length key.now ≡ plan.now.key_bytes }
-    requires some_stripes { 1 ≤ plan.now.stripes }
-    requires random_length { length random.now ≡ (plan.now.stripes - 1) * plan.now.key_bytes }
-    requires sectors { rounded_to_sectors (stripe_bytes plan.now) ≤ plan.now.area.len }
-    requires within { IsInside plan.now.area (D.size device.old) }
+    requires ready { IsReadyToSeal plan.now key.now random.now (D.size device.old) }
     requires room { D.failed device.old + 1 < 2 ^ 64 }
     ensures count { CountsFailure is_failure result
         (D.failed device.old) (D.failed device.new) }

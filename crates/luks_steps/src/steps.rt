@@ -5,9 +5,9 @@ ghost use Rattle.luks_area.specs.Ranges.{written, IsAt, SameBut, SameOutside};
 ghost use Rattle.luks_area.specs.Sectors.{rounded_to_sectors};
 ghost use Rattle.luks_slot.specs.declared.fault.SlotFault.{SlotFault as TheFault};
 ghost use Rattle.luks_slot.specs.Fault.{IsAnsweredFault, IsAnsweredWithin, is_device_fault};
-ghost use Rattle.luks_slot.specs.Opening.{area_bytes, stripe_bytes, HasIterations};
+ghost use Rattle.luks_slot.specs.Opening.{area_bytes, stripe_bytes};
 ghost use Rattle.luks_slot.specs.Refusal.{slot_refusal, slot_refusal_within};
-ghost use Rattle.luks_slot.specs.Sealing.{IsSealed};
+ghost use Rattle.luks_slot.specs.Sealing.{IsReadyToSeal, IsSealed};
 
 use luks_area::{Area, Device, DeviceFault};
 use luks_slot::{Key, SlotFault, SlotPlan, seal, seal_within, wipe};
@@ -58,12 +58,7 @@ pub fn seal_area<D: Device>(
     key: &Key,
     random: &[u8],
 ) -> Result<(), SlotFault>
-    requires iterations { HasIterations plan.now.derivation }
-    requires key_length { length key.now ≡ plan.now.key_bytes }
-    requires some_stripes { 1 ≤ plan.now.stripes }
-    requires random_length { length random.now ≡ (plan.now.stripes - 1) * plan.now.key_bytes }
-    requires sectors { rounded_to_sectors (stripe_bytes plan.now) ≤ plan.now.area.len }
-    requires within { IsInside plan.now.area (D.size device.old) }
+    requires ready { IsReadyToSeal plan.now key.now random.now (D.size device.old) }
     requires room { D.failed device.old + 1 < 2 ^ 64 }
     requires settled { D.tells → IsSettled D.unsettled device.old }
     ensures refused { (f : TheFault) → slot_refusal plan.now ≡ Some f → result ≡ Err f }
@@ -99,13 +94,8 @@ pub fn seal_area_within<D: Device>(
     key: &Key,
     random: &[u8],
 ) -> Result<(), SlotFault>
-    requires iterations { HasIterations plan.now.derivation }
     requires passphrase { 0 < memory → length passphrase.now < 2 ^ 32 }
-    requires key_length { length key.now ≡ plan.now.key_bytes }
-    requires some_stripes { 1 ≤ plan.now.stripes }
-    requires random_length { length random.now ≡ (plan.now.stripes - 1) * plan.now.key_bytes }
-    requires sectors { rounded_to_sectors (stripe_bytes plan.now) ≤ plan.now.area.len }
-    requires within { IsInside plan.now.area (D.size device.old) }
+    requires ready { IsReadyToSeal plan.now key.now random.now (D.size device.old) }
     requires room { D.failed device.old + 1 < 2 ^ 64 }
     requires settled { D.tells → IsSettled D.unsettled device.old }
     ensures refused { (f : TheFault) → slot_refusal_within memory plan.now ≡ Some f → result ≡ Err f }

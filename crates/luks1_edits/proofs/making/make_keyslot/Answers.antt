@@ -5,53 +5,22 @@ use Rattle.luks_slot.specs.Opening.{area_bytes}
 use Rattle.luks_slot.specs.Sealing.{IsSealed}
 use Rattle.luks1_edits.proofs.making.make_keyslot.Goals as goal
 
-pub seal_area-requires-clause-iterations : goal.seal_area-requires-clause-iterations
-seal_area-requires-clause-iterations g c =
+pub seal_area-requires-clause-ready : goal.seal_area-requires-clause-ready
+seal_area-requires-clause-ready g c =
     let h = c.args.header.now.bytes.now in
     let p : IsNewPlan h c.args.n c.entry_bytes-entry.result c.args.iterations (take 32 c.args.random.now) c.luks1_plan-plan.result =
     new_plan h c.args.header.now.fields c.args.n c.entry_bytes-entry.result c.new_slot-slot.result c.args.iterations (take 32 c.args.random.now) c.luks1_plan-plan.result
     c.requires.accepted.fields c.requires.numbered c.requires.iterated c.new_slot-slot.ensures c.entry_bytes-entry.ensures c.luks1_plan-plan.ensures.is c.luks1_plan-plan.ensures.judged in
-    p.openable.turns
-
-pub seal_area-requires-clause-key_length : goal.seal_area-requires-clause-key_length
-seal_area-requires-clause-key_length g c =
-    let h = c.args.header.now.bytes.now in
-    let p : IsNewPlan h c.args.n c.entry_bytes-entry.result c.args.iterations (take 32 c.args.random.now) c.luks1_plan-plan.result =
-    new_plan h c.args.header.now.fields c.args.n c.entry_bytes-entry.result c.new_slot-slot.result c.args.iterations (take 32 c.args.random.now) c.luks1_plan-plan.result
-    c.requires.accepted.fields c.requires.numbered c.requires.iterated c.new_slot-slot.ensures c.entry_bytes-entry.ensures c.luks1_plan-plan.ensures.is c.luks1_plan-plan.ensures.judged in
-    plan_key_length h c.args.n c.entry_bytes-entry.result c.args.iterations (take 32 c.args.random.now) c.luks1_plan-plan.result p c.args.key.now c.requires.key_length
-
-pub seal_area-requires-clause-some_stripes : goal.seal_area-requires-clause-some_stripes
-seal_area-requires-clause-some_stripes g c =
-    let h = c.args.header.now.bytes.now in
-    let p : IsNewPlan h c.args.n c.entry_bytes-entry.result c.args.iterations (take 32 c.args.random.now) c.luks1_plan-plan.result =
-    new_plan h c.args.header.now.fields c.args.n c.entry_bytes-entry.result c.new_slot-slot.result c.args.iterations (take 32 c.args.random.now) c.luks1_plan-plan.result
-    c.requires.accepted.fields c.requires.numbered c.requires.iterated c.new_slot-slot.ensures c.entry_bytes-entry.ensures c.luks1_plan-plan.ensures.is c.luks1_plan-plan.ensures.judged in
-    p.openable.some_stripes
-
-pub seal_area-requires-clause-random_length : goal.seal_area-requires-clause-random_length
-seal_area-requires-clause-random_length g c =
-    let h = c.args.header.now.bytes.now in
-    let p : IsNewPlan h c.args.n c.entry_bytes-entry.result c.args.iterations (take 32 c.args.random.now) c.luks1_plan-plan.result =
-    new_plan h c.args.header.now.fields c.args.n c.entry_bytes-entry.result c.new_slot-slot.result c.args.iterations (take 32 c.args.random.now) c.luks1_plan-plan.result
-    c.requires.accepted.fields c.requires.numbered c.requires.iterated c.new_slot-slot.ensures c.entry_bytes-entry.ensures c.luks1_plan-plan.ensures.is c.luks1_plan-plan.ensures.judged in
-    ap length c.stripes_in.ensures ∙ plan_random_length h c.args.n c.entry_bytes-entry.result c.args.iterations (take 32 c.args.random.now) c.luks1_plan-plan.result p c.args.random.now c.requires.random_length
-
-pub seal_area-requires-clause-sectors : goal.seal_area-requires-clause-sectors
-seal_area-requires-clause-sectors g c =
-    let h = c.args.header.now.bytes.now in
-    let p : IsNewPlan h c.args.n c.entry_bytes-entry.result c.args.iterations (take 32 c.args.random.now) c.luks1_plan-plan.result =
-    new_plan h c.args.header.now.fields c.args.n c.entry_bytes-entry.result c.new_slot-slot.result c.args.iterations (take 32 c.args.random.now) c.luks1_plan-plan.result
-    c.requires.accepted.fields c.requires.numbered c.requires.iterated c.new_slot-slot.ensures c.entry_bytes-entry.ensures c.luks1_plan-plan.ensures.is c.luks1_plan-plan.ensures.judged in
-    p.openable.sectors
-
-pub seal_area-requires-clause-within : goal.seal_area-requires-clause-within
-seal_area-requires-clause-within g c =
-    let h = c.args.header.now.bytes.now in
-    let p : IsNewPlan h c.args.n c.entry_bytes-entry.result c.args.iterations (take 32 c.args.random.now) c.luks1_plan-plan.result =
-    new_plan h c.args.header.now.fields c.args.n c.entry_bytes-entry.result c.new_slot-slot.result c.args.iterations (take 32 c.args.random.now) c.luks1_plan-plan.result
-    c.requires.accepted.fields c.requires.numbered c.requires.iterated c.new_slot-slot.ensures c.entry_bytes-entry.ensures c.luks1_plan-plan.ensures.is c.luks1_plan-plan.ensures.judged in
-    plan_inside h c.args.n c.entry_bytes-entry.result c.args.iterations (take 32 c.args.random.now) c.luks1_plan-plan.result p c.args.header.now.data_ (g.D.Device.size c.args.device.now) c.requires.accepted.volume c.requires.numbered
+    record {
+      iterations = p.openable.turns;
+      key_length = plan_key_length h c.args.n c.entry_bytes-entry.result c.args.iterations (take 32 c.args.random.now) c.luks1_plan-plan.result p c.args.key.now c.requires.key_length;
+      some_stripes = p.openable.some_stripes;
+      random_length =
+          ap length c.stripes_in.ensures
+          ∙ plan_random_length h c.args.n c.entry_bytes-entry.result c.args.iterations (take 32 c.args.random.now) c.luks1_plan-plan.result p c.args.random.now c.requires.random_length;
+      sectors = p.openable.sectors;
+      within = plan_inside h c.args.n c.entry_bytes-entry.result c.args.iterations (take 32 c.args.random.now) c.luks1_plan-plan.result p c.args.header.now.data_ (g.D.Device.size c.args.device.now) c.requires.accepted.volume c.requires.numbered;
+    }
 
 pub returns-in-Err-clause-fault : goal.returns-in-Err-clause-fault
 returns-in-Err-clause-fault g c =

@@ -1,4 +1,4 @@
-use Rattle.std.proofs.Common.{◌≡◌, ℕ, ◌-◌, List, length, drop, ap, sym, subst, arith, length-drop}
+use Rattle.std.proofs.Common.{ℕ, List, drop, sym, subst}
 use Rattle.luks_area.specs.RangeFacts.{same_but-either}
 use Rattle.luks_slot.specs.Opening.{area_bytes}
 use Rattle.luks_slot.specs.Sealing.{IsSealed}
@@ -49,9 +49,5 @@ returns-in-Err-clause-torn g c tells v e j is =
 pub returns-in-Err-clause-rest : goal.returns-in-Err-clause-rest
 returns-in-Err-clause-rest g c tells = same_but-either (c.seal.ensures.rest tells) (c.write_copies.ensures.rest tells)
 
-pub seal-requires-clause-random : goal.seal-requires-clause-random
-seal-requires-clause-random g c =
-    let is : length c.stripes_in-stripes.result.now ≡ length (drop 160 c.args.secrets.now.random.now) = ap length c.stripes_in-stripes.ensures in
-    let long : length (drop 160 c.args.secrets.now.random.now) ≡ length c.args.secrets.now.random.now - 160 = length-drop 160 c.args.secrets.now.random.now in
-    let all = c.requires.ready.random_length in
-    omega (arith, is, long, all)
+pub seal-requires-clause-ready : goal.seal-requires-clause-ready
+seal-requires-clause-ready g c = rw c.stripes_in-stripes.ensures c.requires.ready.sealed
