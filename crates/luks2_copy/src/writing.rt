@@ -7,7 +7,7 @@ ghost use Rattle.luks_head.specs.Written.{WritesBin2};
 ghost use Rattle.luks2_copy.specs.Copy.{HasCopy, IsCopyHeader};
 
 use luks_area::{Device, DeviceFault};
-use luks_head::{Bin2, written_copies_are_chosen};
+use luks_head::Bin2;
 use sha2::Digest;
 
 /// The bytes of the binary header, behind which the JSON area stands.
@@ -33,7 +33,6 @@ pub fn write_copy<D: Device>(device: &mut D, header: &Bin2, json: &[u8]) -> Resu
     ensures rest { D.tells → SameBut (IsAt header.now.hdr_offset header.now.hdr_size)
         (D.bytes device.old) (D.bytes device.new) }
 {
-    written_copies_are_chosen();
     let head = summed(header, json).write();
     write_both(device, header.hdr_offset, &head, json)?;
     Ok(())

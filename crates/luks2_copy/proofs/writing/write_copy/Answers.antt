@@ -1,5 +1,6 @@
 use Rattle.std.proofs.Common.{◌≡◌, ℕ, length, arith, ◌∙◌, subst}
 use Rattle.luks_area.specs.Ranges.{IsAt, SameBut}
+use Rattle.luks_head.proofs.BinaryHeaderFacts.{zeroed_then}
 use Rattle.luks2_copy.proofs.CopyFacts.{copy_made}
 use Rattle.luks2_copy.proofs.writing.write_copy.Goals as goal
 
@@ -19,5 +20,5 @@ returns-clause-copy g c tells is =
     let size : length w ≡ g.D.Device.size c.args.device.now = g.met.D.Device.sized c.write_both.new.device tells ∙ c.write_both.ensures.size in
     let within = c.requires.within in
     copy_made c.args.header.now c.summed.result w head c.args.json.now is c.write-head.ensures
-    c.summed.ensures.made c.summed.ensures.some (c.written_copies_are_chosen.ensures.fed head c.args.json.now c.write-head.ensures.long)
+    c.summed.ensures.made c.summed.ensures.some (zeroed_then head c.args.json.now c.write-head.ensures.long)
     (omega (arith, size, within)) c.requires.json (c.in_ok-write_both.ensures.head tells) (c.in_ok-write_both.ensures.area tells)
