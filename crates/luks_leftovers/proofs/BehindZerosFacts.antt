@@ -8,6 +8,8 @@ use Rattle.luks_head.specs.Header1.{luks_magic}
 use Rattle.luks_head.specs.Header2.{copy_at, hdr_size, second_magic, IsSound}
 use Rattle.luks_head.specs.Sizes.{IsListed}
 use Rattle.luks_head.specs.Selection.{Chosen, IsChosenCopy, IsRefused, IsSecondAlone, IsSelectFault, IsVersion1, luks2, nothing}
+use Rattle.luks_head.proofs.ChoiceFacts.{chosen_is_sound}
+use Rattle.luks_head.proofs.SoundnessFacts.{sound_by_copy}
 use Rattle.luks_leftovers.specs.BehindZeros.{behind_zeros}
 use Rattle.luks_head.specs.declared.fault.HeadFault.{HeadFault}
 use Rattle.luks_head.specs.declared.fault.HeadFault.TheVariants as fault
@@ -44,35 +46,30 @@ zero_before v p q before = grind (arith, common_steps)
 pub unsound_before : (v : List ℕ) (p q : ℕ) → q < p → IsSound (behind_zeros v p) q → ⊥
 unsound_before v p q before = unsound_at_zero (behind_zeros v p) q (zero_before v p q before)
 
--- a copy's soundness depends on its own bytes alone
-abbrev pub IsLocal : Type 0
-IsLocal = (v w : List ℕ) (o : ℕ) → length v ≡ length w → copy_at v o ≡ copy_at w o → IsSound v o ↔ IsSound w o
-
 -- the copy at the place is sound behind zeros as it is in its place
-pub sound_behind : IsLocal → (v : List ℕ) (p : ℕ) → IsSound v p ↔ IsSound (behind_zeros v p) p
-sound_behind local v p = local v (behind_zeros v p) p (sym (length-behind v p)) (sym (same_copy v p))
+pub sound_behind : (v : List ℕ) (p : ℕ) → IsSound v p ↔ IsSound (behind_zeros v p) p
+sound_behind v p = (sound_by_copy v (behind_zeros v p) p (sym (length-behind v p)) (sym (same_copy v p)), sound_by_copy (behind_zeros v p) v p (length-behind v p) (same_copy v p))
 
 -- where the copy at the place is sound, the one that is chosen alone is that copy
-least_is : IsLocal → (v : List ℕ) (p o : ℕ) → 1 ≤ p → IsSecondAlone (behind_zeros v p) o → IsSound v p → o ≡ p
-least_is local v p o after alone sound =
-    let there : IsSound (behind_zeros v p) p = (sound_behind local v p).0 sound in
+least_is : (v : List ℕ) (p o : ℕ) → 1 ≤ p → IsSecondAlone (behind_zeros v p) o → IsSound v p → o ≡ p
+least_is v p o after alone sound =
+    let there : IsSound (behind_zeros v p) p = (sound_behind v p).0 sound in
     let listed : IsListed p = subst IsListed (there.form.second (λ e. omega arith)) there.form.listed in
     let least : o ≤ p = alone.least p listed there in
     let no_less : o < p → ⊥ = λ less. unsound_before v p o less alone.sound in
     grind (arith, least, no_less)
 
 -- what is chosen behind zeros is the copy at the place, exactly where that one is sound
-pub chosen_behind : IsLocal → ((v : List ℕ) (o : ℕ) (copies : Copies) → Chosen v (luks2 o copies) → IsSound v o)
-    → (v : List ℕ) (p o : ℕ) (copies : Copies) → 1 ≤ p → Chosen (behind_zeros v p) (luks2 o copies) → (o ≡ p → IsSound v p) × (IsSound v p → o ≡ p)
-chosen_behind local sounds v p o copies after chosen =
-    (λ e. (sound_behind local v p).1 (subst (IsSound (behind_zeros v p)) e (sounds (behind_zeros v p) o copies chosen)), of_copies copies chosen.1)
+pub chosen_behind : (v : List ℕ) (p o : ℕ) (copies : Copies) → 1 ≤ p → Chosen (behind_zeros v p) (luks2 o copies) → (o ≡ p → IsSound v p) × (IsSound v p → o ≡ p)
+chosen_behind v p o copies after chosen =
+    (λ e. (sound_behind v p).1 (subst (IsSound (behind_zeros v p)) e (chosen_is_sound (behind_zeros v p) o copies chosen.1)), of_copies copies chosen.1)
   where
     of_copies : (copies : Copies) → IsChosenCopy (behind_zeros v p) o copies → IsSound v p → o ≡ p
     of_copies InStep is sound = absurd (unsound_before v p 0 after is.0.first)
     of_copies FirstNewer is sound = absurd (unsound_before v p 0 after is.0.first)
     of_copies SecondNewer is sound = absurd (unsound_before v p 0 after is.0.first)
     of_copies FirstOnly is sound = absurd (unsound_before v p 0 after is.0.first)
-    of_copies SecondOnly is sound = least_is local v p o after is sound
+    of_copies SecondOnly is sound = least_is v p o after is sound
 
 -- behind zeros there is no LUKS1 header
 pub no_luks1 : (v : List ℕ) (p : ℕ) → 1 ≤ p → IsVersion1 (behind_zeros v p) → ⊥
@@ -83,11 +80,11 @@ no_luks1 v p after is = head_of true (sym (ap (λ l. get_or l 0 0) is.magic) ∙
     six (x ∷ d) = refl
 
 -- where something refuses the choice, the copy at the place isn't sound
-pub unsound_refused : IsLocal → (v : List ℕ) (p : ℕ) (f : HeadFault) → 592 ≤ p → IsSelectFault (behind_zeros v p) f → IsSound v p → ⊥
-unsound_refused local v p f after refused sound = of_fault f refused
+pub unsound_refused : (v : List ℕ) (p : ℕ) (f : HeadFault) → 592 ≤ p → IsSelectFault (behind_zeros v p) f → IsSound v p → ⊥
+unsound_refused v p f after refused sound = of_fault f refused
   where
     there : IsSound (behind_zeros v p) p
-    there = (sound_behind local v p).0 sound
+    there = (sound_behind v p).0 sound
 
     long : 592 ≤ length (behind_zeros v p)
     long = omega (arith, there.form.inside, after)
@@ -106,8 +103,8 @@ unsound_refused local v p f after refused sound = of_fault f refused
     of_fault _ r = absurd r
 
 -- where the choice is refused on a device in memory, of which no call fails, the copy at the place isn't sound
-pub unsound_if_refused : IsLocal → (v : List ℕ) (p : ℕ) (f : HeadFault) → 592 ≤ p → (is_device_fault f ≡ true → ⊥) → IsRefused (behind_zeros v p) f → IsSound v p → ⊥
-unsound_if_refused local v p f after no_failure refused = unsound_refused local v p f after (of_fault f no_failure refused)
+pub unsound_if_refused : (v : List ℕ) (p : ℕ) (f : HeadFault) → 592 ≤ p → (is_device_fault f ≡ true → ⊥) → IsRefused (behind_zeros v p) f → IsSound v p → ⊥
+unsound_if_refused v p f after no_failure refused = unsound_refused v p f after (of_fault f no_failure refused)
   where
     of_fault : (f : HeadFault) → (is_device_fault f ≡ true → ⊥) → IsRefused (behind_zeros v p) f → IsSelectFault (behind_zeros v p) f
     of_fault fault.Device never r = absurd (never refl)

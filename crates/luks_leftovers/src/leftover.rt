@@ -6,7 +6,7 @@ ghost use Rattle.luks_leftovers.specs.BehindZeros.{behind_zeros};
 ghost use Rattle.luks_leftovers.specs.Leftovers.{IsLeft};
 
 use luks_area::MemDevice;
-use luks_head::{Selected, chosen_copy_is_sound, select, soundness_is_local};
+use luks_head::{Selected, select};
 use std::alloc::{AllocError, Global};
 use std::fmt;
 
@@ -47,8 +47,6 @@ fn is_sound(alloc: Global, front: &[u8], place: usize) -> Result<bool, AllocErro
     requires { 592 ≤ place }
     ensures { IfOk result (λ sound. IsTrue sound ↔ IsSound front.now place) }
 {
-    soundness_is_local();
-    chosen_copy_is_sound();
     let bytes = behind_zeros(alloc, front, place)?;
     match select(alloc, &mut MemDevice::new(bytes)) {
         Ok(Selected::V2 { header, .. }) => Ok(header.hdr_offset == place as u64),

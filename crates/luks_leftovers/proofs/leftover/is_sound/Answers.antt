@@ -17,7 +17,7 @@ returns-in-Ok-V2 c =
     let w : memory_bytes c.new.result ≡ behind_zeros v c.args.place = c.new.ensures ∙ c.in_ok-bytes.ensures in
     let selected : IsSelected (behind_zeros v c.args.place) (V2 h c.in-Ok-V2.field-0-1) =
     subst (λ b. IsSelected b (V2 h c.in-Ok-V2.field-0-1)) w (subst (IsSelected (memory_bytes c.new.result)) c.in-Ok-V2.field-0-is (c.in-Ok-V2.ensures.found tt)) in
-    let is = chosen_behind c.soundness_is_local.ensures.copy c.chosen_copy_is_sound.ensures v c.args.place h.hdr_offset c.in-Ok-V2.field-0-1 (omega (arith, c.requires)) selected.0 in
+    let is = chosen_behind v c.args.place h.hdr_offset c.in-Ok-V2.field-0-1 (omega (arith, c.requires)) selected.0 in
     (λ e. is.0 (eqb-true h.hdr_offset c.args.place e), λ sound. eq-eqb h.hdr_offset c.args.place (is.1 sound))
 
 -- behind zeros there is no LUKS1 header
@@ -38,4 +38,4 @@ returns c =
     let refused : IsRefused (behind_zeros v c.args.place) c.in-Err.field-0 =
     subst (λ b. IsRefused b c.in-Err.field-0) w (c.in-Err.ensures.refused tt) in
     let never : is_device_fault c.in-Err.field-0 ≡ true → ⊥ = λ e. (let one : 0 ≡ count_after true 0 = c.in-Err.ensures.count ∙ ap (λ b. count_after b 0) e in omega (arith, one)) in
-    (λ t. absurd (false≢true t), λ sound. absurd (unsound_if_refused c.soundness_is_local.ensures.copy v c.args.place c.in-Err.field-0 c.requires never refused sound))
+    (λ t. absurd (false≢true t), λ sound. absurd (unsound_if_refused v c.args.place c.in-Err.field-0 c.requires never refused sound))
