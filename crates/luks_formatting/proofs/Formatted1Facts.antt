@@ -1,22 +1,25 @@
 -- A volume that was formatted by LUKS1 is well formed, and its keyslot 0 opens.
-use Rattle.std.proofs.Common.{codes, slice_index_or, ◌≡◌, ◌↔◌, ℕ, ◌*◌, ◌-◌, ◌≤◌, List, length, Some, None, true, arith, refl, sym, ap, ◌∙◌, lit≤, lit<, if◌then◌else◌}
+use Rattle.std.proofs.Common.{codes, slice_index_or, ◌≡◌, ℕ, ◌*◌, ◌-◌, ◌≤◌, List, length, Some, None, true, arith, refl, sym, ap, ◌∙◌, lit≤, lit<, if◌then◌else◌}
 use Rattle.byteorder.specs.Endian.{big_number}
 use Rattle.luks_area.specs.Ranges.{part}
-use Rattle.luks_kdf.specs.Names.{name_of}
+use Rattle.luks_kdf.specs.Names.{digest_size_of, each_at_least, hash_of, length-digest, name_of}
+use Rattle.luks_kdf.specs.declared.hash_name.HashName.{HashName}
+use Rattle.luks_kdf.proofs.SplitterFacts.{merge-split}
 use Rattle.luks_area.specs.RangeFacts.{length-part_inside, part-part}
 use Rattle.luks_area.specs.declared.area.Area.{Area}
 use Rattle.luks_head.specs.Bytes.{text_at}
 use Rattle.luks_head.specs.Faults.{IsCommonFault, IsEntryFault}
-use Rattle.luks_head.specs.Header1.{active_word, enabled_word, entry, entry_iterations, IsCommon, IsEntry}
+use Rattle.luks_head.specs.Header1.{active_word, enabled_word, entry, entry_iterations}
 use Rattle.luks_head.specs.Selection.{luks1, Chosen}
+use Rattle.luks_head.proofs.Luks1FaultFacts.{common_sound, entry_sound}
 use Rattle.luks_head.specs.declared.fault.HeadFault.{HeadFault}
 use Rattle.luks_head.specs.declared.fault.HeadFault.TheVariants as fault
 use Rattle.luks_head.specs.declared.fault.IterationsOf.TheVariants as of
-use Rattle.luks_head.specs.declared.luks1.Luks1Common.{Luks1Common}
 use Rattle.luks_head.specs.declared.luks1.Luks1Slot.{Luks1Slot}
-use Rattle.luks_slot.specs.Opening.{meets_digest, slot_key}
+use Rattle.luks_slot.specs.Opening.{hash_by_name, meets_digest, slot_key}
 use Rattle.luks_slot.specs.Refusal.{is_open_cipher, slot_refusal}
 use Rattle.luks_slot.specs.Sealing.{IsSealed}
+use Rattle.luks_slot.proofs.SealingFacts.{sealed_opens}
 use Rattle.luks_slot.specs.declared.plan.AreaCipher.{AreaCipher}
 use Rattle.luks_slot.specs.declared.plan.AreaCipher.TheVariants.{Apart, Whole}
 use Rattle.luks_slot.specs.declared.plan.Derivation.{Derivation}
@@ -61,10 +64,12 @@ cipher_opens (Apart name mode) is = rw (is.0, is.1) refl
 cipher_opens (Whole text) is = absurd is
 
 -- what a sealed area opens to, where the key meets the digest
-abbrev pub Reopens : Type 0
-Reopens = (plan : SlotPlan) (area passphrase key random : List ℕ) → 1 ≤ plan.stripes → length key ≡ plan.key_bytes
+pub reopens : (plan : SlotPlan) (area passphrase key random : List ℕ) → 1 ≤ plan.stripes → length key ≡ plan.key_bytes
     → length random ≡ (plan.stripes - 1) * plan.key_bytes → IsSealed plan area passphrase key random
     → slot_key plan area passphrase ≡ (if meets_digest plan.digest key then Some key else None)
+reopens plan area passphrase key random some size counted =
+    let hash : HashName = hash_by_name plan.splitter_hash.now in
+    sealed_opens plan area passphrase key random some size counted (merge-split (hash_of hash) (digest_size_of hash) (length-digest hash) (each_at_least 1 digest_size_of refl hash))
 
 module _ (payload : Data) (format : Format) (passphrase random old new : List ℕ) (some : 1 ≤ format.iterations) (large : 2097152 ≤ length new)
     (x : IsFormatted1 payload format passphrase random old new) where
@@ -122,57 +127,56 @@ module _ (payload : Data) (format : Format) (passphrase random old new : List �
       let cipher = cipher_is (part new 0 592) plan.cipher (common_is.cipher_name ∙ x.fields.common.cipher_name) (common_is.cipher_mode ∙ x.fields.common.cipher_mode) y.is.cipher in
       unrefused format (slot_salt slot_place1 random) area1 (digest_salt random) (key_digest format random 20) plan (new_plan plan y) (cipher_opens plan.cipher cipher)
 
-  module _ (common_clear : (v : List ℕ) → ((f : HeadFault) → IsCommonFault v f → ⊥) ↔ ((c : Luks1Common) × IsCommon v c))
-      (entry_clear : (n : ℕ) (e : List ℕ) → ((f : HeadFault) → IsEntryFault n e f → ⊥) ↔ ((s : Luks1Slot) × IsEntry e s)) where
-    no_common : (f : HeadFault) → IsCommonFault (part new 0 592) f → ⊥
-    no_common = (common_clear (part new 0 592)).1 (x.header.common, common payload format random (part new 0 592) x.header x.fields x.written some)
+  no_common : (f : HeadFault) → IsCommonFault (part new 0 592) f → ⊥
+  no_common = common_sound (part new 0 592) x.header.common (common payload format random (part new 0 592) x.header x.fields x.written some)
 
-    no_entry : (f : HeadFault) → IsEntryFault 0 (entry (part new 0 592) 0) f → ⊥
-    no_entry = let whole = header payload format random (part new 0 592) x.header x.fields x.written some in
-        let slot : Luks1Slot = new_slot format random 0 in
-        (entry_clear 0 (entry (part new 0 592) 0)).1 (slice_index_or x.header.slots 0 slot, whole.slots.each 0 slot (lit< tt))
+  no_entry : (f : HeadFault) → IsEntryFault 0 (entry (part new 0 592) 0) f → ⊥
+  no_entry =
+      let whole = header payload format random (part new 0 592) x.header x.fields x.written some in
+      let slot : Luks1Slot = new_slot format random 0 in
+      entry_sound 0 (entry (part new 0 592) 0) (slice_index_or x.header.slots 0 slot) (whole.slots.each 0 slot (lit< tt))
 
-    no_head : (f : HeadFault) → IsLuks1HeadRefusal (part new 0 592) 0 f → ⊥
-    no_head (fault.SlotState m) y = no_entry (fault.SlotState m) y.1
-    no_head (fault.Stripes m) y = no_entry (fault.Stripes m) y.1
-    no_head (fault.Iterations (of.Slot m)) y = no_entry (fault.Iterations (of.Slot m)) y.1
-    no_head f y = no_common f y
+  no_head : (f : HeadFault) → IsLuks1HeadRefusal (part new 0 592) 0 f → ⊥
+  no_head (fault.SlotState m) y = no_entry (fault.SlotState m) y.1
+  no_head (fault.Stripes m) y = no_entry (fault.Stripes m) y.1
+  no_head (fault.Iterations (of.Slot m)) y = no_entry (fault.Iterations (of.Slot m)) y.1
+  no_head f y = no_common f y
 
-    none : (f : OpenFault) → IsLuks1Refusal (part new 0 592) (length new) 0 f → ⊥
-    none (Head f) y = no_head f y
-    none (Meta f) y = y
-    none NoSuchSlot y = absurd (omega (arith, y))
-    none SlotFree y =
-        let on : active_word (entry (part new 0 592) 0) ≡ enabled_word = (holds payload format random (part new 0 592) x.header x.fields x.written 0 (lit< tt)).state in
-        let off = y.1 in
-        absurd (omega (arith, on, off))
-    none Outside y =
-        let past = y.past in
-        let start = ap (λ (a : Area). a.start) (new_plan y.plan y.is).area in
-        let len = ap (λ (a : Area). a.len) (new_plan y.plan y.is).area in
-        absurd (omega (arith, past, start, len, large))
-    none (Slot s) y = (let both : None ≡ Some s = sym (plan_unrefused y.plan y.is) ∙ y.refused in absurd (cc))
-    none Device y = y
-    none Memory y = y
+  none : (f : OpenFault) → IsLuks1Refusal (part new 0 592) (length new) 0 f → ⊥
+  none (Head f) y = no_head f y
+  none (Meta f) y = y
+  none NoSuchSlot y = absurd (omega (arith, y))
+  none SlotFree y =
+      let on : active_word (entry (part new 0 592) 0) ≡ enabled_word = (holds payload format random (part new 0 592) x.header x.fields x.written 0 (lit< tt)).state in
+      let off = y.1 in
+      absurd (omega (arith, on, off))
+  none Outside y =
+      let past = y.past in
+      let start = ap (λ (a : Area). a.start) (new_plan y.plan y.is).area in
+      let len = ap (λ (a : Area). a.len) (new_plan y.plan y.is).area in
+      absurd (omega (arith, past, start, len, large))
+  none (Slot s) y = (let both : None ≡ Some s = sym (plan_unrefused y.plan y.is) ∙ y.refused in absurd (cc))
+  none Device y = y
+  none Memory y = y
 
-    pub slot_opens : Reopens → length random ≡ 256080 → Answer new 0 passphrase (opens (volume_key random))
-    slot_opens reopens counted =
-        let plan = x.slot.plan in
-        let is = new_plan plan x.slot.is in
-        let stored : length (key_digest format random 20) ≡ 20 =
-        ap length (sym ((fields payload format random (part new 0 592) x.header x.fields x.written).mk_digest ∙ x.fields.common.mk_digest))
-        ∙ length-part_inside (part new 0 592) 112 20 (let long = length-part_inside new 0 592 (omega (arith, large)) in omega (arith, long)) in
-        let key_len : length (volume_key random) ≡ plan.key_bytes = length-volume_key random (omega (arith, counted)) ∙ sym is.key_bytes in
-        let random_len : length (random_stripes slot_place1 random) ≡ (plan.stripes - 1) * plan.key_bytes =
-        length-part_inside random 144 255936 (omega (arith, counted)) ∙ sym (ap (λ s. (s - 1) * plan.key_bytes) is.stripes ∙ ap (λ k. (4000 - 1) * k) is.key_bytes) in
-        let meets = key_meets format random 20 plan.digest is.digest stored in
-        let stripes = is.stripes in
-        record {
-          choice = luks1;
-          chosen = chosen;
-          plan = plan;
-          is = x.slot.is;
-          unrefused = none;
-          key = reopens plan (part new plan.area.start plan.area.len) passphrase (volume_key random) (random_stripes slot_place1 random) (omega (arith, stripes)) key_len random_len x.slot.sealed
-              ∙ ap (λ b. if b then Some (volume_key random) else None) meets;
-        }
+  pub slot_opens : length random ≡ 256080 → Answer new 0 passphrase (opens (volume_key random))
+  slot_opens counted =
+      let plan = x.slot.plan in
+      let is = new_plan plan x.slot.is in
+      let stored : length (key_digest format random 20) ≡ 20 =
+      ap length (sym ((fields payload format random (part new 0 592) x.header x.fields x.written).mk_digest ∙ x.fields.common.mk_digest))
+      ∙ length-part_inside (part new 0 592) 112 20 (let long = length-part_inside new 0 592 (omega (arith, large)) in omega (arith, long)) in
+      let key_len : length (volume_key random) ≡ plan.key_bytes = length-volume_key random (omega (arith, counted)) ∙ sym is.key_bytes in
+      let random_len : length (random_stripes slot_place1 random) ≡ (plan.stripes - 1) * plan.key_bytes =
+      length-part_inside random 144 255936 (omega (arith, counted)) ∙ sym (ap (λ s. (s - 1) * plan.key_bytes) is.stripes ∙ ap (λ k. (4000 - 1) * k) is.key_bytes) in
+      let meets = key_meets format random 20 plan.digest is.digest stored in
+      let stripes = is.stripes in
+      record {
+        choice = luks1;
+        chosen = chosen;
+        plan = plan;
+        is = x.slot.is;
+        unrefused = none;
+        key = reopens plan (part new plan.area.start plan.area.len) passphrase (volume_key random) (random_stripes slot_place1 random) (omega (arith, stripes)) key_len random_len x.slot.sealed
+            ∙ ap (λ b. if b then Some (volume_key random) else None) meets;
+      }

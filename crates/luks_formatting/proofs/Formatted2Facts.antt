@@ -1,5 +1,5 @@
 -- A volume that was formatted by LUKS2 is well formed, and its keyslot 0 opens.
-use Rattle.std.proofs.Common.{◌≡◌, ◌↔◌, ℕ, ◌*◌, ◌-◌, ◌≤◌, ◌++◌, List, length, replicate, Some, None, arith, sym, ap, ◌∙◌, subst, lit<, if◌then◌else◌}
+use Rattle.std.proofs.Common.{◌≡◌, ℕ, ◌*◌, ◌-◌, ◌≤◌, ◌++◌, List, length, replicate, Some, None, arith, sym, ap, ◌∙◌, subst, lit<, if◌then◌else◌}
 use Rattle.serde_json.specs.Data.{Data as Value}
 use Rattle.luks_area.specs.Ranges.{part}
 use Rattle.luks_area.specs.RangeFacts.{length-part_inside}
@@ -11,13 +11,14 @@ use Rattle.luks_head.proofs.BinaryHeaderFacts.{written_in_step}
 use Rattle.luks_head.proofs.ChoiceFacts.{uuid_sound}
 use Rattle.luks_head.specs.declared.selection.Copies.TheVariants.{InStep}
 use Rattle.luks_kdf.specs.Names.{digest_size_of}
-use Rattle.luks_json.specs.AreaText.{Json}
+use Rattle.luks_json.proofs.AreaKinds.{kind_of, not_bad}
 use Rattle.luks_rules.specs.Accepted.{IsContent, IsMeta}
 use Rattle.luks_rules.specs.Faults.{object_at}
 use Rattle.luks_rules.specs.Held.{IsHeld}
 use Rattle.luks_rules.specs.MetaFault.{IsMetaFault}
 use Rattle.luks_rules.specs.declared.fault.MetaFault.{MetaFault}
 use Rattle.luks_rules.specs.declared.table.Section.TheVariants.{Keyslots}
+use Rattle.luks_rules.proofs.Deciding.{without_faults}
 use Rattle.luks_making.specs.Conditions.{CanFormat, FitsVolume}
 use Rattle.luks_making.specs.Formatted.{VolumeMembers, first_slot, formatted}
 use Rattle.luks_making.specs.Keyslots.{slot_value}
@@ -38,8 +39,8 @@ use Rattle.luks_formatting.specs.Formatted2.{IsFormatted2}
 use Rattle.luks_formatting.specs.NewHeader2.{area2, new_members, FitsMetadata, IsNewCipher2}
 use Rattle.luks_formatting.specs.NewPlan.{key_digest, IsNewPlan}
 use Rattle.luks_formatting.specs.RandomBytes.{digest_salt, random_stripes, slot_place2, slot_salt, uuid_bytes, volume_key}
-use Rattle.luks_formatting.proofs.Formatted1Facts.{length-volume_key, Reopens}
-use Rattle.luks_formatting.proofs.Keyslot2Facts.{cipher_opens, fit, plan_is, segments, SlotsSay}
+use Rattle.luks_formatting.proofs.Formatted1Facts.{length-volume_key, reopens}
+use Rattle.luks_formatting.proofs.Keyslot2Facts.{cipher_opens, fit, one_value, plan_is, segments, SlotsSay}
 use Rattle.luks_formatting.proofs.MetadataFacts.{can_format, no_some}
 use Rattle.luks_formatting.proofs.NewPlanFacts.{key_meets, unrefused}
 
@@ -47,14 +48,12 @@ use Rattle.luks_formatting.proofs.NewPlanFacts.{key_meets, unrefused}
 uuid_good : (random field_ : List ℕ) → field_ ≡ uuid_text random ++ replicate 4 0 → IsUuidField field_
 uuid_good random field_ is = subst IsUuidField (sym is) (fills (uuid_text random) (uuid_text-is random))
 
--- what the laws say of metadata
-pub record MetadataLaws : Type 0 where
-  pub metadata : (area : List ℕ) → ((f : MetaFault) → IsMetaFault area f → ⊥) ↔ ((j : Value) × IsMeta area j)
-  pub held : (v : VolumeMembers) → FitsVolume v → CanFormat v → IsHeld 12288 (formatted v)
-  pub one : (area : List ℕ) (i k : Value) → Json area i → Json area k → i ≡ k
+-- metadata that is accepted has no fault
+no_meta : (area : List ℕ) (j : Value) → IsMeta area j → (f : MetaFault) → IsMetaFault area f → ⊥
+no_meta area j is = (without_faults kind_of one_value not_bad area).1 (j, is)
 
 module _ (payload : Data) (format : Format) (passphrase random old new : List ℕ) (some : 1 ≤ format.iterations) (large : 16777216 ≤ length new) (counted : length random ≡ 256208)
-    (fits : FitsMetadata payload format random) (say : SlotsSay) (laws : MetadataLaws) (x : IsFormatted2 payload format passphrase random old new) where
+    (fits : FitsMetadata payload format random) (say : SlotsSay) (held : (v : VolumeMembers) → FitsVolume v → CanFormat v → IsHeld 12288 (formatted v)) (x : IsFormatted2 payload format passphrase random old new) where
   long : 272 ≤ length random
   long = omega (arith, counted)
 
@@ -76,7 +75,7 @@ module _ (payload : Data) (format : Format) (passphrase random old new : List �
   meta = record {
     json = x.metadata.json;
     content = subst (λ (n : ℕ). IsContent n (formatted (new_members payload format random))) (sym x.metadata.long)
-        (laws.held (new_members payload format random) fits.fits (can_format payload format random some long fits.digest_length)).content;
+        (held (new_members payload format random) fits.fits (can_format payload format random some long fits.digest_length)).content;
   }
 
   formed : IsLuks2Volume (header_at new 0) x.json payload (length new)
@@ -102,7 +101,7 @@ module _ (payload : Data) (format : Format) (passphrase random old new : List �
 
   new_plan : (plan : SlotPlan) → HasLuks2Plan x.json 0 plan
       → IsNewPlan format (slot_salt slot_place2 random) area2 (digest_salt random) (key_digest format random (digest_size_of format.hash)) plan × IsNewCipher2 plan.cipher
-  new_plan = plan_is payload format random some long fits say x.json x.metadata.json laws.one
+  new_plan = plan_is payload format random some long fits say x.json x.metadata.json
 
   plan_unrefused : (plan : SlotPlan) → HasLuks2Plan x.json 0 plan → slot_refusal plan ≡ None
   plan_unrefused plan y =
@@ -111,10 +110,10 @@ module _ (payload : Data) (format : Format) (passphrase random old new : List �
 
   none : (f : OpenFault) → IsLuks2Refusal (header_at new 0) x.json (length new) 0 f → ⊥
   none (Head f) y = uuid_sound (uuid_field (header_at new 0)) uuid f y
-  none (Meta f) y = (laws.metadata x.json).1 (formatted (new_members payload format random), meta) f y
+  none (Meta f) y = no_meta x.json (formatted (new_members payload format random)) meta f y
   none NoSuchSlot y =
       let v : VolumeMembers = new_members payload format random in
-      let same : y.value ≡ formatted v = laws.one x.json y.value (formatted v) y.holds x.metadata.json in
+      let same : y.value ≡ formatted v = one_value x.json y.value (formatted v) y.holds x.metadata.json in
       let gone : object_at (formatted v) Keyslots 0 ≡ None = subst (λ (k : Value). object_at k Keyslots 0 ≡ None) same (y.absent (lit< tt)) in
       no_some (slot_value (first_slot v)) (sym gone)
   none SlotFree y = y
@@ -128,8 +127,8 @@ module _ (payload : Data) (format : Format) (passphrase random old new : List �
   none Device y = y
   none Memory y = y
 
-  pub slot_opens : Reopens → Answer new 0 passphrase (opens (volume_key random))
-  slot_opens reopens =
+  pub slot_opens : Answer new 0 passphrase (opens (volume_key random))
+  slot_opens =
       let plan = x.slot.plan in
       let is = (new_plan plan x.slot.is).0 in
       let key_len : length (volume_key random) ≡ plan.key_bytes = length-volume_key random (omega (arith, counted)) ∙ sym is.key_bytes in

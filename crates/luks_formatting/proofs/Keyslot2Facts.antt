@@ -1,6 +1,7 @@
 -- What the metadata of a new LUKS2 volume places: the areas, and the plan of keyslot 0.
 use Rattle.std.proofs.lemmas.Bool.{cases_eq}
 use Rattle.serde_json.specs.Find.{get}
+use Rattle.serde_json.specs.Read.{read}
 use Rattle.luks_json.specs.Values.{bytes_in, number_in, text_of}
 use Rattle.luks_meta.specs.Says.{small_at}
 use Rattle.luks_rules.specs.Faults.{member_at}
@@ -8,7 +9,7 @@ use Rattle.luks_rules.specs.declared.table.Member.TheVariants as name
 use Rattle.luks_making.specs.Keyslots.{base64_text}
 use Rattle.luks_slot.specs.declared.plan.DigestPlan.{DigestPlan}
 use Rattle.luks_formatting.specs.NewPlan.{IsNewDigest}
-use Rattle.std.proofs.Common.{◌≡◌, ◌≢◌, ℕ, ◌+◌, ◌-◌, ◌<◌, ◌≤◌, List, length, codes, Some, None, true, option_and_then, arith, refl, sym, ap, ◌∙◌, subst, lit<, inl, inr}
+use Rattle.std.proofs.Common.{◌≡◌, ◌≢◌, ℕ, ◌+◌, ◌-◌, ◌<◌, ◌≤◌, List, length, codes, Some, None, true, option_and_then, arith, refl, sym, ap, ◌∙◌, subst, lit<, inl, inr, unwrap_or}
 use Rattle.serde_json.specs.Data.{Data as Value, number, string, unsigned}
 use Rattle.luks_area.specs.Area.{Fit, IsInside, LiesIn}
 use Rattle.luks_area.specs.declared.area.Area.{Area}
@@ -16,6 +17,7 @@ use Rattle.luks_area.specs.declared.area.AreaName.{AreaName}
 use Rattle.luks_area.specs.declared.area.AreaName.TheVariants.{Head1, Head2, Slot as SlotName, Segment}
 use Rattle.luks_kdf.specs.Names.{digest_size_of, name_of}
 use Rattle.luks_json.specs.AreaText.{Json}
+use Rattle.luks_json.proofs.AreaTexts.{one_text}
 use Rattle.luks_rules.specs.Faults.{object_at}
 use Rattle.luks_rules.specs.Reading.{decimal_in}
 use Rattle.luks_rules.specs.Sizes.{inside_at}
@@ -85,6 +87,10 @@ bounds_apart total (Segment m) (SlotName n) a b x y other p here there = let s =
 pub cipher_opens : (cipher : AreaCipher) → IsNewCipher2 cipher → is_open_cipher cipher ≡ true
 cipher_opens (Apart name mode) is = absurd is
 cipher_opens (Whole text) is = rw is refl
+
+-- a JSON area holds one value at most
+pub one_value : (area : List ℕ) (i k : Value) → Json area i → Json area k → i ≡ k
+one_value area i k p q = ap (λ o. unwrap_or o i) (sym p.reads ∙ ap read (one_text area p.text q.text p.placed q.placed) ∙ q.reads)
 
 -- a keyslot says what it was made of
 abbrev pub SlotsSay : Type 0
@@ -209,12 +215,12 @@ module _ (payload : Data) (format : Format) (random : List ℕ) (some : 1 ≤ fo
       }
 
   -- a plan that the metadata gives is the one that was sealed by
-  pub plan_is : (json : List ℕ) → Json json (formatted (new_members payload format random)) → ((area : List ℕ) (i k : Value) → Json area i → Json area k → i ≡ k)
+  pub plan_is : (json : List ℕ) → Json json (formatted (new_members payload format random))
       → (plan : SlotPlan) → HasLuks2Plan json 0 plan
       → IsNewPlan format (slot_salt slot_place2 random) area2 (digest_salt random) (key_digest format random (digest_size_of format.hash)) plan × IsNewCipher2 plan.cipher
-  plan_is json holds one plan y =
+  plan_is json holds plan y =
       let v : VolumeMembers = new_members payload format random in
-      let same : y.value ≡ formatted v = one json y.value (formatted v) y.holds holds in
+      let same : y.value ≡ formatted v = one_value json y.value (formatted v) y.holds holds in
       let there : object_at (formatted v) Keyslots 0 ≡ Some y.object = subst (λ (k : Value). object_at k Keyslots 0 ≡ Some y.object) same y.there in
       let object_is : slot_value (first_slot v) ≡ y.object = (slot_at v 0 y.object (lit< tt) there).1 in
       let first : IsLuks2Plan (formatted v) 0 y.object plan = subst (λ (k : Value). IsLuks2Plan k 0 y.object plan) same y.is in

@@ -16,11 +16,7 @@ ghost use Rattle.luks_slot.specs.declared.plan.SlotPlan.{SlotPlan as ThePlan};
 ghost use Rattle.luks_formatting.specs.RandomBytes.{digest_salt, slot_place2, slot_salt, volume_key};
 ghost use Rattle.luks_terms.specs.declared.format.Format.{Format as TheFormat};
 
-use luks_head::luks1_without_faults;
-use luks_json::one_value;
 use luks_making::{addition_keeps_the_rest, new_volume_is_accepted};
-use luks_meta::metadata_without_faults;
-use luks_slot::sealed_area_opens;
 
 /// A volume that was formatted by LUKS1 is well formed, and its keyslot 0 opens by the passphrase
 /// to the volume key.
@@ -33,10 +29,7 @@ pub fn formatted1_opens()
         → length random ≡ 256080
         → IsFormatted1 payload format passphrase random old new
         → Answer new 0 passphrase (opens (volume_key random)) }
-{
-    luks1_without_faults();
-    sealed_area_opens();
-}
+{}
 
 /// A volume that was formatted by LUKS2 is well formed, and its keyslot 0 opens by the passphrase
 /// to the volume key.
@@ -51,11 +44,8 @@ pub fn formatted2_opens()
         → IsFormatted2 payload format passphrase random old new
         → Answer new 0 passphrase (opens (volume_key random)) }
 {
-    metadata_without_faults();
     new_volume_is_accepted();
     addition_keeps_the_rest();
-    one_value();
-    sealed_area_opens();
 }
 
 /// The plan that keyslot 0 of a new LUKS2 volume is sealed by is the one that its metadata gives.

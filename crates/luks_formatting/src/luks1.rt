@@ -14,7 +14,6 @@ ghost use Rattle.luks_formatting.specs.declared.format_fault.FormatFault.{Format
 
 use crate::format_fault::FormatFault;
 use crate::judging::judge;
-use crate::laws::formatted1_opens;
 use crate::luks1_header::{SLOT_SALT, new_header};
 use crate::plan::new_plan;
 use crate::random::{KEY, KEY_BYTES, RANDOM_STRIPES, SALT_BYTES, taken};
@@ -80,7 +79,6 @@ pub fn format1<D: Device>(
     ensures opens { D.tells → OnOk result
         (Answer (D.bytes device.new) 0 passphrase.now (opens (volume_key random.now))) }
 {
-    formatted1_opens();
     judge(LEAST, FORMAT1_RANDOM, device.len(), format, random)?;
     write_volume(device, data_, format, passphrase, random)?;
     Ok(Done { slot: Some(0) })
