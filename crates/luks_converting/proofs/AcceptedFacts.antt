@@ -1,35 +1,59 @@
 -- What the verdict on a header says of the volume.
-use Rattle.std.proofs.Common.{◌≡◌, ℕ, List, length, subst, refl, sym}
+use Rattle.std.proofs.Common.{◌≡◌, ◌↔◌, ℕ, List, length, subst, refl, sym, ap, ◌∙◌, unwrap_or}
+use Rattle.serde_json.specs.Data.{Data as Value}
+use Rattle.serde_json.specs.Read.{read}
 use Rattle.luks_area.specs.First.{IsLeast}
 use Rattle.luks_area.specs.Ranges.{part}
 use Rattle.luks_area.specs.declared.area.AreaName.TheVariants.{Slot}
-use Rattle.luks_head.specs.Selection.{Choice, luks1, Chosen}
+use Rattle.luks_head.specs.Selection.{luks1, Chosen}
+use Rattle.luks_head.proofs.ChoiceFacts.{choices_agree, uuid_accepted, uuid_sound}
+use Rattle.luks_head.proofs.Luks1FaultFacts.{sound}
+use Rattle.luks_head.proofs.Luks1HeaderFacts.{header_found}
+use Rattle.luks_json.specs.AreaText.{Json}
+use Rattle.luks_json.proofs.AreaKinds.{kind_of, not_bad}
+use Rattle.luks_json.proofs.AreaTexts.{one_text}
+use Rattle.luks_rules.specs.Accepted.{IsMeta}
+use Rattle.luks_rules.specs.MetaFault.{IsMetaFault}
+use Rattle.luks_rules.specs.declared.fault.MetaFault.{MetaFault}
+use Rattle.luks_rules.proofs.Deciding.{without_faults}
 use Rattle.luks_reading.specs.declared.check_fault.CheckFault.{CheckFault}
 use Rattle.luks_reading.specs.declared.header.ChosenCopy.{ChosenCopy}
 use Rattle.luks_reading.specs.declared.report.Data.{Data}
 use Rattle.luks_reading.specs.Checked.{check_key, First, IsFault, IsFaultAs, IsLuks1Fault, IsLuks1Volume, WellFormed}
 use Rattle.luks_reading.specs.Header.{IsChosenCopy}
+use Rattle.luks_reading.proofs.WellFormedFacts.{formed_sound}
 use Rattle.luks_converting.specs.Accepted.{HasAreasInside, IsHeaderOf, IsOther}
 use Rattle.luks_converting.specs.Source.{source_size, source_start}
+
+-- a JSON area holds one value at most
+pub one_value : (area : List ℕ) (i k : Value) → Json area i → Json area k → i ≡ k
+one_value area i k p q = ap (λ o. unwrap_or o i) (sym p.reads ∙ ap read (one_text area p.text q.text p.placed q.placed) ∙ q.reads)
+
+-- metadata has no fault exactly where it is accepted
+pub metadata_faultless : (area : List ℕ) → ((f : MetaFault) → IsMetaFault area f → ⊥) ↔ ((j : Value) × IsMeta area j)
+metadata_faultless = without_faults kind_of one_value not_bad
+
+-- a well formed volume has no fault
+well_formed_faultless : (v : List ℕ) (payload : Data) → WellFormed v payload → (f : CheckFault) → IsFault v payload f → ⊥
+well_formed_faultless = formed_sound (λ h. (header_found h, λ x. sound h x.0 x.1)) (λ field_. (uuid_accepted field_, uuid_sound field_)) metadata_faultless one_value choices_agree
 
 -- each keyslot's area is inside the volume
 pub areas_inside : (h : List ℕ) (payload : Data) (total : ℕ) → IsLuks1Volume h payload total → HasAreasInside h total
 areas_inside h payload total whole n low = whole.fit.inside (Slot n) (record { start = source_start h n; len = source_size h n }) (low, refl, refl)
 
-module _ (only : (v : List ℕ) (b c : Choice) → Chosen v b → Chosen v c → b ≡ c)
-    (h : List ℕ) (payload : Data) (total : ℕ) (v : List ℕ) (chosen : Chosen v luks1) (begins : h ≡ part v 0 592) (size : length v ≡ total) where
-  pub header_of : IsLuks1Volume h payload total → (WellFormed v payload → (f : CheckFault) → IsFault v payload f → ⊥) → IsHeaderOf h payload v
-  header_of whole faultless =
+module _ (h : List ℕ) (payload : Data) (total : ℕ) (v : List ℕ) (chosen : Chosen v luks1) (begins : h ≡ part v 0 592) (size : length v ≡ total) where
+  pub header_of : IsLuks1Volume h payload total → IsHeaderOf h payload v
+  header_of whole =
       let well : WellFormed v payload = record {
         choice = luks1;
         chosen = chosen;
         formed = subst (λ t. IsLuks1Volume (part v 0 592) payload t) (sym size) (subst (λ b. IsLuks1Volume b payload total) begins whole);
       } in
-      record { chosen = chosen; begins = begins; faultless = faultless well }
+      record { chosen = chosen; begins = begins; faultless = well_formed_faultless v payload well }
 
   fault_out : (f : CheckFault) → IsFault v payload f → IsLuks1Fault h payload total f
   fault_out f x =
-      let as_luks1 : IsLuks1Fault (part v 0 592) payload (length v) f = subst (λ c. IsFaultAs v payload c f) (only v x.choice luks1 x.chosen chosen) x.fault in
+      let as_luks1 : IsLuks1Fault (part v 0 592) payload (length v) f = subst (λ c. IsFaultAs v payload c f) (choices_agree v x.choice luks1 x.chosen chosen) x.fault in
       subst (λ t. IsLuks1Fault h payload t f) size (subst (λ b. IsLuks1Fault b payload (length v) f) (sym begins) as_luks1)
 
   fault_in : (f : CheckFault) → IsLuks1Fault h payload total f → IsFault v payload f
@@ -43,5 +67,8 @@ module _ (only : (v : List ℕ) (b c : Choice) → Chosen v b → Chosen v c →
   first_fault f least = (fault_in f least.0, λ g bad. least.1 g (fault_out g bad))
 
 -- a LUKS2 volume that was accepted
-pub other_of : (v : List ℕ) (payload : Data) (copy : ChosenCopy) → IsChosenCopy v copy → ((f : CheckFault) → IsFault v payload f → ⊥) → IsOther v payload
-other_of v payload copy is faultless = record { luks2 = record { place = copy.header.hdr_offset; copies = copy.copies; chosen = is.chosen }; faultless = faultless }
+pub other_of : (v : List ℕ) (payload : Data) (copy : ChosenCopy) → IsChosenCopy v copy → WellFormed v payload → IsOther v payload
+other_of v payload copy is well = record {
+  luks2 = record { place = copy.header.hdr_offset; copies = copy.copies; chosen = is.chosen };
+  faultless = well_formed_faultless v payload well;
+}

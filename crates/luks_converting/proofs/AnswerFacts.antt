@@ -1,5 +1,5 @@
 -- A converted keyslot answers as the old one did.
-use Rattle.std.proofs.Common.{◌≡◌, ◌↔◌, ℕ, ◌+◌, ◌-◌, ◌*◌, ◌≤◌, List, ◌++◌, length, replicate, true, false, Option, Some, None, refl, sym, ap, subst, ◌∙◌, arith, inl, inr}
+use Rattle.std.proofs.Common.{◌≡◌, ℕ, ◌+◌, ◌-◌, ◌*◌, ◌≤◌, List, ◌++◌, length, replicate, true, false, Option, Some, None, refl, sym, ap, subst, ◌∙◌, arith, inl, inr}
 use Rattle.std.proofs.lemmas.Bool.{cases_lt}
 use Rattle.std.proofs.Math.Seq.{take-append_seam}
 use Rattle.serde_json.specs.Data.{Data}
@@ -8,14 +8,13 @@ use Rattle.luks_area.specs.Ranges.{part}
 use Rattle.luks_area.specs.RangeFacts.{length-part_inside, part-whole}
 use Rattle.luks_area.specs.Sectors.{rounded_to_sectors, sector_count}
 use Rattle.luks_head.specs.Header1.{key_bytes_of}
-use Rattle.luks_head.specs.Header2.{header_at, uuid_field, IsUuidFault, IsUuidField}
+use Rattle.luks_head.specs.Header2.{header_at, uuid_field, IsUuidField}
 use Rattle.luks_head.specs.Selection.{Choice, luks1, luks2, Chosen}
+use Rattle.luks_head.proofs.ChoiceFacts.{choices_agree, uuid_sound}
 use Rattle.luks_head.specs.declared.fault.HeadFault.{HeadFault}
 use Rattle.luks_head.specs.declared.selection.Copies.{Copies}
-use Rattle.luks_json.specs.AreaText.{Json}
 use Rattle.luks_rules.specs.Accepted.{IsMeta}
 use Rattle.luks_rules.specs.Faults.{object_at}
-use Rattle.luks_rules.specs.MetaFault.{IsMetaFault}
 use Rattle.luks_rules.specs.declared.fault.MetaFault.{MetaFault}
 use Rattle.luks_rules.specs.declared.table.Section.TheVariants.{Keyslots}
 use Rattle.luks_making.specs.Conversions.{SaysSource}
@@ -33,17 +32,11 @@ use Rattle.luks_reading.specs.Plans.{HasLuks1Plan, HasLuks2Plan, IsLuks2Plan}
 use Rattle.luks_converting.specs.Copied.{HasSameSectors, IsCopiedPlan}
 use Rattle.luks_converting.specs.Converted.{new_size, new_start}
 use Rattle.luks_converting.specs.Source.{header_members, is_enabled, source_size, source_start, HasRoom}
+use Rattle.luks_converting.proofs.AcceptedFacts.{metadata_faultless, one_value}
 use Rattle.luks_converting.proofs.CopiedFacts.{same_key, still_unrefused}
 use Rattle.luks_converting.proofs.PlaceFacts.{ends}
 use Rattle.luks_converting.proofs.PlanFacts.{copied_plan, has_plan, keyslot_there, new_plan, new_slot, plan_len, plan_start}
 use Rattle.luks_converting.proofs.SourceFacts.{low_of, no_some, slot_absent, some_same}
-
--- what the crates below say of volumes
-pub record VolumeLaws : Type 0 where
-  pub only : (v : List ℕ) (b c : Choice) → Chosen v b → Chosen v c → b ≡ c
-  pub uuid : (field_ : List ℕ) → ((f : HeadFault) → IsUuidFault field_ f → ⊥) ↔ IsUuidField field_
-  pub metadata : (area : List ℕ) → ((f : MetaFault) → IsMetaFault area f → ⊥) ↔ ((j : Data) × IsMeta area j)
-  pub value : (area : List ℕ) (i k : Data) → Json area i → Json area k → i ≡ k
 
 -- the front of two lists joined
 front_of : (xs ys : List ℕ) (k : ℕ) → length xs ≡ k → part (xs ++ ys) 0 k ≡ part xs 0 k
@@ -62,15 +55,15 @@ pub record HasHeader (w : List ℕ) (j : Data) : Type 0 where
   pub long : 16777216 ≤ length w
 
 module _
-    (laws : VolumeLaws) (v w : List ℕ) (j : Data)
+    (v w : List ℕ) (j : Data)
     (was : Chosen v luks1) (has : HasRoom (part v 0 592)) (x : SaysSource (header_members (part v 0 592)) j) (new : HasHeader w j)
   where
     -- the faults that may stand of any keyslot
     no_head : (memory n : ℕ) (f : HeadFault) → IsRefusalAsWithin memory w n (luks2 0 new.copies) (Head f) → ⊥
-    no_head memory n f z = (laws.uuid (uuid_field (header_at w 0))).1 new.uuid f z
+    no_head memory n f z = uuid_sound (uuid_field (header_at w 0)) new.uuid f z
 
     no_meta : (memory n : ℕ) (f : MetaFault) → IsRefusalAsWithin memory w n (luks2 0 new.copies) (Meta f) → ⊥
-    no_meta memory n f z = (laws.metadata (json_at w 0)).1 (j, new.meta) f z
+    no_meta memory n f z = (metadata_faultless (json_at w 0)).1 (j, new.meta) f z
 
     module _ (n : ℕ) (on : is_enabled (part v 0 592) n ≡ true) where
       is_there : object_at j Keyslots n ≡ Some (slot_value (new_slot (part v 0 592) n))
@@ -78,7 +71,7 @@ module _
 
       its_plan : (b : SlotPlan) → HasLuks2Plan (json_at w 0) n b → IsLuks2Plan j n (slot_value (new_slot (part v 0 592) n)) b
       its_plan b z =
-          let value : z.value ≡ j = laws.value (json_at w 0) z.value j z.holds new.meta.json in
+          let value : z.value ≡ j = one_value (json_at w 0) z.value j z.holds new.meta.json in
           let there : object_at j Keyslots n ≡ Some z.object = subst (λ (k : Data). object_at k Keyslots n ≡ Some z.object) value z.there in
           let object : z.object ≡ slot_value (new_slot (part v 0 592) n) = some_same z.object (slot_value (new_slot (part v 0 592) n)) (sym there ∙ is_there) in
           let is : IsLuks2Plan j n z.object b = subst (λ (k : Data). IsLuks2Plan k n z.object b) value z.is in
@@ -89,7 +82,7 @@ module _
           ≡ part v (source_start (part v 0 592) n) (source_size (part v 0 592) n) ++ replicate (new_size (part v 0 592) n - source_size (part v 0 592) n) 0)
           (memory : ℕ) (p : List ℕ) (found : Option (List ℕ)) (o : OpensWithin memory v n p found) where
         was_luks1 : o.choice ≡ luks1
-        was_luks1 = laws.only v o.choice luks1 o.chosen was
+        was_luks1 = choices_agree v o.choice luks1 o.chosen was
 
         old_plan : HasLuks1Plan (part v 0 592) n o.plan
         old_plan = subst (λ (c : Choice). HasPlanAs v n c o.plan) was_luks1 o.is
@@ -110,7 +103,7 @@ module _
         unrefused (Head f) z = no_head memory n f z
         unrefused (Meta f) z = no_meta memory n f z
         unrefused NoSuchSlot z =
-            let value : z.value ≡ j = laws.value (json_at w 0) z.value j z.holds new.meta.json in
+            let value : z.value ≡ j = one_value (json_at w 0) z.value j z.holds new.meta.json in
             let gone : object_at j Keyslots n ≡ None = subst (λ (k : Data). object_at k Keyslots n ≡ None) value (z.absent (let low = low_of (part v 0 592) n on in omega (arith, low))) in
             no_some (slot_value (new_slot (part v 0 592) n)) (sym gone ∙ is_there)
         unrefused SlotFree z = z
@@ -190,5 +183,5 @@ module _
       pub converted_absent : (memory : ℕ) (p : List ℕ) → AnswerWithin memory w n p (refused NoSuchSlot)
       converted_absent memory p = (
         record { choice = luks2 0 new.copies; chosen = new.chosen; fault = record { value = j; holds = new.meta.json; absent = λ small. gone } },
-        λ g z. first_as memory g (subst (λ (c : Choice). IsRefusalAsWithin memory w n c g) (laws.only w z.choice (luks2 0 new.copies) z.chosen new.chosen) z.fault),
+        λ g z. first_as memory g (subst (λ (c : Choice). IsRefusalAsWithin memory w n c g) (choices_agree w z.choice (luks2 0 new.copies) z.chosen new.chosen) z.fault),
       )

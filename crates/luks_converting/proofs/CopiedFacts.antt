@@ -1,22 +1,21 @@
 -- A copied keyslot gives the key that it gave.
-use Rattle.std.proofs.Common.{◌≡◌, ℕ, zero, suc, ◌+◌, ◌*◌, ◌≤◌, List, ◌++◌, Bool, true, false, ◌||◌, ◌⊎◌, codes, take, Some, None, is_some, refl, sym, ap, ◌∙◌, arith, inl, inr}
-use Rattle.std.specs.Prelude.{if◌then◌else◌}
+use Rattle.std.proofs.Common.{◌≡◌, ℕ, zero, suc, ◌+◌, ◌*◌, ◌≤◌, List, ◌++◌, Bool, true, false, ◌||◌, ◌⊎◌, codes, Some, None, is_some, refl, sym, ap, ◌∙◌, arith, inl, inr}
 use Rattle.std.proofs.lemmas.Bool.{and_parts}
 use Rattle.std.proofs.lemmas.Slice.Eq.{bytes_eq-Decides}
 use Rattle.luks_area.specs.Ranges.{part}
 use Rattle.luks_area.specs.RangeFacts.{part-part}
 use Rattle.luks_area.specs.Sectors.{sector_count}
-use Rattle.luks_kdf.specs.Names.{digest_size_of, hash_named, hash_of}
-use Rattle.luks_kdf.specs.Splitter.{merge}
+use Rattle.luks_kdf.specs.Names.{hash_named}
 use Rattle.luks_xts.specs.Xts.{XtsOpen}
 use Rattle.luks_slot.specs.declared.plan.AreaCipher.{AreaCipher}
 use Rattle.luks_slot.specs.declared.plan.AreaCipher.TheVariants.{Apart, Whole}
 use Rattle.luks_slot.specs.declared.plan.Derivation.{Derivation}
 use Rattle.luks_slot.specs.declared.plan.Derivation.TheVariants.{Pbkdf2, Argon2}
 use Rattle.luks_slot.specs.declared.plan.SlotPlan.{SlotPlan}
-use Rattle.luks_slot.specs.Opening.{area_key, area_key_by, candidate, hash_by_name, meets_digest, opened_sector, opened_sectors, slot_key, stripes_from, stripes_in}
-use Rattle.luks_slot.specs.Refusal.{is_argon2, is_known_derivation, is_open_cipher, slot_refusal}
+use Rattle.luks_slot.specs.Opening.{area_key, area_key_by, candidate, opened_sector, opened_sectors, slot_key, stripes_from, stripes_in}
+use Rattle.luks_slot.specs.Refusal.{is_argon2, is_argon2_refused, is_known_derivation, is_open_cipher, slot_refusal}
 use Rattle.luks_slot.specs.declared.fault.SlotFault.TheVariants.{Argon2 as Argon2Fault, Cipher}
+use Rattle.luks_reading.proofs.SamePlans.{same_key as same_plan_key, same_refusal, SameFields}
 use Rattle.luks_converting.specs.Copied.{HasSameSectors, IsCopiedPlan, IsJoinedCipher, IsSameDerivation}
 
 -- ---- sectors
@@ -39,59 +38,63 @@ same_sectors key a b (suc n) same =
 
 -- ---- the key
 
-same_area_key : (a b : Derivation) (n : ℕ) (passphrase : List ℕ) → IsSameDerivation a b → area_key_by a n passphrase ≡ area_key_by b n passphrase
-same_area_key (Pbkdf2 h i s) (Pbkdf2 k j t) n passphrase x = simp (x.0, x.1, x.2)
-same_area_key (Pbkdf2 h i s) (Argon2 c) n passphrase x = absurd x
-same_area_key (Argon2 c) b n passphrase x = absurd x
+-- the sectors that a plan takes decide what it gives
+same_rows : (a : SlotPlan) (area copy passphrase : List ℕ) → HasSameSectors a area copy → slot_key a area passphrase ≡ slot_key a copy passphrase
+unfolding slot_key candidate stripes_in stripes_from
+same_rows a area copy passphrase same = rw (same_sectors (area_key a passphrase) area copy (sector_count (a.key_bytes * a.stripes)) same) refl
 
--- a candidate by what it is made of
-of_parts : List ℕ → ℕ → ℕ → List ℕ → List ℕ → List ℕ
-of_parts name k n key area =
-    merge (hash_of (hash_by_name name)) (digest_size_of (hash_by_name name)) k n (take (k * n) (opened_sectors key area (sector_count (k * n))))
+-- derivations that say the same
+record Alike (a b : Derivation) : Type 0 where
+  argon2 : is_argon2 a ≡ is_argon2 b
+  argon2_refused : (memory : ℕ) → is_argon2_refused memory a ≡ is_argon2_refused memory b
+  known : is_known_derivation a ≡ is_known_derivation b
+  key : (n : ℕ) (p : List ℕ) → area_key_by a n p ≡ area_key_by b n p
 
-parts_same : (s t : List ℕ) (k l n m : ℕ) (key other area copy : List ℕ) → s ≡ t → k ≡ l → n ≡ m → key ≡ other
-    → part area 0 (512 * sector_count (k * n)) ≡ part copy 0 (512 * sector_count (k * n)) → of_parts s k n key area ≡ of_parts t l m other copy
-unfolding of_parts
-parts_same s t k l n m key other area copy name bytes stripes keys same =
-    ap (λ rows. merge (hash_of (hash_by_name s)) (digest_size_of (hash_by_name s)) k n (take (k * n) rows)) (same_sectors key area copy (sector_count (k * n)) same)
-    ∙ ap (λ x. of_parts x k n key copy) name ∙ ap (λ x. of_parts t x n key copy) bytes ∙ ap (λ x. of_parts t l x key copy) stripes ∙ ap (λ x. of_parts t l m x copy) keys
+alike : (a b : Derivation) → IsSameDerivation a b → Alike a b
+alike (Pbkdf2 h i s) (Pbkdf2 k j t) x = record {
+  argon2 = refl;
+  argon2_refused = λ memory. refl;
+  known = ap (λ t. is_some (hash_named t)) x.0;
+  key = λ n p. simp (x.0, x.1, x.2);
+}
+alike (Pbkdf2 h i s) (Argon2 c) x = absurd x
+alike (Argon2 c) b x = absurd x
 
-candidate_is : (plan : SlotPlan) (area passphrase : List ℕ)
-    → candidate plan area passphrase ≡ of_parts plan.splitter_hash.now plan.key_bytes plan.stripes (area_key_by plan.derivation plan.area_key_bytes passphrase) area
-unfolding candidate stripes_in stripes_from area_key of_parts
-candidate_is plan area passphrase = refl
+-- the plan `a` with the cipher and the area of the plan `b`
+abbrev moved : SlotPlan → SlotPlan → SlotPlan
+moved a b = record a { cipher = b.cipher; area = b.area }
 
-same_candidate : (a b : SlotPlan) (area copy passphrase : List ℕ) → IsCopiedPlan a b → HasSameSectors a area copy → candidate a area passphrase ≡ candidate b copy passphrase
-same_candidate a b area copy passphrase x same =
-    let key : area_key_by a.derivation a.area_key_bytes passphrase ≡ area_key_by b.derivation b.area_key_bytes passphrase =
-    ap (λ n. area_key_by a.derivation n passphrase) x.area_key_bytes ∙ same_area_key a.derivation b.derivation b.area_key_bytes passphrase x.derivation in
-    candidate_is a area passphrase
-    ∙ parts_same a.splitter_hash.now b.splitter_hash.now a.key_bytes b.key_bytes a.stripes b.stripes (area_key_by a.derivation a.area_key_bytes passphrase) (area_key_by b.derivation b.area_key_bytes passphrase) area copy
-    x.splitter_hash x.key_bytes x.stripes key same
-    ∙ sym (candidate_is b copy passphrase)
+same_fields : (a b : SlotPlan) → IsCopiedPlan a b → SameFields (moved a b) b
+same_fields a b x =
+    let derivation = alike a.derivation b.derivation x.derivation in
+    record {
+      argon2 = derivation.argon2;
+      argon2_refused = derivation.argon2_refused;
+      known = derivation.known;
+      key = derivation.key;
+      cipher = refl;
+      start = refl;
+      len = refl;
+      area_key_bytes = x.area_key_bytes;
+      key_bytes = x.key_bytes;
+      stripes = x.stripes;
+      splitter_hash = x.splitter_hash;
+      digest_hash = x.digest.hash;
+      digest_iterations = x.digest.iterations;
+      digest_salt = x.digest.salt;
+      digest_stored = x.digest.stored;
+    }
 
-same_meeting : (a b : SlotPlan) (key : List ℕ) → IsCopiedPlan a b → meets_digest a.digest key ≡ meets_digest b.digest key
-unfolding meets_digest
-same_meeting a b key x = simp (x.digest.hash, x.digest.iterations, x.digest.salt, x.digest.stored)
+-- cipher and area decide nothing of the key
+key_moved : (a b : SlotPlan) (area passphrase : List ℕ) → slot_key a area passphrase ≡ slot_key (moved a b) area passphrase
+unfolding slot_key candidate area_key stripes_in
+key_moved a b area passphrase = refl
 
 pub same_key : (a b : SlotPlan) (area copy passphrase : List ℕ) → IsCopiedPlan a b → HasSameSectors a area copy → slot_key a area passphrase ≡ slot_key b copy passphrase
-unfolding slot_key
 same_key a b area copy passphrase x same =
-    let key = same_candidate a b area copy passphrase x same in
-    ap (λ k. if meets_digest a.digest k then Some k else None) key
-    ∙ ap (λ m. if m then Some (candidate b copy passphrase) else None) (same_meeting a b (candidate b copy passphrase) x)
+    same_rows a area copy passphrase same ∙ key_moved a b copy passphrase ∙ same_plan_key (moved a b) b copy passphrase (same_fields a b x)
 
 -- ---- refusals
-
-same_kind : (a b : Derivation) → IsSameDerivation a b → is_argon2 a ≡ is_argon2 b
-same_kind (Pbkdf2 h i s) (Pbkdf2 k j t) x = refl
-same_kind (Pbkdf2 h i s) (Argon2 c) x = absurd x
-same_kind (Argon2 c) b x = absurd x
-
-same_known : (a b : Derivation) → IsSameDerivation a b → is_known_derivation a ≡ is_known_derivation b
-same_known (Pbkdf2 h i s) (Pbkdf2 k j t) x = ap (λ t. is_some (hash_named t)) x.0
-same_known (Pbkdf2 h i s) (Argon2 c) x = absurd x
-same_known (Argon2 c) b x = absurd x
 
 either : (p q : Bool) → (p || q) ≡ true → ((p ≡ true) ⊎ (q ≡ true))
 either true q e = inl refl
@@ -118,11 +121,13 @@ open_cipher : (plan : SlotPlan) → slot_refusal plan ≡ None → is_argon2 pla
 open_cipher plan none derived true is = refl
 open_cipher plan none derived false is = let some : slot_refusal plan ≡ Some Cipher = rw (derived, is) refl in absurd (let both : Some Cipher ≡ None = sym some ∙ none in cc)
 
+-- nor does the area of a refusal, or the cipher where both open
+refusal_moved : (a b : SlotPlan) → is_open_cipher a.cipher ≡ is_open_cipher b.cipher → slot_refusal a ≡ slot_refusal (moved a b)
+refusal_moved a b same = simp same
+
 pub still_unrefused : (a b : SlotPlan) → IsCopiedPlan a b → slot_refusal a ≡ None → slot_refusal b ≡ None
 still_unrefused a b x none =
     let derived : is_argon2 a.derivation ≡ false = not_argon2 a none (is_argon2 a.derivation) refl in
     let was : is_open_cipher a.cipher ≡ true = open_cipher a none derived (is_open_cipher a.cipher) refl in
     let now : is_open_cipher b.cipher ≡ true = joined_opens a.cipher b.cipher x.cipher was in
-    let same : slot_refusal a ≡ slot_refusal b =
-    simp (same_kind a.derivation b.derivation x.derivation, was ∙ sym now, same_known a.derivation b.derivation x.derivation, x.area_key_bytes, x.splitter_hash, x.digest.hash) in
-    sym same ∙ none
+    sym (refusal_moved a b (was ∙ sym now) ∙ same_refusal (moved a b) b (same_fields a b x)) ∙ none

@@ -1,12 +1,11 @@
 -- The plan of a converted keyslot is the copy of the old one.
-use Rattle.std.proofs.Common.{◌≡◌, ℕ, List, true, false, Some, sym, ap, subst, ◌∙◌, inl, inr}
-use Rattle.std.proofs.lemmas.Bool.{cases_eq, false≢true}
+use Rattle.std.proofs.Common.{◌≡◌, ℕ, List, true, Some, sym, ap, subst, ◌∙◌, inl, inr}
+use Rattle.std.proofs.lemmas.Bool.{cases_eq}
 use Rattle.serde_json.specs.Data.{Data}
 use Rattle.luks_head.specs.Bytes.{text_at}
 use Rattle.luks_head.specs.Header1.{entry, entry_iterations, entry_salt, entry_stripes, key_bytes_of, mk_digest_iterations_of, mk_digest_of, mk_digest_salt_of}
-use Rattle.luks_rules.specs.Faults.{object_at, suits}
+use Rattle.luks_rules.specs.Faults.{object_at}
 use Rattle.luks_rules.specs.declared.table.Section.TheVariants.{Digests, Keyslots}
-use Rattle.luks_rules.specs.declared.table.When.TheVariants as when
 use Rattle.luks_making.specs.Conversions.{SaysSource}
 use Rattle.luks_making.specs.Converted.{converted_slot, volume_like}
 use Rattle.luks_making.specs.Keyslots.{SlotMembers, slot_value}

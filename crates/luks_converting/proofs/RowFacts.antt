@@ -1,7 +1,8 @@
 -- The first fault of a conversion among the faults that stand, row by row of the table.
 use Rattle.std.proofs.Common.{◌≡◌, ◌≢◌, ℕ, ◌<◌, ◌≤◌, List, length, false, refl, sym, subst, arith, inl}
 use Rattle.luks_area.specs.First.{IsLeast, NotAfter}
-use Rattle.luks_head.specs.Selection.{Choice, luks1, luks2, Chosen}
+use Rattle.luks_head.specs.Selection.{luks1, luks2}
+use Rattle.luks_head.proofs.ChoiceFacts.{choices_agree}
 use Rattle.luks_reading.specs.declared.check_fault.CheckFault.{CheckFault}
 use Rattle.luks_reading.specs.declared.check_fault.CheckFault.TheVariants as check
 use Rattle.luks_reading.specs.declared.report.Data.{Data}
@@ -71,11 +72,11 @@ unaccepted_first v payload total random Device x = tt
 -- ---- of an accepted LUKS1 volume
 
 module _
-    (only : (v : List ℕ) (b c : Choice) → Chosen v b → Chosen v c → b ≡ c) (never : (h : List ℕ) → IsSource h → IsFull h → ⊥)
+    (never : (h : List ℕ) → IsSource h → IsFull h → ⊥)
     (h v : List ℕ) (payload : Data) (total : ℕ) (random : List ℕ) (is : IsHeaderOf h payload v)
   where
     not_luks2 : IsLuks2 v → ⊥
-    not_luks2 bad = let same : luks1 ≡ luks2 bad.place bad.copies = only v luks1 (luks2 bad.place bad.copies) is.chosen bad.chosen in absurd (let no = same in cc)
+    not_luks2 bad = let same : luks1 ≡ luks2 bad.place bad.copies = choices_agree v luks1 (luks2 bad.place bad.copies) is.chosen bad.chosen in absurd (let no = same in cc)
 
     pub too_small : total < 16777216 → IsLeast convert_key (IsConvertFault v payload total random) TooSmall
     too_small small = (small, after)

@@ -9,7 +9,7 @@ use Rattle.luks_head.specs.Bytes.{text_at, IsUuid}
 use Rattle.luks_head.specs.Header2.{hdr_size, header_at, uuid_field, IsUuidField}
 use Rattle.luks_head.specs.Selection.{luks1, luks2, Chosen}
 use Rattle.luks_head.specs.Written.{IsWrittenCopy}
-use Rattle.luks_head.specs.declared.bin2.Bin2.{Bin2}
+use Rattle.luks_head.proofs.BinaryHeaderFacts.{written_in_step}
 use Rattle.luks_head.specs.declared.fault.TextField.TheVariants.{Uuid}
 use Rattle.luks_head.specs.declared.selection.Copies.TheVariants.{InStep}
 use Rattle.luks_rules.specs.Accepted.{IsContent, IsMeta}
@@ -23,7 +23,7 @@ use Rattle.luks_making.specs.Conversions.{SaysSource}
 use Rattle.luks_making.specs.Converted.{converted}
 use Rattle.luks_converting.specs.Converted.{uuid_of, IsConverted}
 use Rattle.luks_converting.specs.Source.{header_members, is_enabled, IsSource}
-use Rattle.luks_converting.proofs.AnswerFacts.{converted_absent, converted_opens, HasHeader, VolumeLaws}
+use Rattle.luks_converting.proofs.AnswerFacts.{converted_absent, converted_opens, HasHeader}
 use Rattle.luks_converting.proofs.FitFacts.{fit}
 
 -- ---- the uuid
@@ -58,8 +58,7 @@ uuid_good h field_ source is =
 -- ---- the volume
 
 module _
-    (in_step : (v : List ℕ) (first second : Bin2) (a b : List ℕ) → IsWrittenCopy v 0 first a → IsWrittenCopy v first.hdr_size second b → first.seqid ≡ second.seqid → Chosen v (luks2 0 InStep))
-    (laws : VolumeLaws) (v random old w : List ℕ) (source : IsSource (part v 0 592))
+    (v random old w : List ℕ) (source : IsSource (part v 0 592))
     (held : IsHeld 12288 (converted (header_members (part v 0 592)))) (says : SaysSource (header_members (part v 0 592)) (converted (header_members (part v 0 592))))
     (large : 16777216 ≤ length w) (x : IsConverted v random old w)
   where
@@ -72,7 +71,7 @@ module _
     chosen : Chosen w (luks2 0 InStep)
     chosen =
         let second = subst (λ (o : ℕ). IsWrittenCopy w o x.second.header x.json) (sym x.first.fields.hdr_size) x.second.written in
-        in_step w x.first.header x.second.header x.json x.json x.first.written second (x.first.fields.seqid ∙ sym x.second.fields.seqid)
+        written_in_step w x.first.header x.second.header x.json x.json x.first.written second (x.first.fields.seqid ∙ sym x.second.fields.seqid)
 
     uuid : IsUuidField (uuid_field (header_at w 0))
     uuid = uuid_good (part v 0 592) (uuid_field (header_at w 0)) source (x.first.written.header.fields.uuid ∙ x.first.fields.own_uuid)
@@ -106,9 +105,9 @@ module _
     pub opens_alike : Chosen v luks1 → (memory n : ℕ) (p : List ℕ) (found : Option (List ℕ)) → is_enabled (part v 0 592) n ≡ true
         → AnswerWithin memory v n p (opened_to found) → AnswerWithin memory w n p (opened_to found)
     opens_alike was memory n p None on o =
-        converted_opens laws v w (converted (header_members (part v 0 592))) was source.room says header n on (x.areas n on) memory p None o
+        converted_opens v w (converted (header_members (part v 0 592))) was source.room says header n on (x.areas n on) memory p None o
     opens_alike was memory n p (Some key) on o =
-        converted_opens laws v w (converted (header_members (part v 0 592))) was source.room says header n on (x.areas n on) memory p (Some key) o
+        converted_opens v w (converted (header_members (part v 0 592))) was source.room says header n on (x.areas n on) memory p (Some key) o
 
     pub absent : Chosen v luks1 → (memory n : ℕ) (p : List ℕ) → is_enabled (part v 0 592) n ≡ false → AnswerWithin memory w n p (refused NoSuchSlot)
-    absent was memory n p off = converted_absent laws v w (converted (header_members (part v 0 592))) was source.room says header n off memory p
+    absent was memory n p off = converted_absent v w (converted (header_members (part v 0 592))) was source.room says header n off memory p

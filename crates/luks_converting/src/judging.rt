@@ -12,7 +12,6 @@ use crate::converting::CONVERT_RANDOM;
 use crate::laws::metadata_is_never_full;
 use crate::places::areas_end;
 use crate::source::{SourceHeader, are_bytes};
-use luks_head::one_choice;
 
 /// The least length of a target in bytes, and the last place at which its key areas may end.
 const REGION_END: u64 = 16777216;
@@ -32,7 +31,6 @@ pub(crate) fn judge(header: &SourceHeader, total: u64, random: &[u8]) -> Result<
     ensures ready { OnOk result (IsReady header.now.bytes total random.now) }
     ensures source { OnOk result (IsSource header.now.bytes) }
 {
-    one_choice();
     metadata_is_never_full();
     are_bytes(&header.bytes);
     if total < REGION_END {

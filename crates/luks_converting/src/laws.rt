@@ -16,9 +16,7 @@ ghost use Rattle.luks_converting.specs.Copied.{HasSameSectors, IsCopiedPlan};
 ghost use Rattle.luks_converting.specs.Outcome.{IsFull};
 ghost use Rattle.luks_converting.specs.Source.{is_enabled, IsSource};
 
-use luks_head::{luks2_without_faults, one_choice, written_copies_are_chosen};
 use luks_making::converted_volume_is_accepted;
-use luks_meta::{metadata_without_faults, one_value};
 
 /// A LUKS2 keyslot with the plan and the sectors of a LUKS1 keyslot gives the same key, or none, by
 /// each passphrase; and it isn't refused where the LUKS1 keyslot isn't.
@@ -46,11 +44,6 @@ pub fn converted_volume_opens_alike()
         → (memory n : ℕ) (p : List ℕ) → is_enabled (part v 0 luks1_size) n ≡ false
         → AnswerWithin memory w n p (refused NoSuchSlot) }
 {
-    one_choice();
-    written_copies_are_chosen();
-    luks2_without_faults();
-    metadata_without_faults();
-    one_value();
     converted_volume_is_accepted();
 }
 

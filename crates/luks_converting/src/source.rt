@@ -9,11 +9,8 @@ ghost use Rattle.luks_converting.specs.ConvertFaults.{is_convert_failure};
 
 use crate::convert_fault::ConvertFault;
 use luks_area::Device;
-use luks_head::{Luks1, one_choice};
-use luks_reading::{
-    Data, Header, check_header, judge_luks1, no_fault_is_well_formed, read_header,
-    unread_volume_is_refused,
-};
+use luks_head::Luks1;
+use luks_reading::{Data, Header, check_header, judge_luks1, read_header};
 use std::alloc::Global;
 
 /// The header of a LUKS1 volume that was accepted.
@@ -41,8 +38,6 @@ pub(crate) fn accepted_source<D: Device>(
         IsHeaderOf h.bytes data_ (D.bytes source.old)) }
     ensures refused { D.tells → IfErr result (IsUnaccepted (D.bytes source.old) data_) }
 {
-    no_fault_is_well_formed();
-    unread_volume_is_refused();
     let header = read_header(alloc, source)?;
     let total = source.len();
     match &header {
@@ -64,8 +59,6 @@ fn accepted_header(bytes: &[u8; 592], data_: Data, total: u64) -> Result<SourceH
     ensures refused { (v : List ℕ) → IsHeader v (OfLuks1 bytes.now) → length v ≡ total
         → IfErr result (IsUnaccepted v data_) }
 {
-    one_choice();
-    no_fault_is_well_formed();
     match judge_luks1(bytes.as_slice(), data_, total) {
         Ok(_) => Ok(SourceHeader {
             bytes: *bytes,
