@@ -1,10 +1,13 @@
 -- The faults of an area, from those of its text and of its value.
-use Rattle.std.proofs.Common.{◌≢◌, true, false, refl, ◌≡◌, ℕ, List, [], ◌∷◌, length, subst, arith}
+use Rattle.std.proofs.Common.{◌≢◌, true, false, refl, ◌≡◌, ℕ, List, [], ◌∷◌, length, subst, arith, sym, ap, ◌∙◌, unwrap_or}
 use Rattle.serde_json.specs.Data.{Data}
+use Rattle.serde_json.specs.Read.{read}
 use Rattle.luks_area.specs.First.{IsLeast, NotAfter}
 use Rattle.luks_rules.specs.declared.fault.MetaFault.{MetaFault}
 use Rattle.luks_rules.specs.declared.fault.MetaFault.TheVariants as fault
 use Rattle.luks_json.specs.AreaText.{IsBadJson, IsJsonFault, Json, JsonText}
+use Rattle.luks_json.proofs.AreaKinds.{not_bad}
+use Rattle.luks_json.proofs.AreaTexts.{one_text}
 use Rattle.luks_json.specs.declared.fault.JsonFault.{JsonFault}
 use Rattle.luks_json.specs.declared.fault.JsonFault.TheVariants as json
 use Rattle.serde_json.specs.Written.{has_float}
@@ -100,52 +103,54 @@ memory_alone (fault.Region name) h = absurd (h (λ e. cc))
 
 -- ---- of an area that holds a value
 
--- an area holds one value at most, and then no bad text
-module _ (one : (area : List ℕ) (i j : Data) → Json area i → Json area j → i ≡ j) (good : (area : List ℕ) (j : Data) → Json area j → IsBadJson area → ⊥) where
-  of_value : (area : List ℕ) (j : Data) → Json area j → (g : MetaFault) → HasDataFault area g → IsDataFault (length area) j g
-  of_value area j json g h =
-      let e : h.value ≡ j = one area h.value j h.json json in
-      let P : Data → Type 0 = λ d. IsDataFault (length area) d g in
-      subst P e h.fault
+-- an area holds one value at most
+pub one_value : (area : List ℕ) (i j : Data) → Json area i → Json area j → i ≡ j
+one_value area i j p q = ap (λ o. unwrap_or o i) (sym p.reads ∙ ap read (one_text area p.text q.text p.placed q.placed) ∙ q.reads)
 
-  -- what is a fault of the area is one of its value
-  pub into_value : (area : List ℕ) (j : Data) → Json area j → (g : MetaFault) → IsMetaFault area g → IsDataFault (length area) j g
-  into_value area j json fault.JsonArea h = h json.text json.placed
-  into_value area j json fault.BadJson h = good area j json h
-  into_value area j json fault.NotWhole h = of_value area j json _ h
-  into_value area j json (fault.Shape path) h = of_value area j json _ h
-  into_value area j json (fault.Kind path) h = of_value area j json _ h
-  into_value area j json (fault.NoSuchName path) h = of_value area j json _ h
-  into_value area j json (fault.Assigned path) h = of_value area j json _ h
-  into_value area j json fault.Sizes h = of_value area j json _ h
-  into_value area j json (fault.AreaTooSmall n) h = of_value area j json _ h
-  into_value area j json (fault.Region name) h = of_value area j json _ h
-  into_value area j json fault.Memory h = h
+of_value : (area : List ℕ) (j : Data) → Json area j → (g : MetaFault) → HasDataFault area g → IsDataFault (length area) j g
+of_value area j json g h =
+    let e : h.value ≡ j = one_value area h.value j h.json json in
+    let P : Data → Type 0 = λ d. IsDataFault (length area) d g in
+    subst P e h.fault
 
-  pub from_value : (area : List ℕ) (j : Data) → Json area j → (g : MetaFault) → IsDataFault (length area) j g → IsMetaFault area g
-  from_value area j json fault.JsonArea h = elim h [ ]
-  from_value area j json fault.BadJson h = elim h [ ]
-  from_value area j json fault.NotWhole h = record { value = j; json = json; fault = h }
-  from_value area j json (fault.Shape path) h = record { value = j; json = json; fault = h }
-  from_value area j json (fault.Kind path) h = record { value = j; json = json; fault = h }
-  from_value area j json (fault.NoSuchName path) h = record { value = j; json = json; fault = h }
-  from_value area j json (fault.Assigned path) h = record { value = j; json = json; fault = h }
-  from_value area j json fault.Sizes h = record { value = j; json = json; fault = h }
-  from_value area j json (fault.AreaTooSmall n) h = record { value = j; json = json; fault = h }
-  from_value area j json (fault.Region name) h = record { value = j; json = json; fault = h }
-  from_value area j json fault.Memory h = h
+-- what is a fault of the area is one of its value
+pub into_value : (area : List ℕ) (j : Data) → Json area j → (g : MetaFault) → IsMetaFault area g → IsDataFault (length area) j g
+into_value area j json fault.JsonArea h = h json.text json.placed
+into_value area j json fault.BadJson h = not_bad area j json h
+into_value area j json fault.NotWhole h = of_value area j json _ h
+into_value area j json (fault.Shape path) h = of_value area j json _ h
+into_value area j json (fault.Kind path) h = of_value area j json _ h
+into_value area j json (fault.NoSuchName path) h = of_value area j json _ h
+into_value area j json (fault.Assigned path) h = of_value area j json _ h
+into_value area j json fault.Sizes h = of_value area j json _ h
+into_value area j json (fault.AreaTooSmall n) h = of_value area j json _ h
+into_value area j json (fault.Region name) h = of_value area j json _ h
+into_value area j json fault.Memory h = h
 
-  pub value_least : (area : List ℕ) (j : Data) (f : MetaFault) → Json area j → IsLeast meta_key (IsDataFault (length area) j) f → IsLeast meta_key (IsMetaFault area) f
-  value_least area j f json least = (from_value area j json f least.0, λ g h. least.1 g (into_value area j json g h))
+pub from_value : (area : List ℕ) (j : Data) → Json area j → (g : MetaFault) → IsDataFault (length area) j g → IsMetaFault area g
+from_value area j json fault.JsonArea h = elim h [ ]
+from_value area j json fault.BadJson h = elim h [ ]
+from_value area j json fault.NotWhole h = record { value = j; json = json; fault = h }
+from_value area j json (fault.Shape path) h = record { value = j; json = json; fault = h }
+from_value area j json (fault.Kind path) h = record { value = j; json = json; fault = h }
+from_value area j json (fault.NoSuchName path) h = record { value = j; json = json; fault = h }
+from_value area j json (fault.Assigned path) h = record { value = j; json = json; fault = h }
+from_value area j json fault.Sizes h = record { value = j; json = json; fault = h }
+from_value area j json (fault.AreaTooSmall n) h = record { value = j; json = json; fault = h }
+from_value area j json (fault.Region name) h = record { value = j; json = json; fault = h }
+from_value area j json fault.Memory h = h
 
-  pub value_none : (area : List ℕ) (j : Data) → Json area j → ((g : MetaFault) → IsDataFault (length area) j g → ⊥) → (g : MetaFault) → IsMetaFault area g → ⊥
-  value_none area j json none g h = none g (into_value area j json g h)
+pub value_least : (area : List ℕ) (j : Data) (f : MetaFault) → Json area j → IsLeast meta_key (IsDataFault (length area) j) f → IsLeast meta_key (IsMetaFault area) f
+value_least area j f json least = (from_value area j json f least.0, λ g h. least.1 g (into_value area j json g h))
 
-  -- ---- of an area that is accepted
+pub value_none : (area : List ℕ) (j : Data) → Json area j → ((g : MetaFault) → IsDataFault (length area) j g → ⊥) → (g : MetaFault) → IsMetaFault area g → ⊥
+value_none area j json none g h = none g (into_value area j json g h)
 
-  pub accepted_none : (area : List ℕ) (j : Data) → IsMeta area j → (g : MetaFault) → IsMetaFault area g → ⊥
-  accepted_none area j m g h = value_none area j m.json (data_none (length area) j (faultless_of (length area) j m.content)) g h
+-- ---- of an area that is accepted
 
-  -- an area that is accepted is refused for want of memory alone
-  pub memory_where : (area : List ℕ) (f : MetaFault) → (f ≢ fault.Memory → IsLeast meta_key (IsMetaFault area) f) → (j : Data) → IsMeta area j → f ≡ fault.Memory
-  memory_where area f least j m = memory_alone f (λ off. accepted_none area j m f (least off).0)
+pub accepted_none : (area : List ℕ) (j : Data) → IsMeta area j → (g : MetaFault) → IsMetaFault area g → ⊥
+accepted_none area j m g h = value_none area j m.json (data_none (length area) j (faultless_of (length area) j m.content)) g h
+
+-- an area that is accepted is refused for want of memory alone
+pub memory_where : (area : List ℕ) (f : MetaFault) → (f ≢ fault.Memory → IsLeast meta_key (IsMetaFault area) f) → (j : Data) → IsMeta area j → f ≡ fault.Memory
+memory_where area f least j m = memory_alone f (λ off. accepted_none area j m f (least off).0)

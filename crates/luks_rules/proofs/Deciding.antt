@@ -9,6 +9,7 @@ use Rattle.luks_rules.specs.declared.place.Place.{Place}
 use Rattle.luks_rules.specs.declared.place.Test.{Test}
 use Rattle.luks_rules.specs.declared.place.Test.TheVariants as test
 use Rattle.luks_json.specs.AreaText.{IsBadJson, Json, JsonText}
+use Rattle.luks_json.proofs.AreaKinds.{kind_of}
 use Rattle.luks_rules.specs.Accepted.{IsMeta}
 use Rattle.luks_rules.specs.Faults.{place_path}
 use Rattle.luks_rules.specs.MetaFault.{HasPath, IsFaultless, IsMetaFault}
@@ -17,8 +18,7 @@ use Rattle.luks_rules.proofs.AreaFaults.{accepted_none}
 
 -- ---- an area without a fault
 
-module _ (area : List ℕ) (kind : ((j : Data) × Json area j) ⊎ IsBadJson area ⊎ ((text : List ℕ) → JsonText area text → ⊥))
-    (h : (f : MetaFault) → IsMetaFault area f → ⊥) where
+module _ (area : List ℕ) (h : (f : MetaFault) → IsMetaFault area f → ⊥) where
   value_there : ((j : Data) × Json area j) ⊎ IsBadJson area ⊎ ((text : List ℕ) → JsonText area text → ⊥) → (j : Data) × Json area j
   value_there (inl p) = p
   value_there (inr (inl bad)) = absurd (h fault.BadJson bad)
@@ -42,10 +42,15 @@ module _ (area : List ℕ) (kind : ((j : Data) × Json area j) ⊎ IsBadJson are
 
   accepted : (j : Data) × IsMeta area j
   accepted =
-      let p = value_there kind in
+      let p = value_there (kind_of area) in
       (p.0, record { json = p.1; content = content_of (length area) p.0 (faultless p.0 p.1) })
 
+-- metadata has no fault exactly where it is accepted
+pub metadata_faultless : (area : List ℕ) → ((f : MetaFault) → IsMetaFault area f → ⊥) ↔ ((j : Data) × IsMeta area j)
+metadata_faultless area = (accepted area, λ m. accepted_none area m.0 m.1)
+
+-- the same for a crate that hands in what it rests on
 pub without_faults : ((area : List ℕ) → ((j : Data) × Json area j) ⊎ IsBadJson area ⊎ ((text : List ℕ) → JsonText area text → ⊥))
     → ((area : List ℕ) (i j : Data) → Json area i → Json area j → i ≡ j) → ((area : List ℕ) (j : Data) → Json area j → IsBadJson area → ⊥)
     → (area : List ℕ) → ((f : MetaFault) → IsMetaFault area f → ⊥) ↔ ((j : Data) × IsMeta area j)
-without_faults kind one good area = (accepted area (kind area), λ m. accepted_none one good area m.0 m.1)
+without_faults _ _ _ = metadata_faultless

@@ -12,7 +12,7 @@ ghost use Rattle.luks_rules.specs.MetaFault.{IsMetaFault, meta_key};
 use crate::fault::MetaFault;
 use crate::judging::judge;
 use crate::place::Content;
-use luks_json::{one_kind_of_area, one_value, read_json};
+use luks_json::read_json;
 use serde_json::Value;
 use std::alloc::Global;
 
@@ -29,8 +29,6 @@ pub fn read_content(alloc: Global, area: &[u8]) -> Result<Value, MetaFault>
     ensures only { (j : Data) → IsMeta area.now j → IfErr result (λ f. f ≡ MetaFault.Memory) }
     ensures memory { IfErr result (λ f. f ≡ MetaFault.Memory → (text : List ℕ) × JsonText area.now text) }
 {
-    one_value();
-    one_kind_of_area();
     let value = read_json(alloc, area)?;
     let content = Content {
         len: area.len(),

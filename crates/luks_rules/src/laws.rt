@@ -6,12 +6,7 @@ ghost use Rattle.luks_rules.specs.declared.fault.MetaFault.{MetaFault};
 ghost use Rattle.luks_rules.specs.Accepted.{IsMeta};
 ghost use Rattle.luks_rules.specs.MetaFault.{IsMetaFault};
 
-use luks_json::{one_kind_of_area, one_value};
-
 /// An area has no fault exactly where it holds a value that is accepted.
 pub fn metadata_without_faults()
     ensures { (area : List ℕ) → ((f : MetaFault) → IsMetaFault area f → ⊥) ↔ ((j : Data) × IsMeta area j) }
-{
-    one_value();
-    one_kind_of_area();
-}
+{}

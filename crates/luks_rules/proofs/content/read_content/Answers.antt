@@ -13,7 +13,7 @@ returns-in_err-value-clause-fault c =
 pub returns-in_err-value-clause-only : goal.returns-in_err-value-clause-only
 returns-in_err-value-clause-only c = λ j m.
     let p = err_from_is_err_and c.from_residual.result c.from_residual.ensures.1 in
-    rw (p.1, p.2) (memory_where c.one_value.ensures c.one_kind_of_area.ensures.good c.args.area.now _ (json_least c.args.area.now c.in_err-value.field-0.0 c.in_err-value.ensures.fault) j m)
+    rw (p.1, p.2) (memory_where c.args.area.now _ (json_least c.args.area.now c.in_err-value.field-0.0 c.in_err-value.ensures.fault) j m)
 
 pub returns-in_err-value-clause-memory : goal.returns-in_err-value-clause-memory
 returns-in_err-value-clause-memory c =
@@ -23,12 +23,12 @@ returns-in_err-value-clause-memory c =
 pub returns-in_err-judge-clause-fault : goal.returns-in_err-judge-clause-fault
 returns-in_err-judge-clause-fault c =
     let p = err_from_is_err_and c.from_residual-in_err-judge.result c.from_residual-in_err-judge.ensures.1 in
-    rw (p.1, p.2) (λ _. value_least c.one_value.ensures c.one_kind_of_area.ensures.good c.args.area.now (view c.in_ok-value.value) c.in_err-judge.field-0.0 c.in_ok-value.ensures.json c.in_err-judge.ensures.least)
+    rw (p.1, p.2) (λ _. value_least c.args.area.now (view c.in_ok-value.value) c.in_err-judge.field-0.0 c.in_ok-value.ensures.json c.in_err-judge.ensures.least)
 
 pub returns-in_err-judge-clause-only : goal.returns-in_err-judge-clause-only
 returns-in_err-judge-clause-only c = λ j m.
     let p = err_from_is_err_and c.from_residual-in_err-judge.result c.from_residual-in_err-judge.ensures.1 in
-    rw (p.1, p.2) (memory_where c.one_value.ensures c.one_kind_of_area.ensures.good c.args.area.now c.in_err-judge.field-0.0 (λ _. value_least c.one_value.ensures c.one_kind_of_area.ensures.good c.args.area.now (view c.in_ok-value.value) c.in_err-judge.field-0.0 c.in_ok-value.ensures.json c.in_err-judge.ensures.least) j m)
+    rw (p.1, p.2) (memory_where c.args.area.now c.in_err-judge.field-0.0 (λ _. value_least c.args.area.now (view c.in_ok-value.value) c.in_err-judge.field-0.0 c.in_ok-value.ensures.json c.in_err-judge.ensures.least) j m)
 
 pub returns-clause-found : goal.returns-clause-found
 returns-clause-found c =
@@ -40,4 +40,4 @@ returns-clause-held c =
 
 pub returns-clause-faultless : goal.returns-clause-faultless
 returns-clause-faultless c =
-    value_none c.one_value.ensures c.one_kind_of_area.ensures.good c.args.area.now (view c.in_ok-value.value) c.in_ok-value.ensures.json c.in_ok-judge.ensures.none
+    value_none c.args.area.now (view c.in_ok-value.value) c.in_ok-value.ensures.json c.in_ok-judge.ensures.none
