@@ -16,6 +16,7 @@ use Rattle.serde_json.specs.View.{members_view}
 use Rattle.serde_json.proofs.Views.{Entry}
 use Rattle.luks_rules.specs.declared.table.Section.TheVariants.{Digests, Keyslots}
 use Rattle.luks_json.specs.Number.{number_of, number_text}
+use Rattle.luks_json.proofs.Numbers.{number_of_text, text_of_named}
 use Rattle.luks_json.specs.Arrays.{all_named, names, naming_members, naming_count}
 use Rattle.luks_rules.specs.Faults.{object_at, section_at, is_section}
 use Rattle.luks_rules.specs.Accepted.{IsContent, IsMeta, HasObject}
@@ -109,22 +110,14 @@ further t l e ms m alone f = elim (at (number_text m) l e ms) [
   | later rest ↦ record { numbered = f.numbered; object = f.object; is = rest ∙ f.is; lists_it = f.lists_it }
 ]
 
--- a name's number has that name
-abbrev pub NamesSay : Type 0
-NamesSay = (text : List ℕ) (n : ℕ) → number_of text ≡ Some n → (text ≡ number_text n) × (n < 32)
-
--- a number below 32 is that of its name
-abbrev pub NumbersSay : Type 0
-NumbersSay = (n : ℕ) → n < 32 → number_of (number_text n) ≡ Some n
-
-pub found : NamesSay → (t : List ℕ) (ms : Members) (m : ℕ) → IsUnique ms → first_naming t ms ≡ Some m → Found t ms m
-found says t no_members m alone e = absurd (cc)
-found says t (member l d ms) m alone e = elim (cases_Bool (lists t d)) [
+pub found : (t : List ℕ) (ms : Members) (m : ℕ) → IsUnique ms → first_naming t ms ≡ Some m → Found t ms m
+found t no_members m alone e = absurd (cc)
+found t (member l d ms) m alone e = elim (cases_Bool (lists t d)) [
   | inl listed ↦
       let named : number_of l ≡ Some m = rw listed at e in
-      let text = says l m named in
+      let text = text_of_named l m named in
       record { numbered = text.1; object = d; is = rw (text.0, same_text (number_text m)) refl; lists_it = listed }
-  | inr off ↦ further t l d ms m alone.0 (found says t ms m alone.1 (rw off at e))
+  | inr off ↦ further t l d ms m alone.0 (found t ms m alone.1 (rw off at e))
 ]
 
 -- ---- the digests of a value
@@ -173,10 +166,10 @@ named_by len j n d ms c h e alone =
       alone = alone;
     }
 
-pub digest_some : NamesSay → (j : Data) (n : ℕ) (ms : Members) (r : Option ℕ) → Named j n ms → r ≡ first_naming (number_text n) ms → IfSome r (IsDigestOf j n)
-digest_some says j n ms None h e = tt
-digest_some says j n ms (Some m) h e =
-    let f = found says (number_text n) ms m h.alone (sym e) in
+pub digest_some : (j : Data) (n : ℕ) (ms : Members) (r : Option ℕ) → Named j n ms → r ≡ first_naming (number_text n) ms → IfSome r (IsDigestOf j n)
+digest_some j n ms None h e = tt
+digest_some j n ms (Some m) h e =
+    let f = found (number_text n) ms m h.alone (sym e) in
     record {
       named = h.small;
       keyslot = h.keyslot;
@@ -186,10 +179,10 @@ digest_some says j n ms (Some m) h e =
       lists = f.lists_it;
     }
 
-pub digest_only : NumbersSay → (j : Data) (n : ℕ) (ms : Members) (r : Option ℕ) → Named j n ms → r ≡ first_naming (number_text n) ms → (m : ℕ) → IsDigestOf j n m → r ≡ Some m
-digest_only told j n ms r h e m d =
+pub digest_only : (j : Data) (n : ℕ) (ms : Members) (r : Option ℕ) → Named j n ms → r ≡ first_naming (number_text n) ms → (m : ℕ) → IsDigestOf j n m → r ≡ Some m
+digest_only j n ms r h e m d =
     e ∙ (first_is (number_text m) (number_text n) d.object ms h.once (sym (as_map (section_at j Digests) ms (number_text m) h.digests) ∙ d.is) d.lists
-    ∙ told m d.numbered)
+    ∙ number_of_text m d.numbered)
 
 pub digest_there : (j : Data) (n : ℕ) (ms : Members) (r : Option ℕ) → Named j n ms → r ≡ first_naming (number_text n) ms → is_some r ≡ true
 digest_there j n ms r h e = rw e (one_is (number_text n) ms h.once h.all)
@@ -208,22 +201,27 @@ some_there None h = absurd (false≢true h)
 some_there (Some x) h = (x, refl)
 
 -- the first digest that names the keyslot, by any that does
-first_names : NumbersSay → (len : ℕ) (j : Data) → IsContent len j → (ms : Members) → option_and_then as_object (section_at j Digests) ≡ Some ms
+first_names : (len : ℕ) (j : Data) → IsContent len j → (ms : Members) → option_and_then as_object (section_at j Digests) ≡ Some ms
     → (n m : ℕ) → IsDigestOf j n m → first_naming (number_text n) ms ≡ Some m
-first_names told len j c ms there n m d =
+first_names len j c ms there n m d =
     let slot = some_there (object_at j Keyslots n) d.keyslot in
     let held : HasObject j Keyslots n slot.0 = record { numbered = refl; named = d.named; is = slot.1 } in
     let once : naming_count (codes "keyslots") (number_text n) (section_at j Digests) ≡ 1 = c.resolves.keyslots n slot.0 held in
     first_is (number_text m) (number_text n) d.object ms (rw there at once) (sym (as_map (section_at j Digests) ms (number_text m) there) ∙ d.is) d.lists
-    ∙ told m d.numbered
+    ∙ number_of_text m d.numbered
 
-pub one_naming : NumbersSay → (area : List ℕ) (j : Data) → IsMeta area j → (n m k : ℕ) → IsDigestOf j n m → IsDigestOf j n k → m ≡ k
-one_naming told area j is n m k d e =
+pub one_digest : (area : List ℕ) (j : Data) → IsMeta area j → (n m k : ℕ) → IsDigestOf j n m → IsDigestOf j n k → m ≡ k
+one_digest area j is n m k d e =
     let c : IsContent (length area) j = is.content in
     let p = maps_there (option_and_then as_object (section_at j Digests)) (c.sections Digests) in
-    let a = first_names told (length area) j c p.0 p.1 n m d in
-    let b = first_names told (length area) j c p.0 p.1 n k e in
+    let a = first_names (length area) j c p.0 p.1 n m d in
+    let b = first_names (length area) j c p.0 p.1 n k e in
     some_same m k (sym a ∙ b)
+
+-- the same for a crate that hands in what it rests on
+pub one_naming : ((n : ℕ) → n < 32 → number_of (number_text n) ≡ Some n) → (area : List ℕ) (j : Data) → IsMeta area j
+    → (n m k : ℕ) → IsDigestOf j n m → IsDigestOf j n k → m ≡ k
+one_naming _ = one_digest
 
 -- where a digest was looked for, each digest's name stands once
 pub all_unique : (j : Data) (ms : Members) (r : Option ℕ) → option_and_then as_object (section_at j Digests) ≡ Some ms → IsUnique ms → IfSome r (λ _. HasUniqueDigests j)

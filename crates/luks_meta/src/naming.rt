@@ -8,7 +8,7 @@ ghost use Rattle.luks_meta.specs.Naming.{HasUniqueDigests, IsDigestOf, IsUnique,
 ghost use Rattle.luks_meta.specs.Objects.{IsAccepted};
 
 use crate::objects::numbered;
-use luks_json::{names, names_say_numbers, number_named, number_text};
+use luks_json::{names, number_named, number_text};
 use luks_rules::{Section, section_at};
 use serde_json::{Map, Value};
 
@@ -20,7 +20,6 @@ pub(crate) fn digest_of_keyslot(value: &Value, number: u8) -> Option<u8>
     ensures there { number < 32 → is_some (object_at (view value.now) Section.Keyslots number) ≡ true → IsSome result }
     ensures unique { IfSome result (λ _. HasUniqueDigests (view value.now)) }
 {
-    names_say_numbers();
     match numbered(value, Section::Keyslots, number) {
         Some(_) => first_naming(digests_of(value), number_text(number)),
         None => None,

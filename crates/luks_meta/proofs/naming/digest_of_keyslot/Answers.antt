@@ -4,11 +4,11 @@ use Rattle.luks_meta.proofs.Namings.{all_unique, named_by, digest_some, digest_o
 use Rattle.luks_meta.proofs.naming.digest_of_keyslot.Goals as goal
 
 pub returns-in-Some-clause-some : goal.returns-in-Some-clause-some
-returns-in-Some-clause-some c = digest_some c.names_say_numbers.ensures.says (view c.args.value.now) c.args.number (members_view c.digests_of.result.now.entries) c.first_naming.result
+returns-in-Some-clause-some c = digest_some (view c.args.value.now) c.args.number (members_view c.digests_of.result.now.entries) c.first_naming.result
     (named_by c.requires.len (view c.args.value.now) c.args.number (view c.in-Some.field-0.now) (members_view c.digests_of.result.now.entries) c.requires.content c.in-Some.ensures.some c.digests_of.ensures c.first_naming.ensures.unique) (rw c.number_text.ensures at c.first_naming.ensures.first)
 
 pub returns-in-Some-clause-only : goal.returns-in-Some-clause-only
-returns-in-Some-clause-only c = digest_only c.names_say_numbers.ensures.told (view c.args.value.now) c.args.number (members_view c.digests_of.result.now.entries) c.first_naming.result
+returns-in-Some-clause-only c = digest_only (view c.args.value.now) c.args.number (members_view c.digests_of.result.now.entries) c.first_naming.result
     (named_by c.requires.len (view c.args.value.now) c.args.number (view c.in-Some.field-0.now) (members_view c.digests_of.result.now.entries) c.requires.content c.in-Some.ensures.some c.digests_of.ensures c.first_naming.ensures.unique) (rw c.number_text.ensures at c.first_naming.ensures.first)
 
 pub returns-in-Some-clause-there : goal.returns-in-Some-clause-there
