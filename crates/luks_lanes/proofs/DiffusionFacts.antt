@@ -3,7 +3,7 @@ use Rattle.std.proofs.Common.{◌≡◌, ℕ, ◌/◌, List, ◌++◌, length, a
 use Rattle.std.specs.Int.{to_be_bytes}
 use Rattle.std.proofs.lemmas.List.{take_all}
 use Rattle.sha2.specs.Sha256.{compress, digest_bytes, hash_after, initial_hash_256, padded_message, padding, sha256}
-use Rattle.luks_lanes.specs.Pair.{numbered_block}
+use Rattle.luks_rounds.specs.Pair.{numbered_block}
 use Rattle.luks_lanes.proofs.TurnFacts.{length-digest_bytes}
 
 -- the hash value after one block

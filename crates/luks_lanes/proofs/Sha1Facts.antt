@@ -1,13 +1,10 @@
 -- HMAC by SHA-1 on five words is HMAC on their bytes.
-use Rattle.std.proofs.Common.{◌≡◌, ℕ, zero, suc, ◌<◌, ◌*◌, ◌/◌, ◌^◌, List, [], ◌∷◌, ◌++◌, length, take, drop, map, slice_index, bit_xor, arith, refl, sym, ap, ap₂, ◌∙◌, length-append}
+use Rattle.std.proofs.Common.{◌≡◌, ℕ, zero, suc, ◌<◌, ◌*◌, ◌/◌, List, ◌++◌, length, take, drop, map, slice_index, bit_xor, arith, refl, sym, ap, ap₂, ◌∙◌, length-append}
 use Rattle.std.proofs.lemmas.List.{take-append-le, drop-append-le, take_all, drop_all, append_assoc, length-map}
-use Rattle.std.proofs.lemmas.Nat.{from_be_bytes-to_be_bytes_4}
-use Rattle.sha1.specs.Sha1.{IsWindow, compress, digest_bytes, hash_after, initial_hash, padded_message, padding, schedule, sha1}
-use Rattle.sha1.proofs.Schedule.{IsWindow_first}
-use Rattle.luks_lanes.specs.Quad.{last_block}
+use Rattle.sha1.specs.Sha1.{compress, digest_bytes, hash_after, initial_hash, padded_message, padding, sha1}
+use Rattle.luks_rounds.specs.Quad.{last_block}
 use Rattle.luks_lanes.specs.Turns.{hmac, xor_bytes}
 use Rattle.luks_lanes.proofs.ByteFacts.{same_bytes}
-use Rattle.luks_lanes.proofs.FirstWindow.{below_sixteen}
 use Rattle.luks_lanes.proofs.TurnFacts.{digest_xor, length-digest_bytes}
 
 -- each word has four bytes
@@ -64,22 +61,3 @@ below_five P p0 p1 p2 p3 p4 (suc (suc zero)) h = p2
 below_five P p0 p1 p2 p3 p4 (suc (suc (suc zero))) h = p3
 below_five P p0 p1 p2 p3 p4 (suc (suc (suc (suc zero)))) h = p4
 below_five P p0 p1 p2 p3 p4 (suc (suc (suc (suc (suc n))))) h = absurd (omega arith)
-
--- five words of a list end the same block
-pub five_words : (h : List ℕ)
-    → last_block (slice_index h 0 ∷ slice_index h 1 ∷ slice_index h 2 ∷ slice_index h 3 ∷ slice_index h 4 ∷ []) ≡ last_block h
-unfolding digest_bytes
-five_words h = refl
-
--- the window of five words of a hash value, and the padding after them
-pub five_window_is : (x0 x1 x2 x3 x4 : ℕ) → x0 < 2 ^ 32 → x1 < 2 ^ 32 → x2 < 2 ^ 32 → x3 < 2 ^ 32 → x4 < 2 ^ 32
-    → IsWindow (x0 ∷ x1 ∷ x2 ∷ x3 ∷ x4 ∷ 0x80000000 ∷ 0 ∷ 0 ∷ 0 ∷ 0 ∷ 0 ∷ 0 ∷ 0 ∷ 0 ∷ 0 ∷ 672 ∷ [])
-    (schedule (last_block (x0 ∷ x1 ∷ x2 ∷ x3 ∷ x4 ∷ [])) 64) 16
-unfolding digest_bytes
-five_window_is x0 x1 x2 x3 x4 h0 h1 h2 h3 h4 =
-    IsWindow_first (last_block (x0 ∷ x1 ∷ x2 ∷ x3 ∷ x4 ∷ []))
-    (x0 ∷ x1 ∷ x2 ∷ x3 ∷ x4 ∷ 0x80000000 ∷ 0 ∷ 0 ∷ 0 ∷ 0 ∷ 0 ∷ 0 ∷ 0 ∷ 0 ∷ 0 ∷ 672 ∷ []) refl
-    (below_sixteen _ (sym (from_be_bytes-to_be_bytes_4 x0 h0)) (sym (from_be_bytes-to_be_bytes_4 x1 h1))
-    (sym (from_be_bytes-to_be_bytes_4 x2 h2)) (sym (from_be_bytes-to_be_bytes_4 x3 h3))
-    (sym (from_be_bytes-to_be_bytes_4 x4 h4))
-    refl refl refl refl refl refl refl refl refl refl refl)

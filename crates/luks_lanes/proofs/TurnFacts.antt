@@ -4,7 +4,7 @@ use Rattle.std.specs.Int.{to_be_bytes}
 use Rattle.std.proofs.lemmas.Nat.{xor_mod, xor_shr}
 use Rattle.std.proofs.lemmas.List.{take-append-le, drop-append-le, take_all, drop_all, append_assoc, length-map}
 use Rattle.sha2.specs.Sha256.{compress, digest_bytes, hash_after, initial_hash_256, padded_message, padding, sha256}
-use Rattle.luks_lanes.specs.Pair.{last_block}
+use Rattle.luks_rounds.specs.Pair.{last_block}
 use Rattle.luks_lanes.specs.Turns.{hmac, turn, turns_xored, xor_bytes}
 
 -- each word has four bytes

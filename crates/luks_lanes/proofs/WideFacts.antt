@@ -2,14 +2,12 @@
 use Rattle.std.proofs.Common.{◌≡◌, ℕ, zero, suc, ◌<◌, ◌≤◌, ◌+◌, ◌*◌, ◌/◌, ◌^◌, List, [], ◌∷◌, ◌++◌, length, take, drop, map, get_or, slice_index, bit_xor, arith, refl, sym, ap, ap₂, ◌∙◌, length-append, w64}
 use Rattle.std.specs.Int.{to_be_bytes}
 use Rattle.std.proofs.lemmas.List.{take-append-le, drop-append-le, take_all, drop_all, append_assoc, drop-drop, length-map}
-use Rattle.std.proofs.lemmas.Nat.{be_bytes_8, from_be_bytes-to_be_bytes_8, xor_mod, xor_shr}
+use Rattle.std.proofs.lemmas.Nat.{be_bytes_8, xor_mod, xor_shr}
 use Rattle.std.proofs.Math.Seq.{take-add}
-use Rattle.sha2.specs.Sha512.{IsWindow, compress, digest_bytes, hash_after, initial_hash_512, padded_message, padding, schedule, sha512, word_at}
-use Rattle.sha2.proofs.Schedule512.{IsWindow_first}
-use Rattle.luks_lanes.specs.Wide.{last_block}
+use Rattle.sha2.specs.Sha512.{compress, digest_bytes, hash_after, initial_hash_512, padded_message, padding, sha512, word_at}
+use Rattle.luks_rounds.specs.Wide.{last_block}
 use Rattle.luks_lanes.specs.Turns.{hmac, xor_bytes}
 use Rattle.luks_lanes.proofs.ByteFacts.{four_at}
-use Rattle.luks_lanes.proofs.FirstWindow.{below_sixteen}
 use Rattle.luks_lanes.proofs.TurnFacts.{xor_append}
 
 -- each word has eight bytes
@@ -138,28 +136,6 @@ wide_read bytes words small (suc n) le read =
     let last = ap (to_be_bytes w64) (read n (omega arith)) ∙ word_back bytes (n * 8) small (omega arith) in
     let more : suc n * 8 ≡ n * 8 + 8 = omega arith in
     ap₂ (λ (s t : List ℕ). s ++ t) before last ∙ sym (take-add (n * 8) 8 bytes) ∙ ap (λ k. take k bytes) (sym more)
-
--- eight words of a list end the same block
-pub eight_words : (h : List ℕ)
-    → last_block (slice_index h 0 ∷ slice_index h 1 ∷ slice_index h 2 ∷ slice_index h 3
-    ∷ slice_index h 4 ∷ slice_index h 5 ∷ slice_index h 6 ∷ slice_index h 7 ∷ []) ≡ last_block h
-unfolding digest_bytes
-eight_words h = refl
-
--- the window of eight words of a hash value, and the padding after them
-pub wide_window_is : (x0 x1 x2 x3 x4 x5 x6 x7 : ℕ)
-    → x0 < 2 ^ 64 → x1 < 2 ^ 64 → x2 < 2 ^ 64 → x3 < 2 ^ 64 → x4 < 2 ^ 64 → x5 < 2 ^ 64 → x6 < 2 ^ 64 → x7 < 2 ^ 64
-    → IsWindow (x0 ∷ x1 ∷ x2 ∷ x3 ∷ x4 ∷ x5 ∷ x6 ∷ x7 ∷ 0x8000000000000000 ∷ 0 ∷ 0 ∷ 0 ∷ 0 ∷ 0 ∷ 0 ∷ 1536 ∷ [])
-    (schedule (last_block (x0 ∷ x1 ∷ x2 ∷ x3 ∷ x4 ∷ x5 ∷ x6 ∷ x7 ∷ [])) 64) 16
-unfolding digest_bytes
-wide_window_is x0 x1 x2 x3 x4 x5 x6 x7 h0 h1 h2 h3 h4 h5 h6 h7 =
-    IsWindow_first (last_block (x0 ∷ x1 ∷ x2 ∷ x3 ∷ x4 ∷ x5 ∷ x6 ∷ x7 ∷ []))
-    (x0 ∷ x1 ∷ x2 ∷ x3 ∷ x4 ∷ x5 ∷ x6 ∷ x7 ∷ 0x8000000000000000 ∷ 0 ∷ 0 ∷ 0 ∷ 0 ∷ 0 ∷ 0 ∷ 1536 ∷ []) refl
-    (below_sixteen _ (sym (from_be_bytes-to_be_bytes_8 x0 h0)) (sym (from_be_bytes-to_be_bytes_8 x1 h1))
-    (sym (from_be_bytes-to_be_bytes_8 x2 h2)) (sym (from_be_bytes-to_be_bytes_8 x3 h3))
-    (sym (from_be_bytes-to_be_bytes_8 x4 h4)) (sym (from_be_bytes-to_be_bytes_8 x5 h5))
-    (sym (from_be_bytes-to_be_bytes_8 x6 h6)) (sym (from_be_bytes-to_be_bytes_8 x7 h7))
-    refl refl refl refl refl refl refl refl)
 
 -- the one number below one
 pub below_one : (P : ℕ → Type 0) → P 0 → (j : ℕ) → j < 1 → P j

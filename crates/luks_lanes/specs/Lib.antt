@@ -1,4 +1,1 @@
-pub mod Pair
-pub mod Quad
 pub mod Turns
-pub mod Wide

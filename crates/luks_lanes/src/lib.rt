@@ -3,22 +3,12 @@
 #![tactic(auto)]
 
 mod bytes;
-mod constants;
 mod lanes;
-mod pair;
 mod pair_diffusion;
 mod pair_turns;
-mod quad;
-mod quad_rounds;
 mod quad_turns;
-mod sha256;
-mod single;
-mod single_rounds;
-mod single_sha1_rounds;
 mod single_sha1_turns;
 mod single_turns;
-mod wide;
-mod wide_rounds;
 mod wide_turns;
 
 pub use pair_diffusion::sha256_diffusion;

@@ -3,11 +3,12 @@
 ghost use Rattle.std.specs.Prelude.{◌≡◌, ℕ, ◌+◌, ◌^◌, ◌<◌, [], ◌∷◌, ◌++◌, length};
 ghost use Rattle.std.specs.Int.{w32, to_be_bytes};
 ghost use Rattle.sha2.specs.Sha256.{IsWindow, schedule, sha256};
-ghost use Rattle.luks_lanes.specs.Pair.{lane, numbered_block, window, word_of};
+ghost use Rattle.luks_rounds.specs.Pair.{lane, numbered_block, window, word_of};
 ghost use Rattle.luks_lanes.specs.Turns.{block_at};
 
 use crate::lanes::Lanes;
-use crate::sha256::{compress_window, start};
+use crate::pair_turns::start;
+use luks_rounds::pair_rounds::compress_window;
 use std::simd::u32x4;
 
 /// Diffuses two blocks of 32 bytes that lie in a row (LUKS1 On-Disk Format 1.2.3, 2.4): each becomes

@@ -1,14 +1,13 @@
 // The turns of PBKDF2 with HMAC by SHA-256, on two blocks side by side.
 
-ghost use Rattle.std.specs.Prelude.{◌≡◌, ℕ, ◌+◌, ◌*◌, ◌/◌, ◌<◌, ◌≤◌, length};
-ghost use Rattle.sha2.specs.Sha256.{sha256, word_at};
-ghost use Rattle.luks_lanes.specs.Pair.{lane, word_of};
+ghost use Rattle.std.specs.Prelude.{◌≡◌, ℕ, ◌+◌, ◌*◌, ◌/◌, ◌<◌, ◌≤◌, length, bit_xor};
+ghost use Rattle.sha2.specs.Sha256.{initial_hash_256, sha256, word_at};
+ghost use Rattle.luks_rounds.specs.Pair.{lane, word_of};
 ghost use Rattle.luks_lanes.specs.Turns.{AreTurned};
 
 use crate::bytes::{load_be, load_or_zero, write_words};
 use crate::lanes::{Keyed, Lanes};
-use crate::pair::xor;
-use crate::sha256::{compress, compress_window, start};
+use luks_rounds::pair_rounds::{compress, compress_window};
 use std::simd::u32x4;
 
 /// Runs the turns of PBKDF2 with HMAC by SHA-256 under a key that is a whole block (RFC 8018, 5.2) on
@@ -98,6 +97,30 @@ impl Lanes for [u32x4; 8] {
     }
 
     ghost block_in_128 = { Prim.search rules };
+}
+
+// The initial hash value, the same in both lanes (FIPS 180-4, 5.3.3).
+#[inline(always)]
+pub(crate) fn start() -> [u32x4; 8]
+    ensures { (j : ℕ) → j < 2 → lane j result ≡ initial_hash_256 }
+{
+    [
+        u32x4::splat(0x6a09_e667),
+        u32x4::splat(0xbb67_ae85),
+        u32x4::splat(0x3c6e_f372),
+        u32x4::splat(0xa54f_f53a),
+        u32x4::splat(0x510e_527f),
+        u32x4::splat(0x9b05_688c),
+        u32x4::splat(0x1f83_d9ab),
+        u32x4::splat(0x5be0_cd19),
+    ]
+}
+
+#[inline(always)]
+fn xor(x: u32x4, y: u32x4) -> u32x4
+    ensures { (j : ℕ) → j < 2 → word_of j result ≡ bit_xor (word_of j x) (word_of j y) }
+{
+    x ^ y
 }
 
 // A word in both lanes.

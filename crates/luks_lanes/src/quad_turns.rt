@@ -1,14 +1,13 @@
 // The turns of PBKDF2 with HMAC by SHA-1, on up to four blocks side by side.
 
-ghost use Rattle.std.specs.Prelude.{◌≡◌, ℕ, ◌+◌, ◌*◌, ◌/◌, ◌<◌, ◌≤◌, length};
+ghost use Rattle.std.specs.Prelude.{◌≡◌, ℕ, ◌+◌, ◌*◌, ◌/◌, ◌<◌, ◌≤◌, length, bit_xor};
 ghost use Rattle.sha1.specs.Sha1.{sha1, word_at};
-ghost use Rattle.luks_lanes.specs.Quad.{lane, word_of};
+ghost use Rattle.luks_rounds.specs.Quad.{lane, word_of};
 ghost use Rattle.luks_lanes.specs.Turns.{AreTurned};
 
 use crate::bytes::{load_be, load_or_zero, write_words};
 use crate::lanes::{Keyed, Lanes};
-use crate::quad::xor;
-use crate::quad_rounds::{compress, compress_window};
+use luks_rounds::quad_rounds::{compress, compress_window};
 use std::simd::u32x4;
 
 /// Runs the turns of PBKDF2 with HMAC by SHA-1 under a key that is a whole block (RFC 8018, 5.2) on a
@@ -105,6 +104,13 @@ impl Lanes for [u32x4; 5] {
     }
 
     ghost block_in_128 = { Prim.search rules };
+}
+
+#[inline(always)]
+fn xor(x: u32x4, y: u32x4) -> u32x4
+    ensures { (j : ℕ) → j < 4 → word_of j result ≡ bit_xor (word_of j x) (word_of j y) }
+{
+    x ^ y
 }
 
 // A word in all lanes.

@@ -4,7 +4,7 @@ ghost use Rattle.std.specs.Prelude.{◌≡◌};
 
 use crate::bytes::{load_be, load_or_zero, write_words};
 use crate::lanes::Lanes;
-use crate::single_rounds::{compress, compress_window};
+use luks_rounds::single_rounds::{compress, compress_window};
 
 // One hash value of SHA-256: its eight words.
 impl Lanes for [u32; 8] {

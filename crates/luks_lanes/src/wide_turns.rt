@@ -6,7 +6,7 @@ ghost use Rattle.luks_lanes.specs.Turns.{AreTurned};
 
 use crate::bytes::{load_wide, load_wide_or_zero, write_wide};
 use crate::lanes::{Keyed, Lanes};
-use crate::wide_rounds::{compress, compress_window};
+use luks_rounds::wide_rounds::{compress, compress_window};
 
 /// Runs the turns of PBKDF2 with HMAC by SHA-512 under a key that is a whole block, 128 bytes (RFC
 /// 8018, 5.2), on a row of blocks, which hold their first turns. The result is how many blocks are

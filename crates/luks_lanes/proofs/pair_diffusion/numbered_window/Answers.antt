@@ -1,6 +1,6 @@
 use Rattle.std.proofs.Common.{arith}
-use Rattle.luks_lanes.proofs.FirstWindow.{numbered_window_is}
-use Rattle.luks_lanes.proofs.PairFacts.{below_two, word_fits}
+use Rattle.luks_rounds.proofs.FirstWindow.{numbered_window_is}
+use Rattle.luks_rounds.proofs.PairFacts.{below_two, word_fits}
 use Rattle.luks_lanes.proofs.pair_diffusion.numbered_window.Goals as goal
 
 pub returns : goal.returns

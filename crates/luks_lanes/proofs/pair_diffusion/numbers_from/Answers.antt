@@ -1,5 +1,5 @@
 use Rattle.std.proofs.Common.{arith, refl}
-use Rattle.luks_lanes.proofs.PairFacts.{below_two}
+use Rattle.luks_rounds.proofs.PairFacts.{below_two}
 use Rattle.luks_lanes.proofs.pair_diffusion.numbers_from.Goals as goal
 
 pub returns : goal.returns

@@ -1,7 +1,7 @@
 use Rattle.std.proofs.Common.{◌+◌, ◌*◌, ◌≤◌, ◌++◌, length, arith, ap, sym, ◌∙◌, w32}
 use Rattle.std.specs.Int.{to_be_bytes}
 use Rattle.sha2.specs.Sha256.{compress, digest_bytes, initial_hash_256, sha256}
-use Rattle.luks_lanes.specs.Pair.{lane, numbered_block, word_of}
+use Rattle.luks_rounds.specs.Pair.{lane, numbered_block, word_of}
 use Rattle.luks_lanes.proofs.DiffusionFacts.{sha256_numbered}
 use Rattle.luks_lanes.proofs.pair_diffusion.sha256_diffusion.Goals as goal
 

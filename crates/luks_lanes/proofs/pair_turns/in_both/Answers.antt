@@ -1,5 +1,5 @@
 use Rattle.std.proofs.Common.{refl}
-use Rattle.luks_lanes.proofs.PairFacts.{below_two}
+use Rattle.luks_rounds.proofs.PairFacts.{below_two}
 use Rattle.luks_lanes.proofs.pair_turns.in_both.Goals as goal
 
 pub returns : goal.returns

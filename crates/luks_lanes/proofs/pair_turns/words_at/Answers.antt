@@ -1,6 +1,6 @@
 use Rattle.std.proofs.Common.{arith, ap, ◌∙◌}
 use Rattle.sha2.specs.Sha256.{word_at}
-use Rattle.luks_lanes.proofs.PairFacts.{below_two}
+use Rattle.luks_rounds.proofs.PairFacts.{below_two}
 use Rattle.luks_lanes.proofs.pair_turns.words_at.Goals as goal
 
 pub returns : goal.returns

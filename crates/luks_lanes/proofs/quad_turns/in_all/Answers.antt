@@ -1,4 +1,4 @@
-use Rattle.luks_lanes.proofs.QuadFacts.{word_all}
+use Rattle.luks_rounds.proofs.QuadFacts.{word_all}
 use Rattle.luks_lanes.proofs.quad_turns.in_all.Goals as goal
 
 pub returns : goal.returns

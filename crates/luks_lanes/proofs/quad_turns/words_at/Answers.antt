@@ -1,6 +1,6 @@
 use Rattle.std.proofs.Common.{arith, ap, ◌∙◌}
 use Rattle.sha1.specs.Sha1.{word_at}
-use Rattle.luks_lanes.proofs.FirstWindow.{below_four}
+use Rattle.luks_rounds.proofs.FirstWindow.{below_four}
 use Rattle.luks_lanes.proofs.quad_turns.words_at.Goals as goal
 
 pub returns : goal.returns

@@ -3,7 +3,7 @@ use Rattle.std.proofs.lemmas.List.{get_or-set_same, get_or-set_other, map-set, l
 use Rattle.std.proofs.lemmas.Bool.{cases_lt}
 use Rattle.sha2.specs.Sha256.{compress}
 use Rattle.sha2.proofs.Schedule256.{IsWindow_first}
-use Rattle.luks_lanes.specs.Pair.{window, word_of}
+use Rattle.luks_rounds.specs.Pair.{window, word_of}
 use Rattle.luks_lanes.proofs.pair_turns.ArrayU32x48Lanes.of_block.Goals as goal
 
 pub load-preserved : goal.load-preserved

@@ -1,6 +1,6 @@
 use Rattle.std.proofs.Common.{◌≡◌, ℕ, ◌<◌, ◌*◌, length, slice_index}
 use Rattle.sha2.specs.Sha256.{word_at}
-use Rattle.luks_lanes.specs.Pair.{window}
+use Rattle.luks_rounds.specs.Pair.{window}
 use Rattle.luks_lanes.proofs.pair_turns.ArrayU32x48Lanes.of_block.Given as goal
 
 abbrev pub invariant-load : goal.invariant-load

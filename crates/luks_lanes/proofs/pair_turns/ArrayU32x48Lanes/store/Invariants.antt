@@ -1,6 +1,6 @@
 use Rattle.std.proofs.Common.{◌≡◌, ℕ, ◌<◌}
 use Rattle.sha2.specs.Sha256.{digest_bytes}
-use Rattle.luks_lanes.specs.Pair.{lane}
+use Rattle.luks_rounds.specs.Pair.{lane}
 use Rattle.luks_lanes.specs.Turns.{block_at}
 use Rattle.luks_lanes.proofs.pair_turns.ArrayU32x48Lanes.store.Given as goal
 

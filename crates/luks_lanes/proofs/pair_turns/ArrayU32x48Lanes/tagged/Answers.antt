@@ -1,6 +1,6 @@
 use Rattle.std.proofs.Common.{ap, sym, ◌∙◌}
 use Rattle.sha2.specs.Sha256.{compress, digest_bytes}
-use Rattle.luks_lanes.specs.Pair.{lane, last_block}
+use Rattle.luks_rounds.specs.Pair.{lane, last_block}
 use Rattle.luks_lanes.proofs.TurnFacts.{hmac_words}
 use Rattle.luks_lanes.proofs.pair_turns.ArrayU32x48Lanes.tagged.Goals as goal
 

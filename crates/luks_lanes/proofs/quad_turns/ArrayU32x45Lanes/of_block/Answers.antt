@@ -3,8 +3,8 @@ use Rattle.std.proofs.lemmas.List.{get_or-set_same, get_or-set_other, map-set, l
 use Rattle.std.proofs.lemmas.Bool.{cases_lt}
 use Rattle.sha1.specs.Sha1.{compress}
 use Rattle.sha1.proofs.Schedule.{IsWindow_first}
-use Rattle.luks_lanes.specs.Quad.{window, word_of}
-use Rattle.luks_lanes.proofs.QuadFacts.{start_words}
+use Rattle.luks_rounds.specs.Quad.{window, word_of}
+use Rattle.luks_rounds.proofs.QuadFacts.{start_words}
 use Rattle.luks_lanes.proofs.quad_turns.ArrayU32x45Lanes.of_block.Goals as goal
 
 pub load-preserved : goal.load-preserved

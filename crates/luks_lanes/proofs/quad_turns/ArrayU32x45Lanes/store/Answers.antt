@@ -1,7 +1,7 @@
 use Rattle.std.proofs.Common.{◌≡◌, arith, sym, ◌∙◌}
 use Rattle.sha1.specs.Sha1.{digest_bytes}
 use Rattle.sha2.specs.Sha256 as Sha256
-use Rattle.luks_lanes.specs.Quad.{lane}
+use Rattle.luks_rounds.specs.Quad.{lane}
 use Rattle.luks_lanes.proofs.ByteFacts.{same_bytes}
 use Rattle.luks_lanes.proofs.RowFacts.{written_more}
 use Rattle.luks_lanes.proofs.quad_turns.ArrayU32x45Lanes.store.Goals as goal

@@ -1,6 +1,6 @@
 use Rattle.std.proofs.Common.{◌≡◌, ℕ, ◌<◌}
 use Rattle.sha1.specs.Sha1.{digest_bytes}
-use Rattle.luks_lanes.specs.Quad.{lane}
+use Rattle.luks_rounds.specs.Quad.{lane}
 use Rattle.luks_lanes.specs.Turns.{block_at}
 use Rattle.luks_lanes.proofs.quad_turns.ArrayU32x45Lanes.store.Given as goal
 

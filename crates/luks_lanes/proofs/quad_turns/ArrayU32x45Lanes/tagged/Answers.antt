@@ -1,6 +1,6 @@
 use Rattle.std.proofs.Common.{ap, sym, ◌∙◌}
 use Rattle.sha1.specs.Sha1.{compress, digest_bytes}
-use Rattle.luks_lanes.specs.Quad.{lane, last_block}
+use Rattle.luks_rounds.specs.Quad.{lane, last_block}
 use Rattle.luks_lanes.proofs.Sha1Facts.{hmac_five}
 use Rattle.luks_lanes.proofs.quad_turns.ArrayU32x45Lanes.tagged.Goals as goal
 

@@ -1,6 +1,6 @@
 use Rattle.std.proofs.Common.{ap, sym, ◌∙◌}
 use Rattle.sha1.specs.Sha1.{compress, digest_bytes}
-use Rattle.luks_lanes.specs.Quad.{last_block}
+use Rattle.luks_rounds.specs.Quad.{last_block}
 use Rattle.luks_lanes.proofs.Sha1Facts.{hmac_five}
 use Rattle.luks_lanes.proofs.single_sha1_turns.ArrayU325Lanes.tagged.Goals as goal
 

@@ -1,6 +1,6 @@
 use Rattle.std.proofs.Common.{ap, sym, ◌∙◌}
 use Rattle.sha2.specs.Sha256.{compress, digest_bytes}
-use Rattle.luks_lanes.specs.Pair.{last_block}
+use Rattle.luks_rounds.specs.Pair.{last_block}
 use Rattle.luks_lanes.proofs.TurnFacts.{hmac_words}
 use Rattle.luks_lanes.proofs.single_turns.ArrayU328Lanes.tagged.Goals as goal
 

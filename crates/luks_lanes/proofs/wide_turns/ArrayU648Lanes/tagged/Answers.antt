@@ -1,6 +1,6 @@
 use Rattle.std.proofs.Common.{ap, sym, ◌∙◌}
 use Rattle.sha2.specs.Sha512.{compress, digest_bytes}
-use Rattle.luks_lanes.specs.Wide.{last_block}
+use Rattle.luks_rounds.specs.Wide.{last_block}
 use Rattle.luks_lanes.proofs.WideFacts.{hmac_wide}
 use Rattle.luks_lanes.proofs.wide_turns.ArrayU648Lanes.tagged.Goals as goal
 

@@ -1,4 +1,0 @@
-use Rattle.luks_lanes.proofs.sha256.compress.Goals as goal
-
-pub returns : goal.returns
-returns c = λ j lt. c.compress_window.ensures j _ lt (c.first_window-w.ensures j lt)

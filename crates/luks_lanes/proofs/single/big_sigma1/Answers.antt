@@ -1,7 +1,0 @@
-use Rattle.std.proofs.Common.{arith}
-use Rattle.luks_lanes.proofs.Nested.{nested_three}
-use Rattle.luks_lanes.proofs.single.big_sigma1.Goals as goal
-
-pub returns : goal.returns
-returns c = rw (c.rotate_right-3.ensures, c.rotate_right-2.ensures, c.rotate_right.ensures)
-    (nested_three 32 c.args.x 6 5 14 (omega arith) (omega arith))

@@ -1,6 +1,0 @@
-use Rattle.std.proofs.Common.{arith, w32}
-use Rattle.luks_lanes.proofs.ChMaj.{ch_short}
-use Rattle.luks_lanes.proofs.single.ch.Goals as goal
-
-pub returns : goal.returns
-returns c = ch_short w32 c.args.x c.args.y c.args.z (omega arith) (omega arith) (omega arith)

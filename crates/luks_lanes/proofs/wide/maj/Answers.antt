@@ -1,5 +1,0 @@
-use Rattle.luks_lanes.proofs.ChMaj.{maj_short}
-use Rattle.luks_lanes.proofs.wide.maj.Goals as goal
-
-pub returns : goal.returns
-returns c = maj_short c.args.x c.args.y c.args.z

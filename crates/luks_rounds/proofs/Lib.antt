@@ -1,0 +1,9 @@
+mod ChMaj
+mod Nested
+mod Rotations
+mod Sha1Window
+mod VectorFacts
+mod WideWindow
+pub mod FirstWindow
+pub mod PairFacts
+pub mod QuadFacts

@@ -1,0 +1,4 @@
+use Rattle.luks_rounds.proofs.pair_rounds.compress.Goals as goal
+
+pub returns : goal.returns
+returns c = λ j lt. c.compress_window.ensures j _ lt (c.first_window-w.ensures j lt)
