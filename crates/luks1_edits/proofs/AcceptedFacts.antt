@@ -1,12 +1,15 @@
 -- What the verdict on a header says of the volume, and the edits that open no keyslot.
 use Rattle.std.proofs.Common.{◌≡◌, ◌≢◌, ℕ, List, length, subst, refl, sym, ◌∙◌, None, Result, Ok, Err, MatchResult}
-use Rattle.luks_area.specs.First.{IsLeast}
 use Rattle.luks_area.specs.Ranges.{part}
 use Rattle.luks_head.specs.Selection.{luks1, Chosen}
 use Rattle.luks_head.proofs.ChoiceFacts.{choices_agree}
+use Rattle.luks_head.proofs.Luks1FaultFacts.{sound}
 use Rattle.luks_reading.specs.declared.check_fault.CheckFault.{CheckFault}
+use Rattle.luks_reading.specs.declared.check_fault.CheckFault.TheVariants as checked
 use Rattle.luks_reading.specs.declared.report.Data.{Data}
-use Rattle.luks_reading.specs.Checked.{check_key, First, IsFault, IsFaultAs, IsLuks1Fault, IsLuks1Volume, WellFormed}
+use Rattle.luks_reading.specs.Checked.{IsFault, IsFaultAs, IsLuks1Fault, IsLuks1Volume}
+use Rattle.luks_reading.specs.Layout1.{Luks1Area}
+use Rattle.luks_reading.proofs.ListedAreaFacts.{no_area_fault}
 use Rattle.luks_edit.specs.declared.edit.Done.{Done}
 use Rattle.luks_edit.specs.declared.edit.Edit.{Edit}
 use Rattle.luks_edit.specs.declared.edit.Edit.TheVariants.{Repair}
@@ -21,30 +24,22 @@ use Rattle.luks1_edits.proofs.RowFacts.{none_to_open, past_label, past_new, unre
 
 -- ---- the verdict on the header is that on the volume
 
-module _ (h : List ℕ) (payload : Data) (total : ℕ) (v : List ℕ) (chosen : Chosen v luks1) (begins : h ≡ part v 0 592) (size : length v ≡ total) where
-  pub header_of : IsLuks1Volume h payload total → (WellFormed v payload → (f : CheckFault) → IsFault v payload f → ⊥) → IsHeaderOf h payload v
-  header_of whole faultless =
-      let well : WellFormed v payload = record {
-        choice = luks1;
-        chosen = chosen;
-        formed = subst (λ t. IsLuks1Volume (part v 0 592) payload t) (sym size) (subst (λ b. IsLuks1Volume b payload total) begins whole);
-      } in
-      record { chosen = chosen; begins = begins; well = well; faultless = faultless well }
+-- what is accepted has no fault
+faultless : (h : List ℕ) (payload : Data) (total : ℕ) → IsLuks1Volume h payload total → (f : CheckFault) → IsLuks1Fault h payload total f → ⊥
+faultless h payload total whole (checked.Head f) is = sound h whole.header.0 whole.header.1 f is
+faultless h payload total whole (checked.Area f) is = no_area_fault (Luks1Area h payload total) total f whole.fit is
+faultless h payload total whole f is = is
 
-  fault_out : (f : CheckFault) → IsFault v payload f → IsLuks1Fault h payload total f
-  fault_out f x =
-      let as_luks1 : IsLuks1Fault (part v 0 592) payload (length v) f = subst (λ c. IsFaultAs v payload c f) (choices_agree v x.choice luks1 x.chosen chosen) x.fault in
-      subst (λ t. IsLuks1Fault h payload t f) size (subst (λ b. IsLuks1Fault b payload (length v) f) (sym begins) as_luks1)
-
-  fault_in : (f : CheckFault) → IsLuks1Fault h payload total f → IsFault v payload f
-  fault_in f x = record {
-    choice = luks1;
-    chosen = chosen;
-    fault = subst (λ t. IsLuks1Fault (part v 0 592) payload t f) (sym size) (subst (λ b. IsLuks1Fault b payload total f) begins x);
-  }
-
-  pub first_fault : (f : CheckFault) → IsLeast check_key (IsLuks1Fault h payload total) f → First v payload f
-  first_fault f least = (fault_in f least.0, λ g bad. least.1 g (fault_out g bad))
+pub header_of : (h : List ℕ) (payload : Data) (total : ℕ) (v : List ℕ) → Chosen v luks1 → h ≡ part v 0 592 → length v ≡ total → IsLuks1Volume h payload total → IsHeaderOf h payload v
+header_of h payload total v chosen begins size whole =
+    let formed = subst (λ t. IsLuks1Volume (part v 0 592) payload t) (sym size) (subst (λ b. IsLuks1Volume b payload total) begins whole) in
+    record {
+      chosen = chosen;
+      begins = begins;
+      well = record { choice = luks1; chosen = chosen; formed = formed };
+      faultless = λ f bad.
+          faultless (part v 0 592) payload (length v) formed f (subst (λ c. IsFaultAs v payload c f) (choices_agree v bad.choice luks1 bad.chosen chosen) bad.fault);
+    }
 
 -- the volume isn't accepted
 pub unaccepted_ends : (v : List ℕ) (payload : Data) (e : Edit) (r : List ℕ) (f : EditFault) → IsUnaccepted v payload f → EndsBy1 payload v e r f v

@@ -6,7 +6,7 @@ use Rattle.luks_area.specs.Sectors.{rounded_to_sectors}
 use Rattle.luks_head.specs.Bytes.{number_at, text_at}
 use Rattle.luks_head.specs.Header1.{active_word, entry, entry_stripes}
 use Rattle.luks_head.specs.Faults.{IsCommonFault, IsEntryFault}
-use Rattle.luks_head.specs.Selection.{luks1, Chosen}
+use Rattle.luks_head.specs.Selection.{luks1, Choice, Chosen}
 use Rattle.luks_head.specs.declared.fault.HeadFault.{HeadFault}
 use Rattle.luks_head.specs.declared.fault.HeadFault.TheVariants as head
 use Rattle.luks_head.specs.declared.fault.IterationsOf.TheVariants as of
@@ -19,8 +19,10 @@ use Rattle.luks_slot.specs.Opening.{slot_key}
 use Rattle.luks_head.proofs.ChoiceFacts.{choices_agree}
 use Rattle.luks_reading.specs.declared.open_fault.OpenFault.{OpenFault}
 use Rattle.luks_reading.specs.declared.open_fault.OpenFault.TheVariants.{Head, Meta, NoSuchSlot, SlotFree, Outside, Slot, Device, Memory}
-use Rattle.luks_reading.specs.Answer.{AnswerWithin, IsLuks1HeadRefusal, IsLuks1Refusal, IsRefusalWithin, IsRefusalAsWithin, HasPlanAs, Opened, refused, opens, no_key, OpensWithin}
+use Rattle.luks_reading.specs.Answer.{Answer, AnswerWithin, IsLuks1HeadRefusal, IsLuks1Refusal, IsRefusalAs, IsRefusalWithin, IsRefusalAsWithin, HasPlanAs, Opened, Opens, refused, opens, no_key, OpensWithin}
 use Rattle.luks_reading.specs.Plans.{HasLuks1Plan, IsLuks1Cipher, IsLuks1Derivation, IsLuks1Plan}
+use Rattle.luks_reading.proofs.Luks1Plans.{one_luks1_plan}
+use Rattle.luks_reading.proofs.SamePlans.{same_answer}
 use Rattle.luks1_edits.specs.Kept.{HasSameKeyslot}
 use Rattle.luks1_edits.specs.Places.{area_len, area_start}
 use Rattle.luks1_edits.proofs.HeaderFacts.{chosen_moves, common_moves, entry_is, front_moves, header_moves, len_is, number_same, start_is, text_same}
@@ -175,3 +177,19 @@ answer_moves memory n v w p no_key chosen same x = opens_moves memory n v w p No
 pub answer_returns : (memory n : ℕ) (v w p : List ℕ) (a : Opened) → Chosen v luks1 → HasSameKeyslot n v w → AnswerWithin memory w n p a → AnswerWithin memory v n p a
 answer_returns memory n v w p a chosen same x =
     answer_moves memory n w v p a (chosen_moves v w same.length_same same.common chosen) (same_keyslot_back n v w same) x
+
+-- ---- one answer
+
+luks1_plan_of : (v : List ℕ) (n : ℕ) (c : Choice) (plan : SlotPlan) → Chosen v luks1 → Chosen v c → HasPlanAs v n c plan → HasLuks1Plan (part v 0 592) n plan
+luks1_plan_of v n c plan chosen counts is = subst (λ d. HasPlanAs v n d plan) (choices_agree v c luks1 counts chosen) is
+
+-- a keyslot gives one key or none
+pub found_once : (v : List ℕ) → Chosen v luks1 → (n : ℕ) (p : List ℕ) (a b : Option (List ℕ)) → Opens v n p a → Opens v n p b → a ≡ b
+found_once v chosen n p a b x y =
+    sym x.key
+    ∙ same_answer x.plan y.plan v p (one_luks1_plan (part v 0 592) n x.plan y.plan (luks1_plan_of v n x.choice x.plan chosen x.chosen x.is) (luks1_plan_of v n y.choice y.plan chosen y.chosen y.is))
+    ∙ y.key
+
+-- and then no refusal
+pub found_unrefused : (v : List ℕ) (n : ℕ) (p : List ℕ) (found : Option (List ℕ)) (f : OpenFault) → Opens v n p found → Answer v n p (refused f) → ⊥
+found_unrefused v n p found f x y = x.unrefused f (subst (λ c. IsRefusalAs v n c f) (choices_agree v y.0.choice x.choice y.0.chosen x.chosen) y.0.fault)

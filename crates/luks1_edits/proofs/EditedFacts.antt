@@ -1,6 +1,7 @@
 -- What holds of a LUKS1 volume after an edit that nothing refused, done or ended by the device.
 use Rattle.std.proofs.Common.{◌≡◌, ℕ, ◌<◌, ◌≤◌, ◌⊎◌, List, length, replicate, take, drop, subst, refl, sym, ap, ◌∙◌, arith, inl, inr, Option, Some, None}
 use Rattle.std.proofs.lemmas.Bool.{cases_lt, cases_eq}
+use Rattle.std.proofs.lemmas.Option.{same_Some}
 use Rattle.luks_area.specs.declared.area.Area.{Area}
 use Rattle.luks_area.specs.declared.area.AreaName.TheVariants.{Slot}
 use Rattle.luks_area.specs.Ranges.{part, SameBut}
@@ -11,8 +12,7 @@ use Rattle.luks_head.specs.Selection.{luks1, Chosen}
 use Rattle.luks_head.specs.declared.fault.HeadFault.TheVariants as head
 use Rattle.luks_head.specs.declared.fault.IterationsOf.TheVariants as of
 use Rattle.luks_reading.specs.declared.report.Data.{Data}
-use Rattle.luks_reading.specs.Agreement.{IsSameAnswer}
-use Rattle.luks_reading.specs.Answer.{Answer, Opened, opens}
+use Rattle.luks_reading.specs.Answer.{Answer, opens}
 use Rattle.luks_reading.specs.Checked.{AreaOf, WellFormed}
 use Rattle.luks_reading.specs.Layout1.{Luks1Area}
 use Rattle.luks_edit.specs.declared.edit.Edit.{Edit}
@@ -24,7 +24,7 @@ use Rattle.luks1_edits.specs.Kept.{AreKeyslots, ChangesKeyslots, IsEither, IsFit
 use Rattle.luks1_edits.specs.Leftovers.{IsSealedFirst, IsTorn1, IsUntorn, Leftover1, OpensEither1}
 use Rattle.luks1_edits.specs.Places.{area_len, area_start, IsOfKeyslots}
 use Rattle.luks1_edits.specs.Refused.{IsUnrefused1}
-use Rattle.luks1_edits.proofs.AnswerFacts.{answer_moves}
+use Rattle.luks1_edits.proofs.AnswerFacts.{answer_moves, found_once}
 use Rattle.luks1_edits.proofs.HeaderFacts.{entry_is, header_clear, len_is, start_is, volume_of}
 use Rattle.luks1_edits.proofs.KeptFacts.{either_decided, keeps_others, kept_common, luks1_after, luks1_area_of, same_keyslot, stays_well_formed}
 use Rattle.luks1_edits.proofs.MadeKeyslotFacts.{IsMadeFrom, made_opens}
@@ -177,79 +177,78 @@ module _ (payload : Data) (v : List ℕ) (chosen : Chosen v luks1) (well : WellF
 
   -- ---- what opens
 
-  module _ (once : (n : ℕ) (p : List ℕ) (a b : Opened) → Answer v n p a → Answer v n p b → IsSameAnswer a b) where
-    -- a keyslot that was made opens to each key that the opener opened to
-    made_to : (opener : ℕ) (old : List ℕ) (fresh iterations : ℕ) (salt new key other random w : List ℕ) → fresh < 8 → 1000 ≤ iterations
-        → (a b : ℕ) → a < 8 → b < 8 → SameBut (IsOfKeyslots v (IsEither a b)) v w
-        → IsMade (entry v fresh) (entry w fresh) iterations salt → HoldsKey w fresh new key random
-        → Answer v opener old (opens key) → Answer v opener old (opens other) → Answer w fresh new (opens other)
-    made_to opener old fresh iterations salt new key other random w lt many a b lta ltb rest made holds opened again =
-        let same : key ≡ other = once opener old (opens key) (opens other) opened again in
-        let x : IsMadeFrom payload v opener old fresh iterations salt new key random w = record {
-          chosen = chosen;
-          well = well;
-          length_same = rest.length_same;
-          common = kept_common v payload (volume_of v payload chosen well).fit w (IsEither a b) (either_keyslots a b lta ltb) rest;
-          opened = opened;
-          numbered = lt;
-          iterated = omega (arith, many);
-          made = made;
-          holds = holds;
-        } in
-        subst (λ k. Answer w fresh new (opens k)) same (made_opens payload v opener old fresh iterations salt new key random w x)
+  -- a keyslot that was made opens to each key that the opener opened to
+  made_to : (opener : ℕ) (old : List ℕ) (fresh iterations : ℕ) (salt new key other random w : List ℕ) → fresh < 8 → 1000 ≤ iterations
+      → (a b : ℕ) → a < 8 → b < 8 → SameBut (IsOfKeyslots v (IsEither a b)) v w
+      → IsMade (entry v fresh) (entry w fresh) iterations salt → HoldsKey w fresh new key random
+      → Answer v opener old (opens key) → Answer v opener old (opens other) → Answer w fresh new (opens other)
+  made_to opener old fresh iterations salt new key other random w lt many a b lta ltb rest made holds opened again =
+      let same = same_Some key other (found_once v chosen opener old (Some key) (Some other) opened again) in
+      let x : IsMadeFrom payload v opener old fresh iterations salt new key random w = record {
+        chosen = chosen;
+        well = well;
+        length_same = rest.length_same;
+        common = kept_common v payload (volume_of v payload chosen well).fit w (IsEither a b) (either_keyslots a b lta ltb) rest;
+        opened = opened;
+        numbered = lt;
+        iterated = omega (arith, many);
+        made = made;
+        holds = holds;
+      } in
+      subst (λ k. Answer w fresh new (opens k)) same (made_opens payload v opener old fresh iterations salt new key random w x)
 
-    pub opens_after : (e : Edit) (r w : List ℕ) → IsUnrefused1 v payload e r → After1 v e r w → OpensAfter1 v e w
-    opens_after (Add by_ old new to iterations) r w free x = λ n key is opened.
-        let lt : x.slot < 8 = named_numbered v payload (Add by_ old new to iterations) r free x.slot x.is_new in
-        subst (λ k. Answer w k new.now (opens key)) (new_once v to x.slot n x.is_new is)
-        (made_to by_ old.bytes.now x.slot iterations (take 32 r) new.now x.key key (drop 32 r) w lt (enough iterations (λ few. free.none fault.Iterations few))
-        x.slot x.slot lt lt x.rest x.made x.holds x.opened opened)
-    opens_after (Change slot old new iterations) r w free x = λ n key is opened.
-        let used : slot < 8 = named_numbered v payload (Change slot old new iterations) r free slot (inl refl) in
-        subst (λ k. Answer w k new.now (opens key)) (least_free_once v x.fresh n x.is_free is)
-        (made_to slot old.bytes.now x.fresh iterations (take 32 r) new.now x.key key (drop 32 r) w x.is_free.free.0 (enough iterations (λ few. free.none fault.Iterations few))
-        slot x.fresh used x.is_free.free.0 x.rest x.made x.holds x.opened opened)
-    opens_after (Remove slot passphrase) r w free x = tt
-    opens_after Repair r w free x = tt
-    opens_after (Label text) r w free x = tt
+  pub opens_after : (e : Edit) (r w : List ℕ) → IsUnrefused1 v payload e r → After1 v e r w → OpensAfter1 v e w
+  opens_after (Add by_ old new to iterations) r w free x = λ n key is opened.
+      let lt : x.slot < 8 = named_numbered v payload (Add by_ old new to iterations) r free x.slot x.is_new in
+      subst (λ k. Answer w k new.now (opens key)) (new_once v to x.slot n x.is_new is)
+      (made_to by_ old.bytes.now x.slot iterations (take 32 r) new.now x.key key (drop 32 r) w lt (enough iterations (λ few. free.none fault.Iterations few))
+      x.slot x.slot lt lt x.rest x.made x.holds x.opened opened)
+  opens_after (Change slot old new iterations) r w free x = λ n key is opened.
+      let used : slot < 8 = named_numbered v payload (Change slot old new iterations) r free slot (inl refl) in
+      subst (λ k. Answer w k new.now (opens key)) (least_free_once v x.fresh n x.is_free is)
+      (made_to slot old.bytes.now x.fresh iterations (take 32 r) new.now x.key key (drop 32 r) w x.is_free.free.0 (enough iterations (λ few. free.none fault.Iterations few))
+      slot x.fresh used x.is_free.free.0 x.rest x.made x.holds x.opened opened)
+  opens_after (Remove slot passphrase) r w free x = tt
+  opens_after Repair r w free x = tt
+  opens_after (Label text) r w free x = tt
 
-    -- ---- after a device's failure
+  -- ---- after a device's failure
 
-    opens_either : (e : Edit) (r w : List ℕ) → IsUnrefused1 v payload e r → IsTorn1 v e r w → OpensEither1 v e w
-    opens_either (Add by_ old new to iterations) r w free x = tt
-    opens_either (Change slot old new iterations) r w free (inl x) = λ key opened.
-        let used = in_use v slot (λ not. free.none fault.NoSuchSlot (record { slot = slot; passphrase = old.bytes.now; asked = (refl, refl); unused = not })) in
-        let lt : x.slot < 8 = x.is_new.free.0 in
-        let other : IsEither x.slot x.slot slot → ⊥ = λ either.
-        let one : slot ≡ x.slot = elim either [ inl y ↦ y | inr y ↦ y ] in
-        let two : enabled_word ≡ disabled_word = sym used.1 ∙ ap (λ k. active_word (entry v k)) one ∙ x.is_new.free.1 in
-        omega (arith, two) in
-        inl (answer_moves 0 slot v w old.bytes.now (opens key) chosen
-        (same_keyslot v payload (volume_of v payload chosen well).fit w (IsEither x.slot x.slot) (either_keyslots x.slot x.slot lt lt) (half_made_rest x.order) slot other) opened)
-    opens_either (Change slot old new iterations) r w free (inr x) = λ key opened.
-        let used : slot < 8 = named_numbered v payload (Change slot old new iterations) r free slot (inl refl) in
-        inr (
-          x.fresh,
-          (
-            x.is_free,
-            made_to slot old.bytes.now x.fresh iterations (take 32 r) new.now x.key key (drop 32 r) w x.is_free.free.0 (enough iterations (λ few. free.none fault.Iterations few))
-                slot x.fresh used x.is_free.free.0 x.rest x.made x.holds x.opened opened,
-          ),
-        )
-    opens_either (Remove slot passphrase) r w free x = tt
-    opens_either Repair r w free x = tt
-    opens_either (Label text) r w free x = tt
+  opens_either : (e : Edit) (r w : List ℕ) → IsUnrefused1 v payload e r → IsTorn1 v e r w → OpensEither1 v e w
+  opens_either (Add by_ old new to iterations) r w free x = tt
+  opens_either (Change slot old new iterations) r w free (inl x) = λ key opened.
+      let used = in_use v slot (λ not. free.none fault.NoSuchSlot (record { slot = slot; passphrase = old.bytes.now; asked = (refl, refl); unused = not })) in
+      let lt : x.slot < 8 = x.is_new.free.0 in
+      let other : IsEither x.slot x.slot slot → ⊥ = λ either.
+      let one : slot ≡ x.slot = elim either [ inl y ↦ y | inr y ↦ y ] in
+      let two : enabled_word ≡ disabled_word = sym used.1 ∙ ap (λ k. active_word (entry v k)) one ∙ x.is_new.free.1 in
+      omega (arith, two) in
+      inl (answer_moves 0 slot v w old.bytes.now (opens key) chosen
+      (same_keyslot v payload (volume_of v payload chosen well).fit w (IsEither x.slot x.slot) (either_keyslots x.slot x.slot lt lt) (half_made_rest x.order) slot other) opened)
+  opens_either (Change slot old new iterations) r w free (inr x) = λ key opened.
+      let used : slot < 8 = named_numbered v payload (Change slot old new iterations) r free slot (inl refl) in
+      inr (
+        x.fresh,
+        (
+          x.is_free,
+          made_to slot old.bytes.now x.fresh iterations (take 32 r) new.now x.key key (drop 32 r) w x.is_free.free.0 (enough iterations (λ few. free.none fault.Iterations few))
+              slot x.fresh used x.is_free.free.0 x.rest x.made x.holds x.opened opened,
+        ),
+      )
+  opens_either (Remove slot passphrase) r w free x = tt
+  opens_either Repair r w free x = tt
+  opens_either (Label text) r w free x = tt
 
-    same_opens : (e : Edit) → OpensEither1 v e v
-    same_opens (Add by_ old new to iterations) = tt
-    same_opens (Change slot old new iterations) = λ key opened. inl opened
-    same_opens (Remove slot passphrase) = tt
-    same_opens Repair = tt
-    same_opens (Label text) = tt
+  same_opens : (e : Edit) → OpensEither1 v e v
+  same_opens (Add by_ old new to iterations) = tt
+  same_opens (Change slot old new iterations) = λ key opened. inl opened
+  same_opens (Remove slot passphrase) = tt
+  same_opens Repair = tt
+  same_opens (Label text) = tt
 
-    pub leftover_opens : (e : Edit) (r w : List ℕ) → Leftover1 v payload e r w → OpensEither1 v e w
-    leftover_opens e r w (inl same) = subst (λ u. OpensEither1 v e u) (sym same) (same_opens e)
-    leftover_opens e r w (inr x) = opens_either e r w x.0 x.1
+  pub leftover_opens : (e : Edit) (r w : List ℕ) → Leftover1 v payload e r w → OpensEither1 v e w
+  leftover_opens e r w (inl same) = subst (λ u. OpensEither1 v e u) (sym same) (same_opens e)
+  leftover_opens e r w (inr x) = opens_either e r w x.0 x.1
 
   torn_rest : (e : Edit) (r w : List ℕ) → IsTorn1 v e r w → SameBut (IsOfKeyslots v (NamedKeyslots1 v e)) v w
   torn_rest (Add by_ old new to iterations) r w x =

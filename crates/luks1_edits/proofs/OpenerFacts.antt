@@ -20,14 +20,13 @@ use Rattle.luks_slot.specs.Refusal.{slot_refusal}
 use Rattle.luks_reading.specs.declared.open_fault.OpenFault.{OpenFault}
 use Rattle.luks_reading.specs.declared.open_fault.OpenFault.TheVariants as opening
 use Rattle.luks_reading.specs.declared.report.Data.{Data}
-use Rattle.luks_reading.specs.Agreement.{IsSameAnswer}
-use Rattle.luks_reading.specs.Answer.{Answer, HasRefusedPlan, IsLuks1Refusal, IsRefusal, IsRefusalAs, no_key, open_key, Opened, Opens, opens, refused}
+use Rattle.luks_reading.specs.Answer.{Answer, HasRefusedPlan, IsLuks1Refusal, IsRefusal, IsRefusalAs, open_key, Opens, opens, refused}
 use Rattle.luks_reading.specs.Checked.{IsLuks1Volume}
 use Rattle.luks_reading.specs.PlanAnswers.{IsOpenable}
 use Rattle.luks_reading.specs.Plans.{HasLuks1Plan, IsLuks1Plan}
 use Rattle.luks1_edits.specs.Accepted.{IsHeaderOf, IsLockedBy, IsOpenedBy, IsUnopened, keyslot_fault}
 use Rattle.luks1_edits.specs.Edited.{IsFree, IsInUse}
-use Rattle.luks1_edits.proofs.AnswerFacts.{common_or_entry, same_front}
+use Rattle.luks1_edits.proofs.AnswerFacts.{common_or_entry, found_once, found_unrefused, same_front}
 use Rattle.luks1_edits.proofs.MadeKeyslotFacts.{same_refusal, same_terms}
 use Rattle.luks1_edits.proofs.HeaderFacts.{entry_fault, entry_is, header_clear, volume_of}
 
@@ -108,15 +107,15 @@ module _ (h : List ℕ) (payload : Data) (v : List ℕ) (x : IsHeaderOf h payloa
             let same : s ≡ y.0 = same_Some s y.0 (sym why ∙ refused_alike y.0 y.1.1) in
             rw y.1.0 (subst (λ t. NotAfter (open_key (opening.Slot s)) (open_key (opening.Slot t))) same (omega arith, λ _. (omega arith, λ _. tt)))
 
-    module _ (once : (n : ℕ) (p : List ℕ) (a b : Opened) → Answer v n p a → Answer v n p b → IsSameAnswer a b) (p : List ℕ) where
+    module _ (p : List ℕ) where
       pub opened_by : (key : List ℕ) (found : Option (List ℕ)) → slot_refusal plan ≡ None → found ≡ slot_key plan (part v plan.area.start plan.area.len) p → found ≡ Some key → IsOpenedBy v n p key
       opened_by key found fine is some =
           let opened : Answer v n p (opens key) = planned p (Some key) fine (sym is ∙ some) in
           record {
             used = used;
             opened = opened;
-            unlocked = λ locked. once n p (opens key) no_key opened locked;
-            unshut = λ f y. once n p (opens key) (refused (opening.Slot f)) opened y;
+            unlocked = λ locked. let two = found_once v x.chosen n p (Some key) None opened locked in cc;
+            unshut = λ f y. found_unrefused v n p (Some key) (opening.Slot f) opened y;
           }
 
       pub locked_by : (found : Option (List ℕ)) → slot_refusal plan ≡ None → found ≡ slot_key plan (part v plan.area.start plan.area.len) p → found ≡ None → IsLockedBy v n p
@@ -128,6 +127,6 @@ module _ (h : List ℕ) (payload : Data) (v : List ℕ) (x : IsHeaderOf h payloa
       unopened_by slot.Memory is = absurd is
       unopened_by f is = record {
         used = used;
-        unlocked = λ locked. once n p (refused (opening.Slot f)) no_key (shut p f is) locked;
+        unlocked = λ locked. found_unrefused v n p None (opening.Slot f) locked (shut p f is);
         answer = shut p f is;
       }

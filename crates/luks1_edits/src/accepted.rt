@@ -7,7 +7,7 @@ ghost use Rattle.luks1_edits.specs.Accepted.{IsAcceptedAt, IsHeaderOf, IsUnaccep
 
 use luks_edit::EditFault;
 use luks_head::Luks1;
-use luks_reading::{Data, judge_luks1, no_fault_is_well_formed};
+use luks_reading::{Data, judge_luks1};
 
 /// The header of a LUKS1 volume that was accepted.
 #[derive(Drop)]
@@ -35,7 +35,6 @@ pub(crate) fn accepted_header(
     ensures refused { (v : List ℕ) → IsHeader v (OfLuks1 bytes.now) → length v ≡ total
         → IfErr result (IsUnaccepted v data_) }
 {
-    no_fault_is_well_formed();
     match judge_luks1(bytes.as_slice(), data_, total) {
         Ok(_) => Ok(AcceptedHeader {
             bytes,

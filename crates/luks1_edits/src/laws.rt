@@ -1,5 +1,4 @@
-//! Laws on the definitions of this crate. Each function only calls those whose laws it follows
-//! from; its contract is the law.
+//! Laws on the definitions of this crate. Each function does nothing; its contract is the law.
 ghost use Rattle.std.specs.Prelude.{◌≡◌, ◌↔◌, ℕ, List, length, replicate};
 ghost use Rattle.luks_area.specs.declared.area.Area.{Area as TheArea};
 ghost use Rattle.luks_area.specs.declared.area.AreaName.TheVariants.{Slot};
@@ -17,8 +16,6 @@ ghost use Rattle.luks1_edits.specs.Kept.{HasSameKeyslot, KeepsOthers};
 ghost use Rattle.luks1_edits.specs.Leftovers.{IsUntorn, Leftover1, OpensEither1};
 ghost use Rattle.luks1_edits.specs.Places.{IsOfKeyslots};
 ghost use Rattle.luks1_edits.specs.Refused.{IsEditFault1, IsUnrefused1, Refusal1};
-
-use luks_reading::one_answer;
 
 /// The answer of a keyslot of LUKS1 depends on the 208 bytes before the keyslots, its entry, its
 /// area and the volume's length alone.
@@ -52,9 +49,7 @@ pub fn luks1_edit_opens()
     ensures { (payload : Payload) (e : TheEdit) (v random w : List ℕ)
         → Chosen v luks1 → WellFormed v payload → IsUnrefused1 v payload e random
         → After1 v e random w → OpensAfter1 v e w }
-{
-    one_answer();
-}
+{}
 
 /// What a failing device call leaves of a well formed LUKS1 volume has its length and its segments'
 /// bytes, and each keyslot that the edit didn't name has its answers, its entry and its area. Where
@@ -77,9 +72,7 @@ pub fn luks1_failing_edit()
         → OpensEither1 v e w }
     ensures refused { (payload : Payload) (e : TheEdit) (v random w : List ℕ) (f : TheFault)
         → IsEditFault1 v payload e random f → Leftover1 v payload e random w → w ≡ v }
-{
-    one_answer();
-}
+{}
 
 /// An edit has one refusal at most.
 pub fn luks1_edit_refused_once()

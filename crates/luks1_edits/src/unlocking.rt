@@ -10,7 +10,7 @@ use crate::accepted::AcceptedHeader;
 use crate::keyslots::is_used;
 use luks_area::Device;
 use luks_edit::EditFault;
-use luks_reading::{luks1_plan, one_answer};
+use luks_reading::luks1_plan;
 use luks_slot::{Key, SlotFault, open};
 use std::alloc::Global;
 
@@ -49,7 +49,6 @@ pub(crate) fn unlock<D: Device>(
         → IsHeaderOf header.now.bytes.now header.now.data_ (D.bytes device.old)
         → IfErr result (IsUnopened (D.bytes device.old) n passphrase.now) }
 {
-    one_answer();
     if n > 7 || !is_used(&header.fields, n) {
         return Err(EditFault::NoSuchSlot);
     }

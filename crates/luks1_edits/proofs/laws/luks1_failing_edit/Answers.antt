@@ -12,7 +12,7 @@ pub returns-clause-accepted : goal.returns-clause-accepted
 returns-clause-accepted c = λ payload e v random w chosen well left untorn. leftover_accepted payload v chosen well e random w left untorn
 
 pub returns-clause-opens : goal.returns-clause-opens
-returns-clause-opens c = λ payload e v random w chosen well left. leftover_opens payload v chosen well (c.one_answer.ensures 0 v) e random w left
+returns-clause-opens c = λ payload e v random w chosen well left. leftover_opens payload v chosen well e random w left
 
 pub returns-clause-refused : goal.returns-clause-refused
 returns-clause-refused c = λ payload e v random w. leftover_refused v payload e random w

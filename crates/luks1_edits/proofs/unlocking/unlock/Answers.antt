@@ -43,7 +43,7 @@ returns-in-Some-clause-opened g c = λ tells x.
     let a = c.args.header.now in
     let there = plan_there a.bytes.now a.fields c.args.n _ c.luks1_plan-plan.result c.requires.accepted.fields (c.if-not-is_used.ensures.used refl) c.luks1_plan-plan.ensures.is in
     let used = c.if-not-is_used.ensures.used refl v (slots_in a.bytes.now a.data_ v a.fields.slots x c.requires.accepted.fields.slots) in
-    opened_by a.bytes.now a.data_ v x c.args.n used c.luks1_plan-plan.result there (c.one_answer.ensures 0 v) c.args.passphrase.now c.in-Some.key c.in-Ok.found
+    opened_by a.bytes.now a.data_ v x c.args.n used c.luks1_plan-plan.result there c.args.passphrase.now c.in-Some.key c.in-Ok.found
     c.in-Ok.ensures.accepted (c.in-Ok.ensures.value tells) c.in-Some.is
 
 pub returns-in-None-clause-refused : goal.returns-in-None-clause-refused
@@ -52,7 +52,7 @@ returns-in-None-clause-refused g c = λ tells x.
     let a = c.args.header.now in
     let there = plan_there a.bytes.now a.fields c.args.n _ c.luks1_plan-plan.result c.requires.accepted.fields (c.if-not-is_used.ensures.used refl) c.luks1_plan-plan.ensures.is in
     let used = c.if-not-is_used.ensures.used refl v (slots_in a.bytes.now a.data_ v a.fields.slots x c.requires.accepted.fields.slots) in
-    locked_by a.bytes.now a.data_ v x c.args.n used c.luks1_plan-plan.result there (c.one_answer.ensures 0 v) c.args.passphrase.now c.in-Ok.found
+    locked_by a.bytes.now a.data_ v x c.args.n used c.luks1_plan-plan.result there c.args.passphrase.now c.in-Ok.found
     c.in-Ok.ensures.accepted (c.in-Ok.ensures.value tells) c.in-None.is
 
 pub returns-in-Err-clause-refused : goal.returns-in-Err-clause-refused
@@ -62,4 +62,4 @@ returns-in-Err-clause-refused g c = λ tells x.
     let there = plan_there a.bytes.now a.fields c.args.n _ c.luks1_plan-plan.result c.requires.accepted.fields (c.if-not-is_used.ensures.used refl) c.luks1_plan-plan.ensures.is in
     let used = c.if-not-is_used.ensures.used refl v (slots_in a.bytes.now a.data_ v a.fields.slots x c.requires.accepted.fields.slots) in
     rw c.keyslot_fault.ensures
-    (unopened_by a.bytes.now a.data_ v x c.args.n used c.luks1_plan-plan.result there (c.one_answer.ensures 0 v) c.args.passphrase.now c.in-Err.fault c.in-Err.ensures.fault)
+    (unopened_by a.bytes.now a.data_ v x c.args.n used c.luks1_plan-plan.result there c.args.passphrase.now c.in-Err.fault c.in-Err.ensures.fault)
