@@ -11,6 +11,9 @@ use Rattle.luks_head.specs.Header2.{hdr_size, header_at, IsUuidField}
 use Rattle.luks_head.specs.Selection.{luks2, Chosen}
 use Rattle.luks_head.specs.declared.selection.Copies.TheVariants.{InStep}
 use Rattle.luks_head.proofs.CopyFacts.{listed_at_least}
+use Rattle.luks_json.proofs.Decimals.{decimal_told}
+use Rattle.luks_json.proofs.Encodings.{encoded_told}
+use Rattle.luks_json.proofs.Numbers.{number_of_text, text_of_named}
 use Rattle.luks_rules.specs.declared.table.Section.TheVariants.{Keyslots}
 use Rattle.luks_rules.specs.Faults.{object_at}
 use Rattle.luks_rules.specs.Reading.{decimal_in}
@@ -20,6 +23,10 @@ use Rattle.luks_making.specs.Keyslots.{slot_value, NewMembers}
 use Rattle.luks_making.specs.Naming.{HasUniqueDigests}
 use Rattle.luks_making.specs.Unchanged.{ChangesSlot, GainsSlot, SaysMembers}
 use Rattle.luks_making.specs.Without.{without_slot}
+use Rattle.luks_making.proofs.ChangeFacts.{held_changed, slot_renewed}
+use Rattle.luks_making.proofs.ReadingFacts.{texts_say, TextsSay}
+use Rattle.luks_making.proofs.RemovalFacts.{held_left, slot_lost}
+use Rattle.luks_making.proofs.RoomFacts.{gained_added, held_added, room as has_room, says_members}
 use Rattle.luks_reading.specs.declared.report.Data.{Data}
 use Rattle.luks_reading.specs.Answer.{opens, AnswerWithin}
 use Rattle.luks_reading.specs.Checked.{AreaOf, WellFormed}
@@ -29,19 +36,22 @@ use Rattle.luks_edit.specs.declared.edit.Edit.TheVariants.{Add, Change, Remove, 
 use Rattle.luks_edit.specs.Asked.{memory_for}
 use Rattle.luks_edit.specs.declared.edit_fault.EditFault.TheVariants.{Iterations, NoFreeSlot, RandomLength, SlotTaken}
 use Rattle.luks_edit.specs.Kept.{Keeps}
-use Rattle.luks2_edits.specs.Edited.{keyslot_salt, members_of, After2, HasAdded, HasChanged, HasRanges, IsEdited, IsMadeIn, IsSealedBy, IsWiped, IsWipedBy, NamedKeyslots2}
+use Rattle.luks2_edits.specs.Edited.{keyslot_salt, members_of, After2, HasAdded, HasChanged, HasRangedIterations, HasRanges, IsEdited, IsMadeIn, IsSealedBy, IsWiped, IsWipedBy, NamedKeyslots2}
 use Rattle.luks2_edits.specs.Metadata.{HasMetadata, HasStripes, IsNewKeyslot}
 use Rattle.luks2_edits.specs.Places.{key_areas_end, IsNewArea, Loses}
 use Rattle.luks2_edits.specs.Refused.{HasNoNumber, IsNumberTaken, IsUnrefused2, NeedsLike}
 use Rattle.luks2_edits.proofs.CopyFacts.{both_chosen}
 use Rattle.luks2_edits.proofs.KeptFacts.{all_kept, says_itself, KeepsMetadata}
-use Rattle.luks2_edits.proofs.LowerLaws.{MakingLaws}
 use Rattle.luks2_edits.proofs.VolumeLaws.{copy_sound}
 use Rattle.luks2_edits.proofs.MetadataFacts.{lost_metadata, placed_metadata}
 use Rattle.luks2_edits.proofs.PlaceFacts.{left_bytes}
 use Rattle.luks2_edits.proofs.SealFacts.{can_seal, enough_random, fits_new, none_of, opened_there, opened_plan, part_bytes, salt_length, under, IsOpened}
 use Rattle.luks2_edits.proofs.UniqueFacts.{unique_digests}
 use Rattle.luks2_edits.proofs.VolumeFacts.{areas_are, copy_of, layout_of, HasCopy, IsLayout}
+
+-- what an edit is given has the ranges of its types
+pub has_ranges : (v : List ℕ) (e : Edit) (random : List ℕ) {size : ℕ} → length v ≡ size → size < 2 ^ 64 → HasRangedIterations e → IsBytes random → HasRanges v e random
+has_ranges v e random long fits iterations random_bytes = record { size = omega (arith, long, fits); iterations = iterations; random_bytes = random_bytes }
 
 -- a keyslot that loses its area is named
 pub lost_is_named : (v : List ℕ) (e : Edit) (n : ℕ) → Loses e n → NamedKeyslots2 v e n
@@ -57,11 +67,15 @@ same_metadata h total payload named j k same old =
     let itself : KeepsMetadata h total payload named j j = record { layout = old; segments = refl; slots = λ m lt free. says_itself j m } in
     subst (KeepsMetadata h total payload named j) (sym same) itself
 
-without_metadata : MakingLaws → (h total : ℕ) (payload : Data) (named : ℕ → Type 0) (n : ℕ) (j k : Value) → named n → k ≡ without_slot n j
+-- what is written of numbers, bytes and names is read again
+texts : TextsSay
+texts = texts_say decimal_told encoded_told number_of_text text_of_named
+
+without_metadata : (h total : ℕ) (payload : Data) (named : ℕ → Type 0) (n : ℕ) (j k : Value) → named n → k ≡ without_slot n j
     → IsLayout h total payload j → KeepsMetadata h total payload named j k
-without_metadata making h total payload named n j k is same old =
+without_metadata h total payload named n j k is same old =
     let without : KeepsMetadata h total payload named j (without_slot n j) =
-    lost_metadata n j (without_slot n j) (making.removal n j).rest h total payload named is (making.removed (h - 4096) n j old.held) old (making.removal n j).gone in
+    lost_metadata n j (without_slot n j) (slot_lost n j).rest h total payload named is (held_left (h - 4096) n j old.held) old (slot_lost n j).gone in
     subst (KeepsMetadata h total payload named j) (sym same) without
 
 -- ---- what no refusal means
@@ -100,7 +114,7 @@ pub record IsReady (memory : ℕ) (v : List ℕ) (o : ℕ) (j : Value) (n iterat
 above : {g h : ℕ} → g ≡ h → 16384 ≤ g → 4096 ≤ h
 above same least = omega (arith, same, least)
 
-module _ (making : MakingLaws) (memory : ℕ) (v : List ℕ) (o h : ℕ) (payload : Data) (random : List ℕ) (j k : Value) (before : HasCopy v o h j)
+module _ (memory : ℕ) (v : List ℕ) (o h : ℕ) (payload : Data) (random : List ℕ) (j k : Value) (before : HasCopy v o h j)
     (layout : IsLayout h (length v) payload j) (n iterations : ℕ) (ready : IsReady memory v o j n iterations random) where
   head_size : 4096 ≤ h
   head_size =
@@ -127,23 +141,23 @@ module _ (making : MakingLaws) (memory : ℕ) (v : List ℕ) (o h : ℕ) (payloa
   pub added_gains : (to : Option ℕ) → (IsNumberTaken j to → ⊥) → (HasNoNumber j to → ⊥)
       → (a : HasAdded h (length v) payload n to iterations (keyslot_salt random) j k) → GainsSlot a.slot a.is.digest a.is.slot j k
   added_gains to taken none a =
-      making.addition (h - 4096) a.slot n (members_of iterations (keyslot_salt random) a.area) j k layout.held
+      gained_added texts (h - 4096) a.slot n (members_of iterations (keyslot_salt random) a.area) j k layout.held
       (unique_digests before.holds.text j before.holds.reads) (new_free j to a.slot taken none a.is_new) (seals a.area a.place) (fits a.area a.place) a.is
 
   pub added_says : (to : Option ℕ) → (IsNumberTaken j to → ⊥) → (HasNoNumber j to → ⊥)
       → (a : HasAdded h (length v) payload n to iterations (keyslot_salt random) j k) → SaysMembers a.is.slot (slot_value a.is.slot)
   added_says to taken none a =
       let room : IsRoom (h - 4096) a.slot a.is.digest a.is.slot j a.is.names.object =
-      making.room (h - 4096) a.slot n (members_of iterations (keyslot_salt random) a.area) j k layout.held
+      has_room texts (h - 4096) a.slot n (members_of iterations (keyslot_salt random) a.area) j k layout.held.content
       (unique_digests before.holds.text j before.holds.reads) (new_free j to a.slot taken none a.is_new) (seals a.area a.place) (fits a.area a.place) a.is in
-      making.says a.is.slot room.fits
+      says_members texts a.is.slot room.fits
 
   -- the keyslot that is changed
   pub changed_changes : (a : HasChanged h (length v) payload n iterations (keyslot_salt random) j k)
       → ChangesSlot n (members_of iterations (keyslot_salt random) a.area) j k
   changed_changes a =
       let c : ChangesSlot n (members_of iterations (keyslot_salt random) a.area) j (changed_slot n (members_of iterations (keyslot_salt random) a.area) j) =
-      making.change (h - 4096) n (members_of iterations (keyslot_salt random) a.area) j layout.held (seals a.area a.place) (fits a.area a.place) in
+      slot_renewed texts (h - 4096) n (members_of iterations (keyslot_salt random) a.area) j layout.held.content (seals a.area a.place) (fits a.area a.place) in
       subst (ChangesSlot n (members_of iterations (keyslot_salt random) a.area) j) (sym a.is) c
 
   -- the metadata with a new keyslot
@@ -155,15 +169,15 @@ module _ (making : MakingLaws) (memory : ℕ) (v : List ℕ) (o h : ℕ) (payloa
       let once : HasUniqueDigests j = unique_digests before.holds.text j before.holds.reads in
       let seal : CanSeal (h - 4096) j n f = seals a.area a.place in
       let fit : FitsNew f = fits a.area a.place in
-      let gains : GainsSlot a.slot a.is.digest a.is.slot j k = making.addition (h - 4096) a.slot n f j k layout.held once free seal fit a.is in
-      let room : IsRoom (h - 4096) a.slot a.is.digest a.is.slot j a.is.names.object = making.room (h - 4096) a.slot n f j k layout.held once free seal fit a.is in
-      let says : SaysMembers a.is.slot (slot_value a.is.slot) = making.says a.is.slot room.fits in
+      let gains : GainsSlot a.slot a.is.digest a.is.slot j k = gained_added texts (h - 4096) a.slot n f j k layout.held once free seal fit a.is in
+      let room : IsRoom (h - 4096) a.slot a.is.digest a.is.slot j a.is.names.object = has_room texts (h - 4096) a.slot n f j k layout.held.content once free seal fit a.is in
+      let says : SaysMembers a.is.slot (slot_value a.is.slot) = says_members texts a.is.slot room.fits in
       let start : slot_number k a.slot (codes "offset") ≡ Some a.area.start =
       ap (λ d. decimal_in (option_and_then (get (codes "offset")) (option_and_then (get (codes "area")) d))) gains.there ∙ says.offset ∙ ap Some a.is.made.offset in
       let len : slot_number k a.slot (codes "size") ≡ Some a.area.len =
       ap (λ d. decimal_in (option_and_then (get (codes "size")) (option_and_then (get (codes "area")) d))) gains.there ∙ says.size ∙ ap Some a.is.made.size in
       placed_metadata a.slot j k gains.rest h (length v) payload (2 * h) (key_areas_end h (length v) a.place.region) a.area (free.small, start, len) a.place.gap.gap
-      (under h (length v) payload j n a.area a.place) named is (making.added (h - 4096) a.slot n f j k layout.held once free seal fit a.is) layout
+      (under h (length v) payload j n a.area a.place) named is (held_added texts (h - 4096) a.slot n f j k layout.held once free seal fit a.is) layout
 
   -- the metadata with a keyslot that was sealed again
   changed_metadata : (named : ℕ → Type 0) → (a : HasChanged h (length v) payload n iterations (keyslot_salt random) j k) → named n
@@ -173,14 +187,14 @@ module _ (making : MakingLaws) (memory : ℕ) (v : List ℕ) (o h : ℕ) (payloa
       let new : Value = changed_slot n f j in
       let seal : CanSeal (h - 4096) j n f = seals a.area a.place in
       let fit : FitsNew f = fits a.area a.place in
-      let c : ChangesSlot n f j new = making.change (h - 4096) n f j layout.held seal fit in
+      let c : ChangesSlot n f j new = slot_renewed texts (h - 4096) n f j layout.held.content seal fit in
       let start : slot_number new n (codes "offset") ≡ Some a.area.start =
       ap (λ d. decimal_in (option_and_then (get (codes "offset")) (option_and_then (get (codes "area")) d))) c.is ∙ c.says.offset in
       let len : slot_number new n (codes "size") ≡ Some a.area.len =
       ap (λ d. decimal_in (option_and_then (get (codes "size")) (option_and_then (get (codes "area")) d))) c.is ∙ c.says.size in
       let keeps : KeepsMetadata h (length v) payload named j new =
       placed_metadata n j new c.rest h (length v) payload (2 * h) (key_areas_end h (length v) a.place.region) a.area (c.there.named, start, len) a.place.gap.gap
-      (under h (length v) payload j n a.area a.place) named is (making.changed (h - 4096) n f j layout.held seal fit) layout in
+      (under h (length v) payload j n a.area a.place) named is (held_changed texts (h - 4096) n f j layout.held seal fit) layout in
       subst (KeepsMetadata h (length v) payload named j) (sym a.is) keeps
 
 -- ---- the metadata after an edit
@@ -204,12 +218,12 @@ was_opened v (Label text) random j w k sealed = tt
 pub enough_turns : (iterations : ℕ) → (iterations < 1000 → ⊥) → 1000 ≤ iterations
 enough_turns iterations few = elim (cases_lt iterations 1000) [ inl lt ↦ absurd (few lt) | inr past ↦ past ]
 
-pub edited_metadata : (making : MakingLaws) (v : List ℕ) (o : ℕ) (payload : Data) (e : Edit) (random : List ℕ) (j k : Value)
+pub edited_metadata : (v : List ℕ) (o : ℕ) (payload : Data) (e : Edit) (random : List ℕ) (j k : Value)
     → HasMetadata v o j → HasCopy v o (hdr_size (header_at v o)) j → HasRanges v e random → IsUnrefused2 v payload e random → WasOpened v e
     → IsEdited (hdr_size (header_at v o)) (length v) payload e (keyslot_salt random) j k
     → IsLayout (hdr_size (header_at v o)) (length v) payload j
     → KeepsMetadata (hdr_size (header_at v o)) (length v) payload (NamedKeyslots2 v e) j k
-edited_metadata making v o payload (Add by_ old new to iterations) random j k m before ranges free sealed is layout =
+edited_metadata v o payload (Add by_ old new to iterations) random j k m before ranges free sealed is layout =
     let ready : IsReady (memory_for old new.now) v o j by_ iterations random = record {
       opened = opened_plan (memory_for old new.now) v o j by_ old.bytes.now sealed.0 m sealed.1;
       turns = enough_turns iterations (λ few. free.none Iterations few);
@@ -218,11 +232,11 @@ edited_metadata making v o payload (Add by_ old new to iterations) random j k m 
       random_bytes = ranges.random_bytes;
       met = λ need like other. free.none RandomLength (record { place = o; value = j; metadata = m; is = record { need = need; is = like; other = other } });
     } in
-    added_metadata making (memory_for old new.now) v o (hdr_size (header_at v o)) payload random j k before layout by_ iterations ready (λ n. IsMadeIn v to n) to
+    added_metadata (memory_for old new.now) v o (hdr_size (header_at v o)) payload random j k before layout by_ iterations ready (λ n. IsMadeIn v to n) to
     (λ taken. free.none SlotTaken (record { place = o; value = j; metadata = m; is = taken }))
     (λ none. free.none NoFreeSlot (record { place = o; value = j; metadata = m; is = none }))
     is (record { place = o; value = j; metadata = m; is_new = is.is_new })
-edited_metadata making v o payload (Change slot old new iterations) random j k m before ranges free sealed is layout =
+edited_metadata v o payload (Change slot old new iterations) random j k m before ranges free sealed is layout =
     let ready : IsReady (memory_for old new.now) v o j slot iterations random = record {
       opened = opened_plan (memory_for old new.now) v o j slot old.bytes.now sealed.0 m sealed.1;
       turns = enough_turns iterations (λ few. free.none Iterations few);
@@ -231,16 +245,16 @@ edited_metadata making v o payload (Change slot old new iterations) random j k m
       random_bytes = ranges.random_bytes;
       met = λ need like other. free.none RandomLength (record { place = o; value = j; metadata = m; is = record { need = need; is = like; other = other } });
     } in
-    changed_metadata making (memory_for old new.now) v o (hdr_size (header_at v o)) payload random j k before layout slot iterations ready (λ n. n ≡ slot) is refl
-edited_metadata making v o payload (Remove slot passphrase) random j k m before ranges free sealed is layout =
-    without_metadata making (hdr_size (header_at v o)) (length v) payload (λ n. n ≡ slot) slot j k refl is layout
-edited_metadata making v o payload Repair random j k m before ranges free sealed is layout =
+    changed_metadata (memory_for old new.now) v o (hdr_size (header_at v o)) payload random j k before layout slot iterations ready (λ n. n ≡ slot) is refl
+edited_metadata v o payload (Remove slot passphrase) random j k m before ranges free sealed is layout =
+    without_metadata (hdr_size (header_at v o)) (length v) payload (λ n. n ≡ slot) slot j k refl is layout
+edited_metadata v o payload Repair random j k m before ranges free sealed is layout =
     same_metadata (hdr_size (header_at v o)) (length v) payload (λ n. ⊥) j k is layout
-edited_metadata making v o payload (Label text) random j k m before ranges free sealed is layout =
+edited_metadata v o payload (Label text) random j k m before ranges free sealed is layout =
     same_metadata (hdr_size (header_at v o)) (length v) payload (λ n. ⊥) j k is layout
 
 module _
-    (making : MakingLaws) (v : List ℕ) (payload : Data) (e : Edit) (random w : List ℕ) (well : WellFormed v payload)
+    (v : List ℕ) (payload : Data) (e : Edit) (random w : List ℕ) (well : WellFormed v payload)
     (ranges : HasRanges v e random) (free : IsUnrefused2 v payload e random) (a : After2 v payload e random w)
   where
     pub before : HasCopy v a.place (hdr_size (header_at v a.place)) a.value
@@ -269,7 +283,7 @@ module _
     after_keeps =
         let h : ℕ = hdr_size (header_at v a.place) in
         all_kept v w payload a.place 0 h a.value a.new (NamedKeyslots2 v e) before after a.rest.length_same a.first.renewed.uuid layout
-        (edited_metadata making v a.place payload e random a.value a.new a.metadata before ranges free (was_opened v e random a.value w a.new a.sealed) a.edited layout)
+        (edited_metadata v a.place payload e random a.value a.new a.metadata before ranges free (was_opened v e random a.value w a.new a.sealed) a.edited layout)
         (λ n b x. left_bytes v w h (length v) payload a.value e layout.fit a.rest (name.Segment n) b tt x)
         (λ m unnamed b x. left_bytes v w h (length v) payload a.value e layout.fit a.rest (name.Slot m) b (λ lost. unnamed (lost_is_named v e m lost)) x)
 

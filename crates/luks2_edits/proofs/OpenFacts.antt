@@ -1,35 +1,29 @@
 -- A keyslot that was made or sealed again opens by its passphrase to the key that was opened.
-use Rattle.std.proofs.Common.{◌≡◌, ℕ, ◌+◌, ◌-◌, ◌*◌, ◌<◌, ◌≤◌, ◌↔◌, List, length, Bool, true, false, codes, Option, Some, None, option_and_then, is_some, refl, sym, ap, subst, ◌∙◌, arith}
+use Rattle.std.proofs.Common.{◌≡◌, ℕ, ◌+◌, ◌<◌, ◌≤◌, List, length, true, Some, None, refl, sym, ap, subst, ◌∙◌, arith}
 use Rattle.std.specs.Prelude.{if◌then◌else◌}
-use Rattle.std.proofs.lemmas.Bool.{and_parts, false≢true, leb-true, true≢false}
 use Rattle.serde_json.specs.Data.{Data as Value}
 use Rattle.luks_area.specs.declared.area.AreaName.TheVariants as area
-use Rattle.luks_head.specs.Header2.{header_at, uuid_field, IsUuidFault, IsUuidField}
+use Rattle.luks_head.specs.Header2.{header_at, uuid_field}
 use Rattle.luks_head.specs.Selection.{luks2}
-use Rattle.luks_head.specs.declared.fault.HeadFault.{HeadFault}
-use Rattle.luks_kdf.specs.Names.{hash_named}
+use Rattle.luks_kdf.specs.Names.{digest_size_of, each_at_least, hash_of, length-digest}
+use Rattle.luks_kdf.proofs.SplitterFacts.{merge-split}
 use Rattle.luks_rules.specs.declared.table.Member.TheVariants as name
 use Rattle.luks_rules.specs.declared.table.Outer.TheVariants as outer
 use Rattle.luks_rules.specs.declared.table.Section.TheVariants.{Digests, Keyslots}
-use Rattle.luks_rules.specs.declared.table.When.TheVariants as when
-use Rattle.luks_rules.specs.Faults.{member_at, object_at, suits, type_at}
-use Rattle.luks_rules.specs.Reading.{bytes_in, is_between, kept, number_in, number_of, text_of}
+use Rattle.luks_rules.specs.Faults.{member_at, object_at}
+use Rattle.luks_rules.specs.Reading.{bytes_in, number_in, text_of}
 use Rattle.luks_making.specs.Naming.{IsDigestOf}
-use Rattle.luks_slot.specs.declared.plan.AreaCipher.{AreaCipher}
-use Rattle.luks_slot.specs.declared.plan.AreaCipher.TheVariants.{Apart, Whole}
-use Rattle.luks_slot.specs.declared.plan.Derivation.{Derivation}
-use Rattle.luks_slot.specs.declared.plan.Derivation.TheVariants.{Pbkdf2, Argon2}
 use Rattle.luks_slot.specs.declared.plan.DigestPlan.{DigestPlan}
 use Rattle.luks_slot.specs.declared.plan.SlotPlan.{SlotPlan}
-use Rattle.luks_slot.specs.Opening.{area_bytes, meets_digest, slot_key}
+use Rattle.luks_slot.specs.Opening.{area_bytes, hash_by_name, meets_digest, slot_key}
+use Rattle.luks_slot.proofs.SealingFacts.{sealed_opens}
 use Rattle.luks_slot.specs.Refusal.{slot_refusal_within}
-use Rattle.luks_slot.specs.Sealing.{IsSealed}
 use Rattle.luks_reading.specs.declared.open_fault.OpenFault.{OpenFault}
 use Rattle.luks_reading.specs.declared.open_fault.OpenFault.TheVariants.{Head, Meta, NoSuchSlot, SlotFree, Outside, Slot, Device, Memory}
 use Rattle.luks_reading.specs.declared.report.Data.{Data}
 use Rattle.luks_reading.specs.Answer.{opens, AnswerWithin, IsRefusalAsWithin}
 use Rattle.luks_reading.specs.Header.{json_at}
-use Rattle.luks_reading.specs.Plans.{HasLuks2Plan, IsLuks2Cipher, IsLuks2Derivation, IsLuks2Digest, IsLuks2Plan}
+use Rattle.luks_reading.specs.Plans.{HasLuks2Plan, IsLuks2Digest, IsLuks2Plan}
 use Rattle.luks2_edits.specs.Edited.{HoldsKey}
 use Rattle.luks2_edits.proofs.AlikeFacts.{alike_refusal, SaysLike}
 use Rattle.luks2_edits.proofs.ToldFacts.{in_between}
@@ -37,13 +31,6 @@ use Rattle.luks2_edits.proofs.VolumeLaws.{one_value, uuid_faultless}
 use Rattle.luks2_edits.proofs.MetadataFacts.{some_same}
 use Rattle.luks2_edits.proofs.SealFacts.{IsOpened}
 use Rattle.luks2_edits.proofs.VolumeFacts.{copy_faultless, HasCopy, IsLayout}
-
--- what was sealed opens to its key
-pub record KeyslotLaws : Type 0 where
-  pub sealed : (plan : SlotPlan) (area passphrase key random : List ℕ)
-      → 1 ≤ plan.stripes → length key ≡ plan.key_bytes → length random ≡ (plan.stripes - 1) * plan.key_bytes
-      → IsSealed plan area passphrase key random
-      → slot_key plan area passphrase ≡ (if meets_digest plan.digest key then Some key else None)
 
 -- ---- digests
 
@@ -72,7 +59,7 @@ same_meeting a b key s = simp (s.hash, s.iterations, s.salt, s.stored)
 -- ---- the answer
 
 module _
-    (keyslots : KeyslotLaws) (memory : ℕ) (v w : List ℕ) (payload : Data) (o p h : ℕ) (j k : Value) (opener n : ℕ) (new key random : List ℕ)
+    (memory : ℕ) (v w : List ℕ) (payload : Data) (o p h : ℕ) (j k : Value) (opener n : ℕ) (new key random : List ℕ)
     (x : IsOpened memory v o j opener) (meets : meets_digest x.plan.digest key ≡ true) (after : HasCopy w p h k) (layout : IsLayout h (length w) payload k)
     (y : HoldsKey w k n new key random) (like : SaysLike x.object y.object)
     (one : (m l : ℕ) → IsDigestOf k n m → IsDigestOf k n l → m ≡ l) (digest : IsLuks2Digest k n x.plan.digest)
@@ -113,8 +100,10 @@ module _
     pub holds_opens : AnswerWithin memory w n new (opens key)
     holds_opens =
         let met : meets_digest y.plan.digest key ≡ true = sym (same_meeting x.plan.digest y.plan.digest key (met_as y.plan y.is)) ∙ meets in
+        let hash = hash_by_name y.plan.splitter_hash.now in
         let open_ : slot_key y.plan (area_bytes w y.plan.area) new ≡ (if meets_digest y.plan.digest key then Some key else None) =
-        keyslots.sealed y.plan (area_bytes w y.plan.area) new key random (in_between 1 4294967295 y.plan.stripes (member_at y.object outer.Af name.Stripes) y.is.stripes).from y.key_length y.random_length y.sealed in
+        sealed_opens y.plan (area_bytes w y.plan.area) new key random (in_between 1 4294967295 y.plan.stripes (member_at y.object outer.Af name.Stripes) y.is.stripes).from y.key_length y.random_length
+        (merge-split (hash_of hash) (digest_size_of hash) (length-digest hash) (each_at_least 1 digest_size_of refl hash)) y.sealed in
         record {
           choice = luks2 p after.copies;
           chosen = after.chosen;

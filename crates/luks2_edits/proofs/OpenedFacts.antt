@@ -5,7 +5,6 @@ use Rattle.serde_json.specs.Find.{get}
 use Rattle.luks_rules.specs.declared.table.Member.TheVariants as name
 use Rattle.luks_rules.specs.declared.table.Outer.TheVariants as outer
 use Rattle.luks_rules.specs.declared.table.Section.TheVariants.{Keyslots}
-use Rattle.luks_rules.specs.Accepted.{IsMeta}
 use Rattle.luks_rules.specs.Faults.{member_at, object_at}
 use Rattle.luks_rules.specs.Reading.{number_in, text_of}
 use Rattle.luks_making.specs.Changed.{renewed_slot}
@@ -21,7 +20,7 @@ use Rattle.luks2_edits.specs.Edited.{HoldsKey}
 use Rattle.luks2_edits.specs.Metadata.{HasMetadata, IsNewKeyslot}
 use Rattle.luks2_edits.proofs.MetadataFacts.{digest_moves, some_same}
 use Rattle.luks2_edits.proofs.AlikeFacts.{changed_derived, made_derived, SaysLike}
-use Rattle.luks2_edits.proofs.OpenFacts.{holds_opens, KeyslotLaws}
+use Rattle.luks2_edits.proofs.OpenFacts.{holds_opens}
 use Rattle.luks2_edits.proofs.SealFacts.{opened_meets, opened_plan, IsOpened}
 use Rattle.luks2_edits.proofs.VolumeLaws.{one_digest}
 use Rattle.luks2_edits.proofs.VolumeFacts.{copy_meta, HasCopy, IsLayout}
@@ -58,7 +57,7 @@ like_changed d was f now new old is says long = record {
 }
 
 module _
-    (keyslots : KeyslotLaws) (memory : ℕ) (v w : List ℕ) (payload : Data) (o p h : ℕ) (j k : Value) (opener n : ℕ)
+    (memory : ℕ) (v w : List ℕ) (payload : Data) (o p h : ℕ) (j k : Value) (opener n : ℕ)
     (old new key random : List ℕ) (m : HasMetadata v o j) (opened : AnswerWithin memory v opener old (opens key)) (before : HasCopy v o h j)
     (was : IsLayout h (length v) payload j) (after : HasCopy w p h k) (layout : IsLayout h (length w) payload k) (y : HoldsKey w k n new key random)
   where
@@ -73,7 +72,7 @@ module _
     opens_by like names rest =
         let dx : IsLuks2Digest j opener plan_of.plan.digest = plan_of.is.digest in
         let now = rest.digests.there dx.number dx.object dx.there in
-        holds_opens keyslots memory v w payload o p h j k opener n new key random plan_of meets after layout y like
+        holds_opens memory v w payload o p h j k opener n new key random plan_of meets after layout y like
         (λ a b. one_digest (json_at w p) k (copy_meta w p h k after layout.held) n a b)
         (digest_moves j k opener n plan_of.plan.digest dx now.0 (names dx.number dx.names) now.1 now.2)
 

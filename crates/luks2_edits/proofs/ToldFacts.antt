@@ -1,6 +1,6 @@
 -- What the metadata tells is one thing: a keyslot's stripes, how many random bytes an edit takes, and a
 -- number in its range.
-use Rattle.std.proofs.Common.{◌≡◌, ℕ, ◌+◌, ◌-◌, ◌*◌, ◌≤◌, Some, None, Option, sym, ap, ◌∙◌, refl, codes, true, false, cond, Bool, option_and_then}
+use Rattle.std.proofs.Common.{◌≡◌, ℕ, ◌+◌, ◌-◌, ◌*◌, Some, None, Option, sym, ap, ◌∙◌, refl, codes, true, false, cond, Bool, option_and_then}
 use Rattle.std.proofs.lemmas.Bool.{and_parts, leb-true}
 use Rattle.std.proofs.lemmas.Option.{same_Some}
 use Rattle.serde_json.specs.Data.{Data as Value}

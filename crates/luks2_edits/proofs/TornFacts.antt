@@ -13,8 +13,7 @@ use Rattle.luks_head.proofs.CopyFacts.{listed_at_least}
 use Rattle.luks_rules.specs.MetaFault.{Json}
 use Rattle.luks_reading.specs.declared.report.Data.{Data}
 use Rattle.luks_making.specs.Changed.{changed_slot}
-use Rattle.luks_reading.specs.Agreement.{IsSameAnswer}
-use Rattle.luks_reading.specs.Answer.{opens, AnswerWithin, Opened}
+use Rattle.luks_reading.specs.Answer.{opens, AnswerWithin}
 use Rattle.luks_reading.specs.Layout2.{Luks2Area}
 use Rattle.luks_reading.specs.Checked.{WellFormed, WellFormedAs}
 use Rattle.luks_reading.specs.Header.{json_at}
@@ -32,13 +31,11 @@ use Rattle.luks2_edits.specs.Refused.{IsUnrefused2}
 use Rattle.luks_edit.specs.declared.edit_fault.EditFault.TheVariants.{Iterations, RandomLength}
 use Rattle.luks_area.specs.declared.area.Area.{Area}
 use Rattle.luks2_edits.proofs.MetadataFacts.{some_same}
-use Rattle.luks2_edits.proofs.OpenFacts.{KeyslotLaws}
 use Rattle.luks2_edits.proofs.OpenedFacts.{changed_opens}
 use Rattle.luks2_edits.proofs.SealFacts.{opened_plan}
 use Rattle.luks2_edits.proofs.AfterFacts.{changed_changes, edited_metadata, enough_turns, lost_is_named, same_metadata, was_opened, IsReady, WasOpened, long_salt}
 use Rattle.luks2_edits.proofs.KeptFacts.{all_kept}
 use Rattle.luks2_edits.proofs.LeftoverFacts.{first_size_left, is_sound, left_of, not_other, place_is, same_header, Left}
-use Rattle.luks2_edits.proofs.LowerLaws.{MakingLaws}
 use Rattle.luks2_edits.proofs.VolumeLaws.{copy_sound, one_answer, one_choice, some_choice}
 use Rattle.luks2_edits.proofs.PlaceFacts.{left_bytes}
 use Rattle.luks2_edits.proofs.TouchedFacts.{torn_rest}
@@ -107,7 +104,7 @@ json_of_copy v q long = part-part v q (hdr_size (header_at v q)) 4096 (hdr_size 
     joined least = omega (arith, least)
 
 module _
-    (making : MakingLaws) (v : List ℕ) (payload : Data) (e : Edit) (random w : List ℕ) (well : WellFormed v payload)
+    (v : List ℕ) (payload : Data) (e : Edit) (random w : List ℕ) (well : WellFormed v payload)
     (ranges : HasRanges v e random) (long : length w ≡ length v)
   where
     -- where the copy that counted still counts, all is kept but what was touched
@@ -155,7 +152,7 @@ module _
           holds = a.renewed.json.json;
         } in
         all_kept v w payload a.place p h a.value a.new (NamedKeyslots2 v e) before after long a.renewed.uuid layout
-        (edited_metadata making v a.place payload e random a.value a.new a.metadata before ranges free opened a.edited layout)
+        (edited_metadata v a.place payload e random a.value a.new a.metadata before ranges free opened a.edited layout)
         (λ n d x. left_bytes v w h (length v) payload a.value e layout.fit rest (name.Segment n) d tt x)
         (λ n unnamed d x. left_bytes v w h (length v) payload a.value e layout.fit rest (name.Slot n) d (λ lost. unnamed (lost_is_named v e n lost)) x)
 
@@ -186,12 +183,12 @@ changed_once h total payload n iterations salt j k i x y =
     x.is ∙ ap (λ a. changed_slot n (members_of iterations salt a) j) area ∙ sym y.is
 
 -- where one counts that the edit writes, a keyslot that was sealed again opens by the new passphrase
-opens_written : (making : MakingLaws) (keyslots : KeyslotLaws) (v : List ℕ) (payload : Data) (e : Edit) (random w : List ℕ) → WellFormed v payload
+opens_written : (v : List ℕ) (payload : Data) (e : Edit) (random w : List ℕ) → WellFormed v payload
     → HasRanges v e random → IsUnrefused2 v payload e random → length w ≡ length v → (j new : Value) (p : ℕ) (b : Copies) → Chosen w (luks2 p b)
     → (a : IsAllowed v payload e random w p) → IsEdited (hdr_size (header_at v a.place)) (length v) payload e (keyslot_salt random) a.value new
     → IsSealedBy v e random j w new → OpensEither2 v e w
-opens_written making keyslots v payload (Add by_ old new to iterations) random w well ranges free long j k p b chosen a edited sealed = tt
-opens_written making keyslots v payload (Change slot old new iterations) random w well ranges free long j k p b chosen a edited sealed =
+opens_written v payload (Add by_ old new to iterations) random w well ranges free long j k p b chosen a edited sealed = tt
+opens_written v payload (Change slot old new iterations) random w well ranges free long j k p b chosen a edited sealed =
     let e : Edit = Change slot old new iterations in
     let h : ℕ = hdr_size (header_at v a.place) in
     let before : HasCopy v a.place h a.value = copy_of v payload a.place a.value a.metadata well in
@@ -204,7 +201,7 @@ opens_written making keyslots v payload (Change slot old new iterations) random 
       holds = a.renewed.json.json;
     } in
     let now : IsLayout h (length w) payload a.new = subst (λ n. IsLayout h n payload a.new) (sym long)
-    (edited_metadata making v a.place payload e random a.value a.new a.metadata before ranges free (sealed.key, sealed.opened) a.edited layout).layout in
+    (edited_metadata v a.place payload e random a.value a.new a.metadata before ranges free (sealed.key, sealed.opened) a.edited layout).layout in
     let ready : IsReady (memory_for old new.now) v a.place a.value slot iterations random = record {
       opened = opened_plan (memory_for old new.now) v a.place a.value slot old.bytes.now sealed.key a.metadata sealed.opened;
       turns = enough_turns iterations (λ few. free.none Iterations few);
@@ -213,22 +210,22 @@ opens_written making keyslots v payload (Change slot old new iterations) random 
       random_bytes = ranges.random_bytes;
       met = λ need like other. free.none RandomLength (record { place = a.place; value = a.value; metadata = a.metadata; is = record { need = need; is = like; other = other } });
     } in
-    let changes = changed_changes making (memory_for old new.now) v a.place h payload random a.value a.new before layout slot iterations ready a.edited in
+    let changes = changed_changes (memory_for old new.now) v a.place h payload random a.value a.new before layout slot iterations ready a.edited in
     let same : k ≡ a.new = changed_once h (length v) payload slot iterations (keyslot_salt random) a.value k a.new edited a.edited in
     let there : HoldsKey w k slot new.now sealed.key (stripes_random random) =
     subst (λ n. HoldsKey w k n new.now sealed.key (stripes_random random)) sealed.is_made sealed.holds in
     let holds : HoldsKey w a.new slot new.now sealed.key (stripes_random random) = subst (λ i. HoldsKey w i slot new.now sealed.key (stripes_random random)) same there in
     let opened : AnswerWithin (memory_for old new.now) w slot new.now (opens sealed.key) =
-    changed_opens keyslots (memory_for old new.now) v w payload a.place p h a.value a.new slot slot old.bytes.now new.now sealed.key (stripes_random random)
+    changed_opens (memory_for old new.now) v w payload a.place p h a.value a.new slot slot old.bytes.now new.now sealed.key (stripes_random random)
     a.metadata sealed.opened before layout after now holds
     (members_of iterations (keyslot_salt random) a.edited.area) refl
-    (long_salt making (memory_for old new.now) v a.place h payload random a.value a.new before layout slot iterations ready a.edited.area a.edited.place) changes in
+    (long_salt (memory_for old new.now) v a.place h payload random a.value a.new before layout slot iterations ready a.edited.area a.edited.place) changes in
     λ key was.
     (let key_same : sealed.key ≡ key = one_answer (memory_for old new.now) v slot old.bytes.now (opens sealed.key) (opens key) sealed.opened was in
     inr (subst (λ x. AnswerWithin (memory_for old new.now) w slot new.now (opens x)) key_same opened))
-opens_written making keyslots v payload (Remove slot passphrase) random w well ranges free long j k p b chosen a edited sealed = tt
-opens_written making keyslots v payload Repair random w well ranges free long j k p b chosen a edited sealed = tt
-opens_written making keyslots v payload (Label text) random w well ranges free long j k p b chosen a edited sealed = tt
+opens_written v payload (Remove slot passphrase) random w well ranges free long j k p b chosen a edited sealed = tt
+opens_written v payload Repair random w well ranges free long j k p b chosen a edited sealed = tt
+opens_written v payload (Label text) random w well ranges free long j k p b chosen a edited sealed = tt
 
 sealed_or_copy : (A B : Type 0) → A ⊎ B → B ⊎ A ⊎ ⊥
 sealed_or_copy A B (inl a) = inr (inl a)
@@ -251,20 +248,20 @@ pub record Outcome (v : List ℕ) (payload : Data) (e : Edit) (random w : List �
   pub opens_either : OpensEither2 v e w
 
 -- while neither the copy that counted nor the keyslot's own area was touched, it opens by the old passphrase
-opens_before : (making : MakingLaws) (keyslots : KeyslotLaws) (v : List ℕ) (payload : Data) (e : Edit) (random w : List ℕ) → WellFormed v payload
+opens_before : (v : List ℕ) (payload : Data) (e : Edit) (random w : List ℕ) → WellFormed v payload
     → HasRanges v e random → (o : ℕ) (j : Value) (m : HasMetadata v o j) (b : Copies) → Chosen w (luks2 o b) → copy_at w o ≡ copy_at v o
     → SameBut (IsOfEither (IsOfSealed (hdr_size (header_at v o)) (length v) payload j e) (IsOfCopies (hdr_size (header_at v o)))) v w → OpensEither2 v e w
-opens_before making keyslots v payload (Add by_ old new to iterations) random w well ranges o j m b chosen same rest = tt
-opens_before making keyslots v payload (Change slot old new iterations) random w well ranges o j m b chosen same rest = λ key was.
+opens_before v payload (Add by_ old new to iterations) random w well ranges o j m b chosen same rest = tt
+opens_before v payload (Change slot old new iterations) random w well ranges o j m b chosen same rest = λ key was.
     (let all : SameBut (IsTouched (hdr_size (header_at v o)) (length v) payload j (Add slot old new None iterations)) v w =
     same_but-wider (λ p x. sealed_or_copy (IsOfNewKeyslot (hdr_size (header_at v o)) (length v) payload j slot p) (IsOfCopies (hdr_size (header_at v o)) p) x) rest in
     let kept : Keeps payload (λ n. ⊥) v w =
-    kept_before making v payload (Change slot old new iterations) random w well ranges rest.length_same (λ n. ⊥) (Add slot old new None iterations) (λ n lost. lost)
+    kept_before v payload (Change slot old new iterations) random w well ranges rest.length_same (λ n. ⊥) (Add slot old new None iterations) (λ n lost. lost)
     o j m b chosen same all in
     inl (((kept.slots slot (λ x. x)).answers (memory_for old new.now) old.bytes.now (opens key)).0 was))
-opens_before making keyslots v payload (Remove slot passphrase) random w well ranges o j m b chosen same rest = tt
-opens_before making keyslots v payload Repair random w well ranges o j m b chosen same rest = tt
-opens_before making keyslots v payload (Label text) random w well ranges o j m b chosen same rest = tt
+opens_before v payload (Remove slot passphrase) random w well ranges o j m b chosen same rest = tt
+opens_before v payload Repair random w well ranges o j m b chosen same rest = tt
+opens_before v payload (Label text) random w well ranges o j m b chosen same rest = tt
 
 -- the other copy's place
 other_at : (h o : ℕ) → (o ≡ 0) ⊎ (o ≡ h) → 16384 ≤ h → (other_place h o ≡ 0) ⊎ (other_place h o ≡ h)
@@ -294,7 +291,7 @@ crossed : (h p : ℕ) → p < 2 * h → 2 * h ≤ p → ⊥
 crossed h p low high = absurd (omega (arith, low, high))
 
 module _
-    (making : MakingLaws) (keyslots : KeyslotLaws) (v : List ℕ) (payload : Data) (e : Edit) (random w : List ℕ) (well : WellFormed v payload)
+    (v : List ℕ) (payload : Data) (e : Edit) (random w : List ℕ) (well : WellFormed v payload)
     (ranges : HasRanges v e random) (free : IsUnrefused2 v payload e random) (stray : IsNotStray v payload e random w) (j new : Value)
     (m : HasMetadata v stray.place j)
     (edited : IsEdited (hdr_size (header_at v stray.place)) (length v) payload e (keyslot_salt random) j new)
@@ -320,9 +317,9 @@ module _
     before_outcome : (b : Copies) → Chosen w (luks2 o b) → copy_at w o ≡ copy_at v o → SameBut (IsOfEither Sealed (IsOfCopies h)) v w → SameBut Touched v w
         → Outcome v payload e random w
     before_outcome b chosen same unlost rest = record {
-      opens_either = opens_before making keyslots v payload e random w well ranges o j m b chosen same unlost;
+      opens_either = opens_before v payload e random w well ranges o j m b chosen same unlost;
       whole = inl (record { place = o; old_copies = stray.copies; old_chosen = stray.chosen; new_copies = b; new_chosen = chosen; same = same });
-      keeps = keeps_before making v payload e random w well ranges rest.length_same o j m b chosen same rest;
+      keeps = keeps_before v payload e random w well ranges rest.length_same o j m b chosen same rest;
     }
 
     after_outcome : IsSealedBy v e random j w new → (p : ℕ) (b : Copies) → Chosen w (luks2 p b) → IsAllowed v payload e random w p → SameBut Touched v w → Outcome v payload e random w
@@ -336,10 +333,10 @@ module _
         subst (λ i. SameBut (IsTouched (hdr_size (header_at v a.place)) (length v) payload i e) v w) (sym value) there in
         record {
           whole = inr (record { place = p; copies = b; chosen = chosen; written = a });
-          opens_either = opens_written making keyslots v payload e random w well ranges free rest.length_same j new p b chosen a
+          opens_either = opens_written v payload e random w well ranges free rest.length_same j new p b chosen a
               (subst (λ i. IsEdited (hdr_size (header_at v a.place)) (length v) payload e (keyslot_salt random) i new) (sym value)
               (subst (λ q. IsEdited (hdr_size (header_at v q)) (length v) payload e (keyslot_salt random) j new) (sym place) edited)) sealed;
-          keeps = keeps_after making v payload e random w well ranges rest.length_same free opened p b chosen a all;
+          keeps = keeps_after v payload e random w well ranges rest.length_same free opened p b chosen a all;
         }
 
     -- the places of a copy aren't sealed
@@ -452,25 +449,25 @@ module _
 -- ---- every leftover
 
 -- a volume that is left as it was
-same_outcome : (making : MakingLaws) (keyslots : KeyslotLaws) (v : List ℕ) (payload : Data) (e : Edit) (random w : List ℕ) → WellFormed v payload
+same_outcome : (v : List ℕ) (payload : Data) (e : Edit) (random w : List ℕ) → WellFormed v payload
     → HasRanges v e random → IsNotStray v payload e random w → w ≡ v → (j : Value) (o : ℕ) → HasMetadata v o j → Outcome v payload e random w
-same_outcome making keyslots v payload e random w well ranges stray same j o m =
+same_outcome v payload e random w well ranges stray same j o m =
     let chosen : Chosen w (luks2 o m.copies) = subst (λ u. Chosen u (luks2 o m.copies)) (sym same) m.chosen in
     let copy : copy_at w o ≡ copy_at v o = ap (λ u. copy_at u o) same in
     record {
       whole = inl (record { place = o; old_copies = m.copies; old_chosen = m.chosen; new_copies = m.copies; new_chosen = chosen; same = copy });
-      opens_either = opens_before making keyslots v payload e random w well ranges o j m m.copies chosen copy
+      opens_either = opens_before v payload e random w well ranges o j m m.copies chosen copy
           (same_but-equal (IsOfEither (IsOfSealed (hdr_size (header_at v o)) (length v) payload j e) (IsOfCopies (hdr_size (header_at v o)))) same);
-      keeps = keeps_before making v payload e random w well ranges (ap length same) o j m m.copies chosen copy
+      keeps = keeps_before v payload e random w well ranges (ap length same) o j m m.copies chosen copy
           (same_but-equal (IsTouched (hdr_size (header_at v o)) (length v) payload j e) same);
     }
 
 -- what was torn, at the place that counted
-torn_there : (making : MakingLaws) (keyslots : KeyslotLaws) (v : List ℕ) (payload : Data) (e : Edit) (random w : List ℕ) → WellFormed v payload
+torn_there : (v : List ℕ) (payload : Data) (e : Edit) (random w : List ℕ) → WellFormed v payload
     → HasRanges v e random → IsUnrefused2 v payload e random → (stray : IsNotStray v payload e random w) → IsTorn2 v payload e random w → Outcome v payload e random w
-torn_there making keyslots v payload e random w well ranges free stray t =
+torn_there v payload e random w well ranges free stray t =
     let place : t.place ≡ stray.place = one_place v stray.place t.place stray.copies t.metadata.copies stray.chosen t.metadata.chosen in
-    torn_outcome making keyslots v payload e random w well ranges free stray t.value t.new
+    torn_outcome v payload e random w well ranges free stray t.value t.new
     (subst (λ o. HasMetadata v o t.value) place t.metadata)
     (subst (λ o. IsEdited (hdr_size (header_at v o)) (length v) payload e (keyslot_salt random) t.value t.new) place t.edited)
     (subst (λ o. IsTornAt v payload e random o t.value t.new w) place t.torn)
@@ -481,9 +478,9 @@ its_metadata v payload well o b chosen =
     let formed = subst (λ c. WellFormedAs v payload c) (one_choice v well.choice (luks2 o b) well.chosen chosen) well.formed in
     (formed.layout.0, record { copies = b; chosen = chosen; holds = formed.layout.1.metadata.json })
 
-pub leftover_outcome : (making : MakingLaws) (keyslots : KeyslotLaws) (v : List ℕ) (payload : Data) (e : Edit) (random w : List ℕ) → WellFormed v payload
+pub leftover_outcome : (v : List ℕ) (payload : Data) (e : Edit) (random w : List ℕ) → WellFormed v payload
     → HasRanges v e random → Leftover2 v payload e random w → IsNotStray v payload e random w → Outcome v payload e random w
-leftover_outcome making keyslots v payload e random w well ranges (inl same) stray =
+leftover_outcome v payload e random w well ranges (inl same) stray =
     let m = its_metadata v payload well stray.place stray.copies stray.chosen in
-    same_outcome making keyslots v payload e random w well ranges stray same m.0 stray.place m.1
-leftover_outcome making keyslots v payload e random w well ranges (inr t) stray = torn_there making keyslots v payload e random w well ranges t.0 stray t.1
+    same_outcome v payload e random w well ranges stray same m.0 stray.place m.1
+leftover_outcome v payload e random w well ranges (inr t) stray = torn_there v payload e random w well ranges t.0 stray t.1

