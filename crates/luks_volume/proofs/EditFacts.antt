@@ -4,15 +4,16 @@ use Rattle.luks_head.specs.Selection.{Choice, luks1, luks2, nothing, Chosen}
 use Rattle.luks_reading.specs.declared.report.Data.{Data}
 use Rattle.luks_reading.specs.Checked.{WellFormed}
 use Rattle.luks_edit.specs.declared.edit.Edit.{Edit}
+use Rattle.luks_edit.specs.declared.edit.Step.{Step}
 use Rattle.luks_edit.specs.declared.edit_fault.EditFault.TheVariants as fault
 use Rattle.luks_edit.specs.Kept.{Keeps}
-use Rattle.luks_edit.specs.Ran.{IsCompleted, IsFailure, Reply}
+use Rattle.luks_edit.specs.Ran.{AreRun, HasNoFailure, IsCompleted, IsFailure, IsNamedIn, Reply}
 use Rattle.luks1_edits.specs.Edited.{NamedKeyslots1}
 use Rattle.luks1_edits.proofs.EditedFacts.{keeps}
-use Rattle.luks2_edits.specs.Edited.{After2, HasRanges, NamedKeyslots2}
-use Rattle.luks2_edits.specs.Refused.{IsUnrefused2}
+use Rattle.luks2_edits.specs.Edited.{HasRanges, NamedKeyslots2}
+use Rattle.luks2_edits.proofs.AfterFacts.{after_keeps}
 use Rattle.luks_volume.specs.Edits.{AfterAs, IsUnrefused, NamedSlots, Replies}
-use Rattle.luks_volume.proofs.RanFacts.{kept_same}
+use Rattle.luks_volume.proofs.RanFacts.{kept_same, list_keeps}
 
 -- what fewer names keep, more names keep
 keeps_fewer : (payload : Data) (named more : ℕ → Type 0) (v w : List ℕ) → ((n : ℕ) → named n → more n) → Keeps payload named v w → Keeps payload more v w
@@ -27,26 +28,27 @@ keeps_fewer payload named more v w of x = record {
 unchanged : (payload : Data) (named : ℕ → Type 0) (v w : List ℕ) → WellFormed v payload → w ≡ v → Keeps payload named v w
 unchanged payload named v w well same = subst (λ u. Keeps payload named v u) (sym same) (kept_same payload named v well)
 
-module _
-    (keeps2 : (payload : Data) (e : Edit) (v random w : List ℕ) → WellFormed v payload → HasRanges v e random
-    → IsUnrefused2 v payload e random → After2 v payload e random w → Keeps payload (NamedKeyslots2 v e) v w)
-  where
-    -- a completed edit keeps what it doesn't name
-    completed : (payload : Data) (e : Edit) (v random w : List ℕ) (c : Choice) → Chosen v c → WellFormed v payload → HasRanges v e random → IsUnrefused v payload e random
-        → AfterAs v payload e random c w → Keeps payload (NamedSlots v e) v w
-    completed payload e v random w luks1 chosen well ranges fine after =
-        keeps_fewer payload (NamedKeyslots1 v e) (NamedSlots v e) v w (λ n is. record { choice = luks1; chosen = chosen; named = is })
-        (keeps payload v chosen well e random w (record { none = λ f is. fine.none f (record { choice = luks1; chosen = chosen; fault = is }) }) after)
-    completed payload e v random w (luks2 o copies) chosen well ranges fine after =
-        keeps_fewer payload (NamedKeyslots2 v e) (NamedSlots v e) v w (λ n is. record { choice = luks2 o copies; chosen = chosen; named = is })
-        (keeps2 payload e v random w well ranges (record { none = λ f is. fine.none f (record { choice = luks2 o copies; chosen = chosen; fault = is }) }) after)
-    completed payload e v random w nothing chosen well ranges fine after = absurd after
+-- a completed edit keeps what it doesn't name
+completed : (payload : Data) (e : Edit) (v random w : List ℕ) (c : Choice) → Chosen v c → WellFormed v payload → HasRanges v e random → IsUnrefused v payload e random
+    → AfterAs v payload e random c w → Keeps payload (NamedSlots v e) v w
+completed payload e v random w luks1 chosen well ranges fine after =
+    keeps_fewer payload (NamedKeyslots1 v e) (NamedSlots v e) v w (λ n is. record { choice = luks1; chosen = chosen; named = is })
+    (keeps payload v chosen well e random w (record { none = λ f is. fine.none f (record { choice = luks1; chosen = chosen; fault = is }) }) after)
+completed payload e v random w (luks2 o copies) chosen well ranges fine after =
+    keeps_fewer payload (NamedKeyslots2 v e) (NamedSlots v e) v w (λ n is. record { choice = luks2 o copies; chosen = chosen; named = is })
+    (after_keeps v payload e random w well ranges (record { none = λ f is. fine.none f (record { choice = luks2 o copies; chosen = chosen; fault = is }) }) after)
+completed payload e v random w nothing chosen well ranges fine after = absurd after
 
-    -- an edit in which the device didn't fail keeps what it doesn't name, and all where it isn't completed
-    pub edit_keeps : (payload : Data) (v w : List ℕ) (e : Edit) (random : List ℕ) (r : Reply) → WellFormed v payload → Replies payload v e random r w
-        → (IsFailure r → ⊥) → Keeps payload (λ n. IsCompleted r × NamedSlots v e n) v w
-    edit_keeps payload v w e random (Ok done) well is fine =
-        keeps_fewer payload (NamedSlots v e) (λ n. IsCompleted (Ok done) × NamedSlots v e n) v w (λ n named. (tt, named))
-        (completed payload e v random w is.3.choice is.3.chosen well is.0 is.1 is.3.after)
-    edit_keeps payload v w e random (Err fault.Device) well is fine = absurd (fine tt)
-    edit_keeps payload v w e random (Err f) well is fine = unchanged payload _ v w well is.1
+-- an edit in which the device didn't fail keeps what it doesn't name, and all where it isn't completed
+pub edit_keeps : (payload : Data) (v w : List ℕ) (e : Edit) (random : List ℕ) (r : Reply) → WellFormed v payload → Replies payload v e random r w
+    → (IsFailure r → ⊥) → Keeps payload (λ n. IsCompleted r × NamedSlots v e n) v w
+edit_keeps payload v w e random (Ok done) well is fine =
+    keeps_fewer payload (NamedSlots v e) (λ n. IsCompleted (Ok done) × NamedSlots v e n) v w (λ n named. (tt, named))
+    (completed payload e v random w is.3.choice is.3.chosen well is.0 is.1 is.3.after)
+edit_keeps payload v w e random (Err fault.Device) well is fine = absurd (fine tt)
+edit_keeps payload v w e random (Err f) well is fine = unchanged payload _ v w well is.1
+
+-- so a list of edits in which it didn't fail keeps what no completed one names
+pub edits_keep : (payload : Data) (steps : List Step) (replies : List Reply) (volumes : List (List ℕ)) (v w : List ℕ) → WellFormed v payload
+    → AreRun (Replies payload) v steps replies volumes w → HasNoFailure replies → Keeps payload (IsNamedIn NamedSlots v steps replies volumes) v w
+edits_keep payload = list_keeps (Replies payload) NamedSlots payload (edit_keeps payload)

@@ -1,9 +1,6 @@
 -- What an edit brings about in a well formed volume, by what is proved of each version.
-use Rattle.std.proofs.Common.{◌≡◌, ◌⊎◌, ℕ, List, Some, Ok, Err, replicate, subst, arith}
+use Rattle.std.proofs.Common.{◌≡◌, ℕ, List, Some, Ok, Err, subst, arith}
 use Rattle.std.specs.Prelude.{OnOk}
-use Rattle.luks_area.specs.declared.area.Area.{Area}
-use Rattle.luks_area.specs.declared.area.AreaName.TheVariants.{Slot}
-use Rattle.luks_area.specs.Ranges.{part, SameBut}
 use Rattle.luks_head.specs.declared.selection.Copies.{Copies}
 use Rattle.luks_head.specs.Selection.{Choice, luks1, luks2, nothing, Chosen}
 use Rattle.luks_head.proofs.ChoiceFacts.{choices_agree}
@@ -11,25 +8,27 @@ use Rattle.luks_reading.specs.declared.report.Data.{Data}
 use Rattle.luks_reading.specs.Answer.{Answer, AnswerWithin, opens}
 use Rattle.luks_reading.proofs.AllowedMemory.{opens_alike}
 use Rattle.luks_edit.proofs.AllowedMemory.{luks1_answers_alike}
-use Rattle.luks_reading.specs.Checked.{AreaOf, WellFormed, WellFormedAs}
+use Rattle.luks_reading.specs.Checked.{WellFormed, WellFormedAs}
 use Rattle.luks_edit.specs.declared.edit.Edit.{Edit}
 use Rattle.luks_edit.specs.declared.edit.Edit.TheVariants.{Add, Change, Remove, Repair, Label}
 use Rattle.luks_edit.specs.Asked.{memory_for}
 use Rattle.luks_edit.specs.declared.edit_fault.EditFault.{EditFault}
 use Rattle.luks_edit.specs.declared.edit_fault.EditFault.TheVariants as fault
-use Rattle.luks_edit.specs.Kept.{Keeps}
 use Rattle.luks_edit.specs.Ran.{Reply, IsFailure}
-use Rattle.luks1_edits.specs.Edited.{After1, OpensAfter1, Removes}
-use Rattle.luks1_edits.specs.Leftovers.{Leftover1, OpensEither1}
+use Rattle.luks1_edits.specs.Edited.{OpensAfter1, Removes}
 use Rattle.luks1_edits.specs.Refused.{IsUnrefused1}
-use Rattle.luks2_edits.specs.Edited.{After2, HasRanges, NamedKeyslots2, OpensAfter2}
-use Rattle.luks2_edits.specs.Leftovers.{CountsAsAfter, CountsAsBefore, IsNotStray, Leftover2, OpensEither2}
-use Rattle.luks2_edits.specs.Places.{IsTouchedIn, Loses}
-use Rattle.luks2_edits.specs.Refused.{IsEditFault2, IsUnrefused2}
+use Rattle.luks2_edits.specs.Edited.{HasRanges, OpensAfter2}
+use Rattle.luks2_edits.specs.Places.{Loses}
+use Rattle.luks2_edits.specs.Refused.{IsUnrefused2}
 use Rattle.luks_volume.specs.Edits.{AfterAs, IsEditFault, IsUnrefused, LeftoverAs, Leftover, Makes, MakesAs, Replies}
 use Rattle.luks_volume.specs.Outcome.{OpensMade, Spares, SparesAs, WipesLost}
-use Rattle.luks1_edits.proofs.EditedFacts.{leftover_keeps, leftover_rest, removed_area}
-use Rattle.luks1_edits.proofs.RefusalFacts.{leftover_refused}
+use Rattle.luks1_edits.proofs.EditedFacts.{leftover_keeps, leftover_opens, leftover_rest as leftover_rest1, opens_after as opens_after1, removed_area}
+use Rattle.luks1_edits.proofs.RefusalFacts.{leftover_refused as leftover_refused1}
+use Rattle.luks2_edits.proofs.AfterFacts.{lost_zeros}
+use Rattle.luks2_edits.proofs.OpensFacts.{opens_after as opens_after2}
+use Rattle.luks2_edits.proofs.RefusalFacts.{leftover_refused as leftover_refused2}
+use Rattle.luks2_edits.proofs.TornFacts.{leftover_outcome}
+use Rattle.luks2_edits.proofs.TouchedFacts.{leftover_rest as leftover_rest2}
 use Rattle.luks_volume.proofs.CountFacts.{the_failure}
 use Rattle.luks_volume.proofs.VersionFacts.{fault_by}
 
@@ -77,97 +76,72 @@ opens_by2 v (Label text) w o copies chosen x = tt
 
 -- a completed edit
 
-module _
-    (opens1 : (payload : Data) (e : Edit) (v random w : List ℕ) → Chosen v luks1 → WellFormed v payload → IsUnrefused1 v payload e random
-    → After1 v e random w → OpensAfter1 v e w)
-    (opens2 : (payload : Data) (e : Edit) (v random w : List ℕ) → WellFormed v payload → HasRanges v e random → IsUnrefused2 v payload e random
-    → After2 v payload e random w → OpensAfter2 v e w)
-  where
-    opens_as : (payload : Data) (e : Edit) (v random w : List ℕ) (c : Choice) → Chosen v c → WellFormed v payload → HasRanges v e random
-        → IsUnrefused v payload e random → AfterAs v payload e random c w → OpensMade v e w
-    opens_as payload e v random w luks1 chosen well ranges fine after =
-        opens_by1 v e w chosen (opens1 payload e v random w chosen well (unrefused1 v payload e random chosen fine) after)
-    opens_as payload e v random w (luks2 o copies) chosen well ranges fine after =
-        opens_by2 v e w o copies chosen (opens2 payload e v random w well ranges (unrefused2 v payload e random o copies chosen fine) after)
-    opens_as payload e v random w nothing chosen well ranges fine after = absurd after
+opens_as : (payload : Data) (e : Edit) (v random w : List ℕ) (c : Choice) → Chosen v c → WellFormed v payload → HasRanges v e random
+    → IsUnrefused v payload e random → AfterAs v payload e random c w → OpensMade v e w
+opens_as payload e v random w luks1 chosen well ranges fine after =
+    opens_by1 v e w chosen (opens_after1 payload v chosen well e random w (unrefused1 v payload e random chosen fine) after)
+opens_as payload e v random w (luks2 o copies) chosen well ranges fine after =
+    opens_by2 v e w o copies chosen (opens_after2 v payload random w well e ranges (unrefused2 v payload e random o copies chosen fine) after)
+opens_as payload e v random w nothing chosen well ranges fine after = absurd after
 
-    pub edit_opens : (payload : Data) (v w : List ℕ) (e : Edit) (random : List ℕ) (r : Reply) → WellFormed v payload
-        → Replies payload v e random r w → OnOk r (OpensMade v e w)
-    edit_opens payload v w e random (Ok done) well is = opens_as payload e v random w is.3.choice is.3.chosen well is.0 is.1 is.3.after
-    edit_opens payload v w e random (Err f) well is = tt
+pub edit_opens : (payload : Data) (v w : List ℕ) (e : Edit) (random : List ℕ) (r : Reply) → WellFormed v payload
+    → Replies payload v e random r w → OnOk r (OpensMade v e w)
+edit_opens payload v w e random (Ok done) well is = opens_as payload e v random w is.3.choice is.3.chosen well is.0 is.1 is.3.after
+edit_opens payload v w e random (Err f) well is = tt
 
-module _
-    (wiped2 : (payload : Data) (e : Edit) (v random w : List ℕ) (n : ℕ) (a : Area) → WellFormed v payload → After2 v payload e random w → Loses e n
-    → AreaOf v payload (Slot n) a → part w a.start a.len ≡ replicate a.len 0)
-  where
-    wipes_as : (payload : Data) (e : Edit) (v random w : List ℕ) (c : Choice) → Chosen v c → WellFormed v payload → AfterAs v payload e random c w → WipesLost v payload e w
-    wipes_as payload e v random w luks1 chosen well after = record { zeros = λ n a lost is. removed_area payload v chosen well e random w n a after (removes e n lost) is }
-    wipes_as payload e v random w (luks2 o copies) chosen well after = record { zeros = λ n a lost is. wiped2 payload e v random w n a well after lost is }
-    wipes_as payload e v random w nothing chosen well after = absurd after
+wipes_as : (payload : Data) (e : Edit) (v random w : List ℕ) (c : Choice) → Chosen v c → WellFormed v payload → AfterAs v payload e random c w → WipesLost v payload e w
+wipes_as payload e v random w luks1 chosen well after = record { zeros = λ n a lost is. removed_area payload v chosen well e random w n a after (removes e n lost) is }
+wipes_as payload e v random w (luks2 o copies) chosen well after = record { zeros = λ n a lost is. lost_zeros v payload e random w n a well after lost is }
+wipes_as payload e v random w nothing chosen well after = absurd after
 
-    pub edit_wipes : (payload : Data) (v w : List ℕ) (e : Edit) (random : List ℕ) (r : Reply) → WellFormed v payload
-        → Replies payload v e random r w → OnOk r (WipesLost v payload e w)
-    edit_wipes payload v w e random (Ok done) well is = wipes_as payload e v random w is.3.choice is.3.chosen well is.3.after
-    edit_wipes payload v w e random (Err f) well is = tt
+pub edit_wipes : (payload : Data) (v w : List ℕ) (e : Edit) (random : List ℕ) (r : Reply) → WellFormed v payload
+    → Replies payload v e random r w → OnOk r (WipesLost v payload e w)
+edit_wipes payload v w e random (Ok done) well is = wipes_as payload e v random w is.3.choice is.3.chosen well is.3.after
+edit_wipes payload v w e random (Err f) well is = tt
 
 -- an edit that a fault refuses
 
-module _
-    (refused2 : (payload : Data) (e : Edit) (v random w : List ℕ) (f : EditFault) → IsEditFault2 v payload e random f → Leftover2 v payload e random w → w ≡ v)
-  where
-    left_refused : (payload : Data) (e : Edit) (v random w : List ℕ) (f : EditFault) (c : Choice) → Chosen v c → IsEditFault v payload e random f
-        → LeftoverAs v payload e random c w → w ≡ v
-    left_refused payload e v random w f luks1 chosen is left = leftover_refused v payload e random w f (fault_by v payload e luks1 chosen random f is) left
-    left_refused payload e v random w f (luks2 o copies) chosen is left =
-        refused2 payload e v random w f (fault_by v payload e (luks2 o copies) chosen random f is) left
-    left_refused payload e v random w f nothing chosen is left = left
+left_refused : (payload : Data) (e : Edit) (v random w : List ℕ) (f : EditFault) (c : Choice) → Chosen v c → IsEditFault v payload e random f
+    → LeftoverAs v payload e random c w → w ≡ v
+left_refused payload e v random w f luks1 chosen is left = leftover_refused1 v payload e random w f (fault_by v payload e luks1 chosen random f is) left
+left_refused payload e v random w f (luks2 o copies) chosen is left =
+    leftover_refused2 v payload e random w f (fault_by v payload e (luks2 o copies) chosen random f is) left
+left_refused payload e v random w f nothing chosen is left = left
 
-    -- it changes nothing, whatever is replied
-    pub edit_refused : (payload : Data) (v w : List ℕ) (e : Edit) (random : List ℕ) (r : Reply) → Replies payload v e random r w
-        → (f : EditFault) → IsEditFault v payload e random f → w ≡ v
-    edit_refused payload v w e random (Ok done) is f bad = absurd (is.1.none f bad)
-    edit_refused payload v w e random (Err fault.Device) is f bad = left_refused payload e v random w f is.choice is.chosen bad is.left
-    edit_refused payload v w e random (Err g) is f bad = is.1
+-- it changes nothing, whatever is replied
+pub edit_refused : (payload : Data) (v w : List ℕ) (e : Edit) (random : List ℕ) (r : Reply) → Replies payload v e random r w
+    → (f : EditFault) → IsEditFault v payload e random f → w ≡ v
+edit_refused payload v w e random (Ok done) is f bad = absurd (is.1.none f bad)
+edit_refused payload v w e random (Err fault.Device) is f bad = left_refused payload e v random w f is.choice is.chosen bad is.left
+edit_refused payload v w e random (Err g) is f bad = is.1
 
 -- an edit in which a device call failed
 
 well_chosen : (v : List ℕ) (payload : Data) → WellFormed v payload → Chosen v nothing → ⊥
 well_chosen v payload well none = subst (λ c. WellFormedAs v payload c) (choices_agree v well.choice nothing well.chosen none) well.formed
 
-module _
-    (opens1 : (payload : Data) (e : Edit) (v random w : List ℕ) → Chosen v luks1 → WellFormed v payload → Leftover1 v payload e random w → OpensEither1 v e w)
-    (rest2 : (payload : Data) (e : Edit) (v random w : List ℕ) → Leftover2 v payload e random w → SameBut (IsTouchedIn v payload e) v w)
-    (keeps2 : (payload : Data) (e : Edit) (v random w : List ℕ) → WellFormed v payload → HasRanges v e random → Leftover2 v payload e random w
-    → IsNotStray v payload e random w → Keeps payload (NamedKeyslots2 v e) v w)
-    (whole2 : (payload : Data) (e : Edit) (v random w : List ℕ) → WellFormed v payload → HasRanges v e random → Leftover2 v payload e random w
-    → IsNotStray v payload e random w → CountsAsBefore v w ⊎ CountsAsAfter v payload e random w)
-    (opens2 : (payload : Data) (e : Edit) (v random w : List ℕ) → WellFormed v payload → HasRanges v e random → Leftover2 v payload e random w
-    → IsNotStray v payload e random w → OpensEither2 v e w)
-  where
-    spares_as : (payload : Data) (e : Edit) (v random w : List ℕ) (c : Choice) → Chosen v c → WellFormed v payload → HasRanges v e random
-        → LeftoverAs v payload e random c w → SparesAs v payload e random c w
-    spares_as payload e v random w luks1 chosen well ranges left = record {
-      rest = leftover_rest payload v chosen well e random w left;
-      keeps = leftover_keeps payload v chosen well e random w left;
-      opens_either = opens1 payload e v random w chosen well left;
-    }
-    spares_as payload e v random w (luks2 o copies) chosen well ranges left = record {
-      rest = rest2 payload e v random w left;
-      whole = λ stray. record {
-        keeps = keeps2 payload e v random w well ranges left stray;
-        counts = whole2 payload e v random w well ranges left stray;
-        opens_either = opens2 payload e v random w well ranges left stray;
-      };
-    }
-    spares_as payload e v random w nothing chosen well ranges left = well_chosen v payload well chosen
+spares_as : (payload : Data) (e : Edit) (v random w : List ℕ) (c : Choice) → Chosen v c → WellFormed v payload → HasRanges v e random
+    → LeftoverAs v payload e random c w → SparesAs v payload e random c w
+spares_as payload e v random w luks1 chosen well ranges left = record {
+  rest = leftover_rest1 payload v chosen well e random w left;
+  keeps = leftover_keeps payload v chosen well e random w left;
+  opens_either = leftover_opens payload v chosen well e random w left;
+}
+spares_as payload e v random w (luks2 o copies) chosen well ranges left = record {
+  rest = leftover_rest2 v payload e random w left;
+  whole = λ stray.
+      let x = leftover_outcome v payload e random w well ranges left stray in
+      record { keeps = x.keeps; counts = x.whole; opens_either = x.opens_either };
+}
+spares_as payload e v random w nothing chosen well ranges left = well_chosen v payload well chosen
 
-    pub edit_spares : (payload : Data) (v w : List ℕ) (e : Edit) (random : List ℕ) (r : Reply) → WellFormed v payload → HasRanges v e random
-        → Replies payload v e random r w → IsFailure r → ((f : EditFault) → IsEditFault v payload e random f → w ≡ v) → Spares v payload e random w
-    edit_spares payload v w e random r well ranges is failed refused =
-        let left : Leftover v payload e random w = subst (λ q. Replies payload v e random q w) (the_failure r failed) is in
-        record {
-          choice = left.choice;
-          chosen = left.chosen;
-          refused = refused;
-          spared = spares_as payload e v random w left.choice left.chosen well ranges left.left;
-        }
+pub edit_spares : (payload : Data) (v w : List ℕ) (e : Edit) (random : List ℕ) (r : Reply) → WellFormed v payload → HasRanges v e random
+    → IsFailure r → Replies payload v e random r w → Spares v payload e random w
+edit_spares payload v w e random r well ranges failed is =
+    let left : Leftover v payload e random w = subst (λ q. Replies payload v e random q w) (the_failure r failed) is in
+    record {
+      choice = left.choice;
+      chosen = left.chosen;
+      refused = edit_refused payload v w e random r is;
+      spared = spares_as payload e v random w left.choice left.chosen well ranges left.left;
+    }

@@ -3,12 +3,12 @@ use Rattle.std.proofs.Common.{◌≡◌, ℕ, ◌+◌, ◌<◌, ◌≤◌, List,
 use Rattle.std.proofs.lemmas.List.{drop_more}
 use Rattle.std.proofs.Math.ListN.{drop_of_length-le}
 use Rattle.luks_edit.specs.declared.edit.Step.{Step}
-use Rattle.luks_edit.specs.Kept.{Keeps}
-use Rattle.luks_edit.specs.Ran.{AreRun, HasNoFailure, IsFailure, IsNamedIn, Ran, Reply, Replying}
+use Rattle.luks_edit.specs.Ran.{AreRun, IsFailure, Ran, Reply, Replying}
 use Rattle.luks_reading.specs.declared.report.Data.{Data}
 use Rattle.luks_reading.specs.Checked.{WellFormed}
-use Rattle.luks_volume.specs.Edits.{NamedSlots, Replies}
+use Rattle.luks_volume.specs.Edits.{Replies}
 use Rattle.luks_volume.specs.Running.{IsKeptByRun, IsUnderWay}
+use Rattle.luks_volume.proofs.EditFacts.{edits_keep}
 
 module _ (R : Replying) where
   -- nothing was run yet
@@ -59,14 +59,12 @@ module _ (R : Replying) where
       }
 
 -- what a list that was run keeps
-pub kept_by_run : ((payload : Data) (steps : List Step) (replies : List Reply) (volumes : List (List ℕ)) (v w : List ℕ) → WellFormed v payload
-    → AreRun (Replies payload) v steps replies volumes w → HasNoFailure replies → Keeps payload (IsNamedIn NamedSlots v steps replies volumes) v w)
-    → (payload : Data) (v : List ℕ) (steps : List Step) (before after : List Reply) (w : List ℕ) → WellFormed v payload
+pub kept_by_run : (payload : Data) (v : List ℕ) (steps : List Step) (before after : List Reply) (w : List ℕ) → WellFormed v payload
     → Ran (Replies payload) v steps before after w → IsKeptByRun payload v steps before after w
-kept_by_run keeps payload v steps before after w well x = record {
+kept_by_run payload v steps before after w well x = record {
   replies = x.replies;
   volumes = x.volumes;
   appended = x.appended;
   run = x.run;
-  keeps = λ fine. keeps payload steps x.replies x.volumes v w well x.run fine;
+  keeps = λ fine. edits_keep payload steps x.replies x.volumes v w well x.run fine;
 }

@@ -16,6 +16,7 @@ use Rattle.luks_volume.specs.Edits.{NamedSlots, Replies}
 use Rattle.luks_volume.specs.Outcome.{IsUnstray, Spares, SparesAs}
 use Rattle.luks_volume.specs.Running.{IsSparedByRun}
 use Rattle.luks_volume.proofs.CountFacts.{none_then, the_failure}
+use Rattle.luks_volume.proofs.EditFacts.{edits_keep}
 use Rattle.luks_volume.proofs.RanFacts.{area_then, slot_then}
 
 -- ---- the steps that were run
@@ -85,15 +86,13 @@ others_then payload first second v u w x y = record {
   slots = λ n not. slot_then payload n v u w (x.slots n (λ is. not (inl is))) (y.slots n (λ is. not (inr is)));
 }
 
-pub spared_by_run : ((payload : Data) (steps : List Step) (replies : List Reply) (volumes : List (List ℕ)) (v w : List ℕ) → WellFormed v payload
-    → AreRun (Replies payload) v steps replies volumes w → HasNoFailure replies → Keeps payload (IsNamedIn NamedSlots v steps replies volumes) v w)
-    → (payload : Data) (v u w : List ℕ) (steps : List Step) (k : ℕ) (before now : List Reply) (d : Step) (r : Reply) → k < length steps → WellFormed v payload
+pub spared_by_run : (payload : Data) (v u w : List ℕ) (steps : List Step) (k : ℕ) (before now : List Reply) (d : Step) (r : Reply) → k < length steps → WellFormed v payload
     → IsFailure r → (WellFormed u payload → Spares u payload (get_or steps k d).edit (get_or steps k d).random.now w)
     → AreRunSoFar (Replies payload) v u steps k before now → IsSparedByRun payload v steps before (now ++ r ∷ []) w
-spared_by_run keeps payload v u w steps k before now d r lt well failed spared x =
+spared_by_run payload v u w steps k before now d r lt well failed spared x =
     let step : Step = get_or steps k d in
     let kept : Keeps payload (IsNamedIn NamedSlots v (take k steps) x.replies x.volumes) v u =
-    keeps payload (take k steps) x.replies x.volumes v u well x.run x.fine in
+    edits_keep payload (take k steps) x.replies x.volumes v u well x.run x.fine in
     let spares : Spares u payload step.edit step.random.now w = spared kept.well in
     record {
       firsts = take k steps;

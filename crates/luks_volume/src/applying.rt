@@ -14,9 +14,8 @@ ghost use Rattle.luks_volume.specs.Outcome.{OpensMade, Spares, WipesLost};
 use crate::header::edited_header;
 use luks_edit::{Done, Edit, EditFault};
 use luks_reading::{Data, Device, Header};
-use luks1_edits::{apply_luks1, luks1_edit_opens, luks1_failing_edit};
+use luks1_edits::apply_luks1;
 use luks2_editing::apply_luks2;
-use luks2_edits::{luks2_edit_keeps_volume, luks2_edit_opens, luks2_failing_edit};
 use std::alloc::Global;
 
 /// Applies the edit to the volume, with as many random bytes as `needed` tells.
@@ -63,11 +62,6 @@ pub fn apply<D: Device>(
     ensures spared { D.tells → WellFormed (D.bytes device.old) data_ → IsFailure result
         → Spares (D.bytes device.old) data_ edit.now random.now (D.bytes device.new) }
 {
-    luks1_edit_opens();
-    luks1_failing_edit();
-    luks2_edit_keeps_volume();
-    luks2_edit_opens();
-    luks2_failing_edit();
     iterations_have_32_bits(edit);
     let header = edited_header(alloc, device)?;
     match header {

@@ -9,7 +9,7 @@ ghost use Rattle.luks_volume.specs.Needed.{IsUntold};
 ghost use Rattle.luks_volume.specs.Unread.{IsHeaderRefused, unread_edit};
 
 use luks_edit::EditFault;
-use luks_reading::{CheckFault, Device, Header, ReadFault, read_header, unread_volume_is_refused};
+use luks_reading::{CheckFault, Device, Header, ReadFault, read_header};
 use std::alloc::Global;
 
 /// The header that counts of a volume that is to be edited, or why no edit of it is begun.
@@ -28,7 +28,6 @@ pub fn edited_header<D: Device>(alloc: Global, device: &mut D) -> Result<Header,
     ensures untold { D.tells → (payload : Payload) (edit : TheEdit)
         → IfErr result (IsUntold (D.bytes device.old) payload edit) }
 {
-    unread_volume_is_refused();
     match read_header(alloc, device) {
         Ok(header) => Ok(header),
         Err(fault) => Err(unread(fault)),

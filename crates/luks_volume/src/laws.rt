@@ -1,5 +1,4 @@
-//! Laws on the definitions of this crate. Each function only calls those whose laws it follows
-//! from; its contract is the law.
+//! Laws on the definitions of this crate. Each function does nothing; its contract is the law.
 ghost use Rattle.std.specs.Prelude.{◌≡◌, ◌+◌, ◌<◌, ◌≤◌, ◌++◌, ◌∷◌, [], ℕ, List, get_or, length};
 ghost use Rattle.luks_edit.specs.declared.edit.Edit.{Edit as TheEdit};
 ghost use Rattle.luks_edit.specs.declared.edit.Step.{Step as TheStep};
@@ -10,8 +9,6 @@ ghost use Rattle.luks_reading.specs.declared.report.Data.{Data as Payload};
 ghost use Rattle.luks_volume.specs.Edits.{NamedSlots, Replies};
 ghost use Rattle.luks_volume.specs.Running.{IsUnderWay};
 
-use luks2_edits::luks2_edit_keeps_volume;
-
 /// After any list of edits of a well formed volume in which the device didn't fail, the volume is
 /// well formed; its length and its segments' bytes are as before, and so are the answers, the entry
 /// or value and the area of each keyslot that no completed edit named.
@@ -20,9 +17,7 @@ pub fn edits_keep_volume()
         (volumes : List (List ℕ)) (v w : List ℕ) → WellFormed v payload
         → AreRun (Replies payload) v steps replies volumes w → HasNoFailure replies
         → Keeps payload (IsNamedIn NamedSlots v steps replies volumes) v w }
-{
-    luks2_edit_keeps_volume();
-}
+{}
 
 /// A list of edits is run step by step: a step that the device doesn't fail in is followed by the
 /// next one, and the list ends with the last step or with the first failure.

@@ -9,7 +9,6 @@ ghost use Rattle.luks_volume.specs.Edits.{Replies};
 ghost use Rattle.luks_volume.specs.Running.{CountsRun, IsKeptByRun, IsSparedByRun};
 
 use crate::applying::apply;
-use crate::laws::edits_keep_volume;
 use luks_edit::{Done, EditFault, RunFault, Step};
 use luks_reading::{Data, Device};
 use std::alloc::Global;
@@ -57,7 +56,6 @@ pub fn run<D: Device>(
         (IsSparedByRun data_ (D.bytes device.old) steps.now
         replies.old.items replies.new.items (D.bytes device.new)) }
 {
-    edits_keep_volume();
     let Ok(()) = replies.try_reserve(steps.len()) else {
         return Err(RunFault::Memory);
     };

@@ -1,7 +1,6 @@
 -- A header that isn't read refuses the edit; what its version replies is the volume's reply.
-use Rattle.std.proofs.Common.{◌<◌, ◌^◌, length, arith}
 use Rattle.std.proofs.lemmas.Result.{err_from_is_err_and}
-use Rattle.luks2_edits.specs.Edited.{HasRanges}
+use Rattle.luks2_edits.proofs.AfterFacts.{has_ranges}
 use Rattle.luks_volume.proofs.EditFacts.{edit_keeps}
 use Rattle.luks_volume.proofs.NeedFacts.{unread_without_memory}
 use Rattle.luks_volume.proofs.OutcomeFacts.{edit_opens, edit_refused, edit_spares, edit_wipes}
@@ -29,16 +28,14 @@ returns-in-Luks1-clause-replies g c = λ tells.
     let w = g.D.Device.bytes c.apply_luks1.new.device in
     let same = c.in_ok-header.ensures.unchanged.same tells in
     let is = rw c.in-Luks1.is at (c.in_ok-header.ensures.read tells) in
-    let size : length v < 2 ^ 64 = omega (arith, g.met.D.Device.sized c.args.device.now tells, g.met.D.Device.bounded c.args.device.now) in
-    let ranges : HasRanges v c.args.edit.now c.args.random.now =
-    record { size = size; iterations = c.iterations_have_32_bits.ensures; random_bytes = λ k. (c.type_inv.random k).fits } in
+    let ranges = has_ranges v c.args.edit.now c.args.random.now (g.met.D.Device.sized c.args.device.now tells) (g.met.D.Device.bounded c.args.device.now)
+    c.iterations_have_32_bits.ensures (λ k. (c.type_inv.random k).fits) in
     replies_by1 v c.args.data_ c.args.edit.now c.args.random.now w is.0 ranges c.apply_luks1.result
     (rw same at (c.apply_luks1.ensures.replies tells (rw same is)))
 
 pub returns-in-Luks1-clause-keeps : goal.returns-in-Luks1-clause-keeps
 returns-in-Luks1-clause-keeps g c = λ tells well fine.
-    edit_keeps c.luks2_edit_keeps_volume.ensures.keeps c.args.data_
-    (g.D.Device.bytes c.args.device.now) (g.D.Device.bytes c.apply_luks1.new.device) c.args.edit.now c.args.random.now c.apply_luks1.result
+    edit_keeps c.args.data_ (g.D.Device.bytes c.args.device.now) (g.D.Device.bytes c.apply_luks1.new.device) c.args.edit.now c.args.random.now c.apply_luks1.result
     well (returns-in-Luks1-clause-replies g c tells) fine
 
 pub returns-in-Luks2-clause-replies : goal.returns-in-Luks2-clause-replies
@@ -48,9 +45,8 @@ returns-in-Luks2-clause-replies g c = λ tells.
     let same = c.in_ok-header.ensures.unchanged.same tells in
     let read = c.in_ok-header.ensures.read tells in
     let copy = rw c.in-Luks2.is at read in
-    let size : length v < 2 ^ 64 = omega (arith, g.met.D.Device.sized c.args.device.now tells, g.met.D.Device.bounded c.args.device.now) in
-    let ranges : HasRanges v c.args.edit.now c.args.random.now =
-    record { size = size; iterations = c.iterations_have_32_bits.ensures; random_bytes = λ k. (c.type_inv.random k).fits } in
+    let ranges = has_ranges v c.args.edit.now c.args.random.now (g.met.D.Device.sized c.args.device.now tells) (g.met.D.Device.bounded c.args.device.now)
+    c.iterations_have_32_bits.ensures (λ k. (c.type_inv.random k).fits) in
     replies_by2 v c.args.data_ c.args.edit.now c.args.random.now w
     c.in-Luks2.field-0.header.hdr_offset c.in-Luks2.field-0.copies copy.chosen
     (needs_of v c.in-Luks2.field-0 copy) ranges c.apply_luks2.result
@@ -64,84 +60,65 @@ returns-in-Luks2-clause-memory g c = λ tells free.
 
 pub returns-in-Luks2-clause-keeps : goal.returns-in-Luks2-clause-keeps
 returns-in-Luks2-clause-keeps g c = λ tells well fine.
-    edit_keeps c.luks2_edit_keeps_volume.ensures.keeps c.args.data_
-    (g.D.Device.bytes c.args.device.now) (g.D.Device.bytes c.apply_luks2.new.device) c.args.edit.now c.args.random.now c.apply_luks2.result
+    edit_keeps c.args.data_ (g.D.Device.bytes c.args.device.now) (g.D.Device.bytes c.apply_luks2.new.device) c.args.edit.now c.args.random.now c.apply_luks2.result
     well (returns-in-Luks2-clause-replies g c tells) fine
 
 pub returns-in_err-header-clause-opens : goal.returns-in_err-header-clause-opens
 returns-in_err-header-clause-opens g c = λ tells well.
-    edit_opens c.luks1_edit_opens.ensures c.luks2_edit_opens.ensures c.args.data_
-    (g.D.Device.bytes c.args.device.now) (g.D.Device.bytes c.edited_header.new.device) c.args.edit.now c.args.random.now c.from_residual.result well (returns-in_err-header-clause-replies g c tells)
+    edit_opens c.args.data_ (g.D.Device.bytes c.args.device.now) (g.D.Device.bytes c.edited_header.new.device) c.args.edit.now c.args.random.now c.from_residual.result well (returns-in_err-header-clause-replies g c tells)
 
 pub returns-in_err-header-clause-wiped : goal.returns-in_err-header-clause-wiped
 returns-in_err-header-clause-wiped g c = λ tells well.
-    edit_wipes c.luks2_edit_keeps_volume.ensures.lost c.args.data_
-    (g.D.Device.bytes c.args.device.now) (g.D.Device.bytes c.edited_header.new.device) c.args.edit.now c.args.random.now c.from_residual.result well (returns-in_err-header-clause-replies g c tells)
+    edit_wipes c.args.data_ (g.D.Device.bytes c.args.device.now) (g.D.Device.bytes c.edited_header.new.device) c.args.edit.now c.args.random.now c.from_residual.result well (returns-in_err-header-clause-replies g c tells)
 
 pub returns-in_err-header-clause-refused : goal.returns-in_err-header-clause-refused
 returns-in_err-header-clause-refused g c = λ tells.
-    edit_refused c.luks2_failing_edit.ensures.refused c.args.data_
-    (g.D.Device.bytes c.args.device.now) (g.D.Device.bytes c.edited_header.new.device) c.args.edit.now c.args.random.now c.from_residual.result (returns-in_err-header-clause-replies g c tells)
+    edit_refused c.args.data_ (g.D.Device.bytes c.args.device.now) (g.D.Device.bytes c.edited_header.new.device) c.args.edit.now c.args.random.now c.from_residual.result (returns-in_err-header-clause-replies g c tells)
 
 pub returns-in_err-header-clause-spared : goal.returns-in_err-header-clause-spared
 returns-in_err-header-clause-spared g c = λ tells well failed.
     let v = g.D.Device.bytes c.args.device.now in
-    let size : length v < 2 ^ 64 = omega (arith, g.met.D.Device.sized c.args.device.now tells, g.met.D.Device.bounded c.args.device.now) in
-    let ranges : HasRanges v c.args.edit.now c.args.random.now =
-    record { size = size; iterations = c.iterations_have_32_bits.ensures; random_bytes = λ k. (c.type_inv.random k).fits } in
-    edit_spares c.luks1_failing_edit.ensures.opens
-    c.luks2_failing_edit.ensures.rest c.luks2_failing_edit.ensures.keeps c.luks2_failing_edit.ensures.whole c.luks2_failing_edit.ensures.opens c.args.data_
-    (g.D.Device.bytes c.args.device.now) (g.D.Device.bytes c.edited_header.new.device) c.args.edit.now c.args.random.now c.from_residual.result
-    well ranges (returns-in_err-header-clause-replies g c tells) failed (returns-in_err-header-clause-refused g c tells)
+    let ranges = has_ranges v c.args.edit.now c.args.random.now (g.met.D.Device.sized c.args.device.now tells) (g.met.D.Device.bounded c.args.device.now)
+    c.iterations_have_32_bits.ensures (λ k. (c.type_inv.random k).fits) in
+    edit_spares c.args.data_ (g.D.Device.bytes c.args.device.now) (g.D.Device.bytes c.edited_header.new.device) c.args.edit.now c.args.random.now c.from_residual.result
+    well ranges failed (returns-in_err-header-clause-replies g c tells)
 
 pub returns-in-Luks1-clause-opens : goal.returns-in-Luks1-clause-opens
 returns-in-Luks1-clause-opens g c = λ tells well.
-    edit_opens c.luks1_edit_opens.ensures c.luks2_edit_opens.ensures c.args.data_
-    (g.D.Device.bytes c.args.device.now) (g.D.Device.bytes c.apply_luks1.new.device) c.args.edit.now c.args.random.now c.apply_luks1.result well (returns-in-Luks1-clause-replies g c tells)
+    edit_opens c.args.data_ (g.D.Device.bytes c.args.device.now) (g.D.Device.bytes c.apply_luks1.new.device) c.args.edit.now c.args.random.now c.apply_luks1.result well (returns-in-Luks1-clause-replies g c tells)
 
 pub returns-in-Luks1-clause-wiped : goal.returns-in-Luks1-clause-wiped
 returns-in-Luks1-clause-wiped g c = λ tells well.
-    edit_wipes c.luks2_edit_keeps_volume.ensures.lost c.args.data_
-    (g.D.Device.bytes c.args.device.now) (g.D.Device.bytes c.apply_luks1.new.device) c.args.edit.now c.args.random.now c.apply_luks1.result well (returns-in-Luks1-clause-replies g c tells)
+    edit_wipes c.args.data_ (g.D.Device.bytes c.args.device.now) (g.D.Device.bytes c.apply_luks1.new.device) c.args.edit.now c.args.random.now c.apply_luks1.result well (returns-in-Luks1-clause-replies g c tells)
 
 pub returns-in-Luks1-clause-refused : goal.returns-in-Luks1-clause-refused
 returns-in-Luks1-clause-refused g c = λ tells.
-    edit_refused c.luks2_failing_edit.ensures.refused c.args.data_
-    (g.D.Device.bytes c.args.device.now) (g.D.Device.bytes c.apply_luks1.new.device) c.args.edit.now c.args.random.now c.apply_luks1.result (returns-in-Luks1-clause-replies g c tells)
+    edit_refused c.args.data_ (g.D.Device.bytes c.args.device.now) (g.D.Device.bytes c.apply_luks1.new.device) c.args.edit.now c.args.random.now c.apply_luks1.result (returns-in-Luks1-clause-replies g c tells)
 
 pub returns-in-Luks1-clause-spared : goal.returns-in-Luks1-clause-spared
 returns-in-Luks1-clause-spared g c = λ tells well failed.
     let v = g.D.Device.bytes c.args.device.now in
-    let size : length v < 2 ^ 64 = omega (arith, g.met.D.Device.sized c.args.device.now tells, g.met.D.Device.bounded c.args.device.now) in
-    let ranges : HasRanges v c.args.edit.now c.args.random.now =
-    record { size = size; iterations = c.iterations_have_32_bits.ensures; random_bytes = λ k. (c.type_inv.random k).fits } in
-    edit_spares c.luks1_failing_edit.ensures.opens
-    c.luks2_failing_edit.ensures.rest c.luks2_failing_edit.ensures.keeps c.luks2_failing_edit.ensures.whole c.luks2_failing_edit.ensures.opens c.args.data_
-    (g.D.Device.bytes c.args.device.now) (g.D.Device.bytes c.apply_luks1.new.device) c.args.edit.now c.args.random.now c.apply_luks1.result
-    well ranges (returns-in-Luks1-clause-replies g c tells) failed (returns-in-Luks1-clause-refused g c tells)
+    let ranges = has_ranges v c.args.edit.now c.args.random.now (g.met.D.Device.sized c.args.device.now tells) (g.met.D.Device.bounded c.args.device.now)
+    c.iterations_have_32_bits.ensures (λ k. (c.type_inv.random k).fits) in
+    edit_spares c.args.data_ (g.D.Device.bytes c.args.device.now) (g.D.Device.bytes c.apply_luks1.new.device) c.args.edit.now c.args.random.now c.apply_luks1.result
+    well ranges failed (returns-in-Luks1-clause-replies g c tells)
 
 pub returns-in-Luks2-clause-opens : goal.returns-in-Luks2-clause-opens
 returns-in-Luks2-clause-opens g c = λ tells well.
-    edit_opens c.luks1_edit_opens.ensures c.luks2_edit_opens.ensures c.args.data_
-    (g.D.Device.bytes c.args.device.now) (g.D.Device.bytes c.apply_luks2.new.device) c.args.edit.now c.args.random.now c.apply_luks2.result well (returns-in-Luks2-clause-replies g c tells)
+    edit_opens c.args.data_ (g.D.Device.bytes c.args.device.now) (g.D.Device.bytes c.apply_luks2.new.device) c.args.edit.now c.args.random.now c.apply_luks2.result well (returns-in-Luks2-clause-replies g c tells)
 
 pub returns-in-Luks2-clause-wiped : goal.returns-in-Luks2-clause-wiped
 returns-in-Luks2-clause-wiped g c = λ tells well.
-    edit_wipes c.luks2_edit_keeps_volume.ensures.lost c.args.data_
-    (g.D.Device.bytes c.args.device.now) (g.D.Device.bytes c.apply_luks2.new.device) c.args.edit.now c.args.random.now c.apply_luks2.result well (returns-in-Luks2-clause-replies g c tells)
+    edit_wipes c.args.data_ (g.D.Device.bytes c.args.device.now) (g.D.Device.bytes c.apply_luks2.new.device) c.args.edit.now c.args.random.now c.apply_luks2.result well (returns-in-Luks2-clause-replies g c tells)
 
 pub returns-in-Luks2-clause-refused : goal.returns-in-Luks2-clause-refused
 returns-in-Luks2-clause-refused g c = λ tells.
-    edit_refused c.luks2_failing_edit.ensures.refused c.args.data_
-    (g.D.Device.bytes c.args.device.now) (g.D.Device.bytes c.apply_luks2.new.device) c.args.edit.now c.args.random.now c.apply_luks2.result (returns-in-Luks2-clause-replies g c tells)
+    edit_refused c.args.data_ (g.D.Device.bytes c.args.device.now) (g.D.Device.bytes c.apply_luks2.new.device) c.args.edit.now c.args.random.now c.apply_luks2.result (returns-in-Luks2-clause-replies g c tells)
 
 pub returns-in-Luks2-clause-spared : goal.returns-in-Luks2-clause-spared
 returns-in-Luks2-clause-spared g c = λ tells well failed.
     let v = g.D.Device.bytes c.args.device.now in
-    let size : length v < 2 ^ 64 = omega (arith, g.met.D.Device.sized c.args.device.now tells, g.met.D.Device.bounded c.args.device.now) in
-    let ranges : HasRanges v c.args.edit.now c.args.random.now =
-    record { size = size; iterations = c.iterations_have_32_bits.ensures; random_bytes = λ k. (c.type_inv.random k).fits } in
-    edit_spares c.luks1_failing_edit.ensures.opens
-    c.luks2_failing_edit.ensures.rest c.luks2_failing_edit.ensures.keeps c.luks2_failing_edit.ensures.whole c.luks2_failing_edit.ensures.opens c.args.data_
-    (g.D.Device.bytes c.args.device.now) (g.D.Device.bytes c.apply_luks2.new.device) c.args.edit.now c.args.random.now c.apply_luks2.result
-    well ranges (returns-in-Luks2-clause-replies g c tells) failed (returns-in-Luks2-clause-refused g c tells)
+    let ranges = has_ranges v c.args.edit.now c.args.random.now (g.met.D.Device.sized c.args.device.now tells) (g.met.D.Device.bounded c.args.device.now)
+    c.iterations_have_32_bits.ensures (λ k. (c.type_inv.random k).fits) in
+    edit_spares c.args.data_ (g.D.Device.bytes c.args.device.now) (g.D.Device.bytes c.apply_luks2.new.device) c.args.edit.now c.args.random.now c.apply_luks2.result
+    well ranges failed (returns-in-Luks2-clause-replies g c tells)

@@ -61,7 +61,7 @@ returns-then-is_failure-clause-ran g c = λ tells.
 
 pub returns-then-is_failure-clause-keeps : goal.returns-then-is_failure-clause-keeps
 returns-then-is_failure-clause-keeps g c = λ tells well.
-    kept_by_run c.edits_keep_volume.ensures c.args.data_ (g.D.Device.bytes c.args.device.now) c.args.steps.now c.args.replies.now.items
+    kept_by_run c.args.data_ (g.D.Device.bytes c.args.device.now) c.args.steps.now c.args.replies.now.items
     c.push_reserved.new.self.items (g.D.Device.bytes c.apply-reply.new.device) well (returns-then-is_failure-clause-ran g c tells)
 
 pub returns-then-is_failure-clause-spared : goal.returns-then-is_failure-clause-spared
@@ -69,7 +69,7 @@ returns-then-is_failure-clause-spared g c = λ tells well apart.
     let r = c.apply-reply.result in
     let failed : IsFailure r = c.if-is_failure.ensures.0 refl in
     rw c.push_reserved.ensures.items
-    (spared_by_run c.edits_keep_volume.ensures c.args.data_ (g.D.Device.bytes c.args.device.now) (g.D.Device.bytes c.loop-step.device)
+    (spared_by_run c.args.data_ (g.D.Device.bytes c.args.device.now) (g.D.Device.bytes c.loop-step.device)
     (g.D.Device.bytes c.apply-reply.new.device) c.args.steps.now c.loop-step.step-index c.args.replies.now.items c.loop-step.replies.items _ r c.loop-step-test.true
     well failed (λ met. c.apply-reply.ensures.spared tells met failed) (c.loop-step.invariant.so_far tells))
 
@@ -80,7 +80,7 @@ returns-clause-ran g c = λ tells.
 
 pub returns-clause-keeps : goal.returns-clause-keeps
 returns-clause-keeps g c = λ tells well.
-    kept_by_run c.edits_keep_volume.ensures c.args.data_ (g.D.Device.bytes c.args.device.now) c.args.steps.now c.args.replies.now.items
+    kept_by_run c.args.data_ (g.D.Device.bytes c.args.device.now) c.args.steps.now c.args.replies.now.items
     c.loop-step.replies.items (g.D.Device.bytes c.loop-step.device) well (returns-clause-ran g c tells)
 
 pub returns-clause-spared : goal.returns-clause-spared
