@@ -34,7 +34,7 @@ use Rattle.luks_making.specs.With.{with_name, with_slot}
 use Rattle.luks_making.proofs.MemberFacts.{array_map, beside, found_in, get_changed, get_kept, mapped, object_map, put_beside, put_here, put_more, some_same, still_object, tested_object, through}
 use Rattle.luks_making.proofs.NameFacts.{added_text, all_added, all_more, count_added, count_changed, has_added, named_changed, named_map, named_put, names_added, none_names, once_added, others_added, texts_differ}
 use Rattle.luks_making.proofs.NestingFacts.{Bounded, array_bounded, change_bounded, object_bounded, put_bounded}
-use Rattle.luks_making.proofs.ReadingFacts.{TextsSay, decimal_is, decimal_read, name_is, number_is, number_read, salt_read}
+use Rattle.luks_making.proofs.ReadingFacts.{decimal_is, decimal_read, name_is, number_is, number_read, salt_read}
 use Rattle.luks_making.proofs.RestFacts.{objects_same}
 use Rattle.luks_making.proofs.RowFacts.{NamesRow, RowRead, at_top, digest_array, digest_row, each_of, none_among, of_segments, of_slots, token_row}
 use Rattle.luks_making.proofs.WholeFacts.{KeepsWhole, neither, or_off, whole_added, whole_changed, whole_in_array, whole_in_object, whole_put}
@@ -42,8 +42,8 @@ use Rattle.luks_making.proofs.WholeFacts.{KeepsWhole, neither, or_off, whole_add
 -- ---- the new keyslot meets the rules
 
 -- by each derivation
-read_by : TextsSay → (s : SlotMembers) (d : Deriving) → FitsDerivation d → FitsSlot s → IsRead keyslot_rows (slot_value_by d s)
-read_by say s (by_pbkdf2 hash iterations) fits f =
+read_by : (s : SlotMembers) (d : Deriving) → FitsDerivation d → FitsSlot s → IsRead keyslot_rows (slot_value_by d s)
+read_by s (by_pbkdf2 hash iterations) fits f =
     record {
       is_object = refl;
       each = each_of (RowRead (slot_value_by (by_pbkdf2 hash iterations) s)) keyslot_rows (
@@ -61,9 +61,9 @@ read_by say s (by_pbkdf2 hash iterations) fits f =
                   (
                     (λ _. number_read 1 128 s.area_key_size f.area_key_size),
                     (
-                      (λ _. decimal_read say s.offset f.offset),
+                      (λ _. decimal_read s.offset f.offset),
                       (
-                        (λ _. decimal_read say s.size f.size),
+                        (λ _. decimal_read s.size f.size),
                         (
                           (λ _. refl),
                           (
@@ -77,7 +77,7 @@ read_by say s (by_pbkdf2 hash iterations) fits f =
                                   (
                                     (λ j. absurd (false≢true j)),
                                     (
-                                      (λ _. salt_read say s.salt f.salt),
+                                      (λ _. salt_read s.salt f.salt),
                                       (
                                         (λ j. absurd (false≢true j)),
                                         (
@@ -111,7 +111,7 @@ read_by say s (by_pbkdf2 hash iterations) fits f =
         ),
       );
     }
-read_by say s (by_argon2i costs) fits f =
+read_by s (by_argon2i costs) fits f =
     record {
       is_object = refl;
       each = each_of (RowRead (slot_value_by (by_argon2i costs) s)) keyslot_rows (
@@ -129,9 +129,9 @@ read_by say s (by_argon2i costs) fits f =
                   (
                     (λ _. number_read 1 128 s.area_key_size f.area_key_size),
                     (
-                      (λ _. decimal_read say s.offset f.offset),
+                      (λ _. decimal_read s.offset f.offset),
                       (
-                        (λ _. decimal_read say s.size f.size),
+                        (λ _. decimal_read s.size f.size),
                         (
                           (λ _. refl),
                           (
@@ -145,7 +145,7 @@ read_by say s (by_argon2i costs) fits f =
                                   (
                                     (λ _. number_read 1 4294967295 costs.memory fits.memory),
                                     (
-                                      (λ _. salt_read say s.salt f.salt),
+                                      (λ _. salt_read s.salt f.salt),
                                       (
                                         (λ _. number_read 1 4294967295 costs.time fits.time),
                                         (
@@ -179,7 +179,7 @@ read_by say s (by_argon2i costs) fits f =
         ),
       );
     }
-read_by say s (by_argon2id costs) fits f =
+read_by s (by_argon2id costs) fits f =
     record {
       is_object = refl;
       each = each_of (RowRead (slot_value_by (by_argon2id costs) s)) keyslot_rows (
@@ -197,9 +197,9 @@ read_by say s (by_argon2id costs) fits f =
                   (
                     (λ _. number_read 1 128 s.area_key_size f.area_key_size),
                     (
-                      (λ _. decimal_read say s.offset f.offset),
+                      (λ _. decimal_read s.offset f.offset),
                       (
-                        (λ _. decimal_read say s.size f.size),
+                        (λ _. decimal_read s.size f.size),
                         (
                           (λ _. refl),
                           (
@@ -213,7 +213,7 @@ read_by say s (by_argon2id costs) fits f =
                                   (
                                     (λ _. number_read 1 4294967295 costs.memory fits.memory),
                                     (
-                                      (λ _. salt_read say s.salt f.salt),
+                                      (λ _. salt_read s.salt f.salt),
                                       (
                                         (λ _. number_read 1 4294967295 costs.time fits.time),
                                         (
@@ -248,8 +248,8 @@ read_by say s (by_argon2id costs) fits f =
       );
     }
 
-pub slot_read : TextsSay → (s : SlotMembers) → FitsSlot s → IsRead keyslot_rows (slot_value s)
-slot_read say s f = read_by say s s.derivation f.derivation f
+pub slot_read : (s : SlotMembers) → FitsSlot s → IsRead keyslot_rows (slot_value s)
+slot_read s f = read_by s s.derivation f.derivation f
 
 -- ---- the digest with the name
 
@@ -470,11 +470,11 @@ kept_by n j k target list r h (of_segments e is) = kept_segments h is
 
 -- ---- the rules
 
-module _ (say : TextsSay) (len n m : ℕ) (s : SlotMembers) (j d0 : Data) (c : IsContent len j) (r : IsRoom len n m s j d0) where
+module _ (len n m : ℕ) (s : SlotMembers) (j d0 : Data) (c : IsContent len j) (r : IsRoom len n m s j d0) where
   sections_with : (k : Section) → is_section k (section_at (with_slot n m s j) k) ≡ true
   sections_with Config = rw (other_section n m s j (codes "config") refl) (c.sections Config)
   sections_with Digests = rw (digests_are n m s j) (named_map (change_member (number_text m) (with_name (number_text n))) (section_at j Digests) (named_changed (number_text m) (with_name (number_text n))) (c.sections Digests))
-  sections_with Keyslots = rw (slots_are n m s j) (named_map (put (number_text n) (slot_value s)) (section_at j Keyslots) (named_put (number_text n) (slot_value s) (name_is say n r.number.small)) (c.sections Keyslots))
+  sections_with Keyslots = rw (slots_are n m s j) (named_map (put (number_text n) (slot_value s)) (section_at j Keyslots) (named_put (number_text n) (slot_value s) (name_is n r.number.small)) (c.sections Keyslots))
   sections_with Segments = rw (other_section n m s j (codes "segments") refl) (c.sections Segments)
   sections_with Tokens = rw (other_section n m s j (codes "tokens") refl) (c.sections Tokens)
 
@@ -506,7 +506,7 @@ module _ (say : TextsSay) (len n m : ℕ) (s : SlotMembers) (j d0 : Data) (c : I
     | inr other ↦ c.objects Digests i d (digest_held i d other h)
   ]
   objects_with Keyslots i d h = elim (cases_eq i n) [
-    | inl same ↦ rw (slot_new i d same h) (slot_read say s r.fits)
+    | inl same ↦ rw (slot_new i d same h) (slot_read s r.fits)
     | inr other ↦ c.objects Keyslots i d (slot_held i d other h)
   ]
   objects_with Segments i d h = c.objects Segments i d (segment_held i d h)
@@ -601,7 +601,7 @@ module _ (say : TextsSay) (len n m : ℕ) (s : SlotMembers) (j d0 : Data) (c : I
         let is = slot_new i d same h in
         let x : s.key_size ≡ key = some_same s.key_size key (sym (number_is 1 128 s.key_size r.fits.key_size) ∙ (rw is at a)) in
         let y : s.stripes ≡ stripes = some_same s.stripes stripes (sym (number_is 1 4294967295 s.stripes r.fits.stripes) ∙ (rw is at b)) in
-        let v : s.size ≡ size = some_same s.size size (sym (decimal_is say s.size r.fits.size) ∙ (rw is at z)) in
+        let v : s.size ≡ size = some_same s.size size (sym (decimal_is s.size r.fits.size) ∙ (rw is at z)) in
         rw (← x, ← y, ← v) r.large)
     | inr other ↦ c.large i d key stripes size (slot_held i d other h) a b z
   ]
@@ -617,8 +617,8 @@ module _ (say : TextsSay) (len n m : ℕ) (s : SlotMembers) (j d0 : Data) (c : I
   within_with i d bytes start size h region o z = elim (cases_eq i n) [
     | inl same ↦ (
         let is = slot_new i d same h in
-        let x : s.offset ≡ start = some_same s.offset start (sym (decimal_is say s.offset r.fits.offset) ∙ (rw is at o)) in
-        let y : s.size ≡ size = some_same s.size size (sym (decimal_is say s.size r.fits.size) ∙ (rw is at z)) in
+        let x : s.offset ≡ start = some_same s.offset start (sym (decimal_is s.offset r.fits.offset) ∙ (rw is at o)) in
+        let y : s.size ≡ size = some_same s.size size (sym (decimal_is s.size r.fits.size) ∙ (rw is at z)) in
         rw (← x, ← y) (r.within bytes (sym same_region ∙ region)))
     | inr other ↦ c.within i d bytes start size (slot_held i d other h) (sym same_region ∙ region) o z
   ]
@@ -681,5 +681,5 @@ module _ (say : TextsSay) (len n m : ℕ) (s : SlotMembers) (j d0 : Data) (c : I
   }
 
 -- the value with the new keyslot meets every rule and may be read
-pub held_with : TextsSay → (len n m : ℕ) (s : SlotMembers) (j d : Data) → IsHeld len j → IsRoom len n m s j d → IsHeld len (with_slot n m s j)
-held_with say len n m s j d h r = record { nests = with_bounded n m s j h.nests; content = content_with say len n m s j d h.content r }
+pub held_with : (len n m : ℕ) (s : SlotMembers) (j d : Data) → IsHeld len j → IsRoom len n m s j d → IsHeld len (with_slot n m s j)
+held_with len n m s j d h r = record { nests = with_bounded n m s j h.nests; content = content_with len n m s j d h.content r }

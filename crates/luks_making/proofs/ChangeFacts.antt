@@ -35,7 +35,7 @@ use Rattle.luks_making.specs.Unchanged.{ChangesSlot, KeepsOthers, KeepsRest, Say
 use Rattle.luks_making.proofs.MemberFacts.{beside, get_changed, get_kept, map_is_some, some_same, still_object, through}
 use Rattle.luks_making.proofs.NameFacts.{all_more, named_changed, named_map, texts_differ}
 use Rattle.luks_making.proofs.NestingFacts.{NoDeeper, deep_changed, deep_in_object}
-use Rattle.luks_making.proofs.ReadingFacts.{TextsSay, below_32, bytes_are, decimal_is, decimal_read, number_is, number_read, salt_read}
+use Rattle.luks_making.proofs.ReadingFacts.{below_32, bytes_are, decimal_is, decimal_read, number_is, number_read, salt_read}
 use Rattle.luks_making.proofs.RestFacts.{objects_same}
 use Rattle.luks_making.proofs.RowFacts.{RowRead, each_of, none_among}
 use Rattle.luks_making.proofs.WholeFacts.{KeepsWhole, neither, or_off, whole_changed, whole_in_object}
@@ -186,8 +186,8 @@ module _ (f : NewMembers) (d : Data) (read : IsRead keyslot_rows d) where
   kdf_row i r here kdf a b = same_row i r here (rw kdf (kept_in_kdf f d (member_name r.name) a b))
 
   -- the keyslot meets the rules
-  renewed_read : TextsSay → FitsNew f → 1 ≤ f.iterations → Between 1 128 (length f.salt) → IsRead keyslot_rows (renewed_slot f d)
-  renewed_read say new one long =
+  renewed_read : FitsNew f → 1 ≤ f.iterations → Between 1 128 (length f.salt) → IsRead keyslot_rows (renewed_slot f d)
+  renewed_read new one long =
       let salt : IsSalt f.salt = record { are_bytes = new.salt; long = long } in
       record {
         is_object = still_slot f d ∙ read.is_object;
@@ -206,9 +206,9 @@ module _ (f : NewMembers) (d : Data) (read : IsRead keyslot_rows d) where
                     (
                       area_row 6 _ refl refl refl refl,
                       (
-                        new_row 7 _ (placed f) refl (new_offset f d) (decimal_read say f.offset new.offset),
+                        new_row 7 _ (placed f) refl (new_offset f d) (decimal_read f.offset new.offset),
                         (
-                          new_row 8 _ (sized f) refl (new_size f d) (decimal_read say f.size new.size),
+                          new_row 8 _ (sized f) refl (new_size f d) (decimal_read f.size new.size),
                           (
                             area_row 9 _ refl refl refl refl,
                             (
@@ -222,7 +222,7 @@ module _ (f : NewMembers) (d : Data) (read : IsRead keyslot_rows d) where
                                     (
                                       kdf_row 14 _ refl refl refl refl,
                                       (
-                                        new_row 15 _ (salted f) refl (new_salt f d) (salt_read say f.salt salt),
+                                        new_row 15 _ (salted f) refl (new_salt f d) (salt_read f.salt salt),
                                         (
                                           kdf_row 16 _ refl refl refl refl,
                                           (
@@ -275,8 +275,8 @@ module _ (f : NewMembers) (d : Data) (read : IsRead keyslot_rows d) where
   has_kdf : is_some (option_and_then as_object (get (codes "kdf") d)) ≡ true
   has_kdf = was_object 10 _ refl refl (and_from _ _ read.is_object refl)
 
-  says_new : TextsSay → FitsNew f → 1 ≤ f.iterations → Between 1 128 (length f.salt) → SaysNew f d (renewed_slot f d)
-  says_new say new one long =
+  says_new : FitsNew f → 1 ≤ f.iterations → Between 1 128 (length f.salt) → SaysNew f d (renewed_slot f d)
+  says_new new one long =
       let offset = there_by rule.Decimal (option_and_then (get (codes "offset")) (get (codes "area") d)) refl (read.each 7 _ refl (and_from _ _ has_area refl)) in
       let size = there_by rule.Decimal (option_and_then (get (codes "size")) (get (codes "area") d)) refl (read.each 8 _ refl (and_from _ _ has_area refl)) in
       let salt = there_by (rule.Base64 1 128) (option_and_then (get (codes "salt")) (get (codes "kdf") d)) refl (read.each 15 _ refl (and_from _ _ has_kdf refl)) in
@@ -285,9 +285,9 @@ module _ (f : NewMembers) (d : Data) (read : IsRead keyslot_rows d) where
             let suited : suits when.Pbkdf2 (type_at d outer.Kdf) ≡ true = rw derived refl in
             let iterations = there_by (rule.Number 1 4294967295) (option_and_then (get (codes "iterations")) (get (codes "kdf") d)) refl (read.each 13 _ refl (and_from _ _ has_kdf suited)) in
             ap (number_in 1 4294967295) (new_iterations f d ∙ ap (option_map (λ _. counted f)) iterations.1) ∙ number_is 1 4294967295 f.iterations (below_32 f.iterations one new.iterations));
-        salt = ap (bytes_in 1 128) (new_salt f d ∙ ap (option_map (λ _. salted f)) salt.1) ∙ bytes_are say 1 128 f.salt (omega arith) new.salt long;
-        offset = ap decimal_in (new_offset f d ∙ ap (option_map (λ _. placed f)) offset.1) ∙ decimal_is say f.offset new.offset;
-        size = ap decimal_in (new_size f d ∙ ap (option_map (λ _. sized f)) size.1) ∙ decimal_is say f.size new.size;
+        salt = ap (bytes_in 1 128) (new_salt f d ∙ ap (option_map (λ _. salted f)) salt.1) ∙ bytes_are 1 128 f.salt (omega arith) new.salt long;
+        offset = ap decimal_in (new_offset f d ∙ ap (option_map (λ _. placed f)) offset.1) ∙ decimal_is f.offset new.offset;
+        size = ap decimal_in (new_size f d ∙ ap (option_map (λ _. sized f)) size.1) ∙ decimal_is f.size new.size;
         members = λ k off. let p = neither _ _ off in let q = neither _ _ p.1 in beside_both f d k q.0 p.0;
         area = λ k off. let p = neither _ _ off in let q = neither _ _ p.1 in kept_in_area f d k p.0 q.0;
         kdf = λ k off. let p = neither _ _ off in let q = neither _ _ p.1 in kept_in_kdf f d k p.0 q.0;
@@ -397,7 +397,7 @@ deep_changed_slot n f =
 
 -- ---- the rules
 
-module _ (say : TextsSay) (len n : ℕ) (f : NewMembers) (j : Data) (c : IsContent len j) (can : CanSeal len j n f) (new : FitsNew f) where
+module _ (len n : ℕ) (f : NewMembers) (j : Data) (c : IsContent len j) (can : CanSeal len j n f) (new : FitsNew f) where
   sections_changed : (k : Section) → is_section k (section_at (changed_slot n f j) k) ≡ true
   sections_changed Config = rw (other_section n f j (codes "config") refl) (c.sections Config)
   sections_changed Digests = rw (other_section n f j (codes "digests") refl) (c.sections Digests)
@@ -423,13 +423,13 @@ module _ (say : TextsSay) (len n : ℕ) (f : NewMembers) (j : Data) (c : IsConte
   was_read = c.objects Keyslots n can.slot.object can.slot.there
 
   says : SaysNew f can.slot.object (renewed_slot f can.slot.object)
-  says = says_new f can.slot.object was_read say new can.iterations can.salt
+  says = says_new f can.slot.object was_read new can.iterations can.salt
 
   objects_changed : (k : Section) (i : ℕ) (d : Data) → HasObject (changed_slot n f j) k i d → IsRead (rows_of k) d
   objects_changed Config i d h = absurd (false≢true h.numbered)
   objects_changed Digests i d h = c.objects Digests i d (beside_held Digests i d refl h)
   objects_changed Keyslots i d h = elim (cases_eq i n) [
-    | inl same ↦ rw (← slot_new i d same h) (renewed_read f can.slot.object was_read say new can.iterations can.salt)
+    | inl same ↦ rw (← slot_new i d same h) (renewed_read f can.slot.object was_read new can.iterations can.salt)
     | inr other ↦ c.objects Keyslots i d (slot_held i d other h)
   ]
   objects_changed Segments i d h = c.objects Segments i d (beside_held Segments i d refl h)
@@ -527,8 +527,8 @@ module _ (say : TextsSay) (len n : ℕ) (f : NewMembers) (j : Data) (c : IsConte
   }
 
 -- and it nests no deeper
-pub held_changed : TextsSay → (len n : ℕ) (f : NewMembers) (j : Data) → IsHeld len j → CanSeal len j n f → FitsNew f → IsHeld len (changed_slot n f j)
-held_changed say len n f j h can new =
+pub held_changed : (len n : ℕ) (f : NewMembers) (j : Data) → IsHeld len j → CanSeal len j n f → FitsNew f → IsHeld len (changed_slot n f j)
+held_changed len n f j h can new =
     let less : depth (changed_slot n f j) ≤ depth j = deep_changed_slot n f j in
     let nests : depth j ≤ max_depth = h.nests in
-    record { nests = omega (arith, less, nests); content = content_changed say len n f j h.content can new }
+    record { nests = omega (arith, less, nests); content = content_changed len n f j h.content can new }

@@ -28,7 +28,7 @@ use Rattle.luks_making.proofs.MemberFacts.{no_some, some_same}
 use Rattle.luks_making.proofs.NameFacts.{added_text, others_added, texts_differ}
 use Rattle.luks_making.proofs.NewAreaFacts.{end_by_last, end_within, holds_sectors, region_holds, region_short, start_from}
 use Rattle.luks_making.proofs.NewVolumeFacts.{held_made, none_else, says_volume}
-use Rattle.luks_making.proofs.ReadingFacts.{TextsSay, below_32}
+use Rattle.luks_making.proofs.ReadingFacts.{below_32}
 use Rattle.luks_making.proofs.RegionFacts.{config_with, held_with_region, region_told}
 use Rattle.luks_making.proofs.RemovalFacts.{held_left}
 use Rattle.luks_making.proofs.RoomFacts.{says_members}
@@ -167,137 +167,136 @@ module _ (v : SourceMembers) (fits : FitsSource v) (can : CanConvert v) where
   region_64 : region_size v < 2 ^ 64
   region_64 = let most = region_short v in omega (arith, most)
 
-  module _ (say : TextsSay) where
-    bare_held : IsHeld 12288 (without_slot 0 (formatted u))
-    bare_held = held_left 12288 0 (formatted u) (held_made say u fits_volume can_format)
+  bare_held : IsHeld 12288 (without_slot 0 (formatted u))
+  bare_held = held_left 12288 0 (formatted u) (held_made u fits_volume can_format)
 
-    none_yet : Holds zero (with_region (region_size v) (without_slot 0 (formatted u)))
-    none_yet = record {
-      names = no_items;
-      slots = no_members;
-      is = base_shape u (region_size v);
-      lists = refl;
-      unnamed = λ m low. refl;
-      held = held_with_region say u (region_size v) region_64 bare_held;
-      absent = λ m o. refl;
-      there = λ m s low on. absurd (omega (arith, low));
-      named = λ m s low on. absurd (omega (arith, low));
-    }
+  none_yet : Holds zero (with_region (region_size v) (without_slot 0 (formatted u)))
+  none_yet = record {
+    names = no_items;
+    slots = no_members;
+    is = base_shape u (region_size v);
+    lists = refl;
+    unnamed = λ m low. refl;
+    held = held_with_region u (region_size v) region_64 bare_held;
+    absent = λ m o. refl;
+    there = λ m s low on. absurd (omega (arith, low));
+    named = λ m s low on. absurd (omega (arith, low));
+  }
 
-    -- a number that isn't enabled is passed over
-    passed : (n : ℕ) (j : Data) → v.slot n ≡ None → Holds n j → Holds (suc n) j
-    passed n j off x = record {
-      names = x.names;
-      slots = x.slots;
-      is = x.is;
-      lists = x.lists ∙ ap (λ ks. Some (map number_text ks)) (sym (enabled_same v n off));
-      unnamed = λ m low. x.unnamed m (omega (arith, low));
-      held = x.held;
-      absent = λ m o. elim o [
-        | inl high ↦ x.absent m (inl (omega (arith, high)))
-        | inr dis ↦ x.absent m (inr dis)
-      ];
-      there = λ m s low on. elim (cases_eq m n) [
-        | inl same ↦ absurd (no_some s (sym off ∙ ap v.slot (sym same) ∙ on))
-        | inr other ↦ x.there m s (omega (arith, low, other)) on
-      ];
-      named = λ m s low on. elim (cases_eq m n) [
-        | inl same ↦ absurd (no_some s (sym off ∙ ap v.slot (sym same) ∙ on))
-        | inr other ↦ x.named m s (omega (arith, low, other)) on
-      ];
-    }
+  -- a number that isn't enabled is passed over
+  passed : (n : ℕ) (j : Data) → v.slot n ≡ None → Holds n j → Holds (suc n) j
+  passed n j off x = record {
+    names = x.names;
+    slots = x.slots;
+    is = x.is;
+    lists = x.lists ∙ ap (λ ks. Some (map number_text ks)) (sym (enabled_same v n off));
+    unnamed = λ m low. x.unnamed m (omega (arith, low));
+    held = x.held;
+    absent = λ m o. elim o [
+      | inl high ↦ x.absent m (inl (omega (arith, high)))
+      | inr dis ↦ x.absent m (inr dis)
+    ];
+    there = λ m s low on. elim (cases_eq m n) [
+      | inl same ↦ absurd (no_some s (sym off ∙ ap v.slot (sym same) ∙ on))
+      | inr other ↦ x.there m s (omega (arith, low, other)) on
+    ];
+    named = λ m s low on. elim (cases_eq m n) [
+      | inl same ↦ absurd (no_some s (sym off ∙ ap v.slot (sym same) ∙ on))
+      | inr other ↦ x.named m s (omega (arith, low, other)) on
+    ];
+  }
 
-    region : (names : Items) (slots : Members) → keyslots_size (shape u (region_size v) names slots) ≡ Some (region_size v)
-    region names slots = region_told say u (region_size v) region_64 bare_held
+  region : (names : Items) (slots : Members) → keyslots_size (shape u (region_size v) names slots) ≡ Some (region_size v)
+  region names slots = region_told u (region_size v) region_64 bare_held
 
-    room : (n : ℕ) (s : SourceSlotMembers) (j : Data) → n < 8 → v.slot n ≡ Some s → (x : Holds n j) → IsRoom 12288 n 0 (converted_slot v n s) j (digest_with u x.names)
-    room n s j low on x = record {
-      number = record { small = omega (arith, low); free = x.absent n (inl (omega arith)) };
-      unnamed = rw (x.is, x.unnamed n (omega arith)) refl;
-      digest = record { numbered = refl; named = lit< tt; is = rw x.is refl };
-      fits = slot_fits n s low on;
-      large = holds_sectors (v.key_bytes * s.stripes);
-      within = λ bytes is.
-          let same : region_size v ≡ bytes = some_same (region_size v) bytes (sym (region x.names x.slots) ∙ ap keyslots_size (sym x.is) ∙ is) in
-          let end = end_by_last v n s low on in
-          let last = region_holds v can.room in
-          let from = start_from v n in
-          (omega (arith, from), rw (← same) (omega (arith, end, last)));
-    }
+  room : (n : ℕ) (s : SourceSlotMembers) (j : Data) → n < 8 → v.slot n ≡ Some s → (x : Holds n j) → IsRoom 12288 n 0 (converted_slot v n s) j (digest_with u x.names)
+  room n s j low on x = record {
+    number = record { small = omega (arith, low); free = x.absent n (inl (omega arith)) };
+    unnamed = rw (x.is, x.unnamed n (omega arith)) refl;
+    digest = record { numbered = refl; named = lit< tt; is = rw x.is refl };
+    fits = slot_fits n s low on;
+    large = holds_sectors (v.key_bytes * s.stripes);
+    within = λ bytes is.
+        let same : region_size v ≡ bytes = some_same (region_size v) bytes (sym (region x.names x.slots) ∙ ap keyslots_size (sym x.is) ∙ is) in
+        let end = end_by_last v n s low on in
+        let last = region_holds v can.room in
+        let from = start_from v n in
+        (omega (arith, from), rw (← same) (omega (arith, end, last)));
+  }
 
-    -- an enabled one is added
-    added : (n : ℕ) (s : SourceSlotMembers) (j : Data) → n < 8 → v.slot n ≡ Some s → Holds n j → Holds (suc n) (with_slot n 0 (converted_slot v n s) j)
-    added n s j low on x =
-        let made : SlotMembers = converted_slot v n s in
-        let has_room = room n s j low on x in
-        let gains : GainsSlot n 0 (converted_slot v n s) j (with_slot n 0 (converted_slot v n s) j) = slot_gained say 12288 n 0 (converted_slot v n s) j (digest_with u x.names) x.held.content has_room in
-        record {
-          names = add_text (number_text n) x.names;
-          slots = put (number_text n) (slot_value (converted_slot v n s)) x.slots;
-          is = ap (with_slot n 0 (converted_slot v n s)) x.is ∙ one_more u (region_size v) x.names x.slots n (converted_slot v n s);
-          lists = added_text (number_text n) (Some (array x.names)) ∙ ap (option_map (λ ts. ts ++ number_text n ∷ [])) x.lists
-              ∙ ap Some (sym (ap (map number_text) (enabled_more v n s on) ∙ last_named n (enabled v n)));
-          unnamed = λ m high. others_added (number_text n) (number_text m) (Some (array x.names)) (texts_differ n m (λ e. absurd (omega (arith, e, high)))) ∙ x.unnamed m (omega (arith, high));
-          held = held_with say 12288 n 0 (converted_slot v n s) j (digest_with u x.names) x.held has_room;
-          absent = λ m o. elim o [
-            | inl high ↦ gains.rest.keyslots m (λ e. absurd (omega (arith, e, high))) ∙ x.absent m (inl (omega (arith, high)))
-            | inr dis ↦ gains.rest.keyslots m (λ e. no_some s (sym dis ∙ ap v.slot e ∙ on)) ∙ x.absent m (inr dis)
-          ];
-          there = λ m t below is. elim (cases_eq m n) [
-            | inl same ↦ (
-                let own : s ≡ t = some_same s t (sym on ∙ ap v.slot (sym same) ∙ is) in
-                rw (same, ← own) gains.there)
-            | inr other ↦ gains.rest.keyslots m other ∙ x.there m t (omega (arith, below, other)) is
-          ];
-          named = λ m t below is. elim (cases_eq m n) [
-            | inl same ↦ rw same gains.names
-            | inr other ↦ (gains.rest.naming m 0 other).0 (x.named m t (omega (arith, below, other)) is)
-          ];
-        }
+  -- an enabled one is added
+  added : (n : ℕ) (s : SourceSlotMembers) (j : Data) → n < 8 → v.slot n ≡ Some s → Holds n j → Holds (suc n) (with_slot n 0 (converted_slot v n s) j)
+  added n s j low on x =
+      let made : SlotMembers = converted_slot v n s in
+      let has_room = room n s j low on x in
+      let gains : GainsSlot n 0 (converted_slot v n s) j (with_slot n 0 (converted_slot v n s) j) = slot_gained 12288 n 0 (converted_slot v n s) j (digest_with u x.names) x.held.content has_room in
+      record {
+        names = add_text (number_text n) x.names;
+        slots = put (number_text n) (slot_value (converted_slot v n s)) x.slots;
+        is = ap (with_slot n 0 (converted_slot v n s)) x.is ∙ one_more u (region_size v) x.names x.slots n (converted_slot v n s);
+        lists = added_text (number_text n) (Some (array x.names)) ∙ ap (option_map (λ ts. ts ++ number_text n ∷ [])) x.lists
+            ∙ ap Some (sym (ap (map number_text) (enabled_more v n s on) ∙ last_named n (enabled v n)));
+        unnamed = λ m high. others_added (number_text n) (number_text m) (Some (array x.names)) (texts_differ n m (λ e. absurd (omega (arith, e, high)))) ∙ x.unnamed m (omega (arith, high));
+        held = held_with 12288 n 0 (converted_slot v n s) j (digest_with u x.names) x.held has_room;
+        absent = λ m o. elim o [
+          | inl high ↦ gains.rest.keyslots m (λ e. absurd (omega (arith, e, high))) ∙ x.absent m (inl (omega (arith, high)))
+          | inr dis ↦ gains.rest.keyslots m (λ e. no_some s (sym dis ∙ ap v.slot e ∙ on)) ∙ x.absent m (inr dis)
+        ];
+        there = λ m t below is. elim (cases_eq m n) [
+          | inl same ↦ (
+              let own : s ≡ t = some_same s t (sym on ∙ ap v.slot (sym same) ∙ is) in
+              rw (same, ← own) gains.there)
+          | inr other ↦ gains.rest.keyslots m other ∙ x.there m t (omega (arith, below, other)) is
+        ];
+        named = λ m t below is. elim (cases_eq m n) [
+          | inl same ↦ rw same gains.names
+          | inr other ↦ (gains.rest.naming m 0 other).0 (x.named m t (omega (arith, below, other)) is)
+        ];
+      }
 
-    by_state : (n : ℕ) (o : Option SourceSlotMembers) (j : Data) → v.slot n ≡ o → n < 8 → Holds n j → Holds (suc n) (with_enabled v n o j)
-    by_state n (Some s) j is low x = added n s j low is x
-    by_state n None j is low x = passed n j is x
+  by_state : (n : ℕ) (o : Option SourceSlotMembers) (j : Data) → v.slot n ≡ o → n < 8 → Holds n j → Holds (suc n) (with_enabled v n o j)
+  by_state n (Some s) j is low x = added n s j low is x
+  by_state n None j is low x = passed n j is x
 
-    holds : (n : ℕ) → n ≤ 8 → Holds n (converted_below v n)
-    unfolding converted_below
-    holds zero low = none_yet
-    holds (suc n) low = by_state n (v.slot n) (converted_below v n) refl (omega (arith, low)) (holds n (omega (arith, low)))
+  holds : (n : ℕ) → n ≤ 8 → Holds n (converted_below v n)
+  unfolding converted_below
+  holds zero low = none_yet
+  holds (suc n) low = by_state n (v.slot n) (converted_below v n) refl (omega (arith, low)) (holds n (omega (arith, low)))
 
-    -- ---- the whole value
+  -- ---- the whole value
 
-    all : Holds 8 (converted v)
-    all = holds 8 (omega arith)
+  all : Holds 8 (converted v)
+  all = holds 8 (omega arith)
 
-    pub held_converted : IsHeld 12288 (converted v)
-    held_converted = all.held
+  pub held_converted : IsHeld 12288 (converted v)
+  held_converted = all.held
 
-    like_new : SaysVolume u (formatted u)
-    like_new = says_volume say u fits_volume can_format
+  like_new : SaysVolume u (formatted u)
+  like_new = says_volume u fits_volume can_format
 
-    says_digest : (names : Items) → SaysDigest u (digest_with u names)
-    says_digest names = record {
-      kind = refl;
-      hash = refl;
-      iterations = like_new.digest_says.iterations;
-      salt = like_new.digest_says.salt;
-      stored = like_new.digest_says.stored;
-    }
+  says_digest : (names : Items) → SaysDigest u (digest_with u names)
+  says_digest names = record {
+    kind = refl;
+    hash = refl;
+    iterations = like_new.digest_says.iterations;
+    salt = like_new.digest_says.salt;
+    stored = like_new.digest_says.stored;
+  }
 
-    pub says_source : SaysSource v (converted v)
-    says_source = record {
-      keyslot = λ n s low on. all.there n s low on;
-      slot_says = λ n s low on. says_members say (converted_slot v n s) (slot_fits n s low on);
-      no_keyslot = all.absent;
-      names = λ n s low on. all.named n s low on;
-      digest = digest_with u all.names;
-      digest_at = rw all.is refl;
-      digest_says = says_digest all.names;
-      lists = all.lists ∙ ap (λ ks. Some (map number_text ks)) (all_numbers v);
-      no_digest = λ n other. rw all.is (none_else (digest_with u all.names) n other);
-      segment = rw all.is refl;
-      segment_says = like_new.segment_says;
-      no_segment = λ n other. rw all.is (none_else (segment_value u) n other);
-      no_token = λ n. rw all.is refl;
-      region = rw all.is (region all.names all.slots);
-    }
+  pub says_source : SaysSource v (converted v)
+  says_source = record {
+    keyslot = λ n s low on. all.there n s low on;
+    slot_says = λ n s low on. says_members (converted_slot v n s) (slot_fits n s low on);
+    no_keyslot = all.absent;
+    names = λ n s low on. all.named n s low on;
+    digest = digest_with u all.names;
+    digest_at = rw all.is refl;
+    digest_says = says_digest all.names;
+    lists = all.lists ∙ ap (λ ks. Some (map number_text ks)) (all_numbers v);
+    no_digest = λ n other. rw all.is (none_else (digest_with u all.names) n other);
+    segment = rw all.is refl;
+    segment_says = like_new.segment_says;
+    no_segment = λ n other. rw all.is (none_else (segment_value u) n other);
+    no_token = λ n. rw all.is refl;
+    region = rw all.is (region all.names all.slots);
+  }

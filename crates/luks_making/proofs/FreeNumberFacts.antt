@@ -7,6 +7,7 @@ use Rattle.serde_json.specs.Data.{Data, null, boolean, number, string, array, ob
 use Rattle.serde_json.specs.Find.{get, get_member, as_object}
 use Rattle.luks_json.specs.Arrays.{all_named, all_there, has_text, is_text, is_there, names, naming_count, naming_members}
 use Rattle.luks_json.specs.Number.{is_name, number_of, number_text}
+use Rattle.luks_json.proofs.Numbers.{text_of_named}
 use Rattle.luks_rules.specs.declared.table.Section.TheVariants.{Digests, Keyslots}
 use Rattle.luks_rules.specs.declared.table.Member.TheVariants as name
 use Rattle.luks_rules.specs.declared.table.Rule.TheVariants as rule
@@ -15,7 +16,6 @@ use Rattle.luks_rules.specs.Faults.{object_at, section_at}
 use Rattle.luks_rules.specs.Table.{member as row}
 use Rattle.luks_making.specs.Naming.{HasUniqueDigests, IsUnique}
 use Rattle.luks_making.proofs.MemberFacts.{same_name, seek}
-use Rattle.luks_making.proofs.ReadingFacts.{TextsSay}
 use Rattle.luks_making.proofs.RowFacts.{digest_array}
 use Rattle.luks_making.proofs.WholeFacts.{or_off}
 
@@ -81,12 +81,12 @@ the_map : (v : Option Members) → option_map_or all_named v false ≡ true → 
 the_map None h = absurd (false≢true h)
 the_map (Some ms) h = (ms, refl, h)
 
-module _ (say : TextsSay) (len n : ℕ) (j : Data) (c : IsContent len j) (free : object_at j Keyslots n ≡ None) (full : Members) (are : option_and_then as_object (section_at j Digests) ≡ Some full) where
+module _ (len n : ℕ) (j : Data) (c : IsContent len j) (free : object_at j Keyslots n ≡ None) (full : Members) (are : option_and_then as_object (section_at j Digests) ≡ Some full) where
   -- no digest has the name
   not_named : (l : List ℕ) (d : Data) → get_member l full ≡ Some d → is_name l ≡ true → names (number_text n) (get (codes "keyslots") d) ≡ false
   not_named l d found named =
       let i = some_number (number_of l) named in
-      let text = say.names l i.0 i.1 in
+      let text = text_of_named l i.0 i.1 in
       let at : object_at j Digests i.0 ≡ Some d = rw (← text.0) (found_at (section_at j Digests) full l d are found) in
       let held : HasObject j Digests i.0 d = record { numbered = refl; named = text.1; is = at } in
       let list = digest_array len j c i.0 d held in
@@ -103,7 +103,7 @@ module _ (say : TextsSay) (len n : ℕ) (j : Data) (c : IsContent len j) (free :
   counted_none u h = rw are (none_of full (all_found full u h))
 
 -- the count of the digests that name it is 0
-pub unnamed_free : TextsSay → (len n : ℕ) (j : Data) → IsContent len j → object_at j Keyslots n ≡ None → HasUniqueDigests j → naming_count (codes "keyslots") (number_text n) (section_at j Digests) ≡ 0
-unnamed_free say len n j c free u =
+pub unnamed_free : (len n : ℕ) (j : Data) → IsContent len j → object_at j Keyslots n ≡ None → HasUniqueDigests j → naming_count (codes "keyslots") (number_text n) (section_at j Digests) ≡ 0
+unnamed_free len n j c free u =
     let map = the_map (option_and_then as_object (section_at j Digests)) (c.sections Digests) in
-    counted_none say len n j c free map.0 map.1 (u map.0 map.1) map.2
+    counted_none len n j c free map.0 map.1 (u map.0 map.1) map.2

@@ -4,13 +4,13 @@ mod WholeFacts
 mod NestingFacts
 mod RowFacts
 mod RestFacts
-mod RemovalFacts
+pub mod RemovalFacts
 mod ReadingFacts
-mod AdditionFacts
+pub mod AdditionFacts
 mod FreeNumberFacts
-mod RoomFacts
-mod ChangeFacts
-mod NewVolumeFacts
+pub mod RoomFacts
+pub mod ChangeFacts
+pub mod NewVolumeFacts
 mod PutFacts
 mod TakenFacts
 mod ItemFacts
@@ -19,5 +19,5 @@ mod StepFacts
 mod AreaFacts
 mod NewAreaFacts
 mod RegionFacts
-mod ConversionFacts
-mod ConvertedTextFacts
+pub mod ConversionFacts
+pub mod ConvertedTextFacts

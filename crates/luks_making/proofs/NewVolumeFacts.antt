@@ -7,6 +7,7 @@ use Rattle.serde_json.specs.Find.{get, as_array}
 use Rattle.luks_area.specs.Sectors.{rounded_to_sectors}
 use Rattle.luks_json.specs.Arrays.{all_there, has_repeat, naming_count}
 use Rattle.luks_json.specs.Number.{number_text}
+use Rattle.luks_json.proofs.Decimals.{decimal_told}
 use Rattle.luks_rules.specs.declared.table.Section.{Section}
 use Rattle.luks_rules.specs.declared.table.Section.TheVariants.{Config, Digests, Keyslots, Segments, Tokens}
 use Rattle.luks_rules.specs.declared.table.Outer.TheVariants as outer
@@ -24,7 +25,7 @@ use Rattle.luks_making.specs.NewVolumes.{SaysDigest, SaysSegment, SaysVolume}
 use Rattle.luks_making.proofs.AdditionFacts.{slot_read}
 use Rattle.luks_making.proofs.MemberFacts.{no_some, seek, some_same}
 use Rattle.luks_making.proofs.NameFacts.{texts_differ}
-use Rattle.luks_making.proofs.ReadingFacts.{TextsSay, below_32, bytes_are, bytes_read, decimal_is, decimal_read, number_is, number_read}
+use Rattle.luks_making.proofs.ReadingFacts.{below_32, bytes_are, bytes_read, decimal_is, decimal_read, number_is, number_read}
 use Rattle.luks_making.proofs.RoomFacts.{says_members}
 use Rattle.luks_making.proofs.RowFacts.{NamesRow, RowRead, digest_row, each_of, none_among, of_segments, of_slots}
 
@@ -60,28 +61,27 @@ zero_digits = refl
 fits_64 : (n : ℕ) → n ≤ 16777216 → n < 2 ^ 64
 fits_64 n h = omega (arith, h)
 
-module _ (say : TextsSay) where
-  pub literal_is : (t : List ℕ) (n : ℕ) → n ≤ 16777216 → t ≡ decimal n → decimal_in (Some (string t)) ≡ Some n
-  literal_is t n h same = say.decimals t n (record { fits = fits_64 n h; digits = same })
+pub literal_is : (t : List ℕ) (n : ℕ) → n ≤ 16777216 → t ≡ decimal n → decimal_in (Some (string t)) ≡ Some n
+literal_is t n h same = decimal_told t n (record { fits = fits_64 n h; digits = same })
 
-  pub literal_read : (t : List ℕ) (n : ℕ) → n ≤ 16777216 → t ≡ decimal n → is_some (option_map whole (decimal_in (Some (string t)))) ≡ true
-  literal_read t n h same = rw (literal_is t n h same) refl
+pub literal_read : (t : List ℕ) (n : ℕ) → n ≤ 16777216 → t ≡ decimal n → is_some (option_map whole (decimal_in (Some (string t)))) ≡ true
+literal_read t n h same = rw (literal_is t n h same) refl
 
 -- ---- the rows
 
-config_read : TextsSay → IsRead config_rows config_value
-config_read say = record {
+config_read : IsRead config_rows config_value
+config_read = record {
   is_object = refl;
   each = each_of (RowRead config_value) config_rows (
-    (λ _. literal_read say (codes "12288") 12288 (omega arith) json_digits),
+    (λ _. literal_read (codes "12288") 12288 (omega arith) json_digits),
     (
-      (λ _. literal_read say (codes "16744448") 16744448 (omega arith) keyslots_digits),
+      (λ _. literal_read (codes "16744448") 16744448 (omega arith) keyslots_digits),
       tt,
     ),
   );
 }
 
-module _ (say : TextsSay) (v : VolumeMembers) (fits : FitsVolume v) (can : CanFormat v) where
+module _ (v : VolumeMembers) (fits : FitsVolume v) (can : CanFormat v) where
   iterations : Between 1 4294967295 v.iterations
   iterations = below_32 v.iterations can.iterations fits.iterations
 
@@ -89,7 +89,7 @@ module _ (say : TextsSay) (v : VolumeMembers) (fits : FitsVolume v) (can : CanFo
   digest_is_read = record {
     is_object = refl;
     each = each_of (RowRead (digest_value v)) digest_rows (
-      (λ _. bytes_read say 20 64 v.digest (omega arith) fits.digest can.digest),
+      (λ _. bytes_read 20 64 v.digest (omega arith) fits.digest can.digest),
       (
         (λ _. refl),
         (
@@ -97,7 +97,7 @@ module _ (say : TextsSay) (v : VolumeMembers) (fits : FitsVolume v) (can : CanFo
           (
             (λ _. refl),
             (
-              (λ _. bytes_read say 1 128 v.digest_salt (omega arith) fits.digest_salt can.digest_salt),
+              (λ _. bytes_read 1 128 v.digest_salt (omega arith) fits.digest_salt can.digest_salt),
               (
                 (λ _. refl),
                 (
@@ -118,9 +118,9 @@ module _ (say : TextsSay) (v : VolumeMembers) (fits : FitsVolume v) (can : CanFo
     each = each_of (RowRead (segment_value v)) segment_rows (
       (λ _. refl),
       (
-        (λ _. literal_read say (codes "0") 0 (omega arith) zero_digits),
+        (λ _. literal_read (codes "0") 0 (omega arith) zero_digits),
         (
-          (λ _. decimal_read say v.segment_offset fits.segment_offset),
+          (λ _. decimal_read v.segment_offset fits.segment_offset),
           (
             (λ _. refl),
             (
@@ -171,7 +171,7 @@ module _ (say : TextsSay) (v : VolumeMembers) (fits : FitsVolume v) (can : CanFo
   objects_made : (k : Section) (n : ℕ) (d : Data) → HasObject (formatted v) k n d → IsRead (rows_of k) d
   objects_made Config n d o = absurd (false≢true o.numbered)
   objects_made Digests n d o = rw (← (digest_at n d o).1) digest_is_read
-  objects_made Keyslots n d o = rw (← (slot_at n d o).1) (slot_read say (first_slot v) slot_fits)
+  objects_made Keyslots n d o = rw (← (slot_at n d o).1) (slot_read (first_slot v) slot_fits)
   objects_made Segments n d o = rw (← (segment_at n d o).1) segment_is_read
   objects_made Tokens n d o = absurd (no_token n d o)
 
@@ -212,7 +212,7 @@ module _ (say : TextsSay) (v : VolumeMembers) (fits : FitsVolume v) (can : CanFo
   -- ---- the area
 
   region_is : keyslots_size (formatted v) ≡ Some 16744448
-  region_is = literal_is say (codes "16744448") 16744448 (omega arith) keyslots_digits
+  region_is = literal_is (codes "16744448") 16744448 (omega arith) keyslots_digits
 
   large_made : (n : ℕ) (d : Data) (key stripes size : ℕ) → HasObject (formatted v) Keyslots n d
       → number_in 1 128 (inside_at outer.Top (codes "key_size") d) ≡ Some key
@@ -223,7 +223,7 @@ module _ (say : TextsSay) (v : VolumeMembers) (fits : FitsVolume v) (can : CanFo
       let is = (slot_at n d o).1 in
       let k : 64 ≡ key = some_same 64 key (rw (← is) at a) in
       let t : 4000 ≡ stripes = some_same 4000 stripes (rw (← is) at b) in
-      let y : 258048 ≡ size = some_same 258048 size (sym (decimal_is say 258048 (fits_64 258048 (omega arith))) ∙ (rw (← is) at z)) in
+      let y : 258048 ≡ size = some_same 258048 size (sym (decimal_is 258048 (fits_64 258048 (omega arith))) ∙ (rw (← is) at z)) in
       rw (← k, ← t, ← y) (leb-true (rounded_to_sectors (64 * 4000)) 258048 refl)
 
   within_made : (n : ℕ) (d : Data) (area start size : ℕ) → HasObject (formatted v) Keyslots n d
@@ -234,8 +234,8 @@ module _ (say : TextsSay) (v : VolumeMembers) (fits : FitsVolume v) (can : CanFo
   within_made n d area start size o region a z =
       let is = (slot_at n d o).1 in
       let g : 16744448 ≡ area = some_same 16744448 area (sym region_is ∙ region) in
-      let x : 32768 ≡ start = some_same 32768 start (sym (decimal_is say 32768 (fits_64 32768 (omega arith))) ∙ (rw (← is) at a)) in
-      let y : 258048 ≡ size = some_same 258048 size (sym (decimal_is say 258048 (fits_64 258048 (omega arith))) ∙ (rw (← is) at z)) in
+      let x : 32768 ≡ start = some_same 32768 start (sym (decimal_is 32768 (fits_64 32768 (omega arith))) ∙ (rw (← is) at a)) in
+      let y : 258048 ≡ size = some_same 258048 size (sym (decimal_is 258048 (fits_64 258048 (omega arith))) ∙ (rw (← is) at z)) in
       rw (← g, ← x, ← y) (leb-true (region_start 12288) 32768 refl, leb-true (32768 + 258048) (region_start 12288 + 16744448) refl)
 
   -- ---- the rules
@@ -244,10 +244,10 @@ module _ (say : TextsSay) (v : VolumeMembers) (fits : FitsVolume v) (can : CanFo
   content_made = record {
     whole = refl;
     sections = sections_made;
-    config = λ d e. rw (← some_same config_value d e) (config_read say);
+    config = λ d e. rw (← some_same config_value d e) (config_read);
     objects = objects_made;
     resolves = record { there = there_made; once = once_made; keyslots = slots_counted; segments = λ n d o crypt. segments_counted n d o };
-    sized = literal_is say (codes "12288") 12288 (omega arith) json_digits;
+    sized = literal_is (codes "12288") 12288 (omega arith) json_digits;
     large = large_made;
     within = within_made;
   }
@@ -263,16 +263,16 @@ module _ (say : TextsSay) (v : VolumeMembers) (fits : FitsVolume v) (can : CanFo
     kind = refl;
     hash = refl;
     iterations = number_is 1 4294967295 v.iterations iterations;
-    salt = bytes_are say 1 128 v.digest_salt (omega arith) fits.digest_salt can.digest_salt;
-    stored = bytes_are say 20 64 v.digest (omega arith) fits.digest can.digest;
+    salt = bytes_are 1 128 v.digest_salt (omega arith) fits.digest_salt can.digest_salt;
+    stored = bytes_are 20 64 v.digest (omega arith) fits.digest can.digest;
   }
 
   says_segment : SaysSegment v (segment_value v)
   says_segment = record {
     kind = refl;
     encryption = refl;
-    iv_tweak = literal_is say (codes "0") 0 (omega arith) zero_digits;
-    offset = decimal_is say v.segment_offset fits.segment_offset;
+    iv_tweak = literal_is (codes "0") 0 (omega arith) zero_digits;
+    offset = decimal_is v.segment_offset fits.segment_offset;
     sector_size = refl;
     size = refl;
   }
@@ -283,7 +283,7 @@ module _ (say : TextsSay) (v : VolumeMembers) (fits : FitsVolume v) (can : CanFo
   pub says_volume : SaysVolume v (formatted v)
   says_volume = record {
     keyslot = refl;
-    slot_says = says_members say (first_slot v) slot_fits;
+    slot_says = says_members (first_slot v) slot_fits;
     digest = refl;
     digest_says = says_digest;
     names = record { named = small; keyslot = refl; numbered = small; object = digest_value v; is = refl; lists = refl };

@@ -8,33 +8,12 @@ use Rattle.luks_json.specs.Encoded.{IsBase64, encoded_of}
 use Rattle.luks_json.specs.Number.{is_name, number_of, number_text}
 use Rattle.luks_json.specs.Values.{bytes_in, decimal_in, is_between, kept, number_in}
 use Rattle.luks_json.specs.Values.{number_of as whole_of}
+use Rattle.luks_json.proofs.Decimals.{decimal_told}
+use Rattle.luks_json.proofs.Encodings.{encoded_told}
+use Rattle.luks_json.proofs.Numbers.{number_of_text}
 use Rattle.luks_rules.specs.Reading.{bytes, whole}
 use Rattle.luks_making.specs.Conditions.{Between, IsSalt}
 use Rattle.luks_making.specs.Keyslots.{base64_text}
-
--- ---- what the crate below says of texts
-
-abbrev DecimalsTold : Type 0
-DecimalsTold = (text : List ℕ) (n : ℕ) → IsDecimal text n → decimal_of text ≡ Some n
-
-abbrev EncodingsTold : Type 0
-EncodingsTold = (text bs : List ℕ) → IsBase64 text bs → encoded_of text ≡ Some bs
-
-abbrev NumbersTold : Type 0
-NumbersTold = (n : ℕ) → n < 32 → number_of (number_text n) ≡ Some n
-
-abbrev NamesSay : Type 0
-NamesSay = (text : List ℕ) (n : ℕ) → number_of text ≡ Some n → (text ≡ number_text n) × (n < 32)
-
-pub record TextsSay : Type 0 where
-  pub decimals : DecimalsTold
-  pub encodings : EncodingsTold
-  pub numbers : NumbersTold
-  pub names : NamesSay
-
--- from the laws of that crate
-pub texts_say : DecimalsTold → EncodingsTold → NumbersTold → NamesSay → TextsSay
-texts_say decimals encodings numbers names = record { decimals = decimals; encodings = encodings; numbers = numbers; names = names }
 
 -- ---- numbers and bytes
 
@@ -68,29 +47,28 @@ number_is least most n b = rw (between least most n b) refl
 pub number_read : (least most n : ℕ) → Between least most n → is_some (option_map whole (number_in least most (Some (number (unsigned n))))) ≡ true
 number_read least most n b = rw (between least most n b) refl
 
-module _ (say : TextsSay) where
-  -- a decimal text that is written
-  pub decimal_is : (n : ℕ) → n < 2 ^ 64 → decimal_in (Some (string (decimal n))) ≡ Some n
-  decimal_is n h = say.decimals (decimal n) n (record { fits = h; digits = refl })
+-- a decimal text that is written
+pub decimal_is : (n : ℕ) → n < 2 ^ 64 → decimal_in (Some (string (decimal n))) ≡ Some n
+decimal_is n h = decimal_told (decimal n) n (record { fits = h; digits = refl })
 
-  pub decimal_read : (n : ℕ) → n < 2 ^ 64 → is_some (option_map whole (decimal_in (Some (string (decimal n))))) ≡ true
-  decimal_read n h = rw (decimal_is n h) refl
+pub decimal_read : (n : ℕ) → n < 2 ^ 64 → is_some (option_map whole (decimal_in (Some (string (decimal n))))) ≡ true
+decimal_read n h = rw (decimal_is n h) refl
 
-  -- bytes that are written in base64
-  pub bytes_are : (least most : ℕ) (bs : List ℕ) → most ≤ 128 → IsBytes bs → Between least most (length bs) → bytes_in least most (Some (string (base64_text bs))) ≡ Some bs
-  bytes_are least most bs large are long =
-      let below : length bs ≤ most = long.to in
-      let at_most : length bs ≤ 128 = omega (arith, below, large) in
-      rw (say.encodings (base64_text bs) bs (record { are_bytes = are; at_most = at_most; encodes = refl }), between least most (length bs) long) refl
+-- bytes that are written in base64
+pub bytes_are : (least most : ℕ) (bs : List ℕ) → most ≤ 128 → IsBytes bs → Between least most (length bs) → bytes_in least most (Some (string (base64_text bs))) ≡ Some bs
+bytes_are least most bs large are long =
+    let below : length bs ≤ most = long.to in
+    let at_most : length bs ≤ 128 = omega (arith, below, large) in
+    rw (encoded_told (base64_text bs) bs (record { are_bytes = are; at_most = at_most; encodes = refl }), between least most (length bs) long) refl
 
-  pub bytes_read : (least most : ℕ) (bs : List ℕ) → most ≤ 128 → IsBytes bs → Between least most (length bs)
-      → is_some (option_map bytes (bytes_in least most (Some (string (base64_text bs))))) ≡ true
-  bytes_read least most bs large are long = rw (bytes_are least most bs large are long) refl
+pub bytes_read : (least most : ℕ) (bs : List ℕ) → most ≤ 128 → IsBytes bs → Between least most (length bs)
+    → is_some (option_map bytes (bytes_in least most (Some (string (base64_text bs))))) ≡ true
+bytes_read least most bs large are long = rw (bytes_are least most bs large are long) refl
 
-  -- a salt
-  pub salt_read : (salt : List ℕ) → IsSalt salt → is_some (option_map bytes (bytes_in 1 128 (Some (string (base64_text salt))))) ≡ true
-  salt_read salt h = bytes_read 1 128 salt (omega arith) h.are_bytes h.long
+-- a salt
+pub salt_read : (salt : List ℕ) → IsSalt salt → is_some (option_map bytes (bytes_in 1 128 (Some (string (base64_text salt))))) ≡ true
+salt_read salt h = bytes_read 1 128 salt (omega arith) h.are_bytes h.long
 
-  -- the name of a number is a name
-  pub name_is : (n : ℕ) → n < 32 → is_name (number_text n) ≡ true
-  name_is n h = rw (say.numbers n h) refl
+-- the name of a number is a name
+pub name_is : (n : ℕ) → n < 32 → is_name (number_text n) ≡ true
+name_is n h = rw (number_of_text n h) refl

@@ -17,7 +17,7 @@ use Rattle.luks_making.specs.Keyslots.{text_member}
 use Rattle.luks_making.specs.Without.{without_slot}
 use Rattle.luks_making.proofs.MemberFacts.{no_some, some_same}
 use Rattle.luks_making.proofs.NewVolumeFacts.{json_digits, literal_is, literal_read}
-use Rattle.luks_making.proofs.ReadingFacts.{TextsSay, decimal_is, decimal_read}
+use Rattle.luks_making.proofs.ReadingFacts.{decimal_is, decimal_read}
 use Rattle.luks_making.proofs.RowFacts.{NamesRow, RowRead, digest_row, each_of, none_among, of_segments, of_slots}
 
 -- the configuration with a region of so many bytes
@@ -26,7 +26,7 @@ config_with size = object (
     text_member (codes "json_size") (codes "12288") (
     text_member (codes "keyslots_size") (decimal size) no_members))
 
-module _ (say : TextsSay) (u : VolumeMembers) (size : ℕ) (small : size < 2 ^ 64) (was : IsHeld 12288 (without_slot 0 (formatted u))) where
+module _ (u : VolumeMembers) (size : ℕ) (small : size < 2 ^ 64) (was : IsHeld 12288 (without_slot 0 (formatted u))) where
   abbrev old : Data
   old = without_slot 0 (formatted u)
 
@@ -40,9 +40,9 @@ module _ (say : TextsSay) (u : VolumeMembers) (size : ℕ) (small : size < 2 ^ 6
   config_read = record {
     is_object = refl;
     each = each_of (RowRead (config_with size)) config_rows (
-      (λ _. literal_read say (codes "12288") 12288 (omega arith) json_digits),
+      (λ _. literal_read (codes "12288") 12288 (omega arith) json_digits),
       (
-        (λ _. decimal_read say size small),
+        (λ _. decimal_read size small),
         tt,
       ),
     );
@@ -96,7 +96,7 @@ module _ (say : TextsSay) (u : VolumeMembers) (size : ℕ) (small : size < 2 ^ 6
       keyslots = λ n d o. absurd (no_keyslot n d o);
       segments = λ n d o crypt. was.content.resolves.segments n d (back Segments n d o) crypt;
     };
-    sized = literal_is say (codes "12288") 12288 (omega arith) json_digits;
+    sized = literal_is (codes "12288") 12288 (omega arith) json_digits;
     large = λ n d key stripes bytes o. absurd (no_keyslot n d o);
     within = λ n d bytes start long o. absurd (no_keyslot n d o);
   }
@@ -106,4 +106,4 @@ module _ (say : TextsSay) (u : VolumeMembers) (size : ℕ) (small : size < 2 ^ 6
 
   -- the region is told
   pub region_told : keyslots_size (with_region size (without_slot 0 (formatted u))) ≡ Some size
-  region_told = decimal_is say size small
+  region_told = decimal_is size small

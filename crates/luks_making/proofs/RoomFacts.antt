@@ -17,7 +17,7 @@ use Rattle.luks_making.specs.With.{IsAdded}
 use Rattle.luks_making.proofs.AdditionFacts.{held_with, slot_gained}
 use Rattle.luks_making.proofs.FreeNumberFacts.{unnamed_free}
 use Rattle.luks_making.proofs.MemberFacts.{some_same}
-use Rattle.luks_making.proofs.ReadingFacts.{TextsSay, below_32, bytes_are, decimal_is, in_between, number_is}
+use Rattle.luks_making.proofs.ReadingFacts.{below_32, bytes_are, decimal_is, in_between, number_is}
 
 -- its derivation is one that its rows read
 costs_fit : (d : Data) (costs : Argon2Costs) → HasCosts d costs → FitsCosts costs
@@ -44,7 +44,7 @@ fits_slot d f s made new one long = record {
   salt = rw made.salt (record { are_bytes = new.salt; long = long });
 }
 
-module _ (say : TextsSay) (len to by : ℕ) (f : NewMembers) (j new : Data) (c : IsContent len j) (u : HasUniqueDigests j) (free : IsFree j to) (can : CanSeal len j by f) (types : FitsNew f) (a : IsAdded to by f j new) where
+module _ (len to by : ℕ) (f : NewMembers) (j new : Data) (c : IsContent len j) (u : HasUniqueDigests j) (free : IsFree j to) (can : CanSeal len j by f) (types : FitsNew f) (a : IsAdded to by f j new) where
   same_slot : a.from ≡ can.slot.object
   same_slot = some_same a.from can.slot.object (sym a.there.is ∙ can.slot.there.is)
 
@@ -57,7 +57,7 @@ module _ (say : TextsSay) (len to by : ℕ) (f : NewMembers) (j new : Data) (c :
   pub room : IsRoom len to a.digest a.slot j a.names.object
   room = record {
     number = free;
-    unnamed = unnamed_free say len to j c free.free u;
+    unnamed = unnamed_free len to j c free.free u;
     digest = record { numbered = refl; named = a.names.numbered; is = a.names.is };
     fits = fits_slot a.from f a.slot a.made types can.iterations can.salt;
     large = large_enough;
@@ -65,15 +65,15 @@ module _ (say : TextsSay) (len to by : ℕ) (f : NewMembers) (j new : Data) (c :
   }
 
 -- the value with it meets every rule
-pub held_added : TextsSay → (len to by : ℕ) (f : NewMembers) (j new : Data) → IsHeld len j → HasUniqueDigests j → IsFree j to → CanSeal len j by f → FitsNew f → IsAdded to by f j new → IsHeld len new
-held_added say len to by f j new h u free can types a =
-    rw a.is (held_with say len to a.digest a.slot j a.names.object h (room say len to by f j new h.content u free can types a))
+pub held_added : (len to by : ℕ) (f : NewMembers) (j new : Data) → IsHeld len j → HasUniqueDigests j → IsFree j to → CanSeal len j by f → FitsNew f → IsAdded to by f j new → IsHeld len new
+held_added len to by f j new h u free can types a =
+    rw a.is (held_with len to a.digest a.slot j a.names.object h (room len to by f j new h.content u free can types a))
 
 -- and all else is as it was
-pub gained_added : TextsSay → (len to by : ℕ) (f : NewMembers) (j new : Data) → IsHeld len j → HasUniqueDigests j → IsFree j to → CanSeal len j by f → FitsNew f → (a : IsAdded to by f j new)
+pub gained_added : (len to by : ℕ) (f : NewMembers) (j new : Data) → IsHeld len j → HasUniqueDigests j → IsFree j to → CanSeal len j by f → FitsNew f → (a : IsAdded to by f j new)
     → GainsSlot to a.digest a.slot j new
-gained_added say len to by f j new h u free can types a =
-    rw a.is (slot_gained say len to a.digest a.slot j a.names.object h.content (room say len to by f j new h.content u free can types a))
+gained_added len to by f j new h u free can types a =
+    rw a.is (slot_gained len to a.digest a.slot j a.names.object h.content (room len to by f j new h.content u free can types a))
 
 -- the keyslot says its derivation
 says_by : (s : SlotMembers) (k : Deriving) → FitsDerivation k → SaysDerivation k (slot_value_by k s)
@@ -98,8 +98,8 @@ salt_stands s (by_argon2i costs) = refl
 salt_stands s (by_argon2id costs) = refl
 
 -- the keyslot says its members
-pub says_members : TextsSay → (s : SlotMembers) → FitsSlot s → SaysMembers s (slot_value s)
-says_members say s f = record {
+pub says_members : (s : SlotMembers) → FitsSlot s → SaysMembers s (slot_value s)
+says_members s f = record {
   kind = refl;
   key_size = number_is 1 128 s.key_size f.key_size;
   no_priority = refl;
@@ -109,8 +109,8 @@ says_members say s f = record {
   area = refl;
   encryption = refl;
   area_key_size = number_is 1 128 s.area_key_size f.area_key_size;
-  offset = decimal_is say s.offset f.offset;
-  size = decimal_is say s.size f.size;
+  offset = decimal_is s.offset f.offset;
+  size = decimal_is s.size f.size;
   derivation = says_by s s.derivation f.derivation;
-  salt = ap (bytes_in 1 128) (salt_stands s s.derivation) ∙ bytes_are say 1 128 s.salt (omega arith) f.salt.are_bytes f.salt.long;
+  salt = ap (bytes_in 1 128) (salt_stands s s.derivation) ∙ bytes_are 1 128 s.salt (omega arith) f.salt.are_bytes f.salt.long;
 }

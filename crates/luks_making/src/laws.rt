@@ -17,7 +17,6 @@ ghost use Rattle.luks_making.specs.Naming.{HasUniqueDigests};
 ghost use Rattle.luks_making.specs.With.{IsAdded, with_slot};
 ghost use Rattle.luks_making.specs.Without.{without_slot};
 
-use luks_json::{decimals_say_numbers, encodings_say_bytes, names_say_numbers};
 
 /// A name is that of one number alone.
 pub fn names_are_apart()
@@ -39,11 +38,7 @@ pub fn addition_keeps_the_rest()
     ensures rest { (len n m : ℕ) (s : SlotMembers) (j d : Data) → IsHeld len j
         → IsRoom len n m s j d → GainsSlot n m s j (with_slot n m s j) }
     ensures says { (s : SlotMembers) → FitsSlot s → SaysMembers s (slot_value s) }
-{
-    decimals_say_numbers();
-    encodings_say_bytes();
-    names_say_numbers();
-}
+{}
 
 /// A keyslot that is made with the members of another has room where its number is free and what
 /// is new suits the other; then metadata with it meets every rule, and all else is as it was.
@@ -57,11 +52,7 @@ pub fn made_keyslot_has_room()
     ensures rest { (len to by : ℕ) (f : NewMembers) (old new : Data) → IsHeld len old
         → HasUniqueDigests old → IsFree old to → CanSeal len old by f → FitsNew f
         → (a : IsAdded to by f old new) → GainsSlot to a.digest a.slot old new }
-{
-    decimals_say_numbers();
-    encodings_say_bytes();
-    names_say_numbers();
-}
+{}
 
 /// Metadata with a changed keyslot meets every rule that it met, where what is new suits the
 /// keyslot, and all but its iterations, its salt and its area's place and length is as it was.
@@ -70,11 +61,7 @@ pub fn change_keeps_the_rest()
         → FitsNew f → IsHeld len (changed_slot n f j) }
     ensures rest { (len n : ℕ) (f : NewMembers) (j : Data) → IsHeld len j → CanSeal len j n f
         → FitsNew f → ChangesSlot n f j (changed_slot n f j) }
-{
-    decimals_say_numbers();
-    encodings_say_bytes();
-    names_say_numbers();
-}
+{}
 
 /// The metadata of a new volume meets every rule, and says one keyslot, one digest that names it,
 /// and one segment.
@@ -83,11 +70,7 @@ pub fn new_volume_is_accepted()
         → IsHeld 12288 (formatted v) }
     ensures says { (v : VolumeMembers) → FitsVolume v → CanFormat v
         → SaysVolume v (formatted v) }
-{
-    decimals_say_numbers();
-    encodings_say_bytes();
-    names_say_numbers();
-}
+{}
 
 /// The metadata of a header that is made from a LUKS1 volume meets every rule, and says the source's
 /// enabled keyslots, each under its number, its digest, that names them in order, and one segment. Its
@@ -97,8 +80,4 @@ pub fn converted_volume_is_accepted()
     ensures says { (v : SourceMembers) → FitsSource v → CanConvert v → SaysSource v (converted v) }
     ensures short { (v : SourceMembers) → FitsSource v → CanConvert v
         → length (compact_text (converted v)) ≤ 12287 }
-{
-    decimals_say_numbers();
-    encodings_say_bytes();
-    names_say_numbers();
-}
+{}
