@@ -24,7 +24,6 @@ use Rattle.luks_making.specs.Naming.{HasUniqueDigests}
 use Rattle.luks_making.specs.Unchanged.{ChangesSlot, GainsSlot, SaysMembers}
 use Rattle.luks_making.specs.Without.{without_slot}
 use Rattle.luks_making.proofs.ChangeFacts.{held_changed, slot_renewed}
-use Rattle.luks_making.proofs.ReadingFacts.{texts_say, TextsSay}
 use Rattle.luks_making.proofs.RemovalFacts.{held_left, slot_lost}
 use Rattle.luks_making.proofs.RoomFacts.{gained_added, held_added, room as has_room, says_members}
 use Rattle.luks_reading.specs.declared.report.Data.{Data}
@@ -66,10 +65,6 @@ pub same_metadata : (h total : ℕ) (payload : Data) (named : ℕ → Type 0) (j
 same_metadata h total payload named j k same old =
     let itself : KeepsMetadata h total payload named j j = record { layout = old; segments = refl; slots = λ m lt free. says_itself j m } in
     subst (KeepsMetadata h total payload named j) (sym same) itself
-
--- what is written of numbers, bytes and names is read again
-texts : TextsSay
-texts = texts_say decimal_told encoded_told number_of_text text_of_named
 
 without_metadata : (h total : ℕ) (payload : Data) (named : ℕ → Type 0) (n : ℕ) (j k : Value) → named n → k ≡ without_slot n j
     → IsLayout h total payload j → KeepsMetadata h total payload named j k
@@ -141,23 +136,23 @@ module _ (memory : ℕ) (v : List ℕ) (o h : ℕ) (payload : Data) (random : Li
   pub added_gains : (to : Option ℕ) → (IsNumberTaken j to → ⊥) → (HasNoNumber j to → ⊥)
       → (a : HasAdded h (length v) payload n to iterations (keyslot_salt random) j k) → GainsSlot a.slot a.is.digest a.is.slot j k
   added_gains to taken none a =
-      gained_added texts (h - 4096) a.slot n (members_of iterations (keyslot_salt random) a.area) j k layout.held
+      gained_added (h - 4096) a.slot n (members_of iterations (keyslot_salt random) a.area) j k layout.held
       (unique_digests before.holds.text j before.holds.reads) (new_free j to a.slot taken none a.is_new) (seals a.area a.place) (fits a.area a.place) a.is
 
   pub added_says : (to : Option ℕ) → (IsNumberTaken j to → ⊥) → (HasNoNumber j to → ⊥)
       → (a : HasAdded h (length v) payload n to iterations (keyslot_salt random) j k) → SaysMembers a.is.slot (slot_value a.is.slot)
   added_says to taken none a =
       let room : IsRoom (h - 4096) a.slot a.is.digest a.is.slot j a.is.names.object =
-      has_room texts (h - 4096) a.slot n (members_of iterations (keyslot_salt random) a.area) j k layout.held.content
+      has_room (h - 4096) a.slot n (members_of iterations (keyslot_salt random) a.area) j k layout.held.content
       (unique_digests before.holds.text j before.holds.reads) (new_free j to a.slot taken none a.is_new) (seals a.area a.place) (fits a.area a.place) a.is in
-      says_members texts a.is.slot room.fits
+      says_members a.is.slot room.fits
 
   -- the keyslot that is changed
   pub changed_changes : (a : HasChanged h (length v) payload n iterations (keyslot_salt random) j k)
       → ChangesSlot n (members_of iterations (keyslot_salt random) a.area) j k
   changed_changes a =
       let c : ChangesSlot n (members_of iterations (keyslot_salt random) a.area) j (changed_slot n (members_of iterations (keyslot_salt random) a.area) j) =
-      slot_renewed texts (h - 4096) n (members_of iterations (keyslot_salt random) a.area) j layout.held.content (seals a.area a.place) (fits a.area a.place) in
+      slot_renewed (h - 4096) n (members_of iterations (keyslot_salt random) a.area) j layout.held.content (seals a.area a.place) (fits a.area a.place) in
       subst (ChangesSlot n (members_of iterations (keyslot_salt random) a.area) j) (sym a.is) c
 
   -- the metadata with a new keyslot
@@ -169,15 +164,15 @@ module _ (memory : ℕ) (v : List ℕ) (o h : ℕ) (payload : Data) (random : Li
       let once : HasUniqueDigests j = unique_digests before.holds.text j before.holds.reads in
       let seal : CanSeal (h - 4096) j n f = seals a.area a.place in
       let fit : FitsNew f = fits a.area a.place in
-      let gains : GainsSlot a.slot a.is.digest a.is.slot j k = gained_added texts (h - 4096) a.slot n f j k layout.held once free seal fit a.is in
-      let room : IsRoom (h - 4096) a.slot a.is.digest a.is.slot j a.is.names.object = has_room texts (h - 4096) a.slot n f j k layout.held.content once free seal fit a.is in
-      let says : SaysMembers a.is.slot (slot_value a.is.slot) = says_members texts a.is.slot room.fits in
+      let gains : GainsSlot a.slot a.is.digest a.is.slot j k = gained_added (h - 4096) a.slot n f j k layout.held once free seal fit a.is in
+      let room : IsRoom (h - 4096) a.slot a.is.digest a.is.slot j a.is.names.object = has_room (h - 4096) a.slot n f j k layout.held.content once free seal fit a.is in
+      let says : SaysMembers a.is.slot (slot_value a.is.slot) = says_members a.is.slot room.fits in
       let start : slot_number k a.slot (codes "offset") ≡ Some a.area.start =
       ap (λ d. decimal_in (option_and_then (get (codes "offset")) (option_and_then (get (codes "area")) d))) gains.there ∙ says.offset ∙ ap Some a.is.made.offset in
       let len : slot_number k a.slot (codes "size") ≡ Some a.area.len =
       ap (λ d. decimal_in (option_and_then (get (codes "size")) (option_and_then (get (codes "area")) d))) gains.there ∙ says.size ∙ ap Some a.is.made.size in
       placed_metadata a.slot j k gains.rest h (length v) payload (2 * h) (key_areas_end h (length v) a.place.region) a.area (free.small, start, len) a.place.gap.gap
-      (under h (length v) payload j n a.area a.place) named is (held_added texts (h - 4096) a.slot n f j k layout.held once free seal fit a.is) layout
+      (under h (length v) payload j n a.area a.place) named is (held_added (h - 4096) a.slot n f j k layout.held once free seal fit a.is) layout
 
   -- the metadata with a keyslot that was sealed again
   changed_metadata : (named : ℕ → Type 0) → (a : HasChanged h (length v) payload n iterations (keyslot_salt random) j k) → named n
@@ -187,14 +182,14 @@ module _ (memory : ℕ) (v : List ℕ) (o h : ℕ) (payload : Data) (random : Li
       let new : Value = changed_slot n f j in
       let seal : CanSeal (h - 4096) j n f = seals a.area a.place in
       let fit : FitsNew f = fits a.area a.place in
-      let c : ChangesSlot n f j new = slot_renewed texts (h - 4096) n f j layout.held.content seal fit in
+      let c : ChangesSlot n f j new = slot_renewed (h - 4096) n f j layout.held.content seal fit in
       let start : slot_number new n (codes "offset") ≡ Some a.area.start =
       ap (λ d. decimal_in (option_and_then (get (codes "offset")) (option_and_then (get (codes "area")) d))) c.is ∙ c.says.offset in
       let len : slot_number new n (codes "size") ≡ Some a.area.len =
       ap (λ d. decimal_in (option_and_then (get (codes "size")) (option_and_then (get (codes "area")) d))) c.is ∙ c.says.size in
       let keeps : KeepsMetadata h (length v) payload named j new =
       placed_metadata n j new c.rest h (length v) payload (2 * h) (key_areas_end h (length v) a.place.region) a.area (c.there.named, start, len) a.place.gap.gap
-      (under h (length v) payload j n a.area a.place) named is (held_changed texts (h - 4096) n f j layout.held seal fit) layout in
+      (under h (length v) payload j n a.area a.place) named is (held_changed (h - 4096) n f j layout.held seal fit) layout in
       subst (KeepsMetadata h (length v) payload named j) (sym a.is) keeps
 
 -- ---- the metadata after an edit

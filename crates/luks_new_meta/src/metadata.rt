@@ -16,9 +16,7 @@ ghost use Rattle.luks_meta.specs.Content.{area_len, content};
 
 use crate::adding::added;
 use luks_making::{
-    New, NewVolume, SourceVolume, change_keeps_the_rest, converted_volume_is_accepted,
-    made_keyslot_has_room, new_fits, new_volume_is_accepted, removal_keeps_the_rest, source_fits,
-    volume_fits, written_area,
+    New, NewVolume, SourceVolume, new_fits, source_fits, volume_fits, written_area,
 };
 use luks_meta::Meta;
 use std::alloc::{AllocError, Global};
@@ -34,7 +32,6 @@ pub fn formatted(alloc: Global, volume: &NewVolume<'_>) -> Result<Meta, AllocErr
     ensures value { IfOk result (λ m. content m ≡ formatted (volume_members volume.now)) }
     ensures length { IfOk result (λ m. area_len m ≡ 12288) }
 {
-    new_volume_is_accepted();
     volume_fits(volume);
     let value = luks_making::formatted(alloc, volume)?;
     Ok(Meta::of_value(value, JSON_SIZE))
@@ -45,13 +42,13 @@ pub fn formatted(alloc: Global, volume: &NewVolume<'_>) -> Result<Meta, AllocErr
 /// source's digest with its 20 bytes, and one segment, the source's payload.
 ///
 /// Takes memory for the value.
+#[tactic(auto, using(luks_making::proofs::ConvertedTextFacts::text_short))]
 pub fn converted(alloc: Global, volume: &SourceVolume<'_>) -> Result<Meta, AllocError>
     requires { CanConvert (source_members volume.now) }
     ensures value { IfOk result (λ m. content m ≡ converted (source_members volume.now)) }
     ensures length { IfOk result (λ m. area_len m ≡ 12288) }
     ensures short { IfOk result (λ m. length (compact_text (content m)) ≤ 12287) }
 {
-    converted_volume_is_accepted();
     source_fits(volume);
     let value = luks_making::converted(alloc, volume)?;
     Ok(Meta::of_value(value, JSON_SIZE))
@@ -79,7 +76,6 @@ pub fn without_slot(alloc: Global, meta: Meta, number: u8) -> Result<Meta, Alloc
     ensures value { IfOk result (λ m. content m ≡ without_slot number (content meta)) }
     ensures length { IfOk result (λ m. area_len m ≡ area_len meta) }
 {
-    removal_keeps_the_rest();
     let len = meta.area_len();
     let value = luks_making::without_slot(alloc, meta.into_value(), number)?;
     Ok(Meta::of_value(value, len))
@@ -105,7 +101,6 @@ pub fn with_slot(
     ensures length { IfOk result (λ m. area_len m ≡ area_len meta) }
     ensures unique { HasUniqueDigests (content meta) }
 {
-    made_keyslot_has_room();
     new_fits(new);
     let len = meta.area_len();
     let value = added(alloc, meta, to, by, new)?;
@@ -128,7 +123,6 @@ pub fn changed_slot(
         content m ≡ changed_slot number (new_members new.now) (content meta)) }
     ensures length { IfOk result (λ m. area_len m ≡ area_len meta) }
 {
-    change_keeps_the_rest();
     new_fits(new);
     let len = meta.area_len();
     let value = luks_making::changed_slot(alloc, meta.into_value(), number, new)?;

@@ -1,3 +1,4 @@
+use Rattle.luks_making.proofs.RemovalFacts.{held_left}
 use Rattle.luks_meta.specs.Content.{area_len, content}
 use Rattle.luks_new_meta.proofs.metadata.without_slot.Goals as goal
 
@@ -5,4 +6,4 @@ pub of_value-requires : goal.of_value-requires
 of_value-requires c =
     let meta = c.args.meta in
     rw c.area_len-len.ensures (rw c.in_ok-value.ensures (rw c.into_value.ensures (
-    c.removal_keeps_the_rest.ensures.held (area_len meta) c.args.number (content meta) meta.held)))
+    held_left (area_len meta) c.args.number (content meta) meta.held)))
