@@ -5,7 +5,8 @@ use Rattle.std.specs.Prelude.{◌||◌, ◌==◌, not, Bool, if◌then◌else◌
 use Rattle.luks_area.specs.Ranges.{part}
 use Rattle.luks_head.specs.declared.fault.HeadFault.{HeadFault}
 use Rattle.luks_head.specs.Header1.{entry}
-use Rattle.luks_head.specs.Selection.{Choice, luks1, luks2, nothing, Chosen}
+use Rattle.luks_head.specs.Selection.{Choice, luks1, luks2, nothing}
+use Rattle.luks_head.proofs.ChoiceFacts.{choices_agree}
 use Rattle.luks_slot.specs.declared.fault.SlotFault.{SlotFault}
 use Rattle.luks_slot.specs.declared.fault.SlotFault.TheVariants as fault
 use Rattle.luks_slot.specs.declared.plan.Derivation.{Derivation}
@@ -73,11 +74,11 @@ none_taken_as memory v n x luks1 is f fault_ = fault_
 none_taken_as memory v n x (luks2 o copies) is f fault_ = x.unrefused (Head f) (subst (λ d. IsRefusalAsWithin memory v n d (Head f)) (sym is) fault_)
 none_taken_as memory v n x nothing is f fault_ = subst (λ d. HasPlanAs v n d x.plan) is x.is
 
-pub none_taken : ((v : List ℕ) (b c : Choice) → Chosen v b → Chosen v c → b ≡ c) → (memory : ℕ) (v : List ℕ) (n : ℕ) → TakesMemory memory v n → TakesNoMemory v → ⊥
-none_taken one memory v n x (inl chosen) =
-    let is : HasLuks1Plan (part v 0 592) n x.plan = subst (λ d. HasPlanAs v n d x.plan) (one v x.choice luks1 x.chosen chosen) x.is in
+pub none_taken : (memory : ℕ) (v : List ℕ) (n : ℕ) → TakesMemory memory v n → TakesNoMemory v → ⊥
+none_taken memory v n x (inl chosen) =
+    let is : HasLuks1Plan (part v 0 592) n x.plan = subst (λ d. HasPlanAs v n d x.plan) (choices_agree v x.choice luks1 x.chosen chosen) x.is in
     luks1_never (part v 0 592) (entry (part v 0 592) n) x.plan.derivation is.is.derivation x.argon2
-none_taken one memory v n x (inr unread) = none_taken_as memory v n x unread.1.choice (one v x.choice unread.1.choice x.chosen unread.1.chosen) unread.0 unread.1.fault
+none_taken memory v n x (inr unread) = none_taken_as memory v n x unread.1.choice (choices_agree v x.choice unread.1.choice x.chosen unread.1.chosen) unread.0 unread.1.fault
 
 -- and so it is of the plan alone
 pub no_plan_takes : (plan : SlotPlan) (total : ℕ) → PlanTakesMemory 0 plan total → ⊥

@@ -8,6 +8,7 @@ use Rattle.luks_head.specs.declared.fault.HeadFault.{HeadFault}
 use Rattle.luks_head.specs.declared.selection.Copies.{Copies}
 use Rattle.luks_head.specs.Header2.{header_at}
 use Rattle.luks_head.specs.Selection.{Choice, luks1, luks2, nothing, Chosen}
+use Rattle.luks_head.proofs.ChoiceFacts.{choices_agree}
 use Rattle.luks_rules.specs.declared.fault.MetaFault.{MetaFault}
 use Rattle.luks_reading.specs.declared.check_fault.CheckFault.{CheckFault}
 use Rattle.luks_reading.specs.declared.check_fault.CheckFault.TheVariants.{Head, Meta, Area, Device, Memory}
@@ -97,41 +98,6 @@ module _ (only : (v : List ℕ) (c d : Choice) → Chosen v c → Chosen v d →
     λ g is. least.1 g (subst (λ d. IsFaultAs v payload d g) (only v is.choice c is.chosen chosen) is.fault),
   )
 
-  pub lists_as : (v : List ℕ) (payload : Data) (c : Choice) (es : List Entry) → Chosen v c
-      → Lists es (HasAreaAs v payload c) → Lists es (AreaOf v payload)
-  lists_as v payload c es chosen lists = record {
-    only = λ n a g. record { choice = c; chosen = chosen; area = lists.only n a g };
-    all = λ n a g. lists.all n a (subst (λ d. HasAreaAs v payload d n a) (only v g.choice c g.chosen chosen) g.area);
-  }
-
-  pub formed_as : (v : List ℕ) (payload : Data) (c : Choice) → Chosen v c → WellFormed v payload → WellFormedAs v payload c
-  formed_as v payload c chosen well = subst (WellFormedAs v payload) (only v well.choice c well.chosen chosen) well.formed
-
-  -- LUKS1
-
-  pub luks1_first : (v : List ℕ) (payload : Data) (h : List ℕ) (total : ℕ) (f : CheckFault) → Chosen v luks1 → h ≡ part v 0 592 → length v ≡ total
-      → IsLeast check_key (IsLuks1Fault h payload total) f → First v payload f
-  luks1_first v payload h total f chosen head size least =
-      first_as v payload luks1 f chosen
-      (subst (λ t. IsLeast check_key (IsLuks1Fault (part v 0 592) payload t) f) (sym size)
-      (subst (λ b. IsLeast check_key (IsLuks1Fault b payload total) f) head least))
-
-  -- LUKS2
-
-  pub luks2_areas_are : (v : List ℕ) (payload : Data) (o : ℕ) (copies : Copies) (total : ℕ) (es : List Entry) → Chosen v (luks2 o copies)
-      → length v ≡ total → Lists es (HasLuks2Area (header_at v o) (json_at v o) payload total) → Lists es (AreaOf v payload)
-  luks2_areas_are v payload o copies total es chosen size lists =
-      lists_as v payload (luks2 o copies) es chosen
-      (subst (λ t. Lists es (HasLuks2Area (header_at v o) (json_at v o) payload t)) (sym size) lists)
-
-  pub luks2_first : (v : List ℕ) (payload : Data) (o : ℕ) (copies : Copies) (total : ℕ) (f : CheckFault) → Chosen v (luks2 o copies)
-      → length v ≡ total → IsLeast check_key (IsLuks2Fault (header_at v o) (json_at v o) payload total) f → First v payload f
-  luks2_first v payload o copies total f chosen size least =
-      first_as v payload (luks2 o copies) f chosen
-      (subst (λ t. IsLeast check_key (IsLuks2Fault (header_at v o) (json_at v o) payload t) f) (sym size) least)
-
-  -- a header that isn't read
-
   pub unread_refused : (v : List ℕ) (payload : Data) (f : ReadFault) → IsUnread v f → IsCheckRefusal v payload (unread_checked f)
   unread_refused v payload (reading.Head f) x =
       let counted = as_unread v (reading.Head f) x in first_as v payload counted.choice (Head f) counted.chosen (unread_first v payload counted.choice (reading.Head f) counted.least)
@@ -139,6 +105,41 @@ module _ (only : (v : List ℕ) (c d : Choice) → Chosen v c → Chosen v d →
       let counted = as_unread v (reading.Meta f) x in first_as v payload counted.choice (Meta f) counted.chosen (unread_first v payload counted.choice (reading.Meta f) counted.least)
   unread_refused v payload reading.Device x = tt
   unread_refused v payload reading.Memory x = x
+
+-- ---- by what was judged
+
+pub lists_as : (v : List ℕ) (payload : Data) (c : Choice) (es : List Entry) → Chosen v c
+    → Lists es (HasAreaAs v payload c) → Lists es (AreaOf v payload)
+lists_as v payload c es chosen lists = record {
+  only = λ n a g. record { choice = c; chosen = chosen; area = lists.only n a g };
+  all = λ n a g. lists.all n a (subst (λ d. HasAreaAs v payload d n a) (choices_agree v g.choice c g.chosen chosen) g.area);
+}
+
+pub formed_as : (v : List ℕ) (payload : Data) (c : Choice) → Chosen v c → WellFormed v payload → WellFormedAs v payload c
+formed_as v payload c chosen well = subst (WellFormedAs v payload) (choices_agree v well.choice c well.chosen chosen) well.formed
+
+-- LUKS1
+
+pub luks1_first : (v : List ℕ) (payload : Data) (h : List ℕ) (total : ℕ) (f : CheckFault) → Chosen v luks1 → h ≡ part v 0 592 → length v ≡ total
+    → IsLeast check_key (IsLuks1Fault h payload total) f → First v payload f
+luks1_first v payload h total f chosen head size least =
+    first_as choices_agree v payload luks1 f chosen
+    (subst (λ t. IsLeast check_key (IsLuks1Fault (part v 0 592) payload t) f) (sym size)
+    (subst (λ b. IsLeast check_key (IsLuks1Fault b payload total) f) head least))
+
+-- LUKS2
+
+pub luks2_areas_are : (v : List ℕ) (payload : Data) (o : ℕ) (copies : Copies) (total : ℕ) (es : List Entry) → Chosen v (luks2 o copies)
+    → length v ≡ total → Lists es (HasLuks2Area (header_at v o) (json_at v o) payload total) → Lists es (AreaOf v payload)
+luks2_areas_are v payload o copies total es chosen size lists =
+    lists_as v payload (luks2 o copies) es chosen
+    (subst (λ t. Lists es (HasLuks2Area (header_at v o) (json_at v o) payload t)) (sym size) lists)
+
+pub luks2_first : (v : List ℕ) (payload : Data) (o : ℕ) (copies : Copies) (total : ℕ) (f : CheckFault) → Chosen v (luks2 o copies)
+    → length v ≡ total → IsLeast check_key (IsLuks2Fault (header_at v o) (json_at v o) payload total) f → First v payload f
+luks2_first v payload o copies total f chosen size least =
+    first_as choices_agree v payload (luks2 o copies) f chosen
+    (subst (λ t. IsLeast check_key (IsLuks2Fault (header_at v o) (json_at v o) payload t) f) (sym size) least)
 
 -- a refusal of a volume without faults comes from outside
 

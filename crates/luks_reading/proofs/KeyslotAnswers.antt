@@ -8,6 +8,7 @@ use Rattle.luks_head.specs.declared.selection.Copies.{Copies}
 use Rattle.luks_head.specs.Faults.{head_key}
 use Rattle.luks_head.specs.Header2.{header_at, uuid_field}
 use Rattle.luks_head.specs.Selection.{Choice, luks1, luks2, nothing, Chosen, IsSelectFault}
+use Rattle.luks_head.proofs.ChoiceFacts.{choices_agree}
 use Rattle.luks_rules.specs.declared.fault.MetaFault.{MetaFault}
 use Rattle.luks_meta.specs.MetaFault.{meta_key}
 use Rattle.luks_reading.specs.declared.open_fault.OpenFault.{OpenFault}
@@ -33,16 +34,16 @@ refused_as memory v n p c f chosen only least = (
 )
 
 -- so it is where there is one, and where there is none the volume has none
-pub first_as : (memory : ℕ) (v : List ℕ) (n : ℕ) (c : Choice) (r : Option OpenFault) → Chosen v c → ((d : Choice) → Chosen v d → c ≡ d)
+pub first_as : (memory : ℕ) (v : List ℕ) (n : ℕ) (c : Choice) (r : Option OpenFault) → Chosen v c
     → FirstRefusal (IsRefusalAsWithin memory v n c) r → FirstRefusal (IsRefusalWithin memory v n) r
-first_as memory v n c (Some f) chosen only x = refused_as memory v n [] c f chosen only x
-first_as memory v n c None chosen only x = λ f is. x f (subst (λ d. IsRefusalAsWithin memory v n d f) (sym (only is.choice is.chosen)) is.fault)
+first_as memory v n c (Some f) chosen x = refused_as memory v n [] c f chosen (λ d. choices_agree v c d chosen) x
+first_as memory v n c None chosen x = λ f is. x f (subst (λ d. IsRefusalAsWithin memory v n d f) (choices_agree v is.choice c is.chosen chosen) is.fault)
 
 -- so is a refusal by the header, unless the device failed
-pub luks1_refused : (memory : ℕ) (v : List ℕ) (n : ℕ) (p : List ℕ) (f : OpenFault) → Chosen v luks1 → ((d : Choice) → Chosen v d → luks1 ≡ d)
+pub luks1_refused : (memory : ℕ) (v : List ℕ) (n : ℕ) (p : List ℕ) (f : OpenFault) → Chosen v luks1
     → Luks1Refused (part v 0 592) (length v) n f → IsRefusedByWithin memory v n p f
-luks1_refused memory v n p f chosen only x =
-    refused_by memory v n p f (λ own. refused_as memory v n p luks1 f chosen only (x (own_fault f own)))
+luks1_refused memory v n p f chosen x =
+    refused_by memory v n p f (λ own. refused_as memory v n p luks1 f chosen (λ d. choices_agree v luks1 d chosen) (x (own_fault f own)))
     (λ e. absurd (subst (Luks1Refused (part v 0 592) (length v) n) e x refl).0)
 
 pub luks1_opens : (memory : ℕ) (v : List ℕ) (n : ℕ) (p : List ℕ) (found : Option (List ℕ)) → Chosen v luks1
@@ -53,10 +54,10 @@ luks1_opens memory v n p None chosen x = record { choice = luks1; chosen = chose
 -- ---- the LUKS2 copy that counts
 
 pub luks2_refused : (memory : ℕ) (v : List ℕ) (n : ℕ) (p : List ℕ) (o : ℕ) (copies : Copies) (f : OpenFault) → Chosen v (luks2 o copies)
-    → ((d : Choice) → Chosen v d → luks2 o copies ≡ d) → NeedsMetadata v → Luks2Refused memory (header_at v o) (json_at v o) (length v) n f
+    → NeedsMetadata v → Luks2Refused memory (header_at v o) (json_at v o) (length v) n f
     → IsRefusedByWithin memory v n p f
-luks2_refused memory v n p o copies f chosen only needs x =
-    refused_by memory v n p f (λ own. refused_as memory v n p (luks2 o copies) f chosen only (x.0 own)) (λ e. needs)
+luks2_refused memory v n p o copies f chosen needs x =
+    refused_by memory v n p f (λ own. refused_as memory v n p (luks2 o copies) f chosen (λ d. choices_agree v (luks2 o copies) d chosen) (x.0 own)) (λ e. needs)
 
 pub luks2_takes : (memory : ℕ) (v : List ℕ) (n : ℕ) (o : ℕ) (copies : Copies) → Chosen v (luks2 o copies)
     → Luks2TakesMemory memory (header_at v o) (json_at v o) (length v) n → TakesMemory memory v n

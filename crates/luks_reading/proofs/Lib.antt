@@ -1,3 +1,4 @@
+pub mod CopyLaws
 pub mod CheckFacts
 pub mod FittingAreas
 pub mod AreaListFacts
@@ -20,6 +21,7 @@ pub mod KeyslotOrders
 pub mod TriedKeyslots
 pub mod VolumeAnswers
 pub mod OneAnswer
+pub mod VolumeLaws
 pub mod OneUnlocking
 pub mod OptionFacts
 pub mod OneArea

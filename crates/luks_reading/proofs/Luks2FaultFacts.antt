@@ -8,10 +8,7 @@ use Rattle.luks_area.specs.declared.area.AreaName.TheVariants.{Head1, Head2, Slo
 use Rattle.luks_area.specs.declared.areas.Entry.{Entry}
 use Rattle.luks_area.specs.Area.{IsAreaFault, area_key}
 use Rattle.luks_area.specs.First.{NotAfter, IsLeast}
-use Rattle.luks_head.specs.declared.fault.HeadFault.{HeadFault}
-use Rattle.luks_head.specs.declared.fault.HeadFault.TheVariants as head
-use Rattle.luks_head.specs.declared.fault.TextField.TheVariants as field
-use Rattle.luks_head.specs.Header2.{hdr_size, IsUuidField, IsUuidFault}
+use Rattle.luks_head.specs.Header2.{hdr_size}
 use Rattle.luks_rules.specs.declared.fault.MetaFault.{MetaFault}
 use Rattle.luks_rules.specs.declared.fault.MetaFault.TheVariants as meta
 use Rattle.luks_rules.specs.declared.table.Outer.TheVariants as outer
@@ -29,6 +26,7 @@ use Rattle.luks_reading.specs.declared.report.Data.TheVariants.{Here}
 use Rattle.luks_reading.specs.Checked.{check_key, HasLuks2Area, HasSegmentBelow, HoldsMeta, IsFirstBelow, IsLuks2MetaFault, IsLuks2Fault, IsLuks2Faultless, SegmentsFollow}
 use Rattle.luks_reading.specs.Layout2.{Luks2Area}
 use Rattle.luks_reading.specs.Listing.{Lists}
+use Rattle.luks_reading.proofs.CopyLaws.{one_value}
 
 -- ---- segments and the region of key areas
 
@@ -62,34 +60,14 @@ segment_breaks len j n lt below follow =
 -- ---- areas
 
 pub lists_value : (b json : List ℕ) (payload : Data) (total size : ℕ) (j : Value) (es : List Entry) → hdr_size b ≡ size → Json json j
-    → ((i k : Value) → Json json i → Json json k → i ≡ k) → Lists es (Luks2Area j size payload total) → Lists es (HasLuks2Area b json payload total)
-lists_value b json payload total size j es sized holds one lists = record {
+    → Lists es (Luks2Area j size payload total) → Lists es (HasLuks2Area b json payload total)
+lists_value b json payload total size j es sized holds lists = record {
   only = λ n a g. record { value = j; holds = holds; area = subst (λ h. Luks2Area j h payload total n a) (sym sized) (lists.only n a g) };
   all = λ n a g. lists.all n a (subst (λ h. Luks2Area j h payload total n a) sized
-      (subst (λ i. Luks2Area i (hdr_size b) payload total n a) (one g.value j g.holds holds) g.area));
+      (subst (λ i. Luks2Area i (hdr_size b) payload total n a) (one_value json g.value j g.holds holds) g.area));
 }
 
 -- ---- the first fault
-
-no_head_fault : (field_ : List ℕ) (f : HeadFault) → IsUuidField field_ → IsUuidFault field_ f → ⊥
-no_head_fault field_ head.TooShort is fault = fault
-no_head_fault field_ head.NotLuks is fault = fault
-no_head_fault field_ head.Version is fault = fault
-no_head_fault field_ head.NoSoundCopy is fault = fault
-no_head_fault field_ (head.Text field.CipherName) is fault = fault
-no_head_fault field_ (head.Text field.CipherMode) is fault = fault
-no_head_fault field_ (head.Text field.HashSpec) is fault = fault
-no_head_fault field_ (head.Text field.Uuid) is fault = fault is.plain
-no_head_fault field_ head.Uuid is fault = fault is.uuid
-no_head_fault field_ (head.SlotState n) is fault = fault
-no_head_fault field_ head.KeyBytes is fault = fault
-no_head_fault field_ (head.Stripes n) is fault = fault
-no_head_fault field_ (head.Iterations o) is fault = fault
-no_head_fault field_ head.Device is fault = fault
-no_head_fault field_ head.Memory is fault = fault
-
-pub uuid_faultless : (field_ : List ℕ) → IsUuidField field_ → (f : HeadFault) → IsUuidFault field_ f → ⊥
-uuid_faultless field_ is f = no_head_fault field_ f is
 
 -- a fault of the metadata of the copy is one of the JSON area, or a segment's
 pub meta_cases : (json : List ℕ) (payload : Data) (f : MetaFault) → IsLuks2MetaFault json payload f
@@ -110,13 +88,13 @@ meta_cases json payload (meta.Region (Segment n)) is = inr (n, (refl, is))
 meta_cases json payload meta.Memory is = inl is
 
 pub least_area2 : (b json : List ℕ) (payload : Data) (total : ℕ) (j : Value) (f : AreaFault) → IsLuks2Faultless b json
-    → Json json j → ((i k : Value) → Json json i → Json json k → i ≡ k) → (payload ≡ Here → SegmentsFollow (length json) j)
+    → Json json j → (payload ≡ Here → SegmentsFollow (length json) j)
     → IsLeast area_key (IsAreaFault (HasLuks2Area b json payload total) total) f → IsLeast check_key (IsLuks2Fault b json payload total) (Area f)
-least_area2 b json payload total j f faultless holds one follow least = (least.0, after)
+least_area2 b json payload total j f faultless holds follow least = (least.0, after)
   where
     no_segment : (n : ℕ) → HasSegmentBelow json payload n → ⊥
     no_segment n is = segment_breaks (length json) j n is.numbered
-        (subst (λ i. has_segment_below (length json) i n ≡ true) (one is.value j is.holds holds) is.below) (follow is.here)
+        (subst (λ i. has_segment_below (length json) i n ≡ true) (one_value json is.value j is.holds holds) is.below) (follow is.here)
 
     after : (g : CheckFault) → IsLuks2Fault b json payload total g → NotAfter (check_key (Area f)) (check_key g)
     after (Head g) is = absurd (faultless.uuid g is)
@@ -129,16 +107,16 @@ least_area2 b json payload total j f faultless holds one follow least = (least.0
     after Memory is = absurd is
 
 pub least_segment : (b json : List ℕ) (payload : Data) (total : ℕ) (j : Value) (n : ℕ) → IsLuks2Faultless b json
-    → Json json j → ((i k : Value) → Json json i → Json json k → i ≡ k) → IsFirstBelow json payload j n
+    → Json json j → IsFirstBelow json payload j n
     → IsLeast check_key (IsLuks2Fault b json payload total) (Meta (meta.Region (Segment n)))
-least_segment b json payload total j n faultless holds one first =
+least_segment b json payload total j n faultless holds first =
     (record { value = j; holds = holds; here = first.here; numbered = first.numbered; below = first.below }, after)
   where
     not_before : (m : ℕ) → HasSegmentBelow json payload m → n ≤ m
     not_before m is = elim (cases_lt m n) [
       | inl less ↦
           let below : has_segment_below (length json) j m ≡ true =
-          subst (λ i. has_segment_below (length json) i m ≡ true) (one is.value j is.holds holds) is.below in
+          subst (λ i. has_segment_below (length json) i m ≡ true) (one_value json is.value j is.holds holds) is.below in
           let not_below : has_segment_below (length json) j m ≡ false = first.first m less in
           absurd (cc)
       | inr more ↦ more

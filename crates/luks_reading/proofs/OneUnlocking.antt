@@ -1,17 +1,18 @@
 -- Opening a volume has one answer.
 use Rattle.std.proofs.Common.{◌≡◌, ℕ, List, [], ◌∷◌, ◌++◌, All, Option, Some, None, Result, Ok, Err, IfOk, IfErr, inl, inr, refl, ap, subst, sym, ◌∙◌}
 use Rattle.std.proofs.lemmas.List.Elements.{All-head, All-tail}
-use Rattle.serde_json.specs.Data.{Data as Value}
-use Rattle.luks_head.specs.Selection.{Choice, luks1, luks2, nothing, Chosen}
-use Rattle.luks_meta.specs.MetaFault.{Json}
+use Rattle.luks_head.specs.Selection.{Choice, luks1, luks2, nothing}
+use Rattle.luks_head.proofs.ChoiceFacts.{choices_agree}
 use Rattle.luks_reading.specs.declared.open_fault.OpenFault.{OpenFault}
 use Rattle.luks_reading.specs.declared.open_fault.OpenFault.TheVariants.{Device, Memory}
-use Rattle.luks_reading.specs.Answer.{open_key, AnswerWithin, Opened, opens}
-use Rattle.luks_reading.specs.Agreement.{AgreesUnlocked, IsSameAnswer, IsSameUnlocking}
+use Rattle.luks_reading.specs.Answer.{open_key, AnswerWithin, opens}
+use Rattle.luks_reading.specs.Agreement.{AgreesUnlocked, IsSameUnlocking}
 use Rattle.luks_reading.specs.Header.{json_at}
 use Rattle.luks_reading.specs.Unlocking.{luks2_order, GivesFirst, IsVolumeRefusedBy, IsVolumeRefusal, IsVolumeRefusalAs, IsOrderAs, DoesNotOpen, Unlocked, UnlockAnswer, Unlocks, locked, gives}
+use Rattle.luks_reading.proofs.CopyLaws.{one_value}
 use Rattle.luks_reading.proofs.OpenFaults.{IsOwn, ending}
 use Rattle.luks_reading.proofs.OneAnswer.{least_once}
+use Rattle.luks_reading.proofs.VolumeLaws.{one_answer}
 
 -- ---- the first of a list is one
 
@@ -55,36 +56,31 @@ gives_once S O order (Some f) (Some g) apart one x y =
     let key : f.1 ≡ g.1 = one g.0 f.1 g.1 (subst (λ n. O n f.1) number x.key) y.key in
     ap Some (pair_is f g number key)
 
--- ---- by the laws of the parts
+-- ---- one answer
 
-module _
-    (one : (v : List ℕ) (b c : Choice) → Chosen v b → Chosen v c → b ≡ c)
-    (value : (json : List ℕ) (i k : Value) → Json json i → Json json k → i ≡ k)
-    (answer : (memory : ℕ) (v : List ℕ) (n : ℕ) (p : List ℕ) (a b : Opened) → AnswerWithin memory v n p a → AnswerWithin memory v n p b → IsSameAnswer a b)
-  where
-    same_order : (v : List ℕ) (c : Choice) (a b : List ℕ) → IsOrderAs v c a → IsOrderAs v c b → a ≡ b
-    same_order v luks1 a b x y = x ∙ sym y
-    same_order v (luks2 o copies) a b x y =
-        x.1.1 ∙ ap luks2_order (value (json_at v o) x.0 y.0 x.1.0 y.1.0) ∙ sym y.1.1
-    same_order v nothing a b x y = absurd x
+same_order : (v : List ℕ) (c : Choice) (a b : List ℕ) → IsOrderAs v c a → IsOrderAs v c b → a ≡ b
+same_order v luks1 a b x y = x ∙ sym y
+same_order v (luks2 o copies) a b x y =
+    x.1.1 ∙ ap luks2_order (one_value (json_at v o) x.0 y.0 x.1.0 y.1.0) ∙ sym y.1.1
+same_order v nothing a b x y = absurd x
 
-    unlocks_once : (memory : ℕ) (v p : List ℕ) (a b : Option (ℕ × List ℕ)) → Unlocks memory v p a → Unlocks memory v p b → a ≡ b
-    unlocks_once memory v p a b x y =
-        let same : y.order ≡ x.order = same_order v x.choice y.order x.order
-        (subst (λ c. IsOrderAs v c y.order) (one v y.choice x.choice y.chosen x.chosen) y.ordered) x.ordered in
-        gives_once (DoesNotOpen memory v p) (λ n k. AnswerWithin memory v n p (opens k)) x.order a b
-        (λ n k shut key. shut k key) (λ n k l f g. answer memory v n p (opens k) (opens l) f g)
-        x.gives (subst (λ order. GivesFirst (DoesNotOpen memory v p) (λ n k. AnswerWithin memory v n p (opens k)) order b) same y.gives)
+unlocks_once : (memory : ℕ) (v p : List ℕ) (a b : Option (ℕ × List ℕ)) → Unlocks memory v p a → Unlocks memory v p b → a ≡ b
+unlocks_once memory v p a b x y =
+    let same : y.order ≡ x.order = same_order v x.choice y.order x.order
+    (subst (λ c. IsOrderAs v c y.order) (choices_agree v y.choice x.choice y.chosen x.chosen) y.ordered) x.ordered in
+    gives_once (DoesNotOpen memory v p) (λ n k. AnswerWithin memory v n p (opens k)) x.order a b
+    (λ n k shut key. shut k key) (λ n k l f g. one_answer memory v n p (opens k) (opens l) f g)
+    x.gives (subst (λ order. GivesFirst (DoesNotOpen memory v p) (λ n k. AnswerWithin memory v n p (opens k)) order b) same y.gives)
 
-    clash : (memory : ℕ) (v p : List ℕ) (f : OpenFault) (found : Option (ℕ × List ℕ)) → UnlockAnswer memory v p (locked f) → Unlocks memory v p found → ⊥
-    clash memory v p f found x y =
-        y.unrefused f (subst (λ c. IsVolumeRefusalAs v c f) (one v x.0.choice y.choice x.0.chosen y.chosen) x.0.fault)
+clash : (memory : ℕ) (v p : List ℕ) (f : OpenFault) (found : Option (ℕ × List ℕ)) → UnlockAnswer memory v p (locked f) → Unlocks memory v p found → ⊥
+clash memory v p f found x y =
+    y.unrefused f (subst (λ c. IsVolumeRefusalAs v c f) (choices_agree v x.0.choice y.choice x.0.chosen y.chosen) x.0.fault)
 
-    pub one_unlocking : (memory : ℕ) (v p : List ℕ) (a b : Unlocked) → UnlockAnswer memory v p a → UnlockAnswer memory v p b → IsSameUnlocking a b
-    one_unlocking memory v p (gives found) (gives other) x y = unlocks_once memory v p found other x y
-    one_unlocking memory v p (gives found) (locked g) x y = clash memory v p g found y x
-    one_unlocking memory v p (locked f) (gives other) x y = clash memory v p f other x y
-    one_unlocking memory v p (locked f) (locked g) x y = least_once open_key (IsVolumeRefusal v) f g x y
+pub one_unlocking : (memory : ℕ) (v p : List ℕ) (a b : Unlocked) → UnlockAnswer memory v p a → UnlockAnswer memory v p b → IsSameUnlocking a b
+one_unlocking memory v p (gives found) (gives other) x y = unlocks_once memory v p found other x y
+one_unlocking memory v p (gives found) (locked g) x y = clash memory v p g found y x
+one_unlocking memory v p (locked f) (gives other) x y = clash memory v p f other x y
+one_unlocking memory v p (locked f) (locked g) x y = least_once open_key (IsVolumeRefusal v) f g x y
 
 -- ---- so a call's answer is the only one
 
@@ -104,18 +100,16 @@ ok_agrees : (found : Option (ℕ × List ℕ)) (a : Unlocked) → IsSameUnlockin
 ok_agrees found (gives other) e = sym e
 ok_agrees found (locked g) e = e
 
-pub err_agrees : (memory : ℕ) (v p : List ℕ) → ((a b : Unlocked) → UnlockAnswer memory v p a → UnlockAnswer memory v p b → IsSameUnlocking a b)
-    → (f : OpenFault) → IsVolumeRefusedBy v f → (a : Unlocked) → UnlockAnswer memory v p a → AgreesUnlocked a (Err f)
-err_agrees memory v p one f why a y = elim (ending f) [
+pub err_agrees : (memory : ℕ) (v p : List ℕ) (f : OpenFault) → IsVolumeRefusedBy v f → (a : Unlocked) → UnlockAnswer memory v p a → AgreesUnlocked a (Err f)
+err_agrees memory v p f why a y = elim (ending f) [
   | inl device ↦ subst (λ g. AgreesUnlocked a (Err g)) (sym device) (device_agrees a)
   | inr other ↦ (elim other [
     | inl memory ↦ subst (λ g. AgreesUnlocked a (Err g)) (sym memory) (memory_agrees a)
-    | inr own ↦ own_agrees f a own (one a (locked f) y (own.locked v why))
+    | inr own ↦ own_agrees f a own (one_unlocking memory v p a (locked f) y (own.locked v why))
   ])
 ]
 
-pub agrees : (memory : ℕ) (v p : List ℕ) → ((a b : Unlocked) → UnlockAnswer memory v p a → UnlockAnswer memory v p b → IsSameUnlocking a b)
-    → (r : Result (Option (ℕ × List ℕ)) OpenFault) → IfOk r (Unlocks memory v p) → IfErr r (IsVolumeRefusedBy v)
+pub agrees : (memory : ℕ) (v p : List ℕ) (r : Result (Option (ℕ × List ℕ)) OpenFault) → IfOk r (Unlocks memory v p) → IfErr r (IsVolumeRefusedBy v)
     → (a : Unlocked) → UnlockAnswer memory v p a → AgreesUnlocked a r
-agrees memory v p one (Ok found) opened why a y = ok_agrees found a (one a (gives found) y opened)
-agrees memory v p one (Err f) opened why a y = err_agrees memory v p one f why a y
+agrees memory v p (Ok found) opened why a y = ok_agrees found a (one_unlocking memory v p a (gives found) y opened)
+agrees memory v p (Err f) opened why a y = err_agrees memory v p f why a y

@@ -1,6 +1,6 @@
 -- The three endings of an opening's fault: the device failed, memory was refused, or the fault is the
 -- volume's own. By this no fact goes by all faults.
-use Rattle.std.proofs.Common.{◌≡◌, ◌≢◌, ℕ, List, Bool, true, false, Option, None, Result, Ok, Err, IfOk, IfErr, ◌⊎◌, inl, inr, refl, subst, sym}
+use Rattle.std.proofs.Common.{◌≡◌, ◌≢◌, ℕ, List, true, false, Option, None, Result, Ok, Err, IfOk, IfErr, ◌⊎◌, inl, inr, refl, subst, sym}
 use Rattle.luks_area.specs.First.{IsLeast}
 use Rattle.luks_reading.specs.declared.open_fault.OpenFault.{OpenFault}
 use Rattle.luks_reading.specs.declared.open_fault.OpenFault.TheVariants.{Head, Meta, NoSuchSlot, SlotFree, Outside, Slot, Device, Memory}

@@ -1,6 +1,5 @@
 -- The first fault of a header that isn't read.
-use Rattle.std.proofs.Common.{◌≡◌, ◌≢◌, ℕ, ◌+◌, ◌-◌, List, ◌↔◌, inl, inr, refl, ap, subst, sym, arith}
-use Rattle.serde_json.specs.Data.{Data}
+use Rattle.std.proofs.Common.{◌≡◌, ◌≢◌, ℕ, ◌+◌, ◌-◌, List, inl, inr, refl, ap, subst, sym, arith}
 use Rattle.luks_area.specs.First.{NotAfter, IsLeast}
 use Rattle.luks_area.specs.Ranges.{part}
 use Rattle.luks_head.specs.declared.bin2.Bin2.{Bin2}
@@ -8,11 +7,11 @@ use Rattle.luks_head.specs.declared.fault.HeadFault.{HeadFault}
 use Rattle.luks_head.specs.declared.fault.HeadFault.TheVariants as head
 use Rattle.luks_head.specs.declared.selection.Copies.{Copies}
 use Rattle.luks_head.specs.Faults.{head_key}
-use Rattle.luks_head.specs.Header2.{header_at, uuid_field, HoldsBin2, IsUuidFault, IsUuidField}
+use Rattle.luks_head.specs.Header2.{header_at, uuid_field, HoldsBin2, IsUuidFault}
 use Rattle.luks_head.specs.Selection.{Choice, luks1, luks2, nothing, Chosen, IsOfSelection, IsRefused, IsSelectFault}
+use Rattle.luks_head.proofs.ChoiceFacts.{choices_agree, uuid_sound}
 use Rattle.luks_rules.specs.declared.fault.MetaFault.{MetaFault}
 use Rattle.luks_rules.specs.declared.fault.MetaFault.TheVariants as meta
-use Rattle.luks_meta.specs.Accepted.{IsMeta}
 use Rattle.luks_meta.specs.Content.{content}
 use Rattle.luks_meta.specs.MetaFault.{IsMetaFault, meta_key}
 use Rattle.luks_reading.specs.declared.read_fault.ReadFault.{ReadFault}
@@ -21,6 +20,7 @@ use Rattle.luks_reading.specs.declared.header.ChosenCopy.{ChosenCopy}
 use Rattle.luks_reading.specs.ChosenCopies.{CopyRefused, IsCleared, IsFromOutside, json_of}
 use Rattle.luks_reading.specs.Conversions.{head_unread, meta_unread}
 use Rattle.luks_reading.specs.Header.{json_at, read_key, IsChosenCopy, IsReadFault, IsReadFaultAs, IsUnread, NeedsMetadata, TakesNoMemory}
+use Rattle.luks_reading.proofs.CopyLaws.{metadata_faultless}
 
 -- ---- the uuid and the metadata of a copy
 
@@ -81,11 +81,11 @@ nothing_counts v head.Device x = absurd x
 nothing_counts v head.Memory x = absurd x
 
 -- the first fault by what counts, as a fault of the volume, and back
-pub unread_as : (v : List ℕ) (c : Choice) (f : ReadFault) → ((b d : Choice) → Chosen v b → Chosen v d → b ≡ d) → Chosen v c
+pub unread_as : (v : List ℕ) (c : Choice) (f : ReadFault) → Chosen v c
     → IsLeast read_key (IsReadFaultAs v c) f → IsLeast read_key (IsReadFault v) f
-unread_as v c f only chosen least = (
+unread_as v c f chosen least = (
   record { choice = c; chosen = chosen; fault = least.0 },
-  λ g is. least.1 g (subst (λ d. IsReadFaultAs v d g) (only is.choice c is.chosen chosen) is.fault),
+  λ g is. least.1 g (subst (λ d. IsReadFaultAs v d g) (choices_agree v is.choice c is.chosen chosen) is.fault),
 )
 
 pub record UnreadAs (v : List ℕ) (f : ReadFault) : Type 0 where
@@ -111,62 +111,60 @@ select_least v f least = (least.0, after)
     after Device is = absurd is
     after Memory is = absurd is
 
-pub select_unread : (v : List ℕ) (f : HeadFault) → ((b d : Choice) → Chosen v b → Chosen v d → b ≡ d) → IsOfSelection f → IsRefused v f → IsUnread v (head_unread f)
-select_unread v head.TooShort only kind x = unread_as v nothing (Head head.TooShort) only (nothing_counts v head.TooShort x.0) (select_least v head.TooShort x)
-select_unread v head.NotLuks only kind x = unread_as v nothing (Head head.NotLuks) only (nothing_counts v head.NotLuks x.0) (select_least v head.NotLuks x)
-select_unread v head.Version only kind x = unread_as v nothing (Head head.Version) only (nothing_counts v head.Version x.0) (select_least v head.Version x)
-select_unread v head.NoSoundCopy only kind x =
-    unread_as v nothing (Head head.NoSoundCopy) only (nothing_counts v head.NoSoundCopy x.0) (select_least v head.NoSoundCopy x)
-select_unread v (head.Text t) only kind x = absurd kind
-select_unread v head.Uuid only kind x = absurd kind
-select_unread v (head.SlotState m) only kind x = absurd kind
-select_unread v head.KeyBytes only kind x = absurd kind
-select_unread v (head.Stripes m) only kind x = absurd kind
-select_unread v (head.Iterations o) only kind x = absurd kind
-select_unread v head.Device only kind x = tt
-select_unread v head.Memory only kind x = absurd kind
+pub select_unread : (v : List ℕ) (f : HeadFault) → IsOfSelection f → IsRefused v f → IsUnread v (head_unread f)
+select_unread v head.TooShort kind x = unread_as v nothing (Head head.TooShort) (nothing_counts v head.TooShort x.0) (select_least v head.TooShort x)
+select_unread v head.NotLuks kind x = unread_as v nothing (Head head.NotLuks) (nothing_counts v head.NotLuks x.0) (select_least v head.NotLuks x)
+select_unread v head.Version kind x = unread_as v nothing (Head head.Version) (nothing_counts v head.Version x.0) (select_least v head.Version x)
+select_unread v head.NoSoundCopy kind x =
+    unread_as v nothing (Head head.NoSoundCopy) (nothing_counts v head.NoSoundCopy x.0) (select_least v head.NoSoundCopy x)
+select_unread v (head.Text t) kind x = absurd kind
+select_unread v head.Uuid kind x = absurd kind
+select_unread v (head.SlotState m) kind x = absurd kind
+select_unread v head.KeyBytes kind x = absurd kind
+select_unread v (head.Stripes m) kind x = absurd kind
+select_unread v (head.Iterations o) kind x = absurd kind
+select_unread v head.Device kind x = tt
+select_unread v head.Memory kind x = absurd kind
 
 -- ---- a copy counts
 
-pub copy_unread : (v : List ℕ) (o : ℕ) (copies : Copies) (f : ReadFault) → ((b d : Choice) → Chosen v b → Chosen v d → b ≡ d) → Chosen v (luks2 o copies)
+pub copy_unread : (v : List ℕ) (o : ℕ) (copies : Copies) (f : ReadFault) → Chosen v (luks2 o copies)
     → CopyRefused (uuid_field (header_at v o)) (json_at v o) f → IsUnread v f
-copy_unread v o copies (Head f) only chosen x = unread_as v (luks2 o copies) (Head f) only chosen (x.0, after)
+copy_unread v o copies (Head f) chosen x = unread_as v (luks2 o copies) (Head f) chosen (x.0, after)
   where
     after : (g : ReadFault) → IsReadFaultAs v (luks2 o copies) g → NotAfter (read_key (Head f)) (read_key g)
     after (Head g) is = (omega arith, λ _. x.1 g is)
     after (Meta g) is = (omega arith, λ e. absurd (omega (arith, e)))
     after Device is = absurd is
     after Memory is = absurd is
-copy_unread v o copies (Meta f) only chosen x = unread_as v (luks2 o copies) (Meta f) only chosen (x.least.0, after)
+copy_unread v o copies (Meta f) chosen x = unread_as v (luks2 o copies) (Meta f) chosen (x.least.0, after)
   where
     after : (g : ReadFault) → IsReadFaultAs v (luks2 o copies) g → NotAfter (read_key (Meta f)) (read_key g)
     after (Head g) is = absurd (x.uuid_faultless g is)
     after (Meta g) is = (omega arith, λ _. x.least.1 g is)
     after Device is = absurd is
     after Memory is = absurd is
-copy_unread v o copies Device only chosen x = tt
-copy_unread v o copies Memory only chosen x = record { place = o; copies = copies; chosen = chosen; uuid = x }
+copy_unread v o copies Device chosen x = tt
+copy_unread v o copies Memory chosen x = record { place = o; copies = copies; chosen = chosen; uuid = x }
 
 -- nothing is wrong with a chosen copy that was read
-pub cleared_copy : ((field : List ℕ) → ((f : HeadFault) → IsUuidFault field f → ⊥) ↔ IsUuidField field)
-    → ((json : List ℕ) → ((f : MetaFault) → IsMetaFault json f → ⊥) ↔ ((j : Data) × IsMeta json j))
-    → (v : List ℕ) (c : ChosenCopy) → IsChosenCopy v c
+pub cleared_copy : (v : List ℕ) (c : ChosenCopy) → IsChosenCopy v c
     → IsCleared (uuid_field (header_at v c.header.hdr_offset)) (json_at v c.header.hdr_offset) (content c.meta)
-cleared_copy uuid metadata v c is = record {
-  uuid_faultless = (uuid (uuid_field (header_at v c.header.hdr_offset))).1 is.uuid;
-  faultless = (metadata (json_at v c.header.hdr_offset)).1 (content c.meta, is.metadata);
+cleared_copy v c is = record {
+  uuid_faultless = uuid_sound (uuid_field (header_at v c.header.hdr_offset)) is.uuid;
+  faultless = (metadata_faultless (json_at v c.header.hdr_offset)).1 (content c.meta, is.metadata);
   meta = is.metadata;
 }
 
 -- ---- memory
 
 -- where the metadata of a copy is read, none of the faults before it stands
-pub no_metadata : (v : List ℕ) → ((b d : Choice) → Chosen v b → Chosen v d → b ≡ d) → TakesNoMemory v → NeedsMetadata v → ⊥
-no_metadata v only (inl luks1_counts) needs =
-    let same : luks1 ≡ luks2 needs.place needs.copies = only luks1 (luks2 needs.place needs.copies) luks1_counts needs.chosen in cc
-no_metadata v only (inr (f, fault)) needs =
-    needs.uuid f (subst (λ d. IsReadFaultAs v d (Head f)) (only fault.choice (luks2 needs.place needs.copies) fault.chosen needs.chosen) fault.fault)
+pub no_metadata : (v : List ℕ) → TakesNoMemory v → NeedsMetadata v → ⊥
+no_metadata v (inl luks1_counts) needs =
+    let same : luks1 ≡ luks2 needs.place needs.copies = choices_agree v luks1 (luks2 needs.place needs.copies) luks1_counts needs.chosen in cc
+no_metadata v (inr (f, fault)) needs =
+    needs.uuid f (subst (λ d. IsReadFaultAs v d (Head f)) (choices_agree v fault.choice (luks2 needs.place needs.copies) fault.chosen needs.chosen) fault.fault)
 
 -- so a header isn't read for want of memory there
-pub not_for_memory : (v : List ℕ) (f : ReadFault) → ((b d : Choice) → Chosen v b → Chosen v d → b ≡ d) → TakesNoMemory v → IsUnread v f → f ≢ Memory
-not_for_memory v f only none unread is = no_metadata v only none (subst (IsUnread v) is unread)
+pub not_for_memory : (v : List ℕ) (f : ReadFault) → TakesNoMemory v → IsUnread v f → f ≢ Memory
+not_for_memory v f none unread is = no_metadata v none (subst (IsUnread v) is unread)

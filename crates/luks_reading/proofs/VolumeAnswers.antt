@@ -1,5 +1,5 @@
 -- From what counts of a volume to the volume: which fault locks it, and which keyslot opens first.
-use Rattle.std.proofs.Common.{◌≡◌, ◌≢◌, ℕ, List, ◌++◌, true, Option, Some, None, Result, Ok, Err, IfOk, refl, subst, sym, ◌∙◌}
+use Rattle.std.proofs.Common.{◌≡◌, ◌≢◌, ℕ, List, ◌++◌, Option, Some, None, Result, Ok, Err, IfOk, refl, subst, sym, ◌∙◌}
 use Rattle.serde_json.specs.Data.{Data}
 use Rattle.luks_area.specs.First.{NotAfter, IsLeast}
 use Rattle.luks_area.specs.Ranges.{part}
@@ -8,6 +8,7 @@ use Rattle.luks_head.specs.declared.selection.Copies.{Copies}
 use Rattle.luks_head.specs.Faults.{head_key, IsCommonFault}
 use Rattle.luks_head.specs.Header2.{header_at, uuid_field}
 use Rattle.luks_head.specs.Selection.{Choice, luks1, luks2, nothing, Chosen}
+use Rattle.luks_head.proofs.ChoiceFacts.{choices_agree}
 use Rattle.luks_slot.specs.declared.plan.SlotPlan.{SlotPlan}
 use Rattle.luks_reading.specs.declared.open_fault.OpenFault.{OpenFault}
 use Rattle.luks_reading.specs.declared.open_fault.OpenFault.TheVariants.{Head, Meta, NoSuchSlot, SlotFree, Outside, Slot, Device, Memory}
@@ -58,10 +59,10 @@ locked_as v c f chosen only least = (
   λ g is. least.1 g (subst (λ d. IsVolumeRefusalAs v d g) (sym (only is.choice is.chosen)) is.fault),
 )
 
-pub luks1_locked : (v : List ℕ) (f : OpenFault) → Chosen v luks1 → ((d : Choice) → Chosen v d → luks1 ≡ d)
+pub luks1_locked : (v : List ℕ) (f : OpenFault) → Chosen v luks1
     → Luks1VolumeRefused (part v 0 592) f → IsVolumeRefusedBy v f
-luks1_locked v f chosen only x =
-    locked_by v f (λ own. locked_as v luks1 f chosen only (x own))
+luks1_locked v f chosen x =
+    locked_by v f (λ own. locked_as v luks1 f chosen (λ d. choices_agree v luks1 d chosen) (x own))
     (λ e. absurd (subst (Luks1VolumeRefused (part v 0 592)) e x refl).0)
 
 -- ---- a header that isn't read
@@ -113,17 +114,17 @@ pub record IsTaken (memory : ℕ) (v : List ℕ) (n : ℕ) (c : Choice) (plan : 
   pub is : HasPlanAs v n c plan
   pub unrefused : (f : OpenFault) → IsRefusalAsWithin memory v n c f → ⊥
 
-taken : (memory : ℕ) (v : List ℕ) (n : ℕ) (p : List ℕ) (c : Choice) (k : List ℕ) → ((d : Choice) → Chosen v d → c ≡ d) → (y : OpensWithin memory v n p (Some k)) → IsTaken memory v n c y.plan
-taken memory v n p c k only y =
-    let e : c ≡ y.choice = only y.choice y.chosen in
+taken : (memory : ℕ) (v : List ℕ) (n : ℕ) (p : List ℕ) (c : Choice) (k : List ℕ) → Chosen v c → (y : OpensWithin memory v n p (Some k)) → IsTaken memory v n c y.plan
+taken memory v n p c k chosen y =
+    let e : c ≡ y.choice = choices_agree v c y.choice chosen y.chosen in
     record {
       is = subst (λ d. HasPlanAs v n d y.plan) (sym e) y.is;
       unrefused = λ f r. y.unrefused f (subst (λ d. IsRefusalAsWithin memory v n d f) e r);
     }
 
-luks1_stays_shut : (memory : ℕ) (v p : List ℕ) (n : ℕ) → ((d : Choice) → Chosen v d → luks1 ≡ d) → Luks1DoesNotOpen (part v 0 592) v p n → DoesNotOpen memory v p n
-luks1_stays_shut memory v p n only shut k y =
-    let x = taken memory v n p luks1 k only y in
+luks1_stays_shut : (memory : ℕ) (v p : List ℕ) (n : ℕ) → Chosen v luks1 → Luks1DoesNotOpen (part v 0 592) v p n → DoesNotOpen memory v p n
+luks1_stays_shut memory v p n chosen shut k y =
+    let x = taken memory v n p luks1 k chosen y in
     shut k (record { plan = y.plan; is = x.is; unrefused = x.unrefused; key = y.key })
 
 not_locked : (h : List ℕ) (f : OpenFault) → ((g : HeadFault) → IsCommonFault h g → ⊥) → IsLuks1VolumeRefusal h f → ⊥
@@ -136,22 +137,22 @@ not_locked h (Slot f) clear x = x
 not_locked h Device clear x = x
 not_locked h Memory clear x = x
 
-luks1_unlocks : (memory : ℕ) (v p : List ℕ) (found : Option (ℕ × List ℕ)) → Chosen v luks1 → ((d : Choice) → Chosen v d → luks1 ≡ d)
+luks1_unlocks : (memory : ℕ) (v p : List ℕ) (found : Option (ℕ × List ℕ)) → Chosen v luks1
     → ((g : HeadFault) → IsCommonFault (part v 0 592) g → ⊥) → Luks1Tries (part v 0 592) v p found → Unlocks memory v p found
-luks1_unlocks memory v p found chosen only clear x = record {
+luks1_unlocks memory v p found chosen clear x = record {
   choice = luks1;
   chosen = chosen;
   unrefused = λ f y. not_locked (part v 0 592) f clear y;
   order = luks1_order (part v 0 592);
   ordered = refl;
   gives = gives_weaker (Luks1DoesNotOpen (part v 0 592) v p) (DoesNotOpen memory v p) (λ n k. Luks1Opens (part v 0 592) v n p (Some k)) (λ n k. OpensWithin memory v n p (Some k))
-      (luks1_order (part v 0 592)) found (λ n. luks1_stays_shut memory v p n only) (λ n k y. luks1_opens memory v n p (Some k) chosen y) x;
+      (luks1_order (part v 0 592)) found (λ n. luks1_stays_shut memory v p n chosen) (λ n k y. luks1_opens memory v n p (Some k) chosen y) x;
 }
 
-pub luks1_unlocks_as : (memory : ℕ) (v p : List ℕ) (r : Result (Option (ℕ × List ℕ)) OpenFault) → Chosen v luks1 → ((d : Choice) → Chosen v d → luks1 ≡ d)
+pub luks1_unlocks_as : (memory : ℕ) (v p : List ℕ) (r : Result (Option (ℕ × List ℕ)) OpenFault) → Chosen v luks1
     → IfOk r (λ _. (g : HeadFault) → IsCommonFault (part v 0 592) g → ⊥) → IfOk r (Luks1Tries (part v 0 592) v p) → IfOk r (Unlocks memory v p)
-luks1_unlocks_as memory v p (Ok found) chosen only clear x = luks1_unlocks memory v p found chosen only clear x
-luks1_unlocks_as memory v p (Err f) chosen only clear x = tt
+luks1_unlocks_as memory v p (Ok found) chosen clear x = luks1_unlocks memory v p found chosen clear x
+luks1_unlocks_as memory v p (Err f) chosen clear x = tt
 
 pub cleared_not_locked : (b json : List ℕ) (j : Data) (f : OpenFault) → IsCleared (uuid_field b) json j → IsLuks2VolumeRefusal b json f → ⊥
 cleared_not_locked b json j (Head f) clear x = clear.uuid_faultless f x
@@ -181,10 +182,10 @@ second_rank memory b json v p j found shut x =
     subst (λ order. Luks2Tries memory b json v p order found) (both_ranks j)
     (gives_right (Luks2DoesNotOpen memory b json v p) (λ n k. Luks2Opens memory b json v n p (Some k)) (rank_order Preferred j) (rank_order Normal j) found shut x)
 
-luks2_stays_shut : (memory : ℕ) (v p : List ℕ) (n o : ℕ) (copies : Copies) → ((d : Choice) → Chosen v d → luks2 o copies ≡ d)
+luks2_stays_shut : (memory : ℕ) (v p : List ℕ) (n o : ℕ) (copies : Copies) → Chosen v (luks2 o copies)
     → Luks2DoesNotOpen memory (header_at v o) (json_at v o) v p n → DoesNotOpen memory v p n
-luks2_stays_shut memory v p n o copies only shut k y =
-    let x = taken memory v n p (luks2 o copies) k only y in
+luks2_stays_shut memory v p n o copies chosen shut k y =
+    let x = taken memory v n p (luks2 o copies) k chosen y in
     shut k (record { plan = y.plan; is = x.is; unrefused = x.unrefused; key = y.key })
 
 luks2_key : (memory : ℕ) (v p : List ℕ) (n : ℕ) (k : List ℕ) (o : ℕ) (copies : Copies) → Chosen v (luks2 o copies)
@@ -192,9 +193,9 @@ luks2_key : (memory : ℕ) (v p : List ℕ) (n : ℕ) (k : List ℕ) (o : ℕ) (
 luks2_key memory v p n k o copies chosen x = record { choice = luks2 o copies; chosen = chosen; plan = x.plan; is = x.is; unrefused = x.unrefused; key = x.key }
 
 pub luks2_unlocks : (memory : ℕ) (v p : List ℕ) (o : ℕ) (copies : Copies) (j : Data) (found : Option (ℕ × List ℕ)) → Chosen v (luks2 o copies)
-    → ((d : Choice) → Chosen v d → luks2 o copies ≡ d) → IsCleared (uuid_field (header_at v o)) (json_at v o) j
+    → IsCleared (uuid_field (header_at v o)) (json_at v o) j
     → Luks2Tries memory (header_at v o) (json_at v o) v p (luks2_order j) found → Unlocks memory v p found
-luks2_unlocks memory v p o copies j found chosen only clear x = record {
+luks2_unlocks memory v p o copies j found chosen clear x = record {
   choice = luks2 o copies;
   chosen = chosen;
   unrefused = λ f y. cleared_not_locked (header_at v o) (json_at v o) j f clear y;
@@ -202,7 +203,7 @@ luks2_unlocks memory v p o copies j found chosen only clear x = record {
   ordered = (j, (clear.meta.json, refl));
   gives = gives_weaker (Luks2DoesNotOpen memory (header_at v o) (json_at v o) v p) (DoesNotOpen memory v p)
       (λ n k. Luks2Opens memory (header_at v o) (json_at v o) v n p (Some k)) (λ n k. OpensWithin memory v n p (Some k))
-      (luks2_order j) found (λ n. luks2_stays_shut memory v p n o copies only) (λ n k z. luks2_key memory v p n k o copies chosen z) x;
+      (luks2_order j) found (λ n. luks2_stays_shut memory v p n o copies chosen) (λ n k z. luks2_key memory v p n k o copies chosen z) x;
 }
 
 -- ---- a failed device

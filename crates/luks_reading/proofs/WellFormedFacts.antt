@@ -173,8 +173,8 @@ fits_and_resolves one only v payload well = record {
 
 -- ---- from what was judged of a LUKS1 header to the volume
 
-pub luks1_areas_are : ((v : List ℕ) (c d : Choice) → Chosen v c → Chosen v d → c ≡ d) → (v : List ℕ) (payload : Data) (h : List ℕ) (total : ℕ) (es : List Entry) → Chosen v luks1 → h ≡ part v 0 592 → length v ≡ total
+pub luks1_areas_are : (v : List ℕ) (payload : Data) (h : List ℕ) (total : ℕ) (es : List Entry) → Chosen v luks1 → h ≡ part v 0 592 → length v ≡ total
     → Lists es (Luks1Area h payload total) → Lists es (AreaOf v payload)
-luks1_areas_are one v payload h total es chosen begins size lists =
-    lists_as one v payload luks1 es chosen
+luks1_areas_are v payload h total es chosen begins size lists =
+    lists_as v payload luks1 es chosen
     (subst (λ t. Lists es (Luks1Area (part v 0 592) payload t)) (sym size) (subst (λ b. Lists es (Luks1Area b payload total)) begins lists))

@@ -1,5 +1,5 @@
 -- What the plan of a keyslot of LUKS2 tells of its type.
-use Rattle.std.proofs.Common.{◌≡◌, ◌∙◌, List, ℕ, codes, sym, Option, Some}
+use Rattle.std.proofs.Common.{◌≡◌, ◌∙◌, codes, sym, Some}
 use Rattle.serde_json.specs.Data.{Data}
 use Rattle.luks_rules.specs.declared.table.Outer.TheVariants as outer
 use Rattle.luks_meta.specs.Faults.{type_at}

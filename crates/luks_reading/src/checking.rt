@@ -12,11 +12,8 @@ ghost use Rattle.luks_reading.specs.Reported.{IsFromOutside, Reports};
 use crate::check_fault::CheckFault;
 use crate::header::{Header, read_header};
 use crate::judging::{judge_layout, judge_luks1};
-use crate::laws::{no_fault_is_well_formed, well_formed_volume};
 use crate::report::{Data, Report, Version};
 use luks_area::Device;
-use luks_head::{luks2_without_faults, one_choice};
-use luks_meta::metadata_without_faults;
 use std::alloc::Global;
 
 /// Whether the volume is well formed, with its areas, or else its first fault.
@@ -37,9 +34,6 @@ pub fn check<D: Device>(alloc: Global, device: &mut D, data_: Data) -> Result<Re
     ensures memory { D.tells → TakesNoMemory (D.bytes device.old)
         → IfErr result (λ f. f ≢ CheckFault.Memory) }
 {
-    one_choice();
-    no_fault_is_well_formed();
-    well_formed_volume();
     let header = read_header(alloc, device)?;
     check_header(&header, data_, device.len())
 }
@@ -57,9 +51,6 @@ pub fn check_header(header: &Header, data_: Data, total: u64) -> Result<Report, 
     ensures device { IfErr result (λ f. f ≢ CheckFault.Device) }
     ensures memory { IfErr result (λ f. f ≢ CheckFault.Memory) }
 {
-    one_choice();
-    luks2_without_faults();
-    metadata_without_faults();
     match header {
         Header::Luks1(bytes) => {
             let areas = judge_luks1(bytes.as_slice(), data_, total)?;

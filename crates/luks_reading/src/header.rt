@@ -11,9 +11,7 @@ ghost use Rattle.luks_reading.specs.Header.{IsAcceptedHeader, IsHeader, IsUnread
 
 use crate::read_fault::ReadFault;
 use luks_area::Device;
-use luks_head::{
-    Bin2, Copies, KEPT_JSON, Selected, luks2_without_faults, one_choice, select_with_json,
-};
+use luks_head::{Bin2, Copies, KEPT_JSON, Selected, select_with_json};
 use luks_meta::Meta;
 use std::alloc::Global;
 
@@ -59,7 +57,6 @@ pub fn read_header<D: Device>(alloc: Global, device: &mut D) -> Result<Header, R
     ensures memory { D.tells → TakesNoMemory (D.bytes device.old)
         → IfErr result (λ f. f ≢ ReadFault.Memory) }
 {
-    one_choice();
     let mut json = [0; KEPT_JSON];
     match select_with_json(device, &mut json)? {
         Selected::V1(bytes) => Ok(Header::Luks1(bytes)),
@@ -98,7 +95,6 @@ fn read_metadata<D: Device>(
     ensures refused { D.tells → IfErr result
         (CopyRefused header.now.uuid (json_of (D.bytes device.old) header.now)) }
 {
-    luks2_without_faults();
     header.uuid()?;
     if header.hdr_size == LEAST_HEADER {
         return Ok(Meta::read(alloc, kept)?);

@@ -14,7 +14,7 @@ use crate::layout::{luks1_areas, luks2_areas};
 use crate::report::Data;
 use luks_area::{AreaName, Areas, fit};
 use luks_head::{Bin2, Luks1};
-use luks_meta::{Meta, MetaFault, one_value};
+use luks_meta::{Meta, MetaFault};
 
 /// The areas of a LUKS1 volume of `total` bytes whose first 592 bytes are `header`, or its first
 /// fault: of the header, then of the areas.
@@ -52,7 +52,6 @@ pub(crate) fn judge_layout(
     ensures device { IfErr result (λ f. f ≢ CheckFault.Device) }
     ensures memory { IfErr result (λ f. f ≢ CheckFault.Memory) }
 {
-    one_value();
     if let Some(n) = segment_below(meta, data_) {
         return Err(CheckFault::Meta(MetaFault::Region(AreaName::Segment(n))));
     }

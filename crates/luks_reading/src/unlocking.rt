@@ -19,13 +19,12 @@ ghost use Rattle.luks_reading.specs.KeyslotsTried.{is_of_rank, passed_over, rank
 ghost use Rattle.luks_reading.specs.Unlocking.{luks2_order, IsVolumeRefusedBy, Unlocked, UnlockAnswer, Unlocks};
 
 use crate::header::{Header, read_header};
-use crate::laws::one_unlocking;
 use crate::luks1_fields::luks1_common;
 use crate::open_fault::OpenFault;
 use crate::opening::{open_luks1_slot, open_luks2};
 use luks_area::Device;
-use luks_head::{Luks1Common, luks2_without_faults, one_choice};
-use luks_meta::{Meta, metadata_without_faults, one_digest, one_value};
+use luks_head::Luks1Common;
+use luks_meta::Meta;
 use luks_slot::Key;
 use std::alloc::Global;
 
@@ -67,8 +66,6 @@ pub fn unlock<D: Device>(
     ensures only { D.tells → (a : Unlocked)
         → UnlockAnswer memory (D.bytes device.old) passphrase.now a → AgreesUnlocked a result }
 {
-    one_choice();
-    one_unlocking();
     let header = read_header(alloc, device)?;
     unlock_header(alloc, device, &header, passphrase, memory)
 }
@@ -99,9 +96,6 @@ pub fn unlock_header<D: Device>(
         (λ f. f ≡ OpenFault.Memory → (n : ℕ) × TakesMemory memory (D.bytes device.old) n) }
     ensures no_memory { memory ≡ 0 → IfErr result (λ f. f ≢ OpenFault.Memory) }
 {
-    one_choice();
-    luks2_without_faults();
-    metadata_without_faults();
     match header {
         Header::Luks1(bytes) => unlock_luks1(alloc, device, bytes.as_slice(), passphrase),
         Header::Luks2(copy) => unlock_luks2(alloc, device, &copy.meta, passphrase, memory),
@@ -271,8 +265,6 @@ fn try_luks2<D: Device>(
     ensures length { IfOk result
         (λ found. IfSome found (λ key. HasLuks2KeyBytes (content meta.now) n (length key))) }
 {
-    one_value();
-    one_digest();
     match open_luks2(alloc, device, meta, n, passphrase, memory) {
         Ok(found) => Ok(found),
         Err(fault) => passed_over(fault),

@@ -3,6 +3,8 @@ use Rattle.std.proofs.Common.{subst, ◌∙◌}
 use Rattle.std.proofs.lemmas.Result.{err_from_is_err_and}
 use Rattle.luks_meta.specs.Content.{content}
 use Rattle.luks_reading.specs.Header.{json_at, IsAcceptedHeader, IsHeader}
+use Rattle.luks_head.proofs.ChoiceFacts.{uuid_sound}
+use Rattle.luks_reading.proofs.CopyLaws.{metadata_faultless}
 use Rattle.luks_reading.proofs.CheckFacts.{luks1_first, luks2_accepted, luks2_areas_are, luks2_first}
 use Rattle.luks_reading.proofs.WellFormedFacts.{luks1_areas_are}
 use Rattle.luks_reading.proofs.checking.check_header.Goals as goal
@@ -14,14 +16,14 @@ pub returns-in_err-areas-in-Luks1-clause-refused : goal.returns-in_err-areas-in-
 returns-in_err-areas-in-Luks1-clause-refused c = λ v is long.
     let chosen = subst (IsHeader v) c.in-Luks1.is is in
     let p = err_from_is_err_and c.from_residual.result c.from_residual.ensures.1 in
-    rw (p.1, p.2) (luks1_first c.one_choice.ensures.only v _ _ _ c.in_err-areas-in-Luks1.field-0.0 chosen.0 (c.as_slice.ensures ∙ chosen.1) long c.in_err-areas-in-Luks1.ensures.refused)
+    rw (p.1, p.2) (luks1_first v _ _ _ c.in_err-areas-in-Luks1.field-0.0 chosen.0 (c.as_slice.ensures ∙ chosen.1) long c.in_err-areas-in-Luks1.ensures.refused)
 
 pub returns-in_ok-areas-in-Luks1-clause-report : goal.returns-in_ok-areas-in-Luks1-clause-report
 returns-in_ok-areas-in-Luks1-clause-report c = λ v is long.
     let chosen = subst (IsHeader v) c.in-Luks1.is is in
     record {
       version = chosen.0;
-      areas = luks1_areas_are c.one_choice.ensures.only v _ _ _ _ chosen.0 (c.as_slice.ensures ∙ chosen.1) long c.in_ok-areas-in-Luks1.ensures.areas;
+      areas = luks1_areas_are v _ _ _ _ chosen.0 (c.as_slice.ensures ∙ chosen.1) long c.in_ok-areas-in-Luks1.ensures.areas;
     }
 
 pub returns-in_err-areas-in-Luks2-clause-refused : goal.returns-in_err-areas-in-Luks2-clause-refused
@@ -31,10 +33,10 @@ returns-in_err-areas-in-Luks2-clause-refused c = λ v is long.
     let json = json_at v h.hdr_offset in
     let p = err_from_is_err_and c.from_residual-in_err-areas-in-Luks2.result c.from_residual-in_err-areas-in-Luks2.ensures.1 in
     rw (p.1, p.2)
-    (luks2_first c.one_choice.ensures.only v c.args.data_ h.hdr_offset c.in-Luks2.copy.copies _ c.in_err-areas-in-Luks2.field-0.0 copy.chosen long
+    (luks2_first v c.args.data_ h.hdr_offset c.in-Luks2.copy.copies _ c.in_err-areas-in-Luks2.field-0.0 copy.chosen long
     (c.in_err-areas-in-Luks2.ensures.refused _ json copy.header (record { accepted = copy.metadata; len = copy.area_len }) (record {
-      uuid = (c.luks2_without_faults.ensures.uuid _).1 copy.uuid;
-      metadata = (c.metadata_without_faults.ensures json).1 (content c.in-Luks2.copy.meta, copy.metadata);
+      uuid = uuid_sound _ copy.uuid;
+      metadata = (metadata_faultless json).1 (content c.in-Luks2.copy.meta, copy.metadata);
     })))
 
 pub returns-in_ok-areas-in-Luks2-clause-accepted : goal.returns-in_ok-areas-in-Luks2-clause-accepted
@@ -56,6 +58,6 @@ returns-in_ok-areas-in-Luks2-clause-report c = λ v is long.
     let h = c.in-Luks2.copy.header in
     record {
       version = (h.hdr_offset, (copy.chosen, copy.header.seqid));
-      areas = luks2_areas_are c.one_choice.ensures.only v c.args.data_ h.hdr_offset c.in-Luks2.copy.copies _ _ copy.chosen long
+      areas = luks2_areas_are v c.args.data_ h.hdr_offset c.in-Luks2.copy.copies _ _ copy.chosen long
           (c.in_ok-areas-in-Luks2.ensures.areas _ (json_at v h.hdr_offset) copy.header (record { accepted = copy.metadata; len = copy.area_len }));
     }

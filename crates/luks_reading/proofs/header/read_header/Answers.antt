@@ -22,7 +22,7 @@ returns-in_err-bytes-clause-refused g c = λ tells.
     let v = g.D.Device.bytes c.args.device.now in
     let p = err_from_is_err_and c.from_residual.result c.from_residual.ensures.1 in
     rw (p.1, p.2)
-    (select_unread v c.in_err-bytes.field-0.0 (c.one_choice.ensures.only v) c.in_err-bytes.ensures.kinds (c.in_err-bytes.ensures.refused tells))
+    (select_unread v c.in_err-bytes.field-0.0 c.in_err-bytes.ensures.kinds (c.in_err-bytes.ensures.refused tells))
 
 pub returns-in_err-meta-in-V2-clause-refused : goal.returns-in_err-meta-in-V2-clause-refused
 returns-in_err-meta-in-V2-clause-refused g c = λ tells.
@@ -32,7 +32,7 @@ returns-in_err-meta-in-V2-clause-refused g c = λ tells.
     let selected = subst (IsSelected v) c.in-V2.is (c.in_ok-bytes.ensures.found tells) in
     let p = err_from_is_err_and c.from_residual-in_err-meta-in-V2.result c.from_residual-in_err-meta-in-V2.ensures.1 in
     rw (p.1, p.2)
-    (copy_unread v h.hdr_offset c.in-V2.copies f (c.one_choice.ensures.only v) selected.0
+    (copy_unread v h.hdr_offset c.in-V2.copies f selected.0
     (subst (λ (json : List ℕ). CopyRefused (uuid_field (header_at v h.hdr_offset)) json f) (same_json v h selected.1)
     (subst (λ (u : List ℕ). CopyRefused u (json_of v h) f) (sym selected.1.uuid)
     (subst (λ (w : List ℕ). CopyRefused h.uuid (json_of w h) f) (c.in_ok-bytes.ensures.unchanged.same tells) (c.in_err-meta-in-V2.ensures.refused tells)))))
@@ -40,5 +40,5 @@ returns-in_err-meta-in-V2-clause-refused g c = λ tells.
 pub returns-in_err-meta-in-V2-clause-memory : goal.returns-in_err-meta-in-V2-clause-memory
 returns-in_err-meta-in-V2-clause-memory g c = λ tells none.
     let v = g.D.Device.bytes c.args.device.now in
-    IfErr-weaker c.from_residual-in_err-meta-in-V2.result _ _ (λ f. not_for_memory v f (c.one_choice.ensures.only v) none)
+    IfErr-weaker c.from_residual-in_err-meta-in-V2.result _ _ (λ f. not_for_memory v f none)
     (returns-in_err-meta-in-V2-clause-refused g c tells)

@@ -2,4 +2,4 @@ use Rattle.luks_reading.proofs.OneArea.{one_area}
 use Rattle.luks_reading.proofs.laws.one_area.Goals as goal
 
 pub returns : goal.returns
-returns c = one_area c.one_choice.ensures.only c.one_value.ensures
+returns c = one_area

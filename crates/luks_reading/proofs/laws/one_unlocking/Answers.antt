@@ -2,4 +2,4 @@ use Rattle.luks_reading.proofs.OneUnlocking.{one_unlocking}
 use Rattle.luks_reading.proofs.laws.one_unlocking.Goals as goal
 
 pub returns : goal.returns
-returns c = one_unlocking c.one_choice.ensures.only c.one_value.ensures c.one_answer.ensures
+returns c = one_unlocking

@@ -1,5 +1,6 @@
+use Rattle.luks_head.proofs.ChoiceFacts.{choices_agree}
 use Rattle.luks_reading.proofs.CheckFacts.{unread_refused}
 use Rattle.luks_reading.proofs.laws.unread_volume_is_refused.Goals as goal
 
 pub returns : goal.returns
-returns c = unread_refused c.one_choice.ensures.only
+returns c = unread_refused choices_agree

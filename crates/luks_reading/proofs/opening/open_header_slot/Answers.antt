@@ -2,7 +2,6 @@
 use Rattle.std.proofs.Common.{ℕ, List, length, subst, sym, ◌≡◌, ◌∙◌}
 use Rattle.std.proofs.lemmas.Result.{IfErr-weaker, IfOk-weaker}
 use Rattle.luks_head.specs.Header2.{header_at}
-use Rattle.luks_head.specs.Selection.{luks1, luks2}
 use Rattle.luks_reading.specs.Luks1Keyslots.{Luks1Opens, Luks1Refused}
 use Rattle.luks_reading.specs.Luks2Keyslots.{Luks2Refused, Luks2TakesMemory}
 use Rattle.luks_reading.specs.Header.{json_at, IsHeader}
@@ -28,7 +27,7 @@ returns-in-Luks1-clause-refused g c = λ tells is.
     let chosen = subst (IsHeader v) c.in-Luks1.is is in
     let long : g.D.Device.size c.args.device.now ≡ length v = sym (g.met.D.Device.sized c.args.device.now tells) in
     IfErr-weaker c.open_luks1.result _ _ (λ fault refused.
-    luks1_refused c.args.memory v n c.args.passphrase.now fault chosen.0 (λ d. c.one_choice.ensures.only v luks1 d chosen.0)
+    luks1_refused c.args.memory v n c.args.passphrase.now fault chosen.0
     (subst (λ (h : List ℕ). Luks1Refused h (length v) n fault) (c.as_slice.ensures ∙ chosen.1)
     (subst (λ (m : ℕ). Luks1Refused c.as_slice.result.now m n fault) long refused)))
     c.open_luks1.ensures.refused
@@ -38,7 +37,7 @@ returns-in-Luks2-clause-opens g c = λ tells is.
     let v = g.D.Device.bytes c.args.device.now in
     let copy = subst (IsHeader v) c.in-Luks2.is is in
     let o = c.in-Luks2.copy.header.hdr_offset in
-    let cleared = cleared_copy c.luks2_without_faults.ensures.uuid c.metadata_without_faults.ensures v c.in-Luks2.copy copy in
+    let cleared = cleared_copy v c.in-Luks2.copy copy in
     IfOk-weaker c.open_luks2.result _ _ (λ found opens.
     luks2_opens c.args.memory v c.args.n c.args.passphrase.now o c.in-Luks2.copy.copies found copy.chosen opens)
     (c.open_luks2.ensures.opens tells (header_at v o) (json_at v o) cleared)
@@ -50,10 +49,10 @@ returns-in-Luks2-clause-refused g c = λ tells is.
     let copy = subst (IsHeader v) c.in-Luks2.is is in
     let o = c.in-Luks2.copy.header.hdr_offset in
     let copies = c.in-Luks2.copy.copies in
-    let cleared = cleared_copy c.luks2_without_faults.ensures.uuid c.metadata_without_faults.ensures v c.in-Luks2.copy copy in
+    let cleared = cleared_copy v c.in-Luks2.copy copy in
     let long : g.D.Device.size c.args.device.now ≡ length v = sym (g.met.D.Device.sized c.args.device.now tells) in
     IfErr-weaker c.open_luks2.result _ _ (λ fault refused.
-    luks2_refused c.args.memory v n c.args.passphrase.now o copies fault copy.chosen (λ d. c.one_choice.ensures.only v (luks2 o copies) d copy.chosen)
+    luks2_refused c.args.memory v n c.args.passphrase.now o copies fault copy.chosen
     (record { place = o; copies = copies; chosen = copy.chosen; uuid = cleared.uuid_faultless })
     (subst (λ (m : ℕ). Luks2Refused c.args.memory (header_at v o) (json_at v o) m n fault) long refused))
     (c.open_luks2.ensures.refused (header_at v o) (json_at v o) cleared)
@@ -74,7 +73,7 @@ returns-in-Luks2-clause-memory g c = λ tells is.
     let n = c.args.n in
     let copy = subst (IsHeader v) c.in-Luks2.is is in
     let o = c.in-Luks2.copy.header.hdr_offset in
-    let cleared = cleared_copy c.luks2_without_faults.ensures.uuid c.metadata_without_faults.ensures v c.in-Luks2.copy copy in
+    let cleared = cleared_copy v c.in-Luks2.copy copy in
     let long : g.D.Device.size c.args.device.now ≡ length v = sym (g.met.D.Device.sized c.args.device.now tells) in
     IfErr-weaker c.open_luks2.result _ _ (λ fault refused e.
     luks2_takes c.args.memory v n o c.in-Luks2.copy.copies copy.chosen

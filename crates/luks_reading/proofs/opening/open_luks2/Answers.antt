@@ -3,6 +3,7 @@ use Rattle.std.proofs.Common.{◌<◌, Some, ap, sym, ◌∙◌, arith}
 use Rattle.std.proofs.lemmas.Result.{IfErr-weaker, IfOk-weaker}
 use Rattle.luks_meta.specs.Content.{content}
 use Rattle.luks_reading.specs.Plans.{HasLuks2Plan}
+use Rattle.luks_reading.proofs.CopyLaws.{one_value}
 use Rattle.luks_reading.proofs.OptionFacts.{some_weaker}
 use Rattle.luks_reading.proofs.Luks2PlanNumbers.{luks2_judged}
 use Rattle.luks_reading.proofs.Luks2Plans.{IsOnly}
@@ -25,7 +26,7 @@ returns-clause-opens g c = λ tells b json clear.
     let digest = rw c.unwrap-digest.ensures at c.digest.ensures.some in
     let low : c.args.n < 32 = omega arith in
     let only : IsOnly json (content c.args.meta.now) c.args.n = record {
-      value = λ i holds. c.one_value.ensures json (content c.args.meta.now) i clear.meta.json holds;
+      value = λ i holds. one_value json (content c.args.meta.now) i clear.meta.json holds;
       digest = λ m k x y. let p = c.digest_of_keyslot.ensures.only m x in let q = c.digest_of_keyslot.ensures.only k y in cc (p, q);
     } in
     let plan = c.luks2_plan-plan.ensures (content c.args.meta.now) c.args.n c.unwrap-number.result slot.object digest.object slot.tells_members naming digest.is digest.tells_members in
@@ -43,7 +44,7 @@ returns-clause-refused g c = λ b json clear.
     let digest = rw c.unwrap-digest.ensures at c.digest.ensures.some in
     let low : c.args.n < 32 = omega arith in
     let only : IsOnly json (content c.args.meta.now) c.args.n = record {
-      value = λ i holds. c.one_value.ensures json (content c.args.meta.now) i clear.meta.json holds;
+      value = λ i holds. one_value json (content c.args.meta.now) i clear.meta.json holds;
       digest = λ m k x y. let p = c.digest_of_keyslot.ensures.only m x in let q = c.digest_of_keyslot.ensures.only k y in cc (p, q);
     } in
     let plan = c.luks2_plan-plan.ensures (content c.args.meta.now) c.args.n c.unwrap-number.result slot.object digest.object slot.tells_members naming digest.is digest.tells_members in

@@ -2,6 +2,7 @@
 use Rattle.std.proofs.Common.{◌<◌, arith}
 use Rattle.luks_meta.specs.Content.{content}
 use Rattle.luks_reading.specs.Plans.{HasLuks2Plan}
+use Rattle.luks_reading.proofs.CopyLaws.{one_value}
 use Rattle.luks_reading.proofs.Luks2Plans.{IsOnly}
 use Rattle.luks_reading.proofs.Luks2Refusals.{plan_judged2}
 use Rattle.luks_reading.proofs.refusing.luks2_refusal.Goals as goal
@@ -13,7 +14,7 @@ returns c = λ b json clear.
     let digest = rw c.unwrap-digest.ensures at c.digest.ensures.some in
     let low : c.args.n < 32 = omega arith in
     let only : IsOnly json (content c.args.meta.now) c.args.n = record {
-      value = λ i holds. c.one_value.ensures json (content c.args.meta.now) i clear.meta.json holds;
+      value = λ i holds. one_value json (content c.args.meta.now) i clear.meta.json holds;
       digest = λ m k x y. let p = c.digest_of_keyslot.ensures.only m x in let q = c.digest_of_keyslot.ensures.only k y in cc (p, q);
     } in
     let plan = c.luks2_plan.ensures (content c.args.meta.now) c.args.n c.unwrap-number.result slot.object digest.object slot.tells_members naming digest.is digest.tells_members in

@@ -5,6 +5,7 @@ use Rattle.luks_reading.specs.declared.open_fault.OpenFault.TheVariants.{Memory}
 use Rattle.luks_reading.specs.KeyslotsTried.{Luks2LacksMemory}
 use Rattle.luks_reading.specs.Luks2Keyslots.{Luks2Refused}
 use Rattle.luks_reading.specs.PlanAnswers.{IsOfDevice}
+use Rattle.luks_reading.proofs.CopyLaws.{one_digest, one_value}
 use Rattle.luks_reading.proofs.OpenFaults.{passed_ends}
 use Rattle.luks_reading.proofs.TriedKeyslots.{luks2_refused_tried, luks2_tried, passed_none}
 use Rattle.luks_reading.proofs.unlocking.try_luks2.Goals as goal
@@ -13,7 +14,7 @@ pub returns-in-Ok-clause-tried : goal.returns-in-Ok-clause-tried
 returns-in-Ok-clause-tried g c = λ tells b json clear.
     let j = content c.args.meta.now in
     luks2_tried c.args.memory b json (g.D.Device.bytes c.args.device.now) c.args.n c.args.passphrase.now j c.in-Ok.found
-    (record { value = λ i holds. c.one_value.ensures json j i clear.meta.json holds; digest = c.one_digest.ensures json j clear.meta c.args.n })
+    (record { value = λ i holds. one_value json j i clear.meta.json holds; digest = one_digest json j clear.meta c.args.n })
     (c.in-Ok.ensures.opens tells b json clear)
 
 pub returns-in-Err-clause-tried : goal.returns-in-Err-clause-tried

@@ -4,7 +4,6 @@ use Rattle.std.proofs.lemmas.Result.{IfErr-weaker, IfOk-weaker}
 use Rattle.luks_head.specs.declared.fault.HeadFault.{HeadFault}
 use Rattle.luks_head.specs.Faults.{IsCommonFault}
 use Rattle.luks_head.specs.Header2.{header_at}
-use Rattle.luks_head.specs.Selection.{luks1, luks2}
 use Rattle.luks_meta.specs.Content.{content}
 use Rattle.luks_reading.specs.Header.{json_at, IsHeader}
 use Rattle.luks_reading.specs.KeyslotsTried.{Luks1VolumeRefused, Luks1Tries}
@@ -20,7 +19,7 @@ returns-in-Luks1-clause-unlocks g c = λ tells is.
     let p = c.args.passphrase.now in
     let chosen = subst (IsHeader v) c.in-Luks1.is is in
     let begins = c.as_slice.ensures ∙ chosen.1 in
-    luks1_unlocks_as c.args.memory v p c.unlock_luks1.result chosen.0 (λ d. c.one_choice.ensures.only v luks1 d chosen.0)
+    luks1_unlocks_as c.args.memory v p c.unlock_luks1.result chosen.0
     (IfOk-weaker c.unlock_luks1.result _ _ (λ found clear. subst (λ (h : List ℕ). (f : HeadFault) → IsCommonFault h f → ⊥) begins clear) c.unlock_luks1.ensures.unrefused)
     (IfOk-weaker c.unlock_luks1.result _ _ (λ found tries. subst (λ (h : List ℕ). Luks1Tries h v p found) begins tries) (c.unlock_luks1.ensures.tries tells))
 
@@ -29,7 +28,7 @@ returns-in-Luks1-clause-refused g c = λ tells is.
     let v = g.D.Device.bytes c.args.device.now in
     let chosen = subst (IsHeader v) c.in-Luks1.is is in
     IfErr-weaker c.unlock_luks1.result _ _ (λ fault locked.
-    luks1_locked v fault chosen.0 (λ d. c.one_choice.ensures.only v luks1 d chosen.0)
+    luks1_locked v fault chosen.0
     (subst (λ (h : List ℕ). Luks1VolumeRefused h fault) (c.as_slice.ensures ∙ chosen.1) locked))
     c.unlock_luks1.ensures.refused
 
@@ -48,16 +47,16 @@ returns-in-Luks2-clause-unlocks g c = λ tells is.
     let copy = subst (IsHeader v) c.in-Luks2.is is in
     let o = c.in-Luks2.copy.header.hdr_offset in
     let copies = c.in-Luks2.copy.copies in
-    let cleared = cleared_copy c.luks2_without_faults.ensures.uuid c.metadata_without_faults.ensures v c.in-Luks2.copy copy in
+    let cleared = cleared_copy v c.in-Luks2.copy copy in
     IfOk-weaker c.unlock_luks2.result _ _ (λ found tries.
-    luks2_unlocks c.args.memory v p o copies (content c.in-Luks2.copy.meta) found copy.chosen (λ d. c.one_choice.ensures.only v (luks2 o copies) d copy.chosen) cleared tries)
+    luks2_unlocks c.args.memory v p o copies (content c.in-Luks2.copy.meta) found copy.chosen cleared tries)
     (c.unlock_luks2.ensures.tries tells (header_at v o) (json_at v o) cleared)
 
 pub returns-in-Luks2-clause-refused : goal.returns-in-Luks2-clause-refused
 returns-in-Luks2-clause-refused g c = λ tells is.
     let v = g.D.Device.bytes c.args.device.now in
     let copy = subst (IsHeader v) c.in-Luks2.is is in
-    let cleared = cleared_copy c.luks2_without_faults.ensures.uuid c.metadata_without_faults.ensures v c.in-Luks2.copy copy in
+    let cleared = cleared_copy v c.in-Luks2.copy copy in
     IfErr-weaker c.unlock_luks2.result _ _ (λ fault. device_locks v fault
     (record { place = c.in-Luks2.copy.header.hdr_offset; copies = c.in-Luks2.copy.copies; chosen = copy.chosen; uuid = cleared.uuid_faultless }))
     c.unlock_luks2.ensures.kinds
@@ -67,7 +66,7 @@ returns-in-Luks2-clause-memory g c = λ tells is.
     let v = g.D.Device.bytes c.args.device.now in
     let copy = subst (IsHeader v) c.in-Luks2.is is in
     let o = c.in-Luks2.copy.header.hdr_offset in
-    let cleared = cleared_copy c.luks2_without_faults.ensures.uuid c.metadata_without_faults.ensures v c.in-Luks2.copy copy in
+    let cleared = cleared_copy v c.in-Luks2.copy copy in
     let long : g.D.Device.size c.args.device.now ≡ length v = sym (g.met.D.Device.sized c.args.device.now tells) in
     IfErr-weaker c.unlock_luks2.result _ _ (λ fault lacks e.
     let x = lacks e in (
