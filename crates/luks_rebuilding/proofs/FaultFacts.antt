@@ -18,6 +18,7 @@ use Rattle.luks_meta.specs.declared.configuration.Config.{Config as Sizes}
 use Rattle.luks_reading.proofs.ListedAreaFacts.{no_area_fault}
 use Rattle.luks_reading.specs.Layout2.{Luks2Area}
 use Rattle.luks_reading.specs.declared.report.Data.TheVariants.{Elsewhere}
+use Rattle.luks_reading.proofs.CopyLaws.{one_value}
 use Rattle.luks_rebuilding.proofs.SearchFacts.{one_place}
 use Rattle.luks_rebuilding.specs.Candidates.{json_of, OfTaken}
 use Rattle.luks_rebuilding.specs.Found.{IsFoundIn, IsWhole}
@@ -47,7 +48,6 @@ given_good (Some t) good bad = bad (good t refl)
 -- ---- of a candidate
 
 module _
-    (value : (area : List ℕ) (i k : Value) → Json area i → Json area k → i ≡ k)
     (v : List ℕ) (which : Which) (given : Option (List ℕ)) (total : ℕ) (random : List ℕ) (c : Candidate)
     (found : IsFoundIn v which c) (whole : IsWhole (length v) c)
   where
@@ -62,7 +62,7 @@ module _
     its_json = subst (λ (l : List ℕ). Json l (content c.meta)) found.read whole.meta.json
 
     its_value : (j : Value) → Json (json_of v c.place) j → j ≡ content c.meta
-    its_value j holds = value (json_of v c.place) j (content c.meta) holds its_json
+    its_value j holds = one_value (json_of v c.place) j (content c.meta) holds its_json
 
     -- its areas
     abbrev Areas : AreaName → TheArea → Type 0

@@ -1,5 +1,5 @@
 -- The header that was made counts, is well formed, and its keyslots give what the metadata gives.
-use Rattle.std.proofs.Common.{◌≡◌, ◌↔◌, ℕ, ◌+◌, ◌-◌, ◌≤◌, List, ◌++◌, codes, length, replicate, Option, Some, None, option_and_then, refl, sym, ap, subst, ◌∙◌, arith, inl, inr}
+use Rattle.std.proofs.Common.{◌≡◌, ℕ, ◌+◌, ◌-◌, ◌≤◌, List, codes, length, Option, Some, None, option_and_then, refl, sym, ap, subst, ◌∙◌, arith, inl, inr}
 use Rattle.serde_json.specs.Data.{Data as Value}
 use Rattle.serde_json.specs.Find.{get}
 use Rattle.luks_area.specs.Area.{Fit, IsInside}
@@ -7,19 +7,17 @@ use Rattle.luks_area.specs.Ranges.{part}
 use Rattle.luks_area.specs.declared.area.Area.{Area}
 use Rattle.luks_area.specs.declared.area.AreaName.{AreaName}
 use Rattle.luks_area.specs.declared.area.AreaName.TheVariants as name
+use Rattle.luks_head.proofs.BinaryHeaderFacts.{written_in_step}
+use Rattle.luks_head.proofs.ChoiceFacts.{choices_agree, uuid_sound}
 use Rattle.luks_head.proofs.CopyFacts.{listed_at_least}
 use Rattle.luks_head.specs.Bytes.{IsUuid}
-use Rattle.luks_head.specs.Header2.{hdr_size, header_at, uuid_field, IsUuidFault, IsUuidField}
+use Rattle.luks_head.specs.Header2.{hdr_size, header_at, uuid_field, IsUuidField}
 use Rattle.luks_head.specs.Selection.{Choice, luks2, Chosen}
 use Rattle.luks_head.specs.Sizes.{IsListed}
 use Rattle.luks_head.specs.Written.{IsWrittenCopy}
-use Rattle.luks_head.specs.declared.bin2.Bin2.{Bin2}
-use Rattle.luks_head.specs.declared.fault.HeadFault.{HeadFault}
 use Rattle.luks_head.specs.declared.selection.Copies.TheVariants.{InStep}
 use Rattle.luks_meta.specs.Accepted.{IsMeta}
-use Rattle.luks_meta.specs.MetaFault.{Json, IsMetaFault}
 use Rattle.luks_meta.specs.Reading.{decimal_in}
-use Rattle.luks_rules.specs.declared.fault.MetaFault.{MetaFault}
 use Rattle.luks_slot.specs.Opening.{slot_key}
 use Rattle.luks_slot.specs.declared.plan.SlotPlan.{SlotPlan}
 use Rattle.luks_reading.specs.Answer.{opens, no_key, refused, AnswerWithin, HasNoKeyslot, HasPlanAs, HasRefusedPlanWithin, IsRefusalAsWithin, IsRefusalWithin, Opened, OpensWithin}
@@ -30,7 +28,8 @@ use Rattle.luks_reading.specs.Plans.{HasLuks2Plan}
 use Rattle.luks_reading.specs.declared.open_fault.OpenFault.{OpenFault}
 use Rattle.luks_reading.specs.declared.open_fault.OpenFault.TheVariants.{Head, Meta, NoSuchSlot, SlotFree, Outside, Slot, Device, Memory}
 use Rattle.luks_reading.specs.declared.report.Data.TheVariants.{Here, Elsewhere}
-use Rattle.luks_uuid.specs.NewUuid.{uuid_text}
+use Rattle.luks_reading.proofs.CopyLaws.{metadata_faultless, one_value}
+use Rattle.luks_uuid.proofs.UuidFacts.{fills, uuid_text-is}
 use Rattle.luks_rebuilding.proofs.RegionFacts.{ends}
 use Rattle.luks_rebuilding.specs.Candidates.{json_of}
 use Rattle.luks_rebuilding.specs.Found.{HasRegionInside}
@@ -39,29 +38,18 @@ use Rattle.luks_rebuilding.specs.KeyAreas.{HasKeyArea, IsSlotArea}
 use Rattle.luks_rebuilding.specs.Rebuilt.{IsMade, IsUuidOf}
 use Rattle.luks_rebuilding.specs.declared.place.Place.{Place}
 
--- what the crates below say of volumes
-pub record VolumeLaws : Type 0 where
-  pub only : (v : List ℕ) (b c : Choice) → Chosen v b → Chosen v c → b ≡ c
-  pub in_step : (v : List ℕ) (first second : Bin2) (a b : List ℕ) → IsWrittenCopy v 0 first a → IsWrittenCopy v first.hdr_size second b
-      → first.seqid ≡ second.seqid → Chosen v (luks2 0 InStep)
-  pub uuid : (field_ : List ℕ) → ((f : HeadFault) → IsUuidFault field_ f → ⊥) ↔ IsUuidField field_
-  pub metadata : (area : List ℕ) → ((f : MetaFault) → IsMetaFault area f → ⊥) ↔ ((j : Value) × IsMeta area j)
-  pub value : (area : List ℕ) (i k : Value) → Json area i → Json area k → i ≡ k
-  pub new : (random : List ℕ) → IsUuid (uuid_text random)
-  pub fills : (text : List ℕ) → IsUuid text → IsUuidField (text ++ replicate 4 0)
-
 -- the uuid of the new header is one
-uuid_is : (laws : VolumeLaws) (v : List ℕ) (place : Place) (given : Option (List ℕ)) (random uuid : List ℕ)
+uuid_is : (v : List ℕ) (place : Place) (given : Option (List ℕ)) (random uuid : List ℕ)
     → ((text : List ℕ) → given ≡ Some text → IsUuid text) → IsUuidOf v place given random uuid → IsUuid uuid
-uuid_is laws v place (Some t) random uuid good is = subst IsUuid (sym is) (good t refl)
-uuid_is laws v place None random uuid good (inl kept) = subst IsUuid (sym kept.is) kept.there.uuid
-uuid_is laws v place None random uuid good (inr other) = elim other.1 [
+uuid_is v place (Some t) random uuid good is = subst IsUuid (sym is) (good t refl)
+uuid_is v place None random uuid good (inl kept) = subst IsUuid (sym kept.is) kept.there.uuid
+uuid_is v place None random uuid good (inr other) = elim other.1 [
   | inl kept ↦ subst IsUuid (sym kept.is) kept.there.uuid
-  | inr new ↦ subst IsUuid (sym new.1) (laws.new _)
+  | inr new ↦ subst IsUuid (sym new.1) (uuid_text-is _)
 ]
 
 module _
-    (laws : VolumeLaws) (v random old w : List ℕ) (given : Option (List ℕ)) (place : Place) (j : Value)
+    (v random old w : List ℕ) (given : Option (List ℕ)) (place : Place) (j : Value)
     (meta : IsMeta (json_of v place) j) (x : IsMade v given random old w place)
     (good : (text : List ℕ) → given ≡ Some text → IsUuid text)
     (fit : Fit (Luks2Area j place.size Elsewhere (length v)) (length v))
@@ -87,12 +75,12 @@ module _
     chosen : Chosen w (luks2 0 InStep)
     chosen =
         let second = subst (λ (o : ℕ). IsWrittenCopy w o x.second.header (json_of v place)) (sym x.first.fields.hdr_size) x.second.written in
-        laws.in_step w x.first.header x.second.header (json_of v place) (json_of v place) x.first.written second (x.first.fields.seqid ∙ sym x.second.fields.seqid)
+        written_in_step w x.first.header x.second.header (json_of v place) (json_of v place) x.first.written second (x.first.fields.seqid ∙ sym x.second.fields.seqid)
 
     field_is : IsUuidField (uuid_field (header_at w 0))
     field_is =
         subst IsUuidField (sym (x.first.written.header.fields.uuid ∙ x.first.fields.own_uuid))
-        (laws.fills x.uuid (uuid_is laws v place given random x.uuid good x.own_uuid))
+        (fills x.uuid (uuid_is v place given random x.uuid good x.own_uuid))
 
     meta_there : IsMeta (json_at w 0) j
     meta_there = subst (λ (a : List ℕ). IsMeta a j) (sym json_there) meta
@@ -156,7 +144,7 @@ module _
     plan_inside : (n : ℕ) (plan : SlotPlan) → HasLuks2Plan (json_of v place) n plan → plan.area.start + plan.area.len ≤ length w
     plan_inside n plan z =
         let its = plan_area n plan z in
-        slot_inside n plan.area (subst (λ (k : Value). IsSlotArea k n plan.area) (laws.value (json_of v place) its.value j its.holds meta.json) its.area)
+        slot_inside n plan.area (subst (λ (k : Value). IsSlotArea k n plan.area) (one_value (json_of v place) its.value j its.holds meta.json) its.area)
 
     same_bytes : (n : ℕ) (plan : SlotPlan) → HasLuks2Plan (json_of v place) n plan
         → part w plan.area.start plan.area.len ≡ part v plan.area.start plan.area.len
@@ -180,8 +168,8 @@ module _
       to_refusal Memory z = absurd z
 
       from_refusal : (f : OpenFault) → IsRefusalAsWithin memory w n (luks2 0 InStep) f → IsRefusedSlot memory (json_of v place) n f
-      from_refusal (Head f) z = (laws.uuid (uuid_field (header_at w 0))).1 field_is f z
-      from_refusal (Meta f) z = (laws.metadata (json_at w 0)).1 (j, meta_there) f z
+      from_refusal (Head f) z = uuid_sound (uuid_field (header_at w 0)) field_is f z
+      from_refusal (Meta f) z = (metadata_faultless (json_at w 0)).1 (j, meta_there) f z
       from_refusal NoSuchSlot z = subst (λ (a : List ℕ). HasNoKeyslot a n) json_there z
       from_refusal SlotFree z = z
       from_refusal Outside z = (
@@ -194,7 +182,7 @@ module _
 
       -- there, by whatever counts
       by_chosen : (f : OpenFault) → IsRefusalWithin memory w n f → IsRefusedSlot memory (json_of v place) n f
-      by_chosen f z = from_refusal f (subst (λ (c : Choice). IsRefusalAsWithin memory w n c f) (laws.only w z.choice (luks2 0 InStep) z.chosen chosen) z.fault)
+      by_chosen f z = from_refusal f (subst (λ (c : Choice). IsRefusalAsWithin memory w n c f) (choices_agree w z.choice (luks2 0 InStep) z.chosen chosen) z.fault)
 
       refused_there : (f : OpenFault) → IsRefusedSlot memory (json_of v place) n f → IsRefusalWithin memory w n f
       refused_there f z = record { choice = luks2 0 InStep; chosen = chosen; fault = to_refusal f z }
@@ -212,7 +200,7 @@ module _
 
         key_here : (found : Option (List ℕ)) → OpensWithin memory w n p found → GivesKey memory (json_of v place) v n p found
         key_here found z =
-            let choice : z.choice ≡ luks2 0 InStep = laws.only w z.choice (luks2 0 InStep) z.chosen chosen in
+            let choice : z.choice ≡ luks2 0 InStep = choices_agree w z.choice (luks2 0 InStep) z.chosen chosen in
             let its = plan_here n z.plan (subst (λ (c : Choice). HasPlanAs w n c z.plan) choice z.is) in
             record {
               plan = z.plan;

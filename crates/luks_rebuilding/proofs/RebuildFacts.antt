@@ -1,5 +1,5 @@
 -- From what was found, judged and written to the header that was made.
-use Rattle.std.proofs.Common.{◌≡◌, ℕ, ◌+◌, ◌≤◌, List, length, Option, refl, ap, subst, inl, inr}
+use Rattle.std.proofs.Common.{ℕ, ◌+◌, ◌≤◌, List, length, Option, refl, ap, subst, inl, inr}
 use Rattle.serde_json.specs.Data.{Data as Value}
 use Rattle.luks_area.specs.Area.{name_number}
 use Rattle.luks_area.specs.Ranges.{SameBut}
@@ -8,7 +8,7 @@ use Rattle.luks_area.specs.declared.area.Area.{Area}
 use Rattle.luks_area.specs.declared.area.AreaName.TheVariants as name
 use Rattle.luks_meta.specs.Accepted.{IsMeta}
 use Rattle.luks_meta.specs.Content.{content}
-use Rattle.luks_meta.specs.MetaFault.{Json}
+use Rattle.luks_reading.proofs.CopyLaws.{one_value}
 use Rattle.luks_rebuilding.specs.Candidates.{json_of}
 use Rattle.luks_rebuilding.specs.Found.{AreSlotsApart, HasSlots, HasSlotsInside, IsFoundIn, IsOfWhole, IsReady, IsWhole, IsWholeWritten, WritesWholeLast}
 use Rattle.luks_rebuilding.specs.KeyAreas.{HasKeyArea, HasKeyAreas, IsSlotArea}
@@ -31,14 +31,13 @@ module _ (c : Candidate) (source_total total : ℕ) (given : Option (List ℕ)) 
 -- ---- what was written
 
 module _
-    (value : (area : List ℕ) (i k : Value) → Json area i → Json area k → i ≡ k)
     (v : List ℕ) (which : Which) (c : Candidate) (found : IsFoundIn v which c) (whole : IsWhole (length v) c)
   where
     pub its_meta : IsMeta (json_of v c.place) (content c.meta)
     its_meta = subst (λ (l : List ℕ). IsMeta l (content c.meta)) found.read whole.meta
 
     slot_here : (n : ℕ) (a : Area) → HasKeyArea v c.place n a → IsSlotArea (content c.meta) n a
-    slot_here n a x = subst (λ (j : Value). IsSlotArea j n a) (value (json_of v c.place) x.value (content c.meta) x.holds its_meta.json) x.area
+    slot_here n a x = subst (λ (j : Value). IsSlotArea j n a) (one_value (json_of v c.place) x.value (content c.meta) x.holds its_meta.json) x.area
 
     key_areas : (w : List ℕ) → HasSlots c v w → HasKeyAreas v c.place w
     key_areas w areas n a x = areas n a (slot_here n a x)

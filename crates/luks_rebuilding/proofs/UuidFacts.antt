@@ -1,9 +1,9 @@
 -- The uuid of the new header, by where it was found.
 use Rattle.std.proofs.Common.{◌≡◌, ℕ, List, ◌++◌, replicate, Some, None, refl, inl, inr}
 use Rattle.luks_area.specs.Text.{text_of}
-use Rattle.luks_head.specs.Bytes.{IsUuid}
 use Rattle.luks_head.specs.Header2.{header_at, uuid_field}
 use Rattle.luks_uuid.specs.NewUuid.{uuid_text}
+use Rattle.luks_uuid.proofs.UuidFacts.{uuid_text-is}
 use Rattle.luks_rebuilding.specs.Found.{FindsUuid, IsOwnField}
 use Rattle.luks_rebuilding.specs.Rebuilt.{other_at, uuid_bytes}
 use Rattle.luks_rebuilding.specs.declared.place.Place.{Place}
@@ -25,11 +25,10 @@ module _ (v : List ℕ) (place : Place) (random field_ : List ℕ) where
     fills = found.1;
   }
 
-  pub new_own : FindsUuid v place.at None → FindsUuid v (other_at place) None → ((bytes : List ℕ) → IsUuid (uuid_text bytes))
-      → field_ ≡ uuid_text (uuid_bytes random) ++ replicate 4 0 → IsOwnField v place None random field_
-  new_own lacks none new is = record {
+  pub new_own : FindsUuid v place.at None → FindsUuid v (other_at place) None → field_ ≡ uuid_text (uuid_bytes random) ++ replicate 4 0 → IsOwnField v place None random field_
+  new_own lacks none is = record {
     uuid = uuid_text (uuid_bytes random);
     own = inr (lacks, inr (none, refl));
-    is_uuid = new (uuid_bytes random);
+    is_uuid = uuid_text-is (uuid_bytes random);
     fills = is;
   }

@@ -10,7 +10,7 @@ use crate::place::{Half, Place, Which};
 use crate::rebuild_fault::RebuildFault;
 use crate::search::least_of;
 use luks_area::Device;
-use luks_head::{HeadFault, luks2_without_faults, one_choice, select};
+use luks_head::{HeadFault, select};
 use luks_meta::Meta;
 use std::alloc::Global;
 
@@ -59,8 +59,6 @@ fn nothing_counts<D: Device>(alloc: Global, source: &mut D) -> Result<(), Rebuil
     ensures nothing { D.tells → OnOk result (Chosen (D.bytes source.old) nothing) }
     ensures refused { D.tells → IfErr result (IsCounted (D.bytes source.old)) }
 {
-    one_choice();
-    luks2_without_faults();
     match select(alloc, source) {
         Ok(_) => Err(RebuildFault::Counts),
         Err(HeadFault::Device) => Err(RebuildFault::Device),

@@ -12,7 +12,6 @@ use crate::header_areas::header_areas;
 use crate::rebuild_fault::RebuildFault;
 use crate::rebuilding::REBUILD_RANDOM;
 use luks_area::fit;
-use luks_meta::one_value;
 use luks_uuid::is_uuid;
 
 /// How many random bytes are taken.
@@ -40,7 +39,6 @@ pub(crate) fn judge(
     ensures ready { OnOk result
         (IsReady found.now source_total total (option_map (λ t. t.now) uuid.entry) random.now) }
 {
-    one_value();
     let areas = header_areas(&found.meta, found.place.size);
     fit(&areas, source_total)?;
     let region = found.meta.config().keyslots_size;

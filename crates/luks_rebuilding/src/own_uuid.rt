@@ -10,7 +10,7 @@ ghost use Rattle.luks_uuid.specs.NewUuid.{uuid_text};
 use crate::place::{Place, other_at};
 use luks_area::{Device, DeviceFault};
 use luks_head::Bin2;
-use luks_uuid::{uuid_field, uuid_text, uuids_fill_fields};
+use luks_uuid::{uuid_field, uuid_text};
 
 /// Where the bytes of a new uuid stand among the random bytes.
 const UUID: usize = 128;
@@ -53,7 +53,6 @@ fn kept_field<D: Device>(
     ensures own { D.tells → IfOk result
         (IsOwnField (D.bytes source.old) place None random.now) }
 {
-    uuids_fill_fields();
     match found_field(source, place.at)? {
         Some(field) => Ok(field),
         None => match found_field(source, other_at(place))? {
@@ -84,7 +83,6 @@ fn new_field(random: &[u8]) -> [u8; 40]
     requires { length random.now ≡ random_size }
     ensures { result ≡ uuid_text (uuid_bytes random.now) ++ replicate 4 0 }
 {
-    uuids_fill_fields();
     let mut bytes = [0; 16];
     bytes.copy_from_slice(&random[UUID..]);
     uuid_field(uuid_text(bytes).as_str())

@@ -19,12 +19,10 @@ use crate::candidate::{Candidate, find_candidate};
 use crate::copies::{FIRST_SALT, SECOND_SALT, taken_salt, write_rebuilt_copy};
 use crate::judging::judge;
 use crate::key_areas::copy_areas;
-use crate::laws::rebuilt_header_opens_alike;
 use crate::own_uuid::own_field;
 use crate::place::Which;
 use crate::rebuild_fault::RebuildFault;
 use luks_area::{Device, DeviceFault};
-use luks_meta::one_value;
 use std::alloc::Global;
 
 /// How many random bytes `rebuild` takes: the salts of the first and the second copy of the header,
@@ -91,8 +89,6 @@ pub fn rebuild<S: Device, T: Device>(
         → Gives memory (json_of (S.bytes source.old) place) (S.bytes source.old) n p a
         ↔ AnswerWithin memory (T.bytes target.new) n p a)) }
 {
-    one_value();
-    rebuilt_header_opens_alike();
     let found = find_candidate(alloc, source, which)?;
     judge(&found, source.len(), target.len(), uuid, random)?;
     let field = own_field(source, found.place, uuid, random)?;

@@ -21,13 +21,13 @@ returns-in_err-fit-clause-fault c = λ v which found long.
     let lists = c.header_areas-areas.ensures c.args.source_total in
     let least = least_of _ _ _ _ lists c.in_err-fit.ensures.fault in
     rw (p.1, p.2)
-    (area_first c.one_value.ensures v which (option_map (λ t. t.now) c.args.uuid) c.args.total c.args.random.now c.args.found.now found (subst (λ (n : ℕ). IsWhole n c.args.found.now) (sym long) c.requires)
+    (area_first v which (option_map (λ t. t.now) c.args.uuid) c.args.total c.args.random.now c.args.found.now found (subst (λ (n : ℕ). IsWhole n c.args.found.now) (sym long) c.requires)
     c.in_err-fit.field-0.0 (subst (λ (n : ℕ). IsLeast area_key (IsAreaFault (Luks2Area (content c.args.found.now.meta) c.args.found.now.place.size Elsewhere n) n) c.in_err-fit.field-0.0) (sym long) least))
 
 pub returns-then-not-ends_inside-clause-fault : goal.returns-then-not-ends_inside-clause-fault
 returns-then-not-ends_inside-clause-fault c = λ v which found long.
     let fit = fit_of _ _ _ (c.header_areas-areas.ensures c.args.source_total) c.in_ok-fit.ensures.fits in
-    small_first c.one_value.ensures v which (option_map (λ t. t.now) c.args.uuid) c.args.total c.args.random.now c.args.found.now found (subst (λ (n : ℕ). IsWhole n c.args.found.now) (sym long) c.requires)
+    small_first v which (option_map (λ t. t.now) c.args.uuid) c.args.total c.args.random.now c.args.found.now found (subst (λ (n : ℕ). IsWhole n c.args.found.now) (sym long) c.requires)
     (subst (λ (n : ℕ). Fit (Luks2Area (content c.args.found.now.meta) c.args.found.now.place.size Elsewhere n) n) (sym long) fit)
     c.config-region.result.keyslots_size (region_said (content c.args.found.now.meta) c.config-region.result c.config-region.ensures)
     (ends_past (2 * c.args.found.now.place.size + c.config-region.result.keyslots_size) c.args.total c.if-not-ends_inside.ensures)
@@ -35,7 +35,7 @@ returns-then-not-ends_inside-clause-fault c = λ v which found long.
 pub returns-then-is_no_uuid-clause-fault : goal.returns-then-is_no_uuid-clause-fault
 returns-then-is_no_uuid-clause-fault c = λ v which found long.
     let fit = fit_of _ _ _ (c.header_areas-areas.ensures c.args.source_total) c.in_ok-fit.ensures.fits in
-    uuid_first c.one_value.ensures v which (option_map (λ t. t.now) c.args.uuid) c.args.total c.args.random.now c.args.found.now found (subst (λ (n : ℕ). IsWhole n c.args.found.now) (sym long) c.requires)
+    uuid_first v which (option_map (λ t. t.now) c.args.uuid) c.args.total c.args.random.now c.args.found.now found (subst (λ (n : ℕ). IsWhole n c.args.found.now) (sym long) c.requires)
     (subst (λ (n : ℕ). Fit (Luks2Area (content c.args.found.now.meta) c.args.found.now.place.size Elsewhere n) n) (sym long) fit)
     c.config-region.result.keyslots_size (region_said (content c.args.found.now.meta) c.config-region.result c.config-region.ensures)
     (c.if-not-ends_inside.ensures.0 refl) (c.if-is_no_uuid.ensures.bad refl)
@@ -43,7 +43,7 @@ returns-then-is_no_uuid-clause-fault c = λ v which found long.
 pub returns-then-random-ne-RANDOM-clause-fault : goal.returns-then-random-ne-RANDOM-clause-fault
 returns-then-random-ne-RANDOM-clause-fault c = λ v which found long.
     let fit = fit_of _ _ _ (c.header_areas-areas.ensures c.args.source_total) c.in_ok-fit.ensures.fits in
-    random_first c.one_value.ensures v which (option_map (λ t. t.now) c.args.uuid) c.args.total c.args.random.now c.args.found.now found (subst (λ (n : ℕ). IsWhole n c.args.found.now) (sym long) c.requires)
+    random_first v which (option_map (λ t. t.now) c.args.uuid) c.args.total c.args.random.now c.args.found.now found (subst (λ (n : ℕ). IsWhole n c.args.found.now) (sym long) c.requires)
     (subst (λ (n : ℕ). Fit (Luks2Area (content c.args.found.now.meta) c.args.found.now.place.size Elsewhere n) n) (sym long) fit)
     c.config-region.result.keyslots_size (region_said (content c.args.found.now.meta) c.config-region.result c.config-region.ensures)
     (c.if-not-ends_inside.ensures.0 refl) (c.if-is_no_uuid.ensures.good refl) c.if-random-ne-RANDOM.true
@@ -51,7 +51,7 @@ returns-then-random-ne-RANDOM-clause-fault c = λ v which found long.
 pub returns-else-random-ne-RANDOM-clause-faultless : goal.returns-else-random-ne-RANDOM-clause-faultless
 returns-else-random-ne-RANDOM-clause-faultless c = λ v which found long.
     let fit = fit_of _ _ _ (c.header_areas-areas.ensures c.args.source_total) c.in_ok-fit.ensures.fits in
-    rebuildable c.one_value.ensures v which (option_map (λ t. t.now) c.args.uuid) c.args.total c.args.random.now c.args.found.now found (subst (λ (n : ℕ). IsWhole n c.args.found.now) (sym long) c.requires)
+    rebuildable v which (option_map (λ t. t.now) c.args.uuid) c.args.total c.args.random.now c.args.found.now found (subst (λ (n : ℕ). IsWhole n c.args.found.now) (sym long) c.requires)
     (subst (λ (n : ℕ). Fit (Luks2Area (content c.args.found.now.meta) c.args.found.now.place.size Elsewhere n) n) (sym long) fit)
     c.config-region.result.keyslots_size (region_said (content c.args.found.now.meta) c.config-region.result c.config-region.ensures)
     (c.if-not-ends_inside.ensures.0 refl) (c.if-is_no_uuid.ensures.good refl) c.if-random-ne-RANDOM.false

@@ -7,6 +7,7 @@ use Rattle.luks_reading.specs.declared.report.Data.TheVariants.{Elsewhere}
 use Rattle.luks_rebuilding.specs.Found.{HasRegionInside, HasSlotsInside, IsOwnField, IsWhole, IsWholeWritten, WritesWholeLast}
 use Rattle.luks_rebuilding.specs.Outcome.{IsAnsweredFault, IsRebuildable}
 use Rattle.luks_rebuilding.proofs.FaultFacts.{answered_first, not_found_first}
+use Rattle.luks_rebuilding.proofs.GivesFacts.{gives_here, gives_there, well_formed}
 use Rattle.luks_rebuilding.proofs.RebuildFacts.{both_inside, is_made, is_rebuilt, its_meta, of_rebuilt, order_kept, slots_apart, slots_there}
 use Rattle.luks_rebuilding.proofs.rebuilding.rebuild.Goals as goal
 
@@ -71,7 +72,7 @@ returns-in_err-write_rebuilt-clause-rest g c = λ source tells.
     let found = c.in_ok-found.ensures.found source in
     let sized : length v ≡ g.S.Device.size c.args.source.now = g.met.S.Device.sized c.args.source.now source in
     let whole : IsWhole (length v) c.in_ok-found.found = subst (λ (n : ℕ). IsWhole n c.in_ok-found.found) (sym sized) c.in_ok-found.ensures.whole in
-    of_rebuilt c.one_value.ensures v c.args.which c.in_ok-found.found found whole (c.write_rebuilt.ensures.rest tells)
+    of_rebuilt v c.args.which c.in_ok-found.found found whole (c.write_rebuilt.ensures.rest tells)
 
 pub returns-clause-rest : goal.returns-clause-rest
 returns-clause-rest g c = λ source tells.
@@ -79,7 +80,7 @@ returns-clause-rest g c = λ source tells.
     let found = c.in_ok-found.ensures.found source in
     let sized : length v ≡ g.S.Device.size c.args.source.now = g.met.S.Device.sized c.args.source.now source in
     let whole : IsWhole (length v) c.in_ok-found.found = subst (λ (n : ℕ). IsWhole n c.in_ok-found.found) (sym sized) c.in_ok-found.ensures.whole in
-    of_rebuilt c.one_value.ensures v c.args.which c.in_ok-found.found found whole (c.write_rebuilt.ensures.rest tells)
+    of_rebuilt v c.args.which c.in_ok-found.found found whole (c.write_rebuilt.ensures.rest tells)
 
 pub returns-in_err-write_rebuilt-clause-order : goal.returns-in_err-write_rebuilt-clause-order
 returns-in_err-write_rebuilt-clause-order g c = λ source tells.
@@ -93,7 +94,7 @@ returns-in_err-write_rebuilt-clause-order g c = λ source tells.
     let own : IsOwnField v c.in_ok-found.found.place (option_map (λ t. t.now) c.args.uuid) c.args.random.now c.in_ok-field.field =
     subst (λ (l : List ℕ). IsOwnField l c.in_ok-found.found.place (option_map (λ t. t.now) c.args.uuid) c.args.random.now c.in_ok-field.field) first (c.in_ok-field.ensures.own source) in
     let same : g.S.Device.bytes c.own_field.new.source ≡ v = c.in_ok-field.ensures.unchanged.same source ∙ first in
-    order_kept c.one_value.ensures v c.args.which c.in_ok-found.found found whole (option_map (λ t. t.now) c.args.uuid) c.args.random.now own.uuid old w own.own
+    order_kept v c.args.which c.in_ok-found.found found whole (option_map (λ t. t.now) c.args.uuid) c.args.random.now own.uuid old w own.own
     (subst (λ (l : List ℕ). WritesWholeLast c.in_ok-found.found l own.uuid c.args.random.now old w) same (c.write_rebuilt.ensures.order source tells own.uuid own.fills))
 
 pub returns-clause-order : goal.returns-clause-order
@@ -108,7 +109,7 @@ returns-clause-order g c = λ source tells.
     let own : IsOwnField v c.in_ok-found.found.place (option_map (λ t. t.now) c.args.uuid) c.args.random.now c.in_ok-field.field =
     subst (λ (l : List ℕ). IsOwnField l c.in_ok-found.found.place (option_map (λ t. t.now) c.args.uuid) c.args.random.now c.in_ok-field.field) first (c.in_ok-field.ensures.own source) in
     let same : g.S.Device.bytes c.own_field.new.source ≡ v = c.in_ok-field.ensures.unchanged.same source ∙ first in
-    order_kept c.one_value.ensures v c.args.which c.in_ok-found.found found whole (option_map (λ t. t.now) c.args.uuid) c.args.random.now own.uuid old w own.own
+    order_kept v c.args.which c.in_ok-found.found found whole (option_map (λ t. t.now) c.args.uuid) c.args.random.now own.uuid old w own.own
     (subst (λ (l : List ℕ). WritesWholeLast c.in_ok-found.found l own.uuid c.args.random.now old w) same (c.write_rebuilt.ensures.order source tells own.uuid own.fills))
 
 pub returns-clause-rebuilt : goal.returns-clause-rebuilt
@@ -125,7 +126,7 @@ returns-clause-rebuilt g c = λ source tells.
     let same : g.S.Device.bytes c.own_field.new.source ≡ v = c.in_ok-field.ensures.unchanged.same source ∙ first in
     let written : IsWholeWritten c.in_ok-found.found v own.uuid c.args.random.now w =
     subst (λ (l : List ℕ). IsWholeWritten c.in_ok-found.found l own.uuid c.args.random.now w) same (c.in_ok-write_rebuilt.ensures.written source tells own.uuid own.fills) in
-    is_rebuilt c.one_value.ensures v c.args.which c.in_ok-found.found found whole (option_map (λ t. t.now) c.args.uuid) c.args.random.now own.uuid old w own.own written (c.write_rebuilt.ensures.rest tells)
+    is_rebuilt v c.args.which c.in_ok-found.found found whole (option_map (λ t. t.now) c.args.uuid) c.args.random.now own.uuid old w own.own written (c.write_rebuilt.ensures.rest tells)
 
 pub returns-clause-well_formed : goal.returns-clause-well_formed
 returns-clause-well_formed g c = λ source tells.
@@ -146,9 +147,9 @@ returns-clause-well_formed g c = λ source tells.
     let fit = subst (λ (n : ℕ). Fit (Luks2Area (content c.in_ok-found.found.meta) c.in_ok-found.found.place.size Elsewhere n) n) (sym long) ready.fit in
     let end_ : c.len-2.result ≡ length w = c.len-2.ensures ∙ sym c.write_rebuilt.ensures.size ∙ sym (g.met.T.Device.sized c.write_rebuilt.new.target tells) in
     let region = subst (HasRegionInside (content c.in_ok-found.found.meta) c.in_ok-found.found.place.size) end_ ready.region in
-    let made = is_made c.one_value.ensures v c.args.which c.in_ok-found.found found whole (option_map (λ t. t.now) c.args.uuid) c.args.random.now own.uuid old w own.own written (c.write_rebuilt.ensures.rest tells) in
-    let meta = its_meta c.one_value.ensures v c.args.which c.in_ok-found.found found whole in
-    c.rebuilt_header_opens_alike.ensures.well_formed v c.args.random.now old w (option_map (λ t. t.now) c.args.uuid) c.in_ok-found.found.place (content c.in_ok-found.found.meta) meta made ready.uuid fit region
+    let made = is_made v c.args.which c.in_ok-found.found found whole (option_map (λ t. t.now) c.args.uuid) c.args.random.now own.uuid old w own.own written (c.write_rebuilt.ensures.rest tells) in
+    let meta = its_meta v c.args.which c.in_ok-found.found found whole in
+    well_formed v c.args.random.now old w (option_map (λ t. t.now) c.args.uuid) c.in_ok-found.found.place (content c.in_ok-found.found.meta) meta made ready.uuid fit region
 
 pub returns-clause-opens : goal.returns-clause-opens
 returns-clause-opens g c = λ source tells.
@@ -169,10 +170,13 @@ returns-clause-opens g c = λ source tells.
     let fit = subst (λ (n : ℕ). Fit (Luks2Area (content c.in_ok-found.found.meta) c.in_ok-found.found.place.size Elsewhere n) n) (sym long) ready.fit in
     let end_ : c.len-2.result ≡ length w = c.len-2.ensures ∙ sym c.write_rebuilt.ensures.size ∙ sym (g.met.T.Device.sized c.write_rebuilt.new.target tells) in
     let region = subst (HasRegionInside (content c.in_ok-found.found.meta) c.in_ok-found.found.place.size) end_ ready.region in
-    let made = is_made c.one_value.ensures v c.args.which c.in_ok-found.found found whole (option_map (λ t. t.now) c.args.uuid) c.args.random.now own.uuid old w own.own written (c.write_rebuilt.ensures.rest tells) in
-    let meta = its_meta c.one_value.ensures v c.args.which c.in_ok-found.found found whole in
+    let made = is_made v c.args.which c.in_ok-found.found found whole (option_map (λ t. t.now) c.args.uuid) c.args.random.now own.uuid old w own.own written (c.write_rebuilt.ensures.rest tells) in
+    let meta = its_meta v c.args.which c.in_ok-found.found found whole in
     record {
       place = c.in_ok-found.found.place;
       taken = found.taken;
-      holds = λ memory n p a. c.rebuilt_header_opens_alike.ensures.opens v c.args.random.now old w (option_map (λ t. t.now) c.args.uuid) c.in_ok-found.found.place (content c.in_ok-found.found.meta) meta made ready.uuid fit region memory n p a;
+      holds = λ memory n p a. (
+        gives_there v c.args.random.now old w (option_map (λ t. t.now) c.args.uuid) c.in_ok-found.found.place (content c.in_ok-found.found.meta) meta made ready.uuid fit region memory n p a,
+        gives_here v c.args.random.now old w (option_map (λ t. t.now) c.args.uuid) c.in_ok-found.found.place (content c.in_ok-found.found.meta) meta made ready.uuid fit region memory n p a,
+      );
     }
