@@ -35,7 +35,7 @@ use Rattle.luks2_editing.specs.declared.sealed_metadata.SealedSlot.TheVariants.{
 use Rattle.luks2_editing.specs.declared.sealed_metadata.Sealing.{Sealing}
 use Rattle.luks2_editing.specs.MadeMetadata.{IsGained, IsSealingEdit}
 use Rattle.luks2_editing.specs.SealedKeyslot.{HasRefusedKeyslot, IsKeyslotWritten, IsOfStripesOf, IsSealing}
-use Rattle.luks2_editing.proofs.KeyAreaFacts.{area_of_object}
+use Rattle.luks2_judging.proofs.KeyAreaFacts.{area_of_object}
 use Rattle.luks2_editing.proofs.NewKeyslotFacts.{alike_place, SealsLike}
 use Rattle.luks2_editing.proofs.PlanFacts.{like_unrefused, long_salt}
 use Rattle.luks2_editing.proofs.RenewalFacts.{metadata_here}

@@ -1,5 +1,5 @@
 -- A keyslot of a LUKS2 volume that is sealed again: its new area, and what the edit leaves.
-use Rattle.std.proofs.Common.{◌≡◌, ℕ, ◌≤◌, Bor, List, length, replicate, codes, Some, option_and_then, inl, inr, refl, sym, ap, ◌∙◌, subst, arith}
+use Rattle.std.proofs.Common.{◌≡◌, ℕ, ◌≤◌, Bor, List, length, replicate, codes, option_and_then, inl, inr, refl, sym, ap, ◌∙◌, subst, arith}
 use Rattle.std.proofs.lemmas.Option.{same_Some}
 use Rattle.serde_json.specs.Data.{Data as Value}
 use Rattle.serde_json.specs.Find.{get}
@@ -9,7 +9,6 @@ use Rattle.luks_area.specs.Ranges.{part, IsAt, IsOfEither, SameBut}
 use Rattle.luks_area.specs.RangeFacts.{part-same_but, same_but-then, same_but-wider}
 use Rattle.luks_head.specs.Header2.{header_at, hdr_size}
 use Rattle.luks_rules.specs.declared.table.Outer.TheVariants as outer
-use Rattle.luks_rules.specs.Faults.{type_at}
 use Rattle.luks_rules.specs.Reading.{number_in}
 use Rattle.luks_rules.specs.Sizes.{inside_at}
 use Rattle.luks_making.specs.Changed.{renewed_slot}
@@ -35,7 +34,7 @@ use Rattle.luks2_edits.proofs.SealFacts.{opened_plan, IsOpened}
 use Rattle.luks2_editing.specs.MadeMetadata.{IsSealedAgain}
 use Rattle.luks2_editing.specs.Rewriting.{AreWrittenAnew}
 use Rattle.luks2_editing.specs.SealedKeyslot.{HasRefusedKeyslot, IsKeyslotWritten, IsOfStripesOf, IsSealing}
-use Rattle.luks2_editing.proofs.KeyAreaFacts.{area_of_object}
+use Rattle.luks2_judging.proofs.KeyAreaFacts.{area_of_object}
 use Rattle.luks2_editing.proofs.LostFacts.{beside_first, beside_second, both_beside}
 use Rattle.luks2_editing.proofs.NewKeyslotFacts.{alike_place, same_len, same_start, torn_leftover, SealsLike}
 use Rattle.luks2_editing.proofs.PlanFacts.{like_changed, like_unrefused, long_salt}

@@ -1,7 +1,6 @@
 mod NewCopyFacts
 mod RewritingFacts
 mod RenewalFacts
-mod KeyAreaFacts
 mod JudgedFacts
 mod LostFacts
 mod RemovalFacts

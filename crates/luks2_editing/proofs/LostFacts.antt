@@ -1,9 +1,8 @@
 -- The area that a keyslot of a LUKS2 volume loses: the copies and a key beside it.
-use Rattle.std.proofs.Common.{◌≡◌, ℕ, ◌+◌, ◌-◌, ◌≤◌, List, length, refl, sym, ap, ◌∙◌, subst, arith}
+use Rattle.std.proofs.Common.{◌≡◌, ℕ, ◌+◌, ◌-◌, ◌≤◌, List, refl, sym, ap, ◌∙◌, subst, arith}
 use Rattle.serde_json.specs.Data.{Data as Value}
 use Rattle.luks_area.specs.declared.area.Area.{Area}
 use Rattle.luks_area.specs.declared.area.AreaName.TheVariants.{Head1, Head2, Slot}
-use Rattle.luks_area.specs.Area.{IsInside}
 use Rattle.luks_area.specs.Ranges.{part, IsAt, SameBut}
 use Rattle.luks_area.specs.RangeFacts.{part-same_but}
 use Rattle.luks_head.specs.Header2.{header_at, hdr_size, seqid}
@@ -70,9 +69,6 @@ module _ (v : List ℕ) (o : ℕ) (e : Edit) (random : List ℕ) (j : Value) (w 
 module _ (v : List ℕ) (payload : Data) (copy : ChosenCopy) (x : IsChosenCopy v copy) (well : WellFormed v payload) (slot : ℕ) where
   area_named : (a : Area) → IsKeyArea (content copy.meta) slot a → AreaOf v payload (Slot slot) a
   area_named a is = record { choice = luks2 copy.header.hdr_offset copy.copies; chosen = x.chosen; area = record { value = content copy.meta; holds = x.metadata.json; area = is } }
-
-  pub lost_inside : (a : Area) → IsKeyArea (content copy.meta) slot a → IsInside a (length v)
-  lost_inside a is = (well_formed_fits v payload well).fit.inside (Slot slot) a (area_named a is)
 
   module _ (area : Area) (is : IsKeyArea (content copy.meta) slot area) where
     pub beside_first : (p : ℕ) → IsAt 0 (hdr_size (header_at v copy.header.hdr_offset)) p → IsAt area.start area.len p → ⊥

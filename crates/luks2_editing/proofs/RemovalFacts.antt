@@ -1,6 +1,5 @@
 -- A keyslot that is removed of a LUKS2 volume: its area, and the copies beside it.
-use Rattle.std.proofs.Common.{◌≡◌, ℕ, ◌<◌, ◌≤◌, Bor, List, length, replicate, is_some, inl, inr, refl, sym, ◌∙◌, subst, arith}
-use Rattle.std.proofs.lemmas.Bool.{cases_Bool, true≢false}
+use Rattle.std.proofs.Common.{◌≡◌, ℕ, ◌<◌, ◌≤◌, List, length, replicate, inl, inr, refl, sym, ◌∙◌, subst, arith}
 use Rattle.serde_json.specs.Data.{Data as Value}
 use Rattle.luks_area.specs.declared.area.Area.{Area}
 use Rattle.luks_area.specs.Ranges.{part, IsAt, SameBut}
@@ -8,28 +7,24 @@ use Rattle.luks_area.specs.RangeFacts.{same_but-then, same_but-wider}
 use Rattle.luks_head.specs.Header2.{header_at, hdr_size}
 use Rattle.luks_making.specs.Without.{without_slot}
 use Rattle.luks_meta.specs.Content.{area_len, content}
-use Rattle.luks_meta.specs.Faults.{object_at}
-use Rattle.luks_rules.specs.declared.table.Section.TheVariants.{Keyslots}
 use Rattle.luks_reading.specs.declared.header.ChosenCopy.{ChosenCopy}
 use Rattle.luks_reading.specs.declared.report.Data.{Data}
 use Rattle.luks_reading.specs.Checked.{WellFormed}
 use Rattle.luks_reading.specs.Header.{IsChosenCopy}
 use Rattle.luks_edit.specs.declared.edit.Edit.TheVariants.{Remove}
 use Rattle.luks_edit.specs.declared.edit.Passphrase.{Passphrase}
-use Rattle.luks_edit.specs.declared.edit_fault.EditFault.TheVariants as fault
 use Rattle.luks_edit.specs.RowFacts.{passed_from, Passed}
 use Rattle.luks2_edits.specs.Edited.{After2}
 use Rattle.luks2_edits.specs.Leftovers.{Leftover2}
 use Rattle.luks2_edits.specs.Metadata.{IsKeyArea}
 use Rattle.luks2_edits.specs.Places.{IsOfCopies, IsTouched}
-use Rattle.luks2_edits.specs.Refused.{IsEditFault2, IsAbsent}
+use Rattle.luks2_edits.specs.Refused.{IsEditFault2}
 use Rattle.luks2_judging.specs.Rows.{HasNoFaultBefore}
-use Rattle.luks2_editing.specs.Lost.{HasKeyArea}
 use Rattle.luks2_editing.specs.Prepared.{IsPrepared}
 use Rattle.luks2_editing.specs.Rewriting.{AreWrittenAnew}
-use Rattle.luks2_editing.proofs.LostFacts.{beside_first, beside_second, both_beside, lost_inside}
+use Rattle.luks2_editing.proofs.LostFacts.{beside_first, beside_second, both_beside}
 use Rattle.luks_head.proofs.CopyFacts.{listed_at_least}
-use Rattle.luks2_editing.proofs.RenewalFacts.{metadata_here, prepared_unrefused, said, size_is, sound_here, written_after}
+use Rattle.luks2_editing.proofs.RenewalFacts.{metadata_here, prepared_unrefused, size_is, sound_here, written_after}
 
 -- ---- the keyslot's area
 
@@ -37,18 +32,6 @@ module _ (v : List ℕ) (payload : Data) (copy : ChosenCopy) (x : IsChosenCopy v
     (slot : ℕ) (passphrase : Passphrase) (random : List ℕ) (numbered : slot < 32) (before : HasNoFaultBefore 12 v payload (Remove slot passphrase) random) where
   pub removal_passed : Passed (IsEditFault2 v payload (Remove slot passphrase) random) 12
   removal_passed = passed_from (IsEditFault2 v payload (Remove slot passphrase) random) 12 before.each
-
-  -- it is there, inside the volume
-  pub key_area_there : HasKeyArea (content copy.meta) slot (length v)
-  key_area_there = record {
-    used = elim (cases_Bool (is_some (object_at (content copy.meta) Keyslots slot))) [
-      | inl some ↦ (numbered, some)
-      | inr none ↦ absurd (removal_passed.none fault.NoSuchSlot (omega arith)
-          (said v payload copy x well (λ o j. IsAbsent j (Remove slot passphrase))
-          (record { slot = slot; passphrase = passphrase.bytes.now; asked = (refl, refl); unused = λ used. true≢false (sym used.1 ∙ none) })))
-    ];
-    inside = lost_inside v payload copy x well slot;
-  }
 
   module _ (area : Area) (is : IsKeyArea (content copy.meta) slot area) where
     module _ (new : Value) (made : new ≡ without_slot slot (content copy.meta)) (w y : List ℕ)

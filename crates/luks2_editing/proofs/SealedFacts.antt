@@ -28,7 +28,7 @@ use Rattle.luks2_edits.proofs.ToldFacts.{in_between}
 use Rattle.luks2_editing.specs.Rewriting.{AreWrittenAnew}
 use Rattle.luks2_editing.specs.Sealed.{IsOfStripes, IsPlanFault, IsReadyPlan, MayBeHalfSealed}
 use Rattle.luks2_editing.specs.SealedKeyslot.{IsKeyslotWritten, IsOfStripesOf, IsSealable, IsSealing, IsUnsealed}
-use Rattle.luks2_editing.proofs.KeyAreaFacts.{area_of_object}
+use Rattle.luks2_judging.proofs.KeyAreaFacts.{area_of_object}
 
 -- what follows of two facts where a call succeeds
 pub on_ok_both : {T E P Q R : Type 0} (r : Result T E) → (P → Q → R) → OnOk r P → OnOk r Q → OnOk r R

@@ -22,7 +22,7 @@ use Rattle.luks2_editing.specs.MadeMetadata.{like_of, IsMadeBy, IsSealingEdit}
 use Rattle.luks2_editing.specs.Prepared.{IsPrepared, IsUnprepared}
 use Rattle.luks2_editing.specs.Replies.{EndsBy2}
 use Rattle.luks2_editing.proofs.MadeMetadataFacts.{asked_need, made_edited}
-use Rattle.luks2_editing.proofs.RenewalFacts.{len_here, metadata_here, said, said_here}
+use Rattle.luks2_editing.proofs.RenewalFacts.{len_here, said, said_here}
 
 module _ (v : List ℕ) (payload : Data) (e : Edit) (random : List ℕ) (copy : ChosenCopy) (sealing : Sealing)
     (x : IsSealingEdit v payload e random copy sealing) where

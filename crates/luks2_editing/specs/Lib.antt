@@ -2,7 +2,6 @@ pub mod NewCopy
 pub mod Rewriting
 pub mod Prepared
 pub mod Replies
-pub mod Lost
 pub mod Sealed
 pub mod MadeMetadata
 pub mod SealedKeyslot

@@ -70,7 +70,7 @@ pub fn apply_luks2<D: Device>(
             let secrets = Secrets::new(&key, passphrase, memory, random);
             change(alloc, device, copy, &renewal, &secrets)
         }
-        JudgedEdit::Remove { slot } => remove(alloc, device, copy, slot, random),
+        JudgedEdit::Remove { slot, area } => remove(alloc, device, copy, slot, area, random),
         JudgedEdit::Repair => repair(alloc, device, &copy, random),
         JudgedEdit::Label { field } => set_label(alloc, device, &copy, field, random),
     }

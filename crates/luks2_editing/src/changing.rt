@@ -14,11 +14,11 @@ ghost use Rattle.luks_edit.specs.declared.edit.Passphrase.{Passphrase};
 ghost use Rattle.luks_edit.specs.declared.edit.Edit.TheVariants.{Change};
 ghost use Rattle.luks2_edits.specs.Metadata.{IsInUse};
 ghost use Rattle.luks2_edits.specs.Places.{IsNewArea};
+ghost use Rattle.luks2_judging.specs.Judging.{IsLostArea};
 ghost use Rattle.luks2_judging.specs.Room.{IsPlaced};
 ghost use Rattle.luks2_judging.specs.Rows.{HasNoFaultBefore};
 ghost use Rattle.luks2_editing.specs.Replies.{Replies2};
 
-use crate::removing::lost_area;
 use crate::sealed_metadata::{SealedSlot, Sealing, new_metadata};
 use crate::sealed_plan::write_keyslot;
 use crate::secrets::Secrets;
@@ -51,6 +51,8 @@ pub(crate) fn change<D: Device>(
         (length secrets.now.key.now) }
     requires placed { IsPlaced (area_len copy.meta) (content copy.meta)
         (D.size device.old) renewal.now.slot renewal.now.area }
+    requires lost { IsLostArea (content copy.meta) (D.size device.old) renewal.now.slot
+        renewal.now.lost }
     ensures size { D.size device.new ≡ D.size device.old }
     ensures settled { D.tells → D.failed device.new ≡ D.failed device.old
         → IsSettled D.unsettled device.new }
@@ -69,7 +71,6 @@ pub(crate) fn change<D: Device>(
         → Replies2 payload (D.bytes device.old) e secrets.now.random.now result
         (D.bytes device.new) }
 {
-    let lost = lost_area(&copy.meta, renewal.slot, device.len())?;
     let sealing = Sealing {
         keyslot: SealedSlot::Renewed { slot: renewal.slot },
         iterations: renewal.iterations,
@@ -78,7 +79,7 @@ pub(crate) fn change<D: Device>(
     let header = copy.header;
     let made = new_metadata(alloc, copy, &sealing, secrets.random, device.len())?;
     write_keyslot(alloc, device, &header, &made, renewal.slot, secrets)?;
-    match wipe_area(device, lost) {
+    match wipe_area(device, renewal.lost) {
         Ok(()) => Ok(Done {
             slot: Some(renewal.slot),
         }),

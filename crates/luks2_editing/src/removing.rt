@@ -1,6 +1,5 @@
 //! Removing a keyslot of a LUKS2 volume.
-ghost use Rattle.std.specs.Prelude.{◌≡◌, ◌+◌, ◌^◌, ◌<◌, ℕ, List, false, IfErr, IfOk, IsOk};
-ghost use Rattle.luks_area.specs.Area.{IsInside};
+ghost use Rattle.std.specs.Prelude.{◌≡◌, ◌+◌, ◌^◌, ◌<◌, ℕ, List, IfErr, IfOk};
 ghost use Rattle.luks_area.specs.Device.{CountsFailure, IsSettled};
 ghost use Rattle.luks_meta.specs.Content.{area_len, content};
 ghost use Rattle.luks_making.specs.Without.{without_slot};
@@ -10,9 +9,8 @@ ghost use Rattle.luks_reading.specs.declared.report.Data.{Data as Payload};
 ghost use Rattle.luks_edit.specs.EditFaults.{is_edit_failure};
 ghost use Rattle.luks_edit.specs.declared.edit.Passphrase.{Passphrase};
 ghost use Rattle.luks_edit.specs.declared.edit.Edit.TheVariants.{Remove};
-ghost use Rattle.luks2_edits.specs.Metadata.{IsKeyArea};
+ghost use Rattle.luks2_judging.specs.Judging.{IsLostArea};
 ghost use Rattle.luks2_judging.specs.Rows.{HasNoFaultBefore};
-ghost use Rattle.luks2_editing.specs.Lost.{HasKeyArea};
 ghost use Rattle.luks2_editing.specs.Replies.{Replies2};
 
 use crate::rewriting::rewrite;
@@ -24,8 +22,8 @@ use luks_steps::wipe_area;
 use std::alloc::Global;
 
 /// Removes the keyslot from the metadata, writes both copies of the header anew, the other copy first,
-/// and then overwrites the keyslot's area with zeros; each with a flush. The rows of the faults up to
-/// `BadLabel` were judged. The old metadata is given up for the new.
+/// and then overwrites the keyslot's area, which is `area`, with zeros; each with a flush. The rows of
+/// the faults up to `BadLabel` were judged. The old metadata is given up for the new.
 ///
 /// Refused by `SeqExhausted`, `MetadataFull` or `RandomLength`; 128 random bytes are needed, the salts
 /// of the copies. Takes memory for the maps of tokens and digests and for the JSON area, before the
@@ -35,9 +33,11 @@ pub(crate) fn remove<D: Device>(
     device: &mut D,
     copy: ChosenCopy,
     slot: u8,
+    area: Area,
     random: &[u8],
 ) -> Result<Done, EditFault>
     requires numbered { slot < 32 }
+    requires lost { IsLostArea (content copy.meta) (D.size device.old) slot area }
     requires room { D.failed device.old + 1 < 2 ^ 64 }
     requires settled { D.tells → IsSettled D.unsettled device.old }
     ensures size { D.size device.new ≡ D.size device.old }
@@ -51,37 +51,12 @@ pub(crate) fn remove<D: Device>(
         → Replies2 payload (D.bytes device.old) (Remove slot passphrase) random.now
         result (D.bytes device.new) }
 {
-    let area = lost_area(&copy.meta, slot, device.len())?;
     let header = copy.header;
     let meta = without_slot(alloc, copy.meta, slot)?;
     rewrite(alloc, device, &header, &meta, header.label, random)?;
     match wipe_area(device, area) {
         Ok(()) => Ok(Done { slot: None }),
         Err(_) => Err(EditFault::Device),
-    }
-}
-
-/// The area of the keyslot, which is there, inside a volume of `total` bytes.
-pub(crate) fn lost_area(meta: &Meta, slot: u8, total: u64) -> Result<Area, EditFault>
-    requires { slot < 32 }
-    ensures area { IfOk result (IsKeyArea (content meta.now) slot) }
-    ensures inside { IfOk result (λ a. IsInside a total) }
-    ensures found { HasKeyArea (content meta.now) slot total → IsOk result }
-    ensures own { IfErr result (λ f. is_edit_failure f ≡ false) }
-{
-    match meta.keyslot(slot) {
-        Some(keyslot) => {
-            let area = Area {
-                start: keyslot.area.offset,
-                len: keyslot.area.size,
-            };
-            if area.is_inside(total) {
-                Ok(area)
-            } else {
-                Err(EditFault::MetadataFull)
-            }
-        }
-        None => Err(EditFault::NoSuchSlot),
     }
 }
 

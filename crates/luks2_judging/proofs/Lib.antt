@@ -3,6 +3,7 @@ mod ChosenFacts
 pub mod EditedFacts
 mod EncodedFacts
 mod JudgedFacts
+pub mod KeyAreaFacts
 mod KeyslotFacts
 mod LastFacts
 mod NeedFacts

@@ -1,5 +1,5 @@
 -- The stripes of a keyslot that is told, and the blocks that they take.
-use Rattle.std.proofs.Common.{ℕ, ◌-◌, ◌*◌, ◌≤◌, refl, codes, arith}
+use Rattle.std.proofs.Common.{ℕ, ◌*◌, ◌≤◌, refl, codes, arith}
 use Rattle.std.proofs.Math.Nat.{mul-le-mul_left}
 use Rattle.serde_json.specs.Data.{Data as Value}
 use Rattle.luks_rules.specs.declared.table.Outer.TheVariants as outer

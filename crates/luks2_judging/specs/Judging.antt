@@ -2,7 +2,9 @@
 use Rattle.std.specs.Prelude.{◌≡◌, ℕ, ◌++◌, ◌-◌, ◌≤◌, List, length, replicate, Option, ⊤}
 use Rattle.std.specs.Borrow.{Bor}
 use Rattle.serde_json.specs.Data.{Data as Value}
+use Rattle.luks_area.specs.declared.area.Area.{Area}
 use Rattle.luks_area.specs.declared.areas.Entry.{Entry}
+use Rattle.luks_area.specs.Area.{IsInside}
 use Rattle.luks_head.specs.Header2.{hdr_size, header_at}
 use Rattle.luks_meta.specs.Content.{area_len, content}
 use Rattle.luks_reading.specs.declared.header.ChosenCopy.{ChosenCopy}
@@ -18,7 +20,7 @@ use Rattle.luks_edit.specs.declared.edit.Edit.TheVariants.{Add, Change, Remove, 
 use Rattle.luks_edit.specs.declared.edit.Passphrase.{Passphrase}
 use Rattle.luks_edit.specs.declared.edit_fault.EditFault.{EditFault}
 use Rattle.luks_edit.specs.Endings.{EndsBy}
-use Rattle.luks2_edits.specs.Metadata.{IsInUse}
+use Rattle.luks2_edits.specs.Metadata.{IsInUse, IsKeyArea}
 use Rattle.luks2_edits.specs.Places.{IsNewArea}
 use Rattle.luks2_edits.specs.Refused.{Refusal2}
 use Rattle.luks2_judging.specs.declared.judged.Addition.{Addition}
@@ -33,6 +35,11 @@ use Rattle.luks2_judging.specs.Rows.{HasNoFaultBefore}
 
 -- ---- on any device: what the edit `e` takes, by the metadata `j` of a JSON area of `len` bytes in a
 -- volume of `total` bytes
+
+-- the keyslot loses this area, which is its own and lies inside
+pub record IsLostArea (j : Value) (total n : ℕ) (a : Area) : Type 0 where
+  pub is : IsKeyArea j n a
+  pub inside : IsInside a total
 
 -- it adds this keyslot, for the key under the passphrase
 pub record IsAddition
@@ -55,13 +62,15 @@ pub record IsRenewal
   pub there : IsInUse j r.slot
   pub key_length : HasLuks2KeyBytes j r.slot (length key)
   pub placed : IsPlaced len j total r.slot r.area
+  pub lost : IsLostArea j total r.slot r.lost
   pub iterated : 1000 ≤ r.iterations
 
--- it removes this keyslot
-pub record IsRemoval (j : Value) (e : Edit) (slot : ℕ) : Type 0 where
+-- it removes this keyslot, and its area with it
+pub record IsRemoval (j : Value) (total : ℕ) (e : Edit) (slot : ℕ) (area : Area) : Type 0 where
   pub passphrase : Passphrase
   pub asked : e ≡ Remove slot passphrase
   pub there : IsInUse j slot
+  pub lost : IsLostArea j total slot area
 
 -- it sets the label of this field of 48 bytes
 pub record IsLabelling (e : Edit) (field_ : List ℕ) : Type 0 where
@@ -72,7 +81,7 @@ pub record IsLabelling (e : Edit) (field_ : List ℕ) : Type 0 where
 abbrev pub Takes : ℕ → Value → ℕ → Edit → JudgedEdit → Type 0
 Takes len j total e (judged.Add a key passphrase) = IsAddition len j total e a key passphrase
 Takes len j total e (judged.Change r key passphrase) = IsRenewal len j total e r key passphrase
-Takes len j total e (judged.Remove slot) = IsRemoval j e slot
+Takes len j total e (judged.Remove slot area) = IsRemoval j total e slot area
 Takes len j total e judged.Repair = e ≡ Repair
 Takes len j total e (judged.Label field_) = IsLabelling e field_
 

@@ -8,6 +8,7 @@ ghost use Rattle.luks_edit.specs.EditFaults.{is_edit_failure};
 ghost use Rattle.luks_reading.specs.Checked.{AreaOf, WellFormed};
 ghost use Rattle.luks_reading.specs.Header.{IsAcceptedHeader, IsHeader};
 ghost use Rattle.luks_reading.specs.Listing.{Lists};
+ghost use Rattle.luks_reading.specs.Reported.{HeaderArea};
 ghost use Rattle.luks_reading.specs.declared.header.Header.TheVariants.{Luks2 as OfLuks2};
 ghost use Rattle.luks2_judging.specs.Header.{IsOfLuks2, IsUnaccepted};
 
@@ -44,6 +45,7 @@ pub(crate) fn accepted_areas(header: &Header, data_: Data, total: u64) -> Result
     ensures memory { IfErr result (λ f. f ≢ EditFault.Memory) }
     ensures inside { IfOk result (λ areas. (m : AreaName) (a : TheArea) → HasArea areas m a
         → IsInside a total) }
+    ensures listed { IfOk result (λ areas. Lists areas (HeaderArea header.now data_ total)) }
     ensures well { (v : List ℕ) → IsHeader v header.now → length v ≡ total
         → OnOk result (WellFormed v data_) }
     ensures areas { (v : List ℕ) → IsHeader v header.now → length v ≡ total

@@ -37,6 +37,8 @@ pub enum JudgedEdit<'a> {
     Remove {
         /// Its number, 0 to 31; it is there.
         slot: u8,
+        /// Its area.
+        area: Area,
     },
     /// Both copies of the header are written anew.
     Repair,
@@ -69,4 +71,6 @@ pub struct Renewal {
     pub iterations: u32,
     /// Its new area.
     pub area: Area,
+    /// The area that it loses.
+    pub lost: Area,
 }

@@ -12,7 +12,7 @@ ghost use Rattle.luks_reading.specs.declared.report.Data.{Data as Payload};
 ghost use Rattle.luks_reading.specs.Checked.{WellFormed};
 ghost use Rattle.luks_reading.specs.Layout2.{Luks2Area};
 ghost use Rattle.luks_reading.specs.Listing.{Lists};
-ghost use Rattle.luks2_edits.specs.Metadata.{IsInUse};
+ghost use Rattle.luks2_edits.specs.Metadata.{IsInUse, IsKeyArea};
 ghost use Rattle.luks2_edits.specs.Places.{IsNewArea};
 ghost use Rattle.luks_reading.specs.Header.{IsAcceptedHeader, IsHeader};
 ghost use Rattle.luks_edit.specs.Asked.{allowed_memory};
@@ -27,10 +27,10 @@ ghost use Rattle.luks2_judging.specs.Sealing.{IsUnadded};
 
 use crate::accepted::{accepted_areas, copy_of, into_copy};
 use crate::judged::{Addition, Judged, JudgedEdit, Renewal};
-use crate::keyslots::{judge_opener, judge_requirements, new_number};
+use crate::keyslots::{judge_opener, judge_requirements, key_area, new_number};
 use crate::labels::judge_label;
 use crate::room::{Room, judge_sealing};
-use crate::rows::judge_last;
+use crate::rows::judge_removal;
 use crate::unlocking::unlock;
 use luks_area::{Areas, Device};
 use luks_edit::{Edit, EditFault};
@@ -136,6 +136,8 @@ fn judge_without_key<'a>(
     ensures there { IfOk result (λ a. IsAbsent (content a.copy.now.meta) edit.now → ⊥) }
     ensures inside { IfOk result (λ a. (m : AreaName) (b : TheArea) → HasArea a.areas m b
         → IsInside b total) }
+    ensures key_areas { IfOk result (λ a. (n : ℕ) (b : TheArea)
+        → IsKeyArea (content a.copy.now.meta) n b → IsInside b total) }
     ensures well { (v : List ℕ) → IsHeader v header.now → length v ≡ total
         → OnOk result (WellFormed v data_) }
     ensures passed { (v random : List ℕ) → IsHeader v header.now → length v ≡ total
@@ -166,6 +168,8 @@ fn judge_with_key<'a, D: Device>(
     requires total { accepted.now.total ≡ D.size device.old }
     requires inside { (m : AreaName) (a : TheArea) → HasArea accepted.now.areas m a
         → IsInside a accepted.now.total }
+    requires key_areas { (n : ℕ) (a : TheArea)
+        → IsKeyArea (content accepted.now.copy.now.meta) n a → IsInside a (D.size device.old) }
     ensures unchanged { IsUnchanged D.tells D.size D.bytes D.unsettled device.old device.new }
     ensures count { CountsFailure is_edit_failure result
         (D.failed device.old) (D.failed device.new) }
@@ -223,8 +227,8 @@ fn judge_with_key<'a, D: Device>(
         }
         Edit::Remove { slot, passphrase } => {
             let _key = unlock(alloc, device, header, slot, passphrase.bytes, memory)?;
-            judge_last(room.meta, slot)?;
-            Ok(JudgedEdit::Remove { slot })
+            let area = judge_removal(room.meta, slot)?;
+            Ok(JudgedEdit::Remove { slot, area })
         }
         Edit::Repair => Ok(JudgedEdit::Repair),
         Edit::Label { text } => judge_label(text),
@@ -291,6 +295,7 @@ fn judge_renewal(room: &Room<'_>, slot: u8, iterations: u32) -> Result<Renewal, 
         (Luks2Area (content room.now.meta.now) (area_len room.now.meta.now + 4096) payload room.now.total)
         → IfOk result (λ r. IsNewArea (area_len room.now.meta.now + 4096) room.now.total payload
         (content room.now.meta.now) r.slot r.area) }
+    ensures lost { IfOk result (λ r. IsKeyArea (content room.now.meta.now) r.slot r.lost) }
     ensures refused { (payload : Payload) → Lists room.now.entries.now
         (Luks2Area (content room.now.meta.now) (area_len room.now.meta.now + 4096) payload room.now.total)
         → IfErr result (IsUnsealable (area_len room.now.meta.now + 4096) room.now.total payload
@@ -301,6 +306,7 @@ fn judge_renewal(room: &Room<'_>, slot: u8, iterations: u32) -> Result<Renewal, 
             slot,
             iterations,
             area,
+            lost: key_area(room.meta, slot),
         }),
         Err(fault) => Err(fault),
     }

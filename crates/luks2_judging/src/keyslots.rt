@@ -3,11 +3,12 @@ ghost use Rattle.std.specs.Prelude.{◌≡◌, ◌<◌, ℕ, false, true, IfOk, 
 ghost use Rattle.luks_making.specs.Conditions.{IsFree};
 ghost use Rattle.luks_meta.specs.Content.{content};
 ghost use Rattle.luks_meta.specs.Requirements.{has_requirements};
-ghost use Rattle.luks2_edits.specs.Metadata.{IsInUse, IsLeastFree};
+ghost use Rattle.luks2_edits.specs.Metadata.{IsInUse, IsKeyArea, IsLeastFree};
 ghost use Rattle.luks2_edits.specs.Refused.{IsAbsent};
 ghost use Rattle.luks2_judging.specs.Judged.{IsNewNumber, IsNumberFault, Judges};
 
 use crate::asked::keyslot_to_open;
+use luks_area::Area;
 use luks_edit::{Edit, EditFault};
 use luks_meta::Meta;
 
@@ -23,6 +24,20 @@ pub(crate) fn is_used(meta: &Meta, n: u8) -> bool
     match meta.keyslot(n) {
         Some(_) => true,
         None => false,
+    }
+}
+
+/// The area of the keyslot, which is there.
+pub(crate) fn key_area(meta: &Meta, n: u8) -> Area
+    requires { IsInUse (content meta.now) n }
+    ensures { IsKeyArea (content meta.now) n result }
+{
+    match meta.keyslot(n) {
+        Some(keyslot) => Area {
+            start: keyslot.area.offset,
+            len: keyslot.area.size,
+        },
+        None => unreachable!(),
     }
 }
 

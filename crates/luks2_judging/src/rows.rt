@@ -1,21 +1,27 @@
 //! Whether a keyslot is the last one that gives its key.
-ghost use Rattle.std.specs.Prelude.{◌≡◌, false, IsTrue};
+ghost use Rattle.std.specs.Prelude.{◌≡◌, false, IfOk, IsTrue};
 ghost use Rattle.luks_making.specs.Naming.{IsDigestOf};
 ghost use Rattle.luks_meta.specs.Content.{content};
+ghost use Rattle.luks2_edits.specs.Metadata.{IsInUse, IsKeyArea};
 ghost use Rattle.luks2_edits.specs.Refused.{IsOnlyOne};
 ghost use Rattle.luks2_judging.specs.Judged.{IsOnlyName, Judges};
 
+use crate::keyslots::key_area;
+use luks_area::Area;
 use luks_edit::EditFault;
 use luks_meta::Meta;
 
-/// Whether another keyslot gives the key of the one to remove. Refused by `LastSlot`.
-pub(crate) fn judge_last(meta: &Meta, slot: u8) -> Result<(), EditFault>
-    ensures { Judges (IsOnlyOne (content meta.now) slot) EditFault.LastSlot result }
+/// The area of the keyslot to remove, which is there, where another one gives its key too. Refused by
+/// `LastSlot`.
+pub(crate) fn judge_removal(meta: &Meta, slot: u8) -> Result<Area, EditFault>
+    requires { IsInUse (content meta.now) slot }
+    ensures area { IfOk result (IsKeyArea (content meta.now) slot) }
+    ensures row { Judges (IsOnlyOne (content meta.now) slot) EditFault.LastSlot result }
 {
     if is_only_one(meta, slot) {
         return Err(EditFault::LastSlot);
     }
-    Ok(())
+    Ok(key_area(meta, slot))
 }
 
 /// Whether the digest that names the keyslot names no other one.

@@ -7,7 +7,8 @@ ghost use Rattle.luks_reading.specs.Checked.{First, IsCheckRefusal, WellFormed};
 ghost use Rattle.luks_reading.specs.Failures.{is_check_failure};
 ghost use Rattle.luks_reading.specs.Header.{IsAcceptedHeader, IsHeader, TakesNoMemory};
 ghost use Rattle.luks_reading.specs.FitsAndResolves.{FitsAndResolves};
-ghost use Rattle.luks_reading.specs.Reported.{IsFromOutside, Reports};
+ghost use Rattle.luks_reading.specs.Listing.{Lists};
+ghost use Rattle.luks_reading.specs.Reported.{HeaderArea, IsFromOutside, Reports};
 
 use crate::check_fault::CheckFault;
 use crate::header::{Header, read_header};
@@ -44,6 +45,7 @@ pub fn check_header(header: &Header, data_: Data, total: u64) -> Result<Report, 
     ensures accepted { (v : List ℕ) → IsHeader v header.now → length v ≡ total
         → OnOk result (WellFormed v data_) }
     ensures fits { IfOk result (λ report. Fit (HasArea report.areas) total) }
+    ensures listed { IfOk result (λ report. Lists report.areas (HeaderArea header.now data_ total)) }
     ensures report { (v : List ℕ) → IsHeader v header.now → length v ≡ total
         → IfOk result (Reports v data_) }
     ensures refused { (v : List ℕ) → IsHeader v header.now → length v ≡ total

@@ -3,6 +3,7 @@ ghost use Rattle.luks_area.specs.Area.{Fit};
 ghost use Rattle.luks_area.specs.First.{IsLeast};
 ghost use Rattle.luks_area.specs.Names.{HasArea};
 ghost use Rattle.luks_reading.specs.Layout1.{Luks1Area};
+ghost use Rattle.luks_reading.specs.Layout2.{Luks2Area};
 ghost use Rattle.luks_reading.specs.Listing.{Lists};
 ghost use Rattle.luks_head.specs.Header2.{HoldsBin2};
 ghost use Rattle.serde_json.specs.Data.{Data as Value};
@@ -40,6 +41,8 @@ pub(crate) fn judge_layout(
     total: u64,
 ) -> Result<Areas, CheckFault>
     ensures fits { IfOk result (λ areas. Fit (HasArea areas) total) }
+    ensures listed { IfOk result (λ areas.
+        Lists areas (Luks2Area (content meta.now) header.now.hdr_size data_ total)) }
     ensures accepted { (b json : List ℕ) → HoldsBin2 b header.now → HoldsMeta json meta.now
         → OnOk result (IsLuks2Layout b json data_ total (content meta.now)) }
     ensures areas { (b json : List ℕ) → HoldsBin2 b header.now → HoldsMeta json meta.now

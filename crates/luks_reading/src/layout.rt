@@ -62,7 +62,7 @@ fn add_luks1_slots(areas: &mut Areas, header: &Luks1)
 
 /// The areas of a volume of `total` bytes whose LUKS2 header has `size` bytes and this metadata:
 /// both copies of the header, the keyslots, and with the payload here the segments.
-pub(crate) fn luks2_areas(meta: &Meta, size: u64, data_: Data, total: u64) -> Areas
+pub fn luks2_areas(meta: &Meta, size: u64, data_: Data, total: u64) -> Areas
     ensures { Lists result (Luks2Area (content meta.now) size data_ total) }
 {
     let mut areas = Areas::new();

@@ -25,6 +25,7 @@ pub use laws::{
     more_memory_opens_alike, no_fault_is_well_formed, nothing_allowed_is_as_before, one_answer,
     one_area, one_unlocking, unread_volume_is_refused, well_formed_volume,
 };
+pub use layout::luks2_areas;
 pub use luks_area::{
     Area, AreaFault, AreaName, Areas, Device, DeviceFault, Entry, MemDevice, text_field,
 };

@@ -1,4 +1,4 @@
-use Rattle.std.proofs.Common.{◌∙◌, ◌<◌, ap, refl, subst, sym}
+use Rattle.std.proofs.Common.{ℕ, ◌∙◌, ◌<◌, ap, refl, subst, sym}
 use Rattle.std.proofs.lemmas.Result.{err_from_is_err_and}
 use Rattle.luks_head.specs.Header2.{hdr_size, header_at}
 use Rattle.luks_meta.specs.Content.{area_len, content}
@@ -6,7 +6,7 @@ use Rattle.luks_edit.proofs.AllowedMemory.{short_where_allowed}
 use Rattle.luks_edit.specs.Asked.{allowed_memory, HasShortPassphrases}
 use Rattle.luks_edit.specs.declared.edit.Edit.{Edit}
 use Rattle.luks_edit.specs.declared.edit.Edit.TheVariants.{Add, Change}
-use Rattle.luks2_judging.specs.Judging.{Seals, Takes}
+use Rattle.luks2_judging.specs.Judging.{IsLostArea, Seals, Takes}
 use Rattle.luks2_editing.proofs.JudgedFacts.{judged_edit, refused_ends, replied}
 use Rattle.luks2_editing.proofs.applying.apply_luks2.Goals as goal
 
@@ -22,6 +22,12 @@ remove-requires-clause-numbered g c =
     let copy = c.in_ok-judged.judged.copy in
     let takes = subst (λ t. Takes (area_len copy.meta) (content copy.meta) (g.D.Device.size c.args.device.now) c.args.edit.now t) c.in-Remove.is c.in_ok-judged.ensures.judged.takes in
     takes.there.0
+
+pub remove-requires-clause-lost : goal.remove-requires-clause-lost
+remove-requires-clause-lost g c =
+    let copy = c.in_ok-judged.judged.copy in
+    let takes = subst (λ t. Takes (area_len copy.meta) (content copy.meta) (g.D.Device.size c.args.device.now) c.args.edit.now t) c.in-Remove.is c.in_ok-judged.ensures.judged.takes in
+    subst (λ (n : ℕ). IsLostArea (content copy.meta) n c.in-Remove.slot c.in-Remove.area) (sym c.judge_luks2.ensures.unchanged.size) takes.lost
 
 pub returns-in-Repair-clause-replies : goal.returns-in-Repair-clause-replies
 returns-in-Repair-clause-replies g c = λ tells is.

@@ -1,43 +1,19 @@
 use Rattle.std.proofs.Common.{◌≡◌, ℕ, length, refl, sym, ◌∙◌, subst}
-use Rattle.std.proofs.lemmas.Bool.{false≢true}
 use Rattle.std.proofs.lemmas.Result.{err_from_is_err_and}
-use Rattle.luks_area.specs.Area.{IsInside}
-use Rattle.luks_area.specs.declared.area.Area.{Area}
 use Rattle.luks_edit.specs.declared.edit.Edit.TheVariants.{Change}
 use Rattle.luks_meta.specs.Content.{area_len, content}
-use Rattle.luks2_edits.specs.Metadata.{IsKeyArea}
 use Rattle.luks_slot.specs.declared.fault.SlotFault.{SlotFault}
 use Rattle.luks2_editing.specs.SealedKeyslot.{HasRefusedKeyslot}
 use Rattle.luks2_editing.proofs.MadeMetadataFacts.{enough_random}
-use Rattle.luks2_editing.specs.Lost.{HasKeyArea}
 use Rattle.luks2_editing.specs.MadeMetadata.{IsSealingEdit}
 use Rattle.luks2_editing.specs.declared.sealed_metadata.SealedSlot.TheVariants.{Renewed}
 use Rattle.luks2_editing.specs.declared.sealed_metadata.Sealing.{Sealing}
 use Rattle.luks2_editing.specs.Prepared.{AreCopiesWithin}
 use Rattle.luks2_editing.specs.Rewriting.{IsRenewing}
 use Rattle.luks2_editing.proofs.ChangeFacts.{change_sealing, changed_after, renewed_alike, renewed_unrefused, torn_lost}
-use Rattle.luks2_editing.proofs.LostFacts.{lost_inside}
 use Rattle.luks2_editing.proofs.NewKeyslotFacts.{alike_sealable, unsealed_ends}
 use Rattle.luks2_editing.proofs.RenewalFacts.{renewing}
 use Rattle.luks2_editing.proofs.changing.change.Goals as goal
-
-pub returns-in_err-lost-clause-replies : goal.returns-in_err-lost-clause-replies
-returns-in_err-lost-clause-replies g c = λ tells payload old x well before same opened place.
-    let v = g.D.Device.bytes c.args.device.now in
-    let copy = c.args.copy in
-    let random = c.args.secrets.now.random.now in
-    let slot = c.args.renewal.now.slot in
-    let new = c.args.secrets.now.passphrase in
-    let turns = c.args.renewal.now.iterations in
-    let key = c.args.secrets.now.key.now in
-    let area = c.args.renewal.now.area in
-    let size : length v ≡ g.D.Device.size c.args.device.now = g.met.D.Device.sized c.args.device.now tells in
-    let total : length v ≡ c.len.result = size ∙ sym c.len.ensures in
-    let there : HasKeyArea (content copy.meta) slot c.len.result = record {
-      used = c.requires.there;
-      inside = subst (λ (n : ℕ). (a : Area) → IsKeyArea (content copy.meta) slot a → IsInside a n) total (lost_inside v payload copy x well slot);
-    } in
-    absurd (false≢true (c.in_err-lost.ensures.found there))
 
 pub returns-in_err-made-clause-replies : goal.returns-in_err-made-clause-replies
 returns-in_err-made-clause-replies g c = λ tells payload old x well before same opened place.
@@ -50,7 +26,7 @@ returns-in_err-made-clause-replies g c = λ tells payload old x well before same
     let key = c.args.secrets.now.key.now in
     let area = c.args.renewal.now.area in
     let size : length v ≡ g.D.Device.size c.args.device.now = g.met.D.Device.sized c.args.device.now tells in
-    let total : length v ≡ c.len-2.result = size ∙ sym c.len-2.ensures in
+    let total : length v ≡ c.len.result = size ∙ sym c.len.ensures in
     let sealing : Sealing = record { keyslot = Renewed slot; iterations = turns; area = area } in
     let edit : IsSealingEdit v payload (Change slot old new turns) random copy sealing = record {
       chosen = x;
@@ -62,7 +38,7 @@ returns-in_err-made-clause-replies g c = λ tells payload old x well before same
       key = key;
       opened = opened;
     } in
-    let p = err_from_is_err_and c.from_residual-in_err-made.result c.from_residual-in_err-made.ensures.1 in
+    let p = err_from_is_err_and c.from_residual.result c.from_residual.ensures.1 in
     rw (p.1, p.2) (c.in_err-made.ensures.refused v payload (Change slot old new turns) edit total)
 
 pub write_keyslot-requires-clause-sealable : goal.write_keyslot-requires-clause-sealable
@@ -74,7 +50,7 @@ write_keyslot-requires-clause-sealable g c =
     let k = content c.in_ok-made.made.meta in
     let within : AreCopiesWithin copy.header (area_len copy.meta) (g.D.Device.size c.args.device.now) =
     subst (λ (n : ℕ). AreCopiesWithin copy.header n (g.D.Device.size c.args.device.now)) made.length
-    (subst (λ (n : ℕ). AreCopiesWithin copy.header (area_len c.in_ok-made.made.meta) n) c.len-2.ensures made.within) in
+    (subst (λ (n : ℕ). AreCopiesWithin copy.header (area_len c.in_ok-made.made.meta) n) c.len.ensures made.within) in
     alike_sealable j k renewal.slot renewal.slot renewal.area (renewed_alike j k renewal.slot renewal.iterations _ renewal.area made.made)
     (area_len copy.meta) (g.D.Device.size c.args.device.now) copy.header c.args.secrets.now.key.now c.args.secrets.now.random.now made.counted c.requires.key_length c.requires.placed within
 
@@ -89,7 +65,7 @@ returns-in_err-write_keyslot-clause-replies g c = λ tells payload old x well be
     let key = c.args.secrets.now.key.now in
     let area = c.args.renewal.now.area in
     let size : length v ≡ g.D.Device.size c.args.device.now = g.met.D.Device.sized c.args.device.now tells in
-    let total : length v ≡ c.len-2.result = size ∙ sym c.len-2.ensures in
+    let total : length v ≡ c.len.result = size ∙ sym c.len.ensures in
     let sealing : Sealing = record { keyslot = Renewed slot; iterations = turns; area = area } in
     let edit : IsSealingEdit v payload (Change slot old new turns) random copy sealing = record {
       chosen = x;
@@ -128,7 +104,7 @@ returns-in-Ok-clause-replies g c = λ tells payload old x well before same opene
     let key = c.args.secrets.now.key.now in
     let area = c.args.renewal.now.area in
     let size : length v ≡ g.D.Device.size c.args.device.now = g.met.D.Device.sized c.args.device.now tells in
-    let total : length v ≡ c.len-2.result = size ∙ sym c.len-2.ensures in
+    let total : length v ≡ c.len.result = size ∙ sym c.len.ensures in
     let sealing : Sealing = record { keyslot = Renewed slot; iterations = turns; area = area } in
     let edit : IsSealingEdit v payload (Change slot old new turns) random copy sealing = record {
       chosen = x;
@@ -152,7 +128,7 @@ returns-in-Ok-clause-replies g c = λ tells payload old x well before same opene
     record {
       unrefused = free;
       after = changed_after v payload copy x well slot old new turns key random area k opened place made.made free edited
-          c.in_ok-lost.lost c.in_ok-lost.ensures.area w y written (c.wipe_area.ensures.rest tells) (c.in-Ok.ensures.wiped tells);
+          c.args.renewal.now.lost c.requires.lost.is w y written (c.wipe_area.ensures.rest tells) (c.in-Ok.ensures.wiped tells);
       told = refl;
     }
 
@@ -167,7 +143,7 @@ returns-clause-replies g c = λ tells payload old x well before same opened plac
     let key = c.args.secrets.now.key.now in
     let area = c.args.renewal.now.area in
     let size : length v ≡ g.D.Device.size c.args.device.now = g.met.D.Device.sized c.args.device.now tells in
-    let total : length v ≡ c.len-2.result = size ∙ sym c.len-2.ensures in
+    let total : length v ≡ c.len.result = size ∙ sym c.len.ensures in
     let sealing : Sealing = record { keyslot = Renewed slot; iterations = turns; area = area } in
     let edit : IsSealingEdit v payload (Change slot old new turns) random copy sealing = record {
       chosen = x;
@@ -189,4 +165,4 @@ returns-clause-replies g c = λ tells payload old x well before same opened plac
     let y = g.D.Device.bytes c.wipe_area.new.device in
     let written = c.in_ok-write_keyslot.ensures.written tells (Change slot old new turns) renews in
     torn_lost v payload copy x well slot old new turns key random area k opened place made.made free edited
-    c.in_ok-lost.lost c.in_ok-lost.ensures.area w y written (c.wipe_area.ensures.rest tells)
+    c.args.renewal.now.lost c.requires.lost.is w y written (c.wipe_area.ensures.rest tells)

@@ -1,26 +1,12 @@
 use Rattle.std.proofs.Common.{◌≡◌, ℕ, length, refl, sym, ◌∙◌, subst}
-use Rattle.std.proofs.lemmas.Bool.{false≢true}
 use Rattle.std.proofs.lemmas.Result.{err_from_is_err_and}
 use Rattle.luks_edit.specs.declared.edit.Edit.TheVariants.{Remove}
 use Rattle.luks_meta.specs.Content.{area_len, content}
-use Rattle.luks2_editing.specs.Lost.{HasKeyArea}
 use Rattle.luks2_editing.specs.Prepared.{AreCopiesWithin, IsPrepared, IsUnwritten}
 use Rattle.luks2_editing.specs.Rewriting.{IsRenewing}
-use Rattle.luks2_editing.proofs.RemovalFacts.{key_area_there, removal_passed, removed_after, torn_lost}
+use Rattle.luks2_editing.proofs.RemovalFacts.{removal_passed, removed_after, torn_lost}
 use Rattle.luks2_editing.proofs.RenewalFacts.{copy_within, prepared_unrefused, renewing, unwritten_ends}
 use Rattle.luks2_editing.proofs.removing.remove.Goals as goal
-
-pub returns-in_err-area-clause-replies : goal.returns-in_err-area-clause-replies
-returns-in_err-area-clause-replies g c = λ tells payload pass x well before.
-    let v = g.D.Device.bytes c.args.device.now in
-    let copy = c.args.copy in
-    let random = c.args.random.now in
-    let slot = c.args.slot in
-    let size : length v ≡ g.D.Device.size c.args.device.now = g.met.D.Device.sized c.args.device.now tells in
-    let total : length v ≡ c.len.result = size ∙ sym c.len.ensures in
-    let there : HasKeyArea (content copy.meta) slot c.len.result =
-    subst (λ (n : ℕ). HasKeyArea (content copy.meta) slot n) total (key_area_there v payload copy x well slot pass random c.requires.numbered before) in
-    absurd (false≢true (c.in_err-area.ensures.found there))
 
 pub returns-in_err-rewrite-clause-replies : goal.returns-in_err-rewrite-clause-replies
 returns-in_err-rewrite-clause-replies g c = λ tells payload pass x well before.
@@ -60,7 +46,7 @@ returns-in-Ok-clause-replies g c = λ tells payload pass x well before.
     record {
       unrefused = prepared_unrefused v payload copy x well (Remove slot pass) random new (removal_passed v payload copy x well slot pass random c.requires.numbered before)
           (λ salt. made) (λ salt k same. same ∙ sym made) refl (λ k same. same) (λ u. tt) ready;
-      after = removed_after v payload copy x well slot pass random c.requires.numbered before c.in_ok-area.area c.in_ok-area.ensures.area new made w y ready
+      after = removed_after v payload copy x well slot pass random c.requires.numbered before c.args.area c.requires.lost.is new made w y ready
           (c.in_ok-rewrite.ensures.anew tells v (Remove slot pass) renews) (c.rewrite.ensures.rest tells) (c.wipe_area.ensures.rest tells) (c.in-Ok.ensures.wiped tells);
       told = refl;
     }
@@ -78,5 +64,5 @@ returns-clause-replies g c = λ tells payload pass x well before.
     let w = g.D.Device.bytes c.rewrite.new.device in
     let ready = subst (λ (n : ℕ). IsPrepared copy.header.seqid n new random 128) len c.in_ok-rewrite.ensures.ready in
     let y = g.D.Device.bytes c.wipe_area.new.device in
-    torn_lost v payload copy x well slot pass random c.requires.numbered before c.in_ok-area.area c.in_ok-area.ensures.area new made w y ready
+    torn_lost v payload copy x well slot pass random c.requires.numbered before c.args.area c.requires.lost.is new made w y ready
     (c.in_ok-rewrite.ensures.anew tells v (Remove slot pass) renews) (c.rewrite.ensures.rest tells) (c.wipe_area.ensures.rest tells)

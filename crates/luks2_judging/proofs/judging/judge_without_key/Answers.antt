@@ -1,7 +1,10 @@
 use Rattle.std.proofs.Common.{subst, sym}
 use Rattle.std.proofs.lemmas.Result.{err_from_is_err_and}
 use Rattle.luks_meta.specs.Content.{content}
+use Rattle.luks_area.specs.declared.area.AreaName.TheVariants.{Slot}
 use Rattle.luks_reading.specs.Header.{IsChosenCopy}
+use Rattle.luks_reading.specs.Listing.{Lists}
+use Rattle.luks_reading.specs.Reported.{HeaderArea}
 use Rattle.luks2_edits.specs.Refused.{Refusal2}
 use Rattle.luks2_edits.proofs.VolumeLaws.{well_formed_faultless}
 use Rattle.luks2_judging.proofs.ChosenFacts.{copy_in, metadata_of}
@@ -51,3 +54,9 @@ returns-clause-passed c = λ v random is size.
     let past3 = past_required v c.args.data_ copy.header.hdr_offset (content copy.meta) (metadata_of v copy x) e random past2 c.in_ok-judge_requirements.ensures in
     let past4 = past_absent v c.args.data_ copy.header.hdr_offset (content copy.meta) (metadata_of v copy x) e random past3 c.in_ok-judge_opener.ensures in
     record { chosen = x; lists = c.in_ok-areas.ensures.areas v is size; passed = before_of 4 v c.args.data_ e random past4 }
+
+pub returns-clause-key_areas : goal.returns-clause-key_areas
+returns-clause-key_areas c = λ n a is.
+    let areas = c.in_ok-areas.areas in
+    let listed = subst (λ h. Lists areas (HeaderArea h c.args.data_ c.args.total)) c.copy_of-copy.ensures c.in_ok-areas.ensures.listed in
+    c.in_ok-areas.ensures.inside (Slot n) a (listed.all (Slot n) a is)

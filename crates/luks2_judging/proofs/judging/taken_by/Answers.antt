@@ -1,6 +1,7 @@
-use Rattle.std.proofs.Common.{◌≡◌, List, ℕ, length, sym, ◌∙◌}
+use Rattle.std.proofs.Common.{◌≡◌, List, ℕ, length, subst, sym, ◌∙◌}
 use Rattle.std.specs.Prelude.{⊤}
 use Rattle.std.proofs.lemmas.Result.{err_from_is_err_and}
+use Rattle.luks_area.specs.Area.{IsInside}
 use Rattle.luks_edit.specs.Endings.{refused_ends, refusing}
 use Rattle.luks2_edits.specs.Refused.{Refusal2}
 use Rattle.luks2_judging.specs.Opened.{TakesMemoryToOpen}
@@ -16,6 +17,9 @@ returns-in_err-accepted-clause-refused g c = λ tells is.
     rw (p.1, p.2)
     (refused_ends (λ g. (random : List ℕ) → Refusal2 v c.args.data_ c.args.edit.now random g) (TakesMemoryToOpen v c.args.edit.now) ⊤ f
     (refusing f c.in_err-accepted.ensures.memory c.in_err-accepted.ensures.own) (λ random. c.in_err-accepted.ensures.refused v random is size))
+
+pub judge_with_key-requires-clause-key_areas : goal.judge_with_key-requires-clause-key_areas
+judge_with_key-requires-clause-key_areas g c = λ n a is. subst (λ (t : ℕ). IsInside a t) c.len.ensures (c.in_ok-accepted.ensures.key_areas n a is)
 
 pub returns-clause-judged : goal.returns-clause-judged
 returns-clause-judged g c =

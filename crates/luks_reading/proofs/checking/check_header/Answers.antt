@@ -1,8 +1,11 @@
 -- What was judged of the header that counts holds of the volume.
-use Rattle.std.proofs.Common.{subst, ◌∙◌}
+use Rattle.std.proofs.Common.{ℕ, List, subst, sym, ◌∙◌}
 use Rattle.std.proofs.lemmas.Result.{err_from_is_err_and}
 use Rattle.luks_meta.specs.Content.{content}
 use Rattle.luks_reading.specs.Header.{json_at, IsAcceptedHeader, IsHeader}
+use Rattle.luks_reading.specs.Layout1.{Luks1Area}
+use Rattle.luks_reading.specs.Listing.{Lists}
+use Rattle.luks_reading.specs.Reported.{HeaderArea}
 use Rattle.luks_head.proofs.ChoiceFacts.{uuid_sound}
 use Rattle.luks_reading.proofs.CopyLaws.{metadata_faultless}
 use Rattle.luks_reading.proofs.CheckFacts.{luks1_first, luks2_accepted, luks2_areas_are, luks2_first}
@@ -25,6 +28,16 @@ returns-in_ok-areas-in-Luks1-clause-report c = λ v is long.
       version = chosen.0;
       areas = luks1_areas_are v _ _ _ _ chosen.0 (c.as_slice.ensures ∙ chosen.1) long c.in_ok-areas-in-Luks1.ensures.areas;
     }
+
+pub returns-in_ok-areas-in-Luks1-clause-listed : goal.returns-in_ok-areas-in-Luks1-clause-listed
+returns-in_ok-areas-in-Luks1-clause-listed c =
+    let areas = c.in_ok-areas-in-Luks1.areas in
+    subst (λ h. Lists areas (HeaderArea h c.args.data_ c.args.total)) (sym c.in-Luks1.is)
+    (subst (λ (b : List ℕ). Lists areas (Luks1Area b c.args.data_ c.args.total)) c.as_slice.ensures c.in_ok-areas-in-Luks1.ensures.areas)
+
+pub returns-in_ok-areas-in-Luks2-clause-listed : goal.returns-in_ok-areas-in-Luks2-clause-listed
+returns-in_ok-areas-in-Luks2-clause-listed c =
+    subst (λ h. Lists c.in_ok-areas-in-Luks2.areas (HeaderArea h c.args.data_ c.args.total)) (sym c.in-Luks2.is) c.in_ok-areas-in-Luks2.ensures.listed
 
 pub returns-in_err-areas-in-Luks2-clause-refused : goal.returns-in_err-areas-in-Luks2-clause-refused
 returns-in_err-areas-in-Luks2-clause-refused c = λ v is long.
