@@ -125,21 +125,21 @@ fn keyslot_objects(rt: HostRuntime) -> Result<(), Fail> {
         "hash":"sha256","stripes":4000 => "hash":7,"stripes":4000 => Shape(keyslots.0.af.hash)
         "hash":"sha256","stripes":4000 => "hash":"","stripes":4000 => accepted
         "hash":"sha256","iterations":1000,"salt":"AAAAAAAAAAAAAAAAAAAAAAAAAAAAAAAAAAAAAAAAAAA=" => "iterations":1000,"salt":"AAAAAAAAAAAAAAAAAAAAAAAAAAAAAAAAAAAAAAAAAAA=" => Shape(keyslots.0.kdf.hash)
-        "hash":"sha256","iterations":1000,"salt":"AAAAAAAAAAAAAAAAAAAAAAAAAAAAAAAAAAAAAAAAAAA=" => "hash":null,"iterations":1000,"salt":"AAAAAAAAAAAAAAAAAAAAAAAAAAAAAAAAAAAAAAAAAAA=" => Shape(keyslots.0.kdf.hash)
+        "hash":"sha256","iterations":1000,"salt" => "hash":null,"iterations":1000,"salt" => Shape(keyslots.0.kdf.hash)
         "iterations":1000,"salt":"AAAAAAAAAAAAAAAAAAAAAAAAAAAAAAAAAAAAAAAAAAA=" => "iterations":0,"salt":"AAAAAAAAAAAAAAAAAAAAAAAAAAAAAAAAAAAAAAAAAAA=" => Shape(keyslots.0.kdf.iterations)
         "iterations":1000,"salt":"AAAAAAAAAAAAAAAAAAAAAAAAAAAAAAAAAAAAAAAAAAA=" => "iterations":1,"salt":"AAAAAAAAAAAAAAAAAAAAAAAAAAAAAAAAAAAAAAAAAAA=" => accepted
         "iterations":1000,"salt":"AAAAAAAAAAAAAAAAAAAAAAAAAAAAAAAAAAAAAAAAAAA=" => "iterations":4294967295,"salt":"AAAAAAAAAAAAAAAAAAAAAAAAAAAAAAAAAAAAAAAAAAA=" => accepted
         "iterations":1000,"salt":"AAAAAAAAAAAAAAAAAAAAAAAAAAAAAAAAAAAAAAAAAAA=" => "iterations":4294967296,"salt":"AAAAAAAAAAAAAAAAAAAAAAAAAAAAAAAAAAAAAAAAAAA=" => Shape(keyslots.0.kdf.iterations)
         "iterations":1000,"salt":"AAAAAAAAAAAAAAAAAAAAAAAAAAAAAAAAAAAAAAAAAAA=" => "iterations":"1000","salt":"AAAAAAAAAAAAAAAAAAAAAAAAAAAAAAAAAAAAAAAAAAA=" => Shape(keyslots.0.kdf.iterations)
         "iterations":1000,"salt":"AAAAAAAAAAAAAAAAAAAAAAAAAAAAAAAAAAAAAAAAAAA=" => "iterations":null,"salt":"AAAAAAAAAAAAAAAAAAAAAAAAAAAAAAAAAAAAAAAAAAA=" => Shape(keyslots.0.kdf.iterations)
-        "hash":"sha256","iterations":1000,"salt":"AAAAAAAAAAAAAAAAAAAAAAAAAAAAAAAAAAAAAAAAAAA=" => "cpus":0,"memory":0,"time":0,"hash":"sha256","iterations":1000,"salt":"AAAAAAAAAAAAAAAAAAAAAAAAAAAAAAAAAAAAAAAAAAA=" => accepted"#;
+        "hash":"sha256","iterations":1000,"salt" => "cpus":0,"memory":0,"time":0,"hash":"sha256","iterations":1000,"salt" => accepted"#;
     compare(&rt, rt.alloc(), PLAIN, table)
 }
 
 // Base64 of 1 to 128 bytes.
 #[test]
 fn salts(rt: HostRuntime) -> Result<(), Fail> {
-    let table =
+    let table = concat!(
         r#""salt":"AAAAAAAAAAAAAAAAAAAAAAAAAAAAAAAAAAAAAAAAAAA=","type":"pbkdf2" => "salt":null,"type":"pbkdf2" => Shape(keyslots.0.kdf.salt)
         "salt":"AAAAAAAAAAAAAAAAAAAAAAAAAAAAAAAAAAAAAAAAAAA=","type":"pbkdf2" => "salt":"","type":"pbkdf2" => Shape(keyslots.0.kdf.salt)
         "salt":"AAAAAAAAAAAAAAAAAAAAAAAAAAAAAAAAAAAAAAAAAAA=","type":"pbkdf2" => "salt":"AA==","type":"pbkdf2" => accepted
@@ -158,17 +158,22 @@ fn salts(rt: HostRuntime) -> Result<(), Fail> {
         "salt":"AAAAAAAAAAAAAAAAAAAAAAAAAAAAAAAAAAAAAAAAAAA=","type":"pbkdf2" => "salt":"AA==AA==","type":"pbkdf2" => Shape(keyslots.0.kdf.salt)
         "salt":"AAAAAAAAAAAAAAAAAAAAAAAAAAAAAAAAAAAAAAAAAAA=","type":"pbkdf2" => "salt":"A","type":"pbkdf2" => Shape(keyslots.0.kdf.salt)
         "salt":"AAAAAAAAAAAAAAAAAAAAAAAAAAAAAAAAAAAAAAAAAAA=","type":"pbkdf2" => "salt":"====","type":"pbkdf2" => Shape(keyslots.0.kdf.salt)
-        "salt":"AAAAAAAAAAAAAAAAAAAAAAAAAAAAAAAAAAAAAAAAAAA=","type":"pbkdf2" => "salt":"AAAAAAAAAAAAAAAAAAAAAAAAAAAAAAAAAAAAAAAAAAAAAAAAAAAAAAAAAAAAAAAAAAAAAAAAAAAAAAAAAAAAAAAAAAAAAAAAAAAAAAAAAAAAAAAAAAAAAAAAAAAAAAAAAAAAAAAAAAAAAAAAAAAAAAAAAAAAAAAAAAAAAAAAAAA=","type":"pbkdf2" => accepted
-        "salt":"AAAAAAAAAAAAAAAAAAAAAAAAAAAAAAAAAAAAAAAAAAA=","type":"pbkdf2" => "salt":"AAAAAAAAAAAAAAAAAAAAAAAAAAAAAAAAAAAAAAAAAAAAAAAAAAAAAAAAAAAAAAAAAAAAAAAAAAAAAAAAAAAAAAAAAAAAAAAAAAAAAAAAAAAAAAAAAAAAAAAAAAAAAAAAAAAAAAAAAAAAAAAAAAAAAAAAAAAAAAAAAAAAAAAAAAAA","type":"pbkdf2" => Shape(keyslots.0.kdf.salt)
+        "salt":"AAAAAAAAAAAAAAAAAAAAAAAAAAAAAAAAAAAAAAAAAAA=","type":"pbkdf2" => "#,
+        r#""salt":"AAAAAAAAAAAAAAAAAAAAAAAAAAAAAAAAAAAAAAAAAAAAAAAAAAAAAAAAAAAAAAAAAAAAAAAAAAAAAAAAAAAAAAAAAAAAAAAAAAAAAAAAAAAAAAAAAAAAAAAAAAAAAAAAAAAAAAAAAAAAAA"#,
+        r#"AAAAAAAAAAAAAAAAAAAAAAAAAAAAA=","type":"pbkdf2" => accepted
+        "salt":"AAAAAAAAAAAAAAAAAAAAAAAAAAAAAAAAAAAAAAAAAAA=","type":"pbkdf2" => "#,
+        r#""salt":"AAAAAAAAAAAAAAAAAAAAAAAAAAAAAAAAAAAAAAAAAAAAAAAAAAAAAAAAAAAAAAAAAAAAAAAAAAAAAAAAAAAAAAAAAAAAAAAAAAAAAAAAAAAAAAAAAAAAAAAAAAAAAAAAAAAAAAAAAAAAAA"#,
+        r#"AAAAAAAAAAAAAAAAAAAAAAAAAAAAAA","type":"pbkdf2" => Shape(keyslots.0.kdf.salt)
         "salt":"AAAAAAAAAAAAAAAAAAAAAAAAAAAAAAAAAAAAAAAAAAA=","type":"pbkdf2" => "salt":"\u0041A==","type":"pbkdf2" => accepted
-        "salt":"AAAAAAAAAAAAAAAAAAAAAAAAAAAAAAAAAAAAAAAAAAA=","type":"pbkdf2" => "sult":"AAAAAAAAAAAAAAAAAAAAAAAAAAAAAAAAAAAAAAAAAAA=","type":"pbkdf2" => Shape(keyslots.0.kdf.salt)"#;
+        "salt":"AAAAAAAAAAAAAAAAAAAAAAAAAAAAAAAAAAAAAAAAAAA=","type":"pbkdf2" => "sult":"AAAAAAAAAAAAAAAAAAAAAAAAAAAAAAAAAAAAAAAAAAA=","type":"pbkdf2" => Shape(keyslots.0.kdf.salt)"#
+    );
     compare(&rt, rt.alloc(), PLAIN, table)
 }
 
 // The members of a digest.
 #[test]
 fn digest_members(rt: HostRuntime) -> Result<(), Fail> {
-    let table =
+    let table = concat!(
         r#""digest":"AAAAAAAAAAAAAAAAAAAAAAAAAAAAAAAAAAAAAAAAAAA=" => "digest":0 => Shape(digests.0.digest)
         "digest":"AAAAAAAAAAAAAAAAAAAAAAAAAAAAAAAAAAAAAAAAAAA=" => "digest":"AAAAAAAAAAAAAAAAAAAAAAAAAA==" => Shape(digests.0.digest)
         "digest":"AAAAAAAAAAAAAAAAAAAAAAAAAAAAAAAAAAAAAAAAAAA=" => "digest":"AAAAAAAAAAAAAAAAAAAAAAAAAAA=" => accepted
@@ -193,18 +198,24 @@ fn digest_members(rt: HostRuntime) -> Result<(), Fail> {
         "segments":["0"] => "segments":[["0"]] => Shape(digests.0.segments)
         "salt":"AAAAAAAAAAAAAAAAAAAAAAAAAAAAAAAAAAAAAAAAAAA=","segments":["0"] => "segments":["0"] => Shape(digests.0.salt)
         "salt":"AAAAAAAAAAAAAAAAAAAAAAAAAAAAAAAAAAAAAAAAAAA=" => "salt":"" => Shape(digests.0.salt)
-        "salt":"AAAAAAAAAAAAAAAAAAAAAAAAAAAAAAAAAAAAAAAAAAA=" => "salt":"AAAAAAAAAAAAAAAAAAAAAAAAAAAAAAAAAAAAAAAAAAAAAAAAAAAAAAAAAAAAAAAAAAAAAAAAAAAAAAAAAAAAAAAAAAAAAAAAAAAAAAAAAAAAAAAAAAAAAAAAAAAAAAAAAAAAAAAAAAAAAAAAAAAAAAAAAAAAAAAAAAAAAAAAAAA=" => accepted
-        "salt":"AAAAAAAAAAAAAAAAAAAAAAAAAAAAAAAAAAAAAAAAAAA=" => "salt":"AAAAAAAAAAAAAAAAAAAAAAAAAAAAAAAAAAAAAAAAAAAAAAAAAAAAAAAAAAAAAAAAAAAAAAAAAAAAAAAAAAAAAAAAAAAAAAAAAAAAAAAAAAAAAAAAAAAAAAAAAAAAAAAAAAAAAAAAAAAAAAAAAAAAAAAAAAAAAAAAAAAAAAAAAAAA" => Shape(digests.0.salt)
+        "salt":"AAAAAAAAAAAAAAAAAAAAAAAAAAAAAAAAAAAAAAAAAAA=" => "#,
+        r#""salt":"AAAAAAAAAAAAAAAAAAAAAAAAAAAAAAAAAAAAAAAAAAAAAAAAAAAAAAAAAAAAAAAAAAAAAAAAAAAAAAAAAAAAAAAAAAAAAAAAAAAAAAAAAAAAAAAAAAAAAAAAAAAAAAAAAAAAAAAAAAAAAA"#,
+        r#"AAAAAAAAAAAAAAAAAAAAAAAAAAAAA=" => accepted
+        "salt":"AAAAAAAAAAAAAAAAAAAAAAAAAAAAAAAAAAAAAAAAAAA=" => "#,
+        r#""salt":"AAAAAAAAAAAAAAAAAAAAAAAAAAAAAAAAAAAAAAAAAAAAAAAAAAAAAAAAAAAAAAAAAAAAAAAAAAAAAAAAAAAAAAAAAAAAAAAAAAAAAAAAAAAAAAAAAAAAAAAAAAAAAAAAAAAAAAAAAAAAAA"#,
+        r#"AAAAAAAAAAAAAAAAAAAAAAAAAAAAAA" => Shape(digests.0.salt)
         "segments":["0"],"type":"pbkdf2" => "segments":["0"] => Shape(digests.0.type)
         "type":"pbkdf2" => "type":7 => Shape(digests.0.type)
-        "type":"pbkdf2" => "type":"argon2id" => Kind(digests.0.type)"#;
+        "type":"pbkdf2" => "type":"argon2id" => Kind(digests.0.type)"#
+    );
     compare(&rt, rt.alloc(), PLAIN, table)
 }
 
 // The members of a segment, of both types.
 #[test]
 fn segment_members(rt: HostRuntime) -> Result<(), Fail> {
-    let table = r#""iv_tweak":"0" => "x":0 => Shape(segments.0.iv_tweak)
+    let table = concat!(
+        r#""iv_tweak":"0" => "x":0 => Shape(segments.0.iv_tweak)
         "iv_tweak":"0" => "iv_tweak":0 => Shape(segments.0.iv_tweak)
         "iv_tweak":"0" => "iv_tweak":"00" => Shape(segments.0.iv_tweak)
         "iv_tweak":"0" => "iv_tweak":"18446744073709551615" => accepted
@@ -241,9 +252,11 @@ fn segment_members(rt: HostRuntime) -> Result<(), Fail> {
         "encryption":"aes-xts-plain64","iv_tweak":"0","offset":"16777216","sector_size":512,"size":"dynamic","type":"crypt" => "offset":"16777216","size":"dynamic","type":"linear" => accepted
         "encryption":"aes-xts-plain64","iv_tweak":"0","offset":"16777216","sector_size":512,"size":"dynamic","type":"crypt" => "offset":"16777216","size":"dynamic" => Shape(segments.0.type)
         "encryption":"aes-xts-plain64","iv_tweak":"0","offset":"16777216","sector_size":512,"size":"dynamic","type":"crypt" => "offset":"16777216","size":"dynamic","type":[] => Shape(segments.0.type)
-        "encryption":"aes-xts-plain64","iv_tweak":"0","offset":"16777216","sector_size":512,"size":"dynamic","type":"crypt" => "offset":"16777216","size":"dynamic","type":"hw-opal" => Kind(segments.0.type)
+        "encryption":"aes-xts-plain64","iv_tweak":"0","offset":"16777216","sector_size":512,"size":"dynamic","type":"crypt" => "#,
+        r#""offset":"16777216","size":"dynamic","type":"hw-opal" => Kind(segments.0.type)
         "encryption":"aes-xts-plain64","iv_tweak":"0","offset":"16777216","sector_size":512,"size":"dynamic","type":"crypt" => "type":"linear" => Shape(segments.0.offset)
-        "0":{"encryption":"aes-xts-plain64","iv_tweak":"0","offset":"16777216","sector_size":512,"size":"dynamic","type":"crypt"} =>  => NoSuchName(digests.0.segments)"#;
+        "0":{"encryption":"aes-xts-plain64","iv_tweak":"0","offset":"16777216","sector_size":512,"size":"dynamic","type":"crypt"} =>  => NoSuchName(digests.0.segments)"#
+    );
     compare(&rt, rt.alloc(), PLAIN, table)
 }
 

@@ -6,7 +6,8 @@ use std::test::Fail;
 // A type that isn't listed is the only fault of its object and of all inside it.
 #[test]
 fn types(rt: HostRuntime) -> Result<(), Fail> {
-    let table = r#""type":"luks1"} => "type":"luks2"} => Kind(keyslots.0.af.type)
+    let table = concat!(
+        r#""type":"luks1"} => "type":"luks2"} => Kind(keyslots.0.af.type)
         "type":"luks1"} => "type":1} => Shape(keyslots.0.af.type)
         "stripes":4000,"type":"luks1" => "stripes":4000 => Shape(keyslots.0.af.type)
         "type":"raw"} => "type":"journal"} => Kind(keyslots.0.area.type)
@@ -20,10 +21,13 @@ fn types(rt: HostRuntime) -> Result<(), Fail> {
         ,"type":"luks2"}} => ,"type":{}}} => Shape(keyslots.0.type)
         "af":{"hash":"sha256","stripes":4000,"type":"luks1" => "x":{ => Shape(keyslots.0.af)
         "af":{"hash":"sha256" => "type":"reencrypt"},"1":{"af":{"hash":"sha256" => Kind(keyslots.0.type)
-        "af":{"hash":"sha256","stripes":4000,"type":"luks1"},"area":{"encryption":"aes-xts-plain64","key_size":64,"offset":"32768","size":"258048","type":"raw"},"kdf":{"hash":"sha256","iterations":1000,"salt":"AAAAAAAAAAAAAAAAAAAAAAAAAAAAAAAAAAAAAAAAAAA=","type":"pbkdf2"},"key_size":64,"type":"luks2" => "type":"reencrypt" => Kind(keyslots.0.type)
+        "af":{"hash":"sha256","stripes":4000,"type":"luks1"},"area":{"encryption":"aes-xts-plain64","key_size":64,"offset":"32768","size":"258048","#,
+        r#""type":"raw"},"kdf":{"hash":"sha256","iterations":1000,"salt":"AAAAAAAAAAAAAAAAAAAAAAAAAAAAAAAAAAAAAAAAAAA=","type":"pbkdf2"},"key_size":64,"#,
+        r#""type":"luks2" => "type":"reencrypt" => Kind(keyslots.0.type)
         "hash":"sha256","stripes":4000,"type":"luks1" => "type":"other" => Kind(keyslots.0.af.type)
         "encryption":"aes-xts-plain64","key_size":64,"offset":"32768","size":"258048","type":"raw" => "type":"datashift","key_size":0 => Kind(keyslots.0.area.type)
-        "hash":"sha256","iterations":1000,"salt":"AAAAAAAAAAAAAAAAAAAAAAAAAAAAAAAAAAAAAAAAAAA=","type":"pbkdf2" => "type":"scrypt" => Kind(keyslots.0.kdf.type)"#;
+        "hash":"sha256","iterations":1000,"salt":"AAAAAAAAAAAAAAAAAAAAAAAAAAAAAAAAAAAAAAAAAAA=","type":"pbkdf2" => "type":"scrypt" => Kind(keyslots.0.kdf.type)"#
+    );
     compare(&rt, rt.alloc(), PLAIN, table)
 }
 
@@ -108,7 +112,7 @@ fn sections_that_are_no_objects(rt: HostRuntime) -> Result<(), Fail> {
 // Each keyslot and each `crypt` segment is named by exactly one digest.
 #[test]
 fn assignments(rt: HostRuntime) -> Result<(), Fail> {
-    let table =
+    let table = concat!(
         r#""keyslots":["0"],"salt" => "keyslots":["0","0"],"salt" => Assigned(digests.0.keyslots)
         "keyslots":["0"],"salt" => "keyslots":["0","1"],"salt" => NoSuchName(digests.0.keyslots)
         "keyslots":["0"],"salt" => "keyslots":[],"salt" => Assigned(keyslots.0)
@@ -117,11 +121,21 @@ fn assignments(rt: HostRuntime) -> Result<(), Fail> {
         "segments":["0"] => "segments":["0","0"] => Assigned(digests.0.segments)
         "segments":["0"] => "segments":["1"] => NoSuchName(digests.0.segments)
         "tokens":{} => "tokens":{"0":{"keyslots":["7"],"type":"x"}} => NoSuchName(tokens.0.keyslots)
-        "type":"pbkdf2"} => "type":"pbkdf2"},"1":{"digest":"AAAAAAAAAAAAAAAAAAAAAAAAAAAAAAAAAAAAAAAAAAA=","hash":"sha256","iterations":1000,"keyslots":["0"],"salt":"AAAAAAAAAAAAAAAAAAAAAAAAAAAAAAAAAAAAAAAAAAA=","segments":["0"],"type":"pbkdf2"} => Assigned(keyslots.0)
-        "type":"pbkdf2"} => "type":"pbkdf2"},"1":{"digest":"AAAAAAAAAAAAAAAAAAAAAAAAAAAAAAAAAAAAAAAAAAA=","hash":"sha256","iterations":1000,"keyslots":[],"salt":"AAAAAAAAAAAAAAAAAAAAAAAAAAAAAAAAAAAAAAAAAAA=","segments":["0"],"type":"pbkdf2"} => Assigned(segments.0)
-        "type":"pbkdf2"} => "type":"pbkdf2"},"1":{"digest":"AAAAAAAAAAAAAAAAAAAAAAAAAAAAAAAAAAAAAAAAAAA=","hash":"sha256","iterations":1000,"keyslots":[],"salt":"AAAAAAAAAAAAAAAAAAAAAAAAAAAAAAAAAAAAAAAAAAA=","segments":[],"type":"pbkdf2"} => accepted
-        "type":"pbkdf2"} => "type":"pbkdf2"},"1":{"digest":"AAAAAAAAAAAAAAAAAAAAAAAAAAAAAAAAAAAAAAAAAAA=","hash":"sha256","iterations":1000,"keyslots":["0","0"],"salt":"AAAAAAAAAAAAAAAAAAAAAAAAAAAAAAAAAAAAAAAAAAA=","segments":[],"type":"pbkdf2"} => Assigned(digests.1.keyslots)
-        "keyslots":["0"] => "keyslots":["0","0"],"salt":"AAAAAAAAAAAAAAAAAAAAAAAAAAAAAAAAAAAAAAAAAAA=","segments":["0"],"type":"pbkdf2"},"1":{"digest":"AAAAAAAAAAAAAAAAAAAAAAAAAAAAAAAAAAAAAAAAAAA=","hash":"sha256","iterations":1000,"keyslots":["0"] => Assigned(digests.0.keyslots)"#;
+        "type":"pbkdf2"} => "#,
+        r#""type":"pbkdf2"},"1":{"digest":"AAAAAAAAAAAAAAAAAAAAAAAAAAAAAAAAAAAAAAAAAAA=","hash":"sha256","iterations":1000,"keyslots":["0"],"#,
+        r#""salt":"AAAAAAAAAAAAAAAAAAAAAAAAAAAAAAAAAAAAAAAAAAA=","segments":["0"],"type":"pbkdf2"} => Assigned(keyslots.0)
+        "type":"pbkdf2"} => "#,
+        r#""type":"pbkdf2"},"1":{"digest":"AAAAAAAAAAAAAAAAAAAAAAAAAAAAAAAAAAAAAAAAAAA=","hash":"sha256","iterations":1000,"keyslots":[],"#,
+        r#""salt":"AAAAAAAAAAAAAAAAAAAAAAAAAAAAAAAAAAAAAAAAAAA=","segments":["0"],"type":"pbkdf2"} => Assigned(segments.0)
+        "type":"pbkdf2"} => "#,
+        r#""type":"pbkdf2"},"1":{"digest":"AAAAAAAAAAAAAAAAAAAAAAAAAAAAAAAAAAAAAAAAAAA=","hash":"sha256","iterations":1000,"keyslots":[],"#,
+        r#""salt":"AAAAAAAAAAAAAAAAAAAAAAAAAAAAAAAAAAAAAAAAAAA=","segments":[],"type":"pbkdf2"} => accepted
+        "type":"pbkdf2"} => "#,
+        r#""type":"pbkdf2"},"1":{"digest":"AAAAAAAAAAAAAAAAAAAAAAAAAAAAAAAAAAAAAAAAAAA=","hash":"sha256","iterations":1000,"keyslots":["0","0"],"#,
+        r#""salt":"AAAAAAAAAAAAAAAAAAAAAAAAAAAAAAAAAAAAAAAAAAA=","segments":[],"type":"pbkdf2"} => Assigned(digests.1.keyslots)
+        "keyslots":["0"] => "keyslots":["0","0"],"salt":"AAAAAAAAAAAAAAAAAAAAAAAAAAAAAAAAAAAAAAAAAAA=","segments":["0"],"type":"pbkdf2"},"#,
+        r#""1":{"digest":"AAAAAAAAAAAAAAAAAAAAAAAAAAAAAAAAAAAAAAAAAAA=","hash":"sha256","iterations":1000,"keyslots":["0"] => Assigned(digests.0.keyslots)"#
+    );
     compare(&rt, rt.alloc(), PLAIN, table)
 }
 

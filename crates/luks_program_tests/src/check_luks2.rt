@@ -121,7 +121,11 @@ const REFUSALS: [(&[Edit], &str); 19] = [
     (
         &[(
             r#""type":"pbkdf2"}},"#,
-            r#""type":"pbkdf2"},"1":{"digest":"AAAAAAAAAAAAAAAAAAAAAAAAAAAAAAAAAAAAAAAAAAA=","hash":"sha256","iterations":1,"keyslots":["0"],"salt":"AAAAAAAAAAAAAAAAAAAAAAAAAAAAAAAAAAAAAAAAAAA=","segments":[],"type":"pbkdf2"}},"#,
+            concat!(
+                r#""type":"pbkdf2"},"1":{"digest":"AAAAAAAAAAAAAAAAAAAAAAAAAAAAAAAAAAAAAAAAAAA=","#,
+                r#""hash":"sha256","iterations":1,"keyslots":["0"],"#,
+                r#""salt":"AAAAAAAAAAAAAAAAAAAAAAAAAAAAAAAAAAAAAAAAAAA=","segments":[],"type":"pbkdf2"}},"#
+            ),
         )],
         "refused Assigned(keyslots.0)\n",
     ),

@@ -212,7 +212,9 @@ const LUKS2: [(&[Edit], usize, &[&str], &[u8], &str, &str); 6] = [
         OPEN,
         b"one",
         "no slot opens\n",
-        "luks: keyslot 0 was passed over: Argon2\nluks: keyslot 0 is derived by argon2id, which takes 1024 MiB of memory: --memory 1024 allows it\nluks: keyslot 1 was passed over: Cipher\nluks: keyslot 2 was passed over: Hash\n",
+        "luks: keyslot 0 was passed over: Argon2\nluks: keyslot 0 is derived by argon2id, which takes 1024 MiB \
+         of memory: --memory 1024 allows it\nluks: keyslot 1 was passed over: Cipher\nluks: keyslot 2 was passe\
+         d over: Hash\n",
     ),
     (
         &ODD,

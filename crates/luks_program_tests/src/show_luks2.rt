@@ -56,7 +56,11 @@ const EDITS: [Edit; 4] = [
     ),
     (
         r#""digests":{"#,
-        r#""digests":{"1":{"digest":"AAAAAAAAAAAAAAAAAAAAAAAAAAAAAAAAAAAAAAAAAAA=","hash":"sha1","iterations":1,"keyslots":[],"salt":"AAAAAAAAAAAAAAAAAAAAAAAAAAAAAAAAAAAAAAAAAAA=","segments":[],"type":"pbkdf2"},"#,
+        concat!(
+            r#""digests":{"1":{"digest":"AAAAAAAAAAAAAAAAAAAAAAAAAAAAAAAAAAAAAAAAAAA=","hash":"sha1","#,
+            r#""iterations":1,"keyslots":[],"salt":"AAAAAAAAAAAAAAAAAAAAAAAAAAAAAAAAAAAAAAAAAAA=","#,
+            r#""segments":[],"type":"pbkdf2"},"#
+        ),
     ),
 ];
 

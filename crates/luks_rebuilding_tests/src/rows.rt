@@ -231,7 +231,19 @@ pub(crate) const ROWS: [Row; 17] = [
         runs: &[(0, 0x00, 65536), (65536, 0x77, 512)],
         changes: &[(
             4096,
-            b"{\x22config\x22:{\x22json_size\x22:\x2228672\x22,\x22keyslots_size\x22:\x22512\x22},\x22digests\x22:{\x220\x22:{\x22digest\x22:\x22AAAAAAAAAAAAAAAAAAAAAAAAAAAAAAAAAAAAAAAAAAA=\x22,\x22hash\x22:\x22sha256\x22,\x22iterations\x22:1000,\x22keyslots\x22:[\x220\x22],\x22salt\x22:\x22IiIiIiIiIiIiIiIiIiIiIiIiIiIiIiIiIiIiIiIiIiI=\x22,\x22segments\x22:[\x220\x22],\x22type\x22:\x22pbkdf2\x22}},\x22keyslots\x22:{\x220\x22:{\x22af\x22:{\x22hash\x22:\x22sha256\x22,\x22stripes\x22:1,\x22type\x22:\x22luks1\x22},\x22area\x22:{\x22encryption\x22:\x22aes-xts-plain64\x22,\x22key_size\x22:64,\x22offset\x22:\x2265536\x22,\x22size\x22:\x22512\x22,\x22type\x22:\x22raw\x22},\x22kdf\x22:{\x22hash\x22:\x22sha256\x22,\x22iterations\x22:1000,\x22salt\x22:\x22ERERERERERERERERERERERERERERERERERERERERERE=\x22,\x22type\x22:\x22pbkdf2\x22},\x22key_size\x22:64,\x22type\x22:\x22luks2\x22}},\x22segments\x22:{\x220\x22:{\x22encryption\x22:\x22aes-xts-plain64\x22,\x22iv_tweak\x22:\x220\x22,\x22offset\x22:\x2266048\x22,\x22sector_size\x22:512,\x22size\x22:\x22dynamic\x22,\x22type\x22:\x22crypt\x22}},\x22tokens\x22:{}}",
+            b"{\x22config\x22:{\x22json_size\x22:\x2228672\x22,\x22keyslots_size\x22:\x22512\x22},\
+              \x22digests\x22:{\x220\x22:{\x22digest\x22:\x22AAAAAAAAAAAAAAAAAAAAAAAAAAAAAAAAAAAAAAAAAAA=\x22,\
+              \x22hash\x22:\x22sha256\x22,\x22iterations\x22:1000,\x22keyslots\x22:[\x220\x22],\
+              \x22salt\x22:\x22IiIiIiIiIiIiIiIiIiIiIiIiIiIiIiIiIiIiIiIiIiI=\x22,\x22segments\x22:[\x220\x22],\
+              \x22type\x22:\x22pbkdf2\x22}},\x22keyslots\x22:{\x220\x22:{\x22af\x22:{\x22hash\x22:\x22sha256\
+              \x22,\x22stripes\x22:1,\x22type\x22:\x22luks1\x22},\x22area\x22:{\x22encryption\x22:\x22aes-xts-p\
+              lain64\x22,\x22key_size\x22:64,\x22offset\x22:\x2265536\x22,\x22size\x22:\x22512\x22,\
+              \x22type\x22:\x22raw\x22},\x22kdf\x22:{\x22hash\x22:\x22sha256\x22,\x22iterations\x22:1000,\
+              \x22salt\x22:\x22ERERERERERERERERERERERERERERERERERERERERERE=\x22,\x22type\x22:\x22pbkdf2\x22},\
+              \x22key_size\x22:64,\x22type\x22:\x22luks2\x22}},\x22segments\x22:{\x220\x22:{\x22encryption\x22:\
+              \x22aes-xts-plain64\x22,\x22iv_tweak\x22:\x220\x22,\x22offset\x22:\x2266048\x22,\
+              \x22sector_size\x22:512,\x22size\x22:\x22dynamic\x22,\x22type\x22:\x22crypt\x22}},\
+              \x22tokens\x22:{}}",
         )],
         second: false,
         uuid: Some("ABCDEF00-0000-4000-8000-00000000000F"),

@@ -186,7 +186,13 @@ pub(super) const SCRIPTS: [Script; 15] = [
                 (r#"["0"],"salt""#, r#"["0","1"],"salt""#),
                 (
                     r#""type":"luks2"}}"#,
-                    r#""type":"luks2"},"1":{"af":{"hash":"sha256","stripes":4000,"type":"luks1"},"area":{"encryption":"aes-xts-plain64","key_size":64,"offset":"294912","size":"258048","type":"raw"},"kdf":{"hash":"sha256","iterations":1000,"salt":"8PHy8/T19vf4+foAAQIDBAUGBwgJCgsMDQ4PEBESExQ=","type":"pbkdf2"},"key_size":64,"type":"luks2"}}"#,
+                    concat!(
+                        r#""type":"luks2"},"1":{"af":{"hash":"sha256","stripes":4000,"type":"luks1"},"#,
+                        r#""area":{"encryption":"aes-xts-plain64","key_size":64,"offset":"294912","#,
+                        r#""size":"258048","type":"raw"},"kdf":{"hash":"sha256","iterations":1000,"#,
+                        r#""salt":"8PHy8/T19vf4+foAAQIDBAUGBwgJCgsMDQ4PEBESExQ=","type":"pbkdf2"},"#,
+                        r#""key_size":64,"type":"luks2"}}"#
+                    ),
                 ),
             ]),
             Turn::Edit(add!(0, b"one", b"two", None), Ok(256096), "done slot 2"),

@@ -145,4 +145,13 @@ pub const SECOND: [(usize, &str); 10] = [
 
 /// The text of the JSON area in both copies; zeros follow it.
 pub const JSON: &str =
-    "{\"keyslots\":{\"0\":{\"type\":\"luks2\",\"key_size\":32,\"af\":{\"type\":\"luks1\",\"stripes\":4000,\"hash\":\"sha256\"},\"area\":{\"type\":\"raw\",\"offset\":\"32768\",\"size\":\"131072\",\"encryption\":\"aes-xts-plain64\",\"key_size\":32},\"kdf\":{\"type\":\"pbkdf2\",\"hash\":\"sha256\",\"iterations\":1000,\"salt\":\"keR5ZrYlsthPpBCpJOsAPyhn8KuFNTBgNB3qkDUIYpA=\"}}},\"tokens\":{},\"segments\":{\"0\":{\"type\":\"crypt\",\"offset\":\"2097152\",\"size\":\"dynamic\",\"iv_tweak\":\"0\",\"encryption\":\"aes-xts-plain64\",\"sector_size\":4096}},\"digests\":{\"0\":{\"type\":\"pbkdf2\",\"keyslots\":[\"0\"],\"segments\":[\"0\"],\"hash\":\"sha256\",\"iterations\":1000,\"salt\":\"sUUu/eawTMxMtzWZOGArkYqjSg/YpceBJkGhlzofmTg=\",\"digest\":\"U7MbVCs9oRpJdsouzSGCAY8X+cv8bGRusRGQyH+/IMw=\"}},\"config\":{\"json_size\":\"12288\",\"keyslots_size\":\"1048576\"}}";
+    "{\"keyslots\":{\"0\":{\"type\":\"luks2\",\"key_size\":32,\"af\":{\"type\":\"luks1\",\"stripes\":4000,\
+     \"hash\":\"sha256\"},\"area\":{\"type\":\"raw\",\"offset\":\"32768\",\"size\":\"131072\",\
+     \"encryption\":\"aes-xts-plain64\",\"key_size\":32},\"kdf\":{\"type\":\"pbkdf2\",\"hash\":\"sha256\",\
+     \"iterations\":1000,\"salt\":\"keR5ZrYlsthPpBCpJOsAPyhn8KuFNTBgNB3qkDUIYpA=\"}}},\"tokens\":{},\
+     \"segments\":{\"0\":{\"type\":\"crypt\",\"offset\":\"2097152\",\"size\":\"dynamic\",\"iv_tweak\":\"0\",\
+     \"encryption\":\"aes-xts-plain64\",\"sector_size\":4096}},\"digests\":{\"0\":{\"type\":\"pbkdf2\",\
+     \"keyslots\":[\"0\"],\"segments\":[\"0\"],\"hash\":\"sha256\",\"iterations\":1000,\
+     \"salt\":\"sUUu/eawTMxMtzWZOGArkYqjSg/YpceBJkGhlzofmTg=\",\
+     \"digest\":\"U7MbVCs9oRpJdsouzSGCAY8X+cv8bGRusRGQyH+/IMw=\"}},\"config\":{\"json_size\":\"12288\",\
+     \"keyslots_size\":\"1048576\"}}";
