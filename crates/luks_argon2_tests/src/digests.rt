@@ -1,12 +1,7 @@
 //! BLAKE2b beside the standard's vector and Python's hashlib.
 
 use luks_argon2::Blake2b;
-
-/// Whether the bytes are those of the text.
-fn is_hex(bytes: &[u8; 64], text: &str) -> bool {
-    let mut want = [0u8; 64];
-    hex::decode_to_slice(text.as_bytes(), &mut want).is_ok() && *bytes == want
-}
+use luks_samples::is_hex;
 
 /// The digest of 64 bytes of two pieces.
 fn digest_of(first: &[u8], second: &[u8]) -> [u8; 64] {

@@ -1,8 +1,9 @@
 //! What `convert` prints, by what it is given.
-use crate::sessions::{Files, Owed, bytes_of, files_of, says};
-use crate::sources::{KEPT, LARGE, LEAST, front, large_areas, old_bytes, target, two_keyslots};
-use luks_cli::{InputFault, Reason};
+use crate::missing::{MISSING, take_away};
+use crate::sessions::{Owed, bytes_of, files_of, says};
+use crate::sources::{LEAST, two_keyslots};
 use luks_samples::{LUKS2, changed_luks1, luks1, zeros_luks2};
+use luks_test_devices::{KEPT, LARGE, front_of, large_areas, old_bytes, target};
 use std::alloc::Global;
 use std::test::Fail;
 
@@ -118,9 +119,9 @@ fn holds(alloc: Global, row: &(Source, usize, usize, &str, Owed)) -> Result<bool
     let random = vec![in alloc; 7u8; drawn]?;
     let mut files = files_of(image.to_vec(alloc)?);
     if matches!(source, Source::Large(_)) {
-        files.volume = Ok(front(image.to_vec(alloc)?, LARGE));
+        files.volume = Ok(front_of(image.to_vec(alloc)?, LARGE as u64));
     }
-    files.target = Ok(target(alloc, len)?);
+    files.target = Ok(target(alloc, len as u64)?);
     files.random = Ok(random.as_slice());
     let said = says(alloc, words, owed, &mut files)?;
     let old = old_bytes(alloc, KEPT)?;
@@ -141,7 +142,7 @@ fn rows(rt: HostRuntime) -> Result<(), Fail> {
 fn has_areas(alloc: Global, source: Source, owed: Owed) -> Result<bool, Fail> {
     let random = vec![in alloc; 7u8; 128]?;
     let mut files = files_of(image_of(alloc, source)?);
-    files.target = Ok(target(alloc, LEAST)?);
+    files.target = Ok(target(alloc, LEAST as u64)?);
     files.random = Ok(random.as_slice());
     let done = says(alloc, CONVERT, DONE, &mut files)?;
     let mut made = files_of(bytes_of(&files.target).to_vec(alloc)?);
@@ -162,58 +163,12 @@ fn areas(rt: HostRuntime) -> Result<(), Fail> {
     Ok(())
 }
 
-/// Which file isn't there, and why.
-#[derive(Debug, Clone, Copy)]
-enum Missing {
-    Volume(Reason),
-    Target(Reason),
-    Random(Reason),
-}
-
-/// A file that can't be read, and what is owed then.
-const MISSING: [(Missing, Owed); 5] = [
-    (
-        Missing::Volume(Reason::NotFound),
-        ("device fault\n", "luks: v: no such file\n", 4),
-    ),
-    (
-        Missing::Target(Reason::NotFound),
-        ("device fault\n", "luks: t: no such file\n", 4),
-    ),
-    (
-        Missing::Target(Reason::Edited),
-        (
-            "device fault\n",
-            "luks: t: another program is editing it\n",
-            4,
-        ),
-    ),
-    (
-        Missing::Random(Reason::Denied),
-        ("device fault\n", "luks: r: permission denied\n", 4),
-    ),
-    (
-        Missing::Target(Reason::SameFile),
-        ("refused SameFile\n", "", 1),
-    ),
-];
-
-/// The files of a conversion, of which one is missing.
-fn without<'a>(alloc: Global, missing: Missing) -> Result<Files<'a>, Fail> {
-    let mut files = files_of(two_keyslots(alloc)?);
-    files.target = Ok(target(alloc, LEAST)?);
-    match missing {
-        Missing::Volume(reason) => files.volume = Err(InputFault::Unreadable(reason)),
-        Missing::Target(reason) => files.target = Err(InputFault::Unreadable(reason)),
-        Missing::Random(reason) => files.random = Err(InputFault::Unreadable(reason)),
-    }
-    Ok(files)
-}
-
 #[test]
 fn missing_files(rt: HostRuntime) -> Result<(), Fail> {
     for (i, (missing, owed)) in MISSING.into_iter().enumerate() {
-        let mut files = without(rt.alloc(), missing)?;
+        let mut files = files_of(two_keyslots(rt.alloc())?);
+        files.target = Ok(target(rt.alloc(), LEAST as u64)?);
+        take_away(&mut files, missing);
         assert!(rt; says(rt.alloc(), CONVERT, owed, &mut files)?, "row {i}");
     }
     Ok(())

@@ -1,10 +1,10 @@
 //! Converting and rebuilding on devices of which one call fails: the lines and the status.
 use crate::making::Making;
-use crate::sources::{LEAST, front, target};
+use crate::sources::LEAST;
 use luks_area::{Device, FaultyDevice, Leave};
 use luks_cli::{InputFault, Inputs};
 use luks_sessions::{Told, run_words};
-use luks_test_devices::{Front, counted};
+use luks_test_devices::{Front, counted, front_of, target};
 use std::alloc::Global;
 use std::process::Abort;
 use std::test::Fail;
@@ -44,8 +44,8 @@ fn end_of(alloc: Global, making: Making, words: &[&str], failing: Failing) -> Re
     };
     let image = making.volume(alloc)?;
     let len = image.len();
-    let volume = front(image, len);
-    let header = target(alloc, LEAST)?;
+    let volume = front_of(image, len as u64);
+    let header = target(alloc, LEAST as u64)?;
     let mut inputs = Inputs {
         volume: Ok(FaultyDevice::new(volume, of_volume, Leave::Ones)),
         target: Ok(FaultyDevice::new(header, of_target, Leave::Ones)),

@@ -1,8 +1,8 @@
 //! A volume that the program makes, adds a keyslot to and converts, and an edit of what it made.
 use crate::made_header::{EDITED, SHOWN, SOURCE, TARGET};
 use crate::sessions::{Files, bytes_of, files_of, says};
-use crate::sources::{LEAST, front, old_bytes};
-use luks_test_devices::{counted, is_sum};
+use crate::sources::LEAST;
+use luks_test_devices::{counted, front_of, is_sum, old_bytes};
 use std::alloc::Global;
 use std::test::Fail;
 
@@ -102,7 +102,7 @@ fn first_target(rt: HostRuntime) -> Result<(), Fail> {
     let random = counted(alloc, 0, RANDOM)?;
     let mut files = files_of(vec![in alloc; 0u8; LENGTH]?);
     assert!(rt; take(alloc, &mut files, &random, &MAKING)?, "made");
-    files.target = Ok(front(old_bytes(alloc, FRONT)?, LEAST));
+    files.target = Ok(front_of(old_bytes(alloc, FRONT)?, LEAST as u64));
     files.random = Ok(random.as_slice());
     let owed = (
         "done\n",
@@ -113,7 +113,7 @@ fn first_target(rt: HostRuntime) -> Result<(), Fail> {
     assert!(rt; done, "converted");
     assert!(rt; is_sum(bytes_of(&files.volume), SOURCE), "the volume");
     let mut made = files_of(Vec::new(alloc));
-    made.volume = Ok(front(bytes_of(&files.target).to_vec(alloc)?, LEAST));
+    made.volume = Ok(front_of(bytes_of(&files.target).to_vec(alloc)?, LEAST as u64));
     assert!(rt; is_sum(bytes_of(&made.volume), TARGET), "the new header");
     assert!(rt; take(alloc, &mut made, &random, &OPENING)?, "opened");
     assert!(rt; take(alloc, &mut made, &random, &ADDING)?, "edited");

@@ -13,6 +13,8 @@ mod made_header;
 #[cfg(test)]
 mod making;
 #[cfg(test)]
+mod missing;
+#[cfg(test)]
 mod rebuilding;
 #[cfg(test)]
 mod refused_memory;

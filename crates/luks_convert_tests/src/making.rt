@@ -1,5 +1,6 @@
 //! The commands that make a header on a target, and what each makes one of.
-use crate::sources::{damaged, two_keyslots};
+use crate::sources::two_keyslots;
+use luks_test_devices::damaged;
 use std::alloc::{AllocError, Global};
 
 /// Which command makes the header.

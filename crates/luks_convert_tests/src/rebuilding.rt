@@ -1,8 +1,7 @@
 //! What `rebuild` prints, by what it is given.
-use crate::sessions::{Files, Owed, bytes_of, files_of, says};
-use crate::sources::{damaged, front, old_bytes};
-use luks_cli::{InputFault, Reason};
-use luks_test_devices::{put, two_hashes};
+use crate::missing::{MISSING, take_away};
+use crate::sessions::{Owed, bytes_of, files_of, says};
+use luks_test_devices::{damaged, front_of, old_bytes, put, two_hashes};
 use std::alloc::Global;
 use std::test::Fail;
 
@@ -137,7 +136,7 @@ fn holds(alloc: Global, row: &Row) -> Result<bool, Fail> {
     let random = vec![in alloc; 7u8; drawn]?;
     let old = old_bytes(alloc, len)?;
     let mut files = files_of(image.to_vec(alloc)?);
-    files.target = Ok(front(old.to_vec(alloc)?, len));
+    files.target = Ok(front_of(old.to_vec(alloc)?, len as u64));
     files.random = Ok(random.as_slice());
     let said = says(alloc, words, owed, &mut files)?;
     let kept = bytes_of(&files.target) == old.as_slice();
@@ -182,7 +181,7 @@ fn header_that_is_made(rt: HostRuntime) -> Result<(), Fail> {
     let alloc = rt.alloc();
     let random = vec![in alloc; 7u8; 144]?;
     let mut files = files_of(damaged(alloc)?);
-    files.target = Ok(front(old_bytes(alloc, END)?, END));
+    files.target = Ok(front_of(old_bytes(alloc, END)?, END as u64));
     files.random = Ok(random.as_slice());
     assert!(rt; says(alloc, REBUILD, DONE, &mut files)?, "made");
     for (words, passphrase, owed) in SAID {
@@ -193,58 +192,12 @@ fn header_that_is_made(rt: HostRuntime) -> Result<(), Fail> {
     Ok(())
 }
 
-/// Which file isn't there, and why.
-#[derive(Debug, Clone, Copy)]
-enum Missing {
-    Volume(Reason),
-    Target(Reason),
-    Random(Reason),
-}
-
-/// A file that can't be read, and what is owed then.
-const MISSING: [(Missing, Owed); 5] = [
-    (
-        Missing::Volume(Reason::NotFound),
-        ("device fault\n", "luks: v: no such file\n", 4),
-    ),
-    (
-        Missing::Target(Reason::NotFound),
-        ("device fault\n", "luks: t: no such file\n", 4),
-    ),
-    (
-        Missing::Target(Reason::Edited),
-        (
-            "device fault\n",
-            "luks: t: another program is editing it\n",
-            4,
-        ),
-    ),
-    (
-        Missing::Random(Reason::Denied),
-        ("device fault\n", "luks: r: permission denied\n", 4),
-    ),
-    (
-        Missing::Target(Reason::SameFile),
-        ("refused SameFile\n", "", 1),
-    ),
-];
-
-/// The files of a rebuilding, of which one is missing.
-fn without<'a>(alloc: Global, missing: Missing) -> Result<Files<'a>, Fail> {
-    let mut files = files_of(damaged(alloc)?);
-    files.target = Ok(front(old_bytes(alloc, END)?, END));
-    match missing {
-        Missing::Volume(reason) => files.volume = Err(InputFault::Unreadable(reason)),
-        Missing::Target(reason) => files.target = Err(InputFault::Unreadable(reason)),
-        Missing::Random(reason) => files.random = Err(InputFault::Unreadable(reason)),
-    }
-    Ok(files)
-}
-
 #[test]
 fn missing_files(rt: HostRuntime) -> Result<(), Fail> {
     for (i, (missing, owed)) in MISSING.into_iter().enumerate() {
-        let mut files = without(rt.alloc(), missing)?;
+        let mut files = files_of(damaged(rt.alloc())?);
+        files.target = Ok(front_of(old_bytes(rt.alloc(), END)?, END as u64));
+        take_away(&mut files, missing);
         assert!(rt; says(rt.alloc(), REBUILD, owed, &mut files)?, "row {i}");
     }
     Ok(())

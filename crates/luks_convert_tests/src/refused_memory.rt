@@ -1,11 +1,11 @@
 //! Converting and rebuilding with little memory.
 use crate::making::Making;
 use crate::sessions::{Files, bytes_of, files_of};
-use crate::sources::{KEPT, LEAST, old_bytes, target};
+use crate::sources::LEAST;
 use luks_cli::{CountingPrinter, Line, execute};
 use luks_line::line;
 use luks_sessions::NO_FILE;
-use luks_test_devices::{BLOCKS, TakenMemory, counted, part};
+use luks_test_devices::{BLOCKS, KEPT, TakenMemory, counted, old_bytes, part, target};
 use std::alloc::Global;
 use std::io::Cursor;
 use std::test::Fail;
@@ -43,7 +43,7 @@ fn ends_with_little_memory(alloc: Global, making: Making) -> Result<(End, usize,
     let random = counted(alloc, 0, making.random())?;
     let old = old_bytes(alloc, KEPT)?;
     let mut files = files_of(making.volume(alloc)?);
-    files.target = Ok(target(alloc, LEAST)?);
+    files.target = Ok(target(alloc, LEAST as u64)?);
     let mut taken = TakenMemory::take(alloc)?;
     let mut end = End::Memory;
     let mut given = 0;

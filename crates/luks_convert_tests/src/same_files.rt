@@ -6,21 +6,12 @@ use luks_area::FileDevice;
 use luks_cache::CachedDevice;
 use luks_cli::{InputFault, Inputs, Reason};
 use luks_lock::{LockedDevice, OpenFault, is_same_file, open_locked};
+use luks_samples::new_folder;
 use luks_sessions::Told;
 use std::fs::{self, File};
 use std::os::unix::fs::symlink;
 use std::rt::{Clock, Files};
 use std::test::Fail;
-
-/// The name of a new folder under /tmp.
-fn new_folder<R: AllocGlobal + Clock + Files>(rt: &R) -> Result<String, Fail> {
-    let since = rt.since_1970()?;
-    let seconds = since.as_secs();
-    let nanoseconds = since.subsec_nanos();
-    let name = format!(in rt.alloc(); "/tmp/luks-same-{seconds}-{nanoseconds}")?;
-    fs::create_dir(rt, name.as_str())?;
-    Ok(name)
-}
 
 /// A device over a file.
 type Opened = Result<CachedDevice<LockedDevice<FileDevice<File>>>, InputFault>;
@@ -112,7 +103,7 @@ fn make_files<R: AllocGlobal + Files<File = File>>(rt: &R, top: &str) -> Result<
 
 #[test]
 fn names_of_one_file(rt: HostRuntime) -> Result<(), Fail> {
-    let top = new_folder(&rt)?;
+    let top = new_folder(&rt, "same")?;
     let alloc = rt.alloc();
     make_files(&rt, top.as_str())?;
     for (one, other, (owed, status)) in PAIRS {

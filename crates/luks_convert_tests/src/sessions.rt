@@ -1,8 +1,7 @@
 //! Commands over a volume and a target.
-use crate::sources::front;
 use luks_cli::{InputFault, Inputs};
 use luks_sessions::{NO_FILE, run};
-use luks_test_devices::Front;
+use luks_test_devices::{Front, front_of};
 use std::alloc::Global;
 use std::test::Fail;
 
@@ -13,7 +12,7 @@ pub type Files<'a> = Inputs<Front, &'a [u8], &'a [u8]>;
 pub fn files_of<'a>(image: Vec<u8>) -> Files<'a> {
     let len = image.len();
     Inputs {
-        volume: Ok(front(image, len)),
+        volume: Ok(front_of(image, len as u64)),
         target: Err(InputFault::Absent),
         passphrase: NO_FILE,
         new_passphrase: NO_FILE,

@@ -1,24 +1,17 @@
 //! What is made of small volumes, byte for byte.
-use crate::sources::{LEAST, RANDOM, target};
+use crate::sources::{LEAST, RANDOM};
 use crate::volumes::{ROWS, Row};
 use luks_area::MemDevice;
 use luks_converting::convert;
 use luks_reading::{Data, check};
-use luks_test_devices::{counted, is_sum, put, small1};
+use luks_test_devices::{counted, is_sum, put_all, small1, target};
 use std::alloc::Global;
 use std::test::Fail;
 
 /// The source of a row.
 fn source_of(alloc: Global, row: &Row) -> Result<Vec<u8>, Fail> {
     let mut source = small1(alloc, row.hash)?;
-    for (at, byte, count) in row.runs {
-        for i in 0..*count {
-            put(&mut source, at.wrapping_add(i), &[*byte]);
-        }
-    }
-    for (at, bytes) in row.changes {
-        put(&mut source, *at, *bytes);
-    }
+    put_all(&mut source, row.runs, row.changes);
     Ok(source)
 }
 

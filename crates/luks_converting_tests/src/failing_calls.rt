@@ -1,9 +1,11 @@
 //! Converting on devices of which each call fails in turn.
-use crate::sources::{FRONT, LEAST, RANDOM, old_bytes, target, two_keyslots};
+use crate::sources::{LEAST, RANDOM, two_keyslots};
 use luks_area::{Device, FaultyDevice, Leave, MemDevice};
 use luks_converting::{ConvertFault, convert};
 use luks_reading::Data;
-use luks_test_devices::{Call, Front, Recording, counted, leave_behind, part, put};
+use luks_test_devices::{
+    Call, Front, KEPT, Recording, counted, leave_behind, old_bytes, part, put, target,
+};
 use std::alloc::Global;
 use std::process::Abort;
 use std::test::Fail;
@@ -69,18 +71,9 @@ const END: usize = 40960;
 impl Ended {
     /// Whether the source has all its bytes, and the target those behind the copies and the new areas.
     fn keeps(&self, image: &[u8]) -> bool {
-        let behind = part(self.target.front.contents(), END, FRONT);
-        let old = behind.len() == FRONT.wrapping_sub(END)
-            && behind.iter().all(|byte| *byte == 0x55);
+        let behind = part(self.target.front.contents(), END, KEPT);
+        let old = behind.len() == KEPT.wrapping_sub(END) && behind.iter().all(|byte| *byte == 0x55);
         self.source.contents() == image && old && self.target.beyond == 0
-    }
-}
-
-/// The place and the length of what a call writes.
-fn range_of(call: Call) -> (usize, usize) {
-    match call {
-        Call::Write { at, len } => (at, len),
-        _ => (0, 0),
     }
 }
 
@@ -96,9 +89,9 @@ fn fails_at_each_call_of_the_target(
     assert!(rt; done.end == End::Done && done.keeps(image), "no call fails");
     assert!(rt; done.calls.len() > 8, "the calls");
     let after = done.target.front.contents();
-    let mut want = old_bytes(alloc, FRONT)?;
+    let mut want = old_bytes(alloc, KEPT)?;
     for (i, call) in done.calls.iter().enumerate() {
-        let (at, len) = range_of(*call);
+        let (at, len) = call.range();
         let new = part(after, at, at.wrapping_add(len));
         leave_behind(&mut want, at, new, leave);
         let ended = end_of(alloc, image, Failing::Target(i as u64), leave)?;

@@ -1,10 +1,10 @@
 //! What opens by the header that is made, and an edit of it.
-use crate::sources::{LEAST, RANDOM, old_bytes, two_keyslots};
+use crate::sources::{LEAST, RANDOM, two_keyslots};
 use luks_area::MemDevice;
 use luks_converting::convert;
 use luks_edit::Edit;
 use luks_reading::{Data, OpenFault, check, open_slot};
-use luks_test_devices::{VOLUME_KEY, add, counted, part};
+use luks_test_devices::{VOLUME_KEY, add, counted, old_bytes, part};
 use luks_volume::apply;
 use std::alloc::Global;
 use std::test::Fail;

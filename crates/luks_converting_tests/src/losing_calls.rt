@@ -1,11 +1,11 @@
 //! Converting to a device that loses, with each call in turn, what was written and not flushed.
 use crate::lengthened::Lengthened;
-use crate::sources::{FRONT, LEAST, RANDOM, old_bytes};
+use crate::sources::{LEAST, RANDOM};
 use luks_area::{Device, MemDevice};
 use luks_converting::{ConvertFault, convert};
 use luks_kdf::HashName;
 use luks_reading::{Data, check, open_slot};
-use luks_test_devices::{LosingDevice, Loss, counted, small1};
+use luks_test_devices::{KEPT, LosingDevice, Loss, counted, old_bytes, small1};
 use std::alloc::Global;
 use std::process::Abort;
 use std::test::Fail;
@@ -81,7 +81,7 @@ fn end_of(
 fn each_call(rt: HostRuntime) -> Result<(), Fail> {
     let alloc = rt.alloc();
     let image = small1(alloc, HashName::Sha256)?;
-    let old = old_bytes(alloc, FRONT)?;
+    let old = old_bytes(alloc, KEPT)?;
     for loss in LOSSES {
         let mut end = End::Told;
         let mut told = 0u64;

@@ -1,9 +1,9 @@
 //! Which calls converting makes, and in which order.
-use crate::sources::{LEAST, RANDOM, target, two_keyslots};
+use crate::sources::{LEAST, RANDOM, two_keyslots};
 use luks_area::MemDevice;
 use luks_converting::convert;
 use luks_reading::Data;
-use luks_test_devices::{Call, Recording, counted};
+use luks_test_devices::{Call, Recording, counted, target};
 use std::test::Fail;
 
 /// Where the four parts begin and end, in the order in which they are written: the areas of keyslot 0 and

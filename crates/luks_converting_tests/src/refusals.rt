@@ -1,11 +1,13 @@
 //! Which fault is told, and the large areas.
 use crate::lengthened::Lengthened;
-use crate::sources::{FRONT, LARGE, LEAST, RANDOM, large_areas, old_bytes, target, two_keyslots};
+use crate::sources::{LEAST, RANDOM, two_keyslots};
 use luks_area::MemDevice;
 use luks_converting::convert;
 use luks_kdf::HashName;
 use luks_reading::{Data, check};
-use luks_test_devices::{counted, put, small1, small2};
+use luks_test_devices::{
+    KEPT, LARGE, counted, large_areas, old_bytes, put, small1, small2, target,
+};
 use std::alloc::Global;
 use std::test::Fail;
 
@@ -86,7 +88,7 @@ fn holds(alloc: Global, row: &(Source, bool, u64, usize, &str)) -> Result<bool, 
     let (source, elsewhere, len, drawn, owed) = *row;
     let image = source_of(alloc, source)?;
     let len_of_source = match source {
-        Source::Large(_) => LARGE,
+        Source::Large(_) => LARGE as u64,
         _ => image.len() as u64,
     };
     let mut source = Lengthened {
@@ -105,7 +107,7 @@ fn holds(alloc: Global, row: &(Source, bool, u64, usize, &str)) -> Result<bool, 
         Ok(()) => owed.is_empty() && check(alloc, &mut made, Data::Elsewhere).is_ok(),
         Err(fault) => {
             let text = format!(in alloc; "{fault}")?;
-            let old = old_bytes(alloc, FRONT)?;
+            let old = old_bytes(alloc, KEPT)?;
             let kept = made.front.contents() == old.as_slice() && made.beyond == 0;
             text.as_str() == owed && kept
         }

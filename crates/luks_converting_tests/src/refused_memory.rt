@@ -1,9 +1,9 @@
 //! Converting with refused memory.
-use crate::sources::{FRONT, LEAST, RANDOM, old_bytes, target, two_keyslots};
+use crate::sources::{LEAST, RANDOM, two_keyslots};
 use luks_area::MemDevice;
 use luks_converting::{ConvertFault, convert};
 use luks_reading::Data;
-use luks_test_devices::{BLOCKS, TakenMemory, counted};
+use luks_test_devices::{BLOCKS, KEPT, TakenMemory, counted, old_bytes, target};
 use std::alloc::Global;
 use std::test::Fail;
 
@@ -20,7 +20,7 @@ enum End {
 /// back in blocks of 256 bytes, it is refused memory at one place after another.
 fn ends_with_little_memory(alloc: Global) -> Result<(End, usize), Fail> {
     let image = two_keyslots(alloc)?;
-    let old = old_bytes(alloc, FRONT)?;
+    let old = old_bytes(alloc, KEPT)?;
     let random = counted(alloc, 0, RANDOM)?;
     let mut source = MemDevice::new(image.to_vec(alloc)?);
     let mut made = target(alloc, LEAST)?;

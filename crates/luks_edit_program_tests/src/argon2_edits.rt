@@ -1,14 +1,14 @@
 //! Edits that open keyslots of Argon2, by the memory that is allowed.
 use crate::argon2_sums::{BEFORE, LEFT};
-use crate::sessions::{Files, RANDOM, bytes_of, counted, files_of};
+use crate::sessions::{Files, RANDOM, bytes_of, files_of};
 use crate::words::{
     ADD, ADD_999_WITHIN_2, ADD_BY_1_WITHIN_1, ADD_WITHIN_1, ADD_WITHIN_2, CHANGE_1,
     CHANGE_1_WITHIN_1, CHANGE_WITHIN_2, REMOVE_1, REMOVE_1_WITHIN_1, REMOVE_2, REMOVE_2_WITHIN_1,
     REMOVE_3_WITHIN_1, REMOVE_3_WITHIN_2, REMOVE_WITHIN_2,
 };
 use luks_samples::{
-    ARGON2I_1, ARGON2ID_0, STRIPE_BY_ARGON2I, STRIPE_BY_ARGON2ID, is_sum, put, roomy_luks2,
-    roomy_text,
+    ARGON2I_1, ARGON2ID_0, STRIPE_BY_ARGON2I, STRIPE_BY_ARGON2ID, counted_modulo_256, is_sum,
+    put_front, roomy_luks2, roomy_text,
 };
 use luks_sessions::{NO_FILE, run};
 use std::alloc::{AllocError, Global};
@@ -59,8 +59,8 @@ static ROWS: [Row; LEFT.len()] = [
 pub fn volume(alloc: Global) -> Result<Vec<u8>, AllocError> {
     let text = roomy_text(alloc, &[ARGON2ID_0, ARGON2I_1])?;
     let mut image = roomy_luks2(alloc, text.as_str(), 1)?;
-    put(&mut image, 32768, &STRIPE_BY_ARGON2ID);
-    put(&mut image, 36864, &STRIPE_BY_ARGON2I);
+    put_front(&mut image, 32768, &STRIPE_BY_ARGON2ID);
+    put_front(&mut image, 36864, &STRIPE_BY_ARGON2I);
     Ok(image)
 }
 
@@ -84,7 +84,7 @@ fn holds<'a>(
 #[test]
 fn within_the_memory_that_is_allowed(rt: HostRuntime) -> Result<(), Fail> {
     let alloc = rt.alloc();
-    let random = counted(alloc, RANDOM)?;
+    let random = counted_modulo_256(alloc, 0, RANDOM)?;
     let mut files = files_of(volume(alloc)?);
     assert!(rt; is_sum(bytes_of(&files), BEFORE), "the volume");
     for (i, (row, left)) in ROWS.iter().zip(LEFT.iter()).enumerate() {

@@ -1,13 +1,11 @@
 //! Edits of LUKS1 volumes by the program's commands.
-use crate::sessions::{
-    Files, RANDOM, Turn, answers, are_zeros, bytes_of, counted, files_of, take_turns, taken,
-};
+use crate::sessions::{Files, RANDOM, Turn, answers, are_zeros, bytes_of, files_of, taken};
 use crate::words::{
     ADD, ADD_BY_1, ADD_BY_1_999, ADD_BY_1_TO_1, ADD_BY_1_TO_8, ADD_BY_3_USUAL, CHANGE, CHANGE_1,
     CHECK, FORMAT1, LABEL, OPEN, OPEN_0, OPEN_1, REMOVE, REMOVE_1, REPAIR,
 };
 use luks_cli::{InputFault, Reason};
-use luks_samples::{LUKS1, luks1, opening_luks1};
+use luks_samples::{LUKS1, counted_modulo_256, luks1, opening_luks1};
 use luks_sessions::NO_FILE;
 use std::alloc::Global;
 use std::test::Fail;
@@ -109,7 +107,7 @@ static NEW: [Turn; 1] = [FORMATTED];
 // As many random bytes are read as the edit takes, and no more; with one fewer it is refused.
 #[test]
 fn random_bytes(rt: HostRuntime) -> Result<(), Fail> {
-    let random = counted(rt.alloc(), RANDOM)?;
+    let random = counted_modulo_256(rt.alloc(), 0, RANDOM)?;
     let image = vec![in rt.alloc(); 0u8; LUKS1]?;
     let mut files = files_of(taken(&rt, rt.alloc(), image, &NEW)?);
     for (i, row) in DRAWS.iter().enumerate() {

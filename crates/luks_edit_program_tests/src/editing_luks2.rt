@@ -1,13 +1,12 @@
 //! Edits of LUKS2 volumes by the program's commands.
-use crate::sessions::{
-    RANDOM, Turn, answers, are_zeros, bytes_of, counted, files_of, take_turns, taken, text_of,
-};
+use crate::sessions::{Turn, answers, are_zeros, files_of, taken};
 use crate::words::{
     ADD, ADD_BY_1_DETACHED, ADD_TO_1, CHANGE, CHECK, DETACHED, FORMAT, LABEL, LABEL_47, LABEL_48,
     OPEN_0, OPEN_1, OPEN_2, REMOVE, REMOVE_1, REMOVE_1_DETACHED, REPAIR, SHOW,
 };
 use luks_samples::{
-    Edit, LUKS2, ZEROS, copy_of, edited, luks2, opening_luks2, put, put_copy, zeros_luks2,
+    Edit, LUKS2, ZEROS, copy_of, edited, luks2, opening_luks2, put_copy, put_front, text_of,
+    zeros_luks2,
 };
 use std::alloc::{AllocError, Global};
 use std::process::Abort;
@@ -182,7 +181,7 @@ static SECOND_ONLY: [Turn; 3] = [
 #[test]
 fn damaged_copy(rt: HostRuntime) -> Result<(), Fail> {
     let mut image = zeros_luks2(rt.alloc(), &[], LUKS2)?;
-    put(&mut image, 4100, &[0]);
+    put_front(&mut image, 4100, &[0]);
     let _left = taken(&rt, rt.alloc(), image, &SECOND_ONLY)?;
     Ok(())
 }
@@ -280,7 +279,7 @@ static LIST: [Turn; 8] = [
 #[test]
 fn list_of_edits(rt: HostRuntime) -> Result<(), Fail> {
     let mut image = new_image(rt.alloc())?;
-    put(&mut image, 16777216, &[0xA5; 512]);
+    put_front(&mut image, 16777216, &[0xA5; 512]);
     let left = taken(&rt, rt.alloc(), image, &LIST)?;
     assert!(rt;
         left.get(16777216..) == Some([0xA5; 512].as_slice()),

@@ -1,10 +1,10 @@
 //! Edits on a device of which one call fails: the lines, the status, and what is left.
 use crate::editing_luks2::formatted;
-use crate::sessions::{Turn, answers, counted, files_of, taken};
+use crate::sessions::{Turn, answers, files_of, taken};
 use crate::words::{ADD, CHANGE, CHECK, FORMAT1, LABEL, OPEN_0, OPEN_1, REMOVE, REPAIR, SHOW};
 use luks_area::{FaultyDevice, Leave};
 use luks_cli::{InputFault, Inputs};
-use luks_samples::{STRIPE, opening_luks1, put, roomy_luks2, roomy_text};
+use luks_samples::{STRIPE, counted_modulo_256, opening_luks1, put_front, roomy_luks2, roomy_text};
 use luks_sessions::{Told, run};
 use luks_test_devices::{Call, Recording};
 use luks_volume::{Device, FORMAT1_RANDOM, MemDevice};
@@ -251,7 +251,7 @@ fn is_answered(
 fn failing_labels(rt: HostRuntime) -> Result<(), Fail> {
     let alloc = rt.alloc();
     let image = formatted(&rt, alloc, &[])?;
-    let random = counted(alloc, 128)?;
+    let random = counted_modulo_256(alloc, 0, 128)?;
     let done = end_of(alloc, LABEL, &image, &random, u64::MAX, Leave::Old)?;
     assert!(rt; done.is_done("done\n"), "no call fails");
     for (i, row) in LABELS.iter().enumerate() {
@@ -306,7 +306,7 @@ fn fails_at_each_call(
     leave: Leave,
 ) -> Result<(u64, u64), Fail> {
     let (words, want) = *asked;
-    let random = counted(alloc, 160)?;
+    let random = counted_modulo_256(alloc, 0, 160)?;
     let mut midst = 0u64;
     for call in 0..256 {
         let ended = end_of(alloc, words, image, &random, call, leave)?;
@@ -346,11 +346,11 @@ fn luks2_volumes(rt: HostRuntime) -> Result<(), Fail> {
 /// one stripe too.
 fn two_keyslots(alloc: Global) -> Result<Vec<u8>, Fail> {
     let mut image = opening_luks1(alloc)?;
-    put(&mut image, 256, &[0, 0xAC, 0x71, 0xF3, 0, 0, 3, 0xE8]);
-    put(&mut image, 264, &[0x11; 32]);
-    put(&mut image, 300, &[0, 0, 0, 1]);
-    put(&mut image, 348, &[0, 0, 0, 1]);
-    put(&mut image, 262144, &STRIPE);
+    put_front(&mut image, 256, &[0, 0xAC, 0x71, 0xF3, 0, 0, 3, 0xE8]);
+    put_front(&mut image, 264, &[0x11; 32]);
+    put_front(&mut image, 300, &[0, 0, 0, 1]);
+    put_front(&mut image, 348, &[0, 0, 0, 1]);
+    put_front(&mut image, 262144, &STRIPE);
     Ok(image)
 }
 
@@ -395,7 +395,7 @@ fn still_opens(alloc: Global, left: MemDevice) -> Result<bool, Fail> {
 #[test]
 fn changed_keyslot(rt: HostRuntime) -> Result<(), Fail> {
     let alloc = rt.alloc();
-    let random = counted(alloc, 160)?;
+    let random = counted_modulo_256(alloc, 0, 160)?;
     let text = roomy_text(alloc, &[])?;
     let image = roomy_luks2(alloc, text.as_str(), 1)?;
     for call in 0..256 {

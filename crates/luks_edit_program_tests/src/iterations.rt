@@ -1,7 +1,7 @@
 //! What standard error says of a keyslot that is made with fewer iterations than the one that opened.
-use crate::sessions::{Files, RANDOM, counted, files_of};
+use crate::sessions::{Files, RANDOM, files_of};
 use crate::words::{ADD, ADD_1001, ADD_BY_1, CHANGE_1, CHANGE_1_DETACHED, REMOVE_1, REMOVE_3};
-use luks_samples::{opening_luks1, roomy_luks2, roomy_text};
+use luks_samples::{counted_modulo_256, opening_luks1, roomy_luks2, roomy_text};
 use luks_sessions::{NO_FILE, run};
 use std::alloc::Global;
 use std::process::Abort;
@@ -62,7 +62,7 @@ fn say_all<'a>(
 #[test]
 fn fewer_iterations(rt: HostRuntime) -> Result<(), Fail> {
     let alloc = rt.alloc();
-    let random = counted(alloc, RANDOM)?;
+    let random = counted_modulo_256(alloc, 0, RANDOM)?;
     let text = roomy_text(alloc, &[])?;
     let mut files = files_of(roomy_luks2(alloc, text.as_str(), 1)?);
     say_all(&rt, alloc, &mut files, &random, LUKS2)?;

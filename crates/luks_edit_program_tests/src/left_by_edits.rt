@@ -1,11 +1,11 @@
 //! What the commands that edit leave of new LUKS2 volumes, byte for byte. The sums are those that
 //! `testdata/oracle/edit_scripts` prints of its scripts.
 use crate::editing_luks2::rewrite;
-use crate::sessions::{Turn, answers, bytes_of, files_of, text_of};
+use crate::sessions::{Turn, answers, bytes_of, files_of};
 use crate::words::{
     ADD, ADD_999, ADD_DETACHED, CHANGE, FORMAT, FORMAT_DETACHED, LABEL, REMOVE, REMOVE_1, REPAIR,
 };
-use luks_samples::{Edit, LUKS2, edited};
+use luks_samples::{Edit, LUKS2, edited, filled, text_of};
 use luks_test_devices::{counted, is_sum};
 use std::alloc::{AllocError, Global};
 use std::process::Abort;
@@ -123,7 +123,13 @@ const HOLE: &[Step] = &[Step {
         (r#"["0"],"salt""#, r#"["0","1"],"salt""#),
         (
             r#""type":"luks2"}}"#,
-            r#""type":"luks2"},"1":{"af":{"hash":"sha256","stripes":4000,"type":"luks1"},"area":{"encryption":"aes-xts-plain64","key_size":64,"offset":"294912","size":"258048","type":"raw"},"kdf":{"hash":"sha256","iterations":1000,"salt":"8PHy8/T19vf4+foAAQIDBAUGBwgJCgsMDQ4PEBESExQ=","type":"pbkdf2"},"key_size":64,"type":"luks2"}}"#,
+            concat!(
+                r#""type":"luks2"},"1":{"af":{"hash":"sha256","stripes":4000,"type":"luks1"},"#,
+                r#""area":{"encryption":"aes-xts-plain64","key_size":64,"offset":"294912","size":"258048","#,
+                r#""type":"raw"},"kdf":{"hash":"sha256","iterations":1000,"#,
+                r#""salt":"8PHy8/T19vf4+foAAQIDBAUGBwgJCgsMDQ4PEBESExQ=","type":"pbkdf2"},"key_size":64,"#,
+                r#""type":"luks2"}}"#
+            ),
         ),
     ],
     words: ADD,
@@ -195,27 +201,12 @@ static SCRIPTS: [Script; 5] = [
     },
 ];
 
-/// The text, in which an empty member `pad` is filled until the text is full.
-fn filled(alloc: Global, text: &str) -> Result<String, AllocError> {
-    let Some((before, after)) = text.split_once(r#""pad":"""#) else {
-        return String::from_str(alloc, text);
-    };
-    let mut filled = String::from_str(alloc, before)?;
-    filled.push_str(r#""pad":""#)?;
-    for _ in text.len()..FULL {
-        filled.push_str("p")?;
-    }
-    filled.push_str("\"")?;
-    filled.push_str(after)?;
-    Ok(filled)
-}
-
 /// The volume, both of its copies written anew with the metadata edited so.
 fn rewritten(alloc: Global, image: Vec<u8>, edits: &[Edit]) -> Result<Vec<u8>, AllocError> {
     let mut image = image;
     if !edits.is_empty() {
         let text = edited(alloc, text_of(&image), edits)?;
-        let text = filled(alloc, text.as_str())?;
+        let text = filled(alloc, text.as_str(), FULL)?;
         rewrite(&mut image, text.as_str());
     }
     Ok(image)

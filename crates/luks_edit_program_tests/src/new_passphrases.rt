@@ -1,8 +1,8 @@
 //! The file of the new passphrase, and the order in which a command that edits reads its files.
-use crate::sessions::{Files, RANDOM, Turn, bytes_of, counted, files_of, taken};
+use crate::sessions::{Files, RANDOM, Turn, bytes_of, files_of, taken};
 use crate::words::{ADD, CHANGE_1, OPEN_3};
 use luks_cli::{InputFault, Reason};
-use luks_samples::{roomy_luks2, roomy_text};
+use luks_samples::{counted_modulo_256, roomy_luks2, roomy_text};
 use luks_sessions::run;
 use std::alloc::Global;
 use std::test::Fail;
@@ -251,7 +251,7 @@ fn holds(
 fn order_of_the_files(rt: HostRuntime) -> Result<(), Fail> {
     let alloc = rt.alloc();
     let long = vec![in alloc; b'x'; MOST + 1]?;
-    let random = counted(alloc, RANDOM)?;
+    let random = counted_modulo_256(alloc, 0, RANDOM)?;
     let text = roomy_text(alloc, &[])?;
     let image = roomy_luks2(alloc, text.as_str(), 1)?;
     for (i, row) in ROWS.iter().enumerate() {
@@ -285,7 +285,7 @@ fn no_byte(rt: HostRuntime) -> Result<(), Fail> {
 fn longest(rt: HostRuntime) -> Result<(), Fail> {
     let alloc = rt.alloc();
     let longest = vec![in alloc; b'x'; MOST]?;
-    let random = counted(alloc, RANDOM)?;
+    let random = counted_modulo_256(alloc, 0, RANDOM)?;
     let text = roomy_text(alloc, &[])?;
     let mut files = files_of(roomy_luks2(alloc, text.as_str(), 1)?);
     files.passphrase = Ok(b"one");

@@ -1,11 +1,13 @@
 //! What refuses an edit, for each command that edits: the line, the status, and that no byte is changed.
-use crate::sessions::{RANDOM, answers, bytes_of, counted, files_of};
+use crate::sessions::{RANDOM, answers, bytes_of, files_of};
 use crate::words::{
     ADD, ADD_999, ADD_BY_3, ADD_BY_3_TO_0, ADD_FEWEST, ADD_TO_0, ADD_TO_1, ADD_TO_8, ADD_TO_31,
     BARE_REMOVE, BARE_REPAIR, CHANGE, CHANGE_3, CHANGE_999, LABEL, LABEL_48, LABEL_E, REMOVE,
     REMOVE_3, REMOVE_31, REPAIR,
 };
-use luks_samples::{Change, Edit, opening_luks1, overwrite, roomy_luks2, roomy_text};
+use luks_samples::{
+    Change, Edit, counted_modulo_256, opening_luks1, overwrite, roomy_luks2, roomy_text,
+};
 use luks_sessions::run;
 use std::alloc::Global;
 use std::process::Abort;
@@ -23,7 +25,7 @@ fn compare(
     want: &'static str,
 ) -> Result<(), Fail> {
     let before = image.to_vec(alloc)?;
-    let random = counted(alloc, random)?;
+    let random = counted_modulo_256(alloc, 0, random)?;
     let mut files = files_of(image);
     files.random = Ok(random.as_slice());
     let held = answers(alloc, &(words, passphrase, "two", want, 1), &mut files)?;
@@ -89,7 +91,11 @@ const ALONE: &[Edit] = &[
     (r#""keyslots":["0","1","2"]"#, r#""keyslots":["0"]"#),
     (
         r#""type":"pbkdf2"}},"keyslots":{"#,
-        r#""type":"pbkdf2"},"1":{"digest":"r0tW0F0ITOoPYBUmFjGzXZTVowAGtTYAjvCjGDabwpo=","hash":"sha256","iterations":1000,"keyslots":["1","2"],"salt":"IiIiIiIiIiIiIiIiIiIiIiIiIiIiIiIiIiIiIiIiIiI=","segments":[],"type":"pbkdf2"}},"keyslots":{"#,
+        concat!(
+            r#""type":"pbkdf2"},"1":{"digest":"r0tW0F0ITOoPYBUmFjGzXZTVowAGtTYAjvCjGDabwpo=","hash":"sha256","#,
+            r#""iterations":1000,"keyslots":["1","2"],"salt":"IiIiIiIiIiIiIiIiIiIiIiIiIiIiIiIiIiIiIiIiIiI=","#,
+            r#""segments":[],"type":"pbkdf2"}},"keyslots":{"#
+        ),
     ),
 ];
 
@@ -240,7 +246,7 @@ fn too_few_random_bytes(rt: HostRuntime) -> Result<(), Fail> {
     let image = roomy_luks2(alloc, text.as_str(), 1)?;
     for row in FEW.iter() {
         let (words, random, lines) = *row;
-        let random = counted(alloc, random)?;
+        let random = counted_modulo_256(alloc, 0, random)?;
         let mut files = files_of(image.to_vec(alloc)?);
         files.passphrase = Ok(b"one");
         files.new_passphrase = Ok(b"two");

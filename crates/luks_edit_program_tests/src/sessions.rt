@@ -1,8 +1,9 @@
 //! Commands over one volume, one after another.
 use luks_cli::{InputFault, Inputs};
+use luks_samples::counted_modulo_256;
 use luks_sessions::{NO_FILE, run};
 use luks_volume::MemDevice;
-use std::alloc::{AllocError, Global};
+use std::alloc::Global;
 use std::process::Abort;
 use std::test::Fail;
 
@@ -12,17 +13,6 @@ pub type Turn = (&'static str, &'static str, &'static str, &'static str, u8);
 
 /// The files of a session.
 pub type Files<'a> = Inputs<MemDevice, &'a [u8], &'a [u8]>;
-
-/// Random bytes that count up, as many as this.
-pub fn counted(alloc: Global, len: usize) -> Result<Vec<u8>, AllocError> {
-    let mut bytes = vec![in alloc; 0u8; len]?;
-    let mut next = 0u8;
-    for byte in bytes.iter_mut() {
-        *byte = next;
-        next = next.wrapping_add(1);
-    }
-    Ok(bytes)
-}
 
 /// More random bytes than a command takes.
 pub const RANDOM: usize = 260000;
@@ -71,7 +61,7 @@ pub fn taken(
     image: Vec<u8>,
     turns: &[Turn],
 ) -> Result<Vec<u8>, Fail> {
-    let random = counted(alloc, RANDOM)?;
+    let random = counted_modulo_256(alloc, 0, RANDOM)?;
     let mut files = files_of(image);
     take_turns(rt, alloc, &mut files, &random, turns)?;
     Ok(bytes_of(&files).to_vec(alloc)?)
@@ -90,16 +80,5 @@ pub fn are_zeros(bytes: &[u8], from: usize, to: usize) -> bool {
     match bytes.get(from..to) {
         Some(part) => part.iter().all(|byte| *byte == 0),
         None => false,
-    }
-}
-
-/// The metadata of the first copy.
-pub fn text_of(image: &[u8]) -> &str {
-    match image.get(4096..16384) {
-        Some(area) => match area.split(|byte| *byte == 0).next() {
-            Some(text) => str::from_utf8(text).unwrap_or_default(),
-            None => "",
-        },
-        None => "",
     }
 }

@@ -1,11 +1,13 @@
 //! Edits of small LUKS2 volumes, one after another.
-use crate::sessions::{Turn, are_zeros, taken, text_of};
+use crate::sessions::{Turn, are_zeros, taken};
 use crate::words::{
     ADD, ADD_BY_1, ADD_TO_31, CHANGE, CHANGE_1_DETACHED, CHECK, DETACHED, LABEL, LABEL_DETACHED,
     NO_LABEL, OPEN_0, OPEN_1, OPEN_3, OPEN_31, REMOVE, REMOVE_1, REMOVE_2_DETACHED, REMOVE_31,
     REPAIR, REPAIR_DETACHED, SHOW,
 };
-use luks_samples::{Edit, STRIPE_BY_SHA512, THREE, edited, put, roomy_luks2, roomy_text};
+use luks_samples::{
+    Edit, STRIPE_BY_SHA512, THREE, edited, put_front, roomy_luks2, roomy_text, text_of,
+};
 use std::alloc::{AllocError, Global};
 use std::test::Fail;
 
@@ -183,7 +185,7 @@ static MADE_BY_SHA512: [&str; 2] = [
 fn keyslot_by_sha512(rt: HostRuntime) -> Result<(), Fail> {
     let text = roomy_text(rt.alloc(), &SHA512_1)?;
     let mut image = roomy_luks2(rt.alloc(), text.as_str(), 1)?;
-    put(&mut image, 36864, &STRIPE_BY_SHA512);
+    put_front(&mut image, 36864, &STRIPE_BY_SHA512);
     let left = taken(&rt, rt.alloc(), image, &BY_SHA512)?;
     for made in MADE_BY_SHA512.iter() {
         assert!(rt; text_of(&left).contains(*made), "{made}");
@@ -203,7 +205,11 @@ fn all_keyslots(alloc: Global) -> Result<String, AllocError> {
         write!(names, "{comma}\"{n}\"")?;
         write!(
             slots,
-            "{comma}\"{n}\":{{\"af\":{{\"hash\":\"sha256\",\"stripes\":1,\"type\":\"luks1\"}},\"area\":{{\"encryption\":\"aes-xts-plain64\",\"key_size\":64,\"offset\":\"{offset}\",\"size\":\"4096\",\"type\":\"raw\"}},\"kdf\":{{\"hash\":\"sha256\",\"iterations\":1000,\"salt\":\"ERERERERERERERERERERERERERERERERERERERERERE=\",\"type\":\"pbkdf2\"}},\"key_size\":64,\"type\":\"luks2\"}}"
+            "{comma}\"{n}\":{{\"af\":{{\"hash\":\"sha256\",\"stripes\":1,\"type\":\"luks1\"}},\
+             \"area\":{{\"encryption\":\"aes-xts-plain64\",\"key_size\":64,\"offset\":\"{offset}\",\
+             \"size\":\"4096\",\"type\":\"raw\"}},\"kdf\":{{\"hash\":\"sha256\",\"iterations\":1000,\
+             \"salt\":\"ERERERERERERERERERERERERERERERERERERERERERE=\",\"type\":\"pbkdf2\"}},\"key_size\":64,\
+             \"type\":\"luks2\"}}"
         )?;
     }
     names.push_str(between)?;
@@ -237,7 +243,7 @@ fn all_numbers_taken(rt: HostRuntime) -> Result<(), Fail> {
     let text = all_keyslots(rt.alloc())?;
     let small = roomy_luks2(rt.alloc(), text.as_str(), 1)?;
     let mut image = vec![in rt.alloc(); 0u8; 32768 + 135168]?;
-    put(&mut image, 0, &small);
+    put_front(&mut image, 0, &small);
     let _left = taken(&rt, rt.alloc(), image, &FULL_HOUSE)?;
     Ok(())
 }

@@ -1,6 +1,8 @@
 //! Edits of volumes on devices of which each call fails in turn.
 
-use crate::trials::{ARGON2, LUKS1, LUKS2, Trial, argon2_keyslots, opens, two_luks1_keyslots};
+use crate::trials::{
+    ARGON2, LUKS1, LUKS2, Trial, argon2_keyslots, keyslots_open, two_luks1_keyslots,
+};
 use luks_area::{Device, FaultyDevice, Leave, MemDevice};
 use luks_edit::{Edit, EditFault};
 use luks_head::{Selected, select};
@@ -70,13 +72,6 @@ fn copy_that_counts<'a>(alloc: Global, device: &'a mut MemDevice) -> &'a [u8] {
     }
 }
 
-/// Whether the keyslots open as they have to.
-fn keyslots_open(alloc: Global, left: &mut MemDevice, trial: &Trial) -> bool {
-    let [old, new] = trial.either;
-    let either = opens(alloc, left, old) || opens(alloc, left, new);
-    either && opens(alloc, left, trial.other)
-}
-
 /// Whether the LUKS2 volume left is accepted, and the copy that counts is one of the volume before or
 /// one of the volume after.
 fn is_before_or_after(
@@ -93,14 +88,6 @@ fn is_before_or_after(
             || counting.as_slice() == part(after, *at, end)
     });
     Ok(accepted && known && counting.len() == 16384)
-}
-
-/// The place and the length of what a call writes.
-fn range_of(call: Call) -> (usize, usize) {
-    match call {
-        Call::Write { at, len } => (at, len),
-        _ => (0, 0),
-    }
 }
 
 /// Whichever call fails, it is told after that call, and is the last; the bytes that earlier calls
@@ -120,7 +107,7 @@ fn fails_at_each_call(
     let is_luks2 = part(before, 6, 8) == [0, 2].as_slice();
     let mut want = before.to_vec(alloc)?;
     for (i, call) in done.calls.iter().enumerate() {
-        let (at, len) = range_of(*call);
+        let (at, len) = call.range();
         let new = part(after, at, at.wrapping_add(len));
         leave_behind(&mut want, at, new, leave);
         let Ended {

@@ -1,6 +1,6 @@
 //! Edits of volumes on devices that lose, with each call in turn, what was written and not flushed.
 
-use crate::trials::{LUKS1, LUKS2, Trial, opens, two_luks1_keyslots};
+use crate::trials::{LUKS1, LUKS2, Trial, keyslots_open, two_luks1_keyslots};
 use luks_area::{Device, MemDevice};
 use luks_edit::EditFault;
 use luks_reading::{Data, check};
@@ -26,13 +26,6 @@ enum End {
     /// The device's fault was told, and each keyslot opens that has to; whether the volume is accepted.
     Told { accepted: bool },
     Other,
-}
-
-/// Whether the keyslots open as they have to.
-fn keyslots_open(alloc: Global, left: &mut MemDevice, trial: &Trial) -> bool {
-    let [old, new] = trial.either;
-    let either = opens(alloc, left, old) || opens(alloc, left, new);
-    either && opens(alloc, left, trial.other)
 }
 
 /// What the edit comes to where the call of this number fails and no later one does anything.

@@ -157,3 +157,10 @@ pub(crate) fn opens(alloc: Global, device: &mut MemDevice, opening: Opening) -> 
         _ => false,
     }
 }
+
+/// Whether the keyslots open as they have to.
+pub(crate) fn keyslots_open(alloc: Global, left: &mut MemDevice, trial: &Trial) -> bool {
+    let [old, new] = trial.either;
+    let either = opens(alloc, left, old) || opens(alloc, left, new);
+    either && opens(alloc, left, trial.other)
+}

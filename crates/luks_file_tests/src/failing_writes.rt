@@ -3,11 +3,11 @@ ghost use Rattle.std.specs.Prelude.{◌≡◌, ◌+◌, ◌<◌, ◌^◌};
 ghost use Rattle.luks_area.specs.Device.{IsSettled};
 
 use crate::commands::{Given, counted_from, run};
-use crate::folders::new_folder;
 use crate::rows::NEW;
 use crate::volume_files::{Before, has_sum};
 use luks_area::{Device, FaultyDevice, FileDevice, Leave};
 use luks_cli::{InputFault, Inputs};
+use luks_samples::new_folder;
 use luks_sessions::Told;
 use std::alloc::Global;
 use std::fs::{self, File, OpenOptions};

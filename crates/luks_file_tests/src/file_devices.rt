@@ -1,7 +1,7 @@
 //! The device over a file: how long it is, which bytes of the file it reads and writes, and which
 //! calls fail.
-use crate::folders::new_folder;
 use luks_area::{Device, FileDevice};
+use luks_samples::new_folder;
 use std::fs::{self, File, OpenOptions};
 use std::io::{Read, Seek, SeekFrom};
 use std::rt::Files;

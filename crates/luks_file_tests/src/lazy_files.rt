@@ -1,6 +1,6 @@
 //! Files that are opened when they are first read.
-use crate::folders::new_folder;
 use luks_lock::LazyFile;
+use luks_samples::new_folder;
 use std::fs;
 use std::io::{ErrorKind, Read};
 use std::rt::Files;

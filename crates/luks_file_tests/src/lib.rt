@@ -10,8 +10,6 @@ mod failing_writes;
 #[cfg(test)]
 mod file_devices;
 #[cfg(test)]
-mod folders;
-#[cfg(test)]
 mod lazy_files;
 #[cfg(test)]
 mod passed_on;

@@ -1,7 +1,7 @@
 //! Files that are no volume: folders, pipes and devices that aren't disks.
-use crate::folders::new_folder;
 use luks_area::FileDevice;
 use luks_lock::{OpenFault, open_locked};
+use luks_samples::new_folder;
 use std::fs::{self, File};
 use std::io::{self, ErrorKind};
 use std::os::fd::AsRawFd;

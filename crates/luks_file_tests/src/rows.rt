@@ -607,7 +607,13 @@ pub static ROOMS: [Row; 22] = [
     Row {
         before: Before::Text {
             old: r#""type":"luks2"}}"#,
-            new: r#""type":"luks2"},"1":{"af":{"hash":"sha256","stripes":4000,"type":"luks1"},"area":{"encryption":"aes-xts-plain64","key_size":64,"offset":"294912","size":"258048","type":"raw"},"kdf":{"hash":"sha256","iterations":1000,"salt":"8PHy8/T19vf4+foAAQIDBAUGBwgJCgsMDQ4PEBESExQ=","type":"pbkdf2"},"key_size":64,"type":"luks2"}}"#,
+            new: concat!(
+                r#""type":"luks2"},"1":{"af":{"hash":"sha256","stripes":4000,"type":"luks1"},"#,
+                r#""area":{"encryption":"aes-xts-plain64","key_size":64,"offset":"294912","size":"258048","#,
+                r#""type":"raw"},"kdf":{"hash":"sha256","iterations":1000,"#,
+                r#""salt":"8PHy8/T19vf4+foAAQIDBAUGBwgJCgsMDQ4PEBESExQ=","type":"pbkdf2"},"key_size":64,"#,
+                r#""type":"luks2"}}"#
+            ),
             seqids: (1, 1),
         },
         words: "luks add v --slot=0 --passphrase=p --new=n --random=r --iterations=1000",

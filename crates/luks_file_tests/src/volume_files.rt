@@ -1,6 +1,5 @@
 //! The file of a volume: what is done to it beside the program, and which bytes it has.
-use luks_samples::{copy_of, edited, is_sum, put_copy};
-use std::alloc::{AllocError, Global};
+use luks_samples::{copy_of, edited, filled, is_sum, put_copy, text_of};
 use std::fs::{self, File, OpenOptions};
 use std::io::{Read, Seek, SeekFrom, Write};
 use std::rt::Files;
@@ -11,9 +10,7 @@ const FRONT: usize = 2097152;
 
 const BACK: usize = 512;
 
-/// Where the metadata of the first copy begins, and where both copies end.
-const TEXT: usize = 4096;
-
+/// Where both copies end.
 const COPIES: usize = 32768;
 
 /// The most bytes that metadata has in a JSON area of 12288 bytes, with the zero behind it.
@@ -73,32 +70,6 @@ fn flip<R: Files<File = File>>(rt: &R, path: &str, place: u64) -> Result<(), Fai
     Ok(())
 }
 
-/// The metadata of the first copy.
-fn text_of(copies: &[u8]) -> &str {
-    match copies.get(TEXT..16384) {
-        Some(area) => match area.split(|byte| *byte == 0).next() {
-            Some(text) => str::from_utf8(text).unwrap_or_default(),
-            None => "",
-        },
-        None => "",
-    }
-}
-
-/// The text, in which an empty member `pad` is filled until the text is full.
-fn filled(alloc: Global, text: &str) -> Result<String, AllocError> {
-    let Some((before, after)) = text.split_once(r#""pad":"""#) else {
-        return String::from_str(alloc, text);
-    };
-    let mut filled = String::from_str(alloc, before)?;
-    filled.push_str(r#""pad":""#)?;
-    for _ in text.len()..FULL {
-        filled.push_str("p")?;
-    }
-    filled.push_str("\"")?;
-    filled.push_str(after)?;
-    Ok(filled)
-}
-
 /// Writes both copies anew.
 fn rewrite<R: AllocGlobal + Files<File = File>>(
     rt: &R,
@@ -110,7 +81,7 @@ fn rewrite<R: AllocGlobal + Files<File = File>>(
     let mut old = vec![in alloc; 0u8; COPIES]?;
     File::open(rt, path)?.read_exact(old.as_mut_slice())?;
     let text = edited(alloc, text_of(&old), &[edit])?;
-    let text = filled(alloc, text.as_str())?;
+    let text = filled(alloc, text.as_str(), FULL)?;
     let mut copy = copy_of(text.as_str());
     copy.uuid = b"00010203-0405-4607-8809-0a0b0c0d0e0f";
     let mut new = vec![in alloc; 0u8; COPIES]?;

@@ -1,9 +1,9 @@
 //! The worked rows of edits and of formatting, each run over files: what is printed, the status, and the
 //! bytes that are left of the volume's file.
 use crate::commands::{Given, counted_from, run};
-use crate::folders::new_folder;
 use crate::rows::{ADDING, CHANGING, LUKS1, ROOMS};
 use crate::volume_files::{Before, has_sum};
+use luks_samples::new_folder;
 use std::fs::{self, File};
 use std::process::Abort;
 use std::rt::{Clock, Files};

@@ -3,7 +3,7 @@ use crate::answers::volume_of;
 use crate::cuts::{COMMANDS, add_answers};
 use crate::first_volumes::{LENGTH, first1, first2, text};
 use crate::numbers::{CHANGED1, DAMAGED2, REWRITTEN2};
-use luks_samples::{LUKS1, is_sum, put};
+use luks_samples::{LUKS1, is_sum, put_front};
 use sha2::{Digest, Sha256};
 use std::alloc::Global;
 use std::test::Fail;
@@ -74,10 +74,10 @@ fn damaged_luks2(rt: HostRuntime) -> Result<(), Fail> {
 fn rewrite(image: &mut [u8], at: usize, bits: u8) {
     for place in [0usize, 16384] {
         flip(image, place.wrapping_add(at), bits);
-        put(image, place.wrapping_add(448), &[0; 64]);
+        put_front(image, place.wrapping_add(448), &[0; 64]);
         if let Some(copy) = image.get(place..place.wrapping_add(16384)) {
             let digest = Sha256::digest(copy);
-            put(image, place.wrapping_add(448), &digest);
+            put_front(image, place.wrapping_add(448), &digest);
         }
     }
 }

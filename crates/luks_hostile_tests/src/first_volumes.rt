@@ -1,5 +1,5 @@
 //! The two volumes whose headers are cut and changed.
-use luks_samples::{Edit, STRIPE, THREE, copy_of, edited, luks2, opening_luks1, put};
+use luks_samples::{Edit, STRIPE, THREE, copy_of, edited, luks2, opening_luks1, put_front};
 use std::alloc::{AllocError, Global};
 
 /// What distinguishes the metadata from that of the sample of three keyslots: room for a fourth, a
@@ -36,7 +36,7 @@ pub fn first2(alloc: Global) -> Result<Vec<u8>, AllocError> {
     let copy = copy_of(text.as_str());
     let mut image = luks2(alloc, &copy, &copy, LENGTH)?;
     for at in [32768, 36864, 40960] {
-        put(&mut image, at, &STRIPE);
+        put_front(&mut image, at, &STRIPE);
     }
     Ok(image)
 }

@@ -3,8 +3,8 @@ use crate::answers::{Files, ONE, add, run, volume_of};
 use crate::dice::Dice;
 use crate::keyslots::{Key, Keyslot, passphrase};
 use crate::numbers::SUMS;
-use crate::sums::{counted, push_sum};
-use luks_samples::{Fields, copy_of, is_sum, put, put_copy};
+use crate::sums::push_sum;
+use luks_samples::{Fields, copy_of, counted_modulo_256, is_sum, put_copy, put_front};
 use luks_volume::MemDevice;
 use std::alloc::{AllocError, Global};
 use std::process::Abort;
@@ -271,7 +271,7 @@ impl Drawing {
     fn put_damage(&mut self, image: &mut [u8], may_be: bool) {
         let damaged = self.dice.below(4);
         if may_be && damaged < 2 {
-            put(
+            put_front(
                 image,
                 damaged.wrapping_mul(self.size).wrapping_add(4096) as usize,
                 &[0],
@@ -290,7 +290,7 @@ impl Generated {
         let mut image = vec![in alloc; 0u8; len as usize]?;
         drawing.put_copies(alloc, &mut image, text.as_str())?;
         for (at, area) in drawing.areas.iter() {
-            put(&mut image, *at as usize, area);
+            put_front(&mut image, *at as usize, area);
         }
         let other = drawing.dice.number(&slots);
         Ok(Generated {
@@ -339,7 +339,7 @@ fn run_by(
     volume: MemDevice,
     answers: &mut Vec<u8>,
 ) -> Result<MemDevice, Fail> {
-    let random = counted(alloc, 8192)?;
+    let random = counted_modulo_256(alloc, 0, 8192)?;
     let key = passphrase(alloc, slot)?;
     let files = Files {
         passphrase: key.as_bytes(),

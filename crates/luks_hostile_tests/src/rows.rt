@@ -1,8 +1,8 @@
 //! Values at the ends of what a header can hold.
 use crate::answers::{Files, ONE, run, volume_of};
-use crate::sums::counted;
 use luks_samples::{
-    Change, Edit, Fields, LUKS1, LUKS2, ZEROS, changed_luks1, copy_of, edited, luks2, zeros_luks2,
+    Change, Edit, Fields, LUKS1, LUKS2, ZEROS, changed_luks1, copy_of, counted_modulo_256, edited,
+    luks2, zeros_luks2,
 };
 use luks_volume::MemDevice;
 use std::alloc::{AllocError, Global};
@@ -22,7 +22,7 @@ fn compare(
     want: &str,
 ) -> Result<MemDevice, Fail> {
     let mut answers = Vec::new(alloc);
-    let random = counted(alloc, 512)?;
+    let random = counted_modulo_256(alloc, 0, 512)?;
     let files = Files {
         random: &random,
         ..ONE
@@ -251,11 +251,17 @@ fn full(alloc: Global) -> Result<String, AllocError> {
         )?;
         write!(
             slots,
-            "{comma}\"{n}\":{{\"type\":\"luks2\",\"key_size\":64,\"af\":{{\"type\":\"luks1\",\"stripes\":4000,\"hash\":\"sha256\"}},\"area\":{{\"type\":\"raw\",\"offset\":\"{offset}\",\"size\":\"258048\",\"encryption\":\"aes-xts-plain64\",\"key_size\":64}},\"kdf\":{{\"type\":\"pbkdf2\",\"hash\":\"sha256\",\"iterations\":1000,\"salt\":\"AAAA\"}}}}"
+            "{comma}\"{n}\":{{\"type\":\"luks2\",\"key_size\":64,\"af\":{{\"type\":\"luks1\",\"stripes\":4000,\
+             \"hash\":\"sha256\"}},\"area\":{{\"type\":\"raw\",\"offset\":\"{offset}\",\"size\":\"258048\",\
+             \"encryption\":\"aes-xts-plain64\",\"key_size\":64}},\"kdf\":{{\"type\":\"pbkdf2\",\
+             \"hash\":\"sha256\",\"iterations\":1000,\"salt\":\"AAAA\"}}}}"
         )?;
     }
     format!(in alloc;
-        "{{\"config\":{{\"json_size\":\"61440\",\"keyslots_size\":\"16646144\"}},\"keyslots\":{{{slots}}},\"segments\":{{{segments}}},\"tokens\":{{}},\"digests\":{{\"0\":{{\"type\":\"pbkdf2\",\"keyslots\":[{names}],\"segments\":[],\"hash\":\"sha256\",\"iterations\":1000,\"salt\":\"AAAA\",\"digest\":\"AAAAAAAAAAAAAAAAAAAAAAAAAAA=\"}}}}}}"
+        "{{\"config\":{{\"json_size\":\"61440\",\"keyslots_size\":\"16646144\"}},\"keyslots\":{{{slots}}},\
+         \"segments\":{{{segments}}},\"tokens\":{{}},\"digests\":{{\"0\":{{\"type\":\"pbkdf2\",\
+         \"keyslots\":[{names}],\"segments\":[],\"hash\":\"sha256\",\"iterations\":1000,\"salt\":\"AAAA\",\
+         \"digest\":\"AAAAAAAAAAAAAAAAAAAAAAAAAAA=\"}}}}}}"
     )
 }
 

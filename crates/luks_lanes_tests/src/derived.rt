@@ -4,30 +4,7 @@ ghost use Rattle.std.specs.Prelude.{◌≡◌, ◌≤◌};
 
 use crate::digests::{SHA1, SHA256, SHA512};
 use luks_kdf::HashName;
-
-// The generator splitmix64, which vectors/make.py has too.
-fn next(state: &mut u64) -> u64 {
-    *state = state.wrapping_add(0x9e3779b97f4a7c15);
-    let z = *state;
-    let z = (z ^ (z >> 30)).wrapping_mul(0xbf58476d1ce4e5b9);
-    let z = (z ^ (z >> 27)).wrapping_mul(0x94d049bb133111eb);
-    z ^ (z >> 31)
-}
-
-pub(crate) fn fill(state: &mut u64, bytes: &mut [u8]) {
-    for byte in bytes.iter_mut() {
-        *byte = (next(state) >> 56) as u8;
-    }
-}
-
-/// FNV-1a of 64 bits.
-pub(crate) fn digest(bytes: &[u8]) -> u64 {
-    let mut digest = 0xcbf29ce484222325_u64;
-    for byte in bytes {
-        digest = (digest ^ u64::from(*byte)).wrapping_mul(0x100000001b3);
-    }
-    digest
-}
+use luks_samples::{fill, fnv, next};
 
 /// Whether what is derived in a case has this digest: from a password of up to 149 bytes and a salt of
 /// up to 79, by 1, 2, 3 or 1000 iterations.
@@ -51,7 +28,7 @@ fn derives_case(hash: HashName, case: u64, want: u64) -> bool {
     let length = (next(&mut state) % 128) as usize + 1;
     let out = &mut buffer[..length];
     hash.pbkdf2(out, password, salt, iterations);
-    digest(out) == want
+    fnv(out) == want
 }
 
 #[test]

@@ -1,9 +1,9 @@
 //! Keys merged by SHA-256 from stripes that end in a block alone after two side by side.
 ghost use Rattle.std.specs.Prelude.{◌≡◌, ◌≤◌, ◌%◌, length};
 
-use crate::derived::{digest, fill};
 use crate::digests::MERGED;
 use luks_kdf::HashName;
+use luks_samples::{fill, fnv};
 
 /// Whether the key that stripes hold has this digest; `key` and `stripes` are room for them.
 fn merges(key: &mut [u8], stripes: &mut [u8], want: u64) -> bool
@@ -15,7 +15,7 @@ fn merges(key: &mut [u8], stripes: &mut [u8], want: u64) -> bool
     let mut state = key.len() as u64;
     fill(&mut state, stripes);
     HashName::Sha256.merge(key, stripes);
-    digest(key) == want
+    fnv(key) == want
 }
 
 #[test]

@@ -5,8 +5,6 @@
 #[cfg(test)]
 mod changed_meanwhile;
 #[cfg(test)]
-mod folders;
-#[cfg(test)]
 mod named_locks;
 #[cfg(test)]
 mod volumes;

@@ -1,6 +1,6 @@
 //! The locks of the files that stand for block devices.
-use crate::folders::new_folder;
 use luks_lock::{Answer, Lock, Named, Node, Notice, Share, ask, hold_name};
+use luks_samples::new_folder;
 use std::fs::{self, File, OpenOptions};
 use std::os::unix::fs::{MetadataExt, symlink};
 use std::test::Fail;

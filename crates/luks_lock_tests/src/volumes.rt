@@ -2,12 +2,12 @@
 ghost use Rattle.std.specs.Prelude.{◌≡◌, IfOk};
 ghost use Rattle.luks_cache.specs.Cached.{cached_failures};
 
-use crate::folders::new_folder;
 use luks_area::FileDevice;
 use luks_cache::CachedDevice;
 use luks_cli::{InputFault, Inputs, Reason};
 use luks_line::line;
 use luks_lock::{LockedDevice, Notice, OpenFault, open_locked};
+use luks_samples::new_folder;
 use luks_sessions::run_words;
 use std::alloc::Global;
 use std::fs::{self, File};

@@ -6,8 +6,6 @@ mod areas;
 #[cfg(test)]
 mod converting;
 #[cfg(test)]
-mod made;
-#[cfg(test)]
 mod making;
 #[cfg(test)]
 mod members;

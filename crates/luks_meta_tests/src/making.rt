@@ -15,6 +15,7 @@ use crate::rows::{AREA, edited, read};
 use luks_area::rounded_to_sectors;
 use luks_meta::Meta;
 use luks_new_meta::{New, NewVolume};
+use luks_samples::shapes;
 use std::alloc::{AllocError, Global};
 use std::process::Abort;
 use std::test::Fail;
@@ -109,7 +110,7 @@ fn compare(rt: &impl Abort, alloc: Global, text: &str, rows: &[(Maker, &str)]) -
 
 #[test]
 fn of_cryptsetup(rt: HostRuntime) -> Result<(), Fail> {
-    compare(&rt, rt.alloc(), cryptsetup::TOKENS, &cryptsetup::OF_TOKENS)?;
+    compare(&rt, rt.alloc(), shapes::TOKENS, &cryptsetup::OF_TOKENS)?;
     compare(
         &rt,
         rt.alloc(),
@@ -119,14 +120,14 @@ fn of_cryptsetup(rt: HostRuntime) -> Result<(), Fail> {
     compare(
         &rt,
         rt.alloc(),
-        cryptsetup::PRIORITIES,
+        shapes::PRIORITIES,
         &cryptsetup::OF_PRIORITIES,
     )?;
-    compare(&rt, rt.alloc(), cryptsetup::ARGON2, &cryptsetup::OF_ARGON2)?;
+    compare(&rt, rt.alloc(), shapes::ARGON2, &cryptsetup::OF_ARGON2)?;
     compare(
         &rt,
         rt.alloc(),
-        cryptsetup::CONVERTED,
+        shapes::CONVERTED,
         &cryptsetup::OF_CONVERTED,
     )
 }

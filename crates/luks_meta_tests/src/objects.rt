@@ -1,10 +1,10 @@
 //! What is told of accepted metadata.
-use crate::made;
 use crate::readers::{
     is_area, is_argon2i, is_argon2id, is_crypt, is_digest_of, is_pbkdf2, is_splitter, is_token,
 };
 use crate::rows::{ARGON2, PLAIN, edited, read};
 use luks_meta::{Extent, SegmentKind};
+use luks_samples::shapes;
 use std::test::Fail;
 
 #[test]
@@ -134,7 +134,7 @@ const SALT: &[u8] =
 // Metadata that cryptsetup wrote: keyslots by Argon2id, PBKDF2 and Argon2i.
 #[test]
 fn keyslots_that_cryptsetup_made(rt: HostRuntime) -> Result<(), Fail> {
-    let meta = read(rt.alloc(), made::ARGON2)?;
+    let meta = read(rt.alloc(), shapes::ARGON2)?;
     let first = meta.keyslot(0).ok_or("no keyslot 0")?;
     assert!(rt;
         first.key_size == 64 && first.priority.is_none(),
@@ -157,7 +157,7 @@ fn keyslots_that_cryptsetup_made(rt: HostRuntime) -> Result<(), Fail> {
 
 #[test]
 fn digests_of_keyslots(rt: HostRuntime) -> Result<(), Fail> {
-    let meta = read(rt.alloc(), made::ARGON2)?;
+    let meta = read(rt.alloc(), shapes::ARGON2)?;
     for number in 0..3 {
         assert!(rt; meta.digest_of_keyslot(number) == Some(0), "{number}");
     }
@@ -169,7 +169,7 @@ const PRIORITIES: [(u8, Option<u8>); 4] = [(0, None), (2, Some(0)), (10, Some(2)
 
 #[test]
 fn priorities(rt: HostRuntime) -> Result<(), Fail> {
-    let meta = read(rt.alloc(), made::PRIORITIES)?;
+    let meta = read(rt.alloc(), shapes::PRIORITIES)?;
     for (number, want) in PRIORITIES {
         let keyslot = meta.keyslot(number).ok_or("no keyslot")?;
         assert!(rt; keyslot.priority == want, "{number}");
@@ -187,7 +187,7 @@ const DIGEST: &[u8] =
 
 #[test]
 fn tokens_that_cryptsetup_made(rt: HostRuntime) -> Result<(), Fail> {
-    let meta = read(rt.alloc(), made::TOKENS)?;
+    let meta = read(rt.alloc(), shapes::TOKENS)?;
     let token = meta.token(0).ok_or("no token 0")?;
     assert!(rt; is_token(&token, "example", &[1, 0]), "token 0");
     let last = meta.token(31).ok_or("no token 31")?;
@@ -206,7 +206,7 @@ fn tokens_that_cryptsetup_made(rt: HostRuntime) -> Result<(), Fail> {
 
 #[test]
 fn digests_that_cryptsetup_made(rt: HostRuntime) -> Result<(), Fail> {
-    let meta = read(rt.alloc(), made::TOKENS)?;
+    let meta = read(rt.alloc(), shapes::TOKENS)?;
     let digest = meta.digest(0).ok_or("no digest")?;
     assert!(rt; is_digest_of(&digest, &[0, 1], &[0]), "digest");
     assert!(rt; digest.salt.as_slice() == DIGEST_SALT, "salt");
@@ -223,12 +223,26 @@ fn digests_that_cryptsetup_made(rt: HostRuntime) -> Result<(), Fail> {
     Ok(())
 }
 
-const TOKENS_TEXT: &str =
-    "{\"config\":{\"json_size\":\"12288\",\"keyslots_size\":\"1048576\"},\"digests\":{\"0\":{\"digest\":\"fTKN8Cw5uYDc/4BqCd4xfs4TlKNz2+5QGJe6jGktivE=\",\"hash\":\"sha256\",\"iterations\":1000,\"keyslots\":[\"0\",\"1\"],\"salt\":\"Mvi1LRT8lFDsufdfh5xDdABr1uCodIFCcIqlR0d8t1A=\",\"segments\":[\"0\"],\"type\":\"pbkdf2\"}},\"keyslots\":{\"0\":{\"af\":{\"hash\":\"sha256\",\"stripes\":4000,\"type\":\"luks1\"},\"area\":{\"encryption\":\"aes-xts-plain64\",\"key_size\":64,\"offset\":\"32768\",\"size\":\"258048\",\"type\":\"raw\"},\"kdf\":{\"hash\":\"sha256\",\"iterations\":1000,\"salt\":\"llUOa8sdDMExEv1oVLkbznH+DNd4TVpJmgjaMQXscIg=\",\"type\":\"pbkdf2\"},\"key_size\":64,\"type\":\"luks2\"},\"1\":{\"af\":{\"hash\":\"sha256\",\"stripes\":4000,\"type\":\"luks1\"},\"area\":{\"encryption\":\"aes-xts-plain64\",\"key_size\":64,\"offset\":\"290816\",\"size\":\"258048\",\"type\":\"raw\"},\"kdf\":{\"hash\":\"sha256\",\"iterations\":1000,\"salt\":\"OalJngEEStDOEQRcrON4bPzXB1UamIWN1vZsWF+txvk=\",\"type\":\"pbkdf2\"},\"key_size\":64,\"type\":\"luks2\"}},\"segments\":{\"0\":{\"encryption\":\"aes-xts-plain64\",\"iv_tweak\":\"0\",\"offset\":\"2097152\",\"sector_size\":4096,\"size\":\"dynamic\",\"type\":\"crypt\"}},\"tokens\":{\"0\":{\"keyslots\":[\"1\",\"0\"],\"nested\":{\"list\":[1,{\"none\":null},[true,false]]},\"number\":-9223372036854775808,\"text\":\"a\\\\b \u{e9} \\\"q\\\" \\n\",\"type\":\"example\"},\"31\":{\"key_description\":\"luks:disk\",\"keyslots\":[\"1\"],\"type\":\"luks2-keyring\"}}}";
+const TOKENS_TEXT: &str = "{\"config\":{\"json_size\":\"12288\",\"keyslots_size\":\"1048576\"},\
+     \"digests\":{\"0\":{\"digest\":\"fTKN8Cw5uYDc/4BqCd4xfs4TlKNz2+5QGJe6jGktivE=\",\"hash\":\"sha256\",\
+     \"iterations\":1000,\"keyslots\":[\"0\",\"1\"],\"salt\":\"Mvi1LRT8lFDsufdfh5xDdABr1uCodIFCcIqlR0d8t1A=\",\
+     \"segments\":[\"0\"],\"type\":\"pbkdf2\"}},\"keyslots\":{\"0\":{\"af\":{\"hash\":\"sha256\",\
+     \"stripes\":4000,\"type\":\"luks1\"},\"area\":{\"encryption\":\"aes-xts-plain64\",\"key_size\":64,\
+     \"offset\":\"32768\",\"size\":\"258048\",\"type\":\"raw\"},\"kdf\":{\"hash\":\"sha256\",\
+     \"iterations\":1000,\"salt\":\"llUOa8sdDMExEv1oVLkbznH+DNd4TVpJmgjaMQXscIg=\",\"type\":\"pbkdf2\"},\
+     \"key_size\":64,\"type\":\"luks2\"},\"1\":{\"af\":{\"hash\":\"sha256\",\"stripes\":4000,\
+     \"type\":\"luks1\"},\"area\":{\"encryption\":\"aes-xts-plain64\",\"key_size\":64,\"offset\":\"290816\",\
+     \"size\":\"258048\",\"type\":\"raw\"},\"kdf\":{\"hash\":\"sha256\",\"iterations\":1000,\
+     \"salt\":\"OalJngEEStDOEQRcrON4bPzXB1UamIWN1vZsWF+txvk=\",\"type\":\"pbkdf2\"},\"key_size\":64,\
+     \"type\":\"luks2\"}},\"segments\":{\"0\":{\"encryption\":\"aes-xts-plain64\",\"iv_tweak\":\"0\",\
+     \"offset\":\"2097152\",\"sector_size\":4096,\"size\":\"dynamic\",\"type\":\"crypt\"}},\
+     \"tokens\":{\"0\":{\"keyslots\":[\"1\",\"0\"],\"nested\":{\"list\":[1,{\"none\":null},[true,false]]},\
+     \"number\":-9223372036854775808,\"text\":\"a\\\\b \u{e9} \\\"q\\\" \\n\",\"type\":\"example\"},\
+     \"31\":{\"key_description\":\"luks:disk\",\"keyslots\":[\"1\"],\"type\":\"luks2-keyring\"}}}";
 
 #[test]
 fn text_of_what_cryptsetup_made(rt: HostRuntime) -> Result<(), Fail> {
-    let text = read(rt.alloc(), made::TOKENS)?.text(rt.alloc())?;
+    let text = read(rt.alloc(), shapes::TOKENS)?.text(rt.alloc())?;
     assert!(rt; text.as_str() == TOKENS_TEXT, "the text");
     Ok(())
 }

@@ -6,27 +6,10 @@ use crate::making::{Maker, made};
 use crate::rows::{AREA, PLAIN, area_of};
 use luks_meta::{Meta, MetaFault};
 use luks_new_meta::{NewVolume, SourceSlot, SourceVolume};
+use luks_test_devices::{BLOCKS, TakenMemory};
 use std::alloc::{AllocError, Global};
 use std::process::Abort;
 use std::test::Fail;
-
-/// Takes what memory there is into `held`, in blocks from 2^46 bytes down to 256.
-fn take_all(alloc: Global, held: &mut Vec<Vec<u8>>) {
-    let mut size = 1usize << 46;
-    for _ in 0..39 {
-        for _ in 0..1 << 17 {
-            match Vec::with_capacity(alloc, size) {
-                Ok(block) => {
-                    if held.push(block).is_err() {
-                        return;
-                    }
-                }
-                Err(_) => break,
-            }
-        }
-        size /= 2;
-    }
-}
 
 /// How the work ended.
 #[derive(Debug, Clone, Copy, PartialEq, Eq)]
@@ -131,29 +114,24 @@ fn end_of(alloc: Global, work: Work, area: &[u8], want: &str) -> End
 fn ends_with_little_memory(alloc: Global, work: Work) -> Result<(End, usize), Fail> {
     let area = area_of(alloc, PLAIN.as_bytes(), AREA)?;
     let want = text_after(alloc, work, area.as_slice())?.ok_or("nothing is made")?;
-    let mut held = Vec::with_capacity(alloc, 1 << 20)?;
-    let mut blocks: Vec<Vec<u8>> = Vec::with_capacity(alloc, 1024)?;
-    for _ in 0..1024 {
-        blocks.push(Vec::with_capacity(alloc, 256)?)?;
-    }
-    take_all(alloc, &mut held);
+    let mut memory = TakenMemory::take(alloc)?;
     let mut end = End::Memory;
-    for _ in 0..1024 {
+    for _ in 0..BLOCKS {
         end = end_of(alloc, work, area.as_slice(), want.as_str());
         if end != End::Memory {
             break;
         }
-        let _ = blocks.pop();
+        memory.give_back();
     }
-    let left = blocks.len();
-    drop(held);
+    let left = memory.left();
+    drop(memory);
     Ok((end, left))
 }
 
 fn compare(rt: &impl Abort, alloc: Global, work: Work) -> Result<(), Fail> {
     let (end, left) = ends_with_little_memory(alloc, work)?;
     assert!(rt; end == End::Done, "the end of {work:?}");
-    assert!(rt; left < 1023, "{left} blocks left after {work:?}");
+    assert!(rt; left < BLOCKS - 1, "{left} blocks left after {work:?}");
     Ok(())
 }
 

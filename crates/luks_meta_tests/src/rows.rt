@@ -3,6 +3,8 @@ ghost use Rattle.std.specs.Prelude.{◌≡◌, length, IfOk};
 ghost use Rattle.luks_meta.specs.Content.{area_len};
 
 use luks_meta::{Meta, MetaFault};
+// One PBKDF2 keyslot, its digest and one `crypt` segment.
+pub use luks_samples::{ZEROS as PLAIN, edited_once as edited};
 use std::alloc::{AllocError, Global};
 use std::process::Abort;
 use std::test::Fail;
@@ -10,24 +12,19 @@ use std::test::Fail;
 /// The length in bytes of the JSON area of the smallest header.
 pub const AREA: usize = 12288;
 
-/// One PBKDF2 keyslot, its digest and one `crypt` segment.
-pub const PLAIN: &str =
-    r#"{"config":{"json_size":"12288","keyslots_size":"16744448"},"digests":{"0":{"digest":"AAAAAAAAAAAAAAAAAAAAAAAAAAAAAAAAAAAAAAAAAAA=","hash":"sha256","iterations":1000,"keyslots":["0"],"salt":"AAAAAAAAAAAAAAAAAAAAAAAAAAAAAAAAAAAAAAAAAAA=","segments":["0"],"type":"pbkdf2"}},"keyslots":{"0":{"af":{"hash":"sha256","stripes":4000,"type":"luks1"},"area":{"encryption":"aes-xts-plain64","key_size":64,"offset":"32768","size":"258048","type":"raw"},"kdf":{"hash":"sha256","iterations":1000,"salt":"AAAAAAAAAAAAAAAAAAAAAAAAAAAAAAAAAAAAAAAAAAA=","type":"pbkdf2"},"key_size":64,"type":"luks2"}},"segments":{"0":{"encryption":"aes-xts-plain64","iv_tweak":"0","offset":"16777216","sector_size":512,"size":"dynamic","type":"crypt"}},"tokens":{}}"#;
-
-/// The same with an Argon2 keyslot, and a token of number 5.
-pub const ARGON2: &str =
-    r#"{"config":{"json_size":"12288","keyslots_size":"16744448"},"digests":{"0":{"digest":"AAAAAAAAAAAAAAAAAAAAAAAAAAAAAAAAAAAAAAAAAAA=","hash":"sha256","iterations":1000,"keyslots":["0"],"salt":"AAAAAAAAAAAAAAAAAAAAAAAAAAAAAAAAAAAAAAAAAAA=","segments":["0"],"type":"pbkdf2"}},"keyslots":{"0":{"af":{"hash":"sha256","stripes":4000,"type":"luks1"},"area":{"encryption":"aes-xts-plain64","key_size":64,"offset":"32768","size":"258048","type":"raw"},"kdf":{"cpus":4,"memory":65536,"salt":"AAAAAAAAAAAAAAAAAAAAAAAAAAAAAAAAAAAAAAAAAAA=","time":3,"type":"argon2id"},"key_size":64,"type":"luks2"}},"segments":{"0":{"encryption":"aes-xts-plain64","iv_tweak":"0","offset":"16777216","sector_size":512,"size":"dynamic","type":"crypt"}},"tokens":{"5":{"keyslots":["0"],"type":"luks2-keyring"}}}"#;
-
-/// The text with its first `old` replaced.
-pub fn edited(alloc: Global, text: &str, old: &str, new: &str) -> Result<String, AllocError> {
-    let Some((before, after)) = text.split_once(old) else {
-        return String::from_str(alloc, "no such text");
-    };
-    let mut edited = String::from_str(alloc, before)?;
-    edited.push_str(new)?;
-    edited.push_str(after)?;
-    Ok(edited)
-}
+/// `PLAIN` with an Argon2 keyslot, and a token of number 5.
+pub const ARGON2: &str = concat!(
+    r#"{"config":{"json_size":"12288","keyslots_size":"16744448"},"#,
+    r#""digests":{"0":{"digest":"AAAAAAAAAAAAAAAAAAAAAAAAAAAAAAAAAAAAAAAAAAA=","hash":"sha256","#,
+    r#""iterations":1000,"keyslots":["0"],"salt":"AAAAAAAAAAAAAAAAAAAAAAAAAAAAAAAAAAAAAAAAAAA=","#,
+    r#""segments":["0"],"type":"pbkdf2"}},"keyslots":{"0":{"af":{"hash":"sha256","stripes":4000,"#,
+    r#""type":"luks1"},"area":{"encryption":"aes-xts-plain64","key_size":64,"offset":"32768","#,
+    r#""size":"258048","type":"raw"},"kdf":{"cpus":4,"memory":65536,"#,
+    r#""salt":"AAAAAAAAAAAAAAAAAAAAAAAAAAAAAAAAAAAAAAAAAAA=","time":3,"type":"argon2id"},"key_size":64,"#,
+    r#""type":"luks2"}},"segments":{"0":{"encryption":"aes-xts-plain64","iv_tweak":"0","#,
+    r#""offset":"16777216","sector_size":512,"size":"dynamic","type":"crypt"}},"#,
+    r#""tokens":{"5":{"keyslots":["0"],"type":"luks2-keyring"}}}"#
+);
 
 /// A JSON area of `len` bytes that begins with the bytes, or as many as there are.
 pub fn area_of(alloc: Global, bytes: &[u8], len: usize) -> Result<Vec<u8>, AllocError>

@@ -1,5 +1,6 @@
 //! A keyslot's area of 4000 stripes.
 use luks_kdf::HashName;
+use luks_test_devices::{VOLUME_KEY, counted};
 use luks_xts::XtsKey;
 use std::alloc::Global;
 use std::test::Fail;
@@ -12,22 +13,12 @@ const AREA_KEY: [u8; 64] = [
     0x53, 0x92, 0xa7, 0xba, 0xbf, 0x7b, 0x3c, 0x38, 0xb8, 0x1e, 0x36, 0xfb, 0x4c, 0x21, 0x9c, 0x48,
 ];
 
-/// Numbers the bytes from 0 on, modulo 251.
-fn count(bytes: &mut [u8]) {
-    for (i, byte) in bytes.iter_mut().enumerate() {
-        *byte = (i % 251) as u8;
-    }
-}
-
 /// The volume key split into 4000 stripes and encrypted. Byte i of the stripes but the last is i
 /// modulo 251.
 pub fn key_area(alloc: Global) -> Result<Vec<u8>, Fail> {
-    let mut random = vec![in alloc; 0u8; 255936]?;
-    count(&mut random);
-    let mut key = [0; 64];
-    count(&mut key);
+    let random = counted(alloc, 0, 255936)?;
     let mut area = vec![in alloc; 0u8; 256000]?;
-    HashName::Sha256.split(&mut area, &key, &random);
+    HashName::Sha256.split(&mut area, &VOLUME_KEY, &random);
     if let Some(cipher) = XtsKey::new(&AREA_KEY) {
         seal(&cipher, &mut area);
     }

@@ -31,8 +31,6 @@ mod reading;
 #[cfg(test)]
 mod refused_memory;
 #[cfg(test)]
-mod shapes;
-#[cfg(test)]
 mod show_json;
 #[cfg(test)]
 mod show_luks1;

@@ -1,7 +1,6 @@
 //! Volumes whose metadata cryptsetup 2.6.1 wrote.
 use crate::printing::compare_header;
-use crate::shapes;
-use luks_samples::{CHECK, DETACHED, Fields, SHOW, copy_of, luks2};
+use luks_samples::{CHECK, DETACHED, Fields, SHOW, copy_of, luks2, shapes};
 use std::test::Fail;
 
 /// Metadata with the length of its volume, the fields of its copies, and what is printed by `check`,

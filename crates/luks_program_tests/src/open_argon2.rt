@@ -2,7 +2,7 @@
 use crate::printing::run;
 use luks_samples::{
     ARGON2I_1, ARGON2ID_0, Edit, OPEN, OPEN_0, OPEN_2, STRIPE_BY_ARGON2I, STRIPE_BY_ARGON2ID,
-    opening_luks2, put,
+    opening_luks2, put_front,
 };
 use luks_volume::{MemDevice, OpenFault, open_slot, unlock};
 use std::alloc::Global;
@@ -100,8 +100,8 @@ static ROWS: &[Row] = &[
 /// The volume of an Argon2id, an Argon2i and a PBKDF2 keyslot of one key.
 fn image(alloc: Global, edits: &[Edit]) -> Result<MemDevice, Fail> {
     let mut image = opening_luks2(alloc, edits)?;
-    put(&mut image, 32768, &STRIPE_BY_ARGON2ID);
-    put(&mut image, 36864, &STRIPE_BY_ARGON2I);
+    put_front(&mut image, 32768, &STRIPE_BY_ARGON2ID);
+    put_front(&mut image, 36864, &STRIPE_BY_ARGON2I);
     Ok(MemDevice::new(image))
 }
 

@@ -3,7 +3,7 @@ use crate::keys::key_area;
 use crate::printing::{Row, compare};
 use luks_samples::{
     Change, MK_DIGEST, MK_DIGEST_BY_SHA512, OPEN, OPEN_0, OPEN_1, OPEN_3, STRIPE_BY_SHA512, is_sum,
-    luks1, opening_luks1, overwrite, put,
+    luks1, opening_luks1, overwrite, put_front,
 };
 use std::alloc::Global;
 use std::test::Fail;
@@ -11,11 +11,11 @@ use std::test::Fail;
 /// The LUKS1 volume whose keyslot 0 opens by the passphrase `one`, of 4000 stripes.
 fn volume(alloc: Global) -> Result<Vec<u8>, Fail> {
     let mut image = luks1(alloc)?;
-    put(&mut image, 112, &MK_DIGEST);
-    put(&mut image, 132, &[0x22; 32]);
-    put(&mut image, 208, &[0, 0xAC, 0x71, 0xF3, 0, 0, 3, 0xE8]);
-    put(&mut image, 216, &[0x11; 32]);
-    put(&mut image, 4096, key_area(alloc)?.as_slice());
+    put_front(&mut image, 112, &MK_DIGEST);
+    put_front(&mut image, 132, &[0x22; 32]);
+    put_front(&mut image, 208, &[0, 0xAC, 0x71, 0xF3, 0, 0, 3, 0xE8]);
+    put_front(&mut image, 216, &[0x11; 32]);
+    put_front(&mut image, 4096, key_area(alloc)?.as_slice());
     Ok(image)
 }
 

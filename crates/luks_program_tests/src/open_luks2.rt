@@ -3,7 +3,7 @@ use crate::keys::key_area;
 use crate::printing::{Row, compare};
 use luks_samples::{
     Change, Edit, OPEN, OPEN_0, OPEN_1, OPEN_2, OPEN_3, STRIPE_BY_SHA512, is_sum, opening_luks2,
-    overwrite, put, zeros_luks2,
+    overwrite, put_front, zeros_luks2,
 };
 use std::test::Fail;
 
@@ -212,7 +212,7 @@ fn keyslots_of_two_hashes(rt: HostRuntime) -> Result<(), Fail> {
         status: 1,
     };
     compare(&rt, rt.alloc(), &image, &row)?;
-    put(&mut image, 36864, &STRIPE_BY_SHA512);
+    put_front(&mut image, 36864, &STRIPE_BY_SHA512);
     for (words, want) in [(OPEN_0, "slot 0 opens\n"), (OPEN_1, "slot 1 opens\n")] {
         let row = Row {
             words,
@@ -241,7 +241,7 @@ pub const OF_4000_STRIPES: [Edit; 2] = [
 #[test]
 fn keyslot_of_4000_stripes(rt: HostRuntime) -> Result<(), Fail> {
     let mut image = zeros_luks2(rt.alloc(), &OF_4000_STRIPES, 16777728)?;
-    put(&mut image, 32768, key_area(rt.alloc())?.as_slice());
+    put_front(&mut image, 32768, key_area(rt.alloc())?.as_slice());
     let want = "8c544018da0b9c80ce33cd4588d06f64cd2a3f068a3cb93a066f4f73dec03088";
     assert!(rt; is_sum(&image, want), "the sum");
     let row = Row {

@@ -9,7 +9,7 @@ use luks_area::DeviceFault;
 use luks_cli::InputFault;
 use luks_samples::{
     CHECK, DETACHED, Edit, Fields, OPEN, OPEN_0, THREE, ZEROS, copy_of, edited, luks2,
-    opening_luks1, opening_luks2, put, zeros_luks2,
+    opening_luks1, opening_luks2, put_front, zeros_luks2,
 };
 use luks_volume::{Device, MemDevice};
 use std::alloc::Global;
@@ -258,7 +258,7 @@ fn larger_header(rt: HostRuntime) -> Result<(), Fail> {
 fn second_copy_alone(rt: HostRuntime) -> Result<(), Fail> {
     let copy = copy_of(ZEROS);
     let mut image = luks2(rt.alloc(), &copy, &copy, 8388608)?;
-    put(&mut image, 0, b"X");
+    put_front(&mut image, 0, b"X");
     let row = Row {
         header: 8388608,
         area: (0, 0),
@@ -274,7 +274,7 @@ fn second_copy_alone(rt: HostRuntime) -> Result<(), Fail> {
 #[test]
 fn payload_is_not_read(rt: HostRuntime) -> Result<(), Fail> {
     let mut image = zeros_luks2(rt.alloc(), &OF_4000_STRIPES, PAYLOAD)?;
-    put(&mut image, 32768, key_area(rt.alloc())?.as_slice());
+    put_front(&mut image, 32768, key_area(rt.alloc())?.as_slice());
     let all = Row {
         header: PAYLOAD as u64,
         area: (0, 0),

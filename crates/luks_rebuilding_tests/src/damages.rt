@@ -1,24 +1,16 @@
 //! What is made of damaged volumes, byte for byte, and what is refused.
 use crate::rows::{REFUSALS, ROWS, Row};
-use crate::sources::old_bytes;
 use luks_area::MemDevice;
 use luks_reading::{Data, check};
 use luks_rebuilding::{RebuildFault, Which, rebuild};
-use luks_test_devices::{counted, is_sum, part, put, two_hashes};
+use luks_test_devices::{counted, is_sum, old_bytes, part, put_all, two_hashes};
 use std::alloc::Global;
 use std::test::Fail;
 
 /// The source of a row.
 fn source_of(alloc: Global, row: &Row) -> Result<Vec<u8>, Fail> {
     let mut volume = two_hashes(alloc)?;
-    for (at, byte, count) in row.runs {
-        for i in 0..*count {
-            put(&mut volume, at.wrapping_add(i), &[*byte]);
-        }
-    }
-    for (at, bytes) in row.changes {
-        put(&mut volume, *at, *bytes);
-    }
+    put_all(&mut volume, row.runs, row.changes);
     Ok(part(&volume, 0, row.source).to_vec(alloc)?)
 }
 

@@ -1,8 +1,8 @@
 //! Rebuilding on devices of which each call fails in turn.
-use crate::sources::{LEN, RANDOM, damaged, old_bytes};
+use crate::sources::{LEN, RANDOM};
 use luks_area::{Device, FaultyDevice, Leave, MemDevice};
 use luks_rebuilding::{RebuildFault, Which, rebuild};
-use luks_test_devices::{counted, part};
+use luks_test_devices::{counted, damaged, old_bytes, part};
 use std::alloc::Global;
 use std::process::Abort;
 use std::test::Fail;

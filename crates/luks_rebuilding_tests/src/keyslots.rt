@@ -1,9 +1,9 @@
 //! What opens by the header that is made, and what is found before it is made.
-use crate::sources::{LEN, RANDOM, damaged, old_bytes};
+use crate::sources::{LEN, RANDOM};
 use luks_area::MemDevice;
 use luks_reading::{OpenFault, open_slot};
 use luks_rebuilding::{Which, find_candidate, rebuild};
-use luks_test_devices::{VOLUME_KEY, counted};
+use luks_test_devices::{VOLUME_KEY, counted, damaged, old_bytes};
 use std::alloc::Global;
 use std::test::Fail;
 

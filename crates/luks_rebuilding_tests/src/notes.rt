@@ -1,9 +1,8 @@
 //! What is said of metadata that is whole.
-use crate::sources::damaged;
 use luks_area::MemDevice;
 use luks_metadata_notes::{note_taken, note_whole};
 use luks_rebuilding::Which;
-use luks_test_devices::{put, two_hashes};
+use luks_test_devices::{damaged, put, two_hashes};
 use std::alloc::{AllocError, Global};
 use std::test::Fail;
 

@@ -1,8 +1,8 @@
 //! Rebuilding with refused memory.
-use crate::sources::{LEN, RANDOM, damaged, old_bytes};
+use crate::sources::{LEN, RANDOM};
 use luks_area::MemDevice;
 use luks_rebuilding::{RebuildFault, Which, rebuild};
-use luks_test_devices::{BLOCKS, TakenMemory, counted};
+use luks_test_devices::{BLOCKS, TakenMemory, counted, damaged, old_bytes};
 use std::alloc::Global;
 use std::test::Fail;
 

@@ -8,8 +8,9 @@ const UUID: &[u8] = b"00000000-0000-4000-8000-000000000000";
 /// A place and what is written over the bytes from there on.
 pub type Change = (usize, &'static [u8]);
 
-/// Writes `from` over the bytes from `at` on, as far as they reach.
-pub fn put(image: &mut [u8], at: usize, from: &[u8]) {
+/// Writes `from` over the bytes from `at` on, as far as they reach: where the image ends before, its
+/// front alone.
+pub fn put_front(image: &mut [u8], at: usize, from: &[u8]) {
     for (i, byte) in from.iter().enumerate() {
         if let Some(place) = image.get_mut(at.wrapping_add(i)) {
             *place = *byte;
@@ -20,7 +21,7 @@ pub fn put(image: &mut [u8], at: usize, from: &[u8]) {
 /// Makes the changes in turn.
 pub fn overwrite(image: &mut [u8], changes: &[Change]) {
     for (at, bytes) in changes.iter() {
-        put(image, *at, *bytes);
+        put_front(image, *at, *bytes);
     }
 }
 
@@ -34,17 +35,17 @@ const OFFSETS: [u32; 8] = [8, 512, 1016, 1520, 2024, 2528, 3032, 3536];
 /// 4000 stripes in each, the payload from sector 4096 on.
 pub fn luks1(alloc: Global) -> Result<Vec<u8>, AllocError> {
     let mut image = vec![in alloc; 0u8; LUKS1]?;
-    put(&mut image, 0, b"LUKS\xBA\xBE\x00\x01aes");
-    put(&mut image, 40, b"xts-plain64");
-    put(&mut image, 72, b"sha256");
-    put(&mut image, 104, &[0, 0, 0x10, 0, 0, 0, 0, 64]);
-    put(&mut image, 164, &[0, 0, 3, 0xE8]);
-    put(&mut image, 168, UUID);
+    put_front(&mut image, 0, b"LUKS\xBA\xBE\x00\x01aes");
+    put_front(&mut image, 40, b"xts-plain64");
+    put_front(&mut image, 72, b"sha256");
+    put_front(&mut image, 104, &[0, 0, 0x10, 0, 0, 0, 0, 64]);
+    put_front(&mut image, 164, &[0, 0, 3, 0xE8]);
+    put_front(&mut image, 168, UUID);
     for (n, offset) in OFFSETS.iter().enumerate() {
         let at = n.wrapping_mul(48).wrapping_add(208);
-        put(&mut image, at, &[0, 0, 0xDE, 0xAD]);
-        put(&mut image, at.wrapping_add(40), &offset.to_be_bytes());
-        put(&mut image, at.wrapping_add(44), &[0, 0, 0x0F, 0xA0]);
+        put_front(&mut image, at, &[0, 0, 0xDE, 0xAD]);
+        put_front(&mut image, at.wrapping_add(40), &offset.to_be_bytes());
+        put_front(&mut image, at.wrapping_add(44), &[0, 0, 0x0F, 0xA0]);
     }
     Ok(image)
 }
@@ -94,19 +95,19 @@ pub fn put_copy(image: &mut [u8], at: u32, fields: &Fields<'_>) {
     } else {
         b"SKUL\xBA\xBE"
     };
-    put(image, place, magic);
-    put(image, place.wrapping_add(7), &[2]);
-    put(image, place.wrapping_add(12), &fields.size.to_be_bytes());
-    put(image, place.wrapping_add(16), &fields.seqid.to_be_bytes());
-    put(image, place.wrapping_add(24), fields.label);
-    put(image, place.wrapping_add(72), b"sha256");
-    put(image, place.wrapping_add(168), fields.uuid);
-    put(image, place.wrapping_add(208), fields.subsystem);
-    put(image, place.wrapping_add(260), &at.to_be_bytes());
-    put(image, place.wrapping_add(4096), fields.text.as_bytes());
+    put_front(image, place, magic);
+    put_front(image, place.wrapping_add(7), &[2]);
+    put_front(image, place.wrapping_add(12), &fields.size.to_be_bytes());
+    put_front(image, place.wrapping_add(16), &fields.seqid.to_be_bytes());
+    put_front(image, place.wrapping_add(24), fields.label);
+    put_front(image, place.wrapping_add(72), b"sha256");
+    put_front(image, place.wrapping_add(168), fields.uuid);
+    put_front(image, place.wrapping_add(208), fields.subsystem);
+    put_front(image, place.wrapping_add(260), &at.to_be_bytes());
+    put_front(image, place.wrapping_add(4096), fields.text.as_bytes());
     if let Some(copy) = image.get(place..place.wrapping_add(fields.size as usize)) {
         let digest = Sha256::digest(copy);
-        put(image, place.wrapping_add(448), &digest);
+        put_front(image, place.wrapping_add(448), &digest);
     }
 }
 
@@ -166,12 +167,12 @@ pub const MK_DIGEST_BY_SHA512: [u8; 20] = [
 /// The LUKS1 volume with its keyslot 0 in use, of one stripe, which opens by the passphrase `one`.
 pub fn opening_luks1(alloc: Global) -> Result<Vec<u8>, AllocError> {
     let mut image = luks1(alloc)?;
-    put(&mut image, 112, &MK_DIGEST);
-    put(&mut image, 132, &[0x22; 32]);
-    put(&mut image, 208, &[0, 0xAC, 0x71, 0xF3, 0, 0, 3, 0xE8]);
-    put(&mut image, 216, &[0x11; 32]);
-    put(&mut image, 252, &[0, 0, 0, 1]);
-    put(&mut image, 4096, &STRIPE);
+    put_front(&mut image, 112, &MK_DIGEST);
+    put_front(&mut image, 132, &[0x22; 32]);
+    put_front(&mut image, 208, &[0, 0xAC, 0x71, 0xF3, 0, 0, 3, 0xE8]);
+    put_front(&mut image, 216, &[0x11; 32]);
+    put_front(&mut image, 252, &[0, 0, 0, 1]);
+    put_front(&mut image, 4096, &STRIPE);
     Ok(image)
 }
 
@@ -188,7 +189,7 @@ pub fn opening_luks2(alloc: Global, edits: &[Edit]) -> Result<Vec<u8>, AllocErro
 /// Puts the key areas of the three keyslots that open by the passphrase `one`.
 fn put_stripes(image: &mut [u8]) {
     for at in [32768, 36864, 40960] {
-        put(image, at, &STRIPE);
+        put_front(image, at, &STRIPE);
     }
 }
 

@@ -1,14 +1,13 @@
-//! SHA-256 as text.
-use sha2::{Digest, Sha256};
+//! Bytes as texts of hexadecimal digits.
 
-/// Whether this text of hexadecimal digits is the SHA-256 of the bytes.
-pub fn is_sum(bytes: &[u8], want: &str) -> bool {
-    let mut left = want.as_bytes();
-    for byte in Sha256::digest(bytes) {
+/// Whether the text is that of the bytes, in lower case, two digits a byte.
+pub fn is_hex(bytes: &[u8], text: &str) -> bool {
+    let mut left = text.as_bytes();
+    for byte in bytes {
         let [high, low, later @ ..] = left else {
             return false;
         };
-        if *high != digit(byte / 16) || *low != digit(byte % 16) {
+        if *high != hex_digit(byte / 16) || *low != hex_digit(byte % 16) {
             return false;
         }
         left = later;
@@ -16,7 +15,8 @@ pub fn is_sum(bytes: &[u8], want: &str) -> bool {
     left.is_empty()
 }
 
-fn digit(value: u8) -> u8 {
+/// The digit of a value below 16, in lower case.
+pub fn hex_digit(value: u8) -> u8 {
     if value < 10 {
         value.wrapping_add(b'0')
     } else {

@@ -24,7 +24,8 @@ pub fn stream(alloc: Global, from: u32, len: u32) -> Result<Vec<u8>, AllocError>
     Ok(bytes)
 }
 
-fn stream_byte(i: u32) -> u8 {
+/// Byte i of that stream.
+pub fn stream_byte(i: u32) -> u8 {
     let x = i.wrapping_mul(0x9e3779b1);
     let [first, _, _, _] = (x ^ (x >> 15)).wrapping_mul(0x85ebca77).to_be_bytes();
     first

@@ -1,4 +1,5 @@
-//! Tests of Argon2 keyslots: beside cryptsetup, and where they are refused.
+//! Tests of keyslots, by PBKDF2 and by Argon2: beside cryptsetup, on devices that fail, and where they
+//! are refused.
 #![tactic(auto)]
 
 #[cfg(test)]
@@ -7,3 +8,5 @@ mod argon2_keyslots;
 mod conditions;
 #[cfg(test)]
 mod limits;
+#[cfg(test)]
+mod slots;

@@ -1,9 +1,10 @@
 //! Parts of volumes.
-ghost use Rattle.std.specs.Prelude.{◌≡◌, ◌+◌, ◌-◌, ◌<◌, ◌≤◌, [], length, replicate};
+ghost use Rattle.std.specs.Prelude.{◌≡◌, ◌+◌, ◌-◌, ◌<◌, ◌≤◌, [], IfOk, length, replicate};
 ghost use Rattle.luks_area.specs.Faulty.{left_behind};
 ghost use Rattle.luks_area.specs.Ranges.{part, written};
 
 use luks_area::Leave;
+use std::alloc::{AllocError, Global};
 
 /// The bytes of the volume from one place up to another; none where it ends before.
 pub fn part(volume: &[u8], from: usize, to: usize) -> &[u8]
@@ -55,4 +56,28 @@ pub(crate) fn put_ones(volume: &mut [u8], at: usize, len: usize)
     for i in 0..len {
         put(volume, at + i, &[0xFF]);
     }
+}
+
+/// Writes the runs of equal bytes, each given by its place, the byte and how many they are, and then
+/// the changes, each over the bytes from its place on.
+pub fn put_all(volume: &mut [u8], runs: &[(usize, u8, usize)], changes: &[(usize, &[u8])]) {
+    for (at, byte, count) in runs {
+        put_run(volume, *at, *byte, *count);
+    }
+    for (at, bytes) in changes {
+        put(volume, *at, *bytes);
+    }
+}
+
+fn put_run(volume: &mut [u8], at: usize, byte: u8, count: usize) {
+    for i in 0..count {
+        put(volume, at.wrapping_add(i), &[byte]);
+    }
+}
+
+/// So many bytes 0x55, which a target has before.
+pub fn old_bytes(alloc: Global, len: usize) -> Result<Vec<u8>, AllocError>
+    ensures { IfOk result (λ bytes. length bytes.items ≡ len) }
+{
+    vec![in alloc; 0x55u8; len]
 }

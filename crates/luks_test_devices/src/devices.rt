@@ -1,7 +1,9 @@
 //! Devices of the tests.
 ghost use Rattle.std.specs.Prelude.{◌<◌, ◌^◌};
 
+use crate::bytes::old_bytes;
 use luks_area::{Device, DeviceFault, MemDevice};
+use std::alloc::{AllocError, Global};
 
 /// A disk of which the front alone is kept: bytes beyond it are zeros, a write that reaches beyond it
 /// is only counted, and no call fails.
@@ -62,6 +64,23 @@ impl Device for Front {
     ghost bounded = { λ d. d.fits };
 }
 
+/// The bytes of a target that are kept: those of a small volume are all written before them.
+pub const KEPT: usize = 98304;
+
+/// A disk of so many bytes, of which these alone are kept.
+pub fn front_of(bytes: Vec<u8>, len: u64) -> Front {
+    Front {
+        front: MemDevice::new(bytes),
+        len,
+        beyond: 0,
+    }
+}
+
+/// A target of so many bytes, of which the first alone are kept.
+pub fn target(alloc: Global, len: u64) -> Result<Front, AllocError> {
+    Ok(front_of(old_bytes(alloc, KEPT)?, len))
+}
+
 /// A call of a device.
 #[derive(Debug, Clone, Copy, PartialEq, Eq)]
 pub enum Call {
@@ -69,6 +88,16 @@ pub enum Call {
     /// A write from the place `at` on, of so many bytes.
     Write { at: usize, len: usize },
     Flush,
+}
+
+impl Call {
+    /// The place and the length of what it writes; of another call zeros.
+    pub fn range(self) -> (usize, usize) {
+        match self {
+            Call::Write { at, len } => (at, len),
+            Call::Read | Call::Flush => (0, 0),
+        }
+    }
 }
 
 /// A device that keeps a list of its calls, and passes them on.

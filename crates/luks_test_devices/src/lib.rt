@@ -12,11 +12,11 @@ mod memory;
 mod sealed;
 mod sums;
 
-pub use bytes::{leave_behind, part, put};
-pub use devices::{Call, Front, Recording};
+pub use bytes::{leave_behind, old_bytes, part, put, put_all};
+pub use devices::{Call, Front, KEPT, Recording, front_of, target};
 pub use losing::{LosingDevice, Loss};
-pub use luks1_volumes::small1;
-pub use luks2_volumes::{Fields, TEXT, UUID, copy_of, small2, two_hashes, two_keyslots};
+pub use luks1_volumes::{ENABLED, LARGE, large_areas, small1};
+pub use luks2_volumes::{Fields, TEXT, UUID, copy_of, damaged, small2, two_hashes, two_keyslots};
 pub use memory::{BLOCKS, TakenMemory};
 pub use sealed::{VOLUME_KEY, key_area};
 pub use sums::{counted, is_sum};

@@ -13,16 +13,42 @@ pub const UUID: &[u8] = b"00000000-0000-4000-8000-000000000000";
 /// The metadata by SHA-1 of one keyslot of 40 stripes, whose area is the first of eight of 4096 bytes,
 /// with data from 65536 on. The digest is PBKDF2 of the volume key with 32 bytes 0x22, by 1000
 /// iterations.
-const SHA1: &str =
-    r#"{"config":{"json_size":"12288","keyslots_size":"32768"},"digests":{"0":{"digest":"132QRNuL4ZHE4MgiSqwO0ihmc/M=","hash":"sha1","iterations":1000,"keyslots":["0"],"salt":"IiIiIiIiIiIiIiIiIiIiIiIiIiIiIiIiIiIiIiIiIiI=","segments":["0"],"type":"pbkdf2"}},"keyslots":{"0":{"af":{"hash":"sha1","stripes":40,"type":"luks1"},"area":{"encryption":"aes-xts-plain64","key_size":64,"offset":"32768","size":"4096","type":"raw"},"kdf":{"hash":"sha1","iterations":1000,"salt":"ERERERERERERERERERERERERERERERERERERERERERE=","type":"pbkdf2"},"key_size":64,"type":"luks2"}},"segments":{"0":{"encryption":"aes-xts-plain64","iv_tweak":"0","offset":"65536","sector_size":512,"size":"dynamic","type":"crypt"}},"tokens":{}}"#;
+const SHA1: &str = concat!(
+    r#"{"config":{"json_size":"12288","keyslots_size":"32768"},"#,
+    r#""digests":{"0":{"digest":"132QRNuL4ZHE4MgiSqwO0ihmc/M=","hash":"sha1","iterations":1000,"#,
+    r#""keyslots":["0"],"salt":"IiIiIiIiIiIiIiIiIiIiIiIiIiIiIiIiIiIiIiIiIiI=","segments":["0"],"#,
+    r#""type":"pbkdf2"}},"keyslots":{"0":{"af":{"hash":"sha1","stripes":40,"type":"luks1"},"#,
+    r#""area":{"encryption":"aes-xts-plain64","key_size":64,"offset":"32768","size":"4096","type":"raw"},"#,
+    r#""kdf":{"hash":"sha1","iterations":1000,"salt":"ERERERERERERERERERERERERERERERERERERERERERE=","#,
+    r#""type":"pbkdf2"},"key_size":64,"type":"luks2"}},"segments":{"0":{"encryption":"aes-xts-plain64","#,
+    r#""iv_tweak":"0","offset":"65536","sector_size":512,"size":"dynamic","type":"crypt"}},"tokens":{}}"#
+);
 
 /// The same by SHA-256.
-pub const TEXT: &str =
-    r#"{"config":{"json_size":"12288","keyslots_size":"32768"},"digests":{"0":{"digest":"r0tW0F0ITOoPYBUmFjGzXZTVowAGtTYAjvCjGDabwpo=","hash":"sha256","iterations":1000,"keyslots":["0"],"salt":"IiIiIiIiIiIiIiIiIiIiIiIiIiIiIiIiIiIiIiIiIiI=","segments":["0"],"type":"pbkdf2"}},"keyslots":{"0":{"af":{"hash":"sha256","stripes":40,"type":"luks1"},"area":{"encryption":"aes-xts-plain64","key_size":64,"offset":"32768","size":"4096","type":"raw"},"kdf":{"hash":"sha256","iterations":1000,"salt":"ERERERERERERERERERERERERERERERERERERERERERE=","type":"pbkdf2"},"key_size":64,"type":"luks2"}},"segments":{"0":{"encryption":"aes-xts-plain64","iv_tweak":"0","offset":"65536","sector_size":512,"size":"dynamic","type":"crypt"}},"tokens":{}}"#;
+pub const TEXT: &str = concat!(
+    r#"{"config":{"json_size":"12288","keyslots_size":"32768"},"#,
+    r#""digests":{"0":{"digest":"r0tW0F0ITOoPYBUmFjGzXZTVowAGtTYAjvCjGDabwpo=","hash":"sha256","#,
+    r#""iterations":1000,"keyslots":["0"],"salt":"IiIiIiIiIiIiIiIiIiIiIiIiIiIiIiIiIiIiIiIiIiI=","#,
+    r#""segments":["0"],"type":"pbkdf2"}},"keyslots":{"0":{"af":{"hash":"sha256","stripes":40,"#,
+    r#""type":"luks1"},"area":{"encryption":"aes-xts-plain64","key_size":64,"offset":"32768","#,
+    r#""size":"4096","type":"raw"},"kdf":{"hash":"sha256","iterations":1000,"#,
+    r#""salt":"ERERERERERERERERERERERERERERERERERERERERERE=","type":"pbkdf2"},"key_size":64,"#,
+    r#""type":"luks2"}},"segments":{"0":{"encryption":"aes-xts-plain64","iv_tweak":"0","offset":"65536","#,
+    r#""sector_size":512,"size":"dynamic","type":"crypt"}},"tokens":{}}"#
+);
 
 /// The same by SHA-512.
-const SHA512: &str =
-    r#"{"config":{"json_size":"12288","keyslots_size":"32768"},"digests":{"0":{"digest":"elWX7m2TdJO854yMGPJGGk2xh+ztWZ/2TbHPYmWgWz2Dt6jBWTjmMIVGXAAOE3K0KCNlYpnZEZzaSNYB2ZPacw==","hash":"sha512","iterations":1000,"keyslots":["0"],"salt":"IiIiIiIiIiIiIiIiIiIiIiIiIiIiIiIiIiIiIiIiIiI=","segments":["0"],"type":"pbkdf2"}},"keyslots":{"0":{"af":{"hash":"sha512","stripes":40,"type":"luks1"},"area":{"encryption":"aes-xts-plain64","key_size":64,"offset":"32768","size":"4096","type":"raw"},"kdf":{"hash":"sha512","iterations":1000,"salt":"ERERERERERERERERERERERERERERERERERERERERERE=","type":"pbkdf2"},"key_size":64,"type":"luks2"}},"segments":{"0":{"encryption":"aes-xts-plain64","iv_tweak":"0","offset":"65536","sector_size":512,"size":"dynamic","type":"crypt"}},"tokens":{}}"#;
+const SHA512: &str = concat!(
+    r#"{"config":{"json_size":"12288","keyslots_size":"32768"},"#,
+    r#""digests":{"0":{"digest":"elWX7m2TdJO854yMGPJGGk2xh+ztWZ/2TbHPYmWgWz2Dt6jBWTjmMIVGXAAOE3K0KCNlYpnZ"#,
+    r#"EZzaSNYB2ZPacw==","hash":"sha512","iterations":1000,"keyslots":["0"],"#,
+    r#""salt":"IiIiIiIiIiIiIiIiIiIiIiIiIiIiIiIiIiIiIiIiIiI=","segments":["0"],"type":"pbkdf2"}},"#,
+    r#""keyslots":{"0":{"af":{"hash":"sha512","stripes":40,"type":"luks1"},"#,
+    r#""area":{"encryption":"aes-xts-plain64","key_size":64,"offset":"32768","size":"4096","type":"raw"},"#,
+    r#""kdf":{"hash":"sha512","iterations":1000,"salt":"ERERERERERERERERERERERERERERERERERERERERERE=","#,
+    r#""type":"pbkdf2"},"key_size":64,"type":"luks2"}},"segments":{"0":{"encryption":"aes-xts-plain64","#,
+    r#""iv_tweak":"0","offset":"65536","sector_size":512,"size":"dynamic","type":"crypt"}},"tokens":{}}"#
+);
 
 /// The fields of a copy of a LUKS2 header that differ among the volumes of the tests.
 #[derive(Debug, Clone, Copy)]
@@ -128,7 +154,13 @@ const SECOND: [(&str, &str); 2] = [
     (r#""keyslots":["0"]"#, r#""keyslots":["0","1"]"#),
     (
         r#"},"segments":{"#,
-        r#","1":{"af":{"hash":"sha256","stripes":40,"type":"luks1"},"area":{"encryption":"aes-xts-plain64","key_size":64,"offset":"36864","size":"4096","type":"raw"},"kdf":{"hash":"sha256","iterations":1000,"salt":"ERERERERERERERERERERERERERERERERERERERERERE=","type":"pbkdf2"},"key_size":64,"type":"luks2"}},"segments":{"#,
+        concat!(
+            r#","1":{"af":{"hash":"sha256","stripes":40,"type":"luks1"},"#,
+            r#""area":{"encryption":"aes-xts-plain64","key_size":64,"offset":"36864","size":"4096","#,
+            r#""type":"raw"},"kdf":{"hash":"sha256","iterations":1000,"#,
+            r#""salt":"ERERERERERERERERERERERERERERERERERERERERERE=","type":"pbkdf2"},"key_size":64,"#,
+            r#""type":"luks2"}},"segments":{"#
+        ),
     ),
 ];
 
@@ -137,7 +169,13 @@ const SECOND_BY_SHA512: [(&str, &str); 2] = [
     (r#""keyslots":["0"]"#, r#""keyslots":["0","1"]"#),
     (
         r#"},"segments":{"#,
-        r#","1":{"af":{"hash":"sha512","stripes":40,"type":"luks1"},"area":{"encryption":"aes-xts-plain64","key_size":64,"offset":"36864","size":"4096","type":"raw"},"kdf":{"hash":"sha512","iterations":1000,"salt":"ERERERERERERERERERERERERERERERERERERERERERE=","type":"pbkdf2"},"key_size":64,"type":"luks2"}},"segments":{"#,
+        concat!(
+            r#","1":{"af":{"hash":"sha512","stripes":40,"type":"luks1"},"#,
+            r#""area":{"encryption":"aes-xts-plain64","key_size":64,"offset":"36864","size":"4096","#,
+            r#""type":"raw"},"kdf":{"hash":"sha512","iterations":1000,"#,
+            r#""salt":"ERERERERERERERERERERERERERERERERERERERERERE=","type":"pbkdf2"},"key_size":64,"#,
+            r#""type":"luks2"}},"segments":{"#
+        ),
     ),
 ];
 
@@ -158,5 +196,15 @@ pub fn two_hashes(alloc: Global) -> Result<Vec<u8>, AllocError>
     let mut volume = volume_of(alloc, HashName::Sha256, TEXT, &SECOND_BY_SHA512)?;
     let area = key_area(alloc, HashName::Sha512, b"two")?;
     put(&mut volume, 36864, &area);
+    Ok(volume)
+}
+
+/// That volume with a bit of both binary headers turned over: nothing counts.
+pub fn damaged(alloc: Global) -> Result<Vec<u8>, AllocError>
+    ensures { IfOk result (λ volume. length volume.items ≡ 66048) }
+{
+    let mut volume = two_hashes(alloc)?;
+    put(&mut volume, 104, &[1]);
+    put(&mut volume, 16488, &[1]);
     Ok(volume)
 }

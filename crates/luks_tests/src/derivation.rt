@@ -1,8 +1,8 @@
 //! HMAC and PBKDF2.
 ghost use Rattle.std.specs.Prelude.{◌≤◌};
 
-use crate::hexadecimal::is_hex;
 use luks_kdf::{HashName, Sha1Fn, Sha256Fn, Sha512Fn, hmac, pbkdf2};
+use luks_samples::is_hex;
 use sha1::Sha1;
 use sha2::{Digest, Sha256, Sha512};
 
@@ -168,8 +168,10 @@ fn is_derived(hash: HashName, password: &[u8], salt: &[u8], iterations: u32, wan
     }
 }
 
-const SEVEN_BLOCKS: &str =
-    "6b4e26125c25cf21ae35ead955f479ea2e71f6ff9e400029f04810eece31355533bb2ed348e604da707cc4562f85fe120c5c3f28ae007805d5e5fa11c0aa19fbfd399d4346298c4d98ad3f7af428400a1c420c887a81f168d3ae12d89112f6e7f205b7f3c8a327fc5b033ca15fbe4898095b7fe19a5f1146b446222642381029";
+const SEVEN_BLOCKS: &str = "6b4e26125c25cf21ae35ead955f479ea2e71f6ff9e400029f04810eece313555\
+     33bb2ed348e604da707cc4562f85fe120c5c3f28ae007805d5e5fa11c0aa19fb\
+     fd399d4346298c4d98ad3f7af428400a1c420c887a81f168d3ae12d89112f6e7\
+     f205b7f3c8a327fc5b033ca15fbe4898095b7fe19a5f1146b446222642381029";
 
 /// 65 bytes by SHA-512.
 const TWO_BLOCKS: &str =

@@ -1,6 +1,5 @@
-//! Tests of the libraries below a volume: areas and devices, key derivation and the splitter,
-//! ciphers, headers, metadata and keyslots. They stand here so that those libraries aren't proved a
-//! second time for them.
+//! Tests of the libraries below a volume: areas and devices, key derivation and the splitter, ciphers
+//! and headers. They stand here so that those libraries aren't proved a second time for them.
 #![tactic(auto)]
 
 #[cfg(test)]
@@ -15,7 +14,5 @@ mod devices;
 mod headers;
 #[cfg(test)]
 mod hexadecimal;
-#[cfg(test)]
-mod slots;
 #[cfg(test)]
 mod splitter;

@@ -1,14 +1,16 @@
 //! The anti-forensic splitter.
 ghost use Rattle.std.specs.Prelude.{◌≡◌, ◌+◌, ◌%◌, ◌≤◌, length};
 
-use crate::hexadecimal::is_hex;
 use luks_kdf::{HashName, Merger, Sha256Fn, Splitter, merge, split, xor_into};
+use luks_samples::is_hex;
 
 const KEY: &[u8; 128] =
     b"0123456789abcdef0123456789ABCDEF0123456789ghijkl0123456789GHIJKL0123456789mnopqr0123456789MNOPQR0123456789stuvwx0123456789STUVWX";
 
 const RANDOM: &[u8; 256] =
-    b"The random stripes stand first, each as long as the key; the last stripe is what makes them hold it. The random stripes stand first, each as long as the key; the last stripe is what makes them hold it. The random stripes stand first, each as long as the ke";
+    b"The random stripes stand first, each as long as the key; the last stripe is what makes them hold it. The \
+      random stripes stand first, each as long as the key; the last stripe is what makes them hold it. The rand\
+      om stripes stand first, each as long as the ke";
 
 /// Whether the key is split into the random bytes and this last stripe, and merged again.
 fn goes_round(hash: HashName, out: &mut [u8], key: &[u8], random: &[u8], want: &str) -> bool
@@ -84,7 +86,10 @@ fn stripes_of_sha256(rt: HostRuntime) {
             &mut [0; 384],
             KEY,
             RANDOM,
-            "4c538a5a020cb64e0fa097d48596a60821ab05ce644d8a9a8295909849d3901eab9c448cbb3a1e4caea1bfe01f169cdcb21dfc20f95d69bbbca6e9148c6072f98c3e2723e380e9adcd6292904e9531d1bba7e8c518ecbc9ea35139f516e9286e9c56590a45aae63512b2c79101267292f0fe450a9142d7099205f336e098c9d5"
+            "4c538a5a020cb64e0fa097d48596a60821ab05ce644d8a9a8295909849d3901e\
+             ab9c448cbb3a1e4caea1bfe01f169cdcb21dfc20f95d69bbbca6e9148c6072f9\
+             8c3e2723e380e9adcd6292904e9531d1bba7e8c518ecbc9ea35139f516e9286e\
+             9c56590a45aae63512b2c79101267292f0fe450a9142d7099205f336e098c9d5"
         ),
         "128"
     );

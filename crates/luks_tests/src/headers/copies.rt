@@ -1,18 +1,18 @@
 //! Copies of LUKS2 headers, and which of them is chosen.
-use super::{UUID, put};
-use crate::hexadecimal::is_hex;
+use super::UUID;
 use luks_area::MemDevice;
 use luks_head::{Bin2, HeadFault, Selected, TextField, select};
+use luks_samples::{is_hex, put_front};
 use sha2::{Digest, Sha256};
 use std::alloc::{AllocError, Global};
 use std::test::Fail;
 
 /// Makes the checksum of a copy right: over all its bytes with those of the checksum as zeros.
 pub(super) fn sum(image: &mut [u8], at: usize, size: usize) {
-    put(image, at.wrapping_add(448), &[0; 64]);
+    put_front(image, at.wrapping_add(448), &[0; 64]);
     if let Some(copy) = image.get(at..at.wrapping_add(size)) {
         let digest = Sha256::digest(copy);
-        put(image, at.wrapping_add(448), &digest);
+        put_front(image, at.wrapping_add(448), &digest);
     }
 }
 
@@ -24,14 +24,14 @@ fn put_copy(image: &mut [u8], at: u32, size: u32, seqid: u8) {
     } else {
         b"SKUL\xBA\xBE"
     };
-    put(image, place, magic);
-    put(image, place.wrapping_add(6), &[0, 2, 0, 0, 0, 0]);
-    put(image, place.wrapping_add(12), &size.to_be_bytes());
-    put(image, place.wrapping_add(23), &[seqid]);
-    put(image, place.wrapping_add(72), b"sha256");
-    put(image, place.wrapping_add(168), UUID);
-    put(image, place.wrapping_add(260), &at.to_be_bytes());
-    put(image, place.wrapping_add(4096), b"{}");
+    put_front(image, place, magic);
+    put_front(image, place.wrapping_add(6), &[0, 2, 0, 0, 0, 0]);
+    put_front(image, place.wrapping_add(12), &size.to_be_bytes());
+    put_front(image, place.wrapping_add(23), &[seqid]);
+    put_front(image, place.wrapping_add(72), b"sha256");
+    put_front(image, place.wrapping_add(168), UUID);
+    put_front(image, place.wrapping_add(260), &at.to_be_bytes());
+    put_front(image, place.wrapping_add(4096), b"{}");
     sum(image, place, size as usize);
 }
 
@@ -126,7 +126,7 @@ fn passes_over_a_third_copy(rt: HostRuntime) -> Result<(), Fail> {
     let mut image = two_copies(rt.alloc(), 65536, 1, 1)?;
     put_copy(&mut image, 32768, 32768, 9);
     for (at, change, want) in IN_TURN {
-        put(&mut image, at, change);
+        put_front(&mut image, at, change);
         assert!(rt; chooses(rt.alloc(), &image, want)?, "{want}");
     }
     Ok(())
@@ -173,10 +173,10 @@ fn refuses_a_copy_out_of_place(rt: HostRuntime) -> Result<(), Fail> {
 /// The binary header of the second of two copies, with its fields filled.
 fn filled(alloc: Global) -> Result<Option<Bin2>, AllocError> {
     let mut image = two_copies(alloc, 32768, 1, 200)?;
-    put(&mut image, 16408, &[0xA1; 48]);
-    put(&mut image, 16488, &[0xB2; 64]);
-    put(&mut image, 16592, &[0xC3; 48]);
-    put(&mut image, 16832, &[0xD4; 64]);
+    put_front(&mut image, 16408, &[0xA1; 48]);
+    put_front(&mut image, 16488, &[0xB2; 64]);
+    put_front(&mut image, 16592, &[0xC3; 48]);
+    put_front(&mut image, 16832, &[0xD4; 64]);
     match image.get(16384..20480) {
         Some(bytes) if bytes.len() == 4096 => Ok(Some(Bin2::read(bytes))),
         _ => Ok(None),

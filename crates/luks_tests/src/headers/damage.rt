@@ -1,8 +1,8 @@
 //! Copies that are damaged, and reads that fail.
 use super::copies::{chooses, sum, two_copies};
-use super::put;
 use luks_area::{Device, FaultyDevice, Leave, MemDevice};
 use luks_head::{HeadFault, select};
+use luks_samples::put_front;
 use std::test::Fail;
 
 /// Places of the first copy at which another byte damages it.
@@ -14,7 +14,7 @@ const PLACES: [usize; 19] = [
 fn damages_the_first_copy(rt: HostRuntime) -> Result<(), Fail> {
     for place in PLACES {
         let mut image = two_copies(rt.alloc(), 32768, 1, 1)?;
-        put(&mut image, place, &[0xEE]);
+        put_front(&mut image, place, &[0xEE]);
         assert!(rt;
             chooses(rt.alloc(), &image, "SecondOnly 1 at 16384")?,
             "at {place}"
@@ -38,7 +38,7 @@ const SUMMED: [(usize, &[u8], &str); 7] = [
 fn sums_a_changed_copy(rt: HostRuntime) -> Result<(), Fail> {
     for (i, (at, change, want)) in SUMMED.into_iter().enumerate() {
         let mut image = two_copies(rt.alloc(), 32768, 1, 1)?;
-        put(&mut image, at, change);
+        put_front(&mut image, at, change);
         sum(&mut image, 0, 16384);
         assert!(rt; chooses(rt.alloc(), &image, want)?, "row {i}");
     }
@@ -49,7 +49,7 @@ fn sums_a_changed_copy(rt: HostRuntime) -> Result<(), Fail> {
 #[test]
 fn passes_over_the_rest_of_a_checksum(rt: HostRuntime) -> Result<(), Fail> {
     let mut image = two_copies(rt.alloc(), 32768, 1, 1)?;
-    put(&mut image, 480, &[0xEE; 32]);
+    put_front(&mut image, 480, &[0xEE; 32]);
     assert!(rt; chooses(rt.alloc(), &image, "InStep 1 at 0")?, "InStep");
     Ok(())
 }

@@ -1,6 +1,7 @@
 //! The LUKS1 header.
-use super::{UUID, put};
+use super::UUID;
 use luks_head::{HeadFault, IterationsOf, Luks1, SlotState};
+use luks_samples::put_front;
 use std::alloc::{AllocError, Global};
 use std::test::Fail;
 
@@ -11,18 +12,18 @@ const OFFSETS: [u32; 8] = [8, 512, 1016, 1520, 2024, 2528, 3032, 3536];
 /// keyslots free, 4000 stripes in each.
 fn header() -> [u8; 592] {
     let mut header = [0; 592];
-    put(&mut header, 0, b"LUKS\xBA\xBE\x00\x01");
-    put(&mut header, 8, b"aes");
-    put(&mut header, 40, b"xts-plain64");
-    put(&mut header, 72, b"sha256");
-    put(&mut header, 104, &[0, 0, 0x10, 0, 0, 0, 0, 64]);
-    put(&mut header, 164, &[0, 0, 3, 0xE8]);
-    put(&mut header, 168, UUID);
+    put_front(&mut header, 0, b"LUKS\xBA\xBE\x00\x01");
+    put_front(&mut header, 8, b"aes");
+    put_front(&mut header, 40, b"xts-plain64");
+    put_front(&mut header, 72, b"sha256");
+    put_front(&mut header, 104, &[0, 0, 0x10, 0, 0, 0, 0, 64]);
+    put_front(&mut header, 164, &[0, 0, 3, 0xE8]);
+    put_front(&mut header, 168, UUID);
     for (n, offset) in OFFSETS.iter().enumerate() {
         let at = n.wrapping_mul(48).wrapping_add(208);
-        put(&mut header, at, &[0, 0, 0xDE, 0xAD]);
-        put(&mut header, at.wrapping_add(40), &offset.to_be_bytes());
-        put(&mut header, at.wrapping_add(44), &[0, 0, 0x0F, 0xA0]);
+        put_front(&mut header, at, &[0, 0, 0xDE, 0xAD]);
+        put_front(&mut header, at.wrapping_add(40), &offset.to_be_bytes());
+        put_front(&mut header, at.wrapping_add(44), &[0, 0, 0x0F, 0xA0]);
     }
     header
 }
@@ -31,8 +32,8 @@ fn header() -> [u8; 592] {
 #[test]
 fn reads_common_fields(rt: HostRuntime) -> Result<(), Fail> {
     let mut bytes = header();
-    put(&mut bytes, 112, &[0xA1; 20]);
-    put(&mut bytes, 132, &[0xB2; 32]);
+    put_front(&mut bytes, 112, &[0xA1; 20]);
+    put_front(&mut bytes, 132, &[0xB2; 32]);
     let common = Luks1::read(&bytes)?.common;
     assert!(rt; common.cipher_name.as_str() == "aes", "cipher-name");
     assert!(rt; common.cipher_mode.as_str() == "xts-plain64", "cipher-mode");
@@ -51,8 +52,8 @@ fn reads_common_fields(rt: HostRuntime) -> Result<(), Fail> {
 #[test]
 fn reads_keyslots(rt: HostRuntime) -> Result<(), Fail> {
     let mut bytes = header();
-    put(&mut bytes, 304, &[0, 0xAC, 0x71, 0xF3, 0, 0, 0, 7]);
-    put(&mut bytes, 312, &[0xC3; 32]);
+    put_front(&mut bytes, 304, &[0, 0xAC, 0x71, 0xF3, 0, 0, 0, 7]);
+    put_front(&mut bytes, 312, &[0xC3; 32]);
     let slots = Luks1::read(&bytes)?.slots;
     let [_, _, slot, _, _, _, _, last] = slots;
     assert!(rt;
@@ -124,7 +125,7 @@ fn prints_each_fault(rt: HostRuntime) -> Result<(), Fail> {
     for (i, (changes, want)) in CHANGES.into_iter().enumerate() {
         let mut bytes = header();
         for (at, change) in changes.iter() {
-            put(&mut bytes, *at, *change);
+            put_front(&mut bytes, *at, *change);
         }
         assert!(rt; says(rt.alloc(), &bytes, want)?, "row {i}");
     }
@@ -136,7 +137,7 @@ fn prints_each_fault(rt: HostRuntime) -> Result<(), Fail> {
 fn keeps_the_case_of_a_uuid(rt: HostRuntime) -> Result<(), Fail> {
     let text = "ABCDEF01-2345-4abc-8DEF-fedcba987654";
     let mut bytes = header();
-    put(&mut bytes, 168, text.as_bytes());
+    put_front(&mut bytes, 168, text.as_bytes());
     let common = Luks1::read(&bytes)?.common;
     assert!(rt; common.uuid.as_str() == text, "the uuid");
     Ok(())
@@ -202,12 +203,12 @@ fn common_of(bytes: &[u8; 592]) -> Option<Result<u32, HeadFault>> {
 #[test]
 fn reads_parts(rt: HostRuntime) {
     let mut bytes = header();
-    put(&mut bytes, 352, &[0, 0, 0, 0]);
+    put_front(&mut bytes, 352, &[0, 0, 0, 0]);
     assert!(rt; common_of(&bytes) == Some(Ok(64)), "the fields before");
     assert!(rt; slot_at(&bytes, 256, 1) == Some(Ok(512)), "keyslot 1");
     let refused = Some(Err(HeadFault::SlotState(3)));
     assert!(rt; slot_at(&bytes, 352, 3) == refused, "keyslot 3");
-    put(&mut bytes, 164, &[0, 0, 0, 0]);
+    put_front(&mut bytes, 164, &[0, 0, 0, 0]);
     let refused = Some(Err(HeadFault::Iterations(IterationsOf::Digest)));
     assert!(rt; common_of(&bytes) == refused, "no iterations");
 }

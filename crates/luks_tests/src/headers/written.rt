@@ -3,11 +3,11 @@
 mod cryptsetup;
 
 use super::copies::chooses;
-use super::put;
 use crate::hexadecimal::of_hex;
 use arrayvec::ArrayString;
 use cryptsetup::{FIRST, JSON, LUKS1, SECOND};
 use luks_head::{Bin2, Luks1, Luks1Common, Luks1Slot, SlotState};
+use luks_samples::put_front;
 use sha2::Digest;
 use std::alloc::{AllocError, Global};
 use std::test::Fail;
@@ -15,7 +15,7 @@ use std::test::Fail;
 /// Puts each field at its place.
 fn fill(alloc: Global, bytes: &mut [u8], fields: &[(usize, &str)]) -> Result<(), AllocError> {
     for (at, digits) in fields.iter() {
-        put(bytes, *at, &of_hex(alloc, *digits)?);
+        put_front(bytes, *at, &of_hex(alloc, *digits)?);
     }
     Ok(())
 }
@@ -81,7 +81,7 @@ const LUKS1_CHANGES: [Change; 15] = [
 fn writes_a_changed_luks1_header_again(rt: HostRuntime) -> Result<(), Fail> {
     for (i, (at, field)) in LUKS1_CHANGES.into_iter().enumerate() {
         let mut bytes = luks1(rt.alloc())?;
-        put(&mut bytes, at, field);
+        put_front(&mut bytes, at, field);
         assert!(rt; Luks1::read(&bytes)?.write() == bytes, "row {i}");
     }
     Ok(())
@@ -102,19 +102,19 @@ fn writes_numbers_of_luks1(rt: HostRuntime) -> Result<(), Fail> {
     let mut bytes = luks1(rt.alloc())?;
     let Luks1 { mut common, slots } = Luks1::read(&bytes)?;
     common.payload_offset = 0x8192_A3B4;
-    put(&mut bytes, 104, &[0x81, 0x92, 0xA3, 0xB4]);
+    put_front(&mut bytes, 104, &[0x81, 0x92, 0xA3, 0xB4]);
     assert!(rt; is_luks1(&common, &slots, &bytes), "payload-offset");
     common.key_bytes = 127;
-    put(&mut bytes, 108, &[0, 0, 0, 127]);
+    put_front(&mut bytes, 108, &[0, 0, 0, 127]);
     assert!(rt; is_luks1(&common, &slots, &bytes), "key-bytes");
     common.mk_digest = [0xA1; 20];
-    put(&mut bytes, 112, &[0xA1; 20]);
+    put_front(&mut bytes, 112, &[0xA1; 20]);
     assert!(rt; is_luks1(&common, &slots, &bytes), "mk-digest");
     common.mk_digest_salt = [0xB2; 32];
-    put(&mut bytes, 132, &[0xB2; 32]);
+    put_front(&mut bytes, 132, &[0xB2; 32]);
     assert!(rt; is_luks1(&common, &slots, &bytes), "mk-digest-salt");
     common.mk_digest_iterations = 0xC5D6_E7F8;
-    put(&mut bytes, 164, &[0xC5, 0xD6, 0xE7, 0xF8]);
+    put_front(&mut bytes, 164, &[0xC5, 0xD6, 0xE7, 0xF8]);
     assert!(rt; is_luks1(&common, &slots, &bytes), "mk-digest-iter");
     Ok(())
 }
@@ -124,17 +124,17 @@ fn writes_texts_of_luks1(rt: HostRuntime) -> Result<(), Fail> {
     let mut bytes = luks1(rt.alloc())?;
     let Luks1 { mut common, slots } = Luks1::read(&bytes)?;
     common.cipher_name = ArrayString::from_byte_string(LONG)?;
-    put(&mut bytes, 8, LONG);
+    put_front(&mut bytes, 8, LONG);
     assert!(rt; is_luks1(&common, &slots, &bytes), "cipher-name");
     common.cipher_mode = ArrayString::new();
-    put(&mut bytes, 40, &[0; 32]);
+    put_front(&mut bytes, 40, &[0; 32]);
     assert!(rt; is_luks1(&common, &slots, &bytes), "cipher-mode");
     common.hash_spec = ArrayString::from("sha1").ok().ok_or("long")?;
-    put(&mut bytes, 72, b"sha1\0\0");
+    put_front(&mut bytes, 72, b"sha1\0\0");
     assert!(rt; is_luks1(&common, &slots, &bytes), "hash-spec");
     let uuid = "ABCDEF01-2345-4abc-8DEF-fedcba987654";
     common.uuid = ArrayString::from(uuid).ok().ok_or("long")?;
-    put(&mut bytes, 168, uuid.as_bytes());
+    put_front(&mut bytes, 168, uuid.as_bytes());
     assert!(rt; is_luks1(&common, &slots, &bytes), "uuid");
     Ok(())
 }
@@ -148,11 +148,11 @@ const STATES: [(SlotState, [u8; 4]); 2] = [
 /// The bytes of a keyslot with this active word and the fields of `other_slot`.
 fn other_entry(word: [u8; 4]) -> [u8; 48] {
     let mut entry = [0; 48];
-    put(&mut entry, 0, &word);
-    put(&mut entry, 4, &[0x91, 0x82, 0x73, 0x64]);
-    put(&mut entry, 8, &[0xC3; 32]);
-    put(&mut entry, 40, &[0xA9, 0xBA, 0xCB, 0xDC]);
-    put(&mut entry, 44, &[0xFE, 0xDC, 0xBA, 0x98]);
+    put_front(&mut entry, 0, &word);
+    put_front(&mut entry, 4, &[0x91, 0x82, 0x73, 0x64]);
+    put_front(&mut entry, 8, &[0xC3; 32]);
+    put_front(&mut entry, 40, &[0xA9, 0xBA, 0xCB, 0xDC]);
+    put_front(&mut entry, 44, &[0xFE, 0xDC, 0xBA, 0x98]);
     entry
 }
 
@@ -175,7 +175,7 @@ fn writes_keyslots_of_luks1(rt: HostRuntime) -> Result<(), Fail> {
         for n in 0..8_u8 {
             slots[n as usize] = other_slot(state);
             let at = (n as usize).wrapping_mul(48).wrapping_add(208);
-            put(&mut bytes, at, &other_entry(word));
+            put_front(&mut bytes, at, &other_entry(word));
             assert!(rt; is_luks1(&common, &slots, &bytes), "keyslot {n}");
         }
     }
@@ -202,16 +202,16 @@ fn writes_numbers_of_luks2(rt: HostRuntime) -> Result<(), Fail> {
     let mut bytes = bin2(rt.alloc(), &FIRST)?;
     let mut header = Bin2::read(&bytes);
     header.version = 0x8192;
-    put(&mut bytes, 6, b"\x81\x92");
+    put_front(&mut bytes, 6, b"\x81\x92");
     assert!(rt; is_bin2(&header, &bytes), "version");
     header.hdr_size = 0x8192_A3B4_C5D6_E7F8;
-    put(&mut bytes, 8, b"\x81\x92\xA3\xB4\xC5\xD6\xE7\xF8");
+    put_front(&mut bytes, 8, b"\x81\x92\xA3\xB4\xC5\xD6\xE7\xF8");
     assert!(rt; is_bin2(&header, &bytes), "hdr_size");
     header.seqid = 0x9182_7364_5546_371F;
-    put(&mut bytes, 16, b"\x91\x82\x73\x64\x55\x46\x37\x1F");
+    put_front(&mut bytes, 16, b"\x91\x82\x73\x64\x55\x46\x37\x1F");
     assert!(rt; is_bin2(&header, &bytes), "seqid");
     header.hdr_offset = 0xFEDC_BA98_7654_3210;
-    put(&mut bytes, 256, b"\xFE\xDC\xBA\x98\x76\x54\x32\x10");
+    put_front(&mut bytes, 256, b"\xFE\xDC\xBA\x98\x76\x54\x32\x10");
     assert!(rt; is_bin2(&header, &bytes), "hdr_offset");
     Ok(())
 }
@@ -221,25 +221,25 @@ fn writes_bytes_of_luks2(rt: HostRuntime) -> Result<(), Fail> {
     let mut bytes = bin2(rt.alloc(), &FIRST)?;
     let mut header = Bin2::read(&bytes);
     header.magic = *b"SKUL\xBA\xBE";
-    put(&mut bytes, 0, b"SKUL\xBA\xBE");
+    put_front(&mut bytes, 0, b"SKUL\xBA\xBE");
     assert!(rt; is_bin2(&header, &bytes), "magic");
     header.label = [0xA1; 48];
-    put(&mut bytes, 24, &[0xA1; 48]);
+    put_front(&mut bytes, 24, &[0xA1; 48]);
     assert!(rt; is_bin2(&header, &bytes), "label");
     header.csum_alg = [0xB2; 32];
-    put(&mut bytes, 72, &[0xB2; 32]);
+    put_front(&mut bytes, 72, &[0xB2; 32]);
     assert!(rt; is_bin2(&header, &bytes), "csum_alg");
     header.salt = [0xC3; 64];
-    put(&mut bytes, 104, &[0xC3; 64]);
+    put_front(&mut bytes, 104, &[0xC3; 64]);
     assert!(rt; is_bin2(&header, &bytes), "salt");
     header.uuid = [0xD4; 40];
-    put(&mut bytes, 168, &[0xD4; 40]);
+    put_front(&mut bytes, 168, &[0xD4; 40]);
     assert!(rt; is_bin2(&header, &bytes), "uuid");
     header.subsystem = [0xE5; 48];
-    put(&mut bytes, 208, &[0xE5; 48]);
+    put_front(&mut bytes, 208, &[0xE5; 48]);
     assert!(rt; is_bin2(&header, &bytes), "subsystem");
     header.csum = [0xF6; 64];
-    put(&mut bytes, 448, &[0xF6; 64]);
+    put_front(&mut bytes, 448, &[0xF6; 64]);
     assert!(rt; is_bin2(&header, &bytes), "csum");
     Ok(())
 }
@@ -247,7 +247,7 @@ fn writes_bytes_of_luks2(rt: HostRuntime) -> Result<(), Fail> {
 /// The JSON area that cryptsetup wrote, of 12288 bytes.
 fn json_area(alloc: Global) -> Result<Vec<u8>, AllocError> {
     let mut area = vec![in alloc; 0; 12288]?;
-    put(&mut area, 0, JSON.as_bytes());
+    put_front(&mut area, 0, JSON.as_bytes());
     Ok(area)
 }
 
@@ -291,7 +291,7 @@ fn renews_as_cryptsetup(rt: HostRuntime) -> Result<(), Fail> {
     let area = json_area(rt.alloc())?;
     let mut kept = bin2(rt.alloc(), &FIRST)?;
     for (at, field) in NOT_KEPT {
-        put(&mut kept, at, field);
+        put_front(&mut kept, at, field);
     }
     let old = Bin2::read(&kept);
     for (at, fields) in [(0, FIRST.as_slice()), (16384, SECOND.as_slice())] {
@@ -317,16 +317,16 @@ const RENEWED: [Change; 3] = [
 fn renews_whole_fields(rt: HostRuntime) -> Result<(), Fail> {
     let mut bytes = bin2(rt.alloc(), &FIRST)?;
     for (at, field) in WHOLE_FIELDS {
-        put(&mut bytes, at, field);
+        put_front(&mut bytes, at, field);
     }
     let old = Bin2::read(&bytes);
     for (at, field) in RENEWED {
-        put(&mut bytes, at, field);
+        put_front(&mut bytes, at, field);
     }
     let first = old.renewed(0, 0x9182_7364_5546_371F, [0xC3; 64]);
     assert!(rt; is_bin2(&first, &bytes), "the first");
-    put(&mut bytes, 0, b"SKUL\xBA\xBE");
-    put(&mut bytes, 256, b"\0\0\0\0\0\x40\0\0");
+    put_front(&mut bytes, 0, b"SKUL\xBA\xBE");
+    put_front(&mut bytes, 256, b"\0\0\0\0\0\x40\0\0");
     let second = old.renewed(0x40_0000, 0x9182_7364_5546_371F, [0xC3; 64]);
     assert!(rt; is_bin2(&second, &bytes), "the second");
     Ok(())
@@ -339,8 +339,8 @@ fn chooses_renewed_copies(rt: HostRuntime) -> Result<(), Fail> {
     let mut image = vec![in rt.alloc(); 0; 32768]?;
     for at in [0, 16384_usize] {
         let copy = summed(&header.renewed(at as u64, 4, [0xC3; 64]), &area);
-        put(&mut image, at, &copy.write());
-        put(&mut image, at.wrapping_add(4096), &area);
+        put_front(&mut image, at, &copy.write());
+        put_front(&mut image, at.wrapping_add(4096), &area);
     }
     assert!(rt; chooses(rt.alloc(), &image, "InStep 4 at 0")?, "InStep");
     Ok(())

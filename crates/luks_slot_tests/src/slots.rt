@@ -1,24 +1,15 @@
 //! Opening one keyslot, sealing a key in it, and wiping its area.
-ghost use Rattle.std.specs.Prelude.{◌≡◌, ◌≤◌, ◌↔◌, ◌*◌, IsTrue};
-ghost use Rattle.luks_slot.specs.Opening.{HasIterations};
+ghost use Rattle.std.specs.Prelude.{◌≡◌, ◌≤◌, ◌*◌};
 
 mod failing;
 mod known;
 mod refused;
 
+use crate::conditions::has_iterations;
 use luks_area::Device;
-use luks_slot::{Derivation, Key, SlotFault, SlotPlan, open, seal};
+use luks_slot::{Key, SlotFault, SlotPlan, open, seal};
 use std::alloc::Global;
 use std::process::Abort;
-
-fn has_iterations(derivation: &Derivation<'_>) -> bool
-    ensures { IsTrue result ↔ HasIterations derivation.now }
-{
-    match *derivation {
-        Derivation::Pbkdf2 { iterations, .. } => iterations >= 1,
-        Derivation::Argon2(costs) => costs.time >= 1 && costs.salt.len() <= 128,
-    }
-}
 
 /// `open`, where its conditions hold.
 fn open_by<D: Device>(

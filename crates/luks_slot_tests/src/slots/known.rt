@@ -1,7 +1,9 @@
 //! Keyslots whose areas other programs sealed.
 use super::{open_by, seal_by};
-use crate::hexadecimal::{is_hex, of_hex};
+use crate::conditions::stream_byte;
+use hex::FromHexError;
 use luks_area::{Area, MemDevice};
+use luks_samples::is_hex;
 use luks_slot::{AreaCipher, Derivation, DigestPlan, Key, SlotPlan};
 use sha2::{Digest, Sha256};
 use std::alloc::{AllocError, Global};
@@ -276,19 +278,12 @@ const OF_CRYPTSETUP: [Row; 6] = [
 // The area's place: not the volume's start.
 const START: usize = 4096;
 
-/// Byte i of the stream.
-fn stream(i: u32) -> u8 {
-    let x = i.wrapping_mul(0x9e3779b1);
-    let [first, _, _, _] = (x ^ (x >> 15)).wrapping_mul(0x85ebca77).to_be_bytes();
-    first
-}
-
 fn random_bytes(alloc: Global, random: Random, len: usize) -> Result<Vec<u8>, AllocError> {
     let mut bytes = Vec::new(alloc);
     for i in 0..len {
         bytes.push(match random {
             Random::Counting => (i % 251) as u8,
-            Random::Stream(from) => stream(from.wrapping_add((i % 0x100000000) as u32)),
+            Random::Stream(from) => stream_byte(from.wrapping_add((i % 0x100000000) as u32)),
         })?;
     }
     Ok(bytes)
@@ -325,11 +320,11 @@ struct Texts {
     digest: Vec<u8>,
 }
 
-fn decoded(alloc: Global, row: &Row) -> Result<Texts, AllocError> {
+fn decoded(alloc: Global, row: &Row) -> Result<Texts, FromHexError> {
     Ok(Texts {
-        salt: of_hex(alloc, row.salt)?,
-        digest_salt: of_hex(alloc, row.digest_salt)?,
-        digest: of_hex(alloc, row.digest)?,
+        salt: hex::decode(alloc, row.salt)?,
+        digest_salt: hex::decode(alloc, row.digest_salt)?,
+        digest: hex::decode(alloc, row.digest)?,
     })
 }
 
