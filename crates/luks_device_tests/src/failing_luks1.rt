@@ -1,11 +1,11 @@
 //! Edits of a LUKS1 volume on devices of which each call fails in turn, that of its header's read too.
 
-use crate::bytes::{counted, leave_behind, part, put};
 use crate::devices::{Call, Recording};
 use crate::keys::opens;
 use crate::luks1::luks1;
 use luks_area::{FaultyDevice, Leave};
-use luks_volume::{Data, Device, Edit, EditFault, MemDevice, Passphrase, apply, needed};
+use luks_test_devices::{add, change, counted, label, leave_behind, part, put, remove};
+use luks_volume::{Data, Device, Edit, EditFault, MemDevice, apply, needed};
 use std::alloc::Global;
 use std::process::Abort;
 use std::test::Fail;
@@ -48,7 +48,7 @@ fn end_of(
     call: u64,
     leave: Leave,
 ) -> Result<Ended, Fail> {
-    let random = counted(alloc, trial.random)?;
+    let random = counted(alloc, 1, trial.random)?;
     let inner = MemDevice::new(image.to_vec(alloc)?);
     let mut device = Recording {
         device: FaultyDevice::new(inner, call, leave),
@@ -72,56 +72,25 @@ fn end_of(
 
 const TRIALS: [Trial; 6] = [
     Trial {
-        edit: Edit::Add {
-            by_: 0,
-            old: Passphrase {
-                bytes: b"one",
-                memory: 0,
-            },
-            new: b"three",
-            to: None,
-            iterations: 1000,
-        },
+        edit: add!(0, b"one", b"three", None),
         random: 2528,
         end: End::Done,
         either: [(0, b"one"), (0, b"one")],
     },
     Trial {
-        edit: Edit::Change {
-            slot: 0,
-            old: Passphrase {
-                bytes: b"one",
-                memory: 0,
-            },
-            new: b"three",
-            iterations: 1000,
-        },
+        edit: change!(0, b"one", b"three"),
         random: 2528,
         end: End::Done,
         either: [(0, b"one"), (2, b"three")],
     },
     Trial {
-        edit: Edit::Change {
-            slot: 0,
-            old: Passphrase {
-                bytes: b"two",
-                memory: 0,
-            },
-            new: b"three",
-            iterations: 1000,
-        },
+        edit: change!(0, b"two", b"three"),
         random: 2528,
         end: End::Locked,
         either: [(0, b"one"), (0, b"one")],
     },
     Trial {
-        edit: Edit::Remove {
-            slot: 0,
-            passphrase: Passphrase {
-                bytes: b"one",
-                memory: 0,
-            },
-        },
+        edit: remove!(0, b"one"),
         random: 0,
         end: End::Done,
         either: [(1, b"two"), (1, b"two")],
@@ -133,7 +102,7 @@ const TRIALS: [Trial; 6] = [
         either: [(0, b"one"), (0, b"one")],
     },
     Trial {
-        edit: Edit::Label { text: b"disk" },
+        edit: label!(b"disk"),
         random: 0,
         end: End::BadLabel,
         either: [(0, b"one"), (0, b"one")],

@@ -1,11 +1,11 @@
 //! Commands that edit a volume while their output can't be written: the edit is done, and the status
 //! tells of the output.
 
-use crate::bytes::counted;
 use crate::luks1::luks1;
 use crate::luks2::{SMALL, luks2};
 use luks_cli::{CountingPrinter, InputFault, Inputs};
 use luks_sessions::run_words_to;
+use luks_test_devices::counted;
 use luks_volume::{Copies, MemDevice};
 use std::alloc::Global;
 use std::io::Cursor;
@@ -92,7 +92,7 @@ struct Ended {
 
 /// What the row's command comes to where its output has room for so many bytes.
 fn end_of(alloc: Global, image: &[u8], row: &Row, room: usize) -> Result<Ended, Fail> {
-    let random = counted(alloc, 2656)?;
+    let random = counted(alloc, 1, 2656)?;
     let mut inputs: Inputs<MemDevice, &[u8], &[u8]> = Inputs {
         volume: Ok(MemDevice::new(image.to_vec(alloc)?)),
         target: Err(InputFault::Absent),

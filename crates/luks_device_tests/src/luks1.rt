@@ -1,7 +1,6 @@
 //! A small LUKS1 volume, put together by the layout of the format alone.
 
-use crate::bytes::put;
-use crate::keys::{key_area, volume_key};
+use luks_test_devices::{VOLUME_KEY, key_area, put};
 use luks_volume::HashName;
 use std::alloc::Global;
 use std::test::Fail;
@@ -32,7 +31,7 @@ pub fn luks1(alloc: Global, third: u32, payload: u32) -> Result<Vec<u8>, Fail> {
     put(&mut image, 104, &payload.to_be_bytes());
     put(&mut image, 108, &[0, 0, 0, 64]);
     let mut digest = [0; 20];
-    HashName::Sha256.pbkdf2(&mut digest, &volume_key(), &[0x22; 32], 1000);
+    HashName::Sha256.pbkdf2(&mut digest, &VOLUME_KEY, &[0x22; 32], 1000);
     put(&mut image, 112, &digest);
     put(&mut image, 132, &[0x22; 32]);
     put(&mut image, 164, &[0, 0, 3, 0xE8]);
@@ -41,7 +40,15 @@ pub fn luks1(alloc: Global, third: u32, payload: u32) -> Result<Vec<u8>, Fail> {
         put_entry(&mut image, n, 8 + 8 * n as u32);
     }
     put_entry(&mut image, 2, third);
-    put(&mut image, 4096, key_area(alloc, b"one")?.as_slice());
-    put(&mut image, 8192, key_area(alloc, b"two")?.as_slice());
+    put(
+        &mut image,
+        4096,
+        key_area(alloc, HashName::Sha256, b"one")?.as_slice(),
+    );
+    put(
+        &mut image,
+        8192,
+        key_area(alloc, HashName::Sha256, b"two")?.as_slice(),
+    );
     Ok(image)
 }

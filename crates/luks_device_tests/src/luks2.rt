@@ -1,16 +1,26 @@
 //! Small LUKS2 volumes, put together by the layout of the format alone.
 
-use crate::bytes::put;
-use crate::keys::key_area;
-use luks_volume::Copies;
-use sha2::{Digest, Sha256};
+use luks_test_devices::{Fields, UUID, copy_of, key_area, put};
+use luks_volume::{Copies, HashName};
 use std::alloc::Global;
 use std::test::Fail;
 
 /// The metadata of two keyslots of 40 stripes, whose areas are the first of eight of 4096 bytes, with data from 65536 on.
 /// The digest is PBKDF2 of the bytes 0 to 63 with 32 bytes 0x22, by 1000 iterations.
-const TEXT: &str =
-    r#"{"config":{"json_size":"12288","keyslots_size":"32768"},"digests":{"0":{"digest":"r0tW0F0ITOoPYBUmFjGzXZTVowAGtTYAjvCjGDabwpo=","hash":"sha256","iterations":1000,"keyslots":["0","1"],"salt":"IiIiIiIiIiIiIiIiIiIiIiIiIiIiIiIiIiIiIiIiIiI=","segments":["0"],"type":"pbkdf2"}},"keyslots":{"0":{"af":{"hash":"sha256","stripes":40,"type":"luks1"},"area":{"encryption":"aes-xts-plain64","key_size":64,"offset":"32768","size":"4096","type":"raw"},"kdf":{"hash":"sha256","iterations":1000,"salt":"ERERERERERERERERERERERERERERERERERERERERERE=","type":"pbkdf2"},"key_size":64,"type":"luks2"},"1":{"af":{"hash":"sha256","stripes":40,"type":"luks1"},"area":{"encryption":"aes-xts-plain64","key_size":64,"offset":"36864","size":"4096","type":"raw"},"kdf":{"hash":"sha256","iterations":1000,"salt":"ERERERERERERERERERERERERERERERERERERERERERE=","type":"pbkdf2"},"key_size":64,"type":"luks2"}},"segments":{"0":{"encryption":"aes-xts-plain64","iv_tweak":"0","offset":"65536","sector_size":512,"size":"dynamic","type":"crypt"}},"tokens":{}}"#;
+const TEXT: &str = concat!(
+    r#"{"config":{"json_size":"12288","keyslots_size":"32768"},"#,
+    r#""digests":{"0":{"digest":"r0tW0F0ITOoPYBUmFjGzXZTVowAGtTYAjvCjGDabwpo=","hash":"sha256","#,
+    r#""iterations":1000,"keyslots":["0","1"],"salt":"IiIiIiIiIiIiIiIiIiIiIiIiIiIiIiIiIiIiIiIiIiI=","#,
+    r#""segments":["0"],"type":"pbkdf2"}},"keyslots":{"0":{"af":{"hash":"sha256","stripes":40,"#,
+    r#""type":"luks1"},"area":{"encryption":"aes-xts-plain64","key_size":64,"offset":"32768","#,
+    r#""size":"4096","type":"raw"},"kdf":{"hash":"sha256","iterations":1000,"#,
+    r#""salt":"ERERERERERERERERERERERERERERERERERERERERERE=","type":"pbkdf2"},"key_size":64,"#,
+    r#""type":"luks2"},"1":{"af":{"hash":"sha256","stripes":40,"type":"luks1"},"#,
+    r#""area":{"encryption":"aes-xts-plain64","key_size":64,"offset":"36864","size":"4096","type":"raw"},"#,
+    r#""kdf":{"hash":"sha256","iterations":1000,"salt":"ERERERERERERERERERERERERERERERERERERERERERE=","#,
+    r#""type":"pbkdf2"},"key_size":64,"type":"luks2"}},"segments":{"0":{"encryption":"aes-xts-plain64","#,
+    r#""iv_tweak":"0","offset":"65536","sector_size":512,"size":"dynamic","type":"crypt"}},"tokens":{}}"#
+);
 
 /// How a volume is made.
 #[derive(Debug, Clone, Copy)]
@@ -65,41 +75,6 @@ pub const WIDE: Layout = Layout {
     len: 40960,
 };
 
-/// The metadata's text of this layout.
-fn text_of(alloc: Global, layout: &Layout) -> Result<String, Fail> {
-    let mut text = String::from_str(alloc, TEXT)?;
-    for (old, new) in layout.changes.iter() {
-        let mut changed = String::new(alloc);
-        let (before, after) = text.as_str().split_once(old).ok_or("no such text")?;
-        changed.push_str(before)?;
-        changed.push_str(new)?;
-        changed.push_str(after)?;
-        text = changed;
-    }
-    Ok(text)
-}
-
-/// A copy of the header for the place `at`, sound, with a salt of zeros and no label.
-fn copy_of(alloc: Global, size: u32, at: u32, seqid: u64, text: &str) -> Result<Vec<u8>, Fail> {
-    let mut copy = vec![in alloc; 0u8; size as usize]?;
-    let magic = if at == 0 {
-        b"LUKS\xBA\xBE"
-    } else {
-        b"SKUL\xBA\xBE"
-    };
-    put(&mut copy, 0, magic);
-    put(&mut copy, 7, &[2]);
-    put(&mut copy, 12, &size.to_be_bytes());
-    put(&mut copy, 16, &seqid.to_be_bytes());
-    put(&mut copy, 72, b"sha256");
-    put(&mut copy, 168, b"00000000-0000-4000-8000-000000000000");
-    put(&mut copy, 260, &at.to_be_bytes());
-    put(&mut copy, 4096, text.as_bytes());
-    let digest = Sha256::digest(&copy);
-    put(&mut copy, 448, &digest);
-    Ok(copy)
-}
-
 /// The sequence numbers of the copies, and the first byte of the one that is damaged.
 fn standing(copies: Copies, size: u32) -> (u64, u64, Option<usize>) {
     match copies {
@@ -114,23 +89,32 @@ fn standing(copies: Copies, size: u32) -> (u64, u64, Option<usize>) {
 /// The volume of this layout, its copies standing so to each other. Keyslot 0 opens by the passphrase
 /// `one`, keyslot 1 by `two`.
 pub fn luks2(alloc: Global, layout: &Layout, copies: Copies) -> Result<Vec<u8>, Fail> {
-    let text = text_of(alloc, layout)?;
     let size = layout.size;
     let (first, second, damaged) = standing(copies, size);
+    let mut fields = Fields {
+        size,
+        seqid: first,
+        uuid: UUID,
+        text: TEXT,
+        changes: layout.changes,
+    };
     let mut image = vec![in alloc; 0u8; layout.len]?;
-    let copy = copy_of(alloc, size, 0, first, text.as_str())?;
-    put(&mut image, 0, &copy);
-    let copy = copy_of(alloc, size, size, second, text.as_str())?;
-    put(&mut image, size as usize, &copy);
+    put(&mut image, 0, &copy_of(alloc, 0, &fields)?);
+    fields.seqid = second;
+    put(&mut image, size as usize, &copy_of(alloc, size, &fields)?);
     if let Some(at) = damaged {
         put(&mut image, at.wrapping_add(4096), b"#");
     }
     let area = layout.area;
-    put(&mut image, area, key_area(alloc, b"one")?.as_slice());
+    put(
+        &mut image,
+        area,
+        key_area(alloc, HashName::Sha256, b"one")?.as_slice(),
+    );
     put(
         &mut image,
         area.wrapping_add(4096),
-        key_area(alloc, b"two")?.as_slice(),
+        key_area(alloc, HashName::Sha256, b"two")?.as_slice(),
     );
     Ok(image)
 }

@@ -1,10 +1,10 @@
 //! The calls of each edit in their order, on disks of any size.
 
-use crate::bytes::counted;
 use crate::devices::{Disk, Recording, written_ranges};
 use crate::keys::opens;
 use crate::rows::{DISKS, LUKS1, LUKS2, Row};
 use crate::volumes::disk_of;
+use luks_test_devices::counted;
 use luks_volume::{Data, Done, EditFault, Step, apply, needed, run};
 use std::alloc::{AllocError, Global};
 use std::process::Abort;
@@ -59,7 +59,7 @@ fn compare(
     row: &Row,
     listed: bool,
 ) -> Result<(), Fail> {
-    let random = counted(alloc, row.random)?;
+    let random = counted(alloc, 1, row.random)?;
     let mut device = Recording {
         device: disk_of(alloc, row.volume)?,
         calls: Vec::new(alloc),

@@ -4,9 +4,10 @@
 //! old entry, the old area. Of LUKS2: the key area, the copy that doesn't count, the one that counts,
 //! zeros over the old area. A flush follows each.
 
-use crate::devices::Call;
+use crate::devices::Call::{self, Flush, Write, Zeros};
 use crate::volumes::Volume;
-use luks_volume::{Copies, Edit, Passphrase};
+use luks_test_devices::{add, change, label, remove};
+use luks_volume::{Copies, Edit};
 
 /// An edit of a volume, and what is owed to it.
 pub struct Row {
@@ -22,57 +23,17 @@ pub struct Row {
     pub opens: &'static [(u8, &'static [u8], bool)],
 }
 
-const ADD: Edit = Edit::Add {
-    by_: 0,
-    old: Passphrase {
-        bytes: b"one",
-        memory: 0,
-    },
-    new: b"three",
-    to: None,
-    iterations: 1000,
-};
+const ADD: Edit = add!(0, b"one", b"three", None);
 
-const ADD_TO_5: Edit = Edit::Add {
-    by_: 1,
-    old: Passphrase {
-        bytes: b"two",
-        memory: 0,
-    },
-    new: b"three",
-    to: Some(5),
-    iterations: 1000,
-};
+const ADD_TO_5: Edit = add!(1, b"two", b"three", Some(5));
 
-const CHANGE: Edit = Edit::Change {
-    slot: 0,
-    old: Passphrase {
-        bytes: b"one",
-        memory: 0,
-    },
-    new: b"three",
-    iterations: 1000,
-};
+const CHANGE: Edit = change!(0, b"one", b"three");
 
-const LOCKED: Edit = Edit::Change {
-    slot: 0,
-    old: Passphrase {
-        bytes: b"two",
-        memory: 0,
-    },
-    new: b"three",
-    iterations: 1000,
-};
+const LOCKED: Edit = change!(0, b"two", b"three");
 
-const REMOVE: Edit = Edit::Remove {
-    slot: 1,
-    passphrase: Passphrase {
-        bytes: b"two",
-        memory: 0,
-    },
-};
+const REMOVE: Edit = remove!(1, b"two");
 
-const LABEL: Edit = Edit::Label { text: b"disk" };
+const LABEL: Edit = label!(b"disk");
 
 /// Both keyslots as before.
 const AS_BEFORE: &[(u8, &[u8], bool)] = &[(0, b"one", true), (1, b"two", true)];
@@ -91,12 +52,7 @@ pub const LUKS1: [Row; 7] = [
         edit: ADD,
         random: 2528,
         line: "done slot 2",
-        calls: &[
-            Call::Write(12288, 2560),
-            Call::Flush,
-            Call::Write(304, 48),
-            Call::Flush,
-        ],
+        calls: &[Write(12288, 2560), Flush, Write(304, 48), Flush],
         opens: ADDED,
     },
     Row {
@@ -104,12 +60,7 @@ pub const LUKS1: [Row; 7] = [
         edit: ADD_TO_5,
         random: 2528,
         line: "done slot 5",
-        calls: &[
-            Call::Write(24576, 2560),
-            Call::Flush,
-            Call::Write(448, 48),
-            Call::Flush,
-        ],
+        calls: &[Write(24576, 2560), Flush, Write(448, 48), Flush],
         opens: &[(0, b"one", true), (1, b"two", true), (5, b"three", true)],
     },
     Row {
@@ -118,14 +69,14 @@ pub const LUKS1: [Row; 7] = [
         random: 2528,
         line: "done slot 2",
         calls: &[
-            Call::Write(12288, 2560),
-            Call::Flush,
-            Call::Write(304, 48),
-            Call::Flush,
-            Call::Write(208, 48),
-            Call::Flush,
-            Call::Zeros(4096, 2560),
-            Call::Flush,
+            Write(12288, 2560),
+            Flush,
+            Write(304, 48),
+            Flush,
+            Write(208, 48),
+            Flush,
+            Zeros(4096, 2560),
+            Flush,
         ],
         opens: &[(0, b"one", false), (1, b"two", true), (2, b"three", true)],
     },
@@ -134,12 +85,7 @@ pub const LUKS1: [Row; 7] = [
         edit: REMOVE,
         random: 0,
         line: "done",
-        calls: &[
-            Call::Write(256, 48),
-            Call::Flush,
-            Call::Zeros(8192, 2560),
-            Call::Flush,
-        ],
+        calls: &[Write(256, 48), Flush, Zeros(8192, 2560), Flush],
         opens: REMOVED,
     },
     Row {
@@ -168,15 +114,15 @@ pub const LUKS1: [Row; 7] = [
     },
 ];
 
-const FIRST: Call = Call::Write(0, 16384);
+const FIRST: Call = Write(0, 16384);
 
-const SECOND: Call = Call::Write(16384, 16384);
+const SECOND: Call = Write(16384, 16384);
 
 /// Both copies where the first one counts.
-const FIRST_COUNTS: &[Call] = &[SECOND, Call::Flush, FIRST, Call::Flush];
+const FIRST_COUNTS: &[Call] = &[SECOND, Flush, FIRST, Flush];
 
 /// Both copies where the second one counts.
-const SECOND_COUNTS: &[Call] = &[FIRST, Call::Flush, SECOND, Call::Flush];
+const SECOND_COUNTS: &[Call] = &[FIRST, Flush, SECOND, Flush];
 
 /// Of LUKS2: a new area has 4096 bytes, of which 2560 are sealed, and the least place that is free.
 pub const LUKS2: [Row; 15] = [
@@ -185,14 +131,7 @@ pub const LUKS2: [Row; 15] = [
         edit: ADD,
         random: 2656,
         line: "done slot 2",
-        calls: &[
-            Call::Write(40960, 2560),
-            Call::Flush,
-            SECOND,
-            Call::Flush,
-            FIRST,
-            Call::Flush,
-        ],
+        calls: &[Write(40960, 2560), Flush, SECOND, Flush, FIRST, Flush],
         opens: ADDED,
     },
     Row {
@@ -200,14 +139,7 @@ pub const LUKS2: [Row; 15] = [
         edit: ADD_TO_5,
         random: 2656,
         line: "done slot 5",
-        calls: &[
-            Call::Write(40960, 2560),
-            Call::Flush,
-            FIRST,
-            Call::Flush,
-            SECOND,
-            Call::Flush,
-        ],
+        calls: &[Write(40960, 2560), Flush, FIRST, Flush, SECOND, Flush],
         opens: &[(0, b"one", true), (1, b"two", true), (5, b"three", true)],
     },
     Row {
@@ -216,14 +148,14 @@ pub const LUKS2: [Row; 15] = [
         random: 2656,
         line: "done slot 0",
         calls: &[
-            Call::Write(40960, 2560),
-            Call::Flush,
+            Write(40960, 2560),
+            Flush,
             SECOND,
-            Call::Flush,
+            Flush,
             FIRST,
-            Call::Flush,
-            Call::Zeros(32768, 4096),
-            Call::Flush,
+            Flush,
+            Zeros(32768, 4096),
+            Flush,
         ],
         opens: CHANGED,
     },
@@ -233,14 +165,14 @@ pub const LUKS2: [Row; 15] = [
         random: 2656,
         line: "done slot 0",
         calls: &[
-            Call::Write(40960, 2560),
-            Call::Flush,
+            Write(40960, 2560),
+            Flush,
             FIRST,
-            Call::Flush,
+            Flush,
             SECOND,
-            Call::Flush,
-            Call::Zeros(32768, 4096),
-            Call::Flush,
+            Flush,
+            Zeros(32768, 4096),
+            Flush,
         ],
         opens: CHANGED,
     },
@@ -249,14 +181,7 @@ pub const LUKS2: [Row; 15] = [
         edit: REMOVE,
         random: 128,
         line: "done",
-        calls: &[
-            SECOND,
-            Call::Flush,
-            FIRST,
-            Call::Flush,
-            Call::Zeros(36864, 4096),
-            Call::Flush,
-        ],
+        calls: &[SECOND, Flush, FIRST, Flush, Zeros(36864, 4096), Flush],
         opens: REMOVED,
     },
     Row {
@@ -264,14 +189,7 @@ pub const LUKS2: [Row; 15] = [
         edit: REMOVE,
         random: 128,
         line: "done",
-        calls: &[
-            FIRST,
-            Call::Flush,
-            SECOND,
-            Call::Flush,
-            Call::Zeros(36864, 4096),
-            Call::Flush,
-        ],
+        calls: &[FIRST, Flush, SECOND, Flush, Zeros(36864, 4096), Flush],
         opens: REMOVED,
     },
     Row {
@@ -344,12 +262,12 @@ pub const LUKS2: [Row; 15] = [
         random: 2656,
         line: "done slot 2",
         calls: &[
-            Call::Write(8396800, 2560),
-            Call::Flush,
-            Call::Write(4194304, 4194304),
-            Call::Flush,
-            Call::Write(0, 4194304),
-            Call::Flush,
+            Write(8396800, 2560),
+            Flush,
+            Write(4194304, 4194304),
+            Flush,
+            Write(0, 4194304),
+            Flush,
         ],
         opens: ADDED,
     },
@@ -362,12 +280,7 @@ pub const DISKS: [Row; 5] = [
         edit: ADD,
         random: 2528,
         line: "done slot 2",
-        calls: &[
-            Call::Write(1099511586816, 2560),
-            Call::Flush,
-            Call::Write(304, 48),
-            Call::Flush,
-        ],
+        calls: &[Write(1099511586816, 2560), Flush, Write(304, 48), Flush],
         opens: ADDED,
     },
     Row {
@@ -375,12 +288,7 @@ pub const DISKS: [Row; 5] = [
         edit: ADD,
         random: 2528,
         line: "done slot 2",
-        calls: &[
-            Call::Write(12288, 2560),
-            Call::Flush,
-            Call::Write(304, 48),
-            Call::Flush,
-        ],
+        calls: &[Write(12288, 2560), Flush, Write(304, 48), Flush],
         opens: ADDED,
     },
     Row {
@@ -389,12 +297,12 @@ pub const DISKS: [Row; 5] = [
         random: 2656,
         line: "done slot 2",
         calls: &[
-            Call::Write(1099511586816, 2560),
-            Call::Flush,
+            Write(1099511586816, 2560),
+            Flush,
             SECOND,
-            Call::Flush,
+            Flush,
             FIRST,
-            Call::Flush,
+            Flush,
         ],
         opens: ADDED,
     },
@@ -404,14 +312,14 @@ pub const DISKS: [Row; 5] = [
         random: 2656,
         line: "done slot 0",
         calls: &[
-            Call::Write(1099511586816, 2560),
-            Call::Flush,
+            Write(1099511586816, 2560),
+            Flush,
             SECOND,
-            Call::Flush,
+            Flush,
             FIRST,
-            Call::Flush,
-            Call::Zeros(32768, 4096),
-            Call::Flush,
+            Flush,
+            Zeros(32768, 4096),
+            Flush,
         ],
         opens: CHANGED,
     },
@@ -420,14 +328,7 @@ pub const DISKS: [Row; 5] = [
         edit: ADD,
         random: 2656,
         line: "done slot 2",
-        calls: &[
-            Call::Write(40960, 2560),
-            Call::Flush,
-            SECOND,
-            Call::Flush,
-            FIRST,
-            Call::Flush,
-        ],
+        calls: &[Write(40960, 2560), Flush, SECOND, Flush, FIRST, Flush],
         opens: ADDED,
     },
 ];
