@@ -8,10 +8,10 @@ ghost use Rattle.luks_rebuilding.specs.RebuildFaults.{is_rebuild_failure, rebuil
 ghost use Rattle.luks_rebuilding.specs.declared.place.Which.{Which as TheWhich};
 
 use crate::candidate::Candidate;
-use crate::header_areas::header_areas;
 use crate::rebuild_fault::RebuildFault;
 use crate::rebuilding::REBUILD_RANDOM;
 use luks_area::fit;
+use luks_reading::{Data, luks2_areas};
 use luks_uuid::is_uuid;
 
 /// How many random bytes are taken.
@@ -39,7 +39,7 @@ pub(crate) fn judge(
     ensures ready { OnOk result
         (IsReady found.now source_total total (option_map (λ t. t.now) uuid.entry) random.now) }
 {
-    let areas = header_areas(&found.meta, found.place.size);
+    let areas = luks2_areas(&found.meta, found.place.size, Data::Elsewhere, source_total);
     fit(&areas, source_total)?;
     let region = found.meta.config().keyslots_size;
     if !ends_inside(found.place.size, region, total) {

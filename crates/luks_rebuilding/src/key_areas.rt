@@ -1,17 +1,18 @@
 //! Copying the key areas, each to its own place of the other device.
-ghost use Rattle.std.specs.Prelude.{◌≡◌, ◌+◌, ◌^◌, ◌<◌, ℕ, OnOk};
+ghost use Rattle.std.specs.Prelude.{◌≡◌, ◌+◌, ◌^◌, ◌<◌, ℕ, IfSome, IsNone, OnOk};
 ghost use Rattle.luks_area.specs.Device.{IsSettled, IsUnchanged, is_failure};
 ghost use Rattle.luks_area.specs.Ranges.{part, SameBut};
 ghost use Rattle.luks_area.specs.declared.area.Area.{Area as TheArea};
 ghost use Rattle.luks_copying.specs.TwoDevices.{CountsEither};
 ghost use Rattle.luks_meta.specs.Content.{content};
+ghost use Rattle.luks_meta.specs.Objects.{IsMissing};
 ghost use Rattle.luks_rebuilding.specs.Found.{AreSlotsApart, HasSlotsInside, IsOfSlot, IsOfSlots};
 ghost use Rattle.luks_rebuilding.specs.KeyAreas.{IsSlotArea};
 
-use crate::header_areas::slot_area;
-use luks_area::{Device, DeviceFault};
+use luks_area::{Area, Device, DeviceFault};
 use luks_copying::copy_area;
 use luks_meta::Meta;
+use luks_rules::Section;
 
 /// Copies the area of each keyslot of the metadata, one after the other, each with a flush. Also
 /// where a device fails no byte of the target outside these areas changes.
@@ -70,5 +71,20 @@ fn copy_slot<S: Device, T: Device>(
     match slot_area(meta, n) {
         Some(area) => copy_area(source, area, target, area),
         None => Ok(()),
+    }
+}
+
+/// The key area of the keyslot `n`, if it is there.
+fn slot_area(meta: &Meta, n: u8) -> Option<Area>
+    requires { n < 32 }
+    ensures some { IfSome result (IsSlotArea (content meta.now) n) }
+    ensures none { IsNone result → IsMissing (content meta.now) Section.Keyslots n }
+{
+    match meta.keyslot(n) {
+        Some(slot) => Some(Area {
+            start: slot.area.offset,
+            len: slot.area.size,
+        }),
+        None => None,
     }
 }

@@ -4,7 +4,6 @@
 
 mod candidate;
 mod copies;
-mod header_areas;
 mod judging;
 mod key_areas;
 mod laws;

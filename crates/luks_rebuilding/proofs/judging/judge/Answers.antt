@@ -18,7 +18,7 @@ ends_past end_ total said = elim (cases_lt total end_) [ inl short ↦ short | i
 pub returns-in_err-fit-clause-fault : goal.returns-in_err-fit-clause-fault
 returns-in_err-fit-clause-fault c = λ v which found long.
     let p = err_from_is_err_and c.from_residual.result c.from_residual.ensures.1 in
-    let lists = c.header_areas-areas.ensures c.args.source_total in
+    let lists = c.luks2_areas-areas.ensures in
     let least = least_of _ _ _ _ lists c.in_err-fit.ensures.fault in
     rw (p.1, p.2)
     (area_first v which (option_map (λ t. t.now) c.args.uuid) c.args.total c.args.random.now c.args.found.now found (subst (λ (n : ℕ). IsWhole n c.args.found.now) (sym long) c.requires)
@@ -26,7 +26,7 @@ returns-in_err-fit-clause-fault c = λ v which found long.
 
 pub returns-then-not-ends_inside-clause-fault : goal.returns-then-not-ends_inside-clause-fault
 returns-then-not-ends_inside-clause-fault c = λ v which found long.
-    let fit = fit_of _ _ _ (c.header_areas-areas.ensures c.args.source_total) c.in_ok-fit.ensures.fits in
+    let fit = fit_of _ _ _ c.luks2_areas-areas.ensures c.in_ok-fit.ensures.fits in
     small_first v which (option_map (λ t. t.now) c.args.uuid) c.args.total c.args.random.now c.args.found.now found (subst (λ (n : ℕ). IsWhole n c.args.found.now) (sym long) c.requires)
     (subst (λ (n : ℕ). Fit (Luks2Area (content c.args.found.now.meta) c.args.found.now.place.size Elsewhere n) n) (sym long) fit)
     c.config-region.result.keyslots_size (region_said (content c.args.found.now.meta) c.config-region.result c.config-region.ensures)
@@ -34,7 +34,7 @@ returns-then-not-ends_inside-clause-fault c = λ v which found long.
 
 pub returns-then-is_no_uuid-clause-fault : goal.returns-then-is_no_uuid-clause-fault
 returns-then-is_no_uuid-clause-fault c = λ v which found long.
-    let fit = fit_of _ _ _ (c.header_areas-areas.ensures c.args.source_total) c.in_ok-fit.ensures.fits in
+    let fit = fit_of _ _ _ c.luks2_areas-areas.ensures c.in_ok-fit.ensures.fits in
     uuid_first v which (option_map (λ t. t.now) c.args.uuid) c.args.total c.args.random.now c.args.found.now found (subst (λ (n : ℕ). IsWhole n c.args.found.now) (sym long) c.requires)
     (subst (λ (n : ℕ). Fit (Luks2Area (content c.args.found.now.meta) c.args.found.now.place.size Elsewhere n) n) (sym long) fit)
     c.config-region.result.keyslots_size (region_said (content c.args.found.now.meta) c.config-region.result c.config-region.ensures)
@@ -42,7 +42,7 @@ returns-then-is_no_uuid-clause-fault c = λ v which found long.
 
 pub returns-then-random-ne-RANDOM-clause-fault : goal.returns-then-random-ne-RANDOM-clause-fault
 returns-then-random-ne-RANDOM-clause-fault c = λ v which found long.
-    let fit = fit_of _ _ _ (c.header_areas-areas.ensures c.args.source_total) c.in_ok-fit.ensures.fits in
+    let fit = fit_of _ _ _ c.luks2_areas-areas.ensures c.in_ok-fit.ensures.fits in
     random_first v which (option_map (λ t. t.now) c.args.uuid) c.args.total c.args.random.now c.args.found.now found (subst (λ (n : ℕ). IsWhole n c.args.found.now) (sym long) c.requires)
     (subst (λ (n : ℕ). Fit (Luks2Area (content c.args.found.now.meta) c.args.found.now.place.size Elsewhere n) n) (sym long) fit)
     c.config-region.result.keyslots_size (region_said (content c.args.found.now.meta) c.config-region.result c.config-region.ensures)
@@ -50,7 +50,7 @@ returns-then-random-ne-RANDOM-clause-fault c = λ v which found long.
 
 pub returns-else-random-ne-RANDOM-clause-faultless : goal.returns-else-random-ne-RANDOM-clause-faultless
 returns-else-random-ne-RANDOM-clause-faultless c = λ v which found long.
-    let fit = fit_of _ _ _ (c.header_areas-areas.ensures c.args.source_total) c.in_ok-fit.ensures.fits in
+    let fit = fit_of _ _ _ c.luks2_areas-areas.ensures c.in_ok-fit.ensures.fits in
     rebuildable v which (option_map (λ t. t.now) c.args.uuid) c.args.total c.args.random.now c.args.found.now found (subst (λ (n : ℕ). IsWhole n c.args.found.now) (sym long) c.requires)
     (subst (λ (n : ℕ). Fit (Luks2Area (content c.args.found.now.meta) c.args.found.now.place.size Elsewhere n) n) (sym long) fit)
     c.config-region.result.keyslots_size (region_said (content c.args.found.now.meta) c.config-region.result c.config-region.ensures)
@@ -58,7 +58,7 @@ returns-else-random-ne-RANDOM-clause-faultless c = λ v which found long.
 
 pub returns-else-random-ne-RANDOM-clause-ready : goal.returns-else-random-ne-RANDOM-clause-ready
 returns-else-random-ne-RANDOM-clause-ready c = record {
-  fit = fit_of _ _ _ (c.header_areas-areas.ensures c.args.source_total) c.in_ok-fit.ensures.fits;
+  fit = fit_of _ _ _ c.luks2_areas-areas.ensures c.in_ok-fit.ensures.fits;
   region = record {
     bytes = c.config-region.result.keyslots_size;
     says = region_said (content c.args.found.now.meta) c.config-region.result c.config-region.ensures;
