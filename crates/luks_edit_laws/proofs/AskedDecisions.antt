@@ -8,12 +8,12 @@ use Rattle.luks_slot.specs.declared.fault.SlotFault.{SlotFault}
 use Rattle.luks_slot.specs.declared.fault.SlotFault.TheVariants as slot
 use Rattle.luks_reading.specs.declared.open_fault.OpenFault.{OpenFault}
 use Rattle.luks_reading.specs.declared.open_fault.OpenFault.TheVariants as opening
-use Rattle.luks_reading.specs.Agreement.{IsSameAnswer}
 use Rattle.luks_reading.specs.Answer.{AnswerWithin, head_step, no_key, open_key, Opened, opens, refused, slot_row}
 use Rattle.luks_edit.specs.declared.edit.Edit.{Edit}
 use Rattle.luks_edit.specs.declared.edit.Edit.TheVariants.{Add, Change, Label, Remove, Repair}
 use Rattle.luks_edit.specs.Asked.{allowed_memory, HasFewIterations, OpensBy}
 use Rattle.luks_edit.specs.Opener.{IsLocked, IsShut}
+use Rattle.luks2_edits.proofs.VolumeLaws.{one_answer}
 use Rattle.luks_edit_laws.proofs.DecidedFacts.{alike_decided, Decided, less_decided}
 
 -- ---- iterations
@@ -92,11 +92,11 @@ head_apart f e = omega (arith, e)
 
 -- ---- answers
 
-module _ (m : ℕ) (v : List ℕ) (n : ℕ) (p : List ℕ) (one : (a b : Opened) → AnswerWithin m v n p a → AnswerWithin m v n p b → IsSameAnswer a b) where
+module _ (m : ℕ) (v : List ℕ) (n : ℕ) (p : List ℕ) where
   -- an answer is that there is no key, or it isn't
   no_key_as : (a : Opened) → AnswerWithin m v n p a → Decided (AnswerWithin m v n p no_key)
-  no_key_as (refused f) x = inr (λ y. one (refused f) no_key x y)
-  no_key_as (opens key) x = inr (λ y. one (opens key) no_key x y)
+  no_key_as (refused f) x = inr (λ y. one_answer m v n p (refused f) no_key x y)
+  no_key_as (opens key) x = inr (λ y. one_answer m v n p (opens key) no_key x y)
   no_key_as no_key x = inl x
 
   -- the refusal by the plan's fault, where the answer is a refusal
@@ -104,29 +104,28 @@ module _ (m : ℕ) (v : List ℕ) (n : ℕ) (p : List ℕ) (one : (a b : Opened)
   unfolding first_number second_number
   refused_as f (opening.Slot g) x = elim (cases_eq (slot_row g) (slot_row f)) [
     | inl same ↦ inl (subst (λ h. AnswerWithin m v n p (refused (opening.Slot h))) (one_of_row g f same) x)
-    | inr other ↦ inr (λ y. other (ap second_number (one (refused (opening.Slot g)) (refused (opening.Slot f)) x y)))
+    | inr other ↦ inr (λ y. other (ap second_number (one_answer m v n p (refused (opening.Slot g)) (refused (opening.Slot f)) x y)))
   ]
-  refused_as f (opening.Head g) x = inr (λ y. head_apart g (ap first_number (one (refused (opening.Head g)) (refused (opening.Slot f)) x y)))
-  refused_as f g x = inr (λ y. let e : first_number (open_key g) ≡ 7 = ap first_number (one (refused g) (refused (opening.Slot f)) x y) in omega (arith, e))
+  refused_as f (opening.Head g) x = inr (λ y. head_apart g (ap first_number (one_answer m v n p (refused (opening.Head g)) (refused (opening.Slot f)) x y)))
+  refused_as f g x = inr (λ y. let e : first_number (open_key g) ≡ 7 = ap first_number (one_answer m v n p (refused g) (refused (opening.Slot f)) x y) in omega (arith, e))
 
   -- an answer is the refusal by a plan's fault, or it isn't
   shut_as : (f : SlotFault) (a : Opened) → AnswerWithin m v n p a → Decided (AnswerWithin m v n p (refused (opening.Slot f)))
   shut_as f (refused g) x = refused_as f g x
-  shut_as f (opens key) x = inr (λ y. one (opens key) (refused (opening.Slot f)) x y)
-  shut_as f no_key x = inr (λ y. one no_key (refused (opening.Slot f)) x y)
+  shut_as f (opens key) x = inr (λ y. one_answer m v n p (opens key) (refused (opening.Slot f)) x y)
+  shut_as f no_key x = inr (λ y. one_answer m v n p no_key (refused (opening.Slot f)) x y)
 
 -- ---- the answer of the keyslot that it opens
 
-module _ (v : List ℕ) (one : (m n : ℕ) (p : List ℕ) (a b : Opened) → AnswerWithin m v n p a → AnswerWithin m v n p b → IsSameAnswer a b)
-    (answer : (m n : ℕ) (p : List ℕ) → (a : Opened) × AnswerWithin m v n p a) (e : Edit) where
+module _ (v : List ℕ) (answer : (m n : ℕ) (p : List ℕ) → (a : Opened) × AnswerWithin m v n p a) (e : Edit) where
   -- the passphrase gives no key, or it does, or the keyslot is refused
   pub locked_decided : Decided (IsLocked v e)
   locked_decided = alike_decided ((n : ℕ) × (p : List ℕ) × OpensBy e n p × AnswerWithin (allowed_memory e) v n p no_key) (IsLocked v e)
       (λ x. record { slot = x.0; passphrase = x.1; asked = x.2; answer = x.3 }) (λ x. (x.slot, x.passphrase, x.asked, x.answer))
-      (opener_decided e (λ n p. AnswerWithin (allowed_memory e) v n p no_key) (λ n p. no_key_as (allowed_memory e) v n p (one (allowed_memory e) n p) (answer (allowed_memory e) n p).0 (answer (allowed_memory e) n p).1))
+      (opener_decided e (λ n p. AnswerWithin (allowed_memory e) v n p no_key) (λ n p. no_key_as (allowed_memory e) v n p (answer (allowed_memory e) n p).0 (answer (allowed_memory e) n p).1))
 
   -- the keyslot is refused by a plan's fault, or it isn't
   pub shut_decided : (f : SlotFault) → Decided (IsShut v e f)
   shut_decided f = alike_decided ((n : ℕ) × (p : List ℕ) × OpensBy e n p × AnswerWithin (allowed_memory e) v n p (refused (opening.Slot f))) (IsShut v e f)
       (λ x. record { slot = x.0; passphrase = x.1; asked = x.2; answer = x.3 }) (λ x. (x.slot, x.passphrase, x.asked, x.answer))
-      (opener_decided e (λ n p. AnswerWithin (allowed_memory e) v n p (refused (opening.Slot f))) (λ n p. shut_as (allowed_memory e) v n p (one (allowed_memory e) n p) f (answer (allowed_memory e) n p).0 (answer (allowed_memory e) n p).1))
+      (opener_decided e (λ n p. AnswerWithin (allowed_memory e) v n p (refused (opening.Slot f))) (λ n p. shut_as (allowed_memory e) v n p f (answer (allowed_memory e) n p).0 (answer (allowed_memory e) n p).1))

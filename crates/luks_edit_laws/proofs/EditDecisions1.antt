@@ -2,7 +2,6 @@
 use Rattle.std.proofs.Common.{ℕ, List, inr}
 use Rattle.luks_reading.specs.declared.check_fault.CheckFault.{CheckFault}
 use Rattle.luks_reading.specs.declared.report.Data.{Data}
-use Rattle.luks_reading.specs.Agreement.{IsSameAnswer}
 use Rattle.luks_reading.specs.Answer.{AnswerWithin, Opened}
 use Rattle.luks_reading.specs.Checked.{IsFault}
 use Rattle.luks_edit.specs.declared.edit.Edit.{Edit}
@@ -13,15 +12,14 @@ use Rattle.luks_edit_laws.proofs.AskedDecisions.{few_decided, locked_decided, sh
 use Rattle.luks_edit_laws.proofs.DecidedFacts.{Decided}
 use Rattle.luks_edit_laws.proofs.RowDecisions1.{absent_decided, label_decided, last_decided, miscounted_decided, no_free_decided, taken_decided}
 
-module _ (v : List ℕ) (payload : Data) (same : (m n : ℕ) (p : List ℕ) (a b : Opened) → AnswerWithin m v n p a → AnswerWithin m v n p b → IsSameAnswer a b)
-    (answer : (m n : ℕ) (p : List ℕ) → (a : Opened) × AnswerWithin m v n p a) (sound : (f : CheckFault) → IsFault v payload f → ⊥) (e : Edit) (r : List ℕ) where
+module _ (v : List ℕ) (payload : Data) (answer : (m n : ℕ) (p : List ℕ) → (a : Opened) × AnswerWithin m v n p a) (sound : (f : CheckFault) → IsFault v payload f → ⊥) (e : Edit) (r : List ℕ) where
   -- by the entries, the answer and the edit itself
   pub fault1_decided : (f : EditFault) → Decided (IsEditFault1 v payload e r f)
   fault1_decided (edit.NotAccepted f) = inr (sound f)
   fault1_decided edit.Requirements = inr (λ bad. bad)
   fault1_decided edit.NoSuchSlot = absent_decided v e
-  fault1_decided edit.Locked = locked_decided v same answer e
-  fault1_decided (edit.Slot f) = shut_decided v same answer e f
+  fault1_decided edit.Locked = locked_decided v answer e
+  fault1_decided (edit.Slot f) = shut_decided v answer e f
   fault1_decided edit.SlotTaken = taken_decided v e
   fault1_decided edit.NoFreeSlot = no_free_decided v e
   fault1_decided edit.NoRoom = inr (λ bad. bad)

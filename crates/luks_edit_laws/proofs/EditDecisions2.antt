@@ -10,7 +10,6 @@ use Rattle.luks_making.specs.Naming.{IsDigestOf}
 use Rattle.luks_meta.specs.Requirements.{has_requirements}
 use Rattle.luks_reading.specs.declared.check_fault.CheckFault.{CheckFault}
 use Rattle.luks_reading.specs.declared.report.Data.{Data}
-use Rattle.luks_reading.specs.Agreement.{IsSameAnswer}
 use Rattle.luks_reading.specs.Answer.{AnswerWithin, Opened}
 use Rattle.luks_reading.specs.Checked.{IsFault}
 use Rattle.luks_edit.specs.declared.edit.Edit.{Edit}
@@ -48,15 +47,14 @@ said_decided v payload c says (inr isnt) = inr (λ x. let same = c.only x.place 
 
 -- ---- the edit
 
-module _ (v : List ℕ) (payload : Data) (same : (m n : ℕ) (p : List ℕ) (a b : Opened) → AnswerWithin m v n p a → AnswerWithin m v n p b → IsSameAnswer a b)
-    (answer : (m n : ℕ) (p : List ℕ) → (a : Opened) × AnswerWithin m v n p a) (sound : (f : CheckFault) → IsFault v payload f → ⊥) (e : Edit) (r : List ℕ) where
+module _ (v : List ℕ) (payload : Data) (answer : (m n : ℕ) (p : List ℕ) → (a : Opened) × AnswerWithin m v n p a) (sound : (f : CheckFault) → IsFault v payload f → ⊥) (e : Edit) (r : List ℕ) where
   -- where metadata counts
   fault_of_counting : Counting v payload → (f : EditFault) → Decided (IsEditFault2 v payload e r f)
   fault_of_counting c (edit.NotAccepted f) = inr (sound f)
   fault_of_counting c edit.Requirements = said_decided v payload c _ (true_decided (has_requirements c.value))
   fault_of_counting c edit.NoSuchSlot = said_decided v payload c _ (absent_decided c.value e)
-  fault_of_counting c edit.Locked = locked_decided v same answer e
-  fault_of_counting c (edit.Slot f) = shut_decided v same answer e f
+  fault_of_counting c edit.Locked = locked_decided v answer e
+  fault_of_counting c (edit.Slot f) = shut_decided v answer e f
   fault_of_counting c edit.SlotTaken = said_decided v payload c _ (taken_decided c.value e)
   fault_of_counting c edit.NoFreeSlot = said_decided v payload c _ (no_free_decided c.value e)
   fault_of_counting c edit.NoRoom = said_decided v payload c _ (no_room_decided (hdr_size (header_at v c.place)) (length v) payload c.value c.area e)
@@ -72,8 +70,8 @@ module _ (v : List ℕ) (payload : Data) (same : (m n : ℕ) (p : List ℕ) (a b
   -- where none counts
   fault_of_none : ((p : ℕ) (i : Value) → HasMetadata v p i → ⊥) → (f : EditFault) → Decided (IsEditFault2 v payload e r f)
   fault_of_none none (edit.NotAccepted f) = inr (sound f)
-  fault_of_none none edit.Locked = locked_decided v same answer e
-  fault_of_none none (edit.Slot f) = shut_decided v same answer e f
+  fault_of_none none edit.Locked = locked_decided v answer e
+  fault_of_none none (edit.Slot f) = shut_decided v answer e f
   fault_of_none none edit.Iterations = few_decided e
   fault_of_none none edit.BadLabel = bad_label_decided e
   fault_of_none none edit.Memory = inr (λ bad. bad)

@@ -2,42 +2,31 @@
 use Rattle.std.proofs.Common.{◌≡◌, ◌⊎◌, ℕ, ◌*◌, List, length, Some, refl, subst, inl, inr}
 use Rattle.serde_json.specs.Data.{Data as Value}
 use Rattle.luks_area.specs.declared.area.Area.{Area}
-use Rattle.luks_area.specs.declared.area.AreaName.{AreaName}
 use Rattle.luks_head.specs.Header2.{hdr_size, header_at}
-use Rattle.luks_head.specs.Selection.{Choice, Chosen, luks2}
-use Rattle.luks_json.specs.AreaText.{Json}
+use Rattle.luks_head.specs.Selection.{luks2}
 use Rattle.luks_rules.specs.Accepted.{IsMeta}
 use Rattle.luks_rules.specs.Sizes.{keyslots_size}
 use Rattle.luks_reading.specs.declared.report.Data.{Data}
-use Rattle.luks_reading.specs.Checked.{AreaOf, IsLuks2Volume, WellFormed, WellFormedAs}
+use Rattle.luks_reading.specs.Checked.{IsLuks2Volume, WellFormed, WellFormedAs}
 use Rattle.luks_reading.specs.Header.{json_at}
 use Rattle.luks_reading.specs.Layout2.{Luks2Area}
+use Rattle.luks_reading.proofs.Luks2AreaFacts.{luks2_area-unique}
 use Rattle.luks2_edits.specs.Gap.{area_at}
 use Rattle.luks2_edits.specs.Metadata.{HasMetadata, IsInUse}
 use Rattle.luks2_edits.specs.Places.{HasNoNewArea, IsNewArea, key_areas_end, rounded_to_blocks}
+use Rattle.luks2_edits.proofs.VolumeLaws.{one_choice, one_value}
 use Rattle.luks_edit_laws.proofs.GapAreas.{beside_decided}
 use Rattle.luks_edit_laws.proofs.GapNumbers.{some_region, some_stripes, SomeStripes}
 use Rattle.luks_edit_laws.proofs.GapPlaces.{least_gap_or_none}
 
--- the header and the value that count are one of each, and a name has one area at most
-module _ (only : (v : List ℕ) (b c : Choice) → Chosen v b → Chosen v c → b ≡ c) (one : (json : List ℕ) (i j : Value) → Json json i → Json json j → i ≡ j)
-    (one_area : (v : List ℕ) (payload : Data) (n : AreaName) (a b : Area) → AreaOf v payload n a → AreaOf v payload n b → a ≡ b)
-    (v : List ℕ) (payload : Data) (place : ℕ) (j : Value) (metadata : HasMetadata v place j) where
-  -- an area that the metadata names is one of the volume
-  area_of : (n : AreaName) (a : Area) → Luks2Area j (hdr_size (header_at v place)) payload (length v) n a → AreaOf v payload n a
-  area_of n a is = record {
-    choice = luks2 place metadata.copies;
-    chosen = metadata.chosen;
-    area = record { value = j; holds = metadata.holds; area = is };
-  }
-
+module _ (v : List ℕ) (payload : Data) (place : ℕ) (j : Value) (metadata : HasMetadata v place j) where
   -- the metadata that counts of a well formed volume is accepted
   accepted : WellFormed v payload → IsMeta (json_at v place) j
   accepted formed =
       let volume : IsLuks2Volume (header_at v place) (json_at v place) payload (length v) =
-      subst (WellFormedAs v payload) (only v formed.choice (luks2 place metadata.copies) formed.chosen metadata.chosen) formed.formed in
+      subst (WellFormedAs v payload) (one_choice v formed.choice (luks2 place metadata.copies) formed.chosen metadata.chosen) formed.formed in
       let held = volume.layout.1.metadata in
-      subst (IsMeta (json_at v place)) (one (json_at v place) volume.layout.0 j held.json metadata.holds) held
+      subst (IsMeta (json_at v place)) (one_value (json_at v place) volume.layout.0 j held.json metadata.holds) held
 
   -- there is the area of a keyslot that is made like the keyslot `n`, or there is none
   abbrev AreaOrNoRoom : ℕ → Type 0
@@ -51,7 +40,7 @@ module _ (only : (v : List ℕ) (b c : Choice) → Chosen v b → Chosen v c →
       let h = hdr_size (header_at v place) in
       let bytes = rounded_to_blocks (s.key_bytes * s.stripes) in
       elim (least_gap_or_none (Luks2Area j h payload (length v)) (2 * h) (key_areas_end h (length v) region.0) bytes
-      (beside_decided j h payload (length v) (λ m a b x y. one_area v payload m a b (area_of m a x) (area_of m b y)))) [
+      (beside_decided j h payload (length v) (luks2_area-unique j h payload (length v)))) [
         | inl found ↦ inl (
           area_at found.0 bytes,
           record { key_bytes = s.key_bytes; stripes = s.stripes; slot = s.slot; region = region.0; region_is = region.1; len = refl; gap = found.1 },

@@ -8,10 +8,6 @@ ghost use Rattle.luks_reading.specs.Checked.{WellFormed};
 ghost use Rattle.luks2_edits.specs.Metadata.{HasMetadata, IsInUse};
 ghost use Rattle.luks2_edits.specs.Places.{HasNoNewArea, IsNewArea};
 
-use luks_head::one_choice;
-use luks_json::one_value;
-use luks_reading::one_area;
-
 /// In a well formed LUKS2 volume a keyslot that is made like the keyslot `n` has its area, or there
 /// is no room for it.
 pub fn area_or_no_room()
@@ -19,8 +15,4 @@ pub fn area_or_no_room()
         → WellFormed v payload → HasMetadata v place j → IsInUse j n
         → ((a : TheArea) × IsNewArea (hdr_size (header_at v place)) (length v) payload j n a)
         ⊎ HasNoNewArea (hdr_size (header_at v place)) (length v) payload j n }
-{
-    one_choice();
-    one_value();
-    one_area();
-}
+{}

@@ -11,14 +11,9 @@ ghost use Rattle.luks2_edits.specs.Refused.{IsUnrefused2, Refusal2};
 ghost use Rattle.luks2_judging.specs.Opened.{TakesMemoryToOpen};
 ghost use Rattle.luks_volume.specs.Edits.{IsUnrefused, Refusal};
 
-use crate::gaps::area_or_no_room;
 use luks_edit::EditFault;
-use luks_head::one_choice;
-use luks_json::one_value;
 use luks_laws::{every_keyslot_has_an_answer, first_fault_or_well_formed};
-use luks_meta::one_digest;
-use luks_reading::{no_fault_is_well_formed, nothing_allowed_is_as_before, one_answer};
-use luks2_judging::salts_are_as_long;
+use luks_reading::nothing_allowed_is_as_before;
 
 /// An edit of a volume has a first refusal, or it is refused by nothing: by the rules of either
 /// version, and by those of what counts of the volume.
@@ -30,15 +25,8 @@ pub fn first_refusal_or_unrefused()
     ensures volume { (v : List ℕ) (payload : Payload) (e : TheEdit) (random : List ℕ)
         → ((f : EditFault) × Refusal v payload e random f) ⊎ IsUnrefused v payload e random }
 {
-    one_choice();
-    one_value();
-    one_digest();
-    no_fault_is_well_formed();
-    one_answer();
-    salts_are_as_long();
     first_fault_or_well_formed();
     every_keyslot_has_an_answer();
-    area_or_no_room();
 }
 
 /// A passphrase without memory allows none to an edit; where none is allowed, a keyslot answers the
