@@ -21,5 +21,5 @@ share_for true = Exclusive
 share_for false = Shared
 
 -- another program holds the lock of the file or node, or that of the name
-abbrev pub IsTaken : Lock → Type 0
-IsTaken lock = (lock.node ≡ Taken) ⊎ (lock.name ≡ named.Taken)
+abbrev pub IsHeldByAnother : Lock → Type 0
+IsHeldByAnother lock = (lock.node ≡ Taken) ⊎ (lock.name ≡ named.Taken)

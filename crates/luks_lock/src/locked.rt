@@ -1,5 +1,5 @@
 ghost use Rattle.std.specs.Prelude.{◌≡◌, ◌↔◌, ◌⊎◌, IsTrue};
-ghost use Rattle.luks_lock.specs.Locked.{IsTaken};
+ghost use Rattle.luks_lock.specs.Locked.{IsHeldByAnother};
 
 use crate::asking::{Answer, Share};
 use crate::names::Named;
@@ -20,7 +20,7 @@ pub struct Lock {
 impl Lock {
     /// Whether another program holds one of the two.
     pub fn is_taken(&self) -> bool
-        ensures { IsTrue result ↔ IsTaken self.now }
+        ensures { IsTrue result ↔ IsHeldByAnother self.now }
     {
         self.node == Answer::Taken || matches!(self.name, Named::Taken)
     }

@@ -1,6 +1,6 @@
 ghost use Rattle.std.specs.Prelude.{◌≡◌, IfOk, IsTrue};
 ghost use Rattle.luks_area.specs.Files.{file_failures};
-ghost use Rattle.luks_lock.specs.Locked.{IsTaken, device_inside, lock_of, share_for};
+ghost use Rattle.luks_lock.specs.Locked.{IsHeldByAnother, device_inside, lock_of, share_for};
 
 use crate::asking::{Answer, Share, ask};
 use crate::locked::{Lock, LockedDevice};
@@ -53,7 +53,7 @@ pub fn open_locked<R: AllocGlobal + Clock + Files<File = File>>(
     writes: bool,
     folder: &str,
 ) -> Result<LockedDevice<FileDevice<File>>, OpenFault>
-    ensures alone { IsTrue writes → IfOk result (λ device. IsTaken (lock_of device) → ⊥) }
+    ensures alone { IsTrue writes → IfOk result (λ device. IsHeldByAnother (lock_of device) → ⊥) }
     ensures share { IfOk result (λ device. (lock_of device).share ≡ share_for writes) }
     ensures count { IfOk result (λ device. file_failures (device_inside device) ≡ 0) }
 {
