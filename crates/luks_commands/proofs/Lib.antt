@@ -3,6 +3,7 @@ pub mod RebuildFacts
 pub mod CheckFacts
 pub mod EndFacts
 pub mod ExitFacts
+pub mod FaultlessFacts
 pub mod FileFacts
 pub mod FormatFacts
 pub mod Fronts

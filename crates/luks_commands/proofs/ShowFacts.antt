@@ -1,6 +1,5 @@
 -- What `show` answers of a header that was read, and of one that wasn't.
-use Rattle.std.proofs.Common.{◌≡◌, ℕ, List, ◌↔◌, inl, inr, subst, sym, arith}
-use Rattle.serde_json.specs.Data.{Data}
+use Rattle.std.proofs.Common.{◌≡◌, ℕ, List, inl, inr, subst, sym, arith}
 use Rattle.luks_area.specs.Device.{count_after}
 use Rattle.luks_area.specs.First.{NotAfter, IsLeast}
 use Rattle.luks_area.specs.Ranges.{part}
@@ -8,11 +7,9 @@ use Rattle.luks_head.specs.declared.fault.HeadFault.{HeadFault}
 use Rattle.luks_head.specs.declared.luks1.Luks1.{Luks1 as Header1}
 use Rattle.luks_head.specs.Faults.{head_key, IsLuks1Fault}
 use Rattle.luks_head.specs.Header1.{IsLuks1}
-use Rattle.luks_head.specs.Header2.{header_at, uuid_field, IsUuidFault, IsUuidField}
-use Rattle.luks_head.specs.Selection.{Choice, luks1, luks2, Chosen}
-use Rattle.luks_rules.specs.declared.fault.MetaFault.{MetaFault}
-use Rattle.luks_rules.specs.Accepted.{IsMeta}
-use Rattle.luks_rules.specs.MetaFault.{IsMetaFault}
+use Rattle.luks_head.specs.Header2.{header_at, uuid_field}
+use Rattle.luks_head.specs.Selection.{luks1, luks2, Chosen}
+use Rattle.luks_head.proofs.ChoiceFacts.{choices_agree, uuid_sound}
 use Rattle.luks_meta.specs.Content.{content}
 use Rattle.luks_reading.specs.declared.check_fault.CheckFault.{CheckFault}
 use Rattle.luks_reading.specs.declared.check_fault.CheckFault.TheVariants.{Head, Meta, Area, Device, Memory}
@@ -34,6 +31,7 @@ use Rattle.luks_commands.specs.declared.answers.Answer.{Answer}
 use Rattle.luks_commands.specs.declared.answers.Answer.TheVariants.{Accepted, Listed, Json, Opens, Closed, NoneOpens, Done, Refused, DeviceFault, NoMemory}
 use Rattle.luks_commands.specs.declared.answers.Refusal.TheVariants.{LongPassphrase, Check, Open, Edit, Format, Convert, Rebuild, SameFile}
 use Rattle.luks_commands.specs.Answer.{check_fault_answer}
+use Rattle.luks_commands.proofs.FaultlessFacts.{metadata_faultless}
 use Rattle.luks_commands.specs.ShowAnswers.{IsBeforeAreas, IsAsJson, IsFirstShowFault, IsJsonAnswer, IsListedAnswer, IsShowAnswer, IsShowFault, IsShown, IsShownAs}
 
 -- the first fault of a check is the first that refuses a listing, unless it is one of the areas
@@ -41,19 +39,19 @@ first_shown : (v : List ℕ) (f : CheckFault) → First v Elsewhere f → IsBefo
 first_shown v f first before = (record { fault = first.0; before = before }, λ g is. first.1 g is.fault)
 
 -- a header that isn't read
-pub answers_unread : ((v : List ℕ) (b c : Choice) → Chosen v b → Chosen v c → b ≡ c) → (tells : Type 0) (v : List ℕ) (before after : ℕ) (f : ReadFault)
+pub answers_unread : (tells : Type 0) (v : List ℕ) (before after : ℕ) (f : ReadFault)
     → after ≡ count_after (is_read_failure f) before → (tells → IsUnread v f) → IsListedAnswer tells v before after (check_fault_answer (unread_checked f))
-answers_unread only tells v before after (reading.Head f) count is = (count, λ t. first_shown v (Head f) (unread_refused only v Elsewhere (reading.Head f) (is t)) tt)
-answers_unread only tells v before after (reading.Meta f) count is = (count, λ t. first_shown v (Meta f) (unread_refused only v Elsewhere (reading.Meta f) (is t)) tt)
-answers_unread only tells v before after reading.Device count is = count
-answers_unread only tells v before after reading.Memory count is = (count, is)
+answers_unread tells v before after (reading.Head f) count is = (count, λ t. first_shown v (Head f) (unread_refused choices_agree v Elsewhere (reading.Head f) (is t)) tt)
+answers_unread tells v before after (reading.Meta f) count is = (count, λ t. first_shown v (Meta f) (unread_refused choices_agree v Elsewhere (reading.Meta f) (is t)) tt)
+answers_unread tells v before after reading.Device count is = count
+answers_unread tells v before after reading.Memory count is = (count, is)
 
 -- ---- LUKS1
 
-module _ (only : (v : List ℕ) (b c : Choice) → Chosen v b → Chosen v c → b ≡ c) (v : List ℕ) (chosen : Chosen v luks1) where
+module _ (v : List ℕ) (chosen : Chosen v luks1) where
   -- a fault of the volume is one of its header's 592 bytes
   luks1_fault : (f : CheckFault) → IsShowFault v f → IsFaultAs v Elsewhere luks1 f
-  luks1_fault f is = subst (λ c. IsFaultAs v Elsewhere c f) (only v is.fault.choice luks1 is.fault.chosen chosen) is.fault.fault
+  luks1_fault f is = subst (λ c. IsFaultAs v Elsewhere c f) (choices_agree v is.fault.choice luks1 is.fault.chosen chosen) is.fault.fault
 
   luks1_first : (f : HeadFault) → IsLeast head_key (IsLuks1Fault (part v 0 592)) f → IsFirstShowFault v (Head f)
   luks1_first f least = (record { fault = record { choice = luks1; chosen = chosen; fault = least.0 }; before = tt }, after)
@@ -73,41 +71,38 @@ module _ (only : (v : List ℕ) (b c : Choice) → Chosen v b → Chosen v c →
   luks1_faultless none Memory is = is.before
 
 -- the 592 bytes of a LUKS1 header have a fault
-pub answers_luks1 : ((v : List ℕ) (b c : Choice) → Chosen v b → Chosen v c → b ≡ c) → (tells : Type 0) (v h : List ℕ) (before after : ℕ) (f : HeadFault)
+pub answers_luks1 : (tells : Type 0) (v h : List ℕ) (before after : ℕ) (f : HeadFault)
     → after ≡ before → (tells → Chosen v luks1 × (h ≡ part v 0 592)) → IsLeast head_key (IsLuks1Fault h) f
     → IsListedAnswer tells v before after (check_fault_answer (unread_checked (head_unread f)))
-answers_luks1 only tells v h before after f count is least =
+answers_luks1 tells v h before after f count is least =
     subst (λ r. IsListedAnswer tells v before after (check_fault_answer (unread_checked r)))
     (sym (own_head f (λ e. subst (IsLuks1Fault h) e least.0) (λ e. subst (IsLuks1Fault h) e least.0)))
-    (count, λ t. luks1_first only v (is t).0 f (subst (λ b. IsLeast head_key (IsLuks1Fault b) f) (is t).1 least))
+    (count, λ t. luks1_first v (is t).0 f (subst (λ b. IsLeast head_key (IsLuks1Fault b) f) (is t).1 least))
 
 -- or none
-pub shows_luks1 : ((v : List ℕ) (b c : Choice) → Chosen v b → Chosen v c → b ≡ c) → (v h : List ℕ) (d : Header1) → Chosen v luks1 × (h ≡ part v 0 592)
+pub shows_luks1 : (v h : List ℕ) (d : Header1) → Chosen v luks1 × (h ≡ part v 0 592)
     → ((f : HeadFault) → IsLuks1Fault h f → ⊥) → IsLuks1 h d → IsShown v (Luks1 d)
-shows_luks1 only v h d is none holds = record {
-  faultless = luks1_faultless only v is.0 (subst (λ b. (f : HeadFault) → IsLuks1Fault b f → ⊥) is.1 none);
+shows_luks1 v h d is none holds = record {
+  faultless = luks1_faultless v is.0 (subst (λ b. (f : HeadFault) → IsLuks1Fault b f → ⊥) is.1 none);
   is = (is.0, subst (λ b. IsLuks1 b d) is.1 holds);
 }
 
 -- ---- LUKS2
 
 -- the copy that counts has no fault
-pub shows_luks2 : ((v : List ℕ) (b c : Choice) → Chosen v b → Chosen v c → b ≡ c)
-    → ((field : List ℕ) → ((f : HeadFault) → IsUuidFault field f → ⊥) ↔ IsUuidField field)
-    → ((json : List ℕ) → ((f : MetaFault) → IsMetaFault json f → ⊥) ↔ ((j : Data) × IsMeta json j))
-    → (v : List ℕ) (copy : ChosenCopy) → IsChosenCopy v copy → IsShown v (Luks2 copy)
-shows_luks2 only uuid metadata v copy is = record { faultless = none; is = is }
+pub shows_luks2 : (v : List ℕ) (copy : ChosenCopy) → IsChosenCopy v copy → IsShown v (Luks2 copy)
+shows_luks2 v copy is = record { faultless = none; is = is }
   where
     place : ℕ
     place = copy.header.hdr_offset
 
     own : (f : CheckFault) → IsShowFault v f → IsFaultAs v Elsewhere (luks2 place copy.copies) f
-    own f x = subst (λ c. IsFaultAs v Elsewhere c f) (only v x.fault.choice (luks2 place copy.copies) x.fault.chosen is.chosen) x.fault.fault
+    own f x = subst (λ c. IsFaultAs v Elsewhere c f) (choices_agree v x.fault.choice (luks2 place copy.copies) x.fault.chosen is.chosen) x.fault.fault
 
     none : (f : CheckFault) → IsShowFault v f → ⊥
-    none (Head f) x = (uuid (uuid_field (header_at v place))).1 is.uuid f (own (Head f) x)
+    none (Head f) x = uuid_sound (uuid_field (header_at v place)) is.uuid f (own (Head f) x)
     none (Meta f) x = elim (meta_cases (json_at v place) Elsewhere f (own (Meta f) x)) [
-      | inl mine ↦ (metadata (json_at v place)).1 (content copy.meta, is.metadata) f mine
+      | inl mine ↦ (metadata_faultless (json_at v place)).1 (content copy.meta, is.metadata) f mine
       | inr other ↦ let here = other.1.1.here in cc
     ]
     none (Area f) x = x.before

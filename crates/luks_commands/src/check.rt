@@ -12,10 +12,7 @@ ghost use Rattle.luks_reading.specs.Header.{IsAcceptedHeader};
 use crate::answers::{Answer, Status, end, refused, unread};
 use crate::inputs::InputFault;
 use crate::printer::Printer;
-use luks_reading::{
-    AreaName, Areas, CheckFault, Data, Device, Header, check_header, no_fault_is_well_formed,
-    read_header, unread_volume_is_refused,
-};
+use luks_reading::{AreaName, Areas, CheckFault, Data, Device, Header, check_header, read_header};
 use std::alloc::Global;
 use std::io::Write;
 
@@ -75,8 +72,6 @@ fn check_device<D: Device, E: Write>(
     ensures answers { IsCheckAnswer D.tells (D.bytes device.old) data_
         (D.failed device.old) (D.failed device.new) result }
 {
-    no_fault_is_well_formed();
-    unread_volume_is_refused();
     let header = match read_header(alloc, device) {
         Ok(header) => header,
         Err(fault) => return refused(CheckFault::from(fault), name, err),

@@ -14,7 +14,6 @@ use crate::answers::{Answer, Refusal, Status, end, unread};
 use crate::inputs::Inputs;
 use crate::passphrase_file::{PassphraseFault, passphrase};
 use crate::printer::Printer;
-use luks_head::one_choice;
 use luks_reading::{Device, Key, OpenFault, open_header_slot, read_header, unlock_header};
 pub use memory_notes::{MemoryNote, memory_note};
 use memory_notes::{note_all_wanting, note_refused, note_wanting};
@@ -131,7 +130,6 @@ fn open_one<D: Device, E: Write>(
     ensures answers { IsOneAnswer D.tells memory (D.bytes device.old) n passphrase.now
         (D.failed device.old) (D.failed device.new) result }
 {
-    one_choice();
     let header = match read_header(alloc, device) {
         Ok(header) => header,
         Err(fault) => {
@@ -178,7 +176,6 @@ fn open_any<D: Device, E: Write>(
     ensures answers { IsAnyAnswer D.tells memory (D.bytes device.old) passphrase.now
         (D.failed device.old) (D.failed device.new) result }
 {
-    one_choice();
     let header = match read_header(alloc, device) {
         Ok(header) => header,
         Err(fault) => {

@@ -10,10 +10,8 @@ ghost use Rattle.luks_commands.specs.ShowAnswers.{AnswersShow, IsAsJson, IsListe
 use crate::answers::{Answer, Status, end, refused, unread};
 use crate::inputs::InputFault;
 use crate::printer::Printer;
-use luks_head::{luks2_without_faults, one_choice};
 use luks_reading::{CheckFault, Device, Header, Luks1, read_header};
 use luks_request::ShowAs;
-use luks_rules::metadata_without_faults;
 use luks_show::Listing;
 use luks_show_json::json_text;
 use std::alloc::Global;
@@ -98,9 +96,6 @@ fn show_device<D: Device, E: Write>(
     ensures answers { IsListedAnswer D.tells (D.bytes device.old)
         (D.failed device.old) (D.failed device.new) result }
 {
-    one_choice();
-    luks2_without_faults();
-    metadata_without_faults();
     match read_header(alloc, device) {
         Ok(Header::Luks1(bytes)) => match Luks1::read(&bytes) {
             Ok(header) => Answer::Listed(Listing::Luks1(header)),

@@ -1,26 +1,28 @@
 -- A header that isn't read refuses the volume; what is judged by one that was read holds of the volume.
 use Rattle.std.proofs.Common.{sym, subst, ◌∙◌}
-use Rattle.luks_reading.proofs.CheckFacts.{first_refused, outside}
+use Rattle.luks_head.proofs.ChoiceFacts.{choices_agree}
+use Rattle.luks_reading.proofs.CheckFacts.{first_refused, outside, unread_refused}
 use Rattle.luks_commands.specs.Answer.{answer_status}
 use Rattle.luks_commands.specs.CheckAnswers.{IsCheckAnswer}
 use Rattle.luks_commands.specs.Checked.{EndsCheck}
 use Rattle.luks_commands.proofs.CheckFacts.{answers_judged, answers_unread, ends_fault}
 use Rattle.luks_commands.proofs.ExitFacts.{ends_accepted}
+use Rattle.luks_commands.proofs.FaultlessFacts.{well_formed_faultless}
 use Rattle.luks_commands.proofs.check.check_device.Goals as goal
 
 pub returns-in-Err-clause-status : goal.returns-in-Err-clause-status
 returns-in-Err-clause-status g c = λ tells.
     let v = g.D.Device.bytes c.args.device.now in
-    let refusal = c.unread_volume_is_refused.ensures v c.args.data_ c.in-Err.fault (c.in-Err.ensures.refused tells) in
+    let refusal = unread_refused choices_agree v c.args.data_ c.in-Err.fault (c.in-Err.ensures.refused tells) in
     rw (c.refused.ensures.answer, c.from.ensures)
-    (ends_fault v c.args.data_ _ (λ well. outside v c.args.data_ _ ((c.no_fault_is_well_formed.ensures v c.args.data_).0 well) refusal))
+    (ends_fault v c.args.data_ _ (λ well. outside v c.args.data_ _ (well_formed_faultless v c.args.data_ well) refusal))
 
 pub returns-in-Err-clause-answers : goal.returns-in-Err-clause-answers
 returns-in-Err-clause-answers g c =
     let v = g.D.Device.bytes c.args.device.now in
     rw (c.refused.ensures.answer, c.from.ensures)
     (answers_unread g.D.Device.tells v c.args.data_ _ _ c.in-Err.fault c.in-Err.ensures.count
-    (λ tells. c.unread_volume_is_refused.ensures v c.args.data_ c.in-Err.fault (c.in-Err.ensures.refused tells)))
+    (λ tells. unread_refused choices_agree v c.args.data_ c.in-Err.fault (c.in-Err.ensures.refused tells)))
 
 pub returns-in-Ok-check_header-clause-status : goal.returns-in-Ok-check_header-clause-status
 returns-in-Ok-check_header-clause-status g c = λ tells.
@@ -53,7 +55,7 @@ returns-clause-status g c = λ tells.
     let long = g.met.D.Device.sized c.args.device.now tells ∙ sym c.in-Ok.ensures.unchanged.size ∙ sym c.len-total.ensures in
     let refusal = first_refused v c.args.data_ _ (c.in-Err-check_header.ensures.refused v is long) in
     subst (λ a. EndsCheck v c.args.data_ (answer_status a)) (sym c.refused-in-Err-check_header.ensures.answer)
-    (ends_fault v c.args.data_ c.in-Err-check_header.fault (λ well. outside v c.args.data_ _ ((c.no_fault_is_well_formed.ensures v c.args.data_).0 well) refusal))
+    (ends_fault v c.args.data_ c.in-Err-check_header.fault (λ well. outside v c.args.data_ _ (well_formed_faultless v c.args.data_ well) refusal))
 
 pub returns-clause-answers : goal.returns-clause-answers
 returns-clause-answers g c =

@@ -1,4 +1,5 @@
 use Rattle.std.proofs.Common.{ap, sym, subst, ◌∙◌}
+use Rattle.luks_head.proofs.ChoiceFacts.{choices_agree}
 use Rattle.luks_reading.proofs.KeyslotAnswers.{unread_refused}
 use Rattle.luks_commands.specs.Answer.{open_fault_answer}
 use Rattle.luks_commands.specs.OpenAnswers.{IsOneAnswer}
@@ -21,4 +22,4 @@ returns-in-Err-clause-answers g c =
     let v = g.D.Device.bytes c.args.device.now in
     subst (IsOneAnswer g.D.Device.tells c.args.memory v c.args.n c.args.passphrase.now _ _) (sym (c.from-answer.ensures ∙ ap open_fault_answer c.from.ensures))
     (one_unread_header g.D.Device.tells c.args.memory v c.args.n c.args.passphrase.now _ _ c.in-Err.fault c.in-Err.ensures.count
-    (λ tells. unread_refused c.args.memory v c.args.n c.args.passphrase.now c.in-Err.fault (c.one_choice.ensures.only v) (c.in-Err.ensures.refused tells)))
+    (λ tells. unread_refused c.args.memory v c.args.n c.args.passphrase.now c.in-Err.fault (choices_agree v) (c.in-Err.ensures.refused tells)))
