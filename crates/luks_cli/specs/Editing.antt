@@ -23,7 +23,7 @@ use Rattle.luks_commands.specs.declared.inputs.InputFault.{InputFault}
 use Rattle.luks_commands.specs.declared.inputs.Inputs.{Inputs}
 use Rattle.luks_request.specs.Named.{edit_new_of, edit_passphrase_of}
 use Rattle.luks_commands.specs.OpenAnswers.{kib_of}
-use Rattle.luks_commands.specs.Files.{IsLong, IsTaken, IsUnread, IsUnreadRandom, IsWhole, OfNamed}
+use Rattle.luks_commands.specs.Files.{AreFirstBytes, IsLong, IsUnread, IsUnreadRandom, IsWhole, OfNamed}
 
 -- ---- what is asked for
 
@@ -57,7 +57,7 @@ pub record Given : Type 1 where
 abbrev pub given_by : {D R N : Type 0} → EditRequest → (R → Option (List ℕ)) → (N → Option (List ℕ)) → Inputs D R N → Given
 given_by request of_passphrase of_random inputs = record {
   asks = IsAsked request (IsWhole of_passphrase inputs.passphrase) (IsWhole of_passphrase inputs.new_passphrase);
-  has_random = λ count. IsTaken count of_random inputs.random;
+  has_random = λ count. AreFirstBytes count of_random inputs.random;
   is_long = OfNamed (edit_passphrase_of request) (IsLong of_passphrase inputs.passphrase) ⊎ OfNamed (edit_new_of request) (IsLong of_passphrase inputs.new_passphrase);
 }
 

@@ -10,7 +10,7 @@ ghost use Rattle.luks_cli.specs.EditAnswers.{AnswersEdit, IsEditAnswer};
 ghost use Rattle.luks_cli.specs.Editing.{given_by, given_edit, KeepsUnnamed, lacking_by, lacking_random, SaysEdit};
 ghost use Rattle.luks_cli.specs.Editing.{SparesEdit, SparesVolume, WhereFailed};
 ghost use Rattle.luks_commands.specs.Exit.{IsExitStatus};
-ghost use Rattle.luks_commands.specs.Files.{IsTaken, IsUnreadRandom, LeavesSettled, LeavesVolume};
+ghost use Rattle.luks_commands.specs.Files.{AreFirstBytes, IsUnreadRandom, LeavesSettled, LeavesVolume};
 
 mod asked;
 mod one_edit;
@@ -137,7 +137,7 @@ fn edit_device<D: Device, N: Read, E: Write>(
         → IsSettled D.unsettled device.new }
     ensures size { D.size device.new ≡ D.size device.old }
     ensures says { D.tells → SaysEdit editing.now.data_
-        (given_edit edit.now (λ count. IsTaken count N.remaining random.old))
+        (given_edit edit.now (λ count. AreFirstBytes count N.remaining random.old))
         (D.bytes device.old) (D.bytes device.new)
         (answer_status result ≡ Status.Done) (answer_status result ≡ Status.Refused) }
     ensures keeps { D.tells → WellFormed (D.bytes device.old) editing.now.data_
@@ -148,11 +148,11 @@ fn edit_device<D: Device, N: Read, E: Write>(
         → answer_status result ≡ Status.Fault }
     ensures spared { D.tells → WellFormed (D.bytes device.old) editing.now.data_
         → (D.failed device.new ≡ D.failed device.old → ⊥) → SparesEdit editing.now.data_
-        (given_edit edit.now (λ count. IsTaken count N.remaining random.old))
+        (given_edit edit.now (λ count. AreFirstBytes count N.remaining random.old))
         (D.bytes device.old) (D.bytes device.new) }
     ensures kinds { answer_status result ≢ Status.NotInStep }
     ensures answers { IsEditAnswer D.tells editing.now.data_
-        (given_edit edit.now (λ count. IsTaken count N.remaining random.old))
+        (given_edit edit.now (λ count. AreFirstBytes count N.remaining random.old))
         (lacking_random (λ count. IsUnreadRandom count random.old))
         (D.bytes device.old) (D.bytes device.new) (D.failed device.old) (D.failed device.new)
         result }

@@ -5,23 +5,25 @@ ghost use Rattle.luks_commands.specs.Answer.{Prints};
 ghost use Rattle.luks_commands.specs.CheckAnswers.{AnswersCheck};
 ghost use Rattle.luks_commands.specs.Checked.{SaysCheck, WhereCheck};
 ghost use Rattle.luks_cli.specs.EditAnswers.{AnswersEdit};
-ghost use Rattle.luks_commands.specs.Converting.{AnswersConvert, AreOneFile, IsSameFile, KeepsRest, LeavesTarget};
-ghost use Rattle.luks_commands.specs.Converting.{random_count, SettlesTarget, UnlessBeside, WhereConvert};
-ghost use Rattle.luks_commands.specs.Rebuilding.{AnswersRebuild, given_of, KeepsRest as KeepsOthers};
-ghost use Rattle.luks_commands.specs.Rebuilding.{random_count as rebuild_count, which_of, WhereRebuild};
 ghost use Rattle.luks_cli.specs.Editing.{given_by, KeepsUnnamed, lacking_by, SaysEdit, SparesVolume};
 ghost use Rattle.luks_cli.specs.Editing.{WhereEdit, WhereFailed};
 ghost use Rattle.luks_commands.specs.Exit.{IsExitStatus};
-ghost use Rattle.luks_commands.specs.Files.{IsLong, IsTaken, IsUnread, IsUnreadRandom, IsWhole, KeepsVolume, LeavesSettled, LeavesVolume};
-ghost use Rattle.luks_commands.specs.Files.{UnlessWriter};
+ghost use Rattle.luks_commands.specs.Files.{AreFirstBytes, IsLong, IsUnread, IsUnreadRandom, IsWhole};
+ghost use Rattle.luks_commands.specs.Files.{KeepsVolume, LeavesSettled, LeavesVolume, UnlessWriter};
 ghost use Rattle.luks_commands.specs.FormatAnswers.{AnswersFormat, IsUnreadEither};
 ghost use Rattle.luks_commands.specs.Formatting.{needed, SaysFormat, WhereFormat};
 ghost use Rattle.luks_commands.specs.OpenAnswers.{AnswersOpen, kib_of, WhereOpen};
 ghost use Rattle.luks_commands.specs.ShowAnswers.{AnswersShow, WhereShow};
+ghost use Rattle.luks_header_commands.specs.Converting.{AnswersConvert, KeepsRest, random_count, WhereConvert};
+ghost use Rattle.luks_header_commands.specs.Rebuilding.{AnswersRebuild, given_of, KeepsRest as KeepsOthers};
+ghost use Rattle.luks_header_commands.specs.Rebuilding.{random_count as rebuild_count, which_of, WhereRebuild};
+ghost use Rattle.luks_header_commands.specs.Target.{AreOneFile, IsSameFile, LeavesTarget, SettlesTarget};
+ghost use Rattle.luks_header_commands.specs.Target.{UnlessBeside};
 
 use crate::edit;
 use luks_commands::open::Tried;
-use luks_commands::{Inputs, Printer, check, convert, format, open, rebuild, show};
+use luks_commands::{Inputs, Printer, check, format, open, show};
+use luks_header_commands::{convert, rebuild};
 use luks_request::{Command, Line};
 use luks_volume::Device;
 use std::alloc::Global;
@@ -69,10 +71,11 @@ pub fn execute<D: Device, R: Read, N: Read, P: Printer, E: Write>(
         inputs.old.volume inputs.new.volume) }
     ensures format { WhereFormat line.now.command (λ making. LeavesVolume D.tells D.size D.bytes
         (λ old new. SaysFormat making (IsWhole R.remaining inputs.old.passphrase)
-        (IsTaken (needed making.version) N.remaining inputs.old.random) old new result)
+        (AreFirstBytes (needed making.version) N.remaining inputs.old.random) old new result)
         inputs.old.volume inputs.new.volume) }
-    // `convert` and `rebuild` alone make calls on the target. The answer of `convert` where both files are one, for which no call is
-    // made, and where they aren't; and which bytes of the target it may have changed.
+    // `convert` and `rebuild` alone make calls on the target. The answer of `convert` where both files
+    // are one, for which no call is made, and where they aren't; and which bytes of the target it may
+    // have changed.
     ensures target { UnlessBeside line.now.command (inputs.new.target ≡ inputs.old.target) }
     ensures same_file { WhereConvert line.now.command (λ converting.
         AreOneFile line.now.volume.now converting.target.now inputs.old.target
@@ -82,7 +85,7 @@ pub fn execute<D: Device, R: Read, N: Read, P: Printer, E: Write>(
         (AreOneFile line.now.volume.now converting.target.now inputs.old.target → ⊥)
         → Prints (AnswersConvert D.tells D.size D.bytes D.failed converting.data_
         (IsUnreadRandom random_count inputs.old.random)
-        (IsTaken random_count N.remaining inputs.old.random)
+        (AreFirstBytes random_count N.remaining inputs.old.random)
         inputs.old.volume inputs.new.volume inputs.old.target inputs.new.target)
         (P.failures out.old) (P.failures out.new) (P.printed out.old) (P.printed out.new) result) }
     ensures target_rest { WhereConvert line.now.command (λ _. LeavesTarget D.tells D.size D.bytes
@@ -99,7 +102,7 @@ pub fn execute<D: Device, R: Read, N: Read, P: Printer, E: Write>(
         → Prints (AnswersRebuild D.tells D.size D.bytes D.failed
         (which_of rebuilding.second) (given_of rebuilding)
         (IsUnreadRandom rebuild_count inputs.old.random)
-        (IsTaken rebuild_count N.remaining inputs.old.random)
+        (AreFirstBytes rebuild_count N.remaining inputs.old.random)
         inputs.old.volume inputs.new.volume inputs.old.target inputs.new.target)
         (P.failures out.old) (P.failures out.new) (P.printed out.old) (P.printed out.new) result) }
     ensures rebuilt_rest { WhereRebuild line.now.command (λ rebuilding. LeavesTarget D.tells
@@ -107,7 +110,8 @@ pub fn execute<D: Device, R: Read, N: Read, P: Printer, E: Write>(
         inputs.old.volume inputs.old.target inputs.new.target) }
     ensures settles_rebuilt { WhereRebuild line.now.command (λ _. SettlesTarget D.tells D.failed
         D.unsettled inputs.old.volume inputs.new.volume inputs.old.target inputs.new.target) }
-    ensures check { D.tells → WhereCheck line.now.command (λ payload. IfOk inputs.old.volume (λ d. SaysCheck (D.bytes d) payload result)) }
+    ensures check { D.tells → WhereCheck line.now.command (λ payload.
+        IfOk inputs.old.volume (λ d. SaysCheck (D.bytes d) payload result)) }
     // Without its volume no command succeeds.
     ensures unread { IfErr inputs.old.volume (λ _. (result ≢ 0) × (result ≢ 3)) }
     // What the command answers, that this is what was printed and that the exit status is its own,
@@ -132,7 +136,7 @@ pub fn execute<D: Device, R: Read, N: Read, P: Printer, E: Write>(
         (AnswersFormat D.tells D.size D.bytes D.failed making
         (IsWhole R.remaining inputs.old.passphrase) (IsLong R.remaining inputs.old.passphrase)
         (IsUnreadEither inputs.old.passphrase (needed making.version) inputs.old.random)
-        (IsTaken (needed making.version) N.remaining inputs.old.random)
+        (AreFirstBytes (needed making.version) N.remaining inputs.old.random)
         inputs.old.volume inputs.new.volume)
         (P.failures out.old) (P.failures out.new) (P.printed out.old) (P.printed out.new) result) }
 {

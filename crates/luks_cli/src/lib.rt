@@ -1,6 +1,6 @@
 //! The program `luks` over values: what the command that a command line asks for prints and answers.
-//! The files are opened by whoever calls this. The commands that edit stand here, the others in
-//! `luks_commands`.
+//! The files are opened by whoever calls this. The commands that edit stand here, those that make a
+//! separate header in `luks_header_commands`, the others in `luks_commands`.
 #![tactic(auto)]
 
 mod edit;

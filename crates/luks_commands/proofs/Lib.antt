@@ -1,5 +1,3 @@
-pub mod ConvertFacts
-pub mod RebuildFacts
 pub mod CheckFacts
 pub mod EndFacts
 pub mod ExitFacts

@@ -31,10 +31,10 @@ IsLong remaining file = OfFile remaining file (λ known. 65536 < length known)
 
 -- these bytes are the first `count` of the file, or all of a shorter one; where none is named, there
 -- are none, and of a file that can't be read there are none to be taken
-abbrev pub IsTaken : {R : Type 0} → ℕ → (R → Option (List ℕ)) → Result R InputFault → List ℕ → Type 0
-IsTaken count remaining (Ok file) bytes = IfSome (remaining file) (λ known. bytes ≡ take count known)
-IsTaken count remaining (Err Absent) bytes = bytes ≡ []
-IsTaken count remaining (Err fault) bytes = (count ≡ 0) × (bytes ≡ [])
+abbrev pub AreFirstBytes : {R : Type 0} → ℕ → (R → Option (List ℕ)) → Result R InputFault → List ℕ → Type 0
+AreFirstBytes count remaining (Ok file) bytes = IfSome (remaining file) (λ known. bytes ≡ take count known)
+AreFirstBytes count remaining (Err Absent) bytes = bytes ≡ []
+AreFirstBytes count remaining (Err fault) bytes = (count ≡ 0) × (bytes ≡ [])
 
 -- the fault of a file that can't be read: what it isn't there for, or any that its reading meets
 abbrev pub IsUnread : {R : Type 0} → Result R InputFault → InputFault → Type 0

@@ -5,8 +5,6 @@ pub mod Checked
 pub mod Answer
 pub mod CheckAnswers
 pub mod Formatting
-pub mod Converting
-pub mod Rebuilding
 pub mod OpenAnswers
 pub mod FormatAnswers
 pub mod ShowAnswers

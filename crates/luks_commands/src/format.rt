@@ -6,7 +6,7 @@ ghost use Rattle.luks_area.specs.Ranges.{SameBut};
 ghost use Rattle.luks_formatting.specs.FormatFaults.{is_device_fault};
 ghost use Rattle.luks_commands.specs.Answer.{answer_status, format_fault_answer, Prints};
 ghost use Rattle.luks_commands.specs.Exit.{exit_status, IsExitStatus};
-ghost use Rattle.luks_commands.specs.Files.{IsLong, IsTaken, IsWhole, LeavesSettled, LeavesVolume};
+ghost use Rattle.luks_commands.specs.Files.{AreFirstBytes, IsLong, IsWhole, LeavesSettled, LeavesVolume};
 ghost use Rattle.luks_commands.specs.FormatAnswers.{AnswersFormat, IsFormatAnswer, IsMakingFault, IsUnreadEither};
 ghost use Rattle.luks_commands.specs.Formatting.{IsOfNewVolume, IsNewVolume, needed, SaysFormat};
 
@@ -40,7 +40,7 @@ pub fn run<D: Device, R: Read, N: Read, P: Printer, E: Write>(
     ensures status { IsExitStatus result }
     ensures left { LeavesVolume D.tells D.size D.bytes (λ old new. SaysFormat making.now
         (IsWhole R.remaining inputs.old.passphrase)
-        (IsTaken (needed making.now.version) N.remaining inputs.old.random) old new result)
+        (AreFirstBytes (needed making.now.version) N.remaining inputs.old.random) old new result)
         inputs.old.volume inputs.new.volume }
     ensures target { inputs.new.target ≡ inputs.old.target }
     ensures kinds { result ≢ 3 }
@@ -48,7 +48,7 @@ pub fn run<D: Device, R: Read, N: Read, P: Printer, E: Write>(
     ensures answers { Prints (AnswersFormat D.tells D.size D.bytes D.failed making.now
         (IsWhole R.remaining inputs.old.passphrase) (IsLong R.remaining inputs.old.passphrase)
         (IsUnreadEither inputs.old.passphrase (needed making.now.version) inputs.old.random)
-        (IsTaken (needed making.now.version) N.remaining inputs.old.random)
+        (AreFirstBytes (needed making.now.version) N.remaining inputs.old.random)
         inputs.old.volume inputs.new.volume)
         (P.failures out.old) (P.failures out.new) (P.printed out.old) (P.printed out.new) result }
 {
@@ -70,7 +70,7 @@ fn format_volume<D: Device, R: Read, N: Read, E: Write>(
         inputs.old.volume inputs.new.volume }
     ensures left { LeavesVolume D.tells D.size D.bytes (λ old new. SaysFormat making.now
         (IsWhole R.remaining inputs.old.passphrase)
-        (IsTaken (needed making.now.version) N.remaining inputs.old.random) old new
+        (AreFirstBytes (needed making.now.version) N.remaining inputs.old.random) old new
         (exit_status (answer_status result))) inputs.old.volume inputs.new.volume }
     ensures target { inputs.new.target ≡ inputs.old.target }
     ensures kinds { answer_status result ≢ Status.NotInStep }
@@ -78,7 +78,7 @@ fn format_volume<D: Device, R: Read, N: Read, E: Write>(
     ensures answers { AnswersFormat D.tells D.size D.bytes D.failed making.now
         (IsWhole R.remaining inputs.old.passphrase) (IsLong R.remaining inputs.old.passphrase)
         (IsUnreadEither inputs.old.passphrase (needed making.now.version) inputs.old.random)
-        (IsTaken (needed making.now.version) N.remaining inputs.old.random)
+        (AreFirstBytes (needed making.now.version) N.remaining inputs.old.random)
         inputs.old.volume inputs.new.volume result }
 {
     let words = match passphrase(alloc, &mut inputs.passphrase) {

@@ -1,19 +1,16 @@
-//! The commands of the program `luks` that check, show, open, format,
-//! convert and rebuild, over values: what
-//! each prints and answers. What the commands that edit share with them stands here too: the files,
-//! the answers and the printer.
+//! The commands of the program `luks` that check, show, open and format, over values: what each prints
+//! and answers. What the other commands share with them stands here too: the files, the answers and
+//! the printer.
 #![tactic(auto)]
 
 mod answers;
 pub mod check;
-pub mod convert;
 pub mod format;
 mod inputs;
 pub mod open;
 mod passphrase_file;
 mod printer;
 mod random_file;
-pub mod rebuild;
 pub mod show;
 
 pub use answers::{Answer, Refusal, Status, device_fault, end, unread};

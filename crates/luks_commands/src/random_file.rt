@@ -1,6 +1,6 @@
 //! Reading random bytes from their file.
 ghost use Rattle.std.specs.Prelude.{◌≡◌, ◌≢◌, IfOk, IfErr, IfSome, take};
-ghost use Rattle.luks_commands.specs.Files.{IsTaken, IsUnreadRandom};
+ghost use Rattle.luks_commands.specs.Files.{AreFirstBytes, IsUnreadRandom};
 ghost use Rattle.luks_commands.specs.declared.answers.Answer.TheVariants.{Refused};
 
 use crate::answers::{Answer, Refusal};
@@ -26,7 +26,7 @@ pub fn random_bytes<R: Read>(
     file: &mut Result<R, InputFault>,
     count: u64,
 ) -> Result<Vec<u8>, InputFault>
-    ensures taken { IfOk result (λ b. IsTaken count R.remaining file.old b.items) }
+    ensures taken { IfOk result (λ b. AreFirstBytes count R.remaining file.old b.items) }
     ensures unread { IfErr result (IsUnreadRandom count file.old) }
 {
     if count == 0 {

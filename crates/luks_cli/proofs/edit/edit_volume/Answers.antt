@@ -3,7 +3,7 @@ use Rattle.luks_edit.specs.declared.edit.Edit.{Edit}
 use Rattle.luks_volume.specs.Edits.{NamedSlots}
 use Rattle.luks_request.specs.Named.{edit_new_of, edit_passphrase_of}
 use Rattle.luks_cli.specs.Editing.{given_by, given_edit, IsAsked, lacking_by, lacking_random, NamesSlot}
-use Rattle.luks_commands.specs.Files.{IsTaken, IsUnreadRandom, IsWhole}
+use Rattle.luks_commands.specs.Files.{AreFirstBytes, IsUnreadRandom, IsWhole}
 use Rattle.luks_cli.proofs.EditAnswerFacts.{answers_as, answers_wordless, err_holds, named_as, wordless_as, wordless_kinds, wordless_undone}
 use Rattle.luks_cli.proofs.EditFacts.{left_same, says_wordless, asked_of, asked_somehow, keeps_fewer, says_as, some_as, spared_as}
 use Rattle.luks_cli.proofs.edit.edit_volume.Goals as goal
@@ -13,7 +13,7 @@ returns-clause-left g c =
     let request = c.args.editing.now.request in
     let IsOld : List ℕ → Type 0 = IsWhole g.R.Read.remaining c.args.inputs.now.passphrase in
     let IsNew : List ℕ → Type 0 = IsWhole g.R.Read.remaining c.args.inputs.now.new_passphrase in
-    let HasRandom : ℕ → List ℕ → Type 0 = λ count. IsTaken count g.N.Read.remaining c.args.inputs.now.random in
+    let HasRandom : ℕ → List ℕ → Type 0 = λ count. AreFirstBytes count g.N.Read.remaining c.args.inputs.now.random in
     let p = c.as_slice.result.now in
     let q = c.as_slice-2.result.now in
     let old : IfSome (edit_passphrase_of request) (λ name. IsOld p) =
@@ -49,7 +49,7 @@ returns-clause-spared g c =
     let request = c.args.editing.now.request in
     let IsOld : List ℕ → Type 0 = IsWhole g.R.Read.remaining c.args.inputs.now.passphrase in
     let IsNew : List ℕ → Type 0 = IsWhole g.R.Read.remaining c.args.inputs.now.new_passphrase in
-    let HasRandom : ℕ → List ℕ → Type 0 = λ count. IsTaken count g.N.Read.remaining c.args.inputs.now.random in
+    let HasRandom : ℕ → List ℕ → Type 0 = λ count. AreFirstBytes count g.N.Read.remaining c.args.inputs.now.random in
     let p = c.as_slice.result.now in
     let q = c.as_slice-2.result.now in
     let old : IfSome (edit_passphrase_of request) (λ name. IsOld p) =
@@ -70,7 +70,7 @@ returns-clause-answers g c =
     let request = c.args.editing.now.request in
     let IsOld : List ℕ → Type 0 = IsWhole g.R.Read.remaining c.args.inputs.now.passphrase in
     let IsNew : List ℕ → Type 0 = IsWhole g.R.Read.remaining c.args.inputs.now.new_passphrase in
-    let HasRandom : ℕ → List ℕ → Type 0 = λ count. IsTaken count g.N.Read.remaining c.args.inputs.now.random in
+    let HasRandom : ℕ → List ℕ → Type 0 = λ count. AreFirstBytes count g.N.Read.remaining c.args.inputs.now.random in
     let p = c.as_slice.result.now in
     let q = c.as_slice-2.result.now in
     let old : IfSome (edit_passphrase_of request) (λ name. IsOld p) =

@@ -1,6 +1,6 @@
 use Rattle.std.proofs.Common.{List, ℕ, sym, subst}
 use Rattle.luks_commands.specs.Answer.{answer_status}
-use Rattle.luks_commands.specs.Files.{IsTaken, IsWhole}
+use Rattle.luks_commands.specs.Files.{AreFirstBytes, IsWhole}
 use Rattle.luks_commands.specs.Formatting.{needed}
 use Rattle.luks_commands.specs.declared.answers.Status.TheVariants.{Refused}
 use Rattle.luks_commands.proofs.FormatFacts.{left_undone, says_ended}
@@ -9,7 +9,7 @@ use Rattle.luks_commands.proofs.format.format_volume.Goals as goal
 pub returns-clause-left : goal.returns-clause-left
 returns-clause-left g c =
     let HasWords : List ℕ → Type 0 = IsWhole g.R.Read.remaining c.args.inputs.now.passphrase in
-    let HasCounted : ℕ → List ℕ → Type 0 = λ count. IsTaken count g.N.Read.remaining c.args.inputs.now.random in
+    let HasCounted : ℕ → List ℕ → Type 0 = λ count. AreFirstBytes count g.N.Read.remaining c.args.inputs.now.random in
     let HasRandom : List ℕ → Type 0 = HasCounted (needed c.args.making.now.version) in
     let words : HasWords c.as_slice-words.result.now = subst HasWords (sym c.as_slice-words.ensures.value) c.in-Ok.ensures.whole in
     let counted : HasRandom c.in-Ok-random_bytes.bytes.items = subst (λ n. HasCounted n c.in-Ok-random_bytes.bytes.items) c.random_needed.ensures c.in-Ok-random_bytes.ensures.taken in

@@ -1,5 +1,5 @@
 -- What the command `rebuild` leaves of its target, and what it may answer.
-use Rattle.std.specs.Prelude.{◌≡◌, ◌↔◌, ◌⊎◌, ℕ, List, Option, None, option_map, Bool, true, false, Result, Ok, Err, ⊤}
+use Rattle.std.specs.Prelude.{◌≡◌, ◌↔◌, ℕ, List, Option, None, option_map, Bool, true, false, Result}
 use Rattle.luks_area.specs.Ranges.{SameBut}
 use Rattle.luks_copying.specs.TwoDevices.{IsOneFailure}
 use Rattle.luks_reading.specs.declared.report.Data.TheVariants.{Elsewhere}
@@ -19,8 +19,7 @@ use Rattle.luks_commands.specs.declared.answers.Answer.{Answer}
 use Rattle.luks_commands.specs.declared.answers.Answer.TheVariants.{Done, Refused, DeviceFault, NoMemory}
 use Rattle.luks_commands.specs.declared.answers.Refusal.TheVariants.{Rebuild}
 use Rattle.luks_commands.specs.declared.inputs.InputFault.{InputFault}
-use Rattle.luks_commands.specs.Answer.{unread_answer}
-use Rattle.luks_commands.specs.Converting.{pair_of, IsWithoutRandom, NoneFailed, Pair}
+use Rattle.luks_header_commands.specs.Target.{AnswersHeader, NoneFailed, Pair}
 
 -- the random bytes that it takes
 abbrev pub random_count : ℕ
@@ -59,22 +58,11 @@ IsRebuildAnswer tells which given random d NoMemory = NoneFailed d × (tells →
     × (tells → IsAnsweredFault d.volume which given d.total random fault.Memory)
 IsRebuildAnswer tells which given random d a = ⊥
 
--- the random bytes are the first of their file
-pub record IsRebuilding (tells : Type 0) (which : Which) (given : Option (List ℕ)) (HasRandom : List ℕ → Type 0) (d : Pair) (a : Answer) : Type 0 where
-  pub random : List ℕ
-  pub taken : HasRandom random
-  pub is : IsRebuildAnswer tells which given random d a
-
--- of the volume and the target before the command and after it, where they aren't one file: the volume
--- is opened before the target, and both before the file of the random bytes
+-- of the volume and the target, as `AnswersHeader` says
 abbrev pub AnswersRebuild : {D : Type 0} → Type 0 → (D → ℕ) → (D → List ℕ) → (D → ℕ) → Which → Option (List ℕ) → (InputFault → Type 0) → (List ℕ → Type 0)
     → Result D InputFault → Result D InputFault → Result D InputFault → Result D InputFault → Answer → Type 0
-AnswersRebuild {D} tells size bytes failed which given unread HasRandom (Ok volume) (Ok volume_new) (Ok old) (Ok new) a =
-    IsWithoutRandom tells unread (pair_of size bytes failed volume volume_new old new) a
-    ⊎ IsRebuilding tells which given HasRandom (pair_of size bytes failed volume volume_new old new) a
-AnswersRebuild {D} tells size bytes failed which given unread HasRandom (Ok volume) volume_new (Err fault) new a = a ≡ unread_answer fault
-AnswersRebuild {D} tells size bytes failed which given unread HasRandom (Err fault) volume_new old new a = a ≡ unread_answer fault
-AnswersRebuild {D} tells size bytes failed which given unread HasRandom volume volume_new old new a = ⊥
+AnswersRebuild tells size bytes failed which given unread HasRandom volume volume_new old new a =
+    AnswersHeader tells size bytes failed (IsRebuildAnswer tells which given) unread HasRandom volume volume_new old new a
 
 -- what holds of the command where it is `rebuild`
 abbrev pub WhereRebuild : Command → (Rebuilding → Type 0) → Type 0

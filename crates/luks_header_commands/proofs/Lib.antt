@@ -1,0 +1,3 @@
+pub mod TargetFacts
+pub mod ConvertFacts
+pub mod RebuildFacts

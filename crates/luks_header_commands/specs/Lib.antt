@@ -1,0 +1,3 @@
+pub mod Target
+pub mod Converting
+pub mod Rebuilding

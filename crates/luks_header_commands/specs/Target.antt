@@ -1,0 +1,100 @@
+-- The target of a command that makes a separate header: what is left of it, and what is answered.
+use Rattle.std.specs.Prelude.{◌≡◌, ◌⊎◌, ℕ, List, Result, Ok, Err, ⊤}
+use Rattle.luks_area.specs.Device.{IsSettled}
+use Rattle.luks_request.specs.declared.request.Command.{Command}
+use Rattle.luks_request.specs.declared.request.Command.TheVariants as command
+use Rattle.luks_commands.specs.declared.answers.Answer.{Answer}
+use Rattle.luks_commands.specs.declared.answers.Answer.TheVariants.{Refused}
+use Rattle.luks_commands.specs.declared.answers.Refusal.TheVariants.{SameFile}
+use Rattle.luks_commands.specs.declared.inputs.InputFault.{InputFault}
+use Rattle.luks_commands.specs.declared.inputs.InputFault.TheVariants.{Unreadable}
+use Rattle.luks_commands.specs.declared.inputs.Reason.TheVariants as reason
+use Rattle.luks_commands.specs.Answer.{unread_answer}
+use Rattle.luks_commands.specs.Files.{IsLeft}
+
+-- the volume and the target have equal names, or were found to be one file
+abbrev pub AreOneFile : {D : Type 0} → List ℕ → List ℕ → Result D InputFault → Type 0
+AreOneFile {D} name target_name target = (name ≡ target_name) ⊎ (target ≡ Err (Unreadable reason.SameFile))
+
+-- the answer to that
+abbrev pub IsSameFile : Answer → Type 0
+IsSameFile a = a ≡ Refused SameFile
+
+-- ---- what is left
+
+-- a target that is there is as long as it was, and what is said of its bytes beside the volume's holds;
+-- without the volume it is as it was
+abbrev pub LeavesTarget : {D : Type 0} → Type 0 → (D → ℕ) → (D → List ℕ) → (List ℕ → List ℕ → List ℕ → Type 0)
+    → Result D InputFault → Result D InputFault → Result D InputFault → Type 0
+LeavesTarget {D} tells size bytes says (Ok volume) (Ok old) (Ok new) = IsLeft tells size bytes (says (bytes volume)) old new
+LeavesTarget {D} tells size bytes says (Ok volume) (Ok old) (Err f) = ⊥
+LeavesTarget {D} tells size bytes says (Ok volume) (Err f) new = new ≡ Err f
+LeavesTarget {D} tells size bytes says (Err f) old new = new ≡ old
+
+-- nothing of the target is unsettled, unless a call of one of the two failed
+abbrev pub SettlesTarget : {D : Type 0} → Type 0 → (D → ℕ) → (D → ℕ → Type 0)
+    → Result D InputFault → Result D InputFault → Result D InputFault → Result D InputFault → Type 0
+SettlesTarget {D} tells failed unsettled (Ok volume) (Ok volume_new) (Ok old) (Ok new) =
+    tells → failed volume_new ≡ failed volume → failed new ≡ failed old → IsSettled unsettled new
+SettlesTarget {D} tells failed unsettled volume volume_new old new = ⊤
+
+-- what holds of a command that writes to no file beside its volume
+abbrev pub UnlessBeside : Command → Type 0 → Type 0
+UnlessBeside (command.Convert converting) holds = Unit {0}
+UnlessBeside (command.Rebuild rebuilding) holds = Unit {0}
+UnlessBeside _ holds = holds
+
+-- ---- what is answered
+
+-- of two devices that are there: the bytes of the volume and of the target, and how many of their calls
+-- had failed before the command and after it
+pub record Pair : Type 0 where
+  pub volume : List ℕ
+  pub total : ℕ
+  pub old : List ℕ
+  pub new : List ℕ
+  pub volume_before : ℕ
+  pub volume_after : ℕ
+  pub before : ℕ
+  pub after : ℕ
+
+abbrev pub pair_of : {D : Type 0} → (D → ℕ) → (D → List ℕ) → (D → ℕ) → D → D → D → D → Pair
+pair_of size bytes failed volume volume_new old new = record {
+  volume = bytes volume;
+  total = size old;
+  old = bytes old;
+  new = bytes new;
+  volume_before = failed volume;
+  volume_after = failed volume_new;
+  before = failed old;
+  after = failed new;
+}
+
+-- no call failed
+abbrev pub NoneFailed : Pair → Type 0
+NoneFailed d = (d.volume_after ≡ d.volume_before) × (d.after ≡ d.before)
+
+-- the random bytes are the first of their file, and this is answered with them
+pub record IsWithRandom (HasRandom : List ℕ → Type 0) (says : List ℕ → Pair → Answer → Type 0) (d : Pair) (a : Answer) : Type 0 where
+  pub random : List ℕ
+  pub taken : HasRandom random
+  pub is : says random d a
+
+-- the random bytes can't be read, by a fault of theirs, and nothing was done
+pub record IsWithoutRandom (tells : Type 0) (unread : InputFault → Type 0) (d : Pair) (a : Answer) : Type 0 where
+  pub none_failed : NoneFailed d
+  pub same : tells → d.new ≡ d.old
+  pub fault : InputFault
+  pub met : unread fault
+  pub is : a ≡ unread_answer fault
+
+-- of the volume and the target before the command and after it, where they aren't one file: the volume
+-- is opened before the target, and both before the file of the random bytes
+abbrev pub AnswersHeader : {D : Type 0} → Type 0 → (D → ℕ) → (D → List ℕ) → (D → ℕ) → (List ℕ → Pair → Answer → Type 0) → (InputFault → Type 0) → (List ℕ → Type 0)
+    → Result D InputFault → Result D InputFault → Result D InputFault → Result D InputFault → Answer → Type 0
+AnswersHeader {D} tells size bytes failed says unread HasRandom (Ok volume) (Ok volume_new) (Ok old) (Ok new) a =
+    IsWithoutRandom tells unread (pair_of size bytes failed volume volume_new old new) a
+    ⊎ IsWithRandom HasRandom says (pair_of size bytes failed volume volume_new old new) a
+AnswersHeader {D} tells size bytes failed says unread HasRandom (Ok volume) volume_new (Err fault) new a = a ≡ unread_answer fault
+AnswersHeader {D} tells size bytes failed says unread HasRandom (Err fault) volume_new old new a = a ≡ unread_answer fault
+AnswersHeader {D} tells size bytes failed says unread HasRandom volume volume_new old new a = ⊥

@@ -1,0 +1,140 @@
+//! The command `convert`.
+ghost use Rattle.std.specs.Prelude.{◌≡◌, ◌≢◌, ◌+◌, ◌<◌, ◌^◌, IfErr, refl};
+ghost use Rattle.std.specs.Result.{ForOk};
+ghost use Rattle.luks_area.specs.Device.{IsSettled};
+ghost use Rattle.luks_commands.specs.Answer.{convert_fault_answer, Prints};
+ghost use Rattle.luks_commands.specs.Exit.{IsExitStatus};
+ghost use Rattle.luks_commands.specs.Files.{AreFirstBytes, IsUnreadRandom, KeepsVolume};
+ghost use Rattle.luks_header_commands.specs.Converting.{AnswersConvert, IsConvertAnswer, KeepsRest, random_count};
+ghost use Rattle.luks_header_commands.specs.Target.{AreOneFile, IsSameFile, LeavesTarget, SettlesTarget};
+
+use crate::header_work::{HeaderFiles, HeaderWork, READING_FAILED, TARGET_FAILED, make_header};
+use luks_commands::{
+    Answer, Inputs, Printer, RandomBytes, Refusal, device_fault, end, few_random_bytes,
+};
+use luks_converting::{CONVERT_RANDOM, ConvertFault, convert};
+use luks_reading::{Data, Device};
+use luks_request::Converting;
+use std::alloc::Global;
+use std::io::{Read, Write};
+
+/// Makes a detached LUKS2 header of the volume of this name on the target, and prints that it is
+/// done; answers the exit status. The random bytes are read last.
+pub fn run<D: Device, R: Read, N: Read, P: Printer, E: Write>(
+    alloc: Global,
+    inputs: &mut Inputs<D, R, N>,
+    name: &str,
+    converting: &Converting<'_>,
+    out: &mut P,
+    err: &mut E,
+) -> u8
+    requires volume_room { ForOk inputs.old.volume (λ d. D.failed d + 1 < 2 ^ 64) }
+    requires target_room { ForOk inputs.old.target (λ d. D.failed d + 1 < 2 ^ 64) }
+    requires printer { P.failures out.old + 1 < 2 ^ 64 }
+    requires settled { D.tells → ForOk inputs.old.target (IsSettled D.unsettled) }
+    ensures unchanged { KeepsVolume D.tells D.size D.bytes D.unsettled
+        inputs.old.volume inputs.new.volume }
+    ensures rest { LeavesTarget D.tells D.size D.bytes KeepsRest
+        inputs.old.volume inputs.old.target inputs.new.target }
+    ensures settled { SettlesTarget D.tells D.failed D.unsettled
+        inputs.old.volume inputs.new.volume inputs.old.target inputs.new.target }
+    ensures status { IsExitStatus result }
+    ensures kinds { result ≢ 3 }
+    ensures unread { IfErr inputs.old.volume (λ _. result ≢ 0) }
+    ensures same { AreOneFile name.now converting.now.target.now inputs.old.target
+        → (inputs.new ≡ inputs.old) × Prints IsSameFile
+        (P.failures out.old) (P.failures out.new) (P.printed out.old) (P.printed out.new) result }
+    ensures answers { (AreOneFile name.now converting.now.target.now inputs.old.target → ⊥)
+        → Prints (AnswersConvert D.tells D.size D.bytes D.failed converting.now.data_
+        (IsUnreadRandom random_count inputs.old.random)
+        (AreFirstBytes random_count N.remaining inputs.old.random)
+        inputs.old.volume inputs.new.volume inputs.old.target inputs.new.target)
+        (P.failures out.old) (P.failures out.new) (P.printed out.old) (P.printed out.new) result }
+{
+    let files = HeaderFiles {
+        volume: name,
+        target: converting.target,
+        random: converting.random,
+        needed: CONVERT_RANDOM,
+    };
+    let conversion = Conversion {
+        files: &files,
+        data_: converting.data_,
+    };
+    let answer = make_header(alloc, inputs, &files, &conversion, err);
+    end(&answer, out)
+}
+
+/// The conversion of a volume with this payload, by these files.
+#[derive(Debug, Clone, Copy)]
+struct Conversion<'a> {
+    files: &'a HeaderFiles<'a>,
+    data_: Data,
+}
+
+impl HeaderWork for Conversion<'_> {
+    ghost keeps_rest = { λ work. KeepsRest };
+
+    ghost may_answer = { λ work tells random d a. IsConvertAnswer tells work.data_ random d a };
+
+    fn run<D: Device, E: Write>(
+        &self,
+        alloc: Global,
+        volume: &mut D,
+        target: &mut D,
+        random: &[u8],
+        err: &mut E,
+    ) -> Answer {
+        let files = self.files;
+        let before = volume.failures();
+        let given = RandomBytes {
+            file: Some(files.random),
+            needed: files.needed,
+            bytes: random,
+        };
+        match convert(alloc, volume, self.data_, target, random) {
+            Ok(()) => {
+                note_next(files, self.data_, err);
+                Answer::Done(None)
+            }
+            Err(fault) if volume.failures() != before => {
+                not_converted(fault, files.volume, READING_FAILED, &given, err)
+            }
+            Err(fault) => not_converted(fault, files.target, TARGET_FAILED, &given, err),
+        }
+    }
+
+    ghost rest_of_same = { λ work volume target. record { length_same = refl; each = λ p apart. refl } };
+}
+
+/// What is answered where this fault ended the conversion by these random bytes. Where a device failed,
+/// it is that of the file of this name.
+fn not_converted<E: Write>(
+    fault: ConvertFault,
+    file: &str,
+    failed: &str,
+    random: &RandomBytes<'_>,
+    err: &mut E,
+) -> Answer
+    ensures { result ≡ convert_fault_answer fault }
+{
+    match fault {
+        ConvertFault::Device => device_fault(file, failed, err),
+        ConvertFault::RandomLength => few_random_bytes(Refusal::Convert(fault), random, err),
+        fault => Answer::from(fault),
+    }
+}
+
+/// Says how the payload is opened by the new header. Of a volume that is a detached header itself the
+/// payload's device isn't known.
+fn note_next<E: Write>(files: &HeaderFiles<'_>, data_: Data, err: &mut E) {
+    let device = match data_ {
+        Data::Here => files.volume,
+        Data::Elsewhere => "DEVICE",
+    };
+    let target = files.target;
+    let _ = writeln!(
+        err,
+        "luks: cryptsetup open --header {target} {device} NAME opens it"
+    );
+}

@@ -1,0 +1,123 @@
+//! What the commands share that make a header of the volume on a target.
+ghost use Rattle.std.specs.Prelude.{◌≡◌, ◌≢◌, ◌↔◌, ◌+◌, ◌<◌, ◌^◌, ℕ, List, Err, IfErr, IsTrue};
+ghost use Rattle.std.specs.Result.{ForOk};
+ghost use Rattle.luks_area.specs.Device.{IsSettled, IsUnchanged};
+ghost use Rattle.luks_commands.specs.Answer.{answer_status};
+ghost use Rattle.luks_commands.specs.Files.{AreFirstBytes, IsUnreadRandom, KeepsVolume};
+ghost use Rattle.luks_commands.specs.declared.answers.Answer.{Answer as TheAnswer};
+ghost use Rattle.luks_commands.specs.declared.inputs.InputFault.TheVariants.{Unreadable};
+ghost use Rattle.luks_commands.specs.declared.inputs.Reason.TheVariants as reason;
+ghost use Rattle.luks_header_commands.specs.Target.{AnswersHeader, AreOneFile, IsSameFile, LeavesTarget};
+ghost use Rattle.luks_header_commands.specs.Target.{Pair, pair_of, SettlesTarget};
+
+use luks_commands::{Answer, InputFault, Inputs, Reason, Refusal, Status, random_bytes, unread};
+use luks_reading::Device;
+use std::alloc::Global;
+use std::io::{Read, Write};
+
+/// What failed where a call on the volume did.
+pub(crate) const READING_FAILED: &str = "reading failed, the new header may be unfinished";
+
+/// What failed where a call on the target did.
+pub(crate) const TARGET_FAILED: &str =
+    "reading or writing failed, the new header may be unfinished";
+
+/// The files of such a command.
+#[derive(Debug, Clone, Copy)]
+pub(crate) struct HeaderFiles<'a> {
+    /// The volume.
+    pub(crate) volume: &'a str,
+    /// What the header is written to.
+    pub(crate) target: &'a str,
+    /// The random bytes.
+    pub(crate) random: &'a str,
+    /// How many of these are needed.
+    pub(crate) needed: u64,
+}
+
+/// What is done once all files are there: a header is made of the volume on the target.
+pub(crate) trait HeaderWork {
+    /// Which bytes of the target may change, by the volume's bytes and the target's, before and after.
+    ghost keeps_rest: { Self → List ℕ → List ℕ → List ℕ → Type 0 };
+
+    /// What is answered of two devices with these random bytes, where they tell their bytes.
+    ghost may_answer: { Self → Type 0 → List ℕ → Pair → TheAnswer → Type 0 };
+
+    fn run<D: Device, E: Write>(
+        &self,
+        alloc: Global,
+        volume: &mut D,
+        target: &mut D,
+        random: &[u8],
+        err: &mut E,
+    ) -> Answer
+        requires volume_room { D.failed volume.old + 1 < 2 ^ 64 }
+        requires target_room { D.failed target.old + 1 < 2 ^ 64 }
+        requires settled { D.tells → IsSettled D.unsettled target.old }
+        ensures unchanged { IsUnchanged D.tells D.size D.bytes D.unsettled volume.old volume.new }
+        ensures size { D.size target.new ≡ D.size target.old }
+        ensures rest { D.tells → keeps_rest self.now (D.bytes volume.old)
+            (D.bytes target.old) (D.bytes target.new) }
+        ensures settled { D.tells → D.failed volume.new ≡ D.failed volume.old
+            → D.failed target.new ≡ D.failed target.old → IsSettled D.unsettled target.new }
+        ensures kinds { answer_status result ≢ Status.NotInStep }
+        ensures answers { may_answer self.now D.tells random.now (pair_of D.size D.bytes D.failed
+            volume.old volume.new target.old target.new) result };
+
+    /// A target that is as it was has kept its rest.
+    ghost rest_of_same: { (work : Self) (volume target : List ℕ) → keeps_rest work volume target target };
+}
+
+/// Does the work, or answers which of the files is missing: the volume is looked at before the target,
+/// and the random bytes are read last. Nothing is done where the target is the volume itself.
+#[tactic(auto, using(luks_commands::proofs::FileFacts::keeps_same, crate::proofs::TargetFacts::leaves_same, crate::proofs::TargetFacts::settles_same))]
+pub(crate) fn make_header<W: HeaderWork, D: Device, R: Read, N: Read, E: Write>(
+    alloc: Global,
+    inputs: &mut Inputs<D, R, N>,
+    files: &HeaderFiles<'_>,
+    work: &W,
+    err: &mut E,
+) -> Answer
+    requires volume_room { ForOk inputs.old.volume (λ d. D.failed d + 1 < 2 ^ 64) }
+    requires target_room { ForOk inputs.old.target (λ d. D.failed d + 1 < 2 ^ 64) }
+    requires settled { D.tells → ForOk inputs.old.target (IsSettled D.unsettled) }
+    ensures unchanged { KeepsVolume D.tells D.size D.bytes D.unsettled
+        inputs.old.volume inputs.new.volume }
+    ensures rest { LeavesTarget D.tells D.size D.bytes (W.keeps_rest work.now)
+        inputs.old.volume inputs.old.target inputs.new.target }
+    ensures settled { SettlesTarget D.tells D.failed D.unsettled
+        inputs.old.volume inputs.new.volume inputs.old.target inputs.new.target }
+    ensures kinds { answer_status result ≢ Status.NotInStep }
+    ensures unread { IfErr inputs.old.volume (λ _. answer_status result ≢ Status.Done) }
+    ensures same { AreOneFile files.now.volume.now files.now.target.now inputs.old.target
+        → (inputs.new ≡ inputs.old) × IsSameFile result }
+    ensures answers { (AreOneFile files.now.volume.now files.now.target.now inputs.old.target → ⊥)
+        → AnswersHeader D.tells D.size D.bytes D.failed (W.may_answer work.now D.tells)
+        (IsUnreadRandom files.now.needed inputs.old.random)
+        (AreFirstBytes files.now.needed N.remaining inputs.old.random)
+        inputs.old.volume inputs.new.volume inputs.old.target inputs.new.target result }
+{
+    if files.volume == files.target || is_volume_itself(&inputs.target) {
+        return Answer::Refused(Refusal::SameFile);
+    }
+    let volume = match &mut inputs.volume {
+        Ok(device) => device,
+        Err(fault) => return unread(*fault, files.volume, err),
+    };
+    let target = match &mut inputs.target {
+        Ok(device) => device,
+        Err(fault) => return unread(*fault, files.target, err),
+    };
+    let random = match random_bytes(alloc, &mut inputs.random, files.needed) {
+        Ok(bytes) => bytes,
+        Err(fault) => return unread(fault, files.random, err),
+    };
+    work.run(alloc, volume, target, random.as_slice(), err)
+}
+
+/// Whether it was found to be the volume itself.
+fn is_volume_itself<D>(target: &Result<D, InputFault>) -> bool
+    ensures { IsTrue result ↔ (target.now ≡ Err (Unreadable reason.SameFile)) }
+{
+    matches!(target, Err(InputFault::Unreadable(Reason::SameFile)))
+}

@@ -1,0 +1,7 @@
+//! The commands of the program `luks` that make a separate header, `convert` and `rebuild`, over
+//! values: what each prints and answers.
+#![tactic(auto)]
+
+pub mod convert;
+mod header_work;
+pub mod rebuild;
