@@ -7,10 +7,12 @@ use Rattle.luks_reading.specs.declared.check_fault.CheckFault.{CheckFault}
 use Rattle.luks_reading.specs.declared.check_fault.CheckFault.TheVariants as check
 use Rattle.luks_reading.specs.declared.report.Data.{Data}
 use Rattle.luks_reading.specs.Checked.{First, IsCheckRefusal}
+use Rattle.luks_making.proofs.ConvertedTextFacts.{text_short}
 use Rattle.luks_converting.specs.Accepted.{IsHeaderOf, IsOther, IsUnaccepted}
 use Rattle.luks_converting.specs.ConvertFaults.{checked_convert, convert_key, is_convert_failure}
 use Rattle.luks_converting.specs.Outcome.{IsAnsweredFault, IsConvertFault, IsConvertible, IsFull, IsLuks2, LacksRoom}
-use Rattle.luks_converting.specs.Source.{IsSource}
+use Rattle.luks_converting.specs.Source.{header_members, IsSource}
+use Rattle.luks_converting.proofs.SourceFacts.{can, fits}
 use Rattle.luks_converting.specs.declared.convert_fault.ConvertFault.{ConvertFault}
 use Rattle.luks_converting.specs.declared.convert_fault.ConvertFault.TheVariants.{NotAccepted, NotLuks1, TooSmall, NoRoom, MetadataFull, RandomLength, Memory, Device}
 
@@ -71,8 +73,11 @@ unaccepted_first v payload total random Device x = tt
 
 -- ---- of an accepted LUKS1 volume
 
+-- the metadata is never longer than its area holds
+pub never_full : (h : List ℕ) → IsSource h → IsFull h → ⊥
+never_full h source full = (let short = text_short (header_members h) (fits h source) (can h source) in omega (arith, full, short))
+
 module _
-    (never : (h : List ℕ) → IsSource h → IsFull h → ⊥)
     (h v : List ℕ) (payload : Data) (total : ℕ) (random : List ℕ) (is : IsHeaderOf h payload v)
   where
     not_luks2 : IsLuks2 v → ⊥
@@ -112,7 +117,7 @@ module _
         after NotLuks1 bad = absurd (not_luks2 bad)
         after TooSmall bad = absurd (omega (arith, bad, large))
         after NoRoom bad = (let lacks : LacksRoom h = subst LacksRoom (sym is.begins) bad.holds in let room = source.room in absurd (omega (arith, lacks, room)))
-        after MetadataFull bad = absurd (never h source (subst IsFull (sym is.begins) bad.holds))
+        after MetadataFull bad = absurd (never_full h source (subst IsFull (sym is.begins) bad.holds))
         after RandomLength bad = (omega arith, λ same. tt)
         after Memory bad = absurd bad
         after Device bad = absurd bad
@@ -125,7 +130,7 @@ module _
         none NotLuks1 bad = not_luks2 bad
         none TooSmall bad = absurd (omega (arith, bad, large))
         none NoRoom bad = (let lacks : LacksRoom h = subst LacksRoom (sym is.begins) bad.holds in let room = source.room in absurd (omega (arith, lacks, room)))
-        none MetadataFull bad = never h source (subst IsFull (sym is.begins) bad.holds)
+        none MetadataFull bad = never_full h source (subst IsFull (sym is.begins) bad.holds)
         none RandomLength bad = bad counted
         none Memory bad = bad
         none Device bad = bad

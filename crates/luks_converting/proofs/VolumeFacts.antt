@@ -19,12 +19,14 @@ use Rattle.luks_reading.specs.Checked.{WellFormed}
 use Rattle.luks_reading.specs.Header.{json_at}
 use Rattle.luks_reading.specs.declared.open_fault.OpenFault.TheVariants.{NoSuchSlot}
 use Rattle.luks_reading.specs.declared.report.Data.TheVariants.{Here, Elsewhere}
+use Rattle.luks_making.proofs.ConversionFacts.{held_converted, says_source}
 use Rattle.luks_making.specs.Conversions.{SaysSource}
 use Rattle.luks_making.specs.Converted.{converted}
 use Rattle.luks_converting.specs.Converted.{uuid_of, IsConverted}
 use Rattle.luks_converting.specs.Source.{header_members, is_enabled, IsSource}
 use Rattle.luks_converting.proofs.AnswerFacts.{converted_absent, converted_opens, HasHeader}
 use Rattle.luks_converting.proofs.FitFacts.{fit}
+use Rattle.luks_converting.proofs.SourceFacts.{can, fits}
 
 -- ---- the uuid
 
@@ -59,9 +61,14 @@ uuid_good h field_ source is =
 
 module _
     (v random old w : List ℕ) (source : IsSource (part v 0 592))
-    (held : IsHeld 12288 (converted (header_members (part v 0 592)))) (says : SaysSource (header_members (part v 0 592)) (converted (header_members (part v 0 592))))
     (large : 16777216 ≤ length w) (x : IsConverted v random old w)
   where
+    held : IsHeld 12288 (converted (header_members (part v 0 592)))
+    held = held_converted (header_members (part v 0 592)) (fits (part v 0 592) source) (can (part v 0 592) source)
+
+    says : SaysSource (header_members (part v 0 592)) (converted (header_members (part v 0 592)))
+    says = says_source (header_members (part v 0 592)) (fits (part v 0 592) source) (can (part v 0 592) source)
+
     size : hdr_size (header_at w 0) ≡ 16384
     size = x.first.written.header.fields.hdr_size ∙ x.first.fields.hdr_size
 

@@ -21,7 +21,6 @@ use crate::areas::copy_areas;
 use crate::convert_fault::ConvertFault;
 use crate::copies::{COPY_SIZE, FIRST_SALT, SECOND_SALT, taken_salt, write_converted_copy};
 use crate::judging::judge;
-use crate::laws::converted_volume_opens_alike;
 use crate::metadata::new_json;
 use crate::source::{SourceHeader, accepted_source};
 use luks_area::{Device, DeviceFault};
@@ -91,7 +90,6 @@ pub fn convert<S: Device, T: Device>(
         → is_enabled (part (S.bytes source.old) 0 luks1_size) n ≡ false
         → AnswerWithin memory (T.bytes target.new) n p (refused NoSuchSlot)) }
 {
-    converted_volume_opens_alike();
     let header = accepted_source(alloc, source, data_)?;
     judge(&header, target.len(), random)?;
     match new_json(alloc, &header) {

@@ -9,7 +9,6 @@ ghost use Rattle.luks_converting.specs.Source.{IsSource};
 
 use crate::convert_fault::ConvertFault;
 use crate::converting::CONVERT_RANDOM;
-use crate::laws::metadata_is_never_full;
 use crate::places::areas_end;
 use crate::source::{SourceHeader, are_bytes};
 
@@ -31,7 +30,6 @@ pub(crate) fn judge(header: &SourceHeader, total: u64, random: &[u8]) -> Result<
     ensures ready { OnOk result (IsReady header.now.bytes total random.now) }
     ensures source { OnOk result (IsSource header.now.bytes) }
 {
-    metadata_is_never_full();
     are_bytes(&header.bytes);
     if total < REGION_END {
         Err(ConvertFault::TooSmall)

@@ -1,5 +1,4 @@
-//! Laws on the definitions of this crate. Each function only calls those whose laws it follows
-//! from; its contract is the law.
+//! Laws on the definitions of this crate. Each function does nothing; its contract is the law.
 ghost use Rattle.std.specs.Prelude.{◌≡◌, ◌≤◌, List, None, Option, ℕ, false, length, true};
 ghost use Rattle.luks_area.specs.Ranges.{part};
 ghost use Rattle.luks_head.specs.Header1.{luks1_size};
@@ -15,8 +14,6 @@ ghost use Rattle.luks_converting.specs.Converted.{IsConverted};
 ghost use Rattle.luks_converting.specs.Copied.{HasSameSectors, IsCopiedPlan};
 ghost use Rattle.luks_converting.specs.Outcome.{IsFull};
 ghost use Rattle.luks_converting.specs.Source.{is_enabled, IsSource};
-
-use luks_making::converted_volume_is_accepted;
 
 /// A LUKS2 keyslot with the plan and the sectors of a LUKS1 keyslot gives the same key, or none, by
 /// each passphrase; and it isn't refused where the LUKS1 keyslot isn't.
@@ -43,13 +40,9 @@ pub fn converted_volume_opens_alike()
         → 16777216 ≤ length w → IsConverted v random old w
         → (memory n : ℕ) (p : List ℕ) → is_enabled (part v 0 luks1_size) n ≡ false
         → AnswerWithin memory w n p (refused NoSuchSlot) }
-{
-    converted_volume_is_accepted();
-}
+{}
 
 /// The metadata that is made from a LUKS1 header is never longer than its area holds.
 pub fn metadata_is_never_full()
     ensures { (h : List ℕ) → IsSource h → IsFull h → ⊥ }
-{
-    converted_volume_is_accepted();
-}
+{}

@@ -1,5 +1,5 @@
 mod MemberFacts
-mod NameFacts
+pub mod NameFacts
 mod WholeFacts
 mod NestingFacts
 mod RowFacts

@@ -13,6 +13,12 @@ use Rattle.luks_rules.specs.declared.table.Section.TheVariants.{Digests, Keyslot
 use Rattle.luks_rules.specs.declared.table.Section.TheVariants.{Config as ConfigSection}
 use Rattle.luks_rules.specs.Faults.{object_at, section_at}
 use Rattle.luks_rules.specs.Reading.{bytes_in, number_in, text_of, texts_of}
+use Rattle.luks_json.proofs.Decimals.{decimal_told}
+use Rattle.luks_json.proofs.Encodings.{encoded_told}
+use Rattle.luks_json.proofs.NameLists.{reads_names}
+use Rattle.luks_json.proofs.Numbers.{number_of_text, text_of_named}
+use Rattle.luks_making.proofs.NameFacts.{same_number}
+use Rattle.luks_making.proofs.ReadingFacts.{texts_say, TextsSay}
 use Rattle.luks_making.specs.Keyslots.{NewMembers, SlotMembers}
 use Rattle.luks_making.specs.Unchanged.{ChangesSlot, GainsSlot, KeepsObjects, KeepsOthers, KeepsRest, LosesSlot}
 use Rattle.luks_meta.specs.declared.configuration.Config.{Config}
@@ -21,6 +27,10 @@ use Rattle.luks_meta.specs.declared.tokens.Token.{Token}
 use Rattle.luks_meta.specs.Objects.{IsConfig, IsMissing, IsObject}
 use Rattle.luks_new_meta.specs.Records.{GainsNumber, KeepsNumbers, KeepsRecords, LosesNumber, SameDigest, others}
 use Rattle.luks_meta.specs.Says.{TellsDigest, TellsKeyslot, TellsSegment, TellsToken}
+
+-- what is written of numbers, bytes and names is read again
+pub texts : TextsSay
+texts = texts_say decimal_told encoded_told number_of_text text_of_named
 
 some_same : {A : Type 0} (x y : A) → Some x ≡ Some y → x ≡ y
 some_same x y e = cc
@@ -88,43 +98,35 @@ records_kept n old new r = record {
 
 -- ---- the keyslots that they name
 
--- one name is that of one number
-abbrev Apart : Type 0
-Apart = (m n : ℕ) → number_text m ≡ number_text n → m ≡ n
-
--- an array's numbers are those of its texts
-abbrev Lists : Type 0
-Lists = (v : Option Data) (ns : List ℕ) → numbers_of_array v ≡ Some ns → texts_of v ≡ Some (map number_text ns)
-
 heads : (a b : List ℕ) (us ts : List (List ℕ)) → a ∷ us ≡ b ∷ ts → (a ≡ b) × (us ≡ ts)
 heads a b us ts e = (cc, cc)
 
 -- equal names, equal numbers
-same_numbers : Apart → (ms ns : List ℕ) → map number_text ms ≡ map number_text ns → ms ≡ ns
-same_numbers apart [] [] e = refl
-same_numbers apart [] (n ∷ ns) e = absurd (cc)
-same_numbers apart (m ∷ ms) [] e = absurd (cc)
-same_numbers apart (m ∷ ms) (n ∷ ns) e =
+same_numbers : (ms ns : List ℕ) → map number_text ms ≡ map number_text ns → ms ≡ ns
+same_numbers [] [] e = refl
+same_numbers [] (n ∷ ns) e = absurd (cc)
+same_numbers (m ∷ ms) [] e = absurd (cc)
+same_numbers (m ∷ ms) (n ∷ ns) e =
     let p = heads (number_text m) (number_text n) (map number_text ms) (map number_text ns) e in
-    let first : m ≡ n = apart m n p.0 in
-    let rest : ms ≡ ns = same_numbers apart ms ns p.1 in
+    let first : m ≡ n = same_number m n p.0 in
+    let rest : ms ≡ ns = same_numbers ms ns p.1 in
     rw (first, rest) refl
 
 -- a name stands for a number exactly where it equals that number's
-told_apart : Apart → (i n : ℕ) → bytes_eq (number_text i) (number_text n) ≡ (i == n)
-told_apart apart i n = elim (cases_eq i n) [
+told_apart : (i n : ℕ) → bytes_eq (number_text i) (number_text n) ≡ (i == n)
+told_apart i n = elim (cases_eq i n) [
   | inl same ↦ rw same ((bytes_eq-Decides (number_text n) (number_text n)).1 refl ∙ sym (eq-eqb n n refl))
   | inr other ↦ elim (cases_Bool (bytes_eq (number_text i) (number_text n))) [
-    | inl on ↦ absurd (other (apart i n ((bytes_eq-Decides (number_text i) (number_text n)).0 on)))
+    | inl on ↦ absurd (other (same_number i n ((bytes_eq-Decides (number_text i) (number_text n)).0 on)))
     | inr off ↦ off ∙ sym (ne_eqb i n other)
   ]
 ]
 
-filtered : Apart → (n : ℕ) (ns : List ℕ) → filter (λ t. not (bytes_eq t (number_text n))) (map number_text ns) ≡ map number_text (others n ns)
-filtered apart n [] = refl
-filtered apart n (i ∷ ns) = elim (cases_Bool (i == n)) [
-  | inl same ↦ rw (told_apart apart i n, same) (filtered apart n ns)
-  | inr other ↦ rw (told_apart apart i n, other) (ap (λ ts. number_text i ∷ ts) (filtered apart n ns))
+filtered : (n : ℕ) (ns : List ℕ) → filter (λ t. not (bytes_eq t (number_text n))) (map number_text ns) ≡ map number_text (others n ns)
+filtered n [] = refl
+filtered n (i ∷ ns) = elim (cases_Bool (i == n)) [
+  | inl same ↦ rw (told_apart i n, same) (filtered n ns)
+  | inr other ↦ rw (told_apart i n, other) (ap (λ ts. number_text i ∷ ts) (filtered n ns))
 ]
 
 last_named : (n : ℕ) (ns : List ℕ) → map number_text ns ++ number_text n ∷ [] ≡ map number_text (ns ++ n ∷ [])
@@ -132,37 +134,37 @@ last_named n [] = refl
 last_named n (i ∷ ns) = ap (λ ts. number_text i ∷ ts) (last_named n ns)
 
 -- the numbers of an array without a name, and with one more
-numbers_lost : Apart → Lists → (n : ℕ) (v w : Option Data) (ks ls : List ℕ) → numbers_of_array v ≡ Some ks → numbers_of_array w ≡ Some ls
+numbers_lost : (n : ℕ) (v w : Option Data) (ks ls : List ℕ) → numbers_of_array v ≡ Some ks → numbers_of_array w ≡ Some ls
     → texts_of w ≡ option_map (filter (λ t. not (bytes_eq t (number_text n)))) (texts_of v) → ls ≡ others n ks
-numbers_lost apart lists n v w ks ls a b e =
-    let old : texts_of v ≡ Some (map number_text ks) = lists v ks a in
-    let new : texts_of w ≡ Some (map number_text ls) = lists w ls b in
+numbers_lost n v w ks ls a b e =
+    let old : texts_of v ≡ Some (map number_text ks) = reads_names v ks a in
+    let new : texts_of w ≡ Some (map number_text ls) = reads_names w ls b in
     let both : Some (map number_text ls) ≡ Some (filter (λ t. not (bytes_eq t (number_text n))) (map number_text ks))
     = sym new ∙ (e ∙ ap (option_map (filter (λ t. not (bytes_eq t (number_text n))))) old) in
-    same_numbers apart ls (others n ks) (some_same _ _ both ∙ filtered apart n ks)
+    same_numbers ls (others n ks) (some_same _ _ both ∙ filtered n ks)
 
-numbers_gained : Apart → Lists → (n : ℕ) (v w : Option Data) (ks ls : List ℕ) → numbers_of_array v ≡ Some ks → numbers_of_array w ≡ Some ls
+numbers_gained : (n : ℕ) (v w : Option Data) (ks ls : List ℕ) → numbers_of_array v ≡ Some ks → numbers_of_array w ≡ Some ls
     → texts_of w ≡ option_map (λ ts. ts ++ number_text n ∷ []) (texts_of v) → ls ≡ ks ++ n ∷ []
-numbers_gained apart lists n v w ks ls a b e =
-    let old : texts_of v ≡ Some (map number_text ks) = lists v ks a in
-    let new : texts_of w ≡ Some (map number_text ls) = lists w ls b in
+numbers_gained n v w ks ls a b e =
+    let old : texts_of v ≡ Some (map number_text ks) = reads_names v ks a in
+    let new : texts_of w ≡ Some (map number_text ls) = reads_names w ls b in
     let both : Some (map number_text ls) ≡ Some (map number_text ks ++ number_text n ∷ [])
     = sym new ∙ (e ∙ ap (option_map (λ ts. ts ++ number_text n ∷ [])) old) in
-    same_numbers apart ls (ks ++ n ∷ []) (some_same _ _ both ∙ last_named n ks)
+    same_numbers ls (ks ++ n ∷ []) (some_same _ _ both ∙ last_named n ks)
 
 -- ---- each edit
 
-pub numbers_removed : Apart → Lists → (n : ℕ) (old new : Data) → LosesSlot n old new → LosesNumber n old new
-numbers_removed apart lists n old new r = record {
-  digests = λ m k l a b. numbers_lost apart lists n (get (codes "keyslots") a.object) (get (codes "keyslots") b.object) k.keyslots.items l.keyslots.items a.tells_members.5 b.tells_members.5
+pub numbers_removed : (n : ℕ) (old new : Data) → LosesSlot n old new → LosesNumber n old new
+numbers_removed n old new r = record {
+  digests = λ m k l a b. numbers_lost n (get (codes "keyslots") a.object) (get (codes "keyslots") b.object) k.keyslots.items l.keyslots.items a.tells_members.5 b.tells_members.5
       (r.digests.texts m a.object b.object a.is b.is);
-  tokens = λ m k l a b. numbers_lost apart lists n (get (codes "keyslots") a.object) (get (codes "keyslots") b.object) k.keyslots.items l.keyslots.items a.tells_members.1 b.tells_members.1
+  tokens = λ m k l a b. numbers_lost n (get (codes "keyslots") a.object) (get (codes "keyslots") b.object) k.keyslots.items l.keyslots.items a.tells_members.1 b.tells_members.1
       (r.tokens.texts m a.object b.object a.is b.is);
 }
 
-pub number_added : Apart → Lists → (n m : ℕ) (s : SlotMembers) (old new : Data) → GainsSlot n m s old new → GainsNumber n m old new
-number_added apart lists n m s old new r = record {
-  digest = λ k l a b. numbers_gained apart lists n (get (codes "keyslots") a.object) (get (codes "keyslots") b.object) k.keyslots.items l.keyslots.items a.tells_members.5 b.tells_members.5
+pub number_added : (n m : ℕ) (s : SlotMembers) (old new : Data) → GainsSlot n m s old new → GainsNumber n m old new
+number_added n m s old new r = record {
+  digest = λ k l a b. numbers_gained n (get (codes "keyslots") a.object) (get (codes "keyslots") b.object) k.keyslots.items l.keyslots.items a.tells_members.5 b.tells_members.5
       (r.texts a.object b.object a.is b.is);
   digests = λ i k other. same_object TellsDigest old new Digests i k (r.digests i other);
   tokens = λ i k. same_object TellsToken old new Tokens i k (in_section old new Tokens i r.tokens);

@@ -6,9 +6,6 @@ ghost use Rattle.luks_making.specs.Keyslots.{NewMembers, SlotMembers};
 ghost use Rattle.luks_making.specs.Unchanged.{ChangesSlot, GainsSlot, KeepsRest, LosesSlot};
 ghost use Rattle.luks_new_meta.specs.Records.{GainsNumber, KeepsNumbers, KeepsRecords, LosesNumber};
 
-use luks_json::names_say_numbers;
-use luks_making::names_are_apart;
-
 /// Of what an edit of a keyslot doesn't name the readers tell the same records; of a digest or
 /// token that it names they tell the same but for its keyslots, which lose or gain that one.
 pub fn edits_keep_records()
@@ -18,7 +15,4 @@ pub fn edits_keep_records()
         → GainsNumber n m old new }
     ensures changed { (n : ℕ) (f : NewMembers) (old new : Data) → ChangesSlot n f old new
         → KeepsNumbers old new }
-{
-    names_say_numbers();
-    names_are_apart();
-}
+{}

@@ -12,6 +12,7 @@ use Rattle.luks_converting.specs.ConvertFaults.{is_convert_failure}
 use Rattle.luks_converting.specs.Outcome.{IsAnsweredFault, IsConvertible}
 use Rattle.luks_copying.specs.CountFacts.{counts_first, counts_none, one_failure}
 use Rattle.luks_converting.proofs.RowFacts.{answered_first, unaccepted_first}
+use Rattle.luks_converting.proofs.VolumeFacts.{absent, opens_alike, well_formed}
 use Rattle.luks_converting.proofs.converting.convert.Goals as goal
 
 pub returns-in_ok-write_converted-in-Ok-clause-converted : goal.returns-in_ok-write_converted-in-Ok-clause-converted
@@ -39,7 +40,7 @@ returns-in_ok-write_converted-in-Ok-clause-well_formed g c = λ source tells.
     let total = c.len.ensures in
     let large : 16777216 ≤ length w = omega (arith, size, least, total) in
     let is : IsSource (part v 0 592) = subst IsSource header.begins c.in_ok-judge.ensures.source in
-    c.converted_volume_opens_alike.ensures.well_formed v c.args.random.now old w is large x
+    well_formed v c.args.random.now old w is large x
 
 pub returns-in_ok-write_converted-in-Ok-clause-opens : goal.returns-in_ok-write_converted-in-Ok-clause-opens
 returns-in_ok-write_converted-in-Ok-clause-opens g c = λ source tells.
@@ -55,7 +56,7 @@ returns-in_ok-write_converted-in-Ok-clause-opens g c = λ source tells.
     let total = c.len.ensures in
     let large : 16777216 ≤ length w = omega (arith, size, least, total) in
     let is : IsSource (part v 0 592) = subst IsSource header.begins c.in_ok-judge.ensures.source in
-    c.converted_volume_opens_alike.ensures.opens v c.args.random.now old w header.chosen is large x
+    opens_alike v c.args.random.now old w is large x header.chosen
 
 pub returns-in_ok-write_converted-in-Ok-clause-absent : goal.returns-in_ok-write_converted-in-Ok-clause-absent
 returns-in_ok-write_converted-in-Ok-clause-absent g c = λ source tells.
@@ -71,7 +72,7 @@ returns-in_ok-write_converted-in-Ok-clause-absent g c = λ source tells.
     let total = c.len.ensures in
     let large : 16777216 ≤ length w = omega (arith, size, least, total) in
     let is : IsSource (part v 0 592) = subst IsSource header.begins c.in_ok-judge.ensures.source in
-    c.converted_volume_opens_alike.ensures.absent v c.args.random.now old w header.chosen is large x
+    absent v c.args.random.now old w is large x header.chosen
 
 pub returns-in_ok-write_converted-in-Ok-clause-rest : goal.returns-in_ok-write_converted-in-Ok-clause-rest
 returns-in_ok-write_converted-in-Ok-clause-rest g c = λ source tells.

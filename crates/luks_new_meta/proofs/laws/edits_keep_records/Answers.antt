@@ -5,10 +5,10 @@ pub returns-clause-rest : goal.returns-clause-rest
 returns-clause-rest c = records_kept
 
 pub returns-clause-removed : goal.returns-clause-removed
-returns-clause-removed c = numbers_removed c.names_are_apart.ensures c.names_say_numbers.ensures.lists
+returns-clause-removed c = numbers_removed
 
 pub returns-clause-added : goal.returns-clause-added
-returns-clause-added c = number_added c.names_are_apart.ensures c.names_say_numbers.ensures.lists
+returns-clause-added c = number_added
 
 pub returns-clause-changed : goal.returns-clause-changed
 returns-clause-changed c = numbers_same
