@@ -14,12 +14,11 @@ use Rattle.luks_kdf.specs.Names.{digest_size_of}
 use Rattle.luks_json.proofs.AreaKinds.{kind_of, not_bad}
 use Rattle.luks_rules.specs.Accepted.{IsContent, IsMeta}
 use Rattle.luks_rules.specs.Faults.{object_at}
-use Rattle.luks_rules.specs.Held.{IsHeld}
 use Rattle.luks_rules.specs.MetaFault.{IsMetaFault}
 use Rattle.luks_rules.specs.declared.fault.MetaFault.{MetaFault}
 use Rattle.luks_rules.specs.declared.table.Section.TheVariants.{Keyslots}
 use Rattle.luks_rules.proofs.Deciding.{without_faults}
-use Rattle.luks_making.specs.Conditions.{CanFormat, FitsVolume}
+use Rattle.luks_making.proofs.NewVolumeFacts.{held_made}
 use Rattle.luks_making.specs.Formatted.{VolumeMembers, first_slot, formatted}
 use Rattle.luks_making.specs.Keyslots.{slot_value}
 use Rattle.luks_slot.specs.Refusal.{slot_refusal}
@@ -40,7 +39,7 @@ use Rattle.luks_formatting.specs.NewHeader2.{area2, new_members, FitsMetadata, I
 use Rattle.luks_formatting.specs.NewPlan.{key_digest, IsNewPlan}
 use Rattle.luks_formatting.specs.RandomBytes.{digest_salt, random_stripes, slot_place2, slot_salt, uuid_bytes, volume_key}
 use Rattle.luks_formatting.proofs.Formatted1Facts.{length-volume_key, reopens}
-use Rattle.luks_formatting.proofs.Keyslot2Facts.{cipher_opens, fit, one_value, plan_is, segments, SlotsSay}
+use Rattle.luks_formatting.proofs.Keyslot2Facts.{cipher_opens, fit, one_value, plan_is, segments}
 use Rattle.luks_formatting.proofs.MetadataFacts.{can_format, no_some}
 use Rattle.luks_formatting.proofs.NewPlanFacts.{key_meets, unrefused}
 
@@ -53,7 +52,7 @@ no_meta : (area : List ℕ) (j : Value) → IsMeta area j → (f : MetaFault) �
 no_meta area j is = (without_faults kind_of one_value not_bad area).1 (j, is)
 
 module _ (payload : Data) (format : Format) (passphrase random old new : List ℕ) (some : 1 ≤ format.iterations) (large : 16777216 ≤ length new) (counted : length random ≡ 256208)
-    (fits : FitsMetadata payload format random) (say : SlotsSay) (held : (v : VolumeMembers) → FitsVolume v → CanFormat v → IsHeld 12288 (formatted v)) (x : IsFormatted2 payload format passphrase random old new) where
+    (fits : FitsMetadata payload format random) (x : IsFormatted2 payload format passphrase random old new) where
   long : 272 ≤ length random
   long = omega (arith, counted)
 
@@ -75,7 +74,7 @@ module _ (payload : Data) (format : Format) (passphrase random old new : List �
   meta = record {
     json = x.metadata.json;
     content = subst (λ (n : ℕ). IsContent n (formatted (new_members payload format random))) (sym x.metadata.long)
-        (held (new_members payload format random) fits.fits (can_format payload format random some long fits.digest_length)).content;
+        (held_made (new_members payload format random) fits.fits (can_format payload format random some long fits.digest_length)).content;
   }
 
   formed : IsLuks2Volume (header_at new 0) x.json payload (length new)
@@ -86,8 +85,8 @@ module _ (payload : Data) (format : Format) (passphrase random old new : List �
       record {
         metadata = meta;
         segments = λ here. subst (λ (n : ℕ). SegmentsFollow n (formatted (new_members payload format random))) (sym x.metadata.long)
-            (segments payload format random some long fits say here);
-        fit = fit payload format random some long fits say (length new) (hdr_size (header_at new 0)) size large;
+            (segments payload format random some long fits here);
+        fit = fit payload format random some long fits (length new) (hdr_size (header_at new 0)) size large;
       },
     );
   }
@@ -101,7 +100,7 @@ module _ (payload : Data) (format : Format) (passphrase random old new : List �
 
   new_plan : (plan : SlotPlan) → HasLuks2Plan x.json 0 plan
       → IsNewPlan format (slot_salt slot_place2 random) area2 (digest_salt random) (key_digest format random (digest_size_of format.hash)) plan × IsNewCipher2 plan.cipher
-  new_plan = plan_is payload format random some long fits say x.json x.metadata.json
+  new_plan = plan_is payload format random some long fits x.json x.metadata.json
 
   plan_unrefused : (plan : SlotPlan) → HasLuks2Plan x.json 0 plan → slot_refusal plan ≡ None
   plan_unrefused plan y =

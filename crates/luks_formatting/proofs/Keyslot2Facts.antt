@@ -9,7 +9,7 @@ use Rattle.luks_rules.specs.declared.table.Member.TheVariants as name
 use Rattle.luks_making.specs.Keyslots.{base64_text}
 use Rattle.luks_slot.specs.declared.plan.DigestPlan.{DigestPlan}
 use Rattle.luks_formatting.specs.NewPlan.{IsNewDigest}
-use Rattle.std.proofs.Common.{◌≡◌, ◌≢◌, ℕ, ◌+◌, ◌-◌, ◌<◌, ◌≤◌, List, length, codes, Some, None, true, option_and_then, arith, refl, sym, ap, ◌∙◌, subst, lit<, inl, inr, unwrap_or}
+use Rattle.std.proofs.Common.{◌≡◌, ◌≢◌, ℕ, ◌+◌, ◌-◌, ◌<◌, ◌≤◌, List, length, codes, Some, None, true, option_and_then, arith, refl, sym, ap, ◌∙◌, subst, lit<, lit≤, inl, inr, unwrap_or}
 use Rattle.serde_json.specs.Data.{Data as Value, number, string, unsigned}
 use Rattle.luks_area.specs.Area.{Fit, IsInside, LiesIn}
 use Rattle.luks_area.specs.declared.area.Area.{Area}
@@ -18,14 +18,17 @@ use Rattle.luks_area.specs.declared.area.AreaName.TheVariants.{Head1, Head2, Slo
 use Rattle.luks_kdf.specs.Names.{digest_size_of, name_of}
 use Rattle.luks_json.specs.AreaText.{Json}
 use Rattle.luks_json.proofs.AreaTexts.{one_text}
+use Rattle.luks_making.proofs.NewVolumeFacts.{none_else}
+use Rattle.luks_making.proofs.ReadingFacts.{bytes_are, decimal_is, number_is}
+use Rattle.luks_making.proofs.RoomFacts.{says_members}
 use Rattle.luks_rules.specs.Faults.{object_at}
 use Rattle.luks_rules.specs.Reading.{decimal_in}
 use Rattle.luks_rules.specs.Sizes.{inside_at}
 use Rattle.luks_rules.specs.declared.table.Outer.TheVariants as outer
 use Rattle.luks_rules.specs.declared.table.Section.TheVariants.{Keyslots, Segments}
-use Rattle.luks_making.specs.Conditions.{CanFormat, FitsSlot}
+use Rattle.luks_making.specs.Conditions.{CanFormat}
 use Rattle.luks_making.specs.Formatted.{VolumeMembers, digest_value, first_slot, formatted, segment_value}
-use Rattle.luks_making.specs.Keyslots.{SlotMembers, slot_value}
+use Rattle.luks_making.specs.Keyslots.{slot_value}
 use Rattle.luks_making.specs.Unchanged.{SaysMembers}
 use Rattle.luks_slot.specs.Refusal.{is_open_cipher}
 use Rattle.luks_slot.specs.declared.plan.AreaCipher.{AreaCipher}
@@ -44,7 +47,7 @@ use Rattle.luks_formatting.specs.NewHeader2.{area2, new_members, segment_start, 
 use Rattle.luks_formatting.specs.NewPlan.{key_digest, IsNewDerivation, IsNewPlan}
 use Rattle.luks_formatting.specs.RandomBytes.{digest_salt, slot_place2, slot_salt}
 use Rattle.luks_formatting.proofs.Formatted1Facts.{area_is}
-use Rattle.luks_formatting.proofs.MetadataFacts.{bytes_say, can_format, decimal_says, digest_at, keyslots_say, length-digest_salt, no_some, none_other, number_says, segment_at, slot_at, slot_fits, some_same}
+use Rattle.luks_formatting.proofs.MetadataFacts.{can_format, digest_at, keyslots_say, length-digest_salt, no_some, segment_at, slot_at, slot_fits, some_same}
 
 -- ---- the areas
 
@@ -92,16 +95,12 @@ cipher_opens (Whole text) is = rw is refl
 pub one_value : (area : List ℕ) (i k : Value) → Json area i → Json area k → i ≡ k
 one_value area i k p q = ap (λ o. unwrap_or o i) (sym p.reads ∙ ap read (one_text area p.text q.text p.placed q.placed) ∙ q.reads)
 
--- a keyslot says what it was made of
-abbrev pub SlotsSay : Type 0
-SlotsSay = (s : SlotMembers) → FitsSlot s → SaysMembers s (slot_value s)
-
-module _ (payload : Data) (format : Format) (random : List ℕ) (some : 1 ≤ format.iterations) (long : 272 ≤ length random) (fits : FitsMetadata payload format random) (say : SlotsSay) where
+module _ (payload : Data) (format : Format) (random : List ℕ) (some : 1 ≤ format.iterations) (long : 272 ≤ length random) (fits : FitsMetadata payload format random) where
   can : CanFormat (new_members payload format random)
   can = can_format payload format random some long fits.digest_length
 
   slot_says : SaysMembers (first_slot (new_members payload format random)) (slot_value (first_slot (new_members payload format random)))
-  slot_says = say (first_slot (new_members payload format random)) (slot_fits (new_members payload format random) fits.fits can)
+  slot_says = says_members (first_slot (new_members payload format random)) (slot_fits (new_members payload format random) fits.fits can)
 
   -- ---- the areas of the metadata
   slot_bounds : (total n : ℕ) (a : Area) → n < 32 → slot_number (formatted (new_members payload format random)) n (codes "offset") ≡ Some a.start
@@ -112,9 +111,9 @@ module _ (payload : Data) (format : Format) (random : List ℕ) (some : 1 ≤ fo
         | inl zero ↦ (
             let first : slot_number j 0 (codes "offset") ≡ Some a.start = subst (λ (m : ℕ). slot_number j m (codes "offset") ≡ Some a.start) zero start in
             let second : slot_number j 0 (codes "size") ≡ Some a.len = subst (λ (m : ℕ). slot_number j m (codes "size") ≡ Some a.len) zero len in
-            (zero, some_same a.start 32768 (sym first ∙ decimal_says 32768 (lit< tt)), some_same a.len 258048 (sym second ∙ decimal_says 258048 (lit< tt))))
+            (zero, some_same a.start 32768 (sym first ∙ decimal_is 32768 (lit< tt)), some_same a.len 258048 (sym second ∙ decimal_is 258048 (lit< tt))))
         | inr other ↦ (
-            let none : object_at j Keyslots n ≡ None = none_other (slot_value (first_slot (new_members payload format random))) n small other in
+            let none : object_at j Keyslots n ≡ None = none_else (slot_value (first_slot (new_members payload format random))) n other in
             absurd (no_some a.start (sym (ap (λ o. decimal_in (option_and_then (get (codes "offset")) (option_and_then (get (codes "area")) o))) none) ∙ start)))
       ]
 
@@ -126,9 +125,9 @@ module _ (payload : Data) (format : Format) (random : List ℕ) (some : 1 ≤ fo
         | inl zero ↦ (
             let first : segment_offset j 0 ≡ Some a.start = subst (λ (m : ℕ). segment_offset j m ≡ Some a.start) zero start in
             let last : HasExtent total a.start a.len (segment_extent j 0) = subst (λ (m : ℕ). HasExtent total a.start a.len (segment_extent j m)) zero extent in
-            (zero, some_same a.start (segment_start payload) (sym first ∙ decimal_says (segment_start payload) fits.fits.segment_offset) ∙ ap segment_start here, last))
+            (zero, some_same a.start (segment_start payload) (sym first ∙ decimal_is (segment_start payload) fits.fits.segment_offset) ∙ ap segment_start here, last))
         | inr other ↦ (
-            let none : object_at j Segments n ≡ None = none_other (segment_value (new_members payload format random)) n small other in
+            let none : object_at j Segments n ≡ None = none_else (segment_value (new_members payload format random)) n other in
             absurd (no_some a.start (sym (ap (λ o. decimal_in (option_and_then (get (codes "offset")) o)) none) ∙ start)))
       ]
 
@@ -148,9 +147,9 @@ module _ (payload : Data) (format : Format) (random : List ℕ) (some : 1 ≤ fo
   segments here = record {
     each = λ n d bytes start held region offset.
         let v : VolumeMembers = new_members payload format random in
-        let is : segment_value v ≡ d = (segment_at v n d held.named held.is).1 in
+        let is : segment_value v ≡ d = (segment_at v n d held.is).1 in
         let at : decimal_in (inside_at outer.Top (codes "offset") (segment_value v)) ≡ Some start = subst (λ (o : Value). decimal_in (inside_at outer.Top (codes "offset") o) ≡ Some start) (sym is) offset in
-        let from : start ≡ 16777216 = some_same start (segment_start payload) (sym at ∙ decimal_says (segment_start payload) fits.fits.segment_offset) ∙ ap segment_start here in
+        let from : start ≡ 16777216 = some_same start (segment_start payload) (sym at ∙ decimal_is (segment_start payload) fits.fits.segment_offset) ∙ ap segment_start here in
         let size : bytes ≡ 16744448 = some_same bytes 16744448 (sym region ∙ keyslots_say v) in
         omega (arith, from, size);
   }
@@ -183,25 +182,25 @@ module _ (payload : Data) (format : Format) (random : List ℕ) (some : 1 ≤ fo
 
   -- what the digest says
   digest_iterations : number_in 1 4294967295 (Some (number (unsigned format.iterations))) ≡ Some format.iterations
-  digest_iterations = number_says 1 4294967295 format.iterations some (let turns = fits.fits.iterations in omega (arith, turns))
+  digest_iterations = number_is 1 4294967295 format.iterations (record { from = some; to = (let turns = fits.fits.iterations in omega (arith, turns)) })
 
   digest_salt_says : bytes_in 1 128 (Some (string (base64_text (digest_salt random)))) ≡ Some (digest_salt random)
   digest_salt_says =
       let size = length-digest_salt random long in
-      bytes_say 1 128 (digest_salt random) fits.fits.digest_salt (omega (arith, size)) (omega (arith, size)) (omega (arith, size))
+      bytes_are 1 128 (digest_salt random) (lit≤ tt) fits.fits.digest_salt (record { from = omega (arith, size); to = omega (arith, size) })
 
   digest_stored : bytes_in 20 64 (Some (string (base64_text (key_digest format random (digest_size_of format.hash))))) ≡ Some (key_digest format random (digest_size_of format.hash))
   digest_stored =
       let size = fits.digest_length in
       let low = can.digest.from in
       let high = can.digest.to in
-      bytes_say 20 64 (key_digest format random (digest_size_of format.hash)) fits.fits.digest (omega (arith, high)) low high
+      bytes_are 20 64 (key_digest format random (digest_size_of format.hash)) (lit≤ tt) fits.fits.digest (record { from = low; to = high })
 
   digest_is : (digest : DigestPlan) → IsLuks2Digest (formatted (new_members payload format random)) 0 digest
       → IsNewDigest format (digest_salt random) (key_digest format random (digest_size_of format.hash)) digest
   digest_is digest y =
       let v : VolumeMembers = new_members payload format random in
-      let is : digest_value v ≡ y.object = (digest_at v y.number y.object y.names.numbered y.there).1 in
+      let is : digest_value v ≡ y.object = (digest_at v y.number y.object y.there).1 in
       let d : Value = digest_value v in
       let hash : text_of (member_at d outer.Top name.Hash) ≡ Some digest.hash.now = subst (λ (o : Value). text_of (member_at o outer.Top name.Hash) ≡ Some digest.hash.now) (sym is) y.hash in
       let turns : small_at d outer.Top name.Iterations ≡ Some digest.iterations = subst (λ (o : Value). small_at o outer.Top name.Iterations ≡ Some digest.iterations) (sym is) y.iterations in
@@ -222,7 +221,7 @@ module _ (payload : Data) (format : Format) (random : List ℕ) (some : 1 ≤ fo
       let v : VolumeMembers = new_members payload format random in
       let same : y.value ≡ formatted v = one_value json y.value (formatted v) y.holds holds in
       let there : object_at (formatted v) Keyslots 0 ≡ Some y.object = subst (λ (k : Value). object_at k Keyslots 0 ≡ Some y.object) same y.there in
-      let object_is : slot_value (first_slot v) ≡ y.object = (slot_at v 0 y.object (lit< tt) there).1 in
+      let object_is : slot_value (first_slot v) ≡ y.object = (slot_at v 0 y.object there).1 in
       let first : IsLuks2Plan (formatted v) 0 y.object plan = subst (λ (k : Value). IsLuks2Plan k 0 y.object plan) same y.is in
       let is : IsLuks2Plan (formatted v) 0 (slot_value (first_slot v)) plan = subst (λ (o : Value). IsLuks2Plan (formatted v) 0 o plan) (sym object_is) first in (
         record {

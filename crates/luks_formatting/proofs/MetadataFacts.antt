@@ -1,23 +1,13 @@
 -- What the metadata of a new volume says.
-use Rattle.std.proofs.Common.{◌≡◌, ◌≢◌, ◌<◌, ◌≤◌, ◌^◌, ℕ, List, length, codes, true, cond, Some, None, Ordering, Less, Equal, Greater, is_eq, bytes_eq, arith, refl, sym, ap, ◌∙◌, lit≤, lit<, inl, inr}
+use Rattle.std.proofs.Common.{◌≡◌, ◌≤◌, ℕ, List, length, codes, Some, None, arith, refl, sym, ◌∙◌, lit≤, lit<, inl, inr}
 use Rattle.std.specs.Prelude.{decimal}
-use Rattle.std.specs.Cmp.Lexicographic.{slice_cmp}
 use Rattle.std.specs.Fmt.{digits}
-use Rattle.std.specs.Ordering.{nat_cmp, match_ordering}
-use Rattle.std.proofs.lemmas.Bool.{cases_Bool}
-use Rattle.std.proofs.lemmas.Bool.Decides.{nat_tests}
-use Rattle.std.proofs.lemmas.Map.Text.{is_eq-slice_cmp}
-use Rattle.std.proofs.lemmas.Slice.Eq.{bytes_eq-Decides}
-use Rattle.base64.specs.GeneralPurpose.{IsBytes}
-use Rattle.serde_json.specs.Data.{Data as Value, number, string, unsigned}
+use Rattle.std.proofs.lemmas.Bool.{cases_eq}
+use Rattle.serde_json.specs.Data.{Data as Value}
 use Rattle.serde_json.specs.Find.{get}
 use Rattle.luks_area.specs.RangeFacts.{length-part_inside}
-use Rattle.luks_json.specs.Encoded.{encoded_of}
-use Rattle.luks_json.specs.Number.{number_of as number_named, number_text}
-use Rattle.luks_json.specs.Values.{bytes_in, decimal_in, is_between, number_in}
+use Rattle.luks_json.specs.Number.{number_text}
 use Rattle.luks_json.proofs.Decimals.{decimal_told}
-use Rattle.luks_json.proofs.Encodings.{encoded_told}
-use Rattle.luks_json.proofs.Numbers.{number_of_text}
 use Rattle.luks_kdf.specs.Names.{digest_size_of, each_at_least, each_at_most}
 use Rattle.luks_kdf.specs.declared.hash_name.HashName.{HashName}
 use Rattle.luks_rules.specs.Faults.{object_at}
@@ -25,7 +15,8 @@ use Rattle.luks_rules.specs.Sizes.{keyslots_size}
 use Rattle.luks_rules.specs.declared.table.Section.TheVariants.{Digests, Keyslots, Segments}
 use Rattle.luks_making.specs.Conditions.{Between, CanFormat, FitsSlot, FitsVolume}
 use Rattle.luks_making.specs.Formatted.{VolumeMembers, digest_value, first_slot, formatted, segment_value, sole}
-use Rattle.luks_making.specs.Keyslots.{base64_text, slot_value}
+use Rattle.luks_making.specs.Keyslots.{slot_value}
+use Rattle.luks_making.proofs.NewVolumeFacts.{none_else}
 use Rattle.luks_reading.specs.declared.report.Data.{Data}
 use Rattle.luks_terms.specs.declared.format.Format.{Format}
 use Rattle.luks_formatting.specs.NewHeader2.{new_members}
@@ -60,16 +51,13 @@ can_format payload format random some long digest =
       slot_salt = record { from = omega (arith, slot); to = omega (arith, slot) };
     }
 
--- ---- members by their values, from the laws on texts
+-- ---- members by their values
 
 pub some_same : {A : Type 0} (x y : A) → Some x ≡ Some y → x ≡ y
 some_same x y e = cc
 
 pub no_some : {A : Type 0} (y : A) → None ≡ Some y → ⊥
 no_some y e = cc
-
-pub decimal_says : (n : ℕ) → n < 2 ^ 64 → decimal_in (Some (string (decimal n))) ≡ Some n
-decimal_says n fits = decimal_told (decimal n) n (record { fits = fits; digits = refl })
 
 keyslots_literal : codes "16744448" ≡ decimal 16744448
 unfolding digits
@@ -78,56 +66,24 @@ keyslots_literal = refl
 pub keyslots_say : (v : VolumeMembers) → keyslots_size (formatted v) ≡ Some 16744448
 keyslots_say v = decimal_told (codes "16744448") 16744448 (record { fits = lit< tt; digits = keyslots_literal })
 
-within_bounds : (least most n : ℕ) → least ≤ n → n ≤ most → is_between least most n ≡ true
-within_bounds least most n low high = grind (arith, nat_tests)
-
-pub number_says : (least most n : ℕ) → least ≤ n → n ≤ most → number_in least most (Some (number (unsigned n))) ≡ Some n
-number_says least most n low high = rw (within_bounds least most n low high) refl
-
-pub bytes_say : (least most : ℕ) (bytes : List ℕ) → IsBytes bytes → length bytes ≤ 128 → least ≤ length bytes → length bytes ≤ most
-    → bytes_in least most (Some (string (base64_text bytes))) ≡ Some bytes
-bytes_say least most bytes are short low high =
-    let is : encoded_of (base64_text bytes) ≡ Some bytes = encoded_told (base64_text bytes) bytes (record { are_bytes = are; at_most = short; encodes = refl }) in
-    rw (is, within_bounds least most (length bytes) low high) refl
-
--- ---- the one object of a map
-
-by_order : {A : Type 0} (o : Ordering) (a b : A) → match_ordering o a b a ≡ cond (is_eq o) b a
-by_order Less a b = refl
-by_order Equal a b = refl
-by_order Greater a b = refl
-
-seek : (k : List ℕ) (d : Value) → get k (sole d) ≡ cond (bytes_eq k (codes "0")) (Some d) None
-seek k d = by_order (slice_cmp nat_cmp k (codes "0")) None (Some d) ∙ ap (λ b. cond b (Some d) None) (is_eq-slice_cmp k (codes "0"))
-
-named_zero : (n : ℕ) → n < 32 → bytes_eq (number_text n) (codes "0") ≡ true → n ≡ 0
-named_zero n small same =
-    let text : number_text n ≡ codes "0" = (bytes_eq-Decides (number_text n) (codes "0")).0 same in
-    some_same n 0 (sym (number_of_text n small) ∙ ap number_named text)
-
-pub only_zero : (d e : Value) (n : ℕ) → n < 32 → get (number_text n) (sole d) ≡ Some e → (n ≡ 0) × (d ≡ e)
-only_zero d e n small found = elim (cases_Bool (bytes_eq (number_text n) (codes "0"))) [
-  | inl same ↦ (named_zero n small same, some_same d e (rw same at (sym (seek (number_text n) d) ∙ found)))
-  | inr other ↦ absurd (no_some e (rw other at (sym (seek (number_text n) d) ∙ found)))
-]
-
-pub none_other : (d : Value) (n : ℕ) → n < 32 → n ≢ 0 → get (number_text n) (sole d) ≡ None
-none_other d n small other = elim (cases_Bool (bytes_eq (number_text n) (codes "0"))) [
-  | inl same ↦ absurd (other (named_zero n small same))
-  | inr apart ↦ seek (number_text n) d ∙ (rw apart refl)
+-- what is found in a map with one object is that object
+only_zero : (d e : Value) (n : ℕ) → get (number_text n) (sole d) ≡ Some e → (n ≡ 0) × (d ≡ e)
+only_zero d e n found = elim (cases_eq n 0) [
+  | inl same ↦ (same, some_same d e (rw same at found))
+  | inr other ↦ absurd (no_some e (sym (none_else d n other) ∙ found))
 ]
 
 -- ---- the objects
 
 module _ (v : VolumeMembers) where
-  pub slot_at : (n : ℕ) (d : Value) → n < 32 → object_at (formatted v) Keyslots n ≡ Some d → (n ≡ 0) × (slot_value (first_slot v) ≡ d)
-  slot_at n d small is = only_zero (slot_value (first_slot v)) d n small is
+  pub slot_at : (n : ℕ) (d : Value) → object_at (formatted v) Keyslots n ≡ Some d → (n ≡ 0) × (slot_value (first_slot v) ≡ d)
+  slot_at n d is = only_zero (slot_value (first_slot v)) d n is
 
-  pub digest_at : (n : ℕ) (d : Value) → n < 32 → object_at (formatted v) Digests n ≡ Some d → (n ≡ 0) × (digest_value v ≡ d)
-  digest_at n d small is = only_zero (digest_value v) d n small is
+  pub digest_at : (n : ℕ) (d : Value) → object_at (formatted v) Digests n ≡ Some d → (n ≡ 0) × (digest_value v ≡ d)
+  digest_at n d is = only_zero (digest_value v) d n is
 
-  pub segment_at : (n : ℕ) (d : Value) → n < 32 → object_at (formatted v) Segments n ≡ Some d → (n ≡ 0) × (segment_value v ≡ d)
-  segment_at n d small is = only_zero (segment_value v) d n small is
+  pub segment_at : (n : ℕ) (d : Value) → object_at (formatted v) Segments n ≡ Some d → (n ≡ 0) × (segment_value v ≡ d)
+  segment_at n d is = only_zero (segment_value v) d n is
 
 -- the members of keyslot 0 are in their ranges
 pub slot_fits : (v : VolumeMembers) → FitsVolume v → CanFormat v → FitsSlot (first_slot v)

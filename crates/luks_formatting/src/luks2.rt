@@ -17,7 +17,6 @@ ghost use Rattle.luks_reading.specs.declared.report.Data.{Data as Payload};
 
 use crate::format_fault::FormatFault;
 use crate::judging::judge;
-use crate::laws::{formatted2_opens, new_keyslot_has_plan};
 use crate::luks2_header::{COPY_SIZE, FIRST_SALT, SECOND_SALT, SLOT_SALT, write_new_copy};
 use crate::metadata::new_area;
 use crate::plan::{new_plan, put_key_digest};
@@ -88,7 +87,6 @@ pub fn format2<D: Device>(
     ensures opens { D.tells → OnOk result
         (Answer (D.bytes device.new) 0 passphrase.now (opens (volume_key random.now))) }
 {
-    formatted2_opens();
     judge(LEAST, FORMAT2_RANDOM, device.len(), format, random)?;
     let mut buffer = [0; 64];
     let digest = &mut buffer[..format.hash.digest_len()];
@@ -138,7 +136,6 @@ fn write_volume<D: Device>(
     ensures formatted { D.tells → OnOk result (IsFormatted2 data_ format.now
         passphrase.now random.now (D.bytes device.old) (D.bytes device.new)) }
 {
-    new_keyslot_has_plan();
     let plan = slot_plan(format, random, digest);
     let key = taken(random, KEY, KEY_BYTES);
     let stripes = taken(random, SLOT_SALT + SALT_BYTES, RANDOM_STRIPES);

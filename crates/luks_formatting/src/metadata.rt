@@ -8,7 +8,7 @@ ghost use Rattle.luks_formatting.specs.NewPlan.{key_digest};
 
 use crate::luks2_header::{JSON_SIZE, SLOT_SALT};
 use crate::random::{DIGEST_SALT, SALT_BYTES, taken};
-use luks_making::{NewVolume, formatted, new_volume_is_accepted, volume_fits, written_area};
+use luks_making::{NewVolume, formatted, volume_fits, written_area};
 use luks_reading::Data;
 use luks_terms::Format;
 use std::alloc::{AllocError, Global};
@@ -59,7 +59,6 @@ fn area_of(
     ensures fits { OnOk result (FitsMetadata data_ format.now random.now) }
 {
     volume_fits(volume);
-    new_volume_is_accepted();
     let value = formatted(alloc, volume)?;
     match written_area(alloc, &value, JSON_SIZE)? {
         Some(area) => Ok(area),

@@ -5,7 +5,7 @@ mod NestingFacts
 mod RowFacts
 mod RestFacts
 pub mod RemovalFacts
-mod ReadingFacts
+pub mod ReadingFacts
 pub mod AdditionFacts
 mod FreeNumberFacts
 pub mod RoomFacts

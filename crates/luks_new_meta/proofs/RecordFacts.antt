@@ -13,12 +13,8 @@ use Rattle.luks_rules.specs.declared.table.Section.TheVariants.{Digests, Keyslot
 use Rattle.luks_rules.specs.declared.table.Section.TheVariants.{Config as ConfigSection}
 use Rattle.luks_rules.specs.Faults.{object_at, section_at}
 use Rattle.luks_rules.specs.Reading.{bytes_in, number_in, text_of, texts_of}
-use Rattle.luks_json.proofs.Decimals.{decimal_told}
-use Rattle.luks_json.proofs.Encodings.{encoded_told}
 use Rattle.luks_json.proofs.NameLists.{reads_names}
-use Rattle.luks_json.proofs.Numbers.{number_of_text, text_of_named}
 use Rattle.luks_making.proofs.NameFacts.{same_number}
-use Rattle.luks_making.proofs.ReadingFacts.{texts_say, TextsSay}
 use Rattle.luks_making.specs.Keyslots.{NewMembers, SlotMembers}
 use Rattle.luks_making.specs.Unchanged.{ChangesSlot, GainsSlot, KeepsObjects, KeepsOthers, KeepsRest, LosesSlot}
 use Rattle.luks_meta.specs.declared.configuration.Config.{Config}
@@ -27,10 +23,6 @@ use Rattle.luks_meta.specs.declared.tokens.Token.{Token}
 use Rattle.luks_meta.specs.Objects.{IsConfig, IsMissing, IsObject}
 use Rattle.luks_new_meta.specs.Records.{GainsNumber, KeepsNumbers, KeepsRecords, LosesNumber, SameDigest, others}
 use Rattle.luks_meta.specs.Says.{TellsDigest, TellsKeyslot, TellsSegment, TellsToken}
-
--- what is written of numbers, bytes and names is read again
-pub texts : TextsSay
-texts = texts_say decimal_told encoded_told number_of_text text_of_named
 
 some_same : {A : Type 0} (x y : A) → Some x ≡ Some y → x ≡ y
 some_same x y e = cc

@@ -1,4 +1,5 @@
 use Rattle.std.proofs.Common.{◌≡◌, length, arith, ◌∙◌}
+use Rattle.luks_formatting.proofs.Formatted2Facts.{slot_opens, well_formed}
 use Rattle.luks_formatting.proofs.luks2.format2.Goals as goal
 
 pub returns-in_ok-write_volume-in-Ok-clause-well_formed :
@@ -11,7 +12,7 @@ returns-in_ok-write_volume-in-Ok-clause-well_formed g c tells =
     let least = ready.large in
     let total = c.len.ensures in
     let size : length w ≡ g.D.Device.size c.args.device.now = g.met.D.Device.sized c.write_volume.new.device tells ∙ c.write_volume.ensures.size in
-    c.formatted2_opens.ensures.well_formed c.args.data_ c.args.format.now c.args.passphrase.now c.args.random.now (bytes c.args.device.now) w
+    well_formed c.args.data_ c.args.format.now c.args.passphrase.now c.args.random.now (bytes c.args.device.now) w
     (omega (arith, some)) (omega (arith, size, least, total)) ready.counted c.in-Ok.ensures.fits (c.in_ok-write_volume-in-Ok.ensures.formatted tells)
 
 pub returns-in_ok-write_volume-in-Ok-clause-opens :
@@ -24,5 +25,5 @@ returns-in_ok-write_volume-in-Ok-clause-opens g c tells =
     let least = ready.large in
     let total = c.len.ensures in
     let size : length w ≡ g.D.Device.size c.args.device.now = g.met.D.Device.sized c.write_volume.new.device tells ∙ c.write_volume.ensures.size in
-    c.formatted2_opens.ensures.opens c.args.data_ c.args.format.now c.args.passphrase.now c.args.random.now (bytes c.args.device.now) w
+    slot_opens c.args.data_ c.args.format.now c.args.passphrase.now c.args.random.now (bytes c.args.device.now) w
     (omega (arith, some)) (omega (arith, size, least, total)) ready.counted c.in-Ok.ensures.fits (c.in_ok-write_volume-in-Ok.ensures.formatted tells)

@@ -4,6 +4,7 @@ use Rattle.luks_formatting.specs.Formatted2.{HasNewCopy}
 use Rattle.luks_formatting.specs.NewHeader2.{area2}
 use Rattle.luks_formatting.specs.NewPlan.{key_digest, IsNewPlan}
 use Rattle.luks_formatting.specs.RandomBytes.{digest_salt, slot_place2, slot_salt}
+use Rattle.luks_formatting.proofs.Keyslot2Facts.{plan_by}
 use Rattle.luks_formatting.proofs.Written2Facts.{all_rest, formatted2}
 use Rattle.luks_formatting.proofs.luks2.write_volume.Goals as goal
 
@@ -20,7 +21,7 @@ returns-clause-formatted g c tells =
     let is : IsNewPlan c.args.format.now (slot_salt slot_place2 random) area2 (digest_salt random)
     (key_digest c.args.format.now random (digest_size_of c.args.format.now.hash)) plan =
     subst (λ (d : List ℕ). IsNewPlan c.args.format.now (slot_salt slot_place2 random) area2 (digest_salt random) d plan) c.requires.digest c.slot_plan-plan.ensures.plan in
-    let has_plan = c.new_keyslot_has_plan.ensures c.args.data_ c.args.format.now random c.args.json.now plan c.requires.iterations (omega (arith, counted)) c.requires.fits c.requires.area.json is
+    let has_plan = plan_by c.args.data_ c.args.format.now random c.requires.iterations (omega (arith, counted)) c.requires.fits c.args.json.now c.requires.area.json plan is
     c.slot_plan-plan.ensures.cipher in
     formatted2 c.args.data_ c.args.format.now c.args.passphrase.now random (bytes c.args.device.now) (bytes c.seal_key.new.device) (bytes c.write_new_copy.new.device)
     (bytes c.write_new_copy-2.new.device) c.args.json.now c.taken-key.result.now c.taken-stripes.result.now plan c.requires.area has_plan c.slot_plan-plan.ensures.area

@@ -7,6 +7,7 @@ use Rattle.luks_rules.specs.Held.{IsHeld}
 use Rattle.luks_making.specs.Conditions.{CanFormat}
 use Rattle.luks_making.specs.Formatted.{VolumeMembers, formatted, volume_members}
 use Rattle.luks_formatting.specs.NewPlan.{key_digest}
+use Rattle.luks_making.proofs.NewVolumeFacts.{held_made}
 use Rattle.luks_formatting.proofs.MetadataFacts.{can_format, digest_short, length-digest_salt, length-slot_salt}
 use Rattle.luks_formatting.proofs.TextLengthFacts.{name_short, text_fits}
 use Rattle.luks_formatting.proofs.metadata.area_of.Goals as goal
@@ -18,7 +19,7 @@ written_area-requires c =
     sym (ap (λ (m : VolumeMembers). length m.digest) members) ∙ c.requires.digest_length in
     let can : CanFormat (volume_members c.args.volume.now) =
     subst CanFormat (sym members) (can_format c.args.data_ c.args.format.now c.args.random.now c.requires.iterations c.requires.long digest) in
-    subst (λ (d : Data). IsHeld 12288 d) (sym c.in_ok-value.ensures) (c.new_volume_is_accepted.ensures.held (volume_members c.args.volume.now) c.volume_fits.ensures can)
+    subst (λ (d : Data). IsHeld 12288 d) (sym c.in_ok-value.ensures) (held_made (volume_members c.args.volume.now) c.volume_fits.ensures can)
 
 short_text : (n m : ℕ) → 12288 ≤ n → n ≡ m → m < 12288 → ⊥
 short_text n m full is short = absurd (omega (arith, full, is, short))
