@@ -1,5 +1,5 @@
 -- A keyslot that is removed of a LUKS2 volume: its area, and the copies beside it.
-use Rattle.std.proofs.Common.{◌≡◌, ℕ, ◌<◌, ◌≤◌, List, length, replicate, inl, inr, refl, sym, ◌∙◌, subst, arith}
+use Rattle.std.proofs.Common.{◌≡◌, ℕ, ◌≤◌, List, length, replicate, inl, inr, refl, sym, ◌∙◌, subst, arith}
 use Rattle.serde_json.specs.Data.{Data as Value}
 use Rattle.luks_area.specs.declared.area.Area.{Area}
 use Rattle.luks_area.specs.Ranges.{part, IsAt, SameBut}
@@ -29,7 +29,7 @@ use Rattle.luks2_editing.proofs.RenewalFacts.{metadata_here, prepared_unrefused,
 -- ---- the keyslot's area
 
 module _ (v : List ℕ) (payload : Data) (copy : ChosenCopy) (x : IsChosenCopy v copy) (well : WellFormed v payload)
-    (slot : ℕ) (passphrase : Passphrase) (random : List ℕ) (numbered : slot < 32) (before : HasNoFaultBefore 12 v payload (Remove slot passphrase) random) where
+    (slot : ℕ) (passphrase : Passphrase) (random : List ℕ) (before : HasNoFaultBefore 12 v payload (Remove slot passphrase) random) where
   pub removal_passed : Passed (IsEditFault2 v payload (Remove slot passphrase) random) 12
   removal_passed = passed_from (IsEditFault2 v payload (Remove slot passphrase) random) 12 before.each
 

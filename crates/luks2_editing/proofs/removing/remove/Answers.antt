@@ -20,7 +20,7 @@ returns-in_err-rewrite-clause-replies g c = λ tells payload pass x well before.
     let len : area_len c.in_ok-meta.meta ≡ area_len copy.meta = c.in_ok-meta.ensures.length in
     let renews = subst (λ (n : ℕ). IsRenewing v (Remove slot pass) copy.header copy.header.label n) (sym len) (renewing v payload copy x well (Remove slot pass) copy.header.label (sym x.header.label)) in
     let w = g.D.Device.bytes c.rewrite.new.device in
-    let passed = removal_passed v payload copy x well slot pass random c.requires.numbered before in
+    let passed = removal_passed v payload copy x well slot pass random before in
     let within : AreCopiesWithin copy.header (area_len c.in_ok-meta.meta) (g.D.Device.size c.args.device.now) =
     subst (λ (n : ℕ). AreCopiesWithin copy.header n (g.D.Device.size c.args.device.now)) (sym len)
     (subst (λ (n : ℕ). AreCopiesWithin copy.header (area_len copy.meta) n) size (copy_within v payload copy x well)) in
@@ -44,9 +44,9 @@ returns-in-Ok-clause-replies g c = λ tells payload pass x well before.
     let ready = subst (λ (n : ℕ). IsPrepared copy.header.seqid n new random 128) len c.in_ok-rewrite.ensures.ready in
     let y = g.D.Device.bytes c.wipe_area.new.device in
     record {
-      unrefused = prepared_unrefused v payload copy x well (Remove slot pass) random new (removal_passed v payload copy x well slot pass random c.requires.numbered before)
+      unrefused = prepared_unrefused v payload copy x well (Remove slot pass) random new (removal_passed v payload copy x well slot pass random before)
           (λ salt. made) (λ salt k same. same ∙ sym made) refl (λ k same. same) (λ u. tt) ready;
-      after = removed_after v payload copy x well slot pass random c.requires.numbered before c.args.area c.requires.lost.is new made w y ready
+      after = removed_after v payload copy x well slot pass random before c.args.area c.requires.lost.is new made w y ready
           (c.in_ok-rewrite.ensures.anew tells v (Remove slot pass) renews) (c.rewrite.ensures.rest tells) (c.wipe_area.ensures.rest tells) (c.in-Ok.ensures.wiped tells);
       told = refl;
     }
@@ -64,5 +64,5 @@ returns-clause-replies g c = λ tells payload pass x well before.
     let w = g.D.Device.bytes c.rewrite.new.device in
     let ready = subst (λ (n : ℕ). IsPrepared copy.header.seqid n new random 128) len c.in_ok-rewrite.ensures.ready in
     let y = g.D.Device.bytes c.wipe_area.new.device in
-    torn_lost v payload copy x well slot pass random c.requires.numbered before c.args.area c.requires.lost.is new made w y ready
+    torn_lost v payload copy x well slot pass random before c.args.area c.requires.lost.is new made w y ready
     (c.in_ok-rewrite.ensures.anew tells v (Remove slot pass) renews) (c.rewrite.ensures.rest tells) (c.wipe_area.ensures.rest tells)
