@@ -19,9 +19,7 @@ use crate::preparing::prepared;
 use crate::random::keyslot_salt;
 use luks_area::Area;
 use luks_edit::EditFault;
-use luks_making::{
-    New, addition_keeps_the_rest, change_keeps_the_rest, made_keyslot_has_room, new_fits,
-};
+use luks_making::{New, new_fits};
 use luks_meta::Meta;
 use luks_new_meta::{changed_slot, with_slot};
 use luks_reading::ChosenCopy;
@@ -165,8 +163,6 @@ fn gained(alloc: Global, meta: Meta, slot: u8, like: u8, new: &New<'_>) -> Resul
     ensures length { IfOk result (λ m. area_len m ≡ area_len meta) }
     ensures memory { IfErr result (λ f. f ≡ EditFault.Memory) }
 {
-    addition_keeps_the_rest();
-    made_keyslot_has_room();
     new_fits(new);
     match with_slot(alloc, meta, slot, like, new) {
         Ok(made) => Ok(made),
@@ -182,7 +178,6 @@ fn renewed(alloc: Global, meta: Meta, slot: u8, new: &New<'_>) -> Result<Meta, E
     ensures length { IfOk result (λ m. area_len m ≡ area_len meta) }
     ensures memory { IfErr result (λ f. f ≡ EditFault.Memory) }
 {
-    change_keeps_the_rest();
     new_fits(new);
     match changed_slot(alloc, meta, slot, new) {
         Ok(made) => Ok(made),

@@ -1,6 +1,7 @@
 use Rattle.std.proofs.Common.{sym, subst}
 use Rattle.luks_making.specs.Keyslots.{new_members}
 use Rattle.luks_making.specs.Unchanged.{ChangesSlot}
+use Rattle.luks_making.proofs.ChangeFacts.{slot_renewed}
 use Rattle.luks_meta.specs.Content.{area_len, content}
 use Rattle.luks2_editing.proofs.sealed_metadata.renewed.Goals as goal
 
@@ -12,5 +13,5 @@ returns-in-Ok-clause-made c =
     record {
       is = is;
       changes = subst (λ k. ChangesSlot c.args.slot f j k) (sym is)
-          (c.change_keeps_the_rest.ensures.rest (area_len c.args.meta) c.args.slot f j c.args.meta.held c.requires c.new_fits.ensures);
+          (slot_renewed (area_len c.args.meta) c.args.slot f j c.args.meta.held.content c.requires c.new_fits.ensures);
     }
