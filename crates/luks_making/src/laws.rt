@@ -17,7 +17,6 @@ ghost use Rattle.luks_making.specs.Naming.{HasUniqueDigests};
 ghost use Rattle.luks_making.specs.With.{IsAdded, with_slot};
 ghost use Rattle.luks_making.specs.Without.{without_slot};
 
-
 /// A name is that of one number alone.
 pub fn names_are_apart()
     ensures { (m n : ℕ) → number_text m ≡ number_text n → m ≡ n }

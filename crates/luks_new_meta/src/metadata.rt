@@ -15,9 +15,7 @@ ghost use Rattle.luks_making.specs.WrittenArea.{IsWrittenArea};
 ghost use Rattle.luks_meta.specs.Content.{area_len, content};
 
 use crate::adding::added;
-use luks_making::{
-    New, NewVolume, SourceVolume, new_fits, source_fits, volume_fits, written_area,
-};
+use luks_making::{New, NewVolume, SourceVolume, new_fits, source_fits, volume_fits, written_area};
 use luks_meta::Meta;
 use std::alloc::{AllocError, Global};
 
