@@ -14,6 +14,7 @@ use Rattle.luks_rules.specs.Sizes.{inside_at}
 use Rattle.luks_making.specs.Keyslots.{slot_value}
 use Rattle.luks_making.specs.Naming.{IsDigestOf}
 use Rattle.luks_meta.specs.Content.{content}
+use Rattle.luks_meta.proofs.Namings.{one_digest}
 use Rattle.luks_slot.specs.declared.fault.SlotFault.{SlotFault}
 use Rattle.luks_reading.specs.declared.header.ChosenCopy.{ChosenCopy}
 use Rattle.luks_reading.specs.declared.report.Data.{Data}
@@ -28,14 +29,13 @@ use Rattle.luks2_edits.specs.Metadata.{HasStripes, IsKeyArea, IsNewKeyslot}
 use Rattle.luks2_edits.specs.Places.{IsNewArea, IsOfCopies, IsOfNewKeyslot, IsTouched}
 use Rattle.luks2_edits.proofs.AlikeFacts.{made_derived, SaysLike}
 use Rattle.luks2_edits.proofs.SealFacts.{opened_plan, IsOpened}
-use Rattle.luks2_edits.proofs.VolumeLaws.{one_digest}
 use Rattle.luks2_judging.specs.Rows.{HasNoFaultBefore}
 use Rattle.luks2_judging.specs.declared.judged.Addition.{Addition}
+use Rattle.luks2_judging.proofs.KeyAreaFacts.{area_of_object}
 use Rattle.luks2_editing.specs.declared.sealed_metadata.SealedSlot.TheVariants.{Made}
 use Rattle.luks2_editing.specs.declared.sealed_metadata.Sealing.{Sealing}
 use Rattle.luks2_editing.specs.MadeMetadata.{IsGained, IsSealingEdit}
 use Rattle.luks2_editing.specs.SealedKeyslot.{HasRefusedKeyslot, IsKeyslotWritten, IsOfStripesOf, IsSealing}
-use Rattle.luks2_judging.proofs.KeyAreaFacts.{area_of_object}
 use Rattle.luks2_editing.proofs.NewKeyslotFacts.{alike_place, SealsLike}
 use Rattle.luks2_editing.proofs.PlanFacts.{like_unrefused, long_salt}
 use Rattle.luks2_editing.proofs.RenewalFacts.{metadata_here}

@@ -14,12 +14,15 @@ use Rattle.luks_head.specs.Header2.{header_at, hdr_size, seqid, IsSound}
 use Rattle.luks_head.specs.Selection.{Choice, luks1, luks2, nothing, Chosen}
 use Rattle.luks_head.specs.Sizes.{IsListed}
 use Rattle.luks_head.proofs.CopyFacts.{listed_at_least}
+use Rattle.luks_head.proofs.ChoiceFacts.{choices_agree}
+use Rattle.luks_rules.proofs.AreaFaults.{one_value}
 use Rattle.luks_meta.specs.Content.{area_len, content}
 use Rattle.luks_meta.specs.MetaFault.{Json}
 use Rattle.luks_reading.specs.declared.header.ChosenCopy.{ChosenCopy}
 use Rattle.luks_reading.specs.declared.report.Data.{Data}
 use Rattle.luks_reading.specs.Checked.{WellFormed}
 use Rattle.luks_reading.specs.Header.{json_at, IsChosenCopy}
+use Rattle.luks_reading.proofs.VolumeLaws.{well_formed_fits}
 use Rattle.luks_edit.specs.declared.edit.Edit.{Edit}
 use Rattle.luks_edit.specs.declared.edit_fault.EditFault.{EditFault}
 use Rattle.luks_edit.specs.declared.edit_fault.EditFault.TheVariants as fault
@@ -30,7 +33,7 @@ use Rattle.luks2_edits.specs.Leftovers.{IsTornAt}
 use Rattle.luks2_edits.specs.Metadata.{HasMetadata}
 use Rattle.luks2_edits.specs.Places.{IsOfCopies, IsTouched}
 use Rattle.luks2_edits.specs.Refused.{IsEditFault2, HasSaid, IsFull, IsMiscounted, IsUnrefused2, Need2}
-use Rattle.luks2_edits.proofs.VolumeLaws.{copy_sound, one_choice, one_value, well_formed_fits}
+use Rattle.luks2_edits.proofs.SoundCopyFacts.{copy_sound}
 use Rattle.luks2_editing.specs.Prepared.{AreCopiesWithin, IsPrepared, IsUnwritten}
 use Rattle.luks2_editing.specs.Replies.{EndsBy2}
 use Rattle.luks2_editing.specs.Rewriting.{AreWrittenAnew, IsRenewing, MayBeHalfWritten}
@@ -64,7 +67,7 @@ module _ (v : List ℕ) (payload : Data) (copy : ChosenCopy) (x : IsChosenCopy v
 
   one_place : (q : ℕ) (c : Copies) → Chosen v (luks2 q c) → q ≡ copy.header.hdr_offset
   unfolding place_of
-  one_place q c y = ap place_of (one_choice v (luks2 q c) (luks2 copy.header.hdr_offset copy.copies) y x.chosen)
+  one_place q c y = ap place_of (choices_agree v (luks2 q c) (luks2 copy.header.hdr_offset copy.copies) y x.chosen)
 
   -- what is said of the metadata that counts is said of this
   pub said_here : (says : ℕ → Value → Type 0) → HasSaid v says → says copy.header.hdr_offset (content copy.meta)

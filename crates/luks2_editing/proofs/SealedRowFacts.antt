@@ -5,6 +5,7 @@ use Rattle.serde_json.specs.Data.{Data as Value}
 use Rattle.serde_json.specs.Written.{compact_text}
 use Rattle.luks_head.specs.Header2.{header_at, hdr_size, seqid}
 use Rattle.luks_meta.specs.Content.{area_len, content}
+use Rattle.luks_meta.proofs.Namings.{one_digest}
 use Rattle.luks_reading.specs.declared.header.ChosenCopy.{ChosenCopy}
 use Rattle.luks_reading.specs.declared.report.Data.{Data}
 use Rattle.luks_reading.specs.Header.{json_at}
@@ -15,7 +16,6 @@ use Rattle.luks_edit.specs.RowFacts.{first_of_row, next, none_at_all, passed_fro
 use Rattle.luks2_edits.specs.Edited.{members_of, IsEdited}
 use Rattle.luks2_edits.specs.Refused.{IsEditFault2, HasSaid, IsFull, IsMiscounted, IsUnrefused2, Need2, NeedsLike}
 use Rattle.luks2_edits.proofs.ToldFacts.{need_once}
-use Rattle.luks2_edits.proofs.VolumeLaws.{one_digest}
 use Rattle.luks2_judging.proofs.EditedFacts.{texts_as_long}
 use Rattle.luks2_editing.specs.declared.sealed_metadata.Sealing.{Sealing}
 use Rattle.luks2_editing.specs.MadeMetadata.{like_of, IsMadeBy, IsSealingEdit}

@@ -41,7 +41,7 @@ use Rattle.luks2_edits.specs.Places.{key_areas_end, IsNewArea, Loses}
 use Rattle.luks2_edits.specs.Refused.{HasNoNumber, IsNumberTaken, IsUnrefused2, NeedsLike}
 use Rattle.luks2_edits.proofs.CopyFacts.{both_chosen}
 use Rattle.luks2_edits.proofs.KeptFacts.{all_kept, says_itself, KeepsMetadata}
-use Rattle.luks2_edits.proofs.VolumeLaws.{copy_sound}
+use Rattle.luks2_edits.proofs.SoundCopyFacts.{copy_sound}
 use Rattle.luks2_edits.proofs.MetadataFacts.{lost_metadata, placed_metadata}
 use Rattle.luks2_edits.proofs.PlaceFacts.{left_bytes}
 use Rattle.luks2_edits.proofs.SealFacts.{can_seal, enough_random, fits_new, none_of, opened_there, opened_plan, part_bytes, salt_length, under, IsOpened}

@@ -7,11 +7,13 @@ use Rattle.luks_area.specs.declared.area.AreaName.{AreaName}
 use Rattle.luks_area.specs.declared.area.AreaName.TheVariants.{Slot, Segment}
 use Rattle.luks_area.specs.Ranges.{part}
 use Rattle.luks_head.specs.Header2.{header_at, uuid_field}
+use Rattle.luks_head.proofs.ChoiceFacts.{choices_agree}
 use Rattle.luks_rules.specs.declared.table.Section.TheVariants.{Keyslots, Segments}
 use Rattle.luks_rules.specs.Accepted.{HasObject}
 use Rattle.luks_rules.specs.Faults.{object_at, section_at}
 use Rattle.luks_rules.specs.MetaFault.{Json}
 use Rattle.luks_rules.specs.Reading.{decimal_in}
+use Rattle.luks_rules.proofs.AreaFaults.{one_value}
 use Rattle.luks_slot.specs.declared.plan.DigestPlan.{DigestPlan}
 use Rattle.luks_slot.specs.declared.plan.SlotPlan.{SlotPlan}
 use Rattle.luks_reading.specs.declared.report.Data.{Data}
@@ -23,7 +25,6 @@ use Rattle.luks_reading.specs.Plans.{HasLuks2Plan, IsLuks2Digest, IsLuks2Plan}
 use Rattle.luks_edit.specs.Kept.{Keeps, KeepsArea, KeepsSlot, IsKeyslot}
 use Rattle.luks2_edits.specs.Kept.{HasSameKeyslot, IsSameKeyslot}
 use Rattle.luks2_edits.proofs.KeptAnswers.{answers_kept}
-use Rattle.luks2_edits.proofs.VolumeLaws.{one_choice, one_value}
 use Rattle.luks2_edits.proofs.VolumeFacts.{areas_are, areas_back, copy_faultless, formed, no_luks1, one_metadata, HasCopy, IsLayout}
 
 -- both values have the same keyslot `m`, or none, and say the same of its digest
@@ -216,7 +217,7 @@ module _
         λ x. absurd (no_luks1 w p after.copies after.chosen x.chosen),
       );
       value = λ d. (value_kept m free d, value_back m free d);
-      answers = answers_kept one_choice v w m (slot_needs m free);
+      answers = answers_kept choices_agree v w m (slot_needs m free);
     }
 
     -- all that an edit promises

@@ -11,7 +11,7 @@ use Rattle.luks_head.proofs.CopyFacts.{listed_at_least}
 use Rattle.luks_reading.specs.declared.report.Data.{Data}
 use Rattle.luks_edit.specs.declared.edit.Edit.{Edit}
 use Rattle.luks2_edits.specs.Leftovers.{IsAllowed, IsNotStray}
-use Rattle.luks2_edits.proofs.VolumeLaws.{copy_sound, sound_at_copy}
+use Rattle.luks2_edits.proofs.SoundCopyFacts.{copy_sound, sound_at_copy}
 use Rattle.luks2_edits.proofs.VolumeFacts.{one_place}
 
 -- ---- numbers

@@ -17,4 +17,4 @@ pub mod TornFacts
 pub mod TouchedFacts
 mod UniqueFacts
 pub mod VolumeFacts
-pub mod VolumeLaws
+pub mod SoundCopyFacts

@@ -3,15 +3,16 @@ use Rattle.std.proofs.Common.{◌≡◌, ℕ, ◌+◌, ◌<◌, ◌≤◌, List,
 use Rattle.std.specs.Prelude.{if◌then◌else◌}
 use Rattle.serde_json.specs.Data.{Data as Value}
 use Rattle.luks_area.specs.declared.area.AreaName.TheVariants as area
-use Rattle.luks_head.specs.Header2.{header_at, uuid_field}
-use Rattle.luks_head.specs.Selection.{luks2}
 use Rattle.luks_kdf.specs.Names.{digest_size_of, each_at_least, hash_of, length-digest}
 use Rattle.luks_kdf.proofs.SplitterFacts.{merge-split}
+use Rattle.luks_head.specs.Header2.{header_at, uuid_field}
+use Rattle.luks_head.specs.Selection.{luks2}
 use Rattle.luks_rules.specs.declared.table.Member.TheVariants as name
 use Rattle.luks_rules.specs.declared.table.Outer.TheVariants as outer
 use Rattle.luks_rules.specs.declared.table.Section.TheVariants.{Digests, Keyslots}
 use Rattle.luks_rules.specs.Faults.{member_at, object_at}
 use Rattle.luks_rules.specs.Reading.{bytes_in, number_in, text_of}
+use Rattle.luks_rules.proofs.AreaFaults.{one_value}
 use Rattle.luks_making.specs.Naming.{IsDigestOf}
 use Rattle.luks_slot.specs.declared.plan.DigestPlan.{DigestPlan}
 use Rattle.luks_slot.specs.declared.plan.SlotPlan.{SlotPlan}
@@ -24,10 +25,10 @@ use Rattle.luks_reading.specs.declared.report.Data.{Data}
 use Rattle.luks_reading.specs.Answer.{opens, AnswerWithin, IsRefusalAsWithin}
 use Rattle.luks_reading.specs.Header.{json_at}
 use Rattle.luks_reading.specs.Plans.{HasLuks2Plan, IsLuks2Digest, IsLuks2Plan}
+use Rattle.luks_reading.proofs.VolumeLaws.{uuid_faultless}
 use Rattle.luks2_edits.specs.Edited.{HoldsKey}
 use Rattle.luks2_edits.proofs.AlikeFacts.{alike_refusal, SaysLike}
 use Rattle.luks2_edits.proofs.ToldFacts.{in_between}
-use Rattle.luks2_edits.proofs.VolumeLaws.{one_value, uuid_faultless}
 use Rattle.luks2_edits.proofs.MetadataFacts.{some_same}
 use Rattle.luks2_edits.proofs.SealFacts.{IsOpened}
 use Rattle.luks2_edits.proofs.VolumeFacts.{copy_faultless, HasCopy, IsLayout}

@@ -11,6 +11,7 @@ use Rattle.luks_making.specs.Changed.{renewed_slot}
 use Rattle.luks_making.specs.Keyslots.{slot_value, IsMadeFrom, NewMembers, SlotMembers}
 use Rattle.luks_making.specs.Naming.{IsDigestOf}
 use Rattle.luks_making.specs.Unchanged.{ChangesSlot, GainsSlot, KeepsRest, SaysMembers, SaysNew}
+use Rattle.luks_meta.proofs.Namings.{one_digest}
 use Rattle.luks_slot.specs.Opening.{meets_digest}
 use Rattle.luks_reading.specs.declared.report.Data.{Data}
 use Rattle.luks_reading.specs.Answer.{opens, AnswerWithin}
@@ -22,7 +23,6 @@ use Rattle.luks2_edits.proofs.MetadataFacts.{digest_moves, some_same}
 use Rattle.luks2_edits.proofs.AlikeFacts.{changed_derived, made_derived, SaysLike}
 use Rattle.luks2_edits.proofs.OpenFacts.{holds_opens}
 use Rattle.luks2_edits.proofs.SealFacts.{opened_meets, opened_plan, IsOpened}
-use Rattle.luks2_edits.proofs.VolumeLaws.{one_digest}
 use Rattle.luks2_edits.proofs.VolumeFacts.{copy_meta, HasCopy, IsLayout}
 
 -- the keyslot that an addition makes is one

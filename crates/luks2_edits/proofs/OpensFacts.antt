@@ -5,6 +5,7 @@ use Rattle.luks_making.specs.Unchanged.{GainsSlot}
 use Rattle.luks_reading.specs.declared.report.Data.{Data}
 use Rattle.luks_reading.specs.Answer.{opens, AnswerWithin}
 use Rattle.luks_reading.specs.Checked.{WellFormed}
+use Rattle.luks_reading.proofs.VolumeLaws.{one_answer}
 use Rattle.luks_edit.specs.declared.edit.Edit.{Edit}
 use Rattle.luks_edit.specs.declared.edit.Edit.TheVariants.{Add, Change, Remove, Repair, Label}
 use Rattle.luks_edit.specs.Asked.{memory_for}
@@ -15,7 +16,6 @@ use Rattle.luks2_edits.specs.Refused.{HasNoNumber, IsNumberTaken, IsUnrefused2}
 use Rattle.luks2_edits.proofs.AfterFacts.{added_gains, added_says, after, before, changed_changes, edited_metadata, enough_turns, layout, long_salt, was_opened, IsReady}
 use Rattle.luks2_edits.proofs.OpenedFacts.{changed_opens, made_opens, one_new}
 use Rattle.luks2_edits.proofs.SealFacts.{opened_plan}
-use Rattle.luks2_edits.proofs.VolumeLaws.{one_answer}
 use Rattle.luks2_edits.proofs.VolumeFacts.{one_metadata, IsLayout}
 
 module _ (v : List ℕ) (payload : Data) (random w : List ℕ) (well : WellFormed v payload) where

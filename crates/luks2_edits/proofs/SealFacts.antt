@@ -9,11 +9,13 @@ use Rattle.luks_area.specs.RangeFacts.{get_or-part, length-part}
 use Rattle.luks_area.specs.Ranges.{part}
 use Rattle.luks_area.specs.Sectors.{rounded_to_sectors}
 use Rattle.luks_head.specs.Selection.{luks2}
+use Rattle.luks_head.proofs.ChoiceFacts.{choices_agree}
 use Rattle.luks_rules.specs.declared.table.Outer.TheVariants as outer
 use Rattle.luks_rules.specs.declared.table.Section.TheVariants.{Keyslots}
 use Rattle.luks_rules.specs.Faults.{object_at}
 use Rattle.luks_rules.specs.Reading.{number_in}
 use Rattle.luks_rules.specs.Sizes.{inside_at}
+use Rattle.luks_rules.proofs.AreaFaults.{one_value}
 use Rattle.luks_making.specs.Conditions.{CanSeal, FitsNew, IsThere}
 use Rattle.luks_slot.specs.declared.fault.SlotFault.TheVariants.{Argon2}
 use Rattle.luks_slot.specs.declared.plan.SlotPlan.{SlotPlan}
@@ -29,7 +31,6 @@ use Rattle.luks2_edits.specs.Edited.{keyslot_salt, members_of}
 use Rattle.luks2_edits.specs.Metadata.{HasMetadata}
 use Rattle.luks2_edits.specs.Places.{IsNewArea}
 use Rattle.luks2_edits.specs.Refused.{NeedsLike}
-use Rattle.luks2_edits.proofs.VolumeLaws.{one_choice, one_value}
 use Rattle.luks2_edits.proofs.MetadataFacts.{some_same}
 use Rattle.luks2_edits.proofs.PlaceFacts.{sectors_in_blocks}
 
@@ -75,7 +76,7 @@ none_of (Some a) h = absurd (h a refl)
 -- a keyslot that was opened has a plan that isn't refused
 pub opened_plan : (memory : ℕ) (v : List ℕ) (o : ℕ) (j : Value) (n : ℕ) (p key : List ℕ) → HasMetadata v o j → AnswerWithin memory v n p (opens key) → IsOpened memory v o j n
 opened_plan memory v o j n p key m a =
-    let choice = one_choice v a.choice (luks2 o m.copies) a.chosen m.chosen in
+    let choice = choices_agree v a.choice (luks2 o m.copies) a.chosen m.chosen in
     let is : HasLuks2Plan (json_at v o) n a.plan = subst (λ c. HasPlanAs v n c a.plan) choice a.is in
     let same : is.value ≡ j = one_value (json_at v o) is.value j is.holds m.holds in
     record {

@@ -5,22 +5,26 @@ use Rattle.serde_json.specs.Data.{Data as Value}
 use Rattle.luks_area.specs.declared.area.AreaName.TheVariants as name
 use Rattle.luks_area.specs.RangeFacts.{part-part, part-same_but, same_but-equal, same_but-wider}
 use Rattle.luks_area.specs.Ranges.{part, IsAt, IsOfEither, SameBut}
+use Rattle.luks_area.specs.declared.area.Area.{Area}
 use Rattle.luks_head.specs.Header2.{copy_at, hdr_size, header_at, uuid_field, IsSound, IsUuidField}
 use Rattle.luks_head.specs.Selection.{luks2, Chosen}
 use Rattle.luks_head.specs.Sizes.{IsListed}
 use Rattle.luks_head.specs.declared.selection.Copies.{Copies}
 use Rattle.luks_head.proofs.CopyFacts.{listed_at_least}
+use Rattle.luks_head.proofs.ChoiceFacts.{choices_agree, choice_exists}
 use Rattle.luks_rules.specs.MetaFault.{Json}
-use Rattle.luks_reading.specs.declared.report.Data.{Data}
 use Rattle.luks_making.specs.Changed.{changed_slot}
+use Rattle.luks_reading.specs.declared.report.Data.{Data}
 use Rattle.luks_reading.specs.Answer.{opens, AnswerWithin}
 use Rattle.luks_reading.specs.Layout2.{Luks2Area}
 use Rattle.luks_reading.specs.Checked.{WellFormed, WellFormedAs}
 use Rattle.luks_reading.specs.Header.{json_at}
+use Rattle.luks_reading.proofs.VolumeLaws.{one_answer}
 use Rattle.luks_edit.specs.declared.edit.Edit.{Edit}
 use Rattle.luks_edit.specs.declared.edit.Edit.TheVariants.{Add, Change, Remove, Repair, Label}
 use Rattle.luks_edit.specs.Asked.{memory_for}
 use Rattle.luks_edit.specs.Kept.{Keeps}
+use Rattle.luks_edit.specs.declared.edit_fault.EditFault.TheVariants.{Iterations, RandomLength}
 use Rattle.luks2_edits.specs.Copies.{other_place, IsRenewed}
 use Rattle.luks2_edits.specs.Edited.{keyslot_salt, members_of, stripes_random, HasChanged, HasRanges, HoldsKey, IsEdited, IsSealedBy, NamedKeyslots2}
 use Rattle.luks2_edits.specs.Leftovers.{CountsAsAfter, CountsAsBefore, IsAllowed, IsNotStray, IsTorn2, IsTornAt, IsTornChosen, IsTornLost, IsTornOther, Leftover2, OpensEither2}
@@ -28,15 +32,13 @@ use Rattle.luks2_edits.specs.Metadata.{HasMetadata}
 use Rattle.luks2_edits.specs.Gap.{IsLeastGap}
 use Rattle.luks2_edits.specs.Places.{key_areas_end, rounded_to_blocks, IsNewArea, IsOfCopies, IsOfNewKeyslot, IsOfSealed, IsTouched, Loses}
 use Rattle.luks2_edits.specs.Refused.{IsUnrefused2}
-use Rattle.luks_edit.specs.declared.edit_fault.EditFault.TheVariants.{Iterations, RandomLength}
-use Rattle.luks_area.specs.declared.area.Area.{Area}
 use Rattle.luks2_edits.proofs.MetadataFacts.{some_same}
 use Rattle.luks2_edits.proofs.OpenedFacts.{changed_opens}
 use Rattle.luks2_edits.proofs.SealFacts.{opened_plan}
 use Rattle.luks2_edits.proofs.AfterFacts.{changed_changes, edited_metadata, enough_turns, lost_is_named, same_metadata, was_opened, IsReady, WasOpened, long_salt}
 use Rattle.luks2_edits.proofs.KeptFacts.{all_kept}
 use Rattle.luks2_edits.proofs.LeftoverFacts.{first_size_left, is_sound, left_of, not_other, place_is, same_header, Left}
-use Rattle.luks2_edits.proofs.VolumeLaws.{copy_sound, one_answer, one_choice, some_choice}
+use Rattle.luks2_edits.proofs.SoundCopyFacts.{copy_sound}
 use Rattle.luks2_edits.proofs.PlaceFacts.{left_bytes}
 use Rattle.luks2_edits.proofs.TouchedFacts.{torn_rest}
 use Rattle.luks2_edits.proofs.VolumeFacts.{copy_of, layout_of, one_metadata, one_place, HasCopy, IsLayout}
@@ -365,7 +367,7 @@ module _
         let all : SameBut Touched v w = torn_rest v payload e random o j new w (inl rest) in
         let was : copy_at w o ≡ copy_at v o = untouched_copy v w Sealed h o rest room (not_sealed o at_o) (inl refl) in
         let sound : IsSound w o = is_sound v w long o was (copy_sound v o stray.copies stray.chosen) in
-        let l : Left w h = left_of v payload e random w long stray o at_o sound (some_choice w).0 (some_choice w).1 in
+        let l : Left w h = left_of v payload e random w long stray o at_o sound (choice_exists w).0 (choice_exists w).1 in
         elim (chosen_at l.place o h room l.at at_o) [
           | inl same ↦ before_outcome l.copies (subst (λ q. Chosen w (luks2 q l.copies)) same l.chosen) was (same_but-wider (λ p x. inl x) rest) all
           | inr other ↦ absurd (not_other v payload e random w long stray was l.place l.copies l.chosen
@@ -381,7 +383,7 @@ module _
         let all : SameBut Touched v w = torn_rest v payload e random o j new w (inr (inl t)) in
         let was : copy_at w o ≡ copy_at v o = untouched_copy v w (IsOfEither Sealed (IsAt (other_place h o) h)) h o t.rest room (apart_by) (inl refl) in
         let sound : IsSound w o = is_sound v w long o was (copy_sound v o stray.copies stray.chosen) in
-        let l : Left w h = left_of v payload e random w long stray o at_o sound (some_choice w).0 (some_choice w).1 in
+        let l : Left w h = left_of v payload e random w long stray o at_o sound (choice_exists w).0 (choice_exists w).1 in
         elim (chosen_at l.place o h room l.at at_o) [
           | inl same ↦ before_outcome l.copies (subst (λ q. Chosen w (luks2 q l.copies)) same l.chosen) was (same_but-wider (λ p. of_copies p other_is) t.rest) all
           | inr other ↦ elim (stray.known l.place l.at (copy_sound w l.place l.copies l.chosen)) [
@@ -397,7 +399,7 @@ module _
         let long : length w ≡ length v = t.rest.length_same in
         let all : SameBut Touched v w = torn_rest v payload e random o j new w (inr (inr (inl t))) in
         let l : Left w h =
-        left_of v payload e random w long stray (other_place h o) (other_at h o at_o room) t.other.renewed.sound (some_choice w).0 (some_choice w).1 in
+        left_of v payload e random w long stray (other_place h o) (other_at h o at_o room) t.other.renewed.sound (choice_exists w).0 (choice_exists w).1 in
         elim (chosen_at l.place o h room l.at at_o) [
           | inl same ↦ elim (stray.known l.place l.at (copy_sound w l.place l.copies l.chosen)) [
             | inl was ↦ before_outcome l.copies (subst (λ q. Chosen w (luks2 q l.copies)) same l.chosen) (subst (λ q. copy_at w q ≡ copy_at v q) same was) t.rest all
@@ -437,7 +439,7 @@ module _
     torn_lost : IsTornLost v payload e random o j new w → Outcome v payload e random w
     torn_lost t =
         let l : Left w h =
-        left_of v payload e random w t.rest.length_same stray 0 (inl refl) t.first.renewed.sound (some_choice w).0 (some_choice w).1 in
+        left_of v payload e random w t.rest.length_same stray 0 (inl refl) t.first.renewed.sound (choice_exists w).0 (choice_exists w).1 in
         after_outcome t.sealed l.place l.copies l.chosen (written_by t l.place l.at) t.rest
 
     pub torn_outcome : IsTornAt v payload e random o j new w → Outcome v payload e random w
@@ -475,7 +477,7 @@ torn_there v payload e random w well ranges free stray t =
 -- a well formed LUKS2 volume has metadata
 its_metadata : (v : List ℕ) (payload : Data) → WellFormed v payload → (o : ℕ) (b : Copies) → Chosen v (luks2 o b) → (j : Value) × HasMetadata v o j
 its_metadata v payload well o b chosen =
-    let formed = subst (λ c. WellFormedAs v payload c) (one_choice v well.choice (luks2 o b) well.chosen chosen) well.formed in
+    let formed = subst (λ c. WellFormedAs v payload c) (choices_agree v well.choice (luks2 o b) well.chosen chosen) well.formed in
     (formed.layout.0, record { copies = b; chosen = chosen; holds = formed.layout.1.metadata.json })
 
 pub leftover_outcome : (v : List ℕ) (payload : Data) (e : Edit) (random w : List ℕ) → WellFormed v payload

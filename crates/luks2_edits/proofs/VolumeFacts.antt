@@ -11,17 +11,20 @@ use Rattle.luks_head.specs.declared.selection.Copies.{Copies}
 use Rattle.luks_head.specs.Header2.{header_at, hdr_size, uuid_field, IsUuidField}
 use Rattle.luks_head.specs.Selection.{Choice, luks1, luks2, nothing, Chosen}
 use Rattle.luks_head.proofs.CopyFacts.{listed_at_least}
+use Rattle.luks_head.proofs.ChoiceFacts.{choices_agree}
 use Rattle.luks_rules.specs.declared.fault.MetaFault.{MetaFault}
 use Rattle.luks_rules.specs.Accepted.{IsContent, IsMeta}
 use Rattle.luks_rules.specs.Held.{IsHeld}
 use Rattle.luks_rules.specs.MetaFault.{Json, IsMetaFault}
+use Rattle.luks_rules.proofs.AreaFaults.{one_value}
+use Rattle.luks_rules.proofs.Deciding.{metadata_faultless}
 use Rattle.luks_reading.specs.declared.report.Data.{Data}
 use Rattle.luks_reading.specs.declared.report.Data.TheVariants.{Here}
 use Rattle.luks_reading.specs.Checked.{AreaOf, HasAreaAs, IsLuks2Layout, IsLuks2Volume, SegmentsFollow, WellFormed, WellFormedAs}
 use Rattle.luks_reading.specs.Header.{json_at}
 use Rattle.luks_reading.specs.Layout2.{Luks2Area}
 use Rattle.luks2_edits.specs.Metadata.{HasMetadata}
-use Rattle.luks2_edits.proofs.VolumeLaws.{copy_sound, metadata_faultless, one_choice, one_value}
+use Rattle.luks2_edits.proofs.SoundCopyFacts.{copy_sound}
 
 -- the metadata `j` makes a well formed volume of `total` bytes with copies of `h` bytes
 pub record IsLayout (h total : ℕ) (payload : Data) (j : Value) : Type 0 where
@@ -51,12 +54,12 @@ is_luks1 nothing = false
 -- one copy counts
 pub one_place : (v : List ℕ) (o q : ℕ) (b c : Copies) → Chosen v (luks2 o b) → Chosen v (luks2 q c) → q ≡ o
 unfolding place_of
-one_place v o q b c x y = ap place_of (one_choice v (luks2 q c) (luks2 o b) y x)
+one_place v o q b c x y = ap place_of (choices_agree v (luks2 q c) (luks2 o b) y x)
 
 -- and no LUKS1 header beside it
 pub no_luks1 : (v : List ℕ) (o : ℕ) (b : Copies) → Chosen v (luks2 o b) → Chosen v luks1 → ⊥
 unfolding is_luks1
-no_luks1 v o b x y = true≢false (ap is_luks1 (one_choice v luks1 (luks2 o b) y x))
+no_luks1 v o b x y = true≢false (ap is_luks1 (choices_agree v luks1 (luks2 o b) y x))
 
 -- and holds one value
 pub one_metadata : (v : List ℕ) (o q : ℕ) (b c : Copies) (j i : Value) → Chosen v (luks2 o b) → Json (json_at v o) j
@@ -116,7 +119,7 @@ luks2_layout v payload o copies j chosen holds well =
     }
 
 well_formed_as : (v : List ℕ) (payload : Data) (c : Choice) → Chosen v c → WellFormed v payload → WellFormedAs v payload c
-well_formed_as v payload c chosen well = subst (λ b. WellFormedAs v payload b) (one_choice v well.choice c well.chosen chosen) well.formed
+well_formed_as v payload c chosen well = subst (λ b. WellFormedAs v payload b) (choices_agree v well.choice c well.chosen chosen) well.formed
 
 -- a well formed volume has a copy with a layout
 pub layout_of : (v : List ℕ) (payload : Data) (o : ℕ) (j : Value) → HasMetadata v o j → WellFormed v payload
@@ -138,7 +141,7 @@ copy_of v payload o j m well = record {
 pub areas_are : (v : List ℕ) (payload : Data) (o h : ℕ) (j : Value) → HasCopy v o h j → (n : AreaName) (a : Area)
     → AreaOf v payload n a → Luks2Area j h payload (length v) n a
 areas_are v payload o h j c n a x =
-    let is = subst (λ b. HasAreaAs v payload b n a) (one_choice v x.choice (luks2 o c.copies) x.chosen c.chosen) x.area in
+    let is = subst (λ b. HasAreaAs v payload b n a) (choices_agree v x.choice (luks2 o c.copies) x.chosen c.chosen) x.area in
     let same : is.value ≡ j = one_value (json_at v o) is.value j is.holds c.holds in
     subst (λ k. Luks2Area k h payload (length v) n a) same (subst (λ g. Luks2Area is.value g payload (length v) n a) c.size is.area)
 

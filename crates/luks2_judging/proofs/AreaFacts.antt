@@ -7,6 +7,8 @@ use Rattle.luks_area.specs.RangeFacts.{length-part_inside}
 use Rattle.luks_head.specs.Header2.{hdr_size, header_at, IsSound}
 use Rattle.luks_head.specs.Selection.{luks2}
 use Rattle.luks_head.proofs.CopyFacts.{listed_at_least}
+use Rattle.luks_head.proofs.ChoiceFacts.{choices_agree}
+use Rattle.luks_rules.proofs.AreaFaults.{one_value}
 use Rattle.luks_meta.specs.Content.{area_len, content}
 use Rattle.luks_reading.specs.declared.header.ChosenCopy.{ChosenCopy}
 use Rattle.luks_reading.specs.declared.report.Data.{Data}
@@ -14,7 +16,7 @@ use Rattle.luks_reading.specs.Checked.{AreaOf, HasAreaAs}
 use Rattle.luks_reading.specs.Header.{json_at, IsChosenCopy}
 use Rattle.luks_reading.specs.Layout2.{Luks2Area}
 use Rattle.luks_reading.specs.Listing.{Lists}
-use Rattle.luks2_edits.proofs.VolumeLaws.{copy_sound, one_choice, one_value}
+use Rattle.luks2_edits.proofs.SoundCopyFacts.{copy_sound}
 
 -- ---- the copy that counts
 
@@ -33,7 +35,7 @@ module _ (v : List ℕ) (copy : ChosenCopy) (x : IsChosenCopy v copy) where
   named_here : (payload : Data) (n : AreaName) (a : Area) → AreaOf v payload n a
       → Luks2Area (content copy.meta) (hdr_size (header_at v copy.header.hdr_offset)) payload (length v) n a
   named_here payload n a y =
-      let there = subst (λ c. HasAreaAs v payload c n a) (one_choice v y.choice (luks2 copy.header.hdr_offset copy.copies) y.chosen x.chosen) y.area in
+      let there = subst (λ c. HasAreaAs v payload c n a) (choices_agree v y.choice (luks2 copy.header.hdr_offset copy.copies) y.chosen x.chosen) y.area in
       let same : there.value ≡ content copy.meta = one_value (json_at v copy.header.hdr_offset) there.value (content copy.meta) there.holds x.metadata.json in
       subst (λ j. Luks2Area j (hdr_size (header_at v copy.header.hdr_offset)) payload (length v) n a) same there.area
 

@@ -2,7 +2,9 @@
 use Rattle.std.proofs.Common.{◌≡◌, ℕ, List, ap, refl, subst}
 use Rattle.serde_json.specs.Data.{Data as Value}
 use Rattle.luks_head.specs.Selection.{Choice, luks1, luks2, nothing}
+use Rattle.luks_head.proofs.ChoiceFacts.{choices_agree}
 use Rattle.luks_rules.specs.MetaFault.{Json}
+use Rattle.luks_rules.proofs.AreaFaults.{one_value}
 use Rattle.luks_meta.specs.Content.{content}
 use Rattle.luks_reading.specs.declared.header.ChosenCopy.{ChosenCopy}
 use Rattle.luks_reading.specs.declared.header.Header.{Header}
@@ -10,7 +12,6 @@ use Rattle.luks_reading.specs.declared.header.Header.TheVariants.{Luks1, Luks2}
 use Rattle.luks_reading.specs.Header.{json_at, IsChosenCopy, IsHeader}
 use Rattle.luks2_edits.specs.Metadata.{HasMetadata}
 use Rattle.luks2_edits.specs.Refused.{HasSaid}
-use Rattle.luks2_edits.proofs.VolumeLaws.{one_choice, one_value}
 use Rattle.luks2_judging.specs.Header.{IsOfLuks2}
 
 abbrev place_of : Choice → ℕ
@@ -28,7 +29,7 @@ module _ (v : List ℕ) (o : ℕ) (j : Value) (m : HasMetadata v o j) where
   -- what a volume's metadata says is said of the copy that was read
   pub said : (says : ℕ → Value → Type 0) → HasSaid v says → says o j
   said says s =
-      let place : s.place ≡ o = ap place_of (one_choice v (luks2 s.place s.metadata.copies) (luks2 o m.copies) s.metadata.chosen m.chosen) in
+      let place : s.place ≡ o = ap place_of (choices_agree v (luks2 s.place s.metadata.copies) (luks2 o m.copies) s.metadata.chosen m.chosen) in
       let same : s.value ≡ j = one_value (json_at v o) s.value j (subst (λ n. Json (json_at v n) s.value) place s.metadata.holds) m.holds in
       subst (λ i. says o i) same (subst (λ n. says n s.value) place s.is)
 

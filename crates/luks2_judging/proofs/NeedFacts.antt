@@ -1,7 +1,7 @@
 -- How many random bytes an edit takes, and the first of the faults that are seen without a key.
 use Rattle.std.proofs.Common.{Bor, Option, refl, ◌≡◌, ℕ, List, true, subst, sym}
-use Rattle.luks_area.specs.First.{IsLeast}
 use Rattle.serde_json.specs.Data.{Data as Value}
+use Rattle.luks_area.specs.First.{IsLeast}
 use Rattle.luks_meta.specs.Content.{content}
 use Rattle.luks_meta.specs.Requirements.{has_requirements}
 use Rattle.luks_reading.specs.declared.check_fault.CheckFault.{CheckFault}
@@ -11,6 +11,7 @@ use Rattle.luks_reading.specs.declared.header.Header.TheVariants.{Luks2}
 use Rattle.luks_reading.specs.declared.report.Data.{Data}
 use Rattle.luks_reading.specs.Checked.{IsFault, WellFormed}
 use Rattle.luks_reading.specs.Header.{IsHeader}
+use Rattle.luks_reading.proofs.VolumeLaws.{well_formed_faultless}
 use Rattle.luks_edit.specs.declared.edit.Edit.{Edit}
 use Rattle.luks_edit.specs.declared.edit.Edit.TheVariants.{Add}
 use Rattle.luks_edit.specs.declared.edit.Passphrase.{Passphrase}
@@ -23,7 +24,6 @@ use Rattle.luks2_edits.specs.Refused.{HasNoFree, IsAbsent, IsTaken, Need2}
 use Rattle.luks2_judging.specs.Header.{IsUnaccepted}
 use Rattle.luks2_judging.specs.Judged.{IsNumberFault}
 use Rattle.luks2_judging.specs.Needed.{IsNeedFault2, NeedsRandom}
-use Rattle.luks2_edits.proofs.VolumeLaws.{well_formed_faultless}
 use Rattle.luks2_judging.proofs.ChosenFacts.{copy_in, metadata_of, said, say}
 use Rattle.luks2_judging.proofs.NumberFacts.{unnumbered_untaken}
 

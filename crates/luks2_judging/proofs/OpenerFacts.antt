@@ -5,10 +5,13 @@ use Rattle.serde_json.specs.Find.{get}
 use Rattle.luks_area.specs.declared.area.AreaName.TheVariants as area_name
 use Rattle.luks_head.specs.Header2.{header_at, uuid_field}
 use Rattle.luks_head.specs.Selection.{luks2}
+use Rattle.luks_head.proofs.ChoiceFacts.{choices_agree}
 use Rattle.luks_rules.specs.declared.table.Section.TheVariants.{Keyslots}
 use Rattle.luks_rules.specs.Faults.{object_at}
 use Rattle.luks_rules.specs.MetaFault.{Json}
 use Rattle.luks_rules.specs.Reading.{decimal_in}
+use Rattle.luks_rules.proofs.AreaFaults.{one_value}
+use Rattle.luks_rules.proofs.Deciding.{metadata_faultless}
 use Rattle.luks_slot.specs.declared.fault.SlotFault.{SlotFault}
 use Rattle.luks_reading.specs.declared.open_fault.OpenFault.{OpenFault}
 use Rattle.luks_reading.specs.declared.open_fault.OpenFault.TheVariants as opening
@@ -17,6 +20,7 @@ use Rattle.luks_reading.specs.Answer.{AnswerWithin, IsLuks2RefusalWithin, IsRefu
 use Rattle.luks_reading.specs.Checked.{IsLuks2Volume, WellFormed, WellFormedAs}
 use Rattle.luks_reading.specs.Header.{json_at}
 use Rattle.luks_reading.specs.Layout2.{slot_number}
+use Rattle.luks_reading.proofs.VolumeLaws.{one_answer, uuid_faultless}
 use Rattle.luks_edit.specs.declared.edit.Edit.{Edit}
 use Rattle.luks_edit.specs.declared.edit.Edit.TheVariants.{Add, Change, Remove, Repair, Label}
 use Rattle.luks_edit.specs.declared.edit_fault.EditFault.TheVariants as edit_fault
@@ -25,7 +29,6 @@ use Rattle.luks_edit.specs.Opener.{IsLocked, IsShut}
 use Rattle.luks2_edits.specs.Metadata.{HasMetadata, IsInUse}
 use Rattle.luks2_edits.specs.Refused.{HasSaid, IsAbsent}
 use Rattle.luks2_judging.specs.Opened.{IsUnopened, Opens, unopened}
-use Rattle.luks2_edits.proofs.VolumeLaws.{metadata_faultless, one_answer, one_choice, one_value, uuid_faultless}
 use Rattle.luks2_judging.proofs.ChosenFacts.{say}
 use Rattle.luks2_judging.proofs.KeyslotFacts.{used_of, used_or_free}
 
@@ -78,10 +81,10 @@ module _ (v : List ℕ) (e : Edit) (n : ℕ) (p : List ℕ) (asked : OpensBy e n
   module _ (o : ℕ) (j : Value) (m : HasMetadata v o j) (payload : Data) (well : WellFormed v payload)
       (there : HasSaid v (λ q i. IsAbsent i e) → ⊥) where
     volume : IsLuks2Volume (header_at v o) (json_at v o) payload (length v)
-    volume = subst (λ b. WellFormedAs v payload b) (one_choice v well.choice (luks2 o m.copies) well.chosen m.chosen) well.formed
+    volume = subst (λ b. WellFormedAs v payload b) (choices_agree v well.choice (luks2 o m.copies) well.chosen m.chosen) well.formed
 
     as_luks2 : (f : OpenFault) → AnswerWithin (allowed_memory e) v n p (refused f) → IsLuks2RefusalWithin (allowed_memory e) (header_at v o) (json_at v o) (length v) n f
-    as_luks2 f is = subst (λ c. IsRefusalAsWithin (allowed_memory e) v n c f) (one_choice v is.0.choice (luks2 o m.copies) is.0.chosen m.chosen) is.0.fault
+    as_luks2 f is = subst (λ c. IsRefusalAsWithin (allowed_memory e) v n c f) (choices_agree v is.0.choice (luks2 o m.copies) is.0.chosen m.chosen) is.0.fault
 
     used : IsInUse j n
     used = used_of j e n p asked (λ absent. there (say v o j m (λ q i. IsAbsent i e) absent))

@@ -1,7 +1,6 @@
 pub mod CheckFacts
 pub mod EndFacts
 pub mod ExitFacts
-pub mod FaultlessFacts
 pub mod FileFacts
 pub mod FormatFacts
 pub mod Fronts

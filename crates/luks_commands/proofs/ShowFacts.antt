@@ -10,6 +10,7 @@ use Rattle.luks_head.specs.Header1.{IsLuks1}
 use Rattle.luks_head.specs.Header2.{header_at, uuid_field}
 use Rattle.luks_head.specs.Selection.{luks1, luks2, Chosen}
 use Rattle.luks_head.proofs.ChoiceFacts.{choices_agree, uuid_sound}
+use Rattle.luks_rules.proofs.Deciding.{metadata_faultless}
 use Rattle.luks_meta.specs.Content.{content}
 use Rattle.luks_reading.specs.declared.check_fault.CheckFault.{CheckFault}
 use Rattle.luks_reading.specs.declared.check_fault.CheckFault.TheVariants.{Head, Meta, Area, Device, Memory}
@@ -31,7 +32,6 @@ use Rattle.luks_commands.specs.declared.answers.Answer.{Answer}
 use Rattle.luks_commands.specs.declared.answers.Answer.TheVariants.{Accepted, Listed, Json, Opens, Closed, NoneOpens, Done, Refused, DeviceFault, NoMemory}
 use Rattle.luks_commands.specs.declared.answers.Refusal.TheVariants.{LongPassphrase, Check, Open, Edit, Format, Convert, Rebuild, SameFile}
 use Rattle.luks_commands.specs.Answer.{check_fault_answer}
-use Rattle.luks_commands.proofs.FaultlessFacts.{metadata_faultless}
 use Rattle.luks_commands.specs.ShowAnswers.{IsBeforeAreas, IsAsJson, IsFirstShowFault, IsJsonAnswer, IsListedAnswer, IsShowAnswer, IsShowFault, IsShown, IsShownAs}
 
 -- the first fault of a check is the first that refuses a listing, unless it is one of the areas

@@ -1,41 +1,18 @@
 -- What the verdict on a header says of the volume.
-use Rattle.std.proofs.Common.{◌≡◌, ◌↔◌, ℕ, List, length, subst, refl, sym, ap, ◌∙◌, unwrap_or}
-use Rattle.serde_json.specs.Data.{Data as Value}
-use Rattle.serde_json.specs.Read.{read}
+use Rattle.std.proofs.Common.{◌≡◌, ℕ, List, length, subst, refl, sym}
 use Rattle.luks_area.specs.First.{IsLeast}
 use Rattle.luks_area.specs.Ranges.{part}
 use Rattle.luks_area.specs.declared.area.AreaName.TheVariants.{Slot}
 use Rattle.luks_head.specs.Selection.{luks1, Chosen}
-use Rattle.luks_head.proofs.ChoiceFacts.{choices_agree, uuid_accepted, uuid_sound}
-use Rattle.luks_head.proofs.Luks1FaultFacts.{sound}
-use Rattle.luks_head.proofs.Luks1HeaderFacts.{header_found}
-use Rattle.luks_json.specs.AreaText.{Json}
-use Rattle.luks_json.proofs.AreaKinds.{kind_of, not_bad}
-use Rattle.luks_json.proofs.AreaTexts.{one_text}
-use Rattle.luks_rules.specs.Accepted.{IsMeta}
-use Rattle.luks_rules.specs.MetaFault.{IsMetaFault}
-use Rattle.luks_rules.specs.declared.fault.MetaFault.{MetaFault}
-use Rattle.luks_rules.proofs.Deciding.{without_faults}
+use Rattle.luks_head.proofs.ChoiceFacts.{choices_agree}
 use Rattle.luks_reading.specs.declared.check_fault.CheckFault.{CheckFault}
 use Rattle.luks_reading.specs.declared.header.ChosenCopy.{ChosenCopy}
 use Rattle.luks_reading.specs.declared.report.Data.{Data}
 use Rattle.luks_reading.specs.Checked.{check_key, First, IsFault, IsFaultAs, IsLuks1Fault, IsLuks1Volume, WellFormed}
 use Rattle.luks_reading.specs.Header.{IsChosenCopy}
-use Rattle.luks_reading.proofs.WellFormedFacts.{formed_sound}
+use Rattle.luks_reading.proofs.VolumeLaws.{well_formed_faultless}
 use Rattle.luks_converting.specs.Accepted.{HasAreasInside, IsHeaderOf, IsOther}
 use Rattle.luks_converting.specs.Source.{source_size, source_start}
-
--- a JSON area holds one value at most
-pub one_value : (area : List ℕ) (i k : Value) → Json area i → Json area k → i ≡ k
-one_value area i k p q = ap (λ o. unwrap_or o i) (sym p.reads ∙ ap read (one_text area p.text q.text p.placed q.placed) ∙ q.reads)
-
--- metadata has no fault exactly where it is accepted
-pub metadata_faultless : (area : List ℕ) → ((f : MetaFault) → IsMetaFault area f → ⊥) ↔ ((j : Value) × IsMeta area j)
-metadata_faultless = without_faults kind_of one_value not_bad
-
--- a well formed volume has no fault
-well_formed_faultless : (v : List ℕ) (payload : Data) → WellFormed v payload → (f : CheckFault) → IsFault v payload f → ⊥
-well_formed_faultless = formed_sound (λ h. (header_found h, λ x. sound h x.0 x.1)) (λ field_. (uuid_accepted field_, uuid_sound field_)) metadata_faultless one_value choices_agree
 
 -- each keyslot's area is inside the volume
 pub areas_inside : (h : List ℕ) (payload : Data) (total : ℕ) → IsLuks1Volume h payload total → HasAreasInside h total

@@ -17,6 +17,8 @@ use Rattle.luks_rules.specs.Accepted.{IsMeta}
 use Rattle.luks_rules.specs.Faults.{object_at}
 use Rattle.luks_rules.specs.declared.fault.MetaFault.{MetaFault}
 use Rattle.luks_rules.specs.declared.table.Section.TheVariants.{Keyslots}
+use Rattle.luks_rules.proofs.AreaFaults.{one_value}
+use Rattle.luks_rules.proofs.Deciding.{metadata_faultless}
 use Rattle.luks_making.specs.Conversions.{SaysSource}
 use Rattle.luks_making.specs.Keyslots.{slot_value}
 use Rattle.luks_slot.specs.declared.fault.SlotFault.{SlotFault}
@@ -32,7 +34,6 @@ use Rattle.luks_reading.specs.Plans.{HasLuks1Plan, HasLuks2Plan, IsLuks2Plan}
 use Rattle.luks_converting.specs.Copied.{HasSameSectors, IsCopiedPlan}
 use Rattle.luks_converting.specs.Converted.{new_size, new_start}
 use Rattle.luks_converting.specs.Source.{header_members, is_enabled, source_size, source_start, HasRoom}
-use Rattle.luks_converting.proofs.AcceptedFacts.{metadata_faultless, one_value}
 use Rattle.luks_converting.proofs.CopiedFacts.{same_key, still_unrefused}
 use Rattle.luks_converting.proofs.PlaceFacts.{ends}
 use Rattle.luks_converting.proofs.PlanFacts.{copied_plan, has_plan, keyslot_there, new_plan, new_slot, plan_len, plan_start}

@@ -9,11 +9,11 @@ use Rattle.luks_slot.specs.declared.fault.SlotFault.TheVariants as slot
 use Rattle.luks_reading.specs.declared.open_fault.OpenFault.{OpenFault}
 use Rattle.luks_reading.specs.declared.open_fault.OpenFault.TheVariants as opening
 use Rattle.luks_reading.specs.Answer.{AnswerWithin, head_step, no_key, open_key, Opened, opens, refused, slot_row}
+use Rattle.luks_reading.proofs.VolumeLaws.{one_answer}
 use Rattle.luks_edit.specs.declared.edit.Edit.{Edit}
 use Rattle.luks_edit.specs.declared.edit.Edit.TheVariants.{Add, Change, Label, Remove, Repair}
 use Rattle.luks_edit.specs.Asked.{allowed_memory, HasFewIterations, OpensBy}
 use Rattle.luks_edit.specs.Opener.{IsLocked, IsShut}
-use Rattle.luks2_edits.proofs.VolumeLaws.{one_answer}
 use Rattle.luks_edit_laws.proofs.DecidedFacts.{alike_decided, Decided, less_decided}
 
 -- ---- iterations

@@ -4,8 +4,10 @@ use Rattle.serde_json.specs.Data.{Data as Value}
 use Rattle.luks_area.specs.declared.area.Area.{Area}
 use Rattle.luks_head.specs.Header2.{hdr_size, header_at}
 use Rattle.luks_head.specs.Selection.{luks2}
+use Rattle.luks_head.proofs.ChoiceFacts.{choices_agree}
 use Rattle.luks_rules.specs.Accepted.{IsMeta}
 use Rattle.luks_rules.specs.Sizes.{keyslots_size}
+use Rattle.luks_rules.proofs.AreaFaults.{one_value}
 use Rattle.luks_reading.specs.declared.report.Data.{Data}
 use Rattle.luks_reading.specs.Checked.{IsLuks2Volume, WellFormed, WellFormedAs}
 use Rattle.luks_reading.specs.Header.{json_at}
@@ -14,7 +16,6 @@ use Rattle.luks_reading.proofs.Luks2AreaFacts.{luks2_area-unique}
 use Rattle.luks2_edits.specs.Gap.{area_at}
 use Rattle.luks2_edits.specs.Metadata.{HasMetadata, IsInUse}
 use Rattle.luks2_edits.specs.Places.{HasNoNewArea, IsNewArea, key_areas_end, rounded_to_blocks}
-use Rattle.luks2_edits.proofs.VolumeLaws.{one_choice, one_value}
 use Rattle.luks_edit_laws.proofs.GapAreas.{beside_decided}
 use Rattle.luks_edit_laws.proofs.GapNumbers.{some_region, some_stripes, SomeStripes}
 use Rattle.luks_edit_laws.proofs.GapPlaces.{least_gap_or_none}
@@ -24,7 +25,7 @@ module _ (v : List ℕ) (payload : Data) (place : ℕ) (j : Value) (metadata : H
   accepted : WellFormed v payload → IsMeta (json_at v place) j
   accepted formed =
       let volume : IsLuks2Volume (header_at v place) (json_at v place) payload (length v) =
-      subst (WellFormedAs v payload) (one_choice v formed.choice (luks2 place metadata.copies) formed.chosen metadata.chosen) formed.formed in
+      subst (WellFormedAs v payload) (choices_agree v formed.choice (luks2 place metadata.copies) formed.chosen metadata.chosen) formed.formed in
       let held = volume.layout.1.metadata in
       subst (IsMeta (json_at v place)) (one_value (json_at v place) volume.layout.0 j held.json metadata.holds) held
 

@@ -3,22 +3,24 @@ use Rattle.std.proofs.Common.{◌⊎◌, ℕ, List, length, subst, inl, inr}
 use Rattle.serde_json.specs.Data.{Data as Value}
 use Rattle.luks_head.specs.Header2.{hdr_size, header_at}
 use Rattle.luks_head.specs.Selection.{Choice, Chosen, luks1, luks2, nothing}
+use Rattle.luks_head.proofs.ChoiceFacts.{choices_agree, choice_exists}
 use Rattle.luks_rules.specs.Accepted.{IsMeta}
+use Rattle.luks_meta.proofs.Namings.{one_digest}
 use Rattle.luks_reading.specs.declared.check_fault.CheckFault.{CheckFault}
 use Rattle.luks_reading.specs.declared.report.Data.{Data}
 use Rattle.luks_reading.specs.Answer.{AnswerWithin, Opened}
 use Rattle.luks_reading.specs.Checked.{First, IsFault, WellFormed, WellFormedAs}
 use Rattle.luks_reading.specs.Header.{json_at}
+use Rattle.luks_reading.proofs.VolumeLaws.{well_formed_faultless}
 use Rattle.luks_edit.specs.declared.edit.Edit.{Edit}
 use Rattle.luks_edit.specs.declared.edit_fault.EditFault.{EditFault}
 use Rattle.luks_edit.specs.declared.edit_fault.EditFault.TheVariants as edit
 use Rattle.luks1_edits.specs.Refused.{IsEditFault1, IsUnrefused1, Refusal1}
 use Rattle.luks2_edits.specs.Metadata.{HasMetadata}
 use Rattle.luks2_edits.specs.Refused.{IsEditFault2, IsUnrefused2, Refusal2}
-use Rattle.luks_volume.specs.Edits.{IsEditFault, IsEditFaultAs, IsUnrefused, Refusal}
 use Rattle.luks2_edits.proofs.VolumeFacts.{one_metadata, one_place}
-use Rattle.luks2_edits.proofs.VolumeLaws.{one_choice, one_digest, some_choice, well_formed_faultless}
 use Rattle.luks2_judging.proofs.EditedFacts.{texts_as_long}
+use Rattle.luks_volume.specs.Edits.{IsEditFault, IsEditFaultAs, IsUnrefused, Refusal}
 use Rattle.luks_edit_laws.proofs.DecidedFacts.{alike_decided, Decided}
 use Rattle.luks_edit_laws.proofs.EditDecisions.{first_edit_fault_or_none}
 use Rattle.luks_edit_laws.proofs.EditDecisions1.{fault1_decided}
@@ -46,7 +48,7 @@ fault_of_volume v payload e r nothing f bad = bad
 module _ (v : List ℕ) (payload : Data) where
   -- of a well formed volume accepted metadata counts, or none
   counting_as : WellFormed v payload → (c : Choice) → Chosen v c → WellFormedAs v payload c → Counting v payload ⊎ ((p : ℕ) (i : Value) → HasMetadata v p i → ⊥)
-  counting_as formed luks1 chosen is = inr (λ p i x. (let e = one_choice v luks1 (luks2 p x.copies) chosen x.chosen in cc))
+  counting_as formed luks1 chosen is = inr (λ p i x. (let e = choices_agree v luks1 (luks2 p x.copies) chosen x.chosen in cc))
   counting_as formed nothing chosen is = absurd is
   counting_as formed (luks2 o copies) chosen is =
       let j = is.layout.0 in
@@ -89,7 +91,7 @@ module _ (v : List ℕ) (payload : Data) where
     decided : WellFormed v payload → (f : EditFault) → Decided (IsEditFault v payload e r f)
     decided formed f = alike_decided (IsEditFaultAs v payload e r formed.choice f) (IsEditFault v payload e r f)
         (λ is. record { choice = formed.choice; chosen = formed.chosen; fault = is })
-        (λ x. subst (λ c. IsEditFaultAs v payload e r c f) (one_choice v x.choice formed.choice x.chosen formed.chosen) x.fault) (decided_as formed formed.choice f)
+        (λ x. subst (λ c. IsEditFaultAs v payload e r c f) (choices_agree v x.choice formed.choice x.chosen formed.chosen) x.fault) (decided_as formed formed.choice f)
 
     -- by the rules of LUKS1
     pub first_refusal1_or_unrefused : ((f : EditFault) × Refusal1 v payload e r f) ⊎ IsUnrefused1 v payload e r
@@ -108,7 +110,7 @@ module _ (v : List ℕ) (payload : Data) where
     -- by those of what counts
     pub first_refusal_or_unrefused : ((f : EditFault) × Refusal v payload e r f) ⊎ IsUnrefused v payload e r
     first_refusal_or_unrefused =
-        let c = some_choice v in
+        let c = choice_exists v in
         elim (first_edit_fault_or_none v payload (IsEditFault v payload e r)
         (λ f bad. record { choice = c.0; chosen = c.1; fault = unaccepted_as v payload e r c.0 f bad })
         (λ f x. fault_of_volume v payload e r x.choice f x.fault) checked sound decided) [

@@ -4,20 +4,23 @@ use Rattle.serde_json.specs.Data.{Data as Value}
 use Rattle.luks_area.specs.Ranges.{part}
 use Rattle.luks_area.specs.RangeFacts.{length-part_inside}
 use Rattle.luks_area.specs.declared.area.Area.{Area}
+use Rattle.luks_kdf.specs.Names.{digest_size_of}
+use Rattle.luks_terms.specs.declared.format.Format.{Format}
 use Rattle.luks_head.specs.Header2.{hdr_size, header_at, uuid_field, IsUuidField}
 use Rattle.luks_head.specs.Selection.{luks2, Chosen}
 use Rattle.luks_head.specs.Written.{IsWrittenCopy}
 use Rattle.luks_head.proofs.BinaryHeaderFacts.{written_in_step}
 use Rattle.luks_head.proofs.ChoiceFacts.{uuid_sound}
 use Rattle.luks_head.specs.declared.selection.Copies.TheVariants.{InStep}
-use Rattle.luks_kdf.specs.Names.{digest_size_of}
-use Rattle.luks_json.proofs.AreaKinds.{kind_of, not_bad}
+use Rattle.luks_uuid.specs.NewUuid.{uuid_text}
+use Rattle.luks_uuid.proofs.UuidFacts.{fills, uuid_text-is}
 use Rattle.luks_rules.specs.Accepted.{IsContent, IsMeta}
 use Rattle.luks_rules.specs.Faults.{object_at}
 use Rattle.luks_rules.specs.MetaFault.{IsMetaFault}
 use Rattle.luks_rules.specs.declared.fault.MetaFault.{MetaFault}
 use Rattle.luks_rules.specs.declared.table.Section.TheVariants.{Keyslots}
-use Rattle.luks_rules.proofs.Deciding.{without_faults}
+use Rattle.luks_rules.proofs.AreaFaults.{one_value}
+use Rattle.luks_rules.proofs.Deciding.{metadata_faultless}
 use Rattle.luks_making.proofs.NewVolumeFacts.{held_made}
 use Rattle.luks_making.specs.Formatted.{VolumeMembers, first_slot, formatted}
 use Rattle.luks_making.specs.Keyslots.{slot_value}
@@ -31,15 +34,12 @@ use Rattle.luks_reading.specs.Plans.{HasLuks2Plan}
 use Rattle.luks_reading.specs.declared.open_fault.OpenFault.{OpenFault}
 use Rattle.luks_reading.specs.declared.open_fault.OpenFault.TheVariants.{Head, Meta, NoSuchSlot, SlotFree, Outside, Slot, Device, Memory}
 use Rattle.luks_reading.specs.declared.report.Data.{Data}
-use Rattle.luks_terms.specs.declared.format.Format.{Format}
-use Rattle.luks_uuid.specs.NewUuid.{uuid_text}
-use Rattle.luks_uuid.proofs.UuidFacts.{fills, uuid_text-is}
 use Rattle.luks_formatting.specs.Formatted2.{IsFormatted2}
 use Rattle.luks_formatting.specs.NewHeader2.{area2, new_members, FitsMetadata, IsNewCipher2}
 use Rattle.luks_formatting.specs.NewPlan.{key_digest, IsNewPlan}
 use Rattle.luks_formatting.specs.RandomBytes.{digest_salt, random_stripes, slot_place2, slot_salt, uuid_bytes, volume_key}
 use Rattle.luks_formatting.proofs.Formatted1Facts.{length-volume_key, reopens}
-use Rattle.luks_formatting.proofs.Keyslot2Facts.{cipher_opens, fit, one_value, plan_is, segments}
+use Rattle.luks_formatting.proofs.Keyslot2Facts.{cipher_opens, fit, plan_is, segments}
 use Rattle.luks_formatting.proofs.MetadataFacts.{can_format, no_some}
 use Rattle.luks_formatting.proofs.NewPlanFacts.{key_meets, unrefused}
 
@@ -49,7 +49,7 @@ uuid_good random field_ is = subst IsUuidField (sym is) (fills (uuid_text random
 
 -- metadata that is accepted has no fault
 no_meta : (area : List ℕ) (j : Value) → IsMeta area j → (f : MetaFault) → IsMetaFault area f → ⊥
-no_meta area j is = (without_faults kind_of one_value not_bad area).1 (j, is)
+no_meta area j is = (metadata_faultless area).1 (j, is)
 
 module _ (payload : Data) (format : Format) (passphrase random old new : List ℕ) (some : 1 ≤ format.iterations) (large : 16777216 ≤ length new) (counted : length random ≡ 256208)
     (fits : FitsMetadata payload format random) (x : IsFormatted2 payload format passphrase random old new) where

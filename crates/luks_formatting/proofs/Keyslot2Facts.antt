@@ -1,35 +1,34 @@
 -- What the metadata of a new LUKS2 volume places: the areas, and the plan of keyslot 0.
 use Rattle.std.proofs.lemmas.Bool.{cases_eq}
 use Rattle.serde_json.specs.Find.{get}
-use Rattle.serde_json.specs.Read.{read}
-use Rattle.luks_json.specs.Values.{bytes_in, number_in, text_of}
-use Rattle.luks_meta.specs.Says.{small_at}
-use Rattle.luks_rules.specs.Faults.{member_at}
-use Rattle.luks_rules.specs.declared.table.Member.TheVariants as name
-use Rattle.luks_making.specs.Keyslots.{base64_text}
-use Rattle.luks_slot.specs.declared.plan.DigestPlan.{DigestPlan}
-use Rattle.luks_formatting.specs.NewPlan.{IsNewDigest}
-use Rattle.std.proofs.Common.{◌≡◌, ◌≢◌, ℕ, ◌+◌, ◌-◌, ◌<◌, ◌≤◌, List, length, codes, Some, None, true, option_and_then, arith, refl, sym, ap, ◌∙◌, subst, lit<, lit≤, inl, inr, unwrap_or}
+use Rattle.std.proofs.Common.{◌≡◌, ◌≢◌, ℕ, ◌+◌, ◌-◌, ◌<◌, ◌≤◌, List, length, codes, Some, None, true, option_and_then, arith, refl, sym, ap, ◌∙◌, subst, lit<, lit≤, inl, inr}
 use Rattle.serde_json.specs.Data.{Data as Value, number, string, unsigned}
 use Rattle.luks_area.specs.Area.{Fit, IsInside, LiesIn}
 use Rattle.luks_area.specs.declared.area.Area.{Area}
 use Rattle.luks_area.specs.declared.area.AreaName.{AreaName}
 use Rattle.luks_area.specs.declared.area.AreaName.TheVariants.{Head1, Head2, Slot as SlotName, Segment}
 use Rattle.luks_kdf.specs.Names.{digest_size_of, name_of}
+use Rattle.luks_terms.specs.declared.format.Format.{Format}
+use Rattle.luks_json.specs.Values.{bytes_in, number_in, text_of}
 use Rattle.luks_json.specs.AreaText.{Json}
-use Rattle.luks_json.proofs.AreaTexts.{one_text}
-use Rattle.luks_making.proofs.NewVolumeFacts.{none_else}
-use Rattle.luks_making.proofs.ReadingFacts.{bytes_are, decimal_is, number_is}
-use Rattle.luks_making.proofs.RoomFacts.{says_members}
+use Rattle.luks_rules.specs.Faults.{member_at}
+use Rattle.luks_rules.specs.declared.table.Member.TheVariants as name
+use Rattle.luks_rules.proofs.AreaFaults.{one_value}
 use Rattle.luks_rules.specs.Faults.{object_at}
 use Rattle.luks_rules.specs.Reading.{decimal_in}
 use Rattle.luks_rules.specs.Sizes.{inside_at}
 use Rattle.luks_rules.specs.declared.table.Outer.TheVariants as outer
 use Rattle.luks_rules.specs.declared.table.Section.TheVariants.{Keyslots, Segments}
+use Rattle.luks_making.specs.Keyslots.{base64_text}
+use Rattle.luks_making.proofs.NewVolumeFacts.{none_else}
+use Rattle.luks_making.proofs.ReadingFacts.{bytes_are, decimal_is, number_is}
+use Rattle.luks_making.proofs.RoomFacts.{says_members}
 use Rattle.luks_making.specs.Conditions.{CanFormat}
 use Rattle.luks_making.specs.Formatted.{VolumeMembers, digest_value, first_slot, formatted, segment_value}
 use Rattle.luks_making.specs.Keyslots.{slot_value}
 use Rattle.luks_making.specs.Unchanged.{SaysMembers}
+use Rattle.luks_meta.specs.Says.{small_at}
+use Rattle.luks_slot.specs.declared.plan.DigestPlan.{DigestPlan}
 use Rattle.luks_slot.specs.Refusal.{is_open_cipher}
 use Rattle.luks_slot.specs.declared.plan.AreaCipher.{AreaCipher}
 use Rattle.luks_slot.specs.declared.plan.AreaCipher.TheVariants.{Apart, Whole}
@@ -42,7 +41,7 @@ use Rattle.luks_reading.specs.PlanFacts.{no_pbkdf2}
 use Rattle.luks_reading.specs.Plans.{HasLuks2Plan, IsLuks2Cipher, IsLuks2Derivation, IsLuks2Digest, IsLuks2Plan}
 use Rattle.luks_reading.specs.declared.report.Data.{Data}
 use Rattle.luks_reading.specs.declared.report.Data.TheVariants.{Here}
-use Rattle.luks_terms.specs.declared.format.Format.{Format}
+use Rattle.luks_formatting.specs.NewPlan.{IsNewDigest}
 use Rattle.luks_formatting.specs.NewHeader2.{area2, new_members, segment_start, FitsMetadata, IsNewCipher2}
 use Rattle.luks_formatting.specs.NewPlan.{key_digest, IsNewDerivation, IsNewPlan}
 use Rattle.luks_formatting.specs.RandomBytes.{digest_salt, slot_place2, slot_salt}
@@ -90,10 +89,6 @@ bounds_apart total (Segment m) (SlotName n) a b x y other p here there = let s =
 pub cipher_opens : (cipher : AreaCipher) → IsNewCipher2 cipher → is_open_cipher cipher ≡ true
 cipher_opens (Apart name mode) is = absurd is
 cipher_opens (Whole text) is = rw is refl
-
--- a JSON area holds one value at most
-pub one_value : (area : List ℕ) (i k : Value) → Json area i → Json area k → i ≡ k
-one_value area i k p q = ap (λ o. unwrap_or o i) (sym p.reads ∙ ap read (one_text area p.text q.text p.placed q.placed) ∙ q.reads)
 
 module _ (payload : Data) (format : Format) (random : List ℕ) (some : 1 ≤ format.iterations) (long : 272 ≤ length random) (fits : FitsMetadata payload format random) where
   can : CanFormat (new_members payload format random)

@@ -218,11 +218,6 @@ one_digest area j is n m k d e =
     let b = first_names (length area) j c p.0 p.1 n k e in
     some_same m k (sym a ∙ b)
 
--- the same for a crate that hands in what it rests on
-pub one_naming : ((n : ℕ) → n < 32 → number_of (number_text n) ≡ Some n) → (area : List ℕ) (j : Data) → IsMeta area j
-    → (n m k : ℕ) → IsDigestOf j n m → IsDigestOf j n k → m ≡ k
-one_naming _ = one_digest
-
 -- where a digest was looked for, each digest's name stands once
 pub all_unique : (j : Data) (ms : Members) (r : Option ℕ) → option_and_then as_object (section_at j Digests) ≡ Some ms → IsUnique ms → IfSome r (λ _. HasUniqueDigests j)
 all_unique j ms None is alone = tt

@@ -1,4 +1,3 @@
-pub mod CopyLaws
 pub mod CheckFacts
 pub mod FittingAreas
 pub mod AreaListFacts

@@ -13,6 +13,7 @@ use Rattle.luks_rules.specs.declared.fault.MetaFault.{MetaFault}
 use Rattle.luks_rules.specs.declared.fault.MetaFault.TheVariants as meta
 use Rattle.luks_rules.specs.declared.table.Outer.TheVariants as outer
 use Rattle.luks_rules.specs.declared.table.Section.TheVariants.{Segments}
+use Rattle.luks_rules.proofs.AreaFaults.{one_value}
 use Rattle.luks_meta.specs.declared.meta.Meta.{Meta as Meta2}
 use Rattle.luks_meta.specs.Content.{area_len, content}
 use Rattle.luks_meta.specs.Faults.{object_at}
@@ -26,7 +27,6 @@ use Rattle.luks_reading.specs.declared.report.Data.TheVariants.{Here}
 use Rattle.luks_reading.specs.Checked.{check_key, HasLuks2Area, HasSegmentBelow, HoldsMeta, IsFirstBelow, IsLuks2MetaFault, IsLuks2Fault, IsLuks2Faultless, SegmentsFollow}
 use Rattle.luks_reading.specs.Layout2.{Luks2Area}
 use Rattle.luks_reading.specs.Listing.{Lists}
-use Rattle.luks_reading.proofs.CopyLaws.{one_value}
 
 -- ---- segments and the region of key areas
 

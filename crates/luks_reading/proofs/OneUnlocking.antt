@@ -3,13 +3,13 @@ use Rattle.std.proofs.Common.{◌≡◌, ℕ, List, [], ◌∷◌, ◌++◌, All
 use Rattle.std.proofs.lemmas.List.Elements.{All-head, All-tail}
 use Rattle.luks_head.specs.Selection.{Choice, luks1, luks2, nothing}
 use Rattle.luks_head.proofs.ChoiceFacts.{choices_agree}
+use Rattle.luks_rules.proofs.AreaFaults.{one_value}
 use Rattle.luks_reading.specs.declared.open_fault.OpenFault.{OpenFault}
 use Rattle.luks_reading.specs.declared.open_fault.OpenFault.TheVariants.{Device, Memory}
 use Rattle.luks_reading.specs.Answer.{open_key, AnswerWithin, opens}
 use Rattle.luks_reading.specs.Agreement.{AgreesUnlocked, IsSameUnlocking}
 use Rattle.luks_reading.specs.Header.{json_at}
 use Rattle.luks_reading.specs.Unlocking.{luks2_order, GivesFirst, IsVolumeRefusedBy, IsVolumeRefusal, IsVolumeRefusalAs, IsOrderAs, DoesNotOpen, Unlocked, UnlockAnswer, Unlocks, locked, gives}
-use Rattle.luks_reading.proofs.CopyLaws.{one_value}
 use Rattle.luks_reading.proofs.OpenFaults.{IsOwn, ending}
 use Rattle.luks_reading.proofs.OneAnswer.{least_once}
 use Rattle.luks_reading.proofs.VolumeLaws.{one_answer}

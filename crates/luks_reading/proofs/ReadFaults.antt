@@ -12,6 +12,7 @@ use Rattle.luks_head.specs.Selection.{Choice, luks1, luks2, nothing, Chosen, IsO
 use Rattle.luks_head.proofs.ChoiceFacts.{choices_agree, uuid_sound}
 use Rattle.luks_rules.specs.declared.fault.MetaFault.{MetaFault}
 use Rattle.luks_rules.specs.declared.fault.MetaFault.TheVariants as meta
+use Rattle.luks_rules.proofs.Deciding.{metadata_faultless}
 use Rattle.luks_meta.specs.Content.{content}
 use Rattle.luks_meta.specs.MetaFault.{IsMetaFault, meta_key}
 use Rattle.luks_reading.specs.declared.read_fault.ReadFault.{ReadFault}
@@ -20,7 +21,6 @@ use Rattle.luks_reading.specs.declared.header.ChosenCopy.{ChosenCopy}
 use Rattle.luks_reading.specs.ChosenCopies.{CopyRefused, IsCleared, IsFromOutside, json_of}
 use Rattle.luks_reading.specs.Conversions.{head_unread, meta_unread}
 use Rattle.luks_reading.specs.Header.{json_at, read_key, IsChosenCopy, IsReadFault, IsReadFaultAs, IsUnread, NeedsMetadata, TakesNoMemory}
-use Rattle.luks_reading.proofs.CopyLaws.{metadata_faultless}
 
 -- ---- the uuid and the metadata of a copy
 

@@ -5,13 +5,15 @@ use Rattle.luks_head.specs.Header2.{IsUuidFault, IsUuidField}
 use Rattle.luks_head.proofs.ChoiceFacts.{choice_exists, choices_agree, uuid_accepted, uuid_sound}
 use Rattle.luks_head.proofs.Luks1FaultFacts.{sound}
 use Rattle.luks_head.proofs.Luks1HeaderFacts.{header_found}
+use Rattle.luks_rules.proofs.AreaFaults.{one_value}
+use Rattle.luks_rules.proofs.Deciding.{metadata_faultless}
+use Rattle.luks_meta.proofs.Namings.{one_digest}
 use Rattle.luks_reading.specs.declared.check_fault.CheckFault.{CheckFault}
 use Rattle.luks_reading.specs.declared.report.Data.{Data}
 use Rattle.luks_reading.specs.Agreement.{IsSameAnswer}
 use Rattle.luks_reading.specs.Answer.{AnswerWithin, Opened}
 use Rattle.luks_reading.specs.Checked.{IsFault, WellFormed}
 use Rattle.luks_reading.specs.FitsAndResolves.{FitsAndResolves}
-use Rattle.luks_reading.proofs.CopyLaws.{metadata_faultless, one_digest, one_value}
 use Rattle.luks_reading.proofs.OneAnswer.{one_answer as one_answer_by}
 use Rattle.luks_reading.proofs.WellFormedFacts.{fits_and_resolves, formed_sound, formed_without}
 
@@ -20,7 +22,7 @@ pub one_answer : (memory : ℕ) (v : List ℕ) (n : ℕ) (p : List ℕ) (a b : O
 one_answer = one_answer_by choices_agree one_value metadata_faultless one_digest
 
 -- a field has no fault exactly where it is that of a uuid
-uuid_faultless : (field_ : List ℕ) → ((f : HeadFault) → IsUuidFault field_ f → ⊥) ↔ IsUuidField field_
+pub uuid_faultless : (field_ : List ℕ) → ((f : HeadFault) → IsUuidFault field_ f → ⊥) ↔ IsUuidField field_
 uuid_faultless field_ = (uuid_accepted field_, uuid_sound field_)
 
 pub well_formed_faultless : (v : List ℕ) (payload : Data) → WellFormed v payload → (f : CheckFault) → IsFault v payload f → ⊥

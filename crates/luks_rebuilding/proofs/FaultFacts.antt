@@ -9,6 +9,7 @@ use Rattle.luks_area.specs.declared.area.AreaFault.{AreaFault}
 use Rattle.luks_area.specs.declared.area.AreaFault.TheVariants.{Outside, Overlap}
 use Rattle.luks_area.specs.declared.area.AreaName.{AreaName}
 use Rattle.luks_head.specs.Bytes.{IsUuid}
+use Rattle.luks_rules.proofs.AreaFaults.{one_value}
 use Rattle.luks_meta.specs.Content.{content}
 use Rattle.luks_meta.specs.Objects.{IsConfig}
 use Rattle.luks_meta.specs.MetaFault.{Json}
@@ -18,7 +19,6 @@ use Rattle.luks_meta.specs.declared.configuration.Config.{Config as Sizes}
 use Rattle.luks_reading.proofs.ListedAreaFacts.{no_area_fault}
 use Rattle.luks_reading.specs.Layout2.{Luks2Area}
 use Rattle.luks_reading.specs.declared.report.Data.TheVariants.{Elsewhere}
-use Rattle.luks_reading.proofs.CopyLaws.{one_value}
 use Rattle.luks_rebuilding.proofs.SearchFacts.{one_place}
 use Rattle.luks_rebuilding.specs.Candidates.{json_of, OfTaken}
 use Rattle.luks_rebuilding.specs.Found.{IsFoundIn, IsWhole}

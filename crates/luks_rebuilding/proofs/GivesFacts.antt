@@ -16,6 +16,9 @@ use Rattle.luks_head.specs.Selection.{Choice, luks2, Chosen}
 use Rattle.luks_head.specs.Sizes.{IsListed}
 use Rattle.luks_head.specs.Written.{IsWrittenCopy}
 use Rattle.luks_head.specs.declared.selection.Copies.TheVariants.{InStep}
+use Rattle.luks_uuid.proofs.UuidFacts.{fills, uuid_text-is}
+use Rattle.luks_rules.proofs.AreaFaults.{one_value}
+use Rattle.luks_rules.proofs.Deciding.{metadata_faultless}
 use Rattle.luks_meta.specs.Accepted.{IsMeta}
 use Rattle.luks_meta.specs.Reading.{decimal_in}
 use Rattle.luks_slot.specs.Opening.{slot_key}
@@ -28,8 +31,6 @@ use Rattle.luks_reading.specs.Plans.{HasLuks2Plan}
 use Rattle.luks_reading.specs.declared.open_fault.OpenFault.{OpenFault}
 use Rattle.luks_reading.specs.declared.open_fault.OpenFault.TheVariants.{Head, Meta, NoSuchSlot, SlotFree, Outside, Slot, Device, Memory}
 use Rattle.luks_reading.specs.declared.report.Data.TheVariants.{Here, Elsewhere}
-use Rattle.luks_reading.proofs.CopyLaws.{metadata_faultless, one_value}
-use Rattle.luks_uuid.proofs.UuidFacts.{fills, uuid_text-is}
 use Rattle.luks_rebuilding.proofs.RegionFacts.{ends}
 use Rattle.luks_rebuilding.specs.Candidates.{json_of}
 use Rattle.luks_rebuilding.specs.Found.{HasRegionInside}

@@ -6,9 +6,9 @@ use Rattle.luks_area.specs.Ranges.{SameBut}
 use Rattle.luks_area.specs.RangeFacts.{same_but-wider}
 use Rattle.luks_area.specs.declared.area.Area.{Area}
 use Rattle.luks_area.specs.declared.area.AreaName.TheVariants as name
+use Rattle.luks_rules.proofs.AreaFaults.{one_value}
 use Rattle.luks_meta.specs.Accepted.{IsMeta}
 use Rattle.luks_meta.specs.Content.{content}
-use Rattle.luks_reading.proofs.CopyLaws.{one_value}
 use Rattle.luks_rebuilding.specs.Candidates.{json_of}
 use Rattle.luks_rebuilding.specs.Found.{AreSlotsApart, HasSlots, HasSlotsInside, IsFoundIn, IsOfWhole, IsReady, IsWhole, IsWholeWritten, WritesWholeLast}
 use Rattle.luks_rebuilding.specs.KeyAreas.{HasKeyArea, HasKeyAreas, IsSlotArea}

@@ -48,9 +48,3 @@ module _ (area : List ℕ) (h : (f : MetaFault) → IsMetaFault area f → ⊥) 
 -- metadata has no fault exactly where it is accepted
 pub metadata_faultless : (area : List ℕ) → ((f : MetaFault) → IsMetaFault area f → ⊥) ↔ ((j : Data) × IsMeta area j)
 metadata_faultless area = (accepted area, λ m. accepted_none area m.0 m.1)
-
--- the same for a crate that hands in what it rests on
-pub without_faults : ((area : List ℕ) → ((j : Data) × Json area j) ⊎ IsBadJson area ⊎ ((text : List ℕ) → JsonText area text → ⊥))
-    → ((area : List ℕ) (i j : Data) → Json area i → Json area j → i ≡ j) → ((area : List ℕ) (j : Data) → Json area j → IsBadJson area → ⊥)
-    → (area : List ℕ) → ((f : MetaFault) → IsMetaFault area f → ⊥) ↔ ((j : Data) × IsMeta area j)
-without_faults _ _ _ = metadata_faultless

@@ -2,12 +2,12 @@
 use Rattle.std.proofs.Common.{sym, subst, ◌∙◌}
 use Rattle.luks_head.proofs.ChoiceFacts.{choices_agree}
 use Rattle.luks_reading.proofs.CheckFacts.{first_refused, outside, unread_refused}
+use Rattle.luks_reading.proofs.VolumeLaws.{well_formed_faultless}
 use Rattle.luks_commands.specs.Answer.{answer_status}
 use Rattle.luks_commands.specs.CheckAnswers.{IsCheckAnswer}
 use Rattle.luks_commands.specs.Checked.{EndsCheck}
 use Rattle.luks_commands.proofs.CheckFacts.{answers_judged, answers_unread, ends_fault}
 use Rattle.luks_commands.proofs.ExitFacts.{ends_accepted}
-use Rattle.luks_commands.proofs.FaultlessFacts.{well_formed_faultless}
 use Rattle.luks_commands.proofs.check.check_device.Goals as goal
 
 pub returns-in-Err-clause-status : goal.returns-in-Err-clause-status

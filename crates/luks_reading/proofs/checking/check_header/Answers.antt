@@ -1,13 +1,13 @@
 -- What was judged of the header that counts holds of the volume.
 use Rattle.std.proofs.Common.{ℕ, List, subst, sym, ◌∙◌}
 use Rattle.std.proofs.lemmas.Result.{err_from_is_err_and}
+use Rattle.luks_head.proofs.ChoiceFacts.{uuid_sound}
+use Rattle.luks_rules.proofs.Deciding.{metadata_faultless}
 use Rattle.luks_meta.specs.Content.{content}
 use Rattle.luks_reading.specs.Header.{json_at, IsAcceptedHeader, IsHeader}
 use Rattle.luks_reading.specs.Layout1.{Luks1Area}
 use Rattle.luks_reading.specs.Listing.{Lists}
 use Rattle.luks_reading.specs.Reported.{HeaderArea}
-use Rattle.luks_head.proofs.ChoiceFacts.{uuid_sound}
-use Rattle.luks_reading.proofs.CopyLaws.{metadata_faultless}
 use Rattle.luks_reading.proofs.CheckFacts.{luks1_first, luks2_accepted, luks2_areas_are, luks2_first}
 use Rattle.luks_reading.proofs.WellFormedFacts.{luks1_areas_are}
 use Rattle.luks_reading.proofs.checking.check_header.Goals as goal

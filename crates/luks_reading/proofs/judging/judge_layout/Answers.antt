@@ -2,10 +2,10 @@
 use Rattle.std.proofs.Common.{rules, sym, subst}
 use Rattle.std.proofs.lemmas.Result.{err_from_is_err_and}
 use Rattle.luks_area.specs.Area.{Fit}
+use Rattle.luks_rules.proofs.AreaFaults.{one_value}
 use Rattle.luks_meta.specs.Content.{content}
 use Rattle.luks_reading.specs.Checked.{IsLuks2Layout}
 use Rattle.luks_reading.specs.Layout2.{Luks2Area}
-use Rattle.luks_reading.proofs.CopyLaws.{one_value}
 use Rattle.luks_reading.proofs.Luks2FaultFacts.{least_area2, least_segment, lists_value, segment_breaks}
 use Rattle.luks_reading.proofs.ListedAreaFacts.{fit_of, least_of, no_area_fault}
 use Rattle.luks_reading.proofs.judging.judge_layout.Goals as goal

@@ -1,9 +1,9 @@
 -- The plan of the keyslot is judged, and its answer is that of the keyslot.
 use Rattle.std.proofs.Common.{◌<◌, Some, ap, sym, ◌∙◌, arith}
 use Rattle.std.proofs.lemmas.Result.{IfErr-weaker, IfOk-weaker}
+use Rattle.luks_rules.proofs.AreaFaults.{one_value}
 use Rattle.luks_meta.specs.Content.{content}
 use Rattle.luks_reading.specs.Plans.{HasLuks2Plan}
-use Rattle.luks_reading.proofs.CopyLaws.{one_value}
 use Rattle.luks_reading.proofs.OptionFacts.{some_weaker}
 use Rattle.luks_reading.proofs.Luks2PlanNumbers.{luks2_judged}
 use Rattle.luks_reading.proofs.Luks2Plans.{IsOnly}

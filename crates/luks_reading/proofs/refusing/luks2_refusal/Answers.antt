@@ -1,8 +1,8 @@
 -- What the plan of the keyslot is refused by is what the keyslot is refused by.
 use Rattle.std.proofs.Common.{◌<◌, arith}
+use Rattle.luks_rules.proofs.AreaFaults.{one_value}
 use Rattle.luks_meta.specs.Content.{content}
 use Rattle.luks_reading.specs.Plans.{HasLuks2Plan}
-use Rattle.luks_reading.proofs.CopyLaws.{one_value}
 use Rattle.luks_reading.proofs.Luks2Plans.{IsOnly}
 use Rattle.luks_reading.proofs.Luks2Refusals.{plan_judged2}
 use Rattle.luks_reading.proofs.refusing.luks2_refusal.Goals as goal

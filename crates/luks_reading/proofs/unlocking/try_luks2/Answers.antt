@@ -1,11 +1,12 @@
 -- A keyslot that is refused or gives no key doesn't open.
 use Rattle.std.proofs.Common.{◌≡◌, ◌≢◌, ℕ, length, subst, sym}
+use Rattle.luks_rules.proofs.AreaFaults.{one_value}
 use Rattle.luks_meta.specs.Content.{content}
+use Rattle.luks_meta.proofs.Namings.{one_digest}
 use Rattle.luks_reading.specs.declared.open_fault.OpenFault.TheVariants.{Memory}
 use Rattle.luks_reading.specs.KeyslotsTried.{Luks2LacksMemory}
 use Rattle.luks_reading.specs.Luks2Keyslots.{Luks2Refused}
 use Rattle.luks_reading.specs.PlanAnswers.{IsOfDevice}
-use Rattle.luks_reading.proofs.CopyLaws.{one_digest, one_value}
 use Rattle.luks_reading.proofs.OpenFaults.{passed_ends}
 use Rattle.luks_reading.proofs.TriedKeyslots.{luks2_refused_tried, luks2_tried, passed_none}
 use Rattle.luks_reading.proofs.unlocking.try_luks2.Goals as goal
