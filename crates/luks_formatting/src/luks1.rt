@@ -14,7 +14,7 @@ ghost use Rattle.luks_formatting.specs.declared.format_fault.FormatFault.{Format
 
 use crate::format_fault::FormatFault;
 use crate::judging::judge;
-use crate::luks1_header::{SLOT_SALT, new_header};
+use crate::new_header1::{SLOT_SALT, new_header};
 use crate::plan::new_plan;
 use crate::random::{KEY, KEY_BYTES, RANDOM_STRIPES, SALT_BYTES, taken};
 use crate::sealing::seal_key;

@@ -17,8 +17,8 @@ ghost use Rattle.luks_reading.specs.declared.report.Data.{Data as Payload};
 
 use crate::format_fault::FormatFault;
 use crate::judging::judge;
-use crate::luks2_header::{COPY_SIZE, FIRST_SALT, SECOND_SALT, SLOT_SALT, write_new_copy};
 use crate::metadata::new_area;
+use crate::new_header2::{COPY_SIZE, FIRST_SALT, SECOND_SALT, SLOT_SALT, write_new_copy};
 use crate::plan::{new_plan, put_key_digest};
 use crate::random::{DIGEST_SALT, KEY, KEY_BYTES, RANDOM_STRIPES, SALT_BYTES, taken, taken_array};
 use crate::sealing::seal_key;

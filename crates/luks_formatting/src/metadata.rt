@@ -6,7 +6,7 @@ ghost use Rattle.luks_making.specs.WrittenArea.{IsWrittenArea};
 ghost use Rattle.luks_formatting.specs.NewHeader2.{json_size, new_members, segment_start, FitsMetadata};
 ghost use Rattle.luks_formatting.specs.NewPlan.{key_digest};
 
-use crate::luks2_header::{JSON_SIZE, SLOT_SALT};
+use crate::new_header2::{JSON_SIZE, SLOT_SALT};
 use crate::random::{DIGEST_SALT, SALT_BYTES, taken};
 use luks_making::{NewVolume, formatted, volume_fits, written_area};
 use luks_reading::Data;

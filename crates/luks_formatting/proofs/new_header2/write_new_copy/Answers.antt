@@ -1,5 +1,5 @@
 use Rattle.luks_formatting.proofs.NewHeader2Facts.{header_there, new_copy, of_new_copy}
-use Rattle.luks_formatting.proofs.luks2_header.write_new_copy.Goals as goal
+use Rattle.luks_formatting.proofs.new_header2.write_new_copy.Goals as goal
 
 pub returns-clause-rest : goal.returns-clause-rest
 returns-clause-rest g c tells =

@@ -1,7 +1,7 @@
 use Rattle.std.proofs.Common.{◌≡◌, ℕ, ◌<◌, ◌≤◌, length, slice_index_or}
 use Rattle.luks_head.specs.declared.luks1.Luks1Slot.{Luks1Slot}
 use Rattle.luks_formatting.specs.NewHeader1.{new_slot}
-use Rattle.luks_formatting.proofs.luks1_header.new_slots.Given as goal
+use Rattle.luks_formatting.proofs.new_header1.new_slots.Given as goal
 
 -- the keyslots before this one are made
 abbrev pub invariant-loop-n : goal.invariant-loop-n
