@@ -1,6 +1,5 @@
 use Rattle.std.proofs.Common.{subst, ◌∙◌}
 use Rattle.luks_reading.specs.Checked.{IsLuks1Volume}
-use Rattle.luks_head.proofs.ChoiceFacts.{choices_agree}
 use Rattle.luks_reading.proofs.CheckFacts.{luks1_first}
 use Rattle.luks1_edits.proofs.AcceptedFacts.{header_of}
 use Rattle.luks1_edits.proofs.accepted.accepted_header.Goals as goal
@@ -12,4 +11,4 @@ returns-in-Ok-clause-header c = λ v is size.
 
 pub returns-in-Err-clause-refused : goal.returns-in-Err-clause-refused
 returns-in-Err-clause-refused c = λ v is size.
-    luks1_first choices_agree v c.args.data_ c.as_slice.result.now c.args.total c.in-Err.fault is.0 (c.as_slice.ensures ∙ is.1) size c.in-Err.ensures.refused
+    luks1_first v c.args.data_ c.as_slice.result.now c.args.total c.in-Err.fault is.0 (c.as_slice.ensures ∙ is.1) size c.in-Err.ensures.refused
