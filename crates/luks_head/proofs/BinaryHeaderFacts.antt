@@ -7,14 +7,15 @@ use Rattle.sha2.specs.Sha256.{sha256}
 use Rattle.luks_area.specs.Ranges.{part}
 use Rattle.luks_area.specs.RangeFacts.{get_or-part, length-part_inside, part-add, part-part, part-whole}
 use Rattle.luks_area.specs.Text.{text_of}
-use Rattle.luks_head.specs.Header1.{version_of}
+use Rattle.luks1_header.specs.Header1.{version_of}
+use Rattle.luks1_header.specs.Written.{AreBytes, AreZeros}
+use Rattle.luks1_header.proofs.NumberFacts.{bytes_within, number_agrees, parts_join}
 use Rattle.luks_head.specs.Header2.{copy_at, hdr_size, header_at, with_zero_checksum, HoldsBin2, IsSound}
 use Rattle.luks_head.specs.Selection.{Chosen, luks2, second_place}
-use Rattle.luks_head.specs.Written.{AreBytes, AreZeros, IsWrittenCopy, WritesBin2}
+use Rattle.luks_head.specs.Written.{IsWrittenCopy, WritesBin2}
 use Rattle.luks_head.specs.declared.bin2.Bin2.{Bin2}
 use Rattle.luks_head.specs.declared.selection.Copies.TheVariants.{InStep}
 use Rattle.luks_head.proofs.CopyFacts.{listed_at_least}
-use Rattle.luks_head.proofs.NumberFacts.{bytes_within, number_agrees, parts_join}
 
 -- the bytes before the padding, of two headers that say the same but for their checksums
 pub front_agrees : (b c : List ℕ) (h : Bin2) (csum : List ℕ) → 264 ≤ length b → 264 ≤ length c → AreBytes b 6 24 → AreBytes b 256 264

@@ -4,9 +4,9 @@ use Rattle.byteorder.specs.Endian.{big_bytes}
 use Rattle.byteorder.specs.Numbers.{length-bytes_high_first}
 use Rattle.luks_area.specs.Ranges.{part, written, SameBut}
 use Rattle.luks_area.specs.RangeFacts.{same_but-same}
+use Rattle.luks1_header.proofs.PutFacts.{IsFilled, IsFrom, bytes_join, number_is_bytes, number_stands, put_keeps, put_leaves, put_next, put_stands}
 use Rattle.luks_head.specs.Written.{WritesBin2}
 use Rattle.luks_head.specs.declared.bin2.Bin2.{Bin2}
-use Rattle.luks_head.proofs.PutFacts.{IsFilled, IsFrom, bytes_join, number_is_bytes, number_stands, put_keeps, put_leaves, put_next, put_stands}
 
 -- each field of bytes has its length
 pub record HasLengths (h : Bin2) : Type 0 where

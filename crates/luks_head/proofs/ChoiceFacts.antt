@@ -4,17 +4,17 @@ use Rattle.std.proofs.lemmas.Bool.{cases_Bool, cases_eq, cases_lt, cases_order, 
 use Rattle.sha2.specs.Sha256.{sha256}
 use Rattle.luks_area.specs.Ranges.{part}
 use Rattle.luks_area.specs.Text.{is_plain, text_of}
-use Rattle.luks_head.specs.Bytes.{number_at, text_at}
-use Rattle.luks_head.specs.Header1.{luks_magic, version_of}
+use Rattle.luks1_header.specs.Bytes.{number_at, text_at}
+use Rattle.luks1_header.specs.Header1.{luks_magic, version_of}
+use Rattle.luks1_header.specs.declared.fault.HeadFault.{HeadFault}
+use Rattle.luks1_header.specs.declared.fault.HeadFault.TheVariants as fault
+use Rattle.luks1_header.specs.declared.fault.TextField.TheVariants as field
+use Rattle.luks1_header.proofs.DecidableFacts.{held, same_or_not, uuid_or_not}
 use Rattle.luks_head.specs.Header2.{copy_at, hdr_offset, hdr_size, header_at, magic_of, seqid, with_zero_checksum, IsFormed, IsSound, IsUuidFault, IsUuidField}
 use Rattle.luks_head.specs.Selection.{AreBothSound, Choice, Chosen, IsChosenCopy, HasNoSoundCopy, IsNotVersion1, IsSelectFault, IsVersion1, luks1, luks2, nothing, second_place}
 use Rattle.luks_head.specs.Sizes.{is_among, is_listed, listed_sizes}
-use Rattle.luks_head.specs.declared.fault.HeadFault.{HeadFault}
-use Rattle.luks_head.specs.declared.fault.HeadFault.TheVariants as fault
-use Rattle.luks_head.specs.declared.fault.TextField.TheVariants as field
 use Rattle.luks_head.specs.declared.selection.Copies.{Copies}
 use Rattle.luks_head.specs.declared.selection.Copies.TheVariants.{InStep, FirstNewer, SecondNewer, FirstOnly, SecondOnly}
-use Rattle.luks_head.proofs.DecidableFacts.{held, same_or_not, uuid_or_not}
 
 -- two choices of a copy are one
 copies_agree : (v : List ℕ) (o p : ℕ) (a b : Copies) → IsChosenCopy v o a → IsChosenCopy v p b → luks2 o a ≡ luks2 p b

@@ -4,15 +4,15 @@ use Rattle.luks_area.specs.First.{NotAfter}
 use Rattle.luks_area.specs.Ranges.{part}
 use Rattle.luks_area.specs.RangeFacts.{part-part, length-part_inside}
 use Rattle.byteorder.specs.Endian.{big_number}
-use Rattle.luks_head.specs.Faults.{head_key}
+use Rattle.luks1_header.specs.Faults.{head_key}
+use Rattle.luks1_header.specs.Header1.{HasMagic, version_of}
+use Rattle.luks1_header.specs.declared.fault.HeadFault.{HeadFault}
+use Rattle.luks1_header.specs.declared.fault.HeadFault.TheVariants as fault
 use Rattle.luks_head.specs.ChosenCopy.{HoldsChosenCopy, IsNewer, IsNoHeaderFault}
-use Rattle.luks_head.specs.Header1.{HasMagic, version_of}
 use Rattle.luks_head.specs.Header2.{header_at, HoldsBin2, IsSound}
 use Rattle.luks_head.specs.SoundCopies.{IsLeastCopy, IsSoundCopy}
 use Rattle.luks_head.specs.Selection.{Chosen, nothing, HasNoSoundCopy, IsNotVersion1, IsRefused, IsSelectFault, IsVersion1, second_place}
 use Rattle.luks_head.specs.declared.bin2.Bin2.{Bin2}
-use Rattle.luks_head.specs.declared.fault.HeadFault.{HeadFault}
-use Rattle.luks_head.specs.declared.fault.HeadFault.TheVariants as fault
 use Rattle.luks_head.specs.declared.selection.Copies.{Copies}
 use Rattle.luks_head.specs.declared.selection.Copies.TheVariants.{InStep, FirstNewer, SecondNewer, FirstOnly, SecondOnly}
 

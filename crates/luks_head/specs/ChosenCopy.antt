@@ -1,11 +1,11 @@
 -- What the steps of a selection answer: words of private contracts.
 use Rattle.std.specs.Prelude.{◌≡◌, ◌≢◌, ℕ, ◌<◌, List, Option, None, Some}
-use Rattle.luks_head.specs.Header1.{HasMagic, version_of}
+use Rattle.luks1_header.specs.Header1.{HasMagic, version_of}
+use Rattle.luks1_header.specs.declared.fault.HeadFault.{HeadFault}
+use Rattle.luks1_header.specs.declared.fault.HeadFault.TheVariants as fault
 use Rattle.luks_head.specs.Header2.{header_at, HoldsBin2}
 use Rattle.luks_head.specs.Selection.{IsChosenCopy, HasNoSoundCopy}
 use Rattle.luks_head.specs.declared.bin2.Bin2.{Bin2}
-use Rattle.luks_head.specs.declared.fault.HeadFault.{HeadFault}
-use Rattle.luks_head.specs.declared.fault.HeadFault.TheVariants as fault
 use Rattle.luks_head.specs.declared.selection.Copies.{Copies}
 use Rattle.luks_head.specs.declared.selection.Copies.TheVariants.{InStep, FirstNewer, SecondNewer, FirstOnly, SecondOnly}
 

@@ -3,13 +3,13 @@ use Rattle.std.specs.Prelude.{◌≡◌, ◌≢◌, ℕ, ◌+◌, ◌≤◌, ◌
 use Rattle.sha2.specs.Sha256.{sha256}
 use Rattle.luks_area.specs.Ranges.{part}
 use Rattle.luks_area.specs.Text.{text_of, is_plain}
-use Rattle.luks_head.specs.Bytes.{number_at, IsUuid}
-use Rattle.luks_head.specs.Header1.{luks_magic, version_of}
+use Rattle.luks1_header.specs.Bytes.{number_at, IsUuid}
+use Rattle.luks1_header.specs.Header1.{luks_magic, version_of}
+use Rattle.luks1_header.specs.declared.fault.HeadFault.{HeadFault}
+use Rattle.luks1_header.specs.declared.fault.HeadFault.TheVariants as fault
+use Rattle.luks1_header.specs.declared.fault.TextField.TheVariants as field
 use Rattle.luks_head.specs.Sizes.{IsListed}
 use Rattle.luks_head.specs.declared.bin2.Bin2.{Bin2}
-use Rattle.luks_head.specs.declared.fault.HeadFault.{HeadFault}
-use Rattle.luks_head.specs.declared.fault.HeadFault.TheVariants as fault
-use Rattle.luks_head.specs.declared.fault.TextField.TheVariants as field
 
 -- `SKUL`, 0xBA, 0xBE
 abbrev pub second_magic : List ℕ

@@ -1,10 +1,6 @@
-pub mod Bytes
 pub mod Sizes
-pub mod Header1
-pub mod Faults
 pub mod Header2
 pub mod SoundCopies
 pub mod Selection
 pub mod ChosenCopy
-pub mod FaultTexts
 pub mod Written

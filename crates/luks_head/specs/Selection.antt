@@ -2,13 +2,13 @@
 use Rattle.std.specs.Prelude.{◌≡◌, ◌≢◌, ℕ, ◌≤◌, ◌<◌, List, length}
 use Rattle.luks_area.specs.First.{IsLeast}
 use Rattle.luks_area.specs.Ranges.{part}
-use Rattle.luks_head.specs.Faults.{head_key}
-use Rattle.luks_head.specs.Header1.{luks1_size, HasMagic, version_of}
+use Rattle.luks1_header.specs.Faults.{head_key}
+use Rattle.luks1_header.specs.Header1.{luks1_size, HasMagic, version_of}
+use Rattle.luks1_header.specs.declared.fault.HeadFault.{HeadFault}
+use Rattle.luks1_header.specs.declared.fault.HeadFault.TheVariants as fault
 use Rattle.luks_head.specs.Header2.{header_at, hdr_size, seqid, HoldsBin2, IsCopyWithin, IsSound}
 use Rattle.luks_head.specs.Sizes.{IsListed}
 use Rattle.luks_head.specs.SoundCopies.{KeepsJson}
-use Rattle.luks_head.specs.declared.fault.HeadFault.{HeadFault}
-use Rattle.luks_head.specs.declared.fault.HeadFault.TheVariants as fault
 use Rattle.luks_head.specs.declared.selection.Copies.{Copies}
 use Rattle.luks_head.specs.declared.selection.Copies.TheVariants.{InStep, FirstNewer, SecondNewer, FirstOnly, SecondOnly}
 use Rattle.luks_head.specs.declared.selection.Selected.{Selected}

@@ -4,17 +4,16 @@ ghost use Rattle.sha2.specs.Hashers.{Holds256};
 ghost use Rattle.sha2.specs.Sha256.{sha256};
 ghost use Rattle.luks_area.specs.First.{IsLeast};
 ghost use Rattle.luks_area.specs.Text.{text_of};
-ghost use Rattle.luks_head.specs.Faults.{head_key};
+ghost use Rattle.luks1_header.specs.Faults.{head_key};
 
 use crate::bin2_places as place;
 use crate::bin2_places::{SECOND_MAGIC, SHA256};
 use crate::bin2_writing::put_header;
 use crate::copies::digest_of_header;
-use crate::fault::{HeadFault, TextField};
-use crate::fields::{array_at, put, u16_at, u64_at};
-use crate::luks1_places::MAGIC;
-use crate::uuid_text::is_uuid;
 use luks_area::text_field;
+use luks1_header::fields::{array_at, put, u16_at, u64_at};
+use luks1_header::luks1_places::MAGIC;
+use luks1_header::{HeadFault, TextField, is_uuid};
 use sha2::{Digest, Sha256};
 
 /// The binary header of a copy of a LUKS2 header, field by field as it stands there

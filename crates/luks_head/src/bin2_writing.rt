@@ -5,7 +5,7 @@ ghost use Rattle.luks_head.specs.Written.{WritesBin2};
 
 use crate::bin2::Bin2;
 use crate::bin2_places as place;
-use crate::fields::{put, put_u16, put_u64};
+use luks1_header::fields::{put, put_u16, put_u64};
 
 /// Puts the fields into zeros.
 pub(crate) fn put_header(bytes: &mut [u8], header: &Bin2)

@@ -5,16 +5,16 @@ ghost use Rattle.sha2.specs.Sha256.{sha256};
 ghost use Rattle.luks_area.specs.Device.{is_failure, CountsFailure, IsUnchanged};
 ghost use Rattle.luks_area.specs.Ranges.{part};
 ghost use Rattle.luks_area.specs.Text.{text_of};
+ghost use Rattle.luks1_header.specs.Header1.{luks1_size};
 ghost use Rattle.luks_head.specs.Header2.{binary_header_size, csum_at, csum_size, csum_alg_field, header_at, magic_of, sha256_size, with_zero_checksum, IsFormed};
-ghost use Rattle.luks_head.specs.Header1.{luks1_size};
 ghost use Rattle.luks_head.specs.SoundCopies.{kept_at, kept_size, FindsSoundCopy, FindsSecondCopy, IsFoundWithin, KeepsJson};
 ghost use Rattle.luks_head.specs.Sizes.{is_listed, IsListed};
 
 use crate::bin2::Bin2;
 use crate::bin2_places::{self as place, SECOND_MAGIC};
-use crate::fields::{field, put, u16_at, u64_at};
-use crate::luks1_places::{self, MAGIC};
 use luks_area::{Device, DeviceFault, text_field};
+use luks1_header::fields::{field, put, u16_at, u64_at};
+use luks1_header::luks1_places::{self, MAGIC};
 use sha2::{Digest, Sha256};
 
 /// The bytes of a binary header, by which a copy is read.

@@ -2,19 +2,19 @@
 ghost use Rattle.std.specs.Prelude.{◌≡◌, ◌↔◌, ◌+◌, ◌^◌, ◌<◌, length, IsTrue, IfOk, IfErr, IfSome, MatchResult, option_map};
 ghost use Rattle.luks_area.specs.Device.{is_failure, CountsFailure, IsUnchanged};
 ghost use Rattle.luks_area.specs.Ranges.{part};
+ghost use Rattle.luks1_header.specs.Faults.{is_device_fault};
+ghost use Rattle.luks1_header.specs.Header1.{luks1_size};
 ghost use Rattle.luks_head.specs.ChosenCopy.{FindsChosenCopy, HoldsChosenCopy, IsNewer, IsNoHeaderFault};
-ghost use Rattle.luks_head.specs.Faults.{is_device_fault};
-ghost use Rattle.luks_head.specs.Header1.{luks1_size};
 ghost use Rattle.luks_head.specs.Header2.{IsCopyWithin};
 ghost use Rattle.luks_head.specs.SoundCopies.{kept_size, IsFoundWithin, IsSoundCopy, KeepsJson};
 ghost use Rattle.luks_head.specs.Selection.{IsOfSelection, IsRefused, IsSelected, IsSelectedWithin, IsVersion1, KeepsSelectedJson};
 
 use crate::bin2::Bin2;
 use crate::copies::{KEPT_JSON, least_second, sound_copy, sound_first_copy};
-use crate::fault::HeadFault;
-use crate::fields::{field, u16_at};
-use crate::luks1_places::{MAGIC, SIZE, VERSION};
 use luks_area::{Device, DeviceFault};
+use luks1_header::HeadFault;
+use luks1_header::fields::{field, u16_at};
+use luks1_header::luks1_places::{MAGIC, SIZE, VERSION};
 use std::alloc::Global;
 
 /// How the two copies of a LUKS2 header stand to each other.

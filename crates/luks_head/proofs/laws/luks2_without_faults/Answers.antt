@@ -1,5 +1,5 @@
+use Rattle.luks1_header.specs.declared.fault.HeadFault.TheVariants as fault
 use Rattle.luks_head.proofs.ChoiceFacts.{selected_without, uuid_accepted, uuid_sound}
-use Rattle.luks_head.specs.declared.fault.HeadFault.TheVariants as fault
 use Rattle.luks_head.proofs.laws.luks2_without_faults.Goals as goal
 
 pub returns-clause-selected : goal.returns-clause-selected

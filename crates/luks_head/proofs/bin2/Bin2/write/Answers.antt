@@ -1,4 +1,4 @@
-use Rattle.luks_head.proofs.PutFacts.{slice_index-zeros}
+use Rattle.luks1_header.proofs.PutFacts.{slice_index-zeros}
 use Rattle.luks_head.proofs.bin2.Bin2.write.Goals as goal
 
 pub put_header-requires-clause-blank : goal.put_header-requires-clause-blank

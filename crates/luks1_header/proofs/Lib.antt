@@ -1,0 +1,12 @@
+pub mod CommonFacts
+pub mod CommonWriting
+pub mod DecidableFacts
+pub mod EntryFacts
+pub mod EntryWriting
+pub mod Luks1FaultFacts
+pub mod Luks1HeaderFacts
+pub mod Luks1WritingFacts
+pub mod NumberFacts
+pub mod PutFacts
+pub mod ReplacedEntryFacts
+pub mod UuidTextFacts

@@ -1,0 +1,5 @@
+pub mod Bytes
+pub mod Header1
+pub mod Faults
+pub mod FaultTexts
+pub mod Written

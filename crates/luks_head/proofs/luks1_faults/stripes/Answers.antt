@@ -1,8 +1,0 @@
-use Rattle.std.proofs.Common.{refl, below_more}
-use Rattle.luks_head.specs.declared.fault.HeadFault.TheVariants as fault
-use Rattle.luks_head.proofs.luks1_faults.stripes.Goals as goal
-
-pub loop-n-preserved : goal.loop-n-preserved
-loop-n-preserved c =
-    below_more _ _ c.loop-n.invariant
-    (λ bad. c.in_ok-entry_stripes.ensures (fault.Stripes c.loop-n.n) (rw c.entry_of.ensures.value (refl, bad.1)) refl)
