@@ -1,9 +1,9 @@
 -- What the verdict on a header says of the volume, and the edits that open no keyslot.
 use Rattle.std.proofs.Common.{◌≡◌, ◌≢◌, ℕ, List, length, subst, refl, sym, ◌∙◌, None, Result, Ok, Err, MatchResult}
 use Rattle.luks_area.specs.Ranges.{part}
+use Rattle.luks1_header.proofs.Luks1FaultFacts.{sound}
 use Rattle.luks_head.specs.Selection.{luks1, Chosen}
 use Rattle.luks_head.proofs.ChoiceFacts.{choices_agree}
-use Rattle.luks_head.proofs.Luks1FaultFacts.{sound}
 use Rattle.luks_reading.specs.declared.check_fault.CheckFault.{CheckFault}
 use Rattle.luks_reading.specs.declared.check_fault.CheckFault.TheVariants as checked
 use Rattle.luks_reading.specs.declared.report.Data.{Data}

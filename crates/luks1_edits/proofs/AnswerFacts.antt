@@ -3,13 +3,13 @@
 use Rattle.std.proofs.Common.{◌≡◌, ℕ, ◌+◌, ◌*◌, ◌<◌, ◌≤◌, ◌⊎◌, List, length, subst, sym, ap, ◌∙◌, Option, Some, None, inl, inr, lit≤}
 use Rattle.luks_area.specs.Ranges.{part}
 use Rattle.luks_area.specs.Sectors.{rounded_to_sectors}
-use Rattle.luks_head.specs.Bytes.{number_at, text_at}
-use Rattle.luks_head.specs.Header1.{active_word, entry, entry_stripes}
-use Rattle.luks_head.specs.Faults.{IsCommonFault, IsEntryFault}
+use Rattle.luks1_header.specs.Bytes.{number_at, text_at}
+use Rattle.luks1_header.specs.Header1.{active_word, entry, entry_stripes}
+use Rattle.luks1_header.specs.Faults.{IsCommonFault, IsEntryFault}
+use Rattle.luks1_header.specs.declared.fault.HeadFault.{HeadFault}
+use Rattle.luks1_header.specs.declared.fault.HeadFault.TheVariants as head
+use Rattle.luks1_header.specs.declared.fault.IterationsOf.TheVariants as of
 use Rattle.luks_head.specs.Selection.{luks1, Choice, Chosen}
-use Rattle.luks_head.specs.declared.fault.HeadFault.{HeadFault}
-use Rattle.luks_head.specs.declared.fault.HeadFault.TheVariants as head
-use Rattle.luks_head.specs.declared.fault.IterationsOf.TheVariants as of
 use Rattle.luks_slot.specs.declared.plan.AreaCipher.{AreaCipher}
 use Rattle.luks_slot.specs.declared.plan.AreaCipher.TheVariants.{Apart, Whole}
 use Rattle.luks_slot.specs.declared.plan.Derivation.{Derivation}

@@ -5,16 +5,16 @@ use Rattle.luks_area.specs.Ranges.{part}
 use Rattle.luks_area.specs.RangeFacts.{part-part}
 use Rattle.luks_area.specs.Sectors.{rounded_to_sectors}
 use Rattle.luks_area.specs.Text.{text_of}
-use Rattle.luks_head.specs.Bytes.{number_at, text_at}
-use Rattle.luks_head.specs.Faults.{IsCommonFault, IsEntryFault, IsLuks1Fault as IsLuks1HeadFault}
-use Rattle.luks_head.specs.Header1.{entry, entry_stripes}
+use Rattle.luks1_header.specs.Bytes.{number_at, text_at}
+use Rattle.luks1_header.specs.Faults.{IsCommonFault, IsEntryFault, IsLuks1Fault as IsLuks1HeadFault}
+use Rattle.luks1_header.specs.Header1.{entry, entry_stripes}
+use Rattle.luks1_header.specs.declared.fault.HeadFault.{HeadFault}
+use Rattle.luks1_header.specs.declared.fault.HeadFault.TheVariants as fault
+use Rattle.luks1_header.specs.declared.fault.IterationsOf.TheVariants as of
+use Rattle.luks1_header.proofs.Luks1FaultFacts.{sound}
+use Rattle.luks1_header.proofs.Luks1HeaderFacts.{common_fault_moves}
 use Rattle.luks_head.specs.Selection.{luks1, Chosen}
-use Rattle.luks_head.specs.declared.fault.HeadFault.{HeadFault}
-use Rattle.luks_head.specs.declared.fault.HeadFault.TheVariants as fault
-use Rattle.luks_head.specs.declared.fault.IterationsOf.TheVariants as of
 use Rattle.luks_head.proofs.ChoiceFacts.{choices_agree}
-use Rattle.luks_head.proofs.Luks1FaultFacts.{sound}
-use Rattle.luks_head.proofs.Luks1HeaderFacts.{common_fault_moves}
 use Rattle.luks_reading.specs.declared.report.Data.{Data}
 use Rattle.luks_reading.specs.Checked.{IsLuks1Volume, WellFormed, WellFormedAs}
 use Rattle.luks1_edits.specs.Places.{area_len, area_start}

@@ -1,8 +1,8 @@
 -- Which keyslots are in use and which is the least that is free, keyslot by keyslot.
 use Rattle.std.proofs.Common.{◌≡◌, ◌≢◌, ℕ, ◌<◌, ◌≤◌, List, arith, inl, inr}
 use Rattle.std.proofs.lemmas.Bool.{cases_eq, cases_lt}
-use Rattle.luks_head.specs.Header1.{HoldsSlots}
-use Rattle.luks_head.specs.declared.luks1.Luks1Slot.{Luks1Slot}
+use Rattle.luks1_header.specs.Header1.{HoldsSlots}
+use Rattle.luks1_header.specs.declared.luks1.Luks1Slot.{Luks1Slot}
 use Rattle.luks1_edits.specs.Edited.{IsFree, IsInUse, IsLeastFree}
 use Rattle.luks1_edits.proofs.OpenerFacts.{used_or_free}
 

@@ -1,7 +1,7 @@
 -- What an edit that makes a keyslot replies, from what was judged of it.
 use Rattle.std.proofs.Common.{◌≡◌, ℕ, ◌<◌, ◌≤◌, List, length, subst, refl, sym, ap, ◌∙◌, arith, inr, Option, Some, None}
 use Rattle.luks_area.specs.Ranges.{part}
-use Rattle.luks_head.specs.Header1.{active_word, disabled_word, enabled_word, entry}
+use Rattle.luks1_header.specs.Header1.{active_word, disabled_word, enabled_word, entry}
 use Rattle.luks_head.specs.Selection.{luks1}
 use Rattle.luks_slot.specs.declared.fault.SlotFault.{SlotFault}
 use Rattle.luks_head.proofs.ChoiceFacts.{choices_agree}

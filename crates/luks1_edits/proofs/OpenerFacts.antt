@@ -4,12 +4,12 @@ use Rattle.luks_area.specs.declared.area.AreaName.TheVariants as area_name
 use Rattle.std.proofs.lemmas.Option.{same_Some}
 use Rattle.luks_area.specs.First.{NotAfter}
 use Rattle.luks_area.specs.Ranges.{part}
-use Rattle.luks_head.specs.Faults.{IsLuks1Fault as IsLuks1HeadFault}
-use Rattle.luks_head.specs.Header1.{active_word, disabled_word, enabled_word, entry, HoldsSlots, IsCommon, IsEntry, IsLuks1}
+use Rattle.luks1_header.specs.Faults.{IsLuks1Fault as IsLuks1HeadFault}
+use Rattle.luks1_header.specs.Header1.{active_word, disabled_word, enabled_word, entry, HoldsSlots, IsCommon, IsEntry, IsLuks1}
+use Rattle.luks1_header.specs.declared.fault.HeadFault.{HeadFault}
+use Rattle.luks1_header.specs.declared.luks1.Luks1.{Luks1}
+use Rattle.luks1_header.specs.declared.luks1.Luks1Slot.{Luks1Slot}
 use Rattle.luks_head.specs.Selection.{luks1}
-use Rattle.luks_head.specs.declared.fault.HeadFault.{HeadFault}
-use Rattle.luks_head.specs.declared.luks1.Luks1.{Luks1}
-use Rattle.luks_head.specs.declared.luks1.Luks1Slot.{Luks1Slot}
 use Rattle.luks_head.proofs.ChoiceFacts.{choices_agree}
 use Rattle.luks_slot.specs.declared.fault.SlotFault.{SlotFault}
 use Rattle.luks_slot.specs.declared.fault.SlotFault.TheVariants as slot

@@ -3,9 +3,9 @@ use Rattle.std.proofs.Common.{◌≡◌, ℕ, ◌+◌, ◌*◌, ◌<◌, ◌≤�
 use Rattle.luks_area.specs.declared.area.Area.{Area}
 use Rattle.luks_area.specs.Ranges.{part, written, IsAt, SameBut, SameOutside}
 use Rattle.luks_area.specs.RangeFacts.{part-same_but, part-written, same_but-same_outside, same_but-then, same_but-wider}
-use Rattle.luks_head.specs.Header1.{entry, word_of, HoldsEntry}
-use Rattle.luks_head.specs.declared.luks1.Luks1Slot.{Luks1Slot}
-use Rattle.luks_head.specs.declared.luks1.SlotState.TheVariants.{Disabled}
+use Rattle.luks1_header.specs.Header1.{entry, word_of, HoldsEntry}
+use Rattle.luks1_header.specs.declared.luks1.Luks1Slot.{Luks1Slot}
+use Rattle.luks1_header.specs.declared.luks1.SlotState.TheVariants.{Disabled}
 use Rattle.luks1_edits.specs.Edited.{IsFreed, IsRemoved}
 use Rattle.luks1_edits.specs.Kept.{IsEither}
 use Rattle.luks1_edits.specs.Leftovers.{IsHalfRemoved}

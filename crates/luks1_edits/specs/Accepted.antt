@@ -1,9 +1,9 @@
 -- The header of a LUKS1 volume that was accepted, and what is judged by it.
 use Rattle.std.specs.Prelude.{◌≡◌, ◌≢◌, ℕ, ◌<◌, ◌≤◌, List, length, Option, ⊤}
 use Rattle.luks_area.specs.Ranges.{part}
-use Rattle.luks_head.specs.Header1.{luks1_size, IsLuks1}
+use Rattle.luks1_header.specs.Header1.{luks1_size, IsLuks1}
+use Rattle.luks1_header.specs.declared.luks1.Luks1.{Luks1}
 use Rattle.luks_head.specs.Selection.{luks1, Chosen}
-use Rattle.luks_head.specs.declared.luks1.Luks1.{Luks1}
 use Rattle.luks_slot.specs.declared.fault.SlotFault.{SlotFault}
 use Rattle.luks_slot.specs.declared.fault.SlotFault.TheVariants as slot
 use Rattle.luks_reading.specs.declared.check_fault.CheckFault.{CheckFault}

@@ -1,7 +1,7 @@
 -- What an edit makes of a LUKS1 volume (LUKS1 On-Disk Format 1.2.3, 4.1 to 4.4).
 use Rattle.std.specs.Prelude.{◌≡◌, ℕ, ◌-◌, ◌*◌, ◌<◌, ◌≤◌, ◌⊎◌, List, length, take, drop, replicate, Option, Some, None}
 use Rattle.luks_area.specs.Ranges.{part, SameBut}
-use Rattle.luks_head.specs.Header1.{active_word, disabled_word, enabled_word, entry, entry_iterations, entry_key_material_offset, entry_salt, entry_stripes, luks1_size}
+use Rattle.luks1_header.specs.Header1.{active_word, disabled_word, enabled_word, entry, entry_iterations, entry_key_material_offset, entry_salt, entry_stripes, luks1_size}
 use Rattle.luks_slot.specs.declared.plan.SlotPlan.{SlotPlan}
 use Rattle.luks_slot.specs.Opening.{area_bytes}
 use Rattle.luks_slot.specs.Sealing.{IsSealed}

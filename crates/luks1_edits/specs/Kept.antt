@@ -2,8 +2,8 @@
 use Rattle.std.specs.Prelude.{◌≡◌, ℕ, ◌<◌, ◌⊎◌, List, length}
 use Rattle.luks_area.specs.declared.area.AreaName.TheVariants.{Segment}
 use Rattle.luks_area.specs.Ranges.{part, SameBut}
-use Rattle.luks_head.specs.Faults.{HasUnknownState, LacksIterations}
-use Rattle.luks_head.specs.Header1.{common_size, entry, entry_key_material_offset, entry_stripes}
+use Rattle.luks1_header.specs.Faults.{HasUnknownState, LacksIterations}
+use Rattle.luks1_header.specs.Header1.{common_size, entry, entry_key_material_offset, entry_stripes}
 use Rattle.luks_head.specs.Selection.{luks1, Chosen}
 use Rattle.luks_reading.specs.declared.report.Data.{Data}
 use Rattle.luks_reading.specs.Checked.{WellFormed}

@@ -3,7 +3,7 @@
 -- entry, then the entry of the keyslot that is removed, its area.
 use Rattle.std.specs.Prelude.{◌≡◌, ℕ, ◌⊎◌, List, drop, take, Option, None}
 use Rattle.luks_area.specs.Ranges.{part, IsAt, SameBut}
-use Rattle.luks_head.specs.Header1.{entry, entry_size}
+use Rattle.luks1_header.specs.Header1.{entry, entry_size}
 use Rattle.luks_reading.specs.declared.report.Data.{Data}
 use Rattle.luks_reading.specs.Answer.{Answer, opens}
 use Rattle.luks_edit.specs.declared.edit.Edit.{Edit}

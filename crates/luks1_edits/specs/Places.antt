@@ -3,7 +3,7 @@
 use Rattle.std.specs.Prelude.{ℕ, ◌+◌, ◌*◌, ◌⊎◌, List}
 use Rattle.luks_area.specs.Ranges.{IsAt}
 use Rattle.luks_area.specs.Sectors.{rounded_to_sectors}
-use Rattle.luks_head.specs.Header1.{common_size, entry, entry_key_material_offset, entry_size, entry_stripes, key_bytes_of}
+use Rattle.luks1_header.specs.Header1.{common_size, entry, entry_key_material_offset, entry_size, entry_stripes, key_bytes_of}
 
 -- where the entry of the keyslot `n` stands
 abbrev pub entry_place : ℕ → ℕ

@@ -2,7 +2,7 @@
 -- faults is that of every edit; some of them LUKS1 doesn't have.
 use Rattle.std.specs.Prelude.{◌≡◌, ◌≢◌, ℕ, ◌+◌, ◌-◌, ◌*◌, ◌<◌, List, length, Option, Some, None, ⊤}
 use Rattle.luks_area.specs.First.{IsLeast}
-use Rattle.luks_head.specs.Header1.{entry, entry_stripes, key_bytes_of}
+use Rattle.luks1_header.specs.Header1.{entry, entry_stripes, key_bytes_of}
 use Rattle.luks_reading.specs.declared.report.Data.{Data}
 use Rattle.luks_reading.specs.Checked.{IsFault}
 use Rattle.luks_edit.specs.declared.edit.Edit.{Edit}

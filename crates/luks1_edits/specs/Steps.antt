@@ -2,8 +2,8 @@
 use Rattle.std.specs.Prelude.{◌≡◌, ℕ, List, drop, take, ⊤, Some}
 use Rattle.luks_area.specs.declared.area.Area.{Area}
 use Rattle.luks_area.specs.Ranges.{IsAt, SameBut}
-use Rattle.luks_head.specs.Header1.{entry, entry_size, HoldsEntry}
-use Rattle.luks_head.specs.declared.luks1.Luks1Slot.{Luks1Slot}
+use Rattle.luks1_header.specs.Header1.{entry, entry_size, HoldsEntry}
+use Rattle.luks1_header.specs.declared.luks1.Luks1Slot.{Luks1Slot}
 use Rattle.luks_slot.specs.declared.plan.SlotPlan.{SlotPlan}
 use Rattle.luks_slot.specs.Refusal.{slot_refusal}
 use Rattle.luks_slot.specs.declared.fault.SlotFault.{SlotFault}

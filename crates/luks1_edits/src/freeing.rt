@@ -2,8 +2,8 @@
 ghost use Rattle.std.specs.Prelude.{◌≡◌, ◌+◌, ◌^◌, ◌<◌, ◌≤◌, ℕ, List, slice_index_or, OnOk};
 ghost use Rattle.luks_area.specs.Area.{IsInside};
 ghost use Rattle.luks_area.specs.Device.{CountsFailure, IsSettled, is_failure};
-ghost use Rattle.luks_head.specs.Header1.{luks1_size};
-ghost use Rattle.luks_head.specs.Written.{WritesEntry};
+ghost use Rattle.luks1_header.specs.Header1.{luks1_size};
+ghost use Rattle.luks1_header.specs.Written.{WritesEntry};
 ghost use Rattle.luks1_edits.specs.Edited.{IsRemoved};
 ghost use Rattle.luks1_edits.specs.Leftovers.{IsHalfRemoved};
 ghost use Rattle.luks1_edits.specs.Steps.{IsKeyslotAt};

@@ -1,6 +1,6 @@
 //! Which keyslots of a LUKS1 header are in use, and which is free.
 ghost use Rattle.std.specs.Prelude.{◌≡◌, ◌≢◌, ◌<◌, ◌≤◌, ℕ, List, false, length, IfErr, IfOk, IfSome, IsTrue, MatchOption, MatchResult, OnOk};
-ghost use Rattle.luks_head.specs.Header1.{key_bytes_of, HoldsSlots};
+ghost use Rattle.luks1_header.specs.Header1.{key_bytes_of, HoldsSlots};
 ghost use Rattle.luks_edit.specs.EditFaults.{is_edit_failure};
 ghost use Rattle.luks1_edits.specs.Accepted.{HasOther, IsNewFault, IsNewFree, IsNewRefused};
 ghost use Rattle.luks1_edits.specs.Edited.{IsFree, IsInUse, IsLeastFree};

@@ -1,7 +1,7 @@
 //! Making a keyslot of a LUKS1 volume.
 ghost use Rattle.std.specs.Prelude.{◌≡◌, ◌+◌, ◌^◌, ◌<◌, ◌≤◌, ℕ, List, drop, length, take, IfErr, OnErr, OnOk};
 ghost use Rattle.luks_area.specs.Device.{CountsFailure, IsSettled};
-ghost use Rattle.luks_head.specs.Header1.{entry, key_bytes_of, HoldsEntry, HoldsSlots};
+ghost use Rattle.luks1_header.specs.Header1.{entry, key_bytes_of, HoldsEntry, HoldsSlots};
 ghost use Rattle.luks_edit.specs.EditFaults.{is_edit_failure};
 ghost use Rattle.luks1_edits.specs.Accepted.{IsAcceptedAt, IsHeaderOf};
 ghost use Rattle.luks1_edits.specs.Edited.{IsMade};

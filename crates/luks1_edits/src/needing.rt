@@ -1,6 +1,6 @@
 //! How many random bytes an edit of a LUKS1 volume takes.
 ghost use Rattle.std.specs.Prelude.{◌≡◌, ◌≢◌, ℕ, List, false, length, IfErr, MatchResult};
-ghost use Rattle.luks_head.specs.Header1.{key_bytes_of, HoldsSlots};
+ghost use Rattle.luks1_header.specs.Header1.{key_bytes_of, HoldsSlots};
 ghost use Rattle.luks_edit.specs.EditFaults.{is_edit_failure};
 ghost use Rattle.luks_reading.specs.Header.{IsHeader};
 ghost use Rattle.luks_reading.specs.declared.header.Header.TheVariants.{Luks1 as OfLuks1};

@@ -2,7 +2,7 @@
 ghost use Rattle.std.specs.Prelude.{◌≡◌, ◌+◌, ◌^◌, ◌<◌, ◌≤◌, length, OnOk};
 ghost use Rattle.luks_area.specs.Device.{CountsFailure, IsSettled, is_failure};
 ghost use Rattle.luks_area.specs.Ranges.{IsAt, SameBut};
-ghost use Rattle.luks_head.specs.Header1.{entry, entry_size, luks1_size};
+ghost use Rattle.luks1_header.specs.Header1.{entry, entry_size, luks1_size};
 ghost use Rattle.luks1_edits.specs.Places.{entry_place};
 
 use luks_area::{Device, DeviceFault};

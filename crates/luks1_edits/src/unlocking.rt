@@ -1,7 +1,7 @@
 //! Opening the keyslot that an edit of a LUKS1 volume names.
 ghost use Rattle.std.specs.Prelude.{◌≡◌, ◌≢◌, ◌+◌, ◌^◌, ◌<◌, ℕ, List, length, IfOk, IfErr, OnOk};
 ghost use Rattle.luks_area.specs.Device.{CountsFailure, IsUnchanged};
-ghost use Rattle.luks_head.specs.Header1.{key_bytes_of};
+ghost use Rattle.luks1_header.specs.Header1.{key_bytes_of};
 ghost use Rattle.luks_edit.specs.EditFaults.{is_edit_failure};
 ghost use Rattle.luks1_edits.specs.Accepted.{IsAcceptedAt, IsHeaderOf, IsOpenedBy, IsUnopened, keyslot_fault};
 ghost use Rattle.luks1_edits.specs.Edited.{IsInUse};

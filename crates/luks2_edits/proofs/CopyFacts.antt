@@ -2,7 +2,7 @@
 use Rattle.std.proofs.Common.{◌≡◌, ℕ, ◌≤◌, List, length, refl, sym, ap, subst, ◌∙◌, arith}
 use Rattle.serde_json.specs.Data.{Data as Value}
 use Rattle.luks_area.specs.RangeFacts.{part-part}
-use Rattle.luks_head.specs.Header1.{version_of}
+use Rattle.luks1_header.specs.Header1.{version_of}
 use Rattle.luks_head.specs.Header2.{hdr_size, header_at, seqid, IsSound}
 use Rattle.luks_head.specs.Selection.{luks2, Chosen, IsNotVersion1}
 use Rattle.luks_head.specs.declared.selection.Copies.TheVariants.{InStep}

@@ -3,10 +3,10 @@ use Rattle.std.proofs.Common.{◌≡◌, ℕ, List, inl, inr, subst, sym, arith}
 use Rattle.luks_area.specs.Device.{count_after}
 use Rattle.luks_area.specs.First.{NotAfter, IsLeast}
 use Rattle.luks_area.specs.Ranges.{part}
-use Rattle.luks_head.specs.declared.fault.HeadFault.{HeadFault}
-use Rattle.luks_head.specs.declared.luks1.Luks1.{Luks1 as Header1}
-use Rattle.luks_head.specs.Faults.{head_key, IsLuks1Fault}
-use Rattle.luks_head.specs.Header1.{IsLuks1}
+use Rattle.luks1_header.specs.declared.fault.HeadFault.{HeadFault}
+use Rattle.luks1_header.specs.declared.luks1.Luks1.{Luks1 as Header1}
+use Rattle.luks1_header.specs.Faults.{head_key, IsLuks1Fault}
+use Rattle.luks1_header.specs.Header1.{IsLuks1}
 use Rattle.luks_head.specs.Header2.{header_at, uuid_field}
 use Rattle.luks_head.specs.Selection.{luks1, luks2, Chosen}
 use Rattle.luks_head.proofs.ChoiceFacts.{choices_agree, uuid_sound}

@@ -2,7 +2,7 @@
 use Rattle.std.specs.Prelude.{◌≡◌, ℕ, ◌+◌, List, Result, Ok, Err, ⊤, string_bytes}
 use Rattle.luks_area.specs.First.{IsLeast}
 use Rattle.luks_area.specs.Ranges.{part}
-use Rattle.luks_head.specs.Header1.{IsLuks1}
+use Rattle.luks1_header.specs.Header1.{IsLuks1}
 use Rattle.luks_head.specs.Selection.{luks1, Chosen}
 use Rattle.luks_reading.specs.declared.check_fault.CheckFault.{CheckFault}
 use Rattle.luks_reading.specs.declared.check_fault.CheckFault.TheVariants as fault

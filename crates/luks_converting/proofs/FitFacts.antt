@@ -13,7 +13,7 @@ use Rattle.luks_rules.specs.declared.table.Section.TheVariants.{Keyslots}
 use Rattle.luks_making.specs.Conversions.{SaysSource}
 use Rattle.luks_making.specs.Keyslots.{slot_value}
 use Rattle.luks_making.specs.Unchanged.{SaysMembers}
-use Rattle.luks_head.specs.Header1.{entry}
+use Rattle.luks1_header.specs.Header1.{entry}
 use Rattle.luks_reading.specs.declared.report.Data.TheVariants.{Here, Elsewhere}
 use Rattle.luks_reading.specs.Layout2.{Luks2Area, slot_number}
 use Rattle.luks_converting.specs.Converted.{new_size, new_start}

@@ -4,11 +4,11 @@ use Rattle.std.specs.Prelude.{option_map, slice_get}
 use Rattle.std.proofs.Math.Path.{fun_ext}
 use Rattle.std.proofs.lemmas.Bool.{cases_Bool, cases_lt}
 use Rattle.std.proofs.lemmas.Option.{slice_get-get_or, slice_get_past}
-use Rattle.luks_head.specs.Bytes.{text_at}
-use Rattle.luks_head.specs.Header1.{entry, IsEntry, IsLuks1}
-use Rattle.luks_head.specs.declared.luks1.Luks1.{Luks1}
-use Rattle.luks_head.specs.declared.luks1.Luks1Slot.{Luks1Slot}
-use Rattle.luks_head.specs.declared.luks1.SlotState.TheVariants.{Enabled, Disabled}
+use Rattle.luks1_header.specs.Bytes.{text_at}
+use Rattle.luks1_header.specs.Header1.{entry, IsEntry, IsLuks1}
+use Rattle.luks1_header.specs.declared.luks1.Luks1.{Luks1}
+use Rattle.luks1_header.specs.declared.luks1.Luks1Slot.{Luks1Slot}
+use Rattle.luks1_header.specs.declared.luks1.SlotState.TheVariants.{Enabled, Disabled}
 use Rattle.luks_making.specs.Converted.{SourceMembers, SourceSlotMembers, source_slot_members}
 use Rattle.luks_making.specs.declared.source_volume.SourceSlot.{SourceSlot}
 use Rattle.luks_converting.specs.Slots.{AreSlots}

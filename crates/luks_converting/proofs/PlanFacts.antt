@@ -2,8 +2,8 @@
 use Rattle.std.proofs.Common.{◌≡◌, ℕ, List, true, Some, sym, ap, subst, ◌∙◌, inl, inr}
 use Rattle.std.proofs.lemmas.Bool.{cases_eq}
 use Rattle.serde_json.specs.Data.{Data}
-use Rattle.luks_head.specs.Bytes.{text_at}
-use Rattle.luks_head.specs.Header1.{entry, entry_iterations, entry_salt, entry_stripes, key_bytes_of, mk_digest_iterations_of, mk_digest_of, mk_digest_salt_of}
+use Rattle.luks1_header.specs.Bytes.{text_at}
+use Rattle.luks1_header.specs.Header1.{entry, entry_iterations, entry_salt, entry_stripes, key_bytes_of, mk_digest_iterations_of, mk_digest_of, mk_digest_salt_of}
 use Rattle.luks_rules.specs.Faults.{object_at}
 use Rattle.luks_rules.specs.declared.table.Section.TheVariants.{Digests, Keyslots}
 use Rattle.luks_making.specs.Conversions.{SaysSource}

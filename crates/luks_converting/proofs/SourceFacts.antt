@@ -9,11 +9,11 @@ use Rattle.byteorder.specs.Numbers.{big_from-lt}
 use Rattle.luks_area.specs.Ranges.{part}
 use Rattle.luks_area.specs.RangeFacts.{get_or-part, length-part, length-part_inside}
 use Rattle.luks_area.specs.Sectors.{rounded_to_sectors}
-use Rattle.luks_head.specs.Bytes.{number_at, text_at}
-use Rattle.luks_head.specs.Header1.{active_word, disabled_word, enabled_word, word_of as word_of_state, entry, key_bytes_of, IsEntry, IsLuks1}
-use Rattle.luks_head.specs.declared.luks1.Luks1.{Luks1}
-use Rattle.luks_head.specs.declared.luks1.Luks1Slot.{Luks1Slot}
-use Rattle.luks_head.specs.declared.luks1.SlotState.TheVariants.{Disabled, Enabled}
+use Rattle.luks1_header.specs.Bytes.{number_at, text_at}
+use Rattle.luks1_header.specs.Header1.{active_word, disabled_word, enabled_word, word_of as word_of_state, entry, key_bytes_of, IsEntry, IsLuks1}
+use Rattle.luks1_header.specs.declared.luks1.Luks1.{Luks1}
+use Rattle.luks1_header.specs.declared.luks1.Luks1Slot.{Luks1Slot}
+use Rattle.luks1_header.specs.declared.luks1.SlotState.TheVariants.{Disabled, Enabled}
 use Rattle.luks_making.specs.Conversions.{CanConvert, FitsSource, FitsSourceSlot, IsUsable}
 use Rattle.luks_making.specs.Converted.{SourceSlotMembers}
 use Rattle.luks_converting.specs.Source.{enabled_slot, encryption_of, header_members, is_enabled, slot_members, source_size, source_start, HasRoom, IsSource}

@@ -1,7 +1,7 @@
 -- The header of a source that was accepted, and why one isn't.
 use Rattle.std.specs.Prelude.{◌≡◌, ℕ, ◌+◌, ◌<◌, ◌≤◌, List, length, ⊤}
 use Rattle.luks_area.specs.Ranges.{part}
-use Rattle.luks_head.specs.Header1.{luks1_size, IsLuks1}
+use Rattle.luks1_header.specs.Header1.{luks1_size, IsLuks1}
 use Rattle.luks_head.specs.Selection.{luks1, Chosen}
 use Rattle.luks_reading.specs.Checked.{First, IsFault}
 use Rattle.luks_reading.specs.Header.{NeedsMetadata}

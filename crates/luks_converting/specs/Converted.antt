@@ -1,8 +1,8 @@
 -- A detached LUKS2 header that was made from a LUKS1 volume (LUKS2 On-Disk Format 1.1, 2.1 and 3).
 use Rattle.std.specs.Prelude.{◌≡◌, ℕ, ◌-◌, ◌⊎◌, List, ◌++◌, codes, drop, replicate, true}
 use Rattle.luks_area.specs.Ranges.{part, IsAt, IsOfEither, SameBut}
-use Rattle.luks_head.specs.Bytes.{text_at}
-use Rattle.luks_head.specs.Header1.{entry, luks1_size}
+use Rattle.luks1_header.specs.Bytes.{text_at}
+use Rattle.luks1_header.specs.Header1.{entry, luks1_size}
 use Rattle.luks_head.specs.Header2.{magic_of, sha256_size}
 use Rattle.luks_head.specs.Written.{IsWrittenCopy}
 use Rattle.luks_head.specs.declared.bin2.Bin2.{Bin2}

@@ -3,9 +3,9 @@
 use Rattle.std.specs.Prelude.{◌≡◌, ℕ, ◌*◌, ◌≤◌, List, ◌++◌, Bool, ◌&&◌, ◌==◌, nat_lt, codes, length, Option, Some, None, if◌then◌else◌}
 use Rattle.base64.specs.GeneralPurpose.{IsBytes}
 use Rattle.luks_area.specs.Sectors.{rounded_to_sectors}
-use Rattle.luks_head.specs.Bytes.{text_at}
-use Rattle.luks_head.specs.Header1.{active_word, enabled_word, entry, entry_iterations, entry_key_material_offset, entry_salt, entry_stripes, key_bytes_of, luks1_size, mk_digest_iterations_of, mk_digest_of, mk_digest_salt_of, payload_offset_of, IsLuks1}
-use Rattle.luks_head.specs.declared.luks1.Luks1.{Luks1}
+use Rattle.luks1_header.specs.Bytes.{text_at}
+use Rattle.luks1_header.specs.Header1.{active_word, enabled_word, entry, entry_iterations, entry_key_material_offset, entry_salt, entry_stripes, key_bytes_of, luks1_size, mk_digest_iterations_of, mk_digest_of, mk_digest_salt_of, payload_offset_of, IsLuks1}
+use Rattle.luks1_header.specs.declared.luks1.Luks1.{Luks1}
 use Rattle.luks_making.specs.Converted.{SourceMembers, SourceSlotMembers, area_start}
 
 -- the keyslot `n` is in use

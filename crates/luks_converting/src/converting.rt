@@ -2,7 +2,7 @@
 ghost use Rattle.std.specs.Prelude.{◌≡◌, ◌+◌, ◌^◌, ◌<◌, ◌≤◌, List, Option, IfErr, OnOk, false, length, ℕ, true};
 ghost use Rattle.luks_area.specs.Device.{IsSettled, IsUnchanged, is_failure};
 ghost use Rattle.luks_area.specs.Ranges.{part, SameBut};
-ghost use Rattle.luks_head.specs.Header1.{luks1_size};
+ghost use Rattle.luks1_header.specs.Header1.{luks1_size};
 ghost use Rattle.luks_making.specs.Converted.{converted};
 ghost use Rattle.luks_making.specs.WrittenArea.{IsWrittenArea};
 ghost use Rattle.luks_reading.specs.Answer.{AnswerWithin, opened_to, refused};

@@ -1,7 +1,7 @@
 //! Laws on the definitions of this crate. Each function does nothing; its contract is the law.
 ghost use Rattle.std.specs.Prelude.{◌≡◌, ◌≤◌, List, None, Option, ℕ, false, length, true};
 ghost use Rattle.luks_area.specs.Ranges.{part};
-ghost use Rattle.luks_head.specs.Header1.{luks1_size};
+ghost use Rattle.luks1_header.specs.Header1.{luks1_size};
 ghost use Rattle.luks_head.specs.Selection.{luks1, Chosen};
 ghost use Rattle.luks_slot.specs.Opening.{slot_key};
 ghost use Rattle.luks_slot.specs.Refusal.{slot_refusal};

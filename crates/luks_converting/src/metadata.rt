@@ -1,6 +1,6 @@
 //! The metadata of a converted volume.
 ghost use Rattle.std.specs.Prelude.{◌≡◌, ◌++◌, ◌<◌, ◌≤◌, List, ℕ, codes, option_map, IfOk};
-ghost use Rattle.luks_head.specs.Header1.{entry, IsEntry, IsLuks1};
+ghost use Rattle.luks1_header.specs.Header1.{entry, IsEntry, IsLuks1};
 ghost use Rattle.luks_making.specs.Converted.{converted, source_members, source_slot_members};
 ghost use Rattle.luks_making.specs.WrittenArea.{IsWrittenArea};
 ghost use Rattle.luks_converting.specs.Accepted.{IsRead};

@@ -1,6 +1,6 @@
 //! Where the new key areas stand.
 ghost use Rattle.std.specs.Prelude.{◌≡◌, ◌<◌, ◌≤◌, List, ℕ};
-ghost use Rattle.luks_head.specs.Header1.{IsLuks1};
+ghost use Rattle.luks1_header.specs.Header1.{IsLuks1};
 ghost use Rattle.luks_converting.specs.Converted.{new_size, new_start};
 
 use crate::metadata::{encryption, source_slot, source_volume};

@@ -1,7 +1,7 @@
 -- What refuses an edit by the entries of a LUKS1 volume: each row stands or doesn't.
 use Rattle.std.proofs.Common.{◌≡◌, ℕ, List, length, Option, Some, None, refl, ap, ◌∙◌, arith, inl, inr}
 use Rattle.std.proofs.lemmas.Bool.{cases_eq}
-use Rattle.luks_head.specs.Header1.{active_word, disabled_word, enabled_word, entry}
+use Rattle.luks1_header.specs.Header1.{active_word, disabled_word, enabled_word, entry}
 use Rattle.luks_edit.specs.declared.edit.Edit.{Edit}
 use Rattle.luks_edit.specs.declared.edit.Edit.TheVariants.{Add, Change, Label, Remove, Repair}
 use Rattle.luks_edit.specs.Asked.{OpensBy}

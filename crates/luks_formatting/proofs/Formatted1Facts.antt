@@ -7,15 +7,15 @@ use Rattle.luks_kdf.specs.declared.hash_name.HashName.{HashName}
 use Rattle.luks_kdf.proofs.SplitterFacts.{merge-split}
 use Rattle.luks_area.specs.RangeFacts.{length-part_inside, part-part}
 use Rattle.luks_area.specs.declared.area.Area.{Area}
-use Rattle.luks_head.specs.Bytes.{text_at}
-use Rattle.luks_head.specs.Faults.{IsCommonFault, IsEntryFault}
-use Rattle.luks_head.specs.Header1.{active_word, enabled_word, entry, entry_iterations}
+use Rattle.luks1_header.specs.Bytes.{text_at}
+use Rattle.luks1_header.specs.Faults.{IsCommonFault, IsEntryFault}
+use Rattle.luks1_header.specs.Header1.{active_word, enabled_word, entry, entry_iterations}
+use Rattle.luks1_header.proofs.Luks1FaultFacts.{common_sound, entry_sound}
+use Rattle.luks1_header.specs.declared.fault.HeadFault.{HeadFault}
+use Rattle.luks1_header.specs.declared.fault.HeadFault.TheVariants as fault
+use Rattle.luks1_header.specs.declared.fault.IterationsOf.TheVariants as of
+use Rattle.luks1_header.specs.declared.luks1.Luks1Slot.{Luks1Slot}
 use Rattle.luks_head.specs.Selection.{luks1, Chosen}
-use Rattle.luks_head.proofs.Luks1FaultFacts.{common_sound, entry_sound}
-use Rattle.luks_head.specs.declared.fault.HeadFault.{HeadFault}
-use Rattle.luks_head.specs.declared.fault.HeadFault.TheVariants as fault
-use Rattle.luks_head.specs.declared.fault.IterationsOf.TheVariants as of
-use Rattle.luks_head.specs.declared.luks1.Luks1Slot.{Luks1Slot}
 use Rattle.luks_slot.specs.Opening.{hash_by_name, meets_digest, slot_key}
 use Rattle.luks_slot.specs.Refusal.{is_open_cipher, slot_refusal}
 use Rattle.luks_slot.specs.Sealing.{IsSealed}

@@ -7,13 +7,13 @@ use Rattle.luks_area.specs.Text.{is_plain, text_of}
 use Rattle.luks_area.specs.declared.area.Area.{Area}
 use Rattle.luks_area.specs.declared.area.AreaName.{AreaName}
 use Rattle.luks_area.specs.declared.area.AreaName.TheVariants.{Head1, Head2, Slot, Segment}
-use Rattle.luks_head.specs.Bytes.{number_at, HoldsText, IsUuid}
-use Rattle.luks_head.specs.Header1.{enabled_word, entry, entry_stripes, key_bytes_of, mk_digest_iterations_of, word_of, field_at, field_len, HoldsCommon, HoldsEntry, IsCommon, IsEntry, IsLuks1}
-use Rattle.luks_head.specs.Written.{common_text, IsWhole, WritesLuks1}
-use Rattle.luks_head.specs.declared.fault.TextField.{TextField}
-use Rattle.luks_head.specs.declared.fault.TextField.TheVariants as field
-use Rattle.luks_head.specs.declared.luks1.Luks1.{Luks1}
-use Rattle.luks_head.specs.declared.luks1.Luks1Slot.{Luks1Slot}
+use Rattle.luks1_header.specs.Bytes.{number_at, HoldsText, IsUuid}
+use Rattle.luks1_header.specs.Header1.{enabled_word, entry, entry_stripes, key_bytes_of, mk_digest_iterations_of, word_of, field_at, field_len, HoldsCommon, HoldsEntry, IsCommon, IsEntry, IsLuks1}
+use Rattle.luks1_header.specs.Written.{common_text, IsWhole, WritesLuks1}
+use Rattle.luks1_header.specs.declared.fault.TextField.{TextField}
+use Rattle.luks1_header.specs.declared.fault.TextField.TheVariants as field
+use Rattle.luks1_header.specs.declared.luks1.Luks1.{Luks1}
+use Rattle.luks1_header.specs.declared.luks1.Luks1Slot.{Luks1Slot}
 use Rattle.luks_reading.specs.Layout1.{Luks1Area}
 use Rattle.luks_reading.specs.declared.report.Data.{Data}
 use Rattle.luks_reading.specs.declared.report.Data.TheVariants.{Here}

@@ -3,10 +3,10 @@ use Rattle.std.proofs.Common.{◌≡◌, ℕ, ◌+◌, ◌*◌, ◌≤◌, List,
 use Rattle.luks_area.specs.Ranges.{part, written, IsAt, SameBut, SameOutside}
 use Rattle.luks_area.specs.RangeFacts.{part-same_but_at, part-written, same_but-same_outside, same_but-then, same_but-wider}
 use Rattle.luks_area.specs.declared.area.Area.{Area}
-use Rattle.luks_head.specs.Bytes.{text_at}
-use Rattle.luks_head.specs.Header1.{entry, entry_iterations}
-use Rattle.luks_head.specs.Written.{WritesLuks1}
-use Rattle.luks_head.specs.declared.luks1.Luks1.{Luks1}
+use Rattle.luks1_header.specs.Bytes.{text_at}
+use Rattle.luks1_header.specs.Header1.{entry, entry_iterations}
+use Rattle.luks1_header.specs.Written.{WritesLuks1}
+use Rattle.luks1_header.specs.declared.luks1.Luks1.{Luks1}
 use Rattle.luks_kdf.specs.Names.{name_of}
 use Rattle.luks_slot.specs.Opening.{area_bytes}
 use Rattle.luks_slot.specs.Sealing.{IsSealed}

@@ -1,8 +1,8 @@
 -- A volume that was formatted by LUKS1.
 use Rattle.std.specs.Prelude.{ℕ, List}
 use Rattle.luks_area.specs.Ranges.{part, IsAt, IsOfEither, SameBut}
-use Rattle.luks_head.specs.Written.{WritesLuks1}
-use Rattle.luks_head.specs.declared.luks1.Luks1.{Luks1}
+use Rattle.luks1_header.specs.Written.{WritesLuks1}
+use Rattle.luks1_header.specs.declared.luks1.Luks1.{Luks1}
 use Rattle.luks_reading.specs.declared.report.Data.{Data}
 use Rattle.luks_reading.specs.Plans.{HasLuks1Plan}
 use Rattle.luks_terms.specs.declared.format.Format.{Format}

@@ -4,10 +4,10 @@ use Rattle.luks_area.specs.declared.area.Area.{Area}
 use Rattle.luks_kdf.specs.Names.{name_of}
 use Rattle.luks_slot.specs.declared.plan.AreaCipher.{AreaCipher}
 use Rattle.luks_slot.specs.declared.plan.AreaCipher.TheVariants.{Apart, Whole}
-use Rattle.luks_head.specs.declared.luks1.Luks1.{Luks1}
-use Rattle.luks_head.specs.declared.luks1.Luks1Common.{Luks1Common}
-use Rattle.luks_head.specs.declared.luks1.Luks1Slot.{Luks1Slot}
-use Rattle.luks_head.specs.declared.luks1.SlotState.TheVariants.{Enabled, Disabled}
+use Rattle.luks1_header.specs.declared.luks1.Luks1.{Luks1}
+use Rattle.luks1_header.specs.declared.luks1.Luks1Common.{Luks1Common}
+use Rattle.luks1_header.specs.declared.luks1.Luks1Slot.{Luks1Slot}
+use Rattle.luks1_header.specs.declared.luks1.SlotState.TheVariants.{Enabled, Disabled}
 use Rattle.luks_reading.specs.declared.report.Data.{Data}
 use Rattle.luks_reading.specs.declared.report.Data.TheVariants.{Here, Elsewhere}
 use Rattle.luks_terms.specs.declared.format.Format.{Format}

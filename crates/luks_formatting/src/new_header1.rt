@@ -1,6 +1,6 @@
 //! The LUKS1 header of a new volume.
 ghost use Rattle.std.specs.Prelude.{◌≡◌, ◌≤◌, ◌<◌, ℕ, length, slice_index_or};
-ghost use Rattle.luks_head.specs.declared.luks1.Luks1Slot.{Luks1Slot as TheSlot};
+ghost use Rattle.luks1_header.specs.declared.luks1.Luks1Slot.{Luks1Slot as TheSlot};
 ghost use Rattle.luks_formatting.specs.NewHeader1.{first_slot, free_slot, material_sector, new_slot, payload_sector, IsNewCommon, IsNewHeader1};
 
 use crate::plan::put_key_digest;

@@ -1,7 +1,7 @@
 -- What the command `convert` leaves of its target, and what it may answer.
 use Rattle.std.specs.Prelude.{◌≡◌, ℕ, List, Option, None, Result, true, false}
 use Rattle.luks_area.specs.Ranges.{part, SameBut}
-use Rattle.luks_head.specs.Header1.{luks1_size}
+use Rattle.luks1_header.specs.Header1.{luks1_size}
 use Rattle.luks_reading.specs.declared.report.Data.{Data}
 use Rattle.luks_reading.specs.declared.report.Data.TheVariants.{Elsewhere}
 use Rattle.luks_reading.specs.declared.open_fault.OpenFault.TheVariants.{NoSuchSlot}

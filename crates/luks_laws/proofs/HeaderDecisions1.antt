@@ -7,14 +7,14 @@ use Rattle.luks_area.specs.declared.area.AreaName.TheVariants.{Head1, Head2, Seg
 use Rattle.luks_area.specs.Ranges.{part}
 use Rattle.luks_area.specs.Sectors.{rounded_to_sectors}
 use Rattle.luks_area.specs.Text.{is_plain}
-use Rattle.luks_head.specs.declared.fault.HeadFault.{HeadFault}
-use Rattle.luks_head.specs.declared.fault.HeadFault.TheVariants as head
-use Rattle.luks_head.specs.declared.fault.IterationsOf.TheVariants as of
-use Rattle.luks_head.specs.declared.fault.TextField.{TextField}
-use Rattle.luks_head.specs.declared.fault.TextField.TheVariants as field
-use Rattle.luks_head.specs.Bytes.{is_uuid_byte, IsUuid, number_at, text_at}
-use Rattle.luks_head.specs.Faults.{HasUnknownState, IsLuks1Fault as IsHeadFault, LacksIterations}
-use Rattle.luks_head.specs.Header1.{active_word, disabled_word, enabled_word, entry, entry_iterations, entry_stripes, field_at, field_len, HasMagic, header_text, key_bytes_of, luks1_size, luks_magic, mk_digest_iterations_of, version_of}
+use Rattle.luks1_header.specs.declared.fault.HeadFault.{HeadFault}
+use Rattle.luks1_header.specs.declared.fault.HeadFault.TheVariants as head
+use Rattle.luks1_header.specs.declared.fault.IterationsOf.TheVariants as of
+use Rattle.luks1_header.specs.declared.fault.TextField.{TextField}
+use Rattle.luks1_header.specs.declared.fault.TextField.TheVariants as field
+use Rattle.luks1_header.specs.Bytes.{is_uuid_byte, IsUuid, number_at, text_at}
+use Rattle.luks1_header.specs.Faults.{HasUnknownState, IsLuks1Fault as IsHeadFault, LacksIterations}
+use Rattle.luks1_header.specs.Header1.{active_word, disabled_word, enabled_word, entry, entry_iterations, entry_stripes, field_at, field_len, HasMagic, header_text, key_bytes_of, luks1_size, luks_magic, mk_digest_iterations_of, version_of}
 use Rattle.luks_rules.specs.Faults.{Among}
 use Rattle.luks_reading.specs.declared.check_fault.CheckFault.{CheckFault}
 use Rattle.luks_reading.specs.declared.check_fault.CheckFault.TheVariants as check

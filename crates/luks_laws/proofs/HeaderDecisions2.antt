@@ -7,10 +7,10 @@ use Rattle.luks_area.specs.declared.area.Area.{Area as TheArea}
 use Rattle.luks_area.specs.declared.area.AreaName.{AreaName}
 use Rattle.luks_area.specs.declared.area.AreaName.TheVariants.{Head1, Head2, Segment, Slot}
 use Rattle.luks_area.specs.Text.{is_plain, text_of}
-use Rattle.luks_head.specs.declared.fault.HeadFault.{HeadFault}
-use Rattle.luks_head.specs.declared.fault.HeadFault.TheVariants as head
-use Rattle.luks_head.specs.declared.fault.TextField.TheVariants as field
-use Rattle.luks_head.specs.Faults.{head_key}
+use Rattle.luks1_header.specs.declared.fault.HeadFault.{HeadFault}
+use Rattle.luks1_header.specs.declared.fault.HeadFault.TheVariants as head
+use Rattle.luks1_header.specs.declared.fault.TextField.TheVariants as field
+use Rattle.luks1_header.specs.Faults.{head_key}
 use Rattle.luks_head.specs.Header2.{hdr_size, IsUuidFault, uuid_field}
 use Rattle.luks_json.specs.AreaText.{IsBadJson, Json, JsonText}
 use Rattle.luks_rules.specs.declared.fault.MetaFault.{MetaFault}

@@ -4,10 +4,10 @@ use Rattle.std.specs.Prelude.{◌↔◌}
 use Rattle.std.proofs.lemmas.Bool.{cases_lt}
 use Rattle.serde_json.specs.Data.{Data as Value}
 use Rattle.luks_area.specs.First.{IsLeast, NotAfter}
-use Rattle.luks_head.specs.declared.fault.HeadFault.{HeadFault}
-use Rattle.luks_head.specs.declared.fault.HeadFault.TheVariants as head
-use Rattle.luks_head.specs.declared.fault.IterationsOf.TheVariants as of
-use Rattle.luks_head.specs.Faults.{head_key}
+use Rattle.luks1_header.specs.declared.fault.HeadFault.{HeadFault}
+use Rattle.luks1_header.specs.declared.fault.HeadFault.TheVariants as head
+use Rattle.luks1_header.specs.declared.fault.IterationsOf.TheVariants as of
+use Rattle.luks1_header.specs.Faults.{head_key}
 use Rattle.luks_head.specs.Header2.{IsUuidFault, uuid_field}
 use Rattle.luks_json.specs.AreaText.{IsBadJson, Json, JsonText}
 use Rattle.luks_json.specs.Number.{number_of, number_text}

@@ -2,8 +2,8 @@
 use Rattle.std.proofs.Common.{ℕ, ◌*◌, ◌<◌, List, refl}
 use Rattle.luks_area.specs.Ranges.{part}
 use Rattle.luks_area.specs.Sectors.{rounded_to_sectors}
-use Rattle.luks_head.specs.Bytes.{number_at, text_at}
-use Rattle.luks_head.specs.Header1.{entry, entry_iterations, entry_stripes}
+use Rattle.luks1_header.specs.Bytes.{number_at, text_at}
+use Rattle.luks1_header.specs.Header1.{entry, entry_iterations, entry_stripes}
 use Rattle.luks_slot.specs.declared.plan.AreaCipher.TheVariants.{Apart}
 use Rattle.luks_slot.specs.declared.plan.Derivation.TheVariants.{Pbkdf2}
 use Rattle.luks_slot.specs.declared.plan.SlotPlan.{SlotPlan}

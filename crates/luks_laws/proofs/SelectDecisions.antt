@@ -2,9 +2,9 @@
 use Rattle.std.proofs.Common.{◌≡◌, ℕ, List, [], ◌∷◌, length, map, refl, inl, inr}
 use Rattle.std.proofs.lemmas.Bool.{cases_eq}
 use Rattle.luks_area.specs.Ranges.{part}
-use Rattle.luks_head.specs.declared.fault.HeadFault.{HeadFault}
-use Rattle.luks_head.specs.declared.fault.HeadFault.TheVariants as head
-use Rattle.luks_head.specs.Header1.{HasMagic, luks1_size, luks_magic, version_of}
+use Rattle.luks1_header.specs.declared.fault.HeadFault.{HeadFault}
+use Rattle.luks1_header.specs.declared.fault.HeadFault.TheVariants as head
+use Rattle.luks1_header.specs.Header1.{HasMagic, luks1_size, luks_magic, version_of}
 use Rattle.luks_head.specs.Selection.{Chosen, IsSelectFault, nothing}
 use Rattle.luks_rules.specs.Faults.{Among}
 use Rattle.luks_reading.specs.declared.check_fault.CheckFault.{CheckFault}

@@ -8,10 +8,10 @@ use Rattle.luks_area.specs.declared.areas.Entry.{Entry}
 use Rattle.luks_area.specs.Area.{IsBefore}
 use Rattle.luks_area.specs.Sectors.{rounded_to_sectors}
 use Rattle.luks_area.specs.Names.{HasArea}
-use Rattle.luks_head.specs.declared.luks1.Luks1.{Luks1}
-use Rattle.luks_head.specs.declared.luks1.Luks1Slot.{Luks1Slot}
-use Rattle.luks_head.specs.Header1.{IsLuks1}
-use Rattle.luks_head.specs.Bytes.{number_at}
+use Rattle.luks1_header.specs.declared.luks1.Luks1.{Luks1}
+use Rattle.luks1_header.specs.declared.luks1.Luks1Slot.{Luks1Slot}
+use Rattle.luks1_header.specs.Header1.{IsLuks1}
+use Rattle.luks1_header.specs.Bytes.{number_at}
 use Rattle.luks_reading.specs.declared.report.Data.{Data}
 use Rattle.luks_reading.specs.declared.report.Data.TheVariants.{Here, Elsewhere}
 use Rattle.luks_reading.specs.Layout1.{Luks1Area}

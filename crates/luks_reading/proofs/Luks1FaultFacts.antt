@@ -3,8 +3,8 @@ use Rattle.std.proofs.Common.{ℕ, List, arith}
 use Rattle.luks_area.specs.declared.area.AreaFault.{AreaFault}
 use Rattle.luks_area.specs.Area.{IsAreaFault, area_key}
 use Rattle.luks_area.specs.First.{NotAfter, IsLeast}
-use Rattle.luks_head.specs.declared.fault.HeadFault.{HeadFault}
-use Rattle.luks_head.specs.Faults.{IsLuks1Fault as IsLuks1HeadFault}
+use Rattle.luks1_header.specs.declared.fault.HeadFault.{HeadFault}
+use Rattle.luks1_header.specs.Faults.{IsLuks1Fault as IsLuks1HeadFault}
 use Rattle.luks_reading.specs.declared.check_fault.CheckFault.{CheckFault}
 use Rattle.luks_reading.specs.declared.check_fault.CheckFault.TheVariants.{Head, Meta, Area, Device, Memory}
 use Rattle.luks_reading.specs.declared.report.Data.{Data}

@@ -1,6 +1,6 @@
 -- A keyslot of LUKS1 has one plan.
 use Rattle.std.proofs.Common.{◌≡◌, ℕ, List, refl, sym, ◌∙◌}
-use Rattle.luks_head.specs.Header1.{entry}
+use Rattle.luks1_header.specs.Header1.{entry}
 use Rattle.luks_slot.specs.declared.plan.AreaCipher.{AreaCipher}
 use Rattle.luks_slot.specs.declared.plan.AreaCipher.TheVariants.{Apart, Whole}
 use Rattle.luks_slot.specs.declared.plan.Derivation.{Derivation}

@@ -2,12 +2,12 @@
 -- earlier step has any.
 use Rattle.std.proofs.Common.{◌≡◌, ℕ, ◌<◌, List, [], ◌∷◌, length, ◌⊎◌, inl, inr, refl, sym, ap, subst, ◌∙◌, arith, Option, Some, None, IfSome, IsNone}
 use Rattle.luks_area.specs.First.{NotAfter, IsLeast}
-use Rattle.luks_head.specs.declared.fault.HeadFault.{HeadFault}
-use Rattle.luks_head.specs.declared.fault.HeadFault.TheVariants as head
-use Rattle.luks_head.specs.declared.fault.IterationsOf.TheVariants as of
-use Rattle.luks_head.specs.declared.luks1.Luks1Slot.{Luks1Slot}
-use Rattle.luks_head.specs.Faults.{head_key, IsCommonFault, IsEntryFault}
-use Rattle.luks_head.specs.Header1.{active_word, disabled_word, entry}
+use Rattle.luks1_header.specs.declared.fault.HeadFault.{HeadFault}
+use Rattle.luks1_header.specs.declared.fault.HeadFault.TheVariants as head
+use Rattle.luks1_header.specs.declared.fault.IterationsOf.TheVariants as of
+use Rattle.luks1_header.specs.declared.luks1.Luks1Slot.{Luks1Slot}
+use Rattle.luks1_header.specs.Faults.{head_key, IsCommonFault, IsEntryFault}
+use Rattle.luks1_header.specs.Header1.{active_word, disabled_word, entry}
 use Rattle.luks_slot.specs.declared.fault.SlotFault.{SlotFault}
 use Rattle.luks_slot.specs.declared.plan.SlotPlan.{SlotPlan}
 use Rattle.luks_slot.specs.Refusal.{slot_refusal}

@@ -3,8 +3,8 @@
 use Rattle.std.proofs.Common.{◌≡◌, ℕ, ◌<◌, List, [], ◌∷◌, length, refl, sym, ap, ◌∙◌, arith, subst, Option, Some, None, IfSome, IsNone}
 use Rattle.serde_json.specs.Data.{Data}
 use Rattle.luks_area.specs.First.{NotAfter, IsLeast}
-use Rattle.luks_head.specs.declared.fault.HeadFault.{HeadFault}
-use Rattle.luks_head.specs.declared.fault.HeadFault.TheVariants as head
+use Rattle.luks1_header.specs.declared.fault.HeadFault.{HeadFault}
+use Rattle.luks1_header.specs.declared.fault.HeadFault.TheVariants as head
 use Rattle.luks_head.specs.Header2.{uuid_field, IsUuidFault}
 use Rattle.luks_rules.specs.declared.table.Section.TheVariants.{Keyslots}
 use Rattle.luks_meta.specs.Faults.{object_at}

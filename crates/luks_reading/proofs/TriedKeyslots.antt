@@ -1,8 +1,8 @@
 -- A keyslot that was tried in vain doesn't open.
 use Rattle.std.proofs.Common.{◌≡◌, ◌≢◌, ℕ, ◌==◌, List, length, Bool, true, false, Option, Some, None, IfOk, IfSome, refl, subst, sym, ◌∙◌, eq-eqb}
 use Rattle.serde_json.specs.Data.{Data}
-use Rattle.luks_head.specs.declared.fault.HeadFault.TheVariants as head
-use Rattle.luks_head.specs.Header1.{active_word, disabled_word, enabled_word, entry}
+use Rattle.luks1_header.specs.declared.fault.HeadFault.TheVariants as head
+use Rattle.luks1_header.specs.Header1.{active_word, disabled_word, enabled_word, entry}
 use Rattle.luks_reading.specs.declared.open_fault.OpenFault.{OpenFault}
 use Rattle.luks_reading.specs.declared.open_fault.OpenFault.TheVariants.{Head, SlotFree, Memory}
 use Rattle.luks_reading.specs.Luks1Keyslots.{Luks1Opens, Luks1Refused}

@@ -3,9 +3,9 @@ use Rattle.std.proofs.Common.{◌≡◌, ◌≢◌, ℕ, List, ◌++◌, Option,
 use Rattle.serde_json.specs.Data.{Data}
 use Rattle.luks_area.specs.First.{NotAfter, IsLeast}
 use Rattle.luks_area.specs.Ranges.{part}
-use Rattle.luks_head.specs.declared.fault.HeadFault.{HeadFault}
+use Rattle.luks1_header.specs.declared.fault.HeadFault.{HeadFault}
+use Rattle.luks1_header.specs.Faults.{head_key, IsCommonFault}
 use Rattle.luks_head.specs.declared.selection.Copies.{Copies}
-use Rattle.luks_head.specs.Faults.{head_key, IsCommonFault}
 use Rattle.luks_head.specs.Header2.{header_at, uuid_field}
 use Rattle.luks_head.specs.Selection.{Choice, luks1, luks2, nothing, Chosen}
 use Rattle.luks_head.proofs.ChoiceFacts.{choices_agree}

@@ -9,12 +9,12 @@ use Rattle.luks_area.specs.declared.area.AreaName.TheVariants.{Segment}
 use Rattle.luks_area.specs.declared.areas.Entry.{Entry}
 use Rattle.luks_area.specs.Area.{Fit}
 use Rattle.luks_area.specs.Ranges.{part}
-use Rattle.luks_head.specs.declared.fault.HeadFault.{HeadFault}
-use Rattle.luks_head.specs.declared.fault.HeadFault.TheVariants as head
-use Rattle.luks_head.specs.declared.luks1.Luks1.{Luks1}
+use Rattle.luks1_header.specs.declared.fault.HeadFault.{HeadFault}
+use Rattle.luks1_header.specs.declared.fault.HeadFault.TheVariants as head
+use Rattle.luks1_header.specs.declared.luks1.Luks1.{Luks1}
+use Rattle.luks1_header.specs.Faults.{IsLuks1Fault as IsLuks1HeadFault}
+use Rattle.luks1_header.specs.Header1.{IsLuks1}
 use Rattle.luks_head.specs.declared.selection.Copies.{Copies}
-use Rattle.luks_head.specs.Faults.{IsLuks1Fault as IsLuks1HeadFault}
-use Rattle.luks_head.specs.Header1.{IsLuks1}
 use Rattle.luks_head.specs.Header2.{header_at, hdr_size, uuid_field, IsUuidField, IsUuidFault}
 use Rattle.luks_head.specs.Selection.{Choice, luks1, luks2, nothing, Chosen}
 use Rattle.luks_rules.specs.declared.fault.MetaFault.{MetaFault}

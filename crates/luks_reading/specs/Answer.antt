@@ -3,11 +3,11 @@ use Rattle.std.specs.Prelude.{◌≡◌, ℕ, ◌+◌, ◌<◌, ◌≤◌, List,
 use Rattle.serde_json.specs.Data.{Data as Value}
 use Rattle.luks_area.specs.First.{IsLeast}
 use Rattle.luks_area.specs.Ranges.{part}
-use Rattle.luks_head.specs.declared.fault.HeadFault.{HeadFault}
-use Rattle.luks_head.specs.declared.fault.HeadFault.TheVariants as head
-use Rattle.luks_head.specs.declared.fault.IterationsOf.TheVariants as of
-use Rattle.luks_head.specs.Faults.{head_key, IsCommonFault, IsEntryFault}
-use Rattle.luks_head.specs.Header1.{active_word, disabled_word, entry}
+use Rattle.luks1_header.specs.declared.fault.HeadFault.{HeadFault}
+use Rattle.luks1_header.specs.declared.fault.HeadFault.TheVariants as head
+use Rattle.luks1_header.specs.declared.fault.IterationsOf.TheVariants as of
+use Rattle.luks1_header.specs.Faults.{head_key, IsCommonFault, IsEntryFault}
+use Rattle.luks1_header.specs.Header1.{active_word, disabled_word, entry}
 use Rattle.luks_head.specs.Header2.{header_at, uuid_field, IsUuidFault}
 use Rattle.luks_head.specs.Selection.{Choice, luks1, luks2, nothing, Chosen, IsSelectFault}
 use Rattle.luks_rules.specs.declared.table.Section.TheVariants.{Keyslots}

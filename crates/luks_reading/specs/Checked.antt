@@ -7,10 +7,10 @@ use Rattle.luks_area.specs.declared.area.AreaName.TheVariants.{Segment}
 use Rattle.luks_area.specs.Area.{Fit, IsAreaFault, area_key}
 use Rattle.luks_area.specs.First.{IsLeast}
 use Rattle.luks_area.specs.Ranges.{part}
-use Rattle.luks_head.specs.declared.fault.HeadFault.{HeadFault}
-use Rattle.luks_head.specs.declared.luks1.Luks1.{Luks1}
-use Rattle.luks_head.specs.Faults.{head_key, IsLuks1Fault as IsLuks1HeadFault}
-use Rattle.luks_head.specs.Header1.{IsLuks1}
+use Rattle.luks1_header.specs.declared.fault.HeadFault.{HeadFault}
+use Rattle.luks1_header.specs.declared.luks1.Luks1.{Luks1}
+use Rattle.luks1_header.specs.Faults.{head_key, IsLuks1Fault as IsLuks1HeadFault}
+use Rattle.luks1_header.specs.Header1.{IsLuks1}
 use Rattle.luks_head.specs.Header2.{header_at, hdr_size, uuid_field, IsUuidField, IsUuidFault}
 use Rattle.luks_head.specs.Selection.{Choice, luks1, luks2, nothing, Chosen, IsSelectFault}
 use Rattle.luks_rules.specs.declared.fault.MetaFault.{MetaFault}

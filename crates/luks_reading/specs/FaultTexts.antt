@@ -1,7 +1,7 @@
 -- How the faults of a whole volume are written: one that was met beneath is written as itself.
 use Rattle.std.specs.Prelude.{ℕ, List, codes}
 use Rattle.luks_area.specs.Printed.{area_fault_text}
-use Rattle.luks_head.specs.FaultTexts.{fault_text as head_fault_text}
+use Rattle.luks1_header.specs.FaultTexts.{fault_text as head_fault_text}
 use Rattle.luks_rules.specs.MetaFault.{fault_text as meta_fault_text}
 use Rattle.luks_slot.specs.Fault.{fault_text as slot_fault_text}
 use Rattle.luks_reading.specs.declared.check_fault.CheckFault.{CheckFault}

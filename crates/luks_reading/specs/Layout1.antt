@@ -4,8 +4,8 @@ use Rattle.luks_area.specs.declared.area.Area.{Area}
 use Rattle.luks_area.specs.declared.area.AreaName.{AreaName}
 use Rattle.luks_area.specs.declared.area.AreaName.TheVariants.{Head1, Head2, Slot, Segment}
 use Rattle.luks_area.specs.Sectors.{rounded_to_sectors}
-use Rattle.luks_head.specs.Bytes.{number_at}
-use Rattle.luks_head.specs.Header1.{entry, entry_stripes}
+use Rattle.luks1_header.specs.Bytes.{number_at}
+use Rattle.luks1_header.specs.Header1.{entry, entry_stripes}
 use Rattle.luks_reading.specs.declared.report.Data.{Data}
 use Rattle.luks_reading.specs.declared.report.Data.TheVariants.{Here}
 

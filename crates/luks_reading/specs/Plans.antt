@@ -4,8 +4,8 @@ use Rattle.std.specs.Prelude.{◌≡◌, ℕ, ◌*◌, ◌<◌, List, codes, Som
 use Rattle.serde_json.specs.Data.{Data}
 use Rattle.luks_area.specs.Ranges.{part}
 use Rattle.luks_area.specs.Sectors.{rounded_to_sectors}
-use Rattle.luks_head.specs.Bytes.{number_at, text_at}
-use Rattle.luks_head.specs.Header1.{entry, entry_iterations, entry_stripes}
+use Rattle.luks1_header.specs.Bytes.{number_at, text_at}
+use Rattle.luks1_header.specs.Header1.{entry, entry_iterations, entry_stripes}
 use Rattle.luks_meta.specs.Content.{content}
 use Rattle.luks_meta.specs.Faults.{object_at, type_at}
 use Rattle.luks_meta.specs.MetaFault.{Json}

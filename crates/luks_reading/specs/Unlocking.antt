@@ -3,8 +3,8 @@ use Rattle.std.specs.Prelude.{◌≡◌, ℕ, zero, suc, ◌==◌, List, [], ◌
 use Rattle.serde_json.specs.Data.{Data as Value}
 use Rattle.luks_area.specs.First.{IsLeast}
 use Rattle.luks_area.specs.Ranges.{part}
-use Rattle.luks_head.specs.Faults.{IsCommonFault}
-use Rattle.luks_head.specs.Header1.{active_word, enabled_word, entry}
+use Rattle.luks1_header.specs.Faults.{IsCommonFault}
+use Rattle.luks1_header.specs.Header1.{active_word, enabled_word, entry}
 use Rattle.luks_head.specs.Header2.{header_at, uuid_field, IsUuidFault}
 use Rattle.luks_head.specs.Selection.{Choice, luks1, luks2, nothing, Chosen}
 use Rattle.luks_rules.specs.declared.table.Member.TheVariants as name

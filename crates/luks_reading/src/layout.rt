@@ -4,7 +4,7 @@ ghost use Rattle.luks_area.specs.declared.area.AreaName.{AreaName as TheName};
 ghost use Rattle.luks_area.specs.declared.area.AreaName.TheVariants.{Segment as SegmentName, Slot as SlotName};
 ghost use Rattle.luks_area.specs.Area.{IsBefore};
 ghost use Rattle.luks_area.specs.Names.{HasArea};
-ghost use Rattle.luks_head.specs.Header1.{IsLuks1};
+ghost use Rattle.luks1_header.specs.Header1.{IsLuks1};
 ghost use Rattle.luks_reading.specs.declared.report.Data.{Data as TheData};
 ghost use Rattle.luks_reading.specs.Layout1.{Luks1Area};
 ghost use Rattle.luks_meta.specs.Content.{content};

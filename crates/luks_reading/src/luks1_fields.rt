@@ -2,9 +2,9 @@
 ghost use Rattle.std.specs.Prelude.{◌≡◌, ◌≤◌, ◌+◌, length, IfOk, IfErr};
 ghost use Rattle.luks_area.specs.First.{IsLeast};
 ghost use Rattle.luks_area.specs.Ranges.{part};
-ghost use Rattle.luks_head.specs.declared.fault.HeadFault.{HeadFault as TheFault};
-ghost use Rattle.luks_head.specs.Faults.{head_key, IsCommonFault};
-ghost use Rattle.luks_head.specs.Header1.{IsCommon};
+ghost use Rattle.luks1_header.specs.declared.fault.HeadFault.{HeadFault as TheFault};
+ghost use Rattle.luks1_header.specs.Faults.{head_key, IsCommonFault};
+ghost use Rattle.luks1_header.specs.Header1.{IsCommon};
 ghost use Rattle.luks_reading.specs.Luks1Keyslots.{EntryRefused, IsEnabled};
 
 use crate::open_fault::OpenFault;

@@ -1,10 +1,10 @@
 //! Opening one keyslot of a volume.
 ghost use Rattle.std.specs.Prelude.{◌≡◌, ◌≢◌, ◌+◌, ◌^◌, ◌<◌, ◌≤◌, ℕ, List, length, IfOk, IfErr, IfSome};
 ghost use Rattle.luks_area.specs.Device.{CountsFailure, IsUnchanged};
-ghost use Rattle.luks_head.specs.declared.fault.HeadFault.{HeadFault as TheFault};
-ghost use Rattle.luks_head.specs.Bytes.{number_at};
-ghost use Rattle.luks_head.specs.Faults.{IsCommonFault};
-ghost use Rattle.luks_head.specs.Header1.{IsCommon};
+ghost use Rattle.luks1_header.specs.declared.fault.HeadFault.{HeadFault as TheFault};
+ghost use Rattle.luks1_header.specs.Bytes.{number_at};
+ghost use Rattle.luks1_header.specs.Faults.{IsCommonFault};
+ghost use Rattle.luks1_header.specs.Header1.{IsCommon};
 ghost use Rattle.luks_head.specs.Header2.{uuid_field};
 ghost use Rattle.luks_meta.specs.Content.{content};
 ghost use Rattle.luks_meta.specs.Objects.{IsAccepted};

@@ -1,7 +1,7 @@
 //! What it takes to open a keyslot, as the headers say it.
 ghost use Rattle.std.specs.Prelude.{◌≡◌, ◌*◌, ℕ, List, Some};
 ghost use Rattle.serde_json.specs.Data.{Data};
-ghost use Rattle.luks_head.specs.Header1.{active_word, enabled_word, IsCommon, IsEntry};
+ghost use Rattle.luks1_header.specs.Header1.{active_word, enabled_word, IsCommon, IsEntry};
 ghost use Rattle.luks_rules.specs.declared.table.Section.TheVariants.{Digests};
 ghost use Rattle.luks_meta.specs.Faults.{object_at};
 ghost use Rattle.luks_meta.specs.Naming.{IsDigestOf};

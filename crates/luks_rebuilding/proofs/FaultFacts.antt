@@ -8,7 +8,7 @@ use Rattle.luks_area.specs.declared.area.Area.{Area as TheArea}
 use Rattle.luks_area.specs.declared.area.AreaFault.{AreaFault}
 use Rattle.luks_area.specs.declared.area.AreaFault.TheVariants.{Outside, Overlap}
 use Rattle.luks_area.specs.declared.area.AreaName.{AreaName}
-use Rattle.luks_head.specs.Bytes.{IsUuid}
+use Rattle.luks1_header.specs.Bytes.{IsUuid}
 use Rattle.luks_rules.proofs.AreaFaults.{one_value}
 use Rattle.luks_meta.specs.Content.{content}
 use Rattle.luks_meta.specs.Objects.{IsConfig}

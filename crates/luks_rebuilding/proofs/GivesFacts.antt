@@ -7,10 +7,10 @@ use Rattle.luks_area.specs.Ranges.{part}
 use Rattle.luks_area.specs.declared.area.Area.{Area}
 use Rattle.luks_area.specs.declared.area.AreaName.{AreaName}
 use Rattle.luks_area.specs.declared.area.AreaName.TheVariants as name
+use Rattle.luks1_header.specs.Bytes.{IsUuid}
 use Rattle.luks_head.proofs.BinaryHeaderFacts.{written_in_step}
 use Rattle.luks_head.proofs.ChoiceFacts.{choices_agree, uuid_sound}
 use Rattle.luks_head.proofs.CopyFacts.{listed_at_least}
-use Rattle.luks_head.specs.Bytes.{IsUuid}
 use Rattle.luks_head.specs.Header2.{hdr_size, header_at, uuid_field, IsUuidField}
 use Rattle.luks_head.specs.Selection.{Choice, luks2, Chosen}
 use Rattle.luks_head.specs.Sizes.{IsListed}

@@ -5,7 +5,7 @@ use Rattle.luks_area.specs.Area.{AreDisjoint, Fit}
 use Rattle.luks_area.specs.Ranges.{part, IsAt, IsOfEither}
 use Rattle.luks_area.specs.Text.{text_of}
 use Rattle.luks_area.specs.declared.area.Area.{Area}
-use Rattle.luks_head.specs.Bytes.{IsUuid}
+use Rattle.luks1_header.specs.Bytes.{IsUuid}
 use Rattle.luks_head.specs.Header2.{header_at, uuid_field, IsUuidField}
 use Rattle.luks_head.specs.Selection.{nothing, Chosen}
 use Rattle.luks_head.specs.Sizes.{IsListed}

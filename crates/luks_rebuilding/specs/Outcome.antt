@@ -2,7 +2,7 @@
 use Rattle.std.specs.Prelude.{◌≢◌, ℕ, List, length, Option, Some, None, ⊤}
 use Rattle.luks_area.specs.Area.{IsAreaFault}
 use Rattle.luks_area.specs.First.{IsLeast}
-use Rattle.luks_head.specs.Bytes.{IsUuid}
+use Rattle.luks1_header.specs.Bytes.{IsUuid}
 use Rattle.luks_head.specs.Selection.{nothing, Chosen}
 use Rattle.luks_rebuilding.specs.Candidates.{IsCandidate, OfTaken}
 use Rattle.luks_rebuilding.specs.KeyAreas.{EndsBeforeRegion, HasHeaderArea}

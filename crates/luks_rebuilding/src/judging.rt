@@ -1,7 +1,7 @@
 //! The faults of rebuilding that are judged by the candidate, before anything is made.
 ghost use Rattle.std.specs.Prelude.{◌≡◌, ◌≢◌, ℕ, List, IfErr, OnOk, false, length, option_map, IsTrue, Some, true, ◌↔◌, ◌+◌, ◌*◌, ◌≤◌};
 ghost use Rattle.luks_area.specs.First.{IsLeast};
-ghost use Rattle.luks_head.specs.Bytes.{IsUuid};
+ghost use Rattle.luks1_header.specs.Bytes.{IsUuid};
 ghost use Rattle.luks_rebuilding.specs.Found.{IsFoundIn, IsReady, IsWhole};
 ghost use Rattle.luks_rebuilding.specs.Outcome.{IsNoUuid, IsRebuildable, IsRebuildFault};
 ghost use Rattle.luks_rebuilding.specs.RebuildFaults.{is_rebuild_failure, rebuild_key};

@@ -2,7 +2,7 @@
 ghost use Rattle.std.specs.Prelude.{◌≡◌, ◌↔◌, ◌+◌, ◌*◌, ◌≤◌, ℕ, List, Option, Some, length};
 ghost use Rattle.serde_json.specs.Data.{Data as Value};
 ghost use Rattle.luks_area.specs.Area.{Fit};
-ghost use Rattle.luks_head.specs.Bytes.{IsUuid};
+ghost use Rattle.luks1_header.specs.Bytes.{IsUuid};
 ghost use Rattle.luks_meta.specs.Accepted.{IsMeta};
 ghost use Rattle.luks_reading.specs.Answer.{AnswerWithin, Opened};
 ghost use Rattle.luks_reading.specs.Checked.{WellFormed};

@@ -1,7 +1,7 @@
 //! The uuid of the new header.
 ghost use Rattle.std.specs.Prelude.{◌≡◌, ◌+◌, ◌^◌, ◌<◌, ◌≤◌, ◌++◌, List, None, Some, length, replicate, option_map, IfOk, ℕ};
 ghost use Rattle.luks_area.specs.Device.{CountsFailure, IsUnchanged, is_failure};
-ghost use Rattle.luks_head.specs.Bytes.{IsUuid};
+ghost use Rattle.luks1_header.specs.Bytes.{IsUuid};
 ghost use Rattle.luks_rebuilding.specs.Candidates.{IsPlace};
 ghost use Rattle.luks_rebuilding.specs.Found.{FindsUuid, IsOwnField};
 ghost use Rattle.luks_rebuilding.specs.Rebuilt.{random_size, uuid_bytes};

@@ -1,7 +1,7 @@
 -- The lines of keyslots, one keyslot more.
 use Rattle.std.proofs.Common.{◌≡◌, ℕ, ◌+◌, ◌<◌, List, [], ◌∷◌, ◌++◌, length, take, get_or, ap, ◌∙◌, sym, refl, append_assoc, append-nil, arith, codes}
 use Rattle.std.proofs.lemmas.List.{length-take-le, take_more}
-use Rattle.luks_head.specs.declared.luks1.Luks1Slot.{Luks1Slot}
+use Rattle.luks1_header.specs.declared.luks1.Luks1Slot.{Luks1Slot}
 use Rattle.luks_show.specs.Luks1Lines.{slot_line, slot_lines}
 use Rattle.luks_show.specs.Texts.{line}
 

@@ -1,11 +1,11 @@
 -- The lines of a LUKS1 header: five, and one for each of its keyslots.
 use Rattle.std.specs.Prelude.{ℕ, ◌+◌, List, [], ◌∷◌, ◌++◌, codes}
 use Rattle.std.specs.Fmt.{decimal}
-use Rattle.luks_head.specs.declared.luks1.Luks1.{Luks1}
-use Rattle.luks_head.specs.declared.luks1.Luks1Common.{Luks1Common}
-use Rattle.luks_head.specs.declared.luks1.Luks1Slot.{Luks1Slot}
-use Rattle.luks_head.specs.declared.luks1.SlotState.{SlotState}
-use Rattle.luks_head.specs.declared.luks1.SlotState.TheVariants.{Enabled, Disabled}
+use Rattle.luks1_header.specs.declared.luks1.Luks1.{Luks1}
+use Rattle.luks1_header.specs.declared.luks1.Luks1Common.{Luks1Common}
+use Rattle.luks1_header.specs.declared.luks1.Luks1Slot.{Luks1Slot}
+use Rattle.luks1_header.specs.declared.luks1.SlotState.{SlotState}
+use Rattle.luks1_header.specs.declared.luks1.SlotState.TheVariants.{Enabled, Disabled}
 use Rattle.luks_show.specs.Texts.{escaped, line}
 
 -- the fields before the keyslots

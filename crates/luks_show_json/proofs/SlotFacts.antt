@@ -1,8 +1,8 @@
 -- The values of keyslots, one keyslot more.
 use Rattle.std.proofs.Common.{◌≡◌, ℕ, ◌+◌, ◌<◌, List, [], ◌∷◌, ◌++◌, length, take, get_or, ap, ◌∙◌, sym, arith}
 use Rattle.std.proofs.lemmas.List.{length-take-le, take_more}
-use Rattle.luks_head.specs.declared.luks1.Luks1Common.{Luks1Common}
-use Rattle.luks_head.specs.declared.luks1.Luks1Slot.{Luks1Slot}
+use Rattle.luks1_header.specs.declared.luks1.Luks1Common.{Luks1Common}
+use Rattle.luks1_header.specs.declared.luks1.Luks1Slot.{Luks1Slot}
 use Rattle.luks_show_json.specs.Luks1Value.{slot_value, slot_values}
 
 slot_values_more : (c : Luks1Common) (n : ℕ) (ss : List Luks1Slot) (s : Luks1Slot)

@@ -12,7 +12,7 @@ use Rattle.uuid.specs.declared.Version.TheVariants.{Random}
 use Rattle.uuid.specs.Text.{digit_place, hex_digit, hyphen, hyphenated_text, is_hyphen_place, lower, nibble}
 use Rattle.uuid.proofs.TextLemmas.{by_index_at, by_index_length, nibble_small}
 use Rattle.luks_area.specs.Text.{is_plain, is_printable, text_of}
-use Rattle.luks_head.specs.Bytes.{is_hexadecimal, is_uuid_byte, IsUuid}
+use Rattle.luks1_header.specs.Bytes.{is_hexadecimal, is_uuid_byte, IsUuid}
 use Rattle.luks_head.specs.Header2.{IsUuidField}
 use Rattle.luks_uuid.specs.NewUuid.{uuid_text, version_4}
 

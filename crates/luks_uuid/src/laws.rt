@@ -1,7 +1,7 @@
 //! Laws on the definitions of this crate. Each function does nothing; its contract is the law.
 ghost use Rattle.std.specs.Prelude.{◌≡◌, ◌++◌, ℕ, List, replicate};
 ghost use Rattle.luks_area.specs.Text.{text_of};
-ghost use Rattle.luks_head.specs.Bytes.{IsUuid};
+ghost use Rattle.luks1_header.specs.Bytes.{IsUuid};
 ghost use Rattle.luks_head.specs.Header2.{IsUuidField};
 ghost use Rattle.luks_uuid.specs.NewUuid.{uuid_text};
 

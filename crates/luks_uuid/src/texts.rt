@@ -1,6 +1,6 @@
 //! Texts of uuids.
 ghost use Rattle.std.specs.Prelude.{◌≡◌, ◌↔◌, ◌++◌, ◌≤◌, length, replicate, IsTrue};
-ghost use Rattle.luks_head.specs.Bytes.{IsUuid};
+ghost use Rattle.luks1_header.specs.Bytes.{IsUuid};
 ghost use Rattle.luks_uuid.specs.NewUuid.{uuid_text};
 
 use arrayvec::ArrayString;

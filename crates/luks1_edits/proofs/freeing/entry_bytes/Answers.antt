@@ -1,5 +1,5 @@
 use Rattle.std.proofs.Common.{subst}
-use Rattle.luks_head.specs.Written.{WritesEntry}
+use Rattle.luks1_header.specs.Written.{WritesEntry}
 use Rattle.luks1_edits.proofs.SlotSetFacts.{set_own}
 use Rattle.luks1_edits.proofs.freeing.entry_bytes.Goals as goal
 

@@ -1,7 +1,7 @@
 use Rattle.std.proofs.Common.{refl, replicate, sym, subst}
-use Rattle.luks_head.specs.Header1.{HoldsEntry}
-use Rattle.luks_head.specs.declared.luks1.Luks1Slot.{Luks1Slot}
-use Rattle.luks_head.specs.declared.luks1.SlotState.TheVariants.{Disabled}
+use Rattle.luks1_header.specs.Header1.{HoldsEntry}
+use Rattle.luks1_header.specs.declared.luks1.Luks1Slot.{Luks1Slot}
+use Rattle.luks1_header.specs.declared.luks1.SlotState.TheVariants.{Disabled}
 use Rattle.luks1_edits.proofs.StepFacts.{half_removed_area, half_removed_entry, keyslot_removed}
 use Rattle.luks1_edits.proofs.freeing.free_keyslot.Goals as goal
 

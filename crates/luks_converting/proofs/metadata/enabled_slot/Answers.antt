@@ -1,4 +1,4 @@
-use Rattle.luks_head.specs.Header1.{entry}
+use Rattle.luks1_header.specs.Header1.{entry}
 use Rattle.luks_converting.proofs.MemberFacts.{slot_off, slot_on}
 use Rattle.luks_converting.proofs.metadata.enabled_slot.Goals as goal
 

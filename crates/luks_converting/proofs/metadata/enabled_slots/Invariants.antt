@@ -1,6 +1,6 @@
 use Rattle.std.proofs.Common.{◌≡◌, ◌<◌, ℕ, List, length, Option}
 use Rattle.std.specs.Prelude.{option_map, slice_index_or}
-use Rattle.luks_head.specs.Header1.{IsLuks1}
+use Rattle.luks1_header.specs.Header1.{IsLuks1}
 use Rattle.luks_making.specs.Converted.{source_slot_members}
 use Rattle.luks_making.specs.declared.source_volume.SourceSlot.{SourceSlot}
 use Rattle.luks_converting.specs.Source.{enabled_slot}

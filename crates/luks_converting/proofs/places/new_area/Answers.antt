@@ -1,5 +1,5 @@
 use Rattle.std.proofs.Common.{◌≡◌, ap, ◌∙◌}
-use Rattle.luks_head.specs.Header1.{entry}
+use Rattle.luks1_header.specs.Header1.{entry}
 use Rattle.luks_making.specs.Converted.{area_size, area_start, source_slot_members}
 use Rattle.luks_converting.specs.Source.{encryption_of, header_members}
 use Rattle.luks_converting.proofs.MemberFacts.{encryption_is}

@@ -2,7 +2,7 @@ use Rattle.std.proofs.Common.{◌≡◌, true, ◌∙◌, subst, ap, arith}
 use Rattle.std.proofs.lemmas.Bool.{eqb-true, eq-eqb, false≢true}
 use Rattle.luks_area.specs.Device.{count_after}
 use Rattle.luks_area.specs.Memory.{memory_bytes}
-use Rattle.luks_head.specs.Faults.{is_device_fault}
+use Rattle.luks1_header.specs.Faults.{is_device_fault}
 use Rattle.luks_head.specs.Selection.{IsSelected, IsRefused}
 use Rattle.luks_head.specs.declared.selection.Selected.TheVariants.{V1, V2}
 use Rattle.luks_leftovers.specs.BehindZeros.{behind_zeros}

@@ -1,7 +1,7 @@
 -- The first fault of the area that was kept or read is that of the copy's area.
 use Rattle.std.proofs.Common.{◌∙◌, List, ℕ, rules, subst}
 use Rattle.std.proofs.lemmas.Result.{err_from_is_err_and}
-use Rattle.luks_head.specs.declared.fault.HeadFault.{HeadFault}
+use Rattle.luks1_header.specs.declared.fault.HeadFault.{HeadFault}
 use Rattle.luks_head.specs.Header2.{IsUuidFault}
 use Rattle.luks_meta.specs.Content.{content}
 use Rattle.luks_reading.specs.ChosenCopies.{json_of, CopyRefused, IsCleared}

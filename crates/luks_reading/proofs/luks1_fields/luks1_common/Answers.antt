@@ -3,9 +3,9 @@ use Rattle.std.proofs.Common.{subst, sym, List, ℕ, lit≤}
 use Rattle.std.proofs.lemmas.Result.{IfErr-weaker, IfOk-weaker}
 use Rattle.luks_area.specs.First.{IsLeast}
 use Rattle.luks_area.specs.Ranges.{part}
-use Rattle.luks_head.specs.Faults.{head_key, IsCommonFault}
-use Rattle.luks_head.specs.Header1.{IsCommon}
-use Rattle.luks_head.proofs.Luks1HeaderFacts.{back, common_fault_moves, common_moves, first_of}
+use Rattle.luks1_header.specs.Faults.{head_key, IsCommonFault}
+use Rattle.luks1_header.specs.Header1.{IsCommon}
+use Rattle.luks1_header.proofs.Luks1HeaderFacts.{back, common_fault_moves, common_moves, first_of}
 use Rattle.luks_reading.proofs.luks1_fields.luks1_common.Goals as goal
 
 pub returns-clause-found : goal.returns-clause-found

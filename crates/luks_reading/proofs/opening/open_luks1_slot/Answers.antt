@@ -1,7 +1,7 @@
 -- Each exit is the first refusal of its step, or the answer of the keyslot's plan.
 use Rattle.std.proofs.Common.{◌∙◌, refl}
 use Rattle.std.proofs.lemmas.Result.{err_from_is_err_and, IfOk-weaker}
-use Rattle.luks_head.specs.Header1.{entry}
+use Rattle.luks1_header.specs.Header1.{entry}
 use Rattle.luks_reading.specs.Plans.{HasLuks1Plan}
 use Rattle.luks_reading.proofs.OptionFacts.{some_weaker}
 use Rattle.luks_reading.proofs.Luks1Refusals.{entry_first, plan_first, plan_opens}

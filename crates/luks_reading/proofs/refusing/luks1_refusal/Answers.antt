@@ -1,7 +1,7 @@
 -- Each exit is the first refusal of its step, or what the plan is refused by.
 use Rattle.std.proofs.Common.{subst, sym}
 use Rattle.luks_area.specs.First.{IsLeast}
-use Rattle.luks_head.specs.Header1.{entry}
+use Rattle.luks1_header.specs.Header1.{entry}
 use Rattle.luks_reading.specs.Answer.{open_key, IsLuks1Refusal}
 use Rattle.luks_reading.specs.Plans.{HasLuks1Plan}
 use Rattle.luks_reading.proofs.Luks1Refusals.{common_refused, entry_first, plan_judged}

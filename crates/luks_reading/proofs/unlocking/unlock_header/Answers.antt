@@ -1,8 +1,8 @@
 -- What the header that counts gives is what the volume gives.
 use Rattle.std.proofs.Common.{◌≡◌, ◌∙◌, ℕ, List, length, subst, sym}
 use Rattle.std.proofs.lemmas.Result.{IfErr-weaker, IfOk-weaker}
-use Rattle.luks_head.specs.declared.fault.HeadFault.{HeadFault}
-use Rattle.luks_head.specs.Faults.{IsCommonFault}
+use Rattle.luks1_header.specs.declared.fault.HeadFault.{HeadFault}
+use Rattle.luks1_header.specs.Faults.{IsCommonFault}
 use Rattle.luks_head.specs.Header2.{header_at}
 use Rattle.luks_meta.specs.Content.{content}
 use Rattle.luks_reading.specs.Header.{json_at, IsHeader}

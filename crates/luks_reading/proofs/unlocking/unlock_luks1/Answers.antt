@@ -2,7 +2,7 @@
 use Rattle.std.proofs.Common.{◌∙◌, ◌==◌, ◌<◌, ℕ, List, Option, Some, subst, arith, below_more}
 use Rattle.std.proofs.lemmas.Result.{err_from_is_err_and}
 use Rattle.luks_area.specs.Device.{unchanged-then}
-use Rattle.luks_head.specs.Header1.{active_word, enabled_word, entry}
+use Rattle.luks1_header.specs.Header1.{active_word, enabled_word, entry}
 use Rattle.luks_reading.specs.Luks1Keyslots.{Luks1Opens}
 use Rattle.luks_reading.specs.KeyslotsTried.{Luks1DoesNotOpen, Luks1Tried}
 use Rattle.luks_reading.specs.Unlocking.{luks1_order}

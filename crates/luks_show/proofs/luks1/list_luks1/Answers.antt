@@ -1,6 +1,6 @@
 use Rattle.std.proofs.Common.{[], ◌++◌, ap, ◌∙◌, rules}
 use Rattle.std.proofs.lemmas.List.{take_all}
-use Rattle.luks_head.specs.declared.luks1.SlotState.TheVariants.{Enabled}
+use Rattle.luks1_header.specs.declared.luks1.SlotState.TheVariants.{Enabled}
 use Rattle.std.proofs.Output.{has_written_append, has_written_of_eq}
 use Rattle.luks_show.specs.Luks1Lines.{common_lines, slot_lines}
 use Rattle.luks_show.proofs.Luks1Facts.{one_slot_more}

@@ -2,7 +2,7 @@ use Rattle.std.proofs.Common.{[], ◌∷◌, ◌++◌, map, take, ap, ◌∙◌}
 use Rattle.std.proofs.lemmas.List.{map-append, take_all}
 use Rattle.serde_json.specs.Data.{array}
 use Rattle.serde_json.specs.View.{items_of, view}
-use Rattle.luks_head.specs.declared.luks1.SlotState.TheVariants.{Enabled}
+use Rattle.luks1_header.specs.declared.luks1.SlotState.TheVariants.{Enabled}
 use Rattle.luks_show_json.specs.Luks1Value.{slot_values}
 use Rattle.luks_show_json.proofs.SlotFacts.{one_slot_more}
 use Rattle.luks_show_json.proofs.luks1.slots_value.Goals as goal

@@ -1,5 +1,5 @@
 use Rattle.std.proofs.Common.{sym, ◌∙◌}
-use Rattle.luks_head.proofs.UuidTextFacts.{read_from, reads_as}
+use Rattle.luks1_header.proofs.UuidTextFacts.{read_from, reads_as}
 use Rattle.luks_uuid.proofs.texts.is_uuid.Goals as goal
 
 pub returns-then-text-eq36 : goal.returns-then-text-eq36
