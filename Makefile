@@ -1,11 +1,11 @@
 # luks: what can be done here, each by `make TARGET`.
 #
-#   demo      prove, build and run the main job: luks check on the sample image; prints 'accepted luks1 areas 10'
+#   demo      run the main job, unproved: luks check on the sample image; ends with 'accepted luks1 areas 10'
 #   build     prove and build the program, and leave it at bin/luks
 #   test      the merge gate: every proof from nothing, the edits that must fail, each test, each program; and what it took:
 #             processor time by crate for its proof, its tests and its edits
 #   quick     between gates: proofs and tests of the crates that changed since BASE (the last commit) and of what stands on them
-#   plants    between gates: the edits that must fail of CRATE (of all), planted at once, each refused at its own function
+#   plants    between gates: the wrong bodies of CRATE (of all), planted at once, each refused at its own function
 #   install   put the program into PREFIX/bin, its manual page into MANDIR, its completions into BASHCOMPDIR, ZSHCOMPDIR and FISHCOMPDIR
 #             (PREFIX is /usr/local, the others are Debian's places under it, for fish /etc/fish/completions, since fish looks into none there;
 #             all under DESTDIR where that is given)
@@ -36,8 +36,7 @@ help:
 	@sed -n '/^#/!q; s/^#$$//p; s/^# //p' $(firstword $(MAKEFILE_LIST))
 
 demo: toolchain
-	@RT="$(RT)" tools/prove luks
-	@cd crates/luks && $(RT) run -- check data/l1.img
+	@RT="$(RT)" tools/demo
 
 # The program that is run here only prints its help: its status is 0 exactly where it was proved, built and runs.
 define build_program
