@@ -1,5 +1,5 @@
 use crate::helps;
-use crate::rebuild_line::{rebuild_command, rebuilding_of};
+use crate::rebuild_line::{REBUILD, REBUILD_MORE, rebuilding_of};
 use clap::builder::ValueParser;
 use clap::error::ErrorKind;
 use clap::{Arg, ArgAction, ArgMatches, Command, Error};
@@ -26,7 +26,7 @@ pub enum Asked<'a> {
 /// The fault is that of `clap`: a mistake in the words, a request for help, or memory that was
 /// refused.
 pub fn parse<'a>(alloc: Global, words: &'a [&'a str]) -> Result<Asked<'a>, Error> {
-    let mut program = program(alloc)?;
+    let mut program = program(alloc, true)?;
     let matches = match program.try_get_matches_from_mut(words) {
         Ok(matches) => matches,
         Err(fault) => return Err(without_format(alloc, words, fault)),
@@ -50,10 +50,7 @@ fn without_format(alloc: Global, words: &[&str], fault: Error) -> Error {
 }
 
 fn fault_without_format(alloc: Global, words: &[&str]) -> Result<(), Error> {
-    let mut program = readers_and_edits(alloc)?
-        .subcommand(convert_command(alloc)?)?
-        .subcommand(rebuild_command(alloc)?)?
-        .subcommand(explain_command(alloc)?)?;
+    let mut program = program(alloc, false)?;
     let _ = program.try_get_matches_from_mut(words)?;
     Ok(())
 }
@@ -64,7 +61,7 @@ pub fn line<'a>(alloc: Global, words: &'a [&'a str]) -> Result<Line<'a>, Error> 
     match parse(alloc, words)? {
         Asked::Volume(line) => Ok(line),
         Asked::Explain(_) => {
-            let mut program = program(alloc)?;
+            let mut program = program(alloc, true)?;
             Err(program.error(ErrorKind::InvalidSubcommand, "no volume was named")?)
         }
     }
@@ -184,271 +181,462 @@ fn form_of(given: &ArgMatches<'_>) -> ShowAs {
     }
 }
 
-fn program<'a>(alloc: Global) -> Result<Command<'a>, AllocError> {
-    readers_and_edits(alloc)?
-        .subcommand(format_command(alloc)?)?
-        .subcommand(convert_command(alloc)?)?
-        .subcommand(rebuild_command(alloc)?)?
-        .subcommand(explain_command(alloc)?)
-}
-
-/// The program with the commands that stand before `format`.
-fn readers_and_edits<'a>(alloc: Global) -> Result<Command<'a>, AllocError> {
-    Command::new(alloc, "luks")
+/// The program, with `format` or without it.
+fn program<'a>(alloc: Global, formats: bool) -> Result<Command<'a>, AllocError> {
+    let mut program = Command::new(alloc, "luks")
         .version(helps::VERSION)
         .about(helps::PROGRAM)
         .after_help(helps::PROGRAM_MORE)
-        .subcommand_required(true)
-        .subcommand(check_command(alloc)?)?
-        .subcommand(show_command(alloc)?)?
-        .subcommand(open_command(alloc)?)?
-        .subcommand(add_command(alloc)?)?
-        .subcommand(change_command(alloc)?)?
-        .subcommand(remove_command(alloc)?)?
-        .subcommand(repair_command(alloc)?)?
-        .subcommand(label_command(alloc)?)
+        .subcommand_required(true);
+    for one in COMMANDS.iter() {
+        let one = description(*one);
+        if formats || !one.overwrites {
+            program = program.subcommand(command(alloc, &one)?)?;
+        }
+    }
+    Ok(program)
 }
 
-fn check_command<'a>(alloc: Global) -> Result<Command<'a>, AllocError> {
-    Command::new(alloc, "check")
-        .about(helps::CHECK)
-        .after_help(helps::CHECK_MORE)
-        .arg(volume_argument(alloc))?
-        .arg(detached_option(alloc))
+/// A command.
+fn command<'a>(alloc: Global, described: &Described) -> Result<Command<'a>, AllocError> {
+    let mut command = Command::new(alloc, described.name)
+        .about(described.about)
+        .after_help(described.more);
+    if let Some(usage) = described.usage {
+        command = command.override_usage(usage);
+    }
+    for word in described.words.iter() {
+        command = command.arg(argument(alloc, as_written(*word)))?;
+    }
+    Ok(command)
 }
 
-fn show_command<'a>(alloc: Global) -> Result<Command<'a>, AllocError> {
-    Command::new(alloc, "show")
-        .about(helps::SHOW)
-        .after_help(helps::SHOW_MORE)
-        .arg(volume_argument(alloc))?
-        .arg(json_option(alloc))
+/// A command as its help has it: its name, what it does, its usage where that isn't `clap`'s, and its words in the help's order.
+#[derive(Clone, Copy)]
+struct Described {
+    name: &'static str,
+    overwrites: bool,
+    about: &'static str,
+    usage: Option<&'static str>,
+    more: &'static str,
+    words: &'static [Word],
 }
 
-fn open_command<'a>(alloc: Global) -> Result<Command<'a>, AllocError> {
-    Command::new(alloc, "open")
-        .about(helps::OPEN)
-        .after_help(helps::OPEN_MORE)
-        .arg(volume_argument(alloc))?
-        .arg(passphrase_option(alloc))?
-        .arg(slot_option(alloc).help("The keyslot to try, 0 to 31; else all"))?
-        .arg(memory_option(alloc))
+/// What may follow a command's name, as it is written there.
+#[derive(Clone, Copy)]
+struct Written {
+    name: &'static str,
+    needed: bool,
+    help: &'static str,
+    hides: bool,
+    kind: Kind,
 }
 
-fn add_command<'a>(alloc: Global) -> Result<Command<'a>, AllocError> {
-    Command::new(alloc, "add")
-        .about(helps::ADD)
-        .override_usage(helps::ADD_USAGE)
-        .after_help(helps::ADD_MORE)
-        .arg(volume_argument(alloc))?
-        .arg(opened_slot_option(alloc))?
-        .arg(passphrase_option(alloc))?
-        .arg(new_option(alloc))?
-        .arg(random_option(alloc).required(true))?
-        .arg(to_option(alloc))?
-        .arg(iterations_option(alloc))?
-        .arg(memory_option(alloc))?
-        .arg(detached_option(alloc))
+/// How it is written: alone, or after its name as an option, with the name of its value.
+#[derive(Clone, Copy)]
+enum Kind {
+    Operand,
+    Flag,
+    Text(&'static str),
+    Parsed(&'static str, ValueParser<'static>),
+    Preset(&'static str, ValueParser<'static>, &'static str),
 }
 
-fn change_command<'a>(alloc: Global) -> Result<Command<'a>, AllocError> {
-    Command::new(alloc, "change")
-        .about(helps::CHANGE)
-        .override_usage(helps::CHANGE_USAGE)
-        .after_help(helps::CHANGE_MORE)
-        .arg(volume_argument(alloc))?
-        .arg(opened_slot_option(alloc))?
-        .arg(passphrase_option(alloc))?
-        .arg(new_option(alloc))?
-        .arg(random_option(alloc).required(true))?
-        .arg(iterations_option(alloc))?
-        .arg(memory_option(alloc))?
-        .arg(detached_option(alloc))
+/// What may follow a command's name.
+#[derive(Clone, Copy)]
+enum Word {
+    Volume,
+    Source,
+    Target,
+    Text,
+    Fault,
+    Detached,
+    DetachedSource,
+    Json,
+    Passphrase,
+    TriedSlot,
+    OpenedSlot,
+    Memory,
+    New,
+    Random,
+    NeededRandom,
+    To,
+    Iterations,
+    Version,
+    Hash,
+    Damaged,
+    Header,
+    Second,
+    Uuid,
 }
 
-fn remove_command<'a>(alloc: Global) -> Result<Command<'a>, AllocError> {
-    Command::new(alloc, "remove")
-        .about(helps::REMOVE)
-        .after_help(helps::REMOVE_MORE)
-        .arg(volume_argument(alloc))?
-        .arg(opened_slot_option(alloc))?
-        .arg(passphrase_option(alloc))?
-        .arg(random_option(alloc))?
-        .arg(memory_option(alloc))?
-        .arg(detached_option(alloc))
+fn as_written(word: Word) -> Written {
+    match word {
+        Word::Volume => Written {
+            name: "VOLUME",
+            needed: true,
+            help: "The volume, or its detached header",
+            hides: false,
+            kind: Kind::Operand,
+        },
+        Word::Source => Written {
+            name: "SOURCE",
+            needed: true,
+            help: "The LUKS1 volume, or its detached header",
+            hides: false,
+            kind: Kind::Operand,
+        },
+        Word::Target => Written {
+            name: "TARGET",
+            needed: true,
+            help: "The file of the new header, of at least 16 MiB",
+            hides: false,
+            kind: Kind::Operand,
+        },
+        Word::Text => Written {
+            name: "TEXT",
+            needed: true,
+            help: "The label, at most 47 plain characters",
+            hides: false,
+            kind: Kind::Operand,
+        },
+        Word::Fault => Written {
+            name: "FAULT",
+            needed: false,
+            help: "The fault, or its name alone; else all are listed",
+            hides: false,
+            kind: Kind::Operand,
+        },
+        Word::Detached => Written {
+            name: "detached",
+            needed: false,
+            help: "The data is on another device, no segment judged",
+            hides: false,
+            kind: Kind::Flag,
+        },
+        Word::DetachedSource => Written {
+            name: "detached",
+            needed: false,
+            help: "SOURCE is a detached header, no segment judged",
+            hides: false,
+            kind: Kind::Flag,
+        },
+        Word::Json => Written {
+            name: "json",
+            needed: false,
+            help: "One JSON object in place of the lines, for scripts",
+            hides: false,
+            kind: Kind::Flag,
+        },
+        Word::Passphrase => Written {
+            name: "passphrase",
+            needed: true,
+            help: "The file of the passphrase, taken whole",
+            hides: false,
+            kind: Kind::Text("FILE"),
+        },
+        Word::TriedSlot => Written {
+            name: "slot",
+            needed: false,
+            help: "The keyslot to try, 0 to 31; else all",
+            hides: false,
+            kind: Kind::Parsed("N", ValueParser::Unsigned(0, 31)),
+        },
+        Word::OpenedSlot => Written {
+            name: "slot",
+            needed: true,
+            help: "The keyslot that the passphrase opens, 0 to 31",
+            hides: false,
+            kind: Kind::Parsed("N", ValueParser::Unsigned(0, 31)),
+        },
+        Word::Memory => Written {
+            name: "memory",
+            needed: false,
+            help: "MiB of memory for Argon2, 0 to 4194303",
+            hides: false,
+            kind: Kind::Preset("MIB", ValueParser::Unsigned(0, 4194303), "0"),
+        },
+        Word::New => Written {
+            name: "new",
+            needed: true,
+            help: "The file of the new passphrase, taken whole",
+            hides: false,
+            kind: Kind::Text("FILE"),
+        },
+        Word::Random => Written {
+            name: "random",
+            needed: false,
+            help: "The file of the random bytes, as /dev/urandom",
+            hides: false,
+            kind: Kind::Text("FILE"),
+        },
+        Word::NeededRandom => Written {
+            name: "random",
+            needed: true,
+            help: "The file of the random bytes, as /dev/urandom",
+            hides: false,
+            kind: Kind::Text("FILE"),
+        },
+        Word::To => Written {
+            name: "to",
+            needed: false,
+            help: "The new keyslot, 0 to 31; else the least free",
+            hides: false,
+            kind: Kind::Parsed("N", ValueParser::Unsigned(0, 31)),
+        },
+        Word::Iterations => Written {
+            name: "iterations",
+            needed: false,
+            help: "Iterations of PBKDF2, at least 1000",
+            hides: false,
+            kind: Kind::Preset("N", ValueParser::Unsigned(0, 4294967295), "100000"),
+        },
+        Word::Version => Written {
+            name: "version",
+            needed: false,
+            help: "LUKS1 or LUKS2",
+            hides: false,
+            kind: Kind::Preset("VERSION", ValueParser::Names(VERSIONS), "2"),
+        },
+        Word::Hash => Written {
+            name: "hash",
+            needed: false,
+            help: HashName::LISTED,
+            hides: true,
+            kind: Kind::Preset("HASH", ValueParser::Names(HashName::NAMES), "sha256"),
+        },
+        Word::Damaged => Written {
+            name: "SOURCE",
+            needed: true,
+            help: "The LUKS2 volume, or its detached header",
+            hides: false,
+            kind: Kind::Operand,
+        },
+        Word::Header => Written {
+            name: "TARGET",
+            needed: true,
+            help: "The file of the new header, mostly of 16 MiB",
+            hides: false,
+            kind: Kind::Operand,
+        },
+        Word::Second => Written {
+            name: "second",
+            needed: false,
+            help: "Take the metadata of a second copy",
+            hides: false,
+            kind: Kind::Flag,
+        },
+        Word::Uuid => Written {
+            name: "uuid",
+            needed: false,
+            help: "The uuid of the new header; else SOURCE's, or a new one",
+            hides: false,
+            kind: Kind::Text("TEXT"),
+        },
+    }
 }
 
-fn repair_command<'a>(alloc: Global) -> Result<Command<'a>, AllocError> {
-    Command::new(alloc, "repair")
-        .about(helps::REPAIR)
-        .after_help(helps::REPAIR_MORE)
-        .arg(volume_argument(alloc))?
-        .arg(random_option(alloc))?
-        .arg(detached_option(alloc))
+/// The commands, in the help's order.
+static COMMANDS: [Named; 12] = [
+    Named::Check,
+    Named::Show,
+    Named::Open,
+    Named::Add,
+    Named::Change,
+    Named::Remove,
+    Named::Repair,
+    Named::Label,
+    Named::Format,
+    Named::Convert,
+    Named::Rebuild,
+    Named::Explain,
+];
+
+#[derive(Clone, Copy)]
+enum Named {
+    Check,
+    Show,
+    Open,
+    Add,
+    Change,
+    Remove,
+    Repair,
+    Label,
+    Format,
+    Convert,
+    Rebuild,
+    Explain,
 }
 
-fn label_command<'a>(alloc: Global) -> Result<Command<'a>, AllocError> {
-    Command::new(alloc, "label")
-        .about(helps::LABEL)
-        .after_help(helps::LABEL_MORE)
-        .arg(volume_argument(alloc))?
-        .arg(text_argument(alloc))?
-        .arg(random_option(alloc).required(true))?
-        .arg(detached_option(alloc))
+fn description(command: Named) -> Described {
+    match command {
+        Named::Check => Described {
+            name: "check",
+            overwrites: false,
+            about: helps::CHECK,
+            usage: None,
+            more: helps::CHECK_MORE,
+            words: &[Word::Volume, Word::Detached],
+        },
+        Named::Show => Described {
+            name: "show",
+            overwrites: false,
+            about: helps::SHOW,
+            usage: None,
+            more: helps::SHOW_MORE,
+            words: &[Word::Volume, Word::Json],
+        },
+        Named::Open => Described {
+            name: "open",
+            overwrites: false,
+            about: helps::OPEN,
+            usage: None,
+            more: helps::OPEN_MORE,
+            words: &[
+                Word::Volume,
+                Word::Passphrase,
+                Word::TriedSlot,
+                Word::Memory,
+            ],
+        },
+        Named::Add => Described {
+            name: "add",
+            overwrites: false,
+            about: helps::ADD,
+            usage: Some(helps::ADD_USAGE),
+            more: helps::ADD_MORE,
+            words: &[
+                Word::Volume,
+                Word::OpenedSlot,
+                Word::Passphrase,
+                Word::New,
+                Word::NeededRandom,
+                Word::To,
+                Word::Iterations,
+                Word::Memory,
+                Word::Detached,
+            ],
+        },
+        Named::Change => Described {
+            name: "change",
+            overwrites: false,
+            about: helps::CHANGE,
+            usage: Some(helps::CHANGE_USAGE),
+            more: helps::CHANGE_MORE,
+            words: &[
+                Word::Volume,
+                Word::OpenedSlot,
+                Word::Passphrase,
+                Word::New,
+                Word::NeededRandom,
+                Word::Iterations,
+                Word::Memory,
+                Word::Detached,
+            ],
+        },
+        Named::Remove => Described {
+            name: "remove",
+            overwrites: false,
+            about: helps::REMOVE,
+            usage: None,
+            more: helps::REMOVE_MORE,
+            words: &[
+                Word::Volume,
+                Word::OpenedSlot,
+                Word::Passphrase,
+                Word::Random,
+                Word::Memory,
+                Word::Detached,
+            ],
+        },
+        Named::Repair => Described {
+            name: "repair",
+            overwrites: false,
+            about: helps::REPAIR,
+            usage: None,
+            more: helps::REPAIR_MORE,
+            words: &[Word::Volume, Word::Random, Word::Detached],
+        },
+        Named::Label => Described {
+            name: "label",
+            overwrites: false,
+            about: helps::LABEL,
+            usage: None,
+            more: helps::LABEL_MORE,
+            words: &[Word::Volume, Word::Text, Word::NeededRandom, Word::Detached],
+        },
+        Named::Format => Described {
+            name: "format",
+            overwrites: true,
+            about: helps::FORMAT,
+            usage: None,
+            more: helps::FORMAT_MORE,
+            words: &[
+                Word::Volume,
+                Word::Passphrase,
+                Word::NeededRandom,
+                Word::Version,
+                Word::Hash,
+                Word::Iterations,
+                Word::Detached,
+            ],
+        },
+        Named::Convert => Described {
+            name: "convert",
+            overwrites: false,
+            about: helps::CONVERT,
+            usage: None,
+            more: helps::CONVERT_MORE,
+            words: &[
+                Word::Source,
+                Word::Target,
+                Word::NeededRandom,
+                Word::DetachedSource,
+            ],
+        },
+        Named::Rebuild => Described {
+            name: "rebuild",
+            overwrites: false,
+            about: REBUILD,
+            usage: None,
+            more: REBUILD_MORE,
+            words: &[
+                Word::Damaged,
+                Word::Header,
+                Word::NeededRandom,
+                Word::Second,
+                Word::Uuid,
+            ],
+        },
+        Named::Explain => Described {
+            name: "explain",
+            overwrites: false,
+            about: helps::EXPLAIN,
+            usage: None,
+            more: helps::EXPLAIN_MORE,
+            words: &[Word::Fault],
+        },
+    }
 }
 
-fn format_command<'a>(alloc: Global) -> Result<Command<'a>, AllocError> {
-    Command::new(alloc, "format")
-        .about(helps::FORMAT)
-        .after_help(helps::FORMAT_MORE)
-        .arg(volume_argument(alloc))?
-        .arg(passphrase_option(alloc))?
-        .arg(random_option(alloc).required(true))?
-        .arg(version_option(alloc))?
-        .arg(hash_option(alloc))?
-        .arg(iterations_option(alloc))?
-        .arg(detached_option(alloc))
-}
-
-fn convert_command<'a>(alloc: Global) -> Result<Command<'a>, AllocError> {
-    Command::new(alloc, "convert")
-        .about(helps::CONVERT)
-        .after_help(helps::CONVERT_MORE)
-        .arg(source_argument(alloc))?
-        .arg(target_argument(alloc))?
-        .arg(random_option(alloc).required(true))?
-        .arg(detached_option(alloc).help("SOURCE is a detached header, no segment judged"))
-}
-
-fn explain_command<'a>(alloc: Global) -> Result<Command<'a>, AllocError> {
-    Command::new(alloc, "explain")
-        .about(helps::EXPLAIN)
-        .after_help(helps::EXPLAIN_MORE)
-        .arg(fault_argument(alloc))
-}
-
-fn volume_argument<'a>(alloc: Global) -> Arg<'a> {
-    Arg::new(alloc, "VOLUME")
-        .required(true)
-        .help("The volume, or its detached header")
-}
-
-fn source_argument<'a>(alloc: Global) -> Arg<'a> {
-    Arg::new(alloc, "SOURCE")
-        .required(true)
-        .help("The LUKS1 volume, or its detached header")
-}
-
-fn target_argument<'a>(alloc: Global) -> Arg<'a> {
-    Arg::new(alloc, "TARGET")
-        .required(true)
-        .help("The file of the new header, of at least 16 MiB")
-}
-
-fn text_argument<'a>(alloc: Global) -> Arg<'a> {
-    Arg::new(alloc, "TEXT")
-        .required(true)
-        .help("The label, at most 47 plain characters")
-}
-
-fn fault_argument<'a>(alloc: Global) -> Arg<'a> {
-    Arg::new(alloc, "FAULT").help("The fault, or its name alone; else all are listed")
-}
-
-fn detached_option<'a>(alloc: Global) -> Arg<'a> {
-    Arg::new(alloc, "detached")
-        .long("detached")
-        .action(ArgAction::SetTrue)
-        .help("The data is on another device, no segment judged")
-}
-
-fn json_option<'a>(alloc: Global) -> Arg<'a> {
-    Arg::new(alloc, "json")
-        .long("json")
-        .action(ArgAction::SetTrue)
-        .help("One JSON object in place of the lines, for scripts")
-}
-
-fn passphrase_option<'a>(alloc: Global) -> Arg<'a> {
-    Arg::new(alloc, "passphrase")
-        .long("passphrase")
-        .value_name("FILE")
-        .required(true)
-        .help("The file of the passphrase, taken whole")
-}
-
-fn slot_option<'a>(alloc: Global) -> Arg<'a> {
-    Arg::new(alloc, "slot")
-        .long("slot")
-        .value_name("N")
-        .value_parser(clap::value_parser!(u8).range(0..=31))
-}
-
-fn memory_option<'a>(alloc: Global) -> Arg<'a> {
-    Arg::new(alloc, "memory")
-        .long("memory")
-        .value_name("MIB")
-        .value_parser(clap::value_parser!(u32).range(0..=4194303))
-        .default_value("0")
-        .help("MiB of memory for Argon2, 0 to 4194303")
-}
-
-fn opened_slot_option<'a>(alloc: Global) -> Arg<'a> {
-    slot_option(alloc)
-        .required(true)
-        .help("The keyslot that the passphrase opens, 0 to 31")
-}
-
-fn to_option<'a>(alloc: Global) -> Arg<'a> {
-    Arg::new(alloc, "to")
-        .long("to")
-        .value_name("N")
-        .value_parser(clap::value_parser!(u8).range(0..=31))
-        .help("The new keyslot, 0 to 31; else the least free")
-}
-
-fn new_option<'a>(alloc: Global) -> Arg<'a> {
-    Arg::new(alloc, "new")
-        .long("new")
-        .value_name("FILE")
-        .required(true)
-        .help("The file of the new passphrase, taken whole")
-}
-
-pub(crate) fn random_option<'a>(alloc: Global) -> Arg<'a> {
-    Arg::new(alloc, "random")
-        .long("random")
-        .value_name("FILE")
-        .help("The file of the random bytes, as /dev/urandom")
+fn argument<'a>(alloc: Global, word: Written) -> Arg<'a> {
+    let arg = Arg::new(alloc, word.name)
+        .required(word.needed)
+        .help(word.help);
+    match word.kind {
+        Kind::Operand => arg,
+        Kind::Flag => arg.long(word.name).action(ArgAction::SetTrue),
+        Kind::Text(name) => arg.long(word.name).value_name(name),
+        Kind::Parsed(name, parser) => arg.long(word.name).value_name(name).value_parser(parser),
+        Kind::Preset(name, parser, value) => {
+            arg.long(word.name)
+                .value_name(name)
+                .value_parser(parser)
+                .default_value(value)
+                .hide_possible_values(word.hides)
+        }
+    }
 }
 
 /// The versions of LUKS that a volume can be made of.
 const VERSIONS: &[&str] = &["1", "2"];
-
-fn version_option<'a>(alloc: Global) -> Arg<'a> {
-    Arg::new(alloc, "version")
-        .long("version")
-        .value_name("VERSION")
-        .value_parser(ValueParser::Names(VERSIONS))
-        .default_value("2")
-        .help("LUKS1 or LUKS2")
-}
-
-fn hash_option<'a>(alloc: Global) -> Arg<'a> {
-    Arg::new(alloc, "hash")
-        .long("hash")
-        .value_name("HASH")
-        .value_parser(ValueParser::Names(HashName::NAMES))
-        .default_value("sha256")
-        .hide_possible_values(true)
-        .help(HashName::LISTED)
-}
-
-fn iterations_option<'a>(alloc: Global) -> Arg<'a> {
-    Arg::new(alloc, "iterations")
-        .long("iterations")
-        .value_name("N")
-        .value_parser(clap::value_parser!(u32))
-        .default_value("100000")
-        .help("Iterations of PBKDF2, at least 1000")
-}

@@ -1,9 +1,7 @@
 //! The words of the command `rebuild`.
 
-use crate::command_line::random_option;
-use clap::{Arg, ArgAction, ArgMatches, Command};
+use clap::ArgMatches;
 use luks_request::Rebuilding;
-use std::alloc::{AllocError, Global};
 
 /// What the words after `rebuild` ask for.
 pub(crate) fn rebuilding_of<'a>(given: &ArgMatches<'a>) -> Option<Rebuilding<'a>> {
@@ -15,47 +13,9 @@ pub(crate) fn rebuilding_of<'a>(given: &ArgMatches<'a>) -> Option<Rebuilding<'a>
     })
 }
 
-/// The command.
-pub(crate) fn rebuild_command<'a>(alloc: Global) -> Result<Command<'a>, AllocError> {
-    Command::new(alloc, "rebuild")
-        .about(REBUILD)
-        .after_help(REBUILD_MORE)
-        .arg(damaged_argument(alloc))?
-        .arg(header_argument(alloc))?
-        .arg(random_option(alloc).required(true))?
-        .arg(second_option(alloc))?
-        .arg(uuid_option(alloc))
-}
+pub(crate) const REBUILD: &str = "Makes a LUKS2 header of metadata that is still whole";
 
-fn damaged_argument<'a>(alloc: Global) -> Arg<'a> {
-    Arg::new(alloc, "SOURCE")
-        .required(true)
-        .help("The LUKS2 volume, or its detached header")
-}
-
-fn header_argument<'a>(alloc: Global) -> Arg<'a> {
-    Arg::new(alloc, "TARGET")
-        .required(true)
-        .help("The file of the new header, mostly of 16 MiB")
-}
-
-fn second_option<'a>(alloc: Global) -> Arg<'a> {
-    Arg::new(alloc, "second")
-        .long("second")
-        .action(ArgAction::SetTrue)
-        .help("Take the metadata of a second copy")
-}
-
-fn uuid_option<'a>(alloc: Global) -> Arg<'a> {
-    Arg::new(alloc, "uuid")
-        .long("uuid")
-        .value_name("TEXT")
-        .help("The uuid of the new header; else SOURCE's, or a new one")
-}
-
-const REBUILD: &str = "Makes a LUKS2 header of metadata that is still whole";
-
-const REBUILD_MORE: &str = "\
+pub(crate) const REBUILD_MORE: &str = "\
 Where check says NotLuks or NoSoundCopy of a LUKS2 volume, its metadata and key
 areas may still be whole: a partition table, mkswap or a flipped byte spoils the
 binary headers alone. A detached header is made of the metadata and written to

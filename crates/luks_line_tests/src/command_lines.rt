@@ -243,7 +243,7 @@ const REMOVE_WITHIN: EditRequest<'static> = EditRequest::Remove {
 
 /// The words, what they ask to edit of the volume `v`, whether the file `r` has the random bytes, and
 /// whether the payload is there.
-const EDITINGS: [(&[&str], EditRequest<'static>, bool, bool); 12] = [
+static EDITINGS: [(&[&str], EditRequest<'static>, bool, bool); 12] = [
     (
         &[
             "luks",
@@ -380,32 +380,37 @@ const EDITINGS: [(&[&str], EditRequest<'static>, bool, bool); 12] = [
     ),
 ];
 
+/// Whether the words ask for this edit of the volume `v`.
+fn asks_edit(
+    alloc: Global,
+    row: &(&[&str], EditRequest<'static>, bool, bool),
+) -> Result<bool, Fail> {
+    let (words, request, has_random, is_here) = *row;
+    let found = line(alloc, words)?;
+    let random = if has_random { Some("r") } else { None };
+    let data_ = if is_here { Data::Here } else { Data::Elsewhere };
+    let command = Command::Edit(Editing {
+        request,
+        random,
+        data_,
+    });
+    Ok(
+        found
+            == Line {
+                volume: "v",
+                command,
+            }
+            && found.passphrase() == request.passphrase()
+            && found.new_passphrase() == request.new_passphrase()
+            && found.random() == random
+            && found.writes(),
+    )
+}
+
 #[test]
 fn editings(rt: HostRuntime) -> Result<(), Fail> {
-    for (i, (words, request, has_random, is_here)) in EDITINGS.into_iter().enumerate() {
-        let found = line(rt.alloc(), words)?;
-        let random = if has_random { Some("r") } else { None };
-        let data_ = if is_here { Data::Here } else { Data::Elsewhere };
-        let command = Command::Edit(Editing {
-            request,
-            random,
-            data_,
-        });
-        assert!(rt;
-            found
-                == Line {
-                    volume: "v",
-                    command
-                },
-            "row {i}"
-        );
-        assert!(rt; found.passphrase() == request.passphrase(), "row {i}");
-        assert!(rt;
-            found.new_passphrase() == request.new_passphrase(),
-            "row {i}"
-        );
-        assert!(rt; found.random() == random, "row {i}");
-        assert!(rt; found.writes(), "row {i}");
+    for (i, row) in EDITINGS.iter().enumerate() {
+        assert!(rt; asks_edit(rt.alloc(), row)?, "row {i}");
     }
     Ok(())
 }
@@ -596,7 +601,7 @@ fn unknown_commands(rt: HostRuntime) -> Result<(), Fail> {
     Ok(())
 }
 
-const FAULTS: [(&[&str], &str); 32] = [
+static FAULTS: [(&[&str], &str); 32] = [
     (&["luks"], "subcommand"),
     (&["luks", "check"], "<VOLUME>"),
     (&["luks", "check", "a", "b"], "'b'"),
@@ -742,7 +747,7 @@ const FAULTS: [(&[&str], &str); 32] = [
 ];
 
 /// Words that single spaces part, and what the text of the refusal holds.
-const EDIT_FAULTS: [(&str, &str); 36] = [
+static EDIT_FAULTS: [(&str, &str); 36] = [
     ("luks explain a b", "'b'"),
     ("luks explain a --detached", "'--detached'"),
     ("luks convert a --random=r", "<TARGET>"),
@@ -847,24 +852,29 @@ const EDIT_FAULTS: [(&str, &str); 36] = [
     ("luks label a x y --random=r", "'y'"),
 ];
 
+/// Whether the words are refused as a fault, by a text that holds this part.
+fn is_fault(alloc: Global, words: &[&str], part: &str) -> Result<bool, AllocError> {
+    Ok(answers(alloc, words, part, false)? && answers(alloc, words, "error: ", false)?)
+}
+
+/// The same of a text's words.
+fn is_fault_of(alloc: Global, text: &str, part: &str) -> Result<bool, AllocError> {
+    let words: Vec<&str> = text.split(' ').collect(alloc)?;
+    is_fault(alloc, words.as_slice(), part)
+}
+
 #[test]
 fn faults_of_editing(rt: HostRuntime) -> Result<(), Fail> {
-    for (text, part) in EDIT_FAULTS {
-        let mut words = Vec::new(rt.alloc());
-        for word in text.split(' ') {
-            words.push(word)?;
-        }
-        assert!(rt; answers(rt.alloc(), &words, part, false)?, "{text}");
-        assert!(rt; answers(rt.alloc(), &words, "error: ", false)?, "{text}");
+    for (text, part) in EDIT_FAULTS.iter() {
+        assert!(rt; is_fault_of(rt.alloc(), text, part)?, "{text}");
     }
     Ok(())
 }
 
 #[test]
 fn faults_of_usage(rt: HostRuntime) -> Result<(), Fail> {
-    for (words, part) in FAULTS {
-        assert!(rt; answers(rt.alloc(), words, part, false)?, "{part}");
-        assert!(rt; answers(rt.alloc(), words, "error: ", false)?, "{part}");
+    for (words, part) in FAULTS.iter() {
+        assert!(rt; is_fault(rt.alloc(), words, part)?, "{part}");
     }
     Ok(())
 }

@@ -1,8 +1,8 @@
 //! The objects of LUKS2 metadata, each kind as an array by number.
 use crate::values::{base64_text, numbers_value};
-use luks_meta::{Argon2, Derivation, KeyArea, Pbkdf2, Splitter};
+use luks_meta::{Argon2, Derivation, Encryption, KeyArea, Pbkdf2, Splitter};
 use luks_reading::{Cost, Digest, Extent, Keyslot, Meta, Segment, SegmentKind, Token};
-use serde_json::{Value, json};
+use serde_json::{Map, Value, json, put};
 use std::alloc::{AllocError, Global};
 
 /// The priority of a keyslot that names none.
@@ -25,20 +25,71 @@ fn keyslot_value(
     keyslot: &Keyslot<'_>,
     digest: Option<u8>,
 ) -> Result<Value, AllocError> {
-    let area = area_value(alloc, &keyslot.area)?;
-    let kdf = kdf_value(alloc, &keyslot.kdf)?;
-    let splitter = splitter_value(alloc, &keyslot.af)?;
-    let priority = keyslot.priority.unwrap_or(NORMAL);
-    json!(in alloc; {
-        "area": area,
-        "digest": digest,
-        "kdf": kdf,
-        "key_bytes": keyslot.key_size,
-        "number": n,
-        "priority": priority,
-        "splitter": splitter,
-        "state": "enabled"
-    })
+    let mut members = Map::new(alloc);
+    put(
+        &mut members,
+        alloc,
+        "area",
+        area_value(alloc, &keyslot.area)?,
+    )?;
+    put(&mut members, alloc, "digest", Value::from(digest))?;
+    put(&mut members, alloc, "kdf", kdf_value(alloc, &keyslot.kdf)?)?;
+    put(
+        &mut members,
+        alloc,
+        "key_bytes",
+        Value::from(keyslot.key_size),
+    )?;
+    put(&mut members, alloc, "number", Value::from(n))?;
+    put(
+        &mut members,
+        alloc,
+        "priority",
+        Value::from(keyslot.priority.unwrap_or(NORMAL)),
+    )?;
+    put(
+        &mut members,
+        alloc,
+        "splitter",
+        splitter_value(alloc, &keyslot.af)?,
+    )?;
+    put_text(&mut members, alloc, "state", "enabled")?;
+    Ok(Value::from(members))
+}
+
+/// Puts a text.
+fn put_text(
+    members: &mut Map<String, Value>,
+    alloc: Global,
+    name: &str,
+    text: &str,
+) -> Result<(), AllocError> {
+    put(members, alloc, name, Value::try_from_str(alloc, text)?)
+}
+
+/// Puts bytes, in base64.
+fn put_bytes(
+    members: &mut Map<String, Value>,
+    alloc: Global,
+    name: &str,
+    bytes: &[u8],
+) -> Result<(), AllocError> {
+    put(
+        members,
+        alloc,
+        name,
+        Value::from(base64_text(alloc, bytes)?),
+    )
+}
+
+/// Puts an array of numbers.
+fn put_numbers(
+    members: &mut Map<String, Value>,
+    alloc: Global,
+    name: &str,
+    numbers: &[u8],
+) -> Result<(), AllocError> {
+    put(members, alloc, name, numbers_value(alloc, numbers)?)
 }
 
 fn area_value(alloc: Global, area: &KeyArea<'_>) -> Result<Value, AllocError> {
@@ -113,22 +164,36 @@ pub(crate) fn segments_value(alloc: Global, meta: &Meta) -> Result<Value, AllocE
 }
 
 fn segment_value(alloc: Global, n: u8, segment: &Segment<'_>) -> Result<Value, AllocError> {
-    let offset = segment.offset;
-    let size = extent_value(alloc, segment.size)?;
+    let mut members = Map::new(alloc);
+    put(&mut members, alloc, "number", Value::from(n))?;
+    put(&mut members, alloc, "offset", Value::from(segment.offset))?;
+    put(
+        &mut members,
+        alloc,
+        "size",
+        extent_value(alloc, segment.size)?,
+    )?;
     match segment.kind {
-        SegmentKind::Crypt(encryption) => json!(in alloc; {
-            "cipher": encryption.cipher,
-            "iv_tweak": encryption.iv_tweak,
-            "number": n,
-            "offset": offset,
-            "sector_size": encryption.sector_size,
-            "size": size,
-            "type": "crypt"
-        }),
-        SegmentKind::Linear => {
-            json!(in alloc; {"number": n, "offset": offset, "size": size, "type": "linear"})
-        }
+        SegmentKind::Crypt(encryption) => put_encryption(&mut members, alloc, encryption)?,
+        SegmentKind::Linear => put_text(&mut members, alloc, "type", "linear")?,
     }
+    Ok(Value::from(members))
+}
+
+fn put_encryption(
+    members: &mut Map<String, Value>,
+    alloc: Global,
+    encryption: Encryption<'_>,
+) -> Result<(), AllocError> {
+    put_text(members, alloc, "cipher", encryption.cipher)?;
+    put(members, alloc, "iv_tweak", Value::from(encryption.iv_tweak))?;
+    put(
+        members,
+        alloc,
+        "sector_size",
+        Value::from(encryption.sector_size),
+    )?;
+    put_text(members, alloc, "type", "crypt")
 }
 
 fn extent_value(alloc: Global, extent: Extent) -> Result<Value, AllocError> {
@@ -149,18 +214,19 @@ pub(crate) fn digests_value(alloc: Global, meta: &Meta) -> Result<Value, AllocEr
 }
 
 fn digest_value(alloc: Global, n: u8, digest: &Digest<'_>) -> Result<Value, AllocError> {
-    let keyslots = numbers_value(alloc, digest.keyslots.as_slice())?;
-    let segments = numbers_value(alloc, digest.segments.as_slice())?;
-    let salt = base64_text(alloc, digest.salt.as_slice())?;
-    let value = base64_text(alloc, digest.digest.as_slice())?;
-    json!(in alloc; {
-        "hash": digest.hash,
-        "iterations": digest.iterations,
-        "keyslots": keyslots,
-        "number": n,
-        "salt": salt,
-        "segments": segments,
-        "type": "pbkdf2",
-        "value": value
-    })
+    let mut members = Map::new(alloc);
+    put_text(&mut members, alloc, "hash", digest.hash)?;
+    put(
+        &mut members,
+        alloc,
+        "iterations",
+        Value::from(digest.iterations),
+    )?;
+    put_numbers(&mut members, alloc, "keyslots", digest.keyslots.as_slice())?;
+    put(&mut members, alloc, "number", Value::from(n))?;
+    put_bytes(&mut members, alloc, "salt", digest.salt.as_slice())?;
+    put_numbers(&mut members, alloc, "segments", digest.segments.as_slice())?;
+    put_text(&mut members, alloc, "type", "pbkdf2")?;
+    put_bytes(&mut members, alloc, "value", digest.digest.as_slice())?;
+    Ok(Value::from(members))
 }
