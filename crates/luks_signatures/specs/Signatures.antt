@@ -98,17 +98,17 @@ abbrev pub HasNone : List ℕ → List Row → Type 0
 HasNone v [] = Unit {0}
 HasNone v (r ∷ rows) = (IsIn v r.mark → ⊥) × HasNone v rows
 
--- the use that is shown by the first row of the table whose mark is in the bytes `v`
-pub record IsFirstUse (v : List ℕ) (first : OtherUse) : Type 0 where
+-- the use that is shown by the first of the rows whose mark is in the bytes `v`
+pub record IsFirst (rows : List Row) (v : List ℕ) (first : OtherUse) : Type 0 where
   pub before : List Row
   pub row : Row
   pub after : List Row
-  pub rows : table ≡ before ++ (row ∷ after)
+  pub in_order : rows ≡ before ++ (row ∷ after)
   pub none_before : HasNone v before
   pub is_in : IsIn v row.mark
-  pub shown : row.shows ≡ first
+  pub shows_first : row.shows ≡ first
 
--- what is found in the bytes `v`: the first use, or that no row of the table has its mark there
-abbrev pub FindsFirstUse : List ℕ → Option OtherUse → Type 0
-FindsFirstUse v (Some first) = IsFirstUse v first
-FindsFirstUse v None = HasNone v table
+-- what the rows show of the bytes `v`: the first use, or that none of them has its mark there
+abbrev pub Finds : List Row → List ℕ → Option OtherUse → Type 0
+Finds rows v (Some first) = IsFirst rows v first
+Finds rows v None = HasNone v rows

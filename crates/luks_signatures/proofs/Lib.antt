@@ -1,0 +1,2 @@
+pub mod FrontFacts
+pub mod TableFacts

@@ -1,0 +1,24 @@
+use Rattle.std.proofs.Common.{◌≡◌, ℕ, ◌+◌, ◌≤◌, List, [], ◌∷◌, length, take, ap, ◌∙◌, arith, subst, lit≤, false}
+use Rattle.std.proofs.lemmas.List.{length-take}
+use Rattle.std.proofs.lemmas.Bool.{false≢true}
+use Rattle.luks_area.specs.Ranges.{part}
+use Rattle.luks_signatures.proofs.FrontFacts.{partition-front, stands-inside}
+use Rattle.luks_signatures.proofs.standing.has_partition.Goals as goal
+
+pub returns-then-end-clause-has : goal.returns-then-end-clause-has
+returns-then-end-clause-has g c = λ t.
+    let v : List ℕ = g.D.Device.bytes c.args.device.now in
+    (λ e. absurd (false≢true e),
+    λ has. let inside : 510 + 2 ≤ length (take c.args.end v) = stands-inside (take c.args.end v) 510 (0x55 ∷ 0xAA ∷ []) (lit≤ tt) has.0 in
+        absurd (omega (arith, inside, length-take c.args.end v)))
+
+pub returns-then-is_boot_record-clause-has : goal.returns-then-is_boot_record-clause-has
+returns-then-is_boot_record-clause-has g c = λ t.
+    let v : List ℕ = g.D.Device.bytes c.args.device.now in
+    let read = c.in_ok-read_at.ensures.read t in
+    let named = c.names_partition.ensures in
+    ?
+
+pub returns-else-is_boot_record-clause-has : goal.returns-else-is_boot_record-clause-has
+returns-else-is_boot_record-clause-has g c = λ t.
+    ?
