@@ -1,5 +1,6 @@
 -- Bytes that are read of a disk, and those of its first ones.
-use Rattle.std.proofs.Common.{◌≡◌, ◌≢◌, ℕ, ◌+◌, ◌*◌, ◌<◌, ◌≤◌, List, [], ◌∷◌, Bool, Result, Ok, Err, IfOk, IsTrue, ◌⊎◌, inl, inr, length, take, refl, sym, ap, ◌∙◌, arith, subst, zero-add, ◌↔◌}
+use Rattle.std.proofs.Common.{◌≡◌, ◌≢◌, ℕ, ◌+◌, ◌*◌, ◌<◌, ◌≤◌, List, [], ◌∷◌, Bool, Result, Ok, Err, IfOk, IsTrue, ◌⊎◌, inl, inr, length, min, take, refl, sym, ap, ◌∙◌, arith, subst, zero-add, ◌↔◌}
+use Rattle.std.proofs.lemmas.Grind.{common_steps}
 use Rattle.luks_area.specs.Ranges.{part}
 use Rattle.luks_area.specs.RangeFacts.{length-part, length-part_inside, part-part}
 use Rattle.luks_signatures.specs.Signatures.{HasPartition, IsPartition, Stands}
@@ -22,6 +23,10 @@ partition-front v n long = (
     same p len inside = part-front v n p len (omega (arith, inside, long)) ∙ sym (part-front v 512 p len inside)
 
 -- where the first of two doesn't hold, the second decides
-pub either-second : {E P Q : Type 0} (result : Result Bool E) → (P → ⊥) → IfOk result (λ is. IsTrue is ↔ Q) → IfOk result (λ is. IsTrue is ↔ (P ⊎ Q))
-either-second (Ok b) none second = (λ e. inr (second.0 e), λ either. elim either [ inl p ↦ absurd (none p) | inr q ↦ second.1 q ])
-either-second (Err e) none second = second
+pub either-second : (E P Q : Type 0) (result : Result Bool E) → (P → ⊥) → IfOk result (λ is. IsTrue is ↔ Q) → IfOk result (λ is. IsTrue is ↔ (P ⊎ Q))
+either-second E P Q (Ok b) none second = (λ e. inr (second.0 e), λ either. elim either [ inl p ↦ absurd (none p) | inr q ↦ second.1 q ])
+either-second E P Q (Err e) none second = second
+
+-- the first bytes, of as many as there are
+pub take-within : (v : List ℕ) (n len size : ℕ) → length v ≡ size → n ≡ min len size → take n v ≡ take len v
+take-within v n len size sized is = grind (arith, common_steps)
