@@ -1,2 +1,3 @@
+pub mod FirstFacts
 pub mod FrontFacts
 pub mod TableFacts

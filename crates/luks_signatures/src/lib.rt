@@ -2,9 +2,11 @@
 #![tactic(auto)]
 
 mod first;
+mod laws;
 mod other_use;
 mod standing;
 mod table;
 
 pub use first::first_use;
+pub use laws::one_first_use;
 pub use other_use::OtherUse;

@@ -2,7 +2,6 @@
 use crate::other_use::OtherUse;
 
 /// What shows a use.
-#[derive(Clone, Copy)]
 pub(crate) enum Mark {
     /// These bytes, from this place on.
     Bytes(u64, &'static [u8]),
@@ -13,7 +12,6 @@ pub(crate) enum Mark {
 }
 
 /// A mark, and the use that it shows.
-#[derive(Clone, Copy)]
 pub(crate) struct Row {
     pub(crate) mark: Mark,
     pub(crate) shows: OtherUse,
