@@ -16,8 +16,9 @@ stands-inside v p b some stands = omega (arith, length-part v p (length b), ap l
 -- the first sector decides of partitions
 pub partition-front : (v : List ℕ) (n : ℕ) → 512 ≤ n → HasPartition (take n v) ↔ HasPartition (part v 0 512)
 partition-front v n long = (
-    λ has. (sym (same 510 2 (omega arith)) ∙ has.0, (has.1.0, has.1.1, subst IsPartition (same (446 + 16 * has.1.0) 16 (let low = has.1.1 in omega (arith, low))) has.1.2)),
-    λ has. (same 510 2 (omega arith) ∙ has.0, (has.1.0, has.1.1, subst IsPartition (sym (same (446 + 16 * has.1.0) 16 (let low = has.1.1 in omega (arith, low)))) has.1.2)))
+  λ has. (sym (same 510 2 (omega arith)) ∙ has.0, (has.1.0, has.1.1, subst IsPartition (same (446 + 16 * has.1.0) 16 (let low = has.1.1 in omega (arith, low))) has.1.2)),
+  λ has. (same 510 2 (omega arith) ∙ has.0, (has.1.0, has.1.1, subst IsPartition (sym (same (446 + 16 * has.1.0) 16 (let low = has.1.1 in omega (arith, low)))) has.1.2)),
+)
   where
     same : (p len : ℕ) → p + len ≤ 512 → part (take n v) p len ≡ part (part v 0 512) p len
     same p len inside = part-front v n p len (omega (arith, inside, long)) ∙ sym (part-front v 512 p len inside)

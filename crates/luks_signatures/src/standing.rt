@@ -84,11 +84,7 @@ fn has_uberblock<D: Device>(device: &mut D, end: u64) -> Result<bool, DeviceFaul
 }
 
 /// Whether the label at `start` has an uberblock.
-fn label_has_uberblock<D: Device>(
-    device: &mut D,
-    end: u64,
-    start: u64,
-) -> Result<bool, DeviceFault>
+fn label_has_uberblock<D: Device>(device: &mut D, end: u64, start: u64) -> Result<bool, DeviceFault>
     requires low { start ≤ 262144 }
     requires within { end ≤ D.size device.old }
     requires room { D.failed device.old + 1 < 2 ^ 64 }
