@@ -1,6 +1,6 @@
 //! What else a disk is used for, by the signatures at its start. Their places and bytes are those of the
 //! formats' own documents; libblkid takes disks that have them for the same (testdata/oracle/signatures).
-use luks_area::{DeviceFault, FaultyDevice, Leave, MemDevice};
+use luks_area::{Device, FaultyDevice, Leave, MemDevice};
 use luks_signatures::OtherUse::{
     self, Bcache, BitLocker, Btrfs, ExFat, Ext, Fat, Gpt, Lvm2, Mbr, Md, Ntfs, Swap, Xfs, Zfs,
 };
@@ -256,13 +256,19 @@ fn partitions_and_several_signatures(rt: HostRuntime) -> Result<(), Fail> {
     Ok(())
 }
 
+// Whichever read fails, the answer is the device's fault; where none does, nothing is found.
 #[test]
-fn a_failed_read_is_told(rt: HostRuntime) -> Result<(), Fail> {
-    let disk = MemDevice::new(ending(rt.alloc(), 0, b"XFSB")?);
-    let mut device = FaultyDevice::new(disk, 0, Leave::Old);
-    assert!(rt;
-        first_use(&mut device, 4) == Err(DeviceFault),
-        "the first call fails"
-    );
+fn tells_each_failed_read(rt: HostRuntime) -> Result<(), Fail> {
+    for call in 0..64 {
+        let disk = MemDevice::new(vec![in rt.alloc(); 0u8; 512]?);
+        let mut device = FaultyDevice::new(disk, call, Leave::Old);
+        let answer = first_use(&mut device, 512);
+        if device.failures() == 0 {
+            assert!(rt; answer.is_ok() && call >= 2, "{call} reads");
+            return Ok(());
+        }
+        assert!(rt; answer.is_err() && device.failures() == 1, "read {call}");
+    }
+    assert!(rt; false, "more than 64 reads");
     Ok(())
 }
