@@ -32,7 +32,7 @@ use Rattle.luks_commands.specs.declared.answers.Answer.{Answer}
 use Rattle.luks_commands.specs.declared.answers.Answer.TheVariants.{Accepted, Listed, Json, Opens, Closed, NoneOpens, Done, Refused, DeviceFault, NoMemory}
 use Rattle.luks_commands.specs.declared.answers.Refusal.TheVariants.{LongPassphrase, Check, Open, Edit, Format, Convert, Rebuild, SameFile}
 use Rattle.luks_commands.specs.Answer.{check_fault_answer}
-use Rattle.luks_commands.specs.ShowAnswers.{IsBeforeAreas, IsAsJson, IsFirstShowFault, IsJsonAnswer, IsListedAnswer, IsShowAnswer, IsShowFault, IsShown, IsShownAs}
+use Rattle.luks_show_command.specs.ShowAnswers.{IsBeforeAreas, IsAsJson, IsFirstShowFault, IsJsonAnswer, IsListedAnswer, IsShowAnswer, IsShowFault, IsShown, IsShownAs}
 
 -- the first fault of a check is the first that refuses a listing, unless it is one of the areas
 first_shown : (v : List ℕ) (f : CheckFault) → First v Elsewhere f → IsBeforeAreas f → IsFirstShowFault v f

@@ -5,11 +5,9 @@ ghost use Rattle.luks_area.specs.Device.{IsUnchanged};
 ghost use Rattle.luks_commands.specs.Answer.{answer_status, Prints};
 ghost use Rattle.luks_commands.specs.Exit.{IsExitStatus};
 ghost use Rattle.luks_commands.specs.Files.{KeepsVolume};
-ghost use Rattle.luks_commands.specs.ShowAnswers.{AnswersShow, IsAsJson, IsListedAnswer, IsShownAs};
+ghost use Rattle.luks_show_command.specs.ShowAnswers.{AnswersShow, IsAsJson, IsListedAnswer, IsShownAs};
 
-use crate::answers::{Answer, Status, end, refused, unread};
-use crate::inputs::InputFault;
-use crate::printer::Printer;
+use luks_commands::{Answer, InputFault, Printer, Status, end, refused, unread};
 use luks_reading::{CheckFault, Device, Header, Luks1, read_header};
 use luks_request::ShowAs;
 use luks_show::Listing;

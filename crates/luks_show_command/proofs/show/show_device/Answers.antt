@@ -1,9 +1,9 @@
 use Rattle.std.proofs.Common.{sym, subst, ap, ◌∙◌}
 use Rattle.luks_reading.specs.Header.{IsHeader}
 use Rattle.luks_commands.specs.Answer.{check_fault_answer}
-use Rattle.luks_commands.specs.ShowAnswers.{IsListedAnswer}
-use Rattle.luks_commands.proofs.ShowFacts.{answers_luks1, answers_unread, shows_luks1, shows_luks2}
-use Rattle.luks_commands.proofs.show.show_device.Goals as goal
+use Rattle.luks_show_command.specs.ShowAnswers.{IsListedAnswer}
+use Rattle.luks_show_command.proofs.ShowFacts.{answers_luks1, answers_unread, shows_luks1, shows_luks2}
+use Rattle.luks_show_command.proofs.show.show_device.Goals as goal
 
 pub returns-in-Ok-clause-answers : goal.returns-in-Ok-clause-answers
 returns-in-Ok-clause-answers g c =

@@ -1,6 +1,6 @@
 use Rattle.luks_commands.specs.Answer.{answer_status}
 use Rattle.luks_commands.proofs.EndFacts.{done_by, err_as, is_exit_status, not_in_step_by, told}
-use Rattle.luks_commands.proofs.show.run.Goals as goal
+use Rattle.luks_show_command.proofs.show.run.Goals as goal
 
 pub returns-clause-status : goal.returns-clause-status
 returns-clause-status g c = is_exit_status (answer_status c.show_volume-answer.result) _ (told c.show_volume-answer.result _ _ _ _ _ c.end.ensures)

@@ -1,5 +1,5 @@
-use Rattle.luks_commands.proofs.ShowFacts.{shown_answer}
-use Rattle.luks_commands.proofs.show.show_volume.Goals as goal
+use Rattle.luks_show_command.proofs.ShowFacts.{shown_answer}
+use Rattle.luks_show_command.proofs.show.show_volume.Goals as goal
 
 pub returns-in-Ok-clause-answers : goal.returns-in-Ok-clause-answers
 returns-in-Ok-clause-answers g c =
