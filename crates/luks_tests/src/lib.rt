@@ -15,4 +15,6 @@ mod headers;
 #[cfg(test)]
 mod hexadecimal;
 #[cfg(test)]
+mod signatures;
+#[cfg(test)]
 mod splitter;

@@ -1,0 +1,3 @@
+pub mod FirstFacts
+pub mod FrontFacts
+pub mod TableFacts

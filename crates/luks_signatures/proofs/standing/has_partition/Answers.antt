@@ -1,0 +1,33 @@
+use Rattle.std.proofs.Common.{◌≡◌, ℕ, ◌+◌, ◌≤◌, List, [], ◌∷◌, length, take, ◌∙◌, arith, subst, sym, refl, lit≤}
+use Rattle.std.proofs.lemmas.List.{length-take}
+use Rattle.std.proofs.lemmas.Bool.{false≢true}
+use Rattle.luks_signatures.specs.Signatures.{HasPartition}
+use Rattle.luks_signatures.proofs.FrontFacts.{partition-front, stands-inside}
+use Rattle.luks_signatures.proofs.standing.has_partition.Goals as goal
+
+-- there is no whole sector
+pub returns-then-end-clause-has : goal.returns-then-end-clause-has
+returns-then-end-clause-has g c = λ t.
+    let v : List ℕ = g.D.Device.bytes c.args.device.now in (
+      λ e. absurd (false≢true e),
+      λ has. let inside : 510 + 2 ≤ length (take c.args.end v) = stands-inside (take c.args.end v) 510 (0x55 ∷ 0xAA ∷ []) (lit≤ tt) has.0 in
+          absurd (omega (arith, inside, length-take c.args.end v)),
+    )
+
+pub returns-then-is_boot_record-clause-has : goal.returns-then-is_boot_record-clause-has
+returns-then-is_boot_record-clause-has g c = λ t.
+    let v : List ℕ = g.D.Device.bytes c.args.device.now in
+    let front = partition-front v c.args.end c.if-end.false in
+    let read = c.in_ok-read_at.ensures.read t in (
+      λ e. front.1 (subst HasPartition read (c.if-is_boot_record.ensures.0 refl, c.names_partition.ensures.0 e)),
+      λ has. c.names_partition.ensures.1 (subst HasPartition (sym read) (front.0 has)).1,
+    )
+
+pub returns-else-is_boot_record-clause-has : goal.returns-else-is_boot_record-clause-has
+returns-else-is_boot_record-clause-has g c = λ t.
+    let v : List ℕ = g.D.Device.bytes c.args.device.now in
+    let front = partition-front v c.args.end c.if-end.false in
+    let read = c.in_ok-read_at.ensures.read t in (
+      λ e. absurd (false≢true (sym c.if-is_boot_record.false ∙ e)),
+      λ has. c.is_boot_record.ensures.1 (subst HasPartition (sym read) (front.0 has)).0,
+    )
