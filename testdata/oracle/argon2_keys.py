@@ -1,9 +1,7 @@
-#!/usr/bin/env python3
-"""Prints the rows of crates/luks_argon2_tests: tags of Argon2 and sums of BLAKE2b, made by other means.
+"""Tags of Argon2, made by other means.
 
-The tags are those of libargon2 (Debian's package libargon2-1) by ctypes. It refuses salts of fewer than 8 bytes: those tags are
-of the model below, written from RFC 9106, sections 3.2 to 3.6, over hashlib's BLAKE2b, which is compared here with libargon2
-on each of the other rows.
+They are those of libargon2 (Debian's package libargon2-1) by ctypes. It refuses salts of fewer than 8 bytes: those tags are of the
+model below, written from RFC 9106, sections 3.2 to 3.6, over hashlib's BLAKE2b, which `vectors` compares with libargon2 on all others.
 """
 import ctypes
 import hashlib
@@ -60,11 +58,11 @@ def words_of(block):
     return list(struct.unpack("<128Q", block))
 
 
-def model(variant, lanes, memory, time, password, salt, length):
+def model(variant, lanes, memory, time, password, salt, length, secret=b"", associated=b""):
     """The tag (3.2), with a memory that is overwritten as the RFC says."""
     fields = [lanes, length, memory, time, 0x13, variant]
     told = b"".join(struct.pack("<I", n) for n in fields)
-    for text in (password, salt, b"", b""):
+    for text in (password, salt, secret, associated):
         told += struct.pack("<I", len(text)) + text
     first = hashlib.blake2b(told).digest()
     blocks = 4 * lanes * (memory // (4 * lanes))
@@ -121,49 +119,13 @@ class Context(ctypes.Structure):
     ]
 
 
-def library(variant, lanes, memory, time, password, salt, length):
+def library(variant, lanes, memory, time, password, salt, length, secret=b"", associated=b""):
     """The tag of libargon2, by one thread."""
     out = ctypes.create_string_buffer(length)
-    context = Context(ctypes.addressof(out), length, password, len(password), salt, len(salt), None, 0, None, 0,
+    context = Context(ctypes.addressof(out), length, password, len(password), salt, len(salt), secret, len(secret),
+                      associated, len(associated),
                       time, memory, lanes, 1, 0x13, None, None, 0)
     status = ctypes.CDLL("libargon2.so.1").argon2_ctx(ctypes.byref(context), variant)
     if status != 0:
         raise ValueError(f"libargon2 answers {status}")
     return out.raw
-
-
-def rows():
-    """Variant, lanes, memory, time, length of the salt, length of the tag."""
-    salts = (8, 16, 32, 64, 1, 7, 33, 63)
-    tags = (32, 64, 128, 4)
-    for k in range(51):
-        variant, lanes = k % 3, k % 5 + 1
-        memory = 8 * lanes + (0, 1, 4 * lanes - 1, 4 * lanes, 8 * lanes + 3)[(k // 5 + k) % 5]
-        yield variant, lanes, memory, k // 3 % 4 + 1, salts[(k + k // 8) % 8], tags[(k + k // 4) % 4]
-    # a segment of more than 128 blocks, whose addresses fill more than one block
-    yield 1, 1, 1040, 1, 16, 32
-    yield 2, 2, 1100, 2, 16, 32
-
-
-def main():
-    count = 0
-    print("// variant, lanes, memory, time, bytes of the salt, the tag")
-    for variant, lanes, memory, time, salt_len, length in rows():
-        password, salt = b"password", bytes(range(salt_len))
-        tag = model(variant, lanes, memory, time, password, salt, length)
-        if salt_len >= 8:
-            count += 1
-            assert tag == library(variant, lanes, memory, time, password, salt, length), (variant, lanes, memory, time)
-        print(f"    (Variant::{('D', 'I', 'Id')[variant]}, {lanes}, {memory}, {time}, {salt_len}, \"{tag.hex()}\"),")
-    print(f"// {count} of them are libargon2's, the others the model's")
-    message = bytes(k % 251 for k in range(300))
-    told = hashlib.blake2b(b"".join(hashlib.blake2b(message[:n]).digest() for n in range(301))).hexdigest()
-    short = hashlib.blake2b(b"".join(hashlib.blake2b(message[:n], digest_size=n % 64 + 1).digest() for n in range(301))).hexdigest()
-    print(f"// sums of 0 to 300 bytes, whole: {told}")
-    print(f"// of 1 to 64 bytes: {short}")
-    for n in (0, 1, 127, 128, 129, 255, 256, 257, 300):
-        print(f"    ({n}, \"{hashlib.blake2b(message[:n]).hexdigest()}\"),")
-
-
-if __name__ == "__main__":
-    main()

@@ -50,6 +50,12 @@ fn run<R: AllocGlobal + Clock + Env + Files<File = File> + Input + Print + Eprin
         let _ = eprintln!(rt; "luks: the root folder can't be opened");
         return device_fault(rt);
     };
+    run_args(rt)
+}
+
+fn run_args<R: AllocGlobal + Clock + Env + Files<File = File> + Input + Print + Eprint>(
+    rt: &R,
+) -> io::Result<u8> {
     let args = match env::args(rt) {
         Ok(args) => args,
         Err(error) if error.kind() == ErrorKind::OutOfMemory => return no_memory(rt),
@@ -60,20 +66,34 @@ fn run<R: AllocGlobal + Clock + Env + Files<File = File> + Input + Print + Eprin
     };
     let args: Vec<String> = args.collect(rt.alloc())?;
     let words: Vec<&str> = args.iter().map(|word| word.as_str()).collect(rt.alloc())?;
-    match parse(rt.alloc(), words.as_slice()) {
+    run_words(rt, words.as_slice())
+}
+
+/// Runs the command that these words name, of which the first is the program's name.
+fn run_words<R: AllocGlobal + Clock + Files<File = File> + Input + Print + Eprint>(
+    rt: &R,
+    words: &[&str],
+) -> io::Result<u8> {
+    match parse(rt.alloc(), words) {
         Ok(Asked::Volume(line)) => run_line(rt, &line),
         Ok(Asked::Explain(Some(fault))) => explain(rt, fault),
         Ok(Asked::Explain(None)) => list_faults(rt),
-        Err(fault) if fault.kind() == FaultKind::OutOfMemory => no_memory(rt),
-        Err(fault) if fault.use_stderr() => {
-            let _ = fault.print(rt);
-            Ok(USAGE)
-        }
-        Err(help) => {
-            help.print(rt)?;
-            Ok(0)
-        }
+        Err(fault) => tell_usage(rt, &fault),
     }
+}
+
+/// Prints what `clap` says of the words: a fault of them on standard error, and a help that they ask
+/// for on standard output.
+fn tell_usage<R: Print + Eprint>(rt: &R, fault: &clap::Error) -> io::Result<u8> {
+    if fault.kind() == FaultKind::OutOfMemory {
+        return no_memory(rt);
+    }
+    if fault.use_stderr() {
+        let _ = fault.print(rt);
+        return Ok(USAGE);
+    }
+    fault.print(rt)?;
+    Ok(0)
 }
 
 /// Takes the numbers of standard streams that were closed when the program began, so that no volume
@@ -221,12 +241,16 @@ impl Passphrases {
     /// command, the second isn't opened.
     fn read<R: AllocGlobal + Files<File = File> + Input>(rt: &R, line: &Line<'_>) -> Self {
         let old = passphrase(rt, line.passphrase());
-        let new = if ends_command(&old) {
-            Err(InputFault::Absent)
-        } else {
-            passphrase(rt, line.new_passphrase())
-        };
-        Passphrases { old, new }
+        if ends_command(&old) {
+            return Passphrases {
+                old,
+                new: Err(InputFault::Absent),
+            };
+        }
+        Passphrases {
+            old,
+            new: passphrase(rt, line.new_passphrase()),
+        }
     }
 
     /// Whether one of them ends the command, so that no volume is opened.
@@ -323,12 +347,16 @@ fn open_volumes<R: AllocGlobal + Clock + Files<File = File> + Eprint>(
         return Volumes::unopened(InputFault::Unreadable(Reason::SameFile));
     }
     let volume = open_volume(rt, line.volume, line.writes());
-    let target = if volume.is_ok() {
-        open_volume(rt, path, true)
-    } else {
-        Err(InputFault::Absent)
-    };
-    Volumes { volume, target }
+    if volume.is_err() {
+        return Volumes {
+            volume,
+            target: Err(InputFault::Absent),
+        };
+    }
+    Volumes {
+        volume,
+        target: open_volume(rt, path, true),
+    }
 }
 
 /// The volume of this name, opened for reading, or for writing too, under its lock; what of the lock

@@ -13,7 +13,7 @@ ghost use Rattle.luks_commands.specs.Files.{KeepsVolume, LeavesSettled, LeavesVo
 ghost use Rattle.luks_commands.specs.FormatAnswers.{AnswersFormat, IsUnreadEither};
 ghost use Rattle.luks_commands.specs.Formatting.{needed, SaysFormat, WhereFormat};
 ghost use Rattle.luks_commands.specs.OpenAnswers.{AnswersOpen, kib_of, WhereOpen};
-ghost use Rattle.luks_commands.specs.ShowAnswers.{AnswersShow, WhereShow};
+ghost use Rattle.luks_show_command.specs.ShowAnswers.{AnswersShow, WhereShow};
 ghost use Rattle.luks_header_commands.specs.Converting.{AnswersConvert, KeepsRest, random_count, WhereConvert};
 ghost use Rattle.luks_header_commands.specs.Rebuilding.{AnswersRebuild, given_of, KeepsRest as KeepsOthers};
 ghost use Rattle.luks_header_commands.specs.Rebuilding.{random_count as rebuild_count, which_of, WhereRebuild};
@@ -22,9 +22,10 @@ ghost use Rattle.luks_header_commands.specs.Target.{UnlessBeside};
 
 use crate::edit;
 use luks_commands::open::Tried;
-use luks_commands::{Inputs, Printer, check, format, open, show};
+use luks_commands::{Inputs, Printer, check, format, open};
 use luks_header_commands::{convert, rebuild};
 use luks_request::{Command, Line};
+use luks_show_command::show;
 use luks_volume::Device;
 use std::alloc::Global;
 use std::io::{Read, Write};

@@ -5,4 +5,3 @@ pub mod FileFacts
 pub mod FormatFacts
 pub mod Fronts
 pub mod OpenFacts
-pub mod ShowFacts

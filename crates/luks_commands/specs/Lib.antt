@@ -7,4 +7,3 @@ pub mod CheckAnswers
 pub mod Formatting
 pub mod OpenAnswers
 pub mod FormatAnswers
-pub mod ShowAnswers

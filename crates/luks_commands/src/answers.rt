@@ -247,7 +247,7 @@ pub fn device_fault<E: Write>(volume: &str, what: &str, err: &mut E) -> Answer
 
 /// What is answered where the volume of this name isn't accepted, or its header isn't read.
 #[tactic(auto, using(crate::proofs::CheckFacts::check_kinds))]
-pub(crate) fn refused<E: Write>(fault: CheckFault, volume: &str, err: &mut E) -> Answer
+pub fn refused<E: Write>(fault: CheckFault, volume: &str, err: &mut E) -> Answer
     ensures answer { result ≡ check_fault_answer fault }
     ensures kinds { answer_status result ≢ Status.NotInStep }
 {

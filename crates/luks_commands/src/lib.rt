@@ -1,6 +1,6 @@
-//! The commands of the program `luks` that check, show, open and format, over values: what each prints
-//! and answers. What the other commands share with them stands here too: the files, the answers and
-//! the printer.
+//! The commands of the program `luks` that check, open and format, over values: what each prints and
+//! answers. What the other commands share with them stands here too: the files, the answers and the
+//! printer.
 #![tactic(auto)]
 
 mod answers;
@@ -11,9 +11,8 @@ pub mod open;
 mod passphrase_file;
 mod printer;
 mod random_file;
-pub mod show;
 
-pub use answers::{Answer, Refusal, Status, device_fault, end, unread};
+pub use answers::{Answer, Refusal, Status, device_fault, end, refused, unread};
 pub use inputs::{InputFault, Inputs, Reason};
 pub use passphrase_file::{PassphraseFault, first_bytes, passphrase};
 pub use printer::{CountingPrinter, Printer, Unprinted};

@@ -4,7 +4,9 @@
 
 mod command_line;
 mod helps;
-mod rebuild_line;
+mod program;
+mod requests;
+mod words;
 
 pub use command_line::{Asked, line, parse};
 pub use luks_request::{

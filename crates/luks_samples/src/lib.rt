@@ -21,6 +21,6 @@ pub use images::{
 };
 pub use luks_test_devices::is_sum;
 pub use metadata::{Edit, THREE, ZEROS, edited, edited_once, filled, text_of};
-pub use numbers::{counted_modulo_256, fill, fnv, next};
-pub use sums::{hex_digit, is_hex};
+pub use numbers::counted_modulo_256;
+pub use sums::hex_digit;
 pub use words::{CHECK, DETACHED, OPEN, OPEN_0, OPEN_1, OPEN_2, OPEN_3, SHOW};

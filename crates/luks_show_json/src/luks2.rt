@@ -6,11 +6,11 @@ ghost use Rattle.luks_show_json.specs.Luks2Value.{AreObjectsOf, AreTextsOf, conf
 ghost use Rattle.luks_show_json.specs.Luks2Value.{sizes_value, with_objects};
 
 use crate::objects::{digests_value, keyslots_value, segments_value, tokens_value};
-use crate::values::text_value;
+use crate::values::{put_number, text_value};
 use luks_head::Bin2;
 use luks_reading::{ChosenCopy, Config, Meta};
 use luks_show::{before_zero, copies_name};
-use serde_json::{Map, Value, json, put};
+use serde_json::{Map, Value, put};
 use std::alloc::{AllocError, Global};
 
 /// The texts of the binary header.
@@ -49,11 +49,11 @@ pub(crate) fn luks2_value(alloc: Global, copy: &ChosenCopy) -> Result<Value, All
 fn sizes_value(alloc: Global, header_size: u64, config: Config) -> Result<Value, AllocError>
     ensures { IfOk result (λ v. view v ≡ sizes_value header_size config) }
 {
-    json!(in alloc; {
-        "header": header_size,
-        "json": config.json_size,
-        "keyslots": config.keyslots_size
-    })
+    let mut members = Map::new(alloc);
+    put_number(&mut members, alloc, "header", header_size)?;
+    put_number(&mut members, alloc, "json", config.json_size)?;
+    put_number(&mut members, alloc, "keyslots", config.keyslots_size)?;
+    Ok(Value::from(members))
 }
 
 fn header_members(

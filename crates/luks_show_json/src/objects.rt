@@ -1,8 +1,8 @@
 //! The objects of LUKS2 metadata, each kind as an array by number.
-use crate::values::{base64_text, numbers_value};
+use crate::values::{put_bytes, put_number, put_numbers, put_text};
 use luks_meta::{Argon2, Derivation, Encryption, KeyArea, Pbkdf2, Splitter};
 use luks_reading::{Cost, Digest, Extent, Keyslot, Meta, Segment, SegmentKind, Token};
-use serde_json::{Map, Value, json, put};
+use serde_json::{Map, Value, put};
 use std::alloc::{AllocError, Global};
 
 /// The priority of a keyslot that names none.
@@ -26,116 +26,96 @@ fn keyslot_value(
     digest: Option<u8>,
 ) -> Result<Value, AllocError> {
     let mut members = Map::new(alloc);
+    put_keyslot(&mut members, alloc, n, keyslot, digest)?;
+    Ok(Value::from(members))
+}
+
+fn put_keyslot(
+    members: &mut Map<String, Value>,
+    alloc: Global,
+    n: u8,
+    keyslot: &Keyslot<'_>,
+    digest: Option<u8>,
+) -> Result<(), AllocError> {
+    let priority = keyslot.priority.unwrap_or(NORMAL);
+    put(members, alloc, "area", area_value(alloc, &keyslot.area)?)?;
+    put(members, alloc, "digest", Value::from(digest))?;
+    put(members, alloc, "kdf", kdf_value(alloc, &keyslot.kdf)?)?;
+    put_number(members, alloc, "key_bytes", u64::from(keyslot.key_size))?;
+    put_number(members, alloc, "number", u64::from(n))?;
+    put_number(members, alloc, "priority", u64::from(priority))?;
     put(
-        &mut members,
-        alloc,
-        "area",
-        area_value(alloc, &keyslot.area)?,
-    )?;
-    put(&mut members, alloc, "digest", Value::from(digest))?;
-    put(&mut members, alloc, "kdf", kdf_value(alloc, &keyslot.kdf)?)?;
-    put(
-        &mut members,
-        alloc,
-        "key_bytes",
-        Value::from(keyslot.key_size),
-    )?;
-    put(&mut members, alloc, "number", Value::from(n))?;
-    put(
-        &mut members,
-        alloc,
-        "priority",
-        Value::from(keyslot.priority.unwrap_or(NORMAL)),
-    )?;
-    put(
-        &mut members,
+        members,
         alloc,
         "splitter",
         splitter_value(alloc, &keyslot.af)?,
     )?;
-    put_text(&mut members, alloc, "state", "enabled")?;
-    Ok(Value::from(members))
-}
-
-/// Puts a text.
-fn put_text(
-    members: &mut Map<String, Value>,
-    alloc: Global,
-    name: &str,
-    text: &str,
-) -> Result<(), AllocError> {
-    put(members, alloc, name, Value::try_from_str(alloc, text)?)
-}
-
-/// Puts bytes, in base64.
-fn put_bytes(
-    members: &mut Map<String, Value>,
-    alloc: Global,
-    name: &str,
-    bytes: &[u8],
-) -> Result<(), AllocError> {
-    put(
-        members,
-        alloc,
-        name,
-        Value::from(base64_text(alloc, bytes)?),
-    )
-}
-
-/// Puts an array of numbers.
-fn put_numbers(
-    members: &mut Map<String, Value>,
-    alloc: Global,
-    name: &str,
-    numbers: &[u8],
-) -> Result<(), AllocError> {
-    put(members, alloc, name, numbers_value(alloc, numbers)?)
+    put_text(members, alloc, "state", "enabled")
 }
 
 fn area_value(alloc: Global, area: &KeyArea<'_>) -> Result<Value, AllocError> {
-    json!(in alloc; {
-        "cipher": area.encryption,
-        "key_bytes": area.key_size,
-        "offset": area.offset,
-        "size": area.size
-    })
+    let mut members = Map::new(alloc);
+    put_area(&mut members, alloc, area)?;
+    Ok(Value::from(members))
+}
+
+fn put_area(
+    members: &mut Map<String, Value>,
+    alloc: Global,
+    area: &KeyArea<'_>,
+) -> Result<(), AllocError> {
+    put_text(members, alloc, "cipher", area.encryption)?;
+    put_number(members, alloc, "key_bytes", u64::from(area.key_size))?;
+    put_number(members, alloc, "offset", area.offset)?;
+    put_number(members, alloc, "size", area.size)
 }
 
 fn splitter_value(alloc: Global, splitter: &Splitter<'_>) -> Result<Value, AllocError> {
-    json!(in alloc; {"hash": splitter.hash, "stripes": splitter.stripes})
+    let mut members = Map::new(alloc);
+    put_text(&mut members, alloc, "hash", splitter.hash)?;
+    put_number(&mut members, alloc, "stripes", u64::from(splitter.stripes))?;
+    Ok(Value::from(members))
 }
 
 fn kdf_value(alloc: Global, kdf: &Derivation<'_>) -> Result<Value, AllocError> {
-    let salt = base64_text(alloc, kdf.salt.as_slice())?;
-    match kdf.cost {
-        Cost::Pbkdf2(cost) => pbkdf2_value(alloc, cost, salt),
-        Cost::Argon2i(cost) => argon2_value(alloc, "argon2i", cost, salt),
-        Cost::Argon2id(cost) => argon2_value(alloc, "argon2id", cost, salt),
+    let mut members = Map::new(alloc);
+    put_bytes(&mut members, alloc, "salt", kdf.salt.as_slice())?;
+    put_cost(&mut members, alloc, &kdf.cost)?;
+    Ok(Value::from(members))
+}
+
+fn put_cost(
+    members: &mut Map<String, Value>,
+    alloc: Global,
+    cost: &Cost<'_>,
+) -> Result<(), AllocError> {
+    match cost {
+        Cost::Pbkdf2(cost) => put_pbkdf2(members, alloc, cost),
+        Cost::Argon2i(cost) => put_argon2(members, alloc, "argon2i", cost),
+        Cost::Argon2id(cost) => put_argon2(members, alloc, "argon2id", cost),
     }
 }
 
-fn pbkdf2_value(alloc: Global, cost: Pbkdf2<'_>, salt: String) -> Result<Value, AllocError> {
-    json!(in alloc; {
-        "hash": cost.hash,
-        "iterations": cost.iterations,
-        "salt": salt,
-        "type": "pbkdf2"
-    })
+fn put_pbkdf2(
+    members: &mut Map<String, Value>,
+    alloc: Global,
+    cost: &Pbkdf2<'_>,
+) -> Result<(), AllocError> {
+    put_text(members, alloc, "hash", cost.hash)?;
+    put_number(members, alloc, "iterations", u64::from(cost.iterations))?;
+    put_text(members, alloc, "type", "pbkdf2")
 }
 
-fn argon2_value(
+fn put_argon2(
+    members: &mut Map<String, Value>,
     alloc: Global,
     kind: &str,
-    cost: Argon2,
-    salt: String,
-) -> Result<Value, AllocError> {
-    json!(in alloc; {
-        "cpus": cost.cpus,
-        "memory": cost.memory,
-        "salt": salt,
-        "time": cost.time,
-        "type": kind
-    })
+    cost: &Argon2,
+) -> Result<(), AllocError> {
+    put_number(members, alloc, "cpus", u64::from(cost.cpus))?;
+    put_number(members, alloc, "memory", u64::from(cost.memory))?;
+    put_number(members, alloc, "time", u64::from(cost.time))?;
+    put_text(members, alloc, "type", kind)
 }
 
 pub(crate) fn tokens_value(alloc: Global, meta: &Meta) -> Result<Value, AllocError> {
@@ -149,8 +129,11 @@ pub(crate) fn tokens_value(alloc: Global, meta: &Meta) -> Result<Value, AllocErr
 }
 
 fn token_value(alloc: Global, n: u8, token: &Token<'_>) -> Result<Value, AllocError> {
-    let keyslots = numbers_value(alloc, token.keyslots.as_slice())?;
-    json!(in alloc; {"keyslots": keyslots, "number": n, "type": token.kind})
+    let mut members = Map::new(alloc);
+    put_numbers(&mut members, alloc, "keyslots", token.keyslots.as_slice())?;
+    put_number(&mut members, alloc, "number", u64::from(n))?;
+    put_text(&mut members, alloc, "type", token.kind)?;
+    Ok(Value::from(members))
 }
 
 pub(crate) fn segments_value(alloc: Global, meta: &Meta) -> Result<Value, AllocError> {
@@ -165,42 +148,50 @@ pub(crate) fn segments_value(alloc: Global, meta: &Meta) -> Result<Value, AllocE
 
 fn segment_value(alloc: Global, n: u8, segment: &Segment<'_>) -> Result<Value, AllocError> {
     let mut members = Map::new(alloc);
-    put(&mut members, alloc, "number", Value::from(n))?;
-    put(&mut members, alloc, "offset", Value::from(segment.offset))?;
-    put(
-        &mut members,
-        alloc,
-        "size",
-        extent_value(alloc, segment.size)?,
-    )?;
-    match segment.kind {
-        SegmentKind::Crypt(encryption) => put_encryption(&mut members, alloc, encryption)?,
-        SegmentKind::Linear => put_text(&mut members, alloc, "type", "linear")?,
-    }
+    put_segment(&mut members, alloc, n, segment)?;
     Ok(Value::from(members))
+}
+
+fn put_segment(
+    members: &mut Map<String, Value>,
+    alloc: Global,
+    n: u8,
+    segment: &Segment<'_>,
+) -> Result<(), AllocError> {
+    put_number(members, alloc, "number", u64::from(n))?;
+    put_number(members, alloc, "offset", segment.offset)?;
+    put_extent(members, alloc, segment.size)?;
+    match &segment.kind {
+        SegmentKind::Crypt(encryption) => put_encryption(members, alloc, encryption),
+        SegmentKind::Linear => put_text(members, alloc, "type", "linear"),
+    }
+}
+
+fn put_extent(
+    members: &mut Map<String, Value>,
+    alloc: Global,
+    size: Extent,
+) -> Result<(), AllocError> {
+    match size {
+        Extent::Fixed(size) => put_number(members, alloc, "size", size),
+        Extent::Dynamic => put_text(members, alloc, "size", "dynamic"),
+    }
 }
 
 fn put_encryption(
     members: &mut Map<String, Value>,
     alloc: Global,
-    encryption: Encryption<'_>,
+    encryption: &Encryption<'_>,
 ) -> Result<(), AllocError> {
     put_text(members, alloc, "cipher", encryption.cipher)?;
-    put(members, alloc, "iv_tweak", Value::from(encryption.iv_tweak))?;
-    put(
+    put_number(members, alloc, "iv_tweak", encryption.iv_tweak)?;
+    put_number(
         members,
         alloc,
         "sector_size",
-        Value::from(encryption.sector_size),
+        u64::from(encryption.sector_size),
     )?;
     put_text(members, alloc, "type", "crypt")
-}
-
-fn extent_value(alloc: Global, extent: Extent) -> Result<Value, AllocError> {
-    match extent {
-        Extent::Fixed(size) => Ok(Value::from(size)),
-        Extent::Dynamic => Value::try_from_str(alloc, "dynamic"),
-    }
 }
 
 pub(crate) fn digests_value(alloc: Global, meta: &Meta) -> Result<Value, AllocError> {
@@ -215,18 +206,22 @@ pub(crate) fn digests_value(alloc: Global, meta: &Meta) -> Result<Value, AllocEr
 
 fn digest_value(alloc: Global, n: u8, digest: &Digest<'_>) -> Result<Value, AllocError> {
     let mut members = Map::new(alloc);
-    put_text(&mut members, alloc, "hash", digest.hash)?;
-    put(
-        &mut members,
-        alloc,
-        "iterations",
-        Value::from(digest.iterations),
-    )?;
-    put_numbers(&mut members, alloc, "keyslots", digest.keyslots.as_slice())?;
-    put(&mut members, alloc, "number", Value::from(n))?;
-    put_bytes(&mut members, alloc, "salt", digest.salt.as_slice())?;
-    put_numbers(&mut members, alloc, "segments", digest.segments.as_slice())?;
-    put_text(&mut members, alloc, "type", "pbkdf2")?;
-    put_bytes(&mut members, alloc, "value", digest.digest.as_slice())?;
+    put_digest(&mut members, alloc, n, digest)?;
     Ok(Value::from(members))
+}
+
+fn put_digest(
+    members: &mut Map<String, Value>,
+    alloc: Global,
+    n: u8,
+    digest: &Digest<'_>,
+) -> Result<(), AllocError> {
+    put_text(members, alloc, "hash", digest.hash)?;
+    put_number(members, alloc, "iterations", u64::from(digest.iterations))?;
+    put_numbers(members, alloc, "keyslots", digest.keyslots.as_slice())?;
+    put_number(members, alloc, "number", u64::from(n))?;
+    put_bytes(members, alloc, "salt", digest.salt.as_slice())?;
+    put_numbers(members, alloc, "segments", digest.segments.as_slice())?;
+    put_text(members, alloc, "type", "pbkdf2")?;
+    put_bytes(members, alloc, "value", digest.digest.as_slice())
 }

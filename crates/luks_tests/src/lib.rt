@@ -1,20 +1,10 @@
-//! Tests of the libraries below a volume: areas and devices, key derivation and the splitter, ciphers
-//! and headers. They stand here so that those libraries aren't proved a second time for them.
+//! Tests that are no vectors of luks_vectors: calls that are generic, and a device that remembers. They
+//! stand here so that the libraries aren't proved a second time for them.
 #![tactic(auto)]
 
 #[cfg(test)]
-mod areas;
+mod generic_calls;
 #[cfg(test)]
-mod ciphers;
-#[cfg(test)]
-mod derivation;
-#[cfg(test)]
-mod devices;
-#[cfg(test)]
-mod headers;
-#[cfg(test)]
-mod hexadecimal;
+mod remembering;
 #[cfg(test)]
 mod signatures;
-#[cfg(test)]
-mod splitter;

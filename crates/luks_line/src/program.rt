@@ -1,0 +1,83 @@
+//! The program and its commands, as `clap` reads them.
+
+use crate::helps;
+use crate::words::{Described, LongOption, Operand, Takes, commands};
+use clap::{Arg, Command};
+use std::alloc::{AllocError, Global};
+
+/// The program, with the commands that overwrite or without them.
+pub(crate) fn program<'a>(alloc: Global, overwriting: bool) -> Result<Command<'a>, AllocError> {
+    let mut program = bare_program(alloc);
+    for described in commands() {
+        program = with_command(alloc, program, described, overwriting)?;
+    }
+    Ok(program)
+}
+
+fn with_command<'a>(
+    alloc: Global,
+    program: Command<'a>,
+    described: &Described,
+    overwriting: bool,
+) -> Result<Command<'a>, AllocError> {
+    if described.overwrites && !overwriting {
+        return Ok(program);
+    }
+    program.subcommand(command(alloc, described)?)
+}
+
+fn bare_program<'a>(alloc: Global) -> Command<'a> {
+    Command::new(alloc, "luks")
+        .version(helps::VERSION)
+        .about(helps::PROGRAM)
+        .after_help(helps::PROGRAM_MORE)
+        .subcommand_required(true)
+}
+
+fn command<'a>(alloc: Global, described: &Described) -> Result<Command<'a>, AllocError> {
+    let mut command = with_operands(alloc, described)?;
+    for option in described.options.iter() {
+        command = command.arg(long_option(alloc, option))?;
+    }
+    Ok(command)
+}
+
+fn with_operands<'a>(alloc: Global, described: &Described) -> Result<Command<'a>, AllocError> {
+    let mut command = bare_command(alloc, described);
+    for operand in described.operands.iter() {
+        command = command.arg(positional(alloc, operand))?;
+    }
+    Ok(command)
+}
+
+fn bare_command<'a>(alloc: Global, described: &Described) -> Command<'a> {
+    let command = Command::new(alloc, described.name)
+        .about(described.about)
+        .after_help(described.more);
+    match described.usage {
+        Some(usage) => command.override_usage(usage),
+        None => command,
+    }
+}
+
+fn positional<'a>(alloc: Global, operand: &Operand) -> Arg<'a> {
+    Arg::new(alloc, operand.name)
+        .required(operand.needed)
+        .help(operand.help)
+}
+
+fn long_option<'a>(alloc: Global, option: &LongOption) -> Arg<'a> {
+    let arg = Arg::new(alloc, option.name)
+        .long(option.name)
+        .required(option.needed)
+        .help(option.help);
+    taking(arg, option.takes)
+}
+
+fn taking<'a>(arg: Arg<'a>, takes: Takes) -> Arg<'a> {
+    arg.action(takes.action())
+        .value_parser(takes.parser())
+        .value_names(takes.names())
+        .default_values(takes.preset())
+        .hide_possible_values(takes.hides())
+}

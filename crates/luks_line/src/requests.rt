@@ -1,0 +1,151 @@
+//! What the words of a command line ask for, once `clap` has told them apart.
+
+use clap::ArgMatches;
+use luks_kdf::HashName;
+use luks_reading::Data;
+use luks_request::{
+    Command, Converting, EditRequest, Editing, Line, Making, NewVersion, Rebuilding, ShowAs,
+};
+use luks_terms::Format;
+
+/// What the command of this name asks for, of a volume.
+pub(crate) fn line_of<'a>(name: &str, given: &ArgMatches<'a>) -> Option<Line<'a>> {
+    Some(Line {
+        volume: volume_of(given)?,
+        command: command_of(name, given)?,
+    })
+}
+
+/// The volume, which two commands call the source.
+fn volume_of<'a>(given: &ArgMatches<'a>) -> Option<&'a str> {
+    given.get_str("VOLUME").or(given.get_str("SOURCE"))
+}
+
+fn command_of<'a>(name: &str, given: &ArgMatches<'a>) -> Option<Command<'a>> {
+    match name {
+        "check" => Some(Command::Check {
+            data_: data_of(given),
+        }),
+        "show" => Some(Command::Show(form_of(given))),
+        "open" => opening_of(given),
+        "format" => Some(Command::Format(making_of(given)?)),
+        "convert" => Some(Command::Convert(converting_of(given)?)),
+        "rebuild" => Some(Command::Rebuild(rebuilding_of(given)?)),
+        _ => Some(Command::Edit(editing_of(name, given)?)),
+    }
+}
+
+fn opening_of<'a>(given: &ArgMatches<'a>) -> Option<Command<'a>> {
+    Some(Command::Open {
+        passphrase: given.get_str("passphrase")?,
+        slot: given.get_one::<u8>("slot"),
+        memory: given.get_one::<u32>("memory")?,
+    })
+}
+
+fn editing_of<'a>(name: &str, given: &ArgMatches<'a>) -> Option<Editing<'a>> {
+    Some(Editing {
+        request: edit_of(name, given)?,
+        random: given.get_str("random"),
+        data_: data_of(given),
+    })
+}
+
+fn edit_of<'a>(name: &str, given: &ArgMatches<'a>) -> Option<EditRequest<'a>> {
+    match name {
+        "add" => adding_of(given),
+        "change" => changing_of(given),
+        "remove" => removing_of(given),
+        "repair" => Some(EditRequest::Repair),
+        "label" => labelling_of(given),
+        _ => None,
+    }
+}
+
+fn adding_of<'a>(given: &ArgMatches<'a>) -> Option<EditRequest<'a>> {
+    Some(EditRequest::Add {
+        by_: given.get_one::<u8>("slot")?,
+        passphrase: given.get_str("passphrase")?,
+        memory: given.get_one::<u32>("memory")?,
+        new: given.get_str("new")?,
+        to: given.get_one::<u8>("to"),
+        iterations: given.get_one::<u32>("iterations")?,
+    })
+}
+
+fn changing_of<'a>(given: &ArgMatches<'a>) -> Option<EditRequest<'a>> {
+    Some(EditRequest::Change {
+        slot: given.get_one::<u8>("slot")?,
+        passphrase: given.get_str("passphrase")?,
+        memory: given.get_one::<u32>("memory")?,
+        new: given.get_str("new")?,
+        iterations: given.get_one::<u32>("iterations")?,
+    })
+}
+
+fn removing_of<'a>(given: &ArgMatches<'a>) -> Option<EditRequest<'a>> {
+    Some(EditRequest::Remove {
+        slot: given.get_one::<u8>("slot")?,
+        passphrase: given.get_str("passphrase")?,
+        memory: given.get_one::<u32>("memory")?,
+    })
+}
+
+fn labelling_of<'a>(given: &ArgMatches<'a>) -> Option<EditRequest<'a>> {
+    Some(EditRequest::Label {
+        text: given.get_str("TEXT")?,
+    })
+}
+
+fn making_of<'a>(given: &ArgMatches<'a>) -> Option<Making<'a>> {
+    Some(Making {
+        passphrase: given.get_str("passphrase")?,
+        random: given.get_str("random")?,
+        version: version_of(given)?,
+        format: Format {
+            hash: HashName::parse(given.get_str("hash")?)?,
+            iterations: given.get_one::<u32>("iterations")?,
+        },
+        data_: data_of(given),
+    })
+}
+
+fn version_of(given: &ArgMatches<'_>) -> Option<NewVersion> {
+    match given.get_str("version")? {
+        "1" => Some(NewVersion::Luks1),
+        _ => Some(NewVersion::Luks2),
+    }
+}
+
+fn converting_of<'a>(given: &ArgMatches<'a>) -> Option<Converting<'a>> {
+    Some(Converting {
+        target: given.get_str("TARGET")?,
+        random: given.get_str("random")?,
+        data_: data_of(given),
+    })
+}
+
+fn rebuilding_of<'a>(given: &ArgMatches<'a>) -> Option<Rebuilding<'a>> {
+    Some(Rebuilding {
+        target: given.get_str("TARGET")?,
+        random: given.get_str("random")?,
+        second: given.get_flag("second"),
+        uuid: given.get_str("uuid"),
+    })
+}
+
+fn data_of(given: &ArgMatches<'_>) -> Data {
+    if given.get_flag("detached") {
+        Data::Elsewhere
+    } else {
+        Data::Here
+    }
+}
+
+fn form_of(given: &ArgMatches<'_>) -> ShowAs {
+    if given.get_flag("json") {
+        ShowAs::Json
+    } else {
+        ShowAs::Lines
+    }
+}

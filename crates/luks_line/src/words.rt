@@ -1,0 +1,405 @@
+//! The commands and the words that may follow their names, in the order of the help.
+
+use crate::helps;
+use clap::ArgAction;
+use clap::builder::ValueParser;
+use luks_kdf::HashName;
+
+/// A command: its name, its help, and what may follow its name.
+#[derive(Clone, Copy)]
+pub(crate) struct Described {
+    pub(crate) name: &'static str,
+    /// Whether it writes over what stands there without a question, so that it is suggested for no
+    /// other word.
+    pub(crate) overwrites: bool,
+    /// What it does, in a line.
+    pub(crate) about: &'static str,
+    /// Its usage where that isn't `clap`'s.
+    pub(crate) usage: Option<&'static str>,
+    /// What its help has after its words.
+    pub(crate) more: &'static str,
+    pub(crate) operands: &'static [Operand],
+    pub(crate) options: &'static [LongOption],
+}
+
+/// A word that is known by its place.
+#[derive(Clone, Copy)]
+pub(crate) struct Operand {
+    pub(crate) name: &'static str,
+    pub(crate) needed: bool,
+    pub(crate) help: &'static str,
+}
+
+/// A word that is known by its name, after two hyphens.
+#[derive(Clone, Copy)]
+pub(crate) struct LongOption {
+    pub(crate) name: &'static str,
+    pub(crate) needed: bool,
+    pub(crate) help: &'static str,
+    pub(crate) takes: Takes,
+}
+
+/// What an option takes.
+#[derive(Clone, Copy)]
+pub(crate) enum Takes {
+    /// No value: it is there or it isn't.
+    Nothing,
+    /// The name of a file.
+    File,
+    /// The number of a keyslot.
+    Slot,
+    /// MiB of memory.
+    Memory,
+    /// Iterations of PBKDF2.
+    Iterations,
+    /// A version of LUKS.
+    Version,
+    /// The name of a hash.
+    Hash,
+    /// The text of a uuid.
+    Uuid,
+}
+
+impl Takes {
+    pub(crate) fn action(self) -> ArgAction {
+        match self {
+            Takes::Nothing => ArgAction::SetTrue,
+            _ => ArgAction::Set,
+        }
+    }
+
+    pub(crate) fn parser(self) -> ValueParser<'static> {
+        match self {
+            Takes::Nothing => ValueParser::Bool,
+            Takes::File | Takes::Uuid => ValueParser::String,
+            Takes::Slot => ValueParser::Unsigned(0, 31),
+            Takes::Memory => ValueParser::Unsigned(0, 4194303),
+            Takes::Iterations => ValueParser::Unsigned(0, 4294967295),
+            Takes::Version => ValueParser::Names(&["1", "2"]),
+            Takes::Hash => ValueParser::Names(HashName::NAMES),
+        }
+    }
+
+    /// What the help calls its value: one name, or none where it takes no value.
+    pub(crate) fn names(self) -> &'static [&'static str] {
+        match self {
+            Takes::Nothing => &[],
+            Takes::File => &["FILE"],
+            Takes::Slot | Takes::Iterations => &["N"],
+            Takes::Memory => &["MIB"],
+            Takes::Version => &["VERSION"],
+            Takes::Hash => &["HASH"],
+            Takes::Uuid => &["TEXT"],
+        }
+    }
+
+    /// The value that counts where the option isn't there: one, or none.
+    pub(crate) fn preset(self) -> &'static [&'static str] {
+        match self {
+            Takes::Memory => &["0"],
+            Takes::Iterations => &["100000"],
+            Takes::Version => &["2"],
+            Takes::Hash => &["sha256"],
+            _ => &[],
+        }
+    }
+
+    /// Whether the help doesn't list the values, since its text names them.
+    pub(crate) fn hides(self) -> bool {
+        matches!(self, Takes::Hash)
+    }
+}
+
+/// The commands.
+pub(crate) fn commands() -> &'static [Described] {
+    &COMMANDS
+}
+
+static COMMANDS: [Described; 12] = [
+    Described {
+        name: "check",
+        overwrites: false,
+        about: helps::CHECK,
+        usage: None,
+        more: helps::CHECK_MORE,
+        operands: &[VOLUME],
+        options: &[DETACHED],
+    },
+    Described {
+        name: "show",
+        overwrites: false,
+        about: helps::SHOW,
+        usage: None,
+        more: helps::SHOW_MORE,
+        operands: &[VOLUME],
+        options: &[JSON],
+    },
+    Described {
+        name: "open",
+        overwrites: false,
+        about: helps::OPEN,
+        usage: None,
+        more: helps::OPEN_MORE,
+        operands: &[VOLUME],
+        options: &[PASSPHRASE, TRIED_SLOT, MEMORY],
+    },
+    Described {
+        name: "add",
+        overwrites: false,
+        about: helps::ADD,
+        usage: Some(helps::ADD_USAGE),
+        more: helps::ADD_MORE,
+        operands: &[VOLUME],
+        options: &[
+            OPENED_SLOT,
+            PASSPHRASE,
+            NEW,
+            NEEDED_RANDOM,
+            TO,
+            ITERATIONS,
+            MEMORY,
+            DETACHED,
+        ],
+    },
+    Described {
+        name: "change",
+        overwrites: false,
+        about: helps::CHANGE,
+        usage: Some(helps::CHANGE_USAGE),
+        more: helps::CHANGE_MORE,
+        operands: &[VOLUME],
+        options: &[
+            OPENED_SLOT,
+            PASSPHRASE,
+            NEW,
+            NEEDED_RANDOM,
+            ITERATIONS,
+            MEMORY,
+            DETACHED,
+        ],
+    },
+    Described {
+        name: "remove",
+        overwrites: false,
+        about: helps::REMOVE,
+        usage: None,
+        more: helps::REMOVE_MORE,
+        operands: &[VOLUME],
+        options: &[OPENED_SLOT, PASSPHRASE, RANDOM, MEMORY, DETACHED],
+    },
+    Described {
+        name: "repair",
+        overwrites: false,
+        about: helps::REPAIR,
+        usage: None,
+        more: helps::REPAIR_MORE,
+        operands: &[VOLUME],
+        options: &[RANDOM, DETACHED],
+    },
+    Described {
+        name: "label",
+        overwrites: false,
+        about: helps::LABEL,
+        usage: None,
+        more: helps::LABEL_MORE,
+        operands: &[VOLUME, TEXT],
+        options: &[NEEDED_RANDOM, DETACHED],
+    },
+    Described {
+        name: "format",
+        overwrites: true,
+        about: helps::FORMAT,
+        usage: None,
+        more: helps::FORMAT_MORE,
+        operands: &[VOLUME],
+        options: &[
+            PASSPHRASE,
+            NEEDED_RANDOM,
+            VERSION,
+            HASH,
+            ITERATIONS,
+            DETACHED,
+        ],
+    },
+    Described {
+        name: "convert",
+        overwrites: false,
+        about: helps::CONVERT,
+        usage: None,
+        more: helps::CONVERT_MORE,
+        operands: &[SOURCE, TARGET],
+        options: &[NEEDED_RANDOM, DETACHED_SOURCE],
+    },
+    Described {
+        name: "rebuild",
+        overwrites: false,
+        about: helps::REBUILD,
+        usage: None,
+        more: helps::REBUILD_MORE,
+        operands: &[DAMAGED_SOURCE, REBUILT_TARGET],
+        options: &[NEEDED_RANDOM, SECOND, UUID],
+    },
+    Described {
+        name: "explain",
+        overwrites: false,
+        about: helps::EXPLAIN,
+        usage: None,
+        more: helps::EXPLAIN_MORE,
+        operands: &[FAULT],
+        options: &[],
+    },
+];
+
+const VOLUME: Operand = Operand {
+    name: "VOLUME",
+    needed: true,
+    help: "The volume, or its detached header",
+};
+
+const SOURCE: Operand = Operand {
+    name: "SOURCE",
+    needed: true,
+    help: "The LUKS1 volume, or its detached header",
+};
+
+const TARGET: Operand = Operand {
+    name: "TARGET",
+    needed: true,
+    help: "The file of the new header, of at least 16 MiB",
+};
+
+const DAMAGED_SOURCE: Operand = Operand {
+    name: "SOURCE",
+    needed: true,
+    help: "The LUKS2 volume, or its detached header",
+};
+
+const REBUILT_TARGET: Operand = Operand {
+    name: "TARGET",
+    needed: true,
+    help: "The file of the new header, mostly of 16 MiB",
+};
+
+const TEXT: Operand = Operand {
+    name: "TEXT",
+    needed: true,
+    help: "The label, at most 47 plain characters",
+};
+
+const FAULT: Operand = Operand {
+    name: "FAULT",
+    needed: false,
+    help: "The fault, or its name alone; else all are listed",
+};
+
+const DETACHED: LongOption = LongOption {
+    name: "detached",
+    needed: false,
+    help: "The data is on another device, no segment judged",
+    takes: Takes::Nothing,
+};
+
+const DETACHED_SOURCE: LongOption = LongOption {
+    name: "detached",
+    needed: false,
+    help: "SOURCE is a detached header, no segment judged",
+    takes: Takes::Nothing,
+};
+
+const JSON: LongOption = LongOption {
+    name: "json",
+    needed: false,
+    help: "One JSON object in place of the lines, for scripts",
+    takes: Takes::Nothing,
+};
+
+const PASSPHRASE: LongOption = LongOption {
+    name: "passphrase",
+    needed: true,
+    help: "The file of the passphrase, taken whole",
+    takes: Takes::File,
+};
+
+const NEW: LongOption = LongOption {
+    name: "new",
+    needed: true,
+    help: "The file of the new passphrase, taken whole",
+    takes: Takes::File,
+};
+
+const RANDOM: LongOption = LongOption {
+    name: "random",
+    needed: false,
+    help: "The file of the random bytes, as /dev/urandom",
+    takes: Takes::File,
+};
+
+const NEEDED_RANDOM: LongOption = LongOption {
+    name: "random",
+    needed: true,
+    help: "The file of the random bytes, as /dev/urandom",
+    takes: Takes::File,
+};
+
+const TRIED_SLOT: LongOption = LongOption {
+    name: "slot",
+    needed: false,
+    help: "The keyslot to try, 0 to 31; else all",
+    takes: Takes::Slot,
+};
+
+const OPENED_SLOT: LongOption = LongOption {
+    name: "slot",
+    needed: true,
+    help: "The keyslot that the passphrase opens, 0 to 31",
+    takes: Takes::Slot,
+};
+
+const TO: LongOption = LongOption {
+    name: "to",
+    needed: false,
+    help: "The new keyslot, 0 to 31; else the least free",
+    takes: Takes::Slot,
+};
+
+const MEMORY: LongOption = LongOption {
+    name: "memory",
+    needed: false,
+    help: "MiB of memory for Argon2, 0 to 4194303",
+    takes: Takes::Memory,
+};
+
+const ITERATIONS: LongOption = LongOption {
+    name: "iterations",
+    needed: false,
+    help: "Iterations of PBKDF2, at least 1000",
+    takes: Takes::Iterations,
+};
+
+const VERSION: LongOption = LongOption {
+    name: "version",
+    needed: false,
+    help: "LUKS1 or LUKS2",
+    takes: Takes::Version,
+};
+
+const HASH: LongOption = LongOption {
+    name: "hash",
+    needed: false,
+    help: HashName::LISTED,
+    takes: Takes::Hash,
+};
+
+const SECOND: LongOption = LongOption {
+    name: "second",
+    needed: false,
+    help: "Take the metadata of a second copy",
+    takes: Takes::Nothing,
+};
+
+const UUID: LongOption = LongOption {
+    name: "uuid",
+    needed: false,
+    help: "The uuid of the new header; else SOURCE's, or a new one",
+    takes: Takes::Uuid,
+};

@@ -1,0 +1,105 @@
+//! The command `show`.
+ghost use Rattle.std.specs.Prelude.{◌≡◌, ◌≢◌, ◌+◌, ◌<◌, ◌^◌, IfErr};
+ghost use Rattle.std.specs.Result.{ForOk};
+ghost use Rattle.luks_area.specs.Device.{IsUnchanged};
+ghost use Rattle.luks_commands.specs.Answer.{answer_status, Prints};
+ghost use Rattle.luks_commands.specs.Exit.{IsExitStatus};
+ghost use Rattle.luks_commands.specs.Files.{KeepsVolume};
+ghost use Rattle.luks_show_command.specs.ShowAnswers.{AnswersShow, IsAsJson, IsListedAnswer, IsShownAs};
+
+use luks_commands::{Answer, InputFault, Printer, Status, end, refused, unread};
+use luks_reading::{CheckFault, Device, Header, Luks1, read_header};
+use luks_request::ShowAs;
+use luks_show::Listing;
+use luks_show_json::json_text;
+use std::alloc::Global;
+use std::io::Write;
+
+/// Prints what the header of the volume of this name says, in this form; answers the exit status.
+pub fn run<D: Device, P: Printer, E: Write>(
+    alloc: Global,
+    volume: &mut Result<D, InputFault>,
+    name: &str,
+    form: ShowAs,
+    out: &mut P,
+    err: &mut E,
+) -> u8
+    requires room { ForOk volume.old (λ d. D.failed d + 1 < 2 ^ 64) }
+    requires printer { P.failures out.old + 1 < 2 ^ 64 }
+    ensures unchanged { KeepsVolume D.tells D.size D.bytes D.unsettled volume.old volume.new }
+    ensures status { IsExitStatus result }
+    ensures kinds { result ≢ 3 }
+    ensures unread { IfErr volume.old (λ _. result ≢ 0) }
+    ensures answers { Prints (AnswersShow form D.tells D.bytes D.failed volume.old volume.new)
+        (P.failures out.old) (P.failures out.new) (P.printed out.old) (P.printed out.new) result }
+{
+    let answer = show_volume(alloc, volume, name, form, err);
+    end(&answer, out)
+}
+
+fn show_volume<D: Device, E: Write>(
+    alloc: Global,
+    volume: &mut Result<D, InputFault>,
+    name: &str,
+    form: ShowAs,
+    err: &mut E,
+) -> Answer
+    requires { ForOk volume.old (λ d. D.failed d + 1 < 2 ^ 64) }
+    ensures unchanged { KeepsVolume D.tells D.size D.bytes D.unsettled volume.old volume.new }
+    ensures kinds { answer_status result ≢ Status.NotInStep }
+    ensures unread { IfErr volume.old (λ _. answer_status result ≢ Status.Done) }
+    ensures answers { AnswersShow form D.tells D.bytes D.failed volume.old volume.new result }
+{
+    match volume {
+        Ok(device) => shown_as(alloc, form, show_device(alloc, device, name, err)),
+        Err(fault) => unread(*fault, name, err),
+    }
+}
+
+/// The answer in this form, where it was one for the lines.
+fn shown_as(alloc: Global, form: ShowAs, answer: Answer) -> Answer
+    ensures answers { IsShownAs form answer result }
+    ensures kinds { answer_status answer ≢ Status.NotInStep
+        → answer_status result ≢ Status.NotInStep }
+{
+    match form {
+        ShowAs::Lines => answer,
+        ShowAs::Json => as_json(alloc, answer),
+    }
+}
+
+fn as_json(alloc: Global, answer: Answer) -> Answer
+    ensures answers { IsAsJson answer result }
+    ensures kinds { answer_status answer ≢ Status.NotInStep
+        → answer_status result ≢ Status.NotInStep }
+{
+    match answer {
+        Answer::Listed(listing) => match json_text(alloc, &listing) {
+            Ok(text) => Answer::Json(text),
+            Err(_) => Answer::NoMemory,
+        },
+        answer => answer,
+    }
+}
+
+fn show_device<D: Device, E: Write>(
+    alloc: Global,
+    device: &mut D,
+    name: &str,
+    err: &mut E,
+) -> Answer
+    requires { D.failed device.old + 1 < 2 ^ 64 }
+    ensures unchanged { IsUnchanged D.tells D.size D.bytes D.unsettled device.old device.new }
+    ensures kinds { answer_status result ≢ Status.NotInStep }
+    ensures answers { IsListedAnswer D.tells (D.bytes device.old)
+        (D.failed device.old) (D.failed device.new) result }
+{
+    match read_header(alloc, device) {
+        Ok(Header::Luks1(bytes)) => match Luks1::read(&bytes) {
+            Ok(header) => Answer::Listed(Listing::Luks1(header)),
+            Err(fault) => refused(CheckFault::from(fault), name, err),
+        },
+        Ok(Header::Luks2(copy)) => Answer::Listed(Listing::Luks2(copy)),
+        Err(fault) => refused(CheckFault::from(fault), name, err),
+    }
+}

@@ -1,0 +1,54 @@
+//! AES and XTS.
+use crate::malformed::{Malformed, demand};
+use crate::words::Words;
+use luks_xts::{AesKey, XtsKey};
+use std::alloc::Global;
+
+/// `aes KEY BLOCK`: the block that the key encrypts this one to, and whether it decrypts that one back;
+/// `no key` where the key has another length.
+pub fn aes(alloc: Global, words: &mut Words<'_>) -> Result<String, Malformed> {
+    let key = words.bytes(alloc)?;
+    let block = block_of(words.word()?)?;
+    let Some(key) = AesKey::new(&key) else {
+        return Ok(String::from_str(alloc, "no key")?);
+    };
+    let sealed = key.encrypt(block);
+    let is_opened = key.decrypt(sealed) == block;
+    told(alloc, &sealed, is_opened)
+}
+
+/// The block that hexadecimal digits stand for.
+fn block_of(word: &str) -> Result<[u8; 16], Malformed> {
+    match u128::from_str_radix(word, 16) {
+        Ok(block) => Ok(block.to_be_bytes()),
+        Err(_) => Err(Malformed::Bytes),
+    }
+}
+
+/// `xts KEY UNIT BYTES`: what the key encrypts the unit of this number to, of whole blocks, and whether
+/// it decrypts that back; `no key` where the key has another length.
+pub fn xts(alloc: Global, words: &mut Words<'_>) -> Result<String, Malformed> {
+    let key = words.bytes(alloc)?;
+    let unit = words.number()?;
+    let plain = words.bytes(alloc)?;
+    demand(plain.len() % 16 == 0)?;
+    let Some(key) = XtsKey::new(&key) else {
+        return Ok(String::from_str(alloc, "no key")?);
+    };
+    let mut sealed = plain.clone()?;
+    key.seal_unit(unit, &mut sealed);
+    let mut opened = sealed.clone()?;
+    key.open_unit(unit, &mut opened);
+    told(alloc, &sealed, opened.as_slice() == plain.as_slice())
+}
+
+/// The sealed bytes, and whether they were opened to what was sealed.
+fn told(alloc: Global, sealed: &[u8], is_opened: bool) -> Result<String, Malformed> {
+    let mut text = hex::encode(alloc, sealed)?;
+    text.push_str(if is_opened {
+        " opens"
+    } else {
+        " opens to another"
+    })?;
+    Ok(text)
+}
