@@ -1,6 +1,6 @@
 -- The first of some rows is one.
 use Rattle.std.proofs.Common.{◌≡◌, ℕ, List, [], ◌∷◌, ◌++◌, Option, Some, None, refl, sym, ap, ◌∙◌, subst}
-use Rattle.luks_signatures.specs.Signatures.{Finds, HasNone, IsIn, Row}
+use Rattle.luks_signatures.specs.Signatures.{Finds, HasNone, IsFirst, IsIn, Row}
 use Rattle.luks_signatures.specs.declared.other_use.OtherUse.{OtherUse}
 
 -- where none of the rows has its mark there, none of them is a row whose mark is

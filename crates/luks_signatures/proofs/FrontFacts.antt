@@ -1,8 +1,8 @@
 -- Bytes that are read of a disk, and those of its first ones.
-use Rattle.std.proofs.Common.{◌≡◌, ℕ, ◌+◌, ◌*◌, ◌≤◌, List, Bool, Result, Ok, Err, IfOk, IsTrue, ◌⊎◌, inl, inr, length, min, take, sym, ap, ◌∙◌, arith, subst, zero-add, ◌↔◌}
+use Rattle.std.proofs.Common.{◌≡◌, ◌≢◌, ℕ, ◌+◌, ◌*◌, ◌<◌, ◌≤◌, List, [], ◌∷◌, Bool, Result, Ok, Err, IfOk, IsTrue, ◌⊎◌, inl, inr, length, min, take, refl, sym, ap, ◌∙◌, arith, subst, zero-add, ◌↔◌}
 use Rattle.std.proofs.lemmas.Grind.{common_steps}
 use Rattle.luks_area.specs.Ranges.{part}
-use Rattle.luks_area.specs.RangeFacts.{length-part, part-part}
+use Rattle.luks_area.specs.RangeFacts.{length-part, length-part_inside, part-part}
 use Rattle.luks_signatures.specs.Signatures.{HasPartition, IsPartition, Stands}
 
 -- a part that lies inside the first bytes is the same part of them

@@ -1,6 +1,8 @@
 -- Rows of the program's table, one after another.
-use Rattle.std.proofs.Common.{◌≡◌, ℕ, ◌+◌, ◌<◌, List, [], ◌∷◌, ◌++◌, length, take, drop, get_or, refl, ap, arith, add-one, suc, zero}
-use Rattle.std.specs.Prelude.{map}
+use Rattle.std.proofs.Common.{◌≡◌, ℕ, ◌+◌, ◌<◌, ◌≤◌, List, [], ◌∷◌, ◌++◌, Bool, true, false, length, take, drop, get_or, refl, sym, ap, ◌∙◌, arith, subst, IsTrue, add-one, suc, zero}
+use Rattle.std.specs.Prelude.{map, ◌&&◌}
+use Rattle.std.proofs.lemmas.List.{take-append-drop}
+use Rattle.std.proofs.Math.Seq.{drop-cons}
 use Rattle.luks_signatures.specs.Signatures.{HasNone, IsFirst, IsIn}
 use Rattle.luks_signatures.specs.Views.{row_of}
 use Rattle.luks_signatures.specs.declared.table.Row.{Row as TableRow}

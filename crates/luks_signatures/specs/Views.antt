@@ -1,5 +1,5 @@
 -- The program's table as that of the definition: words of private contracts.
-use Rattle.std.specs.Prelude.{Bool, true, ◌&&◌, nat_le, List, length}
+use Rattle.std.specs.Prelude.{◌≡◌, ℕ, Bool, true, ◌&&◌, nat_le, List, map, length}
 use Rattle.std.specs.List.{list_all}
 use Rattle.luks_signatures.specs.Signatures.{Row}
 use Rattle.luks_signatures.specs.Signatures as definition

@@ -1,13 +1,15 @@
 //! What else a disk is used for, by the signatures at its start. Their places and bytes are those of the
 //! formats' own documents; libblkid takes disks that have them for the same (testdata/oracle/signatures).
 use luks_area::{Device, FaultyDevice, Leave, MemDevice};
-use luks_samples::{Change, overwrite};
 use luks_signatures::OtherUse::{
     self, Bcache, BitLocker, Btrfs, ExFat, Ext, Fat, Gpt, Lvm2, Mbr, Md, Ntfs, Swap, Xfs, Zfs,
 };
 use luks_signatures::first_use;
 use std::alloc::{AllocError, Global};
 use std::test::Fail;
+
+/// Bytes, and the place from which on they stand.
+type Mark = (usize, &'static [u8]);
 
 const MD: &[u8] = &[0xFC, 0x4E, 0x2B, 0xA9];
 
@@ -20,7 +22,7 @@ const UBERBLOCK: &[u8] = &[0x0C, 0xB1, 0xBA, 0, 0, 0, 0, 0];
 const BIG_UBERBLOCK: &[u8] = &[0, 0, 0, 0, 0, 0xBA, 0xB1, 0x0C];
 
 /// Each signature of bytes at a place.
-static SIGNATURES: [(OtherUse, Change); 39] = [
+static SIGNATURES: [(OtherUse, Mark); 39] = [
     (Gpt, (512, b"EFI PART")),
     (Gpt, (4096, b"EFI PART")),
     (Md, (0, MD)),
@@ -64,7 +66,7 @@ static SIGNATURES: [(OtherUse, Change); 39] = [
 
 /// Disks of 4608 bytes, zeros but for these, and what they show: of several signatures the first one, and
 /// a partition where an entry has a type and sectors.
-static DISKS: [(&[Change], Option<OtherUse>); 24] = [
+static DISKS: [(&[Mark], Option<OtherUse>); 24] = [
     (&[], None),
     (
         &[(450, &[0x83]), (458, &[1]), (510, &[0x55, 0xAA])],
@@ -175,7 +177,7 @@ fn ending(alloc: Global, place: usize, bytes: &[u8]) -> Result<Vec<u8>, AllocErr
 
 /// Whether the use is found where its bytes are wholly among those that are asked of and on the disk,
 /// and nothing where the last one isn't, or where they stand a byte further on.
-fn is_shown(alloc: Global, wanted: OtherUse, (place, bytes): Change) -> Result<bool, AllocError> {
+fn is_shown(alloc: Global, wanted: OtherUse, (place, bytes): Mark) -> Result<bool, AllocError> {
     let disk = ending(alloc, place, bytes)?;
     let end = disk.len();
     let mut cut = disk.clone()?;
@@ -192,7 +194,7 @@ fn is_shown(alloc: Global, wanted: OtherUse, (place, bytes): Change) -> Result<b
 }
 
 /// Whether nothing is found where any one of the bytes is another.
-fn is_shown_by_each(alloc: Global, (place, bytes): Change) -> Result<bool, AllocError> {
+fn is_shown_by_each(alloc: Global, (place, bytes): Mark) -> Result<bool, AllocError> {
     for i in 0..bytes.len() {
         let mut others = bytes.to_vec(alloc)?;
         others[i] ^= 0x20;
@@ -203,10 +205,19 @@ fn is_shown_by_each(alloc: Global, (place, bytes): Change) -> Result<bool, Alloc
     Ok(true)
 }
 
+/// Puts bytes over those of a disk.
+fn put(disk: &mut [u8], (place, bytes): Mark) {
+    for (byte, new) in disk.iter_mut().skip(place).zip(bytes) {
+        *byte = *new;
+    }
+}
+
 /// What a disk shows that has these marks.
-fn shown_by(alloc: Global, marks: &[Change]) -> Result<Option<OtherUse>, AllocError> {
+fn shown_by(alloc: Global, marks: &[Mark]) -> Result<Option<OtherUse>, AllocError> {
     let mut disk = vec![in alloc; 0u8; 4608]?;
-    overwrite(&mut disk, marks);
+    for mark in marks {
+        put(&mut disk, *mark);
+    }
     Ok(shown(disk, usize::MAX))
 }
 

@@ -1,4 +1,4 @@
-use Rattle.std.proofs.Common.{sym, ◌∙◌}
+use Rattle.std.proofs.Common.{take, sym, ◌∙◌}
 use Rattle.std.proofs.lemmas.Bool.{false≢true}
 use Rattle.luks_area.specs.Device.{unchanged-then}
 use Rattle.luks_signatures.proofs.TableFacts.{first_found, none_more}
