@@ -37,7 +37,7 @@ fn split_and_merge() -> bool {
     split::<Sha256Fn>(&mut stripes, KEY, &random);
     let mut merged = [0; 64];
     merge::<Sha256Fn>(&mut merged, &stripes);
-    stripes[128..] == *LAST && merged == *KEY
+    &stripes[128..] == LAST.as_slice() && merged == *KEY
 }
 
 /// The same a stripe at a time.

@@ -2,9 +2,9 @@
 //! function gives. What is owed stands in the file `stdout`, so that a further vector is a line of
 //! text and no code that is proved.
 //!
-//! A line that is empty or begins with `#` is printed as it stands. The words of a line are parted by
-//! single spaces: the first is the function's name, and `Session` says what follows it. A malformed
-//! line ends the run, with its number.
+//! A line that is empty or begins with `#` is printed as it stands; it has the case and its source. The
+//! words of another are parted by single spaces: the first is the function's name, and what follows it
+//! stands above the function here. A malformed line ends the run, with its number.
 #![tactic(auto)]
 
 mod areas;
