@@ -1,7 +1,7 @@
 //! The program and its commands, as `clap` reads them.
 
 use crate::helps;
-use crate::words::{Described, LongOption, Operand, Takes, commands};
+use crate::words::{Described, OperandRow, OptionRow, Takes, commands};
 use clap::{Arg, Command};
 use std::alloc::{AllocError, Global};
 
@@ -37,7 +37,7 @@ fn bare_program<'a>(alloc: Global) -> Command<'a> {
 fn command<'a>(alloc: Global, described: &Described) -> Result<Command<'a>, AllocError> {
     let mut command = with_operands(alloc, described)?;
     for option in described.options.iter() {
-        command = command.arg(long_option(alloc, option))?;
+        command = command.arg(long_option(alloc, option.row()))?;
     }
     Ok(command)
 }
@@ -45,7 +45,7 @@ fn command<'a>(alloc: Global, described: &Described) -> Result<Command<'a>, Allo
 fn with_operands<'a>(alloc: Global, described: &Described) -> Result<Command<'a>, AllocError> {
     let mut command = bare_command(alloc, described);
     for operand in described.operands.iter() {
-        command = command.arg(positional(alloc, operand))?;
+        command = command.arg(positional(alloc, operand.row()))?;
     }
     Ok(command)
 }
@@ -60,13 +60,13 @@ fn bare_command<'a>(alloc: Global, described: &Described) -> Command<'a> {
     }
 }
 
-fn positional<'a>(alloc: Global, operand: &Operand) -> Arg<'a> {
+fn positional<'a>(alloc: Global, operand: &OperandRow) -> Arg<'a> {
     Arg::new(alloc, operand.name)
         .required(operand.needed)
         .help(operand.help)
 }
 
-fn long_option<'a>(alloc: Global, option: &LongOption) -> Arg<'a> {
+fn long_option<'a>(alloc: Global, option: &OptionRow) -> Arg<'a> {
     let arg = Arg::new(alloc, option.name)
         .long(option.name)
         .required(option.needed)

@@ -22,17 +22,60 @@ pub(crate) struct Described {
     pub(crate) options: &'static [LongOption],
 }
 
-/// A word that is known by its place.
+/// A word that is known by its place, by its row in `OPERANDS`.
 #[derive(Clone, Copy)]
-pub(crate) struct Operand {
+pub(crate) enum Operand {
+    Volume,
+    Source,
+    Target,
+    DamagedSource,
+    RebuiltTarget,
+    Text,
+    Fault,
+}
+
+impl Operand {
+    pub(crate) fn row(self) -> &'static OperandRow {
+        &OPERANDS[self as usize]
+    }
+}
+
+#[derive(Clone, Copy)]
+pub(crate) struct OperandRow {
     pub(crate) name: &'static str,
     pub(crate) needed: bool,
     pub(crate) help: &'static str,
 }
 
-/// A word that is known by its name, after two hyphens.
+/// A word that is known by its name, after two hyphens, by its row in `OPTIONS`.
 #[derive(Clone, Copy)]
-pub(crate) struct LongOption {
+pub(crate) enum LongOption {
+    Detached,
+    DetachedSource,
+    Json,
+    Passphrase,
+    New,
+    Random,
+    NeededRandom,
+    TriedSlot,
+    OpenedSlot,
+    To,
+    Memory,
+    Iterations,
+    Version,
+    Hash,
+    Second,
+    Uuid,
+}
+
+impl LongOption {
+    pub(crate) fn row(self) -> &'static OptionRow {
+        &OPTIONS[self as usize]
+    }
+}
+
+#[derive(Clone, Copy)]
+pub(crate) struct OptionRow {
     pub(crate) name: &'static str,
     pub(crate) needed: bool,
     pub(crate) help: &'static str,
@@ -122,8 +165,8 @@ static COMMANDS: [Described; 12] = [
         about: helps::CHECK,
         usage: None,
         more: helps::CHECK_MORE,
-        operands: &[VOLUME],
-        options: &[DETACHED],
+        operands: &[Operand::Volume],
+        options: &[LongOption::Detached],
     },
     Described {
         name: "show",
@@ -131,8 +174,8 @@ static COMMANDS: [Described; 12] = [
         about: helps::SHOW,
         usage: None,
         more: helps::SHOW_MORE,
-        operands: &[VOLUME],
-        options: &[JSON],
+        operands: &[Operand::Volume],
+        options: &[LongOption::Json],
     },
     Described {
         name: "open",
@@ -140,8 +183,12 @@ static COMMANDS: [Described; 12] = [
         about: helps::OPEN,
         usage: None,
         more: helps::OPEN_MORE,
-        operands: &[VOLUME],
-        options: &[PASSPHRASE, TRIED_SLOT, MEMORY],
+        operands: &[Operand::Volume],
+        options: &[
+            LongOption::Passphrase,
+            LongOption::TriedSlot,
+            LongOption::Memory,
+        ],
     },
     Described {
         name: "add",
@@ -149,16 +196,16 @@ static COMMANDS: [Described; 12] = [
         about: helps::ADD,
         usage: Some(helps::ADD_USAGE),
         more: helps::ADD_MORE,
-        operands: &[VOLUME],
+        operands: &[Operand::Volume],
         options: &[
-            OPENED_SLOT,
-            PASSPHRASE,
-            NEW,
-            NEEDED_RANDOM,
-            TO,
-            ITERATIONS,
-            MEMORY,
-            DETACHED,
+            LongOption::OpenedSlot,
+            LongOption::Passphrase,
+            LongOption::New,
+            LongOption::NeededRandom,
+            LongOption::To,
+            LongOption::Iterations,
+            LongOption::Memory,
+            LongOption::Detached,
         ],
     },
     Described {
@@ -167,15 +214,15 @@ static COMMANDS: [Described; 12] = [
         about: helps::CHANGE,
         usage: Some(helps::CHANGE_USAGE),
         more: helps::CHANGE_MORE,
-        operands: &[VOLUME],
+        operands: &[Operand::Volume],
         options: &[
-            OPENED_SLOT,
-            PASSPHRASE,
-            NEW,
-            NEEDED_RANDOM,
-            ITERATIONS,
-            MEMORY,
-            DETACHED,
+            LongOption::OpenedSlot,
+            LongOption::Passphrase,
+            LongOption::New,
+            LongOption::NeededRandom,
+            LongOption::Iterations,
+            LongOption::Memory,
+            LongOption::Detached,
         ],
     },
     Described {
@@ -184,8 +231,14 @@ static COMMANDS: [Described; 12] = [
         about: helps::REMOVE,
         usage: None,
         more: helps::REMOVE_MORE,
-        operands: &[VOLUME],
-        options: &[OPENED_SLOT, PASSPHRASE, RANDOM, MEMORY, DETACHED],
+        operands: &[Operand::Volume],
+        options: &[
+            LongOption::OpenedSlot,
+            LongOption::Passphrase,
+            LongOption::Random,
+            LongOption::Memory,
+            LongOption::Detached,
+        ],
     },
     Described {
         name: "repair",
@@ -193,8 +246,8 @@ static COMMANDS: [Described; 12] = [
         about: helps::REPAIR,
         usage: None,
         more: helps::REPAIR_MORE,
-        operands: &[VOLUME],
-        options: &[RANDOM, DETACHED],
+        operands: &[Operand::Volume],
+        options: &[LongOption::Random, LongOption::Detached],
     },
     Described {
         name: "label",
@@ -202,8 +255,8 @@ static COMMANDS: [Described; 12] = [
         about: helps::LABEL,
         usage: None,
         more: helps::LABEL_MORE,
-        operands: &[VOLUME, TEXT],
-        options: &[NEEDED_RANDOM, DETACHED],
+        operands: &[Operand::Volume, Operand::Text],
+        options: &[LongOption::NeededRandom, LongOption::Detached],
     },
     Described {
         name: "format",
@@ -211,14 +264,14 @@ static COMMANDS: [Described; 12] = [
         about: helps::FORMAT,
         usage: None,
         more: helps::FORMAT_MORE,
-        operands: &[VOLUME],
+        operands: &[Operand::Volume],
         options: &[
-            PASSPHRASE,
-            NEEDED_RANDOM,
-            VERSION,
-            HASH,
-            ITERATIONS,
-            DETACHED,
+            LongOption::Passphrase,
+            LongOption::NeededRandom,
+            LongOption::Version,
+            LongOption::Hash,
+            LongOption::Iterations,
+            LongOption::Detached,
         ],
     },
     Described {
@@ -227,8 +280,8 @@ static COMMANDS: [Described; 12] = [
         about: helps::CONVERT,
         usage: None,
         more: helps::CONVERT_MORE,
-        operands: &[SOURCE, TARGET],
-        options: &[NEEDED_RANDOM, DETACHED_SOURCE],
+        operands: &[Operand::Source, Operand::Target],
+        options: &[LongOption::NeededRandom, LongOption::DetachedSource],
     },
     Described {
         name: "rebuild",
@@ -236,8 +289,12 @@ static COMMANDS: [Described; 12] = [
         about: helps::REBUILD,
         usage: None,
         more: helps::REBUILD_MORE,
-        operands: &[DAMAGED_SOURCE, REBUILT_TARGET],
-        options: &[NEEDED_RANDOM, SECOND, UUID],
+        operands: &[Operand::DamagedSource, Operand::RebuiltTarget],
+        options: &[
+            LongOption::NeededRandom,
+            LongOption::Second,
+            LongOption::Uuid,
+        ],
     },
     Described {
         name: "explain",
@@ -245,161 +302,146 @@ static COMMANDS: [Described; 12] = [
         about: helps::EXPLAIN,
         usage: None,
         more: helps::EXPLAIN_MORE,
-        operands: &[FAULT],
+        operands: &[Operand::Fault],
         options: &[],
     },
 ];
 
-const VOLUME: Operand = Operand {
-    name: "VOLUME",
-    needed: true,
-    help: "The volume, or its detached header",
-};
+/// In the order of `Operand`.
+static OPERANDS: [OperandRow; 7] = [
+    OperandRow {
+        name: "VOLUME",
+        needed: true,
+        help: "The volume, or its detached header",
+    },
+    OperandRow {
+        name: "SOURCE",
+        needed: true,
+        help: "The LUKS1 volume, or its detached header",
+    },
+    OperandRow {
+        name: "TARGET",
+        needed: true,
+        help: "The file of the new header, of at least 16 MiB",
+    },
+    OperandRow {
+        name: "SOURCE",
+        needed: true,
+        help: "The LUKS2 volume, or its detached header",
+    },
+    OperandRow {
+        name: "TARGET",
+        needed: true,
+        help: "The file of the new header, mostly of 16 MiB",
+    },
+    OperandRow {
+        name: "TEXT",
+        needed: true,
+        help: "The label, at most 47 plain characters",
+    },
+    OperandRow {
+        name: "FAULT",
+        needed: false,
+        help: "The fault, or its name alone; else all are listed",
+    },
+];
 
-const SOURCE: Operand = Operand {
-    name: "SOURCE",
-    needed: true,
-    help: "The LUKS1 volume, or its detached header",
-};
-
-const TARGET: Operand = Operand {
-    name: "TARGET",
-    needed: true,
-    help: "The file of the new header, of at least 16 MiB",
-};
-
-const DAMAGED_SOURCE: Operand = Operand {
-    name: "SOURCE",
-    needed: true,
-    help: "The LUKS2 volume, or its detached header",
-};
-
-const REBUILT_TARGET: Operand = Operand {
-    name: "TARGET",
-    needed: true,
-    help: "The file of the new header, mostly of 16 MiB",
-};
-
-const TEXT: Operand = Operand {
-    name: "TEXT",
-    needed: true,
-    help: "The label, at most 47 plain characters",
-};
-
-const FAULT: Operand = Operand {
-    name: "FAULT",
-    needed: false,
-    help: "The fault, or its name alone; else all are listed",
-};
-
-const DETACHED: LongOption = LongOption {
-    name: "detached",
-    needed: false,
-    help: "The data is on another device, no segment judged",
-    takes: Takes::Nothing,
-};
-
-const DETACHED_SOURCE: LongOption = LongOption {
-    name: "detached",
-    needed: false,
-    help: "SOURCE is a detached header, no segment judged",
-    takes: Takes::Nothing,
-};
-
-const JSON: LongOption = LongOption {
-    name: "json",
-    needed: false,
-    help: "One JSON object in place of the lines, for scripts",
-    takes: Takes::Nothing,
-};
-
-const PASSPHRASE: LongOption = LongOption {
-    name: "passphrase",
-    needed: true,
-    help: "The file of the passphrase, taken whole",
-    takes: Takes::File,
-};
-
-const NEW: LongOption = LongOption {
-    name: "new",
-    needed: true,
-    help: "The file of the new passphrase, taken whole",
-    takes: Takes::File,
-};
-
-const RANDOM: LongOption = LongOption {
-    name: "random",
-    needed: false,
-    help: "The file of the random bytes, as /dev/urandom",
-    takes: Takes::File,
-};
-
-const NEEDED_RANDOM: LongOption = LongOption {
-    name: "random",
-    needed: true,
-    help: "The file of the random bytes, as /dev/urandom",
-    takes: Takes::File,
-};
-
-const TRIED_SLOT: LongOption = LongOption {
-    name: "slot",
-    needed: false,
-    help: "The keyslot to try, 0 to 31; else all",
-    takes: Takes::Slot,
-};
-
-const OPENED_SLOT: LongOption = LongOption {
-    name: "slot",
-    needed: true,
-    help: "The keyslot that the passphrase opens, 0 to 31",
-    takes: Takes::Slot,
-};
-
-const TO: LongOption = LongOption {
-    name: "to",
-    needed: false,
-    help: "The new keyslot, 0 to 31; else the least free",
-    takes: Takes::Slot,
-};
-
-const MEMORY: LongOption = LongOption {
-    name: "memory",
-    needed: false,
-    help: "MiB of memory for Argon2, 0 to 4194303",
-    takes: Takes::Memory,
-};
-
-const ITERATIONS: LongOption = LongOption {
-    name: "iterations",
-    needed: false,
-    help: "Iterations of PBKDF2, at least 1000",
-    takes: Takes::Iterations,
-};
-
-const VERSION: LongOption = LongOption {
-    name: "version",
-    needed: false,
-    help: "LUKS1 or LUKS2",
-    takes: Takes::Version,
-};
-
-const HASH: LongOption = LongOption {
-    name: "hash",
-    needed: false,
-    help: HashName::LISTED,
-    takes: Takes::Hash,
-};
-
-const SECOND: LongOption = LongOption {
-    name: "second",
-    needed: false,
-    help: "Take the metadata of a second copy",
-    takes: Takes::Nothing,
-};
-
-const UUID: LongOption = LongOption {
-    name: "uuid",
-    needed: false,
-    help: "The uuid of the new header; else SOURCE's, or a new one",
-    takes: Takes::Uuid,
-};
+/// In the order of `LongOption`.
+static OPTIONS: [OptionRow; 16] = [
+    OptionRow {
+        name: "detached",
+        needed: false,
+        help: "The data is on another device, no segment judged",
+        takes: Takes::Nothing,
+    },
+    OptionRow {
+        name: "detached",
+        needed: false,
+        help: "SOURCE is a detached header, no segment judged",
+        takes: Takes::Nothing,
+    },
+    OptionRow {
+        name: "json",
+        needed: false,
+        help: "One JSON object in place of the lines, for scripts",
+        takes: Takes::Nothing,
+    },
+    OptionRow {
+        name: "passphrase",
+        needed: true,
+        help: "The file of the passphrase, taken whole",
+        takes: Takes::File,
+    },
+    OptionRow {
+        name: "new",
+        needed: true,
+        help: "The file of the new passphrase, taken whole",
+        takes: Takes::File,
+    },
+    OptionRow {
+        name: "random",
+        needed: false,
+        help: "The file of the random bytes, as /dev/urandom",
+        takes: Takes::File,
+    },
+    OptionRow {
+        name: "random",
+        needed: true,
+        help: "The file of the random bytes, as /dev/urandom",
+        takes: Takes::File,
+    },
+    OptionRow {
+        name: "slot",
+        needed: false,
+        help: "The keyslot to try, 0 to 31; else all",
+        takes: Takes::Slot,
+    },
+    OptionRow {
+        name: "slot",
+        needed: true,
+        help: "The keyslot that the passphrase opens, 0 to 31",
+        takes: Takes::Slot,
+    },
+    OptionRow {
+        name: "to",
+        needed: false,
+        help: "The new keyslot, 0 to 31; else the least free",
+        takes: Takes::Slot,
+    },
+    OptionRow {
+        name: "memory",
+        needed: false,
+        help: "MiB of memory for Argon2, 0 to 4194303",
+        takes: Takes::Memory,
+    },
+    OptionRow {
+        name: "iterations",
+        needed: false,
+        help: "Iterations of PBKDF2, at least 1000",
+        takes: Takes::Iterations,
+    },
+    OptionRow {
+        name: "version",
+        needed: false,
+        help: "LUKS1 or LUKS2",
+        takes: Takes::Version,
+    },
+    OptionRow {
+        name: "hash",
+        needed: false,
+        help: HashName::LISTED,
+        takes: Takes::Hash,
+    },
+    OptionRow {
+        name: "second",
+        needed: false,
+        help: "Take the metadata of a second copy",
+        takes: Takes::Nothing,
+    },
+    OptionRow {
+        name: "uuid",
+        needed: false,
+        help: "The uuid of the new header; else SOURCE's, or a new one",
+        takes: Takes::Uuid,
+    },
+];
