@@ -1,16 +1,24 @@
-//! Tests of edits of small volumes on devices that fail and with refused memory. They stand here so that
-//! no crate is proved a second time for them.
+//! Tests of all calls that write a volume, on devices that fail and that lose, and with refused memory.
+//! They stand here so that no crate is proved a second time for them.
 #![tactic(auto)]
 
 #[cfg(test)]
 mod failing_calls;
 #[cfg(test)]
-mod losing_edits;
+mod jobs;
 #[cfg(test)]
-mod losing_formats;
+mod losing;
+#[cfg(test)]
+mod orders;
+#[cfg(test)]
+mod quiet;
 #[cfg(test)]
 mod refused_memory;
 #[cfg(test)]
 mod stray;
 #[cfg(test)]
+mod torn_labels;
+#[cfg(test)]
 mod trials;
+#[cfg(test)]
+mod volumes;
