@@ -248,28 +248,27 @@ fn is_told_each(
     Ok(())
 }
 
-#[test]
-fn edits_of_luks1(rt: HostRuntime) -> Result<(), Fail> {
-    for trial in LUKS1.iter() {
-        is_told_each(&rt, rt.alloc(), trial, &LEAVES)?;
+/// The same of each trial, with all that is left.
+fn are_told(rt: &impl Abort, alloc: Global, trials: &[Trial]) -> Result<(), Fail> {
+    for trial in trials.iter() {
+        is_told_each(rt, alloc, trial, &LEAVES)?;
     }
     Ok(())
+}
+
+#[test]
+fn edits_of_luks1(rt: HostRuntime) -> Result<(), Fail> {
+    are_told(&rt, rt.alloc(), &LUKS1)
 }
 
 #[test]
 fn edits_of_luks2(rt: HostRuntime) -> Result<(), Fail> {
-    for trial in LUKS2.iter() {
-        is_told_each(&rt, rt.alloc(), trial, &LEAVES)?;
-    }
-    Ok(())
+    are_told(&rt, rt.alloc(), &LUKS2)
 }
 
 #[test]
 fn edits_of_argon2(rt: HostRuntime) -> Result<(), Fail> {
-    for trial in ARGON2.iter() {
-        is_told_each(&rt, rt.alloc(), trial, &LEAVES)?;
-    }
-    Ok(())
+    are_told(&rt, rt.alloc(), &ARGON2)
 }
 
 #[test]

@@ -5,7 +5,7 @@ use crate::jobs::{Answer, Job};
 use crate::trials::{Given, LUKS1, LUKS2, Trial, WHOLE};
 use crate::volumes::{Target, opens_each};
 use luks_area::{Device, MemDevice};
-use luks_reading::check;
+use luks_reading::{check, open_slot};
 use luks_test_devices::{LosingDevice, Loss};
 use std::alloc::{AllocError, Global};
 use std::process::Abort;
@@ -36,15 +36,19 @@ impl Trial {
     /// or its keyslot opens.
     fn stands_after(&self, alloc: Global, left: &mut MemDevice, loss: Loss) -> bool {
         let accepted = check(alloc, left, self.job.data_()).is_ok();
-        let opened = opens_each(alloc, left, self.opens);
         match self.job {
             Job::Edit(_) => {
                 let may_be_refused = self.target == Target::Luks1 && loss == Loss::Ones;
-                opened && (accepted || may_be_refused)
+                opens_each(alloc, left, self.opens) && (accepted || may_be_refused)
             }
-            _ => opened || !accepted,
+            _ => !accepted || has_opened(alloc, left),
         }
     }
+}
+
+/// Whether keyslot 0 opens by `one`, to whichever key.
+fn has_opened(alloc: Global, left: &mut MemDevice) -> bool {
+    open_slot(alloc, left, 0, b"one", 0).is_ok_and(|key| key.is_some())
 }
 
 /// What the call comes to where the one of this number fails and no later one does anything.

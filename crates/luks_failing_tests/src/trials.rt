@@ -17,7 +17,7 @@ pub(crate) struct Trial {
     pub(crate) random: usize,
     /// How many calls of the target it makes, at least and at most.
     pub(crate) calls: (usize, usize),
-    /// Of each row one opens: after a failure of an edit, and of another call where the target is accepted.
+    /// After a failure of an edit one of each row opens to the volume key.
     pub(crate) opens: &'static [&'static [Opening]],
     /// The ranges of the target that it doesn't write, each from its start to its end.
     pub(crate) kept: &'static [(usize, usize)],
@@ -251,7 +251,6 @@ pub(crate) static WHOLE: [Trial; 3] = [
             kept: 2097664,
             len: 2097664,
         },
-        opens: &[&[(0, b"one")]],
         kept: &[(592, 4096), (260096, 2097664)],
         ..FORMAT1
     },
@@ -261,7 +260,6 @@ pub(crate) static WHOLE: [Trial; 3] = [
             kept: 16777728,
             len: 16777728,
         },
-        opens: &[&[(0, b"one")]],
         kept: &[(288768, 16777728)],
         ..FORMAT2
     },
@@ -274,7 +272,6 @@ pub(crate) static WHOLE: [Trial; 3] = [
             len: 16777216,
         },
         calls: (11, 127),
-        opens: &[&[(0, b"one")]],
         kept: &[(36864, 16777216)],
         ..CONVERT
     },
