@@ -18,16 +18,19 @@ mod malformed;
 mod memory;
 mod session;
 mod splitter;
+mod stack;
 mod volume;
 mod words;
 
 use crate::session::Session;
+use crate::stack::grown_stack;
 use anyhow::Context;
 use std::io;
 use std::io::{BufRead, BufReader, BufWriter, Write};
 
 fn main(rt: HostRuntime) -> Result<(), anyhow::Error> {
-    let mut out = BufWriter::new(rt.alloc(), io::writer(&rt))?;
+    let room = 4096 + usize::from(grown_stack());
+    let mut out = BufWriter::with_capacity(rt.alloc(), room, io::writer(&rt))?;
     let input = BufReader::new(rt.alloc(), rt.reader())?;
     let mut session = Session::new(rt.alloc());
     for (i, line) in input.lines(rt.alloc()).enumerate() {
