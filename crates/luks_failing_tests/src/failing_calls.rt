@@ -129,17 +129,19 @@ impl Trial {
     /// LUKS2 the copy that counts is an old one or a new one. A source that fails leaves no copy of
     /// what is converted, and the first copy of what is rebuilt waits until all else stands.
     fn stands(&self, alloc: Global, ended: &mut Ended, before: &[u8], after: &[u8]) -> bool {
-        let left = &mut ended.target.front;
         match self.job {
             Job::Edit(_) => {
-                opens_each(alloc, left, self.opens)
+                opens_each(alloc, &mut ended.target, self.opens)
                     && (self.target == Target::Luks1
-                        || is_before_or_after(alloc, left, before, after))
+                        || is_before_or_after(alloc, &mut ended.target.front, before, after))
             }
-            Job::Convert => { ended.end == End::Target || is_old(part(left.contents(), 0, 32768)) }
+            Job::Convert => {
+                ended.end == End::Target || is_old(part(ended.target.front.contents(), 0, 32768))
+            }
             Job::Rebuild => {
-                is_old(part(left.contents(), 0, 16384))
-                    || part(left.contents(), 16384, 66048) == part(after, 16384, 66048)
+                let left = ended.target.front.contents();
+                is_old(part(left, 0, 16384))
+                    || part(left, 16384, 66048) == part(after, 16384, 66048)
             }
             _ => true,
         }

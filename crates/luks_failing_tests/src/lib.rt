@@ -7,6 +7,8 @@ mod failing_calls;
 #[cfg(test)]
 mod jobs;
 #[cfg(test)]
+mod lengthened;
+#[cfg(test)]
 mod losing;
 #[cfg(test)]
 mod orders;

@@ -2,11 +2,12 @@
 
 use crate::failing_calls::End;
 use crate::jobs::{Answer, Job};
-use crate::trials::{Given, LUKS1, LUKS2, Trial, WHOLE};
+use crate::lengthened::Lengthened;
+use crate::trials::{Given, LOSING, LUKS1, LUKS2, Trial};
 use crate::volumes::{Target, opens_each};
 use luks_area::{Device, MemDevice};
 use luks_reading::{check, open_slot};
-use luks_test_devices::{LosingDevice, Loss};
+use luks_test_devices::{Front, LosingDevice, Loss, front_of};
 use std::alloc::{AllocError, Global};
 use std::process::Abort;
 use std::test::Fail;
@@ -34,7 +35,7 @@ impl Trial {
     /// Whether what is left is as it has to be. An edited volume is accepted, but one of LUKS1 may be
     /// refused where bytes are left that nothing wrote, and its keyslots open; another one is refused,
     /// or its keyslot opens.
-    fn stands_after(&self, alloc: Global, left: &mut MemDevice, loss: Loss) -> bool {
+    fn stands_after(&self, alloc: Global, left: &mut Front, loss: Loss) -> bool {
         let accepted = check(alloc, left, self.job.data_()).is_ok();
         match self.job {
             Job::Edit(_) => {
@@ -47,7 +48,7 @@ impl Trial {
 }
 
 /// Whether keyslot 0 opens by `one`, to whichever key.
-fn has_opened(alloc: Global, left: &mut MemDevice) -> bool {
+fn has_opened(alloc: Global, left: &mut Front) -> bool {
     open_slot(alloc, left, 0, b"one", 0).is_ok_and(|key| key.is_some())
 }
 
@@ -60,15 +61,20 @@ fn end_of(
     loss: Loss,
 ) -> Result<End, AllocError> {
     let mut source = MemDevice::new(given.source.to_vec(alloc)?);
-    let mut device = LosingDevice::new(alloc, &given.target, call, loss, true)?;
+    let mut device = Lengthened {
+        front: LosingDevice::new(alloc, &given.target, call, loss, true)?,
+        len: given.len,
+        beyond: 0,
+    };
     let answer = trial
         .job
         .run(alloc, &mut source, &mut device, &given.random);
-    let mut left = MemDevice::new(device.contents().to_vec(alloc)?);
-    let same = source.contents() == given.source.as_slice();
-    let kept = same && trial.keeps(&given.target, left.contents());
+    let front = &device.front;
+    let same = source.contents() == given.source.as_slice() && device.beyond == 0;
+    let kept = same && trial.keeps(&given.target, front.contents());
+    let mut left = front_of(front.contents().to_vec(alloc)?, given.len);
     let stands = kept && trial.stands_after(alloc, &mut left, loss);
-    let is_flushed = device.contents() == device.settled();
+    let is_flushed = front.contents() == front.settled();
     Ok(match (answer, device.failures()) {
         (Answer::Done, 0) if stands && is_flushed => End::Done,
         (Answer::Device, 1) if stands => End::Target,
@@ -123,7 +129,7 @@ fn edits_of_luks2(rt: HostRuntime) -> Result<(), Fail> {
 // The header is written over areas that are flushed: no cut leaves one that is accepted and doesn't open.
 #[test]
 fn new_headers(rt: HostRuntime) -> Result<(), Fail> {
-    for trial in WHOLE.iter() {
+    for trial in LOSING.iter() {
         stands_after_each(&rt, rt.alloc(), trial)?;
     }
     Ok(())

@@ -243,36 +243,15 @@ pub(crate) const REBUILD: Trial = Trial {
     kept: &[(40960, 66048)],
 };
 
-/// Targets that are whole, of calls that make a header.
-pub(crate) static WHOLE: [Trial; 3] = [
-    Trial {
-        target: Target::Filled {
-            byte: 0xA5,
-            kept: 2097664,
-            len: 2097664,
-        },
-        kept: &[(592, 4096), (260096, 2097664)],
-        ..FORMAT1
-    },
-    Trial {
-        target: Target::Filled {
-            byte: 0xA5,
-            kept: 16777728,
-            len: 16777728,
-        },
-        kept: &[(288768, 16777728)],
-        ..FORMAT2
-    },
+/// Calls that make a header, on devices that lose.
+pub(crate) static LOSING: [Trial; 3] = [
+    FORMAT1,
+    FORMAT2,
     // the area's five sectors and its zeros, two copies, and a flush after each of the three
     Trial {
         source: Source::Luks1,
-        target: Target::Filled {
-            byte: 0x55,
-            kept: 16777216,
-            len: 16777216,
-        },
         calls: (11, 127),
-        kept: &[(36864, 16777216)],
+        kept: &[(36864, KEPT)],
         ..CONVERT
     },
 ];

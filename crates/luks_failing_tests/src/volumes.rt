@@ -6,7 +6,7 @@ use luks_kdf::HashName;
 use luks_reading::{Data, open_slot};
 use luks_samples::{ARGON2I_1, ARGON2ID_0, STRIPE_BY_ARGON2I, roomy_luks2, roomy_text};
 use luks_test_devices::{
-    ENABLED, VOLUME_KEY, add, counted, damaged, key_area, put, small1, two_keyslots,
+    ENABLED, Front, VOLUME_KEY, add, counted, damaged, key_area, put, small1, two_keyslots,
 };
 use luks_volume::apply;
 use std::alloc::{AllocError, Global};
@@ -102,7 +102,7 @@ pub(crate) type Opening = (u8, &'static [u8]);
 pub(crate) const ALLOWED: u32 = 64;
 
 /// Whether the keyslot opens by the passphrase to the volume key.
-fn opens(alloc: Global, device: &mut MemDevice, opening: Opening) -> bool {
+fn opens(alloc: Global, device: &mut Front, opening: Opening) -> bool {
     let (n, passphrase) = opening;
     // Argon2 takes no passphrase of 2^32 bytes.
     let memory = if passphrase.len() < 16 { ALLOWED } else { 0 };
@@ -113,7 +113,7 @@ fn opens(alloc: Global, device: &mut MemDevice, opening: Opening) -> bool {
 }
 
 /// Whether of each row one keyslot opens.
-pub(crate) fn opens_each(alloc: Global, left: &mut MemDevice, rows: &[&[Opening]]) -> bool {
+pub(crate) fn opens_each(alloc: Global, left: &mut Front, rows: &[&[Opening]]) -> bool {
     for row in rows.iter() {
         if !opens_one(alloc, left, row) {
             return false;
@@ -122,7 +122,7 @@ pub(crate) fn opens_each(alloc: Global, left: &mut MemDevice, rows: &[&[Opening]
     true
 }
 
-fn opens_one(alloc: Global, left: &mut MemDevice, row: &[Opening]) -> bool {
+fn opens_one(alloc: Global, left: &mut Front, row: &[Opening]) -> bool {
     for opening in row.iter() {
         if opens(alloc, left, *opening) {
             return true;
