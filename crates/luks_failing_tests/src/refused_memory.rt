@@ -1,64 +1,101 @@
-//! Calls with refused memory.
+//! Edits of LUKS2 volumes with refused memory.
 
-use crate::jobs::{Answer, Job};
-use crate::trials::{CONVERT, FORMAT2, LUKS2, REBUILD, Trial};
+use crate::trials::{LUKS2, Trial};
 use luks_area::MemDevice;
-use luks_test_devices::{BLOCKS, TakenMemory, front_of};
-use std::alloc::{AllocError, Global};
+use luks_edit::{Edit, EditFault};
+use luks_reading::Data;
+use luks_test_devices::{BLOCKS, TakenMemory, counted, two_keyslots};
+use luks_volume::{apply, needed};
+use std::alloc::Global;
 use std::test::Fail;
 
-/// With all memory taken, and given back in blocks of 256 bytes, the call is refused memory at one place
-/// after another: how many blocks were given back until it was done. None where something else was
-/// answered before, or a byte has changed.
-fn blocks_until_done(alloc: Global, trial: &Trial, job: &Job) -> Result<Option<usize>, AllocError> {
-    let given = trial.given(alloc)?;
-    let mut source = MemDevice::new(given.source.to_vec(alloc)?);
-    let mut target = front_of(given.target.to_vec(alloc)?, given.len);
+/// How a call ended.
+#[derive(Debug, Clone, Copy, PartialEq, Eq)]
+enum End {
+    Done,
+    /// It told that memory was refused, and no byte has changed.
+    Memory,
+    Other,
+}
+
+/// How telling the need ends.
+fn end_of_needed(alloc: Global, device: &mut MemDevice, edit: &Edit<'_>, before: &[u8]) -> End {
+    match needed(alloc, device, Data::Here, edit) {
+        Ok(_) => End::Done,
+        Err(EditFault::Memory) if device.contents() == before => End::Memory,
+        Err(_) => End::Other,
+    }
+}
+
+/// How the edit ends.
+fn end_of(
+    alloc: Global,
+    device: &mut MemDevice,
+    edit: &Edit<'_>,
+    random: &[u8],
+    before: &[u8],
+) -> End {
+    match apply(alloc, device, Data::Here, edit, random) {
+        Ok(_) => End::Done,
+        Err(EditFault::Memory) if device.contents() == before => End::Memory,
+        Err(_) => End::Other,
+    }
+}
+
+/// How an edit ended, and how many blocks had to be given back until its need was told, and until it
+/// was done.
+#[derive(Debug, Clone, Copy)]
+struct Ended {
+    need: End,
+    end: End,
+    for_need: usize,
+    given: usize,
+}
+
+// With all memory taken, and given back in blocks, the calls are refused memory at one place after
+// another. Nothing else is answered until they are done.
+fn ends_with_little_memory(alloc: Global, trial: &Trial) -> Result<Ended, Fail> {
+    let edit = &trial.edit;
+    let before = two_keyslots(alloc)?;
+    let random = counted(alloc, 7, trial.random)?;
+    let mut device = MemDevice::new(before.to_vec(alloc)?);
     let mut taken = TakenMemory::take(alloc)?;
-    let mut ended = None;
+    let mut need = End::Memory;
+    let mut end = End::Memory;
+    let mut for_need = 0;
+    let mut given = 0;
     for turn in 0..BLOCKS {
-        let answer = job.run(alloc, &mut source, &mut target, &given.random);
-        let same = target.front.contents() == given.target.as_slice() && target.beyond == 0;
-        if answer != Answer::Memory || !same {
-            ended = Some((answer, turn));
+        if need == End::Memory {
+            need = end_of_needed(alloc, &mut device, edit, &before);
+            for_need = turn;
+        }
+        end = end_of(alloc, &mut device, edit, &random, &before);
+        given = turn;
+        if end != End::Memory {
             break;
         }
         taken.give_back();
     }
     drop(taken);
-    let same = source.contents() == given.source.as_slice();
-    Ok(match ended {
-        Some((Answer::Done, turn)) if same => Some(turn),
-        _ => None,
-    })
-}
-
-/// Whether the edit is done in the end, and its need told, which takes no more blocks.
-fn tells_both(alloc: Global, trial: &Trial) -> Result<bool, AllocError> {
-    let need = blocks_until_done(alloc, trial, &trial.job.need())?;
-    let edit = blocks_until_done(alloc, trial, &trial.job)?;
-    Ok(match (need, edit) {
-        (Some(first), Some(last)) => 1 < first && first <= last,
-        _ => false,
+    Ok(Ended {
+        need,
+        end,
+        for_need,
+        given,
     })
 }
 
 #[test]
-fn each_edit_of_luks2(rt: HostRuntime) -> Result<(), Fail> {
+fn tell_refused_memory(rt: HostRuntime) -> Result<(), Fail> {
     for (i, trial) in LUKS2.iter().enumerate() {
-        assert!(rt; tells_both(rt.alloc(), trial)?, "edit {i}");
-    }
-    Ok(())
-}
-
-/// The calls that make a header and take memory.
-static HEADERS: [Trial; 3] = [FORMAT2, CONVERT, REBUILD];
-
-#[test]
-fn each_new_header(rt: HostRuntime) -> Result<(), Fail> {
-    for (i, trial) in HEADERS.iter().enumerate() {
-        let blocks = blocks_until_done(rt.alloc(), trial, &trial.job)?;
-        assert!(rt; matches!(blocks, Some(2..)), "call {i}");
+        let ended = ends_with_little_memory(rt.alloc(), trial)?;
+        assert!(&rt; ended.need == End::Done, "edit {i}: the need");
+        assert!(&rt; ended.end == End::Done, "edit {i}");
+        let (first, last) = (ended.for_need, ended.given);
+        assert!(&rt;
+            1 < first && first <= last,
+            "edit {i}: {first} and {last} blocks"
+        );
     }
     Ok(())
 }

@@ -5,7 +5,7 @@ use luks_head::{Copies, Selected, select};
 use luks_kdf::HashName;
 use luks_reading::{Data, check, open_slot};
 use luks_test_devices::{Fields, TEXT, UUID, copy_of, key_area, part, put};
-use std::alloc::{AllocError, Global};
+use std::alloc::Global;
 use std::test::Fail;
 
 /// The changes of the small volume's text for a header of 32768 bytes: the key areas begin at 65536,
@@ -17,7 +17,7 @@ const CHANGES: [(&str, &str); 3] = [
 ];
 
 /// A volume with copies of 32768 bytes; keyslot 0 opens by the passphrase `one`.
-fn larger_volume(alloc: Global) -> Result<Vec<u8>, AllocError> {
+fn larger_volume(alloc: Global) -> Result<Vec<u8>, Fail> {
     let fields = Fields {
         size: 32768,
         seqid: 1,
@@ -42,7 +42,7 @@ fn larger_volume(alloc: Global) -> Result<Vec<u8>, AllocError> {
 
 /// What a failed write of the first copy may leave: its magic is destroyed, and a sound second copy of
 /// 16384 bytes stands within it.
-fn torn_volume(alloc: Global, volume: &[u8]) -> Result<Vec<u8>, AllocError> {
+fn torn_volume(alloc: Global, volume: &[u8]) -> Result<Vec<u8>, Fail> {
     let fields = Fields {
         size: 16384,
         seqid: 1,
@@ -56,19 +56,12 @@ fn torn_volume(alloc: Global, volume: &[u8]) -> Result<Vec<u8>, AllocError> {
     Ok(torn)
 }
 
-/// Whether the copy of this place and length counts, standing so to the other one, and whether keyslot 0
-/// opens.
-fn stands(alloc: Global, volume: Vec<u8>, owed: (u64, u64, Copies), opens: bool) -> bool {
-    let mut device = MemDevice::new(volume);
-    let counts = match select(alloc, &mut device) {
-        Ok(Selected::V2 { header, copies }) => {
-            (header.hdr_offset, header.hdr_size, copies) == owed
-        }
-        _ => false,
-    };
-    let opened = open_slot(alloc, &mut device, 0, b"one", 0).is_ok_and(|key| key.is_some());
-    let accepted = check(alloc, &mut device, Data::Here).is_ok();
-    counts && opened == opens && (accepted || !opens)
+/// The place and the length of the copy that counts, and how the copies stand to each other.
+fn counting(alloc: Global, device: &mut MemDevice) -> Option<(u64, u64, Copies)> {
+    match select(alloc, device) {
+        Ok(Selected::V2 { header, copies }) => Some((header.hdr_offset, header.hdr_size, copies)),
+        _ => None,
+    }
 }
 
 // So what is said of a volume that a failing call left needs that it isn't stray: the copy at 16384
@@ -80,9 +73,19 @@ fn bytes_of_a_torn_write_count(rt: HostRuntime) -> Result<(), Fail> {
     let torn = torn_volume(alloc, &volume)?;
     let behind = part(&torn, 32768, 131584) == part(&volume, 32768, 131584);
     assert!(rt; behind, "the bytes behind the first copy");
-    let whole = stands(alloc, volume, (0, 32768, Copies::InStep), true);
-    assert!(rt; whole, "the volume");
-    let stray = stands(alloc, torn, (16384, 16384, Copies::SecondOnly), false);
-    assert!(rt; stray, "what is left");
+    let mut device = MemDevice::new(volume);
+    let found = counting(alloc, &mut device);
+    assert!(rt; found == Some((0, 32768, Copies::InStep)), "the volume");
+    assert!(rt; check(alloc, &mut device, Data::Here).is_ok(), "accepted");
+    let opened = open_slot(alloc, &mut device, 0, b"one", 0).is_ok_and(|key| key.is_some());
+    assert!(rt; opened, "its keyslot");
+    let mut device = MemDevice::new(torn);
+    let found = counting(alloc, &mut device);
+    assert!(rt;
+        found == Some((16384, 16384, Copies::SecondOnly)),
+        "what counts"
+    );
+    let opened = open_slot(alloc, &mut device, 0, b"one", 0).is_ok_and(|key| key.is_some());
+    assert!(rt; !opened, "the keyslot");
     Ok(())
 }

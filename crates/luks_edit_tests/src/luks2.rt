@@ -1,0 +1,78 @@
+//! Edits of small LUKS2 volumes: lists of them beside the model in testdata/oracle.
+
+pub(crate) mod table;
+
+use crate::answers::line_of;
+use crate::rows::{List, Row};
+use luks_area::MemDevice;
+use luks_kdf::HashName;
+use luks_reading::Data;
+use luks_test_devices::{counted, is_sum, small2, two_hashes};
+use luks_volume::{apply, needed};
+use std::alloc::Global;
+use std::process::Abort;
+use std::test::Fail;
+
+/// Whether the edit of this number in its list is told what it takes, is answered so, and leaves the
+/// volume of this sum.
+fn leaves(
+    alloc: Global,
+    device: &mut MemDevice,
+    number: usize,
+    row: &Row,
+    sum: &str,
+) -> Result<bool, Fail> {
+    let (edit, count, line) = row;
+    let random = counted(alloc, number, count.unwrap_or(0))?;
+    let enough = match (needed(alloc, device, Data::Here, edit), count) {
+        (Ok(needed), Some(count)) => needed == *count as u64,
+        (Err(fault), None) => line_of(alloc, &Err(fault))?.as_str() == *line,
+        _ => false,
+    };
+    let answer = apply(alloc, device, Data::Here, edit, &random);
+    let same = line_of(alloc, &answer)?.as_str() == *line;
+    Ok(enough && same && is_sum(device.contents(), sum))
+}
+
+/// Asserts that the list's edits of the volume are answered so, and leave its sums.
+fn compare(rt: &impl Abort, alloc: Global, volume: Vec<u8>, list: List<'_>) -> Result<(), Fail> {
+    let [before, after @ ..] = list.sums else {
+        return Err("no sum".into());
+    };
+    let mut device = MemDevice::new(volume);
+    assert!(rt; is_sum(device.contents(), before), "the volume");
+    assert!(rt; after.len() == list.rows.len(), "a sum for each edit");
+    for (i, (row, sum)) in list.rows.iter().zip(after).enumerate() {
+        let number = i.wrapping_add(1);
+        let same = leaves(alloc, &mut device, number, row, sum)?;
+        assert!(rt; same, "edit {number}");
+    }
+    Ok(())
+}
+
+/// The list's sums by each hash.
+const BY_HASHES: [(HashName, &[&str]); 3] = [
+    (HashName::Sha1, &table::SHA1),
+    (HashName::Sha256, &table::SHA256),
+    (HashName::Sha512, &table::SHA512),
+];
+
+#[test]
+fn lists_of_edits(rt: HostRuntime) -> Result<(), Fail> {
+    for (hash, sums) in BY_HASHES {
+        let rows = &table::LIST;
+        let list = List { rows, sums };
+        compare(&rt, rt.alloc(), small2(rt.alloc(), hash)?, list)?;
+    }
+    Ok(())
+}
+
+// What is made has the hashes of the keyslot that opened.
+#[test]
+fn keyslots_of_two_hashes(rt: HostRuntime) -> Result<(), Fail> {
+    let list = List {
+        rows: &table::TWO_HASHES,
+        sums: &table::TWO_HASHES_SUMS,
+    };
+    compare(&rt, rt.alloc(), two_hashes(rt.alloc())?, list)
+}

@@ -1,0 +1,57 @@
+//! What opens by the header that is made, and what is found before it is made.
+use crate::sources::{LEN, RANDOM};
+use luks_area::MemDevice;
+use luks_reading::{OpenFault, open_slot};
+use luks_rebuilding::{Which, find_candidate, rebuild};
+use luks_test_devices::{VOLUME_KEY, counted, damaged, old_bytes};
+use std::alloc::Global;
+use std::test::Fail;
+
+/// The header that is made of the damaged volume.
+fn rebuilt(alloc: Global) -> Result<MemDevice, Fail> {
+    let mut source = MemDevice::new(damaged(alloc)?);
+    let mut made = MemDevice::new(old_bytes(alloc, LEN)?);
+    let random = counted(alloc, 0, RANDOM)?;
+    match rebuild(alloc, &mut source, &mut made, Which::Any, None, &random) {
+        Ok(()) => Ok(made),
+        Err(_) => Err("not rebuilt".into()),
+    }
+}
+
+/// Whether the keyslot opens by the passphrase to the volume key.
+fn opens(alloc: Global, header: &mut MemDevice, n: u8, passphrase: &[u8]) -> bool {
+    match open_slot(alloc, header, n, passphrase, 0) {
+        Ok(Some(key)) => key.as_bytes() == VOLUME_KEY.as_slice(),
+        _ => false,
+    }
+}
+
+#[test]
+fn opening(rt: HostRuntime) -> Result<(), Fail> {
+    let alloc = rt.alloc();
+    let mut header = rebuilt(alloc)?;
+    assert!(rt; opens(alloc, &mut header, 0, b"one"), "keyslot 0");
+    assert!(rt; opens(alloc, &mut header, 1, b"two"), "keyslot 1");
+    assert!(rt; !opens(alloc, &mut header, 1, b"one"), "by another one's");
+    let absent = open_slot(alloc, &mut header, 2, b"one", 0);
+    assert!(rt; matches!(absent, Err(OpenFault::NoSuchSlot)), "keyslot 2");
+    Ok(())
+}
+
+#[test]
+fn finding(rt: HostRuntime) -> Result<(), Fail> {
+    let alloc = rt.alloc();
+    let mut source = MemDevice::new(damaged(alloc)?);
+    for (which, at) in [(Which::Any, 0u64), (Which::Second, 16384)] {
+        let Ok(found) = find_candidate(alloc, &mut source, which) else {
+            return Err("none is found".into());
+        };
+        assert!(rt;
+            found.place.size == 16384 && found.place.at == at,
+            "the place"
+        );
+        let both = found.meta.keyslot(0).is_some() && found.meta.keyslot(1).is_some();
+        assert!(rt; both && found.meta.keyslot(2).is_none(), "the keyslots");
+    }
+    Ok(())
+}

@@ -1,0 +1,19 @@
+//! Tests of rebuilding headers of small damaged volumes: what is left byte for byte, refusals, what
+//! opens and what is said, failing devices and refused memory. They stand here so that no crate is
+//! proved a second time for them.
+#![tactic(auto)]
+
+#[cfg(test)]
+mod damages;
+#[cfg(test)]
+mod failing_calls;
+#[cfg(test)]
+mod keyslots;
+#[cfg(test)]
+mod notes;
+#[cfg(test)]
+mod refused_memory;
+#[cfg(test)]
+mod rows;
+#[cfg(test)]
+mod sources;
