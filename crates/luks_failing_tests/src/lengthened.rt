@@ -16,6 +16,17 @@ pub(crate) struct Lengthened<D: Device> {
     ghost fits: { len < 2 ^ 64 },
 }
 
+impl<D: Device> Lengthened<D> {
+    /// A device of this length, to which nothing was written.
+    pub(crate) fn new(front: D, len: u64) -> Self {
+        Lengthened {
+            front,
+            len,
+            beyond: 0,
+        }
+    }
+}
+
 impl<D: Device> Device for Lengthened<D> {
     ghost use Rattle.std.specs.Prelude.{[]};
 

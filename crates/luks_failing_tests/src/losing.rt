@@ -61,11 +61,8 @@ fn end_of(
     loss: Loss,
 ) -> Result<End, AllocError> {
     let mut source = MemDevice::new(given.source.to_vec(alloc)?);
-    let mut device = Lengthened {
-        front: LosingDevice::new(alloc, &given.target, call, loss, true)?,
-        len: given.len,
-        beyond: 0,
-    };
+    let front = LosingDevice::new(alloc, &given.target, call, loss, true)?;
+    let mut device = Lengthened::new(front, given.len);
     let answer = trial
         .job
         .run(alloc, &mut source, &mut device, &given.random);
