@@ -2,9 +2,11 @@
 use crate::commands::{Command, command_of};
 use crate::failing::{Failure, failure_of};
 use crate::files::{Filing, filing_of};
+use crate::library::{Question, question_of};
 use crate::looks::{Look, look_of};
 use crate::making::{Making, making_of};
 use crate::texts::parted;
+use crate::trials::{Trial, trial_of};
 
 /// A step, by its family.
 #[derive(Debug, Clone, Copy)]
@@ -19,8 +21,12 @@ pub enum Step<'a> {
     Failure(Failure),
     /// A command.
     Command(Command<'a>),
-    /// A question.
-    Look(Look),
+    /// Runs of a command.
+    Trial(Trial<'a>),
+    /// A question to the library.
+    Question(Question),
+    /// A look at what is left.
+    Look(Look<'a>),
 }
 
 /// The step of a line; none where it is no step.
@@ -40,6 +46,12 @@ pub fn step_of(line: &str) -> Option<Step<'_>> {
     }
     if let Some(command) = command_of(word, rest) {
         return Some(Step::Command(command));
+    }
+    if let Some(trial) = trial_of(word, rest) {
+        return Some(Step::Trial(trial));
+    }
+    if let Some(question) = question_of(word, rest) {
+        return Some(Step::Question(question));
     }
     look_of(word, rest).map(Step::Look)
 }
