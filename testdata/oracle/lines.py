@@ -13,6 +13,8 @@ class Transcript:
         self.steps, self.owed, self.files = [], [], {}
 
     def note(self, text):
+        """A case begins; it gives its own files."""
+        self.files = {}
         for lines in (self.steps, self.owed):
             lines.append(f"# {text}")
 
