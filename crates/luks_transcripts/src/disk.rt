@@ -1,0 +1,226 @@
+//! The devices of the commands.
+ghost use Rattle.std.specs.Prelude.{◌≡◌, ◌+◌, ◌≤◌, ◌<◌, ◌^◌, length};
+
+use luks_area::{Device, DeviceFault, Leave};
+use std::alloc::Global;
+
+/// The bytes of a disk that are kept, its first ones.
+#[derive(Debug, Drop)]
+pub struct Kept {
+    /// These bytes.
+    pub bytes: Vec<u8>,
+    /// The length of the disk.
+    pub len: u64,
+}
+
+impl Kept {
+    /// A disk of these bytes.
+    pub fn new(bytes: Vec<u8>) -> Kept {
+        let len = bytes.len() as u64;
+        Kept { bytes, len }
+    }
+}
+
+/// A call of a device.
+#[derive(Debug, Clone, Copy, PartialEq, Eq)]
+pub enum Call {
+    Read,
+    /// A write from the place `at` on, of so many bytes.
+    Write { at: u64, len: usize },
+    Flush,
+}
+
+/// Which call of a device fails.
+#[derive(Debug, Clone, Copy, PartialEq, Eq)]
+pub enum When {
+    /// That of this number, counted from 0.
+    Call(u64),
+    /// The first write after so many flushes.
+    Write(u64),
+    /// The first flush after so many flushes.
+    Flush(u64),
+}
+
+/// A failing call.
+#[derive(Debug, Clone, Copy)]
+pub struct Failing {
+    /// Which call it is.
+    pub when: When,
+    /// What it leaves in its range where it is a write.
+    pub leave: Leave,
+}
+
+/// What a disk was asked for.
+#[derive(Debug, Drop)]
+pub struct Record {
+    /// The calls.
+    pub calls: Vec<Call>,
+    /// How many writes reached beyond what is kept.
+    pub beyond: u64,
+    /// How many calls failed.
+    pub failures: u64,
+}
+
+/// A disk of which the front is kept: bytes behind it are zeros, and a write there is only counted. It
+/// keeps a list of its calls, and one of them may fail.
+#[derive(Debug, Drop)]
+pub struct Disk {
+    kept: Kept,
+    failing: Option<Failing>,
+    made: u64,
+    flushes: u64,
+    calls: Vec<Call>,
+    beyond: u64,
+    failures: u64,
+    ghost fits: { kept.len < 2 ^ 64 },
+}
+
+impl Disk {
+    /// A disk of which no call was made.
+    pub fn new(alloc: Global, kept: Kept, failing: Option<Failing>) -> Disk
+        ensures { result.failures ≡ 0 }
+    {
+        Disk {
+            kept,
+            failing,
+            made: 0,
+            flushes: 0,
+            calls: Vec::new(alloc),
+            beyond: 0,
+            failures: 0,
+        }
+    }
+
+    /// What is left on it, and what it was asked for.
+    pub fn into_parts(self) -> (Kept, Record) {
+        let Disk {
+            kept,
+            calls,
+            beyond,
+            failures,
+            ..
+        } = self;
+        let record = Record {
+            calls,
+            beyond,
+            failures,
+        };
+        (kept, record)
+    }
+
+    /// Notes a call; where it is the one that fails, what a write leaves.
+    fn turn(&mut self, call: Call) -> Option<Leave>
+        ensures kept { self.new.kept ≡ self.old.kept }
+        ensures failures { self.new.failures ≡ self.old.failures }
+    {
+        let _ = self.calls.push(call);
+        let made = self.made;
+        self.made = made.wrapping_add(1);
+        let failing = self.failing?;
+        let is_due = match (failing.when, call) {
+            (When::Call(number), _) => number == made,
+            (When::Write(flushes), Call::Write { .. }) => flushes == self.flushes,
+            (When::Flush(flushes), Call::Flush) => flushes == self.flushes,
+            _ => false,
+        };
+        if !is_due {
+            return None;
+        }
+        self.failing = None;
+        Some(failing.leave)
+    }
+
+    /// The bytes that are kept from the place `at` on.
+    fn kept_from(&mut self, at: u64) -> &mut [u8] {
+        match self.kept.bytes.as_mut_slice().get_mut(at as usize..) {
+            Some(kept) => kept,
+            None => &mut [],
+        }
+    }
+
+    /// Writes these bytes from the place `at` on, as far as they are kept.
+    fn put(&mut self, at: u64, from: &[u8]) {
+        for (byte, new) in self.kept_from(at).iter_mut().zip(from) {
+            *byte = *new;
+        }
+    }
+
+    /// Writes what a failing write leaves.
+    fn leave_behind(&mut self, at: u64, from: &[u8], leave: Leave) {
+        match leave {
+            Leave::Old => {}
+            Leave::New => self.put(at, from),
+            Leave::Half => self.put(at, &from[..from.len() / 2]),
+            Leave::Ones => {
+                for byte in self.kept_from(at).iter_mut().take(from.len()) {
+                    *byte = 0xFF;
+                }
+            }
+        }
+    }
+}
+
+impl Device for Disk {
+    ghost use Rattle.std.specs.Prelude.{[]};
+
+    ghost tells = { ⊥ };
+
+    ghost bytes = { λ _. [] };
+
+    ghost unsettled = { λ _ _. ⊥ };
+
+    ghost size = { λ d. d.kept.len };
+
+    ghost failed = { λ d. d.failures };
+
+    fn len(&self) -> u64 {
+        self.kept.len
+    }
+
+    fn failures(&self) -> u64 {
+        self.failures
+    }
+
+    fn read_at(&mut self, at: u64, into: &mut [u8]) -> Result<(), DeviceFault> {
+        if self.turn(Call::Read).is_some() {
+            self.failures += 1;
+            return Err(DeviceFault);
+        }
+        into.fill(0);
+        for (byte, kept) in into.iter_mut().zip(self.kept_from(at)) {
+            *byte = *kept;
+        }
+        Ok(())
+    }
+
+    fn write_at(&mut self, at: u64, from: &[u8]) -> Result<(), DeviceFault> {
+        let len = from.len();
+        let left = self.turn(Call::Write { at, len });
+        if self.kept_from(at).len() < len {
+            self.beyond = self.beyond.saturating_add(1);
+        }
+        match left {
+            None => {
+                self.put(at, from);
+                Ok(())
+            }
+            Some(leave) => {
+                self.leave_behind(at, from, leave);
+                self.failures += 1;
+                Err(DeviceFault)
+            }
+        }
+    }
+
+    fn flush(&mut self) -> Result<(), DeviceFault> {
+        if self.turn(Call::Flush).is_some() {
+            self.failures += 1;
+            return Err(DeviceFault);
+        }
+        Ok(())
+    }
+
+    ghost sized = { λ d t. absurd t };
+
+    ghost bounded = { λ d. d.fits };
+}

@@ -1,0 +1,48 @@
+//! Why a line isn't taken.
+use std::alloc::{AllocError, AllocFailed};
+use std::io;
+use thiserror::Error;
+
+/// Why a step isn't taken.
+#[derive(Debug, Clone, Copy, PartialEq, Eq, Error)]
+pub enum Fault {
+    /// The line is no step, or a word of it is none of those that may stand there.
+    #[error("no such step")]
+    Unknown,
+    /// A text that is to be edited isn't there.
+    #[error("no such text in the metadata")]
+    NoSuchText,
+    /// A place or a length isn't inside the volume.
+    #[error("not inside the volume")]
+    Outside,
+    /// The digits or the escapes of bytes aren't any.
+    #[error("not the digits of bytes")]
+    NoBytes,
+    /// The words are no command line.
+    #[error("no command line")]
+    NoCommand,
+    /// A part of the command line isn't UTF-8.
+    #[error("no memory")]
+    NoMemory,
+    /// The transcript can't be written.
+    #[error("the transcript can't be written")]
+    Output,
+}
+
+impl From<AllocError> for Fault {
+    fn from(_error: AllocError) -> Fault {
+        Fault::NoMemory
+    }
+}
+
+impl<T: Drop> From<AllocFailed<T>> for Fault {
+    fn from(_error: AllocFailed<T>) -> Fault {
+        Fault::NoMemory
+    }
+}
+
+impl From<io::Error> for Fault {
+    fn from(_error: io::Error) -> Fault {
+        Fault::Output
+    }
+}

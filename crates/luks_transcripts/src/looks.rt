@@ -1,0 +1,154 @@
+//! Questions about the volume and about the last command.
+use crate::commands::{Asked, Volumes};
+use crate::disk::{Call, Record};
+use crate::fault::Fault;
+use crate::files::{Name, name_of};
+use crate::texts::two_numbers;
+use luks_samples::hex_digit;
+use sha2::{Digest, Sha256};
+use std::alloc::Global;
+use std::io::Write;
+
+/// A question.
+#[derive(Debug, Clone, Copy)]
+pub enum Look {
+    /// SHA-256 of a part of the volume.
+    Sum(Part),
+    /// Whether it is of zeros.
+    Zeros(Part),
+    /// Its bytes.
+    Bytes(Part),
+    /// The volume is remembered.
+    Keep,
+    /// Whether it is as it was then.
+    Kept,
+    /// The last command's calls of a device.
+    Calls(Name),
+    /// How many random bytes the last command left.
+    Left,
+    /// How many of its writes reached beyond what is kept of a device.
+    Beyond(Name),
+}
+
+/// The part of the volume from one place up to another.
+#[derive(Debug, Clone, Copy)]
+pub struct Part {
+    from: usize,
+    to: usize,
+}
+
+/// The step of this word and of what follows it.
+pub fn look_of(word: &str, rest: &str) -> Option<Look> {
+    Some(match word {
+        "sum" => Look::Sum(part_of(rest)?),
+        "zeros" => Look::Zeros(part_of(rest)?),
+        "bytes" => Look::Bytes(part_of(rest)?),
+        "keep" => Look::Keep,
+        "kept" => Look::Kept,
+        "calls" => Look::Calls(name_of(rest)?),
+        "left" => Look::Left,
+        "beyond" => Look::Beyond(name_of(rest)?),
+        _ => return None,
+    })
+}
+
+fn part_of(rest: &str) -> Option<Part> {
+    let (from, to) = two_numbers(rest)?;
+    Some(Part { from, to })
+}
+
+/// What is looked at.
+#[derive(Drop)]
+pub struct Seen<'a> {
+    /// The volumes as they are.
+    pub volumes: &'a Volumes,
+    /// The volume as it was remembered.
+    pub kept: &'a mut Vec<u8>,
+    /// What was asked of the last command's files.
+    pub asked: &'a Asked,
+}
+
+impl Seen<'_> {
+    /// The volume's bytes; none where it isn't there.
+    fn volume(&self) -> &[u8] {
+        match &self.volumes.volume {
+            Some(kept) => kept.bytes.as_slice(),
+            None => &[],
+        }
+    }
+
+    fn part(&self, part: Part) -> Result<&[u8], Fault> {
+        self.volume().get(part.from..part.to).ok_or(Fault::Outside)
+    }
+
+    /// What was asked of a device.
+    fn record(&self, name: Name) -> Result<&Record, Fault> {
+        let record = match name {
+            Name::Volume => self.asked.volume.as_ref(),
+            Name::Target => self.asked.target.as_ref(),
+            Name::Passphrase | Name::New | Name::Random => None,
+        };
+        record.ok_or(Fault::Unknown)
+    }
+}
+
+impl Look {
+    /// Prints the question of this line, and the answer.
+    pub fn take<W: Write>(
+        self,
+        alloc: Global,
+        line: &str,
+        seen: Seen<'_>,
+        out: &mut W,
+    ) -> Result<(), Fault> {
+        match self {
+            Look::Sum(part) => print_hex(out, line, &Sha256::digest(seen.part(part)?)),
+            Look::Zeros(part) => {
+                let zeros = seen.part(part)?.iter().all(|byte| *byte == 0);
+                print_answer(out, line, zeros)
+            }
+            Look::Bytes(part) => print_hex(out, line, seen.part(part)?),
+            Look::Keep => {
+                *seen.kept = seen.volume().to_vec(alloc)?;
+                Ok(())
+            }
+            Look::Kept => print_answer(out, line, seen.volume() == seen.kept.as_slice()),
+            Look::Calls(name) => print_calls(out, line, seen.record(name)?.calls.as_slice()),
+            Look::Left => print_number(out, line, seen.asked.left as u64),
+            Look::Beyond(name) => print_number(out, line, seen.record(name)?.beyond),
+        }
+    }
+}
+
+fn print_answer<W: Write>(out: &mut W, line: &str, holds: bool) -> Result<(), Fault> {
+    let answer = if holds { "yes" } else { "no" };
+    writeln!(out, "{line}: {answer}")?;
+    Ok(())
+}
+
+fn print_number<W: Write>(out: &mut W, line: &str, number: u64) -> Result<(), Fault> {
+    writeln!(out, "{line}: {number}")?;
+    Ok(())
+}
+
+fn print_hex<W: Write>(out: &mut W, line: &str, bytes: &[u8]) -> Result<(), Fault> {
+    write!(out, "{line}: ")?;
+    for byte in bytes {
+        out.write_all(&[hex_digit(byte / 16), hex_digit(byte % 16)])?;
+    }
+    writeln!(out)?;
+    Ok(())
+}
+
+fn print_calls<W: Write>(out: &mut W, line: &str, calls: &[Call]) -> Result<(), Fault> {
+    write!(out, "{line}:")?;
+    for call in calls {
+        match *call {
+            Call::Read => write!(out, " r")?,
+            Call::Write { at, len } => write!(out, " w{at}+{len}")?,
+            Call::Flush => write!(out, " f")?,
+        }
+    }
+    writeln!(out)?;
+    Ok(())
+}

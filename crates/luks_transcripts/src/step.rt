@@ -1,0 +1,45 @@
+//! What a line asks for.
+use crate::commands::{Command, command_of};
+use crate::failing::{Failure, failure_of};
+use crate::files::{Filing, filing_of};
+use crate::looks::{Look, look_of};
+use crate::making::{Making, making_of};
+use crate::texts::parted;
+
+/// A step, by its family.
+#[derive(Debug, Clone, Copy)]
+pub enum Step<'a> {
+    /// A line that is only printed.
+    Note,
+    /// The volume and its metadata.
+    Making(Making<'a>),
+    /// The files of the commands.
+    Filing(Filing<'a>),
+    /// What fails in the next command.
+    Failure(Failure),
+    /// A command.
+    Command(Command<'a>),
+    /// A question.
+    Look(Look),
+}
+
+/// The step of a line; none where it is no step.
+pub fn step_of(line: &str) -> Option<Step<'_>> {
+    let (word, rest) = parted(line);
+    if word == "#" {
+        return Some(Step::Note);
+    }
+    if let Some(making) = making_of(word, rest) {
+        return Some(Step::Making(making));
+    }
+    if let Some(filing) = filing_of(word, rest) {
+        return Some(Step::Filing(filing));
+    }
+    if let Some(failure) = failure_of(word, rest) {
+        return Some(Step::Failure(failure));
+    }
+    if let Some(command) = command_of(word, rest) {
+        return Some(Step::Command(command));
+    }
+    look_of(word, rest).map(Step::Look)
+}
