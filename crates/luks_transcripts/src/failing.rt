@@ -70,7 +70,8 @@ fn failing_of(rest: &str) -> Option<Failing> {
     Some(Failing { when, leave })
 }
 
-fn leave_of(word: &str) -> Option<Leave> {
+/// What a failing write leaves, by its word.
+pub fn leave_of(word: &str) -> Option<Leave> {
     Some(match word {
         "old" => Leave::Old,
         "new" => Leave::New,

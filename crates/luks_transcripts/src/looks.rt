@@ -120,18 +120,18 @@ impl Look {
     }
 }
 
-fn print_answer<W: Write>(out: &mut W, line: &str, holds: bool) -> Result<(), Fault> {
+pub fn print_answer<W: Write>(out: &mut W, line: &str, holds: bool) -> Result<(), Fault> {
     let answer = if holds { "yes" } else { "no" };
     writeln!(out, "{line}: {answer}")?;
     Ok(())
 }
 
-fn print_number<W: Write>(out: &mut W, line: &str, number: u64) -> Result<(), Fault> {
+pub fn print_number<W: Write>(out: &mut W, line: &str, number: u64) -> Result<(), Fault> {
     writeln!(out, "{line}: {number}")?;
     Ok(())
 }
 
-fn print_hex<W: Write>(out: &mut W, line: &str, bytes: &[u8]) -> Result<(), Fault> {
+pub fn print_hex<W: Write>(out: &mut W, line: &str, bytes: &[u8]) -> Result<(), Fault> {
     write!(out, "{line}: ")?;
     for byte in bytes {
         out.write_all(&[hex_digit(byte / 16), hex_digit(byte % 16)])?;
@@ -140,7 +140,7 @@ fn print_hex<W: Write>(out: &mut W, line: &str, bytes: &[u8]) -> Result<(), Faul
     Ok(())
 }
 
-fn print_calls<W: Write>(out: &mut W, line: &str, calls: &[Call]) -> Result<(), Fault> {
+pub fn print_calls<W: Write>(out: &mut W, line: &str, calls: &[Call]) -> Result<(), Fault> {
     write!(out, "{line}:")?;
     for call in calls {
         match *call {

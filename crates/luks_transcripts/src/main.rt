@@ -54,6 +54,32 @@
 //!     calls DEVICE           the last command's calls: r, wAT+LEN, f
 //!     left                   how many random bytes the last command left
 //!     beyond DEVICE          how many of its writes reached beyond what is kept of the disk
+//!
+//! Small volumes whose keyslots open, and targets (`sealed`):
+//!
+//!     small NAME             the volume is the small one of this name: luks1, luks2, two-hashes, damaged
+//!     large USED             LUKS1 with large key areas, of which so many are in use
+//!     seal AT TEXT           the key area of 40 stripes is put there that this passphrase opens
+//!     back AT LEN BYTE       of the volume so many bytes from there on are kept too, each this one
+//!     target KEPT LEN        a target of LEN bytes 55, of which the first KEPT are kept
+//!
+//! More questions (`views`):
+//!
+//!     opens N TEXT           whether keyslot N opens by the passphrase to the volume key 00 01 .. 3f
+//!     target-sum FROM TO     SHA-256 of these bytes of the target
+//!     untouched              whether what is kept of the target is as it was made
+//!     ranges DEVICE          the last command's writes, neighbouring ones as one, and its flushes
+//!     at-least DEVICE N      whether it made so many calls
+//!     reads-beyond DEVICE    how many of its reads reached beyond what is kept of the disk
+//!
+//! Commands that are run again and again (`turns`):
+//!
+//!     each DEVICE LEAVE WORDS       with each call of the device failing in turn, from the volumes as they are, which stay:
+//!                            prints what is told, and each call at which something else is told, that isn't the last one and the
+//!                            only failure, or behind which other bytes are left than were written before and LEAVE says
+//!     stays N TEXT N TEXT    behind each failure of the next `each` one of these keyslots has to open
+//!     rooms WORDS            runs it as `$`, and before with each smaller room of standard output: prints each room
+//!                            in which it doesn't end with 4 or leaves other bytes
 #![tactic(auto)]
 
 mod commands;
@@ -63,9 +89,12 @@ mod fault;
 mod files;
 mod looks;
 mod making;
+mod sealed;
 mod session;
 mod step;
 mod texts;
+mod turns;
+mod views;
 
 use crate::session::Session;
 use anyhow::Context;

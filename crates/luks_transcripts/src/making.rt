@@ -199,7 +199,7 @@ fn stripe(name: &str) -> Result<&'static [u8], Fault> {
 }
 
 /// Puts these bytes there.
-fn put(volume: &mut Kept, at: usize, bytes: &[u8]) -> Result<(), Fault> {
+pub fn put(volume: &mut Kept, at: usize, bytes: &[u8]) -> Result<(), Fault> {
     let end = at.checked_add(bytes.len());
     if end.is_none_or(|end| volume.bytes.len() < end) {
         return Err(Fault::Outside);

@@ -6,6 +6,7 @@ use crate::files::Files;
 use crate::looks::{Look, Seen};
 use crate::making::Header;
 use crate::step::{Step, step_of};
+use crate::turns::{Turn, take_rooms};
 use std::alloc::{AllocError, Global};
 use std::io::Write;
 
@@ -20,6 +21,7 @@ pub struct Session {
     files: Files,
     troubles: Troubles,
     asked: Asked,
+    stays: Vec<String>,
 }
 
 impl Session {
@@ -44,6 +46,7 @@ impl Session {
                 target: None,
                 left: 0,
             },
+            stays: Vec::new(alloc),
         })
     }
 
@@ -63,6 +66,9 @@ impl Session {
             }
             Step::Command(command) => self.command(line, command, out),
             Step::Look(look) => self.look(line, look, out),
+            Step::Sealing(sealing) => sealing.take(alloc, &mut self.volumes),
+            Step::View(view) => view.take(alloc, line, &self.volumes, &self.asked, out),
+            Step::Turn(turn) => self.turn(line, turn, out),
         }
     }
 
@@ -88,6 +94,23 @@ impl Session {
                 told.print(out)
             }
         }
+    }
+
+    fn turn<W: Write>(&mut self, line: &str, turn: Turn<'_>, out: &mut W) -> Result<(), Fault> {
+        let alloc = self.alloc;
+        match turn {
+            Turn::Stays(keyslots) => self.stays.push(String::from_str(alloc, keyslots)?)?,
+            Turn::Each(each) => {
+                writeln!(out, "{line}")?;
+                let stays = std::mem::replace(&mut self.stays, Vec::new(alloc));
+                self.asked = each.take(alloc, &self.volumes, &self.files, &stays, out)?;
+            }
+            Turn::Rooms(words) => {
+                writeln!(out, "{line}")?;
+                self.asked = take_rooms(alloc, words, &mut self.volumes, &self.files, out)?;
+            }
+        }
+        Ok(())
     }
 
     fn look<W: Write>(&mut self, line: &str, look: Look, out: &mut W) -> Result<(), Fault> {

@@ -4,7 +4,10 @@ use crate::failing::{Failure, failure_of};
 use crate::files::{Filing, filing_of};
 use crate::looks::{Look, look_of};
 use crate::making::{Making, making_of};
+use crate::sealed::{Sealing, sealing_of};
 use crate::texts::parted;
+use crate::turns::{Turn, turn_of};
+use crate::views::{View, view_of};
 
 /// A step, by its family.
 #[derive(Debug, Clone, Copy)]
@@ -21,6 +24,12 @@ pub enum Step<'a> {
     Command(Command<'a>),
     /// A question.
     Look(Look),
+    /// A small volume whose keyslots open, or a target.
+    Sealing(Sealing<'a>),
+    /// A question about keyslots, targets and ranges.
+    View(View<'a>),
+    /// A command that is run again and again.
+    Turn(Turn<'a>),
 }
 
 /// The step of a line; none where it is no step.
@@ -41,5 +50,14 @@ pub fn step_of(line: &str) -> Option<Step<'_>> {
     if let Some(command) = command_of(word, rest) {
         return Some(Step::Command(command));
     }
-    look_of(word, rest).map(Step::Look)
+    if let Some(look) = look_of(word, rest) {
+        return Some(Step::Look(look));
+    }
+    if let Some(sealing) = sealing_of(word, rest) {
+        return Some(Step::Sealing(sealing));
+    }
+    if let Some(view) = view_of(word, rest) {
+        return Some(Step::View(view));
+    }
+    turn_of(word, rest).map(Step::Turn)
 }
