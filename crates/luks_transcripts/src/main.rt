@@ -75,18 +75,27 @@
 //! Commands that are run again and again (`turns`):
 //!
 //!     each DEVICE LEAVE WORDS       with each call of the device failing in turn, from the volumes as they are, which stay:
-//!                            prints what is told, and each call at which something else is told, that isn't the last one and the
+//!                            prints what is told, and again where a later call is told otherwise; and each call that isn't the last one and the
 //!                            only failure, or behind which other bytes are left than were written before and LEAVE says
 //!     stays N TEXT N TEXT    behind each failure of the next `each` one of these keyslots has to open
 //!     rooms WORDS            runs it as `$`, and before with each smaller room of standard output: prints each room
 //!                            in which it doesn't end with 4 or leaves other bytes
+//!
+//! SHA-256 of all that commands answer over hostile volumes (`hostile`, `luks_hostile_volumes`):
+//!
+//!     cuts luks1, cuts luks2           cut in the header, and about the ends of fields, copies and areas
+//!     changes luks1, changes luks2     bits of each byte of the header changed, of LUKS2 with new checksums
+//!     damage luks2                     a bit of each byte of both copies changed
+//!     numbers N                        four volumes that are made of numbers from N on
 #![tactic(auto)]
 
+mod answers;
 mod commands;
 mod disk;
 mod failing;
 mod fault;
 mod files;
+mod hostile;
 mod looks;
 mod making;
 mod sealed;

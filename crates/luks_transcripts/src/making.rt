@@ -2,7 +2,9 @@
 use crate::commands::Volumes;
 use crate::disk::Kept;
 use crate::fault::Fault;
+use crate::sealed::small_text;
 use crate::texts::{byte, bytes_of, number, parted, unescaped};
+use luks_hostile_volumes::full;
 use luks_samples::{
     Fields, STRIPE, STRIPE_BY_ARGON2I, STRIPE_BY_ARGON2ID, STRIPE_BY_SHA512, THREE, ZEROS,
     edited_once, filled, luks1, luks2, opening_luks1, put_copy, put_front, roomy_text, shapes,
@@ -153,8 +155,11 @@ impl Header {
 
 /// The metadata of this name.
 fn sample(alloc: Global, name: &str) -> Result<String, Fault> {
-    if name == "roomy" {
-        return Ok(roomy_text(alloc, &[])?);
+    match name {
+        "roomy" => return Ok(roomy_text(alloc, &[])?),
+        "small" => return small_text(alloc),
+        "full" => return Ok(full(alloc)?),
+        _ => {}
     }
     let text = match name {
         "zeros" => ZEROS,

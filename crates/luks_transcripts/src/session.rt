@@ -69,6 +69,7 @@ impl Session {
             Step::Sealing(sealing) => sealing.take(alloc, &mut self.volumes),
             Step::View(view) => view.take(alloc, line, &self.volumes, &self.asked, out),
             Step::Turn(turn) => self.turn(line, turn, out),
+            Step::Hostile(hostile) => hostile.take(alloc, line, out),
         }
     }
 

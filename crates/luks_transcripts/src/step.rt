@@ -2,6 +2,7 @@
 use crate::commands::{Command, command_of};
 use crate::failing::{Failure, failure_of};
 use crate::files::{Filing, filing_of};
+use crate::hostile::{Hostile, hostile_of};
 use crate::looks::{Look, look_of};
 use crate::making::{Making, making_of};
 use crate::sealed::{Sealing, sealing_of};
@@ -30,6 +31,8 @@ pub enum Step<'a> {
     View(View<'a>),
     /// A command that is run again and again.
     Turn(Turn<'a>),
+    /// A sum of what is answered over hostile volumes.
+    Hostile(Hostile),
 }
 
 /// The step of a line; none where it is no step.
@@ -59,5 +62,8 @@ pub fn step_of(line: &str) -> Option<Step<'_>> {
     if let Some(view) = view_of(word, rest) {
         return Some(Step::View(view));
     }
-    turn_of(word, rest).map(Step::Turn)
+    if let Some(turn) = turn_of(word, rest) {
+        return Some(Step::Turn(turn));
+    }
+    hostile_of(word, rest).map(Step::Hostile)
 }

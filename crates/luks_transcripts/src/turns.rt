@@ -170,7 +170,7 @@ impl Each<'_> {
     }
 
     /// Runs the command over the volumes, which stay as they are; what was asked of its files where no call failed. Prints what it
-    /// told where the first call failed, and then each call that isn't like that or leaves what it must not.
+    /// told where the first call failed, and where something else is told by a later one, that; and each call that leaves what it must not.
     pub fn take<W: Write>(
         &self,
         alloc: Global,
@@ -182,21 +182,20 @@ impl Each<'_> {
         let whole = end_of(alloc, self.words, volumes, files, &Troubles::NONE)?;
         let after = kept_of(&whole.volumes, self.name)?.bytes.as_slice();
         let mut want = kept_of(volumes, self.name)?.bytes.to_vec(alloc)?;
-        let first = end_of(alloc, self.words, volumes, files, &self.failing(0))?.told;
-        first.print(out)?;
+        let mut last: Option<Told> = None;
         for (number, call) in record_of(&whole.asked, self.name)?.calls.iter().enumerate() {
             let (at, len) = range_of(*call).unwrap_or_default();
             let at = at as usize;
             let new = part(after, at, at.wrapping_add(len));
             leave_behind(&mut want, at, new, self.leave);
             let ended = end_of(alloc, self.words, volumes, files, &self.failing(number))?;
-            if !is_same(&first, &ended.told) {
-                writeln!(out, "call {number}: otherwise answered")?;
+            if !last.as_ref().is_some_and(|last| is_same(last, &ended.told)) {
                 ended.told.print(out)?;
             }
             if let Some(what) = self.wrong(alloc, number, &ended, &want, stays)? {
                 writeln!(out, "call {number}: {what}")?;
             }
+            last = Some(ended.told);
             put(&mut want, at, new);
         }
         let end = if after == want.as_slice() {
