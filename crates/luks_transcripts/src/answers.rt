@@ -1,5 +1,5 @@
 //! What commands answer over one volume after another, in one text.
-use crate::commands::{Volumes, run};
+use crate::commands::{Command, Told, Volumes};
 use crate::disk::Kept;
 use crate::failing::Troubles;
 use crate::fault::Fault;
@@ -52,8 +52,16 @@ impl Answers {
 
     /// Runs the command, and adds its status, a space and what it prints on standard output.
     pub fn run(&mut self, words: &str, files: &Files) -> Result<(), Fault> {
-        let (told, _) = run(self.alloc, words, &mut self.volumes, files, &Troubles::NONE)?;
-        self.add(told.status, told.out.as_slice())?;
+        let mut told = Told::with_room(self.alloc, (65536, 4096))?;
+        let command = Command(words);
+        let _asked = command.run(
+            self.alloc,
+            &mut self.volumes,
+            files,
+            &Troubles::NONE,
+            &mut told,
+        )?;
+        self.add(told.status, told.out())?;
         Ok(())
     }
 

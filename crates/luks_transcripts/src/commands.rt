@@ -7,20 +7,17 @@ use crate::fault::Fault;
 use crate::files::{Files, Source};
 use luks_cli::{CountingPrinter, InputFault, Inputs, Line, execute};
 use luks_line::line;
-use std::alloc::Global;
+use std::alloc::{AllocError, Global};
 use std::io::{Cursor, Write};
 
-/// A step that runs the program.
+/// A command: its words, which single spaces part.
 #[derive(Debug, Clone, Copy)]
-pub enum Command<'a> {
-    /// The command of these words, which single spaces part.
-    Run(&'a str),
-}
+pub struct Command<'a>(pub &'a str);
 
 /// The step of this word and of what follows it.
 pub fn command_of<'a>(word: &'a str, rest: &'a str) -> Option<Command<'a>> {
     match word {
-        "$" => Some(Command::Run(rest)),
+        "$" => Some(Command(rest)),
         _ => None,
     }
 }
@@ -35,8 +32,10 @@ pub struct Volumes {
 /// What a command printed on standard output and on standard error, and its status.
 #[derive(Debug, Drop)]
 pub struct Told {
-    pub out: Vec<u8>,
-    pub err: Vec<u8>,
+    out: Vec<u8>,
+    printed: usize,
+    err: Vec<u8>,
+    said: usize,
     pub status: u8,
 }
 
@@ -57,7 +56,7 @@ fn opened(alloc: Global, kept: &mut Option<Kept>, trouble: &Trouble) -> Result<D
         return Err(fault);
     }
     match kept.take() {
-        Some(kept) => Ok(Disk::new(alloc, kept, trouble.failing)),
+        Some(kept) => Ok(Disk::new(alloc, kept, trouble.oddity)),
         None => Err(InputFault::Absent),
     }
 }
@@ -81,32 +80,70 @@ fn reader<'a>(file: &'a Option<Vec<u8>>, trouble: &Trouble) -> Result<Source<'a>
     }
 }
 
-/// What the command of this text's words comes to, and what is asked of its files then. The volumes are as
-/// it leaves them.
-pub fn run(
-    alloc: Global,
-    words: &str,
-    volumes: &mut Volumes,
-    files: &Files,
-    troubles: &Troubles,
-) -> Result<(Told, Asked), Fault> {
-    let words: Vec<&str> = words.split(' ').collect(alloc)?;
-    match line(alloc, words.as_slice()) {
-        Ok(line) => run_line(alloc, &line, volumes, files, troubles),
-        Err(_) => Err(Fault::NoCommand),
+impl Volumes {
+    /// The same volumes once more.
+    pub fn copy(&self, alloc: Global) -> Result<Volumes, AllocError> {
+        Ok(Volumes {
+            volume: copied(alloc, &self.volume)?,
+            target: copied(alloc, &self.target)?,
+        })
+    }
+
+    /// Whether these hold the same bytes.
+    pub fn are_same(&self, other: &Volumes) -> bool {
+        held(&self.volume) == held(&other.volume) && held(&self.target) == held(&other.target)
     }
 }
 
-fn run_line(
+fn copied(alloc: Global, kept: &Option<Kept>) -> Result<Option<Kept>, AllocError> {
+    match kept {
+        Some(kept) => Ok(Some(kept.copied(alloc)?)),
+        None => Ok(None),
+    }
+}
+
+/// The bytes of a volume; none where it isn't there.
+pub fn held(kept: &Option<Kept>) -> &[u8] {
+    match kept {
+        Some(kept) => kept.bytes.as_slice(),
+        None => &[],
+    }
+}
+
+/// The words of a command.
+pub fn words_of(alloc: Global, command: Command<'_>) -> Result<Vec<&str>, AllocError> {
+    command.0.split(' ').collect(alloc)
+}
+
+impl Command<'_> {
+    /// Runs the command, with this trouble; what is asked of its files. The volumes are as it leaves them.
+    pub fn run(
+        self,
+        alloc: Global,
+        volumes: &mut Volumes,
+        files: &Files,
+        troubles: &Troubles,
+        told: &mut Told,
+    ) -> Result<Asked, Fault> {
+        let words = words_of(alloc, self)?;
+        match line(alloc, words.as_slice()) {
+            Ok(line) => Ok(run_line(alloc, &line, volumes, files, troubles, told)),
+            Err(_) => Err(Fault::NoCommand),
+        }
+    }
+}
+
+/// Runs the command of this line, as `Command::run`. It takes no memory but for the command itself.
+pub fn run_line(
     alloc: Global,
     line: &Line<'_>,
     volumes: &mut Volumes,
     files: &Files,
     troubles: &Troubles,
-) -> Result<(Told, Asked), Fault> {
-    let mut printed = vec![in alloc; 0u8; troubles.room]?;
-    let mut out = CountingPrinter::new(Cursor::new(printed.as_mut_slice()));
-    let mut err = Vec::with_capacity(alloc, 4096)?;
+    told: &mut Told,
+) -> Asked {
+    let mut out = CountingPrinter::new(Cursor::new(told.out.as_mut_slice()));
+    let mut err = Cursor::new(told.err.as_mut_slice());
     let mut inputs = Inputs {
         volume: opened(alloc, &mut volumes.volume, &troubles.volume),
         target: opened(alloc, &mut volumes.target, &troubles.target),
@@ -114,35 +151,60 @@ fn run_line(
         new_passphrase: reader(&files.new, &troubles.new),
         random: reader(&files.random, &troubles.random),
     };
-    let status = execute(alloc, line, &mut inputs, &mut out, &mut err);
-    let len = out.writer.position() as usize;
+    told.status = execute(alloc, line, &mut inputs, &mut out, &mut err);
+    told.printed = out.writer.position() as usize;
+    told.said = err.position() as usize;
     let Inputs {
         volume,
         target,
         random,
         ..
     } = inputs;
-    let asked = Asked {
+    Asked {
         volume: put_back(&mut volumes.volume, volume),
         target: put_back(&mut volumes.target, target),
         left: random.map_or(0, |random| random.left.len()),
-    };
-    printed.truncate(len);
-    let told = Told {
-        out: printed,
-        err,
-        status,
-    };
-    Ok((told, asked))
+    }
 }
 
 impl Told {
+    /// Nothing told yet, with room for so many bytes on standard output and on standard error.
+    pub fn with_room(alloc: Global, room: (usize, usize)) -> Result<Told, AllocError> {
+        Ok(Told {
+            out: vec![in alloc; 0u8; room.0]?,
+            printed: 0,
+            err: vec![in alloc; 0u8; room.1]?,
+            said: 0,
+            status: 0,
+        })
+    }
+
+    /// What was printed on standard output.
+    pub fn out(&self) -> &[u8] {
+        self.out.get(..self.printed).unwrap_or_default()
+    }
+
+    /// What was printed on standard error.
+    pub fn err(&self) -> &[u8] {
+        self.err.get(..self.said).unwrap_or_default()
+    }
+
+    /// Whether both tell the same.
+    pub fn is_same(&self, other: &Told) -> bool {
+        self.status == other.status && self.out() == other.out() && self.err() == other.err()
+    }
+
+    /// Whether it told that memory was refused.
+    pub fn is_refused_memory(&self) -> bool {
+        self.status == 4 && self.out() == b"no memory\n".as_slice()
+    }
+
     /// Prints what the command said on standard output and, each line behind a `!`, on standard error, and
     /// its status. A last line without a line feed is told as such.
     pub fn print<W: Write>(&self, out: &mut W) -> Result<(), Fault> {
-        print_lines(out, b"", self.out.as_slice())?;
-        print_lines(out, b"! ", self.err.as_slice())?;
-        writeln!(out, "= {}", self.status)?;
+        print_lines(out, b"", self.out())?;
+        print_lines(out, b"! ", self.err())?;
+        write!(out, "= {}", self.status)?;
         Ok(())
     }
 }

@@ -81,10 +81,43 @@ pub struct Failing {
     pub leave: Leave,
 }
 
+/// The part of a disk from one place up to another.
+#[derive(Debug, Clone, Copy)]
+pub struct Span {
+    pub from: u64,
+    pub to: u64,
+}
+
+impl Span {
+    fn holds(self, from: u64, to: u64) -> bool {
+        self.from <= from && to <= self.to
+    }
+}
+
+/// What may be read of a device that isn't to be written.
+#[derive(Debug, Clone, Copy)]
+pub struct Readable {
+    /// How many bytes in all.
+    pub most: u64,
+    /// The parts that may be read.
+    pub parts: [Span; 2],
+}
+
+/// How a device is other than a sound one.
+#[derive(Debug, Clone, Copy)]
+pub struct Oddity {
+    /// The call that fails.
+    pub failing: Option<Failing>,
+    /// What may be read.
+    pub readable: Option<Readable>,
+    /// Whether it keeps a list of its calls.
+    pub records: bool,
+}
+
 /// What a disk was asked for.
 #[derive(Debug, Drop)]
 pub struct Record {
-    /// The calls.
+    /// The calls, where they are listed.
     pub calls: Vec<Call>,
     /// How many writes reached beyond what is kept.
     pub beyond: u64,
@@ -94,12 +127,11 @@ pub struct Record {
     pub failures: u64,
 }
 
-/// A disk of which the front is kept: bytes behind it are zeros, and a write there is only counted. It
-/// keeps a list of its calls, and one of them may fail.
+/// A disk of which the front is kept: bytes behind it are zeros, and a write there is only counted.
 #[derive(Debug, Drop)]
 pub struct Disk {
     kept: Kept,
-    failing: Option<Failing>,
+    oddity: Oddity,
     made: u64,
     flushes: u64,
     calls: Vec<Call>,
@@ -111,12 +143,12 @@ pub struct Disk {
 
 impl Disk {
     /// A disk of which no call was made.
-    pub fn new(alloc: Global, kept: Kept, failing: Option<Failing>) -> Disk
+    pub fn new(alloc: Global, kept: Kept, oddity: Oddity) -> Disk
         ensures { result.failures ≡ 0 }
     {
         Disk {
             kept,
-            failing,
+            oddity,
             made: 0,
             flushes: 0,
             calls: Vec::new(alloc),
@@ -150,21 +182,49 @@ impl Disk {
         ensures kept { self.new.kept ≡ self.old.kept }
         ensures failures { self.new.failures ≡ self.old.failures }
     {
-        let _ = self.calls.push(call);
-        let made = self.made;
-        self.made = made.wrapping_add(1);
-        let failing = self.failing?;
+        if self.oddity.records {
+            let _ = self.calls.push(call);
+        }
+        let number = self.made;
+        self.made = number.wrapping_add(1);
+        let after = self.flushes;
+        if call == Call::Flush {
+            self.flushes = after.wrapping_add(1);
+        }
+        let failing = self.oddity.failing?;
         let is_due = match (failing.when, call) {
-            (When::Call(number), _) => number == made,
-            (When::Write(flushes), Call::Write { .. }) => flushes == self.flushes,
-            (When::Flush(flushes), Call::Flush) => flushes == self.flushes,
+            (When::Call(due), _) => due == number,
+            (When::Write(flushes), Call::Write { .. }) => flushes == after,
+            (When::Flush(flushes), Call::Flush) => flushes == after,
             _ => false,
         };
         if !is_due {
             return None;
         }
-        self.failing = None;
+        self.oddity.failing = None;
         Some(failing.leave)
+    }
+
+    /// Whether these bytes may be read; they are counted then.
+    fn may_read(&mut self, at: u64, len: usize) -> bool
+        ensures kept { self.new.kept ≡ self.old.kept }
+        ensures failures { self.new.failures ≡ self.old.failures }
+    {
+        let Some(readable) = &mut self.oddity.readable else {
+            return true;
+        };
+        let end = at.saturating_add(len as u64);
+        let [first, second] = readable.parts;
+        if !first.holds(at, end) && !second.holds(at, end) {
+            return false;
+        }
+        match readable.most.checked_sub(len as u64) {
+            Some(left) => {
+                readable.most = left;
+                true
+            }
+            None => false,
+        }
     }
 
     /// The bytes that are kept from the place `at` on.
@@ -223,7 +283,7 @@ impl Device for Disk {
     }
 
     fn read_at(&mut self, at: u64, into: &mut [u8]) -> Result<(), DeviceFault> {
-        if self.turn(Call::Read).is_some() {
+        if self.turn(Call::Read).is_some() || !self.may_read(at, into.len()) {
             self.failures += 1;
             return Err(DeviceFault);
         }
@@ -243,21 +303,17 @@ impl Device for Disk {
         if self.kept_from(at).len() < len {
             self.beyond = self.beyond.saturating_add(1);
         }
-        match left {
-            None => {
-                self.put(at, from);
-                Ok(())
-            }
-            Some(leave) => {
-                self.leave_behind(at, from, leave);
-                self.failures += 1;
-                Err(DeviceFault)
-            }
+        if left.is_none() && self.oddity.readable.is_none() {
+            self.put(at, from);
+            return Ok(());
         }
+        self.leave_behind(at, from, left.unwrap_or(Leave::Old));
+        self.failures += 1;
+        Err(DeviceFault)
     }
 
     fn flush(&mut self) -> Result<(), DeviceFault> {
-        if self.turn(Call::Flush).is_some() {
+        if self.turn(Call::Flush).is_some() || self.oddity.readable.is_some() {
             self.failures += 1;
             return Err(DeviceFault);
         }

@@ -1,5 +1,5 @@
 //! What fails in the next command.
-use crate::disk::{Failing, When};
+use crate::disk::{Failing, Oddity, Readable, Span, When};
 use crate::files::{Name, name_of};
 use crate::texts::{number, parted};
 use luks_area::Leave;
@@ -15,8 +15,19 @@ pub enum Failure {
     Broken(Name, ErrorKind),
     /// A call of a device fails.
     Call(Name, Failing),
-    /// Standard output takes so many bytes.
-    Room(usize),
+    /// Of a device no more than this may be read, and nothing is written.
+    Reads(Name, Readable),
+    /// The calls of the devices are listed.
+    Record,
+    /// A stream takes so many bytes.
+    Room(Stream, usize),
+}
+
+/// A standard stream.
+#[derive(Debug, Clone, Copy)]
+pub enum Stream {
+    Output,
+    Error,
 }
 
 /// The step of this word and of what follows it.
@@ -26,8 +37,43 @@ pub fn failure_of(word: &str, rest: &str) -> Option<Failure> {
         "unread" => Failure::Unread(name_of(first)?, fault_of(later)?),
         "broken" => Failure::Broken(name_of(first)?, kind_of(later)?),
         "fail" => Failure::Call(name_of(first)?, failing_of(later)?),
-        "room" => Failure::Room(number(rest)?),
+        "reads" => Failure::Reads(name_of(first)?, readable_of(later)?),
+        "record" if rest.is_empty() => Failure::Record,
+        "room" => Failure::Room(stream_of(first)?, number(later)?),
         _ => return None,
+    })
+}
+
+fn stream_of(word: &str) -> Option<Stream> {
+    match word {
+        "out" => Some(Stream::Output),
+        "err" => Some(Stream::Error),
+        _ => None,
+    }
+}
+
+/// How many bytes may be read, and one part or two.
+fn readable_of(rest: &str) -> Option<Readable> {
+    let (most, parts) = parted(rest);
+    let (from, parts) = parted(parts);
+    let (to, second) = parted(parts);
+    let first = span_of(from, to)?;
+    let second = if second.is_empty() {
+        first
+    } else {
+        let (from, to) = parted(second);
+        span_of(from, to)?
+    };
+    Some(Readable {
+        most: most.parse::<u64>().ok()?,
+        parts: [first, second],
+    })
+}
+
+fn span_of(from: &str, to: &str) -> Option<Span> {
+    Some(Span {
+        from: from.parse::<u64>().ok()?,
+        to: to.parse::<u64>().ok()?,
     })
 }
 
@@ -70,7 +116,7 @@ fn failing_of(rest: &str) -> Option<Failing> {
     Some(Failing { when, leave })
 }
 
-/// What a failing write leaves, by its word.
+/// What a failing write leaves.
 pub fn leave_of(word: &str) -> Option<Leave> {
     Some(match word {
         "old" => Leave::Old,
@@ -88,8 +134,8 @@ pub struct Trouble {
     pub unread: Option<InputFault>,
     /// How it fails behind its bytes.
     pub breaks: Option<ErrorKind>,
-    /// Which of its calls fails.
-    pub failing: Option<Failing>,
+    /// How its device is other than a sound one.
+    pub oddity: Oddity,
 }
 
 impl Trouble {
@@ -97,7 +143,11 @@ impl Trouble {
     pub const NONE: Trouble = Trouble {
         unread: None,
         breaks: None,
-        failing: None,
+        oddity: Oddity {
+            failing: None,
+            readable: None,
+            records: false,
+        },
     };
 }
 
@@ -109,8 +159,8 @@ pub struct Troubles {
     pub passphrase: Trouble,
     pub new: Trouble,
     pub random: Trouble,
-    /// How many bytes standard output takes.
-    pub room: usize,
+    /// How many bytes standard output takes, and standard error.
+    pub room: (usize, usize),
 }
 
 impl Troubles {
@@ -121,10 +171,11 @@ impl Troubles {
         passphrase: Trouble::NONE,
         new: Trouble::NONE,
         random: Trouble::NONE,
-        room: 65536,
+        room: (65536, 4096),
     };
 
-    fn of(&mut self, name: Name) -> &mut Trouble {
+    /// What fails of this file.
+    pub fn of(&mut self, name: Name) -> &mut Trouble {
         match name {
             Name::Volume => &mut self.volume,
             Name::Target => &mut self.target,
@@ -139,8 +190,14 @@ impl Troubles {
         match failure {
             Failure::Unread(name, fault) => self.of(name).unread = Some(fault),
             Failure::Broken(name, kind) => self.of(name).breaks = Some(kind),
-            Failure::Call(name, failing) => self.of(name).failing = Some(failing),
-            Failure::Room(len) => self.room = len,
+            Failure::Call(name, failing) => self.of(name).oddity.failing = Some(failing),
+            Failure::Reads(name, readable) => self.of(name).oddity.readable = Some(readable),
+            Failure::Record => {
+                self.volume.oddity.records = true;
+                self.target.oddity.records = true;
+            }
+            Failure::Room(Stream::Output, len) => self.room.0 = len,
+            Failure::Room(Stream::Error, len) => self.room.1 = len,
         }
     }
 }

@@ -21,7 +21,10 @@ pub enum Fault {
     /// The words are no command line.
     #[error("no command line")]
     NoCommand,
-    /// A part of the command line isn't UTF-8.
+    /// The command never came to an end without a failing call.
+    #[error("each call fails, and the command makes more")]
+    Endless,
+    /// Memory was refused.
     #[error("no memory")]
     NoMemory,
     /// The transcript can't be written.

@@ -132,7 +132,7 @@ impl Filing<'_> {
     }
 }
 
-/// A reader of the bytes of a file, which may fail behind them.
+/// A reader of the bytes of a file. Where it fails behind them, it gives them one by one.
 #[derive(Debug, Drop)]
 pub struct Source<'a> {
     /// What is left to be read.
@@ -143,8 +143,9 @@ pub struct Source<'a> {
 
 impl Read for Source<'_> {
     fn read(&mut self, buf: &mut [u8]) -> io::Result<usize> {
-        match self.breaks {
-            Some(kind) if self.left.is_empty() => Err(kind.into()),
+        match (self.breaks, buf.get_mut(..1)) {
+            (Some(kind), _) if self.left.is_empty() => Err(kind.into()),
+            (Some(_), Some(first)) => self.left.read(first),
             _ => self.left.read(buf),
         }
     }

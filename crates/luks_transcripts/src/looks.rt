@@ -1,9 +1,9 @@
 //! Questions about the volume and about the last command.
-use crate::commands::{Asked, Volumes};
+use crate::commands::{Asked, Volumes, held};
 use crate::disk::{Call, Record};
 use crate::fault::Fault;
 use crate::files::{Name, name_of};
-use crate::texts::two_numbers;
+use crate::texts::{byte, number, parted, two_numbers};
 use luks_samples::hex_digit;
 use sha2::{Digest, Sha256};
 use std::alloc::Global;
@@ -11,13 +11,21 @@ use std::io::Write;
 
 /// A question.
 #[derive(Debug, Clone, Copy)]
-pub enum Look {
+pub enum Look<'a> {
     /// SHA-256 of a part of the volume.
     Sum(Part),
-    /// Whether it is of zeros.
-    Zeros(Part),
+    /// Whether each of its bytes is this one.
+    All(u8, Part),
     /// Its bytes.
     Bytes(Part),
+    /// The length of the longest run of this byte in it.
+    Longest(u8, Part),
+    /// Whether zeros alone follow its first zero.
+    Ended(Part),
+    /// Whether this text stands between this place and the zero that follows it.
+    Holds(usize, &'a str),
+    /// How many bytes stand there.
+    Length(usize),
     /// The volume is remembered.
     Keep,
     /// Whether it is as it was then.
@@ -38,11 +46,16 @@ pub struct Part {
 }
 
 /// The step of this word and of what follows it.
-pub fn look_of(word: &str, rest: &str) -> Option<Look> {
+pub fn look_of<'a>(word: &'a str, rest: &'a str) -> Option<Look<'a>> {
+    let (first, later) = parted(rest);
     Some(match word {
         "sum" => Look::Sum(part_of(rest)?),
-        "zeros" => Look::Zeros(part_of(rest)?),
+        "all" => Look::All(byte(first.as_bytes())?, part_of(later)?),
         "bytes" => Look::Bytes(part_of(rest)?),
+        "longest" => Look::Longest(byte(first.as_bytes())?, part_of(later)?),
+        "ended" => Look::Ended(part_of(rest)?),
+        "holds" => Look::Holds(number(first)?, later),
+        "length" => Look::Length(number(rest)?),
         "keep" => Look::Keep,
         "kept" => Look::Kept,
         "calls" => Look::Calls(name_of(rest)?),
@@ -71,10 +84,13 @@ pub struct Seen<'a> {
 impl Seen<'_> {
     /// The volume's bytes; none where it isn't there.
     fn volume(&self) -> &[u8] {
-        match &self.volumes.volume {
-            Some(kept) => kept.bytes.as_slice(),
-            None => &[],
-        }
+        held(&self.volumes.volume)
+    }
+
+    /// The text between this place and the zero that follows it.
+    fn text(&self, from: usize) -> Result<&[u8], Fault> {
+        let later = self.volume().get(from..).ok_or(Fault::Outside)?;
+        Ok(later.split(|byte| *byte == 0).next().unwrap_or_default())
     }
 
     fn part(&self, part: Part) -> Result<&[u8], Fault> {
@@ -92,7 +108,7 @@ impl Seen<'_> {
     }
 }
 
-impl Look {
+impl Look<'_> {
     /// Prints the question of this line, and the answer.
     pub fn take<W: Write>(
         self,
@@ -103,10 +119,21 @@ impl Look {
     ) -> Result<(), Fault> {
         match self {
             Look::Sum(part) => print_hex(out, line, &Sha256::digest(seen.part(part)?)),
-            Look::Zeros(part) => {
-                let zeros = seen.part(part)?.iter().all(|byte| *byte == 0);
-                print_answer(out, line, zeros)
+            Look::All(byte, part) => {
+                let all = seen.part(part)?.iter().all(|other| *other == byte);
+                print_answer(out, line, all)
             }
+            Look::Longest(byte, part) => {
+                print_number(out, line, longest(seen.part(part)?, byte))
+            }
+            Look::Ended(part) => print_answer(out, line, is_ended(seen.part(part)?)),
+            Look::Holds(from, text) => {
+                let holds = str::from_utf8(seen.text(from)?).is_ok_and(|found| found.contains(
+                    text,
+                ));
+                print_answer(out, line, holds)
+            }
+            Look::Length(from) => print_number(out, line, seen.text(from)?.len() as u64),
             Look::Bytes(part) => print_hex(out, line, seen.part(part)?),
             Look::Keep => {
                 *seen.kept = seen.volume().to_vec(alloc)?;
@@ -120,6 +147,29 @@ impl Look {
     }
 }
 
+/// The length of the longest run of this byte.
+fn longest(bytes: &[u8], byte: u8) -> u64 {
+    let mut most = 0u64;
+    let mut run = 0u64;
+    for other in bytes {
+        run = if *other == byte {
+            run.wrapping_add(1)
+        } else {
+            0
+        };
+        most = most.max(run);
+    }
+    most
+}
+
+/// Whether zeros alone follow the first zero.
+fn is_ended(bytes: &[u8]) -> bool {
+    bytes
+        .iter()
+        .skip_while(|byte| **byte != 0)
+        .all(|byte| *byte == 0)
+}
+
 pub fn print_answer<W: Write>(out: &mut W, line: &str, holds: bool) -> Result<(), Fault> {
     let answer = if holds { "yes" } else { "no" };
     writeln!(out, "{line}: {answer}")?;
@@ -131,6 +181,7 @@ pub fn print_number<W: Write>(out: &mut W, line: &str, number: u64) -> Result<()
     Ok(())
 }
 
+/// Prints the line, and these bytes by their digits.
 pub fn print_hex<W: Write>(out: &mut W, line: &str, bytes: &[u8]) -> Result<(), Fault> {
     write!(out, "{line}: ")?;
     for byte in bytes {

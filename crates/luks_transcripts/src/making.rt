@@ -1,13 +1,14 @@
 //! The volume, and the metadata of which it is made.
-use crate::commands::Volumes;
+use crate::areas::key_area;
+use crate::commands::{Volumes, held};
 use crate::disk::Kept;
 use crate::fault::Fault;
-use crate::sealed::small_text;
 use crate::texts::{byte, bytes_of, number, parted, unescaped};
 use luks_hostile_volumes::full;
 use luks_samples::{
     Fields, STRIPE, STRIPE_BY_ARGON2I, STRIPE_BY_ARGON2ID, STRIPE_BY_SHA512, THREE, ZEROS,
     edited_once, filled, luks1, luks2, opening_luks1, put_copy, put_front, roomy_text, shapes,
+    text_of,
 };
 use std::alloc::{AllocError, Global};
 
@@ -20,6 +21,8 @@ pub enum Making<'a> {
     Edit(&'a str, &'a str),
     /// As many bytes as the metadata is to have.
     Pad(usize),
+    /// As many bytes as the metadata is to have by spaces behind it.
+    Spaces(usize),
     /// The bytes of each copy.
     Size(u32),
     /// The sequence number.
@@ -43,8 +46,8 @@ pub enum Change<'a> {
     Put(usize, &'a str),
     /// A place, and how many times which byte is put there.
     Run(usize, usize, u8),
-    /// A place, and the key area of one stripe that is put there.
-    Stripe(usize, &'a str),
+    /// A place, and the key area of this name that is put there.
+    Area(usize, &'a str),
     /// The length that the volume is cut to.
     Cut(usize),
     /// The length of the disk of which the volume is the front.
@@ -66,6 +69,7 @@ pub fn making_of<'a>(word: &'a str, rest: &'a str) -> Option<Making<'a>> {
         "text" => Making::Text(rest),
         "edit" => edit_of(rest)?,
         "pad" => Making::Pad(number(rest)?),
+        "spaces" => Making::Spaces(number(rest)?),
         "size" => Making::Size(rest.parse::<u32>().ok()?),
         "seqid" => Making::Seqid(rest.parse::<u64>().ok()?),
         "label" => Making::Field(Field::Label, rest),
@@ -84,7 +88,7 @@ fn change_of<'a>(word: &'a str, rest: &'a str) -> Option<Change<'a>> {
         "header" => Change::Header(rest.parse::<u32>().ok()?),
         "put" => Change::Put(number(first)?, later),
         "run" => run_of(number(first)?, later)?,
-        "stripe" => Change::Stripe(number(first)?, later),
+        "area" => Change::Area(number(first)?, later),
         "cut" => Change::Cut(number(rest)?),
         "disk" => Change::Disk(rest.parse::<u64>().ok()?),
         _ => return None,
@@ -144,6 +148,14 @@ impl Header {
         }
     }
 
+    /// Adds spaces to the metadata, so that it has so many bytes.
+    fn lengthen(&mut self, len: usize) -> Result<(), AllocError> {
+        for _ in self.text.len()..len {
+            self.text.push_str(" ")?;
+        }
+        Ok(())
+    }
+
     fn edit(&mut self, alloc: Global, old: &str, new: &str) -> Result<(), Fault> {
         if !self.text.contains(old) {
             return Err(Fault::NoSuchText);
@@ -157,7 +169,6 @@ impl Header {
 fn sample(alloc: Global, name: &str) -> Result<String, Fault> {
     match name {
         "roomy" => return Ok(roomy_text(alloc, &[])?),
-        "small" => return small_text(alloc),
         "full" => return Ok(full(alloc)?),
         _ => {}
     }
@@ -232,9 +243,14 @@ impl Making<'_> {
         volumes: &mut Volumes,
     ) -> Result<(), Fault> {
         match self {
+            Making::Text("volume") => {
+                let text = text_of(held(&volumes.volume));
+                *header = Header::new(alloc, String::from_str(alloc, text)?)?;
+            }
             Making::Text(name) => *header = Header::new(alloc, sample(alloc, name)?)?,
             Making::Edit(old, new) => header.edit(alloc, old, new)?,
             Making::Pad(len) => header.text = filled(alloc, header.text.as_str(), len)?,
+            Making::Spaces(len) => header.lengthen(len)?,
             Making::Size(size) => header.size = size,
             Making::Seqid(seqid) => header.seqid = seqid,
             Making::Field(field, text) => header.set(field, unescaped(alloc, text)?),
@@ -258,7 +274,8 @@ impl Change<'_> {
             Change::Header(at) => put_copy(&mut volume.bytes, at, &header.fields()),
             Change::Put(at, digits) => put(volume, at, bytes_of(alloc, digits)?.as_slice())?,
             Change::Run(at, len, byte) => put(volume, at, vec![in alloc; byte; len]?.as_slice())?,
-            Change::Stripe(at, name) => put(volume, at, stripe(name)?)?,
+            Change::Area(at, "whole") => put(volume, at, key_area(alloc)?.as_slice())?,
+            Change::Area(at, name) => put(volume, at, stripe(name)?)?,
             Change::Cut(len) => cut(volume, len)?,
             Change::Disk(len) => volume.len = len,
         }

@@ -61,18 +61,6 @@ fn small(alloc: Global, name: &str) -> Result<Vec<u8>, Fault> {
     })
 }
 
-/// The metadata of the small LUKS2 volume.
-pub fn small_text(alloc: Global) -> Result<String, Fault> {
-    let volume = two_keyslots(alloc)?;
-    let area = volume.get(4096..16384).unwrap_or_default();
-    let end = area.iter().position(|byte| *byte == 0);
-    let text = area.get(..end.unwrap_or_default()).unwrap_or_default();
-    match str::from_utf8(text) {
-        Ok(text) => Ok(String::from_str(alloc, text)?),
-        Err(_) => Err(Fault::NoBytes),
-    }
-}
-
 impl Sealing<'_> {
     /// Makes or changes the volume, or makes the target.
     pub fn take(self, alloc: Global, volumes: &mut Volumes) -> Result<(), Fault> {

@@ -1,12 +1,13 @@
 //! A session: what its steps have made, and what each does.
-use crate::commands::{Asked, Command, Volumes, run};
+use crate::commands::{Asked, Command, Told, Volumes};
 use crate::failing::Troubles;
 use crate::fault::Fault;
 use crate::files::Files;
+use crate::library::Question;
 use crate::looks::{Look, Seen};
 use crate::making::Header;
 use crate::step::{Step, step_of};
-use crate::turns::{Turn, take_rooms};
+use crate::trials::{Over, Probe, Trial, run_each, run_with_little_memory};
 use std::alloc::{AllocError, Global};
 use std::io::Write;
 
@@ -20,8 +21,8 @@ pub struct Session {
     kept: Vec<u8>,
     files: Files,
     troubles: Troubles,
+    probes: Vec<Probe>,
     asked: Asked,
-    stays: Vec<String>,
 }
 
 impl Session {
@@ -41,12 +42,12 @@ impl Session {
                 random: None,
             },
             troubles: Troubles::NONE,
+            probes: Vec::new(alloc),
             asked: Asked {
                 volume: None,
                 target: None,
                 left: 0,
             },
-            stays: Vec::new(alloc),
         })
     }
 
@@ -64,57 +65,75 @@ impl Session {
                 self.troubles.add(failure);
                 Ok(())
             }
-            Step::Command(command) => self.command(line, command, out),
+            Step::Command(command) => self.run(line, command, out),
+            Step::Trial(trial) => self.trial(line, trial, out),
+            Step::Question(question) => self.ask(line, question, out),
             Step::Look(look) => self.look(line, look, out),
             Step::Sealing(sealing) => sealing.take(alloc, &mut self.volumes),
-            Step::View(view) => view.take(alloc, line, &self.volumes, &self.asked, out),
-            Step::Turn(turn) => self.turn(line, turn, out),
+            Step::Written(look) => look.take(alloc, line, &self.volumes, &self.asked, out),
             Step::Hostile(hostile) => hostile.take(alloc, line, out),
+            Step::Repeated(repeated) => {
+                writeln!(out, "{line}")?;
+                repeated.take(alloc, &mut self.volumes, &self.files, out)
+            }
         }
     }
 
-    fn command<W: Write>(
+    /// What is to fail in the command; in the next one nothing does.
+    fn take_troubles(&mut self) -> Troubles {
+        std::mem::replace(&mut self.troubles, Troubles::NONE)
+    }
+
+    fn run<W: Write>(
         &mut self,
         line: &str,
         command: Command<'_>,
         out: &mut W,
     ) -> Result<(), Fault> {
-        let troubles = self.troubles;
-        self.troubles = Troubles::NONE;
-        match command {
-            Command::Run(words) => {
-                writeln!(out, "{line}")?;
-                let (told, asked) = run(
-                    self.alloc,
-                    words,
-                    &mut self.volumes,
-                    &self.files,
-                    &troubles,
-                )?;
-                self.asked = asked;
-                told.print(out)
-            }
-        }
-    }
-
-    fn turn<W: Write>(&mut self, line: &str, turn: Turn<'_>, out: &mut W) -> Result<(), Fault> {
-        let alloc = self.alloc;
-        match turn {
-            Turn::Stays(keyslots) => self.stays.push(String::from_str(alloc, keyslots)?)?,
-            Turn::Each(each) => {
-                writeln!(out, "{line}")?;
-                let stays = std::mem::replace(&mut self.stays, Vec::new(alloc));
-                self.asked = each.take(alloc, &self.volumes, &self.files, &stays, out)?;
-            }
-            Turn::Rooms(words) => {
-                writeln!(out, "{line}")?;
-                self.asked = take_rooms(alloc, words, &mut self.volumes, &self.files, out)?;
-            }
-        }
+        let troubles = self.take_troubles();
+        let mut told = Told::with_room(self.alloc, troubles.room)?;
+        writeln!(out, "{line}")?;
+        let (alloc, volumes) = (self.alloc, &mut self.volumes);
+        self.asked = command.run(alloc, volumes, &self.files, &troubles, &mut told)?;
+        told.print(out)?;
+        writeln!(out)?;
         Ok(())
     }
 
-    fn look<W: Write>(&mut self, line: &str, look: Look, out: &mut W) -> Result<(), Fault> {
+    fn trial<W: Write>(&mut self, line: &str, trial: Trial<'_>, out: &mut W) -> Result<(), Fault> {
+        if let Trial::Probe(slot, text) = trial {
+            self.probes.push(Probe::new(self.alloc, slot, text)?)?;
+            return Ok(());
+        }
+        writeln!(out, "{line}")?;
+        let troubles = self.take_troubles();
+        let probes = std::mem::replace(&mut self.probes, Vec::new(self.alloc));
+        let over = Over {
+            files: &self.files,
+            troubles: &troubles,
+            probes: probes.as_slice(),
+        };
+        match trial {
+            Trial::Probe(..) => Ok(()),
+            Trial::Each(name, leave, command) => {
+                run_each(self.alloc, (name, leave, command), &self.volumes, over, out)
+            }
+            Trial::Memory(most, command) => {
+                let volumes = &mut self.volumes;
+                run_with_little_memory(self.alloc, (most, command), volumes, over, out)
+            }
+        }
+    }
+
+    fn ask<W: Write>(&mut self, line: &str, question: Question, out: &mut W) -> Result<(), Fault> {
+        let passphrase = match &self.files.passphrase {
+            Some(bytes) => bytes.as_slice(),
+            None => &[],
+        };
+        question.take(self.alloc, line, &mut self.volumes.volume, passphrase, out)
+    }
+
+    fn look<W: Write>(&mut self, line: &str, look: Look<'_>, out: &mut W) -> Result<(), Fault> {
         let seen = Seen {
             volumes: &self.volumes,
             kept: &mut self.kept,

@@ -1,0 +1,127 @@
+//! What the library tells of the volume that no command prints.
+ghost use Rattle.std.specs.Prelude.{◌≡◌};
+
+use crate::disk::{Disk, Kept};
+use crate::failing::Trouble;
+use crate::fault::Fault;
+use crate::looks::print_hex;
+use crate::texts::parted;
+use luks_volume::{Area, Data, Key, OpenFault, check, open_slot, unlock};
+use std::alloc::Global;
+use std::io::Write;
+
+/// A question to the library.
+#[derive(Debug, Clone, Copy)]
+pub enum Question {
+    /// The areas of the volume, with its payload in it.
+    Areas,
+    /// The key of the keyslot of this number, by so many KiB of memory.
+    Open(u8, u32),
+    /// The keyslot that opens, and its key, by so many KiB of memory.
+    Unlock(u32),
+}
+
+/// The step of this word and of what follows it.
+pub fn question_of(word: &str, rest: &str) -> Option<Question> {
+    let (first, later) = parted(rest);
+    Some(match word {
+        "areas" if rest.is_empty() => Question::Areas,
+        "open" => Question::Open(first.parse::<u8>().ok()?, later.parse::<u32>().ok()?),
+        "unlock" => Question::Unlock(rest.parse::<u32>().ok()?),
+        _ => return None,
+    })
+}
+
+/// The most bytes of a passphrase.
+const LONGEST: usize = 65536;
+
+/// A disk of these bytes of which no call fails.
+fn disk_of(alloc: Global, kept: Kept) -> Disk
+    ensures { result.failures ≡ 0 }
+{
+    Disk::new(alloc, kept, Trouble::NONE.oddity)
+}
+
+/// Whether the keyslot of this number opens by the passphrase.
+pub fn opens(alloc: Global, volume: &mut Option<Kept>, slot: u8, passphrase: &[u8]) -> bool {
+    let Some(kept) = volume.take() else {
+        return false;
+    };
+    let mut disk = disk_of(alloc, kept);
+    let opens = open_slot(alloc, &mut disk, slot, passphrase, 0).is_ok_and(|key| key.is_some());
+    let (kept, _record) = disk.into_parts();
+    *volume = Some(kept);
+    opens
+}
+
+impl Question {
+    /// Prints the question of this line, and what the library answers of the volume, by this passphrase.
+    pub fn take<W: Write>(
+        self,
+        alloc: Global,
+        line: &str,
+        volume: &mut Option<Kept>,
+        passphrase: &[u8],
+        out: &mut W,
+    ) -> Result<(), Fault> {
+        let kept = volume.take().ok_or(Fault::Outside)?;
+        let mut disk = disk_of(alloc, kept);
+        writeln!(out, "{line}")?;
+        let passphrase = passphrase
+            .get(..passphrase.len().min(LONGEST))
+            .unwrap_or_default();
+        match self {
+            Question::Areas => print_areas(alloc, &mut disk, out)?,
+            Question::Open(slot, memory) => {
+                print_key(open_slot(alloc, &mut disk, slot, passphrase, memory), out)?;
+            }
+            Question::Unlock(memory) => {
+                print_unlocked(unlock(alloc, &mut disk, passphrase, memory), out)?;
+            }
+        }
+        let (kept, _record) = disk.into_parts();
+        *volume = Some(kept);
+        Ok(())
+    }
+}
+
+fn print_areas<W: Write>(alloc: Global, disk: &mut Disk, out: &mut W) -> Result<(), Fault>
+    requires { disk.old.failures ≡ 0 }
+{
+    match check(alloc, disk, Data::Here) {
+        Ok(report) => {
+            for entry in report.areas.as_slice() {
+                let Area { start, len } = entry.area;
+                writeln!(out, "{} {start} {len}", entry.name)?;
+            }
+        }
+        Err(fault) => writeln!(out, "refused {fault}")?,
+    }
+    Ok(())
+}
+
+/// Prints the key.
+fn print_key<W: Write>(found: Result<Option<Key>, OpenFault>, out: &mut W) -> Result<(), Fault> {
+    match found {
+        Ok(Some(key)) => print_hex(out, "key", key.as_bytes())?,
+        Ok(None) => writeln!(out, "none")?,
+        Err(fault) => writeln!(out, "refused {fault}")?,
+    }
+    Ok(())
+}
+
+/// Prints the keyslot that opened, and the key.
+fn print_unlocked<W: Write>(
+    found: Result<Option<(u8, Key)>, OpenFault>,
+    out: &mut W,
+) -> Result<(), Fault> {
+    match found {
+        Ok(Some((slot, key))) => {
+            writeln!(out, "keyslot {slot}")?;
+            print_hex(out, "key", key.as_bytes())?;
+        }
+        Ok(None) => writeln!(out, "none")?,
+        Err(fault) => writeln!(out, "refused {fault}")?,
+    }
+    Ok(())
+}

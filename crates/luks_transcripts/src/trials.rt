@@ -1,0 +1,221 @@
+//! Commands that are run again and again, with a call of a device or with memory failing at one place after
+//! another.
+use crate::commands::{Asked, Command, Told, Volumes, run_line, words_of};
+use crate::disk::{Failing, When};
+use crate::failing::{Troubles, leave_of};
+use crate::fault::Fault;
+use crate::files::{Files, Name, name_of};
+use crate::library::opens;
+use crate::texts::{number, parted, unescaped};
+use luks_area::Leave;
+use luks_line::line;
+use luks_test_devices::TakenMemory;
+use std::alloc::{AllocError, Global};
+use std::io::Write;
+
+/// A step of repeated runs.
+#[derive(Debug, Clone, Copy)]
+pub enum Trial<'a> {
+    /// The keyslot of this number is tried with this passphrase after each run of the next `each`.
+    Probe(u8, &'a str),
+    /// The device's calls fail in turn, and a failing write leaves this, until the command makes no more.
+    Each(Name, Leave, Command<'a>),
+    /// Memory is refused, and so many blocks of 256 bytes at most are given back in turn, until the
+    /// command isn't refused any.
+    Memory(usize, Command<'a>),
+}
+
+/// The step of this word and of what follows it.
+pub fn trial_of<'a>(word: &'a str, rest: &'a str) -> Option<Trial<'a>> {
+    let (first, later) = parted(rest);
+    match word {
+        "probe" => Some(Trial::Probe(first.parse::<u8>().ok()?, later)),
+        "each" => {
+            let (leave, words) = parted(later);
+            let leave = leave_of(leave)?;
+            Some(Trial::Each(name_of(first)?, leave, behind_sign(words)?))
+        }
+        "memory" => Some(Trial::Memory(number(first)?, behind_sign(later)?)),
+        _ => None,
+    }
+}
+
+/// The command behind a `$`.
+pub fn behind_sign(words: &str) -> Option<Command<'_>> {
+    match parted(words) {
+        ("$", words) => Some(Command(words)),
+        _ => None,
+    }
+}
+
+/// A keyslot, and the passphrase that is tried on it.
+#[derive(Drop)]
+pub struct Probe {
+    slot: u8,
+    text: String,
+    passphrase: Vec<u8>,
+}
+
+impl Probe {
+    /// The keyslot of this number, and the passphrase of this text with escapes.
+    pub fn new(alloc: Global, slot: u8, text: &str) -> Result<Probe, Fault> {
+        Ok(Probe {
+            slot,
+            text: String::from_str(alloc, text)?,
+            passphrase: unescaped(alloc, text)?,
+        })
+    }
+}
+
+/// Which of the probes open their keyslots, a bit each.
+fn open_probes(alloc: Global, volumes: &mut Volumes, probes: &[Probe]) -> u64 {
+    let mut open = 0u64;
+    for probe in probes {
+        let passphrase = probe.passphrase.as_slice();
+        let bit = u64::from(opens(alloc, &mut volumes.volume, probe.slot, passphrase));
+        open = open.wrapping_mul(2) | bit;
+    }
+    open
+}
+
+/// The last run, and those before it that came to the same, which are printed as one.
+#[derive(Drop)]
+struct Runs {
+    /// What the run to come tells.
+    told: Told,
+    last: Told,
+    is_first: bool,
+    /// Which of the probes open their keyslots after them.
+    open: u64,
+    /// Whether all of them left the volumes as they were.
+    kept: bool,
+}
+
+impl Runs {
+    fn new(alloc: Global, room: (usize, usize)) -> Result<Runs, AllocError> {
+        Ok(Runs {
+            told: Told::with_room(alloc, room)?,
+            last: Told::with_room(alloc, room)?,
+            is_first: true,
+            open: 0,
+            kept: true,
+        })
+    }
+
+    /// Adds the run that was told. Where it came to something else than the last ones, these are printed.
+    fn add<W: Write>(
+        &mut self,
+        kept: bool,
+        open: u64,
+        probes: &[Probe],
+        out: &mut W,
+    ) -> Result<(), Fault> {
+        let is_same = !self.is_first && self.open == open && self.told.is_same(&self.last);
+        if !is_same && !self.is_first {
+            self.print(probes, out)?;
+        }
+        self.kept = kept && (self.kept || !is_same);
+        self.open = open;
+        self.is_first = false;
+        std::mem::swap(&mut self.told, &mut self.last);
+        Ok(())
+    }
+
+    /// Prints the last runs: what they told, whether they left the volumes as they were, and which probes
+    /// open their keyslots then.
+    fn print<W: Write>(&self, probes: &[Probe], out: &mut W) -> Result<(), Fault> {
+        self.last.print(out)?;
+        if self.kept {
+            write!(out, " kept")?;
+        }
+        for (i, probe) in probes.iter().rev().enumerate() {
+            if self
+                .open
+                .checked_shr(i as u32)
+                .is_some_and(|open| open % 2 == 1)
+            {
+                write!(out, ", {} {}", probe.slot, probe.text)?;
+            }
+        }
+        writeln!(out)?;
+        Ok(())
+    }
+}
+
+/// The most calls of a command that fail in turn.
+const MOST_CALLS: u64 = 1024;
+
+/// How many of the device's calls failed.
+fn failures(asked: &Asked, name: Name) -> u64 {
+    let record = match name {
+        Name::Volume => &asked.volume,
+        _ => &asked.target,
+    };
+    record.as_ref().map_or(0, |record| record.failures)
+}
+
+/// What the command is run over.
+#[derive(Clone, Copy)]
+pub struct Over<'a> {
+    pub files: &'a Files,
+    pub troubles: &'a Troubles,
+    pub probes: &'a [Probe],
+}
+
+/// Runs the command over copies of these volumes, while each of the device's calls fails in turn, and then
+/// while none does.
+pub fn run_each<W: Write>(
+    alloc: Global,
+    (name, leave, command): (Name, Leave, Command<'_>),
+    before: &Volumes,
+    over: Over<'_>,
+    out: &mut W,
+) -> Result<(), Fault> {
+    let words = words_of(alloc, command)?;
+    let line = line(alloc, words.as_slice()).or(Err(Fault::NoCommand))?;
+    let mut runs = Runs::new(alloc, over.troubles.room)?;
+    for call in 0..MOST_CALLS {
+        let mut volumes = before.copy(alloc)?;
+        let mut troubles = *over.troubles;
+        let when = When::Call(call);
+        troubles.of(name).oddity.failing = Some(Failing { when, leave });
+        let told = &mut runs.told;
+        let asked = run_line(alloc, &line, &mut volumes, over.files, &troubles, told);
+        let kept = volumes.are_same(before);
+        let open = open_probes(alloc, &mut volumes, over.probes);
+        runs.add(kept, open, over.probes, out)?;
+        if failures(&asked, name) == 0 {
+            return runs.print(over.probes, out);
+        }
+    }
+    Err(Fault::Endless)
+}
+
+/// Runs the command over these volumes with no memory, and then with one block of 256 bytes more after
+/// another, until it isn't refused memory, or so many were given back. The volumes are as the last run leaves
+/// them.
+pub fn run_with_little_memory<W: Write>(
+    alloc: Global,
+    (most, command): (usize, Command<'_>),
+    volumes: &mut Volumes,
+    over: Over<'_>,
+    out: &mut W,
+) -> Result<(), Fault> {
+    let words = words_of(alloc, command)?;
+    let line = line(alloc, words.as_slice()).or(Err(Fault::NoCommand))?;
+    let mut runs = Runs::new(alloc, over.troubles.room)?;
+    let before = volumes.copy(alloc)?;
+    let mut taken = TakenMemory::take(alloc)?;
+    for _ in 0..most.saturating_add(1) {
+        let told = &mut runs.told;
+        let _asked = run_line(alloc, &line, volumes, over.files, over.troubles, told);
+        let is_refused = runs.told.is_refused_memory();
+        runs.add(volumes.are_same(&before), 0, &[], out)?;
+        if !is_refused {
+            break;
+        }
+        taken.give_back();
+    }
+    drop(taken);
+    runs.print(&[], out)
+}
