@@ -11,6 +11,7 @@
 //!
 //!     text NAME              a new header of 16384 bytes, sequence number 1, with the metadata of this name;
 //!                            `text volume`: with that of the volume's first copy
+//!     json METADATA          the same with this metadata
 //!     edit OLD => NEW        the first OLD of the metadata is NEW
 //!     pad LEN                its member `"pad":""` is filled, so that the metadata has so many bytes
 //!     spaces LEN             it has so many bytes by spaces behind it

@@ -17,6 +17,8 @@ use std::alloc::{AllocError, Global};
 pub enum Making<'a> {
     /// A new header with the metadata of this name.
     Text(&'a str),
+    /// A new header with this metadata.
+    Json(&'a str),
     /// The first such text of the metadata, and what is to stand in its place.
     Edit(&'a str, &'a str),
     /// As many bytes as the metadata is to have.
@@ -67,6 +69,7 @@ pub fn making_of<'a>(word: &'a str, rest: &'a str) -> Option<Making<'a>> {
     let (first, later) = parted(rest);
     Some(match word {
         "text" => Making::Text(rest),
+        "json" => Making::Json(rest),
         "edit" => edit_of(rest)?,
         "pad" => Making::Pad(number(rest)?),
         "spaces" => Making::Spaces(number(rest)?),
@@ -148,6 +151,16 @@ impl Header {
         }
     }
 
+    /// Puts a copy of it there.
+    fn put(&self, volume: &mut Kept, at: u32) -> Result<(), Fault> {
+        let end = (at as usize).saturating_add(self.size as usize);
+        if volume.bytes.len() < end {
+            return Err(Fault::Outside);
+        }
+        put_copy(&mut volume.bytes, at, &self.fields());
+        Ok(())
+    }
+
     /// Adds spaces to the metadata, so that it has so many bytes.
     fn lengthen(&mut self, len: usize) -> Result<(), AllocError> {
         for _ in self.text.len()..len {
@@ -186,7 +199,6 @@ fn sample(alloc: Global, name: &str) -> Result<String, Fault> {
         "detached-small" => shapes::DETACHED_SMALL,
         "converted" => shapes::CONVERTED,
         "reencrypt" => shapes::REENCRYPT,
-        "{}" => "{}",
         _ => return Err(Fault::Unknown),
     };
     Ok(String::from_str(alloc, text)?)
@@ -248,6 +260,7 @@ impl Making<'_> {
                 *header = Header::new(alloc, String::from_str(alloc, text)?)?;
             }
             Making::Text(name) => *header = Header::new(alloc, sample(alloc, name)?)?,
+            Making::Json(text) => *header = Header::new(alloc, String::from_str(alloc, text)?)?,
             Making::Edit(old, new) => header.edit(alloc, old, new)?,
             Making::Pad(len) => header.text = filled(alloc, header.text.as_str(), len)?,
             Making::Spaces(len) => header.lengthen(len)?,
@@ -271,7 +284,7 @@ impl Change<'_> {
     /// Changes the volume.
     fn make(self, alloc: Global, header: &Header, volume: &mut Kept) -> Result<(), Fault> {
         match self {
-            Change::Header(at) => put_copy(&mut volume.bytes, at, &header.fields()),
+            Change::Header(at) => header.put(volume, at)?,
             Change::Put(at, digits) => put(volume, at, bytes_of(alloc, digits)?.as_slice())?,
             Change::Run(at, len, byte) => put(volume, at, vec![in alloc; byte; len]?.as_slice())?,
             Change::Area(at, "whole") => put(volume, at, key_area(alloc)?.as_slice())?,
