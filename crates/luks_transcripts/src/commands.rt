@@ -2,7 +2,7 @@
 ghost use Rattle.std.specs.Prelude.{◌≡◌, IfOk};
 
 use crate::disk::{Disk, Kept, Record};
-use crate::failing::{Trouble, Troubles};
+use crate::failing::{Room, Trouble, Troubles};
 use crate::fault::Fault;
 use crate::files::{Files, Source};
 use luks_cli::{CountingPrinter, InputFault, Inputs, Line, execute};
@@ -169,11 +169,11 @@ pub fn run_line(
 
 impl Told {
     /// Nothing told yet, with room for so many bytes on standard output and on standard error.
-    pub fn with_room(alloc: Global, room: (usize, usize)) -> Result<Told, AllocError> {
+    pub fn with_room(alloc: Global, room: Room) -> Result<Told, AllocError> {
         Ok(Told {
-            out: vec![in alloc; 0u8; room.0]?,
+            out: vec![in alloc; 0u8; room.out]?,
             printed: 0,
-            err: vec![in alloc; 0u8; room.1]?,
+            err: vec![in alloc; 0u8; room.err]?,
             said: 0,
             status: 0,
         })

@@ -2,6 +2,7 @@
 ghost use Rattle.std.specs.Prelude.{◌≡◌, ◌+◌, ◌≤◌, ◌<◌, ◌^◌, length};
 
 use luks_area::{Device, DeviceFault, Leave};
+use luks_test_devices::Loss;
 use std::alloc::{AllocError, Global};
 
 /// The bytes of a disk that are kept: its first ones, and those of a part further back.
@@ -72,13 +73,29 @@ pub enum When {
     Flush(u64),
 }
 
+/// What a failing call leaves.
+#[derive(Debug, Clone, Copy)]
+pub enum Left {
+    /// A write leaves this in its range; later calls are done.
+    InRange(Leave),
+    /// The power is cut: of what was written and not flushed this is lost, and later calls fail.
+    Lost(Loss),
+}
+
 /// A failing call.
 #[derive(Debug, Clone, Copy)]
 pub struct Failing {
     /// Which call it is.
     pub when: When,
-    /// What it leaves in its range where it is a write.
-    pub leave: Leave,
+    /// What it leaves.
+    pub left: Left,
+}
+
+/// What stood where a write since the last flush was made.
+#[derive(Debug, Drop)]
+struct Before {
+    at: usize,
+    bytes: Vec<u8>,
 }
 
 /// The part of a disk from one place up to another.
@@ -130,8 +147,11 @@ pub struct Record {
 /// A disk of which the front is kept: bytes behind it are zeros, and a write there is only counted.
 #[derive(Debug, Drop)]
 pub struct Disk {
+    alloc: Global,
     kept: Kept,
     oddity: Oddity,
+    is_dead: bool,
+    unsettled: Vec<Before>,
     made: u64,
     flushes: u64,
     calls: Vec<Call>,
@@ -147,8 +167,11 @@ impl Disk {
         ensures { result.failures ≡ 0 }
     {
         Disk {
+            alloc,
             kept,
             oddity,
+            is_dead: false,
+            unsettled: Vec::new(alloc),
             made: 0,
             flushes: 0,
             calls: Vec::new(alloc),
@@ -177,8 +200,8 @@ impl Disk {
         (kept, record)
     }
 
-    /// Notes a call; where it is the one that fails, what a write leaves.
-    fn turn(&mut self, call: Call) -> Option<Leave>
+    /// Notes a call; where it fails, what it leaves.
+    fn turn(&mut self, call: Call) -> Option<Left>
         ensures kept { self.new.kept ≡ self.old.kept }
         ensures failures { self.new.failures ≡ self.old.failures }
     {
@@ -191,6 +214,9 @@ impl Disk {
         if call == Call::Flush {
             self.flushes = after.wrapping_add(1);
         }
+        if self.is_dead {
+            return Some(Left::InRange(Leave::Old));
+        }
         let failing = self.oddity.failing?;
         let is_due = match (failing.when, call) {
             (When::Call(due), _) => due == number,
@@ -202,7 +228,8 @@ impl Disk {
             return None;
         }
         self.oddity.failing = None;
-        Some(failing.leave)
+        self.is_dead = matches!(&failing.left, Left::Lost(_));
+        Some(failing.left)
     }
 
     /// Whether these bytes may be read; they are counted then.
@@ -246,18 +273,85 @@ impl Disk {
         }
     }
 
+    fn put_ones(&mut self, at: u64, len: usize) {
+        for byte in self.kept_from(at).iter_mut().take(len) {
+            *byte = 0xFF;
+        }
+    }
+
     /// Writes what a failing write leaves.
-    fn leave_behind(&mut self, at: u64, from: &[u8], leave: Leave) {
-        match leave {
-            Leave::Old => {}
-            Leave::New => self.put(at, from),
-            Leave::Half => self.put(at, &from[..from.len() / 2]),
-            Leave::Ones => {
-                for byte in self.kept_from(at).iter_mut().take(from.len()) {
-                    *byte = 0xFF;
-                }
+    fn leave_behind(&mut self, at: u64, from: &[u8], left: Left) {
+        match left {
+            Left::InRange(Leave::Old) => {}
+            Left::InRange(Leave::New) => self.put(at, from),
+            Left::InRange(Leave::Half) => self.put(at, &from[..from.len() / 2]),
+            Left::InRange(Leave::Ones) => self.put_ones(at, from.len()),
+            Left::Lost(Loss::All) => self.lose(Loss::All),
+            Left::Lost(Loss::OutOfOrder) => {
+                self.lose(Loss::All);
+                self.put(at, from);
+            }
+            Left::Lost(Loss::Ones) => {
+                self.lose(Loss::Ones);
+                self.put_ones(at, from.len());
+            }
+            Left::Lost(loss) => {
+                self.remember(at, from.len());
+                self.put(at, from);
+                self.lose(loss);
             }
         }
+    }
+
+    /// Remembers what stands where a write is made, where it may be lost.
+    fn remember(&mut self, at: u64, len: usize) {
+        let Some(
+            Failing {
+                left: Left::Lost(_),
+                ..
+            },
+        ) = self.oddity.failing
+        else {
+            return;
+        };
+        let alloc = self.alloc;
+        let kept = self.kept_from(at);
+        let old = kept.get(..len).unwrap_or(kept);
+        if let Ok(bytes) = old.to_vec(alloc) {
+            let at = at as usize;
+            let _ = self.unsettled.push(Before { at, bytes });
+        }
+    }
+
+    /// Loses what was written and not flushed.
+    fn lose(&mut self, loss: Loss) {
+        while let Some(before) = self.unsettled.pop() {
+            self.restore(&before, loss);
+        }
+    }
+
+    /// Puts back what stood there, as far as it is lost.
+    fn restore(&mut self, before: &Before, loss: Loss) {
+        for (i, old) in before.bytes.iter().enumerate() {
+            let place = before.at.wrapping_add(i);
+            if let (Some(left), Some(byte)) = (
+                left_of(loss, place, *old),
+                self.kept.bytes.get_mut(place),
+            ) {
+                *byte = left;
+            }
+        }
+    }
+}
+
+/// What is left at this place of a byte that was written and not flushed; none where what was written is.
+fn left_of(loss: Loss, place: usize, old: u8) -> Option<u8> {
+    let is_even = place / 512 % 2 == 0;
+    match loss {
+        Loss::All | Loss::OutOfOrder => Some(old),
+        Loss::EvenSectors => is_even.then_some(old),
+        Loss::OddSectors => (!is_even).then_some(old),
+        Loss::Ones => Some(0xFF),
     }
 }
 
@@ -304,19 +398,25 @@ impl Device for Disk {
             self.beyond = self.beyond.saturating_add(1);
         }
         if left.is_none() && self.oddity.readable.is_none() {
+            self.remember(at, len);
             self.put(at, from);
             return Ok(());
         }
-        self.leave_behind(at, from, left.unwrap_or(Leave::Old));
+        self.leave_behind(at, from, left.unwrap_or(Left::InRange(Leave::Old)));
         self.failures += 1;
         Err(DeviceFault)
     }
 
     fn flush(&mut self) -> Result<(), DeviceFault> {
-        if self.turn(Call::Flush).is_some() || self.oddity.readable.is_some() {
+        let left = self.turn(Call::Flush);
+        if let Some(Left::Lost(loss)) = left {
+            self.lose(loss);
+        }
+        if left.is_some() || self.oddity.readable.is_some() {
             self.failures += 1;
             return Err(DeviceFault);
         }
+        self.unsettled.clear();
         Ok(())
     }
 

@@ -1,9 +1,10 @@
 //! What fails in the next command.
-use crate::disk::{Failing, Oddity, Readable, Span, When};
+use crate::disk::{Failing, Left, Oddity, Readable, Span, When};
 use crate::files::{Name, name_of};
 use crate::texts::{number, parted};
 use luks_area::Leave;
 use luks_cli::{InputFault, Reason};
+use luks_test_devices::Loss;
 use std::io::ErrorKind;
 
 /// A step after which something fails in the next command.
@@ -104,7 +105,7 @@ fn kind_of(word: &str) -> Option<ErrorKind> {
 
 fn failing_of(rest: &str) -> Option<Failing> {
     let (kind, later) = parted(rest);
-    let (first, leave) = parted(later);
+    let (first, left) = parted(later);
     let number = first.parse::<u64>().ok()?;
     let when = match kind {
         "call" => When::Call(number),
@@ -112,17 +113,22 @@ fn failing_of(rest: &str) -> Option<Failing> {
         "flush" => When::Flush(number),
         _ => return None,
     };
-    let leave = leave_of(leave)?;
-    Some(Failing { when, leave })
+    let left = left_of(left)?;
+    Some(Failing { when, left })
 }
 
-/// What a failing write leaves.
-pub fn leave_of(word: &str) -> Option<Leave> {
+/// What a failing call leaves.
+pub fn left_of(word: &str) -> Option<Left> {
     Some(match word {
-        "old" => Leave::Old,
-        "new" => Leave::New,
-        "ones" => Leave::Ones,
-        "half" => Leave::Half,
+        "old" => Left::InRange(Leave::Old),
+        "new" => Left::InRange(Leave::New),
+        "ones" => Left::InRange(Leave::Ones),
+        "half" => Left::InRange(Leave::Half),
+        "lost" => Left::Lost(Loss::All),
+        "lost-before" => Left::Lost(Loss::OutOfOrder),
+        "lost-even" => Left::Lost(Loss::EvenSectors),
+        "lost-odd" => Left::Lost(Loss::OddSectors),
+        "lost-ones" => Left::Lost(Loss::Ones),
         _ => return None,
     })
 }
@@ -151,6 +157,13 @@ impl Trouble {
     };
 }
 
+/// How many bytes standard output and standard error take.
+#[derive(Debug, Clone, Copy)]
+pub struct Room {
+    pub out: usize,
+    pub err: usize,
+}
+
 /// What fails in a command.
 #[derive(Debug, Clone, Copy)]
 pub struct Troubles {
@@ -159,8 +172,8 @@ pub struct Troubles {
     pub passphrase: Trouble,
     pub new: Trouble,
     pub random: Trouble,
-    /// How many bytes standard output takes, and standard error.
-    pub room: (usize, usize),
+    /// How many bytes the standard streams take.
+    pub room: Room,
 }
 
 impl Troubles {
@@ -171,7 +184,10 @@ impl Troubles {
         passphrase: Trouble::NONE,
         new: Trouble::NONE,
         random: Trouble::NONE,
-        room: (65536, 4096),
+        room: Room {
+            out: 65536,
+            err: 4096,
+        },
     };
 
     /// What fails of this file.
@@ -196,8 +212,8 @@ impl Troubles {
                 self.volume.oddity.records = true;
                 self.target.oddity.records = true;
             }
-            Failure::Room(Stream::Output, len) => self.room.0 = len,
-            Failure::Room(Stream::Error, len) => self.room.1 = len,
+            Failure::Room(Stream::Output, len) => self.room.out = len,
+            Failure::Room(Stream::Error, len) => self.room.err = len,
         }
     }
 }

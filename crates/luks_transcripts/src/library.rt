@@ -6,13 +6,22 @@ use crate::failing::Trouble;
 use crate::fault::Fault;
 use crate::looks::print_hex;
 use crate::texts::parted;
+use luks_test_devices::TakenMemory;
 use luks_volume::{Area, Data, Key, OpenFault, check, open_slot, unlock};
 use std::alloc::Global;
 use std::io::Write;
 
 /// A question to the library.
 #[derive(Debug, Clone, Copy)]
-pub enum Question {
+pub struct Question {
+    what: What,
+    /// Whether it is asked while there is no memory.
+    is_starved: bool,
+}
+
+/// What the library is asked.
+#[derive(Debug, Clone, Copy)]
+enum What {
     /// The areas of the volume, with its payload in it.
     Areas,
     /// The key of the keyslot of this number, by so many KiB of memory.
@@ -23,11 +32,22 @@ pub enum Question {
 
 /// The step of this word and of what follows it.
 pub fn question_of(word: &str, rest: &str) -> Option<Question> {
+    let is_starved = word == "starved";
+    let (word, rest) = if is_starved {
+        parted(rest)
+    } else {
+        (word, rest)
+    };
+    let what = what_of(word, rest)?;
+    Some(Question { what, is_starved })
+}
+
+fn what_of(word: &str, rest: &str) -> Option<What> {
     let (first, later) = parted(rest);
     Some(match word {
-        "areas" if rest.is_empty() => Question::Areas,
-        "open" => Question::Open(first.parse::<u8>().ok()?, later.parse::<u32>().ok()?),
-        "unlock" => Question::Unlock(rest.parse::<u32>().ok()?),
+        "areas" if rest.is_empty() => What::Areas,
+        "open" => What::Open(first.parse::<u8>().ok()?, later.parse::<u32>().ok()?),
+        "unlock" => What::Unlock(rest.parse::<u32>().ok()?),
         _ => return None,
     })
 }
@@ -70,15 +90,20 @@ impl Question {
         let passphrase = passphrase
             .get(..passphrase.len().min(LONGEST))
             .unwrap_or_default();
-        match self {
-            Question::Areas => print_areas(alloc, &mut disk, out)?,
-            Question::Open(slot, memory) => {
+        let taken = match self.is_starved {
+            true => Some(TakenMemory::take(alloc)?),
+            false => None,
+        };
+        match self.what {
+            What::Areas => print_areas(alloc, &mut disk, out)?,
+            What::Open(slot, memory) => {
                 print_key(open_slot(alloc, &mut disk, slot, passphrase, memory), out)?;
             }
-            Question::Unlock(memory) => {
+            What::Unlock(memory) => {
                 print_unlocked(unlock(alloc, &mut disk, passphrase, memory), out)?;
             }
         }
+        drop(taken);
         let (kept, _record) = disk.into_parts();
         *volume = Some(kept);
         Ok(())

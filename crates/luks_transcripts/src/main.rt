@@ -34,14 +34,16 @@
 //!     repeat FILE LEN BYTE   so many times this byte
 //!
 //! `failing`, what the next command or trial meets; FILE is one of those, `volume` or `target`, DEVICE one of these,
-//! LEAVE what a failing write leaves in its range: old, new, ones, half:
+//! LEFT what a failing write leaves in its range, `old`, `new`, `ones` or `half`, or of what was written and not
+//! flushed when the power is cut, after which all calls fail: `lost`, that all of it is lost, `lost-before`, all but
+//! what the call writes, `lost-even`, the sectors of even numbers, `lost-odd`, `lost-ones`, each byte is 0xFF:
 //!
 //!     unread FILE WHY        it isn't read: absent, not-found, denied, folder, busy, no-volume, edited,
 //!                            same-file, other, no-memory
 //!     broken FILE WHY        it is read byte by byte, and fails behind the last: no-memory, denied, eof
-//!     fail DEVICE call N LEAVE      the call of this number fails, counted from 0
-//!     fail DEVICE write N LEAVE     the first write after so many flushes
-//!     fail DEVICE flush N LEAVE     the first flush after so many flushes
+//!     fail DEVICE call N LEFT      the call of this number fails, counted from 0
+//!     fail DEVICE write N LEFT     the first write after so many flushes
+//!     fail DEVICE flush N LEFT     the first flush after so many flushes
 //!     reads DEVICE LEN FROM TO [FROM TO]     so many bytes of these parts may be read, and nothing written
 //!     record                 the calls of the devices are listed
 //!     room out LEN, room err LEN    standard output, or error, takes so many bytes
@@ -53,7 +55,7 @@
 //! `trials`, runs of a command; what follow each other alike are printed once, with `kept` where all of them left the
 //! volumes as they were:
 //!
-//!     each DEVICE LEAVE $ WORDS     over copies of the volumes, while each call of the device fails in turn, and
+//!     each DEVICE LEFT $ WORDS     over copies of the volumes, while each call of the device fails in turn, and
 //!                                   then while none does
 //!     probe N PASSPHRASE     in the next `each` this is printed where keyslot N opens so after a run
 //!     memory LEN $ WORDS     with no memory, and then one block of 256 bytes more at a time, so many at most,
@@ -64,6 +66,7 @@
 //!     areas                  the areas of the volume
 //!     open N KIB             the key of keyslot N, which may take so much memory
 //!     unlock KIB             the keyslot that opens, and its key
+//!     starved ..             one of these, while there is no memory
 //!
 //! `looks`, the volume as it is, and the last command:
 //!

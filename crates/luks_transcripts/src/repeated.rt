@@ -1,8 +1,8 @@
 //! Commands that are run again and again, and judged: while each call of a device fails in turn, and while
 //! standard output takes less than is printed.
 use crate::commands::{Asked, Command, Told, Volumes, held};
-use crate::disk::{Call, Failing, When};
-use crate::failing::{Troubles, leave_of};
+use crate::disk::{Call, Failing, Left, When};
+use crate::failing::{Troubles, left_of};
 use crate::fault::Fault;
 use crate::files::{Files, Name, name_of};
 use crate::texts::parted;
@@ -42,9 +42,12 @@ pub fn repeated_of<'a>(word: &str, rest: &'a str) -> Option<Repeated<'a>> {
 fn torn_of(rest: &str) -> Option<Torn<'_>> {
     let (name, later) = parted(rest);
     let (leave, words) = parted(later);
+    let Left::InRange(leave) = left_of(leave)? else {
+        return None;
+    };
     Some(Torn {
         name: name_of(name)?,
-        leave: leave_of(leave)?,
+        leave,
         command: behind_sign(words)?,
     })
 }
@@ -124,8 +127,8 @@ impl Torn<'_> {
     ) -> Result<Ended, Fault> {
         let mut troubles = listing();
         let when = When::Call(number as u64);
-        let leave = self.leave;
-        troubles.of(self.name).oddity.failing = Some(Failing { when, leave });
+        let left = Left::InRange(self.leave);
+        troubles.of(self.name).oddity.failing = Some(Failing { when, left });
         end_of(alloc, self.command, before, files, &troubles)
     }
 

@@ -115,8 +115,8 @@ impl Session {
         };
         match trial {
             Trial::Probe(..) => Ok(()),
-            Trial::Each(name, leave, command) => {
-                run_each(self.alloc, (name, leave, command), &self.volumes, over, out)
+            Trial::Each(name, left, command) => {
+                run_each(self.alloc, (name, left, command), &self.volumes, over, out)
             }
             Trial::Memory(most, command) => {
                 let volumes = &mut self.volumes;

@@ -1,13 +1,12 @@
 //! Commands that are run again and again, with a call of a device or with memory failing at one place after
 //! another.
 use crate::commands::{Asked, Command, Told, Volumes, run_line, words_of};
-use crate::disk::{Failing, When};
-use crate::failing::{Troubles, leave_of};
+use crate::disk::{Failing, Left, When};
+use crate::failing::{Room, Troubles, left_of};
 use crate::fault::Fault;
 use crate::files::{Files, Name, name_of};
 use crate::library::opens;
 use crate::texts::{number, parted, unescaped};
-use luks_area::Leave;
 use luks_line::line;
 use luks_test_devices::TakenMemory;
 use std::alloc::{AllocError, Global};
@@ -18,8 +17,8 @@ use std::io::Write;
 pub enum Trial<'a> {
     /// The keyslot of this number is tried with this passphrase after each run of the next `each`.
     Probe(u8, &'a str),
-    /// The device's calls fail in turn, and a failing write leaves this, until the command makes no more.
-    Each(Name, Leave, Command<'a>),
+    /// The device's calls fail in turn, and leave this, until the command makes no more.
+    Each(Name, Left, Command<'a>),
     /// Memory is refused, and so many blocks of 256 bytes at most are given back in turn, until the
     /// command isn't refused any.
     Memory(usize, Command<'a>),
@@ -31,9 +30,9 @@ pub fn trial_of<'a>(word: &'a str, rest: &'a str) -> Option<Trial<'a>> {
     match word {
         "probe" => Some(Trial::Probe(first.parse::<u8>().ok()?, later)),
         "each" => {
-            let (leave, words) = parted(later);
-            let leave = leave_of(leave)?;
-            Some(Trial::Each(name_of(first)?, leave, behind_sign(words)?))
+            let (left, words) = parted(later);
+            let left = left_of(left)?;
+            Some(Trial::Each(name_of(first)?, left, behind_sign(words)?))
         }
         "memory" => Some(Trial::Memory(number(first)?, behind_sign(later)?)),
         _ => None,
@@ -92,7 +91,7 @@ struct Runs {
 }
 
 impl Runs {
-    fn new(alloc: Global, room: (usize, usize)) -> Result<Runs, AllocError> {
+    fn new(alloc: Global, room: Room) -> Result<Runs, AllocError> {
         Ok(Runs {
             told: Told::with_room(alloc, room)?,
             last: Told::with_room(alloc, room)?,
@@ -166,7 +165,7 @@ pub struct Over<'a> {
 /// while none does.
 pub fn run_each<W: Write>(
     alloc: Global,
-    (name, leave, command): (Name, Leave, Command<'_>),
+    (name, left, command): (Name, Left, Command<'_>),
     before: &Volumes,
     over: Over<'_>,
     out: &mut W,
@@ -178,7 +177,7 @@ pub fn run_each<W: Write>(
         let mut volumes = before.copy(alloc)?;
         let mut troubles = *over.troubles;
         let when = When::Call(call);
-        troubles.of(name).oddity.failing = Some(Failing { when, leave });
+        troubles.of(name).oddity.failing = Some(Failing { when, left });
         let told = &mut runs.told;
         let asked = run_line(alloc, &line, &mut volumes, over.files, &troubles, told);
         let kept = volumes.are_same(before);
