@@ -52,7 +52,7 @@ impl Answers {
 
     /// Runs the command, and adds its status, a space and what it prints on standard output.
     pub fn run(&mut self, words: &str, files: &Files) -> Result<(), Fault> {
-        let mut told = Told::with_room(self.alloc, (65536, 4096))?;
+        let mut told = Told::with_room(self.alloc, Troubles::NONE.room)?;
         let command = Command(words);
         let _asked = command.run(
             self.alloc,

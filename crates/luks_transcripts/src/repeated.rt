@@ -180,7 +180,7 @@ fn take_rooms<W: Write>(
     let printed = whole.told.out().len();
     for room in 0..printed.saturating_add(1) {
         let mut troubles = Troubles::NONE;
-        troubles.room.0 = room;
+        troubles.room.out = room;
         let ended = end_of(alloc, command, volumes, files, &troubles)?;
         let status = if room < printed { 4 } else { whole.told.status };
         let is_left = ended.volumes.are_same(&whole.volumes);
