@@ -18,6 +18,8 @@ mod refused_files;
 #[cfg(test)]
 mod rows;
 #[cfg(test)]
+mod same_files;
+#[cfg(test)]
 mod volume_files;
 #[cfg(test)]
 mod worked_rows;

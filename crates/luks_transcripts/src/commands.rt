@@ -36,7 +36,7 @@ pub struct Told {
     printed: usize,
     err: Vec<u8>,
     said: usize,
-    status: u8,
+    pub status: u8,
 }
 
 /// What was asked of the files of a command.
@@ -97,10 +97,7 @@ impl Volumes {
 
 fn copied(alloc: Global, kept: &Option<Kept>) -> Result<Option<Kept>, AllocError> {
     match kept {
-        Some(Kept { bytes, len }) => Ok(Some(Kept {
-            bytes: bytes.to_vec(alloc)?,
-            len: *len,
-        })),
+        Some(kept) => Ok(Some(kept.copied(alloc)?)),
         None => Ok(None),
     }
 }

@@ -3,22 +3,53 @@ ghost use Rattle.std.specs.Prelude.{◌≡◌, ◌+◌, ◌≤◌, ◌<◌, ◌^
 
 use luks_area::{Device, DeviceFault, Leave};
 use luks_test_devices::Loss;
-use std::alloc::Global;
+use std::alloc::{AllocError, Global};
 
-/// The bytes of a disk that are kept, its first ones.
+/// The bytes of a disk that are kept: its first ones, and those of a part further back.
 #[derive(Debug, Drop)]
 pub struct Kept {
-    /// These bytes.
+    /// The first ones.
     pub bytes: Vec<u8>,
+    /// The part further back, if any.
+    pub back: Option<Back>,
     /// The length of the disk.
     pub len: u64,
+}
+
+/// A part of a disk that is kept behind its first bytes.
+#[derive(Debug, Drop)]
+pub struct Back {
+    /// Where it begins.
+    pub at: u64,
+    /// Its bytes.
+    pub bytes: Vec<u8>,
 }
 
 impl Kept {
     /// A disk of these bytes.
     pub fn new(bytes: Vec<u8>) -> Kept {
         let len = bytes.len() as u64;
-        Kept { bytes, len }
+        Kept {
+            bytes,
+            back: None,
+            len,
+        }
+    }
+
+    /// A disk that is as this one.
+    pub fn copied(&self, alloc: Global) -> Result<Kept, AllocError> {
+        let back = match &self.back {
+            Some(back) => Some(Back {
+                at: back.at,
+                bytes: back.bytes.to_vec(alloc)?,
+            }),
+            None => None,
+        };
+        Ok(Kept {
+            bytes: self.bytes.to_vec(alloc)?,
+            back,
+            len: self.len,
+        })
     }
 }
 
@@ -107,6 +138,8 @@ pub struct Record {
     pub calls: Vec<Call>,
     /// How many writes reached beyond what is kept.
     pub beyond: u64,
+    /// How many reads did.
+    pub reads_beyond: u64,
     /// How many calls failed.
     pub failures: u64,
 }
@@ -123,6 +156,7 @@ pub struct Disk {
     flushes: u64,
     calls: Vec<Call>,
     beyond: u64,
+    reads_beyond: u64,
     failures: u64,
     ghost fits: { kept.len < 2 ^ 64 },
 }
@@ -142,6 +176,7 @@ impl Disk {
             flushes: 0,
             calls: Vec::new(alloc),
             beyond: 0,
+            reads_beyond: 0,
             failures: 0,
         }
     }
@@ -152,12 +187,14 @@ impl Disk {
             kept,
             calls,
             beyond,
+            reads_beyond,
             failures,
             ..
         } = self;
         let record = Record {
             calls,
             beyond,
+            reads_beyond,
             failures,
         };
         (kept, record)
@@ -219,7 +256,11 @@ impl Disk {
 
     /// The bytes that are kept from the place `at` on.
     fn kept_from(&mut self, at: u64) -> &mut [u8] {
-        match self.kept.bytes.as_mut_slice().get_mut(at as usize..) {
+        let (bytes, at) = match &mut self.kept.back {
+            Some(back) if back.at <= at => (&mut back.bytes, at - back.at),
+            _ => (&mut self.kept.bytes, at),
+        };
+        match bytes.as_mut_slice().get_mut(at as usize..) {
             Some(kept) => kept,
             None => &mut [],
         }
@@ -339,6 +380,9 @@ impl Device for Disk {
         if self.turn(Call::Read).is_some() || !self.may_read(at, into.len()) {
             self.failures += 1;
             return Err(DeviceFault);
+        }
+        if self.kept_from(at).len() < into.len() {
+            self.reads_beyond = self.reads_beyond.saturating_add(1);
         }
         into.fill(0);
         for (byte, kept) in into.iter_mut().zip(self.kept_from(at)) {

@@ -170,13 +170,13 @@ fn is_ended(bytes: &[u8]) -> bool {
         .all(|byte| *byte == 0)
 }
 
-fn print_answer<W: Write>(out: &mut W, line: &str, holds: bool) -> Result<(), Fault> {
+pub fn print_answer<W: Write>(out: &mut W, line: &str, holds: bool) -> Result<(), Fault> {
     let answer = if holds { "yes" } else { "no" };
     writeln!(out, "{line}: {answer}")?;
     Ok(())
 }
 
-fn print_number<W: Write>(out: &mut W, line: &str, number: u64) -> Result<(), Fault> {
+pub fn print_number<W: Write>(out: &mut W, line: &str, number: u64) -> Result<(), Fault> {
     writeln!(out, "{line}: {number}")?;
     Ok(())
 }
@@ -191,7 +191,7 @@ pub fn print_hex<W: Write>(out: &mut W, line: &str, bytes: &[u8]) -> Result<(), 
     Ok(())
 }
 
-fn print_calls<W: Write>(out: &mut W, line: &str, calls: &[Call]) -> Result<(), Fault> {
+pub fn print_calls<W: Write>(out: &mut W, line: &str, calls: &[Call]) -> Result<(), Fault> {
     write!(out, "{line}:")?;
     for call in calls {
         match *call {

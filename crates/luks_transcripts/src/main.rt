@@ -81,21 +81,56 @@
 //!     calls DEVICE           the calls that were listed: r, wAT+LEN, f
 //!     left                   how many random bytes were left
 //!     beyond DEVICE          how many writes reached beyond what is kept of the disk
+//!
+//! `sealed`, small volumes whose keyslots open, and targets:
+//!
+//!     small NAME             the volume is the small one of this name: luks1, luks2, two-hashes, damaged
+//!     large USED             LUKS1 with large key areas, of which so many are in use
+//!     seal AT PASSPHRASE     the key area of 40 stripes is put there that this passphrase opens
+//!     back AT LEN BYTE       of the volume so many bytes from there on are kept too, each this one
+//!     target KEPT LEN        a target of LEN bytes 55, of which the first KEPT are kept
+//!
+//! `written`, the target, and what the last command wrote:
+//!
+//!     target-sum FROM TO     SHA-256 of these bytes of the target
+//!     untouched              whether what is kept of the target is as it was made
+//!     ranges DEVICE          of the calls that were listed the writes, neighbouring ones as one, and the flushes
+//!     at-least DEVICE N      whether so many calls were listed
+//!     reads-beyond DEVICE    how many reads reached beyond what is kept of the disk
+//!
+//! `repeated`, runs of a command that are judged; the volumes are as a run leaves them of which nothing fails:
+//!
+//!     torn DEVICE LEAVE $ WORDS     while each call of the device fails in turn: prints each call that isn't the last
+//!                            one and the only failure, or that leaves other bytes than were written before it and LEAVE says
+//!     rooms $ WORDS          while standard output takes each number of bytes less than it prints: prints each that
+//!                            doesn't end with 4 or leaves other bytes than a run with room does
+//!
+//! `hostile`, SHA-256 of all that commands answer over hostile volumes (`luks_hostile_volumes`):
+//!
+//!     cuts luks1, cuts luks2           cut in the header, and about the ends of fields, copies and areas
+//!     changes luks1, changes luks2     bits of each byte of the header changed, of LUKS2 with new checksums
+//!     damage luks2                     a bit of each byte of both copies changed
+//!     numbers N                        four volumes that are made of numbers from N on
 #![tactic(auto)]
 
+mod answers;
 mod areas;
 mod commands;
 mod disk;
 mod failing;
 mod fault;
 mod files;
+mod hostile;
 mod library;
 mod looks;
 mod making;
+mod repeated;
+mod sealed;
 mod session;
 mod step;
 mod texts;
 mod trials;
+mod written;
 
 use crate::session::Session;
 use anyhow::Context;

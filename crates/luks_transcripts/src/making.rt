@@ -4,6 +4,7 @@ use crate::commands::{Volumes, held};
 use crate::disk::Kept;
 use crate::fault::Fault;
 use crate::texts::{byte, bytes_of, number, parted, unescaped};
+use luks_hostile_volumes::full;
 use luks_samples::{
     Fields, STRIPE, STRIPE_BY_ARGON2I, STRIPE_BY_ARGON2ID, STRIPE_BY_SHA512, THREE, ZEROS,
     edited_once, filled, luks1, luks2, opening_luks1, put_copy, put_front, roomy_text, shapes,
@@ -179,8 +180,10 @@ impl Header {
 
 /// The metadata of this name.
 fn sample(alloc: Global, name: &str) -> Result<String, Fault> {
-    if name == "roomy" {
-        return Ok(roomy_text(alloc, &[])?);
+    match name {
+        "roomy" => return Ok(roomy_text(alloc, &[])?),
+        "full" => return Ok(full(alloc)?),
+        _ => {}
     }
     let text = match name {
         "zeros" => ZEROS,
@@ -224,7 +227,7 @@ fn stripe(name: &str) -> Result<&'static [u8], Fault> {
 }
 
 /// Puts these bytes there.
-fn put(volume: &mut Kept, at: usize, bytes: &[u8]) -> Result<(), Fault> {
+pub fn put(volume: &mut Kept, at: usize, bytes: &[u8]) -> Result<(), Fault> {
     let end = at.checked_add(bytes.len());
     if end.is_none_or(|end| volume.bytes.len() < end) {
         return Err(Fault::Outside);

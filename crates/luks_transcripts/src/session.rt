@@ -69,6 +69,13 @@ impl Session {
             Step::Trial(trial) => self.trial(line, trial, out),
             Step::Question(question) => self.ask(line, question, out),
             Step::Look(look) => self.look(line, look, out),
+            Step::Sealing(sealing) => sealing.take(alloc, &mut self.volumes),
+            Step::Written(look) => look.take(alloc, line, &self.volumes, &self.asked, out),
+            Step::Hostile(hostile) => hostile.take(alloc, line, out),
+            Step::Repeated(repeated) => {
+                writeln!(out, "{line}")?;
+                repeated.take(alloc, &mut self.volumes, &self.files, out)
+            }
         }
     }
 

@@ -2,11 +2,15 @@
 use crate::commands::{Command, command_of};
 use crate::failing::{Failure, failure_of};
 use crate::files::{Filing, filing_of};
+use crate::hostile::{Hostile, hostile_of};
 use crate::library::{Question, question_of};
 use crate::looks::{Look, look_of};
 use crate::making::{Making, making_of};
+use crate::repeated::{Repeated, repeated_of};
+use crate::sealed::{Sealing, sealing_of};
 use crate::texts::parted;
 use crate::trials::{Trial, trial_of};
+use crate::written::{Written, written_of};
 
 /// A step, by its family.
 #[derive(Debug, Clone, Copy)]
@@ -27,6 +31,14 @@ pub enum Step<'a> {
     Question(Question),
     /// A look at what is left.
     Look(Look<'a>),
+    /// A small volume whose keyslots open, or a target.
+    Sealing(Sealing<'a>),
+    /// A look at the target, and at what was written.
+    Written(Written),
+    /// A command that is run again and again, and judged.
+    Repeated(Repeated<'a>),
+    /// A sum of what is answered over hostile volumes.
+    Hostile(Hostile),
 }
 
 /// The step of a line; none where it is no step.
@@ -53,5 +65,17 @@ pub fn step_of(line: &str) -> Option<Step<'_>> {
     if let Some(question) = question_of(word, rest) {
         return Some(Step::Question(question));
     }
-    look_of(word, rest).map(Step::Look)
+    if let Some(look) = look_of(word, rest) {
+        return Some(Step::Look(look));
+    }
+    if let Some(sealing) = sealing_of(word, rest) {
+        return Some(Step::Sealing(sealing));
+    }
+    if let Some(written) = written_of(word, rest) {
+        return Some(Step::Written(written));
+    }
+    if let Some(repeated) = repeated_of(word, rest) {
+        return Some(Step::Repeated(repeated));
+    }
+    hostile_of(word, rest).map(Step::Hostile)
 }

@@ -40,7 +40,7 @@ pub fn trial_of<'a>(word: &'a str, rest: &'a str) -> Option<Trial<'a>> {
 }
 
 /// The command behind a `$`.
-fn behind_sign(words: &str) -> Option<Command<'_>> {
+pub fn behind_sign(words: &str) -> Option<Command<'_>> {
     match parted(words) {
         ("$", words) => Some(Command(words)),
         _ => None,
