@@ -1,5 +1,5 @@
 //! Tests of the commands `convert` and `rebuild`: what they print, what they leave of their target, by
-//! whichever call or allocation they are stopped, and which files they take for one.
+//! whichever call or allocation they are stopped.
 #![tactic(auto)]
 
 #[cfg(test)]
@@ -18,8 +18,6 @@ mod missing;
 mod rebuilding;
 #[cfg(test)]
 mod refused_memory;
-#[cfg(test)]
-mod same_files;
 #[cfg(test)]
 mod sessions;
 #[cfg(test)]
