@@ -53,6 +53,69 @@ impl Kept {
     }
 }
 
+impl Kept {
+    /// What is kept from the place `at` on.
+    fn part(&self, at: u64) -> &[u8] {
+        let (bytes, at) = match &self.back {
+            Some(back) if back.at <= at => (back.bytes.as_slice(), at.wrapping_sub(back.at)),
+            _ => (self.bytes.as_slice(), at),
+        };
+        bytes.get(at as usize..).unwrap_or_default()
+    }
+
+    /// Writes these bytes from the place `at` on, as far as they are kept.
+    fn put(&mut self, at: u64, from: &[u8])
+        ensures { self.new.len ≡ self.old.len }
+    {
+        match &mut self.back {
+            Some(back) if back.at <= at => put_in(&mut back.bytes, at.wrapping_sub(back.at), from),
+            _ => put_in(&mut self.bytes, at, from),
+        }
+    }
+
+    /// Writes so many bytes 0xFF.
+    fn put_ones(&mut self, at: u64, len: usize)
+        ensures { self.new.len ≡ self.old.len }
+    {
+        match &mut self.back {
+            Some(back) if back.at <= at => {
+                put_ones_in(&mut back.bytes, at.wrapping_sub(back.at), len);
+            }
+            _ => put_ones_in(&mut self.bytes, at, len),
+        }
+    }
+
+    /// Puts back what stood there before a write, as far as it is lost.
+    fn restore(&mut self, before: &Before, loss: Loss)
+        ensures { self.new.len ≡ self.old.len }
+    {
+        for (i, old) in before.bytes.iter().enumerate() {
+            let place = before.at.wrapping_add(i as u64);
+            if let Some(left) = left_of(loss, place, *old) {
+                self.put(place, &[left]);
+            }
+        }
+    }
+}
+
+fn put_in(bytes: &mut [u8], at: u64, from: &[u8]) {
+    let Some(room) = bytes.get_mut(at as usize..) else {
+        return;
+    };
+    for (byte, new) in room.iter_mut().zip(from) {
+        *byte = *new;
+    }
+}
+
+fn put_ones_in(bytes: &mut [u8], at: u64, len: usize) {
+    let Some(room) = bytes.get_mut(at as usize..) else {
+        return;
+    };
+    for byte in room.iter_mut().take(len) {
+        *byte = 0xFF;
+    }
+}
+
 /// A call of a device.
 #[derive(Debug, Clone, Copy, PartialEq, Eq)]
 pub enum Call {
@@ -94,7 +157,7 @@ pub struct Failing {
 /// What stood where a write since the last flush was made.
 #[derive(Debug, Drop)]
 struct Before {
-    at: usize,
+    at: u64,
     bytes: Vec<u8>,
 }
 
@@ -254,98 +317,67 @@ impl Disk {
         }
     }
 
-    /// The bytes that are kept from the place `at` on.
-    fn kept_from(&mut self, at: u64) -> &mut [u8] {
-        let (bytes, at) = match &mut self.kept.back {
-            Some(back) if back.at <= at => (&mut back.bytes, at - back.at),
-            _ => (&mut self.kept.bytes, at),
-        };
-        match bytes.as_mut_slice().get_mut(at as usize..) {
-            Some(kept) => kept,
-            None => &mut [],
-        }
-    }
-
-    /// Writes these bytes from the place `at` on, as far as they are kept.
-    fn put(&mut self, at: u64, from: &[u8]) {
-        for (byte, new) in self.kept_from(at).iter_mut().zip(from) {
-            *byte = *new;
-        }
-    }
-
-    fn put_ones(&mut self, at: u64, len: usize) {
-        for byte in self.kept_from(at).iter_mut().take(len) {
-            *byte = 0xFF;
-        }
-    }
-
     /// Writes what a failing write leaves.
-    fn leave_behind(&mut self, at: u64, from: &[u8], left: Left) {
+    fn leave_behind(&mut self, at: u64, from: &[u8], left: Left)
+        ensures len { self.new.kept.len ≡ self.old.kept.len }
+        ensures failures { self.new.failures ≡ self.old.failures }
+    {
         match left {
             Left::InRange(Leave::Old) => {}
-            Left::InRange(Leave::New) => self.put(at, from),
-            Left::InRange(Leave::Half) => self.put(at, &from[..from.len() / 2]),
-            Left::InRange(Leave::Ones) => self.put_ones(at, from.len()),
+            Left::InRange(Leave::New) => self.kept.put(at, from),
+            Left::InRange(Leave::Half) => self.kept.put(at, &from[..from.len() / 2]),
+            Left::InRange(Leave::Ones) => self.kept.put_ones(at, from.len()),
             Left::Lost(Loss::All) => self.lose(Loss::All),
             Left::Lost(Loss::OutOfOrder) => {
                 self.lose(Loss::All);
-                self.put(at, from);
+                self.kept.put(at, from);
             }
             Left::Lost(Loss::Ones) => {
                 self.lose(Loss::Ones);
-                self.put_ones(at, from.len());
+                self.kept.put_ones(at, from.len());
             }
             Left::Lost(loss) => {
                 self.remember(at, from.len());
-                self.put(at, from);
+                self.kept.put(at, from);
                 self.lose(loss);
             }
         }
     }
 
-    /// Remembers what stands where a write is made, where it may be lost.
-    fn remember(&mut self, at: u64, len: usize) {
-        let Some(
-            Failing {
-                left: Left::Lost(_),
-                ..
-            },
-        ) = self.oddity.failing
-        else {
-            return;
-        };
-        let alloc = self.alloc;
-        let kept = self.kept_from(at);
+    /// Remembers what stands where a write is made.
+    fn remember(&mut self, at: u64, len: usize)
+        ensures len { self.new.kept.len ≡ self.old.kept.len }
+        ensures failures { self.new.failures ≡ self.old.failures }
+    {
+        let kept = self.kept.part(at);
         let old = kept.get(..len).unwrap_or(kept);
-        if let Ok(bytes) = old.to_vec(alloc) {
-            let at = at as usize;
+        if let Ok(bytes) = old.to_vec(self.alloc) {
             let _ = self.unsettled.push(Before { at, bytes });
         }
     }
 
     /// Loses what was written and not flushed.
-    fn lose(&mut self, loss: Loss) {
-        while let Some(before) = self.unsettled.pop() {
-            self.restore(&before, loss);
+    fn lose(&mut self, loss: Loss)
+        ensures len { self.new.kept.len ≡ self.old.kept.len }
+        ensures failures { self.new.failures ≡ self.old.failures }
+    {
+        for before in self.unsettled.iter().rev() {
+            self.kept.restore(before, loss);
         }
+        self.unsettled.clear();
     }
 
-    /// Puts back what stood there, as far as it is lost.
-    fn restore(&mut self, before: &Before, loss: Loss) {
-        for (i, old) in before.bytes.iter().enumerate() {
-            let place = before.at.wrapping_add(i);
-            if let (Some(left), Some(byte)) = (
-                left_of(loss, place, *old),
-                self.kept.bytes.get_mut(place),
-            ) {
-                *byte = left;
-            }
+    /// Whether its power is to be cut.
+    fn may_lose(&self) -> bool {
+        match self.oddity.failing {
+            Some(failing) => matches!(&failing.left, Left::Lost(_)),
+            None => false,
         }
     }
 }
 
 /// What is left at this place of a byte that was written and not flushed; none where what was written is.
-fn left_of(loss: Loss, place: usize, old: u8) -> Option<u8> {
+fn left_of(loss: Loss, place: u64, old: u8) -> Option<u8> {
     let is_even = place / 512 % 2 == 0;
     match loss {
         Loss::All | Loss::OutOfOrder => Some(old),
@@ -381,25 +413,26 @@ impl Device for Disk {
             self.failures += 1;
             return Err(DeviceFault);
         }
-        if self.kept_from(at).len() < into.len() {
+        let kept = self.kept.part(at);
+        if kept.len() < into.len() {
             self.reads_beyond = self.reads_beyond.saturating_add(1);
         }
         into.fill(0);
-        for (byte, kept) in into.iter_mut().zip(self.kept_from(at)) {
-            *byte = *kept;
-        }
+        put_in(into, 0, kept);
         Ok(())
     }
 
     fn write_at(&mut self, at: u64, from: &[u8]) -> Result<(), DeviceFault> {
         let len = from.len();
         let left = self.turn(Call::Write { at, len });
-        if self.kept_from(at).len() < len {
+        if self.kept.part(at).len() < len {
             self.beyond = self.beyond.saturating_add(1);
         }
         if left.is_none() && self.oddity.readable.is_none() {
-            self.remember(at, len);
-            self.put(at, from);
+            if self.may_lose() {
+                self.remember(at, len);
+            }
+            self.kept.put(at, from);
             return Ok(());
         }
         self.leave_behind(at, from, left.unwrap_or(Left::InRange(Leave::Old)));

@@ -96,7 +96,7 @@ fn counted(alloc: Global, from: usize, len: usize, modulus: usize) -> Result<Vec
     let mut bytes = Vec::with_capacity(alloc, len)?;
     for i in 0..len {
         if let Some(left) = from.wrapping_add(i).checked_rem(modulus) {
-            bytes.push(left as u8)?;
+            bytes.push((left % 256) as u8)?;
         }
     }
     Ok(bytes)
@@ -143,10 +143,19 @@ pub struct Source<'a> {
 
 impl Read for Source<'_> {
     fn read(&mut self, buf: &mut [u8]) -> io::Result<usize> {
-        match (self.breaks, buf.get_mut(..1)) {
-            (Some(kind), _) if self.left.is_empty() => Err(kind.into()),
-            (Some(_), Some(first)) => self.left.read(first),
-            _ => self.left.read(buf),
+        let Some(kind) = self.breaks else {
+            return self.left.read(buf);
+        };
+        let Some((byte, later)) = self.left.split_first() else {
+            return Err(kind.into());
+        };
+        match buf.first_mut() {
+            Some(place) => {
+                *place = *byte;
+                self.left = later;
+                Ok(1)
+            }
+            None => Ok(0),
         }
     }
 }

@@ -87,9 +87,11 @@ impl Question {
         let kept = volume.take().ok_or(Fault::Outside)?;
         let mut disk = disk_of(alloc, kept);
         writeln!(out, "{line}")?;
-        let passphrase = passphrase
-            .get(..passphrase.len().min(LONGEST))
-            .unwrap_or_default();
+        let passphrase = if passphrase.len() <= LONGEST {
+            passphrase
+        } else {
+            &passphrase[..LONGEST]
+        };
         let taken = match self.is_starved {
             true => Some(TakenMemory::take(alloc)?),
             false => None,

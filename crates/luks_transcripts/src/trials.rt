@@ -127,14 +127,12 @@ impl Runs {
         if self.kept {
             write!(out, " kept")?;
         }
-        for (i, probe) in probes.iter().rev().enumerate() {
-            if self
-                .open
-                .checked_shr(i as u32)
-                .is_some_and(|open| open % 2 == 1)
-            {
+        let mut open = self.open;
+        for probe in probes.iter().rev() {
+            if open % 2 == 1 {
                 write!(out, ", {} {}", probe.slot, probe.text)?;
             }
+            open /= 2;
         }
         writeln!(out)?;
         Ok(())
