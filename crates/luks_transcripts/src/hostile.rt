@@ -99,8 +99,9 @@ const ENDS1: [usize; 9] = [
 
 fn cut_luks1(alloc: Global, answers: &mut Answers) -> Result<(), Fault> {
     let image = first1(alloc)?;
-    let lengths: Vec<usize> = (0..593usize).collect(alloc)?;
-    cut(alloc, &image, &lengths, answers)?;
+    for len in 0..593 {
+        cut(alloc, &image, &[len], answers)?;
+    }
     let lengths = around(alloc, &ENDS1, LUKS1)?;
     cut(alloc, &image, &lengths, answers)
 }
@@ -205,14 +206,26 @@ fn rewrite_byte(
     Ok(())
 }
 
+/// Changes each byte from one place up to another.
+fn rewrite_bytes(
+    alloc: Global,
+    image: &[u8],
+    from: usize,
+    to: usize,
+    answers: &mut Answers,
+) -> Result<(), Fault> {
+    for at in from..to {
+        rewrite_byte(alloc, image, at, answers)?;
+    }
+    Ok(())
+}
+
 /// Changes each byte of the fields and of the metadata, with the zero byte behind that.
 fn rewrite_luks2(alloc: Global, answers: &mut Answers) -> Result<(), Fault> {
     let image = first2(alloc)?;
     let end = text(alloc)?.len().wrapping_add(4097);
-    for at in (0..512).chain(4096..end) {
-        rewrite_byte(alloc, &image, at, answers)?;
-    }
-    Ok(())
+    rewrite_bytes(alloc, &image, 0, 512, answers)?;
+    rewrite_bytes(alloc, &image, 4096, end, answers)
 }
 
 const OPEN: &str = "luks open v --passphrase=p";
