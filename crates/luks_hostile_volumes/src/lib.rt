@@ -3,13 +3,13 @@
 //! bytes, and what commands answer over them is compared with what it says.
 #![tactic(auto)]
 
+mod all_numbers;
 mod dice;
 mod first_volumes;
-mod full;
 mod generated;
 mod keyslots;
 
+pub use all_numbers::full;
 pub use first_volumes::{LENGTH, first1, first2, text};
-pub use full::full;
 pub use generated::Generated;
 pub use keyslots::passphrase;
