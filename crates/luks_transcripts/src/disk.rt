@@ -90,10 +90,16 @@ impl Kept {
         ensures { self.new.len ≡ self.old.len }
     {
         for (i, old) in before.bytes.iter().enumerate() {
-            let place = before.at.wrapping_add(i as u64);
-            if let Some(left) = left_of(loss, place, *old) {
-                self.put(place, &[left]);
-            }
+            self.restore_byte(before.at.wrapping_add(i as u64), *old, loss);
+        }
+    }
+
+    /// The same of one byte.
+    fn restore_byte(&mut self, at: u64, old: u8, loss: Loss)
+        ensures { self.new.len ≡ self.old.len }
+    {
+        if let Some(left) = left_of(loss, at, old) {
+            self.put(at, &[left]);
         }
     }
 }
