@@ -136,10 +136,13 @@ impl Look<'_> {
             Look::Length(from) => print_number(out, line, seen.text(from)?.len() as u64),
             Look::Bytes(part) => print_hex(out, line, seen.part(part)?),
             Look::Keep => {
-                *seen.kept = seen.volume().to_vec(alloc)?;
+                *seen.kept = held(&seen.volumes.volume).to_vec(alloc)?;
                 Ok(())
             }
-            Look::Kept => print_answer(out, line, seen.volume() == seen.kept.as_slice()),
+            Look::Kept => {
+                let is_kept = held(&seen.volumes.volume) == seen.kept.as_slice();
+                print_answer(out, line, is_kept)
+            }
             Look::Calls(name) => print_calls(out, line, seen.record(name)?.calls.as_slice()),
             Look::Left => print_number(out, line, seen.asked.left as u64),
             Look::Beyond(name) => print_number(out, line, seen.record(name)?.beyond),

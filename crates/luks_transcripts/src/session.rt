@@ -108,10 +108,21 @@ impl Session {
         writeln!(out, "{line}")?;
         let troubles = self.take_troubles();
         let probes = std::mem::replace(&mut self.probes, Vec::new(self.alloc));
+        self.run_trial(trial, &troubles, probes.as_slice(), out)
+    }
+
+    /// Runs the trial with this trouble, and tries these probes after each run.
+    fn run_trial<W: Write>(
+        &mut self,
+        trial: Trial<'_>,
+        troubles: &Troubles,
+        probes: &[Probe],
+        out: &mut W,
+    ) -> Result<(), Fault> {
         let over = Over {
             files: &self.files,
-            troubles: &troubles,
-            probes: probes.as_slice(),
+            troubles,
+            probes,
         };
         match trial {
             Trial::Probe(..) => Ok(()),

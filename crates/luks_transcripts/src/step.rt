@@ -77,5 +77,8 @@ pub fn step_of(line: &str) -> Option<Step<'_>> {
     if let Some(repeated) = repeated_of(word, rest) {
         return Some(Step::Repeated(repeated));
     }
-    hostile_of(word, rest).map(Step::Hostile)
+    if let Some(hostile) = hostile_of(word, rest) {
+        return Some(Step::Hostile(hostile));
+    }
+    None
 }
