@@ -108,7 +108,8 @@ impl Session {
         writeln!(out, "{line}")?;
         let troubles = self.take_troubles();
         let probes = std::mem::replace(&mut self.probes, Vec::new(self.alloc));
-        self.run_trial(trial, &troubles, probes.as_slice(), out)
+        self.run_trial(trial, &troubles, probes.as_slice(), out)?;
+        Ok(())
     }
 
     /// Runs the trial with this trouble, and tries these probes after each run.
