@@ -140,7 +140,7 @@ impl Look<'_> {
                 Ok(())
             }
             Look::Kept => {
-                let is_kept = held(&seen.volumes.volume) == seen.kept.as_slice();
+                let is_kept = are_same(held(&seen.volumes.volume), seen.kept.as_slice());
                 print_answer(out, line, is_kept)
             }
             Look::Calls(name) => print_calls(out, line, seen.record(name)?.calls.as_slice()),
@@ -148,6 +148,10 @@ impl Look<'_> {
             Look::Beyond(name) => print_number(out, line, seen.record(name)?.beyond),
         }
     }
+}
+
+fn are_same(one: &[u8], other: &[u8]) -> bool {
+    one == other
 }
 
 /// The length of the longest run of this byte.
