@@ -84,24 +84,6 @@ impl Kept {
             _ => put_ones_in(&mut self.bytes, at, len),
         }
     }
-
-    /// Puts back what stood there before a write, as far as it is lost.
-    fn restore(&mut self, before: &Before, loss: Loss)
-        ensures { self.new.len ≡ self.old.len }
-    {
-        for (i, old) in before.bytes.iter().enumerate() {
-            self.restore_byte(before.at.wrapping_add(i as u64), *old, loss);
-        }
-    }
-
-    /// The same of one byte.
-    fn restore_byte(&mut self, at: u64, old: u8, loss: Loss)
-        ensures { self.new.len ≡ self.old.len }
-    {
-        if let Some(left) = left_of(loss, at, old) {
-            self.put(at, &[left]);
-        }
-    }
 }
 
 fn put_in(bytes: &mut [u8], at: u64, from: &[u8]) {
@@ -119,6 +101,39 @@ fn put_ones_in(bytes: &mut [u8], at: u64, len: usize) {
     };
     for byte in room.iter_mut().take(len) {
         *byte = 0xFF;
+    }
+}
+
+/// Of the first bytes of a disk, and of the part further back, loses what was written and not flushed.
+fn lose_all(bytes: &mut [u8], back: &mut Option<Back>, unsettled: &[Before], loss: Loss) {
+    for before in unsettled.iter().rev() {
+        restore(bytes, back, before, loss);
+    }
+}
+
+/// Puts back what stood there before a write, as far as it is lost.
+fn restore(bytes: &mut [u8], back: &mut Option<Back>, before: &Before, loss: Loss) {
+    match back {
+        Some(back) if back.at <= before.at => {
+            restore_in(
+                &mut back.bytes,
+                before.at.wrapping_sub(back.at),
+                before,
+                loss,
+            );
+        }
+        _ => restore_in(bytes, before.at, before, loss),
+    }
+}
+
+fn restore_in(bytes: &mut [u8], at: u64, before: &Before, loss: Loss) {
+    let Some(room) = bytes.get_mut(at as usize..) else {
+        return;
+    };
+    for (i, (byte, old)) in room.iter_mut().zip(before.bytes.iter()).enumerate() {
+        if let Some(left) = left_of(loss, before.at.wrapping_add(i as u64), *old) {
+            *byte = left;
+        }
     }
 }
 
@@ -367,9 +382,12 @@ impl Disk {
         ensures len { self.new.kept.len ≡ self.old.kept.len }
         ensures failures { self.new.failures ≡ self.old.failures }
     {
-        for before in self.unsettled.iter().rev() {
-            self.kept.restore(before, loss);
-        }
+        lose_all(
+            &mut self.kept.bytes,
+            &mut self.kept.back,
+            &self.unsettled,
+            loss,
+        );
         self.unsettled.clear();
     }
 
