@@ -1,5 +1,5 @@
 //! What the library tells of the volume that no command prints.
-ghost use Rattle.std.specs.Prelude.{◌≡◌};
+ghost use Rattle.std.specs.Prelude.{◌≡◌, ◌<◌, ◌^◌, length};
 
 use crate::disk::{Disk, Kept};
 use crate::failing::Trouble;
@@ -74,6 +74,39 @@ pub fn opens(alloc: Global, volume: &mut Option<Kept>, slot: u8, passphrase: &[u
     opens
 }
 
+/// As many of the passphrase's bytes as one has at most.
+fn shortened(passphrase: &[u8]) -> &[u8]
+    ensures { length result.now < 2 ^ 32 }
+{
+    if passphrase.len() <= LONGEST {
+        passphrase
+    } else {
+        &passphrase[..LONGEST]
+    }
+}
+
+impl What {
+    /// Prints what the library answers of the disk by this passphrase.
+    fn ask<W: Write>(
+        self,
+        alloc: Global,
+        disk: &mut Disk,
+        passphrase: &[u8],
+        out: &mut W,
+    ) -> Result<(), Fault>
+        requires failures { disk.old.failures ≡ 0 }
+        requires passphrase { length passphrase.now < 2 ^ 32 }
+    {
+        match self {
+            What::Areas => print_areas(alloc, disk, out),
+            What::Open(slot, memory) => {
+                print_key(open_slot(alloc, disk, slot, passphrase, memory), out)
+            }
+            What::Unlock(memory) => { print_unlocked(unlock(alloc, disk, passphrase, memory), out) }
+        }
+    }
+}
+
 impl Question {
     /// Prints the question of this line, and what the library answers of the volume, by this passphrase.
     pub fn take<W: Write>(
@@ -87,25 +120,14 @@ impl Question {
         let kept = volume.take().ok_or(Fault::Outside)?;
         let mut disk = disk_of(alloc, kept);
         writeln!(out, "{line}")?;
-        let passphrase = if passphrase.len() <= LONGEST {
-            passphrase
+        let passphrase = shortened(passphrase);
+        if self.is_starved {
+            let taken = TakenMemory::take(alloc)?;
+            self.what.ask(alloc, &mut disk, passphrase, out)?;
+            drop(taken);
         } else {
-            &passphrase[..LONGEST]
-        };
-        let taken = match self.is_starved {
-            true => Some(TakenMemory::take(alloc)?),
-            false => None,
-        };
-        match self.what {
-            What::Areas => print_areas(alloc, &mut disk, out)?,
-            What::Open(slot, memory) => {
-                print_key(open_slot(alloc, &mut disk, slot, passphrase, memory), out)?;
-            }
-            What::Unlock(memory) => {
-                print_unlocked(unlock(alloc, &mut disk, passphrase, memory), out)?;
-            }
+            self.what.ask(alloc, &mut disk, passphrase, out)?;
         }
-        drop(taken);
         let (kept, _record) = disk.into_parts();
         *volume = Some(kept);
         Ok(())
