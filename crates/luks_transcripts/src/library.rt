@@ -74,14 +74,14 @@ pub fn opens(alloc: Global, volume: &mut Option<Kept>, slot: u8, passphrase: &[u
     opens
 }
 
-/// As many of the passphrase's bytes as one has at most.
+/// The passphrase; none where it is longer than one may be.
 fn shortened(passphrase: &[u8]) -> &[u8]
     ensures { length result.now < 2 ^ 32 }
 {
     if passphrase.len() <= LONGEST {
         passphrase
     } else {
-        &passphrase[..LONGEST]
+        &[]
     }
 }
 
