@@ -52,9 +52,9 @@ fn with_operands<'a>(alloc: Global, described: &Described) -> Result<Command<'a>
 
 fn bare_command<'a>(alloc: Global, described: &Described) -> Command<'a> {
     let command = Command::new(alloc, described.name)
-        .about(described.about)
-        .after_help(described.more);
-    match described.usage {
+        .about(described.help.about())
+        .after_help(described.help.more());
+    match described.help.usage() {
         Some(usage) => command.override_usage(usage),
         None => command,
     }

@@ -12,14 +12,73 @@ pub(crate) struct Described {
     /// Whether it writes over what stands there without a question, so that it is suggested for no
     /// other word.
     pub(crate) overwrites: bool,
-    /// What it does, in a line.
-    pub(crate) about: &'static str,
-    /// Its usage where that isn't `clap`'s.
-    pub(crate) usage: Option<&'static str>,
-    /// What its help has after its words.
-    pub(crate) more: &'static str,
+    pub(crate) help: Help,
     pub(crate) operands: &'static [Operand],
     pub(crate) options: &'static [LongOption],
+}
+
+/// The help of a command.
+#[derive(Clone, Copy)]
+pub(crate) enum Help {
+    Check,
+    Show,
+    Open,
+    Add,
+    Change,
+    Remove,
+    Repair,
+    Label,
+    Format,
+    Convert,
+    Rebuild,
+    Explain,
+}
+
+impl Help {
+    /// What the command does, in a line.
+    pub(crate) fn about(self) -> &'static str {
+        match self {
+            Help::Check => helps::CHECK,
+            Help::Show => helps::SHOW,
+            Help::Open => helps::OPEN,
+            Help::Add => helps::ADD,
+            Help::Change => helps::CHANGE,
+            Help::Remove => helps::REMOVE,
+            Help::Repair => helps::REPAIR,
+            Help::Label => helps::LABEL,
+            Help::Format => helps::FORMAT,
+            Help::Convert => helps::CONVERT,
+            Help::Rebuild => helps::REBUILD,
+            Help::Explain => helps::EXPLAIN,
+        }
+    }
+
+    /// Its usage where that isn't `clap`'s.
+    pub(crate) fn usage(self) -> Option<&'static str> {
+        match self {
+            Help::Add => Some(helps::ADD_USAGE),
+            Help::Change => Some(helps::CHANGE_USAGE),
+            _ => None,
+        }
+    }
+
+    /// What stands after its words.
+    pub(crate) fn more(self) -> &'static str {
+        match self {
+            Help::Check => helps::CHECK_MORE,
+            Help::Show => helps::SHOW_MORE,
+            Help::Open => helps::OPEN_MORE,
+            Help::Add => helps::ADD_MORE,
+            Help::Change => helps::CHANGE_MORE,
+            Help::Remove => helps::REMOVE_MORE,
+            Help::Repair => helps::REPAIR_MORE,
+            Help::Label => helps::LABEL_MORE,
+            Help::Format => helps::FORMAT_MORE,
+            Help::Convert => helps::CONVERT_MORE,
+            Help::Rebuild => helps::REBUILD_MORE,
+            Help::Explain => helps::EXPLAIN_MORE,
+        }
+    }
 }
 
 /// A word that is known by its place, by its row in `OPERANDS`.
@@ -162,27 +221,21 @@ static COMMANDS: [Described; 12] = [
     Described {
         name: "check",
         overwrites: false,
-        about: helps::CHECK,
-        usage: None,
-        more: helps::CHECK_MORE,
+        help: Help::Check,
         operands: &[Operand::Volume],
         options: &[LongOption::Detached],
     },
     Described {
         name: "show",
         overwrites: false,
-        about: helps::SHOW,
-        usage: None,
-        more: helps::SHOW_MORE,
+        help: Help::Show,
         operands: &[Operand::Volume],
         options: &[LongOption::Json],
     },
     Described {
         name: "open",
         overwrites: false,
-        about: helps::OPEN,
-        usage: None,
-        more: helps::OPEN_MORE,
+        help: Help::Open,
         operands: &[Operand::Volume],
         options: &[
             LongOption::Passphrase,
@@ -193,9 +246,7 @@ static COMMANDS: [Described; 12] = [
     Described {
         name: "add",
         overwrites: false,
-        about: helps::ADD,
-        usage: Some(helps::ADD_USAGE),
-        more: helps::ADD_MORE,
+        help: Help::Add,
         operands: &[Operand::Volume],
         options: &[
             LongOption::OpenedSlot,
@@ -211,9 +262,7 @@ static COMMANDS: [Described; 12] = [
     Described {
         name: "change",
         overwrites: false,
-        about: helps::CHANGE,
-        usage: Some(helps::CHANGE_USAGE),
-        more: helps::CHANGE_MORE,
+        help: Help::Change,
         operands: &[Operand::Volume],
         options: &[
             LongOption::OpenedSlot,
@@ -228,9 +277,7 @@ static COMMANDS: [Described; 12] = [
     Described {
         name: "remove",
         overwrites: false,
-        about: helps::REMOVE,
-        usage: None,
-        more: helps::REMOVE_MORE,
+        help: Help::Remove,
         operands: &[Operand::Volume],
         options: &[
             LongOption::OpenedSlot,
@@ -243,27 +290,21 @@ static COMMANDS: [Described; 12] = [
     Described {
         name: "repair",
         overwrites: false,
-        about: helps::REPAIR,
-        usage: None,
-        more: helps::REPAIR_MORE,
+        help: Help::Repair,
         operands: &[Operand::Volume],
         options: &[LongOption::Random, LongOption::Detached],
     },
     Described {
         name: "label",
         overwrites: false,
-        about: helps::LABEL,
-        usage: None,
-        more: helps::LABEL_MORE,
+        help: Help::Label,
         operands: &[Operand::Volume, Operand::Text],
         options: &[LongOption::NeededRandom, LongOption::Detached],
     },
     Described {
         name: "format",
         overwrites: true,
-        about: helps::FORMAT,
-        usage: None,
-        more: helps::FORMAT_MORE,
+        help: Help::Format,
         operands: &[Operand::Volume],
         options: &[
             LongOption::Passphrase,
@@ -277,18 +318,14 @@ static COMMANDS: [Described; 12] = [
     Described {
         name: "convert",
         overwrites: false,
-        about: helps::CONVERT,
-        usage: None,
-        more: helps::CONVERT_MORE,
+        help: Help::Convert,
         operands: &[Operand::Source, Operand::Target],
         options: &[LongOption::NeededRandom, LongOption::DetachedSource],
     },
     Described {
         name: "rebuild",
         overwrites: false,
-        about: helps::REBUILD,
-        usage: None,
-        more: helps::REBUILD_MORE,
+        help: Help::Rebuild,
         operands: &[Operand::DamagedSource, Operand::RebuiltTarget],
         options: &[
             LongOption::NeededRandom,
@@ -299,9 +336,7 @@ static COMMANDS: [Described; 12] = [
     Described {
         name: "explain",
         overwrites: false,
-        about: helps::EXPLAIN,
-        usage: None,
-        more: helps::EXPLAIN_MORE,
+        help: Help::Explain,
         operands: &[Operand::Fault],
         options: &[],
     },
