@@ -38,16 +38,23 @@ sizes_value header_size config = object (
     number_member (codes "json") config.json_size (
     number_member (codes "keyslots") config.keyslots_size no_members)))
 
--- the members that the binary header gives
-abbrev pub header_members : ChosenCopy → Data → Texts → Members
-header_members copy sizes texts =
-    put (codes "sizes") sizes (
-    put (codes "seqid") (number (unsigned copy.header.seqid)) (
-    put (codes "copies") (string (copies_text copy.copies)) (
+-- with the texts
+abbrev pub with_texts : Texts → Members → Members
+with_texts texts ms =
     put (codes "subsystem") (view texts.subsystem) (
     put (codes "label") (view texts.label) (
-    put (codes "uuid") (view texts.uuid) (
-    put (codes "version") (number (unsigned 2)) no_members))))))
+    put (codes "uuid") (view texts.uuid) ms))
+
+-- and with what else the copy says of itself
+abbrev pub with_copy : ChosenCopy → Data → Members → Members
+with_copy copy sizes ms =
+    put (codes "sizes") sizes (
+    put (codes "seqid") (number (unsigned copy.header.seqid)) (
+    put (codes "copies") (string (copies_text copy.copies)) ms))
+
+-- the members that the binary header gives
+abbrev pub header_members : ChosenCopy → Data → Texts → Members
+header_members copy sizes texts = with_copy copy sizes (with_texts texts (put (codes "version") (number (unsigned 2)) no_members))
 
 -- and with those that the metadata gives
 abbrev pub with_objects : Objects → Members → Members

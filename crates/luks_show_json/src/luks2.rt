@@ -1,12 +1,13 @@
 //! The JSON object of a LUKS2 header.
-ghost use Rattle.std.specs.Prelude.{◌≡◌, IfOk, OnOk};
+ghost use Rattle.std.specs.Prelude.{◌≡◌, codes, IfOk, OnOk};
+ghost use Rattle.serde_json.specs.Data.{put as with_member};
 ghost use Rattle.serde_json.specs.View.{members_view, view};
 ghost use Rattle.luks_meta.specs.Content.{content};
 ghost use Rattle.luks_show_json.specs.Luks2Value.{AreObjectsOf, AreTextsOf, configured, header_members, IsLuks2Value};
-ghost use Rattle.luks_show_json.specs.Luks2Value.{sizes_value, with_objects};
+ghost use Rattle.luks_show_json.specs.Luks2Value.{sizes_value, with_copy, with_objects, with_texts};
 
 use crate::objects::{digests_value, keyslots_value, segments_value, tokens_value};
-use crate::values::{put_number, text_value};
+use crate::values::{put_number, put_text, text_value};
 use luks_head::Bin2;
 use luks_reading::{ChosenCopy, Config, Meta};
 use luks_show::{before_zero, copies_name};
@@ -66,15 +67,37 @@ fn header_members(
         ≡ header_members copy.now (view sizes) texts) }
 {
     let mut members = Map::new(alloc);
-    let copies = Value::try_from_str(alloc, copies_name(copy.copies))?;
-    put(&mut members, alloc, "version", Value::from(2u8))?;
-    put(&mut members, alloc, "uuid", texts.uuid)?;
-    put(&mut members, alloc, "label", texts.label)?;
-    put(&mut members, alloc, "subsystem", texts.subsystem)?;
-    put(&mut members, alloc, "copies", copies)?;
-    put(&mut members, alloc, "seqid", Value::from(copy.header.seqid))?;
-    put(&mut members, alloc, "sizes", sizes)?;
+    put_number(&mut members, alloc, "version", 2)?;
+    put_texts(&mut members, alloc, texts)?;
+    put_copy(&mut members, alloc, copy, sizes)?;
     Ok(members)
+}
+
+fn put_texts(
+    members: &mut Map<String, Value>,
+    alloc: Global,
+    texts: Texts,
+) -> Result<(), AllocError>
+    ensures { OnOk result (members_view members.new.entries
+        ≡ with_texts texts (members_view members.old.entries)) }
+{
+    put(members, alloc, "uuid", texts.uuid)?;
+    put(members, alloc, "label", texts.label)?;
+    put(members, alloc, "subsystem", texts.subsystem)
+}
+
+fn put_copy(
+    members: &mut Map<String, Value>,
+    alloc: Global,
+    copy: &ChosenCopy,
+    sizes: Value,
+) -> Result<(), AllocError>
+    ensures { OnOk result (members_view members.new.entries
+        ≡ with_copy copy.now (view sizes) (members_view members.old.entries)) }
+{
+    put_text(members, alloc, "copies", copies_name(copy.copies))?;
+    put_number(members, alloc, "seqid", copy.header.seqid)?;
+    put(members, alloc, "sizes", sizes)
 }
 
 fn put_objects(
@@ -85,13 +108,52 @@ fn put_objects(
     ensures { OnOk result (members_view members.new.entries
         ≡ with_objects objects (members_view members.old.entries)) }
 {
-    put(members, alloc, "flags", objects.flags)?;
-    put(members, alloc, "requirements", objects.requirements)?;
-    put(members, alloc, "keyslots", objects.keyslots)?;
-    put(members, alloc, "tokens", objects.tokens)?;
-    put(members, alloc, "segments", objects.segments)?;
-    put(members, alloc, "digests", objects.digests)?;
-    put(members, alloc, "metadata", objects.metadata)
+    let Objects {
+        flags,
+        requirements,
+        keyslots,
+        tokens,
+        segments,
+        digests,
+        metadata,
+    } = objects;
+    put_config(members, alloc, flags, requirements)?;
+    put_lists(members, alloc, keyslots, tokens, segments, digests)?;
+    put(members, alloc, "metadata", metadata)
+}
+
+fn put_config(
+    members: &mut Map<String, Value>,
+    alloc: Global,
+    flags: Value,
+    requirements: Value,
+) -> Result<(), AllocError>
+    ensures { OnOk result (members_view members.new.entries
+        ≡ with_member (codes "requirements") (view requirements)
+        (with_member (codes "flags") (view flags) (members_view members.old.entries))) }
+{
+    put(members, alloc, "flags", flags)?;
+    put(members, alloc, "requirements", requirements)
+}
+
+fn put_lists(
+    members: &mut Map<String, Value>,
+    alloc: Global,
+    keyslots: Value,
+    tokens: Value,
+    segments: Value,
+    digests: Value,
+) -> Result<(), AllocError>
+    ensures { OnOk result (members_view members.new.entries
+        ≡ with_member (codes "digests") (view digests)
+        (with_member (codes "segments") (view segments)
+        (with_member (codes "tokens") (view tokens)
+        (with_member (codes "keyslots") (view keyslots) (members_view members.old.entries))))) }
+{
+    put(members, alloc, "keyslots", keyslots)?;
+    put(members, alloc, "tokens", tokens)?;
+    put(members, alloc, "segments", segments)?;
+    put(members, alloc, "digests", digests)
 }
 
 fn read_texts(alloc: Global, header: &Bin2) -> Result<Texts, AllocError>
