@@ -3,7 +3,7 @@
 #   demo      run the main job, unproved: luks check on the sample image; ends with 'accepted luks1 areas 10'
 #   build     prove and build the program, and leave it at bin/luks
 #   test      the merge gate: every proof from nothing, the edits that must fail, each test, each program; and what it took:
-#             processor time by crate for its proof, its tests and its edits, and at its end the figures that README names
+#             processor time by crate for its proof, its tests and its edits, and at its end the sums
 #   quick     between gates: proofs and tests of the crates that changed since BASE (the last commit) and of what stands on them
 #   plants    between gates: the wrong bodies of CRATE (of all), planted at once, each refused at its own function
 #   install   put the program into PREFIX/bin, its manual page into MANDIR, its completions into BASHCOMPDIR, ZSHCOMPDIR and FISHCOMPDIR
