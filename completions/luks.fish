@@ -27,6 +27,7 @@ complete -c luks -n '__fish_seen_subcommand_from add' -l random -r -F -d 'The fi
 complete -c luks -n '__fish_seen_subcommand_from add' -l to -x -a '(seq 0 31)' -d 'The new keyslot'
 complete -c luks -n '__fish_seen_subcommand_from add' -l iterations -x -d 'The iterations of PBKDF2'
 complete -c luks -n '__fish_seen_subcommand_from add' -l memory -x -d 'The MiB that Argon2 may take'
+complete -c luks -n '__fish_seen_subcommand_from add' -l over -d 'Write over another use of the disk'
 complete -c luks -n '__fish_seen_subcommand_from add' -l detached -d 'The data lies on another device'
 
 complete -c luks -n __fish_use_subcommand -a change -d 'Put a new passphrase in the place of an old one'
@@ -37,6 +38,7 @@ complete -c luks -n '__fish_seen_subcommand_from change' -l new -r -F -d 'The fi
 complete -c luks -n '__fish_seen_subcommand_from change' -l random -r -F -d 'The file of the random bytes'
 complete -c luks -n '__fish_seen_subcommand_from change' -l iterations -x -d 'The iterations of PBKDF2'
 complete -c luks -n '__fish_seen_subcommand_from change' -l memory -x -d 'The MiB that Argon2 may take'
+complete -c luks -n '__fish_seen_subcommand_from change' -l over -d 'Write over another use of the disk'
 complete -c luks -n '__fish_seen_subcommand_from change' -l detached -d 'The data lies on another device'
 
 complete -c luks -n __fish_use_subcommand -a remove -d 'Remove a keyslot by its own passphrase'
@@ -45,16 +47,19 @@ complete -c luks -n '__fish_seen_subcommand_from remove' -l slot -x -a '(seq 0 3
 complete -c luks -n '__fish_seen_subcommand_from remove' -l passphrase -r -F -d 'The file of the passphrase'
 complete -c luks -n '__fish_seen_subcommand_from remove' -l random -r -F -d 'The file of the random bytes'
 complete -c luks -n '__fish_seen_subcommand_from remove' -l memory -x -d 'The MiB that Argon2 may take'
+complete -c luks -n '__fish_seen_subcommand_from remove' -l over -d 'Write over another use of the disk'
 complete -c luks -n '__fish_seen_subcommand_from remove' -l detached -d 'The data lies on another device'
 
 complete -c luks -n __fish_use_subcommand -a repair -d 'Write both copies of a LUKS2 header anew'
 complete -c luks -n '__fish_seen_subcommand_from repair' -F
 complete -c luks -n '__fish_seen_subcommand_from repair' -l random -r -F -d 'The file of the random bytes'
+complete -c luks -n '__fish_seen_subcommand_from repair' -l over -d 'Write over another use of the disk'
 complete -c luks -n '__fish_seen_subcommand_from repair' -l detached -d 'The data lies on another device'
 
 complete -c luks -n __fish_use_subcommand -a label -d 'Set the label of a LUKS2 volume'
 complete -c luks -n '__fish_seen_subcommand_from label' -F
 complete -c luks -n '__fish_seen_subcommand_from label' -l random -r -F -d 'The file of the random bytes'
+complete -c luks -n '__fish_seen_subcommand_from label' -l over -d 'Write over another use of the disk'
 complete -c luks -n '__fish_seen_subcommand_from label' -l detached -d 'The data lies on another device'
 
 complete -c luks -n __fish_use_subcommand -a format -d 'Make a LUKS volume over whatever stands there'

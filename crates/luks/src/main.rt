@@ -12,7 +12,8 @@ use clap::error::ErrorKind as FaultKind;
 use luks_area::FileDevice;
 use luks_cache::CachedDevice;
 use luks_cli::{
-    Command, CountingPrinter, InputFault, Inputs, Line, NewVersion, Reason, execute, first_bytes,
+    Command, CountingPrinter, InputFault, Inputs, Line, NewVersion, OtherUse, Reason, execute,
+    first_bytes, note_other_use, note_overwritten, standing_use,
 };
 use luks_explain::Fault;
 use luks_leftovers::{note_leftovers, read_front};
@@ -112,6 +113,7 @@ fn run_line<R: AllocGlobal + Clock + Files<File = File> + Input + Print + Eprint
     line: &Line<'_>,
 ) -> io::Result<u8> {
     let passphrases = Passphrases::read(rt, line);
+    let standing = use_before(rt, line, &passphrases);
     let Volumes { volume, target } = open_volumes(rt, line, &passphrases);
     let mut inputs = Inputs {
         volume,
@@ -133,13 +135,48 @@ fn run_line<R: AllocGlobal + Clock + Files<File = File> + Input + Print + Eprint
         tell(rt, err.as_slice());
     }
     drop(inputs);
+    tell_overwritten(rt, line.volume, standing, status);
     tell_more(rt, line, status);
     printed?;
     Ok(status)
 }
 
+/// The other use of the disk that an edit with `--over` is going to write over. None where the volume
+/// can't be read.
+fn use_before<R: AllocGlobal + Clock + Files<File = File>>(
+    rt: &R,
+    line: &Line<'_>,
+    passphrases: &Passphrases,
+) -> Option<OtherUse> {
+    let Command::Edit(editing) = line.command else {
+        return None;
+    };
+    if !editing.over || passphrases.end_command() {
+        return None;
+    }
+    let Ok(device) = open_locked(rt, line.volume, false, FOLDER) else {
+        return None;
+    };
+    standing_use(rt.alloc(), &mut CachedDevice::new(device))
+}
+
+/// Says that an edit that is done has written over this use of the disk.
+fn tell_overwritten<R: AllocGlobal + Eprint>(
+    rt: &R,
+    volume: &str,
+    standing: Option<OtherUse>,
+    status: u8,
+) {
+    if let (Some(found), 0) = (standing, status) {
+        let mut err = Vec::new(rt.alloc());
+        note_overwritten(found, volume, &mut err);
+        tell(rt, err.as_slice());
+    }
+}
+
 /// Says what the command itself doesn't look for: what formatting has left on the volume, where the
-/// metadata of a volume is whole of which no header counts, and of which metadata a header was made.
+/// metadata of a volume is whole of which no header counts, what else its disk is used for where only
+/// the second copy is sound, and of which metadata a header was made.
 fn tell_more<R: AllocGlobal + Clock + Files<File = File> + Eprint>(
     rt: &R,
     line: &Line<'_>,
@@ -147,6 +184,7 @@ fn tell_more<R: AllocGlobal + Clock + Files<File = File> + Eprint>(
 ) {
     match (line.command, status) {
         (Command::Format(making), 0) => tell_leftovers(rt, line.volume, making.version),
+        (Command::Check { data_: _ }, 3) => tell_other_use(rt, line.volume),
         (Command::Check { data_: _ } | Command::Show(_), 1) => tell_whole(rt, line.volume),
         (Command::Rebuild(rebuilding), 0) => tell_taken(rt, line.volume, rebuilding.second),
         _ => {}
@@ -161,6 +199,17 @@ fn tell_whole<R: AllocGlobal + Clock + Files<File = File> + Eprint>(rt: &R, volu
     };
     let mut err = Vec::new(rt.alloc());
     note_whole(rt.alloc(), &mut CachedDevice::new(device), &mut err);
+    tell(rt, err.as_slice());
+}
+
+/// Says what else the disk of a volume is used for. Where the volume can't be read any more, it says
+/// nothing.
+fn tell_other_use<R: AllocGlobal + Clock + Files<File = File> + Eprint>(rt: &R, volume: &str) {
+    let Ok(device) = open_locked(rt, volume, false, FOLDER) else {
+        return;
+    };
+    let mut err = Vec::new(rt.alloc());
+    note_other_use(rt.alloc(), &mut CachedDevice::new(device), volume, &mut err);
     tell(rt, err.as_slice());
 }
 

@@ -1,5 +1,5 @@
 -- What an edit leaves of a volume, by how the command ended.
-use Rattle.std.proofs.Common.{◌≡◌, ◌≢◌, ℕ, List, [], ◌∷◌, ◌++◌, Option, Some, None, IfSome, Result, Ok, Err, option_map, refl, sym, ap, ◌∙◌, subst, inl, inr, arith}
+use Rattle.std.proofs.Common.{◌≡◌, ◌≢◌, ℕ, List, [], ◌∷◌, ◌++◌, Bool, Option, Some, None, IfSome, Result, Ok, Err, option_map, refl, sym, ap, ◌∙◌, subst, inl, inr, arith}
 use Rattle.luks_area.specs.First.{IsLeast}
 use Rattle.luks_area.specs.declared.area.AreaName.{AreaName}
 use Rattle.luks_area.specs.declared.area.AreaName.TheVariants.{Slot, Segment}
@@ -26,6 +26,9 @@ use Rattle.luks_commands.specs.declared.answers.Answer.{Answer}
 use Rattle.luks_commands.specs.declared.answers.Status.{Status}
 use Rattle.luks_commands.specs.declared.answers.Status.TheVariants.{Done, Refused, Fault}
 use Rattle.luks_commands.specs.Answer.{answer_status, edit_fault_answer, IsWordless}
+use Rattle.luks_cli.specs.declared.edit.seen.Unseen.{Unseen}
+use Rattle.luks_cli.specs.declared.edit.seen.Unseen.TheVariants.{Untold, Used}
+use Rattle.luks_cli.specs.OtherUses.{IsUnseen, unseen_answer}
 use Rattle.luks_cli.specs.Editing.{Given, IsAsked, KeepsUnnamed, WhereFailed, IsRefused, IsReplied, RepliesAlone, SaysEdit, SparesEdit, SparesVolume, given_edit}
 use Rattle.luks_commands.specs.declared.inputs.InputFault.{InputFault}
 use Rattle.luks_commands.specs.Files.{LeavesVolume}
@@ -200,10 +203,10 @@ never_done fault.Memory is = cc
 never_done fault.Device is = cc
 
 -- the edit was run
-pub run_replied : (payload : Data) (v w : List ℕ) (e : Edit) (has_random : ℕ → List ℕ → Type 0) (u : List ℕ) → u ≡ v → (count : ℕ) (random : List ℕ)
+pub run_replied : (payload : Data) (v w : List ℕ) (over : Bool) (e : Edit) (has_random : ℕ → List ℕ → Type 0) (u : List ℕ) → u ≡ v → (count : ℕ) (random : List ℕ)
     → NeedsRandom v payload e count → has_random count random → (reply : Reply) → Replies payload u e random reply w
-    → IsReplied payload (given_edit e has_random) v w reply
-run_replied payload v w e has_random u unchanged count random needs taken reply is = record {
+    → IsReplied payload (given_edit over e has_random) v w reply
+run_replied payload v w over e has_random u unchanged count random needs taken reply is = record {
   edit = e;
   asked = refl;
   count = count;
@@ -222,31 +225,41 @@ module _ (payload : Data) (v w : List ℕ) (ended : Status) where
     rest = inl same;
   }
 
-  module _ (e : Edit) (has_random : ℕ → List ℕ → Type 0) where
+  module _ (over : Bool) (e : Edit) (has_random : ℕ → List ℕ → Type 0) where
     -- how many random bytes it takes wasn't told
     pub says_untold : (f : EditFault) → w ≡ v → TellsNeed payload v e (Err f) → ended ≡ ended_by f
-        → SaysEdit payload (given_edit e has_random) v w (ended ≡ Done) (ended ≡ Refused)
+        → SaysEdit payload (given_edit over e has_random) v w (ended ≡ Done) (ended ≡ Refused)
     says_untold f same tells told = record {
       done = λ is. absurd (never_done f (so ended (ended_by f) Done told is));
       refused = λ is. (
         same,
-        inr (inl (record {
+        inr (inr (inl (record {
           edit = e;
           asked = refl;
           fault = f;
           first = refused_at_once payload v e f tells (so ended (ended_by f) Refused told is);
-        })),
+        }))),
       );
       rest = inl same;
     }
 
+    -- nothing was seen of it
+    pub says_unseen : (unseen : Unseen) → w ≡ v → IsUnseen over v payload e unseen → ended ≡ answer_status (unseen_answer unseen)
+        → SaysEdit payload (given_edit over e has_random) v w (ended ≡ Done) (ended ≡ Refused)
+    says_unseen (Untold f) same is told = says_untold f same is told
+    says_unseen (Used found) same is told = record {
+      done = λ d. absurd (not_so ended Refused Done told (λ e. cc) d);
+      refused = λ r. (same, inr (inl (record { found = found; barred = is })));
+      rest = inl same;
+    }
+
     module _ (u : List ℕ) (unchanged : u ≡ v) (count : ℕ) (random : List ℕ) (needs : NeedsRandom v payload e count) (taken : has_random count random) where
-      replied : (reply : Reply) → Replies payload u e random reply w → IsReplied payload (given_edit e has_random) v w reply
-      replied reply is = run_replied payload v w e has_random u unchanged count random needs taken reply is
+      replied : (reply : Reply) → Replies payload u e random reply w → IsReplied payload (given_edit over e has_random) v w reply
+      replied reply is = run_replied payload v w over e has_random u unchanged count random needs taken reply is
 
       -- the edit was completed
       pub says_made : (made : Made) → RepliesAlone payload u e random (Ok made) w → ended ≡ Done
-          → SaysEdit payload (given_edit e has_random) v w (ended ≡ Done) (ended ≡ Refused)
+          → SaysEdit payload (given_edit over e has_random) v w (ended ≡ Done) (ended ≡ Refused)
       says_made made (inl none) told = absurd (not_made made fault.Memory none.0)
       says_made made (inr is) told = record {
         done = λ _. record { done = made; replied = replied (Ok made) is };
@@ -256,12 +269,12 @@ module _ (payload : Data) (v w : List ℕ) (ended : Status) where
 
       -- a fault ended it
       pub says_fault : (f : EditFault) → RepliesAlone payload u e random (Err f) w → ended ≡ ended_by f
-          → SaysEdit payload (given_edit e has_random) v w (ended ≡ Done) (ended ≡ Refused)
+          → SaysEdit payload (given_edit over e has_random) v w (ended ≡ Done) (ended ≡ Refused)
       says_fault f is told = record {
         done = λ same. absurd (never_done f (so ended (ended_by f) Done told same));
         refused = λ same. let by = refused_by payload u w e random f is (so ended (ended_by f) Refused told same) in (
           by.0 ∙ unchanged,
-          inr (inr (record {
+          inr (inr (inr (record {
             edit = e;
             asked = refl;
             count = count;
@@ -270,7 +283,7 @@ module _ (payload : Data) (v w : List ℕ) (ended : Status) where
             taken = taken;
             fault = f;
             first = subst (λ x. Refusal x payload e random f) unchanged by.1;
-          })),
+          }))),
         );
         rest = elim is [
           | inl none ↦ inl (none.1 ∙ unchanged)
@@ -302,15 +315,16 @@ replied_as payload given other v w reply asks has x = record {
 }
 
 refused_as : (payload : Data) (given other : Given) (v : List ℕ) → ((e : Edit) → given.asks e → other.asks e)
-    → ((n : ℕ) (b : List ℕ) → given.has_random n b → other.has_random n b) → (given.is_long → other.is_long) → IsRefused payload given v → IsRefused payload other v
-refused_as payload given other v asks has long (inl is) = inl (long is)
-refused_as payload given other v asks has long (inr (inl x)) = inr (inl (record {
+    → ((n : ℕ) (b : List ℕ) → given.has_random n b → other.has_random n b) → (given.is_long → other.is_long) → given.over ≡ other.over → IsRefused payload given v → IsRefused payload other v
+refused_as payload given other v asks has long over (inl is) = inl (long is)
+refused_as payload given other v asks has long over (inr (inl x)) = inr (inl (record { found = x.found; barred = (sym over ∙ x.barred.0, x.barred.1) }))
+refused_as payload given other v asks has long over (inr (inr (inl x))) = inr (inr (inl (record {
   edit = x.edit;
   asked = asks x.edit x.asked;
   fault = x.fault;
   first = x.first;
-}))
-refused_as payload given other v asks has long (inr (inr x)) = inr (inr (record {
+})))
+refused_as payload given other v asks has long over (inr (inr (inr x))) = inr (inr (inr (record {
   edit = x.edit;
   asked = asks x.edit x.asked;
   count = x.count;
@@ -319,14 +333,14 @@ refused_as payload given other v asks has long (inr (inr x)) = inr (inr (record 
   taken = has x.count x.random x.taken;
   fault = x.fault;
   first = x.first;
-}))
+})))
 
 pub says_as : (payload : Data) (given other : Given) (v w : List ℕ) (D R D' R' : Type 0) → ((e : Edit) → given.asks e → other.asks e)
-    → ((n : ℕ) (b : List ℕ) → given.has_random n b → other.has_random n b) → (given.is_long → other.is_long) → (D' → D) → (R' → R)
+    → ((n : ℕ) (b : List ℕ) → given.has_random n b → other.has_random n b) → (given.is_long → other.is_long) → given.over ≡ other.over → (D' → D) → (R' → R)
     → SaysEdit payload given v w D R → SaysEdit payload other v w D' R'
-says_as payload given other v w D R D' R' asks has long of_done of_refused x = record {
+says_as payload given other v w D R D' R' asks has long over of_done of_refused x = record {
   done = λ is. let c = x.done (of_done is) in record { done = c.done; replied = replied_as payload given other v w (Ok c.done) asks has c.replied };
-  refused = λ is. let r = x.refused (of_refused is) in (r.0, refused_as payload given other v asks has long r.1);
+  refused = λ is. let r = x.refused (of_refused is) in (r.0, refused_as payload given other v asks has long over r.1);
   rest = elim x.rest [
     | inl same ↦ inl same
     | inr y ↦ inr (y.0, replied_as payload given other v w y.0 asks has y.1)
@@ -341,11 +355,11 @@ spared_as payload given other v w asks has (inl same) = inl same
 spared_as payload given other v w asks has (inr x) = inr (record { replied = replied_as payload given other v w (Err fault.Device) asks has x.replied; spares = x.spares })
 
 -- where the device failed in the edit that was run, its reply and what it spares are those of the command
-pub spared_edit : (payload : Data) (v u w : List ℕ) (e : Edit) (has_random : ℕ → List ℕ → Type 0) → u ≡ v → (count : ℕ) (random : List ℕ)
+pub spared_edit : (payload : Data) (v u w : List ℕ) (over : Bool) (e : Edit) (has_random : ℕ → List ℕ → Type 0) → u ≡ v → (count : ℕ) (random : List ℕ)
     → NeedsRandom v payload e count → has_random count random → (f : EditFault) → RepliesAlone payload u e random (Err f) w
-    → (ended_in f ≡ Err fault.Device) × Spares u payload e random w → SparesEdit payload (given_edit e has_random) v w
-spared_edit payload v u w e has_random unchanged count random needs taken f (inl none) x = inl (none.1 ∙ unchanged)
-spared_edit payload v u w e has_random unchanged count random needs taken f (inr by) x = inr (record {
+    → (ended_in f ≡ Err fault.Device) × Spares u payload e random w → SparesEdit payload (given_edit over e has_random) v w
+spared_edit payload v u w over e has_random unchanged count random needs taken f (inl none) x = inl (none.1 ∙ unchanged)
+spared_edit payload v u w over e has_random unchanged count random needs taken f (inr by) x = inr (record {
   replied = record {
     edit = e;
     asked = refl;

@@ -1,2 +1,3 @@
 pub mod EditAnswerFacts
 pub mod EditFacts
+pub mod OtherUseFacts

@@ -1,5 +1,5 @@
 -- What the commands that edit may answer.
-use Rattle.std.specs.Prelude.{◌≡◌, ◌⊎◌, ℕ, ◌+◌, List, Option, Result, Ok, Err}
+use Rattle.std.specs.Prelude.{◌≡◌, ◌⊎◌, ℕ, ◌+◌, List, Option, Some, Result, Ok, Err}
 use Rattle.luks_area.specs.First.{IsLeast}
 use Rattle.luks_reading.specs.declared.report.Data.{Data}
 use Rattle.luks_edit.specs.declared.edit.Done.{Done as Made}
@@ -10,10 +10,11 @@ use Rattle.luks_edit.specs.EditFaults.{edit_key}
 use Rattle.luks_volume.specs.Needed.{IsNeedFault, NeedsRandom}
 use Rattle.luks_commands.specs.declared.answers.Answer.{Answer}
 use Rattle.luks_commands.specs.declared.answers.Answer.TheVariants.{Done, Refused, DeviceFault, NoMemory}
-use Rattle.luks_commands.specs.declared.answers.Refusal.TheVariants.{Edit, LongPassphrase}
+use Rattle.luks_commands.specs.declared.answers.Refusal.TheVariants.{Edit, LongPassphrase, OtherUse}
 use Rattle.luks_commands.specs.declared.inputs.InputFault.{InputFault}
 use Rattle.luks_commands.specs.Answer.{IsWordless, unread_answer}
 use Rattle.luks_cli.specs.Editing.{Given, IsReplied, Lacking}
+use Rattle.luks_cli.specs.OtherUses.{Bars}
 
 -- as many random bytes as the edit takes of the volume `v` can't be read
 pub record LacksRandom (payload : Data) (given : Given) (lacks : Lacking) (v : List ℕ) : Type 0 where
@@ -51,6 +52,7 @@ IsRefusedBy payload given v w f = ((w ≡ v) × IsFirstSeen payload given v f) �
 abbrev pub IsEditAnswer : Type 0 → Data → Given → Lacking → List ℕ → List ℕ → ℕ → ℕ → Answer → Type 0
 IsEditAnswer tells payload given lacks v w before after (Done slot) = (after ≡ before) × (tells → IsDoneWith payload given v w slot)
 IsEditAnswer tells payload given lacks v w before after (Refused LongPassphrase) = (after ≡ before) × (tells → w ≡ v) × given.is_long
+IsEditAnswer tells payload given lacks v w before after (Refused (OtherUse found)) = (after ≡ before) × (tells → (w ≡ v) × Bars given.over v (Some found))
 IsEditAnswer tells payload given lacks v w before after (Refused (Edit fault.Device)) = ⊥
 IsEditAnswer tells payload given lacks v w before after (Refused (Edit fault.Memory)) = ⊥
 IsEditAnswer tells payload given lacks v w before after (Refused (Edit f)) = (after ≡ before) × (tells → IsRefusedBy payload given v w f)

@@ -1,5 +1,5 @@
 -- What the commands that edit leave of their volume.
-use Rattle.std.specs.Prelude.{◌≡◌, ◌⊎◌, ℕ, List, Option, Result, Ok, Err, ⊤}
+use Rattle.std.specs.Prelude.{◌≡◌, ◌⊎◌, ℕ, List, Option, Some, Bool, Result, Ok, Err, ⊤}
 use Rattle.luks_area.specs.First.{IsLeast}
 use Rattle.luks_reading.specs.declared.report.Data.{Data}
 use Rattle.luks_reading.specs.Checked.{WellFormed}
@@ -14,6 +14,7 @@ use Rattle.luks_edit.specs.Ran.{Reply}
 use Rattle.luks_volume.specs.Edits.{NamedSlots, Refusal, Replies}
 use Rattle.luks_volume.specs.Needed.{IsNeedFault, NeedsRandom}
 use Rattle.luks_volume.specs.Outcome.{Spares}
+use Rattle.luks_signatures.specs.declared.other_use.OtherUse.{OtherUse}
 use Rattle.luks_request.specs.declared.request.Command.{Command}
 use Rattle.luks_request.specs.declared.request.Command.TheVariants as command
 use Rattle.luks_request.specs.declared.request.EditRequest.{EditRequest}
@@ -24,6 +25,7 @@ use Rattle.luks_commands.specs.declared.inputs.Inputs.{Inputs}
 use Rattle.luks_request.specs.Named.{edit_new_of, edit_passphrase_of}
 use Rattle.luks_commands.specs.OpenAnswers.{kib_of}
 use Rattle.luks_commands.specs.Files.{AreFirstBytes, IsLong, IsUnread, IsUnreadRandom, IsWhole, OfNamed}
+use Rattle.luks_cli.specs.OtherUses.{Bars}
 
 -- ---- what is asked for
 
@@ -52,13 +54,16 @@ pub record Given : Type 1 where
   pub has_random : ℕ → List ℕ → Type 0
   -- a passphrase is too long, so that there is none
   pub is_long : Type 0
+  -- whether it may write over another use of the disk
+  pub over : Bool
 
--- by what the files of the command line have
-abbrev pub given_by : {D R N : Type 0} → EditRequest → (R → Option (List ℕ)) → (N → Option (List ℕ)) → Inputs D R N → Given
-given_by request of_passphrase of_random inputs = record {
-  asks = IsAsked request (IsWhole of_passphrase inputs.passphrase) (IsWhole of_passphrase inputs.new_passphrase);
+-- by what the command line says and its files have
+abbrev pub given_by : {D R N : Type 0} → Editing → (R → Option (List ℕ)) → (N → Option (List ℕ)) → Inputs D R N → Given
+given_by editing of_passphrase of_random inputs = record {
+  asks = IsAsked editing.request (IsWhole of_passphrase inputs.passphrase) (IsWhole of_passphrase inputs.new_passphrase);
   has_random = λ count. AreFirstBytes count of_random inputs.random;
-  is_long = OfNamed (edit_passphrase_of request) (IsLong of_passphrase inputs.passphrase) ⊎ OfNamed (edit_new_of request) (IsLong of_passphrase inputs.new_passphrase);
+  is_long = OfNamed (edit_passphrase_of editing.request) (IsLong of_passphrase inputs.passphrase) ⊎ OfNamed (edit_new_of editing.request) (IsLong of_passphrase inputs.new_passphrase);
+  over = editing.over;
 }
 
 -- by which faults the files of an edit can't be read: that of a passphrase, and that of so many random bytes
@@ -78,8 +83,8 @@ abbrev pub lacking_random : (ℕ → InputFault → Type 0) → Lacking
 lacking_random random = record { words = λ f. ⊥; random = random }
 
 -- the edit is this one
-abbrev pub given_edit : Edit → (ℕ → List ℕ → Type 0) → Given
-given_edit edit has_random = record { asks = λ e. e ≡ edit; has_random = has_random; is_long = ⊥ }
+abbrev pub given_edit : Bool → Edit → (ℕ → List ℕ → Type 0) → Given
+given_edit over edit has_random = record { asks = λ e. e ≡ edit; has_random = has_random; is_long = ⊥; over = over }
 
 -- ---- what comes of it, at the volume `v`
 
@@ -116,8 +121,13 @@ pub record IsRefusedAtOnce (payload : Data) (given : Given) (v : List ℕ) : Typ
   pub fault : EditFault
   pub first : IsLeast edit_key (IsNeedFault v payload edit) fault
 
+-- it was refused since the disk has another use, which it may not write over
+pub record IsRefusedByUse (given : Given) (v : List ℕ) : Type 0 where
+  pub found : OtherUse
+  pub barred : Bars given.over v (Some found)
+
 abbrev pub IsRefused : Data → Given → List ℕ → Type 0
-IsRefused payload given v = given.is_long ⊎ IsRefusedAtOnce payload given v ⊎ IsRefusedLate payload given v
+IsRefused payload given v = given.is_long ⊎ IsRefusedByUse given v ⊎ IsRefusedAtOnce payload given v ⊎ IsRefusedLate payload given v
 
 -- what is told of the volume `v` that the command left as `w`, by whether it says that the edit is
 -- done, or refused. Whatever it says, the volume is as it was, or as the edit's reply leaves it

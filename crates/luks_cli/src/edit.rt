@@ -9,6 +9,7 @@ ghost use Rattle.luks_commands.specs.Answer.{answer_status, edit_fault_answer, P
 ghost use Rattle.luks_cli.specs.EditAnswers.{AnswersEdit, IsEditAnswer};
 ghost use Rattle.luks_cli.specs.Editing.{given_by, given_edit, KeepsUnnamed, lacking_by, lacking_random, SaysEdit};
 ghost use Rattle.luks_cli.specs.Editing.{SparesEdit, SparesVolume, WhereFailed};
+ghost use Rattle.luks_cli.specs.OtherUses.{HoldsBack, HoldsBackVolume, unseen_answer};
 ghost use Rattle.luks_commands.specs.Exit.{IsExitStatus};
 ghost use Rattle.luks_commands.specs.Files.{AreFirstBytes, IsUnreadRandom, LeavesSettled, LeavesVolume};
 
@@ -26,7 +27,7 @@ use luks_commands::{
 use luks_request::Editing;
 use luks_volume::{Device, Edit, EditFault};
 use one_edit::run_edit;
-use seen::{note_refused, note_wanting, note_weaker, see};
+use seen::{Unseen, note_refused, note_wanting, note_weaker, see};
 use std::alloc::Global;
 use std::io::{Read, Write};
 use words::words;
@@ -48,20 +49,23 @@ pub(crate) fn run<D: Device, R: Read, N: Read, P: Printer, E: Write>(
         inputs.old.volume inputs.new.volume }
     ensures status { IsExitStatus result }
     ensures left { LeavesVolume D.tells D.size D.bytes (λ old new. SaysEdit editing.now.data_
-        (given_by editing.now.request R.remaining N.remaining inputs.old) old new
+        (given_by editing.now R.remaining N.remaining inputs.old) old new
         (result ≡ 0) (result ≡ 1)) inputs.old.volume inputs.new.volume }
     ensures keeps { KeepsUnnamed D.tells D.failed D.bytes editing.now
         inputs.old.volume inputs.new.volume }
     ensures failure { WhereFailed D.failed inputs.old.volume inputs.new.volume (result ≡ 4) }
     ensures spared { SparesVolume D.tells D.failed D.bytes editing.now.data_
-        (given_by editing.now.request R.remaining N.remaining inputs.old)
+        (given_by editing.now R.remaining N.remaining inputs.old)
         inputs.old.volume inputs.new.volume }
     ensures target { inputs.new.target ≡ inputs.old.target }
     ensures kinds { result ≢ 3 }
     ensures unread { IfErr inputs.old.volume (λ _. result ≢ 0) }
     ensures answers { Prints (AnswersEdit D.tells D.bytes D.failed editing.now.data_
-        (given_by editing.now.request R.remaining N.remaining inputs.old)
+        (given_by editing.now R.remaining N.remaining inputs.old)
         (lacking_by editing.now.request inputs.old) inputs.old.volume inputs.new.volume)
+        (P.failures out.old) (P.failures out.new) (P.printed out.old) (P.printed out.new) result }
+    ensures over { Prints (HoldsBackVolume D.tells D.bytes editing.now.over
+        inputs.old.volume inputs.new.volume)
         (P.failures out.old) (P.failures out.new) (P.printed out.old) (P.printed out.new) result }
 {
     let answer = edit_volume(alloc, inputs, name, editing, err);
@@ -81,7 +85,7 @@ fn edit_volume<D: Device, R: Read, N: Read, E: Write>(
     ensures settled { LeavesSettled D.tells D.failed D.unsettled
         inputs.old.volume inputs.new.volume }
     ensures left { LeavesVolume D.tells D.size D.bytes (λ old new. SaysEdit editing.now.data_
-        (given_by editing.now.request R.remaining N.remaining inputs.old) old new
+        (given_by editing.now R.remaining N.remaining inputs.old) old new
         (answer_status result ≡ Status.Done) (answer_status result ≡ Status.Refused))
         inputs.old.volume inputs.new.volume }
     ensures keeps { KeepsUnnamed D.tells D.failed D.bytes editing.now
@@ -89,14 +93,16 @@ fn edit_volume<D: Device, R: Read, N: Read, E: Write>(
     ensures failure { WhereFailed D.failed inputs.old.volume inputs.new.volume
         (answer_status result ≡ Status.Fault) }
     ensures spared { SparesVolume D.tells D.failed D.bytes editing.now.data_
-        (given_by editing.now.request R.remaining N.remaining inputs.old)
+        (given_by editing.now R.remaining N.remaining inputs.old)
         inputs.old.volume inputs.new.volume }
     ensures target { inputs.new.target ≡ inputs.old.target }
     ensures kinds { answer_status result ≢ Status.NotInStep }
     ensures unread { IfErr inputs.old.volume (λ _. answer_status result ≢ Status.Done) }
     ensures answers { AnswersEdit D.tells D.bytes D.failed editing.now.data_
-        (given_by editing.now.request R.remaining N.remaining inputs.old)
+        (given_by editing.now R.remaining N.remaining inputs.old)
         (lacking_by editing.now.request inputs.old) inputs.old.volume inputs.new.volume result }
+    ensures over { HoldsBackVolume D.tells D.bytes editing.now.over
+        inputs.old.volume inputs.new.volume result }
 {
     let request = &editing.request;
     let old = match words(alloc, &mut inputs.passphrase, request.passphrase(), err) {
@@ -137,7 +143,7 @@ fn edit_device<D: Device, N: Read, E: Write>(
         → IsSettled D.unsettled device.new }
     ensures size { D.size device.new ≡ D.size device.old }
     ensures says { D.tells → SaysEdit editing.now.data_
-        (given_edit edit.now (λ count. AreFirstBytes count N.remaining random.old))
+        (given_edit editing.now.over edit.now (λ count. AreFirstBytes count N.remaining random.old))
         (D.bytes device.old) (D.bytes device.new)
         (answer_status result ≡ Status.Done) (answer_status result ≡ Status.Refused) }
     ensures keeps { D.tells → WellFormed (D.bytes device.old) editing.now.data_
@@ -148,19 +154,21 @@ fn edit_device<D: Device, N: Read, E: Write>(
         → answer_status result ≡ Status.Fault }
     ensures spared { D.tells → WellFormed (D.bytes device.old) editing.now.data_
         → (D.failed device.new ≡ D.failed device.old → ⊥) → SparesEdit editing.now.data_
-        (given_edit edit.now (λ count. AreFirstBytes count N.remaining random.old))
+        (given_edit editing.now.over edit.now (λ count. AreFirstBytes count N.remaining random.old))
         (D.bytes device.old) (D.bytes device.new) }
     ensures kinds { answer_status result ≢ Status.NotInStep }
     ensures answers { IsEditAnswer D.tells editing.now.data_
-        (given_edit edit.now (λ count. AreFirstBytes count N.remaining random.old))
+        (given_edit editing.now.over edit.now (λ count. AreFirstBytes count N.remaining random.old))
         (lacking_random (λ count. IsUnreadRandom count random.old))
         (D.bytes device.old) (D.bytes device.new) (D.failed device.old) (D.failed device.new)
         result }
+    ensures over { D.tells
+        → HoldsBack editing.now.over (D.bytes device.old) (D.bytes device.new) result }
 {
     let payload = editing.data_;
-    let seen = match see(alloc, device, payload, edit) {
+    let seen = match see(alloc, device, editing, edit) {
         Ok(seen) => seen,
-        Err(fault) => return not_begun(fault, name, err),
+        Err(unseen) => return not_begun(unseen, name, err),
     };
     let random = match random_bytes(alloc, random, seen.needed) {
         Ok(bytes) => bytes,
@@ -182,19 +190,20 @@ fn edit_device<D: Device, N: Read, E: Write>(
     }
 }
 
-/// What is answered where this fault ended the edit of the volume of this name before it was run.
-#[tactic(auto, using(crate::proofs::EditAnswerFacts::edit_kinds))]
-fn not_begun<E: Write>(fault: EditFault, name: &str, err: &mut E) -> Answer
-    ensures answer { result ≡ edit_fault_answer fault }
+/// What is answered where the edit of the volume of this name ended before it was run.
+#[tactic(auto, using(crate::proofs::EditAnswerFacts::unseen_kinds))]
+fn not_begun<E: Write>(unseen: Unseen, name: &str, err: &mut E) -> Answer
+    ensures answer { result ≡ unseen_answer unseen }
     ensures kinds { answer_status result ≢ Status.NotInStep }
 {
-    match fault {
-        EditFault::Device => device_fault(name, "reading failed", err),
-        fault => Answer::from(fault),
+    match unseen {
+        Unseen::Used(found) => Answer::Refused(Refusal::OtherUse(found)),
+        Unseen::Untold(EditFault::Device) => device_fault(name, "reading failed", err),
+        Unseen::Untold(fault) => Answer::from(fault),
     }
 }
 
-/// What is answered where it ended it when it was run with these random bytes, and what is said of a
+/// What is answered where a fault ended it when it was run with these random bytes, and what is said of a
 /// keyslot of Argon2 then.
 #[tactic(auto, using(crate::proofs::EditAnswerFacts::edit_kinds))]
 fn not_done<E: Write>(

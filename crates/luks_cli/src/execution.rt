@@ -7,6 +7,7 @@ ghost use Rattle.luks_commands.specs.Checked.{SaysCheck, WhereCheck};
 ghost use Rattle.luks_cli.specs.EditAnswers.{AnswersEdit};
 ghost use Rattle.luks_cli.specs.Editing.{given_by, KeepsUnnamed, lacking_by, SaysEdit, SparesVolume};
 ghost use Rattle.luks_cli.specs.Editing.{WhereEdit, WhereFailed};
+ghost use Rattle.luks_cli.specs.OtherUses.{HoldsBackVolume};
 ghost use Rattle.luks_commands.specs.Exit.{IsExitStatus};
 ghost use Rattle.luks_commands.specs.Files.{AreFirstBytes, IsLong, IsUnread, IsUnreadRandom, IsWhole};
 ghost use Rattle.luks_commands.specs.Files.{KeepsVolume, LeavesSettled, LeavesVolume, UnlessWriter};
@@ -61,14 +62,14 @@ pub fn execute<D: Device, R: Read, N: Read, P: Printer, E: Write>(
     // failed that 4 tells of it, and what is spared.
     ensures edit { WhereEdit line.now.command (λ editing. LeavesVolume D.tells D.size D.bytes
         (λ old new. SaysEdit editing.data_
-        (given_by editing.request R.remaining N.remaining inputs.old) old new
+        (given_by editing R.remaining N.remaining inputs.old) old new
         (result ≡ 0) (result ≡ 1)) inputs.old.volume inputs.new.volume) }
     ensures keeps { WhereEdit line.now.command (λ editing. KeepsUnnamed D.tells D.failed D.bytes
         editing inputs.old.volume inputs.new.volume) }
     ensures failure { WhereEdit line.now.command (λ editing. WhereFailed D.failed
         inputs.old.volume inputs.new.volume (result ≡ 4)) }
     ensures spared { WhereEdit line.now.command (λ editing. SparesVolume D.tells D.failed D.bytes
-        editing.data_ (given_by editing.request R.remaining N.remaining inputs.old)
+        editing.data_ (given_by editing R.remaining N.remaining inputs.old)
         inputs.old.volume inputs.new.volume) }
     ensures format { WhereFormat line.now.command (λ making. LeavesVolume D.tells D.size D.bytes
         (λ old new. SaysFormat making (IsWhole R.remaining inputs.old.passphrase)
@@ -130,8 +131,13 @@ pub fn execute<D: Device, R: Read, N: Read, P: Printer, E: Write>(
         (P.failures out.old) (P.failures out.new) (P.printed out.old) (P.printed out.new) result) }
     ensures edited { WhereEdit line.now.command (λ editing. Prints
         (AnswersEdit D.tells D.bytes D.failed editing.data_
-        (given_by editing.request R.remaining N.remaining inputs.old)
+        (given_by editing R.remaining N.remaining inputs.old)
         (lacking_by editing.request inputs.old) inputs.old.volume inputs.new.volume)
+        (P.failures out.old) (P.failures out.new) (P.printed out.old) (P.printed out.new) result) }
+    // Where the disk has another use that isn't to be written over, no byte changes, and that is what
+    // refuses the edit.
+    ensures over { WhereEdit line.now.command (λ editing. Prints
+        (HoldsBackVolume D.tells D.bytes editing.over inputs.old.volume inputs.new.volume)
         (P.failures out.old) (P.failures out.new) (P.printed out.old) (P.printed out.new) result) }
     ensures formatted { WhereFormat line.now.command (λ making. Prints
         (AnswersFormat D.tells D.size D.bytes D.failed making

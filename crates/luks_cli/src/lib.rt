@@ -5,6 +5,7 @@
 
 mod edit;
 mod execution;
+mod other_use;
 
 pub use execution::execute;
 pub use luks_commands::{
@@ -13,3 +14,5 @@ pub use luks_commands::{
 pub use luks_request::{
     Command, Converting, EditRequest, Editing, Line, Making, NewVersion, Rebuilding, ShowAs,
 };
+pub use luks_signatures::OtherUse;
+pub use other_use::{note_other_use, note_overwritten, standing_use};

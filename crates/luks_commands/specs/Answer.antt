@@ -21,6 +21,7 @@ use Rattle.luks_converting.specs.FaultTexts.{convert_fault_text}
 use Rattle.luks_rebuilding.specs.declared.rebuild_fault.RebuildFault.{RebuildFault}
 use Rattle.luks_rebuilding.specs.declared.rebuild_fault.RebuildFault.TheVariants as rebuilding
 use Rattle.luks_rebuilding.specs.FaultTexts.{rebuild_fault_text}
+use Rattle.luks_signatures.specs.UseTexts.{use_text}
 use Rattle.luks_commands.specs.declared.answers.Answer.{Answer}
 use Rattle.luks_commands.specs.declared.answers.Answer.TheVariants.{Accepted, Listed, Json, Opens, Closed, NoneOpens, Done, Refused, DeviceFault, NoMemory}
 use Rattle.luks_commands.specs.declared.answers.Refusal.{Refusal}
@@ -52,6 +53,7 @@ refusal_text (refusal.Format f) = format_fault_text f
 refusal_text (refusal.Convert f) = convert_fault_text f
 refusal_text (refusal.Rebuild f) = rebuild_fault_text f
 refusal_text refusal.SameFile = codes "SameFile"
+refusal_text (refusal.OtherUse found) = codes "OtherUse(" ++ use_text found ++ codes ")"
 
 -- what is printed; of a LUKS2 header that is shown line by line it isn't told
 abbrev pub line_of : Answer → Option (List ℕ)

@@ -12,6 +12,7 @@ use luks_formatting::FormatFault;
 use luks_reading::{CheckFault, Copies, OpenFault, Version};
 use luks_rebuilding::RebuildFault;
 use luks_show::{Listing, copies_name};
+use luks_signatures::OtherUse;
 use std::fmt;
 use std::io::Write;
 
@@ -48,6 +49,8 @@ pub enum Refusal {
     Rebuild(RebuildFault),
     /// What is to be written is the volume itself.
     SameFile,
+    /// The disk has another use by now, which the edit would write over.
+    OtherUse(OtherUse),
 }
 
 impl fmt::Display for Refusal {
@@ -63,6 +66,7 @@ impl fmt::Display for Refusal {
             Refusal::Convert(fault) => write!(f, "{fault}"),
             Refusal::Rebuild(fault) => write!(f, "{fault}"),
             Refusal::SameFile => f.write_str("SameFile"),
+            Refusal::OtherUse(found) => write!(f, "OtherUse({found})"),
         }
     }
 }

@@ -54,6 +54,7 @@ name_of fault.NotLuks1 = codes "NotLuks1"
 name_of fault.SameFile = codes "SameFile"
 name_of fault.Counts = codes "Counts"
 name_of fault.NoMetadata = codes "NoMetadata"
+name_of fault.OtherUse = codes "OtherUse"
 
 -- each of them, once
 abbrev pub all_faults : List Fault
@@ -102,6 +103,7 @@ all_faults =
     ∷ fault.SameFile
     ∷ fault.Counts
     ∷ fault.NoMetadata
+    ∷ fault.OtherUse
     ∷ []
 
 -- the fault of a name, if there is one
@@ -154,3 +156,4 @@ named fault.NotLuks1 = refl
 named fault.SameFile = refl
 named fault.Counts = refl
 named fault.NoMetadata = refl
+named fault.OtherUse = refl

@@ -96,12 +96,15 @@ pub enum Fault {
     Counts,
     /// Of rebuild: no metadata of SOURCE is whole.
     NoMetadata,
+    /// LUKS2: the disk has another use, in the place of the first copy.
+    OtherUse,
 }
 
 impl Fault {
     /// Every fault: of the header, the metadata of LUKS2, the areas, the keyslot that is to be opened,
-    /// and at last of an edit, of formatting, of converting and of rebuilding.
-    pub const ALL: [Fault; 44] = [
+    /// then of an edit, of formatting, of converting and of rebuilding, and at last of another use of the
+    /// disk.
+    pub const ALL: [Fault; 45] = [
         Fault::TooShort,
         Fault::NotLuks,
         Fault::Version,
@@ -146,6 +149,7 @@ impl Fault {
         Fault::SameFile,
         Fault::Counts,
         Fault::NoMetadata,
+        Fault::OtherUse,
     ];
 
     /// The fault that is so printed, or that has this name; None where none has.
@@ -206,6 +210,7 @@ impl Fault {
             Fault::SameFile => "SameFile",
             Fault::Counts => "Counts",
             Fault::NoMetadata => "NoMetadata",
+            Fault::OtherUse => "OtherUse",
         }
     }
 

@@ -48,6 +48,7 @@ pub(crate) fn means(fault: Fault) -> &'static str {
         Fault::SameFile => "TARGET is SOURCE",
         Fault::Counts => "of rebuild: a header of SOURCE counts",
         Fault::NoMetadata => "of rebuild: no metadata of SOURCE is whole",
+        Fault::OtherUse => "LUKS2: the disk has another use, in the place of the first copy",
     }
 }
 
@@ -131,6 +132,10 @@ pub(crate) fn place(fault: Fault) -> &'static str {
         }
         Fault::Counts => "rebuild: SOURCE",
         Fault::NoMetadata => "rebuild: each copy's JSON area in SOURCE",
+        Fault::OtherUse => {
+            "OtherUse(NAME), of add, change, remove, repair and label: its signature
+       before the second copy, which alone is sound"
+        }
     }
 }
 
@@ -200,7 +205,8 @@ pub(crate) fn safe(fault: Fault) -> &'static str {
         | Fault::NotLuks1
         | Fault::SameFile
         | Fault::Counts
-        | Fault::NoMetadata => { "everything: nothing was written" }
+        | Fault::NoMetadata
+        | Fault::OtherUse => { "everything: nothing was written" }
         Fault::Argon2 => { "everything: the passphrase goes through Argon2, which takes memory" }
         Fault::Cipher | Fault::KeySize => "everything: luks doesn't decrypt such a key area",
         Fault::Hash => "everything: luks doesn't know such a hash",
@@ -216,16 +222,19 @@ pub(crate) fn next(fault: Fault) -> &'static str {
         }
         Fault::NotLuks => {
             "see whether it is the right device: a partition of a disk's image begins
-       further in; after wipefs or mkswap put the magic back, on a copy of the
-       header; else restore a header backup"
+       further in; luks rebuild makes a header where luks check says that
+       metadata is whole; of LUKS1 after wipefs put the magic back, on a copy of
+       the header; else restore a header backup"
         }
         Fault::Version => {
             "of LUKS1 put \\0\\1 back at byte 6, on a copy of the header; of LUKS2 more
-       is damaged, as by a partition table: restore a header backup"
+       is damaged, as by a partition table: luks rebuild makes a header where
+       luks check says that metadata is whole; else restore a header backup"
         }
         Fault::NoSoundCopy => {
             "see whether the image is whole; read a disk that fails again, to an
-       image; else restore a header backup (no repair helps)"
+       image; luks rebuild makes a header where luks check says that metadata
+       is whole; else restore a header backup (no repair helps)"
         }
         Fault::Text => {
             "of LUKS1 put the text back on a copy of the header, as aes at byte 8,
@@ -256,8 +265,9 @@ pub(crate) fn next(fault: Fault) -> &'static str {
        backup"
         }
         Fault::Kind => {
-            "finish a reencryption by cryptsetup reencrypt --resume-only, after a
-       backup; else where cryptsetup opens the volume it is right to"
+            "it is mostly a reencryption under way: finish it by cryptsetup reencrypt
+       --resume-only, after a backup; else where cryptsetup opens the volume it
+       is right to"
         }
         Fault::Region => {
             "Region(Segment(0)) is mostly a detached header: give --detached; else
@@ -271,7 +281,9 @@ pub(crate) fn next(fault: Fault) -> &'static str {
         }
         Fault::Overlap => {
             "of a header alone say --detached; luks show lists the places: put back
-       the wrong one, on a copy of the header; else restore a header backup"
+       the wrong one, on a copy of the header; where key-bytes isn't 64 or 32
+       (LUKS1, 4 bytes at 108) put that back: it makes every area as long; else
+       restore a header backup"
         }
         Fault::NoSuchSlot => "luks show lists the keyslots that there are",
         Fault::SlotFree => {
@@ -322,5 +334,9 @@ pub(crate) fn next(fault: Fault) -> &'static str {
         Fault::SameFile => "give a file of its own as TARGET: truncate -s 16M TARGET makes one",
         Fault::Counts => "luks opens it as it is; luks repair writes both copies anew",
         Fault::NoMetadata => "a backup of the header, by cryptsetup luksHeaderRestore",
+        Fault::OtherUse => {
+            "if the other use counts, leave it: luks open and show work as ever; else
+       the same command with --over takes it away"
+        }
     }
 }

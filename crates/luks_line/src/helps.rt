@@ -137,13 +137,18 @@ Beside a keyslot by Argon2 the new one is by Argon2 too, of the same costs, and
 --iterations counts for nothing. Memory is taken for it by --memory alone, once
 to open the one and once to seal the other; standard error says how much.
 
+Where only the second copy of a LUKS2 header is sound and another use of the
+disk, as a file system or a partition table, stands in the place of the first,
+nothing is written but with --over.
+
 Prints one line:
   done slot N    keyslot N is made
   refused FAULT  the first fault, and nothing was written: what check refuses,
-                 Requirements, NoSuchSlot, Locked (the passphrase doesn't open
-                 it), Argon2, Cipher, Hash, KeySize, SlotTaken, NoFreeSlot,
-                 NoRoom, Iterations, SeqExhausted, MetadataFull, RandomLength
-                 (the random file is too short), or Passphrase (one is too long)
+                 OtherUse (as above), Requirements, NoSuchSlot, Locked (the
+                 passphrase doesn't open it), Argon2, Cipher, Hash, KeySize,
+                 SlotTaken, NoFreeSlot, NoRoom, Iterations, SeqExhausted,
+                 MetadataFull, RandomLength (the random file is too short), or
+                 Passphrase (one is too long)
   device fault   a file can't be read, or the volume read or written
   no memory      memory was refused; nothing was written
 
@@ -180,13 +185,18 @@ A keyslot by Argon2 stays so, by the same costs, and --iterations counts for
 nothing. Memory is taken for it by --memory alone, once to open it and once to
 seal it; standard error says how much.
 
+Where only the second copy of a LUKS2 header is sound and another use of the
+disk, as a file system or a partition table, stands in the place of the first,
+nothing is written but with --over.
+
 Prints one line:
   done slot N    the new passphrase opens keyslot N
   refused FAULT  the first fault, and nothing was written: what check refuses,
-                 Requirements, NoSuchSlot, Locked (the passphrase doesn't open
-                 it), Argon2, Cipher, Hash, KeySize, NoFreeSlot, NoRoom,
-                 Iterations, SeqExhausted, MetadataFull, RandomLength (the
-                 random file is too short), or Passphrase (one is too long)
+                 OtherUse (as above), Requirements, NoSuchSlot, Locked (the
+                 passphrase doesn't open it), Argon2, Cipher, Hash, KeySize,
+                 NoFreeSlot, NoRoom, Iterations, SeqExhausted, MetadataFull,
+                 RandomLength (the random file is too short), or Passphrase
+                 (one is too long)
   device fault   a file can't be read, or the volume read or written
   no memory      memory was refused; nothing was written
 
@@ -215,13 +225,18 @@ LUKS2 the salts are the first 128 bytes of the random file; LUKS1 takes none.
 
 Memory is taken for Argon2 by --memory alone; standard error says how much.
 
+Where only the second copy of a LUKS2 header is sound and another use of the
+disk, as a file system or a partition table, stands in the place of the first,
+nothing is written but with --over.
+
 Prints one line:
   done           the keyslot is removed
   refused FAULT  the first fault, and nothing was written: what check refuses,
-                 Requirements, NoSuchSlot, Locked (the passphrase doesn't open
-                 it), Argon2, Cipher, Hash, KeySize, LastSlot, SeqExhausted,
-                 MetadataFull, RandomLength (of LUKS2, the random file is too
-                 short or none is named), or Passphrase (it is too long)
+                 OtherUse (as above), Requirements, NoSuchSlot, Locked (the
+                 passphrase doesn't open it), Argon2, Cipher, Hash, KeySize,
+                 LastSlot, SeqExhausted, MetadataFull, RandomLength (of LUKS2,
+                 the random file is too short or none is named), or Passphrase
+                 (it is too long)
   device fault   a file can't be read, or the volume read or written
   no memory      memory was refused; nothing was written
 
@@ -248,11 +263,16 @@ Written are, with a flush after each, the copy that doesn't count and the one
 that does. The salts are the first 128 bytes of the random file; LUKS1 takes
 none.
 
+Where only the second copy of a LUKS2 header is sound and another use of the
+disk, as a file system or a partition table, stands in the place of the first,
+nothing is written but with --over.
+
 Prints one line:
   done           the copies are in step
   refused FAULT  the first fault, and nothing was written: what check refuses,
-                 Requirements, SeqExhausted, MetadataFull or RandomLength (of
-                 LUKS2, the random file is too short or none is named)
+                 OtherUse (as above), Requirements, SeqExhausted, MetadataFull
+                 or RandomLength (of LUKS2, the random file is too short or none
+                 is named)
   device fault   a file can't be read, or the volume read or written
   no memory      memory was refused; nothing was written
 
@@ -274,12 +294,17 @@ with a hyphen comes after --, with the volume: luks label .. -- VOLUME TEXT.
 Written are, with a flush after each, the copy of the header that doesn't count
 and the one that does. The salts are the first 128 bytes of the random file.
 
+Where only the second copy of a LUKS2 header is sound and another use of the
+disk, as a file system or a partition table, stands in the place of the first,
+nothing is written but with --over.
+
 Prints one line:
   done           the label is set, and the copies are in step
   refused FAULT  the first fault, and nothing was written: what check refuses,
-                 Requirements, BadLabel (it is too long, has another character,
-                 or the volume is of LUKS1), SeqExhausted, MetadataFull or
-                 RandomLength (the random file is too short)
+                 OtherUse (as above), Requirements, BadLabel (it is too long,
+                 has another character, or the volume is of LUKS1),
+                 SeqExhausted, MetadataFull or RandomLength (the random file is
+                 too short)
   device fault   a file can't be read, or the volume read or written
   no memory      memory was refused; nothing was written
 

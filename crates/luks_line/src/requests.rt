@@ -48,6 +48,7 @@ fn editing_of<'a>(name: &str, given: &ArgMatches<'a>) -> Option<Editing<'a>> {
         request: edit_of(name, given)?,
         random: given.get_str("random"),
         data_: data_of(given),
+        over: given.get_flag("over"),
     })
 }
 

@@ -66,6 +66,7 @@ pub(crate) enum LongOption {
     Hash,
     Second,
     Uuid,
+    Over,
 }
 
 impl LongOption {
@@ -205,6 +206,7 @@ static COMMANDS: [Described; 12] = [
             LongOption::To,
             LongOption::Iterations,
             LongOption::Memory,
+            LongOption::Over,
             LongOption::Detached,
         ],
     },
@@ -222,6 +224,7 @@ static COMMANDS: [Described; 12] = [
             LongOption::NeededRandom,
             LongOption::Iterations,
             LongOption::Memory,
+            LongOption::Over,
             LongOption::Detached,
         ],
     },
@@ -237,6 +240,7 @@ static COMMANDS: [Described; 12] = [
             LongOption::Passphrase,
             LongOption::Random,
             LongOption::Memory,
+            LongOption::Over,
             LongOption::Detached,
         ],
     },
@@ -247,7 +251,7 @@ static COMMANDS: [Described; 12] = [
         usage: None,
         more: helps::REPAIR_MORE,
         operands: &[Operand::Volume],
-        options: &[LongOption::Random, LongOption::Detached],
+        options: &[LongOption::Random, LongOption::Over, LongOption::Detached],
     },
     Described {
         name: "label",
@@ -256,7 +260,11 @@ static COMMANDS: [Described; 12] = [
         usage: None,
         more: helps::LABEL_MORE,
         operands: &[Operand::Volume, Operand::Text],
-        options: &[LongOption::NeededRandom, LongOption::Detached],
+        options: &[
+            LongOption::NeededRandom,
+            LongOption::Over,
+            LongOption::Detached,
+        ],
     },
     Described {
         name: "format",
@@ -347,7 +355,7 @@ static OPERANDS: [OperandRow; 7] = [
 ];
 
 /// In the order of `LongOption`.
-static OPTIONS: [OptionRow; 16] = [
+static OPTIONS: [OptionRow; 17] = [
     OptionRow {
         name: "detached",
         needed: false,
@@ -443,5 +451,11 @@ static OPTIONS: [OptionRow; 16] = [
         needed: false,
         help: "The uuid of the new header; else SOURCE's, or a new one",
         takes: Takes::Uuid,
+    },
+    OptionRow {
+        name: "over",
+        needed: false,
+        help: "Write over another use of the disk",
+        takes: Takes::Nothing,
     },
 ];

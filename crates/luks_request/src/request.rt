@@ -63,6 +63,8 @@ pub struct Editing<'a> {
     pub random: Option<&'a str>,
     /// Where the payload lies.
     pub data_: Data,
+    /// Whether it may write over another use of the disk.
+    pub over: bool,
 }
 
 /// What an edit does. Its passphrases are named by their files.

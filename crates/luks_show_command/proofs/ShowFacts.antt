@@ -30,7 +30,7 @@ use Rattle.luks_request.specs.declared.request.ShowAs.TheVariants.{Lines, Json a
 use Rattle.luks_show.specs.declared.listing.Listing.TheVariants.{Luks1, Luks2}
 use Rattle.luks_commands.specs.declared.answers.Answer.{Answer}
 use Rattle.luks_commands.specs.declared.answers.Answer.TheVariants.{Accepted, Listed, Json, Opens, Closed, NoneOpens, Done, Refused, DeviceFault, NoMemory}
-use Rattle.luks_commands.specs.declared.answers.Refusal.TheVariants.{LongPassphrase, Check, Open, Edit, Format, Convert, Rebuild, SameFile}
+use Rattle.luks_commands.specs.declared.answers.Refusal.TheVariants.{LongPassphrase, Check, Open, Edit, Format, Convert, Rebuild, SameFile, OtherUse}
 use Rattle.luks_commands.specs.Answer.{check_fault_answer}
 use Rattle.luks_show_command.specs.ShowAnswers.{IsBeforeAreas, IsAsJson, IsFirstShowFault, IsJsonAnswer, IsListedAnswer, IsShowAnswer, IsShowFault, IsShown, IsShownAs}
 
@@ -138,6 +138,7 @@ json_answer tells v before after (Refused (Format f)) a made is = absurd is
 json_answer tells v before after (Refused (Convert f)) a made is = absurd is
 json_answer tells v before after (Refused (Rebuild f)) a made is = absurd is
 json_answer tells v before after (Refused SameFile) a made is = absurd is
+json_answer tells v before after (Refused (OtherUse found)) a made is = absurd is
 json_answer tells v before after DeviceFault a made is = subst (IsJsonAnswer tells v before after) (sym made) is
 json_answer tells v before after NoMemory a made is = subst (IsJsonAnswer tells v before after) (sym made) is.0
 

@@ -1,13 +1,16 @@
 //! What is seen of an edit before it is run.
 ghost use Rattle.std.specs.Prelude.{◌≡◌, ◌+◌, ◌<◌, ◌^◌, IfOk, IfErr};
 ghost use Rattle.luks_area.specs.Device.{CountsFailure, IsUnchanged};
-ghost use Rattle.luks_edit.specs.EditFaults.{is_edit_failure};
 ghost use Rattle.luks_reading.specs.Header.{IsAcceptedHeader};
-ghost use Rattle.luks_volume.specs.Needed.{IsUntold, NeedsRandom};
+ghost use Rattle.luks_volume.specs.Needed.{NeedsRandom};
+ghost use Rattle.luks_cli.specs.OtherUses.{is_unseen_failure, IsUnseen, SeesBarred};
 
+use crate::other_use::barring_use;
 use luks_commands::open::{MemoryNote, memory_note};
+use luks_request::Editing;
+use luks_signatures::OtherUse;
 use luks_volume::{
-    Cost, Data, Device, Edit, EditFault, Header, Luks1, edited_header, needed_of_header,
+    Cost, Device, DeviceFault, Edit, EditFault, Header, Luks1, edited_header, needed_of_header,
 };
 use std::alloc::Global;
 use std::io::Write;
@@ -34,24 +37,59 @@ pub(super) struct Weaker {
     opener_iterations: u32,
 }
 
-/// What is seen of the edit by the header, or the first of the faults that are seen without opening a
-/// keyslot. The header is read once.
+/// Why nothing is seen of an edit.
+#[derive(Debug, Clone, Copy)]
+pub(super) enum Unseen {
+    /// The first of the faults that are seen without opening a keyslot.
+    Untold(EditFault),
+    /// The disk has this other use, which the edit would write over.
+    Used(OtherUse),
+}
+
+impl From<EditFault> for Unseen {
+    ghost use Rattle.luks_cli.specs.declared.edit.seen.Unseen.{Unseen};
+
+    ghost from_gives = { λ fault unseen. unseen ≡ Unseen.Untold fault };
+
+    fn from(fault: EditFault) -> Unseen {
+        Unseen::Untold(fault)
+    }
+}
+
+impl From<DeviceFault> for Unseen {
+    ghost use Rattle.luks_cli.specs.declared.edit.seen.Unseen.{Unseen};
+    ghost use Rattle.luks_edit.specs.declared.edit_fault.EditFault.{EditFault};
+
+    ghost from_gives = { λ _ unseen. unseen ≡ Unseen.Untold EditFault.Device };
+
+    fn from(_: DeviceFault) -> Unseen {
+        Unseen::Untold(EditFault::Device)
+    }
+}
+
+/// What is seen of the edit by the header, or why nothing is: another use of the disk is asked for
+/// before what the edit names. The header is read once.
 pub(super) fn see<D: Device>(
     alloc: Global,
     device: &mut D,
-    data_: Data,
+    editing: &Editing<'_>,
     edit: &Edit<'_>,
-) -> Result<Seen, EditFault>
+) -> Result<Seen, Unseen>
     requires { D.failed device.old + 1 < 2 ^ 64 }
     ensures unchanged { IsUnchanged D.tells D.size D.bytes D.unsettled device.old device.new }
-    ensures count { CountsFailure is_edit_failure result
+    ensures count { CountsFailure is_unseen_failure result
         (D.failed device.old) (D.failed device.new) }
-    ensures tells { D.tells
-        → IfOk result (λ seen. NeedsRandom (D.bytes device.old) data_ edit.now seen.needed) }
-    ensures untold { D.tells → IfErr result (IsUntold (D.bytes device.old) data_ edit.now) }
+    ensures tells { D.tells → IfOk result (λ seen.
+        NeedsRandom (D.bytes device.old) editing.now.data_ edit.now seen.needed) }
+    ensures unseen { D.tells → IfErr result
+        (IsUnseen editing.now.over (D.bytes device.old) editing.now.data_ edit.now) }
+    ensures barred { D.tells → SeesBarred editing.now.over (D.bytes device.old) result }
 {
     let header = edited_header(alloc, device)?;
-    let needed = needed_of_header(&header, data_, device.len(), edit)?;
+    if let Some(found) = barring_use(device, &header, editing.over)? {
+        return Err(Unseen::Used(found));
+    }
+    let needed = needed_of_header(&header, editing.data_, device.len(), edit)?;
     Ok(Seen {
         needed,
         weaker: weaker_keyslot(&header, edit),

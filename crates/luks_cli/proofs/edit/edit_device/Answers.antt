@@ -5,43 +5,43 @@ use Rattle.luks_commands.specs.Answer.{answer_status}
 use Rattle.luks_cli.specs.EditAnswers.{IsEditAnswer}
 use Rattle.luks_cli.specs.Editing.{given_edit, lacking_random}
 use Rattle.luks_commands.specs.Files.{AreFirstBytes, IsUnreadRandom}
-use Rattle.luks_cli.proofs.EditAnswerFacts.{answers_done, answers_fault, answers_randomless, answers_untold, edit_fails}
-use Rattle.luks_cli.proofs.EditFacts.{never_failed, says_fault, says_made, says_untold, spared_edit}
+use Rattle.luks_cli.proofs.EditAnswerFacts.{answers_done, answers_fault, answers_randomless, answers_unseen, edit_fails, holds_back_unseen, unbarred, unseen_fails}
+use Rattle.luks_cli.proofs.EditFacts.{never_failed, says_fault, says_made, says_unseen, spared_edit}
 use Rattle.luks_cli.proofs.edit.edit_device.Goals as goal
 
 pub returns-in-Err-clause-says : goal.returns-in-Err-clause-says
 returns-in-Err-clause-says g c = λ tells.
     let HasRandom : ℕ → List ℕ → Type 0 = λ count. AreFirstBytes count g.N.Read.remaining c.args.random.now in
-    says_untold c.args.editing.now.data_ _ _ (answer_status c.not_begun.result) c.args.edit.now HasRandom c.in-Err.fault
-    (c.see.ensures.unchanged.same tells) (c.in-Err.ensures.untold tells) (ap answer_status c.not_begun.ensures.answer)
+    says_unseen c.args.editing.now.data_ _ _ (answer_status c.not_begun.result) c.args.editing.now.over c.args.edit.now HasRandom c.in-Err.unseen
+    (c.see.ensures.unchanged.same tells) (c.in-Err.ensures.unseen tells) (ap answer_status c.not_begun.ensures.answer)
 
 pub returns-in-Err-clause-answers : goal.returns-in-Err-clause-answers
 returns-in-Err-clause-answers g c =
     let HasRandom : ℕ → List ℕ → Type 0 = λ count. AreFirstBytes count g.N.Read.remaining c.args.random.now in
     let lacks = lacking_random (λ count. IsUnreadRandom count c.args.random.now) in
-    subst (IsEditAnswer g.D.Device.tells c.args.editing.now.data_ (given_edit c.args.edit.now HasRandom) lacks _ _ _ _) (sym c.not_begun.ensures.answer)
-    (answers_untold g.D.Device.tells c.args.editing.now.data_ lacks _ _ _ _ c.args.edit.now HasRandom c.in-Err.fault c.in-Err.ensures.count
-    c.see.ensures.unchanged.same c.in-Err.ensures.untold)
+    subst (IsEditAnswer g.D.Device.tells c.args.editing.now.data_ (given_edit c.args.editing.now.over c.args.edit.now HasRandom) lacks _ _ _ _) (sym c.not_begun.ensures.answer)
+    (answers_unseen g.D.Device.tells c.args.editing.now.data_ lacks _ _ _ _ c.args.editing.now.over c.args.edit.now HasRandom c.in-Err.unseen c.in-Err.ensures.count
+    c.see.ensures.unchanged.same c.in-Err.ensures.unseen)
 
 pub returns-in-Ok-run_edit-clause-says : goal.returns-in-Ok-run_edit-clause-says
 returns-in-Ok-run_edit-clause-says g c = λ tells.
     let HasRandom : ℕ → List ℕ → Type 0 = λ count. AreFirstBytes count g.N.Read.remaining c.args.random.now in
     let taken : HasRandom c.in-Ok.seen.needed c.as_slice.result.now = subst (HasRandom c.in-Ok.seen.needed) (sym c.as_slice.ensures.value) c.in-Ok-random_bytes.ensures.taken in
-    says_made c.args.editing.now.data_ _ _ Done c.args.edit.now HasRandom _ (c.see.ensures.unchanged.same tells) c.in-Ok.seen.needed _
+    says_made c.args.editing.now.data_ _ _ Done c.args.editing.now.over c.args.edit.now HasRandom _ (c.see.ensures.unchanged.same tells) c.in-Ok.seen.needed _
     (c.in-Ok.ensures.tells tells) taken c.in-Ok-run_edit.made (c.in-Ok-run_edit.ensures.replies tells) refl
 
 pub returns-in-Ok-run_edit-clause-answers : goal.returns-in-Ok-run_edit-clause-answers
 returns-in-Ok-run_edit-clause-answers g c =
     let HasRandom : ℕ → List ℕ → Type 0 = λ count. AreFirstBytes count g.N.Read.remaining c.args.random.now in
     let taken : HasRandom c.in-Ok.seen.needed c.as_slice.result.now = subst (HasRandom c.in-Ok.seen.needed) (sym c.as_slice.ensures.value) c.in-Ok-random_bytes.ensures.taken in
-    answers_done g.D.Device.tells c.args.editing.now.data_ (lacking_random (λ count. IsUnreadRandom count c.args.random.now)) _ _ _ _ c.args.edit.now HasRandom _ c.see.ensures.unchanged.same c.in-Ok.seen.needed _
+    answers_done g.D.Device.tells c.args.editing.now.data_ (lacking_random (λ count. IsUnreadRandom count c.args.random.now)) _ _ _ _ c.args.editing.now.over c.args.edit.now HasRandom _ c.see.ensures.unchanged.same c.in-Ok.seen.needed _
     c.in-Ok.ensures.tells taken c.in-Ok-run_edit.made (c.in-Ok-run_edit.ensures.count ∙ c.in-Ok.ensures.count) c.in-Ok-run_edit.ensures.replies
 
 pub returns-clause-says : goal.returns-clause-says
 returns-clause-says g c = λ tells.
     let HasRandom : ℕ → List ℕ → Type 0 = λ count. AreFirstBytes count g.N.Read.remaining c.args.random.now in
     let taken : HasRandom c.in-Ok.seen.needed c.as_slice.result.now = subst (HasRandom c.in-Ok.seen.needed) (sym c.as_slice.ensures.value) c.in-Ok-random_bytes.ensures.taken in
-    says_fault c.args.editing.now.data_ _ _ (answer_status c.not_done.result) c.args.edit.now HasRandom _ (c.see.ensures.unchanged.same tells) c.in-Ok.seen.needed _
+    says_fault c.args.editing.now.data_ _ _ (answer_status c.not_done.result) c.args.editing.now.over c.args.edit.now HasRandom _ (c.see.ensures.unchanged.same tells) c.in-Ok.seen.needed _
     (c.in-Ok.ensures.tells tells) taken c.in-Err-run_edit.fault (c.in-Err-run_edit.ensures.replies tells) (ap answer_status c.not_done.ensures.answer)
 
 pub returns-clause-answers : goal.returns-clause-answers
@@ -49,8 +49,8 @@ returns-clause-answers g c =
     let HasRandom : ℕ → List ℕ → Type 0 = λ count. AreFirstBytes count g.N.Read.remaining c.args.random.now in
     let taken : HasRandom c.in-Ok.seen.needed c.as_slice.result.now = subst (HasRandom c.in-Ok.seen.needed) (sym c.as_slice.ensures.value) c.in-Ok-random_bytes.ensures.taken in
     let lacks = lacking_random (λ count. IsUnreadRandom count c.args.random.now) in
-    subst (IsEditAnswer g.D.Device.tells c.args.editing.now.data_ (given_edit c.args.edit.now HasRandom) lacks _ _ _ _) (sym c.not_done.ensures.answer)
-    (answers_fault g.D.Device.tells c.args.editing.now.data_ lacks _ _ _ _ c.args.edit.now HasRandom _ c.see.ensures.unchanged.same c.in-Ok.seen.needed _
+    subst (IsEditAnswer g.D.Device.tells c.args.editing.now.data_ (given_edit c.args.editing.now.over c.args.edit.now HasRandom) lacks _ _ _ _) (sym c.not_done.ensures.answer)
+    (answers_fault g.D.Device.tells c.args.editing.now.data_ lacks _ _ _ _ c.args.editing.now.over c.args.edit.now HasRandom _ c.see.ensures.unchanged.same c.in-Ok.seen.needed _
     c.in-Ok.ensures.tells taken c.in-Err-run_edit.fault (rw c.in-Ok.ensures.count at c.in-Err-run_edit.ensures.count) c.in-Err-run_edit.ensures.replies)
 
 pub returns-in-Ok-run_edit-clause-spared : goal.returns-in-Ok-run_edit-clause-spared
@@ -65,12 +65,12 @@ returns-clause-spared g c = λ tells well apart.
     let taken : HasRandom c.in-Ok.seen.needed c.as_slice.result.now = subst (HasRandom c.in-Ok.seen.needed) (sym c.as_slice.ensures.value) c.in-Ok-random_bytes.ensures.taken in
     let same = c.see.ensures.unchanged.same tells in
     let well_met = subst (λ u. WellFormed u c.args.editing.now.data_) (sym same) well in
-    spared_edit c.args.editing.now.data_ _ _ _ c.args.edit.now HasRandom same c.in-Ok.seen.needed _ (c.in-Ok.ensures.tells tells) taken
+    spared_edit c.args.editing.now.data_ _ _ _ c.args.editing.now.over c.args.edit.now HasRandom same c.in-Ok.seen.needed _ (c.in-Ok.ensures.tells tells) taken
     c.in-Err-run_edit.fault (c.in-Err-run_edit.ensures.replies tells)
     (c.in-Err-run_edit.ensures.spared tells well_met (λ e. apart (e ∙ c.in-Ok.ensures.count)))
 
 pub returns-in-Err-clause-failure : goal.returns-in-Err-clause-failure
-returns-in-Err-clause-failure g c = λ apart. edit_fails _ _ c.in-Err.fault c.not_begun.result c.not_begun.ensures.answer c.in-Err.ensures.count apart
+returns-in-Err-clause-failure g c = λ apart. unseen_fails _ _ c.in-Err.unseen c.not_begun.result c.not_begun.ensures.answer c.in-Err.ensures.count apart
 
 pub returns-clause-failure : goal.returns-clause-failure
 returns-clause-failure g c = λ apart.
@@ -79,6 +79,20 @@ returns-clause-failure g c = λ apart.
 pub returns-in-Err-random_bytes-clause-answers : goal.returns-in-Err-random_bytes-clause-answers
 returns-in-Err-random_bytes-clause-answers g c =
     let HasRandom : ℕ → List ℕ → Type 0 = λ count. AreFirstBytes count g.N.Read.remaining c.args.random.now in
-    answers_randomless g.D.Device.tells c.args.editing.now.data_ (lacking_random (λ count. IsUnreadRandom count c.args.random.now)) _ _ _ _ c.args.edit.now HasRandom
+    answers_randomless g.D.Device.tells c.args.editing.now.data_ (lacking_random (λ count. IsUnreadRandom count c.args.random.now)) _ _ _ _ c.args.editing.now.over c.args.edit.now HasRandom
     c.in-Ok.seen.needed c.in-Ok.ensures.tells c.in-Err-random_bytes.fault c.unread.result c.unread.ensures.answer c.in-Ok.ensures.count
     c.see.ensures.unchanged.same c.in-Err-random_bytes.ensures.unread
+
+pub returns-in-Err-clause-over : goal.returns-in-Err-clause-over
+returns-in-Err-clause-over g c = λ tells.
+    holds_back_unseen c.args.editing.now.over _ _ c.in-Err.unseen c.not_begun.result c.not_begun.ensures.answer (c.see.ensures.unchanged.same tells)
+    (c.in-Err.ensures.barred tells)
+
+pub returns-in-Err-random_bytes-clause-over : goal.returns-in-Err-random_bytes-clause-over
+returns-in-Err-random_bytes-clause-over g c = λ tells. unbarred _ _ _ _ (c.in-Ok.ensures.barred tells)
+
+pub returns-in-Ok-run_edit-clause-over : goal.returns-in-Ok-run_edit-clause-over
+returns-in-Ok-run_edit-clause-over g c = λ tells not u has. absurd (c.in-Ok.ensures.barred tells not u has)
+
+pub returns-clause-over : goal.returns-clause-over
+returns-clause-over g c = λ tells. unbarred _ _ _ _ (c.in-Ok.ensures.barred tells)

@@ -4,7 +4,7 @@ use Rattle.luks_volume.specs.Edits.{NamedSlots}
 use Rattle.luks_request.specs.Named.{edit_new_of, edit_passphrase_of}
 use Rattle.luks_cli.specs.Editing.{given_by, given_edit, IsAsked, lacking_by, lacking_random, NamesSlot}
 use Rattle.luks_commands.specs.Files.{AreFirstBytes, IsUnreadRandom, IsWhole}
-use Rattle.luks_cli.proofs.EditAnswerFacts.{answers_as, answers_wordless, err_holds, named_as, wordless_as, wordless_kinds, wordless_undone}
+use Rattle.luks_cli.proofs.EditAnswerFacts.{answers_as, answers_wordless, err_holds, holds_back_wordless, named_as, wordless_as, wordless_kinds, wordless_undone}
 use Rattle.luks_cli.proofs.EditFacts.{left_same, says_wordless, asked_of, asked_somehow, keeps_fewer, says_as, some_as, spared_as}
 use Rattle.luks_cli.proofs.edit.edit_volume.Goals as goal
 
@@ -27,8 +27,8 @@ returns-clause-left g c =
     λ e is. subst (IsAsked request IsOld IsNew) (sym is) (asked_of request IsOld IsNew p q edit old fresh c.edit_of-edit.ensures) in
     rw c.in-Ok-volume.is (record {
       size = c.edit_device.ensures.size;
-      said = λ tells. says_as c.args.editing.now.data_ (given_edit edit HasRandom)
-          (given_by request g.R.Read.remaining g.N.Read.remaining c.args.inputs.now) _ _ _ _ _ _ asks (λ n b is. is) (λ is. absurd is) (λ is. is) (λ is. is)
+      said = λ tells. says_as c.args.editing.now.data_ (given_edit c.args.editing.now.over edit HasRandom)
+          (given_by c.args.editing.now g.R.Read.remaining g.N.Read.remaining c.args.inputs.now) _ _ _ _ _ _ asks (λ n b is. is) (λ is. absurd is) refl (λ is. is) (λ is. is)
           (c.edit_device.ensures.says tells);
     })
 
@@ -62,7 +62,7 @@ returns-clause-spared g c =
     let asks : (e : Edit) → e ≡ edit → IsAsked request IsOld IsNew e =
     λ e is. subst (IsAsked request IsOld IsNew) (sym is) (asked_of request IsOld IsNew p q edit old fresh c.edit_of-edit.ensures) in
     rw c.in-Ok-volume.is (λ tells well apart.
-    spared_as c.args.editing.now.data_ (given_edit edit HasRandom) (given_by request g.R.Read.remaining g.N.Read.remaining c.args.inputs.now) _ _
+    spared_as c.args.editing.now.data_ (given_edit c.args.editing.now.over edit HasRandom) (given_by c.args.editing.now g.R.Read.remaining g.N.Read.remaining c.args.inputs.now) _ _
     asks (λ n b is. is) (c.edit_device.ensures.spared tells well apart))
 
 pub returns-clause-answers : goal.returns-clause-answers
@@ -83,13 +83,13 @@ returns-clause-answers g c =
     let asks : (e : Edit) → e ≡ edit → IsAsked request IsOld IsNew e =
     λ e is. subst (IsAsked request IsOld IsNew) (sym is) (asked_of request IsOld IsNew p q edit old fresh c.edit_of-edit.ensures) in
     rw c.in-Ok-volume.is
-    (answers_as g.D.Device.tells c.args.editing.now.data_ (given_edit edit HasRandom) (given_by request g.R.Read.remaining g.N.Read.remaining c.args.inputs.now)
+    (answers_as g.D.Device.tells c.args.editing.now.data_ (given_edit c.args.editing.now.over edit HasRandom) (given_by c.args.editing.now g.R.Read.remaining g.N.Read.remaining c.args.inputs.now)
     (lacking_random (λ count. IsUnreadRandom count c.args.inputs.now.random)) (lacking_by request c.args.inputs.now)
-    _ _ _ _ asks (λ n b is. is) (λ is. absurd is) (λ f is. absurd is) (λ n f is. is) c.edit_device.result c.edit_device.ensures.answers)
+    _ _ _ _ asks (λ n b is. is) (λ is. absurd is) refl (λ f is. absurd is) (λ n f is. is) c.edit_device.result c.edit_device.ensures.answers)
 
 pub returns-in-Err-clause-left : goal.returns-in-Err-clause-left
 returns-in-Err-clause-left g c =
-    let given = given_by c.args.editing.now.request g.R.Read.remaining g.N.Read.remaining c.args.inputs.now in
+    let given = given_by c.args.editing.now g.R.Read.remaining g.N.Read.remaining c.args.inputs.now in
     let lacks = lacking_by c.args.editing.now.request c.args.inputs.now in
     left_same g.D.Device.tells g.D.Device.size g.D.Device.bytes _
     (λ v. says_wordless c.args.editing.now.data_ given lacks.words v v c.in-Err.answer refl (wordless_as _ _ _ lacks.words c.in-Err.answer (λ long. inl (named_as (λ name. name.now) c.passphrase.result (edit_passphrase_of c.args.editing.now.request) _ c.passphrase.ensures long))
@@ -97,7 +97,7 @@ returns-in-Err-clause-left g c =
 
 pub returns-in-Err-clause-answers : goal.returns-in-Err-clause-answers
 returns-in-Err-clause-answers g c =
-    let given = given_by c.args.editing.now.request g.R.Read.remaining g.N.Read.remaining c.args.inputs.now in
+    let given = given_by c.args.editing.now g.R.Read.remaining g.N.Read.remaining c.args.inputs.now in
     let lacks = lacking_by c.args.editing.now.request c.args.inputs.now in
     answers_wordless g.D.Device.tells g.D.Device.bytes g.D.Device.failed c.args.editing.now.data_ given lacks c.args.inputs.now.volume c.in-Err.answer
     (wordless_as _ _ _ lacks.words c.in-Err.answer (λ long. inl (named_as (λ name. name.now) c.passphrase.result (edit_passphrase_of c.args.editing.now.request) _ c.passphrase.ensures long))
@@ -111,7 +111,7 @@ returns-in-Err-clause-unread g c = err_holds c.args.inputs.now.volume _ (wordles
 
 pub returns-in-Err-words-clause-left : goal.returns-in-Err-words-clause-left
 returns-in-Err-words-clause-left g c =
-    let given = given_by c.args.editing.now.request g.R.Read.remaining g.N.Read.remaining c.args.inputs.now in
+    let given = given_by c.args.editing.now g.R.Read.remaining g.N.Read.remaining c.args.inputs.now in
     let lacks = lacking_by c.args.editing.now.request c.args.inputs.now in
     left_same g.D.Device.tells g.D.Device.size g.D.Device.bytes _
     (λ v. says_wordless c.args.editing.now.data_ given lacks.words v v c.in-Err-words.answer refl (wordless_as _ _ _ lacks.words c.in-Err-words.answer (λ long. inr (named_as (λ name. name.now) c.new_passphrase.result (edit_new_of c.args.editing.now.request) _ c.new_passphrase.ensures long))
@@ -119,7 +119,7 @@ returns-in-Err-words-clause-left g c =
 
 pub returns-in-Err-words-clause-answers : goal.returns-in-Err-words-clause-answers
 returns-in-Err-words-clause-answers g c =
-    let given = given_by c.args.editing.now.request g.R.Read.remaining g.N.Read.remaining c.args.inputs.now in
+    let given = given_by c.args.editing.now g.R.Read.remaining g.N.Read.remaining c.args.inputs.now in
     let lacks = lacking_by c.args.editing.now.request c.args.inputs.now in
     answers_wordless g.D.Device.tells g.D.Device.bytes g.D.Device.failed c.args.editing.now.data_ given lacks c.args.inputs.now.volume c.in-Err-words.answer
     (wordless_as _ _ _ lacks.words c.in-Err-words.answer (λ long. inr (named_as (λ name. name.now) c.new_passphrase.result (edit_new_of c.args.editing.now.request) _ c.new_passphrase.ensures long))
@@ -130,3 +130,14 @@ returns-in-Err-words-clause-kinds g c = wordless_kinds _ _ c.in-Err-words.answer
 
 pub returns-in-Err-words-clause-unread : goal.returns-in-Err-words-clause-unread
 returns-in-Err-words-clause-unread g c = err_holds c.args.inputs.now.volume _ (wordless_undone _ _ c.in-Err-words.answer c.in-Err-words.ensures.wordless)
+
+pub returns-clause-over : goal.returns-clause-over
+returns-clause-over g c = rw c.in-Ok-volume.is c.edit_device.ensures.over
+
+pub returns-in-Err-clause-over : goal.returns-in-Err-clause-over
+returns-in-Err-clause-over g c =
+    holds_back_wordless g.D.Device.tells g.D.Device.bytes c.args.editing.now.over _ _ c.args.inputs.now.volume c.in-Err.answer c.in-Err.ensures.wordless
+
+pub returns-in-Err-words-clause-over : goal.returns-in-Err-words-clause-over
+returns-in-Err-words-clause-over g c =
+    holds_back_wordless g.D.Device.tells g.D.Device.bytes c.args.editing.now.over _ _ c.args.inputs.now.volume c.in-Err-words.answer c.in-Err-words.ensures.wordless

@@ -1,3 +1,4 @@
+use Rattle.std.proofs.Common.{refl}
 use Rattle.luks_cli.specs.Editing.{given_by}
 use Rattle.luks_cli.proofs.EditFacts.{failed_as, says_as}
 use Rattle.luks_commands.specs.Answer.{answer_status}
@@ -10,9 +11,9 @@ returns-clause-status g c = is_exit_status (answer_status c.edit_volume-answer.r
 
 pub returns-clause-left : goal.returns-clause-left
 returns-clause-left g c =
-    let given = given_by c.args.editing.now.request g.R.Read.remaining g.N.Read.remaining c.args.inputs.now in
+    let given = given_by c.args.editing.now g.R.Read.remaining g.N.Read.remaining c.args.inputs.now in
     left_as _ _ _ _ _
-    (λ v w x. says_as c.args.editing.now.data_ given given v w _ _ _ _ (λ e is. is) (λ n b is. is) (λ is. is)
+    (λ v w x. says_as c.args.editing.now.data_ given given v w _ _ _ _ (λ e is. is) (λ n b is. is) (λ is. is) refl
     (done_by (answer_status c.edit_volume-answer.result) _ (told c.edit_volume-answer.result _ _ _ _ _ c.end.ensures)) (refusal_by (answer_status c.edit_volume-answer.result) _ (told c.edit_volume-answer.result _ _ _ _ _ c.end.ensures)) x)
     _ _ c.edit_volume-answer.ensures.left
 
@@ -27,3 +28,6 @@ returns-clause-unread g c = err_as c.args.inputs.now.volume _ _ (λ apart is. ap
 
 pub returns-clause-answers : goal.returns-clause-answers
 returns-clause-answers g c = record { answer = c.edit_volume-answer.result; said = c.edit_volume-answer.ensures.answers; printed = c.end.ensures }
+
+pub returns-clause-over : goal.returns-clause-over
+returns-clause-over g c = record { answer = c.edit_volume-answer.result; said = c.edit_volume-answer.ensures.over; printed = c.end.ensures }
