@@ -7,6 +7,7 @@ from dataclasses import dataclass, replace
 import images
 import makers
 import reader
+import uses
 from equations import argon2, pbkdf2, sealed_area
 from formatting import Drawn
 from images import DISABLED, ENABLED, Entry
@@ -216,8 +217,17 @@ def derived(kdf, edit, salt, length):
     return pbkdf2(kdf["hash"], edit.new, salt, edit.iterations, length) if kdf["type"] == "pbkdf2" else argon2(kdf, edit.new, salt, length)
 
 
-def accepted(volume, detached):
-    """The volume that `check` accepts, or the refusal of a volume that no edit takes."""
+def refuse_use(volume):
+    """The refusal of a volume whose header is read, and whose disk has another use."""
+    if reader.show(volume)[0] == 0 and uses.standing(volume):
+        raise Fault(f"OtherUse({uses.standing(volume)})")
+
+
+def accepted(volume, detached, over=True):
+    """The volume that `check` accepts, or the refusal of a volume that no edit takes. `over`: another use of the disk is written over, as by the library's
+    calls and by the program's with `--over`."""
+    if not over:
+        refuse_use(volume)
     status, line = reader.check(volume, detached)
     if status == 1:
         raise Fault(line.removeprefix("refused ").strip())
@@ -259,10 +269,10 @@ def place_of(v, edit):
     return free[0]
 
 
-def needed(volume, detached, edit):
+def needed(volume, detached, edit, over=True):
     """How many random bytes the edit takes, or the refusal."""
     try:
-        v = accepted(volume, detached)
+        v = accepted(volume, detached, over)
         find(v, edit)
         place_of(v, edit)
         return v.need(edit)
@@ -270,9 +280,9 @@ def needed(volume, detached, edit):
         return f"refused {fault}"
 
 
-def steps(volume, detached, edit, random):
+def steps(volume, detached, edit, random, over=True):
     """The slot that is made or changed, and the writes; or the first refusal."""
-    v = accepted(volume, detached)
+    v = accepted(volume, detached, over)
     find(v, edit)
     key = key_of(v, edit)
     to = place_of(v, edit)
@@ -298,10 +308,10 @@ def written(volume, writes):
     return bytes(out)
 
 
-def apply(volume, detached, edit, random):
+def apply(volume, detached, edit, random, over=True):
     """The line that the program prints, and the volume left."""
     try:
-        slot, writes = steps(volume, detached, edit, random)
+        slot, writes = steps(volume, detached, edit, random, over)
     except Fault as fault:
         return f"refused {fault}", volume
     return "done" if slot is None else f"done slot {slot}", written(volume, writes)

@@ -1,6 +1,6 @@
 """Volumes that a stranger may hand over, and what is owed to them by reader.py and edits.py: volumes made of a number, and two whose headers are cut or changed.
 
-Each has its twin in the crate `luks_hostile_tests`, which draws the same numbers in the same order and writes the same bytes.
+Each has its twin in the crate `luks_hostile_volumes`, which draws the same numbers in the same order and writes the same bytes.
 """
 import hashlib
 import struct
@@ -192,8 +192,8 @@ class Transcript:
 
 def edited(volume, edit):
     """The answer to an edit by the program, which asks first how many random bytes are needed, and the volume that is left."""
-    count = edits.needed(volume, False, edit)
-    line, left = (count, volume) if isinstance(count, str) else edits.apply(volume, False, edit, RANDOM[:count])
+    count = edits.needed(volume, False, edit, over=False)
+    line, left = (count, volume) if isinstance(count, str) else edits.apply(volume, False, edit, RANDOM[:count], over=False)
     return (int(line.startswith("refused")), line + "\n"), left
 
 

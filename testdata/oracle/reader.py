@@ -331,6 +331,12 @@ def check(volume, detached=False):
 
 
 def checked(volume, detached):
+    status, version, areas = judged(volume, detached)
+    return status, f"accepted {version} areas {len(areas)}\n"
+
+
+def judged(volume, detached):
+    """The status, what the accepted volume is, and its areas."""
     total, chosen = len(volume), select(volume)
     if chosen == 1:
         d = common1(volume, range(8))
@@ -338,7 +344,7 @@ def checked(volume, detached):
         if not detached:
             areas.append(("Segment(0)", to_end(d["payload"] * 512, total)))
         fit(areas, total)
-        return 0, f"accepted luks1 areas {len(areas)}\n"
+        return 0, "luks1", areas
     copy, state = chosen
     checked_uuid(copy["uuid"])
     value = metadata(copy)
@@ -351,7 +357,7 @@ def checked(volume, detached):
                 raise Fault(f"Region(Segment({n}))")
             areas.append((f"Segment({n})", to_end(start, total) if segment["size"] == "dynamic" else (start, int(segment["size"]))))
     fit(areas, total)
-    return 0 if state == "in-step" else 3, f"accepted luks2 {state} seqid {copy['seqid']} areas {len(areas)}\n"
+    return 0 if state == "in-step" else 3, f"luks2 {state} seqid {copy['seqid']}", areas
 
 
 def shown_text(text):

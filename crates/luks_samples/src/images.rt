@@ -1,12 +1,9 @@
 //! Volumes put together by the layout of the formats alone.
-use crate::metadata::{Edit, THREE, ZEROS, edited};
+use crate::metadata::{Edit, THREE, edited};
 use sha2::{Digest, Sha256};
 use std::alloc::{AllocError, Global};
 
 const UUID: &[u8] = b"00000000-0000-4000-8000-000000000000";
-
-/// A place and what is written over the bytes from there on.
-pub type Change = (usize, &'static [u8]);
 
 /// Writes `from` over the bytes from `at` on, as far as they reach: where the image ends before, its
 /// front alone.
@@ -15,13 +12,6 @@ pub fn put_front(image: &mut [u8], at: usize, from: &[u8]) {
         if let Some(place) = image.get_mut(at.wrapping_add(i)) {
             *place = *byte;
         }
-    }
-}
-
-/// Makes the changes in turn.
-pub fn overwrite(image: &mut [u8], changes: &[Change]) {
-    for (at, bytes) in changes.iter() {
-        put_front(image, *at, *bytes);
     }
 }
 
@@ -47,14 +37,6 @@ pub fn luks1(alloc: Global) -> Result<Vec<u8>, AllocError> {
         put_front(&mut image, at.wrapping_add(40), &offset.to_be_bytes());
         put_front(&mut image, at.wrapping_add(44), &[0, 0, 0x0F, 0xA0]);
     }
-    Ok(image)
-}
-
-/// That volume with these changes, cut to a length.
-pub fn changed_luks1(alloc: Global, changes: &[Change], len: usize) -> Result<Vec<u8>, AllocError> {
-    let mut image = luks1(alloc)?;
-    overwrite(&mut image, changes);
-    image.truncate(len);
     Ok(image)
 }
 
@@ -127,13 +109,6 @@ pub fn luks2(
 /// The bytes of the LUKS2 volume of one keyslot.
 pub const LUKS2: usize = 16777728;
 
-/// A LUKS2 volume of one keyslot and one segment, its metadata edited so.
-pub fn zeros_luks2(alloc: Global, edits: &[Edit], len: usize) -> Result<Vec<u8>, AllocError> {
-    let text = edited(alloc, ZEROS, edits)?;
-    let copy = copy_of(text.as_str());
-    luks2(alloc, &copy, &copy, len)
-}
-
 /// The volume key's one stripe, which is the key, the bytes 0 to 63, encrypted by AES-XTS in sector
 /// 0 under PBKDF2 of the passphrase `one` with 32 bytes 0x11, by SHA-256 and 1000 iterations:
 /// Python's hashlib and cryptography.
@@ -153,15 +128,9 @@ pub const STRIPE_BY_SHA512: [u8; 64] = [
 ];
 
 /// PBKDF2 of the volume key with 32 bytes 0x22, likewise.
-pub const MK_DIGEST: [u8; 20] = [
+const MK_DIGEST: [u8; 20] = [
     0xAF, 0x4B, 0x56, 0xD0, 0x5D, 0x08, 0x4C, 0xEA, 0x0F, 0x60, 0x15, 0x26, 0x16, 0x31, 0xB3, 0x5D,
     0x94, 0xD5, 0xA3, 0x00,
-];
-
-/// The same by SHA-512.
-pub const MK_DIGEST_BY_SHA512: [u8; 20] = [
-    0x7A, 0x55, 0x97, 0xEE, 0x6D, 0x93, 0x74, 0x93, 0xBC, 0xE7, 0x8C, 0x8C, 0x18, 0xF2, 0x46, 0x1A,
-    0x4D, 0xB1, 0x87, 0xEC,
 ];
 
 /// The LUKS1 volume with its keyslot 0 in use, of one stripe, which opens by the passphrase `one`.
@@ -176,16 +145,6 @@ pub fn opening_luks1(alloc: Global) -> Result<Vec<u8>, AllocError> {
     Ok(image)
 }
 
-/// A LUKS2 volume of three keyslots, which open by the passphrase `one` where an edit doesn't say
-/// otherwise.
-pub fn opening_luks2(alloc: Global, edits: &[Edit]) -> Result<Vec<u8>, AllocError> {
-    let text = edited(alloc, THREE, edits)?;
-    let copy = copy_of(text.as_str());
-    let mut image = luks2(alloc, &copy, &copy, 45056)?;
-    put_stripes(&mut image);
-    Ok(image)
-}
-
 /// Puts the key areas of the three keyslots that open by the passphrase `one`.
 fn put_stripes(image: &mut [u8]) {
     for at in [32768, 36864, 40960] {
@@ -194,7 +153,7 @@ fn put_stripes(image: &mut [u8]) {
 }
 
 /// The bytes of the LUKS2 volume of three keyslots with room for a fourth.
-pub const ROOMY: usize = 49152;
+const ROOMY: usize = 49152;
 
 /// The keyslots' region, with that room.
 const ROOM: Edit = (r#""keyslots_size":"12288""#, r#""keyslots_size":"16384""#);

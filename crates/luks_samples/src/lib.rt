@@ -15,12 +15,11 @@ mod words;
 pub use argon2::{ARGON2I_1, ARGON2ID_0, STRIPE_BY_ARGON2I, STRIPE_BY_ARGON2ID};
 pub use folders::new_folder;
 pub use images::{
-    Change, Fields, LUKS1, LUKS2, MK_DIGEST, MK_DIGEST_BY_SHA512, ROOMY, STRIPE, STRIPE_BY_SHA512,
-    changed_luks1, copy_of, luks1, luks2, opening_luks1, opening_luks2, overwrite, put_copy,
-    put_front, roomy_luks2, roomy_text, zeros_luks2,
+    Fields, LUKS1, LUKS2, STRIPE, STRIPE_BY_SHA512, copy_of, luks1, luks2, opening_luks1, put_copy,
+    put_front, roomy_luks2, roomy_text,
 };
 pub use luks_test_devices::is_sum;
 pub use metadata::{Edit, THREE, ZEROS, edited, edited_once, filled, text_of};
 pub use numbers::counted_modulo_256;
 pub use sums::hex_digit;
-pub use words::{CHECK, DETACHED, OPEN, OPEN_0, OPEN_1, OPEN_2, OPEN_3, SHOW};
+pub use words::{CHECK, OPEN};

@@ -4,4 +4,4 @@
 
 mod told;
 
-pub use told::{NO_FILE, Told, run, run_words, run_words_to, words_of};
+pub use told::{Told, run, run_words, words_of};

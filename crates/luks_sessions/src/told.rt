@@ -3,15 +3,12 @@ ghost use Rattle.std.specs.Prelude.{◌≡◌, ◌+◌, ◌<◌, ◌^◌};
 ghost use Rattle.std.specs.Result.{ForOk};
 ghost use Rattle.luks_area.specs.Device.{IsSettled};
 
-use luks_cli::{CountingPrinter, InputFault, Inputs, Printer, execute};
+use luks_cli::{CountingPrinter, Inputs, execute};
 use luks_line::line;
 use luks_volume::Device;
 use std::alloc::{AllocError, Global};
 use std::io::Read;
 use std::test::Fail;
-
-/// A file that the command line doesn't name.
-pub const NO_FILE: Result<&[u8], InputFault> = Err(InputFault::Absent);
 
 /// What a command printed on standard output and on standard error, and its status.
 #[derive(Drop)]
@@ -67,28 +64,10 @@ pub fn run_words<D: Device, R: Read, N: Read>(
     requires settled { D.tells → ForOk files.old.volume (IsSettled D.unsettled) }
     requires target_settled { D.tells → ForOk files.old.target (IsSettled D.unsettled) }
 {
+    let line = line(alloc, words)?;
     let mut out = CountingPrinter::new(Vec::new(alloc));
-    let (err, status) = run_words_to(alloc, words, files, &mut out)?;
+    let mut err = Vec::new(alloc);
+    let status = execute(alloc, &line, files, &mut out, &mut err);
     let CountingPrinter { writer: out, .. } = out;
     Ok(Told { out, err, status })
-}
-
-/// The same where the answer is printed by this printer: what is said on standard error, and the
-/// status.
-pub fn run_words_to<D: Device, R: Read, N: Read, P: Printer>(
-    alloc: Global,
-    words: &[&str],
-    files: &mut Inputs<D, R, N>,
-    out: &mut P,
-) -> Result<(Vec<u8>, u8), Fail>
-    requires room { ForOk files.old.volume (λ d. D.failed d + 1 < 2 ^ 64) }
-    requires target_room { ForOk files.old.target (λ d. D.failed d + 1 < 2 ^ 64) }
-    requires printer { P.failures out.old + 1 < 2 ^ 64 }
-    requires settled { D.tells → ForOk files.old.volume (IsSettled D.unsettled) }
-    requires target_settled { D.tells → ForOk files.old.target (IsSettled D.unsettled) }
-{
-    let line = line(alloc, words)?;
-    let mut err = Vec::new(alloc);
-    let status = execute(alloc, &line, files, out, &mut err);
-    Ok((err, status))
 }

@@ -17,6 +17,6 @@ pub use devices::{Call, Front, KEPT, Recording, front_of, target};
 pub use losing::{LosingDevice, Loss};
 pub use luks1_volumes::{ENABLED, LARGE, large_areas, small1};
 pub use luks2_volumes::{Fields, TEXT, UUID, copy_of, damaged, small2, two_hashes, two_keyslots};
-pub use memory::{BLOCKS, TakenMemory};
+pub use memory::{BLOCKS, TakenMemory, grown_stack};
 pub use sealed::{VOLUME_KEY, key_area};
 pub use sums::{counted, is_sum};

@@ -12,6 +12,9 @@ pub const BLOCKS: usize = 1024;
 /// How many bytes of the stack are touched before memory is taken: it can't grow any more then.
 const STACK: usize = 1 << 20;
 
+/// How many bytes of it are touched before any test takes memory.
+const ROOM: usize = 2 * STACK;
+
 /// All memory that there was, but for the blocks of 256 bytes that were given back.
 ///
 /// Contracts see how many blocks can still be given back; how much memory there was they can't say.
@@ -54,6 +57,18 @@ impl TakenMemory {
     {
         let _ = self.blocks.pop();
     }
+}
+
+/// Lets the stack grow, and answers a byte for which it has to: a program that takes memory calls it first. What
+/// takes memory away leaves some right below the stack, so that later it can't grow any more. Inlined it
+/// would leave its bytes above what is called later.
+#[inline(never)]
+pub fn grown_stack() -> u8 {
+    let bytes = [0x5A; ROOM];
+    let mut hasher = Sha256::new();
+    hasher.update(bytes.as_slice());
+    let [first, ..] = hasher.finalize();
+    first
 }
 
 /// A byte for which the stack has to grow, since it is worked out of as many bytes there. Inlined it

@@ -1,4 +1,4 @@
-//! Tests that are no vectors of luks_vectors: calls that are generic, and a device that remembers. They
+//! Tests that are no vectors of luks_vectors or luks_volume_vectors: calls that are generic, and a device that remembers. They
 //! stand here so that the libraries aren't proved a second time for them.
 #![tactic(auto)]
 

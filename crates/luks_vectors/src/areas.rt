@@ -5,9 +5,8 @@ ghost use Rattle.luks_area.specs.Names.{HasArea};
 ghost use Rattle.luks_area.specs.declared.area.Area.{Area as TheArea};
 ghost use Rattle.luks_area.specs.declared.area.AreaName.{AreaName as TheName};
 
-use crate::malformed::{Malformed, demand};
-use crate::words::{Words, number_of};
 use luks_area::{Area, AreaName, Areas, Entry, MOST_AREAS, text_field};
+use luks_vector_lines::{Malformed, Words, demand, number_of};
 use std::alloc::Global;
 
 /// `fit TOTAL AREA ..`: whether the areas fit into a volume of so many bytes, each given as

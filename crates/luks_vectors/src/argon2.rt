@@ -1,8 +1,6 @@
 //! BLAKE2b and Argon2.
-use crate::malformed::{Malformed, demand};
-use crate::memory::Memory;
-use crate::words::Words;
 use luks_argon2::{Blake2b, Costs, Variant, argon2_with_secret};
+use luks_vector_lines::{Malformed, Memory, Words, demand};
 use std::alloc::Global;
 
 /// `blake2b LEN MESSAGE`: the digest of so many bytes of a message, which is fed in two pieces.

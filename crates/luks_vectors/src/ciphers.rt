@@ -1,6 +1,5 @@
 //! AES and XTS.
-use crate::malformed::{Malformed, demand};
-use crate::words::Words;
+use luks_vector_lines::{Malformed, Words, demand};
 use luks_xts::{AesKey, XtsKey};
 use std::alloc::Global;
 

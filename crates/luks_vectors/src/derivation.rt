@@ -1,7 +1,6 @@
 //! Hashes, HMAC and PBKDF2.
-use crate::malformed::{Malformed, demand};
-use crate::words::Words;
 use luks_kdf::{HashFn, HashName, Sha1Fn, Sha256Fn, Sha512Fn};
+use luks_vector_lines::{Malformed, Words, demand};
 use std::alloc::Global;
 
 /// `hash HASH MESSAGE`: the digest of the message.

@@ -1,6 +1,5 @@
 //! The anti-forensic splitter.
-use crate::malformed::{Malformed, demand};
-use crate::words::Words;
+use luks_vector_lines::{Malformed, Words, demand};
 use std::alloc::Global;
 
 /// `split HASH KEY RANDOM`: the stripes that hold the key, the first of them the random bytes.

@@ -1,0 +1,173 @@
+//! What the library tells of the volume that no command prints.
+ghost use Rattle.std.specs.Prelude.{◌≡◌, ◌<◌, ◌^◌, length};
+
+use crate::printing::print_hex;
+use luks_test_devices::TakenMemory;
+use luks_transcript_volumes::{Disk, Fault, Kept, Oddity, parted};
+use luks_volume::{Area, Data, Key, OpenFault, check, open_slot, unlock};
+use std::alloc::Global;
+use std::io::Write;
+
+/// A question to the library.
+#[derive(Debug, Clone, Copy)]
+pub struct Question {
+    what: What,
+    /// Whether it is asked while there is no memory.
+    is_starved: bool,
+}
+
+/// What the library is asked.
+#[derive(Debug, Clone, Copy)]
+enum What {
+    /// The areas of the volume, with its payload in it.
+    Areas,
+    /// The key of the keyslot of this number, by so many KiB of memory.
+    Open(u8, u32),
+    /// The keyslot that opens, and its key, by so many KiB of memory.
+    Unlock(u32),
+}
+
+/// The step of this word and of what follows it.
+pub fn question_of(word: &str, rest: &str) -> Option<Question> {
+    let is_starved = word == "starved";
+    let (word, rest) = if is_starved {
+        parted(rest)
+    } else {
+        (word, rest)
+    };
+    let what = what_of(word, rest)?;
+    Some(Question { what, is_starved })
+}
+
+fn what_of(word: &str, rest: &str) -> Option<What> {
+    let (first, later) = parted(rest);
+    Some(match word {
+        "areas" if rest.is_empty() => What::Areas,
+        "open" => What::Open(first.parse::<u8>().ok()?, later.parse::<u32>().ok()?),
+        "unlock" => What::Unlock(rest.parse::<u32>().ok()?),
+        _ => return None,
+    })
+}
+
+/// The most bytes of a passphrase.
+const LONGEST: usize = 65536;
+
+/// A disk of these bytes of which no call fails.
+fn disk_of(alloc: Global, kept: Kept) -> Disk
+    ensures { result.failures ≡ 0 }
+{
+    Disk::new(alloc, kept, Oddity::NONE)
+}
+
+/// Whether the keyslot of this number opens by the passphrase.
+pub fn opens(alloc: Global, volume: &mut Option<Kept>, slot: u8, passphrase: &[u8]) -> bool {
+    let Some(kept) = volume.take() else {
+        return false;
+    };
+    let mut disk = disk_of(alloc, kept);
+    let opens = open_slot(alloc, &mut disk, slot, passphrase, 0).is_ok_and(|key| key.is_some());
+    let (kept, _record) = disk.into_parts();
+    *volume = Some(kept);
+    opens
+}
+
+/// The passphrase; none where it is longer than one may be.
+fn shortened(passphrase: &[u8]) -> &[u8]
+    ensures { length result.now < 2 ^ 32 }
+{
+    if passphrase.len() <= LONGEST {
+        passphrase
+    } else {
+        &[]
+    }
+}
+
+impl What {
+    /// Prints what the library answers of the disk by this passphrase.
+    fn ask<W: Write>(
+        self,
+        alloc: Global,
+        disk: &mut Disk,
+        passphrase: &[u8],
+        out: &mut W,
+    ) -> Result<(), Fault>
+        requires failures { disk.old.failures ≡ 0 }
+        requires passphrase { length passphrase.now < 2 ^ 32 }
+    {
+        match self {
+            What::Areas => print_areas(alloc, disk, out),
+            What::Open(slot, memory) => {
+                print_key(open_slot(alloc, disk, slot, passphrase, memory), out)
+            }
+            What::Unlock(memory) => { print_unlocked(unlock(alloc, disk, passphrase, memory), out) }
+        }
+    }
+}
+
+impl Question {
+    /// Prints the question of this line, and what the library answers of the volume, by this passphrase.
+    pub fn take<W: Write>(
+        self,
+        alloc: Global,
+        line: &str,
+        volume: &mut Option<Kept>,
+        passphrase: &[u8],
+        out: &mut W,
+    ) -> Result<(), Fault> {
+        let kept = volume.take().ok_or(Fault::Outside)?;
+        let mut disk = disk_of(alloc, kept);
+        writeln!(out, "{line}")?;
+        let passphrase = shortened(passphrase);
+        if self.is_starved {
+            let taken = TakenMemory::take(alloc)?;
+            self.what.ask(alloc, &mut disk, passphrase, out)?;
+            drop(taken);
+        } else {
+            self.what.ask(alloc, &mut disk, passphrase, out)?;
+        }
+        let (kept, _record) = disk.into_parts();
+        *volume = Some(kept);
+        Ok(())
+    }
+}
+
+fn print_areas<W: Write>(alloc: Global, disk: &mut Disk, out: &mut W) -> Result<(), Fault>
+    requires { disk.old.failures ≡ 0 }
+{
+    match check(alloc, disk, Data::Here) {
+        Ok(report) => {
+            for entry in report.areas.as_slice() {
+                let Area { start, len } = entry.area;
+                writeln!(out, "{} {start} {len}", entry.name)?;
+            }
+        }
+        Err(fault) => writeln!(out, "refused {fault}")?,
+    }
+    Ok(())
+}
+
+/// Prints the key.
+fn print_key<W: Write>(found: Result<Option<Key>, OpenFault>, out: &mut W) -> Result<(), Fault> {
+    match found {
+        Ok(Some(key)) => print_hex(out, "key", key.as_bytes())?,
+        Ok(None) => writeln!(out, "none")?,
+        Err(fault) => writeln!(out, "refused {fault}")?,
+    }
+    Ok(())
+}
+
+/// Prints the keyslot that opened, and the key.
+fn print_unlocked<W: Write>(
+    found: Result<Option<(u8, Key)>, OpenFault>,
+    out: &mut W,
+) -> Result<(), Fault> {
+    match found {
+        Ok(Some((slot, key))) => {
+            writeln!(out, "keyslot {slot}")?;
+            print_hex(out, "key", key.as_bytes())?;
+        }
+        Ok(None) => writeln!(out, "none")?,
+        Err(fault) => writeln!(out, "refused {fault}")?,
+    }
+    Ok(())
+}
