@@ -1,0 +1,21 @@
+-- The order in which a header is made over an older one: what may be left at any time.
+use Rattle.std.specs.Prelude.{◌≡◌, ℕ, ◌*◌, ◌⊎◌, List}
+use Rattle.luks_area.specs.Ranges.{part, SameBut}
+use Rattle.luks_clearing.specs.Cleared.{AreCleared, IsCleared, IsOfFirstSectors}
+
+-- Nothing but the first sectors of both places has changed; or both are cleared; or the first is, and the
+-- key areas stand; or all but the first copy stands. `key_areas` and `but_first` say the last two of `new`.
+abbrev pub ClearsFirst : ℕ → Type 0 → Type 0 → List ℕ → List ℕ → Type 0
+ClearsFirst second key_areas but_first old new =
+    SameBut (IsOfFirstSectors second) old new
+    ⊎ (AreCleared second new
+    ⊎ ((IsCleared new 0 × key_areas)
+    ⊎ but_first))
+
+-- What the steps after the clearing leave: both places, of `size` bytes each, are as they were; or the
+-- first is, and the key areas stand; or all but the first copy stands.
+abbrev pub WritesInTurn : ℕ → Type 0 → Type 0 → List ℕ → List ℕ → Type 0
+WritesInTurn size key_areas but_first old new =
+    (part new 0 (2 * size) ≡ part old 0 (2 * size))
+    ⊎ (((part new 0 size ≡ part old 0 size) × key_areas)
+    ⊎ but_first)
