@@ -1,10 +1,12 @@
 -- What the steps of a conversion leave: the key areas and both copies of the header.
-use Rattle.std.proofs.Common.{◌≡◌, ℕ, List, true, inl, inr, arith, ◌∙◌, subst}
+use Rattle.std.proofs.Common.{◌≡◌, ℕ, ◌*◌, ◌≤◌, List, true, inl, inr, arith, lit≤, ◌∙◌, subst}
 use Rattle.luks_area.specs.Ranges.{part, IsAt, SameBut}
 use Rattle.luks_area.specs.RangeFacts.{part-same_but, part-same_but_at, same_but-then, same_but-wider}
+use Rattle.luks_clearing.specs.Cleared.{IsOfFirstSectors}
+use Rattle.luks_clearing.specs.OrderFacts.{clearing_widens, sectors_inside}
 use Rattle.luks_making.specs.Converted.{converted}
 use Rattle.luks_making.specs.WrittenArea.{IsWrittenArea}
-use Rattle.luks_converting.specs.Converted.{first_copy_salt, new_size, new_start, second_copy_salt, uuid_of, HasConvertedCopy, HasCopiedArea, IsConverted, IsOfConverted, IsOfNewArea, WritesFirstLast}
+use Rattle.luks_converting.specs.Converted.{first_copy_salt, new_size, new_start, second_copy_salt, uuid_of, HasConvertedCopy, HasCopiedArea, IsConverted, IsOfConverted, IsOfNewArea, WritesOverCleared}
 use Rattle.luks_converting.specs.Source.{header_members, is_enabled}
 use Rattle.luks_converting.proofs.CopyFacts.{copy_stays}
 use Rattle.luks_converting.proofs.PlaceFacts.{from_region}
@@ -27,18 +29,29 @@ module _ (h : List ℕ) where
   pub all_rest : {u v w x : List ℕ} → SameBut (IsOfNewArea h) u v → SameBut (IsAt 16384 16384) v w → SameBut (IsAt 0 16384) w x → SameBut (IsOfConverted h) u x
   all_rest same second first = same_but-then (second_rest same second) (same_but-wider (λ p at. inl (first_inside p at)) first)
 
--- ---- the place of the first copy
+-- ---- the places of both copies
 
 module _ (h : List ℕ) where
-  areas_behind : {u v : List ℕ} → SameBut (IsOfNewArea h) u v → part v 0 16384 ≡ part u 0 16384
-  areas_behind same = part-same_but 0 16384 same (λ p here other.
-      let low = from_region h other.number in let at = other.of_area.at.0 in let high = here.1 in absurd (omega (arith, low, at, high)))
+  -- the front of the target that ends before the new areas
+  areas_behind : {u v : List ℕ} (len : ℕ) → len ≤ 32768 → SameBut (IsOfNewArea h) u v → part v 0 len ≡ part u 0 len
+  areas_behind len before same = part-same_but 0 len same (λ p here other.
+      let low = from_region h other.number in let at = other.of_area.at.0 in let high = here.1 in absurd (omega (arith, low, at, high, before)))
 
-  pub first_waits : {u v : List ℕ} → SameBut (IsOfNewArea h) u v → (s random : List ℕ) → WritesFirstLast s random u v
-  first_waits same s random = inl (areas_behind same)
+  pub both_wait : {u v : List ℕ} → SameBut (IsOfNewArea h) u v → (s random : List ℕ) → WritesOverCleared s random u v
+  both_wait same s random = inl (areas_behind (2 * 16384) (omega arith) same)
 
-  pub first_waits_on : {u v w : List ℕ} → SameBut (IsOfNewArea h) u v → SameBut (IsAt 16384 16384) v w → (s random : List ℕ) → WritesFirstLast s random u w
-  first_waits_on same second s random = inl (part-same_but_at 16384 16384 0 16384 second (inl (omega arith)) ∙ areas_behind same)
+  second_apart : {v w : List ℕ} (s : List ℕ) → ((n : ℕ) → is_enabled h n ≡ true → HasCopiedArea h s n v) → SameBut (IsAt 16384 16384) v w
+      → (n : ℕ) → is_enabled h n ≡ true → HasCopiedArea h s n w
+  second_apart s areas second n on =
+      let low = from_region h n in
+      part-same_but_at 16384 16384 (new_start h n) (new_size h n) second (inr (omega (arith, low))) ∙ areas n on
+
+  pub first_waits : {u v w : List ℕ} → SameBut (IsOfNewArea h) u v → SameBut (IsAt 16384 16384) v w → (s random : List ℕ)
+      → ((n : ℕ) → is_enabled h n ≡ true → HasCopiedArea h s n v) → h ≡ part s 0 592 → WritesOverCleared s random u w
+  first_waits {w = w} same second s random areas begins = inr (inl (
+    part-same_but_at 16384 16384 0 16384 second (inl (omega arith)) ∙ areas_behind 16384 (omega arith) same,
+    subst (λ (b : List ℕ). (n : ℕ) → is_enabled b n ≡ true → HasCopiedArea b s n w) begins (second_apart s areas second),
+  ))
 
 -- ---- the volume that they leave
 
@@ -54,16 +67,15 @@ module _ (h s random u v w x json : List ℕ) (metadata : IsWrittenArea 12288 (c
   area_kept n on =
       let low = from_region h n in
       part-same_but_at 0 16384 (new_start h n) (new_size h n) first_same (inr (omega (arith, low)))
-      ∙ part-same_but_at 16384 16384 (new_start h n) (new_size h n) second_same (inr (omega (arith, low)))
-      ∙ areas n on
+      ∙ second_apart h s areas second_same n on
 
-  pub all_but_first : h ≡ part s 0 592 → WritesFirstLast s random u x
-  all_but_first begins = inr (record {
+  pub all_but_first : h ≡ part s 0 592 → WritesOverCleared s random u x
+  all_but_first begins = inr (inr (record {
     json = json;
     metadata = subst (λ (b : List ℕ). IsWrittenArea 12288 (converted (header_members b)) json) begins metadata;
     second = subst (λ (b : List ℕ). HasConvertedCopy x (uuid_of b) (second_copy_salt random) json 16384) begins second_kept;
     areas = subst (λ (b : List ℕ). (n : ℕ) → is_enabled b n ≡ true → HasCopiedArea b s n x) begins area_kept;
-  })
+  }))
 
 module _ (h s random u v w x json : List ℕ) (metadata : IsWrittenArea 12288 (converted (header_members h)) json)
     (areas : (n : ℕ) → is_enabled h n ≡ true → HasCopiedArea h s n v)
@@ -78,3 +90,18 @@ module _ (h s random u v w x json : List ℕ) (metadata : IsWrittenArea 12288 (c
     areas = subst (λ (b : List ℕ). (n : ℕ) → is_enabled b n ≡ true → HasCopiedArea b s n x) begins (area_kept h s random u v w x json metadata areas same second_same first_same second);
     rest = subst (λ (b : List ℕ). SameBut (IsOfConverted b) u x) begins (all_rest h same second_same first_same);
   }
+
+-- ---- what was cleared before
+
+pub sectors_of_copies : (h : List ℕ) (p : ℕ) → IsOfFirstSectors 16384 p → IsOfConverted h p
+sectors_of_copies h p is = inl (sectors_inside 16384 (lit≤ tt) p is)
+
+pub converted_over : {u v w : List ℕ} (s random : List ℕ) → SameBut (IsOfFirstSectors 16384) u v → IsConverted s random v w → IsConverted s random u w
+converted_over s random cleared is = record {
+  json = is.json;
+  metadata = is.metadata;
+  first = is.first;
+  second = is.second;
+  areas = is.areas;
+  rest = clearing_widens 16384 (sectors_of_copies (part s 0 592)) cleared is.rest;
+}

@@ -1,8 +1,9 @@
 -- A detached LUKS2 header that was made from a LUKS1 volume (LUKS2 On-Disk Format 1.1, 2.1 and 3).
-use Rattle.std.specs.Prelude.{◌≡◌, ℕ, ◌-◌, ◌⊎◌, List, ◌++◌, codes, drop, replicate, true}
+use Rattle.std.specs.Prelude.{◌≡◌, ℕ, ◌-◌, List, ◌++◌, codes, drop, replicate, true}
 use Rattle.luks_area.specs.Ranges.{part, IsAt, IsOfEither, SameBut}
 use Rattle.luks1_header.specs.Bytes.{text_at}
 use Rattle.luks1_header.specs.Header1.{entry, luks1_size}
+use Rattle.luks_clearing.specs.Order.{ClearsFirst, WritesInTurn}
 use Rattle.luks_head.specs.Header2.{magic_of, sha256_size}
 use Rattle.luks_head.specs.Written.{IsWrittenCopy}
 use Rattle.luks_head.specs.declared.bin2.Bin2.{Bin2}
@@ -67,6 +68,11 @@ HasCopiedArea h v n w =
     part w (new_start h n) (new_size h n)
     ≡ part v (source_start h n) (source_size h n) ++ replicate (new_size h n - source_size h n) 0
 
+-- so has each enabled keyslot of the LUKS1 volume `v`
+abbrev pub HasCopiedAreas : List ℕ → List ℕ → Type 0
+HasCopiedAreas v w = (n : ℕ) → is_enabled (part v 0 luks1_size) n ≡ true
+    → HasCopiedArea (part v 0 luks1_size) v n w
+
 -- the place is of the new area of the keyslot `n`, which is enabled
 pub record IsOfArea (h : List ℕ) (n p : ℕ) : Type 0 where
   pub enabled : is_enabled h n ≡ true
@@ -88,8 +94,7 @@ pub record IsConverted (v random old new : List ℕ) : Type 0 where
   pub metadata : IsWrittenArea json_size (converted (header_members (part v 0 luks1_size))) json
   pub first : HasConvertedCopy new (uuid_of (part v 0 luks1_size)) (first_copy_salt random) json 0
   pub second : HasConvertedCopy new (uuid_of (part v 0 luks1_size)) (second_copy_salt random) json copy_size
-  pub areas : (n : ℕ) → is_enabled (part v 0 luks1_size) n ≡ true
-      → HasCopiedArea (part v 0 luks1_size) v n new
+  pub areas : HasCopiedAreas v new
   pub rest : SameBut (IsOfConverted (part v 0 luks1_size)) old new
 
 -- the second copy stands, and each enabled keyslot's area is copied
@@ -97,10 +102,15 @@ pub record HasAllButFirst (v random new : List ℕ) : Type 0 where
   pub json : List ℕ
   pub metadata : IsWrittenArea json_size (converted (header_members (part v 0 luks1_size))) json
   pub second : HasConvertedCopy new (uuid_of (part v 0 luks1_size)) (second_copy_salt random) json copy_size
-  pub areas : (n : ℕ) → is_enabled (part v 0 luks1_size) n ≡ true
-      → HasCopiedArea (part v 0 luks1_size) v n new
+  pub areas : HasCopiedAreas v new
 
--- what may be left at any time: the place of the first copy is as it was, unless all else is written
+-- what may be left at any time: the first sectors of both copies' places are cleared before all else, and
+-- the first copy's stays so until all else is written
 abbrev pub WritesFirstLast : List ℕ → List ℕ → List ℕ → List ℕ → Type 0
 WritesFirstLast v random old new =
-    (part new 0 copy_size ≡ part old 0 copy_size) ⊎ HasAllButFirst v random new
+    ClearsFirst copy_size (HasCopiedAreas v new) (HasAllButFirst v random new) old new
+
+-- what the steps behind the clearing may leave
+abbrev pub WritesOverCleared : List ℕ → List ℕ → List ℕ → List ℕ → Type 0
+WritesOverCleared v random old new =
+    WritesInTurn copy_size (HasCopiedAreas v new) (HasAllButFirst v random new) old new

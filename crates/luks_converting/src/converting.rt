@@ -11,7 +11,7 @@ ghost use Rattle.luks_reading.specs.declared.open_fault.OpenFault.TheVariants.{N
 ghost use Rattle.luks_reading.specs.declared.report.Data.TheVariants.{Elsewhere};
 ghost use Rattle.luks_converting.specs.Accepted.{HasAreasInside, IsRead, IsReady};
 ghost use Rattle.luks_converting.specs.ConvertFaults.{is_convert_failure};
-ghost use Rattle.luks_converting.specs.Converted.{json_size, IsConverted, IsOfConverted, WritesFirstLast};
+ghost use Rattle.luks_converting.specs.Converted.{json_size, IsConverted, IsOfConverted, WritesFirstLast, WritesOverCleared};
 ghost use Rattle.luks_converting.specs.Outcome.{IsAnsweredFault, IsConvertFault, IsConvertible};
 ghost use Rattle.luks_converting.specs.Source.{header_members, is_enabled};
 ghost use Rattle.luks_copying.specs.TwoDevices.{CountsEither};
@@ -24,6 +24,7 @@ use crate::judging::judge;
 use crate::metadata::new_json;
 use crate::source::{SourceHeader, accepted_source};
 use luks_area::{Device, DeviceFault};
+use luks_clearing::clear_places;
 use luks_reading::Data;
 use std::alloc::Global;
 
@@ -35,9 +36,12 @@ pub const CONVERT_RANDOM: u64 = 128;
 ///
 /// `data_` says where the source's payload lies. Each enabled keyslot keeps its number, its salt and
 /// its iterations, and opens by its passphrase as before; the digest of the volume key stays, and the
-/// payload's place. The key areas are written first, each with zeros to its end, then the second copy
-/// of the header, then the first, a flush after each. Takes memory for the metadata, before the first
-/// write.
+/// payload's place.
+///
+/// First the first sectors of the places of both copies become zeros, with one flush: an older header
+/// that counts there would still count while its key areas are overwritten. Then the key areas are
+/// written, each with zeros to its end, then the second copy of the header, then the first, a flush
+/// after each. Takes memory for the metadata, before the first write.
 pub fn convert<S: Device, T: Device>(
     alloc: Global,
     source: &mut S,
@@ -72,7 +76,9 @@ pub fn convert<S: Device, T: Device>(
         → SameBut (IsOfConverted (part (S.bytes source.old) 0 luks1_size))
         (T.bytes target.old) (T.bytes target.new) }
 
-    // The first copy is written last: until all else is written its place is as it was.
+    // The first sectors of both copies' places are cleared first, and no header counts where its own
+    // is cleared (`cleared_counts_no_more`). The key areas are written next, then the second copy;
+    // until all these stand nothing counts at the first copy's place, which is written last.
     ensures order { S.tells → T.tells → WritesFirstLast (S.bytes source.old) random.now
         (T.bytes target.old) (T.bytes target.new) }
 
@@ -101,7 +107,7 @@ pub fn convert<S: Device, T: Device>(
     }
 }
 
-/// Writes the new header, whose JSON area was made: the key areas, the second copy, the first.
+/// Clears the places of both copies, and writes the new header, whose JSON area was made.
 fn write_converted<S: Device, T: Device>(
     source: &mut S,
     target: &mut T,
@@ -126,6 +132,41 @@ fn write_converted<S: Device, T: Device>(
     ensures order { S.tells → T.tells
         → header.now.bytes ≡ part (S.bytes source.old) 0 luks1_size
         → WritesFirstLast (S.bytes source.old) random.now
+        (T.bytes target.old) (T.bytes target.new) }
+    ensures converted { S.tells → T.tells
+        → header.now.bytes ≡ part (S.bytes source.old) 0 luks1_size
+        → OnOk result (IsConverted (S.bytes source.old) random.now
+        (T.bytes target.old) (T.bytes target.new)) }
+{
+    clear_places(target, COPY_SIZE)?;
+    write_over_cleared(source, target, header, random, json)
+}
+
+/// Writes the new header over cleared places: the key areas, the second copy, the first.
+fn write_over_cleared<S: Device, T: Device>(
+    source: &mut S,
+    target: &mut T,
+    header: &SourceHeader,
+    random: &[u8],
+    json: &[u8],
+) -> Result<(), DeviceFault>
+    requires read { IsRead header.now }
+    requires ready { IsReady header.now.bytes (T.size target.old) random.now }
+    requires there { HasAreasInside header.now.bytes (S.size source.old) }
+    requires json { IsWrittenArea json_size (converted (header_members header.now.bytes)) json.now }
+    requires source_room { S.failed source.old + 1 < 2 ^ 64 }
+    requires target_room { T.failed target.old + 1 < 2 ^ 64 }
+    requires settled { T.tells → IsSettled T.unsettled target.old }
+    ensures count { CountsEither is_failure result (S.failed source.old) (S.failed source.new)
+        (T.failed target.old) (T.failed target.new) }
+    ensures kept { IsUnchanged S.tells S.size S.bytes S.unsettled source.old source.new }
+    ensures size { T.size target.new ≡ T.size target.old }
+    ensures settled { T.tells → OnOk result (IsSettled T.unsettled target.new) }
+    ensures rest { T.tells → SameBut (IsOfConverted header.now.bytes)
+        (T.bytes target.old) (T.bytes target.new) }
+    ensures order { S.tells → T.tells
+        → header.now.bytes ≡ part (S.bytes source.old) 0 luks1_size
+        → WritesOverCleared (S.bytes source.old) random.now
         (T.bytes target.old) (T.bytes target.new) }
     ensures converted { S.tells → T.tells
         → header.now.bytes ≡ part (S.bytes source.old) 0 luks1_size

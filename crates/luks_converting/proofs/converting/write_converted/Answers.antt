@@ -1,60 +1,27 @@
-use Rattle.std.proofs.Common.{◌≡◌, ℕ, List, length, ap, sym, subst, ◌∙◌}
-use Rattle.luks_converting.specs.Converted.{uuid_of, HasConvertedCopy}
-use Rattle.luks_converting.proofs.WrittenFacts.{all_but_first, all_rest, areas_rest, first_waits, first_waits_on, is_converted, second_rest}
+use Rattle.std.proofs.Common.{lit≤}
+use Rattle.std.proofs.lemmas.Result.{on_ok_weaker}
+use Rattle.luks_area.specs.RangeFacts.{same_but-wider}
+use Rattle.luks_clearing.specs.OrderFacts.{cleared_then, clearing_widens}
+use Rattle.luks_converting.proofs.WrittenFacts.{converted_over, sectors_of_copies}
 use Rattle.luks_converting.proofs.converting.write_converted.Goals as goal
 
-pub write_converted_copy-requires-clause-uuid : goal.write_converted_copy-requires-clause-uuid
-write_converted_copy-requires-clause-uuid g c =
-    ap length (c.as_str-uuid.ensures.value ∙ sym c.requires.read.fields.common.fields.uuid) ∙ c.requires.read.fields.common.uuid.long
+-- the clearing failed
 
-pub returns-in_err-copy_areas-clause-rest : goal.returns-in_err-copy_areas-clause-rest
-returns-in_err-copy_areas-clause-rest g c = λ tells. areas_rest c.args.header.now.bytes (c.copy_areas.ensures.rest tells)
+pub returns-in_err-clear_places-clause-rest : goal.returns-in_err-clear_places-clause-rest
+returns-in_err-clear_places-clause-rest g c = λ tells.
+    same_but-wider (sectors_of_copies c.args.header.now.bytes) (c.clear_places.ensures.rest tells)
 
-pub returns-in_err-copy_areas-clause-order : goal.returns-in_err-copy_areas-clause-order
-returns-in_err-copy_areas-clause-order g c = λ source tells begins.
-    first_waits c.args.header.now.bytes (c.copy_areas.ensures.rest tells) (g.S.Device.bytes c.args.source.now) c.args.random.now
-
-pub returns-in_err-write_converted_copy-clause-rest : goal.returns-in_err-write_converted_copy-clause-rest
-returns-in_err-write_converted_copy-clause-rest g c = λ tells.
-    second_rest c.args.header.now.bytes (c.copy_areas.ensures.rest tells) (c.write_converted_copy.ensures.rest tells)
-
-pub returns-in_err-write_converted_copy-clause-order : goal.returns-in_err-write_converted_copy-clause-order
-returns-in_err-write_converted_copy-clause-order g c = λ source tells begins.
-    first_waits_on c.args.header.now.bytes (c.copy_areas.ensures.rest tells) (c.write_converted_copy.ensures.rest tells) (g.S.Device.bytes c.args.source.now) c.args.random.now
-
-pub returns-in_err-write_converted_copy-2-clause-rest : goal.returns-in_err-write_converted_copy-2-clause-rest
-returns-in_err-write_converted_copy-2-clause-rest g c = λ tells.
-    all_rest c.args.header.now.bytes (c.copy_areas.ensures.rest tells) (c.write_converted_copy.ensures.rest tells) (c.write_converted_copy-2.ensures.rest tells)
+-- the places are cleared
 
 pub returns-clause-rest : goal.returns-clause-rest
 returns-clause-rest g c = λ tells.
-    all_rest c.args.header.now.bytes (c.copy_areas.ensures.rest tells) (c.write_converted_copy.ensures.rest tells) (c.write_converted_copy-2.ensures.rest tells)
-
-pub returns-in_err-write_converted_copy-2-clause-order : goal.returns-in_err-write_converted_copy-2-clause-order
-returns-in_err-write_converted_copy-2-clause-order g c = λ source tells begins.
-    let uuid : c.as_str-uuid.result.now ≡ uuid_of c.args.header.now.bytes = c.as_str-uuid.ensures.value ∙ sym c.requires.read.fields.common.fields.uuid in
-    let second = subst (λ (s : List ℕ). HasConvertedCopy (g.T.Device.bytes c.write_converted_copy.new.device) (uuid_of c.args.header.now.bytes) s c.args.json.now 16384) c.taken_salt-second.ensures
-    (subst (λ (t : List ℕ). HasConvertedCopy (g.T.Device.bytes c.write_converted_copy.new.device) t c.taken_salt-second.result c.args.json.now 16384) uuid (c.in_ok-write_converted_copy.ensures.copy tells)) in
-    all_but_first c.args.header.now.bytes (g.S.Device.bytes c.args.source.now) c.args.random.now (g.T.Device.bytes c.args.target.now) (g.T.Device.bytes c.copy_areas.new.target)
-    (g.T.Device.bytes c.write_converted_copy.new.device) (g.T.Device.bytes c.write_converted_copy-2.new.device) c.args.json.now c.requires.json (c.in_ok-copy_areas.ensures.copied source tells)
-    (c.copy_areas.ensures.rest tells) (c.write_converted_copy.ensures.rest tells) (c.write_converted_copy-2.ensures.rest tells) second begins
+    clearing_widens 16384 (sectors_of_copies c.args.header.now.bytes) (c.clear_places.ensures.rest tells) (c.write_over_cleared.ensures.rest tells)
 
 pub returns-clause-order : goal.returns-clause-order
 returns-clause-order g c = λ source tells begins.
-    let uuid : c.as_str-uuid.result.now ≡ uuid_of c.args.header.now.bytes = c.as_str-uuid.ensures.value ∙ sym c.requires.read.fields.common.fields.uuid in
-    let second = subst (λ (s : List ℕ). HasConvertedCopy (g.T.Device.bytes c.write_converted_copy.new.device) (uuid_of c.args.header.now.bytes) s c.args.json.now 16384) c.taken_salt-second.ensures
-    (subst (λ (t : List ℕ). HasConvertedCopy (g.T.Device.bytes c.write_converted_copy.new.device) t c.taken_salt-second.result c.args.json.now 16384) uuid (c.in_ok-write_converted_copy.ensures.copy tells)) in
-    all_but_first c.args.header.now.bytes (g.S.Device.bytes c.args.source.now) c.args.random.now (g.T.Device.bytes c.args.target.now) (g.T.Device.bytes c.copy_areas.new.target)
-    (g.T.Device.bytes c.write_converted_copy.new.device) (g.T.Device.bytes c.write_converted_copy-2.new.device) c.args.json.now c.requires.json (c.in_ok-copy_areas.ensures.copied source tells)
-    (c.copy_areas.ensures.rest tells) (c.write_converted_copy.ensures.rest tells) (c.write_converted_copy-2.ensures.rest tells) second begins
+    cleared_then 16384 (lit≤ tt) (c.in_ok-clear_places.ensures.cleared tells) (c.write_over_cleared.ensures.order source tells begins)
 
 pub returns-clause-converted : goal.returns-clause-converted
 returns-clause-converted g c = λ source tells begins.
-    let uuid : c.as_str-uuid.result.now ≡ uuid_of c.args.header.now.bytes = c.as_str-uuid.ensures.value ∙ sym c.requires.read.fields.common.fields.uuid in
-    let second = subst (λ (s : List ℕ). HasConvertedCopy (g.T.Device.bytes c.write_converted_copy.new.device) (uuid_of c.args.header.now.bytes) s c.args.json.now 16384) c.taken_salt-second.ensures
-    (subst (λ (t : List ℕ). HasConvertedCopy (g.T.Device.bytes c.write_converted_copy.new.device) t c.taken_salt-second.result c.args.json.now 16384) uuid (c.in_ok-write_converted_copy.ensures.copy tells)) in
-    let first = subst (λ (s : List ℕ). HasConvertedCopy (g.T.Device.bytes c.write_converted_copy-2.new.device) (uuid_of c.args.header.now.bytes) s c.args.json.now 0) c.taken_salt-first.ensures
-    (subst (λ (t : List ℕ). HasConvertedCopy (g.T.Device.bytes c.write_converted_copy-2.new.device) t c.taken_salt-first.result c.args.json.now 0) uuid (c.in_ok-write_converted_copy-2.ensures.copy tells)) in
-    is_converted c.args.header.now.bytes (g.S.Device.bytes c.args.source.now) c.args.random.now (g.T.Device.bytes c.args.target.now) (g.T.Device.bytes c.copy_areas.new.target)
-    (g.T.Device.bytes c.write_converted_copy.new.device) (g.T.Device.bytes c.write_converted_copy-2.new.device) c.args.json.now c.requires.json (c.in_ok-copy_areas.ensures.copied source tells)
-    (c.copy_areas.ensures.rest tells) (c.write_converted_copy.ensures.rest tells) (c.write_converted_copy-2.ensures.rest tells) second first begins
+    on_ok_weaker c.write_over_cleared.result (converted_over (g.S.Device.bytes c.args.source.now) c.args.random.now (c.clear_places.ensures.rest tells))
+    (c.write_over_cleared.ensures.converted source tells begins)
