@@ -7,7 +7,7 @@ use Rattle.luks_head.proofs.CopyFacts.{listed_at_least}
 use Rattle.luks_meta.specs.Content.{content}
 use Rattle.luks_rebuilding.proofs.CopyFacts.{copy_stays}
 use Rattle.luks_rebuilding.proofs.RegionFacts.{behind, ends}
-use Rattle.luks_rebuilding.specs.Found.{HasRegionInside, HasSlots, HasSlotsInside, IsAllButFirst, IsOfSlots, IsOfWhole, IsWhole, WritesWholeLast}
+use Rattle.luks_rebuilding.specs.Found.{HasRegionInside, HasSlots, HasSlotsInside, IsAllButFirst, IsOfSlots, IsOfWhole, IsWhole, WritesWholeInTurn}
 use Rattle.luks_rebuilding.specs.KeyAreas.{IsSlotArea}
 use Rattle.luks_rebuilding.specs.Rebuilt.{second_copy_salt, HasRebuiltCopy}
 use Rattle.luks_rebuilding.specs.declared.candidate.Candidate.{Candidate}
@@ -49,20 +49,36 @@ module _ (c : Candidate) where
         let inside = region.inside in
         omega (arith, end_, inside)
 
-    -- ---- the place of the first copy
+    -- a cleared sector is no longer than its place
+    pub sector_fits : 512 ≤ c.place.size
+    sector_fits = let least = large in omega (arith, least)
 
-    areas_behind : {u v : List ℕ} → SameBut (IsOfSlots (content c.meta)) u v → part v 0 c.place.size ≡ part u 0 c.place.size
-    areas_behind same = part-same_but 0 c.place.size same (λ p here other.
+    -- ---- the places of both copies
+
+    -- key areas that are written touch neither
+    areas_behind : {u v : List ℕ} (len : ℕ) → len ≤ 2 * c.place.size → SameBut (IsOfSlots (content c.meta)) u v → part v 0 len ≡ part u 0 len
+    areas_behind len inside same = part-same_but 0 len same (λ p here other.
         let low = slot_behind other.number other.of_slot.area other.of_slot.is in
         let at = other.of_slot.at.0 in
         let high = here.1 in
-        absurd (omega (arith, low, at, high)))
+        absurd (omega (arith, low, at, high, inside)))
 
-    pub first_waits : {u v : List ℕ} → SameBut (IsOfSlots (content c.meta)) u v → (s uuid random : List ℕ) → WritesWholeLast c s uuid random u v
-    first_waits same s uuid random = inl (areas_behind same)
+    -- the second copy touches no key area
+    second_apart : {v w : List ℕ} (s : List ℕ) → HasSlots c s v → SameBut (IsAt c.place.size c.place.size) v w → HasSlots c s w
+    second_apart s areas second n a is =
+        let low = slot_behind n a is in
+        part-same_but_at c.place.size c.place.size a.start a.len second (inr (omega (arith, low))) ∙ areas n a is
 
-    pub first_waits_on : {u v w : List ℕ} → SameBut (IsOfSlots (content c.meta)) u v → SameBut (IsAt c.place.size c.place.size) v w → (s uuid random : List ℕ) → WritesWholeLast c s uuid random u w
-    first_waits_on same second s uuid random = inl (part-same_but_at c.place.size c.place.size 0 c.place.size second (inl (omega arith)) ∙ areas_behind same)
+    -- while key areas are written both places wait
+    pub both_wait : {u v : List ℕ} → SameBut (IsOfSlots (content c.meta)) u v → (s uuid random : List ℕ) → WritesWholeInTurn c s uuid random u v
+    both_wait same s uuid random = inl (areas_behind (2 * c.place.size) (omega arith) same)
+
+    -- while the second copy is written the key areas stand, and the first copy's place waits
+    pub first_waits : {u v w : List ℕ} → SameBut (IsOfSlots (content c.meta)) u v → SameBut (IsAt c.place.size c.place.size) v w
+        → (s uuid random : List ℕ) → HasSlots c s v → WritesWholeInTurn c s uuid random u w
+    first_waits same second s uuid random areas =
+        let waits = part-same_but_at c.place.size c.place.size 0 c.place.size second (inl (omega arith)) ∙ areas_behind c.place.size (omega arith) same in
+        inr (inl (waits, second_apart s areas second))
 
     -- ---- the volume that they leave
 
@@ -78,8 +94,7 @@ module _ (c : Candidate) where
       areas_kept n a is =
           let low = slot_behind n a is in
           part-same_but_at 0 c.place.size a.start a.len first_same (inr (omega (arith, low)))
-          ∙ part-same_but_at c.place.size c.place.size a.start a.len second_same (inr (omega (arith, low)))
-          ∙ areas n a is
+          ∙ second_apart s areas second_same n a is
 
       pub all_but_first : IsAllButFirst c s uuid random x
       all_but_first = record { second = second_kept; areas = areas_kept }

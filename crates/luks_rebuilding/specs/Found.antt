@@ -1,11 +1,12 @@
 -- What has been found and judged on the way to a header: words of private contracts.
-use Rattle.std.specs.Prelude.{◌≡◌, ◌≢◌, ℕ, ◌+◌, ◌-◌, ◌*◌, ◌≤◌, ◌⊎◌, ◌++◌, List, length, replicate, Option, Some, None, ⊤}
+use Rattle.std.specs.Prelude.{◌≡◌, ◌≢◌, ℕ, ◌+◌, ◌-◌, ◌*◌, ◌≤◌, ◌++◌, List, length, replicate, Option, Some, None, ⊤}
 use Rattle.serde_json.specs.Data.{Data as Value}
 use Rattle.luks_area.specs.Area.{AreDisjoint, Fit}
 use Rattle.luks_area.specs.Ranges.{part, IsAt, IsOfEither}
 use Rattle.luks_area.specs.Text.{text_of}
 use Rattle.luks_area.specs.declared.area.Area.{Area}
 use Rattle.luks1_header.specs.Bytes.{IsUuid}
+use Rattle.luks_clearing.specs.Order.{ClearsFirst, WritesInTurn}
 use Rattle.luks_head.specs.Header2.{header_at, uuid_field, IsUuidField}
 use Rattle.luks_head.specs.Selection.{nothing, Chosen}
 use Rattle.luks_head.specs.Sizes.{IsListed}
@@ -151,9 +152,15 @@ pub record IsWholeWritten (c : Candidate) (s uuid random new : List ℕ) : Type 
   pub first : HasRebuiltCopy new uuid (first_copy_salt random) c.json.items c.place.size 0
   pub others : IsAllButFirst c s uuid random new
 
+-- what may be left at any time of the steps over cleared places
+abbrev pub WritesWholeInTurn : Candidate → List ℕ → List ℕ → List ℕ → List ℕ → List ℕ → Type 0
+WritesWholeInTurn c s uuid random old new =
+    WritesInTurn c.place.size (HasSlots c s new) (IsAllButFirst c s uuid random new) old new
+
+-- and of all steps, of which the clearing is the first
 abbrev pub WritesWholeLast : Candidate → List ℕ → List ℕ → List ℕ → List ℕ → List ℕ → Type 0
 WritesWholeLast c s uuid random old new =
-    (part new 0 c.place.size ≡ part old 0 c.place.size) ⊎ IsAllButFirst c s uuid random new
+    ClearsFirst c.place.size (HasSlots c s new) (IsAllButFirst c s uuid random new) old new
 
 -- the places that are written
 abbrev pub IsOfWhole : Candidate → ℕ → Type 0

@@ -3,6 +3,7 @@
 use Rattle.std.specs.Prelude.{◌≡◌, ℕ, ◌*◌, ◌==◌, ◌⊎◌, List, ◌++◌, codes, drop, replicate, if◌then◌else◌, Option, Some, None}
 use Rattle.luks_area.specs.Ranges.{part, IsAt, IsOfEither, SameBut}
 use Rattle.luks_area.specs.Text.{text_of}
+use Rattle.luks_clearing.specs.Order.{ClearsFirst}
 use Rattle.luks_head.specs.Header2.{header_at, magic_of, sha256_size, uuid_field, IsUuidField}
 use Rattle.luks_head.specs.Written.{IsWrittenCopy}
 use Rattle.luks_head.specs.declared.bin2.Bin2.{Bin2}
@@ -104,12 +105,13 @@ pub record HasAllButFirst (v : List ℕ) (given : Option (List ℕ)) (random new
   pub second : HasRebuiltCopy new uuid (second_copy_salt random) (json_of v place) place.size place.size
   pub areas : HasKeyAreas v place new
 
--- the place of the first copy is as it was, unless all else is written
+-- the first sectors of both copies' places are cleared before all else: the second copy's stays so until
+-- the key areas stand, the first copy's until all else is written
 abbrev pub FirstIsLast : List ℕ → Option (List ℕ) → List ℕ → List ℕ → List ℕ → Place → Type 0
 FirstIsLast v given random old new place =
-    (part new 0 place.size ≡ part old 0 place.size) ⊎ HasAllButFirst v given random new place
+    ClearsFirst place.size (HasKeyAreas v place new) (HasAllButFirst v given random new place) old new
 
--- what may be left at any time
+-- what may be left at any time: nothing has changed, or it is so for the candidate that is taken
 abbrev pub WritesFirstLast : List ℕ → Which → Option (List ℕ) → List ℕ → List ℕ → List ℕ → Type 0
 WritesFirstLast v which given random old new =
     (new ≡ old) ⊎ OfTaken v which (FirstIsLast v given random old new)

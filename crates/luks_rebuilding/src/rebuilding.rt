@@ -8,7 +8,7 @@ ghost use Rattle.luks_reading.specs.Answer.{AnswerWithin, Opened};
 ghost use Rattle.luks_reading.specs.Checked.{WellFormed};
 ghost use Rattle.luks_reading.specs.declared.report.Data.TheVariants.{Elsewhere};
 ghost use Rattle.luks_rebuilding.specs.Candidates.{json_of, OfTaken};
-ghost use Rattle.luks_rebuilding.specs.Found.{AreSlotsApart, HasRegionInside, HasSlotsInside, IsOfWhole, IsWhole, IsWholeWritten, WritesWholeLast};
+ghost use Rattle.luks_rebuilding.specs.Found.{AreSlotsApart, HasRegionInside, HasSlotsInside, IsOfWhole, IsWhole, IsWholeWritten, WritesWholeInTurn, WritesWholeLast};
 ghost use Rattle.luks_rebuilding.specs.Gives.{Gives};
 ghost use Rattle.luks_rebuilding.specs.Outcome.{IsAnsweredFault, IsRebuildable, IsRebuildFault};
 ghost use Rattle.luks_rebuilding.specs.RebuildFaults.{is_rebuild_failure};
@@ -23,6 +23,7 @@ use crate::own_uuid::own_field;
 use crate::place::Which;
 use crate::rebuild_fault::RebuildFault;
 use luks_area::{Device, DeviceFault};
+use luks_clearing::clear_places;
 use std::alloc::Global;
 
 /// How many random bytes `rebuild` takes: the salts of the first and the second copy of the header,
@@ -35,9 +36,12 @@ pub const REBUILD_RANDOM: u64 = 144;
 ///
 /// The metadata stays byte by byte, and so does the size of the header; each key area has the
 /// source's bytes, and so each keyslot opens by its passphrase. The uuid is `uuid`, else that of the
-/// source's binary headers, else a new one; label and subsystem are empty. The key areas are written
-/// first, then the second copy of the header, then the first, a flush after each. Takes memory for
-/// the metadata, before the first write.
+/// source's binary headers, else a new one; label and subsystem are empty.
+///
+/// Before all else the first sectors of both copies' places become zeros, with one flush: an older
+/// header there would still count while its key areas are overwritten. Then the key areas are written,
+/// then the second copy of the header, then the first, a flush after each. Takes memory for the
+/// metadata, before the first write.
 pub fn rebuild<S: Device, T: Device>(
     alloc: Global,
     source: &mut S,
@@ -74,7 +78,9 @@ pub fn rebuild<S: Device, T: Device>(
         → SameBut (IsOfRebuilt (S.bytes source.old) which)
         (T.bytes target.old) (T.bytes target.new) }
 
-    // The first copy is written last: until all else is written its place is as it was.
+    // Before any other byte changes the first sectors of both copies' places are cleared, and nothing
+    // counts where they are (`cleared_counts_no_more` of luks_clearing). The second copy's stays so
+    // until the key areas stand, the first copy's until the second copy stands too.
     ensures order { S.tells → T.tells → WritesFirstLast (S.bytes source.old) which
         (option_map (λ t. t.now) uuid.entry) random.now (T.bytes target.old) (T.bytes target.new) }
 
@@ -96,7 +102,7 @@ pub fn rebuild<S: Device, T: Device>(
     Ok(())
 }
 
-/// Writes the new header: the key areas, the second copy, the first.
+/// Clears the places of both copies, and writes the new header.
 fn write_rebuilt<S: Device, T: Device>(
     source: &mut S,
     target: &mut T,
@@ -120,6 +126,39 @@ fn write_rebuilt<S: Device, T: Device>(
     ensures rest { T.tells → SameBut (IsOfWhole found.now) (T.bytes target.old) (T.bytes target.new) }
     ensures order { S.tells → T.tells → (uuid : List ℕ) → field ≡ uuid ++ replicate 4 0
         → WritesWholeLast found.now (S.bytes source.old) uuid random.now
+        (T.bytes target.old) (T.bytes target.new) }
+    ensures written { S.tells → T.tells → OnOk result ((uuid : List ℕ)
+        → field ≡ uuid ++ replicate 4 0
+        → IsWholeWritten found.now (S.bytes source.old) uuid random.now (T.bytes target.new)) }
+{
+    clear_places(target, found.place.size)?;
+    write_over_cleared(source, target, found, field, random)
+}
+
+/// Writes the new header over cleared places: the key areas, the second copy, the first.
+fn write_over_cleared<S: Device, T: Device>(
+    source: &mut S,
+    target: &mut T,
+    found: &Candidate,
+    field: [u8; 40],
+    random: &[u8],
+) -> Result<(), DeviceFault>
+    requires whole { IsWhole (S.size source.old) found.now }
+    requires apart { AreSlotsApart (content found.now.meta) }
+    requires there { HasSlotsInside (content found.now.meta) (S.size source.old) }
+    requires region { HasRegionInside (content found.now.meta) found.now.place.size (T.size target.old) }
+    requires random { length random.now ≡ random_size }
+    requires source_room { S.failed source.old + 1 < 2 ^ 64 }
+    requires target_room { T.failed target.old + 1 < 2 ^ 64 }
+    requires settled { T.tells → IsSettled T.unsettled target.old }
+    ensures count { CountsEither is_failure result (S.failed source.old) (S.failed source.new)
+        (T.failed target.old) (T.failed target.new) }
+    ensures kept { IsUnchanged S.tells S.size S.bytes S.unsettled source.old source.new }
+    ensures size { T.size target.new ≡ T.size target.old }
+    ensures settled { T.tells → OnOk result (IsSettled T.unsettled target.new) }
+    ensures rest { T.tells → SameBut (IsOfWhole found.now) (T.bytes target.old) (T.bytes target.new) }
+    ensures order { S.tells → T.tells → (uuid : List ℕ) → field ≡ uuid ++ replicate 4 0
+        → WritesWholeInTurn found.now (S.bytes source.old) uuid random.now
         (T.bytes target.old) (T.bytes target.new) }
     ensures written { S.tells → T.tells → OnOk result ((uuid : List ℕ)
         → field ≡ uuid ++ replicate 4 0
