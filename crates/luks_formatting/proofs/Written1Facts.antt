@@ -7,6 +7,8 @@ use Rattle.luks1_header.specs.Bytes.{text_at}
 use Rattle.luks1_header.specs.Header1.{entry, entry_iterations}
 use Rattle.luks1_header.specs.Written.{WritesLuks1}
 use Rattle.luks1_header.specs.declared.luks1.Luks1.{Luks1}
+use Rattle.luks_clearing.specs.Cleared.{AreCleared, IsOfFirstSectors}
+use Rattle.luks_clearing.specs.OrderFacts.{clearing_widens}
 use Rattle.luks_kdf.specs.Names.{name_of}
 use Rattle.luks_slot.specs.Opening.{area_bytes}
 use Rattle.luks_slot.specs.Sealing.{IsSealed}
@@ -18,9 +20,9 @@ use Rattle.luks_slot.specs.declared.plan.SlotPlan.{SlotPlan}
 use Rattle.luks_reading.specs.Plans.{HasLuks1Plan, IsLuks1Cipher, IsLuks1Derivation}
 use Rattle.luks_reading.specs.declared.report.Data.{Data}
 use Rattle.luks_terms.specs.declared.format.Format.{Format}
-use Rattle.luks_formatting.specs.Formatted1.{IsFormatted1, IsOfLuks1}
+use Rattle.luks_formatting.specs.Formatted1.{ClearsFirst1, IsFormatted1, IsOfLuks1, WritesInTurn1}
 use Rattle.luks_formatting.specs.NewHeader1.{area1, IsNewCipher1, IsNewHeader1}
-use Rattle.luks_formatting.specs.NewPlan.{key_digest, IsNewDerivation, IsNewPlan}
+use Rattle.luks_formatting.specs.NewPlan.{key_digest, HoldsKey, IsNewDerivation, IsNewPlan}
 use Rattle.luks_formatting.specs.RandomBytes.{digest_salt, random_stripes, slot_place1, slot_salt, volume_key}
 use Rattle.luks_formatting.proofs.NewHeader1Facts.{fields, holds, key_size, slot_len, slot_start, stripes_at}
 
@@ -74,37 +76,86 @@ module _ (payload : Data) (format : Format) (random h : List ℕ) (d : Luks1) (n
         };
       }
 
--- the volume that both steps leave
-module _ (payload : Data) (format : Format) (passphrase random u v w bytes key stripes : List ℕ) (d : Luks1) (plan : SlotPlan)
+-- ---- what stands after each step
+
+-- the first sector lies before the key area
+pub first_waits : {u v : List ℕ} (area : Area) → area ≡ area1 → SameBut (IsAt area.start 256000) u v → part v 0 512 ≡ part u 0 512
+first_waits area is same = (let start = ap (λ (a : Area). a.start) is in part-same_but_at area.start 256000 0 512 same (inl (omega (arith, start))))
+
+module _ (payload : Data) (format : Format) (passphrase random v w bytes key stripes : List ℕ) (d : Luks1) (plan : SlotPlan)
     (new : IsNewHeader1 payload format random d) (put : WritesLuks1 bytes d)
     (is : IsNewPlan format (slot_salt slot_place1 random) area1 (digest_salt random) (key_digest format random 20) plan) (cipher : IsNewCipher1 plan.cipher)
-    (large : 592 ≤ length v) (wrote : w ≡ written v 0 bytes) (outside : SameOutside v w 0 (length bytes)) (same : SameBut (IsAt plan.area.start 256000) u v)
+    (outside : SameOutside v w 0 (length bytes))
     (is_key : key ≡ volume_key random) (are_stripes : stripes ≡ random_stripes slot_place1 random) (sealed : IsSealed plan (area_bytes v plan.area) passphrase key stripes) where
-  there : part w 0 592 ≡ bytes
-  there =
-      let fits : 0 + length bytes ≤ length v = (let long = put.long in omega (arith, long, large)) in
-      ap (λ l. part l 0 592) wrote ∙ ap (λ n. part (written v 0 bytes) 0 n) (sym put.long) ∙ part-written v 0 bytes fits
-
-  header_put : WritesLuks1 (part w 0 592) d
-  header_put = subst (λ (b : List ℕ). WritesLuks1 b d) (sym there) put
-
   area_kept : area_bytes w plan.area ≡ area_bytes v plan.area
   area_kept =
       let behind : SameBut (IsAt 0 592) v w = subst (λ (m : ℕ). SameBut (IsAt 0 m) v w) put.long (same_but-same_outside outside) in
       let start : plan.area.start ≡ 4096 = ap (λ (a : Area). a.start) is.area in
       part-same_but_at 0 592 plan.area.start plan.area.len behind (inr (omega (arith, start)))
 
-  pub formatted : IsFormatted1 payload format passphrase random u w
-  formatted = record {
-    header = d;
-    fields = new;
-    written = header_put;
-    slot = record {
-      plan = plan;
-      is = has_plan payload format random (part w 0 592) d new header_put plan is cipher;
-      sealed = subst (λ (k : List ℕ). IsSealed plan (area_bytes w plan.area) passphrase k (random_stripes slot_place1 random)) is_key
-          (subst (λ (r : List ℕ). IsSealed plan (area_bytes w plan.area) passphrase key r) are_stripes
-          (subst (λ (a : List ℕ). IsSealed plan a passphrase key stripes) (sym area_kept) sealed));
-    };
-    rest = both_rest plan.area (length bytes) is.area put.long same outside;
+  -- the keyslot, by the header's bytes
+  slot_by : (h : List ℕ) → WritesLuks1 h d → HoldsKey (HasLuks1Plan h 0) w passphrase (volume_key random) (random_stripes slot_place1 random)
+  slot_by h written = record {
+    plan = plan;
+    is = has_plan payload format random h d new written plan is cipher;
+    sealed = subst (λ (k : List ℕ). IsSealed plan (area_bytes w plan.area) passphrase k (random_stripes slot_place1 random)) is_key
+        (subst (λ (r : List ℕ). IsSealed plan (area_bytes w plan.area) passphrase key r) are_stripes
+        (subst (λ (a : List ℕ). IsSealed plan a passphrase key stripes) (sym area_kept) sealed));
   }
+
+  -- the key area, while the header is written
+  pub area_stands : (u : List ℕ) → WritesInTurn1 payload format passphrase random u w
+  area_stands u = inr (record { header = d; fields = new; bytes = bytes; written = put; slot = slot_by bytes put })
+
+  -- the whole volume
+  module _ (u : List ℕ) (large : 592 ≤ length v) (wrote : w ≡ written v 0 bytes) (same : SameBut (IsAt plan.area.start 256000) u v) where
+    there : part w 0 592 ≡ bytes
+    there =
+        let fits : 0 + length bytes ≤ length v = (let long = put.long in omega (arith, long, large)) in
+        ap (λ l. part l 0 592) wrote ∙ ap (λ n. part (written v 0 bytes) 0 n) (sym put.long) ∙ part-written v 0 bytes fits
+
+    header_put : WritesLuks1 (part w 0 592) d
+    header_put = subst (λ (b : List ℕ). WritesLuks1 b d) (sym there) put
+
+    pub formatted : IsFormatted1 payload format passphrase random u w
+    formatted = record {
+      header = d;
+      fields = new;
+      written = header_put;
+      slot = slot_by (part w 0 592) header_put;
+      rest = both_rest plan.area (length bytes) is.area put.long same outside;
+    }
+
+-- ---- over what was cleared
+
+-- the first sectors lie in the places of the header and of the key area
+sectors_there : (p : ℕ) → IsOfFirstSectors 16384 p → IsOfLuks1 p
+sectors_there p is = elim is [
+  | inl at ↦ inl (let low = at.0 in omega (arith, low), let high = at.1 in omega (arith, high))
+  | inr at ↦ inr (let low = at.0 in omega (arith, low), let high = at.1 in omega (arith, high))
+]
+
+pub cleared_rest : {t u : List ℕ} → SameBut (IsOfFirstSectors 16384) t u → SameBut IsOfLuks1 t u
+cleared_rest same = same_but-wider sectors_there same
+
+pub over_rest : {t u w : List ℕ} → SameBut (IsOfFirstSectors 16384) t u → SameBut IsOfLuks1 u w → SameBut IsOfLuks1 t w
+over_rest cleared same = clearing_widens 16384 sectors_there cleared same
+
+-- the steps that follow the clearing keep its order
+pub over_order : (payload : Data) (format : Format) (passphrase random t u w : List ℕ) → AreCleared 16384 u
+    → WritesInTurn1 payload format passphrase random u w → ClearsFirst1 payload format passphrase random t w
+over_order payload format passphrase random t u w cleared turn = elim turn [
+  | inl same ↦ inr (inl (same ∙ cleared.first_copy))
+  | inr stands ↦ inr (inr stands)
+]
+
+-- a volume that was formatted after the clearing is formatted
+pub over_cleared : (payload : Data) (format : Format) (passphrase random t u w : List ℕ) → SameBut (IsOfFirstSectors 16384) t u
+    → IsFormatted1 payload format passphrase random u w → IsFormatted1 payload format passphrase random t w
+over_cleared payload format passphrase random t u w cleared is = record {
+  header = is.header;
+  fields = is.fields;
+  written = is.written;
+  slot = is.slot;
+  rest = over_rest cleared is.rest;
+}

@@ -1,8 +1,11 @@
 -- What the steps of formatting by LUKS2 leave: both copies of the header of a new volume, and its key area.
-use Rattle.std.proofs.Common.{◌≡◌, ℕ, List, inl, inr, arith, sym, ap, ◌∙◌, subst}
-use Rattle.luks_area.specs.Ranges.{IsAt, SameBut}
+use Rattle.std.proofs.Common.{◌≡◌, ℕ, List, inl, inr, arith, lit≤, sym, ap, ◌∙◌, subst}
+use Rattle.luks_area.specs.Ranges.{part, IsAt, SameBut}
 use Rattle.luks_area.specs.RangeFacts.{part-same_but_at, same_but-then, same_but-wider}
 use Rattle.luks_area.specs.declared.area.Area.{Area}
+use Rattle.luks_clearing.specs.Cleared.{IsOfFirstSectors}
+use Rattle.luks_clearing.specs.Order.{WritesInTurn}
+use Rattle.luks_clearing.specs.OrderFacts.{clearing_widens, sectors_inside}
 use Rattle.luks_making.specs.Formatted.{formatted}
 use Rattle.luks_making.specs.WrittenArea.{IsWrittenArea}
 use Rattle.luks_slot.specs.Opening.{area_bytes}
@@ -11,8 +14,9 @@ use Rattle.luks_slot.specs.declared.plan.SlotPlan.{SlotPlan}
 use Rattle.luks_reading.specs.Plans.{HasLuks2Plan}
 use Rattle.luks_reading.specs.declared.report.Data.{Data}
 use Rattle.luks_terms.specs.declared.format.Format.{Format}
-use Rattle.luks_formatting.specs.Formatted2.{HasNewCopy, IsFormatted2, IsOfLuks2}
+use Rattle.luks_formatting.specs.Formatted2.{HasAllButFirst2, HasKeyArea2, HasNewCopy, IsFormatted2, IsOfLuks2}
 use Rattle.luks_formatting.specs.NewHeader2.{area2, new_members}
+use Rattle.luks_formatting.specs.NewPlan.{HoldsKey}
 use Rattle.luks_formatting.specs.RandomBytes.{first_copy_salt, random_stripes, second_copy_salt, slot_place2, volume_key}
 use Rattle.luks_formatting.proofs.NewHeader2Facts.{copy_stays}
 
@@ -36,34 +40,85 @@ second_rest area is same second = same_but-then (sealed_rest area is same) (same
 pub all_rest : {u v w x : List ℕ} (area : Area) → area ≡ area2 → SameBut (IsAt area.start 256000) u v → SameBut (IsAt 16384 16384) v w → SameBut (IsAt 0 16384) w x → SameBut IsOfLuks2 u x
 all_rest area is same second first = same_but-then (second_rest area is same second) (same_but-wider (λ p at. inl (first_inside p at)) first)
 
--- the volume that the three steps leave
-module _ (payload : Data) (format : Format) (passphrase random u v w x json key stripes : List ℕ) (plan : SlotPlan)
+-- ---- what stands after each step
+
+-- the places of both copies lie before the key area
+pub copies_wait : {u v : List ℕ} (area : Area) → area ≡ area2 → SameBut (IsAt area.start 256000) u v → part v 0 32768 ≡ part u 0 32768
+copies_wait area is same = (let start = ap (λ (a : Area). a.start) is in part-same_but_at area.start 256000 0 32768 same (inl (omega (arith, start))))
+
+module _ (payload : Data) (format : Format) (passphrase random v json key stripes : List ℕ) (plan : SlotPlan)
     (metadata : IsWrittenArea 12288 (formatted (new_members payload format random)) json) (has_plan : HasLuks2Plan json 0 plan) (area : plan.area ≡ area2)
-    (same : SameBut (IsAt plan.area.start 256000) u v) (second_same : SameBut (IsAt 16384 16384) v w) (first_same : SameBut (IsAt 0 16384) w x)
-    (second : HasNewCopy w random (second_copy_salt random) json 16384) (first : HasNewCopy x random (first_copy_salt random) json 0)
     (is_key : key ≡ volume_key random) (are_stripes : stripes ≡ random_stripes slot_place2 random) (sealed : IsSealed plan (area_bytes v plan.area) passphrase key stripes) where
-  area_kept : area_bytes x plan.area ≡ area_bytes v plan.area
-  area_kept =
-      let start : plan.area.start ≡ 32768 = ap (λ (a : Area). a.start) area in
-      part-same_but_at 0 16384 plan.area.start plan.area.len first_same (inr (omega (arith, start)))
-      ∙ part-same_but_at 16384 16384 plan.area.start plan.area.len second_same (inr (omega (arith, start)))
-
-  second_kept : HasNewCopy x random (second_copy_salt random) json 16384
-  second_kept = copy_stays w x random (second_copy_salt random) json 16384 metadata.long first_same.length_same
-      (part-same_but_at 0 16384 16384 4096 first_same (inr (omega arith))) (part-same_but_at 0 16384 20480 12288 first_same (inr (omega arith))) second
-
-  pub formatted2 : IsFormatted2 payload format passphrase random u x
-  formatted2 = record {
-    json = json;
-    metadata = metadata;
-    first = first;
-    second = second_kept;
-    slot = record {
-      plan = plan;
-      is = has_plan;
-      sealed = subst (λ (k : List ℕ). IsSealed plan (area_bytes x plan.area) passphrase k (random_stripes slot_place2 random)) is_key
-          (subst (λ (r : List ℕ). IsSealed plan (area_bytes x plan.area) passphrase key r) are_stripes
-          (subst (λ (a : List ℕ). IsSealed plan a passphrase key stripes) (sym area_kept) sealed));
-    };
-    rest = all_rest plan.area area same second_same first_same;
+  -- the keyslot of each volume whose key area is the sealed one
+  slot_in : (y : List ℕ) → area_bytes y plan.area ≡ area_bytes v plan.area → HoldsKey (HasLuks2Plan json 0) y passphrase (volume_key random) (random_stripes slot_place2 random)
+  slot_in y kept = record {
+    plan = plan;
+    is = has_plan;
+    sealed = subst (λ (k : List ℕ). IsSealed plan (area_bytes y plan.area) passphrase k (random_stripes slot_place2 random)) is_key
+        (subst (λ (r : List ℕ). IsSealed plan (area_bytes y plan.area) passphrase key r) are_stripes
+        (subst (λ (a : List ℕ). IsSealed plan a passphrase key stripes) (sym kept) sealed));
   }
+
+  module _ (u w : List ℕ) (same : SameBut (IsAt plan.area.start 256000) u v) (second_same : SameBut (IsAt 16384 16384) v w) where
+    kept_behind : area_bytes w plan.area ≡ area_bytes v plan.area
+    kept_behind =
+        let start : plan.area.start ≡ 32768 = ap (λ (a : Area). a.start) area in
+        part-same_but_at 16384 16384 plan.area.start plan.area.len second_same (inr (omega (arith, start)))
+
+    -- the key area, while the second copy is written
+    pub area_stands : WritesInTurn 16384 (HasKeyArea2 payload format passphrase random w) (HasAllButFirst2 payload format passphrase random w) u w
+    area_stands =
+        let start : plan.area.start ≡ 32768 = ap (λ (a : Area). a.start) area in
+        inr (inl (
+          part-same_but_at 16384 16384 0 16384 second_same (inl (omega arith)) ∙ part-same_but_at plan.area.start 256000 0 16384 same (inl (omega (arith, start))),
+          record { json = json; metadata = metadata; slot = slot_in w kept_behind },
+        ))
+
+    module _ (x : List ℕ) (first_same : SameBut (IsAt 0 16384) w x) (second : HasNewCopy w random (second_copy_salt random) json 16384) where
+      area_kept : area_bytes x plan.area ≡ area_bytes v plan.area
+      area_kept =
+          let start : plan.area.start ≡ 32768 = ap (λ (a : Area). a.start) area in
+          part-same_but_at 0 16384 plan.area.start plan.area.len first_same (inr (omega (arith, start))) ∙ kept_behind
+
+      second_kept : HasNewCopy x random (second_copy_salt random) json 16384
+      second_kept = copy_stays w x random (second_copy_salt random) json 16384 metadata.long first_same.length_same
+          (part-same_but_at 0 16384 16384 4096 first_same (inr (omega arith))) (part-same_but_at 0 16384 20480 12288 first_same (inr (omega arith))) second
+
+      -- both, while the first copy is written
+      pub all_but_first : WritesInTurn 16384 (HasKeyArea2 payload format passphrase random x) (HasAllButFirst2 payload format passphrase random x) u x
+      all_but_first = inr (inr (record { json = json; metadata = metadata; second = second_kept; slot = slot_in x area_kept }))
+
+      -- the whole volume
+      pub formatted2 : HasNewCopy x random (first_copy_salt random) json 0 → IsFormatted2 payload format passphrase random u x
+      formatted2 first = record {
+        json = json;
+        metadata = metadata;
+        first = first;
+        second = second_kept;
+        slot = slot_in x area_kept;
+        rest = all_rest plan.area area same second_same first_same;
+      }
+
+-- ---- over what was cleared
+
+-- the first sectors lie in the places of both copies
+sectors_there : (p : ℕ) → IsOfFirstSectors 16384 p → IsOfLuks2 p
+sectors_there p is = inl (sectors_inside 16384 (lit≤ tt) p is)
+
+pub cleared_rest : {t u : List ℕ} → SameBut (IsOfFirstSectors 16384) t u → SameBut IsOfLuks2 t u
+cleared_rest same = same_but-wider sectors_there same
+
+pub over_rest : {t u x : List ℕ} → SameBut (IsOfFirstSectors 16384) t u → SameBut IsOfLuks2 u x → SameBut IsOfLuks2 t x
+over_rest cleared same = clearing_widens 16384 sectors_there cleared same
+
+-- a volume that was formatted after the clearing is formatted
+pub over_cleared : (payload : Data) (format : Format) (passphrase random t u x : List ℕ) → SameBut (IsOfFirstSectors 16384) t u
+    → IsFormatted2 payload format passphrase random u x → IsFormatted2 payload format passphrase random t x
+over_cleared payload format passphrase random t u x cleared is = record {
+  json = is.json;
+  metadata = is.metadata;
+  first = is.first;
+  second = is.second;
+  slot = is.slot;
+  rest = over_rest cleared is.rest;
+}

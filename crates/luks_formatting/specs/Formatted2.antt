@@ -34,3 +34,18 @@ pub record IsFormatted2
   pub slot : HoldsKey (HasLuks2Plan json 0) new passphrase (volume_key random)
       (random_stripes slot_place2 random)
   pub rest : SameBut IsOfLuks2 old new
+
+-- keyslot 0's area holds the volume key, as the metadata says that is to be written
+pub record HasKeyArea2 (payload : Data) (format : Format) (passphrase random new : List ℕ) : Type 0 where
+  pub json : List ℕ
+  pub metadata : IsWrittenArea json_size (formatted (new_members payload format random)) json
+  pub slot : HoldsKey (HasLuks2Plan json 0) new passphrase (volume_key random)
+      (random_stripes slot_place2 random)
+
+-- the second copy stands too
+pub record HasAllButFirst2 (payload : Data) (format : Format) (passphrase random new : List ℕ) : Type 0 where
+  pub json : List ℕ
+  pub metadata : IsWrittenArea json_size (formatted (new_members payload format random)) json
+  pub second : HasNewCopy new random (second_copy_salt random) json copy_size
+  pub slot : HoldsKey (HasLuks2Plan json 0) new passphrase (volume_key random)
+      (random_stripes slot_place2 random)

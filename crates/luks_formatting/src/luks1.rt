@@ -5,7 +5,7 @@ ghost use Rattle.luks_area.specs.Ranges.{SameBut};
 ghost use Rattle.luks_reading.specs.Answer.{Answer, opens};
 ghost use Rattle.luks_reading.specs.Checked.{WellFormed};
 ghost use Rattle.luks_formatting.specs.FormatFaults.{HasNoFault, IsAnsweredFault, IsFormat1Fault, is_device_fault};
-ghost use Rattle.luks_formatting.specs.Formatted1.{IsFormatted1, IsOfLuks1};
+ghost use Rattle.luks_formatting.specs.Formatted1.{ClearsFirst1, IsFormatted1, IsOfLuks1, WritesInTurn1};
 ghost use Rattle.luks_formatting.specs.NewHeader1.{area1, IsNewCipher1, IsNewHeader1};
 ghost use Rattle.luks_formatting.specs.NewPlan.{key_digest, IsNewPlan, IsSealable};
 ghost use Rattle.luks_formatting.specs.RandomBytes.{digest_salt, slot_place1, slot_salt, volume_key};
@@ -19,6 +19,7 @@ use crate::plan::new_plan;
 use crate::random::{KEY, KEY_BYTES, RANDOM_STRIPES, SALT_BYTES, taken};
 use crate::sealing::seal_key;
 use luks_area::{Area, Device, DeviceFault};
+use luks_clearing::clear_places;
 use luks_edit::Done;
 use luks_head::Luks1;
 use luks_reading::Data;
@@ -32,6 +33,10 @@ pub const FORMAT1_RANDOM: u64 = 256080;
 /// The least length of a volume in bytes: where the payload begins.
 const LEAST: u64 = 2097152;
 
+/// Where an older LUKS2 header of the usual metadata size has its second copy. The place lies in the
+/// area of keyslot 0.
+const OLDER_SECOND: u64 = 16384;
+
 /// The area of keyslot 0, 500 sectors.
 const AREA: Area = Area {
     start: 4096,
@@ -43,7 +48,11 @@ const AREA: Area = Area {
 ///
 /// Of the random bytes it takes those of the uuid (16), the volume key (64), the salt of its digest
 /// (32), the salt of keyslot 0 (32) and all stripes but the last (3999 of 64 bytes), in this order.
-/// The key area is written first, then the header, a flush after each. `Memory` is never answered.
+/// `Memory` is never answered.
+///
+/// The first sectors at 0 and at 16384, where an older LUKS2 header of the usual metadata size has its
+/// second copy, become zeros first, so that no older header counts there whose key areas are
+/// overwritten. Then the key area is written, then the header, a flush after each.
 pub fn format1<D: Device>(
     device: &mut D,
     data_: Data,
@@ -70,6 +79,10 @@ pub fn format1<D: Device>(
     ensures settled { D.tells → D.failed device.new ≡ D.failed device.old
         → IsSettled D.unsettled device.new }
     ensures rest { D.tells → SameBut IsOfLuks1 (D.bytes device.old) (D.bytes device.new) }
+
+    // No older header counts at 0 from the clearing on; the header comes last.
+    ensures order { D.tells → ClearsFirst1 data_ format.now passphrase.now random.now
+        (D.bytes device.old) (D.bytes device.new) }
 
     // The volume that was made.
     ensures slot { IfOk result (λ done. done.slot ≡ Some 0) }
@@ -102,6 +115,35 @@ fn write_volume<D: Device>(
     ensures settled { D.tells → D.failed device.new ≡ D.failed device.old
         → IsSettled D.unsettled device.new }
     ensures rest { D.tells → SameBut IsOfLuks1 (D.bytes device.old) (D.bytes device.new) }
+    ensures order { D.tells → ClearsFirst1 data_ format.now passphrase.now random.now
+        (D.bytes device.old) (D.bytes device.new) }
+    ensures formatted { D.tells → OnOk result (IsFormatted1 data_ format.now
+        passphrase.now random.now (D.bytes device.old) (D.bytes device.new)) }
+{
+    clear_places(device, OLDER_SECOND)?;
+    write_over_cleared(device, data_, format, passphrase, random)
+}
+
+// The same where the first sectors are cleared.
+fn write_over_cleared<D: Device>(
+    device: &mut D,
+    data_: Data,
+    format: &Format,
+    passphrase: &[u8],
+    random: &[u8],
+) -> Result<(), DeviceFault>
+    requires iterations { 1000 ≤ format.now.iterations }
+    requires long { length random.now ≡ 256080 }
+    requires within { 2097152 ≤ D.size device.old }
+    requires room { D.failed device.old + 1 < 2 ^ 64 }
+    requires settled { D.tells → IsSettled D.unsettled device.old }
+    ensures count { CountsFailure is_failure result (D.failed device.old) (D.failed device.new) }
+    ensures size { D.size device.new ≡ D.size device.old }
+    ensures settled { D.tells → D.failed device.new ≡ D.failed device.old
+        → IsSettled D.unsettled device.new }
+    ensures rest { D.tells → SameBut IsOfLuks1 (D.bytes device.old) (D.bytes device.new) }
+    ensures order { D.tells → WritesInTurn1 data_ format.now passphrase.now random.now
+        (D.bytes device.old) (D.bytes device.new) }
     ensures formatted { D.tells → OnOk result (IsFormatted1 data_ format.now
         passphrase.now random.now (D.bytes device.old) (D.bytes device.new)) }
 {

@@ -2,13 +2,14 @@
 ghost use Rattle.std.specs.Prelude.{◌≡◌, ◌+◌, ◌^◌, ◌<◌, ◌≤◌, List, ℕ, length, Some, IfErr, IfOk, OnOk};
 ghost use Rattle.luks_area.specs.Device.{CountsFailure, IsSettled, is_failure};
 ghost use Rattle.luks_area.specs.Ranges.{SameBut};
+ghost use Rattle.luks_clearing.specs.Order.{ClearsFirst, WritesInTurn};
 ghost use Rattle.luks_kdf.specs.Names.{digest_size_of};
 ghost use Rattle.luks_making.specs.Formatted.{formatted};
 ghost use Rattle.luks_making.specs.WrittenArea.{IsWrittenArea};
 ghost use Rattle.luks_reading.specs.Answer.{Answer, opens};
 ghost use Rattle.luks_reading.specs.Checked.{WellFormed};
 ghost use Rattle.luks_formatting.specs.FormatFaults.{HasNoFault, IsAnsweredFaultOrMemory, IsFormat2Fault, is_device_fault};
-ghost use Rattle.luks_formatting.specs.Formatted2.{IsFormatted2, IsOfLuks2};
+ghost use Rattle.luks_formatting.specs.Formatted2.{HasAllButFirst2, HasKeyArea2, IsFormatted2, IsOfLuks2};
 ghost use Rattle.luks_formatting.specs.NewHeader2.{area2, copy_size, json_size, new_members, FitsMetadata, IsNewCipher2};
 ghost use Rattle.luks_formatting.specs.NewPlan.{key_digest, IsNewPlan, IsSealable};
 ghost use Rattle.luks_formatting.specs.RandomBytes.{digest_salt, slot_place2, slot_salt, volume_key};
@@ -23,6 +24,7 @@ use crate::plan::{new_plan, put_key_digest};
 use crate::random::{DIGEST_SALT, KEY, KEY_BYTES, RANDOM_STRIPES, SALT_BYTES, taken, taken_array};
 use crate::sealing::seal_key;
 use luks_area::{Area, Device, DeviceFault};
+use luks_clearing::clear_places;
 use luks_edit::Done;
 use luks_reading::Data;
 use luks_slot::{AreaCipher, SlotPlan};
@@ -46,9 +48,12 @@ const AREA: Area = Area {
 ///
 /// Of the random bytes it takes those of the uuid (16), the volume key (64), the salt of its digest
 /// (32), the salts of the first and the second copy of the header (64 each), the salt of keyslot 0
-/// (32) and all stripes but the last (3999 of 64 bytes), in this order. The key area is written
-/// first, then the second copy, then the first, a flush after each. Takes memory for the metadata,
+/// (32) and all stripes but the last (3999 of 64 bytes), in this order. Takes memory for the metadata,
 /// before the first write.
+///
+/// The first sectors of both copies' places become zeros first, so that no older header counts there
+/// whose key areas are overwritten. Then the key area is written, then the second copy, then the
+/// first, a flush after each.
 pub fn format2<D: Device>(
     alloc: Global,
     device: &mut D,
@@ -78,6 +83,12 @@ pub fn format2<D: Device>(
     ensures settled { D.tells → D.failed device.new ≡ D.failed device.old
         → IsSettled D.unsettled device.new }
     ensures rest { D.tells → SameBut IsOfLuks2 (D.bytes device.old) (D.bytes device.new) }
+
+    // No older header counts in the copies' places from the clearing on; the first copy comes last.
+    ensures order { D.tells → ClearsFirst copy_size
+        (HasKeyArea2 data_ format.now passphrase.now random.now (D.bytes device.new))
+        (HasAllButFirst2 data_ format.now passphrase.now random.now (D.bytes device.new))
+        (D.bytes device.old) (D.bytes device.new) }
 
     // The volume that was made.
     ensures slot { IfOk result (λ done. done.slot ≡ Some 0) }
@@ -133,6 +144,46 @@ fn write_volume<D: Device>(
     ensures settled { D.tells → D.failed device.new ≡ D.failed device.old
         → IsSettled D.unsettled device.new }
     ensures rest { D.tells → SameBut IsOfLuks2 (D.bytes device.old) (D.bytes device.new) }
+    ensures order { D.tells → ClearsFirst copy_size
+        (HasKeyArea2 data_ format.now passphrase.now random.now (D.bytes device.new))
+        (HasAllButFirst2 data_ format.now passphrase.now random.now (D.bytes device.new))
+        (D.bytes device.old) (D.bytes device.new) }
+    ensures formatted { D.tells → OnOk result (IsFormatted2 data_ format.now
+        passphrase.now random.now (D.bytes device.old) (D.bytes device.new)) }
+{
+    clear_places(device, COPY_SIZE)?;
+    write_over_cleared(device, data_, format, passphrase, random, digest, json)
+}
+
+// The same where the first sectors are cleared.
+fn write_over_cleared<D: Device>(
+    device: &mut D,
+    data_: Data,
+    format: &Format,
+    passphrase: &[u8],
+    random: &[u8],
+    digest: &[u8],
+    json: &[u8],
+) -> Result<(), DeviceFault>
+    requires iterations { 1 ≤ format.now.iterations }
+    requires long { length random.now ≡ 256208 }
+    requires within { 16777216 ≤ D.size device.old }
+    requires digest { digest.now
+        ≡ key_digest format.now random.now (digest_size_of format.now.hash) }
+    requires fits { FitsMetadata data_ format.now random.now }
+    requires area { IsWrittenArea json_size
+        (formatted (new_members data_ format.now random.now)) json.now }
+    requires room { D.failed device.old + 1 < 2 ^ 64 }
+    requires settled { D.tells → IsSettled D.unsettled device.old }
+    ensures count { CountsFailure is_failure result (D.failed device.old) (D.failed device.new) }
+    ensures size { D.size device.new ≡ D.size device.old }
+    ensures settled { D.tells → D.failed device.new ≡ D.failed device.old
+        → IsSettled D.unsettled device.new }
+    ensures rest { D.tells → SameBut IsOfLuks2 (D.bytes device.old) (D.bytes device.new) }
+    ensures order { D.tells → WritesInTurn copy_size
+        (HasKeyArea2 data_ format.now passphrase.now random.now (D.bytes device.new))
+        (HasAllButFirst2 data_ format.now passphrase.now random.now (D.bytes device.new))
+        (D.bytes device.old) (D.bytes device.new) }
     ensures formatted { D.tells → OnOk result (IsFormatted2 data_ format.now
         passphrase.now random.now (D.bytes device.old) (D.bytes device.new)) }
 {

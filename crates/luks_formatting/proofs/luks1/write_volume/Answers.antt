@@ -1,40 +1,25 @@
-use Rattle.std.proofs.Common.{◌≡◌, length, arith, ap, ◌∙◌}
-use Rattle.luks_area.specs.declared.area.Area.{Area}
-use Rattle.luks_formatting.proofs.Written1Facts.{both_rest, formatted, sealed_rest}
+use Rattle.std.proofs.Common.{inl}
+use Rattle.std.proofs.lemmas.Result.{on_ok_weaker}
+use Rattle.luks_formatting.proofs.Written1Facts.{cleared_rest, over_cleared, over_order, over_rest}
 use Rattle.luks_formatting.proofs.luks1.write_volume.Goals as goal
 
-pub seal_key-requires-clause-large : goal.seal_key-requires-clause-large
-seal_key-requires-clause-large g c = (let len = ap (λ (a : Area). a.len) c.slot_plan-plan.ensures.area in omega (arith, len))
+pub returns-in_err-clear_places-clause-rest : goal.returns-in_err-clear_places-clause-rest
+returns-in_err-clear_places-clause-rest g c tells = cleared_rest (c.clear_places.ensures.rest tells)
 
-pub seal_key-requires-clause-within : goal.seal_key-requires-clause-within
-seal_key-requires-clause-within g c =
-    let start = ap (λ (a : Area). a.start) c.slot_plan-plan.ensures.area in
-    let len = ap (λ (a : Area). a.len) c.slot_plan-plan.ensures.area in
-    let room = c.requires.within in
-    omega (arith, start, len, room)
-
-pub returns-in_err-seal_key-clause-rest : goal.returns-in_err-seal_key-clause-rest
-returns-in_err-seal_key-clause-rest g c tells = sealed_rest c.slot_plan-plan.result.area c.slot_plan-plan.ensures.area (c.seal_key.ensures.rest tells)
-
-pub returns-in_err-write_range-clause-rest : goal.returns-in_err-write_range-clause-rest
-returns-in_err-write_range-clause-rest g c tells =
-    both_rest c.slot_plan-plan.result.area (length c.write.result) c.slot_plan-plan.ensures.area c.write.ensures.written.long
-    (c.seal_key.ensures.rest tells) (c.write_range.ensures.outside tells)
+pub returns-in_err-clear_places-clause-order : goal.returns-in_err-clear_places-clause-order
+returns-in_err-clear_places-clause-order g c tells = inl (c.clear_places.ensures.rest tells)
 
 pub returns-clause-rest : goal.returns-clause-rest
-returns-clause-rest g c tells =
-    both_rest c.slot_plan-plan.result.area (length c.write.result) c.slot_plan-plan.ensures.area c.write.ensures.written.long
-    (c.seal_key.ensures.rest tells) (c.write_range.ensures.outside tells)
+returns-clause-rest g c tells = over_rest (c.clear_places.ensures.rest tells) (c.write_over_cleared.ensures.rest tells)
+
+pub returns-clause-order : goal.returns-clause-order
+returns-clause-order g c tells =
+    let bytes = g.D.Device.bytes in
+    over_order c.args.data_ c.args.format.now c.args.passphrase.now c.args.random.now (bytes c.args.device.now) (bytes c.clear_places.new.device)
+    (bytes c.write_over_cleared.new.device) (c.in_ok-clear_places.ensures.cleared tells) (c.write_over_cleared.ensures.order tells)
 
 pub returns-clause-formatted : goal.returns-clause-formatted
 returns-clause-formatted g c tells =
     let bytes = g.D.Device.bytes in
-    let v = bytes c.seal_key.new.device in
-    let size : length v ≡ g.D.Device.size c.args.device.now = g.met.D.Device.sized c.seal_key.new.device tells ∙ c.seal_key.ensures.size in
-    let room = c.requires.within in
-    formatted c.args.data_ c.args.format.now c.args.passphrase.now c.args.random.now (bytes c.args.device.now) v (bytes c.write_range.new.device)
-    c.write.result c.taken-key.result.now c.taken-stripes.result.now c.new_header-header.result c.slot_plan-plan.result
-    c.new_header-header.ensures c.write.ensures.written
-    (c.slot_plan-plan.ensures.plan c.args.data_ c.args.random.now c.new_header-header.ensures) c.slot_plan-plan.ensures.cipher
-    (omega (arith, size, room)) (c.in_ok-write_range.ensures.wrote tells) (c.write_range.ensures.outside tells) (c.seal_key.ensures.rest tells)
-    c.taken-key.ensures.value c.taken-stripes.ensures.value (c.in_ok-seal_key.ensures.sealed tells)
+    on_ok_weaker c.write_over_cleared.result (over_cleared c.args.data_ c.args.format.now c.args.passphrase.now c.args.random.now (bytes c.args.device.now)
+    (bytes c.clear_places.new.device) (bytes c.write_over_cleared.new.device) (c.clear_places.ensures.rest tells)) (c.write_over_cleared.ensures.formatted tells)
