@@ -5,7 +5,7 @@
 //! LUKS1 of 2097664 bytes by the header's layout, all keyslots disabled.
 #![tactic(auto)]
 
-ghost use Rattle.std.specs.Prelude.{◌≡◌, IfOk};
+ghost use Rattle.std.specs.Prelude.{◌≡◌, IfOk, IfSome};
 ghost use Rattle.luks_cache.specs.Cached.{cached_failures};
 
 use clap::error::ErrorKind as FaultKind;
@@ -142,7 +142,7 @@ fn run_line<R: AllocGlobal + Clock + Files<File = File> + Input + Print + Eprint
 }
 
 /// The other use of the disk that an edit with `--over` is going to write over. None where the volume
-/// can't be read.
+/// can't be read, or memory is refused.
 fn use_before<R: AllocGlobal + Clock + Files<File = File>>(
     rt: &R,
     line: &Line<'_>,
@@ -154,10 +154,8 @@ fn use_before<R: AllocGlobal + Clock + Files<File = File>>(
     if !editing.over || passphrases.end_command() {
         return None;
     }
-    let Ok(device) = open_locked(rt, line.volume, false, FOLDER) else {
-        return None;
-    };
-    standing_use(rt.alloc(), &mut CachedDevice::new(device))
+    let mut device = reopened(rt, line.volume)?;
+    standing_use(rt.alloc(), &mut device)
 }
 
 /// Says that an edit that is done has written over this use of the disk.
@@ -192,40 +190,40 @@ fn tell_more<R: AllocGlobal + Clock + Files<File = File> + Eprint>(
 }
 
 /// Says in which copy the metadata of a volume is whole of which no header counts. Where the volume
-/// can't be read any more, it says nothing.
+/// can't be read any more, or memory is refused, it says nothing.
 fn tell_whole<R: AllocGlobal + Clock + Files<File = File> + Eprint>(rt: &R, volume: &str) {
-    let Ok(device) = open_locked(rt, volume, false, FOLDER) else {
+    let Some(mut device) = reopened(rt, volume) else {
         return;
     };
     let mut err = Vec::new(rt.alloc());
-    note_whole(rt.alloc(), &mut CachedDevice::new(device), &mut err);
+    note_whole(rt.alloc(), &mut device, &mut err);
     tell(rt, err.as_slice());
 }
 
-/// Says what else the disk of a volume is used for. Where the volume can't be read any more, it says
-/// nothing.
+/// Says what else the disk of a volume is used for. Where the volume can't be read any more, or
+/// memory is refused, it says nothing.
 fn tell_other_use<R: AllocGlobal + Clock + Files<File = File> + Eprint>(rt: &R, volume: &str) {
-    let Ok(device) = open_locked(rt, volume, false, FOLDER) else {
+    let Some(mut device) = reopened(rt, volume) else {
         return;
     };
     let mut err = Vec::new(rt.alloc());
-    note_other_use(rt.alloc(), &mut CachedDevice::new(device), volume, &mut err);
+    note_other_use(rt.alloc(), &mut device, volume, &mut err);
     tell(rt, err.as_slice());
 }
 
 /// Says of which metadata of the volume a header was made, that of second copies alone or of any.
-/// Where the volume can't be read any more, it says nothing.
+/// Where the volume can't be read any more, or memory is refused, it says nothing.
 fn tell_taken<R: AllocGlobal + Clock + Files<File = File> + Eprint>(
     rt: &R,
     volume: &str,
     second: bool,
 ) {
-    let Ok(device) = open_locked(rt, volume, false, FOLDER) else {
+    let Some(mut device) = reopened(rt, volume) else {
         return;
     };
     let which = if second { Which::Second } else { Which::Any };
     let mut err = Vec::new(rt.alloc());
-    note_taken(rt.alloc(), &mut CachedDevice::new(device), which, &mut err);
+    note_taken(rt.alloc(), &mut device, which, &mut err);
     tell(rt, err.as_slice());
 }
 
@@ -240,10 +238,9 @@ fn tell_leftovers<R: AllocGlobal + Clock + Files<File = File> + Eprint>(
         NewVersion::Luks1 => 592,
         NewVersion::Luks2 => 32768,
     };
-    let Ok(device) = open_locked(rt, volume, false, FOLDER) else {
+    let Some(mut device) = reopened(rt, volume) else {
         return;
     };
-    let mut device = CachedDevice::new(device);
     let mut err = Vec::new(rt.alloc());
     if let Ok(front) = read_front(rt.alloc(), &mut device) {
         let _ = note_leftovers(rt.alloc(), &front, own, volume, &mut err);
@@ -423,12 +420,21 @@ fn open_volume<R: AllocGlobal + Clock + Files<File = File> + Eprint>(
             for notice in device.lock().notices().iter().flatten() {
                 let _ = eprintln!(rt; "luks: {volume}: {notice}");
             }
-            Ok(CachedDevice::new(device))
+            CachedDevice::new(rt.alloc(), device).map_err(|_| InputFault::NoMemory)
         }
         Err(OpenFault::NoVolume) => Err(InputFault::Unreadable(Reason::NoVolume)),
         Err(OpenFault::Edited) => Err(InputFault::Unreadable(Reason::Edited)),
         Err(OpenFault::File(error)) => Err(InputFault::from(error)),
     }
+}
+
+/// The volume of this name, opened for reading once more. None where that can't be, or memory is
+/// refused.
+fn reopened<R: AllocGlobal + Clock + Files<File = File>>(rt: &R, volume: &str) -> Option<Volume>
+    ensures { IfSome result (λ device. cached_failures device ≡ 0) }
+{
+    let device = open_locked(rt, volume, false, FOLDER).ok()?;
+    CachedDevice::new(rt.alloc(), device).ok()
 }
 
 /// Whether an edit of the volume ended since another program had written its header.

@@ -1,8 +1,9 @@
-ghost use Rattle.std.specs.Prelude.{◌≡◌, ◌≢◌, ◌+◌, ◌^◌, ◌<◌, ◌≤◌, ◌↔◌, IsOk, IsTrue, length, take};
-ghost use Rattle.luks_area.specs.Ranges.{part};
+ghost use Rattle.std.specs.Prelude.{◌≡◌, ◌≢◌, ◌+◌, ◌^◌, ◌<◌, ◌≤◌, ◌↔◌, IfOk, IsOk, IsTrue, length, take};
+ghost use Rattle.luks_area.specs.Ranges.{part, written};
 
 use crate::beginning::begins_with;
 use luks_area::{Device, DeviceFault};
+use std::alloc::{AllocError, Global};
 
 /// How many bytes there is room for: both copies of a LUKS2 header of the least size.
 pub const ROOM: usize = 32768;
@@ -14,37 +15,40 @@ pub const ROOM: usize = 32768;
 /// fails, and is counted.
 ///
 /// It remembers bytes from the place 0 on alone, as many as were read one after the other, and at
-/// most `ROOM`; others aren't compared. It takes no memory beside itself. Over a device that tells
-/// its bytes its calls fail exactly where those of the device behind do.
+/// most `ROOM`; others aren't compared. Its calls take no memory: the place for `ROOM` bytes is taken
+/// as it is made, so that the value itself is small. Over a device that tells its bytes its calls
+/// fail exactly where those of the device behind do.
 #[derive(Drop)]
 pub struct CachedDevice<D: Device> {
     device: D,
-    bytes: [u8; ROOM],
+    bytes: Vec<u8>,
     count: usize,
     changes: u64,
+    ghost room: { length bytes.items ≡ 32768 },
     ghost fits: { count ≤ 32768 },
     ghost within: { count ≤ D.size device },
     ghost counted: { D.failed device + changes < 2 ^ 64 },
-    ghost same: { D.tells → take count bytes ≡ part (D.bytes device) 0 count },
+    ghost same: { D.tells → take count bytes.items ≡ part (D.bytes device) 0 count },
 }
 
 impl<D: Device> CachedDevice<D> {
     ghost use Rattle.luks_cache.specs.Cached.{Follows, IsRemembered, cached_size, changes_seen};
     ghost use Rattle.luks_cache.specs.Cached.{device_behind, remembered};
 
-    /// A device over `device` that remembers nothing yet.
-    pub fn new(device: D) -> Self
-        ensures device { device_behind result ≡ device }
-        ensures nothing { remembered result ≡ 0 }
-        ensures none_seen { changes_seen result ≡ 0 }
+    /// A device over `device` that remembers nothing yet. It takes memory for `ROOM` bytes; where that
+    /// is refused, the device behind is given up.
+    pub fn new(alloc: Global, device: D) -> Result<Self, AllocError>
+        ensures device { IfOk result (λ cached. device_behind cached ≡ device) }
+        ensures nothing { IfOk result (λ cached. remembered cached ≡ 0) }
+        ensures none_seen { IfOk result (λ cached. changes_seen cached ≡ 0) }
     {
         let _counted = device.failures();
-        CachedDevice {
+        Ok(CachedDevice {
             device,
-            bytes: [0; ROOM],
+            bytes: vec![in alloc; 0u8; ROOM]?,
             count: 0,
             changes: 0,
-        }
+        })
     }
 
     /// Whether a write failed since a byte that is remembered had changed behind it. Nothing was
@@ -75,17 +79,24 @@ impl<D: Device> CachedDevice<D> {
     {
         if at == self.count as u64 {
             let len = read.len().min(ROOM - self.count);
-            let end = self.count + len;
-            self.bytes[self.count..end].copy_from_slice(&read[..len]);
-            self.count = end;
+            put(&mut self.bytes, self.count, &read[..len]);
+            self.count += len;
         }
     }
+}
+
+/// Writes `from` over the bytes from `at` on.
+fn put(bytes: &mut Vec<u8>, at: usize, from: &[u8])
+    requires { at + length from.now ≤ length bytes.old.items }
+    ensures { bytes.new.items ≡ written bytes.old.items at from.now }
+{
+    bytes[at..at + from.len()].copy_from_slice(from);
 }
 
 impl<D: Device> Device for CachedDevice<D> {
     ghost use Rattle.std.specs.Prelude.{OnOk};
     ghost use Rattle.luks_area.specs.Device.{CountsFailure, IsUnchanged, Touches, is_failure};
-    ghost use Rattle.luks_area.specs.Ranges.{written, IsAt};
+    ghost use Rattle.luks_area.specs.Ranges.{IsAt};
     ghost use Rattle.luks_cache.specs.Cached.{Follows, IsRemembered};
     ghost use Rattle.luks_cache.specs.Cached.{cached_bytes, cached_failures, cached_size, cached_unsettled};
     ghost use Rattle.luks_cache.specs.Cached.{changes_seen};

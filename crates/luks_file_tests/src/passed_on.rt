@@ -151,7 +151,7 @@ fn by_a_device_that_remembers(rt: HostRuntime) -> Result<(), Fail> {
         name: Named::Unneeded,
     };
     let behind = ten_bytes(rt.alloc(), &calls)?;
-    let mut device = CachedDevice::new(LockedDevice::new(behind, lock));
+    let mut device = CachedDevice::new(rt.alloc(), LockedDevice::new(behind, lock))?;
     for (i, row) in REMEMBERED.iter().enumerate() {
         let (call, made) = *row;
         assert!(rt; ends_well(&mut device, call), "row {i}");

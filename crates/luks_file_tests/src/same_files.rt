@@ -21,7 +21,7 @@ fn opened<R: AllocGlobal + Clock + Files<File = File>>(rt: &R, path: &str, write
     ensures { IfOk result (λ device. cached_failures device ≡ 0) }
 {
     match open_locked(rt, path, writes, "/nowhere") {
-        Ok(device) => Ok(CachedDevice::new(device)),
+        Ok(device) => CachedDevice::new(rt.alloc(), device).map_err(|_| InputFault::NoMemory),
         Err(OpenFault::File(fault)) => Err(InputFault::from(fault)),
         Err(_) => Err(InputFault::Unreadable(Reason::Other)),
     }

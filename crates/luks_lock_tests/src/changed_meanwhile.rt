@@ -68,12 +68,13 @@ impl Device for Meddled {
 /// What is told after six bytes were read and two others written at the place 7: whether the write
 /// was done, whether a change was seen, and how many calls failed.
 fn told(alloc: Global, before: u64, place: u64) -> Result<(bool, bool, u64), AllocError> {
-    let mut device = CachedDevice::new(Meddled {
+    let meddled = Meddled {
         device: MemDevice::new([1, 2, 3, 4, 5, 6, 7, 8, 9].to_vec(alloc)?),
         len: 9,
         before,
         place,
-    });
+    };
+    let mut device = CachedDevice::new(alloc, meddled)?;
     let mut six = [0; 6];
     let read = device.failures() == 0 && device.len() == 9 && device.read_at(0, &mut six).is_ok();
     let wrote = read

@@ -41,7 +41,7 @@ fn opened<R: AllocGlobal + Clock + Files<File = File>>(
     ensures { IfOk result (λ device. cached_failures device ≡ 0) }
 {
     match open_locked(rt, path, writes, NO_FOLDER) {
-        Ok(device) => Ok(CachedDevice::new(device)),
+        Ok(device) => CachedDevice::new(rt.alloc(), device).map_err(|_| InputFault::NoMemory),
         Err(OpenFault::Edited) => Err(InputFault::Unreadable(Reason::Edited)),
         Err(OpenFault::NoVolume) => Err(InputFault::Unreadable(Reason::NoVolume)),
         Err(OpenFault::File(_)) => Err(InputFault::Unreadable(Reason::Other)),

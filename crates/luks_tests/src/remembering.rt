@@ -104,7 +104,7 @@ fn are_answered(
     calls: &[Call],
 ) -> Result<bool, AllocError> {
     let behind = FaultyDevice::new(MemDevice::new(bytes), failing, Leave::Old);
-    let mut device = CachedDevice::new(behind);
+    let mut device = CachedDevice::new(alloc, behind)?;
     for call in calls.iter() {
         if !is_answered(alloc, &mut device, *call)? {
             return Ok(false);
