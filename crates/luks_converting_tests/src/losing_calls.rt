@@ -5,7 +5,7 @@ use luks_area::{Device, MemDevice};
 use luks_converting::{ConvertFault, convert};
 use luks_kdf::HashName;
 use luks_reading::{Data, check, open_slot};
-use luks_test_devices::{KEPT, LosingDevice, Loss, counted, old_bytes, small1};
+use luks_test_devices::{KEPT, LosingDevice, Loss, counted, old_bytes, part, put, small1, small2};
 use std::alloc::Global;
 use std::process::Abort;
 use std::test::Fail;
@@ -77,23 +77,39 @@ fn end_of(
     })
 }
 
-#[test]
-fn each_call(rt: HostRuntime) -> Result<(), Fail> {
-    let alloc = rt.alloc();
+/// Converts over these bytes, with each loss and at each call.
+fn each_call_over(rt: &impl Abort, alloc: Global, old: &[u8]) -> Result<(), Fail> {
     let image = small1(alloc, HashName::Sha256)?;
-    let old = old_bytes(alloc, KEPT)?;
     for loss in LOSSES {
         let mut end = End::Told;
         let mut told = 0u64;
         for call in 0..128 {
-            end = end_of(&rt, alloc, &image, &old, call, loss)?;
+            end = end_of(rt, alloc, &image, old, call, loss)?;
             if end != End::Told {
                 break;
             }
             told = call.wrapping_add(1);
         }
-        // the area's five sectors and its zeros, two copies, and a flush after each of the three
-        assert!(rt; end == End::Done && 11 <= told, "the end");
+        // the two first sectors, the area's five sectors and its zeros, two copies, and a flush after
+        // each of the four
+        assert!(rt; end == End::Done && 14 <= told, "the end");
     }
     Ok(())
+}
+
+#[test]
+fn each_call(rt: HostRuntime) -> Result<(), Fail> {
+    let old = old_bytes(rt.alloc(), KEPT)?;
+    each_call_over(&rt, rt.alloc(), &old)
+}
+
+// A header of the same size stands on the target, whose keyslots' areas are overwritten: it opens, or it
+// isn't accepted any more.
+#[test]
+fn each_call_over_an_older_header(rt: HostRuntime) -> Result<(), Fail> {
+    let alloc = rt.alloc();
+    let older = small2(alloc, HashName::Sha256)?;
+    let mut old = old_bytes(alloc, KEPT)?;
+    put(&mut old, 0, part(&older, 0, 65536));
+    each_call_over(&rt, alloc, &old)
 }

@@ -32,10 +32,24 @@ fn kept_of(version: u8) -> usize {
     if version == 1 { KEPT[0] } else { KEPT[1] }
 }
 
+/// How many calls clear the first sectors of both copies' places: two writes and a flush.
+const CLEARING: u64 = 3;
+
 /// The range that the call of this number writes, and its length; nothing where it is a flush. First
-/// come the 500 sectors of the key area and a flush, then the header and a flush, of LUKS2 each copy
-/// in two parts with a flush, the second copy first.
+/// the first sectors of both copies' places become zeros, and a flush comes; then come the 500 sectors
+/// of the key area and a flush, then the header and a flush, of LUKS2 each copy in two parts with a
+/// flush, the second copy first.
 fn range_of(version: u8, call: u64) -> Option<(usize, usize)> {
+    match call {
+        0 => Some((0, 512)),
+        1 => Some((16384, 512)),
+        2 => None,
+        _ => range_over_cleared(version, call.wrapping_sub(CLEARING)),
+    }
+}
+
+/// The same of the calls that follow the clearing, counted from 0.
+fn range_over_cleared(version: u8, call: u64) -> Option<(usize, usize)> {
     let (_, area, _) = places(version);
     match (version, call) {
         (_, 0..500) => Some((area.wrapping_add((call as usize).wrapping_mul(512)), 512)),
@@ -49,7 +63,7 @@ fn range_of(version: u8, call: u64) -> Option<(usize, usize)> {
 }
 
 fn calls_of(version: u8) -> u64 {
-    if version == 1 { 503 } else { 507 }
+    if version == 1 { 506 } else { 510 }
 }
 
 /// How formatting ended.
@@ -134,7 +148,8 @@ fn fails_at_each_call(
     let mut want = vec![in alloc; 0xA5u8; kept_of(version)]?;
     for call in 0..calls_of(version) {
         let (at, len) = range_of(version, call).unwrap_or((0, 0));
-        let new = part(made.contents(), at, at.wrapping_add(len));
+        let after = part(made.contents(), at, at.wrapping_add(len));
+        let new: &[u8] = if call < 2 { &[0; 512] } else { after };
         leave_behind(&mut want, at, new, leave);
         let (end, calls, left) = left_by(alloc, asked, &random, call, leave)?;
         assert!(rt; end == End::Told, "call {call}: the answer");
