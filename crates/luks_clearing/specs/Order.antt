@@ -1,16 +1,22 @@
 -- The order in which a header is made over an older one: what may be left at any time.
-use Rattle.std.specs.Prelude.{◌≡◌, ℕ, ◌*◌, ◌⊎◌, List}
+use Rattle.std.specs.Prelude.{◌≡◌, ℕ, ◌*◌, ◌-◌, ◌⊎◌, List}
 use Rattle.luks_area.specs.Ranges.{part, SameBut}
-use Rattle.luks_clearing.specs.Cleared.{AreCleared, IsCleared, IsOfFirstSectors}
+use Rattle.luks_clearing.specs.Cleared.{cleared_size, IsCleared, IsOfFirstSectors}
 
--- Nothing but the first sectors of both places has changed; or both are cleared; or the first is, and the
--- key areas stand; or all but the first copy stands. `key_areas` and `but_first` say the last two of `new`.
+-- the first copy's place, of `size` bytes, waits: its first sector is cleared, and what follows it in the
+-- place is as it was
+pub record FirstWaits (size : ℕ) (old new : List ℕ) : Type 0 where
+  pub cleared : IsCleared new 0
+  pub behind : part new cleared_size (size - cleared_size) ≡ part old cleared_size (size - cleared_size)
+
+-- Nothing but the first sectors of both places, of `size` bytes each, has changed; or the first copy's place
+-- waits, and the other sector is cleared, or the key areas stand; or all but the first copy stands.
+-- `key_areas` and `but_first` say the last two of `new`.
 abbrev pub ClearsFirst : ℕ → Type 0 → Type 0 → List ℕ → List ℕ → Type 0
-ClearsFirst second key_areas but_first old new =
-    SameBut (IsOfFirstSectors second) old new
-    ⊎ (AreCleared second new
-    ⊎ ((IsCleared new 0 × key_areas)
-    ⊎ but_first))
+ClearsFirst size key_areas but_first old new =
+    SameBut (IsOfFirstSectors size) old new
+    ⊎ ((FirstWaits size old new × (IsCleared new size ⊎ key_areas))
+    ⊎ but_first)
 
 -- What the steps after the clearing leave: both places, of `size` bytes each, are as they were; or the
 -- first is, and the key areas stand; or all but the first copy stands.

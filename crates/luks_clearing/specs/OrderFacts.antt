@@ -1,31 +1,45 @@
 -- Facts on the order of writing, for the proofs of every crate that stands on this one.
-use Rattle.std.proofs.Common.{◌≡◌, ℕ, ◌+◌, ◌*◌, ◌≤◌, List, inl, inr, arith, sym, ap, ◌∙◌}
+use Rattle.std.proofs.Common.{◌≡◌, ℕ, ◌+◌, ◌*◌, ◌-◌, ◌≤◌, List, inl, inr, arith, sym, ap, ◌∙◌}
 use Rattle.luks_area.specs.Ranges.{part, IsAt, SameBut}
-use Rattle.luks_area.specs.RangeFacts.{part-part, same_but-then, same_but-wider}
-use Rattle.luks_clearing.specs.Cleared.{AreCleared, IsCleared, IsOfFirstSectors}
-use Rattle.luks_clearing.specs.Order.{ClearsFirst, WritesInTurn}
+use Rattle.luks_area.specs.RangeFacts.{part-part, part-same_but, same_but-then, same_but-wider}
+use Rattle.luks_clearing.specs.Cleared.{AreCleared, IsOfFirstSectors}
+use Rattle.luks_clearing.specs.Order.{ClearsFirst, FirstWaits, WritesInTurn}
 
--- a sector that lies in a range which stays is cleared as before
-stays_cleared : (old new : List ℕ) (at len : ℕ) → at + 512 ≤ len → part new 0 len ≡ part old 0 len → IsCleared old at → IsCleared new at
-stays_cleared old new at len inside same cleared =
-    sym (sector_of new) ∙ ap (λ b. part b at 512) same ∙ sector_of old ∙ cleared
+-- what lies in a range that stays is as it was
+inside_stays : (old new : List ℕ) (at n len : ℕ) → at + n ≤ len → part new 0 len ≡ part old 0 len → part new at n ≡ part old at n
+inside_stays old new at n len inside same =
+    sym (range_of new) ∙ ap (λ b. part b at n) same ∙ range_of old
   where
-    sector_of : (v : List ℕ) → part (part v 0 len) at 512 ≡ part v at 512
-    sector_of v = let start : 0 + at ≡ at = omega arith in part-part v 0 len at 512 inside ∙ ap (λ k. part v k 512) start
+    range_of : (v : List ℕ) → part (part v 0 len) at n ≡ part v at n
+    range_of v = let start : 0 + at ≡ at = omega arith in part-part v 0 len at n inside ∙ ap (λ k. part v k n) start
 
--- the steps that follow the clearing keep its order
-pub cleared_then : {key_areas but_first : Type 0} {old mid new : List ℕ} (size : ℕ) → 512 ≤ size → AreCleared size mid
-    → WritesInTurn size key_areas but_first mid new → ClearsFirst size key_areas but_first old new
-cleared_then {key_areas} {but_first} {old} {mid} {new} size large cleared turn = elim turn [
-  | inl same ↦ inr (inl (record {
-    first_copy = stays_cleared mid new 0 (2 * size) (omega (arith, large)) same cleared.first_copy;
-    second_copy = stays_cleared mid new size (2 * size) (omega (arith, large)) same cleared.second_copy;
-  }))
-  | inr later ↦ elim later [
-    | inl areas ↦ inr (inr (inl (stays_cleared mid new 0 size (omega (arith, large)) areas.0 cleared.first_copy, areas.1)))
-    | inr stands ↦ inr (inr (inr stands))
+module _ {old mid : List ℕ} (size : ℕ) (large : 512 ≤ size) (cleared : AreCleared size mid) (before : SameBut (IsOfFirstSectors size) old mid) where
+  -- clearing leaves what follows the first sector in the first copy's place
+  behind_first : part mid 512 (size - 512) ≡ part old 512 (size - 512)
+  behind_first = part-same_but 512 (size - 512) before (λ p here other. elim other [
+    | inl at ↦ (let low = here.0 in let high = at.1 in absurd (omega (arith, low, high)))
+    | inr at ↦ (let high = here.1 in let low = at.0 in absurd (omega (arith, low, high, large)))
+  ])
+
+  -- the place waits as long as it stays
+  first_waits : {new : List ℕ} → part new 0 size ≡ part mid 0 size → FirstWaits size old new
+  first_waits {new} same = record {
+    cleared = inside_stays mid new 0 512 size (omega (arith, large)) same ∙ cleared.first_copy;
+    behind = inside_stays mid new 512 (size - 512) size (omega (arith, large)) same ∙ behind_first;
+  }
+
+  -- the steps that follow the clearing keep its order
+  pub cleared_then : {key_areas but_first : Type 0} {new : List ℕ} → WritesInTurn size key_areas but_first mid new → ClearsFirst size key_areas but_first old new
+  cleared_then {key_areas} {but_first} {new} turn = elim turn [
+    | inl same ↦ inr (inl (
+      first_waits (inside_stays mid new 0 size (2 * size) (omega arith) same),
+      inl (inside_stays mid new size 512 (2 * size) (omega (arith, large)) same ∙ cleared.second_copy),
+    ))
+    | inr later ↦ elim later [
+      | inl areas ↦ inr (inl (first_waits areas.0, inr areas.1))
+      | inr stands ↦ inr (inr stands)
+    ]
   ]
-]
 
 -- the first sectors lie in the places of both copies
 pub sectors_inside : (size : ℕ) → 512 ≤ size → (p : ℕ) → IsOfFirstSectors size p → IsAt 0 (2 * size) p

@@ -19,7 +19,7 @@ returns-clause-rest g c = λ tells.
 
 pub returns-clause-order : goal.returns-clause-order
 returns-clause-order g c = λ source tells begins.
-    cleared_then 16384 (lit≤ tt) (c.in_ok-clear_places.ensures.cleared tells) (c.write_over_cleared.ensures.order source tells begins)
+    cleared_then 16384 (lit≤ tt) (c.in_ok-clear_places.ensures.cleared tells) (c.clear_places.ensures.rest tells) (c.write_over_cleared.ensures.order source tells begins)
 
 pub returns-clause-converted : goal.returns-clause-converted
 returns-clause-converted g c = λ source tells begins.

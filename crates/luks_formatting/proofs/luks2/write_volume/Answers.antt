@@ -14,7 +14,7 @@ pub returns-clause-rest : goal.returns-clause-rest
 returns-clause-rest g c tells = over_rest (c.clear_places.ensures.rest tells) (c.write_over_cleared.ensures.rest tells)
 
 pub returns-clause-order : goal.returns-clause-order
-returns-clause-order g c tells = cleared_then 16384 (lit≤ tt) (c.in_ok-clear_places.ensures.cleared tells) (c.write_over_cleared.ensures.order tells)
+returns-clause-order g c tells = cleared_then 16384 (lit≤ tt) (c.in_ok-clear_places.ensures.cleared tells) (c.clear_places.ensures.rest tells) (c.write_over_cleared.ensures.order tells)
 
 pub returns-clause-formatted : goal.returns-clause-formatted
 returns-clause-formatted g c tells =

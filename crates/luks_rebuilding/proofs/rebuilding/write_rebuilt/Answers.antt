@@ -5,4 +5,4 @@ use Rattle.luks_rebuilding.proofs.rebuilding.write_rebuilt.Goals as goal
 pub returns-clause-order : goal.returns-clause-order
 returns-clause-order g c = λ source tells uuid is.
     cleared_then c.args.found.now.place.size (sector_fits c.args.found.now (g.S.Device.size c.args.source.now) (g.T.Device.size c.args.target.now) c.requires.whole c.requires.region)
-    (c.in_ok-clear_places.ensures.cleared tells) (c.write_over_cleared.ensures.order source tells uuid is)
+    (c.in_ok-clear_places.ensures.cleared tells) (c.clear_places.ensures.rest tells) (c.write_over_cleared.ensures.order source tells uuid is)
