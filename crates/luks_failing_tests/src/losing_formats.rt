@@ -19,8 +19,9 @@ const VOLUMES: [(u8, u64, usize, usize, usize, usize); 2] = [
     (2, FORMAT2_RANDOM, 16777728, 32768, 32768, 288768),
 ];
 
-/// Some of the calls that write the key area, and all later ones: its 500 sectors are written first.
-const CALLS: [u64; 12] = [0, 1, 250, 499, 500, 501, 502, 503, 504, 505, 506, 507];
+/// Some of the calls that write the key area's 500 sectors, and all others: three that clear two first
+/// sectors come before.
+const CALLS: [u64; 14] = [0, 1, 2, 3, 253, 502, 503, 504, 505, 506, 507, 508, 509, 510];
 
 const LOSSES: [Loss; 5] = [
     Loss::OutOfOrder,

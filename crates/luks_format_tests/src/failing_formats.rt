@@ -33,23 +33,29 @@ fn kept_of(version: u8) -> usize {
 }
 
 /// The range that the call of this number writes, and its length; nothing where it is a flush. First
-/// come the 500 sectors of the key area and a flush, then the header and a flush, of LUKS2 each copy
-/// in two parts with a flush, the second copy first.
+/// come zeros over the first sectors at 0 and at 16384 and a flush, then the 500 sectors of the key
+/// area and a flush, then the header and a flush, of LUKS2 each copy in two parts with a flush, the
+/// second copy first.
 fn range_of(version: u8, call: u64) -> Option<(usize, usize)> {
     let (_, area, _) = places(version);
     match (version, call) {
-        (_, 0..500) => Some((area.wrapping_add((call as usize).wrapping_mul(512)), 512)),
-        (1, 501) => Some((0, 592)),
-        (2, 501) => Some((16384, 4096)),
-        (2, 502) => Some((20480, 12288)),
-        (2, 504) => Some((0, 4096)),
-        (2, 505) => Some((4096, 12288)),
+        (_, 0) => Some((0, 512)),
+        (_, 1) => Some((16384, 512)),
+        (_, 3..503) => {
+            let sector = call.wrapping_sub(3) as usize;
+            Some((area.wrapping_add(sector.wrapping_mul(512)), 512))
+        }
+        (1, 504) => Some((0, 592)),
+        (2, 504) => Some((16384, 4096)),
+        (2, 505) => Some((20480, 12288)),
+        (2, 507) => Some((0, 4096)),
+        (2, 508) => Some((4096, 12288)),
         _ => None,
     }
 }
 
 fn calls_of(version: u8) -> u64 {
-    if version == 1 { 503 } else { 507 }
+    if version == 1 { 506 } else { 510 }
 }
 
 /// How formatting ended.
@@ -134,7 +140,11 @@ fn fails_at_each_call(
     let mut want = vec![in alloc; 0xA5u8; kept_of(version)]?;
     for call in 0..calls_of(version) {
         let (at, len) = range_of(version, call).unwrap_or((0, 0));
-        let new = part(made.contents(), at, at.wrapping_add(len));
+        let new = if call < 2 {
+            &[0u8; 512][..]
+        } else {
+            part(made.contents(), at, at.wrapping_add(len))
+        };
         leave_behind(&mut want, at, new, leave);
         let (end, calls, left) = left_by(alloc, asked, &random, call, leave)?;
         assert!(rt; end == End::Told, "call {call}: the answer");
