@@ -65,6 +65,9 @@ fn end_of(alloc: Global, image: &[u8], failing: Failing, leave: Leave) -> Result
     })
 }
 
+/// What the first sectors of both copies' places hold from the first flush on until a copy is written.
+const ZEROS: [u8; 512] = [0; 512];
+
 /// Where the two new areas end.
 const END: usize = 40960;
 
@@ -78,7 +81,7 @@ impl Ended {
 }
 
 /// Whichever call of the target fails, it is told and is the last of the target; the bytes that earlier calls wrote
-/// are left, what the failing one leaves, and all others as they were.
+/// are left, zeros until the first flush, what the failing one leaves, and all others as they were.
 fn fails_at_each_call_of_the_target(
     rt: &impl Abort,
     alloc: Global,
@@ -90,9 +93,14 @@ fn fails_at_each_call_of_the_target(
     assert!(rt; done.calls.len() > 8, "the calls");
     let after = done.target.front.contents();
     let mut want = old_bytes(alloc, KEPT)?;
+    let mut is_cleared = false;
     for (i, call) in done.calls.iter().enumerate() {
         let (at, len) = call.range();
-        let new = part(after, at, at.wrapping_add(len));
+        let new = if is_cleared {
+            part(after, at, at.wrapping_add(len))
+        } else {
+            part(&ZEROS, 0, len)
+        };
         leave_behind(&mut want, at, new, leave);
         let ended = end_of(alloc, image, Failing::Target(i as u64), leave)?;
         assert!(rt; ended.end == End::Target, "call {i}: the answer");
@@ -103,13 +111,15 @@ fn fails_at_each_call_of_the_target(
         let left = ended.target.front.contents() == want.as_slice();
         assert!(rt; left && ended.keeps(image), "call {i}: the bytes");
         put(&mut want, at, new);
+        is_cleared = is_cleared || *call == Call::Flush;
     }
     assert!(rt; after == want.as_slice(), "all writes");
     Ok(())
 }
 
 /// Whichever call of the source fails, it is told; the target has its bytes behind the copies and the new
-/// areas, and where nothing was written all of them. How many calls failed until it was done.
+/// areas, and in the copies' places too, but zeros in the first sectors where it was called. How many calls
+/// failed until it was done.
 fn fails_at_each_call_of_the_source(
     rt: &impl Abort,
     alloc: Global,
@@ -123,8 +133,12 @@ fn fails_at_each_call_of_the_source(
             return Ok(call);
         }
         assert!(rt; ended.end == End::Source, "call {call}: the answer");
-        let head = part(ended.target.front.contents(), 0, 32768);
-        let no_copy = head.iter().all(|byte| *byte == 0x55);
+        let mut want = old_bytes(alloc, 32768)?;
+        if !ended.calls.is_empty() {
+            put(&mut want, 0, &ZEROS);
+            put(&mut want, 16384, &ZEROS);
+        }
+        let no_copy = part(ended.target.front.contents(), 0, 32768) == want.as_slice();
         assert!(rt; no_copy, "call {call}: the copies");
     }
     Ok(0)

@@ -6,17 +6,25 @@ use luks_reading::Data;
 use luks_test_devices::{Call, Recording, counted, target};
 use std::test::Fail;
 
-/// Where the four parts begin and end, in the order in which they are written: the areas of keyslot 0 and
-/// of keyslot 3, the second copy, the first.
-const PARTS: [(usize, usize); 4] = [(32768, 36864), (36864, 40960), (16384, 32768), (0, 16384)];
+/// Where the parts begin and end in the order in which they are written, and whether a flush follows: the
+/// first sectors of both copies' places, the areas of keyslot 0 and of keyslot 3, the second copy, the
+/// first.
+const PARTS: [(usize, usize, bool); 6] = [
+    (0, 512, false),
+    (16384, 16896, true),
+    (32768, 36864, true),
+    (36864, 40960, true),
+    (16384, 32768, true),
+    (0, 16384, true),
+];
 
-/// Whether the calls write the parts in their order, each from its start to its end, with a flush after
-/// each, and read nothing.
+/// Whether the calls write the parts in their order, each from its start to its end, with a flush where
+/// one follows, and read nothing.
 fn are_in_order(calls: &[Call]) -> bool {
-    let mut flushed = 0usize;
+    let mut written = 0usize;
     let mut to = None;
     for call in calls {
-        let (from, end) = PARTS.get(flushed).copied().unwrap_or_default();
+        let (from, end, is_flushed) = PARTS.get(written).copied().unwrap_or_default();
         match *call {
             Call::Write { at, len } => {
                 let next = at.saturating_add(len);
@@ -24,18 +32,22 @@ fn are_in_order(calls: &[Call]) -> bool {
                     return false;
                 }
                 to = Some(next);
+                if next == end && !is_flushed {
+                    to = None;
+                    written = written.wrapping_add(1);
+                }
             }
             Call::Flush => {
                 if to != Some(end) {
                     return false;
                 }
                 to = None;
-                flushed = flushed.wrapping_add(1);
+                written = written.wrapping_add(1);
             }
             Call::Read => return false,
         }
     }
-    flushed == PARTS.len() && to.is_none()
+    written == PARTS.len() && to.is_none()
 }
 
 #[test]
