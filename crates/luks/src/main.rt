@@ -142,7 +142,8 @@ fn run_line<R: AllocGlobal + Clock + Files<File = File> + Input + Print + Eprint
 }
 
 /// The other use of the disk that an edit with `--over` is going to write over. None where the volume
-/// can't be read, or memory is refused.
+/// can't be read, or memory is refused. It isn't inlined, for the same reason as `tell_more`.
+#[inline(never)]
 fn use_before<R: AllocGlobal + Clock + Files<File = File>>(
     rt: &R,
     line: &Line<'_>,
@@ -174,7 +175,9 @@ fn tell_overwritten<R: AllocGlobal + Eprint>(
 
 /// Says what the command itself doesn't look for: what formatting has left on the volume, where the
 /// metadata of a volume is whole of which no header counts, what else its disk is used for where only
-/// the second copy is sound, and of which metadata a header was made.
+/// the second copy is sound, and of which metadata a header was made. It isn't inlined, so that
+/// room for its buffers isn't taken from the stack of the command, which runs before it.
+#[inline(never)]
 fn tell_more<R: AllocGlobal + Clock + Files<File = File> + Eprint>(
     rt: &R,
     line: &Line<'_>,
