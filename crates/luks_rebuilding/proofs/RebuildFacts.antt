@@ -79,14 +79,14 @@ module _
 
       first_last : WritesWholeLast c v uuid random old w → FirstIsLast v given random old w c.place
       first_last (inl same) = inl same
-      first_last (inr (inl cleared)) = inr (inl cleared)
-      first_last (inr (inr (inl there))) = inr (inr (inl (there.0, key_areas w there.1)))
-      first_last (inr (inr (inr x))) = inr (inr (inr (record {
+      first_last (inr (inl (waits, inl cleared))) = inr (inl (waits, inl cleared))
+      first_last (inr (inl (waits, inr there))) = inr (inl (waits, inr (key_areas w there)))
+      first_last (inr (inr x)) = inr (inr (record {
         uuid = uuid;
         own_uuid = own;
         second = copy_there w uuid (second_copy_salt random) c.place.size x.second;
         areas = key_areas w x.areas;
-      })))
+      }))
 
       pub order_kept : WritesWholeLast c v uuid random old w → WritesFirstLast v which given random old w
       order_kept x = inr (record { place = c.place; taken = found.taken; holds = first_last x })
