@@ -56,7 +56,10 @@ fn of_two_copies_that_differ(rt: HostRuntime) -> Result<(), Fail> {
     let taken = "luks: made of the metadata in the first copy, which has 2 keyslots\n";
     let want = format!(in alloc; "{taken}{DIFFERS}")?;
     let volume = two_that_differ(alloc)?;
-    assert!(rt; is_said_after(alloc, volume, Which::Any, want.as_str()), "of any copy");
+    assert!(rt;
+        is_said_after(alloc, volume, Which::Any, want.as_str()),
+        "of any copy"
+    );
     let second = "luks: made of the metadata in the second copy, which has 2 keyslots\n";
     let volume = two_that_differ(alloc)?;
     assert!(rt;
