@@ -5,27 +5,26 @@
 //! LUKS1 of 2097664 bytes by the header's layout, all keyslots disabled.
 #![tactic(auto)]
 
-ghost use Rattle.std.specs.Prelude.{◌≡◌, IfOk, IfSome};
+mod hints;
+mod typing;
+
+ghost use Rattle.std.specs.Prelude.{◌≡◌, IfOk};
 ghost use Rattle.luks_cache.specs.Cached.{cached_failures};
 
 use clap::error::ErrorKind as FaultKind;
+use hints::{Ended, tell, tell_ended, tell_overwritten, use_before};
 use luks_area::FileDevice;
 use luks_cache::CachedDevice;
-use luks_cli::{
-    Command, CountingPrinter, InputFault, Inputs, Line, NewVersion, OtherUse, Reason, execute,
-    first_bytes, note_other_use, note_overwritten, standing_use,
-};
+use luks_cli::{CountingPrinter, InputFault, Inputs, Line, Reason, execute, first_bytes};
 use luks_explain::Fault;
-use luks_leftovers::{note_leftovers, read_front};
 use luks_line::{Asked, parse};
 use luks_lock::{FOLDER, LazyFile, LockedDevice, OpenFault, is_same_file, open_locked};
-use luks_metadata_notes::{note_taken, note_whole};
-use luks_rebuilding::Which;
 use std::fs::File;
 use std::io::{ErrorKind, Write};
 use std::process::ExitCode;
 use std::rt::{Clock, Env, Files};
 use std::{env, io};
+use typing::tell_typing;
 
 /// The volume of a command line: its file, measured under its lock, and its first bytes remembered.
 type Volume = CachedDevice<LockedDevice<FileDevice<File>>>;
@@ -113,7 +112,11 @@ fn run_line<R: AllocGlobal + Clock + Files<File = File> + Input + Print + Eprint
     line: &Line<'_>,
 ) -> io::Result<u8> {
     let passphrases = Passphrases::read(rt, line);
-    let standing = use_before(rt, line, &passphrases);
+    let standing = if passphrases.end_command() {
+        None
+    } else {
+        use_before(rt, line)
+    };
     let Volumes { volume, target } = open_volumes(rt, line, &passphrases);
     let mut inputs = Inputs {
         volume,
@@ -135,120 +138,11 @@ fn run_line<R: AllocGlobal + Clock + Files<File = File> + Input + Print + Eprint
         tell(rt, err.as_slice());
     }
     drop(inputs);
-    tell_overwritten(rt, line.volume, standing, status);
-    tell_more(rt, line, status);
+    let ended = Ended::new(status, out.writer.as_slice(), err.is_empty());
+    tell_overwritten(rt, line.volume, standing, &ended);
+    tell_ended(rt, line, &ended);
     printed?;
     Ok(status)
-}
-
-/// The other use of the disk that an edit with `--over` is going to write over. None where the volume
-/// can't be read, or memory is refused. It isn't inlined, for the same reason as `tell_more`.
-#[inline(never)]
-fn use_before<R: AllocGlobal + Clock + Files<File = File>>(
-    rt: &R,
-    line: &Line<'_>,
-    passphrases: &Passphrases,
-) -> Option<OtherUse> {
-    let Command::Edit(editing) = line.command else {
-        return None;
-    };
-    if !editing.over || passphrases.end_command() {
-        return None;
-    }
-    let mut device = reopened(rt, line.volume)?;
-    standing_use(rt.alloc(), &mut device)
-}
-
-/// Says that an edit that is done has written over this use of the disk.
-fn tell_overwritten<R: AllocGlobal + Eprint>(
-    rt: &R,
-    volume: &str,
-    standing: Option<OtherUse>,
-    status: u8,
-) {
-    if let (Some(found), 0) = (standing, status) {
-        let mut err = Vec::new(rt.alloc());
-        note_overwritten(found, volume, &mut err);
-        tell(rt, err.as_slice());
-    }
-}
-
-/// Says what the command itself doesn't look for: what formatting has left on the volume, where the
-/// metadata of a volume is whole of which no header counts, what else its disk is used for where only
-/// the second copy is sound, and of which metadata a header was made. It isn't inlined, so that
-/// room for its buffers isn't taken from the stack of the command, which runs before it.
-#[inline(never)]
-fn tell_more<R: AllocGlobal + Clock + Files<File = File> + Eprint>(
-    rt: &R,
-    line: &Line<'_>,
-    status: u8,
-) {
-    match (line.command, status) {
-        (Command::Format(making), 0) => tell_leftovers(rt, line.volume, making.version),
-        (Command::Check { data_: _ }, 3) => tell_other_use(rt, line.volume),
-        (Command::Check { data_: _ } | Command::Show(_), 1) => tell_whole(rt, line.volume),
-        (Command::Rebuild(rebuilding), 0) => tell_taken(rt, line.volume, rebuilding.second),
-        _ => {}
-    }
-}
-
-/// Says in which copy the metadata of a volume is whole of which no header counts. Where the volume
-/// can't be read any more, or memory is refused, it says nothing.
-fn tell_whole<R: AllocGlobal + Clock + Files<File = File> + Eprint>(rt: &R, volume: &str) {
-    let Some(mut device) = reopened(rt, volume) else {
-        return;
-    };
-    let mut err = Vec::new(rt.alloc());
-    note_whole(rt.alloc(), &mut device, &mut err);
-    tell(rt, err.as_slice());
-}
-
-/// Says what else the disk of a volume is used for. Where the volume can't be read any more, or
-/// memory is refused, it says nothing.
-fn tell_other_use<R: AllocGlobal + Clock + Files<File = File> + Eprint>(rt: &R, volume: &str) {
-    let Some(mut device) = reopened(rt, volume) else {
-        return;
-    };
-    let mut err = Vec::new(rt.alloc());
-    note_other_use(rt.alloc(), &mut device, volume, &mut err);
-    tell(rt, err.as_slice());
-}
-
-/// Says of which metadata of the volume a header was made, that of second copies alone or of any.
-/// Where the volume can't be read any more, or memory is refused, it says nothing.
-fn tell_taken<R: AllocGlobal + Clock + Files<File = File> + Eprint>(
-    rt: &R,
-    volume: &str,
-    second: bool,
-) {
-    let Some(mut device) = reopened(rt, volume) else {
-        return;
-    };
-    let which = if second { Which::Second } else { Which::Any };
-    let mut err = Vec::new(rt.alloc());
-    note_taken(rt.alloc(), &mut device, which, &mut err);
-    tell(rt, err.as_slice());
-}
-
-/// Says what formatting has left of what stood on the volume before. Where the volume can't be read
-/// any more, or memory is refused, it says nothing.
-fn tell_leftovers<R: AllocGlobal + Clock + Files<File = File> + Eprint>(
-    rt: &R,
-    volume: &str,
-    version: NewVersion,
-) {
-    let own = match version {
-        NewVersion::Luks1 => 592,
-        NewVersion::Luks2 => 32768,
-    };
-    let Some(mut device) = reopened(rt, volume) else {
-        return;
-    };
-    let mut err = Vec::new(rt.alloc());
-    if let Ok(front) = read_front(rt.alloc(), &mut device) {
-        let _ = note_leftovers(rt.alloc(), &front, own, volume, &mut err);
-    }
-    tell(rt, err.as_slice());
 }
 
 /// Prints what is said of a fault; that no fault has the name is a mistake in the words.
@@ -271,13 +165,6 @@ fn list_faults<R: Print>(rt: &R) -> io::Result<u8> {
     Ok(0)
 }
 
-/// Writes these lines to standard error, where that can be written.
-fn tell<R: Eprint>(rt: &R, lines: &[u8]) {
-    if let Ok(text) = str::from_utf8(lines) {
-        let _ = eprint!(rt; "{text}");
-    }
-}
-
 /// What was read of the passphrases' files, before the volume is opened.
 #[derive(Drop)]
 struct Passphrases {
@@ -288,7 +175,7 @@ struct Passphrases {
 impl Passphrases {
     /// Reads the file of the passphrase, and then that of the new one. Where the first ends the
     /// command, the second isn't opened.
-    fn read<R: AllocGlobal + Files<File = File> + Input>(rt: &R, line: &Line<'_>) -> Self {
+    fn read<R: AllocGlobal + Files<File = File> + Input + Eprint>(rt: &R, line: &Line<'_>) -> Self {
         let old = passphrase(rt, line.passphrase());
         if ends_command(&old) {
             return Passphrases {
@@ -319,7 +206,7 @@ fn ends_command(read: &Result<Vec<u8>, InputFault>) -> bool {
 }
 
 /// What the file of this name has of a passphrase; `-` is standard input.
-fn passphrase<R: AllocGlobal + Files<File = File> + Input>(
+fn passphrase<R: AllocGlobal + Files<File = File> + Input + Eprint>(
     rt: &R,
     name: Option<&str>,
 ) -> Result<Vec<u8>, InputFault> {
@@ -327,6 +214,7 @@ fn passphrase<R: AllocGlobal + Files<File = File> + Input>(
         return Err(InputFault::Absent);
     };
     if path == "-" {
+        tell_typing(rt);
         return first_bytes(rt.alloc(), &mut rt.reader());
     }
     let mut file = File::open(rt, path)?;
@@ -427,17 +315,12 @@ fn open_volume<R: AllocGlobal + Clock + Files<File = File> + Eprint>(
         }
         Err(OpenFault::NoVolume) => Err(InputFault::Unreadable(Reason::NoVolume)),
         Err(OpenFault::Edited) => Err(InputFault::Unreadable(Reason::Edited)),
+        Err(OpenFault::ReadOnly) => {
+            let _ = eprintln!(rt; "luks: {volume}: its file system or its device is read-only");
+            Err(InputFault::Unreadable(Reason::Other))
+        }
         Err(OpenFault::File(error)) => Err(InputFault::from(error)),
     }
-}
-
-/// The volume of this name, opened for reading once more. None where that can't be, or memory is
-/// refused.
-fn reopened<R: AllocGlobal + Clock + Files<File = File>>(rt: &R, volume: &str) -> Option<Volume>
-    ensures { IfSome result (λ device. cached_failures device ≡ 0) }
-{
-    let device = open_locked(rt, volume, false, FOLDER).ok()?;
-    CachedDevice::new(rt.alloc(), device).ok()
 }
 
 /// Whether an edit of the volume ended since another program had written its header.
@@ -453,7 +336,9 @@ fn device_fault<R: Print>(rt: &R) -> io::Result<u8> {
     Ok(FAULT)
 }
 
-fn no_memory<R: Print>(rt: &R) -> io::Result<u8> {
+/// Answers that memory for the words of the command line was refused.
+fn no_memory<R: Print + Eprint>(rt: &R) -> io::Result<u8> {
+    let _ = eprintln!(rt; "luks: memory for the command line was refused");
     println!(rt; "no memory")?;
     Ok(FAULT)
 }

@@ -4,7 +4,9 @@
 
 mod explanation;
 mod fault;
+mod refused;
 mod texts;
 
 pub use explanation::Explanation;
 pub use fault::Fault;
+pub use refused::refusing;

@@ -1,1 +1,2 @@
 pub mod BehindZerosFacts
+pub mod EndFacts

@@ -1,3 +1,4 @@
 pub mod BehindZeros
 pub mod FrontFailures
+pub mod HeaderEnd
 pub mod Leftovers

@@ -12,6 +12,7 @@ mod names;
 mod node;
 mod notice;
 mod opening;
+mod read_only;
 
 pub use asking::{Answer, Share, ask};
 pub use identity::is_same_file;

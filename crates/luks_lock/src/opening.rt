@@ -6,6 +6,7 @@ use crate::asking::{Answer, Share, ask};
 use crate::locked::{Lock, LockedDevice};
 use crate::names::{Named, hold_name};
 use crate::node::Node;
+use crate::read_only::is_read_only;
 use luks_area::FileDevice;
 use std::fs::{self, File, OpenOptions};
 use std::os::unix::fs::{FileTypeExt, MetadataExt};
@@ -29,12 +30,17 @@ pub enum OpenFault {
     NoVolume,
     /// It is to be written, and another program holds its lock.
     Edited,
+    /// It is to be written, and its file system or device is read-only.
+    ReadOnly,
     /// It can't be opened, or its length can't be told.
     File(io::Error),
 }
 
 impl From<io::Error> for OpenFault {
     fn from(error: io::Error) -> OpenFault {
+        if error.kind() == io::ErrorKind::ReadOnlyFilesystem {
+            return OpenFault::ReadOnly;
+        }
         OpenFault::File(error)
     }
 }
@@ -44,8 +50,8 @@ impl From<io::Error> for OpenFault {
 ///
 /// To write, the lock is exclusive, and where another program holds it for 3 s, nothing is opened; to
 /// read, it is shared, and where it can't be had, the device comes without it. A volume that is to be
-/// written is asked to settle first what an earlier program may have left unsettled. A file of another
-/// kind, as a folder or a pipe, has no length, and isn't opened at all: opening a pipe would wait for
+/// written is asked to settle first what an earlier program may have left unsettled. A block device that
+/// is read-only isn't opened to be written, though the system would open it. A file of another kind, as a folder or a pipe, has no length, and isn't opened at all: opening a pipe would wait for
 /// its writer. `folder` has the files that stand for block devices.
 pub fn open_locked<R: AllocGlobal + Clock + Files<File = File>>(
     rt: &R,
@@ -68,6 +74,9 @@ pub fn open_locked<R: AllocGlobal + Clock + Files<File = File>>(
         Share::Shared
     };
     let node = block_node(&file)?;
+    if writes && node.is_some_and(|node| is_read_only(rt, node)) {
+        return Err(OpenFault::ReadOnly);
+    }
     let lock = hold(rt, &file, node, share, folder);
     if writes && lock.is_taken() {
         return Err(OpenFault::Edited);

@@ -44,7 +44,9 @@ fn opened<R: AllocGlobal + Clock + Files<File = File>>(
         Ok(device) => CachedDevice::new(rt.alloc(), device).map_err(|_| InputFault::NoMemory),
         Err(OpenFault::Edited) => Err(InputFault::Unreadable(Reason::Edited)),
         Err(OpenFault::NoVolume) => Err(InputFault::Unreadable(Reason::NoVolume)),
-        Err(OpenFault::File(_)) => Err(InputFault::Unreadable(Reason::Other)),
+        Err(OpenFault::ReadOnly | OpenFault::File(_)) => {
+            Err(InputFault::Unreadable(Reason::Other))
+        }
     }
 }
 

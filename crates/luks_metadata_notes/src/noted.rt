@@ -4,50 +4,68 @@ ghost use Rattle.luks_area.specs.Device.{IsUnchanged};
 
 use luks_area::Device;
 use luks_meta::Meta;
-use luks_rebuilding::{Candidate, Which, find_candidate};
+use luks_rebuilding::{Candidate, Place, Which, find_candidate};
 use std::alloc::Global;
 use std::io::Write;
 
 /// Says to `err` of a volume of which no header counts in which copy metadata is whole, the first in
-/// the order of `rebuild`, and that a header can be made of it. Where a header counts or no metadata is
-/// whole, where the device fails or memory is refused, it says nothing.
+/// the order of `rebuild`, and that a header can be made of it; and where that is a first copy's, also
+/// that a second copy's is whole and another. Where a header counts or no metadata is whole, where the
+/// device fails or memory is refused, it says nothing.
 pub fn note_whole<D: Device, E: Write>(alloc: Global, device: &mut D, err: &mut E)
     requires { D.failed device.old + 1 < 2 ^ 64 }
     ensures { IsUnchanged D.tells D.size D.bytes D.unsettled device.old device.new }
 {
-    if let Ok(found) = find_candidate(alloc, device, Which::Any) {
-        let (count, keyslots) = counted(&found.meta);
-        let copy = copy_of(&found);
+    if let Ok(Candidate { place, json, meta }) = find_candidate(alloc, device, Which::Any) {
+        let (count, keyslots) = counted(&meta);
+        drop(meta);
+        let copy = copy_of(&place);
         let _ = writeln!(
             err,
             "luks: metadata of {count} {keyslots} is whole in the {copy} copy: luks rebuild makes a header of it"
         );
+        note_other(alloc, device, &json, err);
     }
 }
 
-/// Says to `err` of which copy's metadata a header was made, and how many keyslots it has. It is asked
-/// of the volume once more; where that fails it says nothing.
+/// Says to `err` of which copy's metadata a header was made, and how many keyslots it has; and where
+/// that was a first copy's, also that a second copy's is whole and another. It is asked of the volume
+/// once more; where that fails it says nothing.
 pub fn note_taken<D: Device, E: Write>(alloc: Global, device: &mut D, which: Which, err: &mut E)
     requires { D.failed device.old + 1 < 2 ^ 64 }
     ensures { IsUnchanged D.tells D.size D.bytes D.unsettled device.old device.new }
 {
-    if let Ok(found) = find_candidate(alloc, device, which) {
-        let (count, keyslots) = counted(&found.meta);
-        let copy = copy_of(&found);
+    if let Ok(Candidate { place, json, meta }) = find_candidate(alloc, device, which) {
+        let (count, keyslots) = counted(&meta);
+        drop(meta);
+        let copy = copy_of(&place);
         let _ = writeln!(
             err,
             "luks: made of the metadata in the {copy} copy, which has {count} {keyslots}"
         );
+        note_other(alloc, device, &json, err);
+    }
+}
+
+/// Says to `err` that metadata is whole in a second copy that isn't this. One that is of a second copy
+/// itself is the first that is found there.
+fn note_other<D: Device, E: Write>(alloc: Global, device: &mut D, json: &[u8], err: &mut E)
+    requires { D.failed device.old + 1 < 2 ^ 64 }
+    ensures { IsUnchanged D.tells D.size D.bytes D.unsettled device.old device.new }
+{
+    if let Ok(second) = find_candidate(alloc, device, Which::Second) {
+        if second.json.as_slice() != json {
+            let _ = writeln!(
+                err,
+                "luks: that of the second copy is whole too, and differs: luks rebuild --second takes it"
+            );
+        }
     }
 }
 
 /// Which copy the metadata was read from.
-fn copy_of(found: &Candidate) -> &'static str {
-    if found.place.at == 0 {
-        "first"
-    } else {
-        "second"
-    }
+fn copy_of(place: &Place) -> &'static str {
+    if place.at == 0 { "first" } else { "second" }
 }
 
 /// How many keyslots the metadata has, and what so many are called.

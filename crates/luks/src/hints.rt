@@ -1,0 +1,224 @@
+//! What is said on standard error once a command has ended, and that the command itself doesn't look
+//! for. The volume is opened anew for it, to be read; where it can't be, or memory is refused, nothing is
+//! said.
+ghost use Rattle.std.specs.Prelude.{◌≡◌, IfSome};
+ghost use Rattle.luks_cache.specs.Cached.{cached_failures};
+
+use crate::Volume;
+use luks_area::Device;
+use luks_cache::CachedDevice;
+use luks_cli::{Command, Line, OtherUse, note_other_use, note_overwritten, standing_use};
+use luks_explain::{Fault, refusing};
+use luks_leftovers::{FrontFault, header_end, note_leftovers, read_front};
+use luks_lock::{FOLDER, open_locked};
+use luks_metadata_notes::{note_no_keyslots, note_taken, note_whole};
+use luks_rebuilding::Which;
+use luks_signatures::first_use;
+use std::alloc::Global;
+use std::fs::File;
+use std::rt::{Clock, Files};
+
+/// How a command has ended.
+#[derive(Debug, Clone, Copy)]
+pub(crate) struct Ended<'a> {
+    /// Its exit status.
+    status: u8,
+    /// What it printed for standard output; nothing where that is no text.
+    answer: &'a str,
+    /// It said nothing for standard error.
+    is_silent: bool,
+}
+
+impl<'a> Ended<'a> {
+    /// With this status, these bytes on standard output, and nothing on standard error or not.
+    pub(crate) fn new(status: u8, printed: &'a [u8], is_silent: bool) -> Self {
+        Ended {
+            status,
+            answer: str::from_utf8(printed).unwrap_or(""),
+            is_silent,
+        }
+    }
+}
+
+/// The other use of the disk that an edit with `--over` is going to write over. It isn't inlined, for
+/// the same reason as `tell_ended`.
+#[inline(never)]
+pub(crate) fn use_before<R: AllocGlobal + Clock + Files<File = File>>(
+    rt: &R,
+    line: &Line<'_>,
+) -> Option<OtherUse> {
+    let Command::Edit(editing) = line.command else {
+        return None;
+    };
+    if !editing.over {
+        return None;
+    }
+    standing_use(rt.alloc(), &mut reopened(rt, line.volume)?)
+}
+
+/// Says that an edit that is done has written over this use of the disk.
+pub(crate) fn tell_overwritten<R: AllocGlobal + Eprint>(
+    rt: &R,
+    volume: &str,
+    standing: Option<OtherUse>,
+    ended: &Ended<'_>,
+) {
+    if let (Some(found), 0) = (standing, ended.status) {
+        let mut err = Vec::new(rt.alloc());
+        note_overwritten(found, volume, &mut err);
+        tell(rt, err.as_slice());
+    }
+}
+
+/// Says all else that a person is to know of how the command has ended; at last, of a refusal, what
+/// tells more of it. It isn't inlined, so that room for its buffers isn't taken from the stack of the
+/// command, which runs before it.
+#[inline(never)]
+pub(crate) fn tell_ended<R: AllocGlobal + Clock + Files<File = File> + Eprint>(
+    rt: &R,
+    line: &Line<'_>,
+    ended: &Ended<'_>,
+) {
+    let refused = refusing(ended.answer);
+    if refused == Some(Fault::NotLuks) {
+        tell_standing(rt, line.volume);
+    }
+    tell_more(rt, line, ended);
+    if let Some(fault) = refused {
+        let name = fault.name();
+        let _ = eprintln!(rt; "luks: luks explain {name} says what to try next");
+    } else if ended.is_silent && ended.answer == "no memory\n" {
+        let volume = line.volume;
+        let _ = eprintln!(rt;
+            "luks: {volume}: memory was refused: end other programs, or try it on a machine with more"
+        );
+    }
+}
+
+/// Says what formatting, converting and rebuilding have left of what stood there before, where the
+/// metadata of a volume is whole of which no header counts, what else its disk is used for where only
+/// the second copy is sound, of which metadata a header was made, and that there is no keyslot.
+fn tell_more<R: AllocGlobal + Clock + Files<File = File> + Eprint>(
+    rt: &R,
+    line: &Line<'_>,
+    ended: &Ended<'_>,
+) {
+    match (line.command, ended.status) {
+        (Command::Format(_), 0) => tell_leftovers(rt, line.volume),
+        (Command::Convert(converting), 0) => tell_leftovers(rt, converting.target),
+        (Command::Rebuild(rebuilding), 0) => {
+            tell_taken(rt, line.volume, rebuilding.second);
+            tell_leftovers(rt, rebuilding.target);
+        }
+        (Command::Check { data_: _ }, 3) => tell_other_use(rt, line.volume),
+        (Command::Check { data_: _ } | Command::Show(_), 1) => tell_whole(rt, line.volume),
+        (Command::Open { .. }, 1) if ended.answer == "no slot opens\n" => {
+            tell_no_keyslots(rt, line.volume)
+        }
+        _ => {}
+    }
+}
+
+/// The volume of this name, opened once more, to be read. None where that can't be, or memory is
+/// refused.
+fn reopened<R: AllocGlobal + Clock + Files<File = File>>(rt: &R, volume: &str) -> Option<Volume>
+    ensures { IfSome result (λ device. cached_failures device ≡ 0) }
+{
+    let device = open_locked(rt, volume, false, FOLDER).ok()?;
+    CachedDevice::new(rt.alloc(), device).ok()
+}
+
+/// Says by its signature what stands on a volume that isn't of LUKS.
+fn tell_standing<R: AllocGlobal + Clock + Files<File = File> + Eprint>(rt: &R, volume: &str) {
+    let Some(mut device) = reopened(rt, volume) else {
+        return;
+    };
+    let len = device.len();
+    if let Ok(Some(found)) = first_use(&mut device, len) {
+        let _ = eprintln!(rt; "luks: {volume}: what stands there is {found}");
+    }
+}
+
+/// Says in which copy the metadata of a volume is whole of which no header counts.
+fn tell_whole<R: AllocGlobal + Clock + Files<File = File> + Eprint>(rt: &R, volume: &str) {
+    let Some(mut device) = reopened(rt, volume) else {
+        return;
+    };
+    let mut err = Vec::new(rt.alloc());
+    note_whole(rt.alloc(), &mut device, &mut err);
+    tell(rt, err.as_slice());
+}
+
+/// Says what else the disk of a volume is used for.
+fn tell_other_use<R: AllocGlobal + Clock + Files<File = File> + Eprint>(rt: &R, volume: &str) {
+    let Some(mut device) = reopened(rt, volume) else {
+        return;
+    };
+    let mut err = Vec::new(rt.alloc());
+    note_other_use(rt.alloc(), &mut device, volume, &mut err);
+    tell(rt, err.as_slice());
+}
+
+/// Says of which metadata of the volume a header was made, that of second copies alone or of any.
+fn tell_taken<R: AllocGlobal + Clock + Files<File = File> + Eprint>(
+    rt: &R,
+    volume: &str,
+    second: bool,
+) {
+    let Some(mut device) = reopened(rt, volume) else {
+        return;
+    };
+    let which = if second { Which::Second } else { Which::Any };
+    let mut err = Vec::new(rt.alloc());
+    note_taken(rt.alloc(), &mut device, which, &mut err);
+    tell(rt, err.as_slice());
+}
+
+/// Says that a volume has no keyslot.
+fn tell_no_keyslots<R: AllocGlobal + Clock + Files<File = File> + Eprint>(rt: &R, volume: &str) {
+    let Some(mut device) = reopened(rt, volume) else {
+        return;
+    };
+    let mut err = Vec::new(rt.alloc());
+    note_no_keyslots(rt.alloc(), &mut device, volume, &mut err);
+    tell(rt, err.as_slice());
+}
+
+/// Says what was left where a header was made of what stood there before, or why it wasn't looked for.
+fn tell_leftovers<R: AllocGlobal + Clock + Files<File = File> + Eprint>(rt: &R, volume: &str) {
+    let Some(mut device) = reopened(rt, volume) else {
+        return;
+    };
+    let mut err = Vec::new(rt.alloc());
+    let looked = note_front(rt.alloc(), &mut device, volume, &mut err);
+    tell(rt, err.as_slice());
+    let why = match looked {
+        Ok(()) => return,
+        Err(FrontFault::Device) => "reading failed",
+        Err(FrontFault::Memory) => "memory was refused",
+    };
+    let _ = eprintln!(rt; "luks: {volume}: what was left there wasn't looked for: {why}");
+}
+
+/// Says to `err` what was left on the volume of this name. Where no header counts it says nothing.
+fn note_front(
+    alloc: Global,
+    device: &mut Volume,
+    volume: &str,
+    err: &mut Vec<u8>,
+) -> Result<(), FrontFault>
+    requires { cached_failures device.old ≡ 0 }
+{
+    if let Some(own) = header_end(alloc, device)? {
+        let front = read_front(alloc, device)?;
+        note_leftovers(alloc, &front, own, volume, err)?;
+    }
+    Ok(())
+}
+
+/// Writes these lines to standard error, where that can be written.
+pub(crate) fn tell<R: Eprint>(rt: &R, lines: &[u8]) {
+    if let Ok(text) = str::from_utf8(lines) {
+        let _ = eprint!(rt; "{text}");
+    }
+}
