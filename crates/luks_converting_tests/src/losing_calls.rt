@@ -91,8 +91,8 @@ fn each_call_over(rt: &impl Abort, alloc: Global, old: &[u8]) -> Result<(), Fail
             told = call.wrapping_add(1);
         }
         // the two first sectors, the area's five sectors and its zeros, two copies, and a flush after
-        // each of the four
-        assert!(rt; end == End::Done && 14 <= told, "the end");
+        // each of the five
+        assert!(rt; end == End::Done && 15 <= told, "the end");
     }
     Ok(())
 }

@@ -11,8 +11,9 @@ use std::test::Fail;
 const PARTS: [(usize, usize); 4] = [(32768, 36864), (36864, 40960), (16384, 32768), (0, 16384)];
 
 /// The calls that clear the first sectors of both copies' places, before any other.
-const CLEARING: [Call; 3] = [
+const CLEARING: [Call; 4] = [
     Call::Write { at: 0, len: 512 },
+    Call::Flush,
     Call::Write {
         at: 16384,
         len: 512,
@@ -23,7 +24,7 @@ const CLEARING: [Call; 3] = [
 /// Whether the calls clear both places first, and then write the parts in their order.
 fn clear_first(calls: &[Call]) -> bool {
     let clearing = calls.iter().zip(CLEARING).all(|(call, want)| *call == want);
-    clearing && calls.get(3..).is_some_and(|others| are_in_order(others))
+    clearing && calls.get(4..).is_some_and(|others| are_in_order(others))
 }
 
 /// Whether the calls write the parts in their order, each from its start to its end, with a flush after

@@ -21,8 +21,8 @@ const VOLUMES: [(u8, u64, usize, usize, usize, usize); 2] = [
 
 /// The calls that clear the first sectors of both copies' places, some of those that write the 500 sectors
 /// of the key area, and all later ones.
-const CALLS: [u64; 15] = [
-    0, 1, 2, 3, 4, 253, 502, 503, 504, 505, 506, 507, 508, 509, 510,
+const CALLS: [u64; 16] = [
+    0, 1, 2, 3, 4, 5, 254, 503, 504, 505, 506, 507, 508, 509, 510, 511,
 ];
 
 const LOSSES: [Loss; 5] = [

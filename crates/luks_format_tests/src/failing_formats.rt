@@ -32,18 +32,18 @@ fn kept_of(version: u8) -> usize {
     if version == 1 { KEPT[0] } else { KEPT[1] }
 }
 
-/// How many calls clear the first sectors of both copies' places: two writes and a flush.
-const CLEARING: u64 = 3;
+/// How many calls clear the first sectors of both copies' places: a write and a flush of each.
+const CLEARING: u64 = 4;
 
 /// The range that the call of this number writes, and its length; nothing where it is a flush. First
-/// the first sectors of both copies' places become zeros, and a flush comes; then come the 500 sectors
+/// the first sectors of both copies' places become zeros, a flush after each; then come the 500 sectors
 /// of the key area and a flush, then the header and a flush, of LUKS2 each copy in two parts with a
 /// flush, the second copy first.
 fn range_of(version: u8, call: u64) -> Option<(usize, usize)> {
     match call {
         0 => Some((0, 512)),
-        1 => Some((16384, 512)),
-        2 => None,
+        2 => Some((16384, 512)),
+        1 | 3 => None,
         _ => range_over_cleared(version, call.wrapping_sub(CLEARING)),
     }
 }
@@ -63,7 +63,7 @@ fn range_over_cleared(version: u8, call: u64) -> Option<(usize, usize)> {
 }
 
 fn calls_of(version: u8) -> u64 {
-    if version == 1 { 506 } else { 510 }
+    if version == 1 { 507 } else { 511 }
 }
 
 /// How formatting ended.
@@ -149,7 +149,11 @@ fn fails_at_each_call(
     for call in 0..calls_of(version) {
         let (at, len) = range_of(version, call).unwrap_or((0, 0));
         let after = part(made.contents(), at, at.wrapping_add(len));
-        let new: &[u8] = if call < 2 { &[0; 512] } else { after };
+        let new: &[u8] = if call < CLEARING && len > 0 {
+            &[0; 512]
+        } else {
+            after
+        };
         leave_behind(&mut want, at, new, leave);
         let (end, calls, left) = left_by(alloc, asked, &random, call, leave)?;
         assert!(rt; end == End::Told, "call {call}: the answer");

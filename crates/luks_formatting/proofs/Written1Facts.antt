@@ -7,7 +7,7 @@ use Rattle.luks1_header.specs.Bytes.{text_at}
 use Rattle.luks1_header.specs.Header1.{entry, entry_iterations}
 use Rattle.luks1_header.specs.Written.{WritesLuks1}
 use Rattle.luks1_header.specs.declared.luks1.Luks1.{Luks1}
-use Rattle.luks_clearing.specs.Cleared.{AreCleared, IsOfFirstSectors}
+use Rattle.luks_clearing.specs.Cleared.{AreCleared, ClearsInTurn, IsOfFirstSectors}
 use Rattle.luks_clearing.specs.OrderFacts.{clearing_widens}
 use Rattle.luks_kdf.specs.Names.{name_of}
 use Rattle.luks_slot.specs.Opening.{area_bytes}
@@ -140,6 +140,13 @@ cleared_rest same = same_but-wider sectors_there same
 
 pub over_rest : {t u w : List ℕ} → SameBut (IsOfFirstSectors 16384) t u → SameBut IsOfLuks1 u w → SameBut IsOfLuks1 t w
 over_rest cleared same = clearing_widens 16384 sectors_there cleared same
+
+-- clearing that failed keeps the order
+pub clearing_fails : (payload : Data) (format : Format) (passphrase random t u : List ℕ) → ClearsInTurn t u → ClearsFirst1 payload format passphrase random t u
+clearing_fails payload format passphrase random t u turn = elim turn [
+  | inl first ↦ inl first
+  | inr cleared ↦ inr (inl cleared)
+]
 
 -- the steps that follow the clearing keep its order
 pub over_order : (payload : Data) (format : Format) (passphrase random t u w : List ℕ) → AreCleared 16384 u

@@ -3,7 +3,7 @@ use Rattle.std.specs.Prelude.{◌≡◌, ℕ, ◌⊎◌, List}
 use Rattle.luks_area.specs.Ranges.{part, IsAt, IsOfEither, SameBut}
 use Rattle.luks1_header.specs.Written.{WritesLuks1}
 use Rattle.luks1_header.specs.declared.luks1.Luks1.{Luks1}
-use Rattle.luks_clearing.specs.Cleared.{cleared_size, IsCleared, IsOfFirstSectors}
+use Rattle.luks_clearing.specs.Cleared.{cleared_size, IsCleared}
 use Rattle.luks_reading.specs.declared.report.Data.{Data}
 use Rattle.luks_reading.specs.Plans.{HasLuks1Plan}
 use Rattle.luks_terms.specs.declared.format.Format.{Format}
@@ -36,15 +36,11 @@ pub record HasKeyArea1 (payload : Data) (format : Format) (passphrase random new
   pub slot : HoldsKey (HasLuks1Plan bytes 0) new passphrase (volume_key random)
       (random_stripes slot_place1 random)
 
--- where the second copy of a LUKS2 header of the usual metadata size stands
-abbrev pub older_second : ℕ
-older_second = 16384
-
--- What may be left at any time: nothing but the first sectors at 0 and at that place has changed; or the
--- one at 0 is cleared; or the key area stands.
+-- What may be left at any time: nothing but the first sector at 0 has changed; or that is cleared; or the key
+-- area stands.
 abbrev pub ClearsFirst1 : Data → Format → List ℕ → List ℕ → List ℕ → List ℕ → Type 0
 ClearsFirst1 payload format passphrase random old new =
-    SameBut (IsOfFirstSectors older_second) old new
+    SameBut (IsAt 0 cleared_size) old new
     ⊎ (IsCleared new 0
     ⊎ HasKeyArea1 payload format passphrase random new)
 

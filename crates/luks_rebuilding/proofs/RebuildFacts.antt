@@ -79,8 +79,9 @@ module _
 
       first_last : WritesWholeLast c v uuid random old w → FirstIsLast v given random old w c.place
       first_last (inl same) = inl same
-      first_last (inr (inl (waits, inl cleared))) = inr (inl (waits, inl cleared))
-      first_last (inr (inl (waits, inr there))) = inr (inl (waits, inr (key_areas w there)))
+      first_last (inr (inl (waits, inl clearing))) = inr (inl (waits, inl clearing))
+      first_last (inr (inl (waits, inr (inl cleared)))) = inr (inl (waits, inr (inl cleared)))
+      first_last (inr (inl (waits, inr (inr there)))) = inr (inl (waits, inr (inr (key_areas w there))))
       first_last (inr (inr x)) = inr (inr (record {
         uuid = uuid;
         own_uuid = own;

@@ -1,7 +1,7 @@
 use Rattle.std.proofs.Common.{lit≤}
 use Rattle.std.proofs.lemmas.Result.{on_ok_weaker}
 use Rattle.luks_area.specs.RangeFacts.{same_but-wider}
-use Rattle.luks_clearing.specs.OrderFacts.{cleared_then, clearing_widens}
+use Rattle.luks_clearing.specs.OrderFacts.{cleared_then, clearing_fails, clearing_widens}
 use Rattle.luks_converting.proofs.WrittenFacts.{converted_over, sectors_of_copies}
 use Rattle.luks_converting.proofs.converting.write_converted.Goals as goal
 
@@ -10,6 +10,10 @@ use Rattle.luks_converting.proofs.converting.write_converted.Goals as goal
 pub returns-in_err-clear_places-clause-rest : goal.returns-in_err-clear_places-clause-rest
 returns-in_err-clear_places-clause-rest g c = λ tells.
     same_but-wider (sectors_of_copies c.args.header.now.bytes) (c.clear_places.ensures.rest tells)
+
+pub returns-in_err-clear_places-clause-order : goal.returns-in_err-clear_places-clause-order
+returns-in_err-clear_places-clause-order g c = λ source tells begins.
+    clearing_fails 16384 (lit≤ tt) (c.clear_places.ensures.rest tells) (c.clear_places.ensures.order tells)
 
 -- the places are cleared
 

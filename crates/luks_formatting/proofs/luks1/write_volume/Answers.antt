@@ -1,13 +1,14 @@
-use Rattle.std.proofs.Common.{inl}
 use Rattle.std.proofs.lemmas.Result.{on_ok_weaker}
-use Rattle.luks_formatting.proofs.Written1Facts.{cleared_rest, over_cleared, over_order, over_rest}
+use Rattle.luks_formatting.proofs.Written1Facts.{cleared_rest, clearing_fails, over_cleared, over_order, over_rest}
 use Rattle.luks_formatting.proofs.luks1.write_volume.Goals as goal
 
 pub returns-in_err-clear_places-clause-rest : goal.returns-in_err-clear_places-clause-rest
 returns-in_err-clear_places-clause-rest g c tells = cleared_rest (c.clear_places.ensures.rest tells)
 
 pub returns-in_err-clear_places-clause-order : goal.returns-in_err-clear_places-clause-order
-returns-in_err-clear_places-clause-order g c tells = inl (c.clear_places.ensures.rest tells)
+returns-in_err-clear_places-clause-order g c tells =
+    let bytes = g.D.Device.bytes in
+    clearing_fails c.args.data_ c.args.format.now c.args.passphrase.now c.args.random.now (bytes c.args.device.now) (bytes c.clear_places.new.device) (c.clear_places.ensures.order tells)
 
 pub returns-clause-rest : goal.returns-clause-rest
 returns-clause-rest g c tells = over_rest (c.clear_places.ensures.rest tells) (c.write_over_cleared.ensures.rest tells)

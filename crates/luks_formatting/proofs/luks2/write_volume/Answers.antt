@@ -1,6 +1,6 @@
-use Rattle.std.proofs.Common.{inl, lit≤}
+use Rattle.std.proofs.Common.{lit≤}
 use Rattle.std.proofs.lemmas.Result.{on_ok_weaker}
-use Rattle.luks_clearing.specs.OrderFacts.{cleared_then}
+use Rattle.luks_clearing.specs.OrderFacts.{cleared_then, clearing_fails}
 use Rattle.luks_formatting.proofs.Written2Facts.{cleared_rest, over_cleared, over_rest}
 use Rattle.luks_formatting.proofs.luks2.write_volume.Goals as goal
 
@@ -8,7 +8,7 @@ pub returns-in_err-clear_places-clause-rest : goal.returns-in_err-clear_places-c
 returns-in_err-clear_places-clause-rest g c tells = cleared_rest (c.clear_places.ensures.rest tells)
 
 pub returns-in_err-clear_places-clause-order : goal.returns-in_err-clear_places-clause-order
-returns-in_err-clear_places-clause-order g c tells = inl (c.clear_places.ensures.rest tells)
+returns-in_err-clear_places-clause-order g c tells = clearing_fails 16384 (lit≤ tt) (c.clear_places.ensures.rest tells) (c.clear_places.ensures.order tells)
 
 pub returns-clause-rest : goal.returns-clause-rest
 returns-clause-rest g c tells = over_rest (c.clear_places.ensures.rest tells) (c.write_over_cleared.ensures.rest tells)
