@@ -21,7 +21,7 @@ use sha2::{Digest, Sha256};
 const WINDOW: u64 = place::SIZE as u64;
 
 /// The bytes of a larger copy that are read at once, behind the first 16384.
-const LARGE_WINDOW: usize = 65536;
+const LARGE_WINDOW: usize = 32768;
 
 /// The bytes of a copy of the least size. So many of any copy are fed to its checksum first.
 const BEGINNING: u64 = 16384;
@@ -118,7 +118,7 @@ fn digest_of_copy<D: Device>(
     digest_from(device, at, size, hasher)
 }
 
-/// The same by a hasher that was fed the first 16384 bytes. It is fed the others, up to 65536 at a
+/// The same by a hasher that was fed the first 16384 bytes. It is fed the others, up to 32768 at a
 /// time, in a window of as many bytes on the stack.
 fn digest_from<D: Device>(
     device: &mut D,
