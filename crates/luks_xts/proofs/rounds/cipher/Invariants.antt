@@ -1,7 +1,0 @@
-use Rattle.std.proofs.Common.{◌≡◌}
-use Rattle.luks_xts.specs.Aes.{state_after}
-use Rattle.luks_xts.specs.Columns.{bytes_of}
-use Rattle.luks_xts.proofs.rounds.cipher.Given as goal
-
-abbrev pub invariant-loop-i : goal.invariant-loop-i
-invariant-loop-i l = bytes_of l.state ≡ state_after l.words l.i l.fn.block
