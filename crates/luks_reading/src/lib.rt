@@ -9,6 +9,7 @@ mod judging;
 mod laws;
 mod layout;
 mod luks1_fields;
+mod nearest;
 mod open_fault;
 mod opening;
 mod plan;
@@ -34,10 +35,11 @@ pub use luks_meta::{
     Config, Cost, Digest, Extent, Keyslot, Meta, MetaFault, Segment, SegmentKind, Token,
 };
 pub use luks_slot::Key;
+pub use nearest::Nearest;
 pub use open_fault::OpenFault;
-pub use opening::{open_header_slot, open_slot};
+pub use opening::{open_header_slot, open_slot, try_header_slot};
 pub use plan::{luks1_area, luks1_plan, luks2_plan};
 pub use read_fault::ReadFault;
 pub use refusing::refused_slot;
 pub use report::{Data, Report, Version};
-pub use unlocking::{unlock, unlock_header};
+pub use unlocking::{try_header, unlock, unlock_header};

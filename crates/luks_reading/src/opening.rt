@@ -20,12 +20,13 @@ ghost use Rattle.luks_reading.specs.Plans.{HasKeyBytes, HasLuks2KeyBytes};
 
 use crate::header::{Header, read_header};
 use crate::luks1_fields::{luks1_common, luks1_entry};
+use crate::nearest::{Nearest, note_distance};
 use crate::open_fault::OpenFault;
 use crate::plan::{luks1_plan, luks2_plan};
 use luks_area::Device;
 use luks_head::Luks1Common;
 use luks_meta::Meta;
-use luks_slot::{Key, SlotPlan, open_within};
+use luks_slot::{Key, SlotPlan, Tried, try_within};
 use std::alloc::Global;
 
 /// Opens the keyslot `n` by the passphrase: its volume key, or None where the passphrase doesn't
@@ -93,9 +94,43 @@ pub fn open_header_slot<D: Device>(
         → IfErr result (λ f. f ≡ OpenFault.Memory → TakesMemory memory (D.bytes device.old) n) }
     ensures no_memory { memory ≡ 0 → IfErr result (λ f. f ≢ OpenFault.Memory) }
 {
+    let mut nearest = None;
+    try_header_slot(alloc, device, header, n, passphrase, memory, &mut nearest)
+}
+
+/// What `open_header_slot` answers, which notes in `nearest` how near the passphrase came, where the
+/// keyslot doesn't open. It derives nothing more for that. No clause speaks of `nearest`.
+pub fn try_header_slot<D: Device>(
+    alloc: Global,
+    device: &mut D,
+    header: &Header,
+    n: u8,
+    passphrase: &[u8],
+    memory: u32,
+    nearest: &mut Option<Nearest>,
+) -> Result<Option<Key>, OpenFault>
+    requires room { D.failed device.old + 1 < 2 ^ 64 }
+    requires accepted { IsAcceptedHeader header.now }
+    requires passphrase { 0 < memory → length passphrase.now < 2 ^ 32 }
+    ensures unchanged { IsUnchanged D.tells D.size D.bytes D.unsettled device.old device.new }
+    ensures count { CountsFailure is_open_failure result
+        (D.failed device.old) (D.failed device.new) }
+    ensures opens { D.tells → IsHeader (D.bytes device.old) header.now → IfOk result
+        (λ found. AnswerWithin memory (D.bytes device.old) n passphrase.now (opened_to found)) }
+    ensures refused { D.tells → IsHeader (D.bytes device.old) header.now
+        → IfErr result (IsRefusedByWithin memory (D.bytes device.old) n passphrase.now) }
+    ensures length { IfOk result
+        (λ found. IfSome found (λ key. HasKeyBytes header.now n (length key))) }
+    // Memory is refused only to a keyslot that takes it, and to none where none is allowed.
+    ensures memory { D.tells → IsHeader (D.bytes device.old) header.now
+        → IfErr result (λ f. f ≡ OpenFault.Memory → TakesMemory memory (D.bytes device.old) n) }
+    ensures no_memory { memory ≡ 0 → IfErr result (λ f. f ≢ OpenFault.Memory) }
+{
     match header {
-        Header::Luks1(bytes) => open_luks1(alloc, device, bytes.as_slice(), n, passphrase),
-        Header::Luks2(copy) => open_luks2(alloc, device, &copy.meta, n, passphrase, memory),
+        Header::Luks1(bytes) => open_luks1(alloc, device, bytes.as_slice(), n, passphrase, nearest),
+        Header::Luks2(copy) => open_luks2(
+            alloc, device, &copy.meta, n, passphrase, memory, nearest,
+        ),
     }
 }
 
@@ -106,6 +141,7 @@ fn open_luks1<D: Device>(
     header: &[u8],
     n: u8,
     passphrase: &[u8],
+    nearest: &mut Option<Nearest>,
 ) -> Result<Option<Key>, OpenFault>
     requires room { D.failed device.old + 1 < 2 ^ 64 }
     requires header { length header.now ≡ 592 }
@@ -119,7 +155,7 @@ fn open_luks1<D: Device>(
         (λ found. IfSome found (λ key. length key ≡ number_at header.now 108 4)) }
 {
     let common = luks1_common(header)?;
-    open_luks1_slot(alloc, device, header, &common, n, passphrase)
+    open_luks1_slot(alloc, device, header, &common, n, passphrase, nearest)
 }
 
 /// What opening the keyslot `n` gives where nothing is wrong with what stands before the keyslots.
@@ -130,6 +166,7 @@ pub(crate) fn open_luks1_slot<D: Device>(
     common: &Luks1Common,
     n: u8,
     passphrase: &[u8],
+    nearest: &mut Option<Nearest>,
 ) -> Result<Option<Key>, OpenFault>
     requires room { D.failed device.old + 1 < 2 ^ 64 }
     requires header { length header.now ≡ 592 }
@@ -146,7 +183,7 @@ pub(crate) fn open_luks1_slot<D: Device>(
 {
     let slot = luks1_entry(header, n)?;
     let plan = luks1_plan(common, &slot);
-    open_planned(alloc, device, &plan, passphrase, 0)
+    open_planned(alloc, device, &plan, n, passphrase, 0, nearest)
 }
 
 /// What opening the keyslot `n` of a volume with this metadata gives.
@@ -157,6 +194,7 @@ pub(crate) fn open_luks2<D: Device>(
     n: u8,
     passphrase: &[u8],
     memory: u32,
+    nearest: &mut Option<Nearest>,
 ) -> Result<Option<Key>, OpenFault>
     requires room { D.failed device.old + 1 < 2 ^ 64 }
     requires accepted { IsAccepted (content meta.now) }
@@ -181,16 +219,19 @@ pub(crate) fn open_luks2<D: Device>(
     let number = meta.digest_of_keyslot(n).unwrap();
     let digest = meta.digest(number).unwrap();
     let plan = luks2_plan(&keyslot, &digest);
-    open_planned(alloc, device, &plan, passphrase, memory)
+    open_planned(alloc, device, &plan, n, passphrase, memory, nearest)
 }
 
-/// What the plan gives in the volume by the passphrase: its key, none, or why it is refused.
+/// What the plan of the keyslot `n` gives in the volume by the passphrase: its key, none, or why it is
+/// refused.
 fn open_planned<D: Device>(
     alloc: Global,
     device: &mut D,
     plan: &SlotPlan<'_>,
+    n: u8,
     passphrase: &[u8],
     memory: u32,
+    nearest: &mut Option<Nearest>,
 ) -> Result<Option<Key>, OpenFault>
     requires room { D.failed device.old + 1 < 2 ^ 64 }
     requires judged { IsOpenable plan.now }
@@ -207,6 +248,11 @@ fn open_planned<D: Device>(
     if !plan.area.is_inside(device.len()) {
         return Err(OpenFault::Outside);
     }
-    let found = open_within(alloc, device, plan, passphrase, memory)?;
-    Ok(found)
+    match try_within(alloc, device, plan, passphrase, memory)? {
+        Tried::Opens(key) => Ok(Some(key)),
+        Tried::Differs(bits) => {
+            note_distance(nearest, n, bits);
+            Ok(None)
+        }
+    }
 }

@@ -20,6 +20,7 @@ ghost use Rattle.luks_reading.specs.Unlocking.{luks2_order, IsVolumeRefusedBy, U
 
 use crate::header::{Header, read_header};
 use crate::luks1_fields::luks1_common;
+use crate::nearest::Nearest;
 use crate::open_fault::OpenFault;
 use crate::opening::{open_luks1_slot, open_luks2};
 use luks_area::Device;
@@ -96,9 +97,40 @@ pub fn unlock_header<D: Device>(
         (λ f. f ≡ OpenFault.Memory → (n : ℕ) × TakesMemory memory (D.bytes device.old) n) }
     ensures no_memory { memory ≡ 0 → IfErr result (λ f. f ≢ OpenFault.Memory) }
 {
+    let mut nearest = None;
+    try_header(alloc, device, header, passphrase, memory, &mut nearest)
+}
+
+/// What `unlock_header` answers, which notes in `nearest` how near the passphrase came, of the keyslots
+/// that it tries. It derives nothing more for that. No clause speaks of `nearest`.
+pub fn try_header<D: Device>(
+    alloc: Global,
+    device: &mut D,
+    header: &Header,
+    passphrase: &[u8],
+    memory: u32,
+    nearest: &mut Option<Nearest>,
+) -> Result<Option<(u8, Key)>, OpenFault>
+    requires room { D.failed device.old + 1 < 2 ^ 64 }
+    requires accepted { IsAcceptedHeader header.now }
+    requires passphrase { 0 < memory → length passphrase.now < 2 ^ 32 }
+    ensures unchanged { IsUnchanged D.tells D.size D.bytes D.unsettled device.old device.new }
+    ensures count { CountsFailure is_open_failure result
+        (D.failed device.old) (D.failed device.new) }
+    ensures unlocks { D.tells → IsHeader (D.bytes device.old) header.now
+        → IfOk result (Unlocks memory (D.bytes device.old) passphrase.now) }
+    ensures refused { D.tells → IsHeader (D.bytes device.old) header.now
+        → IfErr result (IsVolumeRefusedBy (D.bytes device.old)) }
+    ensures length { IfOk result
+        (λ found. IfSome found (λ opened. HasKeyBytes header.now opened.0 (length opened.1))) }
+    // Memory is refused only to a keyslot that takes it, and to none where none is allowed.
+    ensures memory { D.tells → IsHeader (D.bytes device.old) header.now → IfErr result
+        (λ f. f ≡ OpenFault.Memory → (n : ℕ) × TakesMemory memory (D.bytes device.old) n) }
+    ensures no_memory { memory ≡ 0 → IfErr result (λ f. f ≢ OpenFault.Memory) }
+{
     match header {
-        Header::Luks1(bytes) => unlock_luks1(alloc, device, bytes.as_slice(), passphrase),
-        Header::Luks2(copy) => unlock_luks2(alloc, device, &copy.meta, passphrase, memory),
+        Header::Luks1(bytes) => unlock_luks1(alloc, device, bytes.as_slice(), passphrase, nearest),
+        Header::Luks2(copy) => unlock_luks2(alloc, device, &copy.meta, passphrase, memory, nearest),
     }
 }
 
@@ -107,6 +139,7 @@ fn unlock_luks1<D: Device>(
     device: &mut D,
     header: &[u8],
     passphrase: &[u8],
+    nearest: &mut Option<Nearest>,
 ) -> Result<Option<(u8, Key)>, OpenFault>
     requires room { D.failed device.old + 1 < 2 ^ 64 }
     requires header { length header.now ≡ 592 }
@@ -122,7 +155,7 @@ fn unlock_luks1<D: Device>(
 {
     let common = luks1_common(header)?;
     for n in 0..8 {
-        match try_luks1(alloc, device, header, &common, n, passphrase) {
+        match try_luks1(alloc, device, header, &common, n, passphrase, nearest) {
             Ok(Some(key)) => return Ok(Some((n, key))),
             Ok(None) => {}
             Err(fault) => return Err(fault),
@@ -138,6 +171,7 @@ fn try_luks1<D: Device>(
     common: &Luks1Common,
     n: u8,
     passphrase: &[u8],
+    nearest: &mut Option<Nearest>,
 ) -> Result<Option<Key>, OpenFault>
     requires room { D.failed device.old + 1 < 2 ^ 64 }
     requires header { length header.now ≡ 592 }
@@ -152,7 +186,7 @@ fn try_luks1<D: Device>(
     ensures length { IfOk result
         (λ found. IfSome found (λ key. length key ≡ number_at header.now 108 4)) }
 {
-    match open_luks1_slot(alloc, device, header, common, n, passphrase) {
+    match open_luks1_slot(alloc, device, header, common, n, passphrase, nearest) {
         Ok(found) => Ok(found),
         Err(fault) => passed_over(fault),
     }
@@ -164,6 +198,7 @@ fn unlock_luks2<D: Device>(
     meta: &Meta,
     passphrase: &[u8],
     memory: u32,
+    nearest: &mut Option<Nearest>,
 ) -> Result<Option<(u8, Key)>, OpenFault>
     requires room { D.failed device.old + 1 < 2 ^ 64 }
     requires accepted { IsAccepted (content meta.now) }
@@ -182,9 +217,25 @@ fn unlock_luks2<D: Device>(
         (λ found. IfSome found
         (λ opened. HasLuks2KeyBytes (content meta.now) opened.0 (length opened.1))) }
 {
-    match try_rank(alloc, device, meta, Rank::Preferred, passphrase, memory) {
+    match try_rank(
+        alloc,
+        device,
+        meta,
+        Rank::Preferred,
+        passphrase,
+        memory,
+        nearest,
+    ) {
         Ok(Some(found)) => Ok(Some(found)),
-        Ok(None) => try_rank(alloc, device, meta, Rank::Normal, passphrase, memory),
+        Ok(None) => try_rank(
+            alloc,
+            device,
+            meta,
+            Rank::Normal,
+            passphrase,
+            memory,
+            nearest,
+        ),
         Err(fault) => Err(fault),
     }
 }
@@ -197,6 +248,7 @@ fn try_rank<D: Device>(
     rank: Rank,
     passphrase: &[u8],
     memory: u32,
+    nearest: &mut Option<Nearest>,
 ) -> Result<Option<(u8, Key)>, OpenFault>
     requires room { D.failed device.old + 1 < 2 ^ 64 }
     requires accepted { IsAccepted (content meta.now) }
@@ -218,7 +270,7 @@ fn try_rank<D: Device>(
 {
     for n in 0..32 {
         if is_of_rank(meta, rank, n) {
-            match try_luks2(alloc, device, meta, n, passphrase, memory) {
+            match try_luks2(alloc, device, meta, n, passphrase, memory, nearest) {
                 Ok(Some(key)) => return Ok(Some((n, key))),
                 Ok(None) => {}
                 Err(fault) => return Err(fault),
@@ -249,6 +301,7 @@ fn try_luks2<D: Device>(
     n: u8,
     passphrase: &[u8],
     memory: u32,
+    nearest: &mut Option<Nearest>,
 ) -> Result<Option<Key>, OpenFault>
     requires room { D.failed device.old + 1 < 2 ^ 64 }
     requires accepted { IsAccepted (content meta.now) }
@@ -265,7 +318,7 @@ fn try_luks2<D: Device>(
     ensures length { IfOk result
         (λ found. IfSome found (λ key. HasLuks2KeyBytes (content meta.now) n (length key))) }
 {
-    match open_luks2(alloc, device, meta, n, passphrase, memory) {
+    match open_luks2(alloc, device, meta, n, passphrase, memory, nearest) {
         Ok(found) => Ok(found),
         Err(fault) => passed_over(fault),
     }

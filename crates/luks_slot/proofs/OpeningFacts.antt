@@ -6,32 +6,55 @@ use Rattle.luks_kdf.specs.declared.hash_name.HashName.{HashName}
 use Rattle.luks_kdf.specs.Names.{hash_of, digest_size_of}
 use Rattle.luks_kdf.specs.Splitter.{merge}
 use Rattle.luks_slot.specs.declared.plan.SlotPlan.{SlotPlan}
+use Rattle.luks_slot.specs.Distance.{digest_distance, slot_distance}
 use Rattle.luks_slot.specs.Opening.{slot_key, candidate, area_bytes, area_key, stripes_from, stripes_in, hash_by_name, meets_digest}
 
 -- what the stripes hold, by the hash and the key that the plan names, is the candidate
-pub opens_to : (plan : SlotPlan) (area passphrase key merged : List ℕ) (hash : HashName)
+candidate_is : (plan : SlotPlan) (area passphrase key merged : List ℕ) (hash : HashName)
     → merged ≡ merge (hash_of hash) (digest_size_of hash) plan.key_bytes plan.stripes (stripes_in plan key area)
     → key ≡ area_key plan passphrase → hash_by_name plan.splitter_hash.now ≡ hash
-    → (if meets_digest plan.digest merged then Some merged else None) ≡ slot_key plan area passphrase
-unfolding slot_key candidate
-opens_to plan area passphrase key merged hash is_merged is_key is_hash =
+    → merged ≡ candidate plan area passphrase
+unfolding candidate
+candidate_is plan area passphrase key merged hash is_merged is_key is_hash =
     let with_key = ap (λ (k : List ℕ). merge (hash_of hash) (digest_size_of hash) plan.key_bytes plan.stripes (stripes_in plan k area)) is_key in
     let with_hash =
     ap (λ (h : HashName). merge (hash_of h) (digest_size_of h) plan.key_bytes plan.stripes (stripes_in plan (area_key plan passphrase) area))
     (sym is_hash) in
-    ap (λ (k : List ℕ). if meets_digest plan.digest k then Some k else None) (is_merged ∙ with_key ∙ with_hash)
+    is_merged ∙ with_key ∙ with_hash
 
--- the same of what was read: so many bytes, from an area of a volume
-pub opens_read : (plan : SlotPlan) (volume passphrase key merged : List ℕ) (area : Area) (k : ℕ) (hash : HashName)
+-- the keyslot opens to it where it meets the digest
+pub opens_to : (plan : SlotPlan) (area passphrase key merged : List ℕ) (hash : HashName)
+    → merged ≡ merge (hash_of hash) (digest_size_of hash) plan.key_bytes plan.stripes (stripes_in plan key area)
+    → key ≡ area_key plan passphrase → hash_by_name plan.splitter_hash.now ≡ hash
+    → (if meets_digest plan.digest merged then Some merged else None) ≡ slot_key plan area passphrase
+unfolding slot_key
+opens_to plan area passphrase key merged hash is_merged is_key is_hash =
+    ap (λ (k : List ℕ). if meets_digest plan.digest k then Some k else None)
+    (candidate_is plan area passphrase key merged hash is_merged is_key is_hash)
+
+-- what was read: so many bytes, from an area of a volume
+pub candidate_read : (plan : SlotPlan) (volume passphrase key merged : List ℕ) (area : Area) (k : ℕ) (hash : HashName)
     → merged ≡ merge (hash_of hash) (digest_size_of hash) k plan.stripes (stripes_from key (area_bytes volume area) k plan.stripes)
     → k ≡ plan.key_bytes → area ≡ plan.area → key ≡ area_key plan passphrase → hash_by_name plan.splitter_hash.now ≡ hash
-    → (if meets_digest plan.digest merged then Some merged else None) ≡ slot_key plan (area_bytes volume plan.area) passphrase
+    → merged ≡ candidate plan (area_bytes volume plan.area) passphrase
 unfolding stripes_in
-opens_read plan volume passphrase key merged area k hash is_merged is_size is_area =
+candidate_read plan volume passphrase key merged area k hash is_merged is_size is_area =
     let Merged : ℕ → Area → List ℕ =
     λ n a. merge (hash_of hash) (digest_size_of hash) n plan.stripes (stripes_from key (area_bytes volume a) n plan.stripes) in
-    opens_to plan (area_bytes volume plan.area) passphrase key merged hash
+    candidate_is plan (area_bytes volume plan.area) passphrase key merged hash
     (is_merged ∙ ap (λ n. Merged n area) is_size ∙ ap (Merged plan.key_bytes) is_area)
+
+-- the keyslot opens to the candidate where that meets the digest
+pub opens_read : (plan : SlotPlan) (area passphrase merged : List ℕ) → merged ≡ candidate plan area passphrase
+    → (if meets_digest plan.digest merged then Some merged else None) ≡ slot_key plan area passphrase
+unfolding slot_key
+opens_read plan area passphrase merged is = ap (λ (k : List ℕ). if meets_digest plan.digest k then Some k else None) is
+
+-- the distance is that of the candidate
+pub distance_read : (plan : SlotPlan) (area passphrase merged : List ℕ) → merged ≡ candidate plan area passphrase
+    → digest_distance plan.digest merged ≡ slot_distance plan area passphrase
+unfolding slot_distance
+distance_read plan area passphrase merged is = ap (digest_distance plan.digest) is
 
 -- what is found where a test says so is what was tested
 found_if : (test : Bool) (k key : List ℕ) → (if test then Some k else None) ≡ Some key → (test ≡ true) × (k ≡ key)

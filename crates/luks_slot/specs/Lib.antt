@@ -1,5 +1,6 @@
 pub mod Refusal
 pub mod Opening
+pub mod Distance
 pub mod Sealing
 pub mod Fault
 pub mod Parameters

@@ -1,7 +1,8 @@
 //! What PBKDF2 and Argon2 derive for a keyslot.
 
-ghost use Rattle.std.specs.Prelude.{◌≡◌, ◌*◌, ◌^◌, ◌<◌, ◌≤◌, ◌⊎◌, length, true, IfErr, IfOk, IfNone};
+ghost use Rattle.std.specs.Prelude.{◌≡◌, ◌≢◌, ◌*◌, ◌^◌, ◌<◌, ◌≤◌, ◌⊎◌, length, true, false, count_ones, sum_by, IfErr, IfOk, IfNone};
 ghost use Rattle.luks_slot.specs.Opening.{area_key, derived_by_argon2, hash_by_name, meets_digest, variant_of, HasIterations};
+ghost use Rattle.luks_slot.specs.Distance.{digest_distance};
 ghost use Rattle.luks_slot.specs.Parameters.{derived_by_pbkdf2, AreParameters};
 ghost use Rattle.luks_slot.specs.Refusal.{is_argon2};
 ghost use Rattle.luks_slot.specs.declared.fault.SlotFault.{SlotFault as TheFault};
@@ -11,7 +12,7 @@ use crate::fault::SlotFault;
 use crate::parameters::{KeyDerivation, Parameters, Pbkdf2Costs};
 use crate::plan::{Argon2Kind, Argon2Plan, DigestPlan, SlotPlan};
 use luks_argon2::{Variant, argon2};
-use luks_kdf::HashName;
+use luks_kdf::{HashName, xor_into};
 use luks_xts::XtsKey;
 use std::alloc::Global;
 
@@ -91,25 +92,39 @@ fn variant_of(kind: Argon2Kind) -> Variant
     }
 }
 
-// Whether the key gives the stored digest, all its bytes.
-pub(crate) fn meets_digest(digest: &DigestPlan<'_>, hash: HashName, key: &[u8]) -> bool
+// In how many bits what the key gives differs from the stored digest. All bytes are compared, whatever
+// the first of them are.
+pub(crate) fn digest_distance(digest: &DigestPlan<'_>, hash: HashName, key: &[u8]) -> u32
     requires hash { hash_by_name digest.now.hash.now ≡ hash }
     requires iterations { 1 ≤ digest.now.iterations }
     requires at_most_64 { length digest.now.stored.now ≤ 64 }
-    ensures { result ≡ meets_digest digest.now key.now }
+    ensures value { result ≡ digest_distance digest.now key.now }
+    ensures met { result ≡ 0 → meets_digest digest.now key.now ≡ true }
+    ensures unmet { result ≢ 0 → meets_digest digest.now key.now ≡ false }
 {
     let mut buffer = [0u8; 64];
-    is_stored(&mut buffer[..digest.stored.len()], digest, hash, key)
+    distance_in(&mut buffer[..digest.stored.len()], digest, hash, key)
 }
 
 // The same, with room for what is to be compared.
-fn is_stored(room: &mut [u8], digest: &DigestPlan<'_>, hash: HashName, key: &[u8]) -> bool
+fn distance_in(room: &mut [u8], digest: &DigestPlan<'_>, hash: HashName, key: &[u8]) -> u32
     requires hash { hash_by_name digest.now.hash.now ≡ hash }
     requires iterations { 1 ≤ digest.now.iterations }
     requires at_most_64 { length digest.now.stored.now ≤ 64 }
     requires room_length { length room.old ≡ length digest.now.stored.now }
-    ensures { result ≡ meets_digest digest.now key.now }
+    ensures value { result ≡ digest_distance digest.now key.now }
+    ensures met { result ≡ 0 → meets_digest digest.now key.now ≡ true }
+    ensures unmet { result ≢ 0 → meets_digest digest.now key.now ≡ false }
 {
     hash.pbkdf2(room, key, digest.salt, digest.iterations);
-    &*room == digest.stored
+    xor_into(room, digest.stored);
+    bits_set(room)
+}
+
+// How many bits are set.
+fn bits_set(bytes: &[u8]) -> u32
+    requires { length bytes.now ≤ 64 }
+    ensures { result ≡ sum_by count_ones bytes.now }
+{
+    bytes.iter().map(|byte| byte.count_ones()).sum()
 }

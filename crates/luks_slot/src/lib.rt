@@ -19,7 +19,7 @@ mod wiping;
 pub use fault::SlotFault;
 pub use key::Key;
 pub use laws::{found_key_meets_digest, nothing_allowed_is_as_before, sealed_area_opens};
-pub use opening::{open, open_within};
+pub use opening::{Tried, open, open_within, try_within};
 pub use parameters::{refusal, refusal_within};
 pub use plan::{AreaCipher, Argon2Kind, Argon2Plan, Derivation, DigestPlan, SlotPlan};
 pub use sealing::{seal, seal_within};

@@ -4,6 +4,7 @@ ghost use Rattle.std.specs.Prelude.{◌≡◌, ◌+◌, ◌*◌, ◌^◌, ◌<�
 ghost use Rattle.luks_area.specs.Area.{IsInside};
 ghost use Rattle.luks_area.specs.Device.{CountsFailure, IsUnchanged};
 ghost use Rattle.luks_area.specs.Sectors.{rounded_to_sectors};
+ghost use Rattle.luks_slot.specs.Distance.{digest_distance, found_by, slot_distance, IsTriedAt};
 ghost use Rattle.luks_slot.specs.Fault.{IsAnsweredFault, IsAnsweredWithin, is_device_fault};
 ghost use Rattle.luks_slot.specs.Opening.{area_bytes, hash_by_name, meets_digest, slot_key, stripe_bytes, HasIterations};
 ghost use Rattle.luks_slot.specs.Refusal.{slot_refusal, slot_refusal_within};
@@ -11,7 +12,7 @@ ghost use Rattle.luks_slot.specs.declared.fault.SlotFault.{SlotFault as TheFault
 
 use crate::area_reader::AreaReader;
 use crate::fault::SlotFault;
-use crate::hashing::{area_key, meets_digest};
+use crate::hashing::{area_key, digest_distance};
 use crate::key::Key;
 use crate::merging::read_candidate;
 use crate::parameters::parameters_within;
@@ -94,6 +95,58 @@ pub fn open_within<D: Device>(
         (D.failed device.old) (D.failed device.new) }
     ensures unchanged { IsUnchanged D.tells D.size D.bytes D.unsettled device.old device.new }
 {
+    match try_within(alloc, device, plan, passphrase, memory)? {
+        Tried::Opens(key) => Ok(Some(key)),
+        Tried::Differs(_) => Ok(None),
+    }
+}
+
+/// What trying a passphrase on a keyslot comes to.
+#[derive(Drop)]
+pub enum Tried {
+    /// The keyslot opens to this volume key.
+    Opens(Key),
+    /// It doesn't: what the candidate for the key gives differs from the stored digest in so many
+    /// bits, at least one.
+    Differs(u32),
+}
+
+/// What `open_within` answers, where the keyslot doesn't open with the number of bits in which the
+/// digest differs. It derives nothing more for that.
+pub fn try_within<D: Device>(
+    alloc: Global,
+    device: &mut D,
+    plan: &SlotPlan<'_>,
+    passphrase: &[u8],
+    memory: u32,
+) -> Result<Tried, SlotFault>
+    requires iterations { HasIterations plan.now.derivation }
+    requires passphrase { 0 < memory → length passphrase.now < 2 ^ 32 }
+    requires digest_iterations { 1 ≤ plan.now.digest.iterations }
+    requires digest_length { length plan.now.digest.stored.now ≤ 64 }
+    requires some_bytes { 1 ≤ plan.now.key_bytes }
+    requires at_most_128 { plan.now.key_bytes ≤ 128 }
+    requires some_stripes { 1 ≤ plan.now.stripes }
+    requires sectors { rounded_to_sectors (stripe_bytes plan.now) ≤ plan.now.area.len }
+    requires within { IsInside plan.now.area (D.size device.old) }
+    requires room { D.failed device.old + 1 < 2 ^ 64 }
+
+    // The plan is refused, the device failed, memory was refused, or there is an answer.
+    ensures refused { (f : TheFault) → slot_refusal_within memory plan.now ≡ Some f → result ≡ Err f }
+    ensures fault { IfErr result (IsAnsweredWithin memory plan.now) }
+    ensures accepted { OnOk result (slot_refusal_within memory plan.now ≡ None) }
+    ensures length { IfOk result
+        (λ tried. IfSome (found_by tried) (λ k. length k ≡ plan.now.key_bytes)) }
+    ensures value { D.tells → IfOk result (λ tried. found_by tried
+        ≡ slot_key plan.now (area_bytes (D.bytes device.old) plan.now.area) passphrase.now) }
+    ensures distance { D.tells → IfOk result (IsTriedAt
+        (slot_distance plan.now (area_bytes (D.bytes device.old) plan.now.area) passphrase.now)) }
+
+    // The device: `Device` exactly where a call of it failed.
+    ensures count { CountsFailure is_device_fault result
+        (D.failed device.old) (D.failed device.new) }
+    ensures unchanged { IsUnchanged D.tells D.size D.bytes D.unsettled device.old device.new }
+{
     let parameters = parameters_within(plan, memory)?;
     let key = area_key(alloc, plan, &parameters, passphrase)?;
     let mut reader = AreaReader::new(plan.area, key);
@@ -101,22 +154,22 @@ pub fn open_within<D: Device>(
     let candidate = &mut buffer[..plan.key_bytes];
     let hash = parameters.splitter_hash;
     read_candidate(device, &mut reader, hash, plan.stripes, candidate)?;
-    Ok(key_of(&plan.digest, parameters.digest_hash, candidate))
+    Ok(tested(&plan.digest, parameters.digest_hash, candidate))
 }
 
-// The candidate where it is the key.
-fn key_of(digest: &DigestPlan<'_>, hash: HashName, candidate: &[u8]) -> Option<Key>
+// The candidate where it is the key, or how far it is from the digest.
+fn tested(digest: &DigestPlan<'_>, hash: HashName, candidate: &[u8]) -> Tried
     requires hash { hash_by_name digest.now.hash.now ≡ hash }
     requires iterations { 1 ≤ digest.now.iterations }
     requires at_most_64 { length digest.now.stored.now ≤ 64 }
     requires some_bytes { 1 ≤ length candidate.now }
     requires at_most_128 { length candidate.now ≤ 128 }
-    ensures { result
+    ensures value { found_by result
         ≡ (if meets_digest digest.now candidate.now then Some candidate.now else None) }
+    ensures distance { IsTriedAt (digest_distance digest.now candidate.now) result }
 {
-    if meets_digest(digest, hash, candidate) {
-        Some(Key::new(candidate))
-    } else {
-        None
+    match digest_distance(digest, hash, candidate) {
+        0 => Tried::Opens(Key::new(candidate)),
+        bits => Tried::Differs(bits),
     }
 }

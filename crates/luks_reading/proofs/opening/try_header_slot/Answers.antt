@@ -8,7 +8,7 @@ use Rattle.luks_reading.specs.Header.{json_at, IsHeader}
 use Rattle.luks_reading.proofs.KeyslotAnswers.{luks1_opens, luks1_refused, luks2_opens, luks2_refused, luks2_takes}
 use Rattle.luks_reading.proofs.ReadFaults.{cleared_copy}
 use Rattle.luks_reading.proofs.TriedKeyslots.{luks1_own}
-use Rattle.luks_reading.proofs.opening.open_header_slot.Goals as goal
+use Rattle.luks_reading.proofs.opening.try_header_slot.Goals as goal
 
 pub returns-in-Luks1-clause-opens : goal.returns-in-Luks1-clause-opens
 returns-in-Luks1-clause-opens g c = λ tells is.

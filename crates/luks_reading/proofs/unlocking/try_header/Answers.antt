@@ -11,7 +11,7 @@ use Rattle.luks_reading.specs.Luks2Keyslots.{Luks2TakesMemory}
 use Rattle.luks_reading.proofs.KeyslotAnswers.{luks2_takes}
 use Rattle.luks_reading.proofs.ReadFaults.{cleared_copy}
 use Rattle.luks_reading.proofs.VolumeAnswers.{device_locks, luks1_locked, luks1_locked_own, luks1_unlocks_as, luks2_unlocks}
-use Rattle.luks_reading.proofs.unlocking.unlock_header.Goals as goal
+use Rattle.luks_reading.proofs.unlocking.try_header.Goals as goal
 
 pub returns-in-Luks1-clause-unlocks : goal.returns-in-Luks1-clause-unlocks
 returns-in-Luks1-clause-unlocks g c = λ tells is.

@@ -1,0 +1,37 @@
+use Rattle.std.proofs.Common.{rules, ◌∙◌, subst}
+use Rattle.std.proofs.lemmas.Result.{err_from_is_err_and}
+use Rattle.luks_slot.specs.Distance.{IsTriedAt}
+use Rattle.luks_slot.specs.Opening.{area_bytes}
+use Rattle.luks_slot.proofs.DerivationFacts.{refusal_answered}
+use Rattle.luks_slot.proofs.OpeningFacts.{candidate_read, distance_read, opens_read}
+use Rattle.luks_slot.proofs.opening.try_within.Goals as goal
+
+pub returns-clause-value : goal.returns-clause-value
+returns-clause-value g c tells =
+    let plan = c.args.plan.now in
+    let v = g.D.Device.bytes c.args.device.now in
+    let reader = c.new-reader in
+    c.tested.ensures.value
+    ∙ opens_read plan (area_bytes v plan.area) c.args.passphrase.now c.read_candidate.new.out
+    (candidate_read plan v c.args.passphrase.now reader.result.key
+    c.read_candidate.new.out reader.result.area _ c.in_ok-parameters.parameters.splitter_hash
+    (c.in_ok-read_candidate.ensures.value tells) (search rules) reader.ensures.area
+    (reader.ensures.key ∙ c.in_ok-key.ensures.key) c.in_ok-parameters.ensures.are.splitter_hash)
+
+pub returns-clause-distance : goal.returns-clause-distance
+returns-clause-distance g c tells =
+    let plan = c.args.plan.now in
+    let v = g.D.Device.bytes c.args.device.now in
+    let reader = c.new-reader in
+    subst (λ n. IsTriedAt n c.tested.result)
+    (distance_read plan (area_bytes v plan.area) c.args.passphrase.now c.read_candidate.new.out
+    (candidate_read plan v c.args.passphrase.now reader.result.key
+    c.read_candidate.new.out reader.result.area _ c.in_ok-parameters.parameters.splitter_hash
+    (c.in_ok-read_candidate.ensures.value tells) (search rules) reader.ensures.area
+    (reader.ensures.key ∙ c.in_ok-key.ensures.key) c.in_ok-parameters.ensures.are.splitter_hash))
+    c.tested.ensures.distance
+
+pub returns-in_err-parameters-clause-fault : goal.returns-in_err-parameters-clause-fault
+returns-in_err-parameters-clause-fault g c =
+    let p = err_from_is_err_and c.from_residual.result c.from_residual.ensures.1 in
+    rw (p.1, p.2) (refusal_answered c.args.memory c.args.plan.now c.in_err-parameters.field-0.0 c.in_err-parameters.ensures.refused)
