@@ -75,7 +75,7 @@ fn run_words<R: AllocGlobal + Clock + Files<File = File> + Input + Print + Eprin
     words: &[&str],
 ) -> io::Result<u8> {
     match parse(rt.alloc(), words) {
-        Ok(Asked::Volume(line)) => run_line(rt, &line),
+        Ok(Asked::Volume(line, _)) => run_line(rt, &line),
         Ok(Asked::Explain(Some(fault))) => explain(rt, fault),
         Ok(Asked::Explain(None)) => list_faults(rt),
         Err(fault) => tell_usage(rt, &fault),

@@ -1,3 +1,4 @@
+use crate::manner::{Manner, manner_of};
 use crate::program::program;
 use crate::requests::line_of;
 use clap::error::ErrorKind;
@@ -11,8 +12,8 @@ pub enum Asked<'a> {
     /// To explain a fault, which is named as it is printed or by its name alone; without one to list
     /// them all. No file is read for it.
     Explain(Option<&'a str>),
-    /// A command on a volume.
-    Volume(Line<'a>),
+    /// A command on a volume, and how its answer is told.
+    Volume(Line<'a>, Manner),
 }
 
 /// Reads a command line, of which the first word is the program's name.
@@ -48,7 +49,7 @@ fn try_without_format(alloc: Global, words: &[&str]) -> Result<(), Error> {
 /// words, too.
 pub fn line<'a>(alloc: Global, words: &'a [&'a str]) -> Result<Line<'a>, Error> {
     match parse(alloc, words)? {
-        Asked::Volume(line) => Ok(line),
+        Asked::Volume(line, _) => Ok(line),
         Asked::Explain(_) => {
             let mut program = program(alloc, true)?;
             Err(program.error(ErrorKind::InvalidSubcommand, "no volume was named")?)
@@ -60,6 +61,6 @@ fn asked_by<'a>(matches: &ArgMatches<'a>) -> Option<Asked<'a>> {
     let (name, given) = matches.subcommand()?;
     match name {
         "explain" => Some(Asked::Explain(given.get_str("FAULT"))),
-        _ => Some(Asked::Volume(line_of(name, given)?)),
+        _ => Some(Asked::Volume(line_of(name, given)?, manner_of(name, given))),
     }
 }

@@ -17,7 +17,8 @@ fault means.
 Each command prints its answer on standard output, in the lines that its help
 lists: luks COMMAND --help. What stops it is an answer too: 'refused FAULT',
 'device fault' where a file can't be read, 'no memory'. Standard error says what
-these lines don't, as which file and why.
+these lines don't, as which file and why; with --quiet only that of a device
+fault.
 
 Exit status:
   0  accepted, shown, opened, done or explained, or help was asked for
@@ -52,6 +53,9 @@ Prints one line:
                           Overlap(Slot(0),Slot(1))
   device fault            the volume can't be read
   no memory               memory was refused
+With --json it prints one JSON object in place of the line, on one line: status,
+the exit status; answer, as accepted, and what the line tells beside it; hints,
+the lines that standard error says.
 
 Exit status:
   0  accepted, or help was asked for
@@ -108,6 +112,9 @@ Prints one line:
   device fault          the volume or the passphrase can't be read
   no memory             memory was refused; of Argon2 standard error says how
                         much was asked for
+With --json it prints one JSON object in place of the line, on one line: status,
+the exit status; answer, as opens, and what the line tells beside it; hints, the
+lines that standard error says.
 
 Exit status:
   0  the keyslot opens, or help was asked for

@@ -4,6 +4,7 @@
 
 mod command_line;
 mod helps;
+mod manner;
 mod program;
 mod requests;
 mod words;
@@ -12,3 +13,4 @@ pub use command_line::{Asked, line, parse};
 pub use luks_request::{
     Command, Converting, EditRequest, Editing, Line, Making, NewVersion, Rebuilding, ShowAs,
 };
+pub use manner::Manner;

@@ -67,6 +67,8 @@ pub(crate) enum LongOption {
     Second,
     Uuid,
     Over,
+    JsonAnswer,
+    Quiet,
 }
 
 impl LongOption {
@@ -167,7 +169,11 @@ static COMMANDS: [Described; 12] = [
         usage: None,
         more: helps::CHECK_MORE,
         operands: &[Operand::Volume],
-        options: &[LongOption::Detached],
+        options: &[
+            LongOption::Detached,
+            LongOption::JsonAnswer,
+            LongOption::Quiet,
+        ],
     },
     Described {
         name: "show",
@@ -176,7 +182,7 @@ static COMMANDS: [Described; 12] = [
         usage: None,
         more: helps::SHOW_MORE,
         operands: &[Operand::Volume],
-        options: &[LongOption::Json],
+        options: &[LongOption::Json, LongOption::Quiet],
     },
     Described {
         name: "open",
@@ -189,6 +195,8 @@ static COMMANDS: [Described; 12] = [
             LongOption::Passphrase,
             LongOption::TriedSlot,
             LongOption::Memory,
+            LongOption::JsonAnswer,
+            LongOption::Quiet,
         ],
     },
     Described {
@@ -208,6 +216,7 @@ static COMMANDS: [Described; 12] = [
             LongOption::Memory,
             LongOption::Over,
             LongOption::Detached,
+            LongOption::Quiet,
         ],
     },
     Described {
@@ -226,6 +235,7 @@ static COMMANDS: [Described; 12] = [
             LongOption::Memory,
             LongOption::Over,
             LongOption::Detached,
+            LongOption::Quiet,
         ],
     },
     Described {
@@ -242,6 +252,7 @@ static COMMANDS: [Described; 12] = [
             LongOption::Memory,
             LongOption::Over,
             LongOption::Detached,
+            LongOption::Quiet,
         ],
     },
     Described {
@@ -251,7 +262,12 @@ static COMMANDS: [Described; 12] = [
         usage: None,
         more: helps::REPAIR_MORE,
         operands: &[Operand::Volume],
-        options: &[LongOption::Random, LongOption::Over, LongOption::Detached],
+        options: &[
+            LongOption::Random,
+            LongOption::Over,
+            LongOption::Detached,
+            LongOption::Quiet,
+        ],
     },
     Described {
         name: "label",
@@ -264,6 +280,7 @@ static COMMANDS: [Described; 12] = [
             LongOption::NeededRandom,
             LongOption::Over,
             LongOption::Detached,
+            LongOption::Quiet,
         ],
     },
     Described {
@@ -280,6 +297,7 @@ static COMMANDS: [Described; 12] = [
             LongOption::Hash,
             LongOption::Iterations,
             LongOption::Detached,
+            LongOption::Quiet,
         ],
     },
     Described {
@@ -289,7 +307,11 @@ static COMMANDS: [Described; 12] = [
         usage: None,
         more: helps::CONVERT_MORE,
         operands: &[Operand::Source, Operand::Target],
-        options: &[LongOption::NeededRandom, LongOption::DetachedSource],
+        options: &[
+            LongOption::NeededRandom,
+            LongOption::DetachedSource,
+            LongOption::Quiet,
+        ],
     },
     Described {
         name: "rebuild",
@@ -302,6 +324,7 @@ static COMMANDS: [Described; 12] = [
             LongOption::NeededRandom,
             LongOption::Second,
             LongOption::Uuid,
+            LongOption::Quiet,
         ],
     },
     Described {
@@ -355,7 +378,7 @@ static OPERANDS: [OperandRow; 7] = [
 ];
 
 /// In the order of `LongOption`.
-static OPTIONS: [OptionRow; 17] = [
+static OPTIONS: [OptionRow; 19] = [
     OptionRow {
         name: "detached",
         needed: false,
@@ -456,6 +479,18 @@ static OPTIONS: [OptionRow; 17] = [
         name: "over",
         needed: false,
         help: "Write over another use of the disk",
+        takes: Takes::Nothing,
+    },
+    OptionRow {
+        name: "json",
+        needed: false,
+        help: "One JSON object in place of the line, for scripts",
+        takes: Takes::Nothing,
+    },
+    OptionRow {
+        name: "quiet",
+        needed: false,
+        help: "No hints on standard error",
         takes: Takes::Nothing,
     },
 ];
