@@ -470,6 +470,8 @@ def json_segment(n, it):
     shown = {"number": n, "type": it["type"], "offset": int(it["offset"]), "size": size}
     if it["type"] == "crypt":
         shown |= {"cipher": it["encryption"], "sector_size": it["sector_size"], "iv_tweak": int(it["iv_tweak"])}
+    if "integrity" in it:
+        shown["integrity"] = it["integrity"]
     return shown
 
 

@@ -87,10 +87,17 @@ Exit status:
 
 pub(crate) const OPEN: &str = "Tells whether a passphrase opens a keyslot";
 
+/// The usage after `Usage: `, on several lines, since one would have more than 80 columns.
+pub(crate) const OPEN_USAGE: &str = "\
+luks open [OPTIONS] <--passphrase <FILE>|--passphrase-line <FILE>>
+                 <VOLUME>";
+
 pub(crate) const OPEN_MORE: &str = "\
-The passphrase is all bytes of its file, a last newline too, at most 65536.
-The file may be -, standard input, or <(printf %s ..) in a shell that has it.
-The volume key that is found is neither printed nor kept.
+The passphrase is all bytes of its file, a last newline too, at most 65536; by
+--passphrase-line what stands there before the first newline, a carriage return
+too, or all where there is none. The file may be -, standard input, which is
+read to its end, or <(printf %s ..) in a shell that has it. The volume key that
+is found is neither printed nor kept.
 
 Without --slot the keyslots are tried in turn: by number, but of LUKS2 those of
 priority 2 first. Passed over are keyslots of priority 0 and those that --slot
@@ -124,16 +131,18 @@ Exit status:
 
 pub(crate) const ADD: &str = "Adds a keyslot for a new passphrase";
 
-/// The usage after `Usage: `, on two lines, since one would have more than 80 columns.
+/// The usage after `Usage: `, on several lines, since one would have more than 80 columns.
 pub(crate) const ADD_USAGE: &str = "\
-luks add [OPTIONS] --slot <N> --passphrase <FILE> --new <FILE>
-                --random <FILE> <VOLUME>";
+luks add [OPTIONS] --slot <N> --random <FILE>
+                <--passphrase <FILE>|--passphrase-line <FILE>>
+                <--new <FILE>|--new-line <FILE>> <VOLUME>";
 
 pub(crate) const ADD_MORE: &str = "\
 The passphrase opens keyslot --slot. A new keyslot is made, in which the new
 passphrase opens the same volume key: keyslot --to, or the least that is free,
 of 0 to 7 in LUKS1 and 0 to 31 in LUKS2. All others stay as they are. A
-passphrase is all bytes of its file, a last newline too, at most 65536.
+passphrase is all bytes of its file, a last newline too, at most 65536; by
+--passphrase-line and --new-line what stands there before the first newline.
 
 Written are, with a flush after each: the area of the new keyslot; then of LUKS1
 its entry in the header, of LUKS2 the copy of the header that doesn't count and
@@ -171,16 +180,18 @@ Exit status:
 
 pub(crate) const CHANGE: &str = "Puts a new passphrase in the place of an old one";
 
-/// The usage after `Usage: `, on two lines, since one would have more than 80 columns.
+/// The usage after `Usage: `, on several lines, since one would have more than 80 columns.
 pub(crate) const CHANGE_USAGE: &str = "\
-luks change [OPTIONS] --slot <N> --passphrase <FILE> --new <FILE>
-                   --random <FILE> <VOLUME>";
+luks change [OPTIONS] --slot <N> --random <FILE>
+                   <--passphrase <FILE>|--passphrase-line <FILE>>
+                   <--new <FILE>|--new-line <FILE>> <VOLUME>";
 
 pub(crate) const CHANGE_MORE: &str = "\
 The passphrase opens keyslot --slot; then the new one does, and the old no more.
 LUKS2 keeps the keyslot's number, and takes a free area. LUKS1 makes the least
 keyslot that is free, and disables the old one. All others stay as they are. A
-passphrase is all bytes of its file, a last newline too, at most 65536.
+passphrase is all bytes of its file, a last newline too, at most 65536; by
+--passphrase-line and --new-line what stands there before the first newline.
 
 Written are, with a flush after each: the new area; then of LUKS1 the new
 keyslot's entry and the old one's, of LUKS2 the copy of the header that doesn't
@@ -220,11 +231,17 @@ Exit status:
 
 pub(crate) const REMOVE: &str = "Removes a keyslot by its own passphrase";
 
+/// The usage after `Usage: `, on several lines, since one would have more than 80 columns.
+pub(crate) const REMOVE_USAGE: &str = "\
+luks remove [OPTIONS] --slot <N>
+                   <--passphrase <FILE>|--passphrase-line <FILE>> <VOLUME>";
+
 pub(crate) const REMOVE_MORE: &str = "\
 Keyslot --slot, which the passphrase opens, is removed, and its area is
 overwritten with zeros, once. The last keyslot of its key isn't removed. All
 others stay as they are. The passphrase is all bytes of its file, a last newline
-too, at most 65536.
+too, at most 65536; by --passphrase-line what stands there before the first
+newline.
 
 Written are, with a flush after each: of LUKS1 the keyslot's entry, of LUKS2 the
 copy of the header that doesn't count and the one that does; then the zeros. Of
@@ -326,6 +343,11 @@ Exit status:
 
 pub(crate) const FORMAT: &str = "Makes a LUKS volume over whatever stands there";
 
+/// The usage after `Usage: `, on several lines, since one would have more than 80 columns.
+pub(crate) const FORMAT_USAGE: &str = "\
+luks format [OPTIONS] --random <FILE>
+                   <--passphrase <FILE>|--passphrase-line <FILE>> <VOLUME>";
+
 pub(crate) const FORMAT_MORE: &str = "\
 What stood there is overwritten, without a question: of LUKS1 the bytes 0 to 591
 and 4096 to 260095, of LUKS2 the bytes 0 to 288767. No other byte is written.
@@ -333,9 +355,10 @@ The volume has at least 2097152 bytes, of LUKS2 16777216, and its data begins
 there; with --detached it lies on another device, from its byte 0 on.
 
 Keyslot 0 opens by the passphrase: all bytes of its file, a last newline too,
-at most 65536. The cipher is aes-xts-plain64 with a volume key of 64 bytes, the
-derivation PBKDF2. The uuid, the key, the salts and the stripes are the first
-256080 bytes of the random file, of LUKS2 256208, and no more are read. Give it
+at most 65536; by --passphrase-line what stands there before the first newline.
+The cipher is aes-xts-plain64 with a volume key of 64 bytes, the derivation
+PBKDF2. The uuid, the key, the salts and the stripes are the first 256080 bytes
+of the random file, of LUKS2 256208, and no more are read. Give it
 /dev/urandom: whoever knows these bytes knows the volume key.
 
 Prints one line:

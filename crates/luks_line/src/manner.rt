@@ -1,8 +1,8 @@
-//! How a command's answer is told.
+//! How a command's answer is told, and how the passphrases' files are read.
 
 use clap::ArgMatches;
 
-/// How a command's answer is told.
+/// How a command's answer is told, and how the passphrases' files are read.
 #[derive(Debug, Clone, Copy, PartialEq, Eq)]
 pub struct Manner {
     /// As one JSON object in place of the line, which `check` and `open` can. How `show` lists a
@@ -10,12 +10,18 @@ pub struct Manner {
     pub json: bool,
     /// Without hints on standard error.
     pub quiet: bool,
+    /// The passphrase is the first line of its file; else the whole file.
+    pub passphrase_line: bool,
+    /// The new passphrase likewise.
+    pub new_line: bool,
 }
 
-/// How the answer of the command of this name is to be told.
+/// How the answer of the command of this name is to be told, and its files are to be read.
 pub(crate) fn manner_of(name: &str, given: &ArgMatches<'_>) -> Manner {
     Manner {
         json: matches!(name, "check" | "open") && given.get_flag("json"),
         quiet: given.get_flag("quiet"),
+        passphrase_line: given.get_str("passphrase-line").is_some(),
+        new_line: given.get_str("new-line").is_some(),
     }
 }

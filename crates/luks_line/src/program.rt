@@ -1,8 +1,8 @@
 //! The program and its commands, as `clap` reads them.
 
 use crate::helps;
-use crate::words::{Described, OperandRow, OptionRow, Takes, commands};
-use clap::{Arg, Command};
+use crate::words::{ChoiceRow, Described, OperandRow, OptionRow, Takes, commands};
+use clap::{Arg, ArgGroup, Command};
 use std::alloc::{AllocError, Global};
 
 /// The program, with the commands that overwrite or without them.
@@ -35,6 +35,14 @@ fn bare_program<'a>(alloc: Global) -> Command<'a> {
 }
 
 fn command<'a>(alloc: Global, described: &Described) -> Result<Command<'a>, AllocError> {
+    let mut command = with_options(alloc, described)?;
+    for choice in described.choices.iter() {
+        command = command.group(group(alloc, choice.row())?)?;
+    }
+    Ok(command)
+}
+
+fn with_options<'a>(alloc: Global, described: &Described) -> Result<Command<'a>, AllocError> {
     let mut command = with_operands(alloc, described)?;
     for option in described.options.iter() {
         command = command.arg(long_option(alloc, option.row()))?;
@@ -58,6 +66,13 @@ fn bare_command<'a>(alloc: Global, described: &Described) -> Command<'a> {
         Some(usage) => command.override_usage(usage),
         None => command,
     }
+}
+
+/// One of the options is needed, and no two of them are taken.
+fn group<'a>(alloc: Global, choice: &ChoiceRow) -> Result<ArgGroup<'a>, AllocError> {
+    ArgGroup::new(alloc, choice.name)
+        .required(true)
+        .args(choice.options)
 }
 
 fn positional<'a>(alloc: Global, operand: &OperandRow) -> Arg<'a> {

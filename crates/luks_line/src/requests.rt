@@ -35,9 +35,21 @@ fn command_of<'a>(name: &str, given: &ArgMatches<'a>) -> Option<Command<'a>> {
     }
 }
 
+/// The file of the passphrase, whether the whole of it is taken or its first line.
+fn passphrase_of<'a>(given: &ArgMatches<'a>) -> Option<&'a str> {
+    given
+        .get_str("passphrase")
+        .or(given.get_str("passphrase-line"))
+}
+
+/// The file of the new passphrase likewise.
+fn new_of<'a>(given: &ArgMatches<'a>) -> Option<&'a str> {
+    given.get_str("new").or(given.get_str("new-line"))
+}
+
 fn opening_of<'a>(given: &ArgMatches<'a>) -> Option<Command<'a>> {
     Some(Command::Open {
-        passphrase: given.get_str("passphrase")?,
+        passphrase: passphrase_of(given)?,
         slot: given.get_one::<u8>("slot"),
         memory: given.get_one::<u32>("memory")?,
     })
@@ -66,9 +78,9 @@ fn edit_of<'a>(name: &str, given: &ArgMatches<'a>) -> Option<EditRequest<'a>> {
 fn adding_of<'a>(given: &ArgMatches<'a>) -> Option<EditRequest<'a>> {
     Some(EditRequest::Add {
         by_: given.get_one::<u8>("slot")?,
-        passphrase: given.get_str("passphrase")?,
+        passphrase: passphrase_of(given)?,
         memory: given.get_one::<u32>("memory")?,
-        new: given.get_str("new")?,
+        new: new_of(given)?,
         to: given.get_one::<u8>("to"),
         iterations: given.get_one::<u32>("iterations")?,
     })
@@ -77,9 +89,9 @@ fn adding_of<'a>(given: &ArgMatches<'a>) -> Option<EditRequest<'a>> {
 fn changing_of<'a>(given: &ArgMatches<'a>) -> Option<EditRequest<'a>> {
     Some(EditRequest::Change {
         slot: given.get_one::<u8>("slot")?,
-        passphrase: given.get_str("passphrase")?,
+        passphrase: passphrase_of(given)?,
         memory: given.get_one::<u32>("memory")?,
-        new: given.get_str("new")?,
+        new: new_of(given)?,
         iterations: given.get_one::<u32>("iterations")?,
     })
 }
@@ -87,7 +99,7 @@ fn changing_of<'a>(given: &ArgMatches<'a>) -> Option<EditRequest<'a>> {
 fn removing_of<'a>(given: &ArgMatches<'a>) -> Option<EditRequest<'a>> {
     Some(EditRequest::Remove {
         slot: given.get_one::<u8>("slot")?,
-        passphrase: given.get_str("passphrase")?,
+        passphrase: passphrase_of(given)?,
         memory: given.get_one::<u32>("memory")?,
     })
 }
@@ -100,7 +112,7 @@ fn labelling_of<'a>(given: &ArgMatches<'a>) -> Option<EditRequest<'a>> {
 
 fn making_of<'a>(given: &ArgMatches<'a>) -> Option<Making<'a>> {
     Some(Making {
-        passphrase: given.get_str("passphrase")?,
+        passphrase: passphrase_of(given)?,
         random: given.get_str("random")?,
         version: version_of(given)?,
         format: Format {

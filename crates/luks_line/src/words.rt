@@ -20,6 +20,8 @@ pub(crate) struct Described {
     pub(crate) more: &'static str,
     pub(crate) operands: &'static [Operand],
     pub(crate) options: &'static [LongOption],
+    /// Of the options of each, exactly one has to be given.
+    pub(crate) choices: &'static [Choice],
 }
 
 /// A word that is known by its place, by its row in `OPERANDS`.
@@ -69,6 +71,8 @@ pub(crate) enum LongOption {
     Over,
     JsonAnswer,
     Quiet,
+    PassphraseLine,
+    NewLine,
 }
 
 impl LongOption {
@@ -83,6 +87,27 @@ pub(crate) struct OptionRow {
     pub(crate) needed: bool,
     pub(crate) help: &'static str,
     pub(crate) takes: Takes,
+}
+
+/// Options that stand for one another, by its row in `CHOICES`.
+#[derive(Clone, Copy)]
+pub(crate) enum Choice {
+    Passphrase,
+    New,
+}
+
+impl Choice {
+    pub(crate) fn row(self) -> &'static ChoiceRow {
+        &CHOICES[self as usize]
+    }
+}
+
+#[derive(Clone, Copy)]
+pub(crate) struct ChoiceRow {
+    /// Its name among those of the options, which isn't printed.
+    pub(crate) name: &'static str,
+    /// The names of its options.
+    pub(crate) options: &'static [&'static str],
 }
 
 /// What an option takes.
@@ -174,6 +199,7 @@ static COMMANDS: [Described; 12] = [
             LongOption::JsonAnswer,
             LongOption::Quiet,
         ],
+        choices: &[],
     },
     Described {
         name: "show",
@@ -183,21 +209,24 @@ static COMMANDS: [Described; 12] = [
         more: helps::SHOW_MORE,
         operands: &[Operand::Volume],
         options: &[LongOption::Json, LongOption::Quiet],
+        choices: &[],
     },
     Described {
         name: "open",
         overwrites: false,
         about: helps::OPEN,
-        usage: None,
+        usage: Some(helps::OPEN_USAGE),
         more: helps::OPEN_MORE,
         operands: &[Operand::Volume],
         options: &[
             LongOption::Passphrase,
+            LongOption::PassphraseLine,
             LongOption::TriedSlot,
             LongOption::Memory,
             LongOption::JsonAnswer,
             LongOption::Quiet,
         ],
+        choices: &[Choice::Passphrase],
     },
     Described {
         name: "add",
@@ -209,7 +238,9 @@ static COMMANDS: [Described; 12] = [
         options: &[
             LongOption::OpenedSlot,
             LongOption::Passphrase,
+            LongOption::PassphraseLine,
             LongOption::New,
+            LongOption::NewLine,
             LongOption::NeededRandom,
             LongOption::To,
             LongOption::Iterations,
@@ -218,6 +249,7 @@ static COMMANDS: [Described; 12] = [
             LongOption::Detached,
             LongOption::Quiet,
         ],
+        choices: &[Choice::Passphrase, Choice::New],
     },
     Described {
         name: "change",
@@ -229,7 +261,9 @@ static COMMANDS: [Described; 12] = [
         options: &[
             LongOption::OpenedSlot,
             LongOption::Passphrase,
+            LongOption::PassphraseLine,
             LongOption::New,
+            LongOption::NewLine,
             LongOption::NeededRandom,
             LongOption::Iterations,
             LongOption::Memory,
@@ -237,23 +271,26 @@ static COMMANDS: [Described; 12] = [
             LongOption::Detached,
             LongOption::Quiet,
         ],
+        choices: &[Choice::Passphrase, Choice::New],
     },
     Described {
         name: "remove",
         overwrites: false,
         about: helps::REMOVE,
-        usage: None,
+        usage: Some(helps::REMOVE_USAGE),
         more: helps::REMOVE_MORE,
         operands: &[Operand::Volume],
         options: &[
             LongOption::OpenedSlot,
             LongOption::Passphrase,
+            LongOption::PassphraseLine,
             LongOption::Random,
             LongOption::Memory,
             LongOption::Over,
             LongOption::Detached,
             LongOption::Quiet,
         ],
+        choices: &[Choice::Passphrase],
     },
     Described {
         name: "repair",
@@ -268,6 +305,7 @@ static COMMANDS: [Described; 12] = [
             LongOption::Detached,
             LongOption::Quiet,
         ],
+        choices: &[],
     },
     Described {
         name: "label",
@@ -282,16 +320,18 @@ static COMMANDS: [Described; 12] = [
             LongOption::Detached,
             LongOption::Quiet,
         ],
+        choices: &[],
     },
     Described {
         name: "format",
         overwrites: true,
         about: helps::FORMAT,
-        usage: None,
+        usage: Some(helps::FORMAT_USAGE),
         more: helps::FORMAT_MORE,
         operands: &[Operand::Volume],
         options: &[
             LongOption::Passphrase,
+            LongOption::PassphraseLine,
             LongOption::NeededRandom,
             LongOption::Version,
             LongOption::Hash,
@@ -299,6 +339,7 @@ static COMMANDS: [Described; 12] = [
             LongOption::Detached,
             LongOption::Quiet,
         ],
+        choices: &[Choice::Passphrase],
     },
     Described {
         name: "convert",
@@ -312,6 +353,7 @@ static COMMANDS: [Described; 12] = [
             LongOption::DetachedSource,
             LongOption::Quiet,
         ],
+        choices: &[],
     },
     Described {
         name: "rebuild",
@@ -326,6 +368,7 @@ static COMMANDS: [Described; 12] = [
             LongOption::Uuid,
             LongOption::Quiet,
         ],
+        choices: &[],
     },
     Described {
         name: "explain",
@@ -335,6 +378,7 @@ static COMMANDS: [Described; 12] = [
         more: helps::EXPLAIN_MORE,
         operands: &[Operand::Fault],
         options: &[],
+        choices: &[],
     },
 ];
 
@@ -377,8 +421,20 @@ static OPERANDS: [OperandRow; 7] = [
     },
 ];
 
+/// In the order of `Choice`.
+static CHOICES: [ChoiceRow; 2] = [
+    ChoiceRow {
+        name: "file of the passphrase",
+        options: &["passphrase", "passphrase-line"],
+    },
+    ChoiceRow {
+        name: "file of the new passphrase",
+        options: &["new", "new-line"],
+    },
+];
+
 /// In the order of `LongOption`.
-static OPTIONS: [OptionRow; 19] = [
+static OPTIONS: [OptionRow; 21] = [
     OptionRow {
         name: "detached",
         needed: false,
@@ -399,13 +455,13 @@ static OPTIONS: [OptionRow; 19] = [
     },
     OptionRow {
         name: "passphrase",
-        needed: true,
+        needed: false,
         help: "The file of the passphrase, taken whole",
         takes: Takes::File,
     },
     OptionRow {
         name: "new",
-        needed: true,
+        needed: false,
         help: "The file of the new passphrase, taken whole",
         takes: Takes::File,
     },
@@ -442,19 +498,19 @@ static OPTIONS: [OptionRow; 19] = [
     OptionRow {
         name: "memory",
         needed: false,
-        help: "MiB of memory for Argon2, 0 to 4194303",
+        help: "MiB for Argon2, 0 to 4194303",
         takes: Takes::Memory,
     },
     OptionRow {
         name: "iterations",
         needed: false,
-        help: "Iterations of PBKDF2, at least 1000",
+        help: "Of PBKDF2, at least 1000",
         takes: Takes::Iterations,
     },
     OptionRow {
         name: "version",
         needed: false,
-        help: "LUKS1 or LUKS2",
+        help: "Of LUKS",
         takes: Takes::Version,
     },
     OptionRow {
@@ -484,7 +540,7 @@ static OPTIONS: [OptionRow; 19] = [
     OptionRow {
         name: "json",
         needed: false,
-        help: "One JSON object in place of the line, for scripts",
+        help: "One JSON object in place of the line",
         takes: Takes::Nothing,
     },
     OptionRow {
@@ -492,5 +548,17 @@ static OPTIONS: [OptionRow; 19] = [
         needed: false,
         help: "No hints on standard error",
         takes: Takes::Nothing,
+    },
+    OptionRow {
+        name: "passphrase-line",
+        needed: false,
+        help: "Instead, a file whose first line is taken",
+        takes: Takes::File,
+    },
+    OptionRow {
+        name: "new-line",
+        needed: false,
+        help: "Instead, a file whose first line is taken",
+        takes: Takes::File,
     },
 ];

@@ -1,3 +1,4 @@
+pub mod Segments
 pub mod Texts
 pub mod Luks1Value
 pub mod Luks2Value

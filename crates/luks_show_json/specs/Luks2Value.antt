@@ -13,6 +13,7 @@ use Rattle.luks_reading.specs.declared.header.ChosenCopy.{ChosenCopy}
 use Rattle.luks_show.specs.Texts.{copies_text}
 use Rattle.luks_show_json.specs.declared.luks2.Objects.{Objects}
 use Rattle.luks_show_json.specs.declared.luks2.Texts.{Texts}
+use Rattle.luks_show_json.specs.Segments.{IsSegmentsValue}
 use Rattle.luks_show_json.specs.Texts.{IsTextValue, number_member}
 
 -- the texts of the binary header
@@ -25,10 +26,11 @@ pub record AreTextsOf (header : Bin2) (texts : Texts) : Type 0 where
 abbrev pub configured : List ℕ → Data → Data
 configured name j = unwrap_or (option_and_then (get name) (get (codes "config") j)) null
 
--- what the metadata says; nothing is said of the arrays of its keyslots, tokens, segments and digests
+-- what the metadata says; nothing is said of the arrays of its keyslots, tokens and digests
 pub record AreObjectsOf (meta : Meta) (objects : Objects) : Type 0 where
   pub flags : view objects.flags ≡ configured (codes "flags") (content meta)
   pub requirements : view objects.requirements ≡ configured (codes "requirements") (content meta)
+  pub segments : IsSegmentsValue (content meta) (view objects.segments)
   pub metadata : view objects.metadata ≡ content meta
 
 -- in bytes: the binary header with its JSON area, that area alone, and the keyslots' areas together

@@ -4,6 +4,7 @@
 mod luks1;
 mod luks2;
 mod objects;
+mod segments;
 mod text;
 mod values;
 

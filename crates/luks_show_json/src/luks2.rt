@@ -5,7 +5,8 @@ ghost use Rattle.luks_meta.specs.Content.{content};
 ghost use Rattle.luks_show_json.specs.Luks2Value.{AreObjectsOf, AreTextsOf, configured, header_members, IsLuks2Value};
 ghost use Rattle.luks_show_json.specs.Luks2Value.{sizes_value, with_objects};
 
-use crate::objects::{digests_value, keyslots_value, segments_value, tokens_value};
+use crate::objects::{digests_value, keyslots_value, tokens_value};
+use crate::segments::segments_value;
 use crate::values::{put_number, text_value};
 use luks_head::Bin2;
 use luks_reading::{ChosenCopy, Config, Meta};

@@ -1,7 +1,7 @@
-//! The objects of LUKS2 metadata, each kind as an array by number.
+//! The keyslots, tokens and digests of LUKS2 metadata, each kind as an array by number.
 use crate::values::{put_bytes, put_number, put_numbers, put_text};
-use luks_meta::{Argon2, Derivation, Encryption, KeyArea, Pbkdf2, Splitter};
-use luks_reading::{Cost, Digest, Extent, Keyslot, Meta, Segment, SegmentKind, Token};
+use luks_meta::{Argon2, Derivation, KeyArea, Pbkdf2, Splitter};
+use luks_reading::{Cost, Digest, Keyslot, Meta, Token};
 use serde_json::{Map, Value, put};
 use std::alloc::{AllocError, Global};
 
@@ -134,64 +134,6 @@ fn token_value(alloc: Global, n: u8, token: &Token<'_>) -> Result<Value, AllocEr
     put_number(&mut members, alloc, "number", u64::from(n))?;
     put_text(&mut members, alloc, "type", token.kind)?;
     Ok(Value::from(members))
-}
-
-pub(crate) fn segments_value(alloc: Global, meta: &Meta) -> Result<Value, AllocError> {
-    let mut items = Vec::new(alloc);
-    for n in 0..32 {
-        if let Some(segment) = meta.segment(n) {
-            items.push(segment_value(alloc, n, &segment)?)?;
-        }
-    }
-    Ok(Value::from(items))
-}
-
-fn segment_value(alloc: Global, n: u8, segment: &Segment<'_>) -> Result<Value, AllocError> {
-    let mut members = Map::new(alloc);
-    put_segment(&mut members, alloc, n, segment)?;
-    Ok(Value::from(members))
-}
-
-fn put_segment(
-    members: &mut Map<String, Value>,
-    alloc: Global,
-    n: u8,
-    segment: &Segment<'_>,
-) -> Result<(), AllocError> {
-    put_number(members, alloc, "number", u64::from(n))?;
-    put_number(members, alloc, "offset", segment.offset)?;
-    put_extent(members, alloc, segment.size)?;
-    match &segment.kind {
-        SegmentKind::Crypt(encryption) => put_encryption(members, alloc, encryption),
-        SegmentKind::Linear => put_text(members, alloc, "type", "linear"),
-    }
-}
-
-fn put_extent(
-    members: &mut Map<String, Value>,
-    alloc: Global,
-    size: Extent,
-) -> Result<(), AllocError> {
-    match size {
-        Extent::Fixed(size) => put_number(members, alloc, "size", size),
-        Extent::Dynamic => put_text(members, alloc, "size", "dynamic"),
-    }
-}
-
-fn put_encryption(
-    members: &mut Map<String, Value>,
-    alloc: Global,
-    encryption: &Encryption<'_>,
-) -> Result<(), AllocError> {
-    put_text(members, alloc, "cipher", encryption.cipher)?;
-    put_number(members, alloc, "iv_tweak", encryption.iv_tweak)?;
-    put_number(
-        members,
-        alloc,
-        "sector_size",
-        u64::from(encryption.sector_size),
-    )?;
-    put_text(members, alloc, "type", "crypt")
 }
 
 pub(crate) fn digests_value(alloc: Global, meta: &Meta) -> Result<Value, AllocError> {
