@@ -52,6 +52,8 @@ pub(crate) struct OperandRow {
 pub(crate) enum LongOption {
     Detached,
     DetachedSource,
+    All,
+    Map,
     Json,
     Passphrase,
     New,
@@ -88,6 +90,8 @@ pub(crate) struct OptionRow {
 pub(crate) enum Takes {
     /// No value: it is there or it isn't.
     Nothing,
+    /// No value, and it names a form of the answer: at most one such option may be there.
+    Form,
     /// The name of a file.
     File,
     /// The number of a keyslot.
@@ -107,14 +111,14 @@ pub(crate) enum Takes {
 impl Takes {
     pub(crate) fn action(self) -> ArgAction {
         match self {
-            Takes::Nothing => ArgAction::SetTrue,
+            Takes::Nothing | Takes::Form => ArgAction::SetTrue,
             _ => ArgAction::Set,
         }
     }
 
     pub(crate) fn parser(self) -> ValueParser<'static> {
         match self {
-            Takes::Nothing => ValueParser::Bool,
+            Takes::Nothing | Takes::Form => ValueParser::Bool,
             Takes::File | Takes::Uuid => ValueParser::String,
             Takes::Slot => ValueParser::Unsigned(0, 31),
             Takes::Memory => ValueParser::Unsigned(0, 4194303),
@@ -127,7 +131,7 @@ impl Takes {
     /// What the help calls its value: one name, or none where it takes no value.
     pub(crate) fn names(self) -> &'static [&'static str] {
         match self {
-            Takes::Nothing => &[],
+            Takes::Nothing | Takes::Form => &[],
             Takes::File => &["FILE"],
             Takes::Slot | Takes::Iterations => &["N"],
             Takes::Memory => &["MIB"],
@@ -176,7 +180,7 @@ static COMMANDS: [Described; 12] = [
         usage: None,
         more: helps::SHOW_MORE,
         operands: &[Operand::Volume],
-        options: &[LongOption::Json],
+        options: &[LongOption::All, LongOption::Map, LongOption::Json],
     },
     Described {
         name: "open",
@@ -355,7 +359,7 @@ static OPERANDS: [OperandRow; 7] = [
 ];
 
 /// In the order of `LongOption`.
-static OPTIONS: [OptionRow; 17] = [
+static OPTIONS: [OptionRow; 19] = [
     OptionRow {
         name: "detached",
         needed: false,
@@ -369,10 +373,22 @@ static OPTIONS: [OptionRow; 17] = [
         takes: Takes::Nothing,
     },
     OptionRow {
+        name: "all",
+        needed: false,
+        help: "With the costs of keyslots and the encryption of segments",
+        takes: Takes::Form,
+    },
+    OptionRow {
+        name: "map",
+        needed: false,
+        help: "A map of the areas, in the order of their places",
+        takes: Takes::Form,
+    },
+    OptionRow {
         name: "json",
         needed: false,
         help: "One JSON object in place of the lines, for scripts",
-        takes: Takes::Nothing,
+        takes: Takes::Form,
     },
     OptionRow {
         name: "passphrase",
