@@ -45,7 +45,7 @@ fn command<'a>(alloc: Global, described: &Described) -> Result<Command<'a>, Allo
 fn with_options<'a>(alloc: Global, described: &Described) -> Result<Command<'a>, AllocError> {
     let mut command = with_operands(alloc, described)?;
     for option in described.options.iter() {
-        command = command.arg(long_option(alloc, option.row()))?;
+        command = command.arg(long_option(alloc, option.row())?)?;
     }
     Ok(command)
 }
@@ -81,12 +81,16 @@ fn positional<'a>(alloc: Global, operand: &OperandRow) -> Arg<'a> {
         .help(operand.help)
 }
 
-fn long_option<'a>(alloc: Global, option: &OptionRow) -> Arg<'a> {
+fn long_option<'a>(alloc: Global, option: &OptionRow) -> Result<Arg<'a>, AllocError> {
     let arg = Arg::new(alloc, option.name)
         .long(option.name)
         .required(option.needed)
         .help(option.help);
-    taking(arg, option.takes)
+    let arg = taking(arg, option.takes);
+    match option.takes {
+        Takes::Form => arg.group("form"),
+        _ => Ok(arg),
+    }
 }
 
 fn taking<'a>(arg: Arg<'a>, takes: Takes) -> Arg<'a> {

@@ -158,6 +158,10 @@ fn data_of(given: &ArgMatches<'_>) -> Data {
 fn form_of(given: &ArgMatches<'_>) -> ShowAs {
     if given.get_flag("json") {
         ShowAs::Json
+    } else if given.get_flag("map") {
+        ShowAs::Map
+    } else if given.get_flag("all") {
+        ShowAs::All
     } else {
         ShowAs::Lines
     }

@@ -54,6 +54,8 @@ pub(crate) struct OperandRow {
 pub(crate) enum LongOption {
     Detached,
     DetachedSource,
+    All,
+    Map,
     Json,
     Passphrase,
     New,
@@ -115,6 +117,8 @@ pub(crate) struct ChoiceRow {
 pub(crate) enum Takes {
     /// No value: it is there or it isn't.
     Nothing,
+    /// No value, and it names a form of the answer: at most one such option may be there.
+    Form,
     /// The name of a file.
     File,
     /// The number of a keyslot.
@@ -134,14 +138,14 @@ pub(crate) enum Takes {
 impl Takes {
     pub(crate) fn action(self) -> ArgAction {
         match self {
-            Takes::Nothing => ArgAction::SetTrue,
+            Takes::Nothing | Takes::Form => ArgAction::SetTrue,
             _ => ArgAction::Set,
         }
     }
 
     pub(crate) fn parser(self) -> ValueParser<'static> {
         match self {
-            Takes::Nothing => ValueParser::Bool,
+            Takes::Nothing | Takes::Form => ValueParser::Bool,
             Takes::File | Takes::Uuid => ValueParser::String,
             Takes::Slot => ValueParser::Unsigned(0, 31),
             Takes::Memory => ValueParser::Unsigned(0, 4194303),
@@ -154,7 +158,7 @@ impl Takes {
     /// What the help calls its value: one name, or none where it takes no value.
     pub(crate) fn names(self) -> &'static [&'static str] {
         match self {
-            Takes::Nothing => &[],
+            Takes::Nothing | Takes::Form => &[],
             Takes::File => &["FILE"],
             Takes::Slot | Takes::Iterations => &["N"],
             Takes::Memory => &["MIB"],
@@ -208,7 +212,12 @@ static COMMANDS: [Described; 12] = [
         usage: None,
         more: helps::SHOW_MORE,
         operands: &[Operand::Volume],
-        options: &[LongOption::Json, LongOption::Quiet],
+        options: &[
+            LongOption::All,
+            LongOption::Map,
+            LongOption::Json,
+            LongOption::Quiet,
+        ],
         choices: &[],
     },
     Described {
@@ -434,7 +443,7 @@ static CHOICES: [ChoiceRow; 2] = [
 ];
 
 /// In the order of `LongOption`.
-static OPTIONS: [OptionRow; 21] = [
+static OPTIONS: [OptionRow; 23] = [
     OptionRow {
         name: "detached",
         needed: false,
@@ -448,10 +457,22 @@ static OPTIONS: [OptionRow; 21] = [
         takes: Takes::Nothing,
     },
     OptionRow {
+        name: "all",
+        needed: false,
+        help: "With the costs of keyslots and the encryption of segments",
+        takes: Takes::Form,
+    },
+    OptionRow {
+        name: "map",
+        needed: false,
+        help: "A map of the areas, in the order of their places",
+        takes: Takes::Form,
+    },
+    OptionRow {
         name: "json",
         needed: false,
         help: "One JSON object in place of the lines, for scripts",
-        takes: Takes::Nothing,
+        takes: Takes::Form,
     },
     OptionRow {
         name: "passphrase",

@@ -50,6 +50,10 @@ pub enum Command<'a> {
 pub enum ShowAs {
     /// Line by line, for who reads them.
     Lines,
+    /// Line by line, with the costs of keyslots and the encryption of segments.
+    All,
+    /// A map of its areas.
+    Map,
     /// One JSON object, for scripts.
     Json,
 }

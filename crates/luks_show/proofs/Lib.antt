@@ -1,1 +1,2 @@
+pub mod AllFacts
 pub mod Luks1Facts

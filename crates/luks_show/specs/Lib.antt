@@ -1,3 +1,4 @@
 pub mod Texts
 pub mod Luks1Lines
+pub mod AllLines
 pub mod Listed

@@ -2,6 +2,7 @@
 #![tactic(auto)]
 
 mod copies;
+mod costs;
 mod escaped;
 mod listing;
 mod lists;
@@ -10,5 +11,6 @@ mod luks2;
 mod objects;
 
 pub use copies::copies_name;
+pub use costs::{CostsLine, EncryptionLine};
 pub use escaped::before_zero;
-pub use listing::Listing;
+pub use listing::{FullListing, Listing};

@@ -2,7 +2,7 @@
 ghost use Rattle.luks_show.specs.Listed.{listing_text};
 
 use crate::luks1::list_luks1;
-use crate::luks2::list_luks2;
+use crate::luks2::{list_luks2, list_luks2_fully};
 use luks_reading::{ChosenCopy, Luks1};
 use std::fmt;
 
@@ -22,6 +22,22 @@ impl fmt::Display for Listing {
         match self {
             Listing::Luks1(header) => list_luks1(header, f),
             Listing::Luks2(copy) => list_luks2(copy, f),
+        }
+    }
+}
+
+/// The header that is shown with all that its lines may tell: those of a `Listing`, and of LUKS2 a
+/// second one of each keyslot, and of each segment that is encrypted.
+#[derive(Drop)]
+pub struct FullListing(pub Listing);
+
+impl fmt::Display for FullListing {
+    ghost output = { λ full. listing_text full.0 };
+
+    fn fmt<W: fmt::Write>(&self, f: &mut fmt::Formatter<W>) -> fmt::Result {
+        match &self.0 {
+            Listing::Luks1(header) => list_luks1(header, f),
+            Listing::Luks2(copy) => list_luks2_fully(copy, f),
         }
     }
 }

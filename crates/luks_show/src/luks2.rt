@@ -1,7 +1,7 @@
 //! The lines of a LUKS2 header.
 use crate::copies::copies_name;
 use crate::escaped::{Escaped, before_zero};
-use crate::objects::{list_digests, list_keyslots, list_segments, list_tokens};
+use crate::objects::{Lines, list_digests, list_keyslots, list_segments, list_tokens};
 use luks_reading::ChosenCopy;
 use std::fmt;
 
@@ -10,10 +10,26 @@ pub(crate) fn list_luks2<W: fmt::Write>(
     copy: &ChosenCopy,
     f: &mut fmt::Formatter<W>,
 ) -> fmt::Result {
+    list_with(copy, Lines::One, f)
+}
+
+/// The same with the costs of its keyslots and the encryption of its segments.
+pub(crate) fn list_luks2_fully<W: fmt::Write>(
+    copy: &ChosenCopy,
+    f: &mut fmt::Formatter<W>,
+) -> fmt::Result {
+    list_with(copy, Lines::Two, f)
+}
+
+fn list_with<W: fmt::Write>(
+    copy: &ChosenCopy,
+    lines: Lines,
+    f: &mut fmt::Formatter<W>,
+) -> fmt::Result {
     list_header(copy, f)?;
-    list_keyslots(&copy.meta, f)?;
+    list_keyslots(&copy.meta, lines, f)?;
     list_tokens(&copy.meta, f)?;
-    list_segments(&copy.meta, f)?;
+    list_segments(&copy.meta, lines, f)?;
     list_digests(&copy.meta, f)
 }
 

@@ -1,16 +1,41 @@
 //! The lines of the objects of LUKS2 metadata.
+use crate::costs::{CostsLine, EncryptionLine};
 use crate::escaped::Escaped;
 use crate::lists::Numbers;
 use luks_reading::{Cost, Digest, Extent, Keyslot, Meta, Segment, SegmentKind, Token};
 use std::fmt;
 
-pub(crate) fn list_keyslots<W: fmt::Write>(meta: &Meta, f: &mut fmt::Formatter<W>) -> fmt::Result {
+/// How many lines a keyslot has, and a segment that is encrypted.
+#[derive(Debug, Clone, Copy, PartialEq, Eq)]
+pub(crate) enum Lines {
+    One,
+    Two,
+}
+
+pub(crate) fn list_keyslots<W: fmt::Write>(
+    meta: &Meta,
+    lines: Lines,
+    f: &mut fmt::Formatter<W>,
+) -> fmt::Result {
     for n in 0..32 {
         if let Some(keyslot) = meta.keyslot(n) {
             list_keyslot(n, &keyslot, meta.digest_of_keyslot(n), f)?;
+            list_costs(n, &keyslot, lines, f)?;
         }
     }
     Ok(())
+}
+
+fn list_costs<W: fmt::Write>(
+    n: u8,
+    keyslot: &Keyslot<'_>,
+    lines: Lines,
+    f: &mut fmt::Formatter<W>,
+) -> fmt::Result {
+    match lines {
+        Lines::One => Ok(()),
+        Lines::Two => write!(f, "{}", CostsLine(n, keyslot.kdf.cost)),
+    }
 }
 
 fn list_keyslot<W: fmt::Write>(
@@ -49,13 +74,32 @@ pub(crate) fn list_tokens<W: fmt::Write>(meta: &Meta, f: &mut fmt::Formatter<W>)
     Ok(())
 }
 
-pub(crate) fn list_segments<W: fmt::Write>(meta: &Meta, f: &mut fmt::Formatter<W>) -> fmt::Result {
+pub(crate) fn list_segments<W: fmt::Write>(
+    meta: &Meta,
+    lines: Lines,
+    f: &mut fmt::Formatter<W>,
+) -> fmt::Result {
     for n in 0..32 {
         if let Some(segment) = meta.segment(n) {
             list_segment(n, &segment, f)?;
+            list_encryption(n, &segment, lines, f)?;
         }
     }
     Ok(())
+}
+
+fn list_encryption<W: fmt::Write>(
+    n: u8,
+    segment: &Segment<'_>,
+    lines: Lines,
+    f: &mut fmt::Formatter<W>,
+) -> fmt::Result {
+    match (lines, segment.kind) {
+        (Lines::Two, SegmentKind::Crypt(encryption)) => {
+            write!(f, "{}", EncryptionLine(n, encryption))
+        }
+        _ => Ok(()),
+    }
 }
 
 fn list_segment<W: fmt::Write>(
