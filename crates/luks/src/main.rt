@@ -19,6 +19,7 @@ use luks_cli::{CountingPrinter, InputFault, Inputs, Line, Reason, execute, first
 use luks_explain::Fault;
 use luks_line::{Asked, parse};
 use luks_lock::{FOLDER, LazyFile, LockedDevice, OpenFault, is_same_file, open_locked};
+use luks_wiping::{Secret, wipe_stack};
 use std::fs::File;
 use std::io::{ErrorKind, Write};
 use std::process::ExitCode;
@@ -75,7 +76,13 @@ fn run_words<R: AllocGlobal + Clock + Files<File = File> + Input + Print + Eprin
     words: &[&str],
 ) -> io::Result<u8> {
     match parse(rt.alloc(), words) {
-        Ok(Asked::Volume(line, _)) => run_line(rt, &line),
+        Ok(Asked::Volume(line, _)) => {
+            let status = run_line(rt, &line);
+            if line.passphrase().is_some() {
+                wipe_stack();
+            }
+            status
+        }
         Ok(Asked::Explain(Some(fault))) => explain(rt, fault),
         Ok(Asked::Explain(None)) => list_faults(rt),
         Err(fault) => tell_usage(rt, &fault),
@@ -168,8 +175,8 @@ fn list_faults<R: Print>(rt: &R) -> io::Result<u8> {
 /// What was read of the passphrases' files, before the volume is opened.
 #[derive(Drop)]
 struct Passphrases {
-    old: Result<Vec<u8>, InputFault>,
-    new: Result<Vec<u8>, InputFault>,
+    old: Result<Secret, InputFault>,
+    new: Result<Secret, InputFault>,
 }
 
 impl Passphrases {
@@ -197,9 +204,9 @@ impl Passphrases {
 
 /// Whether the command ends by what was read: a passphrase that its file doesn't give, or that is too
 /// long. One that the command line doesn't name ends nothing.
-fn ends_command(read: &Result<Vec<u8>, InputFault>) -> bool {
+fn ends_command(read: &Result<Secret, InputFault>) -> bool {
     match read {
-        Ok(bytes) => bytes.len() > LONGEST_PASSPHRASE,
+        Ok(bytes) => bytes.as_slice().len() > LONGEST_PASSPHRASE,
         Err(InputFault::Absent) => false,
         Err(InputFault::Unreadable(_) | InputFault::NoMemory) => true,
     }
@@ -209,7 +216,7 @@ fn ends_command(read: &Result<Vec<u8>, InputFault>) -> bool {
 fn passphrase<R: AllocGlobal + Files<File = File> + Input + Eprint>(
     rt: &R,
     name: Option<&str>,
-) -> Result<Vec<u8>, InputFault> {
+) -> Result<Secret, InputFault> {
     let Some(path) = name else {
         return Err(InputFault::Absent);
     };
@@ -222,7 +229,7 @@ fn passphrase<R: AllocGlobal + Files<File = File> + Input + Eprint>(
 }
 
 /// What was read of a file, to be read once more.
-fn reader(read: &Result<Vec<u8>, InputFault>) -> Result<&[u8], InputFault> {
+fn reader(read: &Result<Secret, InputFault>) -> Result<&[u8], InputFault> {
     match read {
         Ok(bytes) => Ok(bytes.as_slice()),
         Err(fault) => Err(*fault),

@@ -1,5 +1,5 @@
 -- What the front of a list says of the whole list.
-use Rattle.std.proofs.Common.{◌≡◌, ℕ, ◌≤◌, ◌<◌, List, [], ◌++◌, length, take, Option, None, Some, option_map, IfSome, inl, inr, ap, ◌∙◌, arith}
+use Rattle.std.proofs.Common.{◌≡◌, ℕ, ◌≤◌, ◌<◌, List, length, take, Option, None, Some, IfSome, inl, inr, ap, ◌∙◌, arith}
 use Rattle.std.proofs.lemmas.List.{length-take-le, take_all}
 use Rattle.std.proofs.lemmas.Bool.{cases_lt}
 
@@ -27,8 +27,3 @@ long_of (Some xs) ys front long =
       | inl lt ↦ let same : length ys ≡ length xs = ap length (front ∙ take_all 65537 xs (omega (arith, lt))) in omega (arith, same, long)
       | inr ge ↦ omega (arith, ge)
     ]
-
-pub front_of : (known : Option (List ℕ)) (old ys : List ℕ) → old ≡ [] → IfSome (option_map (take 65537) known) (λ xs. ys ≡ old ++ xs)
-    → IfSome known (λ xs. ys ≡ take 65537 xs)
-front_of None old ys none read = read
-front_of (Some xs) old ys none read = read ∙ ap (λ b. b ++ take 65537 xs) none

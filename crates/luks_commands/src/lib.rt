@@ -11,6 +11,7 @@ pub mod open;
 mod passphrase_file;
 mod printer;
 mod random_file;
+mod secret_file;
 
 pub use answers::{Answer, Refusal, Status, device_fault, end, refused, unread};
 pub use inputs::{InputFault, Inputs, Reason};

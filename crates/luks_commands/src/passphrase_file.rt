@@ -3,6 +3,8 @@ ghost use Rattle.std.specs.Prelude.{◌≡◌, ◌≢◌, ◌≤◌, ◌<◌, If
 ghost use Rattle.luks_commands.specs.Files.{IsLong, IsUnread, IsWhole};
 
 use crate::inputs::InputFault;
+use crate::secret_file::{read_first, room_for};
+use luks_wiping::Secret;
 use std::alloc::Global;
 use std::io::Read;
 
@@ -33,9 +35,9 @@ impl From<InputFault> for PassphraseFault {
 pub fn passphrase<R: Read>(
     alloc: Global,
     file: &mut Result<R, InputFault>,
-) -> Result<Vec<u8>, PassphraseFault>
-    ensures length { IfOk result (λ p. length p.items ≤ 65536) }
-    ensures whole { IfOk result (λ p. IsWhole R.remaining file.old p.items) }
+) -> Result<Secret, PassphraseFault>
+    ensures length { IfOk result (λ p. length p ≤ 65536) }
+    ensures whole { IfOk result (λ p. IsWhole R.remaining file.old p) }
     ensures unread { IfErr result (λ f. (fault : InputFault)
         → f ≡ PassphraseFault.Input fault → IsUnread file.old fault) }
     ensures long { IfErr result (λ f. f ≡ PassphraseFault.TooLong → IsLong R.remaining file.old) }
@@ -44,8 +46,8 @@ pub fn passphrase<R: Read>(
         Ok(reader) => reader,
         Err(fault) => return Err(PassphraseFault::Input(*fault)),
     };
-    let bytes = first_bytes(alloc, reader)?;
-    if bytes.len() > MOST_BYTES {
+    let bytes = read_first(reader, MOST_BYTES as u64 + 1, Vec::new(alloc))?;
+    if bytes.as_slice().len() > MOST_BYTES {
         return Err(PassphraseFault::TooLong);
     }
     Ok(bytes)
@@ -53,11 +55,10 @@ pub fn passphrase<R: Read>(
 
 /// The bytes of a passphrase's file to its end, but at most 65537: one more than a passphrase has,
 /// which tells that the file is too long.
-pub fn first_bytes<R: Read>(alloc: Global, reader: &mut R) -> Result<Vec<u8>, InputFault>
-    ensures bytes { IfOk result (λ p. IfSome (R.remaining reader.old) (λ bytes. p.items ≡ take 65537 bytes)) }
+pub fn first_bytes<R: Read>(alloc: Global, reader: &mut R) -> Result<Secret, InputFault>
+    ensures bytes { IfOk result (λ p. IfSome (R.remaining reader.old) (λ bytes. p ≡ take 65537 bytes)) }
     ensures kinds { IfErr result (λ f. f ≢ InputFault.Absent) }
 {
-    let mut bytes = Vec::new(alloc);
-    reader.take(MOST_BYTES as u64 + 1).read_to_end(&mut bytes)?;
-    Ok(bytes)
+    let room = room_for(alloc, MOST_BYTES + 1)?;
+    read_first(reader, MOST_BYTES as u64 + 1, room)
 }

@@ -5,6 +5,8 @@ ghost use Rattle.luks_commands.specs.declared.answers.Answer.TheVariants.{Refuse
 
 use crate::answers::{Answer, Refusal};
 use crate::inputs::InputFault;
+use crate::secret_file::{read_first, room_for};
+use luks_wiping::Secret;
 use std::alloc::Global;
 use std::io::{Read, Write};
 
@@ -25,16 +27,16 @@ pub fn random_bytes<R: Read>(
     alloc: Global,
     file: &mut Result<R, InputFault>,
     count: u64,
-) -> Result<Vec<u8>, InputFault>
-    ensures taken { IfOk result (λ b. AreFirstBytes count R.remaining file.old b.items) }
+) -> Result<Secret, InputFault>
+    ensures taken { IfOk result (λ b. AreFirstBytes count R.remaining file.old b) }
     ensures unread { IfErr result (IsUnreadRandom count file.old) }
 {
     if count == 0 {
-        return Ok(Vec::new(alloc));
+        return Ok(Secret::new(Vec::new(alloc)));
     }
     match file {
         Ok(reader) => first_random_bytes(alloc, reader, count),
-        Err(InputFault::Absent) => Ok(Vec::new(alloc)),
+        Err(InputFault::Absent) => Ok(Secret::new(Vec::new(alloc))),
         Err(fault) => Err(*fault),
     }
 }
@@ -43,13 +45,12 @@ fn first_random_bytes<R: Read>(
     alloc: Global,
     reader: &mut R,
     count: u64,
-) -> Result<Vec<u8>, InputFault>
+) -> Result<Secret, InputFault>
     ensures kinds { IfErr result (λ f. f ≢ InputFault.Absent) }
-    ensures bytes { IfOk result (λ b. IfSome (R.remaining reader.old) (λ known. b.items ≡ take count known)) }
+    ensures bytes { IfOk result (λ b. IfSome (R.remaining reader.old) (λ known. b ≡ take count known)) }
 {
-    let mut bytes = Vec::new(alloc);
-    reader.take(count).read_to_end(&mut bytes)?;
-    Ok(bytes)
+    let room = room_for(alloc, count as usize)?;
+    read_first(reader, count, room)
 }
 
 /// What is answered where a command is refused since it has fewer random bytes than it needs: to `err`

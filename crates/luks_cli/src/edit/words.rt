@@ -4,6 +4,7 @@ ghost use Rattle.luks_commands.specs.Answer.{IsWordless};
 ghost use Rattle.luks_commands.specs.Files.{IsLong, IsUnread, IsWhole, OfNamed};
 
 use luks_commands::{Answer, InputFault, PassphraseFault, Refusal, passphrase, unread};
+use luks_wiping::Secret;
 use std::alloc::Global;
 use std::io::{Read, Write};
 
@@ -14,14 +15,14 @@ pub(super) fn words<R: Read, E: Write>(
     file: &mut Result<R, InputFault>,
     name: Option<&str>,
     err: &mut E,
-) -> Result<Vec<u8>, Answer>
-    ensures whole { IfOk result (λ p. IfSome name.entry (λ _. IsWhole R.remaining file.old p.items)) }
+) -> Result<Secret, Answer>
+    ensures whole { IfOk result (λ p. IfSome name.entry (λ _. IsWhole R.remaining file.old p)) }
     ensures wordless { IfErr result (IsWordless
         (OfNamed name.entry (IsLong R.remaining file.old))
         (λ f. OfNamed name.entry (IsUnread file.old f))) }
 {
     let Some(name) = name else {
-        return Ok(Vec::new(alloc));
+        return Ok(Secret::new(Vec::new(alloc)));
     };
     match passphrase(alloc, file) {
         Ok(words) => Ok(words),
