@@ -1,5 +1,5 @@
 -- A fault as it is printed, in its parts: `Overlap(Slot(0),Slot(1))` is `Overlap` at `Slot(0)` and `Slot(1)`.
-use Rattle.std.specs.Prelude.{◌≡◌, ◌≢◌, ◌⊎◌, ℕ, List, [], ◌∷◌, ◌++◌, codes}
+use Rattle.std.specs.Prelude.{◌≡◌, ◌≢◌, ◌⊎◌, ℕ, List, [], ◌++◌, codes}
 use Rattle.std.specs.List.{All, join_with_byte}
 
 -- no bracket opens in the text
@@ -16,6 +16,10 @@ IsBare text name = text ≡ name
 
 abbrev pub IsBracketed : List ℕ → List ℕ → List ℕ → Type 0
 IsBracketed text name inside = text ≡ name ++ (codes "(" ++ (inside ++ codes ")"))
+
+-- the text ends with a bracket that closes
+abbrev pub IsClosed : List ℕ → Type 0
+IsClosed text = (inside : List ℕ) × (text ≡ inside ++ codes ")")
 
 -- the text is a name, alone or with brackets behind it
 pub record HasParts (text : List ℕ) : Type 0 where

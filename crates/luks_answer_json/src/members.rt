@@ -6,7 +6,7 @@ ghost use Rattle.luks_commands.specs.Answer.{refusal_text};
 ghost use Rattle.luks_answer_json.specs.AnswerValue.{accepted_value, bare_value, IsRefusedValue};
 ghost use Rattle.luks_answer_json.specs.AnswerValue.{slot_value};
 
-use crate::parted::parted;
+use crate::parted::parts_of;
 use crate::texts::texts_value;
 use luks_commands::Refusal;
 use luks_reading::{Copies, Version};
@@ -85,10 +85,15 @@ pub(crate) fn refused_value(
         (view v)) }
 {
     let printed = format!(in alloc; "{refusal}")?;
-    let fault = parted(alloc, printed.as_str())?;
+    let fault = parts_of(alloc, printed.as_str())?;
     let mut members = Map::new(alloc);
     put_text(&mut members, alloc, "answer", "refused")?;
-    put(&mut members, alloc, "at", texts_value(alloc, fault.places.as_slice())?)?;
+    put(
+        &mut members,
+        alloc,
+        "at",
+        texts_value(alloc, fault.places.as_slice())?,
+    )?;
     put_text(&mut members, alloc, "fault", fault.name)?;
     put(&mut members, alloc, "hints", hints)?;
     put(&mut members, alloc, "status", Value::from(status))?;

@@ -1,12 +1,13 @@
 //! A fault as it is printed, in its parts.
-ghost use Rattle.std.specs.Prelude.{map, IfOk};
-ghost use Rattle.luks_answer_json.specs.Parted.{HasParts, IsParted};
+ghost use Rattle.std.specs.Prelude.{◌≡◌, ◌==◌, ◌++◌, codes, map, IfOk};
+ghost use Rattle.std.specs.List.{slice_split};
+ghost use Rattle.luks_answer_json.specs.Parted.{HasParts, IsClosed, IsParted};
 
 use std::alloc::{AllocError, Global};
 
 /// The parts of a fault as it is printed.
 #[derive(Drop)]
-pub(crate) struct Parted<'a> {
+pub(crate) struct Parts<'a> {
     /// What stands before its brackets.
     pub(crate) name: &'a str,
     /// What they hold, by commas; nothing where it has none.
@@ -14,20 +15,35 @@ pub(crate) struct Parted<'a> {
 }
 
 /// The parts of the fault that is printed so.
-pub(crate) fn parted(alloc: Global, text: &str) -> Result<Parted<'_>, AllocError>
+pub(crate) fn parts_of(alloc: Global, text: &str) -> Result<Parts<'_>, AllocError>
     requires { HasParts text.now }
-    ensures { IfOk result (λ parted. IsParted text.now parted.name.now
-        (map (λ place. place.now) parted.places.items)) }
+    ensures { IfOk result (λ parts. IsParted text.now parts.name.now
+        (map (λ place. place.now) parts.places.items)) }
 {
-    let Some((name, rest)) = text.split_once('(') else {
-        return Ok(Parted {
+    match text.split_once('(') {
+        Some((name, rest)) => Ok(Parts {
+            name,
+            places: by_commas(alloc, inside(rest))?,
+        }),
+        None => Ok(Parts {
             name: text,
             places: Vec::new(alloc),
-        });
-    };
-    let inside = rest.strip_suffix(')').unwrap_or(rest);
-    Ok(Parted {
-        name,
-        places: inside.split(',').collect(alloc)?,
-    })
+        }),
+    }
+}
+
+/// What stands before the bracket that the text ends with.
+fn inside(text: &str) -> &str
+    requires { IsClosed text.now }
+    ensures { text.now ≡ result.now ++ codes ")" }
+{
+    text.strip_suffix(')').unwrap_or(text)
+}
+
+/// The texts that the commas of this one part.
+fn by_commas(alloc: Global, text: &str) -> Result<Vec<&str>, AllocError>
+    ensures { IfOk result (λ parts. map (λ part. part.now) parts.items
+        ≡ slice_split (λ c. c == 44) text.now) }
+{
+    text.split(',').collect(alloc)
 }

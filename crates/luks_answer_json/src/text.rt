@@ -3,9 +3,7 @@ ghost use Rattle.std.specs.Prelude.{map, string_bytes, IfOk};
 ghost use Rattle.serde_json.specs.View.{view};
 ghost use Rattle.luks_answer_json.specs.AnswerValue.{IsAnswerText, IsAnswerValue};
 
-use crate::members::{
-    accepted_value, bare_value, refused_value, slot_value,
-};
+use crate::members::{accepted_value, bare_value, refused_value, slot_value};
 use crate::texts::texts_value;
 use luks_commands::Answer;
 use serde_json::Value;
@@ -30,7 +28,9 @@ fn answer_value(alloc: Global, answer: &Answer, hints: &[&str]) -> Result<Value,
     let hints = texts_value(alloc, hints)?;
     let status = answer.status() as u8;
     match answer {
-        Answer::Accepted { version, areas } => accepted_value(alloc, *version, *areas, hints, status),
+        Answer::Accepted { version, areas } => accepted_value(
+            alloc, *version, *areas, hints, status,
+        ),
         Answer::Refused(refusal) => refused_value(alloc, refusal, hints, status),
         Answer::Opens(n) => slot_value(alloc, "opens", *n, hints, status),
         Answer::Closed(n) => slot_value(alloc, "does not open", *n, hints, status),
