@@ -80,8 +80,8 @@ fn run_words<R: AllocGlobal + Clock + Files<File = File> + Input + Print + Eprin
     match parse(rt.alloc(), words) {
         Ok(Asked::Volume(line, manner)) => {
             let status = run_line(rt, &line, manner);
-            if line.passphrase().is_some() {
-                wipe_stack();
+            if line.passphrase().is_some() && !wipe_stack() {
+                return Ok(FAULT);
             }
             status
         }

@@ -1,4 +1,4 @@
-ghost use Rattle.std.specs.Prelude.{◌≡◌, length, replicate};
+ghost use Rattle.std.specs.Prelude.{◌≡◌, ◌↔◌, All, IsTrue, length, replicate};
 
 /// The bytes of the stack that `wipe_stack` writes over.
 const STACK: usize = 98304;
@@ -16,8 +16,30 @@ pub fn wipe(bytes: &mut [u8])
 
 /// Writes zeros over 98304 bytes of the stack, below what its caller holds there: over what the calls
 /// have left that its caller made before. With less stack the program ends by a signal.
+///
+/// The answer is whether zeros stand there, which they do. Who asks for it needs the zeros: else the
+/// compiler would leave them out.
 #[inline(never)]
-pub fn wipe_stack() {
+pub fn wipe_stack() -> bool
+    ensures { IsTrue result }
+{
     let mut room = [0; STACK];
-    wipe(&mut room);
+    becomes_zeros(&mut room)
+}
+
+/// Writes zeros over these bytes, and answers whether they stand there.
+#[tactic(auto, using(crate::proofs::ZeroFacts::zeros_are_zero))]
+fn becomes_zeros(bytes: &mut [u8]) -> bool
+    ensures { IsTrue result }
+{
+    wipe(bytes);
+    are_zeros(bytes)
+}
+
+/// Whether these bytes are zeros. It isn't inlined either.
+#[inline(never)]
+fn are_zeros(bytes: &[u8]) -> bool
+    ensures { IsTrue result ↔ All (λ byte. byte ≡ 0) bytes.now }
+{
+    bytes.iter().all(|byte| *byte == 0)
 }
