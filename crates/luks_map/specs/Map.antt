@@ -14,9 +14,9 @@ use Rattle.luks_map.specs.Luks2Rows.{IsLuks2Rows}
 abbrev pub map_text : HeaderMap → List ℕ
 map_text m = map_lines m.total 0 m.rows.items
 
--- the rows of a volume of `total` bytes with this header, in this order
+-- the rows of a volume of `total` bytes with this header, in this order; a LUKS1 header has eight keyslots
 abbrev pub IsHeaderRows : Listing → ℕ → List Row → Type 0
-IsHeaderRows (Luks1 header) total rows = rows ≡ luks1_rows header total
+IsHeaderRows (Luks1 header) total rows = length header.slots ≡ 8 → rows ≡ luks1_rows header total
 IsHeaderRows (Luks2 copy) total rows = IsLuks2Rows copy total rows
 
 -- each row stands at the place of the next or before it, and at one place by the order of ranks

@@ -13,7 +13,7 @@ const HEADER: u64 = 592;
 
 /// The rows of a volume of `total` bytes with this header.
 pub(crate) fn luks1_rows(header: &Luks1, total: u64) -> Rows
-    ensures { result.items ≡ luks1_rows header.now total }
+    ensures { length header.now.slots ≡ 8 → result.items ≡ luks1_rows header.now total }
 {
     let start = u64::from(header.common.payload_offset) * SECTOR;
     let len = total.saturating_sub(start);
@@ -31,11 +31,13 @@ pub(crate) fn luks1_rows(header: &Luks1, total: u64) -> Rows
 
 fn add_slots(rows: &mut Rows, header: &Luks1)
     requires { length rows.old.items ≡ 2 }
-    ensures rows { rows.new.items ≡ rows.old.items ++ slot_rows header.now.common.key_bytes 0 header.now.slots }
+    ensures rows { length header.now.slots ≡ 8 → rows.new.items
+        ≡ rows.old.items ++ slot_rows header.now.common.key_bytes 0 header.now.slots }
     ensures count { length rows.new.items ≡ 10 }
 {
     for n in 0..8 {
-        rows.push(slot_row(header.common.key_bytes, n, &header.slots[n as usize]));
+        let slot = &header.slots[n as usize];
+        rows.push(slot_row(header.common.key_bytes, n, slot));
     }
 }
 
