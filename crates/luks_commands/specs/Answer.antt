@@ -23,13 +23,14 @@ use Rattle.luks_rebuilding.specs.declared.rebuild_fault.RebuildFault.TheVariants
 use Rattle.luks_rebuilding.specs.FaultTexts.{rebuild_fault_text}
 use Rattle.luks_signatures.specs.UseTexts.{use_text}
 use Rattle.luks_commands.specs.declared.answers.Answer.{Answer}
-use Rattle.luks_commands.specs.declared.answers.Answer.TheVariants.{Accepted, Listed, Json, Opens, Closed, NoneOpens, Done, Refused, DeviceFault, NoMemory}
+use Rattle.luks_commands.specs.declared.answers.Answer.TheVariants.{Accepted, Listed, ListedFully, Mapped, Json, Opens, Closed, NoneOpens, Done, Refused, DeviceFault, NoMemory}
 use Rattle.luks_commands.specs.declared.answers.Refusal.{Refusal}
 use Rattle.luks_commands.specs.declared.answers.Refusal.TheVariants as refusal
 use Rattle.luks_commands.specs.declared.answers.Status.{Status}
 use Rattle.luks_commands.specs.declared.answers.Status.TheVariants as status
 use Rattle.luks_commands.specs.declared.inputs.InputFault.{InputFault}
 use Rattle.luks_commands.specs.declared.inputs.InputFault.TheVariants.{Absent, Unreadable, NoMemory as NoMemoryToRead}
+use Rattle.luks_map.specs.Map.{map_text}
 use Rattle.luks_show.specs.Listed.{listing_text}
 pub use Rattle.luks_show.specs.Texts.{copies_text, line}
 use Rattle.luks_commands.specs.Checked.{status_of}
@@ -59,6 +60,8 @@ refusal_text (refusal.OtherUse found) = codes "OtherUse(" ++ use_text found ++ c
 abbrev pub line_of : Answer → Option (List ℕ)
 line_of (Accepted version areas) = Some (accepted_line version areas)
 line_of (Listed listing) = listing_text listing
+line_of (ListedFully listing) = listing_text listing.0
+line_of (Mapped map) = Some (map_text map)
 line_of (Json text) = Some (line (string_bytes text))
 line_of (Opens n) = Some (codes "slot " ++ decimal n ++ line (codes " opens"))
 line_of (Closed n) = Some (codes "slot " ++ decimal n ++ line (codes " does not open"))
@@ -74,6 +77,8 @@ line_of NoMemory = Some (line (codes "no memory"))
 abbrev pub answer_status : Answer → Status
 answer_status (Accepted version areas) = status_of version
 answer_status (Listed listing) = status.Done
+answer_status (ListedFully listing) = status.Done
+answer_status (Mapped map) = status.Done
 answer_status (Json text) = status.Done
 answer_status (Opens n) = status.Done
 answer_status (Closed n) = status.Refused

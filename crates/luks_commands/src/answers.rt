@@ -9,9 +9,10 @@ use crate::printer::{Printer, Unprinted};
 use luks_converting::ConvertFault;
 use luks_edit::EditFault;
 use luks_formatting::FormatFault;
+use luks_map::HeaderMap;
 use luks_reading::{CheckFault, Copies, OpenFault, Version};
 use luks_rebuilding::RebuildFault;
-use luks_show::{Listing, copies_name};
+use luks_show::{FullListing, Listing, copies_name};
 use luks_signatures::OtherUse;
 use std::fmt;
 use std::io::Write;
@@ -83,6 +84,10 @@ pub enum Answer {
     },
     /// The header is shown, line by line.
     Listed(Listing),
+    /// The header is shown, line by line, with all that they may tell.
+    ListedFully(FullListing),
+    /// The header's areas are shown.
+    Mapped(HeaderMap),
     /// The header is shown as this JSON object.
     Json(String),
     /// The passphrase opens the keyslot of this number.
@@ -118,6 +123,8 @@ impl fmt::Display for Answer {
                 writeln!(f, "accepted luks2 {name} seqid {seqid} areas {areas}")
             }
             Answer::Listed(listing) => write!(f, "{listing}"),
+            Answer::ListedFully(listing) => write!(f, "{listing}"),
+            Answer::Mapped(map) => write!(f, "{map}"),
             Answer::Json(text) => writeln!(f, "{text}"),
             Answer::Opens(n) => writeln!(f, "slot {n} opens"),
             Answer::Closed(n) => writeln!(f, "slot {n} does not open"),
@@ -148,7 +155,8 @@ impl Answer {
                 Copies::InStep => Status::Done,
                 _ => Status::NotInStep,
             },
-            Answer::Listed(_) | Answer::Json(_) => Status::Done,
+            Answer::Listed(_) | Answer::ListedFully(_) => Status::Done,
+            Answer::Mapped(_) | Answer::Json(_) => Status::Done,
             Answer::Opens(_) | Answer::Done(_) => Status::Done,
             Answer::Closed(_) | Answer::NoneOpens | Answer::Refused(_) => Status::Refused,
             Answer::DeviceFault | Answer::NoMemory => Status::Fault,

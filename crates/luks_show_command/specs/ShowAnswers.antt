@@ -1,5 +1,5 @@
 -- What `show` may answer.
-use Rattle.std.specs.Prelude.{◌≡◌, ℕ, ◌+◌, List, Result, Ok, Err, ⊤, string_bytes}
+use Rattle.std.specs.Prelude.{◌≡◌, ℕ, ◌+◌, List, length, Result, Ok, Err, ⊤, string_bytes}
 use Rattle.luks_area.specs.First.{IsLeast}
 use Rattle.luks_area.specs.Ranges.{part}
 use Rattle.luks1_header.specs.Header1.{IsLuks1}
@@ -14,11 +14,13 @@ use Rattle.luks_request.specs.declared.request.Command.TheVariants as command
 use Rattle.luks_request.specs.declared.request.ShowAs.{ShowAs}
 use Rattle.luks_request.specs.declared.request.ShowAs.TheVariants as form
 use Rattle.luks_commands.specs.declared.answers.Answer.{Answer}
-use Rattle.luks_commands.specs.declared.answers.Answer.TheVariants.{Listed, Json, Refused, DeviceFault, NoMemory}
+use Rattle.luks_commands.specs.declared.answers.Answer.TheVariants.{Listed, ListedFully, Mapped, Json, Refused, DeviceFault, NoMemory}
 use Rattle.luks_commands.specs.declared.answers.Refusal.TheVariants.{Check}
 use Rattle.luks_commands.specs.declared.inputs.InputFault.{InputFault}
 use Rattle.luks_show.specs.declared.listing.Listing.{Listing}
 use Rattle.luks_show.specs.declared.listing.Listing.TheVariants.{Luks1, Luks2}
+use Rattle.luks_map.specs.declared.map.HeaderMap.{HeaderMap}
+use Rattle.luks_map.specs.Map.{IsMap}
 use Rattle.luks_show_json.specs.JsonText.{IsJsonText}
 use Rattle.luks_commands.specs.Answer.{unread_answer}
 
@@ -60,6 +62,12 @@ pub record IsShownAsJson (v : List ℕ) (text : List ℕ) : Type 0 where
   pub shown : IsShown v listing
   pub is : IsJsonText listing text
 
+-- nothing refuses it, and this is the map of what is shown and of the volume's length
+pub record IsShownAsMap (v : List ℕ) (m : HeaderMap) : Type 0 where
+  pub listing : Listing
+  pub shown : IsShown v listing
+  pub is : IsMap listing (length v) m
+
 -- ---- the answer
 
 -- of the volume `v`, while the device's count of failures went from `before` to `after`: `device fault`
@@ -70,6 +78,22 @@ IsListedAnswer tells v before after (Refused (Check f)) = (after ≡ before) × 
 IsListedAnswer tells v before after DeviceFault = after ≡ before + 1
 IsListedAnswer tells v before after NoMemory = (after ≡ before) × (tells → NeedsMetadata v)
 IsListedAnswer tells v before after a = ⊥
+
+-- with all that its lines may tell: the same but for the form
+abbrev pub IsFullAnswer : Type 0 → List ℕ → ℕ → ℕ → Answer → Type 0
+IsFullAnswer tells v before after (ListedFully listing) = (after ≡ before) × (tells → IsShown v listing.0)
+IsFullAnswer tells v before after (Refused (Check f)) = (after ≡ before) × (tells → IsFirstShowFault v f)
+IsFullAnswer tells v before after DeviceFault = after ≡ before + 1
+IsFullAnswer tells v before after NoMemory = (after ≡ before) × (tells → NeedsMetadata v)
+IsFullAnswer tells v before after a = ⊥
+
+-- as a map: the same but for the form
+abbrev pub IsMapAnswer : Type 0 → List ℕ → ℕ → ℕ → Answer → Type 0
+IsMapAnswer tells v before after (Mapped m) = (after ≡ before) × (tells → IsShownAsMap v m)
+IsMapAnswer tells v before after (Refused (Check f)) = (after ≡ before) × (tells → IsFirstShowFault v f)
+IsMapAnswer tells v before after DeviceFault = after ≡ before + 1
+IsMapAnswer tells v before after NoMemory = (after ≡ before) × (tells → NeedsMetadata v)
+IsMapAnswer tells v before after a = ⊥
 
 -- as JSON: the same but for the form, and that the object takes memory of either version
 abbrev pub IsJsonAnswer : Type 0 → List ℕ → ℕ → ℕ → Answer → Type 0
@@ -86,14 +110,30 @@ IsAsJson (Listed listing) NoMemory = ⊤
 IsAsJson (Listed listing) a = ⊥
 IsAsJson answer a = a ≡ answer
 
--- what an answer by lines becomes in this form
-abbrev pub IsShownAs : ShowAs → Answer → Answer → Type 0
-IsShownAs form.Lines answer a = a ≡ answer
-IsShownAs form.Json answer a = IsAsJson answer a
+-- what a listing becomes with all that its lines may tell. Another answer stays
+abbrev pub IsInFull : Answer → Answer → Type 0
+IsInFull (Listed listing) (ListedFully full) = full.0 ≡ listing
+IsInFull (Listed listing) a = ⊥
+IsInFull answer a = a ≡ answer
+
+-- what a listing of a volume of `total` bytes becomes as a map. Another answer stays
+abbrev pub IsAsMap : ℕ → Answer → Answer → Type 0
+IsAsMap total (Listed listing) (Mapped m) = IsMap listing total m
+IsAsMap total (Listed listing) a = ⊥
+IsAsMap total answer a = a ≡ answer
+
+-- what an answer by lines, of a volume of `total` bytes, becomes in this form
+abbrev pub IsShownAs : ShowAs → ℕ → Answer → Answer → Type 0
+IsShownAs form.Lines total answer a = a ≡ answer
+IsShownAs form.All total answer a = IsInFull answer a
+IsShownAs form.Map total answer a = IsAsMap total answer a
+IsShownAs form.Json total answer a = IsAsJson answer a
 
 -- in this form
 abbrev pub IsShowAnswer : ShowAs → Type 0 → List ℕ → ℕ → ℕ → Answer → Type 0
 IsShowAnswer form.Lines tells v before after a = IsListedAnswer tells v before after a
+IsShowAnswer form.All tells v before after a = IsFullAnswer tells v before after a
+IsShowAnswer form.Map tells v before after a = IsMapAnswer tells v before after a
 IsShowAnswer form.Json tells v before after a = IsJsonAnswer tells v before after a
 
 -- the same of a volume that may not be there

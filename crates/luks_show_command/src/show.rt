@@ -5,12 +5,13 @@ ghost use Rattle.luks_area.specs.Device.{IsUnchanged};
 ghost use Rattle.luks_commands.specs.Answer.{answer_status, Prints};
 ghost use Rattle.luks_commands.specs.Exit.{IsExitStatus};
 ghost use Rattle.luks_commands.specs.Files.{KeepsVolume};
-ghost use Rattle.luks_show_command.specs.ShowAnswers.{AnswersShow, IsAsJson, IsListedAnswer, IsShownAs};
+ghost use Rattle.luks_show_command.specs.ShowAnswers.{AnswersShow, IsAsJson, IsAsMap, IsInFull, IsListedAnswer, IsShownAs};
 
 use luks_commands::{Answer, InputFault, Printer, Status, end, refused, unread};
+use luks_map::HeaderMap;
 use luks_reading::{CheckFault, Device, Header, Luks1, read_header};
 use luks_request::ShowAs;
-use luks_show::Listing;
+use luks_show::{FullListing, Listing};
 use luks_show_json::json_text;
 use std::alloc::Global;
 use std::io::Write;
@@ -51,20 +52,47 @@ fn show_volume<D: Device, E: Write>(
     ensures answers { AnswersShow form D.tells D.bytes D.failed volume.old volume.new result }
 {
     match volume {
-        Ok(device) => shown_as(alloc, form, show_device(alloc, device, name, err)),
+        Ok(device) => {
+            let answer = show_device(alloc, device, name, err);
+            shown_as(alloc, form, device.len(), answer)
+        }
         Err(fault) => unread(*fault, name, err),
     }
 }
 
-/// The answer in this form, where it was one for the lines.
-fn shown_as(alloc: Global, form: ShowAs, answer: Answer) -> Answer
-    ensures answers { IsShownAs form answer result }
+/// The answer in this form, of a volume of `total` bytes, where it was one for the lines.
+fn shown_as(alloc: Global, form: ShowAs, total: u64, answer: Answer) -> Answer
+    ensures answers { IsShownAs form total answer result }
     ensures kinds { answer_status answer ≢ Status.NotInStep
         → answer_status result ≢ Status.NotInStep }
 {
     match form {
         ShowAs::Lines => answer,
+        ShowAs::All => in_full(answer),
+        ShowAs::Map => as_map(total, answer),
         ShowAs::Json => as_json(alloc, answer),
+    }
+}
+
+fn in_full(answer: Answer) -> Answer
+    ensures answers { IsInFull answer result }
+    ensures kinds { answer_status answer ≢ Status.NotInStep
+        → answer_status result ≢ Status.NotInStep }
+{
+    match answer {
+        Answer::Listed(listing) => Answer::ListedFully(FullListing(listing)),
+        answer => answer,
+    }
+}
+
+fn as_map(total: u64, answer: Answer) -> Answer
+    ensures answers { IsAsMap total answer result }
+    ensures kinds { answer_status answer ≢ Status.NotInStep
+        → answer_status result ≢ Status.NotInStep }
+{
+    match answer {
+        Answer::Listed(listing) => Answer::Mapped(HeaderMap::of(&listing, total)),
+        answer => answer,
     }
 }
 

@@ -1,0 +1,4 @@
+mod ColumnFacts
+mod OrderFacts
+mod LineFacts
+mod RowFacts

@@ -1,0 +1,6 @@
+pub mod Texts
+pub mod Rows
+pub mod Luks1Rows
+pub mod Luks2Rows
+pub mod Drawing
+pub mod Map
