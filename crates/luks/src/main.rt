@@ -15,12 +15,15 @@ use clap::error::ErrorKind as FaultKind;
 use hints::{Ended, tell, tell_ended, tell_overwritten, use_before};
 use luks_area::FileDevice;
 use luks_cache::CachedDevice;
-use luks_cli::{CountingPrinter, InputFault, Inputs, Line, Reason, execute, first_bytes};
+use luks_cli::{
+    CountingPrinter, InputFault, Inputs, Line, Reason, execute, first_bytes, first_line,
+};
 use luks_explain::Fault;
-use luks_line::{Asked, parse};
+use luks_line::{Asked, Manner, parse};
 use luks_lock::{FOLDER, LazyFile, LockedDevice, OpenFault, is_same_file, open_locked};
+use std::alloc::Global;
 use std::fs::File;
-use std::io::{ErrorKind, Write};
+use std::io::{ErrorKind, Read, Write};
 use std::process::ExitCode;
 use std::rt::{Clock, Env, Files};
 use std::{env, io};
@@ -29,7 +32,7 @@ use typing::tell_typing;
 /// The volume of a command line: its file, measured under its lock, and its first bytes remembered.
 type Volume = CachedDevice<LockedDevice<FileDevice<File>>>;
 
-/// The most bytes that a passphrase has; of a longer one `first_bytes` reads one more.
+/// The most bytes that a passphrase has; of a longer one `first_bytes` and `first_line` give one more.
 const LONGEST_PASSPHRASE: usize = 65536;
 
 /// The exit status after a command line that can't be read.
@@ -75,7 +78,7 @@ fn run_words<R: AllocGlobal + Clock + Files<File = File> + Input + Print + Eprin
     words: &[&str],
 ) -> io::Result<u8> {
     match parse(rt.alloc(), words) {
-        Ok(Asked::Volume(line, _)) => run_line(rt, &line),
+        Ok(Asked::Volume(line, manner)) => run_line(rt, &line, manner),
         Ok(Asked::Explain(Some(fault))) => explain(rt, fault),
         Ok(Asked::Explain(None)) => list_faults(rt),
         Err(fault) => tell_usage(rt, &fault),
@@ -110,8 +113,9 @@ fn hold_standard_numbers<R: Files<File = File>>(rt: &R) -> io::Result<[File; 3]>
 fn run_line<R: AllocGlobal + Clock + Files<File = File> + Input + Print + Eprint>(
     rt: &R,
     line: &Line<'_>,
+    manner: Manner,
 ) -> io::Result<u8> {
-    let passphrases = Passphrases::read(rt, line);
+    let passphrases = Passphrases::read(rt, line, manner);
     let standing = if passphrases.end_command() {
         None
     } else {
@@ -175,8 +179,12 @@ struct Passphrases {
 impl Passphrases {
     /// Reads the file of the passphrase, and then that of the new one. Where the first ends the
     /// command, the second isn't opened.
-    fn read<R: AllocGlobal + Files<File = File> + Input + Eprint>(rt: &R, line: &Line<'_>) -> Self {
-        let old = passphrase(rt, line.passphrase());
+    fn read<R: AllocGlobal + Files<File = File> + Input + Eprint>(
+        rt: &R,
+        line: &Line<'_>,
+        manner: Manner,
+    ) -> Self {
+        let old = passphrase(rt, line.passphrase(), Part::of(manner.passphrase_line));
         if ends_command(&old) {
             return Passphrases {
                 old,
@@ -185,7 +193,7 @@ impl Passphrases {
         }
         Passphrases {
             old,
-            new: passphrase(rt, line.new_passphrase()),
+            new: passphrase(rt, line.new_passphrase(), Part::of(manner.new_line)),
         }
     }
 
@@ -205,20 +213,42 @@ fn ends_command(read: &Result<Vec<u8>, InputFault>) -> bool {
     }
 }
 
+/// What of its file is a passphrase.
+#[derive(Debug, Clone, Copy, PartialEq, Eq)]
+enum Part {
+    Whole,
+    FirstLine,
+}
+
+impl Part {
+    fn of(line: bool) -> Part {
+        if line { Part::FirstLine } else { Part::Whole }
+    }
+
+    /// The bytes of the part, at most one more than a passphrase has.
+    fn read<F: Read>(self, alloc: Global, file: &mut F) -> Result<Vec<u8>, InputFault> {
+        match self {
+            Part::Whole => first_bytes(alloc, file),
+            Part::FirstLine => first_line(alloc, file),
+        }
+    }
+}
+
 /// What the file of this name has of a passphrase; `-` is standard input.
 fn passphrase<R: AllocGlobal + Files<File = File> + Input + Eprint>(
     rt: &R,
     name: Option<&str>,
+    part: Part,
 ) -> Result<Vec<u8>, InputFault> {
     let Some(path) = name else {
         return Err(InputFault::Absent);
     };
     if path == "-" {
-        tell_typing(rt);
-        return first_bytes(rt.alloc(), &mut rt.reader());
+        tell_typing(rt, part == Part::FirstLine);
+        return part.read(rt.alloc(), &mut rt.reader());
     }
     let mut file = File::open(rt, path)?;
-    first_bytes(rt.alloc(), &mut file)
+    part.read(rt.alloc(), &mut file)
 }
 
 /// What was read of a file, to be read once more.

@@ -9,7 +9,7 @@ mod other_use;
 
 pub use execution::execute;
 pub use luks_commands::{
-    CountingPrinter, InputFault, Inputs, Printer, Reason, Unprinted, first_bytes,
+    CountingPrinter, InputFault, Inputs, Printer, Reason, Unprinted, first_bytes, first_line,
 };
 pub use luks_request::{
     Command, Converting, EditRequest, Editing, Line, Making, NewVersion, Rebuilding, ShowAs,
