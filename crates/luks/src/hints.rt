@@ -1,6 +1,6 @@
-//! What is said on standard error once a command has ended, and that the command itself doesn't look
+//! What is noted for standard error once a command has ended, and that the command itself doesn't look
 //! for. The volume is opened anew for it, to be read; where it can't be, or memory is refused, nothing is
-//! said.
+//! noted.
 ghost use Rattle.std.specs.Prelude.{◌≡◌, IfSome};
 ghost use Rattle.luks_cache.specs.Cached.{cached_failures};
 
@@ -16,6 +16,7 @@ use luks_rebuilding::Which;
 use luks_signatures::first_use;
 use std::alloc::Global;
 use std::fs::File;
+use std::io::Write;
 use std::rt::{Clock, Files};
 
 /// How a command has ended.
@@ -56,64 +57,65 @@ pub(crate) fn use_before<R: AllocGlobal + Clock + Files<File = File>>(
     standing_use(rt.alloc(), &mut reopened(rt, line.volume)?)
 }
 
-/// Says that an edit that is done has written over this use of the disk.
-pub(crate) fn tell_overwritten<R: AllocGlobal + Eprint>(
-    rt: &R,
+/// Notes that an edit that is done has written over this use of the disk.
+pub(crate) fn tell_overwritten(
     volume: &str,
     standing: Option<OtherUse>,
     ended: &Ended<'_>,
+    notes: &mut Vec<u8>,
 ) {
     if let (Some(found), 0) = (standing, ended.status) {
-        let mut err = Vec::new(rt.alloc());
-        note_overwritten(found, volume, &mut err);
-        tell(rt, err.as_slice());
+        note_overwritten(found, volume, notes);
     }
 }
 
-/// Says all else that a person is to know of how the command has ended; at last, of a refusal, what
+/// Notes all else that a person is to know of how the command has ended; at last, of a refusal, what
 /// tells more of it. It isn't inlined, so that room for its buffers isn't taken from the stack of the
 /// command, which runs before it.
 #[inline(never)]
-pub(crate) fn tell_ended<R: AllocGlobal + Clock + Files<File = File> + Eprint>(
+pub(crate) fn tell_ended<R: AllocGlobal + Clock + Files<File = File>>(
     rt: &R,
     line: &Line<'_>,
     ended: &Ended<'_>,
+    notes: &mut Vec<u8>,
 ) {
     let refused = refusing(ended.answer);
     if refused == Some(Fault::NotLuks) {
-        tell_standing(rt, line.volume);
+        tell_standing(rt, line.volume, notes);
     }
-    tell_more(rt, line, ended);
+    tell_more(rt, line, ended, notes);
     if let Some(fault) = refused {
         let name = fault.name();
-        let _ = eprintln!(rt; "luks: luks explain {name} says what to try next");
+        let _ = writeln!(notes, "luks: luks explain {name} says what to try next");
     } else if ended.is_silent && ended.answer == "no memory\n" {
         let volume = line.volume;
-        let _ = eprintln!(rt;
+        let _ = writeln!(
+            notes,
             "luks: {volume}: memory was refused: end other programs, or try it on a machine with more"
         );
     }
 }
 
-/// Says what formatting, converting and rebuilding have left of what stood there before, where the
+/// Notes what formatting, converting and rebuilding have left of what stood there before, where the
 /// metadata of a volume is whole of which no header counts, what else its disk is used for where only
 /// the second copy is sound, of which metadata a header was made, and that there is no keyslot.
-fn tell_more<R: AllocGlobal + Clock + Files<File = File> + Eprint>(
+fn tell_more<R: AllocGlobal + Clock + Files<File = File>>(
     rt: &R,
     line: &Line<'_>,
     ended: &Ended<'_>,
+    notes: &mut Vec<u8>,
 ) {
     match (line.command, ended.status) {
-        (Command::Format(_), 0) => tell_leftovers(rt, line.volume),
-        (Command::Convert(converting), 0) => tell_leftovers(rt, converting.target),
+        (Command::Format(_), 0) => tell_leftovers(rt, line.volume, notes),
+        (Command::Convert(converting), 0) => tell_leftovers(rt, converting.target, notes),
         (Command::Rebuild(rebuilding), 0) => {
-            tell_taken(rt, line.volume, rebuilding.second);
-            tell_leftovers(rt, rebuilding.target);
+            tell_taken(rt, line.volume, rebuilding.second, notes);
+            tell_leftovers(rt, rebuilding.target, notes);
         }
-        (Command::Check { data_: _ }, 3) => tell_other_use(rt, line.volume),
-        (Command::Check { data_: _ } | Command::Show(_), 1) => tell_whole(rt, line.volume),
+        (Command::Check { data_: _ }, 3) => tell_other_use(rt, line.volume, notes),
+        (Command::Check { data_: _ } | Command::Show(_), 1) => tell_whole(rt, line.volume, notes),
         (Command::Open { .. }, 1) if ended.answer == "no slot opens\n" => {
-            tell_no_keyslots(rt, line.volume)
+            tell_no_keyslots(rt, line.volume, notes)
         }
         _ => {}
     }
@@ -128,79 +130,93 @@ fn reopened<R: AllocGlobal + Clock + Files<File = File>>(rt: &R, volume: &str) -
     CachedDevice::new(rt.alloc(), device).ok()
 }
 
-/// Says by its signature what stands on a volume that isn't of LUKS.
-fn tell_standing<R: AllocGlobal + Clock + Files<File = File> + Eprint>(rt: &R, volume: &str) {
+/// Notes by its signature what stands on a volume that isn't of LUKS.
+fn tell_standing<R: AllocGlobal + Clock + Files<File = File>>(
+    rt: &R,
+    volume: &str,
+    notes: &mut Vec<u8>,
+) {
     let Some(mut device) = reopened(rt, volume) else {
         return;
     };
     let len = device.len();
     if let Ok(Some(found)) = first_use(&mut device, len) {
-        let _ = eprintln!(rt; "luks: {volume}: what stands there is {found}");
+        let _ = writeln!(notes, "luks: {volume}: what stands there is {found}");
     }
 }
 
-/// Says in which copy the metadata of a volume is whole of which no header counts.
-fn tell_whole<R: AllocGlobal + Clock + Files<File = File> + Eprint>(rt: &R, volume: &str) {
+/// Notes in which copy the metadata of a volume is whole of which no header counts.
+fn tell_whole<R: AllocGlobal + Clock + Files<File = File>>(
+    rt: &R,
+    volume: &str,
+    notes: &mut Vec<u8>,
+) {
     let Some(mut device) = reopened(rt, volume) else {
         return;
     };
-    let mut err = Vec::new(rt.alloc());
-    note_whole(rt.alloc(), &mut device, &mut err);
-    tell(rt, err.as_slice());
+    note_whole(rt.alloc(), &mut device, notes);
 }
 
-/// Says what else the disk of a volume is used for.
-fn tell_other_use<R: AllocGlobal + Clock + Files<File = File> + Eprint>(rt: &R, volume: &str) {
+/// Notes what else the disk of a volume is used for.
+fn tell_other_use<R: AllocGlobal + Clock + Files<File = File>>(
+    rt: &R,
+    volume: &str,
+    notes: &mut Vec<u8>,
+) {
     let Some(mut device) = reopened(rt, volume) else {
         return;
     };
-    let mut err = Vec::new(rt.alloc());
-    note_other_use(rt.alloc(), &mut device, volume, &mut err);
-    tell(rt, err.as_slice());
+    note_other_use(rt.alloc(), &mut device, volume, notes);
 }
 
-/// Says of which metadata of the volume a header was made, that of second copies alone or of any.
-fn tell_taken<R: AllocGlobal + Clock + Files<File = File> + Eprint>(
+/// Notes of which metadata of the volume a header was made, that of second copies alone or of any.
+fn tell_taken<R: AllocGlobal + Clock + Files<File = File>>(
     rt: &R,
     volume: &str,
     second: bool,
+    notes: &mut Vec<u8>,
 ) {
     let Some(mut device) = reopened(rt, volume) else {
         return;
     };
     let which = if second { Which::Second } else { Which::Any };
-    let mut err = Vec::new(rt.alloc());
-    note_taken(rt.alloc(), &mut device, which, &mut err);
-    tell(rt, err.as_slice());
+    note_taken(rt.alloc(), &mut device, which, notes);
 }
 
-/// Says that a volume has no keyslot.
-fn tell_no_keyslots<R: AllocGlobal + Clock + Files<File = File> + Eprint>(rt: &R, volume: &str) {
+/// Notes that a volume has no keyslot.
+fn tell_no_keyslots<R: AllocGlobal + Clock + Files<File = File>>(
+    rt: &R,
+    volume: &str,
+    notes: &mut Vec<u8>,
+) {
     let Some(mut device) = reopened(rt, volume) else {
         return;
     };
-    let mut err = Vec::new(rt.alloc());
-    note_no_keyslots(rt.alloc(), &mut device, volume, &mut err);
-    tell(rt, err.as_slice());
+    note_no_keyslots(rt.alloc(), &mut device, volume, notes);
 }
 
-/// Says what was left where a header was made of what stood there before, or why it wasn't looked for.
-fn tell_leftovers<R: AllocGlobal + Clock + Files<File = File> + Eprint>(rt: &R, volume: &str) {
+/// Notes what was left where a header was made of what stood there before, or why it wasn't looked for.
+fn tell_leftovers<R: AllocGlobal + Clock + Files<File = File>>(
+    rt: &R,
+    volume: &str,
+    notes: &mut Vec<u8>,
+) {
     let Some(mut device) = reopened(rt, volume) else {
         return;
     };
-    let mut err = Vec::new(rt.alloc());
-    let looked = note_front(rt.alloc(), &mut device, volume, &mut err);
-    tell(rt, err.as_slice());
+    let looked = note_front(rt.alloc(), &mut device, volume, notes);
     let why = match looked {
         Ok(()) => return,
         Err(FrontFault::Device) => "reading failed",
         Err(FrontFault::Memory) => "memory was refused",
     };
-    let _ = eprintln!(rt; "luks: {volume}: what was left there wasn't looked for: {why}");
+    let _ = writeln!(
+        notes,
+        "luks: {volume}: what was left there wasn't looked for: {why}"
+    );
 }
 
-/// Says to `err` what was left on the volume of this name. Where no header counts it says nothing.
+/// Notes to `err` what was left on the volume of this name. Where no header counts it says nothing.
 fn note_front(
     alloc: Global,
     device: &mut Volume,

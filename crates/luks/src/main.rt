@@ -6,6 +6,7 @@
 #![tactic(auto)]
 
 mod hints;
+mod outcome;
 mod typing;
 
 ghost use Rattle.std.specs.Prelude.{◌≡◌, IfOk};
@@ -15,12 +16,11 @@ use clap::error::ErrorKind as FaultKind;
 use hints::{Ended, tell, tell_ended, tell_overwritten, use_before};
 use luks_area::FileDevice;
 use luks_cache::CachedDevice;
-use luks_cli::{
-    CountingPrinter, InputFault, Inputs, Line, Reason, execute, first_bytes, first_line,
-};
+use luks_cli::{InputFault, Inputs, Line, OtherUse, Reason, first_bytes, first_line};
 use luks_explain::Fault;
 use luks_line::{Asked, Manner, parse};
 use luks_lock::{FOLDER, LazyFile, LockedDevice, OpenFault, is_same_file, open_locked};
+use outcome::{Outcome, outcome_of};
 use std::alloc::Global;
 use std::fs::File;
 use std::io::{ErrorKind, Read, Write};
@@ -121,7 +121,8 @@ fn run_line<R: AllocGlobal + Clock + Files<File = File> + Input + Print + Eprint
     } else {
         use_before(rt, line)
     };
-    let Volumes { volume, target } = open_volumes(rt, line, &passphrases);
+    let mut noticed = Vec::new(rt.alloc());
+    let Volumes { volume, target } = open_volumes(rt, line, &passphrases, &mut noticed);
     let mut inputs = Inputs {
         volume,
         target,
@@ -129,24 +130,46 @@ fn run_line<R: AllocGlobal + Clock + Files<File = File> + Input + Print + Eprint
         new_passphrase: reader(&passphrases.new),
         random: random(rt, line),
     };
-    let mut out = CountingPrinter::new(Vec::new(rt.alloc()));
-    let mut err = Vec::new(rt.alloc());
-    let status = execute(rt.alloc(), line, &mut inputs, &mut out, &mut err);
-    let printed = io::writer(rt).write_all(out.writer.as_slice());
-    if has_changed(&inputs.volume) {
-        let volume = line.volume;
-        let _ = eprintln!(rt;
-            "luks: {volume}: another program wrote it meanwhile, nothing was written"
-        );
-    } else {
-        tell(rt, err.as_slice());
+    let mut outcome = outcome_of(rt.alloc(), line, manner, &mut inputs);
+    let is_noted = outcome.is_noted(manner);
+    if is_noted {
+        tell(rt, noticed.as_slice());
     }
+    let printed = outcome.print_lines(rt);
+    let has_changed = has_changed(&inputs.volume);
     drop(inputs);
-    let ended = Ended::new(status, out.writer.as_slice(), err.is_empty());
-    tell_overwritten(rt, line.volume, standing, &ended);
-    tell_ended(rt, line, &ended);
+    note_ended(rt, line, standing, has_changed, &mut outcome);
+    if is_noted {
+        tell(rt, outcome.notes.as_slice());
+    }
     printed?;
-    Ok(status)
+    outcome.print_object(rt, noticed.as_slice())
+}
+
+/// Notes what is to be known of how the command has ended, beside what it noted itself.
+fn note_ended<R: AllocGlobal + Clock + Files<File = File>>(
+    rt: &R,
+    line: &Line<'_>,
+    standing: Option<OtherUse>,
+    has_changed: bool,
+    outcome: &mut Outcome,
+) {
+    let is_silent = outcome.notes.is_empty();
+    if has_changed {
+        note_changed(line.volume, &mut outcome.notes);
+    }
+    let ended = Ended::new(outcome.status, outcome.lines.as_slice(), is_silent);
+    tell_overwritten(line.volume, standing, &ended, &mut outcome.notes);
+    tell_ended(rt, line, &ended, &mut outcome.notes);
+}
+
+/// Notes that an edit ended since another program had written the header, in place of what it noted.
+fn note_changed(volume: &str, notes: &mut Vec<u8>) {
+    notes.clear();
+    let _ = writeln!(
+        notes,
+        "luks: {volume}: another program wrote it meanwhile, nothing was written"
+    );
 }
 
 /// Prints what is said of a fault; that no fault has the name is a mistake in the words.
@@ -184,7 +207,8 @@ impl Passphrases {
         line: &Line<'_>,
         manner: Manner,
     ) -> Self {
-        let old = passphrase(rt, line.passphrase(), Part::of(manner.passphrase_line));
+        let part = Part::of(manner.passphrase_line);
+        let old = passphrase(rt, line.passphrase(), part, manner.quiet);
         if ends_command(&old) {
             return Passphrases {
                 old,
@@ -193,7 +217,12 @@ impl Passphrases {
         }
         Passphrases {
             old,
-            new: passphrase(rt, line.new_passphrase(), Part::of(manner.new_line)),
+            new: passphrase(
+                rt,
+                line.new_passphrase(),
+                Part::of(manner.new_line),
+                manner.quiet,
+            ),
         }
     }
 
@@ -239,12 +268,15 @@ fn passphrase<R: AllocGlobal + Files<File = File> + Input + Eprint>(
     rt: &R,
     name: Option<&str>,
     part: Part,
+    quiet: bool,
 ) -> Result<Vec<u8>, InputFault> {
     let Some(path) = name else {
         return Err(InputFault::Absent);
     };
     if path == "-" {
-        tell_typing(rt, part == Part::FirstLine);
+        if !quiet {
+            tell_typing(rt, part == Part::FirstLine);
+        }
         return part.read(rt.alloc(), &mut rt.reader());
     }
     let mut file = File::open(rt, path)?;
@@ -293,10 +325,11 @@ impl Volumes {
 /// Opens the volume, and then the target where the command writes beside it; neither where a
 /// passphrase ends the command, and no target where the volume can't be opened. Where the target is
 /// the volume itself, by whichever names, nothing is opened.
-fn open_volumes<R: AllocGlobal + Clock + Files<File = File> + Eprint>(
+fn open_volumes<R: AllocGlobal + Clock + Files<File = File>>(
     rt: &R,
     line: &Line<'_>,
     passphrases: &Passphrases,
+    notes: &mut Vec<u8>,
 ) -> Volumes
     ensures volume { IfOk result.volume (λ device. cached_failures device ≡ 0) }
     ensures target { IfOk result.target (λ device. cached_failures device ≡ 0) }
@@ -306,14 +339,14 @@ fn open_volumes<R: AllocGlobal + Clock + Files<File = File> + Eprint>(
     }
     let Some(path) = line.target() else {
         return Volumes {
-            volume: open_volume(rt, line.volume, line.writes()),
+            volume: open_volume(rt, line.volume, line.writes(), notes),
             target: Err(InputFault::Absent),
         };
     };
     if is_same_file(rt, line.volume, path) {
         return Volumes::unopened(InputFault::Unreadable(Reason::SameFile));
     }
-    let volume = open_volume(rt, line.volume, line.writes());
+    let volume = open_volume(rt, line.volume, line.writes(), notes);
     if volume.is_err() {
         return Volumes {
             volume,
@@ -322,31 +355,35 @@ fn open_volumes<R: AllocGlobal + Clock + Files<File = File> + Eprint>(
     }
     Volumes {
         volume,
-        target: open_volume(rt, path, true),
+        target: open_volume(rt, path, true, notes),
     }
 }
 
 /// The volume of this name, opened for reading, or for writing too, under its lock; what of the lock
-/// isn't held is said. Its first bytes are remembered, so that an edit, which looks at the header to
+/// isn't held is noted. Its first bytes are remembered, so that an edit, which looks at the header to
 /// know how many random bytes it takes and then to do it, reads it once.
-fn open_volume<R: AllocGlobal + Clock + Files<File = File> + Eprint>(
+fn open_volume<R: AllocGlobal + Clock + Files<File = File>>(
     rt: &R,
     volume: &str,
     writes: bool,
+    notes: &mut Vec<u8>,
 ) -> Result<Volume, InputFault>
     ensures { IfOk result (λ device. cached_failures device ≡ 0) }
 {
     match open_locked(rt, volume, writes, FOLDER) {
         Ok(device) => {
             for notice in device.lock().notices().iter().flatten() {
-                let _ = eprintln!(rt; "luks: {volume}: {notice}");
+                let _ = writeln!(notes, "luks: {volume}: {notice}");
             }
             CachedDevice::new(rt.alloc(), device).map_err(|_| InputFault::NoMemory)
         }
         Err(OpenFault::NoVolume) => Err(InputFault::Unreadable(Reason::NoVolume)),
         Err(OpenFault::Edited) => Err(InputFault::Unreadable(Reason::Edited)),
         Err(OpenFault::ReadOnly) => {
-            let _ = eprintln!(rt; "luks: {volume}: its file system or its device is read-only");
+            let _ = writeln!(
+                notes,
+                "luks: {volume}: its file system or its device is read-only"
+            );
             Err(InputFault::Unreadable(Reason::Other))
         }
         Err(OpenFault::File(error)) => Err(InputFault::from(error)),

@@ -9,10 +9,12 @@ mod other_use;
 
 pub use execution::execute;
 pub use luks_commands::{
-    CountingPrinter, InputFault, Inputs, Printer, Reason, Unprinted, first_bytes, first_line,
+    Answer, CountingPrinter, InputFault, Inputs, Printer, Reason, Unprinted, check, end,
+    first_bytes, first_line, open,
 };
 pub use luks_request::{
     Command, Converting, EditRequest, Editing, Line, Making, NewVersion, Rebuilding, ShowAs,
 };
 pub use luks_signatures::OtherUse;
+pub use luks_volume::Data;
 pub use other_use::{note_other_use, note_overwritten, standing_use};

@@ -35,11 +35,13 @@ pub fn run<D: Device, P: Printer, E: Write>(
     ensures answers { Prints (AnswersCheck D.tells D.bytes D.failed data_ volume.old volume.new)
         (P.failures out.old) (P.failures out.new) (P.printed out.old) (P.printed out.new) result }
 {
-    let answer = check_volume(alloc, volume, name, data_, err);
+    let answer = answer(alloc, volume, name, data_, err);
     end(&answer, out)
 }
 
-fn check_volume<D: Device, E: Write>(
+/// What is answered of the volume of this name, as `run` prints it; `err` gets what standard error
+/// says.
+pub fn answer<D: Device, E: Write>(
     alloc: Global,
     volume: &mut Result<D, InputFault>,
     name: &str,

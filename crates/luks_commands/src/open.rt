@@ -55,12 +55,14 @@ pub fn run<D: Device, R: Read, N: Read, P: Printer, E: Write>(
         (IsUnread inputs.old.passphrase) inputs.old.volume inputs.new.volume)
         (P.failures out.old) (P.failures out.new) (P.printed out.old) (P.printed out.new) result }
 {
-    let answer = open_volume(alloc, inputs, tried, err);
+    let answer = answer(alloc, inputs, tried, err);
     end(&answer, out)
 }
 
+/// What is answered of the passphrase and the volume, as `run` prints it; `err` gets what standard
+/// error says.
 #[tactic(auto, using(crate::proofs::FileFacts::keeps_same))]
-fn open_volume<D: Device, R: Read, N: Read, E: Write>(
+pub fn answer<D: Device, R: Read, N: Read, E: Write>(
     alloc: Global,
     inputs: &mut Inputs<D, R, N>,
     tried: &Tried<'_>,

@@ -3,13 +3,13 @@ use Rattle.luks_commands.proofs.EndFacts.{done_by, err_as, is_exit_status, not_i
 use Rattle.luks_commands.proofs.open.run.Goals as goal
 
 pub returns-clause-status : goal.returns-clause-status
-returns-clause-status g c = is_exit_status (answer_status c.open_volume-answer.result) _ (told c.open_volume-answer.result _ _ _ _ _ c.end.ensures)
+returns-clause-status g c = is_exit_status (answer_status c.answer-answer.result) _ (told c.answer-answer.result _ _ _ _ _ c.end.ensures)
 
 pub returns-clause-kinds : goal.returns-clause-kinds
-returns-clause-kinds g c = λ is. c.open_volume-answer.ensures.kinds (not_in_step_by (answer_status c.open_volume-answer.result) _ (told c.open_volume-answer.result _ _ _ _ _ c.end.ensures) is)
+returns-clause-kinds g c = λ is. c.answer-answer.ensures.kinds (not_in_step_by (answer_status c.answer-answer.result) _ (told c.answer-answer.result _ _ _ _ _ c.end.ensures) is)
 
 pub returns-clause-unread : goal.returns-clause-unread
-returns-clause-unread g c = err_as c.args.inputs.now.volume _ _ (λ apart is. apart (done_by (answer_status c.open_volume-answer.result) _ (told c.open_volume-answer.result _ _ _ _ _ c.end.ensures) is)) c.open_volume-answer.ensures.unread
+returns-clause-unread g c = err_as c.args.inputs.now.volume _ _ (λ apart is. apart (done_by (answer_status c.answer-answer.result) _ (told c.answer-answer.result _ _ _ _ _ c.end.ensures) is)) c.answer-answer.ensures.unread
 
 pub returns-clause-answers : goal.returns-clause-answers
-returns-clause-answers g c = record { answer = c.open_volume-answer.result; said = c.open_volume-answer.ensures.answers; printed = c.end.ensures }
+returns-clause-answers g c = record { answer = c.answer-answer.result; said = c.answer-answer.ensures.answers; printed = c.end.ensures }

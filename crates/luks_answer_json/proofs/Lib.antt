@@ -1,0 +1,3 @@
+mod PartsFacts
+mod RefusalFacts
+mod FloatFacts
