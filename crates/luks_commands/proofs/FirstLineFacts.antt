@@ -24,9 +24,9 @@ read_so x xs b is = ap (λ b. if b then x ∷ [] else x ∷ take_through 10 xs) 
 pub first_line_through : (xs : List ℕ) → first_line (take_through 10 xs) ≡ first_line xs
 first_line_through [] = refl
 first_line_through (x ∷ xs) = elim (cases_Bool (x == 10)) [
-    | inl is ↦ ap first_line (read_so x xs true is) ∙ at_newline x [] is ∙ sym (at_newline x xs is)
-    | inr is ↦ ap first_line (read_so x xs false is) ∙ before_newline x (take_through 10 xs) is ∙ ap (λ l. x ∷ l) (first_line_through xs) ∙ sym (before_newline x xs is)
-  ]
+  | inl is ↦ ap first_line (read_so x xs true is) ∙ at_newline x [] is ∙ sym (at_newline x xs is)
+  | inr is ↦ ap first_line (read_so x xs false is) ∙ before_newline x (take_through 10 xs) is ∙ ap (λ l. x ∷ l) (first_line_through xs) ∙ sym (before_newline x xs is)
+]
 
 pub line_of : (known : Option (List ℕ)) (old ys line : List ℕ) → old ≡ [] → IfSome (option_map (take 65537) known) (λ xs. ys ≡ old ++ take_through 10 xs)
     → line ≡ first_line ys → IfSome known (λ xs. line ≡ first_line (take 65537 xs))

@@ -1,4 +1,4 @@
-use Rattle.std.proofs.Common.{◌≡◌, ◌==◌, position, sym, ap, ◌∙◌}
+use Rattle.std.proofs.Common.{◌==◌, position, sym, ap, ◌∙◌}
 use Rattle.luks_area.proofs.Cutting.{take-position, before_first-all}
 use Rattle.luks_commands.proofs.passphrase_file.cut_at_newline.Goals as goal
 
