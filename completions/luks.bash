@@ -3,17 +3,17 @@
 _luks() {
     # each command with its options
     local -A options=(
-        [check]="--detached --help"
-        [show]="--json --help"
-        [open]="--passphrase --passphrase-line --slot --memory --help"
-        [add]="--slot --passphrase --passphrase-line --new --new-line --random --to --iterations --memory --over --detached --help"
-        [change]="--slot --passphrase --passphrase-line --new --new-line --random --iterations --memory --over --detached --help"
-        [remove]="--slot --passphrase --passphrase-line --random --memory --over --detached --help"
-        [repair]="--random --over --detached --help"
-        [label]="--random --over --detached --help"
-        [format]="--passphrase --passphrase-line --random --version --hash --iterations --detached --help"
-        [convert]="--random --detached --help"
-        [rebuild]="--random --second --uuid --help"
+        [check]="--detached --json --quiet --help"
+        [show]="--json --quiet --help"
+        [open]="--passphrase --passphrase-line --slot --memory --json --quiet --help"
+        [add]="--slot --passphrase --passphrase-line --new --new-line --random --to --iterations --memory --over --detached --quiet --help"
+        [change]="--slot --passphrase --passphrase-line --new --new-line --random --iterations --memory --over --detached --quiet --help"
+        [remove]="--slot --passphrase --passphrase-line --random --memory --over --detached --quiet --help"
+        [repair]="--random --over --detached --quiet --help"
+        [label]="--random --over --detached --quiet --help"
+        [format]="--passphrase --passphrase-line --random --version --hash --iterations --detached --quiet --help"
+        [convert]="--random --detached --quiet --help"
+        [rebuild]="--random --second --uuid --quiet --help"
         [explain]="--help"
         [help]="--help"
     )

@@ -7,10 +7,13 @@ complete -c luks -n __fish_use_subcommand -s V -l version -d 'Print version'
 complete -c luks -n __fish_use_subcommand -a check -d "Judge a volume's header and where its areas lie"
 complete -c luks -n '__fish_seen_subcommand_from check' -F
 complete -c luks -n '__fish_seen_subcommand_from check' -l detached -d 'The data lies on another device'
+complete -c luks -n '__fish_seen_subcommand_from check' -l json -d 'One JSON object, for scripts'
+complete -c luks -n '__fish_seen_subcommand_from check' -l quiet -d 'No hints on standard error'
 
 complete -c luks -n __fish_use_subcommand -a show -d "List what a volume's header says"
 complete -c luks -n '__fish_seen_subcommand_from show' -F
 complete -c luks -n '__fish_seen_subcommand_from show' -l json -d 'One JSON object, for scripts'
+complete -c luks -n '__fish_seen_subcommand_from show' -l quiet -d 'No hints on standard error'
 
 complete -c luks -n __fish_use_subcommand -a open -d 'Tell whether a passphrase opens a keyslot'
 complete -c luks -n '__fish_seen_subcommand_from open' -F
@@ -18,6 +21,8 @@ complete -c luks -n '__fish_seen_subcommand_from open' -l passphrase -r -F -d 'T
 complete -c luks -n '__fish_seen_subcommand_from open' -l passphrase-line -r -F -d 'The file whose first line is the passphrase'
 complete -c luks -n '__fish_seen_subcommand_from open' -l slot -x -a '(seq 0 31)' -d 'The keyslot to try'
 complete -c luks -n '__fish_seen_subcommand_from open' -l memory -x -d 'The MiB that Argon2 may take'
+complete -c luks -n '__fish_seen_subcommand_from open' -l json -d 'One JSON object, for scripts'
+complete -c luks -n '__fish_seen_subcommand_from open' -l quiet -d 'No hints on standard error'
 
 complete -c luks -n __fish_use_subcommand -a add -d 'Add a keyslot for a new passphrase'
 complete -c luks -n '__fish_seen_subcommand_from add' -F
@@ -32,6 +37,7 @@ complete -c luks -n '__fish_seen_subcommand_from add' -l iterations -x -d 'The i
 complete -c luks -n '__fish_seen_subcommand_from add' -l memory -x -d 'The MiB that Argon2 may take'
 complete -c luks -n '__fish_seen_subcommand_from add' -l over -d 'Write over another use of the disk'
 complete -c luks -n '__fish_seen_subcommand_from add' -l detached -d 'The data lies on another device'
+complete -c luks -n '__fish_seen_subcommand_from add' -l quiet -d 'No hints on standard error'
 
 complete -c luks -n __fish_use_subcommand -a change -d 'Put a new passphrase in the place of an old one'
 complete -c luks -n '__fish_seen_subcommand_from change' -F
@@ -45,6 +51,7 @@ complete -c luks -n '__fish_seen_subcommand_from change' -l iterations -x -d 'Th
 complete -c luks -n '__fish_seen_subcommand_from change' -l memory -x -d 'The MiB that Argon2 may take'
 complete -c luks -n '__fish_seen_subcommand_from change' -l over -d 'Write over another use of the disk'
 complete -c luks -n '__fish_seen_subcommand_from change' -l detached -d 'The data lies on another device'
+complete -c luks -n '__fish_seen_subcommand_from change' -l quiet -d 'No hints on standard error'
 
 complete -c luks -n __fish_use_subcommand -a remove -d 'Remove a keyslot by its own passphrase'
 complete -c luks -n '__fish_seen_subcommand_from remove' -F
@@ -55,18 +62,21 @@ complete -c luks -n '__fish_seen_subcommand_from remove' -l random -r -F -d 'The
 complete -c luks -n '__fish_seen_subcommand_from remove' -l memory -x -d 'The MiB that Argon2 may take'
 complete -c luks -n '__fish_seen_subcommand_from remove' -l over -d 'Write over another use of the disk'
 complete -c luks -n '__fish_seen_subcommand_from remove' -l detached -d 'The data lies on another device'
+complete -c luks -n '__fish_seen_subcommand_from remove' -l quiet -d 'No hints on standard error'
 
 complete -c luks -n __fish_use_subcommand -a repair -d 'Write both copies of a LUKS2 header anew'
 complete -c luks -n '__fish_seen_subcommand_from repair' -F
 complete -c luks -n '__fish_seen_subcommand_from repair' -l random -r -F -d 'The file of the random bytes'
 complete -c luks -n '__fish_seen_subcommand_from repair' -l over -d 'Write over another use of the disk'
 complete -c luks -n '__fish_seen_subcommand_from repair' -l detached -d 'The data lies on another device'
+complete -c luks -n '__fish_seen_subcommand_from repair' -l quiet -d 'No hints on standard error'
 
 complete -c luks -n __fish_use_subcommand -a label -d 'Set the label of a LUKS2 volume'
 complete -c luks -n '__fish_seen_subcommand_from label' -F
 complete -c luks -n '__fish_seen_subcommand_from label' -l random -r -F -d 'The file of the random bytes'
 complete -c luks -n '__fish_seen_subcommand_from label' -l over -d 'Write over another use of the disk'
 complete -c luks -n '__fish_seen_subcommand_from label' -l detached -d 'The data lies on another device'
+complete -c luks -n '__fish_seen_subcommand_from label' -l quiet -d 'No hints on standard error'
 
 complete -c luks -n __fish_use_subcommand -a format -d 'Make a LUKS volume over whatever stands there'
 complete -c luks -n '__fish_seen_subcommand_from format' -F
@@ -77,17 +87,20 @@ complete -c luks -n '__fish_seen_subcommand_from format' -l version -x -a '1 2' 
 complete -c luks -n '__fish_seen_subcommand_from format' -l hash -x -a 'sha1 sha256 sha512' -d 'The hash'
 complete -c luks -n '__fish_seen_subcommand_from format' -l iterations -x -d 'The iterations of PBKDF2'
 complete -c luks -n '__fish_seen_subcommand_from format' -l detached -d 'The data lies on another device'
+complete -c luks -n '__fish_seen_subcommand_from format' -l quiet -d 'No hints on standard error'
 
 complete -c luks -n __fish_use_subcommand -a convert -d 'Make a LUKS2 header of a LUKS1 volume, on another file'
 complete -c luks -n '__fish_seen_subcommand_from convert' -F
 complete -c luks -n '__fish_seen_subcommand_from convert' -l random -r -F -d 'The file of the random bytes'
 complete -c luks -n '__fish_seen_subcommand_from convert' -l detached -d 'The source is a detached header'
+complete -c luks -n '__fish_seen_subcommand_from convert' -l quiet -d 'No hints on standard error'
 
 complete -c luks -n __fish_use_subcommand -a rebuild -d 'Make a LUKS2 header of metadata that is still whole'
 complete -c luks -n '__fish_seen_subcommand_from rebuild' -F
 complete -c luks -n '__fish_seen_subcommand_from rebuild' -l random -r -F -d 'The file of the random bytes'
 complete -c luks -n '__fish_seen_subcommand_from rebuild' -l second -d 'Take the metadata of a second copy'
 complete -c luks -n '__fish_seen_subcommand_from rebuild' -l uuid -x -d 'The uuid of the new header'
+complete -c luks -n '__fish_seen_subcommand_from rebuild' -l quiet -d 'No hints on standard error'
 
 complete -c luks -n __fish_use_subcommand -a explain -d 'Say what a fault means, and what to try next'
 complete -c luks -n '__fish_seen_subcommand_from explain' -a '(luks explain 2>/dev/null | cut -d" " -f1)'

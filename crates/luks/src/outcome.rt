@@ -30,7 +30,7 @@ pub(crate) struct Outcome {
 impl Outcome {
     /// Whether standard error says what is noted: where that isn't wanted, why a file can't be read.
     pub(crate) fn is_noted(&self, manner: Manner) -> bool {
-        !manner.quiet || self.lines.as_slice() == b"device fault\n"
+        !manner.quiet || self.lines.as_slice() == b"device fault\n".as_slice()
     }
 
     /// Prints the answer's lines, where they tell it.
@@ -88,7 +88,12 @@ pub(crate) fn outcome_of<R: Files<File = File>>(
     requires target { IfOk inputs.old.target (λ device. cached_failures device ≡ 0) }
 {
     match line.command {
-        Command::Check { data_ } if manner.json => object_of_check(alloc, line.volume, data_, inputs),
+        Command::Check { data_ } if manner.json => object_of_check(
+            alloc,
+            line.volume,
+            data_,
+            inputs,
+        ),
         Command::Open {
             passphrase,
             slot,

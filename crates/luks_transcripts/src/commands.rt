@@ -2,8 +2,9 @@
 ghost use Rattle.std.specs.Prelude.{◌≡◌, IfOk};
 
 use crate::failing::{Room, Trouble, Troubles};
+use crate::objects::print_object;
 use luks_cli::{CountingPrinter, InputFault, Inputs, Line, execute};
-use luks_line::line;
+use luks_line::{Asked as Parsed, parse};
 use luks_transcript_volumes::{Asked, Disk, Fault, Files, Kept, Record, Source, Volumes};
 use std::alloc::{AllocError, Global};
 use std::io::{Cursor, Write};
@@ -78,9 +79,12 @@ impl Command<'_> {
         told: &mut Told,
     ) -> Result<Asked, Fault> {
         let words = words_of(alloc, self)?;
-        match line(alloc, words.as_slice()) {
-            Ok(line) => Ok(run_line(alloc, &line, volumes, files, troubles, told)),
-            Err(_) => Err(Fault::NoCommand),
+        match parse(alloc, words.as_slice()) {
+            Ok(Parsed::Volume(line, manner)) => {
+                let is_object = manner.json;
+                Ok(run_as(alloc, &line, is_object, volumes, files, troubles, told))
+            }
+            Ok(Parsed::Explain(_)) | Err(_) => Err(Fault::NoCommand),
         }
     }
 }
@@ -89,6 +93,19 @@ impl Command<'_> {
 pub fn run_line(
     alloc: Global,
     line: &Line<'_>,
+    volumes: &mut Volumes,
+    files: &Files,
+    troubles: &Troubles,
+    told: &mut Told,
+) -> Asked {
+    run_as(alloc, line, false, volumes, files, troubles, told)
+}
+
+/// Runs the command of this line, whose answer is told as an object or by lines.
+fn run_as(
+    alloc: Global,
+    line: &Line<'_>,
+    is_object: bool,
     volumes: &mut Volumes,
     files: &Files,
     troubles: &Troubles,
@@ -103,7 +120,11 @@ pub fn run_line(
         new_passphrase: reader(&files.new, &troubles.new),
         random: reader(&files.random, &troubles.random),
     };
-    told.status = execute(alloc, line, &mut inputs, &mut out, &mut err);
+    told.status = if is_object {
+        print_object(alloc, line, &mut inputs, &mut out, &mut err)
+    } else {
+        execute(alloc, line, &mut inputs, &mut out, &mut err)
+    };
     told.printed = out.writer.position() as usize;
     told.said = err.position() as usize;
     let Inputs {

@@ -51,7 +51,8 @@
 //!
 //! `commands`, commands of the program, their words parted by single spaces:
 //!
-//!     $ WORDS                prints standard output, standard error behind `!`, and the status behind `=`
+//!     $ WORDS                prints standard output, standard error behind `!`, and the status behind `=`; of `check`
+//!                            and `open` with `--json` one object
 //!
 //! `trials`, runs of a command; what follow each other alike are printed once, with `kept` where all of them left the
 //! volumes as they were:
@@ -111,6 +112,7 @@
 mod commands;
 mod failing;
 mod lines;
+mod objects;
 mod repeated;
 mod session;
 mod step;
