@@ -18,6 +18,7 @@ complete -c luks -n '__fish_seen_subcommand_from show' -l quiet -d 'No hints on 
 complete -c luks -n __fish_use_subcommand -a open -d 'Tell whether a passphrase opens a keyslot'
 complete -c luks -n '__fish_seen_subcommand_from open' -F
 complete -c luks -n '__fish_seen_subcommand_from open' -l passphrase -r -F -d 'The file of the passphrase'
+complete -c luks -n '__fish_seen_subcommand_from open' -l passphrase-line -r -F -d 'The file whose first line is the passphrase'
 complete -c luks -n '__fish_seen_subcommand_from open' -l slot -x -a '(seq 0 31)' -d 'The keyslot to try'
 complete -c luks -n '__fish_seen_subcommand_from open' -l memory -x -d 'The MiB that Argon2 may take'
 complete -c luks -n '__fish_seen_subcommand_from open' -l json -d 'One JSON object, for scripts'
@@ -27,7 +28,9 @@ complete -c luks -n __fish_use_subcommand -a add -d 'Add a keyslot for a new pas
 complete -c luks -n '__fish_seen_subcommand_from add' -F
 complete -c luks -n '__fish_seen_subcommand_from add' -l slot -x -a '(seq 0 31)' -d 'The keyslot that the passphrase opens'
 complete -c luks -n '__fish_seen_subcommand_from add' -l passphrase -r -F -d 'The file of the passphrase'
+complete -c luks -n '__fish_seen_subcommand_from add' -l passphrase-line -r -F -d 'The file whose first line is the passphrase'
 complete -c luks -n '__fish_seen_subcommand_from add' -l new -r -F -d 'The file of the new passphrase'
+complete -c luks -n '__fish_seen_subcommand_from add' -l new-line -r -F -d 'The file whose first line is the new passphrase'
 complete -c luks -n '__fish_seen_subcommand_from add' -l random -r -F -d 'The file of the random bytes'
 complete -c luks -n '__fish_seen_subcommand_from add' -l to -x -a '(seq 0 31)' -d 'The new keyslot'
 complete -c luks -n '__fish_seen_subcommand_from add' -l iterations -x -d 'The iterations of PBKDF2'
@@ -40,7 +43,9 @@ complete -c luks -n __fish_use_subcommand -a change -d 'Put a new passphrase in 
 complete -c luks -n '__fish_seen_subcommand_from change' -F
 complete -c luks -n '__fish_seen_subcommand_from change' -l slot -x -a '(seq 0 31)' -d 'The keyslot that the passphrase opens'
 complete -c luks -n '__fish_seen_subcommand_from change' -l passphrase -r -F -d 'The file of the passphrase'
+complete -c luks -n '__fish_seen_subcommand_from change' -l passphrase-line -r -F -d 'The file whose first line is the passphrase'
 complete -c luks -n '__fish_seen_subcommand_from change' -l new -r -F -d 'The file of the new passphrase'
+complete -c luks -n '__fish_seen_subcommand_from change' -l new-line -r -F -d 'The file whose first line is the new passphrase'
 complete -c luks -n '__fish_seen_subcommand_from change' -l random -r -F -d 'The file of the random bytes'
 complete -c luks -n '__fish_seen_subcommand_from change' -l iterations -x -d 'The iterations of PBKDF2'
 complete -c luks -n '__fish_seen_subcommand_from change' -l memory -x -d 'The MiB that Argon2 may take'
@@ -52,6 +57,7 @@ complete -c luks -n __fish_use_subcommand -a remove -d 'Remove a keyslot by its 
 complete -c luks -n '__fish_seen_subcommand_from remove' -F
 complete -c luks -n '__fish_seen_subcommand_from remove' -l slot -x -a '(seq 0 31)' -d 'The keyslot that the passphrase opens'
 complete -c luks -n '__fish_seen_subcommand_from remove' -l passphrase -r -F -d 'The file of the passphrase'
+complete -c luks -n '__fish_seen_subcommand_from remove' -l passphrase-line -r -F -d 'The file whose first line is the passphrase'
 complete -c luks -n '__fish_seen_subcommand_from remove' -l random -r -F -d 'The file of the random bytes'
 complete -c luks -n '__fish_seen_subcommand_from remove' -l memory -x -d 'The MiB that Argon2 may take'
 complete -c luks -n '__fish_seen_subcommand_from remove' -l over -d 'Write over another use of the disk'
@@ -75,6 +81,7 @@ complete -c luks -n '__fish_seen_subcommand_from label' -l quiet -d 'No hints on
 complete -c luks -n __fish_use_subcommand -a format -d 'Make a LUKS volume over whatever stands there'
 complete -c luks -n '__fish_seen_subcommand_from format' -F
 complete -c luks -n '__fish_seen_subcommand_from format' -l passphrase -r -F -d 'The file of the passphrase'
+complete -c luks -n '__fish_seen_subcommand_from format' -l passphrase-line -r -F -d 'The file whose first line is the passphrase'
 complete -c luks -n '__fish_seen_subcommand_from format' -l random -r -F -d 'The file of the random bytes'
 complete -c luks -n '__fish_seen_subcommand_from format' -l version -x -a '1 2' -d 'The version of LUKS'
 complete -c luks -n '__fish_seen_subcommand_from format' -l hash -x -a 'sha1 sha256 sha512' -d 'The hash'

@@ -16,14 +16,15 @@ use clap::error::ErrorKind as FaultKind;
 use hints::{Ended, tell, tell_ended, tell_overwritten, use_before};
 use luks_area::FileDevice;
 use luks_cache::CachedDevice;
-use luks_cli::{InputFault, Inputs, Line, OtherUse, Reason, first_bytes};
+use luks_cli::{InputFault, Inputs, Line, OtherUse, Reason, first_bytes, first_line};
 use luks_explain::Fault;
 use luks_line::{Asked, Manner, parse};
 use luks_lock::{FOLDER, LazyFile, LockedDevice, OpenFault, is_same_file, open_locked};
 use outcome::{Outcome, outcome_of};
 use luks_wiping::{Secret, wipe_stack};
+use std::alloc::Global;
 use std::fs::File;
-use std::io::{ErrorKind, Write};
+use std::io::{ErrorKind, Read, Write};
 use std::process::ExitCode;
 use std::rt::{Clock, Env, Files};
 use std::{env, io};
@@ -32,7 +33,7 @@ use typing::tell_typing;
 /// The volume of a command line: its file, measured under its lock, and its first bytes remembered.
 type Volume = CachedDevice<LockedDevice<FileDevice<File>>>;
 
-/// The most bytes that a passphrase has; of a longer one `first_bytes` reads one more.
+/// The most bytes that a passphrase has; of a longer one `first_bytes` and `first_line` give one more.
 const LONGEST_PASSPHRASE: usize = 65536;
 
 /// The exit status after a command line that can't be read.
@@ -213,7 +214,8 @@ impl Passphrases {
         line: &Line<'_>,
         manner: Manner,
     ) -> Self {
-        let old = passphrase(rt, line.passphrase(), manner);
+        let part = Part::of(manner.passphrase_line);
+        let old = passphrase(rt, line.passphrase(), part, manner.quiet);
         if ends_command(&old) {
             return Passphrases {
                 old,
@@ -222,7 +224,12 @@ impl Passphrases {
         }
         Passphrases {
             old,
-            new: passphrase(rt, line.new_passphrase(), manner),
+            new: passphrase(
+                rt,
+                line.new_passphrase(),
+                Part::of(manner.new_line),
+                manner.quiet,
+            ),
         }
     }
 
@@ -242,23 +249,45 @@ fn ends_command(read: &Result<Secret, InputFault>) -> bool {
     }
 }
 
+/// What of its file is a passphrase.
+#[derive(Debug, Clone, Copy, PartialEq, Eq)]
+enum Part {
+    Whole,
+    FirstLine,
+}
+
+impl Part {
+    fn of(line: bool) -> Part {
+        if line { Part::FirstLine } else { Part::Whole }
+    }
+
+    /// The bytes of the part, at most one more than a passphrase has.
+    fn read<F: Read>(self, alloc: Global, file: &mut F) -> Result<Secret, InputFault> {
+        match self {
+            Part::Whole => first_bytes(alloc, file),
+            Part::FirstLine => first_line(alloc, file),
+        }
+    }
+}
+
 /// What the file of this name has of a passphrase; `-` is standard input.
 fn passphrase<R: AllocGlobal + Files<File = File> + Input + Eprint>(
     rt: &R,
     name: Option<&str>,
-    manner: Manner,
+    part: Part,
+    quiet: bool,
 ) -> Result<Secret, InputFault> {
     let Some(path) = name else {
         return Err(InputFault::Absent);
     };
     if path == "-" {
-        if !manner.quiet {
-            tell_typing(rt);
+        if !quiet {
+            tell_typing(rt, part == Part::FirstLine);
         }
-        return first_bytes(rt.alloc(), &mut rt.reader());
+        return part.read(rt.alloc(), &mut rt.reader());
     }
     let mut file = File::open(rt, path)?;
-    first_bytes(rt.alloc(), &mut file)
+    part.read(rt.alloc(), &mut file)
 }
 
 /// What was read of a file, to be read once more.

@@ -5,11 +5,16 @@ use std::os::unix::fs::{FileTypeExt, MetadataExt};
 use std::rt::Files;
 
 /// Says how a passphrase on standard input is typed, where that is a terminal: there it is shown, and
-/// a newline would be a part of it.
-pub(crate) fn tell_typing<R: Files<File = File> + Eprint>(rt: &R) {
+/// a newline ends it where its line is taken, and is else a part of it.
+pub(crate) fn tell_typing<R: Files<File = File> + Eprint>(rt: &R, line: bool) {
     if is_terminal(rt) {
+        let keys = if line {
+            "press Enter"
+        } else {
+            "press Ctrl-D twice"
+        };
         let _ = eprintln!(rt;
-            "luks: type it and press Ctrl-D twice; it is shown: systemd-ask-password -n | luks .. hides it"
+            "luks: type it and {keys}; it is shown: systemd-ask-password -n | luks .. hides it"
         );
     }
 }

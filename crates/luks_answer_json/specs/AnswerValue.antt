@@ -7,7 +7,7 @@ use Rattle.luks_reading.specs.declared.report.Version.{Version}
 use Rattle.luks_reading.specs.declared.report.Version.TheVariants.{Luks1, Luks2}
 use Rattle.luks_show.specs.Texts.{copies_text}
 use Rattle.luks_commands.specs.declared.answers.Answer.{Answer}
-use Rattle.luks_commands.specs.declared.answers.Answer.TheVariants.{Accepted, Listed, Json, Opens, Closed, NoneOpens, Done, Refused, DeviceFault, NoMemory}
+use Rattle.luks_commands.specs.declared.answers.Answer.TheVariants.{Accepted, Listed, ListedFully, Mapped, Json, Opens, Closed, NoneOpens, Done, Refused, DeviceFault, NoMemory}
 use Rattle.luks_commands.specs.Answer.{answer_status, refusal_text}
 use Rattle.luks_commands.specs.Exit.{exit_status}
 use Rattle.luks_answer_json.specs.Parted.{IsParted}
@@ -83,6 +83,8 @@ IsAnswerWith NoneOpens hints status d = d ≡ bare_value (codes "no slot opens")
 IsAnswerWith (Done (Some n)) hints status d = d ≡ slot_value (codes "done") n hints status
 IsAnswerWith (Done None) hints status d = d ≡ bare_value (codes "done") hints status
 IsAnswerWith (Listed listing) hints status d = d ≡ bare_value (codes "shown") hints status
+IsAnswerWith (ListedFully listing) hints status d = d ≡ bare_value (codes "shown") hints status
+IsAnswerWith (Mapped map) hints status d = d ≡ bare_value (codes "shown") hints status
 IsAnswerWith (Json text) hints status d = d ≡ bare_value (codes "shown") hints status
 IsAnswerWith DeviceFault hints status d = d ≡ bare_value (codes "device fault") hints status
 IsAnswerWith NoMemory hints status d = d ≡ bare_value (codes "no memory") hints status

@@ -37,7 +37,9 @@ fn answer_value(alloc: Global, answer: &Answer, hints: &[&str]) -> Result<Value,
         Answer::Done(Some(n)) => slot_value(alloc, "done", *n, hints, status),
         Answer::Done(None) => bare_value(alloc, "done", hints, status),
         Answer::NoneOpens => bare_value(alloc, "no slot opens", hints, status),
-        Answer::Listed(_) | Answer::Json(_) => bare_value(alloc, "shown", hints, status),
+        Answer::Listed(_) | Answer::ListedFully(_) | Answer::Mapped(_) | Answer::Json(_) => {
+            bare_value(alloc, "shown", hints, status)
+        }
         Answer::DeviceFault => bare_value(alloc, "device fault", hints, status),
         Answer::NoMemory => bare_value(alloc, "no memory", hints, status),
     }

@@ -10,7 +10,7 @@ mod other_use;
 pub use execution::execute;
 pub use luks_commands::{
     Answer, CountingPrinter, InputFault, Inputs, Printer, Reason, Unprinted, check, end,
-    first_bytes, open,
+    first_bytes, first_line, open,
 };
 pub use luks_request::{
     Command, Converting, EditRequest, Editing, Line, Making, NewVersion, Rebuilding, ShowAs,

@@ -2,6 +2,7 @@ pub mod CheckFacts
 pub mod EndFacts
 pub mod ExitFacts
 pub mod FileFacts
+pub mod FirstLineFacts
 pub mod FormatFacts
 pub mod Fronts
 pub mod OpenFacts

@@ -1,5 +1,6 @@
 pub mod Exit
 pub mod Files
+pub mod FirstLine
 pub mod Printing
 pub mod Checked
 pub mod Answer

@@ -74,7 +74,7 @@ pub struct Inputs<D, R, N> {
     pub volume: Result<D, InputFault>,
     /// The device that a header is written to beside the volume.
     pub target: Result<D, InputFault>,
-    /// The passphrase: all bytes of its file, a last newline too.
+    /// The passphrase: all bytes that this reader gives, a last newline too.
     pub passphrase: Result<R, InputFault>,
     /// The new passphrase, likewise.
     pub new_passphrase: Result<R, InputFault>,

@@ -15,6 +15,6 @@ mod secret_file;
 
 pub use answers::{Answer, Refusal, Status, device_fault, end, refused, unread};
 pub use inputs::{InputFault, Inputs, Reason};
-pub use passphrase_file::{PassphraseFault, first_bytes, passphrase};
+pub use passphrase_file::{PassphraseFault, first_bytes, first_line, passphrase};
 pub use printer::{CountingPrinter, Printer, Unprinted};
 pub use random_file::{RandomBytes, few_random_bytes, random_bytes};

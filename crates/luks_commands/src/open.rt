@@ -223,7 +223,7 @@ fn note_line_feed<E: Write>(passphrase: &[u8], err: &mut E) {
     if passphrase.last() == Some(&b'\n') {
         let _ = writeln!(
             err,
-            "luks: the passphrase's file ends in a newline, which was taken as part of it"
+            "luks: the passphrase's file ends in a newline, which was taken as part of it; --passphrase-line leaves it out"
         );
     }
 }

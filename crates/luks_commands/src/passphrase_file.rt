@@ -1,12 +1,13 @@
 //! Reading a passphrase from its file.
-ghost use Rattle.std.specs.Prelude.{◌≡◌, ◌≢◌, ◌≤◌, ◌<◌, IfOk, IfErr, IfSome, length, take};
+ghost use Rattle.std.specs.Prelude.{◌≡◌, ◌≢◌, ◌==◌, ◌≤◌, ◌<◌, IfOk, IfErr, IfSome, length, position, take};
 ghost use Rattle.luks_commands.specs.Files.{IsLong, IsUnread, IsWhole};
+ghost use Rattle.luks_commands.specs.FirstLine.{first_line};
 
 use crate::inputs::InputFault;
 use crate::secret_file::{read_first, room_for};
 use luks_wiping::Secret;
 use std::alloc::Global;
-use std::io::Read;
+use std::io::{BufRead, BufReader, Read};
 
 /// The most bytes that a passphrase has.
 const MOST_BYTES: usize = 65536;
@@ -61,4 +62,36 @@ pub fn first_bytes<R: Read>(alloc: Global, reader: &mut R) -> Result<Secret, Inp
 {
     let room = room_for(alloc, MOST_BYTES + 1)?;
     read_first(reader, MOST_BYTES as u64 + 1, room)
+}
+
+/// The first line of a passphrase's file, without its newline, but at most 65537 bytes of it: one
+/// more than a passphrase has, which tells that the line is too long. It reads on until it has met a
+/// newline, and no call of the reader comes after that.
+pub fn first_line<R: Read>(alloc: Global, reader: &mut R) -> Result<Secret, InputFault>
+    ensures line { IfOk result (λ p. IfSome (R.remaining reader.old)
+        (λ bytes. p ≡ first_line (take 65537 bytes))) }
+    ensures kinds { IfErr result (λ f. f ≢ InputFault.Absent) }
+{
+    let mut line = Vec::new(alloc);
+    let mut front = BufReader::new(alloc, reader.take(MOST_BYTES as u64 + 1))?;
+    let read = front.read_until(b'\n', &mut line);
+    cut_at_newline(&mut line);
+    let secret = Secret::new(line);
+    let _ = read?;
+    Ok(secret)
+}
+
+/// Keeps what stands before the first newline.
+fn cut_at_newline(bytes: &mut Vec<u8>)
+    ensures { bytes.new.items ≡ first_line bytes.old.items }
+{
+    if let Some(end) = first_newline(bytes.as_slice()) {
+        bytes.truncate(end);
+    }
+}
+
+fn first_newline(bytes: &[u8]) -> Option<usize>
+    ensures { result ≡ position (λ c. c == 10) bytes.now }
+{
+    bytes.iter().position(|byte| *byte == b'\n')
 }
