@@ -20,8 +20,8 @@ use luks_cli::{InputFault, Inputs, Line, OtherUse, Reason, first_bytes, first_li
 use luks_explain::Fault;
 use luks_line::{Asked, Manner, parse};
 use luks_lock::{FOLDER, LazyFile, LockedDevice, OpenFault, is_same_file, open_locked};
-use outcome::{Outcome, outcome_of};
 use luks_wiping::{Secret, wipe_stack};
+use outcome::{Outcome, outcome_of};
 use std::alloc::Global;
 use std::fs::File;
 use std::io::{ErrorKind, Read, Write};

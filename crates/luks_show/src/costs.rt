@@ -39,7 +39,10 @@ fn write_argon2<W: fmt::Write>(
     let time = costs.time;
     let memory = costs.memory;
     let cpus = costs.cpus;
-    writeln!(f, "costs {n} {kind} time {time} memory {memory} cpus {cpus}")
+    writeln!(
+        f,
+        "costs {n} {kind} time {time} memory {memory} cpus {cpus}"
+    )
 }
 
 /// How the segment of this number is encrypted; it prints as its line.
