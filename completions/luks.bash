@@ -4,7 +4,7 @@ _luks() {
     # each command with its options
     local -A options=(
         [check]="--detached --help"
-        [show]="--json --help"
+        [show]="--all --map --json --help"
         [open]="--passphrase --slot --memory --help"
         [add]="--slot --passphrase --new --random --to --iterations --memory --over --detached --help"
         [change]="--slot --passphrase --new --random --iterations --memory --over --detached --help"

@@ -10,6 +10,8 @@ complete -c luks -n '__fish_seen_subcommand_from check' -l detached -d 'The data
 
 complete -c luks -n __fish_use_subcommand -a show -d "List what a volume's header says"
 complete -c luks -n '__fish_seen_subcommand_from show' -F
+complete -c luks -n '__fish_seen_subcommand_from show' -l all -d 'With the costs of keyslots and the encryption of segments'
+complete -c luks -n '__fish_seen_subcommand_from show' -l map -d 'A map of the areas'
 complete -c luks -n '__fish_seen_subcommand_from show' -l json -d 'One JSON object, for scripts'
 
 complete -c luks -n __fish_use_subcommand -a open -d 'Tell whether a passphrase opens a keyslot'

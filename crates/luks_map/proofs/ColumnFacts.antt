@@ -1,6 +1,5 @@
 -- Numbers at the right of their column, and lines piece by piece.
-use Rattle.std.proofs.Common.{◌≡◌, ℕ, ◌^◌, ◌-◌, ◌+◌, ◌<◌, List, [], ◌∷◌, ◌++◌, length, refl, sym, append_assoc, append-nil, arith, codes, false}
-use Rattle.std.specs.Prelude.{replicate}
+use Rattle.std.proofs.Common.{◌≡◌, ℕ, ◌^◌, ◌-◌, ◌+◌, ◌<◌, List, [], ◌∷◌, ◌++◌, refl, append_assoc, arith, codes, false}
 use Rattle.std.specs.Fmt.{decimal, format_spec, padded_integral}
 use Rattle.std.proofs.Padding.{padded_integral_right}
 use Rattle.luks_show.specs.Texts.{line}

@@ -1,5 +1,5 @@
 -- The rows of keyslots and areas, one more.
-use Rattle.std.proofs.Common.{◌≡◌, ℕ, ◌+◌, ◌<◌, List, [], ◌∷◌, ◌++◌, length, take, get_or, ap, ◌∙◌, sym, refl, append_assoc, append-nil, arith}
+use Rattle.std.proofs.Common.{◌≡◌, ℕ, ◌+◌, ◌<◌, List, [], ◌∷◌, ◌++◌, length, take, get_or, ap, ◌∙◌, sym, refl, append_assoc, arith}
 use Rattle.std.proofs.lemmas.List.{length-take-le, take_more}
 use Rattle.std.specs.Prelude.{map}
 use Rattle.luks_area.specs.declared.areas.Entry.{Entry}

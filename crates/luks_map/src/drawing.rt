@@ -96,7 +96,11 @@ fn draw_end<W: fmt::Write>(
 fn outside_mark(total: u64, end: u128) -> &'static str
     ensures { result.now ≡ outside_text total end }
 {
-    if u128::from(total) < end { "  outside" } else { "" }
+    if u128::from(total) < end {
+        "  outside"
+    } else {
+        ""
+    }
 }
 
 /// The mark of an area that begins inside one above it.

@@ -1,4 +1,4 @@
-use Rattle.std.proofs.Common.{◌≡◌, ◌+◌, ◌<◌, ◌≤◌, ◌++◌, ap, ◌∙◌, sym, arith, append-nil, length}
+use Rattle.std.proofs.Common.{◌<◌, ◌≤◌, ◌++◌, ap, ◌∙◌, sym, arith, append-nil, length}
 use Rattle.std.proofs.lemmas.List.{take_all}
 use Rattle.luks_map.specs.Luks1Rows.{slot_rows}
 use Rattle.luks_map.proofs.RowFacts.{next_slot}
@@ -16,9 +16,9 @@ loop-n-preserved c =
     let header = c.args.header.now in
     let count = c.loop-n.invariant.1 in (
       λ eight.
-        let within : c.loop-n.n < length header.slots = omega (arith, lt, eight) in
-        rw (c.push.ensures.items, c.slot_row.ensures)
-        (next_slot c.args.rows.now.items c.loop-n.rows.items header.common.key_bytes c.loop-n.n header.slots _ within (c.loop-n.invariant.0 eight)),
+          let within : c.loop-n.n < length header.slots = omega (arith, lt, eight) in
+          rw (c.push.ensures.items, c.slot_row.ensures)
+          (next_slot c.args.rows.now.items c.loop-n.rows.items header.common.key_bytes c.loop-n.n header.slots _ within (c.loop-n.invariant.0 eight)),
       c.push.ensures.len ∙ omega (arith, count),
     )
 

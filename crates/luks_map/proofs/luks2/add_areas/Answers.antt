@@ -1,4 +1,4 @@
-use Rattle.std.proofs.Common.{◌≡◌, ◌+◌, ◌++◌, ap, ◌∙◌, sym, arith, append-nil, append_assoc, length, map}
+use Rattle.std.proofs.Common.{◌++◌, ap, ◌∙◌, sym, arith, append-nil, map}
 use Rattle.std.proofs.lemmas.List.{take_all}
 use Rattle.luks_map.specs.Luks2Rows.{area_row}
 use Rattle.luks_map.proofs.RowFacts.{next_area}
@@ -17,7 +17,7 @@ push-requires c =
 pub loop-entry-preserved : goal.loop-entry-preserved
 loop-entry-preserved c = (
   rw (c.push.ensures.items, c.area_row.ensures)
-  (next_area c.args.rows.now.items c.loop-entry.rows.items c.loop-entry.entry-index c.args.areas.now _ c.loop-entry-test.true c.loop-entry.invariant.0),
+      (next_area c.args.rows.now.items c.loop-entry.rows.items c.loop-entry.entry-index c.args.areas.now _ c.loop-entry-test.true c.loop-entry.invariant.0),
   let count = c.loop-entry.invariant.1 in c.push.ensures.len ∙ omega (arith, count),
 )
 
