@@ -4,7 +4,7 @@ _luks() {
     # each command with its options
     local -A options=(
         [check]="--detached --json --quiet --help"
-        [show]="--json --quiet --help"
+        [show]="--all --map --json --quiet --help"
         [open]="--passphrase --passphrase-line --slot --memory --json --quiet --help"
         [add]="--slot --passphrase --passphrase-line --new --new-line --random --to --iterations --memory --over --detached --quiet --help"
         [change]="--slot --passphrase --passphrase-line --new --new-line --random --iterations --memory --over --detached --quiet --help"

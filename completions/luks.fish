@@ -12,6 +12,8 @@ complete -c luks -n '__fish_seen_subcommand_from check' -l quiet -d 'No hints on
 
 complete -c luks -n __fish_use_subcommand -a show -d "List what a volume's header says"
 complete -c luks -n '__fish_seen_subcommand_from show' -F
+complete -c luks -n '__fish_seen_subcommand_from show' -l all -d 'With the costs of keyslots and the encryption of segments'
+complete -c luks -n '__fish_seen_subcommand_from show' -l map -d 'A map of the areas'
 complete -c luks -n '__fish_seen_subcommand_from show' -l json -d 'One JSON object, for scripts'
 complete -c luks -n '__fish_seen_subcommand_from show' -l quiet -d 'No hints on standard error'
 

@@ -373,7 +373,18 @@ def show(volume):
     return answer(lambda: shown(volume))
 
 
-def shown(volume):
+def show_all(volume):
+    """Like `show`, with a second line of each keyslot of LUKS2 and of each segment of the type `crypt`."""
+    return answer(lambda: shown(volume, True))
+
+
+def costs_line(n, kdf):
+    if kdf["type"] == "pbkdf2":
+        return f"costs {n} pbkdf2 {shown_text(kdf['hash'])} iterations {kdf['iterations']}"
+    return f"costs {n} {kdf['type']} time {kdf['time']} memory {kdf['memory']} cpus {kdf['cpus']}"
+
+
+def shown(volume, whole=False):
     chosen = select(volume)
     if chosen == 1:
         d = common1(volume, range(8))
@@ -393,13 +404,60 @@ def shown(volume):
         area = slot["area"]
         lines.append(f"keyslot {n} key-bytes {slot['key_size']} kdf {slot['kdf']['type']} area {area['offset']} {area['size']} "
                      f"{shown_text(area['encryption'])} digest {digest}")
+        if whole:
+            lines.append(costs_line(n, slot["kdf"]))
     for n, token in by_number(value["tokens"]):
         lines.append(f"token {n} {shown_text(token['type'])} keyslots {shown_list(token['keyslots'])}")
     for n, segment in by_number(value["segments"]):
         lines.append(f"segment {n} {segment['type']} {segment['offset']} {segment['size']}")
+        if whole and segment["type"] == "crypt":
+            lines.append(f"encryption {n} {shown_text(segment['encryption'])} sector-size {segment['sector_size']} iv-tweak {segment['iv_tweak']}")
     for n, digest in by_number(value["digests"]):
         lines.append(f"digest {n} {shown_text(digest['hash'])} keyslots {shown_list(digest['keyslots'])} segments {shown_list(digest['segments'])}")
     return 0, "\n".join(lines) + "\n"
+
+
+def show_map(volume):
+    return answer(lambda: (0, "".join(line + "\n" for line in map_lines(shown_map(volume), len(volume)))))
+
+
+def shown_map(volume):
+    """What a map has, but for gaps, as (place, order at one place, length or none for an end, name)."""
+    chosen, total = select(volume), len(volume)
+    ends = [(total, 1, None, "end of the volume")]
+    if chosen == 1:
+        d = common1(volume, range(8))
+        slots = [(*slot_area1(d, n), f"keyslot {n} " + ("enabled" if d["slots"][n][0] == ENABLED else "disabled")) for n in range(8)]
+        areas = [(0, 592, "header"), *slots, (*to_end(d["payload"] * 512, total), "segment 0")]
+    else:
+        copy, _ = chosen
+        checked_uuid(copy["uuid"])
+        value = metadata(copy)
+        areas = [(0, copy["size"], "header, copy 1"), (copy["size"], copy["size"], "header, copy 2")]
+        areas += [(*slot_area2(slot), f"keyslot {n}") for n, slot in by_number(value["keyslots"])]
+        for n, it in by_number(value["segments"]):
+            start = int(it["offset"])
+            areas.append((*(to_end(start, total) if it["size"] == "dynamic" else (start, int(it["size"]))), f"segment {n}"))
+        ends.append((region(copy, value)[1], 0, None, "end of the key areas"))
+    return sorted(ends + [(start, 2 + i, length, name) for i, (start, length, name) in enumerate(areas)])
+
+
+def map_lines(rows, total):
+    """Each row, and each gap, in the order of places."""
+    def outside(end):
+        return "  outside" if end > total else ""
+
+    above = []
+    for place, _, length, name in rows:
+        reached = max((start + size for start, size in above), default=0)
+        if place > reached:
+            yield f"{reached:20} .{place - reached:20}  gap{outside(place)}"
+        if length is None:
+            yield f"{place:20} -{'':20}  {name}{outside(place)}"
+        else:
+            meets = any(max(place, start) < min(place + length, start + size) for start, size in above)
+            yield f"{place:20} #{length:20}  {name}{outside(place + length)}{'  overlap' if meets else ''}"
+        above.append((place, length or 0))
 
 
 def show_json(volume):

@@ -71,9 +71,19 @@ Prints the header line by line: the version, luks1 or luks2, then the uuid and
 the other fields, then a line for each keyslot, and of LUKS2 for each token,
 segment and digest. Texts have each byte outside 0x20 to 0x7E, and the
 backslash, as a backslash and two hexadecimal digits. An empty list is a hyphen.
-Places are in sectors of 512 bytes in LUKS1, in bytes in LUKS2. With --json it
-prints one JSON object on one line, with all that these lines tell and more, and
-every place in bytes. Or it prints, in either form:
+Places are in sectors of 512 bytes in LUKS1, in bytes in LUKS2.
+
+At most one of these is given:
+  --all   of LUKS2 a second line behind each keyslot, the costs of its
+          derivation (memory in KiB), and behind each encrypted segment, how it
+          is
+  --map   the areas in the order of their places, with the gaps between them, in
+          bytes: place, length, what it is. Those that end past the volume are
+          marked 'outside', those that begin inside one above 'overlap'
+  --json  one JSON object on one line, with all that the lines tell and more,
+          and every place in bytes
+
+Or it prints, in each form:
   refused FAULT  the first fault of the header; whether areas lie inside the
                  volume and apart isn't judged
   device fault   the volume can't be read

@@ -1,5 +1,5 @@
 -- What `show` answers of a header that was read, and of one that wasn't.
-use Rattle.std.proofs.Common.{◌≡◌, ℕ, List, inl, inr, subst, sym, arith}
+use Rattle.std.proofs.Common.{◌≡◌, ℕ, List, length, inl, inr, subst, sym, arith}
 use Rattle.luks_area.specs.Device.{count_after}
 use Rattle.luks_area.specs.First.{NotAfter, IsLeast}
 use Rattle.luks_area.specs.Ranges.{part}
@@ -26,13 +26,14 @@ use Rattle.luks_reading.proofs.CheckFacts.{unread_refused}
 use Rattle.luks_reading.proofs.Luks2FaultFacts.{meta_cases}
 use Rattle.luks_reading.proofs.ReadFaults.{own_head}
 use Rattle.luks_request.specs.declared.request.ShowAs.{ShowAs}
-use Rattle.luks_request.specs.declared.request.ShowAs.TheVariants.{Lines, Json as AsJson}
+use Rattle.luks_request.specs.declared.request.ShowAs.TheVariants.{Lines, All, Map as AsMap, Json as AsJson}
+use Rattle.luks_map.specs.Map.{IsMap}
 use Rattle.luks_show.specs.declared.listing.Listing.TheVariants.{Luks1, Luks2}
 use Rattle.luks_commands.specs.declared.answers.Answer.{Answer}
-use Rattle.luks_commands.specs.declared.answers.Answer.TheVariants.{Accepted, Listed, Json, Opens, Closed, NoneOpens, Done, Refused, DeviceFault, NoMemory}
+use Rattle.luks_commands.specs.declared.answers.Answer.TheVariants.{Accepted, Listed, ListedFully, Mapped, Json, Opens, Closed, NoneOpens, Done, Refused, DeviceFault, NoMemory}
 use Rattle.luks_commands.specs.declared.answers.Refusal.TheVariants.{LongPassphrase, Check, Open, Edit, Format, Convert, Rebuild, SameFile, OtherUse}
 use Rattle.luks_commands.specs.Answer.{check_fault_answer}
-use Rattle.luks_show_command.specs.ShowAnswers.{IsBeforeAreas, IsAsJson, IsFirstShowFault, IsJsonAnswer, IsListedAnswer, IsShowAnswer, IsShowFault, IsShown, IsShownAs}
+use Rattle.luks_show_command.specs.ShowAnswers.{IsBeforeAreas, IsAsJson, IsAsMap, IsFirstShowFault, IsFullAnswer, IsInFull, IsJsonAnswer, IsListedAnswer, IsMapAnswer, IsShowAnswer, IsShowFault, IsShown, IsShownAs}
 
 -- the first fault of a check is the first that refuses a listing, unless it is one of the areas
 first_shown : (v : List ℕ) (f : CheckFault) → First v Elsewhere f → IsBeforeAreas f → IsFirstShowFault v f
@@ -118,6 +119,8 @@ json_answer tells v before after (Listed listing) (Json text) made is = (is.0, �
 json_answer tells v before after (Listed listing) NoMemory made is = is.0
 json_answer tells v before after (Listed listing) (Accepted version areas) made is = absurd made
 json_answer tells v before after (Listed listing) (Listed other) made is = absurd made
+json_answer tells v before after (Listed listing) (ListedFully full) made is = absurd made
+json_answer tells v before after (Listed listing) (Mapped m) made is = absurd made
 json_answer tells v before after (Listed listing) (Opens n) made is = absurd made
 json_answer tells v before after (Listed listing) (Closed n) made is = absurd made
 json_answer tells v before after (Listed listing) NoneOpens made is = absurd made
@@ -125,6 +128,8 @@ json_answer tells v before after (Listed listing) (Done slot) made is = absurd m
 json_answer tells v before after (Listed listing) (Refused by_) made is = absurd made
 json_answer tells v before after (Listed listing) DeviceFault made is = absurd made
 json_answer tells v before after (Accepted version areas) a made is = absurd is
+json_answer tells v before after (ListedFully full) a made is = absurd is
+json_answer tells v before after (Mapped m) a made is = absurd is
 json_answer tells v before after (Json text) a made is = absurd is
 json_answer tells v before after (Opens n) a made is = absurd is
 json_answer tells v before after (Closed n) a made is = absurd is
@@ -142,8 +147,61 @@ json_answer tells v before after (Refused (OtherUse found)) a made is = absurd i
 json_answer tells v before after DeviceFault a made is = subst (IsJsonAnswer tells v before after) (sym made) is
 json_answer tells v before after NoMemory a made is = subst (IsJsonAnswer tells v before after) (sym made) is.0
 
--- in either form
-pub shown_answer : (form : ShowAs) (tells : Type 0) (v : List ℕ) (before after : ℕ) (answer a : Answer) → IsShownAs form answer a
-    → IsListedAnswer tells v before after answer → IsShowAnswer form tells v before after a
-shown_answer Lines tells v before after answer a made is = subst (IsListedAnswer tells v before after) (sym made) is
-shown_answer AsJson tells v before after answer a made is = json_answer tells v before after answer a made is
+-- the answer by lines with all that they may tell
+full_answer : (tells : Type 0) (v : List ℕ) (before after : ℕ) (answer a : Answer) → IsInFull answer a
+    → IsListedAnswer tells v before after answer → IsFullAnswer tells v before after a
+full_answer tells v before after (Listed listing) a made is =
+    subst (IsFullAnswer tells v before after) (sym made.1.0) (is.0, λ t. subst (IsShown v) (sym made.1.1) (is.1 t))
+full_answer tells v before after (Accepted version areas) a made is = absurd is
+full_answer tells v before after (ListedFully full) a made is = absurd is
+full_answer tells v before after (Mapped m) a made is = absurd is
+full_answer tells v before after (Json text) a made is = absurd is
+full_answer tells v before after (Opens n) a made is = absurd is
+full_answer tells v before after (Closed n) a made is = absurd is
+full_answer tells v before after NoneOpens a made is = absurd is
+full_answer tells v before after (Done slot) a made is = absurd is
+full_answer tells v before after (Refused (Check f)) a made is = subst (IsFullAnswer tells v before after) (sym made) is
+full_answer tells v before after (Refused LongPassphrase) a made is = absurd is
+full_answer tells v before after (Refused (Open f)) a made is = absurd is
+full_answer tells v before after (Refused (Edit f)) a made is = absurd is
+full_answer tells v before after (Refused (Format f)) a made is = absurd is
+full_answer tells v before after (Refused (Convert f)) a made is = absurd is
+full_answer tells v before after (Refused (Rebuild f)) a made is = absurd is
+full_answer tells v before after (Refused SameFile) a made is = absurd is
+full_answer tells v before after (Refused (OtherUse found)) a made is = absurd is
+full_answer tells v before after DeviceFault a made is = subst (IsFullAnswer tells v before after) (sym made) is
+full_answer tells v before after NoMemory a made is = subst (IsFullAnswer tells v before after) (sym made) is
+
+-- the answer by lines as a map of a volume of `total` bytes
+map_answer : (total : ℕ) (tells : Type 0) (v : List ℕ) (before after : ℕ) (answer a : Answer) → (tells → length v ≡ total) → IsAsMap total answer a
+    → IsListedAnswer tells v before after answer → IsMapAnswer tells v before after a
+map_answer total tells v before after (Listed listing) a long made is =
+    subst (IsMapAnswer tells v before after) (sym made.1.0)
+    (is.0, λ t. record { listing = listing; shown = is.1 t; is = subst (λ n. IsMap listing n made.0) (sym (long t)) made.1.1 })
+map_answer total tells v before after (Accepted version areas) a long made is = absurd is
+map_answer total tells v before after (ListedFully full) a long made is = absurd is
+map_answer total tells v before after (Mapped m) a long made is = absurd is
+map_answer total tells v before after (Json text) a long made is = absurd is
+map_answer total tells v before after (Opens n) a long made is = absurd is
+map_answer total tells v before after (Closed n) a long made is = absurd is
+map_answer total tells v before after NoneOpens a long made is = absurd is
+map_answer total tells v before after (Done slot) a long made is = absurd is
+map_answer total tells v before after (Refused (Check f)) a long made is = subst (IsMapAnswer tells v before after) (sym made) is
+map_answer total tells v before after (Refused LongPassphrase) a long made is = absurd is
+map_answer total tells v before after (Refused (Open f)) a long made is = absurd is
+map_answer total tells v before after (Refused (Edit f)) a long made is = absurd is
+map_answer total tells v before after (Refused (Format f)) a long made is = absurd is
+map_answer total tells v before after (Refused (Convert f)) a long made is = absurd is
+map_answer total tells v before after (Refused (Rebuild f)) a long made is = absurd is
+map_answer total tells v before after (Refused SameFile) a long made is = absurd is
+map_answer total tells v before after (Refused (OtherUse found)) a long made is = absurd is
+map_answer total tells v before after DeviceFault a long made is = subst (IsMapAnswer tells v before after) (sym made) is
+map_answer total tells v before after NoMemory a long made is = subst (IsMapAnswer tells v before after) (sym made) is
+
+-- in each form
+pub shown_answer : (form : ShowAs) (total : ℕ) (tells : Type 0) (v : List ℕ) (before after : ℕ) (answer a : Answer) → (tells → length v ≡ total)
+    → IsShownAs form total answer a → IsListedAnswer tells v before after answer → IsShowAnswer form tells v before after a
+shown_answer Lines total tells v before after answer a long made is = subst (IsListedAnswer tells v before after) (sym made) is
+shown_answer All total tells v before after answer a long made is = full_answer tells v before after answer a made is
+shown_answer AsMap total tells v before after answer a long made is = map_answer total tells v before after answer a long made is
+shown_answer AsJson total tells v before after answer a long made is = json_answer tells v before after answer a made is

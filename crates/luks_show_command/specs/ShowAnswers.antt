@@ -17,6 +17,7 @@ use Rattle.luks_commands.specs.declared.answers.Answer.{Answer}
 use Rattle.luks_commands.specs.declared.answers.Answer.TheVariants.{Listed, ListedFully, Mapped, Json, Refused, DeviceFault, NoMemory}
 use Rattle.luks_commands.specs.declared.answers.Refusal.TheVariants.{Check}
 use Rattle.luks_commands.specs.declared.inputs.InputFault.{InputFault}
+use Rattle.luks_show.specs.declared.listing.FullListing.{FullListing}
 use Rattle.luks_show.specs.declared.listing.Listing.{Listing}
 use Rattle.luks_show.specs.declared.listing.Listing.TheVariants.{Luks1, Luks2}
 use Rattle.luks_map.specs.declared.map.HeaderMap.{HeaderMap}
@@ -112,14 +113,12 @@ IsAsJson answer a = a ≡ answer
 
 -- what a listing becomes with all that its lines may tell. Another answer stays
 abbrev pub IsInFull : Answer → Answer → Type 0
-IsInFull (Listed listing) (ListedFully full) = full.0 ≡ listing
-IsInFull (Listed listing) a = ⊥
+IsInFull (Listed listing) a = (full : FullListing) × ((a ≡ ListedFully full) × (full.0 ≡ listing))
 IsInFull answer a = a ≡ answer
 
 -- what a listing of a volume of `total` bytes becomes as a map. Another answer stays
 abbrev pub IsAsMap : ℕ → Answer → Answer → Type 0
-IsAsMap total (Listed listing) (Mapped m) = IsMap listing total m
-IsAsMap total (Listed listing) a = ⊥
+IsAsMap total (Listed listing) a = (m : HeaderMap) × ((a ≡ Mapped m) × IsMap listing total m)
 IsAsMap total answer a = a ≡ answer
 
 -- what an answer by lines, of a volume of `total` bytes, becomes in this form
