@@ -105,9 +105,9 @@ luks open [OPTIONS] <--passphrase <FILE>|--passphrase-line <FILE>>
 pub(crate) const OPEN_MORE: &str = "\
 The passphrase is all bytes of its file, a last newline too, at most 65536; by
 --passphrase-line what stands there before the first newline, a carriage return
-too, or all where there is none. The file may be -, standard input, which is
-read to its end, or <(printf %s ..) in a shell that has it. The volume key that
-is found is neither printed nor kept.
+too, or all where there is none. The file may be -, standard input, or
+<(printf %s ..) in a shell that has it. The volume key that is found is neither
+printed nor kept.
 
 Without --slot the keyslots are tried in turn: by number, but of LUKS2 those of
 priority 2 first. Passed over are keyslots of priority 0 and those that --slot
