@@ -526,10 +526,21 @@ def known(volume, area, cipher, cipher_key, length, stripes, hashes, derivation,
 
 def opened(plan, passphrase):
     """The key, or none."""
+    key, given = candidate(plan, passphrase)
+    return key if given == plan[-1][2] else None
+
+
+def candidate(plan, passphrase):
+    """What the stripes hold under the passphrase, and what that gives in place of the digest."""
     area, cipher_key, length, stripes, hashes, (salt, cost), (digest_salt, digest_iterations, digest) = plan
     slot_key = argon2(cost, passphrase, salt, cipher_key) if isinstance(cost, dict) else pbkdf2(hashes[0], passphrase, salt, cost, cipher_key)
     key = opened_area(hashes[1], slot_key, area, length, stripes)
-    return key if pbkdf2(hashes[2], key, digest_salt, digest_iterations, len(digest)) == digest else None
+    return key, pbkdf2(hashes[2], key, digest_salt, digest_iterations, len(digest))
+
+
+def distance(plan, passphrase):
+    """The number of bits in which that differs from the digest."""
+    return (int.from_bytes(candidate(plan, passphrase)[1], "big") ^ int.from_bytes(plan[-1][2], "big")).bit_count()
 
 
 def open_volume(volume, passphrase, slot=None, memory=0):
@@ -540,18 +551,21 @@ def open_volume(volume, passphrase, slot=None, memory=0):
         return 1, f"refused {fault}\n", None
 
 
-def open_found(volume, passphrase, slot, memory):
+def openable(volume, memory):
+    """Of a volume whose header is accepted so far: the plan of a keyslot, whether there can be one of a number, and the order in which they are tried."""
     chosen = select(volume)
     if chosen == 1:
         d = common1(volume)
-        plan, exists = (lambda n: plan1(volume, d, n)), (lambda n: n < 8)
-        order = range(8)
-    else:
-        checked_uuid(chosen[0]["uuid"])
-        value = metadata(chosen[0])
-        plan, exists = (lambda n: plan2(volume, value, n, memory)), (lambda n: str(n) in value["keyslots"])
-        numbered = [(it.get("priority", 1), n) for n, it in by_number(value["keyslots"])]
-        order = [n for wanted in (2, 1) for priority, n in numbered if priority == wanted]
+        return (lambda n: plan1(volume, d, n)), (lambda n: n < 8), range(8)
+    checked_uuid(chosen[0]["uuid"])
+    value = metadata(chosen[0])
+    numbered = [(it.get("priority", 1), n) for n, it in by_number(value["keyslots"])]
+    order = [n for wanted in (2, 1) for priority, n in numbered if priority == wanted]
+    return (lambda n: plan2(volume, value, n, memory)), (lambda n: str(n) in value["keyslots"]), order
+
+
+def open_found(volume, passphrase, slot, memory):
+    plan, exists, order = openable(volume, memory)
     if slot is not None:
         if not exists(slot):
             raise Fault("NoSuchSlot")
@@ -565,3 +579,18 @@ def open_found(volume, passphrase, slot, memory):
         if key is not None:
             return 0, f"slot {n} opens\n", key
     return 1, "no slot opens\n", None
+
+
+def almost_met(volume, passphrase, slot=None, memory=0):
+    """What standard error says of the keyslot that is almost met, of a volume where the passphrase opens none that is tried; or nothing."""
+    plan, _, order = openable(volume, memory)
+    distances = []
+    for n in order if slot is None else [slot]:
+        try:
+            distances.append((distance(plan(n), passphrase), n))
+        except Fault:
+            continue
+    # the least number of bits, and the first in the order of those that have it
+    bits, n = min(distances, key=lambda it: it[0], default=(9, None))
+    said = f"keyslot {n} is almost met: its digest differs in {bits} bit{'' if bits == 1 else 's'}, so the passphrase is right and the digest is damaged"
+    return [said] if bits <= 8 else []

@@ -7,6 +7,7 @@ ghost use Rattle.luks_commands.specs.Exit.{IsExitStatus};
 ghost use Rattle.luks_commands.specs.Files.{IsLong, IsUnread, IsWhole, KeepsVolume};
 ghost use Rattle.luks_commands.specs.OpenAnswers.{any_answer, AnswersOpen, IsAnyAnswer, IsOneAnswer, IsOpenAnswer, kib_of, one_answer};
 
+mod almost_met;
 mod memory_notes;
 mod passed_over;
 
@@ -14,7 +15,8 @@ use crate::answers::{Answer, Refusal, Status, end, unread};
 use crate::inputs::Inputs;
 use crate::passphrase_file::{PassphraseFault, passphrase};
 use crate::printer::Printer;
-use luks_reading::{Device, Key, OpenFault, open_header_slot, read_header, unlock_header};
+use almost_met::note_unopened;
+use luks_reading::{Device, Key, OpenFault, read_header, try_header, try_header_slot};
 pub use memory_notes::{MemoryNote, memory_note};
 use memory_notes::{note_all_wanting, note_refused, note_wanting};
 use passed_over::note_passed_over;
@@ -138,9 +140,10 @@ fn open_one<D: Device, E: Write>(
             return answer;
         }
     };
-    let opened = open_header_slot(alloc, device, &header, n, passphrase, memory);
+    let mut nearest = None;
+    let opened = try_header_slot(alloc, device, &header, n, passphrase, memory, &mut nearest);
     match &opened {
-        Ok(None) => note_line_feed(passphrase, err),
+        Ok(None) => note_unopened(nearest, passphrase, err),
         Err(OpenFault::Slot(_)) => note_refused(&header, n, device.len(), memory, err),
         Err(OpenFault::Memory) => note_wanting(&header, n, device.len(), memory, err),
         _ => {}
@@ -184,10 +187,11 @@ fn open_any<D: Device, E: Write>(
             return answer;
         }
     };
-    let opened = unlock_header(alloc, device, &header, passphrase, memory);
+    let mut nearest = None;
+    let opened = try_header(alloc, device, &header, passphrase, memory, &mut nearest);
     match &opened {
         Ok(None) => {
-            note_line_feed(passphrase, err);
+            note_unopened(nearest, passphrase, err);
             note_passed_over(&header, device.len(), memory, err);
         }
         Err(OpenFault::Memory) => note_all_wanting(&header, device.len(), memory, err),
@@ -213,15 +217,5 @@ fn any_answer(opened: &Result<Option<(u8, Key)>, OpenFault>) -> Answer
 fn note_failure<E: Write>(answer: &Answer, volume: &str, err: &mut E) {
     if matches!(answer, Answer::DeviceFault) {
         let _ = writeln!(err, "luks: {volume}: reading failed");
-    }
-}
-
-/// Says of a passphrase that opened nothing what its reader may not know of it.
-fn note_line_feed<E: Write>(passphrase: &[u8], err: &mut E) {
-    if passphrase.last() == Some(&b'\n') {
-        let _ = writeln!(
-            err,
-            "luks: the passphrase's file ends in a newline, which was taken as part of it"
-        );
     }
 }

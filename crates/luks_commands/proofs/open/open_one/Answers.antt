@@ -10,12 +10,12 @@ pub returns-clause-answers : goal.returns-clause-answers
 returns-clause-answers g c =
     let v = g.D.Device.bytes c.args.device.now in
     subst (IsOneAnswer g.D.Device.tells c.args.memory v c.args.n c.args.passphrase.now _ _) (sym c.one_answer-answer.ensures)
-    (answers_one g.D.Device.tells c.args.memory v c.args.n c.args.passphrase.now _ _ c.open_header_slot-opened.result
-    (rw c.in-Ok.ensures.count at c.open_header_slot-opened.ensures.count)
+    (answers_one g.D.Device.tells c.args.memory v c.args.n c.args.passphrase.now _ _ c.try_header_slot-opened.result
+    (rw c.in-Ok.ensures.count at c.try_header_slot-opened.ensures.count)
     (λ tells. rw (c.read_header.ensures.unchanged.same tells) at
-    (c.open_header_slot-opened.ensures.opens tells (rw (c.read_header.ensures.unchanged.same tells) (c.in-Ok.ensures.read tells))))
+    (c.try_header_slot-opened.ensures.opens tells (rw (c.read_header.ensures.unchanged.same tells) (c.in-Ok.ensures.read tells))))
     (λ tells. rw (c.read_header.ensures.unchanged.same tells) at
-    (c.open_header_slot-opened.ensures.refused tells (rw (c.read_header.ensures.unchanged.same tells) (c.in-Ok.ensures.read tells)))))
+    (c.try_header_slot-opened.ensures.refused tells (rw (c.read_header.ensures.unchanged.same tells) (c.in-Ok.ensures.read tells)))))
 
 pub returns-in-Err-clause-answers : goal.returns-in-Err-clause-answers
 returns-in-Err-clause-answers g c =
