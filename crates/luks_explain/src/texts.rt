@@ -300,7 +300,7 @@ pub(crate) fn next(fault: Fault) -> &'static str {
         }
         Fault::Locked => {
             "luks open tells which keyslot it opens; a newline at the end of its file
-       is a part of it, and printf %s writes none"
+       is a part of it, unless --passphrase-line leaves it out"
         }
         Fault::Passphrase => "see whether it is the right file; a longer passphrase isn't taken",
         Fault::Requirements => {
