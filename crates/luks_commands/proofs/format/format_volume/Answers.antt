@@ -12,7 +12,7 @@ returns-clause-left g c =
     let HasCounted : ℕ → List ℕ → Type 0 = λ count. AreFirstBytes count g.N.Read.remaining c.args.inputs.now.random in
     let HasRandom : List ℕ → Type 0 = HasCounted (needed c.args.making.now.version) in
     let words : HasWords c.as_slice-words.result.now = subst HasWords (sym c.as_slice-words.ensures.value) c.in-Ok.ensures.whole in
-    let counted : HasRandom c.in-Ok-random_bytes.bytes.items = subst (λ n. HasCounted n c.in-Ok-random_bytes.bytes.items) c.random_needed.ensures c.in-Ok-random_bytes.ensures.taken in
+    let counted : HasRandom c.in-Ok-random_bytes.bytes = subst (λ n. HasCounted n c.in-Ok-random_bytes.bytes) c.random_needed.ensures c.in-Ok-random_bytes.ensures.taken in
     let taken : HasRandom c.as_slice-random.result.now = subst HasRandom (sym c.as_slice-random.ensures.value) counted in
     rw c.in-Ok-volume.is (record {
       size = c.format_device.ensures.size;
