@@ -19,8 +19,8 @@ use std::rt::Files;
 pub(crate) struct Outcome {
     /// The exit status.
     pub(crate) status: u8,
-    /// The answer, where it is told as an object.
-    pub(crate) answer: Option<Answer>,
+    /// The answer, where it is told as an object. By value it would lie on the stack beside each command.
+    pub(crate) answer: Option<Box<Answer>>,
     /// The answer's lines.
     pub(crate) lines: Vec<u8>,
     /// What is noted for standard error.
@@ -162,12 +162,26 @@ fn object_of_open<R: Files<File = File>>(
 
 /// What a command has come to whose answer is told as an object.
 fn object_of(alloc: Global, answer: Answer, notes: Vec<u8>) -> Outcome {
-    let mut out = CountingPrinter::new(Vec::new(alloc));
-    let _ = end(&answer, &mut out);
-    Outcome {
-        status: answer.status() as u8,
-        answer: Some(answer),
-        lines: out.writer,
-        notes,
+    let lines = lines_of_answer(alloc, &answer);
+    let status = answer.status() as u8;
+    match Box::new(alloc, answer) {
+        Ok(answer) => Outcome {
+            status,
+            answer: Some(answer),
+            lines,
+            notes,
+        },
+        Err(_) => Outcome {
+            status: FAULT,
+            answer: None,
+            lines: lines_of_answer(alloc, &Answer::NoMemory),
+            notes,
+        },
     }
+}
+
+fn lines_of_answer(alloc: Global, answer: &Answer) -> Vec<u8> {
+    let mut out = CountingPrinter::new(Vec::new(alloc));
+    let _ = end(answer, &mut out);
+    out.writer
 }
