@@ -2,12 +2,16 @@
 //! the texts of its help.
 #![tactic(auto)]
 
+mod choices;
 mod command_line;
+mod commands;
 mod helps;
 mod manner;
+mod operands;
+mod options;
 mod program;
 mod requests;
-mod words;
+mod takes;
 
 pub use command_line::{Asked, line, parse};
 pub use luks_request::{
