@@ -1,9 +1,9 @@
 //! The commands, in the order of the help, and which words may follow the name of each.
 
 use crate::choices::Choice;
-use crate::helps;
 use crate::operands::Operand;
 use crate::options::LongOption;
+use crate::{helps, rescue_helps};
 
 /// A command: its name, its help, and what may follow its name.
 #[derive(Clone, Copy)]
@@ -29,7 +29,7 @@ pub(crate) fn commands() -> &'static [Described] {
     &COMMANDS
 }
 
-static COMMANDS: [Described; 12] = [
+static COMMANDS: [Described; 13] = [
     Described {
         name: "check",
         overwrites: false,
@@ -40,6 +40,8 @@ static COMMANDS: [Described; 12] = [
         options: &[
             LongOption::Detached,
             LongOption::JsonAnswer,
+            LongOption::Offset,
+            LongOption::Length,
             LongOption::Quiet,
         ],
         choices: &[],
@@ -55,6 +57,8 @@ static COMMANDS: [Described; 12] = [
             LongOption::All,
             LongOption::Map,
             LongOption::Json,
+            LongOption::Offset,
+            LongOption::Length,
             LongOption::Quiet,
         ],
         choices: &[],
@@ -72,6 +76,8 @@ static COMMANDS: [Described; 12] = [
             LongOption::TriedSlot,
             LongOption::Memory,
             LongOption::JsonAnswer,
+            LongOption::Offset,
+            LongOption::Length,
             LongOption::Quiet,
         ],
         choices: &[Choice::Passphrase],
@@ -95,6 +101,8 @@ static COMMANDS: [Described; 12] = [
             LongOption::Memory,
             LongOption::Over,
             LongOption::Detached,
+            LongOption::Offset,
+            LongOption::Length,
             LongOption::Quiet,
         ],
         choices: &[Choice::Passphrase, Choice::New],
@@ -117,6 +125,8 @@ static COMMANDS: [Described; 12] = [
             LongOption::Memory,
             LongOption::Over,
             LongOption::Detached,
+            LongOption::Offset,
+            LongOption::Length,
             LongOption::Quiet,
         ],
         choices: &[Choice::Passphrase, Choice::New],
@@ -136,6 +146,8 @@ static COMMANDS: [Described; 12] = [
             LongOption::Memory,
             LongOption::Over,
             LongOption::Detached,
+            LongOption::Offset,
+            LongOption::Length,
             LongOption::Quiet,
         ],
         choices: &[Choice::Passphrase],
@@ -151,6 +163,8 @@ static COMMANDS: [Described; 12] = [
             LongOption::Random,
             LongOption::Over,
             LongOption::Detached,
+            LongOption::Offset,
+            LongOption::Length,
             LongOption::Quiet,
         ],
         choices: &[],
@@ -166,6 +180,8 @@ static COMMANDS: [Described; 12] = [
             LongOption::NeededRandom,
             LongOption::Over,
             LongOption::Detached,
+            LongOption::Offset,
+            LongOption::Length,
             LongOption::Quiet,
         ],
         choices: &[],
@@ -185,6 +201,8 @@ static COMMANDS: [Described; 12] = [
             LongOption::Hash,
             LongOption::Iterations,
             LongOption::Detached,
+            LongOption::Offset,
+            LongOption::Length,
             LongOption::Quiet,
         ],
         choices: &[Choice::Passphrase],
@@ -199,6 +217,8 @@ static COMMANDS: [Described; 12] = [
         options: &[
             LongOption::NeededRandom,
             LongOption::DetachedSource,
+            LongOption::Offset,
+            LongOption::Length,
             LongOption::Quiet,
         ],
         choices: &[],
@@ -214,8 +234,20 @@ static COMMANDS: [Described; 12] = [
             LongOption::NeededRandom,
             LongOption::Second,
             LongOption::Uuid,
+            LongOption::Offset,
+            LongOption::Length,
             LongOption::Quiet,
         ],
+        choices: &[],
+    },
+    Described {
+        name: "find",
+        overwrites: false,
+        about: rescue_helps::FIND,
+        usage: None,
+        more: rescue_helps::FIND_MORE,
+        operands: &[Operand::Device],
+        options: &[LongOption::Offset, LongOption::Length, LongOption::Quiet],
         choices: &[],
     },
     Described {

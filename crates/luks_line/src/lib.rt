@@ -11,10 +11,11 @@ mod operands;
 mod options;
 mod program;
 mod requests;
+mod rescue_helps;
 mod takes;
 
 pub use command_line::{Asked, line, parse};
 pub use luks_request::{
-    Command, Converting, EditRequest, Editing, Line, Making, NewVersion, Rebuilding, ShowAs,
+    Command, Converting, EditRequest, Editing, Line, Making, NewVersion, Place, Rebuilding, ShowAs,
 };
 pub use manner::Manner;

@@ -29,6 +29,8 @@ pub(crate) enum LongOption {
     Quiet,
     PassphraseLine,
     NewLine,
+    Offset,
+    Length,
 }
 
 impl LongOption {
@@ -46,7 +48,7 @@ pub(crate) struct OptionRow {
 }
 
 /// In the order of `LongOption`.
-static OPTIONS: [OptionRow; 23] = [
+static OPTIONS: [OptionRow; 25] = [
     OptionRow {
         name: "detached",
         needed: false,
@@ -62,7 +64,7 @@ static OPTIONS: [OptionRow; 23] = [
     OptionRow {
         name: "all",
         needed: false,
-        help: "With the costs of keyslots and the encryption of segments",
+        help: "With costs of keyslots and encryption of segments",
         takes: Takes::Form,
     },
     OptionRow {
@@ -184,5 +186,17 @@ static OPTIONS: [OptionRow; 23] = [
         needed: false,
         help: "Instead, a file whose first line is taken",
         takes: Takes::File,
+    },
+    OptionRow {
+        name: "offset",
+        needed: false,
+        help: "Where in its file it begins",
+        takes: Takes::Offset,
+    },
+    OptionRow {
+        name: "length",
+        needed: false,
+        help: "Its length; else it goes to the file's end",
+        takes: Takes::Bytes,
     },
 ];

@@ -25,6 +25,10 @@ pub(crate) enum Takes {
     Hash,
     /// The text of a uuid.
     Uuid,
+    /// A byte of a file, by its number.
+    Offset,
+    /// A number of bytes.
+    Bytes,
 }
 
 impl Takes {
@@ -42,6 +46,7 @@ impl Takes {
             Takes::Slot => ValueParser::Unsigned(0, 31),
             Takes::Memory => ValueParser::Unsigned(0, 4194303),
             Takes::Iterations => ValueParser::Unsigned(0, 4294967295),
+            Takes::Offset | Takes::Bytes => ValueParser::Unsigned(0, u64::MAX),
             Takes::Version => ValueParser::Names(&["1", "2"]),
             Takes::Hash => ValueParser::Names(HashName::NAMES),
         }
@@ -57,13 +62,14 @@ impl Takes {
             Takes::Version => &["VERSION"],
             Takes::Hash => &["HASH"],
             Takes::Uuid => &["TEXT"],
+            Takes::Offset | Takes::Bytes => &["BYTES"],
         }
     }
 
     /// The value that counts where the option isn't there: one, or none.
     pub(crate) fn preset(self) -> &'static [&'static str] {
         match self {
-            Takes::Memory => &["0"],
+            Takes::Memory | Takes::Offset => &["0"],
             Takes::Iterations => &["100000"],
             Takes::Version => &["2"],
             Takes::Hash => &["sha256"],
