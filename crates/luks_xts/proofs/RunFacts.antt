@@ -4,8 +4,8 @@ use Rattle.std.proofs.lemmas.Bool.{cases_lt}
 use Rattle.std.proofs.lemmas.List.{length-take-le, length-drop, drop_at, drop-take, take-take}
 use Rattle.std.proofs.lemmas.Slice.{take-put_mid, take-put_mid_below}
 use borrow.Rule.Slice.PartMut.{put_mid}
-use Rattle.luks_xts.specs.declared.units.Direction.{Direction}
-use Rattle.luks_xts.specs.declared.units.Direction.TheVariants.{Seal, Open}
+use Rattle.luks_xts.specs.declared.xts.Direction.{Direction}
+use Rattle.luks_xts.specs.declared.xts.Direction.TheVariants.{Seal, Open}
 use Rattle.luks_xts.specs.Xts.{block_key, tweak_of}
 use Rattle.luks_xts.specs.Units.{unit_at, AreMade, converted, converted_blocks, opposite}
 use Rattle.luks_xts.proofs.ByteFacts.{AreBytes, bytes-take, bytes-drop}

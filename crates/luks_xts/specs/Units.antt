@@ -1,7 +1,7 @@
 -- Runs of units of 512 bytes.
 use Rattle.std.specs.Prelude.{◌≡◌, ℕ, ◌+◌, ◌*◌, ◌/◌, ◌<◌, List, length, take, drop}
-use Rattle.luks_xts.specs.declared.units.Direction.{Direction}
-use Rattle.luks_xts.specs.declared.units.Direction.TheVariants.{Seal, Open}
+use Rattle.luks_xts.specs.declared.xts.Direction.{Direction}
+use Rattle.luks_xts.specs.declared.xts.Direction.TheVariants.{Seal, Open}
 use Rattle.luks_xts.specs.Xts.{XtsSeal, XtsOpen}
 use Rattle.luks_xts.specs.Blocks.{sealed_blocks, opened_blocks}
 
