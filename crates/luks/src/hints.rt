@@ -10,7 +10,7 @@ use luks_cache::CachedDevice;
 use luks_cli::{Command, Line, OtherUse, note_other_use, note_overwritten, standing_use};
 use luks_explain::{Fault, refusing};
 use luks_leftovers::{FrontFault, header_end, note_leftovers, read_front};
-use luks_lock::{FOLDER, open_locked};
+use luks_lock::{FOLDER, Host, open_locked};
 use luks_metadata_notes::{note_no_keyslots, note_taken, note_whole};
 use luks_rebuilding::Which;
 use luks_signatures::first_use;
@@ -126,7 +126,7 @@ fn tell_more<R: AllocGlobal + Clock + Files<File = File>>(
 fn reopened<R: AllocGlobal + Clock + Files<File = File>>(rt: &R, volume: &str) -> Option<Volume>
     ensures { IfSome result (λ device. cached_failures device ≡ 0) }
 {
-    let device = open_locked(rt, volume, false, FOLDER).ok()?;
+    let device = open_locked(rt.alloc(), &mut Host::new(rt), volume, false, FOLDER).ok()?;
     CachedDevice::new(rt.alloc(), device).ok()
 }
 

@@ -19,7 +19,9 @@ use luks_cache::CachedDevice;
 use luks_cli::{InputFault, Inputs, Line, OtherUse, Reason, first_bytes, first_line};
 use luks_explain::Fault;
 use luks_line::{Asked, Manner, parse};
-use luks_lock::{FOLDER, LazyFile, LockedDevice, OpenFault, is_same_file, open_locked};
+use luks_lock::{
+    FOLDER, Host, LazyFile, LockedDevice, OpenFault, is_same_file, open_locked,
+};
 use luks_wiping::{Secret, wipe_stack};
 use outcome::{Outcome, outcome_of};
 use std::alloc::Global;
@@ -350,7 +352,7 @@ fn open_volumes<R: AllocGlobal + Clock + Files<File = File>>(
             target: Err(InputFault::Absent),
         };
     };
-    if is_same_file(rt, line.volume, path) {
+    if is_same_file(&mut Host::new(rt), line.volume, path) {
         return Volumes::unopened(InputFault::Unreadable(Reason::SameFile));
     }
     let volume = open_volume(rt, line.volume, line.writes(), notes);
@@ -377,7 +379,7 @@ fn open_volume<R: AllocGlobal + Clock + Files<File = File>>(
 ) -> Result<Volume, InputFault>
     ensures { IfOk result (λ device. cached_failures device ≡ 0) }
 {
-    match open_locked(rt, volume, writes, FOLDER) {
+    match open_locked(rt.alloc(), &mut Host::new(rt), volume, writes, FOLDER) {
         Ok(device) => {
             for notice in device.lock().notices().iter().flatten() {
                 let _ = writeln!(notes, "luks: {volume}: {notice}");

@@ -6,7 +6,7 @@ use luks_area::FileDevice;
 use luks_cache::CachedDevice;
 use luks_cli::{InputFault, Inputs, Reason, first_bytes};
 use luks_line::line;
-use luks_lock::{LazyFile, LockedDevice, open_locked};
+use luks_lock::{Host, LazyFile, LockedDevice, open_locked};
 use luks_sessions::{Told, run_words, words_of};
 use std::alloc::{AllocError, Global};
 use std::fs::{self, File};
@@ -43,7 +43,7 @@ fn opened<R: AllocGlobal + Clock + Files<File = File>>(
 ) -> Result<Volume, InputFault>
     ensures { IfOk result (λ device. cached_failures device ≡ 0) }
 {
-    match open_locked(rt, path, writes, NO_FOLDER) {
+    match open_locked(rt.alloc(), &mut Host::new(rt), path, writes, NO_FOLDER) {
         Ok(device) => CachedDevice::new(rt.alloc(), device).map_err(|_| InputFault::NoMemory),
         Err(_) => Err(InputFault::Unreadable(Reason::Other)),
     }

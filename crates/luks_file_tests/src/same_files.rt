@@ -5,7 +5,7 @@ ghost use Rattle.luks_cache.specs.Cached.{cached_failures};
 use luks_area::FileDevice;
 use luks_cache::CachedDevice;
 use luks_cli::{InputFault, Inputs, Reason};
-use luks_lock::{LockedDevice, OpenFault, is_same_file, open_locked};
+use luks_lock::{Host, LockedDevice, OpenFault, is_same_file, open_locked};
 use luks_samples::new_folder;
 use luks_sessions::Told;
 use std::fs::{self, File};
@@ -20,7 +20,7 @@ type Opened = Result<CachedDevice<LockedDevice<FileDevice<File>>>, InputFault>;
 fn opened<R: AllocGlobal + Clock + Files<File = File>>(rt: &R, path: &str, writes: bool) -> Opened
     ensures { IfOk result (λ device. cached_failures device ≡ 0) }
 {
-    match open_locked(rt, path, writes, "/nowhere") {
+    match open_locked(rt.alloc(), &mut Host::new(rt), path, writes, "/nowhere") {
         Ok(device) => CachedDevice::new(rt.alloc(), device).map_err(|_| InputFault::NoMemory),
         Err(OpenFault::File(fault)) => Err(InputFault::from(fault)),
         Err(_) => Err(InputFault::Unreadable(Reason::Other)),
@@ -36,7 +36,7 @@ fn both<R: AllocGlobal + Clock + Files<File = File>>(
     ensures volume { IfOk result.0 (λ device. cached_failures device ≡ 0) }
     ensures target { IfOk result.1 (λ device. cached_failures device ≡ 0) }
 {
-    if is_same_file(rt, volume, target) {
+    if is_same_file(&mut Host::new(rt), volume, target) {
         let same = InputFault::Unreadable(Reason::SameFile);
         return (Err(InputFault::Absent), Err(same));
     }
