@@ -261,7 +261,7 @@ static ROWS: [(Case, &str, &str); 9] = [
 ];
 
 /// A system that answers so, over this file.
-fn fake<'a, R: AllocGlobal>(rt: &'a R, real: &'a str, case: Case) -> Fake<'a, R> {
+fn answering<'a, R: AllocGlobal>(rt: &'a R, real: &'a str, case: Case) -> Fake<'a, R> {
     Fake {
         rt,
         real,
@@ -281,7 +281,7 @@ fn in_their_order(rt: HostRuntime) -> Result<(), Fail> {
     fs::write(&rt, path.as_str(), "v")?;
     for (i, row) in ROWS.iter().enumerate() {
         let (case, calls, outcome) = *row;
-        let mut fake = fake(&rt, path.as_str(), case);
+        let mut fake = answering(&rt, path.as_str(), case);
         let found = outcome_of(rt.alloc(), &mut fake);
         assert!(rt; found == outcome, "row {i}");
         assert!(rt; fake.log.as_slice() == calls.as_bytes(), "row {i}: the calls");
@@ -302,7 +302,7 @@ fn for_three_seconds(rt: HostRuntime) -> Result<(), Fail> {
             answers: &[Answer::Taken],
             ..READ
         };
-        let mut fake = fake(&rt, path.as_str(), case);
+        let mut fake = answering(&rt, path.as_str(), case);
         let found = outcome_of(rt.alloc(), &mut fake);
         assert!(rt; found == outcome, "{outcome}");
         assert!(rt; fake.asked == 60 && fake.sleeps == 59, "{outcome}: the tries");
