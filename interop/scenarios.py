@@ -1,6 +1,5 @@
 """The volumes and the commands that `faults` and `power` try: edits of the program and of cryptsetup."""
 import os
-import sys
 
 from common import cryptsetup, put
 
