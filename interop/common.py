@@ -28,10 +28,10 @@ def said(words, folder=None, **more):
 
 def cryptsetup(words, folder):
     """What cryptsetup writes; it has to end with status 0."""
-    done = ran(["cryptsetup", *words.split()], folder)
-    if done.returncode:
-        sys.exit(f"cryptsetup {words}: {done.stdout}{done.stderr}")
-    return done.stdout
+    status, out, err = said(["cryptsetup", *words.split()], folder)
+    if status:
+        sys.exit(f"cryptsetup {words}: {out}{err}")
+    return out
 
 
 def put(folder, name, data):
