@@ -9,8 +9,8 @@ const PASSPHRASE: usize = 128;
 
 /// The front of the small volumes' key, whose bytes are counted from 0 on.
 const KEY: [u8; 32] = [
-    0, 1, 2, 3, 4, 5, 6, 7, 8, 9, 10, 11, 12, 13, 14, 15, 16, 17, 18, 19, 20, 21, 22, 23, 24, 25, 26,
-    27, 28, 29, 30, 31,
+    0, 1, 2, 3, 4, 5, 6, 7, 8, 9, 10, 11, 12, 13, 14, 15, 16, 17, 18, 19, 20, 21, 22, 23, 24, 25,
+    26, 27, 28, 29, 30, 31,
 ];
 
 /// Whether such a run stands in the text: of one of the passphrases, of the small volumes' key, or of the random
