@@ -3,7 +3,7 @@ use Rattle.std.proofs.Common.{◌≡◌, ℕ, ◌+◌, ◌*◌, ◌<◌, ◌≤�
 use Rattle.std.proofs.lemmas.Bool.{cases_lt}
 use Rattle.std.proofs.lemmas.List.{get_or_append_left}
 use Rattle.std.proofs.Math.Seq.{get_or-append_seam}
-use Rattle.luks_finding.specs.Finding.{AreStartsBelow, IsNextStart}
+use Rattle.luks_finding.specs.Finding.{AreStartsBelow, HasNoStart, IsNextStart}
 use Rattle.luks_finding.specs.Starts.{AreRising, AreStarts, IsAmong, IsStart}
 
 -- before anything was told
@@ -68,6 +68,19 @@ start-more v from list s next below more =
             omega (arith, left, right, high, at, low)
       ];
     }
+
+-- none more
+pub none-more : (v : List ℕ) (from : ℕ) (list : List ℕ) (next : ℕ) → from < next → AreStartsBelow v from list → HasNoStart v from next → AreStartsBelow v next list
+none-more v from list next further below none = record {
+  sound = λ i lt. let is = below.sound i lt in let high = is.1 in (is.0, omega (arith, high, further));
+  complete = λ s start lt.
+      let there : s ≡ 512 * start.sector = start.there in
+      elim (cases_lt start.sector from) [
+        | inl before ↦ below.complete s start (omega (arith, there, before))
+        | inr behind ↦ absurd (none start.sector behind (omega (arith, there, lt)) (subst (IsStart v) there start))
+      ];
+  rising = below.rising;
+}
 
 -- and no other
 pub starts-all : (v : List ℕ) (from : ℕ) (list : List ℕ) → AreStartsBelow v from list → ((k : ℕ) → from ≤ k → IsStart v (512 * k) → ⊥) → AreStarts v list

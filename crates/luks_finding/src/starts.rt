@@ -1,5 +1,5 @@
 //! All starts of a disk.
-ghost use Rattle.std.specs.Prelude.{◌≡◌, ◌+◌, ◌^◌, ◌<◌, IfOk};
+ghost use Rattle.std.specs.Prelude.{◌≡◌, ◌+◌, ◌++◌, ◌∷◌, [], ◌^◌, ◌<◌, IfOk, OnOk};
 ghost use Rattle.luks_area.specs.Device.{CountsFailure, IsUnchanged};
 ghost use Rattle.luks_finding.specs.Faults.{is_find_failure};
 ghost use Rattle.luks_finding.specs.Starts.{AreStarts};
@@ -24,9 +24,17 @@ pub fn all_starts<D: Device>(alloc: Global, device: &mut D) -> Result<Vec<u64>, 
     let mut starts = Vec::new(alloc);
     loop {
         match finding.step(device)? {
-            Step::Start(start) => starts.push(start).map_err(AllocError::from)?,
+            Step::Start(start) => put(&mut starts, start)?,
             Step::On => {}
             Step::End => return Ok(starts),
         }
     }
+}
+
+/// Puts a start at the end of the list.
+fn put(starts: &mut Vec<u64>, start: u64) -> Result<(), AllocError>
+    ensures { OnOk result (starts.new.items ≡ starts.old.items ++ start ∷ []) }
+{
+    starts.push(start)?;
+    Ok(())
 }
