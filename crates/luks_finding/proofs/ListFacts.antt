@@ -1,10 +1,10 @@
 -- The list of the starts that were told.
-use Rattle.std.proofs.Common.{◌≡◌, ℕ, ◌+◌, ◌*◌, ◌<◌, ◌≤◌, List, [], ◌∷◌, ◌++◌, ◌⊎◌, inl, inr, length, get_or, refl, sym, ap, ◌∙◌, subst, arith, length-append}
+use Rattle.std.proofs.Common.{◌≡◌, ℕ, ◌+◌, ◌*◌, ◌<◌, ◌≤◌, List, [], ◌∷◌, ◌++◌, inl, inr, length, get_or, sym, ap, ◌∙◌, subst, arith, length-append}
 use Rattle.std.proofs.lemmas.Bool.{cases_lt}
 use Rattle.std.proofs.lemmas.List.{get_or_append_left}
 use Rattle.std.proofs.Math.Seq.{get_or-append_seam}
 use Rattle.luks_finding.specs.Finding.{AreStartsBelow, HasNoStart, IsNextStart}
-use Rattle.luks_finding.specs.Starts.{AreRising, AreStarts, IsAmong, IsStart}
+use Rattle.luks_finding.specs.Starts.{AreStarts, IsStart}
 
 -- before anything was told
 pub none-below : (v : List ℕ) → AreStartsBelow v 0 []

@@ -1,4 +1,4 @@
-use Rattle.std.proofs.Common.{◌≡◌, ℕ, ◌+◌, ◌*◌, ◌≤◌, length, arith}
+use Rattle.std.proofs.Common.{◌+◌, ◌*◌, ◌≤◌, length, arith}
 use Rattle.luks_finding.proofs.BlockFacts.{begins-inside}
 use Rattle.luks_finding.proofs.signs.first_header.Goals as goal
 
