@@ -59,6 +59,8 @@ pub fn says_no_more(found: &Told, said: &str) -> bool {
     };
     rest.is_empty()
         || found.status == 1
-            && rest.strip_prefix(b"luks: luks explain ".as_slice()).is_some()
+            && rest
+                .strip_prefix(b"luks: luks explain ".as_slice())
+                .is_some()
             && rest.iter().filter(|byte| **byte == b'\n').count() == 1
 }

@@ -5,4 +5,4 @@ use Rattle.luks_lock.specs.declared.system.Share.{Share}
 
 -- it was asked for so, and answered so
 abbrev pub asked : Share → Answer → Asked
-asked share answer = record { share = share; answer = answer; }
+asked share answer = record { share = share; answer = answer }

@@ -1,7 +1,5 @@
 //! Which calls of the system are made, in their order, where a volume is opened.
-use luks_lock::{
-    Access, Answer, Asked, Found, Kind, OpenFault, Share, System, open_locked,
-};
+use luks_lock::{Access, Answer, Asked, Found, Kind, OpenFault, Share, System, open_locked};
 use luks_samples::new_folder;
 use std::alloc::Global;
 use std::fs::{self, File};
@@ -284,7 +282,10 @@ fn in_their_order(rt: HostRuntime) -> Result<(), Fail> {
         let mut fake = answering(&rt, path.as_str(), case);
         let found = outcome_of(rt.alloc(), &mut fake);
         assert!(rt; found == outcome, "row {i}");
-        assert!(rt; fake.log.as_slice() == calls.as_bytes(), "row {i}: the calls");
+        assert!(rt;
+            fake.log.as_slice() == calls.as_bytes(),
+            "row {i}: the calls"
+        );
     }
     fs::remove_dir_all(&rt, top.as_str())?;
     Ok(())
@@ -305,7 +306,10 @@ fn for_three_seconds(rt: HostRuntime) -> Result<(), Fail> {
         let mut fake = answering(&rt, path.as_str(), case);
         let found = outcome_of(rt.alloc(), &mut fake);
         assert!(rt; found == outcome, "{outcome}");
-        assert!(rt; fake.asked == 60 && fake.sleeps == 59, "{outcome}: the tries");
+        assert!(rt;
+            fake.asked == 60 && fake.sleeps == 59,
+            "{outcome}: the tries"
+        );
     }
     fs::remove_dir_all(&rt, top.as_str())?;
     Ok(())

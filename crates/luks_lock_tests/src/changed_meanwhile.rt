@@ -67,7 +67,11 @@ impl Device for Meddled<'_> {
 
 /// What is told after six bytes were read and two others written at the place 7: whether the write
 /// was done, whether a change was seen, and how many calls failed; and the bytes behind it then.
-fn told(alloc: Global, before: u64, place: u64) -> Result<((bool, bool, u64), [u8; 9]), AllocError> {
+fn told(
+    alloc: Global,
+    before: u64,
+    place: u64,
+) -> Result<((bool, bool, u64), [u8; 9]), AllocError> {
     let mut behind = MemDevice::new([1, 2, 3, 4, 5, 6, 7, 8, 9].to_vec(alloc)?);
     let meddled = Meddled {
         device: &mut behind,

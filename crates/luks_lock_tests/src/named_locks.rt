@@ -40,7 +40,13 @@ fn a_named_lock_keeps_others_out(rt: HostRuntime) -> Result<(), Fail> {
     let top = new_folder(&rt, "named")?;
     let folder = format!(in rt.alloc(); "{top}/cryptsetup")?;
     let folder = folder.as_str();
-    let held = hold_name(rt.alloc(), &mut Host::new(&rt), folder, LOOP, Share::Exclusive);
+    let held = hold_name(
+        rt.alloc(),
+        &mut Host::new(&rt),
+        folder,
+        LOOP,
+        Share::Exclusive,
+    );
     assert!(rt; matches!(held, Named::Held(_)), "made and held");
     let mode = fs::symlink_metadata(&rt, folder)?.mode() % 0o1000;
     assert!(rt; mode == 0o700, "the folder's mode");
@@ -69,12 +75,24 @@ fn no_symbolic_link_is_followed(rt: HostRuntime) -> Result<(), Fail> {
     fs::write(&rt, aim.as_str(), "aim")?;
     let path = format!(in rt.alloc(); "{folder}/L_7:0")?;
     symlink(&rt, aim.as_str(), path.as_str())?;
-    let named = hold_name(rt.alloc(), &mut Host::new(&rt), folder.as_str(), LOOP, Share::Exclusive);
+    let named = hold_name(
+        rt.alloc(),
+        &mut Host::new(&rt),
+        folder.as_str(),
+        LOOP,
+        Share::Exclusive,
+    );
     assert!(rt; matches!(named, Named::Unheld), "a file that is a link");
     let path = format!(in rt.alloc(); "{top}/link")?;
     symlink(&rt, folder.as_str(), path.as_str())?;
     let other = Node { major: 7, minor: 1 };
-    let named = hold_name(rt.alloc(), &mut Host::new(&rt), path.as_str(), other, Share::Exclusive);
+    let named = hold_name(
+        rt.alloc(),
+        &mut Host::new(&rt),
+        path.as_str(),
+        other,
+        Share::Exclusive,
+    );
     assert!(rt; matches!(named, Named::Unheld), "a folder that is a link");
     fs::remove_dir_all(&rt, top.as_str())?;
     Ok(())
@@ -149,12 +167,18 @@ fn what_the_system_tells_of_a_file(rt: HostRuntime) -> Result<(), Fail> {
         "a file by a link"
     );
     let linked = host.lstat(link.as_str())?;
-    assert!(rt; linked.kind == Kind::Other && linked.inode != inode, "the link");
+    assert!(rt;
+        linked.kind == Kind::Other && linked.inode != inode,
+        "the link"
+    );
     let opened = host.fstat(&File::open(&rt, path)?)?;
     assert!(rt; opened == found, "the open file");
     assert!(rt; host.stat(top.as_str())?.kind == Kind::Folder, "a folder");
     let null = host.stat("/dev/null")?;
-    assert!(rt; null.kind == Kind::Other && null.device == 0x103, "a device");
+    assert!(rt;
+        null.kind == Kind::Other && null.device == 0x103,
+        "a device"
+    );
     fs::remove_dir_all(&rt, top.as_str())?;
     Ok(())
 }

@@ -20,7 +20,9 @@ use std::{env, io};
 
 /// Runs the command line, and answers the exit status: beside those of `luks_cli::execute` 2 where the words
 /// are wrong, 0 where a help or an explanation was printed, and 4 where that can't be.
-pub fn run<R: AllocGlobal + Clock + Env + Files<File = File> + Input + Print + Eprint>(rt: &R) -> u8 {
+pub fn run<R: AllocGlobal + Clock + Env + Files<File = File> + Input + Print + Eprint>(
+    rt: &R,
+) -> u8 {
     run_held(rt).unwrap_or(FAULT)
 }
 

@@ -72,15 +72,15 @@ placed_zeros a b zeros m are fits = record {
 }
 
 -- all that is wanted was put
-pub all_put : (key area wanted sector : List ℕ) (n place : ℕ) → place ≡ 512 * n → length wanted ≡ 512 * n → length area ≡ 512 * n
-    → HoldsWanted key area wanted place sector → opened_sectors key area n ≡ wanted
-all_put key area wanted sector n place is wanted_length area_length begun =
+pub all_put : (key area wanted run : List ℕ) (n len place : ℕ) → place ≡ 512 * n → place ≡ len → length wanted ≡ 512 * n → length area ≡ 512 * n
+    → HoldsWanted key area len wanted place run → opened_sectors key area n ≡ wanted
+all_put key area wanted run n len place is end wanted_length area_length begun =
     let fits : 512 * n ≤ length area = omega (arith, area_length) in
     let size = length-opened_sectors key area n fits in
     ext_get_or 0 (opened_sectors key area n) wanted (size ∙ sym wanted_length)
     (λ p lt.
     let below : p < 512 * n = omega (arith, lt, size) in
-    plain_at key area n p fits below ∙ begun.whole p (omega (arith, below, is)))
+    plain_at key area n p fits below ∙ begun.whole p (omega (arith, below, is, begun.end end)))
 
 -- the first sectors of a shorter area
 opened_sectors-shorter : (key v : List ℕ) (start short len m : ℕ) → short ≤ len → 512 * m ≤ short
