@@ -20,6 +20,8 @@ use std::{env, io};
 
 /// Runs the command line, and answers the exit status: beside those of `luks_cli::execute` 2 where the words
 /// are wrong, 0 where a help or an explanation was printed, and 4 where that can't be.
+///
+/// No clause can say what its files and streams give: `luks_file_transcript` tests it.
 pub fn run<R: AllocGlobal + Clock + Env + Files<File = File> + Input + Print + Eprint>(
     rt: &R,
 ) -> u8 {
