@@ -37,12 +37,9 @@ fn main(rt: HostRuntime) -> Result<(), anyhow::Error> {
     for (before, line) in input.lines(rt.alloc()).enumerate() {
         let line = line?;
         let taken = folder.take(line.as_str(), &mut out);
-        if taken.is_err() {
-            out.flush()?;
-        }
+        out.flush()?;
         taken.context(format_args!("line {}: {line}", before.saturating_add(1)))?;
     }
-    out.flush()?;
     fs::remove_dir_all(&rt, name.as_str())?;
     Ok(())
 }

@@ -48,16 +48,16 @@ impl<'a> Openings<'a> {
                 name: line.volume,
                 writes: line.writes(),
             },
-            target: opening(line.target(), true),
-            passphrase: opening(line.passphrase(), false),
-            new_passphrase: opening(line.new_passphrase(), false),
-            random: opening(line.random(), false),
+            target: named_file(line.target(), true),
+            passphrase: named_file(line.passphrase(), false),
+            new_passphrase: named_file(line.new_passphrase(), false),
+            random: named_file(line.random(), false),
         }
     }
 }
 
 /// The file of this name, where there is one.
-fn opening(name: Option<&str>, writes: bool) -> Option<Opening<'_>>
+fn named_file(name: Option<&str>, writes: bool) -> Option<Opening<'_>>
     ensures name { option_map (λ o. o.name.now) result ≡ option_map (λ n. n.now) name }
     ensures writes { IfSome result (λ o. o.writes ≡ writes) }
 {

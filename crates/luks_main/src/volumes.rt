@@ -92,7 +92,13 @@ fn open_volume<R: AllocGlobal + Clock + Files<File = File>>(
         (lock_of (device_behind device)).share ≡ share_for opening.writes) }
 {
     let volume = opening.name;
-    match open_locked(rt.alloc(), &mut Host::new(rt), volume, opening.writes, FOLDER) {
+    match open_locked(
+        rt.alloc(),
+        &mut Host::new(rt),
+        volume,
+        opening.writes,
+        FOLDER,
+    ) {
         Ok(device) => {
             for notice in device.lock().notices().iter().flatten() {
                 let _ = writeln!(notes, "luks: {volume}: {notice}");
