@@ -38,6 +38,7 @@ impl<D: Device, K: Disk> Window<D, K> {
         requires len { D.tells → K.len ≡ cut_length (D.size device) offset length }
         requires beside { D.tells → StaysInside K.bytes K.unsettled K.start K.len (D.bytes device) (D.unsettled device) }
         ensures device { behind result ≡ device }
+        ensures start { starts_at result ≡ min offset (D.size device) }
         ensures size { window_size result ≡ cut_length (D.size device) offset length }
         ensures bytes { D.tells → window_bytes result ≡ cut (D.bytes device) offset length }
     {
