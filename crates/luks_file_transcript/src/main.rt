@@ -9,11 +9,13 @@
 //!     count NAME FROM LEN    a new file of so many bytes, counted from a number on, modulo 251
 //!     text NAME TEXT         a new file of this text
 //!     copy NAME OTHER        a new file of the same bytes as OTHER's
+//!     part NAME OTHER AT LEN a new file of so many bytes of OTHER, from a place on
 //!     folder NAME            a new folder
 //!     link NAME OTHER, hard NAME OTHER      a symbolic link to OTHER, another name of OTHER
 //!     mode NAME OCTAL        its permissions
 //!     remove NAME
 //!     put NAME AT TEXT       TEXT is written to this place of the file
+//!     into NAME AT OTHER     OTHER's bytes are written to this place of the file
 //!     typed TEXT             standard input of the commands behind
 //!     $ WORDS                runs the command, its words parted by single spaces: prints standard output,
 //!                            standard error behind `!`, the status behind `=`, and the files that were opened
