@@ -1,4 +1,6 @@
 //! Commands over files of a folder, run as the program runs them.
+ghost use Rattle.std.specs.Prelude.{◌≤◌, IsTrue, length};
+
 use luks_sessions::{Told, Trial, words_of};
 use std::alloc::{AllocError, Global};
 use std::fs::{self, File};
@@ -52,13 +54,27 @@ fn names<R: AllocGlobal>(rt: &R, folder: &str) -> Result<[String; 3], Fail> {
     ])
 }
 
+/// How the last line of a refusal begins.
+const HINT: &[u8] = b"luks: luks explain ";
+
 /// Whether this was said on standard error, and no more but the last line of a refusal.
 pub fn says_no_more(found: &Told, said: &str) -> bool {
-    let Some(rest) = found.err.strip_prefix(said.as_bytes()) else {
+    let (said, err) = (said.as_bytes(), found.err.as_slice());
+    if !begins_with(err, said) {
         return false;
-    };
-    rest.is_empty()
-        || found.status == 1
-            && rest.strip_prefix(b"luks: luks explain ".as_slice()).is_some()
-            && rest.iter().filter(|byte| **byte == b'\n').count() == 1
+    }
+    let rest = &err[said.len()..];
+    rest.is_empty() || found.status == 1 && is_hint(rest)
+}
+
+/// Whether these bytes are the last line of a refusal.
+fn is_hint(said: &[u8]) -> bool {
+    begins_with(said, HINT) && said.iter().filter(|byte| **byte == b'\n').count() == 1
+}
+
+/// Whether the bytes begin so.
+fn begins_with(bytes: &[u8], front: &[u8]) -> bool
+    ensures { IsTrue result → length front.now ≤ length bytes.now }
+{
+    bytes.len() >= front.len() && bytes[..front.len()] == *front
 }

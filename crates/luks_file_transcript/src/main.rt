@@ -9,11 +9,13 @@
 //!     count NAME FROM LEN    a new file of so many bytes, counted from a number on, modulo 251
 //!     text NAME TEXT         a new file of this text
 //!     copy NAME OTHER        a new file of the same bytes as OTHER's
+//!     part NAME OTHER AT LEN a new file of so many bytes of OTHER, from a place on
 //!     folder NAME            a new folder
 //!     link NAME OTHER, hard NAME OTHER      a symbolic link to OTHER, another name of OTHER
 //!     mode NAME OCTAL        its permissions
 //!     remove NAME
 //!     put NAME AT TEXT       TEXT is written to this place of the file
+//!     into NAME AT OTHER     OTHER's bytes are written to this place of the file
 //!     typed TEXT             standard input of the commands behind
 //!     $ WORDS                runs the command, its words parted by single spaces: prints standard output,
 //!                            standard error behind `!`, the status behind `=`, and the files that were opened
@@ -37,12 +39,9 @@ fn main(rt: HostRuntime) -> Result<(), anyhow::Error> {
     for (before, line) in input.lines(rt.alloc()).enumerate() {
         let line = line?;
         let taken = folder.take(line.as_str(), &mut out);
-        if taken.is_err() {
-            out.flush()?;
-        }
+        out.flush()?;
         taken.context(format_args!("line {}: {line}", before.saturating_add(1)))?;
     }
-    out.flush()?;
     fs::remove_dir_all(&rt, name.as_str())?;
     Ok(())
 }

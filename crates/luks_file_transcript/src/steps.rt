@@ -63,12 +63,14 @@ impl<'a, R: AllocGlobal + Files<File = File>> Folder<'a, R> {
                 let _len = fs::copy(self.rt, self.place(other)?.as_str(), place)?;
                 Ok(())
             }
+            "part" => self.part(place, other),
             "folder" => fs::create_dir(self.rt, place),
             "link" => symlink(self.rt, other, place),
             "hard" => fs::hard_link(self.rt, self.place(other)?.as_str(), place),
             "mode" => fs::set_permissions(self.rt, place, Permissions::from_mode(octal_of(other)?)),
             "remove" => fs::remove_file(self.rt, place),
             "put" => self.put(place, other),
+            "into" => self.put_file(place, other),
             _ => Err(unknown()),
         }
     }
@@ -76,9 +78,30 @@ impl<'a, R: AllocGlobal + Files<File = File>> Folder<'a, R> {
     /// Writes a text to a place of a file.
     fn put(&self, file: &str, put: &str) -> io::Result<()> {
         let (at, text) = put.split_once(' ').ok_or(unknown())?;
+        self.write_at(file, number_of(at)?, text.as_bytes())
+    }
+
+    /// Writes another file's bytes to a place of a file.
+    fn put_file(&self, file: &str, put: &str) -> io::Result<()> {
+        let (at, other) = put.split_once(' ').ok_or(unknown())?;
+        let bytes = fs::read(self.rt, self.place(other)?.as_str())?;
+        self.write_at(file, number_of(at)?, bytes.as_slice())
+    }
+
+    fn write_at(&self, file: &str, at: u64, bytes: &[u8]) -> io::Result<()> {
         let mut file = OpenOptions::new().write(true).open(self.rt, file)?;
-        let _place = file.seek(SeekFrom::Start(number_of(at)?))?;
-        file.write_all(text.as_bytes())
+        let _place = file.seek(SeekFrom::Start(at))?;
+        file.write_all(bytes)
+    }
+
+    /// Makes a file of a part of another one's bytes.
+    fn part(&self, file: &str, of_other: &str) -> io::Result<()> {
+        let (other, place) = of_other.split_once(' ').ok_or(unknown())?;
+        let (at, len) = place.split_once(' ').ok_or(unknown())?;
+        let (at, len) = (number_of(at)? as usize, number_of(len)? as usize);
+        let bytes = fs::read(self.rt, self.place(other)?.as_str())?;
+        let behind = bytes.as_slice().get(at..).ok_or(unknown())?;
+        fs::write(self.rt, file, behind.get(..len).ok_or(unknown())?)
     }
 
     /// Whether two files have the same bytes.

@@ -42,7 +42,7 @@ fn is_said(alloc: Global, bytes: &[u8], own: usize, owed: &str) -> Result<bool, 
     let Ok(front) = read_front(alloc, &mut device) else {
         return Ok(false);
     };
-    note_leftovers(alloc, &front, own, "v", &mut err)?;
+    note_leftovers(alloc, &front, own, "v", 0, &mut err)?;
     Ok(err.as_slice() == owed.as_bytes() && device.contents() == bytes)
 }
 

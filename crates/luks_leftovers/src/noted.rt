@@ -23,11 +23,15 @@ const ALL: [Leftover; 11] = [
 /// Says to `err` what was left on the volume of this name, which begins with the bytes `front`: a line
 /// for each, and one by what they are taken away. The first `own` of the bytes are of the header that
 /// was made. Where nothing was left it says nothing; where memory is refused, no more.
+///
+/// The volume begins at the byte `begins` of its file. The bytes that are named count from there, so
+/// that a tool has to be given a device that begins there too.
 pub fn note_leftovers<E: Write>(
     alloc: Global,
     front: &[u8],
     own: usize,
     volume: &str,
+    begins: u64,
     err: &mut E,
 ) -> Result<(), AllocError>
     requires { 592 ≤ own }
@@ -40,10 +44,22 @@ pub fn note_leftovers<E: Write>(
         }
     }
     if any {
-        let _ = writeln!(
-            err,
-            "luks: {volume}: wipefs --offset BYTE takes it away, wipefs --all before format all"
-        );
+        note_wiping(volume, begins, err);
     }
     Ok(())
+}
+
+/// Says what takes away that was left.
+fn note_wiping<E: Write>(volume: &str, begins: u64, err: &mut E) {
+    let _ = if begins == 0 {
+        writeln!(
+            err,
+            "luks: {volume}: wipefs --offset BYTE takes it away, wipefs --all before format all"
+        )
+    } else {
+        writeln!(
+            err,
+            "luks: {volume}: wipefs --offset BYTE takes it away, on the device of losetup --offset {begins}"
+        )
+    };
 }

@@ -11,7 +11,6 @@ mod operands;
 mod options;
 mod program;
 mod requests;
-mod rescue_helps;
 mod takes;
 
 pub use command_line::{Asked, line, parse};

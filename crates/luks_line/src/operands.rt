@@ -10,7 +10,6 @@ pub(crate) enum Operand {
     RebuiltTarget,
     Text,
     Fault,
-    Device,
 }
 
 impl Operand {
@@ -27,7 +26,7 @@ pub(crate) struct OperandRow {
 }
 
 /// In the order of `Operand`.
-static OPERANDS: [OperandRow; 8] = [
+static OPERANDS: [OperandRow; 7] = [
     OperandRow {
         name: "VOLUME",
         needed: true,
@@ -62,10 +61,5 @@ static OPERANDS: [OperandRow; 8] = [
         name: "FAULT",
         needed: false,
         help: "The fault, or its name alone; else all are listed",
-    },
-    OperandRow {
-        name: "DEVICE",
-        needed: true,
-        help: "The disk, the partition or the image",
     },
 ];

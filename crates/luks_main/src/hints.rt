@@ -4,13 +4,14 @@
 ghost use Rattle.std.specs.Prelude.{◌≡◌};
 ghost use Rattle.luks_cache.specs.Cached.{cached_failures};
 
-use crate::volumes::{Volume, reopened};
+use crate::volumes::{Volume, WHOLE, reopened};
 use luks_area::Device;
 use luks_cli::{Command, Line, OtherUse, note_other_use, note_overwritten, standing_use};
 use luks_explain::{Fault, refusing};
 use luks_leftovers::{FrontFault, header_end, note_leftovers, read_front};
 use luks_metadata_notes::{note_no_keyslots, note_taken, note_whole};
 use luks_rebuilding::Which;
+use luks_request::Place;
 use luks_signatures::first_use;
 use std::alloc::Global;
 use std::fs::File;
@@ -39,6 +40,30 @@ impl<'a> Ended<'a> {
     }
 }
 
+/// What is looked at once more.
+#[derive(Debug, Clone, Copy)]
+struct Looked<'a> {
+    /// Its file.
+    file: &'a str,
+    /// Which bytes of that.
+    place: Place,
+}
+
+impl<'a> Looked<'a> {
+    /// The volume of this command line.
+    fn at_volume(line: &Line<'a>) -> Self {
+        Looked {
+            file: line.volume,
+            place: line.place,
+        }
+    }
+
+    /// All of this file.
+    fn at_whole(file: &'a str) -> Self {
+        Looked { file, place: WHOLE }
+    }
+}
+
 /// The other use of the disk that an edit with `--over` is going to write over. It isn't inlined, for
 /// the same reason as `tell_ended`.
 #[inline(never)]
@@ -52,7 +77,7 @@ pub(crate) fn use_before<R: AllocGlobal + Clock + Files<File = File>>(
     if !editing.over {
         return None;
     }
-    standing_use(rt.alloc(), &mut reopened(rt, line.volume)?)
+    standing_use(rt.alloc(), &mut reopened(rt, line.volume, line.place)?)
 }
 
 /// Notes that an edit that is done has written over this use of the disk.
@@ -79,7 +104,7 @@ pub(crate) fn tell_ended<R: AllocGlobal + Clock + Files<File = File>>(
 ) {
     let refused = refusing(ended.answer);
     if refused == Some(Fault::NotLuks) {
-        tell_standing(rt, line.volume, notes);
+        tell_standing(rt, Looked::at_volume(line), notes);
     }
     tell_more(rt, line, ended, notes);
     if let Some(fault) = refused {
@@ -103,17 +128,20 @@ fn tell_more<R: AllocGlobal + Clock + Files<File = File>>(
     ended: &Ended<'_>,
     notes: &mut Vec<u8>,
 ) {
+    let volume = Looked::at_volume(line);
     match (line.command, ended.status) {
-        (Command::Format(_), 0) => tell_leftovers(rt, line.volume, notes),
-        (Command::Convert(converting), 0) => tell_leftovers(rt, converting.target, notes),
-        (Command::Rebuild(rebuilding), 0) => {
-            tell_taken(rt, line.volume, rebuilding.second, notes);
-            tell_leftovers(rt, rebuilding.target, notes);
+        (Command::Format(_), 0) => tell_leftovers(rt, volume, notes),
+        (Command::Convert(converting), 0) => {
+            tell_leftovers(rt, Looked::at_whole(converting.target), notes)
         }
-        (Command::Check { data_: _ }, 3) => tell_other_use(rt, line.volume, notes),
-        (Command::Check { data_: _ } | Command::Show(_), 1) => tell_whole(rt, line.volume, notes),
+        (Command::Rebuild(rebuilding), 0) => {
+            tell_taken(rt, volume, rebuilding.second, notes);
+            tell_leftovers(rt, Looked::at_whole(rebuilding.target), notes);
+        }
+        (Command::Check { data_: _ }, 3) => tell_other_use(rt, volume, notes),
+        (Command::Check { data_: _ } | Command::Show(_), 1) => tell_whole(rt, volume, notes),
         (Command::Open { .. }, 1) if ended.answer == "no slot opens\n" => {
-            tell_no_keyslots(rt, line.volume, notes)
+            tell_no_keyslots(rt, volume, notes)
         }
         _ => {}
     }
@@ -122,25 +150,26 @@ fn tell_more<R: AllocGlobal + Clock + Files<File = File>>(
 /// Notes by its signature what stands on a volume that isn't of LUKS.
 fn tell_standing<R: AllocGlobal + Clock + Files<File = File>>(
     rt: &R,
-    volume: &str,
+    looked: Looked<'_>,
     notes: &mut Vec<u8>,
 ) {
-    let Some(mut device) = reopened(rt, volume) else {
+    let Some(mut device) = reopened(rt, looked.file, looked.place) else {
         return;
     };
     let len = device.len();
     if let Ok(Some(found)) = first_use(&mut device, len) {
-        let _ = writeln!(notes, "luks: {volume}: what stands there is {found}");
+        let file = looked.file;
+        let _ = writeln!(notes, "luks: {file}: what stands there is {found}");
     }
 }
 
 /// Notes in which copy the metadata of a volume is whole of which no header counts.
 fn tell_whole<R: AllocGlobal + Clock + Files<File = File>>(
     rt: &R,
-    volume: &str,
+    looked: Looked<'_>,
     notes: &mut Vec<u8>,
 ) {
-    let Some(mut device) = reopened(rt, volume) else {
+    let Some(mut device) = reopened(rt, looked.file, looked.place) else {
         return;
     };
     note_whole(rt.alloc(), &mut device, notes);
@@ -149,23 +178,23 @@ fn tell_whole<R: AllocGlobal + Clock + Files<File = File>>(
 /// Notes what else the disk of a volume is used for.
 fn tell_other_use<R: AllocGlobal + Clock + Files<File = File>>(
     rt: &R,
-    volume: &str,
+    looked: Looked<'_>,
     notes: &mut Vec<u8>,
 ) {
-    let Some(mut device) = reopened(rt, volume) else {
+    let Some(mut device) = reopened(rt, looked.file, looked.place) else {
         return;
     };
-    note_other_use(rt.alloc(), &mut device, volume, notes);
+    note_other_use(rt.alloc(), &mut device, looked.file, notes);
 }
 
 /// Notes of which metadata of the volume a header was made, that of second copies alone or of any.
 fn tell_taken<R: AllocGlobal + Clock + Files<File = File>>(
     rt: &R,
-    volume: &str,
+    looked: Looked<'_>,
     second: bool,
     notes: &mut Vec<u8>,
 ) {
-    let Some(mut device) = reopened(rt, volume) else {
+    let Some(mut device) = reopened(rt, looked.file, looked.place) else {
         return;
     };
     let which = if second { Which::Second } else { Which::Any };
@@ -175,48 +204,48 @@ fn tell_taken<R: AllocGlobal + Clock + Files<File = File>>(
 /// Notes that a volume has no keyslot.
 fn tell_no_keyslots<R: AllocGlobal + Clock + Files<File = File>>(
     rt: &R,
-    volume: &str,
+    looked: Looked<'_>,
     notes: &mut Vec<u8>,
 ) {
-    let Some(mut device) = reopened(rt, volume) else {
+    let Some(mut device) = reopened(rt, looked.file, looked.place) else {
         return;
     };
-    note_no_keyslots(rt.alloc(), &mut device, volume, notes);
+    note_no_keyslots(rt.alloc(), &mut device, looked.file, notes);
 }
 
 /// Notes what was left where a header was made of what stood there before, or why it wasn't looked for.
 fn tell_leftovers<R: AllocGlobal + Clock + Files<File = File>>(
     rt: &R,
-    volume: &str,
+    looked: Looked<'_>,
     notes: &mut Vec<u8>,
 ) {
-    let Some(mut device) = reopened(rt, volume) else {
+    let Some(mut device) = reopened(rt, looked.file, looked.place) else {
         return;
     };
-    let looked = note_front(rt.alloc(), &mut device, volume, notes);
-    let why = match looked {
+    let why = match note_front(rt.alloc(), &mut device, looked, notes) {
         Ok(()) => return,
         Err(FrontFault::Device) => "reading failed",
         Err(FrontFault::Memory) => "memory was refused",
     };
+    let file = looked.file;
     let _ = writeln!(
         notes,
-        "luks: {volume}: what was left there wasn't looked for: {why}"
+        "luks: {file}: what was left there wasn't looked for: {why}"
     );
 }
 
-/// Notes to `err` what was left on the volume of this name. Where no header counts it says nothing.
+/// Notes to `err` what was left on the volume that is looked at. Where no header counts it says nothing.
 fn note_front(
     alloc: Global,
     device: &mut Volume,
-    volume: &str,
+    looked: Looked<'_>,
     err: &mut Vec<u8>,
 ) -> Result<(), FrontFault>
     requires { cached_failures device.old ≡ 0 }
 {
     if let Some(own) = header_end(alloc, device)? {
         let front = read_front(alloc, device)?;
-        note_leftovers(alloc, &front, own, volume, err)?;
+        note_leftovers(alloc, &front, own, looked.file, looked.place.offset, err)?;
     }
     Ok(())
 }

@@ -1,7 +1,7 @@
 ghost use Rattle.std.specs.Prelude.{◌≡◌, false, true, IfSome, option_map};
 ghost use Rattle.luks_request.specs.Named.{is_writer, new_of, passphrase_of, random_of, target_of};
 
-use luks_cli::Line;
+use luks_request::{Line, Place};
 
 /// A file that a command line names, and whether it is opened to be written too; else only to be read.
 #[derive(Debug, Clone, Copy, PartialEq, Eq)]
@@ -17,6 +17,8 @@ pub struct Opening<'a> {
 pub struct Openings<'a> {
     /// The volume, or its detached header. Beside a target it is only read.
     pub volume: Opening<'a>,
+    /// Which bytes of its file the volume is.
+    pub place: Place,
     /// The file that a separate header is written to.
     pub target: Option<Opening<'a>>,
     /// The passphrase; `-` is standard input.
@@ -31,6 +33,7 @@ impl<'a> Openings<'a> {
     /// Those of this command line.
     pub fn of(line: &Line<'a>) -> Self
         ensures volume { result.volume.name.now ≡ line.now.volume.now }
+        ensures place { result.place ≡ line.now.place }
         ensures target { option_map (λ o. o.name.now) result.target ≡ target_of line.now.command }
         ensures passphrase { option_map (λ o. o.name.now) result.passphrase
             ≡ passphrase_of line.now.command }
@@ -48,16 +51,17 @@ impl<'a> Openings<'a> {
                 name: line.volume,
                 writes: line.writes(),
             },
-            target: opening(line.target(), true),
-            passphrase: opening(line.passphrase(), false),
-            new_passphrase: opening(line.new_passphrase(), false),
-            random: opening(line.random(), false),
+            place: line.place,
+            target: named_file(line.target(), true),
+            passphrase: named_file(line.passphrase(), false),
+            new_passphrase: named_file(line.new_passphrase(), false),
+            random: named_file(line.random(), false),
         }
     }
 }
 
 /// The file of this name, where there is one.
-fn opening(name: Option<&str>, writes: bool) -> Option<Opening<'_>>
+fn named_file(name: Option<&str>, writes: bool) -> Option<Opening<'_>>
     ensures name { option_map (λ o. o.name.now) result ≡ option_map (λ n. n.now) name }
     ensures writes { IfSome result (λ o. o.writes ≡ writes) }
 {

@@ -1,5 +1,5 @@
 //! The command line, and what is done for it.
-ghost use Rattle.std.specs.Prelude.{◌≡◌, ◌↔◌, IfErr, IfOk, IsOk};
+ghost use Rattle.std.specs.Prelude.{◌≡◌, ◌↔◌, IfOk, IsOk};
 ghost use Rattle.luks_cache.specs.Cached.{cached_failures};
 
 use crate::hints::{Ended, tell, tell_ended, tell_overwritten, use_before};
@@ -20,7 +20,11 @@ use std::{env, io};
 
 /// Runs the command line, and answers the exit status: beside those of `luks_cli::execute` 2 where the words
 /// are wrong, 0 where a help or an explanation was printed, and 4 where that can't be.
-pub fn run<R: AllocGlobal + Clock + Env + Files<File = File> + Input + Print + Eprint>(rt: &R) -> u8 {
+///
+/// No clause can say what its files and streams give: `luks_file_transcript` tests it.
+pub fn run<R: AllocGlobal + Clock + Env + Files<File = File> + Input + Print + Eprint>(
+    rt: &R,
+) -> u8 {
     run_held(rt).unwrap_or(FAULT)
 }
 
@@ -143,8 +147,12 @@ fn inputs_of<'a, R: Files<File = File>>(
     passphrases: &'a Passphrases,
     openings: &Openings<'a>,
 ) -> Inputs<Volume, &'a [u8], LazyFile<'a, R>>
+    requires volume_count { IfOk volumes.volume (λ device. cached_failures device ≡ 0) }
+    requires target_count { IfOk volumes.target (λ device. cached_failures device ≡ 0) }
     ensures volume { result.volume ≡ volumes.volume }
     ensures target { result.target ≡ volumes.target }
+    ensures volume_count { IfOk result.volume (λ device. cached_failures device ≡ 0) }
+    ensures target_count { IfOk result.target (λ device. cached_failures device ≡ 0) }
     ensures passphrase { IsOk result.passphrase ↔ IsOk passphrases.now.old }
     ensures passphrase_bytes { IfOk passphrases.now.old (λ secret.
         IfOk result.passphrase (λ bytes. bytes.now ≡ secret)) }

@@ -2,18 +2,30 @@
 ghost use Rattle.std.specs.Prelude.{◌≡◌, ◌≢◌, ◌↔◌, false, Err, IfOk, IfSome, IsErr, IsOkAnd, IsTrue, None};
 ghost use Rattle.luks_cache.specs.Cached.{cached_failures, changes_seen, device_behind};
 ghost use Rattle.luks_lock.specs.Locked.{lock_of, share_for};
+ghost use Rattle.luks_window.specs.Windows.{behind};
 
 use crate::openings::{Opening, Openings};
 use luks_area::FileDevice;
 use luks_cache::CachedDevice;
 use luks_cli::{InputFault, Reason};
 use luks_lock::{FOLDER, Host, LockedDevice, OpenFault, is_same_file, open_locked};
+use luks_request::Place;
+use luks_window::Window;
 use std::fs::File;
 use std::io::Write;
+use std::marker::Brand;
 use std::rt::{Clock, Files};
 
-/// The volume of a command line: its file, measured under its lock, and its first bytes remembered.
-pub(crate) type Volume = CachedDevice<LockedDevice<FileDevice<File>>>;
+/// The volume of a command line: the bytes of its file where it lies, its first ones remembered. The file
+/// is measured whole, under the lock of the whole. No byte beside the window is written, as its type says
+/// of any device; a file tells no bytes, so that nothing more can be said of one here.
+pub(crate) type Volume = CachedDevice<Window<LockedDevice<FileDevice<File>>, Brand>>;
+
+/// All bytes of a file.
+pub(crate) const WHOLE: Place = Place {
+    offset: 0,
+    length: None,
+};
 
 /// The volumes of a command line.
 pub(crate) struct Volumes {
@@ -48,9 +60,9 @@ pub(crate) fn open_volumes<R: AllocGlobal + Clock + Files<File = File>>(
     ensures volume { IfOk result.volume (λ device. cached_failures device ≡ 0) }
     ensures target { IfOk result.target (λ device. cached_failures device ≡ 0) }
     ensures volume_share { IfOk result.volume (λ device.
-        (lock_of (device_behind device)).share ≡ share_for openings.now.volume.writes) }
+        (lock_of (behind (device_behind device))).share ≡ share_for openings.now.volume.writes) }
     ensures target_share { IfSome openings.now.target (λ opening. IfOk result.target (λ device.
-        (lock_of (device_behind device)).share ≡ share_for opening.writes)) }
+        (lock_of (behind (device_behind device))).share ≡ share_for opening.writes)) }
     ensures ended { IsTrue ended → IsErr result.volume }
     ensures beside { openings.now.target ≡ None → result.target ≡ Err InputFault.Absent }
 {
@@ -59,14 +71,14 @@ pub(crate) fn open_volumes<R: AllocGlobal + Clock + Files<File = File>>(
     }
     let Some(target) = openings.target else {
         return Volumes {
-            volume: open_volume(rt, openings.volume, notes),
+            volume: open_volume(rt, openings.volume, openings.place, notes),
             target: Err(InputFault::Absent),
         };
     };
     if is_same_file(&mut Host::new(rt), openings.volume.name, target.name) {
         return Volumes::unopened(InputFault::Unreadable(Reason::SameFile));
     }
-    let volume = open_volume(rt, openings.volume, notes);
+    let volume = open_volume(rt, openings.volume, openings.place, notes);
     if volume.is_err() {
         return Volumes {
             volume,
@@ -75,29 +87,38 @@ pub(crate) fn open_volumes<R: AllocGlobal + Clock + Files<File = File>>(
     }
     Volumes {
         volume,
-        target: open_volume(rt, target, notes),
+        target: open_volume(rt, target, WHOLE, notes),
     }
 }
 
-/// The volume of this name, opened under its lock; what of the lock isn't held is noted. Its first bytes are
-/// remembered, so that an edit, which looks at the header to know how many random bytes it takes and then to
+/// The volume of this name, opened under its lock, at this place of its file; what of the lock isn't held is
+/// noted. Its first bytes are remembered, so that an edit, which looks at the header to know how many random bytes it takes and then to
 /// do it, reads it once.
 fn open_volume<R: AllocGlobal + Clock + Files<File = File>>(
     rt: &R,
     opening: Opening<'_>,
+    place: Place,
     notes: &mut Vec<u8>,
 ) -> Result<Volume, InputFault>
     ensures count { IfOk result (λ device. cached_failures device ≡ 0) }
     ensures share { IfOk result (λ device.
-        (lock_of (device_behind device)).share ≡ share_for opening.writes) }
+        (lock_of (behind (device_behind device))).share ≡ share_for opening.writes) }
 {
     let volume = opening.name;
-    match open_locked(rt.alloc(), &mut Host::new(rt), volume, opening.writes, FOLDER) {
+    match open_locked(
+        rt.alloc(),
+        &mut Host::new(rt),
+        volume,
+        opening.writes,
+        FOLDER,
+    ) {
         Ok(device) => {
             for notice in device.lock().notices().iter().flatten() {
                 let _ = writeln!(notes, "luks: {volume}: {notice}");
             }
-            CachedDevice::new(rt.alloc(), device).map_err(|_| InputFault::NoMemory)
+            CachedDevice::new(rt.alloc(), Window::new(device, place.offset, place.length)).map_err(
+                |_| InputFault::NoMemory,
+            )
         }
         Err(OpenFault::NoVolume) => Err(InputFault::Unreadable(Reason::NoVolume)),
         Err(OpenFault::Edited) => Err(InputFault::Unreadable(Reason::Edited)),
@@ -112,18 +133,19 @@ fn open_volume<R: AllocGlobal + Clock + Files<File = File>>(
     }
 }
 
-/// The volume of this name, opened once more, to be read. None where that can't be, or memory is
-/// refused.
+/// The volume of this name, opened once more at this place of its file, to be read. None where that can't
+/// be, or memory is refused.
 pub(crate) fn reopened<R: AllocGlobal + Clock + Files<File = File>>(
     rt: &R,
     volume: &str,
+    place: Place,
 ) -> Option<Volume>
     ensures count { IfSome result (λ device. cached_failures device ≡ 0) }
     ensures share { IfSome result (λ device.
-        (lock_of (device_behind device)).share ≡ share_for false) }
+        (lock_of (behind (device_behind device))).share ≡ share_for false) }
 {
     let device = open_locked(rt.alloc(), &mut Host::new(rt), volume, false, FOLDER).ok()?;
-    CachedDevice::new(rt.alloc(), device).ok()
+    CachedDevice::new(rt.alloc(), Window::new(device, place.offset, place.length)).ok()
 }
 
 /// Whether an edit of the volume ended since another program had written its header.

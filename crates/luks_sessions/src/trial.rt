@@ -53,7 +53,10 @@ impl<'a, R: AllocGlobal + Files<File = File>> Trial<'a, R> {
     /// What was printed on standard output and on standard error, and the files that were opened.
     pub fn told(self) -> [Vec<u8>; 3] {
         let Trial {
-            out, err, opened, ..
+            out,
+            err,
+            opened,
+            ..
         } = self;
         [out.into_inner(), err.into_inner(), opened.into_inner()]
     }
@@ -186,11 +189,13 @@ impl<R: AllocGlobal + Files<File = File>> Files for Trial<'_, R> {
     }
 
     fn copy(&self, from: &str, to: &str) -> io::Result<u64> {
-        self.rt.copy(self.place(from)?.as_str(), self.place(to)?.as_str())
+        self.rt
+            .copy(self.place(from)?.as_str(), self.place(to)?.as_str())
     }
 
     fn rename(&self, from: &str, to: &str) -> io::Result<()> {
-        self.rt.rename(self.place(from)?.as_str(), self.place(to)?.as_str())
+        self.rt
+            .rename(self.place(from)?.as_str(), self.place(to)?.as_str())
     }
 
     fn remove_file(&self, path: &str) -> io::Result<()> {

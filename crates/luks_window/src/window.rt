@@ -11,15 +11,16 @@ use std::marker::PhantomData;
 /// Its calls are those of the device behind, further on by where the window begins, and fail exactly
 /// where those do. Whatever is done with it, no byte of the device behind changes beside it but at
 /// the places that were unsettled when it was taken: `K` says what stood there, and every value of
-/// this type has it so.
+/// this type has it so. Of a device that tells no bytes, as a file, `K` says nothing, so that any will
+/// do: `Brand`.
 #[derive(Drop)]
 pub struct Window<D: Device, K: Disk> {
     device: D,
     start: u64,
     len: u64,
     disk: PhantomData<K>,
-    ghost starts: { start ≡ K.start },
-    ghost long: { len ≡ K.len },
+    ghost starts: { D.tells → start ≡ K.start },
+    ghost long: { D.tells → len ≡ K.len },
     ghost fits: { len < 2 ^ 64 },
     ghost inside: { start + len ≤ D.size device },
     ghost beside: { D.tells → StaysInside K.bytes K.unsettled K.start K.len
@@ -33,10 +34,11 @@ impl<D: Device, K: Disk> Window<D, K> {
     /// The bytes of `device` from `offset` on, to its end or `length` of them (fewer where it ends
     /// before). Any numbers will do: from its end on there are none, and the window is empty.
     pub fn new(device: D, offset: u64, length: Option<u64>) -> Self
-        requires start { K.start ≡ min offset (D.size device) }
-        requires len { K.len ≡ cut_length (D.size device) offset length }
+        requires start { D.tells → K.start ≡ min offset (D.size device) }
+        requires len { D.tells → K.len ≡ cut_length (D.size device) offset length }
         requires beside { D.tells → StaysInside K.bytes K.unsettled K.start K.len (D.bytes device) (D.unsettled device) }
         ensures device { behind result ≡ device }
+        ensures start { starts_at result ≡ min offset (D.size device) }
         ensures size { window_size result ≡ cut_length (D.size device) offset length }
         ensures bytes { D.tells → window_bytes result ≡ cut (D.bytes device) offset length }
     {
@@ -58,7 +60,7 @@ impl<D: Device, K: Disk> Window<D, K> {
     /// The device behind, as the calls have left it.
     pub fn into_inner(self) -> D
         ensures device { result ≡ behind self }
-        ensures size { K.start + K.len ≤ D.size result }
+        ensures size { D.tells → K.start + K.len ≤ D.size result }
         ensures beside { D.tells → StaysInside K.bytes K.unsettled K.start K.len (D.bytes result) (D.unsettled result) }
     {
         let Window { device, .. } = self;
