@@ -62,7 +62,7 @@ impl<'a> Openings<'a> {
 
 /// The file of this name, where there is one.
 fn named_file(name: Option<&str>, writes: bool) -> Option<Opening<'_>>
-    ensures name { option_map (λ o. o.name.now) result ≡ option_map (λ n. n.now) name }
+    ensures name { option_map (λ o. o.name.now) result ≡ option_map (λ n. n.now) name.entry }
     ensures writes { IfSome result (λ o. o.writes ≡ writes) }
 {
     match name {

@@ -102,7 +102,7 @@ fn open_volume<R: AllocGlobal + Clock + Files<File = File>>(
 ) -> Result<Volume, InputFault>
     ensures count { IfOk result (λ device. cached_failures device ≡ 0) }
     ensures share { IfOk result (λ device.
-        (lock_of (behind (device_behind device))).share ≡ share_for opening.writes) }
+        (lock_of (behind (device_behind device))).share ≡ share_for opening.entry.writes) }
 {
     let volume = opening.name;
     match open_locked(
