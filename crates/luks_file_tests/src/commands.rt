@@ -76,5 +76,5 @@ fn is_hint(said: &[u8]) -> bool {
 fn begins_with(bytes: &[u8], front: &[u8]) -> bool
     ensures { IsTrue result → length front.now ≤ length bytes.now }
 {
-    bytes.len() >= front.len() && bytes[..front.len()] == *front
+    bytes.len() >= front.len() && &bytes[..front.len()] == front
 }
