@@ -1,5 +1,4 @@
 use Rattle.std.proofs.Common.{◌≡◌, ℕ, [], ◌∷◌, ◌+◌, ap, sym, ◌∙◌, slice_index, refl, arith}
-use Rattle.std.specs.Prelude.{slice_index_or}
 use Rattle.std.specs.Int.{w128, to_le_bytes, from_le_bytes}
 use Rattle.luks_xts.specs.Aes.{Aes}
 use Rattle.luks_xts.specs.Xts.{tweak_key, tweak_of}
