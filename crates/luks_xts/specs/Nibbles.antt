@@ -1,4 +1,4 @@
--- Bytes as two elements of the field of 16 elements, by which they are inverted.
+-- Bytes as two elements of the field of 16 elements, their parts, by which they are inverted.
 use Rattle.std.specs.Prelude.{◌⊎◌, ℕ, zero, suc, ◌≤◌, ◌<◌, ◌/◌, ◌%◌, ◌==◌, nat_lt, if◌then◌else◌, List, slice_index, bit_xor}
 use Rattle.luks_xts.specs.Polynomial.{poly_mul, poly_rem}
 
@@ -23,12 +23,13 @@ reciprocal b = if nat_lt b 16 then reciprocal_below 16 b else 0
 unfoldable pub quotient : ℕ → ℕ
 quotient b = if b == 0 then 128 else small_product 2 (reciprocal b)
 
--- the place that the parts i and k of a byte lead to, which is the norm of the byte divided by k + 2 i
--- for the one order of i and i + k, and by k + 2 (i + k) for the other
+-- the norm of a byte whose parts are i and k, 2 i^2 + 2 i k + k^2, divided by k + 2 i, where j is the
+-- sum of i and k
 unfoldable pub place : ℕ → ℕ → ℕ → ℕ
 place i j k = bit_xor (reciprocal (bit_xor (reciprocal i) (quotient k))) j
 
--- the sum of what two tables have at both places of the parts in the halves of a byte
+-- the sum of what two tables have at this place and at that with j for i, by the parts in the halves of
+-- a byte
 unfoldable pub joined : List ℕ → List ℕ → ℕ → ℕ
 joined first second x =
     let i = x / 16 in
