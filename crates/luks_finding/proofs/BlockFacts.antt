@@ -3,68 +3,76 @@ use Rattle.std.proofs.Common.{◌≡◌, ℕ, ◌+◌, ◌*◌, ◌-◌, ◌<◌
 use Rattle.std.proofs.lemmas.Bool.{cases_lt}
 use Rattle.luks_area.specs.Ranges.{part}
 use Rattle.luks_area.specs.RangeFacts.{length-part, part-part}
-use Rattle.luks_finding.specs.Blocks.{BeginsAt, FindsIn, IsFirstIn}
-use Rattle.luks_finding.specs.Finding.{HasNoStart, IsNextStart}
-use Rattle.luks_finding.specs.Starts.{BeginsHeader, IsStart}
+use Rattle.luks_finding.specs.Blocks.{BeginsAt, BeginsCopy, FindsIn, IsFirstIn}
+use Rattle.luks_finding.specs.Finding.{HasNoFirstSign, IsNextStart}
+use Rattle.luks_finding.specs.Starts.{HasSignBefore, IsSign}
+use Rattle.luks_finding.specs.Telling.{IsToldAt, TellsAt}
+use Rattle.luks_finding.proofs.SignFacts.{sign-begins}
 
--- a header's beginning lies inside the bytes
-pub begins-inside : (v : List ℕ) (at : ℕ) → BeginsHeader (part v at 8) → at + 8 ≤ length v
+-- what begins a copy has 8 bytes
+begins-long : (b : List ℕ) → BeginsCopy b → length b ≡ 8
+begins-long b (inl header) = header.long
+begins-long b (inr second) = second.long
+
+-- a copy's beginning lies inside the bytes
+pub begins-inside : (v : List ℕ) (at : ℕ) → BeginsCopy (part v at 8) → at + 8 ≤ length v
 begins-inside v at begins =
     let long : length (part v at 8) ≡ min 8 (length v - at) = length-part v at 8 in
-    let whole : length (part v at 8) ≡ 8 = begins.long in
+    let whole : length (part v at 8) ≡ 8 = begins-long (part v at 8) begins in
     omega (arith, long, whole)
 
--- a header in a block is one of the disk
-from-block : (v : List ℕ) (sector len k : ℕ) → 512 * k + 8 ≤ len → BeginsAt (part v (512 * sector) len) k → BeginsHeader (part v (512 * (sector + k)) 8)
-from-block v sector len k inside begins =
-    let there : 512 * sector + 512 * k ≡ 512 * (sector + k) = omega arith in
-    subst (λ (p : ℕ). BeginsHeader (part v p 8)) there
-    (subst BeginsHeader (part-part v (512 * sector) len (512 * k) 8 inside) begins)
-
--- and one of the disk is one of the block
-into-block : (v : List ℕ) (sector len k : ℕ) → 512 * k + 8 ≤ len → BeginsHeader (part v (512 * (sector + k)) 8) → BeginsAt (part v (512 * sector) len) k
+-- a copy that begins on the disk begins in the block
+into-block : (v : List ℕ) (sector len k : ℕ) → 512 * k + 8 ≤ len → BeginsCopy (part v (512 * (sector + k)) 8) → BeginsAt (part v (512 * sector) len) k
 into-block v sector len k inside begins =
     let there : 512 * sector + 512 * k ≡ 512 * (sector + k) = omega arith in
-    subst BeginsHeader (sym (part-part v (512 * sector) len (512 * k) 8 inside))
-    (subst (λ (p : ℕ). BeginsHeader (part v p 8)) (sym there) begins)
+    subst BeginsCopy (sym (part-part v (512 * sector) len (512 * k) 8 inside))
+    (subst (λ (p : ℕ). BeginsCopy (part v p 8)) (sym there) begins)
 
--- a block without a header
-pub no_start-block : (v : List ℕ) (from sector sectors len count : ℕ) → len ≡ min (length v - 512 * sector) (512 * sectors)
-    → 512 * count < len + 512 → HasNoStart v from sector → FindsIn (part v (512 * sector) len) None → HasNoStart v from (sector + count)
-no_start-block v from sector sectors len count is fewest none in_block = λ k low high start. elim (cases_lt k sector) [
-  | inl before ↦ none k low before start
-  | inr behind ↦
-      let i : ℕ = k - sector in
-      let back : sector + i ≡ k = omega (arith, behind) in
-      let here : BeginsHeader (part v (512 * (sector + i)) 8) = subst (λ (n : ℕ). BeginsHeader (part v (512 * n) 8)) (sym back) start.sign in
-      let inside : 512 * (sector + i) + 8 ≤ length v = begins-inside v (512 * (sector + i)) here in
-      in_block i (into-block v sector len i (omega (arith, is, fewest, inside, high, back)) here)
-]
+-- so a sign on the disk is seen in the block, if that is long enough
+sign-seen : (v : List ℕ) (sector len k s : ℕ) → sector ≤ k → 512 * (k - sector) + 8 ≤ len → IsSign v s (512 * k) → BeginsAt (part v (512 * sector) len) (k - sector)
+sign-seen v sector len k s low inside sign =
+    let back : k ≡ sector + (k - sector) = omega (arith, low) in
+    into-block v sector len (k - sector) inside (subst (λ (n : ℕ). BeginsCopy (part v (512 * n) 8)) back (sign-begins v s (512 * k) sign))
 
--- a block with one
-pub next_start-block : (v : List ℕ) (from sector len index : ℕ) → from ≤ sector → HasNoStart v from sector
-    → IsFirstIn (part v (512 * sector) len) index → IsNextStart v from (512 * (sector + index)) (sector + index + 1)
-next_start-block v from sector len index below none first =
+-- a block in which nothing begins
+pub none-block : (v : List ℕ) (sector sectors len count : ℕ) → len ≡ min (length v - 512 * sector) (512 * sectors)
+    → 512 * count < len + 512 → FindsIn (part v (512 * sector) len) None → HasNoFirstSign v sector (sector + count)
+none-block v sector sectors len count is fewest none = λ k s low high sign.
+    let inside : 512 * k + 8 ≤ length v = begins-inside v (512 * k) (sign-begins v s (512 * k) sign) in
+    absurd (none (k - sector) (sign-seen v sector len k s low (omega (arith, is, fewest, inside, low, high)) sign))
+
+-- before the first copy that begins in a block
+before-first : (v : List ℕ) (sector len index : ℕ) → IsFirstIn (part v (512 * sector) len) index → HasNoFirstSign v sector (sector + index)
+before-first v sector len index first = λ k s low high sign.
     let long : length (part v (512 * sector) len) ≡ min len (length v - 512 * sector) = length-part v (512 * sector) len in
     let inside : 512 * index + 8 ≤ length (part v (512 * sector) len) = begins-inside (part v (512 * sector) len) (512 * index) first.begins in
-    record {
-      sector = sector + index;
-      there = refl;
-      is = record { sector = sector + index; there = refl; sign = from-block v sector len index (omega (arith, long, inside)) first.begins };
-      from_on = omega (arith, below);
-      before = λ k low high start. elim (cases_lt k sector) [
-        | inl before ↦ none k low before start
-        | inr behind ↦
-            let i : ℕ = k - sector in
-            let back : sector + i ≡ k = omega (arith, behind) in
-            let here : BeginsHeader (part v (512 * (sector + i)) 8) = subst (λ (n : ℕ). BeginsHeader (part v (512 * n) 8)) (sym back) start.sign in
-            first.before i (omega (arith, high, back)) (into-block v sector len i (omega (arith, long, inside, high, back)) here)
-      ];
-      goes_on = refl;
-    }
+    absurd (first.before (k - sector) (omega (arith, low, high)) (sign-seen v sector len k s low (omega (arith, long, inside, low, high)) sign))
 
--- behind the disk's end no volume begins
-pub no_start-end : (v : List ℕ) (from k : ℕ) → length v ≤ 512 * from → from ≤ k → IsStart v (512 * k) → ⊥
-no_start-end v from k end low start =
-    let inside : 512 * k + 8 ≤ length v = begins-inside v (512 * k) start.sign in
+-- the start that this copy tells is the next one
+pub next-told : (v : List ℕ) (sector len index s : ℕ) → IsFirstIn (part v (512 * sector) len) index → IsToldAt v (512 * (sector + index)) s
+    → IsNextStart v sector s (sector + index + 1)
+next-told v sector len index s first told = record {
+  sector = sector + index;
+  told = told;
+  from_on = omega arith;
+  before = before-first v sector len index first;
+  goes_on = refl;
+}
+
+-- if it tells none, there is none up to behind it
+pub none-told : (v : List ℕ) (sector len index : ℕ) → IsFirstIn (part v (512 * sector) len) index → TellsAt v (512 * (sector + index)) None
+    → HasNoFirstSign v sector (sector + index + 1)
+none-told v sector len index first none = λ k s low high sign. elim (cases_lt k (sector + index)) [
+  | inl before ↦ before-first v sector len index first k s low before sign
+  | inr behind ↦
+      let here : k ≡ sector + index = omega (arith, high, behind) in
+      let S : ℕ → Type 0 = λ n. IsSign v s (512 * n) in
+      let B : ℕ → Type 0 = λ n. HasSignBefore v s (512 * n) in
+      subst B (sym here) (none s (subst S here sign))
+]
+
+-- behind the disk's end no sign stands
+pub none-behind : (v : List ℕ) (from k s : ℕ) → length v ≤ 512 * from → from ≤ k → IsSign v s (512 * k) → ⊥
+none-behind v from k s end low sign =
+    let inside : 512 * k + 8 ≤ length v = begins-inside v (512 * k) (sign-begins v s (512 * k) sign) in
     absurd (omega (arith, end, low, inside))

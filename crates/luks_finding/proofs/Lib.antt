@@ -1,2 +1,4 @@
 pub mod BlockFacts
+pub mod CopyFacts
 pub mod ListFacts
+pub mod SignFacts

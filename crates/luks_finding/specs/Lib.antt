@@ -2,3 +2,4 @@ pub mod Blocks
 pub mod Faults
 pub mod Finding
 pub mod Starts
+pub mod Telling

@@ -1,7 +1,9 @@
 -- Where LUKS volumes begin on a disk, by what is left of them.
-use Rattle.std.specs.Prelude.{◌≡◌, ℕ, ◌*◌, ◌<◌, ◌⊎◌, List, length, slice_index}
+use Rattle.std.specs.Prelude.{◌≡◌, ℕ, ◌+◌, ◌*◌, ◌<◌, ◌⊎◌, List, drop, length, slice_index}
 use Rattle.luks_area.specs.Ranges.{part}
 use Rattle.luks1_header.specs.Header1.{HasMagic, version_of}
+use Rattle.luks_head.specs.Header2.{IsSound}
+use Rattle.luks_head.specs.Sizes.{IsListed}
 
 -- the bytes of a sector
 abbrev pub sector_size : ℕ
@@ -14,15 +16,44 @@ pub record BeginsHeader (b : List ℕ) : Type 0 where
   pub magic : HasMagic b
   pub version : (version_of b ≡ 1) ⊎ (version_of b ≡ 2)
 
--- a volume begins at the place `s` of the disk `v`: at a sector, with a header
-pub record IsStart (v : List ℕ) (s : ℕ) : Type 0 where
+-- the volume that begins at the place `s` of the disk `v`: what follows, to the disk's end
+abbrev pub volume_at : List ℕ → ℕ → List ℕ
+volume_at v s = drop s v
+
+-- the sign at the place `p` of a volume that begins at `s`: its first bytes
+pub record IsHeaderSign (v : List ℕ) (s p : ℕ) : Type 0 where
+  pub here : p ≡ s
+  pub begins : BeginsHeader (part v s 8)
+
+-- the sign at the place `p` of a volume that begins at `s`: its second copy, which is sound, and so names its distance
+-- from the start as its size and as its place (LUKS2 On-Disk Format 1.1, 2.1)
+pub record IsCopySign (v : List ℕ) (s p : ℕ) : Type 0 where
+  pub size : ℕ
+  pub listed : IsListed size
+  pub there : p ≡ s + size
+  pub sound : IsSound (volume_at v s) size
+
+-- a sign of a volume that begins at `s`, which is a sector's place, stands at the place `p` of the disk `v`
+pub record IsSign (v : List ℕ) (s p : ℕ) : Type 0 where
   pub sector : ℕ
   pub there : s ≡ sector_size * sector
-  pub sign : BeginsHeader (part v s 8)
+  pub is : IsHeaderSign v s p ⊎ IsCopySign v s p
 
--- the numbers rise, each above the one before
-abbrev pub AreRising : List ℕ → Type 0
-AreRising list = (i j : ℕ) → i < j → j < length list → slice_index list i < slice_index list j
+-- a volume begins at the place `s` of the disk `v`, as one of its signs tells
+pub record IsStart (v : List ℕ) (s : ℕ) : Type 0 where
+  pub place : ℕ
+  pub sign : IsSign v s place
+
+-- a sign of the volume stands before the place `p`
+pub record HasSignBefore (v : List ℕ) (s p : ℕ) : Type 0 where
+  pub place : ℕ
+  pub before : place < p
+  pub sign : IsSign v s place
+
+-- the volume's first sign stands at the place `p`
+pub record IsFirstSign (v : List ℕ) (s p : ℕ) : Type 0 where
+  pub sign : IsSign v s p
+  pub first : HasSignBefore v s p → ⊥
 
 -- the number is one of the list
 pub record IsAmong (list : List ℕ) (n : ℕ) : Type 0 where
@@ -30,8 +61,14 @@ pub record IsAmong (list : List ℕ) (n : ℕ) : Type 0 where
   pub within : index < length list
   pub is : slice_index list index ≡ n
 
--- the list has each start of the disk, and no other place, each once and in ascending order
+-- the first signs of the volumes rise with their places in the list
+abbrev pub AreInOrder : List ℕ → List ℕ → Type 0
+AreInOrder v list = (i j p q : ℕ) → i < j → j < length list
+    → IsFirstSign v (slice_index list i) p → IsFirstSign v (slice_index list j) q → p < q
+
+-- the list has each start of the disk, and no other place, each once and in the order of the first signs
 pub record AreStarts (v list : List ℕ) : Type 0 where
   pub sound : (i : ℕ) → i < length list → IsStart v (slice_index list i)
   pub complete : (s : ℕ) → IsStart v s → IsAmong list s
-  pub rising : AreRising list
+  pub once : (i j : ℕ) → i < j → j < length list → slice_index list i ≡ slice_index list j → ⊥
+  pub in_order : AreInOrder v list

@@ -4,7 +4,8 @@ ghost use Rattle.luks_area.specs.Device.{CountsFailure, IsUnchanged, is_failure}
 ghost use Rattle.luks_area.specs.Ranges.{part};
 ghost use Rattle.luks_finding.specs.Blocks.{FindsIn};
 
-use crate::signs::{SECTOR, first_header};
+use crate::signs::{SECTOR, first_copy};
+use crate::telling::start_at;
 use luks_area::{Device, DeviceFault};
 use std::alloc::{AllocError, Global};
 
@@ -20,7 +21,7 @@ const FEWEST: usize = 8;
 pub enum Step {
     /// A volume begins at this place, in bytes from the disk's start.
     Start(u64),
-    /// None begins in the block that was read.
+    /// No sign of another one stands in what was looked at.
     On,
     /// The disk has no more bytes.
     End,
@@ -53,19 +54,24 @@ impl Finding {
         })
     }
 
-    /// The sector, of 512 bytes, from which on the search looks. The starts before it have been told.
+    /// The sector, of 512 bytes, from which on the search looks. The starts with a sign before it have
+    /// been told.
     pub fn sector(&self) -> u64
         ensures { result ≡ looks_from self.now }
     {
         self.sector
     }
 
-    /// Looks for the next start of the device, in one block, and goes on behind it, or behind the
-    /// block where no volume begins in it.
+    /// Looks for the next sector of the device at which a header or a second copy begins, in one
+    /// block, and tells the start whose first sign this is. It goes on behind that sector, or behind
+    /// the block where there is none. A start that a second copy tells lies before what was looked at
+    /// by then, at most 4 MiB.
     ///
-    /// Behind a start a block has 4096 bytes, and each further one twice as many up to 1 MiB. So the
-    /// bytes that a whole search reads are at most twice those of the device and 4096 for each start.
-    /// It takes no memory. Where the device call fails the search stays where it was.
+    /// Behind such a sector a block has 4096 bytes, and each further one twice as many up to 1 MiB. So
+    /// the bytes that a whole search reads are at most twice those of the device, 4096 for each such
+    /// sector, and what a second copy asks for: 12 MiB where each of its fields was made so that other
+    /// sectors have to be read, else the copy's own bytes and 48 KiB. It takes no memory. Where a
+    /// device call fails the search stays where it was.
     pub fn step<D: Device>(&mut self, device: &mut D) -> Result<Step, DeviceFault>
         requires { D.failed device.old + 1 < 2 ^ 64 }
         ensures unchanged { IsUnchanged D.tells D.size D.bytes D.unsettled device.old device.new }
@@ -85,9 +91,13 @@ impl Finding {
         match look(device, &mut self.block, at, len as usize)? {
             Some(index) => {
                 let found = self.sector + index as u64;
+                let told = start_at(device, found)?;
                 self.sector = found + 1;
                 self.sectors = FEWEST;
-                Ok(Step::Start(SECTOR as u64 * found))
+                match told {
+                    Some(start) => Ok(Step::Start(start)),
+                    None => Ok(Step::On),
+                }
             }
             None => {
                 self.sector += sectors_in(len);
@@ -98,7 +108,8 @@ impl Finding {
     }
 }
 
-/// The first sector at which a volume begins, of the `len` bytes at `at`, which are read into `block`.
+/// The first sector at which a header or a second copy begins, of the `len` bytes at `at`, which are
+/// read into `block`.
 fn look<D: Device>(
     device: &mut D,
     block: &mut [u8],
@@ -116,7 +127,7 @@ fn look<D: Device>(
 {
     let read = &mut block[..len];
     device.read_at(at, read)?;
-    Ok(first_header(read))
+    Ok(first_copy(read))
 }
 
 /// The sectors that so many bytes begin.

@@ -3,8 +3,10 @@
 
 mod find_fault;
 mod finding;
+mod second_copies;
 mod signs;
 mod starts;
+mod telling;
 
 pub use find_fault::FindFault;
 pub use finding::{Finding, Step};

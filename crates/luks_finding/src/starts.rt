@@ -9,7 +9,7 @@ use crate::finding::{Finding, Step};
 use luks_area::Device;
 use std::alloc::{AllocError, Global};
 
-/// All starts of the device, in bytes: each once, in ascending order.
+/// All starts of the device, in bytes: each once, in the order of their first signs.
 ///
 /// Takes memory for a block and for the list. `Memory` is answered only where it was refused, and
 /// `Device` exactly where a device call failed.

@@ -1,7 +1,7 @@
 use Rattle.std.proofs.Common.{ℕ, ◌*◌, ◌≤◌, List, sym, ◌∙◌, subst}
 use Rattle.luks_area.specs.Device.{unchanged-then}
-use Rattle.luks_finding.specs.Finding.{looks_from, AreStartsBelow, HasNoStart, IsNextStart}
-use Rattle.luks_finding.specs.Starts.{IsStart}
+use Rattle.luks_finding.specs.Finding.{looks_from, AreStartsBelow, HasNoFirstSign, IsNextStart}
+use Rattle.luks_finding.specs.Starts.{IsSign}
 use Rattle.luks_finding.proofs.ListFacts.{none-more, start-more, starts-all}
 use Rattle.luks_finding.proofs.starts.all_starts.Goals as goal
 
@@ -30,7 +30,7 @@ loop-starts-preserved g c = record {
       let list : List ℕ = c.loop-starts.starts.items in
       let from : ℕ = looks_from c.loop-starts.finding in
       let next : ℕ = looks_from c.step.new.self in
-      let N : List ℕ → Type 0 = λ w. HasNoStart w from next in
+      let N : List ℕ → Type 0 = λ w. HasNoFirstSign w from next in
       let further = rw c.in-On.is at c.in_ok-start.ensures.goes_on in
       let told = rw c.in-On.is at c.in_ok-start.ensures.next t in
       none-more v from list next further.0 (c.loop-starts.invariant.told t) (subst N (c.loop-starts.invariant.unchanged.same t) told);
@@ -41,6 +41,6 @@ returns-in-End-clause-found g c = λ t.
     let v : List ℕ = g.D.Device.bytes c.args.device.now in
     let list : List ℕ = c.loop-starts.starts.items in
     let from : ℕ = looks_from c.loop-starts.finding in
-    let N : List ℕ → Type 0 = λ w. (k : ℕ) → from ≤ k → IsStart w (512 * k) → ⊥ in
+    let N : List ℕ → Type 0 = λ w. (k s : ℕ) → from ≤ k → IsSign w s (512 * k) → ⊥ in
     let told = rw c.in-End.is at c.in_ok-start.ensures.next t in
     starts-all v from list (c.loop-starts.invariant.told t) (subst N (c.loop-starts.invariant.unchanged.same t) told)
