@@ -3,7 +3,7 @@ use Rattle.std.proofs.Common.{◌≡◌, ℕ, zero, suc, ◌+◌, ◌*◌, ◌<�
 use Rattle.std.proofs.lemmas.Bool.{cases_lt}
 use Rattle.std.proofs.lemmas.List.{get_or_append_left}
 use Rattle.std.proofs.Math.Seq.{get_or-append_seam}
-use Rattle.luks_finding.specs.Finding.{AreStartsBelow, HasNoFirstSign, IsNextStart, IsToldBelow}
+use Rattle.luks_finding.specs.Finding.{AreStartsBelow, HasNoFirstSign, IsNextStart}
 use Rattle.luks_finding.specs.Starts.{AreStarts, HasSignBefore, IsAmong, IsFirstSign, IsSign}
 use Rattle.luks_finding.proofs.SignFacts.{sign-sector}
 

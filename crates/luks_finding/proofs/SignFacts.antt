@@ -1,5 +1,5 @@
 -- What a sign of a volume tells of the place where it stands.
-use Rattle.std.proofs.Common.{◌≡◌, ℕ, ◌+◌, ◌-◌, ◌*◌, ◌/◌, ◌<◌, ◌≤◌, ◌==◌, List, length, get_or, if◌then◌else◌, true, None, inl, inr, refl, sym, ap, ◌∙◌, subst, arith}
+use Rattle.std.proofs.Common.{◌≡◌, ℕ, ◌+◌, ◌-◌, ◌*◌, ◌/◌, ◌<◌, ◌≤◌, ◌==◌, List, length, get_or, if◌then◌else◌, None, inl, inr, refl, sym, ap, ◌∙◌, subst, arith}
 use Rattle.std.proofs.lemmas.Bool.{eqb-true, ne_eqb}
 use Rattle.byteorder.specs.Endian.{big_number}
 use Rattle.luks_area.specs.Ranges.{part}
@@ -10,7 +10,7 @@ use Rattle.luks_head.specs.Header2.{hdr_size, header_at, magic_of, second_magic,
 use Rattle.luks_head.specs.Sizes.{listed_sizes, IsListed}
 use Rattle.luks_head.proofs.CopyFacts.{among_pass, listed_at_least}
 use Rattle.luks_finding.specs.Blocks.{BeginsCopy, BeginsSecond}
-use Rattle.luks_finding.specs.Starts.{volume_at, BeginsHeader, HasSignBefore, IsCopySign, IsHeaderSign, IsSign}
+use Rattle.luks_finding.specs.Starts.{volume_at, BeginsHeader, IsCopySign, IsSign}
 use Rattle.luks_finding.specs.Telling.{FindsSize, HasNearerCopy, IsToldAt, NamesSize, TellsAt}
 use Rattle.luks_finding.proofs.CopyFacts.{listed-some, part-volume, sound-inside}
 

@@ -69,9 +69,9 @@ impl Finding {
     ///
     /// Behind such a sector a block has 4096 bytes, and each further one twice as many up to 1 MiB. So
     /// the bytes that a whole search reads are at most twice those of the device, 4096 for each such
-    /// sector, and what a second copy asks for: 12 MiB where each of its fields was made so that other
-    /// sectors have to be read, else the copy's own bytes and 48 KiB. It takes no memory. Where a
-    /// device call fails the search stays where it was.
+    /// sector, and what a second copy asks for: its own bytes and 64 KiB, and no more than 8 MiB and
+    /// 64 KiB where other sectors were made to look like nearer copies of the same volume. It takes no
+    /// memory. Where a device call fails the search stays where it was.
     pub fn step<D: Device>(&mut self, device: &mut D) -> Result<Step, DeviceFault>
         requires { D.failed device.old + 1 < 2 ^ 64 }
         ensures unchanged { IsUnchanged D.tells D.size D.bytes D.unsettled device.old device.new }

@@ -21,6 +21,7 @@ const HEAD: usize = 4096;
 
 /// Where the checksum of a copy stands in its binary header, and where that field ends.
 const CSUM: usize = 448;
+
 const CSUM_END: usize = 512;
 
 /// The bytes of a SHA-256, which stand first in that field.

@@ -26,10 +26,9 @@ fn begins_at<D: Device>(device: &mut D, at: u64) -> Result<bool, DeviceFault>
 
 /// The start of the volume whose first sign stands at this sector, in bytes.
 ///
-/// Of a second copy there it reads the bytes before which its volume would begin, then the copy, and
-/// then the copies that may stand nearer to that start: of each its binary header, and the whole one
-/// where that is of the right form. That are 12 MiB at most, and no more than 48 KiB where no other
-/// sector was made to look like a copy of that volume.
+/// Of a second copy there it reads the 8 bytes where its volume would begin, where no header begins
+/// there the copy, and where that is sound the copies that may stand nearer to the start: of each its
+/// binary header, and the whole one only where that is of the right form.
 pub(crate) fn start_at<D: Device>(device: &mut D, sector: u64) -> Result<Option<u64>, DeviceFault>
     requires within { 512 * sector + 8 ≤ D.size device.old }
     requires room { D.failed device.old + 1 < 2 ^ 64 }

@@ -1,4 +1,4 @@
-use Rattle.std.proofs.Common.{◌≡◌, ℕ, ◌<◌, List, true, get_or, sym, arith, ◌∙◌, subst}
+use Rattle.std.proofs.Common.{ℕ, List, get_or, sym, arith, ◌∙◌, subst}
 use Rattle.std.proofs.lemmas.Bool.{false≢true}
 use Rattle.luks_area.specs.Device.{unchanged-then}
 use Rattle.luks_head.specs.Header2.{IsSound}

@@ -1,4 +1,4 @@
-use Rattle.std.proofs.Common.{◌≡◌, ℕ, ◌<◌, true, length}
+use Rattle.std.proofs.Common.{◌≡◌, ℕ, true, length}
 use Rattle.luks_area.specs.Device.{IsUnchanged}
 use Rattle.luks_head.specs.Header2.{IsSound}
 use Rattle.luks_head.specs.Sizes.{is_among, IsListed}

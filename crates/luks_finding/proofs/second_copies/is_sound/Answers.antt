@@ -39,8 +39,7 @@ returns-clause-sound g c = λ t.
     let long : c.len.result - start ≡ length v - start = ap (λ n. n - start) (c.len.ensures ∙ sym (g.met.D.Device.sized c.args.device.now t)) in
     let read : c.read_at.new.into ≡ part v (start + size) 4096 = c.in_ok-read_at.ensures.read t in
     let taken : c.in_ok-digest.digest ≡ sha256 (with_zero_checksum (part v (start + size) size)) =
-    c.in_ok-digest.ensures.digest t ∙ ap (λ w. sha256 (with_zero_checksum (part w (start + size) size))) (c.in_ok-read_at.ensures.unchanged.same t) in
-    (
+    c.in_ok-digest.ensures.digest t ∙ ap (λ w. sha256 (with_zero_checksum (part w (start + size) size))) (c.in_ok-read_at.ensures.unchanged.same t) in (
       λ is. sound-copy v c.read_at.new.into c.in_ok-digest.digest start size (c.len.result - start) c.requires.listed long read
           (c.if-not-is_formed.ensures.0 refl) taken (c.has_sum.ensures.0 is),
       λ sound. c.has_sum.ensures.1 (sum-sound v c.read_at.new.into c.in_ok-digest.digest start size c.requires.listed read taken sound),

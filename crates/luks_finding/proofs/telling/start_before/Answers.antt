@@ -1,8 +1,7 @@
 use Rattle.std.proofs.Common.{◌≡◌, ℕ, ◌+◌, ◌-◌, ◌*◌, List, sym, ◌∙◌, subst, arith}
 use Rattle.std.proofs.lemmas.Bool.{false≢true}
-use Rattle.luks_area.specs.Ranges.{part}
 use Rattle.luks_head.specs.Header2.{IsSound}
-use Rattle.luks_finding.specs.Starts.{volume_at, BeginsHeader}
+use Rattle.luks_finding.specs.Starts.{volume_at}
 use Rattle.luks_finding.specs.Telling.{HasNearerCopy}
 use Rattle.luks_finding.proofs.SignFacts.{told-before, told-copy, told-nearer, told-unsound}
 use Rattle.luks_finding.proofs.telling.start_before.Goals as goal
