@@ -59,7 +59,8 @@ impl Finding {
     pub fn sector(&self) -> u64
         ensures { result ≡ looks_from self.now }
     {
-        self.sector
+        let Finding { sector, .. } = self;
+        *sector
     }
 
     /// Looks for the next sector of the device at which a header or a second copy begins, in one
