@@ -1,9 +1,12 @@
 -- Where LUKS volumes begin on a disk, by what is left of them.
-use Rattle.std.specs.Prelude.{◌≡◌, ℕ, ◌+◌, ◌*◌, ◌<◌, ◌⊎◌, List, drop, length, slice_index}
+use Rattle.std.specs.Prelude.{◌≡◌, ℕ, ◌+◌, ◌*◌, ◌<◌, ◌⊎◌, ◌==◌, List, drop, length, slice_index, if◌then◌else◌}
 use Rattle.luks_area.specs.Ranges.{part}
-use Rattle.luks1_header.specs.Header1.{HasMagic, version_of}
-use Rattle.luks_head.specs.Header2.{IsSound}
+use Rattle.luks1_header.specs.Header1.{luks_magic, HasMagic, version_of}
+use Rattle.luks_head.specs.Header2.{binary_header_size, second_magic, IsSound}
 use Rattle.luks_head.specs.Sizes.{IsListed}
+use Rattle.luks_rebuilding.specs.Candidates.{IsCandidate}
+use Rattle.luks_rebuilding.specs.declared.place.Place.{Place}
+use Rattle.luks_rebuilding.specs.declared.place.Which.TheVariants.{Any}
 
 -- the bytes of a sector
 abbrev pub sector_size : ℕ
@@ -32,6 +35,19 @@ pub record IsCopySign (v : List ℕ) (s p : ℕ) : Type 0 where
   pub listed : IsListed size
   pub there : p ≡ s + size
   pub sound : IsSound (volume_at v s) size
+
+-- the magic of the other copy than the one at the place `o` of a volume
+abbrev pub other_magic : ℕ → List ℕ
+other_magic o = if o == 0 then second_magic else luks_magic
+
+-- the sign at the place `p` of a volume that begins at `s`: the JSON area of its first or of its second copy, with
+-- metadata that is whole, as `rebuild` takes it. The area doesn't say of which copy it is: it is no sign of one where
+-- the magic of the other stands before it.
+pub record IsMetadataSign (v : List ℕ) (s p : ℕ) : Type 0 where
+  pub copy : Place
+  pub there : p ≡ s + copy.at + binary_header_size
+  pub whole : IsCandidate (volume_at v s) Any copy
+  pub own : part v (s + copy.at) 6 ≡ other_magic copy.at → ⊥
 
 -- a sign of a volume that begins at `s`, which is a sector's place, stands at the place `p` of the disk `v`
 pub record IsSign (v : List ℕ) (s p : ℕ) : Type 0 where

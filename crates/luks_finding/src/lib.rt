@@ -3,6 +3,7 @@
 
 mod find_fault;
 mod finding;
+mod metadata;
 mod second_copies;
 mod signs;
 mod starts;
