@@ -1,1 +1,12 @@
 pub mod PlaceFacts
+pub mod ChosenFacts
+pub mod KeptFacts
+pub mod AnswerFacts
+pub mod VolumeFacts
+pub mod JudgedFacts
+pub mod SlotFacts
+pub mod LaidFacts
+pub mod ErasedFacts
+pub mod SizeFacts
+pub mod BackupFacts
+pub mod EndFacts

@@ -1,1 +1,7 @@
 pub mod Places
+pub mod Kept
+pub mod Judged
+pub mod Backup
+pub mod BackupFaults
+pub mod FaultTexts
+pub mod Laid

@@ -1,5 +1,17 @@
 //! A copy of a volume's header and key areas, on a device of its own, and the way back.
 #![tactic(auto)]
 
+mod accepted;
+mod backing_up;
+mod backup_fault;
 mod copying;
+mod erasing;
+mod judging;
+mod laws;
 mod places;
+mod size;
+mod slots;
+
+pub use backing_up::backup;
+pub use backup_fault::BackupFault;
+pub use laws::{kept_keyslots_answer_alike, kept_of_kept_is_kept};

@@ -1,0 +1,11 @@
+-- How the faults are written: one of a check as itself.
+use Rattle.std.specs.Prelude.{ℕ, List, codes}
+use Rattle.luks_reading.specs.FaultTexts.{check_fault_text}
+use Rattle.luks_keeping.specs.declared.backup_fault.BackupFault.{BackupFault}
+use Rattle.luks_keeping.specs.declared.backup_fault.BackupFault.TheVariants as backup
+
+abbrev pub backup_fault_text : BackupFault → List ℕ
+backup_fault_text (backup.NotAccepted f) = check_fault_text f
+backup_fault_text backup.TooSmall = codes "TooSmall"
+backup_fault_text backup.Memory = codes "Memory"
+backup_fault_text backup.Device = codes "Device"
