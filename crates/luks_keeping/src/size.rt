@@ -1,7 +1,7 @@
 //! How long a backup is.
 ghost use Rattle.std.specs.Prelude.{◌≡◌, ◌+◌, ◌*◌, ◌<◌, ◌≤◌, ◌^◌, ℕ, List, Some, IfSome, IsNone};
 ghost use Rattle.luks_area.specs.Sectors.{rounded_to_sectors};
-ghost use Rattle.luks1_header.specs.Header1.{IsLuks1};
+ghost use Rattle.luks1_header.specs.Header1.{payload_offset_of, IsLuks1};
 ghost use Rattle.luks_reading.specs.Header.{IsAcceptedHeader, IsHeader};
 ghost use Rattle.luks_keeping.specs.Backup.{IsBackupSize, IsLuks1Size};
 ghost use Rattle.luks_keeping.specs.Judged.{HasFields};
@@ -55,9 +55,16 @@ fn luks1_size(header: &Luks1, data_: Data) -> u64
 {
     let end = areas_end(header);
     match data_ {
-        Data::Here => end.max(u64::from(header.common.payload_offset) * SECTOR),
+        Data::Here => end.max(payload_place(header)),
         Data::Elsewhere => end,
     }
+}
+
+/// Where the payload begins.
+fn payload_place(header: &Luks1) -> u64
+    ensures { (h : List ℕ) → IsLuks1 h header.now → result ≡ payload_offset_of h * 512 }
+{
+    u64::from(header.common.payload_offset) * SECTOR
 }
 
 /// The end of the last key area, or of the header.

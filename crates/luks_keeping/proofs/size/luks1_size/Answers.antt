@@ -1,4 +1,4 @@
-use Rattle.std.proofs.Common.{rules, ◌*◌, sym, ap, subst}
+use Rattle.std.proofs.Common.{◌≡◌, max, rules, sym, subst}
 use Rattle.luks_reading.specs.declared.report.Data.{Data}
 use Rattle.luks_keeping.specs.Backup.{IsLuks1Size}
 use Rattle.luks_keeping.proofs.EndFacts.{size_elsewhere, size_here}
@@ -7,8 +7,9 @@ use Rattle.luks_keeping.proofs.size.luks1_size.Goals as goal
 pub returns-in-Here : goal.returns-in-Here
 returns-in-Here c = λ h is. (
     let below = c.areas_end-end.ensures h is in
-    subst (λ (d : Data). IsLuks1Size h d _) (sym c.in-Here.is)
-    (size_here h c.areas_end-end.result _ _ below (ap (λ k. k * 512) (sym is.common.fields.payload_offset)) (search rules)))
+    let most : c.max.result ≡ max c.areas_end-end.result c.payload_place.result = search rules in
+    subst (λ (d : Data). IsLuks1Size h d c.max.result) (sym c.in-Here.is)
+    (size_here h c.areas_end-end.result c.max.result c.payload_place.result below (c.payload_place.ensures h is) most))
 
 pub returns-in-Elsewhere : goal.returns-in-Elsewhere
 returns-in-Elsewhere c = λ h is.
