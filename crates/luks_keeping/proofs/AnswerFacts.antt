@@ -1,30 +1,25 @@
 -- Where a volume's header and key areas stand byte by byte, each keyslot answers as it does in the volume.
-use Rattle.std.proofs.Common.{◌≡◌, ℕ, ◌+◌, ◌≤◌, ◌<◌, List, [], codes, length, Option, Some, None, option_and_then, refl, sym, ap, subst, ◌∙◌, arith, inl, inr}
+use Rattle.std.proofs.Common.{◌≡◌, ℕ, ◌+◌, ◌≤◌, ◌<◌, List, [], codes, length, Option, Some, None, option_and_then, sym, ap, subst, ◌∙◌, arith}
 use Rattle.serde_json.specs.Data.{Data as Value}
 use Rattle.serde_json.specs.Find.{get}
-use Rattle.luks_area.specs.Area.{Fit}
 use Rattle.luks_area.specs.Ranges.{part}
-use Rattle.luks_area.specs.declared.area.Area.{Area}
-use Rattle.luks_area.specs.declared.area.AreaName.{AreaName}
 use Rattle.luks_area.specs.declared.area.AreaName.TheVariants.{Slot}
 use Rattle.luks1_header.specs.Header1.{active_word, disabled_word, enabled_word, entry, word_of, IsLuks1}
 use Rattle.luks1_header.specs.declared.luks1.Luks1.{Luks1}
 use Rattle.luks1_header.specs.declared.luks1.Luks1Slot.{Luks1Slot}
 use Rattle.luks1_header.specs.declared.luks1.SlotState.{SlotState}
 use Rattle.luks1_header.specs.declared.luks1.SlotState.TheVariants.{Disabled, Enabled}
-use Rattle.luks1_header.specs.declared.fault.HeadFault.{HeadFault}
 use Rattle.luks_head.proofs.ChoiceFacts.{choices_agree}
-use Rattle.luks_head.specs.Header2.{hdr_size, header_at}
+use Rattle.luks_head.specs.Header2.{header_at}
 use Rattle.luks_head.specs.Selection.{Choice, luks1, luks2, nothing, Chosen}
 use Rattle.luks_head.specs.declared.selection.Copies.{Copies}
 use Rattle.luks_rules.proofs.AreaFaults.{one_value}
 use Rattle.luks_meta.specs.Reading.{decimal_in}
 use Rattle.luks_slot.specs.Opening.{slot_key}
 use Rattle.luks_slot.specs.declared.plan.SlotPlan.{SlotPlan}
-use Rattle.luks_reading.specs.Answer.{opens, no_key, refused, AnswerWithin, HasNoKeyslot, HasPlanAs, IsLuks1Refusal, IsLuks2RefusalWithin, IsRefusalAsWithin, IsRefusalWithin, Opened, OpensWithin}
+use Rattle.luks_reading.specs.Answer.{opens, no_key, refused, AnswerWithin, HasPlanAs, IsLuks1Refusal, IsLuks2RefusalWithin, IsRefusalAsWithin, IsRefusalWithin, Opened, OpensWithin}
 use Rattle.luks_reading.specs.Checked.{HasLuks2Area, IsLuks1Volume, IsLuks2Volume}
 use Rattle.luks_reading.specs.Header.{json_at}
-use Rattle.luks_reading.specs.Layout1.{Luks1Area}
 use Rattle.luks_reading.specs.Layout2.{Luks2Area}
 use Rattle.luks_reading.specs.Plans.{HasLuks1Plan, HasLuks2Plan}
 use Rattle.luks_reading.specs.declared.open_fault.OpenFault.{OpenFault}
@@ -32,7 +27,7 @@ use Rattle.luks_reading.specs.declared.open_fault.OpenFault.TheVariants.{Head, M
 use Rattle.luks_reading.specs.declared.report.Data.{Data}
 use Rattle.luks_reading.specs.declared.report.Data.TheVariants.{Elsewhere}
 use Rattle.luks_keeping.specs.Judged.{IsFormedOnAs}
-use Rattle.luks_keeping.specs.Kept.{HasKept, KeptArea}
+use Rattle.luks_keeping.specs.Kept.{HasKept}
 use Rattle.luks_keeping.proofs.KeptFacts.{fields_same, header_same, json_same}
 
 -- two volumes of which the same counts: nothing refuses a keyslot of the one that doesn't in the other, it

@@ -1,6 +1,6 @@
 -- The backup that was made, and the faults of making it.
-use Rattle.std.proofs.Common.{◌≡◌, ℕ, ◌+◌, ◌<◌, ◌≤◌, List, length, replicate, false, get_or, refl, sym, subst, arith, inl, inr}
-use Rattle.luks_area.specs.First.{IsLeast, NotAfter}
+use Rattle.std.proofs.Common.{◌≡◌, ℕ, ◌<◌, ◌≤◌, List, length, replicate, false, get_or, refl, arith}
+use Rattle.luks_area.specs.First.{NotAfter}
 use Rattle.luks_area.specs.Ranges.{part, IsAt, SameBut}
 use Rattle.luks_area.specs.RangeFacts.{same_but-wider}
 use Rattle.luks_reading.proofs.VolumeLaws.{well_formed_faultless}

@@ -1,19 +1,16 @@
 -- Where a volume's header stands byte by byte, it counts as it does in the volume.
-use Rattle.std.proofs.Common.{◌≡◌, ◌≢◌, ℕ, ◌+◌, ◌-◌, ◌*◌, ◌<◌, ◌≤◌, List, length, take, drop, replicate, refl, sym, ap, subst, ◌∙◌, arith, inl, inr}
+use Rattle.std.proofs.Common.{◌≡◌, ℕ, ◌+◌, ◌-◌, ◌*◌, ◌≤◌, List, length, sym, ap, subst, ◌∙◌, arith, inl, inr}
 use Rattle.std.proofs.lemmas.Bool.{cases_lt}
 use Rattle.byteorder.specs.Endian.{big_number}
 use Rattle.sha2.specs.Sha256.{sha256}
 use Rattle.luks_area.specs.Ranges.{part}
 use Rattle.luks_area.specs.RangeFacts.{part-part}
-use Rattle.luks1_header.specs.Header1.{HasMagic, version_of}
+use Rattle.luks1_header.specs.Header1.{version_of}
 use Rattle.luks_clearing.proofs.ClearedFacts.{no_copy, no_luks1}
 use Rattle.luks_clearing.specs.Cleared.{IsCleared}
 use Rattle.luks_head.proofs.CopyFacts.{listed_at_least}
 use Rattle.luks_head.specs.Header2.{copy_at, hdr_size, header_at, seqid, with_zero_checksum, IsFormed, IsSound}
-use Rattle.luks_head.specs.Selection.{luks1, luks2, AreBothSound, Chosen, IsChosenCopy, IsFirstAlone, IsNotVersion1, IsSecondAlone, IsVersion1, first_seqid, second_place, second_seqid}
-use Rattle.luks_head.specs.Sizes.{IsListed}
-use Rattle.luks_head.specs.declared.selection.Copies.{Copies}
-use Rattle.luks_head.specs.declared.selection.Copies.TheVariants.{InStep, FirstNewer, SecondNewer, FirstOnly, SecondOnly}
+use Rattle.luks_head.specs.Selection.{AreBothSound, IsFirstAlone, IsNotVersion1, IsSecondAlone, IsVersion1, first_seqid, second_place, second_seqid}
 
 -- what lies in a range that is equal is equal
 pub inside_same : (x y : List ℕ) (l k at n : ℕ) → l ≤ at → at + n ≤ k → part y l (k - l) ≡ part x l (k - l) → part y at n ≡ part x at n

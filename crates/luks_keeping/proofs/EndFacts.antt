@@ -1,5 +1,5 @@
 -- Where the key areas of a LUKS1 header end.
-use Rattle.std.proofs.Common.{◌≡◌, ℕ, ◌+◌, ◌*◌, ◌^◌, ◌<◌, ◌≤◌, List, [], max, refl, sym, ap, subst, ◌∙◌, arith, inl, inr}
+use Rattle.std.proofs.Common.{◌≡◌, ℕ, ◌+◌, ◌*◌, ◌<◌, ◌≤◌, List, max, refl, sym, ap, subst, ◌∙◌, arith, inl, inr}
 use Rattle.std.proofs.Math.Nat.{mul-le-mul_left}
 use Rattle.std.proofs.lemmas.Bool.{cases_eq}
 use Rattle.luks_area.specs.Sectors.{rounded_to_sectors}
@@ -10,7 +10,7 @@ use Rattle.luks1_header.specs.declared.luks1.Luks1.{Luks1}
 use Rattle.luks1_header.specs.declared.luks1.Luks1Slot.{Luks1Slot}
 use Rattle.luks_reading.specs.Layout1.{Luks1Area}
 use Rattle.luks_reading.specs.declared.report.Data.TheVariants.{Here, Elsewhere}
-use Rattle.luks_keeping.specs.Backup.{HoldsLuks1, IsLuks1Size}
+use Rattle.luks_keeping.specs.Backup.{IsLuks1Size}
 use Rattle.luks_keeping.specs.Laid.{HoldsBelow}
 
 -- a key area ends below 2^64

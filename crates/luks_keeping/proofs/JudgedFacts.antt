@@ -1,5 +1,5 @@
 -- What was judged of a header holds of each device that begins with it.
-use Rattle.std.proofs.Common.{◌≡◌, ℕ, List, length, refl, subst, sym}
+use Rattle.std.proofs.Common.{◌≡◌, ℕ, List, length, refl, subst}
 use Rattle.luks_area.specs.First.{IsLeast}
 use Rattle.luks_area.specs.Ranges.{part}
 use Rattle.luks_head.proofs.ChoiceFacts.{choices_agree}

@@ -1,12 +1,11 @@
 -- Where a volume's header stands byte by byte, what it says is the same: which key areas there are, and
 -- whether a volume of that length is well formed.
-use Rattle.std.proofs.Common.{◌≡◌, ◌≢◌, ℕ, ◌+◌, ◌-◌, ◌*◌, ◌<◌, ◌≤◌, List, length, replicate, refl, sym, ap, subst, ◌∙◌, arith, inl, inr}
+use Rattle.std.proofs.Common.{◌≡◌, ℕ, ◌+◌, ◌-◌, ◌*◌, ◌≤◌, List, length, refl, sym, ap, subst, ◌∙◌, arith}
 use Rattle.luks_area.specs.Ranges.{part}
 use Rattle.luks_area.specs.declared.area.Area.{Area}
 use Rattle.luks_area.specs.declared.area.AreaName.TheVariants.{Slot}
-use Rattle.luks1_header.specs.Header1.{luks1_size}
 use Rattle.luks_head.specs.Header2.{hdr_size, header_at, IsSound}
-use Rattle.luks_head.specs.Selection.{luks1, luks2, nothing, AreBothSound, Choice, Chosen, IsChosenCopy, IsNotVersion1, second_place}
+use Rattle.luks_head.specs.Selection.{luks1, luks2, nothing, Choice, Chosen, IsChosenCopy, IsNotVersion1, second_place}
 use Rattle.luks_head.specs.declared.selection.Copies.{Copies}
 use Rattle.luks_head.specs.declared.selection.Copies.TheVariants.{InStep, FirstNewer, SecondNewer, FirstOnly, SecondOnly}
 use Rattle.luks_reading.specs.Checked.{HasLuks2Area, IsLuks1Volume, IsLuks2Volume}
@@ -14,7 +13,7 @@ use Rattle.luks_reading.specs.Header.{json_at}
 use Rattle.luks_reading.specs.declared.report.Data.{Data}
 use Rattle.luks_reading.specs.declared.report.Data.TheVariants.{Elsewhere}
 use Rattle.luks_keeping.specs.Judged.{IsFormedOnAs}
-use Rattle.luks_keeping.specs.Kept.{header_size, lead_of, lead_size, HasHeader, HasKept, IsKept, IsOfKeptArea, IsUsedArea, KeptArea}
+use Rattle.luks_keeping.specs.Kept.{header_size, lead_of, lead_size, HasHeader, HasKept, IsUsedArea, KeptArea}
 use Rattle.luks_keeping.proofs.ChosenFacts.{alone_there, both_there, first_number, inside_same, large_of, least_large, not_version1_there, other_there, place, second_alone_there, second_number, second_size, version1_there}
 
 -- ---- where the chosen copy stands

@@ -1,33 +1,28 @@
 -- The places of a header that was read, as the areas that fit, and as what is kept of its volume.
-use Rattle.std.proofs.Common.{◌≡◌, ◌≢◌, ℕ, ◌+◌, ◌-◌, ◌*◌, ◌<◌, ◌≤◌, List, length, min, replicate, refl, sym, ap, subst, ◌∙◌, arith, inl, inr}
+use Rattle.std.proofs.Common.{◌≡◌, ◌≢◌, ℕ, ◌+◌, ◌-◌, ◌≤◌, List, min, replicate, refl, sym, ap, subst, ◌∙◌, arith, inl, inr}
 use Rattle.std.proofs.lemmas.Bool.{cases_lt}
 use Rattle.serde_json.specs.Data.{Data as Value}
 use Rattle.luks_area.specs.Area.{name_number, Fit}
 use Rattle.luks_area.specs.Ranges.{part, IsAt, SameBut}
 use Rattle.luks_area.specs.RangeFacts.{same_but-wider}
 use Rattle.luks_area.specs.declared.area.Area.{Area}
-use Rattle.luks_area.specs.declared.area.AreaName.{AreaName}
 use Rattle.luks_area.specs.declared.area.AreaName.TheVariants.{Head1, Head2, Slot}
 use Rattle.luks_head.proofs.ChoiceFacts.{chosen_is_sound}
 use Rattle.luks_head.proofs.CopyFacts.{listed_at_least}
 use Rattle.luks_head.specs.Header2.{hdr_size, header_at}
-use Rattle.luks_head.specs.Selection.{Choice, luks1, luks2, Chosen}
+use Rattle.luks_head.specs.Selection.{Chosen}
 use Rattle.luks_head.specs.declared.selection.Copies.{Copies}
 use Rattle.luks_head.specs.declared.selection.Copies.TheVariants.{InStep, FirstNewer, SecondNewer, FirstOnly, SecondOnly}
 use Rattle.luks_rules.proofs.AreaFaults.{one_value}
 use Rattle.luks_meta.specs.Content.{content}
-use Rattle.luks_reading.specs.Checked.{HasLuks2Area}
 use Rattle.luks_reading.specs.Header.{json_at, IsHeader}
-use Rattle.luks_reading.specs.Layout2.{Luks2Area}
 use Rattle.luks_reading.specs.Reported.{HeaderArea}
-use Rattle.luks_reading.specs.declared.header.ChosenCopy.{ChosenCopy}
 use Rattle.luks_reading.specs.declared.header.Header.{Header}
 use Rattle.luks_reading.specs.declared.header.Header.TheVariants.{Luks1, Luks2}
 use Rattle.luks_reading.specs.declared.report.Data.{Data}
-use Rattle.luks_reading.specs.declared.report.Data.TheVariants.{Elsewhere}
-use Rattle.luks_keeping.specs.Kept.{header_size, lead_of, lead_size, HasHeader, HasKept, IsKept, IsOfKeptArea, IsUsedArea, KeptArea}
+use Rattle.luks_keeping.specs.Kept.{header_size, lead_of, lead_size, HasKept, IsKept, IsUsedArea, KeptArea}
 use Rattle.luks_keeping.specs.Laid.{choice_of, first_size, header_lead, second_size, HasSlot, HasSlot2, IsLaidOut}
-use Rattle.luks_keeping.specs.Places.{header_end, AreApart, AreInside, HasPlace, HoldsAll, HoldsAllButFirst, HoldsAreas, IsOfAreas, IsOfPlaces}
+use Rattle.luks_keeping.specs.Places.{header_end, AreApart, AreInside, HoldsAll, HoldsAreas, IsOfPlaces}
 use Rattle.luks_keeping.specs.declared.places.Places.{Places}
 
 -- ---- as areas that fit

@@ -1,20 +1,16 @@
 -- How long a backup is, and that its header and key areas fit into that.
-use Rattle.std.proofs.Common.{◌≡◌, ℕ, ◌+◌, ◌-◌, ◌*◌, ◌<◌, ◌≤◌, List, codes, length, Option, Some, None, option_and_then, refl, sym, ap, subst, ◌∙◌, arith, inl, inr}
-use Rattle.std.proofs.lemmas.Bool.{cases_lt}
+use Rattle.std.proofs.Common.{◌≡◌, ℕ, ◌+◌, ◌-◌, ◌*◌, ◌≤◌, List, codes, length, Option, Some, None, option_and_then, refl, sym, ap, subst, ◌∙◌, arith}
 use Rattle.serde_json.specs.Data.{Data as Value}
 use Rattle.serde_json.specs.Find.{get}
-use Rattle.luks_area.specs.Area.{Fit}
 use Rattle.luks_area.specs.Ranges.{part}
 use Rattle.luks_area.specs.RangeFacts.{length-part_inside}
 use Rattle.luks_area.specs.declared.area.Area.{Area}
 use Rattle.luks_area.specs.declared.area.AreaName.{AreaName}
 use Rattle.luks_area.specs.declared.area.AreaName.TheVariants as name
-use Rattle.luks1_header.specs.Header1.{payload_offset_of}
 use Rattle.luks_head.proofs.ChoiceFacts.{choices_agree, chosen_is_sound}
 use Rattle.luks_head.proofs.CopyFacts.{listed_at_least}
 use Rattle.luks_head.specs.Header2.{hdr_size, header_at}
-use Rattle.luks_head.specs.Selection.{Choice, luks1, luks2, nothing, Chosen, IsChosenCopy}
-use Rattle.luks_head.specs.declared.selection.Copies.{Copies}
+use Rattle.luks_head.specs.Selection.{Choice, luks1, luks2, nothing, Chosen}
 use Rattle.luks_rules.proofs.AreaFaults.{one_value}
 use Rattle.luks_rules.specs.declared.table.Section.TheVariants.{Keyslots}
 use Rattle.luks_meta.specs.Accepted.{IsContent}
@@ -24,7 +20,7 @@ use Rattle.luks_meta.specs.Objects.{IsConfig}
 use Rattle.luks_meta.specs.declared.configuration.Config.{Config as Sizes}
 use Rattle.luks_meta.specs.Reading.{decimal_in}
 use Rattle.luks_meta.specs.Sizes.{keyslots_size, region_start}
-use Rattle.luks_reading.specs.Checked.{IsLuks1Volume, IsLuks2Volume, WellFormed}
+use Rattle.luks_reading.specs.Checked.{IsLuks1Volume, IsLuks2Volume}
 use Rattle.luks_reading.specs.Header.{json_at, IsChosenCopy as IsChosenCopy2}
 use Rattle.luks_reading.specs.declared.header.ChosenCopy.{ChosenCopy}
 use Rattle.luks_reading.specs.Layout1.{Luks1Area}

@@ -1,15 +1,14 @@
 -- The key areas that are found of a header.
-use Rattle.std.proofs.Common.{◌≡◌, ℕ, ◌*◌, ◌<◌, List, codes, length, min, Option, Some, None, option_and_then, refl, sym, ap, subst, ◌∙◌, arith}
+use Rattle.std.proofs.Common.{◌≡◌, ℕ, ◌*◌, ◌<◌, List, codes, min, Option, Some, None, option_and_then, sym, ap, subst, ◌∙◌, arith}
 use Rattle.serde_json.specs.Data.{Data as Value}
 use Rattle.serde_json.specs.Find.{get}
 use Rattle.luks_area.specs.Sectors.{rounded_to_sectors}
 use Rattle.luks_area.specs.declared.area.Area.{Area}
 use Rattle.luks_area.specs.declared.area.AreaName.TheVariants.{Slot}
-use Rattle.luks1_header.specs.Header1.{active_word, disabled_word, enabled_word, entry, entry_stripes, key_bytes_of, word_of, IsEntry, IsLuks1}
+use Rattle.luks1_header.specs.Header1.{active_word, disabled_word, enabled_word, entry, key_bytes_of, word_of, IsEntry, IsLuks1}
 use Rattle.luks1_header.specs.declared.luks1.Luks1.{Luks1 as Fields}
 use Rattle.luks1_header.specs.declared.luks1.Luks1Slot.{Luks1Slot}
 use Rattle.luks1_header.specs.declared.luks1.SlotState.TheVariants.{Disabled, Enabled}
-use Rattle.luks_head.specs.declared.selection.Copies.{Copies}
 use Rattle.luks_meta.specs.Content.{content}
 use Rattle.luks_meta.specs.Faults.{object_at}
 use Rattle.luks_meta.specs.Reading.{decimal_in}

@@ -1,5 +1,5 @@
 -- A volume whose header and key areas stand on another device makes a volume there that opens alike.
-use Rattle.std.proofs.Common.{◌≡◌, ℕ, ◌+◌, ◌*◌, ◌≤◌, List, length, refl, sym, subst, arith, inl, inr}
+use Rattle.std.proofs.Common.{◌≡◌, ℕ, ◌+◌, ◌≤◌, List, length, refl, subst, arith}
 use Rattle.luks_area.specs.declared.area.AreaName.TheVariants.{Head1, Head2}
 use Rattle.luks_head.proofs.ChoiceFacts.{choices_agree}
 use Rattle.luks_head.specs.Header2.{hdr_size, header_at}

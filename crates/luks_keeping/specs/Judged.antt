@@ -1,6 +1,5 @@
 -- The faults of a header on a device that may be another than its own.
-use Rattle.std.specs.Prelude.{◌≡◌, ℕ, ◌+◌, List, length, ⊤}
-use Rattle.luks_area.specs.Area.{Fit}
+use Rattle.std.specs.Prelude.{ℕ, List, ⊤}
 use Rattle.luks_area.specs.Ranges.{part}
 use Rattle.luks1_header.specs.Header1.{luks1_size, IsLuks1}
 use Rattle.luks1_header.specs.declared.luks1.Luks1.{Luks1 as Fields}

@@ -40,12 +40,7 @@ pub(crate) fn judge_header(header: &Header, data_: Data, total: u64) -> Result<(
 }
 
 /// The same of a LUKS2 header with accepted metadata.
-fn judge_luks2(
-    meta: &Meta,
-    header: &Bin2,
-    data_: Data,
-    total: u64,
-) -> Result<(), CheckFault>
+fn judge_luks2(meta: &Meta, header: &Bin2, data_: Data, total: u64) -> Result<(), CheckFault>
     ensures fits { OnOk result
         (Fit (Luks2Area (content meta.now) header.now.hdr_size data_ total) total) }
     ensures accepted { (b json : List ℕ) → HoldsBin2 b header.now → HoldsMeta json meta.now

@@ -21,10 +21,7 @@ pub(crate) fn backup_size(header: &Header, data_: Data) -> Option<u64>
     ensures none { (v : List ℕ) → IsHeader v header.now → IsNone result → LacksSize v data_ }
 {
     match header {
-        Header::Luks1(bytes) => Some(luks1_size(
-            &Luks1::read(bytes.as_slice()).unwrap(),
-            data_,
-        )),
+        Header::Luks1(bytes) => Some(luks1_size(&Luks1::read(bytes.as_slice()).unwrap(), data_)),
         Header::Luks2(copy) => {
             let region = copy.meta.config().keyslots_size;
             luks2_size(copy.header.hdr_size, region)

@@ -1,11 +1,9 @@
-use Rattle.std.proofs.Common.{◌≡◌, ℕ, ◌+◌, ◌≤◌, List, length, true, false, refl, sym, ap, subst, ◌∙◌, arith}
+use Rattle.std.proofs.Common.{◌≡◌, ℕ, List, length, true, false, sym, ap, subst, ◌∙◌, arith}
 use Rattle.std.proofs.lemmas.Bool.{false≢true, true≢false}
 use Rattle.std.proofs.lemmas.Result.{err_from_is_err_and}
 use Rattle.luks_area.specs.Device.{count_after, unchanged-then}
 use Rattle.luks_copying.specs.CountFacts.{counts_first, counts_none, one_failure}
-use Rattle.luks_reading.specs.Header.{IsHeader}
-use Rattle.luks_keeping.specs.Backup.{IsBackupSize}
-use Rattle.luks_keeping.specs.BackupFaults.{checked_backup, is_backup_failure, CanBackUp, IsAnsweredBackup, IsShort}
+use Rattle.luks_keeping.specs.BackupFaults.{checked_backup, is_backup_failure, IsAnsweredBackup, IsShort}
 use Rattle.luks_keeping.specs.Places.{AreInside, HoldsAll}
 use Rattle.luks_keeping.proofs.BackupFacts.{answered_refusal, answered_short, can_back_up, from_backup, is_backup, no_failure, of_backup, same_failure, to_backup, well_formed}
 use Rattle.luks_keeping.proofs.LaidFacts.{apart, inside, lead_within}
@@ -159,10 +157,11 @@ returns-clause-answers g c = λ source tells memory n p a.
     let room = c.in_ok-size.ensures.within in
     let total = c.len.ensures in
     let long : length w ≡ g.T.Device.size c.args.target.now = g.met.T.Device.sized c.write_backup.new.target tells ∙ c.write_backup.ensures.size in
-    let held = subst (λ (l : List ℕ). HoldsAll c.places_of-places.result l w) same (c.in_ok-write_backup.ensures.copied source tells) in
-    (to_backup v c.args.data_ c.in_ok-header.header is c.places_of-places.result c.places_of-places.ensures c.in_ok-size.size (c.in_ok-size.ensures.size v is)
-    (c.in_ok-header.ensures.formed source) (g.T.Device.bytes c.args.target.now) w (omega (arith, room, total, long)) (c.write_backup.ensures.rest tells) held
-    (c.in_ok-write_backup.ensures.lead tells) (c.in_ok-write_backup.ensures.zeros tells) memory n p a,
-    from_backup v c.args.data_ c.in_ok-header.header is c.places_of-places.result c.places_of-places.ensures c.in_ok-size.size (c.in_ok-size.ensures.size v is)
-    (c.in_ok-header.ensures.formed source) (g.T.Device.bytes c.args.target.now) w (omega (arith, room, total, long)) (c.write_backup.ensures.rest tells) held
-    (c.in_ok-write_backup.ensures.lead tells) (c.in_ok-write_backup.ensures.zeros tells) memory n p a)
+    let held = subst (λ (l : List ℕ). HoldsAll c.places_of-places.result l w) same (c.in_ok-write_backup.ensures.copied source tells) in (
+      to_backup v c.args.data_ c.in_ok-header.header is c.places_of-places.result c.places_of-places.ensures c.in_ok-size.size (c.in_ok-size.ensures.size v is)
+          (c.in_ok-header.ensures.formed source) (g.T.Device.bytes c.args.target.now) w (omega (arith, room, total, long)) (c.write_backup.ensures.rest tells) held
+          (c.in_ok-write_backup.ensures.lead tells) (c.in_ok-write_backup.ensures.zeros tells) memory n p a,
+      from_backup v c.args.data_ c.in_ok-header.header is c.places_of-places.result c.places_of-places.ensures c.in_ok-size.size (c.in_ok-size.ensures.size v is)
+          (c.in_ok-header.ensures.formed source) (g.T.Device.bytes c.args.target.now) w (omega (arith, room, total, long)) (c.write_backup.ensures.rest tells) held
+          (c.in_ok-write_backup.ensures.lead tells) (c.in_ok-write_backup.ensures.zeros tells) memory n p a,
+    )

@@ -1,4 +1,4 @@
-use Rattle.std.proofs.Common.{List, ℕ, subst, sym, ◌∙◌, Result, Ok, Err, OnOk, IfErr}
+use Rattle.std.proofs.Common.{List, ℕ, subst, sym, ◌∙◌, Result, Ok, Err, IfErr}
 use Rattle.std.proofs.lemmas.Bool.{false≢true}
 use Rattle.std.proofs.lemmas.Result.{err_from_is_err_and}
 use Rattle.luks_area.specs.Area.{Fit}

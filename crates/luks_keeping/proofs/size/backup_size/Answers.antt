@@ -1,4 +1,4 @@
-use Rattle.std.proofs.Common.{◌+◌, ◌*◌, List, ℕ, Option, Some, None, IfSome, refl, subst}
+use Rattle.std.proofs.Common.{◌+◌, ◌*◌, Option, Some, None, IfSome, refl, subst}
 use Rattle.luks_reading.specs.Header.{IsAcceptedHeader, IsHeader}
 use Rattle.luks_keeping.proofs.SizeFacts.{sized2}
 use Rattle.luks_keeping.proofs.size.backup_size.Goals as goal
