@@ -8,10 +8,12 @@ use Rattle.luks_reading.proofs.CheckFacts.{formed_as}
 use Rattle.luks_reading.specs.Answer.{AnswerWithin, Opened}
 use Rattle.luks_reading.specs.Checked.{WellFormed, WellFormedAs}
 use Rattle.luks_reading.specs.declared.report.Data.{Data}
+use Rattle.luks_keeping.specs.Backup.{IsBackup, IsSizeAs}
 use Rattle.luks_keeping.specs.Judged.{IsFormedOn, IsFormedOnAs}
 use Rattle.luks_keeping.specs.Kept.{header_size, HasKept}
+use Rattle.luks_keeping.specs.Restored.{IsRestored}
 use Rattle.luks_keeping.proofs.AnswerFacts.{alike, answers_here, answers_there}
-use Rattle.luks_keeping.proofs.KeptFacts.{chosen_there, formed_there}
+use Rattle.luks_keeping.proofs.KeptFacts.{chosen_there, formed_there, kept_then}
 
 -- on its own device a header is judged as the volume is
 pub on_own : (v : List ℕ) (payload : Data) (c : Choice) → WellFormedAs v payload c → IsFormedOnAs v payload (length v) c
@@ -70,3 +72,22 @@ module _ (v w : List ℕ) (payload other : Data) (c : Choice) (x : Chosen v c) (
 
     pub answer_here : AnswerWithin memory w n p a → AnswerWithin memory v n p a
     answer_here z = answers_here v w c (alike v w payload other c x counts_there kept formed_v formed_w) memory n p a z
+
+-- ---- a backup that was restored
+
+size_holds : (v : List ℕ) (payload : Data) (c : Choice) (size : ℕ) → IsSizeAs v payload c size → header_size v c ≤ size
+size_holds v payload luks1 size x = x.holds.header
+size_holds v payload (luks2 o copies) size x = (let is = x.is in omega (arith, is))
+size_holds v payload nothing size x = absurd x
+
+pub gives_back : (v before b old w : List ℕ) (payload : Data) (c : Choice) → Chosen v c → WellFormed v payload → IsBackup v payload before b → IsRestored b old w → HasKept v c w
+gives_back v before b old w payload c chosen well made put =
+    let same : made.choice ≡ c = choices_agree v made.choice c made.chosen chosen in
+    let formed : IsFormedOnAs v payload (length v) c = on_own v payload c (formed_as v payload c chosen well) in
+    let kept : HasKept v c b = subst (λ (d : Choice). HasKept v d b) same made.kept in
+    let size : IsSizeAs v payload c made.size = subst (λ (d : Choice). IsSizeAs v payload d made.size) same made.is_size in
+    let low = size_holds v payload c made.size size in
+    let within = made.within in
+    let there : Chosen b c = chosen_there v b c chosen kept.header (header_inside v payload (length v) c formed) (omega (arith, low, within)) (something v payload (length v) c formed) in
+    let again : put.choice ≡ c = choices_agree b put.choice c put.chosen there in
+    kept_then v b w c chosen kept (subst (λ (d : Choice). HasKept b d w) again put.kept)

@@ -5,3 +5,4 @@ pub mod Backup
 pub mod BackupFaults
 pub mod FaultTexts
 pub mod Laid
+pub mod Restored

@@ -1,6 +1,6 @@
 //! Making a backup of a volume's header.
 ghost use Rattle.std.specs.Prelude.{◌≡◌, ◌↔◌, ◌+◌, ◌^◌, ◌<◌, ◌≤◌, List, ℕ, IfErr, IfOk, OnOk, false, replicate, slice_index};
-ghost use Rattle.luks_area.specs.Device.{IsSettled, IsUnchanged, is_failure};
+ghost use Rattle.luks_area.specs.Device.{CountsFailure, IsSettled, IsUnchanged, is_failure};
 ghost use Rattle.luks_area.specs.Ranges.{part, IsAt, SameBut};
 ghost use Rattle.luks_copying.specs.TwoDevices.{CountsEither};
 ghost use Rattle.luks_reading.specs.Answer.{AnswerWithin, Opened};
@@ -85,6 +85,26 @@ pub fn backup<S: Device, T: Device>(
     let places = places_of(&header);
     write_backup(source, target, &places, size)?;
     Ok(())
+}
+
+/// How many bytes the backup of the source's volume has, so that a target can be made for it; refused as
+/// `backup` is, by `TooSmall` where no device has so many.
+pub fn backup_length<S: Device>(
+    alloc: Global,
+    source: &mut S,
+    data_: Data,
+) -> Result<u64, BackupFault>
+    requires { S.failed source.old + 1 < 2 ^ 64 }
+    ensures unchanged { IsUnchanged S.tells S.size S.bytes S.unsettled source.old source.new }
+    ensures count { CountsFailure is_backup_failure result
+        (S.failed source.old) (S.failed source.new) }
+    ensures length { S.tells → IfOk result (IsBackupSize (S.bytes source.old) data_) }
+    ensures well_formed { S.tells → OnOk result (WellFormed (S.bytes source.old) data_) }
+    ensures fault { S.tells → IfErr result
+        (IsAnsweredBackup (S.bytes source.old) data_ 18446744073709551615) }
+{
+    let header = accepted_header(alloc, source, data_)?;
+    fitting_size(&header, data_, u64::MAX)
 }
 
 /// The bytes of the backup, which a device of `total` bytes holds.

@@ -4,8 +4,10 @@ ghost use Rattle.luks_head.specs.Selection.{Choice, Chosen};
 ghost use Rattle.luks_reading.specs.Answer.{AnswerWithin, Opened};
 ghost use Rattle.luks_reading.specs.Checked.{WellFormed};
 ghost use Rattle.luks_reading.specs.declared.report.Data.{Data as Payload};
+ghost use Rattle.luks_keeping.specs.Backup.{IsBackup};
 ghost use Rattle.luks_keeping.specs.Judged.{IsFormedOn};
 ghost use Rattle.luks_keeping.specs.Kept.{HasKept};
+ghost use Rattle.luks_keeping.specs.Restored.{IsRestored};
 
 /// Where all that is kept of a well formed volume stands on another device that is long enough, a
 /// volume is well formed there, and each of its keyslots answers each passphrase, however much memory
@@ -23,5 +25,14 @@ pub fn kept_keyslots_answer_alike()
 /// What has all that is kept of a backup has all that is kept of the volume.
 pub fn kept_of_kept_is_kept()
     ensures { (v b w : List ℕ) (c : Choice) → Chosen v c → HasKept v c b → HasKept b c w
+        → HasKept v c w }
+{}
+
+/// A backup of a well formed volume that is restored, onto the volume or any other device, gives the
+/// volume's header and the key areas of its keyslots that are in use back, byte by byte, whatever stood
+/// there before.
+pub fn restored_backup_gives_back()
+    ensures { (v before b old w : List ℕ) (payload : Payload) (c : Choice) → Chosen v c
+        → WellFormed v payload → IsBackup v payload before b → IsRestored b old w
         → HasKept v c w }
 {}

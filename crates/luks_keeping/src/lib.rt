@@ -12,6 +12,6 @@ mod places;
 mod size;
 mod slots;
 
-pub use backing_up::backup;
+pub use backing_up::{backup, backup_length};
 pub use backup_fault::BackupFault;
-pub use laws::{kept_keyslots_answer_alike, kept_of_kept_is_kept};
+pub use laws::{kept_keyslots_answer_alike, kept_of_kept_is_kept, restored_backup_gives_back};
