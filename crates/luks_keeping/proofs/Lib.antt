@@ -10,3 +10,9 @@ pub mod ErasedFacts
 pub mod SizeFacts
 pub mod BackupFacts
 pub mod EndFacts
+pub mod OverFacts
+pub mod SoundFacts
+pub mod RestoreFacts
+pub mod RestoreFaultFacts
+pub mod TurnFacts
+pub mod OtherFacts
