@@ -22,7 +22,7 @@ use Rattle.luks_reading.specs.declared.header.Header.TheVariants.{Luks1, Luks2}
 use Rattle.luks_reading.specs.declared.report.Data.{Data}
 use Rattle.luks_keeping.specs.Kept.{header_size, lead_of, lead_size, HasKept, IsKept, IsUsedArea, KeptArea}
 use Rattle.luks_keeping.specs.Laid.{choice_of, first_size, header_lead, second_size, HasSlot, HasSlot2, IsLaidOut}
-use Rattle.luks_keeping.specs.Places.{header_end, AreApart, AreInside, HoldsAll, HoldsAreas, IsOfPlaces}
+use Rattle.luks_keeping.specs.Places.{header_end, AreApart, AreInside, HoldsAll, HoldsAreas, IsOfPlaces, IsOfWhole}
 use Rattle.luks_keeping.specs.declared.places.Places.{Places}
 
 -- ---- as areas that fit
@@ -146,3 +146,16 @@ module _ (v : List ℕ) (header : Header) (is : IsHeader v header) (places : Pla
 
   pub kept_but : {u w : List ℕ} → SameBut (IsOfPlaces places) u w → SameBut (IsKept v (choice_of header)) u w
   kept_but same = same_but-wider place_kept same
+
+  -- so are the header's places and the key areas
+  whole_is : (p : ℕ) → IsOfWhole places p → IsKept v (choice_of header) p
+  whole_is p (inl at) = inl (let high = at.1 in let end_ = end_is in (omega arith, omega (arith, high, end_)))
+  whole_is p (inr x) = inr (record { number = x.number; area = x.of_place.area; is = to_kept v header is x.number x.of_place.area (laid.only x.number x.of_place.area x.of_place.is); at = x.of_place.at })
+
+  pub whole_kept : {u w : List ℕ} → SameBut (IsOfWhole places) u w → SameBut (IsKept v (choice_of header)) u w
+  whole_kept same = same_but-wider whole_is same
+
+-- what isn't kept is of the first sector
+pub lead_below : (header : Header) (places : Places) → IsLaidOut header places → places.lead ≤ min 512 places.first
+lead_below (Luks1 bytes) places laid = (let lead = laid.lead in omega (arith, lead))
+lead_below (Luks2 copy) places laid = (let lead = laid.lead in let first = laid.first in let small = lead_small copy.copies in omega (arith, lead, first, small))

@@ -10,3 +10,7 @@ pub mod ErasedFacts
 pub mod SizeFacts
 pub mod BackupFacts
 pub mod EndFacts
+pub mod OverFacts
+pub mod SoundFacts
+pub mod RestoreFacts
+pub mod RestoreFaultFacts

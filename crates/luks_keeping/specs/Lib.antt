@@ -6,3 +6,6 @@ pub mod BackupFaults
 pub mod FaultTexts
 pub mod Laid
 pub mod Restored
+pub mod RestoreFaults
+pub mod SameVolume
+pub mod OtherHeaders

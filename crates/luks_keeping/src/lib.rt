@@ -8,10 +8,18 @@ mod copying;
 mod erasing;
 mod judging;
 mod laws;
+mod over;
 mod places;
+mod restore_fault;
+mod restoring;
+mod same_volume;
 mod size;
 mod slots;
+mod writing_over;
 
 pub use backing_up::{backup, backup_length};
 pub use backup_fault::BackupFault;
 pub use laws::{kept_keyslots_answer_alike, kept_of_kept_is_kept, restored_backup_gives_back};
+pub use over::Over;
+pub use restore_fault::RestoreFault;
+pub use restoring::restore;
