@@ -14,3 +14,5 @@ pub mod OverFacts
 pub mod SoundFacts
 pub mod RestoreFacts
 pub mod RestoreFaultFacts
+pub mod TurnFacts
+pub mod OtherFacts

@@ -1,5 +1,5 @@
 -- What clearing and then copying leave.
-use Rattle.std.proofs.Common.{◌≡◌, ℕ, ◌+◌, ◌-◌, ◌≤◌, List, length, min, replicate, sym, ap, ◌∙◌, arith, inl, inr}
+use Rattle.std.proofs.Common.{◌≡◌, ℕ, ◌+◌, ◌-◌, ◌≤◌, List, length, min, replicate, sym, ap, subst, ◌∙◌, arith, inl, inr}
 use Rattle.luks_area.specs.Ranges.{part, IsAt, SameBut}
 use Rattle.luks_area.specs.RangeFacts.{part-part, part-same_but, same_but-either, same_but-then, same_but-wider}
 use Rattle.luks_keeping.specs.Places.{first_cleared, header_end, second_cleared, AreCleared, ClearsInTurn, CopiesInTurn, IsFirstCleared, IsOfPlaces, IsOfSectors, IsOfWhole, IsSecondCleared, WritesOver}
@@ -19,6 +19,19 @@ module _ (places : Places) where
 
   pub sectors_of : {u v w : List ℕ} → SameBut (IsAt 0 (first_cleared places)) u v → SameBut (IsAt places.first (second_cleared places)) v w → SameBut (IsOfSectors places) u w
   sectors_of first second = same_but-either first second
+
+  -- what is written of each place is its first sector
+  pub first_at : {n : ℕ} {u w : List ℕ} → n ≡ first_cleared places → SameBut (IsAt 0 n) u w → SameBut (IsAt 0 (first_cleared places)) u w
+  first_at {n} {u} {w} is same = subst (λ (m : ℕ). SameBut (IsAt 0 m) u w) is same
+
+  pub second_at : {n : ℕ} {u w : List ℕ} → n ≡ second_cleared places → SameBut (IsAt places.first n) u w → SameBut (IsAt places.first (second_cleared places)) u w
+  second_at {n} {u} {w} is same = subst (λ (m : ℕ). SameBut (IsAt places.first m) u w) is same
+
+  pub first_zeros : {n : ℕ} (w : List ℕ) → n ≡ first_cleared places → part w 0 n ≡ replicate n 0 → IsFirstCleared places w
+  first_zeros {n} w is zeros = subst (λ (m : ℕ). part w 0 m ≡ replicate m 0) is zeros
+
+  pub second_zeros : {n : ℕ} (w : List ℕ) → n ≡ second_cleared places → part w places.first n ≡ replicate n 0 → IsSecondCleared places w
+  second_zeros {n} w is zeros = subst (λ (m : ℕ). part w places.first m ≡ replicate m 0) is zeros
 
   sector_within : (p : ℕ) → IsOfSectors places p → IsOfWhole places p
   sector_within p is = elim is [

@@ -1,6 +1,9 @@
 -- The first fault of restoring a backup.
-use Rattle.std.proofs.Common.{◌≡◌, ℕ, List, length, true, false, refl, sym, subst, arith, inl, inr}
+use Rattle.std.proofs.Common.{◌≡◌, ℕ, Bool, List, length, true, false, refl, sym, subst, arith, inl, inr}
+use Rattle.luks_area.specs.Device.{count_after}
 use Rattle.luks_area.specs.First.{IsLeast, NotAfter}
+use Rattle.luks_copying.specs.CountFacts.{one_failure}
+use Rattle.luks_copying.specs.TwoDevices.{CountsAfter, IsOneFailure}
 use Rattle.luks_reading.proofs.VolumeLaws.{well_formed_faultless}
 use Rattle.luks_reading.specs.Checked.{check_key, IsCheckRefusal, IsFault, WellFormed}
 use Rattle.luks_reading.specs.Failures.{is_check_failure}
@@ -78,3 +81,12 @@ same_failure (check.Meta f) = refl
 same_failure (check.Area f) = refl
 same_failure check.Device = refl
 same_failure check.Memory = refl
+
+-- the second of two devices was called, and the first hadn't failed
+pub counts_second : (f : Bool) (s t u w : ℕ) → t ≡ s → w ≡ count_after f u → CountsAfter f s t u w
+counts_second true s t u w same e = inr (same, e)
+counts_second false s t u w same e = (same, e)
+
+-- one of the two failed, and neither had before
+pub two_failures : {s t u v w x : ℕ} → t ≡ s → w ≡ v → IsOneFailure t u w x → IsOneFailure s u v x
+two_failures {t = t} {u = u} {v = v} {w = w} {x = x} first second one = one_failure first (subst (λ (n : ℕ). IsOneFailure t u n x) second one)

@@ -5,6 +5,7 @@ ghost use Rattle.luks_area.specs.Device.{IsSettled, IsUnchanged};
 ghost use Rattle.luks_area.specs.Ranges.{part, SameBut};
 ghost use Rattle.luks_area.specs.declared.area.Area.{Area as TheArea};
 ghost use Rattle.luks_copying.specs.TwoDevices.{CountsEither};
+ghost use Rattle.luks_head.specs.Selection.{Choice, Chosen};
 ghost use Rattle.luks_reading.specs.Answer.{AnswerWithin, Opened};
 ghost use Rattle.luks_reading.specs.Checked.{WellFormed};
 ghost use Rattle.luks_reading.specs.Header.{IsAcceptedHeader, IsHeader};
@@ -12,7 +13,7 @@ ghost use Rattle.luks_reading.specs.Reported.{HeaderArea};
 ghost use Rattle.luks_keeping.specs.Judged.{IsFormedOn};
 ghost use Rattle.luks_keeping.specs.OtherHeaders.{IsUnfit};
 ghost use Rattle.luks_keeping.specs.RestoreFaults.{CanRestore, IsAnsweredRestore, IsRestoreFault, is_restore_failure};
-ghost use Rattle.luks_keeping.specs.Restored.{IsOfRestored, IsRestored, IsSegmentOn};
+ghost use Rattle.luks_keeping.specs.Restored.{IsOfRestored, IsRestored, IsSegmentOn, RestoresInTurn};
 ghost use Rattle.luks_keeping.specs.declared.restore_fault.RestoreFault.{RestoreFault as TheFault};
 
 use crate::accepted::accepted_header;
@@ -69,6 +70,8 @@ pub fn restore<B: Device, T: Device>(
     ensures segments { B.tells → T.tells → (n : ℕ) (a : TheArea)
         → IsSegmentOn (B.bytes backup.old) data_ (T.size target.old) n a
         → part (T.bytes target.new) a.start a.len ≡ part (T.bytes target.old) a.start a.len }
+    ensures order { B.tells → T.tells → (c : Choice) → Chosen (B.bytes backup.old) c
+        → RestoresInTurn (B.bytes backup.old) c (T.bytes target.old) (T.bytes target.new) }
 
     // The volume that was made: each keyslot answers as the backup's.
     ensures restored { B.tells → T.tells → OnOk result

@@ -59,12 +59,19 @@ fn clear<T: Device>(target: &mut T, places: &Places) -> Result<(), DeviceFault>
 {
     let first = Area {
         start: 0,
-        len: SECTOR.min(places.first),
+        len: sector_within(places.first),
     };
     erase(target, first)?;
     let second = Area {
         start: places.first,
-        len: SECTOR.min(places.second),
+        len: sector_within(places.second),
     };
     erase(target, second)
+}
+
+/// The bytes of the first sector of a place of `bytes` bytes.
+fn sector_within(bytes: u64) -> u64
+    ensures { result ≡ min 512 bytes }
+{
+    SECTOR.min(bytes)
 }
