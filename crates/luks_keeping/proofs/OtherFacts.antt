@@ -1,12 +1,12 @@
 -- Whether the header that counts on a target is another volume's.
-use Rattle.std.proofs.Common.{◌≡◌, ◌≢◌, ◌↔◌, ℕ, List, Bool, true, false, refl, sym, ap, subst, ◌∙◌, arith, not, IsTrue, ◌⊎◌, inl, inr}
+use Rattle.std.proofs.Common.{◌≡◌, ◌≢◌, ◌↔◌, ℕ, List, Bool, true, false, refl, sym, ap, ◌∙◌, not, IsTrue, ◌⊎◌, inl, inr}
 use Rattle.std.proofs.lemmas.Bool.{false≢true}
 use Rattle.luks_area.specs.Ranges.{part}
 use Rattle.luks1_header.specs.Faults.{is_device_fault}
 use Rattle.luks1_header.specs.declared.fault.HeadFault.{HeadFault}
 use Rattle.luks1_header.specs.declared.fault.HeadFault.TheVariants as head
 use Rattle.luks_head.proofs.ChoiceFacts.{choices_agree}
-use Rattle.luks_head.specs.Selection.{luks1, luks2, nothing, Choice, Chosen, IsRefused, IsSelected}
+use Rattle.luks_head.specs.Selection.{luks1, luks2, nothing, Chosen, IsRefused, IsSelected}
 use Rattle.luks_head.specs.declared.selection.Selected.{Selected}
 use Rattle.luks_head.specs.declared.selection.Selected.TheVariants.{V1, V2}
 use Rattle.luks_rules.specs.declared.fault.MetaFault.{MetaFault}

@@ -1,5 +1,5 @@
 -- What clearing and then copying leave.
-use Rattle.std.proofs.Common.{◌≡◌, ℕ, ◌+◌, ◌-◌, ◌≤◌, List, length, min, replicate, sym, ap, subst, ◌∙◌, arith, inl, inr}
+use Rattle.std.proofs.Common.{◌≡◌, ℕ, ◌+◌, ◌≤◌, List, replicate, sym, ap, subst, ◌∙◌, arith, inl, inr}
 use Rattle.luks_area.specs.Ranges.{part, IsAt, SameBut}
 use Rattle.luks_area.specs.RangeFacts.{part-part, part-same_but, same_but-either, same_but-then, same_but-wider}
 use Rattle.luks_keeping.specs.Places.{first_cleared, header_end, second_cleared, AreCleared, ClearsInTurn, CopiesInTurn, IsFirstCleared, IsOfPlaces, IsOfSectors, IsOfWhole, IsSecondCleared, WritesOver}

@@ -1,7 +1,7 @@
 -- The first fault of restoring a backup.
-use Rattle.std.proofs.Common.{◌≡◌, ℕ, Bool, List, length, true, false, refl, sym, subst, arith, inl, inr}
+use Rattle.std.proofs.Common.{◌≡◌, ℕ, Bool, List, length, true, false, refl, subst, arith, inr}
 use Rattle.luks_area.specs.Device.{count_after}
-use Rattle.luks_area.specs.First.{IsLeast, NotAfter}
+use Rattle.luks_area.specs.First.{NotAfter}
 use Rattle.luks_copying.specs.CountFacts.{one_failure}
 use Rattle.luks_copying.specs.TwoDevices.{CountsAfter, IsOneFailure}
 use Rattle.luks_reading.proofs.VolumeLaws.{well_formed_faultless}

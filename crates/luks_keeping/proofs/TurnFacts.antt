@@ -1,5 +1,5 @@
 -- What is left of a volume at any time, by what counts of the backup.
-use Rattle.std.proofs.Common.{◌≡◌, ℕ, ◌+◌, ◌≤◌, List, min, replicate, sym, subst, ◌∙◌, arith, inl, inr}
+use Rattle.std.proofs.Common.{◌≡◌, ℕ, ◌≤◌, List, replicate, sym, subst, ◌∙◌, arith, inl, inr}
 use Rattle.luks_area.specs.Ranges.{part, IsAt, SameBut}
 use Rattle.luks_area.specs.RangeFacts.{same_but-wider}
 use Rattle.luks_head.proofs.ChoiceFacts.{choices_agree, chosen_is_sound}
@@ -64,13 +64,16 @@ module _ (b : List ℕ) (header : Header) (is : IsHeader b header) (places : Pla
   turn_as turn = elim turn [
     | inl same ↦ inl (subst (λ (n : ℕ). SameBut (IsAt 0 n) old new) (first_is b header is places laid) same)
     | inr later ↦ elim later [
-      | inl x ↦ inr (inl (none_first x.0, elim x.1 [
-        | inl same ↦ inl (same_but-wider (sector_there b header is places laid) same)
-        | inr y ↦ elim y [
-          | inl gone ↦ inr (inl (second_gone b header is places laid new gone))
-          | inr held ↦ inr (inr (kept_areas b header is places laid new held))
-        ]
-      ]))
+      | inl x ↦ inr (inl (
+        none_first x.0,
+        elim x.1 [
+          | inl same ↦ inl (same_but-wider (sector_there b header is places laid) same)
+          | inr y ↦ elim y [
+            | inl gone ↦ inr (inl (second_gone b header is places laid new gone))
+            | inr held ↦ inr (inr (kept_areas b header is places laid new held))
+          ]
+        ],
+      ))
       | inr x ↦ inr (inr (but_first x))
     ]
   ]

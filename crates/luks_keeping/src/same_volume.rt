@@ -13,6 +13,7 @@ use std::alloc::Global;
 
 /// Where the uuid's field of a LUKS1 header stands.
 const UUID: usize = 168;
+
 const UUID_END: usize = 208;
 
 /// Refuses where the header that counts on the target is another volume's than this one, unless it may
@@ -46,11 +47,7 @@ pub(crate) fn judge_other<T: Device>(
 }
 
 /// Whether a header counts on the target, and its uuid isn't this one's.
-fn is_other<T: Device>(
-    alloc: Global,
-    header: &Header,
-    target: &mut T,
-) -> Result<bool, RestoreFault>
+fn is_other<T: Device>(alloc: Global, header: &Header, target: &mut T) -> Result<bool, RestoreFault>
     requires accepted { IsAcceptedHeader header.now }
     requires room { T.failed target.old + 1 < 2 ^ 64 }
     ensures unchanged { IsUnchanged T.tells T.size T.bytes T.unsettled target.old target.new }

@@ -1,16 +1,15 @@
-use Rattle.std.proofs.Common.{◌≡◌, ℕ, ◌+◌, ◌≤◌, List, length, true, false, refl, sym, ap, subst, ◌∙◌, arith, inl}
+use Rattle.std.proofs.Common.{◌≡◌, ℕ, List, length, true, false, sym, ap, subst, ◌∙◌, inl}
 use Rattle.std.proofs.lemmas.Bool.{true≢false}
 use Rattle.std.proofs.lemmas.Result.{err_from_is_err_and}
 use Rattle.luks_area.specs.Device.{count_after, unchanged-then}
 use Rattle.luks_area.specs.Ranges.{part, SameBut}
 use Rattle.luks_area.specs.RangeFacts.{same_but-equal, same_but-same}
-use Rattle.luks_copying.specs.CountFacts.{counts_first, counts_none, one_failure}
-use Rattle.luks_reading.specs.Header.{IsHeader}
+use Rattle.luks_copying.specs.CountFacts.{counts_first, counts_none}
 use Rattle.luks_keeping.specs.Judged.{IsFormedOn}
 use Rattle.luks_keeping.specs.Places.{AreInside, HoldsAll, IsOfWhole, WritesOver}
-use Rattle.luks_keeping.specs.OtherHeaders.{IsOtherAnswer, IsUnfit}
-use Rattle.luks_keeping.specs.RestoreFaults.{checked_restore, is_restore_failure, CanRestore, IsAnsweredRestore, IsKeptFrom}
-use Rattle.luks_keeping.proofs.LaidFacts.{apart, inside, lead_within, lead_below, whole_kept}
+use Rattle.luks_keeping.specs.OtherHeaders.{IsUnfit}
+use Rattle.luks_keeping.specs.RestoreFaults.{checked_restore, is_restore_failure}
+use Rattle.luks_keeping.proofs.LaidFacts.{apart, inside, lead_below, whole_kept}
 use Rattle.luks_keeping.proofs.RestoreFacts.{from_volume, is_restored, of_restored, segment_stays, to_volume, well_formed}
 use Rattle.luks_keeping.proofs.RestoreFaultFacts.{answered_other, answered_refusal, answered_unfit, can_restore, counts_second, same_failure, two_failures}
 use Rattle.luks_keeping.proofs.SoundFacts.{faultless_on}

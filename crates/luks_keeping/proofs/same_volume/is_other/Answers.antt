@@ -1,4 +1,4 @@
-use Rattle.std.proofs.Common.{◌≡◌, ◌≢◌, ℕ, ◌+◌, List, ap, ◌∙◌}
+use Rattle.std.proofs.Common.{◌≢◌, ℕ, List, ap, ◌∙◌}
 use Rattle.luks_area.specs.Device.{count_after}
 use Rattle.luks_reading.specs.Conversions.{head_unread}
 use Rattle.luks_reading.specs.declared.read_fault.ReadFault.TheVariants as read

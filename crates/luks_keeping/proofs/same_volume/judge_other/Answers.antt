@@ -1,4 +1,4 @@
-use Rattle.std.proofs.Common.{◌≡◌, ℕ, List, sym, subst}
+use Rattle.std.proofs.Common.{ℕ, List, sym, subst}
 use Rattle.luks_keeping.specs.OtherHeaders.{TellsOther}
 use Rattle.luks_keeping.specs.RestoreFaults.{IsKeptFrom}
 use Rattle.luks_keeping.proofs.same_volume.judge_other.Goals as goal

@@ -1,4 +1,4 @@
-use Rattle.std.proofs.Common.{◌≡◌, ℕ, ◌+◌, ◌≤◌, List, arith, inl, inr, Result, Ok, Err, OnOk}
+use Rattle.std.proofs.Common.{inl, inr}
 use Rattle.luks_reading.proofs.CheckFacts.{on_ok}
 use Rattle.luks_keeping.proofs.OverFacts.{first_at, first_stays, first_within, first_zeros, second_at, second_zeros, sectors_of}
 use Rattle.luks_keeping.proofs.writing_over.clear.Goals as goal

@@ -1,4 +1,4 @@
-use Rattle.std.proofs.Common.{◌≡◌, ℕ, ◌+◌, ◌≤◌, List, sym, subst, arith, inl, inr, ◌∙◌}
+use Rattle.std.proofs.Common.{sym, subst, arith, ◌∙◌}
 use Rattle.luks_reading.proofs.CheckFacts.{on_ok}
 use Rattle.luks_keeping.specs.Places.{AreInside}
 use Rattle.luks_keeping.proofs.ErasedFacts.{lead_stays, zeros_front}
