@@ -16,3 +16,4 @@ pub mod RestoreFacts
 pub mod RestoreFaultFacts
 pub mod TurnFacts
 pub mod OtherFacts
+pub mod KeyFacts

@@ -19,7 +19,7 @@ use Rattle.luks_reading.specs.declared.read_fault.ReadFault.{ReadFault}
 use Rattle.luks_reading.specs.declared.read_fault.ReadFault.TheVariants as read
 use Rattle.luks_keeping.specs.Laid.{choice_of}
 use Rattle.luks_keeping.specs.OtherHeaders.{read_uuid, selected_choice, selected_uuid, TellsOther}
-use Rattle.luks_keeping.specs.SameVolume.{uuid_bytes, IsOtherVolume}
+use Rattle.luks_keeping.specs.SameVolume.{uuid_bytes, HasOtherUuid}
 use Rattle.luks_keeping.proofs.LaidFacts.{chosen_of}
 
 -- ---- nothing counts
@@ -60,7 +60,7 @@ no_call_failed (head.Iterations o) e = refl
 no_call_failed head.Device e = absurd (e refl)
 no_call_failed head.Memory e = refl
 
-pub none_other : (b t : List ℕ) → Chosen t nothing → IsOtherVolume b t → ⊥
+pub none_other : (b t : List ℕ) → Chosen t nothing → HasOtherUuid b t → ⊥
 none_other b t none x = x.some (choices_agree t x.other nothing x.counts none)
 
 -- ---- a header counts
@@ -83,7 +83,7 @@ selected_some (V2 header copies) e = (let no : luks2 header.hdr_offset copies �
 
 module _ (b t : List ℕ) (h : Header) (is : IsHeader b h) (s : Selected) (x : IsSelected t s) where
   -- one with another uuid is another volume's
-  pub other_uuid : (selected_uuid s ≡ read_uuid h → ⊥) → IsOtherVolume b t
+  pub other_uuid : (selected_uuid s ≡ read_uuid h → ⊥) → HasOtherUuid b t
   other_uuid differ = record {
     choice = choice_of h;
     chosen = chosen_of b h is;
@@ -94,7 +94,7 @@ module _ (b t : List ℕ) (h : Header) (is : IsHeader b h) (s : Selected) (x : I
   }
 
   -- one with the same isn't
-  pub same_uuid : selected_uuid s ≡ read_uuid h → IsOtherVolume b t → ⊥
+  pub same_uuid : selected_uuid s ≡ read_uuid h → HasOtherUuid b t → ⊥
   same_uuid e y = y.uuid (
       ap (uuid_bytes t) (choices_agree t y.other (selected_choice s) y.counts (chosen_selected t s x)) ∙ sym (uuid_of_selected t s x)
       ∙ e ∙ uuid_of_header b h is ∙ ap (uuid_bytes b) (choices_agree b (choice_of h) y.choice (chosen_of b h is) y.chosen))

@@ -1,5 +1,5 @@
 -- The first fault of restoring a backup.
-use Rattle.std.proofs.Common.{◌≡◌, ℕ, Bool, List, length, true, false, refl, subst, arith, inr}
+use Rattle.std.proofs.Common.{◌≡◌, ℕ, Bool, List, length, true, false, refl, subst, arith, inl, inr}
 use Rattle.luks_area.specs.Device.{count_after}
 use Rattle.luks_area.specs.First.{NotAfter}
 use Rattle.luks_copying.specs.CountFacts.{one_failure}
@@ -32,7 +32,7 @@ module _ (b t : List ℕ) (payload : Data) (over : Over) where
   answered_refusal (check.Meta f) x = (x.0, after_accepted (check.Meta f) x.1)
   answered_refusal (check.Area f) x = (x.0, after_accepted (check.Area f) x.1)
   answered_refusal check.Device x = tt
-  answered_refusal check.Memory x = x
+  answered_refusal check.Memory x = inl x
 
   module _ (well : WellFormed b Elsewhere) where
     after_fit : (f : CheckFault) → ((g : CheckFault) → IsFaultOn b payload (length t) g → NotAfter (check_key f) (check_key g))
@@ -61,7 +61,7 @@ module _ (b t : List ℕ) (payload : Data) (over : Over) where
       pub answered_other : (f : RestoreFault) → IsOtherAnswer b t over f → IsAnsweredRestore b t payload over f
       answered_other OtherVolume x = (x, after_other)
       answered_other Device x = tt
-      answered_other Memory x = absurd x
+      answered_other Memory x = inr x
       answered_other (NotAccepted f) x = absurd x
       answered_other (DoesNotFit f) x = absurd x
 

@@ -9,3 +9,5 @@ pub mod Restored
 pub mod RestoreFaults
 pub mod SameVolume
 pub mod OtherHeaders
+pub mod SameKey
+pub mod SameKeys

@@ -10,8 +10,8 @@ use Rattle.luks_reading.specs.declared.header.Header.{Header}
 use Rattle.luks_reading.specs.declared.header.Header.TheVariants.{Luks1, Luks2}
 use Rattle.luks_reading.specs.declared.report.Data.{Data}
 use Rattle.luks_keeping.specs.Judged.{IsFaultOn}
-use Rattle.luks_keeping.specs.RestoreFaults.{IsKeptFrom}
-use Rattle.luks_keeping.specs.SameVolume.{IsOtherVolume}
+use Rattle.luks_keeping.specs.RestoreFaults.{IsKeptFrom, ReadsTarget}
+use Rattle.luks_keeping.specs.SameVolume.{HasOtherUuid}
 use Rattle.luks_keeping.specs.declared.over.Over.{Over}
 use Rattle.luks_keeping.specs.declared.restore_fault.RestoreFault.{RestoreFault}
 use Rattle.luks_keeping.specs.declared.restore_fault.RestoreFault.TheVariants.{NotAccepted, DoesNotFit, OtherVolume, Memory, Device}
@@ -30,16 +30,16 @@ abbrev pub selected_choice : Selected → Choice
 selected_choice (V1 bytes) = luks1
 selected_choice (V2 header copies) = luks2 header.hdr_offset copies
 
--- whether it is another volume's
+-- whether it has another uuid
 abbrev pub TellsOther : List ℕ → List ℕ → Bool → Type 0
-TellsOther b t true = IsOtherVolume b t
-TellsOther b t false = IsOtherVolume b t → ⊥
+TellsOther b t true = HasOtherUuid b t
+TellsOther b t false = HasOtherUuid b t → ⊥
 
--- the answer to that
+-- the answer where it is another volume's
 abbrev pub IsOtherAnswer : List ℕ → List ℕ → Over → RestoreFault → Type 0
 IsOtherAnswer b t over OtherVolume = IsKeptFrom b t over
 IsOtherAnswer b t over Device = ⊤
-IsOtherAnswer b t over Memory = ⊥
+IsOtherAnswer b t over Memory = ReadsTarget b t over
 IsOtherAnswer b t over (NotAccepted f) = ⊥
 IsOtherAnswer b t over (DoesNotFit f) = ⊥
 

@@ -12,6 +12,7 @@ mod over;
 mod places;
 mod restore_fault;
 mod restoring;
+mod same_key;
 mod same_volume;
 mod size;
 mod slots;

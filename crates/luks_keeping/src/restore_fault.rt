@@ -17,7 +17,8 @@ pub enum RestoreFault {
     NotAccepted(CheckFault),
     /// `check` would refuse the volume as it would be.
     DoesNotFit(CheckFault),
-    /// The header that counts on the target is another volume's.
+    /// The header that counts on the target is another volume's: it has another uuid, and no digest of
+    /// the backup's volume key, or its metadata isn't accepted, so that none can be compared.
     OtherVolume,
     /// Memory was refused.
     Memory,

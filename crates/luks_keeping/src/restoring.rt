@@ -33,8 +33,8 @@ use std::alloc::Global;
 /// `data_` says where the payload of the target's volume lies. First the first sectors of both copies'
 /// places become zeros, one after the other: an older header there would still count while its key
 /// areas are overwritten. Then the key areas are written, then the second copy of the header, then the
-/// first, a flush after each; a broken-off restore is done again. Takes memory for the metadata, before
-/// the first write.
+/// first, a flush after each; a broken-off restore is done again. Takes memory for the metadata of both,
+/// before the first write.
 pub fn restore<B: Device, T: Device>(
     alloc: Global,
     backup: &mut B,

@@ -7,6 +7,7 @@ ghost use Rattle.luks_keeping.specs.RestoreFaults.{IsKeptFrom, is_restore_failur
 
 use crate::over::Over;
 use crate::restore_fault::RestoreFault;
+use crate::same_key::judge_key;
 use luks_area::Device;
 use luks_reading::{Header, ReadFault, Selected, select};
 use std::alloc::Global;
@@ -17,7 +18,7 @@ const UUID: usize = 168;
 const UUID_END: usize = 208;
 
 /// Refuses where the header that counts on the target is another volume's than this one, unless it may
-/// be written over.
+/// be written over: one with another uuid whose volume key has no digest of this one's.
 pub(crate) fn judge_other<T: Device>(
     alloc: Global,
     header: &Header,
@@ -37,8 +38,8 @@ pub(crate) fn judge_other<T: Device>(
     match over {
         Over::AnyVolume => Ok(()),
         Over::SameVolume => {
-            if is_other(alloc, header, target)? {
-                Err(RestoreFault::OtherVolume)
+            if has_other_uuid(alloc, header, target)? {
+                judge_key(alloc, header, target)
             } else {
                 Ok(())
             }
@@ -47,7 +48,11 @@ pub(crate) fn judge_other<T: Device>(
 }
 
 /// Whether a header counts on the target, and its uuid isn't this one's.
-fn is_other<T: Device>(alloc: Global, header: &Header, target: &mut T) -> Result<bool, RestoreFault>
+fn has_other_uuid<T: Device>(
+    alloc: Global,
+    header: &Header,
+    target: &mut T,
+) -> Result<bool, RestoreFault>
     requires accepted { IsAcceptedHeader header.now }
     requires room { T.failed target.old + 1 < 2 ^ 64 }
     ensures unchanged { IsUnchanged T.tells T.size T.bytes T.unsettled target.old target.new }

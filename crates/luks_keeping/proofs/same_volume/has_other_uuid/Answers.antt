@@ -3,7 +3,7 @@ use Rattle.luks_area.specs.Device.{count_after}
 use Rattle.luks_reading.specs.Conversions.{head_unread}
 use Rattle.luks_reading.specs.declared.read_fault.ReadFault.TheVariants as read
 use Rattle.luks_keeping.proofs.OtherFacts.{no_call_failed, none_other, not_device, told_by, unselected}
-use Rattle.luks_keeping.proofs.same_volume.is_other.Goals as goal
+use Rattle.luks_keeping.proofs.same_volume.has_other_uuid.Goals as goal
 
 pub returns-in-Ok-clause-told : goal.returns-in-Ok-clause-told
 returns-in-Ok-clause-told g c = λ tells b is. told_by b (g.T.Device.bytes c.args.target.now) c.args.header.now is c.in-Ok.selected (c.in-Ok.ensures.found tells) c.has_uuid.result c.has_uuid.ensures
