@@ -1,10 +1,10 @@
 -- The digests that two headers have in common.
-use Rattle.std.proofs.Common.{◌≡◌, ℕ, List, Bool, true, false, refl, sym, ap, subst, ◌∙◌, Result, Ok, Err, IfErr, OnOk}
+use Rattle.std.proofs.Common.{◌≡◌, ℕ, List, refl, sym, ap, subst, ◌∙◌, Result, Ok, Err, IfErr, OnOk}
 use Rattle.serde_json.specs.Data.{Data as Value}
 use Rattle.luks_area.specs.Ranges.{part}
 use Rattle.luks_head.proofs.ChoiceFacts.{choices_agree, uuid_sound}
 use Rattle.luks_head.specs.Header2.{header_at, uuid_field}
-use Rattle.luks_head.specs.Selection.{luks1, luks2, nothing, Choice, Chosen}
+use Rattle.luks_head.specs.Selection.{luks1, luks2, nothing, Choice}
 use Rattle.luks_rules.proofs.AreaFaults.{one_value}
 use Rattle.luks_rules.proofs.Deciding.{metadata_faultless}
 use Rattle.luks_meta.specs.Content.{content}
@@ -20,7 +20,7 @@ use Rattle.luks_keeping.specs.SameKey.{HasDigestAs, HasDigestIn, SharesDigest}
 use Rattle.luks_keeping.specs.SameKeys.{unread_key, HasHeaderDigest, IsKeyAnswer, SharesHeader}
 use Rattle.luks_keeping.specs.SameVolume.{HasOtherUuid}
 use Rattle.luks_keeping.specs.declared.over.Over.{Over}
-use Rattle.luks_keeping.specs.declared.over.Over.TheVariants.{AnyVolume, SameVolume}
+use Rattle.luks_keeping.specs.declared.over.Over.TheVariants.{SameVolume}
 use Rattle.luks_keeping.specs.declared.restore_fault.RestoreFault.{RestoreFault}
 use Rattle.luks_keeping.specs.declared.restore_fault.RestoreFault.TheVariants.{NotAccepted, DoesNotFit, OtherVolume, Memory, Device}
 use Rattle.luks_keeping.proofs.LaidFacts.{chosen_of}

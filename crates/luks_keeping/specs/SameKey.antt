@@ -1,6 +1,6 @@
 -- Whether the volume keys of two headers have one digest (LUKS1 On-Disk Format 1.2.3, "The partition header";
 -- LUKS2 On-Disk Format 1.1, 3.5): the same bytes with the same salt.
-use Rattle.std.specs.Prelude.{◌≡◌, ℕ, ◌<◌, List, Some, Bool, true, false, ⊤}
+use Rattle.std.specs.Prelude.{◌≡◌, ℕ, ◌<◌, List, Some}
 use Rattle.serde_json.specs.Data.{Data as Value}
 use Rattle.luks_area.specs.Ranges.{part}
 use Rattle.luks1_header.specs.Header1.{luks1_size, mk_digest_of, mk_digest_salt_of}

@@ -15,7 +15,9 @@ use std::alloc::Global;
 
 /// Where the digest of the volume key stands in a LUKS1 header, and behind it its salt.
 const DIGEST: usize = 112;
+
 const SALT: usize = 132;
+
 const SALT_END: usize = 164;
 
 /// Refuses where the header that counts on the target has no digest in common with this one, or isn't

@@ -1,4 +1,4 @@
-use Rattle.std.proofs.Common.{◌≡◌, ℕ, List, sym, subst, ◌∙◌}
+use Rattle.std.proofs.Common.{ℕ, List, sym, subst, ◌∙◌}
 use Rattle.std.proofs.lemmas.Bool.{false≢true}
 use Rattle.luks_keeping.specs.SameKeys.{IsKeyAnswer}
 use Rattle.luks_keeping.proofs.KeyFacts.{shares_digest, shares_header, unread_answer}

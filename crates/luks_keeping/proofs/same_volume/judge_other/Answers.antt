@@ -1,6 +1,6 @@
-use Rattle.std.proofs.Common.{◌≡◌, ℕ, List, sym, subst, IfErr, OnOk}
+use Rattle.std.proofs.Common.{ℕ, List, subst, IfErr, OnOk}
 use Rattle.luks_area.specs.Device.{unchanged-then, CountsFailure}
-use Rattle.luks_keeping.specs.OtherHeaders.{IsOtherAnswer, TellsOther}
+use Rattle.luks_keeping.specs.OtherHeaders.{TellsOther}
 use Rattle.luks_keeping.specs.RestoreFaults.{is_restore_failure, IsKeptFrom}
 use Rattle.luks_keeping.specs.SameKey.{SharesDigest}
 use Rattle.luks_keeping.specs.SameKeys.{IsKeyAnswer}
