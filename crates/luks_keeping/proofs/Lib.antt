@@ -17,3 +17,4 @@ pub mod RestoreFaultFacts
 pub mod TurnFacts
 pub mod OtherFacts
 pub mod KeyFacts
+pub mod SaltFacts

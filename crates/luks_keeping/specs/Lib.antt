@@ -11,3 +11,5 @@ pub mod SameVolume
 pub mod OtherHeaders
 pub mod SameKey
 pub mod SameKeys
+pub mod Compared
+pub mod Salts

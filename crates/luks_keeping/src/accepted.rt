@@ -13,8 +13,9 @@ use luks_area::Device;
 use luks_reading::{CheckFault, Data, Header, read_header};
 use std::alloc::Global;
 
-/// The header of the volume, if `check` accepts that, or else why not.
-pub(crate) fn accepted_header<D: Device>(
+/// The header of the volume, if `check` accepts that, or else why not. Takes memory for the metadata of
+/// LUKS2 alone.
+pub fn accepted_header<D: Device>(
     alloc: Global,
     device: &mut D,
     data_: Data,

@@ -4,6 +4,8 @@
 mod accepted;
 mod backing_up;
 mod backup_fault;
+mod comparing;
+mod comparison;
 mod copying;
 mod erasing;
 mod judging;
@@ -18,8 +20,11 @@ mod size;
 mod slots;
 mod writing_over;
 
+pub use accepted::accepted_header;
 pub use backing_up::{backup, backup_length};
 pub use backup_fault::BackupFault;
+pub use comparing::compare;
+pub use comparison::{Comparison, Keeping};
 pub use laws::{kept_keyslots_answer_alike, kept_of_kept_is_kept, restored_backup_gives_back};
 pub use over::Over;
 pub use restore_fault::RestoreFault;

@@ -61,7 +61,7 @@ fn key_fault(fault: ReadFault) -> RestoreFault
 }
 
 /// Whether the two headers have a digest in common.
-fn shares_digest(header: &Header, other: &Header) -> bool
+pub(crate) fn shares_digest(header: &Header, other: &Header) -> bool
     requires here { IsAcceptedHeader header.now }
     requires there { IsAcceptedHeader other.now }
     ensures { IsTrue result ↔ SharesHeader header.now other.now }
