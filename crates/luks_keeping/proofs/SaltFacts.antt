@@ -1,21 +1,19 @@
 -- The salts of keyslots, and how they stand to each other.
-use Rattle.std.proofs.Common.{◌≡◌, ◌↔◌, ℕ, ◌<◌, ◌≤◌, List, Option, Some, None, IsTrue, sym, ap, subst, ◌∙◌, arith}
+use Rattle.std.proofs.Common.{◌≡◌, ◌↔◌, ℕ, ◌<◌, ◌≤◌, List, Some, IsTrue, sym, ap, subst, ◌∙◌, arith}
 use Rattle.serde_json.specs.Data.{Data as Value}
-use Rattle.luks_area.specs.Ranges.{part}
 use Rattle.luks1_header.specs.Header1.{active_word, disabled_word, enabled_word, entry, word_of, IsEntry}
 use Rattle.luks1_header.specs.declared.luks1.Luks1Slot.{Luks1Slot}
 use Rattle.luks1_header.specs.declared.luks1.SlotState.TheVariants.{Disabled, Enabled}
 use Rattle.luks_rules.proofs.AreaFaults.{one_value}
 use Rattle.luks_meta.specs.Content.{content}
-use Rattle.luks_rules.specs.Faults.{member_at, object_at}
+use Rattle.luks_rules.specs.Faults.{member_at}
 use Rattle.luks_rules.specs.Reading.{bytes_in}
 use Rattle.luks_rules.specs.declared.table.Member.TheVariants as member
 use Rattle.luks_rules.specs.declared.table.Outer.TheVariants.{Kdf}
-use Rattle.luks_rules.specs.declared.table.Section.TheVariants.{Keyslots}
 use Rattle.luks_reading.specs.Header.{json_at, IsHeader}
 use Rattle.luks_reading.specs.declared.header.Header.{Header}
 use Rattle.luks_reading.specs.declared.header.Header.TheVariants.{Luks1, Luks2}
-use Rattle.luks_keeping.specs.Compared.{HasSalt2, HasSaltAs, IsCompared, IsGone, IsThere, IsUsedSalt, StandsSo}
+use Rattle.luks_keeping.specs.Compared.{HasSalt2, HasSaltAs, IsCompared, IsGone, IsUsedSalt, StandsSo}
 use Rattle.luks_keeping.specs.Laid.{choice_of}
 use Rattle.luks_keeping.specs.SameKeys.{SharesHeader}
 use Rattle.luks_keeping.specs.Salts.{HasHeaderSalt, HoldsKeeping, IsSameOrOlder}
@@ -77,12 +75,12 @@ module _
     (P Q P' Q' : List ℕ → Type 0) (p : (s : List ℕ) → P s → P' s) (p' : (s : List ℕ) → P' s → P s)
     (q : (s : List ℕ) → Q s → Q' s) (q' : (s : List ℕ) → Q' s → Q s)
   where
-  stands_as : (state : Keeping) → StandsSo P Q state → StandsSo P' Q' state
-  stands_as Absent x = (λ s y. x.0 s (p' s y), λ s y. x.1 s (q' s y))
-  stands_as Same x = (x.0, (p x.0 x.1.0, q x.0 x.1.1))
-  stands_as Older x = ((x.0.0, p x.0.0 x.0.1), (x.1.0, q x.1.0 x.1.1), λ s y z. x.2 s (p' s y) (q' s z))
-  stands_as Missing x = (λ s y. x.0 s (p' s y), (x.1.0, q x.1.0 x.1.1))
-  stands_as Removed x = ((x.0.0, p x.0.0 x.0.1), λ s y. x.1 s (q' s y))
+    stands_as : (state : Keeping) → StandsSo P Q state → StandsSo P' Q' state
+    stands_as Absent x = (λ s y. x.0 s (p' s y), λ s y. x.1 s (q' s y))
+    stands_as Same x = (x.0, (p x.0 x.1.0, q x.0 x.1.1))
+    stands_as Older x = ((x.0.0, p x.0.0 x.0.1), (x.1.0, q x.1.0 x.1.1), λ s y z. x.2 s (p' s y) (q' s z))
+    stands_as Missing x = (λ s y. x.0 s (p' s y), (x.1.0, q x.1.0 x.1.1))
+    stands_as Removed x = ((x.0.0, p x.0.0 x.0.1), λ s y. x.1 s (q' s y))
 
 pub is_compared : (h k : Header) (c : Comparison) → (IsTrue c.same_key ↔ SharesHeader h k) → HoldsKeeping h k 32 c.keyslots → (b t : List ℕ) → IsHeader b h → IsHeader t k → IsCompared b t c
 is_compared h k c key held b t is other = record {

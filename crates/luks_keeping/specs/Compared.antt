@@ -1,6 +1,6 @@
 -- How the keyslots of a backup stand to those of a volume: by their salts (LUKS1 On-Disk Format 1.2.3, "The
 -- partition header"; LUKS2 On-Disk Format 1.1, 3.2.5), of which each keyslot gets a new one when it is made.
-use Rattle.std.specs.Prelude.{◌≡◌, ◌↔◌, ℕ, ◌<◌, List, Some, IsTrue, length, slice_index_or}
+use Rattle.std.specs.Prelude.{◌≡◌, ◌↔◌, ℕ, ◌<◌, List, Some, IsTrue, slice_index_or}
 use Rattle.serde_json.specs.Data.{Data as Value}
 use Rattle.luks_area.specs.Ranges.{part}
 use Rattle.luks1_header.specs.Header1.{active_word, enabled_word, entry, entry_salt, luks1_size}
