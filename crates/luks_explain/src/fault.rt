@@ -96,15 +96,23 @@ pub enum Fault {
     Counts,
     /// Of rebuild: no metadata of SOURCE is whole.
     NoMetadata,
+    /// Of backup: FILE is there and isn't empty.
+    Exists,
+    /// Of restore: check --detached refuses FILE.
+    NotAccepted,
+    /// Of restore: check would refuse VOLUME with this header.
+    DoesNotFit,
+    /// Of restore: the header on VOLUME is another volume's.
+    OtherVolume,
     /// LUKS2: the disk has another use, in the place of the first copy.
     OtherUse,
 }
 
 impl Fault {
     /// Every fault: of the header, the metadata of LUKS2, the areas, the keyslot that is to be opened,
-    /// then of an edit, of formatting, of converting and of rebuilding, and at last of another use of the
-    /// disk.
-    pub const ALL: [Fault; 45] = [
+    /// then of an edit, of formatting, of converting, of rebuilding and of header backups, and at last of
+    /// another use of the disk.
+    pub const ALL: [Fault; 49] = [
         Fault::TooShort,
         Fault::NotLuks,
         Fault::Version,
@@ -149,6 +157,10 @@ impl Fault {
         Fault::SameFile,
         Fault::Counts,
         Fault::NoMetadata,
+        Fault::Exists,
+        Fault::NotAccepted,
+        Fault::DoesNotFit,
+        Fault::OtherVolume,
         Fault::OtherUse,
     ];
 
@@ -210,6 +222,10 @@ impl Fault {
             Fault::SameFile => "SameFile",
             Fault::Counts => "Counts",
             Fault::NoMetadata => "NoMetadata",
+            Fault::Exists => "Exists",
+            Fault::NotAccepted => "NotAccepted",
+            Fault::DoesNotFit => "DoesNotFit",
+            Fault::OtherVolume => "OtherVolume",
             Fault::OtherUse => "OtherUse",
         }
     }
