@@ -1,4 +1,4 @@
--- Each fault is printed as a name, alone or with brackets behind it.
+-- Each fault is printed as a name, alone or with brackets behind it. A last line stands for all other variants.
 use Rattle.std.proofs.Common.{◌≡◌, ◌≢◌, ℕ, List, ◌++◌, true, not, ◌==◌, refl, inl, inr}
 use Rattle.std.specs.Prelude.{codes}
 use Rattle.std.specs.Fmt.{decimal}
@@ -57,110 +57,61 @@ area_parts (area.Outside n) = around (codes "Outside") (name_text n) refl
 area_parts (area.Overlap m n) = around (codes "Overlap") (name_text m ++ codes "," ++ name_text n) refl
 
 head_parts : (f : HeadFault) → HasParts (head_fault_text f)
-head_parts head.TooShort = bare (codes "TooShort") refl
-head_parts head.NotLuks = bare (codes "NotLuks") refl
-head_parts head.Version = bare (codes "Version") refl
-head_parts head.NoSoundCopy = bare (codes "NoSoundCopy") refl
 head_parts (head.Text t) = around (codes "Text") (field_text t) refl
-head_parts head.Uuid = bare (codes "Uuid") refl
 head_parts (head.SlotState n) = around (codes "SlotState") (decimal n) refl
-head_parts head.KeyBytes = bare (codes "KeyBytes") refl
 head_parts (head.Stripes n) = around (codes "Stripes") (decimal n) refl
 head_parts (head.Iterations o) = around (codes "Iterations") (of_text o) refl
-head_parts head.Device = bare (codes "Device") refl
-head_parts head.Memory = bare (codes "Memory") refl
+head_parts f = bare (head_fault_text f) refl
 
 meta_parts : (f : MetaFault) → HasParts (meta_fault_text f)
-meta_parts meta.JsonArea = bare (codes "JsonArea") refl
-meta_parts meta.BadJson = bare (codes "BadJson") refl
-meta_parts meta.NotWhole = bare (codes "NotWhole") refl
 meta_parts (meta.Shape path) = around (codes "Shape") path.bytes refl
 meta_parts (meta.Kind path) = around (codes "Kind") path.bytes refl
 meta_parts (meta.NoSuchName path) = around (codes "NoSuchName") path.bytes refl
 meta_parts (meta.Assigned path) = around (codes "Assigned") path.bytes refl
-meta_parts meta.Sizes = bare (codes "Sizes") refl
 meta_parts (meta.AreaTooSmall n) = around (codes "AreaTooSmall") (decimal n) refl
 meta_parts (meta.Region name) = around (codes "Region") (name_text name) refl
-meta_parts meta.Memory = bare (codes "Memory") refl
+meta_parts f = bare (meta_fault_text f) refl
 
 slot_parts : (f : SlotFault) → HasParts (slot_fault_text f)
 slot_parts slot.Argon2 = bare (codes "Argon2") refl
-slot_parts slot.Cipher = bare (codes "Cipher") refl
-slot_parts slot.Hash = bare (codes "Hash") refl
-slot_parts slot.KeySize = bare (codes "KeySize") refl
-slot_parts slot.Device = bare (codes "Device") refl
-slot_parts slot.Memory = bare (codes "Memory") refl
+slot_parts f = bare (slot_fault_text f) refl
 
 check_parts : (f : CheckFault) → HasParts (check_fault_text f)
 check_parts (checking.Head f) = head_parts f
 check_parts (checking.Meta f) = meta_parts f
 check_parts (checking.Area f) = area_parts f
-check_parts checking.Device = bare (codes "Device") refl
-check_parts checking.Memory = bare (codes "Memory") refl
+check_parts f = bare (check_fault_text f) refl
 
 open_parts : (f : OpenFault) → HasParts (open_fault_text f)
 open_parts (opening.Head f) = head_parts f
 open_parts (opening.Meta f) = meta_parts f
-open_parts opening.NoSuchSlot = bare (codes "NoSuchSlot") refl
-open_parts opening.SlotFree = bare (codes "SlotFree") refl
-open_parts opening.Outside = bare (codes "Outside") refl
 open_parts (opening.Slot f) = slot_parts f
-open_parts opening.Device = bare (codes "Device") refl
-open_parts opening.Memory = bare (codes "Memory") refl
+open_parts f = bare (open_fault_text f) refl
 
 edit_parts : (f : EditFault) → HasParts (edit_fault_text f)
 edit_parts (editing.NotAccepted f) = check_parts f
 edit_parts (editing.Slot f) = slot_parts f
-edit_parts editing.Requirements = bare (codes "Requirements") refl
-edit_parts editing.NoSuchSlot = bare (codes "NoSuchSlot") refl
-edit_parts editing.Locked = bare (codes "Locked") refl
-edit_parts editing.SlotTaken = bare (codes "SlotTaken") refl
-edit_parts editing.NoFreeSlot = bare (codes "NoFreeSlot") refl
-edit_parts editing.NoRoom = bare (codes "NoRoom") refl
-edit_parts editing.LastSlot = bare (codes "LastSlot") refl
-edit_parts editing.Iterations = bare (codes "Iterations") refl
-edit_parts editing.BadLabel = bare (codes "BadLabel") refl
-edit_parts editing.SeqExhausted = bare (codes "SeqExhausted") refl
-edit_parts editing.MetadataFull = bare (codes "MetadataFull") refl
-edit_parts editing.RandomLength = bare (codes "RandomLength") refl
-edit_parts editing.Memory = bare (codes "Memory") refl
-edit_parts editing.Device = bare (codes "Device") refl
+edit_parts f = bare (edit_fault_text f) refl
 
 format_parts : (f : FormatFault) → HasParts (format_fault_text f)
 format_parts formatting.TooSmall = bare (codes "TooSmall") refl
-format_parts formatting.Iterations = bare (codes "Iterations") refl
-format_parts formatting.RandomLength = bare (codes "RandomLength") refl
-format_parts formatting.Memory = bare (codes "Memory") refl
-format_parts formatting.Device = bare (codes "Device") refl
+format_parts f = bare (format_fault_text f) refl
 
 convert_parts : (f : ConvertFault) → HasParts (convert_fault_text f)
 convert_parts (converting.NotAccepted f) = check_parts f
-convert_parts converting.NotLuks1 = bare (codes "NotLuks1") refl
-convert_parts converting.TooSmall = bare (codes "TooSmall") refl
-convert_parts converting.NoRoom = bare (codes "NoRoom") refl
-convert_parts converting.MetadataFull = bare (codes "MetadataFull") refl
-convert_parts converting.RandomLength = bare (codes "RandomLength") refl
-convert_parts converting.Memory = bare (codes "Memory") refl
-convert_parts converting.Device = bare (codes "Device") refl
+convert_parts f = bare (convert_fault_text f) refl
 
 rebuild_parts : (f : RebuildFault) → HasParts (rebuild_fault_text f)
 rebuild_parts (rebuilding.Area f) = area_parts f
-rebuild_parts rebuilding.Counts = bare (codes "Counts") refl
-rebuild_parts rebuilding.NoMetadata = bare (codes "NoMetadata") refl
-rebuild_parts rebuilding.TooSmall = bare (codes "TooSmall") refl
-rebuild_parts rebuilding.Uuid = bare (codes "Uuid") refl
-rebuild_parts rebuilding.RandomLength = bare (codes "RandomLength") refl
-rebuild_parts rebuilding.Memory = bare (codes "Memory") refl
-rebuild_parts rebuilding.Device = bare (codes "Device") refl
+rebuild_parts f = bare (rebuild_fault_text f) refl
 
 -- of each command
 pub refusal_parts : (r : Refusal) → HasParts (refusal_text r)
-refusal_parts refusal.LongPassphrase = bare (codes "Passphrase") refl
 refusal_parts (refusal.Check f) = check_parts f
 refusal_parts (refusal.Open f) = open_parts f
 refusal_parts (refusal.Edit f) = edit_parts f
 refusal_parts (refusal.Format f) = format_parts f
 refusal_parts (refusal.Convert f) = convert_parts f
 refusal_parts (refusal.Rebuild f) = rebuild_parts f
-refusal_parts refusal.SameFile = bare (codes "SameFile") refl
 refusal_parts (refusal.OtherUse found) = around (codes "OtherUse") (use_text found) refl
+refusal_parts r = bare (refusal_text r) refl

@@ -50,12 +50,16 @@ slot_value answer slot hints status = object (
     number_member (codes "slot") slot (
     number_member (codes "status") status no_members))))
 
--- it tells nothing beside
-abbrev pub bare_value : List ℕ → Data → ℕ → Data
-bare_value answer hints status = object (
+-- the members that each object has
+abbrev pub common_members : List ℕ → Data → ℕ → Members
+common_members answer hints status =
     text_member (codes "answer") answer (
     member (codes "hints") hints (
-    number_member (codes "status") status no_members)))
+    number_member (codes "status") status no_members))
+
+-- it tells nothing beside
+abbrev pub bare_value : List ℕ → Data → ℕ → Data
+bare_value answer hints status = object (common_members answer hints status)
 
 -- the command is refused by a fault of this name at these places
 abbrev pub fault_value : List ℕ → List (List ℕ) → Data → ℕ → Data

@@ -1,10 +1,9 @@
 //! The members of the objects, put in the order of their names.
 ghost use Rattle.std.specs.Prelude.{◌≡◌, IfOk, OnOk};
-ghost use Rattle.serde_json.specs.Data.{no_members, number, object, put as with_member, string, unsigned};
+ghost use Rattle.serde_json.specs.Data.{object, put as with_member, string};
 ghost use Rattle.serde_json.specs.View.{members_view, view};
 ghost use Rattle.luks_commands.specs.Answer.{refusal_text};
-ghost use Rattle.luks_answer_json.specs.AnswerValue.{accepted_value, bare_value, IsRefusedValue};
-ghost use Rattle.luks_answer_json.specs.AnswerValue.{slot_value};
+ghost use Rattle.luks_answer_json.specs.AnswerValue.{accepted_value, bare_value, common_members, slot_value, IsRefusedValue};
 
 use crate::parted::parts_of;
 use crate::texts::texts_value;
@@ -24,54 +23,47 @@ pub(crate) fn accepted_value(
 ) -> Result<Value, AllocError>
     ensures { IfOk result (λ v. view v ≡ accepted_value version areas (view hints) status) }
 {
-    let mut members = Map::new(alloc);
-    match version {
-        Version::Luks1 => put_luks1(&mut members, alloc, areas, hints, status)?,
+    let members = match version {
+        Version::Luks1 => luks1_members(alloc, areas, hints, status)?,
         Version::Luks2 { copies, seqid } => {
-            put_luks2(&mut members, alloc, copies, seqid, areas, hints, status)?
+            luks2_members(alloc, copies, seqid, areas, hints, status)?
         }
-    }
+    };
     Ok(Value::from(members))
 }
 
-fn put_luks1(
-    members: &mut Map<String, Value>,
+fn luks1_members(
     alloc: Global,
     areas: usize,
     hints: Value,
     status: u8,
-) -> Result<(), AllocError>
-    requires { members_view members.old.entries ≡ no_members }
-    ensures { OnOk result (object (members_view members.new.entries)
+) -> Result<Map<String, Value>, AllocError>
+    ensures { IfOk result (λ members. object (members_view members.entries)
         ≡ accepted_value Version.Luks1 areas (view hints) status) }
 {
-    put_text(members, alloc, "answer", "accepted")?;
-    put(members, alloc, "areas", Value::from(areas))?;
-    put(members, alloc, "hints", hints)?;
-    put(members, alloc, "status", Value::from(status))?;
-    put(members, alloc, "version", Value::from(1u8))
+    let mut members = common_members(alloc, "accepted", hints, status)?;
+    put(&mut members, alloc, "areas", Value::from(areas))?;
+    put(&mut members, alloc, "version", Value::from(1u8))?;
+    Ok(members)
 }
 
-fn put_luks2(
-    members: &mut Map<String, Value>,
+fn luks2_members(
     alloc: Global,
     copies: Copies,
     seqid: u64,
     areas: usize,
     hints: Value,
     status: u8,
-) -> Result<(), AllocError>
-    requires { members_view members.old.entries ≡ no_members }
-    ensures { OnOk result (object (members_view members.new.entries)
+) -> Result<Map<String, Value>, AllocError>
+    ensures { IfOk result (λ members. object (members_view members.entries)
         ≡ accepted_value (Version.Luks2 copies seqid) areas (view hints) status) }
 {
-    put_text(members, alloc, "answer", "accepted")?;
-    put(members, alloc, "areas", Value::from(areas))?;
-    put_text(members, alloc, "copies", copies_name(copies))?;
-    put(members, alloc, "hints", hints)?;
-    put(members, alloc, "seqid", Value::from(seqid))?;
-    put(members, alloc, "status", Value::from(status))?;
-    put(members, alloc, "version", Value::from(2u8))
+    let mut members = common_members(alloc, "accepted", hints, status)?;
+    put(&mut members, alloc, "areas", Value::from(areas))?;
+    put_text(&mut members, alloc, "copies", copies_name(copies))?;
+    put(&mut members, alloc, "seqid", Value::from(seqid))?;
+    put(&mut members, alloc, "version", Value::from(2u8))?;
+    Ok(members)
 }
 
 /// The object of a command that is refused.
@@ -86,8 +78,7 @@ pub(crate) fn refused_value(
 {
     let printed = format!(in alloc; "{refusal}")?;
     let fault = parts_of(alloc, printed.as_str())?;
-    let mut members = Map::new(alloc);
-    put_text(&mut members, alloc, "answer", "refused")?;
+    let mut members = common_members(alloc, "refused", hints, status)?;
     put(
         &mut members,
         alloc,
@@ -95,8 +86,6 @@ pub(crate) fn refused_value(
         texts_value(alloc, fault.places.as_slice())?,
     )?;
     put_text(&mut members, alloc, "fault", fault.name)?;
-    put(&mut members, alloc, "hints", hints)?;
-    put(&mut members, alloc, "status", Value::from(status))?;
     Ok(Value::from(members))
 }
 
@@ -110,11 +99,8 @@ pub(crate) fn slot_value(
 ) -> Result<Value, AllocError>
     ensures { IfOk result (λ v. view v ≡ slot_value answer.now slot (view hints) status) }
 {
-    let mut members = Map::new(alloc);
-    put_text(&mut members, alloc, "answer", answer)?;
-    put(&mut members, alloc, "hints", hints)?;
+    let mut members = common_members(alloc, answer, hints, status)?;
     put(&mut members, alloc, "slot", Value::from(slot))?;
-    put(&mut members, alloc, "status", Value::from(status))?;
     Ok(Value::from(members))
 }
 
@@ -127,11 +113,24 @@ pub(crate) fn bare_value(
 ) -> Result<Value, AllocError>
     ensures { IfOk result (λ v. view v ≡ bare_value answer.now (view hints) status) }
 {
+    Ok(Value::from(common_members(alloc, answer, hints, status)?))
+}
+
+/// The members that each object has.
+fn common_members(
+    alloc: Global,
+    answer: &str,
+    hints: Value,
+    status: u8,
+) -> Result<Map<String, Value>, AllocError>
+    ensures { IfOk result (λ members. members_view members.entries
+        ≡ common_members answer.now (view hints) status) }
+{
     let mut members = Map::new(alloc);
     put_text(&mut members, alloc, "answer", answer)?;
     put(&mut members, alloc, "hints", hints)?;
     put(&mut members, alloc, "status", Value::from(status))?;
-    Ok(Value::from(members))
+    Ok(members)
 }
 
 /// Puts a text.

@@ -211,11 +211,10 @@ fn digest_members(rt: HostRuntime) -> Result<(), Fail> {
     compare(&rt, rt.alloc(), PLAIN, table)
 }
 
-// The members of a segment, of both types.
+// Where a segment lies, and from where its sectors are counted.
 #[test]
-fn segment_members(rt: HostRuntime) -> Result<(), Fail> {
-    let table = concat!(
-        r#""iv_tweak":"0" => "x":0 => Shape(segments.0.iv_tweak)
+fn segment_places(rt: HostRuntime) -> Result<(), Fail> {
+    let table = r#""iv_tweak":"0" => "x":0 => Shape(segments.0.iv_tweak)
         "iv_tweak":"0" => "iv_tweak":0 => Shape(segments.0.iv_tweak)
         "iv_tweak":"0" => "iv_tweak":"00" => Shape(segments.0.iv_tweak)
         "iv_tweak":"0" => "iv_tweak":"18446744073709551615" => accepted
@@ -236,8 +235,15 @@ fn segment_members(rt: HostRuntime) -> Result<(), Fail> {
         "size":"dynamic" => "size":"" => Shape(segments.0.size)
         "size":"dynamic" => "size":512 => Shape(segments.0.size)
         "size":"dynamic" => "size":null => Shape(segments.0.size)
-        "size":"dynamic" => "x":0 => Shape(segments.0.size)
-        "sector_size":512 => "sector_size":1024 => accepted
+        "size":"dynamic" => "x":0 => Shape(segments.0.size)"#;
+    compare(&rt, rt.alloc(), PLAIN, table)
+}
+
+// Its sectors and its encryption, of both types.
+#[test]
+fn segment_encryption(rt: HostRuntime) -> Result<(), Fail> {
+    let table = concat!(
+        r#""sector_size":512 => "sector_size":1024 => accepted
         "sector_size":512 => "sector_size":2048 => accepted
         "sector_size":512 => "sector_size":4096 => accepted
         "sector_size":512 => "sector_size":0 => Shape(segments.0.sector_size)

@@ -117,60 +117,21 @@ json_answer : (tells : Type 0) (v : List ℕ) (before after : ℕ) (answer a : A
     → IsListedAnswer tells v before after answer → IsJsonAnswer tells v before after a
 json_answer tells v before after (Listed listing) (Json text) made is = (is.0, λ t. record { listing = listing; shown = is.1 t; is = made })
 json_answer tells v before after (Listed listing) NoMemory made is = is.0
-json_answer tells v before after (Listed listing) (Accepted version areas) made is = absurd made
-json_answer tells v before after (Listed listing) (Listed other) made is = absurd made
-json_answer tells v before after (Listed listing) (ListedFully full) made is = absurd made
-json_answer tells v before after (Listed listing) (Mapped m) made is = absurd made
-json_answer tells v before after (Listed listing) (Opens n) made is = absurd made
-json_answer tells v before after (Listed listing) (Closed n) made is = absurd made
-json_answer tells v before after (Listed listing) NoneOpens made is = absurd made
-json_answer tells v before after (Listed listing) (Done slot) made is = absurd made
-json_answer tells v before after (Listed listing) (Refused by_) made is = absurd made
-json_answer tells v before after (Listed listing) DeviceFault made is = absurd made
-json_answer tells v before after (Accepted version areas) a made is = absurd is
-json_answer tells v before after (ListedFully full) a made is = absurd is
-json_answer tells v before after (Mapped m) a made is = absurd is
-json_answer tells v before after (Json text) a made is = absurd is
-json_answer tells v before after (Opens n) a made is = absurd is
-json_answer tells v before after (Closed n) a made is = absurd is
-json_answer tells v before after NoneOpens a made is = absurd is
-json_answer tells v before after (Done slot) a made is = absurd is
+json_answer tells v before after (Listed listing) a made is = absurd made
 json_answer tells v before after (Refused (Check f)) a made is = subst (IsJsonAnswer tells v before after) (sym made) is
-json_answer tells v before after (Refused LongPassphrase) a made is = absurd is
-json_answer tells v before after (Refused (Open f)) a made is = absurd is
-json_answer tells v before after (Refused (Edit f)) a made is = absurd is
-json_answer tells v before after (Refused (Format f)) a made is = absurd is
-json_answer tells v before after (Refused (Convert f)) a made is = absurd is
-json_answer tells v before after (Refused (Rebuild f)) a made is = absurd is
-json_answer tells v before after (Refused SameFile) a made is = absurd is
-json_answer tells v before after (Refused (OtherUse found)) a made is = absurd is
 json_answer tells v before after DeviceFault a made is = subst (IsJsonAnswer tells v before after) (sym made) is
 json_answer tells v before after NoMemory a made is = subst (IsJsonAnswer tells v before after) (sym made) is.0
+json_answer tells v before after answer a made is = absurd is
 
 -- the answer by lines with all that they may tell
 full_answer : (tells : Type 0) (v : List ℕ) (before after : ℕ) (answer a : Answer) → IsInFull answer a
     → IsListedAnswer tells v before after answer → IsFullAnswer tells v before after a
 full_answer tells v before after (Listed listing) a made is =
     subst (IsFullAnswer tells v before after) (sym made.1.0) (is.0, λ t. subst (IsShown v) (sym made.1.1) (is.1 t))
-full_answer tells v before after (Accepted version areas) a made is = absurd is
-full_answer tells v before after (ListedFully full) a made is = absurd is
-full_answer tells v before after (Mapped m) a made is = absurd is
-full_answer tells v before after (Json text) a made is = absurd is
-full_answer tells v before after (Opens n) a made is = absurd is
-full_answer tells v before after (Closed n) a made is = absurd is
-full_answer tells v before after NoneOpens a made is = absurd is
-full_answer tells v before after (Done slot) a made is = absurd is
 full_answer tells v before after (Refused (Check f)) a made is = subst (IsFullAnswer tells v before after) (sym made) is
-full_answer tells v before after (Refused LongPassphrase) a made is = absurd is
-full_answer tells v before after (Refused (Open f)) a made is = absurd is
-full_answer tells v before after (Refused (Edit f)) a made is = absurd is
-full_answer tells v before after (Refused (Format f)) a made is = absurd is
-full_answer tells v before after (Refused (Convert f)) a made is = absurd is
-full_answer tells v before after (Refused (Rebuild f)) a made is = absurd is
-full_answer tells v before after (Refused SameFile) a made is = absurd is
-full_answer tells v before after (Refused (OtherUse found)) a made is = absurd is
 full_answer tells v before after DeviceFault a made is = subst (IsFullAnswer tells v before after) (sym made) is
 full_answer tells v before after NoMemory a made is = subst (IsFullAnswer tells v before after) (sym made) is
+full_answer tells v before after answer a made is = absurd is
 
 -- the answer by lines as a map of a volume of `total` bytes
 map_answer : (total : ℕ) (tells : Type 0) (v : List ℕ) (before after : ℕ) (answer a : Answer) → (tells → length v ≡ total) → IsAsMap total answer a
@@ -178,25 +139,10 @@ map_answer : (total : ℕ) (tells : Type 0) (v : List ℕ) (before after : ℕ) 
 map_answer total tells v before after (Listed listing) a long made is =
     subst (IsMapAnswer tells v before after) (sym made.1.0)
     (is.0, λ t. record { listing = listing; shown = is.1 t; is = subst (λ n. IsMap listing n made.0) (sym (long t)) made.1.1 })
-map_answer total tells v before after (Accepted version areas) a long made is = absurd is
-map_answer total tells v before after (ListedFully full) a long made is = absurd is
-map_answer total tells v before after (Mapped m) a long made is = absurd is
-map_answer total tells v before after (Json text) a long made is = absurd is
-map_answer total tells v before after (Opens n) a long made is = absurd is
-map_answer total tells v before after (Closed n) a long made is = absurd is
-map_answer total tells v before after NoneOpens a long made is = absurd is
-map_answer total tells v before after (Done slot) a long made is = absurd is
 map_answer total tells v before after (Refused (Check f)) a long made is = subst (IsMapAnswer tells v before after) (sym made) is
-map_answer total tells v before after (Refused LongPassphrase) a long made is = absurd is
-map_answer total tells v before after (Refused (Open f)) a long made is = absurd is
-map_answer total tells v before after (Refused (Edit f)) a long made is = absurd is
-map_answer total tells v before after (Refused (Format f)) a long made is = absurd is
-map_answer total tells v before after (Refused (Convert f)) a long made is = absurd is
-map_answer total tells v before after (Refused (Rebuild f)) a long made is = absurd is
-map_answer total tells v before after (Refused SameFile) a long made is = absurd is
-map_answer total tells v before after (Refused (OtherUse found)) a long made is = absurd is
 map_answer total tells v before after DeviceFault a long made is = subst (IsMapAnswer tells v before after) (sym made) is
 map_answer total tells v before after NoMemory a long made is = subst (IsMapAnswer tells v before after) (sym made) is
+map_answer total tells v before after answer a long made is = absurd is
 
 -- in each form
 pub shown_answer : (form : ShowAs) (total : ℕ) (tells : Type 0) (v : List ℕ) (before after : ℕ) (answer a : Answer) → (tells → length v ≡ total)
