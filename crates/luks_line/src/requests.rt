@@ -4,7 +4,7 @@ use clap::ArgMatches;
 use luks_kdf::HashName;
 use luks_reading::Data;
 use luks_request::{
-    Command, Converting, EditRequest, Editing, Line, Making, NewVersion, Rebuilding, ShowAs,
+    Command, Converting, EditRequest, Editing, Line, Making, NewVersion, Place, Rebuilding, ShowAs,
 };
 use luks_terms::Format;
 
@@ -12,13 +12,25 @@ use luks_terms::Format;
 pub(crate) fn line_of<'a>(name: &str, given: &ArgMatches<'a>) -> Option<Line<'a>> {
     Some(Line {
         volume: volume_of(given)?,
+        place: place_of(given)?,
         command: command_of(name, given)?,
     })
 }
 
-/// The volume, which two commands call the source.
+/// The volume, which two commands call the source; of the command that finds volumes the device.
 fn volume_of<'a>(given: &ArgMatches<'a>) -> Option<&'a str> {
-    given.get_str("VOLUME").or(given.get_str("SOURCE"))
+    given
+        .get_str("VOLUME")
+        .or(given.get_str("SOURCE"))
+        .or(given.get_str("DEVICE"))
+}
+
+/// Which bytes of its file are the volume.
+fn place_of(given: &ArgMatches<'_>) -> Option<Place> {
+    Some(Place {
+        offset: given.get_one::<u64>("offset")?,
+        length: given.get_one::<u64>("length"),
+    })
 }
 
 fn command_of<'a>(name: &str, given: &ArgMatches<'a>) -> Option<Command<'a>> {
@@ -31,6 +43,7 @@ fn command_of<'a>(name: &str, given: &ArgMatches<'a>) -> Option<Command<'a>> {
         "format" => Some(Command::Format(making_of(given)?)),
         "convert" => Some(Command::Convert(converting_of(given)?)),
         "rebuild" => Some(Command::Rebuild(rebuilding_of(given)?)),
+        "find" => Some(Command::Find),
         _ => Some(Command::Edit(editing_of(name, given)?)),
     }
 }

@@ -2,3 +2,4 @@ pub mod Lazy
 pub mod Locked
 pub mod Node
 pub mod Notices
+pub mod System

@@ -2,6 +2,7 @@ ghost use Rattle.std.specs.Prelude.{◌≡◌, option_map};
 ghost use Rattle.luks_request.specs.Named.{edit_new_of, edit_passphrase_of, is_writer, new_of, passphrase_of, random_of};
 ghost use Rattle.luks_request.specs.Named.{target_of};
 
+use crate::place::Place;
 use crate::rebuilding::Rebuilding;
 use luks_reading::Data;
 use luks_terms::Format;
@@ -11,6 +12,9 @@ use luks_terms::Format;
 pub struct Line<'a> {
     /// The file of the volume, or of its detached header.
     pub volume: &'a str,
+    /// Which bytes of that file are the volume. Of `convert` and `rebuild` it is the source's; the
+    /// target begins at its file's first byte.
+    pub place: Place,
     /// What is done with the volume.
     pub command: Command<'a>,
 }
@@ -43,6 +47,8 @@ pub enum Command<'a> {
     /// Make a detached LUKS2 header out of metadata that is still whole in the volume, which stays as
     /// it is.
     Rebuild(Rebuilding<'a>),
+    /// Find each volume that the device holds, by any sign that is left of it.
+    Find,
 }
 
 /// In which form a header is shown.
@@ -188,8 +194,11 @@ impl<'a> Line<'a> {
         ensures { option_map (λ name. name.now) result ≡ passphrase_of self.now.command }
     {
         match self.command {
-            Command::Check { .. } | Command::Show(_) | Command::Convert(_) | Command::Rebuild(_) =>
-                None,
+            Command::Check { .. }
+            | Command::Show(_)
+            | Command::Convert(_)
+            | Command::Rebuild(_)
+            | Command::Find => None,
             Command::Open { passphrase, .. } => Some(passphrase),
             Command::Edit(editing) => editing.request.passphrase(),
             Command::Format(making) => Some(making.passphrase),

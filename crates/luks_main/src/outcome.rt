@@ -2,7 +2,8 @@
 ghost use Rattle.std.specs.Prelude.{◌≡◌, IfOk};
 ghost use Rattle.luks_cache.specs.Cached.{cached_failures};
 
-use crate::{FAULT, Volume};
+use crate::FAULT;
+use crate::volumes::Volume;
 use luks_answer_json::answer_json;
 use luks_cli::open::Tried;
 use luks_cli::{Answer, Command, CountingPrinter, Data, Inputs, Line, check, end, execute, open};

@@ -1,16 +1,14 @@
 //! What is noted for standard error once a command has ended, and that the command itself doesn't look
 //! for. The volume is opened anew for it, to be read; where it can't be, or memory is refused, nothing is
 //! noted.
-ghost use Rattle.std.specs.Prelude.{◌≡◌, IfSome};
+ghost use Rattle.std.specs.Prelude.{◌≡◌};
 ghost use Rattle.luks_cache.specs.Cached.{cached_failures};
 
-use crate::Volume;
+use crate::volumes::{Volume, reopened};
 use luks_area::Device;
-use luks_cache::CachedDevice;
 use luks_cli::{Command, Line, OtherUse, note_other_use, note_overwritten, standing_use};
 use luks_explain::{Fault, refusing};
 use luks_leftovers::{FrontFault, header_end, note_leftovers, read_front};
-use luks_lock::{FOLDER, open_locked};
 use luks_metadata_notes::{note_no_keyslots, note_taken, note_whole};
 use luks_rebuilding::Which;
 use luks_signatures::first_use;
@@ -119,15 +117,6 @@ fn tell_more<R: AllocGlobal + Clock + Files<File = File>>(
         }
         _ => {}
     }
-}
-
-/// The volume of this name, opened once more, to be read. None where that can't be, or memory is
-/// refused.
-fn reopened<R: AllocGlobal + Clock + Files<File = File>>(rt: &R, volume: &str) -> Option<Volume>
-    ensures { IfSome result (λ device. cached_failures device ≡ 0) }
-{
-    let device = open_locked(rt, volume, false, FOLDER).ok()?;
-    CachedDevice::new(rt.alloc(), device).ok()
 }
 
 /// Notes by its signature what stands on a volume that isn't of LUKS.

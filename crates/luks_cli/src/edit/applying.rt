@@ -1,33 +1,36 @@
-//! Running one edit.
+//! Applying an edit that was seen.
 ghost use Rattle.std.specs.Prelude.{◌≡◌, ◌+◌, ◌<◌, ◌^◌, Err};
 ghost use Rattle.luks_area.specs.Device.{CountsFailure, IsSettled};
 ghost use Rattle.luks_reading.specs.Checked.{WellFormed};
+ghost use Rattle.luks_reading.specs.Header.{IsAcceptedHeader, IsHeader};
 ghost use Rattle.luks_edit.specs.EditFaults.{is_edit_failure};
 ghost use Rattle.luks_edit.specs.Kept.{Keeps};
-ghost use Rattle.luks_volume.specs.Edits.{NamedSlots};
+ghost use Rattle.luks_volume.specs.Edits.{NamedSlots, Replies};
 ghost use Rattle.luks_volume.specs.Outcome.{Spares};
-ghost use Rattle.luks_cli.specs.Editing.{RepliesAlone};
 
-use luks_volume::{Data, Device, Done, Edit, EditFault, Step, run};
+use luks_volume::{Data, Device, Done, Edit, EditFault, Header, apply_of_header};
 use std::alloc::Global;
 
-/// Runs a list of this one edit, and answers its reply. Want of memory for the list is answered as
-/// that of the edit.
-pub(super) fn run_edit<D: Device>(
+/// Applies the edit to the volume, whose header was read before, and answers its reply. What it keeps and spares is said by the device's count of
+/// failures, as the command counts them.
+pub(super) fn apply_edit<D: Device>(
     alloc: Global,
     device: &mut D,
+    header: Header,
     data_: Data,
     edit: &Edit<'_>,
     random: &[u8],
 ) -> Result<Done, EditFault>
     requires room { D.failed device.old + 1 < 2 ^ 64 }
     requires settled { D.tells → IsSettled D.unsettled device.old }
+    requires accepted { IsAcceptedHeader header }
+    requires read { D.tells → IsHeader (D.bytes device.old) header }
     ensures settled { D.tells → D.failed device.new ≡ D.failed device.old
         → IsSettled D.unsettled device.new }
     ensures size { D.size device.new ≡ D.size device.old }
     ensures count { CountsFailure is_edit_failure result
         (D.failed device.old) (D.failed device.new) }
-    ensures replies { D.tells → RepliesAlone data_ (D.bytes device.old) edit.now random.now
+    ensures replies { D.tells → Replies data_ (D.bytes device.old) edit.now random.now
         result (D.bytes device.new) }
     ensures keeps { D.tells → WellFormed (D.bytes device.old) data_
         → D.failed device.new ≡ D.failed device.old
@@ -37,13 +40,5 @@ pub(super) fn run_edit<D: Device>(
         → (D.failed device.new ≡ D.failed device.old → ⊥) → (result ≡ Err EditFault.Device)
         × Spares (D.bytes device.old) data_ edit.now random.now (D.bytes device.new) }
 {
-    let steps = [Step {
-        edit: *edit,
-        random,
-    }];
-    let mut replies = Vec::new(alloc);
-    match run(alloc, device, data_, &steps, &mut replies) {
-        Ok(()) => replies[0],
-        Err(_) => Err(EditFault::Memory),
-    }
+    apply_of_header(alloc, device, header, data_, edit, random)
 }
