@@ -3,17 +3,17 @@
 _luks() {
     # each command with its options
     local -A options=(
-        [check]="--detached --json --quiet --help"
-        [show]="--all --map --json --quiet --help"
-        [open]="--passphrase --passphrase-line --slot --memory --json --quiet --help"
-        [add]="--slot --passphrase --passphrase-line --new --new-line --random --to --iterations --memory --over --detached --quiet --help"
-        [change]="--slot --passphrase --passphrase-line --new --new-line --random --iterations --memory --over --detached --quiet --help"
-        [remove]="--slot --passphrase --passphrase-line --random --memory --over --detached --quiet --help"
-        [repair]="--random --over --detached --quiet --help"
-        [label]="--random --over --detached --quiet --help"
-        [format]="--passphrase --passphrase-line --random --version --hash --iterations --detached --quiet --help"
-        [convert]="--random --detached --quiet --help"
-        [rebuild]="--random --second --uuid --quiet --help"
+        [check]="--detached --json --offset --length --quiet --help"
+        [show]="--all --map --json --offset --length --quiet --help"
+        [open]="--passphrase --passphrase-line --slot --memory --json --offset --length --quiet --help"
+        [add]="--slot --passphrase --passphrase-line --new --new-line --random --to --iterations --memory --over --detached --offset --length --quiet --help"
+        [change]="--slot --passphrase --passphrase-line --new --new-line --random --iterations --memory --over --detached --offset --length --quiet --help"
+        [remove]="--slot --passphrase --passphrase-line --random --memory --over --detached --offset --length --quiet --help"
+        [repair]="--random --over --detached --offset --length --quiet --help"
+        [label]="--random --over --detached --offset --length --quiet --help"
+        [format]="--passphrase --passphrase-line --random --version --hash --iterations --detached --offset --length --quiet --help"
+        [convert]="--random --detached --offset --length --quiet --help"
+        [rebuild]="--random --second --uuid --offset --length --quiet --help"
         [explain]="--help"
         [help]="--help"
     )
@@ -26,7 +26,7 @@ _luks() {
     fi
     # these take no file
     case $before in
-        --slot | --to | --version | --hash | --iterations | --uuid) compopt +o default 2>/dev/null ;;
+        --slot | --to | --version | --hash | --iterations | --uuid | --offset | --length) compopt +o default 2>/dev/null ;;
     esac
     if ((COMP_CWORD == 1)); then
         words="${!options[*]} --help --version"

@@ -8,6 +8,8 @@ complete -c luks -n __fish_use_subcommand -a check -d "Judge a volume's header a
 complete -c luks -n '__fish_seen_subcommand_from check' -F
 complete -c luks -n '__fish_seen_subcommand_from check' -l detached -d 'The data lies on another device'
 complete -c luks -n '__fish_seen_subcommand_from check' -l json -d 'One JSON object, for scripts'
+complete -c luks -n '__fish_seen_subcommand_from check' -l offset -x -d 'The byte of the file where the volume begins'
+complete -c luks -n '__fish_seen_subcommand_from check' -l length -x -d 'How many bytes the volume has'
 complete -c luks -n '__fish_seen_subcommand_from check' -l quiet -d 'No hints on standard error'
 
 complete -c luks -n __fish_use_subcommand -a show -d "List what a volume's header says"
@@ -15,6 +17,8 @@ complete -c luks -n '__fish_seen_subcommand_from show' -F
 complete -c luks -n '__fish_seen_subcommand_from show' -l all -d 'With the costs of keyslots and the encryption of segments'
 complete -c luks -n '__fish_seen_subcommand_from show' -l map -d 'A map of the areas'
 complete -c luks -n '__fish_seen_subcommand_from show' -l json -d 'One JSON object, for scripts'
+complete -c luks -n '__fish_seen_subcommand_from show' -l offset -x -d 'The byte of the file where the volume begins'
+complete -c luks -n '__fish_seen_subcommand_from show' -l length -x -d 'How many bytes the volume has'
 complete -c luks -n '__fish_seen_subcommand_from show' -l quiet -d 'No hints on standard error'
 
 complete -c luks -n __fish_use_subcommand -a open -d 'Tell whether a passphrase opens a keyslot'
@@ -24,6 +28,8 @@ complete -c luks -n '__fish_seen_subcommand_from open' -l passphrase-line -r -F 
 complete -c luks -n '__fish_seen_subcommand_from open' -l slot -x -a '(seq 0 31)' -d 'The keyslot to try'
 complete -c luks -n '__fish_seen_subcommand_from open' -l memory -x -d 'The MiB that Argon2 may take'
 complete -c luks -n '__fish_seen_subcommand_from open' -l json -d 'One JSON object, for scripts'
+complete -c luks -n '__fish_seen_subcommand_from open' -l offset -x -d 'The byte of the file where the volume begins'
+complete -c luks -n '__fish_seen_subcommand_from open' -l length -x -d 'How many bytes the volume has'
 complete -c luks -n '__fish_seen_subcommand_from open' -l quiet -d 'No hints on standard error'
 
 complete -c luks -n __fish_use_subcommand -a add -d 'Add a keyslot for a new passphrase'
@@ -39,6 +45,8 @@ complete -c luks -n '__fish_seen_subcommand_from add' -l iterations -x -d 'The i
 complete -c luks -n '__fish_seen_subcommand_from add' -l memory -x -d 'The MiB that Argon2 may take'
 complete -c luks -n '__fish_seen_subcommand_from add' -l over -d 'Write over another use of the disk'
 complete -c luks -n '__fish_seen_subcommand_from add' -l detached -d 'The data lies on another device'
+complete -c luks -n '__fish_seen_subcommand_from add' -l offset -x -d 'The byte of the file where the volume begins'
+complete -c luks -n '__fish_seen_subcommand_from add' -l length -x -d 'How many bytes the volume has'
 complete -c luks -n '__fish_seen_subcommand_from add' -l quiet -d 'No hints on standard error'
 
 complete -c luks -n __fish_use_subcommand -a change -d 'Put a new passphrase in the place of an old one'
@@ -53,6 +61,8 @@ complete -c luks -n '__fish_seen_subcommand_from change' -l iterations -x -d 'Th
 complete -c luks -n '__fish_seen_subcommand_from change' -l memory -x -d 'The MiB that Argon2 may take'
 complete -c luks -n '__fish_seen_subcommand_from change' -l over -d 'Write over another use of the disk'
 complete -c luks -n '__fish_seen_subcommand_from change' -l detached -d 'The data lies on another device'
+complete -c luks -n '__fish_seen_subcommand_from change' -l offset -x -d 'The byte of the file where the volume begins'
+complete -c luks -n '__fish_seen_subcommand_from change' -l length -x -d 'How many bytes the volume has'
 complete -c luks -n '__fish_seen_subcommand_from change' -l quiet -d 'No hints on standard error'
 
 complete -c luks -n __fish_use_subcommand -a remove -d 'Remove a keyslot by its own passphrase'
@@ -64,6 +74,8 @@ complete -c luks -n '__fish_seen_subcommand_from remove' -l random -r -F -d 'The
 complete -c luks -n '__fish_seen_subcommand_from remove' -l memory -x -d 'The MiB that Argon2 may take'
 complete -c luks -n '__fish_seen_subcommand_from remove' -l over -d 'Write over another use of the disk'
 complete -c luks -n '__fish_seen_subcommand_from remove' -l detached -d 'The data lies on another device'
+complete -c luks -n '__fish_seen_subcommand_from remove' -l offset -x -d 'The byte of the file where the volume begins'
+complete -c luks -n '__fish_seen_subcommand_from remove' -l length -x -d 'How many bytes the volume has'
 complete -c luks -n '__fish_seen_subcommand_from remove' -l quiet -d 'No hints on standard error'
 
 complete -c luks -n __fish_use_subcommand -a repair -d 'Write both copies of a LUKS2 header anew'
@@ -71,6 +83,8 @@ complete -c luks -n '__fish_seen_subcommand_from repair' -F
 complete -c luks -n '__fish_seen_subcommand_from repair' -l random -r -F -d 'The file of the random bytes'
 complete -c luks -n '__fish_seen_subcommand_from repair' -l over -d 'Write over another use of the disk'
 complete -c luks -n '__fish_seen_subcommand_from repair' -l detached -d 'The data lies on another device'
+complete -c luks -n '__fish_seen_subcommand_from repair' -l offset -x -d 'The byte of the file where the volume begins'
+complete -c luks -n '__fish_seen_subcommand_from repair' -l length -x -d 'How many bytes the volume has'
 complete -c luks -n '__fish_seen_subcommand_from repair' -l quiet -d 'No hints on standard error'
 
 complete -c luks -n __fish_use_subcommand -a label -d 'Set the label of a LUKS2 volume'
@@ -78,6 +92,8 @@ complete -c luks -n '__fish_seen_subcommand_from label' -F
 complete -c luks -n '__fish_seen_subcommand_from label' -l random -r -F -d 'The file of the random bytes'
 complete -c luks -n '__fish_seen_subcommand_from label' -l over -d 'Write over another use of the disk'
 complete -c luks -n '__fish_seen_subcommand_from label' -l detached -d 'The data lies on another device'
+complete -c luks -n '__fish_seen_subcommand_from label' -l offset -x -d 'The byte of the file where the volume begins'
+complete -c luks -n '__fish_seen_subcommand_from label' -l length -x -d 'How many bytes the volume has'
 complete -c luks -n '__fish_seen_subcommand_from label' -l quiet -d 'No hints on standard error'
 
 complete -c luks -n __fish_use_subcommand -a format -d 'Make a LUKS volume over whatever stands there'
@@ -89,12 +105,16 @@ complete -c luks -n '__fish_seen_subcommand_from format' -l version -x -a '1 2' 
 complete -c luks -n '__fish_seen_subcommand_from format' -l hash -x -a 'sha1 sha256 sha512' -d 'The hash'
 complete -c luks -n '__fish_seen_subcommand_from format' -l iterations -x -d 'The iterations of PBKDF2'
 complete -c luks -n '__fish_seen_subcommand_from format' -l detached -d 'The data lies on another device'
+complete -c luks -n '__fish_seen_subcommand_from format' -l offset -x -d 'The byte of the file where the volume begins'
+complete -c luks -n '__fish_seen_subcommand_from format' -l length -x -d 'How many bytes the volume has'
 complete -c luks -n '__fish_seen_subcommand_from format' -l quiet -d 'No hints on standard error'
 
 complete -c luks -n __fish_use_subcommand -a convert -d 'Make a LUKS2 header of a LUKS1 volume, on another file'
 complete -c luks -n '__fish_seen_subcommand_from convert' -F
 complete -c luks -n '__fish_seen_subcommand_from convert' -l random -r -F -d 'The file of the random bytes'
 complete -c luks -n '__fish_seen_subcommand_from convert' -l detached -d 'The source is a detached header'
+complete -c luks -n '__fish_seen_subcommand_from convert' -l offset -x -d 'The byte of the file where the volume begins'
+complete -c luks -n '__fish_seen_subcommand_from convert' -l length -x -d 'How many bytes the volume has'
 complete -c luks -n '__fish_seen_subcommand_from convert' -l quiet -d 'No hints on standard error'
 
 complete -c luks -n __fish_use_subcommand -a rebuild -d 'Make a LUKS2 header of metadata that is still whole'
@@ -102,6 +122,8 @@ complete -c luks -n '__fish_seen_subcommand_from rebuild' -F
 complete -c luks -n '__fish_seen_subcommand_from rebuild' -l random -r -F -d 'The file of the random bytes'
 complete -c luks -n '__fish_seen_subcommand_from rebuild' -l second -d 'Take the metadata of a second copy'
 complete -c luks -n '__fish_seen_subcommand_from rebuild' -l uuid -x -d 'The uuid of the new header'
+complete -c luks -n '__fish_seen_subcommand_from rebuild' -l offset -x -d 'The byte of the file where the volume begins'
+complete -c luks -n '__fish_seen_subcommand_from rebuild' -l length -x -d 'How many bytes the volume has'
 complete -c luks -n '__fish_seen_subcommand_from rebuild' -l quiet -d 'No hints on standard error'
 
 complete -c luks -n __fish_use_subcommand -a explain -d 'Say what a fault means, and what to try next'

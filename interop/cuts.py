@@ -8,6 +8,8 @@ import shutil
 import subprocess
 import sys
 
+from common import ran
+
 SECTOR = 512
 MOST = 10
 SEED = 36
@@ -24,7 +26,7 @@ def recorded(folder, line):
     """What the command writes to V, as a list for each time between two syncs; a piece is a place and its bytes."""
     log, volume = os.path.join(folder, "log"), os.path.join(folder, "V")
     words = ["strace", "-f", "-xx", "-s", "1048576", "-e", "trace=" + TRACED, "-P", volume, "-o", log, *line.replace(" V", " " + volume).split()]
-    done = subprocess.run(words, cwd=folder, stdin=subprocess.DEVNULL, capture_output=True, text=True)
+    done = ran(words, folder, text=True)
     if done.returncode:
         sys.exit(f"cuts: {line}: status {done.returncode}\n{done.stdout}{done.stderr}")
     writes, places = [[]], {}

@@ -1,7 +1,7 @@
 """The volumes and the commands that `faults` and `power` try: edits of the program and of cryptsetup."""
 import os
-import subprocess
-import sys
+
+from common import cryptsetup, put
 
 TOP = os.path.dirname(os.path.dirname(os.path.abspath(__file__)))
 
@@ -52,17 +52,6 @@ def payload():
     return bytes(i * 13 % 251 for i in range(LENGTH - PAYLOAD))
 
 
-def put(folder, name, data):
-    with open(os.path.join(folder, name), "wb") as out:
-        out.write(data)
-
-
-def cryptsetup(folder, words):
-    done = subprocess.run(["cryptsetup", *words], cwd=folder, capture_output=True, text=True)
-    if done.returncode:
-        sys.exit(f"cryptsetup {' '.join(words)}: {done.stdout}{done.stderr}")
-
-
 def make_volumes(folder):
     """A volume of each format with the passphrases `one` in slot 0 and `two` in slot 1, and the files that the commands name."""
     for word in WORDS:
@@ -70,8 +59,8 @@ def make_volumes(folder):
     put(folder, "random", bytes(i * 7 % 251 for i in range(400000)))
     for version, line in FORMATS.items():
         put(folder, version, bytes(LENGTH))
-        cryptsetup(folder, (line + "--key-file one " + version).split())
-        cryptsetup(folder, f"luksAddKey -q {DERIVATION[version]} --key-file one {version} two".split())
+        cryptsetup(f"{line}--key-file one {version}", folder)
+        cryptsetup(f"luksAddKey -q {DERIVATION[version]} --key-file one {version} two", folder)
         with open(os.path.join(folder, version), "r+b") as volume:
             volume.seek(PAYLOAD)
             volume.write(payload())

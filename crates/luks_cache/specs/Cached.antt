@@ -5,7 +5,7 @@ use Rattle.luks_cache.specs.declared.cached.CachedDevice.{CachedDevice}
 
 -- the device behind
 abbrev pub device_behind : {D : Type 0} {ghosts : Ghosts D} → CachedDevice D ghosts → D
-device_behind cached = cached.device
+device_behind cached = cached.behind.device
 
 -- the length of the device behind, in bytes
 abbrev pub cached_size : {D : Type 0} {ghosts : Ghosts D} → CachedDevice D ghosts → ℕ
@@ -21,7 +21,7 @@ cached_unsettled {D} {ghosts} cached = ghosts.unsettled (device_behind cached)
 
 -- how many writes failed since a byte that is remembered had changed behind
 abbrev pub changes_seen : {D : Type 0} {ghosts : Ghosts D} → CachedDevice D ghosts → ℕ
-changes_seen cached = cached.changes
+changes_seen cached = cached.behind.changes
 
 -- how many calls have failed, those of the device behind among them
 abbrev pub cached_failures : {D : Type 0} {ghosts : Ghosts D} → CachedDevice D ghosts → ℕ
@@ -29,7 +29,7 @@ cached_failures {D} {ghosts} cached = ghosts.failed (device_behind cached) + cha
 
 -- how many bytes are remembered, from the place 0 on
 abbrev pub remembered : {D : Type 0} {ghosts : Ghosts D} → CachedDevice D ghosts → ℕ
-remembered cached = cached.count
+remembered cached = cached.behind.known
 
 -- the `len` bytes at the place `at` are remembered
 abbrev pub IsRemembered : {D : Type 0} {ghosts : Ghosts D} → CachedDevice D ghosts → ℕ → ℕ → Type 0

@@ -1,7 +1,7 @@
 ghost use Rattle.std.specs.Prelude.{◌≡◌, ◌≢◌, ◌+◌, ◌^◌, ◌<◌, ◌≤◌, ◌↔◌, IfOk, IsOk, IsTrue, length, take};
 ghost use Rattle.luks_area.specs.Ranges.{part, written};
 
-use crate::beginning::begins_with;
+use crate::guarded::GuardedDevice;
 use luks_area::{Device, DeviceFault};
 use std::alloc::{AllocError, Global};
 
@@ -12,7 +12,7 @@ pub const ROOM: usize = 32768;
 /// memory when they are asked for again. Before a write they are read from the device behind once
 /// more and compared; the write forgets them, and so does a flush, which may fail and change them.
 /// Where one has changed before a write, since something else wrote it, nothing is written: the call
-/// fails, and is counted.
+/// fails, and is counted. `GuardedDevice`, behind it, can't be written otherwise.
 ///
 /// It remembers bytes from the place 0 on alone, as many as were read one after the other, and at
 /// most `ROOM`; others aren't compared. Its calls take no memory: the place for `ROOM` bytes is taken
@@ -20,15 +20,11 @@ pub const ROOM: usize = 32768;
 /// fail exactly where those of the device behind do.
 #[derive(Drop)]
 pub struct CachedDevice<D: Device> {
-    device: D,
+    behind: GuardedDevice<D>,
     bytes: Vec<u8>,
-    count: usize,
-    changes: u64,
     ghost room: { length bytes.items ≡ 32768 },
-    ghost fits: { count ≤ 32768 },
-    ghost within: { count ≤ D.size device },
-    ghost counted: { D.failed device + changes < 2 ^ 64 },
-    ghost same: { D.tells → take count bytes.items ≡ part (D.bytes device) 0 count },
+    ghost fits: { behind.known ≤ 32768 },
+    ghost same: { D.tells → take behind.known bytes.items ≡ part (D.bytes behind.device) 0 behind.known },
 }
 
 impl<D: Device> CachedDevice<D> {
@@ -42,12 +38,9 @@ impl<D: Device> CachedDevice<D> {
         ensures nothing { IfOk result (λ cached. remembered cached ≡ 0) }
         ensures none_seen { IfOk result (λ cached. changes_seen cached ≡ 0) }
     {
-        let _counted = device.failures();
         Ok(CachedDevice {
-            device,
+            behind: GuardedDevice::new(device),
             bytes: vec![in alloc; 0u8; ROOM]?,
-            count: 0,
-            changes: 0,
         })
     }
 
@@ -56,7 +49,7 @@ impl<D: Device> CachedDevice<D> {
     pub fn has_changed(&self) -> bool
         ensures { IsTrue result ↔ (changes_seen self.now ≢ 0) }
     {
-        self.changes != 0
+        self.behind.has_changed()
     }
 
     /// Whether the bytes of this range are remembered.
@@ -64,7 +57,7 @@ impl<D: Device> CachedDevice<D> {
         requires { at + len < 2 ^ 64 }
         ensures { IsTrue result ↔ IsRemembered self.now at len }
     {
-        at + len as u64 <= self.count as u64
+        at + len as u64 <= self.behind.known() as u64
     }
 
     /// Remembers bytes that were read at `at`, where they follow those that are remembered: as many as
@@ -77,10 +70,11 @@ impl<D: Device> CachedDevice<D> {
         ensures follows { Follows self.old at (length read.now)
             → IsRemembered self.new at (length read.now) }
     {
-        if at == self.count as u64 {
-            let len = read.len().min(ROOM - self.count);
-            put(&mut self.bytes, self.count, &read[..len]);
-            self.count += len;
+        let count = self.behind.known();
+        if at == count as u64 {
+            let len = read.len().min(ROOM - count);
+            put(&mut self.bytes, count, &read[..len]);
+            self.behind.learn(len);
         }
     }
 }
@@ -112,11 +106,11 @@ impl<D: Device> Device for CachedDevice<D> {
     ghost failed = { cached_failures };
 
     fn len(&self) -> u64 {
-        self.device.len()
+        self.behind.len()
     }
 
     fn failures(&self) -> u64 {
-        self.device.failures() + self.changes
+        self.behind.failures()
     }
 
     fn read_at(&mut self, at: u64, into: &mut [u8]) -> Result<(), DeviceFault>
@@ -137,7 +131,7 @@ impl<D: Device> Device for CachedDevice<D> {
             into.copy_from_slice(&self.bytes[at..at + into.len()]);
             return Ok(());
         }
-        self.device.read_at(at, into)?;
+        self.behind.read_at(at, into)?;
         self.remember(at, into);
         Ok(())
     }
@@ -154,20 +148,16 @@ impl<D: Device> Device for CachedDevice<D> {
         ensures touches { D.tells → Touches cached_bytes cached_unsettled
             (IsAt at (length from.now)) self.old self.new }
     {
-        if !begins_with(&mut self.device, &self.bytes[..self.count])? {
-            self.changes += 1;
-            return Err(DeviceFault);
-        }
-        self.count = 0;
-        self.device.write_at(at, from)
+        let known = self.behind.known();
+        let same = self.behind.compare(&self.bytes[..known])?;
+        self.behind.write_at(same, at, from)
     }
 
     fn flush(&mut self) -> Result<(), DeviceFault> {
-        self.count = 0;
-        self.device.flush()
+        self.behind.flush()
     }
 
-    ghost sized = { λ d t. D.sized d.device t };
+    ghost sized = { λ d t. D.sized d.behind.device t };
 
-    ghost bounded = { λ d. D.bounded d.device };
+    ghost bounded = { λ d. D.bounded d.behind.device };
 }

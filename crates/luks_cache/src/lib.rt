@@ -3,6 +3,8 @@
 
 mod beginning;
 mod cached;
+mod guarded;
 
 pub use beginning::begins_with;
 pub use cached::{CachedDevice, ROOM};
+pub use guarded::{GuardedDevice, Same};

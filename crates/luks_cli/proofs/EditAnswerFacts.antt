@@ -7,6 +7,8 @@ use Rattle.luks_edit.specs.declared.edit.Edit.{Edit}
 use Rattle.luks_edit.specs.declared.edit_fault.EditFault.{EditFault}
 use Rattle.luks_edit.specs.declared.edit_fault.EditFault.TheVariants as fault
 use Rattle.luks_edit.specs.EditFaults.{is_edit_failure}
+use Rattle.luks_reading.specs.Header.{NeedsMetadata}
+use Rattle.luks_volume.specs.Edits.{Replies}
 use Rattle.luks_volume.specs.Needed.{IsUntold, NeedsRandom}
 use Rattle.luks_commands.specs.declared.answers.Answer.{Answer}
 use Rattle.luks_commands.specs.declared.answers.Answer.TheVariants as answer
@@ -20,21 +22,24 @@ use Rattle.luks_signatures.specs.declared.other_use.OtherUse.{OtherUse}
 use Rattle.luks_cli.specs.declared.edit.seen.Unseen.{Unseen}
 use Rattle.luks_cli.specs.declared.edit.seen.Unseen.TheVariants.{Untold, Used}
 use Rattle.luks_cli.specs.OtherUses.{Bars, HasOtherUse, HoldsBack, HoldsBackVolume, IsBarred, IsUnseen, is_unseen_failure, unseen_answer}
-use Rattle.luks_cli.specs.Editing.{Given, Lacking, RepliesAlone, given_edit}
+use Rattle.luks_cli.specs.Editing.{Given, Lacking, given_edit}
 use Rattle.luks_commands.specs.Files.{OfNamed}
 use Rattle.luks_commands.proofs.EndFacts.{unread_is_fault}
-use Rattle.luks_cli.proofs.EditFacts.{err_same, not_made, replied_as, run_replied}
+use Rattle.luks_cli.proofs.EditFacts.{replied_as, run_replied}
 
 module _ (tells : Type 0) (payload : Data) (lacks : Lacking) (v w : List ℕ) (before after : ℕ) where
-  unread_alone : (given : Given) (f : InputFault) → after ≡ before → (tells → w ≡ v)
-      → (unread_answer f ≡ answer.DeviceFault → LacksFile tells payload given lacks v) → IsEditAnswer tells payload given lacks v w before after (unread_answer f)
-  unread_alone given Absent count same lacking = inr (count, same, lacking refl)
-  unread_alone given (Unreadable reason) count same lacking = inr (count, same, lacking refl)
-  unread_alone given NoMemory count same lacking = (count, same)
+  -- what lacking a file is answered by
+  abbrev Lacks : Given → InputFault → Type 0
+  Lacks given f = (a : Answer) → unread_answer f ≡ a → LacksFile tells payload given lacks v a
+
+  unread_alone : (given : Given) (f : InputFault) → after ≡ before → (tells → w ≡ v) → Lacks given f → IsEditAnswer tells payload given lacks v w before after (unread_answer f)
+  unread_alone given Absent count same lacking = inr (count, same, lacking answer.DeviceFault refl)
+  unread_alone given (Unreadable reason) count same lacking = inr (count, same, lacking answer.DeviceFault refl)
+  unread_alone given NoMemory count same lacking = (count, same, inl (lacking answer.NoMemory refl))
 
   -- a file that the edit needs can't be read
-  answers_unread : (given : Given) (f : InputFault) (a : Answer) → a ≡ unread_answer f → after ≡ before → (tells → w ≡ v)
-      → (unread_answer f ≡ answer.DeviceFault → LacksFile tells payload given lacks v) → IsEditAnswer tells payload given lacks v w before after a
+  answers_unread : (given : Given) (f : InputFault) (a : Answer) → a ≡ unread_answer f → after ≡ before → (tells → w ≡ v) → Lacks given f
+      → IsEditAnswer tells payload given lacks v w before after a
   answers_unread given f a is count same lacking =
       subst (IsEditAnswer tells payload given lacks v w before after) (sym is) (unread_alone given f count same lacking)
 
@@ -43,7 +48,7 @@ module _ (tells : Type 0) (payload : Data) (lacks : Lacking) (v w : List ℕ) (b
     pub answers_untold : (f : EditFault) → after ≡ count_after (is_edit_failure f) before → (tells → w ≡ v) → (tells → IsUntold v payload e f)
         → IsEditAnswer tells payload (given_edit over e has_random) lacks v w before after (edit_fault_answer f)
     answers_untold fault.Device count same is = inl count
-    answers_untold fault.Memory count same is = (count, same)
+    answers_untold fault.Memory count same is = (count, same, inr is)
     answers_untold f count same is = (count, λ t. inl (same t, record { edit = e; asked = refl; first = is t }))
 
     -- nothing is seen of it
@@ -55,50 +60,38 @@ module _ (tells : Type 0) (payload : Data) (lacks : Lacking) (v w : List ℕ) (b
     -- the random bytes can't be read
     pub answers_randomless : (count : ℕ) → (tells → NeedsRandom v payload e count) → (f : InputFault) (a : Answer) → a ≡ unread_answer f → after ≡ before
         → (tells → w ≡ v) → lacks.random count f → IsEditAnswer tells payload (given_edit over e has_random) lacks v w before after a
-    answers_randomless count needs f a is counted same unread = answers_unread (given_edit over e has_random) f a is counted same (λ answered.
+    answers_randomless count needs f a is counted same unread = answers_unread (given_edit over e has_random) f a is counted same (λ said answered.
         inr (λ t. record { edit = e; asked = refl; count = count; needs = needs t; fault = f; unread = unread; answered = answered }))
 
     module _ (u : List ℕ) (unchanged : tells → u ≡ v) (count : ℕ) (random : List ℕ) (needs : tells → NeedsRandom v payload e count) (taken : has_random count random) where
       -- a fault ended it
-      pub answers_fault : (f : EditFault) → after ≡ count_after (is_edit_failure f) before → (tells → RepliesAlone payload u e random (Err f) w)
+      pub answers_fault : (f : EditFault) → after ≡ count_after (is_edit_failure f) before → (tells → Replies payload u e random (Err f) w)
           → IsEditAnswer tells payload (given_edit over e has_random) lacks v w before after (edit_fault_answer f)
       answers_fault fault.Device counted is = inl counted
-      answers_fault fault.Memory counted is = (
-        counted,
-        λ t. elim (is t) [
-          | inl none ↦ none.1 ∙ unchanged t
-          | inr by ↦ by.1 ∙ unchanged t
-        ],
-      )
+      answers_fault fault.Memory counted is = (counted, λ t. (is t).1 ∙ unchanged t, inr (λ t. subst NeedsMetadata (unchanged t) (is t).0))
       answers_fault f counted is = (
         counted,
-        λ t. elim (is t) [
-          | inl none ↦ absurd (let x : f ≡ fault.Memory = err_same f fault.Memory none.0 in cc)
-          | inr by ↦ inr (run_replied payload v w over e has_random u (unchanged t) count random (needs t) taken (Err f) by)
-        ],
+        λ t. inr (run_replied payload v w over e has_random u (unchanged t) count random (needs t) taken (Err f) (is t)),
       )
 
       -- it is done
-      pub answers_done : (made : Made) → after ≡ before → (tells → RepliesAlone payload u e random (Ok made) w)
+      pub answers_done : (made : Made) → after ≡ before → (tells → Replies payload u e random (Ok made) w)
           → IsEditAnswer tells payload (given_edit over e has_random) lacks v w before after (answer.Done made.slot)
       answers_done made counted is = (
         counted,
-        λ t. elim (is t) [
-          | inl none ↦ absurd (not_made made fault.Memory none.0)
-          | inr by ↦ record {
-            made = made;
-            replied = run_replied payload v w over e has_random u (unchanged t) count random (needs t) taken (Ok made) by;
-            told = refl;
-          }
-        ],
+        λ t. record {
+          made = made;
+          replied = run_replied payload v w over e has_random u (unchanged t) count random (needs t) taken (Ok made) (is t);
+          told = refl;
+        },
       )
 
 -- a file that is lacked so, is lacked otherwise
-lacks_as : (tells : Type 0) (payload : Data) (given other : Given) (lacks more : Lacking) (v : List ℕ) → ((e : Edit) → given.asks e → other.asks e)
+lacks_as : (tells : Type 0) (payload : Data) (given other : Given) (lacks more : Lacking) (v : List ℕ) (a : Answer) → ((e : Edit) → given.asks e → other.asks e)
     → ((f : InputFault) → lacks.words f → more.words f) → ((n : ℕ) (f : InputFault) → lacks.random n f → more.random n f)
-    → LacksFile tells payload given lacks v → LacksFile tells payload other more v
-lacks_as tells payload given other lacks more v asks words random (inl x) = inl (x.0, words x.0 x.1, x.2)
-lacks_as tells payload given other lacks more v asks words random (inr x) = inr (λ t. let y = x t in record {
+    → LacksFile tells payload given lacks v a → LacksFile tells payload other more v a
+lacks_as tells payload given other lacks more v a asks words random (inl x) = inl (x.0, words x.0 x.1, x.2)
+lacks_as tells payload given other lacks more v a asks words random (inr x) = inr (λ t. let y = x t in record {
   edit = y.edit;
   asked = asks y.edit y.asked;
   count = y.count;
@@ -131,9 +124,16 @@ answers_as tells payload given other lacks more v w before after asks has long o
 )
 answers_as tells payload given other lacks more v w before after asks has long over words random answer.DeviceFault x = elim x [
   | inl failed ↦ inl failed
-  | inr y ↦ inr (y.0, y.1, lacks_as tells payload given other lacks more v asks words random y.2)
+  | inr y ↦ inr (y.0, y.1, lacks_as tells payload given other lacks more v answer.DeviceFault asks words random y.2)
 ]
-answers_as tells payload given other lacks more v w before after asks has long over words random answer.NoMemory x = x
+answers_as tells payload given other lacks more v w before after asks has long over words random answer.NoMemory x = (
+  x.0,
+  x.1,
+  elim x.2 [
+    | inl y ↦ inl (lacks_as tells payload given other lacks more v answer.NoMemory asks words random y)
+    | inr metadata ↦ inr metadata
+  ],
+)
 answers_as tells payload given other lacks more v w before after asks has long over words random a x = absurd x
 
 -- ---- over devices
@@ -152,7 +152,7 @@ wordless_answer : {D : Type 0} (tells : Type 0) (bytes : D → List ℕ) (failed
     → lacks.words f → AnswersEdit tells bytes failed payload given lacks (Ok d) (Ok d) (unread_answer f)
 wordless_answer {D} tells bytes failed payload given lacks d Absent unread = inr (refl, λ t. refl, inl (Absent, unread, refl))
 wordless_answer {D} tells bytes failed payload given lacks d (Unreadable reason) unread = inr (refl, λ t. refl, inl (Unreadable reason, unread, refl))
-wordless_answer {D} tells bytes failed payload given lacks d NoMemory unread = (refl, λ t. refl)
+wordless_answer {D} tells bytes failed payload given lacks d NoMemory unread = (refl, λ t. refl, inl (inl (NoMemory, unread, refl)))
 
 -- it makes no call on the volume
 pub answers_wordless : {D : Type 0} (tells : Type 0) (bytes : D → List ℕ) (failed : D → ℕ) (payload : Data) (given : Given) (lacks : Lacking)

@@ -1,5 +1,6 @@
 -- What an edit leaves of a volume, by how the command ended.
-use Rattle.std.proofs.Common.{◌≡◌, ◌≢◌, ℕ, List, [], ◌∷◌, ◌++◌, Bool, Option, Some, None, IfSome, Result, Ok, Err, option_map, refl, sym, ap, ◌∙◌, subst, inl, inr, arith}
+use Rattle.std.proofs.Common.{◌≡◌, ◌≢◌, ℕ, List, Bool, Option, Some, None, IfSome, Result, Ok, Err, option_map, refl, sym, ap, ◌∙◌, ◌+◌, subst, inl, inr, arith}
+use Rattle.luks_area.specs.Device.{CountsFailure}
 use Rattle.luks_area.specs.First.{IsLeast}
 use Rattle.luks_area.specs.declared.area.AreaName.{AreaName}
 use Rattle.luks_area.specs.declared.area.AreaName.TheVariants.{Slot, Segment}
@@ -8,16 +9,14 @@ use Rattle.luks_reading.specs.Checked.{WellFormed}
 use Rattle.luks_edit.specs.declared.edit.Done.{Done as Made}
 use Rattle.luks_edit.specs.declared.edit.Edit.{Edit}
 use Rattle.luks_edit.specs.declared.edit.Edit.TheVariants as edit
-use Rattle.luks_edit.specs.declared.edit.Step.{Step}
 use Rattle.luks_edit.specs.declared.edit_fault.EditFault.{EditFault}
 use Rattle.luks_edit.specs.declared.edit_fault.EditFault.TheVariants as fault
-use Rattle.luks_edit.specs.EditFaults.{edit_key}
+use Rattle.luks_edit.specs.EditFaults.{edit_key, is_edit_failure}
 use Rattle.luks_edit.specs.Kept.{Keeps, KeepsArea, KeepsSlot}
-use Rattle.luks_edit.specs.Ran.{AreRun, HasNoFailure, IsNamedIn, Reply, Replying}
+use Rattle.luks_edit.specs.Ran.{IsCompleted, IsFailure, Reply}
 use Rattle.luks_volume.specs.Edits.{NamedSlots, Refusal, Replies}
 use Rattle.luks_volume.specs.Needed.{IsNeedFault, NeedsRandom, TellsNeed}
 use Rattle.luks_volume.specs.Outcome.{Spares}
-use Rattle.luks_volume.specs.Running.{CountsRun, IsKeptByRun, IsSparedByRun}
 use Rattle.luks_request.specs.declared.request.EditRequest.{EditRequest}
 use Rattle.luks_request.specs.declared.request.EditRequest.TheVariants.{Add, Change, Remove, Repair, Label}
 use Rattle.luks_request.specs.Named.{edit_new_of, edit_passphrase_of}
@@ -29,7 +28,7 @@ use Rattle.luks_commands.specs.Answer.{answer_status, edit_fault_answer, IsWordl
 use Rattle.luks_cli.specs.declared.edit.seen.Unseen.{Unseen}
 use Rattle.luks_cli.specs.declared.edit.seen.Unseen.TheVariants.{Untold, Used}
 use Rattle.luks_cli.specs.OtherUses.{IsUnseen, unseen_answer}
-use Rattle.luks_cli.specs.Editing.{Given, IsAsked, KeepsUnnamed, WhereFailed, IsRefused, IsReplied, RepliesAlone, SaysEdit, SparesEdit, SparesVolume, given_edit}
+use Rattle.luks_cli.specs.Editing.{Given, IsAsked, KeepsUnnamed, WhereFailed, IsRefused, IsReplied, SaysEdit, SparesEdit, SparesVolume, given_edit}
 use Rattle.luks_commands.specs.declared.inputs.InputFault.{InputFault}
 use Rattle.luks_commands.specs.Files.{LeavesVolume}
 use Rattle.luks_commands.proofs.EndFacts.{unread_is_fault}
@@ -65,46 +64,24 @@ kept_same payload named v well = record {
   slots = λ n not. slot_same payload n v;
 }
 
--- a list of one step names what its edit names
-named_alone : (v : List ℕ) (s : Step) (rs : List Reply) (us : List (List ℕ)) (n : ℕ) → IsNamedIn NamedSlots v (s ∷ []) rs us n → NamedSlots v s.edit n
-named_alone v s [] us n is = absurd is
-named_alone v s (r ∷ rs) [] n is = absurd is
-named_alone v s (r ∷ rs) (u ∷ us) n (inl is) = is.1
-named_alone v s (r ∷ rs) (u ∷ us) n (inr is) = absurd is
+-- where the count of failures didn't rise, the reply isn't the device's failure
+unfailed : (reply : Reply) (f f' : ℕ) → CountsFailure is_edit_failure reply f f' → f' ≡ f → IsFailure reply → ⊥
+unfailed (Ok made) f f' count same is = is
+unfailed (Err fault.Device) f f' count same is = let rises : f' ≡ f + 1 = count in omega (arith, rises, same)
+unfailed (Err g) f f' count same is = is
 
--- where the count of failures didn't rise, no reply of the list is the device's failure
-fine_by : (count : ℕ) (before after : List Reply) (f f' : ℕ) (x : CountsRun count before after f f') → f' ≡ f → HasNoFailure x.replies
-fine_by count before after f f' x same = elim x.counted [
-  | inl all ↦ all.0.fine
-  | inr cut ↦ absurd (omega (arith, cut.1, same))
-]
+-- an edit in which the device didn't fail keeps what it doesn't name
+pub kept_once : (payload : Data) (v w : List ℕ) (e : Edit) (reply : Reply) (f f' : ℕ) → CountsFailure is_edit_failure reply f f' → f' ≡ f
+    → ((IsFailure reply → ⊥) → Keeps payload (λ n. IsCompleted reply × NamedSlots v e n) v w) → Keeps payload (NamedSlots v e) v w
+kept_once payload v w e reply f f' count same keeps =
+    keeps_fewer payload (λ n. IsCompleted reply × NamedSlots v e n) (NamedSlots v e) v w (λ n is. is.1) (keeps (unfailed reply f f' count same))
 
--- a list of one step in which the device didn't fail keeps what its edit doesn't name
-pub kept_alone : (payload : Data) (v w : List ℕ) (s : Step) (before after : List Reply) (f f' : ℕ) → before ≡ [] → CountsRun 1 before after f f'
-    → f' ≡ f → IsKeptByRun payload v (s ∷ []) before after w → Keeps payload (NamedSlots v s.edit) v w
-kept_alone payload v w s before after f f' none x same k =
-    let appended : (rs : List Reply) → after ≡ before ++ rs → after ≡ rs = λ rs is. subst (λ (b : List Reply). after ≡ b ++ rs) none is in
-    let one : x.replies ≡ k.replies = sym (appended x.replies x.appended) ∙ appended k.replies k.appended in
-    keeps_fewer payload (IsNamedIn NamedSlots v (s ∷ []) k.replies k.volumes) (NamedSlots v s.edit) v w (named_alone v s k.replies k.volumes)
-    (k.keeps (subst HasNoFailure one (fine_by 1 before after f f' x same)))
-
--- a list of one step that the device's failure stopped was stopped in this step, at the first volume
-stopped_alone : (R : Replying) (v met : List ℕ) (s step : Step) (firsts left : List Step) (rs : List Reply) (us : List (List ℕ)) → s ∷ [] ≡ firsts ++ step ∷ left
-    → AreRun R v firsts rs us met → (step ≡ s) × (rs ≡ []) × (met ≡ v)
-stopped_alone R v met s step [] left [] [] is run = (let e : s ≡ step = cc in sym e, refl, run)
-stopped_alone R v met s step [] left [] (u ∷ us) is run = absurd run
-stopped_alone R v met s step [] left (r ∷ rs) us is run = absurd run
-stopped_alone R v met s step (f ∷ []) left rs us is run = cc
-stopped_alone R v met s step (f ∷ g ∷ firsts) left rs us is run = cc
-
--- so what it left is what its edit spares
-pub spared_alone : (payload : Data) (v w : List ℕ) (s : Step) (before after : List Reply) → before ≡ [] → IsSparedByRun payload v (s ∷ []) before after w
-    → (after ≡ Err fault.Device ∷ []) × Spares v payload s.edit s.random.now w
-spared_alone payload v w s before after none x =
-    let one = stopped_alone (Replies payload) v x.met s x.step x.firsts x.left x.replies x.volumes x.steps_are x.run in
-    let said : after ≡ [] ++ [] ++ Err fault.Device ∷ [] =
-    subst (λ (b : List Reply). after ≡ b ++ [] ++ Err fault.Device ∷ []) none (subst (λ (rs : List Reply). after ≡ before ++ rs ++ Err fault.Device ∷ []) one.1 x.appended) in
-    (said, subst (λ (t : Step). Spares v payload t.edit t.random.now w) one.0 (subst (λ u. Spares u payload x.step.edit x.step.random.now w) one.2 x.spares))
+-- one in which it failed says so, and what it left is what it spares
+pub spared_once : (payload : Data) (v w : List ℕ) (e : Edit) (random : List ℕ) (reply : Reply) (f f' : ℕ) → CountsFailure is_edit_failure reply f f'
+    → (f' ≡ f → ⊥) → (IsFailure reply → Spares v payload e random w) → (reply ≡ Err fault.Device) × Spares v payload e random w
+spared_once payload v w e random (Ok made) f f' count apart spares = absurd (apart count)
+spared_once payload v w e random (Err fault.Device) f f' count apart spares = (refl, spares tt)
+spared_once payload v w e random (Err g) f f' count apart spares = absurd (apart count)
 
 -- ---- how the edit ended
 
@@ -115,17 +92,8 @@ ended_by f = answer_status (edit_fault_answer f)
 abbrev pub ended_in : EditFault → Reply
 ended_in f = Err f
 
-pub err_same : (f g : EditFault) → ended_in f ≡ ended_in g → f ≡ g
-err_same f g is = cc
-
-not_refused : (f : EditFault) → f ≡ fault.Memory → ended_by f ≡ Refused → ⊥
-not_refused f is refused = let ends : Fault ≡ Refused = sym (ap ended_by is) ∙ refused in cc
-
 abbrev pub made_in : Made → Reply
 made_in made = Ok made
-
-pub not_made : (made : Made) (f : EditFault) → made_in made ≡ ended_in f → ⊥
-not_made made f is = cc
 
 -- an edit that was completed isn't one that the device failed in
 pub never_failed : (made : Made) → made_in made ≡ ended_in fault.Device → ⊥
@@ -135,25 +103,24 @@ no_refusal : Fault ≡ Refused → ⊥
 no_refusal is = cc
 
 -- a fault that the command is refused by leaves the volume as it was, and is the edit's refusal
-pub refused_by : (payload : Data) (v w : List ℕ) (e : Edit) (random : List ℕ) (f : EditFault) → RepliesAlone payload v e random (Err f) w
+pub refused_by : (payload : Data) (v w : List ℕ) (e : Edit) (random : List ℕ) (f : EditFault) → Replies payload v e random (Err f) w
     → ended_by f ≡ Refused → (w ≡ v) × Refusal v payload e random f
-refused_by payload v w e random f (inl none) refused = absurd (not_refused f (err_same f fault.Memory none.0) refused)
-refused_by payload v w e random (fault.NotAccepted f) (inr is) refused = (is.1, is.0)
-refused_by payload v w e random fault.Requirements (inr is) refused = (is.1, is.0)
-refused_by payload v w e random fault.NoSuchSlot (inr is) refused = (is.1, is.0)
-refused_by payload v w e random fault.Locked (inr is) refused = (is.1, is.0)
-refused_by payload v w e random (fault.Slot f) (inr is) refused = (is.1, is.0)
-refused_by payload v w e random fault.SlotTaken (inr is) refused = (is.1, is.0)
-refused_by payload v w e random fault.NoFreeSlot (inr is) refused = (is.1, is.0)
-refused_by payload v w e random fault.NoRoom (inr is) refused = (is.1, is.0)
-refused_by payload v w e random fault.LastSlot (inr is) refused = (is.1, is.0)
-refused_by payload v w e random fault.Iterations (inr is) refused = (is.1, is.0)
-refused_by payload v w e random fault.BadLabel (inr is) refused = (is.1, is.0)
-refused_by payload v w e random fault.SeqExhausted (inr is) refused = (is.1, is.0)
-refused_by payload v w e random fault.MetadataFull (inr is) refused = (is.1, is.0)
-refused_by payload v w e random fault.RandomLength (inr is) refused = (is.1, is.0)
-refused_by payload v w e random fault.Memory (inr is) refused = absurd (no_refusal refused)
-refused_by payload v w e random fault.Device (inr is) refused = absurd (no_refusal refused)
+refused_by payload v w e random (fault.NotAccepted f) is refused = (is.1, is.0)
+refused_by payload v w e random fault.Requirements is refused = (is.1, is.0)
+refused_by payload v w e random fault.NoSuchSlot is refused = (is.1, is.0)
+refused_by payload v w e random fault.Locked is refused = (is.1, is.0)
+refused_by payload v w e random (fault.Slot f) is refused = (is.1, is.0)
+refused_by payload v w e random fault.SlotTaken is refused = (is.1, is.0)
+refused_by payload v w e random fault.NoFreeSlot is refused = (is.1, is.0)
+refused_by payload v w e random fault.NoRoom is refused = (is.1, is.0)
+refused_by payload v w e random fault.LastSlot is refused = (is.1, is.0)
+refused_by payload v w e random fault.Iterations is refused = (is.1, is.0)
+refused_by payload v w e random fault.BadLabel is refused = (is.1, is.0)
+refused_by payload v w e random fault.SeqExhausted is refused = (is.1, is.0)
+refused_by payload v w e random fault.MetadataFull is refused = (is.1, is.0)
+refused_by payload v w e random fault.RandomLength is refused = (is.1, is.0)
+refused_by payload v w e random fault.Memory is refused = absurd (no_refusal refused)
+refused_by payload v w e random fault.Device is refused = absurd (no_refusal refused)
 
 -- the same of what is told before a keyslot is opened
 refused_at_once : (payload : Data) (v : List ℕ) (e : Edit) (f : EditFault) → TellsNeed payload v e (Err f) → ended_by f ≡ Refused
@@ -258,17 +225,16 @@ module _ (payload : Data) (v w : List ℕ) (ended : Status) where
       replied reply is = run_replied payload v w over e has_random u unchanged count random needs taken reply is
 
       -- the edit was completed
-      pub says_made : (made : Made) → RepliesAlone payload u e random (Ok made) w → ended ≡ Done
+      pub says_made : (made : Made) → Replies payload u e random (Ok made) w → ended ≡ Done
           → SaysEdit payload (given_edit over e has_random) v w (ended ≡ Done) (ended ≡ Refused)
-      says_made made (inl none) told = absurd (not_made made fault.Memory none.0)
-      says_made made (inr is) told = record {
+      says_made made is told = record {
         done = λ _. record { done = made; replied = replied (Ok made) is };
         refused = λ same. absurd (not_so ended Done Refused told (λ e. cc) same);
         rest = inr (Ok made, replied (Ok made) is);
       }
 
       -- a fault ended it
-      pub says_fault : (f : EditFault) → RepliesAlone payload u e random (Err f) w → ended ≡ ended_by f
+      pub says_fault : (f : EditFault) → Replies payload u e random (Err f) w → ended ≡ ended_by f
           → SaysEdit payload (given_edit over e has_random) v w (ended ≡ Done) (ended ≡ Refused)
       says_fault f is told = record {
         done = λ same. absurd (never_done f (so ended (ended_by f) Done told same));
@@ -285,10 +251,7 @@ module _ (payload : Data) (v w : List ℕ) (ended : Status) where
             first = subst (λ x. Refusal x payload e random f) unchanged by.1;
           }))),
         );
-        rest = elim is [
-          | inl none ↦ inl (none.1 ∙ unchanged)
-          | inr by ↦ inr (Err f, replied (Err f) by)
-        ];
+        rest = inr (Err f, replied (Err f) is);
       }
 
 -- there is no passphrase
@@ -356,10 +319,9 @@ spared_as payload given other v w asks has (inr x) = inr (record { replied = rep
 
 -- where the device failed in the edit that was run, its reply and what it spares are those of the command
 pub spared_edit : (payload : Data) (v u w : List ℕ) (over : Bool) (e : Edit) (has_random : ℕ → List ℕ → Type 0) → u ≡ v → (count : ℕ) (random : List ℕ)
-    → NeedsRandom v payload e count → has_random count random → (f : EditFault) → RepliesAlone payload u e random (Err f) w
+    → NeedsRandom v payload e count → has_random count random → (f : EditFault) → Replies payload u e random (Err f) w
     → (ended_in f ≡ Err fault.Device) × Spares u payload e random w → SparesEdit payload (given_edit over e has_random) v w
-spared_edit payload v u w over e has_random unchanged count random needs taken f (inl none) x = inl (none.1 ∙ unchanged)
-spared_edit payload v u w over e has_random unchanged count random needs taken f (inr by) x = inr (record {
+spared_edit payload v u w over e has_random unchanged count random needs taken f by x = inr (record {
   replied = record {
     edit = e;
     asked = refl;

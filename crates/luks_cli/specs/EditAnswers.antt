@@ -2,6 +2,7 @@
 use Rattle.std.specs.Prelude.{◌≡◌, ◌⊎◌, ℕ, ◌+◌, List, Option, Some, Result, Ok, Err}
 use Rattle.luks_area.specs.First.{IsLeast}
 use Rattle.luks_reading.specs.declared.report.Data.{Data}
+use Rattle.luks_reading.specs.Header.{NeedsMetadata}
 use Rattle.luks_edit.specs.declared.edit.Done.{Done as Made}
 use Rattle.luks_edit.specs.declared.edit.Edit.{Edit as TheEdit}
 use Rattle.luks_edit.specs.declared.edit_fault.EditFault.{EditFault}
@@ -16,19 +17,25 @@ use Rattle.luks_commands.specs.Answer.{IsWordless, unread_answer}
 use Rattle.luks_cli.specs.Editing.{Given, IsReplied, Lacking}
 use Rattle.luks_cli.specs.OtherUses.{Bars}
 
--- as many random bytes as the edit takes of the volume `v` can't be read
-pub record LacksRandom (payload : Data) (given : Given) (lacks : Lacking) (v : List ℕ) : Type 0 where
+-- as many random bytes as the edit takes of the volume `v` can't be read, and this is answered
+pub record LacksRandom (payload : Data) (given : Given) (lacks : Lacking) (v : List ℕ) (a : Answer) : Type 0 where
   pub edit : TheEdit
   pub asked : given.asks edit
   pub count : ℕ
   pub needs : NeedsRandom v payload edit count
   pub fault : InputFault
   pub unread : lacks.random count fault
-  pub answered : unread_answer fault ≡ DeviceFault
+  pub answered : unread_answer fault ≡ a
 
--- a file that the edit needs can't be read, for another cause than want of memory
-abbrev pub LacksFile : Type 0 → Data → Given → Lacking → List ℕ → Type 0
-LacksFile tells payload given lacks v = ((f : InputFault) × lacks.words f × (unread_answer f ≡ DeviceFault)) ⊎ (tells → LacksRandom payload given lacks v)
+-- a file that the edit needs can't be read, and this is answered: `no memory` for want of memory, else
+-- `device fault`
+abbrev pub LacksFile : Type 0 → Data → Given → Lacking → List ℕ → Answer → Type 0
+LacksFile tells payload given lacks v a = ((f : InputFault) × lacks.words f × (unread_answer f ≡ a)) ⊎ (tells → LacksRandom payload given lacks v a)
+
+-- memory is taken for a file that the edit needs, and for a volume of LUKS2 whose metadata is read: none
+-- for one of LUKS1, nor for one that isn't accepted before that
+abbrev pub TakesMemory : Type 0 → Data → Given → Lacking → List ℕ → Type 0
+TakesMemory tells payload given lacks v = LacksFile tells payload given lacks v NoMemory ⊎ (tells → NeedsMetadata v)
 
 -- the edit was run over `v`, completed, and left `w`; it told this keyslot
 pub record IsDoneWith (payload : Data) (given : Given) (v w : List ℕ) (slot : Option ℕ) : Type 0 where
@@ -57,8 +64,9 @@ IsEditAnswer tells payload given lacks v w before after (Refused (Edit fault.Dev
 IsEditAnswer tells payload given lacks v w before after (Refused (Edit fault.Memory)) = ⊥
 IsEditAnswer tells payload given lacks v w before after (Refused (Edit f)) = (after ≡ before) × (tells → IsRefusedBy payload given v w f)
 IsEditAnswer tells payload given lacks v w before after DeviceFault =
-    (after ≡ before + 1) ⊎ ((after ≡ before) × (tells → w ≡ v) × LacksFile tells payload given lacks v)
-IsEditAnswer tells payload given lacks v w before after NoMemory = (after ≡ before) × (tells → w ≡ v)
+    (after ≡ before + 1) ⊎ ((after ≡ before) × (tells → w ≡ v) × LacksFile tells payload given lacks v DeviceFault)
+IsEditAnswer tells payload given lacks v w before after NoMemory =
+    (after ≡ before) × (tells → w ≡ v) × TakesMemory tells payload given lacks v
 IsEditAnswer tells payload given lacks v w before after a = ⊥
 
 -- the same of a volume that may not be there; the passphrases are read before it

@@ -7,7 +7,7 @@ use Rattle.luks_edit.specs.declared.edit.Done.{Done}
 use Rattle.luks_edit.specs.declared.edit.Edit.{Edit}
 use Rattle.luks_edit.specs.declared.edit.Edit.TheVariants as edit
 use Rattle.luks_edit.specs.declared.edit_fault.EditFault.{EditFault}
-use Rattle.luks_edit.specs.declared.edit_fault.EditFault.TheVariants.{Device, Memory}
+use Rattle.luks_edit.specs.declared.edit_fault.EditFault.TheVariants.{Device}
 use Rattle.luks_edit.specs.EditFaults.{edit_key}
 use Rattle.luks_edit.specs.Kept.{Keeps}
 use Rattle.luks_edit.specs.Ran.{Reply}
@@ -144,12 +144,6 @@ pub record IsSpared (payload : Data) (given : Given) (v w : List ℕ) : Type 0 w
 -- where a device call failed, nothing was begun, or this holds
 abbrev pub SparesEdit : Data → Given → List ℕ → List ℕ → Type 0
 SparesEdit payload given v w = (w ≡ v) ⊎ IsSpared payload given v w
-
--- ---- one edit, that is run
-
--- the reply of a list of this one edit; where there was no memory for the list, nothing ran
-abbrev pub RepliesAlone : Data → List ℕ → Edit → List ℕ → Reply → List ℕ → Type 0
-RepliesAlone payload v e random reply w = ((reply ≡ Err Memory) × (w ≡ v)) ⊎ Replies payload v e random reply w
 
 -- ---- over devices
 

@@ -1,10 +1,11 @@
 -- Another use of the disk by now: where only the second copy of a LUKS2 header is sound, what stands in the place of the
 -- first, and how an edit ends that it bars.
-use Rattle.std.specs.Prelude.{◌≡◌, ℕ, List, Option, Some, None, Bool, false, Result, Ok, Err, ⊤, take}
+use Rattle.std.specs.Prelude.{◌≡◌, ℕ, List, [], ◌∷◌, ◌++◌, codes, Option, Some, None, Bool, false, Result, Ok, Err, ⊤, take}
 use Rattle.luks1_header.specs.Header1.{HasMagic}
 use Rattle.luks_head.specs.Selection.{luks2, Chosen}
 use Rattle.luks_head.specs.declared.selection.Copies.TheVariants.{SecondOnly}
 use Rattle.luks_signatures.specs.Signatures.{Finds, table}
+use Rattle.luks_signatures.specs.UseTexts.{use_text}
 use Rattle.luks_signatures.specs.declared.other_use.OtherUse.{OtherUse}
 use Rattle.luks_reading.specs.declared.report.Data.{Data}
 use Rattle.luks_edit.specs.declared.edit.Edit.{Edit}
@@ -79,3 +80,10 @@ IsUnseen over v payload e (Used found) = Bars over v (Some found)
 abbrev pub SeesBarred : Bool → List ℕ → Result Seen Unseen → Type 0
 SeesBarred over v (Ok seen) = Bars over v None
 SeesBarred over v (Err unseen) = over ≡ false → (u : OtherUse) → HasOtherUse v u → IsBarred u (unseen_answer unseen)
+
+-- ---- what is said of it
+
+-- that an edit of the volume of this name has written over this use of its disk
+abbrev pub overwritten_line : List ℕ → OtherUse → List ℕ
+overwritten_line volume found =
+    codes "luks: " ++ volume ++ codes ": " ++ use_text found ++ codes " stood in the place of the first copy, and was written over" ++ 10 ∷ []

@@ -13,11 +13,12 @@ ghost use Rattle.luks_cli.specs.OtherUses.{HoldsBack, HoldsBackVolume, unseen_an
 ghost use Rattle.luks_commands.specs.Exit.{IsExitStatus};
 ghost use Rattle.luks_commands.specs.Files.{AreFirstBytes, IsUnreadRandom, LeavesSettled, LeavesVolume};
 
+mod applying;
 mod asked;
-mod one_edit;
 mod seen;
 mod words;
 
+use applying::apply_of_header;
 use asked::edit_of;
 use luks_commands::open::MemoryNote;
 use luks_commands::{
@@ -26,7 +27,6 @@ use luks_commands::{
 };
 use luks_request::Editing;
 use luks_volume::{Device, Edit, EditFault};
-use one_edit::run_edit;
 use seen::{Unseen, note_refused, note_wanting, note_weaker, see};
 use std::alloc::Global;
 use std::io::{Read, Write};
@@ -174,7 +174,7 @@ fn edit_device<D: Device, N: Read, E: Write>(
         Ok(bytes) => bytes,
         Err(fault) => return unread(fault, editing.random.unwrap_or_default(), err),
     };
-    match run_edit(alloc, device, payload, edit, random.as_slice()) {
+    match apply_of_header(alloc, device, seen.header, payload, edit, random.as_slice()) {
         Ok(made) => {
             note_weaker(seen.weaker, err);
             Answer::Done(made.slot)

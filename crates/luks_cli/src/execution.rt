@@ -39,6 +39,10 @@ use std::io::{Read, Write};
 /// copies of the header aren't in step; 4: the device failed, a file can't be read, memory was
 /// refused, or `out` failed, which says nothing of what was done. The passphrase is read before the
 /// volume, a new one after the old one, and the random bytes after the volume and its target.
+///
+/// The volume is the bytes of its file that `line.place` names: who calls it has taken that window of
+/// the file (`luks_window`), and gives it as the device. So all that is said here of the volume is said
+/// of the window, and that no byte beside it ever changes is what every value of a window's type has.
 #[tactic(auto, using(luks_commands::proofs::FileFacts::settled_kept))]
 pub fn execute<D: Device, R: Read, N: Read, P: Printer, E: Write>(
     alloc: Global,
@@ -166,7 +170,11 @@ pub fn execute<D: Device, R: Read, N: Read, P: Printer, E: Write>(
         }
         Command::Edit(editing) => edit::run(alloc, inputs, name, &editing, out, err),
         Command::Format(making) => format::run(alloc, inputs, name, &making, out, err),
-        Command::Convert(converting) => convert::run(alloc, inputs, name, &converting, out, err),
-        Command::Rebuild(rebuilding) => rebuild::run(alloc, inputs, name, &rebuilding, out, err),
+        Command::Convert(converting) => {
+            convert::run(alloc, inputs, name, line.place, &converting, out, err)
+        }
+        Command::Rebuild(rebuilding) => {
+            rebuild::run(alloc, inputs, name, line.place, &rebuilding, out, err)
+        }
     }
 }

@@ -1,17 +1,18 @@
 //! Another use of the disk by now, in the place of a first copy that isn't sound.
-ghost use Rattle.std.specs.Prelude.{◌≡◌, ◌↔◌, ◌+◌, ◌^◌, ◌<◌, IfOk, IfSome, IsTrue};
+ghost use Rattle.std.specs.Prelude.{◌≡◌, ◌↔◌, ◌+◌, ◌^◌, ◌<◌, IfOk, IfSome, IsTrue, OnOk};
+ghost use Rattle.std.specs.Io.KnownBytes.{Appends};
 ghost use Rattle.luks_area.specs.Device.{CountsFailure, IsUnchanged, is_failure};
 ghost use Rattle.luks1_header.specs.Header1.{HasMagic};
 ghost use Rattle.luks_head.specs.Selection.{Chosen, luks2};
 ghost use Rattle.luks_reading.specs.Header.{IsHeader};
-ghost use Rattle.luks_cli.specs.OtherUses.{Bars, FindsOtherUse, HasOtherUse};
+ghost use Rattle.luks_cli.specs.OtherUses.{Bars, FindsOtherUse, HasOtherUse, overwritten_line};
 
 use luks_head::{Copies, Selected, select};
 use luks_signatures::{OtherUse, first_use};
 use luks_volume::{Device, DeviceFault, Header};
 use luks1_header::luks1_places::MAGIC;
 use std::alloc::Global;
-use std::io::Write;
+use std::io::{self, Write};
 
 /// The use of the disk that an edit of a volume with this header would write over. None where it may
 /// do so: nothing is asked then, so that a place that can't be read stops nothing.
@@ -122,9 +123,12 @@ pub fn note_other_use<D: Device, E: Write>(alloc: Global, device: &mut D, volume
 }
 
 /// Says to `err` of the volume of this name that an edit has written over another use of its disk.
-pub fn note_overwritten<E: Write>(found: OtherUse, volume: &str, err: &mut E) {
-    let _ = writeln!(
+pub fn note_overwritten<E: Write>(found: OtherUse, volume: &str, err: &mut E) -> io::Result<()>
+    ensures { OnOk result (Appends (E.contents err.old) (E.contents err.new)
+        (overwritten_line volume.now found)) }
+{
+    writeln!(
         err,
         "luks: {volume}: {found} stood in the place of the first copy, and was written over"
-    );
+    )
 }

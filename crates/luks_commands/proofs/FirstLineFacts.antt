@@ -39,7 +39,7 @@ nothing_before None = refl
 nothing_before (Some xs) = refl
 
 -- a reader that has buffered nothing has what its inner reader has
-pub unbuffered : {T A : Type 0} (remaining : T → Option (List ℕ)) (r : BufReader T A) (inner : T) → reader_capacity r ≡ 8192 → reader_buffer r ≡ []
+pub unbuffered : {T A : Type 0} (remaining : T → Option (List ℕ)) (r : BufReader T A) (inner : T) → reader_capacity r ≡ 1 → reader_buffer r ≡ []
     → reader_inner r ≡ inner → reader_remaining remaining r ≡ remaining inner
 unbuffered remaining r inner capacity empty is =
     ap (λ n. if n == 0 then None else prepend_known (reader_buffer r) (remaining r.inner)) capacity

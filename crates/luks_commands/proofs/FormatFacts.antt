@@ -6,17 +6,19 @@ use Rattle.luks_reading.specs.Answer.{Answer, opens}
 use Rattle.luks_reading.specs.Checked.{WellFormed}
 use Rattle.luks_formatting.specs.declared.format_fault.FormatFault.{FormatFault}
 use Rattle.luks_formatting.specs.declared.format_fault.FormatFault.TheVariants.{TooSmall, Iterations, RandomLength, Memory, Device}
-use Rattle.luks_formatting.specs.FormatFaults.{IsAnsweredFault, IsAnsweredFaultOrMemory}
+use Rattle.luks_formatting.specs.FormatFaults.{IsAnsweredFault, IsAnsweredFaultOrMemory, IsFormat2Fault}
 use Rattle.luks_formatting.specs.RandomBytes.{volume_key}
 use Rattle.luks_commands.specs.declared.answers.Status.{Status}
 use Rattle.luks_commands.specs.declared.answers.Status.TheVariants.{Done, Refused, NotInStep, Fault}
 use Rattle.luks_request.specs.declared.request.Making.{Making}
 use Rattle.luks_request.specs.declared.request.NewVersion.{NewVersion}
+use Rattle.luks_request.specs.declared.request.NewVersion.TheVariants.{Luks2}
 use Rattle.luks_commands.specs.Answer.{answer_status, format_fault_answer}
 use Rattle.luks_commands.specs.Exit.{exit_status}
 use Rattle.luks_commands.proofs.EndFacts.{done_by, refusal_by, Tells}
 use Rattle.luks_commands.specs.declared.inputs.InputFault.{InputFault}
 use Rattle.luks_commands.specs.Files.{LeavesVolume}
+use Rattle.luks_commands.specs.FormatAnswers.{HasFormatFault, IsMakingFault}
 use Rattle.luks_commands.specs.Formatting.{IsFormatted, IsOfNewVolume, IsNewVolume, SaysFormat}
 
 -- a fault that isn't the device's leaves the same where each fault that stands does
@@ -39,6 +41,22 @@ same_or_memory_by (Err Iterations) faults held same memory = λ apart. same Iter
 same_or_memory_by (Err RandomLength) faults held same memory = λ apart. same RandomLength held.0
 same_or_memory_by (Err Memory) faults held same memory = λ apart. memory refl
 same_or_memory_by (Err Device) faults held same memory = λ apart. absurd (apart refl)
+
+made_so : {D : Type 0} (result : Result D FormatFault) (making : Making) (total : ℕ) (random : List ℕ) → making.version ≡ Luks2
+    → IfErr result (IsAnsweredFaultOrMemory (HasFormatFault making.version making total random)) → IfErr result (IsMakingFault making total random)
+made_so (Ok done) making total random is held = tt
+made_so (Err TooSmall) making total random is held = held
+made_so (Err Iterations) making total random is held = held
+made_so (Err RandomLength) making total random is held = held
+made_so (Err Memory) making total random is held = (is, held)
+made_so (Err Device) making total random is held = tt
+
+-- what ends the making of a LUKS2 volume
+pub made_fault : {D : Type 0} (result : Result D FormatFault) (making : Making) (total : ℕ) (random : List ℕ) → making.version ≡ Luks2
+    → IfErr result (IsAnsweredFaultOrMemory (IsFormat2Fault total making.format random)) → IfErr result (IsMakingFault making total random)
+made_fault result making total random is held =
+    made_so result making total random is
+    (subst (λ version. IfErr result (IsAnsweredFaultOrMemory (HasFormatFault version making total random))) (sym is) held)
 
 -- what was formatted by its version is the new volume
 pub made : {D : Type 0} (result : Result D FormatFault) (making : Making) (version : NewVersion) (passphrase random old new : List ℕ)

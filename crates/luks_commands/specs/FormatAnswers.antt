@@ -3,7 +3,7 @@ use Rattle.std.specs.Prelude.{◌≡◌, ◌⊎◌, ℕ, ◌+◌, List, Some, Re
 use Rattle.luks_area.specs.First.{IsLeast}
 use Rattle.luks_formatting.specs.declared.format_fault.FormatFault.{FormatFault}
 use Rattle.luks_formatting.specs.declared.format_fault.FormatFault.TheVariants.{Device, Memory}
-use Rattle.luks_formatting.specs.FormatFaults.{format_key, IsFormat1Fault, IsFormat2Fault}
+use Rattle.luks_formatting.specs.FormatFaults.{format_key, HasNoFault, IsFormat1Fault, IsFormat2Fault}
 use Rattle.luks_request.specs.declared.request.Making.{Making}
 use Rattle.luks_request.specs.declared.request.NewVersion.{NewVersion}
 use Rattle.luks_request.specs.declared.request.NewVersion.TheVariants.{Luks1, Luks2}
@@ -20,10 +20,11 @@ abbrev pub HasFormatFault : NewVersion → Making → ℕ → List ℕ → Forma
 HasFormatFault Luks1 making total random f = IsFormat1Fault total making.format random f
 HasFormatFault Luks2 making total random f = IsFormat2Fault total making.format random f
 
--- the first of them, unless the device failed or memory was refused
+-- the first of them, unless the device failed or memory was refused: it is taken for LUKS2 alone, and where
+-- none of them stands
 abbrev pub IsMakingFault : Making → ℕ → List ℕ → FormatFault → Type 0
 IsMakingFault making total random Device = ⊤
-IsMakingFault making total random Memory = making.version ≡ Luks2
+IsMakingFault making total random Memory = (making.version ≡ Luks2) × HasNoFault (HasFormatFault making.version making total random)
 IsMakingFault making total random f = IsLeast format_key (HasFormatFault making.version making total random) f
 
 -- with this passphrase and these random bytes, of a volume of `total` bytes that was `old` and was left
@@ -38,7 +39,7 @@ IsFormatAnswer tells making passphrase random total old new before after (Refuse
     (after ≡ before) × IsMakingFault making total random f × (tells → new ≡ old)
 IsFormatAnswer tells making passphrase random total old new before after DeviceFault = after ≡ before + 1
 IsFormatAnswer tells making passphrase random total old new before after NoMemory =
-    (after ≡ before) × (making.version ≡ Luks2) × (tells → new ≡ old)
+    (after ≡ before) × IsMakingFault making total random Memory × (tells → new ≡ old)
 IsFormatAnswer tells making passphrase random total old new before after a = ⊥
 
 -- the passphrase is what its file has, and the random bytes are the first that theirs has

@@ -8,3 +8,4 @@ pub mod CheckAnswers
 pub mod Formatting
 pub mod OpenAnswers
 pub mod FormatAnswers
+pub mod MemoryNotes

@@ -47,7 +47,8 @@ pub fn passphrase<R: Read>(
         Ok(reader) => reader,
         Err(fault) => return Err(PassphraseFault::Input(*fault)),
     };
-    let bytes = read_first(reader, MOST_BYTES as u64 + 1, Vec::new(alloc))?;
+    let room = room_for(alloc, MOST_BYTES + 1)?;
+    let bytes = read_first(reader, MOST_BYTES as u64 + 1, room)?;
     if bytes.as_slice().len() > MOST_BYTES {
         return Err(PassphraseFault::TooLong);
     }
@@ -66,14 +67,14 @@ pub fn first_bytes<R: Read>(alloc: Global, reader: &mut R) -> Result<Secret, Inp
 
 /// The first line of a passphrase's file, without its newline, but at most 65537 bytes of it: one
 /// more than a passphrase has, which tells that the line is too long. It reads on until it has met a
-/// newline, and no call of the reader comes after that.
+/// newline, byte by byte, so that no copy of the line stays in a buffer and what follows isn't read.
 pub fn first_line<R: Read>(alloc: Global, reader: &mut R) -> Result<Secret, InputFault>
     ensures line { IfOk result (λ p. IfSome (R.remaining reader.old)
         (λ bytes. p ≡ first_line (take 65537 bytes))) }
     ensures kinds { IfErr result (λ f. f ≢ InputFault.Absent) }
 {
-    let mut line = Vec::new(alloc);
-    let mut front = BufReader::new(alloc, reader.take(MOST_BYTES as u64 + 1))?;
+    let mut line = room_for(alloc, MOST_BYTES + 1)?;
+    let mut front = BufReader::with_capacity(alloc, 1, reader.take(MOST_BYTES as u64 + 1))?;
     let read = front.read_until(b'\n', &mut line);
     cut_at_newline(&mut line);
     let secret = Secret::new(line);

@@ -100,6 +100,15 @@ pub enum Fault {
     OtherUse,
 }
 
+/// The name of the fault's variant.
+macro_rules! variant_name {
+    ($fault:expr; $($variant:ident)*) => {
+        match $fault {
+            $(Fault::$variant => stringify!($variant),)*
+        }
+    };
+}
+
 impl Fault {
     /// Every fault: of the header, the metadata of LUKS2, the areas, the keyslot that is to be opened,
     /// then of an edit, of formatting, of converting and of rebuilding, and at last of another use of the
@@ -165,53 +174,13 @@ impl Fault {
         ensures value { result.now ≡ name_of self }
         ensures known { fault_named result.now ≡ Some self }
     {
-        match self {
-            Fault::TooShort => "TooShort",
-            Fault::NotLuks => "NotLuks",
-            Fault::Version => "Version",
-            Fault::NoSoundCopy => "NoSoundCopy",
-            Fault::Text => "Text",
-            Fault::Uuid => "Uuid",
-            Fault::SlotState => "SlotState",
-            Fault::KeyBytes => "KeyBytes",
-            Fault::Stripes => "Stripes",
-            Fault::Iterations => "Iterations",
-            Fault::JsonArea => "JsonArea",
-            Fault::BadJson => "BadJson",
-            Fault::NotWhole => "NotWhole",
-            Fault::Shape => "Shape",
-            Fault::Kind => "Kind",
-            Fault::NoSuchName => "NoSuchName",
-            Fault::Assigned => "Assigned",
-            Fault::Sizes => "Sizes",
-            Fault::AreaTooSmall => "AreaTooSmall",
-            Fault::Region => "Region",
-            Fault::Outside => "Outside",
-            Fault::Overlap => "Overlap",
-            Fault::NoSuchSlot => "NoSuchSlot",
-            Fault::SlotFree => "SlotFree",
-            Fault::Argon2 => "Argon2",
-            Fault::Cipher => "Cipher",
-            Fault::Hash => "Hash",
-            Fault::KeySize => "KeySize",
-            Fault::Locked => "Locked",
-            Fault::Passphrase => "Passphrase",
-            Fault::Requirements => "Requirements",
-            Fault::SlotTaken => "SlotTaken",
-            Fault::NoFreeSlot => "NoFreeSlot",
-            Fault::NoRoom => "NoRoom",
-            Fault::LastSlot => "LastSlot",
-            Fault::BadLabel => "BadLabel",
-            Fault::SeqExhausted => "SeqExhausted",
-            Fault::MetadataFull => "MetadataFull",
-            Fault::RandomLength => "RandomLength",
-            Fault::TooSmall => "TooSmall",
-            Fault::NotLuks1 => "NotLuks1",
-            Fault::SameFile => "SameFile",
-            Fault::Counts => "Counts",
-            Fault::NoMetadata => "NoMetadata",
-            Fault::OtherUse => "OtherUse",
-        }
+        variant_name!(self;
+            TooShort NotLuks Version NoSoundCopy Text Uuid SlotState KeyBytes Stripes Iterations
+            JsonArea BadJson NotWhole Shape Kind NoSuchName Assigned Sizes AreaTooSmall Region
+            Outside Overlap NoSuchSlot SlotFree Argon2 Cipher Hash KeySize Locked Passphrase
+            Requirements SlotTaken NoFreeSlot NoRoom LastSlot BadLabel SeqExhausted MetadataFull
+            RandomLength TooSmall NotLuks1 SameFile Counts NoMetadata OtherUse
+        )
     }
 
     /// What is to be said of it.

@@ -233,8 +233,8 @@ pub(crate) fn next(fault: Fault) -> &'static str {
         }
         Fault::NoSoundCopy => {
             "see whether the image is whole; read a disk that fails again, to an
-       image; luks rebuild makes a header where luks check says that metadata
-       is whole; else restore a header backup (no repair helps)"
+       image; luks rebuild makes a header where luks check says that metadata is
+       whole; else restore a header backup (no repair helps)"
         }
         Fault::Text => {
             "of LUKS1 put the text back on a copy of the header, as aes at byte 8,

@@ -1,23 +1,11 @@
-//! Commands over files, which are opened as the program opens them.
-ghost use Rattle.std.specs.Prelude.{◌≡◌, IfOk};
-ghost use Rattle.luks_cache.specs.Cached.{cached_failures};
+//! Commands over files of a folder, run as the program runs them.
+ghost use Rattle.std.specs.Prelude.{◌≤◌, IsTrue, length};
 
-use luks_area::FileDevice;
-use luks_cache::CachedDevice;
-use luks_cli::{InputFault, Inputs, Reason, first_bytes};
-use luks_line::line;
-use luks_lock::{LazyFile, LockedDevice, open_locked};
-use luks_sessions::{Told, run_words, words_of};
+use luks_sessions::{Told, Trial, words_of};
 use std::alloc::{AllocError, Global};
 use std::fs::{self, File};
 use std::rt::{Clock, Files};
 use std::test::Fail;
-
-/// A folder that isn't there; a regular file needs none.
-const NO_FOLDER: &str = "/nowhere";
-
-/// A volume in a file, as the program opens it.
-type Volume = CachedDevice<LockedDevice<FileDevice<File>>>;
 
 /// The files that a command is given beside its volume: the passphrase, the new one, and random bytes.
 #[derive(Clone, Copy)]
@@ -36,19 +24,6 @@ pub fn counted_from(alloc: Global, from: usize, len: usize) -> Result<Vec<u8>, A
     Ok(bytes)
 }
 
-fn opened<R: AllocGlobal + Clock + Files<File = File>>(
-    rt: &R,
-    path: &str,
-    writes: bool,
-) -> Result<Volume, InputFault>
-    ensures { IfOk result (λ device. cached_failures device ≡ 0) }
-{
-    match open_locked(rt, path, writes, NO_FOLDER) {
-        Ok(device) => CachedDevice::new(rt.alloc(), device).map_err(|_| InputFault::NoMemory),
-        Err(_) => Err(InputFault::Unreadable(Reason::Other)),
-    }
-}
-
 /// What the command comes to over files of the folder: the volume `v`, and `p`, `n` and `r`, which are
 /// written first with what is given.
 pub fn run<R: AllocGlobal + Clock + Files<File = File>>(
@@ -58,31 +33,48 @@ pub fn run<R: AllocGlobal + Clock + Files<File = File>>(
     given: Given<'_>,
 ) -> Result<Told, Fail> {
     let alloc = rt.alloc();
-    let [volume, old, new, random] = names(rt, folder)?;
+    let [old, new, random] = names(rt, folder)?;
     fs::write(rt, old.as_str(), given.passphrase)?;
     fs::write(rt, new.as_str(), given.new_passphrase)?;
     fs::write(rt, random.as_str(), given.random)?;
     let words = words_of(alloc, words)?;
-    let line = line(alloc, words.as_slice())?;
-    let passphrase = first_bytes(alloc, &mut File::open(rt, old.as_str())?)?;
-    let new_passphrase = first_bytes(alloc, &mut File::open(rt, new.as_str())?)?;
-    let mut inputs = Inputs {
-        volume: opened(rt, volume.as_str(), line.writes()),
-        target: Err(InputFault::Absent),
-        passphrase: Ok(passphrase.as_slice()),
-        new_passphrase: Ok(new_passphrase.as_slice()),
-        random: Ok(LazyFile::new(rt, random.as_str())),
-    };
-    run_words(alloc, words.as_slice(), &mut inputs)
+    let trial = Trial::new(rt, folder, words.as_slice(), &[]);
+    let status = luks_main::run(&trial);
+    let [out, err, _] = trial.told();
+    Ok(Told { out, err, status })
 }
 
 /// The names of the files in the folder.
-fn names<R: AllocGlobal>(rt: &R, folder: &str) -> Result<[String; 4], Fail> {
+fn names<R: AllocGlobal>(rt: &R, folder: &str) -> Result<[String; 3], Fail> {
     let alloc = rt.alloc();
     Ok([
-        format!(in alloc; "{folder}/v")?,
         format!(in alloc; "{folder}/p")?,
         format!(in alloc; "{folder}/n")?,
         format!(in alloc; "{folder}/r")?,
     ])
+}
+
+/// How the last line of a refusal begins.
+const HINT: &[u8] = b"luks: luks explain ";
+
+/// Whether this was said on standard error, and no more but the last line of a refusal.
+pub fn says_no_more(found: &Told, said: &str) -> bool {
+    let (said, err) = (said.as_bytes(), found.err.as_slice());
+    if !begins_with(err, said) {
+        return false;
+    }
+    let rest = &err[said.len()..];
+    rest.is_empty() || found.status == 1 && is_hint(rest)
+}
+
+/// Whether these bytes are the last line of a refusal.
+fn is_hint(said: &[u8]) -> bool {
+    begins_with(said, HINT) && said.iter().filter(|byte| **byte == b'\n').count() == 1
+}
+
+/// Whether the bytes begin so.
+fn begins_with(bytes: &[u8], front: &[u8]) -> bool
+    ensures { IsTrue result → length front.now ≤ length bytes.now }
+{
+    bytes.len() >= front.len() && &bytes[..front.len()] == front
 }

@@ -1,6 +1,6 @@
 //! Files that are no volume: folders, pipes and devices that aren't disks.
 use luks_area::FileDevice;
-use luks_lock::{OpenFault, open_locked};
+use luks_lock::{Host, OpenFault, open_locked};
 use luks_samples::new_folder;
 use std::fs::{self, File};
 use std::io::{self, ErrorKind};
@@ -15,11 +15,11 @@ const NO_FOLDER: &str = "/nowhere";
 /// Whether the file of this name is refused as a volume that is to be read, and as one that is to be
 /// written, before it is opened.
 fn is_refused<R: AllocGlobal + Clock + Files<File = File>>(rt: &R, path: &str) -> bool {
-    let reading = match open_locked(rt, path, false, NO_FOLDER) {
+    let reading = match open_locked(rt.alloc(), &mut Host::new(rt), path, false, NO_FOLDER) {
         Err(OpenFault::NoVolume) => true,
         _ => false,
     };
-    let writing = match open_locked(rt, path, true, NO_FOLDER) {
+    let writing = match open_locked(rt.alloc(), &mut Host::new(rt), path, true, NO_FOLDER) {
         Err(OpenFault::NoVolume) => true,
         _ => false,
     };
@@ -55,7 +55,7 @@ fn what_is_no_volume(rt: HostRuntime) -> Result<(), Fail> {
     }
     let file = format!(in alloc; "{top}/v")?;
     let file = file.as_str();
-    let missing = match open_locked(&rt, file, false, NO_FOLDER) {
+    let missing = match open_locked(rt.alloc(), &mut Host::new(&rt), file, false, NO_FOLDER) {
         Err(OpenFault::File(error)) => error.kind() == ErrorKind::NotFound,
         _ => false,
     };

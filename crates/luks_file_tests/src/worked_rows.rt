@@ -1,6 +1,6 @@
 //! The worked rows of edits and of formatting, each run over files: what is printed, the status, and the
 //! bytes that are left of the volume's file.
-use crate::commands::{Given, counted_from, run};
+use crate::commands::{Given, counted_from, run, says_no_more};
 use crate::rows::{ADDING, CHANGING, LUKS1, ROOMS};
 use crate::volume_files::{Before, has_sum};
 use luks_samples::new_folder;
@@ -50,7 +50,7 @@ fn comes_true<R: AllocGlobal + Clock + Files<File = File>>(
     };
     let found = run(rt, folder, words, given)?;
     let (printed, said, status) = answer;
-    let answered = found.says(printed, said, status);
+    let answered = found.is(printed, status) && says_no_more(&found, said);
     Ok((answered, has_sum(rt, path.as_str(), sum)?))
 }
 

@@ -2,7 +2,7 @@
 ghost use Rattle.std.specs.Prelude.{◌≤◌};
 
 use luks_area::MemDevice;
-use luks_leftovers::{FrontFault, Leftover, note_leftovers, read_front};
+use luks_leftovers::{FrontFault, Leftover, leftovers, note_leftovers, read_front};
 use luks_test_devices::{Fields, TEXT, TakenMemory, UUID, copy_of, put};
 use std::alloc::{AllocError, Global};
 use std::test::Fail;
@@ -42,8 +42,9 @@ fn is_said(alloc: Global, bytes: &[u8], own: usize, owed: &str) -> Result<bool, 
     let Ok(front) = read_front(alloc, &mut device) else {
         return Ok(false);
     };
-    note_leftovers(alloc, &front, own, "v", &mut err)?;
-    Ok(err.as_slice() == owed.as_bytes() && device.contents() == bytes)
+    let found = leftovers(alloc, &front, own)?;
+    let said = note_leftovers(found.as_slice(), "v", 0, &mut err);
+    Ok(said.is_ok() && err.as_slice() == owed.as_bytes() && device.contents() == bytes)
 }
 
 const ALL: &str = "luks: v: left at byte 16384: the second copy of an older LUKS2 header

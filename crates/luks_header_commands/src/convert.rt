@@ -14,16 +14,17 @@ use luks_commands::{
 };
 use luks_converting::{CONVERT_RANDOM, ConvertFault, convert};
 use luks_reading::{Data, Device};
-use luks_request::Converting;
+use luks_request::{Converting, Place};
 use std::alloc::Global;
 use std::io::{Read, Write};
 
-/// Makes a detached LUKS2 header of the volume of this name on the target, and prints that it is
-/// done; answers the exit status. The random bytes are read last.
+/// Makes a detached LUKS2 header of the volume of this name, at this place of it, on the target, and
+/// prints that it is done; answers the exit status. The random bytes are read last.
 pub fn run<D: Device, R: Read, N: Read, P: Printer, E: Write>(
     alloc: Global,
     inputs: &mut Inputs<D, R, N>,
     name: &str,
+    place: Place,
     converting: &Converting<'_>,
     out: &mut P,
     err: &mut E,
@@ -56,6 +57,7 @@ pub fn run<D: Device, R: Read, N: Read, P: Printer, E: Write>(
         target: converting.target,
         random: converting.random,
         needed: CONVERT_RANDOM,
+        place,
     };
     let conversion = Conversion {
         files: &files,
@@ -129,7 +131,7 @@ fn not_converted<E: Write>(
 /// payload's device isn't known.
 fn note_next<E: Write>(files: &HeaderFiles<'_>, data_: Data, err: &mut E) {
     let device = match data_ {
-        Data::Here => files.volume,
+        Data::Here => files.payload_device(),
         Data::Elsewhere => "DEVICE",
     };
     let target = files.target;

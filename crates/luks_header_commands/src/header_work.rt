@@ -12,6 +12,7 @@ ghost use Rattle.luks_header_commands.specs.Target.{Pair, pair_of, SettlesTarget
 
 use luks_commands::{Answer, InputFault, Inputs, Reason, Refusal, Status, random_bytes, unread};
 use luks_reading::Device;
+use luks_request::Place;
 use std::alloc::Global;
 use std::io::{Read, Write};
 
@@ -33,6 +34,20 @@ pub(crate) struct HeaderFiles<'a> {
     pub(crate) random: &'a str,
     /// How many of these are needed.
     pub(crate) needed: u64,
+    /// Which bytes of its file the volume is.
+    pub(crate) place: Place,
+}
+
+impl<'a> HeaderFiles<'a> {
+    /// What has the payload of the volume from its first byte on: its file, or a device that is made
+    /// where the volume begins further in.
+    pub(crate) fn payload_device(&self) -> &'a str {
+        if self.place.offset == 0 {
+            self.volume
+        } else {
+            "DEVICE"
+        }
+    }
 }
 
 /// What is done once all files are there: a header is made of the volume on the target.

@@ -15,16 +15,18 @@ use luks_commands::{
 };
 use luks_reading::Device;
 use luks_rebuilding::{REBUILD_RANDOM, RebuildFault, Which, rebuild};
-use luks_request::Rebuilding;
+use luks_request::{Place, Rebuilding};
 use std::alloc::Global;
 use std::io::{Read, Write};
 
-/// Makes a detached LUKS2 header out of metadata that is still whole in the volume of this name on the
-/// target, and prints that it is done; answers the exit status. The random bytes are read last.
+/// Makes a detached LUKS2 header out of metadata that is still whole in the volume of this name, at this
+/// place of it, on the target, and prints that it is done; answers the exit status. The random bytes
+/// are read last.
 pub fn run<D: Device, R: Read, N: Read, P: Printer, E: Write>(
     alloc: Global,
     inputs: &mut Inputs<D, R, N>,
     name: &str,
+    place: Place,
     rebuilding: &Rebuilding<'_>,
     out: &mut P,
     err: &mut E,
@@ -59,6 +61,7 @@ pub fn run<D: Device, R: Read, N: Read, P: Printer, E: Write>(
         target: rebuilding.target,
         random: rebuilding.random,
         needed: REBUILD_RANDOM,
+        place,
     };
     let making = Making {
         files: &files,
@@ -139,13 +142,13 @@ fn which_of(second: bool) -> Which
 
 /// Says what the header lacks, and how the payload is opened by it.
 fn note_next<E: Write>(files: &HeaderFiles<'_>, err: &mut E) {
-    let (volume, target) = (files.volume, files.target);
+    let (device, target) = (files.payload_device(), files.target);
     let _ = writeln!(
         err,
         "luks: the label is empty; luks show {target} lists the keyslots"
     );
     let _ = writeln!(
         err,
-        "luks: cryptsetup open --header {target} {volume} NAME opens it"
+        "luks: cryptsetup open --header {target} {device} NAME opens it"
     );
 }

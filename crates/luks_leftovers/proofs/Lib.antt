@@ -1,2 +1,4 @@
 pub mod BehindZerosFacts
 pub mod EndFacts
+pub mod ThoseFacts
+pub mod NotedFacts

@@ -2,3 +2,4 @@ pub mod BehindZeros
 pub mod FrontFailures
 pub mod HeaderEnd
 pub mod Leftovers
+pub mod Noted

@@ -1,5 +1,5 @@
 //! What may be left, and whether it is.
-ghost use Rattle.std.specs.Prelude.{◌≡◌, ◌↔◌, ◌≤◌, length, IfOk, IsTrue};
+ghost use Rattle.std.specs.Prelude.{◌≡◌, ◌↔◌, ◌≤◌, length, IfOk, IsTrue, Some};
 ghost use Rattle.luks_area.specs.Ranges.{part};
 ghost use Rattle.luks_head.specs.Header2.{IsSound};
 ghost use Rattle.luks_leftovers.specs.BehindZeros.{behind_zeros};
@@ -82,6 +82,10 @@ fn cut(front: &[u8], place: usize, len: usize) -> &[u8]
 }
 
 impl fmt::Display for Leftover {
+    ghost use Rattle.luks_leftovers.specs.Noted.{leftover_text};
+
+    ghost output = { λ leftover. Some (leftover_text leftover) };
+
     fn fmt<W: fmt::Write>(&self, f: &mut fmt::Formatter<W>) -> fmt::Result {
         match self {
             Leftover::SecondCopy(place) => {

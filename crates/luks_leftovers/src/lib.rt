@@ -10,4 +10,4 @@ mod noted;
 pub use ending::header_end;
 pub use front::{FrontFault, read_front};
 pub use leftover::Leftover;
-pub use noted::note_leftovers;
+pub use noted::{leftovers, note_leftovers};

@@ -19,7 +19,7 @@ pub enum Asked<'a> {
 /// Reads a command line, of which the first word is the program's name.
 ///
 /// The fault is that of `clap`: a mistake in the words, a request for help, or memory that was
-/// refused.
+/// refused. No clause says what words mean: `luks_line_transcript` tests it, and of `line` likewise.
 pub fn parse<'a>(alloc: Global, words: &'a [&'a str]) -> Result<Asked<'a>, Error> {
     let mut program = program(alloc, true)?;
     let matches = match program.try_get_matches_from_mut(words) {

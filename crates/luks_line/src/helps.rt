@@ -8,11 +8,12 @@ pub(crate) const PROGRAM: &str =
     "Checks and lists the header of a LUKS volume, and manages its keyslots";
 
 pub(crate) const PROGRAM_MORE: &str = "\
-A volume is a device, an image, or the detached header of one. The commands
-check, show and open write nothing; the others write to the header and to the
-areas of the keyslots that they name, format over whatever stands there, and
-convert and rebuild to another file. None reads the data. explain says what a
-fault means.
+A volume is a device, an image, or the detached header of one; with --offset and
+--length it is the bytes of a disk or an image where it lies, and no other byte
+of that changes. The commands check, show and open write nothing; the others
+write to the header and to the areas of the keyslots that they name, format over
+whatever stands there, and convert and rebuild to another file. None reads the
+data. explain says what a fault means.
 
 Each command prints its answer on standard output, in the lines that its help
 lists: luks COMMAND --help. What stops it is an answer too: 'refused FAULT',

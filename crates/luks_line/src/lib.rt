@@ -2,15 +2,19 @@
 //! the texts of its help.
 #![tactic(auto)]
 
+mod choices;
 mod command_line;
+mod commands;
 mod helps;
 mod manner;
+mod operands;
+mod options;
 mod program;
 mod requests;
-mod words;
+mod takes;
 
 pub use command_line::{Asked, line, parse};
 pub use luks_request::{
-    Command, Converting, EditRequest, Editing, Line, Making, NewVersion, Rebuilding, ShowAs,
+    Command, Converting, EditRequest, Editing, Line, Making, NewVersion, Place, Rebuilding, ShowAs,
 };
 pub use manner::Manner;

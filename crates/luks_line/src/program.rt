@@ -1,7 +1,11 @@
 //! The program and its commands, as `clap` reads them.
 
+use crate::choices::ChoiceRow;
+use crate::commands::{Described, commands};
 use crate::helps;
-use crate::words::{ChoiceRow, Described, OperandRow, OptionRow, Takes, commands};
+use crate::operands::OperandRow;
+use crate::options::OptionRow;
+use crate::takes::Takes;
 use clap::{Arg, ArgGroup, Command};
 use std::alloc::{AllocError, Global};
 

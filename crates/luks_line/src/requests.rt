@@ -4,7 +4,7 @@ use clap::ArgMatches;
 use luks_kdf::HashName;
 use luks_reading::Data;
 use luks_request::{
-    Command, Converting, EditRequest, Editing, Line, Making, NewVersion, Rebuilding, ShowAs,
+    Command, Converting, EditRequest, Editing, Line, Making, NewVersion, Place, Rebuilding, ShowAs,
 };
 use luks_terms::Format;
 
@@ -12,6 +12,7 @@ use luks_terms::Format;
 pub(crate) fn line_of<'a>(name: &str, given: &ArgMatches<'a>) -> Option<Line<'a>> {
     Some(Line {
         volume: volume_of(given)?,
+        place: place_of(given)?,
         command: command_of(name, given)?,
     })
 }
@@ -19,6 +20,14 @@ pub(crate) fn line_of<'a>(name: &str, given: &ArgMatches<'a>) -> Option<Line<'a>
 /// The volume, which two commands call the source.
 fn volume_of<'a>(given: &ArgMatches<'a>) -> Option<&'a str> {
     given.get_str("VOLUME").or(given.get_str("SOURCE"))
+}
+
+/// Which bytes of its file are the volume.
+fn place_of(given: &ArgMatches<'_>) -> Option<Place> {
+    Some(Place {
+        offset: given.get_one::<u64>("offset")?,
+        length: given.get_one::<u64>("length"),
+    })
 }
 
 fn command_of<'a>(name: &str, given: &ArgMatches<'a>) -> Option<Command<'a>> {

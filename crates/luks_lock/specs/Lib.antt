@@ -1,4 +1,6 @@
+pub mod Hosts
 pub mod Lazy
 pub mod Locked
 pub mod Node
 pub mod Notices
+pub mod System

@@ -1,10 +1,8 @@
 ghost use Rattle.std.specs.Prelude.{◌≡◌, IsTrue};
 
 use crate::node::Node;
-use std::fs::{self, File};
+use crate::system::{Found, Kind, System};
 use std::io;
-use std::os::unix::fs::{FileTypeExt, MetadataExt};
-use std::rt::Files;
 
 /// What tells a file from every other one, by whichever of its names it is looked up.
 #[derive(Debug, Clone, Copy, PartialEq, Eq)]
@@ -23,28 +21,30 @@ enum Identity {
 impl Identity {
     /// That of the file of this name; of a symbolic link that of the file it leads to. The file isn't
     /// opened.
-    fn find<R: Files<File = File>>(rt: &R, path: &str) -> io::Result<Identity> {
-        let found = fs::metadata(rt, path)?;
-        if found.file_type().is_block_device() {
-            return Ok(Identity::Block(Node::of(found.rdev())));
+    fn find<S: System>(system: &mut S, path: &str) -> io::Result<Identity> {
+        let Found {
+            kind,
+            system,
+            inode,
+            device,
+        } = system.stat(path)?;
+        if kind == Kind::Block {
+            return Ok(Identity::Block(Node::of(device)));
         }
-        Ok(Identity::File {
-            system: found.dev(),
-            inode: found.ino(),
-        })
+        Ok(Identity::File { system, inode })
     }
 }
 
 /// Whether both names are of one file: they are equal, or lead to one file by symbolic or hard links,
 /// or to one block device by two nodes. Where one of them leads to no file, they aren't. No file is
 /// opened.
-pub fn is_same_file<R: Files<File = File>>(rt: &R, one: &str, other: &str) -> bool
+pub fn is_same_file<S: System>(system: &mut S, one: &str, other: &str) -> bool
     ensures { one.now ≡ other.now → IsTrue result }
 {
     if one == other {
         return true;
     }
-    match (Identity::find(rt, one), Identity::find(rt, other)) {
+    match (Identity::find(system, one), Identity::find(system, other)) {
         (Ok(one), Ok(other)) => one == other,
         _ => false,
     }

@@ -1,7 +1,7 @@
 ghost use Rattle.std.specs.Prelude.{◌≡◌, None, IsSome, OnOk};
 ghost use Rattle.std.specs.Io.{ReadsAtMost};
 ghost use Rattle.std.specs.Io.KnownBytes.{ReadConsumes};
-ghost use Rattle.luks_lock.specs.Lazy.{opened_file};
+ghost use Rattle.luks_lock.specs.Lazy.{file_name, opened_file};
 
 use std::fs::File;
 use std::io::{self, Read};
@@ -22,7 +22,8 @@ pub struct LazyFile<'a, R: Files> {
 impl<'a, R: Files> LazyFile<'a, R> {
     /// The file of this name, to be read from its beginning. It isn't looked at yet.
     pub fn new(rt: &'a R, path: &'a str) -> Self
-        ensures { opened_file result ≡ None }
+        ensures opened { opened_file result ≡ None }
+        ensures name { file_name result ≡ path.entry.now }
     {
         LazyFile {
             rt,
@@ -37,6 +38,7 @@ impl<R: Files> Read for LazyFile<'_, R> {
         ensures bound { ReadsAtMost result buf.new }
         ensures bytes { ReadConsumes None None result buf.new }
         ensures opened { OnOk result (IsSome (opened_file self.new)) }
+        ensures name { file_name self.new ≡ file_name self.old }
     {
         let file = match self.file.take() {
             Some(file) => file,

@@ -1,9 +1,9 @@
 ghost use Rattle.std.specs.Prelude.{◌≡◌, ◌↔◌, ◌⊎◌, IsTrue};
-ghost use Rattle.luks_lock.specs.Locked.{IsHeldByAnother};
+ghost use Rattle.luks_lock.specs.Locked.{IsHeldByAnother, edited_notices, other_notices};
 
-use crate::asking::{Answer, Share};
 use crate::names::Named;
 use crate::notice::Notice;
+use crate::system::{Answer, Share};
 use luks_area::{Device, DeviceFault};
 
 /// What was answered when a volume's lock was asked for. It is let go where this is.
@@ -26,7 +26,10 @@ impl Lock {
     }
 
     /// What a person is to know of a lock that isn't held, in the order in which it is said.
-    pub fn notices(&self) -> [Option<Notice>; 2] {
+    pub fn notices(&self) -> [Option<Notice>; 2]
+        ensures taken { IsHeldByAnother self.now → result ≡ edited_notices }
+        ensures other { (IsHeldByAnother self.now → ⊥) → result ≡ other_notices self.now }
+    {
         if self.is_taken() {
             return [Some(Notice::Edited), None];
         }

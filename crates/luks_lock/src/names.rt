@@ -1,9 +1,12 @@
-use crate::asking::{Answer, Share, ask};
+ghost use Rattle.std.specs.Prelude.{◌≡◌, ◌≢◌};
+ghost use Rattle.luks_lock.specs.Locked.{IsOfName};
+ghost use Rattle.luks_lock.specs.declared.names.Named.TheVariants as named;
+
 use crate::node::Node;
-use std::fs::{self, DirBuilder, File, OpenOptions};
+use crate::system::{Access, Answer, Found, Kind, Share, System};
+use std::alloc::Global;
+use std::fs::File;
 use std::io::{self, ErrorKind};
-use std::os::unix::fs::{DirBuilderExt, MetadataExt, OpenOptionsExt};
-use std::rt::Files;
 
 /// What became of the lock on the file that stands for a block device.
 #[derive(Drop)]
@@ -25,65 +28,80 @@ pub enum Named {
 ///
 /// cryptsetup removes the file when it lets go, and a lock on a removed file is worth nothing: so the
 /// name is looked up again, and where it is no longer this file, the lock isn't held.
-pub fn hold_name<R: AllocGlobal + Files<File = File>>(
-    rt: &R,
+pub fn hold_name<S: System>(
+    alloc: Global,
+    system: &mut S,
     folder: &str,
     node: Node,
     share: Share,
-) -> Named {
-    let Ok(path) = format!(in rt.alloc(); "{folder}/{node}") else {
+) -> Named
+    ensures needed { result ≢ named.Unneeded }
+    ensures answered { IsOfName share (S.last system.old) (S.last system.new) result }
+{
+    let Ok(path) = format!(in alloc; "{folder}/{node}") else {
         return Named::Unheld;
     };
-    if !is_folder(rt, folder) {
+    if !is_folder(system, folder) {
         return Named::Unheld;
     }
-    let file = match open_name(rt, path.as_str()) {
-        Ok(file) => file,
-        Err(ErrorKind::NotFound | ErrorKind::AlreadyExists) => return Named::Taken,
-        Err(_) => return Named::Unheld,
-    };
-    match ask(&file, share) {
-        Answer::Held if is_at(rt, &file, path.as_str()) => Named::Held(file),
+    match open_name(system, path.as_str()) {
+        Ok(file) => hold_file(system, file, path.as_str(), share),
+        Err(ErrorKind::NotFound | ErrorKind::AlreadyExists) => Named::Taken,
+        Err(_) => Named::Unheld,
+    }
+}
+
+/// Asks once for the lock on this file, and looks then whether the name is still its.
+fn hold_file<S: System>(system: &mut S, file: File, path: &str, share: Share) -> Named
+    ensures needed { result ≢ named.Unneeded }
+    ensures answered { IsOfName share (S.last system.old) (S.last system.new) result }
+{
+    match system.flock(&file, share) {
+        Answer::Held if is_at(system, &file, path) => Named::Held(file),
         Answer::Held | Answer::Taken => Named::Taken,
         Answer::Unknown => Named::Unheld,
     }
 }
 
 /// Whether the folder is there; it is made where it is missing.
-fn is_folder<R: Files<File = File>>(rt: &R, folder: &str) -> bool {
-    let _made = DirBuilder::new().mode(0o700).create(rt, folder);
-    match fs::symlink_metadata(rt, folder) {
-        Ok(found) => found.is_dir(),
+fn is_folder<S: System>(system: &mut S, folder: &str) -> bool
+    ensures { S.last system.new ≡ S.last system.old }
+{
+    system.mkdir(folder);
+    match system.lstat(folder) {
+        Ok(found) => found.kind == Kind::Folder,
         Err(_) => false,
     }
 }
 
 /// Opens the file of this name, or makes it. What isn't a regular file is refused, a symbolic link
 /// too.
-fn open_name<R: Files<File = File>>(rt: &R, path: &str) -> Result<File, ErrorKind> {
-    let mut options = OpenOptions::new();
-    let options = options.read(true).write(true).mode(0o600);
-    match fs::symlink_metadata(rt, path) {
-        Ok(found) if found.is_file() => {}
+fn open_name<S: System>(system: &mut S, path: &str) -> Result<File, ErrorKind>
+    ensures { S.last system.new ≡ S.last system.old }
+{
+    let access = match system.lstat(path) {
+        Ok(found) if found.kind == Kind::Regular => Access::Write,
         Ok(_) => return Err(ErrorKind::InvalidInput),
-        Err(error) if error.kind() == ErrorKind::NotFound => {
-            let _new = options.create_new(true);
-        }
+        Err(error) if error.kind() == ErrorKind::NotFound => Access::Make,
         Err(error) => return Err(error.kind()),
-    }
-    options.open(rt, path).map_err(|error| error.kind())
+    };
+    system.open(path, access).map_err(|error| error.kind())
 }
 
 /// Whether the name is that of this file still.
-fn is_at<R: Files<File = File>>(rt: &R, file: &File, path: &str) -> bool {
-    match same_file(rt, file, path) {
+fn is_at<S: System>(system: &mut S, file: &File, path: &str) -> bool
+    ensures { S.last system.new ≡ S.last system.old }
+{
+    match same_file(system, file, path) {
         Ok(same) => same,
         Err(_) => false,
     }
 }
 
-fn same_file<R: Files<File = File>>(rt: &R, file: &File, path: &str) -> io::Result<bool> {
-    let held = file.metadata()?;
-    let named = fs::symlink_metadata(rt, path)?;
-    Ok(held.dev() == named.dev() && held.ino() == named.ino())
+fn same_file<S: System>(system: &mut S, file: &File, path: &str) -> io::Result<bool>
+    ensures { S.last system.new ≡ S.last system.old }
+{
+    let held: Found = system.fstat(file)?;
+    let named: Found = system.lstat(path)?;
+    Ok(held.system == named.system && held.inode == named.inode)
 }

@@ -1,18 +1,16 @@
 ghost use Rattle.std.specs.Prelude.{◌≡◌, IfOk, IsTrue};
 ghost use Rattle.luks_area.specs.Files.{file_failures};
-ghost use Rattle.luks_lock.specs.Locked.{IsHeldByAnother, device_inside, lock_of, share_for};
+ghost use Rattle.luks_lock.specs.Locked.{IsAnswered, IsHeldByAnother, device_inside, lock_of, share_for};
 
-use crate::asking::{Answer, Share, ask};
 use crate::locked::{Lock, LockedDevice};
 use crate::names::{Named, hold_name};
 use crate::node::Node;
 use crate::read_only::is_read_only;
+use crate::system::{Access, Answer, Kind, Share, System};
 use luks_area::FileDevice;
-use std::fs::{self, File, OpenOptions};
-use std::os::unix::fs::{FileTypeExt, MetadataExt};
-use std::rt::{Clock, Files};
-use std::time::Duration;
-use std::{io, thread};
+use std::alloc::Global;
+use std::fs::File;
+use std::io;
 
 /// Where cryptsetup's files stand for block devices.
 pub const FOLDER: &str = "/run/cryptsetup";
@@ -53,83 +51,100 @@ impl From<io::Error> for OpenFault {
 /// written is asked to settle first what an earlier program may have left unsettled. A block device that
 /// is read-only isn't opened to be written, though the system would open it. A file of another kind, as a folder or a pipe, has no length, and isn't opened at all: opening a pipe would wait for
 /// its writer. `folder` has the files that stand for block devices.
-pub fn open_locked<R: AllocGlobal + Clock + Files<File = File>>(
-    rt: &R,
+pub fn open_locked<S: System>(
+    alloc: Global,
+    system: &mut S,
     path: &str,
     writes: bool,
     folder: &str,
 ) -> Result<LockedDevice<FileDevice<File>>, OpenFault>
     ensures alone { IsTrue writes → IfOk result (λ device. IsHeldByAnother (lock_of device) → ⊥) }
     ensures share { IfOk result (λ device. (lock_of device).share ≡ share_for writes) }
+    ensures answered { IfOk result (λ device. IsAnswered (lock_of device) (S.last system.new)) }
     ensures count { IfOk result (λ device. file_failures (device_inside device) ≡ 0) }
 {
-    let kind = fs::metadata(rt, path)?.file_type();
-    if !kind.is_file() && !kind.is_block_device() {
+    let kind = system.stat(path)?.kind;
+    if kind != Kind::Regular && kind != Kind::Block {
         return Err(OpenFault::NoVolume);
     }
-    let file = OpenOptions::new().read(true).write(writes).open(rt, path)?;
-    let share = if writes {
-        Share::Exclusive
-    } else {
-        Share::Shared
-    };
-    let node = block_node(&file)?;
-    if writes && node.is_some_and(|node| is_read_only(rt, node)) {
+    let file = system.open(path, access_for(writes))?;
+    let node = block_node(system, &file)?;
+    if writes && node.is_some_and(|node| is_read_only(alloc, system, node)) {
         return Err(OpenFault::ReadOnly);
     }
-    let lock = hold(rt, &file, node, share, folder);
+    let lock = hold(alloc, system, &file, node, share_of(writes), folder);
     if writes && lock.is_taken() {
         return Err(OpenFault::Edited);
     }
     if writes {
-        file.sync_all()?;
+        system.fsync(&file)?;
     }
     Ok(LockedDevice::new(FileDevice::new(file)?, lock))
 }
 
+/// For what a volume is opened.
+fn access_for(writes: bool) -> Access {
+    if writes { Access::Write } else { Access::Read }
+}
+
+/// How its lock is asked for.
+fn share_of(writes: bool) -> Share
+    ensures { result ≡ share_for writes }
+{
+    if writes {
+        Share::Exclusive
+    } else {
+        Share::Shared
+    }
+}
+
 /// The numbers of a block device; none of a regular file.
-fn block_node(file: &File) -> io::Result<Option<Node>> {
-    let found = file.metadata()?;
-    if found.file_type().is_block_device() {
-        Ok(Some(Node::of(found.rdev())))
+fn block_node<S: System>(system: &mut S, file: &File) -> io::Result<Option<Node>> {
+    let found = system.fstat(file)?;
+    if found.kind == Kind::Block {
+        Ok(Some(Node::of(found.device)))
     } else {
         Ok(None)
     }
 }
 
 /// Asks for the lock until no other program holds it, for at most 3 s.
-fn hold<R: AllocGlobal + Clock + Files<File = File>>(
-    rt: &R,
+fn hold<S: System>(
+    alloc: Global,
+    system: &mut S,
     file: &File,
     node: Option<Node>,
     share: Share,
     folder: &str,
 ) -> Lock
-    ensures { result.share ≡ share }
+    ensures share { result.share ≡ share }
+    ensures answered { IsAnswered result (S.last system.new) }
 {
     for _ in 1..TRIES {
-        let lock = hold_once(rt, file, node, share, folder);
+        let lock = hold_once(alloc, system, file, node, share, folder);
         if !lock.is_taken() {
             return lock;
         }
-        thread::sleep(rt, Duration::from_millis(PAUSE));
+        system.sleep(PAUSE);
     }
-    hold_once(rt, file, node, share, folder)
+    hold_once(alloc, system, file, node, share, folder)
 }
 
 /// Asks once for the lock of the file or node, and of a block device for that of its name.
-fn hold_once<R: AllocGlobal + Files<File = File>>(
-    rt: &R,
+fn hold_once<S: System>(
+    alloc: Global,
+    system: &mut S,
     file: &File,
     node: Option<Node>,
     share: Share,
     folder: &str,
 ) -> Lock
-    ensures { result.share ≡ share }
+    ensures share { result.share ≡ share }
+    ensures answered { IsAnswered result (S.last system.new) }
 {
-    let answer = ask(file, share);
+    let answer = system.flock(file, share);
     let name = match node {
-        Some(node) if answer != Answer::Taken => hold_name(rt, folder, node, share),
+        Some(node) if answer != Answer::Taken => hold_name(alloc, system, folder, node, share),
         _ => Named::Unneeded,
     };
     Lock {

@@ -1,7 +1,9 @@
-//! Tests of locks and of what an edit compares before it writes, over files in a temporary folder and
-//! a device in memory. They stand here so that no crate is proved a second time for them.
+//! Tests of locks, of the calls that they make, and of what an edit compares before it writes, over files in
+//! a temporary folder and a device in memory. They stand here so that no crate is proved a second time for them.
 #![tactic(auto)]
 
+#[cfg(test)]
+mod calls;
 #[cfg(test)]
 mod changed_meanwhile;
 #[cfg(test)]

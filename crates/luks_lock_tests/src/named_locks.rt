@@ -1,5 +1,5 @@
 //! The locks of the files that stand for block devices.
-use luks_lock::{Answer, Lock, Named, Node, Notice, Share, ask, hold_name};
+use luks_lock::{Answer, Found, Host, Kind, Lock, Named, Node, Notice, Share, System, hold_name};
 use luks_samples::new_folder;
 use std::fs::{self, File, OpenOptions};
 use std::os::unix::fs::{MetadataExt, symlink};
@@ -40,18 +40,24 @@ fn a_named_lock_keeps_others_out(rt: HostRuntime) -> Result<(), Fail> {
     let top = new_folder(&rt, "named")?;
     let folder = format!(in rt.alloc(); "{top}/cryptsetup")?;
     let folder = folder.as_str();
-    let held = hold_name(&rt, folder, LOOP, Share::Exclusive);
+    let held = hold_name(
+        rt.alloc(),
+        &mut Host::new(&rt),
+        folder,
+        LOOP,
+        Share::Exclusive,
+    );
     assert!(rt; matches!(held, Named::Held(_)), "made and held");
     let mode = fs::symlink_metadata(&rt, folder)?.mode() % 0o1000;
     assert!(rt; mode == 0o700, "the folder's mode");
     let path = format!(in rt.alloc(); "{folder}/L_7:0")?;
     let mode = fs::symlink_metadata(&rt, path.as_str())?.mode() % 0o1000;
     assert!(rt; mode == 0o600, "the file's mode");
-    let other = hold_name(&rt, folder, LOOP, Share::Shared);
+    let other = hold_name(rt.alloc(), &mut Host::new(&rt), folder, LOOP, Share::Shared);
     assert!(rt; matches!(other, Named::Taken), "not shared with it");
     drop(held);
-    let one = hold_name(&rt, folder, LOOP, Share::Shared);
-    let two = hold_name(&rt, folder, LOOP, Share::Shared);
+    let one = hold_name(rt.alloc(), &mut Host::new(&rt), folder, LOOP, Share::Shared);
+    let two = hold_name(rt.alloc(), &mut Host::new(&rt), folder, LOOP, Share::Shared);
     assert!(rt;
         matches!(one, Named::Held(_)) && matches!(two, Named::Held(_)),
         "shared by two"
@@ -69,12 +75,24 @@ fn no_symbolic_link_is_followed(rt: HostRuntime) -> Result<(), Fail> {
     fs::write(&rt, aim.as_str(), "aim")?;
     let path = format!(in rt.alloc(); "{folder}/L_7:0")?;
     symlink(&rt, aim.as_str(), path.as_str())?;
-    let named = hold_name(&rt, folder.as_str(), LOOP, Share::Exclusive);
+    let named = hold_name(
+        rt.alloc(),
+        &mut Host::new(&rt),
+        folder.as_str(),
+        LOOP,
+        Share::Exclusive,
+    );
     assert!(rt; matches!(named, Named::Unheld), "a file that is a link");
     let path = format!(in rt.alloc(); "{top}/link")?;
     symlink(&rt, folder.as_str(), path.as_str())?;
     let other = Node { major: 7, minor: 1 };
-    let named = hold_name(&rt, path.as_str(), other, Share::Exclusive);
+    let named = hold_name(
+        rt.alloc(),
+        &mut Host::new(&rt),
+        path.as_str(),
+        other,
+        Share::Exclusive,
+    );
     assert!(rt; matches!(named, Named::Unheld), "a folder that is a link");
     fs::remove_dir_all(&rt, top.as_str())?;
     Ok(())
@@ -90,17 +108,16 @@ fn a_lock_is_held_by_the_open_file(rt: HostRuntime) -> Result<(), Fail> {
         .write(true)
         .open(&rt, path.as_str())?;
     let two = File::open(&rt, path.as_str())?;
-    assert!(rt; ask(&one, Share::Exclusive) == Answer::Held, "held");
-    assert!(rt;
-        ask(&one, Share::Exclusive) == Answer::Held,
-        "asked for again"
-    );
-    assert!(rt;
-        ask(&two, Share::Shared) == Answer::Taken,
-        "not shared with it"
-    );
+    let mut host = Host::new(&rt);
+    let held = host.flock(&one, Share::Exclusive) == Answer::Held;
+    assert!(rt; held, "held");
+    let again = host.flock(&one, Share::Exclusive) == Answer::Held;
+    assert!(rt; again, "asked for again");
+    let taken = host.flock(&two, Share::Shared) == Answer::Taken;
+    assert!(rt; taken, "not shared with it");
     drop(one);
-    assert!(rt; ask(&two, Share::Exclusive) == Answer::Held, "let go");
+    let held = host.flock(&two, Share::Exclusive) == Answer::Held;
+    assert!(rt; held, "let go");
     fs::remove_dir_all(&rt, top.as_str())?;
     Ok(())
 }
@@ -125,4 +142,43 @@ fn tells_which_lock_is_not_held(rt: HostRuntime) {
         taken.is_taken() && taken.notices() == [Some(Notice::Edited), None],
         "the name is another program's"
     );
+}
+
+// The number of /dev/null is 1:3 ("Linux allocated devices").
+#[test]
+fn what_the_system_tells_of_a_file(rt: HostRuntime) -> Result<(), Fail> {
+    let top = new_folder(&rt, "told")?;
+    let path = format!(in rt.alloc(); "{top}/v")?;
+    let path = path.as_str();
+    fs::write(&rt, path, "v")?;
+    let link = format!(in rt.alloc(); "{top}/link")?;
+    symlink(&rt, path, link.as_str())?;
+    let owed = fs::metadata(&rt, path)?;
+    let mut host = Host::new(&rt);
+    let found = host.stat(link.as_str())?;
+    let Found {
+        kind,
+        system,
+        inode,
+        device: _,
+    } = found;
+    assert!(rt;
+        kind == Kind::Regular && system == owed.dev() && inode == owed.ino(),
+        "a file by a link"
+    );
+    let linked = host.lstat(link.as_str())?;
+    assert!(rt;
+        linked.kind == Kind::Other && linked.inode != inode,
+        "the link"
+    );
+    let opened = host.fstat(&File::open(&rt, path)?)?;
+    assert!(rt; opened == found, "the open file");
+    assert!(rt; host.stat(top.as_str())?.kind == Kind::Folder, "a folder");
+    let null = host.stat("/dev/null")?;
+    assert!(rt;
+        null.kind == Kind::Other && null.device == 0x103,
+        "a device"
+    );
+    fs::remove_dir_all(&rt, top.as_str())?;
+    Ok(())
 }

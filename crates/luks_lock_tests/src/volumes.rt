@@ -6,7 +6,7 @@ use luks_area::FileDevice;
 use luks_cache::CachedDevice;
 use luks_cli::{InputFault, Inputs, Reason};
 use luks_line::line;
-use luks_lock::{LockedDevice, Notice, OpenFault, open_locked};
+use luks_lock::{Host, LockedDevice, Notice, OpenFault, open_locked};
 use luks_samples::new_folder;
 use luks_sessions::run_words;
 use std::alloc::Global;
@@ -40,7 +40,7 @@ fn opened<R: AllocGlobal + Clock + Files<File = File>>(
 ) -> Result<CachedDevice<LockedDevice<FileDevice<File>>>, InputFault>
     ensures { IfOk result (λ device. cached_failures device ≡ 0) }
 {
-    match open_locked(rt, path, writes, NO_FOLDER) {
+    match open_locked(rt.alloc(), &mut Host::new(rt), path, writes, NO_FOLDER) {
         Ok(device) => CachedDevice::new(rt.alloc(), device).map_err(|_| InputFault::NoMemory),
         Err(OpenFault::Edited) => Err(InputFault::Unreadable(Reason::Edited)),
         Err(OpenFault::NoVolume) => Err(InputFault::Unreadable(Reason::NoVolume)),
@@ -120,14 +120,14 @@ fn readers_go_on_beside_an_edit(rt: HostRuntime) -> Result<(), Fail> {
     fs::write(&rt, path, "no volume")?;
     let editor = opened(&rt, path, true);
     assert!(rt; editor.is_ok(), "an edit is begun");
-    let noticed = match open_locked(&rt, path, false, NO_FOLDER) {
+    let noticed = match open_locked(rt.alloc(), &mut Host::new(&rt), path, false, NO_FOLDER) {
         Ok(device) => device.lock().notices() == [Some(Notice::Edited), None],
         Err(_) => false,
     };
     assert!(rt; noticed, "read, and told");
     assert!(rt; opened(&rt, path, true).is_err(), "no second edit");
     drop(editor);
-    let quiet = match open_locked(&rt, path, false, NO_FOLDER) {
+    let quiet = match open_locked(rt.alloc(), &mut Host::new(&rt), path, false, NO_FOLDER) {
         Ok(device) => device.lock().notices() == [None, None],
         Err(_) => false,
     };

@@ -19,3 +19,4 @@ pub mod FitsAndResolves
 pub mod KeyslotsTried
 pub mod Unlocking
 pub mod Agreement
+pub mod HeaderAnswers

@@ -9,14 +9,15 @@ ghost use Rattle.luks_head.specs.Header2.{uuid_field};
 ghost use Rattle.luks_meta.specs.Content.{content};
 ghost use Rattle.luks_meta.specs.Objects.{IsAccepted};
 ghost use Rattle.luks_reading.specs.Agreement.{Agrees};
-ghost use Rattle.luks_reading.specs.Answer.{AnswerWithin, IsRefusedByWithin, Opened, TakesMemory, opened_to};
+ghost use Rattle.luks_reading.specs.Answer.{AnswerWithin, IsRefusedByWithin, Opened, opened_to};
 ghost use Rattle.luks_reading.specs.ChosenCopies.{IsCleared};
 ghost use Rattle.luks_reading.specs.Luks1Keyslots.{Luks1Opens, Luks1Refused};
 ghost use Rattle.luks_reading.specs.Luks2Keyslots.{Luks2Opens, Luks2Refused};
 ghost use Rattle.luks_reading.specs.Failures.{is_open_failure};
-ghost use Rattle.luks_reading.specs.Header.{IsAcceptedHeader, IsHeader, TakesNoMemory};
+ghost use Rattle.luks_reading.specs.Header.{IsAcceptedHeader, TakesNoMemory};
+ghost use Rattle.luks_reading.specs.HeaderAnswers.{IsSlotOpening};
 ghost use Rattle.luks_reading.specs.PlanAnswers.{IsOpenable, PlanOpens, PlanRefused};
-ghost use Rattle.luks_reading.specs.Plans.{HasKeyBytes, HasLuks2KeyBytes};
+ghost use Rattle.luks_reading.specs.Plans.{HasLuks2KeyBytes};
 
 use crate::header::{Header, read_header};
 use crate::luks1_fields::{luks1_common, luks1_entry};
@@ -83,16 +84,8 @@ pub fn open_header_slot<D: Device>(
     ensures unchanged { IsUnchanged D.tells D.size D.bytes D.unsettled device.old device.new }
     ensures count { CountsFailure is_open_failure result
         (D.failed device.old) (D.failed device.new) }
-    ensures opens { D.tells → IsHeader (D.bytes device.old) header.now → IfOk result
-        (λ found. AnswerWithin memory (D.bytes device.old) n passphrase.now (opened_to found)) }
-    ensures refused { D.tells → IsHeader (D.bytes device.old) header.now
-        → IfErr result (IsRefusedByWithin memory (D.bytes device.old) n passphrase.now) }
-    ensures length { IfOk result
-        (λ found. IfSome found (λ key. HasKeyBytes header.now n (length key))) }
-    // Memory is refused only to a keyslot that takes it, and to none where none is allowed.
-    ensures memory { D.tells → IsHeader (D.bytes device.old) header.now
-        → IfErr result (λ f. f ≡ OpenFault.Memory → TakesMemory memory (D.bytes device.old) n) }
-    ensures no_memory { memory ≡ 0 → IfErr result (λ f. f ≢ OpenFault.Memory) }
+    ensures answers { IsSlotOpening D.tells (D.bytes device.old) header.now memory n passphrase.now
+        result }
 {
     let mut nearest = None;
     try_header_slot(alloc, device, header, n, passphrase, memory, &mut nearest)
@@ -115,16 +108,8 @@ pub fn try_header_slot<D: Device>(
     ensures unchanged { IsUnchanged D.tells D.size D.bytes D.unsettled device.old device.new }
     ensures count { CountsFailure is_open_failure result
         (D.failed device.old) (D.failed device.new) }
-    ensures opens { D.tells → IsHeader (D.bytes device.old) header.now → IfOk result
-        (λ found. AnswerWithin memory (D.bytes device.old) n passphrase.now (opened_to found)) }
-    ensures refused { D.tells → IsHeader (D.bytes device.old) header.now
-        → IfErr result (IsRefusedByWithin memory (D.bytes device.old) n passphrase.now) }
-    ensures length { IfOk result
-        (λ found. IfSome found (λ key. HasKeyBytes header.now n (length key))) }
-    // Memory is refused only to a keyslot that takes it, and to none where none is allowed.
-    ensures memory { D.tells → IsHeader (D.bytes device.old) header.now
-        → IfErr result (λ f. f ≡ OpenFault.Memory → TakesMemory memory (D.bytes device.old) n) }
-    ensures no_memory { memory ≡ 0 → IfErr result (λ f. f ≢ OpenFault.Memory) }
+    ensures answers { IsSlotOpening D.tells (D.bytes device.old) header.now memory n passphrase.now
+        result }
 {
     match header {
         Header::Luks1(bytes) => open_luks1(alloc, device, bytes.as_slice(), n, passphrase, nearest),

@@ -11,11 +11,10 @@ ghost use Rattle.luks_meta.specs.Objects.{IsAccepted};
 ghost use Rattle.luks_reading.specs.Agreement.{AgreesUnlocked};
 ghost use Rattle.luks_reading.specs.ChosenCopies.{IsCleared};
 ghost use Rattle.luks_reading.specs.Failures.{is_open_failure};
-ghost use Rattle.luks_reading.specs.Header.{IsAcceptedHeader, IsHeader, TakesNoMemory};
-ghost use Rattle.luks_reading.specs.Answer.{TakesMemory};
-ghost use Rattle.luks_reading.specs.PlanAnswers.{IsOfDevice};
-ghost use Rattle.luks_reading.specs.Plans.{HasKeyBytes, HasLuks2KeyBytes};
-ghost use Rattle.luks_reading.specs.KeyslotsTried.{is_of_rank, passed_over, rank_order, Luks1VolumeRefused, Luks1Tried, Luks1Tries, Luks2LacksMemory, Luks2Tried, Luks2Tries};
+ghost use Rattle.luks_reading.specs.Header.{IsAcceptedHeader, TakesNoMemory};
+ghost use Rattle.luks_reading.specs.HeaderAnswers.{IsHeaderUnlocking, IsLuks2Unlocking, Luks2Fails};
+ghost use Rattle.luks_reading.specs.Plans.{HasLuks2KeyBytes};
+ghost use Rattle.luks_reading.specs.KeyslotsTried.{is_of_rank, passed_over, rank_order, Luks1VolumeRefused, Luks1Tried, Luks1Tries, Luks2Tried};
 ghost use Rattle.luks_reading.specs.Unlocking.{luks2_order, IsVolumeRefusedBy, Unlocked, UnlockAnswer, Unlocks};
 
 use crate::header::{Header, read_header};
@@ -86,16 +85,8 @@ pub fn unlock_header<D: Device>(
     ensures unchanged { IsUnchanged D.tells D.size D.bytes D.unsettled device.old device.new }
     ensures count { CountsFailure is_open_failure result
         (D.failed device.old) (D.failed device.new) }
-    ensures unlocks { D.tells → IsHeader (D.bytes device.old) header.now
-        → IfOk result (Unlocks memory (D.bytes device.old) passphrase.now) }
-    ensures refused { D.tells → IsHeader (D.bytes device.old) header.now
-        → IfErr result (IsVolumeRefusedBy (D.bytes device.old)) }
-    ensures length { IfOk result
-        (λ found. IfSome found (λ opened. HasKeyBytes header.now opened.0 (length opened.1))) }
-    // Memory is refused only to a keyslot that takes it, and to none where none is allowed.
-    ensures memory { D.tells → IsHeader (D.bytes device.old) header.now → IfErr result
-        (λ f. f ≡ OpenFault.Memory → (n : ℕ) × TakesMemory memory (D.bytes device.old) n) }
-    ensures no_memory { memory ≡ 0 → IfErr result (λ f. f ≢ OpenFault.Memory) }
+    ensures answers { IsHeaderUnlocking D.tells (D.bytes device.old) header.now memory passphrase.now
+        result }
 {
     let mut nearest = None;
     try_header(alloc, device, header, passphrase, memory, &mut nearest)
@@ -117,16 +108,8 @@ pub fn try_header<D: Device>(
     ensures unchanged { IsUnchanged D.tells D.size D.bytes D.unsettled device.old device.new }
     ensures count { CountsFailure is_open_failure result
         (D.failed device.old) (D.failed device.new) }
-    ensures unlocks { D.tells → IsHeader (D.bytes device.old) header.now
-        → IfOk result (Unlocks memory (D.bytes device.old) passphrase.now) }
-    ensures refused { D.tells → IsHeader (D.bytes device.old) header.now
-        → IfErr result (IsVolumeRefusedBy (D.bytes device.old)) }
-    ensures length { IfOk result
-        (λ found. IfSome found (λ opened. HasKeyBytes header.now opened.0 (length opened.1))) }
-    // Memory is refused only to a keyslot that takes it, and to none where none is allowed.
-    ensures memory { D.tells → IsHeader (D.bytes device.old) header.now → IfErr result
-        (λ f. f ≡ OpenFault.Memory → (n : ℕ) × TakesMemory memory (D.bytes device.old) n) }
-    ensures no_memory { memory ≡ 0 → IfErr result (λ f. f ≢ OpenFault.Memory) }
+    ensures answers { IsHeaderUnlocking D.tells (D.bytes device.old) header.now memory passphrase.now
+        result }
 {
     match header {
         Header::Luks1(bytes) => unlock_luks1(alloc, device, bytes.as_slice(), passphrase, nearest),
@@ -206,16 +189,9 @@ fn unlock_luks2<D: Device>(
     ensures unchanged { IsUnchanged D.tells D.size D.bytes D.unsettled device.old device.new }
     ensures count { CountsFailure is_open_failure result
         (D.failed device.old) (D.failed device.new) }
-    ensures tries { D.tells → (b json : List ℕ) → IsCleared (uuid_field b) json (content meta.now)
-        → IfOk result
-        (Luks2Tries memory b json (D.bytes device.old) passphrase.now (luks2_order (content meta.now))) }
-    ensures kinds { IfErr result IsOfDevice }
-    ensures memory { (b json : List ℕ) → IsCleared (uuid_field b) json (content meta.now)
-        → IfErr result (Luks2LacksMemory memory b json (D.size device.old)) }
-    ensures no_memory { memory ≡ 0 → IfErr result (λ f. f ≢ OpenFault.Memory) }
-    ensures length { IfOk result
-        (λ found. IfSome found
-        (λ opened. HasLuks2KeyBytes (content meta.now) opened.0 (length opened.1))) }
+    ensures fails { Luks2Fails memory (D.size device.old) (content meta.now) result }
+    ensures answers { IsLuks2Unlocking D.tells (D.bytes device.old) (content meta.now) memory
+        passphrase.now (luks2_order (content meta.now)) result }
 {
     match try_rank(
         alloc,
@@ -256,17 +232,9 @@ fn try_rank<D: Device>(
     ensures unchanged { IsUnchanged D.tells D.size D.bytes D.unsettled device.old device.new }
     ensures count { CountsFailure is_open_failure result
         (D.failed device.old) (D.failed device.new) }
-    ensures tries { D.tells → (b json : List ℕ) → IsCleared (uuid_field b) json (content meta.now)
-        → IfOk result
-        (Luks2Tries memory b json (D.bytes device.old) passphrase.now
-        (rank_order rank (content meta.now))) }
-    ensures kinds { IfErr result IsOfDevice }
-    ensures memory { (b json : List ℕ) → IsCleared (uuid_field b) json (content meta.now)
-        → IfErr result (Luks2LacksMemory memory b json (D.size device.old)) }
-    ensures no_memory { memory ≡ 0 → IfErr result (λ f. f ≢ OpenFault.Memory) }
-    ensures length { IfOk result
-        (λ found. IfSome found
-        (λ opened. HasLuks2KeyBytes (content meta.now) opened.0 (length opened.1))) }
+    ensures fails { Luks2Fails memory (D.size device.old) (content meta.now) result }
+    ensures answers { IsLuks2Unlocking D.tells (D.bytes device.old) (content meta.now) memory
+        passphrase.now (rank_order rank (content meta.now)) result }
 {
     for n in 0..32 {
         if is_of_rank(meta, rank, n) {
@@ -311,10 +279,7 @@ fn try_luks2<D: Device>(
         (D.failed device.old) (D.failed device.new) }
     ensures tried { D.tells → (b json : List ℕ) → IsCleared (uuid_field b) json (content meta.now)
         → IfOk result (Luks2Tried memory b json (D.bytes device.old) n passphrase.now) }
-    ensures kinds { IfErr result IsOfDevice }
-    ensures memory { (b json : List ℕ) → IsCleared (uuid_field b) json (content meta.now)
-        → IfErr result (Luks2LacksMemory memory b json (D.size device.old)) }
-    ensures no_memory { memory ≡ 0 → IfErr result (λ f. f ≢ OpenFault.Memory) }
+    ensures fails { Luks2Fails memory (D.size device.old) (content meta.now) result }
     ensures length { IfOk result
         (λ found. IfSome found (λ key. HasLuks2KeyBytes (content meta.now) n (length key))) }
 {

@@ -10,6 +10,7 @@ use Rattle.luks_area.specs.declared.area.AreaFault.TheVariants.{Outside, Overlap
 use Rattle.luks_area.specs.declared.area.AreaName.{AreaName}
 use Rattle.luks1_header.specs.Bytes.{IsUuid}
 use Rattle.luks_rules.proofs.AreaFaults.{one_value}
+use Rattle.luks_head.specs.Selection.{nothing, Chosen}
 use Rattle.luks_meta.specs.Content.{content}
 use Rattle.luks_meta.specs.Objects.{IsConfig}
 use Rattle.luks_meta.specs.MetaFault.{Json}
@@ -21,7 +22,7 @@ use Rattle.luks_reading.specs.Layout2.{Luks2Area}
 use Rattle.luks_reading.specs.declared.report.Data.TheVariants.{Elsewhere}
 use Rattle.luks_rebuilding.proofs.SearchFacts.{one_place}
 use Rattle.luks_rebuilding.specs.Candidates.{json_of, OfTaken}
-use Rattle.luks_rebuilding.specs.Found.{IsFoundIn, IsWhole}
+use Rattle.luks_rebuilding.specs.Found.{BreaksFirst, IsFoundIn, IsWhole}
 use Rattle.luks_rebuilding.specs.KeyAreas.{EndsBeforeRegion, HasHeaderArea}
 use Rattle.luks_rebuilding.specs.Outcome.{IsAnsweredFault, IsNoUuid, IsNotFound, IsRebuildable, IsRebuildFault}
 use Rattle.luks_rebuilding.specs.RebuildFaults.{is_rebuild_failure, rebuild_key}
@@ -175,6 +176,12 @@ module _
               none Device bad = bad
 
 -- ---- what is answered
+
+-- a search that was broken off where nothing counts finds no candidate
+pub broken_not_found : (v : List ℕ) (which : Which) (f : RebuildFault) → Chosen v nothing → BreaksFirst v which f → IsNotFound v which f
+broken_not_found v which Memory counts x = record { nothing_counts = counts; place = x.0; read = x.1 }
+broken_not_found v which Device counts x = tt
+broken_not_found v which f counts x = absurd x
 
 -- why no candidate is found is what is answered
 pub not_found_first : (v : List ℕ) (which : Which) (given : Option (List ℕ)) (total : ℕ) (random : List ℕ) (f : RebuildFault) → IsNotFound v which f → IsAnsweredFault v which given total random f

@@ -1,19 +1,47 @@
 -- The search for metadata that is whole, through ascending sizes, and which candidate is the first.
-use Rattle.std.proofs.Common.{◌≡◌, ◌≢◌, ℕ, ◌≤◌, ◌⊎◌, ◌==◌, nat_le, List, [], ◌∷◌, length, get_or, Bool, true, false, if◌then◌else◌, inl, inr, arith, refl, sym, ap, ◌∙◌, subst, Option, Some, None, Result, Ok, Err, IfOk}
+use Rattle.std.proofs.Common.{◌≡◌, ◌≢◌, ℕ, ◌≤◌, ◌⊎◌, ◌==◌, nat_le, List, [], ◌∷◌, length, get_or, Bool, true, false, if◌then◌else◌, inl, inr, arith, refl, sym, ap, ◌∙◌, subst, codes, replicate, ◌++◌, ◌+◌, ◌-◌, Option, Some, None, Result, Ok, Err, IfOk, IfErr}
 use Rattle.std.proofs.lemmas.Bool.{or_cases, or_left, and_parts, eqb-true, eq-eqb, leb-true, false≢true, cases_Bool}
 use Rattle.std.proofs.lemmas.List.{take_rest}
 use Rattle.luks_area.specs.First.{NotAfter}
+use Rattle.luks_area.specs.Ranges.{part}
+use Rattle.luks_area.specs.RangeFacts.{part-part}
 use Rattle.luks_head.specs.Sizes.{is_among, IsListed}
 use Rattle.luks_head.proofs.CopyFacts.{among_pass, listed_at_least}
 use Rattle.luks_head.proofs.SecondCopyFacts.{is_rising, later}
-use Rattle.luks_rebuilding.specs.Candidates.{json_of, place_key, IsCandidate, Taken}
-use Rattle.luks_rebuilding.specs.Found.{place_of, FindsAt, FindsFirst, FindsHalf, IsLeastOf, IsWholeAt}
+use Rattle.luks_json.specs.AreaText.{JsonText}
+use Rattle.luks_rules.specs.declared.fault.MetaFault.TheVariants.{JsonArea}
+use Rattle.luks_rebuilding.specs.Candidates.{json_of, place_key, HasToBeRead, IsBegun, IsCandidate, Taken}
+use Rattle.luks_rebuilding.specs.Found.{place_of, BreaksAt, BreaksFirst, BreaksHalf, FindsAt, FindsFirst, FindsHalf, IsBegunOf, IsLeastOf, IsMemoryWhere, IsWholeAt}
 use Rattle.luks_rebuilding.specs.declared.candidate.Candidate.{Candidate}
 use Rattle.luks_rebuilding.specs.declared.place.Half.{Half}
 use Rattle.luks_rebuilding.specs.declared.place.Half.TheVariants.{First, Second}
 use Rattle.luks_rebuilding.specs.declared.place.Place.{Place}
 use Rattle.luks_rebuilding.specs.declared.place.Which.{Which}
 use Rattle.luks_rebuilding.specs.declared.place.Which.TheVariants as ask
+use Rattle.luks_rebuilding.specs.declared.rebuild_fault.RebuildFault.{RebuildFault}
+use Rattle.luks_rebuilding.specs.declared.rebuild_fault.RebuildFault.TheVariants as fault
+
+-- ---- where memory is taken
+
+-- where it holds, more may hold
+pub memory_so : (A B : Type 0) → (A → B) → (f : RebuildFault) → IsMemoryWhere A f → IsMemoryWhere B f
+memory_so A B so fault.Memory x = so x
+memory_so A B so fault.Device x = tt
+memory_so A B so f x = absurd x
+
+-- a text that stands in the JSON area begins with a brace
+text_begins : (v text : List ℕ) (place : Place) → IsListed place.size → JsonText (json_of v place) text → part v (place.at + 4096) 1 ≡ codes "{"
+text_begins v text place listed x =
+    let large = listed_at_least place.size listed in
+    let all : json_of v place ≡ 123 ∷ (x.rest ++ replicate x.zeros 0) = x.filled ∙ ap (λ (t : List ℕ). t ++ replicate x.zeros 0) x.begins in
+    let front : part (json_of v place) 0 1 ≡ codes "{" = ap (λ (l : List ℕ). part l 0 1) all in
+    let here : part (json_of v place) 0 1 ≡ part v (place.at + 4096 + 0) 1 = part-part v (place.at + 4096) (place.size - 4096) 0 1 (omega (arith, large)) in
+    let same : place.at + 4096 ≡ place.at + 4096 + 0 = omega arith in
+    ap (λ p. part v p 1) same ∙ sym here ∙ front
+
+-- so one that begins otherwise has no text
+pub not_begun : (v : List ℕ) (place : Place) → (part v (place.at + 4096) 1 ≡ codes "{" → ⊥) → IsWholeAt v place → ⊥
+not_begun v place other whole = whole.faultless JsonArea (λ text x. other (text_begins v text place whole.is_place.listed x))
 
 -- ---- sizes
 
@@ -68,6 +96,14 @@ least_found v half xs c some rising left there found =
       least = λ p listed whole. rw size (first_least xs p rising (left p listed whole));
     }
 
+-- where the search through the sizes to come was broken off at the first of them
+pub broken_half : (v : List ℕ) (half : Half) (xs : List ℕ) → is_rising xs ≡ true
+    → ((p : ℕ) → IsListed p → IsWholeAt v (place_of half p) → is_among p xs ≡ true)
+    → (f : RebuildFault) → BreaksAt v (place_of half (get_or xs 0 0)) f → BreaksHalf v half f
+broken_half v half xs rising left f x =
+    memory_so (IsBegun v (place_of half (get_or xs 0 0))) ((size : ℕ) × IsBegunOf v half size) (λ begun.
+    (get_or xs 0 0, record { begun = begun; least = λ p listed whole. first_least xs p rising (left p listed whole) })) f x
+
 -- ---- which candidate is the first
 
 place_eta : (half : Half) (q : Place) → q.at ≡ (place_of half q.size).at → q ≡ place_of half q.size
@@ -110,32 +146,45 @@ module _ (v : List ℕ) where
       let large = listed_at_least c.place.size x.whole.is_place.listed in
       omega (arith, e, at, large)
 
+  -- no copy of this half of a lesser size is whole
+  abbrev NoneLess : Half → ℕ → Type 0
+  NoneLess half size = (p : ℕ) → IsListed p → IsWholeAt v (place_of half p) → size ≤ p
+
+  -- then no candidate stands before the first copy of this size
+  first_least_of : (q : Place) → q.at ≡ 0 → NoneLess First q.size → (g : Place) → IsCandidate v ask.Any g → NotAfter (place_key q) (place_key g)
+  first_least_of q zero least g is = elim (as_half ask.Any g is) [
+    | inl first ↦ (
+        let le = least g.size is.is_place.listed first.1 in
+        not_after_as q g (1 ∷ q.size ∷ []) (1 ∷ g.size ∷ []) (key_first q zero) (key_first g first.0)
+        (omega arith, λ e. (omega (arith, le), λ f. tt)))
+    | inr second ↦
+        not_after_as q g (1 ∷ q.size ∷ []) (2 ∷ g.size ∷ []) (key_first q zero) (key_second g second.0)
+        (omega arith, λ e. absurd (omega (arith, e)))
+  ]
+
+  -- nor before the second copy, where no first copy is one
+  second_least_of : (which : Which) (q : Place) → q.at ≢ 0 → NoneLess Second q.size
+      → ((g : Place) → IsCandidate v which g → g.at ≡ 0 → ⊥) → (g : Place) → IsCandidate v which g → NotAfter (place_key q) (place_key g)
+  second_least_of which q other least none g is = elim (as_half which g is) [
+    | inl first ↦ absurd (none g is first.0)
+    | inr second ↦ (
+        let le = least g.size is.is_place.listed second.1 in
+        not_after_as q g (2 ∷ q.size ∷ []) (2 ∷ g.size ∷ []) (key_second q other) (key_second g second.0)
+        (omega arith, λ e. (omega (arith, le), λ f. tt)))
+  ]
+
   pub first_taken : (c : Candidate) → IsLeastOf v First c → FindsFirst v ask.Any (Some c)
   first_taken c x = (
     (
       record { is_place = x.whole.is_place; asked = tt; faultless = x.whole.faultless },
-      λ (g : Place) is. elim (as_half ask.Any g is) [
-        | inl first ↦ (
-            let le = x.least g.size is.is_place.listed first.1 in
-            not_after_as c.place g (1 ∷ c.place.size ∷ []) (1 ∷ g.size ∷ []) (key_first c.place (first_at c x)) (key_first g first.0)
-            (omega arith, λ e. (omega (arith, le), λ f. tt)))
-        | inr second ↦
-            not_after_as c.place g (1 ∷ c.place.size ∷ []) (2 ∷ g.size ∷ []) (key_first c.place (first_at c x)) (key_second g second.0)
-            (omega arith, λ e. absurd (omega (arith, e)))
-      ],
+      first_least_of c.place (first_at c x) x.least,
     ),
     x.read,
   )
 
   second_least : (which : Which) (c : Candidate) → IsLeastOf v Second c
       → ((g : Place) → IsCandidate v which g → g.at ≡ 0 → ⊥) → (g : Place) → IsCandidate v which g → NotAfter (place_key c.place) (place_key g)
-  second_least which c x none g is = elim (as_half which g is) [
-    | inl first ↦ absurd (none g is first.0)
-    | inr second ↦ (
-        let le = x.least g.size is.is_place.listed second.1 in
-        not_after_as c.place g (2 ∷ c.place.size ∷ []) (2 ∷ g.size ∷ []) (key_second c.place (second_at c x)) (key_second g second.0)
-        (omega arith, λ e. (omega (arith, le), λ f. tt)))
-  ]
+  second_least which c x none g is = second_least_of which c.place (second_at c x) x.least none g is
 
   -- only second copies are asked for
   pub second_found : (found : Option Candidate) → FindsHalf v Second found → FindsFirst v ask.Second found
@@ -164,6 +213,49 @@ module _ (v : List ℕ) where
     ),
     x.read,
   )
+
+  -- ---- where the search was broken off
+
+  second_apart : (size : ℕ) → IsBegunOf v Second size → size ≢ 0
+  second_apart size x e = let large = listed_at_least size x.begun.is_place.listed in omega (arith, e, large)
+
+  broken_first : (size : ℕ) → IsBegunOf v First size → HasToBeRead v ask.Any (place_of First size)
+  broken_first size x = record { begun = x.begun; asked = tt; none_before = first_least_of (place_of First size) refl x.least }
+
+  broken_second : (size : ℕ) → IsBegunOf v Second size → HasToBeRead v ask.Second (place_of Second size)
+  broken_second size x = record {
+    begun = x.begun;
+    asked = second_apart size x;
+    none_before = second_least_of ask.Second (place_of Second size) (second_apart size x) x.least (λ g is zero. is.asked zero);
+  }
+
+  broken_after : FindsHalf v First None → (size : ℕ) → IsBegunOf v Second size → HasToBeRead v ask.Any (place_of Second size)
+  broken_after before size x = record {
+    begun = x.begun;
+    asked = tt;
+    none_before = second_least_of ask.Any (place_of Second size) (second_apart size x) x.least
+        (λ (g : Place) is zero. before g.size is.is_place.listed (subst (IsWholeAt v) (place_eta First g zero) (whole_of ask.Any g is)));
+  }
+
+  abbrev pub SomeBegun : Half → Type 0
+  SomeBegun half = (size : ℕ) × IsBegunOf v half size
+
+  abbrev pub SomeToBeRead : Which → Type 0
+  SomeToBeRead which = (place : Place) × HasToBeRead v which place
+
+  pub first_broken : (f : RebuildFault) → BreaksHalf v First f → BreaksFirst v ask.Any f
+  first_broken f x = memory_so (SomeBegun First) (SomeToBeRead ask.Any) (λ s. (place_of First s.0, broken_first s.0 s.1)) f x
+
+  pub second_broken : (f : RebuildFault) → BreaksHalf v Second f → BreaksFirst v ask.Second f
+  second_broken f x = memory_so (SomeBegun Second) (SomeToBeRead ask.Second) (λ s. (place_of Second s.0, broken_second s.0 s.1)) f x
+
+  pub after_broken : FindsHalf v First None → (f : RebuildFault) → BreaksHalf v Second f → BreaksFirst v ask.Any f
+  after_broken before f x = memory_so (SomeBegun Second) (SomeToBeRead ask.Any) (λ s. (place_of Second s.0, broken_after before s.0 s.1)) f x
+
+  -- of the result of the last search
+  pub broken_so : {A : Type 0} (r : Result A RebuildFault) (X Y : RebuildFault → Type 0) → ((f : RebuildFault) → X f → Y f) → IfErr r X → IfErr r Y
+  broken_so (Ok a) X Y so x = tt
+  broken_so (Err f) X Y so x = so f x
 
   -- of what the search for second copies answers
   pub second_result : {F : Type 0} (r : Result (Option Candidate) F) → IfOk r (FindsHalf v Second) → IfOk r (FindsFirst v ask.Second)

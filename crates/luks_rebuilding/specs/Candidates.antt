@@ -1,7 +1,7 @@
 -- Where metadata of a LUKS2 header is still whole in a volume, whatever stands before it (LUKS2
 -- On-Disk Format 1.1, 2.1 and 3).
-use Rattle.std.specs.Prelude.{◌≡◌, ◌≢◌, ◌⊎◌, ℕ, ◌+◌, ◌-◌, ◌≤◌, ◌==◌, List, [], ◌∷◌, length, if◌then◌else◌, ⊤}
-use Rattle.luks_area.specs.First.{IsLeast}
+use Rattle.std.specs.Prelude.{◌≡◌, ◌≢◌, ◌⊎◌, ℕ, ◌+◌, ◌-◌, ◌≤◌, ◌==◌, List, [], ◌∷◌, codes, length, if◌then◌else◌, ⊤}
+use Rattle.luks_area.specs.First.{IsLeast, NotAfter}
 use Rattle.luks_area.specs.Ranges.{part}
 use Rattle.luks_head.specs.Sizes.{IsListed}
 use Rattle.luks_meta.specs.MetaFault.{IsMetaFault}
@@ -38,6 +38,18 @@ place_key place = (if place.at == 0 then 1 else 2) ∷ place.size ∷ []
 -- the first of the candidates
 abbrev pub Taken : List ℕ → Which → Place → Type 0
 Taken v which place = IsLeast place_key (IsCandidate v which) place
+
+-- a copy whose JSON area begins as an object does (section 3.1), so that only its whole text tells
+-- whether it has a fault
+pub record IsBegun (v : List ℕ) (place : Place) : Type 0 where
+  pub is_place : IsPlace (length v) place
+  pub brace : part v (place.at + 4096) 1 ≡ codes "{"
+
+-- such a copy is asked for, and no candidate stands before it: its text has to be read, in memory
+pub record HasToBeRead (v : List ℕ) (which : Which) (place : Place) : Type 0 where
+  pub begun : IsBegun v place
+  pub asked : IsAsked which place
+  pub none_before : (other : Place) → IsCandidate v which other → NotAfter (place_key place) (place_key other)
 
 -- there is a first candidate, and of it the statement holds
 pub record OfTaken (v : List ℕ) (which : Which) (says : Place → Type 0) : Type 0 where

@@ -16,7 +16,7 @@ use Rattle.luks_meta.specs.MetaFault.{IsMetaFault}
 use Rattle.luks_meta.specs.Sizes.{keyslots_size}
 use Rattle.luks_reading.specs.Layout2.{Luks2Area}
 use Rattle.luks_reading.specs.declared.report.Data.TheVariants.{Elsewhere}
-use Rattle.luks_rebuilding.specs.Candidates.{json_of, IsCandidate, IsPlace, Taken}
+use Rattle.luks_rebuilding.specs.Candidates.{json_of, HasToBeRead, IsBegun, IsCandidate, IsPlace, Taken}
 use Rattle.luks_rebuilding.specs.KeyAreas.{IsSlotArea}
 use Rattle.luks_rebuilding.specs.Rebuilt.{first_copy_salt, random_size, second_copy_salt, HasRebuiltCopy, IsUuidOf, LacksUuid}
 use Rattle.luks_rebuilding.specs.declared.candidate.Candidate.{Candidate}
@@ -74,16 +74,35 @@ abbrev pub FindsFirst : List ℕ → Which → Option Candidate → Type 0
 FindsFirst v which None = (place : Place) → IsCandidate v which place → ⊥
 FindsFirst v which (Some c) = Taken v which c.place × (c.json.items ≡ json_of v c.place)
 
+-- memory was refused, where this holds, or the device failed
+abbrev pub IsMemoryWhere : Type 0 → RebuildFault → Type 0
+IsMemoryWhere holds fault.Memory = holds
+IsMemoryWhere holds fault.Device = ⊤
+IsMemoryWhere holds fault.Counts = ⊥
+IsMemoryWhere holds fault.NoMetadata = ⊥
+IsMemoryWhere holds (fault.Area f) = ⊥
+IsMemoryWhere holds fault.TooSmall = ⊥
+IsMemoryWhere holds fault.Uuid = ⊥
+IsMemoryWhere holds fault.RandomLength = ⊥
+
 -- the search was broken off: the device failed, or memory was refused
 abbrev pub IsFromOutside : RebuildFault → Type 0
-IsFromOutside fault.Memory = ⊤
-IsFromOutside fault.Device = ⊤
-IsFromOutside fault.Counts = ⊥
-IsFromOutside fault.NoMetadata = ⊥
-IsFromOutside (fault.Area f) = ⊥
-IsFromOutside fault.TooSmall = ⊥
-IsFromOutside fault.Uuid = ⊥
-IsFromOutside fault.RandomLength = ⊥
+IsFromOutside = IsMemoryWhere ⊤
+
+-- the copy of this size of one half has begun, and none of a lesser size is whole
+pub record IsBegunOf (v : List ℕ) (half : Half) (size : ℕ) : Type 0 where
+  pub begun : IsBegun v (place_of half size)
+  pub least : (other : ℕ) → IsListed other → IsWholeAt v (place_of half other) → size ≤ other
+
+-- the search was broken off at one place; in one half, at a copy of some size; at one that has to be read
+abbrev pub BreaksAt : List ℕ → Place → RebuildFault → Type 0
+BreaksAt v place = IsMemoryWhere (IsBegun v place)
+
+abbrev pub BreaksHalf : List ℕ → Half → RebuildFault → Type 0
+BreaksHalf v half = IsMemoryWhere ((size : ℕ) × IsBegunOf v half size)
+
+abbrev pub BreaksFirst : List ℕ → Which → RebuildFault → Type 0
+BreaksFirst v which = IsMemoryWhere ((place : Place) × HasToBeRead v which place)
 
 -- a header of the volume counts, unless the device failed
 abbrev pub IsCounted : List ℕ → RebuildFault → Type 0

@@ -4,7 +4,7 @@ use Rattle.luks_area.specs.Area.{IsAreaFault}
 use Rattle.luks_area.specs.First.{IsLeast}
 use Rattle.luks1_header.specs.Bytes.{IsUuid}
 use Rattle.luks_head.specs.Selection.{nothing, Chosen}
-use Rattle.luks_rebuilding.specs.Candidates.{IsCandidate, OfTaken}
+use Rattle.luks_rebuilding.specs.Candidates.{HasToBeRead, IsCandidate, OfTaken}
 use Rattle.luks_rebuilding.specs.KeyAreas.{EndsBeforeRegion, HasHeaderArea}
 use Rattle.luks_rebuilding.specs.RebuildFaults.{rebuild_key}
 use Rattle.luks_rebuilding.specs.Rebuilt.{random_size}
@@ -33,10 +33,15 @@ IsRebuildFault v which given total random Device = ⊥
 pub record IsRebuildable (v : List ℕ) (which : Which) (given : Option (List ℕ)) (total : ℕ) (random : List ℕ) : Type 0 where
   pub none : (f : RebuildFault) → IsRebuildFault v which given total random f → ⊥
 
--- the answer is the first of the faults; or memory was refused for the metadata of a copy, which is
--- read where nothing counts; or a device failed
+-- memory is taken for metadata alone: nothing counts, and that of some copy has to be read
+pub record TakesMemory (v : List ℕ) (which : Which) : Type 0 where
+  pub nothing_counts : Chosen v nothing
+  pub place : Place
+  pub read : HasToBeRead v which place
+
+-- the answer is the first of the faults; or memory was refused where it is taken; or a device failed
 abbrev pub IsAnsweredFault : List ℕ → Which → Option (List ℕ) → ℕ → List ℕ → RebuildFault → Type 0
-IsAnsweredFault v which given total random Memory = Chosen v nothing
+IsAnsweredFault v which given total random Memory = TakesMemory v which
 IsAnsweredFault v which given total random Device = ⊤
 IsAnsweredFault v which given total random f = IsLeast rebuild_key (IsRebuildFault v which given total random) f
 
@@ -48,5 +53,5 @@ IsNotFound v which (Area f) = ⊥
 IsNotFound v which TooSmall = ⊥
 IsNotFound v which Uuid = ⊥
 IsNotFound v which RandomLength = ⊥
-IsNotFound v which Memory = Chosen v nothing
+IsNotFound v which Memory = TakesMemory v which
 IsNotFound v which Device = ⊤

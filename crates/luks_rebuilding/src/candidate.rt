@@ -2,7 +2,7 @@
 ghost use Rattle.std.specs.Prelude.{◌≡◌, ◌≢◌, ◌+◌, ◌^◌, ◌<◌, IfOk, IfErr, OnOk, IfSome};
 ghost use Rattle.luks_area.specs.Device.{CountsFailure, IsUnchanged};
 ghost use Rattle.luks_head.specs.Selection.{nothing, Chosen};
-ghost use Rattle.luks_rebuilding.specs.Found.{FindsFirst, IsCounted, IsFoundIn, IsFromOutside, IsWhole};
+ghost use Rattle.luks_rebuilding.specs.Found.{BreaksFirst, FindsFirst, IsCounted, IsFoundIn, IsFromOutside, IsWhole};
 ghost use Rattle.luks_rebuilding.specs.Outcome.{IsNotFound};
 ghost use Rattle.luks_rebuilding.specs.RebuildFaults.{is_rebuild_failure};
 
@@ -29,7 +29,8 @@ pub struct Candidate {
 /// that is whole, of the copies that are asked for.
 ///
 /// Refused by `Counts` or `NoMetadata`; `Device` comes exactly where a device call failed. Takes
-/// memory for the JSON area and the metadata of one copy at a time.
+/// memory for the JSON area and the metadata of one copy at a time, where that area begins with a
+/// brace; of others only the first byte is read.
 pub fn find_candidate<D: Device>(
     alloc: Global,
     source: &mut D,
@@ -79,6 +80,7 @@ fn first_found<D: Device>(
     ensures kinds { IfErr result IsFromOutside }
     ensures whole { IfOk result (λ found. IfSome found (IsWhole (D.size source.old))) }
     ensures found { D.tells → IfOk result (FindsFirst (D.bytes source.old) which) }
+    ensures broken { D.tells → IfErr result (BreaksFirst (D.bytes source.old) which) }
 {
     match which {
         Which::Any => any_found(alloc, source),
@@ -95,6 +97,7 @@ fn any_found<D: Device>(alloc: Global, source: &mut D) -> Result<Option<Candidat
     ensures kinds { IfErr result IsFromOutside }
     ensures whole { IfOk result (λ found. IfSome found (IsWhole (D.size source.old))) }
     ensures found { D.tells → IfOk result (FindsFirst (D.bytes source.old) Which.Any) }
+    ensures broken { D.tells → IfErr result (BreaksFirst (D.bytes source.old) Which.Any) }
 {
     match least_of(alloc, source, Half::First)? {
         Some(first) => Ok(Some(first)),

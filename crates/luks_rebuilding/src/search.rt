@@ -1,15 +1,16 @@
 //! The search for metadata that is whole, first copies or second copies, by their size.
-ghost use Rattle.std.specs.Prelude.{◌≡◌, ◌+◌, ◌-◌, ◌^◌, ◌<◌, ◌≤◌, ◌⊎◌, length, IfOk, IfErr, IfSome};
-ghost use Rattle.luks_area.specs.Device.{CountsFailure, IsUnchanged};
+ghost use Rattle.std.specs.Prelude.{◌≡◌, ◌≢◌, ◌↔◌, ◌+◌, ◌-◌, ◌^◌, ◌<◌, ◌≤◌, ◌⊎◌, codes, length, IfOk, IfErr, IfSome, IsTrue, OnOk};
+ghost use Rattle.luks_area.specs.Device.{CountsFailure, IsUnchanged, is_failure};
+ghost use Rattle.luks_area.specs.Ranges.{part};
 ghost use Rattle.luks_head.specs.Sizes.{IsListed};
 ghost use Rattle.luks_rebuilding.specs.Candidates.{json_of, IsPlace};
-ghost use Rattle.luks_rebuilding.specs.Found.{FindsAt, FindsHalf, IsFromOutside, IsWhole};
+ghost use Rattle.luks_rebuilding.specs.Found.{BreaksAt, BreaksHalf, FindsAt, FindsHalf, IsFromOutside, IsWhole};
 ghost use Rattle.luks_rebuilding.specs.RebuildFaults.{is_rebuild_failure};
 
 use crate::candidate::Candidate;
 use crate::place::{Half, Place, is_inside, place_of};
 use crate::rebuild_fault::RebuildFault;
-use luks_area::Device;
+use luks_area::{Device, DeviceFault};
 use luks_meta::{Meta, MetaFault};
 use std::alloc::Global;
 
@@ -34,6 +35,7 @@ pub(crate) fn least_of<D: Device>(
     ensures kinds { IfErr result IsFromOutside }
     ensures whole { IfOk result (λ found. IfSome found (IsWhole (D.size source.old))) }
     ensures found { D.tells → IfOk result (FindsHalf (D.bytes source.old) half) }
+    ensures broken { D.tells → IfErr result (BreaksHalf (D.bytes source.old) half) }
 {
     let mut left = LISTED_SIZES.as_slice();
     while let [size, later @ ..] = left {
@@ -61,15 +63,47 @@ fn whole_at<D: Device>(
     ensures place { IfOk result (λ found. IfSome found (λ c. c.place ≡ place)) }
     ensures whole { IfOk result (λ found. IfSome found (IsWhole (D.size source.old))) }
     ensures found { D.tells → IfOk result (FindsAt (D.bytes source.old) place) }
+    ensures broken { D.tells → IfErr result (BreaksAt (D.bytes source.old) place) }
 {
     if !is_inside(place, source.len()) {
+        return Ok(None);
+    }
+    let begun = is_begun(source, place)?;
+    if !begun {
         return Ok(None);
     }
     let json = json_area(alloc, source, place)?;
     match Meta::read(alloc, &json) {
         Ok(meta) => Ok(Some(Candidate { place, json, meta })),
-        Err(MetaFault::Memory) => Err(RebuildFault::Memory),
-        Err(_) => Ok(None),
+        Err(fault) => {
+            pass_over(fault)?;
+            Ok(None)
+        }
+    }
+}
+
+/// Whether the JSON area of the copy at the place begins with a brace, as an object does. Takes no memory.
+fn is_begun<D: Device>(source: &mut D, place: Place) -> Result<bool, DeviceFault>
+    requires place { IsPlace (D.size source.old) place }
+    requires room { D.failed source.old + 1 < 2 ^ 64 }
+    ensures unchanged { IsUnchanged D.tells D.size D.bytes D.unsettled source.old source.new }
+    ensures count { CountsFailure is_failure result (D.failed source.old) (D.failed source.new) }
+    ensures begun { D.tells → IfOk result (λ is. IsTrue is
+        ↔ (part (D.bytes source.old) (place.at + 4096) 1 ≡ codes "{")) }
+{
+    let mut first = [0; 1];
+    source.read_at(place.at + BINARY_HEADER, &mut first)?;
+    Ok(first == *b"{")
+}
+
+/// Passes over metadata with this fault, unless memory was refused for reading it.
+fn pass_over(fault: MetaFault) -> Result<(), RebuildFault>
+    ensures passed { OnOk result (fault ≢ MetaFault.Memory) }
+    ensures refused { IfErr result (λ f. (f ≡ RebuildFault.Memory) × (fault ≡ MetaFault.Memory)) }
+{
+    match fault {
+        MetaFault::Memory => Err(RebuildFault::Memory),
+        _ => Ok(()),
     }
 }
 

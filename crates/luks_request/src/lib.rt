@@ -1,8 +1,10 @@
 //! What a command line of the program `luks` asks for: the command, its volume and its files.
 #![tactic(auto)]
 
+mod place;
 mod rebuilding;
 mod request;
 
+pub use place::Place;
 pub use rebuilding::Rebuilding;
 pub use request::{Command, Converting, EditRequest, Editing, Line, Making, NewVersion, ShowAs};

@@ -2,6 +2,7 @@ ghost use Rattle.std.specs.Prelude.{◌≡◌, option_map};
 ghost use Rattle.luks_request.specs.Named.{edit_new_of, edit_passphrase_of, is_writer, new_of, passphrase_of, random_of};
 ghost use Rattle.luks_request.specs.Named.{target_of};
 
+use crate::place::Place;
 use crate::rebuilding::Rebuilding;
 use luks_reading::Data;
 use luks_terms::Format;
@@ -11,6 +12,9 @@ use luks_terms::Format;
 pub struct Line<'a> {
     /// The file of the volume, or of its detached header.
     pub volume: &'a str,
+    /// Which bytes of that file are the volume. Of `convert` and `rebuild` it is the source's; the
+    /// target begins at its file's first byte.
+    pub place: Place,
     /// What is done with the volume.
     pub command: Command<'a>,
 }

@@ -1,7 +1,9 @@
-//! Commands for the tests of the program: what they come to over any files. It has no contracts but
-//! those of `execute`.
+//! Commands for the tests of the program: what they come to over any files, and a runtime over the files of a
+//! folder. It has no contracts but those of `execute`.
 #![tactic(auto)]
 
 mod told;
+mod trial;
 
 pub use told::{Told, run, run_words, words_of};
+pub use trial::Trial;

@@ -1,12 +1,14 @@
 -- Where the decrypted bytes of an area stand.
-use Rattle.std.proofs.Common.{◌≡◌, ℕ, zero, suc, ◌+◌, ◌-◌, ◌*◌, ◌/◌, ◌%◌, ◌<◌, ◌≤◌, inl, inr, List, length, take, drop, get_or, refl, ap, sym, ◌∙◌, subst, arith, length-append, length-drop}
+use Rattle.std.proofs.Common.{◌≡◌, ℕ, zero, suc, ◌+◌, ◌-◌, ◌*◌, ◌/◌, ◌%◌, ◌<◌, ◌≤◌, inl, inr, List, ◌++◌, length, take, drop, get_or, refl, ap, sym, ◌∙◌, subst, arith, length-append, length-drop}
 use Rattle.std.proofs.lemmas.Bool.{cases_lt}
 use Rattle.std.proofs.Math.Nat.{mul-le-mul_right}
 use Rattle.std.proofs.lemmas.List.{ext_get_or, get_or-take, get_or-drop, length-take-le, get_or-append_right, get_or_append_left}
 use Rattle.luks_area.specs.declared.area.Area.{Area}
-use Rattle.luks_area.specs.RangeFacts.{length-part_inside}
+use Rattle.luks_area.specs.RangeFacts.{length-part_inside, part-part}
+use Rattle.luks_area.specs.Ranges.{part}
 use Rattle.luks_area.specs.Sectors.{sector_count, rounded_to_sectors}
 use Rattle.luks_kdf.specs.Splitter.{stripe_at, block_at}
+use Rattle.luks_xts.specs.Xts.{XtsOpen}
 use Rattle.luks_slot.specs.Opening.{area_bytes, opened_sector, opened_sectors, stripes_from}
 use Rattle.luks_slot.specs.Reading.{plain_byte, ArePlain}
 use Rattle.luks_slot.proofs.SectorFacts.{length-XtsOpen}
@@ -43,6 +45,26 @@ plain_at key area (suc n) place fits below =
           ∙ ap (λ i. get_or (opened_sector key area n) i 0) inner
           ∙ ap (λ i. get_or (opened_sector key area i) (place % 512) 0) number
     ]
+
+-- the first sectors of a shorter area
+pub opened_sectors-shorter : (key v : List ℕ) (start short len m : ℕ) → short ≤ len → 512 * m ≤ short
+    → opened_sectors key (part v start short) m ≡ opened_sectors key (part v start len) m
+unfolding opened_sectors opened_sector
+opened_sectors-shorter key v start short len zero less fits = refl
+opened_sectors-shorter key v start short len (suc m) less fits =
+    let before = opened_sectors-shorter key v start short len m less (omega (arith, fits)) in
+    let one : part (part v start short) (512 * m) 512 ≡ part v (start + 512 * m) 512 = part-part v start short (512 * m) 512 (omega (arith, fits)) in
+    let other : part (part v start len) (512 * m) 512 ≡ part v (start + 512 * m) 512 = part-part v start len (512 * m) 512 (omega (arith, fits, less)) in
+    let last : XtsOpen key m (part (part v start short) (512 * m) 512) ≡ XtsOpen key m (part (part v start len) (512 * m) 512) = ap (XtsOpen key m) (one ∙ sym other) in
+    ap (λ l. l ++ XtsOpen key m (part (part v start short) (512 * m) 512)) before
+    ∙ ap (λ l. opened_sectors key (part v start len) m ++ l) last
+
+-- the stripes of a shorter area that has them all
+pub stripes_from-shorter : (key v : List ℕ) (start short len k n : ℕ) → rounded_to_sectors (k * n) ≤ short → short ≤ len
+    → stripes_from key (part v start short) k n ≡ stripes_from key (part v start len) k n
+unfolding stripes_from
+stripes_from-shorter key v start short len k n fits less =
+    ap (take (k * n)) (opened_sectors-shorter key v start short len (sector_count (k * n)) less (omega (arith, fits)))
 
 -- a stripe that was read from its place is that stripe of the area
 stripe_read : (key area : List ℕ) (k n i : ℕ) (stripe : List ℕ)

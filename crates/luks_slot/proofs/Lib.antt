@@ -1,4 +1,5 @@
 pub mod SectorFacts
+pub mod RunFacts
 pub mod AreaFacts
 pub mod DerivationFacts
 pub mod DistanceFacts

@@ -1,13 +1,16 @@
 -- What was merged, where it meets the digest, is what the keyslot opens to.
-use Rattle.std.proofs.Common.{◌≡◌, ◌∙◌, List, ℕ, ap, refl, sym, Bool, true, false, Some, None}
+use Rattle.std.proofs.Common.{◌≡◌, ◌≤◌, ◌∙◌, List, ℕ, arith, ap, refl, sym, Bool, true, false, Some, None}
 use Rattle.std.specs.Prelude.{if◌then◌else◌}
 use Rattle.luks_area.specs.declared.area.Area.{Area}
+use Rattle.luks_area.specs.Ranges.{part}
+use Rattle.luks_area.specs.Sectors.{rounded_to_sectors}
 use Rattle.luks_kdf.specs.declared.hash_name.HashName.{HashName}
 use Rattle.luks_kdf.specs.Names.{hash_of, digest_size_of}
 use Rattle.luks_kdf.specs.Splitter.{merge}
 use Rattle.luks_slot.specs.declared.plan.SlotPlan.{SlotPlan}
 use Rattle.luks_slot.specs.Distance.{digest_distance, slot_distance}
-use Rattle.luks_slot.specs.Opening.{slot_key, candidate, area_bytes, area_key, stripes_from, stripes_in, hash_by_name, meets_digest}
+use Rattle.luks_slot.specs.Opening.{slot_key, candidate, area_bytes, area_key, stripe_bytes, stripes_from, stripes_in, hash_by_name, meets_digest}
+use Rattle.luks_slot.proofs.AreaFacts.{stripes_from-shorter}
 
 -- what the stripes hold, by the hash and the key that the plan names, is the candidate
 candidate_is : (plan : SlotPlan) (area passphrase key merged : List ℕ) (hash : HashName)
@@ -32,17 +35,23 @@ opens_to plan area passphrase key merged hash is_merged is_key is_hash =
     ap (λ (k : List ℕ). if meets_digest plan.digest k then Some k else None)
     (candidate_is plan area passphrase key merged hash is_merged is_key is_hash)
 
--- what was read: so many bytes, from an area of a volume
+-- what was read: so many bytes, from the sectors of the stripes in a volume
 pub candidate_read : (plan : SlotPlan) (volume passphrase key merged : List ℕ) (area : Area) (k : ℕ) (hash : HashName)
     → merged ≡ merge (hash_of hash) (digest_size_of hash) k plan.stripes (stripes_from key (area_bytes volume area) k plan.stripes)
-    → k ≡ plan.key_bytes → area ≡ plan.area → key ≡ area_key plan passphrase → hash_by_name plan.splitter_hash.now ≡ hash
+    → k ≡ plan.key_bytes → area.start ≡ plan.area.start → area.len ≡ rounded_to_sectors (stripe_bytes plan) → rounded_to_sectors (stripe_bytes plan) ≤ plan.area.len
+    → key ≡ area_key plan passphrase → hash_by_name plan.splitter_hash.now ≡ hash
     → merged ≡ candidate plan (area_bytes volume plan.area) passphrase
 unfolding stripes_in
-candidate_read plan volume passphrase key merged area k hash is_merged is_size is_area =
-    let Merged : ℕ → Area → List ℕ =
-    λ n a. merge (hash_of hash) (digest_size_of hash) n plan.stripes (stripes_from key (area_bytes volume a) n plan.stripes) in
+candidate_read plan volume passphrase key merged area k hash is_merged is_size is_start is_len fits =
+    let Merged : ℕ → List ℕ → List ℕ =
+    λ n bytes. merge (hash_of hash) (digest_size_of hash) n plan.stripes (stripes_from key bytes n plan.stripes) in
+    let size = plan.key_bytes in
     candidate_is plan (area_bytes volume plan.area) passphrase key merged hash
-    (is_merged ∙ ap (λ n. Merged n area) is_size ∙ ap (Merged plan.key_bytes) is_area)
+    (is_merged
+    ∙ ap (λ n. Merged n (area_bytes volume area)) is_size
+    ∙ ap (λ start. Merged size (part volume start area.len)) is_start
+    ∙ ap (merge (hash_of hash) (digest_size_of hash) size plan.stripes)
+    (stripes_from-shorter key volume plan.area.start area.len plan.area.len size plan.stripes (omega (arith, is_len)) (omega (arith, is_len, fits))))
 
 -- the keyslot opens to the candidate where that meets the digest
 pub opens_read : (plan : SlotPlan) (area passphrase merged : List ℕ) → merged ≡ candidate plan area passphrase

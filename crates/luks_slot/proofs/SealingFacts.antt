@@ -14,7 +14,7 @@ use Rattle.luks_slot.specs.declared.plan.SlotPlan.{SlotPlan}
 use Rattle.luks_slot.specs.Opening.{area_bytes, area_key, hash_by_name, meets_digest, opened_sector, opened_sectors, slot_key, stripe_bytes, stripes_from, stripes_in}
 use Rattle.luks_slot.specs.Sealing.{stripes_of, IsSealed}
 use Rattle.luks_slot.specs.Writing.{ArePlaced, HoldsWanted, filled}
-use Rattle.luks_slot.proofs.AreaFacts.{length-opened_sectors, plain_at}
+use Rattle.luks_slot.proofs.AreaFacts.{length-opened_sectors, opened_sectors-shorter, plain_at}
 use Rattle.luks_slot.proofs.OpeningFacts.{opens_to}
 
 -- all bytes are zeros
@@ -72,28 +72,15 @@ placed_zeros a b zeros m are fits = record {
 }
 
 -- all that is wanted was put
-pub all_put : (key area wanted sector : List ℕ) (n place : ℕ) → place ≡ 512 * n → length wanted ≡ 512 * n → length area ≡ 512 * n
-    → HoldsWanted key area wanted place sector → opened_sectors key area n ≡ wanted
-all_put key area wanted sector n place is wanted_length area_length begun =
+pub all_put : (key area wanted run : List ℕ) (n len place : ℕ) → place ≡ 512 * n → place ≡ len → length wanted ≡ 512 * n → length area ≡ 512 * n
+    → HoldsWanted key area len wanted place run → opened_sectors key area n ≡ wanted
+all_put key area wanted run n len place is end wanted_length area_length begun =
     let fits : 512 * n ≤ length area = omega (arith, area_length) in
     let size = length-opened_sectors key area n fits in
     ext_get_or 0 (opened_sectors key area n) wanted (size ∙ sym wanted_length)
     (λ p lt.
     let below : p < 512 * n = omega (arith, lt, size) in
-    plain_at key area n p fits below ∙ begun.whole p (omega (arith, below, is)))
-
--- the first sectors of a shorter area
-opened_sectors-shorter : (key v : List ℕ) (start short len m : ℕ) → short ≤ len → 512 * m ≤ short
-    → opened_sectors key (part v start short) m ≡ opened_sectors key (part v start len) m
-unfolding opened_sectors opened_sector
-opened_sectors-shorter key v start short len zero less fits = refl
-opened_sectors-shorter key v start short len (suc m) less fits =
-    let before = opened_sectors-shorter key v start short len m less (omega (arith, fits)) in
-    let one : part (part v start short) (512 * m) 512 ≡ part v (start + 512 * m) 512 = part-part v start short (512 * m) 512 (omega (arith, fits)) in
-    let other : part (part v start len) (512 * m) 512 ≡ part v (start + 512 * m) 512 = part-part v start len (512 * m) 512 (omega (arith, fits, less)) in
-    let last : XtsOpen key m (part (part v start short) (512 * m) 512) ≡ XtsOpen key m (part (part v start len) (512 * m) 512) = ap (XtsOpen key m) (one ∙ sym other) in
-    ap (λ l. l ++ XtsOpen key m (part (part v start short) (512 * m) 512)) before
-    ∙ ap (λ l. opened_sectors key (part v start len) m ++ l) last
+    plain_at key area n p fits below ∙ begun.whole p (omega (arith, below, is, begun.end end)))
 
 -- the random stripes and the last one are as long as all of them
 pub length-stripes : (plan : SlotPlan) (random last : List ℕ) → 1 ≤ plan.stripes → length random ≡ (plan.stripes - 1) * plan.key_bytes

@@ -1,11 +1,14 @@
-//! Reading a keyslot's area, one decrypted sector of 512 bytes at a time.
+//! Reading a keyslot's area, decrypted, a run of eight sectors of 512 bytes at a time.
 
-ghost use Rattle.std.specs.Prelude.{◌≡◌, ◌+◌, ◌*◌, ◌/◌, ◌^◌, ◌<◌, ◌≤◌, length, OnOk, IfOk};
+ghost use Rattle.std.specs.Prelude.{◌≡◌, ◌+◌, ◌*◌, ◌/◌, ◌%◌, ◌^◌, ◌<◌, ◌≤◌, length, take, OnOk, IfOk};
 ghost use Rattle.luks_area.specs.Area.{IsInside};
 ghost use Rattle.luks_area.specs.Device.{CountsFailure, IsUnchanged, is_failure};
+ghost use Rattle.luks_area.specs.Ranges.{part};
 ghost use Rattle.luks_area.specs.Sectors.{rounded_to_sectors};
-ghost use Rattle.luks_slot.specs.Opening.{area_bytes, opened_sector};
-ghost use Rattle.luks_slot.specs.Reading.{plain_byte, ArePlain, IsReading};
+ghost use Rattle.luks_xts.specs.Units.{AreMade};
+ghost use Rattle.luks_xts.specs.Xts.{XtsOpen};
+ghost use Rattle.luks_slot.specs.Opening.{area_bytes};
+ghost use Rattle.luks_slot.specs.Reading.{plain_byte, run_length, ArePlain, HoldsRun, IsReading};
 
 use luks_area::{Area, Device, DeviceFault, SECTOR};
 use luks_xts::XtsKey;
@@ -13,12 +16,57 @@ use luks_xts::XtsKey;
 // The length of a sector as that of an array.
 pub(crate) const SECTOR_BYTES: usize = SECTOR as usize;
 
-// Reads the decrypted bytes of an area in a row, and holds one sector of them.
+// How many sectors a run has.
+pub(crate) const RUN_SECTORS: u64 = 8;
+
+// The length of a run.
+pub(crate) const RUN: u64 = 4096;
+
+// The length of a run as that of an array.
+pub(crate) const RUN_BYTES: usize = RUN as usize;
+
+// The bytes of a run that an area of so many bytes has.
+pub(crate) fn run_length(len: u64, number: u64) -> usize
+    requires { 4096 * number + 512 ≤ len }
+    ensures { result ≡ run_length len number }
+{
+    let left = len - RUN * number;
+    (left / SECTOR * SECTOR).min(RUN) as usize
+}
+
+// Reads sectors of so many bytes from a place of the device into the front of a run, and decrypts
+// them, the first under the number `first`.
+fn read_run<D: Device>(
+    device: &mut D,
+    key: &XtsKey,
+    at: u64,
+    first: u64,
+    len: usize,
+    run: &mut [u8],
+) -> Result<(), DeviceFault>
+    requires whole { len % 512 ≡ 0 }
+    requires at_most_eight { len ≤ 4096 }
+    requires long { length run.old ≡ 4096 }
+    requires within { at + len ≤ D.size device.old }
+    requires room { D.failed device.old + 1 < 2 ^ 64 }
+    ensures count { CountsFailure is_failure result
+        (D.failed device.old) (D.failed device.new) }
+    ensures unchanged { IsUnchanged D.tells D.size D.bytes D.unsettled device.old device.new }
+    ensures value { D.tells → OnOk result (AreMade (XtsOpen key.now) first
+        (part (D.bytes device.old) at len) (take len run.new)) }
+{
+    let sectors = &mut run[..len];
+    device.read_at(at, sectors)?;
+    key.open_units(first, sectors);
+    Ok(())
+}
+
+// Reads the decrypted bytes of an area in a row, and holds one run of them.
 #[derive(Drop)]
 pub(crate) struct AreaReader {
     pub(crate) area: Area,
     pub(crate) key: XtsKey,
-    pub(crate) sector: [u8; SECTOR_BYTES],
+    pub(crate) run: [u8; RUN_BYTES],
 }
 
 impl AreaReader {
@@ -30,13 +78,13 @@ impl AreaReader {
         AreaReader {
             area,
             key,
-            sector: [0; SECTOR_BYTES],
+            run: [0; RUN_BYTES],
         }
     }
 
-    // Reads and decrypts one sector of the area.
+    // Reads and decrypts a run of the area, or as many sectors of it as the area has.
     fn load<D: Device>(&mut self, device: &mut D, number: u64) -> Result<(), DeviceFault>
-        requires in_area { 512 * (number + 1) ≤ self.old.area.len }
+        requires in_area { 4096 * number + 512 ≤ self.old.area.len }
         requires within { IsInside self.old.area (D.size device.old) }
         requires room { D.failed device.old + 1 < 2 ^ 64 }
         ensures count { CountsFailure is_failure result
@@ -44,16 +92,18 @@ impl AreaReader {
         ensures unchanged { IsUnchanged D.tells D.size D.bytes D.unsettled device.old device.new }
         ensures same_area { self.new.area ≡ self.old.area }
         ensures same_key { self.new.key ≡ self.old.key }
-        ensures value { D.tells → OnOk result (self.new.sector
-            ≡ opened_sector self.old.key (area_bytes (D.bytes device.old) self.old.area) number) }
+        ensures value { D.tells → OnOk result (HoldsRun self.old.key
+            (area_bytes (D.bytes device.old) self.old.area) self.old.area.len number self.new.run) }
     {
-        device.read_at(self.area.start + SECTOR * number, &mut self.sector)?;
-        self.key.open_unit(number, &mut self.sector);
+        let len = run_length(self.area.len, number);
+        let at = self.area.start + RUN * number;
+        let first = RUN_SECTORS * number;
+        read_run(device, &self.key, at, first, len, &mut self.run)?;
         Ok(())
     }
 
-    // The decrypted byte at a place of the area. Its sector is held, or is loaded where it begins
-    // at the place.
+    // The decrypted byte at a place of the area. Its run is held, or is loaded where it begins at
+    // the place.
     fn byte_at<D: Device>(&mut self, device: &mut D, place: u64) -> Result<u8, DeviceFault>
         requires in_area { 512 * (place / 512 + 1) ≤ self.old.area.len }
         requires within { IsInside self.old.area (D.size device.old) }
@@ -69,10 +119,10 @@ impl AreaReader {
         ensures value { D.tells → IfOk result (λ b. b
             ≡ plain_byte self.old.key (area_bytes (D.bytes device.old) self.old.area) place) }
     {
-        if place % SECTOR == 0 {
-            self.load(device, place / SECTOR)?;
+        if place % RUN == 0 {
+            self.load(device, place / RUN)?;
         }
-        Ok(self.sector[(place % SECTOR) as usize])
+        Ok(self.run[(place % RUN) as usize])
     }
 
     // Reads the decrypted bytes of the area from a place on.

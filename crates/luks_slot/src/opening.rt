@@ -17,7 +17,7 @@ use crate::key::Key;
 use crate::merging::read_candidate;
 use crate::parameters::parameters_within;
 use crate::plan::{DigestPlan, SlotPlan};
-use luks_area::Device;
+use luks_area::{Area, Device, rounded_to_sectors};
 use luks_kdf::HashName;
 use std::alloc::Global;
 
@@ -26,8 +26,9 @@ use std::alloc::Global;
 /// 1.1, 4.3).
 ///
 /// No memory is allowed to Argon2, so that a refusal is of the plan alone, the first of `Argon2`,
-/// `Cipher`, `Hash` and `KeySize`. `Device` comes exactly where the device failed. The area is read a
-/// sector of 512 bytes at a time, and no memory is taken from the allocator.
+/// `Cipher`, `Hash` and `KeySize`. `Device` comes exactly where the device failed. Of the area the
+/// sectors of the stripes are read, eight of 512 bytes at a time, and no memory is taken from the
+/// allocator.
 pub fn open<D: Device>(
     alloc: Global,
     device: &mut D,
@@ -149,12 +150,25 @@ pub fn try_within<D: Device>(
 {
     let parameters = parameters_within(plan, memory)?;
     let key = area_key(alloc, plan, &parameters, passphrase)?;
-    let mut reader = AreaReader::new(plan.area, key);
+    let mut reader = AreaReader::new(stripes_area(plan), key);
     let mut buffer = [0u8; 128];
     let candidate = &mut buffer[..plan.key_bytes];
     let hash = parameters.splitter_hash;
     read_candidate(device, &mut reader, hash, plan.stripes, candidate)?;
     Ok(tested(&plan.digest, parameters.digest_hash, candidate))
+}
+
+// The sectors of the keyslot's area that hold its stripes.
+fn stripes_area(plan: &SlotPlan<'_>) -> Area
+    requires { plan.now.key_bytes ≤ 128 }
+    ensures start { result.start ≡ plan.now.area.start }
+    ensures len { result.len ≡ rounded_to_sectors (stripe_bytes plan.now) }
+{
+    let bytes = plan.key_bytes as u64 * u64::from(plan.stripes);
+    Area {
+        start: plan.area.start,
+        len: rounded_to_sectors(bytes),
+    }
 }
 
 // The candidate where it is the key, or how far it is from the digest.

@@ -32,8 +32,8 @@ use std::alloc::Global;
 /// flushed.
 ///
 /// No memory is allowed to Argon2, so that a refusal is of the plan alone, the first of `Argon2`,
-/// `Cipher`, `Hash` and `KeySize`, and then no byte changes. `Device` comes exactly where the device failed. A sector is held at a time, and
-/// no memory is taken from an allocator.
+/// `Cipher`, `Hash` and `KeySize`, and then no byte changes. `Device` comes exactly where the device
+/// failed. Eight sectors are held and written at a time, and no memory is taken from an allocator.
 pub fn seal<D: Device>(
     device: &mut D,
     plan: &SlotPlan<'_>,

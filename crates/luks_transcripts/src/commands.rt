@@ -3,6 +3,7 @@ ghost use Rattle.std.specs.Prelude.{◌≡◌, IfOk};
 
 use crate::failing::{Room, Trouble, Troubles};
 use crate::objects::print_object;
+use crate::secrets::tells_secret;
 use luks_cli::{CountingPrinter, InputFault, Inputs, Line, execute};
 use luks_line::{Asked as Parsed, parse};
 use luks_transcript_volumes::{Asked, Disk, Fault, Files, Kept, Record, Source, Volumes};
@@ -28,6 +29,8 @@ pub struct Told {
     printed: usize,
     err: Vec<u8>,
     said: usize,
+    /// Whether a run of a secret's bytes stands on one of the two.
+    tells_secret: bool,
     pub status: u8,
 }
 
@@ -127,6 +130,7 @@ fn run_as(
     };
     told.printed = out.writer.position() as usize;
     told.said = err.position() as usize;
+    told.tells_secret = tells_secret(files, told.out()) || tells_secret(files, told.err());
     let Inputs {
         volume,
         target,
@@ -148,6 +152,7 @@ impl Told {
             printed: 0,
             err: vec![in alloc; 0u8; room.err]?,
             said: 0,
+            tells_secret: false,
             status: 0,
         })
     }
@@ -180,11 +185,14 @@ impl Told {
     }
 
     /// Prints what the command said on standard output and, each line behind a `!`, on standard error, and
-    /// its status. A last line without a line feed is told as such.
+    /// its status. A last line without a line feed is told as such, and so is a secret that it said.
     pub fn print<W: Write>(&self, out: &mut W) -> Result<(), Fault> {
         print_lines(out, b"", self.out())?;
         print_lines(out, b"! ", self.err())?;
         write!(out, "= {}", self.status)?;
+        if self.tells_secret {
+            write!(out, " with a secret")?;
+        }
         Ok(())
     }
 }

@@ -52,7 +52,8 @@
 //! `commands`, commands of the program, their words parted by single spaces:
 //!
 //!     $ WORDS                prints standard output, standard error behind `!`, and the status behind `=`; of `check`
-//!                            and `open` with `--json` one object
+//!                            and `open` with `--json` one object. Where 8 bytes in a row of a passphrase or of a volume
+//!                            key stand on an output, of this and of every other run of a command, `with a secret` follows
 //!
 //! `trials`, runs of a command; what follow each other alike are printed once, with `kept` where all of them left the
 //! volumes as they were:
@@ -114,6 +115,7 @@ mod failing;
 mod lines;
 mod objects;
 mod repeated;
+mod secrets;
 mod session;
 mod step;
 mod trials;

@@ -1,6 +1,7 @@
 //! AES and XTS.
+use luks_aes::AesKey;
 use luks_vector_lines::{Malformed, Words, demand};
-use luks_xts::{AesKey, XtsKey};
+use luks_xts::XtsKey;
 use std::alloc::Global;
 
 /// `aes KEY BLOCK`: the block that the key encrypts this one to, and whether it decrypts that one back;

@@ -21,7 +21,7 @@ use Rattle.luks2_edits.specs.Edited.{HasRanges, OpensAfter2}
 use Rattle.luks2_edits.specs.Places.{Loses}
 use Rattle.luks2_edits.specs.Refused.{IsUnrefused2}
 use Rattle.luks_volume.specs.Edits.{AfterAs, IsEditFault, IsUnrefused, LeftoverAs, Leftover, Makes, MakesAs, Replies}
-use Rattle.luks_volume.specs.Outcome.{OpensMade, Spares, SparesAs, WipesLost}
+use Rattle.luks_volume.specs.Outcome.{IsApplied, OpensMade, Spares, SparesAs, WipesLost}
 use Rattle.luks1_edits.proofs.EditedFacts.{leftover_keeps, leftover_opens, leftover_rest as leftover_rest1, opens_after as opens_after1, removed_area}
 use Rattle.luks1_edits.proofs.RefusalFacts.{leftover_refused as leftover_refused1}
 use Rattle.luks2_edits.proofs.AfterFacts.{lost_zeros}
@@ -30,6 +30,7 @@ use Rattle.luks2_edits.proofs.RefusalFacts.{leftover_refused as leftover_refused
 use Rattle.luks2_edits.proofs.TornFacts.{leftover_outcome}
 use Rattle.luks2_edits.proofs.TouchedFacts.{leftover_rest as leftover_rest2}
 use Rattle.luks_volume.proofs.CountFacts.{the_failure}
+use Rattle.luks_volume.proofs.EditFacts.{edit_keeps}
 use Rattle.luks_volume.proofs.VersionFacts.{fault_by}
 
 -- a keyslot that is lost is removed
@@ -84,7 +85,7 @@ opens_as payload e v random w (luks2 o copies) chosen well ranges fine after =
     opens_by2 v e w o copies chosen (opens_after2 v payload random w well e ranges (unrefused2 v payload e random o copies chosen fine) after)
 opens_as payload e v random w nothing chosen well ranges fine after = absurd after
 
-pub edit_opens : (payload : Data) (v w : List ℕ) (e : Edit) (random : List ℕ) (r : Reply) → WellFormed v payload
+edit_opens : (payload : Data) (v w : List ℕ) (e : Edit) (random : List ℕ) (r : Reply) → WellFormed v payload
     → Replies payload v e random r w → OnOk r (OpensMade v e w)
 edit_opens payload v w e random (Ok done) well is = opens_as payload e v random w is.3.choice is.3.chosen well is.0 is.1 is.3.after
 edit_opens payload v w e random (Err f) well is = tt
@@ -94,7 +95,7 @@ wipes_as payload e v random w luks1 chosen well after = record { zeros = λ n a 
 wipes_as payload e v random w (luks2 o copies) chosen well after = record { zeros = λ n a lost is. lost_zeros v payload e random w n a well after lost is }
 wipes_as payload e v random w nothing chosen well after = absurd after
 
-pub edit_wipes : (payload : Data) (v w : List ℕ) (e : Edit) (random : List ℕ) (r : Reply) → WellFormed v payload
+edit_wipes : (payload : Data) (v w : List ℕ) (e : Edit) (random : List ℕ) (r : Reply) → WellFormed v payload
     → Replies payload v e random r w → OnOk r (WipesLost v payload e w)
 edit_wipes payload v w e random (Ok done) well is = wipes_as payload e v random w is.3.choice is.3.chosen well is.3.after
 edit_wipes payload v w e random (Err f) well is = tt
@@ -109,7 +110,7 @@ left_refused payload e v random w f (luks2 o copies) chosen is left =
 left_refused payload e v random w f nothing chosen is left = left
 
 -- it changes nothing, whatever is replied
-pub edit_refused : (payload : Data) (v w : List ℕ) (e : Edit) (random : List ℕ) (r : Reply) → Replies payload v e random r w
+edit_refused : (payload : Data) (v w : List ℕ) (e : Edit) (random : List ℕ) (r : Reply) → Replies payload v e random r w
     → (f : EditFault) → IsEditFault v payload e random f → w ≡ v
 edit_refused payload v w e random (Ok done) is f bad = absurd (is.1.none f bad)
 edit_refused payload v w e random (Err fault.Device) is f bad = left_refused payload e v random w f is.choice is.chosen bad is.left
@@ -135,7 +136,7 @@ spares_as payload e v random w (luks2 o copies) chosen well ranges left = record
 }
 spares_as payload e v random w nothing chosen well ranges left = well_chosen v payload well chosen
 
-pub edit_spares : (payload : Data) (v w : List ℕ) (e : Edit) (random : List ℕ) (r : Reply) → WellFormed v payload → HasRanges v e random
+edit_spares : (payload : Data) (v w : List ℕ) (e : Edit) (random : List ℕ) (r : Reply) → WellFormed v payload → HasRanges v e random
     → IsFailure r → Replies payload v e random r w → Spares v payload e random w
 edit_spares payload v w e random r well ranges failed is =
     let left : Leftover v payload e random w = subst (λ q. Replies payload v e random q w) (the_failure r failed) is in
@@ -145,3 +146,16 @@ edit_spares payload v w e random r well ranges failed is =
       refused = edit_refused payload v w e random r is;
       spared = spares_as payload e v random w left.choice left.chosen well ranges left.left;
     }
+
+-- ---- an edit as a whole, by its reply
+
+pub applied_by : (payload : Data) (v : List ℕ) (e : Edit) (random : List ℕ) (r : Reply) (w : List ℕ) → HasRanges v e random
+    → Replies payload v e random r w → IsApplied payload v e random r w
+applied_by payload v e random r w ranges is = record {
+  replies = is;
+  keeps = λ well fine. edit_keeps payload v w e random r well is fine;
+  opens = λ well. edit_opens payload v w e random r well is;
+  wiped = λ well. edit_wipes payload v w e random r well is;
+  refused = edit_refused payload v w e random r is;
+  spared = λ well failed. edit_spares payload v w e random r well ranges failed is;
+}

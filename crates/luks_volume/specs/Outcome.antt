@@ -1,7 +1,7 @@
 -- What an edit brings about in a well formed volume of either version, beside what it keeps: the
 -- keyslot that it made opens, the area that a keyslot lost is zeros; and what a failing device call
 -- spares of it.
-use Rattle.std.specs.Prelude.{◌≡◌, ◌⊎◌, ℕ, List, replicate, ⊤}
+use Rattle.std.specs.Prelude.{◌≡◌, ◌⊎◌, ℕ, List, replicate, OnOk, ⊤}
 use Rattle.luks_area.specs.declared.area.Area.{Area}
 use Rattle.luks_area.specs.declared.area.AreaName.TheVariants.{Slot}
 use Rattle.luks_area.specs.Ranges.{part, SameBut}
@@ -15,6 +15,8 @@ use Rattle.luks_edit.specs.declared.edit.Edit.TheVariants.{Add, Change, Remove, 
 use Rattle.luks_edit.specs.Asked.{memory_for}
 use Rattle.luks_edit.specs.declared.edit_fault.EditFault.{EditFault}
 use Rattle.luks_edit.specs.Kept.{Keeps}
+use Rattle.luks_edit.specs.Ran.{IsCompleted, IsFailure, Reply}
+use Rattle.luks_reading.specs.Checked.{WellFormed}
 use Rattle.luks1_edits.specs.Edited.{NamedKeyslots1}
 use Rattle.luks1_edits.specs.Kept.{KeepsOthers}
 use Rattle.luks1_edits.specs.Leftovers.{OpensEither1}
@@ -22,7 +24,7 @@ use Rattle.luks1_edits.specs.Places.{IsOfKeyslots}
 use Rattle.luks2_edits.specs.Edited.{NamedKeyslots2}
 use Rattle.luks2_edits.specs.Leftovers.{CountsAsAfter, CountsAsBefore, IsNotStray, OpensEither2}
 use Rattle.luks2_edits.specs.Places.{IsTouchedIn, Loses}
-use Rattle.luks_volume.specs.Edits.{IsEditFault, Makes}
+use Rattle.luks_volume.specs.Edits.{IsEditFault, Makes, NamedSlots, Replies}
 
 -- the keyslot that the edit of `v` made, or sealed again, opens in `w` by the new passphrase to the
 -- key that the old one opened, where Argon2 may take the same memory
@@ -93,3 +95,19 @@ pub record Spares
 abbrev pub IsUnstray : List ℕ → Data → Edit → List ℕ → List ℕ → Type 0
 IsUnstray v payload e random w = (o : ℕ) (copies : Copies) → Chosen v (luks2 o copies)
     → IsNotStray v payload e random w
+
+-- ---- an edit as a whole
+
+-- what an edit of the volume `v` by these random bytes leaves where it is replied so: what the reply
+-- says, and what follows of it
+pub record IsApplied (payload : Data) (v : List ℕ) (e : Edit) (random : List ℕ) (reply : Reply) (w : List ℕ) : Type 0 where
+  pub replies : Replies payload v e random reply w
+  -- a volume that was well formed is so again, and nothing changed that the edit doesn't name
+  pub keeps : WellFormed v payload → (IsFailure reply → ⊥) → Keeps payload (λ n. IsCompleted reply × NamedSlots v e n) v w
+  -- the keyslot that was made opens, and the area that a keyslot lost is zeros
+  pub opens : WellFormed v payload → OnOk reply (OpensMade v e w)
+  pub wiped : WellFormed v payload → OnOk reply (WipesLost v payload e w)
+  -- an edit that a fault refuses changes no byte, whatever is replied: where the device failed too
+  pub refused : (f : EditFault) → IsEditFault v payload e random f → w ≡ v
+  -- what is left where the device failed
+  pub spared : WellFormed v payload → IsFailure reply → Spares v payload e random w

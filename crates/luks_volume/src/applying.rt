@@ -1,15 +1,10 @@
 //! Applying an edit to a volume.
-ghost use Rattle.std.specs.Prelude.{◌≡◌, ◌≢◌, ◌+◌, ◌^◌, ◌<◌, IfErr, OnOk};
+ghost use Rattle.std.specs.Prelude.{◌≡◌, ◌≢◌, ◌+◌, ◌^◌, ◌<◌, IfErr};
 ghost use Rattle.luks_area.specs.Device.{CountsFailure, IsSettled};
-ghost use Rattle.luks_edit.specs.declared.edit_fault.EditFault.{EditFault as TheFault};
 ghost use Rattle.luks_edit.specs.EditFaults.{is_edit_failure};
-ghost use Rattle.luks_edit.specs.Kept.{Keeps};
-ghost use Rattle.luks_edit.specs.Ran.{IsCompleted, IsFailure};
-ghost use Rattle.luks_reading.specs.Checked.{WellFormed};
-ghost use Rattle.luks_reading.specs.Header.{TakesNoMemory};
+ghost use Rattle.luks_reading.specs.Header.{IsAcceptedHeader, IsHeader, TakesNoMemory};
 ghost use Rattle.luks2_edits.specs.Edited.{HasRangedIterations};
-ghost use Rattle.luks_volume.specs.Edits.{IsEditFault, NamedSlots, Replies};
-ghost use Rattle.luks_volume.specs.Outcome.{OpensMade, Spares, WipesLost};
+ghost use Rattle.luks_volume.specs.Outcome.{IsApplied};
 
 use crate::header::edited_header;
 use luks_edit::{Done, Edit, EditFault};
@@ -41,29 +36,45 @@ pub fn apply<D: Device>(
         → IsSettled D.unsettled device.new }
     ensures count { CountsFailure is_edit_failure result
         (D.failed device.old) (D.failed device.new) }
-    ensures replies { D.tells → Replies data_ (D.bytes device.old) edit.now random.now result
+    ensures applied { D.tells → IsApplied data_ (D.bytes device.old) edit.now random.now result
         (D.bytes device.new) }
     ensures memory { D.tells → TakesNoMemory (D.bytes device.old)
         → IfErr result (λ f. f ≢ EditFault.Memory) }
-    // A volume that was well formed is so again, and nothing changed that the edit doesn't name.
-    ensures keeps { D.tells → WellFormed (D.bytes device.old) data_ → (IsFailure result → ⊥)
-        → Keeps data_ (λ n. IsCompleted result × NamedSlots (D.bytes device.old) edit.now n)
-        (D.bytes device.old) (D.bytes device.new) }
-    // The keyslot that was made opens, and the area that a keyslot lost is zeros.
-    ensures opens { D.tells → WellFormed (D.bytes device.old) data_ → OnOk result
-        (OpensMade (D.bytes device.old) edit.now (D.bytes device.new)) }
-    ensures wiped { D.tells → WellFormed (D.bytes device.old) data_ → OnOk result
-        (WipesLost (D.bytes device.old) data_ edit.now (D.bytes device.new)) }
-    // An edit that a fault refuses changes no byte, whatever is replied: where the device failed too.
-    ensures refused { D.tells → (f : TheFault)
-        → IsEditFault (D.bytes device.old) data_ edit.now random.now f
-        → D.bytes device.new ≡ D.bytes device.old }
-    // What is left where the device failed.
-    ensures spared { D.tells → WellFormed (D.bytes device.old) data_ → IsFailure result
-        → Spares (D.bytes device.old) data_ edit.now random.now (D.bytes device.new) }
 {
     iterations_have_32_bits(edit);
     let header = edited_header(alloc, device)?;
+    apply_of_header(alloc, device, header, data_, edit, random)
+}
+
+/// What `apply` does of a volume whose header, read before, is this one: the header isn't read again.
+/// It is given up, so that the old metadata doesn't live beside the new.
+///
+/// Where the device has other bytes than those of which the header was read, nothing is said of what
+/// the edit leaves.
+#[tactic(auto, using(luks_area::specs::DeviceFacts::settled_unchanged))]
+pub fn apply_of_header<D: Device>(
+    alloc: Global,
+    device: &mut D,
+    header: Header,
+    data_: Data,
+    edit: &Edit<'_>,
+    random: &[u8],
+) -> Result<Done, EditFault>
+    requires room { D.failed device.old + 1 < 2 ^ 64 }
+    requires settled { D.tells → IsSettled D.unsettled device.old }
+    requires accepted { IsAcceptedHeader header }
+    requires read { D.tells → IsHeader (D.bytes device.old) header }
+    ensures size { D.size device.new ≡ D.size device.old }
+    ensures settled { D.tells → D.failed device.new ≡ D.failed device.old
+        → IsSettled D.unsettled device.new }
+    ensures count { CountsFailure is_edit_failure result
+        (D.failed device.old) (D.failed device.new) }
+    ensures applied { D.tells → IsApplied data_ (D.bytes device.old) edit.now random.now result
+        (D.bytes device.new) }
+    ensures memory { D.tells → TakesNoMemory (D.bytes device.old)
+        → IfErr result (λ f. f ≢ EditFault.Memory) }
+{
+    iterations_have_32_bits(edit);
     match header {
         Header::Luks1(bytes) => apply_luks1(alloc, device, &bytes, data_, edit, random),
         Header::Luks2(_) => apply_luks2(alloc, device, header, data_, edit, random),

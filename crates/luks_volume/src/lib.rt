@@ -8,7 +8,7 @@ mod laws;
 mod needing;
 mod running;
 
-pub use applying::apply;
+pub use applying::{apply, apply_of_header};
 pub use header::edited_header;
 pub use laws::{edits_keep_volume, list_runs_by_steps};
 pub use luks_area::FileDevice;

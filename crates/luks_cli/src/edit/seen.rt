@@ -1,7 +1,7 @@
-//! What is seen of an edit before it is run.
+//! What is seen of an edit before it is applied.
 ghost use Rattle.std.specs.Prelude.{◌≡◌, ◌+◌, ◌<◌, ◌^◌, IfOk, IfErr};
 ghost use Rattle.luks_area.specs.Device.{CountsFailure, IsUnchanged};
-ghost use Rattle.luks_reading.specs.Header.{IsAcceptedHeader};
+ghost use Rattle.luks_reading.specs.Header.{IsAcceptedHeader, IsHeader};
 ghost use Rattle.luks_volume.specs.Needed.{NeedsRandom};
 ghost use Rattle.luks_cli.specs.OtherUses.{is_unseen_failure, IsUnseen, SeesBarred};
 
@@ -15,9 +15,11 @@ use luks_volume::{
 use std::alloc::Global;
 use std::io::Write;
 
-/// What is seen of an edit before it is run.
-#[derive(Debug, Clone, Copy)]
+/// What is seen of an edit before it is applied.
+#[derive(Drop)]
 pub(super) struct Seen {
+    /// The header that counts, which the edit is applied over.
+    pub(super) header: Header,
     /// How many random bytes it takes.
     pub(super) needed: u64,
     /// The keyslot that it makes, where that has fewer iterations than the one that it opens.
@@ -79,6 +81,8 @@ pub(super) fn see<D: Device>(
     ensures unchanged { IsUnchanged D.tells D.size D.bytes D.unsettled device.old device.new }
     ensures count { CountsFailure is_unseen_failure result
         (D.failed device.old) (D.failed device.new) }
+    ensures accepted { IfOk result (λ seen. IsAcceptedHeader seen.header) }
+    ensures read { D.tells → IfOk result (λ seen. IsHeader (D.bytes device.old) seen.header) }
     ensures tells { D.tells → IfOk result (λ seen.
         NeedsRandom (D.bytes device.old) editing.now.data_ edit.now seen.needed) }
     ensures unseen { D.tells → IfErr result
@@ -90,10 +94,13 @@ pub(super) fn see<D: Device>(
         return Err(Unseen::Used(found));
     }
     let needed = needed_of_header(&header, editing.data_, device.len(), edit)?;
+    let weaker = weaker_keyslot(&header, edit);
+    let argon2 = argon2_keyslot(&header, device.len(), edit);
     Ok(Seen {
+        header,
         needed,
-        weaker: weaker_keyslot(&header, edit),
-        argon2: argon2_keyslot(&header, device.len(), edit),
+        weaker,
+        argon2,
     })
 }
 
@@ -157,14 +164,14 @@ fn argon2_keyslot(header: &Header, total: u64, edit: &Edit<'_>) -> Option<Memory
 /// Says of the keyslot that was refused how much memory would have to be allowed, where that helps.
 pub(super) fn note_refused<E: Write>(argon2: Option<MemoryNote>, err: &mut E) {
     if let Some(note) = argon2 {
-        note.say_refused(err);
+        let _ = note.say_refused(err);
     }
 }
 
 /// Says of the keyslot how much memory it asked for, where memory was refused.
 pub(super) fn note_wanting<E: Write>(argon2: Option<MemoryNote>, err: &mut E) {
     if let Some(note) = argon2 {
-        note.say_wanting(err);
+        let _ = note.say_wanting(err);
     }
 }
 

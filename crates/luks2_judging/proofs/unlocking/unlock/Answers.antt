@@ -11,7 +11,7 @@ returns-in-Some-clause-opened g c = λ tells is e same asked.
     let v = g.D.Device.bytes c.args.device.now in
     opens_by v e c.args.n c.args.passphrase.now asked c.in-Some.key
     (subst (λ m. AnswerWithin m v c.args.n c.args.passphrase.now (opens c.in-Some.key)) (sym same)
-    (subst (λ o. AnswerWithin c.args.memory v c.args.n c.args.passphrase.now (opened_to o)) c.in-Some.is (c.in-Ok.ensures.opens tells is)))
+    (subst (λ o. AnswerWithin c.args.memory v c.args.n c.args.passphrase.now (opened_to o)) c.in-Some.is (c.in-Ok.ensures.answers.opens tells is)))
 
 pub returns-in-Err-clause-refused : goal.returns-in-Err-clause-refused
 returns-in-Err-clause-refused g c = λ tells is payload e well same asked there.
@@ -20,9 +20,9 @@ returns-in-Err-clause-refused g c = λ tells is payload e well same asked there.
     let x = copy_in v c.args.header.now h.0 h.1 is in
     rw c.unopened.ensures
     (unopened_by v e c.args.n c.args.passphrase.now asked h.0.header.hdr_offset (content h.0.meta) (metadata_of v h.0 x) payload well there
-    c.in-Err.fault (subst (λ m. IsRefusedByWithin m v c.args.n c.args.passphrase.now c.in-Err.fault) (sym same) (c.in-Err.ensures.refused tells is))
-    (subst (λ m. c.in-Err.fault ≡ Memory → TakesMemory m v c.args.n) (sym same) (c.in-Err.ensures.memory tells is)))
+    c.in-Err.fault (subst (λ m. IsRefusedByWithin m v c.args.n c.args.passphrase.now c.in-Err.fault) (sym same) (c.in-Err.ensures.answers.refused tells is))
+    (subst (λ m. c.in-Err.fault ≡ Memory → TakesMemory m v c.args.n) (sym same) (c.in-Err.ensures.answers.memory tells is)))
 
 pub returns-in-Err-clause-memory : goal.returns-in-Err-clause-memory
 returns-in-Err-clause-memory g c = λ tells is wants.
-    c.in-Err.ensures.memory tells is (wanting_of c.args.n c.in-Err.fault (sym c.unopened.ensures ∙ wants))
+    c.in-Err.ensures.answers.memory tells is (wanting_of c.args.n c.in-Err.fault (sym c.unopened.ensures ∙ wants))

@@ -1,4 +1,4 @@
-use Rattle.luks_commands.proofs.FormatFacts.{made, same_by, same_or_memory_by}
+use Rattle.luks_commands.proofs.FormatFacts.{made, made_fault, same_by, same_or_memory_by}
 use Rattle.luks_request.specs.declared.request.NewVersion.TheVariants.{Luks1, Luks2}
 use Rattle.luks_commands.proofs.format.make.Goals as goal
 
@@ -18,3 +18,6 @@ returns-in-Luks2-clause-made g c = λ tells.
 pub returns-in-Luks2-clause-refused : goal.returns-in-Luks2-clause-refused
 returns-in-Luks2-clause-refused g c = λ tells.
     same_or_memory_by c.format2.result _ c.format2.ensures.fault (c.format2.ensures.same tells) (c.format2.ensures.memory tells)
+
+pub returns-in-Luks2-clause-fault : goal.returns-in-Luks2-clause-fault
+returns-in-Luks2-clause-fault g c = made_fault c.format2.result c.args.making.now _ _ c.in-Luks2.is c.format2.ensures.fault

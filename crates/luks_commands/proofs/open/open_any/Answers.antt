@@ -12,9 +12,9 @@ returns-clause-answers g c =
     subst (IsAnyAnswer g.D.Device.tells c.args.memory v c.args.passphrase.now _ _) (sym c.any_answer-answer.ensures)
     (answers_any g.D.Device.tells c.args.memory v c.args.passphrase.now _ _ c.try_header-opened.result (rw c.in-Ok.ensures.count at c.try_header-opened.ensures.count)
     (λ tells. rw (c.read_header.ensures.unchanged.same tells) at
-    (c.try_header-opened.ensures.unlocks tells (rw (c.read_header.ensures.unchanged.same tells) (c.in-Ok.ensures.read tells))))
+    (c.try_header-opened.ensures.answers.unlocks tells (rw (c.read_header.ensures.unchanged.same tells) (c.in-Ok.ensures.read tells))))
     (λ tells. rw (c.read_header.ensures.unchanged.same tells) at
-    (c.try_header-opened.ensures.refused tells (rw (c.read_header.ensures.unchanged.same tells) (c.in-Ok.ensures.read tells)))))
+    (c.try_header-opened.ensures.answers.refused tells (rw (c.read_header.ensures.unchanged.same tells) (c.in-Ok.ensures.read tells)))))
 
 pub returns-in-Err-clause-answers : goal.returns-in-Err-clause-answers
 returns-in-Err-clause-answers g c =

@@ -13,9 +13,9 @@ returns-clause-answers g c =
     (answers_one g.D.Device.tells c.args.memory v c.args.n c.args.passphrase.now _ _ c.try_header_slot-opened.result
     (rw c.in-Ok.ensures.count at c.try_header_slot-opened.ensures.count)
     (λ tells. rw (c.read_header.ensures.unchanged.same tells) at
-    (c.try_header_slot-opened.ensures.opens tells (rw (c.read_header.ensures.unchanged.same tells) (c.in-Ok.ensures.read tells))))
+    (c.try_header_slot-opened.ensures.answers.opens tells (rw (c.read_header.ensures.unchanged.same tells) (c.in-Ok.ensures.read tells))))
     (λ tells. rw (c.read_header.ensures.unchanged.same tells) at
-    (c.try_header_slot-opened.ensures.refused tells (rw (c.read_header.ensures.unchanged.same tells) (c.in-Ok.ensures.read tells)))))
+    (c.try_header_slot-opened.ensures.answers.refused tells (rw (c.read_header.ensures.unchanged.same tells) (c.in-Ok.ensures.read tells)))))
 
 pub returns-in-Err-clause-answers : goal.returns-in-Err-clause-answers
 returns-in-Err-clause-answers g c =

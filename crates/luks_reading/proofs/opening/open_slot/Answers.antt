@@ -30,7 +30,7 @@ returns-clause-only g c = λ tells a y.
     let is = c.in_ok-header.ensures.read tells in
     let same = c.in_ok-header.ensures.unchanged.same tells in
     agrees c.args.memory v c.args.n c.args.passphrase.now (one_answer c.args.memory v c.args.n c.args.passphrase.now) c.open_header_slot.result
-    (rw same at (c.open_header_slot.ensures.opens tells (rw same is))) (rw same at (c.open_header_slot.ensures.refused tells (rw same is))) a y
+    (rw same at (c.open_header_slot.ensures.answers.opens tells (rw same is))) (rw same at (c.open_header_slot.ensures.answers.refused tells (rw same is))) a y
 
 pub returns-clause-memory : goal.returns-clause-memory
 returns-clause-memory g c = λ tells none.
@@ -38,4 +38,4 @@ returns-clause-memory g c = λ tells none.
     let is = c.in_ok-header.ensures.read tells in
     let same = c.in_ok-header.ensures.unchanged.same tells in
     IfErr-weaker c.open_header_slot.result _ _ (λ fault takes e. none_taken c.args.memory v c.args.n (subst (λ (w : List ℕ). TakesMemory c.args.memory w c.args.n) same (takes e)) none)
-    (c.open_header_slot.ensures.memory tells (rw same is))
+    (c.open_header_slot.ensures.answers.memory tells (rw same is))

@@ -1,81 +1,83 @@
 -- What the header that counts gives is what the volume gives.
-use Rattle.std.proofs.Common.{ℕ, List, length, subst, sym, ◌≡◌, ◌∙◌}
+use Rattle.std.proofs.Common.{ℕ, List, length, subst, sym, IfOk, IfSome, ◌≡◌, ◌∙◌}
 use Rattle.std.proofs.lemmas.Result.{IfErr-weaker, IfOk-weaker}
+use Rattle.luks1_header.specs.Bytes.{number_at}
 use Rattle.luks_head.specs.Header2.{header_at}
 use Rattle.luks_reading.specs.Luks1Keyslots.{Luks1Opens, Luks1Refused}
 use Rattle.luks_reading.specs.Luks2Keyslots.{Luks2Refused, Luks2TakesMemory}
 use Rattle.luks_reading.specs.Header.{json_at, IsHeader}
+use Rattle.luks_reading.specs.Plans.{HasKeyBytes}
 use Rattle.luks_reading.proofs.KeyslotAnswers.{luks1_opens, luks1_refused, luks2_opens, luks2_refused, luks2_takes}
 use Rattle.luks_reading.proofs.ReadFaults.{cleared_copy}
 use Rattle.luks_reading.proofs.TriedKeyslots.{luks1_own}
 use Rattle.luks_reading.proofs.opening.try_header_slot.Goals as goal
 
-pub returns-in-Luks1-clause-opens : goal.returns-in-Luks1-clause-opens
-returns-in-Luks1-clause-opens g c = λ tells is.
-    let v = g.D.Device.bytes c.args.device.now in
-    let n = c.args.n in
-    let p = c.args.passphrase.now in
-    let chosen = subst (IsHeader v) c.in-Luks1.is is in
-    IfOk-weaker c.open_luks1.result _ _ (λ found opens.
-    luks1_opens c.args.memory v n p found chosen.0 (subst (λ (h : List ℕ). Luks1Opens h v n p found) (c.as_slice.ensures ∙ chosen.1) opens))
-    (c.open_luks1.ensures.opens tells)
+pub returns-in-Luks1-clause-answers : goal.returns-in-Luks1-clause-answers
+returns-in-Luks1-clause-answers g c = record {
+  opens = λ tells is.
+      let v = g.D.Device.bytes c.args.device.now in
+      let n = c.args.n in
+      let p = c.args.passphrase.now in
+      let chosen = subst (IsHeader v) c.in-Luks1.is is in
+      IfOk-weaker c.open_luks1.result _ _ (λ found opens.
+      luks1_opens c.args.memory v n p found chosen.0 (subst (λ (h : List ℕ). Luks1Opens h v n p found) (c.as_slice.ensures ∙ chosen.1) opens))
+      (c.open_luks1.ensures.opens tells);
+  refused = λ tells is.
+      let v = g.D.Device.bytes c.args.device.now in
+      let n = c.args.n in
+      let chosen = subst (IsHeader v) c.in-Luks1.is is in
+      let long : g.D.Device.size c.args.device.now ≡ length v = sym (g.met.D.Device.sized c.args.device.now tells) in
+      IfErr-weaker c.open_luks1.result _ _ (λ fault refused.
+      luks1_refused c.args.memory v n c.args.passphrase.now fault chosen.0
+      (subst (λ (h : List ℕ). Luks1Refused h (length v) n fault) (c.as_slice.ensures ∙ chosen.1)
+      (subst (λ (m : ℕ). Luks1Refused c.as_slice.result.now m n fault) long refused)))
+      c.open_luks1.ensures.refused;
+  key_bytes =
+      subst (λ h. IfOk c.open_luks1.result (λ found. IfSome found (λ key. HasKeyBytes h c.args.n (length key)))) (sym c.in-Luks1.is)
+      (subst (λ (b : List ℕ). IfOk c.open_luks1.result (λ found. IfSome found (λ key. length key ≡ number_at b 108 4))) c.as_slice.ensures c.open_luks1.ensures.length);
+  memory = λ tells is.
+      IfErr-weaker c.open_luks1.result _ _ (λ fault refused e. absurd (luks1_own c.as_slice.result.now (g.D.Device.size c.args.device.now) c.args.n fault refused e))
+      c.open_luks1.ensures.refused;
+  no_memory = λ none.
+      IfErr-weaker c.open_luks1.result _ _ (λ fault refused e. luks1_own c.as_slice.result.now (g.D.Device.size c.args.device.now) c.args.n fault refused e)
+      c.open_luks1.ensures.refused;
+}
 
-pub returns-in-Luks1-clause-refused : goal.returns-in-Luks1-clause-refused
-returns-in-Luks1-clause-refused g c = λ tells is.
-    let v = g.D.Device.bytes c.args.device.now in
-    let n = c.args.n in
-    let chosen = subst (IsHeader v) c.in-Luks1.is is in
-    let long : g.D.Device.size c.args.device.now ≡ length v = sym (g.met.D.Device.sized c.args.device.now tells) in
-    IfErr-weaker c.open_luks1.result _ _ (λ fault refused.
-    luks1_refused c.args.memory v n c.args.passphrase.now fault chosen.0
-    (subst (λ (h : List ℕ). Luks1Refused h (length v) n fault) (c.as_slice.ensures ∙ chosen.1)
-    (subst (λ (m : ℕ). Luks1Refused c.as_slice.result.now m n fault) long refused)))
-    c.open_luks1.ensures.refused
-
-pub returns-in-Luks2-clause-opens : goal.returns-in-Luks2-clause-opens
-returns-in-Luks2-clause-opens g c = λ tells is.
-    let v = g.D.Device.bytes c.args.device.now in
-    let copy = subst (IsHeader v) c.in-Luks2.is is in
-    let o = c.in-Luks2.copy.header.hdr_offset in
-    let cleared = cleared_copy v c.in-Luks2.copy copy in
-    IfOk-weaker c.open_luks2.result _ _ (λ found opens.
-    luks2_opens c.args.memory v c.args.n c.args.passphrase.now o c.in-Luks2.copy.copies found copy.chosen opens)
-    (c.open_luks2.ensures.opens tells (header_at v o) (json_at v o) cleared)
-
-pub returns-in-Luks2-clause-refused : goal.returns-in-Luks2-clause-refused
-returns-in-Luks2-clause-refused g c = λ tells is.
-    let v = g.D.Device.bytes c.args.device.now in
-    let n = c.args.n in
-    let copy = subst (IsHeader v) c.in-Luks2.is is in
-    let o = c.in-Luks2.copy.header.hdr_offset in
-    let copies = c.in-Luks2.copy.copies in
-    let cleared = cleared_copy v c.in-Luks2.copy copy in
-    let long : g.D.Device.size c.args.device.now ≡ length v = sym (g.met.D.Device.sized c.args.device.now tells) in
-    IfErr-weaker c.open_luks2.result _ _ (λ fault refused.
-    luks2_refused c.args.memory v n c.args.passphrase.now o copies fault copy.chosen
-    (record { place = o; copies = copies; chosen = copy.chosen; uuid = cleared.uuid_faultless })
-    (subst (λ (m : ℕ). Luks2Refused c.args.memory (header_at v o) (json_at v o) m n fault) long refused))
-    (c.open_luks2.ensures.refused (header_at v o) (json_at v o) cleared)
-
-pub returns-in-Luks1-clause-memory : goal.returns-in-Luks1-clause-memory
-returns-in-Luks1-clause-memory g c = λ tells is.
-    IfErr-weaker c.open_luks1.result _ _ (λ fault refused e. absurd (luks1_own c.as_slice.result.now (g.D.Device.size c.args.device.now) c.args.n fault refused e))
-    c.open_luks1.ensures.refused
-
-pub returns-in-Luks1-clause-no_memory : goal.returns-in-Luks1-clause-no_memory
-returns-in-Luks1-clause-no_memory g c = λ none.
-    IfErr-weaker c.open_luks1.result _ _ (λ fault refused e. luks1_own c.as_slice.result.now (g.D.Device.size c.args.device.now) c.args.n fault refused e)
-    c.open_luks1.ensures.refused
-
-pub returns-in-Luks2-clause-memory : goal.returns-in-Luks2-clause-memory
-returns-in-Luks2-clause-memory g c = λ tells is.
-    let v = g.D.Device.bytes c.args.device.now in
-    let n = c.args.n in
-    let copy = subst (IsHeader v) c.in-Luks2.is is in
-    let o = c.in-Luks2.copy.header.hdr_offset in
-    let cleared = cleared_copy v c.in-Luks2.copy copy in
-    let long : g.D.Device.size c.args.device.now ≡ length v = sym (g.met.D.Device.sized c.args.device.now tells) in
-    IfErr-weaker c.open_luks2.result _ _ (λ fault refused e.
-    luks2_takes c.args.memory v n o c.in-Luks2.copy.copies copy.chosen
-    (subst (λ (m : ℕ). Luks2TakesMemory c.args.memory (header_at v o) (json_at v o) m n) long (refused.1 e)))
-    (c.open_luks2.ensures.refused (header_at v o) (json_at v o) cleared)
+pub returns-in-Luks2-clause-answers : goal.returns-in-Luks2-clause-answers
+returns-in-Luks2-clause-answers g c = record {
+  opens = λ tells is.
+      let v = g.D.Device.bytes c.args.device.now in
+      let copy = subst (IsHeader v) c.in-Luks2.is is in
+      let o = c.in-Luks2.copy.header.hdr_offset in
+      let cleared = cleared_copy v c.in-Luks2.copy copy in
+      IfOk-weaker c.open_luks2.result _ _ (λ found opens.
+      luks2_opens c.args.memory v c.args.n c.args.passphrase.now o c.in-Luks2.copy.copies found copy.chosen opens)
+      (c.open_luks2.ensures.opens tells (header_at v o) (json_at v o) cleared);
+  refused = λ tells is.
+      let v = g.D.Device.bytes c.args.device.now in
+      let n = c.args.n in
+      let copy = subst (IsHeader v) c.in-Luks2.is is in
+      let o = c.in-Luks2.copy.header.hdr_offset in
+      let copies = c.in-Luks2.copy.copies in
+      let cleared = cleared_copy v c.in-Luks2.copy copy in
+      let long : g.D.Device.size c.args.device.now ≡ length v = sym (g.met.D.Device.sized c.args.device.now tells) in
+      IfErr-weaker c.open_luks2.result _ _ (λ fault refused.
+      luks2_refused c.args.memory v n c.args.passphrase.now o copies fault copy.chosen
+      (record { place = o; copies = copies; chosen = copy.chosen; uuid = cleared.uuid_faultless })
+      (subst (λ (m : ℕ). Luks2Refused c.args.memory (header_at v o) (json_at v o) m n fault) long refused))
+      (c.open_luks2.ensures.refused (header_at v o) (json_at v o) cleared);
+  key_bytes =
+      subst (λ h. IfOk c.open_luks2.result (λ found. IfSome found (λ key. HasKeyBytes h c.args.n (length key)))) (sym c.in-Luks2.is) c.open_luks2.ensures.length;
+  memory = λ tells is.
+      let v = g.D.Device.bytes c.args.device.now in
+      let n = c.args.n in
+      let copy = subst (IsHeader v) c.in-Luks2.is is in
+      let o = c.in-Luks2.copy.header.hdr_offset in
+      let cleared = cleared_copy v c.in-Luks2.copy copy in
+      let long : g.D.Device.size c.args.device.now ≡ length v = sym (g.met.D.Device.sized c.args.device.now tells) in
+      IfErr-weaker c.open_luks2.result _ _ (λ fault refused e.
+      luks2_takes c.args.memory v n o c.in-Luks2.copy.copies copy.chosen
+      (subst (λ (m : ℕ). Luks2TakesMemory c.args.memory (header_at v o) (json_at v o) m n) long (refused.1 e)))
+      (c.open_luks2.ensures.refused (header_at v o) (json_at v o) cleared);
+  no_memory = c.open_luks2.ensures.no_memory;
+}

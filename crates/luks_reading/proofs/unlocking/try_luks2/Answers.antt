@@ -26,19 +26,17 @@ returns-in-Err-clause-tried g c = λ tells b json clear.
     (luks2_refused_tried c.args.memory b json v c.args.n c.args.passphrase.now c.in-Err.fault
     (subst (λ (m : ℕ). Luks2Refused c.args.memory b json m c.args.n c.in-Err.fault) long (c.in-Err.ensures.refused b json clear)))
 
-pub returns-in-Err-clause-kinds : goal.returns-in-Err-clause-kinds
-returns-in-Err-clause-kinds g c = rw c.passed_over.ensures (passed_ends IsOfDevice c.in-Err.fault (λ e. tt) (λ e. tt))
-
-pub returns-in-Err-clause-memory : goal.returns-in-Err-clause-memory
-returns-in-Err-clause-memory g c = λ b json clear.
-    rw c.passed_over.ensures
-    (passed_ends (Luks2LacksMemory c.args.memory b json (g.D.Device.size c.args.device.now)) c.in-Err.fault (λ e. λ other. absurd (cc))
-    (λ e. λ other. (c.args.n, (c.in-Err.ensures.refused b json clear).1 e)))
-
-pub returns-in-Err-clause-no_memory : goal.returns-in-Err-clause-no_memory
-returns-in-Err-clause-no_memory g c = λ none.
-    rw c.passed_over.ensures
-    (passed_ends (λ f. f ≢ Memory) c.in-Err.fault (λ e. λ other. cc) (λ e. absurd (c.in-Err.ensures.no_memory none e)))
+pub returns-in-Err-clause-fails : goal.returns-in-Err-clause-fails
+returns-in-Err-clause-fails g c = record {
+  kinds = rw c.passed_over.ensures (passed_ends IsOfDevice c.in-Err.fault (λ e. tt) (λ e. tt));
+  memory = λ b json clear.
+      rw c.passed_over.ensures
+      (passed_ends (Luks2LacksMemory c.args.memory b json (g.D.Device.size c.args.device.now)) c.in-Err.fault (λ e. λ other. absurd (cc))
+      (λ e. λ other. (c.args.n, (c.in-Err.ensures.refused b json clear).1 e)));
+  no_memory = λ none.
+      rw c.passed_over.ensures
+      (passed_ends (λ f. f ≢ Memory) c.in-Err.fault (λ e. λ other. cc) (λ e. absurd (c.in-Err.ensures.no_memory none e)));
+}
 
 pub returns-in-Err-clause-length : goal.returns-in-Err-clause-length
 returns-in-Err-clause-length g c = rw c.passed_over.ensures (passed_none _ c.in-Err.fault)

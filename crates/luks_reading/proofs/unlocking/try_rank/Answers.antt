@@ -1,24 +1,28 @@
 -- The rank's keyslots before this one don't open, so that it is the first of the order.
-use Rattle.std.proofs.Common.{◌≡◌, ◌∙◌, ◌<◌, ℕ, List, true, Option, Some, ap, subst, sym, arith, below_more}
+use Rattle.std.proofs.Common.{◌≡◌, ◌∙◌, ◌<◌, ℕ, List, true, length, Option, Some, IfSome, ap, subst, sym, arith, below_more}
 use Rattle.luks_area.specs.Device.{IsUnchanged, unchanged-then}
 use Rattle.luks_meta.specs.Content.{content}
 use Rattle.luks_reading.specs.Luks2Keyslots.{Luks2Opens}
 use Rattle.luks_reading.specs.KeyslotsTried.{is_of_rank, Luks2DoesNotOpen, Luks2LacksMemory, Luks2Tried}
+use Rattle.luks_reading.specs.Plans.{HasLuks2KeyBytes}
 use Rattle.luks_reading.proofs.KeyslotOrders.{all_shut, first_shut}
 use Rattle.luks_reading.proofs.unlocking.try_rank.Goals as goal
 use Rattle.luks_reading.proofs.unlocking.try_rank.Goals.{then-is_of_rank+in-Ok-None, else-is_of_rank}
 
-pub returns-in-Ok-Some-clause-tries : goal.returns-in-Ok-Some-clause-tries
-returns-in-Ok-Some-clause-tries g c = λ tells b json clear.
-    let v = g.D.Device.bytes c.args.device.now in
-    let p = c.args.passphrase.now in
-    let n = c.loop-n.n in
-    let k = c.in-Ok-Some.key in
-    let tried = subst (λ (o : Option (List ℕ)). Luks2Tried c.args.memory b json (g.D.Device.bytes c.loop-n.device) n p o) c.in-Ok-Some.field-0-is (c.in-Ok-Some.ensures.tried tells b json clear) in
-    let opens = subst (λ (w : List ℕ). Luks2Opens c.args.memory b json w n p (Some k)) (c.loop-n.invariant.unchanged.same tells) tried in
-    let low : n < 32 = omega arith in
-    first_shut (Luks2DoesNotOpen c.args.memory b json v p) (λ m l. Luks2Opens c.args.memory b json v m p (Some l)) (λ m. is_of_rank c.args.rank (content c.args.meta.now) m) 32 n k low
-    (sym c.if-is_of_rank.ensures) opens (λ m lt on. c.loop-n.invariant.shut tells b json clear m lt on)
+pub returns-in-Ok-Some-clause-answers : goal.returns-in-Ok-Some-clause-answers
+returns-in-Ok-Some-clause-answers g c = record {
+  tries = λ tells b json clear.
+      let v = g.D.Device.bytes c.args.device.now in
+      let p = c.args.passphrase.now in
+      let n = c.loop-n.n in
+      let k = c.in-Ok-Some.key in
+      let tried = subst (λ (o : Option (List ℕ)). Luks2Tried c.args.memory b json (g.D.Device.bytes c.loop-n.device) n p o) c.in-Ok-Some.field-0-is (c.in-Ok-Some.ensures.tried tells b json clear) in
+      let opens = subst (λ (w : List ℕ). Luks2Opens c.args.memory b json w n p (Some k)) (c.loop-n.invariant.unchanged.same tells) tried in
+      let low : n < 32 = omega arith in
+      first_shut (Luks2DoesNotOpen c.args.memory b json v p) (λ m l. Luks2Opens c.args.memory b json v m p (Some l)) (λ m. is_of_rank c.args.rank (content c.args.meta.now) m) 32 n k low
+      (sym c.if-is_of_rank.ensures) opens (λ m lt on. c.loop-n.invariant.shut tells b json clear m lt on);
+  key_bytes = subst (λ (o : Option (List ℕ)). IfSome o (λ key. HasLuks2KeyBytes (content c.args.meta.now) c.loop-n.n (length key))) c.in-Ok-Some.field-0-is c.in-Ok-Some.ensures.length;
+}
 
 pub loop-n-preserved : goal.loop-n-preserved
 loop-n-preserved g c = elim c.if-is_of_rank.branch [
@@ -45,11 +49,18 @@ loop-n-preserved g c = elim c.if-is_of_rank.branch [
   }
 ]
 
-pub returns-clause-tries : goal.returns-clause-tries
-returns-clause-tries g c = λ tells b json clear.
-    all_shut (Luks2DoesNotOpen c.args.memory b json (g.D.Device.bytes c.args.device.now) c.args.passphrase.now)
-    (λ m. is_of_rank c.args.rank (content c.args.meta.now) m) 32 (λ m lt on. c.loop-n.invariant.shut tells b json clear m (omega arith) on)
+pub returns-clause-answers : goal.returns-clause-answers
+returns-clause-answers g c = record {
+  tries = λ tells b json clear.
+      all_shut (Luks2DoesNotOpen c.args.memory b json (g.D.Device.bytes c.args.device.now) c.args.passphrase.now)
+      (λ m. is_of_rank c.args.rank (content c.args.meta.now) m) 32 (λ m lt on. c.loop-n.invariant.shut tells b json clear m (omega arith) on);
+  key_bytes = tt;
+}
 
-pub returns-in-Err-clause-memory : goal.returns-in-Err-clause-memory
-returns-in-Err-clause-memory g c = λ b json clear.
-    subst (λ (total : ℕ). Luks2LacksMemory c.args.memory b json total c.in-Err.fault) c.loop-n.invariant.unchanged.size (c.in-Err.ensures.memory b json clear)
+pub returns-in-Err-clause-fails : goal.returns-in-Err-clause-fails
+returns-in-Err-clause-fails g c = record {
+  kinds = c.in-Err.ensures.fails.kinds;
+  memory = λ b json clear.
+      subst (λ (total : ℕ). Luks2LacksMemory c.args.memory b json total c.in-Err.fault) c.loop-n.invariant.unchanged.size (c.in-Err.ensures.fails.memory b json clear);
+  no_memory = c.in-Err.ensures.fails.no_memory;
+}

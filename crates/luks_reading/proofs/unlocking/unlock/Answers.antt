@@ -28,7 +28,7 @@ returns-clause-only g c = λ tells a y.
     let is = c.in_ok-header.ensures.read tells in
     let same = c.in_ok-header.ensures.unchanged.same tells in
     agrees c.args.memory v c.args.passphrase.now c.unlock_header.result
-    (rw same at (c.unlock_header.ensures.unlocks tells (rw same is))) (rw same at (c.unlock_header.ensures.refused tells (rw same is))) a y
+    (rw same at (c.unlock_header.ensures.answers.unlocks tells (rw same is))) (rw same at (c.unlock_header.ensures.answers.refused tells (rw same is))) a y
 
 pub returns-clause-memory : goal.returns-clause-memory
 returns-clause-memory g c = λ tells none.
@@ -37,4 +37,4 @@ returns-clause-memory g c = λ tells none.
     let same = c.in_ok-header.ensures.unchanged.same tells in
     IfErr-weaker c.unlock_header.result _ _ (λ fault takes e.
     let x = takes e in none_taken c.args.memory v x.0 (subst (λ (w : List ℕ). TakesMemory c.args.memory w x.0) same x.1) none)
-    (c.unlock_header.ensures.memory tells (rw same is))
+    (c.unlock_header.ensures.answers.memory tells (rw same is))

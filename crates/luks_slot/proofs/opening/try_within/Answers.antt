@@ -1,4 +1,4 @@
-use Rattle.std.proofs.Common.{rules, ◌∙◌, subst}
+use Rattle.std.proofs.Common.{rules, ◌∙◌, ap, subst}
 use Rattle.std.proofs.lemmas.Result.{err_from_is_err_and}
 use Rattle.luks_slot.specs.Distance.{IsTriedAt}
 use Rattle.luks_slot.specs.Opening.{area_bytes}
@@ -15,7 +15,8 @@ returns-clause-value g c tells =
     ∙ opens_read plan (area_bytes v plan.area) c.args.passphrase.now c.read_candidate.new.out
     (candidate_read plan v c.args.passphrase.now reader.result.key
     c.read_candidate.new.out reader.result.area _ c.in_ok-parameters.parameters.splitter_hash
-    (c.in_ok-read_candidate.ensures.value tells) (search rules) reader.ensures.area
+    (c.in_ok-read_candidate.ensures.value tells) (search rules) (ap (λ a. a.start) reader.ensures.area ∙ c.stripes_area.ensures.start)
+    (ap (λ a. a.len) reader.ensures.area ∙ c.stripes_area.ensures.len) c.requires.sectors
     (reader.ensures.key ∙ c.in_ok-key.ensures.key) c.in_ok-parameters.ensures.are.splitter_hash)
 
 pub returns-clause-distance : goal.returns-clause-distance
@@ -27,7 +28,8 @@ returns-clause-distance g c tells =
     (distance_read plan (area_bytes v plan.area) c.args.passphrase.now c.read_candidate.new.out
     (candidate_read plan v c.args.passphrase.now reader.result.key
     c.read_candidate.new.out reader.result.area _ c.in_ok-parameters.parameters.splitter_hash
-    (c.in_ok-read_candidate.ensures.value tells) (search rules) reader.ensures.area
+    (c.in_ok-read_candidate.ensures.value tells) (search rules) (ap (λ a. a.start) reader.ensures.area ∙ c.stripes_area.ensures.start)
+    (ap (λ a. a.len) reader.ensures.area ∙ c.stripes_area.ensures.len) c.requires.sectors
     (reader.ensures.key ∙ c.in_ok-key.ensures.key) c.in_ok-parameters.ensures.are.splitter_hash))
     c.tested.ensures.distance
 

@@ -33,7 +33,7 @@ returns-clause-value g c tells =
     let first : IsWriting c.write.new.self (g.D.Device.bytes c.write.new.device) wanted (length random) =
     subst (IsWriting c.write.new.self (g.D.Device.bytes c.write.new.device) wanted) at
     (c.in_ok-write.ensures.more tells wanted
-    (nothing_wanted writer.key (area_bytes v writer.area) wanted writer.sector) (placed_first random last (replicate m 0))) in
+    (nothing_wanted writer.key (area_bytes v writer.area) len wanted writer.run) (placed_first random last (replicate m 0))) in
     let second = c.in_ok-write-2.ensures.more tells wanted first (placed_second random last (replicate m 0)) in
     let third = c.in_ok-write-3.ensures.more tells wanted second
     (placed_zeros random last (take n zeros) m (front_zeros n zeros (zeros_are 512 zeros c.requires.zeros)) enough) in
@@ -48,6 +48,7 @@ returns-clause-value g c tells =
     let area_size : length (area_bytes w end.area) ≡ 512 * sector_count used =
     ap (λ (a : Area). length (area_bytes w a)) same_area
     ∙ length-part_inside w writer.area.start len (omega (arith, size, within)) ∙ (omega (arith, whole)) in
-    let put = all_put end.key (area_bytes w end.area) wanted end.sector (sector_count used) (used + length (take n zeros)) place filled_size area_size third in
+    let all : used + length (take n zeros) ≡ end.area.len = place ∙ (omega (arith, whole)) ∙ sym (ap (λ (a : Area). a.len) same_area) in
+    let put = all_put end.key (area_bytes w end.area) wanted end.run (sector_count used) end.area.len (used + length (take n zeros)) place all filled_size area_size third in
     sym (ap (λ k. opened_sectors k (area_bytes w end.area) (sector_count used)) same_key
     ∙ ap (λ (a : Area). opened_sectors writer.key (area_bytes w a) (sector_count used)) same_area) ∙ put

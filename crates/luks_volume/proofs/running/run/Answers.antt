@@ -34,10 +34,10 @@ loop-step-preserved g c =
       replied = rw c.push_reserved.ensures.items (replied_more c.loop-step.step-index c.args.replies.now.items c.loop-step.replies.items r fine now.replied);
       run = λ tells. rw c.push_reserved.ensures.items
           (run_more (Replies c.args.data_) (g.D.Device.bytes c.args.device.now) (g.D.Device.bytes c.loop-step.device) (g.D.Device.bytes c.apply-reply.new.device)
-          c.args.steps.now c.loop-step.step-index c.args.replies.now.items c.loop-step.replies.items _ r c.loop-step-test.true (c.apply-reply.ensures.replies tells) fine (now.run tells));
+          c.args.steps.now c.loop-step.step-index c.args.replies.now.items c.loop-step.replies.items _ r c.loop-step-test.true (c.apply-reply.ensures.applied tells).replies fine (now.run tells));
       so_far = λ tells. rw c.push_reserved.ensures.items
           (so_far_more (Replies c.args.data_) (g.D.Device.bytes c.args.device.now) (g.D.Device.bytes c.loop-step.device) (g.D.Device.bytes c.apply-reply.new.device)
-          c.args.steps.now c.loop-step.step-index c.args.replies.now.items c.loop-step.replies.items _ r c.loop-step-test.true (c.apply-reply.ensures.replies tells) fine (now.so_far tells));
+          c.args.steps.now c.loop-step.step-index c.args.replies.now.items c.loop-step.replies.items _ r c.loop-step-test.true (c.apply-reply.ensures.applied tells).replies fine (now.so_far tells));
     }
 
 pub returns-then-is_failure-clause-count : goal.returns-then-is_failure-clause-count
@@ -56,7 +56,7 @@ returns-then-is_failure-clause-ran g c = λ tells.
     let failed : IsFailure r = c.if-is_failure.ensures.0 refl in
     rw c.push_reserved.ensures.items
     (run_stops (Replies c.args.data_) (g.D.Device.bytes c.args.device.now) (g.D.Device.bytes c.loop-step.device) (g.D.Device.bytes c.apply-reply.new.device)
-    c.args.steps.now c.loop-step.step-index c.args.replies.now.items c.loop-step.replies.items _ r c.loop-step-test.true (c.apply-reply.ensures.replies tells) failed
+    c.args.steps.now c.loop-step.step-index c.args.replies.now.items c.loop-step.replies.items _ r c.loop-step-test.true (c.apply-reply.ensures.applied tells).replies failed
     (c.loop-step.invariant.run tells))
 
 pub returns-then-is_failure-clause-keeps : goal.returns-then-is_failure-clause-keeps
@@ -71,7 +71,7 @@ returns-then-is_failure-clause-spared g c = λ tells well apart.
     rw c.push_reserved.ensures.items
     (spared_by_run c.args.data_ (g.D.Device.bytes c.args.device.now) (g.D.Device.bytes c.loop-step.device)
     (g.D.Device.bytes c.apply-reply.new.device) c.args.steps.now c.loop-step.step-index c.args.replies.now.items c.loop-step.replies.items _ r c.loop-step-test.true
-    well failed (λ met. c.apply-reply.ensures.spared tells met failed) (c.loop-step.invariant.so_far tells))
+    well failed (λ met. (c.apply-reply.ensures.applied tells).spared met failed) (c.loop-step.invariant.so_far tells))
 
 pub returns-clause-ran : goal.returns-clause-ran
 returns-clause-ran g c = λ tells.

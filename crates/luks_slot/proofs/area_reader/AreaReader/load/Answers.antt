@@ -1,15 +1,17 @@
-use Rattle.std.proofs.Common.{rules, ◌≡◌, ◌*◌, ap, sym, ◌∙◌, length, arith}
-use Rattle.luks_area.specs.RangeFacts.{part-part}
+use Rattle.std.proofs.Common.{◌≡◌, ◌+◌, ◌*◌, ℕ, length, take, subst, arith}
+use Rattle.luks_area.specs.Ranges.{part}
+use Rattle.luks_xts.specs.Units.{AreMade}
 use Rattle.luks_xts.specs.Xts.{XtsOpen}
-use Rattle.luks_slot.specs.Opening.{opened_sector}
+use Rattle.luks_slot.proofs.RunFacts.{run_opened}
 use Rattle.luks_slot.proofs.area_reader.AreaReader.load.Goals as goal
 
 pub returns-clause-value : goal.returns-clause-value
-unfolding opened_sector
 returns-clause-value g c tells =
     let reader = c.args.self.now in
     let area = reader.area in
-    let size : length reader.sector ≡ 512 = search rules in
-    let read = c.in_ok-read_at.ensures.read tells in
-    let whole = part-part (g.D.Device.bytes c.args.device.now) area.start area.len (512 * c.args.number) 512 (omega (arith, c.requires.in_area)) in
-    c.open_unit.ensures.value ∙ ap (XtsOpen reader.key c.args.number) (rw size at read ∙ sym whole)
+    let number = c.args.number in
+    let v = g.D.Device.bytes c.args.device.now in
+    let run = c.read_run.new.run in
+    let size : length v ≡ g.D.Device.size c.args.device.now = g.met.D.Device.sized c.args.device.now tells in
+    run_opened reader.key v run area number c.requires.in_area (omega (arith, size, c.requires.within))
+    (subst (λ (n : ℕ). AreMade (XtsOpen reader.key) (8 * number) (part v (area.start + 4096 * number) n) (take n run)) c.run_length-len.ensures (c.in_ok-read_run.ensures.value tells))

@@ -1,0 +1,17 @@
+pub mod TableFacts
+pub mod SboxFacts
+pub mod PolynomialFacts
+pub mod FieldFacts
+pub mod RoundFacts
+pub mod ScheduleFacts
+pub mod ByteFacts
+pub mod StepFacts
+pub mod InverseFacts
+pub mod KeyFacts
+pub mod GateFacts
+pub mod CircuitFacts
+pub mod SboxCircuit
+pub mod PackingFacts
+pub mod LinearFacts
+pub mod NibbleFacts
+pub mod BlockFacts

@@ -1,0 +1,9 @@
+pub mod Polynomial
+pub mod Field
+pub mod Aes
+pub mod States
+pub mod Planes
+pub mod Nibbles
+pub mod Gates
+pub mod Circuits
+pub mod Keys

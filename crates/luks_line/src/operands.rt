@@ -1,0 +1,65 @@
+//! The words that are known by their places.
+
+/// A word that is known by its place, by its row in `OPERANDS`.
+#[derive(Clone, Copy)]
+pub(crate) enum Operand {
+    Volume,
+    Source,
+    Target,
+    DamagedSource,
+    RebuiltTarget,
+    Text,
+    Fault,
+}
+
+impl Operand {
+    pub(crate) fn row(self) -> &'static OperandRow {
+        &OPERANDS[self as usize]
+    }
+}
+
+#[derive(Clone, Copy)]
+pub(crate) struct OperandRow {
+    pub(crate) name: &'static str,
+    pub(crate) needed: bool,
+    pub(crate) help: &'static str,
+}
+
+/// In the order of `Operand`.
+static OPERANDS: [OperandRow; 7] = [
+    OperandRow {
+        name: "VOLUME",
+        needed: true,
+        help: "The volume, or its detached header",
+    },
+    OperandRow {
+        name: "SOURCE",
+        needed: true,
+        help: "The LUKS1 volume, or its detached header",
+    },
+    OperandRow {
+        name: "TARGET",
+        needed: true,
+        help: "The file of the new header, of at least 16 MiB",
+    },
+    OperandRow {
+        name: "SOURCE",
+        needed: true,
+        help: "The LUKS2 volume, or its detached header",
+    },
+    OperandRow {
+        name: "TARGET",
+        needed: true,
+        help: "The file of the new header, mostly of 16 MiB",
+    },
+    OperandRow {
+        name: "TEXT",
+        needed: true,
+        help: "The label, at most 47 plain characters",
+    },
+    OperandRow {
+        name: "FAULT",
+        needed: false,
+        help: "The fault, or its name alone; else all are listed",
+    },
+];

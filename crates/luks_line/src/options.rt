@@ -1,0 +1,202 @@
+//! The words that are known by their names.
+
+use crate::takes::Takes;
+use luks_kdf::HashName;
+
+/// A word that is known by its name, after two hyphens, by its row in `OPTIONS`.
+#[derive(Clone, Copy)]
+pub(crate) enum LongOption {
+    Detached,
+    DetachedSource,
+    All,
+    Map,
+    Json,
+    Passphrase,
+    New,
+    Random,
+    NeededRandom,
+    TriedSlot,
+    OpenedSlot,
+    To,
+    Memory,
+    Iterations,
+    Version,
+    Hash,
+    Second,
+    Uuid,
+    Over,
+    JsonAnswer,
+    Quiet,
+    PassphraseLine,
+    NewLine,
+    Offset,
+    Length,
+}
+
+impl LongOption {
+    pub(crate) fn row(self) -> &'static OptionRow {
+        &OPTIONS[self as usize]
+    }
+}
+
+#[derive(Clone, Copy)]
+pub(crate) struct OptionRow {
+    pub(crate) name: &'static str,
+    pub(crate) needed: bool,
+    pub(crate) help: &'static str,
+    pub(crate) takes: Takes,
+}
+
+/// In the order of `LongOption`.
+static OPTIONS: [OptionRow; 25] = [
+    OptionRow {
+        name: "detached",
+        needed: false,
+        help: "The data is on another device, no segment judged",
+        takes: Takes::Nothing,
+    },
+    OptionRow {
+        name: "detached",
+        needed: false,
+        help: "SOURCE is a detached header, no segment judged",
+        takes: Takes::Nothing,
+    },
+    OptionRow {
+        name: "all",
+        needed: false,
+        help: "With costs of keyslots and encryption of segments",
+        takes: Takes::Form,
+    },
+    OptionRow {
+        name: "map",
+        needed: false,
+        help: "A map of the areas, in the order of their places",
+        takes: Takes::Form,
+    },
+    OptionRow {
+        name: "json",
+        needed: false,
+        help: "One JSON object in place of the lines, for scripts",
+        takes: Takes::Form,
+    },
+    OptionRow {
+        name: "passphrase",
+        needed: false,
+        help: "The file of the passphrase, taken whole",
+        takes: Takes::File,
+    },
+    OptionRow {
+        name: "new",
+        needed: false,
+        help: "The file of the new passphrase, taken whole",
+        takes: Takes::File,
+    },
+    OptionRow {
+        name: "random",
+        needed: false,
+        help: "The file of the random bytes, as /dev/urandom",
+        takes: Takes::File,
+    },
+    OptionRow {
+        name: "random",
+        needed: true,
+        help: "The file of the random bytes, as /dev/urandom",
+        takes: Takes::File,
+    },
+    OptionRow {
+        name: "slot",
+        needed: false,
+        help: "The keyslot to try, 0 to 31; else all",
+        takes: Takes::Slot,
+    },
+    OptionRow {
+        name: "slot",
+        needed: true,
+        help: "The keyslot that the passphrase opens, 0 to 31",
+        takes: Takes::Slot,
+    },
+    OptionRow {
+        name: "to",
+        needed: false,
+        help: "The new keyslot, 0 to 31; else the least free",
+        takes: Takes::Slot,
+    },
+    OptionRow {
+        name: "memory",
+        needed: false,
+        help: "MiB for Argon2, 0 to 4194303",
+        takes: Takes::Memory,
+    },
+    OptionRow {
+        name: "iterations",
+        needed: false,
+        help: "Of PBKDF2, at least 1000",
+        takes: Takes::Iterations,
+    },
+    OptionRow {
+        name: "version",
+        needed: false,
+        help: "Of LUKS",
+        takes: Takes::Version,
+    },
+    OptionRow {
+        name: "hash",
+        needed: false,
+        help: HashName::LISTED,
+        takes: Takes::Hash,
+    },
+    OptionRow {
+        name: "second",
+        needed: false,
+        help: "Take the metadata of a second copy",
+        takes: Takes::Nothing,
+    },
+    OptionRow {
+        name: "uuid",
+        needed: false,
+        help: "The uuid of the new header; else SOURCE's, or a new one",
+        takes: Takes::Uuid,
+    },
+    OptionRow {
+        name: "over",
+        needed: false,
+        help: "Write over another use of the disk",
+        takes: Takes::Nothing,
+    },
+    OptionRow {
+        name: "json",
+        needed: false,
+        help: "One JSON object in place of the line",
+        takes: Takes::Nothing,
+    },
+    OptionRow {
+        name: "quiet",
+        needed: false,
+        help: "No hints on standard error",
+        takes: Takes::Nothing,
+    },
+    OptionRow {
+        name: "passphrase-line",
+        needed: false,
+        help: "Instead, a file whose first line is taken",
+        takes: Takes::File,
+    },
+    OptionRow {
+        name: "new-line",
+        needed: false,
+        help: "Instead, a file whose first line is taken",
+        takes: Takes::File,
+    },
+    OptionRow {
+        name: "offset",
+        needed: false,
+        help: "Where in its file it begins",
+        takes: Takes::Offset,
+    },
+    OptionRow {
+        name: "length",
+        needed: false,
+        help: "Its length; else it goes to the file's end",
+        takes: Takes::Bytes,
+    },
+];

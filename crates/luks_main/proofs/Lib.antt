@@ -1,0 +1,2 @@
+pub mod OutcomeFacts
+pub mod StatusFacts

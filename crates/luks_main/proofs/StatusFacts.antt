@@ -1,0 +1,255 @@
+-- Each command's answers end with the statuses of the table.
+use Rattle.std.proofs.Common.{◌≡◌, ℕ, List, Option, Some, None, Result, Ok, Err, refl, sym, subst, inl, inr}
+use Rattle.luks_reading.specs.declared.report.Data.{Data}
+use Rattle.luks_reading.specs.declared.report.Version.TheVariants.{Luks1, Luks2}
+use Rattle.luks_head.specs.declared.selection.Copies.TheVariants.{InStep, FirstNewer, SecondNewer, FirstOnly, SecondOnly}
+use Rattle.luks_request.specs.declared.request.Command.{Command}
+use Rattle.luks_request.specs.declared.request.Command.TheVariants as command
+use Rattle.luks_request.specs.declared.request.Making.{Making}
+use Rattle.luks_request.specs.declared.request.ShowAs.{ShowAs}
+use Rattle.luks_request.specs.declared.request.ShowAs.TheVariants as form
+use Rattle.luks_commands.specs.declared.answers.Answer.{Answer}
+use Rattle.luks_commands.specs.declared.answers.Answer.TheVariants.{Accepted, Listed, ListedFully, Mapped, Json, Opens, Closed, NoneOpens, Done, Refused, DeviceFault, NoMemory}
+use Rattle.luks_commands.specs.declared.answers.Refusal.TheVariants as refusal
+use Rattle.luks_commands.specs.declared.inputs.InputFault.{InputFault}
+use Rattle.luks_commands.specs.declared.inputs.InputFault.TheVariants.{Absent, Unreadable, NoMemory as NoMemoryToRead}
+use Rattle.luks_commands.specs.Answer.{answer_status, IsWordless, Prints, unread_answer}
+use Rattle.luks_commands.specs.Exit.{exit_status}
+use Rattle.luks_commands.specs.CheckAnswers.{AnswersCheck, IsCheckAnswer}
+use Rattle.luks_commands.specs.OpenAnswers.{AnswersOpen, IsAnyAnswer, IsOneAnswer, IsOpenAnswer}
+use Rattle.luks_commands.specs.FormatAnswers.{AnswersFormat, IsFormatAnswer}
+use Rattle.luks_rebuilding.specs.declared.place.Which.{Which}
+use Rattle.luks_show_command.specs.ShowAnswers.{AnswersShow, IsFullAnswer, IsJsonAnswer, IsListedAnswer, IsMapAnswer, IsShowAnswer}
+use Rattle.luks_header_commands.specs.Converting.{AnswersConvert, IsConvertAnswer}
+use Rattle.luks_header_commands.specs.Rebuilding.{AnswersRebuild, IsRebuildAnswer}
+use Rattle.luks_header_commands.specs.Target.{AnswersHeader, IsSameFile, Pair}
+use Rattle.luks_cli.specs.EditAnswers.{AnswersEdit, IsEditAnswer}
+use Rattle.luks_cli.specs.Editing.{Given, Lacking}
+use Rattle.luks_main.specs.Statuses.{EndsCheck, EndsConvert, EndsEdit, EndsFormat, EndsOpen, EndsRebuild, EndsShow, EndsWith}
+
+-- an answer's own status
+abbrev pub own : Answer → ℕ
+own answer = exit_status (answer_status answer)
+
+-- of every command: memory may be refused
+pub memory_ends : (c : Command) → EndsWith c NoMemory 4
+memory_ends (command.Check payload) = refl
+memory_ends (command.Show form.Lines) = refl
+memory_ends (command.Show form.All) = refl
+memory_ends (command.Show form.Map) = refl
+memory_ends (command.Show form.Json) = refl
+memory_ends (command.Open passphrase None memory) = refl
+memory_ends (command.Open passphrase (Some n) memory) = refl
+memory_ends (command.Edit editing) = refl
+memory_ends (command.Format making) = refl
+memory_ends (command.Convert converting) = refl
+memory_ends (command.Rebuild rebuilding) = refl
+
+-- a file that can't be read
+unread_ends : (Ends : Answer → ℕ → Type 0) → Ends DeviceFault 4 → Ends NoMemory 4 → (f : InputFault) (a : Answer) → a ≡ unread_answer f → Ends a (own a)
+unread_ends Ends fault memory Absent a is = subst (λ x. Ends x (own x)) (sym is) fault
+unread_ends Ends fault memory (Unreadable reason) a is = subst (λ x. Ends x (own x)) (sym is) fault
+unread_ends Ends fault memory NoMemoryToRead a is = subst (λ x. Ends x (own x)) (sym is) memory
+
+-- a passphrase that is too long, or can't be read
+wordless_ends : (Ends : Answer → ℕ → Type 0) → Ends (Refused refusal.LongPassphrase) 1 → Ends DeviceFault 4 → Ends NoMemory 4 → (is_long : Type 0) (unread : InputFault → Type 0) (a : Answer)
+    → IsWordless is_long unread a → Ends a (own a)
+wordless_ends Ends long fault memory is_long unread a (inl said) = subst (λ x. Ends x (own x)) (sym said.0) long
+wordless_ends Ends long fault memory is_long unread a (inr said) = unread_ends Ends fault memory said.0 a said.2
+
+-- ---- `check`
+
+check_there : (tells : Type 0) (v : List ℕ) (payload : Data) (before after : ℕ) (a : Answer) → IsCheckAnswer tells v payload before after a → EndsCheck a (own a)
+check_there tells v payload before after (Accepted Luks1 areas) said = refl
+check_there tells v payload before after (Accepted (Luks2 InStep seqid) areas) said = refl
+check_there tells v payload before after (Accepted (Luks2 FirstNewer seqid) areas) said = refl
+check_there tells v payload before after (Accepted (Luks2 SecondNewer seqid) areas) said = refl
+check_there tells v payload before after (Accepted (Luks2 FirstOnly seqid) areas) said = refl
+check_there tells v payload before after (Accepted (Luks2 SecondOnly seqid) areas) said = refl
+check_there tells v payload before after (Refused (refusal.Check f)) said = refl
+check_there tells v payload before after DeviceFault said = refl
+check_there tells v payload before after NoMemory said = refl
+check_there tells v payload before after a said = absurd said
+
+pub check_ends : {D : Type 0} (tells : Type 0) (bytes : D → List ℕ) (failed : D → ℕ) (payload : Data) (old new : Result D InputFault) (a : Answer)
+    → AnswersCheck tells bytes failed payload old new a → EndsCheck a (own a)
+check_ends tells bytes failed payload (Ok old) (Ok new) a said = check_there tells (bytes old) payload (failed old) (failed new) a said
+check_ends tells bytes failed payload (Ok old) (Err fault) a said = absurd said
+check_ends tells bytes failed payload (Err fault) new a said = unread_ends EndsCheck refl refl fault a said
+
+-- ---- `show`
+
+listed_there : (tells : Type 0) (v : List ℕ) (before after : ℕ) (a : Answer) → IsListedAnswer tells v before after a → EndsShow form.Lines a (own a)
+listed_there tells v before after (Listed listing) said = refl
+listed_there tells v before after (Refused (refusal.Check f)) said = refl
+listed_there tells v before after DeviceFault said = refl
+listed_there tells v before after NoMemory said = refl
+listed_there tells v before after a said = absurd said
+
+full_there : (tells : Type 0) (v : List ℕ) (before after : ℕ) (a : Answer) → IsFullAnswer tells v before after a → EndsShow form.All a (own a)
+full_there tells v before after (ListedFully listing) said = refl
+full_there tells v before after (Refused (refusal.Check f)) said = refl
+full_there tells v before after DeviceFault said = refl
+full_there tells v before after NoMemory said = refl
+full_there tells v before after a said = absurd said
+
+map_there : (tells : Type 0) (v : List ℕ) (before after : ℕ) (a : Answer) → IsMapAnswer tells v before after a → EndsShow form.Map a (own a)
+map_there tells v before after (Mapped m) said = refl
+map_there tells v before after (Refused (refusal.Check f)) said = refl
+map_there tells v before after DeviceFault said = refl
+map_there tells v before after NoMemory said = refl
+map_there tells v before after a said = absurd said
+
+json_there : (tells : Type 0) (v : List ℕ) (before after : ℕ) (a : Answer) → IsJsonAnswer tells v before after a → EndsShow form.Json a (own a)
+json_there tells v before after (Json text) said = refl
+json_there tells v before after (Refused (refusal.Check f)) said = refl
+json_there tells v before after DeviceFault said = refl
+json_there tells v before after NoMemory said = refl
+json_there tells v before after a said = absurd said
+
+show_there : (shown_as : ShowAs) (tells : Type 0) (v : List ℕ) (before after : ℕ) (a : Answer) → IsShowAnswer shown_as tells v before after a → EndsShow shown_as a (own a)
+show_there form.Lines tells v before after a said = listed_there tells v before after a said
+show_there form.All tells v before after a said = full_there tells v before after a said
+show_there form.Map tells v before after a said = map_there tells v before after a said
+show_there form.Json tells v before after a said = json_there tells v before after a said
+
+show_unread : (shown_as : ShowAs) (f : InputFault) (a : Answer) → a ≡ unread_answer f → EndsShow shown_as a (own a)
+show_unread form.Lines f a is = unread_ends (EndsShow form.Lines) refl refl f a is
+show_unread form.All f a is = unread_ends (EndsShow form.All) refl refl f a is
+show_unread form.Map f a is = unread_ends (EndsShow form.Map) refl refl f a is
+show_unread form.Json f a is = unread_ends (EndsShow form.Json) refl refl f a is
+
+pub show_ends : {D : Type 0} (shown_as : ShowAs) (tells : Type 0) (bytes : D → List ℕ) (failed : D → ℕ) (old new : Result D InputFault) (a : Answer)
+    → AnswersShow shown_as tells bytes failed old new a → EndsShow shown_as a (own a)
+show_ends shown_as tells bytes failed (Ok old) (Ok new) a said = show_there shown_as tells (bytes old) (failed old) (failed new) a said
+show_ends shown_as tells bytes failed (Ok old) (Err fault) a said = absurd said
+show_ends shown_as tells bytes failed (Err fault) new a said = show_unread shown_as fault a said
+
+-- ---- `open`
+
+one_there : (tells : Type 0) (memory : ℕ) (v : List ℕ) (n : ℕ) (p : List ℕ) (before after : ℕ) (a : Answer) → IsOneAnswer tells memory v n p before after a → EndsOpen (Some n) a (own a)
+one_there tells memory v n p before after (Opens m) said = (said.1, refl)
+one_there tells memory v n p before after (Closed m) said = (said.1, refl)
+one_there tells memory v n p before after (Refused (refusal.Open f)) said = refl
+one_there tells memory v n p before after DeviceFault said = refl
+one_there tells memory v n p before after NoMemory said = refl
+one_there tells memory v n p before after a said = absurd said
+
+any_there : (tells : Type 0) (memory : ℕ) (v p : List ℕ) (before after : ℕ) (a : Answer) → IsAnyAnswer tells memory v p before after a → EndsOpen None a (own a)
+any_there tells memory v p before after (Opens n) said = refl
+any_there tells memory v p before after NoneOpens said = refl
+any_there tells memory v p before after (Refused (refusal.Open f)) said = refl
+any_there tells memory v p before after DeviceFault said = refl
+any_there tells memory v p before after NoMemory said = refl
+any_there tells memory v p before after a said = absurd said
+
+open_there : (tells : Type 0) (memory : ℕ) (v : List ℕ) (slot : Option ℕ) (p : List ℕ) (before after : ℕ) (a : Answer) → IsOpenAnswer tells memory v slot p before after a → EndsOpen slot a (own a)
+open_there tells memory v (Some n) p before after a said = one_there tells memory v n p before after a said
+open_there tells memory v None p before after a said = any_there tells memory v p before after a said
+
+open_wordless : (slot : Option ℕ) (is_long : Type 0) (unread : InputFault → Type 0) (a : Answer) → IsWordless is_long unread a → EndsOpen slot a (own a)
+open_wordless None is_long unread a said = wordless_ends (EndsOpen None) refl refl refl is_long unread a said
+open_wordless (Some n) is_long unread a said = wordless_ends (EndsOpen (Some n)) refl refl refl is_long unread a said
+
+open_unread : (slot : Option ℕ) (f : InputFault) (a : Answer) → a ≡ unread_answer f → EndsOpen slot a (own a)
+open_unread None f a is = unread_ends (EndsOpen None) refl refl f a is
+open_unread (Some n) f a is = unread_ends (EndsOpen (Some n)) refl refl f a is
+
+pub open_ends : {D : Type 0} (tells : Type 0) (bytes : D → List ℕ) (failed : D → ℕ) (memory : ℕ) (slot : Option ℕ) (HasWords : List ℕ → Type 0) (is_long : Type 0) (unread : InputFault → Type 0)
+    (old new : Result D InputFault) (a : Answer) → AnswersOpen tells bytes failed memory slot HasWords is_long unread old new a → EndsOpen slot a (own a)
+open_ends tells bytes failed memory slot HasWords is_long unread (Ok old) (Ok new) a (inl said) = open_wordless slot is_long unread a said.0
+open_ends tells bytes failed memory slot HasWords is_long unread (Ok old) (Ok new) a (inr said) = open_there tells memory (bytes old) slot said.passphrase (failed old) (failed new) a said.is
+open_ends tells bytes failed memory slot HasWords is_long unread (Ok old) (Err fault) a said = absurd said
+open_ends tells bytes failed memory slot HasWords is_long unread (Err fault) new a (inl said) = open_wordless slot is_long unread a said
+open_ends tells bytes failed memory slot HasWords is_long unread (Err fault) new a (inr said) = open_unread slot fault a said
+
+-- ---- the commands that edit
+
+edit_there : (tells : Type 0) (payload : Data) (given : Given) (lacks : Lacking) (v w : List ℕ) (before after : ℕ) (a : Answer)
+    → IsEditAnswer tells payload given lacks v w before after a → EndsEdit a (own a)
+edit_there tells payload given lacks v w before after (Done slot) said = refl
+edit_there tells payload given lacks v w before after (Refused refusal.LongPassphrase) said = refl
+edit_there tells payload given lacks v w before after (Refused (refusal.OtherUse found)) said = refl
+edit_there tells payload given lacks v w before after (Refused (refusal.Edit f)) said = refl
+edit_there tells payload given lacks v w before after DeviceFault said = refl
+edit_there tells payload given lacks v w before after NoMemory said = refl
+edit_there tells payload given lacks v w before after a said = absurd said
+
+pub edit_ends : {D : Type 0} (tells : Type 0) (bytes : D → List ℕ) (failed : D → ℕ) (payload : Data) (given : Given) (lacks : Lacking) (old new : Result D InputFault) (a : Answer)
+    → AnswersEdit tells bytes failed payload given lacks old new a → EndsEdit a (own a)
+edit_ends tells bytes failed payload given lacks (Ok old) (Ok new) a said = edit_there tells payload given lacks (bytes old) (bytes new) (failed old) (failed new) a said
+edit_ends tells bytes failed payload given lacks (Ok old) (Err fault) a said = absurd said
+edit_ends tells bytes failed payload given lacks (Err fault) new a (inl said) = wordless_ends EndsEdit refl refl refl given.is_long lacks.words a said
+edit_ends tells bytes failed payload given lacks (Err fault) new a (inr said) = unread_ends EndsEdit refl refl fault a said
+
+-- ---- `format`
+
+format_there : (tells : Type 0) (making : Making) (passphrase random : List ℕ) (total : ℕ) (old new : List ℕ) (before after : ℕ) (a : Answer)
+    → IsFormatAnswer tells making passphrase random total old new before after a → EndsFormat a (own a)
+format_there tells making passphrase random total old new before after (Done slot) said = (said.1, refl)
+format_there tells making passphrase random total old new before after (Refused (refusal.Format f)) said = refl
+format_there tells making passphrase random total old new before after DeviceFault said = refl
+format_there tells making passphrase random total old new before after NoMemory said = refl
+format_there tells making passphrase random total old new before after a said = absurd said
+
+pub format_ends : {D : Type 0} (tells : Type 0) (size : D → ℕ) (bytes : D → List ℕ) (failed : D → ℕ) (making : Making) (HasWords : List ℕ → Type 0) (is_long : Type 0)
+    (unread : InputFault → Type 0) (HasRandom : List ℕ → Type 0) (old new : Result D InputFault) (a : Answer)
+    → AnswersFormat tells size bytes failed making HasWords is_long unread HasRandom old new a → EndsFormat a (own a)
+format_ends tells size bytes failed making HasWords is_long unread HasRandom (Ok old) (Ok new) a (inl said) = wordless_ends EndsFormat refl refl refl is_long unread a said.0
+format_ends tells size bytes failed making HasWords is_long unread HasRandom (Ok old) (Ok new) a (inr said) =
+    format_there tells making said.passphrase said.random (size old) (bytes old) (bytes new) (failed old) (failed new) a said.is
+format_ends tells size bytes failed making HasWords is_long unread HasRandom (Ok old) (Err fault) a said = absurd said
+format_ends tells size bytes failed making HasWords is_long unread HasRandom (Err fault) new a (inl said) = wordless_ends EndsFormat refl refl refl is_long unread a said
+format_ends tells size bytes failed making HasWords is_long unread HasRandom (Err fault) new a (inr said) = unread_ends EndsFormat refl refl fault a said
+
+-- ---- `convert` and `rebuild`
+
+-- what both answer, by what is said with the random bytes
+header_ends : {D : Type 0} (Ends : Answer → ℕ → Type 0) → Ends DeviceFault 4 → Ends NoMemory 4 → (tells : Type 0) (size : D → ℕ) (bytes : D → List ℕ) (failed : D → ℕ)
+    (says : List ℕ → Pair → Answer → Type 0) → ((random : List ℕ) (d : Pair) (a : Answer) → says random d a → Ends a (own a)) → (unread : InputFault → Type 0) (HasRandom : List ℕ → Type 0)
+    (volume volume_new old new : Result D InputFault) (a : Answer) → AnswersHeader tells size bytes failed says unread HasRandom volume volume_new old new a → Ends a (own a)
+header_ends Ends fault memory tells size bytes failed says each unread HasRandom (Ok volume) (Ok volume_new) (Ok old) (Ok new) a (inl said) = unread_ends Ends fault memory said.fault a said.is
+header_ends Ends fault memory tells size bytes failed says each unread HasRandom (Ok volume) (Ok volume_new) (Ok old) (Ok new) a (inr said) = each said.random _ a said.is
+header_ends Ends fault memory tells size bytes failed says each unread HasRandom (Ok volume) (Ok volume_new) (Ok old) (Err f) a said = absurd said
+header_ends Ends fault memory tells size bytes failed says each unread HasRandom (Ok volume) (Ok volume_new) (Err f) new a said = unread_ends Ends fault memory f a said
+header_ends Ends fault memory tells size bytes failed says each unread HasRandom (Ok volume) (Err f) (Ok old) new a said = absurd said
+header_ends Ends fault memory tells size bytes failed says each unread HasRandom (Ok volume) (Err g) (Err f) new a said = unread_ends Ends fault memory f a said
+header_ends Ends fault memory tells size bytes failed says each unread HasRandom (Err f) volume_new old new a said = unread_ends Ends fault memory f a said
+
+convert_there : (tells : Type 0) (payload : Data) (random : List ℕ) (d : Pair) (a : Answer) → IsConvertAnswer tells payload random d a → EndsConvert a (own a)
+convert_there tells payload random d (Done slot) said = (said.1, refl)
+convert_there tells payload random d (Refused (refusal.Convert f)) said = refl
+convert_there tells payload random d DeviceFault said = refl
+convert_there tells payload random d NoMemory said = refl
+convert_there tells payload random d a said = absurd said
+
+pub convert_ends : {D : Type 0} (tells : Type 0) (size : D → ℕ) (bytes : D → List ℕ) (failed : D → ℕ) (payload : Data) (unread : InputFault → Type 0) (HasRandom : List ℕ → Type 0)
+    (volume volume_new old new : Result D InputFault) (a : Answer) → AnswersConvert tells size bytes failed payload unread HasRandom volume volume_new old new a → EndsConvert a (own a)
+convert_ends tells size bytes failed payload unread HasRandom volume volume_new old new a said =
+    header_ends EndsConvert refl refl tells size bytes failed (IsConvertAnswer tells payload) (convert_there tells payload) unread HasRandom volume volume_new old new a said
+
+rebuild_there : (tells : Type 0) (which : Which) (given : Option (List ℕ)) (random : List ℕ) (d : Pair) (a : Answer) → IsRebuildAnswer tells which given random d a → EndsRebuild a (own a)
+rebuild_there tells which given random d (Done slot) said = (said.1, refl)
+rebuild_there tells which given random d (Refused (refusal.Rebuild f)) said = refl
+rebuild_there tells which given random d DeviceFault said = refl
+rebuild_there tells which given random d NoMemory said = refl
+rebuild_there tells which given random d a said = absurd said
+
+pub rebuild_ends : {D : Type 0} (tells : Type 0) (size : D → ℕ) (bytes : D → List ℕ) (failed : D → ℕ) (which : Which) (given : Option (List ℕ)) (unread : InputFault → Type 0)
+    (HasRandom : List ℕ → Type 0) (volume volume_new old new : Result D InputFault) (a : Answer)
+    → AnswersRebuild tells size bytes failed which given unread HasRandom volume volume_new old new a → EndsRebuild a (own a)
+rebuild_ends tells size bytes failed which given unread HasRandom volume volume_new old new a said =
+    header_ends EndsRebuild refl refl tells size bytes failed (IsRebuildAnswer tells which given) (rebuild_there tells which given) unread HasRandom volume volume_new old new a said
+
+-- both files are one
+pub converted_same_file_ends : (a : Answer) → IsSameFile a → EndsConvert a (own a)
+converted_same_file_ends a is = subst (λ x. EndsConvert x (own x)) (sym is) refl
+
+pub rebuilt_same_file_ends : (a : Answer) → IsSameFile a → EndsRebuild a (own a)
+rebuilt_same_file_ends a is = subst (λ x. EndsRebuild x (own x)) (sym is) refl
+
+-- ---- what was printed
+
+-- an answer that was printed as one of these was printed as one of those
+pub prints_as : (S T : Answer → Type 0) → ((a : Answer) → S a → T a) → (before after : ℕ) (held holds : Option (List ℕ)) (n : ℕ) → Prints S before after held holds n → Prints T before after held holds n
+prints_as S T each before after held holds n p = record { answer = p.answer; said = each p.answer p.said; printed = p.printed }

@@ -1,0 +1,103 @@
+-- Which answer of which command the program ends with which exit status. Of no command any other answer comes.
+use Rattle.std.specs.Prelude.{◌≡◌, ◌⊎◌, ℕ, Option, None, Some}
+use Rattle.luks_head.specs.declared.selection.Copies.TheVariants.{InStep, FirstNewer, SecondNewer, FirstOnly, SecondOnly}
+use Rattle.luks_reading.specs.declared.report.Version.TheVariants.{Luks1, Luks2}
+use Rattle.luks_request.specs.declared.request.Command.{Command}
+use Rattle.luks_request.specs.declared.request.Command.TheVariants as command
+use Rattle.luks_request.specs.declared.request.ShowAs.{ShowAs}
+use Rattle.luks_request.specs.declared.request.ShowAs.TheVariants as form
+use Rattle.luks_commands.specs.declared.answers.Answer.{Answer}
+use Rattle.luks_commands.specs.declared.answers.Answer.TheVariants.{Accepted, Listed, ListedFully, Mapped, Json, Opens, Closed, NoneOpens, Done, Refused, DeviceFault, NoMemory}
+use Rattle.luks_commands.specs.declared.answers.Refusal.TheVariants as refusal
+
+-- of every command: a file or the device failed, or memory was refused
+abbrev pub EndsAny : Answer → ℕ → Type 0
+EndsAny DeviceFault status = status ≡ 4
+EndsAny NoMemory status = status ≡ 4
+EndsAny answer status = ⊥
+
+-- `check`: 3 where one copy of a LUKS2 header is newer than the other, or alone
+abbrev pub EndsCheck : Answer → ℕ → Type 0
+EndsCheck (Accepted Luks1 areas) status = status ≡ 0
+EndsCheck (Accepted (Luks2 InStep seqid) areas) status = status ≡ 0
+EndsCheck (Accepted (Luks2 FirstNewer seqid) areas) status = status ≡ 3
+EndsCheck (Accepted (Luks2 SecondNewer seqid) areas) status = status ≡ 3
+EndsCheck (Accepted (Luks2 FirstOnly seqid) areas) status = status ≡ 3
+EndsCheck (Accepted (Luks2 SecondOnly seqid) areas) status = status ≡ 3
+EndsCheck (Refused (refusal.Check fault)) status = status ≡ 1
+EndsCheck answer status = EndsAny answer status
+
+-- `show`: what is shown is of the form that was asked for
+abbrev pub EndsShow : ShowAs → Answer → ℕ → Type 0
+EndsShow form.Lines (Listed listing) status = status ≡ 0
+EndsShow form.All (ListedFully listing) status = status ≡ 0
+EndsShow form.Map (Mapped map) status = status ≡ 0
+EndsShow form.Json (Json text) status = status ≡ 0
+EndsShow shown_as (Refused (refusal.Check fault)) status = status ≡ 1
+EndsShow shown_as answer status = EndsAny answer status
+
+-- `open`: a keyslot that was named is the one that opens or doesn't
+abbrev pub EndsOpen : Option ℕ → Answer → ℕ → Type 0
+EndsOpen None (Opens n) status = status ≡ 0
+EndsOpen (Some named) (Opens n) status = (n ≡ named) × (status ≡ 0)
+EndsOpen (Some named) (Closed n) status = (n ≡ named) × (status ≡ 1)
+EndsOpen None NoneOpens status = status ≡ 1
+EndsOpen slot (Refused (refusal.Open fault)) status = status ≡ 1
+EndsOpen slot (Refused refusal.LongPassphrase) status = status ≡ 1
+EndsOpen slot answer status = EndsAny answer status
+
+-- `add`, `change`, `remove`, `repair` and `label`
+abbrev pub EndsEdit : Answer → ℕ → Type 0
+EndsEdit (Done slot) status = status ≡ 0
+EndsEdit (Refused (refusal.Edit fault)) status = status ≡ 1
+EndsEdit (Refused refusal.LongPassphrase) status = status ≡ 1
+EndsEdit (Refused (refusal.OtherUse found)) status = status ≡ 1
+EndsEdit answer status = EndsAny answer status
+
+-- `format`: what is made has keyslot 0
+abbrev pub EndsFormat : Answer → ℕ → Type 0
+EndsFormat (Done slot) status = (slot ≡ Some 0) × (status ≡ 0)
+EndsFormat (Refused (refusal.Format fault)) status = status ≡ 1
+EndsFormat (Refused refusal.LongPassphrase) status = status ≡ 1
+EndsFormat answer status = EndsAny answer status
+
+-- `convert`
+abbrev pub EndsConvert : Answer → ℕ → Type 0
+EndsConvert (Done slot) status = (slot ≡ None) × (status ≡ 0)
+EndsConvert (Refused (refusal.Convert fault)) status = status ≡ 1
+EndsConvert (Refused refusal.SameFile) status = status ≡ 1
+EndsConvert answer status = EndsAny answer status
+
+-- `rebuild`
+abbrev pub EndsRebuild : Answer → ℕ → Type 0
+EndsRebuild (Done slot) status = (slot ≡ None) × (status ≡ 0)
+EndsRebuild (Refused (refusal.Rebuild fault)) status = status ≡ 1
+EndsRebuild (Refused refusal.SameFile) status = status ≡ 1
+EndsRebuild answer status = EndsAny answer status
+
+-- the command answers so, and the program ends with this status then
+abbrev pub EndsWith : Command → Answer → ℕ → Type 0
+EndsWith (command.Check payload) answer status = EndsCheck answer status
+EndsWith (command.Show shown_as) answer status = EndsShow shown_as answer status
+EndsWith (command.Open passphrase slot memory) answer status = EndsOpen slot answer status
+EndsWith (command.Edit editing) answer status = EndsEdit answer status
+EndsWith (command.Format making) answer status = EndsFormat answer status
+EndsWith (command.Convert converting) answer status = EndsConvert answer status
+EndsWith (command.Rebuild rebuilding) answer status = EndsRebuild answer status
+
+-- the status is that of an answer that the command gives
+abbrev pub MayEnd : Command → ℕ → Type 0
+MayEnd command_ status = (answer : Answer) × EndsWith command_ answer status
+
+-- what the program may end with: 0, 1, 3 or 4 as a command does, or 2 for a command line that can't be read
+abbrev pub IsProgramStatus : ℕ → Type 0
+IsProgramStatus n = (n ≡ 0) ⊎ (n ≡ 1) ⊎ (n ≡ 2) ⊎ (n ≡ 3) ⊎ (n ≡ 4)
+
+-- where no command runs: 0 where a help or an explanation was printed, 2 where the words are wrong, 4 where memory was refused
+abbrev pub IsStatusWithout : ℕ → Type 0
+IsStatusWithout n = (n ≡ 0) ⊎ (n ≡ 2) ⊎ (n ≡ 4)
+
+-- `explain` with a name: whether a fault has it
+abbrev pub named_status : {F : Type 0} → Option F → ℕ
+named_status None = 2
+named_status (Some fault) = 0

@@ -1,0 +1,267 @@
+//! What is noted for standard error once a command has ended, and that the command itself doesn't look
+//! for. The volume is opened anew for it, to be read; where it can't be, or memory is refused, nothing is
+//! noted.
+ghost use Rattle.std.specs.Prelude.{◌≡◌, ◌≢◌, None};
+ghost use Rattle.std.specs.Str.{IsUtf8};
+ghost use Rattle.luks_cache.specs.Cached.{cached_failures};
+
+use crate::volumes::{Volume, WHOLE, reopened};
+use luks_area::Device;
+use luks_cli::{Command, Line, OtherUse, note_other_use, note_overwritten, standing_use};
+use luks_explain::{Fault, refusing};
+use luks_leftovers::{FrontFault, header_end, leftovers, note_leftovers, read_front};
+use luks_metadata_notes::{note_no_keyslots, note_taken, note_whole};
+use luks_rebuilding::Which;
+use luks_request::Place;
+use luks_signatures::first_use;
+use std::alloc::Global;
+use std::fs::File;
+use std::io::Write;
+use std::rt::{Clock, Files};
+
+/// How a command has ended.
+#[derive(Debug, Clone, Copy)]
+pub(crate) struct Ended<'a> {
+    /// Its exit status.
+    status: u8,
+    /// What it printed for standard output; nothing where that is no text.
+    answer: &'a str,
+    /// It said nothing for standard error.
+    is_silent: bool,
+}
+
+impl<'a> Ended<'a> {
+    /// With this status, these bytes on standard output, and nothing on standard error or not.
+    pub(crate) fn new(status: u8, printed: &'a [u8], is_silent: bool) -> Self
+        ensures status { result.status ≡ status }
+        ensures answer { IsUtf8 printed.entry.now → result.answer.now ≡ printed.entry.now }
+        ensures silent { result.is_silent ≡ is_silent }
+    {
+        Ended {
+            status,
+            answer: str::from_utf8(printed).unwrap_or(""),
+            is_silent,
+        }
+    }
+}
+
+/// What is looked at once more.
+#[derive(Debug, Clone, Copy)]
+struct Looked<'a> {
+    /// Its file.
+    file: &'a str,
+    /// Which bytes of that.
+    place: Place,
+}
+
+impl<'a> Looked<'a> {
+    /// The volume of this command line.
+    fn at_volume(line: &Line<'a>) -> Self {
+        Looked {
+            file: line.volume,
+            place: line.place,
+        }
+    }
+
+    /// All of this file.
+    fn at_whole(file: &'a str) -> Self {
+        Looked { file, place: WHOLE }
+    }
+}
+
+/// The other use of the disk that an edit with `--over` is going to write over. It isn't inlined, for
+/// the same reason as `tell_ended`.
+#[inline(never)]
+pub(crate) fn use_before<R: AllocGlobal + Clock + Files<File = File>>(
+    rt: &R,
+    line: &Line<'_>,
+) -> Option<OtherUse> {
+    let Command::Edit(editing) = line.command else {
+        return None;
+    };
+    if !editing.over {
+        return None;
+    }
+    standing_use(rt.alloc(), &mut reopened(rt, line.volume, line.place)?)
+}
+
+/// Notes that an edit that is done has written over this use of the disk.
+pub(crate) fn tell_overwritten(
+    volume: &str,
+    standing: Option<OtherUse>,
+    ended: &Ended<'_>,
+    notes: &mut Vec<u8>,
+)
+    ensures none { standing ≡ None → notes.new ≡ notes.old }
+    ensures undone { ended.now.status ≢ 0 → notes.new ≡ notes.old }
+{
+    if let (Some(found), 0) = (standing, ended.status) {
+        let _ = note_overwritten(found, volume, notes);
+    }
+}
+
+/// Notes all else that a person is to know of how the command has ended; at last, of a refusal, what
+/// tells more of it. It isn't inlined, so that room for its buffers isn't taken from the stack of the
+/// command, which runs before it.
+#[inline(never)]
+pub(crate) fn tell_ended<R: AllocGlobal + Clock + Files<File = File>>(
+    rt: &R,
+    line: &Line<'_>,
+    ended: &Ended<'_>,
+    notes: &mut Vec<u8>,
+) {
+    let refused = refusing(ended.answer);
+    if refused == Some(Fault::NotLuks) {
+        tell_standing(rt, Looked::at_volume(line), notes);
+    }
+    tell_more(rt, line, ended, notes);
+    if let Some(fault) = refused {
+        let name = fault.name();
+        let _ = writeln!(notes, "luks: luks explain {name} says what to try next");
+    } else if ended.is_silent && ended.answer == "no memory\n" {
+        let volume = line.volume;
+        let _ = writeln!(
+            notes,
+            "luks: {volume}: memory was refused: end other programs, or try it on a machine with more"
+        );
+    }
+}
+
+/// Notes what formatting, converting and rebuilding have left of what stood there before, where the
+/// metadata of a volume is whole of which no header counts, what else its disk is used for where only
+/// the second copy is sound, of which metadata a header was made, and that there is no keyslot.
+fn tell_more<R: AllocGlobal + Clock + Files<File = File>>(
+    rt: &R,
+    line: &Line<'_>,
+    ended: &Ended<'_>,
+    notes: &mut Vec<u8>,
+) {
+    let volume = Looked::at_volume(line);
+    match (line.command, ended.status) {
+        (Command::Format(_), 0) => tell_leftovers(rt, volume, notes),
+        (Command::Convert(converting), 0) => {
+            tell_leftovers(rt, Looked::at_whole(converting.target), notes)
+        }
+        (Command::Rebuild(rebuilding), 0) => {
+            tell_taken(rt, volume, rebuilding.second, notes);
+            tell_leftovers(rt, Looked::at_whole(rebuilding.target), notes);
+        }
+        (Command::Check { data_: _ }, 3) => tell_other_use(rt, volume, notes),
+        (Command::Check { data_: _ } | Command::Show(_), 1) => tell_whole(rt, volume, notes),
+        (Command::Open { .. }, 1) if ended.answer == "no slot opens\n" => {
+            tell_no_keyslots(rt, volume, notes)
+        }
+        _ => {}
+    }
+}
+
+/// Notes by its signature what stands on a volume that isn't of LUKS.
+fn tell_standing<R: AllocGlobal + Clock + Files<File = File>>(
+    rt: &R,
+    looked: Looked<'_>,
+    notes: &mut Vec<u8>,
+) {
+    let Some(mut device) = reopened(rt, looked.file, looked.place) else {
+        return;
+    };
+    let len = device.len();
+    if let Ok(Some(found)) = first_use(&mut device, len) {
+        let file = looked.file;
+        let _ = writeln!(notes, "luks: {file}: what stands there is {found}");
+    }
+}
+
+/// Notes in which copy the metadata of a volume is whole of which no header counts.
+fn tell_whole<R: AllocGlobal + Clock + Files<File = File>>(
+    rt: &R,
+    looked: Looked<'_>,
+    notes: &mut Vec<u8>,
+) {
+    let Some(mut device) = reopened(rt, looked.file, looked.place) else {
+        return;
+    };
+    note_whole(rt.alloc(), &mut device, notes);
+}
+
+/// Notes what else the disk of a volume is used for.
+fn tell_other_use<R: AllocGlobal + Clock + Files<File = File>>(
+    rt: &R,
+    looked: Looked<'_>,
+    notes: &mut Vec<u8>,
+) {
+    let Some(mut device) = reopened(rt, looked.file, looked.place) else {
+        return;
+    };
+    note_other_use(rt.alloc(), &mut device, looked.file, notes);
+}
+
+/// Notes of which metadata of the volume a header was made, that of second copies alone or of any.
+fn tell_taken<R: AllocGlobal + Clock + Files<File = File>>(
+    rt: &R,
+    looked: Looked<'_>,
+    second: bool,
+    notes: &mut Vec<u8>,
+) {
+    let Some(mut device) = reopened(rt, looked.file, looked.place) else {
+        return;
+    };
+    let which = if second { Which::Second } else { Which::Any };
+    note_taken(rt.alloc(), &mut device, which, notes);
+}
+
+/// Notes that a volume has no keyslot.
+fn tell_no_keyslots<R: AllocGlobal + Clock + Files<File = File>>(
+    rt: &R,
+    looked: Looked<'_>,
+    notes: &mut Vec<u8>,
+) {
+    let Some(mut device) = reopened(rt, looked.file, looked.place) else {
+        return;
+    };
+    note_no_keyslots(rt.alloc(), &mut device, looked.file, notes);
+}
+
+/// Notes what was left where a header was made of what stood there before, or why it wasn't looked for.
+fn tell_leftovers<R: AllocGlobal + Clock + Files<File = File>>(
+    rt: &R,
+    looked: Looked<'_>,
+    notes: &mut Vec<u8>,
+) {
+    let Some(mut device) = reopened(rt, looked.file, looked.place) else {
+        return;
+    };
+    let why = match note_front(rt.alloc(), &mut device, looked, notes) {
+        Ok(()) => return,
+        Err(FrontFault::Device) => "reading failed",
+        Err(FrontFault::Memory) => "memory was refused",
+    };
+    let file = looked.file;
+    let _ = writeln!(
+        notes,
+        "luks: {file}: what was left there wasn't looked for: {why}"
+    );
+}
+
+/// Notes to `err` what was left on the volume that is looked at. Where no header counts it says nothing.
+fn note_front(
+    alloc: Global,
+    device: &mut Volume,
+    looked: Looked<'_>,
+    err: &mut Vec<u8>,
+) -> Result<(), FrontFault>
+    requires { cached_failures device.old ≡ 0 }
+{
+    if let Some(own) = header_end(alloc, device)? {
+        let front = read_front(alloc, device)?;
+        let found = leftovers(alloc, &front, own)?;
+        let _ = note_leftovers(found.as_slice(), looked.file, looked.place.offset, err);
+    }
+    Ok(())
+}
+
+/// Writes these lines to standard error, where that can be written.
+pub(crate) fn tell<R: Eprint>(rt: &R, lines: &[u8]) {
+    if let Ok(text) = str::from_utf8(lines) {
+        let _ = eprint!(rt; "{text}");
+    }
+}

@@ -1,0 +1,27 @@
+//! What the program `luks` does: reads its command line, opens the files that this names, runs the command
+//! over them, and prints what the command wrote for standard output and for standard error.
+//!
+//! It is generic over the runtime: a test lends it one of its own, over real files, that sees what is opened
+//! and printed.
+#![tactic(auto)]
+
+mod hints;
+mod openings;
+mod outcome;
+mod passphrases;
+mod running;
+mod told;
+mod typing;
+mod volumes;
+
+pub use openings::{Opening, Openings};
+pub use running::run;
+
+/// The exit status where what was asked for is told.
+const TOLD: u8 = 0;
+
+/// The exit status after a command line that can't be read.
+const USAGE: u8 = 2;
+
+/// The exit status where memory is refused, a file can't be read, or the output can't be written.
+const FAULT: u8 = 4;

@@ -1,0 +1,199 @@
+//! The command line, and what is done for it.
+ghost use Rattle.std.specs.Prelude.{◌≡◌, ◌↔◌, IfOk, IfSome, IsOk, IsSome};
+ghost use Rattle.luks_cache.specs.Cached.{cached_failures};
+ghost use Rattle.luks_commands.specs.Exit.{IsExitStatus};
+ghost use Rattle.luks_lock.specs.Lazy.{file_name};
+ghost use Rattle.luks_main.specs.Statuses.{IsProgramStatus, MayEnd};
+
+use crate::hints::{Ended, tell, tell_ended, tell_overwritten, use_before};
+use crate::openings::Openings;
+use crate::outcome::{Outcome, outcome_of};
+use crate::passphrases::{Passphrases, reader};
+use crate::told::{device_fault, explain, list_faults, no_memory, tell_usage};
+use crate::volumes::{Volume, Volumes, has_changed, open_volumes};
+use crate::{FAULT, USAGE};
+use luks_cli::{CountingPrinter, InputFault, Inputs, Line, OtherUse, Unprinted};
+use luks_line::{Asked, Manner, parse};
+use luks_lock::LazyFile;
+use luks_wiping::wipe_stack;
+use std::fs::File;
+use std::io::{ErrorKind, Write};
+use std::rt::{Clock, Env, Files};
+use std::{env, io};
+
+/// Runs the command line, and answers the exit status: beside those of `luks_cli::execute` 2 where the words
+/// are wrong, 0 where a help or an explanation was printed, and 4 where that can't be.
+///
+/// No clause can say what its files and streams give: `luks_file_transcript` tests it. What a value can say has a
+/// clause where that value is made: which file is opened as what (`Openings`), and which status tells an answer.
+pub fn run<R: AllocGlobal + Clock + Env + Files<File = File> + Input + Print + Eprint>(rt: &R) -> u8
+    ensures { IsProgramStatus result }
+{
+    run_held(rt).unwrap_or(FAULT)
+}
+
+/// Runs the command line with the numbers of the standard streams taken. An error is that of the output.
+fn run_held<R: AllocGlobal + Clock + Env + Files<File = File> + Input + Print + Eprint>(
+    rt: &R,
+) -> io::Result<u8>
+    ensures { IfOk result IsProgramStatus }
+{
+    let Ok(_held) = hold_standard_numbers(rt) else {
+        let _ = eprintln!(rt; "luks: the root folder can't be opened");
+        return device_fault(rt);
+    };
+    run_args(rt)
+}
+
+fn run_args<R: AllocGlobal + Clock + Env + Files<File = File> + Input + Print + Eprint>(
+    rt: &R,
+) -> io::Result<u8>
+    ensures { IfOk result IsProgramStatus }
+{
+    let args = match env::args(rt) {
+        Ok(args) => args,
+        Err(error) if error.kind() == ErrorKind::OutOfMemory => return no_memory(rt),
+        Err(_) => {
+            let _ = eprintln!(rt; "error: the command line is no text in UTF-8");
+            return Ok(USAGE);
+        }
+    };
+    let args: Vec<String> = args.collect(rt.alloc())?;
+    let words: Vec<&str> = args.iter().map(|word| word.as_str()).collect(rt.alloc())?;
+    run_words(rt, words.as_slice())
+}
+
+/// Runs the command that these words name, of which the first is the program's name.
+fn run_words<R: AllocGlobal + Clock + Files<File = File> + Input + Print + Eprint>(
+    rt: &R,
+    words: &[&str],
+) -> io::Result<u8>
+    ensures { IfOk result IsProgramStatus }
+{
+    match parse(rt.alloc(), words) {
+        Ok(Asked::Volume(line, manner)) => {
+            let status = run_line(rt, &line, manner);
+            if line.passphrase().is_some() && !wipe_stack() {
+                return Ok(FAULT);
+            }
+            Ok(status)
+        }
+        Ok(Asked::Explain(Some(fault))) => explain(rt, fault),
+        Ok(Asked::Explain(None)) => list_faults(rt),
+        Err(fault) => tell_usage(rt, &fault),
+    }
+}
+
+/// Takes the numbers of standard streams that were closed when the program began, so that no volume
+/// gets one and is printed into. The root folder stands for them: it can be neither read nor written
+/// as a file, so that what is printed to such a stream fails.
+fn hold_standard_numbers<R: Files<File = File>>(rt: &R) -> io::Result<[File; 3]> {
+    Ok([
+        File::open(rt, "/")?,
+        File::open(rt, "/")?,
+        File::open(rt, "/")?,
+    ])
+}
+
+/// Runs the command of this line: reads and opens its files in their order, prints its answer, says what is
+/// noted; gives the exit status, which is the answer's where that could be printed.
+fn run_line<R: AllocGlobal + Clock + Files<File = File> + Input + Print + Eprint>(
+    rt: &R,
+    line: &Line<'_>,
+    manner: Manner,
+) -> u8
+    ensures ends { MayEnd line.now.command result }
+    ensures status { IsExitStatus result }
+{
+    let openings = Openings::of(line);
+    let passphrases = Passphrases::read(rt, &openings, manner);
+    let ended = passphrases.end_command();
+    let standing = if ended { None } else { use_before(rt, line) };
+    let mut noticed = Vec::new(rt.alloc());
+    let volumes = open_volumes(rt, &openings, ended, &mut noticed);
+    let mut inputs = inputs_of(rt, volumes, &passphrases, &openings);
+    let mut outcome = outcome_of(rt.alloc(), line, manner, &mut inputs);
+    let is_noted = outcome.is_noted(manner);
+    if is_noted {
+        tell(rt, noticed.as_slice());
+    }
+    let mut out = CountingPrinter::new(io::writer(rt));
+    let printed = outcome.print_lines(&mut out);
+    let has_changed = has_changed(&inputs.volume);
+    drop(inputs);
+    note_ended(rt, line, standing, has_changed, &mut outcome);
+    if is_noted {
+        tell(rt, outcome.notes.as_slice());
+    }
+    match printed {
+        Ok(()) => outcome.print_object(rt.alloc(), noticed.as_slice(), &mut out),
+        Err(Unprinted) => FAULT,
+    }
+}
+
+/// Notes what is to be known of how the command has ended, beside what it noted itself.
+fn note_ended<R: AllocGlobal + Clock + Files<File = File>>(
+    rt: &R,
+    line: &Line<'_>,
+    standing: Option<OtherUse>,
+    has_changed: bool,
+    outcome: &mut Outcome,
+)
+    ensures status { outcome.new.status ≡ outcome.old.status }
+    ensures answer { outcome.new.answer ≡ outcome.old.answer }
+    ensures lines { outcome.new.lines ≡ outcome.old.lines }
+{
+    let is_silent = outcome.notes.is_empty();
+    if has_changed {
+        note_changed(line.volume, &mut outcome.notes);
+    }
+    let ended = Ended::new(outcome.status, outcome.lines.as_slice(), is_silent);
+    tell_overwritten(line.volume, standing, &ended, &mut outcome.notes);
+    tell_ended(rt, line, &ended, &mut outcome.notes);
+}
+
+/// Notes that an edit ended since another program had written the header, in place of what it noted.
+fn note_changed(volume: &str, notes: &mut Vec<u8>) {
+    notes.clear();
+    let _ = writeln!(
+        notes,
+        "luks: {volume}: another program wrote it meanwhile, nothing was written"
+    );
+}
+
+/// What the command is given: the volumes, the passphrase and the new one as they were read, and the file of
+/// the random bytes, of any kind, which the command reads last, and opens then.
+fn inputs_of<'a, R: Files<File = File>>(
+    rt: &'a R,
+    volumes: Volumes,
+    passphrases: &'a Passphrases,
+    openings: &Openings<'a>,
+) -> Inputs<Volume, &'a [u8], LazyFile<'a, R>>
+    requires volume_count { IfOk volumes.volume (λ device. cached_failures device ≡ 0) }
+    requires target_count { IfOk volumes.target (λ device. cached_failures device ≡ 0) }
+    ensures volume { result.volume ≡ volumes.volume }
+    ensures target { result.target ≡ volumes.target }
+    ensures volume_count { IfOk result.volume (λ device. cached_failures device ≡ 0) }
+    ensures target_count { IfOk result.target (λ device. cached_failures device ≡ 0) }
+    ensures passphrase { IsOk result.passphrase ↔ IsOk passphrases.now.old }
+    ensures passphrase_bytes { IfOk passphrases.now.old (λ secret.
+        IfOk result.passphrase (λ bytes. bytes.now ≡ secret)) }
+    ensures new { IsOk result.new_passphrase ↔ IsOk passphrases.now.new }
+    ensures new_bytes { IfOk passphrases.now.new (λ secret.
+        IfOk result.new_passphrase (λ bytes. bytes.now ≡ secret)) }
+    ensures random { IsOk result.random ↔ IsSome openings.now.random }
+    ensures random_name { IfSome openings.now.random (λ opening.
+        IfOk result.random (λ file. file_name file ≡ opening.name.now)) }
+{
+    let Volumes { volume, target } = volumes;
+    Inputs {
+        volume,
+        target,
+        passphrase: reader(&passphrases.old),
+        new_passphrase: reader(&passphrases.new),
+        random: match openings.random {
+            Some(opening) => Ok(LazyFile::new(rt, opening.name)),
+            None => Err(InputFault::Absent),
+        },
+    }
+}

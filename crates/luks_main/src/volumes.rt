@@ -1,0 +1,161 @@
+//! The volumes of a command line.
+ghost use Rattle.std.specs.Prelude.{◌≡◌, ◌≢◌, ◌↔◌, false, Err, IfOk, IfSome, IsErr, IsOkAnd, IsTrue, None};
+ghost use Rattle.luks_cache.specs.Cached.{cached_failures, changes_seen, device_behind};
+ghost use Rattle.luks_lock.specs.Locked.{lock_of, share_for};
+ghost use Rattle.luks_window.specs.Windows.{behind};
+
+use crate::openings::{Opening, Openings};
+use luks_area::FileDevice;
+use luks_cache::CachedDevice;
+use luks_cli::{InputFault, Reason};
+use luks_lock::{FOLDER, Host, LockedDevice, OpenFault, is_same_file, open_locked};
+use luks_request::Place;
+use luks_window::Window;
+use std::fs::File;
+use std::io::Write;
+use std::marker::Brand;
+use std::rt::{Clock, Files};
+
+/// The volume of a command line: the bytes of its file where it lies, its first ones remembered. The file
+/// is measured whole, under the lock of the whole. No byte beside the window is written, as its type says
+/// of any device; a file tells no bytes, so that nothing more can be said of one here.
+pub(crate) type Volume = CachedDevice<Window<LockedDevice<FileDevice<File>>, Brand>>;
+
+/// All bytes of a file.
+pub(crate) const WHOLE: Place = Place {
+    offset: 0,
+    length: None,
+};
+
+/// The volumes of a command line.
+pub(crate) struct Volumes {
+    /// The volume.
+    pub(crate) volume: Result<Volume, InputFault>,
+    /// What is written beside it.
+    pub(crate) target: Result<Volume, InputFault>,
+}
+
+impl Volumes {
+    /// Neither of them, for this reason on the target's side.
+    fn unopened(target: InputFault) -> Self
+        ensures volume { result.volume ≡ Err InputFault.Absent }
+        ensures target { result.target ≡ Err target }
+    {
+        Volumes {
+            volume: Err(InputFault::Absent),
+            target: Err(target),
+        }
+    }
+}
+
+/// Opens the volume, and then the target where the command writes beside it; neither where a passphrase has
+/// ended the command, and no target where the volume can't be opened. Where the target is the volume itself, by whichever names, nothing is opened. Each is
+/// locked as what it is opened for.
+pub(crate) fn open_volumes<R: AllocGlobal + Clock + Files<File = File>>(
+    rt: &R,
+    openings: &Openings<'_>,
+    ended: bool,
+    notes: &mut Vec<u8>,
+) -> Volumes
+    ensures volume { IfOk result.volume (λ device. cached_failures device ≡ 0) }
+    ensures target { IfOk result.target (λ device. cached_failures device ≡ 0) }
+    ensures volume_share { IfOk result.volume (λ device.
+        (lock_of (behind (device_behind device))).share ≡ share_for openings.now.volume.writes) }
+    ensures target_share { IfSome openings.now.target (λ opening. IfOk result.target (λ device.
+        (lock_of (behind (device_behind device))).share ≡ share_for opening.writes)) }
+    ensures ended { IsTrue ended → IsErr result.volume }
+    ensures same { IfSome openings.now.target (λ opening.
+        opening.name.now ≡ openings.now.volume.name.now → IsErr result.volume × IsErr result.target) }
+    ensures beside { openings.now.target ≡ None → result.target ≡ Err InputFault.Absent }
+{
+    if ended {
+        return Volumes::unopened(InputFault::Absent);
+    }
+    let Some(target) = openings.target else {
+        return Volumes {
+            volume: open_volume(rt, openings.volume, openings.place, notes),
+            target: Err(InputFault::Absent),
+        };
+    };
+    if is_same_file(&mut Host::new(rt), openings.volume.name, target.name) {
+        return Volumes::unopened(InputFault::Unreadable(Reason::SameFile));
+    }
+    let volume = open_volume(rt, openings.volume, openings.place, notes);
+    if volume.is_err() {
+        return Volumes {
+            volume,
+            target: Err(InputFault::Absent),
+        };
+    }
+    Volumes {
+        volume,
+        target: open_volume(rt, target, WHOLE, notes),
+    }
+}
+
+/// The volume of this name, opened under its lock, at this place of its file; what of the lock isn't held is
+/// noted. Its first bytes are remembered, so that an edit, which looks at the header to know how many random bytes it takes and then to
+/// do it, reads it once.
+fn open_volume<R: AllocGlobal + Clock + Files<File = File>>(
+    rt: &R,
+    opening: Opening<'_>,
+    place: Place,
+    notes: &mut Vec<u8>,
+) -> Result<Volume, InputFault>
+    ensures count { IfOk result (λ device. cached_failures device ≡ 0) }
+    ensures share { IfOk result (λ device.
+        (lock_of (behind (device_behind device))).share ≡ share_for opening.entry.writes) }
+{
+    let volume = opening.name;
+    match open_locked(
+        rt.alloc(),
+        &mut Host::new(rt),
+        volume,
+        opening.writes,
+        FOLDER,
+    ) {
+        Ok(device) => {
+            for notice in device.lock().notices().iter().flatten() {
+                let _ = writeln!(notes, "luks: {volume}: {notice}");
+            }
+            CachedDevice::new(rt.alloc(), Window::new(device, place.offset, place.length)).map_err(
+                |_| InputFault::NoMemory,
+            )
+        }
+        Err(OpenFault::NoVolume) => Err(InputFault::Unreadable(Reason::NoVolume)),
+        Err(OpenFault::Edited) => Err(InputFault::Unreadable(Reason::Edited)),
+        Err(OpenFault::ReadOnly) => {
+            let _ = writeln!(
+                notes,
+                "luks: {volume}: its file system or its device is read-only"
+            );
+            Err(InputFault::Unreadable(Reason::Other))
+        }
+        Err(OpenFault::File(error)) => Err(InputFault::from(error)),
+    }
+}
+
+/// The volume of this name, opened once more at this place of its file, to be read. None where that can't
+/// be, or memory is refused.
+pub(crate) fn reopened<R: AllocGlobal + Clock + Files<File = File>>(
+    rt: &R,
+    volume: &str,
+    place: Place,
+) -> Option<Volume>
+    ensures count { IfSome result (λ device. cached_failures device ≡ 0) }
+    ensures share { IfSome result (λ device.
+        (lock_of (behind (device_behind device))).share ≡ share_for false) }
+{
+    let device = open_locked(rt.alloc(), &mut Host::new(rt), volume, false, FOLDER).ok()?;
+    CachedDevice::new(rt.alloc(), Window::new(device, place.offset, place.length)).ok()
+}
+
+/// Whether an edit of the volume ended since another program had written its header.
+pub(crate) fn has_changed(volume: &Result<Volume, InputFault>) -> bool
+    ensures { IsTrue result ↔ IsOkAnd volume.now (λ device. changes_seen device ≢ 0) }
+{
+    match volume {
+        Ok(device) => device.has_changed(),
+        Err(_) => false,
+    }
+}

@@ -1,0 +1,44 @@
+"""What the scripts of this folder share: a command that is run to its end, in a folder."""
+import os
+import subprocess
+import sys
+
+
+def ran(words, folder=None, **more):
+    """The command, run without standard input unless some is given; what it wrote is bytes, or text by `text=True`."""
+    given = {} if "input" in more else {"stdin": subprocess.DEVNULL}
+    return subprocess.run(words, cwd=folder, capture_output=True, **{"timeout": 300, **given, **more})
+
+
+def status(words, folder):
+    return ran(words, folder).returncode
+
+
+def answered(words, folder):
+    """The status and the output, in the form in which `reader` of testdata/oracle answers."""
+    done = ran(words, folder)
+    return done.returncode, done.stdout.decode("utf-8", "backslashreplace")
+
+
+def said(words, folder=None, **more):
+    """The status, the output and standard error, both as texts."""
+    done = ran(words, folder, text=True, **more)
+    return done.returncode, done.stdout, done.stderr
+
+
+def cryptsetup(words, folder):
+    """What cryptsetup writes; it has to end with status 0."""
+    status, out, err = said(["cryptsetup", *words.split()], folder)
+    if status:
+        sys.exit(f"cryptsetup {words}: {out}{err}")
+    return out
+
+
+def put(folder, name, data):
+    with open(os.path.join(folder, name), "wb") as out:
+        out.write(data)
+
+
+def whole(folder, name):
+    with open(os.path.join(folder, name), "rb") as file:
+        return file.read()
