@@ -1,9 +1,9 @@
 //! The commands, in the order of the help, and which words may follow the name of each.
 
 use crate::choices::Choice;
-use crate::helps;
 use crate::operands::Operand;
 use crate::options::LongOption;
+use crate::{helps, rescue_helps};
 
 /// A command: its name, its help, and what may follow its name.
 #[derive(Clone, Copy)]
@@ -29,7 +29,7 @@ pub(crate) fn commands() -> &'static [Described] {
     &COMMANDS
 }
 
-static COMMANDS: [Described; 12] = [
+static COMMANDS: [Described; 13] = [
     Described {
         name: "check",
         overwrites: false,
@@ -238,6 +238,16 @@ static COMMANDS: [Described; 12] = [
             LongOption::Length,
             LongOption::Quiet,
         ],
+        choices: &[],
+    },
+    Described {
+        name: "find",
+        overwrites: false,
+        about: rescue_helps::FIND,
+        usage: None,
+        more: rescue_helps::FIND_MORE,
+        operands: &[Operand::Device],
+        options: &[LongOption::Offset, LongOption::Length, LongOption::Quiet],
         choices: &[],
     },
     Described {

@@ -10,6 +10,7 @@ pub(crate) enum Operand {
     RebuiltTarget,
     Text,
     Fault,
+    Device,
 }
 
 impl Operand {
@@ -26,7 +27,7 @@ pub(crate) struct OperandRow {
 }
 
 /// In the order of `Operand`.
-static OPERANDS: [OperandRow; 7] = [
+static OPERANDS: [OperandRow; 8] = [
     OperandRow {
         name: "VOLUME",
         needed: true,
@@ -61,5 +62,10 @@ static OPERANDS: [OperandRow; 7] = [
         name: "FAULT",
         needed: false,
         help: "The fault, or its name alone; else all are listed",
+    },
+    OperandRow {
+        name: "DEVICE",
+        needed: true,
+        help: "The disk, the partition or the image",
     },
 ];

@@ -17,9 +17,12 @@ pub(crate) fn line_of<'a>(name: &str, given: &ArgMatches<'a>) -> Option<Line<'a>
     })
 }
 
-/// The volume, which two commands call the source.
+/// The volume, which two commands call the source; of the command that finds volumes the device.
 fn volume_of<'a>(given: &ArgMatches<'a>) -> Option<&'a str> {
-    given.get_str("VOLUME").or(given.get_str("SOURCE"))
+    given
+        .get_str("VOLUME")
+        .or(given.get_str("SOURCE"))
+        .or(given.get_str("DEVICE"))
 }
 
 /// Which bytes of its file are the volume.
@@ -40,6 +43,7 @@ fn command_of<'a>(name: &str, given: &ArgMatches<'a>) -> Option<Command<'a>> {
         "format" => Some(Command::Format(making_of(given)?)),
         "convert" => Some(Command::Convert(converting_of(given)?)),
         "rebuild" => Some(Command::Rebuild(rebuilding_of(given)?)),
+        "find" => Some(Command::Find),
         _ => Some(Command::Edit(editing_of(name, given)?)),
     }
 }

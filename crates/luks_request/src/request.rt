@@ -47,6 +47,8 @@ pub enum Command<'a> {
     /// Make a detached LUKS2 header out of metadata that is still whole in the volume, which stays as
     /// it is.
     Rebuild(Rebuilding<'a>),
+    /// Find each volume that the device holds, by any sign that is left of it.
+    Find,
 }
 
 /// In which form a header is shown.
@@ -192,8 +194,11 @@ impl<'a> Line<'a> {
         ensures { option_map (λ name. name.now) result ≡ passphrase_of self.now.command }
     {
         match self.command {
-            Command::Check { .. } | Command::Show(_) | Command::Convert(_) | Command::Rebuild(_) =>
-                None,
+            Command::Check { .. }
+            | Command::Show(_)
+            | Command::Convert(_)
+            | Command::Rebuild(_)
+            | Command::Find => None,
             Command::Open { passphrase, .. } => Some(passphrase),
             Command::Edit(editing) => editing.request.passphrase(),
             Command::Format(making) => Some(making.passphrase),
