@@ -15,6 +15,9 @@ _luks() {
         [convert]="--random --detached --offset --length --quiet --help"
         [rebuild]="--random --second --uuid --offset --length --quiet --help"
         [find]="--offset --length --quiet --help"
+        [backup]="--over --detached --offset --length --quiet --help"
+        [restore]="--other --detached --offset --length --quiet --help"
+        [compare]="--detached --offset --length --quiet --help"
         [explain]="--help"
         [help]="--help"
     )

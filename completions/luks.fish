@@ -132,8 +132,31 @@ complete -c luks -n '__fish_seen_subcommand_from find' -l offset -x -d 'The byte
 complete -c luks -n '__fish_seen_subcommand_from find' -l length -x -d 'How many bytes are searched'
 complete -c luks -n '__fish_seen_subcommand_from find' -l quiet -d 'No hints on standard error'
 
+complete -c luks -n __fish_use_subcommand -a backup -d "Copy a volume's header and key areas to a file"
+complete -c luks -n '__fish_seen_subcommand_from backup' -F
+complete -c luks -n '__fish_seen_subcommand_from backup' -l over -d 'Write over a file that is not empty'
+complete -c luks -n '__fish_seen_subcommand_from backup' -l detached -d 'The data lies on another device'
+complete -c luks -n '__fish_seen_subcommand_from backup' -l offset -x -d 'The byte of the file where the volume begins'
+complete -c luks -n '__fish_seen_subcommand_from backup' -l length -x -d 'How many bytes the volume has'
+complete -c luks -n '__fish_seen_subcommand_from backup' -l quiet -d 'No hints on standard error'
+
+complete -c luks -n __fish_use_subcommand -a restore -d 'Put a header backup back onto its volume'
+complete -c luks -n '__fish_seen_subcommand_from restore' -F
+complete -c luks -n '__fish_seen_subcommand_from restore' -l other -d 'Write over the header of another volume'
+complete -c luks -n '__fish_seen_subcommand_from restore' -l detached -d 'The data lies on another device'
+complete -c luks -n '__fish_seen_subcommand_from restore' -l offset -x -d 'The byte of the file where the volume begins'
+complete -c luks -n '__fish_seen_subcommand_from restore' -l length -x -d 'How many bytes the volume has'
+complete -c luks -n '__fish_seen_subcommand_from restore' -l quiet -d 'No hints on standard error'
+
+complete -c luks -n __fish_use_subcommand -a compare -d 'Tell whether a header backup is up to date'
+complete -c luks -n '__fish_seen_subcommand_from compare' -F
+complete -c luks -n '__fish_seen_subcommand_from compare' -l detached -d 'The data lies on another device'
+complete -c luks -n '__fish_seen_subcommand_from compare' -l offset -x -d 'The byte of the file where the volume begins'
+complete -c luks -n '__fish_seen_subcommand_from compare' -l length -x -d 'How many bytes the volume has'
+complete -c luks -n '__fish_seen_subcommand_from compare' -l quiet -d 'No hints on standard error'
+
 complete -c luks -n __fish_use_subcommand -a explain -d 'Say what a fault means, and what to try next'
 complete -c luks -n '__fish_seen_subcommand_from explain' -a '(luks explain 2>/dev/null | cut -d" " -f1)'
 
 complete -c luks -n __fish_use_subcommand -a help -d 'Print help'
-complete -c luks -n '__fish_seen_subcommand_from help' -a 'check show open add change remove repair label format convert rebuild find explain'
+complete -c luks -n '__fish_seen_subcommand_from help' -a 'check show open add change remove repair label format convert rebuild find backup restore compare explain'

@@ -26,7 +26,7 @@ pub fn parse<'a>(alloc: Global, words: &'a [&'a str]) -> Result<Asked<'a>, Error
         Ok(matches) => matches,
         Err(fault) => {
             if fault.kind() == ErrorKind::InvalidSubcommand {
-                try_without_format(alloc, words)?;
+                try_without_overwriting(alloc, words)?;
             }
             return Err(fault);
         }
@@ -37,9 +37,10 @@ pub fn parse<'a>(alloc: Global, words: &'a [&'a str]) -> Result<Asked<'a>, Error
     }
 }
 
-/// Reads words as if there were no `format`. Where no command has the name that they begin with, the
-/// fault is told so: what overwrites a volume without a question is suggested for no other word.
-fn try_without_format(alloc: Global, words: &[&str]) -> Result<(), Error> {
+/// Reads words as if there were neither `format` nor `restore`. Where no command has the name that they
+/// begin with, the fault is told so: what overwrites a volume without a question is suggested for no
+/// other word.
+fn try_without_overwriting(alloc: Global, words: &[&str]) -> Result<(), Error> {
     let mut program = program(alloc, false)?;
     let _ = program.try_get_matches_from_mut(words)?;
     Ok(())

@@ -29,7 +29,7 @@ pub(crate) fn commands() -> &'static [Described] {
     &COMMANDS
 }
 
-static COMMANDS: [Described; 13] = [
+static COMMANDS: [Described; 16] = [
     Described {
         name: "check",
         overwrites: false,
@@ -248,6 +248,53 @@ static COMMANDS: [Described; 13] = [
         more: rescue_helps::FIND_MORE,
         operands: &[Operand::Device],
         options: &[LongOption::Offset, LongOption::Length, LongOption::Quiet],
+        choices: &[],
+    },
+    Described {
+        name: "backup",
+        overwrites: false,
+        about: rescue_helps::BACKUP,
+        usage: None,
+        more: rescue_helps::BACKUP_MORE,
+        operands: &[Operand::Volume, Operand::NewBackup],
+        options: &[
+            LongOption::OverFile,
+            LongOption::Detached,
+            LongOption::Offset,
+            LongOption::Length,
+            LongOption::Quiet,
+        ],
+        choices: &[],
+    },
+    Described {
+        name: "restore",
+        overwrites: true,
+        about: rescue_helps::RESTORE,
+        usage: None,
+        more: rescue_helps::RESTORE_MORE,
+        operands: &[Operand::Backup, Operand::Volume],
+        options: &[
+            LongOption::Other,
+            LongOption::Detached,
+            LongOption::Offset,
+            LongOption::Length,
+            LongOption::Quiet,
+        ],
+        choices: &[],
+    },
+    Described {
+        name: "compare",
+        overwrites: false,
+        about: rescue_helps::COMPARE,
+        usage: None,
+        more: rescue_helps::COMPARE_MORE,
+        operands: &[Operand::Backup, Operand::Volume],
+        options: &[
+            LongOption::Detached,
+            LongOption::Offset,
+            LongOption::Length,
+            LongOption::Quiet,
+        ],
         choices: &[],
     },
     Described {

@@ -16,6 +16,7 @@ mod takes;
 
 pub use command_line::{Asked, line, parse};
 pub use luks_request::{
-    Command, Converting, EditRequest, Editing, Line, Making, NewVersion, Place, Rebuilding, ShowAs,
+    BackingUp, Command, Comparing, Converting, EditRequest, Editing, Line, Making, NewVersion,
+    Place, Rebuilding, Restoring, ShowAs,
 };
 pub use manner::Manner;

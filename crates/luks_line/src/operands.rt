@@ -11,6 +11,8 @@ pub(crate) enum Operand {
     Text,
     Fault,
     Device,
+    NewBackup,
+    Backup,
 }
 
 impl Operand {
@@ -27,7 +29,7 @@ pub(crate) struct OperandRow {
 }
 
 /// In the order of `Operand`.
-static OPERANDS: [OperandRow; 8] = [
+static OPERANDS: [OperandRow; 10] = [
     OperandRow {
         name: "VOLUME",
         needed: true,
@@ -67,5 +69,15 @@ static OPERANDS: [OperandRow; 8] = [
         name: "DEVICE",
         needed: true,
         help: "The disk, the partition or the image",
+    },
+    OperandRow {
+        name: "FILE",
+        needed: true,
+        help: "The file of the backup, which is made",
+    },
+    OperandRow {
+        name: "FILE",
+        needed: true,
+        help: "The file of the header backup",
     },
 ];

@@ -31,6 +31,8 @@ pub(crate) enum LongOption {
     NewLine,
     Offset,
     Length,
+    OverFile,
+    Other,
 }
 
 impl LongOption {
@@ -48,7 +50,7 @@ pub(crate) struct OptionRow {
 }
 
 /// In the order of `LongOption`.
-static OPTIONS: [OptionRow; 25] = [
+static OPTIONS: [OptionRow; 27] = [
     OptionRow {
         name: "detached",
         needed: false,
@@ -198,5 +200,17 @@ static OPTIONS: [OptionRow; 25] = [
         needed: false,
         help: "Its length; else it goes to the file's end",
         takes: Takes::Bytes,
+    },
+    OptionRow {
+        name: "over",
+        needed: false,
+        help: "Write over a FILE that isn't empty",
+        takes: Takes::Nothing,
+    },
+    OptionRow {
+        name: "other",
+        needed: false,
+        help: "Write over the header of another volume",
+        takes: Takes::Nothing,
     },
 ];

@@ -4,7 +4,8 @@ use clap::ArgMatches;
 use luks_kdf::HashName;
 use luks_reading::Data;
 use luks_request::{
-    Command, Converting, EditRequest, Editing, Line, Making, NewVersion, Place, Rebuilding, ShowAs,
+    BackingUp, Command, Comparing, Converting, EditRequest, Editing, Line, Making, NewVersion,
+    Place, Rebuilding, Restoring, ShowAs,
 };
 use luks_terms::Format;
 
@@ -44,6 +45,9 @@ fn command_of<'a>(name: &str, given: &ArgMatches<'a>) -> Option<Command<'a>> {
         "convert" => Some(Command::Convert(converting_of(given)?)),
         "rebuild" => Some(Command::Rebuild(rebuilding_of(given)?)),
         "find" => Some(Command::Find),
+        "backup" => Some(Command::Backup(backing_up_of(given)?)),
+        "restore" => Some(Command::Restore(restoring_of(given)?)),
+        "compare" => Some(Command::Compare(comparing_of(given)?)),
         _ => Some(Command::Edit(editing_of(name, given)?)),
     }
 }
@@ -157,6 +161,29 @@ fn rebuilding_of<'a>(given: &ArgMatches<'a>) -> Option<Rebuilding<'a>> {
         random: given.get_str("random")?,
         second: given.get_flag("second"),
         uuid: given.get_str("uuid"),
+    })
+}
+
+fn backing_up_of<'a>(given: &ArgMatches<'a>) -> Option<BackingUp<'a>> {
+    Some(BackingUp {
+        target: given.get_str("FILE")?,
+        data_: data_of(given),
+        over: given.get_flag("over"),
+    })
+}
+
+fn restoring_of<'a>(given: &ArgMatches<'a>) -> Option<Restoring<'a>> {
+    Some(Restoring {
+        backup: given.get_str("FILE")?,
+        data_: data_of(given),
+        other: given.get_flag("other"),
+    })
+}
+
+fn comparing_of<'a>(given: &ArgMatches<'a>) -> Option<Comparing<'a>> {
+    Some(Comparing {
+        backup: given.get_str("FILE")?,
+        data_: data_of(given),
     })
 }
 

@@ -1,4 +1,4 @@
-//! The texts of `--help`, of at most 80 columns, of the commands that find volumes.
+//! The texts of `--help`, of at most 80 columns, of the commands that find volumes and keep their headers.
 
 pub(crate) const FIND: &str = "Finds the volumes of a disk by any sign left of them";
 
@@ -26,5 +26,98 @@ found in the data of a volume may be a file, as a header backup.
 Exit status:
   0  one was found or more, or help was asked for
   1  none was found
+  2  the command line is wrong; the text is on standard error
+  4  device fault, no memory, or the output can't be written";
+
+pub(crate) const BACKUP: &str = "Copies a volume's header and key areas to a file";
+
+pub(crate) const BACKUP_MORE: &str = "\
+The header and the key areas of VOLUME, which check has to accept, are copied to
+FILE, each byte to its own place: of LUKS1 up to where the data begins, of LUKS2
+up to the end of the key areas, mostly 2 MiB and 16 MiB. Elsewhere FILE has
+zeros, in the areas of LUKS1 keyslots that are disabled too. Neither the data is
+read nor VOLUME written.
+
+FILE is made where it isn't there, for its owner alone, and is as long as the
+backup. Where it isn't empty it is written over with --over alone. By luks
+restore it is put back, as by cryptsetup luksHeaderRestore. Whoever has it and a
+passphrase of it opens the volume, even after that passphrase was removed there:
+keep it apart from the disk, and as safe.
+
+Prints one line:
+  done           the backup is made
+  refused FAULT  the first fault, and nothing was written: SameFile (FILE is
+                 VOLUME), Exists (FILE isn't empty, without --over), what check
+                 refuses of VOLUME, or TooSmall (FILE is a device that is too
+                 short)
+  device fault   a file can't be read, VOLUME read, or FILE written
+  no memory      memory was refused; nothing was written
+
+If a device fails in the midst, VOLUME is as it was, and FILE may be no whole
+backup. Run it again, with --over.
+
+Exit status:
+  0  done, or help was asked for
+  1  refused; nothing was written
+  2  the command line is wrong; the text is on standard error
+  4  device fault, no memory, or the output can't be written";
+
+pub(crate) const RESTORE: &str = "Puts a header backup back onto its volume";
+
+pub(crate) const RESTORE_MORE: &str = "\
+The header and the key areas of FILE, a backup by luks backup or by cryptsetup
+luksHeaderBackup, are written to VOLUME, each byte to its own place. FILE is
+only read, and no byte of the data changes. Afterwards the passphrases of the
+backup open the volume, and no others: one that was added since is gone, and one
+that was removed comes back. Before that standard error says of how many.
+
+What stands on VOLUME is written over without a question, but the header of
+another volume with --other alone: one that counts, and has another uuid and
+another digest of the volume key. Written are, with a flush after each, the key
+areas, then of LUKS2 the second copy of the header and the first, of LUKS1 the
+header.
+
+Prints one line:
+  done           the backup is restored
+  refused FAULT  the first fault, and nothing was written: SameFile (FILE is
+                 VOLUME), NotAccepted(FAULT) (check --detached refuses FILE by
+                 that), DoesNotFit(FAULT) (check would refuse VOLUME by that),
+                 or OtherVolume (as above)
+  device fault   a file can't be read, or VOLUME read or written
+  no memory      memory was refused; nothing was written
+
+If a device fails in the midst, FILE is as it was, and VOLUME may have no whole
+header. Run it again.
+
+Exit status:
+  0  done, or help was asked for
+  1  refused; nothing was written
+  2  the command line is wrong; the text is on standard error
+  4  device fault, no memory, or the output can't be written";
+
+pub(crate) const COMPARE: &str = "Tells whether a header backup is up to date";
+
+pub(crate) const COMPARE_MORE: &str = "\
+FILE, a header backup, is compared with the header of VOLUME that counts, and
+nothing is written. Keyslots are compared by their salts; none is tried.
+
+Prints a line, and then one for each keyslot of either:
+  current            each keyslot of either is the same in both
+  outdated           some aren't: make a new backup
+  keyslot N same     it opens by the same passphrase in both
+  keyslot N older    FILE has another one: its passphrase was changed since
+  keyslot N missing  FILE lacks it: it was added since
+  keyslot N removed  FILE alone has it: it was removed since
+or:
+  refused FAULT      SameFile (FILE is VOLUME), NotAccepted(FAULT) (check
+                     --detached refuses FILE by that), what check refuses of
+                     VOLUME, or OtherVolume (the uuid and the digest of the
+                     volume key are other ones)
+  device fault       a file can't be read
+  no memory          memory was refused
+
+Exit status:
+  0  current, or help was asked for
+  1  outdated, or refused
   2  the command line is wrong; the text is on standard error
   4  device fault, no memory, or the output can't be written";

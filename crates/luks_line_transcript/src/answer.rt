@@ -44,6 +44,7 @@ fn print_files<W: Write>(line: &Line<'_>, out: &mut W) -> Result<(), anyhow::Err
         ("new", line.new_passphrase()),
         ("random", line.random()),
         ("target", line.target()),
+        ("backup", line.backup()),
     ];
     for (name, file) in files.iter() {
         if let Some(file) = file {

@@ -1,7 +1,7 @@
 -- What a command does to its volume, and the files that it reads beside it, as the bytes of their names.
 use Rattle.std.specs.Prelude.{ℕ, List, Option, None, Some, option_map, Bool, true, false}
 use Rattle.luks_request.specs.declared.request.Command.{Command}
-use Rattle.luks_request.specs.declared.request.Command.TheVariants.{Check, Show, Open, Edit, Format, Convert, Rebuild, Find}
+use Rattle.luks_request.specs.declared.request.Command.TheVariants.{Check, Show, Open, Edit, Format, Convert, Rebuild, Find, Backup, Restore, Compare}
 use Rattle.luks_request.specs.declared.request.EditRequest.{EditRequest}
 use Rattle.luks_request.specs.declared.request.EditRequest.TheVariants.{Add, Change, Remove, Repair, Label}
 
@@ -31,6 +31,9 @@ passphrase_of (Format making) = Some making.passphrase.now
 passphrase_of (Convert converting) = None
 passphrase_of (Rebuild rebuilding) = None
 passphrase_of Find = None
+passphrase_of (Backup backing_up) = None
+passphrase_of (Restore restoring) = None
+passphrase_of (Compare comparing) = None
 
 -- some edits alone need a new one beside it
 abbrev pub new_of : Command → Option (List ℕ)
@@ -45,14 +48,22 @@ random_of (Convert converting) = Some converting.random.now
 random_of (Rebuild rebuilding) = Some rebuilding.random.now
 random_of command = None
 
--- converting and rebuilding write to a file beside the volume
+-- converting, rebuilding and backing up write to a file beside the volume
 abbrev pub target_of : Command → Option (List ℕ)
 target_of (Convert converting) = Some converting.target.now
 target_of (Rebuild rebuilding) = Some rebuilding.target.now
+target_of (Backup backing_up) = Some backing_up.target.now
 target_of command = None
 
--- edits and formatting write to the volume
+-- restoring and comparing read a header backup
+abbrev pub backup_of : Command → Option (List ℕ)
+backup_of (Restore restoring) = Some restoring.backup.now
+backup_of (Compare comparing) = Some comparing.backup.now
+backup_of command = None
+
+-- edits, formatting and restoring write to the volume
 abbrev pub is_writer : Command → Bool
 is_writer (Edit editing) = true
 is_writer (Format making) = true
+is_writer (Restore restoring) = true
 is_writer command = false

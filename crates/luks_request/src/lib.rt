@@ -1,10 +1,12 @@
 //! What a command line of the program `luks` asks for: the command, its volume and its files.
 #![tactic(auto)]
 
+mod keeping;
 mod place;
 mod rebuilding;
 mod request;
 
+pub use keeping::{BackingUp, Comparing, Restoring};
 pub use place::Place;
 pub use rebuilding::Rebuilding;
 pub use request::{Command, Converting, EditRequest, Editing, Line, Making, NewVersion, ShowAs};

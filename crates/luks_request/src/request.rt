@@ -1,7 +1,8 @@
 ghost use Rattle.std.specs.Prelude.{◌≡◌, option_map};
-ghost use Rattle.luks_request.specs.Named.{edit_new_of, edit_passphrase_of, is_writer, new_of, passphrase_of, random_of};
-ghost use Rattle.luks_request.specs.Named.{target_of};
+ghost use Rattle.luks_request.specs.Named.{backup_of, edit_new_of, edit_passphrase_of, is_writer, new_of};
+ghost use Rattle.luks_request.specs.Named.{passphrase_of, random_of, target_of};
 
+use crate::keeping::{BackingUp, Comparing, Restoring};
 use crate::place::Place;
 use crate::rebuilding::Rebuilding;
 use luks_reading::Data;
@@ -49,6 +50,12 @@ pub enum Command<'a> {
     Rebuild(Rebuilding<'a>),
     /// Find each volume that the device holds, by any sign that is left of it.
     Find,
+    /// Copy the volume's header and key areas to a file.
+    Backup(BackingUp<'a>),
+    /// Put a backup's header and key areas back onto the volume.
+    Restore(Restoring<'a>),
+    /// Compare a backup with the volume.
+    Compare(Comparing<'a>),
 }
 
 /// In which form a header is shown.
@@ -198,7 +205,10 @@ impl<'a> Line<'a> {
             | Command::Show(_)
             | Command::Convert(_)
             | Command::Rebuild(_)
-            | Command::Find => None,
+            | Command::Find
+            | Command::Backup(_)
+            | Command::Restore(_)
+            | Command::Compare(_) => None,
             Command::Open { passphrase, .. } => Some(passphrase),
             Command::Edit(editing) => editing.request.passphrase(),
             Command::Format(making) => Some(making.passphrase),
@@ -236,6 +246,18 @@ impl<'a> Line<'a> {
         match self.command {
             Command::Convert(converting) => Some(converting.target),
             Command::Rebuild(rebuilding) => Some(rebuilding.target),
+            Command::Backup(backing_up) => Some(backing_up.target),
+            _ => None,
+        }
+    }
+
+    /// The file of the header backup that the command reads, where there is one.
+    pub fn backup(&self) -> Option<&'a str>
+        ensures { option_map (λ name. name.now) result ≡ backup_of self.now.command }
+    {
+        match self.command {
+            Command::Restore(restoring) => Some(restoring.backup),
+            Command::Compare(comparing) => Some(comparing.backup),
             _ => None,
         }
     }
@@ -244,6 +266,9 @@ impl<'a> Line<'a> {
     pub fn writes(&self) -> bool
         ensures { result ≡ is_writer self.now.command }
     {
-        matches!(self.command, Command::Edit(_) | Command::Format(_))
+        matches!(
+            self.command,
+            Command::Edit(_) | Command::Format(_) | Command::Restore(_)
+        )
     }
 }
