@@ -54,6 +54,10 @@ name_of fault.NotLuks1 = codes "NotLuks1"
 name_of fault.SameFile = codes "SameFile"
 name_of fault.Counts = codes "Counts"
 name_of fault.NoMetadata = codes "NoMetadata"
+name_of fault.Exists = codes "Exists"
+name_of fault.NotAccepted = codes "NotAccepted"
+name_of fault.DoesNotFit = codes "DoesNotFit"
+name_of fault.OtherVolume = codes "OtherVolume"
 name_of fault.OtherUse = codes "OtherUse"
 
 -- each of them, once
@@ -103,6 +107,10 @@ all_faults =
     ∷ fault.SameFile
     ∷ fault.Counts
     ∷ fault.NoMetadata
+    ∷ fault.Exists
+    ∷ fault.NotAccepted
+    ∷ fault.DoesNotFit
+    ∷ fault.OtherVolume
     ∷ fault.OtherUse
     ∷ []
 
@@ -156,4 +164,8 @@ named fault.NotLuks1 = refl
 named fault.SameFile = refl
 named fault.Counts = refl
 named fault.NoMetadata = refl
+named fault.Exists = refl
+named fault.NotAccepted = refl
+named fault.DoesNotFit = refl
+named fault.OtherVolume = refl
 named fault.OtherUse = refl

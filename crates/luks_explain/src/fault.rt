@@ -96,6 +96,14 @@ pub enum Fault {
     Counts,
     /// Of rebuild: no metadata of SOURCE is whole.
     NoMetadata,
+    /// Of backup: FILE is there and isn't empty.
+    Exists,
+    /// Of restore: check --detached refuses FILE.
+    NotAccepted,
+    /// Of restore: check would refuse VOLUME with this header.
+    DoesNotFit,
+    /// Of restore: the header on VOLUME is another volume's.
+    OtherVolume,
     /// LUKS2: the disk has another use, in the place of the first copy.
     OtherUse,
 }
@@ -111,9 +119,9 @@ macro_rules! variant_name {
 
 impl Fault {
     /// Every fault: of the header, the metadata of LUKS2, the areas, the keyslot that is to be opened,
-    /// then of an edit, of formatting, of converting and of rebuilding, and at last of another use of the
-    /// disk.
-    pub const ALL: [Fault; 45] = [
+    /// then of an edit, of formatting, of converting, of rebuilding and of header backups, and at last of
+    /// another use of the disk.
+    pub const ALL: [Fault; 49] = [
         Fault::TooShort,
         Fault::NotLuks,
         Fault::Version,
@@ -158,6 +166,10 @@ impl Fault {
         Fault::SameFile,
         Fault::Counts,
         Fault::NoMetadata,
+        Fault::Exists,
+        Fault::NotAccepted,
+        Fault::DoesNotFit,
+        Fault::OtherVolume,
         Fault::OtherUse,
     ];
 
@@ -179,7 +191,8 @@ impl Fault {
             JsonArea BadJson NotWhole Shape Kind NoSuchName Assigned Sizes AreaTooSmall Region
             Outside Overlap NoSuchSlot SlotFree Argon2 Cipher Hash KeySize Locked Passphrase
             Requirements SlotTaken NoFreeSlot NoRoom LastSlot BadLabel SeqExhausted MetadataFull
-            RandomLength TooSmall NotLuks1 SameFile Counts NoMetadata OtherUse
+            RandomLength TooSmall NotLuks1 SameFile Counts NoMetadata Exists NotAccepted DoesNotFit OtherVolume
+            OtherUse
         )
     }
 

@@ -43,11 +43,15 @@ pub(crate) fn means(fault: Fault) -> &'static str {
         Fault::SeqExhausted => "there is no higher sequence number",
         Fault::MetadataFull => "the new metadata is longer than its area",
         Fault::RandomLength => "the random file is too short, or none is given",
-        Fault::TooSmall => "the volume, or TARGET, is too short",
+        Fault::TooSmall => "the volume, TARGET or FILE is too short",
         Fault::NotLuks1 => "of convert: SOURCE is of LUKS2",
-        Fault::SameFile => "TARGET is SOURCE",
+        Fault::SameFile => "TARGET is SOURCE, or FILE is VOLUME",
         Fault::Counts => "of rebuild: a header of SOURCE counts",
         Fault::NoMetadata => "of rebuild: no metadata of SOURCE is whole",
+        Fault::Exists => "of backup: FILE is there and isn't empty",
+        Fault::NotAccepted => "of restore: check --detached refuses FILE",
+        Fault::DoesNotFit => "of restore: check would refuse VOLUME with this header",
+        Fault::OtherVolume => "of restore: the header on VOLUME is another volume's",
         Fault::OtherUse => "LUKS2: the disk has another use, in the place of the first copy",
     }
 }
@@ -124,14 +128,27 @@ pub(crate) fn place(fault: Fault) -> &'static str {
         Fault::RandomLength => "the commands that write: the file of --random",
         Fault::TooSmall => {
             "format: fewer than 2097152 bytes, of LUKS2 16777216; convert: TARGET,
-       16777216"
+       16777216; backup: FILE, where that is a device"
         }
         Fault::NotLuks1 => "convert: SOURCE",
         Fault::SameFile => {
-            "convert and rebuild: one file or device, by the same words or two names"
+            "convert and rebuild, and backup, restore and compare: one file or device,
+       by the same words or two names"
         }
         Fault::Counts => "rebuild: SOURCE",
         Fault::NoMetadata => "rebuild: each copy's JSON area in SOURCE",
+        Fault::Exists => "backup: FILE, without --over",
+        Fault::NotAccepted => {
+            "NotAccepted(FAULT), of restore and compare: FILE; FAULT is what check
+       --detached answers of it"
+        }
+        Fault::DoesNotFit => {
+            "DoesNotFit(FAULT), of restore: VOLUME; FAULT is what check would answer
+       of it"
+        }
+        Fault::OtherVolume => {
+            "restore and compare: another uuid, and another digest of the volume key"
+        }
         Fault::OtherUse => {
             "OtherUse(NAME), of add, change, remove, repair and label: its signature
        before the second copy, which alone is sound"
@@ -206,6 +223,10 @@ pub(crate) fn safe(fault: Fault) -> &'static str {
         | Fault::SameFile
         | Fault::Counts
         | Fault::NoMetadata
+        | Fault::Exists
+        | Fault::NotAccepted
+        | Fault::DoesNotFit
+        | Fault::OtherVolume
         | Fault::OtherUse => { "everything: nothing was written" }
         Fault::Argon2 => { "everything: the passphrase goes through Argon2, which takes memory" }
         Fault::Cipher | Fault::KeySize => "everything: luks doesn't decrypt such a key area",
@@ -333,7 +354,20 @@ pub(crate) fn next(fault: Fault) -> &'static str {
         Fault::NotLuks1 => "nothing is to be converted: luks opens it as it is",
         Fault::SameFile => "give a file of its own as TARGET: truncate -s 16M TARGET makes one",
         Fault::Counts => "luks opens it as it is; luks repair writes both copies anew",
-        Fault::NoMetadata => "a backup of the header, by cryptsetup luksHeaderRestore",
+        Fault::NoMetadata => "a backup of the header, by luks restore",
+        Fault::Exists => "name a new file; or say --over, where that backup isn't needed any more",
+        Fault::NotAccepted => {
+            "luks check FILE --detached, and luks explain FAULT; or take another
+       backup"
+        }
+        Fault::DoesNotFit => {
+            "see that VOLUME is the right device, and all of it; of a detached header
+       say --detached"
+        }
+        Fault::OtherVolume => {
+            "look for the backup of this volume; if the header that stands there is
+       the wrong one, say --other"
+        }
         Fault::OtherUse => {
             "if the other use counts, leave it: luks open and show work as ever; else
        the same command with --over takes it away"
