@@ -1,0 +1,92 @@
+-- The first fault of restoring a backup.
+use Rattle.std.proofs.Common.{◌≡◌, ℕ, Bool, List, length, true, false, refl, subst, arith, inl, inr}
+use Rattle.luks_area.specs.Device.{count_after}
+use Rattle.luks_area.specs.First.{NotAfter}
+use Rattle.luks_copying.specs.CountFacts.{one_failure}
+use Rattle.luks_copying.specs.TwoDevices.{CountsAfter, IsOneFailure}
+use Rattle.luks_reading.proofs.VolumeLaws.{well_formed_faultless}
+use Rattle.luks_reading.specs.Checked.{check_key, IsCheckRefusal, IsFault, WellFormed}
+use Rattle.luks_reading.specs.Failures.{is_check_failure}
+use Rattle.luks_reading.specs.declared.check_fault.CheckFault.{CheckFault}
+use Rattle.luks_reading.specs.declared.check_fault.CheckFault.TheVariants as check
+use Rattle.luks_reading.specs.declared.report.Data.{Data}
+use Rattle.luks_reading.specs.declared.report.Data.TheVariants.{Elsewhere}
+use Rattle.luks_keeping.specs.Judged.{IsFaultOn}
+use Rattle.luks_keeping.specs.OtherHeaders.{IsOtherAnswer, IsUnfit}
+use Rattle.luks_keeping.specs.RestoreFaults.{checked_restore, is_restore_failure, restore_key, CanRestore, IsAnsweredRestore, IsKeptFrom, IsRestoreFault}
+use Rattle.luks_keeping.specs.declared.over.Over.{Over}
+use Rattle.luks_keeping.specs.declared.restore_fault.RestoreFault.{RestoreFault}
+use Rattle.luks_keeping.specs.declared.restore_fault.RestoreFault.TheVariants.{NotAccepted, DoesNotFit, OtherVolume, Memory, Device}
+
+module _ (b t : List ℕ) (payload : Data) (over : Over) where
+  after_accepted : (f : CheckFault) → ((g : CheckFault) → IsFault b Elsewhere g → NotAfter (check_key f) (check_key g))
+      → (g : RestoreFault) → IsRestoreFault b t payload over g → NotAfter (restore_key (NotAccepted f)) (restore_key g)
+  after_accepted f least (NotAccepted g) bad = (omega arith, λ e. least g bad)
+  after_accepted f least (DoesNotFit g) bad = (omega arith, λ e. absurd (omega (arith, e)))
+  after_accepted f least OtherVolume bad = (omega arith, λ e. absurd (omega (arith, e)))
+  after_accepted f least Memory bad = absurd bad
+  after_accepted f least Device bad = absurd bad
+
+  pub answered_refusal : (f : CheckFault) → IsCheckRefusal b Elsewhere f → IsAnsweredRestore b t payload over (checked_restore f)
+  answered_refusal (check.Head f) x = (x.0, after_accepted (check.Head f) x.1)
+  answered_refusal (check.Meta f) x = (x.0, after_accepted (check.Meta f) x.1)
+  answered_refusal (check.Area f) x = (x.0, after_accepted (check.Area f) x.1)
+  answered_refusal check.Device x = tt
+  answered_refusal check.Memory x = inl x
+
+  module _ (well : WellFormed b Elsewhere) where
+    after_fit : (f : CheckFault) → ((g : CheckFault) → IsFaultOn b payload (length t) g → NotAfter (check_key f) (check_key g))
+        → (g : RestoreFault) → IsRestoreFault b t payload over g → NotAfter (restore_key (DoesNotFit f)) (restore_key g)
+    after_fit f least (NotAccepted g) bad = absurd (well_formed_faultless b Elsewhere well g bad)
+    after_fit f least (DoesNotFit g) bad = (omega arith, λ e. least g bad)
+    after_fit f least OtherVolume bad = (omega arith, λ e. absurd (omega (arith, e)))
+    after_fit f least Memory bad = absurd bad
+    after_fit f least Device bad = absurd bad
+
+    pub answered_unfit : (f : RestoreFault) → IsUnfit b payload (length t) f → IsAnsweredRestore b t payload over f
+    answered_unfit (DoesNotFit f) x = (x.0, after_fit f x.1)
+    answered_unfit (NotAccepted f) x = absurd x
+    answered_unfit OtherVolume x = absurd x
+    answered_unfit Memory x = absurd x
+    answered_unfit Device x = absurd x
+
+    module _ (fits : (f : CheckFault) → IsFaultOn b payload (length t) f → ⊥) where
+      after_other : (g : RestoreFault) → IsRestoreFault b t payload over g → NotAfter (restore_key OtherVolume) (restore_key g)
+      after_other (NotAccepted g) bad = absurd (well_formed_faultless b Elsewhere well g bad)
+      after_other (DoesNotFit g) bad = absurd (fits g bad)
+      after_other OtherVolume bad = (omega arith, λ e. tt)
+      after_other Memory bad = absurd bad
+      after_other Device bad = absurd bad
+
+      pub answered_other : (f : RestoreFault) → IsOtherAnswer b t over f → IsAnsweredRestore b t payload over f
+      answered_other OtherVolume x = (x, after_other)
+      answered_other Device x = tt
+      answered_other Memory x = inr x
+      answered_other (NotAccepted f) x = absurd x
+      answered_other (DoesNotFit f) x = absurd x
+
+      pub can_restore : (IsKeptFrom b t over → ⊥) → CanRestore b t payload over
+      can_restore clear = record { none = none }
+        where
+          none : (f : RestoreFault) → IsRestoreFault b t payload over f → ⊥
+          none (NotAccepted f) bad = well_formed_faultless b Elsewhere well f bad
+          none (DoesNotFit f) bad = fits f bad
+          none OtherVolume bad = clear bad
+          none Memory bad = bad
+          none Device bad = bad
+
+pub same_failure : (f : CheckFault) → is_restore_failure (checked_restore f) ≡ is_check_failure f
+same_failure (check.Head f) = refl
+same_failure (check.Meta f) = refl
+same_failure (check.Area f) = refl
+same_failure check.Device = refl
+same_failure check.Memory = refl
+
+-- the second of two devices was called, and the first hadn't failed
+pub counts_second : (f : Bool) (s t u w : ℕ) → t ≡ s → w ≡ count_after f u → CountsAfter f s t u w
+counts_second true s t u w same e = inr (same, e)
+counts_second false s t u w same e = (same, e)
+
+-- one of the two failed, and neither had before
+pub two_failures : {s t u v w x : ℕ} → t ≡ s → w ≡ v → IsOneFailure t u w x → IsOneFailure s u v x
+two_failures {t = t} {u = u} {v = v} {w = w} {x = x} first second one = one_failure first (subst (λ (n : ℕ). IsOneFailure t u n x) second one)

@@ -1,0 +1,254 @@
+use Rattle.std.proofs.Common.{◌≡◌, ℕ, List, length, true, false, sym, ap, subst, ◌∙◌, inl}
+use Rattle.std.proofs.lemmas.Bool.{true≢false}
+use Rattle.std.proofs.lemmas.Result.{err_from_is_err_and}
+use Rattle.luks_area.specs.Device.{count_after, unchanged-then}
+use Rattle.luks_area.specs.Ranges.{part, SameBut}
+use Rattle.luks_area.specs.RangeFacts.{same_but-equal, same_but-same}
+use Rattle.luks_copying.specs.CountFacts.{counts_first, counts_none}
+use Rattle.luks_keeping.specs.Judged.{IsFormedOn}
+use Rattle.luks_keeping.specs.Places.{AreInside, HoldsAll, IsOfWhole, WritesOver}
+use Rattle.luks_keeping.specs.OtherHeaders.{IsUnfit}
+use Rattle.luks_keeping.specs.RestoreFaults.{checked_restore, is_restore_failure}
+use Rattle.luks_keeping.proofs.LaidFacts.{apart, inside, lead_below, whole_kept}
+use Rattle.luks_keeping.proofs.RestoreFacts.{from_volume, is_restored, of_restored, segment_stays, to_volume, well_formed}
+use Rattle.luks_keeping.proofs.RestoreFaultFacts.{answered_other, answered_refusal, answered_unfit, can_restore, counts_second, same_failure, two_failures}
+use Rattle.luks_keeping.proofs.SoundFacts.{faultless_on}
+use Rattle.luks_keeping.proofs.TurnFacts.{turn_of}
+use Rattle.luks_keeping.proofs.restoring.restore.Goals as goal
+
+pub write_over-requires-clause-lead : goal.write_over-requires-clause-lead
+write_over-requires-clause-lead g c = lead_below c.in_ok-header.header c.places_of-places.result c.places_of-places.ensures
+
+pub write_over-requires-clause-apart : goal.write_over-requires-clause-apart
+write_over-requires-clause-apart g c = apart c.in_ok-header.header c.places_of-places.result c.places_of-places.ensures _ _ c.in_ok-header.ensures.fits
+
+pub write_over-requires-clause-there : goal.write_over-requires-clause-there
+write_over-requires-clause-there g c =
+    subst (AreInside c.places_of-places.result) (sym c.in_ok-header.ensures.unchanged.size)
+    (inside c.in_ok-header.header c.places_of-places.result c.places_of-places.ensures _ (g.B.Device.size c.args.backup.now) c.in_ok-header.ensures.fits)
+
+pub write_over-requires-clause-within : goal.write_over-requires-clause-within
+write_over-requires-clause-within g c =
+    subst (AreInside c.places_of-places.result) (c.len.ensures ∙ sym c.in_ok-judge_other.ensures.unchanged.size)
+    (inside c.in_ok-header.header c.places_of-places.result c.places_of-places.ensures _ _ c.in_ok-judge_fit.ensures.fits)
+
+pub returns-in_err-header-clause-count : goal.returns-in_err-header-clause-count
+returns-in_err-header-clause-count g c =
+    let p = err_from_is_err_and c.from_residual.result c.from_residual.ensures.1 in
+    rw (p.1, p.2) (counts_first (is_restore_failure (checked_restore c.in_err-header.field-0.0)) _ _ _
+    (c.in_err-header.ensures.count ∙ ap (λ b. count_after b (g.B.Device.failed c.args.backup.now)) (sym (same_failure c.in_err-header.field-0.0))))
+
+pub returns-in_err-header-clause-fault : goal.returns-in_err-header-clause-fault
+returns-in_err-header-clause-fault g c = λ source tells.
+    let p = err_from_is_err_and c.from_residual.result c.from_residual.ensures.1 in
+    rw (p.1, p.2) (answered_refusal (g.B.Device.bytes c.args.backup.now) (g.T.Device.bytes c.args.target.now) c.args.data_ c.args.over c.in_err-header.field-0.0 (c.in_err-header.ensures.refused source))
+
+pub returns-in_err-judge_fit-clause-fault : goal.returns-in_err-judge_fit-clause-fault
+returns-in_err-judge_fit-clause-fault g c = λ source tells.
+    let b : List ℕ = g.B.Device.bytes c.args.backup.now in
+    let t : List ℕ = g.T.Device.bytes c.args.target.now in
+    let p = err_from_is_err_and c.from_residual-in_err-judge_fit.result c.from_residual-in_err-judge_fit.ensures.1 in
+    let long : c.len.result ≡ length t = c.len.ensures ∙ sym (g.met.T.Device.sized c.args.target.now tells) in
+    rw (p.1, p.2) (answered_unfit b t c.args.data_ c.args.over (c.in_ok-header.ensures.formed source) c.in_err-judge_fit.field-0.0
+    (subst (λ (n : ℕ). IsUnfit b c.args.data_ n c.in_err-judge_fit.field-0.0) long (c.in_err-judge_fit.ensures.refused b (c.in_ok-header.ensures.read source))))
+
+pub returns-in_err-judge_fit-clause-count : goal.returns-in_err-judge_fit-clause-count
+returns-in_err-judge_fit-clause-count g c =
+    let p = err_from_is_err_and c.from_residual-in_err-judge_fit.result c.from_residual-in_err-judge_fit.ensures.1 in
+    rw (p.1, p.2) (counts_none (is_restore_failure c.in_err-judge_fit.field-0.0) _ _ _ c.in_err-judge_fit.ensures.own c.in_ok-header.ensures.count)
+
+pub returns-clause-restored : goal.returns-clause-restored
+returns-clause-restored g c = λ source tells.
+    let b : List ℕ = g.B.Device.bytes c.args.backup.now in
+    let t : List ℕ = g.T.Device.bytes c.args.target.now in
+    let w : List ℕ = g.T.Device.bytes c.write_over.new.target in
+    let is = c.in_ok-header.ensures.read source in
+    let same = c.in_ok-header.ensures.unchanged.same source in
+    let unread = c.in_ok-judge_other.ensures.unchanged.same tells in
+    let long : c.len.result ≡ length w = c.len.ensures ∙ sym c.in_ok-judge_other.ensures.unchanged.size ∙ sym c.write_over.ensures.size ∙ sym (g.met.T.Device.sized c.write_over.new.target tells) in
+    is_restored b c.args.data_ c.in_ok-header.header is c.places_of-places.result c.places_of-places.ensures (c.in_ok-header.ensures.formed source) t w
+    (subst (λ (n : ℕ). IsFormedOn b c.args.data_ n) long (c.in_ok-judge_fit.ensures.formed b is))
+    (subst (λ (l : List ℕ). SameBut (IsOfWhole c.places_of-places.result) l w) unread (c.write_over.ensures.rest tells))
+    (subst (λ (l : List ℕ). HoldsAll c.places_of-places.result l w) same (c.in_ok-write_over.ensures.copied source tells))
+    (c.in_ok-write_over.ensures.lead tells)
+
+-- ---- nothing was written
+
+pub returns-in_err-header-clause-order : goal.returns-in_err-header-clause-order
+returns-in_err-header-clause-order g c = λ source tells choice chosen. inl (same_but-same _ _)
+
+pub returns-in_err-judge_fit-clause-order : goal.returns-in_err-judge_fit-clause-order
+returns-in_err-judge_fit-clause-order g c = λ source tells choice chosen. inl (same_but-same _ _)
+
+pub returns-in_err-judge_other-clause-order : goal.returns-in_err-judge_other-clause-order
+returns-in_err-judge_other-clause-order g c = λ source tells choice chosen. inl (same_but-equal _ (c.in_err-judge_other.ensures.unchanged.same tells))
+
+pub returns-in_err-judge_other-clause-rest : goal.returns-in_err-judge_other-clause-rest
+returns-in_err-judge_other-clause-rest g c = λ source tells. same_but-equal _ (c.in_err-judge_other.ensures.unchanged.same tells)
+
+pub returns-in_err-judge_other-clause-segments : goal.returns-in_err-judge_other-clause-segments
+returns-in_err-judge_other-clause-segments g c = λ source tells n a seg. ap (λ l. part l a.start a.len) (c.in_err-judge_other.ensures.unchanged.same tells)
+
+pub returns-in_err-judge_other-clause-count : goal.returns-in_err-judge_other-clause-count
+returns-in_err-judge_other-clause-count g c =
+    let p = err_from_is_err_and c.from_residual-in_err-judge_other.result c.from_residual-in_err-judge_other.ensures.1 in
+    rw (p.1, p.2) (counts_second (is_restore_failure c.in_err-judge_other.field-0.0) _ _ _ _ c.in_ok-header.ensures.count c.in_err-judge_other.ensures.count)
+
+pub returns-in_err-judge_other-clause-refused : goal.returns-in_err-judge_other-clause-refused
+returns-in_err-judge_other-clause-refused g c =
+    let p = err_from_is_err_and c.from_residual-in_err-judge_other.result c.from_residual-in_err-judge_other.ensures.1 in
+    rw (p.1, p.2) (λ own. c.in_err-judge_other.ensures.unchanged)
+
+pub returns-in_err-judge_other-clause-fault : goal.returns-in_err-judge_other-clause-fault
+returns-in_err-judge_other-clause-fault g c = λ source tells.
+    let b : List ℕ = g.B.Device.bytes c.args.backup.now in
+    let t : List ℕ = g.T.Device.bytes c.args.target.now in
+    let is = c.in_ok-header.ensures.read source in
+    let long : c.len.result ≡ length t = c.len.ensures ∙ sym (g.met.T.Device.sized c.args.target.now tells) in
+    let fits : IsFormedOn b c.args.data_ (length t) = subst (λ (n : ℕ). IsFormedOn b c.args.data_ n) long (c.in_ok-judge_fit.ensures.formed b is) in
+    let p = err_from_is_err_and c.from_residual-in_err-judge_other.result c.from_residual-in_err-judge_other.ensures.1 in
+    rw (p.1, p.2) (answered_other b t c.args.data_ c.args.over (c.in_ok-header.ensures.formed source) (faultless_on b c.args.data_ (length t) fits) c.in_err-judge_other.field-0.0
+    (c.in_err-judge_other.ensures.refused tells b is))
+
+-- ---- the backup was written
+
+pub returns-in_err-write_over-clause-count : goal.returns-in_err-write_over-clause-count
+returns-in_err-write_over-clause-count g c =
+    let p = err_from_is_err_and c.from_residual-in_err-write_over.result c.from_residual-in_err-write_over.ensures.1 in
+    rw (p.1, p.2) (two_failures c.in_ok-header.ensures.count c.in_ok-judge_other.ensures.count c.in_err-write_over.ensures.count)
+
+pub returns-in_err-write_over-clause-refused : goal.returns-in_err-write_over-clause-refused
+returns-in_err-write_over-clause-refused g c =
+    let p = err_from_is_err_and c.from_residual-in_err-write_over.result c.from_residual-in_err-write_over.ensures.1 in
+    rw (p.1, p.2) (λ (own : true ≡ false). absurd (true≢false own))
+
+pub returns-in_err-write_over-clause-kept : goal.returns-in_err-write_over-clause-kept
+returns-in_err-write_over-clause-kept g c = unchanged-then c.in_ok-header.ensures.unchanged c.in_err-write_over.ensures.kept
+
+pub returns-clause-kept : goal.returns-clause-kept
+returns-clause-kept g c = unchanged-then c.in_ok-header.ensures.unchanged c.in_ok-write_over.ensures.kept
+
+pub returns-clause-faultless : goal.returns-clause-faultless
+returns-clause-faultless g c = λ source tells.
+    let b : List ℕ = g.B.Device.bytes c.args.backup.now in
+    let t : List ℕ = g.T.Device.bytes c.args.target.now in
+    let is = c.in_ok-header.ensures.read source in
+    let long : c.len.result ≡ length t = c.len.ensures ∙ sym (g.met.T.Device.sized c.args.target.now tells) in
+    let fits : IsFormedOn b c.args.data_ (length t) = subst (λ (n : ℕ). IsFormedOn b c.args.data_ n) long (c.in_ok-judge_fit.ensures.formed b is) in
+    can_restore b t c.args.data_ c.args.over (c.in_ok-header.ensures.formed source) (faultless_on b c.args.data_ (length t) fits) (c.in_ok-judge_other.ensures.clear tells b is)
+
+pub returns-clause-same : goal.returns-clause-same
+returns-clause-same g c = λ source tells f bad.
+    let b : List ℕ = g.B.Device.bytes c.args.backup.now in
+    let t : List ℕ = g.T.Device.bytes c.args.target.now in
+    let is = c.in_ok-header.ensures.read source in
+    let long : c.len.result ≡ length t = c.len.ensures ∙ sym (g.met.T.Device.sized c.args.target.now tells) in
+    let fits : IsFormedOn b c.args.data_ (length t) = subst (λ (n : ℕ). IsFormedOn b c.args.data_ n) long (c.in_ok-judge_fit.ensures.formed b is) in
+    absurd ((can_restore b t c.args.data_ c.args.over (c.in_ok-header.ensures.formed source) (faultless_on b c.args.data_ (length t) fits) (c.in_ok-judge_other.ensures.clear tells b is)).none f bad)
+
+pub returns-in_err-write_over-clause-same : goal.returns-in_err-write_over-clause-same
+returns-in_err-write_over-clause-same g c = λ source tells f bad.
+    let b : List ℕ = g.B.Device.bytes c.args.backup.now in
+    let t : List ℕ = g.T.Device.bytes c.args.target.now in
+    let is = c.in_ok-header.ensures.read source in
+    let long : c.len.result ≡ length t = c.len.ensures ∙ sym (g.met.T.Device.sized c.args.target.now tells) in
+    let fits : IsFormedOn b c.args.data_ (length t) = subst (λ (n : ℕ). IsFormedOn b c.args.data_ n) long (c.in_ok-judge_fit.ensures.formed b is) in
+    absurd ((can_restore b t c.args.data_ c.args.over (c.in_ok-header.ensures.formed source) (faultless_on b c.args.data_ (length t) fits) (c.in_ok-judge_other.ensures.clear tells b is)).none f bad)
+
+pub returns-clause-rest : goal.returns-clause-rest
+returns-clause-rest g c = λ source tells.
+    let b : List ℕ = g.B.Device.bytes c.args.backup.now in
+    let t : List ℕ = g.T.Device.bytes c.args.target.now in
+    let w : List ℕ = g.T.Device.bytes c.write_over.new.target in
+    let is = c.in_ok-header.ensures.read source in
+    let unread = c.in_ok-judge_other.ensures.unchanged.same tells in
+    of_restored b c.in_ok-header.header is (whole_kept b c.in_ok-header.header is c.places_of-places.result c.places_of-places.ensures
+    (subst (λ (l : List ℕ). SameBut (IsOfWhole c.places_of-places.result) l w) unread (c.write_over.ensures.rest tells)))
+
+pub returns-in_err-write_over-clause-rest : goal.returns-in_err-write_over-clause-rest
+returns-in_err-write_over-clause-rest g c = λ source tells.
+    let b : List ℕ = g.B.Device.bytes c.args.backup.now in
+    let t : List ℕ = g.T.Device.bytes c.args.target.now in
+    let w : List ℕ = g.T.Device.bytes c.write_over.new.target in
+    let is = c.in_ok-header.ensures.read source in
+    let unread = c.in_ok-judge_other.ensures.unchanged.same tells in
+    of_restored b c.in_ok-header.header is (whole_kept b c.in_ok-header.header is c.places_of-places.result c.places_of-places.ensures
+    (subst (λ (l : List ℕ). SameBut (IsOfWhole c.places_of-places.result) l w) unread (c.write_over.ensures.rest tells)))
+
+pub returns-clause-segments : goal.returns-clause-segments
+returns-clause-segments g c = λ source tells n a seg.
+    let b : List ℕ = g.B.Device.bytes c.args.backup.now in
+    let t : List ℕ = g.T.Device.bytes c.args.target.now in
+    let w : List ℕ = g.T.Device.bytes c.write_over.new.target in
+    let is = c.in_ok-header.ensures.read source in
+    let unread = c.in_ok-judge_other.ensures.unchanged.same tells in
+    segment_stays b c.args.data_ (g.T.Device.size c.args.target.now) c.in_ok-header.header is
+    (subst (λ (n : ℕ). IsFormedOn b c.args.data_ n) c.len.ensures (c.in_ok-judge_fit.ensures.formed b is))
+    (whole_kept b c.in_ok-header.header is c.places_of-places.result c.places_of-places.ensures (subst (λ (l : List ℕ). SameBut (IsOfWhole c.places_of-places.result) l w) unread (c.write_over.ensures.rest tells))) n a seg
+
+pub returns-in_err-write_over-clause-segments : goal.returns-in_err-write_over-clause-segments
+returns-in_err-write_over-clause-segments g c = λ source tells n a seg.
+    let b : List ℕ = g.B.Device.bytes c.args.backup.now in
+    let t : List ℕ = g.T.Device.bytes c.args.target.now in
+    let w : List ℕ = g.T.Device.bytes c.write_over.new.target in
+    let is = c.in_ok-header.ensures.read source in
+    let unread = c.in_ok-judge_other.ensures.unchanged.same tells in
+    segment_stays b c.args.data_ (g.T.Device.size c.args.target.now) c.in_ok-header.header is
+    (subst (λ (n : ℕ). IsFormedOn b c.args.data_ n) c.len.ensures (c.in_ok-judge_fit.ensures.formed b is))
+    (whole_kept b c.in_ok-header.header is c.places_of-places.result c.places_of-places.ensures (subst (λ (l : List ℕ). SameBut (IsOfWhole c.places_of-places.result) l w) unread (c.write_over.ensures.rest tells))) n a seg
+
+pub returns-clause-order : goal.returns-clause-order
+returns-clause-order g c = λ source tells choice chosen.
+    let b : List ℕ = g.B.Device.bytes c.args.backup.now in
+    let t : List ℕ = g.T.Device.bytes c.args.target.now in
+    let w : List ℕ = g.T.Device.bytes c.write_over.new.target in
+    let is = c.in_ok-header.ensures.read source in
+    let unread = c.in_ok-judge_other.ensures.unchanged.same tells in
+    let same = c.in_ok-header.ensures.unchanged.same source in
+    turn_of b c.in_ok-header.header is c.places_of-places.result c.places_of-places.ensures t w
+    (subst (λ (l : List ℕ). WritesOver c.places_of-places.result l t w) same (subst (λ (l : List ℕ). WritesOver c.places_of-places.result (g.B.Device.bytes c.accepted_header.new.device) l w) unread (c.write_over.ensures.order source tells)))
+    choice chosen
+
+pub returns-in_err-write_over-clause-order : goal.returns-in_err-write_over-clause-order
+returns-in_err-write_over-clause-order g c = λ source tells choice chosen.
+    let b : List ℕ = g.B.Device.bytes c.args.backup.now in
+    let t : List ℕ = g.T.Device.bytes c.args.target.now in
+    let w : List ℕ = g.T.Device.bytes c.write_over.new.target in
+    let is = c.in_ok-header.ensures.read source in
+    let unread = c.in_ok-judge_other.ensures.unchanged.same tells in
+    let same = c.in_ok-header.ensures.unchanged.same source in
+    turn_of b c.in_ok-header.header is c.places_of-places.result c.places_of-places.ensures t w
+    (subst (λ (l : List ℕ). WritesOver c.places_of-places.result l t w) same (subst (λ (l : List ℕ). WritesOver c.places_of-places.result (g.B.Device.bytes c.accepted_header.new.device) l w) unread (c.write_over.ensures.order source tells)))
+    choice chosen
+
+pub returns-clause-well_formed : goal.returns-clause-well_formed
+returns-clause-well_formed g c = λ source tells.
+    let b : List ℕ = g.B.Device.bytes c.args.backup.now in
+    let t : List ℕ = g.T.Device.bytes c.args.target.now in
+    let w : List ℕ = g.T.Device.bytes c.write_over.new.target in
+    let is = c.in_ok-header.ensures.read source in
+    let same = c.in_ok-header.ensures.unchanged.same source in
+    let unread = c.in_ok-judge_other.ensures.unchanged.same tells in
+    let long : c.len.result ≡ length w = c.len.ensures ∙ sym c.in_ok-judge_other.ensures.unchanged.size ∙ sym c.write_over.ensures.size ∙ sym (g.met.T.Device.sized c.write_over.new.target tells) in
+    let fits : IsFormedOn b c.args.data_ (length w) = subst (λ (n : ℕ). IsFormedOn b c.args.data_ n) long (c.in_ok-judge_fit.ensures.formed b is) in
+    let rest : SameBut (IsOfWhole c.places_of-places.result) t w = subst (λ (l : List ℕ). SameBut (IsOfWhole c.places_of-places.result) l w) unread (c.write_over.ensures.rest tells) in
+    let held : HoldsAll c.places_of-places.result b w = subst (λ (l : List ℕ). HoldsAll c.places_of-places.result l w) same (c.in_ok-write_over.ensures.copied source tells) in
+    let lead = c.in_ok-write_over.ensures.lead tells in
+    let well = c.in_ok-header.ensures.formed source in
+    well_formed b c.args.data_ c.in_ok-header.header is c.places_of-places.result c.places_of-places.ensures well t w fits rest held lead
+
+pub returns-clause-answers : goal.returns-clause-answers
+returns-clause-answers g c = λ source tells memory n p a.
+    let b : List ℕ = g.B.Device.bytes c.args.backup.now in
+    let t : List ℕ = g.T.Device.bytes c.args.target.now in
+    let w : List ℕ = g.T.Device.bytes c.write_over.new.target in
+    let is = c.in_ok-header.ensures.read source in
+    let same = c.in_ok-header.ensures.unchanged.same source in
+    let unread = c.in_ok-judge_other.ensures.unchanged.same tells in
+    let long : c.len.result ≡ length w = c.len.ensures ∙ sym c.in_ok-judge_other.ensures.unchanged.size ∙ sym c.write_over.ensures.size ∙ sym (g.met.T.Device.sized c.write_over.new.target tells) in
+    let fits : IsFormedOn b c.args.data_ (length w) = subst (λ (n : ℕ). IsFormedOn b c.args.data_ n) long (c.in_ok-judge_fit.ensures.formed b is) in
+    let rest : SameBut (IsOfWhole c.places_of-places.result) t w = subst (λ (l : List ℕ). SameBut (IsOfWhole c.places_of-places.result) l w) unread (c.write_over.ensures.rest tells) in
+    let held : HoldsAll c.places_of-places.result b w = subst (λ (l : List ℕ). HoldsAll c.places_of-places.result l w) same (c.in_ok-write_over.ensures.copied source tells) in
+    let lead = c.in_ok-write_over.ensures.lead tells in
+    let well = c.in_ok-header.ensures.formed source in
+    (to_volume b c.args.data_ c.in_ok-header.header is c.places_of-places.result c.places_of-places.ensures well t w fits rest held lead memory n p a, from_volume b c.args.data_ c.in_ok-header.header is c.places_of-places.result c.places_of-places.ensures well t w fits rest held lead memory n p a)

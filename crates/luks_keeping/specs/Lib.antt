@@ -1,0 +1,15 @@
+pub mod Places
+pub mod Kept
+pub mod Judged
+pub mod Backup
+pub mod BackupFaults
+pub mod FaultTexts
+pub mod Laid
+pub mod Restored
+pub mod RestoreFaults
+pub mod SameVolume
+pub mod OtherHeaders
+pub mod SameKey
+pub mod SameKeys
+pub mod Compared
+pub mod Salts

@@ -1,0 +1,32 @@
+-- What is found of the salts of headers that were read: words of private contracts.
+use Rattle.std.specs.Prelude.{◌≡◌, ℕ, ◌<◌, List, Option, Some, None, length, slice_index_or}
+use Rattle.luks_meta.specs.Content.{content}
+use Rattle.luks_reading.specs.declared.header.Header.{Header}
+use Rattle.luks_reading.specs.declared.header.Header.TheVariants.{Luks1, Luks2}
+use Rattle.luks_keeping.specs.Compared.{HasSalt2, IsGone, IsUsedSalt, StandsSo}
+use Rattle.luks_keeping.specs.declared.comparing.Salt.{Salt}
+use Rattle.luks_keeping.specs.declared.comparison.Keeping.{Keeping}
+use Rattle.luks_keeping.specs.declared.comparison.Keeping.TheVariants.{Absent, Same, Older, Missing, Removed}
+
+-- the keyslot `n` of the header has the salt
+abbrev pub HasHeaderSalt : Header → ℕ → List ℕ → Type 0
+HasHeaderSalt (Luks1 bytes) n salt = IsUsedSalt bytes n salt
+HasHeaderSalt (Luks2 copy) n salt = HasSalt2 (content copy.meta) n salt
+
+-- what is found of a keyslot's salt
+abbrev pub FindsSalt : (List ℕ → Type 0) → Option Salt → Type 0
+FindsSalt has None = IsGone has
+FindsSalt has (Some s) = has s.bytes.items
+
+-- how two keyslots with these salts stand
+abbrev pub IsSameOrOlder : List ℕ → List ℕ → Keeping → Type 0
+IsSameOrOlder here there Same = here ≡ there
+IsSameOrOlder here there Older = here ≡ there → ⊥
+IsSameOrOlder here there Absent = ⊥
+IsSameOrOlder here there Missing = ⊥
+IsSameOrOlder here there Removed = ⊥
+
+-- how the keyslots below `n` stand
+pub record HoldsKeeping (backup volume : Header) (n : ℕ) (states : List Keeping) : Type 0 where
+  pub long : length states ≡ 32
+  pub each : (k : ℕ) → k < n → StandsSo (HasHeaderSalt backup k) (HasHeaderSalt volume k) (slice_index_or states k Absent)

@@ -1,0 +1,31 @@
+//! A copy of a volume's header and key areas, on a device of its own, and the way back.
+#![tactic(auto)]
+
+mod accepted;
+mod backing_up;
+mod backup_fault;
+mod comparing;
+mod comparison;
+mod copying;
+mod erasing;
+mod judging;
+mod laws;
+mod over;
+mod places;
+mod restore_fault;
+mod restoring;
+mod same_key;
+mod same_volume;
+mod size;
+mod slots;
+mod writing_over;
+
+pub use accepted::accepted_header;
+pub use backing_up::{backup, backup_length};
+pub use backup_fault::BackupFault;
+pub use comparing::compare;
+pub use comparison::{Comparison, Keeping};
+pub use laws::{kept_keyslots_answer_alike, kept_of_kept_is_kept, restored_backup_gives_back};
+pub use over::Over;
+pub use restore_fault::RestoreFault;
+pub use restoring::restore;

@@ -1,0 +1,106 @@
+//! Restoring a backup onto a volume.
+ghost use Rattle.std.specs.Prelude.{◌≡◌, ◌↔◌, ◌+◌, ◌^◌, ◌<◌, List, ℕ, IfErr, OnOk, false, length};
+ghost use Rattle.luks_area.specs.Area.{Fit};
+ghost use Rattle.luks_area.specs.Device.{IsSettled, IsUnchanged};
+ghost use Rattle.luks_area.specs.Ranges.{part, SameBut};
+ghost use Rattle.luks_area.specs.declared.area.Area.{Area as TheArea};
+ghost use Rattle.luks_copying.specs.TwoDevices.{CountsEither};
+ghost use Rattle.luks_head.specs.Selection.{Choice, Chosen};
+ghost use Rattle.luks_reading.specs.Answer.{AnswerWithin, Opened};
+ghost use Rattle.luks_reading.specs.Checked.{WellFormed};
+ghost use Rattle.luks_reading.specs.Header.{IsAcceptedHeader, IsHeader};
+ghost use Rattle.luks_reading.specs.Reported.{HeaderArea};
+ghost use Rattle.luks_keeping.specs.Judged.{IsFormedOn};
+ghost use Rattle.luks_keeping.specs.OtherHeaders.{IsUnfit};
+ghost use Rattle.luks_keeping.specs.RestoreFaults.{CanRestore, IsAnsweredRestore, IsRestoreFault, is_restore_failure};
+ghost use Rattle.luks_keeping.specs.Restored.{IsOfRestored, IsRestored, IsSegmentOn, RestoresInTurn};
+ghost use Rattle.luks_keeping.specs.declared.restore_fault.RestoreFault.{RestoreFault as TheFault};
+
+use crate::accepted::accepted_header;
+use crate::judging::judge_header;
+use crate::over::Over;
+use crate::restore_fault::RestoreFault;
+use crate::same_volume::judge_other;
+use crate::slots::places_of;
+use crate::writing_over::write_over;
+use luks_area::Device;
+use luks_reading::{Data, Header};
+use std::alloc::Global;
+
+/// Puts the header and the key areas of a backup onto the target's volume, at their places. The backup
+/// never changes.
+///
+/// `data_` says where the payload of the target's volume lies. First the first sectors of both copies'
+/// places become zeros, one after the other: an older header there would still count while its key
+/// areas are overwritten. Then the key areas are written, then the second copy of the header, then the
+/// first, a flush after each; a broken-off restore is done again. Takes memory for the metadata of both,
+/// before the first write.
+pub fn restore<B: Device, T: Device>(
+    alloc: Global,
+    backup: &mut B,
+    target: &mut T,
+    data_: Data,
+    over: Over,
+) -> Result<(), RestoreFault>
+    requires backup_room { B.failed backup.old + 1 < 2 ^ 64 }
+    requires target_room { T.failed target.old + 1 < 2 ^ 64 }
+    requires settled { T.tells → IsSettled T.unsettled target.old }
+
+    // The devices: `Device` exactly where a call of one of the two failed.
+    ensures count { CountsEither is_restore_failure result (B.failed backup.old)
+        (B.failed backup.new) (T.failed target.old) (T.failed target.new) }
+    ensures kept { IsUnchanged B.tells B.size B.bytes B.unsettled backup.old backup.new }
+    ensures size { T.size target.new ≡ T.size target.old }
+    ensures settled { T.tells → OnOk result (IsSettled T.unsettled target.new) }
+
+    // The first fault that stands, or want of memory, and then nothing of the target changed.
+    ensures fault { B.tells → T.tells → IfErr result
+        (IsAnsweredRestore (B.bytes backup.old) (T.bytes target.old) data_ over) }
+    ensures faultless { B.tells → T.tells → OnOk result
+        (CanRestore (B.bytes backup.old) (T.bytes target.old) data_ over) }
+    ensures refused { IfErr result (λ f. is_restore_failure f ≡ false
+        → IsUnchanged T.tells T.size T.bytes T.unsettled target.old target.new) }
+    ensures same { B.tells → T.tells → (f : TheFault)
+        → IsRestoreFault (B.bytes backup.old) (T.bytes target.old) data_ over f
+        → T.bytes target.new ≡ T.bytes target.old }
+
+    // Which bytes may have changed, also where a device failed: none of a segment.
+    ensures rest { B.tells → T.tells → SameBut (IsOfRestored (B.bytes backup.old))
+        (T.bytes target.old) (T.bytes target.new) }
+    ensures segments { B.tells → T.tells → (n : ℕ) (a : TheArea)
+        → IsSegmentOn (B.bytes backup.old) data_ (T.size target.old) n a
+        → part (T.bytes target.new) a.start a.len ≡ part (T.bytes target.old) a.start a.len }
+    ensures order { B.tells → T.tells → (c : Choice) → Chosen (B.bytes backup.old) c
+        → RestoresInTurn (B.bytes backup.old) c (T.bytes target.old) (T.bytes target.new) }
+
+    // The volume that was made: each keyslot answers as the backup's.
+    ensures restored { B.tells → T.tells → OnOk result
+        (IsRestored (B.bytes backup.old) (T.bytes target.old) (T.bytes target.new)) }
+    ensures well_formed { B.tells → T.tells
+        → OnOk result (WellFormed (T.bytes target.new) data_) }
+    ensures answers { B.tells → T.tells → OnOk result ((memory n : ℕ) (p : List ℕ) (a : Opened)
+        → AnswerWithin memory (B.bytes backup.old) n p a
+        ↔ AnswerWithin memory (T.bytes target.new) n p a) }
+{
+    let header = accepted_header(alloc, backup, Data::Elsewhere)?;
+    judge_fit(&header, data_, target.len())?;
+    judge_other(alloc, &header, target, over)?;
+    let places = places_of(&header);
+    write_over(backup, target, &places)?;
+    Ok(())
+}
+
+/// The first fault of the volume as it would be, of `total` bytes.
+fn judge_fit(header: &Header, data_: Data, total: u64) -> Result<(), RestoreFault>
+    requires { IsAcceptedHeader header.now }
+    ensures formed { (v : List ℕ) → IsHeader v header.now → OnOk result (IsFormedOn v data_ total) }
+    ensures fits { OnOk result (Fit (HeaderArea header.now data_ total) total) }
+    ensures refused { (v : List ℕ) → IsHeader v header.now
+        → IfErr result (IsUnfit v data_ total) }
+    ensures own { IfErr result (λ f. is_restore_failure f ≡ false) }
+{
+    match judge_header(header, data_, total) {
+        Ok(_) => Ok(()),
+        Err(fault) => Err(RestoreFault::DoesNotFit(fault)),
+    }
+}

@@ -1,0 +1,77 @@
+//! Writing a header and its key areas over what stands on a device.
+ghost use Rattle.std.specs.Prelude.{◌≡◌, ◌+◌, ◌^◌, ◌<◌, ◌≤◌, OnOk, min, replicate};
+ghost use Rattle.luks_area.specs.Device.{CountsFailure, IsSettled, IsUnchanged, is_failure};
+ghost use Rattle.luks_area.specs.Ranges.{part, SameBut};
+ghost use Rattle.luks_copying.specs.TwoDevices.{CountsEither};
+ghost use Rattle.luks_keeping.specs.Places.{header_end, AreApart, AreCleared, AreInside, ClearsInTurn, HoldsAll, IsOfSectors, IsOfWhole, WritesOver};
+
+use crate::copying::copy_places;
+use crate::erasing::erase;
+use crate::places::Places;
+use luks_area::{Area, Device, DeviceFault, SECTOR};
+
+/// Clears the first sectors of both copies' places, and copies the key areas, the second copy and the
+/// first, a flush after each. Also where a device fails no byte of the target outside these places
+/// changes.
+pub(crate) fn write_over<S: Device, T: Device>(
+    source: &mut S,
+    target: &mut T,
+    places: &Places,
+) -> Result<(), DeviceFault>
+    requires lead { places.now.lead ≤ min 512 places.now.first }
+    requires apart { AreApart places.now }
+    requires there { AreInside places.now (S.size source.old) }
+    requires within { AreInside places.now (T.size target.old) }
+    requires source_room { S.failed source.old + 1 < 2 ^ 64 }
+    requires target_room { T.failed target.old + 1 < 2 ^ 64 }
+    requires settled { T.tells → IsSettled T.unsettled target.old }
+    ensures count { CountsEither is_failure result (S.failed source.old) (S.failed source.new)
+        (T.failed target.old) (T.failed target.new) }
+    ensures kept { IsUnchanged S.tells S.size S.bytes S.unsettled source.old source.new }
+    ensures size { T.size target.new ≡ T.size target.old }
+    ensures settled { T.tells → OnOk result (IsSettled T.unsettled target.new) }
+    ensures rest { T.tells
+        → SameBut (IsOfWhole places.now) (T.bytes target.old) (T.bytes target.new) }
+    ensures order { S.tells → T.tells → WritesOver places.now (S.bytes source.old)
+        (T.bytes target.old) (T.bytes target.new) }
+    ensures copied { S.tells → T.tells
+        → OnOk result (HoldsAll places.now (S.bytes source.old) (T.bytes target.new)) }
+    ensures lead { T.tells → OnOk result
+        (part (T.bytes target.new) 0 places.now.lead ≡ replicate places.now.lead 0) }
+{
+    clear(target, places)?;
+    copy_places(source, target, places)
+}
+
+/// Clears the first sector of the first copy's place, then that of the second's, a flush after each.
+fn clear<T: Device>(target: &mut T, places: &Places) -> Result<(), DeviceFault>
+    requires within { header_end places.now ≤ T.size target.old }
+    requires room { T.failed target.old + 1 < 2 ^ 64 }
+    requires settled { T.tells → IsSettled T.unsettled target.old }
+    ensures count { CountsFailure is_failure result (T.failed target.old) (T.failed target.new) }
+    ensures size { T.size target.new ≡ T.size target.old }
+    ensures settled { T.tells → OnOk result (IsSettled T.unsettled target.new) }
+    ensures rest { T.tells
+        → SameBut (IsOfSectors places.now) (T.bytes target.old) (T.bytes target.new) }
+    ensures cleared { T.tells → OnOk result (AreCleared places.now (T.bytes target.new)) }
+    ensures order { T.tells
+        → ClearsInTurn places.now (T.bytes target.old) (T.bytes target.new) }
+{
+    let first = Area {
+        start: 0,
+        len: sector_within(places.first),
+    };
+    erase(target, first)?;
+    let second = Area {
+        start: places.first,
+        len: sector_within(places.second),
+    };
+    erase(target, second)
+}
+
+/// The bytes of the first sector of a place of `bytes` bytes.
+fn sector_within(bytes: u64) -> u64
+    ensures { result ≡ min 512 bytes }
+{
+    SECTOR.min(bytes)
+}

@@ -1,0 +1,16 @@
+//! Tests of backing up and restoring small volumes: what is left byte for byte, refusals, failing devices
+//! and refused memory. They stand here so that no crate is proved a second time for them.
+#![tactic(auto)]
+
+#[cfg(test)]
+mod backups;
+#[cfg(test)]
+mod failing_calls;
+#[cfg(test)]
+mod refusals;
+#[cfg(test)]
+mod refused_memory;
+#[cfg(test)]
+mod restores;
+#[cfg(test)]
+mod sources;
