@@ -30,7 +30,7 @@ use Rattle.luks_cli.specs.Editing.{WhereEdit}
 use Rattle.luks_main.specs.declared.outcome.Outcome.{Outcome}
 use Rattle.luks_main.specs.Outcomes.{EndsAsObject, IsOf, IsOutcome, IsToldAsObject, IsUntold, told, refused, failed}
 use Rattle.luks_main.specs.Statuses.{EndsCheck, EndsConvert, EndsEdit, EndsFormat, EndsOpen, EndsRebuild, EndsShow, EndsWith, MayEnd}
-use Rattle.luks_main.proofs.StatusFacts.{converted_same_file_ends, memory_ends, own, prints_as, rebuilt_same_file_ends}
+use Rattle.luks_main.proofs.StatusFacts.{converted_same_file_ends, fault_ends, may_by, own, prints_as, rebuilt_same_file_ends}
 
 -- ---- whether both files are one
 
@@ -114,7 +114,7 @@ printed_outcome c before after held lines o p empty is none = elim p.printed [
     of_answer = record { status = printed.1; lines = if_some_as (line_of p.answer) _ _ (λ text more. is ∙ subst (λ h. Appends (Some h) (Some lines) text) empty more) printed.2 };
     told = none_if_some o.answer _ none;
   })
-  | inr unprinted ↦ inr (record { status = unprinted.1; answer = none })
+  | inr unprinted ↦ inr (inl (record { status = unprinted.1; answer = none }))
 ]
 
 told_if_some : {X : Type 0} (o : Option X) (P : X → Type 0) → MatchOption o ⊥ P → IfSome o P
@@ -125,7 +125,7 @@ told_if_some None P holds = absurd holds
 pub object_outcome : (c : Command) (a : Answer) (o : Outcome) → EndsWith c a (own a) → (IsOf a o × IsToldAsObject a o) ⊎ IsUntold o → IsOutcome c o
 object_outcome c a o ends (inl of_) =
     inl (record { answer = a; ends = subst (EndsWith c a) (sym of_.0.status) ends; of_answer = of_.0; told = told_if_some o.answer _ of_.1 })
-object_outcome c a o ends (inr untold) = inr untold
+object_outcome c a o ends (inr untold) = inr (inl untold)
 
 -- ---- how it is told
 
@@ -140,12 +140,13 @@ told_status X None value status before after held holds n ends = inl ends.1
 told_status X (Some b) value status before after held holds n ends = object_status (value b) status before after held holds n ends
 
 outcome_ends : (c : Command) (o : Outcome) → IsOutcome c o → MayEnd c o.status
-outcome_ends c o (inl is) = (is.answer, is.ends)
-outcome_ends c o (inr untold) = (NoMemory, subst (EndsWith c NoMemory) (sym untold.status) (memory_ends c))
+outcome_ends c o (inl is) = may_by c is.answer o.status is.ends
+outcome_ends c o (inr (inl untold)) = subst (MayEnd c) (sym untold.status) (fault_ends c)
+outcome_ends c o (inr (inr searched)) = subst (λ x. MayEnd x o.status) (sym searched.is) searched.ends
 
 ends_by : (c : Command) (status n : ℕ) → MayEnd c status → (n ≡ status) ⊎ (n ≡ 4) → MayEnd c n
 ends_by c status n may (inl is) = subst (MayEnd c) (sym is) may
-ends_by c status n may (inr is) = (NoMemory, subst (EndsWith c NoMemory) (sym is) (memory_ends c))
+ends_by c status n may (inr is) = subst (MayEnd c) (sym is) (fault_ends c)
 
 -- the status by which an outcome is told is one that the command may end with
 pub told_ends : {B : Type 0} (X : Type 0) (c : Command) (o : Outcome) → IsOutcome c o → (answer : Option B) (value : B → Answer) (status before after : ℕ) (held holds : Option (List ℕ)) (n : ℕ) → status ≡ o.status
@@ -160,7 +161,3 @@ pub object_printed : {B : Type 0} (X : Type 0) (o : Option B) (b : B) (value : B
 object_printed X o b value a status before after held holds hints text printed has is same says more count =
     subst (λ kept. MatchOption kept X (λ k. EndsAsObject (value k) status before after held holds status)) (sym has)
     (told hints text (subst (λ x. IsAnswerText x hints text) is says) (subst (λ t. Appends held holds (line t)) same more) count refl)
-
--- it may always end with 4
-pub fault_ends : (c : Command) → MayEnd c 4
-fault_ends c = (NoMemory, memory_ends c)
