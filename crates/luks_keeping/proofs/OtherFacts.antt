@@ -127,6 +127,11 @@ module _ (b t : List ℕ) (h k : Header) (is : IsHeader b h) (other : IsHeader t
       ap (uuid_bytes t) (choices_agree t y.other (choice_of k) y.counts (chosen_of t k other)) ∙ sym (uuid_of_header t k other)
       ∙ e ∙ uuid_of_header b h is ∙ ap (uuid_bytes b) (choices_agree b (choice_of h) y.choice (chosen_of b h is) y.chosen))
 
+  -- one uuid
+  pub one_uuid : (same : Bool) → same ≡ true → (IsTrue same ↔ (read_uuid k ≡ read_uuid h)) → IsTrue (not same) ↔ IsOtherVolume b t
+  one_uuid true on e = (λ q. absurd (false≢true q), λ x. absurd (uuid_agrees (e.0 refl) x.uuid))
+  one_uuid false on e = absurd (false≢true on)
+
   -- another uuid, and no digest in common
   pub is_other : (same shares : Bool) → (IsTrue same ↔ (read_uuid k ≡ read_uuid h)) → (IsTrue shares ↔ SharesHeader h k)
       → IsTrue (not same && not shares) ↔ IsOtherVolume b t

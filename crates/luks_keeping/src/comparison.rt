@@ -39,7 +39,8 @@ impl Comparison {
         ensures told { result ≡ is_current self.now }
         ensures each { IsTrue result ↔ IsCurrent self.now }
     {
-        are_all_alike(&self.keyslots)
+        let keyslots = self.keyslots;
+        are_all_alike(&keyslots)
     }
 }
 
@@ -85,10 +86,7 @@ fn stands_alike(keeping: Keeping) -> bool
 }
 
 /// A line for each of these keyslots, which are numbered from 0 on.
-fn write_keyslots<W: fmt::Write>(
-    keyslots: &[Keeping],
-    f: &mut fmt::Formatter<W>,
-) -> fmt::Result
+fn write_keyslots<W: fmt::Write>(keyslots: &[Keeping], f: &mut fmt::Formatter<W>) -> fmt::Result
     ensures { WritesOnOk W.write_str_gives f.old result (keyslot_lines 0 keyslots.now) f.new }
 {
     for (n, keeping) in keyslots.iter().enumerate() {
