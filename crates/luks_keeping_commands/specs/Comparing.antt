@@ -38,15 +38,15 @@ IsCompareAnswer tells payload d NoMemory = NoneFailed d
     × (tells → NeedsMetadata d.source ⊎ (WellFormed d.source Elsewhere × NeedsMetadata d.old))
 IsCompareAnswer tells payload d a = ⊥
 
--- of the backup and the volume before the command and after it, where they aren't one file: the volume is
+-- of the volume and the backup before the command and after it, where they aren't one file: the volume is
 -- opened first
 abbrev pub AnswersCompare : {D : Type 0} → Type 0 → (D → ℕ) → (D → List ℕ) → (D → ℕ) → Data
     → Result D InputFault → Result D InputFault → Result D InputFault → Result D InputFault → Answer → Type 0
-AnswersCompare {D} tells size bytes failed payload (Ok backup) (Ok backup_new) (Ok old) (Ok new) a =
+AnswersCompare {D} tells size bytes failed payload (Ok old) (Ok new) (Ok backup) (Ok backup_new) a =
     IsCompareAnswer tells payload (pair_of size bytes failed backup backup_new old new) a
-AnswersCompare {D} tells size bytes failed payload backup backup_new (Err missed) new a = a ≡ unread_answer missed
-AnswersCompare {D} tells size bytes failed payload (Err missed) backup_new (Ok old) new a = a ≡ unread_answer missed
-AnswersCompare {D} tells size bytes failed payload backup backup_new old new a = ⊥
+AnswersCompare {D} tells size bytes failed payload (Ok old) new (Err missed) backup_new a = a ≡ unread_answer missed
+AnswersCompare {D} tells size bytes failed payload (Err missed) new backup backup_new a = a ≡ unread_answer missed
+AnswersCompare {D} tells size bytes failed payload old new backup backup_new a = ⊥
 
 -- what holds of the command where it is `compare`
 abbrev pub WhereCompare : Command → (Comparing → Type 0) → Type 0

@@ -59,15 +59,15 @@ IsRestoreAnswer tells payload over d NoMemory = NoneFailed d × (tells → d.new
     × (tells → IsAnsweredRestore d.source d.old payload over fault.Memory)
 IsRestoreAnswer tells payload over d a = ⊥
 
--- of the backup and the volume before the command and after it, where they aren't one file: the volume is
+-- of the volume and the backup before the command and after it, where they aren't one file: the volume is
 -- opened first
 abbrev pub AnswersRestore : {D : Type 0} → Type 0 → (D → ℕ) → (D → List ℕ) → (D → ℕ) → Data → Over
     → Result D InputFault → Result D InputFault → Result D InputFault → Result D InputFault → Answer → Type 0
-AnswersRestore {D} tells size bytes failed payload over (Ok backup) (Ok backup_new) (Ok old) (Ok new) a =
+AnswersRestore {D} tells size bytes failed payload over (Ok old) (Ok new) (Ok backup) (Ok backup_new) a =
     IsRestoreAnswer tells payload over (pair_of size bytes failed backup backup_new old new) a
-AnswersRestore {D} tells size bytes failed payload over backup backup_new (Err missed) new a = a ≡ unread_answer missed
-AnswersRestore {D} tells size bytes failed payload over (Err missed) backup_new (Ok old) new a = a ≡ unread_answer missed
-AnswersRestore {D} tells size bytes failed payload over backup backup_new old new a = ⊥
+AnswersRestore {D} tells size bytes failed payload over (Ok old) new (Err missed) backup_new a = a ≡ unread_answer missed
+AnswersRestore {D} tells size bytes failed payload over (Err missed) new backup backup_new a = a ≡ unread_answer missed
+AnswersRestore {D} tells size bytes failed payload over old new backup backup_new a = ⊥
 
 -- what holds of the command where it is `restore`
 abbrev pub WhereRestore : Command → (Restoring → Type 0) → Type 0

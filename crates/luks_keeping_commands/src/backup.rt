@@ -1,10 +1,12 @@
 //! The command `backup`.
-ghost use Rattle.std.specs.Prelude.{◌≡◌, ◌≢◌, ◌+◌, ◌<◌, ◌^◌, IfErr};
+ghost use Rattle.std.specs.Prelude.{◌≡◌, ◌≢◌, ◌↔◌, ◌+◌, ◌<◌, ◌^◌, Err, IfErr, IsTrue};
 ghost use Rattle.std.specs.Result.{ForOk};
 ghost use Rattle.luks_area.specs.Device.{IsSettled, IsUnchanged};
 ghost use Rattle.luks_commands.specs.Answer.{answer_status, backup_fault_answer, Prints};
 ghost use Rattle.luks_commands.specs.Exit.{IsExitStatus};
 ghost use Rattle.luks_commands.specs.Files.{KeepsVolume};
+ghost use Rattle.luks_commands.specs.declared.inputs.InputFault.TheVariants.{Unreadable};
+ghost use Rattle.luks_commands.specs.declared.inputs.Reason.TheVariants as reason;
 ghost use Rattle.luks_header_commands.specs.Target.{AreOneFile, IsSameFile, LeavesTarget, SettlesTarget};
 ghost use Rattle.luks_keeping_commands.specs.BackingUp.{AnswersBackup, IsBackupAnswer, IsWithoutFile, KeepsRest};
 ghost use Rattle.luks_keeping_commands.specs.TwoFiles.{pair_of};
@@ -84,7 +86,7 @@ fn answer<D: Device, R: Read, N: Read, E: Write>(
     if are_one_file(name, backing_up.target, &inputs.target) {
         return Answer::Refused(Refusal::SameFile);
     }
-    if matches!(inputs.target, Err(InputFault::Unreadable(Reason::Exists))) {
+    if is_kept_from(&inputs.target) {
         return Answer::Refused(Refusal::Exists);
     }
     let volume = match &mut inputs.volume {
@@ -95,6 +97,13 @@ fn answer<D: Device, R: Read, N: Read, E: Write>(
         Ok(target) => back_up(alloc, volume, name, target, backing_up, err),
         Err(fault) => without_file(alloc, volume, name, *fault, backing_up, err),
     }
+}
+
+/// Whether the target was found to be there, and not empty.
+fn is_kept_from<D>(target: &Result<D, InputFault>) -> bool
+    ensures { IsTrue result ↔ (target.now ≡ Err (Unreadable reason.Exists)) }
+{
+    matches!(target, Err(InputFault::Unreadable(Reason::Exists)))
 }
 
 /// Makes the backup on a target that is there.

@@ -43,7 +43,7 @@ pub fn run<D: Device, R: Read, N: Read, P: Printer, E: Write>(
         (P.failures out.old) (P.failures out.new) (P.printed out.old) (P.printed out.new) result }
     ensures answers { (AreOneFile name.now comparing.now.backup.now inputs.old.target → ⊥)
         → Prints (AnswersCompare D.tells D.size D.bytes D.failed comparing.now.data_
-        inputs.old.target inputs.new.target inputs.old.volume inputs.new.volume)
+        inputs.old.volume inputs.new.volume inputs.old.target inputs.new.target)
         (P.failures out.old) (P.failures out.new) (P.printed out.old) (P.printed out.new) result }
 {
     let answer = answer(alloc, inputs, name, comparing, err);
@@ -71,7 +71,7 @@ fn answer<D: Device, R: Read, N: Read, E: Write>(
         → (inputs.new ≡ inputs.old) × IsSameFile result }
     ensures answers { (AreOneFile name.now comparing.now.backup.now inputs.old.target → ⊥)
         → AnswersCompare D.tells D.size D.bytes D.failed comparing.now.data_
-        inputs.old.target inputs.new.target inputs.old.volume inputs.new.volume result }
+        inputs.old.volume inputs.new.volume inputs.old.target inputs.new.target result }
 {
     if are_one_file(name, comparing.backup, &inputs.target) {
         return Answer::Refused(Refusal::SameFile);

@@ -48,7 +48,7 @@ pub fn run<D: Device, R: Read, N: Read, P: Printer, E: Write>(
     ensures answers { (AreOneFile name.now restoring.now.backup.now inputs.old.target → ⊥)
         → Prints (AnswersRestore D.tells D.size D.bytes D.failed
         restoring.now.data_ (over_of restoring.now.other)
-        inputs.old.target inputs.new.target inputs.old.volume inputs.new.volume)
+        inputs.old.volume inputs.new.volume inputs.old.target inputs.new.target)
         (P.failures out.old) (P.failures out.new) (P.printed out.old) (P.printed out.new) result }
 {
     let answer = answer(alloc, inputs, name, restoring, err);
@@ -80,7 +80,7 @@ fn answer<D: Device, R: Read, N: Read, E: Write>(
     ensures answers { (AreOneFile name.now restoring.now.backup.now inputs.old.target → ⊥)
         → AnswersRestore D.tells D.size D.bytes D.failed
         restoring.now.data_ (over_of restoring.now.other)
-        inputs.old.target inputs.new.target inputs.old.volume inputs.new.volume result }
+        inputs.old.volume inputs.new.volume inputs.old.target inputs.new.target result }
 {
     if are_one_file(name, restoring.backup, &inputs.target) {
         return Answer::Refused(Refusal::SameFile);
