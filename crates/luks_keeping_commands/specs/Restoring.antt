@@ -73,3 +73,8 @@ AnswersRestore {D} tells size bytes failed payload over old new backup backup_ne
 abbrev pub WhereRestore : Command → (Restoring → Type 0) → Type 0
 WhereRestore (command.Restore restoring) holds = holds restoring
 WhereRestore _ holds = Unit {0}
+
+-- and where it isn't
+abbrev pub UnlessRestore : Command → Type 0 → Type 0
+UnlessRestore (command.Restore restoring) holds = Unit {0}
+UnlessRestore _ holds = holds
