@@ -1,6 +1,7 @@
 use crate::manner::{Manner, manner_of};
 use crate::program::program;
-use crate::requests::line_of;
+use crate::requests::{line_of, search_of};
+use crate::search::Search;
 use clap::error::ErrorKind;
 use clap::{ArgMatches, Error};
 use luks_request::Line;
@@ -12,6 +13,8 @@ pub enum Asked<'a> {
     /// To explain a fault, which is named as it is printed or by its name alone; without one to list
     /// them all. No file is read for it.
     Explain(Option<&'a str>),
+    /// To find the volumes of a disk, and how what is found is told.
+    Find(Search<'a>, Manner),
     /// A command on a volume, and how its answer is told.
     Volume(Line<'a>, Manner),
 }
@@ -51,7 +54,7 @@ fn try_without_overwriting(alloc: Global, words: &[&str]) -> Result<(), Error> {
 pub fn line<'a>(alloc: Global, words: &'a [&'a str]) -> Result<Line<'a>, Error> {
     match parse(alloc, words)? {
         Asked::Volume(line, _) => Ok(line),
-        Asked::Explain(_) => {
+        Asked::Explain(_) | Asked::Find(..) => {
             let mut program = program(alloc, true)?;
             Err(program.error(ErrorKind::InvalidSubcommand, "no volume was named")?)
         }
@@ -62,6 +65,7 @@ fn asked_by<'a>(matches: &ArgMatches<'a>) -> Option<Asked<'a>> {
     let (name, given) = matches.subcommand()?;
     match name {
         "explain" => Some(Asked::Explain(given.get_str("FAULT"))),
+        "find" => Some(Asked::Find(search_of(given)?, manner_of(name, given))),
         _ => Some(Asked::Volume(line_of(name, given)?, manner_of(name, given))),
     }
 }

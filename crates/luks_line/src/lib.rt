@@ -12,6 +12,7 @@ mod options;
 mod program;
 mod requests;
 mod rescue_helps;
+mod search;
 mod takes;
 
 pub use command_line::{Asked, line, parse};
@@ -20,3 +21,4 @@ pub use luks_request::{
     Place, Rebuilding, Restoring, ShowAs,
 };
 pub use manner::Manner;
+pub use search::Search;

@@ -10,6 +10,7 @@ pub(crate) enum Operand {
     RebuiltTarget,
     Text,
     Fault,
+    Device,
     NewBackup,
     Backup,
 }
@@ -28,7 +29,7 @@ pub(crate) struct OperandRow {
 }
 
 /// In the order of `Operand`.
-static OPERANDS: [OperandRow; 9] = [
+static OPERANDS: [OperandRow; 10] = [
     OperandRow {
         name: "VOLUME",
         needed: true,
@@ -63,6 +64,11 @@ static OPERANDS: [OperandRow; 9] = [
         name: "FAULT",
         needed: false,
         help: "The fault, or its name alone; else all are listed",
+    },
+    OperandRow {
+        name: "DEVICE",
+        needed: true,
+        help: "The disk, the partition or the image",
     },
     OperandRow {
         name: "FILE",

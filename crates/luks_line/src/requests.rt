@@ -1,5 +1,6 @@
 //! What the words of a command line ask for, once `clap` has told them apart.
 
+use crate::search::Search;
 use clap::ArgMatches;
 use luks_kdf::HashName;
 use luks_reading::Data;
@@ -18,11 +19,17 @@ pub(crate) fn line_of<'a>(name: &str, given: &ArgMatches<'a>) -> Option<Line<'a>
     })
 }
 
-/// The volume, which two commands call the source; of the command that finds volumes the device.
+/// The volume, which two commands call the source.
 fn volume_of<'a>(given: &ArgMatches<'a>) -> Option<&'a str> {
-    given
-        .get_str("VOLUME")
-        .or(given.get_str("SOURCE"))
+    given.get_str("VOLUME").or(given.get_str("SOURCE"))
+}
+
+/// Which disk is searched, and where.
+pub(crate) fn search_of<'a>(given: &ArgMatches<'a>) -> Option<Search<'a>> {
+    Some(Search {
+        disk: given.get_str("DEVICE")?,
+        place: place_of(given)?,
+    })
 }
 
 /// Which bytes of its file are the volume.

@@ -30,6 +30,7 @@ pub fn answer_parse<W: Write>(
     let words: Vec<&str> = words.split(' ').collect(alloc)?;
     match parse(alloc, words.as_slice()) {
         Ok(Asked::Explain(fault)) => writeln!(out, "Explain({fault:?})")?,
+        Ok(Asked::Find(search, manner)) => writeln!(out, "Find({search:?}, {manner:?})")?,
         Ok(Asked::Volume(line, manner)) => writeln!(out, "Volume({line:?}, {manner:?})")?,
         Err(fault) => print_fault(alloc, &fault, text, out)?,
     }

@@ -99,6 +99,10 @@ EndsCompare (Refused (refusal.Restore fault)) status = status ≡ 1
 EndsCompare (Refused refusal.SameFile) status = status ≡ 1
 EndsCompare answer status = EndsAny answer status
 
+-- `find` tells each start by a line of its own: 0 where it told one, 1 where the disk has none
+abbrev pub EndsFind : ℕ → Type 0
+EndsFind status = (status ≡ 0) ⊎ (status ≡ 1) ⊎ (status ≡ 4)
+
 -- the command answers so, and the program ends with this status then
 abbrev pub EndsWith : Command → Answer → ℕ → Type 0
 EndsWith (command.Check payload) answer status = EndsCheck answer status

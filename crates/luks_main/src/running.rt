@@ -9,6 +9,7 @@ use crate::hints::{Ended, tell, tell_ended, tell_overwritten, use_before};
 use crate::openings::Openings;
 use crate::outcome::{Outcome, outcome_of};
 use crate::passphrases::{Passphrases, reader};
+use crate::searching::search;
 use crate::told::{device_fault, explain, list_faults, no_memory, tell_usage};
 use crate::volumes::{Volume, Volumes, has_changed, open_volumes};
 use crate::{FAULT, USAGE};
@@ -78,6 +79,7 @@ fn run_words<R: AllocGlobal + Clock + Files<File = File> + Input + Print + Eprin
             }
             Ok(status)
         }
+        Ok(Asked::Find(asked, manner)) => Ok(search(rt, asked, manner)),
         Ok(Asked::Explain(Some(fault))) => explain(rt, fault),
         Ok(Asked::Explain(None)) => list_faults(rt),
         Err(fault) => tell_usage(rt, &fault),

@@ -1,0 +1,12 @@
+//! What `find` is asked for.
+
+use luks_request::Place;
+
+/// Which disk is searched for volumes.
+#[derive(Debug, Clone, Copy, PartialEq, Eq)]
+pub struct Search<'a> {
+    /// The file of the disk, the partition or the image.
+    pub disk: &'a str,
+    /// Which bytes of that file are searched.
+    pub place: Place,
+}
