@@ -18,11 +18,9 @@ pub(crate) fn line_of<'a>(name: &str, given: &ArgMatches<'a>) -> Option<Line<'a>
     })
 }
 
-/// The volume, which two commands call the source; of the command that finds volumes the device.
+/// The volume, which two commands call the source.
 fn volume_of<'a>(given: &ArgMatches<'a>) -> Option<&'a str> {
-    given
-        .get_str("VOLUME")
-        .or(given.get_str("SOURCE"))
+    given.get_str("VOLUME").or(given.get_str("SOURCE"))
 }
 
 /// Which bytes of its file are the volume.
