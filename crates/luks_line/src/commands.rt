@@ -1,9 +1,10 @@
-//! The commands, in the order of the help, and which words may follow the name of each.
+//! The commands, in the order of the help, and which words may follow the name of each; those that find volumes and on header
+//! backups, and the last, stand in `rescue_commands`.
 
 use crate::choices::Choice;
+use crate::helps;
 use crate::operands::Operand;
 use crate::options::LongOption;
-use crate::{helps, rescue_helps};
 
 /// A command: its name, its help, and what may follow its name.
 #[derive(Clone, Copy)]
@@ -24,12 +25,12 @@ pub(crate) struct Described {
     pub(crate) choices: &'static [Choice],
 }
 
-/// The commands.
+/// The first commands.
 pub(crate) fn commands() -> &'static [Described] {
     &COMMANDS
 }
 
-static COMMANDS: [Described; 16] = [
+static COMMANDS: [Described; 11] = [
     Described {
         name: "check",
         overwrites: false,
@@ -238,73 +239,6 @@ static COMMANDS: [Described; 16] = [
             LongOption::Length,
             LongOption::Quiet,
         ],
-        choices: &[],
-    },
-    Described {
-        name: "find",
-        overwrites: false,
-        about: rescue_helps::FIND,
-        usage: None,
-        more: rescue_helps::FIND_MORE,
-        operands: &[Operand::Device],
-        options: &[LongOption::Offset, LongOption::Length, LongOption::Quiet],
-        choices: &[],
-    },
-    Described {
-        name: "backup",
-        overwrites: false,
-        about: rescue_helps::BACKUP,
-        usage: None,
-        more: rescue_helps::BACKUP_MORE,
-        operands: &[Operand::Volume, Operand::NewBackup],
-        options: &[
-            LongOption::OverFile,
-            LongOption::Detached,
-            LongOption::Offset,
-            LongOption::Length,
-            LongOption::Quiet,
-        ],
-        choices: &[],
-    },
-    Described {
-        name: "restore",
-        overwrites: true,
-        about: rescue_helps::RESTORE,
-        usage: None,
-        more: rescue_helps::RESTORE_MORE,
-        operands: &[Operand::Backup, Operand::Volume],
-        options: &[
-            LongOption::Other,
-            LongOption::Detached,
-            LongOption::Offset,
-            LongOption::Length,
-            LongOption::Quiet,
-        ],
-        choices: &[],
-    },
-    Described {
-        name: "compare",
-        overwrites: false,
-        about: rescue_helps::COMPARE,
-        usage: None,
-        more: rescue_helps::COMPARE_MORE,
-        operands: &[Operand::Backup, Operand::Volume],
-        options: &[
-            LongOption::Detached,
-            LongOption::Offset,
-            LongOption::Length,
-            LongOption::Quiet,
-        ],
-        choices: &[],
-    },
-    Described {
-        name: "explain",
-        overwrites: false,
-        about: helps::EXPLAIN,
-        usage: None,
-        more: helps::EXPLAIN_MORE,
-        operands: &[Operand::Fault],
-        options: &[],
         choices: &[],
     },
 ];

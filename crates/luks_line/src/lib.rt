@@ -11,6 +11,7 @@ mod operands;
 mod options;
 mod program;
 mod requests;
+mod rescue_commands;
 mod rescue_helps;
 mod search;
 mod takes;

@@ -5,14 +5,25 @@ use crate::commands::{Described, commands};
 use crate::helps;
 use crate::operands::OperandRow;
 use crate::options::OptionRow;
+use crate::rescue_commands::rescue_commands;
 use crate::takes::Takes;
 use clap::{Arg, ArgGroup, Command};
 use std::alloc::{AllocError, Global};
 
 /// The program, with the commands that overwrite or without them.
 pub(crate) fn program<'a>(alloc: Global, overwriting: bool) -> Result<Command<'a>, AllocError> {
-    let mut program = bare_program(alloc);
-    for described in commands() {
+    let program = bare_program(alloc);
+    let program = with_commands(alloc, program, commands(), overwriting)?;
+    with_commands(alloc, program, rescue_commands(), overwriting)
+}
+
+fn with_commands<'a>(
+    alloc: Global,
+    mut program: Command<'a>,
+    commands: &[Described],
+    overwriting: bool,
+) -> Result<Command<'a>, AllocError> {
+    for described in commands.iter() {
         program = with_command(alloc, program, described, overwriting)?;
     }
     Ok(program)
