@@ -33,7 +33,11 @@ pub(crate) fn note_keyslots<D: Device, E: Write>(
         return Ok(());
     };
     let count = counted(&compare(&held, &held).keyslots, Keeping::Same);
-    let _ = writeln!(err, "luks: {backup_name}: the backup has {count} keyslots");
+    let plural = if count == 1 { "" } else { "s" };
+    let _ = writeln!(
+        err,
+        "luks: {backup_name}: the backup has {count} keyslot{plural}"
+    );
     if let Some(there) = header_of(alloc, volume)? {
         note_differences(&compare(&held, &there), volume_name, err);
     }
