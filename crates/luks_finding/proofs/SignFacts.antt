@@ -1,6 +1,6 @@
 -- What a sign of a volume tells of the place where it stands.
-use Rattle.std.proofs.Common.{◌≡◌, ℕ, ◌+◌, ◌-◌, ◌*◌, ◌/◌, ◌<◌, ◌≤◌, ◌==◌, List, length, get_or, if◌then◌else◌, None, inl, inr, refl, sym, ap, ◌∙◌, subst, arith}
-use Rattle.std.proofs.lemmas.Bool.{eqb-true, ne_eqb}
+use Rattle.std.proofs.Common.{◌≡◌, ℕ, ◌+◌, ◌*◌, ◌/◌, ◌<◌, ◌≤◌, ◌⊎◌, ◌==◌, List, length, get_or, if◌then◌else◌, inl, inr, refl, sym, ap, ◌∙◌, subst, arith}
+use Rattle.std.proofs.lemmas.Bool.{cases_lt, eqb-true, ne_eqb}
 use Rattle.byteorder.specs.Endian.{big_number}
 use Rattle.luks_area.specs.Ranges.{part}
 use Rattle.luks_area.specs.RangeFacts.{length-part_inside, part-part}
@@ -9,25 +9,41 @@ use Rattle.luks1_header.specs.Header1.{luks_magic}
 use Rattle.luks_head.specs.Header2.{hdr_size, header_at, magic_of, second_magic, IsSound}
 use Rattle.luks_head.specs.Sizes.{listed_sizes, IsListed}
 use Rattle.luks_head.proofs.CopyFacts.{among_pass, listed_at_least}
-use Rattle.luks_finding.specs.Blocks.{BeginsCopy, BeginsSecond}
-use Rattle.luks_finding.specs.Starts.{volume_at, BeginsHeader, IsCopySign, IsSign}
-use Rattle.luks_finding.specs.Telling.{FindsSize, HasNearerCopy, IsToldAt, NamesSize, TellsAt}
+use Rattle.luks_rebuilding.specs.Candidates.{IsPlace}
+use Rattle.luks_rebuilding.specs.declared.place.Place.{Place}
+use Rattle.luks_finding.specs.Blocks.{BeginsSecond, BeginsSign, BeginsText}
+use Rattle.luks_finding.specs.Starts.{volume_at, BeginsHeader, HasSignBefore, IsCopySign, IsMetadataSign, IsSign}
+use Rattle.luks_finding.specs.Telling.{HasNearer, NamesSize}
 use Rattle.luks_finding.proofs.CopyFacts.{listed-some, part-volume, sound-inside}
+use Rattle.luks_finding.proofs.MetadataFacts.{candidate-text, listed-sectors}
 
--- a listed size is one of whole sectors
-listed-sectors : (size : ℕ) → IsListed size → 512 * (size / 512) ≡ size
-listed-sectors size listed = eqb-true (512 * (size / 512)) size (among_pass (λ n. 512 * (n / 512) == n) listed_sizes size refl listed)
+-- a copy begins at a multiple of 16384, its size or 0
+listed-large : (size : ℕ) → IsListed size → 16384 * (size / 16384) ≡ size
+listed-large size listed = eqb-true (16384 * (size / 16384)) size (among_pass (λ n. 16384 * (n / 16384) == n) listed_sizes size refl listed)
+
+place-large : {total : ℕ} (place : Place) → IsPlace total place → 16384 * (place.at / 16384) ≡ place.at
+place-large place is = elim is.first_or_second [
+  | inl first ↦ ap (λ n. 16384 * (n / 16384)) first ∙ sym first
+  | inr second ↦ ap (λ n. 16384 * (n / 16384)) second ∙ listed-large place.size is.listed ∙ sym second
+]
 
 -- and so a sign stands at a sector
 pub sign-sector : (v : List ℕ) (s p : ℕ) → IsSign v s p → (k : ℕ) × (p ≡ 512 * k)
-sign-sector v s p sign = elim sign.is [
-  | inl header ↦ (sign.sector, header.here ∙ sign.there)
-  | inr copy ↦
-      let there : p ≡ s + copy.size = copy.there in
-      let start : s ≡ 512 * sign.sector = sign.there in
-      let sectors : 512 * (copy.size / 512) ≡ copy.size = listed-sectors copy.size copy.listed in
-      (sign.sector + copy.size / 512, omega (arith, there, start, sectors))
-]
+sign-sector v s p sign =
+    let start : s ≡ 512 * sign.sector = sign.there in
+    elim sign.is [
+      | inl header ↦ (sign.sector, header.here ∙ sign.there)
+      | inr other ↦ elim other [
+        | inl copy ↦
+            let there : p ≡ s + copy.size = copy.there in
+            let sectors : 512 * (copy.size / 512) ≡ copy.size = listed-sectors copy.size copy.listed in
+            (sign.sector + copy.size / 512, omega (arith, there, start, sectors))
+        | inr metadata ↦
+            let there : p ≡ s + metadata.copy.at + 4096 = metadata.there in
+            let large : 16384 * (metadata.copy.at / 16384) ≡ metadata.copy.at = place-large metadata.copy metadata.has.whole.is_place in
+            (sign.sector + 32 * (metadata.copy.at / 16384) + 8, omega (arith, there, start, large))
+      ]
+    ]
 
 -- the magic of a copy that isn't the first
 magic-second : (size : ℕ) → IsListed size → magic_of size ≡ second_magic
@@ -55,21 +71,44 @@ second-begins v s p sign =
       version = ap (big_number 2) (front-part v p 6 2 (omega arith)) ∙ ap (λ b. number_at b 6 2) is ∙ sign.sound.form.version;
     }
 
--- a sign begins a header or a second copy
-pub sign-begins : (v : List ℕ) (s p : ℕ) → IsSign v s p → BeginsCopy (part v p 8)
+-- a JSON area that is a sign begins as one
+text-begins : (v : List ℕ) (s p : ℕ) → IsMetadataSign v s p → BeginsText (part v p 8)
+text-begins v s p sign = subst (λ (k : ℕ). BeginsText (part v k 8)) (sym sign.there) (candidate-text v s sign.copy sign.has.whole)
+
+-- a sign begins a header, a second copy or a JSON area
+pub sign-begins : (v : List ℕ) (s p : ℕ) → IsSign v s p → BeginsSign (part v p 8)
 sign-begins v s p sign = elim sign.is [
   | inl header ↦ inl (subst (λ (k : ℕ). BeginsHeader (part v k 8)) (sym header.here) header.begins)
-  | inr copy ↦ inr (second-begins v s p copy)
+  | inr other ↦ elim other [
+    | inl copy ↦ inr (inl (second-begins v s p copy))
+    | inr metadata ↦ inr (inr (text-begins v s p metadata))
+  ]
 ]
 
--- no bytes begin both
-not-both : (b : List ℕ) → BeginsHeader b → BeginsSecond b → ⊥
-not-both b header second =
+-- no bytes begin two of them
+header-second : (b : List ℕ) → BeginsHeader b → BeginsSecond b → ⊥
+header-second b header second =
     let first : 0x4C ≡ 0x53 = ap (λ l. get_or l 0 0) (sym header.magic ∙ second.magic) in
-    absurd (omega (arith, first))
+    omega (arith, first)
+
+pub header-text : (b : List ℕ) → BeginsHeader b → BeginsText b → ⊥
+header-text b header text =
+    let brace : get_or (part b 0 1) 0 0 ≡ 123 = ap (λ l. get_or l 0 0) text.brace in
+    let magic : get_or (part (part b 0 6) 0 1) 0 0 ≡ 0x4C = ap (λ l. get_or (part l 0 1) 0 0) header.magic in
+    let same : part (part b 0 6) 0 1 ≡ part b 0 1 = part-part b 0 6 0 1 (omega arith) in
+    let both : get_or (part (part b 0 6) 0 1) 0 0 ≡ get_or (part b 0 1) 0 0 = ap (λ l. get_or l 0 0) same in
+    omega (arith, brace, magic, both)
+
+second-text : (b : List ℕ) → BeginsSecond b → BeginsText b → ⊥
+second-text b second text =
+    let brace : get_or (part b 0 1) 0 0 ≡ 123 = ap (λ l. get_or l 0 0) text.brace in
+    let magic : get_or (part (part b 0 6) 0 1) 0 0 ≡ 0x53 = ap (λ l. get_or (part l 0 1) 0 0) second.magic in
+    let same : part (part b 0 6) 0 1 ≡ part b 0 1 = part-part b 0 6 0 1 (omega arith) in
+    let both : get_or (part (part b 0 6) 0 1) 0 0 ≡ get_or (part b 0 1) 0 0 = ap (λ l. get_or l 0 0) same in
+    omega (arith, brace, magic, both)
 
 -- a second copy that is a sign names its size
-copy-named : (v : List ℕ) (s p : ℕ) (sign : IsCopySign v s p) → NamesSize v p sign.size
+pub copy-named : (v : List ℕ) (s p : ℕ) (sign : IsCopySign v s p) → NamesSize v p sign.size
 copy-named v s p sign =
     let size : ℕ = sign.size in
     let there : p ≡ s + size = sign.there in
@@ -83,112 +122,88 @@ copy-named v s p sign =
     }
 
 -- so all that stand at one place have one size
-copy-sound : (v : List ℕ) (s p size : ℕ) → NamesSize v p size → IsCopySign v s p → (p ≡ s + size) × IsSound (volume_at v s) size
+pub copy-sound : (v : List ℕ) (s p size : ℕ) → NamesSize v p size → IsCopySign v s p → (p ≡ s + size) × IsSound (volume_at v s) size
 copy-sound v s p size named sign =
     let same : sign.size ≡ size = sym (copy-named v s p sign).is ∙ named.is in
     (sign.there ∙ ap (λ n. s + n) same, subst (λ (n : ℕ). IsSound (volume_at v s) n) same sign.sound)
 
--- a sign where no header begins is a second copy
-sign-copy : (v : List ℕ) (s p : ℕ) → (BeginsHeader (part v p 8) → ⊥) → IsSign v s p → IsCopySign v s p
-sign-copy v s p none sign = elim sign.is [
-  | inl header ↦ absurd (none (subst (λ (k : ℕ). BeginsHeader (part v k 8)) (sym header.here) header.begins))
-  | inr copy ↦ copy
+-- ---- which sign stands at a place
+
+-- a sign where a header begins is that header
+pub sign-header : (v : List ℕ) (s p : ℕ) → BeginsHeader (part v p 8) → IsSign v s p → p ≡ s
+sign-header v s p begins sign = elim sign.is [
+  | inl header ↦ header.here
+  | inr other ↦ elim other [
+    | inl copy ↦ absurd (header-second (part v p 8) begins (second-begins v s p copy))
+    | inr metadata ↦ absurd (header-text (part v p 8) begins (text-begins v s p metadata))
+  ]
 ]
 
--- the start at a header
-pub told-header : (v : List ℕ) (k : ℕ) → BeginsHeader (part v (512 * k) 8) → IsToldAt v (512 * k) (512 * k)
-told-header v k begins =
-    let p : ℕ = 512 * k in
-    record {
-      first = record {
-        sign = record { sector = k; there = refl; is = inl (record { here = refl; begins = begins }) };
-        first = λ before.
-            let q : ℕ = before.place in
-            let low : q < p = before.before in
-            elim before.sign.is [
-              | inl header ↦ (let here : q ≡ p = header.here in absurd (omega (arith, here, low)))
-              | inr copy ↦ (let there : q ≡ p + copy.size = copy.there in absurd (omega (arith, there, low)))
-            ];
-      };
-      alone = λ t sign. elim sign.is [
-        | inl header ↦ sym header.here
-        | inr copy ↦ absurd (not-both (part v p 8) begins (second-begins v t p copy))
-      ];
-    }
+-- where neither a header nor a JSON area begins, it is a second copy
+pub sign-copy : (v : List ℕ) (s p : ℕ) → (BeginsHeader (part v p 8) → ⊥) → (BeginsText (part v p 8) → ⊥) → IsSign v s p → IsCopySign v s p
+sign-copy v s p none no_text sign = elim sign.is [
+  | inl header ↦ absurd (none (subst (λ (k : ℕ). BeginsHeader (part v k 8)) (sym header.here) header.begins))
+  | inr other ↦ elim other [
+    | inl copy ↦ copy
+    | inr metadata ↦ absurd (no_text (text-begins v s p metadata))
+  ]
+]
 
--- where neither a header begins nor a size is named, there is no sign
-pub told-none : (v : List ℕ) (p : ℕ) → (BeginsHeader (part v p 8) → ⊥) → FindsSize v p None → TellsAt v p None
-told-none v p none unnamed = λ s sign.
-    let copy : IsCopySign v s p = sign-copy v s p none sign in
-    absurd (unnamed copy.size (copy-named v s p copy))
+-- where a JSON area begins, it is metadata
+pub sign-metadata : (v : List ℕ) (s p : ℕ) → BeginsText (part v p 8) → IsSign v s p → IsMetadataSign v s p
+sign-metadata v s p text sign = elim sign.is [
+  | inl header ↦ absurd (header-text (part v p 8) (subst (λ (k : ℕ). BeginsHeader (part v k 8)) (sym header.here) header.begins) text)
+  | inr other ↦ elim other [
+    | inl copy ↦ absurd (second-text (part v p 8) (second-begins v s p copy) text)
+    | inr metadata ↦ metadata
+  ]
+]
 
--- where the volume of the second copy has a header, that is a sign before
-pub told-before : (v : List ℕ) (k size start : ℕ) → start + size ≡ 512 * k → (BeginsHeader (part v (512 * k) 8) → ⊥) → NamesSize v (512 * k) size
-    → BeginsHeader (part v start 8) → TellsAt v (512 * k) None
-told-before v k size start back none named begins = λ s sign.
-    let p : ℕ = 512 * k in
-    let copy = copy-sound v s p size named (sign-copy v s p none sign) in
-    let there : p ≡ s + size = copy.0 in
-    let same : start ≡ s = omega (arith, there, back) in
-    let least : 16384 ≤ size = listed_at_least size named.listed in
-    record {
-      place = s;
-      before = omega (arith, there, least);
-      sign = record { sector = sign.sector; there = sign.there; is = inl (record { here = refl; begins = subst (λ (n : ℕ). BeginsHeader (part v n 8)) same begins }) };
-    }
+-- ---- signs of one volume
 
--- where the second copy isn't sound, there is no sign
-pub told-unsound : (v : List ℕ) (k size start : ℕ) → start + size ≡ 512 * k → (BeginsHeader (part v (512 * k) 8) → ⊥) → NamesSize v (512 * k) size
-    → (IsSound (volume_at v start) size → ⊥) → TellsAt v (512 * k) None
-told-unsound v k size start back none named unsound = λ s sign.
-    let copy = copy-sound v s (512 * k) size named (sign-copy v s (512 * k) none sign) in
-    let there : 512 * k ≡ s + size = copy.0 in
-    let same : s ≡ start = omega (arith, there, back) in
-    absurd (unsound (subst (λ (n : ℕ). IsSound (volume_at v n) size) same copy.1))
+-- a sign of the volume before its second copy of this size
+pub nearer-before : (v : List ℕ) (s p k size : ℕ) → s ≡ 512 * k → IsListed size → s + size ≤ p → HasNearer v s size → HasSignBefore v s p
+nearer-before v s p k size start listed high has =
+    let least : 16384 ≤ size = listed_at_least size listed in
+    elim has [
+      | inl begins ↦ record { place = s; before = omega (arith, high, least); sign = record { sector = k; there = start; is = inl (record { here = refl; begins = begins }) } }
+      | inr other ↦ elim other [
+        | inl copy ↦
+            let below : copy.nearer < size = copy.below in
+            record {
+              place = s + copy.nearer;
+              before = omega (arith, high, below);
+              sign = record { sector = k; there = start; is = inr (inl (record { size = copy.nearer; listed = copy.listed; there = refl; sound = copy.sound })) };
+            }
+        | inr metadata ↦
+            let near : metadata.copy.at < size = metadata.near in
+            let one : 16384 * (metadata.copy.at / 16384) ≡ metadata.copy.at = place-large metadata.copy metadata.has.whole.is_place in
+            let two : 16384 * (size / 16384) ≡ size = listed-large size listed in
+            record {
+              place = s + metadata.copy.at + 4096;
+              before = omega (arith, high, near, one, two);
+              sign = record { sector = k; there = start; is = inr (inr (record { copy = metadata.copy; there = refl; has = metadata.has })) };
+            }
+      ]
+    ]
 
--- where another one is nearer, that is a sign before
-pub told-nearer : (v : List ℕ) (k size start : ℕ) → start + size ≡ 512 * k → (BeginsHeader (part v (512 * k) 8) → ⊥) → NamesSize v (512 * k) size
-    → HasNearerCopy (volume_at v start) size → TellsAt v (512 * k) None
-told-nearer v k size start back none named has = λ s sign.
-    let copy = copy-sound v s (512 * k) size named (sign-copy v s (512 * k) none sign) in
-    let there : 512 * k ≡ s + size = copy.0 in
-    let same : start ≡ s = omega (arith, there, back) in
-    let below : has.nearer < size = has.below in
-    record {
-      place = s + has.nearer;
-      before = omega (arith, there, below);
-      sign = record {
-        sector = sign.sector;
-        there = sign.there;
-        is = inr (record { size = has.nearer; listed = has.listed; there = refl; sound = subst (λ (n : ℕ). IsSound (volume_at v n) has.nearer) same has.sound });
-      };
-    }
-
--- else the copy is the first sign of its volume
-pub told-copy : (v : List ℕ) (k size start : ℕ) → start + size ≡ 512 * k → (BeginsHeader (part v (512 * k) 8) → ⊥) → NamesSize v (512 * k) size
-    → (BeginsHeader (part v start 8) → ⊥) → IsSound (volume_at v start) size → (HasNearerCopy (volume_at v start) size → ⊥) → IsToldAt v (512 * k) start
-told-copy v k size start back none named bare sound far =
-    let p : ℕ = 512 * k in
-    let sectors : 512 * (size / 512) ≡ size = listed-sectors size named.listed in
-    record {
-      first = record {
-        sign = record {
-          sector = k - size / 512;
-          there = omega (arith, back, sectors);
-          is = inr (record { size = size; listed = named.listed; there = sym back; sound = sound });
-        };
-        first = λ before.
-            let q : ℕ = before.place in
-            let low : q < p = before.before in
-            elim before.sign.is [
-              | inl header ↦ bare header.begins
-              | inr copy ↦
-                  let there : q ≡ start + copy.size = copy.there in
-                  far (record { nearer = copy.size; listed = copy.listed; below = omega (arith, there, low, back); sound = copy.sound })
-            ];
-      };
-      alone = λ t sign.
-          let copy = copy-sound v t p size named (sign-copy v t p none sign) in
-          let there : p ≡ t + size = copy.0 in
-          omega (arith, there, back);
-    }
+-- one that stands before it, or before the JSON area behind its binary header, is such a sign, or the copy itself
+pub before-nearer : (v : List ℕ) (s q size : ℕ) → IsListed size → IsSign v s q → q < s + size + 4096 → HasNearer v s size ⊎ ((q ≡ s + size) × IsSound (volume_at v s) size)
+before-nearer v s q size listed sign low = elim sign.is [
+  | inl header ↦ inl (inl header.begins)
+  | inr other ↦ elim other [
+    | inl copy ↦
+        let there : q ≡ s + copy.size = copy.there in
+        elim (cases_lt copy.size size) [
+          | inl below ↦ inl (inr (inl (record { nearer = copy.size; listed = copy.listed; below = below; sound = copy.sound })))
+          | inr behind ↦
+              let one : 16384 * (copy.size / 16384) ≡ copy.size = listed-large copy.size copy.listed in
+              let two : 16384 * (size / 16384) ≡ size = listed-large size listed in
+              let same : copy.size ≡ size = omega (arith, there, low, behind, one, two) in
+              inr (there ∙ ap (λ n. s + n) same, subst (λ (n : ℕ). IsSound (volume_at v s) n) same copy.sound)
+        ]
+    | inr metadata ↦
+        let there : q ≡ s + metadata.copy.at + 4096 = metadata.there in
+        inl (inr (inr (record { copy = metadata.copy; near = omega (arith, there, low); has = metadata.has })))
+  ]
+]

@@ -40,20 +40,23 @@ pub record IsCopySign (v : List ℕ) (s p : ℕ) : Type 0 where
 abbrev pub other_magic : ℕ → List ℕ
 other_magic o = if o == 0 then second_magic else luks_magic
 
--- the sign at the place `p` of a volume that begins at `s`: the JSON area of its first or of its second copy, with
--- metadata that is whole, as `rebuild` takes it. The area doesn't say of which copy it is: it is no sign of one where
--- the magic of the other stands before it.
+-- the copy of the volume that begins at `s` has metadata that is whole, as `rebuild` takes it. A JSON area doesn't say of
+-- which copy it is: it counts for none of one where the magic of the other stands before it.
+pub record HasMetadata (v : List ℕ) (s : ℕ) (copy : Place) : Type 0 where
+  pub whole : IsCandidate (volume_at v s) Any copy
+  pub own : part v (s + copy.at) 6 ≡ other_magic copy.at → ⊥
+
+-- the sign at the place `p` of a volume that begins at `s`: the JSON area of its first or of its second copy
 pub record IsMetadataSign (v : List ℕ) (s p : ℕ) : Type 0 where
   pub copy : Place
   pub there : p ≡ s + copy.at + binary_header_size
-  pub whole : IsCandidate (volume_at v s) Any copy
-  pub own : part v (s + copy.at) 6 ≡ other_magic copy.at → ⊥
+  pub has : HasMetadata v s copy
 
 -- a sign of a volume that begins at `s`, which is a sector's place, stands at the place `p` of the disk `v`
 pub record IsSign (v : List ℕ) (s p : ℕ) : Type 0 where
   pub sector : ℕ
   pub there : s ≡ sector_size * sector
-  pub is : IsHeaderSign v s p ⊎ IsCopySign v s p
+  pub is : IsHeaderSign v s p ⊎ IsCopySign v s p ⊎ IsMetadataSign v s p
 
 -- a volume begins at the place `s` of the disk `v`, as one of its signs tells
 pub record IsStart (v : List ℕ) (s : ℕ) : Type 0 where
@@ -77,10 +80,15 @@ pub record IsAmong (list : List ℕ) (n : ℕ) : Type 0 where
   pub within : index < length list
   pub is : slice_index list index ≡ n
 
--- the first signs of the volumes rise with their places in the list
+-- a first sign at the place `p`, of the volume at `s`, comes before one at `q`, of the volume at `t`: it stands before it, or
+-- at the same place and its volume begins first
+abbrev pub ComesBefore : ℕ → ℕ → ℕ → ℕ → Type 0
+ComesBefore p s q t = (p < q) ⊎ ((p ≡ q) × (s < t))
+
+-- the volumes stand in the list in the order of their first signs
 abbrev pub AreInOrder : List ℕ → List ℕ → Type 0
-AreInOrder v list = (i j p q : ℕ) → i < j → j < length list
-    → IsFirstSign v (slice_index list i) p → IsFirstSign v (slice_index list j) q → p < q
+AreInOrder v list = (i j p q : ℕ) → i < j → j < length list → IsFirstSign v (slice_index list i) p → IsFirstSign v (slice_index list j) q
+    → ComesBefore p (slice_index list i) q (slice_index list j)
 
 -- the list has each start of the disk, and no other place, each once and in the order of the first signs
 pub record AreStarts (v list : List ℕ) : Type 0 where

@@ -1,11 +1,13 @@
 //! A search for starts of volumes, step by step.
-ghost use Rattle.std.specs.Prelude.{◌≡◌, ◌+◌, ◌*◌, ◌^◌, ◌<◌, ◌≤◌, IfOk, IfSome, OnErr, length};
+ghost use Rattle.std.specs.Prelude.{◌≡◌, ◌+◌, ◌*◌, ◌^◌, ◌<◌, ◌≤◌, IfErr, IfOk, IfSome, OnErr, length};
 ghost use Rattle.luks_area.specs.Device.{CountsFailure, IsUnchanged, is_failure};
 ghost use Rattle.luks_area.specs.Ranges.{part};
 ghost use Rattle.luks_finding.specs.Blocks.{FindsIn};
 
-use crate::signs::{SECTOR, first_copy};
-use crate::telling::start_at;
+use crate::find_fault::FindFault;
+use crate::signs::{SECTOR, first_sign};
+use crate::telling::told_at;
+use crate::told::Told;
 use luks_area::{Device, DeviceFault};
 use std::alloc::{AllocError, Global};
 
@@ -21,6 +23,9 @@ const FEWEST: usize = 8;
 pub enum Step {
     /// A volume begins at this place, in bytes from the disk's start.
     Start(u64),
+    /// Two volumes begin at these places, the first one before the second: the metadata that tells
+    /// them doesn't say of which copy it is.
+    Two(u64, u64),
     /// No sign of another one stands in what was looked at.
     On,
     /// The disk has no more bytes.
@@ -41,7 +46,9 @@ pub struct Finding {
 }
 
 impl Finding {
+    ghost use Rattle.luks_finding.specs.Faults.{is_find_failure};
     ghost use Rattle.luks_finding.specs.Finding.{looks_from, GoesOn, TellsNext};
+    ghost use Rattle.luks_finding.specs.Telling.{IsMemoryOnly};
 
     /// A search from the disk's start on. Takes memory for a block.
     pub fn new(alloc: Global) -> Result<Self, AllocError>
@@ -62,25 +69,30 @@ impl Finding {
         self.sector
     }
 
-    /// Looks for the next sector of the device at which a header or a second copy begins, in one
-    /// block, and tells the start whose first sign this is. It goes on behind that sector, or behind
-    /// the block where there is none. A start that a second copy tells lies before what was looked at
-    /// by then, at most 4 MiB.
+    /// Looks for the next sector of the device at which a header, a second copy or a JSON area begins,
+    /// in one block, and tells the starts whose first sign this is. It goes on behind that sector, or
+    /// behind the block where there is none. A start that a second copy tells lies before what was
+    /// looked at by then, at most 4 MiB and 4 KiB.
     ///
     /// Behind such a sector a block has 4096 bytes, and each further one twice as many up to 1 MiB. So
     /// the bytes that a whole search reads are at most twice those of the device, 4096 for each such
-    /// sector, and what a second copy asks for: its own bytes and 64 KiB, and no more than 8 MiB and
-    /// 64 KiB where other sectors were made to look like nearer copies of the same volume. It takes no
-    /// memory. Where a device call fails the search stays where it was.
-    pub fn step<D: Device>(&mut self, device: &mut D) -> Result<Step, DeviceFault>
+    /// sector, and what a sign there asks for. Of a second copy these are its own bytes and 128 KiB, and
+    /// no more than 24 MiB where other places were made to look like signs of the same volume. Of a
+    /// JSON area they are 24 bytes, and the area in each of the nine sizes of which the last byte is a
+    /// zero: no more than 8 MiB, and 24 MiB more where it is whole. Memory is taken for one JSON area
+    /// and its metadata at a time, and only of an area that begins with a brace.
+    ///
+    /// Where a device call fails or memory is refused the search stays where it was.
+    pub fn step<D: Device>(&mut self, alloc: Global, device: &mut D) -> Result<Step, FindFault>
         requires { D.failed device.old + 1 < 2 ^ 64 }
         ensures unchanged { IsUnchanged D.tells D.size D.bytes D.unsettled device.old device.new }
-        ensures count { CountsFailure is_failure result (D.failed device.old) (D.failed device.new) }
+        ensures count { CountsFailure is_find_failure result (D.failed device.old) (D.failed device.new) }
         ensures stays { OnErr result (looks_from self.new ≡ looks_from self.old) }
         ensures goes_on { IfOk result
             (GoesOn (D.size device.old) (looks_from self.old) (looks_from self.new)) }
         ensures next { D.tells → IfOk result
             (TellsNext (D.bytes device.old) (looks_from self.old) (looks_from self.new)) }
+        ensures memory { D.tells → IfErr result (IsMemoryOnly (D.bytes device.old)) }
     {
         let total = device.len();
         if self.sector >= sectors_in(total) {
@@ -91,13 +103,10 @@ impl Finding {
         match look(device, &mut self.block, at, len as usize)? {
             Some(index) => {
                 let found = self.sector + index as u64;
-                let told = start_at(device, found)?;
+                let told = told_at(alloc, device, found)?;
                 self.sector = found + 1;
                 self.sectors = FEWEST;
-                match told {
-                    Some(start) => Ok(Step::Start(start)),
-                    None => Ok(Step::On),
-                }
+                Ok(Step::from(told))
             }
             None => {
                 self.sector += sectors_in(len);
@@ -108,8 +117,22 @@ impl Finding {
     }
 }
 
-/// The first sector at which a header or a second copy begins, of the `len` bytes at `at`, which are
-/// read into `block`.
+impl From<Told> for Step {
+    ghost use Rattle.luks_finding.specs.Finding.{step_of};
+
+    ghost from_gives = { λ told step. step ≡ step_of told };
+
+    fn from(told: Told) -> Step {
+        match told {
+            Told::Nothing => Step::On,
+            Told::One(start) => Step::Start(start),
+            Told::Two(first, second) => Step::Two(first, second),
+        }
+    }
+}
+
+/// The first sector at which a header, a second copy or a JSON area begins, of the `len` bytes at
+/// `at`, which are read into `block`.
 fn look<D: Device>(
     device: &mut D,
     block: &mut [u8],
@@ -127,7 +150,7 @@ fn look<D: Device>(
 {
     let read = &mut block[..len];
     device.read_at(at, read)?;
-    Ok(first_copy(read))
+    Ok(first_sign(read))
 }
 
 /// The sectors that so many bytes begin.

@@ -4,10 +4,12 @@
 mod find_fault;
 mod finding;
 mod metadata;
+mod metadata_signs;
 mod second_copies;
 mod signs;
 mod starts;
 mod telling;
+mod told;
 
 pub use find_fault::FindFault;
 pub use finding::{Finding, Step};

@@ -17,7 +17,7 @@ use luks1_header::fields::field;
 use sha2::{Digest, Sha256};
 
 /// The bytes of a binary header.
-const HEAD: usize = 4096;
+pub(crate) const HEAD: usize = 4096;
 
 /// Where the checksum of a copy stands in its binary header, and where that field ends.
 const CSUM: usize = 448;
@@ -31,7 +31,7 @@ const SHA256_SIZE: usize = 32;
 const WINDOW: usize = 32768;
 
 /// The sizes that a header may have, which are also the places of its second copy.
-const LISTED_SIZES: [u64; 9] = [
+pub(crate) const LISTED_SIZES: [u64; 9] = [
     0x4000, 0x8000, 0x1_0000, 0x2_0000, 0x4_0000, 0x8_0000, 0x10_0000, 0x20_0000, 0x40_0000,
 ];
 

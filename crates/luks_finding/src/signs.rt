@@ -1,6 +1,6 @@
 //! The signs of a volume that are seen in a block of a disk.
 ghost use Rattle.std.specs.Prelude.{◌≡◌, ◌↔◌, ◌+◌, ◌*◌, ◌≤◌, IsTrue, IfSome, length};
-ghost use Rattle.luks_finding.specs.Blocks.{BeginsCopy, BeginsSecond, FindsIn};
+ghost use Rattle.luks_finding.specs.Blocks.{BeginsSecond, BeginsSign, BeginsText, FindsIn};
 ghost use Rattle.luks_finding.specs.Starts.{BeginsHeader};
 
 use luks1_header::fields::{field, u16_at};
@@ -31,17 +31,25 @@ fn is_second(beginning: &[u8]) -> bool
     field(beginning, 0, 6) == SECOND_MAGIC.as_slice() && u16_at(beginning, VERSION) == 2
 }
 
-/// Whether a header or a second copy begins with these 8 bytes.
-fn is_copy(beginning: &[u8]) -> bool
+/// Whether a JSON area may begin with these 8 bytes.
+pub(crate) fn is_text(beginning: &[u8]) -> bool
     requires { length beginning.now ≡ 8 }
-    ensures { IsTrue result ↔ BeginsCopy beginning.now }
+    ensures { IsTrue result ↔ BeginsText beginning.now }
 {
-    is_header(beginning) || is_second(beginning)
+    field(beginning, 0, 1) == b"{".as_slice()
 }
 
-/// The first sector of a block at which a header or a second copy begins. The block begins at a
-/// sector.
-pub(crate) fn first_copy(block: &[u8]) -> Option<usize>
+/// Whether a header, a second copy or a JSON area begins with these 8 bytes.
+fn is_sign(beginning: &[u8]) -> bool
+    requires { length beginning.now ≡ 8 }
+    ensures { IsTrue result ↔ BeginsSign beginning.now }
+{
+    is_header(beginning) || is_second(beginning) || is_text(beginning)
+}
+
+/// The first sector of a block at which a header, a second copy or a JSON area begins. The block
+/// begins at a sector.
+pub(crate) fn first_sign(block: &[u8]) -> Option<usize>
     requires { length block.now ≤ 1048576 }
     ensures within { IfSome result (λ n. 512 * n + 8 ≤ length block.now) }
     ensures found { FindsIn block.now result }
@@ -49,7 +57,7 @@ pub(crate) fn first_copy(block: &[u8]) -> Option<usize>
     let whole = (block.len() + (SECTOR - BEGINNING)) / SECTOR;
     for index in 0..whole {
         let at = SECTOR * index;
-        if is_copy(&block[at..at + BEGINNING]) {
+        if is_sign(&block[at..at + BEGINNING]) {
             return Some(index);
         }
     }

@@ -11,7 +11,7 @@ use std::alloc::{AllocError, Global};
 
 /// All starts of the device, in bytes: each once, in the order of their first signs.
 ///
-/// Takes memory for a block and for the list. `Memory` is answered only where it was refused, and
+/// Takes memory for a block, for the list and for one JSON area at a time. `Memory` is answered only where it was refused, and
 /// `Device` exactly where a device call failed.
 pub fn all_starts<D: Device>(alloc: Global, device: &mut D) -> Result<Vec<u64>, FindFault>
     requires { D.failed device.old + 1 < 2 ^ 64 }
@@ -23,8 +23,12 @@ pub fn all_starts<D: Device>(alloc: Global, device: &mut D) -> Result<Vec<u64>, 
     let mut finding = Finding::new(alloc)?;
     let mut starts = Vec::new(alloc);
     loop {
-        match finding.step(device)? {
+        match finding.step(alloc, device)? {
             Step::Start(start) => put(&mut starts, start)?,
+            Step::Two(first, second) => {
+                put(&mut starts, first)?;
+                put(&mut starts, second)?;
+            }
             Step::On => {}
             Step::End => return Ok(starts),
         }

@@ -1,6 +1,6 @@
 use Rattle.std.proofs.Common.{◌+◌, ◌*◌, ◌≤◌, length, arith}
 use Rattle.luks_finding.proofs.BlockFacts.{begins-inside}
-use Rattle.luks_finding.proofs.signs.first_copy.Goals as goal
+use Rattle.luks_finding.proofs.signs.first_sign.Goals as goal
 
 pub returns-clause-found : goal.returns-clause-found
 returns-clause-found c = λ k begins.
