@@ -35,6 +35,11 @@ use Rattle.luks_converting.specs.FaultTexts.{convert_fault_text}
 use Rattle.luks_rebuilding.specs.declared.rebuild_fault.RebuildFault.{RebuildFault}
 use Rattle.luks_rebuilding.specs.declared.rebuild_fault.RebuildFault.TheVariants as rebuilding
 use Rattle.luks_rebuilding.specs.FaultTexts.{rebuild_fault_text}
+use Rattle.luks_keeping.specs.declared.backup_fault.BackupFault.{BackupFault}
+use Rattle.luks_keeping.specs.declared.backup_fault.BackupFault.TheVariants as backing_up
+use Rattle.luks_keeping.specs.declared.restore_fault.RestoreFault.{RestoreFault}
+use Rattle.luks_keeping.specs.declared.restore_fault.RestoreFault.TheVariants as restoring
+use Rattle.luks_keeping.specs.FaultTexts.{backup_fault_text, restore_fault_text}
 use Rattle.luks_signatures.specs.UseTexts.{use_text}
 use Rattle.luks_commands.specs.declared.answers.Refusal.{Refusal}
 use Rattle.luks_commands.specs.declared.answers.Refusal.TheVariants as refusal
@@ -153,6 +158,19 @@ rebuild_parts rebuilding.RandomLength = bare (codes "RandomLength") refl
 rebuild_parts rebuilding.Memory = bare (codes "Memory") refl
 rebuild_parts rebuilding.Device = bare (codes "Device") refl
 
+backup_parts : (f : BackupFault) → HasParts (backup_fault_text f)
+backup_parts (backing_up.NotAccepted f) = check_parts f
+backup_parts backing_up.TooSmall = bare (codes "TooSmall") refl
+backup_parts backing_up.Memory = bare (codes "Memory") refl
+backup_parts backing_up.Device = bare (codes "Device") refl
+
+restore_parts : (f : RestoreFault) → HasParts (restore_fault_text f)
+restore_parts (restoring.NotAccepted f) = around (codes "NotAccepted") (check_fault_text f) refl
+restore_parts (restoring.DoesNotFit f) = around (codes "DoesNotFit") (check_fault_text f) refl
+restore_parts restoring.OtherVolume = bare (codes "OtherVolume") refl
+restore_parts restoring.Memory = bare (codes "Memory") refl
+restore_parts restoring.Device = bare (codes "Device") refl
+
 -- of each command
 pub refusal_parts : (r : Refusal) → HasParts (refusal_text r)
 refusal_parts refusal.LongPassphrase = bare (codes "Passphrase") refl
@@ -162,5 +180,8 @@ refusal_parts (refusal.Edit f) = edit_parts f
 refusal_parts (refusal.Format f) = format_parts f
 refusal_parts (refusal.Convert f) = convert_parts f
 refusal_parts (refusal.Rebuild f) = rebuild_parts f
+refusal_parts (refusal.Backup f) = backup_parts f
+refusal_parts (refusal.Restore f) = restore_parts f
 refusal_parts refusal.SameFile = bare (codes "SameFile") refl
+refusal_parts refusal.Exists = bare (codes "Exists") refl
 refusal_parts (refusal.OtherUse found) = around (codes "OtherUse") (use_text found) refl

@@ -7,7 +7,7 @@ use Rattle.luks_reading.specs.declared.report.Version.{Version}
 use Rattle.luks_reading.specs.declared.report.Version.TheVariants.{Luks1, Luks2}
 use Rattle.luks_show.specs.Texts.{copies_text}
 use Rattle.luks_commands.specs.declared.answers.Answer.{Answer}
-use Rattle.luks_commands.specs.declared.answers.Answer.TheVariants.{Accepted, Listed, ListedFully, Mapped, Json, Opens, Closed, NoneOpens, Done, Refused, DeviceFault, NoMemory}
+use Rattle.luks_commands.specs.declared.answers.Answer.TheVariants.{Accepted, Listed, ListedFully, Mapped, Json, Opens, Closed, NoneOpens, Done, Compared, Refused, DeviceFault, NoMemory}
 use Rattle.luks_commands.specs.Answer.{answer_status, refusal_text}
 use Rattle.luks_commands.specs.Exit.{exit_status}
 use Rattle.luks_answer_json.specs.Parted.{IsParted}
@@ -86,6 +86,7 @@ IsAnswerWith (Listed listing) hints status d = d ≡ bare_value (codes "shown") 
 IsAnswerWith (ListedFully listing) hints status d = d ≡ bare_value (codes "shown") hints status
 IsAnswerWith (Mapped map) hints status d = d ≡ bare_value (codes "shown") hints status
 IsAnswerWith (Json text) hints status d = d ≡ bare_value (codes "shown") hints status
+IsAnswerWith (Compared comparison) hints status d = d ≡ bare_value (codes "compared") hints status
 IsAnswerWith DeviceFault hints status d = d ≡ bare_value (codes "device fault") hints status
 IsAnswerWith NoMemory hints status d = d ≡ bare_value (codes "no memory") hints status
 

@@ -40,6 +40,7 @@ fn answer_value(alloc: Global, answer: &Answer, hints: &[&str]) -> Result<Value,
         Answer::Listed(_) | Answer::ListedFully(_) | Answer::Mapped(_) | Answer::Json(_) => {
             bare_value(alloc, "shown", hints, status)
         }
+        Answer::Compared(_) => bare_value(alloc, "compared", hints, status),
         Answer::DeviceFault => bare_value(alloc, "device fault", hints, status),
         Answer::NoMemory => bare_value(alloc, "no memory", hints, status),
     }

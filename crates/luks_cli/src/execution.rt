@@ -20,11 +20,16 @@ ghost use Rattle.luks_header_commands.specs.Rebuilding.{AnswersRebuild, given_of
 ghost use Rattle.luks_header_commands.specs.Rebuilding.{random_count as rebuild_count, which_of, WhereRebuild};
 ghost use Rattle.luks_header_commands.specs.Target.{AreOneFile, IsSameFile, LeavesTarget, SettlesTarget};
 ghost use Rattle.luks_header_commands.specs.Target.{UnlessBeside};
+ghost use Rattle.luks_keeping_commands.specs.BackingUp.{AnswersBackup, KeepsRest as KeepsBesideBackup, WhereBackup};
+ghost use Rattle.luks_keeping_commands.specs.Comparing.{AnswersCompare, WhereCompare};
+ghost use Rattle.luks_keeping_commands.specs.Restoring.{AnswersRestore, KeepsRest as KeepsBesideRestored};
+ghost use Rattle.luks_keeping_commands.specs.Restoring.{over_of, UnlessRestore, WhereRestore};
 
 use crate::edit;
 use luks_commands::open::Tried;
 use luks_commands::{Inputs, Printer, check, format, open};
 use luks_header_commands::{convert, rebuild};
+use luks_keeping_commands::{backup, compare, restore};
 use luks_request::{Command, Line};
 use luks_show_command::show;
 use luks_volume::Device;
@@ -56,10 +61,10 @@ pub fn execute<D: Device, R: Read, N: Read, P: Printer, E: Write>(
     requires printer { P.failures out.old + 1 < 2 ^ 64 }
     requires settled { D.tells → ForOk inputs.old.volume (IsSettled D.unsettled) }
     requires target_settled { D.tells → ForOk inputs.old.target (IsSettled D.unsettled) }
-    ensures settled { LeavesSettled D.tells D.failed D.unsettled
-        inputs.old.volume inputs.new.volume }
+    ensures settled { UnlessRestore line.now.command (LeavesSettled D.tells D.failed D.unsettled
+        inputs.old.volume inputs.new.volume) }
     ensures status { IsExitStatus result }
-    // No command changes its volume but those that edit and `format`.
+    // No command changes its volume but those that edit, `format` and `restore`.
     ensures unchanged { UnlessWriter line.now.command
         (KeepsVolume D.tells D.size D.bytes D.unsettled inputs.old.volume inputs.new.volume) }
     // A command that edits: what 0 and 1 say of the volume, what is kept, and where a device call
@@ -79,7 +84,7 @@ pub fn execute<D: Device, R: Read, N: Read, P: Printer, E: Write>(
         (λ old new. SaysFormat making (IsWhole R.remaining inputs.old.passphrase)
         (AreFirstBytes (needed making.version) N.remaining inputs.old.random) old new result)
         inputs.old.volume inputs.new.volume) }
-    // `convert` and `rebuild` alone make calls on the target. The answer of `convert` where both files
+    // `convert`, `rebuild` and the commands on header backups alone make calls on the target. The answer of `convert` where both files
     // are one, for which no call is made, and where they aren't; and which bytes of the target it may
     // have changed.
     ensures target { UnlessBeside line.now.command (inputs.new.target ≡ inputs.old.target) }
@@ -116,6 +121,51 @@ pub fn execute<D: Device, R: Read, N: Read, P: Printer, E: Write>(
         inputs.old.volume inputs.old.target inputs.new.target) }
     ensures settles_rebuilt { WhereRebuild line.now.command (λ _. SettlesTarget D.tells D.failed
         D.unsettled inputs.old.volume inputs.new.volume inputs.old.target inputs.new.target) }
+    // The same of `backup`.
+    ensures backup_same_file { WhereBackup line.now.command (λ backing_up.
+        AreOneFile line.now.volume.now backing_up.target.now inputs.old.target
+        → (inputs.new ≡ inputs.old) × Prints IsSameFile
+        (P.failures out.old) (P.failures out.new) (P.printed out.old) (P.printed out.new) result) }
+    ensures backed_up { WhereBackup line.now.command (λ backing_up.
+        (AreOneFile line.now.volume.now backing_up.target.now inputs.old.target → ⊥)
+        → Prints (AnswersBackup D.tells D.size D.bytes D.failed backing_up.data_
+        inputs.old.volume inputs.new.volume inputs.old.target inputs.new.target)
+        (P.failures out.old) (P.failures out.new) (P.printed out.old) (P.printed out.new) result) }
+    ensures backup_rest { WhereBackup line.now.command (λ backing_up. LeavesTarget D.tells D.size
+        D.bytes (KeepsBesideBackup backing_up.data_)
+        inputs.old.volume inputs.old.target inputs.new.target) }
+    ensures settles_backup { WhereBackup line.now.command (λ _. SettlesTarget D.tells D.failed
+        D.unsettled inputs.old.volume inputs.new.volume inputs.old.target inputs.new.target) }
+    // The same of `restore`, which writes the volume and reads the target.
+    ensures restore_same_file { WhereRestore line.now.command (λ restoring.
+        AreOneFile line.now.volume.now restoring.backup.now inputs.old.target
+        → (inputs.new ≡ inputs.old) × Prints IsSameFile
+        (P.failures out.old) (P.failures out.new) (P.printed out.old) (P.printed out.new) result) }
+    ensures restored { WhereRestore line.now.command (λ restoring.
+        (AreOneFile line.now.volume.now restoring.backup.now inputs.old.target → ⊥)
+        → Prints (AnswersRestore D.tells D.size D.bytes D.failed
+        restoring.data_ (over_of restoring.other)
+        inputs.old.volume inputs.new.volume inputs.old.target inputs.new.target)
+        (P.failures out.old) (P.failures out.new) (P.printed out.old) (P.printed out.new) result) }
+    ensures restored_rest { WhereRestore line.now.command (λ restoring. LeavesTarget D.tells D.size
+        D.bytes (KeepsBesideRestored restoring.data_)
+        inputs.old.target inputs.old.volume inputs.new.volume) }
+    ensures backup_kept { WhereRestore line.now.command (λ _. KeepsVolume D.tells D.size D.bytes
+        D.unsettled inputs.old.target inputs.new.target) }
+    ensures settles_restored { WhereRestore line.now.command (λ _. SettlesTarget D.tells D.failed
+        D.unsettled inputs.old.target inputs.new.target inputs.old.volume inputs.new.volume) }
+    // `compare` writes neither.
+    ensures compare_same_file { WhereCompare line.now.command (λ comparing.
+        AreOneFile line.now.volume.now comparing.backup.now inputs.old.target
+        → (inputs.new ≡ inputs.old) × Prints IsSameFile
+        (P.failures out.old) (P.failures out.new) (P.printed out.old) (P.printed out.new) result) }
+    ensures compared { WhereCompare line.now.command (λ comparing.
+        (AreOneFile line.now.volume.now comparing.backup.now inputs.old.target → ⊥)
+        → Prints (AnswersCompare D.tells D.size D.bytes D.failed comparing.data_
+        inputs.old.volume inputs.new.volume inputs.old.target inputs.new.target)
+        (P.failures out.old) (P.failures out.new) (P.printed out.old) (P.printed out.new) result) }
+    ensures compared_kept { WhereCompare line.now.command (λ _. KeepsVolume D.tells D.size D.bytes
+        D.unsettled inputs.old.target inputs.new.target) }
     ensures check { D.tells → WhereCheck line.now.command (λ payload.
         IfOk inputs.old.volume (λ d. SaysCheck (D.bytes d) payload result)) }
     // Without its volume no command succeeds.
@@ -176,5 +226,17 @@ pub fn execute<D: Device, R: Read, N: Read, P: Printer, E: Write>(
         Command::Rebuild(rebuilding) => {
             rebuild::run(alloc, inputs, name, line.place, &rebuilding, out, err)
         }
+        Command::Find => find::run(
+            alloc,
+            &mut inputs.volume,
+            name,
+            line.place,
+            out,
+            err,
+            &mut Untold,
+        ),
+        Command::Backup(backing_up) => backup::run(alloc, inputs, name, &backing_up, out, err),
+        Command::Restore(restoring) => restore::run(alloc, inputs, name, &restoring, out, err),
+        Command::Compare(comparing) => compare::run(alloc, inputs, name, &comparing, out, err),
     }
 }

@@ -1,5 +1,5 @@
 -- What each answer of a command prints, and the exit status that it ends with.
-use Rattle.std.specs.Prelude.{◌≡◌, ◌⊎◌, ℕ, ◌+◌, List, ◌++◌, codes, Option, Some, None, IfSome, string_bytes}
+use Rattle.std.specs.Prelude.{◌≡◌, ◌⊎◌, ℕ, ◌+◌, List, ◌++◌, codes, Option, Some, None, IfSome, Bool, true, false, string_bytes}
 use Rattle.std.specs.Fmt.{decimal}
 use Rattle.std.specs.Io.KnownBytes.{Appends}
 use Rattle.luks_reading.specs.declared.report.Version.{Version}
@@ -21,9 +21,15 @@ use Rattle.luks_converting.specs.FaultTexts.{convert_fault_text}
 use Rattle.luks_rebuilding.specs.declared.rebuild_fault.RebuildFault.{RebuildFault}
 use Rattle.luks_rebuilding.specs.declared.rebuild_fault.RebuildFault.TheVariants as rebuilding
 use Rattle.luks_rebuilding.specs.FaultTexts.{rebuild_fault_text}
+use Rattle.luks_keeping.specs.ComparisonTexts.{comparison_text, is_current}
+use Rattle.luks_keeping.specs.declared.backup_fault.BackupFault.{BackupFault}
+use Rattle.luks_keeping.specs.declared.backup_fault.BackupFault.TheVariants as backing_up
+use Rattle.luks_keeping.specs.declared.restore_fault.RestoreFault.{RestoreFault}
+use Rattle.luks_keeping.specs.declared.restore_fault.RestoreFault.TheVariants as restoring
+use Rattle.luks_keeping.specs.FaultTexts.{backup_fault_text, restore_fault_text}
 use Rattle.luks_signatures.specs.UseTexts.{use_text}
 use Rattle.luks_commands.specs.declared.answers.Answer.{Answer}
-use Rattle.luks_commands.specs.declared.answers.Answer.TheVariants.{Accepted, Listed, ListedFully, Mapped, Json, Opens, Closed, NoneOpens, Done, Refused, DeviceFault, NoMemory}
+use Rattle.luks_commands.specs.declared.answers.Answer.TheVariants.{Accepted, Listed, ListedFully, Mapped, Json, Opens, Closed, NoneOpens, Done, Compared, Refused, DeviceFault, NoMemory}
 use Rattle.luks_commands.specs.declared.answers.Refusal.{Refusal}
 use Rattle.luks_commands.specs.declared.answers.Refusal.TheVariants as refusal
 use Rattle.luks_commands.specs.declared.answers.Status.{Status}
@@ -53,7 +59,10 @@ refusal_text (refusal.Edit f) = edit_fault_text f
 refusal_text (refusal.Format f) = format_fault_text f
 refusal_text (refusal.Convert f) = convert_fault_text f
 refusal_text (refusal.Rebuild f) = rebuild_fault_text f
+refusal_text (refusal.Backup f) = backup_fault_text f
+refusal_text (refusal.Restore f) = restore_fault_text f
 refusal_text refusal.SameFile = codes "SameFile"
+refusal_text refusal.Exists = codes "Exists"
 refusal_text (refusal.OtherUse found) = codes "OtherUse(" ++ use_text found ++ codes ")"
 
 -- what is printed; of a LUKS2 header that is shown line by line it isn't told
@@ -68,11 +77,17 @@ line_of (Closed n) = Some (codes "slot " ++ decimal n ++ line (codes " does not 
 line_of NoneOpens = Some (line (codes "no slot opens"))
 line_of (Done None) = Some (line (codes "done"))
 line_of (Done (Some n)) = Some (codes "done slot " ++ line (decimal n))
+line_of (Compared comparison) = Some (comparison_text comparison)
 line_of (Refused by_) = Some (codes "refused " ++ line (refusal_text by_))
 line_of DeviceFault = Some (line (codes "device fault"))
 line_of NoMemory = Some (line (codes "no memory"))
 
 -- ---- the exit statuses
+
+-- a backup that is current, or isn't
+abbrev pub current_status : Bool → Status
+current_status true = status.Done
+current_status false = status.Refused
 
 abbrev pub answer_status : Answer → Status
 answer_status (Accepted version areas) = status_of version
@@ -84,6 +99,7 @@ answer_status (Opens n) = status.Done
 answer_status (Closed n) = status.Refused
 answer_status NoneOpens = status.Refused
 answer_status (Done slot) = status.Done
+answer_status (Compared comparison) = current_status (is_current comparison)
 answer_status (Refused by_) = status.Refused
 answer_status DeviceFault = status.Fault
 answer_status NoMemory = status.Fault
@@ -125,6 +141,16 @@ abbrev pub rebuild_fault_answer : RebuildFault → Answer
 rebuild_fault_answer rebuilding.Device = DeviceFault
 rebuild_fault_answer rebuilding.Memory = NoMemory
 rebuild_fault_answer f = Refused (refusal.Rebuild f)
+
+abbrev pub backup_fault_answer : BackupFault → Answer
+backup_fault_answer backing_up.Device = DeviceFault
+backup_fault_answer backing_up.Memory = NoMemory
+backup_fault_answer f = Refused (refusal.Backup f)
+
+abbrev pub restore_fault_answer : RestoreFault → Answer
+restore_fault_answer restoring.Device = DeviceFault
+restore_fault_answer restoring.Memory = NoMemory
+restore_fault_answer f = Refused (refusal.Restore f)
 
 -- a command answers so that has no passphrase: it is too long, or its file can't be read, by such a fault
 abbrev pub IsWordless : Type 0 → (InputFault → Type 0) → Answer → Type 0

@@ -4,7 +4,7 @@ use Rattle.std.specs.declared.io.ErrorKind.{ErrorKind}
 use Rattle.std.specs.declared.io.ErrorKind.TheVariants.{OutOfMemory}
 use Rattle.luks_area.specs.Device.{IsSettled, IsUnchanged}
 use Rattle.luks_request.specs.declared.request.Command.{Command}
-use Rattle.luks_request.specs.declared.request.Command.TheVariants.{Edit, Format}
+use Rattle.luks_request.specs.declared.request.Command.TheVariants.{Edit, Format, Restore}
 use Rattle.luks_commands.specs.declared.inputs.InputFault.{InputFault}
 use Rattle.luks_commands.specs.declared.inputs.InputFault.TheVariants.{Absent, Unreadable, NoMemory}
 
@@ -82,4 +82,5 @@ LeavesVolume tells size bytes says (Err fault) new = new ≡ Err fault
 abbrev pub UnlessWriter : Command → Type 0 → Type 0
 UnlessWriter (Edit editing) holds = Unit {0}
 UnlessWriter (Format making) holds = Unit {0}
+UnlessWriter (Restore restoring) holds = Unit {0}
 UnlessWriter _ holds = holds

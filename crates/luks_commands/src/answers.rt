@@ -1,6 +1,7 @@
 //! What a command answers, how that is printed, and the exit status that it ends with.
 ghost use Rattle.std.specs.Prelude.{◌≡◌, ◌≢◌, ◌+◌, ◌<◌, ◌^◌, Some};
-ghost use Rattle.luks_commands.specs.Answer.{answer_status, check_fault_answer, convert_fault_answer, edit_fault_answer};
+ghost use Rattle.luks_commands.specs.Answer.{answer_status, backup_fault_answer, check_fault_answer};
+ghost use Rattle.luks_commands.specs.Answer.{convert_fault_answer, edit_fault_answer, restore_fault_answer};
 ghost use Rattle.luks_commands.specs.Answer.{format_fault_answer, IsPrinted, line_of, open_fault_answer};
 ghost use Rattle.luks_commands.specs.Answer.{rebuild_fault_answer, refusal_text, unread_answer};
 
@@ -9,6 +10,7 @@ use crate::printer::{Printer, Unprinted};
 use luks_converting::ConvertFault;
 use luks_edit::EditFault;
 use luks_formatting::FormatFault;
+use luks_keeping::{BackupFault, Comparison, RestoreFault};
 use luks_map::HeaderMap;
 use luks_reading::{CheckFault, Copies, OpenFault, Version};
 use luks_rebuilding::RebuildFault;
@@ -48,8 +50,14 @@ pub enum Refusal {
     Convert(ConvertFault),
     /// No header is made of the volume's metadata.
     Rebuild(RebuildFault),
-    /// What is to be written is the volume itself.
+    /// No backup of the volume's header is made.
+    Backup(BackupFault),
+    /// The backup isn't put back onto the volume.
+    Restore(RestoreFault),
+    /// What is to be written, or compared, is the volume itself.
     SameFile,
+    /// What a backup is to be written to is there and isn't empty.
+    Exists,
     /// The disk has another use by now, which the edit would write over.
     OtherUse(OtherUse),
 }
@@ -66,7 +74,10 @@ impl fmt::Display for Refusal {
             Refusal::Format(fault) => write!(f, "{fault}"),
             Refusal::Convert(fault) => write!(f, "{fault}"),
             Refusal::Rebuild(fault) => write!(f, "{fault}"),
+            Refusal::Backup(fault) => write!(f, "{fault}"),
+            Refusal::Restore(fault) => write!(f, "{fault}"),
             Refusal::SameFile => f.write_str("SameFile"),
+            Refusal::Exists => f.write_str("Exists"),
             Refusal::OtherUse(found) => write!(f, "OtherUse({found})"),
         }
     }
@@ -98,6 +109,8 @@ pub enum Answer {
     NoneOpens,
     /// The edit is done, or the volume made; the keyslot that was made or sealed again.
     Done(Option<u8>),
+    /// How a backup stands to the volume.
+    Compared(Comparison),
     /// The command is refused.
     Refused(Refusal),
     /// A device call failed, or a file can't be read.
@@ -131,6 +144,7 @@ impl fmt::Display for Answer {
             Answer::NoneOpens => writeln!(f, "no slot opens"),
             Answer::Done(Some(n)) => writeln!(f, "done slot {n}"),
             Answer::Done(None) => writeln!(f, "done"),
+            Answer::Compared(comparison) => write!(f, "{comparison}"),
             Answer::Refused(refusal) => writeln!(f, "refused {refusal}"),
             Answer::DeviceFault => writeln!(f, "device fault"),
             Answer::NoMemory => writeln!(f, "no memory"),
@@ -158,6 +172,8 @@ impl Answer {
             Answer::Listed(_) | Answer::ListedFully(_) => Status::Done,
             Answer::Mapped(_) | Answer::Json(_) => Status::Done,
             Answer::Opens(_) | Answer::Done(_) => Status::Done,
+            Answer::Compared(comparison) if comparison.is_current() => Status::Done,
+            Answer::Compared(_) => Status::Refused,
             Answer::Closed(_) | Answer::NoneOpens | Answer::Refused(_) => Status::Refused,
             Answer::DeviceFault | Answer::NoMemory => Status::Fault,
         }
@@ -244,6 +260,30 @@ impl From<RebuildFault> for Answer {
             RebuildFault::Device => Answer::DeviceFault,
             RebuildFault::Memory => Answer::NoMemory,
             fault => Answer::Refused(Refusal::Rebuild(fault)),
+        }
+    }
+}
+
+impl From<BackupFault> for Answer {
+    ghost from_gives = { λ fault answer. answer ≡ backup_fault_answer fault };
+
+    fn from(fault: BackupFault) -> Answer {
+        match fault {
+            BackupFault::Device => Answer::DeviceFault,
+            BackupFault::Memory => Answer::NoMemory,
+            fault => Answer::Refused(Refusal::Backup(fault)),
+        }
+    }
+}
+
+impl From<RestoreFault> for Answer {
+    ghost from_gives = { λ fault answer. answer ≡ restore_fault_answer fault };
+
+    fn from(fault: RestoreFault) -> Answer {
+        match fault {
+            RestoreFault::Device => Answer::DeviceFault,
+            RestoreFault::Memory => Answer::NoMemory,
+            fault => Answer::Refused(Refusal::Restore(fault)),
         }
     }
 }

@@ -20,8 +20,11 @@ pub enum Reason {
     NoVolume,
     /// A volume that is to be written, whose lock another program holds.
     Edited,
-    /// What is to be written beside the volume is the volume itself: neither was opened.
+    /// What is to be written beside the volume, or compared with it, is the volume itself: neither
+    /// was opened.
     SameFile,
+    /// What a backup is to be written to is there and isn't empty: neither was opened.
+    Exists,
     /// Anything else, as a disk's failure.
     Other,
 }
@@ -36,6 +39,7 @@ impl fmt::Display for Reason {
             Reason::NoVolume => "neither a regular file nor a block device",
             Reason::Edited => "another program is editing it",
             Reason::SameFile => "is the volume itself",
+            Reason::Exists => "is there and isn't empty",
             Reason::Other => "can't be opened or read",
         })
     }
@@ -72,7 +76,8 @@ impl From<io::Error> for InputFault {
 pub struct Inputs<D, R, N> {
     /// The volume.
     pub volume: Result<D, InputFault>,
-    /// The device that a header is written to beside the volume.
+    /// The device beside the volume: what a header or a backup is written to, or the backup that is put
+    /// back or compared.
     pub target: Result<D, InputFault>,
     /// The passphrase: all bytes that this reader gives, a last newline too.
     pub passphrase: Result<R, InputFault>,

@@ -20,6 +20,9 @@ pub(crate) struct Trial {
     pub(crate) edit: Edit<'static>,
     /// How many random bytes it takes.
     pub(crate) random: usize,
+    /// How many writes it makes: of a key area eight sectors in each, of a copy of the LUKS2 header two
+    /// parts, of zeros a sector in each.
+    pub(crate) writes: usize,
     /// One of these opens where a call fails.
     pub(crate) either: [Opening; 2],
     /// This one opens whatever fails.
@@ -31,18 +34,21 @@ pub(crate) const LUKS1: [Trial; 3] = [
     Trial {
         edit: add!(0, b"one", b"three", None),
         random: 2528,
+        writes: 2,
         either: [(0, b"one"), (0, b"one")],
         other: (1, b"two"),
     },
     Trial {
         edit: change!(0, b"one", b"three"),
         random: 2528,
+        writes: 8,
         either: [(0, b"one"), (2, b"three")],
         other: (1, b"two"),
     },
     Trial {
         edit: remove!(0, b"one"),
         random: 0,
+        writes: 6,
         either: [(1, b"two"), (1, b"two")],
         other: (1, b"two"),
     },
@@ -53,30 +59,35 @@ pub(crate) const LUKS2: [Trial; 5] = [
     Trial {
         edit: Edit::Repair,
         random: 128,
+        writes: 4,
         either: [(0, b"one"), (0, b"one")],
         other: (1, b"two"),
     },
     Trial {
         edit: label!(b"disk"),
         random: 128,
+        writes: 4,
         either: [(0, b"one"), (0, b"one")],
         other: (1, b"two"),
     },
     Trial {
         edit: remove!(0, b"one"),
         random: 128,
+        writes: 12,
         either: [(1, b"two"), (1, b"two")],
         other: (1, b"two"),
     },
     Trial {
         edit: change!(0, b"one", b"three"),
         random: 2656,
+        writes: 13,
         either: [(0, b"one"), (0, b"three")],
         other: (1, b"two"),
     },
     Trial {
         edit: add!(0, b"one", b"three", None),
         random: 2656,
+        writes: 5,
         either: [(0, b"one"), (0, b"one")],
         other: (1, b"two"),
     },
@@ -99,6 +110,7 @@ pub(crate) const ARGON2: [Trial; 3] = [
             iterations: 1000,
         },
         random: 160,
+        writes: 5,
         either: [(1, b"one"), (1, b"one")],
         other: (2, b"one"),
     },
@@ -110,6 +122,7 @@ pub(crate) const ARGON2: [Trial; 3] = [
             iterations: 1000,
         },
         random: 160,
+        writes: 13,
         either: [(1, b"one"), (1, b"three")],
         other: (2, b"one"),
     },
@@ -119,6 +132,7 @@ pub(crate) const ARGON2: [Trial; 3] = [
             passphrase: OF_ARGON2,
         },
         random: 128,
+        writes: 12,
         either: [(2, b"one"), (2, b"one")],
         other: (2, b"one"),
     },

@@ -35,9 +35,12 @@ fn kept_of(version: u8) -> usize {
 /// How many calls clear the first sectors of both copies' places: a write and a flush of each.
 const CLEARING: u64 = 4;
 
+/// The writes of a key area of 500 sectors, eight sectors a write; the last has four.
+const AREA_WRITES: u64 = 63;
+
 /// The range that the call of this number writes, and its length; nothing where it is a flush. First
-/// the first sectors of both copies' places become zeros, a flush after each; then come the 500 sectors
-/// of the key area and a flush, then the header and a flush, of LUKS2 each copy in two parts with a
+/// the first sectors of both copies' places become zeros, a flush after each; then come the writes of
+/// the key area and a flush, then the header and a flush, of LUKS2 each copy in two parts with a
 /// flush, the second copy first.
 fn range_of(version: u8, call: u64) -> Option<(usize, usize)> {
     match call {
@@ -50,20 +53,28 @@ fn range_of(version: u8, call: u64) -> Option<(usize, usize)> {
 
 /// The same of the calls that follow the clearing, counted from 0.
 fn range_over_cleared(version: u8, call: u64) -> Option<(usize, usize)> {
-    let (_, area, _) = places(version);
-    match (version, call) {
-        (_, 0..500) => Some((area.wrapping_add((call as usize).wrapping_mul(512)), 512)),
-        (1, 501) => Some((0, 592)),
-        (2, 501) => Some((16384, 4096)),
-        (2, 502) => Some((20480, 12288)),
-        (2, 504) => Some((0, 4096)),
-        (2, 505) => Some((4096, 12288)),
+    let (_, area, end) = places(version);
+    if call < AREA_WRITES {
+        let at = area.wrapping_add((call as usize).wrapping_mul(4096));
+        return Some((at, end.saturating_sub(at).min(4096)));
+    }
+    match (version, call.wrapping_sub(AREA_WRITES)) {
+        (1, 1) => Some((0, 592)),
+        (2, 1) => Some((16384, 4096)),
+        (2, 2) => Some((20480, 12288)),
+        (2, 4) => Some((0, 4096)),
+        (2, 5) => Some((4096, 12288)),
         _ => None,
     }
 }
 
+/// All calls: those of the clearing, the writes of the key area and a flush, and those of the header.
 fn calls_of(version: u8) -> u64 {
-    if version == 1 { 507 } else { 511 }
+    let of_header = if version == 1 { 2 } else { 6 };
+    CLEARING
+        .wrapping_add(AREA_WRITES)
+        .wrapping_add(1)
+        .wrapping_add(of_header)
 }
 
 /// How formatting ended.

@@ -38,10 +38,13 @@ SettlesTarget {D} tells failed unsettled (Ok volume) (Ok volume_new) (Ok old) (O
     tells → failed volume_new ≡ failed volume → failed new ≡ failed old → IsSettled unsettled new
 SettlesTarget {D} tells failed unsettled volume volume_new old new = ⊤
 
--- what holds of a command that writes to no file beside its volume
+-- what holds of a command that takes no file beside its volume, to write to it or to read a backup
 abbrev pub UnlessBeside : Command → Type 0 → Type 0
 UnlessBeside (command.Convert converting) holds = Unit {0}
 UnlessBeside (command.Rebuild rebuilding) holds = Unit {0}
+UnlessBeside (command.Backup backing_up) holds = Unit {0}
+UnlessBeside (command.Restore restoring) holds = Unit {0}
+UnlessBeside (command.Compare comparing) holds = Unit {0}
 UnlessBeside _ holds = holds
 
 -- ---- what is answered

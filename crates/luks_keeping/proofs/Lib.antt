@@ -15,6 +15,7 @@ pub mod SoundFacts
 pub mod RestoreFacts
 pub mod RestoreFaultFacts
 pub mod TurnFacts
-pub mod OtherFacts
 pub mod KeyFacts
+pub mod OtherFacts
 pub mod SaltFacts
+pub mod ComparisonFacts

@@ -1,5 +1,5 @@
 -- Whether the header that counts on a target is another volume's.
-use Rattle.std.proofs.Common.{◌≡◌, ◌≢◌, ◌↔◌, ℕ, List, Bool, true, false, refl, sym, ap, ◌∙◌, not, IsTrue, ◌⊎◌, inl, inr}
+use Rattle.std.proofs.Common.{◌≡◌, ◌≢◌, ◌↔◌, ◌&&◌, ℕ, List, Bool, true, false, refl, sym, ap, ◌∙◌, not, IsTrue, ◌⊎◌, inl, inr}
 use Rattle.std.proofs.lemmas.Bool.{false≢true}
 use Rattle.luks_area.specs.Ranges.{part}
 use Rattle.luks1_header.specs.Faults.{is_device_fault}
@@ -19,7 +19,9 @@ use Rattle.luks_reading.specs.declared.read_fault.ReadFault.{ReadFault}
 use Rattle.luks_reading.specs.declared.read_fault.ReadFault.TheVariants as read
 use Rattle.luks_keeping.specs.Laid.{choice_of}
 use Rattle.luks_keeping.specs.OtherHeaders.{read_uuid, selected_choice, selected_uuid, TellsOther}
-use Rattle.luks_keeping.specs.SameVolume.{uuid_bytes, HasOtherUuid}
+use Rattle.luks_keeping.specs.SameKeys.{SharesHeader}
+use Rattle.luks_keeping.specs.SameVolume.{uuid_bytes, HasOtherUuid, IsOtherVolume}
+use Rattle.luks_keeping.proofs.KeyFacts.{shares_digest, shares_header}
 use Rattle.luks_keeping.proofs.LaidFacts.{chosen_of}
 
 -- ---- nothing counts
@@ -102,3 +104,40 @@ module _ (b t : List ℕ) (h : Header) (is : IsHeader b h) (s : Selected) (x : I
   pub told_by : (same : Bool) → (IsTrue same ↔ (selected_uuid s ≡ read_uuid h)) → TellsOther b t (not same)
   told_by true e = same_uuid (e.0 refl)
   told_by false e = other_uuid (λ q. false≢true (e.1 q))
+
+-- ---- of two headers that were read
+
+header_some : (h : Header) → choice_of h ≢ nothing
+header_some (Luks1 bytes) e = (let no : luks1 ≡ nothing = e in cc)
+header_some (Luks2 copy) e = (let no : luks2 copy.header.hdr_offset copy.copies ≡ nothing = e in cc)
+
+module _ (b t : List ℕ) (h k : Header) (is : IsHeader b h) (other : IsHeader t k) where
+  pub uuid_differs : (read_uuid k ≡ read_uuid h → ⊥) → HasOtherUuid b t
+  uuid_differs differ = record {
+    choice = choice_of h;
+    chosen = chosen_of b h is;
+    other = choice_of k;
+    counts = chosen_of t k other;
+    some = header_some k;
+    uuid = λ e. differ (uuid_of_header t k other ∙ e ∙ sym (uuid_of_header b h is));
+  }
+
+  pub uuid_agrees : read_uuid k ≡ read_uuid h → HasOtherUuid b t → ⊥
+  uuid_agrees e y = y.uuid (
+      ap (uuid_bytes t) (choices_agree t y.other (choice_of k) y.counts (chosen_of t k other)) ∙ sym (uuid_of_header t k other)
+      ∙ e ∙ uuid_of_header b h is ∙ ap (uuid_bytes b) (choices_agree b (choice_of h) y.choice (chosen_of b h is) y.chosen))
+
+  -- one uuid
+  pub one_uuid : (same : Bool) → same ≡ true → (IsTrue same ↔ (read_uuid k ≡ read_uuid h)) → IsTrue (not same) ↔ IsOtherVolume b t
+  one_uuid true on e = (λ q. absurd (false≢true q), λ x. absurd (uuid_agrees (e.0 refl) x.uuid))
+  one_uuid false on e = absurd (false≢true on)
+
+  -- another uuid, and no digest in common
+  pub is_other : (same shares : Bool) → (IsTrue same ↔ (read_uuid k ≡ read_uuid h)) → (IsTrue shares ↔ SharesHeader h k)
+      → IsTrue (not same && not shares) ↔ IsOtherVolume b t
+  is_other true shares e s = (λ q. absurd (false≢true q), λ x. absurd (uuid_agrees (e.0 refl) x.uuid))
+  is_other false true e s = (λ q. absurd (false≢true q), λ x. absurd (x.key (shares_digest b t h k is other (s.0 refl))))
+  is_other false false e s = (
+    λ q. record { uuid = uuid_differs (λ p. false≢true (e.1 p)); key = λ d. false≢true (s.1 (shares_header b t h k is other d)) },
+    λ x. refl,
+  )

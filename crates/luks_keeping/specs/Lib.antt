@@ -12,4 +12,5 @@ pub mod OtherHeaders
 pub mod SameKey
 pub mod SameKeys
 pub mod Compared
+pub mod ComparisonTexts
 pub mod Salts

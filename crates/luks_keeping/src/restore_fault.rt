@@ -34,9 +34,8 @@ impl fmt::Display for RestoreFault {
 
     fn fmt<W: fmt::Write>(&self, f: &mut fmt::Formatter<W>) -> fmt::Result {
         match self {
-            RestoreFault::NotAccepted(fault) | RestoreFault::DoesNotFit(fault) => {
-                write!(f, "{fault}")
-            }
+            RestoreFault::NotAccepted(fault) => write!(f, "NotAccepted({fault})"),
+            RestoreFault::DoesNotFit(fault) => write!(f, "DoesNotFit({fault})"),
             RestoreFault::OtherVolume => f.write_str("OtherVolume"),
             RestoreFault::Memory => f.write_str("Memory"),
             RestoreFault::Device => f.write_str("Device"),

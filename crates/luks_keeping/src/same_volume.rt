@@ -4,10 +4,11 @@ ghost use Rattle.luks_area.specs.Device.{CountsFailure, IsUnchanged};
 ghost use Rattle.luks_reading.specs.Header.{IsAcceptedHeader, IsHeader};
 ghost use Rattle.luks_keeping.specs.OtherHeaders.{IsOtherAnswer, TellsOther, read_uuid, selected_uuid};
 ghost use Rattle.luks_keeping.specs.RestoreFaults.{IsKeptFrom, is_restore_failure};
+ghost use Rattle.luks_keeping.specs.SameVolume.{IsOtherVolume};
 
 use crate::over::Over;
 use crate::restore_fault::RestoreFault;
-use crate::same_key::judge_key;
+use crate::same_key::{judge_key, shares_digest};
 use luks_area::Device;
 use luks_reading::{Header, ReadFault, Selected, select};
 use std::alloc::Global;
@@ -16,6 +17,29 @@ use std::alloc::Global;
 const UUID: usize = 168;
 
 const UUID_END: usize = 208;
+
+/// Whether the second of two headers, as `accepted_header` answers them, is another volume's than the
+/// backup's: it has another uuid, and no digest of its volume key.
+pub fn is_other_volume(backup: &Header, volume: &Header) -> bool
+    requires backup { IsAcceptedHeader backup.now }
+    requires volume { IsAcceptedHeader volume.now }
+    ensures { (b t : List ℕ) → IsHeader b backup.now → IsHeader t volume.now
+        → (IsTrue result ↔ IsOtherVolume b t) }
+{
+    !has_read_uuid(backup, volume) && !shares_digest(backup, volume)
+}
+
+/// Whether the two headers have one uuid.
+fn has_read_uuid(backup: &Header, volume: &Header) -> bool
+    requires backup { IsAcceptedHeader backup.now }
+    requires volume { IsAcceptedHeader volume.now }
+    ensures { IsTrue result ↔ (read_uuid volume.now ≡ read_uuid backup.now) }
+{
+    match volume {
+        Header::Luks1(bytes) => is_uuid_of(backup, &bytes[UUID..UUID_END]),
+        Header::Luks2(copy) => is_uuid_of(backup, copy.header.uuid.as_slice()),
+    }
+}
 
 /// Refuses where the header that counts on the target is another volume's than this one, unless it may
 /// be written over: one with another uuid whose volume key has no digest of this one's.

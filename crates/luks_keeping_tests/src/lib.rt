@@ -1,9 +1,13 @@
-//! Tests of backing up and restoring small volumes: what is left byte for byte, refusals, failing devices
-//! and refused memory. They stand here so that no crate is proved a second time for them.
+//! Tests of backing up, restoring and comparing small volumes: what is left byte for byte, refusals,
+//! failing devices and refused memory. They stand here so that no crate is proved a second time for them.
 #![tactic(auto)]
 
 #[cfg(test)]
 mod backups;
+#[cfg(test)]
+mod comparisons;
+#[cfg(test)]
+mod failing_backups;
 #[cfg(test)]
 mod failing_calls;
 #[cfg(test)]

@@ -1,14 +1,14 @@
-//! Restoring with refused memory.
-use crate::sources::{backup_of, wiped};
+//! Making backups and restoring them with refused memory.
+use crate::sources::{SIZE, backup_of, wiped};
 use luks_area::MemDevice;
 use luks_kdf::HashName;
-use luks_keeping::{Over, RestoreFault, restore};
+use luks_keeping::{BackupFault, Over, RestoreFault, backup, restore};
 use luks_reading::Data;
-use luks_test_devices::{BLOCKS, TakenMemory, small2};
+use luks_test_devices::{BLOCKS, TakenMemory, old_bytes, small2};
 use std::alloc::Global;
 use std::test::Fail;
 
-/// How restoring ended.
+/// How it ended.
 #[derive(Debug, Clone, Copy, PartialEq, Eq)]
 enum End {
     Done,
@@ -17,9 +17,9 @@ enum End {
     Other,
 }
 
-/// How it ended, and how many blocks had to be given back until then: with all memory taken, and given
-/// back in blocks of 256 bytes, it is refused memory at one place after another.
-fn ends_with_little_memory(alloc: Global) -> Result<(End, usize), Fail> {
+/// How restoring ended, and how many blocks had to be given back until then: with all memory taken, and
+/// given back in blocks of 256 bytes, it is refused memory at one place after another.
+fn restoring_with_little_memory(alloc: Global) -> Result<(End, usize), Fail> {
     let image = small2(alloc, HashName::Sha256)?;
     let kept = backup_of(alloc, &image)?;
     let old = wiped(alloc, &image)?;
@@ -55,9 +55,47 @@ fn ends_with_little_memory(alloc: Global) -> Result<(End, usize), Fail> {
     Ok((end, given))
 }
 
+/// The same of making a backup.
+fn backing_up_with_little_memory(alloc: Global) -> Result<(End, usize), Fail> {
+    let image = small2(alloc, HashName::Sha256)?;
+    let old = old_bytes(alloc, SIZE)?;
+    let mut source = MemDevice::new(image.to_vec(alloc)?);
+    let mut target = MemDevice::new(old.to_vec(alloc)?);
+    let mut taken = TakenMemory::take(alloc)?;
+    let mut end = End::Memory;
+    let mut given = 0;
+    for turn in 0..BLOCKS {
+        let answer = backup(alloc, &mut source, Data::Here, &mut target);
+        let same = target.contents() == old.as_slice();
+        end = match answer {
+            Ok(()) => End::Done,
+            Err(BackupFault::Memory) if same => End::Memory,
+            Err(_) => End::Other,
+        };
+        given = turn;
+        if end != End::Memory {
+            break;
+        }
+        taken.give_back();
+    }
+    drop(taken);
+    if source.contents() != image.as_slice() {
+        end = End::Other;
+    }
+    Ok((end, given))
+}
+
 #[test]
-fn each_allocation(rt: HostRuntime) -> Result<(), Fail> {
-    let (end, given) = ends_with_little_memory(rt.alloc())?;
+fn each_allocation_of_a_backup(rt: HostRuntime) -> Result<(), Fail> {
+    let (end, given) = backing_up_with_little_memory(rt.alloc())?;
+    assert!(rt; end == End::Done, "done in the end");
+    assert!(rt; 1 < given, "{given} blocks");
+    Ok(())
+}
+
+#[test]
+fn each_allocation_of_restoring(rt: HostRuntime) -> Result<(), Fail> {
+    let (end, given) = restoring_with_little_memory(rt.alloc())?;
     assert!(rt; end == End::Done, "done in the end");
     assert!(rt; 1 < given, "{given} blocks");
     Ok(())

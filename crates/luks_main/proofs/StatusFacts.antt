@@ -1,5 +1,5 @@
 -- Each command's answers end with the statuses of the table.
-use Rattle.std.proofs.Common.{◌≡◌, ℕ, List, Option, Some, None, Result, Ok, Err, refl, sym, subst, inl, inr}
+use Rattle.std.proofs.Common.{◌≡◌, ℕ, List, Bool, true, false, Option, Some, None, Result, Ok, Err, refl, sym, ap, subst, inl, inr}
 use Rattle.luks_reading.specs.declared.report.Data.{Data}
 use Rattle.luks_reading.specs.declared.report.Version.TheVariants.{Luks1, Luks2}
 use Rattle.luks_head.specs.declared.selection.Copies.TheVariants.{InStep, FirstNewer, SecondNewer, FirstOnly, SecondOnly}
@@ -9,11 +9,12 @@ use Rattle.luks_request.specs.declared.request.Making.{Making}
 use Rattle.luks_request.specs.declared.request.ShowAs.{ShowAs}
 use Rattle.luks_request.specs.declared.request.ShowAs.TheVariants as form
 use Rattle.luks_commands.specs.declared.answers.Answer.{Answer}
-use Rattle.luks_commands.specs.declared.answers.Answer.TheVariants.{Accepted, Listed, ListedFully, Mapped, Json, Opens, Closed, NoneOpens, Done, Refused, DeviceFault, NoMemory}
+use Rattle.luks_commands.specs.declared.answers.Answer.TheVariants.{Accepted, Listed, ListedFully, Mapped, Json, Opens, Closed, NoneOpens, Done, Compared, Refused, DeviceFault, NoMemory}
 use Rattle.luks_commands.specs.declared.answers.Refusal.TheVariants as refusal
 use Rattle.luks_commands.specs.declared.inputs.InputFault.{InputFault}
 use Rattle.luks_commands.specs.declared.inputs.InputFault.TheVariants.{Absent, Unreadable, NoMemory as NoMemoryToRead}
-use Rattle.luks_commands.specs.Answer.{answer_status, IsWordless, Prints, unread_answer}
+use Rattle.luks_commands.specs.declared.inputs.Reason.TheVariants as reason
+use Rattle.luks_commands.specs.Answer.{answer_status, current_status, IsWordless, Prints, unread_answer}
 use Rattle.luks_commands.specs.Exit.{exit_status}
 use Rattle.luks_commands.specs.CheckAnswers.{AnswersCheck, IsCheckAnswer}
 use Rattle.luks_commands.specs.OpenAnswers.{AnswersOpen, IsAnyAnswer, IsOneAnswer, IsOpenAnswer}
@@ -23,27 +24,54 @@ use Rattle.luks_show_command.specs.ShowAnswers.{AnswersShow, IsFullAnswer, IsJso
 use Rattle.luks_header_commands.specs.Converting.{AnswersConvert, IsConvertAnswer}
 use Rattle.luks_header_commands.specs.Rebuilding.{AnswersRebuild, IsRebuildAnswer}
 use Rattle.luks_header_commands.specs.Target.{AnswersHeader, IsSameFile, Pair}
+use Rattle.luks_keeping.specs.ComparisonTexts.{is_current}
+use Rattle.luks_keeping.specs.declared.backup_fault.BackupFault.TheVariants as backing_up
+use Rattle.luks_keeping.specs.declared.comparison.Comparison.{Comparison}
+use Rattle.luks_keeping.specs.declared.over.Over.{Over}
+use Rattle.luks_keeping.specs.declared.restore_fault.RestoreFault.TheVariants as restoring
+use Rattle.luks_keeping_commands.specs.BackingUp.{AnswersBackup, IsBackupAnswer, IsNotKept, IsWithoutFile}
+use Rattle.luks_keeping_commands.specs.Comparing.{AnswersCompare, IsCompareAnswer}
+use Rattle.luks_keeping_commands.specs.Restoring.{AnswersRestore, IsRestoreAnswer}
+use Rattle.luks_keeping_commands.specs.TwoFiles.{Pair as TwoFiles}
 use Rattle.luks_cli.specs.EditAnswers.{AnswersEdit, IsEditAnswer}
 use Rattle.luks_cli.specs.Editing.{Given, Lacking}
-use Rattle.luks_main.specs.Statuses.{EndsCheck, EndsConvert, EndsEdit, EndsFormat, EndsOpen, EndsRebuild, EndsShow, EndsWith}
+use Rattle.luks_main.specs.Statuses.{EndsBackup, EndsCheck, EndsCompare, EndsConvert, EndsEdit, EndsFormat, EndsOpen, EndsRebuild, EndsRestore, EndsShow, EndsWith, MayEnd}
 
 -- an answer's own status
 abbrev pub own : Answer → ℕ
 own answer = exit_status (answer_status answer)
 
--- of every command: memory may be refused
-pub memory_ends : (c : Command) → EndsWith c NoMemory 4
-memory_ends (command.Check payload) = refl
-memory_ends (command.Show form.Lines) = refl
-memory_ends (command.Show form.All) = refl
-memory_ends (command.Show form.Map) = refl
-memory_ends (command.Show form.Json) = refl
-memory_ends (command.Open passphrase None memory) = refl
-memory_ends (command.Open passphrase (Some n) memory) = refl
-memory_ends (command.Edit editing) = refl
-memory_ends (command.Format making) = refl
-memory_ends (command.Convert converting) = refl
-memory_ends (command.Rebuild rebuilding) = refl
+-- an answer that ends so
+pub may_by : (c : Command) (a : Answer) (n : ℕ) → EndsWith c a n → MayEnd c n
+may_by (command.Check payload) a n ends = (a, ends)
+may_by (command.Show shown_as) a n ends = (a, ends)
+may_by (command.Open passphrase slot memory) a n ends = (a, ends)
+may_by (command.Edit editing) a n ends = (a, ends)
+may_by (command.Format making) a n ends = (a, ends)
+may_by (command.Convert converting) a n ends = (a, ends)
+may_by (command.Rebuild rebuilding) a n ends = (a, ends)
+may_by command.Find a n ends = absurd ends
+may_by (command.Backup backing_up) a n ends = (a, ends)
+may_by (command.Restore restoring) a n ends = (a, ends)
+may_by (command.Compare comparing) a n ends = (a, ends)
+
+-- every command may end with 4
+pub fault_ends : (c : Command) → MayEnd c 4
+fault_ends (command.Check payload) = (NoMemory, refl)
+fault_ends (command.Show form.Lines) = (NoMemory, refl)
+fault_ends (command.Show form.All) = (NoMemory, refl)
+fault_ends (command.Show form.Map) = (NoMemory, refl)
+fault_ends (command.Show form.Json) = (NoMemory, refl)
+fault_ends (command.Open passphrase None memory) = (NoMemory, refl)
+fault_ends (command.Open passphrase (Some n) memory) = (NoMemory, refl)
+fault_ends (command.Edit editing) = (NoMemory, refl)
+fault_ends (command.Format making) = (NoMemory, refl)
+fault_ends (command.Convert converting) = (NoMemory, refl)
+fault_ends (command.Rebuild rebuilding) = (NoMemory, refl)
+fault_ends command.Find = inr (inr refl)
+fault_ends (command.Backup backing_up) = (NoMemory, refl)
+fault_ends (command.Restore restoring) = (NoMemory, refl)
+fault_ends (command.Compare comparing) = (NoMemory, refl)
 
 -- a file that can't be read
 unread_ends : (Ends : Answer → ℕ → Type 0) → Ends DeviceFault 4 → Ends NoMemory 4 → (f : InputFault) (a : Answer) → a ≡ unread_answer f → Ends a (own a)
@@ -247,6 +275,76 @@ converted_same_file_ends a is = subst (λ x. EndsConvert x (own x)) (sym is) ref
 
 pub rebuilt_same_file_ends : (a : Answer) → IsSameFile a → EndsRebuild a (own a)
 rebuilt_same_file_ends a is = subst (λ x. EndsRebuild x (own x)) (sym is) refl
+
+-- ---- the commands on header backups
+
+backup_there : (tells : Type 0) (payload : Data) (d : TwoFiles) (a : Answer) → IsBackupAnswer tells payload d a → EndsBackup a (own a)
+backup_there tells payload d (Done slot) said = (said.1, refl)
+backup_there tells payload d (Refused (refusal.Backup f)) said = refl
+backup_there tells payload d DeviceFault said = refl
+backup_there tells payload d NoMemory said = refl
+backup_there tells payload d a said = absurd said
+
+not_kept_there : (tells : Type 0) (payload : Data) (v : List ℕ) (before after : ℕ) (a : Answer) → IsNotKept tells payload v before after a → EndsBackup a (own a)
+not_kept_there tells payload v before after (Refused (refusal.Backup f)) said = refl
+not_kept_there tells payload v before after DeviceFault said = refl
+not_kept_there tells payload v before after NoMemory said = refl
+not_kept_there tells payload v before after a said = absurd said
+
+without_there : (tells : Type 0) (payload : Data) (v : List ℕ) (before after : ℕ) (missed : InputFault) (a : Answer) → IsWithoutFile tells payload v before after missed a → EndsBackup a (own a)
+without_there tells payload v before after missed a (inl said) = not_kept_there tells payload v before after a said
+without_there tells payload v before after missed a (inr said) = unread_ends EndsBackup refl refl missed a said.2
+
+pub backup_ends : {D : Type 0} (tells : Type 0) (size : D → ℕ) (bytes : D → List ℕ) (failed : D → ℕ) (payload : Data) (volume volume_new old new : Result D InputFault) (a : Answer)
+    → AnswersBackup tells size bytes failed payload volume volume_new old new a → EndsBackup a (own a)
+backup_ends tells size bytes failed payload volume volume_new (Err (Unreadable reason.Exists)) new a is = subst (λ x. EndsBackup x (own x)) (sym is) refl
+backup_ends tells size bytes failed payload (Ok volume) (Ok volume_new) (Ok old) (Ok new) a said = backup_there tells payload _ a said
+backup_ends tells size bytes failed payload (Ok volume) (Ok volume_new) (Err missed) new a said = without_there tells payload (bytes volume) (failed volume) (failed volume_new) missed a said
+backup_ends tells size bytes failed payload (Err missed) volume_new old new a is = unread_ends EndsBackup refl refl missed a is
+backup_ends tells size bytes failed payload volume volume_new old new a said = absurd said
+
+restore_there : (tells : Type 0) (payload : Data) (over : Over) (d : TwoFiles) (a : Answer) → IsRestoreAnswer tells payload over d a → EndsRestore a (own a)
+restore_there tells payload over d (Done slot) said = (said.1, refl)
+restore_there tells payload over d (Refused (refusal.Restore f)) said = refl
+restore_there tells payload over d DeviceFault said = refl
+restore_there tells payload over d NoMemory said = refl
+restore_there tells payload over d a said = absurd said
+
+pub restore_ends : {D : Type 0} (tells : Type 0) (size : D → ℕ) (bytes : D → List ℕ) (failed : D → ℕ) (payload : Data) (over : Over) (old new backup backup_new : Result D InputFault) (a : Answer)
+    → AnswersRestore tells size bytes failed payload over old new backup backup_new a → EndsRestore a (own a)
+restore_ends tells size bytes failed payload over (Ok old) (Ok new) (Ok backup) (Ok backup_new) a said = restore_there tells payload over _ a said
+restore_ends tells size bytes failed payload over (Ok old) new (Err missed) backup_new a is = unread_ends EndsRestore refl refl missed a is
+restore_ends tells size bytes failed payload over (Err missed) new backup backup_new a is = unread_ends EndsRestore refl refl missed a is
+restore_ends tells size bytes failed payload over old new backup backup_new a said = absurd said
+
+-- a backup that is current, or isn't
+current_ends : (b : Bool) (c : Comparison) → is_current c ≡ b → EndsCompare (Compared c) (own (Compared c))
+current_ends true c is = inl (is, ap (λ b. exit_status (current_status b)) is)
+current_ends false c is = inr (is, ap (λ b. exit_status (current_status b)) is)
+
+compare_there : (tells : Type 0) (payload : Data) (d : TwoFiles) (a : Answer) → IsCompareAnswer tells payload d a → EndsCompare a (own a)
+compare_there tells payload d (Compared c) said = current_ends (is_current c) c refl
+compare_there tells payload d (Refused (refusal.Check f)) said = refl
+compare_there tells payload d (Refused (refusal.Restore f)) said = refl
+compare_there tells payload d DeviceFault said = refl
+compare_there tells payload d NoMemory said = refl
+compare_there tells payload d a said = absurd said
+
+pub compare_ends : {D : Type 0} (tells : Type 0) (size : D → ℕ) (bytes : D → List ℕ) (failed : D → ℕ) (payload : Data) (old new backup backup_new : Result D InputFault) (a : Answer)
+    → AnswersCompare tells size bytes failed payload old new backup backup_new a → EndsCompare a (own a)
+compare_ends tells size bytes failed payload (Ok old) (Ok new) (Ok backup) (Ok backup_new) a said = compare_there tells payload _ a said
+compare_ends tells size bytes failed payload (Ok old) new (Err missed) backup_new a is = unread_ends EndsCompare refl refl missed a is
+compare_ends tells size bytes failed payload (Err missed) new backup backup_new a is = unread_ends EndsCompare refl refl missed a is
+compare_ends tells size bytes failed payload old new backup backup_new a said = absurd said
+
+pub backup_same_file_ends : (a : Answer) → IsSameFile a → EndsBackup a (own a)
+backup_same_file_ends a is = subst (λ x. EndsBackup x (own x)) (sym is) refl
+
+pub restore_same_file_ends : (a : Answer) → IsSameFile a → EndsRestore a (own a)
+restore_same_file_ends a is = subst (λ x. EndsRestore x (own x)) (sym is) refl
+
+pub compare_same_file_ends : (a : Answer) → IsSameFile a → EndsCompare a (own a)
+compare_same_file_ends a is = subst (λ x. EndsCompare x (own x)) (sym is) refl
 
 -- ---- what was printed
 

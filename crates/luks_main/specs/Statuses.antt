@@ -1,13 +1,14 @@
 -- Which answer of which command the program ends with which exit status. Of no command any other answer comes.
-use Rattle.std.specs.Prelude.{◌≡◌, ◌⊎◌, ℕ, Option, None, Some}
+use Rattle.std.specs.Prelude.{◌≡◌, ◌⊎◌, ℕ, Option, None, Some, true, false}
 use Rattle.luks_head.specs.declared.selection.Copies.TheVariants.{InStep, FirstNewer, SecondNewer, FirstOnly, SecondOnly}
 use Rattle.luks_reading.specs.declared.report.Version.TheVariants.{Luks1, Luks2}
 use Rattle.luks_request.specs.declared.request.Command.{Command}
 use Rattle.luks_request.specs.declared.request.Command.TheVariants as command
 use Rattle.luks_request.specs.declared.request.ShowAs.{ShowAs}
 use Rattle.luks_request.specs.declared.request.ShowAs.TheVariants as form
+use Rattle.luks_keeping.specs.ComparisonTexts.{is_current}
 use Rattle.luks_commands.specs.declared.answers.Answer.{Answer}
-use Rattle.luks_commands.specs.declared.answers.Answer.TheVariants.{Accepted, Listed, ListedFully, Mapped, Json, Opens, Closed, NoneOpens, Done, Refused, DeviceFault, NoMemory}
+use Rattle.luks_commands.specs.declared.answers.Answer.TheVariants.{Accepted, Listed, ListedFully, Mapped, Json, Opens, Closed, NoneOpens, Done, Compared, Refused, DeviceFault, NoMemory}
 use Rattle.luks_commands.specs.declared.answers.Refusal.TheVariants as refusal
 
 -- of every command: a file or the device failed, or memory was refused
@@ -75,6 +76,33 @@ EndsRebuild (Refused (refusal.Rebuild fault)) status = status ≡ 1
 EndsRebuild (Refused refusal.SameFile) status = status ≡ 1
 EndsRebuild answer status = EndsAny answer status
 
+-- `backup`
+abbrev pub EndsBackup : Answer → ℕ → Type 0
+EndsBackup (Done slot) status = (slot ≡ None) × (status ≡ 0)
+EndsBackup (Refused (refusal.Backup fault)) status = status ≡ 1
+EndsBackup (Refused refusal.SameFile) status = status ≡ 1
+EndsBackup (Refused refusal.Exists) status = status ≡ 1
+EndsBackup answer status = EndsAny answer status
+
+-- `restore`
+abbrev pub EndsRestore : Answer → ℕ → Type 0
+EndsRestore (Done slot) status = (slot ≡ None) × (status ≡ 0)
+EndsRestore (Refused (refusal.Restore fault)) status = status ≡ 1
+EndsRestore (Refused refusal.SameFile) status = status ≡ 1
+EndsRestore answer status = EndsAny answer status
+
+-- `compare`: 0 where the backup has each keyslot of the volume with the same salt, and no other
+abbrev pub EndsCompare : Answer → ℕ → Type 0
+EndsCompare (Compared comparison) status = ((is_current comparison ≡ true) × (status ≡ 0)) ⊎ ((is_current comparison ≡ false) × (status ≡ 1))
+EndsCompare (Refused (refusal.Check fault)) status = status ≡ 1
+EndsCompare (Refused (refusal.Restore fault)) status = status ≡ 1
+EndsCompare (Refused refusal.SameFile) status = status ≡ 1
+EndsCompare answer status = EndsAny answer status
+
+-- `find` tells each start by a line of its own: 0 where it told one, 1 where the disk has none
+abbrev pub EndsFind : ℕ → Type 0
+EndsFind status = (status ≡ 0) ⊎ (status ≡ 1) ⊎ (status ≡ 4)
+
 -- the command answers so, and the program ends with this status then
 abbrev pub EndsWith : Command → Answer → ℕ → Type 0
 EndsWith (command.Check payload) answer status = EndsCheck answer status
@@ -84,9 +112,14 @@ EndsWith (command.Edit editing) answer status = EndsEdit answer status
 EndsWith (command.Format making) answer status = EndsFormat answer status
 EndsWith (command.Convert converting) answer status = EndsConvert answer status
 EndsWith (command.Rebuild rebuilding) answer status = EndsRebuild answer status
+EndsWith command.Find answer status = ⊥
+EndsWith (command.Backup backing_up) answer status = EndsBackup answer status
+EndsWith (command.Restore restoring) answer status = EndsRestore answer status
+EndsWith (command.Compare comparing) answer status = EndsCompare answer status
 
 -- the status is that of an answer that the command gives
 abbrev pub MayEnd : Command → ℕ → Type 0
+MayEnd command.Find status = EndsFind status
 MayEnd command_ status = (answer : Answer) × EndsWith command_ answer status
 
 -- what the program may end with: 0, 1, 3 or 4 as a command does, or 2 for a command line that can't be read

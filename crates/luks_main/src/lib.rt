@@ -5,11 +5,14 @@
 //! and printed.
 #![tactic(auto)]
 
+mod backup_file;
 mod hints;
 mod openings;
 mod outcome;
 mod passphrases;
+mod progress;
 mod running;
+mod searching;
 mod told;
 mod typing;
 mod volumes;

@@ -1,5 +1,6 @@
 ghost use Rattle.std.specs.Prelude.{◌≡◌, false, true, IfSome, option_map};
-ghost use Rattle.luks_request.specs.Named.{is_writer, new_of, passphrase_of, random_of, target_of};
+ghost use Rattle.luks_request.specs.Named.{backup_of, is_writer, new_of, passphrase_of, random_of, target_of};
+ghost use Rattle.luks_main.specs.Opened.{beside_of};
 
 use luks_request::{Line, Place};
 
@@ -19,8 +20,10 @@ pub struct Openings<'a> {
     pub volume: Opening<'a>,
     /// Which bytes of its file the volume is.
     pub place: Place,
-    /// The file that a separate header is written to.
+    /// The file that a separate header, or a backup, is written to.
     pub target: Option<Opening<'a>>,
+    /// The backup that is put back or compared.
+    pub backup: Option<Opening<'a>>,
     /// The passphrase; `-` is standard input.
     pub passphrase: Option<Opening<'a>>,
     /// The new passphrase; `-` likewise.
@@ -35,6 +38,7 @@ impl<'a> Openings<'a> {
         ensures volume { result.volume.name.now ≡ line.now.volume.now }
         ensures place { result.place ≡ line.now.place }
         ensures target { option_map (λ o. o.name.now) result.target ≡ target_of line.now.command }
+        ensures backup { option_map (λ o. o.name.now) result.backup ≡ backup_of line.now.command }
         ensures passphrase { option_map (λ o. o.name.now) result.passphrase
             ≡ passphrase_of line.now.command }
         ensures new { option_map (λ o. o.name.now) result.new_passphrase ≡ new_of line.now.command }
@@ -42,6 +46,7 @@ impl<'a> Openings<'a> {
         ensures writer { result.volume.writes ≡ is_writer line.now.command }
         ensures source { IfSome (target_of line.now.command) (λ _. result.volume.writes ≡ false) }
         ensures written { IfSome result.target (λ o. o.writes ≡ true) }
+        ensures backup_read { IfSome result.backup (λ o. o.writes ≡ false) }
         ensures read { IfSome result.passphrase (λ o. o.writes ≡ false) }
         ensures new_read { IfSome result.new_passphrase (λ o. o.writes ≡ false) }
         ensures random_read { IfSome result.random (λ o. o.writes ≡ false) }
@@ -53,9 +58,22 @@ impl<'a> Openings<'a> {
             },
             place: line.place,
             target: named_file(line.target(), true),
+            backup: named_file(line.backup(), false),
             passphrase: named_file(line.passphrase(), false),
             new_passphrase: named_file(line.new_passphrase(), false),
             random: named_file(line.random(), false),
+        }
+    }
+}
+
+impl<'a> Openings<'a> {
+    /// The file that is opened beside the volume: what is written, or else the backup.
+    pub fn beside(&self) -> Option<Opening<'a>>
+        ensures { result ≡ beside_of self.now }
+    {
+        match self.target {
+            Some(target) => Some(target),
+            None => self.backup,
         }
     }
 }

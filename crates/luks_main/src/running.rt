@@ -9,10 +9,11 @@ use crate::hints::{Ended, tell, tell_ended, tell_overwritten, use_before};
 use crate::openings::Openings;
 use crate::outcome::{Outcome, outcome_of};
 use crate::passphrases::{Passphrases, reader};
+use crate::searching::search;
 use crate::told::{device_fault, explain, list_faults, no_memory, tell_usage};
 use crate::volumes::{Volume, Volumes, has_changed, open_volumes};
 use crate::{FAULT, USAGE};
-use luks_cli::{CountingPrinter, InputFault, Inputs, Line, OtherUse, Unprinted};
+use luks_cli::{Command, CountingPrinter, InputFault, Inputs, Line, OtherUse, Unprinted};
 use luks_line::{Asked, Manner, parse};
 use luks_lock::LazyFile;
 use luks_wiping::wipe_stack;
@@ -105,12 +106,27 @@ fn run_line<R: AllocGlobal + Clock + Files<File = File> + Input + Print + Eprint
     ensures ends { MayEnd line.now.command result }
     ensures status { IsExitStatus result }
 {
+    match line.command {
+        Command::Find => search(rt, line, manner),
+        _ => run_command(rt, line, manner),
+    }
+}
+
+/// Runs a command that isn't a search, as `run_line`.
+fn run_command<R: AllocGlobal + Clock + Files<File = File> + Input + Print + Eprint>(
+    rt: &R,
+    line: &Line<'_>,
+    manner: Manner,
+) -> u8
+    ensures ends { MayEnd line.now.command result }
+    ensures status { IsExitStatus result }
+{
     let openings = Openings::of(line);
     let passphrases = Passphrases::read(rt, &openings, manner);
     let ended = passphrases.end_command();
     let standing = if ended { None } else { use_before(rt, line) };
     let mut noticed = Vec::new(rt.alloc());
-    let volumes = open_volumes(rt, &openings, ended, &mut noticed);
+    let volumes = open_volumes(rt, line, &openings, ended, &mut noticed);
     let mut inputs = inputs_of(rt, volumes, &passphrases, &openings);
     let mut outcome = outcome_of(rt.alloc(), line, manner, &mut inputs);
     let is_noted = outcome.is_noted(manner);

@@ -2,12 +2,15 @@
 ghost use Rattle.std.specs.Prelude.{◌≡◌, ◌≢◌, ◌↔◌, false, Err, IfOk, IfSome, IsErr, IsOkAnd, IsTrue, None};
 ghost use Rattle.luks_cache.specs.Cached.{cached_failures, changes_seen, device_behind};
 ghost use Rattle.luks_lock.specs.Locked.{lock_of, share_for};
+ghost use Rattle.luks_main.specs.Opened.{beside_of};
 ghost use Rattle.luks_window.specs.Windows.{behind};
 
+use crate::backup_file::{is_taken, make_room};
 use crate::openings::{Opening, Openings};
 use luks_area::FileDevice;
 use luks_cache::CachedDevice;
-use luks_cli::{InputFault, Reason};
+use luks_cli::{BackingUp, Command, InputFault, Line, Reason};
+use luks_keeping::backup_length;
 use luks_lock::{FOLDER, Host, LockedDevice, OpenFault, is_same_file, open_locked};
 use luks_request::Place;
 use luks_window::Window;
@@ -31,7 +34,7 @@ pub(crate) const WHOLE: Place = Place {
 pub(crate) struct Volumes {
     /// The volume.
     pub(crate) volume: Result<Volume, InputFault>,
-    /// What is written beside it.
+    /// What is opened beside it.
     pub(crate) target: Result<Volume, InputFault>,
 }
 
@@ -48,11 +51,12 @@ impl Volumes {
     }
 }
 
-/// Opens the volume, and then the target where the command writes beside it; neither where a passphrase has
-/// ended the command, and no target where the volume can't be opened. Where the target is the volume itself, by whichever names, nothing is opened. Each is
-/// locked as what it is opened for.
+/// Opens the volume, and then what the command writes or reads beside it; neither where a passphrase has
+/// ended the command, and nothing beside a volume that can't be opened. Where both are one file, by
+/// whichever names, nothing is opened. Each is locked as what it is opened for.
 pub(crate) fn open_volumes<R: AllocGlobal + Clock + Files<File = File>>(
     rt: &R,
+    line: &Line<'_>,
     openings: &Openings<'_>,
     ended: bool,
     notes: &mut Vec<u8>,
@@ -61,42 +65,79 @@ pub(crate) fn open_volumes<R: AllocGlobal + Clock + Files<File = File>>(
     ensures target { IfOk result.target (λ device. cached_failures device ≡ 0) }
     ensures volume_share { IfOk result.volume (λ device.
         (lock_of (behind (device_behind device))).share ≡ share_for openings.now.volume.writes) }
-    ensures target_share { IfSome openings.now.target (λ opening. IfOk result.target (λ device.
+    ensures target_share { IfSome (beside_of openings.now) (λ opening. IfOk result.target (λ device.
         (lock_of (behind (device_behind device))).share ≡ share_for opening.writes)) }
     ensures ended { IsTrue ended → IsErr result.volume }
-    ensures same { IfSome openings.now.target (λ opening.
+    ensures same { IfSome (beside_of openings.now) (λ opening.
         opening.name.now ≡ openings.now.volume.name.now → IsErr result.volume × IsErr result.target) }
-    ensures beside { openings.now.target ≡ None → result.target ≡ Err InputFault.Absent }
+    ensures beside { beside_of openings.now ≡ None → result.target ≡ Err InputFault.Absent }
 {
     if ended {
         return Volumes::unopened(InputFault::Absent);
     }
-    let Some(target) = openings.target else {
+    let Some(beside) = openings.beside() else {
         return Volumes {
             volume: open_volume(rt, openings.volume, openings.place, notes),
             target: Err(InputFault::Absent),
         };
     };
-    if is_same_file(&mut Host::new(rt), openings.volume.name, target.name) {
+    if is_same_file(&mut Host::new(rt), openings.volume.name, beside.name) {
         return Volumes::unopened(InputFault::Unreadable(Reason::SameFile));
     }
-    let volume = open_volume(rt, openings.volume, openings.place, notes);
-    if volume.is_err() {
-        return Volumes {
-            volume,
-            target: Err(InputFault::Absent),
-        };
+    if holds_something(rt, line) {
+        return Volumes::unopened(InputFault::Unreadable(Reason::Exists));
     }
+    let volume = open_volume(rt, openings.volume, openings.place, notes);
+    let room = match &volume {
+        Ok(_) => room_beside(rt, line),
+        Err(_) => Err(InputFault::Absent),
+    };
     Volumes {
         volume,
-        target: open_volume(rt, target, WHOLE, notes),
+        target: match room {
+            Ok(()) => open_volume(rt, beside, WHOLE, notes),
+            Err(fault) => Err(fault),
+        },
     }
+}
+
+/// Whether a backup is to be made over something that isn't to be written over.
+fn holds_something<R: Files<File = File>>(rt: &R, line: &Line<'_>) -> bool {
+    match line.command {
+        Command::Backup(backing_up) => !backing_up.over && is_taken(rt, backing_up.target),
+        _ => false,
+    }
+}
+
+/// Makes room for a backup of the volume, where that is what is asked for; none where its header isn't
+/// accepted, which the command finds then.
+fn room_beside<R: AllocGlobal + Clock + Files<File = File>>(
+    rt: &R,
+    line: &Line<'_>,
+) -> Result<(), InputFault> {
+    let Command::Backup(backing_up) = line.command else {
+        return Ok(());
+    };
+    let length = length_of_backup(rt, line, &backing_up).ok_or(InputFault::Absent)?;
+    Ok(make_room(rt, backing_up.target, length)?)
+}
+
+/// How many bytes the backup has; none where the volume can't be looked at, or its header isn't accepted.
+/// It isn't inlined, so that it takes no stack beside the command.
+#[inline(never)]
+fn length_of_backup<R: AllocGlobal + Clock + Files<File = File>>(
+    rt: &R,
+    line: &Line<'_>,
+    backing_up: &BackingUp<'_>,
+) -> Option<u64> {
+    let mut device = reopened(rt, line.volume, line.place)?;
+    backup_length(rt.alloc(), &mut device, backing_up.data_).ok()
 }
 
 /// The volume of this name, opened under its lock, at this place of its file; what of the lock isn't held is
 /// noted. Its first bytes are remembered, so that an edit, which looks at the header to know how many random bytes it takes and then to
 /// do it, reads it once.
-fn open_volume<R: AllocGlobal + Clock + Files<File = File>>(
+pub(crate) fn open_volume<R: AllocGlobal + Clock + Files<File = File>>(
     rt: &R,
     opening: Opening<'_>,
     place: Place,

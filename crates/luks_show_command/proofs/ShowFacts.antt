@@ -30,8 +30,8 @@ use Rattle.luks_request.specs.declared.request.ShowAs.TheVariants.{Lines, All, M
 use Rattle.luks_map.specs.Map.{IsMap}
 use Rattle.luks_show.specs.declared.listing.Listing.TheVariants.{Luks1, Luks2}
 use Rattle.luks_commands.specs.declared.answers.Answer.{Answer}
-use Rattle.luks_commands.specs.declared.answers.Answer.TheVariants.{Accepted, Listed, ListedFully, Mapped, Json, Opens, Closed, NoneOpens, Done, Refused, DeviceFault, NoMemory}
-use Rattle.luks_commands.specs.declared.answers.Refusal.TheVariants.{LongPassphrase, Check, Open, Edit, Format, Convert, Rebuild, SameFile, OtherUse}
+use Rattle.luks_commands.specs.declared.answers.Answer.TheVariants.{Accepted, Listed, ListedFully, Mapped, Json, Opens, Closed, NoneOpens, Done, Compared, Refused, DeviceFault, NoMemory}
+use Rattle.luks_commands.specs.declared.answers.Refusal.TheVariants.{LongPassphrase, Check, Open, Edit, Format, Convert, Rebuild, Backup, Restore, SameFile, Exists, OtherUse}
 use Rattle.luks_commands.specs.Answer.{check_fault_answer}
 use Rattle.luks_show_command.specs.ShowAnswers.{IsBeforeAreas, IsAsJson, IsAsMap, IsFirstShowFault, IsFullAnswer, IsInFull, IsJsonAnswer, IsListedAnswer, IsMapAnswer, IsShowAnswer, IsShowFault, IsShown, IsShownAs}
 
@@ -125,6 +125,7 @@ json_answer tells v before after (Listed listing) (Opens n) made is = absurd mad
 json_answer tells v before after (Listed listing) (Closed n) made is = absurd made
 json_answer tells v before after (Listed listing) NoneOpens made is = absurd made
 json_answer tells v before after (Listed listing) (Done slot) made is = absurd made
+json_answer tells v before after (Listed listing) (Compared comparison) made is = absurd made
 json_answer tells v before after (Listed listing) (Refused by_) made is = absurd made
 json_answer tells v before after (Listed listing) DeviceFault made is = absurd made
 json_answer tells v before after (Accepted version areas) a made is = absurd is
@@ -135,6 +136,7 @@ json_answer tells v before after (Opens n) a made is = absurd is
 json_answer tells v before after (Closed n) a made is = absurd is
 json_answer tells v before after NoneOpens a made is = absurd is
 json_answer tells v before after (Done slot) a made is = absurd is
+json_answer tells v before after (Compared comparison) a made is = absurd is
 json_answer tells v before after (Refused (Check f)) a made is = subst (IsJsonAnswer tells v before after) (sym made) is
 json_answer tells v before after (Refused LongPassphrase) a made is = absurd is
 json_answer tells v before after (Refused (Open f)) a made is = absurd is
@@ -142,7 +144,10 @@ json_answer tells v before after (Refused (Edit f)) a made is = absurd is
 json_answer tells v before after (Refused (Format f)) a made is = absurd is
 json_answer tells v before after (Refused (Convert f)) a made is = absurd is
 json_answer tells v before after (Refused (Rebuild f)) a made is = absurd is
+json_answer tells v before after (Refused (Backup f)) a made is = absurd is
+json_answer tells v before after (Refused (Restore f)) a made is = absurd is
 json_answer tells v before after (Refused SameFile) a made is = absurd is
+json_answer tells v before after (Refused Exists) a made is = absurd is
 json_answer tells v before after (Refused (OtherUse found)) a made is = absurd is
 json_answer tells v before after DeviceFault a made is = subst (IsJsonAnswer tells v before after) (sym made) is
 json_answer tells v before after NoMemory a made is = subst (IsJsonAnswer tells v before after) (sym made) is.0
@@ -160,6 +165,7 @@ full_answer tells v before after (Opens n) a made is = absurd is
 full_answer tells v before after (Closed n) a made is = absurd is
 full_answer tells v before after NoneOpens a made is = absurd is
 full_answer tells v before after (Done slot) a made is = absurd is
+full_answer tells v before after (Compared comparison) a made is = absurd is
 full_answer tells v before after (Refused (Check f)) a made is = subst (IsFullAnswer tells v before after) (sym made) is
 full_answer tells v before after (Refused LongPassphrase) a made is = absurd is
 full_answer tells v before after (Refused (Open f)) a made is = absurd is
@@ -167,7 +173,10 @@ full_answer tells v before after (Refused (Edit f)) a made is = absurd is
 full_answer tells v before after (Refused (Format f)) a made is = absurd is
 full_answer tells v before after (Refused (Convert f)) a made is = absurd is
 full_answer tells v before after (Refused (Rebuild f)) a made is = absurd is
+full_answer tells v before after (Refused (Backup f)) a made is = absurd is
+full_answer tells v before after (Refused (Restore f)) a made is = absurd is
 full_answer tells v before after (Refused SameFile) a made is = absurd is
+full_answer tells v before after (Refused Exists) a made is = absurd is
 full_answer tells v before after (Refused (OtherUse found)) a made is = absurd is
 full_answer tells v before after DeviceFault a made is = subst (IsFullAnswer tells v before after) (sym made) is
 full_answer tells v before after NoMemory a made is = subst (IsFullAnswer tells v before after) (sym made) is
@@ -186,6 +195,7 @@ map_answer total tells v before after (Opens n) a long made is = absurd is
 map_answer total tells v before after (Closed n) a long made is = absurd is
 map_answer total tells v before after NoneOpens a long made is = absurd is
 map_answer total tells v before after (Done slot) a long made is = absurd is
+map_answer total tells v before after (Compared comparison) a long made is = absurd is
 map_answer total tells v before after (Refused (Check f)) a long made is = subst (IsMapAnswer tells v before after) (sym made) is
 map_answer total tells v before after (Refused LongPassphrase) a long made is = absurd is
 map_answer total tells v before after (Refused (Open f)) a long made is = absurd is
@@ -193,7 +203,10 @@ map_answer total tells v before after (Refused (Edit f)) a long made is = absurd
 map_answer total tells v before after (Refused (Format f)) a long made is = absurd is
 map_answer total tells v before after (Refused (Convert f)) a long made is = absurd is
 map_answer total tells v before after (Refused (Rebuild f)) a long made is = absurd is
+map_answer total tells v before after (Refused (Backup f)) a long made is = absurd is
+map_answer total tells v before after (Refused (Restore f)) a long made is = absurd is
 map_answer total tells v before after (Refused SameFile) a long made is = absurd is
+map_answer total tells v before after (Refused Exists) a long made is = absurd is
 map_answer total tells v before after (Refused (OtherUse found)) a long made is = absurd is
 map_answer total tells v before after DeviceFault a long made is = subst (IsMapAnswer tells v before after) (sym made) is
 map_answer total tells v before after NoMemory a long made is = subst (IsMapAnswer tells v before after) (sym made) is

@@ -1,0 +1,70 @@
+-- What `backup` leaves and answers, by what it met.
+use Rattle.std.proofs.Common.{◌≡◌, ◌≢◌, List, ℕ, Result, Ok, Err, false, refl, ap}
+use Rattle.luks_area.specs.Device.{count_after}
+use Rattle.luks_copying.specs.TwoDevices.{CountsAfter}
+use Rattle.luks_reading.specs.declared.report.Data.{Data}
+use Rattle.luks_keeping.specs.BackupFaults.{is_backup_failure, IsAnsweredBackup}
+use Rattle.luks_keeping.specs.declared.backup_fault.BackupFault.{BackupFault}
+use Rattle.luks_keeping.specs.declared.backup_fault.BackupFault.TheVariants.{Memory, Device}
+use Rattle.luks_commands.specs.declared.answers.Answer.{Answer}
+use Rattle.luks_commands.specs.declared.answers.Status.TheVariants.{NotInStep}
+use Rattle.luks_commands.specs.declared.inputs.InputFault.{InputFault}
+use Rattle.luks_commands.specs.declared.inputs.InputFault.TheVariants.{Absent, Unreadable, NoMemory}
+use Rattle.luks_commands.specs.declared.inputs.Reason.{Reason}
+use Rattle.luks_commands.specs.declared.inputs.Reason.TheVariants as reason
+use Rattle.luks_commands.specs.Answer.{answer_status, backup_fault_answer, unread_answer}
+use Rattle.luks_keeping_commands.specs.BackingUp.{AnswersBackup, IsBackupAnswer, IsNotKept, IsWithoutFile, KeepsRest}
+use Rattle.luks_keeping_commands.specs.TwoFiles.{Pair}
+
+-- a file that no call was made on has kept its rest
+pub keeps_same : (payload : Data) (volume file : List ℕ) → KeepsRest payload volume file file
+keeps_same payload volume file = record { length_same = refl; each = λ p apart. refl }
+
+-- a fault that isn't a device's left the file as it was
+pub answers_fault : (tells : Type 0) (payload : Data) (d : Pair) (f : BackupFault)
+    → CountsAfter (is_backup_failure f) d.source_before d.source_after d.before d.after
+    → (is_backup_failure f ≡ false → tells → d.new ≡ d.old) → (tells → IsAnsweredBackup d.source payload d.total f)
+    → IsBackupAnswer tells payload d (backup_fault_answer f)
+answers_fault tells payload d Device count same is = count
+answers_fault tells payload d Memory count same is = (count, same refl, is)
+answers_fault tells payload d f count same is = (count, same refl, is)
+
+-- the same without a file
+pub lacks_backup : (tells : Type 0) (payload : Data) (v : List ℕ) (before after : ℕ) (f : BackupFault)
+    → after ≡ count_after (is_backup_failure f) before → (tells → IsAnsweredBackup v payload 18446744073709551615 f)
+    → IsNotKept tells payload v before after (backup_fault_answer f)
+lacks_backup tells payload v before after Device count is = count
+lacks_backup tells payload v before after Memory count is = (count, is)
+lacks_backup tells payload v before after f count is = (count, is)
+
+-- no fault tells of copies out of step
+pub fault_kinds : (f : BackupFault) → answer_status (backup_fault_answer f) ≢ NotInStep
+fault_kinds Device = λ e. cc
+fault_kinds Memory = λ e. cc
+fault_kinds f = λ e. cc
+
+-- ---- of a file that wasn't found to be there and not empty
+
+module _ {D : Type 0} (tells : Type 0) (size : D → ℕ) (bytes : D → List ℕ) (failed : D → ℕ) (payload : Data) (new : Result D InputFault) (a : Answer) where
+  with_reason : (v w : D) (r : Reason) → (r ≡ reason.Exists → ⊥) → IsWithoutFile tells payload (bytes v) (failed v) (failed w) (Unreadable r) a
+      → AnswersBackup tells size bytes failed payload (Ok v) (Ok w) (Err (Unreadable r)) new a
+  with_reason v w reason.Exists other is = absurd (other refl)
+  with_reason v w r other is = is
+
+  pub without_file : (v w : D) (f : InputFault) → (f ≡ Unreadable reason.Exists → ⊥) → IsWithoutFile tells payload (bytes v) (failed v) (failed w) f a
+      → AnswersBackup tells size bytes failed payload (Ok v) (Ok w) (Err f) new a
+  without_file v w Absent other is = is
+  without_file v w (Unreadable r) other is = with_reason v w r (λ e. other (ap Unreadable e)) is
+  without_file v w NoMemory other is = is
+
+  volume_missed : (missed : InputFault) (volume_new : Result D InputFault) (r : Reason) → (r ≡ reason.Exists → ⊥) → a ≡ unread_answer missed
+      → AnswersBackup tells size bytes failed payload (Err missed) volume_new (Err (Unreadable r)) new a
+  volume_missed missed volume_new reason.Exists other is = absurd (other refl)
+  volume_missed missed volume_new r other is = is
+
+  pub without_volume : (missed : InputFault) (volume_new old : Result D InputFault) → (old ≡ Err (Unreadable reason.Exists) → ⊥) → a ≡ unread_answer missed
+      → AnswersBackup tells size bytes failed payload (Err missed) volume_new old new a
+  without_volume missed volume_new (Ok d) other is = is
+  without_volume missed volume_new (Err Absent) other is = is
+  without_volume missed volume_new (Err (Unreadable r)) other is = volume_missed missed volume_new r (λ e. other (ap (λ q. Err (Unreadable q)) e)) is
+  without_volume missed volume_new (Err NoMemory) other is = is

@@ -1,0 +1,3 @@
+pub mod BackupFacts
+pub mod RestoreFacts
+pub mod CompareFacts

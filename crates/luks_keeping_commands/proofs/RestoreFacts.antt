@@ -1,0 +1,97 @@
+-- What `restore` leaves and answers, by what it met.
+use Rattle.std.proofs.Common.{◌≡◌, ◌≢◌, ◌⊎◌, inl, inr, List, ℕ, false, refl, sym, subst, ◌∙◌, length}
+use Rattle.luks_area.specs.Ranges.{part, SameBut}
+use Rattle.luks_area.specs.declared.area.Area.{Area}
+use Rattle.luks_copying.specs.TwoDevices.{CountsAfter, IsOneFailure}
+use Rattle.luks_head.specs.Selection.{Choice, Chosen}
+use Rattle.luks_reading.specs.declared.report.Data.{Data}
+use Rattle.luks_keeping.specs.RestoreFaults.{is_restore_failure, CanRestore, IsAnsweredRestore}
+use Rattle.luks_keeping.specs.Restored.{IsOfRestored, IsSegmentOn, RestoresInTurn}
+use Rattle.luks_keeping.specs.declared.over.Over.{Over}
+use Rattle.luks_keeping.specs.declared.restore_fault.RestoreFault.{RestoreFault}
+use Rattle.luks_keeping.specs.declared.restore_fault.RestoreFault.TheVariants.{NotAccepted, DoesNotFit, OtherVolume, Memory, Device}
+use Rattle.luks_commands.specs.declared.answers.Answer.{Answer}
+use Rattle.luks_commands.specs.declared.answers.Answer.TheVariants.{Done, Refused, DeviceFault, NoMemory}
+use Rattle.luks_commands.specs.declared.answers.Refusal.TheVariants.{Restore}
+use Rattle.luks_commands.specs.declared.answers.Status.TheVariants.{NotInStep}
+use Rattle.luks_commands.specs.Answer.{answer_status, restore_fault_answer}
+use Rattle.luks_keeping_commands.specs.Restoring.{IsNewVolume, IsRestoreAnswer, KeepsRest}
+use Rattle.luks_keeping_commands.specs.TwoFiles.{Pair}
+
+-- ---- the volume
+
+-- one that no call was made on has kept its rest
+pub keeps_same : (payload : Data) (backup volume : List ℕ) → KeepsRest payload backup volume volume
+keeps_same payload backup volume = record {
+  outside = record { length_same = refl; each = λ p apart. refl };
+  segments = λ n a is. refl;
+  order = λ c chosen. inl (record { length_same = refl; each = λ p apart. refl });
+}
+
+pub keeps_equal : (payload : Data) (backup old new : List ℕ) → new ≡ old → KeepsRest payload backup old new
+keeps_equal payload backup old new same = subst (λ (l : List ℕ). KeepsRest payload backup old l) (sym same) (keeps_same payload backup old)
+
+-- a device of so many bytes
+pub keeps_rest : (payload : Data) (b old new : List ℕ) (total : ℕ) → length old ≡ total → SameBut (IsOfRestored b) old new
+    → ((n : ℕ) (a : Area) → IsSegmentOn b payload total n a → part new a.start a.len ≡ part old a.start a.len)
+    → ((c : Choice) → Chosen b c → RestoresInTurn b c old new) → KeepsRest payload b old new
+keeps_rest payload b old new total long outside segments order = record {
+  outside = outside;
+  segments = λ n a is. segments n a (subst (λ (l : ℕ). IsSegmentOn b payload l n a) long is);
+  order = order;
+}
+
+-- where both were as they are before
+pub keeps_after : (payload : Data) (b c old mid new : List ℕ) → c ≡ b → mid ≡ old → KeepsRest payload c mid new → KeepsRest payload b old new
+keeps_after payload b c old mid new backup volume x =
+    subst (λ (l : List ℕ). KeepsRest payload l old new) backup (subst (λ (l : List ℕ). KeepsRest payload c l new) volume x)
+
+-- ---- the answers
+
+-- a fault that isn't a device's left the volume as it was
+pub answers_fault : (tells : Type 0) (payload : Data) (over : Over) (d : Pair) (f : RestoreFault)
+    → CountsAfter (is_restore_failure f) d.source_before d.source_after d.before d.after
+    → (is_restore_failure f ≡ false → tells → d.new ≡ d.old) → (tells → IsAnsweredRestore d.source d.old payload over f)
+    → IsRestoreAnswer tells payload over d (restore_fault_answer f)
+answers_fault tells payload over d Device count same is = count
+answers_fault tells payload over d Memory count same is = (count, same refl, is)
+answers_fault tells payload over d f count same is = (count, same refl, is)
+
+pub fault_kinds : (f : RestoreFault) → answer_status (restore_fault_answer f) ≢ NotInStep
+fault_kinds Device = λ e. cc
+fault_kinds Memory = λ e. cc
+fault_kinds f = λ e. cc
+
+-- what was answered of two devices that calls before it changed nothing of
+module _
+    (tells : Type 0) (payload : Data) (over : Over) (b c old mid new : List ℕ) (total between s r t u v w : ℕ)
+    (source : tells → c ≡ b) (volume : tells → mid ≡ old) (one : r ≡ s) (two : v ≡ u)
+  where
+    first : Pair
+    first = record { source = b; total = total; old = old; new = new; source_before = s; source_after = t; before = u; after = w }
+
+    then : Pair
+    then = record { source = c; total = between; old = mid; new = new; source_before = r; source_after = t; before = v; after = w }
+
+    lifted : (P : List ℕ → List ℕ → Type 0) → (tells → P c mid) → tells → P b old
+    lifted P x told = subst (λ (l : List ℕ). P l old) (source told) (subst (λ (l : List ℕ). P c l) (volume told) (x told))
+
+    none_after : (t ≡ r) × (w ≡ v) → (t ≡ s) × (w ≡ u)
+    none_after x = (x.0 ∙ one, x.1 ∙ two)
+
+    same_after : (tells → new ≡ mid) → tells → new ≡ old
+    same_after x told = x told ∙ volume told
+
+    refused_after : (f : RestoreFault) → IsRestoreAnswer tells payload over then (Refused (Restore f)) → IsRestoreAnswer tells payload over first (Refused (Restore f))
+    refused_after (NotAccepted g) x = (none_after x.0, same_after x.1, lifted (λ k l. IsAnsweredRestore k l payload over (NotAccepted g)) x.2)
+    refused_after (DoesNotFit g) x = (none_after x.0, same_after x.1, lifted (λ k l. IsAnsweredRestore k l payload over (DoesNotFit g)) x.2)
+    refused_after OtherVolume x = (none_after x.0, same_after x.1, lifted (λ k l. IsAnsweredRestore k l payload over OtherVolume) x.2)
+    refused_after Memory x = x
+    refused_after Device x = x
+
+    pub answer_after : (a : Answer) → IsRestoreAnswer tells payload over then a → IsRestoreAnswer tells payload over first a
+    answer_after (Done slot) x = (none_after x.0, x.1, lifted (λ k l. CanRestore k l payload over) x.2, lifted (λ k l. IsNewVolume payload k l new) x.3)
+    answer_after (Refused (Restore f)) x = refused_after f x
+    answer_after DeviceFault x = subst (λ (n : ℕ). IsOneFailure n t u w) one (subst (λ (n : ℕ). IsOneFailure r t n w) two x)
+    answer_after NoMemory x = (none_after x.0, same_after x.1, lifted (λ k l. IsAnsweredRestore k l payload over Memory) x.2)
+    answer_after a x = absurd x

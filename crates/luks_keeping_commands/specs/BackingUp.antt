@@ -1,0 +1,83 @@
+-- What the command `backup` leaves of its file, and what it may answer.
+use Rattle.std.specs.Prelude.{◌≡◌, ◌⊎◌, ◌↔◌, ℕ, ◌+◌, List, None, Result, Ok, Err}
+use Rattle.luks_area.specs.Ranges.{SameBut}
+use Rattle.luks_copying.specs.TwoDevices.{IsOneFailure}
+use Rattle.luks_reading.specs.Answer.{AnswerWithin, Opened}
+use Rattle.luks_reading.specs.Checked.{WellFormed}
+use Rattle.luks_reading.specs.Header.{NeedsMetadata}
+use Rattle.luks_reading.specs.declared.report.Data.{Data}
+use Rattle.luks_reading.specs.declared.report.Data.TheVariants.{Elsewhere}
+use Rattle.luks_keeping.specs.Backup.{IsBackup}
+use Rattle.luks_keeping.specs.BackupFaults.{CanBackUp, IsAnsweredBackup, IsOfBackup}
+use Rattle.luks_keeping.specs.declared.backup_fault.BackupFault.TheVariants as fault
+use Rattle.luks_request.specs.declared.keeping.BackingUp.{BackingUp}
+use Rattle.luks_request.specs.declared.request.Command.{Command}
+use Rattle.luks_request.specs.declared.request.Command.TheVariants as command
+use Rattle.luks_commands.specs.declared.answers.Answer.{Answer}
+use Rattle.luks_commands.specs.declared.answers.Answer.TheVariants.{Done, Refused, DeviceFault, NoMemory}
+use Rattle.luks_commands.specs.declared.answers.Refusal.TheVariants.{Backup, Exists}
+use Rattle.luks_commands.specs.declared.inputs.InputFault.{InputFault}
+use Rattle.luks_commands.specs.declared.inputs.InputFault.TheVariants.{Unreadable}
+use Rattle.luks_commands.specs.declared.inputs.Reason.TheVariants as reason
+use Rattle.luks_commands.specs.Answer.{unread_answer}
+use Rattle.luks_keeping_commands.specs.TwoFiles.{pair_of, NoneFailed, Pair}
+
+-- ---- the backup that is made
+
+-- `new` is the file `old` after the backup of the volume `v` was written to it
+pub record IsNewBackup (v : List ℕ) (payload : Data) (old new : List ℕ) : Type 0 where
+  pub backup : IsBackup v payload old new
+  pub well_formed : WellFormed new Elsewhere
+  -- each keyslot answers each passphrase as it did
+  pub answers : (memory n : ℕ) (p : List ℕ) (a : Opened) → AnswerWithin memory v n p a ↔ AnswerWithin memory new n p a
+
+-- which bytes of the file may have changed, whatever is answered: those of the backup
+abbrev pub KeepsRest : Data → List ℕ → List ℕ → List ℕ → Type 0
+KeepsRest payload volume old new = SameBut (IsOfBackup volume payload) old new
+
+-- ---- what is answered
+
+-- where both files are there; `device fault` comes exactly where a call of one of the two failed
+abbrev pub IsBackupAnswer : Type 0 → Data → Pair → Answer → Type 0
+IsBackupAnswer tells payload d (Done slot) = NoneFailed d × (slot ≡ None)
+    × (tells → CanBackUp d.source payload d.total) × (tells → IsNewBackup d.source payload d.old d.new)
+IsBackupAnswer tells payload d (Refused (Backup fault.Device)) = ⊥
+IsBackupAnswer tells payload d (Refused (Backup fault.Memory)) = ⊥
+IsBackupAnswer tells payload d (Refused (Backup f)) = NoneFailed d × (tells → d.new ≡ d.old)
+    × (tells → IsAnsweredBackup d.source payload d.total f)
+IsBackupAnswer tells payload d DeviceFault = IsOneFailure d.source_before d.source_after d.before d.after
+IsBackupAnswer tells payload d NoMemory = NoneFailed d × (tells → d.new ≡ d.old)
+    × (tells → IsAnsweredBackup d.source payload d.total fault.Memory)
+IsBackupAnswer tells payload d a = ⊥
+
+-- why there is no backup of the volume `v`, of which so many calls had failed before and after, on however
+-- large a file
+abbrev pub IsNotKept : Type 0 → Data → List ℕ → ℕ → ℕ → Answer → Type 0
+IsNotKept tells payload v before after (Refused (Backup fault.Device)) = ⊥
+IsNotKept tells payload v before after (Refused (Backup fault.Memory)) = ⊥
+IsNotKept tells payload v before after (Refused (Backup f)) = (after ≡ before) × (tells → IsAnsweredBackup v payload 18446744073709551615 f)
+IsNotKept tells payload v before after DeviceFault = after ≡ before + 1
+IsNotKept tells payload v before after NoMemory = (after ≡ before) × (tells → NeedsMetadata v)
+IsNotKept tells payload v before after a = ⊥
+
+-- where the file isn't there by this fault: the volume is looked at first
+abbrev pub IsWithoutFile : Type 0 → Data → List ℕ → ℕ → ℕ → InputFault → Answer → Type 0
+IsWithoutFile tells payload v before after missed a = IsNotKept tells payload v before after a
+    ⊎ ((after ≡ before) × (tells → WellFormed v payload) × (a ≡ unread_answer missed))
+
+-- of the volume and the file before the command and after it, where they aren't one: a file that is there and
+-- isn't empty refuses it before the volume is opened
+abbrev pub AnswersBackup : {D : Type 0} → Type 0 → (D → ℕ) → (D → List ℕ) → (D → ℕ) → Data
+    → Result D InputFault → Result D InputFault → Result D InputFault → Result D InputFault → Answer → Type 0
+AnswersBackup {D} tells size bytes failed payload volume volume_new (Err (Unreadable reason.Exists)) new a = a ≡ Refused Exists
+AnswersBackup {D} tells size bytes failed payload (Ok volume) (Ok volume_new) (Ok old) (Ok new) a =
+    IsBackupAnswer tells payload (pair_of size bytes failed volume volume_new old new) a
+AnswersBackup {D} tells size bytes failed payload (Ok volume) (Ok volume_new) (Err missed) new a =
+    IsWithoutFile tells payload (bytes volume) (failed volume) (failed volume_new) missed a
+AnswersBackup {D} tells size bytes failed payload (Err missed) volume_new old new a = a ≡ unread_answer missed
+AnswersBackup {D} tells size bytes failed payload volume volume_new old new a = ⊥
+
+-- what holds of the command where it is `backup`
+abbrev pub WhereBackup : Command → (BackingUp → Type 0) → Type 0
+WhereBackup (command.Backup backing_up) holds = holds backing_up
+WhereBackup _ holds = Unit {0}

@@ -1,0 +1,4 @@
+pub mod TwoFiles
+pub mod BackingUp
+pub mod Restoring
+pub mod Comparing

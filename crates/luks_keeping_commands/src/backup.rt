@@ -1,0 +1,180 @@
+//! The command `backup`.
+ghost use Rattle.std.specs.Prelude.{◌≡◌, ◌≢◌, ◌↔◌, ◌+◌, ◌<◌, ◌^◌, Err, IfErr, IsTrue};
+ghost use Rattle.std.specs.Result.{ForOk};
+ghost use Rattle.luks_area.specs.Device.{IsSettled, IsUnchanged};
+ghost use Rattle.luks_commands.specs.Answer.{answer_status, backup_fault_answer, Prints};
+ghost use Rattle.luks_commands.specs.Exit.{IsExitStatus};
+ghost use Rattle.luks_commands.specs.Files.{KeepsVolume};
+ghost use Rattle.luks_commands.specs.declared.inputs.InputFault.TheVariants.{Unreadable};
+ghost use Rattle.luks_commands.specs.declared.inputs.Reason.TheVariants as reason;
+ghost use Rattle.luks_header_commands.specs.Target.{AreOneFile, IsSameFile, LeavesTarget, SettlesTarget};
+ghost use Rattle.luks_keeping_commands.specs.BackingUp.{AnswersBackup, IsBackupAnswer, IsWithoutFile, KeepsRest};
+ghost use Rattle.luks_keeping_commands.specs.TwoFiles.{pair_of};
+
+use crate::one_file::are_one_file;
+use luks_commands::{
+    Answer, InputFault, Inputs, Printer, Reason, Refusal, Status, device_fault, end, unread,
+};
+use luks_keeping::{BackupFault, backup, backup_length};
+use luks_reading::{Data, Device};
+use luks_request::BackingUp;
+use std::alloc::Global;
+use std::io::{Read, Write};
+
+/// Writes a backup of the header of the volume of this name to the target, and prints that it is done;
+/// answers the exit status. Where the target isn't there, since it isn't made for a volume that isn't
+/// accepted, that is what is printed.
+pub fn run<D: Device, R: Read, N: Read, P: Printer, E: Write>(
+    alloc: Global,
+    inputs: &mut Inputs<D, R, N>,
+    name: &str,
+    backing_up: &BackingUp<'_>,
+    out: &mut P,
+    err: &mut E,
+) -> u8
+    requires volume_room { ForOk inputs.old.volume (λ d. D.failed d + 1 < 2 ^ 64) }
+    requires target_room { ForOk inputs.old.target (λ d. D.failed d + 1 < 2 ^ 64) }
+    requires printer { P.failures out.old + 1 < 2 ^ 64 }
+    requires settled { D.tells → ForOk inputs.old.target (IsSettled D.unsettled) }
+    ensures unchanged { KeepsVolume D.tells D.size D.bytes D.unsettled
+        inputs.old.volume inputs.new.volume }
+    ensures rest { LeavesTarget D.tells D.size D.bytes (KeepsRest backing_up.now.data_)
+        inputs.old.volume inputs.old.target inputs.new.target }
+    ensures settled { SettlesTarget D.tells D.failed D.unsettled
+        inputs.old.volume inputs.new.volume inputs.old.target inputs.new.target }
+    ensures status { IsExitStatus result }
+    ensures kinds { result ≢ 3 }
+    ensures unread { IfErr inputs.old.volume (λ _. result ≢ 0) }
+    ensures same { AreOneFile name.now backing_up.now.target.now inputs.old.target
+        → (inputs.new ≡ inputs.old) × Prints IsSameFile
+        (P.failures out.old) (P.failures out.new) (P.printed out.old) (P.printed out.new) result }
+    ensures answers { (AreOneFile name.now backing_up.now.target.now inputs.old.target → ⊥)
+        → Prints (AnswersBackup D.tells D.size D.bytes D.failed backing_up.now.data_
+        inputs.old.volume inputs.new.volume inputs.old.target inputs.new.target)
+        (P.failures out.old) (P.failures out.new) (P.printed out.old) (P.printed out.new) result }
+{
+    let answer = answer(alloc, inputs, name, backing_up, err);
+    end(&answer, out)
+}
+
+/// Makes the backup, or answers why not.
+#[tactic(auto, using(luks_commands::proofs::FileFacts::keeps_same, luks_header_commands::proofs::TargetFacts::leaves_same, luks_header_commands::proofs::TargetFacts::settles_same))]
+fn answer<D: Device, R: Read, N: Read, E: Write>(
+    alloc: Global,
+    inputs: &mut Inputs<D, R, N>,
+    name: &str,
+    backing_up: &BackingUp<'_>,
+    err: &mut E,
+) -> Answer
+    requires volume_room { ForOk inputs.old.volume (λ d. D.failed d + 1 < 2 ^ 64) }
+    requires target_room { ForOk inputs.old.target (λ d. D.failed d + 1 < 2 ^ 64) }
+    requires settled { D.tells → ForOk inputs.old.target (IsSettled D.unsettled) }
+    ensures unchanged { KeepsVolume D.tells D.size D.bytes D.unsettled
+        inputs.old.volume inputs.new.volume }
+    ensures rest { LeavesTarget D.tells D.size D.bytes (KeepsRest backing_up.now.data_)
+        inputs.old.volume inputs.old.target inputs.new.target }
+    ensures settled { SettlesTarget D.tells D.failed D.unsettled
+        inputs.old.volume inputs.new.volume inputs.old.target inputs.new.target }
+    ensures kinds { answer_status result ≢ Status.NotInStep }
+    ensures unread { IfErr inputs.old.volume (λ _. answer_status result ≢ Status.Done) }
+    ensures same { AreOneFile name.now backing_up.now.target.now inputs.old.target
+        → (inputs.new ≡ inputs.old) × IsSameFile result }
+    ensures answers { (AreOneFile name.now backing_up.now.target.now inputs.old.target → ⊥)
+        → AnswersBackup D.tells D.size D.bytes D.failed backing_up.now.data_
+        inputs.old.volume inputs.new.volume inputs.old.target inputs.new.target result }
+{
+    if are_one_file(name, backing_up.target, &inputs.target) {
+        return Answer::Refused(Refusal::SameFile);
+    }
+    if is_kept_from(&inputs.target) {
+        return Answer::Refused(Refusal::Exists);
+    }
+    let volume = match &mut inputs.volume {
+        Ok(device) => device,
+        Err(fault) => return unread(*fault, name, err),
+    };
+    match &mut inputs.target {
+        Ok(target) => back_up(alloc, volume, name, target, backing_up, err),
+        Err(fault) => without_file(alloc, volume, name, *fault, backing_up, err),
+    }
+}
+
+/// Whether the target was found to be there, and not empty.
+fn is_kept_from<D>(target: &Result<D, InputFault>) -> bool
+    ensures { IsTrue result ↔ (target.now ≡ Err (Unreadable reason.Exists)) }
+{
+    matches!(target, Err(InputFault::Unreadable(Reason::Exists)))
+}
+
+/// Makes the backup on a target that is there.
+fn back_up<D: Device, E: Write>(
+    alloc: Global,
+    volume: &mut D,
+    name: &str,
+    target: &mut D,
+    backing_up: &BackingUp<'_>,
+    err: &mut E,
+) -> Answer
+    requires volume_room { D.failed volume.old + 1 < 2 ^ 64 }
+    requires target_room { D.failed target.old + 1 < 2 ^ 64 }
+    requires settled { D.tells → IsSettled D.unsettled target.old }
+    ensures unchanged { IsUnchanged D.tells D.size D.bytes D.unsettled volume.old volume.new }
+    ensures size { D.size target.new ≡ D.size target.old }
+    ensures rest { D.tells → KeepsRest backing_up.now.data_ (D.bytes volume.old)
+        (D.bytes target.old) (D.bytes target.new) }
+    ensures settled { D.tells → D.failed volume.new ≡ D.failed volume.old
+        → D.failed target.new ≡ D.failed target.old → IsSettled D.unsettled target.new }
+    ensures kinds { answer_status result ≢ Status.NotInStep }
+    ensures answers { IsBackupAnswer D.tells backing_up.now.data_ (pair_of D.size D.bytes D.failed
+        volume.old volume.new target.old target.new) result }
+{
+    let before = volume.failures();
+    match backup(alloc, volume, backing_up.data_, target) {
+        Ok(()) => Answer::Done(None),
+        Err(fault) if volume.failures() != before => not_kept(
+            fault,
+            name,
+            "reading failed, the backup may be unfinished",
+            err,
+        ),
+        Err(fault) => not_kept(
+            fault,
+            backing_up.target,
+            "reading or writing failed, the backup may be unfinished",
+            err,
+        ),
+    }
+}
+
+/// What is answered where the target isn't there by this fault: why there is no backup of the volume, if
+/// there is none on however large a target.
+fn without_file<D: Device, E: Write>(
+    alloc: Global,
+    volume: &mut D,
+    name: &str,
+    missed: InputFault,
+    backing_up: &BackingUp<'_>,
+    err: &mut E,
+) -> Answer
+    requires { D.failed volume.old + 1 < 2 ^ 64 }
+    ensures unchanged { IsUnchanged D.tells D.size D.bytes D.unsettled volume.old volume.new }
+    ensures kinds { answer_status result ≢ Status.NotInStep }
+    ensures answers { IsWithoutFile D.tells backing_up.now.data_ (D.bytes volume.old)
+        (D.failed volume.old) (D.failed volume.new) missed result }
+{
+    match backup_length(alloc, volume, backing_up.data_) {
+        Ok(_) => unread(missed, backing_up.target, err),
+        Err(fault) => not_kept(fault, name, "reading failed", err),
+    }
+}
+
+/// What is answered where this fault ended the backup. Where a device failed, it is that of the file of
+/// this name.
+fn not_kept<E: Write>(fault: BackupFault, file: &str, failed: &str, err: &mut E) -> Answer
+    ensures { result ≡ backup_fault_answer fault }
+{
+    match fault {
+        BackupFault::Device => device_fault(file, failed, err),
+        fault => Answer::from(fault),
+    }
+}

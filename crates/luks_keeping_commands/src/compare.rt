@@ -1,0 +1,128 @@
+//! The command `compare`.
+ghost use Rattle.std.specs.Prelude.{◌≡◌, ◌≢◌, ◌+◌, ◌<◌, ◌^◌, IfErr};
+ghost use Rattle.std.specs.Result.{ForOk};
+ghost use Rattle.luks_area.specs.Device.{IsUnchanged};
+ghost use Rattle.luks_commands.specs.Answer.{answer_status, restore_fault_answer, Prints};
+ghost use Rattle.luks_commands.specs.Exit.{IsExitStatus};
+ghost use Rattle.luks_commands.specs.Files.{KeepsVolume};
+ghost use Rattle.luks_header_commands.specs.Target.{AreOneFile, IsSameFile};
+ghost use Rattle.luks_keeping.specs.RestoreFaults.{checked_restore};
+ghost use Rattle.luks_keeping_commands.specs.Comparing.{AnswersCompare, IsCompareAnswer};
+ghost use Rattle.luks_keeping_commands.specs.TwoFiles.{pair_of};
+
+use crate::one_file::are_one_file;
+use luks_commands::{Answer, Inputs, Printer, Refusal, Status, device_fault, end, refused, unread};
+use luks_keeping::{RestoreFault, accepted_header, compare, is_other_volume};
+use luks_reading::{CheckFault, Data, Device};
+use luks_request::Comparing;
+use std::alloc::Global;
+use std::io::{Read, Write};
+
+/// Prints how the backup, which `inputs.target` is, stands to the volume of this name; answers the exit
+/// status. Nothing is written.
+pub fn run<D: Device, R: Read, N: Read, P: Printer, E: Write>(
+    alloc: Global,
+    inputs: &mut Inputs<D, R, N>,
+    name: &str,
+    comparing: &Comparing<'_>,
+    out: &mut P,
+    err: &mut E,
+) -> u8
+    requires volume_room { ForOk inputs.old.volume (λ d. D.failed d + 1 < 2 ^ 64) }
+    requires backup_room { ForOk inputs.old.target (λ d. D.failed d + 1 < 2 ^ 64) }
+    requires printer { P.failures out.old + 1 < 2 ^ 64 }
+    ensures kept { KeepsVolume D.tells D.size D.bytes D.unsettled
+        inputs.old.target inputs.new.target }
+    ensures unchanged { KeepsVolume D.tells D.size D.bytes D.unsettled
+        inputs.old.volume inputs.new.volume }
+    ensures status { IsExitStatus result }
+    ensures kinds { result ≢ 3 }
+    ensures unread { IfErr inputs.old.volume (λ _. result ≢ 0) }
+    ensures same { AreOneFile name.now comparing.now.backup.now inputs.old.target
+        → (inputs.new ≡ inputs.old) × Prints IsSameFile
+        (P.failures out.old) (P.failures out.new) (P.printed out.old) (P.printed out.new) result }
+    ensures answers { (AreOneFile name.now comparing.now.backup.now inputs.old.target → ⊥)
+        → Prints (AnswersCompare D.tells D.size D.bytes D.failed comparing.now.data_
+        inputs.old.volume inputs.new.volume inputs.old.target inputs.new.target)
+        (P.failures out.old) (P.failures out.new) (P.printed out.old) (P.printed out.new) result }
+{
+    let answer = answer(alloc, inputs, name, comparing, err);
+    end(&answer, out)
+}
+
+/// How they stand, or why that isn't told.
+#[tactic(auto, using(luks_commands::proofs::FileFacts::keeps_same))]
+fn answer<D: Device, R: Read, N: Read, E: Write>(
+    alloc: Global,
+    inputs: &mut Inputs<D, R, N>,
+    name: &str,
+    comparing: &Comparing<'_>,
+    err: &mut E,
+) -> Answer
+    requires volume_room { ForOk inputs.old.volume (λ d. D.failed d + 1 < 2 ^ 64) }
+    requires backup_room { ForOk inputs.old.target (λ d. D.failed d + 1 < 2 ^ 64) }
+    ensures kept { KeepsVolume D.tells D.size D.bytes D.unsettled
+        inputs.old.target inputs.new.target }
+    ensures unchanged { KeepsVolume D.tells D.size D.bytes D.unsettled
+        inputs.old.volume inputs.new.volume }
+    ensures kinds { answer_status result ≢ Status.NotInStep }
+    ensures unread { IfErr inputs.old.volume (λ _. answer_status result ≢ Status.Done) }
+    ensures same { AreOneFile name.now comparing.now.backup.now inputs.old.target
+        → (inputs.new ≡ inputs.old) × IsSameFile result }
+    ensures answers { (AreOneFile name.now comparing.now.backup.now inputs.old.target → ⊥)
+        → AnswersCompare D.tells D.size D.bytes D.failed comparing.now.data_
+        inputs.old.volume inputs.new.volume inputs.old.target inputs.new.target result }
+{
+    if are_one_file(name, comparing.backup, &inputs.target) {
+        return Answer::Refused(Refusal::SameFile);
+    }
+    let volume = match &mut inputs.volume {
+        Ok(device) => device,
+        Err(fault) => return unread(*fault, name, err),
+    };
+    match &mut inputs.target {
+        Ok(backup) => compare_headers(alloc, backup, volume, name, comparing, err),
+        Err(fault) => unread(*fault, comparing.backup, err),
+    }
+}
+
+/// How the header of the backup stands to that of the volume.
+fn compare_headers<D: Device, E: Write>(
+    alloc: Global,
+    backup: &mut D,
+    volume: &mut D,
+    name: &str,
+    comparing: &Comparing<'_>,
+    err: &mut E,
+) -> Answer
+    requires backup_room { D.failed backup.old + 1 < 2 ^ 64 }
+    requires volume_room { D.failed volume.old + 1 < 2 ^ 64 }
+    ensures kept { IsUnchanged D.tells D.size D.bytes D.unsettled backup.old backup.new }
+    ensures unchanged { IsUnchanged D.tells D.size D.bytes D.unsettled volume.old volume.new }
+    ensures kinds { answer_status result ≢ Status.NotInStep }
+    ensures answers { IsCompareAnswer D.tells comparing.now.data_ (pair_of D.size D.bytes D.failed
+        backup.old backup.new volume.old volume.new) result }
+{
+    let held = match accepted_header(alloc, backup, Data::Elsewhere) {
+        Ok(header) => header,
+        Err(fault) => return no_backup(fault, comparing.backup, err),
+    };
+    let there = match accepted_header(alloc, volume, comparing.data_) {
+        Ok(header) => header,
+        Err(fault) => return refused(fault, name, err),
+    };
+    if is_other_volume(&held, &there) {
+        return Answer::Refused(Refusal::Restore(RestoreFault::OtherVolume));
+    }
+    Answer::Compared(compare(&held, &there))
+}
+
+/// What is answered where the file of this name isn't accepted as a backup.
+fn no_backup<E: Write>(fault: CheckFault, file: &str, err: &mut E) -> Answer
+    ensures { result ≡ restore_fault_answer (checked_restore fault) }
+{
+    match fault {
+        CheckFault::Device => device_fault(file, "reading failed", err),
+        fault => Answer::from(RestoreFault::from(fault)),
+    }
+}

@@ -1,0 +1,9 @@
+//! The commands of the program `luks` on header backups, `backup`, `restore` and `compare`, over values:
+//! what each prints and answers.
+#![tactic(auto)]
+
+pub mod backup;
+pub mod compare;
+mod keyslots_note;
+mod one_file;
+pub mod restore;

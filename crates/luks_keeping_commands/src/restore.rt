@@ -1,0 +1,191 @@
+//! The command `restore`.
+ghost use Rattle.std.specs.Prelude.{◌≡◌, ◌≢◌, ◌+◌, ◌<◌, ◌^◌, IfErr};
+ghost use Rattle.std.specs.Result.{ForOk};
+ghost use Rattle.luks_area.specs.Device.{IsSettled, IsUnchanged};
+ghost use Rattle.luks_commands.specs.Answer.{answer_status, restore_fault_answer, Prints};
+ghost use Rattle.luks_commands.specs.Exit.{IsExitStatus};
+ghost use Rattle.luks_commands.specs.Files.{KeepsVolume};
+ghost use Rattle.luks_header_commands.specs.Target.{AreOneFile, IsSameFile, LeavesTarget, SettlesTarget};
+ghost use Rattle.luks_keeping_commands.specs.Restoring.{AnswersRestore, IsRestoreAnswer, KeepsRest, over_of};
+ghost use Rattle.luks_keeping_commands.specs.TwoFiles.{pair_of};
+
+use crate::keyslots_note::note_keyslots;
+use crate::one_file::are_one_file;
+use luks_commands::{Answer, Inputs, Printer, Refusal, Status, device_fault, end, unread};
+use luks_keeping::{Over, RestoreFault, restore};
+use luks_reading::Device;
+use luks_request::Restoring;
+use std::alloc::Global;
+use std::io::{Read, Write};
+
+/// Puts the header and the key areas of the backup, which `inputs.target` is, onto the volume of this
+/// name, and prints that it is done; answers the exit status. Before the first write standard error
+/// says by how many keyslots the two differ.
+pub fn run<D: Device, R: Read, N: Read, P: Printer, E: Write>(
+    alloc: Global,
+    inputs: &mut Inputs<D, R, N>,
+    name: &str,
+    restoring: &Restoring<'_>,
+    out: &mut P,
+    err: &mut E,
+) -> u8
+    requires volume_room { ForOk inputs.old.volume (λ d. D.failed d + 1 < 2 ^ 64) }
+    requires backup_room { ForOk inputs.old.target (λ d. D.failed d + 1 < 2 ^ 64) }
+    requires printer { P.failures out.old + 1 < 2 ^ 64 }
+    requires settled { D.tells → ForOk inputs.old.volume (IsSettled D.unsettled) }
+    ensures unchanged { KeepsVolume D.tells D.size D.bytes D.unsettled
+        inputs.old.target inputs.new.target }
+    ensures rest { LeavesTarget D.tells D.size D.bytes (KeepsRest restoring.now.data_)
+        inputs.old.target inputs.old.volume inputs.new.volume }
+    ensures settled { SettlesTarget D.tells D.failed D.unsettled
+        inputs.old.target inputs.new.target inputs.old.volume inputs.new.volume }
+    ensures status { IsExitStatus result }
+    ensures kinds { result ≢ 3 }
+    ensures unread { IfErr inputs.old.volume (λ _. result ≢ 0) }
+    ensures same { AreOneFile name.now restoring.now.backup.now inputs.old.target
+        → (inputs.new ≡ inputs.old) × Prints IsSameFile
+        (P.failures out.old) (P.failures out.new) (P.printed out.old) (P.printed out.new) result }
+    ensures answers { (AreOneFile name.now restoring.now.backup.now inputs.old.target → ⊥)
+        → Prints (AnswersRestore D.tells D.size D.bytes D.failed
+        restoring.now.data_ (over_of restoring.now.other)
+        inputs.old.volume inputs.new.volume inputs.old.target inputs.new.target)
+        (P.failures out.old) (P.failures out.new) (P.printed out.old) (P.printed out.new) result }
+{
+    let answer = answer(alloc, inputs, name, restoring, err);
+    end(&answer, out)
+}
+
+/// Puts the backup back, or answers why not.
+#[tactic(auto, using(luks_commands::proofs::FileFacts::keeps_same, luks_header_commands::proofs::TargetFacts::leaves_same, luks_header_commands::proofs::TargetFacts::settles_same))]
+fn answer<D: Device, R: Read, N: Read, E: Write>(
+    alloc: Global,
+    inputs: &mut Inputs<D, R, N>,
+    name: &str,
+    restoring: &Restoring<'_>,
+    err: &mut E,
+) -> Answer
+    requires volume_room { ForOk inputs.old.volume (λ d. D.failed d + 1 < 2 ^ 64) }
+    requires backup_room { ForOk inputs.old.target (λ d. D.failed d + 1 < 2 ^ 64) }
+    requires settled { D.tells → ForOk inputs.old.volume (IsSettled D.unsettled) }
+    ensures unchanged { KeepsVolume D.tells D.size D.bytes D.unsettled
+        inputs.old.target inputs.new.target }
+    ensures rest { LeavesTarget D.tells D.size D.bytes (KeepsRest restoring.now.data_)
+        inputs.old.target inputs.old.volume inputs.new.volume }
+    ensures settled { SettlesTarget D.tells D.failed D.unsettled
+        inputs.old.target inputs.new.target inputs.old.volume inputs.new.volume }
+    ensures kinds { answer_status result ≢ Status.NotInStep }
+    ensures unread { IfErr inputs.old.volume (λ _. answer_status result ≢ Status.Done) }
+    ensures same { AreOneFile name.now restoring.now.backup.now inputs.old.target
+        → (inputs.new ≡ inputs.old) × IsSameFile result }
+    ensures answers { (AreOneFile name.now restoring.now.backup.now inputs.old.target → ⊥)
+        → AnswersRestore D.tells D.size D.bytes D.failed
+        restoring.now.data_ (over_of restoring.now.other)
+        inputs.old.volume inputs.new.volume inputs.old.target inputs.new.target result }
+{
+    if are_one_file(name, restoring.backup, &inputs.target) {
+        return Answer::Refused(Refusal::SameFile);
+    }
+    let volume = match &mut inputs.volume {
+        Ok(device) => device,
+        Err(fault) => return unread(*fault, name, err),
+    };
+    match &mut inputs.target {
+        Ok(backup) => put_back(alloc, backup, volume, name, restoring, err),
+        Err(fault) => unread(*fault, restoring.backup, err),
+    }
+}
+
+/// Says how the keyslots stand, and puts the backup back.
+fn put_back<D: Device, E: Write>(
+    alloc: Global,
+    backup: &mut D,
+    volume: &mut D,
+    name: &str,
+    restoring: &Restoring<'_>,
+    err: &mut E,
+) -> Answer
+    requires backup_room { D.failed backup.old + 1 < 2 ^ 64 }
+    requires volume_room { D.failed volume.old + 1 < 2 ^ 64 }
+    requires settled { D.tells → IsSettled D.unsettled volume.old }
+    ensures unchanged { IsUnchanged D.tells D.size D.bytes D.unsettled backup.old backup.new }
+    ensures size { D.size volume.new ≡ D.size volume.old }
+    ensures rest { D.tells → KeepsRest restoring.now.data_ (D.bytes backup.old)
+        (D.bytes volume.old) (D.bytes volume.new) }
+    ensures settled { D.tells → D.failed backup.new ≡ D.failed backup.old
+        → D.failed volume.new ≡ D.failed volume.old → IsSettled D.unsettled volume.new }
+    ensures kinds { answer_status result ≢ Status.NotInStep }
+    ensures answers { IsRestoreAnswer D.tells restoring.now.data_ (over_of restoring.now.other)
+        (pair_of D.size D.bytes D.failed backup.old backup.new volume.old volume.new) result }
+{
+    let before = backup.failures();
+    match note_keyslots(alloc, backup, restoring.backup, volume, name, err) {
+        Ok(()) => put_over(alloc, backup, volume, name, restoring, err),
+        Err(_) if backup.failures() != before => {
+            device_fault(restoring.backup, "reading failed", err)
+        }
+        Err(_) => device_fault(name, "reading failed", err),
+    }
+}
+
+/// Puts the backup back.
+fn put_over<D: Device, E: Write>(
+    alloc: Global,
+    backup: &mut D,
+    volume: &mut D,
+    name: &str,
+    restoring: &Restoring<'_>,
+    err: &mut E,
+) -> Answer
+    requires backup_room { D.failed backup.old + 1 < 2 ^ 64 }
+    requires volume_room { D.failed volume.old + 1 < 2 ^ 64 }
+    requires settled { D.tells → IsSettled D.unsettled volume.old }
+    ensures unchanged { IsUnchanged D.tells D.size D.bytes D.unsettled backup.old backup.new }
+    ensures size { D.size volume.new ≡ D.size volume.old }
+    ensures rest { D.tells → KeepsRest restoring.now.data_ (D.bytes backup.old)
+        (D.bytes volume.old) (D.bytes volume.new) }
+    ensures settled { D.tells → D.failed backup.new ≡ D.failed backup.old
+        → D.failed volume.new ≡ D.failed volume.old → IsSettled D.unsettled volume.new }
+    ensures kinds { answer_status result ≢ Status.NotInStep }
+    ensures answers { IsRestoreAnswer D.tells restoring.now.data_ (over_of restoring.now.other)
+        (pair_of D.size D.bytes D.failed backup.old backup.new volume.old volume.new) result }
+{
+    let before = backup.failures();
+    let over = over_of(restoring.other);
+    match restore(alloc, backup, volume, restoring.data_, over) {
+        Ok(()) => Answer::Done(None),
+        Err(fault) if backup.failures() != before => not_restored(
+            fault,
+            restoring.backup,
+            "reading failed, the volume's header may be unfinished",
+            err,
+        ),
+        Err(fault) => not_restored(
+            fault,
+            name,
+            "reading or writing failed, its header may be unfinished",
+            err,
+        ),
+    }
+}
+
+/// What may be written over, where another volume may be.
+fn over_of(other: bool) -> Over
+    ensures { result ≡ over_of other }
+{
+    if other {
+        Over::AnyVolume
+    } else {
+        Over::SameVolume
+    }
+}
+
+/// What is answered where this fault ended it. Where a device failed, it is that of the file of this
+/// name.
+fn not_restored<E: Write>(fault: RestoreFault, file: &str, failed: &str, err: &mut E) -> Answer
+    ensures { result ≡ restore_fault_answer fault }
+{
+    match fault {
+        RestoreFault::Device => device_fault(file, failed, err),
+        fault => Answer::from(fault),
+    }
+}

@@ -1,0 +1,68 @@
+//! How backups stand to volumes, as the command `compare` prints it.
+use crate::sources::{backup_of, renamed};
+use luks_area::MemDevice;
+use luks_kdf::HashName;
+use luks_keeping::{accepted_header, compare, is_other_volume};
+use luks_reading::{Data, Header};
+use luks_test_devices::{put, small1, small2, two_keyslots};
+use std::alloc::Global;
+use std::process::Abort;
+use std::test::Fail;
+
+/// The header of these bytes, as one without its payload.
+fn header_of(alloc: Global, bytes: &[u8]) -> Result<Header, Fail> {
+    let mut device = MemDevice::new(bytes.to_vec(alloc)?);
+    Ok(accepted_header(alloc, &mut device, Data::Elsewhere)?)
+}
+
+/// What is printed of the backup of the one volume, compared with the other.
+fn printed(alloc: Global, kept: &[u8], volume: &[u8]) -> Result<String, Fail> {
+    let backup = header_of(alloc, &backup_of(alloc, kept)?)?;
+    let comparison = compare(&backup, &header_of(alloc, volume)?);
+    Ok(format!(in alloc; "{comparison}")?)
+}
+
+#[test]
+fn of_luks2(rt: HostRuntime) -> Result<(), Fail> {
+    let one = small2(rt.alloc(), HashName::Sha256)?;
+    let two = two_keyslots(rt.alloc())?;
+    let current = printed(rt.alloc(), &two, &two)?;
+    assert!(rt; current.as_str() == "current\nkeyslot 0 same\nkeyslot 1 same\n", "{current}");
+    let added = printed(rt.alloc(), &one, &two)?;
+    assert!(rt; added.as_str() == "outdated\nkeyslot 0 same\nkeyslot 1 missing\n", "{added}");
+    let removed = printed(rt.alloc(), &two, &one)?;
+    assert!(rt; removed.as_str() == "outdated\nkeyslot 0 same\nkeyslot 1 removed\n", "{removed}");
+    Ok(())
+}
+
+#[test]
+fn of_luks1(rt: HostRuntime) -> Result<(), Fail> {
+    let image = small1(rt.alloc(), HashName::Sha256)?;
+    let current = printed(rt.alloc(), &image, &image)?;
+    assert!(rt; current.as_str() == "current\nkeyslot 0 same\n", "{current}");
+    let mut changed = image.to_vec(rt.alloc())?;
+    // the first bytes of the salt of the keyslot 0
+    put(&mut changed, 216, b"another");
+    let older = printed(rt.alloc(), &image, &changed)?;
+    assert!(rt; older.as_str() == "outdated\nkeyslot 0 older\n", "{older}");
+    Ok(())
+}
+
+/// Whether the volume is another than the backup's.
+fn is_other(alloc: Global, kept: &[u8], volume: &[u8]) -> Result<bool, Fail> {
+    let backup = header_of(alloc, &backup_of(alloc, kept)?)?;
+    Ok(is_other_volume(&backup, &header_of(alloc, volume)?))
+}
+
+#[test]
+fn of_other_volumes(rt: HostRuntime) -> Result<(), Fail> {
+    let image = small1(rt.alloc(), HashName::Sha256)?;
+    let other_hash = small1(rt.alloc(), HashName::Sha512)?;
+    let same_key = is_other(rt.alloc(), &image, &renamed(rt.alloc(), &image)?)?;
+    assert!(rt; !same_key, "another uuid, the same digest");
+    let same_uuid = is_other(rt.alloc(), &image, &other_hash)?;
+    assert!(rt; !same_uuid, "the same uuid, another digest");
+    let other = is_other(rt.alloc(), &image, &renamed(rt.alloc(), &other_hash)?)?;
+    assert!(rt; other, "another uuid, another digest");
+    Ok(())
+}

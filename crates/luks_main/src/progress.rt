@@ -1,0 +1,74 @@
+//! How far a search of a disk is.
+use crate::typing::{ERROR, is_terminal};
+use luks_find_command::Progress;
+use std::fs::File;
+use std::rt::{Clock, Files};
+use std::time::Duration;
+
+/// The shortest disk of which it is said, in bytes.
+const LONG: u64 = 1 << 30;
+
+/// How long a line stands at least, in milliseconds.
+const PAUSE: u128 = 500;
+
+/// How far a search is and how fast, in one line of standard error that is written over: where that is a
+/// terminal, and the disk has more than 1 GiB.
+#[derive(Drop)]
+pub(crate) struct ProgressLine<'a, R> {
+    rt: &'a R,
+    /// When the search began; nothing where nothing is said of it.
+    begun: Option<Duration>,
+    /// When the line was written last, as milliseconds of the search.
+    written: u128,
+    /// Whether a line stands there.
+    stands: bool,
+}
+
+impl<'a, R: Clock + Files<File = File> + Eprint> ProgressLine<'a, R> {
+    /// The line of a search that begins now; it is never written where that isn't wanted.
+    pub(crate) fn new(rt: &'a R, wanted: bool) -> Self {
+        let begun = if wanted && is_terminal(rt, ERROR) {
+            rt.monotonic().ok()
+        } else {
+            None
+        };
+        ProgressLine {
+            rt,
+            begun,
+            written: 0,
+            stands: false,
+        }
+    }
+
+    /// The milliseconds since the search began, where a line may be written.
+    fn elapsed(&self) -> Option<u128> {
+        let now = self.rt.monotonic().ok()?;
+        Some(now.saturating_sub(self.begun?).as_millis())
+    }
+}
+
+impl<R: Clock + Files<File = File> + Eprint> Progress for ProgressLine<'_, R> {
+    fn looked(&mut self, at: u64, total: u64) {
+        if total <= LONG {
+            return;
+        }
+        let Some(elapsed) = self.elapsed() else {
+            return;
+        };
+        if elapsed.saturating_sub(self.written) < PAUSE {
+            return;
+        }
+        let (done, all) = (at >> 20, total >> 20);
+        let rate = u128::from(at) / elapsed.max(1) / 1000;
+        let _ = eprint!(self.rt; "\rluks: {done} of {all} MiB, {rate} MB/s    ");
+        self.written = elapsed;
+        self.stands = true;
+    }
+
+    fn clear(&mut self) {
+        if self.stands {
+            let _ = eprint!(self.rt; "\r{:60}\r", "");
+            self.stands = false;
+        }
+    }
+}

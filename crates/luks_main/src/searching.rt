@@ -1,0 +1,77 @@
+//! A search for the volumes of a disk.
+ghost use Rattle.std.specs.Prelude.{◌≡◌};
+ghost use Rattle.luks_main.specs.Statuses.{EndsFind};
+
+use crate::FAULT;
+use crate::hints::tell;
+use crate::openings::Openings;
+use crate::progress::ProgressLine;
+use crate::volumes::open_volume;
+use luks_cli::{CountingPrinter, Line};
+use luks_find_command::find;
+use luks_line::Manner;
+use std::fs::File;
+use std::io::{self, Write};
+use std::rt::{Clock, Files};
+
+/// Standard error while a search goes on: what is noted is written at once, or is held where nothing is
+/// to be noted but why the disk can't be read.
+#[derive(Drop)]
+struct Notes<'a, R> {
+    rt: &'a R,
+    /// What is held; nothing where all is written at once.
+    held: Option<Vec<u8>>,
+}
+
+impl<R: Eprint> Write for Notes<'_, R> {
+    fn write(&mut self, buf: &[u8]) -> io::Result<usize> {
+        match &mut self.held {
+            Some(held) => held.write(buf),
+            None => {
+                tell(self.rt, buf);
+                Ok(buf.len())
+            }
+        }
+    }
+
+    fn flush(&mut self) -> io::Result<()> {
+        Ok(())
+    }
+}
+
+/// Opens the disk of this command line and searches it: each start is printed as soon as it is certain.
+/// Gives the exit status.
+#[inline(never)]
+pub(crate) fn search<R: AllocGlobal + Clock + Files<File = File> + Print + Eprint>(
+    rt: &R,
+    line: &Line<'_>,
+    manner: Manner,
+) -> u8
+    ensures { EndsFind result }
+{
+    let mut notices = Vec::new(rt.alloc());
+    let opening = Openings::of(line).volume;
+    let mut disk = open_volume(rt, opening, line.place, &mut notices);
+    if !manner.quiet {
+        tell(rt, notices.as_slice());
+    }
+    let mut notes = Notes {
+        rt,
+        held: if manner.quiet { Some(notices) } else { None },
+    };
+    let mut out = CountingPrinter::new(io::writer(rt));
+    let mut progress = ProgressLine::new(rt, !manner.quiet);
+    let status = find::run(
+        rt.alloc(),
+        &mut disk,
+        line.volume,
+        line.place,
+        &mut out,
+        &mut notes,
+        &mut progress,
+    );
+    if let (Some(held), FAULT) = (&notes.held, status) {
+        tell(rt, held.as_slice());
+    }
+    status
+}
