@@ -14,7 +14,6 @@ _luks() {
         [format]="--passphrase --passphrase-line --random --version --hash --iterations --detached --offset --length --quiet --help"
         [convert]="--random --detached --offset --length --quiet --help"
         [rebuild]="--random --second --uuid --offset --length --quiet --help"
-        [find]="--offset --length --quiet --help"
         [backup]="--over --detached --offset --length --quiet --help"
         [restore]="--other --detached --offset --length --quiet --help"
         [compare]="--detached --offset --length --quiet --help"

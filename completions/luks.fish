@@ -126,11 +126,6 @@ complete -c luks -n '__fish_seen_subcommand_from rebuild' -l offset -x -d 'The b
 complete -c luks -n '__fish_seen_subcommand_from rebuild' -l length -x -d 'How many bytes the volume has'
 complete -c luks -n '__fish_seen_subcommand_from rebuild' -l quiet -d 'No hints on standard error'
 
-complete -c luks -n __fish_use_subcommand -a find -d 'Find the volumes of a disk by any sign left of them'
-complete -c luks -n '__fish_seen_subcommand_from find' -F
-complete -c luks -n '__fish_seen_subcommand_from find' -l offset -x -d 'The byte of the device where the search begins'
-complete -c luks -n '__fish_seen_subcommand_from find' -l length -x -d 'How many bytes are searched'
-complete -c luks -n '__fish_seen_subcommand_from find' -l quiet -d 'No hints on standard error'
 
 complete -c luks -n __fish_use_subcommand -a backup -d "Copy a volume's header and key areas to a file"
 complete -c luks -n '__fish_seen_subcommand_from backup' -F
@@ -159,4 +154,4 @@ complete -c luks -n __fish_use_subcommand -a explain -d 'Say what a fault means,
 complete -c luks -n '__fish_seen_subcommand_from explain' -a '(luks explain 2>/dev/null | cut -d" " -f1)'
 
 complete -c luks -n __fish_use_subcommand -a help -d 'Print help'
-complete -c luks -n '__fish_seen_subcommand_from help' -a 'check show open add change remove repair label format convert rebuild find backup restore compare explain'
+complete -c luks -n '__fish_seen_subcommand_from help' -a 'check show open add change remove repair label format convert rebuild backup restore compare explain'

@@ -226,15 +226,6 @@ pub fn execute<D: Device, R: Read, N: Read, P: Printer, E: Write>(
         Command::Rebuild(rebuilding) => {
             rebuild::run(alloc, inputs, name, line.place, &rebuilding, out, err)
         }
-        Command::Find => find::run(
-            alloc,
-            &mut inputs.volume,
-            name,
-            line.place,
-            out,
-            err,
-            &mut Untold,
-        ),
         Command::Backup(backing_up) => backup::run(alloc, inputs, name, &backing_up, out, err),
         Command::Restore(restoring) => restore::run(alloc, inputs, name, &restoring, out, err),
         Command::Compare(comparing) => compare::run(alloc, inputs, name, &comparing, out, err),

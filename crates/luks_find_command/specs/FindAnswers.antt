@@ -7,8 +7,6 @@ use Rattle.luks_commands.specs.declared.answers.Answer.TheVariants.{DeviceFault,
 use Rattle.luks_commands.specs.declared.inputs.InputFault.{InputFault}
 use Rattle.luks_finding.specs.Finding.{AreStartsBetween}
 use Rattle.luks_finding.specs.Starts.{AreStarts}
-use Rattle.luks_request.specs.declared.request.Command.{Command}
-use Rattle.luks_request.specs.declared.request.Command.TheVariants.{Find}
 use Rattle.luks_find_command.specs.Lines.{end_line, found_status, AreLines}
 
 -- where the bytes `v` begin at the byte `offset` of their file: a line for each of these starts was printed
@@ -98,8 +96,3 @@ AnswersFind {D} tells bytes failed offset (Ok old) (Ok new) prints prints_now he
 AnswersFind {D} tells bytes failed offset (Ok old) (Err fault) prints prints_now held holds status = ⊥
 AnswersFind {D} tells bytes failed offset (Err fault) new prints prints_now held holds status =
     Prints (λ a. a ≡ unread_answer fault) prints prints_now held holds status
-
--- what holds of the command where it is `find`
-abbrev pub WhereFind : Command → Type 0 → Type 0
-WhereFind Find holds = holds
-WhereFind _ holds = Unit {0}

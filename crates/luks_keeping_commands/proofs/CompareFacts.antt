@@ -1,5 +1,5 @@
 -- What `compare` answers, by what it met.
-use Rattle.std.proofs.Common.{◌≡◌, ◌≢◌, ◌⊎◌, inl, inr, Bool, true, false, List, ℕ}
+use Rattle.std.proofs.Common.{◌≡◌, ◌≢◌, inl, inr, Bool, true, false}
 use Rattle.luks_area.specs.Device.{count_after}
 use Rattle.luks_reading.specs.Checked.{IsCheckRefusal, WellFormed}
 use Rattle.luks_reading.specs.Failures.{is_check_failure}
@@ -11,7 +11,7 @@ use Rattle.luks_keeping.specs.RestoreFaults.{checked_restore}
 use Rattle.luks_commands.specs.declared.answers.Status.TheVariants.{NotInStep}
 use Rattle.luks_commands.specs.Answer.{answer_status, check_fault_answer, current_status, restore_fault_answer}
 use Rattle.luks_keeping_commands.specs.Comparing.{IsCompareAnswer}
-use Rattle.luks_keeping_commands.specs.TwoFiles.{NoneFailed, Pair}
+use Rattle.luks_keeping_commands.specs.TwoFiles.{Pair}
 
 -- the backup isn't accepted, or its device failed, or memory was refused
 pub backup_answers : (tells : Type 0) (payload : Data) (d : Pair) (f : CheckFault) → d.source_after ≡ count_after (is_check_failure f) d.source_before → d.after ≡ d.before

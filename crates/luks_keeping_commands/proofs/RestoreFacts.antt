@@ -1,5 +1,5 @@
 -- What `restore` leaves and answers, by what it met.
-use Rattle.std.proofs.Common.{◌≡◌, ◌≢◌, ◌⊎◌, inl, inr, List, ℕ, false, refl, sym, subst, ◌∙◌, length}
+use Rattle.std.proofs.Common.{◌≡◌, ◌≢◌, inl, List, ℕ, false, refl, sym, subst, ◌∙◌, length}
 use Rattle.luks_area.specs.Ranges.{part, SameBut}
 use Rattle.luks_area.specs.declared.area.Area.{Area}
 use Rattle.luks_copying.specs.TwoDevices.{CountsAfter, IsOneFailure}
@@ -67,10 +67,10 @@ module _
     (tells : Type 0) (payload : Data) (over : Over) (b c old mid new : List ℕ) (total between s r t u v w : ℕ)
     (source : tells → c ≡ b) (volume : tells → mid ≡ old) (one : r ≡ s) (two : v ≡ u)
   where
-    first : Pair
+    abbrev pub first : Pair
     first = record { source = b; total = total; old = old; new = new; source_before = s; source_after = t; before = u; after = w }
 
-    then : Pair
+    abbrev pub then : Pair
     then = record { source = c; total = between; old = mid; new = new; source_before = r; source_after = t; before = v; after = w }
 
     lifted : (P : List ℕ → List ℕ → Type 0) → (tells → P c mid) → tells → P b old

@@ -32,7 +32,7 @@ pub(crate) fn note_keyslots<D: Device, E: Write>(
     let Some(held) = header_of(alloc, backup)? else {
         return Ok(());
     };
-    let count = counted(&compare(&held, &held), Keeping::Same);
+    let count = counted(&compare(&held, &held).keyslots, Keeping::Same);
     let _ = writeln!(err, "luks: {backup_name}: the backup has {count} keyslots");
     if let Some(there) = header_of(alloc, volume)? {
         note_differences(&compare(&held, &there), volume_name, err);
@@ -58,17 +58,16 @@ fn header_of<D: Device>(alloc: Global, device: &mut D) -> Result<Option<Header>,
 /// Says how many keyslots of the volume the backup lacks, and how many it alone has: of a keyslot that
 /// was made anew since, both.
 fn note_differences<E: Write>(comparison: &Comparison, volume_name: &str, err: &mut E) {
-    let older = counted(comparison, Keeping::Older);
-    let lacking = older.saturating_add(counted(comparison, Keeping::Missing));
-    let alone = older.saturating_add(counted(comparison, Keeping::Removed));
+    let older = counted(&comparison.keyslots, Keeping::Older);
+    let lacking = older.saturating_add(counted(&comparison.keyslots, Keeping::Missing));
+    let alone = older.saturating_add(counted(&comparison.keyslots, Keeping::Removed));
     let _ = writeln!(
         err,
         "luks: {volume_name}: the backup lacks {lacking} of its keyslots, and alone has {alone}"
     );
 }
 
-/// How many keyslots stand so.
-fn counted(comparison: &Comparison, keeping: Keeping) -> usize {
-    let keyslots = comparison.keyslots;
+/// How many of these keyslots stand so.
+fn counted(keyslots: &[Keeping], keeping: Keeping) -> usize {
     keyslots.iter().filter(|it| **it == keeping).count()
 }

@@ -29,7 +29,7 @@ pub(crate) fn commands() -> &'static [Described] {
     &COMMANDS
 }
 
-static COMMANDS: [Described; 16] = [
+static COMMANDS: [Described; 15] = [
     Described {
         name: "check",
         overwrites: false,
@@ -238,16 +238,6 @@ static COMMANDS: [Described; 16] = [
             LongOption::Length,
             LongOption::Quiet,
         ],
-        choices: &[],
-    },
-    Described {
-        name: "find",
-        overwrites: false,
-        about: rescue_helps::FIND,
-        usage: None,
-        more: rescue_helps::FIND_MORE,
-        operands: &[Operand::Device],
-        options: &[LongOption::Offset, LongOption::Length, LongOption::Quiet],
         choices: &[],
     },
     Described {

@@ -10,11 +10,11 @@ pub(crate) const PROGRAM: &str =
 pub(crate) const PROGRAM_MORE: &str = "\
 A volume is a device, an image, or the detached header of one; with --offset and
 --length it is the bytes of a disk or an image where it lies, and no other byte
-of that changes. The commands check, show, open, find and compare write nothing,
+of that changes. The commands check, show, open and compare write nothing,
 convert, rebuild and backup only to another file; the others write to the header
 and to the areas of the keyslots that they name, restore to all of them, and
-format over whatever stands there. Only find reads the data, in which a volume
-may stand. explain says what a fault means.
+format over whatever stands there. None reads the data. explain says what a
+fault means.
 
 Each command prints its answer on standard output, in the lines that its help
 lists: luks COMMAND --help. What stops it is an answer too: 'refused FAULT',
@@ -23,9 +23,8 @@ these lines don't, as which file and why; with --quiet only that of a device
 fault.
 
 Exit status:
-  0  accepted, shown, opened, done, found, current or explained, or help was
-     asked for
-  1  refused, none found, outdated, or it doesn't open; nothing was written
+  0  accepted, shown, opened, done, current or explained, or help was asked for
+  1  refused, outdated, or it doesn't open; nothing was written
   2  the command line is wrong; the text is on standard error
   3  check: accepted, but the two copies of the header aren't in step
   4  device fault, no memory, or the output can't be written

@@ -10,7 +10,6 @@ pub(crate) enum Operand {
     RebuiltTarget,
     Text,
     Fault,
-    Device,
     NewBackup,
     Backup,
 }
@@ -29,7 +28,7 @@ pub(crate) struct OperandRow {
 }
 
 /// In the order of `Operand`.
-static OPERANDS: [OperandRow; 10] = [
+static OPERANDS: [OperandRow; 9] = [
     OperandRow {
         name: "VOLUME",
         needed: true,
@@ -64,11 +63,6 @@ static OPERANDS: [OperandRow; 10] = [
         name: "FAULT",
         needed: false,
         help: "The fault, or its name alone; else all are listed",
-    },
-    OperandRow {
-        name: "DEVICE",
-        needed: true,
-        help: "The disk, the partition or the image",
     },
     OperandRow {
         name: "FILE",

@@ -23,7 +23,6 @@ fn volume_of<'a>(given: &ArgMatches<'a>) -> Option<&'a str> {
     given
         .get_str("VOLUME")
         .or(given.get_str("SOURCE"))
-        .or(given.get_str("DEVICE"))
 }
 
 /// Which bytes of its file are the volume.
@@ -44,7 +43,6 @@ fn command_of<'a>(name: &str, given: &ArgMatches<'a>) -> Option<Command<'a>> {
         "format" => Some(Command::Format(making_of(given)?)),
         "convert" => Some(Command::Convert(converting_of(given)?)),
         "rebuild" => Some(Command::Rebuild(rebuilding_of(given)?)),
-        "find" => Some(Command::Find),
         "backup" => Some(Command::Backup(backing_up_of(given)?)),
         "restore" => Some(Command::Restore(restoring_of(given)?)),
         "compare" => Some(Command::Compare(comparing_of(given)?)),

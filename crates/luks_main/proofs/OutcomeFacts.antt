@@ -34,9 +34,9 @@ use Rattle.luks_keeping_commands.specs.Comparing.{WhereCompare}
 use Rattle.luks_keeping_commands.specs.Restoring.{WhereRestore}
 use Rattle.luks_cli.specs.Editing.{WhereEdit}
 use Rattle.luks_main.specs.declared.outcome.Outcome.{Outcome}
-use Rattle.luks_main.specs.Outcomes.{EndsAsObject, IsOf, IsOutcome, IsSearched, IsToldAsObject, IsUntold, told, refused, failed}
-use Rattle.luks_main.specs.Statuses.{EndsBackup, EndsCheck, EndsCompare, EndsConvert, EndsEdit, EndsFind, EndsFormat, EndsOpen, EndsRebuild, EndsRestore, EndsShow, EndsWith, MayEnd}
-use Rattle.luks_main.proofs.StatusFacts.{backup_same_file_ends, compare_same_file_ends, converted_same_file_ends, fault_ends, may_by, own, prints_as, rebuilt_same_file_ends, restore_same_file_ends}
+use Rattle.luks_main.specs.Outcomes.{EndsAsObject, IsOf, IsOutcome, IsToldAsObject, IsUntold, told, refused, failed}
+use Rattle.luks_main.specs.Statuses.{EndsBackup, EndsCheck, EndsCompare, EndsConvert, EndsEdit, EndsFormat, EndsOpen, EndsRebuild, EndsRestore, EndsShow, EndsWith, MayEnd}
+use Rattle.luks_main.proofs.StatusFacts.{backup_same_file_ends, compare_same_file_ends, converted_same_file_ends, memory_ends, own, prints_as, rebuilt_same_file_ends, restore_same_file_ends}
 
 -- ---- whether both files are one
 
@@ -74,7 +74,6 @@ pub commands_print : {D : Type 0} (X Y Z V W : Type 0) (c : Command) (name : Lis
     → (Backs : BackingUp → Answer → Type 0) → ((backing_up : BackingUp) (a : Answer) → Backs backing_up a → EndsBackup a (own a))
     → (Restores : Restoring → Answer → Type 0) → ((restoring : Restoring) (a : Answer) → Restores restoring a → EndsRestore a (own a))
     → (Compares : Comparing → Answer → Type 0) → ((comparing : Comparing) (a : Answer) → Compares comparing a → EndsCompare a (own a))
-    → (c ≡ command.Find → ⊥)
     → WhereCheck c (λ payload. Prints (Checks payload) before after held holds n)
     → WhereShow c (λ shown_as. Prints (Shows shown_as) before after held holds n)
     → WhereOpen c (λ slot memory. Prints (Opens slot memory) before after held holds n)
@@ -91,34 +90,33 @@ pub commands_print : {D : Type 0} (X Y Z V W : Type 0) (c : Command) (name : Lis
     → WhereCompare c (λ comparing. AreOneFile name comparing.backup.now target → W × Prints IsSameFile before after held holds n)
     → WhereCompare c (λ comparing. (AreOneFile name comparing.backup.now target → ⊥) → Prints (Compares comparing) before after held holds n)
     → Prints (λ a. EndsWith c a (own a)) before after held holds n
-commands_print X Y Z V W (command.Check payload) name target before after held holds n Checks of_check Shows of_show Opens of_open Edits of_edit Formats of_format Converts of_convert Rebuilds of_rebuild Backs of_back Restores of_restore Compares of_compare not_find check show open_ edit format same_c convert same_r rebuild same_b back same_s restore same_m compare =
+commands_print X Y Z V W (command.Check payload) name target before after held holds n Checks of_check Shows of_show Opens of_open Edits of_edit Formats of_format Converts of_convert Rebuilds of_rebuild Backs of_back Restores of_restore Compares of_compare check show open_ edit format same_c convert same_r rebuild same_b back same_s restore same_m compare =
     prints_as (Checks payload) _ (of_check payload) before after held holds n check
-commands_print X Y Z V W (command.Show shown_as) name target before after held holds n Checks of_check Shows of_show Opens of_open Edits of_edit Formats of_format Converts of_convert Rebuilds of_rebuild Backs of_back Restores of_restore Compares of_compare not_find check show open_ edit format same_c convert same_r rebuild same_b back same_s restore same_m compare =
+commands_print X Y Z V W (command.Show shown_as) name target before after held holds n Checks of_check Shows of_show Opens of_open Edits of_edit Formats of_format Converts of_convert Rebuilds of_rebuild Backs of_back Restores of_restore Compares of_compare check show open_ edit format same_c convert same_r rebuild same_b back same_s restore same_m compare =
     prints_as (Shows shown_as) _ (of_show shown_as) before after held holds n show
-commands_print X Y Z V W (command.Open passphrase slot memory) name target before after held holds n Checks of_check Shows of_show Opens of_open Edits of_edit Formats of_format Converts of_convert Rebuilds of_rebuild Backs of_back Restores of_restore Compares of_compare not_find check show open_ edit format same_c convert same_r rebuild same_b back same_s restore same_m compare =
+commands_print X Y Z V W (command.Open passphrase slot memory) name target before after held holds n Checks of_check Shows of_show Opens of_open Edits of_edit Formats of_format Converts of_convert Rebuilds of_rebuild Backs of_back Restores of_restore Compares of_compare check show open_ edit format same_c convert same_r rebuild same_b back same_s restore same_m compare =
     prints_as (Opens slot memory) _ (of_open slot memory) before after held holds n open_
-commands_print X Y Z V W (command.Edit editing) name target before after held holds n Checks of_check Shows of_show Opens of_open Edits of_edit Formats of_format Converts of_convert Rebuilds of_rebuild Backs of_back Restores of_restore Compares of_compare not_find check show open_ edit format same_c convert same_r rebuild same_b back same_s restore same_m compare =
+commands_print X Y Z V W (command.Edit editing) name target before after held holds n Checks of_check Shows of_show Opens of_open Edits of_edit Formats of_format Converts of_convert Rebuilds of_rebuild Backs of_back Restores of_restore Compares of_compare check show open_ edit format same_c convert same_r rebuild same_b back same_s restore same_m compare =
     prints_as (Edits editing) _ (of_edit editing) before after held holds n edit
-commands_print X Y Z V W (command.Format making) name target before after held holds n Checks of_check Shows of_show Opens of_open Edits of_edit Formats of_format Converts of_convert Rebuilds of_rebuild Backs of_back Restores of_restore Compares of_compare not_find check show open_ edit format same_c convert same_r rebuild same_b back same_s restore same_m compare =
+commands_print X Y Z V W (command.Format making) name target before after held holds n Checks of_check Shows of_show Opens of_open Edits of_edit Formats of_format Converts of_convert Rebuilds of_rebuild Backs of_back Restores of_restore Compares of_compare check show open_ edit format same_c convert same_r rebuild same_b back same_s restore same_m compare =
     prints_as (Formats making) _ (of_format making) before after held holds n format
-commands_print X Y Z V W (command.Convert converting) name target before after held holds n Checks of_check Shows of_show Opens of_open Edits of_edit Formats of_format Converts of_convert Rebuilds of_rebuild Backs of_back Restores of_restore Compares of_compare not_find check show open_ edit format same_c convert same_r rebuild same_b back same_s restore same_m compare =
+commands_print X Y Z V W (command.Convert converting) name target before after held holds n Checks of_check Shows of_show Opens of_open Edits of_edit Formats of_format Converts of_convert Rebuilds of_rebuild Backs of_back Restores of_restore Compares of_compare check show open_ edit format same_c convert same_r rebuild same_b back same_s restore same_m compare =
     by_one_file (one_file name converting.target.now target)
     (λ one. prints_as IsSameFile (λ a. EndsConvert a (own a)) converted_same_file_ends before after held holds n (same_c one).1)
     (λ two. prints_as (Converts converting) (λ a. EndsConvert a (own a)) (of_convert converting) before after held holds n (convert two))
-commands_print X Y Z V W (command.Rebuild rebuilding) name target before after held holds n Checks of_check Shows of_show Opens of_open Edits of_edit Formats of_format Converts of_convert Rebuilds of_rebuild Backs of_back Restores of_restore Compares of_compare not_find check show open_ edit format same_c convert same_r rebuild same_b back same_s restore same_m compare =
+commands_print X Y Z V W (command.Rebuild rebuilding) name target before after held holds n Checks of_check Shows of_show Opens of_open Edits of_edit Formats of_format Converts of_convert Rebuilds of_rebuild Backs of_back Restores of_restore Compares of_compare check show open_ edit format same_c convert same_r rebuild same_b back same_s restore same_m compare =
     by_one_file (one_file name rebuilding.target.now target)
     (λ one. prints_as IsSameFile (λ a. EndsRebuild a (own a)) rebuilt_same_file_ends before after held holds n (same_r one).1)
     (λ two. prints_as (Rebuilds rebuilding) (λ a. EndsRebuild a (own a)) (of_rebuild rebuilding) before after held holds n (rebuild two))
-commands_print X Y Z V W command.Find name target before after held holds n Checks of_check Shows of_show Opens of_open Edits of_edit Formats of_format Converts of_convert Rebuilds of_rebuild Backs of_back Restores of_restore Compares of_compare not_find check show open_ edit format same_c convert same_r rebuild same_b back same_s restore same_m compare = absurd (not_find refl)
-commands_print X Y Z V W (command.Backup backing_up) name target before after held holds n Checks of_check Shows of_show Opens of_open Edits of_edit Formats of_format Converts of_convert Rebuilds of_rebuild Backs of_back Restores of_restore Compares of_compare not_find check show open_ edit format same_c convert same_r rebuild same_b back same_s restore same_m compare =
+commands_print X Y Z V W (command.Backup backing_up) name target before after held holds n Checks of_check Shows of_show Opens of_open Edits of_edit Formats of_format Converts of_convert Rebuilds of_rebuild Backs of_back Restores of_restore Compares of_compare check show open_ edit format same_c convert same_r rebuild same_b back same_s restore same_m compare =
     by_one_file (one_file name backing_up.target.now target)
     (λ one. prints_as IsSameFile (λ a. EndsBackup a (own a)) backup_same_file_ends before after held holds n (same_b one).1)
     (λ two. prints_as (Backs backing_up) (λ a. EndsBackup a (own a)) (of_back backing_up) before after held holds n (back two))
-commands_print X Y Z V W (command.Restore restoring) name target before after held holds n Checks of_check Shows of_show Opens of_open Edits of_edit Formats of_format Converts of_convert Rebuilds of_rebuild Backs of_back Restores of_restore Compares of_compare not_find check show open_ edit format same_c convert same_r rebuild same_b back same_s restore same_m compare =
+commands_print X Y Z V W (command.Restore restoring) name target before after held holds n Checks of_check Shows of_show Opens of_open Edits of_edit Formats of_format Converts of_convert Rebuilds of_rebuild Backs of_back Restores of_restore Compares of_compare check show open_ edit format same_c convert same_r rebuild same_b back same_s restore same_m compare =
     by_one_file (one_file name restoring.backup.now target)
     (λ one. prints_as IsSameFile (λ a. EndsRestore a (own a)) restore_same_file_ends before after held holds n (same_s one).1)
     (λ two. prints_as (Restores restoring) (λ a. EndsRestore a (own a)) (of_restore restoring) before after held holds n (restore two))
-commands_print X Y Z V W (command.Compare comparing) name target before after held holds n Checks of_check Shows of_show Opens of_open Edits of_edit Formats of_format Converts of_convert Rebuilds of_rebuild Backs of_back Restores of_restore Compares of_compare not_find check show open_ edit format same_c convert same_r rebuild same_b back same_s restore same_m compare =
+commands_print X Y Z V W (command.Compare comparing) name target before after held holds n Checks of_check Shows of_show Opens of_open Edits of_edit Formats of_format Converts of_convert Rebuilds of_rebuild Backs of_back Restores of_restore Compares of_compare check show open_ edit format same_c convert same_r rebuild same_b back same_s restore same_m compare =
     by_one_file (one_file name comparing.backup.now target)
     (λ one. prints_as IsSameFile (λ a. EndsCompare a (own a)) compare_same_file_ends before after held holds n (same_m one).1)
     (λ two. prints_as (Compares comparing) (λ a. EndsCompare a (own a)) (of_compare comparing) before after held holds n (compare two))
@@ -143,30 +141,8 @@ printed_outcome c before after held lines o p empty is none = elim p.printed [
     of_answer = record { status = printed.1; lines = if_some_as (line_of p.answer) _ _ (λ text more. is ∙ subst (λ h. Appends (Some h) (Some lines) text) empty more) printed.2 };
     told = none_if_some o.answer _ none;
   })
-  | inr unprinted ↦ inr (inl (record { status = unprinted.1; answer = none }))
+  | inr unprinted ↦ inr (record { status = unprinted.1; answer = none })
 ]
-
--- whether the command is a search
-pub is_find : (c : Command) → (c ≡ command.Find) ⊎ (c ≡ command.Find → ⊥)
-is_find (command.Check payload) = inr (λ e. cc)
-is_find (command.Show shown_as) = inr (λ e. cc)
-is_find (command.Open passphrase slot memory) = inr (λ e. cc)
-is_find (command.Edit editing) = inr (λ e. cc)
-is_find (command.Format making) = inr (λ e. cc)
-is_find (command.Convert converting) = inr (λ e. cc)
-is_find (command.Rebuild rebuilding) = inr (λ e. cc)
-is_find command.Find = inl refl
-is_find (command.Backup backing_up) = inr (λ e. cc)
-is_find (command.Restore restoring) = inr (λ e. cc)
-is_find (command.Compare comparing) = inr (λ e. cc)
-
-pub by_find : {P Q : Type 0} → P ⊎ (P → ⊥) → (P → Q) → ((P → ⊥) → Q) → Q
-by_find (inl is) of_find of_other = of_find is
-by_find (inr not) of_find of_other = of_other not
-
--- a search came to what it ended with
-pub searched_outcome : (c : Command) (o : Outcome) → c ≡ command.Find → EndsFind o.status → o.answer ≡ None → IsOutcome c o
-searched_outcome c o is ends none = inr (inr (record { is = is; ends = ends; answer = none }))
 
 told_if_some : {X : Type 0} (o : Option X) (P : X → Type 0) → MatchOption o ⊥ P → IfSome o P
 told_if_some (Some x) P holds = holds
@@ -176,7 +152,7 @@ told_if_some None P holds = absurd holds
 pub object_outcome : (c : Command) (a : Answer) (o : Outcome) → EndsWith c a (own a) → (IsOf a o × IsToldAsObject a o) ⊎ IsUntold o → IsOutcome c o
 object_outcome c a o ends (inl of_) =
     inl (record { answer = a; ends = subst (EndsWith c a) (sym of_.0.status) ends; of_answer = of_.0; told = told_if_some o.answer _ of_.1 })
-object_outcome c a o ends (inr untold) = inr (inl untold)
+object_outcome c a o ends (inr untold) = inr untold
 
 -- ---- how it is told
 
@@ -191,13 +167,12 @@ told_status X None value status before after held holds n ends = inl ends.1
 told_status X (Some b) value status before after held holds n ends = object_status (value b) status before after held holds n ends
 
 outcome_ends : (c : Command) (o : Outcome) → IsOutcome c o → MayEnd c o.status
-outcome_ends c o (inl is) = may_by c is.answer o.status is.ends
-outcome_ends c o (inr (inl untold)) = subst (MayEnd c) (sym untold.status) (fault_ends c)
-outcome_ends c o (inr (inr searched)) = subst (λ x. MayEnd x o.status) (sym searched.is) searched.ends
+outcome_ends c o (inl is) = (is.answer, is.ends)
+outcome_ends c o (inr untold) = (NoMemory, subst (EndsWith c NoMemory) (sym untold.status) (memory_ends c))
 
 ends_by : (c : Command) (status n : ℕ) → MayEnd c status → (n ≡ status) ⊎ (n ≡ 4) → MayEnd c n
 ends_by c status n may (inl is) = subst (MayEnd c) (sym is) may
-ends_by c status n may (inr is) = subst (MayEnd c) (sym is) (fault_ends c)
+ends_by c status n may (inr is) = (NoMemory, subst (EndsWith c NoMemory) (sym is) (memory_ends c))
 
 -- the status by which an outcome is told is one that the command may end with
 pub told_ends : {B : Type 0} (X : Type 0) (c : Command) (o : Outcome) → IsOutcome c o → (answer : Option B) (value : B → Answer) (status before after : ℕ) (held holds : Option (List ℕ)) (n : ℕ) → status ≡ o.status
@@ -212,3 +187,7 @@ pub object_printed : {B : Type 0} (X : Type 0) (o : Option B) (b : B) (value : B
 object_printed X o b value a status before after held holds hints text printed has is same says more count =
     subst (λ kept. MatchOption kept X (λ k. EndsAsObject (value k) status before after held holds status)) (sym has)
     (told hints text (subst (λ x. IsAnswerText x hints text) is says) (subst (λ t. Appends held holds (line t)) same more) count refl)
+
+-- it may always end with 4
+pub fault_ends : (c : Command) → MayEnd c 4
+fault_ends c = (NoMemory, memory_ends c)

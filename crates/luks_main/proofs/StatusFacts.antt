@@ -35,43 +35,28 @@ use Rattle.luks_keeping_commands.specs.Restoring.{AnswersRestore, IsRestoreAnswe
 use Rattle.luks_keeping_commands.specs.TwoFiles.{Pair as TwoFiles}
 use Rattle.luks_cli.specs.EditAnswers.{AnswersEdit, IsEditAnswer}
 use Rattle.luks_cli.specs.Editing.{Given, Lacking}
-use Rattle.luks_main.specs.Statuses.{EndsBackup, EndsCheck, EndsCompare, EndsConvert, EndsEdit, EndsFormat, EndsOpen, EndsRebuild, EndsRestore, EndsShow, EndsWith, MayEnd}
+use Rattle.luks_main.specs.Statuses.{EndsBackup, EndsCheck, EndsCompare, EndsConvert, EndsEdit, EndsFormat, EndsOpen, EndsRebuild, EndsRestore, EndsShow, EndsWith}
 
 -- an answer's own status
 abbrev pub own : Answer → ℕ
 own answer = exit_status (answer_status answer)
 
--- an answer that ends so
-pub may_by : (c : Command) (a : Answer) (n : ℕ) → EndsWith c a n → MayEnd c n
-may_by (command.Check payload) a n ends = (a, ends)
-may_by (command.Show shown_as) a n ends = (a, ends)
-may_by (command.Open passphrase slot memory) a n ends = (a, ends)
-may_by (command.Edit editing) a n ends = (a, ends)
-may_by (command.Format making) a n ends = (a, ends)
-may_by (command.Convert converting) a n ends = (a, ends)
-may_by (command.Rebuild rebuilding) a n ends = (a, ends)
-may_by command.Find a n ends = absurd ends
-may_by (command.Backup backing_up) a n ends = (a, ends)
-may_by (command.Restore restoring) a n ends = (a, ends)
-may_by (command.Compare comparing) a n ends = (a, ends)
-
--- every command may end with 4
-pub fault_ends : (c : Command) → MayEnd c 4
-fault_ends (command.Check payload) = (NoMemory, refl)
-fault_ends (command.Show form.Lines) = (NoMemory, refl)
-fault_ends (command.Show form.All) = (NoMemory, refl)
-fault_ends (command.Show form.Map) = (NoMemory, refl)
-fault_ends (command.Show form.Json) = (NoMemory, refl)
-fault_ends (command.Open passphrase None memory) = (NoMemory, refl)
-fault_ends (command.Open passphrase (Some n) memory) = (NoMemory, refl)
-fault_ends (command.Edit editing) = (NoMemory, refl)
-fault_ends (command.Format making) = (NoMemory, refl)
-fault_ends (command.Convert converting) = (NoMemory, refl)
-fault_ends (command.Rebuild rebuilding) = (NoMemory, refl)
-fault_ends command.Find = inr (inr refl)
-fault_ends (command.Backup backing_up) = (NoMemory, refl)
-fault_ends (command.Restore restoring) = (NoMemory, refl)
-fault_ends (command.Compare comparing) = (NoMemory, refl)
+-- of every command: memory may be refused
+pub memory_ends : (c : Command) → EndsWith c NoMemory 4
+memory_ends (command.Check payload) = refl
+memory_ends (command.Show form.Lines) = refl
+memory_ends (command.Show form.All) = refl
+memory_ends (command.Show form.Map) = refl
+memory_ends (command.Show form.Json) = refl
+memory_ends (command.Open passphrase None memory) = refl
+memory_ends (command.Open passphrase (Some n) memory) = refl
+memory_ends (command.Edit editing) = refl
+memory_ends (command.Format making) = refl
+memory_ends (command.Convert converting) = refl
+memory_ends (command.Rebuild rebuilding) = refl
+memory_ends (command.Backup backing_up) = refl
+memory_ends (command.Restore restoring) = refl
+memory_ends (command.Compare comparing) = refl
 
 -- a file that can't be read
 unread_ends : (Ends : Answer → ℕ → Type 0) → Ends DeviceFault 4 → Ends NoMemory 4 → (f : InputFault) (a : Answer) → a ≡ unread_answer f → Ends a (own a)

@@ -3,7 +3,6 @@ use Rattle.std.specs.Prelude.{◌≡◌, ◌⊎◌, ℕ, ◌+◌, List, codes, B
 use Rattle.std.specs.Io.KnownBytes.{Appends}
 use Rattle.luks_commands.specs.Answer.{line}
 use Rattle.luks_request.specs.declared.request.Command.{Command}
-use Rattle.luks_request.specs.declared.request.Command.TheVariants.{Find}
 use Rattle.luks_commands.specs.declared.answers.Answer.{Answer}
 use Rattle.luks_commands.specs.Answer.{answer_status, line_of}
 use Rattle.luks_commands.specs.Exit.{exit_status}
@@ -11,7 +10,7 @@ use Rattle.luks_answer_json.specs.AnswerValue.{IsAnswerText}
 use Rattle.luks_main.specs.declared.outcome.Outcome.{Outcome}
 use Rattle.luks_main.specs.declared.outcome.Printed.{Printed}
 use Rattle.luks_main.specs.declared.outcome.Printed.TheVariants.{Lines, Object}
-use Rattle.luks_main.specs.Statuses.{EndsFind, EndsWith}
+use Rattle.luks_main.specs.Statuses.{EndsWith}
 
 -- ---- what it has come to
 
@@ -36,15 +35,9 @@ pub record IsToldOf (command_ : Command) (outcome : Outcome) : Type 0 where
   pub of_answer : IsOf answer outcome
   pub told : IfSome outcome.answer (λ kept. kept.value ≡ answer)
 
--- a search for starts of volumes, with a line for each
-pub record IsSearched (command_ : Command) (outcome : Outcome) : Type 0 where
-  pub is : command_ ≡ Find
-  pub ends : EndsFind outcome.status
-  pub answer : outcome.answer ≡ None
-
--- what the command has come to: one of its answers, unless memory to tell it was refused; or a search
+-- what the command has come to: one of its answers, unless memory to tell it was refused
 abbrev pub IsOutcome : Command → Outcome → Type 0
-IsOutcome command_ outcome = IsToldOf command_ outcome ⊎ IsUntold outcome ⊎ IsSearched command_ outcome
+IsOutcome command_ outcome = IsToldOf command_ outcome ⊎ IsUntold outcome
 
 -- ---- what is said of it
 

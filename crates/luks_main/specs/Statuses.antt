@@ -99,10 +99,6 @@ EndsCompare (Refused (refusal.Restore fault)) status = status ≡ 1
 EndsCompare (Refused refusal.SameFile) status = status ≡ 1
 EndsCompare answer status = EndsAny answer status
 
--- `find` tells each start by a line of its own: 0 where it told one, 1 where the disk has none
-abbrev pub EndsFind : ℕ → Type 0
-EndsFind status = (status ≡ 0) ⊎ (status ≡ 1) ⊎ (status ≡ 4)
-
 -- the command answers so, and the program ends with this status then
 abbrev pub EndsWith : Command → Answer → ℕ → Type 0
 EndsWith (command.Check payload) answer status = EndsCheck answer status
@@ -112,14 +108,12 @@ EndsWith (command.Edit editing) answer status = EndsEdit answer status
 EndsWith (command.Format making) answer status = EndsFormat answer status
 EndsWith (command.Convert converting) answer status = EndsConvert answer status
 EndsWith (command.Rebuild rebuilding) answer status = EndsRebuild answer status
-EndsWith command.Find answer status = ⊥
 EndsWith (command.Backup backing_up) answer status = EndsBackup answer status
 EndsWith (command.Restore restoring) answer status = EndsRestore answer status
 EndsWith (command.Compare comparing) answer status = EndsCompare answer status
 
 -- the status is that of an answer that the command gives
 abbrev pub MayEnd : Command → ℕ → Type 0
-MayEnd command.Find status = EndsFind status
 MayEnd command_ status = (answer : Answer) × EndsWith command_ answer status
 
 -- what the program may end with: 0, 1, 3 or 4 as a command does, or 2 for a command line that can't be read

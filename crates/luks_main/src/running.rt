@@ -9,11 +9,10 @@ use crate::hints::{Ended, tell, tell_ended, tell_overwritten, use_before};
 use crate::openings::Openings;
 use crate::outcome::{Outcome, outcome_of};
 use crate::passphrases::{Passphrases, reader};
-use crate::searching::search;
 use crate::told::{device_fault, explain, list_faults, no_memory, tell_usage};
 use crate::volumes::{Volume, Volumes, has_changed, open_volumes};
 use crate::{FAULT, USAGE};
-use luks_cli::{Command, CountingPrinter, InputFault, Inputs, Line, OtherUse, Unprinted};
+use luks_cli::{CountingPrinter, InputFault, Inputs, Line, OtherUse, Unprinted};
 use luks_line::{Asked, Manner, parse};
 use luks_lock::LazyFile;
 use luks_wiping::wipe_stack;
@@ -99,21 +98,6 @@ fn hold_standard_numbers<R: Files<File = File>>(rt: &R) -> io::Result<[File; 3]>
 /// Runs the command of this line: reads and opens its files in their order, prints its answer, says what is
 /// noted; gives the exit status, which is the answer's where that could be printed.
 fn run_line<R: AllocGlobal + Clock + Files<File = File> + Input + Print + Eprint>(
-    rt: &R,
-    line: &Line<'_>,
-    manner: Manner,
-) -> u8
-    ensures ends { MayEnd line.now.command result }
-    ensures status { IsExitStatus result }
-{
-    match line.command {
-        Command::Find => search(rt, line, manner),
-        _ => run_command(rt, line, manner),
-    }
-}
-
-/// Runs a command that isn't a search, as `run_line`.
-fn run_command<R: AllocGlobal + Clock + Files<File = File> + Input + Print + Eprint>(
     rt: &R,
     line: &Line<'_>,
     manner: Manner,

@@ -7,7 +7,7 @@ use std::rt::Files;
 /// Says how a passphrase on standard input is typed, where that is a terminal: there it is shown, and
 /// a newline ends it where its line is taken, and is else a part of it.
 pub(crate) fn tell_typing<R: Files<File = File> + Eprint>(rt: &R, line: bool) {
-    if is_terminal(rt, INPUT) {
+    if is_terminal(rt) {
         let keys = if line {
             "press Enter"
         } else {
@@ -19,17 +19,11 @@ pub(crate) fn tell_typing<R: Files<File = File> + Eprint>(rt: &R, line: bool) {
     }
 }
 
-/// The name of standard input's file.
-const INPUT: &str = "/proc/self/fd/0";
-
-/// The name of standard error's.
-pub(crate) const ERROR: &str = "/proc/self/fd/2";
-
-/// Whether the stream of this name is a terminal, by the number of its device (Linux, "Linux allocated devices"):
+/// Whether standard input is a terminal, by the number of its device (Linux, "Linux allocated devices"):
 /// consoles and serial lines, the terminal of a process, pseudoterminals. Where /proc isn't mounted it
 /// isn't known to be one.
-pub(crate) fn is_terminal<R: Files<File = File>>(rt: &R, name: &str) -> bool {
-    match fs::metadata(rt, name) {
+fn is_terminal<R: Files<File = File>>(rt: &R) -> bool {
+    match fs::metadata(rt, "/proc/self/fd/0") {
         Ok(found) => {
             found.file_type().is_char_device()
                 && matches!(Node::of(found.rdev()).major, 4 | 5 | 136..=143)

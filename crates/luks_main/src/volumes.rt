@@ -119,7 +119,8 @@ fn room_beside<R: AllocGlobal + Clock + Files<File = File>>(
         return Ok(());
     };
     let length = length_of_backup(rt, line, &backing_up).ok_or(InputFault::Absent)?;
-    Ok(make_room(rt, backing_up.target, length)?)
+    make_room(rt, backing_up.target, length)?;
+    Ok(())
 }
 
 /// How many bytes the backup has; none where the volume can't be looked at, or its header isn't accepted.

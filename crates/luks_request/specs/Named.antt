@@ -1,7 +1,7 @@
 -- What a command does to its volume, and the files that it reads beside it, as the bytes of their names.
 use Rattle.std.specs.Prelude.{ℕ, List, Option, None, Some, option_map, Bool, true, false}
 use Rattle.luks_request.specs.declared.request.Command.{Command}
-use Rattle.luks_request.specs.declared.request.Command.TheVariants.{Check, Show, Open, Edit, Format, Convert, Rebuild, Find, Backup, Restore, Compare}
+use Rattle.luks_request.specs.declared.request.Command.TheVariants.{Check, Show, Open, Edit, Format, Convert, Rebuild, Backup, Restore, Compare}
 use Rattle.luks_request.specs.declared.request.EditRequest.{EditRequest}
 use Rattle.luks_request.specs.declared.request.EditRequest.TheVariants.{Add, Change, Remove, Repair, Label}
 
@@ -30,7 +30,6 @@ passphrase_of (Edit editing) = edit_passphrase_of editing.request
 passphrase_of (Format making) = Some making.passphrase.now
 passphrase_of (Convert converting) = None
 passphrase_of (Rebuild rebuilding) = None
-passphrase_of Find = None
 passphrase_of (Backup backing_up) = None
 passphrase_of (Restore restoring) = None
 passphrase_of (Compare comparing) = None

@@ -48,8 +48,6 @@ pub enum Command<'a> {
     /// Make a detached LUKS2 header out of metadata that is still whole in the volume, which stays as
     /// it is.
     Rebuild(Rebuilding<'a>),
-    /// Find each volume that the device holds, by any sign that is left of it.
-    Find,
     /// Copy the volume's header and key areas to a file.
     Backup(BackingUp<'a>),
     /// Put a backup's header and key areas back onto the volume.
@@ -205,7 +203,6 @@ impl<'a> Line<'a> {
             | Command::Show(_)
             | Command::Convert(_)
             | Command::Rebuild(_)
-            | Command::Find
             | Command::Backup(_)
             | Command::Restore(_)
             | Command::Compare(_) => None,
