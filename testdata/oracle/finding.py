@@ -3,6 +3,9 @@
 A start is a multiple of 512 with one of these signs: the magic and version 1 or 2 there (`header`); a sound second copy at a listed distance that
 names this distance as its size and its place (`copy`); metadata of a first or of a second copy that is whole (`metadata`). A volume is what
 follows its start to the end of the disk.
+
+A JSON area doesn't say whether it is a first copy's or a second one's: so each would tell two starts. Where the magic of one of them stands 4096
+bytes before it, it tells the start of that one alone, and where neither does, both.
 """
 import reader
 from reader import Fault
@@ -33,9 +36,9 @@ def signs_of(disk, start):
         copy = start + size
         if disk[copy:copy + 4] == b"SKUL" and reader.sound(disk[start:], size):
             found.append((copy, "copy"))
-        for at in (0, size):
+        for at, other in ((0, reader.SECOND_MAGIC), (size, reader.FIRST_MAGIC)):
             text = start + at + 4096
-            if disk[text:text + 1] == b"{" and whole_metadata(disk, start, size, at):
+            if disk[text:text + 1] == b"{" and disk[text - 4096:text - 4090] != other and whole_metadata(disk, start, size, at):
                 found.append((text, "metadata"))
     return sorted(found)
 

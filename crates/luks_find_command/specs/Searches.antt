@@ -49,6 +49,13 @@ pub record CountsSome (found : ℕ) (list : List ℕ) : Type 0 where
   pub none : found ≡ 0 → list ≡ []
   pub some : list ≡ [] → found ≡ 0
 
+-- the volumes whose first signs stand before the sector `sectors` were told
+pub record TellsSoFar (offset : ℕ) (v : List ℕ) (sectors : ℕ) (held holds : Option (List ℕ)) (found : ℕ) : Type 0 where
+  pub starts : List ℕ
+  pub so_far : AreStartsBetween v 0 sectors starts
+  pub has : HasTold offset v starts held holds
+  pub counts : CountsSome found starts
+
 -- each volume of the device was told
 pub record IsToldAll (offset : ℕ) (v : List ℕ) (held holds : Option (List ℕ)) (found : ℕ) : Type 0 where
   pub starts : List ℕ
@@ -89,3 +96,12 @@ abbrev pub MayPrint : Stop → ℕ → Type 0
 MayPrint Device prints = prints + 1 < 2 ^ 64
 MayPrint Memory prints = prints + 1 < 2 ^ 64
 MayPrint Unprinted prints = Unit {0}
+
+-- a search that found so many, or stopped
+abbrev pub Finishes : Result ℕ Stop → ℕ → ℕ → Option (List ℕ) → Option (List ℕ) → ℕ → Type 0
+Finishes (Ok found) prints prints_now held holds status = EndsAll found prints prints_now held holds status
+Finishes (Err stop) prints prints_now held holds status = EndsEarly stop prints prints_now held holds status
+
+abbrev pub MayEnd : Result ℕ Stop → ℕ → Type 0
+MayEnd (Ok found) prints = prints + 1 < 2 ^ 64
+MayEnd (Err stop) prints = MayPrint stop prints

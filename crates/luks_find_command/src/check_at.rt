@@ -4,6 +4,7 @@ ghost use Rattle.luks_area.specs.Device.{IsSettled, IsUnchanged};
 ghost use Rattle.luks_commands.specs.CheckAnswers.{IsCheckAnswer};
 ghost use Rattle.luks_reading.specs.declared.report.Data.TheVariants.{Here};
 
+use crate::searched::Searched;
 use crate::volume_at::VolumeAt;
 use luks_commands::{Answer, check};
 use luks_reading::{Data, Device};
@@ -17,7 +18,7 @@ pub(crate) fn check_at<D: Device, E: Write>(
     alloc: Global,
     device: D,
     start: u64,
-    name: &str,
+    file: &Searched<'_>,
     err: &mut E,
 ) -> (Answer, D)
     requires inside { start ≤ D.size device }
@@ -27,14 +28,14 @@ pub(crate) fn check_at<D: Device, E: Write>(
     ensures answers { IsCheckAnswer D.tells (drop start (D.bytes device)) Here
         (D.failed device) (D.failed result.1) result.0 }
 {
-    check_volume::<D, Brand, E>(alloc, device, start, name, err)
+    check_volume::<Brand, D, E>(alloc, device, start, file, err)
 }
 
-fn check_volume<D: Device, K: Disk, E: Write>(
+fn check_volume<K: Disk, D: Device, E: Write>(
     alloc: Global,
     device: D,
     start: u64,
-    name: &str,
+    file: &Searched<'_>,
     err: &mut E,
 ) -> (Answer, D)
     requires room { D.failed device + 1 < 2 ^ 64 }
@@ -48,7 +49,7 @@ fn check_volume<D: Device, K: Disk, E: Write>(
         (D.failed device) (D.failed result.1) result.0 }
 {
     let mut volume = Ok(VolumeAt::<D, K>::new(device, start));
-    let verdict = check::answer(alloc, &mut volume, name, Data::Here, err);
+    let verdict = check::answer(alloc, &mut volume, file.name, Data::Here, err);
     match volume {
         Ok(volume) => (verdict, volume.into_inner()),
         Err(_) => unreachable!(),

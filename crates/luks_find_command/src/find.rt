@@ -5,14 +5,14 @@ ghost use Rattle.luks_area.specs.Device.{IsSettled, IsUnchanged};
 ghost use Rattle.luks_commands.specs.Exit.{IsExitStatus};
 ghost use Rattle.luks_commands.specs.Files.{KeepsVolume};
 ghost use Rattle.luks_find_command.specs.FindAnswers.{run_of, AnswersFind, IsFindRun};
-ghost use Rattle.luks_find_command.specs.Searches.{EndsAll, EndsEarly, MayPrint};
+ghost use Rattle.luks_find_command.specs.Searches.{EndsAll, EndsEarly, Finishes, MayEnd, MayPrint};
 
 use crate::lines::NoneFound;
 use crate::notes::note_found;
 use crate::progress::Progress;
+use crate::searched::Searched;
 use crate::searching::search;
 use crate::stop::Stop;
-use crate::telling::Searched;
 use luks_commands::{Answer, InputFault, Printer, Status, Unprinted, end, unread};
 use luks_reading::Device;
 use luks_request::Place;
@@ -76,11 +76,21 @@ fn find_on<D: Device, P: Printer, E: Write, G: Progress>(
         (P.printed out.old) (P.printed out.new) result.1) }
 {
     let (device, ended) = search(alloc, device, file, out, err, progress);
-    let status = match ended {
+    let status = finish(ended, out, err);
+    (device, status)
+}
+
+/// Prints the last line of a search that found so many volumes or stopped, where it has one; answers
+/// the exit status.
+fn finish<P: Printer, E: Write>(ended: Result<u64, Stop>, out: &mut P, err: &mut E) -> u8
+    requires { MayEnd ended (P.failures out.old) }
+    ensures { Finishes ended (P.failures out.old) (P.failures out.new)
+        (P.printed out.old) (P.printed out.new) result }
+{
+    match ended {
         Ok(found) => end_all(found, out, err),
         Err(stop) => end_early(stop, out),
-    };
-    (device, status)
+    }
 }
 
 /// Says how many volumes were found, and prints a line where there is none; answers the exit status.

@@ -2,14 +2,14 @@
 #![tactic(auto)]
 
 mod check_at;
+pub mod find;
 mod lines;
 mod notes;
 mod progress;
+mod searched;
 mod searching;
 mod stop;
 mod telling;
 mod volume_at;
-
-pub mod find;
 
 pub use progress::{Progress, Untold};

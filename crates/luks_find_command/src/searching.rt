@@ -6,8 +6,9 @@ ghost use Rattle.luks_find_command.specs.Stops.{StopsBy};
 
 use crate::notes::note_fault;
 use crate::progress::Progress;
+use crate::searched::Searched;
 use crate::stop::Stop;
-use crate::telling::{Searched, tell};
+use crate::telling::tell;
 use luks_commands::Printer;
 use luks_finding::{Finding, Step};
 use luks_reading::Device;
@@ -97,13 +98,18 @@ pub(crate) fn search<D: Device, P: Printer, E: Write, G: Progress>(
                 return (device, Err(Stop::from(fault)));
             }
         };
+        if count_of(step) > 0 {
+            progress.clear();
+        }
         let (left, told) = tell_step(alloc, device, step, file, out, err);
         device = left;
-        if let Err(stop) = told {
-            return (device, Err(stop));
+        match told {
+            Ok(()) => {
+                found = found.saturating_add(count_of(step));
+                progress.looked(looked_at(&finding, total), total);
+            }
+            Err(stop) => return (device, Err(stop)),
         }
-        found = found.saturating_add(count_of(step));
-        progress.looked(looked_at(&finding, total), total);
     }
 }
 

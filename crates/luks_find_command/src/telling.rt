@@ -7,20 +7,12 @@ ghost use Rattle.luks_find_command.specs.Stops.{StopsBy};
 use crate::check_at::check_at;
 use crate::lines::StartLine;
 use crate::notes::note_next;
+use crate::searched::Searched;
 use crate::stop::Stop;
 use luks_commands::{Answer, Printer, Unprinted};
 use luks_reading::Device;
 use std::alloc::Global;
 use std::io::Write;
-
-/// The file that is searched.
-#[derive(Debug, Clone, Copy)]
-pub(crate) struct Searched<'a> {
-    /// Its name.
-    pub(crate) name: &'a str,
-    /// The byte of it that is the device's first.
-    pub(crate) offset: u64,
-}
 
 /// Prints the line of the volume that begins at `start`, and says what to do next with it.
 pub(crate) fn tell<D: Device, P: Printer, E: Write>(
@@ -43,7 +35,7 @@ pub(crate) fn tell<D: Device, P: Printer, E: Write>(
     ensures told { D.tells → TellsStep file.now.offset (D.bytes device) (start ∷ [])
         (P.printed out.old) (P.printed out.new) result.1 }
 {
-    let (verdict, device) = check_at(alloc, device, start, file.name, err);
+    let (verdict, device) = check_at(alloc, device, start, file, err);
     match verdict {
         Answer::DeviceFault => (device, Err(Stop::Device)),
         Answer::NoMemory => (device, Err(Stop::Memory)),

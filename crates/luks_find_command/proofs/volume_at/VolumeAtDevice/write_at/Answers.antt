@@ -1,4 +1,4 @@
-use Rattle.std.proofs.Common.{◌≡◌, ℕ, ◌+◌, ◌≤◌, List, inl, inr, length, ap, ◌∙◌, arith}
+use Rattle.std.proofs.Common.{◌≡◌, ℕ, ◌+◌, List, inl, inr, length, ap, ◌∙◌, arith}
 use Rattle.std.proofs.lemmas.Result.{on_ok_weaker}
 use Rattle.luks_area.specs.Ranges.{part, IsAt}
 use Rattle.luks_window.proofs.WindowFacts.{part-written_window, same_but-window}
@@ -8,7 +8,7 @@ pub returns-clause-wrote : goal.returns-clause-wrote
 returns-clause-wrote g c = λ t.
     let window = c.args.self.now in
     let v : List ℕ = g.D.Device.bytes window.device in
-    let there : window.start + window.len ≤ g.D.Device.size window.device = window.whole in
+    let there : window.start + window.len ≡ g.D.Device.size window.device = window.whole in
     let long : length v ≡ g.D.Device.size window.device = g.met.D.Device.sized window.device t in
     on_ok_weaker c.write_at.result
     (λ wrote. ap (λ w. part w window.start window.len) wrote
