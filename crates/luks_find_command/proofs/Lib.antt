@@ -1,0 +1,3 @@
+pub mod SearchFacts
+pub mod TellingFacts
+pub mod VolumeFacts

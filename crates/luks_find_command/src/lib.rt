@@ -1,0 +1,15 @@
+//! The command `find` of the program `luks`, over values: what it prints and answers.
+#![tactic(auto)]
+
+mod check_at;
+pub mod find;
+mod lines;
+mod notes;
+mod progress;
+mod searched;
+mod searching;
+mod stop;
+mod telling;
+mod volume_at;
+
+pub use progress::{Progress, Untold};

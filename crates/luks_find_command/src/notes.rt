@@ -1,0 +1,31 @@
+//! What standard error says of what was found.
+
+use luks_commands::Answer;
+use luks_finding::FindFault;
+use std::io::Write;
+
+/// Says what to do next with the volume that begins at this byte of the file, of which `check` answers
+/// so.
+pub(crate) fn note_next<E: Write>(verdict: &Answer, name: &str, offset: u128, err: &mut E) {
+    if let Answer::Accepted { .. } = verdict {
+        let _ = writeln!(err, "luks: luks open {name} --offset {offset} ..");
+        let _ = writeln!(err, "luks: losetup --find --show --offset {offset} {name}");
+    } else {
+        let _ = writeln!(
+            err,
+            "luks: luks rebuild {name} TARGET --offset {offset} .., if its metadata is whole"
+        );
+    }
+}
+
+/// Says how many were found.
+pub(crate) fn note_found<E: Write>(found: u64, err: &mut E) {
+    let _ = writeln!(err, "luks: {found} found");
+}
+
+/// Says of the file of this name that reading it failed, where the search stopped by that.
+pub(crate) fn note_fault<E: Write>(fault: FindFault, name: &str, err: &mut E) {
+    if fault == FindFault::Device {
+        let _ = writeln!(err, "luks: {name}: reading failed");
+    }
+}

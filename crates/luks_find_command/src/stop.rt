@@ -1,0 +1,28 @@
+//! Why a search stops before the end of its device.
+
+use luks_finding::FindFault;
+
+/// Why a search stops before the end of its device.
+#[derive(Debug, Clone, Copy, PartialEq, Eq)]
+pub(crate) enum Stop {
+    /// A device call failed.
+    Device,
+    /// Memory was refused.
+    Memory,
+    /// A line couldn't be printed.
+    Unprinted,
+}
+
+impl From<FindFault> for Stop {
+    ghost use Rattle.std.specs.Prelude.{◌≡◌};
+    ghost use Rattle.luks_find_command.specs.Stops.{stop_of};
+
+    ghost from_gives = { λ fault stop. stop ≡ stop_of fault };
+
+    fn from(fault: FindFault) -> Stop {
+        match fault {
+            FindFault::Device => Stop::Device,
+            FindFault::Memory => Stop::Memory,
+        }
+    }
+}

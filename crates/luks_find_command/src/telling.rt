@@ -1,0 +1,56 @@
+//! A volume that was found is told.
+ghost use Rattle.std.specs.Prelude.{◌≡◌, ◌+◌, ◌<◌, ◌≤◌, ◌^◌, [], ◌∷◌, IfErr, OnOk};
+ghost use Rattle.luks_area.specs.Device.{IsSettled, IsUnchanged};
+ghost use Rattle.luks_find_command.specs.Searches.{TellsStep};
+ghost use Rattle.luks_find_command.specs.Stops.{StopsBy};
+
+use crate::check_at::check_at;
+use crate::lines::StartLine;
+use crate::notes::note_next;
+use crate::searched::Searched;
+use crate::stop::Stop;
+use luks_commands::{Answer, Printer, Unprinted};
+use luks_reading::Device;
+use std::alloc::Global;
+use std::io::Write;
+
+/// Prints the line of the volume that begins at `start`, and says what to do next with it.
+pub(crate) fn tell<D: Device, P: Printer, E: Write>(
+    alloc: Global,
+    device: D,
+    start: u64,
+    file: &Searched<'_>,
+    out: &mut P,
+    err: &mut E,
+) -> (D, Result<(), Stop>)
+    requires inside { start ≤ D.size device }
+    requires room { D.failed device + 1 < 2 ^ 64 }
+    requires settled { D.tells → IsSettled D.unsettled device }
+    requires printer { P.failures out.old + 1 < 2 ^ 64 }
+    ensures unchanged { IsUnchanged D.tells D.size D.bytes D.unsettled device result.0 }
+    ensures counts { IfErr result.1 (λ stop. StopsBy stop (D.failed device) (D.failed result.0)
+        (P.failures out.old) (P.failures out.new)) }
+    ensures count { OnOk result.1 ((D.failed result.0 ≡ D.failed device)
+        × (P.failures out.new ≡ P.failures out.old)) }
+    ensures told { D.tells → TellsStep file.now.offset (D.bytes device) (start ∷ [])
+        (P.printed out.old) (P.printed out.new) result.1 }
+{
+    let (verdict, device) = check_at(alloc, device, start, file, err);
+    match verdict {
+        Answer::DeviceFault => (device, Err(Stop::Device)),
+        Answer::NoMemory => (device, Err(Stop::Memory)),
+        verdict => {
+            let line = StartLine {
+                offset: u128::from(file.offset) + u128::from(start),
+                verdict,
+            };
+            match out.print(&line) {
+                Ok(()) => {
+                    note_next(&line.verdict, file.name, line.offset, err);
+                    (device, Ok(()))
+                }
+                Err(Unprinted) => (device, Err(Stop::Unprinted)),
+            }
+        }
+    }
+}

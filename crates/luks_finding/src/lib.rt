@@ -1,0 +1,16 @@
+//! Where LUKS volumes begin on a disk, by what is left of them. The disk doesn't change.
+#![tactic(auto)]
+
+mod find_fault;
+mod finding;
+mod metadata;
+mod metadata_signs;
+mod second_copies;
+mod signs;
+mod starts;
+mod telling;
+mod told;
+
+pub use find_fault::FindFault;
+pub use finding::{Finding, Step};
+pub use starts::all_starts;

@@ -1,0 +1,65 @@
+//! The signs of a volume that are seen in a block of a disk.
+ghost use Rattle.std.specs.Prelude.{◌≡◌, ◌↔◌, ◌+◌, ◌*◌, ◌≤◌, IsTrue, IfSome, length};
+ghost use Rattle.luks_finding.specs.Blocks.{BeginsSecond, BeginsSign, BeginsText, FindsIn};
+ghost use Rattle.luks_finding.specs.Starts.{BeginsHeader};
+
+use luks1_header::fields::{field, u16_at};
+use luks1_header::luks1_places::{MAGIC, VERSION};
+
+/// The bytes of a sector: volumes begin at multiples of it.
+pub(crate) const SECTOR: usize = 512;
+
+/// The bytes of a magic and of the version behind it.
+pub(crate) const BEGINNING: usize = 8;
+
+/// The magic of a second copy: `SKUL`, 0xBA, 0xBE.
+pub(crate) const SECOND_MAGIC: [u8; 6] = [0x53, 0x4B, 0x55, 0x4C, 0xBA, 0xBE];
+
+/// Whether a header begins with these 8 bytes.
+pub(crate) fn is_header(beginning: &[u8]) -> bool
+    requires { length beginning.now ≡ 8 }
+    ensures { IsTrue result ↔ BeginsHeader beginning.now }
+{
+    field(beginning, 0, 6) == MAGIC.as_slice() && matches!(u16_at(beginning, VERSION), 1 | 2)
+}
+
+/// Whether a second copy begins with these 8 bytes.
+fn is_second(beginning: &[u8]) -> bool
+    requires { length beginning.now ≡ 8 }
+    ensures { IsTrue result ↔ BeginsSecond beginning.now }
+{
+    field(beginning, 0, 6) == SECOND_MAGIC.as_slice() && u16_at(beginning, VERSION) == 2
+}
+
+/// Whether a JSON area may begin with these 8 bytes.
+pub(crate) fn is_text(beginning: &[u8]) -> bool
+    requires { length beginning.now ≡ 8 }
+    ensures { IsTrue result ↔ BeginsText beginning.now }
+{
+    field(beginning, 0, 1) == b"{".as_slice()
+}
+
+/// Whether a header, a second copy or a JSON area begins with these 8 bytes.
+fn is_sign(beginning: &[u8]) -> bool
+    requires { length beginning.now ≡ 8 }
+    ensures { IsTrue result ↔ BeginsSign beginning.now }
+{
+    is_header(beginning) || is_second(beginning) || is_text(beginning)
+}
+
+/// The first sector of a block at which a header, a second copy or a JSON area begins. The block
+/// begins at a sector.
+pub(crate) fn first_sign(block: &[u8]) -> Option<usize>
+    requires { length block.now ≤ 1048576 }
+    ensures within { IfSome result (λ n. 512 * n + 8 ≤ length block.now) }
+    ensures found { FindsIn block.now result }
+{
+    let whole = (block.len() + (SECTOR - BEGINNING)) / SECTOR;
+    for index in 0..whole {
+        let at = SECTOR * index;
+        if is_sign(&block[at..at + BEGINNING]) {
+            return Some(index);
+        }
+    }
+    None
+}

@@ -1,0 +1,53 @@
+"""Finding in Python: where LUKS volumes begin on a disk, by what is left of them, each with the signs that tell it.
+
+A start is a multiple of 512 with one of these signs: the magic and version 1 or 2 there (`header`); a sound second copy at a listed distance that
+names this distance as its size and its place (`copy`); metadata of a first or of a second copy that is whole (`metadata`). A volume is what
+follows its start to the end of the disk.
+
+A JSON area doesn't say whether it is a first copy's or a second one's: so each would tell two starts. Where the magic of one of them stands 4096
+bytes before it, it tells the start of that one alone, and where neither does, both.
+"""
+import reader
+from reader import Fault
+
+SECTOR = 512
+SIZES = [0x4000 << k for k in range(9)]
+
+
+def begins_header(disk, start):
+    return disk[start:start + 8] in (b"LUKS\xba\xbe\x00\x01", b"LUKS\xba\xbe\x00\x02")
+
+
+def whole_metadata(disk, start, size, at):
+    """Whether the copy of this size at this place of the volume lies inside, and its JSON area has no fault."""
+    if start + at + size > len(disk):
+        return False
+    try:
+        reader.metadata({"size": size, "json": disk[start + at + 4096:start + at + size]})
+    except Fault:
+        return False
+    return True
+
+
+def signs_of(disk, start):
+    """The signs of a volume that begins at the start: pairs of their place on the disk and their name."""
+    found = [(start, "header")] if begins_header(disk, start) else []
+    for size in SIZES:
+        copy = start + size
+        if disk[copy:copy + 4] == b"SKUL" and reader.sound(disk[start:], size):
+            found.append((copy, "copy"))
+        for at, other in ((0, reader.SECOND_MAGIC), (size, reader.FIRST_MAGIC)):
+            text = start + at + 4096
+            if disk[text:text + 1] == b"{" and disk[text - 4096:text - 4090] != other and whole_metadata(disk, start, size, at):
+                found.append((text, "metadata"))
+    return sorted(found)
+
+
+def starts(disk, names=("header", "copy", "metadata")):
+    """Each start with the first of its signs of these names, in the order of these signs' places; those of one place by their start."""
+    told = []
+    for start in range(0, len(disk), SECTOR):
+        signs = [sign for sign in signs_of(disk, start) if sign[1] in names]
+        if signs:
+            told.append((signs[0][0], start, signs[0][1]))
+    return [(start, name) for _, start, name in sorted(told)]
