@@ -27,11 +27,20 @@ fn of_luks2(rt: HostRuntime) -> Result<(), Fail> {
     let one = small2(rt.alloc(), HashName::Sha256)?;
     let two = two_keyslots(rt.alloc())?;
     let current = printed(rt.alloc(), &two, &two)?;
-    assert!(rt; current.as_str() == "current\nkeyslot 0 same\nkeyslot 1 same\n", "{current}");
+    assert!(rt;
+        current.as_str() == "current\nkeyslot 0 same\nkeyslot 1 same\n",
+        "{current}"
+    );
     let added = printed(rt.alloc(), &one, &two)?;
-    assert!(rt; added.as_str() == "outdated\nkeyslot 0 same\nkeyslot 1 missing\n", "{added}");
+    assert!(rt;
+        added.as_str() == "outdated\nkeyslot 0 same\nkeyslot 1 missing\n",
+        "{added}"
+    );
     let removed = printed(rt.alloc(), &two, &one)?;
-    assert!(rt; removed.as_str() == "outdated\nkeyslot 0 same\nkeyslot 1 removed\n", "{removed}");
+    assert!(rt;
+        removed.as_str() == "outdated\nkeyslot 0 same\nkeyslot 1 removed\n",
+        "{removed}"
+    );
     Ok(())
 }
 
@@ -39,7 +48,10 @@ fn of_luks2(rt: HostRuntime) -> Result<(), Fail> {
 fn of_luks1(rt: HostRuntime) -> Result<(), Fail> {
     let image = small1(rt.alloc(), HashName::Sha256)?;
     let current = printed(rt.alloc(), &image, &image)?;
-    assert!(rt; current.as_str() == "current\nkeyslot 0 same\n", "{current}");
+    assert!(rt;
+        current.as_str() == "current\nkeyslot 0 same\n",
+        "{current}"
+    );
     let mut changed = image.to_vec(rt.alloc())?;
     // the first bytes of the salt of the keyslot 0
     put(&mut changed, 216, b"another");
