@@ -1,4 +1,8 @@
 //! How backups stand to volumes, as the command `compare` prints it.
+ghost use Rattle.std.specs.Prelude.{IfOk};
+ghost use Rattle.luks_reading.specs.Header.{IsAcceptedHeader};
+ghost use Rattle.luks_keeping.specs.Judged.{HasFields};
+
 use crate::sources::{backup_of, renamed};
 use luks_area::MemDevice;
 use luks_kdf::HashName;
@@ -10,7 +14,10 @@ use std::process::Abort;
 use std::test::Fail;
 
 /// The header of these bytes, as one without its payload.
-fn header_of(alloc: Global, bytes: &[u8]) -> Result<Header, Fail> {
+fn header_of(alloc: Global, bytes: &[u8]) -> Result<Header, Fail>
+    ensures accepted { IfOk result IsAcceptedHeader }
+    ensures fields { IfOk result HasFields }
+{
     let mut device = MemDevice::new(bytes.to_vec(alloc)?);
     Ok(accepted_header(alloc, &mut device, Data::Elsewhere)?)
 }
@@ -27,11 +34,20 @@ fn of_luks2(rt: HostRuntime) -> Result<(), Fail> {
     let one = small2(rt.alloc(), HashName::Sha256)?;
     let two = two_keyslots(rt.alloc())?;
     let current = printed(rt.alloc(), &two, &two)?;
-    assert!(rt; current.as_str() == "current\nkeyslot 0 same\nkeyslot 1 same\n", "{current}");
+    assert!(rt;
+        current.as_str() == "current\nkeyslot 0 same\nkeyslot 1 same\n",
+        "{current}"
+    );
     let added = printed(rt.alloc(), &one, &two)?;
-    assert!(rt; added.as_str() == "outdated\nkeyslot 0 same\nkeyslot 1 missing\n", "{added}");
+    assert!(rt;
+        added.as_str() == "outdated\nkeyslot 0 same\nkeyslot 1 missing\n",
+        "{added}"
+    );
     let removed = printed(rt.alloc(), &two, &one)?;
-    assert!(rt; removed.as_str() == "outdated\nkeyslot 0 same\nkeyslot 1 removed\n", "{removed}");
+    assert!(rt;
+        removed.as_str() == "outdated\nkeyslot 0 same\nkeyslot 1 removed\n",
+        "{removed}"
+    );
     Ok(())
 }
 
@@ -39,7 +55,10 @@ fn of_luks2(rt: HostRuntime) -> Result<(), Fail> {
 fn of_luks1(rt: HostRuntime) -> Result<(), Fail> {
     let image = small1(rt.alloc(), HashName::Sha256)?;
     let current = printed(rt.alloc(), &image, &image)?;
-    assert!(rt; current.as_str() == "current\nkeyslot 0 same\n", "{current}");
+    assert!(rt;
+        current.as_str() == "current\nkeyslot 0 same\n",
+        "{current}"
+    );
     let mut changed = image.to_vec(rt.alloc())?;
     // the first bytes of the salt of the keyslot 0
     put(&mut changed, 216, b"another");
