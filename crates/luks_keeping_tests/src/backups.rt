@@ -29,7 +29,8 @@ fn of_luks1(rt: HostRuntime) -> Result<(), Fail> {
     let mut source = MemDevice::new(image.to_vec(rt.alloc())?);
     let old = old_bytes(rt.alloc(), LEN)?;
     let mut target = MemDevice::new(old.to_vec(rt.alloc())?);
-    backup(rt.alloc(), &mut source, Data::Here, &mut target)?;
+    let answer = backup(rt.alloc(), &mut source, Data::Here, &mut target);
+    assert!(rt; answer.is_ok(), "it is made");
     let made = target.contents();
     assert!(rt; source.contents() == image.as_slice(), "the source");
     assert!(rt; is_alike(made, &image, 0, 592), "the header");
@@ -59,17 +60,25 @@ fn of_luks2(rt: HostRuntime) -> Result<(), Fail> {
     Ok(())
 }
 
+/// The bytes of the backup of this volume, if one can be made.
+fn length_of(alloc: Global, volume: &mut MemDevice, data_: Data) -> Option<u64> {
+    match backup_length(alloc, volume, data_) {
+        Ok(size) => Some(size),
+        Err(_) => None,
+    }
+}
+
 #[test]
 fn lengths(rt: HostRuntime) -> Result<(), Fail> {
     let mut luks1 = MemDevice::new(small1(rt.alloc(), HashName::Sha256)?);
-    let here = backup_length(rt.alloc(), &mut luks1, Data::Here)?;
+    let here = length_of(rt.alloc(), &mut luks1, Data::Here);
     // the key area of the keyslot 7 begins at the sector 64, and has 5
-    let elsewhere = backup_length(rt.alloc(), &mut luks1, Data::Elsewhere)?;
+    let elsewhere = length_of(rt.alloc(), &mut luks1, Data::Elsewhere);
     let mut luks2 = MemDevice::new(small2(rt.alloc(), HashName::Sha256)?);
-    let region = backup_length(rt.alloc(), &mut luks2, Data::Here)?;
-    assert!(rt; here == 65536, "{here} to the payload");
-    assert!(rt; elsewhere == 35328, "{elsewhere} to the last key area");
-    assert!(rt; region == 65536, "{region} to the end of the region");
+    let region = length_of(rt.alloc(), &mut luks2, Data::Here);
+    assert!(rt; here == Some(65536), "to the payload");
+    assert!(rt; elsewhere == Some(35328), "to the last key area");
+    assert!(rt; region == Some(65536), "to the end of the region");
     Ok(())
 }
 

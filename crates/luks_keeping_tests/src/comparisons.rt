@@ -1,4 +1,8 @@
 //! How backups stand to volumes, as the command `compare` prints it.
+ghost use Rattle.std.specs.Prelude.{IfOk};
+ghost use Rattle.luks_reading.specs.Header.{IsAcceptedHeader};
+ghost use Rattle.luks_keeping.specs.Judged.{HasFields};
+
 use crate::sources::{backup_of, renamed};
 use luks_area::MemDevice;
 use luks_kdf::HashName;
@@ -10,7 +14,10 @@ use std::process::Abort;
 use std::test::Fail;
 
 /// The header of these bytes, as one without its payload.
-fn header_of(alloc: Global, bytes: &[u8]) -> Result<Header, Fail> {
+fn header_of(alloc: Global, bytes: &[u8]) -> Result<Header, Fail>
+    ensures accepted { IfOk result IsAcceptedHeader }
+    ensures fields { IfOk result HasFields }
+{
     let mut device = MemDevice::new(bytes.to_vec(alloc)?);
     Ok(accepted_header(alloc, &mut device, Data::Elsewhere)?)
 }

@@ -1,5 +1,5 @@
 //! What restoring a backup leaves.
-use crate::sources::{LEN, SIZE, backup_of, renamed, wiped};
+use crate::sources::{LEN, SIZE, backup_of, demand, renamed, wiped};
 use luks_area::{Device, MemDevice};
 use luks_kdf::HashName;
 use luks_keeping::{Over, restore};
@@ -13,12 +13,19 @@ use std::test::Fail;
 fn restored(alloc: Global, kept: &[u8], volume: &[u8], over: Over) -> Result<MemDevice, Fail> {
     let mut backup = MemDevice::new(kept.to_vec(alloc)?);
     let mut target = MemDevice::new(volume.to_vec(alloc)?);
-    restore(alloc, &mut backup, &mut target, Data::Here, over)?;
+    let answer = restore(alloc, &mut backup, &mut target, Data::Here, over);
+    demand(answer.is_ok())?;
     Ok(target)
 }
 
 /// The backup of this volume gives its header and key area back, and leaves the payload alone.
-fn gives_back(rt: &impl Abort, alloc: Global, image: &[u8], area: usize) -> Result<(), Fail> {
+fn gives_back(
+    rt: &impl Abort,
+    alloc: Global,
+    image: &[u8],
+    area: (usize, usize),
+) -> Result<(), Fail> {
+    let (from, to) = area;
     let mut volume = image.to_vec(alloc)?;
     put(&mut volume, SIZE, b"data");
     let kept = backup_of(alloc, &volume)?;
@@ -30,7 +37,7 @@ fn gives_back(rt: &impl Abort, alloc: Global, image: &[u8], area: usize) -> Resu
     );
     assert!(rt; part(made, 0, 592) == part(&volume, 0, 592), "the header");
     assert!(rt;
-        part(made, area, area + 2560) == part(&volume, area, area + 2560),
+        part(made, from, to) == part(&volume, from, to),
         "the key area"
     );
     check(alloc, &mut left, Data::Here)?;
@@ -42,9 +49,9 @@ fn gives_back(rt: &impl Abort, alloc: Global, image: &[u8], area: usize) -> Resu
 #[test]
 fn over_nothing(rt: HostRuntime) -> Result<(), Fail> {
     let luks1 = small1(rt.alloc(), HashName::Sha256)?;
-    gives_back(&rt, rt.alloc(), &luks1, 4096)?;
+    gives_back(&rt, rt.alloc(), &luks1, (4096, 6656))?;
     let luks2 = small2(rt.alloc(), HashName::Sha256)?;
-    gives_back(&rt, rt.alloc(), &luks2, 32768)
+    gives_back(&rt, rt.alloc(), &luks2, (32768, 35328))
 }
 
 /// Whether the keyslot of this volume opens.

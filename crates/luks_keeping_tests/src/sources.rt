@@ -12,11 +12,18 @@ pub(crate) const LEN: usize = 66048;
 /// The bytes of their backups.
 pub(crate) const SIZE: usize = 65536;
 
+/// Ends the test where this wasn't done.
+pub(crate) fn demand(done: bool) -> Result<(), Fail> {
+    done.then_some(()).ok_or("it isn't done")?;
+    Ok(())
+}
+
 /// The backup of this volume.
 pub(crate) fn backup_of(alloc: Global, image: &[u8]) -> Result<Vec<u8>, Fail> {
     let mut source = MemDevice::new(image.to_vec(alloc)?);
     let mut target = MemDevice::new(old_bytes(alloc, SIZE)?);
-    backup(alloc, &mut source, Data::Here, &mut target)?;
+    let answer = backup(alloc, &mut source, Data::Here, &mut target);
+    demand(answer.is_ok())?;
     Ok(target.contents().to_vec(alloc)?)
 }
 
