@@ -32,7 +32,7 @@ use Rattle.luks_keeping.specs.declared.restore_fault.RestoreFault.TheVariants as
 use Rattle.luks_keeping_commands.specs.BackingUp.{AnswersBackup, IsBackupAnswer, IsNotKept, IsWithoutFile}
 use Rattle.luks_keeping_commands.specs.Comparing.{AnswersCompare, IsCompareAnswer}
 use Rattle.luks_keeping_commands.specs.Restoring.{AnswersRestore, IsRestoreAnswer}
-use Rattle.luks_keeping_commands.specs.TwoFiles.{Pair as TwoFiles}
+use Rattle.luks_keeping_commands.specs.TwoFiles.{pair_of, Pair as TwoFiles}
 use Rattle.luks_cli.specs.EditAnswers.{AnswersEdit, IsEditAnswer}
 use Rattle.luks_cli.specs.Editing.{Given, Lacking}
 use Rattle.luks_main.specs.Statuses.{EndsBackup, EndsCheck, EndsCompare, EndsConvert, EndsEdit, EndsFormat, EndsOpen, EndsRebuild, EndsRestore, EndsShow, EndsWith}
@@ -283,7 +283,7 @@ without_there tells payload v before after missed a (inr said) = unread_ends End
 pub backup_ends : {D : Type 0} (tells : Type 0) (size : D → ℕ) (bytes : D → List ℕ) (failed : D → ℕ) (payload : Data) (volume volume_new old new : Result D InputFault) (a : Answer)
     → AnswersBackup tells size bytes failed payload volume volume_new old new a → EndsBackup a (own a)
 backup_ends tells size bytes failed payload volume volume_new (Err (Unreadable reason.Exists)) new a is = subst (λ x. EndsBackup x (own x)) (sym is) refl
-backup_ends tells size bytes failed payload (Ok volume) (Ok volume_new) (Ok old) (Ok new) a said = backup_there tells payload _ a said
+backup_ends tells size bytes failed payload (Ok volume) (Ok volume_new) (Ok old) (Ok new) a said = backup_there tells payload (pair_of size bytes failed volume volume_new old new) a said
 backup_ends tells size bytes failed payload (Ok volume) (Ok volume_new) (Err missed) new a said = without_there tells payload (bytes volume) (failed volume) (failed volume_new) missed a said
 backup_ends tells size bytes failed payload (Err missed) volume_new old new a is = unread_ends EndsBackup refl refl missed a is
 backup_ends tells size bytes failed payload volume volume_new old new a said = absurd said
@@ -297,7 +297,7 @@ restore_there tells payload over d a said = absurd said
 
 pub restore_ends : {D : Type 0} (tells : Type 0) (size : D → ℕ) (bytes : D → List ℕ) (failed : D → ℕ) (payload : Data) (over : Over) (old new backup backup_new : Result D InputFault) (a : Answer)
     → AnswersRestore tells size bytes failed payload over old new backup backup_new a → EndsRestore a (own a)
-restore_ends tells size bytes failed payload over (Ok old) (Ok new) (Ok backup) (Ok backup_new) a said = restore_there tells payload over _ a said
+restore_ends tells size bytes failed payload over (Ok old) (Ok new) (Ok backup) (Ok backup_new) a said = restore_there tells payload over (pair_of size bytes failed backup backup_new old new) a said
 restore_ends tells size bytes failed payload over (Ok old) new (Err missed) backup_new a is = unread_ends EndsRestore refl refl missed a is
 restore_ends tells size bytes failed payload over (Err missed) new backup backup_new a is = unread_ends EndsRestore refl refl missed a is
 restore_ends tells size bytes failed payload over old new backup backup_new a said = absurd said
@@ -317,7 +317,7 @@ compare_there tells payload d a said = absurd said
 
 pub compare_ends : {D : Type 0} (tells : Type 0) (size : D → ℕ) (bytes : D → List ℕ) (failed : D → ℕ) (payload : Data) (old new backup backup_new : Result D InputFault) (a : Answer)
     → AnswersCompare tells size bytes failed payload old new backup backup_new a → EndsCompare a (own a)
-compare_ends tells size bytes failed payload (Ok old) (Ok new) (Ok backup) (Ok backup_new) a said = compare_there tells payload _ a said
+compare_ends tells size bytes failed payload (Ok old) (Ok new) (Ok backup) (Ok backup_new) a said = compare_there tells payload (pair_of size bytes failed backup backup_new old new) a said
 compare_ends tells size bytes failed payload (Ok old) new (Err missed) backup_new a is = unread_ends EndsCompare refl refl missed a is
 compare_ends tells size bytes failed payload (Err missed) new backup backup_new a is = unread_ends EndsCompare refl refl missed a is
 compare_ends tells size bytes failed payload old new backup backup_new a said = absurd said
