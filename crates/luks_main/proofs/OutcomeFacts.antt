@@ -7,13 +7,9 @@ use Rattle.std.specs.Io.KnownBytes.{Appends}
 use Rattle.luks_reading.specs.declared.report.Data.{Data}
 use Rattle.luks_request.specs.declared.request.Command.{Command}
 use Rattle.luks_request.specs.declared.request.Command.TheVariants as command
-use Rattle.luks_request.specs.declared.request.Converting.{Converting}
 use Rattle.luks_request.specs.declared.request.Editing.{Editing}
 use Rattle.luks_request.specs.declared.request.Making.{Making}
 use Rattle.luks_request.specs.declared.request.ShowAs.{ShowAs}
-use Rattle.luks_request.specs.declared.keeping.BackingUp.{BackingUp}
-use Rattle.luks_request.specs.declared.keeping.Comparing.{Comparing}
-use Rattle.luks_request.specs.declared.keeping.Restoring.{Restoring}
 use Rattle.luks_request.specs.declared.rebuilding.Rebuilding.{Rebuilding}
 use Rattle.luks_commands.specs.declared.answers.Answer.{Answer}
 use Rattle.luks_commands.specs.declared.answers.Answer.TheVariants.{NoMemory}
@@ -26,17 +22,17 @@ use Rattle.luks_commands.specs.Checked.{WhereCheck}
 use Rattle.luks_commands.specs.Formatting.{WhereFormat}
 use Rattle.luks_commands.specs.OpenAnswers.{WhereOpen}
 use Rattle.luks_show_command.specs.ShowAnswers.{WhereShow}
-use Rattle.luks_header_commands.specs.Converting.{WhereConvert}
+use Rattle.luks_header_commands.specs.Converting.{AnswersConvert, WhereConvert}
 use Rattle.luks_header_commands.specs.Rebuilding.{WhereRebuild}
 use Rattle.luks_header_commands.specs.Target.{AreOneFile, IsSameFile}
-use Rattle.luks_keeping_commands.specs.BackingUp.{WhereBackup}
-use Rattle.luks_keeping_commands.specs.Comparing.{WhereCompare}
-use Rattle.luks_keeping_commands.specs.Restoring.{WhereRestore}
+use Rattle.luks_keeping_commands.specs.BackingUp.{AnswersBackup, WhereBackup}
+use Rattle.luks_keeping_commands.specs.Comparing.{AnswersCompare, WhereCompare}
+use Rattle.luks_keeping_commands.specs.Restoring.{AnswersRestore, over_of, WhereRestore}
 use Rattle.luks_cli.specs.Editing.{WhereEdit}
 use Rattle.luks_main.specs.declared.outcome.Outcome.{Outcome}
 use Rattle.luks_main.specs.Outcomes.{EndsAsObject, IsOf, IsOutcome, IsToldAsObject, IsUntold, told, refused, failed}
 use Rattle.luks_main.specs.Statuses.{EndsBackup, EndsCheck, EndsCompare, EndsConvert, EndsEdit, EndsFormat, EndsOpen, EndsRebuild, EndsRestore, EndsShow, EndsWith, MayEnd}
-use Rattle.luks_main.proofs.StatusFacts.{backup_same_file_ends, compare_same_file_ends, converted_same_file_ends, memory_ends, own, prints_as, rebuilt_same_file_ends, restore_same_file_ends}
+use Rattle.luks_main.proofs.StatusFacts.{backup_ends, backup_same_file_ends, compare_ends, compare_same_file_ends, convert_ends, converted_same_file_ends, memory_ends, own, prints_as, rebuilt_same_file_ends, restore_ends, restore_same_file_ends}
 
 -- ---- whether both files are one
 
@@ -63,63 +59,64 @@ by_one_file (inr two) of_one of_two = of_two two
 -- ---- what was printed
 
 -- of each command what it printed was an answer of the table
-pub commands_print : {D : Type 0} (X Y Z V W : Type 0) (c : Command) (name : List ℕ) (target : Result D InputFault) (before after : ℕ) (held holds : Option (List ℕ)) (n : ℕ)
+pub commands_print : {D : Type 0} (tells : Type 0) (size : D → ℕ) (bytes : D → List ℕ) (failures : D → ℕ) (volume volume_new target target_new : Result D InputFault)
+    (unread : InputFault → Type 0) (HasRandom : List ℕ → Type 0) (X Y Z V W : Type 0) (c : Command) (name : List ℕ) (before after : ℕ) (held holds : Option (List ℕ)) (n : ℕ)
     (Checks : Data → Answer → Type 0) → ((payload : Data) (a : Answer) → Checks payload a → EndsCheck a (own a))
     → (Shows : ShowAs → Answer → Type 0) → ((shown_as : ShowAs) (a : Answer) → Shows shown_as a → EndsShow shown_as a (own a))
     → (Opens : Option ℕ → ℕ → Answer → Type 0) → ((slot : Option ℕ) (memory : ℕ) (a : Answer) → Opens slot memory a → EndsOpen slot a (own a))
     → (Edits : Editing → Answer → Type 0) → ((editing : Editing) (a : Answer) → Edits editing a → EndsEdit a (own a))
     → (Formats : Making → Answer → Type 0) → ((making : Making) (a : Answer) → Formats making a → EndsFormat a (own a))
-    → (Converts : Converting → Answer → Type 0) → ((converting : Converting) (a : Answer) → Converts converting a → EndsConvert a (own a))
     → (Rebuilds : Rebuilding → Answer → Type 0) → ((rebuilding : Rebuilding) (a : Answer) → Rebuilds rebuilding a → EndsRebuild a (own a))
-    → (Backs : BackingUp → Answer → Type 0) → ((backing_up : BackingUp) (a : Answer) → Backs backing_up a → EndsBackup a (own a))
-    → (Restores : Restoring → Answer → Type 0) → ((restoring : Restoring) (a : Answer) → Restores restoring a → EndsRestore a (own a))
-    → (Compares : Comparing → Answer → Type 0) → ((comparing : Comparing) (a : Answer) → Compares comparing a → EndsCompare a (own a))
     → WhereCheck c (λ payload. Prints (Checks payload) before after held holds n)
     → WhereShow c (λ shown_as. Prints (Shows shown_as) before after held holds n)
     → WhereOpen c (λ slot memory. Prints (Opens slot memory) before after held holds n)
     → WhereEdit c (λ editing. Prints (Edits editing) before after held holds n)
     → WhereFormat c (λ making. Prints (Formats making) before after held holds n)
     → WhereConvert c (λ converting. AreOneFile name converting.target.now target → X × Prints IsSameFile before after held holds n)
-    → WhereConvert c (λ converting. (AreOneFile name converting.target.now target → ⊥) → Prints (Converts converting) before after held holds n)
+    → WhereConvert c (λ converting. (AreOneFile name converting.target.now target → ⊥)
+        → Prints (AnswersConvert tells size bytes failures converting.data_ unread HasRandom volume volume_new target target_new) before after held holds n)
     → WhereRebuild c (λ rebuilding. AreOneFile name rebuilding.target.now target → Y × Prints IsSameFile before after held holds n)
     → WhereRebuild c (λ rebuilding. (AreOneFile name rebuilding.target.now target → ⊥) → Prints (Rebuilds rebuilding) before after held holds n)
     → WhereBackup c (λ backing_up. AreOneFile name backing_up.target.now target → Z × Prints IsSameFile before after held holds n)
-    → WhereBackup c (λ backing_up. (AreOneFile name backing_up.target.now target → ⊥) → Prints (Backs backing_up) before after held holds n)
+    → WhereBackup c (λ backing_up. (AreOneFile name backing_up.target.now target → ⊥)
+        → Prints (AnswersBackup tells size bytes failures backing_up.data_ volume volume_new target target_new) before after held holds n)
     → WhereRestore c (λ restoring. AreOneFile name restoring.backup.now target → V × Prints IsSameFile before after held holds n)
-    → WhereRestore c (λ restoring. (AreOneFile name restoring.backup.now target → ⊥) → Prints (Restores restoring) before after held holds n)
+    → WhereRestore c (λ restoring. (AreOneFile name restoring.backup.now target → ⊥)
+        → Prints (AnswersRestore tells size bytes failures restoring.data_ (over_of restoring.other) volume volume_new target target_new) before after held holds n)
     → WhereCompare c (λ comparing. AreOneFile name comparing.backup.now target → W × Prints IsSameFile before after held holds n)
-    → WhereCompare c (λ comparing. (AreOneFile name comparing.backup.now target → ⊥) → Prints (Compares comparing) before after held holds n)
+    → WhereCompare c (λ comparing. (AreOneFile name comparing.backup.now target → ⊥)
+        → Prints (AnswersCompare tells size bytes failures comparing.data_ volume volume_new target target_new) before after held holds n)
     → Prints (λ a. EndsWith c a (own a)) before after held holds n
-commands_print X Y Z V W (command.Check payload) name target before after held holds n Checks of_check Shows of_show Opens of_open Edits of_edit Formats of_format Converts of_convert Rebuilds of_rebuild Backs of_back Restores of_restore Compares of_compare check show open_ edit format same_c convert same_r rebuild same_b back same_s restore same_m compare =
+commands_print tells size bytes failures volume volume_new target target_new unread HasRandom X Y Z V W (command.Check payload) name before after held holds n Checks of_check Shows of_show Opens of_open Edits of_edit Formats of_format Rebuilds of_rebuild check show open_ edit format same_c convert same_r rebuild same_b back same_s restore same_m compare =
     prints_as (Checks payload) _ (of_check payload) before after held holds n check
-commands_print X Y Z V W (command.Show shown_as) name target before after held holds n Checks of_check Shows of_show Opens of_open Edits of_edit Formats of_format Converts of_convert Rebuilds of_rebuild Backs of_back Restores of_restore Compares of_compare check show open_ edit format same_c convert same_r rebuild same_b back same_s restore same_m compare =
+commands_print tells size bytes failures volume volume_new target target_new unread HasRandom X Y Z V W (command.Show shown_as) name before after held holds n Checks of_check Shows of_show Opens of_open Edits of_edit Formats of_format Rebuilds of_rebuild check show open_ edit format same_c convert same_r rebuild same_b back same_s restore same_m compare =
     prints_as (Shows shown_as) _ (of_show shown_as) before after held holds n show
-commands_print X Y Z V W (command.Open passphrase slot memory) name target before after held holds n Checks of_check Shows of_show Opens of_open Edits of_edit Formats of_format Converts of_convert Rebuilds of_rebuild Backs of_back Restores of_restore Compares of_compare check show open_ edit format same_c convert same_r rebuild same_b back same_s restore same_m compare =
+commands_print tells size bytes failures volume volume_new target target_new unread HasRandom X Y Z V W (command.Open passphrase slot memory) name before after held holds n Checks of_check Shows of_show Opens of_open Edits of_edit Formats of_format Rebuilds of_rebuild check show open_ edit format same_c convert same_r rebuild same_b back same_s restore same_m compare =
     prints_as (Opens slot memory) _ (of_open slot memory) before after held holds n open_
-commands_print X Y Z V W (command.Edit editing) name target before after held holds n Checks of_check Shows of_show Opens of_open Edits of_edit Formats of_format Converts of_convert Rebuilds of_rebuild Backs of_back Restores of_restore Compares of_compare check show open_ edit format same_c convert same_r rebuild same_b back same_s restore same_m compare =
+commands_print tells size bytes failures volume volume_new target target_new unread HasRandom X Y Z V W (command.Edit editing) name before after held holds n Checks of_check Shows of_show Opens of_open Edits of_edit Formats of_format Rebuilds of_rebuild check show open_ edit format same_c convert same_r rebuild same_b back same_s restore same_m compare =
     prints_as (Edits editing) _ (of_edit editing) before after held holds n edit
-commands_print X Y Z V W (command.Format making) name target before after held holds n Checks of_check Shows of_show Opens of_open Edits of_edit Formats of_format Converts of_convert Rebuilds of_rebuild Backs of_back Restores of_restore Compares of_compare check show open_ edit format same_c convert same_r rebuild same_b back same_s restore same_m compare =
+commands_print tells size bytes failures volume volume_new target target_new unread HasRandom X Y Z V W (command.Format making) name before after held holds n Checks of_check Shows of_show Opens of_open Edits of_edit Formats of_format Rebuilds of_rebuild check show open_ edit format same_c convert same_r rebuild same_b back same_s restore same_m compare =
     prints_as (Formats making) _ (of_format making) before after held holds n format
-commands_print X Y Z V W (command.Convert converting) name target before after held holds n Checks of_check Shows of_show Opens of_open Edits of_edit Formats of_format Converts of_convert Rebuilds of_rebuild Backs of_back Restores of_restore Compares of_compare check show open_ edit format same_c convert same_r rebuild same_b back same_s restore same_m compare =
+commands_print tells size bytes failures volume volume_new target target_new unread HasRandom X Y Z V W (command.Convert converting) name before after held holds n Checks of_check Shows of_show Opens of_open Edits of_edit Formats of_format Rebuilds of_rebuild check show open_ edit format same_c convert same_r rebuild same_b back same_s restore same_m compare =
     by_one_file (one_file name converting.target.now target)
     (λ one. prints_as IsSameFile (λ a. EndsConvert a (own a)) converted_same_file_ends before after held holds n (same_c one).1)
-    (λ two. prints_as (Converts converting) (λ a. EndsConvert a (own a)) (of_convert converting) before after held holds n (convert two))
-commands_print X Y Z V W (command.Rebuild rebuilding) name target before after held holds n Checks of_check Shows of_show Opens of_open Edits of_edit Formats of_format Converts of_convert Rebuilds of_rebuild Backs of_back Restores of_restore Compares of_compare check show open_ edit format same_c convert same_r rebuild same_b back same_s restore same_m compare =
+    (λ two. prints_as (AnswersConvert tells size bytes failures converting.data_ unread HasRandom volume volume_new target target_new) (λ a. EndsConvert a (own a)) (convert_ends tells size bytes failures converting.data_ unread HasRandom volume volume_new target target_new) before after held holds n (convert two))
+commands_print tells size bytes failures volume volume_new target target_new unread HasRandom X Y Z V W (command.Rebuild rebuilding) name before after held holds n Checks of_check Shows of_show Opens of_open Edits of_edit Formats of_format Rebuilds of_rebuild check show open_ edit format same_c convert same_r rebuild same_b back same_s restore same_m compare =
     by_one_file (one_file name rebuilding.target.now target)
     (λ one. prints_as IsSameFile (λ a. EndsRebuild a (own a)) rebuilt_same_file_ends before after held holds n (same_r one).1)
     (λ two. prints_as (Rebuilds rebuilding) (λ a. EndsRebuild a (own a)) (of_rebuild rebuilding) before after held holds n (rebuild two))
-commands_print X Y Z V W (command.Backup backing_up) name target before after held holds n Checks of_check Shows of_show Opens of_open Edits of_edit Formats of_format Converts of_convert Rebuilds of_rebuild Backs of_back Restores of_restore Compares of_compare check show open_ edit format same_c convert same_r rebuild same_b back same_s restore same_m compare =
+commands_print tells size bytes failures volume volume_new target target_new unread HasRandom X Y Z V W (command.Backup backing_up) name before after held holds n Checks of_check Shows of_show Opens of_open Edits of_edit Formats of_format Rebuilds of_rebuild check show open_ edit format same_c convert same_r rebuild same_b back same_s restore same_m compare =
     by_one_file (one_file name backing_up.target.now target)
     (λ one. prints_as IsSameFile (λ a. EndsBackup a (own a)) backup_same_file_ends before after held holds n (same_b one).1)
-    (λ two. prints_as (Backs backing_up) (λ a. EndsBackup a (own a)) (of_back backing_up) before after held holds n (back two))
-commands_print X Y Z V W (command.Restore restoring) name target before after held holds n Checks of_check Shows of_show Opens of_open Edits of_edit Formats of_format Converts of_convert Rebuilds of_rebuild Backs of_back Restores of_restore Compares of_compare check show open_ edit format same_c convert same_r rebuild same_b back same_s restore same_m compare =
+    (λ two. prints_as (AnswersBackup tells size bytes failures backing_up.data_ volume volume_new target target_new) (λ a. EndsBackup a (own a)) (backup_ends tells size bytes failures backing_up.data_ volume volume_new target target_new) before after held holds n (back two))
+commands_print tells size bytes failures volume volume_new target target_new unread HasRandom X Y Z V W (command.Restore restoring) name before after held holds n Checks of_check Shows of_show Opens of_open Edits of_edit Formats of_format Rebuilds of_rebuild check show open_ edit format same_c convert same_r rebuild same_b back same_s restore same_m compare =
     by_one_file (one_file name restoring.backup.now target)
     (λ one. prints_as IsSameFile (λ a. EndsRestore a (own a)) restore_same_file_ends before after held holds n (same_s one).1)
-    (λ two. prints_as (Restores restoring) (λ a. EndsRestore a (own a)) (of_restore restoring) before after held holds n (restore two))
-commands_print X Y Z V W (command.Compare comparing) name target before after held holds n Checks of_check Shows of_show Opens of_open Edits of_edit Formats of_format Converts of_convert Rebuilds of_rebuild Backs of_back Restores of_restore Compares of_compare check show open_ edit format same_c convert same_r rebuild same_b back same_s restore same_m compare =
+    (λ two. prints_as (AnswersRestore tells size bytes failures restoring.data_ (over_of restoring.other) volume volume_new target target_new) (λ a. EndsRestore a (own a)) (restore_ends tells size bytes failures restoring.data_ (over_of restoring.other) volume volume_new target target_new) before after held holds n (restore two))
+commands_print tells size bytes failures volume volume_new target target_new unread HasRandom X Y Z V W (command.Compare comparing) name before after held holds n Checks of_check Shows of_show Opens of_open Edits of_edit Formats of_format Rebuilds of_rebuild check show open_ edit format same_c convert same_r rebuild same_b back same_s restore same_m compare =
     by_one_file (one_file name comparing.backup.now target)
     (λ one. prints_as IsSameFile (λ a. EndsCompare a (own a)) compare_same_file_ends before after held holds n (same_m one).1)
-    (λ two. prints_as (Compares comparing) (λ a. EndsCompare a (own a)) (of_compare comparing) before after held holds n (compare two))
+    (λ two. prints_as (AnswersCompare tells size bytes failures comparing.data_ volume volume_new target target_new) (λ a. EndsCompare a (own a)) (compare_ends tells size bytes failures comparing.data_ volume volume_new target target_new) before after held holds n (compare two))
 
 -- ---- what it came to
 
