@@ -52,6 +52,10 @@ impl<R: Clock + Files<File = File> + Eprint> Progress for ProgressLine<'_, R> {
         if total <= LONG {
             return;
         }
+        if at >= total {
+            self.clear();
+            return;
+        }
         let Some(elapsed) = self.elapsed() else {
             return;
         };
