@@ -24,6 +24,9 @@ use std::io::{Read, Write};
 /// Writes a backup of the header of the volume of this name to the target, and prints that it is done;
 /// answers the exit status. Where the target isn't there, since it isn't made for a volume that isn't
 /// accepted, that is what is printed.
+///
+/// It isn't inlined, so that it takes no stack where another command runs.
+#[inline(never)]
 pub fn run<D: Device, R: Read, N: Read, P: Printer, E: Write>(
     alloc: Global,
     inputs: &mut Inputs<D, R, N>,

@@ -20,6 +20,9 @@ use std::io::{Read, Write};
 
 /// Prints how the backup, which `inputs.target` is, stands to the volume of this name; answers the exit
 /// status. Nothing is written.
+///
+/// It isn't inlined, so that it takes no stack where another command runs.
+#[inline(never)]
 pub fn run<D: Device, R: Read, N: Read, P: Printer, E: Write>(
     alloc: Global,
     inputs: &mut Inputs<D, R, N>,

@@ -21,6 +21,9 @@ use std::io::{Read, Write};
 /// Puts the header and the key areas of the backup, which `inputs.target` is, onto the volume of this
 /// name, and prints that it is done; answers the exit status. Before the first write standard error
 /// says by how many keyslots the two differ.
+///
+/// It isn't inlined, so that it takes no stack where another command runs.
+#[inline(never)]
 pub fn run<D: Device, R: Read, N: Read, P: Printer, E: Write>(
     alloc: Global,
     inputs: &mut Inputs<D, R, N>,
