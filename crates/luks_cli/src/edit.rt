@@ -34,9 +34,6 @@ use words::words;
 
 /// Edits the volume of this name, and prints that it is done; answers the exit status. The
 /// passphrase is read first, then the new one, and the random bytes last.
-///
-/// It isn't inlined, so that it takes no stack where another command runs.
-#[inline(never)]
 pub(crate) fn run<D: Device, R: Read, N: Read, P: Printer, E: Write>(
     alloc: Global,
     inputs: &mut Inputs<D, R, N>,

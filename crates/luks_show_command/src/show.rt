@@ -17,6 +17,9 @@ use std::alloc::Global;
 use std::io::Write;
 
 /// Prints what the header of the volume of this name says, in this form; answers the exit status.
+///
+/// It isn't inlined, so that it takes no stack where another command runs.
+#[inline(never)]
 pub fn run<D: Device, P: Printer, E: Write>(
     alloc: Global,
     volume: &mut Result<D, InputFault>,
