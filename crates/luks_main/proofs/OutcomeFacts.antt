@@ -74,18 +74,18 @@ pub commands_print : {D : Type 0} (tells : Type 0) (size : D → ℕ) (bytes : D
     → WhereFormat c (λ making. Prints (Formats making) before after held holds n)
     → WhereConvert c (λ converting. AreOneFile name converting.target.now target → X × Prints IsSameFile before after held holds n)
     → WhereConvert c (λ converting. (AreOneFile name converting.target.now target → ⊥)
-        → Prints (AnswersConvert tells size bytes failures converting.data_ unread HasRandom volume volume_new target target_new) before after held holds n)
+    → Prints (AnswersConvert tells size bytes failures converting.data_ unread HasRandom volume volume_new target target_new) before after held holds n)
     → WhereRebuild c (λ rebuilding. AreOneFile name rebuilding.target.now target → Y × Prints IsSameFile before after held holds n)
     → WhereRebuild c (λ rebuilding. (AreOneFile name rebuilding.target.now target → ⊥) → Prints (Rebuilds rebuilding) before after held holds n)
     → WhereBackup c (λ backing_up. AreOneFile name backing_up.target.now target → Z × Prints IsSameFile before after held holds n)
     → WhereBackup c (λ backing_up. (AreOneFile name backing_up.target.now target → ⊥)
-        → Prints (AnswersBackup tells size bytes failures backing_up.data_ volume volume_new target target_new) before after held holds n)
+    → Prints (AnswersBackup tells size bytes failures backing_up.data_ volume volume_new target target_new) before after held holds n)
     → WhereRestore c (λ restoring. AreOneFile name restoring.backup.now target → V × Prints IsSameFile before after held holds n)
     → WhereRestore c (λ restoring. (AreOneFile name restoring.backup.now target → ⊥)
-        → Prints (AnswersRestore tells size bytes failures restoring.data_ (over_of restoring.other) volume volume_new target target_new) before after held holds n)
+    → Prints (AnswersRestore tells size bytes failures restoring.data_ (over_of restoring.other) volume volume_new target target_new) before after held holds n)
     → WhereCompare c (λ comparing. AreOneFile name comparing.backup.now target → W × Prints IsSameFile before after held holds n)
     → WhereCompare c (λ comparing. (AreOneFile name comparing.backup.now target → ⊥)
-        → Prints (AnswersCompare tells size bytes failures comparing.data_ volume volume_new target target_new) before after held holds n)
+    → Prints (AnswersCompare tells size bytes failures comparing.data_ volume volume_new target target_new) before after held holds n)
     → Prints (λ a. EndsWith c a (own a)) before after held holds n
 commands_print tells size bytes failures volume volume_new target target_new unread HasRandom X Y Z V W (command.Check payload) name before after held holds n Checks of_check Shows of_show Opens of_open Edits of_edit Formats of_format Rebuilds of_rebuild check show open_ edit format same_c convert same_r rebuild same_b back same_s restore same_m compare =
     prints_as (Checks payload) _ (of_check payload) before after held holds n check
