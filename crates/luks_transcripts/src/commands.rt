@@ -87,7 +87,7 @@ impl Command<'_> {
                 let is_object = manner.json;
                 Ok(run_as(alloc, &line, is_object, volumes, files, troubles, told))
             }
-            Ok(Parsed::Explain(_)) | Err(_) => Err(Fault::NoCommand),
+            Ok(Parsed::Explain(_) | Parsed::Find(..)) | Err(_) => Err(Fault::NoCommand),
         }
     }
 }
