@@ -26,7 +26,7 @@ both_short old new some =
 pub short_where_allowed : (e : Edit) → 0 < allowed_memory e → HasShortPassphrases e
 short_where_allowed (Add by_ old new to iterations) some = both_short old new.now some
 short_where_allowed (Change slot old new iterations) some = both_short old new.now some
-short_where_allowed (Remove slot passphrase) some = (both_short passphrase [] some).0
+short_where_allowed (Remove slot by_ passphrase) some = (both_short passphrase [] some).0
 short_where_allowed Repair some = tt
 short_where_allowed (Label text) some = tt
 

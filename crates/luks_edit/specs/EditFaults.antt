@@ -3,13 +3,14 @@ use Rattle.std.specs.Prelude.{ℕ, List, [], ◌∷◌, Bool, true, false}
 use Rattle.luks_reading.specs.Answer.{slot_row}
 use Rattle.luks_reading.specs.Checked.{check_key}
 use Rattle.luks_edit.specs.declared.edit_fault.EditFault.{EditFault}
-use Rattle.luks_edit.specs.declared.edit_fault.EditFault.TheVariants.{NotAccepted, Requirements, NoSuchSlot, Locked, Slot, SlotTaken, NoFreeSlot, NoRoom, LastSlot, Iterations, BadLabel, SeqExhausted, MetadataFull, RandomLength, Memory, Device}
+use Rattle.luks_edit.specs.declared.edit_fault.EditFault.TheVariants.{NotAccepted, Requirements, NoSuchSlot, SameSlot, Locked, Slot, SlotTaken, NoFreeSlot, NoRoom, LastSlot, Iterations, BadLabel, SeqExhausted, MetadataFull, RandomLength, Memory, Device}
 
 -- the rows of the table of faults, in their order
 abbrev pub edit_row : EditFault → ℕ
-edit_row (NotAccepted f) = 1
-edit_row Requirements = 2
-edit_row NoSuchSlot = 3
+edit_row (NotAccepted f) = 0
+edit_row Requirements = 1
+edit_row NoSuchSlot = 2
+edit_row SameSlot = 3
 edit_row Locked = 4
 edit_row (Slot s) = 5
 edit_row SlotTaken = 6

@@ -11,6 +11,7 @@ abbrev pub edit_fault_text : EditFault → List ℕ
 edit_fault_text (edit.NotAccepted f) = check_fault_text f
 edit_fault_text edit.Requirements = codes "Requirements"
 edit_fault_text edit.NoSuchSlot = codes "NoSuchSlot"
+edit_fault_text edit.SameSlot = codes "SameSlot"
 edit_fault_text edit.Locked = codes "Locked"
 edit_fault_text (edit.Slot f) = slot_fault_text f
 edit_fault_text edit.SlotTaken = codes "SlotTaken"

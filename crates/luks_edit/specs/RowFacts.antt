@@ -15,13 +15,14 @@ use Rattle.luks_edit.specs.EditFaults.{edit_key, edit_place, edit_row}
 
 -- the row has one place
 abbrev pub is_plain : ℕ → Bool
-is_plain k = if k == 1 then false else (if k == 5 then false else true)
+is_plain k = if k == 0 then false else (if k == 5 then false else true)
 
 -- the fault of a row with one place
 abbrev fault_at : ℕ → EditFault
 fault_at n =
-    if n == 2 then fault.Requirements
-    else (if n == 3 then fault.NoSuchSlot
+    if n == 1 then fault.Requirements
+    else (if n == 2 then fault.NoSuchSlot
+    else (if n == 3 then fault.SameSlot
     else (if n == 4 then fault.Locked
     else (if n == 6 then fault.SlotTaken
     else (if n == 7 then fault.NoFreeSlot
@@ -33,13 +34,13 @@ fault_at n =
     else (if n == 13 then fault.MetadataFull
     else (if n == 14 then fault.RandomLength
     else (if n == 15 then fault.Memory
-    else fault.Device))))))))))))
+    else fault.Device)))))))))))))
 
 pub record IsOnly (f : EditFault) : Type 0 where
   pub plain : is_plain (edit_row f) ≡ true
   pub is : fault_at (edit_row f) ≡ f
   pub place : edit_place f ≡ []
-  pub low : 2 ≤ edit_row f
+  pub low : 1 ≤ edit_row f
   pub high : edit_row f ≤ 16
 
 abbrev pub View : EditFault → Type 0
@@ -58,7 +59,7 @@ not_plain k f row not plain = false≢true (sym not ∙ ap is_plain (sym row) �
 -- the fault of a plain row is the only one of it
 only_of : (f : EditFault) → is_plain (edit_row f) ≡ true → IsOnly f
 only_of f plain = elim (view f) [
-  | inl c ↦ absurd (not_plain 1 f (ap edit_row c.1) refl plain)
+  | inl c ↦ absurd (not_plain 0 f (ap edit_row c.1) refl plain)
   | inr other ↦ (elim other [
     | inl s ↦ absurd (not_plain 5 f (ap edit_row s.1) refl plain)
     | inr only ↦ only
@@ -71,7 +72,7 @@ only_one f g plain same = sym (only_of g (ap is_plain same ∙ plain)).is ∙ ap
 -- each row is one of the table
 pub in_table : (f : EditFault) → edit_row f < 17
 in_table f = elim (view f) [
-  | inl c ↦ (let row : edit_row f ≡ 1 = ap edit_row c.1 in omega (arith, row))
+  | inl c ↦ (let row : edit_row f ≡ 0 = ap edit_row c.1 in omega (arith, row))
   | inr other ↦ (elim other [
     | inl s ↦ (let row : edit_row f ≡ 5 = ap edit_row s.1 in omega (arith, row))
     | inr only ↦ (let high = only.high in omega (arith, high))
@@ -81,7 +82,7 @@ in_table f = elim (view f) [
 -- a fault of the row of an opened keyslot's plan
 pub plan_of : (g : EditFault) → edit_row g ≡ 5 → (s : SlotFault) × (g ≡ fault.Slot s)
 plan_of g row = elim (view g) [
-  | inl c ↦ (let first : edit_row g ≡ 1 = ap edit_row c.1 in absurd (omega (arith, row, first)))
+  | inl c ↦ (let first : edit_row g ≡ 0 = ap edit_row c.1 in absurd (omega (arith, row, first)))
   | inr other ↦ (elim other [
     | inl s ↦ s
     | inr only ↦ absurd (not_plain 5 g row refl only.plain)
@@ -114,10 +115,10 @@ module _ (faults : EditFault → Type 0) where
   next f plain passed not = record { none = λ g under bad. not (subst faults (only_one f g plain (of_row (edit_row f) g passed under bad)) bad) }
 
   -- the row of a volume's check
-  pub after_check : ((c : CheckFault) → faults (fault.NotAccepted c) → ⊥) → Passed faults 2
+  pub after_check : ((c : CheckFault) → faults (fault.NotAccepted c) → ⊥) → Passed faults 1
   after_check not = record { none = none }
     where
-      none : (g : EditFault) → edit_row g < 2 → faults g → ⊥
+      none : (g : EditFault) → edit_row g < 1 → faults g → ⊥
       none g under bad = elim (view g) [
         | inl c ↦ not c.0 (subst faults c.1 bad)
         | inr other ↦ (elim other [

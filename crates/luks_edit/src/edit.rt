@@ -1,6 +1,6 @@
 //! The edits of a volume.
-ghost use Rattle.std.specs.Prelude.{◌≡◌, ◌^◌, length, nat_lt};
-ghost use Rattle.luks_edit.specs.Asked.{allowed_memory, memory_for};
+ghost use Rattle.std.specs.Prelude.{◌≡◌, ◌^◌, ℕ, List, MatchOption, length, nat_lt};
+ghost use Rattle.luks_edit.specs.Asked.{allowed_memory, memory_for, opener_of, OpensBy};
 
 /// The least iterations of a keyslot that is made.
 pub const LEAST_ITERATIONS: u32 = 1000;
@@ -17,7 +17,8 @@ pub struct Passphrase<'a> {
 
 /// An edit of a volume's keyslots, header or label.
 ///
-/// The keyslot that an edit names as `by_` or `slot` is the one that its old passphrase has to open.
+/// The keyslot that an edit names as `by_`, or else as `slot`, is the one that its old passphrase has
+/// to open.
 /// Keyslots are numbered 0 to 7 in LUKS1 and 0 to 31 in LUKS2. A passphrase is any bytes, and may
 /// be empty; the new one may take as much memory as the old one.
 #[derive(Clone, Copy, Debug)]
@@ -52,11 +53,14 @@ pub enum Edit<'a> {
         /// The iterations of the keyslot's derivation, at least 1000. Argon2 has none.
         iterations: u32,
     },
-    /// Removes a keyslot by its own passphrase, and wipes its area.
+    /// Removes a keyslot, and wipes its area: by its own passphrase or, as where somebody has left and
+    /// the passphrase with them, by that of another keyslot. It needn't be one that can be opened here.
     Remove {
         /// The keyslot.
         slot: u8,
-        /// Its passphrase.
+        /// The keyslot that the passphrase opens, another one than `slot`; where it isn't given, `slot`.
+        by_: Option<u8>,
+        /// The passphrase.
         passphrase: Passphrase<'a>,
     },
     /// LUKS2: writes both copies of the header anew from the one that counts. LUKS1: nothing.
@@ -66,6 +70,65 @@ pub enum Edit<'a> {
         /// The label, at most 47 bytes of 0x20 to 0x7E.
         text: &'a [u8],
     },
+}
+
+/// The keyslot that an edit opens, and by which passphrase.
+#[derive(Clone, Copy, Debug)]
+pub struct Opener<'a> {
+    /// The keyslot.
+    pub slot: u8,
+    /// The passphrase that has to open it.
+    pub passphrase: Passphrase<'a>,
+}
+
+impl<'a> Edit<'a> {
+    /// The keyslot that the edit opens, if it opens one.
+    pub fn opener(&self) -> Option<Opener<'a>>
+        ensures { MatchOption result ((n : ℕ) (p : List ℕ) → OpensBy self.now n p → ⊥)
+            (λ o. OpensBy self.now o.slot o.passphrase.bytes.now) }
+    {
+        match *self {
+            Edit::Add {
+                by_,
+                old,
+                new: _,
+                to: _,
+                iterations: _,
+            } => Some(Opener {
+                slot: by_,
+                passphrase: old,
+            }),
+            Edit::Change {
+                slot,
+                old,
+                new: _,
+                iterations: _,
+            } => Some(Opener {
+                slot,
+                passphrase: old,
+            }),
+            Edit::Remove {
+                slot,
+                by_,
+                passphrase,
+            } => Some(Opener {
+                slot: opener_of(slot, by_),
+                passphrase,
+            }),
+            Edit::Repair => None,
+            Edit::Label { text: _ } => None,
+        }
+    }
+}
+
+/// The keyslot whose passphrase removes the keyslot `slot`: `by_` where it is given, else `slot`.
+pub fn opener_of(slot: u8, by_: Option<u8>) -> u8
+    ensures { result ≡ opener_of slot by_ }
+{
+    match by_ {
+        Some(other) => other,
+        None => slot,
+    }
 }
 
 impl Edit<'_> {
@@ -90,6 +153,7 @@ impl Edit<'_> {
             } => memory_for(&old, new),
             Edit::Remove {
                 slot: _,
+                by_: _,
                 passphrase,
             } => memory_for(&passphrase, b""),
             Edit::Repair => 0,

@@ -17,8 +17,10 @@ pub enum EditFault {
     NotAccepted(CheckFault),
     /// LUKS2: the metadata names requirements that this program doesn't know.
     Requirements,
-    /// The keyslot to open isn't there or, in LUKS1, isn't enabled.
+    /// The keyslot to open, or the one to remove, isn't there or, in LUKS1, isn't enabled.
     NoSuchSlot,
+    /// The keyslot to remove is the one that was named to open by.
+    SameSlot,
     /// The passphrase doesn't open the keyslot.
     Locked,
     /// What the keyslot says of its derivation or cipher can't be opened here.
@@ -55,6 +57,7 @@ impl fmt::Display for EditFault {
             EditFault::NotAccepted(fault) => write!(f, "{fault}"),
             EditFault::Requirements => f.write_str("Requirements"),
             EditFault::NoSuchSlot => f.write_str("NoSuchSlot"),
+            EditFault::SameSlot => f.write_str("SameSlot"),
             EditFault::Locked => f.write_str("Locked"),
             EditFault::Slot(fault) => write!(f, "{fault}"),
             EditFault::SlotTaken => f.write_str("SlotTaken"),

@@ -5,5 +5,5 @@
 mod edit;
 mod edit_fault;
 
-pub use edit::{Done, Edit, LEAST_ITERATIONS, Passphrase, Step};
+pub use edit::{Done, Edit, LEAST_ITERATIONS, Opener, Passphrase, Step, opener_of};
 pub use edit_fault::{EditFault, RunFault};
