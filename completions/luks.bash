@@ -8,7 +8,7 @@ _luks() {
         [open]="--passphrase --passphrase-line --slot --memory --json --offset --length --quiet --help"
         [add]="--slot --passphrase --passphrase-line --new --new-line --random --to --iterations --memory --over --detached --offset --length --quiet --help"
         [change]="--slot --passphrase --passphrase-line --new --new-line --random --iterations --memory --over --detached --offset --length --quiet --help"
-        [remove]="--slot --passphrase --passphrase-line --random --memory --over --detached --offset --length --quiet --help"
+        [remove]="--slot --by --passphrase --passphrase-line --random --memory --over --detached --offset --length --quiet --help"
         [repair]="--random --over --detached --offset --length --quiet --help"
         [label]="--random --over --detached --offset --length --quiet --help"
         [format]="--passphrase --passphrase-line --random --version --hash --iterations --detached --offset --length --quiet --help"
@@ -30,13 +30,13 @@ _luks() {
     fi
     # these take no file
     case $before in
-        --slot | --to | --version | --hash | --iterations | --uuid | --offset | --length) compopt +o default 2>/dev/null ;;
+        --slot | --by | --to | --version | --hash | --iterations | --uuid | --offset | --length) compopt +o default 2>/dev/null ;;
     esac
     if ((COMP_CWORD == 1)); then
         words="${!options[*]} --help --version"
     elif [[ ${COMP_WORDS[1]} == help ]]; then
         words="${!options[*]}"
-    elif [[ $before == --slot || $before == --to ]]; then
+    elif [[ $before == --slot || $before == --by || $before == --to ]]; then
         words=$(echo {0..31})
     elif [[ $before == --version ]]; then
         words="1 2"

@@ -65,9 +65,10 @@ complete -c luks -n '__fish_seen_subcommand_from change' -l offset -x -d 'The by
 complete -c luks -n '__fish_seen_subcommand_from change' -l length -x -d 'How many bytes the volume has'
 complete -c luks -n '__fish_seen_subcommand_from change' -l quiet -d 'No hints on standard error'
 
-complete -c luks -n __fish_use_subcommand -a remove -d 'Remove a keyslot by its own passphrase'
+complete -c luks -n __fish_use_subcommand -a remove -d 'Remove a keyslot'
 complete -c luks -n '__fish_seen_subcommand_from remove' -F
-complete -c luks -n '__fish_seen_subcommand_from remove' -l slot -x -a '(seq 0 31)' -d 'The keyslot that the passphrase opens'
+complete -c luks -n '__fish_seen_subcommand_from remove' -l slot -x -a '(seq 0 31)' -d 'The keyslot to remove'
+complete -c luks -n '__fish_seen_subcommand_from remove' -l by -x -a '(seq 0 31)' -d 'The keyslot that the passphrase opens'
 complete -c luks -n '__fish_seen_subcommand_from remove' -l passphrase -r -F -d 'The file of the passphrase'
 complete -c luks -n '__fish_seen_subcommand_from remove' -l passphrase-line -r -F -d 'The file whose first line is the passphrase'
 complete -c luks -n '__fish_seen_subcommand_from remove' -l random -r -F -d 'The file of the random bytes'

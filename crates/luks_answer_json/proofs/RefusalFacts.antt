@@ -118,6 +118,7 @@ edit_parts (editing.NotAccepted f) = check_parts f
 edit_parts (editing.Slot f) = slot_parts f
 edit_parts editing.Requirements = bare (codes "Requirements") refl
 edit_parts editing.NoSuchSlot = bare (codes "NoSuchSlot") refl
+edit_parts editing.SameSlot = bare (codes "SameSlot") refl
 edit_parts editing.Locked = bare (codes "Locked") refl
 edit_parts editing.SlotTaken = bare (codes "SlotTaken") refl
 edit_parts editing.NoFreeSlot = bare (codes "NoFreeSlot") refl

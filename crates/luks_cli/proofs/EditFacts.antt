@@ -105,42 +105,16 @@ no_refusal is = cc
 -- a fault that the command is refused by leaves the volume as it was, and is the edit's refusal
 pub refused_by : (payload : Data) (v w : List ℕ) (e : Edit) (random : List ℕ) (f : EditFault) → Replies payload v e random (Err f) w
     → ended_by f ≡ Refused → (w ≡ v) × Refusal v payload e random f
-refused_by payload v w e random (fault.NotAccepted f) is refused = (is.1, is.0)
-refused_by payload v w e random fault.Requirements is refused = (is.1, is.0)
-refused_by payload v w e random fault.NoSuchSlot is refused = (is.1, is.0)
-refused_by payload v w e random fault.Locked is refused = (is.1, is.0)
-refused_by payload v w e random (fault.Slot f) is refused = (is.1, is.0)
-refused_by payload v w e random fault.SlotTaken is refused = (is.1, is.0)
-refused_by payload v w e random fault.NoFreeSlot is refused = (is.1, is.0)
-refused_by payload v w e random fault.NoRoom is refused = (is.1, is.0)
-refused_by payload v w e random fault.LastSlot is refused = (is.1, is.0)
-refused_by payload v w e random fault.Iterations is refused = (is.1, is.0)
-refused_by payload v w e random fault.BadLabel is refused = (is.1, is.0)
-refused_by payload v w e random fault.SeqExhausted is refused = (is.1, is.0)
-refused_by payload v w e random fault.MetadataFull is refused = (is.1, is.0)
-refused_by payload v w e random fault.RandomLength is refused = (is.1, is.0)
 refused_by payload v w e random fault.Memory is refused = absurd (no_refusal refused)
 refused_by payload v w e random fault.Device is refused = absurd (no_refusal refused)
+refused_by payload v w e random f is refused = (is.1, is.0)
 
 -- the same of what is told before a keyslot is opened
 refused_at_once : (payload : Data) (v : List ℕ) (e : Edit) (f : EditFault) → TellsNeed payload v e (Err f) → ended_by f ≡ Refused
     → IsLeast edit_key (IsNeedFault v payload e) f
-refused_at_once payload v e (fault.NotAccepted f) is refused = is
-refused_at_once payload v e fault.Requirements is refused = is
-refused_at_once payload v e fault.NoSuchSlot is refused = is
-refused_at_once payload v e fault.Locked is refused = is
-refused_at_once payload v e (fault.Slot f) is refused = is
-refused_at_once payload v e fault.SlotTaken is refused = is
-refused_at_once payload v e fault.NoFreeSlot is refused = is
-refused_at_once payload v e fault.NoRoom is refused = is
-refused_at_once payload v e fault.LastSlot is refused = is
-refused_at_once payload v e fault.Iterations is refused = is
-refused_at_once payload v e fault.BadLabel is refused = is
-refused_at_once payload v e fault.SeqExhausted is refused = is
-refused_at_once payload v e fault.MetadataFull is refused = is
-refused_at_once payload v e fault.RandomLength is refused = is
 refused_at_once payload v e fault.Memory is refused = absurd (no_refusal refused)
 refused_at_once payload v e fault.Device is refused = absurd (no_refusal refused)
+refused_at_once payload v e f is refused = is
 
 -- ---- what the command tells, by how it ended
 
@@ -152,22 +126,9 @@ so : (ended is other : Status) → ended ≡ is → ended ≡ other → is ≡ o
 so ended is other told same = sym told ∙ same
 
 never_done : (f : EditFault) → ended_by f ≡ Done → ⊥
-never_done (fault.NotAccepted f) is = cc
-never_done fault.Requirements is = cc
-never_done fault.NoSuchSlot is = cc
-never_done fault.Locked is = cc
-never_done (fault.Slot f) is = cc
-never_done fault.SlotTaken is = cc
-never_done fault.NoFreeSlot is = cc
-never_done fault.NoRoom is = cc
-never_done fault.LastSlot is = cc
-never_done fault.Iterations is = cc
-never_done fault.BadLabel is = cc
-never_done fault.SeqExhausted is = cc
-never_done fault.MetadataFull is = cc
-never_done fault.RandomLength is = cc
 never_done fault.Memory is = cc
 never_done fault.Device is = cc
+never_done f is = cc
 
 -- the edit was run
 pub run_replied : (payload : Data) (v w : List ℕ) (over : Bool) (e : Edit) (has_random : ℕ → List ℕ → Type 0) (u : List ℕ) → u ≡ v → (count : ℕ) (random : List ℕ)
@@ -343,12 +304,12 @@ asked_of (Add by_ passphrase memory new to iterations) IsOld IsNew p q (edit.Add
     (is.0, subst IsOld (sym is.1) old, is.2, subst IsNew (sym is.3) fresh, is.4, is.5)
 asked_of (Change slot passphrase memory new iterations) IsOld IsNew p q (edit.Change s o n i) old fresh is =
     (is.0, subst IsOld (sym is.1) old, is.2, subst IsNew (sym is.3) fresh, is.4)
-asked_of (Remove slot passphrase memory) IsOld IsNew p q (edit.Remove s o) old fresh is = (is.0, subst IsOld (sym is.1) old, is.2)
+asked_of (Remove slot by_ passphrase memory) IsOld IsNew p q (edit.Remove s b o) old fresh is = (is.0, is.1, subst IsOld (sym is.2) old, is.3)
 asked_of Repair IsOld IsNew p q edit.Repair old fresh is = is
 asked_of (Label text) IsOld IsNew p q (edit.Label t) old fresh is = is
 asked_of (Add by_ passphrase memory new to iterations) IsOld IsNew p q e old fresh is = absurd is
 asked_of (Change slot passphrase memory new iterations) IsOld IsNew p q e old fresh is = absurd is
-asked_of (Remove slot passphrase memory) IsOld IsNew p q e old fresh is = absurd is
+asked_of (Remove slot by_ passphrase memory) IsOld IsNew p q e old fresh is = absurd is
 asked_of Repair IsOld IsNew p q e old fresh is = absurd is
 asked_of (Label text) IsOld IsNew p q e old fresh is = absurd is
 
@@ -362,12 +323,12 @@ pub asked_somehow : (request : EditRequest) (IsOld IsNew : List ℕ → Type 0) 
     → IsAsked request (λ p. Unit {0}) (λ p. Unit {0}) e
 asked_somehow (Add by_ passphrase memory new to iterations) IsOld IsNew (edit.Add b o n t i) is = (is.0, tt, is.2, tt, is.4, is.5)
 asked_somehow (Change slot passphrase memory new iterations) IsOld IsNew (edit.Change s o n i) is = (is.0, tt, is.2, tt, is.4)
-asked_somehow (Remove slot passphrase memory) IsOld IsNew (edit.Remove s o) is = (is.0, tt, is.2)
+asked_somehow (Remove slot by_ passphrase memory) IsOld IsNew (edit.Remove s b o) is = (is.0, is.1, tt, is.3)
 asked_somehow Repair IsOld IsNew edit.Repair is = is
 asked_somehow (Label text) IsOld IsNew (edit.Label t) is = is
 asked_somehow (Add by_ passphrase memory new to iterations) IsOld IsNew e is = absurd is
 asked_somehow (Change slot passphrase memory new iterations) IsOld IsNew e is = absurd is
-asked_somehow (Remove slot passphrase memory) IsOld IsNew e is = absurd is
+asked_somehow (Remove slot by_ passphrase memory) IsOld IsNew e is = absurd is
 asked_somehow Repair IsOld IsNew e is = absurd is
 asked_somehow (Label text) IsOld IsNew e is = absurd is
 

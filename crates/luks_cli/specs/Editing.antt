@@ -36,7 +36,8 @@ IsAsked (Add by_ passphrase memory new to iterations) IsOld IsNew (edit.Add b o 
     (b ≡ by_) × IsOld o.bytes.now × (o.memory ≡ kib_of memory) × IsNew n.now × (t ≡ to) × (i ≡ iterations)
 IsAsked (Change slot passphrase memory new iterations) IsOld IsNew (edit.Change s o n i) =
     (s ≡ slot) × IsOld o.bytes.now × (o.memory ≡ kib_of memory) × IsNew n.now × (i ≡ iterations)
-IsAsked (Remove slot passphrase memory) IsOld IsNew (edit.Remove s p) = (s ≡ slot) × IsOld p.bytes.now × (p.memory ≡ kib_of memory)
+IsAsked (Remove slot by_ passphrase memory) IsOld IsNew (edit.Remove s b p) =
+    (s ≡ slot) × (b ≡ by_) × IsOld p.bytes.now × (p.memory ≡ kib_of memory)
 IsAsked Repair IsOld IsNew edit.Repair = ⊤
 IsAsked (Label text) IsOld IsNew (edit.Label t) = t.now ≡ text.now
 IsAsked request IsOld IsNew e = ⊥

@@ -27,7 +27,7 @@ use luks_commands::{
 };
 use luks_request::Editing;
 use luks_volume::{Device, Edit, EditFault};
-use seen::{Unseen, note_refused, note_wanting, note_weaker, see};
+use seen::{Unseen, note_leaving_argon2, note_refused, note_wanting, note_weaker, see};
 use std::alloc::Global;
 use std::io::{Read, Write};
 use words::words;
@@ -174,6 +174,7 @@ fn edit_device<D: Device, N: Read, E: Write>(
         Ok(bytes) => bytes,
         Err(fault) => return unread(fault, editing.random.unwrap_or_default(), err),
     };
+    note_leaving_argon2(seen.leaves_argon2, err);
     match apply_of_header(alloc, device, seen.header, payload, edit, random.as_slice()) {
         Ok(made) => {
             note_weaker(seen.weaker, err);

@@ -33,6 +33,7 @@ name_of fault.Region = codes "Region"
 name_of fault.Outside = codes "Outside"
 name_of fault.Overlap = codes "Overlap"
 name_of fault.NoSuchSlot = codes "NoSuchSlot"
+name_of fault.SameSlot = codes "SameSlot"
 name_of fault.SlotFree = codes "SlotFree"
 name_of fault.Argon2 = codes "Argon2"
 name_of fault.Cipher = codes "Cipher"
@@ -86,6 +87,7 @@ all_faults =
     ∷ fault.Outside
     ∷ fault.Overlap
     ∷ fault.NoSuchSlot
+    ∷ fault.SameSlot
     ∷ fault.SlotFree
     ∷ fault.Argon2
     ∷ fault.Cipher
@@ -143,6 +145,7 @@ named fault.Region = refl
 named fault.Outside = refl
 named fault.Overlap = refl
 named fault.NoSuchSlot = refl
+named fault.SameSlot = refl
 named fault.SlotFree = refl
 named fault.Argon2 = refl
 named fault.Cipher = refl

@@ -54,6 +54,8 @@ pub enum Fault {
     Overlap,
     /// The keyslot isn't there; of an edit of LUKS1 also: it is disabled.
     NoSuchSlot,
+    /// Of remove: the keyslot of --by is that of --slot.
+    SameSlot,
     /// LUKS1: the keyslot is disabled.
     SlotFree,
     /// The keyslot derives by Argon2, with more memory than is allowed.
@@ -145,6 +147,7 @@ impl Fault {
         Fault::Outside,
         Fault::Overlap,
         Fault::NoSuchSlot,
+        Fault::SameSlot,
         Fault::SlotFree,
         Fault::Argon2,
         Fault::Cipher,
@@ -189,7 +192,7 @@ impl Fault {
         variant_name!(self;
             TooShort NotLuks Version NoSoundCopy Text Uuid SlotState KeyBytes Stripes Iterations
             JsonArea BadJson NotWhole Shape Kind NoSuchName Assigned Sizes AreaTooSmall Region
-            Outside Overlap NoSuchSlot SlotFree Argon2 Cipher Hash KeySize Locked Passphrase
+            Outside Overlap NoSuchSlot SameSlot SlotFree Argon2 Cipher Hash KeySize Locked Passphrase
             Requirements SlotTaken NoFreeSlot NoRoom LastSlot BadLabel SeqExhausted MetadataFull
             RandomLength TooSmall NotLuks1 SameFile Counts NoMetadata Exists NotAccepted DoesNotFit OtherVolume
             OtherUse

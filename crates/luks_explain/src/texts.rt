@@ -27,6 +27,7 @@ pub(crate) fn means(fault: Fault) -> &'static str {
         Fault::Outside => "an area ends past the volume's end",
         Fault::Overlap => "two areas share bytes, so that writing one destroys the other",
         Fault::NoSuchSlot => "the keyslot isn't there; of an edit of LUKS1 also: it is disabled",
+        Fault::SameSlot => "of remove: the keyslot of --by is that of --slot",
         Fault::SlotFree => "LUKS1: the keyslot is disabled",
         Fault::Argon2 => "the keyslot derives by Argon2, with more memory than is allowed",
         Fault::Cipher => "the key area's cipher isn't aes-xts-plain64 or aes-xts-plain",
@@ -102,15 +103,16 @@ pub(crate) fn place(fault: Fault) -> &'static str {
        keyslot N), Segment(N) (the data)"
         }
         Fault::NoSuchSlot | Fault::Cipher | Fault::KeySize => {
-            "open, add, change and remove: the keyslot of --slot"
+            "open, add, change and remove: the keyslot of --slot or --by"
         }
+        Fault::SameSlot => "remove: the keyslots of --by and --slot",
         Fault::SlotFree => "open: the keyslot of --slot",
-        Fault::Argon2 => "open, add, change and remove: the keyslot of --slot, of LUKS2",
+        Fault::Argon2 => "open, add, change and remove: the keyslot of --slot or --by, of LUKS2",
         Fault::Hash => {
             "open, add, change and remove: the hash of the derivation, the splitter or
-       the digest of the keyslot of --slot"
+       the digest of the keyslot of --slot or --by"
         }
-        Fault::Locked => "add, change and remove: the keyslot of --slot",
+        Fault::Locked => "add, change and remove: the keyslot of --slot or --by",
         Fault::Passphrase => "the file of --passphrase or --new",
         Fault::Requirements => {
             "add, change, remove, repair and label, of LUKS2: config.requirements"
@@ -206,6 +208,7 @@ pub(crate) fn safe(fault: Fault) -> &'static str {
        opening one is safe"
         }
         Fault::NoSuchSlot
+        | Fault::SameSlot
         | Fault::SlotFree
         | Fault::Locked
         | Fault::Passphrase
@@ -307,6 +310,7 @@ pub(crate) fn next(fault: Fault) -> &'static str {
        restore a header backup"
         }
         Fault::NoSuchSlot => "luks show lists the keyslots that there are",
+        Fault::SameSlot => "leave --by out: --slot's own passphrase removes it, or name another",
         Fault::SlotFree => {
             "luks show lists the keyslots that are enabled; open without --slot tries
        all"

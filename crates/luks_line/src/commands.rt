@@ -140,7 +140,8 @@ static COMMANDS: [Described; 11] = [
         more: helps::REMOVE_MORE,
         operands: &[Operand::Volume],
         options: &[
-            LongOption::OpenedSlot,
+            LongOption::RemovedSlot,
+            LongOption::By,
             LongOption::Passphrase,
             LongOption::PassphraseLine,
             LongOption::Random,

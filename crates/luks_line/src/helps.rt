@@ -242,7 +242,7 @@ Exit status:
   2  the command line is wrong; the text is on standard error
   4  device fault, no memory, or the output can't be written";
 
-pub(crate) const REMOVE: &str = "Removes a keyslot by its own passphrase";
+pub(crate) const REMOVE: &str = "Removes a keyslot";
 
 /// The usage after `Usage: `, on several lines, since one would have more than 80 columns.
 pub(crate) const REMOVE_USAGE: &str = "\
@@ -250,9 +250,10 @@ luks remove [OPTIONS] --slot <N>
                    <--passphrase <FILE>|--passphrase-line <FILE>> <VOLUME>";
 
 pub(crate) const REMOVE_MORE: &str = "\
-Keyslot --slot, which the passphrase opens, is removed, and its area is
-overwritten with zeros, once. The last keyslot of its key isn't removed. All
-others stay as they are. The passphrase is all bytes of its file, a last newline
+Keyslot --slot is removed, and its area is overwritten with zeros, once. The
+passphrase opens it, or keyslot --by where that is given: then --slot needn't be
+one that opens here. The last keyslot of its key isn't removed. All others stay
+as they are. The passphrase is all bytes of its file, a last newline
 too, at most 65536; by --passphrase-line what stands there before the first
 newline.
 

@@ -33,6 +33,8 @@ pub(crate) enum LongOption {
     Length,
     OverFile,
     Other,
+    RemovedSlot,
+    By,
 }
 
 impl LongOption {
@@ -50,7 +52,7 @@ pub(crate) struct OptionRow {
 }
 
 /// In the order of `LongOption`.
-static OPTIONS: [OptionRow; 27] = [
+static OPTIONS: [OptionRow; 29] = [
     OptionRow {
         name: "detached",
         needed: false,
@@ -212,5 +214,17 @@ static OPTIONS: [OptionRow; 27] = [
         needed: false,
         help: "Write over the header of another volume",
         takes: Takes::Nothing,
+    },
+    OptionRow {
+        name: "slot",
+        needed: true,
+        help: "The keyslot to remove, 0 to 31",
+        takes: Takes::Slot,
+    },
+    OptionRow {
+        name: "by",
+        needed: false,
+        help: "The keyslot that the passphrase opens; else --slot",
+        takes: Takes::Slot,
     },
 ];

@@ -121,6 +121,7 @@ fn changing_of<'a>(given: &ArgMatches<'a>) -> Option<EditRequest<'a>> {
 fn removing_of<'a>(given: &ArgMatches<'a>) -> Option<EditRequest<'a>> {
     Some(EditRequest::Remove {
         slot: given.get_one::<u8>("slot")?,
+        by_: given.get_one::<u8>("by"),
         passphrase: passphrase_of(given)?,
         memory: given.get_one::<u32>("memory")?,
     })

@@ -9,7 +9,7 @@ use Rattle.luks_request.specs.declared.request.EditRequest.TheVariants.{Add, Cha
 abbrev pub edit_passphrase_of : EditRequest → Option (List ℕ)
 edit_passphrase_of (Add by_ passphrase memory new to iterations) = Some passphrase.now
 edit_passphrase_of (Change slot passphrase memory new iterations) = Some passphrase.now
-edit_passphrase_of (Remove slot passphrase memory) = Some passphrase.now
+edit_passphrase_of (Remove slot by_ passphrase memory) = Some passphrase.now
 edit_passphrase_of Repair = None
 edit_passphrase_of (Label text) = None
 
@@ -17,7 +17,7 @@ edit_passphrase_of (Label text) = None
 abbrev pub edit_new_of : EditRequest → Option (List ℕ)
 edit_new_of (Add by_ passphrase memory new to iterations) = Some new.now
 edit_new_of (Change slot passphrase memory new iterations) = Some new.now
-edit_new_of (Remove slot passphrase memory) = None
+edit_new_of (Remove slot by_ passphrase memory) = None
 edit_new_of Repair = None
 edit_new_of (Label text) = None
 

@@ -84,7 +84,7 @@ pub struct Editing<'a> {
 
 /// What an edit does. Its passphrases are named by their files.
 ///
-/// The keyslot that an edit names as `by_` or `slot`, 0 to 31, is the one that the file
+/// The keyslot that an edit names as `by_`, or else as `slot`, 0 to 31, is the one that the file
 /// `passphrase` opens.
 #[derive(Debug, Clone, Copy, PartialEq, Eq)]
 pub enum EditRequest<'a> {
@@ -116,11 +116,13 @@ pub enum EditRequest<'a> {
         /// The iterations of its derivation, where that is PBKDF2.
         iterations: u32,
     },
-    /// Remove a keyslot by its own passphrase.
+    /// Remove a keyslot, by its own passphrase or by another keyslot's.
     Remove {
         /// The keyslot.
         slot: u8,
-        /// The file of its passphrase.
+        /// The keyslot that the passphrase opens; without one `slot`.
+        by_: Option<u8>,
+        /// The file of the passphrase.
         passphrase: &'a str,
         /// How many MiB of memory Argon2 may take for it.
         memory: u32,

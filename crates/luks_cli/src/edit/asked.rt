@@ -40,10 +40,12 @@ pub(super) fn edit_of<'a>(request: &EditRequest<'a>, old: &'a [u8], new: &'a [u8
         },
         EditRequest::Remove {
             slot,
+            by_,
             passphrase: _,
             memory,
         } => Edit::Remove {
             slot,
+            by_,
             passphrase: allowed(old, memory),
         },
         EditRequest::Repair => Edit::Repair,

@@ -26,6 +26,8 @@ pub(super) struct Seen {
     pub(super) weaker: Option<Weaker>,
     /// The keyslot that it opens, where that derives by Argon2.
     pub(super) argon2: Option<MemoryNote>,
+    /// Whether it takes away the last keyslot by PBKDF2, by the passphrase of one by Argon2.
+    pub(super) leaves_argon2: bool,
 }
 
 /// A keyslot that is made with fewer iterations than the one that opens has.
@@ -96,11 +98,13 @@ pub(super) fn see<D: Device>(
     let needed = needed_of_header(&header, editing.data_, device.len(), edit)?;
     let weaker = weaker_keyslot(&header, edit);
     let argon2 = argon2_keyslot(&header, device.len(), edit);
+    let leaves_argon2 = leaves_argon2(&header, edit);
     Ok(Seen {
         header,
         needed,
         weaker,
         argon2,
+        leaves_argon2,
     })
 }
 
@@ -151,14 +155,34 @@ fn iterations_of(header: &Header, n: u8) -> Option<u32> {
 fn argon2_keyslot(header: &Header, total: u64, edit: &Edit<'_>) -> Option<MemoryNote>
     requires { IsAcceptedHeader header.now }
 {
-    let opener = match *edit {
-        Edit::Add { by_, .. } => by_,
-        Edit::Change { slot, .. } => slot,
-        Edit::Remove { slot, .. } => slot,
-        Edit::Repair => return None,
-        Edit::Label { .. } => return None,
-    };
-    memory_note(header, opener, total, edit.allowed_memory())
+    let opener = edit.opener()?;
+    memory_note(header, opener.slot, total, edit.allowed_memory())
+}
+
+/// Whether the edit removes, by the passphrase of another keyslot, the last one by PBKDF2 of a volume with
+/// this header.
+fn leaves_argon2(header: &Header, edit: &Edit<'_>) -> bool {
+    match *edit {
+        Edit::Remove {
+            slot,
+            by_: Some(_),
+            ..
+        } => {
+            iterations_of(header, slot).is_some()
+                && (0..32).all(|n| n == slot || iterations_of(header, n).is_none())
+        }
+        _ => false,
+    }
+}
+
+/// Says, before it is done, that no keyslot by PBKDF2 is left.
+pub(super) fn note_leaving_argon2<E: Write>(leaves_argon2: bool, err: &mut E) {
+    if leaves_argon2 {
+        let _ = writeln!(
+            err,
+            "luks: no keyslot is left that opens by PBKDF2: each other one takes memory, which --memory allows"
+        );
+    }
 }
 
 /// Says of the keyslot that was refused how much memory would have to be allowed, where that helps.
