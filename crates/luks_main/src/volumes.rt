@@ -119,8 +119,7 @@ fn room_beside<R: AllocGlobal + Clock + Files<File = File>>(
         return Ok(());
     };
     let length = length_of_backup(rt, line, &backing_up).ok_or(InputFault::Absent)?;
-    make_room(rt, backing_up.target, length)?;
-    Ok(())
+    make_room(rt, backing_up.target, length, backing_up.over)
 }
 
 /// How many bytes the backup has; none where the volume can't be looked at, or its header isn't accepted.
