@@ -22,6 +22,7 @@ EDITS = {
     "change": ({"two"}, {"one", "three"}, {"three"}, {"one"}),
     "change-0": ({"two"}, {"one", "three"}, {"three"}, {"one"}),
     "remove": ({"two"}, set(), set(), {"one"}),
+    "remove-by": ({"two"}, set(), set(), {"one"}),
     "repair": ({"one", "two"}, set(), set(), set()),
     "label": ({"one", "two"}, set(), set(), set()),
 }
@@ -37,14 +38,15 @@ OURS = {
     "add": "LUKS add V --slot 0 --passphrase one --new three --random random --iterations 1000",
     "change": "LUKS change V --slot 0 --passphrase one --new three --random random --iterations 1000",
     "remove": "LUKS remove V --slot 0 --passphrase one --random random",
+    "remove-by": "LUKS remove V --slot 0 --by 1 --passphrase two --random random",
     "repair": "LUKS repair V --random random",
     "label": "LUKS label V disk --random random",
 }
 # How often the program syncs the volume in each edit: once before it begins, and then after each step. A copy of LUKS2's header that is
 # damaged or older is written first, so that a repair has as many steps whichever it is.
 SYNCS = {
-    "luks1": {"add": 3, "change": 5, "remove": 3},
-    "luks2": {"add": 4, "change": 5, "remove": 4, "repair": 3, "label": 3},
+    "luks1": {"add": 3, "change": 5, "remove": 3, "remove-by": 3},
+    "luks2": {"add": 4, "change": 5, "remove": 4, "remove-by": 4, "repair": 3, "label": 3},
 }
 
 
