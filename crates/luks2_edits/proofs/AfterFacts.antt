@@ -11,9 +11,6 @@ use Rattle.luks_head.specs.Header2.{hdr_size, header_at, IsUuidField}
 use Rattle.luks_head.specs.Selection.{luks2, Chosen}
 use Rattle.luks_head.specs.declared.selection.Copies.TheVariants.{InStep}
 use Rattle.luks_head.proofs.CopyFacts.{listed_at_least}
-use Rattle.luks_json.proofs.Decimals.{decimal_told}
-use Rattle.luks_json.proofs.Encodings.{encoded_told}
-use Rattle.luks_json.proofs.Numbers.{number_of_text, text_of_named}
 use Rattle.luks_rules.specs.declared.table.Section.TheVariants.{Keyslots}
 use Rattle.luks_rules.specs.Faults.{object_at}
 use Rattle.luks_rules.specs.Reading.{decimal_in}
@@ -56,7 +53,7 @@ has_ranges v e random long fits iterations random_bytes = record { size = omega 
 pub lost_is_named : (v : List ℕ) (e : Edit) (n : ℕ) → Loses e n → NamedKeyslots2 v e n
 lost_is_named v (Add by_ old new to iterations) n lost = absurd lost
 lost_is_named v (Change slot old new iterations) n lost = lost
-lost_is_named v (Remove slot passphrase) n lost = lost
+lost_is_named v (Remove slot by_ passphrase) n lost = lost
 lost_is_named v Repair n lost = absurd lost
 lost_is_named v (Label text) n lost = absurd lost
 
@@ -198,14 +195,14 @@ module _ (memory : ℕ) (v : List ℕ) (o h : ℕ) (payload : Data) (random : Li
 abbrev pub WasOpened : List ℕ → Edit → Type 0
 WasOpened v (Add by_ old new to iterations) = (key : List ℕ) × AnswerWithin (memory_for old new.now) v by_ old.bytes.now (opens key)
 WasOpened v (Change slot old new iterations) = (key : List ℕ) × AnswerWithin (memory_for old new.now) v slot old.bytes.now (opens key)
-WasOpened v (Remove slot passphrase) = Unit {0}
+WasOpened v (Remove slot by_ passphrase) = Unit {0}
 WasOpened v Repair = Unit {0}
 WasOpened v (Label text) = Unit {0}
 
 pub was_opened : (v : List ℕ) (e : Edit) (random : List ℕ) (j : Value) (w : List ℕ) (k : Value) → IsSealedBy v e random j w k → WasOpened v e
 was_opened v (Add by_ old new to iterations) random j w k sealed = (sealed.key, sealed.opened)
 was_opened v (Change slot old new iterations) random j w k sealed = (sealed.key, sealed.opened)
-was_opened v (Remove slot passphrase) random j w k sealed = tt
+was_opened v (Remove slot by_ passphrase) random j w k sealed = tt
 was_opened v Repair random j w k sealed = tt
 was_opened v (Label text) random j w k sealed = tt
 
@@ -241,7 +238,7 @@ edited_metadata v o payload (Change slot old new iterations) random j k m before
       met = λ need like other. free.none RandomLength (record { place = o; value = j; metadata = m; is = record { need = need; is = like; other = other } });
     } in
     changed_metadata (memory_for old new.now) v o (hdr_size (header_at v o)) payload random j k before layout slot iterations ready (λ n. n ≡ slot) is refl
-edited_metadata v o payload (Remove slot passphrase) random j k m before ranges free sealed is layout =
+edited_metadata v o payload (Remove slot by_ passphrase) random j k m before ranges free sealed is layout =
     without_metadata (hdr_size (header_at v o)) (length v) payload (λ n. n ≡ slot) slot j k refl is layout
 edited_metadata v o payload Repair random j k m before ranges free sealed is layout =
     same_metadata (hdr_size (header_at v o)) (length v) payload (λ n. ⊥) j k is layout
@@ -286,7 +283,7 @@ module _
 wiped_is : (e : Edit) (j : Value) (w : List ℕ) (n : ℕ) → IsWipedBy e j w → Loses e n → IsWiped j n w
 wiped_is (Add by_ old new to iterations) j w n wiped lost = absurd lost
 wiped_is (Change slot old new iterations) j w n wiped lost = subst (λ m. IsWiped j m w) (sym lost) wiped
-wiped_is (Remove slot passphrase) j w n wiped lost = subst (λ m. IsWiped j m w) (sym lost) wiped
+wiped_is (Remove slot by_ passphrase) j w n wiped lost = subst (λ m. IsWiped j m w) (sym lost) wiped
 wiped_is Repair j w n wiped lost = absurd lost
 wiped_is (Label text) j w n wiped lost = absurd lost
 

@@ -81,6 +81,6 @@ module _ (v : List ℕ) (payload : Data) (random w : List ℕ) (well : WellForme
       λ key by_key.
       (let key_same : a.sealed.key ≡ key = one_answer (memory_for old new.now) v slot old.bytes.now (opens a.sealed.key) (opens key) a.sealed.opened by_key in
       subst (λ k. AnswerWithin (memory_for old new.now) w slot new.now (opens k)) key_same opened)
-  opens_after (Remove slot passphrase) ranges free a = tt
+  opens_after (Remove slot by_ passphrase) ranges free a = tt
   opens_after Repair ranges free a = tt
   opens_after (Label text) ranges free a = tt

@@ -69,7 +69,7 @@ beside_sealed h total payload j (Add by_ old new to iterations) fit n a left is 
     beside_new h total payload j (Add by_ old new to iterations) fit n a left is p at by_ x
 beside_sealed h total payload j (Change slot old new iterations) fit n a left is p at x =
     beside_new h total payload j (Change slot old new iterations) fit n a left is p at slot x
-beside_sealed h total payload j (Remove slot passphrase) fit n a left is p at x = x
+beside_sealed h total payload j (Remove slot by_ passphrase) fit n a left is p at x = x
 beside_sealed h total payload j Repair fit n a left is p at x = x
 beside_sealed h total payload j (Label text) fit n a left is p at x = x
 
@@ -79,8 +79,8 @@ beside_losing : (h total : ℕ) (payload : Data) (j : Value) (e : Edit) (fit : F
 beside_losing h total payload j (Add by_ old new to iterations) fit n a left is p at x = x
 beside_losing h total payload j (Change slot old new iterations) fit n a left is p at x =
     beside_lost h total payload j (Change slot old new iterations) fit n a left is p at slot refl x
-beside_losing h total payload j (Remove slot passphrase) fit n a left is p at x =
-    beside_lost h total payload j (Remove slot passphrase) fit n a left is p at slot refl x
+beside_losing h total payload j (Remove slot by_ passphrase) fit n a left is p at x =
+    beside_lost h total payload j (Remove slot by_ passphrase) fit n a left is p at slot refl x
 beside_losing h total payload j Repair fit n a left is p at x = x
 beside_losing h total payload j (Label text) fit n a left is p at x = x
 

@@ -35,7 +35,7 @@ needed_once j n a b x y =
 pub need_once : (j : Value) (e : Edit) (a b : ℕ) → Need2 j e a → Need2 j e b → a ≡ b
 need_once j (Add by_ old new to iterations) a b x y = needed_once j by_ a b x y
 need_once j (Change slot old new iterations) a b x y = needed_once j slot a b x y
-need_once j (Remove slot passphrase) a b x y = x ∙ sym y
+need_once j (Remove slot by_ passphrase) a b x y = x ∙ sym y
 need_once j Repair a b x y = x ∙ sym y
 need_once j (Label text) a b x y = x ∙ sym y
 

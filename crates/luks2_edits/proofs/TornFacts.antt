@@ -52,7 +52,7 @@ new_behind h total payload j n p x = let from : 2 * h ≤ x.area.start = x.is.ga
 sealed_behind : (h total : ℕ) (payload : Data) (j : Value) (e : Edit) (p : ℕ) → IsOfSealed h total payload j e p → 2 * h ≤ p
 sealed_behind h total payload j (Add by_ old new to iterations) p x = new_behind h total payload j by_ p x
 sealed_behind h total payload j (Change slot old new iterations) p x = new_behind h total payload j slot p x
-sealed_behind h total payload j (Remove slot passphrase) p x = absurd x
+sealed_behind h total payload j (Remove slot by_ passphrase) p x = absurd x
 sealed_behind h total payload j Repair p x = absurd x
 sealed_behind h total payload j (Label text) p x = absurd x
 
@@ -225,7 +225,7 @@ opens_written v payload (Change slot old new iterations) random w well ranges fr
     λ key was.
     (let key_same : sealed.key ≡ key = one_answer (memory_for old new.now) v slot old.bytes.now (opens sealed.key) (opens key) sealed.opened was in
     inr (subst (λ x. AnswerWithin (memory_for old new.now) w slot new.now (opens x)) key_same opened))
-opens_written v payload (Remove slot passphrase) random w well ranges free long j k p b chosen a edited sealed = tt
+opens_written v payload (Remove slot by_ passphrase) random w well ranges free long j k p b chosen a edited sealed = tt
 opens_written v payload Repair random w well ranges free long j k p b chosen a edited sealed = tt
 opens_written v payload (Label text) random w well ranges free long j k p b chosen a edited sealed = tt
 
@@ -261,7 +261,7 @@ opens_before v payload (Change slot old new iterations) random w well ranges o j
     kept_before v payload (Change slot old new iterations) random w well ranges rest.length_same (λ n. ⊥) (Add slot old new None iterations) (λ n lost. lost)
     o j m b chosen same all in
     inl (((kept.slots slot (λ x. x)).answers (memory_for old new.now) old.bytes.now (opens key)).0 was))
-opens_before v payload (Remove slot passphrase) random w well ranges o j m b chosen same rest = tt
+opens_before v payload (Remove slot by_ passphrase) random w well ranges o j m b chosen same rest = tt
 opens_before v payload Repair random w well ranges o j m b chosen same rest = tt
 opens_before v payload (Label text) random w well ranges o j m b chosen same rest = tt
 

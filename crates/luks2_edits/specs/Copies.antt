@@ -25,7 +25,7 @@ subsystem_field b = part b 208 48
 abbrev pub label_after : Edit → List ℕ → List ℕ
 label_after (Add by_ old new to iterations) field_ = field_
 label_after (Change slot old new iterations) field_ = field_
-label_after (Remove slot passphrase) field_ = field_
+label_after (Remove slot by_ passphrase) field_ = field_
 label_after Repair field_ = field_
 label_after (Label text) field_ = text.now ++ replicate (48 - length text.now) 0
 

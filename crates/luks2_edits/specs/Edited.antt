@@ -36,7 +36,7 @@ pub record IsMadeIn (v : List ℕ) (to : Option ℕ) (n : ℕ) : Type 0 where
 abbrev pub NamedKeyslots2 : List ℕ → Edit → ℕ → Type 0
 NamedKeyslots2 v (Add by_ old new to iterations) n = IsMadeIn v to n
 NamedKeyslots2 v (Change slot old new iterations) n = n ≡ slot
-NamedKeyslots2 v (Remove slot passphrase) n = n ≡ slot
+NamedKeyslots2 v (Remove slot by_ passphrase) n = n ≡ slot
 NamedKeyslots2 v Repair n = ⊥
 NamedKeyslots2 v (Label text) n = ⊥
 
@@ -46,7 +46,7 @@ NamedKeyslots2 v (Label text) n = ⊥
 abbrev pub HasRangedIterations : Edit → Type 0
 HasRangedIterations (Add by_ old new to iterations) = iterations < 2 ^ 32
 HasRangedIterations (Change slot old new iterations) = iterations < 2 ^ 32
-HasRangedIterations (Remove slot passphrase) = ⊤
+HasRangedIterations (Remove slot by_ passphrase) = ⊤
 HasRangedIterations Repair = ⊤
 HasRangedIterations (Label text) = ⊤
 
@@ -87,7 +87,7 @@ pub record HasChanged
 abbrev pub IsEdited : ℕ → ℕ → Data → Edit → List ℕ → Value → Value → Type 0
 IsEdited h total payload (Add by_ old new to iterations) salt j k = HasAdded h total payload by_ to iterations salt j k
 IsEdited h total payload (Change slot old new iterations) salt j k = HasChanged h total payload slot iterations salt j k
-IsEdited h total payload (Remove slot passphrase) salt j k = k ≡ without_slot slot j
+IsEdited h total payload (Remove slot by_ passphrase) salt j k = k ≡ without_slot slot j
 IsEdited h total payload Repair salt j k = k ≡ j
 IsEdited h total payload (Label text) salt j k = k ≡ j
 
@@ -126,7 +126,7 @@ pub record HoldsOpened
 abbrev pub IsSealedBy : List ℕ → Edit → List ℕ → Value → List ℕ → Value → Type 0
 IsSealedBy v (Add by_ old new to iterations) random j w k = HoldsOpened (memory_for old new.now) v by_ old.bytes.now new.now (IsNewKeyslot j to) random w k
 IsSealedBy v (Change slot old new iterations) random j w k = HoldsOpened (memory_for old new.now) v slot old.bytes.now new.now (λ n. n ≡ slot) random w k
-IsSealedBy v (Remove slot passphrase) random j w k = ⊤
+IsSealedBy v (Remove slot by_ passphrase) random j w k = ⊤
 IsSealedBy v Repair random j w k = ⊤
 IsSealedBy v (Label text) random j w k = ⊤
 
@@ -138,7 +138,7 @@ IsWiped j n w = (a : Area) → IsKeyArea j n a → part w a.start a.len ≡ repl
 abbrev pub IsWipedBy : Edit → Value → List ℕ → Type 0
 IsWipedBy (Add by_ old new to iterations) j w = ⊤
 IsWipedBy (Change slot old new iterations) j w = IsWiped j slot w
-IsWipedBy (Remove slot passphrase) j w = IsWiped j slot w
+IsWipedBy (Remove slot by_ passphrase) j w = IsWiped j slot w
 IsWipedBy Repair j w = ⊤
 IsWipedBy (Label text) j w = ⊤
 
@@ -170,6 +170,6 @@ OpensAfter2 v (Add by_ old new to iterations) w =
 OpensAfter2 v (Change slot old new iterations) w =
     (key : List ℕ) → AnswerWithin (memory_for old new.now) v slot old.bytes.now (opens key)
     → AnswerWithin (memory_for old new.now) w slot new.now (opens key)
-OpensAfter2 v (Remove slot passphrase) w = ⊤
+OpensAfter2 v (Remove slot by_ passphrase) w = ⊤
 OpensAfter2 v Repair w = ⊤
 OpensAfter2 v (Label text) w = ⊤

@@ -111,6 +111,6 @@ OpensEither2 v (Add by_ old new to iterations) w = ⊤
 OpensEither2 v (Change slot old new iterations) w =
     (key : List ℕ) → AnswerWithin (memory_for old new.now) v slot old.bytes.now (opens key)
     → AnswerWithin (memory_for old new.now) w slot old.bytes.now (opens key) ⊎ AnswerWithin (memory_for old new.now) w slot new.now (opens key)
-OpensEither2 v (Remove slot passphrase) w = ⊤
+OpensEither2 v (Remove slot by_ passphrase) w = ⊤
 OpensEither2 v Repair w = ⊤
 OpensEither2 v (Label text) w = ⊤

@@ -65,7 +65,7 @@ pub record IsOfNewKeyslot (h total : ℕ) (payload : Data) (j : Value) (n p : �
 abbrev pub IsOfSealed : ℕ → ℕ → Data → Value → Edit → ℕ → Type 0
 IsOfSealed h total payload j (Add by_ old new to iterations) p = IsOfNewKeyslot h total payload j by_ p
 IsOfSealed h total payload j (Change slot old new iterations) p = IsOfNewKeyslot h total payload j slot p
-IsOfSealed h total payload j (Remove slot passphrase) p = ⊥
+IsOfSealed h total payload j (Remove slot by_ passphrase) p = ⊥
 IsOfSealed h total payload j Repair p = ⊥
 IsOfSealed h total payload j (Label text) p = ⊥
 
@@ -73,7 +73,7 @@ IsOfSealed h total payload j (Label text) p = ⊥
 abbrev pub Loses : Edit → ℕ → Type 0
 Loses (Add by_ old new to iterations) n = ⊥
 Loses (Change slot old new iterations) n = n ≡ slot
-Loses (Remove slot passphrase) n = n ≡ slot
+Loses (Remove slot by_ passphrase) n = n ≡ slot
 Loses Repair n = ⊥
 Loses (Label text) n = ⊥
 
@@ -81,7 +81,7 @@ Loses (Label text) n = ⊥
 abbrev pub IsOfLost : Value → Edit → ℕ → Type 0
 IsOfLost j (Add by_ old new to iterations) p = ⊥
 IsOfLost j (Change slot old new iterations) p = IsOfKeyslot j slot p
-IsOfLost j (Remove slot passphrase) p = IsOfKeyslot j slot p
+IsOfLost j (Remove slot by_ passphrase) p = IsOfKeyslot j slot p
 IsOfLost j Repair p = ⊥
 IsOfLost j (Label text) p = ⊥
 

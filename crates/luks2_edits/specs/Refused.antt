@@ -16,20 +16,19 @@ use Rattle.luks_edit.specs.declared.edit.Edit.{Edit}
 use Rattle.luks_edit.specs.declared.edit.Edit.TheVariants.{Add, Change, Remove, Repair, Label}
 use Rattle.luks_edit.specs.declared.edit_fault.EditFault.{EditFault}
 use Rattle.luks_edit.specs.declared.edit_fault.EditFault.TheVariants as fault
-use Rattle.luks_edit.specs.Asked.{HasFewIterations, OpensBy}
+use Rattle.luks_edit.specs.Asked.{HasFewIterations, NamesItself, Wants}
 use Rattle.luks_edit.specs.EditFaults.{edit_key}
 use Rattle.luks_edit.specs.Opener.{IsLocked, IsShut}
 use Rattle.luks2_edits.specs.Edited.{IsEdited}
 use Rattle.luks2_edits.specs.Metadata.{HasMetadata, HasStripes, IsInUse}
 use Rattle.luks2_edits.specs.Places.{HasNoNewArea}
 
--- ---- the keyslot that the edit opens
+-- ---- the keyslots that the edit wants
 
--- it isn't there
+-- one of them isn't there
 pub record IsAbsent (j : Value) (e : Edit) : Type 0 where
   pub slot : ℕ
-  pub passphrase : List ℕ
-  pub asked : OpensBy e slot passphrase
+  pub wanted : Wants e slot
   pub unused : IsInUse j slot → ⊥
 
 -- ---- the keyslot that the edit makes
@@ -47,14 +46,14 @@ HasNoNumber j None = (n : ℕ) → IsFree j n → ⊥
 abbrev pub IsTaken : Value → Edit → Type 0
 IsTaken j (Add by_ old new to iterations) = IsNumberTaken j to
 IsTaken j (Change slot old new iterations) = ⊥
-IsTaken j (Remove slot passphrase) = ⊥
+IsTaken j (Remove slot by_ passphrase) = ⊥
 IsTaken j Repair = ⊥
 IsTaken j (Label text) = ⊥
 
 abbrev pub HasNoFree : Value → Edit → Type 0
 HasNoFree j (Add by_ old new to iterations) = HasNoNumber j to
 HasNoFree j (Change slot old new iterations) = ⊥
-HasNoFree j (Remove slot passphrase) = ⊥
+HasNoFree j (Remove slot by_ passphrase) = ⊥
 HasNoFree j Repair = ⊥
 HasNoFree j (Label text) = ⊥
 
@@ -62,7 +61,7 @@ HasNoFree j (Label text) = ⊥
 abbrev pub HasNoRoom : ℕ → ℕ → Data → Value → Edit → Type 0
 HasNoRoom h total payload j (Add by_ old new to iterations) = HasNoNewArea h total payload j by_
 HasNoRoom h total payload j (Change slot old new iterations) = HasNoNewArea h total payload j slot
-HasNoRoom h total payload j (Remove slot passphrase) = ⊥
+HasNoRoom h total payload j (Remove slot by_ passphrase) = ⊥
 HasNoRoom h total payload j Repair = ⊥
 HasNoRoom h total payload j (Label text) = ⊥
 
@@ -78,7 +77,7 @@ pub record IsOnlyOne (j : Value) (slot : ℕ) : Type 0 where
 abbrev pub IsLast : Value → Edit → Type 0
 IsLast j (Add by_ old new to iterations) = ⊥
 IsLast j (Change slot old new iterations) = ⊥
-IsLast j (Remove slot passphrase) = IsOnlyOne j slot
+IsLast j (Remove slot by_ passphrase) = IsOnlyOne j slot
 IsLast j Repair = ⊥
 IsLast j (Label text) = ⊥
 
@@ -86,7 +85,7 @@ IsLast j (Label text) = ⊥
 abbrev pub IsBadLabel : Edit → Type 0
 IsBadLabel (Add by_ old new to iterations) = ⊥
 IsBadLabel (Change slot old new iterations) = ⊥
-IsBadLabel (Remove slot passphrase) = ⊥
+IsBadLabel (Remove slot by_ passphrase) = ⊥
 IsBadLabel Repair = ⊥
 IsBadLabel (Label text) = (47 < length text.now) ⊎ (is_plain text.now ≡ true → ⊥)
 
@@ -113,7 +112,7 @@ pub record NeedsLike (j : Value) (n k : ℕ) : Type 0 where
 abbrev pub Need2 : Value → Edit → ℕ → Type 0
 Need2 j (Add by_ old new to iterations) k = NeedsLike j by_ k
 Need2 j (Change slot old new iterations) k = NeedsLike j slot k
-Need2 j (Remove slot passphrase) k = k ≡ 64 + 64
+Need2 j (Remove slot by_ passphrase) k = k ≡ 64 + 64
 Need2 j Repair k = k ≡ 64 + 64
 Need2 j (Label text) k = k ≡ 64 + 64
 
@@ -137,6 +136,7 @@ abbrev pub IsEditFault2 : List ℕ → Data → Edit → List ℕ → EditFault 
 IsEditFault2 v payload e random (fault.NotAccepted f) = IsFault v payload f
 IsEditFault2 v payload e random fault.Requirements = HasSaid v (λ o j. has_requirements j ≡ true)
 IsEditFault2 v payload e random fault.NoSuchSlot = HasSaid v (λ o j. IsAbsent j e)
+IsEditFault2 v payload e random fault.SameSlot = NamesItself e
 IsEditFault2 v payload e random fault.Locked = IsLocked v e
 IsEditFault2 v payload e random (fault.Slot f) = IsShut v e f
 IsEditFault2 v payload e random fault.SlotTaken = HasSaid v (λ o j. IsTaken j e)

@@ -133,7 +133,7 @@ module _ (h total : ℕ) (payload : Data) (j : Value) (a b : List ℕ) (salts : 
   edited_as_long : (e : Edit) (x y : Value) → IsEdited h total payload e a j x → IsEdited h total payload e b j y → AsLong x y
   edited_as_long (Add by_ old new to iterations) x y one two = added_as_long by_ to iterations x y one two
   edited_as_long (Change slot old new iterations) x y one two = renewed_as_long slot iterations x y one two
-  edited_as_long (Remove slot passphrase) x y one two = subst (λ v. AsLong x v) (one ∙ sym two) refl
+  edited_as_long (Remove slot by_ passphrase) x y one two = subst (λ v. AsLong x v) (one ∙ sym two) refl
   edited_as_long Repair x y one two = subst (λ v. AsLong x v) (one ∙ sym two) refl
   edited_as_long (Label text) x y one two = subst (λ v. AsLong x v) (one ∙ sym two) refl
 

@@ -14,7 +14,7 @@ use Rattle.luks_edit.specs.declared.edit.Edit.TheVariants.{Add, Change, Remove}
 use Rattle.luks_edit.specs.declared.edit.Passphrase.{Passphrase}
 use Rattle.luks_edit.specs.declared.edit_fault.EditFault.{EditFault}
 use Rattle.luks_edit.specs.declared.edit_fault.EditFault.TheVariants as fault
-use Rattle.luks_edit.specs.Asked.{allowed_memory, HasFewIterations, OpensBy}
+use Rattle.luks_edit.specs.Asked.{allowed_memory, HasFewIterations, NamesItself, OpensBy}
 use Rattle.luks_edit.specs.Opener.{IsShut}
 use Rattle.luks_edit.specs.RowFacts.{after_check, after_plan, first_of_check, first_of_plan, first_of_row, next, not_before, passed_from, Passed}
 use Rattle.luks2_edits.specs.Metadata.{HasMetadata}
@@ -89,22 +89,22 @@ none_opened v e none = record {
 
 module _ (v : List ℕ) (payload : Data) (o : ℕ) (j : Value) (m : HasMetadata v o j) (e : Edit) (random : List ℕ) where
   -- NotAccepted
-  pub past_check : ((f : CheckFault) → IsFault v payload f → ⊥) → IsPast 2 v payload e random
+  pub past_check : ((f : CheckFault) → IsFault v payload f → ⊥) → IsPast 1 v payload e random
   past_check accepted = after_check (IsEditFault2 v payload e random) accepted
 
   -- Requirements
-  pub required_first : IsPast 2 v payload e random → has_requirements j ≡ true → Refusal2 v payload e random fault.Requirements
+  pub required_first : IsPast 1 v payload e random → has_requirements j ≡ true → Refusal2 v payload e random fault.Requirements
   required_first passed bad = first_of_row (IsEditFault2 v payload e random) fault.Requirements refl passed (say v o j m (λ p i. has_requirements i ≡ true) bad)
 
-  pub past_required : IsPast 2 v payload e random → (has_requirements j ≡ true → ⊥) → IsPast 3 v payload e random
+  pub past_required : IsPast 1 v payload e random → (has_requirements j ≡ true → ⊥) → IsPast 2 v payload e random
   past_required passed not =
       next (IsEditFault2 v payload e random) fault.Requirements refl passed (λ bad. not (said v o j m (λ p i. has_requirements i ≡ true) bad))
 
   -- NoSuchSlot
-  pub absent_first : IsPast 3 v payload e random → IsAbsent j e → Refusal2 v payload e random fault.NoSuchSlot
+  pub absent_first : IsPast 2 v payload e random → IsAbsent j e → Refusal2 v payload e random fault.NoSuchSlot
   absent_first passed bad = first_of_row (IsEditFault2 v payload e random) fault.NoSuchSlot refl passed (say v o j m (λ p i. IsAbsent i e) bad)
 
-  pub past_absent : IsPast 3 v payload e random → (IsAbsent j e → ⊥) → IsPast 4 v payload e random
+  pub past_absent : IsPast 2 v payload e random → (IsAbsent j e → ⊥) → IsPast 3 v payload e random
   past_absent passed not = next (IsEditFault2 v payload e random) fault.NoSuchSlot refl passed (λ bad. not (said v o j m (λ p i. IsAbsent i e) bad))
 
   -- SlotTaken, NoFreeSlot
@@ -140,6 +140,13 @@ module _ (v : List ℕ) (payload : Data) (o : ℕ) (j : Value) (m : HasMetadata 
 -- ---- the rows that the edit tells
 
 module _ (v : List ℕ) (payload : Data) (e : Edit) (random : List ℕ) where
+  -- SameSlot
+  pub same_first : IsPast 3 v payload e random → NamesItself e → Refusal2 v payload e random fault.SameSlot
+  same_first passed bad = first_of_row (IsEditFault2 v payload e random) fault.SameSlot refl passed bad
+
+  pub past_same : IsPast 3 v payload e random → (NamesItself e → ⊥) → IsPast 4 v payload e random
+  past_same passed not = next (IsEditFault2 v payload e random) fault.SameSlot refl passed not
+
   -- Iterations
   pub few_first : IsPast 10 v payload e random → HasFewIterations e → Refusal2 v payload e random fault.Iterations
   few_first passed bad = first_of_row (IsEditFault2 v payload e random) fault.Iterations refl passed bad
@@ -209,19 +216,19 @@ module _ (v : List ℕ) (payload : Data) (o : ℕ) (j : Value) (m : HasMetadata 
       → HasNoFaultBefore 12 v payload (Change slot old new iterations) random
   changed_past = sealed_past v payload o j m (Change slot old new iterations) slot iterations (λ x. x, λ x. x) (λ x. x, λ x. x) (λ x. x) (λ x. x) change_eight
 
-module _ (v : List ℕ) (payload : Data) (o : ℕ) (j : Value) (m : HasMetadata v o j) (slot : ℕ) (passphrase : Passphrase)
-    (past : (random : List ℕ) → IsPast 6 v payload (Remove slot passphrase) random) where
-  nine : (random : List ℕ) → IsPast 9 v payload (Remove slot passphrase) random
-  nine random = past_room v payload o j m (Remove slot passphrase) random
-      (past_number v payload o j m (Remove slot passphrase) random (past random) (λ x. x) (λ x. x)) (λ x. x)
+module _ (v : List ℕ) (payload : Data) (o : ℕ) (j : Value) (m : HasMetadata v o j) (slot : ℕ) (by_ : Option ℕ) (passphrase : Passphrase)
+    (past : (random : List ℕ) → IsPast 6 v payload (Remove slot by_ passphrase) random) where
+  nine : (random : List ℕ) → IsPast 9 v payload (Remove slot by_ passphrase) random
+  nine random = past_room v payload o j m (Remove slot by_ passphrase) random
+      (past_number v payload o j m (Remove slot by_ passphrase) random (past random) (λ x. x) (λ x. x)) (λ x. x)
 
-  pub only_first : IsOnlyOne j slot → IsRefusedEarly v payload (Remove slot passphrase) fault.LastSlot
-  only_first bad = λ random. last_first v payload o j m (Remove slot passphrase) random (nine random) bad
+  pub only_first : IsOnlyOne j slot → IsRefusedEarly v payload (Remove slot by_ passphrase) fault.LastSlot
+  only_first bad = λ random. last_first v payload o j m (Remove slot by_ passphrase) random (nine random) bad
 
-  pub removed_past : (IsOnlyOne j slot → ⊥) → (random : List ℕ) → HasNoFaultBefore 12 v payload (Remove slot passphrase) random
-  removed_past other random = before_of 12 v payload (Remove slot passphrase) random
-      (past_label v payload (Remove slot passphrase) random
-      (past_few v payload (Remove slot passphrase) random (past_last v payload o j m (Remove slot passphrase) random (nine random) other) (λ x. x)) (λ x. x))
+  pub removed_past : (IsOnlyOne j slot → ⊥) → (random : List ℕ) → HasNoFaultBefore 12 v payload (Remove slot by_ passphrase) random
+  removed_past other random = before_of 12 v payload (Remove slot by_ passphrase) random
+      (past_label v payload (Remove slot by_ passphrase) random
+      (past_few v payload (Remove slot by_ passphrase) random (past_last v payload o j m (Remove slot by_ passphrase) random (nine random) other) (λ x. x)) (λ x. x))
 
 -- an edit that names no keyslot
 module _ (v : List ℕ) (payload : Data) (o : ℕ) (j : Value) (m : HasMetadata v o j) (e : Edit) (untaken : IsTaken j e → ⊥) (free : HasNoFree j e → ⊥)

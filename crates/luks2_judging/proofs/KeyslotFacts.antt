@@ -1,12 +1,14 @@
 -- Which keyslots the metadata has, number by number.
-use Rattle.std.proofs.Common.{◌⊎◌, ℕ, ◌+◌, ◌<◌, ◌≤◌, List, below_more, sym, ap, ◌∙◌, arith, inl, inr, is_some}
+use Rattle.std.proofs.Common.{◌≡◌, ◌⊎◌, ℕ, ◌+◌, ◌<◌, ◌≤◌, List, Option, below_more, refl, sym, subst, ap, ◌∙◌, arith, inl, inr, is_some}
 use Rattle.std.proofs.lemmas.Bool.{cases_Bool, cases_lt, false≢true}
 use Rattle.serde_json.specs.Data.{Data as Value}
 use Rattle.luks_rules.specs.declared.table.Section.TheVariants.{Keyslots}
 use Rattle.luks_rules.specs.Faults.{object_at}
 use Rattle.luks_making.specs.Conditions.{IsFree}
 use Rattle.luks_edit.specs.declared.edit.Edit.{Edit}
-use Rattle.luks_edit.specs.Asked.{OpensBy}
+use Rattle.luks_edit.specs.declared.edit.Edit.TheVariants.{Add, Change, Remove, Repair, Label}
+use Rattle.luks_edit.specs.declared.edit.Passphrase.{Passphrase}
+use Rattle.luks_edit.specs.Asked.{opener_of, OpensBy, Wants}
 use Rattle.luks2_edits.specs.Metadata.{IsInUse, IsLeastFree}
 use Rattle.luks2_edits.specs.Refused.{IsAbsent}
 
@@ -40,9 +42,41 @@ in_use_or_not j n =
       | inr past ↦ inr (λ used. (let low = used.0 in omega (arith, past, low)))
     ]
 
+-- an edit wants what it opens
+pub opener_wanted : (e : Edit) (n : ℕ) (p : List ℕ) → OpensBy e n p → Wants e n
+opener_wanted (Add by_ old new to iterations) n p asked = asked.0
+opener_wanted (Change slot old new iterations) n p asked = asked.0
+opener_wanted (Remove slot by_ passphrase) n p asked = inl asked.0
+opener_wanted Repair n p asked = asked
+opener_wanted (Label text) n p asked = asked
+
+-- one that opens none wants none
+pub none_wanted : (e : Edit) → ((n : ℕ) (p : List ℕ) → OpensBy e n p → ⊥) → (n : ℕ) → Wants e n → ⊥
+none_wanted (Add by_ old new to iterations) none n wanted = none by_ old.bytes.now (refl, refl)
+none_wanted (Change slot old new iterations) none n wanted = none slot old.bytes.now (refl, refl)
+none_wanted (Remove slot by_ passphrase) none n wanted = none (opener_of slot by_) passphrase.bytes.now (refl, refl)
+none_wanted Repair none n wanted = wanted
+none_wanted (Label text) none n wanted = wanted
+
+-- an edit that was read wants what it wants
+wanted_as : (e it : Edit) (n : ℕ) → e ≡ it → Wants it n → Wants e n
+wanted_as e it n is wanted = subst (λ y. Wants y n) (sym is) wanted
+
 -- a keyslot that isn't missed is there
-pub used_of : (j : Value) (e : Edit) (n : ℕ) (p : List ℕ) → OpensBy e n p → (IsAbsent j e → ⊥) → IsInUse j n
-used_of j e n p asked there = elim (in_use_or_not j n) [
+wanted_used : (j : Value) (e : Edit) (n : ℕ) → Wants e n → (IsAbsent j e → ⊥) → IsInUse j n
+wanted_used j e n wanted there = elim (in_use_or_not j n) [
   | inl used ↦ used
-  | inr unused ↦ absurd (there (record { slot = n; passphrase = p; asked = asked; unused = unused }))
+  | inr unused ↦ absurd (there (record { slot = n; wanted = wanted; unused = unused }))
 ]
+
+pub used_of : (j : Value) (e : Edit) (n : ℕ) (p : List ℕ) → OpensBy e n p → (IsAbsent j e → ⊥) → IsInUse j n
+used_of j e n p asked there = wanted_used j e n (opener_wanted e n p asked) there
+
+-- so is the one that is removed
+pub removed_used : (j : Value) {e : Edit} {slot : ℕ} {by_ : Option ℕ} {passphrase : Passphrase} → e ≡ Remove slot by_ passphrase → (IsAbsent j e → ⊥)
+    → IsInUse j slot
+removed_used j {e} {slot} {by_} {passphrase} is there = wanted_used j e slot (wanted_as e (Remove slot by_ passphrase) slot is (inr refl)) there
+
+-- no keyslot is missed where each one is there that is wanted
+pub none_absent : (j : Value) (e it : Edit) → e ≡ it → ((n : ℕ) → Wants it n → IsInUse j n) → IsAbsent j e → ⊥
+none_absent j e it is there absent = absent.unused (there absent.slot (subst (λ y. Wants y absent.slot) is absent.wanted))

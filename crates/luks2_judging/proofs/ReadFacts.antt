@@ -33,7 +33,7 @@ use Rattle.luks2_judging.proofs.JudgedFacts.{removed_past, unadded_first, unchan
 use Rattle.luks2_judging.proofs.RoomFacts.{area_excludes}
 
 -- a volume of `total` bytes with the areas `entries`, whose metadata `meta` is that of the copy at the
--- place `o`; no row up to `NoSuchSlot` refuses the edit
+-- place `o`; no row up to `SameSlot` refuses the edit
 pub record IsReadAs (v : List ℕ) (payload : Data) (e : Edit) (o : ℕ) (meta : Meta) (entries : List Entry) (total : ℕ) : Type 0 where
   pub metadata : HasMetadata v o (content meta)
   pub long : area_len meta + 4096 ≡ hdr_size (header_at v o)
@@ -105,14 +105,14 @@ module _ {v : List ℕ} {payload : Data} {e : Edit} {o : ℕ} {meta : Meta} {ent
           (λ none. area_excludes (hdr_size (header_at v o)) (length v) payload (content meta) slot a (free_of place) none) enough random)
 
     -- one is removed
-    module _ {slot : ℕ} {passphrase : Passphrase} (is : e ≡ Remove slot passphrase) where
+    module _ {slot : ℕ} {by_ : Option ℕ} {passphrase : Passphrase} (is : e ≡ Remove slot by_ passphrase) where
       pub last_refused : IsOnlyOne (content meta) slot → IsRefusedEarly v payload e fault.LastSlot
       last_refused bad = subst (λ y. IsRefusedEarly v payload y fault.LastSlot) (sym is)
-          (only_first v payload o (content meta) r.metadata slot passphrase (six_of (Remove slot passphrase) is) bad)
+          (only_first v payload o (content meta) r.metadata slot by_ passphrase (six_of (Remove slot by_ passphrase) is) bad)
 
       pub removed_passed : (IsOnlyOne (content meta) slot → ⊥) → (random : List ℕ) → HasNoFaultBefore 12 v payload e random
       removed_passed other random = subst (λ y. HasNoFaultBefore 12 v payload y random) (sym is)
-          (removed_past v payload o (content meta) r.metadata slot passphrase (six_of (Remove slot passphrase) is) other random)
+          (removed_past v payload o (content meta) r.metadata slot by_ passphrase (six_of (Remove slot by_ passphrase) is) other random)
 
   -- the copies are written anew
   pub repaired_passed : e ≡ Repair → (random : List ℕ) → HasNoFaultBefore 12 v payload e random

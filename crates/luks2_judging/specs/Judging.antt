@@ -67,8 +67,9 @@ pub record IsRenewal
 
 -- it removes this keyslot, and its area with it
 pub record IsRemoval (j : Value) (total : ℕ) (e : Edit) (slot : ℕ) (area : Area) : Type 0 where
+  pub by_ : Option ℕ
   pub passphrase : Passphrase
-  pub asked : e ≡ Remove slot passphrase
+  pub asked : e ≡ Remove slot by_ passphrase
   pub there : IsInUse j slot
   pub lost : IsLostArea j total slot area
 

@@ -7,6 +7,7 @@ use Rattle.luks_reading.specs.Checked.{IsFault}
 use Rattle.luks_edit.specs.declared.edit.Edit.{Edit}
 use Rattle.luks_edit.specs.declared.edit_fault.EditFault.{EditFault}
 use Rattle.luks_edit.specs.declared.edit_fault.EditFault.TheVariants as fault
+use Rattle.luks_edit.specs.Asked.{NamesItself}
 use Rattle.luks_edit.specs.EditFaults.{edit_key}
 use Rattle.luks2_edits.specs.Refused.{HasNoFree, HasSaid, IsAbsent, IsTaken, Need2}
 
@@ -15,6 +16,7 @@ abbrev pub IsNeedFault2 : List ℕ → Data → Edit → EditFault → Type 0
 IsNeedFault2 v payload e (fault.NotAccepted f) = IsFault v payload f
 IsNeedFault2 v payload e fault.Requirements = HasSaid v (λ o j. has_requirements j ≡ true)
 IsNeedFault2 v payload e fault.NoSuchSlot = HasSaid v (λ o j. IsAbsent j e)
+IsNeedFault2 v payload e fault.SameSlot = NamesItself e
 IsNeedFault2 v payload e fault.SlotTaken = HasSaid v (λ o j. IsTaken j e)
 IsNeedFault2 v payload e fault.NoFreeSlot = HasSaid v (λ o j. HasNoFree j e)
 IsNeedFault2 v payload e f = ⊥

@@ -27,17 +27,17 @@ ghost use Rattle.luks2_judging.specs.Sealing.{IsUnadded};
 
 use crate::accepted::{accepted_areas, copy_of, into_copy};
 use crate::judged::{Addition, Judged, JudgedEdit, Renewal};
-use crate::keyslots::{judge_opener, judge_requirements, key_area, new_number};
+use crate::keyslots::{judge_opener, judge_requirements, judge_wanted, key_area, new_number};
 use crate::labels::judge_label;
 use crate::room::{Room, judge_sealing};
 use crate::rows::judge_removal;
 use crate::unlocking::unlock;
 use luks_area::{Areas, Device};
-use luks_edit::{Edit, EditFault};
+use luks_edit::{Edit, EditFault, opener_of};
 use luks_reading::{ChosenCopy, Data, Header};
 use std::alloc::Global;
 
-/// An accepted volume without requirements that has the keyslot that the edit opens.
+/// An accepted volume without requirements that has the keyslots that the edit opens and removes.
 #[derive(Drop)]
 struct Accepted<'a> {
     copy: &'a ChosenCopy,
@@ -120,7 +120,7 @@ fn taken_by<'a, D: Device>(
     judge_with_key(alloc, device, header, &accepted, edit)
 }
 
-/// The rows before the opening of a keyslot: `NotAccepted`, `Requirements`, `NoSuchSlot`.
+/// The rows before the opening of a keyslot: `NotAccepted`, `Requirements`, `NoSuchSlot`, `SameSlot`.
 fn judge_without_key<'a>(
     header: &'a Header,
     data_: Data,
@@ -148,7 +148,8 @@ fn judge_without_key<'a>(
     let areas = accepted_areas(header, data_, total)?;
     let copy = copy_of(header);
     judge_requirements(&copy.meta)?;
-    judge_opener(&copy.meta, edit)?;
+    judge_wanted(&copy.meta, edit)?;
+    judge_opener(edit)?;
     Ok(Accepted { copy, areas, total })
 }
 
@@ -225,8 +226,13 @@ fn judge_with_key<'a, D: Device>(
                 passphrase: new,
             })
         }
-        Edit::Remove { slot, passphrase } => {
-            let _key = unlock(alloc, device, header, slot, passphrase.bytes, memory)?;
+        Edit::Remove {
+            slot,
+            by_,
+            passphrase,
+        } => {
+            let opener = opener_of(slot, by_);
+            let _key = unlock(alloc, device, header, opener, passphrase.bytes, memory)?;
             let area = judge_removal(room.meta, slot)?;
             Ok(JudgedEdit::Remove { slot, area })
         }

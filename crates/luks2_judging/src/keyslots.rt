@@ -1,5 +1,6 @@
 //! Judging an edit by the keyslots of the metadata, with no key.
-ghost use Rattle.std.specs.Prelude.{◌≡◌, ◌<◌, ℕ, false, true, IfOk, IsTrue, MatchOption, MatchResult};
+ghost use Rattle.std.specs.Prelude.{◌≡◌, ◌<◌, ℕ, List, false, true, IfOk, IsTrue, MatchOption, MatchResult};
+ghost use Rattle.luks_edit.specs.Asked.{NamesItself, OpensBy};
 ghost use Rattle.luks_making.specs.Conditions.{IsFree};
 ghost use Rattle.luks_meta.specs.Content.{content};
 ghost use Rattle.luks_meta.specs.Requirements.{has_requirements};
@@ -7,7 +8,6 @@ ghost use Rattle.luks2_edits.specs.Metadata.{IsInUse, IsKeyArea, IsLeastFree};
 ghost use Rattle.luks2_edits.specs.Refused.{IsAbsent};
 ghost use Rattle.luks2_judging.specs.Judged.{IsNewNumber, IsNumberFault, Judges};
 
-use crate::asked::keyslot_to_open;
 use luks_area::Area;
 use luks_edit::{Edit, EditFault};
 use luks_meta::Meta;
@@ -51,19 +51,72 @@ pub(crate) fn judge_requirements(meta: &Meta) -> Result<(), EditFault>
     Ok(())
 }
 
-/// Whether the keyslot is there that the edit opens. Refused by `NoSuchSlot`.
-pub(crate) fn judge_opener(meta: &Meta, edit: &Edit<'_>) -> Result<(), EditFault>
+/// Whether the keyslots are there that the edit opens and removes. Refused by `NoSuchSlot`.
+pub(crate) fn judge_wanted(meta: &Meta, edit: &Edit<'_>) -> Result<(), EditFault>
     ensures { Judges (IsAbsent (content meta.now) edit.now) EditFault.NoSuchSlot result }
 {
-    match keyslot_to_open(edit) {
+    match edit.opener() {
         None => Ok(()),
         Some(opener) => {
             if is_used(meta, opener.slot) {
+                judge_removed(meta, edit)
+            } else {
+                Err(EditFault::NoSuchSlot)
+            }
+        }
+    }
+}
+
+/// Whether the keyslot is there that the edit removes, if it removes one; the one that it opens is.
+/// Refused by `NoSuchSlot`.
+fn judge_removed(meta: &Meta, edit: &Edit<'_>) -> Result<(), EditFault>
+    requires { (n : ℕ) (p : List ℕ) → OpensBy edit.now n p → IsInUse (content meta.now) n }
+    ensures { Judges (IsAbsent (content meta.now) edit.now) EditFault.NoSuchSlot result }
+{
+    match *edit {
+        Edit::Remove {
+            slot,
+            by_: _,
+            passphrase: _,
+        } => {
+            if is_used(meta, slot) {
                 Ok(())
             } else {
                 Err(EditFault::NoSuchSlot)
             }
         }
+        Edit::Add { .. } => Ok(()),
+        Edit::Change { .. } => Ok(()),
+        Edit::Repair => Ok(()),
+        Edit::Label { .. } => Ok(()),
+    }
+}
+
+/// Whether the keyslot that is named to open by isn't the one to remove. Refused by `SameSlot`.
+pub(crate) fn judge_opener(edit: &Edit<'_>) -> Result<(), EditFault>
+    ensures { Judges (NamesItself edit.now) EditFault.SameSlot result }
+{
+    match *edit {
+        Edit::Remove {
+            slot,
+            by_: Some(other),
+            passphrase: _,
+        } => {
+            if other == slot {
+                Err(EditFault::SameSlot)
+            } else {
+                Ok(())
+            }
+        }
+        Edit::Remove {
+            slot: _,
+            by_: None,
+            passphrase: _,
+        } => Ok(()),
+        Edit::Add { .. } => Ok(()),
+        Edit::Change { .. } => Ok(()),
+        Edit::Repair => Ok(()),
+        Edit::Label { .. } => Ok(()),
     }
 }
 

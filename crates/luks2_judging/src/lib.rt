@@ -2,7 +2,6 @@
 #![tactic(auto)]
 
 mod accepted;
-mod asked;
 mod judged;
 mod judging;
 mod keyslots;

@@ -9,7 +9,7 @@ ghost use Rattle.luks2_judging.specs.Header.{IsOfLuks2};
 ghost use Rattle.luks2_judging.specs.Needed.{TellsNeed2};
 
 use crate::accepted::accepted_copy;
-use crate::keyslots::{judge_opener, judge_requirements, new_number};
+use crate::keyslots::{judge_opener, judge_requirements, judge_wanted, new_number};
 use luks_edit::{Edit, EditFault};
 use luks_meta::Meta;
 use luks_reading::{Data, Header};
@@ -21,7 +21,7 @@ const COPY_SALTS: u64 = 128;
 const KEYSLOT_SALT: u64 = 32;
 
 /// How many random bytes the edit takes of the LUKS2 volume of `total` bytes with this header, or
-/// the first of `NotAccepted`, `Requirements`, `NoSuchSlot`, `SlotTaken` and `NoFreeSlot`.
+/// the first of `NotAccepted`, `Requirements`, `NoSuchSlot`, `SameSlot`, `SlotTaken` and `NoFreeSlot`.
 ///
 /// Each edit takes 64 for the salt of each copy of the header; one that seals a keyslot takes 32
 /// more for its salt, and for each of its stripes but the last as many as the volume key has. No
@@ -41,7 +41,8 @@ pub fn needed_luks2(
 {
     let copy = accepted_copy(header, data_, total)?;
     judge_requirements(&copy.meta)?;
-    judge_opener(&copy.meta, edit)?;
+    judge_wanted(&copy.meta, edit)?;
+    judge_opener(edit)?;
     match *edit {
         Edit::Add { by_, to, .. } => {
             new_number(&copy.meta, to)?;

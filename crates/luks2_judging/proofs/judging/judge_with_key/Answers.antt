@@ -11,7 +11,7 @@ use Rattle.luks_reading.specs.Plans.{HasKeyBytes, HasLuks2KeyBytes}
 use Rattle.luks2_judging.specs.declared.judged.JudgedEdit.{JudgedEdit}
 use Rattle.luks2_judging.specs.Judging.{Takes}
 use Rattle.luks2_judging.specs.Room.{IsPlaced}
-use Rattle.luks2_judging.proofs.KeyslotFacts.{used_of}
+use Rattle.luks2_judging.proofs.KeyslotFacts.{removed_used, used_of}
 use Rattle.luks2_judging.proofs.OpenerFacts.{opens_as}
 use Rattle.luks2_judging.proofs.ReadFacts.{added_passed, changed_passed, label_judged, label_ended, last_refused, placed_of, read_as, removed_passed}
 use Rattle.luks2_judging.proofs.ReadFacts.{repaired_passed, unadded_refused, unchanged_refused, unopened_refused}
@@ -70,7 +70,7 @@ returns-in_err-_key-in-Remove-clause-refused g c = λ tells is payload well judg
     let p = err_from_is_err_and c.from_residual-in_err-_key-in-Remove.result c.from_residual-in_err-_key-in-Remove.ensures.1 in
     rw (p.1, p.2)
     (unopened_refused read c.in_err-_key-in-Remove.field-0.0 (c.in_err-_key-in-Remove.ensures.refused tells is payload c.args.edit.now well (sym c.allowed_memory-memory.ensures)
-    (opens_as _ _ _ _ c.in-Remove.is (refl, refl))))
+    (opens_as _ _ _ _ c.in-Remove.is (c.opener_of-opener.ensures, refl))))
 
 pub returns-in_err-area-in-Remove-clause-refused : goal.returns-in_err-area-in-Remove-clause-refused
 returns-in_err-area-in-Remove-clause-refused g c = λ tells is payload well judged.
@@ -79,7 +79,7 @@ returns-in_err-area-in-Remove-clause-refused g c = λ tells is payload well judg
     let p = err_from_is_err_and c.from_residual-in_err-area-in-Remove.result c.from_residual-in_err-area-in-Remove.ensures.1 in
     rw (p.1, p.2)
     rw c.in_err-area-in-Remove.ensures.row.0
-    (last_refused read (c.in_ok-_key-in-Remove.ensures.opened tells is c.args.edit.now (sym c.allowed_memory-memory.ensures) (opens_as _ _ _ _ c.in-Remove.is (refl, refl))).past c.in-Remove.is c.in_err-area-in-Remove.ensures.row.1)
+    (last_refused read (c.in_ok-_key-in-Remove.ensures.opened tells is c.args.edit.now (sym c.allowed_memory-memory.ensures) (opens_as _ _ _ _ c.in-Remove.is (c.opener_of-opener.ensures, refl))).past c.in-Remove.is c.in_err-area-in-Remove.ensures.row.1)
 
 pub returns-in_ok-addition-in-Add-clause-seals : goal.returns-in_ok-addition-in-Add-clause-seals
 returns-in_ok-addition-in-Add-clause-seals g c = λ tells is payload judged.
@@ -142,23 +142,23 @@ returns-in_ok-area-in-Remove-clause-takes g c =
     let area = c.in_ok-area-in-Remove.area in
     let is = subst (λ (m : Meta). IsKeyArea (content m) c.in-Remove.slot area) c.room-room.ensures.meta c.in_ok-area-in-Remove.ensures.area in
     record {
+      by_ = c.in-Remove.by_;
       passphrase = c.in-Remove.passphrase;
       asked = c.in-Remove.is;
-      there = used_of (content c.args.accepted.now.copy.now.meta) c.args.edit.now c.in-Remove.slot c.in-Remove.passphrase.bytes.now
-          (opens_as _ _ _ _ c.in-Remove.is (refl, refl)) c.requires.there;
+      there = removed_used (content c.args.accepted.now.copy.now.meta) c.in-Remove.is c.requires.there;
       lost = record { is = is; inside = c.requires.key_areas c.in-Remove.slot area is };
     }
 
 pub judge_removal-requires : goal.judge_removal-requires
 judge_removal-requires g c =
     subst (λ (m : Meta). IsInUse (content m) c.in-Remove.slot) (sym c.room-room.ensures.meta)
-    (used_of (content c.args.accepted.now.copy.now.meta) c.args.edit.now c.in-Remove.slot c.in-Remove.passphrase.bytes.now (opens_as _ _ _ _ c.in-Remove.is (refl, refl)) c.requires.there)
+    (removed_used (content c.args.accepted.now.copy.now.meta) c.in-Remove.is c.requires.there)
 
 pub returns-in_ok-area-in-Remove-clause-passed : goal.returns-in_ok-area-in-Remove-clause-passed
 returns-in_ok-area-in-Remove-clause-passed g c = λ tells is payload judged.
     let read = read_as c.room-room.ensures.meta c.room-room.ensures.entries
     (g.met.D.Device.sized c.args.device.now tells ∙ sym c.requires.total ∙ sym c.room-room.ensures.total) judged in
-    removed_passed read (c.in_ok-_key-in-Remove.ensures.opened tells is c.args.edit.now (sym c.allowed_memory-memory.ensures) (opens_as _ _ _ _ c.in-Remove.is (refl, refl))).past
+    removed_passed read (c.in_ok-_key-in-Remove.ensures.opened tells is c.args.edit.now (sym c.allowed_memory-memory.ensures) (opens_as _ _ _ _ c.in-Remove.is (c.opener_of-opener.ensures, refl))).past
     c.in-Remove.is c.in_ok-area-in-Remove.ensures.row
 
 pub returns-in-Repair-clause-passed : goal.returns-in-Repair-clause-passed

@@ -8,7 +8,7 @@ use Rattle.luks_reading.specs.Reported.{HeaderArea}
 use Rattle.luks_reading.proofs.VolumeLaws.{well_formed_faultless}
 use Rattle.luks2_edits.specs.Refused.{Refusal2}
 use Rattle.luks2_judging.proofs.ChosenFacts.{copy_in, metadata_of}
-use Rattle.luks2_judging.proofs.JudgedFacts.{absent_first, before_of, past_absent, past_check, past_required, required_first, unaccepted_first}
+use Rattle.luks2_judging.proofs.JudgedFacts.{absent_first, before_of, past_absent, past_check, past_required, past_same, required_first, same_first, unaccepted_first}
 use Rattle.luks2_judging.proofs.judging.judge_without_key.Goals as goal
 
 pub returns-in_err-areas-clause-refused : goal.returns-in_err-areas-clause-refused
@@ -30,19 +30,34 @@ returns-in_err-judge_requirements-clause-refused c = λ v random is size.
     (subst (λ f. Refusal2 v c.args.data_ e random f) (sym judged.0)
     (required_first v c.args.data_ copy.header.hdr_offset (content copy.meta) (metadata_of v copy x) e random past judged.1))
 
+pub returns-in_err-judge_wanted-clause-refused : goal.returns-in_err-judge_wanted-clause-refused
+returns-in_err-judge_wanted-clause-refused c = λ v random is size.
+    let copy = c.copy_of-copy.result.now in
+    let x : IsChosenCopy v copy = copy_in v c.args.header.now copy c.copy_of-copy.ensures is in
+    let e = c.args.edit.now in
+    let accepted = well_formed_faultless v c.args.data_ (c.in_ok-areas.ensures.well v is size) in
+    let past1 = past_check v c.args.data_ copy.header.hdr_offset (content copy.meta) (metadata_of v copy x) e random accepted in
+    let past2 = past_required v c.args.data_ copy.header.hdr_offset (content copy.meta) (metadata_of v copy x) e random past1 c.in_ok-judge_requirements.ensures in
+    let p = err_from_is_err_and c.from_residual-in_err-judge_wanted.result c.from_residual-in_err-judge_wanted.ensures.1 in
+    let judged = c.in_err-judge_wanted.ensures in
+    rw (p.1, p.2)
+    (subst (λ f. Refusal2 v c.args.data_ e random f) (sym judged.0)
+    (absent_first v c.args.data_ copy.header.hdr_offset (content copy.meta) (metadata_of v copy x) e random past2 judged.1))
+
 pub returns-in_err-judge_opener-clause-refused : goal.returns-in_err-judge_opener-clause-refused
 returns-in_err-judge_opener-clause-refused c = λ v random is size.
     let copy = c.copy_of-copy.result.now in
     let x : IsChosenCopy v copy = copy_in v c.args.header.now copy c.copy_of-copy.ensures is in
     let e = c.args.edit.now in
     let accepted = well_formed_faultless v c.args.data_ (c.in_ok-areas.ensures.well v is size) in
-    let past2 = past_check v c.args.data_ copy.header.hdr_offset (content copy.meta) (metadata_of v copy x) e random accepted in
-    let past3 = past_required v c.args.data_ copy.header.hdr_offset (content copy.meta) (metadata_of v copy x) e random past2 c.in_ok-judge_requirements.ensures in
+    let past1 = past_check v c.args.data_ copy.header.hdr_offset (content copy.meta) (metadata_of v copy x) e random accepted in
+    let past2 = past_required v c.args.data_ copy.header.hdr_offset (content copy.meta) (metadata_of v copy x) e random past1 c.in_ok-judge_requirements.ensures in
     let p = err_from_is_err_and c.from_residual-in_err-judge_opener.result c.from_residual-in_err-judge_opener.ensures.1 in
+    let past3 = past_absent v c.args.data_ copy.header.hdr_offset (content copy.meta) (metadata_of v copy x) e random past2 c.in_ok-judge_wanted.ensures in
     let judged = c.in_err-judge_opener.ensures in
     rw (p.1, p.2)
     (subst (λ f. Refusal2 v c.args.data_ e random f) (sym judged.0)
-    (absent_first v c.args.data_ copy.header.hdr_offset (content copy.meta) (metadata_of v copy x) e random past3 judged.1))
+    (same_first v c.args.data_ e random past3 judged.1))
 
 pub returns-clause-passed : goal.returns-clause-passed
 returns-clause-passed c = λ v random is size.
@@ -50,9 +65,10 @@ returns-clause-passed c = λ v random is size.
     let x : IsChosenCopy v copy = copy_in v c.args.header.now copy c.copy_of-copy.ensures is in
     let e = c.args.edit.now in
     let accepted = well_formed_faultless v c.args.data_ (c.in_ok-areas.ensures.well v is size) in
-    let past2 = past_check v c.args.data_ copy.header.hdr_offset (content copy.meta) (metadata_of v copy x) e random accepted in
-    let past3 = past_required v c.args.data_ copy.header.hdr_offset (content copy.meta) (metadata_of v copy x) e random past2 c.in_ok-judge_requirements.ensures in
-    let past4 = past_absent v c.args.data_ copy.header.hdr_offset (content copy.meta) (metadata_of v copy x) e random past3 c.in_ok-judge_opener.ensures in
+    let past1 = past_check v c.args.data_ copy.header.hdr_offset (content copy.meta) (metadata_of v copy x) e random accepted in
+    let past2 = past_required v c.args.data_ copy.header.hdr_offset (content copy.meta) (metadata_of v copy x) e random past1 c.in_ok-judge_requirements.ensures in
+    let past3 = past_absent v c.args.data_ copy.header.hdr_offset (content copy.meta) (metadata_of v copy x) e random past2 c.in_ok-judge_wanted.ensures in
+    let past4 = past_same v c.args.data_ e random past3 c.in_ok-judge_opener.ensures in
     record { chosen = x; lists = c.in_ok-areas.ensures.areas v is size; passed = before_of 4 v c.args.data_ e random past4 }
 
 pub returns-clause-key_areas : goal.returns-clause-key_areas
