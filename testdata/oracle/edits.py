@@ -37,8 +37,10 @@ class Change:
 
 @dataclass(frozen=True)
 class Remove:
+    """Of the keyslot `slot`, whose passphrase it is; where `by` is given, that of the keyslot `by`, another one."""
     slot: int
     passphrase: bytes
+    by: int = None
     memory: int = 0
 
 
@@ -58,7 +60,9 @@ def opened_by(edit):
         return edit.by, edit.old
     if isinstance(edit, Change):
         return edit.slot, edit.old
-    return (edit.slot, edit.passphrase) if isinstance(edit, Remove) else None
+    if isinstance(edit, Remove):
+        return edit.slot if edit.by is None else edit.by, edit.passphrase
+    return None
 
 
 class Volume1:
@@ -241,8 +245,14 @@ def accepted(volume, detached, over=True):
 
 
 def find(v, edit):
-    if opened_by(edit) and opened_by(edit)[0] not in v.used:
+    """The keyslots that the edit names are there: the one that it opens and, of a removal, the one that goes, which is named once."""
+    named = {opened_by(edit)[0]} if opened_by(edit) else set()
+    if isinstance(edit, Remove):
+        named.add(edit.slot)
+    if not named <= set(v.used):
         raise Fault("NoSuchSlot")
+    if isinstance(edit, Remove) and edit.by == edit.slot:
+        raise Fault("SameSlot")
 
 
 def key_of(v, edit):

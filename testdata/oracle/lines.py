@@ -70,7 +70,8 @@ def words(edit, detached):
     if name == "change":
         return f"luks change v --slot={edit.slot} --passphrase=p --new=n --random=r --iterations={edit.iterations}{memory}{end}"
     if name == "remove":
-        return f"luks remove v --slot={edit.slot} --passphrase=p --random=r{memory}{end}"
+        by = f" --by={edit.by}" if edit.by is not None else ""
+        return f"luks remove v --slot={edit.slot}{by} --passphrase=p --random=r{memory}{end}"
     if name == "label":
         return f"luks label v {edit.text.decode()} --random=r{end}" if edit.text.decode().isprintable() else None
     return f"luks repair v --random=r{end}"

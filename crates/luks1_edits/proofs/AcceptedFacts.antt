@@ -15,12 +15,12 @@ use Rattle.luks_edit.specs.declared.edit.Edit.{Edit}
 use Rattle.luks_edit.specs.declared.edit.Edit.TheVariants.{Repair}
 use Rattle.luks_edit.specs.declared.edit_fault.EditFault.{EditFault}
 use Rattle.luks_edit.specs.declared.edit_fault.EditFault.TheVariants as fault
-use Rattle.luks_edit.specs.Asked.{HasFewIterations, OpensBy}
+use Rattle.luks_edit.specs.Asked.{HasFewIterations}
 use Rattle.luks_edit.specs.RowFacts.{Passed, first_of_check, first_of_row, next}
 use Rattle.luks1_edits.specs.Accepted.{IsHeaderOf, IsUnaccepted}
 use Rattle.luks1_edits.specs.Refused.{HasNoFree, IsEditFault1, IsLabel, IsLast, IsTaken, Refusal1}
 use Rattle.luks1_edits.specs.Replies.{EndsBy1, Replies1}
-use Rattle.luks1_edits.proofs.RowFacts.{none_to_open, past_label, past_new, unrefused}
+use Rattle.luks1_edits.proofs.RowFacts.{none_to_open, OpensNone, past_label, past_new, unrefused}
 
 -- ---- the verdict on the header is that on the volume
 
@@ -51,7 +51,7 @@ unaccepted_ends v payload e r f bad = absurd bad
 module _ (v : List ℕ) (payload : Data) (r : List ℕ) (accepted : (f : CheckFault) → IsFault v payload f → ⊥) where
   -- there is nothing to repair
   idle : Passed (IsEditFault1 v payload Repair r) 14
-  idle = past_label v payload Repair r (past_new v payload Repair r (none_to_open v payload Repair r accepted (λ n p asked. asked)) (λ bad. bad) (λ bad. bad)) (λ bad. bad) (λ bad. bad) (λ bad. bad)
+  idle = past_label v payload Repair r (past_new v payload Repair r (none_to_open v payload Repair r accepted (record { opens = λ n p asked. asked; wants = λ n wants. wants; other = λ same. same })) (λ bad. bad) (λ bad. bad)) (λ bad. bad) (λ bad. bad) (λ bad. bad)
 
   pub repair_replies : (result : Result Done EditFault)
       → MatchResult result (λ done. (length r ≡ 0) × (done.slot ≡ None)) (λ f. (length r ≢ 0) × (f ≡ fault.RandomLength)) → Replies1 payload v Repair r result v
@@ -60,7 +60,7 @@ module _ (v : List ℕ) (payload : Data) (r : List ℕ) (accepted : (f : CheckFa
       (first_of_row (IsEditFault1 v payload Repair r) fault.RandomLength refl idle (record { need = 0; is = refl; other = x.0 }), refl)
 
   -- LUKS1 has no label
-  pub label_refused : (e : Edit) → ((n : ℕ) (p : List ℕ) → OpensBy e n p → ⊥) → (IsTaken v e → ⊥) → (HasNoFree v e → ⊥) → (IsLast v e → ⊥) → (HasFewIterations e → ⊥)
+  pub label_refused : (e : Edit) → OpensNone e → (IsTaken v e → ⊥) → (HasNoFree v e → ⊥) → (IsLast v e → ⊥) → (HasFewIterations e → ⊥)
       → IsLabel e → Refusal1 v payload e r fault.BadLabel
   label_refused e none untaken free last few label =
       let s = IsEditFault1 v payload e r in

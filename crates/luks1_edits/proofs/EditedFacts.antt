@@ -55,11 +55,11 @@ named_numbered v payload (Add by_ old new (Some t) iterations) r free n is =
     let low = at_most_seven t (λ over. free.none fault.NoFreeSlot over) in omega (arith, is, low)
 named_numbered v payload (Add by_ old new None iterations) r free n is = is.free.0
 named_numbered v payload (Change slot old new iterations) r free n is =
-    let used = in_use v slot (λ not. free.none fault.NoSuchSlot (record { slot = slot; passphrase = old.bytes.now; asked = (refl, refl); unused = not })) in
+    let used = in_use v slot (λ not. free.none fault.NoSuchSlot (record { slot = slot; wanted = refl; unused = not })) in
     let low = used.0 in
     elim is [ inl same ↦ omega (arith, same, low) | inr least ↦ least.free.0 ]
-named_numbered v payload (Remove slot passphrase) r free n is =
-    let used = in_use v slot (λ not. free.none fault.NoSuchSlot (record { slot = slot; passphrase = passphrase.bytes.now; asked = (refl, refl); unused = not })) in
+named_numbered v payload (Remove slot by_ passphrase) r free n is =
+    let used = in_use v slot (λ not. free.none fault.NoSuchSlot (record { slot = slot; wanted = inr refl; unused = not })) in
     let low = used.0 in
     omega (arith, is, low)
 named_numbered v payload Repair r free n is = absurd is
@@ -165,8 +165,8 @@ module _ (payload : Data) (v : List ℕ) (chosen : Chosen v luks1) (well : WellF
       (freed_fits (entry v slot) (entry w slot) x.freed)
       (made_fits (entry v x.fresh) (entry w x.fresh) iterations (take 32 r) (enough iterations (λ few. free.none fault.Iterations few)) x.made)
       (inl refl) (inr x.is_free)
-  leaves (Remove slot passphrase) r w free x =
-      let used : slot < 8 = named_numbered v payload (Remove slot passphrase) r free slot refl in
+  leaves (Remove slot by_ passphrase) r w free x =
+      let used : slot < 8 = named_numbered v payload (Remove slot by_ passphrase) r free slot refl in
       let fits = freed_fits (entry v slot) (entry w slot) x.freed in
       both_leave (λ n. n ≡ slot) slot slot w used used x.rest fits fits refl refl
   leaves Repair r w free x = nothing_left (λ n. ⊥) w x
@@ -208,7 +208,7 @@ module _ (payload : Data) (v : List ℕ) (chosen : Chosen v luks1) (well : WellF
       subst (λ k. Answer w k new.now (opens key)) (least_free_once v x.fresh n x.is_free is)
       (made_to slot old.bytes.now x.fresh iterations (take 32 r) new.now x.key key (drop 32 r) w x.is_free.free.0 (enough iterations (λ few. free.none fault.Iterations few))
       slot x.fresh used x.is_free.free.0 x.rest x.made x.holds x.opened opened)
-  opens_after (Remove slot passphrase) r w free x = tt
+  opens_after (Remove slot by_ passphrase) r w free x = tt
   opens_after Repair r w free x = tt
   opens_after (Label text) r w free x = tt
 
@@ -217,7 +217,7 @@ module _ (payload : Data) (v : List ℕ) (chosen : Chosen v luks1) (well : WellF
   opens_either : (e : Edit) (r w : List ℕ) → IsUnrefused1 v payload e r → IsTorn1 v e r w → OpensEither1 v e w
   opens_either (Add by_ old new to iterations) r w free x = tt
   opens_either (Change slot old new iterations) r w free (inl x) = λ key opened.
-      let used = in_use v slot (λ not. free.none fault.NoSuchSlot (record { slot = slot; passphrase = old.bytes.now; asked = (refl, refl); unused = not })) in
+      let used = in_use v slot (λ not. free.none fault.NoSuchSlot (record { slot = slot; wanted = refl; unused = not })) in
       let lt : x.slot < 8 = x.is_new.free.0 in
       let other : IsEither x.slot x.slot slot → ⊥ = λ either.
       let one : slot ≡ x.slot = elim either [ inl y ↦ y | inr y ↦ y ] in
@@ -235,14 +235,14 @@ module _ (payload : Data) (v : List ℕ) (chosen : Chosen v luks1) (well : WellF
               slot x.fresh used x.is_free.free.0 x.rest x.made x.holds x.opened opened,
         ),
       )
-  opens_either (Remove slot passphrase) r w free x = tt
+  opens_either (Remove slot by_ passphrase) r w free x = tt
   opens_either Repair r w free x = tt
   opens_either (Label text) r w free x = tt
 
   same_opens : (e : Edit) → OpensEither1 v e v
   same_opens (Add by_ old new to iterations) = tt
   same_opens (Change slot old new iterations) = λ key opened. inl opened
-  same_opens (Remove slot passphrase) = tt
+  same_opens (Remove slot by_ passphrase) = tt
   same_opens Repair = tt
   same_opens (Label text) = tt
 
@@ -259,7 +259,7 @@ module _ (payload : Data) (v : List ℕ) (chosen : Chosen v luks1) (well : WellF
   torn_rest (Change slot old new iterations) r w (inr x) =
       places_wider (IsEither slot x.fresh) (NamedKeyslots1 v (Change slot old new iterations)) v w
       (two_named (NamedKeyslots1 v (Change slot old new iterations)) slot x.fresh (inl refl) (inr x.is_free)) x.rest
-  torn_rest (Remove slot passphrase) r w x =
+  torn_rest (Remove slot by_ passphrase) r w x =
       places_wider (IsEither slot slot) (λ n. n ≡ slot) v w (one_named (λ n. n ≡ slot) slot refl) x.rest
   torn_rest Repair r w x = absurd x
   torn_rest (Label text) r w x = absurd x
@@ -304,8 +304,8 @@ module _ (payload : Data) (v : List ℕ) (chosen : Chosen v luks1) (well : WellF
       let lt : x.fresh < 8 = x.is_free.free.0 in
       (both_leave (NamedKeyslots1 v (Change slot old new iterations)) slot x.fresh w used lt x.rest
       (untorn_fits w slot used (untorn slot (inl refl))) (untorn_fits w x.fresh lt (untorn x.fresh (inr x.is_free))) (inl refl) (inr x.is_free)).well
-  untorn_well (Remove slot passphrase) r w free x untorn =
-      let used : slot < 8 = named_numbered v payload (Remove slot passphrase) r free slot refl in
+  untorn_well (Remove slot by_ passphrase) r w free x untorn =
+      let used : slot < 8 = named_numbered v payload (Remove slot by_ passphrase) r free slot refl in
       let fits = untorn_fits w slot used (untorn slot refl) in
       (both_leave (λ n. n ≡ slot) slot slot w used used x.rest fits fits refl refl).well
   untorn_well Repair r w free x untorn = absurd x
@@ -329,6 +329,6 @@ module _ (payload : Data) (v : List ℕ) (chosen : Chosen v luks1) (well : WellF
   pub removed_area : (e : Edit) (r w : List ℕ) (n : ℕ) (a : Area) → After1 v e r w → Removes e n → AreaOf v payload (Slot n) a → part w a.start a.len ≡ replicate a.len 0
   removed_area (Add by_ old new to iterations) r w n a x is has = absurd is
   removed_area (Change slot old new iterations) r w n a x is has = wiped_area n w a (subst (λ k. IsWiped v k w) (sym is) x.wiped) has
-  removed_area (Remove slot passphrase) r w n a x is has = wiped_area n w a (subst (λ k. IsWiped v k w) (sym is) x.wiped) has
+  removed_area (Remove slot by_ passphrase) r w n a x is has = wiped_area n w a (subst (λ k. IsWiped v k w) (sym is) x.wiped) has
   removed_area Repair r w n a x is has = absurd is
   removed_area (Label text) r w n a x is has = absurd is

@@ -12,6 +12,7 @@ pub mod NeedFacts
 pub mod NewKeyslotFacts
 pub mod OpenerFacts
 pub mod RefusalFacts
+pub mod RemovalChoice
 pub mod RemovalFacts
 pub mod RowFacts
 pub mod SlotSetFacts

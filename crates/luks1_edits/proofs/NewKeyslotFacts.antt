@@ -13,7 +13,7 @@ use Rattle.luks_edit.specs.declared.edit.Edit.{Edit}
 use Rattle.luks_edit.specs.declared.edit.Edit.TheVariants.{Add, Change}
 use Rattle.luks_edit.specs.declared.edit_fault.EditFault.{EditFault}
 use Rattle.luks_edit.specs.declared.edit_fault.EditFault.TheVariants as fault
-use Rattle.luks_edit.specs.Asked.{HasFewIterations, OpensBy}
+use Rattle.luks_edit.specs.Asked.{HasFewIterations}
 use Rattle.luks_edit.specs.RowFacts.{Passed, first_of_row, next}
 use Rattle.luks1_edits.specs.Accepted.{IsHeaderOf, IsNewFault, IsNewFree, IsNewRefused, IsOpenedBy}
 use Rattle.luks1_edits.specs.Edited.{IsNewKeyslot}
@@ -24,11 +24,11 @@ use Rattle.luks1_edits.specs.Steps.{HasRefusedKeyslot, IsKeyslotMade, IsUnmade}
 use Rattle.luks1_edits.proofs.AnswerFacts.{SameFront}
 use Rattle.luks1_edits.proofs.EditedFacts.{new_once}
 use Rattle.luks1_edits.proofs.MadeKeyslotFacts.{same_refusal, same_terms}
-use Rattle.luks1_edits.proofs.RowFacts.{opener_passed, past_label, past_new, unrefused}
+use Rattle.luks1_edits.proofs.RowFacts.{alone, IsOpener, opener_passed, past_label, past_new, unrefused}
 
 -- the edit opens the keyslot `opener` by the passphrase, and makes the keyslot `to`, or the least free
 pub record IsMaking (v : List ℕ) (e : Edit) (opener : ℕ) (p : List ℕ) (to : Option ℕ) (iterations : ℕ) : Type 0 where
-  pub asked : OpensBy e opener p
+  pub opening : IsOpener v e opener p
   pub taken_is : IsTakenFor v to → IsTaken v e
   pub taken_only : IsTaken v e → IsTakenFor v to
   pub free_is : LacksFree v to → HasNoFree v e
@@ -48,7 +48,7 @@ MakingOf v e = Unit {0}
 
 pub making : (v : List ℕ) (e : Edit) → MakingOf v e
 making v (Add by_ old new to iterations) = record {
-  asked = (refl, refl);
+  opening = alone v (Add by_ old new to iterations) by_ old.bytes.now (refl, refl) refl (λ m y. y) (λ y. y);
   taken_is = λ y. y;
   taken_only = λ y. y;
   free_is = λ y. y;
@@ -61,7 +61,7 @@ making v (Add by_ old new to iterations) = record {
   need_only = λ k y. y;
 }
 making v (Change slot old new iterations) = record {
-  asked = (refl, refl);
+  opening = alone v (Change slot old new iterations) slot old.bytes.now (refl, refl) refl (λ m y. y) (λ y. y);
   taken_is = λ y. y;
   taken_only = λ y. y;
   free_is = λ y. y;
@@ -105,7 +105,7 @@ not_refused h payload v opener p key f of x bad =
 module _ (v : List ℕ) (payload : Data) (e : Edit) (r : List ℕ) (opener : ℕ) (p key : List ℕ) (to : Option ℕ) (iterations : ℕ) (is : IsMaking v e opener p to iterations)
     (h : List ℕ) (of : IsHeaderOf h payload v) (opened : IsOpenedBy v opener p key) where
   before : Passed (IsEditFault1 v payload e r) 6
-  before = opener_passed v payload e r of.faultless of.chosen opener p is.asked key opened
+  before = opener_passed v payload e r of.faultless of.chosen opener p is.opening key opened
 
   -- none can be made
   pub none_made : (w : List ℕ) (f : EditFault) → w ≡ v → IsNewFault v to f → EndsBy1 payload v e r f w

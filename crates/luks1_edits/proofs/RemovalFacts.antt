@@ -1,21 +1,29 @@
 -- What a removal replies, from what was judged of it.
-use Rattle.std.proofs.Common.{◌≡◌, ◌≢◌, ℕ, List, length, refl, sym, ◌∙◌, inr, None}
+use Rattle.std.proofs.Common.{◌≡◌, ◌≢◌, ◌⊎◌, ℕ, List, length, subst, refl, sym, ◌∙◌, inl, inr, Option, Some, None}
+use Rattle.luks_reading.specs.declared.check_fault.CheckFault.{CheckFault}
 use Rattle.luks_reading.specs.declared.report.Data.{Data}
+use Rattle.luks_reading.specs.Checked.{IsFault}
 use Rattle.luks_edit.specs.declared.edit.Edit.{Edit}
 use Rattle.luks_edit.specs.declared.edit.Edit.TheVariants.{Remove}
 use Rattle.luks_edit.specs.declared.edit_fault.EditFault.TheVariants as fault
-use Rattle.luks_edit.specs.Asked.{HasFewIterations, OpensBy}
+use Rattle.luks_edit.specs.declared.edit_fault.EditFault.{EditFault}
+use Rattle.luks_edit.specs.Asked.{HasFewIterations, NamesItself, opener_of, OpensBy, Wants}
 use Rattle.luks_edit.specs.RowFacts.{Passed, first_of_row}
-use Rattle.luks1_edits.specs.Accepted.{HasOther, IsHeaderOf, IsOpenedBy}
+use Rattle.luks1_edits.specs.Accepted.{HasOther, IsHeaderOf, IsNamedTwice, IsOpenedBy, IsRemovable, IsUnremovable}
 use Rattle.luks1_edits.specs.Edited.{After1, IsInUse, IsRemoved}
 use Rattle.luks1_edits.specs.Leftovers.{IsHalfRemoved, IsTorn1, Leftover1}
 use Rattle.luks1_edits.specs.Refused.{HasNoFree, IsEditFault1, IsLabel, IsLast, IsTaken, IsUnrefused1, Need1, Refusal1}
-use Rattle.luks1_edits.specs.Replies.{IsDone1, Tells1}
-use Rattle.luks1_edits.proofs.RowFacts.{opener_passed, past_label, past_new, unrefused}
+use Rattle.luks1_edits.specs.Replies.{EndsBy1, IsDone1, Tells1}
+use Rattle.luks1_edits.proofs.RowFacts.{absent_refused, AreAllThere, IsOpener, itself_refused, opener_passed, past_label, past_new, unrefused}
 
--- the edit removes the keyslot by the passphrase
-pub record IsRemoval (v : List ℕ) (e : Edit) (slot : ℕ) (p r : List ℕ) : Type 0 where
-  pub asked : OpensBy e slot p
+-- the edit removes the keyslot `slot`, and opens by the passphrase the one that it opens for that
+pub record IsRemoval (v : List ℕ) (e : Edit) (slot : ℕ) (by_ : Option ℕ) (p r : List ℕ) : Type 0 where
+  pub asked : OpensBy e (opener_of slot by_) p
+  pub wants_opener : Wants e (opener_of slot by_)
+  pub wants_removed : Wants e slot
+  pub wants_only : (n : ℕ) → Wants e n → (n ≡ opener_of slot by_) ⊎ (n ≡ slot)
+  pub itself_is : by_ ≡ Some slot → NamesItself e
+  pub itself_only : NamesItself e → by_ ≡ Some slot
   pub untaken : IsTaken v e → ⊥
   pub some_free : HasNoFree v e → ⊥
   pub last_is : ((m : ℕ) → IsInUse v m → m ≡ slot) → IsLast v e
@@ -30,12 +38,17 @@ pub record IsRemoval (v : List ℕ) (e : Edit) (slot : ℕ) (p r : List ℕ) : T
 
 -- each removal does
 abbrev pub RemovalOf : List ℕ → Edit → List ℕ → Type 0
-RemovalOf v (Remove slot passphrase) r = IsRemoval v (Remove slot passphrase) slot passphrase.bytes.now r
+RemovalOf v (Remove slot by_ passphrase) r = IsRemoval v (Remove slot by_ passphrase) slot by_ passphrase.bytes.now r
 RemovalOf v e r = Unit {0}
 
 pub removal : (v : List ℕ) (e : Edit) (r : List ℕ) → RemovalOf v e r
-removal v (Remove slot passphrase) r = record {
+removal v (Remove slot by_ passphrase) r = record {
   asked = (refl, refl);
+  wants_opener = inl refl;
+  wants_removed = inr refl;
+  wants_only = λ n y. y;
+  itself_is = λ y. y;
+  itself_only = λ y. y;
   untaken = λ y. y;
   some_free = λ y. y;
   last_is = λ y. y;
@@ -50,10 +63,38 @@ removal v (Remove slot passphrase) r = record {
 }
 removal v e r = tt
 
-module _ (v : List ℕ) (payload : Data) (e : Edit) (r : List ℕ) (slot : ℕ) (p key : List ℕ) (is : IsRemoval v e slot p r)
-    (h : List ℕ) (of : IsHeaderOf h payload v) (opened : IsOpenedBy v slot p key) where
+-- both of its keyslots are there
+both_there : {v : List ℕ} {e : Edit} {slot : ℕ} {by_ : Option ℕ} {p r : List ℕ} → IsRemoval v e slot by_ p r → IsInUse v (opener_of slot by_) → IsInUse v slot → (n : ℕ) → Wants e n → IsInUse v n
+both_there {v} is opener removed n wants = elim (is.wants_only n wants) [
+  | inl y ↦ subst (λ k. IsInUse v k) (sym y) opener
+  | inr y ↦ subst (λ k. IsInUse v k) (sym y) removed
+]
+
+pub removable_there : {v : List ℕ} {e : Edit} {slot : ℕ} {by_ : Option ℕ} {p r : List ℕ} → IsRemoval v e slot by_ p r → IsRemovable v slot by_ → AreAllThere v e
+removable_there is x = record { there = both_there is x.opener x.removed; other = λ bad. x.other (is.itself_only bad) }
+
+-- they are one
+pub twice_there : {v : List ℕ} {e : Edit} {slot : ℕ} {by_ : Option ℕ} {p r : List ℕ} → IsRemoval v e slot by_ p r → IsNamedTwice v slot by_ → (n : ℕ) → Wants e n → IsInUse v n
+twice_there {v} {slot = slot} {by_ = by_} is x =
+    let opener : IsInUse v (opener_of slot by_) = subst (λ b. IsInUse v (opener_of slot b)) (sym x.same) x.removed in
+    both_there is opener x.removed
+
+module _ (v : List ℕ) (payload : Data) (e : Edit) (r : List ℕ) (slot : ℕ) (by_ : Option ℕ) (p : List ℕ) (is : IsRemoval v e slot by_ p r) where
+  -- a keyslot isn't there, or it is named twice
+  pub unremovable_ends : ((f : CheckFault) → IsFault v payload f → ⊥) → (f : EditFault) → IsUnremovable v slot by_ f → EndsBy1 payload v e r f v
+  unremovable_ends accepted fault.NoSuchSlot (inl unused) = (absent_refused v payload e r accepted (record { slot = opener_of slot by_; wanted = is.wants_opener; unused = unused }), refl)
+  unremovable_ends accepted fault.NoSuchSlot (inr unused) = (absent_refused v payload e r accepted (record { slot = slot; wanted = is.wants_removed; unused = unused }), refl)
+  unremovable_ends accepted fault.SameSlot bad = (itself_refused v payload e r accepted (twice_there is bad) (is.itself_is bad.same), refl)
+  unremovable_ends accepted f bad = absurd bad
+
+  -- the keyslot that it opens
+  pub removal_opener : IsRemovable v slot by_ → (n : ℕ) → n ≡ opener_of slot by_ → IsOpener v e n p
+  removal_opener x n same = subst (λ k. IsOpener v e k p) (sym same) (record { asked = is.asked; wanted = is.wants_opener; all = λ used. removable_there is x })
+
+module _ (v : List ℕ) (payload : Data) (e : Edit) (r : List ℕ) (slot : ℕ) (by_ : Option ℕ) (p key : List ℕ) (is : IsRemoval v e slot by_ p r)
+    (h : List ℕ) (of : IsHeaderOf h payload v) (able : IsRemovable v slot by_) (n : ℕ) (same : n ≡ opener_of slot by_) (opened : IsOpenedBy v n p key) where
   passed : Passed (IsEditFault1 v payload e r) 9
-  passed = past_new v payload e r (opener_passed v payload e r of.faultless of.chosen slot p is.asked key opened) is.untaken is.some_free
+  passed = past_new v payload e r (opener_passed v payload e r of.faultless of.chosen n p (removal_opener v payload e r slot by_ p is able n same) key opened) is.untaken is.some_free
 
   pub last_refused : ((m : ℕ) → IsInUse v m → m ≡ slot) → Refusal1 v payload e r fault.LastSlot
   last_refused last = first_of_row (IsEditFault1 v payload e r) fault.LastSlot refl passed (is.last_is last)

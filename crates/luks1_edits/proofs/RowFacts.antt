@@ -11,26 +11,53 @@ use Rattle.luks_edit.specs.declared.edit.Edit.{Edit}
 use Rattle.luks_edit.specs.declared.edit.Edit.TheVariants.{Add, Change, Remove, Repair, Label}
 use Rattle.luks_edit.specs.declared.edit_fault.EditFault.{EditFault}
 use Rattle.luks_edit.specs.declared.edit_fault.EditFault.TheVariants as fault
-use Rattle.luks_edit.specs.Asked.{allowed_memory, HasFewIterations, OpensBy}
+use Rattle.luks_edit.specs.Asked.{allowed_memory, HasFewIterations, NamesItself, OpensBy, Wants}
 use Rattle.luks_edit.specs.Opener.{IsLocked, IsShut}
 use Rattle.luks_edit.proofs.AllowedMemory.{luks1_answers_alike}
 use Rattle.luks_edit.specs.RowFacts.{Passed, after_check, after_plan, first_of_plan, first_of_row, next, none_at_all}
 use Rattle.luks1_edits.specs.Accepted.{IsOpenedBy, IsUnopened}
 use Rattle.luks1_edits.specs.Edited.{IsInUse}
-use Rattle.luks1_edits.specs.Refused.{HasNoFree, IsAbsent, IsEditFault1, IsLabel, IsLast, IsMiscounted, IsTaken, IsUnrefused1}
+use Rattle.luks1_edits.specs.Refused.{HasNoFree, IsAbsent, IsEditFault1, IsLabel, IsLast, IsMiscounted, IsTaken, IsUnrefused1, Refusal1}
 use Rattle.luks1_edits.specs.Replies.{EndsBy1}
 
 -- an edit opens one keyslot by one passphrase
 pub opens_once : (e : Edit) (n m : ℕ) (p q : List ℕ) → OpensBy e n p → OpensBy e m q → (m ≡ n) × (q ≡ p)
 opens_once (Add by_ old new to iterations) n m p q x y = (y.0 ∙ sym x.0, y.1 ∙ sym x.1)
 opens_once (Change slot old new iterations) n m p q x y = (y.0 ∙ sym x.0, y.1 ∙ sym x.1)
-opens_once (Remove slot passphrase) n m p q x y = (y.0 ∙ sym x.0, y.1 ∙ sym x.1)
+opens_once (Remove slot by_ passphrase) n m p q x y = (y.0 ∙ sym x.0, y.1 ∙ sym x.1)
 opens_once Repair n m p q x y = absurd x
 opens_once (Label text) n m p q x y = absurd x
 
--- the keyslot that it opens is there
-pub there_of : (v : List ℕ) (e : Edit) (n : ℕ) (p : List ℕ) → OpensBy e n p → IsInUse v n → IsAbsent v e → ⊥
-there_of v e n p asked used bad = bad.unused (subst (λ m. IsInUse v m) (sym (opens_once e n bad.slot p bad.passphrase asked bad.asked).0) used)
+-- each keyslot that the edit wants is there, and the removed one isn't named to open by
+pub record AreAllThere (v : List ℕ) (e : Edit) : Type 0 where
+  pub there : (n : ℕ) → Wants e n → IsInUse v n
+  pub other : NamesItself e → ⊥
+
+-- the edit opens the keyslot by the passphrase, and once that one is there, all are that it wants
+pub record IsOpener (v : List ℕ) (e : Edit) (n : ℕ) (p : List ℕ) : Type 0 where
+  pub asked : OpensBy e n p
+  pub wanted : Wants e n
+  pub all : IsInUse v n → AreAllThere v e
+
+-- the edit opens no keyslot and wants none
+pub record OpensNone (e : Edit) : Type 0 where
+  pub opens : (n : ℕ) (p : List ℕ) → OpensBy e n p → ⊥
+  pub wants : (n : ℕ) → Wants e n → ⊥
+  pub other : NamesItself e → ⊥
+
+-- it wants none but the one that it opens
+pub alone : (v : List ℕ) (e : Edit) (n : ℕ) (p : List ℕ) → OpensBy e n p → Wants e n → ((m : ℕ) → Wants e m → m ≡ n) → (NamesItself e → ⊥) → IsOpener v e n p
+alone v e n p asked wanted only other = record {
+  asked = asked;
+  wanted = wanted;
+  all = λ used. record { there = λ m wants. subst (λ k. IsInUse v k) (sym (only m wants)) used; other = other };
+}
+
+pub none_wanted : (v : List ℕ) (e : Edit) → OpensNone e → AreAllThere v e
+none_wanted v e none = record { there = λ n wants. absurd (none.wants n wants); other = none.other }
+
+pub there_of : (v : List ℕ) (e : Edit) → AreAllThere v e → IsAbsent v e → ⊥
+there_of v e all bad = bad.unused (all.there bad.slot bad.wanted)
 
 module _ (v : List ℕ) (payload : Data) (e : Edit) (r : List ℕ) where
   -- ---- the rows from the new keyslot's on
@@ -56,19 +83,32 @@ module _ (v : List ℕ) (payload : Data) (e : Edit) (r : List ℕ) where
   -- ---- the keyslot that the edit opens
 
   module _ (accepted : (f : CheckFault) → IsFault v payload f → ⊥) where
-    past_requirements : Passed (IsEditFault1 v payload e r) 3
+    past_requirements : Passed (IsEditFault1 v payload e r) 2
     past_requirements = let s = IsEditFault1 v payload e r in next s fault.Requirements refl (after_check s accepted) (λ bad. bad)
 
-    past_opener : (IsAbsent v e → ⊥) → (IsLocked v e → ⊥) → ((f : SlotFault) → IsShut v e f → ⊥) → Passed (IsEditFault1 v payload e r) 6
-    past_opener there unlocked unshut =
+    -- the keyslots that it wants aren't there
+    pub absent_refused : IsAbsent v e → Refusal1 v payload e r fault.NoSuchSlot
+    absent_refused bad = first_of_row (IsEditFault1 v payload e r) fault.NoSuchSlot refl past_requirements bad
+
+    -- they are, and it names the one to remove as the one to open by
+    pub itself_refused : ((n : ℕ) → Wants e n → IsInUse v n) → NamesItself e → Refusal1 v payload e r fault.SameSlot
+    itself_refused there bad =
         let s = IsEditFault1 v payload e r in
-        after_plan s (next s fault.Locked refl (next s fault.NoSuchSlot refl past_requirements there) unlocked) unshut
+        first_of_row s fault.SameSlot refl (next s fault.NoSuchSlot refl past_requirements (λ absent. absent.unused (there absent.slot absent.wanted))) bad
+
+    past_wanted : AreAllThere v e → Passed (IsEditFault1 v payload e r) 4
+    past_wanted all =
+        let s = IsEditFault1 v payload e r in
+        next s fault.SameSlot refl (next s fault.NoSuchSlot refl past_requirements (there_of v e all)) all.other
+
+    past_opener : AreAllThere v e → (IsLocked v e → ⊥) → ((f : SlotFault) → IsShut v e f → ⊥) → Passed (IsEditFault1 v payload e r) 6
+    past_opener all unlocked unshut = let s = IsEditFault1 v payload e r in after_plan s (next s fault.Locked refl (past_wanted all) unlocked) unshut
 
     -- there is none
-    pub none_to_open : ((n : ℕ) (p : List ℕ) → OpensBy e n p → ⊥) → Passed (IsEditFault1 v payload e r) 6
-    none_to_open none = past_opener (λ bad. none bad.slot bad.passphrase bad.asked) (λ bad. none bad.slot bad.passphrase bad.asked) (λ f bad. none bad.slot bad.passphrase bad.asked)
+    pub none_to_open : OpensNone e → Passed (IsEditFault1 v payload e r) 6
+    none_to_open none = past_opener (none_wanted v e none) (λ bad. none.opens bad.slot bad.passphrase bad.asked) (λ f bad. none.opens bad.slot bad.passphrase bad.asked)
 
-    module _ (chosen : Chosen v luks1) (n : ℕ) (p : List ℕ) (asked : OpensBy e n p) where
+    module _ (chosen : Chosen v luks1) (n : ℕ) (p : List ℕ) (opener : IsOpener v e n p) where
       -- what is said where the edit's memory is allowed is said where none is, and so the other way round
       without : (m : ℕ) (q : List ℕ) (a : Opened) → AnswerWithin (allowed_memory e) v m q a → Answer v m q a
       without m q a x = luks1_answers_alike v chosen (allowed_memory e) 0 m q a x
@@ -78,34 +118,31 @@ module _ (v : List ℕ) (payload : Data) (e : Edit) (r : List ℕ) where
 
       unlocked_of : (Answer v n p no_key → ⊥) → IsLocked v e → ⊥
       unlocked_of not bad =
-          let one = opens_once e n bad.slot p bad.passphrase asked bad.asked in
+          let one = opens_once e n bad.slot p bad.passphrase opener.asked bad.asked in
           not (subst (λ m. Answer v m p no_key) one.0 (subst (λ q. Answer v bad.slot q no_key) one.1 (without bad.slot bad.passphrase no_key bad.answer)))
 
       shut_here : (f : SlotFault) → IsShut v e f → Answer v n p (refused (opening.Slot f))
       shut_here f bad =
-          let one = opens_once e n bad.slot p bad.passphrase asked bad.asked in
+          let one = opens_once e n bad.slot p bad.passphrase opener.asked bad.asked in
           subst (λ m. Answer v m p (refused (opening.Slot f))) one.0 (subst (λ q. Answer v bad.slot q (refused (opening.Slot f))) one.1 (without bad.slot bad.passphrase (refused (opening.Slot f)) bad.answer))
 
       -- it opens
       pub opener_passed : (key : List ℕ) → IsOpenedBy v n p key → Passed (IsEditFault1 v payload e r) 6
-      opener_passed key x = past_opener (there_of v e n p asked x.used) (unlocked_of x.unlocked) (λ f bad. x.unshut f (shut_here f bad))
+      opener_passed key x = past_opener (opener.all x.used) (unlocked_of x.unlocked) (λ f bad. x.unshut f (shut_here f bad))
 
       -- it doesn't open
       pub unopened_ends : (w : List ℕ) (f : EditFault) → w ≡ v → IsUnopened v n p f → EndsBy1 payload v e r f w
-      unopened_ends w fault.NoSuchSlot same bad = (
-        first_of_row (IsEditFault1 v payload e r) fault.NoSuchSlot refl past_requirements (record { slot = n; passphrase = p; asked = asked; unused = bad }),
-        same,
-      )
+      unopened_ends w fault.NoSuchSlot same bad = (absent_refused (record { slot = n; wanted = opener.wanted; unused = bad }), same)
       unopened_ends w fault.Locked same bad = (
         let s = IsEditFault1 v payload e r in
-            first_of_row s fault.Locked refl (next s fault.NoSuchSlot refl past_requirements (there_of v e n p asked bad.used))
-            (record { slot = n; passphrase = p; asked = asked; answer = within no_key bad.answer }),
+            first_of_row s fault.Locked refl (past_wanted (opener.all bad.used))
+            (record { slot = n; passphrase = p; asked = opener.asked; answer = within no_key bad.answer }),
         same,
       )
       unopened_ends w (fault.Slot f) same bad = (
         let s = IsEditFault1 v payload e r in
-            first_of_plan s f (next s fault.Locked refl (next s fault.NoSuchSlot refl past_requirements (there_of v e n p asked bad.used)) (unlocked_of bad.unlocked))
-            (record { slot = n; passphrase = p; asked = asked; answer = within (refused (opening.Slot f)) bad.answer })
+            first_of_plan s f (next s fault.Locked refl (past_wanted (opener.all bad.used)) (unlocked_of bad.unlocked))
+            (record { slot = n; passphrase = p; asked = opener.asked; answer = within (refused (opening.Slot f)) bad.answer })
             (λ g other. ((bad.answer.1 (opening.Slot g) (shut_here g other).0).1 refl).0),
         same,
       )

@@ -1,5 +1,5 @@
 -- The header of a LUKS1 volume that was accepted, and what is judged by it.
-use Rattle.std.specs.Prelude.{◌≡◌, ◌≢◌, ℕ, ◌<◌, ◌≤◌, List, length, Option, ⊤}
+use Rattle.std.specs.Prelude.{◌≡◌, ◌≢◌, ℕ, ◌<◌, ◌≤◌, ◌⊎◌, List, length, Option, Some, ⊤}
 use Rattle.luks_area.specs.Ranges.{part}
 use Rattle.luks1_header.specs.Header1.{luks1_size, IsLuks1}
 use Rattle.luks1_header.specs.declared.luks1.Luks1.{Luks1}
@@ -13,6 +13,7 @@ use Rattle.luks_reading.specs.Answer.{Answer, no_key, opens, refused}
 use Rattle.luks_reading.specs.Checked.{First, IsFault, IsLuks1Volume, WellFormed}
 use Rattle.luks_edit.specs.declared.edit_fault.EditFault.{EditFault}
 use Rattle.luks_edit.specs.declared.edit_fault.EditFault.TheVariants as fault
+use Rattle.luks_edit.specs.Asked.{opener_of}
 use Rattle.luks1_edits.specs.declared.accepted.AcceptedHeader.{AcceptedHeader}
 use Rattle.luks1_edits.specs.Edited.{IsFree, IsInUse, IsNewKeyslot}
 use Rattle.luks1_edits.specs.Refused.{IsTakenFor, keyslot_need, LacksFree, NeedsFor}
@@ -68,6 +69,25 @@ abbrev pub keyslot_fault : SlotFault → EditFault
 keyslot_fault slot.Device = fault.Device
 keyslot_fault slot.Memory = fault.Memory
 keyslot_fault f = fault.Slot f
+
+-- ---- the keyslots that a removal names
+
+-- both are in use: the one that it opens, which isn't named as the removed one, and the removed one
+pub record IsRemovable (v : List ℕ) (slot : ℕ) (by_ : Option ℕ) : Type 0 where
+  pub opener : IsInUse v (opener_of slot by_)
+  pub removed : IsInUse v slot
+  pub other : by_ ≢ Some slot
+
+-- the removed keyslot is there, and named as the one to open by
+pub record IsNamedTwice (v : List ℕ) (slot : ℕ) (by_ : Option ℕ) : Type 0 where
+  pub removed : IsInUse v slot
+  pub same : by_ ≡ Some slot
+
+-- why the removal isn't judged further
+abbrev pub IsUnremovable : List ℕ → ℕ → Option ℕ → EditFault → Type 0
+IsUnremovable v slot by_ fault.NoSuchSlot = (IsInUse v (opener_of slot by_) → ⊥) ⊎ (IsInUse v slot → ⊥)
+IsUnremovable v slot by_ fault.SameSlot = IsNamedTwice v slot by_
+IsUnremovable v slot by_ f = ⊥
 
 -- ---- the keyslots in use
 

@@ -33,7 +33,7 @@ IsNewKeyslot v None n = IsLeastFree v n
 abbrev pub NamedKeyslots1 : List ℕ → Edit → ℕ → Type 0
 NamedKeyslots1 v (Add by_ old new to iterations) n = IsNewKeyslot v to n
 NamedKeyslots1 v (Change slot old new iterations) n = (n ≡ slot) ⊎ IsLeastFree v n
-NamedKeyslots1 v (Remove slot passphrase) n = n ≡ slot
+NamedKeyslots1 v (Remove slot by_ passphrase) n = n ≡ slot
 NamedKeyslots1 v Repair n = ⊥
 NamedKeyslots1 v (Label text) n = ⊥
 
@@ -112,7 +112,7 @@ After1 v (Add by_ old new to iterations) random w =
     IsAdded v by_ old.bytes.now new.now to iterations random w
 After1 v (Change slot old new iterations) random w =
     IsChanged v slot old.bytes.now new.now iterations random w
-After1 v (Remove slot passphrase) random w = IsRemoved v slot w
+After1 v (Remove slot by_ passphrase) random w = IsRemoved v slot w
 After1 v Repair random w = w ≡ v
 After1 v (Label text) random w = ⊥
 
@@ -126,7 +126,7 @@ OpensAfter1 v (Add by_ old new to iterations) w =
 OpensAfter1 v (Change slot old new iterations) w =
     (n : ℕ) (key : List ℕ) → IsLeastFree v n → Answer v slot old.bytes.now (opens key)
     → Answer w n new.now (opens key)
-OpensAfter1 v (Remove slot passphrase) w = Unit {0}
+OpensAfter1 v (Remove slot by_ passphrase) w = Unit {0}
 OpensAfter1 v Repair w = Unit {0}
 OpensAfter1 v (Label text) w = Unit {0}
 
@@ -134,6 +134,6 @@ OpensAfter1 v (Label text) w = Unit {0}
 abbrev pub Removes : Edit → ℕ → Type 0
 Removes (Add by_ old new to iterations) n = ⊥
 Removes (Change slot old new iterations) n = n ≡ slot
-Removes (Remove slot passphrase) n = n ≡ slot
+Removes (Remove slot by_ passphrase) n = n ≡ slot
 Removes Repair n = ⊥
 Removes (Label text) n = ⊥

@@ -72,7 +72,7 @@ IsTorn1 v (Add by_ old new to iterations) random w =
 IsTorn1 v (Change slot old new iterations) random w =
     IsHalfMade v slot old.bytes.now new.now None iterations random w
     ⊎ IsHalfChanged v slot old.bytes.now new.now iterations random w
-IsTorn1 v (Remove slot passphrase) random w = IsHalfRemoved v slot w
+IsTorn1 v (Remove slot by_ passphrase) random w = IsHalfRemoved v slot w
 IsTorn1 v Repair random w = ⊥
 IsTorn1 v (Label text) random w = ⊥
 
@@ -93,6 +93,6 @@ OpensEither1 v (Change slot old new iterations) w =
     (key : List ℕ) → Answer v slot old.bytes.now (opens key)
     → Answer w slot old.bytes.now (opens key)
     ⊎ ((n : ℕ) × (IsLeastFree v n × Answer w n new.now (opens key)))
-OpensEither1 v (Remove slot passphrase) w = Unit {0}
+OpensEither1 v (Remove slot by_ passphrase) w = Unit {0}
 OpensEither1 v Repair w = Unit {0}
 OpensEither1 v (Label text) w = Unit {0}

@@ -6,6 +6,7 @@ use Rattle.luks_reading.specs.Checked.{IsFault}
 use Rattle.luks_edit.specs.declared.edit.Edit.{Edit}
 use Rattle.luks_edit.specs.declared.edit_fault.EditFault.{EditFault}
 use Rattle.luks_edit.specs.declared.edit_fault.EditFault.TheVariants as fault
+use Rattle.luks_edit.specs.Asked.{NamesItself}
 use Rattle.luks_edit.specs.EditFaults.{edit_key}
 use Rattle.luks1_edits.specs.Refused.{HasNoFree, IsAbsent, IsTaken, Need1}
 
@@ -13,6 +14,7 @@ use Rattle.luks1_edits.specs.Refused.{HasNoFree, IsAbsent, IsTaken, Need1}
 abbrev pub IsNeedFault1 : List ℕ → Data → Edit → EditFault → Type 0
 IsNeedFault1 v payload e (fault.NotAccepted f) = IsFault v payload f
 IsNeedFault1 v payload e fault.NoSuchSlot = IsAbsent v e
+IsNeedFault1 v payload e fault.SameSlot = NamesItself e
 IsNeedFault1 v payload e fault.SlotTaken = IsTaken v e
 IsNeedFault1 v payload e fault.NoFreeSlot = HasNoFree v e
 IsNeedFault1 v payload e f = ⊥

@@ -9,16 +9,15 @@ use Rattle.luks_edit.specs.declared.edit.Edit.{Edit}
 use Rattle.luks_edit.specs.declared.edit.Edit.TheVariants.{Add, Change, Remove, Repair, Label}
 use Rattle.luks_edit.specs.declared.edit_fault.EditFault.{EditFault}
 use Rattle.luks_edit.specs.declared.edit_fault.EditFault.TheVariants as fault
-use Rattle.luks_edit.specs.Asked.{HasFewIterations, OpensBy}
+use Rattle.luks_edit.specs.Asked.{HasFewIterations, NamesItself, Wants}
 use Rattle.luks_edit.specs.Opener.{IsLocked, IsShut}
 use Rattle.luks_edit.specs.EditFaults.{edit_key}
 use Rattle.luks1_edits.specs.Edited.{IsFree, IsInUse, IsLeastFree, IsNewKeyslot}
 
--- the keyslot that the edit opens isn't there, or isn't enabled
+-- a keyslot that the edit wants isn't there, or isn't enabled
 pub record IsAbsent (v : List ℕ) (e : Edit) : Type 0 where
   pub slot : ℕ
-  pub passphrase : List ℕ
-  pub asked : OpensBy e slot passphrase
+  pub wanted : Wants e slot
   pub unused : IsInUse v slot → ⊥
 
 -- ---- the keyslot that the edit makes
@@ -36,14 +35,14 @@ LacksFree v None = (n : ℕ) → IsFree v n → ⊥
 abbrev pub IsTaken : List ℕ → Edit → Type 0
 IsTaken v (Add by_ old new to iterations) = IsTakenFor v to
 IsTaken v (Change slot old new iterations) = ⊥
-IsTaken v (Remove slot passphrase) = ⊥
+IsTaken v (Remove slot by_ passphrase) = ⊥
 IsTaken v Repair = ⊥
 IsTaken v (Label text) = ⊥
 
 abbrev pub HasNoFree : List ℕ → Edit → Type 0
 HasNoFree v (Add by_ old new to iterations) = LacksFree v to
 HasNoFree v (Change slot old new iterations) = LacksFree v None
-HasNoFree v (Remove slot passphrase) = ⊥
+HasNoFree v (Remove slot by_ passphrase) = ⊥
 HasNoFree v Repair = ⊥
 HasNoFree v (Label text) = ⊥
 
@@ -53,7 +52,7 @@ HasNoFree v (Label text) = ⊥
 abbrev pub IsLast : List ℕ → Edit → Type 0
 IsLast v (Add by_ old new to iterations) = ⊥
 IsLast v (Change slot old new iterations) = ⊥
-IsLast v (Remove slot passphrase) = (n : ℕ) → IsInUse v n → n ≡ slot
+IsLast v (Remove slot by_ passphrase) = (n : ℕ) → IsInUse v n → n ≡ slot
 IsLast v Repair = ⊥
 IsLast v (Label text) = ⊥
 
@@ -61,7 +60,7 @@ IsLast v (Label text) = ⊥
 abbrev pub IsLabel : Edit → Type 0
 IsLabel (Add by_ old new to iterations) = ⊥
 IsLabel (Change slot old new iterations) = ⊥
-IsLabel (Remove slot passphrase) = ⊥
+IsLabel (Remove slot by_ passphrase) = ⊥
 IsLabel Repair = ⊥
 IsLabel (Label text) = ⊤
 
@@ -81,7 +80,7 @@ pub record NeedsFor (v : List ℕ) (is_new : ℕ → Type 0) (k : ℕ) : Type 0 
 abbrev pub Need1 : List ℕ → Edit → ℕ → Type 0
 Need1 v (Add by_ old new to iterations) k = NeedsFor v (IsNewKeyslot v to) k
 Need1 v (Change slot old new iterations) k = NeedsFor v (IsLeastFree v) k
-Need1 v (Remove slot passphrase) k = k ≡ 0
+Need1 v (Remove slot by_ passphrase) k = k ≡ 0
 Need1 v Repair k = k ≡ 0
 Need1 v (Label text) k = k ≡ 0
 
@@ -97,6 +96,7 @@ pub record IsMiscounted (v : List ℕ) (e : Edit) (random : List ℕ) : Type 0 w
 abbrev pub IsEditFault1 : List ℕ → Data → Edit → List ℕ → EditFault → Type 0
 IsEditFault1 v payload e random (fault.NotAccepted f) = IsFault v payload f
 IsEditFault1 v payload e random fault.NoSuchSlot = IsAbsent v e
+IsEditFault1 v payload e random fault.SameSlot = NamesItself e
 IsEditFault1 v payload e random fault.Locked = IsLocked v e
 IsEditFault1 v payload e random (fault.Slot f) = IsShut v e f
 IsEditFault1 v payload e random fault.SlotTaken = IsTaken v e

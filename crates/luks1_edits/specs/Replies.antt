@@ -19,7 +19,7 @@ TellsNew is_new None = ⊥
 abbrev pub Tells1 : List ℕ → Edit → Option ℕ → Type 0
 Tells1 v (Add by_ old new to iterations) told = TellsNew (IsNewKeyslot v to) told
 Tells1 v (Change slot old new iterations) told = TellsNew (IsLeastFree v) told
-Tells1 v (Remove slot passphrase) told = told ≡ None
+Tells1 v (Remove slot by_ passphrase) told = told ≡ None
 Tells1 v Repair told = told ≡ None
 Tells1 v (Label text) told = ⊥
 

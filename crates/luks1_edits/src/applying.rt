@@ -59,9 +59,11 @@ pub fn apply_luks1<D: Device>(
             new,
             iterations,
         } => change(alloc, device, &header, slot, old, new, iterations, random),
-        Edit::Remove { slot, passphrase } => {
-            remove(alloc, device, &header, slot, passphrase, random)
-        }
+        Edit::Remove {
+            slot,
+            by_,
+            passphrase,
+        } => remove(alloc, device, &header, slot, by_, passphrase, random),
         Edit::Repair => repair(random),
         Edit::Label { text: _ } => Err(EditFault::BadLabel),
     }

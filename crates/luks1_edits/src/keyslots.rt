@@ -2,11 +2,11 @@
 ghost use Rattle.std.specs.Prelude.{◌≡◌, ◌≢◌, ◌<◌, ◌≤◌, ℕ, List, false, length, IfErr, IfOk, IfSome, IsTrue, MatchOption, MatchResult, OnOk};
 ghost use Rattle.luks1_header.specs.Header1.{key_bytes_of, HoldsSlots};
 ghost use Rattle.luks_edit.specs.EditFaults.{is_edit_failure};
-ghost use Rattle.luks1_edits.specs.Accepted.{HasOther, IsNewFault, IsNewFree, IsNewRefused};
+ghost use Rattle.luks1_edits.specs.Accepted.{HasOther, IsNewFault, IsNewFree, IsNewRefused, IsRemovable, IsUnremovable};
 ghost use Rattle.luks1_edits.specs.Edited.{IsFree, IsInUse, IsLeastFree};
 ghost use Rattle.luks1_edits.specs.Refused.{keyslot_need};
 
-use luks_edit::{EditFault, LEAST_ITERATIONS};
+use luks_edit::{EditFault, LEAST_ITERATIONS, opener_of};
 use luks_head::{Luks1, SlotState};
 
 /// Whether the keyslot is in use.
@@ -21,6 +21,35 @@ pub(crate) fn is_used(header: &Luks1, n: u8) -> bool
         SlotState::Enabled => true,
         SlotState::Disabled => false,
     }
+}
+
+/// Whether there is a keyslot of that number in use.
+fn is_there(header: &Luks1, n: u8) -> bool
+    ensures numbered { IsTrue result → n < 8 }
+    ensures used { IsTrue result
+        → (v : List ℕ) → HoldsSlots v header.now.slots → IsInUse v n }
+    ensures absent { result ≡ false
+        → (v : List ℕ) → HoldsSlots v header.now.slots → IsInUse v n → ⊥ }
+{
+    n < 8 && is_used(header, n)
+}
+
+/// Whether the keyslots are there that a removal of `slot` names: `by_`, which is to open, must be
+/// another one. Refused by `NoSuchSlot`, `SameSlot`.
+pub(crate) fn judge_removal(header: &Luks1, slot: u8, by_: Option<u8>) -> Result<(), EditFault>
+    ensures own { IfErr result (λ f. is_edit_failure f ≡ false) }
+    ensures memory { IfErr result (λ f. f ≢ EditFault.Memory) }
+    ensures numbered { OnOk result (slot < 8) }
+    ensures judged { (v : List ℕ) → HoldsSlots v header.now.slots
+        → MatchResult result (λ _. IsRemovable v slot by_) (IsUnremovable v slot by_) }
+{
+    if !is_there(header, opener_of(slot, by_)) || !is_there(header, slot) {
+        return Err(EditFault::NoSuchSlot);
+    }
+    if by_ == Some(slot) {
+        return Err(EditFault::SameSlot);
+    }
+    Ok(())
 }
 
 /// Whether no keyslot but `n` is in use.

@@ -4,18 +4,17 @@ ghost use Rattle.luks1_header.specs.Header1.{key_bytes_of, HoldsSlots};
 ghost use Rattle.luks_edit.specs.EditFaults.{is_edit_failure};
 ghost use Rattle.luks_reading.specs.Header.{IsHeader};
 ghost use Rattle.luks_reading.specs.declared.header.Header.TheVariants.{Luks1 as OfLuks1};
-ghost use Rattle.luks1_edits.specs.Accepted.{IsNewNeed, IsNewNeedFault};
-ghost use Rattle.luks1_edits.specs.Edited.{IsInUse};
+ghost use Rattle.luks1_edits.specs.Accepted.{IsNewNeed, IsNewNeedFault, IsRemovable, IsUnremovable};
 ghost use Rattle.luks1_edits.specs.Needed.{TellsNeed1};
 
 use crate::accepted::accepted_header;
-use crate::keyslots::{is_used, keyslot_need, new_keyslot};
+use crate::keyslots::{is_used, judge_removal, keyslot_need, new_keyslot};
 use luks_edit::{Edit, EditFault};
 use luks_head::Luks1;
 use luks_reading::Data;
 
 /// How many random bytes the edit takes of the LUKS1 volume of `total` bytes whose header has these
-/// 592 bytes, or the first of `NotAccepted`, `NoSuchSlot`, `SlotTaken` and `NoFreeSlot`.
+/// 592 bytes, or the first of `NotAccepted`, `NoSuchSlot`, `SameSlot`, `SlotTaken` and `NoFreeSlot`.
 ///
 /// An edit that makes a keyslot takes 32 for its salt, and for each of its stripes but the last as
 /// many as the volume key has; any other edit takes none. No keyslot is opened.
@@ -50,8 +49,9 @@ pub fn needed_luks1(
         } => new_need(&header.fields, slot, None),
         Edit::Remove {
             slot,
+            by_,
             passphrase: _,
-        } => removal_need(&header.fields, slot),
+        } => removal_need(&header.fields, slot, by_),
         Edit::Repair => Ok(0),
         Edit::Label { text: _ } => Ok(0),
     }
@@ -72,16 +72,15 @@ fn new_need(header: &Luks1, opener: u8, to: Option<u8>) -> Result<u64, EditFault
     Ok(keyslot_need(header, n))
 }
 
-/// Nothing, where the keyslot is in use.
-fn removal_need(header: &Luks1, slot: u8) -> Result<u64, EditFault>
+/// Nothing, where the keyslots are there that the removal names.
+fn removal_need(header: &Luks1, slot: u8, by_: Option<u8>) -> Result<u64, EditFault>
     ensures own { IfErr result (λ f. is_edit_failure f ≡ false) }
     ensures memory { IfErr result (λ f. f ≢ EditFault.Memory) }
     ensures need { (v : List ℕ) → HoldsSlots v header.now.slots
-        → MatchResult result (λ k. (k ≡ 0) × IsInUse v slot)
-        (λ f. (f ≡ EditFault.NoSuchSlot) × (IsInUse v slot → ⊥)) }
+        → MatchResult result (λ k. (k ≡ 0) × IsRemovable v slot by_) (IsUnremovable v slot by_) }
 {
-    if slot > 7 || !is_used(header, slot) {
-        return Err(EditFault::NoSuchSlot);
+    match judge_removal(header, slot, by_) {
+        Ok(()) => Ok(0),
+        Err(fault) => Err(fault),
     }
-    Ok(0)
 }

@@ -8,19 +8,20 @@ ghost use Rattle.luks1_edits.specs.Replies.{Replies1};
 
 use crate::accepted::AcceptedHeader;
 use crate::freeing::free_keyslot;
-use crate::keyslots::is_last;
+use crate::keyslots::{is_last, judge_removal};
 use crate::unlocking::unlock;
 use luks_area::Device;
-use luks_edit::{Done, EditFault, Passphrase};
+use luks_edit::{Done, EditFault, Passphrase, opener_of};
 use luks_reading::luks1_area;
 use std::alloc::Global;
 
-/// Removes the keyslot that the passphrase opens.
+/// Removes the keyslot `slot`, where the passphrase opens the keyslot `by_`, or else `slot`.
 pub(crate) fn remove<D: Device>(
     alloc: Global,
     device: &mut D,
     header: &AcceptedHeader<'_>,
     slot: u8,
+    by_: Option<u8>,
     passphrase: Passphrase<'_>,
     random: &[u8],
 ) -> Result<Done, EditFault>
@@ -34,10 +35,17 @@ pub(crate) fn remove<D: Device>(
     ensures memory { IfErr result (λ f. f ≢ EditFault.Memory) }
     ensures replies { D.tells
         → IsHeaderOf header.now.bytes.now header.now.data_ (D.bytes device.old)
-        → Replies1 header.now.data_ (D.bytes device.old) (Remove slot passphrase.entry)
+        → Replies1 header.now.data_ (D.bytes device.old) (Remove slot by_ passphrase.entry)
         random.now result (D.bytes device.new) }
 {
-    unlock(alloc, device, header, slot, passphrase.bytes)?;
+    judge_removal(&header.fields, slot, by_)?;
+    unlock(
+        alloc,
+        device,
+        header,
+        opener_of(slot, by_),
+        passphrase.bytes,
+    )?;
     if is_last(&header.fields, slot) {
         return Err(EditFault::LastSlot);
     }

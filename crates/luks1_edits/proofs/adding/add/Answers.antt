@@ -6,7 +6,7 @@ use Rattle.luks_area.specs.DeviceFacts.{settled_unchanged}
 use Rattle.luks1_edits.proofs.KeyslotPlaces.{key_bytes_in}
 use Rattle.luks1_edits.proofs.NewKeyslotFacts.{header_of_same, made_same, making, making_unrefused, new_refused, none_made, torn_same, unmade_ends}
 use Rattle.luks1_edits.proofs.OpenerFacts.{slots_in}
-use Rattle.luks1_edits.proofs.RowFacts.{unopened_ends}
+use Rattle.luks1_edits.proofs.RowFacts.{alone, unopened_ends}
 use Rattle.luks1_edits.proofs.adding.add.Goals as goal
 
 pub returns-in_err-key-clause-replies : goal.returns-in_err-key-clause-replies
@@ -16,7 +16,7 @@ returns-in_err-key-clause-replies g c = λ tells x.
     let e : Edit = Add c.args.by_ c.args.old c.args.new c.args.to c.args.iterations in
     let p = err_from_is_err_and c.from_residual.result c.from_residual.ensures.1 in
     rw (p.1, p.2)
-    (unopened_ends v a.data_ e c.args.random.now x.faultless x.chosen c.args.by_ c.args.old.bytes.now (refl, refl) (g.D.Device.bytes c.unlock.new.device) c.in_err-key.field-0.0 (c.unlock.ensures.unchanged.same tells) (c.in_err-key.ensures.refused tells x))
+    (unopened_ends v a.data_ e c.args.random.now x.faultless x.chosen c.args.by_ c.args.old.bytes.now (alone v e c.args.by_ c.args.old.bytes.now (refl, refl) refl (λ m y. y) (λ y. y)) (g.D.Device.bytes c.unlock.new.device) c.in_err-key.field-0.0 (c.unlock.ensures.unchanged.same tells) (c.in_err-key.ensures.refused tells x))
 
 pub returns-in_err-n-clause-replies : goal.returns-in_err-n-clause-replies
 returns-in_err-n-clause-replies g c = λ tells x.

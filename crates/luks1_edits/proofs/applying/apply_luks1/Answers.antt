@@ -37,7 +37,7 @@ pub returns-in-Remove-clause-replies : goal.returns-in-Remove-clause-replies
 returns-in-Remove-clause-replies g c = λ tells is.
     let v = g.D.Device.bytes c.args.device.now in
     let header = c.in-Ok.ensures.header v is (g.met.D.Device.sized c.args.device.now tells ∙ sym c.len.ensures) in
-    let e : Edit = Remove c.in-Remove.slot c.in-Remove.passphrase in
+    let e : Edit = Remove c.in-Remove.slot c.in-Remove.by_ c.in-Remove.passphrase in
     let w = g.D.Device.bytes c.remove.new.device in
     subst (λ x. Replies1 c.args.data_ v x c.args.random.now c.remove.result w) (sym c.in-Remove.is)
     (subst (λ q. Replies1 q v e c.args.random.now c.remove.result w) c.in-Ok.ensures.payload
@@ -55,6 +55,6 @@ returns-in-Label-clause-replies g c = λ tells is.
     let v = g.D.Device.bytes c.args.device.now in
     let header = c.in-Ok.ensures.header v is (g.met.D.Device.sized c.args.device.now tells ∙ sym c.len.ensures) in (
       subst (λ x. Refusal1 v c.args.data_ x c.args.random.now fault.BadLabel) (sym c.in-Label.is)
-          (label_refused v c.args.data_ c.args.random.now header.faultless (Label c.in-Label.text) (λ n p asked. asked) (λ bad. bad) (λ bad. bad) (λ bad. bad) (λ bad. bad) tt),
+          (label_refused v c.args.data_ c.args.random.now header.faultless (Label c.in-Label.text) (record { opens = λ n p asked. asked; wants = λ n wants. wants; other = λ same. same }) (λ bad. bad) (λ bad. bad) (λ bad. bad) (λ bad. bad) tt),
       refl,
     )

@@ -1,4 +1,4 @@
-use Rattle.std.proofs.Common.{refl, subst, sym, None, Ok}
+use Rattle.std.proofs.Common.{[], refl, subst, sym, None, Ok}
 use Rattle.luks_edit.specs.declared.edit.Edit.{Edit}
 use Rattle.luks_edit.specs.declared.edit.Edit.TheVariants.{Add, Change, Label, Remove, Repair}
 use Rattle.luks1_edits.specs.Needed.{TellsNeed1}
@@ -6,6 +6,7 @@ use Rattle.luks1_edits.proofs.KeyslotPlaces.{key_bytes_in}
 use Rattle.luks1_edits.proofs.NeedFacts.{idle_need, need_unaccepted, new_need_tells, removal_need_tells}
 use Rattle.luks1_edits.proofs.NewKeyslotFacts.{making}
 use Rattle.luks1_edits.proofs.OpenerFacts.{slots_in}
+use Rattle.luks1_edits.proofs.RemovalFacts.{removal}
 use Rattle.luks1_edits.proofs.needing.needed_luks1.Goals as goal
 
 pub returns-in-Err-clause-tells : goal.returns-in-Err-clause-tells
@@ -36,19 +37,19 @@ returns-in-Remove-clause-tells c = λ v is size.
     let a = c.in-Ok.header in
     let header = c.in-Ok.ensures.header v is size in
     let fields = c.in-Ok.ensures.accepted.fields in
-    let e : Edit = Remove c.in-Remove.slot c.in-Remove.passphrase in
+    let e : Edit = Remove c.in-Remove.slot c.in-Remove.by_ c.in-Remove.passphrase in
     subst (λ x. TellsNeed1 c.args.data_ v x c.removal_need.result) (sym c.in-Remove.is)
-    (removal_need_tells v c.args.data_ e header.faultless c.in-Remove.slot c.in-Remove.passphrase.bytes.now (refl, refl) (λ y. y) (λ y. y) refl c.removal_need.result
+    (removal_need_tells v c.args.data_ e header.faultless c.in-Remove.slot c.in-Remove.by_ c.in-Remove.passphrase.bytes.now [] (removal v e []) c.removal_need.result
     (c.removal_need.ensures.need v (slots_in a.bytes.now c.args.data_ v a.fields.slots header fields.slots)))
 
 pub returns-in-Repair-clause-tells : goal.returns-in-Repair-clause-tells
 returns-in-Repair-clause-tells c = λ v is size.
     let e : Edit = Repair in
     subst (λ x. TellsNeed1 c.args.data_ v x (Ok 0)) (sym c.in-Repair.is)
-    (idle_need v c.args.data_ e (c.in-Ok.ensures.header v is size).faultless (λ n p asked. asked) (λ y. y) (λ y. y) refl)
+    (idle_need v c.args.data_ e (c.in-Ok.ensures.header v is size).faultless (record { opens = λ n p asked. asked; wants = λ n wants. wants; other = λ same. same }) (λ y. y) (λ y. y) refl)
 
 pub returns-in-Label-clause-tells : goal.returns-in-Label-clause-tells
 returns-in-Label-clause-tells c = λ v is size.
     let e : Edit = Label c.in-Label.text in
     subst (λ x. TellsNeed1 c.args.data_ v x (Ok 0)) (sym c.in-Label.is)
-    (idle_need v c.args.data_ e (c.in-Ok.ensures.header v is size).faultless (λ n p asked. asked) (λ y. y) (λ y. y) refl)
+    (idle_need v c.args.data_ e (c.in-Ok.ensures.header v is size).faultless (record { opens = λ n p asked. asked; wants = λ n wants. wants; other = λ same. same }) (λ y. y) (λ y. y) refl)
