@@ -61,7 +61,7 @@ made_edited h total payload (Change named old new n) j k (Renewed slot) iteratio
     subst (λ i. HasChanged h total payload named i salt j k) asked.1
     (subst (λ m. HasChanged h total payload m iterations salt j k) asked.0
     (record { area = area; place = place; is = made.is }))
-made_edited h total payload (Remove slot passphrase) j k keyslot iterations salt area asked place made = absurd asked
+made_edited h total payload (Remove slot by_ passphrase) j k keyslot iterations salt area asked place made = absurd asked
 made_edited h total payload Repair j k keyslot iterations salt area asked place made = absurd asked
 made_edited h total payload (Label text) j k keyslot iterations salt area asked place made = absurd asked
 
@@ -71,7 +71,7 @@ asked_need (Add by_ old new to n) j (Made slot like) iterations k asked need = s
 asked_need (Add by_ old new to n) j (Renewed slot) iterations k asked need = absurd asked
 asked_need (Change named old new n) j (Made slot like) iterations k asked need = absurd asked
 asked_need (Change named old new n) j (Renewed slot) iterations k asked need = subst (λ m. NeedsLike j m k) asked.0 need
-asked_need (Remove slot passphrase) j keyslot iterations k asked need = absurd asked
+asked_need (Remove slot by_ passphrase) j keyslot iterations k asked need = absurd asked
 asked_need Repair j keyslot iterations k asked need = absurd asked
 asked_need (Label text) j keyslot iterations k asked need = absurd asked
 

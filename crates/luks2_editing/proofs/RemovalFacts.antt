@@ -1,5 +1,5 @@
 -- A keyslot that is removed of a LUKS2 volume: its area, and the copies beside it.
-use Rattle.std.proofs.Common.{◌≡◌, ℕ, ◌≤◌, List, length, replicate, inl, inr, refl, sym, ◌∙◌, subst, arith}
+use Rattle.std.proofs.Common.{◌≡◌, ℕ, ◌≤◌, List, Option, length, replicate, inl, inr, refl, sym, ◌∙◌, subst, arith}
 use Rattle.serde_json.specs.Data.{Data as Value}
 use Rattle.luks_area.specs.declared.area.Area.{Area}
 use Rattle.luks_area.specs.Ranges.{part, IsAt, SameBut}
@@ -29,30 +29,30 @@ use Rattle.luks2_editing.proofs.RenewalFacts.{metadata_here, prepared_unrefused,
 -- ---- the keyslot's area
 
 module _ (v : List ℕ) (payload : Data) (copy : ChosenCopy) (x : IsChosenCopy v copy) (well : WellFormed v payload)
-    (slot : ℕ) (passphrase : Passphrase) (random : List ℕ) (before : HasNoFaultBefore 12 v payload (Remove slot passphrase) random) where
-  pub removal_passed : Passed (IsEditFault2 v payload (Remove slot passphrase) random) 12
-  removal_passed = passed_from (IsEditFault2 v payload (Remove slot passphrase) random) 12 before.each
+    (slot : ℕ) (by_ : Option ℕ) (passphrase : Passphrase) (random : List ℕ) (before : HasNoFaultBefore 12 v payload (Remove slot by_ passphrase) random) where
+  pub removal_passed : Passed (IsEditFault2 v payload (Remove slot by_ passphrase) random) 12
+  removal_passed = passed_from (IsEditFault2 v payload (Remove slot by_ passphrase) random) 12 before.each
 
   module _ (area : Area) (is : IsKeyArea (content copy.meta) slot area) where
     module _ (new : Value) (made : new ≡ without_slot slot (content copy.meta)) (w y : List ℕ)
         (ready : IsPrepared copy.header.seqid (area_len copy.meta) new random 128)
-        (anew : AreWrittenAnew v copy.header.hdr_offset (Remove slot passphrase) random new w)
+        (anew : AreWrittenAnew v copy.header.hdr_offset (Remove slot by_ passphrase) random new w)
         (copies : SameBut (IsOfCopies copy.header.hdr_size) v w) (lost : SameBut (IsAt area.start area.len) w y) where
-      anew_kept : AreWrittenAnew v copy.header.hdr_offset (Remove slot passphrase) random new y
+      anew_kept : AreWrittenAnew v copy.header.hdr_offset (Remove slot by_ passphrase) random new y
       anew_kept =
           let size : 16384 ≤ hdr_size (header_at v copy.header.hdr_offset) = listed_at_least (hdr_size (header_at v copy.header.hdr_offset)) (sound_here v payload copy x well).form.listed in
-          both_beside v copy.header.hdr_offset (Remove slot passphrase) random new w y area.start area.len (omega (arith, size)) lost
+          both_beside v copy.header.hdr_offset (Remove slot by_ passphrase) random new w y area.start area.len (omega (arith, size)) lost
           (beside_first v payload copy x well slot area is) (beside_second v payload copy x well slot area is) anew
 
-      rest_touched : SameBut (IsTouched (hdr_size (header_at v copy.header.hdr_offset)) (length v) payload (content copy.meta) (Remove slot passphrase)) v y
+      rest_touched : SameBut (IsTouched (hdr_size (header_at v copy.header.hdr_offset)) (length v) payload (content copy.meta) (Remove slot by_ passphrase)) v y
       rest_touched = same_but-then
           (same_but-wider (λ p at. inl at) (subst (λ n. SameBut (IsOfCopies n) v w) (sym (size_is v payload copy x well)) copies))
           (same_but-wider (λ p at. inr (inr (record { area = area; is = is; at = at }))) lost)
 
       -- while it was overwritten
-      pub torn_lost : Leftover2 v payload (Remove slot passphrase) random y
+      pub torn_lost : Leftover2 v payload (Remove slot by_ passphrase) random y
       torn_lost = inr (
-        prepared_unrefused v payload copy x well (Remove slot passphrase) random new removal_passed (λ salt. made) (λ salt k same. same ∙ sym made) refl (λ k same. same) (λ u. tt) ready,
+        prepared_unrefused v payload copy x well (Remove slot by_ passphrase) random new removal_passed (λ salt. made) (λ salt k same. same ∙ sym made) refl (λ k same. same) (λ u. tt) ready,
         record {
           place = copy.header.hdr_offset;
           value = content copy.meta;
@@ -64,9 +64,9 @@ module _ (v : List ℕ) (payload : Data) (copy : ChosenCopy) (x : IsChosenCopy v
       )
 
       -- once it was
-      pub removed_after : part y area.start area.len ≡ replicate area.len 0 → After2 v payload (Remove slot passphrase) random y
+      pub removed_after : part y area.start area.len ≡ replicate area.len 0 → After2 v payload (Remove slot by_ passphrase) random y
       removed_after wiped =
-          written_after v payload copy x well (Remove slot passphrase) random new removal_passed (λ salt. made) (λ salt k same. same ∙ sym made) refl (λ k same. same) (λ u. tt) y
+          written_after v payload copy x well (Remove slot by_ passphrase) random new removal_passed (λ salt. made) (λ salt k same. same ∙ sym made) refl (λ k same. same) (λ u. tt) y
           (λ a other.
           let begins = other.1 in
           let mine = is.1 in

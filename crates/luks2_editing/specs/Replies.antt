@@ -19,7 +19,7 @@ TellsNew is_new None = ⊥
 abbrev pub Tells2 : List ℕ → Edit → Option ℕ → Type 0
 Tells2 v (Add by_ old new to iterations) told = TellsNew (IsMadeIn v to) told
 Tells2 v (Change slot old new iterations) told = told ≡ Some slot
-Tells2 v (Remove slot passphrase) told = told ≡ None
+Tells2 v (Remove slot by_ passphrase) told = told ≡ None
 Tells2 v Repair told = told ≡ None
 Tells2 v (Label text) told = told ≡ None
 

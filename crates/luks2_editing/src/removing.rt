@@ -1,5 +1,5 @@
 //! Removing a keyslot of a LUKS2 volume.
-ghost use Rattle.std.specs.Prelude.{◌≡◌, ◌+◌, ◌^◌, ◌<◌, ℕ, List, IfErr, IfOk};
+ghost use Rattle.std.specs.Prelude.{◌≡◌, ◌+◌, ◌^◌, ◌<◌, ℕ, List, Option, IfErr, IfOk};
 ghost use Rattle.luks_area.specs.Device.{CountsFailure, IsSettled};
 ghost use Rattle.luks_meta.specs.Content.{area_len, content};
 ghost use Rattle.luks_making.specs.Without.{without_slot};
@@ -45,10 +45,10 @@ pub(crate) fn remove<D: Device>(
         → IsSettled D.unsettled device.new }
     ensures count { CountsFailure is_edit_failure result
         (D.failed device.old) (D.failed device.new) }
-    ensures replies { D.tells → (payload : Payload) (passphrase : Passphrase)
+    ensures replies { D.tells → (payload : Payload) (by_ : Option ℕ) (passphrase : Passphrase)
         → IsChosenCopy (D.bytes device.old) copy → WellFormed (D.bytes device.old) payload
-        → HasNoFaultBefore 12 (D.bytes device.old) payload (Remove slot passphrase) random.now
-        → Replies2 payload (D.bytes device.old) (Remove slot passphrase) random.now
+        → HasNoFaultBefore 12 (D.bytes device.old) payload (Remove slot by_ passphrase) random.now
+        → Replies2 payload (D.bytes device.old) (Remove slot by_ passphrase) random.now
         result (D.bytes device.new) }
 {
     let header = copy.header;

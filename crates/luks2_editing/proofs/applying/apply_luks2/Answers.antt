@@ -43,7 +43,7 @@ returns-in-Remove-clause-replies g c = λ tells is.
     let takes = subst (λ t. Takes (area_len copy.meta) (content copy.meta) (g.D.Device.size c.args.device.now) c.args.edit.now t) c.in-Remove.is c.in_ok-judged.ensures.judged.takes in
     let same = c.judge_luks2.ensures.unchanged.same tells in
     let judged = judged_edit same takes.asked c.in_ok-judged.ensures.judged.copy is (c.in_ok-judged.ensures.unrefused tells is) in
-    replied same takes.asked c.args.data_ c.args.random.now _ _ (c.remove.ensures.replies tells c.args.data_ takes.passphrase judged.chosen judged.well (judged.none c.args.random.now))
+    replied same takes.asked c.args.data_ c.args.random.now _ _ (c.remove.ensures.replies tells c.args.data_ takes.by_ takes.passphrase judged.chosen judged.well (judged.none c.args.random.now))
 
 pub returns-in-Label-clause-replies : goal.returns-in-Label-clause-replies
 returns-in-Label-clause-replies g c = λ tells is.
