@@ -5,10 +5,10 @@ ghost use Rattle.std.specs.Prelude.{◌≡◌, ◌≢◌, None};
 ghost use Rattle.std.specs.Str.{IsUtf8};
 ghost use Rattle.luks_cache.specs.Cached.{cached_failures};
 
-use crate::volumes::{Volume, WHOLE, reopened};
 use luks_area::Device;
 use luks_cli::{Command, Line, OtherUse, note_other_use, note_overwritten, standing_use};
 use luks_explain::{Fault, refusing};
+use luks_files::{Volume, WHOLE, reopened};
 use luks_leftovers::{FrontFault, header_end, leftovers, note_leftovers, read_front};
 use luks_metadata_notes::{note_no_keyslots, note_taken, note_whole};
 use luks_rebuilding::Which;

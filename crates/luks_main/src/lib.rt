@@ -1,23 +1,17 @@
-//! What the program `luks` does: reads its command line, opens the files that this names, runs the command
+//! What the program `luks` does: reads its command line, has the files opened that this names, runs the command
 //! over them, and prints what the command wrote for standard output and for standard error.
 //!
 //! It is generic over the runtime: a test lends it one of its own, over real files, that sees what is opened
 //! and printed.
 #![tactic(auto)]
 
-mod backup_file;
 mod hints;
-mod openings;
 mod outcome;
-mod passphrases;
 mod progress;
 mod running;
 mod searching;
 mod told;
-mod typing;
-mod volumes;
 
-pub use openings::{Opening, Openings};
 pub use running::run;
 
 /// The exit status where what was asked for is told.

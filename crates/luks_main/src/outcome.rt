@@ -10,13 +10,13 @@ ghost use Rattle.luks_answer_json.specs.AnswerValue.{IsAnswerText};
 ghost use Rattle.luks_main.specs.Outcomes.{EndsAsObject, IsNoted, IsOf, IsOutcome, IsToldAsObject, IsUntold, printed_text};
 
 use crate::FAULT;
-use crate::volumes::Volume;
 use luks_answer_json::answer_json;
 use luks_cli::open::Tried;
 use luks_cli::{
     Answer, Command, CountingPrinter, Data, Inputs, Line, Printer, Unprinted, check, end, execute,
     open,
 };
+use luks_files::Volume;
 use luks_line::Manner;
 use luks_lock::LazyFile;
 use std::alloc::{AllocError, Global};

@@ -1,5 +1,5 @@
 //! How far a search of a disk is.
-use crate::typing::{ERROR, is_terminal};
+use luks_files::{ERROR, is_terminal};
 use luks_find_command::Progress;
 use std::fs::File;
 use std::rt::{Clock, Files};

@@ -6,14 +6,12 @@ ghost use Rattle.luks_lock.specs.Lazy.{file_name};
 ghost use Rattle.luks_main.specs.Statuses.{IsProgramStatus, MayEnd};
 
 use crate::hints::{Ended, tell, tell_ended, tell_overwritten, use_before};
-use crate::openings::Openings;
 use crate::outcome::{Outcome, outcome_of};
-use crate::passphrases::{Passphrases, reader};
 use crate::searching::search;
 use crate::told::{device_fault, explain, list_faults, no_memory, tell_usage};
-use crate::volumes::{Volume, Volumes, has_changed, open_volumes};
 use crate::{FAULT, USAGE};
 use luks_cli::{CountingPrinter, InputFault, Inputs, Line, OtherUse, Unprinted};
+use luks_files::{Openings, Passphrases, Volume, Volumes, has_changed, open_volumes, reader};
 use luks_line::{Asked, Manner, parse};
 use luks_lock::LazyFile;
 use luks_wiping::wipe_stack;

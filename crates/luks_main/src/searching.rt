@@ -4,10 +4,9 @@ ghost use Rattle.luks_main.specs.Statuses.{EndsFind};
 
 use crate::FAULT;
 use crate::hints::tell;
-use crate::openings::Opening;
 use crate::progress::ProgressLine;
-use crate::volumes::open_volume;
 use luks_cli::CountingPrinter;
+use luks_files::{Opening, open_volume};
 use luks_find_command::find;
 use luks_line::{Manner, Search};
 use std::fs::File;

@@ -1,7 +1,7 @@
 -- Which file is opened beside the volume of a command line.
 use Rattle.std.specs.Prelude.{Option, None, Some}
-use Rattle.luks_main.specs.declared.openings.Opening.{Opening}
-use Rattle.luks_main.specs.declared.openings.Openings.{Openings}
+use Rattle.luks_files.specs.declared.openings.Opening.{Opening}
+use Rattle.luks_files.specs.declared.openings.Openings.{Openings}
 
 abbrev pub first_of : Option Opening → Option Opening → Option Opening
 first_of None other = other

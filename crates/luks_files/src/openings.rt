@@ -1,6 +1,6 @@
 ghost use Rattle.std.specs.Prelude.{◌≡◌, false, true, IfSome, option_map};
 ghost use Rattle.luks_request.specs.Named.{backup_of, is_writer, new_of, passphrase_of, random_of, target_of};
-ghost use Rattle.luks_main.specs.Opened.{beside_of};
+ghost use Rattle.luks_files.specs.Opened.{beside_of};
 
 use luks_request::{Line, Place};
 

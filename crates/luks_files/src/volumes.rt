@@ -2,17 +2,17 @@
 ghost use Rattle.std.specs.Prelude.{◌≡◌, ◌≢◌, ◌↔◌, false, Err, IfOk, IfSome, IsErr, IsOkAnd, IsTrue, None};
 ghost use Rattle.luks_cache.specs.Cached.{cached_failures, changes_seen, device_behind};
 ghost use Rattle.luks_lock.specs.Locked.{lock_of, share_for};
-ghost use Rattle.luks_main.specs.Opened.{beside_of};
+ghost use Rattle.luks_files.specs.Opened.{beside_of};
 ghost use Rattle.luks_window.specs.Windows.{behind};
 
 use crate::backup_file::{is_taken, make_room};
 use crate::openings::{Opening, Openings};
 use luks_area::FileDevice;
 use luks_cache::CachedDevice;
-use luks_cli::{BackingUp, Command, InputFault, Line, Reason};
+use luks_commands::{InputFault, Reason};
 use luks_keeping::backup_length;
 use luks_lock::{FOLDER, Host, LockedDevice, OpenFault, is_same_file, open_locked};
-use luks_request::Place;
+use luks_request::{BackingUp, Command, Line, Place};
 use luks_window::Window;
 use std::fs::File;
 use std::io::Write;
@@ -22,20 +22,20 @@ use std::rt::{Clock, Files};
 /// The volume of a command line: the bytes of its file where it lies, its first ones remembered. The file
 /// is measured whole, under the lock of the whole. No byte beside the window is written, as its type says
 /// of any device; a file tells no bytes, so that nothing more can be said of one here.
-pub(crate) type Volume = CachedDevice<Window<LockedDevice<FileDevice<File>>, Brand>>;
+pub type Volume = CachedDevice<Window<LockedDevice<FileDevice<File>>, Brand>>;
 
 /// All bytes of a file.
-pub(crate) const WHOLE: Place = Place {
+pub const WHOLE: Place = Place {
     offset: 0,
     length: None,
 };
 
 /// The volumes of a command line.
-pub(crate) struct Volumes {
+pub struct Volumes {
     /// The volume.
-    pub(crate) volume: Result<Volume, InputFault>,
+    pub volume: Result<Volume, InputFault>,
     /// What is opened beside it.
-    pub(crate) target: Result<Volume, InputFault>,
+    pub target: Result<Volume, InputFault>,
 }
 
 impl Volumes {
@@ -54,7 +54,7 @@ impl Volumes {
 /// Opens the volume, and then what the command writes or reads beside it; neither where a passphrase has
 /// ended the command, and nothing beside a volume that can't be opened. Where both are one file, by
 /// whichever names, nothing is opened. Each is locked as what it is opened for.
-pub(crate) fn open_volumes<R: AllocGlobal + Clock + Files<File = File>>(
+pub fn open_volumes<R: AllocGlobal + Clock + Files<File = File>>(
     rt: &R,
     line: &Line<'_>,
     openings: &Openings<'_>,
@@ -137,7 +137,7 @@ fn length_of_backup<R: AllocGlobal + Clock + Files<File = File>>(
 /// The volume of this name, opened under its lock, at this place of its file; what of the lock isn't held is
 /// noted. Its first bytes are remembered, so that an edit, which looks at the header to know how many random bytes it takes and then to
 /// do it, reads it once.
-pub(crate) fn open_volume<R: AllocGlobal + Clock + Files<File = File>>(
+pub fn open_volume<R: AllocGlobal + Clock + Files<File = File>>(
     rt: &R,
     opening: Opening<'_>,
     place: Place,
@@ -178,7 +178,7 @@ pub(crate) fn open_volume<R: AllocGlobal + Clock + Files<File = File>>(
 
 /// The volume of this name, opened once more at this place of its file, to be read. None where that can't
 /// be, or memory is refused.
-pub(crate) fn reopened<R: AllocGlobal + Clock + Files<File = File>>(
+pub fn reopened<R: AllocGlobal + Clock + Files<File = File>>(
     rt: &R,
     volume: &str,
     place: Place,
@@ -192,7 +192,7 @@ pub(crate) fn reopened<R: AllocGlobal + Clock + Files<File = File>>(
 }
 
 /// Whether an edit of the volume ended since another program had written its header.
-pub(crate) fn has_changed(volume: &Result<Volume, InputFault>) -> bool
+pub fn has_changed(volume: &Result<Volume, InputFault>) -> bool
     ensures { IsTrue result ↔ IsOkAnd volume.now (λ device. changes_seen device ≢ 0) }
 {
     match volume {

@@ -4,7 +4,7 @@ ghost use Rattle.luks_commands.specs.FirstLine.{first_line};
 
 use crate::openings::{Opening, Openings};
 use crate::typing::tell_typing;
-use luks_cli::{InputFault, first_bytes, first_line};
+use luks_commands::{InputFault, first_bytes, first_line};
 use luks_line::Manner;
 use luks_wiping::Secret;
 use std::alloc::Global;
@@ -17,17 +17,17 @@ const LONGEST_PASSPHRASE: usize = 65536;
 
 /// What was read of the passphrases' files, before the volume is opened.
 #[derive(Drop)]
-pub(crate) struct Passphrases {
+pub struct Passphrases {
     /// The passphrase.
-    pub(crate) old: Result<Secret, InputFault>,
+    pub old: Result<Secret, InputFault>,
     /// The new passphrase.
-    pub(crate) new: Result<Secret, InputFault>,
+    pub new: Result<Secret, InputFault>,
 }
 
 impl Passphrases {
     /// Reads the file of the passphrase, and then that of the new one. Where the first ends the
     /// command, the second isn't opened.
-    pub(crate) fn read<R: AllocGlobal + Files<File = File> + Input + Eprint>(
+    pub fn read<R: AllocGlobal + Files<File = File> + Input + Eprint>(
         rt: &R,
         openings: &Openings<'_>,
         manner: Manner,
@@ -48,7 +48,7 @@ impl Passphrases {
     }
 
     /// Whether one of them ends the command, so that no volume is opened.
-    pub(crate) fn end_command(&self) -> bool {
+    pub fn end_command(&self) -> bool {
         ends_command(&self.old) || ends_command(&self.new)
     }
 }
@@ -110,7 +110,7 @@ fn passphrase<R: AllocGlobal + Files<File = File> + Input + Eprint>(
 }
 
 /// What was read of a file, to be read once more.
-pub(crate) fn reader(read: &Result<Secret, InputFault>) -> Result<&[u8], InputFault>
+pub fn reader(read: &Result<Secret, InputFault>) -> Result<&[u8], InputFault>
     ensures kind { IsOk result ↔ IsOk read.now }
     ensures bytes { IfOk read.now (λ secret. IfOk result (λ bytes. bytes.now ≡ secret)) }
     ensures fault { IfErr read.now (λ fault. IfErr result (λ f. f ≡ fault)) }

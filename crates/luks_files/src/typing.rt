@@ -23,12 +23,12 @@ pub(crate) fn tell_typing<R: Files<File = File> + Eprint>(rt: &R, line: bool) {
 const INPUT: &str = "/proc/self/fd/0";
 
 /// The name of standard error's.
-pub(crate) const ERROR: &str = "/proc/self/fd/2";
+pub const ERROR: &str = "/proc/self/fd/2";
 
 /// Whether the stream of this name is a terminal, by the number of its device (Linux, "Linux allocated devices"):
 /// consoles and serial lines, the terminal of a process, pseudoterminals. Where /proc isn't mounted it
 /// isn't known to be one.
-pub(crate) fn is_terminal<R: Files<File = File>>(rt: &R, name: &str) -> bool {
+pub fn is_terminal<R: Files<File = File>>(rt: &R, name: &str) -> bool {
     match fs::metadata(rt, name) {
         Ok(found) => {
             found.file_type().is_char_device()

@@ -1,0 +1,14 @@
+//! The files that a command line names: which of them are opened as what, and how they are opened. The
+//! volumes are locked and remembered, the passphrases read whole.
+#![tactic(auto)]
+
+mod backup_file;
+mod openings;
+mod passphrases;
+mod typing;
+mod volumes;
+
+pub use openings::{Opening, Openings};
+pub use passphrases::{Passphrases, reader};
+pub use typing::{ERROR, is_terminal};
+pub use volumes::{Volume, Volumes, WHOLE, has_changed, open_volume, open_volumes, reopened};
