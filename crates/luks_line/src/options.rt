@@ -224,7 +224,7 @@ static OPTIONS: [OptionRow; 29] = [
     OptionRow {
         name: "by",
         needed: false,
-        help: "The keyslot that the passphrase opens; else --slot",
+        help: "The one that the passphrase opens; else --slot",
         takes: Takes::Slot,
     },
 ];
