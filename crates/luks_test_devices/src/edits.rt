@@ -42,12 +42,23 @@ macro_rules! change {
     };
 }
 
-/// Removes a keyslot by its passphrase.
+/// Removes a keyslot: its number, a passphrase, and the keyslot that this opens, where it is another one.
 #[macro_export]
 macro_rules! remove {
     ($slot:expr, $passphrase:expr) => {
         Edit::Remove {
             slot: $slot,
+            by_: None,
+            passphrase: luks_volume::Passphrase {
+                bytes: $passphrase,
+                memory: 0,
+            },
+        }
+    };
+    ($slot:expr, $passphrase:expr, $by:expr) => {
+        Edit::Remove {
+            slot: $slot,
+            by_: Some($by),
             passphrase: luks_volume::Passphrase {
                 bytes: $passphrase,
                 memory: 0,
