@@ -1,18 +1,21 @@
 -- What an edit of a volume keeps, whatever its reply.
-use Rattle.std.proofs.Common.{◌≡◌, ℕ, List, Ok, Err, sym, subst}
+use Rattle.std.proofs.Common.{◌≡◌, ℕ, List, Ok, Err, Some, ap, sym, subst}
 use Rattle.luks_head.specs.Selection.{Choice, luks1, luks2, nothing, Chosen}
 use Rattle.luks_reading.specs.declared.report.Data.{Data}
 use Rattle.luks_reading.specs.Checked.{WellFormed}
+use Rattle.luks_edit.specs.declared.edit.Done.{Done}
 use Rattle.luks_edit.specs.declared.edit.Edit.{Edit}
+use Rattle.luks_edit.specs.declared.edit.Edit.TheVariants.{Remove}
+use Rattle.luks_edit.specs.declared.edit.Passphrase.{Passphrase}
 use Rattle.luks_edit.specs.declared.edit.Step.{Step}
 use Rattle.luks_edit.specs.declared.edit_fault.EditFault.TheVariants as fault
-use Rattle.luks_edit.specs.Kept.{Keeps}
+use Rattle.luks_edit.specs.Kept.{Keeps, KeepsSlot}
 use Rattle.luks_edit.specs.Ran.{AreRun, HasNoFailure, IsCompleted, IsFailure, IsNamedIn, Reply}
 use Rattle.luks1_edits.specs.Edited.{NamedKeyslots1}
 use Rattle.luks1_edits.proofs.EditedFacts.{keeps}
 use Rattle.luks2_edits.specs.Edited.{HasRanges, NamedKeyslots2}
 use Rattle.luks2_edits.proofs.AfterFacts.{after_keeps}
-use Rattle.luks_volume.specs.Edits.{AfterAs, IsUnrefused, NamedSlots, Replies}
+use Rattle.luks_volume.specs.Edits.{AfterAs, IsEditFaultAs, IsUnrefused, NamedSlots, NamesAs, Replies}
 use Rattle.luks_volume.proofs.RanFacts.{kept_same, list_keeps}
 
 -- what fewer names keep, more names keep
@@ -48,7 +51,21 @@ edit_keeps payload v w e random (Ok done) well is fine =
 edit_keeps payload v w e random (Err fault.Device) well is fine = absurd (fine tt)
 edit_keeps payload v w e random (Err f) well is fine = unchanged payload _ v w well is.1
 
--- so a list of edits in which it didn't fail keeps what no completed one names
+-- the keyslot that another one names to be removed by isn't itself the one that is removed
+names_itself : (v : List ℕ) (payload : Data) (slot by_ : ℕ) (p : Passphrase) (random : List ℕ) (c : Choice) → NamesAs v (Remove slot (Some by_) p) c by_
+    → IsEditFaultAs v payload (Remove slot (Some by_) p) random c fault.SameSlot
+names_itself v payload slot by_ p random luks1 same = ap Some same
+names_itself v payload slot by_ p random (luks2 o copies) same = ap Some same
+names_itself v payload slot by_ p random nothing same = same
+
+-- so the one that opened is as it was
+pub opener_kept : (payload : Data) (v w : List ℕ) (slot by_ : ℕ) (p : Passphrase) (random : List ℕ) (done : Done) → WellFormed v payload
+    → Replies payload v (Remove slot (Some by_) p) random (Ok done) w → KeepsSlot payload by_ v w
+opener_kept payload v w slot by_ p random done well is =
+    (edit_keeps payload v w (Remove slot (Some by_) p) random (Ok done) well is (λ x. x)).slots by_
+    (λ x. is.1.none fault.SameSlot (record { choice = x.1.choice; chosen = x.1.chosen; fault = names_itself v payload slot by_ p random x.1.choice x.1.named }))
+
+-- a list of edits in which it didn't fail keeps what no completed one names
 pub edits_keep : (payload : Data) (steps : List Step) (replies : List Reply) (volumes : List (List ℕ)) (v w : List ℕ) → WellFormed v payload
     → AreRun (Replies payload) v steps replies volumes w → HasNoFailure replies → Keeps payload (IsNamedIn NamedSlots v steps replies volumes) v w
 edits_keep payload = list_keeps (Replies payload) NamedSlots payload (edit_keeps payload)

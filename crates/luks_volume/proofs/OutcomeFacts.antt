@@ -37,7 +37,7 @@ use Rattle.luks_volume.proofs.VersionFacts.{fault_by}
 removes : (e : Edit) (n : ℕ) → Loses e n → Removes e n
 removes (Add by_ old new to iterations) n x = x
 removes (Change slot old new iterations) n x = x
-removes (Remove slot passphrase) n x = x
+removes (Remove slot by_ passphrase) n x = x
 removes Repair n x = x
 removes (Label text) n x = x
 
@@ -63,7 +63,7 @@ opens_by1 v (Add by_ old new to iterations) w chosen x = λ n key made opened.
 opens_by1 v (Change slot old new iterations) w chosen x = λ n key made opened.
     allowed_more (memory_for old new.now) w n new.now key (x n key (makes_by v (Change slot old new iterations) luks1 n chosen made)
     (luks1_answers_alike v chosen (memory_for old new.now) 0 slot old.bytes.now (opens key) opened))
-opens_by1 v (Remove slot passphrase) w chosen x = tt
+opens_by1 v (Remove slot by_ passphrase) w chosen x = tt
 opens_by1 v Repair w chosen x = tt
 opens_by1 v (Label text) w chosen x = tt
 
@@ -71,7 +71,7 @@ opens_by2 : (v : List ℕ) (e : Edit) (w : List ℕ) (o : ℕ) (copies : Copies)
 opens_by2 v (Add by_ old new to iterations) w o copies chosen x = λ n key made. x n key (makes_by v (Add by_ old new to iterations) (luks2 o copies) n chosen made)
 opens_by2 v (Change slot old new iterations) w o copies chosen x = λ n key made opened.
     let is : n ≡ slot = makes_by v (Change slot old new iterations) (luks2 o copies) n chosen made in rw is (x key opened)
-opens_by2 v (Remove slot passphrase) w o copies chosen x = tt
+opens_by2 v (Remove slot by_ passphrase) w o copies chosen x = tt
 opens_by2 v Repair w o copies chosen x = tt
 opens_by2 v (Label text) w o copies chosen x = tt
 

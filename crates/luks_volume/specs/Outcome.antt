@@ -37,7 +37,7 @@ OpensMade v (Change slot old new iterations) w = (n : ℕ) (key : List ℕ)
     → Makes v (Change slot old new iterations) n
     → AnswerWithin (memory_for old new.now) v slot old.bytes.now (opens key)
     → AnswerWithin (memory_for old new.now) w n new.now (opens key)
-OpensMade v (Remove slot passphrase) w = ⊤
+OpensMade v (Remove slot by_ passphrase) w = ⊤
 OpensMade v Repair w = ⊤
 OpensMade v (Label text) w = ⊤
 

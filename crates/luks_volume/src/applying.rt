@@ -101,6 +101,7 @@ fn iterations_have_32_bits(edit: &Edit<'_>)
         } => has_32_bits(iterations),
         Edit::Remove {
             slot: _,
+            by_: _,
             passphrase: _,
         } => {}
         Edit::Repair => {}

@@ -1,8 +1,11 @@
 //! Laws on the definitions of this crate. Each function does nothing; its contract is the law.
-ghost use Rattle.std.specs.Prelude.{◌≡◌, ◌+◌, ◌<◌, ◌≤◌, ◌++◌, ◌∷◌, [], ℕ, List, get_or, length};
+ghost use Rattle.std.specs.Prelude.{◌≡◌, ◌+◌, ◌<◌, ◌≤◌, ◌++◌, ◌∷◌, [], ℕ, List, Ok, Some, get_or, length};
+ghost use Rattle.luks_edit.specs.declared.edit.Done.{Done as TheDone};
 ghost use Rattle.luks_edit.specs.declared.edit.Edit.{Edit as TheEdit};
+ghost use Rattle.luks_edit.specs.declared.edit.Edit.TheVariants.{Remove};
+ghost use Rattle.luks_edit.specs.declared.edit.Passphrase.{Passphrase as ThePassphrase};
 ghost use Rattle.luks_edit.specs.declared.edit.Step.{Step as TheStep};
-ghost use Rattle.luks_edit.specs.Kept.{Keeps};
+ghost use Rattle.luks_edit.specs.Kept.{Keeps, KeepsSlot};
 ghost use Rattle.luks_edit.specs.Ran.{AreRun, HasNoFailure, IsFailure, IsNamedIn, Ran, Reply};
 ghost use Rattle.luks_reading.specs.Checked.{WellFormed};
 ghost use Rattle.luks_reading.specs.declared.report.Data.{Data as Payload};
@@ -17,6 +20,15 @@ pub fn edits_keep_volume()
         (volumes : List (List ℕ)) (v w : List ℕ) → WellFormed v payload
         → AreRun (Replies payload) v steps replies volumes w → HasNoFailure replies
         → Keeps payload (IsNamedIn NamedSlots v steps replies volumes) v w }
+{}
+
+/// A keyslot that the passphrase of another one removes leaves that one as it was: its area, its entry
+/// or value, and its answer to every passphrase.
+pub fn removal_keeps_opener()
+    ensures { (payload : Payload) (v w : List ℕ) (slot by_ : ℕ) (passphrase : ThePassphrase)
+        (random : List ℕ) (done : TheDone) → WellFormed v payload
+        → Replies payload v (Remove slot (Some by_) passphrase) random (Ok done) w
+        → KeepsSlot payload by_ v w }
 {}
 
 /// A list of edits is run step by step: a step that the device doesn't fail in is followed by the

@@ -13,8 +13,8 @@ use luks2_judging::needed_luks2;
 use std::alloc::Global;
 
 /// How many random bytes `apply` takes for the edit, or the first of the faults that are seen
-/// without opening a keyslot: `NotAccepted`, `Requirements`, `NoSuchSlot`, `SlotTaken` and
-/// `NoFreeSlot`.
+/// without opening a keyslot: `NotAccepted`, `Requirements`, `NoSuchSlot`, `SameSlot`, `SlotTaken`
+/// and `NoFreeSlot`.
 ///
 /// `data_` says where the payload lies. `Device` comes exactly where a device call failed. Memory
 /// is taken for the metadata of LUKS2 alone.
