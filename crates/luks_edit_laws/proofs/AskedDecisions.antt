@@ -1,5 +1,5 @@
 -- What an edit asks for: its iterations are enough or too few, and the answer of the keyslot that it opens tells why it gives no key.
-use Rattle.std.proofs.Common.{◌≡◌, ◌⊎◌, ℕ, List, [], ◌∷◌, get_or, refl, sym, ap, subst, ◌∙◌, arith, inl, inr}
+use Rattle.std.proofs.Common.{◌≡◌, ◌⊎◌, ℕ, List, [], ◌∷◌, Option, Some, None, get_or, refl, sym, ap, subst, ◌∙◌, arith, inl, inr}
 use Rattle.std.proofs.lemmas.Bool.{cases_eq}
 use Rattle.luks1_header.specs.declared.fault.HeadFault.{HeadFault}
 use Rattle.luks1_header.specs.declared.fault.HeadFault.TheVariants as head
@@ -12,9 +12,9 @@ use Rattle.luks_reading.specs.Answer.{AnswerWithin, head_step, no_key, open_key,
 use Rattle.luks_reading.proofs.VolumeLaws.{one_answer}
 use Rattle.luks_edit.specs.declared.edit.Edit.{Edit}
 use Rattle.luks_edit.specs.declared.edit.Edit.TheVariants.{Add, Change, Label, Remove, Repair}
-use Rattle.luks_edit.specs.Asked.{allowed_memory, HasFewIterations, OpensBy}
+use Rattle.luks_edit.specs.Asked.{allowed_memory, HasFewIterations, NamesItself, opener_of, OpensBy, Wants}
 use Rattle.luks_edit.specs.Opener.{IsLocked, IsShut}
-use Rattle.luks_edit_laws.proofs.DecidedFacts.{alike_decided, Decided, less_decided}
+use Rattle.luks_edit_laws.proofs.DecidedFacts.{alike_decided, Decided, less_decided, one_decided, some_same}
 
 -- ---- iterations
 
@@ -22,7 +22,7 @@ use Rattle.luks_edit_laws.proofs.DecidedFacts.{alike_decided, Decided, less_deci
 pub few_decided : (e : Edit) → Decided (HasFewIterations e)
 few_decided (Add by_ old new to iterations) = less_decided iterations 1000
 few_decided (Change slot old new iterations) = less_decided iterations 1000
-few_decided (Remove slot passphrase) = inr (λ bad. bad)
+few_decided (Remove slot by_ passphrase) = inr (λ bad. bad)
 few_decided Repair = inr (λ bad. bad)
 few_decided (Label text) = inr (λ bad. bad)
 
@@ -39,7 +39,7 @@ record Opener (e : Edit) : Type 0 where
 find_opener : (e : Edit) → Opener e ⊎ ((n : ℕ) (p : List ℕ) → OpensBy e n p → ⊥)
 find_opener (Add by_ old new to iterations) = inl (record { slot = by_; passphrase = old.bytes.now; asked = (refl, refl); only = λ n p x. x })
 find_opener (Change slot old new iterations) = inl (record { slot = slot; passphrase = old.bytes.now; asked = (refl, refl); only = λ n p x. x })
-find_opener (Remove slot passphrase) = inl (record { slot = slot; passphrase = passphrase.bytes.now; asked = (refl, refl); only = λ n p x. x })
+find_opener (Remove slot by_ passphrase) = inl (record { slot = opener_of slot by_; passphrase = passphrase.bytes.now; asked = (refl, refl); only = λ n p x. x })
 find_opener Repair = inr (λ n p x. x)
 find_opener (Label text) = inr (λ n p x. x)
 
@@ -52,6 +52,36 @@ opener_decided e P decide = elim (find_opener e) [
   ]
   | inr none ↦ inr (λ x. none x.0 x.1 x.2)
 ]
+
+-- ---- the keyslots that it wants
+
+-- a keyslot of one number has the property, or it hasn't
+of_one_decided : (P : ℕ → Type 0) → ((n : ℕ) → Decided (P n)) → (m : ℕ) → Decided ((n : ℕ) × (n ≡ m) × P n)
+of_one_decided P decide m = alike_decided (P m) ((n : ℕ) × (n ≡ m) × P n) (λ x. (m, refl, x)) (λ x. subst P x.1 x.2) (decide m)
+
+-- what is decided of each keyslot is decided of those that the edit wants
+pub wanted_decided : (e : Edit) (P : ℕ → Type 0) → ((n : ℕ) → Decided (P n)) → Decided ((n : ℕ) × Wants e n × P n)
+wanted_decided (Add by_ old new to iterations) P decide = of_one_decided P decide by_
+wanted_decided (Change slot old new iterations) P decide = of_one_decided P decide slot
+wanted_decided (Remove slot by_ passphrase) P decide = alike_decided _ _
+    (λ x. elim x [ inl opener ↦ (opener.0, inl opener.1, opener.2) | inr removed ↦ (removed.0, inr removed.1, removed.2) ])
+    (λ x. elim x.1 [ inl opener ↦ inl (x.0, opener, x.2) | inr removed ↦ inr (x.0, removed, x.2) ])
+    (one_decided _ _ (of_one_decided P decide (opener_of slot by_)) (of_one_decided P decide slot))
+wanted_decided Repair P decide = inr (λ x. x.1)
+wanted_decided (Label text) P decide = inr (λ x. x.1)
+
+-- a keyslot is the one that is named, or another one is, or none
+named_decided : (by_ : Option ℕ) (slot : ℕ) → Decided (by_ ≡ Some slot)
+named_decided None slot = inr (λ same. cc)
+named_decided (Some other) slot = alike_decided (other ≡ slot) (Some other ≡ Some slot) (λ same. ap Some same) (λ same. some_same other slot same) (cases_eq other slot)
+
+-- the edit names the keyslot that it removes as the one to open by, or it doesn't
+pub itself_decided : (e : Edit) → Decided (NamesItself e)
+itself_decided (Add by_ old new to iterations) = inr (λ bad. bad)
+itself_decided (Change slot old new iterations) = inr (λ bad. bad)
+itself_decided (Remove slot by_ passphrase) = named_decided by_ slot
+itself_decided Repair = inr (λ bad. bad)
+itself_decided (Label text) = inr (λ bad. bad)
 
 -- ---- refusals of a keyslot
 

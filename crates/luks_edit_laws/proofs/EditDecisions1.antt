@@ -8,7 +8,7 @@ use Rattle.luks_edit.specs.declared.edit.Edit.{Edit}
 use Rattle.luks_edit.specs.declared.edit_fault.EditFault.{EditFault}
 use Rattle.luks_edit.specs.declared.edit_fault.EditFault.TheVariants as edit
 use Rattle.luks1_edits.specs.Refused.{IsEditFault1}
-use Rattle.luks_edit_laws.proofs.AskedDecisions.{few_decided, locked_decided, shut_decided}
+use Rattle.luks_edit_laws.proofs.AskedDecisions.{few_decided, itself_decided, locked_decided, shut_decided}
 use Rattle.luks_edit_laws.proofs.DecidedFacts.{Decided}
 use Rattle.luks_edit_laws.proofs.RowDecisions1.{absent_decided, label_decided, last_decided, miscounted_decided, no_free_decided, taken_decided}
 
@@ -18,6 +18,7 @@ module _ (v : List ℕ) (payload : Data) (answer : (m n : ℕ) (p : List ℕ) �
   fault1_decided (edit.NotAccepted f) = inr (sound f)
   fault1_decided edit.Requirements = inr (λ bad. bad)
   fault1_decided edit.NoSuchSlot = absent_decided v e
+  fault1_decided edit.SameSlot = itself_decided e
   fault1_decided edit.Locked = locked_decided v answer e
   fault1_decided (edit.Slot f) = shut_decided v answer e f
   fault1_decided edit.SlotTaken = taken_decided v e

@@ -19,7 +19,7 @@ use Rattle.luks2_edits.specs.Edited.{IsEdited}
 use Rattle.luks2_edits.specs.Metadata.{HasMetadata, IsInUse}
 use Rattle.luks2_edits.specs.Places.{HasNoNewArea, IsNewArea}
 use Rattle.luks2_edits.specs.Refused.{HasSaid, IsEditFault2}
-use Rattle.luks_edit_laws.proofs.AskedDecisions.{few_decided, locked_decided, shut_decided}
+use Rattle.luks_edit_laws.proofs.AskedDecisions.{few_decided, itself_decided, locked_decided, shut_decided}
 use Rattle.luks_edit_laws.proofs.DecidedFacts.{Decided, true_decided}
 use Rattle.luks_edit_laws.proofs.FullDecisions2.{full_decided}
 use Rattle.luks_edit_laws.proofs.RowDecisions2.{absent_decided, bad_label_decided, last_decided, miscounted_decided, no_free_decided, no_room_decided, taken_decided}
@@ -53,6 +53,7 @@ module _ (v : List ℕ) (payload : Data) (answer : (m n : ℕ) (p : List ℕ) �
   fault_of_counting c (edit.NotAccepted f) = inr (sound f)
   fault_of_counting c edit.Requirements = said_decided v payload c _ (true_decided (has_requirements c.value))
   fault_of_counting c edit.NoSuchSlot = said_decided v payload c _ (absent_decided c.value e)
+  fault_of_counting c edit.SameSlot = itself_decided e
   fault_of_counting c edit.Locked = locked_decided v answer e
   fault_of_counting c (edit.Slot f) = shut_decided v answer e f
   fault_of_counting c edit.SlotTaken = said_decided v payload c _ (taken_decided c.value e)
@@ -70,6 +71,7 @@ module _ (v : List ℕ) (payload : Data) (answer : (m n : ℕ) (p : List ℕ) �
   -- where none counts
   fault_of_none : ((p : ℕ) (i : Value) → HasMetadata v p i → ⊥) → (f : EditFault) → Decided (IsEditFault2 v payload e r f)
   fault_of_none none (edit.NotAccepted f) = inr (sound f)
+  fault_of_none none edit.SameSlot = itself_decided e
   fault_of_none none edit.Locked = locked_decided v answer e
   fault_of_none none (edit.Slot f) = shut_decided v answer e f
   fault_of_none none edit.Iterations = few_decided e

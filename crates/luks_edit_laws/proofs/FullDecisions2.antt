@@ -114,7 +114,7 @@ module _ (h total : ℕ) (payload : Data) (j : Value)
   edited_or_none : (e : Edit) (salt : List ℕ) → SomeOrNone Value (IsEdited h total payload e salt j)
   edited_or_none (Add by_ old new to iterations) salt = add_or_none by_ to iterations salt
   edited_or_none (Change slot old new iterations) salt = change_or_none slot iterations salt
-  edited_or_none (Remove slot passphrase) salt = inl (without_slot slot j, refl)
+  edited_or_none (Remove slot by_ passphrase) salt = inl (without_slot slot j, refl)
   edited_or_none Repair salt = inl (j, refl)
   edited_or_none (Label text) salt = inl (j, refl)
 
@@ -125,7 +125,7 @@ salted_anew h total payload (Add by_ old new to iterations) a b j x is =
     (y.0, record { slot = is.slot; is_new = is.is_new; area = is.area; place = is.place; is = y.1 })
 salted_anew h total payload (Change slot old new iterations) a b j x is =
     (changed_slot slot (members_of iterations b is.area) j, record { area = is.area; place = is.place; is = refl })
-salted_anew h total payload (Remove slot passphrase) a b j x is = (x, is)
+salted_anew h total payload (Remove slot by_ passphrase) a b j x is = (x, is)
 salted_anew h total payload Repair a b j x is = (x, is)
 salted_anew h total payload (Label text) a b j x is = (x, is)
 

@@ -4,10 +4,10 @@ use Rattle.std.proofs.lemmas.Bool.{cases_eq}
 use Rattle.luks1_header.specs.Header1.{active_word, disabled_word, enabled_word, entry}
 use Rattle.luks_edit.specs.declared.edit.Edit.{Edit}
 use Rattle.luks_edit.specs.declared.edit.Edit.TheVariants.{Add, Change, Label, Remove, Repair}
-use Rattle.luks_edit.specs.Asked.{OpensBy}
+use Rattle.luks_edit.specs.Asked.{Wants}
 use Rattle.luks1_edits.specs.Edited.{IsFree, IsInUse, IsLeastFree, IsNewKeyslot}
 use Rattle.luks1_edits.specs.Refused.{HasNoFree, IsAbsent, IsLabel, IsLast, IsMiscounted, IsTaken, IsTakenFor, keyslot_need, LacksFree, Need1, NeedsFor}
-use Rattle.luks_edit_laws.proofs.AskedDecisions.{opener_decided}
+use Rattle.luks_edit_laws.proofs.AskedDecisions.{wanted_decided}
 use Rattle.luks_edit_laws.proofs.DecidedFacts.{alike_decided, both_decided, Decided, least_or_none_below, less_decided, not_decided, OneOrNone, other_decided, SomeOrNone}
 
 -- ---- keyslots in use and free
@@ -42,13 +42,13 @@ only_in_use_decided v slot =
       | inr none ↦ inl (λ n used. elim (cases_eq n slot) [ inl same ↦ same | inr other ↦ absurd (none n used.0 (used, other)) ])
     ]
 
--- ---- the keyslots that the edit opens and makes
+-- ---- the keyslots that the edit wants and makes
 
--- the keyslot that it opens isn't in use, or it is
+-- a keyslot that it wants isn't in use, or all are
 pub absent_decided : (v : List ℕ) (e : Edit) → Decided (IsAbsent v e)
-absent_decided v e = alike_decided ((n : ℕ) × (p : List ℕ) × OpensBy e n p × (IsInUse v n → ⊥)) (IsAbsent v e)
-    (λ x. record { slot = x.0; passphrase = x.1; asked = x.2; unused = x.3 }) (λ x. (x.slot, x.passphrase, x.asked, x.unused))
-    (opener_decided e (λ n p. IsInUse v n → ⊥) (λ n p. not_decided (IsInUse v n) (in_use_decided v n)))
+absent_decided v e = alike_decided ((n : ℕ) × Wants e n × (IsInUse v n → ⊥)) (IsAbsent v e)
+    (λ x. record { slot = x.0; wanted = x.1; unused = x.2 }) (λ x. (x.slot, x.wanted, x.unused))
+    (wanted_decided e (λ n. IsInUse v n → ⊥) (λ n. not_decided (IsInUse v n) (in_use_decided v n)))
 
 -- the number that is asked for is taken, or it isn't
 taken_for_decided : (v : List ℕ) (to : Option ℕ) → Decided (IsTakenFor v to)
@@ -59,7 +59,7 @@ taken_for_decided v None = inr (λ bad. bad)
 pub taken_decided : (v : List ℕ) (e : Edit) → Decided (IsTaken v e)
 taken_decided v (Add by_ old new to iterations) = taken_for_decided v to
 taken_decided v (Change slot old new iterations) = inr (λ bad. bad)
-taken_decided v (Remove slot passphrase) = inr (λ bad. bad)
+taken_decided v (Remove slot by_ passphrase) = inr (λ bad. bad)
 taken_decided v Repair = inr (λ bad. bad)
 taken_decided v (Label text) = inr (λ bad. bad)
 
@@ -72,7 +72,7 @@ lacks_free_decided v None = none_free_decided v
 pub no_free_decided : (v : List ℕ) (e : Edit) → Decided (HasNoFree v e)
 no_free_decided v (Add by_ old new to iterations) = lacks_free_decided v to
 no_free_decided v (Change slot old new iterations) = lacks_free_decided v None
-no_free_decided v (Remove slot passphrase) = inr (λ bad. bad)
+no_free_decided v (Remove slot by_ passphrase) = inr (λ bad. bad)
 no_free_decided v Repair = inr (λ bad. bad)
 no_free_decided v (Label text) = inr (λ bad. bad)
 
@@ -82,7 +82,7 @@ no_free_decided v (Label text) = inr (λ bad. bad)
 pub last_decided : (v : List ℕ) (e : Edit) → Decided (IsLast v e)
 last_decided v (Add by_ old new to iterations) = inr (λ bad. bad)
 last_decided v (Change slot old new iterations) = inr (λ bad. bad)
-last_decided v (Remove slot passphrase) = only_in_use_decided v slot
+last_decided v (Remove slot by_ passphrase) = only_in_use_decided v slot
 last_decided v Repair = inr (λ bad. bad)
 last_decided v (Label text) = inr (λ bad. bad)
 
@@ -90,7 +90,7 @@ last_decided v (Label text) = inr (λ bad. bad)
 pub label_decided : (e : Edit) → Decided (IsLabel e)
 label_decided (Add by_ old new to iterations) = inr (λ bad. bad)
 label_decided (Change slot old new iterations) = inr (λ bad. bad)
-label_decided (Remove slot passphrase) = inr (λ bad. bad)
+label_decided (Remove slot by_ passphrase) = inr (λ bad. bad)
 label_decided Repair = inr (λ bad. bad)
 label_decided (Label text) = inl tt
 
@@ -121,7 +121,7 @@ no_need = inl (0, refl, λ m x. x)
 one_need : (v : List ℕ) (e : Edit) → OneOrNone (Need1 v e)
 one_need v (Add by_ old new to iterations) = need_of_new v to
 one_need v (Change slot old new iterations) = need_of_free v
-one_need v (Remove slot passphrase) = no_need
+one_need v (Remove slot by_ passphrase) = no_need
 one_need v Repair = no_need
 one_need v (Label text) = no_need
 

@@ -9,22 +9,22 @@ use Rattle.luks_reading.specs.declared.report.Data.{Data}
 use Rattle.luks_reading.specs.Layout2.{Luks2Area}
 use Rattle.luks_edit.specs.declared.edit.Edit.{Edit}
 use Rattle.luks_edit.specs.declared.edit.Edit.TheVariants.{Add, Change, Label, Remove, Repair}
-use Rattle.luks_edit.specs.Asked.{OpensBy}
+use Rattle.luks_edit.specs.Asked.{Wants}
 use Rattle.luks2_edits.specs.Gap.{IsGap}
 use Rattle.luks2_edits.specs.Metadata.{IsInUse}
 use Rattle.luks2_edits.specs.Places.{HasNoNewArea, IsNewArea, key_areas_end, rounded_to_blocks}
 use Rattle.luks2_edits.specs.Refused.{HasNoFree, HasNoNumber, HasNoRoom, IsAbsent, IsBadLabel, IsLast, IsMiscounted, IsNumberTaken, IsOnlyOne, IsTaken, Need2, NeedsLike}
-use Rattle.luks_edit_laws.proofs.AskedDecisions.{opener_decided}
+use Rattle.luks_edit_laws.proofs.AskedDecisions.{wanted_decided}
 use Rattle.luks_edit_laws.proofs.DecidedFacts.{alike_decided, both_decided, Decided, least_or_none_below, less_decided, not_decided, one_decided, OneOrNone, other_decided, some_same, SomeOrNone, true_decided}
 use Rattle.luks_edit_laws.proofs.MemberDecisions2.{digest_decided, digest_or_none, in_use_decided, none_free_decided, one_key_length, one_stripes, stripes_in_use, stripes_or_none}
 
--- ---- the keyslot that the edit opens
+-- ---- the keyslots that the edit wants
 
--- that keyslot isn't there, or it is
+-- one of them isn't there, or all are
 pub absent_decided : (j : Value) (e : Edit) → Decided (IsAbsent j e)
-absent_decided j e = alike_decided ((n : ℕ) × (p : List ℕ) × OpensBy e n p × (IsInUse j n → ⊥)) (IsAbsent j e)
-    (λ x. record { slot = x.0; passphrase = x.1; asked = x.2; unused = x.3 }) (λ x. (x.slot, x.passphrase, x.asked, x.unused))
-    (opener_decided e (λ n p. IsInUse j n → ⊥) (λ n p. not_decided (IsInUse j n) (in_use_decided j n)))
+absent_decided j e = alike_decided ((n : ℕ) × Wants e n × (IsInUse j n → ⊥)) (IsAbsent j e)
+    (λ x. record { slot = x.0; wanted = x.1; unused = x.2 }) (λ x. (x.slot, x.wanted, x.unused))
+    (wanted_decided e (λ n. IsInUse j n → ⊥) (λ n. not_decided (IsInUse j n) (in_use_decided j n)))
 
 -- ---- the keyslot that the edit makes
 
@@ -37,7 +37,7 @@ number_taken_decided j None = inr (λ bad. bad)
 pub taken_decided : (j : Value) (e : Edit) → Decided (IsTaken j e)
 taken_decided j (Add by_ old new to iterations) = number_taken_decided j to
 taken_decided j (Change slot old new iterations) = inr (λ bad. bad)
-taken_decided j (Remove slot passphrase) = inr (λ bad. bad)
+taken_decided j (Remove slot by_ passphrase) = inr (λ bad. bad)
 taken_decided j Repair = inr (λ bad. bad)
 taken_decided j (Label text) = inr (λ bad. bad)
 
@@ -50,7 +50,7 @@ no_number_decided j None = none_free_decided j
 pub no_free_decided : (j : Value) (e : Edit) → Decided (HasNoFree j e)
 no_free_decided j (Add by_ old new to iterations) = no_number_decided j to
 no_free_decided j (Change slot old new iterations) = inr (λ bad. bad)
-no_free_decided j (Remove slot passphrase) = inr (λ bad. bad)
+no_free_decided j (Remove slot by_ passphrase) = inr (λ bad. bad)
 no_free_decided j Repair = inr (λ bad. bad)
 no_free_decided j (Label text) = inr (λ bad. bad)
 
@@ -91,7 +91,7 @@ module _ (h total : ℕ) (payload : Data) (j : Value)
   pub no_room_decided : (e : Edit) → Decided (HasNoRoom h total payload j e)
   no_room_decided (Add by_ old new to iterations) = no_area_decided by_
   no_room_decided (Change slot old new iterations) = no_area_decided slot
-  no_room_decided (Remove slot passphrase) = inr (λ bad. bad)
+  no_room_decided (Remove slot by_ passphrase) = inr (λ bad. bad)
   no_room_decided Repair = inr (λ bad. bad)
   no_room_decided (Label text) = inr (λ bad. bad)
 
@@ -119,7 +119,7 @@ module _ (j : Value) (one : (n m k : ℕ) → IsDigestOf j n m → IsDigestOf j 
   pub last_decided : (e : Edit) → Decided (IsLast j e)
   last_decided (Add by_ old new to iterations) = inr (λ bad. bad)
   last_decided (Change slot old new iterations) = inr (λ bad. bad)
-  last_decided (Remove slot passphrase) = only_one_decided slot
+  last_decided (Remove slot by_ passphrase) = only_one_decided slot
   last_decided Repair = inr (λ bad. bad)
   last_decided (Label text) = inr (λ bad. bad)
 
@@ -129,7 +129,7 @@ module _ (j : Value) (one : (n m k : ℕ) → IsDigestOf j n m → IsDigestOf j 
 pub bad_label_decided : (e : Edit) → Decided (IsBadLabel e)
 bad_label_decided (Add by_ old new to iterations) = inr (λ bad. bad)
 bad_label_decided (Change slot old new iterations) = inr (λ bad. bad)
-bad_label_decided (Remove slot passphrase) = inr (λ bad. bad)
+bad_label_decided (Remove slot by_ passphrase) = inr (λ bad. bad)
 bad_label_decided Repair = inr (λ bad. bad)
 bad_label_decided (Label text) = one_decided _ _ (less_decided 47 (length text.now)) (not_decided _ (true_decided (is_plain text.now)))
 
@@ -155,7 +155,7 @@ need_of_copies = inl (64 + 64, refl, λ m x. x)
 one_need : (j : Value) (e : Edit) → OneOrNone (Need2 j e)
 one_need j (Add by_ old new to iterations) = need_like j by_
 one_need j (Change slot old new iterations) = need_like j slot
-one_need j (Remove slot passphrase) = need_of_copies
+one_need j (Remove slot by_ passphrase) = need_of_copies
 one_need j Repair = need_of_copies
 one_need j (Label text) = need_of_copies
 
