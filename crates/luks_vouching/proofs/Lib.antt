@@ -1,0 +1,4 @@
+pub mod SectorFacts
+pub mod SearchFacts
+pub mod BorderFacts
+pub mod LawFacts
