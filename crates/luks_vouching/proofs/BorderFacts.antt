@@ -1,10 +1,10 @@
 -- Compositions by one border.
-use Rattle.std.proofs.Common.{◌≡◌, ℕ, ◌+◌, ◌-◌, ◌*◌, ◌<◌, ◌≤◌, List, [], ◌++◌, ◌⊎◌, inl, inr, length, take, drop, refl, sym, ap, ◌∙◌, arith, subst, length-append, length-drop}
+use Rattle.std.proofs.Common.{◌≡◌, ℕ, ◌+◌, ◌-◌, ◌*◌, ◌<◌, ◌≤◌, List, ◌++◌, inl, inr, length, take, drop, sym, ap, ◌∙◌, arith, subst, length-append, length-drop}
 use Rattle.std.proofs.lemmas.Bool.{cases_lt}
 use Rattle.std.proofs.lemmas.List.{append-nil, drop_all, drop-append-le, length-take-le, take_all, take-append-le}
 use Rattle.std.proofs.Math.Seq.{drop-append-add}
 use Rattle.luks_vouching.specs.Composed.{bordered, sector, IsComposed}
-use Rattle.luks_vouching.specs.Tried.{HasNoBorder, IsFirstBorder}
+use Rattle.luks_vouching.specs.Tried.{HasNoBorder}
 use Rattle.luks_vouching.proofs.SectorFacts.{composed_own, sector_drop, sector_take}
 
 module _ (front rest : List ℕ) (long : length rest ≡ length front) where
@@ -44,13 +44,13 @@ module _ (front rest : List ℕ) (long : length rest ≡ length front) where
   bordered_composed n = elim (cases_lt (length front) (512 * n)) [
     | inl past ↦ subst (IsComposed front rest) (sym (border_all n (omega (arith, past)))) (composed_own front rest long)
     | inr within ↦ record {
-        as_first = length-bordered n within;
-        as_second = length-bordered n within ∙ sym long;
-        each = λ k lt. elim (cases_lt k n) [
-          | inl below ↦ inl (before_border n k within below)
-          | inr behind ↦ inr (behind_border n k within behind)
-        ];
-      }
+      as_first = length-bordered n within;
+      as_second = length-bordered n within ∙ sym long;
+      each = λ k lt. elim (cases_lt k n) [
+        | inl below ↦ inl (before_border n k within below)
+        | inr behind ↦ inr (behind_border n k within behind)
+      ];
+    }
   ]
 
   -- where none of the borders up to the end meets the checksum none does

@@ -1,16 +1,17 @@
 -- There is one first composition, and it is one of those that are tried.
-use Rattle.std.proofs.Common.{◌≡◌, ℕ, ◌+◌, ◌-◌, ◌*◌, ◌<◌, ◌≤◌, List, ◌++◌, ◌⊎◌, inl, inr, length, take, drop, refl, sym, ap, ◌∙◌, arith, subst}
+use Rattle.std.proofs.Common.{◌≡◌, ℕ, ◌+◌, ◌-◌, ◌*◌, ◌≤◌, List, ◌++◌, inl, inr, length, drop, sym, ap, ◌∙◌, arith, subst}
 use Rattle.std.proofs.lemmas.Bool.{cases_lt}
 use Rattle.std.proofs.lemmas.List.{take-append-drop}
 use Rattle.luks_area.specs.Ranges.{part}
-use Rattle.luks_area.specs.RangeFacts.{length-part_inside, part-add, part-part}
-use Rattle.luks_head.specs.Header2.{copy_at, hdr_size, header_at, magic_of, with_zero_checksum, IsSound}
+use Rattle.luks_area.specs.RangeFacts.{length-part_inside, part-add}
+use Rattle.luks_head.specs.Header2.{copy_at, hdr_size, header_at, with_zero_checksum, IsSound}
+use Rattle.luks_head.proofs.BinaryHeaderFacts.{zeroed_then}
 use Rattle.luks_head.proofs.CopyFacts.{listed_at_least}
 use Rattle.sha2.specs.Sha256.{sha256}
 use Rattle.luks_meta.specs.MetaFault.{IsMetaFault}
 use Rattle.luks_vouching.specs.Composed.{bordered, differing, sector, IsComposed, IsEarlier, IsNotLater}
-use Rattle.luks_vouching.specs.Tried.{most_differing, HasNoBorder, IsByBorder, IsFirstBorder, IsFirstOfAll, IsFirstOfBorders, IsFirstTried, IsNoneTried, IsTried}
-use Rattle.luks_vouching.specs.Vouched.{area_at, mended_header, ComposesNone, HasFault, IsMeeting, IsVouched, Meets, MeetsSum, Stands, VouchesForNone}
+use Rattle.luks_vouching.specs.Tried.{most_differing, HasNoBorder, IsByBorder, IsFirstBorder, IsFirstOfAll, IsFirstOfBorders, IsFirstTried, IsTried}
+use Rattle.luks_vouching.specs.Vouched.{area_at, mended_header, IsVouched, Meets, Stands, VouchesForNone}
 use Rattle.luks_vouching.proofs.BorderFacts.{bordered_composed}
 use Rattle.luks_vouching.proofs.SectorFacts.{sector_take}
 
@@ -34,7 +35,7 @@ one_order a i j (inr x) (inl same) = sym same
 one_order a i j (inr x) (inr y) = absurd (not_both a i j x y)
 
 one_of_all : (a b i j : List ℕ) (meets : List ℕ → Type 0) → IsFirstOfAll a b meets i → IsFirstOfAll a b meets j → i ≡ j
-one_of_all a b i j meets x y = one_order a i j (x.first j y.composed y.met) (y.first i x.composed x.met)
+one_of_all a b i j meets x y = one_order a i j (x.earliest j y.composed y.met) (y.earliest i x.composed x.met)
 
 one_border : (a b i j : List ℕ) (meets : List ℕ → Type 0) → IsFirstBorder a b meets i → IsFirstBorder a b meets j → i ≡ j
 one_border a b i j meets x y =
@@ -131,5 +132,7 @@ sound_meets v o x =
     let mended : mended_header v o ≡ header_at v o = ap (λ l. l ++ drop 6 (header_at v o)) (sym x.form.magic) ∙ take-append-drop 6 (header_at v o) in
     let n : size ≡ 4096 + (size - 4096) = omega (arith, large) in
     let whole : copy_at v o ≡ header_at v o ++ area_at v o size = ap (part v o) n ∙ part-add v o 4096 (size - 4096) in
-    ap (λ h. part h 448 32) mended ∙ x.checksum ∙ ap (λ l. sha256 (with_zero_checksum l)) whole
-    ∙ ap (λ h. sha256 (with_zero_checksum (h ++ area_at v o size))) (sym mended)
+    let long : length (header_at v o) ≡ 4096 = let inside = x.form.inside in length-part_inside v o 4096 (omega (arith, large, inside)) in
+    ap (λ h. part h 448 32) mended ∙ x.checksum
+    ∙ ap sha256 (ap with_zero_checksum whole ∙ zeroed_then (header_at v o) (area_at v o size) long)
+    ∙ ap (λ h. sha256 (with_zero_checksum h ++ area_at v o size)) (sym mended)

@@ -1,9 +1,11 @@
 -- The search through all compositions: what its branches answer.
-use Rattle.std.proofs.Common.{◌≡◌, ℕ, ◌+◌, ◌-◌, ◌*◌, ◌<◌, ◌≤◌, List, ◌++◌, ◌⊎◌, inl, inr, length, take, drop, refl, sym, ap, ◌∙◌, arith, subst, append_assoc, length-append, length-drop}
+use Rattle.std.proofs.Common.{◌≡◌, ℕ, ◌+◌, ◌-◌, ◌*◌, ◌<◌, ◌≤◌, List, [], ◌++◌, ◌⊎◌, inl, inr, length, take, drop, refl, sym, ap, ◌∙◌, arith, subst, append_assoc, length-append, length-drop}
 use Rattle.std.proofs.lemmas.Bool.{cases_lt}
-use Rattle.std.proofs.lemmas.List.{length-take-le}
+use Rattle.std.proofs.lemmas.List.{append-nil, drop_all, drop-append-le, length-take-le, take-append-le, take_rest}
+use Rattle.std.proofs.Math.Seq.{drop-append_seam}
+use borrow.Rule.Slice.PartMut.{put_mid}
 use Rattle.sha2.specs.Sha256.{sha256}
-use Rattle.luks_vouching.specs.Composed.{sector, IsComposed, IsNotLater}
+use Rattle.luks_vouching.specs.Composed.{sector, IsComposed}
 use Rattle.luks_vouching.specs.Tried.{IsFirstOfAll}
 use Rattle.luks_vouching.proofs.SectorFacts.{composed_alike, composed_front, composed_own, composed_rest, next_front, not_later_rest, sector_drop, sector_take, three_parts}
 
@@ -86,16 +88,16 @@ module _ (a b sum done : List ℕ) (m : ℕ) (long : length b ≡ length a) (ins
   found_first whole size differ begins found = record {
     composed = joined (sector a m) whole size (inl refl) begins found.composed;
     met = meets_whole (sector a m) whole begins found.met;
-    first = λ other composed met. elim (goes_on other composed) [
+    earliest = λ other composed met. elim (goes_on other composed) [
       | inl own ↦
           not_later_rest a whole other (m + 1) (same_begin (sector a m) whole other begins own)
-          (found.first (rest other) (composed_rest a b other composed (m + 1)) (meets_rest (sector a m) other own met))
+          (found.earliest (rest other) (composed_rest a b other composed (m + 1)) (meets_rest (sector a m) other own met))
       | inr second ↦ inr (record {
-          number = m;
-          alike = begins.front ∙ sym second.front;
-          own = begins.next;
-          differs = λ is. differ (sym is ∙ second.next);
-        })
+        number = m;
+        alike = begins.front ∙ sym second.front;
+        own = begins.next;
+        differs = λ is. differ (sym is ∙ second.next);
+      })
     ];
   }
 
@@ -107,11 +109,11 @@ module _ (a b sum done : List ℕ) (m : ℕ) (long : length b ≡ length a) (ins
   found_second whole size none begins found = record {
     composed = joined (sector b m) whole size (inr refl) begins found.composed;
     met = meets_whole (sector b m) whole begins found.met;
-    first = λ other composed met. elim (goes_on other composed) [
+    earliest = λ other composed met. elim (goes_on other composed) [
       | inl own ↦ absurd (none (rest other) (composed_rest a b other composed (m + 1)) (meets_rest (sector a m) other own met))
       | inr second ↦
           not_later_rest a whole other (m + 1) (same_begin (sector b m) whole other begins second)
-          (found.first (rest other) (composed_rest a b other composed (m + 1)) (meets_rest (sector b m) other second met))
+          (found.earliest (rest other) (composed_rest a b other composed (m + 1)) (meets_rest (sector b m) other second met))
     ];
   }
 
@@ -129,8 +131,77 @@ pub only_found : (a b : List ℕ) (meets : List ℕ → Type 0) → a ≡ b → 
 only_found a b meets same met = record {
   composed = composed_own a b (ap length (sym same));
   met = met;
-  first = λ other composed other_met. inl (sym (composed_alike a b other same composed));
+  earliest = λ other composed other_met. inl (sym (composed_alike a b other same composed));
 }
 
 pub only_none : (a b : List ℕ) (meets : List ℕ → Type 0) → a ≡ b → (meets a → ⊥) → (j : List ℕ) → IsComposed a b j → meets j → ⊥
 only_none a b meets same none j composed met = none (subst meets (composed_alike a b j same composed) met)
+
+-- ---- the same of the lists as the code cuts them
+
+-- the front, the next sector and the rest
+pub front_cut : (a : List ℕ) (m : ℕ) → take (m * 512) a ≡ take (512 * m) a
+front_cut a m = let n : m * 512 ≡ 512 * m = omega arith in ap (λ k. take k a) n
+
+pub next_cut : (a : List ℕ) (m : ℕ) → take (m * 512 + 512 - m * 512) (drop (m * 512) a) ≡ sector a m
+next_cut a m =
+    let size : m * 512 + 512 - m * 512 ≡ 512 = omega arith in
+    let at : m * 512 ≡ 512 * m = omega arith in
+    ap (λ n. take n (drop (m * 512) a)) size ∙ ap (λ p. take 512 (drop p a)) at
+
+pub rest_cut : (a : List ℕ) (m : ℕ) → take (length a - (m * 512 + 512)) (drop (m * 512 + 512) a) ≡ drop (512 * (m + 1)) a
+rest_cut a m =
+    let at : m * 512 + 512 ≡ 512 * (m + 1) = omega arith in
+    take_rest a (m * 512 + 512) ∙ ap (λ n. drop n a) at
+
+-- what the recursion found, and what is put before it
+pub put_before : (json found front : List ℕ) (n : ℕ) → length front ≡ n → n ≤ length json
+    → front ++ drop (length front) (put_mid n (length json - n) json found) ≡ front ++ found
+put_before json found front n long inside =
+    let before : length (take n json) ≡ n = length-take-le n json inside in
+    let left : length (drop n json) ≡ length json - n = length-drop n json in
+    let none : drop (length json - n) (drop n json) ≡ [] = drop_all (length json - n) (drop n json) (omega (arith, left)) in
+    ap (λ l. front ++ l) (
+    ap (λ k. drop k (put_mid n (length json - n) json found)) (long ∙ sym before)
+    ∙ drop-append_seam (take n json) (found ++ drop (length json - n) (drop n json))
+    ∙ ap (λ l. found ++ l) none ∙ append-nil found)
+
+-- what is put behind a place leaves that place inside
+pub put_inside : (json found : List ℕ) (n k : ℕ) → n ≤ length json → n ≤ length (put_mid n k json found)
+put_inside json found n k inside =
+    let before : length (take n json) ≡ n = length-take-le n json inside in
+    let all : length (put_mid n k json found) ≡ length (take n json) + length (found ++ drop k (drop n json)) = length-append (take n json) (found ++ drop k (drop n json)) in
+    omega (arith, before, all)
+
+module _ (front found whole : List ℕ) (m : ℕ) (long : length front ≡ 512 * (m + 1)) (is : whole ≡ front ++ found) where
+  pub whole_front : take (512 * m) whole ≡ take (512 * m) front
+  whole_front = ap (take (512 * m)) is ∙ take-append-le (512 * m) front found (omega (arith, long))
+
+  pub whole_next : sector whole m ≡ sector front m
+  whole_next =
+      let left : length (drop (512 * m) front) ≡ length front - 512 * m = length-drop (512 * m) front in
+      ap (λ l. sector l m) is ∙ ap (take 512) (drop-append-le (512 * m) front found (omega (arith, long)))
+      ∙ take-append-le 512 (drop (512 * m) front) found (omega (arith, left, long))
+
+  pub whole_rest : drop (512 * (m + 1)) whole ≡ found
+  whole_rest = ap (drop (512 * (m + 1))) is ∙ ap (λ n. drop n (front ++ found)) (sym long) ∙ drop-append_seam front found
+
+  pub whole_inside : 512 * (m + 1) ≤ length whole
+  whole_inside = let all : length whole ≡ length front + length found = ap length is ∙ length-append front found in omega (arith, all, long)
+
+-- of two lists the rests behind one place are of one length, and so they are
+pub same_long : (a whole : List ℕ) (n : ℕ) → n ≤ length a → n ≤ length whole → length (drop n whole) ≡ length (drop n a) → length whole ≡ length a
+same_long a whole n inside within same =
+    let left : length (drop n a) ≡ length a - n = length-drop n a in
+    let right : length (drop n whole) ≡ length whole - n = length-drop n whole in
+    omega (arith, inside, within, same, left, right)
+
+-- of equal lists
+pub moved : (a c b d sum done i j : List ℕ) → a ≡ c → b ≡ d → i ≡ j → IsFirstOfAll a b (MeetsAfter sum done) i → IsFirstOfAll c d (MeetsAfter sum done) j
+moved a c b d sum done i j p q r x =
+    subst (λ l. IsFirstOfAll c d (MeetsAfter sum done) l) r (subst (λ l. IsFirstOfAll c l (MeetsAfter sum done) i) q (subst (λ l. IsFirstOfAll l b (MeetsAfter sum done) i) p x))
+
+pub moved_none : (a c b d sum done : List ℕ) → a ≡ c → b ≡ d → ((j : List ℕ) → IsComposed a b j → MeetsAfter sum done j → ⊥)
+    → (j : List ℕ) → IsComposed c d j → MeetsAfter sum done j → ⊥
+moved_none a c b d sum done p q none j composed met =
+    none j (subst (λ l. IsComposed l b j) (sym p) (subst (λ l. IsComposed c l j) (sym q) composed)) met

@@ -1,13 +1,15 @@
 -- The sectors of areas and of their compositions.
-use Rattle.std.proofs.Common.{◌≡◌, ℕ, ◌+◌, ◌-◌, ◌*◌, ◌/◌, ◌%◌, ◌<◌, ◌≤◌, List, ◌++◌, ◌⊎◌, inl, inr, length, take, drop, get_or, refl, sym, ap, ◌∙◌, arith, subst, length-append, length-drop}
-use Rattle.std.proofs.lemmas.List.{drop-drop, length-take, length-take-le, take-take, take-append-drop, take_all, take-append-le}
-use Rattle.std.proofs.lemmas.Bool.{cases_lt}
+use Rattle.std.proofs.Common.{◌≡◌, ℕ, ◌+◌, ◌-◌, ◌*◌, ◌/◌, ◌%◌, ◌<◌, ◌≤◌, List, ◌++◌, inl, inr, length, take, drop, get_or, not, Bool, true, false, refl, sym, ap, ◌∙◌, arith, length-drop}
+use Rattle.std.proofs.lemmas.List.{drop-drop, length-take-le, take-append-drop}
+use Rattle.std.specs.Str.{bytes_eq}
+use Rattle.std.proofs.lemmas.Bool.{false≢true}
+use Rattle.std.proofs.lemmas.Slice.Eq.{bytes_eq-Decides}
 use Rattle.std.proofs.lemmas.Grind.{same_number_lists}
 use Rattle.std.proofs.Math.Nat.{div-add-mod, mod-lt}
 use Rattle.std.proofs.Math.Seq.{take-add}
 use Rattle.luks_area.specs.Ranges.{part}
 use Rattle.luks_area.specs.RangeFacts.{get_or-part, part-part}
-use Rattle.luks_vouching.specs.Composed.{sector, IsComposed, IsEarlier, IsNotLater}
+use Rattle.luks_vouching.specs.Composed.{sector, IsComposed, IsNotLater}
 
 -- the sectors of what follows the first m
 pub sector_drop : (a : List ℕ) (m k : ℕ) → sector (drop (512 * m) a) k ≡ sector a (m + k)
@@ -39,6 +41,22 @@ next_front a m =
 
 pub three_parts : (a : List ℕ) (m : ℕ) → a ≡ (take (512 * m) a ++ sector a m) ++ drop (512 * (m + 1)) a
 three_parts a m = sym (take-append-drop (512 * (m + 1)) a) ∙ ap (λ l. l ++ drop (512 * (m + 1)) a) (next_front a m)
+
+not_false : (r : Bool) → not r ≡ false → r ≡ true
+not_false true e = refl
+not_false false e = absurd (false≢true (sym e))
+
+-- where the test of a sector fails both areas have the same
+pub next_alike : (a b : List ℕ) (m : ℕ) → take (512 * m) a ≡ take (512 * m) b → not (bytes_eq (sector a m) (sector b m)) ≡ false
+    → take (512 * (m + 1)) a ≡ take (512 * (m + 1)) b
+next_alike a b m alike same =
+    let next : sector a m ≡ sector b m = (bytes_eq-Decides (sector a m) (sector b m)).0 (not_false (bytes_eq (sector a m) (sector b m)) same) in
+    next_front a m ∙ ap (λ l. l ++ sector a m) alike ∙ ap (λ l. take (512 * m) b ++ l) next ∙ sym (next_front b m)
+
+pub sectors_differ : (a b : List ℕ) (m : ℕ) → not (bytes_eq (sector a m) (sector b m)) ≡ true → sector a m ≡ sector b m → ⊥
+sectors_differ a b m differ same =
+    let is : bytes_eq (sector a m) (sector b m) ≡ true = (bytes_eq-Decides (sector a m) (sector b m)).1 same in
+    false≢true (sym (ap not is) ∙ differ)
 
 module _ (a b j : List ℕ) (composed : IsComposed a b j) where
   -- what follows the first m sectors of a composition is one

@@ -1,5 +1,5 @@
 -- A JSON area that is composed, sector by sector, of those of the two copies of one header.
-use Rattle.std.specs.Prelude.{◌≡◌, ℕ, ◌+◌, ◌*◌, ◌/◌, ◌<◌, ◌≤◌, List, ◌++◌, ◌⊎◌, length, take, drop, not}
+use Rattle.std.specs.Prelude.{◌≡◌, ℕ, ◌*◌, ◌/◌, ◌<◌, List, ◌++◌, ◌⊎◌, length, take, drop, not}
 use Rattle.std.specs.List.{count_by, range_with_len}
 use Rattle.std.specs.Str.{bytes_eq}
 use Rattle.luks_area.specs.Ranges.{part}

@@ -21,7 +21,7 @@ pub record IsTried (first second j : List ℕ) : Type 0 where
 pub record IsFirstOfAll (first second : List ℕ) (meets : List ℕ → Type 0) (j : List ℕ) : Type 0 where
   pub composed : IsComposed first second j
   pub met : meets j
-  pub first : (other : List ℕ) → IsComposed first second other → meets other → IsNotLater first j other
+  pub earliest : (other : List ℕ) → IsComposed first second other → meets other → IsNotLater first j other
 
 -- of those by one border, with the front of one area, the one with the shortest front
 pub record IsFirstBorder (front rest : List ℕ) (meets : List ℕ → Type 0) (j : List ℕ) : Type 0 where

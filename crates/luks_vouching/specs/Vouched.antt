@@ -28,10 +28,10 @@ pub record Stands (v : List ℕ) (size o : ℕ) : Type 0 where
   pub form : IsFormed (mended_header v o) o (length v)
   pub own_size : hdr_size (mended_header v o) ≡ size
 
--- the checksum of the binary header `head` is the SHA-256 of that header and of the JSON area `j`, the
--- bytes of the checksum taken as zeros
+-- the checksum of the binary header `head` is the SHA-256 of that header, the bytes of the checksum
+-- taken as zeros, and of the JSON area `j` behind it
 abbrev pub MeetsSum : List ℕ → List ℕ → Type 0
-MeetsSum head j = part head csum_at sha256_size ≡ sha256 (with_zero_checksum (head ++ j))
+MeetsSum head j = part head csum_at sha256_size ≡ sha256 (with_zero_checksum head ++ j)
 
 -- `j` meets the checksum of the copy at `o`, taken with the magic of its place
 abbrev pub Meets : List ℕ → ℕ → List ℕ → Type 0
@@ -71,6 +71,11 @@ FindsComposed head first second (Some w) =
     IsFirstTried first second (MeetsSum head) w.json.items
     × ((f : MetaFault) → IsMetaFault w.json.items f → ⊥)
     × HoldsBin2 head w.header
+
+-- what is judged of one JSON area
+abbrev pub JudgesArea : List ℕ → List ℕ → Option Vouched → Type 0
+JudgesArea head j None = (f : MetaFault) × IsMetaFault j f
+JudgesArea head j (Some w) = ((f : MetaFault) → IsMetaFault j f → ⊥) × HoldsBin2 head w.header
 
 -- what is found for the copy
 abbrev pub FindsVouched : List ℕ → ℕ → ℕ → Option Vouched → Type 0

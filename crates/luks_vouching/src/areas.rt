@@ -1,5 +1,6 @@
 //! The sectors of two JSON areas, compared.
-ghost use Rattle.std.specs.Prelude.{◌≡◌, ◌+◌, ◌*◌, ◌/◌, ◌<◌, ◌≤◌, length, take};
+ghost use Rattle.std.specs.Prelude.{◌≡◌, ◌+◌, ◌*◌, ◌/◌, ◌<◌, ◌≤◌, length, not, take};
+ghost use Rattle.std.specs.Str.{bytes_eq};
 ghost use Rattle.luks_area.specs.Ranges.{part};
 ghost use Rattle.luks_vouching.specs.Composed.{differing, sector, IsWholeSectors};
 
@@ -14,11 +15,20 @@ pub(crate) fn differing(first: &[u8], second: &[u8]) -> usize
 {
     let mut count = 0;
     for k in 0..first.len() / SECTOR {
-        if sector(first, k) != sector(second, k) {
+        if differ(first, second, k) {
             count += 1;
         }
     }
     count
+}
+
+/// Whether the two areas differ in the sector `k`.
+fn differ(first: &[u8], second: &[u8], k: usize) -> bool
+    requires inside { 512 * k + 512 ≤ length first.now }
+    requires long { length second.now ≡ length first.now }
+    ensures { result ≡ not (bytes_eq (sector first.now k) (sector second.now k)) }
+{
+    sector(first, k) != sector(second, k)
 }
 
 /// The sector `k` of an area.
@@ -40,7 +50,7 @@ pub(crate) fn alike(first: &[u8], second: &[u8]) -> usize
 {
     let count = first.len() / SECTOR;
     for k in 0..count {
-        if sector(first, k) != sector(second, k) {
+        if differ(first, second, k) {
             return k;
         }
     }

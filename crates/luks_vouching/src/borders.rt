@@ -11,12 +11,7 @@ use sha2::{Digest, Sha256};
 
 /// The least number of sectors of the front that, with the rest of the other area, meet the checksum,
 /// by a hasher that was fed what stands before them. For each number the rest is hashed once more.
-pub(crate) fn least_border(
-    front: &[u8],
-    rest: &[u8],
-    hasher: &Sha256,
-    sum: &[u8],
-) -> Option<usize>
+pub(crate) fn least_border(front: &[u8], rest: &[u8], hasher: &Sha256, sum: &[u8]) -> Option<usize>
     requires whole { IsWholeSectors front.now }
     requires long { length rest.now ≡ length front.now }
     ensures inside { IfSome result (λ n. 512 * n ≤ length front.now) }
@@ -36,5 +31,9 @@ pub(crate) fn least_border(
         }
         begun.update(&front[at..at + SECTOR]);
     }
-    if is_sum(begun, sum) { Some(count) } else { None }
+    if is_sum(begun, sum) {
+        Some(count)
+    } else {
+        None
+    }
 }

@@ -1,5 +1,5 @@
 //! All compositions of two JSON areas, tried by a checksum.
-ghost use Rattle.std.specs.Prelude.{◌≡◌, ◌++◌, ◌*◌, ◌<◌, ◌≤◌, ℕ, List, length, true, false};
+ghost use Rattle.std.specs.Prelude.{◌≡◌, ◌++◌, ◌*◌, ◌<◌, ◌≤◌, ℕ, List, drop, length, true, false};
 ghost use Rattle.sha2.specs.Hashers.{Holds256};
 ghost use Rattle.sha2.specs.Sha256.{sha256};
 ghost use Rattle.luks_vouching.specs.Composed.{IsComposed, IsWholeSectors};
@@ -29,20 +29,41 @@ pub(crate) fn search(
         → (j : List ℕ) → IsComposed first.now second.now j → sum.now ≡ sha256 (done ++ j) → ⊥ }
 {
     let at = alike(first, second) * SECTOR;
-    json[..at].copy_from_slice(&first[..at]);
     hasher.update(&first[..at]);
     if at == first.len() {
+        json.copy_from_slice(first);
         return is_sum(hasher, sum);
     }
     let after = at + SECTOR;
-    json[at..after].copy_from_slice(&first[at..after]);
     let own = fed(&hasher, &first[at..after]);
-    if search(&first[after..], &second[after..], &mut json[after..], own, sum) {
+    if search(
+        &first[after..],
+        &second[after..],
+        &mut json[after..],
+        own,
+        sum,
+    ) {
+        put_front(json, &first[..after]);
         return true;
     }
-    json[at..after].copy_from_slice(&second[at..after]);
     let other = fed(&hasher, &second[at..after]);
-    search(&first[after..], &second[after..], &mut json[after..], other, sum)
+    let found = search(
+        &first[after..],
+        &second[after..],
+        &mut json[after..],
+        other,
+        sum,
+    );
+    put_front(json, &second[..after]);
+    found
+}
+
+/// Puts these bytes over the first ones.
+fn put_front(json: &mut [u8], front: &[u8])
+    requires { length front.now ≤ length json.old }
+    ensures { json.new ≡ front.now ++ drop (length front.now) json.old }
+{
+    json[..front.len()].copy_from_slice(front);
 }
 
 /// Whether the hasher's digest is the checksum.

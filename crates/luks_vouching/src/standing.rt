@@ -1,8 +1,9 @@
 //! Whether a binary header stands, but for its magic.
-ghost use Rattle.std.specs.Prelude.{◌≡◌, ◌↔◌, ◌+◌, ◌*◌, ◌^◌, ◌<◌, ◌≤◌, ◌⊎◌, ◌++◌, codes, drop, length, IsTrue};
+ghost use Rattle.std.specs.Prelude.{◌≡◌, ◌↔◌, ◌+◌, ◌≤◌, ◌⊎◌, ◌++◌, ℕ, List, codes, drop, length, IsTrue};
 ghost use Rattle.sha2.specs.Hashers.{Holds256};
+ghost use Rattle.luks_area.specs.Ranges.{part};
 ghost use Rattle.luks_area.specs.Text.{text_of};
-ghost use Rattle.luks_head.specs.Header2.{binary_header_size, csum_alg_field, hdr_size, magic_of, with_zero_checksum, IsFormed};
+ghost use Rattle.luks_head.specs.Header2.{binary_header_size, csum_at, hdr_size, magic_of, sha256_size, with_zero_checksum, IsFormed};
 ghost use Rattle.luks_head.specs.Sizes.{IsListed};
 
 use luks_area::text_field;
@@ -46,10 +47,7 @@ pub(crate) fn is_standing(head: &[u8], size: u64, at: u64, total: u64) -> bool
     ensures { IsTrue result ↔ (IsFormed head.now at total × (hdr_size head.now ≡ size)) }
 {
     let header = Bin2::read(head);
-    header.version == 2
-        && header.hdr_size == size
-        && header.hdr_offset == at
-        && has_sha256(&header)
+    header.version == 2 && header.hdr_size == size && header.hdr_offset == at && has_sha256(&header)
 }
 
 /// Whether the checksum is said to be a SHA-256.

@@ -1,13 +1,12 @@
 //! What the checksum of a copy's binary header vouches for.
-ghost use Rattle.std.specs.Prelude.{◌≡◌, ◌≢◌, ◌+◌, ◌-◌, ◌*◌, ◌^◌, ◌<◌, ◌≤◌, ◌⊎◌, ◌++◌, length, IfOk, IfErr, IfSome};
-ghost use Rattle.luks_area.specs.Device.{CountsFailure, IsUnchanged, is_failure};
-ghost use Rattle.luks_head.specs.Header2.{header_at};
+ghost use Rattle.std.specs.Prelude.{◌≡◌, ◌≢◌, ◌↔◌, ◌+◌, ◌-◌, ◌*◌, ◌^◌, ◌<◌, ◌≤◌, ◌⊎◌, ◌++◌, length, IfOk, IfErr, IfSome, IsTrue, OnOk};
+ghost use Rattle.luks_area.specs.Device.{CountsFailure, IsUnchanged};
 ghost use Rattle.luks_head.specs.Sizes.{IsListed};
 ghost use Rattle.luks_vouching.specs.Faults.{is_vouch_failure, IsMemoryWhereStands};
 ghost use Rattle.luks_meta.specs.Accepted.{IsMeta};
 ghost use Rattle.luks_meta.specs.Content.{content};
 ghost use Rattle.luks_vouching.specs.Composed.{IsWholeSectors};
-ghost use Rattle.luks_vouching.specs.Vouched.{area_at, FindsComposed, FindsVouched, IsVouchedWithin};
+ghost use Rattle.luks_vouching.specs.Vouched.{area_at, FindsComposed, FindsVouched, IsVouchedWithin, JudgesArea};
 
 use crate::composing::compose;
 use crate::standing::{HEADER, hasher_of, is_standing, mend, sum_of};
@@ -52,7 +51,7 @@ pub fn find_vouched<D: Device>(
     ensures refused { D.tells → IfErr result (IsMemoryWhereStands (D.bytes source.old) size at) }
 {
     let total = source.len();
-    if size > total || size > total - size {
+    if !are_both_inside(size, total) {
         return Ok(None);
     }
     let mut head = [0; HEADER];
@@ -61,9 +60,38 @@ pub fn find_vouched<D: Device>(
     if !is_standing(&head, size, at, total) {
         return Ok(None);
     }
+    vouched_by(alloc, source, size, &head)
+}
+
+/// Whether both copies of a header of `size` bytes lie inside a device of `total`. No sum is made.
+fn are_both_inside(size: u64, total: u64) -> bool
+    ensures { IsTrue result ↔ (2 * size ≤ total) }
+{
+    size <= total && size <= total - size
+}
+
+/// The metadata that is composed of both copies' JSON areas and meets the checksum of the binary
+/// header.
+fn vouched_by<D: Device>(
+    alloc: Global,
+    source: &mut D,
+    size: u64,
+    head: &[u8],
+) -> Result<Option<Vouched>, VouchFault>
+    requires listed { IsListed size }
+    requires both { 2 * size ≤ D.size source.old }
+    requires header { length head.now ≡ 4096 }
+    requires room { D.failed source.old + 1 < 2 ^ 64 }
+    ensures unchanged { IsUnchanged D.tells D.size D.bytes D.unsettled source.old source.new }
+    ensures count { CountsFailure is_vouch_failure result
+        (D.failed source.old) (D.failed source.new) }
+    ensures within { IfOk result (λ found. IfSome found (IsVouchedWithin size (D.size source.old))) }
+    ensures found { D.tells → IfOk result (FindsComposed head.now
+        (area_at (D.bytes source.old) 0 size) (area_at (D.bytes source.old) size size)) }
+{
     let first = read_area(alloc, source, size, 0)?;
     let second = read_area(alloc, source, size, size)?;
-    composed(alloc, &head, &first, &second)
+    composed(alloc, head, &first, &second)
 }
 
 /// The bytes of the JSON area of the copy at `at` of a header of `size` bytes.
@@ -88,8 +116,8 @@ fn read_area<D: Device>(
     Ok(json)
 }
 
-/// The metadata that is composed of both copies' JSON areas and meets the checksum of the binary
-/// header. Fails only where memory was refused.
+/// The metadata that is composed of these two JSON areas and meets the checksum of the binary header.
+/// Fails only where memory was refused.
 fn composed(
     alloc: Global,
     head: &[u8],
@@ -110,12 +138,37 @@ fn composed(
     if !compose(first, second, &mut json, hasher_of(head), sum_of(head)) {
         return Ok(None);
     }
+    judged(alloc, head, json)
+}
+
+/// The metadata in this JSON area, if that has no fault. Fails only where memory was refused.
+fn judged(alloc: Global, head: &[u8], json: Vec<u8>) -> Result<Option<Vouched>, VouchFault>
+    requires { length head.now ≡ 4096 }
+    ensures found { IfOk result (JudgesArea head.now json.items) }
+    ensures meta { IfOk result (λ found. IfSome found
+        (λ w. IsMeta w.json.items (content w.meta))) }
+    ensures same { IfOk result (λ found. IfSome found (λ w. w.json.items ≡ json.items)) }
+    ensures refused { IfErr result (λ fault. fault ≡ VouchFault.Memory) }
+{
     match Meta::read(alloc, &json) {
         Ok(meta) => {
             let header = Bin2::read(head);
             Ok(Some(Vouched { header, json, meta }))
         }
-        Err(MetaFault::Memory) => Err(VouchFault::Memory),
-        Err(_) => Ok(None),
+        Err(fault) => {
+            pass_over(fault)?;
+            Ok(None)
+        }
+    }
+}
+
+/// Passes over metadata with this fault, unless memory was refused for reading it.
+fn pass_over(fault: MetaFault) -> Result<(), VouchFault>
+    ensures passed { OnOk result (fault ≢ MetaFault.Memory) }
+    ensures refused { IfErr result (λ f. f ≡ VouchFault.Memory) }
+{
+    match fault {
+        MetaFault::Memory => Err(VouchFault::Memory),
+        _ => Ok(()),
     }
 }
