@@ -1,0 +1,138 @@
+-- There is one first composition, and it is one of those that are tried.
+use Rattle.std.proofs.Common.{◌≡◌, ℕ, ◌+◌, ◌-◌, ◌*◌, ◌≤◌, List, ◌++◌, inl, inr, length, drop, sym, ap, ◌∙◌, arith, subst}
+use Rattle.std.proofs.lemmas.Bool.{cases_lt}
+use Rattle.std.proofs.lemmas.List.{take-append-drop}
+use Rattle.luks_area.specs.Ranges.{part}
+use Rattle.luks_area.specs.RangeFacts.{length-part_inside, part-add}
+use Rattle.luks_head.specs.Header2.{copy_at, hdr_size, header_at, with_zero_checksum, IsSound}
+use Rattle.luks_head.proofs.BinaryHeaderFacts.{zeroed_then}
+use Rattle.luks_head.proofs.CopyFacts.{listed_at_least}
+use Rattle.sha2.specs.Sha256.{sha256}
+use Rattle.luks_meta.specs.MetaFault.{IsMetaFault}
+use Rattle.luks_vouching.specs.Composed.{bordered, differing, sector, IsComposed, IsEarlier, IsNotLater}
+use Rattle.luks_vouching.specs.Tried.{most_differing, HasNoBorder, IsByBorder, IsFirstBorder, IsFirstOfAll, IsFirstOfBorders, IsFirstTried, IsTried}
+use Rattle.luks_vouching.specs.Vouched.{area_at, mended_header, IsVouched, Meets, Stands, VouchesForNone}
+use Rattle.luks_vouching.proofs.BorderFacts.{bordered_composed}
+use Rattle.luks_vouching.proofs.SectorFacts.{sector_take}
+
+-- of two compositions not both are earlier
+not_both : (a i j : List ℕ) → IsEarlier a i j → IsEarlier a j i → ⊥
+not_both a i j x y = elim (cases_lt x.number y.number) [
+  | inl less ↦ x.differs (
+      sym (sector_take j y.number x.number less) ∙ ap (λ l. sector l x.number) y.alike ∙ sector_take i y.number x.number less ∙ x.own)
+  | inr past ↦ elim (cases_lt y.number x.number) [
+    | inl less ↦ y.differs (
+        sym (sector_take i x.number y.number less) ∙ ap (λ l. sector l y.number) x.alike ∙ sector_take j x.number y.number less ∙ y.own)
+    | inr not_past ↦
+        let same : x.number ≡ y.number = omega (arith, past, not_past) in
+        y.differs (ap (sector i) (sym same) ∙ x.own ∙ ap (sector a) same)
+  ]
+]
+
+one_order : (a i j : List ℕ) → IsNotLater a i j → IsNotLater a j i → i ≡ j
+one_order a i j (inl same) y = same
+one_order a i j (inr x) (inl same) = sym same
+one_order a i j (inr x) (inr y) = absurd (not_both a i j x y)
+
+one_of_all : (a b i j : List ℕ) (meets : List ℕ → Type 0) → IsFirstOfAll a b meets i → IsFirstOfAll a b meets j → i ≡ j
+one_of_all a b i j meets x y = one_order a i j (x.earliest j y.composed y.met) (y.earliest i x.composed x.met)
+
+one_border : (a b i j : List ℕ) (meets : List ℕ → Type 0) → IsFirstBorder a b meets i → IsFirstBorder a b meets j → i ≡ j
+one_border a b i j meets x y =
+    let le : x.number ≤ y.number = x.least y.number (subst meets y.is y.met) in
+    let ge : y.number ≤ x.number = y.least x.number (subst meets x.is x.met) in
+    let same : x.number ≡ y.number = omega (arith, le, ge) in
+    x.is ∙ ap (bordered a b) same ∙ sym y.is
+
+no_such : (a b j : List ℕ) (meets : List ℕ → Type 0) → HasNoBorder a b meets → IsFirstBorder a b meets j → ⊥
+no_such a b j meets none x = none x.number (subst meets x.is x.met)
+
+one_of_borders : (a b i j : List ℕ) (meets : List ℕ → Type 0) → IsFirstOfBorders a b meets i → IsFirstOfBorders a b meets j → i ≡ j
+one_of_borders a b i j meets (inl x) (inl y) = one_border a b i j meets x y
+one_of_borders a b i j meets (inl x) (inr y) = absurd (no_such a b i meets y.0 x)
+one_of_borders a b i j meets (inr x) (inl y) = absurd (no_such a b j meets x.0 y)
+one_of_borders a b i j meets (inr x) (inr y) = one_border b a i j meets x.1 y.1
+
+-- one composition is the first
+pub one_tried : (a b i j : List ℕ) (meets : List ℕ → Type 0) → IsFirstTried a b meets i → IsFirstTried a b meets j → i ≡ j
+one_tried a b i j meets x y = elim (cases_lt most_differing (differing a b)) [
+  | inl many ↦ one_of_borders a b i j meets (x.many many) (y.many many)
+  | inr few ↦ one_of_all a b i j meets (x.few few) (y.few few)
+]
+
+swapped : (a b j : List ℕ) → IsComposed b a j → IsComposed a b j
+swapped a b j x = record {
+  as_first = x.as_second;
+  as_second = x.as_first;
+  each = λ k lt. elim (x.each k lt) [ inl other ↦ inr other | inr own ↦ inl own ];
+}
+
+module _ (a b j : List ℕ) (meets : List ℕ → Type 0) (long : length b ≡ length a) where
+  border_composed : IsFirstOfBorders a b meets j → IsComposed a b j
+  border_composed (inl x) = subst (IsComposed a b) (sym x.is) (bordered_composed a b long x.number)
+  border_composed (inr x) = swapped a b j (subst (IsComposed b a) (sym x.1.is) (bordered_composed b a (sym long) x.1.number))
+
+  border_of : IsFirstOfBorders a b meets j → IsByBorder a b j
+  border_of (inl x) = (x.number, inl x.is)
+  border_of (inr x) = (x.1.number, inr x.1.is)
+
+  border_met : IsFirstOfBorders a b meets j → meets j
+  border_met (inl x) = x.met
+  border_met (inr x) = x.1.met
+
+  -- it is tried, and meets the checksum
+  pub first_tried : IsFirstTried a b meets j → IsTried a b j
+  first_tried x = elim (cases_lt most_differing (differing a b)) [
+    | inl many ↦ record { composed = border_composed (x.many many); by_border = λ _. border_of (x.many many) }
+    | inr few ↦ record { composed = (x.few few).composed; by_border = λ many. absurd (omega (arith, few, many)) }
+  ]
+
+  pub first_met : IsFirstTried a b meets j → meets j
+  first_met x = elim (cases_lt most_differing (differing a b)) [
+    | inl many ↦ border_met (x.many many)
+    | inr few ↦ (x.few few).met
+  ]
+
+-- both areas are of one length
+pub areas_long : (v : List ℕ) (size : ℕ) → 4096 ≤ size → 2 * size ≤ length v → length (area_at v size size) ≡ length (area_at v 0 size)
+areas_long v size large inside =
+    length-part_inside v (size + 4096) (size - 4096) (omega (arith, large, inside))
+    ∙ sym (length-part_inside v (0 + 4096) (size - 4096) (omega (arith, large, inside)))
+
+module _ (v : List ℕ) (size o : ℕ) where
+  stands_long : Stands v size o → length (area_at v size size) ≡ length (area_at v 0 size)
+  stands_long x =
+      let large : 16384 ≤ size = listed_at_least size x.listed in
+      areas_long v size (omega (arith, large)) x.both_inside
+
+  pub vouched_tried : (j : List ℕ) → IsVouched v size o j → IsTried (area_at v 0 size) (area_at v size size) j
+  vouched_tried j x = first_tried (area_at v 0 size) (area_at v size size) j (Meets v o) (stands_long x.stands) x.meeting
+
+  pub vouched_composed : (j : List ℕ) → IsVouched v size o j → IsComposed (area_at v 0 size) (area_at v size size) j
+  vouched_composed j x = (vouched_tried j x).composed
+
+  pub vouched_meets : (j : List ℕ) → IsVouched v size o j → Meets v o j
+  vouched_meets j x = first_met (area_at v 0 size) (area_at v size size) j (Meets v o) (stands_long x.stands) x.meeting
+
+  pub vouched_once : (i j : List ℕ) → IsVouched v size o i → IsVouched v size o j → i ≡ j
+  vouched_once i j x y = one_tried (area_at v 0 size) (area_at v size size) i j (Meets v o) x.meeting y.meeting
+
+  pub none_vouched : (j : List ℕ) → VouchesForNone v size o → IsVouched v size o j → ⊥
+  none_vouched j (inl not_there) x = not_there x.stands
+  none_vouched j (inr (inl none)) x = none j (vouched_tried j x) (vouched_meets j x)
+  none_vouched j (inr (inr bad)) x =
+      let same : bad.area ≡ j = one_tried (area_at v 0 size) (area_at v size size) bad.area j (Meets v o) bad.meeting x.meeting in
+      x.faultless bad.fault (subst (λ (l : List ℕ). IsMetaFault l bad.fault) same bad.is)
+
+-- a sound copy has the magic of its place, and its own area meets its checksum
+pub sound_meets : (v : List ℕ) (o : ℕ) → IsSound v o → Meets v o (area_at v o (hdr_size (header_at v o)))
+sound_meets v o x =
+    let size : ℕ = hdr_size (header_at v o) in
+    let large : 16384 ≤ size = listed_at_least size x.form.listed in
+    let mended : mended_header v o ≡ header_at v o = ap (λ l. l ++ drop 6 (header_at v o)) (sym x.form.magic) ∙ take-append-drop 6 (header_at v o) in
+    let n : size ≡ 4096 + (size - 4096) = omega (arith, large) in
+    let whole : copy_at v o ≡ header_at v o ++ area_at v o size = ap (part v o) n ∙ part-add v o 4096 (size - 4096) in
+    let long : length (header_at v o) ≡ 4096 = let inside = x.form.inside in length-part_inside v o 4096 (omega (arith, large, inside)) in
+    ap (λ h. part h 448 32) mended ∙ x.checksum
+    ∙ ap sha256 (ap with_zero_checksum whole ∙ zeroed_then (header_at v o) (area_at v o size) long)
+    ∙ ap (λ h. sha256 (with_zero_checksum h ++ area_at v o size)) (sym mended)

@@ -1,0 +1,5 @@
+pub mod SectorFacts
+pub mod SearchFacts
+pub mod BorderFacts
+pub mod LawFacts
+pub mod FoundFacts

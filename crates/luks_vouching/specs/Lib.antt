@@ -1,0 +1,4 @@
+pub mod Composed
+pub mod Tried
+pub mod Vouched
+pub mod Faults

@@ -1,0 +1,39 @@
+//! The compositions of two JSON areas by one border, tried by a checksum.
+ghost use Rattle.std.specs.Prelude.{◌≡◌, ◌++◌, ◌*◌, ◌+◌, ◌<◌, ◌≤◌, ℕ, List, length, take, drop, IfSome, IsNone, Option, None};
+ghost use Rattle.sha2.specs.Hashers.{Holds256};
+ghost use Rattle.sha2.specs.Sha256.{sha256};
+ghost use Rattle.luks_vouching.specs.Composed.{bordered, IsWholeSectors};
+ghost use Rattle.luks_vouching.specs.Tried.{HasNoBorder};
+
+use crate::areas::SECTOR;
+use crate::search::{fed, is_sum};
+use sha2::{Digest, Sha256};
+
+/// The least number of sectors of the front that, with the rest of the other area, meet the checksum,
+/// by a hasher that was fed what stands before them. For each number the rest is hashed once more.
+pub(crate) fn least_border(front: &[u8], rest: &[u8], hasher: &Sha256, sum: &[u8]) -> Option<usize>
+    requires whole { IsWholeSectors front.now }
+    requires long { length rest.now ≡ length front.now }
+    ensures inside { IfSome result (λ n. 512 * n ≤ length front.now) }
+    ensures met { (done : List ℕ) → Holds256 hasher.now done → IfSome result
+        (λ n. sum.now ≡ sha256 (done ++ bordered front.now rest.now n)) }
+    ensures least { (done : List ℕ) → Holds256 hasher.now done → IfSome result
+        (λ n. (m : ℕ) → sum.now ≡ sha256 (done ++ bordered front.now rest.now m) → n ≤ m) }
+    ensures none { (done : List ℕ) → Holds256 hasher.now done → IsNone result
+        → HasNoBorder front.now rest.now (λ j. sum.now ≡ sha256 (done ++ j)) }
+{
+    let count = front.len() / SECTOR;
+    let mut begun = fed(hasher, &[]);
+    for n in 0..count {
+        let at = n * SECTOR;
+        if is_sum(fed(&begun, &rest[at..]), sum) {
+            return Some(n);
+        }
+        begun.update(&front[at..at + SECTOR]);
+    }
+    if is_sum(begun, sum) {
+        Some(count)
+    } else {
+        None
+    }
+}

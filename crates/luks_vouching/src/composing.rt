@@ -1,0 +1,79 @@
+//! The first composition of two JSON areas that is tried and meets a checksum.
+ghost use Rattle.std.specs.Prelude.{◌≡◌, ◌++◌, ◌*◌, ◌<◌, ◌≤◌, ℕ, List, length, true, false};
+ghost use Rattle.sha2.specs.Hashers.{Holds256};
+ghost use Rattle.sha2.specs.Sha256.{sha256};
+ghost use Rattle.luks_vouching.specs.Composed.{bordered, IsWholeSectors};
+ghost use Rattle.luks_vouching.specs.Tried.{HasNoBorder, IsFirstOfBorders, IsFirstTried, IsNoneTried};
+
+use crate::areas::{SECTOR, differing};
+use crate::borders::least_border;
+use crate::search::search;
+use sha2::Sha256;
+
+/// Where more sectors differ, only compositions by one border are tried.
+const MOST_DIFFERING: usize = 16;
+
+/// Whether a composition that is tried meets the checksum, by a hasher that was fed what stands before
+/// it. Then `json` holds the first one.
+pub(crate) fn compose(
+    first: &[u8],
+    second: &[u8],
+    json: &mut [u8],
+    hasher: Sha256,
+    sum: &[u8],
+) -> bool
+    requires whole { IsWholeSectors first.now }
+    requires long { length second.now ≡ length first.now }
+    requires room { length json.old ≡ length first.now }
+    ensures found { (done : List ℕ) → Holds256 hasher done → result ≡ true
+        → IsFirstTried first.now second.now (λ j. sum.now ≡ sha256 (done ++ j)) json.new }
+    ensures none { (done : List ℕ) → Holds256 hasher done → result ≡ false
+        → IsNoneTried first.now second.now (λ j. sum.now ≡ sha256 (done ++ j)) }
+{
+    if differing(first, second) <= MOST_DIFFERING {
+        search(first, second, json, hasher, sum)
+    } else {
+        compose_by_border(first, second, json, &hasher, sum)
+    }
+}
+
+/// The same, of the compositions by one border alone.
+fn compose_by_border(
+    first: &[u8],
+    second: &[u8],
+    json: &mut [u8],
+    hasher: &Sha256,
+    sum: &[u8],
+) -> bool
+    requires whole { IsWholeSectors first.now }
+    requires long { length second.now ≡ length first.now }
+    requires room { length json.old ≡ length first.now }
+    ensures found { (done : List ℕ) → Holds256 hasher.now done → result ≡ true
+        → IsFirstOfBorders first.now second.now (λ j. sum.now ≡ sha256 (done ++ j)) json.new }
+    ensures none_first { (done : List ℕ) → Holds256 hasher.now done → result ≡ false
+        → HasNoBorder first.now second.now (λ j. sum.now ≡ sha256 (done ++ j)) }
+    ensures none_second { (done : List ℕ) → Holds256 hasher.now done → result ≡ false
+        → HasNoBorder second.now first.now (λ j. sum.now ≡ sha256 (done ++ j)) }
+{
+    if let Some(n) = least_border(first, second, hasher, sum) {
+        join(json, first, second, n);
+        return true;
+    }
+    if let Some(n) = least_border(second, first, hasher, sum) {
+        join(json, second, first, n);
+        return true;
+    }
+    false
+}
+
+/// Puts the first `n` sectors of one area and the rest of the other together.
+fn join(json: &mut [u8], front: &[u8], rest: &[u8], n: usize)
+    requires inside { 512 * n ≤ length front.now }
+    requires long { length rest.now ≡ length front.now }
+    requires room { length json.old ≡ length front.now }
+    ensures { json.new ≡ bordered front.now rest.now n }
+{
+    let at = n * SECTOR;
+    json[..at].copy_from_slice(&front[..at]);
+    json[at..].copy_from_slice(&rest[at..]);
+}

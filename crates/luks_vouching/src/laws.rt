@@ -1,0 +1,30 @@
+//! Laws on the definitions of this crate. Each function does nothing; its contract is the law.
+ghost use Rattle.std.specs.Prelude.{◌≡◌, ℕ, List};
+ghost use Rattle.luks_head.specs.Header2.{hdr_size, header_at, IsSound};
+ghost use Rattle.luks_vouching.specs.Composed.{IsComposed};
+ghost use Rattle.luks_vouching.specs.Tried.{IsTried};
+ghost use Rattle.luks_vouching.specs.Vouched.{area_at, IsVouched, Meets, VouchesForNone};
+
+/// A copy's binary header vouches for one JSON area at most.
+pub fn one_vouched()
+    ensures one { (v : List ℕ) (size o : ℕ) (i j : List ℕ)
+        → IsVouched v size o i → IsVouched v size o j → i ≡ j }
+    ensures none { (v : List ℕ) (size o : ℕ) (j : List ℕ)
+        → VouchesForNone v size o → IsVouched v size o j → ⊥ }
+{}
+
+/// What a binary header vouches for is composed of the sectors of both copies' JSON areas, is one of
+/// the compositions that are tried, and meets the checksum.
+pub fn vouched_is_composed()
+    ensures composed { (v : List ℕ) (size o : ℕ) (j : List ℕ) → IsVouched v size o j
+        → IsComposed (area_at v 0 size) (area_at v size size) j }
+    ensures tried { (v : List ℕ) (size o : ℕ) (j : List ℕ) → IsVouched v size o j
+        → IsTried (area_at v 0 size) (area_at v size size) j }
+    ensures met { (v : List ℕ) (size o : ℕ) (j : List ℕ) → IsVouched v size o j → Meets v o j }
+{}
+
+/// The JSON area of a sound copy meets the copy's checksum.
+pub fn sound_copy_meets()
+    ensures { (v : List ℕ) (o : ℕ) → IsSound v o
+        → Meets v o (area_at v o (hdr_size (header_at v o))) }
+{}

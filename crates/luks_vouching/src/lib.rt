@@ -1,0 +1,16 @@
+#![tactic(auto)]
+//! Metadata of a LUKS2 header that the checksum of a binary header vouches for, though both copies of
+//! the JSON area are damaged: it is composed of the sectors of both.
+
+mod areas;
+mod borders;
+mod composing;
+mod laws;
+mod search;
+mod standing;
+mod vouch_fault;
+mod vouched;
+
+pub use laws::{one_vouched, sound_copy_meets, vouched_is_composed};
+pub use vouch_fault::VouchFault;
+pub use vouched::{Vouched, find_vouched};
