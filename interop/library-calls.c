@@ -111,7 +111,7 @@ static int wrong(int fd)
     uint8_t byte = 0;
     printf("%u %u %u %u\n", luks_check(fd, 0, LUKS_TO_END, false, NULL), luks_unlock(fd, 0, LUKS_TO_END, NULL, 1, 0, NULL, 0, &opened),
            luks_unlock(fd, 0, LUKS_TO_END, &byte, 1, 0, NULL, 1, &opened), luks_check_bytes(&byte, 1, 0, false, &report));
-    printf("%zu %zu %zu\n", luks_fault_name(50, &byte, 0), luks_fault_text(1, 0, &byte, 0), luks_fault_text(1, 5, &byte, 1));
+    printf("%zu %zu %zu\n", luks_fault_name(98, &byte, 0), luks_fault_text(1, 0, &byte, 0), luks_fault_text(1, 5, &byte, 1));
     size_t long_one = (size_t)1 << 32;
     uint8_t *words = mmap(NULL, long_one, PROT_READ, MAP_PRIVATE | MAP_ANONYMOUS | MAP_NORESERVE, -1, 0);
     printf("%u %u\n", luks_unlock_bytes(&byte, 1, 1, words, long_one, 0, &byte, 0, &opened), luks_open_bytes(&byte, 1, 1, 0, words, long_one, 0, &byte, 0, &opened));

@@ -97,6 +97,7 @@ pub(crate) fn number_of(fault: Fault) -> u32
         Fault::DoesNotFit => 47,
         Fault::OtherVolume => 48,
         Fault::OtherUse => 49,
+        Fault::SameSlot => 50,
     }
 }
 
