@@ -1,0 +1,5 @@
+pub mod MeetFacts
+pub mod TextFacts
+pub mod KeptFacts
+pub mod MendedFacts
+pub mod SignFacts
