@@ -3,3 +3,4 @@ pub mod TextFacts
 pub mod KeptFacts
 pub mod MendedFacts
 pub mod SignFacts
+pub mod HeaderFacts

@@ -1,11 +1,12 @@
--- The text of a uuid is printable.
-use Rattle.std.proofs.Common.{◌≡◌, ◌==◌, ℕ, ◌<◌, List, [], ◌∷◌, length, slice_index, suc, true, inl, inr, arith, refl}
+-- The text of a uuid is printable, and a printable text has no zero byte.
+use Rattle.std.proofs.Common.{◌≡◌, ◌==◌, ℕ, ◌<◌, List, [], ◌∷◌, length, take, slice_index, zero, suc, true, false, inl, inr, arith, refl, ap, ◌∙◌}
 use Rattle.std.specs.List.{list_all}
-use Rattle.std.proofs.lemmas.Bool.{and_from, cases_Bool}
+use Rattle.std.proofs.lemmas.Bool.{and_from, and_parts, cases_Bool}
 use Rattle.std.proofs.lemmas.Bool.Decides.{nat_tests}
-use Rattle.luks_area.specs.Text.{is_plain, is_printable}
-use Rattle.luks1_header.specs.Bytes.{is_hexadecimal, is_uuid_byte, IsUuid}
-use Rattle.luks1_header.specs.Bytes.{is_hyphen_place}
+use Rattle.std.proofs.lemmas.List.Sums.{position_or_len_is}
+use Rattle.std.proofs.Math.Seq.{take-length}
+use Rattle.luks_area.specs.Text.{is_plain, is_printable, text_of}
+use Rattle.luks1_header.specs.Bytes.{is_hexadecimal, is_hyphen_place, is_uuid_byte, IsUuid}
 
 -- a digit is
 hexadecimal_printable : (c : ℕ) → is_hexadecimal c ≡ true → is_printable c ≡ true
@@ -31,3 +32,19 @@ printable_at t is k lt =
 
 pub plain : (t : List ℕ) → IsUuid t → is_plain t ≡ true
 plain t is = plain_each t (printable_at t is)
+
+-- each byte of a plain text is printable
+plain_at : (xs : List ℕ) → is_plain xs ≡ true → (k : ℕ) → k < length xs → is_printable (slice_index xs k) ≡ true
+plain_at [] good k lt = absurd (omega (arith, lt))
+plain_at (x ∷ xs) good zero lt = (and_parts (is_printable x) (list_all is_printable xs) good).0
+plain_at (x ∷ xs) good (suc k) lt = plain_at xs (and_parts (is_printable x) (list_all is_printable xs) good).1 k (omega (arith, lt))
+
+-- a printable byte isn't zero
+not_zero : (c : ℕ) → is_printable c ≡ true → (c == 0) ≡ false
+not_zero c good = grind (arith, nat_tests)
+
+-- so a plain text has no zero byte
+pub whole : (xs : List ℕ) → is_plain xs ≡ true → text_of xs ≡ xs
+whole xs good =
+    let none : (k : ℕ) → k < length xs → (slice_index xs k == 0) ≡ false = λ k lt. (let here = plain_at xs good k lt in not_zero (slice_index xs k) here) in
+    ap (λ n. take n xs) (position_or_len_is (λ c. c == 0) xs (length xs) 0 (omega arith) none (λ lt. absurd (omega (arith, lt)))) ∙ take-length xs

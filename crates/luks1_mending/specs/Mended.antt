@@ -65,7 +65,7 @@ pub record IsMended (h : List ℕ) (k total n : ℕ) (s : Luks1Slot) : Type 0 wh
   pub salt : s.salt ≡ replicate 32 0
   pub place : IsNewPlace h k total n s.key_material_offset s.stripes
 
--- what the keyslot `n` becomes
-pub record IsMadeSlot (h : List ℕ) (k total n : ℕ) (s : Luks1Slot) : Type 0 where
-  pub kept : IsKept h k total n → IsEntry (entry h n) s
-  pub mended : (IsKept h k total n → ⊥) → IsMended h k total n s
+-- what the keyslot `n` becomes: it is kept as it is, or mended
+abbrev pub IsMadeSlot : List ℕ → ℕ → ℕ → ℕ → Luks1Slot → Type 0
+IsMadeSlot h k total n s =
+    (IsKept h k total n × IsEntry (entry h n) s) ⊎ ((IsKept h k total n → ⊥) × IsMended h k total n s)

@@ -179,6 +179,7 @@ pub(crate) fn key_bytes(header: &[u8], given: &Given) -> Result<u32, HeadFault>
     requires { length header.now ≡ luks1_size }
     ensures row { JudgesRow head_row head_place (IsFieldFault header.now given.now) 8 result }
     ensures is { IfOk result (λ k. k ≡ taken_key_bytes header.now given.now) }
+    ensures at_least { IfOk result (λ k. 1 ≤ k) }
     ensures at_most { IfOk result (λ k. k ≤ 128) }
 {
     let key_bytes = match given.key_bytes {

@@ -1,8 +1,9 @@
 //! The whole header.
-ghost use Rattle.std.specs.Prelude.{◌≡◌, ◌<◌, length, IfErr, IfOk, OnOk};
+ghost use Rattle.std.specs.Prelude.{◌≡◌, ◌<◌, ◌≤◌, ℕ, List, length, IfErr, IfOk, OnOk};
 ghost use Rattle.luks_area.specs.First.{IsLeast};
 ghost use Rattle.luks1_header.specs.Faults.{head_key};
-ghost use Rattle.luks1_header.specs.Header1.{luks1_size, mk_digest_iterations_of};
+ghost use Rattle.luks1_header.specs.Header1.{luks1_size, mk_digest_iterations_of, IsLuks1};
+ghost use Rattle.luks1_header.specs.Written.{WritesLuks1};
 ghost use Rattle.luks1_header.specs.declared.fault.HeadFault.{HeadFault as TheFault};
 ghost use Rattle.luks1_mending.specs.Judged.{AreTaken};
 ghost use Rattle.luks1_mending.specs.Made.{IsMade, IsMadeCommon};
@@ -24,6 +25,7 @@ use luks1_header::{HeadFault, Luks1, Luks1Common};
 pub fn mended_header(header: &[u8], total: u64, given: &Given) -> Result<Luks1, HeadFault>
     requires { length header.now ≡ luks1_size }
     ensures made { IfOk result (IsMade header.now total given.now) }
+    ensures header { IfOk result (λ d. (b : List ℕ) → WritesLuks1 b d → IsLuks1 b d) }
     ensures fault { IfErr result (IsLeast head_key (IsFieldFault header.now given.now)) }
     ensures faultless { OnOk result ((f : TheFault) → IsFieldFault header.now given.now f → ⊥) }
 {
@@ -47,7 +49,10 @@ fn common_of(
     requires long { length header.now ≡ luks1_size }
     requires texts { AreTaken header.now given.now texts.now }
     requires key { key_bytes ≡ taken_key_bytes header.now given.now }
+    requires key_at_least { 1 ≤ key_bytes }
+    requires key_at_most { key_bytes ≤ 128 }
     requires iterations { iterations ≡ mk_digest_iterations_of header.now }
+    requires iterated { 1 ≤ iterations }
     ensures { IsMadeCommon header.now given.now result }
 {
     Luks1Common {
