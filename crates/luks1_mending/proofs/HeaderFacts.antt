@@ -1,10 +1,9 @@
 -- What is made is a header.
-use Rattle.std.proofs.Common.{◌≡◌, ℕ, ◌<◌, ◌≤◌, List, length, slice_index_or, true, inl, inr, arith, refl, sym, ap, subst, ◌∙◌}
+use Rattle.std.proofs.Common.{◌≡◌, ℕ, ◌≤◌, List, length, slice_index_or, true, inl, inr, arith, refl, sym, ap, subst, ◌∙◌}
 use Rattle.std.proofs.lemmas.Bool.{cases_eq}
 use Rattle.luks_area.specs.Text.{is_plain}
 use Rattle.luks1_header.specs.Bytes.{IsUuid}
-use Rattle.luks1_header.specs.Faults.{IsEntryFault}
-use Rattle.luks1_header.specs.Header1.{active_word, disabled_word, enabled_word, entry, entry_iterations, entry_stripes, field_at, field_len, header_text, key_bytes_of, mk_digest_iterations_of, word_of, HoldsCommon, HoldsEntry, HoldsTexts, IsCommon, IsEntry, IsLuks1}
+use Rattle.luks1_header.specs.Header1.{active_word, disabled_word, entry, header_text, word_of, HoldsCommon, HoldsEntry, HoldsTexts, IsCommon, IsEntry, IsLuks1}
 use Rattle.luks1_header.specs.Written.{common_text, IsWhole, WritesLuks1}
 use Rattle.luks1_header.specs.declared.fault.HeadFault.TheVariants as fault
 use Rattle.luks1_header.specs.declared.fault.TextField.{TextField}
@@ -13,7 +12,6 @@ use Rattle.luks1_header.specs.declared.luks1.Luks1.{Luks1}
 use Rattle.luks1_header.specs.declared.luks1.Luks1Slot.{Luks1Slot}
 use Rattle.luks1_header.proofs.Luks1WritingFacts.{entry_reads_back}
 use Rattle.luks1_mending.specs.Areas.{stripes_of}
-use Rattle.luks1_mending.specs.Kept.{IsKept}
 use Rattle.luks1_mending.specs.Made.{IsMade}
 use Rattle.luks1_mending.specs.Mended.{IsMadeSlot, IsMended, IsNewPlace}
 use Rattle.luks1_mending.specs.Taken.{taken_key_bytes, taken_text, IsUsable}

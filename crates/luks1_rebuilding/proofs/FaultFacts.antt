@@ -1,12 +1,11 @@
 -- The first fault of rebuilding among those that stand, row by row of the table.
 use Rattle.std.proofs.Common.{◌≡◌, ℕ, ◌<◌, ◌≤◌, List, length, inl, inr, refl, sym, subst, arith, false, Result, Ok, Err, IfOk, IfErr, OnOk}
 use Rattle.luks_area.specs.RangeFacts.{length-part}
-use Rattle.luks_area.specs.Area.{Fit, IsAreaFault}
+use Rattle.luks_area.specs.Area.{IsAreaFault}
 use Rattle.luks_area.specs.First.{IsLeast, NotAfter}
 use Rattle.luks_area.specs.declared.area.AreaFault.{AreaFault}
 use Rattle.luks_area.specs.declared.area.AreaFault.TheVariants.{Outside, Overlap}
 use Rattle.luks1_header.specs.Faults.{head_key}
-use Rattle.luks1_header.specs.Header1.{IsLuks1}
 use Rattle.luks1_header.specs.Written.{WritesLuks1}
 use Rattle.luks1_header.specs.declared.fault.HeadFault.{HeadFault}
 use Rattle.luks1_header.specs.declared.fault.HeadFault.TheVariants as head
@@ -15,7 +14,6 @@ use Rattle.luks1_header.specs.declared.fault.TextField.{TextField}
 use Rattle.luks1_header.specs.declared.luks1.Luks1.{Luks1}
 use Rattle.luks1_header.proofs.Luks1FaultFacts.{sound}
 use Rattle.luks1_mending.specs.Made.{IsMade}
-use Rattle.luks1_mending.specs.Signs.{HasSigns}
 use Rattle.luks1_mending.specs.Taken.{IsFieldFault}
 use Rattle.luks1_mending.specs.declared.given.Given.{Given}
 use Rattle.luks1_mending.proofs.HeaderFacts.{made_header}

@@ -1,5 +1,5 @@
 -- The header that is made is well formed, and its kept keyslots give what the source's equations give.
-use Rattle.std.proofs.Common.{◌≡◌, ℕ, ◌+◌, ◌*◌, ◌<◌, ◌≤◌, List, length, Option, Some, None, inl, inr, refl, sym, ap, subst, ◌∙◌, arith, lit≤}
+use Rattle.std.proofs.Common.{◌≡◌, ℕ, ◌*◌, ◌<◌, ◌≤◌, List, length, Option, Some, None, inl, inr, sym, ap, subst, ◌∙◌, arith, lit≤}
 use Rattle.byteorder.specs.Endian.{big_number}
 use Rattle.luks_area.specs.Ranges.{part}
 use Rattle.luks_area.specs.RangeFacts.{length-part, part-part}
@@ -13,13 +13,12 @@ use Rattle.luks1_header.specs.declared.fault.HeadFault.TheVariants as head
 use Rattle.luks1_header.specs.declared.fault.IterationsOf.TheVariants as of
 use Rattle.luks1_header.specs.declared.fault.TextField.{TextField}
 use Rattle.luks1_header.specs.declared.fault.TextField.TheVariants as field
-use Rattle.luks1_header.specs.declared.luks1.Luks1.{Luks1}
 use Rattle.luks1_header.specs.declared.luks1.Luks1Slot.{Luks1Slot}
 use Rattle.luks1_header.proofs.Luks1FaultFacts.{common_sound, entry_sound}
-use Rattle.luks1_mending.specs.Areas.{own_area, sector_of, stripes_area, stripes_of}
+use Rattle.luks1_mending.specs.Areas.{own_area, sector_of, stripes_of}
 use Rattle.luks1_mending.specs.Kept.{IsKept}
 use Rattle.luks1_mending.specs.Mended.{IsMadeSlot}
-use Rattle.luks1_mending.specs.Taken.{taken_key_bytes, taken_text}
+use Rattle.luks1_mending.specs.Taken.{taken_text}
 use Rattle.luks1_mending.specs.declared.given.Given.{Given}
 use Rattle.luks1_mending.proofs.HeaderFacts.{common_held, made_header, text_there}
 use Rattle.luks_head.proofs.ChoiceFacts.{choices_agree}

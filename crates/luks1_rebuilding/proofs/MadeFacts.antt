@@ -1,17 +1,16 @@
 -- The enabled keyslots of the header that is made are those that are kept.
-use Rattle.std.proofs.Common.{◌≡◌, ℕ, ◌+◌, ◌<◌, ◌≤◌, List, slice_index_or, inl, inr, refl, sym, ap, subst, ◌∙◌, arith}
+use Rattle.std.proofs.Common.{◌≡◌, ℕ, ◌+◌, ◌≤◌, List, inl, inr, refl, sym, ap, subst, ◌∙◌, arith}
 use Rattle.luks_area.specs.declared.area.Area.{Area}
 use Rattle.luks_area.specs.declared.area.AreaName.TheVariants as name
 use Rattle.luks_area.specs.Area.{name_number}
 use Rattle.luks1_header.specs.Header1.{active_word, enabled_word, entry, word_of, IsEntry, IsLuks1}
 use Rattle.luks1_header.specs.declared.luks1.Luks1.{Luks1}
-use Rattle.luks1_header.specs.declared.luks1.Luks1Slot.{Luks1Slot}
 use Rattle.luks1_header.specs.declared.luks1.SlotState.{SlotState}
 use Rattle.luks1_header.specs.declared.luks1.SlotState.TheVariants.{Disabled, Enabled}
-use Rattle.luks1_mending.specs.Areas.{own_area, sector_of, stripes_area, stripes_of}
+use Rattle.luks1_mending.specs.Areas.{own_area, sector_of, stripes_area}
 use Rattle.luks1_mending.specs.Kept.{IsKept}
 use Rattle.luks1_mending.specs.Made.{IsMade}
-use Rattle.luks1_mending.specs.Mended.{IsMadeSlot, IsMended}
+use Rattle.luks1_mending.specs.Mended.{IsMadeSlot}
 use Rattle.luks1_mending.specs.Taken.{taken_key_bytes}
 use Rattle.luks1_mending.specs.declared.given.Given.{Given}
 use Rattle.luks_reading.proofs.Luks1AreaFacts.{slot_area_is}

@@ -1,5 +1,5 @@
 -- What is made has one set of areas.
-use Rattle.std.proofs.Common.{◌≡◌, ℕ, ◌+◌, ◌*◌, ◌<◌, List, inl, inr, refl, sym, ap, subst, ◌∙◌, arith}
+use Rattle.std.proofs.Common.{◌≡◌, ℕ, ◌*◌, ◌<◌, List, inl, inr, sym, ap, subst, ◌∙◌, arith}
 use Rattle.luks_area.specs.Area.{IsAreaFault}
 use Rattle.luks_area.specs.Sectors.{rounded_to_sectors}
 use Rattle.luks_area.specs.declared.area.Area.{Area}
@@ -7,7 +7,6 @@ use Rattle.luks_area.specs.declared.area.AreaFault.{AreaFault}
 use Rattle.luks_area.specs.declared.area.AreaFault.TheVariants.{Outside, Overlap}
 use Rattle.luks_area.specs.declared.area.AreaName.{AreaName}
 use Rattle.luks_area.specs.declared.area.AreaName.TheVariants.{Head1, Head2, Slot, Segment}
-use Rattle.luks1_header.specs.Bytes.{number_at}
 use Rattle.luks1_header.specs.Header1.{entry, entry_key_material_offset, entry_stripes, key_bytes_of}
 use Rattle.luks1_header.specs.Written.{WritesLuks1}
 use Rattle.luks1_header.specs.declared.luks1.Luks1.{Luks1}

@@ -1,7 +1,7 @@
 -- What has been judged on the way to a header: words of private contracts.
 use Rattle.std.specs.Prelude.{◌≡◌, ◌⊎◌, ℕ, ◌<◌, ◌≤◌, List}
 use Rattle.luks_area.specs.First.{IsLeast}
-use Rattle.luks_area.specs.declared.area.AreaFault.TheVariants.{Outside, Overlap}
+use Rattle.luks_area.specs.declared.area.AreaFault.TheVariants.{Overlap}
 use Rattle.luks1_header.specs.Header1.{luks1_size}
 use Rattle.luks1_header.specs.Written.{WritesLuks1}
 use Rattle.luks1_header.specs.declared.fault.HeadFault.{HeadFault}

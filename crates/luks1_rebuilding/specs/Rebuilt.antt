@@ -1,6 +1,6 @@
 -- A detached LUKS1 header that was made of what still stands in the volume `v` (LUKS1 On-Disk Format 1.2.3, "The
 -- partition header").
-use Rattle.std.specs.Prelude.{◌≡◌, ◌⊎◌, ℕ, List, length}
+use Rattle.std.specs.Prelude.{◌⊎◌, ℕ, List, length}
 use Rattle.luks_area.specs.Ranges.{part, IsAt, IsOfEither, SameBut}
 use Rattle.luks1_header.specs.Header1.{luks1_size}
 use Rattle.luks1_header.specs.Written.{WritesLuks1}

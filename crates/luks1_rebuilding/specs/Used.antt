@@ -1,5 +1,5 @@
 -- The key areas of a LUKS1 header that was made, and how its steps follow each other: words of private contracts.
-use Rattle.std.specs.Prelude.{◌≡◌, ◌≢◌, ◌⊎◌, ℕ, ◌+◌, ◌<◌, ◌≤◌, List, [], length, slice_index_or}
+use Rattle.std.specs.Prelude.{◌≡◌, ◌≢◌, ◌⊎◌, ℕ, ◌+◌, ◌<◌, ◌≤◌, List, [], slice_index_or}
 use Rattle.luks_area.specs.Area.{AreDisjoint}
 use Rattle.luks_area.specs.Ranges.{part, IsAt, IsOfEither, SameBut}
 use Rattle.luks_area.specs.declared.area.Area.{Area}
