@@ -1,0 +1,7 @@
+pub mod Taken
+pub mod Signs
+pub mod Areas
+pub mod Kept
+pub mod Mended
+pub mod Made
+pub mod Judged

@@ -1,0 +1,6 @@
+pub mod MadeFacts
+pub mod UsedFacts
+pub mod RebuiltFacts
+pub mod OneMade
+pub mod FaultFacts
+pub mod GivesFacts
