@@ -5,6 +5,8 @@
 #[cfg(test)]
 mod answers;
 #[cfg(test)]
+mod discarded;
+#[cfg(test)]
 mod luks1;
 #[cfg(test)]
 mod luks2;

@@ -76,3 +76,14 @@ fn lists_of_edits(rt: HostRuntime) -> Result<(), Fail> {
     }
     Ok(())
 }
+
+// The passphrase is that of another keyslot than the one that goes.
+#[test]
+fn removals_by_another_keyslot(rt: HostRuntime) -> Result<(), Fail> {
+    let list = List {
+        rows: &table::BY_ANOTHER,
+        sums: &table::BY_ANOTHER_SUMS,
+    };
+    let volume = small1(rt.alloc(), HashName::Sha256)?;
+    compare(&rt, rt.alloc(), volume, list)
+}

@@ -67,6 +67,17 @@ fn lists_of_edits(rt: HostRuntime) -> Result<(), Fail> {
     Ok(())
 }
 
+// The passphrase is that of another keyslot than the one that goes.
+#[test]
+fn removals_by_another_keyslot(rt: HostRuntime) -> Result<(), Fail> {
+    let list = List {
+        rows: &table::BY_ANOTHER,
+        sums: &table::BY_ANOTHER_SUMS,
+    };
+    let volume = small2(rt.alloc(), HashName::Sha256)?;
+    compare(&rt, rt.alloc(), volume, list)
+}
+
 // What is made has the hashes of the keyslot that opened.
 #[test]
 fn keyslots_of_two_hashes(rt: HostRuntime) -> Result<(), Fail> {

@@ -30,7 +30,7 @@ pub(crate) struct Trial {
 }
 
 /// Edits of the LUKS1 volume.
-pub(crate) const LUKS1: [Trial; 3] = [
+pub(crate) const LUKS1: [Trial; 4] = [
     Trial {
         edit: add!(0, b"one", b"three", None),
         random: 2528,
@@ -52,10 +52,17 @@ pub(crate) const LUKS1: [Trial; 3] = [
         either: [(1, b"two"), (1, b"two")],
         other: (1, b"two"),
     },
+    Trial {
+        edit: remove!(0, b"two", 1),
+        random: 0,
+        writes: 6,
+        either: [(1, b"two"), (1, b"two")],
+        other: (1, b"two"),
+    },
 ];
 
 /// Edits of the LUKS2 volume.
-pub(crate) const LUKS2: [Trial; 5] = [
+pub(crate) const LUKS2: [Trial; 6] = [
     Trial {
         edit: Edit::Repair,
         random: 128,
@@ -72,6 +79,13 @@ pub(crate) const LUKS2: [Trial; 5] = [
     },
     Trial {
         edit: remove!(0, b"one"),
+        random: 128,
+        writes: 12,
+        either: [(1, b"two"), (1, b"two")],
+        other: (1, b"two"),
+    },
+    Trial {
+        edit: remove!(0, b"two", 1),
         random: 128,
         writes: 12,
         either: [(1, b"two"), (1, b"two")],
@@ -99,8 +113,9 @@ const OF_ARGON2: Passphrase<'static> = Passphrase {
     memory: ALLOWED,
 };
 
-/// Edits of the LUKS2 volume with keyslots of Argon2, by its keyslot 1.
-pub(crate) const ARGON2: [Trial; 3] = [
+/// Edits of the LUKS2 volume with keyslots of Argon2, by its keyslot 1; the last by its keyslot 2, with
+/// no memory.
+pub(crate) const ARGON2: [Trial; 5] = [
     Trial {
         edit: Edit::Add {
             by_: 1,
@@ -129,8 +144,27 @@ pub(crate) const ARGON2: [Trial; 3] = [
     Trial {
         edit: Edit::Remove {
             slot: 1,
+            by_: None,
             passphrase: OF_ARGON2,
         },
+        random: 128,
+        writes: 12,
+        either: [(2, b"one"), (2, b"one")],
+        other: (2, b"one"),
+    },
+    Trial {
+        edit: Edit::Remove {
+            slot: 0,
+            by_: Some(1),
+            passphrase: OF_ARGON2,
+        },
+        random: 128,
+        writes: 12,
+        either: [(1, b"one"), (1, b"one")],
+        other: (2, b"one"),
+    },
+    Trial {
+        edit: remove!(1, b"one", 2),
         random: 128,
         writes: 12,
         either: [(2, b"one"), (2, b"one")],

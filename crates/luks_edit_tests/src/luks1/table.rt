@@ -143,3 +143,46 @@ pub(crate) const SHA512: [&str; 27] = [
     "9629cb67c131eacc4919ecbd3b9fb148967fa9e1971758ebbf141b94fbf7eadc",
     "9629cb67c131eacc4919ecbd3b9fb148967fa9e1971758ebbf141b94fbf7eadc",
 ];
+
+/// A list of removals by another keyslot's passphrase.
+pub(crate) const BY_ANOTHER: [Row; 15] = [
+    (remove!(0, b"one", 0), None, "refused SameSlot"),
+    (remove!(1, b"one", 0), None, "refused NoSuchSlot"),
+    (remove!(0, b"one", 1), None, "refused NoSuchSlot"),
+    (remove!(1, b"one", 1), None, "refused NoSuchSlot"),
+    (add!(0, b"one", b"two", None), Some(2528), "done slot 1"),
+    (
+        add!(0, b"one", b"three", Some(5)),
+        Some(2528),
+        "done slot 5",
+    ),
+    (remove!(1, b"two", 0), Some(0), "refused Locked"),
+    (remove!(0, b"one", 0), None, "refused SameSlot"),
+    (remove!(1, b"one", 0), Some(0), "done"),
+    (remove!(1, b"one", 0), None, "refused NoSuchSlot"),
+    (remove!(0, b"three", 5), Some(0), "done"),
+    (remove!(5, b"three", 5), None, "refused SameSlot"),
+    (remove!(5, b"three"), Some(0), "refused LastSlot"),
+    (add!(5, b"three", b"one", None), Some(2528), "done slot 0"),
+    (remove!(5, b"one", 0), Some(0), "done"),
+];
+
+/// SHA-256 of the volume before the list, and of the whole volume after each edit, over the volume by sha256.
+pub(crate) const BY_ANOTHER_SUMS: [&str; 16] = [
+    "49c146b90a6cc8d0a840a2e39f93b73d79540be7401a1278b50ecc5c931b70ce",
+    "49c146b90a6cc8d0a840a2e39f93b73d79540be7401a1278b50ecc5c931b70ce",
+    "49c146b90a6cc8d0a840a2e39f93b73d79540be7401a1278b50ecc5c931b70ce",
+    "49c146b90a6cc8d0a840a2e39f93b73d79540be7401a1278b50ecc5c931b70ce",
+    "49c146b90a6cc8d0a840a2e39f93b73d79540be7401a1278b50ecc5c931b70ce",
+    "8066350290bb81b680b07941f20ee4c73b7b9a01bea775cc603677f6087db061",
+    "65251d8951a066697e4ba7745f460dfc5cc016d9fa79ae5054c277ed672aaf32",
+    "65251d8951a066697e4ba7745f460dfc5cc016d9fa79ae5054c277ed672aaf32",
+    "65251d8951a066697e4ba7745f460dfc5cc016d9fa79ae5054c277ed672aaf32",
+    "ac4c196fed0449cb3f8002cb6e2e578910d82a423056336172f8811f9ce8137d",
+    "ac4c196fed0449cb3f8002cb6e2e578910d82a423056336172f8811f9ce8137d",
+    "073f0abbd4dd8c6b7b5e5772275e533b1ff3fec6d0c5880e1d6def85895ce3a2",
+    "073f0abbd4dd8c6b7b5e5772275e533b1ff3fec6d0c5880e1d6def85895ce3a2",
+    "073f0abbd4dd8c6b7b5e5772275e533b1ff3fec6d0c5880e1d6def85895ce3a2",
+    "9e9f724ffb5ff0aa7501fd2da8f5f846cc6add7e77ab394717e36f4d11f3bf6d",
+    "9048bf9a284ae065a1ce94750fec3af7fe111adabdba9b2ffab2f8d0f32d4320",
+];

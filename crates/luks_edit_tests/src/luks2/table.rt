@@ -160,6 +160,49 @@ pub(crate) const SHA512: [&str; 30] = [
     "fd1bedd19226f013b89dc68c1982a0b7710e508e89bb052bafd816a1869f4037",
 ];
 
+/// A list of removals by another keyslot's passphrase.
+pub(crate) const BY_ANOTHER: [Row; 15] = [
+    (remove!(0, b"one", 0), None, "refused SameSlot"),
+    (remove!(1, b"one", 0), None, "refused NoSuchSlot"),
+    (remove!(0, b"one", 1), None, "refused NoSuchSlot"),
+    (remove!(1, b"one", 1), None, "refused NoSuchSlot"),
+    (add!(0, b"one", b"two", None), Some(2656), "done slot 1"),
+    (
+        add!(0, b"one", b"three", Some(5)),
+        Some(2656),
+        "done slot 5",
+    ),
+    (remove!(1, b"two", 0), Some(128), "refused Locked"),
+    (remove!(0, b"one", 0), None, "refused SameSlot"),
+    (remove!(1, b"one", 0), Some(128), "done"),
+    (remove!(1, b"one", 0), None, "refused NoSuchSlot"),
+    (remove!(0, b"three", 5), Some(128), "done"),
+    (remove!(5, b"three", 5), None, "refused SameSlot"),
+    (remove!(5, b"three"), Some(128), "refused LastSlot"),
+    (add!(5, b"three", b"one", None), Some(2656), "done slot 0"),
+    (remove!(5, b"one", 0), Some(128), "done"),
+];
+
+/// SHA-256 of the volume before the list, and of the whole volume after each edit, over the volume by sha256.
+pub(crate) const BY_ANOTHER_SUMS: [&str; 16] = [
+    "af156ffb590a89e9ff381ebbdd10221ff67a34f693270d682256e37f9b25a274",
+    "af156ffb590a89e9ff381ebbdd10221ff67a34f693270d682256e37f9b25a274",
+    "af156ffb590a89e9ff381ebbdd10221ff67a34f693270d682256e37f9b25a274",
+    "af156ffb590a89e9ff381ebbdd10221ff67a34f693270d682256e37f9b25a274",
+    "af156ffb590a89e9ff381ebbdd10221ff67a34f693270d682256e37f9b25a274",
+    "b32c899b124bf1daedb4aa92676baedb1bcd39b0a27ec299f90aa6b2d97fca9f",
+    "5a7b443f87027e29a1ccfb581c0621241c01fbcd9b9f089b8aebb8bcc31c8368",
+    "5a7b443f87027e29a1ccfb581c0621241c01fbcd9b9f089b8aebb8bcc31c8368",
+    "5a7b443f87027e29a1ccfb581c0621241c01fbcd9b9f089b8aebb8bcc31c8368",
+    "51770985e2cba862dbb27c19accd50cc0b0892ea438967e234e3867fe0052d9d",
+    "51770985e2cba862dbb27c19accd50cc0b0892ea438967e234e3867fe0052d9d",
+    "3a90db3a52d4e515f6a3fdcf65f29831411a91b166694ba6c694c15572ba2c3e",
+    "3a90db3a52d4e515f6a3fdcf65f29831411a91b166694ba6c694c15572ba2c3e",
+    "3a90db3a52d4e515f6a3fdcf65f29831411a91b166694ba6c694c15572ba2c3e",
+    "50d2bcb5d1d5df16929ace482894e05392cb02f1fe9fe4d30246599abd694563",
+    "e4ca0980f5889122ff925474bfadf78fc81dc4cdac9a2db6219efee0b0b06e64",
+];
+
 /// A list over the volume with keyslots of two hashes.
 pub(crate) const TWO_HASHES: [Row; 6] = [
     (add!(1, b"two", b"three", None), Some(2656), "done slot 2"),

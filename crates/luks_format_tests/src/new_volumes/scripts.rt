@@ -6,7 +6,7 @@ use luks_reading::Data;
 use luks_test_devices::{add, change, label, remove};
 
 /// The scripts.
-pub(super) const SCRIPTS: [Script; 15] = [
+pub(super) const SCRIPTS: [Script; 17] = [
     // the random bytes, and a keyslot that takes the place of the first
     Script {
         len: 16777728,
@@ -60,6 +60,8 @@ pub(super) const SCRIPTS: [Script; 15] = [
             )]),
             Turn::Edit(add!(0, b"one", b"two", None), Ok(256096), "refused Argon2"),
             Turn::Edit(remove!(1, b"two"), Ok(128), "done"),
+            Turn::Edit(remove!(2, b"one", 0), Ok(128), "refused Argon2"),
+            Turn::Edit(remove!(0, b"two", 2), Ok(128), "done"),
         ],
         sums: &[
             "7dcac7cd3e18971b442b5e937e43357ba8d4ca858489772ae846ed85241b3abe",
@@ -67,6 +69,8 @@ pub(super) const SCRIPTS: [Script; 15] = [
             "646ddd0bd0f96c0189f9c6f2e2eed987a86212446c5de467003546ec3428b3b8",
             "860210e721aa1c9542ff0c85219c4a7dccade6e56e25aa7cb4d18e558664b0cf",
             "9f564ad7dec12fd5301a067a8b3537b0cb07ad309b7825b744f5b0d987bef21c",
+            "9f564ad7dec12fd5301a067a8b3537b0cb07ad309b7825b744f5b0d987bef21c",
+            "4599a7200772b06f8be61fe0a6a014f1e32f56de54a0492df071094a2b1871ee",
         ],
     },
     // the last sequence number
@@ -266,6 +270,12 @@ pub(super) const SCRIPTS: [Script; 15] = [
             Turn::Edit(label!(b"x"), Ok(128), "done"),
             Turn::Text(&[(r#"s":null"#, r#"s":[]"#)]),
             Turn::Edit(label!(b"x"), Ok(128), "done"),
+            Turn::Text(&[(r#"s":[]"#, r#"s":{"mandatory":["online-reencrypt"]}"#)]),
+            Turn::Edit(
+                remove!(0, b"one", 0),
+                Err("refused Requirements"),
+                "refused Requirements",
+            ),
         ],
         sums: &[
             "4ae51ec0d33457af9cf592402146391d29cffd84becfb92311561b686a6ce857",
@@ -277,6 +287,7 @@ pub(super) const SCRIPTS: [Script; 15] = [
             "960543c9a9b6cea97ed06a98f937c5b3500b2388b497ad57f2c08844271dec0e",
             "6d41b1c305510c1df3fc1e933be1e1f3fedb5d591082e68c24e3e917054cbe5a",
             "0aa13129e5bb7089afdfd67f3f660a17ee5ed1893a35c12b84c06cb4a5733cf1",
+            "4ae51ec0d33457af9cf592402146391d29cffd84becfb92311561b686a6ce857",
         ],
     },
     // changes
@@ -345,12 +356,32 @@ pub(super) const SCRIPTS: [Script; 15] = [
                 "refused SlotTaken",
             ),
             Turn::Edit(remove!(0, b"one"), Ok(129), "refused LastSlot"),
+            Turn::Edit(
+                remove!(1, b"two", 0),
+                Err("refused NoSuchSlot"),
+                "refused NoSuchSlot",
+            ),
+            Turn::Edit(
+                remove!(1, b"two", 1),
+                Err("refused NoSuchSlot"),
+                "refused NoSuchSlot",
+            ),
+            Turn::Edit(
+                remove!(0, b"two", 0),
+                Err("refused SameSlot"),
+                "refused SameSlot",
+            ),
             Turn::Text(&[(
                 r#""keyslots_size":"16744448""#,
                 r#""keyslots_size":"258047""#,
             )]),
             Turn::Edit(
                 label!(b"x"),
+                Err("refused Region(Slot(0))"),
+                "refused Region(Slot(0))",
+            ),
+            Turn::Edit(
+                remove!(0, b"one", 0),
                 Err("refused Region(Slot(0))"),
                 "refused Region(Slot(0))",
             ),
@@ -361,7 +392,74 @@ pub(super) const SCRIPTS: [Script; 15] = [
             "48296eda1bb5b6cad161f3bbbd706a7cba7b6b3212abb547107d11c47876a7b2",
             "48296eda1bb5b6cad161f3bbbd706a7cba7b6b3212abb547107d11c47876a7b2",
             "48296eda1bb5b6cad161f3bbbd706a7cba7b6b3212abb547107d11c47876a7b2",
+            "48296eda1bb5b6cad161f3bbbd706a7cba7b6b3212abb547107d11c47876a7b2",
+            "48296eda1bb5b6cad161f3bbbd706a7cba7b6b3212abb547107d11c47876a7b2",
+            "48296eda1bb5b6cad161f3bbbd706a7cba7b6b3212abb547107d11c47876a7b2",
             "02b7bdcf72e65122ca059ef41264cfc743013b416bae39e35559ff2c9d1d0bb7",
+            "02b7bdcf72e65122ca059ef41264cfc743013b416bae39e35559ff2c9d1d0bb7",
+        ],
+    },
+    // a keyslot of another cipher, which goes by another one's passphrase
+    Script {
+        len: 16777728,
+        data: Data::Here,
+        seqids: (3, 3),
+        flipped: None,
+        turns: &[
+            Turn::Edit(add!(0, b"one", b"two", None), Ok(256096), "done slot 1"),
+            Turn::Text(&[(
+                r#""encryption":"aes-xts-plain64","key_size":64,"offset":"32768""#,
+                r#""encryption":"serpent-xts-plain64","key_size":64,"offset":"32768""#,
+            )]),
+            Turn::Edit(remove!(0, b"one"), Ok(128), "refused Cipher"),
+            Turn::Edit(remove!(1, b"one", 0), Ok(128), "refused Cipher"),
+            Turn::Edit(remove!(0, b"one", 1), Ok(128), "refused Locked"),
+            Turn::Edit(remove!(0, b"two", 1), Ok(128), "done"),
+        ],
+        sums: &[
+            "7dcac7cd3e18971b442b5e937e43357ba8d4ca858489772ae846ed85241b3abe",
+            "4c9d953f1bdac253dd0c1f90f51d190ed358862e10187943fee6aae6c8741e9a",
+            "4c9d953f1bdac253dd0c1f90f51d190ed358862e10187943fee6aae6c8741e9a",
+            "4c9d953f1bdac253dd0c1f90f51d190ed358862e10187943fee6aae6c8741e9a",
+            "266cc26b6eb9ee7d41610522d8a90d79127f219ae350d0d16906ceda407f355c",
+        ],
+    },
+    // keyslots of two digests
+    Script {
+        len: 16777728,
+        data: Data::Here,
+        seqids: (3, 3),
+        flipped: None,
+        turns: &[
+            Turn::Edit(add!(0, b"one", b"two", None), Ok(256096), "done slot 1"),
+            Turn::Text(&[
+                (
+                    r#""iterations":1000,"keyslots":["0","1"],"salt""#,
+                    r#""iterations":1000,"keyslots":["0"],"salt""#,
+                ),
+                (
+                    r#""type":"pbkdf2"}},"keyslots""#,
+                    concat!(
+                        r#""type":"pbkdf2"},"1":{"digest":"WiH3VjDXk1GIMc+36AiF6fjYY6tUbDuV+GH3TLiSmUQ=","#,
+                        r#""hash":"sha256","iterations":1000,"keyslots":["1"],"#,
+                        r#""salt":"UFFSU1RVVldYWVpbXF1eX2BhYmNkZWZnaGlqa2xtbm8=","segments":[],"#,
+                        r#""type":"pbkdf2"}},"keyslots""#
+                    ),
+                ),
+            ]),
+            Turn::Edit(remove!(0, b"two", 1), Ok(128), "refused LastSlot"),
+            Turn::Edit(add!(0, b"one", b"two", None), Ok(256096), "done slot 2"),
+            Turn::Edit(remove!(1, b"two", 2), Ok(128), "refused LastSlot"),
+            Turn::Edit(remove!(0, b"two", 1), Ok(128), "done"),
+            Turn::Edit(remove!(2, b"two", 1), Ok(128), "refused LastSlot"),
+        ],
+        sums: &[
+            "7dcac7cd3e18971b442b5e937e43357ba8d4ca858489772ae846ed85241b3abe",
+            "3c6df51171c8e3ab2e6c63e1bb4e14c90596347fb546bb28d2a1dc9454682c5c",
+            "68ad42f47744364dea4b96dc725f06c2f6f488f65df991b91244f633aab04ae3",
+            "68ad42f47744364dea4b96dc725f06c2f6f488f65df991b91244f633aab04ae3",
+            "440d18fbed99c4871a4fb6f7a9a32702835520dffce7a903e1735b7aba6f16b8",
+            "440d18fbed99c4871a4fb6f7a9a32702835520dffce7a903e1735b7aba6f16b8",
         ],
     },
 ];
