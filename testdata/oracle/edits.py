@@ -255,6 +255,18 @@ def find(v, edit):
         raise Fault("SameSlot")
 
 
+def leaves_argon2(volume, edit):
+    """Whether the edit removes the last keyslot of PBKDF2 of the LUKS2 volume, by another one's passphrase."""
+    if not isinstance(edit, Remove) or edit.by is None:
+        return False
+    keyslots = reader.metadata(reader.select(volume)[0])["keyslots"]
+    return [int(n) for n, keyslot in keyslots.items() if keyslot["kdf"]["type"] == "pbkdf2"] == [edit.slot]
+
+
+# what standard error says of it before it is done
+LEAVES_ARGON2 = "luks: no keyslot is left that opens by PBKDF2: each other one takes memory, which --memory allows"
+
+
 def key_of(v, edit):
     """The key that the edit's passphrase opens."""
     if opened_by(edit) is None:
