@@ -17,12 +17,14 @@ use std::alloc::Global;
 /// Metadata that is whole.
 #[derive(Drop)]
 pub struct Candidate {
-    /// The place of the copy that it was read from.
+    /// The place of the copy that it was read from, or whose checksum vouches for it.
     pub place: Place,
-    /// The bytes of that copy's JSON area.
+    /// The bytes of the JSON area: of that copy, or composed of both copies' sectors.
     pub json: Vec<u8>,
     /// The metadata.
     pub meta: Meta,
+    /// The binary header of that copy, where its checksum vouches for the metadata.
+    pub vouch: Option<Bin2>,
 }
 
 /// The metadata of which `rebuild` makes a header, of a volume of which no header counts: the first

@@ -20,6 +20,10 @@ pub enum Which {
     Any,
     /// That of second copies alone.
     Second,
+    /// That of copies of so many bytes.
+    OfSize(u64),
+    /// That of the second copy of so many bytes, though a header of the source counts.
+    SecondOfSize(u64),
 }
 
 /// The first copies, or the second.
@@ -50,7 +54,7 @@ pub(crate) fn is_inside(place: Place, total: u64) -> bool
 
 /// Where the other copy of the same header stands.
 pub(crate) fn other_at(place: Place) -> u64
-    ensures { result ≡ other_at place }
+    ensures { result ≡ other_at place.size place.at }
 {
     if place.at == 0 { place.size } else { 0 }
 }
