@@ -1,8 +1,8 @@
 -- What has been found and judged on the way to a header: words of private contracts.
-use Rattle.std.specs.Prelude.{◌≡◌, ◌≢◌, ℕ, ◌+◌, ◌-◌, ◌*◌, ◌≤◌, ◌++◌, List, length, replicate, Option, Some, None, is_some, true, ⊤}
+use Rattle.std.specs.Prelude.{◌≡◌, ◌≢◌, ◌⊎◌, ℕ, ◌+◌, ◌-◌, ◌*◌, ◌≤◌, ◌++◌, List, length, replicate, Option, Some, None, is_some, true, ⊤}
 use Rattle.serde_json.specs.Data.{Data as Value}
 use Rattle.luks_area.specs.Area.{AreDisjoint, Fit}
-use Rattle.luks_area.specs.First.{IsLeast}
+use Rattle.luks_area.specs.First.{IsLeast, NotAfter}
 use Rattle.luks_area.specs.Ranges.{part, IsAt, IsOfEither}
 use Rattle.luks_area.specs.Text.{text_of}
 use Rattle.luks_area.specs.declared.area.Area.{Area}
@@ -18,9 +18,9 @@ use Rattle.luks_meta.specs.MetaFault.{IsMetaFault}
 use Rattle.luks_meta.specs.Sizes.{keyslots_size}
 use Rattle.luks_reading.specs.Layout2.{Luks2Area}
 use Rattle.luks_reading.specs.declared.report.Data.TheVariants.{Elsewhere}
-use Rattle.luks_rebuilding.specs.Candidates.{json_of, next_seqid, place_key, source_key, HasToBeRead, HasToBeTried, IsBegun, IsCandidate, IsPlace, IsVouchedSource, Source, Taken}
+use Rattle.luks_rebuilding.specs.Candidates.{json_of, next_seqid, place_key, place_of_source, source_key, HasToBeRead, HasToBeTried, IsBegun, IsCandidate, IsPlace, IsVouchedSource, Source, Taken}
 use Rattle.luks_rebuilding.specs.KeyAreas.{IsSlotArea}
-use Rattle.luks_rebuilding.specs.Outcome.{PassesCounts}
+use Rattle.luks_rebuilding.specs.Outcome.{AnswersCounts, PassesCounts}
 use Rattle.luks_rebuilding.specs.Rebuilt.{first_copy_salt, random_size, second_copy_salt, HasRebuiltCopy, IsUuidOf, LacksUuid}
 use Rattle.luks_rebuilding.specs.declared.candidate.Candidate.{Candidate}
 use Rattle.luks_rebuilding.specs.declared.place.Half.{Half}
@@ -77,6 +77,46 @@ IsVouchedOf v which s = (s.vouched ≡ true) × IsVouchedSource v which s
 abbrev pub FindsVouchedFirst : List ℕ → Which → Option Candidate → Type 0
 FindsVouchedFirst v which None = (s : Source) → IsVouchedOf v which s → ⊥
 FindsVouchedFirst v which (Some c) = IsLeast source_key (IsVouchedOf v which) (source_of c)
+
+-- what the copy at the place vouches for
+abbrev pub FindsVouchedAt : List ℕ → Which → Place → Option Candidate → Type 0
+FindsVouchedAt v which place None = (s : Source) → IsVouchedOf v which s → place_of_source s ≡ place → ⊥
+FindsVouchedAt v which place (Some c) = (c.place ≡ place) × IsVouchedOf v which (source_of c)
+
+-- a checksum vouches for the candidate
+abbrev pub IsVouch : Candidate → Type 0
+IsVouch c = is_some c.vouch ≡ true
+
+-- the source is of a copy of this half
+abbrev pub IsOfHalf : Half → Source → Type 0
+IsOfHalf First s = s.at ≡ 0
+IsOfHalf Second s = s.at ≡ s.size
+
+-- of a copy of the half that is searched before
+abbrev pub EarlierHalf : Half → Source → Type 0
+EarlierHalf First s = ⊥
+EarlierHalf Second s = s.at ≡ 0
+
+-- of a copy that has been searched, when this half has
+abbrev pub IsDone : Half → Source → Type 0
+IsDone half s = EarlierHalf half s ⊎ IsOfHalf half s
+
+-- the first of the sources that are vouched for, among these
+abbrev pub IsBestOf : List ℕ → Which → (Source → Type 0) → Option Candidate → Type 0
+IsBestOf v which among None = (s : Source) → IsVouchedOf v which s → among s → ⊥
+IsBestOf v which among (Some c) =
+    IsVouchedOf v which (source_of c)
+    × ((s : Source) → IsVouchedOf v which s → among s → NotAfter (source_key (source_of c)) (source_key s))
+
+-- the one of two candidates that stands first
+abbrev pub IsBetter : Option Candidate → Option Candidate → Option Candidate → Type 0
+IsBetter None found result = result ≡ found
+IsBetter (Some a) None result = result ≡ Some a
+IsBetter (Some a) (Some b) None = ⊥
+IsBetter (Some a) (Some b) (Some c) =
+    ((c ≡ a) ⊎ (c ≡ b))
+    × NotAfter (source_key (source_of c)) (source_key (source_of a))
+    × NotAfter (source_key (source_of c)) (source_key (source_of b))
 
 -- the first of the copies whose own metadata is whole
 abbrev pub TakenPlace : List ℕ → Which → Place → Type 0
@@ -151,6 +191,27 @@ abbrev pub IsCounted : List ℕ → RebuildFault → Type 0
 IsCounted v fault.Counts = Chosen v nothing → ⊥
 IsCounted v fault.Device = ⊤
 IsCounted v f = ⊥
+
+-- the same, unless it may
+abbrev pub IsCountedFor : List ℕ → Which → RebuildFault → Type 0
+IsCountedFor v which fault.Counts = AnswersCounts v which
+IsCountedFor v which fault.Device = ⊤
+IsCountedFor v which f = ⊥
+
+-- no candidate is whole, unless the search was broken off
+abbrev pub IsNotPlain : List ℕ → Which → RebuildFault → Type 0
+IsNotPlain v which fault.Counts = ⊥
+IsNotPlain v which fault.NoMetadata = (place : Place) → IsCandidate v which place → ⊥
+IsNotPlain v which (fault.Area f) = ⊥
+IsNotPlain v which fault.TooSmall = ⊥
+IsNotPlain v which fault.Uuid = ⊥
+IsNotPlain v which fault.RandomLength = ⊥
+IsNotPlain v which fault.Memory = (place : Place) × HasToBeRead v which place
+IsNotPlain v which fault.Device = ⊤
+
+-- the search for what is vouched for was broken off at one copy
+abbrev pub BreaksVouchedAt : List ℕ → Which → Place → RebuildFault → Type 0
+BreaksVouchedAt v which place = IsMemoryWhere (HasToBeTried v which place)
 
 -- the search for what is vouched for was broken off
 abbrev pub BreaksVouched : List ℕ → Which → RebuildFault → Type 0
