@@ -25,14 +25,12 @@ pub fn one_candidate()
 /// the bytes where its key areas stand in the source.
 pub fn rebuilt_header_opens_alike()
     ensures well_formed { (v random old w : List ℕ) (given : Option (List ℕ))
-        (source : Source) (j : Value) → IsListed source.size → IsMeta source.json j
-        → IsMade v given random old w source
+        (source : Source) (j : Value) → IsMeta source.json j → IsMade v given random old w source
         → ((text : List ℕ) → given ≡ Some text → IsUuid text)
         → Fit (Luks2Area j source.size Elsewhere (length v)) (length v)
         → HasRegionInside j source.size (length w) → WellFormed w Elsewhere }
     ensures opens { (v random old w : List ℕ) (given : Option (List ℕ))
-        (source : Source) (j : Value) → IsListed source.size → IsMeta source.json j
-        → IsMade v given random old w source
+        (source : Source) (j : Value) → IsMeta source.json j → IsMade v given random old w source
         → ((text : List ℕ) → given ≡ Some text → IsUuid text)
         → Fit (Luks2Area j source.size Elsewhere (length v)) (length v)
         → HasRegionInside j source.size (length w)
