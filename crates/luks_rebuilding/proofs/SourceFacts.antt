@@ -135,7 +135,7 @@ same_source a b size at json vouched seqid label subsystem =
 
 module _ (v : List ℕ) (which : Which) (a b : Source) where
   -- two that are vouched for by one copy
-  one_vouched_source : IsVouchedOf v which a → IsVouchedOf v which b → a.size ≡ b.size → a.at ≡ b.at → a ≡ b
+  pub one_vouched_source : IsVouchedOf v which a → IsVouchedOf v which b → a.size ≡ b.size → a.at ≡ b.at → a ≡ b
   one_vouched_source x y size at =
       let there = subst (λ (o : ℕ). IsVouched v a.size o a.json) at (x.1.vouched) in
       let json : a.json ≡ b.json = vouched_once v b.size b.at a.json b.json (subst (λ (n : ℕ). IsVouched v n b.at a.json) size there) y.1.vouched in
