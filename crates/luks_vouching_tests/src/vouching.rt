@@ -1,0 +1,50 @@
+//! What is vouched for in a volume of 16384 bytes a copy.
+ghost use Rattle.std.specs.Prelude.{◌≡◌, ◌⊎◌};
+
+use luks_area::MemDevice;
+use luks_test_devices::{part, put, two_hashes};
+use luks_vouching::find_vouched;
+use std::alloc::Global;
+use std::test::Fail;
+
+/// The bytes of a copy, and the place of the second one.
+pub(crate) const SIZE: u64 = 16384;
+
+/// Whether the checksum of the copy at `at` vouches for this JSON area.
+fn is_vouched_at(alloc: Global, volume: &[u8], at: u64, json: &[u8]) -> Result<bool, Fail>
+    requires { (at ≡ 0) ⊎ (at ≡ 16384) }
+{
+    let mut device = MemDevice::new(volume.to_vec(alloc)?);
+    match find_vouched(alloc, &mut device, SIZE, at) {
+        Ok(Some(found)) => Ok(found.json.as_slice() == json),
+        _ => Ok(false),
+    }
+}
+
+/// Whether the checksums of the first and of the second copy vouch for the JSON area that the volume
+/// had before these runs of equal bytes were written over it.
+pub(crate) fn vouches(
+    alloc: Global,
+    whole: &[u8],
+    runs: &[(usize, u8, usize)],
+) -> Result<(bool, bool), Fail> {
+    let json = part(whole, 4096, 16384);
+    let mut volume = whole.to_vec(alloc)?;
+    for (at, byte, count) in runs {
+        put_run(&mut volume, *at, *byte, *count);
+    }
+    let first = is_vouched_at(alloc, &volume, 0, json)?;
+    let second = is_vouched_at(alloc, &volume, SIZE, json)?;
+    Ok((first, second))
+}
+
+fn put_run(volume: &mut [u8], at: usize, byte: u8, count: usize) {
+    for i in 0..count {
+        put(volume, at.wrapping_add(i), &[byte]);
+    }
+}
+
+/// The volume, without damage.
+pub(crate) fn whole(alloc: Global) -> Result<Vec<u8>, Fail> {
+    Ok(two_hashes(alloc)?)
+}
