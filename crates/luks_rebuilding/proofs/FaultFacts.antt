@@ -21,8 +21,8 @@ use Rattle.luks_reading.proofs.ListedAreaFacts.{no_area_fault}
 use Rattle.luks_reading.specs.Layout2.{Luks2Area}
 use Rattle.luks_reading.specs.declared.report.Data.TheVariants.{Elsewhere}
 use Rattle.luks_rebuilding.proofs.SourceFacts.{no_source, one_source}
-use Rattle.luks_rebuilding.specs.Candidates.{OfTaken, Source}
-use Rattle.luks_rebuilding.specs.Found.{source_of, BreaksVouched, IsCountedFor, IsFoundIn, IsNotPlain, IsVouchedOf, IsWhole}
+use Rattle.luks_rebuilding.specs.Candidates.{IsVouchedOf, OfTaken, Source}
+use Rattle.luks_rebuilding.specs.Found.{source_of, BreaksVouched, IsCountedFor, IsFoundIn, IsNotPlain, IsWhole}
 use Rattle.luks_rebuilding.specs.KeyAreas.{EndsBeforeRegion, HasHeaderArea}
 use Rattle.luks_rebuilding.specs.Outcome.{AnswersCounts, IsAnsweredFault, IsNoUuid, IsNotFound, IsRebuildable, IsRebuildFault, PassesCounts}
 use Rattle.luks_rebuilding.specs.RebuildFaults.{is_rebuild_failure, rebuild_key}

@@ -9,8 +9,8 @@ use Rattle.luks_area.specs.Ranges.{part}
 use Rattle.luks_head.specs.Header2.{header_at, seqid}
 use Rattle.luks_vouching.specs.Vouched.{IsVouched}
 use Rattle.luks_vouching.proofs.LawFacts.{vouched_once}
-use Rattle.luks_rebuilding.specs.Candidates.{json_of, next_seqid, place_key, place_of_source, source_key, IsCandidate, IsPlainSource, IsSource, IsVouchedSource, Source, Taken}
-use Rattle.luks_rebuilding.specs.Found.{kept_label, kept_seqid, kept_subsystem, source_of, IsVouchedOf, TakenPlace}
+use Rattle.luks_rebuilding.specs.Candidates.{json_of, next_seqid, place_key, place_of_source, source_key, IsCandidate, IsPlainSource, IsSource, IsVouchedOf, IsVouchedSource, Source, Taken}
+use Rattle.luks_rebuilding.specs.Found.{kept_label, kept_seqid, kept_subsystem, source_of, TakenPlace}
 use Rattle.luks_rebuilding.specs.Outcome.{HasNoSource}
 use Rattle.luks_rebuilding.specs.declared.candidate.Candidate.{Candidate}
 use Rattle.luks_rebuilding.specs.declared.place.Place.{Place}
@@ -40,22 +40,9 @@ key_plain s is = ap (λ (b : Bool). if b then (1 ∷ (0xFFFF_FFFF_FFFF_FFFF - s.
 
 -- ---- sources
 
--- a source is vouched for, or plain
-pub source_cases : (v : List ℕ) (which : Which) (s : Source) → IsSource v which s → IsVouchedOf v which s ⊎ ((s.vouched ≡ false) × IsPlainSource v which s)
-source_cases v which s x = elim (cases_Bool s.vouched) [
-  | inl is ↦ inl (is, subst (λ (b : Bool). if b then IsVouchedSource v which s else IsPlainSource v which s) is x)
-  | inr other ↦ inr (other, subst (λ (b : Bool). if b then IsVouchedSource v which s else IsPlainSource v which s) other x)
-]
-
-pub as_vouched : (v : List ℕ) (which : Which) (s : Source) → IsVouchedOf v which s → IsSource v which s
-as_vouched v which s x = subst (λ (b : Bool). if b then IsVouchedSource v which s else IsPlainSource v which s) (sym x.0) x.1
-
-pub as_plain : (v : List ℕ) (which : Which) (s : Source) → s.vouched ≡ false → IsPlainSource v which s → IsSource v which s
-as_plain v which s is x = subst (λ (b : Bool). if b then IsVouchedSource v which s else IsPlainSource v which s) (sym is) x
-
 -- where no checksum vouches for any, and no candidate is whole, there is none
 pub no_source : (v : List ℕ) (which : Which) → ((s : Source) → IsVouchedOf v which s → ⊥) → ((place : Place) → IsCandidate v which place → ⊥) → HasNoSource v which
-no_source v which none missing s x = elim (source_cases v which s x) [
+no_source v which none missing s x = elim x [
   | inl vouched ↦ none s vouched
   | inr plain ↦ missing (place_of_source s) plain.1.candidate
 ]
@@ -68,8 +55,8 @@ vouched_before a b p q = not_after_as (source_key a) (source_key b) _ _ (key_vou
 
 pub vouched_taken : (v : List ℕ) (which : Which) (s : Source) → IsLeast source_key (IsVouchedOf v which) s → Taken v which s
 vouched_taken v which s x = (
-  as_vouched v which s x.0,
-  λ g is. elim (source_cases v which g is) [
+  inl x.0,
+  λ g is. elim is [
     | inl vouched ↦ x.1 g vouched
     | inr plain ↦ vouched_before s g x.0.0 plain.0
   ]
@@ -91,8 +78,8 @@ module _ (v : List ℕ) (which : Which) (c : Candidate) (plain : c.vouch ≡ Non
   -- a candidate is taken where no checksum vouches for any
   pub plain_taken : ((s : Source) → IsVouchedOf v which s → ⊥) → TakenPlace v which c.place → Taken v which (source_of c)
   plain_taken none x = (
-    as_plain v which (source_of c) not_vouched (is_plain x.0),
-    λ g is. elim (source_cases v which g is) [
+    inr (not_vouched, is_plain x.0),
+    λ g is. elim is [
       | inl vouched ↦ absurd (none g vouched)
       | inr other ↦ not_after_as (source_key (source_of c)) (source_key g) _ _ (key_plain (source_of c) not_vouched) (key_plain g other.0)
           (omega arith, λ e. x.1 (place_of_source g) other.1.candidate)
@@ -101,6 +88,20 @@ module _ (v : List ℕ) (which : Which) (c : Candidate) (plain : c.vouch ≡ Non
 
 -- ---- there is one
 
+-- no first copy has the key of a second one
+halves_differ : (a b : Place) → IsListed b.size → a.at ≡ 0 → b.at ≡ b.size → place_key a ≡ place_key b → ⊥
+halves_differ a b lb p q e =
+    let large : 16384 ≤ b.size = listed_at_least b.size lb in
+    let one : ◌≡◌ {A = ℕ} (if a.at == 0 then 1 else 2) 1 = ap (λ (n : ℕ). if n == 0 then 1 else 2) p in
+    let other : b.at ≢ 0 = λ z. omega (arith, z, q, large) in
+    let two : ◌≡◌ {A = ℕ} (if b.at == 0 then 1 else 2) 2 = ap (λ (t : Bool). if t then 1 else 2) (not_zero b.at other) in
+    let heads : ◌≡◌ {A = ℕ} (if a.at == 0 then 1 else 2) (if b.at == 0 then 1 else 2) = ap (λ l. get_or l 0 0) e in
+    let bad : 1 ≡ 2 = sym one ∙ heads ∙ two in
+    omega (arith, bad)
+  where
+    not_zero : (n : ℕ) → n ≢ 0 → (n == 0) ≡ false
+    not_zero n other = elim (cases_Bool (n == 0)) [ inl is ↦ absurd (other (eqb-true n 0 is)) | inr differs ↦ differs ]
+
 -- places by their keys
 same_at : (a b : Place) → IsListed a.size → IsListed b.size → (a.at ≡ 0) ⊎ (a.at ≡ a.size) → (b.at ≡ 0) ⊎ (b.at ≡ b.size) → place_key a ≡ place_key b → a.at ≡ b.at
 same_at a b la lb (inl p) (inl q) e = p ∙ sym q
@@ -108,20 +109,7 @@ same_at a b la lb (inr p) (inr q) e =
     let size : a.size ≡ b.size = ap (λ l. get_or l 1 0) e in
     p ∙ size ∙ sym q
 same_at a b la lb (inl p) (inr q) e = absurd (halves_differ a b lb p q e)
-  where
-    halves_differ : (a b : Place) → IsListed b.size → a.at ≡ 0 → b.at ≡ b.size → place_key a ≡ place_key b → ⊥
-    halves_differ a b lb p q e =
-        let large = listed_at_least b.size lb in
-        let one : (if a.at == 0 then 1 else 2) ≡ 1 = ap (λ (n : ℕ). if n == 0 then 1 else 2) p in
-        let other : b.at ≢ 0 = λ z. omega (arith, z, q, large) in
-        let two : (if b.at == 0 then 1 else 2) ≡ 2 = ap (λ (t : Bool). if t then 1 else 2) (not_zero b.at other) in
-        let heads : (if a.at == 0 then 1 else 2) ≡ (if b.at == 0 then 1 else 2) = ap (λ l. get_or l 0 0) e in
-        let bad : 1 ≡ 2 = sym one ∙ heads ∙ two in
-        omega (arith, bad)
-      where
-        not_zero : (n : ℕ) → n ≢ 0 → (n == 0) ≡ false
-        not_zero n other = elim (cases_Bool (n == 0)) [ inl is ↦ absurd (other (eqb-true n 0 is)) | inr differs ↦ differs ]
-same_at a b la lb (inr p) (inl q) e = sym (same_at b a lb la (inl q) (inr p) (sym e))
+same_at a b la lb (inr p) (inl q) e = absurd (halves_differ b a la q p (sym e))
 
 same_source : (a b : Source) → a.size ≡ b.size → a.at ≡ b.at → a.json ≡ b.json → a.vouched ≡ b.vouched → a.seqid ≡ b.seqid → a.label ≡ b.label → a.subsystem ≡ b.subsystem → a ≡ b
 same_source a b size at json vouched seqid label subsystem =
@@ -153,8 +141,8 @@ module _ (v : List ℕ) (which : Which) (a b : Source) where
 pub one_source : (v : List ℕ) (which : Which) (a b : Source) → Taken v which a → Taken v which b → a ≡ b
 one_source v which a b x y =
     let keys : source_key a ≡ source_key b = same_keys (source_key a) (source_key b) (x.1 b y.0) (y.1 a x.0) in
-    elim (source_cases v which a x.0) [
-      | inl va ↦ elim (source_cases v which b y.0) [
+    elim x.0 [
+      | inl va ↦ elim y.0 [
         | inl vb ↦
             let same = sym (key_vouched a va.0) ∙ keys ∙ key_vouched b vb.0 in
             let places : place_key (place_of_source a) ≡ place_key (place_of_source b) = ap (drop 2) same in
@@ -164,7 +152,7 @@ one_source v which a b x y =
             (same_at (place_of_source a) (place_of_source b) sa.listed sb.listed sa.first_or_second sb.first_or_second places)
         | inr pb ↦ absurd (kinds_differ (sym (key_vouched a va.0) ∙ keys ∙ key_plain b pb.0))
       ]
-      | inr pa ↦ elim (source_cases v which b y.0) [
+      | inr pa ↦ elim y.0 [
         | inl vb ↦ absurd (kinds_differ (sym (key_vouched b vb.0) ∙ sym keys ∙ key_plain a pa.0))
         | inr pb ↦
             let same = sym (key_plain a pa.0) ∙ keys ∙ key_plain b pb.0 in

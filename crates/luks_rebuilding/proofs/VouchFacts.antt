@@ -4,8 +4,8 @@ use Rattle.std.proofs.lemmas.Bool.{cases_Bool, or_cases, eqb-true, eq-eqb, false
 use Rattle.luks_area.specs.First.{IsLeast, NotAfter}
 use Rattle.luks_head.specs.Sizes.{is_among, IsListed}
 use Rattle.luks_head.proofs.SecondCopyFacts.{later}
-use Rattle.luks_rebuilding.specs.Candidates.{place_key, place_of_source, source_key, HasToBeTried, Source}
-use Rattle.luks_rebuilding.specs.Found.{place_of, source_of, BreaksVouched, BreaksVouchedAt, EarlierHalf, FindsVouchedAt, FindsVouchedFirst, IsBestOf, IsBetter, IsDone, IsMemoryWhere, IsOfHalf, IsVouchedOf}
+use Rattle.luks_rebuilding.specs.Candidates.{place_key, place_of_source, source_key, HasToBeTried, IsVouchedOf, Source}
+use Rattle.luks_rebuilding.specs.Found.{place_of, source_of, BreaksVouched, BreaksVouchedAt, EarlierHalf, FindsVouchedAt, FindsVouchedFirst, IsBestOf, IsBetter, IsDone, IsMemoryWhere, IsOfHalf}
 use Rattle.luks_rebuilding.specs.declared.candidate.Candidate.{Candidate}
 use Rattle.luks_rebuilding.specs.declared.place.Half.{Half}
 use Rattle.luks_rebuilding.specs.declared.place.Half.TheVariants.{First, Second}

@@ -1,6 +1,6 @@
 -- Where metadata of a LUKS2 header is still whole in a volume, whatever stands before it (LUKS2
 -- On-Disk Format 1.1, 2.1 and 3).
-use Rattle.std.specs.Prelude.{◌≡◌, ◌≢◌, ◌⊎◌, ℕ, ◌+◌, ◌-◌, ◌≤◌, ◌==◌, List, [], ◌∷◌, Bool, codes, length, min, replicate, if◌then◌else◌, ⊤}
+use Rattle.std.specs.Prelude.{◌≡◌, ◌≢◌, ◌⊎◌, ℕ, ◌+◌, ◌-◌, ◌≤◌, ◌==◌, List, [], ◌∷◌, Bool, codes, length, min, replicate, if◌then◌else◌, true, false, ⊤}
 use Rattle.luks_area.specs.First.{IsLeast, NotAfter}
 use Rattle.luks_area.specs.Ranges.{part}
 use Rattle.luks_head.specs.Header2.{header_at, seqid}
@@ -75,9 +75,16 @@ pub record IsPlainSource (v : List ℕ) (which : Which) (s : Source) : Type 0 wh
   pub label : s.label ≡ replicate 48 0
   pub subsystem : s.subsystem ≡ replicate 48 0
 
+-- a source that a checksum vouches for, and a plain one
+abbrev pub IsVouchedOf : List ℕ → Which → Source → Type 0
+IsVouchedOf v which s = (s.vouched ≡ true) × IsVouchedSource v which s
+
+abbrev pub IsPlainOf : List ℕ → Which → Source → Type 0
+IsPlainOf v which s = (s.vouched ≡ false) × IsPlainSource v which s
+
 -- what a header may be made of
 abbrev pub IsSource : List ℕ → Which → Source → Type 0
-IsSource v which s = if s.vouched then IsVouchedSource v which s else IsPlainSource v which s
+IsSource v which s = IsVouchedOf v which s ⊎ IsPlainOf v which s
 
 -- their order: those that a checksum vouches for, the newest first, then the others
 abbrev pub source_key : Source → List ℕ

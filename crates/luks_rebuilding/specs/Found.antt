@@ -18,7 +18,7 @@ use Rattle.luks_meta.specs.MetaFault.{IsMetaFault}
 use Rattle.luks_meta.specs.Sizes.{keyslots_size}
 use Rattle.luks_reading.specs.Layout2.{Luks2Area}
 use Rattle.luks_reading.specs.declared.report.Data.TheVariants.{Elsewhere}
-use Rattle.luks_rebuilding.specs.Candidates.{json_of, next_seqid, place_key, place_of_source, source_key, HasToBeRead, HasToBeTried, IsBegun, IsCandidate, IsPlace, IsVouchedSource, Source, Taken}
+use Rattle.luks_rebuilding.specs.Candidates.{json_of, next_seqid, place_key, place_of_source, source_key, HasToBeRead, HasToBeTried, IsBegun, IsCandidate, IsPlace, IsVouchedOf, Source, Taken}
 use Rattle.luks_rebuilding.specs.KeyAreas.{IsSlotArea}
 use Rattle.luks_rebuilding.specs.Outcome.{AnswersCounts, PassesCounts}
 use Rattle.luks_rebuilding.specs.Rebuilt.{first_copy_salt, random_size, second_copy_salt, HasRebuiltCopy, IsUuidOf, LacksUuid}
@@ -68,10 +68,6 @@ pub record IsFoundIn (v : List ℕ) (which : Which) (c : Candidate) : Type 0 whe
   pub taken : Taken v which (source_of c)
 
 -- ---- the search for what a checksum vouches for
-
--- a source that is vouched for
-abbrev pub IsVouchedOf : List ℕ → Which → Source → Type 0
-IsVouchedOf v which s = (s.vouched ≡ true) × IsVouchedSource v which s
 
 -- the first of those that are vouched for
 abbrev pub FindsVouchedFirst : List ℕ → Which → Option Candidate → Type 0
