@@ -83,13 +83,13 @@ module _ (a b : Source) (va : a.vouched ≡ true) (vb : b.vouched ≡ true) wher
 -- places of one half by their size, else the first copy's
 pub same_half : (a b : Place) → (a.at == 0) ≡ (b.at == 0) → a.size ≤ b.size → NotAfter (place_key a) (place_key b)
 same_half a b half less =
-    let heads : (if a.at == 0 then 1 else 2) ≡ (if b.at == 0 then 1 else 2) = ap (λ (t : Bool). if t then 1 else 2) half in
+    let heads : ◌≡◌ {A = ℕ} (if a.at == 0 then 1 else 2) (if b.at == 0 then 1 else 2) = ap (λ (t : Bool). if t then 1 else 2) half in
     (omega (arith, heads), λ e. (omega (arith, less), λ f. tt))
 
 pub first_half : (a b : Place) → (a.at == 0) ≡ true → (b.at == 0) ≡ false → NotAfter (place_key a) (place_key b)
 first_half a b p q =
-    let one : (if a.at == 0 then 1 else 2) ≡ 1 = ap (λ (t : Bool). if t then 1 else 2) p in
-    let two : (if b.at == 0 then 1 else 2) ≡ 2 = ap (λ (t : Bool). if t then 1 else 2) q in
+    let one : ◌≡◌ {A = ℕ} (if a.at == 0 then 1 else 2) 1 = ap (λ (t : Bool). if t then 1 else 2) p in
+    let two : ◌≡◌ {A = ℕ} (if b.at == 0 then 1 else 2) 2 = ap (λ (t : Bool). if t then 1 else 2) q in
     (omega (arith, one, two), λ e. absurd (omega (arith, one, two, e)))
 
 -- ---- one more copy is searched
