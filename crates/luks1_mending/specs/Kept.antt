@@ -1,5 +1,5 @@
 -- Which keyslots of a LUKS1 header in a volume of `total` bytes are kept, where the key has `k` bytes.
-use Rattle.std.specs.Prelude.{◌≡◌, ◌⊎◌, ℕ, ◌<◌, ◌≤◌, ◌==◌, List, if◌then◌else◌}
+use Rattle.std.specs.Prelude.{◌≡◌, ◌⊎◌, ℕ, ◌+◌, ◌<◌, ◌≤◌, ◌==◌, List, if◌then◌else◌}
 use Rattle.luks_area.specs.Area.{IsInside, Meet}
 use Rattle.luks1_header.specs.Faults.{IsEntryFault}
 use Rattle.luks1_header.specs.Header1.{active_word, enabled_word, entry, luks1_size}
@@ -14,9 +14,9 @@ pub record IsSound (h : List ℕ) (k total n : ℕ) : Type 0 where
   pub inside : IsInside (own_area h k n) total
 
 -- of keyslots whose areas meet one is kept: an enabled one at its usual place before another enabled one, and
--- that before a disabled one
+-- these before the disabled ones, in the same order
 abbrev pub rank : List ℕ → ℕ → ℕ → ℕ
-rank h k n = if active_word (entry h n) == enabled_word then (if is_usual h k n then 0 else 1) else 2
+rank h k n = (if active_word (entry h n) == enabled_word then 0 else 2) + (if is_usual h k n then 0 else 1)
 
 -- among those of one rank the first by number
 abbrev pub ComesBefore : List ℕ → ℕ → ℕ → ℕ → Type 0

@@ -82,11 +82,7 @@ fn rank(header: &[u8], key_bytes: u32, n: u8) -> u8
     requires numbered { n < 8 }
     ensures { result ≡ rank header.now key_bytes n }
 {
-    if word_of(header, n) != ENABLED {
-        2
-    } else if is_usual(header, key_bytes, n) {
-        0
-    } else {
-        1
-    }
+    let used = if word_of(header, n) == ENABLED { 0 } else { 2 };
+    let place = if is_usual(header, key_bytes, n) { 0 } else { 1 };
+    used + place
 }
