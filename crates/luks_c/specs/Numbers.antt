@@ -1,0 +1,70 @@
+-- The numbers by which the calls answer, as luks.h lists them.
+use Rattle.std.specs.Prelude.{ℕ, List, codes, option_map_or, if◌then◌else◌, Option, None, Some, find, ◌==◌}
+use Rattle.std.specs.Str.{bytes_eq}
+use Rattle.luks_explain.specs.declared.fault.Fault.{Fault}
+use Rattle.luks_explain.specs.declared.fault.Fault.TheVariants as fault
+use Rattle.luks_explain.specs.Names.{all_faults, fault_named, name_in}
+
+-- the number of a fault, which stays its own in each later version
+abbrev pub fault_number : Fault → ℕ
+fault_number fault.TooShort = 1
+fault_number fault.NotLuks = 2
+fault_number fault.Version = 3
+fault_number fault.NoSoundCopy = 4
+fault_number fault.Text = 5
+fault_number fault.Uuid = 6
+fault_number fault.SlotState = 7
+fault_number fault.KeyBytes = 8
+fault_number fault.Stripes = 9
+fault_number fault.Iterations = 10
+fault_number fault.JsonArea = 11
+fault_number fault.BadJson = 12
+fault_number fault.NotWhole = 13
+fault_number fault.Shape = 14
+fault_number fault.Kind = 15
+fault_number fault.NoSuchName = 16
+fault_number fault.Assigned = 17
+fault_number fault.Sizes = 18
+fault_number fault.AreaTooSmall = 19
+fault_number fault.Region = 20
+fault_number fault.Outside = 21
+fault_number fault.Overlap = 22
+fault_number fault.NoSuchSlot = 23
+fault_number fault.SlotFree = 24
+fault_number fault.Argon2 = 25
+fault_number fault.Cipher = 26
+fault_number fault.Hash = 27
+fault_number fault.KeySize = 28
+fault_number fault.Locked = 29
+fault_number fault.Passphrase = 30
+fault_number fault.Requirements = 31
+fault_number fault.SlotTaken = 32
+fault_number fault.NoFreeSlot = 33
+fault_number fault.NoRoom = 34
+fault_number fault.LastSlot = 35
+fault_number fault.BadLabel = 36
+fault_number fault.SeqExhausted = 37
+fault_number fault.MetadataFull = 38
+fault_number fault.RandomLength = 39
+fault_number fault.TooSmall = 40
+fault_number fault.NotLuks1 = 41
+fault_number fault.SameFile = 42
+fault_number fault.Counts = 43
+fault_number fault.NoMetadata = 44
+fault_number fault.Exists = 45
+fault_number fault.NotAccepted = 46
+fault_number fault.DoesNotFit = 47
+fault_number fault.OtherVolume = 48
+fault_number fault.OtherUse = 49
+
+-- the fault of this number, if there is one
+abbrev pub fault_numbered : ℕ → Option Fault
+fault_numbered number = find (λ f. fault_number f == number) all_faults
+
+-- the number of what comes from outside of a volume: a read of bytes that weren't given, memory refused
+abbrev pub outside_number : List ℕ → ℕ
+outside_number name = if bytes_eq name (codes "Device") then 102 else if bytes_eq name (codes "Memory") then 103 else 99
+
+-- the number of a fault as it is printed, with a place in brackets or none
+abbrev pub number_printed : List ℕ → ℕ
+number_printed printed = option_map_or fault_number (fault_named (name_in printed)) (outside_number (name_in printed))

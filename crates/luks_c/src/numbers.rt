@@ -1,0 +1,186 @@
+//! The numbers by which the calls answer. `luks.h` lists them; a number stays its own in each later
+//! version.
+ghost use Rattle.std.specs.Prelude.{◌≡◌};
+ghost use Rattle.luks_c.specs.Numbers.{fault_number, fault_numbered, number_printed};
+ghost use Rattle.luks_area.specs.Printed.{area_fault_text};
+ghost use Rattle.luks_reading.specs.FaultTexts.{check_fault_text, open_fault_text};
+ghost use Rattle.luks1_header.specs.FaultTexts.{fault_text as head_fault_text};
+ghost use Rattle.luks_rules.specs.MetaFault.{fault_text as meta_fault_text};
+ghost use Rattle.luks_slot.specs.Fault.{fault_text as slot_fault_text};
+
+use luks_explain::Fault;
+use luks_reading::{AreaFault, CheckFault, HeadFault, MetaFault, OpenFault};
+use luks_slot::SlotFault;
+
+/// Done: the volume is accepted, the keyslot opens, the text is given.
+pub(crate) const DONE: u32 = 0;
+
+/// What the caller asks can't be: more bytes than the volume has, a passphrase that is too long.
+pub(crate) const USAGE: u32 = 101;
+
+/// More of the volume's first bytes have to be given.
+pub(crate) const BEYOND: u32 = 102;
+
+/// Memory was refused.
+pub(crate) const MEMORY: u32 = 103;
+
+/// The passphrase opens no keyslot that was tried.
+pub(crate) const SHUT: u32 = 105;
+
+/// The caller's buffer is too short for what is to be written there.
+pub(crate) const ROOM: u32 = 106;
+
+/// The fault of this number.
+pub(crate) fn fault_of(number: u32) -> Option<Fault>
+    ensures { result ≡ fault_numbered number }
+{
+    Fault::ALL
+        .iter()
+        .copied()
+        .find(|fault| number_of(*fault) == number)
+}
+
+/// The number of the fault.
+pub(crate) fn number_of(fault: Fault) -> u32
+    ensures { result ≡ fault_number fault }
+{
+    match fault {
+        Fault::TooShort => 1,
+        Fault::NotLuks => 2,
+        Fault::Version => 3,
+        Fault::NoSoundCopy => 4,
+        Fault::Text => 5,
+        Fault::Uuid => 6,
+        Fault::SlotState => 7,
+        Fault::KeyBytes => 8,
+        Fault::Stripes => 9,
+        Fault::Iterations => 10,
+        Fault::JsonArea => 11,
+        Fault::BadJson => 12,
+        Fault::NotWhole => 13,
+        Fault::Shape => 14,
+        Fault::Kind => 15,
+        Fault::NoSuchName => 16,
+        Fault::Assigned => 17,
+        Fault::Sizes => 18,
+        Fault::AreaTooSmall => 19,
+        Fault::Region => 20,
+        Fault::Outside => 21,
+        Fault::Overlap => 22,
+        Fault::NoSuchSlot => 23,
+        Fault::SlotFree => 24,
+        Fault::Argon2 => 25,
+        Fault::Cipher => 26,
+        Fault::Hash => 27,
+        Fault::KeySize => 28,
+        Fault::Locked => 29,
+        Fault::Passphrase => 30,
+        Fault::Requirements => 31,
+        Fault::SlotTaken => 32,
+        Fault::NoFreeSlot => 33,
+        Fault::NoRoom => 34,
+        Fault::LastSlot => 35,
+        Fault::BadLabel => 36,
+        Fault::SeqExhausted => 37,
+        Fault::MetadataFull => 38,
+        Fault::RandomLength => 39,
+        Fault::TooSmall => 40,
+        Fault::NotLuks1 => 41,
+        Fault::SameFile => 42,
+        Fault::Counts => 43,
+        Fault::NoMetadata => 44,
+        Fault::Exists => 45,
+        Fault::NotAccepted => 46,
+        Fault::DoesNotFit => 47,
+        Fault::OtherVolume => 48,
+        Fault::OtherUse => 49,
+    }
+}
+
+/// The number of what `check` answers in place of a report.
+pub(crate) fn check_number(fault: &CheckFault) -> u32
+    ensures { result ≡ number_printed (check_fault_text fault.now) }
+{
+    match fault {
+        CheckFault::Head(fault) => head_number(fault),
+        CheckFault::Meta(fault) => meta_number(fault),
+        CheckFault::Area(fault) => area_number(fault),
+        CheckFault::Device => BEYOND,
+        CheckFault::Memory => MEMORY,
+    }
+}
+
+/// The number of what opening a keyslot answers in place of a key.
+pub(crate) fn open_number(fault: &OpenFault) -> u32
+    ensures { result ≡ number_printed (open_fault_text fault.now) }
+{
+    match fault {
+        OpenFault::Head(fault) => head_number(fault),
+        OpenFault::Meta(fault) => meta_number(fault),
+        OpenFault::NoSuchSlot => number_of(Fault::NoSuchSlot),
+        OpenFault::SlotFree => number_of(Fault::SlotFree),
+        OpenFault::Outside => number_of(Fault::Outside),
+        OpenFault::Slot(fault) => slot_number(fault),
+        OpenFault::Device => BEYOND,
+        OpenFault::Memory => MEMORY,
+    }
+}
+
+fn head_number(fault: &HeadFault) -> u32
+    ensures { result ≡ number_printed (head_fault_text fault.now) }
+{
+    match fault {
+        HeadFault::TooShort => number_of(Fault::TooShort),
+        HeadFault::NotLuks => number_of(Fault::NotLuks),
+        HeadFault::Version => number_of(Fault::Version),
+        HeadFault::NoSoundCopy => number_of(Fault::NoSoundCopy),
+        HeadFault::Text(_) => number_of(Fault::Text),
+        HeadFault::Uuid => number_of(Fault::Uuid),
+        HeadFault::SlotState(_) => number_of(Fault::SlotState),
+        HeadFault::KeyBytes => number_of(Fault::KeyBytes),
+        HeadFault::Stripes(_) => number_of(Fault::Stripes),
+        HeadFault::Iterations(_) => number_of(Fault::Iterations),
+        HeadFault::Device => BEYOND,
+        HeadFault::Memory => MEMORY,
+    }
+}
+
+fn meta_number(fault: &MetaFault) -> u32
+    ensures { result ≡ number_printed (meta_fault_text fault.now) }
+{
+    match fault {
+        MetaFault::JsonArea => number_of(Fault::JsonArea),
+        MetaFault::BadJson => number_of(Fault::BadJson),
+        MetaFault::NotWhole => number_of(Fault::NotWhole),
+        MetaFault::Shape(_) => number_of(Fault::Shape),
+        MetaFault::Kind(_) => number_of(Fault::Kind),
+        MetaFault::NoSuchName(_) => number_of(Fault::NoSuchName),
+        MetaFault::Assigned(_) => number_of(Fault::Assigned),
+        MetaFault::Sizes => number_of(Fault::Sizes),
+        MetaFault::AreaTooSmall(_) => number_of(Fault::AreaTooSmall),
+        MetaFault::Region(_) => number_of(Fault::Region),
+        MetaFault::Memory => MEMORY,
+    }
+}
+
+fn area_number(fault: &AreaFault) -> u32
+    ensures { result ≡ number_printed (area_fault_text fault.now) }
+{
+    match fault {
+        AreaFault::Outside(_) => number_of(Fault::Outside),
+        AreaFault::Overlap(_, _) => number_of(Fault::Overlap),
+    }
+}
+
+fn slot_number(fault: &SlotFault) -> u32
+    ensures { result ≡ number_printed (slot_fault_text fault.now) }
+{
+    match fault {
+        SlotFault::Argon2 => number_of(Fault::Argon2),
+        SlotFault::Cipher => number_of(Fault::Cipher),
+        SlotFault::Hash => number_of(Fault::Hash),
+        SlotFault::KeySize => number_of(Fault::KeySize),
+        SlotFault::Device => BEYOND,
+        SlotFault::Memory => MEMORY,
+    }
+}
