@@ -1,6 +1,16 @@
 -- The numbers by which the calls answer, as luks.h lists them.
-use Rattle.std.specs.Prelude.{ℕ, List, codes, option_map_or, if◌then◌else◌, Option, None, Some, find, ◌==◌}
-use Rattle.std.specs.Str.{bytes_eq}
+use Rattle.std.specs.Prelude.{ℕ, ◌==◌, List, Option, find}
+use Rattle.std.specs.Option.{option_map_or}
+use Rattle.luks_area.specs.Printed.{area_fault_text}
+use Rattle.luks1_header.specs.FaultTexts.{fault_text as head_fault_text}
+use Rattle.luks_rules.specs.MetaFault.{fault_text as meta_fault_text}
+use Rattle.luks_slot.specs.Fault.{fault_text as slot_fault_text}
+use Rattle.luks_reading.specs.declared.check_fault.CheckFault.{CheckFault}
+use Rattle.luks_reading.specs.declared.check_fault.CheckFault.TheVariants as checking
+use Rattle.luks_reading.specs.declared.open_fault.OpenFault.{OpenFault}
+use Rattle.luks_reading.specs.declared.open_fault.OpenFault.TheVariants as opening
+use Rattle.luks_edit.specs.declared.edit_fault.EditFault.{EditFault}
+use Rattle.luks_edit.specs.declared.edit_fault.EditFault.TheVariants as edit
 use Rattle.luks_explain.specs.declared.fault.Fault.{Fault}
 use Rattle.luks_explain.specs.declared.fault.Fault.TheVariants as fault
 use Rattle.luks_explain.specs.Names.{all_faults, fault_named, name_in}
@@ -61,10 +71,44 @@ fault_number fault.OtherUse = 49
 abbrev pub fault_numbered : ℕ → Option Fault
 fault_numbered number = find (λ f. fault_number f == number) all_faults
 
--- the number of what comes from outside of a volume: a read of bytes that weren't given, memory refused
-abbrev pub outside_number : List ℕ → ℕ
-outside_number name = if bytes_eq name (codes "Device") then 102 else if bytes_eq name (codes "Memory") then 103 else 99
-
--- the number of a fault as it is printed, with a place in brackets or none
+-- the number of a fault as it is printed, with a place in brackets or none; 99 of what is no fault's name
 abbrev pub number_printed : List ℕ → ℕ
-number_printed printed = option_map_or fault_number (fault_named (name_in printed)) (outside_number (name_in printed))
+number_printed printed = option_map_or fault_number (fault_named (name_in printed)) 99
+
+-- of what `check` answers in place of a report: 102 of a read of bytes that weren't given, 103 of refused memory
+abbrev pub check_number : CheckFault → ℕ
+check_number (checking.Head f) = number_printed (head_fault_text f)
+check_number (checking.Meta f) = number_printed (meta_fault_text f)
+check_number (checking.Area f) = number_printed (area_fault_text f)
+check_number checking.Device = 102
+check_number checking.Memory = 103
+
+-- of what opening a keyslot answers in place of a key
+abbrev pub open_number : OpenFault → ℕ
+open_number (opening.Head f) = number_printed (head_fault_text f)
+open_number (opening.Meta f) = number_printed (meta_fault_text f)
+open_number opening.NoSuchSlot = 23
+open_number opening.SlotFree = 24
+open_number opening.Outside = 21
+open_number (opening.Slot f) = number_printed (slot_fault_text f)
+open_number opening.Device = 102
+open_number opening.Memory = 103
+
+-- of what an edit answers in place of what it made
+abbrev pub edit_number : EditFault → ℕ
+edit_number (edit.NotAccepted f) = check_number f
+edit_number edit.Requirements = 31
+edit_number edit.NoSuchSlot = 23
+edit_number edit.Locked = 29
+edit_number (edit.Slot f) = number_printed (slot_fault_text f)
+edit_number edit.SlotTaken = 32
+edit_number edit.NoFreeSlot = 33
+edit_number edit.NoRoom = 34
+edit_number edit.LastSlot = 35
+edit_number edit.Iterations = 10
+edit_number edit.BadLabel = 36
+edit_number edit.SeqExhausted = 37
+edit_number edit.MetadataFull = 38
+edit_number edit.RandomLength = 39
+edit_number edit.Memory = 103
+edit_number edit.Device = 102

@@ -1,6 +1,9 @@
-//! The calls of this repository for programs in C, over bytes of a volume that the caller read.
+//! The calls of this repository for programs in C, over the first bytes of a volume, which the caller
+//! read. `luks.h` says what a caller owes.
 #![tactic(auto)]
 
+mod buffers;
 mod checking;
-mod first_bytes;
 mod numbers;
+mod opening;
+mod texts;

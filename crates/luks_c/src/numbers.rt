@@ -1,19 +1,23 @@
 //! The numbers by which the calls answer. `luks.h` lists them; a number stays its own in each later
 //! version.
 ghost use Rattle.std.specs.Prelude.{◌≡◌};
-ghost use Rattle.luks_c.specs.Numbers.{fault_number, fault_numbered, number_printed};
+ghost use Rattle.luks_c.specs.Numbers.{check_number, edit_number, fault_number, fault_numbered, number_printed, open_number};
 ghost use Rattle.luks_area.specs.Printed.{area_fault_text};
-ghost use Rattle.luks_reading.specs.FaultTexts.{check_fault_text, open_fault_text};
 ghost use Rattle.luks1_header.specs.FaultTexts.{fault_text as head_fault_text};
 ghost use Rattle.luks_rules.specs.MetaFault.{fault_text as meta_fault_text};
 ghost use Rattle.luks_slot.specs.Fault.{fault_text as slot_fault_text};
 
+use luks_edit::EditFault;
 use luks_explain::Fault;
 use luks_reading::{AreaFault, CheckFault, HeadFault, MetaFault, OpenFault};
 use luks_slot::SlotFault;
 
 /// Done: the volume is accepted, the keyslot opens, the text is given.
 pub(crate) const DONE: u32 = 0;
+
+/// No fault: the device's failure and want of memory have numbers of their own, and are never told by
+/// this one.
+const UNKNOWN: u32 = 99;
 
 /// What the caller asks can't be: more bytes than the volume has, a passphrase that is too long.
 pub(crate) const USAGE: u32 = 101;
@@ -99,7 +103,7 @@ pub(crate) fn number_of(fault: Fault) -> u32
 
 /// The number of what `check` answers in place of a report.
 pub(crate) fn check_number(fault: &CheckFault) -> u32
-    ensures { result ≡ number_printed (check_fault_text fault.now) }
+    ensures { result ≡ check_number fault.now }
 {
     match fault {
         CheckFault::Head(fault) => head_number(fault),
@@ -112,7 +116,7 @@ pub(crate) fn check_number(fault: &CheckFault) -> u32
 
 /// The number of what opening a keyslot answers in place of a key.
 pub(crate) fn open_number(fault: &OpenFault) -> u32
-    ensures { result ≡ number_printed (open_fault_text fault.now) }
+    ensures { result ≡ open_number fault.now }
 {
     match fault {
         OpenFault::Head(fault) => head_number(fault),
@@ -123,6 +127,30 @@ pub(crate) fn open_number(fault: &OpenFault) -> u32
         OpenFault::Slot(fault) => slot_number(fault),
         OpenFault::Device => BEYOND,
         OpenFault::Memory => MEMORY,
+    }
+}
+
+/// The number of what an edit answers in place of what it made.
+pub(crate) fn edit_number(fault: &EditFault) -> u32
+    ensures { result ≡ edit_number fault.now }
+{
+    match fault {
+        EditFault::NotAccepted(fault) => check_number(fault),
+        EditFault::Requirements => number_of(Fault::Requirements),
+        EditFault::NoSuchSlot => number_of(Fault::NoSuchSlot),
+        EditFault::Locked => number_of(Fault::Locked),
+        EditFault::Slot(fault) => slot_number(fault),
+        EditFault::SlotTaken => number_of(Fault::SlotTaken),
+        EditFault::NoFreeSlot => number_of(Fault::NoFreeSlot),
+        EditFault::NoRoom => number_of(Fault::NoRoom),
+        EditFault::LastSlot => number_of(Fault::LastSlot),
+        EditFault::Iterations => number_of(Fault::Iterations),
+        EditFault::BadLabel => number_of(Fault::BadLabel),
+        EditFault::SeqExhausted => number_of(Fault::SeqExhausted),
+        EditFault::MetadataFull => number_of(Fault::MetadataFull),
+        EditFault::RandomLength => number_of(Fault::RandomLength),
+        EditFault::Memory => MEMORY,
+        EditFault::Device => BEYOND,
     }
 }
 
@@ -140,8 +168,8 @@ fn head_number(fault: &HeadFault) -> u32
         HeadFault::KeyBytes => number_of(Fault::KeyBytes),
         HeadFault::Stripes(_) => number_of(Fault::Stripes),
         HeadFault::Iterations(_) => number_of(Fault::Iterations),
-        HeadFault::Device => BEYOND,
-        HeadFault::Memory => MEMORY,
+        HeadFault::Device => UNKNOWN,
+        HeadFault::Memory => UNKNOWN,
     }
 }
 
@@ -159,7 +187,7 @@ fn meta_number(fault: &MetaFault) -> u32
         MetaFault::Sizes => number_of(Fault::Sizes),
         MetaFault::AreaTooSmall(_) => number_of(Fault::AreaTooSmall),
         MetaFault::Region(_) => number_of(Fault::Region),
-        MetaFault::Memory => MEMORY,
+        MetaFault::Memory => UNKNOWN,
     }
 }
 
@@ -180,7 +208,7 @@ fn slot_number(fault: &SlotFault) -> u32
         SlotFault::Cipher => number_of(Fault::Cipher),
         SlotFault::Hash => number_of(Fault::Hash),
         SlotFault::KeySize => number_of(Fault::KeySize),
-        SlotFault::Device => BEYOND,
-        SlotFault::Memory => MEMORY,
+        SlotFault::Device => UNKNOWN,
+        SlotFault::Memory => UNKNOWN,
     }
 }

@@ -2,7 +2,9 @@
 ghost use Rattle.std.specs.Prelude.{◌≡◌, ◌≢◌, ◌⊎◌, ◌≤◌, ◌<◌, ◌^◌, None, length};
 ghost use Rattle.luks_given.specs.Volume.{volume};
 
+use crate::given::Given;
 use luks_area::{Device, DeviceFault};
+use std::marker::PhantomData;
 
 /// A volume of which the first bytes lie in memory, as a device that is only read.
 ///
@@ -11,24 +13,27 @@ use luks_area::{Device, DeviceFault};
 /// ended that the last failing read asked for. A write fails too; it leaves its first place unsettled
 /// for good, by which a contract sees that there was none.
 #[derive(Drop)]
-pub struct FirstBytes<'a> {
+pub struct FirstBytes<'a, K: Given> {
     first: &'a [u8],
     total: u64,
     reached: u64,
     refused: Option<u64>,
     failures: u64,
+    given: PhantomData<K>,
     ghost fits: { total < 2 ^ 64 },
+    ghost known: { length first.now ≡ K.count },
     ghost within: { length first.now ≤ total },
     ghost inside: { reached ≤ total },
     ghost far: { refused ≡ None → failures ≢ 0 → length first.now < reached },
 }
 
-impl<'a> FirstBytes<'a> {
-    ghost use Rattle.luks_given.specs.Given.{given_bytes, given_failures, given_size, given_length, reached_by, IsUnwritten};
+impl<'a, K: Given> FirstBytes<'a, K> {
+    ghost use Rattle.luks_given.specs.Given.{given_bytes, given_failures, given_size, reached_by, IsUnwritten};
 
     /// The volume of `total` bytes that begins with these.
     pub fn new(first: &'a [u8], total: u64) -> Self
-        requires { length first.now ≤ total }
+        requires within { length first.now ≤ total }
+        requires count { K.count ≡ length first.now }
         ensures bytes { given_bytes result ≡ volume first.now total }
         ensures size { given_size result ≡ total }
         ensures failures { given_failures result ≡ 0 }
@@ -40,6 +45,7 @@ impl<'a> FirstBytes<'a> {
             reached: 0,
             refused: None,
             failures: 0,
+            given: PhantomData,
         }
     }
 
@@ -49,13 +55,13 @@ impl<'a> FirstBytes<'a> {
         ensures value { result ≡ reached_by self.now }
         ensures inside { result ≤ given_size self.now }
         ensures far { IsUnwritten self.now → given_failures self.now ≢ 0
-            → given_length self.now < result }
+            → K.count < result }
     {
         self.reached
     }
 }
 
-impl Device for FirstBytes<'_> {
+impl<K: Given> Device for FirstBytes<'_, K> {
     ghost use Rattle.luks_given.specs.Given.{given_bytes, given_failures, given_size, IsRefusedAt};
     ghost use Rattle.luks_given.specs.VolumeFacts.{length-volume};
 

@@ -3,7 +3,9 @@
 #![tactic(auto)]
 
 mod first_bytes;
+mod given;
 mod planned_writes;
 
 pub use first_bytes::FirstBytes;
-pub use planned_writes::{PlannedCall, PlannedWrites, Start};
+pub use given::Given;
+pub use planned_writes::{PlannedCall, PlannedWrites};

@@ -1,22 +1,13 @@
 //! A volume of which the first bytes are given, as a device whose writes are planned.
-ghost use Rattle.std.specs.Prelude.{◌≡◌, ◌≢◌, ◌+◌, ◌≤◌, ◌<◌, ◌^◌, ◌∷◌, ◌++◌, [], ℕ, List, IsTrue, IsFalse, false, length};
+ghost use Rattle.std.specs.Prelude.{◌≡◌, ◌≢◌, ◌+◌, ◌≤◌, ◌<◌, ◌^◌, ◌∷◌, ◌++◌, [], IsTrue, IsFalse, false, length};
 ghost use Rattle.luks_area.specs.Ranges.{written};
 ghost use Rattle.luks_given.specs.Plan.{furthest, planned_length, played};
 ghost use Rattle.luks_given.specs.Volume.{volume};
 
+use crate::given::Given;
 use luks_area::{Device, DeviceFault};
 use std::alloc::Global;
-use std::marker::{Brand, PhantomData};
-
-/// The bytes of a volume before a call. No code holds them: a plan says by them what it is a plan of.
-pub trait Start {
-    /// The bytes.
-    ghost bytes: { List ℕ };
-}
-
-impl Start for Brand {
-    ghost bytes = { [] };
-}
+use std::marker::PhantomData;
 
 /// A call of the plan: so many bytes are written from the place `at` on, or, where they are none, all
 /// that was written is to stay before a later call begins.
@@ -36,7 +27,7 @@ pub struct PlannedCall {
 /// keeps where the range ended that the last such call asked for. A call fails also where there is no
 /// memory for the plan.
 #[derive(Drop)]
-pub struct PlannedWrites<K: Start> {
+pub struct PlannedWrites<K: Given> {
     first: Vec<u8>,
     calls: Vec<PlannedCall>,
     bytes: Vec<u8>,
@@ -44,8 +35,9 @@ pub struct PlannedWrites<K: Start> {
     reached: u64,
     is_full: bool,
     failures: u64,
-    start: PhantomData<K>,
+    given: PhantomData<K>,
     ghost fits: { total < 2 ^ 64 },
+    ghost known: { length first.items ≡ K.count },
     ghost within: { length first.items ≤ total },
     ghost inside: { reached ≤ total },
     ghost far: { failures ≢ 0 → is_full ≡ false → length first.items < reached },
@@ -54,18 +46,18 @@ pub struct PlannedWrites<K: Start> {
     ghost plays: { played calls.items bytes.items K.bytes ≡ volume first.items total },
 }
 
-impl<K: Start> PlannedWrites<K> {
+impl<K: Given> PlannedWrites<K> {
     ghost use Rattle.std.specs.Prelude.{IfSome};
-    ghost use Rattle.luks_given.specs.Planned.{planned_bytes, planned_calls, planned_failures, planned_first, planned_size, planned_written};
+    ghost use Rattle.luks_given.specs.Planned.{planned_bytes, planned_calls, planned_failures, planned_size, planned_written};
 
     /// The volume of `total` bytes that begins with these, and an empty plan.
     pub fn new(alloc: Global, first: Vec<u8>, total: u64) -> Self
         requires inside { length first.items ≤ total }
-        requires start { K.bytes ≡ volume first.items total }
+        requires bytes { K.bytes ≡ volume first.items total }
+        requires count { K.count ≡ length first.items }
         ensures bytes { planned_bytes result ≡ volume first.items total }
         ensures size { planned_size result ≡ total }
         ensures failures { planned_failures result ≡ 0 }
-        ensures first { planned_first result ≡ first.items }
     {
         PlannedWrites {
             first,
@@ -75,7 +67,7 @@ impl<K: Start> PlannedWrites<K> {
             reached: 0,
             is_full: false,
             failures: 0,
-            start: PhantomData,
+            given: PhantomData,
         }
     }
 
@@ -102,7 +94,7 @@ impl<K: Start> PlannedWrites<K> {
     pub fn reached(&self) -> Option<u64>
         ensures inside { IfSome result (λ end. end ≤ planned_size self.now) }
         ensures far { planned_failures self.now ≢ 0
-            → IfSome result (λ end. length (planned_first self.now) < end) }
+            → IfSome result (λ end. K.count < end) }
     {
         if self.is_full || self.failures == 0 {
             None
@@ -138,7 +130,7 @@ fn put(bytes: &mut Vec<u8>, at: usize, from: &[u8])
     bytes[at..at + from.len()].copy_from_slice(from);
 }
 
-impl<K: Start> Device for PlannedWrites<K> {
+impl<K: Given> Device for PlannedWrites<K> {
     ghost use Rattle.luks_given.specs.Planned.{planned_bytes, planned_failures, planned_size};
     ghost use Rattle.luks_given.specs.VolumeFacts.{length-volume};
 

@@ -12,4 +12,4 @@ invariant_of-result-clause-counted g c = ap planned_length c.new.ensures.items �
 
 pub invariant_of-result-clause-plays : goal.invariant_of-result-clause-plays
 unfolding played
-invariant_of-result-clause-plays g c = ap (λ calls. played calls c.new-2.result.items g.K.Start.bytes) c.new.ensures.items ∙ c.requires.start
+invariant_of-result-clause-plays g c = ap (λ calls. played calls c.new-2.result.items g.K.Given.bytes) c.new.ensures.items ∙ c.requires.bytes

@@ -22,7 +22,7 @@ pub invariant_of-self-else-not-add_call-clause-plays : goal.invariant_of-self-el
 invariant_of-self-else-not-add_call-clause-plays g c =
     let self = c.args.self.now in
     let call : PlannedCall = record { at = 0; len = 0 } in
-    let start : List ℕ = g.K.Start.bytes in
+    let start : List ℕ = g.K.Given.bytes in
     ap (λ calls. played calls c.add_call.new.bytes.items start) (c.if-not-add_call.ensures.calls refl)
     ∙ ap (λ bytes. played (self.calls.items ++ call ∷ []) bytes start) (c.if-not-add_call.ensures.bytes refl)
     ∙ played-more self.calls.items call self.bytes.items [] start self.counted (omega arith)

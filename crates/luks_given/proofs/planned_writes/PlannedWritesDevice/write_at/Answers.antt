@@ -46,7 +46,7 @@ invariant_of-self-2-clause-plays g c =
     let from : List ℕ = c.args.from.now in
     let at : ℕ = c.args.at in
     let call : PlannedCall = record { at = at; len = length from } in
-    let start : List ℕ = g.K.Start.bytes in
+    let start : List ℕ = g.K.Given.bytes in
     ap (λ calls. played calls c.add_call.new.bytes.items start) (c.if-not-add_call.ensures.calls refl)
     ∙ ap (λ bytes. played (self.calls.items ++ call ∷ []) bytes start) (c.if-not-add_call.ensures.bytes refl)
     ∙ played-more self.calls.items call self.bytes.items from start self.counted (omega arith)

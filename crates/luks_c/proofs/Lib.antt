@@ -1,0 +1,2 @@
+pub mod BufferFacts
+pub mod NumberFacts

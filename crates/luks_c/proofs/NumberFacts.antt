@@ -1,0 +1,116 @@
+-- In which range the numbers of answers lie.
+use Rattle.std.proofs.Common.{◌≡◌, ◌≢◌, ℕ, ◌≤◌, List, Option, Some, None, false, arith}
+use Rattle.std.specs.Option.{option_map_or}
+use Rattle.std.proofs.lemmas.Bool.{true≢false}
+use Rattle.luks_explain.specs.declared.fault.Fault.{Fault}
+use Rattle.luks_explain.specs.declared.fault.Fault.TheVariants as fault
+use Rattle.luks_explain.specs.Names.{fault_named, name_in}
+use Rattle.luks1_header.specs.FaultTexts.{fault_text as head_fault_text}
+use Rattle.luks_area.specs.Printed.{area_fault_text}
+use Rattle.luks_rules.specs.MetaFault.{fault_text as meta_fault_text}
+use Rattle.luks_slot.specs.Fault.{fault_text as slot_fault_text}
+use Rattle.luks_reading.specs.Failures.{is_check_failure, is_open_failure}
+use Rattle.luks_reading.specs.declared.check_fault.CheckFault.{CheckFault}
+use Rattle.luks_reading.specs.declared.check_fault.CheckFault.TheVariants as checking
+use Rattle.luks_reading.specs.declared.open_fault.OpenFault.{OpenFault}
+use Rattle.luks_reading.specs.declared.open_fault.OpenFault.TheVariants as opening
+use Rattle.luks_c.specs.Numbers.{check_number, fault_number, number_printed, open_number}
+
+-- that of a fault is 1 to 49
+fault_number_range : (f : Fault) → (1 ≤ fault_number f) × (fault_number f ≤ 49)
+fault_number_range fault.TooShort = (omega arith, omega arith)
+fault_number_range fault.NotLuks = (omega arith, omega arith)
+fault_number_range fault.Version = (omega arith, omega arith)
+fault_number_range fault.NoSoundCopy = (omega arith, omega arith)
+fault_number_range fault.Text = (omega arith, omega arith)
+fault_number_range fault.Uuid = (omega arith, omega arith)
+fault_number_range fault.SlotState = (omega arith, omega arith)
+fault_number_range fault.KeyBytes = (omega arith, omega arith)
+fault_number_range fault.Stripes = (omega arith, omega arith)
+fault_number_range fault.Iterations = (omega arith, omega arith)
+fault_number_range fault.JsonArea = (omega arith, omega arith)
+fault_number_range fault.BadJson = (omega arith, omega arith)
+fault_number_range fault.NotWhole = (omega arith, omega arith)
+fault_number_range fault.Shape = (omega arith, omega arith)
+fault_number_range fault.Kind = (omega arith, omega arith)
+fault_number_range fault.NoSuchName = (omega arith, omega arith)
+fault_number_range fault.Assigned = (omega arith, omega arith)
+fault_number_range fault.Sizes = (omega arith, omega arith)
+fault_number_range fault.AreaTooSmall = (omega arith, omega arith)
+fault_number_range fault.Region = (omega arith, omega arith)
+fault_number_range fault.Outside = (omega arith, omega arith)
+fault_number_range fault.Overlap = (omega arith, omega arith)
+fault_number_range fault.NoSuchSlot = (omega arith, omega arith)
+fault_number_range fault.SlotFree = (omega arith, omega arith)
+fault_number_range fault.Argon2 = (omega arith, omega arith)
+fault_number_range fault.Cipher = (omega arith, omega arith)
+fault_number_range fault.Hash = (omega arith, omega arith)
+fault_number_range fault.KeySize = (omega arith, omega arith)
+fault_number_range fault.Locked = (omega arith, omega arith)
+fault_number_range fault.Passphrase = (omega arith, omega arith)
+fault_number_range fault.Requirements = (omega arith, omega arith)
+fault_number_range fault.SlotTaken = (omega arith, omega arith)
+fault_number_range fault.NoFreeSlot = (omega arith, omega arith)
+fault_number_range fault.NoRoom = (omega arith, omega arith)
+fault_number_range fault.LastSlot = (omega arith, omega arith)
+fault_number_range fault.BadLabel = (omega arith, omega arith)
+fault_number_range fault.SeqExhausted = (omega arith, omega arith)
+fault_number_range fault.MetadataFull = (omega arith, omega arith)
+fault_number_range fault.RandomLength = (omega arith, omega arith)
+fault_number_range fault.TooSmall = (omega arith, omega arith)
+fault_number_range fault.NotLuks1 = (omega arith, omega arith)
+fault_number_range fault.SameFile = (omega arith, omega arith)
+fault_number_range fault.Counts = (omega arith, omega arith)
+fault_number_range fault.NoMetadata = (omega arith, omega arith)
+fault_number_range fault.Exists = (omega arith, omega arith)
+fault_number_range fault.NotAccepted = (omega arith, omega arith)
+fault_number_range fault.DoesNotFit = (omega arith, omega arith)
+fault_number_range fault.OtherVolume = (omega arith, omega arith)
+fault_number_range fault.OtherUse = (omega arith, omega arith)
+
+-- of a fault that may not be there
+number_range : (o : Option Fault) → (1 ≤ option_map_or fault_number o 99) × (option_map_or fault_number o 99 ≤ 99)
+number_range None = (omega arith, omega arith)
+number_range (Some f) = let r = fault_number_range f in (r.0, let high = r.1 in omega (arith, high))
+
+-- that of a printed fault is 1 to 99
+pub number_printed_range : (printed : List ℕ) → (1 ≤ number_printed printed) × (number_printed printed ≤ 99)
+number_printed_range printed = number_range (fault_named (name_in printed))
+
+-- no fault has the number of what is done
+pub check_number_some : (f : CheckFault) → 1 ≤ check_number f
+check_number_some (checking.Head f) = (number_printed_range (head_fault_text f)).0
+check_number_some (checking.Meta f) = (number_printed_range (meta_fault_text f)).0
+check_number_some (checking.Area f) = (number_printed_range (area_fault_text f)).0
+check_number_some checking.Device = omega arith
+check_number_some checking.Memory = omega arith
+
+-- none but the device's asks for more bytes
+pub check_number_other : (f : CheckFault) → is_check_failure f ≡ false → check_number f ≢ 102
+check_number_other (checking.Head f) own = λ e. let high = (number_printed_range (head_fault_text f)).1 in absurd (omega (arith, high, e))
+check_number_other (checking.Meta f) own = λ e. let high = (number_printed_range (meta_fault_text f)).1 in absurd (omega (arith, high, e))
+check_number_other (checking.Area f) own = λ e. let high = (number_printed_range (area_fault_text f)).1 in absurd (omega (arith, high, e))
+check_number_other checking.Device own = absurd (true≢false own)
+check_number_other checking.Memory own = λ e. absurd (omega (arith, e))
+
+-- what refuses a passphrase has a number of 1 to 103
+pub open_number_range : (f : OpenFault) → (1 ≤ open_number f) × (open_number f ≤ 103)
+open_number_range (opening.Head f) = let r = number_printed_range (head_fault_text f) in (r.0, let high = r.1 in omega (arith, high))
+open_number_range (opening.Meta f) = let r = number_printed_range (meta_fault_text f) in (r.0, let high = r.1 in omega (arith, high))
+open_number_range opening.NoSuchSlot = (omega arith, omega arith)
+open_number_range opening.SlotFree = (omega arith, omega arith)
+open_number_range opening.Outside = (omega arith, omega arith)
+open_number_range (opening.Slot f) = let r = number_printed_range (slot_fault_text f) in (r.0, let high = r.1 in omega (arith, high))
+open_number_range opening.Device = (omega arith, omega arith)
+open_number_range opening.Memory = (omega arith, omega arith)
+
+-- none but the device's asks for more bytes
+pub open_number_other : (f : OpenFault) → is_open_failure f ≡ false → open_number f ≢ 102
+open_number_other (opening.Head f) own = λ e. let high = (number_printed_range (head_fault_text f)).1 in absurd (omega (arith, high, e))
+open_number_other (opening.Meta f) own = λ e. let high = (number_printed_range (meta_fault_text f)).1 in absurd (omega (arith, high, e))
+open_number_other opening.NoSuchSlot own = λ e. absurd (omega (arith, e))
+open_number_other opening.SlotFree own = λ e. absurd (omega (arith, e))
+open_number_other opening.Outside own = λ e. absurd (omega (arith, e))
+open_number_other (opening.Slot f) own = λ e. let high = (number_printed_range (slot_fault_text f)).1 in absurd (omega (arith, high, e))
+open_number_other opening.Device own = absurd (true≢false own)
+open_number_other opening.Memory own = λ e. absurd (omega (arith, e))

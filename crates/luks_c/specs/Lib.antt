@@ -1,0 +1,5 @@
+pub mod Asked
+pub mod Buffers
+pub mod CheckAnswers
+pub mod Numbers
+pub mod OpenAnswers

@@ -1,0 +1,114 @@
+//! Checking a volume.
+ghost use Rattle.std.specs.Prelude.{◌≡◌, ◌≤◌, ◌<◌, length};
+ghost use Rattle.luks_given.specs.Volume.{volume};
+ghost use Rattle.luks_c.specs.Asked.{payload_of};
+ghost use Rattle.luks_c.specs.CheckAnswers.{AnswersCheck, copies_number, number_of_copies, seqid_of, version_number};
+
+use crate::numbers::{BEYOND, DONE, USAGE, check_number};
+use luks_given::FirstBytes;
+use luks_reading::{CheckFault, Copies, Data, Report, Version, check};
+use std::alloc::Global;
+
+/// What `luks_check_bytes` tells of a volume that it accepts; of another each number is 0, but
+/// `beyond`.
+#[repr(C)]
+#[derive(Debug, Clone, Copy, Drop, Default)]
+pub struct LuksReport {
+    /// 1 or 2.
+    pub version: u32,
+    /// Of LUKS2 how the copies of the header stand: 1 in step, 2 the first is newer, 3 the second is
+    /// newer, 4 only the first is sound, 5 only the second is. Of LUKS1 0.
+    pub copies: u32,
+    /// Of LUKS2 the sequence number of the copy that counts, of LUKS1 0.
+    pub seqid: u64,
+    /// How many areas the volume has.
+    pub areas: u64,
+    /// With the answer BEYOND, how many of the first bytes have to be given.
+    pub beyond: u64,
+}
+
+/// Judges the volume of `total` bytes that begins with these; `is_detached` says that its data lies on
+/// another device.
+///
+/// Takes memory for the metadata of LUKS2 alone.
+#[unsafe(no_mangle)]
+pub extern "C" fn luks_check_bytes(
+    alloc: Global,
+    first: &[u8],
+    total: u64,
+    is_detached: bool,
+    report: &mut LuksReport,
+) -> u32
+    ensures usage { total < length first.now → result ≡ 101 }
+    ensures answers { length first.now ≤ total
+        → AnswersCheck (volume first.now total) (payload_of is_detached) result report.new }
+    // More bytes are asked for than were given, and no more than there are.
+    ensures more { result ≡ 102 → length first.now < report.new.beyond }
+    ensures within { result ≡ 102 → report.new.beyond ≤ total }
+{
+    *report = LuksReport::default();
+    if first.len() as u64 > total {
+        return USAGE;
+    }
+    let mut device = FirstBytes::new(first, total);
+    match check(alloc, &mut device, data_of(is_detached)) {
+        Ok(found) => {
+            *report = told(&found);
+            DONE
+        }
+        Err(CheckFault::Device) => {
+            report.beyond = device.reached();
+            BEYOND
+        }
+        Err(fault) => check_number(&fault),
+    }
+}
+
+/// Where the payload lies.
+pub(crate) fn data_of(is_detached: bool) -> Data
+    ensures { result ≡ payload_of is_detached }
+{
+    if is_detached {
+        Data::Elsewhere
+    } else {
+        Data::Here
+    }
+}
+
+/// What is told of an accepted volume.
+fn told(found: &Report) -> LuksReport
+    ensures version { result.version ≡ version_number found.now.version }
+    ensures copies { result.copies ≡ copies_number found.now.version }
+    ensures seqid { result.seqid ≡ seqid_of found.now.version }
+    ensures areas { result.areas ≡ length found.now.areas }
+{
+    let areas = found.areas.len() as u64;
+    match found.version {
+        Version::Luks1 => LuksReport {
+            version: 1,
+            copies: 0,
+            seqid: 0,
+            areas,
+            beyond: 0,
+        },
+        Version::Luks2 { copies, seqid } => LuksReport {
+            version: 2,
+            copies: number_of_copies(copies),
+            seqid,
+            areas,
+            beyond: 0,
+        },
+    }
+}
+
+fn number_of_copies(copies: Copies) -> u32
+    ensures { result ≡ number_of_copies copies }
+{
+    match copies {
+        Copies::InStep => 1,
+        Copies::FirstNewer => 2,
+        Copies::SecondNewer => 3,
+        Copies::FirstOnly => 4,
+        Copies::SecondOnly => 5,
+    }
+}

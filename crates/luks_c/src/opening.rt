@@ -1,0 +1,114 @@
+//! Opening keyslots.
+ghost use Rattle.std.specs.Prelude.{◌≡◌, ◌≤◌, ◌<◌, ◌^◌, length};
+ghost use Rattle.luks_given.specs.Volume.{volume};
+ghost use Rattle.luks_c.specs.OpenAnswers.{AnswersOpen, AnswersUnlock, IsGiven};
+
+use crate::buffers::fill_front;
+use crate::numbers::{BEYOND, DONE, ROOM, SHUT, USAGE, open_number};
+use luks_given::FirstBytes;
+use luks_reading::{Key, OpenFault, open_slot, unlock};
+use std::alloc::Global;
+
+/// What opening a keyslot tells.
+#[repr(C)]
+#[derive(Debug, Clone, Copy, Drop, Default)]
+pub struct LuksOpened {
+    /// The keyslot that opens.
+    pub slot: u32,
+    /// The bytes of its volume key; 0 where none opens.
+    pub key_bytes: u32,
+    /// With the answer BEYOND, how many of the first bytes have to be given.
+    pub beyond: u64,
+}
+
+/// Opens the volume of `total` bytes that begins with these, by the first keyslot that the passphrase
+/// opens. The volume key is put into `key`, where that has any byte.
+///
+/// Argon2 may take `memory` KiB for each keyslot; one that takes more is passed over. Else memory is
+/// taken for the metadata of LUKS2 alone.
+#[unsafe(no_mangle)]
+pub extern "C" fn luks_unlock_bytes(
+    alloc: Global,
+    first: &[u8],
+    total: u64,
+    passphrase: &[u8],
+    memory: u32,
+    key: &mut [u8],
+    opened: &mut LuksOpened,
+) -> u32
+    ensures usage { total < length first.now → result ≡ 101 }
+    ensures long { 2 ^ 32 ≤ length passphrase.now → result ≡ 101 }
+    ensures answers { length first.now ≤ total → length passphrase.now < 2 ^ 32
+        → AnswersUnlock memory (volume first.now total) passphrase.now
+        key.old key.new opened.new result }
+    ensures more { result ≡ 102 → length first.now < opened.new.beyond }
+    ensures within { result ≡ 102 → opened.new.beyond ≤ total }
+{
+    *opened = LuksOpened::default();
+    if first.len() as u64 > total || passphrase.len() as u64 >= 0x1_0000_0000 {
+        return USAGE;
+    }
+    let mut device = FirstBytes::new(first, total);
+    match unlock(alloc, &mut device, passphrase, memory) {
+        Ok(Some((slot, found))) => give_key(u32::from(slot), &found, key, opened),
+        Ok(None) => SHUT,
+        Err(OpenFault::Device) => {
+            opened.beyond = device.reached();
+            BEYOND
+        }
+        Err(fault) => open_number(&fault),
+    }
+}
+
+/// Opens the keyslot `n` of the volume of `total` bytes that begins with these, as `luks_unlock_bytes`
+/// does of the first that opens.
+#[unsafe(no_mangle)]
+pub extern "C" fn luks_open_bytes(
+    alloc: Global,
+    first: &[u8],
+    total: u64,
+    n: u8,
+    passphrase: &[u8],
+    memory: u32,
+    key: &mut [u8],
+    opened: &mut LuksOpened,
+) -> u32
+    ensures usage { total < length first.now → result ≡ 101 }
+    ensures long { 2 ^ 32 ≤ length passphrase.now → result ≡ 101 }
+    ensures answers { length first.now ≤ total → length passphrase.now < 2 ^ 32
+        → AnswersOpen memory (volume first.now total) n passphrase.now
+        key.old key.new opened.new result }
+    ensures more { result ≡ 102 → length first.now < opened.new.beyond }
+    ensures within { result ≡ 102 → opened.new.beyond ≤ total }
+{
+    *opened = LuksOpened::default();
+    if first.len() as u64 > total || passphrase.len() as u64 >= 0x1_0000_0000 {
+        return USAGE;
+    }
+    let mut device = FirstBytes::new(first, total);
+    match open_slot(alloc, &mut device, n, passphrase, memory) {
+        Ok(Some(found)) => give_key(u32::from(n), &found, key, opened),
+        Ok(None) => SHUT,
+        Err(OpenFault::Device) => {
+            opened.beyond = device.reached();
+            BEYOND
+        }
+        Err(fault) => open_number(&fault),
+    }
+}
+
+/// Tells the keyslot and its key, which is put into the buffer where that has any byte.
+fn give_key(slot: u32, found: &Key, key: &mut [u8], opened: &mut LuksOpened) -> u32
+    ensures slot { opened.new.slot ≡ slot }
+    ensures key_bytes { opened.new.key_bytes ≡ length found.now }
+    ensures given { IsGiven found.now key.old key.new result }
+{
+    let bytes = found.as_bytes();
+    opened.slot = slot;
+    opened.key_bytes = bytes.len() as u32;
+    if !key.is_empty() && key.len() < bytes.len() {
+        return ROOM;
+    }
+    fill_front(key, bytes);
+    DONE
+}

@@ -1,0 +1,198 @@
+/* Calls of libluks, as interop/library asks for them: library-calls CALL VOLUME OFFSET LENGTH [WORD..]
+ *
+ * It prints what `luks` would print of the same volume, a fault without its brackets, and then what the caller's side holds:
+ * that its position in the file is where it was. It is built with the sanitizers.
+ */
+#define _GNU_SOURCE
+#include <errno.h>
+#include <fcntl.h>
+#include <luks.h>
+#include <pthread.h>
+#include <stdio.h>
+#include <stdlib.h>
+#include <string.h>
+#include <sys/mman.h>
+#include <unistd.h>
+
+static const char *const COPIES[] = {"", "in-step", "first-newer", "second-newer", "first-only", "second-only"};
+
+static int told(uint32_t answer)
+{
+    uint8_t name[32];
+    size_t bytes = luks_fault_name(answer, name, sizeof name);
+    if (answer == LUKS_DEVICE)
+        printf("device fault %s\n", strerrorname_np(errno));
+    else
+        printf("refused %.*s\n", (int)bytes, (char *)name);
+    return 1;
+}
+
+static int check(int fd, uint64_t offset, uint64_t length, bool is_detached)
+{
+    struct luks_report report;
+    uint32_t answer = luks_check(fd, offset, length, is_detached, &report);
+    if (answer != LUKS_DONE)
+        return told(answer);
+    if (report.version == 1)
+        printf("accepted luks1 areas %ju\n", (uintmax_t)report.areas);
+    else
+        printf("accepted luks2 %s seqid %ju areas %ju\n", COPIES[report.copies], (uintmax_t)report.seqid, (uintmax_t)report.areas);
+    return 0;
+}
+
+/* The keyslot is a number, or `any`; where `room` is given, the key is printed behind the answer. */
+static int opens(int fd, uint64_t offset, uint64_t length, const char *slot, const char *file, const char *mib, const char *room)
+{
+    struct luks_opened opened;
+    size_t words_room = 65537, key_room = room ? strtoul(room, NULL, 10) : 0;
+    uint8_t *words = malloc(words_room), *key = key_room ? malloc(key_room) : NULL;
+    FILE *from = fopen(file, "rb");
+    size_t bytes = fread(words, 1, words_room, from);
+    uint8_t *exact = malloc(bytes ? bytes : 1);
+    memcpy(exact, words, bytes);
+    fclose(from);
+    uint32_t memory = (uint32_t)strtoul(mib, NULL, 10) * 1024;
+    uint32_t answer = strcmp(slot, "any") == 0 ? luks_unlock(fd, offset, length, bytes ? exact : NULL, bytes, memory, key, key_room, &opened)
+                                               : luks_open(fd, offset, length, (uint8_t)strtoul(slot, NULL, 10), exact, bytes, memory, key, key_room, &opened);
+    int status = 0;
+    if (answer == LUKS_DONE)
+        printf("slot %u opens\n", opened.slot);
+    else if (answer == LUKS_SHUT && strcmp(slot, "any") == 0)
+        puts("no slot opens");
+    else if (answer == LUKS_SHUT)
+        printf("slot %s does not open\n", slot);
+    else
+        status = told(answer);
+    if (answer == LUKS_DONE && key_room) {
+        printf("key ");
+        for (uint32_t i = 0; i < opened.key_bytes; i++)
+            printf("%02x", key[i]);
+        puts("");
+    }
+    if (answer == LUKS_ROOM)
+        printf("bytes %u\n", opened.key_bytes);
+    free(exact);
+    free(words);
+    free(key);
+    return status;
+}
+
+/* The same over all bytes in memory, and over each shorter front that more is asked of. */
+static int check_bytes(int fd, uint64_t offset, uint64_t length, bool is_detached)
+{
+    off_t end = lseek(fd, 0, SEEK_END);
+    uint64_t total = (uint64_t)end > offset ? (uint64_t)end - offset : 0, held = 0;
+    total = total < length ? total : length;
+    struct luks_report report;
+    for (int calls = 0; calls < 64; calls++) {
+        uint8_t *first = malloc(held ? held : 1);
+        if (pread(fd, first, held, (off_t)offset) != (ssize_t)held)
+            return 2;
+        uint32_t answer = luks_check_bytes(first, held, total, is_detached, &report);
+        free(first);
+        if (answer == LUKS_BEYOND && report.beyond > held && report.beyond <= total) {
+            held = report.beyond;
+            continue;
+        }
+        if (answer != LUKS_DONE)
+            return told(answer);
+        printf("accepted luks%u areas %ju\n", report.version, (uintmax_t)report.areas);
+        return 0;
+    }
+    puts("more and more is asked for");
+    return 1;
+}
+
+/* What a caller gets wrong. */
+static int wrong(int fd)
+{
+    struct luks_report report;
+    struct luks_opened opened;
+    uint8_t byte = 0;
+    printf("%u %u %u %u\n", luks_check(fd, 0, LUKS_TO_END, false, NULL), luks_unlock(fd, 0, LUKS_TO_END, NULL, 1, 0, NULL, 0, &opened),
+           luks_unlock(fd, 0, LUKS_TO_END, &byte, 1, 0, NULL, 1, &opened), luks_check_bytes(&byte, 1, 0, false, &report));
+    printf("%zu %zu %zu\n", luks_fault_name(50, &byte, 0), luks_fault_text(1, 0, &byte, 0), luks_fault_text(1, 5, &byte, 1));
+    size_t long_one = (size_t)1 << 32;
+    uint8_t *words = mmap(NULL, long_one, PROT_READ, MAP_PRIVATE | MAP_ANONYMOUS | MAP_NORESERVE, -1, 0);
+    printf("%u %u\n", luks_unlock_bytes(&byte, 1, 1, words, long_one, 0, &byte, 0, &opened), luks_open_bytes(&byte, 1, 1, 0, words, long_one, 0, &byte, 0, &opened));
+    munmap(words, long_one);
+    return 0;
+}
+
+static int texts(void)
+{
+    for (uint32_t number = 0; number < 110; number++) {
+        uint8_t room[2048];
+        size_t bytes = luks_fault_name(number, room, sizeof room);
+        if (bytes == 0)
+            continue;
+        printf("%u %.*s\n", number, (int)bytes, (char *)room);
+        static const char *const before[] = {"", "means  ", "where  ", "safe   ", "next   "};
+        for (uint32_t part = 1; part <= 4; part++) {
+            bytes = luks_fault_text(number, part, room, sizeof room);
+            if (bytes)
+                printf("%s%.*s\n", before[part], (int)bytes, (char *)room);
+        }
+    }
+    return 0;
+}
+
+struct one {
+    const char *volume;
+    uint32_t answers[16];
+};
+
+static void *many(void *given)
+{
+    struct one *one = given;
+    int fd = open(one->volume, O_RDONLY);
+    for (int i = 0; i < 16; i++) {
+        struct luks_opened opened;
+        one->answers[i] = luks_unlock(fd, 0, LUKS_TO_END, "one", 3, 0, NULL, 0, &opened);
+    }
+    close(fd);
+    return NULL;
+}
+
+/* Two threads with two volumes. */
+static int threads(const char *first, const char *second)
+{
+    struct one ones[2] = {{.volume = first}, {.volume = second}};
+    pthread_t ids[2];
+    for (int i = 0; i < 2; i++)
+        pthread_create(&ids[i], NULL, many, &ones[i]);
+    for (int i = 0; i < 2; i++)
+        pthread_join(ids[i], NULL);
+    for (int i = 0; i < 2; i++)
+        for (int k = 1; k < 16; k++)
+            if (ones[i].answers[k] != ones[i].answers[0])
+                return puts("another answer"), 1;
+    printf("%u %u\n", ones[0].answers[0], ones[1].answers[0]);
+    return 0;
+}
+
+int main(int count, char **words)
+{
+    if (count == 2 && strcmp(words[1], "texts") == 0)
+        return texts();
+    if (count == 4 && strcmp(words[1], "threads") == 0)
+        return threads(words[2], words[3]);
+    if (count < 5)
+        return 2;
+    int fd = strcmp(words[2], "-") == 0 ? 0 : strcmp(words[2], "closed") == 0 ? 1000 : open(words[2], O_RDONLY);
+    uint64_t offset = strtoull(words[3], NULL, 10), length = strcmp(words[4], "all") == 0 ? LUKS_TO_END : strtoull(words[4], NULL, 10);
+    lseek(fd, 7, SEEK_SET);
+    off_t place = lseek(fd, 0, SEEK_CUR);
+    int status = 2;
+    if (strcmp(words[1], "check") == 0 && count == 6)
+        status = check(fd, offset, length, strcmp(words[5], "detached") == 0);
+    else if (strcmp(words[1], "open") == 0 && count >= 8)
+        status = opens(fd, offset, length, words[5], words[6], words[7], count > 8 ? words[8] : NULL);
+    else if (strcmp(words[1], "check-bytes") == 0 && count == 6)
+        return check_bytes(fd, offset, length, strcmp(words[5], "detached") == 0);
+    else if (strcmp(words[1], "wrong") == 0)
+        status = wrong(fd);
+    if (lseek(fd, 0, SEEK_CUR) != place)
+        puts("the position moved");
+    return status;
+}
