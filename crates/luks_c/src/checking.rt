@@ -5,9 +5,10 @@ ghost use Rattle.luks_c.specs.Asked.{payload_of};
 ghost use Rattle.luks_c.specs.CheckAnswers.{AnswersCheck, copies_number, number_of_copies, seqid_of, version_number};
 
 use crate::numbers::{BEYOND, DONE, USAGE, check_number};
-use luks_given::FirstBytes;
+use luks_given::{FirstBytes, Given};
 use luks_reading::{CheckFault, Copies, Data, Report, Version, check};
 use std::alloc::Global;
+use std::marker::Brand;
 
 /// What `luks_check_bytes` tells of a volume that it accepts; of another each number is 0, but
 /// `beyond`.
@@ -50,8 +51,25 @@ pub extern "C" fn luks_check_bytes(
     if first.len() as u64 > total {
         return USAGE;
     }
-    let mut device = FirstBytes::new(first, total);
-    match check(alloc, &mut device, data_of(is_detached)) {
+    check_given::<Brand>(alloc, first, total, data_of(is_detached), report)
+}
+
+/// The same where not more bytes are given than there are; the report is empty before.
+fn check_given<K: Given>(
+    alloc: Global,
+    first: &[u8],
+    total: u64,
+    data_: Data,
+    report: &mut LuksReport,
+) -> u32
+    requires within { length first.now ≤ total }
+    requires count { K.count ≡ length first.now }
+    ensures answers { AnswersCheck (volume first.now total) data_ result report.new }
+    ensures more { result ≡ 102 → length first.now < report.new.beyond }
+    ensures inside { result ≡ 102 → report.new.beyond ≤ total }
+{
+    let mut device: FirstBytes<'_, K> = FirstBytes::new(first, total);
+    match check(alloc, &mut device, data_) {
         Ok(found) => {
             *report = told(&found);
             DONE

@@ -5,9 +5,10 @@ ghost use Rattle.luks_c.specs.OpenAnswers.{AnswersOpen, AnswersUnlock, IsGiven};
 
 use crate::buffers::fill_front;
 use crate::numbers::{BEYOND, DONE, ROOM, SHUT, USAGE, open_number};
-use luks_given::FirstBytes;
+use luks_given::{FirstBytes, Given};
 use luks_reading::{Key, OpenFault, open_slot, unlock};
 use std::alloc::Global;
+use std::marker::Brand;
 
 /// What opening a keyslot tells.
 #[repr(C)]
@@ -48,7 +49,27 @@ pub extern "C" fn luks_unlock_bytes(
     if first.len() as u64 > total || passphrase.len() as u64 >= 0x1_0000_0000 {
         return USAGE;
     }
-    let mut device = FirstBytes::new(first, total);
+    unlock_given::<Brand>(alloc, first, total, passphrase, memory, key, opened)
+}
+
+/// The same where not more bytes are given than there are, and the passphrase is short.
+fn unlock_given<K: Given>(
+    alloc: Global,
+    first: &[u8],
+    total: u64,
+    passphrase: &[u8],
+    memory: u32,
+    key: &mut [u8],
+    opened: &mut LuksOpened,
+) -> u32
+    requires within { length first.now ≤ total }
+    requires count { K.count ≡ length first.now }
+    requires passphrase { length passphrase.now < 2 ^ 32 }
+    ensures answers { AnswersUnlock memory (volume first.now total) passphrase.now key.old key.new opened.new result }
+    ensures more { result ≡ 102 → length first.now < opened.new.beyond }
+    ensures inside { result ≡ 102 → opened.new.beyond ≤ total }
+{
+    let mut device: FirstBytes<'_, K> = FirstBytes::new(first, total);
     match unlock(alloc, &mut device, passphrase, memory) {
         Ok(Some((slot, found))) => give_key(u32::from(slot), &found, key, opened),
         Ok(None) => SHUT,
@@ -85,7 +106,28 @@ pub extern "C" fn luks_open_bytes(
     if first.len() as u64 > total || passphrase.len() as u64 >= 0x1_0000_0000 {
         return USAGE;
     }
-    let mut device = FirstBytes::new(first, total);
+    open_given::<Brand>(alloc, first, total, n, passphrase, memory, key, opened)
+}
+
+/// The same where not more bytes are given than there are, and the passphrase is short.
+fn open_given<K: Given>(
+    alloc: Global,
+    first: &[u8],
+    total: u64,
+    n: u8,
+    passphrase: &[u8],
+    memory: u32,
+    key: &mut [u8],
+    opened: &mut LuksOpened,
+) -> u32
+    requires within { length first.now ≤ total }
+    requires count { K.count ≡ length first.now }
+    requires passphrase { length passphrase.now < 2 ^ 32 }
+    ensures answers { AnswersOpen memory (volume first.now total) n passphrase.now key.old key.new opened.new result }
+    ensures more { result ≡ 102 → length first.now < opened.new.beyond }
+    ensures inside { result ≡ 102 → opened.new.beyond ≤ total }
+{
+    let mut device: FirstBytes<'_, K> = FirstBytes::new(first, total);
     match open_slot(alloc, &mut device, n, passphrase, memory) {
         Ok(Some(found)) => give_key(u32::from(n), &found, key, opened),
         Ok(None) => SHUT,

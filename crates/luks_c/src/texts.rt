@@ -1,8 +1,11 @@
 //! What is said of a number.
+ghost use Rattle.std.specs.Prelude.{◌≡◌, drop, length, IfSome};
+ghost use Rattle.luks_explain.specs.Names.{name_of};
+ghost use Rattle.luks_c.specs.Buffers.{filled};
+ghost use Rattle.luks_c.specs.Numbers.{fault_numbered};
 
 use crate::buffers::fill_front;
 use crate::numbers::fault_of;
-use std::alloc::Global;
 
 /// Puts the name of what the number says into the buffer, as far as it fits, and answers how many bytes
 /// it has; 0 where no call answers by this number. A fault is named as the program prints it, without
