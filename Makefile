@@ -2,6 +2,7 @@
 #
 #   demo      run the main job, unproved: luks check on the sample image; ends with 'accepted luks1 areas 10'
 #   build     prove and build the program, and leave it at bin/luks
+#   library   prove and build libluks, the calls that read for C and Python: bin/libluks.so.0 and bin/libluks.a
 #   test      the merge gate: every proof from nothing, the edits that must fail, each test, each program; and what it took:
 #             processor time by crate for its proof, its tests and its edits, and at its end the sums
 #   quick     between gates: proofs and tests of the crates that changed since BASE (the last commit) and of what stands on them
@@ -10,10 +11,11 @@
 #             (PREFIX is /usr/local, the others are Debian's places under it, for fish /etc/fish/completions, since fish looks into none there;
 #             all under DESTDIR where that is given)
 #   uninstall  take these away again
+#   install-library  put libluks, its header, libluks.pc and the Python module under PREFIX (PYTHONDIR is the module's folder)
 #   dist      the archive dist/luks-VERSION-linux-x86_64.tar.gz: the program, also static, its pages and install.sh, for a system without rt
 #   deb       the package dist/luks_VERSION_amd64.deb, for Debian; beside both, dist/SHA256SUMS has their sums
 #   bench     times and memory, beside other implementations
-#   interop   volumes that cryptsetup makes, checked and opened by bin/luks; each command of docs/RESCUE.md; the manual page; both packages
+#   interop   volumes that cryptsetup makes, checked and opened by bin/luks; each command of docs/RESCUE.md; the manual page; libluks; both packages
 #   clean     what the others made
 #   help      this list
 #
@@ -26,11 +28,12 @@ DESTDIR ?=
 MANDIR ?= $(PREFIX)/share/man
 BASHCOMPDIR ?= $(PREFIX)/share/bash-completion/completions
 ZSHCOMPDIR ?= $(PREFIX)/share/zsh/$(if $(filter /usr,$(PREFIX)),vendor-completions,site-functions)
+PYTHONDIR ?= $(PREFIX)/lib/python3/dist-packages
 FISHCOMPDIR ?= $(if $(filter /usr/local,$(PREFIX)),/etc/fish/completions,$(PREFIX)/share/fish/vendor_completions.d)
 
 SOURCES := crates.txt $(shell find crates -name out -prune -o -type f -print)
 
-.PHONY: help demo build test quick plants install uninstall dist deb bench interop clean toolchain
+.PHONY: help demo build library install-library test quick plants install uninstall dist deb bench interop clean toolchain
 
 help:
 	@sed -n '/^#/!q; s/^#$$//p; s/^# //p' $(firstword $(MAKEFILE_LIST))
@@ -51,6 +54,14 @@ build: toolchain
 bin/luks: $(SOURCES)
 	@$(MAKE) --no-print-directory build
 
+library: toolchain
+	@RT="$(RT)" tools/prove luks_c
+	cd crates/luks_c && $(RT) lib
+	@RT="$(RT)" tools/library
+
+bin/libluks.so.0: $(SOURCES) tools/library $(wildcard library/*)
+	@$(MAKE) --no-print-directory library
+
 test: toolchain
 	@RT="$(RT)" tools/times
 
@@ -67,6 +78,16 @@ install: bin/luks
 	install -D -m 644 completions/_luks "$(DESTDIR)$(ZSHCOMPDIR)/_luks"
 	install -D -m 644 completions/luks.fish "$(DESTDIR)$(FISHCOMPDIR)/luks.fish"
 
+install-library: bin/libluks.so.0
+	install -D -m 644 bin/libluks.so.0 "$(DESTDIR)$(PREFIX)/lib/libluks.so.0"
+	ln -sf libluks.so.0 "$(DESTDIR)$(PREFIX)/lib/libluks.so"
+	install -D -m 644 bin/libluks.a "$(DESTDIR)$(PREFIX)/lib/libluks.a"
+	install -D -m 644 library/luks.h "$(DESTDIR)$(PREFIX)/include/luks.h"
+	install -D -m 644 python/luks.py "$(DESTDIR)$(PYTHONDIR)/luks.py"
+	mkdir -p "$(DESTDIR)$(PREFIX)/lib/pkgconfig"
+	sed -e 's|@PREFIX@|$(PREFIX)|' -e "s|@VERSION@|$$(sed -n 's/^## \([0-9.]*\) .*/\1/p' CHANGELOG.md | head -n 1)|" library/libluks.pc.in \
+	  >"$(DESTDIR)$(PREFIX)/lib/pkgconfig/libluks.pc"
+
 uninstall:
 	rm -f "$(DESTDIR)$(PREFIX)/bin/luks" "$(DESTDIR)$(MANDIR)/man1/luks.1" "$(DESTDIR)$(BASHCOMPDIR)/luks" \
 	  "$(DESTDIR)$(ZSHCOMPDIR)/_luks" "$(DESTDIR)$(FISHCOMPDIR)/luks.fish"
@@ -80,7 +101,7 @@ deb: bin/luks
 bench: bin/luks
 	bench/run
 
-interop: bin/luks
+interop: bin/luks bin/libluks.so.0
 	interop/run
 
 clean:

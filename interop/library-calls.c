@@ -77,7 +77,22 @@ static int opens(int fd, uint64_t offset, uint64_t length, const char *slot, con
     return status;
 }
 
-/* The same over all bytes in memory, and over each shorter front that more is asked of. */
+/* What the header says, into a buffer of so many bytes. */
+static int read_header(int fd, uint64_t offset, uint64_t length, size_t room)
+{
+    uint64_t bytes = 7;
+    char *json = room ? malloc(room) : NULL;
+    uint32_t answer = luks_read(fd, offset, length, json, room, &bytes);
+    int status = answer == LUKS_DONE ? 0 : told(answer);
+    if (answer == LUKS_DONE)
+        printf("%.*s\n", (int)bytes, json);
+    if (answer == LUKS_ROOM)
+        printf("bytes %ju\n", (uintmax_t)bytes);
+    free(json);
+    return status;
+}
+
+/* Checking over bytes in memory: none at first, and then as many as are asked for. */
 static int check_bytes(int fd, uint64_t offset, uint64_t length, bool is_detached)
 {
     off_t end = lseek(fd, 0, SEEK_END);
@@ -190,6 +205,8 @@ int main(int count, char **words)
         status = opens(fd, offset, length, words[5], words[6], words[7], count > 8 ? words[8] : NULL);
     else if (strcmp(words[1], "check-bytes") == 0 && count == 6)
         return check_bytes(fd, offset, length, strcmp(words[5], "detached") == 0);
+    else if (strcmp(words[1], "read") == 0 && count == 6)
+        status = read_header(fd, offset, length, strtoul(words[5], NULL, 10));
     else if (strcmp(words[1], "wrong") == 0)
         status = wrong(fd);
     if (lseek(fd, 0, SEEK_CUR) != place)

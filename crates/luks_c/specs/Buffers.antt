@@ -1,5 +1,5 @@
 -- The caller's buffers.
-use Rattle.std.specs.Prelude.{ℕ, List, ◌++◌, length, take, drop}
+use Rattle.std.specs.Prelude.{List, ◌++◌, length, take, drop}
 
 -- a buffer to whose front as much of the list was written as fits; the rest of it is as it was
 abbrev pub filled : {A : Type 0} → List A → List A → List A

@@ -3,3 +3,4 @@ pub mod Buffers
 pub mod CheckAnswers
 pub mod Numbers
 pub mod OpenAnswers
+pub mod ReadAnswers

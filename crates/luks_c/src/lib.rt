@@ -6,4 +6,5 @@ mod buffers;
 mod checking;
 mod numbers;
 mod opening;
+mod reading;
 mod texts;
