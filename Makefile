@@ -13,7 +13,8 @@
 #   uninstall  take these away again
 #   install-library  put libluks, its header, libluks.pc and the Python module under PREFIX (PYTHONDIR is the module's folder)
 #   dist      the archive dist/luks-VERSION-linux-x86_64.tar.gz: the program, also static, its pages and install.sh, for a system without rt
-#   deb       the package dist/luks_VERSION_amd64.deb, for Debian; beside both, dist/SHA256SUMS has their sums
+#   deb       the package dist/luks_VERSION_amd64.deb, for Debian, and those of libluks: libluks0, libluks-dev and python3-luks; beside all,
+#             dist/SHA256SUMS has their sums
 #   bench     times and memory, beside other implementations
 #   interop   volumes that cryptsetup makes, checked and opened by bin/luks; each command of docs/RESCUE.md; the manual page; libluks; both packages
 #   clean     what the others made
@@ -95,8 +96,9 @@ uninstall:
 dist: bin/luks
 	@RT="$(RT)" tools/package archive
 
-deb: bin/luks
+deb: bin/luks bin/libluks.so.0
 	@RT="$(RT)" tools/package debian
+	@RT="$(RT)" tools/package library
 
 bench: bin/luks
 	bench/run
