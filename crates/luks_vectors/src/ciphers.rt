@@ -1,5 +1,6 @@
-//! AES and XTS.
+//! AES, CBC and XTS.
 use luks_aes::AesKey;
+use luks_cbc::{CbcKey, IvKind};
 use luks_vector_lines::{Malformed, Words, demand};
 use luks_xts::XtsKey;
 use std::alloc::Global;
@@ -39,6 +40,29 @@ pub fn xts(alloc: Global, words: &mut Words<'_>) -> Result<String, Malformed> {
     key.seal_unit(unit, &mut sealed);
     let mut opened = sealed.clone()?;
     key.open_unit(unit, &mut opened);
+    told(alloc, &sealed, opened.as_slice() == plain.as_slice())
+}
+
+/// `cbc IV KEY SECTOR BYTES`: what the key encrypts the sector of this number to, of whole blocks, by IVs
+/// of this kind, and whether it decrypts that back; `no key` where the key has another length.
+pub fn cbc(alloc: Global, words: &mut Words<'_>) -> Result<String, Malformed> {
+    let ivs = match words.word()? {
+        "plain" => IvKind::Plain,
+        "plain64" => IvKind::Plain64,
+        "essiv:sha256" => IvKind::Essiv,
+        _ => return Err(Malformed::Name),
+    };
+    let key = words.bytes(alloc)?;
+    let sector = words.number()?;
+    let plain = words.bytes(alloc)?;
+    demand(plain.len() % 16 == 0)?;
+    let Some(key) = CbcKey::new(&key, ivs) else {
+        return Ok(String::from_str(alloc, "no key")?);
+    };
+    let mut sealed = plain.clone()?;
+    key.seal_sector(sector, &mut sealed);
+    let mut opened = sealed.clone()?;
+    key.open_sector(sector, &mut opened);
     told(alloc, &sealed, opened.as_slice() == plain.as_slice())
 }
 

@@ -1,7 +1,7 @@
 //! The functions by their names.
 use crate::areas::{field, fit};
 use crate::argon2::{argon2, blake2b};
-use crate::ciphers::{aes, xts};
+use crate::ciphers::{aes, cbc, xts};
 use crate::derivation::{hash, hmac, name, names, pbkdf2};
 use crate::splitter::{merge, split, take_in};
 use luks_vector_lines::{Functions, Malformed, Memory, Words};
@@ -30,6 +30,7 @@ impl ByteFunctions {
     ) -> Result<String, Malformed> {
         match function {
             "aes" => aes(alloc, words),
+            "cbc" => cbc(alloc, words),
             "xts" => xts(alloc, words),
             "blake2b" => blake2b(alloc, words),
             "argon2" => argon2(alloc, self.memory, words),

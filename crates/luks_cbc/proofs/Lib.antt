@@ -1,0 +1,3 @@
+pub mod LoopFacts
+pub mod UndoneFacts
+pub mod VectorFacts
