@@ -29,8 +29,8 @@ free_keyslot-requires-clause-inside g c =
     c.requires.accepted.fields c.requires.accepted.volume c.in_ok-n.ensures.opener c.luks1_area-area.ensures.start c.luks1_area-area.ensures.len in
     omega (arith, size, inside)
 
-pub returns-in-Opened-in-Ok-clause-replies : goal.returns-in-Opened-in-Ok-clause-replies
-returns-in-Opened-in-Ok-clause-replies g c = λ tells e is x.
+pub returns-in-Ok-clause-replies : goal.returns-in-Ok-clause-replies
+returns-in-Ok-clause-replies g c = λ tells e is x.
     let v = g.D.Device.bytes c.args.device.now in
     let a = c.args.header.now in
     let s = c.args.sealed.now in
@@ -40,10 +40,10 @@ returns-in-Opened-in-Ok-clause-replies g c = λ tells e is x.
     let at = opened_at a.data_ v e s c.args.random.now c.in_ok-n.n u is made a.bytes.now x c.in-Opened.is
     (keyslot_at a.bytes.now a.fields a.data_ v s.opener.slot _ c.luks1_area-area.result x c.requires.accepted.fields
     c.in_ok-n.ensures.opener c.luks1_area-area.ensures.start c.luks1_area-area.ensures.len) in
-    renewed a.data_ v e s c.args.random.now c.in_ok-n.n u is made a.bytes.now x c.in-Opened.is w (c.in-Opened-in-Ok.ensures.removed tells at)
+    renewed a.data_ v e s c.args.random.now c.in_ok-n.n u is made a.bytes.now x c.in-Opened.is w (c.in-Ok.ensures.removed tells at)
 
-pub returns-in-Opened-in-Err-clause-replies : goal.returns-in-Opened-in-Err-clause-replies
-returns-in-Opened-in-Err-clause-replies g c = λ tells e is x.
+pub returns-in-Err-clause-replies : goal.returns-in-Err-clause-replies
+returns-in-Err-clause-replies g c = λ tells e is x.
     let v = g.D.Device.bytes c.args.device.now in
     let a = c.args.header.now in
     let s = c.args.sealed.now in
@@ -53,4 +53,4 @@ returns-in-Opened-in-Err-clause-replies g c = λ tells e is x.
     let at = opened_at a.data_ v e s c.args.random.now c.in_ok-n.n u is made a.bytes.now x c.in-Opened.is
     (keyslot_at a.bytes.now a.fields a.data_ v s.opener.slot _ c.luks1_area-area.result x c.requires.accepted.fields
     c.in_ok-n.ensures.opener c.luks1_area-area.ensures.start c.luks1_area-area.ensures.len) in
-    inr (half_renewed a.data_ v e s c.args.random.now c.in_ok-n.n u is made a.bytes.now x c.in-Opened.is w (c.in-Opened-in-Err.ensures.torn tells at))
+    inr (half_renewed a.data_ v e s c.args.random.now c.in_ok-n.n u is made a.bytes.now x c.in-Opened.is w (c.in-Err.ensures.torn tells at))
