@@ -1,4 +1,4 @@
-use Rattle.std.proofs.Common.{arith, inr}
+use Rattle.std.proofs.Common.{arith}
 use Rattle.std.proofs.lemmas.Result.{err_from_is_err_and}
 use Rattle.luks1_edits.proofs.KeptFacts.{header_inside}
 use Rattle.luks1_edits.proofs.KeyslotPlaces.{keyslot_at, keyslot_inside}
@@ -53,4 +53,4 @@ returns-in-Err-clause-replies g c = λ tells e is x.
     let at = opened_at a.data_ v e s c.args.random.now c.in_ok-n.n u is made a.bytes.now x c.in-Opened.is
     (keyslot_at a.bytes.now a.fields a.data_ v s.opener.slot _ c.luks1_area-area.result x c.requires.accepted.fields
     c.in_ok-n.ensures.opener c.luks1_area-area.ensures.start c.luks1_area-area.ensures.len) in
-    inr (half_renewed a.data_ v e s c.args.random.now c.in_ok-n.n u is made a.bytes.now x c.in-Opened.is w (c.in-Err.ensures.torn tells at))
+    half_renewed a.data_ v e s c.args.random.now c.in_ok-n.n u is made a.bytes.now x c.in-Opened.is w (c.in-Err.ensures.torn tells at)
