@@ -32,3 +32,9 @@ pub returns-in-Rewrite-Some-clause-refused : goal.returns-in-Rewrite-Some-clause
 returns-in-Rewrite-Some-clause-refused g c = λ tells is payload well judged.
     let read = read_as refl refl (g.met.D.Device.sized c.args.device.now tells ∙ sym c.requires.total) judged in
     label_ended read (edit_is c.args.edit.now _ (sym (rw c.in-Rewrite-Some.label-is at c.in-Rewrite-Some.ensures))) c.judge_label.result c.judge_label.ensures.row
+
+pub judge_sealing_of-requires-clause-asked : goal.judge_sealing_of-requires-clause-asked
+judge_sealing_of-requires-clause-asked g c = sym c.in-Seal.ensures
+
+pub judge_removal_of-requires-clause-asked : goal.judge_removal_of-requires-clause-asked
+judge_removal_of-requires-clause-asked g c = sym c.in-Remove.ensures
