@@ -13,11 +13,11 @@ use Rattle.luks_edit.specs.declared.edit.Edit.TheVariants.{Add, Change, Remove, 
 use Rattle.luks_edit.specs.Asked.{deed_of}
 use Rattle.luks2_judging.specs.Judging.{sealing}
 
-edit_at : Place → Sealed → Edit
+abbrev pub edit_at : Place → Sealed → Edit
 edit_at (New to) s = Add s.opener.slot s.opener.passphrase s.passphrase to s.iterations
 edit_at Opened s = Change s.opener.slot s.opener.passphrase s.passphrase s.iterations
 
-pub edit_of : Deed → Edit
+abbrev pub edit_of : Deed → Edit
 edit_of (deed.Seal s) = edit_at s.place s
 edit_of (deed.Remove r) = Remove r.slot r.by_ r.passphrase
 edit_of (deed.Rewrite None) = Repair

@@ -1,5 +1,5 @@
 -- Which keyslots the metadata has, number by number.
-use Rattle.std.proofs.Common.{◌≡◌, ◌⊎◌, ℕ, ◌+◌, ◌<◌, ◌≤◌, List, Option, below_more, refl, sym, subst, ap, ◌∙◌, arith, inl, inr, is_some, Result, Ok, Err}
+use Rattle.std.proofs.Common.{◌≡◌, ◌⊎◌, ℕ, ◌+◌, ◌^◌, ◌<◌, ◌≤◌, List, length, Option, Some, below_more, refl, sym, subst, ap, ◌∙◌, arith, inl, inr, is_some, Result, Ok, Err}
 use Rattle.std.specs.Borrow.{Bor}
 use Rattle.std.proofs.lemmas.Bool.{cases_Bool, cases_lt, false≢true}
 use Rattle.serde_json.specs.Data.{Data as Value}
@@ -12,7 +12,7 @@ use Rattle.luks_edit.specs.declared.edit_fault.EditFault.{EditFault}
 use Rattle.luks_edit.specs.declared.deed.Deed.TheVariants as deed
 use Rattle.luks_edit.specs.declared.deed.Removed.{Removed}
 use Rattle.luks_edit.specs.declared.deed.Sealed.{Sealed}
-use Rattle.luks_edit.specs.Asked.{deed_of, opener_of, OpensBy, Wants}
+use Rattle.luks_edit.specs.Asked.{AreShortIn, deed_of, HasShortPassphrases, NamesItself, opener_of, OpensBy, Wants}
 use Rattle.luks2_edits.specs.Metadata.{IsInUse, IsLeastFree}
 use Rattle.luks2_edits.specs.Refused.{IsAbsent}
 use Rattle.luks2_judging.specs.Judged.{Judges}
@@ -76,6 +76,33 @@ used_of j e n p asked there = wanted_used j e n (opener_wanted e n p asked) ther
 -- so is the one that is removed
 pub removed_used : (j : Value) (e : Edit) (d : Removed) → deed_of e ≡ deed.Remove d → (IsAbsent j e → ⊥) → IsInUse j d.slot
 removed_used j e d is there = wanted_used j e d.slot (rw is (inr refl)) there
+
+-- an edit opens the keyslot whose key it seals, and the one that removes another one
+pub sealed_opens : (e : Edit) (s : Sealed) → deed_of e ≡ deed.Seal s → OpensBy e s.opener.slot s.opener.passphrase.bytes.now
+sealed_opens e s is = rw is (refl, refl)
+
+pub removed_opens : (e : Edit) (d : Removed) (n : ℕ) → deed_of e ≡ deed.Remove d → n ≡ opener_of d.slot d.by_ → OpensBy e n d.passphrase.bytes.now
+removed_opens e d n is same = rw is (same, refl)
+
+-- their passphrases are short where all of the edit's are
+pub sealed_short : (e : Edit) (s : Sealed) → deed_of e ≡ deed.Seal s → HasShortPassphrases e → length s.opener.passphrase.bytes.now < 2 ^ 32
+sealed_short e s is x = (subst AreShortIn is x).0
+
+pub removed_short : (e : Edit) (d : Removed) → deed_of e ≡ deed.Remove d → HasShortPassphrases e → length d.passphrase.bytes.now < 2 ^ 32
+removed_short e d is x = subst AreShortIn is x
+
+-- an edit names itself where the keyslot that is to open is the one that it removes
+pub itself_is : (e : Edit) (d : Removed) → deed_of e ≡ deed.Remove d → d.by_ ≡ Some d.slot → NamesItself e
+itself_is e d is same = rw is same
+
+pub itself_only : (e : Edit) (d : Removed) → deed_of e ≡ deed.Remove d → NamesItself e → d.by_ ≡ Some d.slot
+itself_only e d is same = rw is at same
+
+pub sealing_apart : (e : Edit) (s : Sealed) → deed_of e ≡ deed.Seal s → NamesItself e → ⊥
+sealing_apart e s is same = rw is at same
+
+pub rewriting_apart : (e : Edit) (label : Option (Bor (List ℕ))) → deed_of e ≡ deed.Rewrite label → NamesItself e → ⊥
+rewriting_apart e label is same = rw is at same
 
 -- no keyslot is missed by an edit where each one is there that it opens, and the one that it removes
 module _ (j : Value) (e : Edit) (opened : (n : ℕ) (p : List ℕ) → OpensBy e n p → IsInUse j n) where

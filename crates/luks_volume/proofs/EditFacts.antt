@@ -13,7 +13,7 @@ use Rattle.luks_edit.specs.declared.deed.Removed.{Removed}
 use Rattle.luks_edit.specs.declared.deed.Sealed.{Sealed}
 use Rattle.luks_edit.specs.declared.edit.Step.{Step}
 use Rattle.luks_edit.specs.declared.edit_fault.EditFault.TheVariants as fault
-use Rattle.luks_edit.specs.Asked.{deed_of, MatchDeed, NamesItself, removed_by, removed_in}
+use Rattle.luks_edit.specs.Asked.{deed_of, MatchDeed, NamesItself, removed_in}
 use Rattle.luks_edit.specs.Kept.{Keeps, KeepsSlot}
 use Rattle.luks_edit.specs.Ran.{AreRun, HasNoFailure, IsCompleted, IsFailure, IsNamedIn, Reply}
 use Rattle.luks1_edits.specs.Edited.{NamedKeyslots1}
@@ -64,7 +64,7 @@ removed_named (deed.Remove r) removed S W n is x = x ∙ ap (λ (k : Removed). k
 removed_named (deed.Rewrite label) removed S W n is x = absurd (cc)
 
 -- the keyslot that is named to remove another one by isn't itself the one that is removed
-module _ (v : List ℕ) (payload : Data) (e : Edit) (removed : Removed) (by_ : ℕ) (is : removed_by e ≡ Some removed) (named : removed.by_ ≡ Some by_) where
+module _ (v : List ℕ) (payload : Data) (e : Edit) (removed : Removed) (by_ : ℕ) (is : removed_in (deed_of e) ≡ Some removed) (named : removed.by_ ≡ Some by_) where
   itself : by_ ≡ removed.slot → NamesItself e
   itself same = rw is (named ∙ ap Some same)
 
