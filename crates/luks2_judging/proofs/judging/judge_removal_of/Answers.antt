@@ -16,7 +16,7 @@ returns-in_err-_key-clause-refused g c = λ tells is payload well judged.
     let p = err_from_is_err_and c.from_residual.result c.from_residual.ensures.1 in
     rw (p.1, p.2)
     (unopened_refused read c.in_err-_key.field-0.0 (c.in_err-_key.ensures.refused tells is payload c.args.edit.now well (sym c.allowed_memory-memory.ensures)
-    (removed_opens _ _ _ c.requires.asked c.opener_of-opener.ensures)))
+    (removed_opens c.args.edit.now c.args.removed.now c.opener_of-opener.result c.requires.asked c.opener_of-opener.ensures)))
 
 pub returns-in_err-area-clause-refused : goal.returns-in_err-area-clause-refused
 returns-in_err-area-clause-refused g c = λ tells is payload well judged.
@@ -25,7 +25,7 @@ returns-in_err-area-clause-refused g c = λ tells is payload well judged.
     let p = err_from_is_err_and c.from_residual-in_err-area.result c.from_residual-in_err-area.ensures.1 in
     rw (p.1, p.2)
     rw c.in_err-area.ensures.row.0
-    (last_refused read (c.in_ok-_key.ensures.opened tells is c.args.edit.now (sym c.allowed_memory-memory.ensures) (removed_opens _ _ _ c.requires.asked c.opener_of-opener.ensures)).past (edit_is c.args.edit.now _ c.requires.asked) c.in_err-area.ensures.row.1)
+    (last_refused read (c.in_ok-_key.ensures.opened tells is c.args.edit.now (sym c.allowed_memory-memory.ensures) (removed_opens c.args.edit.now c.args.removed.now c.opener_of-opener.result c.requires.asked c.opener_of-opener.ensures)).past (edit_is c.args.edit.now _ c.requires.asked) c.in_err-area.ensures.row.1)
 
 pub returns-in_ok-area-clause-takes : goal.returns-in_ok-area-clause-takes
 returns-in_ok-area-clause-takes g c =
@@ -48,7 +48,7 @@ pub returns-in_ok-area-clause-passed : goal.returns-in_ok-area-clause-passed
 returns-in_ok-area-clause-passed g c = λ tells is payload judged.
     let read = read_as c.room-room.ensures.meta c.room-room.ensures.entries
     (g.met.D.Device.sized c.args.device.now tells ∙ sym c.requires.total ∙ sym c.room-room.ensures.total) judged in
-    removed_passed read (c.in_ok-_key.ensures.opened tells is c.args.edit.now (sym c.allowed_memory-memory.ensures) (removed_opens _ _ _ c.requires.asked c.opener_of-opener.ensures)).past
+    removed_passed read (c.in_ok-_key.ensures.opened tells is c.args.edit.now (sym c.allowed_memory-memory.ensures) (removed_opens c.args.edit.now c.args.removed.now c.opener_of-opener.result c.requires.asked c.opener_of-opener.ensures)).past
     (edit_is c.args.edit.now _ c.requires.asked) c.in_ok-area.ensures.row
 
 pub unlock-requires-clause-passphrase : goal.unlock-requires-clause-passphrase

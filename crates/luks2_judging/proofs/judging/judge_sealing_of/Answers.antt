@@ -22,12 +22,12 @@ returns-in_err-key-clause-refused g c = λ tells is payload well judged.
     let p = err_from_is_err_and c.from_residual.result c.from_residual.ensures.1 in
     rw (p.1, p.2)
     (unopened_refused read c.in_err-key.field-0.0 (c.in_err-key.ensures.refused tells is payload c.args.edit.now well (sym c.allowed_memory-memory.ensures)
-    (sealed_opens _ _ c.requires.asked)))
+    (sealed_opens c.args.edit.now c.args.sealed.now c.requires.asked)))
 
 pub judge_addition-requires-clause-there : goal.judge_addition-requires-clause-there
 judge_addition-requires-clause-there g c =
     subst (λ (m : Meta). IsInUse (content m) c.args.sealed.now.opener.slot) (sym c.room-room.ensures.meta)
-    (used_of (content c.args.accepted.now.copy.now.meta) c.args.edit.now c.args.sealed.now.opener.slot c.args.sealed.now.opener.passphrase.bytes.now (sealed_opens _ _ c.requires.asked) c.requires.there)
+    (used_of (content c.args.accepted.now.copy.now.meta) c.args.edit.now c.args.sealed.now.opener.slot c.args.sealed.now.opener.passphrase.bytes.now (sealed_opens c.args.edit.now c.args.sealed.now c.requires.asked) c.requires.there)
 
 pub returns-in_err-addition-in-New-clause-refused : goal.returns-in_err-addition-in-New-clause-refused
 returns-in_err-addition-in-New-clause-refused g c = λ tells is payload well judged.
@@ -35,13 +35,13 @@ returns-in_err-addition-in-New-clause-refused g c = λ tells is payload well jud
     (g.met.D.Device.sized c.args.device.now tells ∙ sym c.requires.total ∙ sym c.room-room.ensures.total) judged in
     let p = err_from_is_err_and c.from_residual-in_err-addition-in-New.result c.from_residual-in_err-addition-in-New.ensures.1 in
     rw (p.1, p.2)
-    (unadded_refused read (c.in_ok-key.ensures.opened tells is c.args.edit.now (sym c.allowed_memory-memory.ensures) (sealed_opens _ _ c.requires.asked)).past (added_is c.args.edit.now c.args.sealed.now c.in-New.to c.requires.asked c.in-New.is) c.in_err-addition-in-New.field-0.0
+    (unadded_refused read (c.in_ok-key.ensures.opened tells is c.args.edit.now (sym c.allowed_memory-memory.ensures) (sealed_opens c.args.edit.now c.args.sealed.now c.requires.asked)).past (added_is c.args.edit.now c.args.sealed.now c.in-New.to c.requires.asked c.in-New.is) c.in_err-addition-in-New.field-0.0
     (c.in_err-addition-in-New.ensures.refused payload read.lists))
 
 pub judge_renewal-requires-clause-there : goal.judge_renewal-requires-clause-there
 judge_renewal-requires-clause-there g c =
     subst (λ (m : Meta). IsInUse (content m) c.args.sealed.now.opener.slot) (sym c.room-room.ensures.meta)
-    (used_of (content c.args.accepted.now.copy.now.meta) c.args.edit.now c.args.sealed.now.opener.slot c.args.sealed.now.opener.passphrase.bytes.now (sealed_opens _ _ c.requires.asked) c.requires.there)
+    (used_of (content c.args.accepted.now.copy.now.meta) c.args.edit.now c.args.sealed.now.opener.slot c.args.sealed.now.opener.passphrase.bytes.now (sealed_opens c.args.edit.now c.args.sealed.now c.requires.asked) c.requires.there)
 
 pub returns-in_err-renewal-in-Opened-clause-refused : goal.returns-in_err-renewal-in-Opened-clause-refused
 returns-in_err-renewal-in-Opened-clause-refused g c = λ tells is payload well judged.
@@ -49,14 +49,14 @@ returns-in_err-renewal-in-Opened-clause-refused g c = λ tells is payload well j
     (g.met.D.Device.sized c.args.device.now tells ∙ sym c.requires.total ∙ sym c.room-room.ensures.total) judged in
     let p = err_from_is_err_and c.from_residual-in_err-renewal-in-Opened.result c.from_residual-in_err-renewal-in-Opened.ensures.1 in
     rw (p.1, p.2)
-    (unchanged_refused read (c.in_ok-key.ensures.opened tells is c.args.edit.now (sym c.allowed_memory-memory.ensures) (sealed_opens _ _ c.requires.asked)).past (changed_is c.args.edit.now c.args.sealed.now c.requires.asked c.in-Opened.is) c.in_err-renewal-in-Opened.field-0.0
+    (unchanged_refused read (c.in_ok-key.ensures.opened tells is c.args.edit.now (sym c.allowed_memory-memory.ensures) (sealed_opens c.args.edit.now c.args.sealed.now c.requires.asked)).past (changed_is c.args.edit.now c.args.sealed.now c.requires.asked c.in-Opened.is) c.in_err-renewal-in-Opened.field-0.0
     (c.in_err-renewal-in-Opened.ensures.refused payload read.lists))
 
 pub returns-in_ok-addition-in-New-clause-seals : goal.returns-in_ok-addition-in-New-clause-seals
 returns-in_ok-addition-in-New-clause-seals g c = λ tells is payload judged.
     let read = read_as c.room-room.ensures.meta c.room-room.ensures.entries
     (g.met.D.Device.sized c.args.device.now tells ∙ sym c.requires.total ∙ sym c.room-room.ensures.total) judged in (
-      (c.in_ok-key.ensures.opened tells is c.args.edit.now (sym c.allowed_memory-memory.ensures) (sealed_opens _ _ c.requires.asked)).gives,
+      (c.in_ok-key.ensures.opened tells is c.args.edit.now (sym c.allowed_memory-memory.ensures) (sealed_opens c.args.edit.now c.args.sealed.now c.requires.asked)).gives,
       placed_of read c.room-room.ensures.meta (c.in_ok-addition-in-New.ensures.area payload read.lists),
     )
 
@@ -67,14 +67,14 @@ returns-in_ok-addition-in-New-clause-passed g c = λ tells is payload judged.
     let added = c.in_ok-addition-in-New.addition in
     let asked : c.args.edit.now ≡ Add added.by_ c.args.sealed.now.opener.passphrase c.args.sealed.now.passphrase c.in-New.to added.iterations =
     rw (c.in_ok-addition-in-New.ensures.like, c.in_ok-addition-in-New.ensures.iterations) (added_is c.args.edit.now c.args.sealed.now c.in-New.to c.requires.asked c.in-New.is) in
-    added_passed read (c.in_ok-key.ensures.opened tells is c.args.edit.now (sym c.allowed_memory-memory.ensures) (sealed_opens _ _ c.requires.asked)).past asked
+    added_passed read (c.in_ok-key.ensures.opened tells is c.args.edit.now (sym c.allowed_memory-memory.ensures) (sealed_opens c.args.edit.now c.args.sealed.now c.requires.asked)).past asked
     c.in_ok-addition-in-New.ensures.number c.in_ok-addition-in-New.ensures.iterated (c.in_ok-addition-in-New.ensures.area payload read.lists)
 
 pub returns-in_ok-renewal-in-Opened-clause-seals : goal.returns-in_ok-renewal-in-Opened-clause-seals
 returns-in_ok-renewal-in-Opened-clause-seals g c = λ tells is payload judged.
     let read = read_as c.room-room.ensures.meta c.room-room.ensures.entries
     (g.met.D.Device.sized c.args.device.now tells ∙ sym c.requires.total ∙ sym c.room-room.ensures.total) judged in (
-      (c.in_ok-key.ensures.opened tells is c.args.edit.now (sym c.allowed_memory-memory.ensures) (sealed_opens _ _ c.requires.asked)).gives,
+      (c.in_ok-key.ensures.opened tells is c.args.edit.now (sym c.allowed_memory-memory.ensures) (sealed_opens c.args.edit.now c.args.sealed.now c.requires.asked)).gives,
       placed_of read c.room-room.ensures.meta (c.in_ok-renewal-in-Opened.ensures.area payload read.lists),
     )
 
@@ -84,7 +84,7 @@ returns-in_ok-renewal-in-Opened-clause-takes g c =
     let r = c.in_ok-renewal-in-Opened.renewal in
     let said = c.in_ok-renewal-in-Opened.ensures in
     let key = c.in_ok-key.key in
-    let used = used_of (content meta) c.args.edit.now c.args.sealed.now.opener.slot c.args.sealed.now.opener.passphrase.bytes.now (sealed_opens _ _ c.requires.asked) c.requires.there in
+    let used = used_of (content meta) c.args.edit.now c.args.sealed.now.opener.slot c.args.sealed.now.opener.passphrase.bytes.now (sealed_opens c.args.edit.now c.args.sealed.now c.requires.asked) c.requires.there in
     let is = subst (λ (m : Meta). IsKeyArea (content m) r.slot r.lost) c.room-room.ensures.meta said.lost in
     record {
       old = c.args.sealed.now.opener.passphrase;
@@ -105,7 +105,7 @@ returns-in_ok-renewal-in-Opened-clause-passed g c = λ tells is payload judged.
     let renewed = c.in_ok-renewal-in-Opened.renewal in
     let asked : c.args.edit.now ≡ Change renewed.slot c.args.sealed.now.opener.passphrase c.args.sealed.now.passphrase renewed.iterations =
     rw (c.in_ok-renewal-in-Opened.ensures.slot, c.in_ok-renewal-in-Opened.ensures.iterations) (changed_is c.args.edit.now c.args.sealed.now c.requires.asked c.in-Opened.is) in
-    changed_passed read (c.in_ok-key.ensures.opened tells is c.args.edit.now (sym c.allowed_memory-memory.ensures) (sealed_opens _ _ c.requires.asked)).past asked
+    changed_passed read (c.in_ok-key.ensures.opened tells is c.args.edit.now (sym c.allowed_memory-memory.ensures) (sealed_opens c.args.edit.now c.args.sealed.now c.requires.asked)).past asked
     c.in_ok-renewal-in-Opened.ensures.iterated (c.in_ok-renewal-in-Opened.ensures.area payload read.lists)
 
 pub unlock-requires-clause-passphrase : goal.unlock-requires-clause-passphrase
