@@ -73,16 +73,20 @@ wanted_used j e n wanted there = elim (in_use_or_not j n) [
 pub used_of : (j : Value) (e : Edit) (n : ℕ) (p : List ℕ) → OpensBy e n p → (IsAbsent j e → ⊥) → IsInUse j n
 used_of j e n p asked there = wanted_used j e n (opener_wanted e n p asked) there
 
--- so is the one that is removed
-pub removed_used : (j : Value) (e : Edit) (d : Removed) → deed_of e ≡ deed.Remove d → (IsAbsent j e → ⊥) → IsInUse j d.slot
-removed_used j e d is there = wanted_used j e d.slot (rw is (inr refl)) there
-
 -- an edit opens the keyslot whose key it seals, and the one that removes another one
 pub sealed_opens : (e : Edit) (s : Sealed) → deed_of e ≡ deed.Seal s → OpensBy e s.opener.slot s.opener.passphrase.bytes.now
 sealed_opens e s is = rw is (refl, refl)
 
 pub removed_opens : (e : Edit) (d : Removed) (n : ℕ) → deed_of e ≡ deed.Remove d → n ≡ opener_of d.slot d.by_ → OpensBy e n d.passphrase.bytes.now
 removed_opens e d n is same = rw is (same, refl)
+
+-- and it wants the one that it removes
+pub removed_wanted : (e : Edit) (d : Removed) → deed_of e ≡ deed.Remove d → Wants e d.slot
+removed_wanted e d is = rw is (inr refl)
+
+-- so that one is there, where it isn't missed
+pub removed_used : (j : Value) (e : Edit) (d : Removed) → deed_of e ≡ deed.Remove d → (IsAbsent j e → ⊥) → IsInUse j d.slot
+removed_used j e d is there = wanted_used j e d.slot (removed_wanted e d is) there
 
 -- their passphrases are short where all of the edit's are
 pub sealed_short : (e : Edit) (s : Sealed) → deed_of e ≡ deed.Seal s → HasShortPassphrases e → length s.opener.passphrase.bytes.now < 2 ^ 32

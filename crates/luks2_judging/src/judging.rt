@@ -16,7 +16,7 @@ ghost use Rattle.luks2_edits.specs.Metadata.{IsInUse, IsKeyArea};
 ghost use Rattle.luks2_edits.specs.Places.{IsNewArea};
 ghost use Rattle.luks_reading.specs.Header.{IsAcceptedHeader, IsHeader};
 ghost use Rattle.luks_edit.specs.Asked.{allowed_memory, deed_of};
-ghost use Rattle.luks_edit.specs.declared.deed.Deed.TheVariants.{Remove as Removes, Seal as Seals};
+ghost use Rattle.luks_edit.specs.declared.deed.Deed.TheVariants.{Remove as RemovesKeyslot, Seal as SealsKey};
 ghost use Rattle.luks_edit.specs.EditFaults.{is_edit_failure};
 ghost use Rattle.luks2_edits.specs.Refused.{IsAbsent, Refusal2};
 ghost use Rattle.luks2_judging.specs.Header.{IsOfLuks2};
@@ -222,7 +222,7 @@ fn judge_sealing_of<'a, D: Device>(
         → IsInside a accepted.now.total }
     requires key_areas { (n : ℕ) (a : TheArea)
         → IsKeyArea (content accepted.now.copy.now.meta) n a → IsInside a (D.size device.old) }
-    requires asked { deed_of edit.now ≡ Seals sealed.now }
+    requires asked { deed_of edit.now ≡ SealsKey sealed.now }
     ensures unchanged { IsUnchanged D.tells D.size D.bytes D.unsettled device.old device.new }
     ensures count { CountsFailure is_edit_failure result
         (D.failed device.old) (D.failed device.new) }
@@ -289,7 +289,7 @@ fn judge_removal_of<'a, D: Device>(
         → IsInside a accepted.now.total }
     requires key_areas { (n : ℕ) (a : TheArea)
         → IsKeyArea (content accepted.now.copy.now.meta) n a → IsInside a (D.size device.old) }
-    requires asked { deed_of edit.now ≡ Removes removed.now }
+    requires asked { deed_of edit.now ≡ RemovesKeyslot removed.now }
     ensures unchanged { IsUnchanged D.tells D.size D.bytes D.unsettled device.old device.new }
     ensures count { CountsFailure is_edit_failure result
         (D.failed device.old) (D.failed device.new) }
