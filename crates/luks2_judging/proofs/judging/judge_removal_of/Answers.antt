@@ -27,8 +27,8 @@ returns-in_err-area-clause-refused g c = λ tells is payload well judged.
     rw c.in_err-area.ensures.row.0
     (last_refused read (c.in_ok-_key.ensures.opened tells is c.args.edit.now (sym c.allowed_memory-memory.ensures) (removed_opens c.args.edit.now c.args.removed.now c.opener_of-opener.result c.requires.asked c.opener_of-opener.ensures)).past (edit_is c.args.edit.now _ c.requires.asked) c.in_err-area.ensures.row.1)
 
-pub returns-in_ok-area-clause-takes : goal.returns-in_ok-area-clause-takes
-returns-in_ok-area-clause-takes g c =
+pub returns-clause-takes : goal.returns-clause-takes
+returns-clause-takes g c =
     let area = c.in_ok-area.area in
     let is = subst (λ (m : Meta). IsKeyArea (content m) c.args.removed.now.slot area) c.room-room.ensures.meta c.in_ok-area.ensures.area in
     record {
@@ -44,8 +44,8 @@ judge_removal-requires g c =
     subst (λ (m : Meta). IsInUse (content m) c.args.removed.now.slot) (sym c.room-room.ensures.meta)
     (removed_used (content c.args.accepted.now.copy.now.meta) c.args.edit.now c.args.removed.now c.requires.asked c.requires.there)
 
-pub returns-in_ok-area-clause-passed : goal.returns-in_ok-area-clause-passed
-returns-in_ok-area-clause-passed g c = λ tells is payload judged.
+pub returns-clause-passed : goal.returns-clause-passed
+returns-clause-passed g c = λ tells is payload judged.
     let read = read_as c.room-room.ensures.meta c.room-room.ensures.entries
     (g.met.D.Device.sized c.args.device.now tells ∙ sym c.requires.total ∙ sym c.room-room.ensures.total) judged in
     removed_passed read (c.in_ok-_key.ensures.opened tells is c.args.edit.now (sym c.allowed_memory-memory.ensures) (removed_opens c.args.edit.now c.args.removed.now c.opener_of-opener.result c.requires.asked c.opener_of-opener.ensures)).past
