@@ -1,5 +1,5 @@
 -- The edit that does a deed.
-use Rattle.std.proofs.Common.{◌≡◌, ℕ, refl, ap, ◌∙◌, Option, Some, None}
+use Rattle.std.proofs.Common.{◌≡◌, ℕ, refl, sym, ap, subst, ◌∙◌, Option, Some, None}
 use Rattle.std.specs.Borrow.{Bor}
 use Rattle.std.specs.Prelude.{List}
 use Rattle.luks_edit.specs.declared.deed.Deed.{Deed}
@@ -48,3 +48,7 @@ changed_is e s is place = edit_is e (deed.Seal s) is ∙ ap (λ p. edit_at p s) 
 pub sealed_as : (e : Edit) (s : Sealed) (place : Place) (n turns : ℕ) → deed_of e ≡ deed.Seal s → s.place ≡ place → n ≡ s.opener.slot → turns ≡ s.iterations
     → deed_of e ≡ deed.Seal (sealing n s.opener.passphrase place s.passphrase turns)
 sealed_as e s place n turns is at like same = rw (like, same, ← at) is
+
+-- one that rewrites the header, by its label
+pub rewritten : (e : Edit) (label is : Option (Bor (List ℕ))) → deed.Rewrite label ≡ deed_of e → label ≡ is → deed_of e ≡ deed.Rewrite is
+rewritten e label is deed_is same = subst (λ l. deed_of e ≡ deed.Rewrite l) same (sym deed_is)

@@ -198,8 +198,10 @@ fn judge_with_key<'a, D: Device>(
     match edit.deed() {
         Deed::Seal(sealed) => judge_sealing_of(alloc, device, header, accepted, edit, &sealed),
         Deed::Remove(removed) => judge_removal_of(alloc, device, header, accepted, edit, &removed),
-        Deed::Rewrite { label: None } => Ok(JudgedEdit::Repair),
-        Deed::Rewrite { label: Some(text) } => judge_label(text),
+        Deed::Rewrite { label } => match label {
+            None => Ok(JudgedEdit::Repair),
+            Some(text) => judge_label(text),
+        },
     }
 }
 
