@@ -85,6 +85,14 @@ fn make<D: Device>(
     let key = unlock(alloc, device, header, opener.slot, opener.passphrase.bytes)?;
     let n = new_keyslot(&header.fields, number_asked(sealed.place))?;
     judge_new(&header.fields, n, sealed.iterations, random)?;
-    make_keyslot(device, header, n, sealed.passphrase, &key, sealed.iterations, random)?;
+    make_keyslot(
+        device,
+        header,
+        n,
+        sealed.passphrase,
+        &key,
+        sealed.iterations,
+        random,
+    )?;
     Ok(n)
 }

@@ -252,7 +252,14 @@ fn judge_sealing_of<'a, D: Device>(
     let memory = edit.allowed_memory();
     let opener = sealed.opener;
     let passphrase = sealed.passphrase;
-    let key = unlock(alloc, device, header, opener.slot, opener.passphrase.bytes, memory)?;
+    let key = unlock(
+        alloc,
+        device,
+        header,
+        opener.slot,
+        opener.passphrase.bytes,
+        memory,
+    )?;
     match sealed.place {
         Place::New { to } => {
             let addition = judge_addition(&room, opener.slot, to, sealed.iterations)?;
@@ -319,7 +326,14 @@ fn judge_removal_of<'a, D: Device>(
     let memory = edit.allowed_memory();
     let slot = removed.slot;
     let opener = opener_of(slot, removed.by_);
-    let _key = unlock(alloc, device, header, opener, removed.passphrase.bytes, memory)?;
+    let _key = unlock(
+        alloc,
+        device,
+        header,
+        opener,
+        removed.passphrase.bytes,
+        memory,
+    )?;
     let area = judge_removal(room.meta, slot)?;
     Ok(JudgedEdit::Remove { slot, area })
 }

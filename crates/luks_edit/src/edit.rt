@@ -95,44 +95,38 @@ impl<'a> Edit<'a> {
                 new,
                 to,
                 iterations,
-            } => Deed::Seal(
-                Sealed {
-                    opener: Opener {
-                        slot: by_,
-                        passphrase: old,
-                    },
-                    place: Place::New { to },
-                    passphrase: new,
-                    iterations,
+            } => Deed::Seal(Sealed {
+                opener: Opener {
+                    slot: by_,
+                    passphrase: old,
                 },
-            ),
+                place: Place::New { to },
+                passphrase: new,
+                iterations,
+            }),
             Edit::Change {
                 slot,
                 old,
                 new,
                 iterations,
-            } => Deed::Seal(
-                Sealed {
-                    opener: Opener {
-                        slot,
-                        passphrase: old,
-                    },
-                    place: Place::Opened,
-                    passphrase: new,
-                    iterations,
+            } => Deed::Seal(Sealed {
+                opener: Opener {
+                    slot,
+                    passphrase: old,
                 },
-            ),
+                place: Place::Opened,
+                passphrase: new,
+                iterations,
+            }),
             Edit::Remove {
                 slot,
                 by_,
                 passphrase,
-            } => Deed::Remove(
-                Removed {
-                    slot,
-                    by_,
-                    passphrase,
-                },
-            ),
+            } => Deed::Remove(Removed {
+                slot,
+                by_,
+                passphrase,
+            }),
             Edit::Repair => Deed::Rewrite { label: None },
             Edit::Label { text } => Deed::Rewrite { label: Some(text) },
         }
