@@ -7,7 +7,6 @@ ghost use Rattle.luks_cli.specs.OtherUses.{is_unseen_failure, IsUnseen, SeesBarr
 
 use crate::other_use::barring_use;
 use luks_commands::open::{MemoryNote, memory_note};
-use luks_edit::Deed;
 use luks_request::Editing;
 use luks_signatures::OtherUse;
 use luks_volume::{
@@ -112,11 +111,19 @@ pub(super) fn see<D: Device>(
 /// The keyslot that the edit makes, where that has fewer iterations than the one that it opens in a
 /// volume with this header.
 fn weaker_keyslot(header: &Header, edit: &Edit<'_>) -> Option<Weaker> {
-    let Deed::Seal(sealed) = edit.deed() else {
-        return None;
+    let (opener, iterations) = match *edit {
+        Edit::Add {
+            by_,
+            iterations,
+            ..
+        } => (by_, iterations),
+        Edit::Change {
+            slot,
+            iterations,
+            ..
+        } => (slot, iterations),
+        _ => return None,
     };
-    let opener = sealed.opener.slot;
-    let iterations = sealed.iterations;
     let opener_iterations = iterations_of(header, opener)?;
     if iterations >= opener_iterations {
         return None;
@@ -155,12 +162,17 @@ fn argon2_keyslot(header: &Header, total: u64, edit: &Edit<'_>) -> Option<Memory
 /// Whether the edit removes, by the passphrase of another keyslot, the last one by PBKDF2 of a volume with
 /// this header.
 fn leaves_argon2(header: &Header, edit: &Edit<'_>) -> bool {
-    let Deed::Remove(removed) = edit.deed() else {
-        return false;
-    };
-    removed.by_.is_some()
-        && iterations_of(header, removed.slot).is_some()
-        && (0..32).all(|n| n == removed.slot || iterations_of(header, n).is_none())
+    match *edit {
+        Edit::Remove {
+            slot,
+            by_: Some(_),
+            ..
+        } => {
+            iterations_of(header, slot).is_some()
+                && (0..32).all(|n| n == slot || iterations_of(header, n).is_none())
+        }
+        _ => false,
+    }
 }
 
 /// Says, before it is done, that no keyslot by PBKDF2 is left.
