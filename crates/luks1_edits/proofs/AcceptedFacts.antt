@@ -1,5 +1,7 @@
 -- What the verdict on a header says of the volume, and the edits that open no keyslot.
-use Rattle.std.proofs.Common.{◌≡◌, ◌≢◌, ℕ, List, length, subst, refl, sym, ◌∙◌, None, Result, Ok, Err, MatchResult}
+use Rattle.std.proofs.Common.{◌≡◌, ◌≢◌, ℕ, List, length, subst, refl, sym, ◌∙◌, Option, Some, None, Result, Ok, Err, MatchResult}
+use Rattle.std.specs.Prelude.{MatchOption}
+use Rattle.std.specs.Borrow.{Bor}
 use Rattle.luks_area.specs.Ranges.{part}
 use Rattle.luks1_header.proofs.Luks1FaultFacts.{sound}
 use Rattle.luks_head.specs.Selection.{luks1, Chosen}
@@ -12,15 +14,15 @@ use Rattle.luks_reading.specs.Layout1.{Luks1Area}
 use Rattle.luks_reading.proofs.ListedAreaFacts.{no_area_fault}
 use Rattle.luks_edit.specs.declared.edit.Done.{Done}
 use Rattle.luks_edit.specs.declared.edit.Edit.{Edit}
-use Rattle.luks_edit.specs.declared.edit.Edit.TheVariants.{Repair}
+use Rattle.luks_edit.specs.declared.deed.Deed.TheVariants as deed
 use Rattle.luks_edit.specs.declared.edit_fault.EditFault.{EditFault}
 use Rattle.luks_edit.specs.declared.edit_fault.EditFault.TheVariants as fault
-use Rattle.luks_edit.specs.Asked.{HasFewIterations}
+use Rattle.luks_edit.specs.Asked.{deed_of}
 use Rattle.luks_edit.specs.RowFacts.{Passed, first_of_check, first_of_row, next}
 use Rattle.luks1_edits.specs.Accepted.{IsHeaderOf, IsUnaccepted}
-use Rattle.luks1_edits.specs.Refused.{HasNoFree, IsEditFault1, IsLabel, IsLast, IsTaken, Refusal1}
+use Rattle.luks1_edits.specs.Refused.{IsEditFault1, Need1, Refusal1}
 use Rattle.luks1_edits.specs.Replies.{EndsBy1, Replies1}
-use Rattle.luks1_edits.proofs.RowFacts.{none_to_open, OpensNone, past_label, past_new, unrefused}
+use Rattle.luks1_edits.proofs.RowFacts.{none_to_open, opens_none, past_label, past_new, unrefused}
 
 -- ---- the verdict on the header is that on the volume
 
@@ -48,21 +50,36 @@ unaccepted_ends v payload e r f bad = absurd bad
 
 -- ---- edits that open no keyslot
 
-module _ (v : List ℕ) (payload : Data) (r : List ℕ) (accepted : (f : CheckFault) → IsFault v payload f → ⊥) where
-  -- there is nothing to repair
-  idle : Passed (IsEditFault1 v payload Repair r) 14
-  idle = past_label v payload Repair r (past_new v payload Repair r (none_to_open v payload Repair r accepted (record { opens = λ n p asked. asked; wants = λ n wants. wants; other = λ same. same })) (λ bad. bad) (λ bad. bad)) (λ bad. bad) (λ bad. bad) (λ bad. bad)
+module _ (v : List ℕ) (payload : Data) (r : List ℕ) (accepted : (f : CheckFault) → IsFault v payload f → ⊥) (e : Edit) where
+  new_passed : (label : Option (Bor (List ℕ))) → deed_of e ≡ deed.Rewrite label → Passed (IsEditFault1 v payload e r) 9
+  new_passed label is = past_new v payload e r (none_to_open v payload e r accepted (opens_none e label is)) (λ bad. rw is at bad) (λ bad. rw is at bad)
 
-  pub repair_replies : (result : Result Done EditFault)
-      → MatchResult result (λ done. (length r ≡ 0) × (done.slot ≡ None)) (λ f. (length r ≢ 0) × (f ≡ fault.RandomLength)) → Replies1 payload v Repair r result v
-  repair_replies (Ok done) x = record { unrefused = unrefused v payload Repair r idle (λ bad. bad.other (x.0 ∙ sym bad.is)); after = refl; told = x.1 }
-  repair_replies (Err f) x = subst (λ g. EndsBy1 payload v Repair r g v) (sym x.1)
-      (first_of_row (IsEditFault1 v payload Repair r) fault.RandomLength refl idle (record { need = 0; is = refl; other = x.0 }), refl)
+  -- there is nothing to repair
+  idle : deed_of e ≡ deed.Rewrite None → Passed (IsEditFault1 v payload e r) 14
+  idle is = past_label v payload e r (new_passed None is) (λ bad. rw is at bad) (λ bad. rw is at bad) (λ bad. rw is at bad)
+
+  need_none : deed_of e ≡ deed.Rewrite None → (k : ℕ) → Need1 v e k → k ≡ 0
+  need_none is k x = rw is at x
+
+  repair_replies : deed_of e ≡ deed.Rewrite None → (result : Result Done EditFault)
+      → MatchResult result (λ done. (length r ≡ 0) × (done.slot ≡ None)) (λ f. (length r ≢ 0) × (f ≡ fault.RandomLength)) → Replies1 payload v e r result v
+  repair_replies is (Ok done) x = record {
+    unrefused = unrefused v payload e r (idle is) (λ bad. bad.other (x.0 ∙ sym (need_none is bad.need bad.is)));
+    after = rw is refl;
+    told = rw is x.1;
+  }
+  repair_replies is (Err f) x = subst (λ g. EndsBy1 payload v e r g v) (sym x.1)
+      (first_of_row (IsEditFault1 v payload e r) fault.RandomLength refl (idle is) (record { need = 0; is = rw is refl; other = x.0 }), refl)
 
   -- LUKS1 has no label
-  pub label_refused : (e : Edit) → OpensNone e → (IsTaken v e → ⊥) → (HasNoFree v e → ⊥) → (IsLast v e → ⊥) → (HasFewIterations e → ⊥)
-      → IsLabel e → Refusal1 v payload e r fault.BadLabel
-  label_refused e none untaken free last few label =
+  label_refused : (text : Bor (List ℕ)) → deed_of e ≡ deed.Rewrite (Some text) → Refusal1 v payload e r fault.BadLabel
+  label_refused text is =
       let s = IsEditFault1 v payload e r in
       first_of_row s fault.BadLabel refl
-      (next s fault.Iterations refl (next s fault.LastSlot refl (past_new v payload e r (none_to_open v payload e r accepted none) untaken free) last) few) label
+      (next s fault.Iterations refl (next s fault.LastSlot refl (new_passed (Some text) is) (λ bad. rw is at bad)) (λ bad. rw is at bad)) (rw is tt)
+
+  pub rewrite_replies : (label : Option (Bor (List ℕ))) → deed_of e ≡ deed.Rewrite label → (result : Result Done EditFault)
+      → MatchOption label (MatchResult result (λ done. (length r ≡ 0) × (done.slot ≡ None)) (λ f. (length r ≢ 0) × (f ≡ fault.RandomLength))) (λ text. result ≡ Err fault.BadLabel)
+      → Replies1 payload v e r result v
+  rewrite_replies None is result x = repair_replies is result x
+  rewrite_replies (Some text) is result x = subst (λ y. Replies1 payload v e r y v) (sym x) (label_refused text is, refl)

@@ -15,5 +15,6 @@ pub mod RefusalFacts
 pub mod RemovalChoice
 pub mod RemovalFacts
 pub mod RowFacts
+pub mod SealingFacts
 pub mod SlotSetFacts
 pub mod StepFacts

@@ -1,5 +1,6 @@
 -- How many random bytes an edit takes, and the first fault that is seen without opening a keyslot.
 use Rattle.std.proofs.Common.{◌≡◌, ℕ, List, subst, refl, sym, inl, inr, Option, Result, Ok, Err, MatchResult}
+use Rattle.std.specs.Borrow.{Bor}
 use Rattle.luks_area.specs.First.{IsLeast}
 use Rattle.luks_reading.specs.declared.check_fault.CheckFault.{CheckFault}
 use Rattle.luks_reading.specs.declared.report.Data.{Data}
@@ -7,7 +8,8 @@ use Rattle.luks_reading.specs.Checked.{IsFault}
 use Rattle.luks_edit.specs.declared.edit.Edit.{Edit}
 use Rattle.luks_edit.specs.declared.edit_fault.EditFault.{EditFault}
 use Rattle.luks_edit.specs.declared.edit_fault.EditFault.TheVariants as fault
-use Rattle.luks_edit.specs.Asked.{NamesItself, opener_of, Wants}
+use Rattle.luks_edit.specs.declared.deed.Deed.TheVariants.{Rewrite}
+use Rattle.luks_edit.specs.Asked.{deed_of, NamesItself, opener_of, Wants}
 use Rattle.luks_edit.specs.EditFaults.{edit_key}
 use Rattle.luks_edit.specs.RowFacts.{Passed, after_check, after_plan, first_of_check, first_of_row, next}
 use Rattle.luks1_edits.specs.Accepted.{IsNewFault, IsNewNeed, IsNewNeedFault, IsRemovable, IsUnaccepted, IsUnremovable}
@@ -16,7 +18,7 @@ use Rattle.luks1_edits.specs.Needed.{IsNeedFault1, NeedsRandom, TellsNeed1}
 use Rattle.luks1_edits.specs.Refused.{HasNoFree, IsTaken, Need1}
 use Rattle.luks1_edits.proofs.NewKeyslotFacts.{IsMaking, free_found, free_untaken, taken_excludes}
 use Rattle.luks1_edits.proofs.RemovalFacts.{IsRemoval, removable_there, twice_there}
-use Rattle.luks1_edits.proofs.RowFacts.{AreAllThere, none_wanted, OpensNone, there_of}
+use Rattle.luks1_edits.proofs.RowFacts.{AreAllThere, none_wanted, opens_none, there_of}
 
 -- the volume isn't accepted
 pub need_unaccepted : (v : List ℕ) (payload : Data) (e : Edit) (f : EditFault) → IsUnaccepted v payload f → IsLeast edit_key (IsNeedFault1 v payload e) f
@@ -42,8 +44,8 @@ module _ (v : List ℕ) (payload : Data) (e : Edit) (accepted : (f : CheckFault)
       none f bad = bad
 
   -- an edit that opens no keyslot and makes none takes none
-  pub idle_need : OpensNone e → (IsTaken v e → ⊥) → (HasNoFree v e → ⊥) → Need1 v e 0 → NeedsRandom v payload e 0
-  idle_need none untaken some_free need = told 0 (none_wanted v e none) untaken some_free need
+  pub idle_need : (label : Option (Bor (List ℕ))) → deed_of e ≡ Rewrite label → NeedsRandom v payload e 0
+  idle_need label is = told 0 (none_wanted v e (opens_none e label is)) (λ bad. rw is at bad) (λ bad. rw is at bad) (rw is refl)
 
   past_requirements : Passed (IsNeedFault1 v payload e) 2
   past_requirements = let s = IsNeedFault1 v payload e in next s fault.Requirements refl (after_check s accepted) (λ bad. bad)

@@ -10,13 +10,14 @@ use Rattle.luks_reading.specs.declared.report.Data.{Data}
 use Rattle.luks_reading.specs.Answer.{Answer, HasPlanAs, IsLuks1Refusal, IsRefusalAs, opens}
 use Rattle.luks_reading.specs.Plans.{HasLuks1Plan}
 use Rattle.luks_edit.specs.declared.edit.Edit.{Edit}
-use Rattle.luks_edit.specs.declared.edit.Edit.TheVariants.{Add, Change}
+use Rattle.luks_edit.specs.declared.deed.Deed.TheVariants.{Seal}
+use Rattle.luks_edit.specs.declared.deed.Sealed.{Sealed}
 use Rattle.luks_edit.specs.declared.edit_fault.EditFault.{EditFault}
 use Rattle.luks_edit.specs.declared.edit_fault.EditFault.TheVariants as fault
-use Rattle.luks_edit.specs.Asked.{HasFewIterations}
+use Rattle.luks_edit.specs.Asked.{deed_of, HasFewIterations}
 use Rattle.luks_edit.specs.RowFacts.{Passed, first_of_row, next}
 use Rattle.luks1_edits.specs.Accepted.{IsHeaderOf, IsNewFault, IsNewFree, IsNewRefused, IsOpenedBy}
-use Rattle.luks1_edits.specs.Edited.{IsNewKeyslot}
+use Rattle.luks1_edits.specs.Edited.{IsNewKeyslot, number_asked}
 use Rattle.luks1_edits.specs.Leftovers.{IsSealedFirst, IsTorn1}
 use Rattle.luks1_edits.specs.Refused.{HasNoFree, IsEditFault1, IsLabel, IsLast, IsTaken, IsTakenFor, IsUnrefused1, keyslot_need, LacksFree, Need1, NeedsFor}
 use Rattle.luks1_edits.specs.Replies.{EndsBy1}
@@ -40,40 +41,21 @@ pub record IsMaking (v : List ℕ) (e : Edit) (opener : ℕ) (p : List ℕ) (to 
   pub need : (k : ℕ) → NeedsFor v (IsNewKeyslot v to) k → Need1 v e k
   pub need_only : (k : ℕ) → Need1 v e k → NeedsFor v (IsNewKeyslot v to) k
 
--- an addition does, and so does a change
-abbrev pub MakingOf : List ℕ → Edit → Type 0
-MakingOf v (Add by_ old new to iterations) = IsMaking v (Add by_ old new to iterations) by_ old.bytes.now to iterations
-MakingOf v (Change slot old new iterations) = IsMaking v (Change slot old new iterations) slot old.bytes.now None iterations
-MakingOf v e = Unit {0}
-
-pub making : (v : List ℕ) (e : Edit) → MakingOf v e
-making v (Add by_ old new to iterations) = record {
-  opening = alone v (Add by_ old new to iterations) by_ old.bytes.now (refl, refl) refl (λ m y. y) (λ y. y);
-  taken_is = λ y. y;
-  taken_only = λ y. y;
-  free_is = λ y. y;
-  free_only = λ y. y;
-  not_last = λ y. y;
-  no_label = λ y. y;
-  few_is = λ y. y;
-  few_only = λ y. y;
-  need = λ k y. y;
-  need_only = λ k y. y;
+-- each edit does that seals a key
+pub making : (v : List ℕ) (e : Edit) (s : Sealed) → deed_of e ≡ Seal s → IsMaking v e s.opener.slot s.opener.passphrase.bytes.now (number_asked s.place) s.iterations
+making v e s is = record {
+  opening = alone v e s.opener.slot s.opener.passphrase.bytes.now (rw is (refl, refl)) (rw is refl) (λ m y. rw is at y) (λ y. rw is at y);
+  taken_is = λ y. rw is y;
+  taken_only = λ y. rw is at y;
+  free_is = λ y. rw is y;
+  free_only = λ y. rw is at y;
+  not_last = λ y. rw is at y;
+  no_label = λ y. rw is at y;
+  few_is = λ y. rw is y;
+  few_only = λ y. rw is at y;
+  need = λ k y. rw is y;
+  need_only = λ k y. rw is at y;
 }
-making v (Change slot old new iterations) = record {
-  opening = alone v (Change slot old new iterations) slot old.bytes.now (refl, refl) refl (λ m y. y) (λ y. y);
-  taken_is = λ y. y;
-  taken_only = λ y. y;
-  free_is = λ y. y;
-  free_only = λ y. y;
-  not_last = λ y. y;
-  no_label = λ y. y;
-  few_is = λ y. y;
-  few_only = λ y. y;
-  need = λ k y. y;
-  need_only = λ k y. y;
-}
-making v e = tt
 
 -- a keyslot that is free isn't taken
 pub free_untaken : (v : List ℕ) (to : Option ℕ) (n : ℕ) → IsNewFree v to n → IsTakenFor v to → ⊥

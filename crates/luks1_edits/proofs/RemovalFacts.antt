@@ -4,10 +4,11 @@ use Rattle.luks_reading.specs.declared.check_fault.CheckFault.{CheckFault}
 use Rattle.luks_reading.specs.declared.report.Data.{Data}
 use Rattle.luks_reading.specs.Checked.{IsFault}
 use Rattle.luks_edit.specs.declared.edit.Edit.{Edit}
-use Rattle.luks_edit.specs.declared.edit.Edit.TheVariants.{Remove}
+use Rattle.luks_edit.specs.declared.deed.Deed.TheVariants.{Remove}
+use Rattle.luks_edit.specs.declared.deed.Removed.{Removed}
 use Rattle.luks_edit.specs.declared.edit_fault.EditFault.TheVariants as fault
 use Rattle.luks_edit.specs.declared.edit_fault.EditFault.{EditFault}
-use Rattle.luks_edit.specs.Asked.{HasFewIterations, NamesItself, opener_of, OpensBy, Wants}
+use Rattle.luks_edit.specs.Asked.{deed_of, HasFewIterations, NamesItself, opener_of, OpensBy, Wants}
 use Rattle.luks_edit.specs.RowFacts.{Passed, first_of_row}
 use Rattle.luks1_edits.specs.Accepted.{HasOther, IsHeaderOf, IsNamedTwice, IsOpenedBy, IsRemovable, IsUnremovable}
 use Rattle.luks1_edits.specs.Edited.{After1, IsInUse, IsRemoved}
@@ -36,32 +37,27 @@ pub record IsRemoval (v : List ℕ) (e : Edit) (slot : ℕ) (by_ : Option ℕ) (
   pub torn : (w : List ℕ) → IsHalfRemoved v slot w → IsTorn1 v e r w
   pub told : Tells1 v e None
 
--- each removal does
-abbrev pub RemovalOf : List ℕ → Edit → List ℕ → Type 0
-RemovalOf v (Remove slot by_ passphrase) r = IsRemoval v (Remove slot by_ passphrase) slot by_ passphrase.bytes.now r
-RemovalOf v e r = Unit {0}
-
-pub removal : (v : List ℕ) (e : Edit) (r : List ℕ) → RemovalOf v e r
-removal v (Remove slot by_ passphrase) r = record {
-  asked = (refl, refl);
-  wants_opener = inl refl;
-  wants_removed = inr refl;
-  wants_only = λ n y. y;
-  itself_is = λ y. y;
-  itself_only = λ y. y;
-  untaken = λ y. y;
-  some_free = λ y. y;
-  last_is = λ y. y;
-  last_only = λ y. y;
-  many = λ y. y;
-  no_label = λ y. y;
-  need = refl;
-  need_only = λ k y. y;
-  after = λ w y. y;
-  torn = λ w y. y;
-  told = refl;
+-- each edit does that removes one
+pub removal : (v : List ℕ) (e : Edit) (d : Removed) (r : List ℕ) → deed_of e ≡ Remove d → IsRemoval v e d.slot d.by_ d.passphrase.bytes.now r
+removal v e d r is = record {
+  asked = rw is (refl, refl);
+  wants_opener = rw is (inl refl);
+  wants_removed = rw is (inr refl);
+  wants_only = λ n y. rw is at y;
+  itself_is = λ y. rw is y;
+  itself_only = λ y. rw is at y;
+  untaken = λ y. rw is at y;
+  some_free = λ y. rw is at y;
+  last_is = λ y. rw is y;
+  last_only = λ y. rw is at y;
+  many = λ y. rw is at y;
+  no_label = λ y. rw is at y;
+  need = rw is refl;
+  need_only = λ k y. rw is at y;
+  after = λ w y. rw is y;
+  torn = λ w y. rw is y;
+  told = rw is refl;
 }
-removal v e r = tt
 
 -- both of its keyslots are there
 both_there : {v : List ℕ} {e : Edit} {slot : ℕ} {by_ : Option ℕ} {p r : List ℕ} → IsRemoval v e slot by_ p r → IsInUse v (opener_of slot by_) → IsInUse v slot → (n : ℕ) → Wants e n → IsInUse v n

@@ -1,5 +1,7 @@
 -- The first refusal of an edit, row by row.
-use Rattle.std.proofs.Common.{◌≡◌, ℕ, List, subst, refl, sym, ◌∙◌, inl}
+use Rattle.std.proofs.Common.{◌≡◌, ℕ, List, subst, refl, sym, ◌∙◌, inl, Option, Some, None}
+use Rattle.std.specs.Prelude.{IsSomeAnd}
+use Rattle.std.specs.Borrow.{Bor}
 use Rattle.luks_slot.specs.declared.fault.SlotFault.{SlotFault}
 use Rattle.luks_reading.specs.declared.check_fault.CheckFault.{CheckFault}
 use Rattle.luks_reading.specs.declared.open_fault.OpenFault.TheVariants as opening
@@ -8,10 +10,11 @@ use Rattle.luks_head.specs.Selection.{luks1, Chosen}
 use Rattle.luks_reading.specs.Answer.{Answer, AnswerWithin, no_key, Opened, refused}
 use Rattle.luks_reading.specs.Checked.{IsFault}
 use Rattle.luks_edit.specs.declared.edit.Edit.{Edit}
-use Rattle.luks_edit.specs.declared.edit.Edit.TheVariants.{Add, Change, Remove, Repair, Label}
+use Rattle.luks_edit.specs.declared.deed.Deed.TheVariants as deed
+use Rattle.luks_edit.specs.declared.edit.Opener.{Opener}
 use Rattle.luks_edit.specs.declared.edit_fault.EditFault.{EditFault}
 use Rattle.luks_edit.specs.declared.edit_fault.EditFault.TheVariants as fault
-use Rattle.luks_edit.specs.Asked.{allowed_memory, HasFewIterations, NamesItself, OpensBy, Wants}
+use Rattle.luks_edit.specs.Asked.{allowed_memory, deed_of, HasFewIterations, NamesItself, opener_in, OpensBy, Wants}
 use Rattle.luks_edit.specs.Opener.{IsLocked, IsShut}
 use Rattle.luks_edit.proofs.AllowedMemory.{luks1_answers_alike}
 use Rattle.luks_edit.specs.RowFacts.{Passed, after_check, after_plan, first_of_plan, first_of_row, next, none_at_all}
@@ -21,12 +24,13 @@ use Rattle.luks1_edits.specs.Refused.{HasNoFree, IsAbsent, IsEditFault1, IsLabel
 use Rattle.luks1_edits.specs.Replies.{EndsBy1}
 
 -- an edit opens one keyslot by one passphrase
+once_in : (o : Option Opener) (n m : ℕ) (p q : List ℕ) → IsSomeAnd o (λ x. (n ≡ x.slot) × (p ≡ x.passphrase.bytes.now))
+    → IsSomeAnd o (λ x. (m ≡ x.slot) × (q ≡ x.passphrase.bytes.now)) → (m ≡ n) × (q ≡ p)
+once_in None n m p q x y = absurd x
+once_in (Some o) n m p q x y = (y.0 ∙ sym x.0, y.1 ∙ sym x.1)
+
 pub opens_once : (e : Edit) (n m : ℕ) (p q : List ℕ) → OpensBy e n p → OpensBy e m q → (m ≡ n) × (q ≡ p)
-opens_once (Add by_ old new to iterations) n m p q x y = (y.0 ∙ sym x.0, y.1 ∙ sym x.1)
-opens_once (Change slot old new iterations) n m p q x y = (y.0 ∙ sym x.0, y.1 ∙ sym x.1)
-opens_once (Remove slot by_ passphrase) n m p q x y = (y.0 ∙ sym x.0, y.1 ∙ sym x.1)
-opens_once Repair n m p q x y = absurd x
-opens_once (Label text) n m p q x y = absurd x
+opens_once e n m p q x y = once_in (opener_in (deed_of e)) n m p q x y
 
 -- each keyslot that the edit wants is there, and the removed one isn't named to open by
 pub record AreAllThere (v : List ℕ) (e : Edit) : Type 0 where
@@ -44,6 +48,10 @@ pub record OpensNone (e : Edit) : Type 0 where
   pub opens : (n : ℕ) (p : List ℕ) → OpensBy e n p → ⊥
   pub wants : (n : ℕ) → Wants e n → ⊥
   pub other : NamesItself e → ⊥
+
+-- one that rewrites the header doesn't
+pub opens_none : (e : Edit) (label : Option (Bor (List ℕ))) → deed_of e ≡ deed.Rewrite label → OpensNone e
+opens_none e label is = record { opens = λ n p x. rw is at x; wants = λ n x. rw is at x; other = λ x. rw is at x }
 
 -- it wants none but the one that it opens
 pub alone : (v : List ℕ) (e : Edit) (n : ℕ) (p : List ℕ) → OpensBy e n p → Wants e n → ((m : ℕ) → Wants e m → m ≡ n) → (NamesItself e → ⊥) → IsOpener v e n p

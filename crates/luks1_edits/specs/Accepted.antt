@@ -13,10 +13,14 @@ use Rattle.luks_reading.specs.Answer.{Answer, no_key, opens, refused}
 use Rattle.luks_reading.specs.Checked.{First, IsFault, IsLuks1Volume, WellFormed}
 use Rattle.luks_edit.specs.declared.edit_fault.EditFault.{EditFault}
 use Rattle.luks_edit.specs.declared.edit_fault.EditFault.TheVariants as fault
-use Rattle.luks_edit.specs.Asked.{opener_of}
+use Rattle.luks_edit.specs.declared.deed.Deed.TheVariants.{Seal}
+use Rattle.luks_edit.specs.declared.deed.Sealed.{Sealed}
+use Rattle.luks_edit.specs.declared.edit.Edit.{Edit}
+use Rattle.luks_edit.specs.Asked.{deed_of, opener_of}
 use Rattle.luks1_edits.specs.declared.accepted.AcceptedHeader.{AcceptedHeader}
-use Rattle.luks1_edits.specs.Edited.{IsFree, IsInUse, IsNewKeyslot}
-use Rattle.luks1_edits.specs.Refused.{IsTakenFor, keyslot_need, LacksFree, NeedsFor}
+use Rattle.luks1_edits.specs.Edited.{IsFree, IsInUse, IsNewKeyslot, IsSealedIn}
+use Rattle.luks1_edits.specs.Refused.{IsTakenFor, IsUnrefused1, keyslot_need, LacksFree, NeedsFor}
+use Rattle.luks1_edits.specs.Steps.{IsKeyslotMade}
 
 -- `h` and `d` are the bytes and the fields of the header of a well formed volume of `total` bytes
 pub record IsAccepted (h : List ℕ) (d : Luks1) (payload : Data) (total : ℕ) : Type 0 where
@@ -118,6 +122,16 @@ abbrev pub IsNewRefused : List ℕ → ℕ → ℕ → List ℕ → EditFault �
 IsNewRefused v n iterations random fault.Iterations = iterations < 1000
 IsNewRefused v n iterations random fault.RandomLength = IsMiscountedNew v n iterations random
 IsNewRefused v n iterations random f = ⊥
+
+-- the keyslot `n` was made for the key that is sealed, which the old passphrase opens; nothing refuses
+-- an edit that seals it
+pub record IsSealedNew (payload : Data) (v : List ℕ) (s : Sealed) (random : List ℕ) (n : ℕ) (w : List ℕ) : Type 0 where
+  pub used : IsInUse v s.opener.slot
+  pub key : List ℕ
+  pub opened : Answer v s.opener.slot s.opener.passphrase.bytes.now (opens key)
+  pub is_new : IsSealedIn v s n
+  pub made : IsKeyslotMade v n s.iterations s.passphrase.now key random w
+  pub unrefused : (e : Edit) → deed_of e ≡ Seal s → IsUnrefused1 v payload e random
 
 -- ---- the random bytes that an edit asks for
 

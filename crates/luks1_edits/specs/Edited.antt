@@ -1,5 +1,5 @@
 -- What an edit makes of a LUKS1 volume (LUKS1 On-Disk Format 1.2.3, 4.1 to 4.4).
-use Rattle.std.specs.Prelude.{◌≡◌, ℕ, ◌-◌, ◌*◌, ◌<◌, ◌≤◌, ◌⊎◌, List, length, take, drop, replicate, Option, Some, None}
+use Rattle.std.specs.Prelude.{◌≡◌, ℕ, ◌-◌, ◌*◌, ◌<◌, ◌≤◌, ◌⊎◌, List, length, take, drop, replicate, Option, Some, None, IfSome, IsSomeAnd, MatchOption}
 use Rattle.luks_area.specs.Ranges.{part, SameBut}
 use Rattle.luks1_header.specs.Header1.{active_word, disabled_word, enabled_word, entry, entry_iterations, entry_key_material_offset, entry_salt, entry_stripes, luks1_size}
 use Rattle.luks_slot.specs.declared.plan.SlotPlan.{SlotPlan}
@@ -8,7 +8,10 @@ use Rattle.luks_slot.specs.Sealing.{IsSealed}
 use Rattle.luks_reading.specs.Answer.{Answer, opens}
 use Rattle.luks_reading.specs.Plans.{HasLuks1Plan}
 use Rattle.luks_edit.specs.declared.edit.Edit.{Edit}
-use Rattle.luks_edit.specs.declared.edit.Edit.TheVariants.{Add, Change, Remove, Repair, Label}
+use Rattle.luks_edit.specs.declared.deed.Place.{Place}
+use Rattle.luks_edit.specs.declared.deed.Place.TheVariants.{New, Opened}
+use Rattle.luks_edit.specs.declared.deed.Sealed.{Sealed}
+use Rattle.luks_edit.specs.Asked.{deed_of, lost_by, MatchDeed, MatchPlace, sealed_by}
 use Rattle.luks1_edits.specs.Kept.{IsEither}
 use Rattle.luks1_edits.specs.Places.{area_len, area_start, IsOfKeyslots}
 
@@ -29,13 +32,21 @@ abbrev pub IsNewKeyslot : List ℕ → Option ℕ → ℕ → Type 0
 IsNewKeyslot v (Some t) n = n ≡ t
 IsNewKeyslot v None n = IsLeastFree v n
 
--- the keyslots that an edit names; a change makes a new one, and removes the old one
+-- the number that is asked for the keyslot in which a key is sealed: for one that was opened none
+abbrev pub number_asked : Place → Option ℕ
+number_asked (New to) = to
+number_asked Opened = None
+
+-- the keyslot in which an edit seals the key: always a new one
+abbrev pub IsSealedIn : List ℕ → Sealed → ℕ → Type 0
+IsSealedIn v s n = IsNewKeyslot v (number_asked s.place) n
+
+-- the keyslots that an edit names: the one that it makes, and the one that it removes
 abbrev pub NamedKeyslots1 : List ℕ → Edit → ℕ → Type 0
-NamedKeyslots1 v (Add by_ old new to iterations) n = IsNewKeyslot v to n
-NamedKeyslots1 v (Change slot old new iterations) n = (n ≡ slot) ⊎ IsLeastFree v n
-NamedKeyslots1 v (Remove slot by_ passphrase) n = n ≡ slot
-NamedKeyslots1 v Repair n = ⊥
-NamedKeyslots1 v (Label text) n = ⊥
+NamedKeyslots1 v e n = MatchDeed (deed_of e)
+    (λ s. MatchPlace s.place (λ to. IsNewKeyslot v to n) ((n ≡ s.opener.slot) ⊎ IsLeastFree v n))
+    (λ r. n ≡ r.slot)
+    (λ label. ⊥)
 
 -- ---- entries and areas
 
@@ -106,34 +117,23 @@ pub record IsChanged
   pub wiped : IsWiped v slot w
 
 -- the LUKS1 volume `w` is what the edit makes of `v` with the random bytes: first the salt of a new
--- keyslot, then its stripes but the last
+-- keyslot, then its stripes but the last; there is no label
 abbrev pub After1 : List ℕ → Edit → List ℕ → List ℕ → Type 0
-After1 v (Add by_ old new to iterations) random w =
-    IsAdded v by_ old.bytes.now new.now to iterations random w
-After1 v (Change slot old new iterations) random w =
-    IsChanged v slot old.bytes.now new.now iterations random w
-After1 v (Remove slot by_ passphrase) random w = IsRemoved v slot w
-After1 v Repair random w = w ≡ v
-After1 v (Label text) random w = ⊥
+After1 v e random w = MatchDeed (deed_of e)
+    (λ s. MatchPlace s.place
+    (λ to. IsAdded v s.opener.slot s.opener.passphrase.bytes.now s.passphrase.now to s.iterations random w)
+    (IsChanged v s.opener.slot s.opener.passphrase.bytes.now s.passphrase.now s.iterations random w))
+    (λ r. IsRemoved v r.slot w)
+    (λ label. MatchOption label (w ≡ v) (λ text. ⊥))
 
 -- ---- what opens after an edit
 
 -- a keyslot that the edit made opens by its new passphrase to the key that the old one opened
 abbrev pub OpensAfter1 : List ℕ → Edit → List ℕ → Type 0
-OpensAfter1 v (Add by_ old new to iterations) w =
-    (n : ℕ) (key : List ℕ) → IsNewKeyslot v to n → Answer v by_ old.bytes.now (opens key)
-    → Answer w n new.now (opens key)
-OpensAfter1 v (Change slot old new iterations) w =
-    (n : ℕ) (key : List ℕ) → IsLeastFree v n → Answer v slot old.bytes.now (opens key)
-    → Answer w n new.now (opens key)
-OpensAfter1 v (Remove slot by_ passphrase) w = Unit {0}
-OpensAfter1 v Repair w = Unit {0}
-OpensAfter1 v (Label text) w = Unit {0}
+OpensAfter1 v e w = IfSome (sealed_by e) (λ s. (n : ℕ) (key : List ℕ) → IsSealedIn v s n
+    → Answer v s.opener.slot s.opener.passphrase.bytes.now (opens key)
+    → Answer w n s.passphrase.now (opens key))
 
 -- the keyslot that the edit removes
 abbrev pub Removes : Edit → ℕ → Type 0
-Removes (Add by_ old new to iterations) n = ⊥
-Removes (Change slot old new iterations) n = n ≡ slot
-Removes (Remove slot by_ passphrase) n = n ≡ slot
-Removes Repair n = ⊥
-Removes (Label text) n = ⊥
+Removes e n = IsSomeAnd (lost_by e) (λ m. n ≡ m)

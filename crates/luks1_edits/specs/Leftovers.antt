@@ -1,13 +1,13 @@
 -- What an edit of a LUKS1 volume may leave that a failing device call ended. A failed write leaves
 -- any bytes in its range; the ranges are written in this order: the area of a new keyslot, its
 -- entry, then the entry of the keyslot that is removed, its area.
-use Rattle.std.specs.Prelude.{◌≡◌, ℕ, ◌⊎◌, List, drop, take, Option, None}
+use Rattle.std.specs.Prelude.{◌≡◌, ℕ, ◌⊎◌, List, drop, take, Option, None, IfSome}
 use Rattle.luks_area.specs.Ranges.{part, IsAt, SameBut}
 use Rattle.luks1_header.specs.Header1.{entry, entry_size}
 use Rattle.luks_reading.specs.declared.report.Data.{Data}
 use Rattle.luks_reading.specs.Answer.{Answer, opens}
 use Rattle.luks_edit.specs.declared.edit.Edit.{Edit}
-use Rattle.luks_edit.specs.declared.edit.Edit.TheVariants.{Add, Change, Remove, Repair, Label}
+use Rattle.luks_edit.specs.Asked.{again_by, deed_of, MatchDeed, MatchPlace}
 use Rattle.luks1_edits.specs.Edited.{HoldsKey, IsFreed, IsLeastFree, IsMade, IsNewKeyslot}
 use Rattle.luks1_edits.specs.Kept.{IsEither, IsFitFor}
 use Rattle.luks1_edits.specs.Places.{area_len, area_start, entry_place, IsOfKeyslots}
@@ -67,14 +67,13 @@ pub record IsHalfChanged
 
 -- the edit was ended while it wrote
 abbrev pub IsTorn1 : List ℕ → Edit → List ℕ → List ℕ → Type 0
-IsTorn1 v (Add by_ old new to iterations) random w =
-    IsHalfMade v by_ old.bytes.now new.now to iterations random w
-IsTorn1 v (Change slot old new iterations) random w =
-    IsHalfMade v slot old.bytes.now new.now None iterations random w
-    ⊎ IsHalfChanged v slot old.bytes.now new.now iterations random w
-IsTorn1 v (Remove slot by_ passphrase) random w = IsHalfRemoved v slot w
-IsTorn1 v Repair random w = ⊥
-IsTorn1 v (Label text) random w = ⊥
+IsTorn1 v e random w = MatchDeed (deed_of e)
+    (λ s. MatchPlace s.place
+    (λ to. IsHalfMade v s.opener.slot s.opener.passphrase.bytes.now s.passphrase.now to s.iterations random w)
+    (IsHalfMade v s.opener.slot s.opener.passphrase.bytes.now s.passphrase.now None s.iterations random w
+    ⊎ IsHalfChanged v s.opener.slot s.opener.passphrase.bytes.now s.passphrase.now s.iterations random w))
+    (λ r. IsHalfRemoved v r.slot w)
+    (λ label. ⊥)
 
 -- what a failing device call leaves: the volume as it was, or, where nothing refuses the edit, what
 -- was torn while it wrote
@@ -88,11 +87,7 @@ IsUntorn v w n = (entry w n ≡ entry v n) ⊎ IsFitFor (entry v n) (entry w n)
 -- the keyslot that was changed opens by the old passphrase, or the new one by the new passphrase,
 -- to the key that the old one opened before
 abbrev pub OpensEither1 : List ℕ → Edit → List ℕ → Type 0
-OpensEither1 v (Add by_ old new to iterations) w = Unit {0}
-OpensEither1 v (Change slot old new iterations) w =
-    (key : List ℕ) → Answer v slot old.bytes.now (opens key)
-    → Answer w slot old.bytes.now (opens key)
-    ⊎ ((n : ℕ) × (IsLeastFree v n × Answer w n new.now (opens key)))
-OpensEither1 v (Remove slot by_ passphrase) w = Unit {0}
-OpensEither1 v Repair w = Unit {0}
-OpensEither1 v (Label text) w = Unit {0}
+OpensEither1 v e w = IfSome (again_by e) (λ s. (key : List ℕ)
+    → Answer v s.opener.slot s.opener.passphrase.bytes.now (opens key)
+    → Answer w s.opener.slot s.opener.passphrase.bytes.now (opens key)
+    ⊎ ((n : ℕ) × (IsLeastFree v n × Answer w n s.passphrase.now (opens key))))

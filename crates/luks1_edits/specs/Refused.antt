@@ -1,18 +1,17 @@
 -- When an edit of a LUKS1 volume is refused, and how many random bytes it takes. The order of the
 -- faults is that of every edit; some of them LUKS1 doesn't have.
-use Rattle.std.specs.Prelude.{◌≡◌, ◌≢◌, ℕ, ◌+◌, ◌-◌, ◌*◌, ◌<◌, List, length, Option, Some, None, ⊤}
+use Rattle.std.specs.Prelude.{◌≡◌, ◌≢◌, ℕ, ◌+◌, ◌-◌, ◌*◌, ◌<◌, List, length, Option, Some, None, IsSomeAnd, MatchOption, ⊤}
 use Rattle.luks_area.specs.First.{IsLeast}
 use Rattle.luks1_header.specs.Header1.{entry, entry_stripes, key_bytes_of}
 use Rattle.luks_reading.specs.declared.report.Data.{Data}
 use Rattle.luks_reading.specs.Checked.{IsFault}
 use Rattle.luks_edit.specs.declared.edit.Edit.{Edit}
-use Rattle.luks_edit.specs.declared.edit.Edit.TheVariants.{Add, Change, Remove, Repair, Label}
 use Rattle.luks_edit.specs.declared.edit_fault.EditFault.{EditFault}
 use Rattle.luks_edit.specs.declared.edit_fault.EditFault.TheVariants as fault
-use Rattle.luks_edit.specs.Asked.{HasFewIterations, NamesItself, Wants}
+use Rattle.luks_edit.specs.Asked.{HasFewIterations, label_by, NamesItself, removed_by, sealed_by, Wants}
 use Rattle.luks_edit.specs.Opener.{IsLocked, IsShut}
 use Rattle.luks_edit.specs.EditFaults.{edit_key}
-use Rattle.luks1_edits.specs.Edited.{IsFree, IsInUse, IsLeastFree, IsNewKeyslot}
+use Rattle.luks1_edits.specs.Edited.{IsFree, IsInUse, IsSealedIn, number_asked}
 
 -- a keyslot that the edit wants isn't there, or isn't enabled
 pub record IsAbsent (v : List ℕ) (e : Edit) : Type 0 where
@@ -33,36 +32,20 @@ LacksFree v (Some t) = 7 < t
 LacksFree v None = (n : ℕ) → IsFree v n → ⊥
 
 abbrev pub IsTaken : List ℕ → Edit → Type 0
-IsTaken v (Add by_ old new to iterations) = IsTakenFor v to
-IsTaken v (Change slot old new iterations) = ⊥
-IsTaken v (Remove slot by_ passphrase) = ⊥
-IsTaken v Repair = ⊥
-IsTaken v (Label text) = ⊥
+IsTaken v e = IsSomeAnd (sealed_by e) (λ s. IsTakenFor v (number_asked s.place))
 
 abbrev pub HasNoFree : List ℕ → Edit → Type 0
-HasNoFree v (Add by_ old new to iterations) = LacksFree v to
-HasNoFree v (Change slot old new iterations) = LacksFree v None
-HasNoFree v (Remove slot by_ passphrase) = ⊥
-HasNoFree v Repair = ⊥
-HasNoFree v (Label text) = ⊥
+HasNoFree v e = IsSomeAnd (sealed_by e) (λ s. LacksFree v (number_asked s.place))
 
 -- ---- the rest of the edit
 
 -- no keyslot is in use but the one to remove
 abbrev pub IsLast : List ℕ → Edit → Type 0
-IsLast v (Add by_ old new to iterations) = ⊥
-IsLast v (Change slot old new iterations) = ⊥
-IsLast v (Remove slot by_ passphrase) = (n : ℕ) → IsInUse v n → n ≡ slot
-IsLast v Repair = ⊥
-IsLast v (Label text) = ⊥
+IsLast v e = IsSomeAnd (removed_by e) (λ r. (n : ℕ) → IsInUse v n → n ≡ r.slot)
 
 -- LUKS1 has no label
 abbrev pub IsLabel : Edit → Type 0
-IsLabel (Add by_ old new to iterations) = ⊥
-IsLabel (Change slot old new iterations) = ⊥
-IsLabel (Remove slot by_ passphrase) = ⊥
-IsLabel Repair = ⊥
-IsLabel (Label text) = ⊤
+IsLabel e = IsSomeAnd (label_by e) (λ text. ⊤)
 
 -- ---- random bytes
 
@@ -78,11 +61,7 @@ pub record NeedsFor (v : List ℕ) (is_new : ℕ → Type 0) (k : ℕ) : Type 0 
 
 -- the edit takes `k` random bytes
 abbrev pub Need1 : List ℕ → Edit → ℕ → Type 0
-Need1 v (Add by_ old new to iterations) k = NeedsFor v (IsNewKeyslot v to) k
-Need1 v (Change slot old new iterations) k = NeedsFor v (IsLeastFree v) k
-Need1 v (Remove slot by_ passphrase) k = k ≡ 0
-Need1 v Repair k = k ≡ 0
-Need1 v (Label text) k = k ≡ 0
+Need1 v e k = MatchOption (sealed_by e) (k ≡ 0) (λ s. NeedsFor v (IsSealedIn v s) k)
 
 -- the random bytes aren't as many as the edit takes
 pub record IsMiscounted (v : List ℕ) (e : Edit) (random : List ℕ) : Type 0 where

@@ -1,12 +1,12 @@
 -- What an edit of a LUKS1 volume replies, and what it leaves then.
-use Rattle.std.specs.Prelude.{◌≡◌, ℕ, List, Option, Some, None, Result, Ok, Err}
+use Rattle.std.specs.Prelude.{◌≡◌, ℕ, List, Option, Some, None, MatchOption, Result, Ok, Err}
 use Rattle.luks_reading.specs.declared.report.Data.{Data}
 use Rattle.luks_edit.specs.declared.edit.Done.{Done}
 use Rattle.luks_edit.specs.declared.edit.Edit.{Edit}
-use Rattle.luks_edit.specs.declared.edit.Edit.TheVariants.{Add, Change, Remove, Repair, Label}
+use Rattle.luks_edit.specs.Asked.{label_by, sealed_by}
 use Rattle.luks_edit.specs.declared.edit_fault.EditFault.{EditFault}
 use Rattle.luks_edit.specs.Endings.{EndsBy}
-use Rattle.luks1_edits.specs.Edited.{After1, IsLeastFree, IsNewKeyslot}
+use Rattle.luks1_edits.specs.Edited.{After1, IsSealedIn}
 use Rattle.luks1_edits.specs.Leftovers.{Leftover1}
 use Rattle.luks1_edits.specs.Refused.{IsUnrefused1, Refusal1}
 
@@ -17,11 +17,9 @@ TellsNew is_new None = ⊥
 
 -- what a completed edit tells: the keyslot that it made, if it makes one
 abbrev pub Tells1 : List ℕ → Edit → Option ℕ → Type 0
-Tells1 v (Add by_ old new to iterations) told = TellsNew (IsNewKeyslot v to) told
-Tells1 v (Change slot old new iterations) told = TellsNew (IsLeastFree v) told
-Tells1 v (Remove slot by_ passphrase) told = told ≡ None
-Tells1 v Repair told = told ≡ None
-Tells1 v (Label text) told = ⊥
+Tells1 v e told = MatchOption (sealed_by e)
+    (MatchOption (label_by e) (told ≡ None) (λ text. ⊥))
+    (λ s. TellsNew (IsSealedIn v s) told)
 
 -- the edit of the volume `v` is done, and leaves `w`
 pub record IsDone1

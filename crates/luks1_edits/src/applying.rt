@@ -1,5 +1,5 @@
 //! Edits of LUKS1 volumes.
-ghost use Rattle.std.specs.Prelude.{◌≡◌, ◌≢◌, ◌+◌, ◌^◌, ◌<◌, length, IfErr, MatchResult, None};
+ghost use Rattle.std.specs.Prelude.{◌≡◌, ◌≢◌, ◌+◌, ◌^◌, ◌<◌, length, IfErr, MatchOption, MatchResult, Err, None};
 ghost use Rattle.luks_area.specs.Device.{CountsFailure, IsSettled};
 ghost use Rattle.luks_edit.specs.EditFaults.{is_edit_failure};
 ghost use Rattle.luks_reading.specs.Header.{IsHeader};
@@ -7,11 +7,10 @@ ghost use Rattle.luks_reading.specs.declared.header.Header.TheVariants.{Luks1 as
 ghost use Rattle.luks1_edits.specs.Replies.{Replies1};
 
 use crate::accepted::accepted_header;
-use crate::adding::add;
-use crate::changing::change;
 use crate::removing::remove;
+use crate::sealing::seal;
 use luks_area::Device;
-use luks_edit::{Done, Edit, EditFault};
+use luks_edit::{Deed, Done, Edit, EditFault};
 use luks_reading::Data;
 use std::alloc::Global;
 
@@ -43,38 +42,25 @@ pub fn apply_luks1<D: Device>(
         Ok(header) => header,
         Err(fault) => return Err(fault),
     };
-    match *edit {
-        Edit::Add {
-            by_,
-            old,
-            new,
-            to,
-            iterations,
-        } => add(
-            alloc, device, &header, by_, old, new, to, iterations, random,
-        ),
-        Edit::Change {
-            slot,
-            old,
-            new,
-            iterations,
-        } => change(alloc, device, &header, slot, old, new, iterations, random),
-        Edit::Remove {
-            slot,
-            by_,
-            passphrase,
-        } => remove(alloc, device, &header, slot, by_, passphrase, random),
-        Edit::Repair => repair(random),
-        Edit::Label { text: _ } => Err(EditFault::BadLabel),
+    match edit.deed() {
+        Deed::Seal(sealed) => seal(alloc, device, &header, &sealed, random),
+        Deed::Remove(removed) => remove(alloc, device, &header, &removed, random),
+        Deed::Rewrite { label } => repair(label, random),
     }
 }
 
-/// There is nothing to repair: LUKS1 has one header.
-fn repair(random: &[u8]) -> Result<Done, EditFault>
-    ensures { MatchResult result
+/// There is nothing to repair: LUKS1 has one header, and no label. Refused by `BadLabel`,
+/// `RandomLength`.
+fn repair(label: Option<&[u8]>, random: &[u8]) -> Result<Done, EditFault>
+    ensures { MatchOption label.entry
+        (MatchResult result
         (λ done. (length random.now ≡ 0) × (done.slot ≡ None))
-        (λ f. (length random.now ≢ 0) × (f ≡ EditFault.RandomLength)) }
+        (λ f. (length random.now ≢ 0) × (f ≡ EditFault.RandomLength)))
+        (λ _. result ≡ Err EditFault.BadLabel) }
 {
+    if label.is_some() {
+        return Err(EditFault::BadLabel);
+    }
     if random.len() != 0 {
         return Err(EditFault::RandomLength);
     }

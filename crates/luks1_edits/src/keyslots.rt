@@ -3,10 +3,10 @@ ghost use Rattle.std.specs.Prelude.{◌≡◌, ◌≢◌, ◌<◌, ◌≤◌, �
 ghost use Rattle.luks1_header.specs.Header1.{key_bytes_of, HoldsSlots};
 ghost use Rattle.luks_edit.specs.EditFaults.{is_edit_failure};
 ghost use Rattle.luks1_edits.specs.Accepted.{HasOther, IsNewFault, IsNewFree, IsNewRefused, IsRemovable, IsUnremovable};
-ghost use Rattle.luks1_edits.specs.Edited.{IsFree, IsInUse, IsLeastFree};
+ghost use Rattle.luks1_edits.specs.Edited.{IsFree, IsInUse, IsLeastFree, number_asked};
 ghost use Rattle.luks1_edits.specs.Refused.{keyslot_need};
 
-use luks_edit::{EditFault, LEAST_ITERATIONS, opener_of};
+use luks_edit::{EditFault, LEAST_ITERATIONS, Place, opener_of};
 use luks_head::{Luks1, SlotState};
 
 /// Whether the keyslot is in use.
@@ -79,6 +79,16 @@ pub(crate) fn least_free(header: &Luks1) -> Option<u8>
         }
     }
     None
+}
+
+/// The number that is asked for the keyslot in which a key is sealed, if one is.
+pub(crate) fn number_asked(place: Place) -> Option<u8>
+    ensures { result ≡ number_asked place }
+{
+    match place {
+        Place::New { to } => to,
+        Place::Opened => None,
+    }
 }
 
 /// The keyslot to make: `to`, or else the least that is free. Refused by `SlotTaken`, `NoFreeSlot`.

@@ -7,15 +7,14 @@
 #![tactic(auto)]
 
 mod accepted;
-mod adding;
 mod applying;
-mod changing;
 mod freeing;
 mod keyslots;
 mod laws;
 mod making;
 mod needing;
 mod removing;
+mod sealing;
 mod steps;
 mod unlocking;
 

@@ -8,8 +8,8 @@ ghost use Rattle.luks1_edits.specs.Accepted.{IsNewNeed, IsNewNeedFault, IsRemova
 ghost use Rattle.luks1_edits.specs.Needed.{TellsNeed1};
 
 use crate::accepted::accepted_header;
-use crate::keyslots::{is_used, judge_removal, keyslot_need, new_keyslot};
-use luks_edit::{Edit, EditFault};
+use crate::keyslots::{is_used, judge_removal, keyslot_need, new_keyslot, number_asked};
+use luks_edit::{Deed, Edit, EditFault};
 use luks_head::Luks1;
 use luks_reading::Data;
 
@@ -33,27 +33,14 @@ pub fn needed_luks1(
         Ok(header) => header,
         Err(fault) => return Err(fault),
     };
-    match *edit {
-        Edit::Add {
-            by_,
-            old: _,
-            new: _,
-            to,
-            iterations: _,
-        } => new_need(&header.fields, by_, to),
-        Edit::Change {
-            slot,
-            old: _,
-            new: _,
-            iterations: _,
-        } => new_need(&header.fields, slot, None),
-        Edit::Remove {
-            slot,
-            by_,
-            passphrase: _,
-        } => removal_need(&header.fields, slot, by_),
-        Edit::Repair => Ok(0),
-        Edit::Label { text: _ } => Ok(0),
+    match edit.deed() {
+        Deed::Seal(sealed) => new_need(
+            &header.fields,
+            sealed.opener.slot,
+            number_asked(sealed.place),
+        ),
+        Deed::Remove(removed) => removal_need(&header.fields, removed.slot, removed.by_),
+        Deed::Rewrite { label: _ } => Ok(0),
     }
 }
 

@@ -1,8 +1,10 @@
 //! Removing a keyslot of a LUKS1 volume.
 ghost use Rattle.std.specs.Prelude.{◌≡◌, ◌≢◌, ◌+◌, ◌^◌, ◌<◌, IfErr};
 ghost use Rattle.luks_area.specs.Device.{CountsFailure, IsSettled};
+ghost use Rattle.luks_edit.specs.Asked.{deed_of};
 ghost use Rattle.luks_edit.specs.EditFaults.{is_edit_failure};
-ghost use Rattle.luks_edit.specs.declared.edit.Edit.TheVariants.{Remove};
+ghost use Rattle.luks_edit.specs.declared.deed.Deed.TheVariants.{Remove as Removes};
+ghost use Rattle.luks_edit.specs.declared.edit.Edit.{Edit as TheEdit};
 ghost use Rattle.luks1_edits.specs.Accepted.{IsAcceptedAt, IsHeaderOf};
 ghost use Rattle.luks1_edits.specs.Replies.{Replies1};
 
@@ -11,18 +13,16 @@ use crate::freeing::free_keyslot;
 use crate::keyslots::{is_last, judge_removal};
 use crate::unlocking::unlock;
 use luks_area::Device;
-use luks_edit::{Done, EditFault, Passphrase, opener_of};
+use luks_edit::{Done, EditFault, Removed, opener_of};
 use luks_reading::luks1_area;
 use std::alloc::Global;
 
-/// Removes the keyslot `slot`, where the passphrase opens the keyslot `by_`, or else `slot`.
+/// Removes the keyslot, where the passphrase opens the one that it has to.
 pub(crate) fn remove<D: Device>(
     alloc: Global,
     device: &mut D,
     header: &AcceptedHeader<'_>,
-    slot: u8,
-    by_: Option<u8>,
-    passphrase: Passphrase<'_>,
+    removed: &Removed<'_>,
     random: &[u8],
 ) -> Result<Done, EditFault>
     requires room { D.failed device.old + 1 < 2 ^ 64 }
@@ -33,28 +33,27 @@ pub(crate) fn remove<D: Device>(
     ensures count { CountsFailure is_edit_failure result
         (D.failed device.old) (D.failed device.new) }
     ensures memory { IfErr result (λ f. f ≢ EditFault.Memory) }
-    ensures replies { D.tells
+    ensures replies { D.tells → (e : TheEdit) → deed_of e ≡ Removes removed.now
         → IsHeaderOf header.now.bytes.now header.now.data_ (D.bytes device.old)
-        → Replies1 header.now.data_ (D.bytes device.old) (Remove slot by_ passphrase.entry)
-        random.now result (D.bytes device.new) }
+        → Replies1 header.now.data_ (D.bytes device.old) e random.now result (D.bytes device.new) }
 {
-    judge_removal(&header.fields, slot, by_)?;
+    judge_removal(&header.fields, removed.slot, removed.by_)?;
     unlock(
         alloc,
         device,
         header,
-        opener_of(slot, by_),
-        passphrase.bytes,
+        opener_of(removed.slot, removed.by_),
+        removed.passphrase.bytes,
     )?;
-    if is_last(&header.fields, slot) {
+    if is_last(&header.fields, removed.slot) {
         return Err(EditFault::LastSlot);
     }
     if random.len() != 0 {
         return Err(EditFault::RandomLength);
     }
-    let found = &header.fields.slots[slot as usize];
+    let found = &header.fields.slots[removed.slot as usize];
     let area = luks1_area(header.fields.common.key_bytes, found);
-    match free_keyslot(device, &header.fields, slot, found, area) {
+    match free_keyslot(device, &header.fields, removed.slot, found, area) {
         Ok(()) => Ok(Done { slot: None }),
         Err(_) => Err(EditFault::Device),
     }

@@ -31,7 +31,10 @@ use Rattle.luks2_edits.specs.Places.{IsNewArea, IsOfCopies, IsTouched}
 use Rattle.luks2_edits.specs.Refused.{IsUnrefused2}
 use Rattle.luks2_edits.proofs.AlikeFacts.{SaysLike}
 use Rattle.luks2_edits.proofs.SealFacts.{opened_plan, IsOpened}
-use Rattle.luks2_editing.specs.MadeMetadata.{IsSealedAgain}
+use Rattle.luks2_judging.specs.Rows.{HasNoFaultBefore}
+use Rattle.luks2_judging.specs.declared.judged.Renewal.{Renewal}
+use Rattle.luks2_editing.specs.declared.sealed_metadata.SealedSlot.TheVariants.{Renewed}
+use Rattle.luks2_editing.specs.MadeMetadata.{IsSealedAgain, IsSealingEdit}
 use Rattle.luks2_editing.specs.Rewriting.{AreWrittenAnew}
 use Rattle.luks2_editing.specs.SealedKeyslot.{HasRefusedKeyslot, IsKeyslotWritten, IsOfStripesOf, IsSealing}
 use Rattle.luks2_judging.proofs.KeyAreaFacts.{area_of_object}
@@ -68,6 +71,23 @@ module _ (j k : Value) (slot iterations : ℕ) (salt : List ℕ) (area : Area) (
   renewed_alike = record { stripes = stripes_stay; place = area_there }
 
 -- ---- the volume
+
+-- what an edit that seals it again seals, once its rows up to that of the label were judged
+pub renewal_seals : (v : List ℕ) (payload : Data) (copy : ChosenCopy) (r : Renewal) (old : Passphrase) (new : Bor (List ℕ)) (key random : List ℕ)
+    → IsChosenCopy v copy → WellFormed v payload → HasNoFaultBefore 12 v payload (Change r.slot old new r.iterations) random
+    → AnswerWithin (memory_for old new.now) v r.slot old.bytes.now (opens key)
+    → IsNewArea (hdr_size (header_at v copy.header.hdr_offset)) (length v) payload (content copy.meta) r.slot r.area
+    → IsSealingEdit v payload (Change r.slot old new r.iterations) random copy (record { keyslot = Renewed r.slot; iterations = r.iterations; area = r.area })
+renewal_seals v payload copy r old new key random x well before opened place = record {
+  chosen = x;
+  well = well;
+  before = before;
+  asked = (refl, refl);
+  place = place;
+  passphrase = old.bytes.now;
+  key = key;
+  opened = opened;
+}
 
 module _ (v : List ℕ) (payload : Data) (copy : ChosenCopy) (x : IsChosenCopy v copy) (well : WellFormed v payload)
     (slot : ℕ) (old : Passphrase) (new : Bor (List ℕ)) (iterations : ℕ) (key random : List ℕ) (area : Area) (k : Value)

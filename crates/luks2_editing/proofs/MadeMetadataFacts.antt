@@ -61,9 +61,12 @@ made_edited h total payload (Change named old new n) j k (Renewed slot) iteratio
     subst (λ i. HasChanged h total payload named i salt j k) asked.1
     (subst (λ m. HasChanged h total payload m iterations salt j k) asked.0
     (record { area = area; place = place; is = made.is }))
-made_edited h total payload (Remove slot by_ passphrase) j k keyslot iterations salt area asked place made = absurd asked
-made_edited h total payload Repair j k keyslot iterations salt area asked place made = absurd asked
-made_edited h total payload (Label text) j k keyslot iterations salt area asked place made = absurd asked
+made_edited h total payload (Remove slot by_ passphrase) j k (Made made_slot like) iterations salt area asked place made = absurd asked
+made_edited h total payload (Remove slot by_ passphrase) j k (Renewed made_slot) iterations salt area asked place made = absurd asked
+made_edited h total payload Repair j k (Made slot like) iterations salt area asked place made = absurd asked
+made_edited h total payload Repair j k (Renewed slot) iterations salt area asked place made = absurd asked
+made_edited h total payload (Label text) j k (Made slot like) iterations salt area asked place made = absurd asked
+made_edited h total payload (Label text) j k (Renewed slot) iterations salt area asked place made = absurd asked
 
 -- it takes as many random bytes as a keyslot like that
 pub asked_need : (e : Edit) (j : Value) (keyslot : SealedSlot) (iterations k : ℕ) → AsksFor e j keyslot iterations → NeedsLike j (like_of keyslot) k → Need2 j e k
@@ -71,9 +74,12 @@ asked_need (Add by_ old new to n) j (Made slot like) iterations k asked need = s
 asked_need (Add by_ old new to n) j (Renewed slot) iterations k asked need = absurd asked
 asked_need (Change named old new n) j (Made slot like) iterations k asked need = absurd asked
 asked_need (Change named old new n) j (Renewed slot) iterations k asked need = subst (λ m. NeedsLike j m k) asked.0 need
-asked_need (Remove slot by_ passphrase) j keyslot iterations k asked need = absurd asked
-asked_need Repair j keyslot iterations k asked need = absurd asked
-asked_need (Label text) j keyslot iterations k asked need = absurd asked
+asked_need (Remove slot by_ passphrase) j (Made made_slot like) iterations k asked need = absurd asked
+asked_need (Remove slot by_ passphrase) j (Renewed made_slot) iterations k asked need = absurd asked
+asked_need Repair j (Made slot like) iterations k asked need = absurd asked
+asked_need Repair j (Renewed slot) iterations k asked need = absurd asked
+asked_need (Label text) j (Made slot like) iterations k asked need = absurd asked
+asked_need (Label text) j (Renewed slot) iterations k asked need = absurd asked
 
 -- as many random bytes are enough for the salt
 pub enough_random : (j : Value) (n k : ℕ) → NeedsLike j n k → 160 ≤ k

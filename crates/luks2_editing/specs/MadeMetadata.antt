@@ -1,5 +1,5 @@
 -- The new metadata of an edit of a LUKS2 volume that seals a keyslot: words of private contracts.
-use Rattle.std.specs.Prelude.{◌≡◌, ℕ, List, length, ⊤}
+use Rattle.std.specs.Prelude.{◌≡◌, ℕ, List, length, IsSomeAnd, ⊤}
 use Rattle.serde_json.specs.Data.{Data as Value}
 use Rattle.luks_head.specs.Header2.{hdr_size, header_at}
 use Rattle.luks_making.specs.Changed.{changed_slot}
@@ -14,8 +14,7 @@ use Rattle.luks_reading.specs.Answer.{AnswerWithin, opens}
 use Rattle.luks_reading.specs.Checked.{WellFormed}
 use Rattle.luks_reading.specs.Header.{IsChosenCopy}
 use Rattle.luks_edit.specs.declared.edit.Edit.{Edit}
-use Rattle.luks_edit.specs.declared.edit.Edit.TheVariants.{Add, Change}
-use Rattle.luks_edit.specs.Asked.{allowed_memory}
+use Rattle.luks_edit.specs.Asked.{allowed_memory, MatchPlace, sealed_by}
 use Rattle.luks2_edits.specs.Metadata.{IsNewKeyslot}
 use Rattle.luks2_edits.specs.Places.{IsNewArea}
 use Rattle.luks2_judging.specs.Rows.{HasNoFaultBefore}
@@ -37,10 +36,10 @@ HasNumber j (Renewed slot) = ⊤
 
 -- the edit of the metadata `j` seals it, by so many iterations
 abbrev pub AsksFor : Edit → Value → SealedSlot → ℕ → Type 0
-AsksFor (Add by_ old new to iterations) j (Made slot like) n =
-    (like ≡ by_) × (n ≡ iterations) × IsNewKeyslot j to slot
-AsksFor (Change named old new iterations) j (Renewed slot) n = (slot ≡ named) × (n ≡ iterations)
-AsksFor e j keyslot n = ⊥
+AsksFor e j (Made slot like) n = IsSomeAnd (sealed_by e) (λ s.
+    MatchPlace s.place (λ to. (like ≡ s.opener.slot) × (n ≡ s.iterations) × IsNewKeyslot j to slot) ⊥)
+AsksFor e j (Renewed slot) n = IsSomeAnd (sealed_by e) (λ s.
+    MatchPlace s.place (λ to. ⊥) ((slot ≡ s.opener.slot) × (n ≡ s.iterations)))
 
 -- ---- the metadata `k`, made of the metadata `j`
 

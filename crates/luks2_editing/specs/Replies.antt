@@ -1,9 +1,9 @@
 -- What an edit of a LUKS2 volume replies, and what it leaves then.
-use Rattle.std.specs.Prelude.{◌≡◌, ℕ, List, Option, Some, None, Result, Ok, Err}
+use Rattle.std.specs.Prelude.{◌≡◌, ℕ, List, Option, Some, None, MatchOption, Result, Ok, Err}
 use Rattle.luks_reading.specs.declared.report.Data.{Data}
 use Rattle.luks_edit.specs.declared.edit.Done.{Done}
 use Rattle.luks_edit.specs.declared.edit.Edit.{Edit}
-use Rattle.luks_edit.specs.declared.edit.Edit.TheVariants.{Add, Change, Remove, Repair, Label}
+use Rattle.luks_edit.specs.Asked.{MatchPlace, sealed_by}
 use Rattle.luks_edit.specs.declared.edit_fault.EditFault.{EditFault}
 use Rattle.luks_edit.specs.Endings.{EndsBy}
 use Rattle.luks2_edits.specs.Edited.{After2, IsMadeIn}
@@ -17,11 +17,8 @@ TellsNew is_new None = ⊥
 
 -- what a completed edit tells: the keyslot that it made or sealed again, if there is one
 abbrev pub Tells2 : List ℕ → Edit → Option ℕ → Type 0
-Tells2 v (Add by_ old new to iterations) told = TellsNew (IsMadeIn v to) told
-Tells2 v (Change slot old new iterations) told = told ≡ Some slot
-Tells2 v (Remove slot by_ passphrase) told = told ≡ None
-Tells2 v Repair told = told ≡ None
-Tells2 v (Label text) told = told ≡ None
+Tells2 v e told = MatchOption (sealed_by e) (told ≡ None)
+    (λ s. MatchPlace s.place (λ to. TellsNew (IsMadeIn v to) told) (told ≡ Some s.opener.slot))
 
 -- the edit of the volume `v` is done, and leaves `w`
 pub record IsDone2 (payload : Data) (v : List ℕ) (e : Edit) (random : List ℕ) (done : Done) (w : List ℕ) : Type 0 where

@@ -9,12 +9,15 @@ ghost use Rattle.luks_reading.specs.Checked.{WellFormed};
 ghost use Rattle.luks_reading.specs.Header.{IsChosenCopy};
 ghost use Rattle.luks_reading.specs.Plans.{HasLuks2KeyBytes};
 ghost use Rattle.luks_reading.specs.declared.report.Data.{Data as Payload};
-ghost use Rattle.luks_edit.specs.Asked.{memory_for};
+ghost use Rattle.luks_edit.specs.Asked.{deed_of, memory_for};
 ghost use Rattle.luks_edit.specs.EditFaults.{is_edit_failure};
+ghost use Rattle.luks_edit.specs.declared.deed.Deed.TheVariants.{Seal};
+ghost use Rattle.luks_edit.specs.declared.deed.Place.TheVariants.{New};
+ghost use Rattle.luks_edit.specs.declared.edit.Edit.{Edit};
 ghost use Rattle.luks_edit.specs.declared.edit.Passphrase.{Passphrase};
-ghost use Rattle.luks_edit.specs.declared.edit.Edit.TheVariants.{Add};
 ghost use Rattle.luks2_edits.specs.Metadata.{IsNewKeyslot};
 ghost use Rattle.luks2_edits.specs.Places.{IsNewArea};
+ghost use Rattle.luks2_judging.specs.Judging.{sealing};
 ghost use Rattle.luks2_judging.specs.Room.{IsPlaced};
 ghost use Rattle.luks2_judging.specs.Rows.{HasNoFaultBefore};
 ghost use Rattle.luks2_editing.specs.Replies.{Replies2};
@@ -55,10 +58,11 @@ pub(crate) fn add<D: Device>(
         → IsSettled D.unsettled device.new }
     ensures count { CountsFailure is_edit_failure result
         (D.failed device.old) (D.failed device.new) }
-    ensures replies { D.tells → (payload : Payload) (old : Passphrase) (to : Option ℕ)
+    ensures replies { D.tells → (payload : Payload) (e : Edit) (old : Passphrase) (to : Option ℕ)
+        → deed_of e ≡ Seal (sealing addition.now.by_ old (New to) secrets.now.passphrase
+        addition.now.iterations)
         → IsChosenCopy (D.bytes device.old) copy → WellFormed (D.bytes device.old) payload
-        → let e = Add addition.now.by_ old secrets.now.passphrase to addition.now.iterations in
-        HasNoFaultBefore 12 (D.bytes device.old) payload e secrets.now.random.now
+        → HasNoFaultBefore 12 (D.bytes device.old) payload e secrets.now.random.now
         → memory_for old secrets.now.passphrase.now ≡ secrets.now.memory
         → AnswerWithin (memory_for old secrets.now.passphrase.now) (D.bytes device.old) addition.now.by_ old.bytes.now
         (opens secrets.now.key.now)

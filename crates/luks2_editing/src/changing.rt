@@ -8,13 +8,15 @@ ghost use Rattle.luks_reading.specs.Answer.{opens, AnswerWithin};
 ghost use Rattle.luks_reading.specs.Checked.{WellFormed};
 ghost use Rattle.luks_reading.specs.Header.{IsChosenCopy};
 ghost use Rattle.luks_reading.specs.Plans.{HasLuks2KeyBytes};
-ghost use Rattle.luks_edit.specs.Asked.{memory_for};
+ghost use Rattle.luks_edit.specs.Asked.{deed_of, memory_for};
 ghost use Rattle.luks_edit.specs.EditFaults.{is_edit_failure};
+ghost use Rattle.luks_edit.specs.declared.deed.Deed.TheVariants.{Seal};
+ghost use Rattle.luks_edit.specs.declared.deed.Place.TheVariants.{Opened};
+ghost use Rattle.luks_edit.specs.declared.edit.Edit.{Edit};
 ghost use Rattle.luks_edit.specs.declared.edit.Passphrase.{Passphrase};
-ghost use Rattle.luks_edit.specs.declared.edit.Edit.TheVariants.{Change};
 ghost use Rattle.luks2_edits.specs.Metadata.{IsInUse};
 ghost use Rattle.luks2_edits.specs.Places.{IsNewArea};
-ghost use Rattle.luks2_judging.specs.Judging.{IsLostArea};
+ghost use Rattle.luks2_judging.specs.Judging.{IsLostArea, sealing};
 ghost use Rattle.luks2_judging.specs.Room.{IsPlaced};
 ghost use Rattle.luks2_judging.specs.Rows.{HasNoFaultBefore};
 ghost use Rattle.luks2_editing.specs.Replies.{Replies2};
@@ -58,10 +60,11 @@ pub(crate) fn change<D: Device>(
         → IsSettled D.unsettled device.new }
     ensures count { CountsFailure is_edit_failure result
         (D.failed device.old) (D.failed device.new) }
-    ensures replies { D.tells → (payload : Payload) (old : Passphrase)
+    ensures replies { D.tells → (payload : Payload) (e : Edit) (old : Passphrase)
+        → deed_of e ≡ Seal (sealing renewal.now.slot old Opened secrets.now.passphrase
+        renewal.now.iterations)
         → IsChosenCopy (D.bytes device.old) copy → WellFormed (D.bytes device.old) payload
-        → let e = Change renewal.now.slot old secrets.now.passphrase renewal.now.iterations in
-        HasNoFaultBefore 12 (D.bytes device.old) payload e secrets.now.random.now
+        → HasNoFaultBefore 12 (D.bytes device.old) payload e secrets.now.random.now
         → memory_for old secrets.now.passphrase.now ≡ secrets.now.memory
         → AnswerWithin (memory_for old secrets.now.passphrase.now) (D.bytes device.old) renewal.now.slot old.bytes.now
         (opens secrets.now.key.now)

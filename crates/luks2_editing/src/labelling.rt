@@ -1,12 +1,14 @@
 //! Setting the label of a LUKS2 volume.
-ghost use Rattle.std.specs.Prelude.{◌≡◌, ◌+◌, ◌++◌, ◌-◌, ◌^◌, ◌<◌, ℕ, List, length, replicate};
+ghost use Rattle.std.specs.Prelude.{◌≡◌, ◌+◌, ◌++◌, ◌-◌, ◌^◌, ◌<◌, ℕ, List, Some, length, replicate};
 ghost use Rattle.std.specs.Borrow.{Bor};
 ghost use Rattle.luks_area.specs.Device.{CountsFailure, IsSettled};
 ghost use Rattle.luks_reading.specs.Checked.{WellFormed};
 ghost use Rattle.luks_reading.specs.Header.{IsChosenCopy};
 ghost use Rattle.luks_reading.specs.declared.report.Data.{Data as Payload};
+ghost use Rattle.luks_edit.specs.Asked.{deed_of};
 ghost use Rattle.luks_edit.specs.EditFaults.{is_edit_failure};
-ghost use Rattle.luks_edit.specs.declared.edit.Edit.TheVariants.{Label};
+ghost use Rattle.luks_edit.specs.declared.deed.Deed.TheVariants.{Rewrite};
+ghost use Rattle.luks_edit.specs.declared.edit.Edit.{Edit};
 ghost use Rattle.luks2_judging.specs.Rows.{HasNoFaultBefore};
 ghost use Rattle.luks2_editing.specs.Replies.{Replies2};
 
@@ -36,12 +38,12 @@ pub(crate) fn set_label<D: Device>(
         → IsSettled D.unsettled device.new }
     ensures count { CountsFailure is_edit_failure result
         (D.failed device.old) (D.failed device.new) }
-    ensures replies { D.tells → (payload : Payload) (text : Bor (List ℕ))
+    ensures replies { D.tells → (payload : Payload) (e : Edit) (text : Bor (List ℕ))
+        → deed_of e ≡ Rewrite (Some text)
         → IsChosenCopy (D.bytes device.old) copy.now → WellFormed (D.bytes device.old) payload
-        → HasNoFaultBefore 12 (D.bytes device.old) payload (Label text) random.now
+        → HasNoFaultBefore 12 (D.bytes device.old) payload e random.now
         → label ≡ text.now ++ replicate (48 - length text.now) 0
-        → Replies2 payload (D.bytes device.old) (Label text) random.now
-        result (D.bytes device.new) }
+        → Replies2 payload (D.bytes device.old) e random.now result (D.bytes device.new) }
 {
     rewrite(alloc, device, &copy.header, &copy.meta, label, random)?;
     Ok(Done { slot: None })

@@ -6,10 +6,12 @@ ghost use Rattle.luks_making.specs.Without.{without_slot};
 ghost use Rattle.luks_reading.specs.Checked.{WellFormed};
 ghost use Rattle.luks_reading.specs.Header.{IsChosenCopy};
 ghost use Rattle.luks_reading.specs.declared.report.Data.{Data as Payload};
+ghost use Rattle.luks_edit.specs.Asked.{deed_of};
 ghost use Rattle.luks_edit.specs.EditFaults.{is_edit_failure};
+ghost use Rattle.luks_edit.specs.declared.deed.Deed.TheVariants.{Remove};
+ghost use Rattle.luks_edit.specs.declared.edit.Edit.{Edit};
 ghost use Rattle.luks_edit.specs.declared.edit.Passphrase.{Passphrase};
-ghost use Rattle.luks_edit.specs.declared.edit.Edit.TheVariants.{Remove};
-ghost use Rattle.luks2_judging.specs.Judging.{IsLostArea};
+ghost use Rattle.luks2_judging.specs.Judging.{IsLostArea, removing};
 ghost use Rattle.luks2_judging.specs.Rows.{HasNoFaultBefore};
 ghost use Rattle.luks2_editing.specs.Replies.{Replies2};
 
@@ -45,11 +47,11 @@ pub(crate) fn remove<D: Device>(
         → IsSettled D.unsettled device.new }
     ensures count { CountsFailure is_edit_failure result
         (D.failed device.old) (D.failed device.new) }
-    ensures replies { D.tells → (payload : Payload) (by_ : Option ℕ) (passphrase : Passphrase)
+    ensures replies { D.tells → (payload : Payload) (e : Edit) (by_ : Option ℕ)
+        (passphrase : Passphrase) → deed_of e ≡ Remove (removing slot by_ passphrase)
         → IsChosenCopy (D.bytes device.old) copy → WellFormed (D.bytes device.old) payload
-        → HasNoFaultBefore 12 (D.bytes device.old) payload (Remove slot by_ passphrase) random.now
-        → Replies2 payload (D.bytes device.old) (Remove slot by_ passphrase) random.now
-        result (D.bytes device.new) }
+        → HasNoFaultBefore 12 (D.bytes device.old) payload e random.now
+        → Replies2 payload (D.bytes device.old) e random.now result (D.bytes device.new) }
 {
     let header = copy.header;
     let meta = without_slot(alloc, copy.meta, slot)?;

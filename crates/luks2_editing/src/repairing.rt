@@ -1,11 +1,13 @@
 //! Repairing a LUKS2 volume.
-ghost use Rattle.std.specs.Prelude.{◌≡◌, ◌+◌, ◌^◌, ◌<◌};
+ghost use Rattle.std.specs.Prelude.{◌≡◌, ◌+◌, ◌^◌, ◌<◌, None};
 ghost use Rattle.luks_area.specs.Device.{CountsFailure, IsSettled};
 ghost use Rattle.luks_reading.specs.Checked.{WellFormed};
 ghost use Rattle.luks_reading.specs.Header.{IsChosenCopy};
 ghost use Rattle.luks_reading.specs.declared.report.Data.{Data as Payload};
+ghost use Rattle.luks_edit.specs.Asked.{deed_of};
 ghost use Rattle.luks_edit.specs.EditFaults.{is_edit_failure};
-ghost use Rattle.luks_edit.specs.declared.edit.Edit.TheVariants.{Repair};
+ghost use Rattle.luks_edit.specs.declared.deed.Deed.TheVariants.{Rewrite};
+ghost use Rattle.luks_edit.specs.declared.edit.Edit.{Edit};
 ghost use Rattle.luks2_judging.specs.Rows.{HasNoFaultBefore};
 ghost use Rattle.luks2_editing.specs.Replies.{Replies2};
 
@@ -33,10 +35,10 @@ pub(crate) fn repair<D: Device>(
         → IsSettled D.unsettled device.new }
     ensures count { CountsFailure is_edit_failure result
         (D.failed device.old) (D.failed device.new) }
-    ensures replies { D.tells → (payload : Payload) → IsChosenCopy (D.bytes device.old) copy.now
-        → WellFormed (D.bytes device.old) payload
-        → HasNoFaultBefore 12 (D.bytes device.old) payload Repair random.now
-        → Replies2 payload (D.bytes device.old) Repair random.now result (D.bytes device.new) }
+    ensures replies { D.tells → (payload : Payload) (e : Edit) → deed_of e ≡ Rewrite None
+        → IsChosenCopy (D.bytes device.old) copy.now → WellFormed (D.bytes device.old) payload
+        → HasNoFaultBefore 12 (D.bytes device.old) payload e random.now
+        → Replies2 payload (D.bytes device.old) e random.now result (D.bytes device.new) }
 {
     rewrite(
         alloc,

@@ -1,5 +1,6 @@
 -- A copy of the LUKS2 header that takes the place of an older one (LUKS2 On-Disk Format 1.1, 2.1).
-use Rattle.std.specs.Prelude.{◌≡◌, ℕ, ◌+◌, ◌-◌, ◌==◌, List, ◌++◌, length, take, replicate, codes, if◌then◌else◌}
+use Rattle.std.specs.Prelude.{◌≡◌, ℕ, ◌+◌, ◌-◌, ◌==◌, List, ◌++◌, length, take, replicate, codes, if◌then◌else◌, Option, Some, None}
+use Rattle.std.specs.Borrow.{Bor}
 use Rattle.serde_json.specs.Data.{Data as Value}
 use Rattle.luks_area.specs.Ranges.{part}
 use Rattle.luks1_header.specs.Written.{AreZeros}
@@ -7,7 +8,7 @@ use Rattle.luks_head.specs.Header2.{binary_header_size, csum_alg_field, csum_at,
 use Rattle.luks_making.specs.WrittenArea.{IsWrittenArea}
 use Rattle.luks_reading.specs.Header.{json_at}
 use Rattle.luks_edit.specs.declared.edit.Edit.{Edit}
-use Rattle.luks_edit.specs.declared.edit.Edit.TheVariants.{Add, Change, Remove, Repair, Label}
+use Rattle.luks_edit.specs.Asked.{label_by}
 
 -- fields of a binary header's 4096 bytes
 abbrev pub label_field : List ℕ → List ℕ
@@ -22,12 +23,12 @@ subsystem_field b = part b 208 48
 -- ---- what an edit says of the copies
 
 -- the label field: a new label and zeros, or the one that was there
+abbrev pub labelled : Option (Bor (List ℕ)) → List ℕ → List ℕ
+labelled None field_ = field_
+labelled (Some text) field_ = text.now ++ replicate (48 - length text.now) 0
+
 abbrev pub label_after : Edit → List ℕ → List ℕ
-label_after (Add by_ old new to iterations) field_ = field_
-label_after (Change slot old new iterations) field_ = field_
-label_after (Remove slot by_ passphrase) field_ = field_
-label_after Repair field_ = field_
-label_after (Label text) field_ = text.now ++ replicate (48 - length text.now) 0
+label_after e field_ = labelled (label_by e) field_
 
 -- of the random bytes the first 64 are the salt of the copy at 0, the next 64 that of the other one
 abbrev pub copy_salt : List ℕ → ℕ → List ℕ

@@ -1,5 +1,5 @@
 -- What an edit makes of a LUKS2 volume (LUKS2 On-Disk Format 1.1, 4).
-use Rattle.std.specs.Prelude.{◌≡◌, ℕ, ◌-◌, ◌*◌, ◌^◌, ◌<◌, List, length, drop, replicate, Option, ⊤}
+use Rattle.std.specs.Prelude.{◌≡◌, ℕ, ◌-◌, ◌*◌, ◌^◌, ◌<◌, List, length, drop, replicate, Option, IfSome}
 use Rattle.base64.specs.GeneralPurpose.{IsBytes}
 use Rattle.serde_json.specs.Data.{Data as Value}
 use Rattle.luks_area.specs.declared.area.Area.{Area}
@@ -18,8 +18,8 @@ use Rattle.luks_reading.specs.declared.report.Data.{Data}
 use Rattle.luks_reading.specs.Answer.{AnswerWithin, opens}
 use Rattle.luks_reading.specs.Plans.{IsLuks2Plan}
 use Rattle.luks_edit.specs.declared.edit.Edit.{Edit}
-use Rattle.luks_edit.specs.declared.edit.Edit.TheVariants.{Add, Change, Remove, Repair, Label}
-use Rattle.luks_edit.specs.Asked.{memory_for}
+use Rattle.luks_edit.specs.declared.deed.Sealed.{Sealed}
+use Rattle.luks_edit.specs.Asked.{deed_of, lost_by, MatchDeed, MatchPlace, memory_for, sealed_by}
 use Rattle.luks2_edits.specs.Copies.{IsWrittenAnew}
 use Rattle.luks2_edits.specs.Metadata.{HasMetadata, IsKeyArea, IsNewKeyslot}
 use Rattle.luks2_edits.specs.Places.{IsNewArea, IsTouched}
@@ -33,22 +33,18 @@ pub record IsMadeIn (v : List ℕ) (to : Option ℕ) (n : ℕ) : Type 0 where
   pub metadata : HasMetadata v place value
   pub is_new : IsNewKeyslot value to n
 
+-- the keyslot of the volume that an edit seals the key in
+abbrev pub IsSealedIn : List ℕ → Sealed → ℕ → Type 0
+IsSealedIn v s n = MatchPlace s.place (λ to. IsMadeIn v to n) (n ≡ s.opener.slot)
+
 abbrev pub NamedKeyslots2 : List ℕ → Edit → ℕ → Type 0
-NamedKeyslots2 v (Add by_ old new to iterations) n = IsMadeIn v to n
-NamedKeyslots2 v (Change slot old new iterations) n = n ≡ slot
-NamedKeyslots2 v (Remove slot by_ passphrase) n = n ≡ slot
-NamedKeyslots2 v Repair n = ⊥
-NamedKeyslots2 v (Label text) n = ⊥
+NamedKeyslots2 v e n = MatchDeed (deed_of e) (λ s. IsSealedIn v s n) (λ r. n ≡ r.slot) (λ label. ⊥)
 
 -- ---- what a call is given
 
 -- the iterations have 32 bits
 abbrev pub HasRangedIterations : Edit → Type 0
-HasRangedIterations (Add by_ old new to iterations) = iterations < 2 ^ 32
-HasRangedIterations (Change slot old new iterations) = iterations < 2 ^ 32
-HasRangedIterations (Remove slot by_ passphrase) = ⊤
-HasRangedIterations Repair = ⊤
-HasRangedIterations (Label text) = ⊤
+HasRangedIterations e = IfSome (sealed_by e) (λ s. s.iterations < 2 ^ 32)
 
 -- what an edit is given has the ranges of its types: 64 bits for the volume's length, 32 for the
 -- iterations, and random bytes
@@ -85,11 +81,12 @@ pub record HasChanged
 
 -- `new` is what the edit makes of the metadata `j`, with the salt for a keyslot that it seals
 abbrev pub IsEdited : ℕ → ℕ → Data → Edit → List ℕ → Value → Value → Type 0
-IsEdited h total payload (Add by_ old new to iterations) salt j k = HasAdded h total payload by_ to iterations salt j k
-IsEdited h total payload (Change slot old new iterations) salt j k = HasChanged h total payload slot iterations salt j k
-IsEdited h total payload (Remove slot by_ passphrase) salt j k = k ≡ without_slot slot j
-IsEdited h total payload Repair salt j k = k ≡ j
-IsEdited h total payload (Label text) salt j k = k ≡ j
+IsEdited h total payload e salt j k = MatchDeed (deed_of e)
+    (λ s. MatchPlace s.place
+    (λ to. HasAdded h total payload s.opener.slot to s.iterations salt j k)
+    (HasChanged h total payload s.opener.slot s.iterations salt j k))
+    (λ r. k ≡ without_slot r.slot j)
+    (λ label. k ≡ j)
 
 -- of the random bytes those behind the salts of the copies: the salt of a keyslot, and its stripes
 abbrev pub keyslot_salt : List ℕ → List ℕ
@@ -122,13 +119,14 @@ pub record HoldsOpened
   pub opened : AnswerWithin memory v opener old (opens key)
   pub holds : HoldsKey w j slot new key (stripes_random random)
 
+-- the keyslot that a key is sealed in by the metadata `j`
+abbrev pub IsSealedBeside : Value → Sealed → ℕ → Type 0
+IsSealedBeside j s n = MatchPlace s.place (λ to. IsNewKeyslot j to n) (n ≡ s.opener.slot)
+
 -- the keyslot that the edit makes of the metadata `j`, or seals again, holds the key that was opened
 abbrev pub IsSealedBy : List ℕ → Edit → List ℕ → Value → List ℕ → Value → Type 0
-IsSealedBy v (Add by_ old new to iterations) random j w k = HoldsOpened (memory_for old new.now) v by_ old.bytes.now new.now (IsNewKeyslot j to) random w k
-IsSealedBy v (Change slot old new iterations) random j w k = HoldsOpened (memory_for old new.now) v slot old.bytes.now new.now (λ n. n ≡ slot) random w k
-IsSealedBy v (Remove slot by_ passphrase) random j w k = ⊤
-IsSealedBy v Repair random j w k = ⊤
-IsSealedBy v (Label text) random j w k = ⊤
+IsSealedBy v e random j w k = IfSome (sealed_by e) (λ s.
+    HoldsOpened (memory_for s.opener.passphrase s.passphrase.now) v s.opener.slot s.opener.passphrase.bytes.now s.passphrase.now (IsSealedBeside j s) random w k)
 
 -- the area that the keyslot `n` has by the metadata `j` is zeros
 abbrev pub IsWiped : Value → ℕ → List ℕ → Type 0
@@ -136,11 +134,7 @@ IsWiped j n w = (a : Area) → IsKeyArea j n a → part w a.start a.len ≡ repl
 
 -- the area that a keyslot loses by the edit is zeros
 abbrev pub IsWipedBy : Edit → Value → List ℕ → Type 0
-IsWipedBy (Add by_ old new to iterations) j w = ⊤
-IsWipedBy (Change slot old new iterations) j w = IsWiped j slot w
-IsWipedBy (Remove slot by_ passphrase) j w = IsWiped j slot w
-IsWipedBy Repair j w = ⊤
-IsWipedBy (Label text) j w = ⊤
+IsWipedBy e j w = IfSome (lost_by e) (λ n. IsWiped j n w)
 
 -- ---- the volume after an edit
 
@@ -164,12 +158,9 @@ pub record After2 (v : List ℕ) (payload : Data) (e : Edit) (random w : List �
 -- a keyslot that the edit made or sealed again opens by its new passphrase to the key that the old one
 -- opened, where Argon2 may take the same memory
 abbrev pub OpensAfter2 : List ℕ → Edit → List ℕ → Type 0
-OpensAfter2 v (Add by_ old new to iterations) w =
-    (n : ℕ) (key : List ℕ) → IsMadeIn v to n → AnswerWithin (memory_for old new.now) v by_ old.bytes.now (opens key)
-    → AnswerWithin (memory_for old new.now) w n new.now (opens key)
-OpensAfter2 v (Change slot old new iterations) w =
-    (key : List ℕ) → AnswerWithin (memory_for old new.now) v slot old.bytes.now (opens key)
-    → AnswerWithin (memory_for old new.now) w slot new.now (opens key)
-OpensAfter2 v (Remove slot by_ passphrase) w = ⊤
-OpensAfter2 v Repair w = ⊤
-OpensAfter2 v (Label text) w = ⊤
+OpensAfter2 v e w = IfSome (sealed_by e) (λ s. MatchPlace s.place
+    (λ to. (n : ℕ) (key : List ℕ) → IsMadeIn v to n
+    → AnswerWithin (memory_for s.opener.passphrase s.passphrase.now) v s.opener.slot s.opener.passphrase.bytes.now (opens key)
+    → AnswerWithin (memory_for s.opener.passphrase s.passphrase.now) w n s.passphrase.now (opens key))
+    ((key : List ℕ) → AnswerWithin (memory_for s.opener.passphrase s.passphrase.now) v s.opener.slot s.opener.passphrase.bytes.now (opens key)
+    → AnswerWithin (memory_for s.opener.passphrase s.passphrase.now) w s.opener.slot s.passphrase.now (opens key)))

@@ -1,7 +1,7 @@
 -- What an edit of a LUKS2 volume may leave that a failing device call ended. A failed write leaves any
 -- bytes in its range; the ranges are written in this order: a new key area, the copy that doesn't
 -- count, the copy that counts, the area that is lost.
-use Rattle.std.specs.Prelude.{◌≡◌, ℕ, ◌≤◌, ◌⊎◌, List, length, ⊤}
+use Rattle.std.specs.Prelude.{◌≡◌, ℕ, ◌≤◌, ◌⊎◌, List, length, IfSome}
 use Rattle.serde_json.specs.Data.{Data as Value}
 use Rattle.luks_area.specs.Ranges.{IsAt, IsOfEither, SameBut}
 use Rattle.luks_head.specs.Header2.{copy_at, hdr_size, header_at, IsSound}
@@ -11,8 +11,7 @@ use Rattle.luks_head.specs.Sizes.{IsListed}
 use Rattle.luks_reading.specs.declared.report.Data.{Data}
 use Rattle.luks_reading.specs.Answer.{opens, AnswerWithin}
 use Rattle.luks_edit.specs.declared.edit.Edit.{Edit}
-use Rattle.luks_edit.specs.declared.edit.Edit.TheVariants.{Add, Change, Remove, Repair, Label}
-use Rattle.luks_edit.specs.Asked.{memory_for}
+use Rattle.luks_edit.specs.Asked.{again_by, memory_for}
 use Rattle.luks2_edits.specs.Copies.{other_place, IsRenewed, IsWrittenAnew}
 use Rattle.luks2_edits.specs.Edited.{keyslot_salt, IsEdited, IsSealedBy}
 use Rattle.luks2_edits.specs.Metadata.{HasMetadata}
@@ -107,10 +106,7 @@ pub record CountsAsAfter (v : List ℕ) (payload : Data) (e : Edit) (random w : 
 -- a keyslot that was to be sealed again opens by the old passphrase or by the new one, to the same key,
 -- where Argon2 may take the same memory
 abbrev pub OpensEither2 : List ℕ → Edit → List ℕ → Type 0
-OpensEither2 v (Add by_ old new to iterations) w = ⊤
-OpensEither2 v (Change slot old new iterations) w =
-    (key : List ℕ) → AnswerWithin (memory_for old new.now) v slot old.bytes.now (opens key)
-    → AnswerWithin (memory_for old new.now) w slot old.bytes.now (opens key) ⊎ AnswerWithin (memory_for old new.now) w slot new.now (opens key)
-OpensEither2 v (Remove slot by_ passphrase) w = ⊤
-OpensEither2 v Repair w = ⊤
-OpensEither2 v (Label text) w = ⊤
+OpensEither2 v e w = IfSome (again_by e) (λ s. (key : List ℕ)
+    → AnswerWithin (memory_for s.opener.passphrase s.passphrase.now) v s.opener.slot s.opener.passphrase.bytes.now (opens key)
+    → AnswerWithin (memory_for s.opener.passphrase s.passphrase.now) w s.opener.slot s.opener.passphrase.bytes.now (opens key)
+    ⊎ AnswerWithin (memory_for s.opener.passphrase s.passphrase.now) w s.opener.slot s.passphrase.now (opens key))

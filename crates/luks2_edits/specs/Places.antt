@@ -1,6 +1,6 @@
 -- Where a new keyslot's area goes, and which bytes of a LUKS2 volume an edit may change. In a volume
 -- of `total` bytes both copies have `h` bytes each, and the metadata that counts is `j`.
-use Rattle.std.specs.Prelude.{◌≡◌, ℕ, ◌+◌, ◌*◌, ◌/◌, ◌<◌, ◌⊎◌, List, length, Some, min}
+use Rattle.std.specs.Prelude.{◌≡◌, ℕ, ◌+◌, ◌*◌, ◌/◌, ◌<◌, ◌⊎◌, List, length, Some, IsSomeAnd, min}
 use Rattle.serde_json.specs.Data.{Data as Value}
 use Rattle.luks_area.specs.declared.area.Area.{Area}
 use Rattle.luks_area.specs.Ranges.{IsAt}
@@ -10,7 +10,7 @@ use Rattle.luks_rules.specs.Sizes.{keyslots_size}
 use Rattle.luks_reading.specs.declared.report.Data.{Data}
 use Rattle.luks_reading.specs.Layout2.{Luks2Area}
 use Rattle.luks_edit.specs.declared.edit.Edit.{Edit}
-use Rattle.luks_edit.specs.declared.edit.Edit.TheVariants.{Add, Change, Remove, Repair, Label}
+use Rattle.luks_edit.specs.Asked.{lost_by, sealed_by}
 use Rattle.luks2_edits.specs.Gap.{HasNoGap, IsLeastGap}
 use Rattle.luks2_edits.specs.Metadata.{HasMetadata, HasStripes, IsKeyArea}
 
@@ -63,27 +63,15 @@ pub record IsOfNewKeyslot (h total : ℕ) (payload : Data) (j : Value) (n p : �
 
 -- it is of the sectors of the keyslot that the edit makes or seals again
 abbrev pub IsOfSealed : ℕ → ℕ → Data → Value → Edit → ℕ → Type 0
-IsOfSealed h total payload j (Add by_ old new to iterations) p = IsOfNewKeyslot h total payload j by_ p
-IsOfSealed h total payload j (Change slot old new iterations) p = IsOfNewKeyslot h total payload j slot p
-IsOfSealed h total payload j (Remove slot by_ passphrase) p = ⊥
-IsOfSealed h total payload j Repair p = ⊥
-IsOfSealed h total payload j (Label text) p = ⊥
+IsOfSealed h total payload j e p = IsSomeAnd (sealed_by e) (λ s. IsOfNewKeyslot h total payload j s.opener.slot p)
 
 -- the keyslot loses its area by the edit
 abbrev pub Loses : Edit → ℕ → Type 0
-Loses (Add by_ old new to iterations) n = ⊥
-Loses (Change slot old new iterations) n = n ≡ slot
-Loses (Remove slot by_ passphrase) n = n ≡ slot
-Loses Repair n = ⊥
-Loses (Label text) n = ⊥
+Loses e n = IsSomeAnd (lost_by e) (λ m. n ≡ m)
 
 -- it is of the area that a keyslot loses by the edit
 abbrev pub IsOfLost : Value → Edit → ℕ → Type 0
-IsOfLost j (Add by_ old new to iterations) p = ⊥
-IsOfLost j (Change slot old new iterations) p = IsOfKeyslot j slot p
-IsOfLost j (Remove slot by_ passphrase) p = IsOfKeyslot j slot p
-IsOfLost j Repair p = ⊥
-IsOfLost j (Label text) p = ⊥
+IsOfLost j e p = IsSomeAnd (lost_by e) (λ n. IsOfKeyslot j n p)
 
 -- the edit may change the byte at the place
 abbrev pub IsTouched : ℕ → ℕ → Data → Value → Edit → ℕ → Type 0

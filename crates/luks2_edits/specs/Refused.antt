@@ -1,6 +1,6 @@
 -- When an edit of a LUKS2 volume is refused, and how many random bytes it takes. The order of the
 -- faults is that of every edit.
-use Rattle.std.specs.Prelude.{◌≡◌, ◌≢◌, ℕ, ◌+◌, ◌-◌, ◌*◌, ◌^◌, ◌<◌, ◌≤◌, ◌⊎◌, List, length, true, Option, Some, None}
+use Rattle.std.specs.Prelude.{◌≡◌, ◌≢◌, ℕ, ◌+◌, ◌-◌, ◌*◌, ◌^◌, ◌<◌, ◌≤◌, ◌⊎◌, List, length, true, Option, Some, None, IsSomeAnd, MatchOption}
 use Rattle.base64.specs.GeneralPurpose.{IsBytes}
 use Rattle.serde_json.specs.Data.{Data as Value}
 use Rattle.serde_json.specs.Written.{compact_text}
@@ -13,10 +13,9 @@ use Rattle.luks_meta.specs.Requirements.{has_requirements}
 use Rattle.luks_reading.specs.declared.report.Data.{Data}
 use Rattle.luks_reading.specs.Checked.{IsFault}
 use Rattle.luks_edit.specs.declared.edit.Edit.{Edit}
-use Rattle.luks_edit.specs.declared.edit.Edit.TheVariants.{Add, Change, Remove, Repair, Label}
 use Rattle.luks_edit.specs.declared.edit_fault.EditFault.{EditFault}
 use Rattle.luks_edit.specs.declared.edit_fault.EditFault.TheVariants as fault
-use Rattle.luks_edit.specs.Asked.{HasFewIterations, NamesItself, Wants}
+use Rattle.luks_edit.specs.Asked.{HasFewIterations, label_by, MatchPlace, NamesItself, removed_by, sealed_by, Wants}
 use Rattle.luks_edit.specs.EditFaults.{edit_key}
 use Rattle.luks_edit.specs.Opener.{IsLocked, IsShut}
 use Rattle.luks2_edits.specs.Edited.{IsEdited}
@@ -44,26 +43,14 @@ HasNoNumber j (Some t) = 31 < t
 HasNoNumber j None = (n : ℕ) → IsFree j n → ⊥
 
 abbrev pub IsTaken : Value → Edit → Type 0
-IsTaken j (Add by_ old new to iterations) = IsNumberTaken j to
-IsTaken j (Change slot old new iterations) = ⊥
-IsTaken j (Remove slot by_ passphrase) = ⊥
-IsTaken j Repair = ⊥
-IsTaken j (Label text) = ⊥
+IsTaken j e = IsSomeAnd (sealed_by e) (λ s. MatchPlace s.place (IsNumberTaken j) ⊥)
 
 abbrev pub HasNoFree : Value → Edit → Type 0
-HasNoFree j (Add by_ old new to iterations) = HasNoNumber j to
-HasNoFree j (Change slot old new iterations) = ⊥
-HasNoFree j (Remove slot by_ passphrase) = ⊥
-HasNoFree j Repair = ⊥
-HasNoFree j (Label text) = ⊥
+HasNoFree j e = IsSomeAnd (sealed_by e) (λ s. MatchPlace s.place (HasNoNumber j) ⊥)
 
 -- there is no gap for its area
 abbrev pub HasNoRoom : ℕ → ℕ → Data → Value → Edit → Type 0
-HasNoRoom h total payload j (Add by_ old new to iterations) = HasNoNewArea h total payload j by_
-HasNoRoom h total payload j (Change slot old new iterations) = HasNoNewArea h total payload j slot
-HasNoRoom h total payload j (Remove slot by_ passphrase) = ⊥
-HasNoRoom h total payload j Repair = ⊥
-HasNoRoom h total payload j (Label text) = ⊥
+HasNoRoom h total payload j e = IsSomeAnd (sealed_by e) (λ s. HasNoNewArea h total payload j s.opener.slot)
 
 -- ---- the rest of the edit
 
@@ -75,19 +62,11 @@ pub record IsOnlyOne (j : Value) (slot : ℕ) : Type 0 where
 
 -- no keyslot would be left that gives the key
 abbrev pub IsLast : Value → Edit → Type 0
-IsLast j (Add by_ old new to iterations) = ⊥
-IsLast j (Change slot old new iterations) = ⊥
-IsLast j (Remove slot by_ passphrase) = IsOnlyOne j slot
-IsLast j Repair = ⊥
-IsLast j (Label text) = ⊥
+IsLast j e = IsSomeAnd (removed_by e) (λ r. IsOnlyOne j r.slot)
 
 -- the label has more than 47 bytes, or one outside 0x20 to 0x7E
 abbrev pub IsBadLabel : Edit → Type 0
-IsBadLabel (Add by_ old new to iterations) = ⊥
-IsBadLabel (Change slot old new iterations) = ⊥
-IsBadLabel (Remove slot by_ passphrase) = ⊥
-IsBadLabel Repair = ⊥
-IsBadLabel (Label text) = (47 < length text.now) ⊎ (is_plain text.now ≡ true → ⊥)
+IsBadLabel e = IsSomeAnd (label_by e) (λ text. (47 < length text.now) ⊎ (is_plain text.now ≡ true → ⊥))
 
 -- the new metadata leaves no zero byte in the JSON area; with each salt of 32 bytes its text is as long
 pub record IsFull (h total : ℕ) (payload : Data) (j : Value) (e : Edit) : Type 0 where
@@ -110,11 +89,7 @@ pub record NeedsLike (j : Value) (n k : ℕ) : Type 0 where
 
 -- the edit takes `k` random bytes
 abbrev pub Need2 : Value → Edit → ℕ → Type 0
-Need2 j (Add by_ old new to iterations) k = NeedsLike j by_ k
-Need2 j (Change slot old new iterations) k = NeedsLike j slot k
-Need2 j (Remove slot by_ passphrase) k = k ≡ 64 + 64
-Need2 j Repair k = k ≡ 64 + 64
-Need2 j (Label text) k = k ≡ 64 + 64
+Need2 j e k = MatchOption (sealed_by e) (k ≡ 64 + 64) (λ s. NeedsLike j s.opener.slot k)
 
 -- the random bytes aren't as many as the edit takes
 pub record IsMiscounted (j : Value) (e : Edit) (random : List ℕ) : Type 0 where

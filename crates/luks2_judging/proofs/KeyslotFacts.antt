@@ -1,5 +1,6 @@
 -- Which keyslots the metadata has, number by number.
-use Rattle.std.proofs.Common.{◌≡◌, ◌⊎◌, ℕ, ◌+◌, ◌<◌, ◌≤◌, List, Option, below_more, refl, sym, subst, ap, ◌∙◌, arith, inl, inr, is_some}
+use Rattle.std.proofs.Common.{◌≡◌, ◌⊎◌, ℕ, ◌+◌, ◌^◌, ◌<◌, ◌≤◌, List, length, Option, Some, below_more, refl, sym, subst, ap, ◌∙◌, arith, inl, inr, is_some, Result, Ok, Err}
+use Rattle.std.specs.Borrow.{Bor}
 use Rattle.std.proofs.lemmas.Bool.{cases_Bool, cases_lt, false≢true}
 use Rattle.serde_json.specs.Data.{Data as Value}
 use Rattle.luks_rules.specs.declared.table.Section.TheVariants.{Keyslots}
@@ -7,10 +8,14 @@ use Rattle.luks_rules.specs.Faults.{object_at}
 use Rattle.luks_making.specs.Conditions.{IsFree}
 use Rattle.luks_edit.specs.declared.edit.Edit.{Edit}
 use Rattle.luks_edit.specs.declared.edit.Edit.TheVariants.{Add, Change, Remove, Repair, Label}
-use Rattle.luks_edit.specs.declared.edit.Passphrase.{Passphrase}
-use Rattle.luks_edit.specs.Asked.{opener_of, OpensBy, Wants}
+use Rattle.luks_edit.specs.declared.edit_fault.EditFault.{EditFault}
+use Rattle.luks_edit.specs.declared.deed.Deed.TheVariants as deed
+use Rattle.luks_edit.specs.declared.deed.Removed.{Removed}
+use Rattle.luks_edit.specs.declared.deed.Sealed.{Sealed}
+use Rattle.luks_edit.specs.Asked.{AreShortIn, deed_of, HasShortPassphrases, NamesItself, opener_of, OpensBy, Wants}
 use Rattle.luks2_edits.specs.Metadata.{IsInUse, IsLeastFree}
 use Rattle.luks2_edits.specs.Refused.{IsAbsent}
+use Rattle.luks2_judging.specs.Judged.{Judges}
 
 -- no keyslot is there and free
 pub used_or_free : (j : Value) (n : ℕ) → IsInUse j n → IsFree j n → ⊥
@@ -58,10 +63,6 @@ none_wanted (Remove slot by_ passphrase) none n wanted = none (opener_of slot by
 none_wanted Repair none n wanted = wanted
 none_wanted (Label text) none n wanted = wanted
 
--- an edit that was read wants what it wants
-wanted_as : (e it : Edit) (n : ℕ) → e ≡ it → Wants it n → Wants e n
-wanted_as e it n is wanted = subst (λ y. Wants y n) (sym is) wanted
-
 -- a keyslot that isn't missed is there
 wanted_used : (j : Value) (e : Edit) (n : ℕ) → Wants e n → (IsAbsent j e → ⊥) → IsInUse j n
 wanted_used j e n wanted there = elim (in_use_or_not j n) [
@@ -72,11 +73,56 @@ wanted_used j e n wanted there = elim (in_use_or_not j n) [
 pub used_of : (j : Value) (e : Edit) (n : ℕ) (p : List ℕ) → OpensBy e n p → (IsAbsent j e → ⊥) → IsInUse j n
 used_of j e n p asked there = wanted_used j e n (opener_wanted e n p asked) there
 
--- so is the one that is removed
-pub removed_used : (j : Value) {e : Edit} {slot : ℕ} {by_ : Option ℕ} {passphrase : Passphrase} → e ≡ Remove slot by_ passphrase → (IsAbsent j e → ⊥)
-    → IsInUse j slot
-removed_used j {e} {slot} {by_} {passphrase} is there = wanted_used j e slot (wanted_as e (Remove slot by_ passphrase) slot is (inr refl)) there
+-- an edit opens the keyslot whose key it seals, and the one that removes another one
+pub sealed_opens : (e : Edit) (s : Sealed) → deed_of e ≡ deed.Seal s → OpensBy e s.opener.slot s.opener.passphrase.bytes.now
+sealed_opens e s is = rw is (refl, refl)
 
--- no keyslot is missed where each one is there that is wanted
-pub none_absent : (j : Value) (e it : Edit) → e ≡ it → ((n : ℕ) → Wants it n → IsInUse j n) → IsAbsent j e → ⊥
-none_absent j e it is there absent = absent.unused (there absent.slot (subst (λ y. Wants y absent.slot) is absent.wanted))
+pub removed_opens : (e : Edit) (d : Removed) (n : ℕ) → deed_of e ≡ deed.Remove d → n ≡ opener_of d.slot d.by_ → OpensBy e n d.passphrase.bytes.now
+removed_opens e d n is same = rw is (same, refl)
+
+-- and it wants the one that it removes
+pub removed_wanted : (e : Edit) (d : Removed) → deed_of e ≡ deed.Remove d → Wants e d.slot
+removed_wanted e d is = rw is (inr refl)
+
+-- so that one is there, where it isn't missed
+pub removed_used : (j : Value) (e : Edit) (d : Removed) → deed_of e ≡ deed.Remove d → (IsAbsent j e → ⊥) → IsInUse j d.slot
+removed_used j e d is there = wanted_used j e d.slot (removed_wanted e d is) there
+
+-- their passphrases are short where all of the edit's are
+pub sealed_short : (e : Edit) (s : Sealed) → deed_of e ≡ deed.Seal s → HasShortPassphrases e → length s.opener.passphrase.bytes.now < 2 ^ 32
+sealed_short e s is x = (subst AreShortIn is x).0
+
+pub removed_short : (e : Edit) (d : Removed) → deed_of e ≡ deed.Remove d → HasShortPassphrases e → length d.passphrase.bytes.now < 2 ^ 32
+removed_short e d is x = subst AreShortIn is x
+
+-- an edit names itself where the keyslot that is to open is the one that it removes
+pub itself_is : (e : Edit) (d : Removed) → deed_of e ≡ deed.Remove d → d.by_ ≡ Some d.slot → NamesItself e
+itself_is e d is same = rw is same
+
+pub itself_only : (e : Edit) (d : Removed) → deed_of e ≡ deed.Remove d → NamesItself e → d.by_ ≡ Some d.slot
+itself_only e d is same = rw is at same
+
+pub sealing_apart : (e : Edit) (s : Sealed) → deed_of e ≡ deed.Seal s → NamesItself e → ⊥
+sealing_apart e s is same = rw is at same
+
+pub rewriting_apart : (e : Edit) (label : Option (Bor (List ℕ))) → deed_of e ≡ deed.Rewrite label → NamesItself e → ⊥
+rewriting_apart e label is same = rw is at same
+
+-- no keyslot is missed by an edit where each one is there that it opens, and the one that it removes
+module _ (j : Value) (e : Edit) (opened : (n : ℕ) (p : List ℕ) → OpensBy e n p → IsInUse j n) where
+  pub removal_there : (d : Removed) → deed_of e ≡ deed.Remove d → IsInUse j d.slot → IsAbsent j e → ⊥
+  removal_there d is here absent = elim (rw is at absent.wanted) [
+    | inl opener ↦ absent.unused (opened absent.slot d.passphrase.bytes.now (rw is (opener, refl)))
+    | inr removed ↦ absent.unused (subst (λ n. IsInUse j n) (sym removed) here)
+  ]
+
+  pub sealing_there : (s : Sealed) → deed_of e ≡ deed.Seal s → IsAbsent j e → ⊥
+  sealing_there s is absent = absent.unused (opened absent.slot s.opener.passphrase.bytes.now (rw is (rw is at absent.wanted, refl)))
+
+pub rewriting_there : (j : Value) (e : Edit) (label : Option (Bor (List ℕ))) → deed_of e ≡ deed.Rewrite label → IsAbsent j e → ⊥
+rewriting_there j e label is absent = rw is at absent.wanted
+
+-- a row is judged alike by an equivalent fact
+pub judged_as : (A P Q : Type 0) (row : EditFault) → (P → Q) → (Q → P) → (r : Result A EditFault) → Judges P row r → Judges Q row r
+judged_as A P Q row to from (Ok x) not = λ q. not (from q)
+judged_as A P Q row to from (Err f) is = (is.0, to is.1)

@@ -1,5 +1,6 @@
 mod AreaFacts
 mod ChosenFacts
+pub mod DeedFacts
 pub mod EditedFacts
 mod EncodedFacts
 mod JudgedFacts

@@ -1,5 +1,5 @@
 -- How many random bytes an edit takes, and the first of the faults that are seen without a key.
-use Rattle.std.proofs.Common.{Bor, Option, refl, ◌≡◌, ℕ, List, true, subst, sym}
+use Rattle.std.proofs.Common.{Bor, Option, None, refl, ◌≡◌, ℕ, List, true, subst, sym}
 use Rattle.serde_json.specs.Data.{Data as Value}
 use Rattle.luks_area.specs.First.{IsLeast}
 use Rattle.luks_meta.specs.Content.{content}
@@ -17,7 +17,7 @@ use Rattle.luks_edit.specs.declared.edit.Edit.TheVariants.{Add}
 use Rattle.luks_edit.specs.declared.edit.Passphrase.{Passphrase}
 use Rattle.luks_edit.specs.declared.edit_fault.EditFault.{EditFault}
 use Rattle.luks_edit.specs.declared.edit_fault.EditFault.TheVariants as fault
-use Rattle.luks_edit.specs.Asked.{NamesItself}
+use Rattle.luks_edit.specs.Asked.{deed_of, NamesItself, sealed_in}
 use Rattle.luks_edit.specs.EditFaults.{edit_key}
 use Rattle.luks_edit.specs.RowFacts.{after_check, after_plan, first_of_check, first_of_row, next, none_at_all, Passed}
 use Rattle.luks2_edits.specs.Metadata.{HasMetadata}
@@ -122,3 +122,9 @@ need_as {v} {payload} {copy} {e} {it} asked a unrequired there other k untaken f
     let here : IsAbsent (content copy.meta) it → ⊥ = subst (λ y. IsAbsent (content copy.meta) y → ⊥) asked there in
     subst (λ y. NeedsRandom v payload y k) (sym asked)
     (need_told v payload copy.header.hdr_offset (content copy.meta) a.metadata it a.accepted unrequired here (subst (λ y. NamesItself y → ⊥) asked other) k untaken free (need here))
+
+-- an edit that seals no key takes the salts of the copies
+pub idle_need : {v : List ℕ} {payload : Data} {copy : ChosenCopy} {e : Edit} → sealed_in (deed_of e) ≡ None → IsAcceptedCopy v payload copy
+    → (has_requirements (content copy.meta) ≡ true → ⊥) → (IsAbsent (content copy.meta) e → ⊥) → (NamesItself e → ⊥) → NeedsRandom v payload e 128
+idle_need {v} {payload} {copy} {e} none a unrequired there other =
+    need_told v payload copy.header.hdr_offset (content copy.meta) a.metadata e a.accepted unrequired there other 128 (λ x. rw none at x) (λ x. rw none at x) (rw none refl)

@@ -1,5 +1,5 @@
 -- What judging an edit of a LUKS2 volume by the rows up to `BadLabel` gives.
-use Rattle.std.specs.Prelude.{◌≡◌, ℕ, ◌++◌, ◌-◌, ◌≤◌, List, length, replicate, Option, ⊤}
+use Rattle.std.specs.Prelude.{◌≡◌, ℕ, ◌++◌, ◌-◌, ◌≤◌, List, length, replicate, Option, Some, None, ⊤}
 use Rattle.std.specs.Borrow.{Bor}
 use Rattle.serde_json.specs.Data.{Data as Value}
 use Rattle.luks_area.specs.declared.area.Area.{Area}
@@ -16,9 +16,14 @@ use Rattle.luks_reading.specs.Header.{IsChosenCopy}
 use Rattle.luks_reading.specs.Listing.{Lists}
 use Rattle.luks_reading.specs.Plans.{HasLuks2KeyBytes}
 use Rattle.luks_edit.specs.declared.edit.Edit.{Edit}
-use Rattle.luks_edit.specs.declared.edit.Edit.TheVariants.{Add, Change, Remove, Repair, Label}
+use Rattle.luks_edit.specs.declared.deed.Deed.TheVariants as deed
+use Rattle.luks_edit.specs.declared.deed.Place.{Place}
+use Rattle.luks_edit.specs.declared.deed.Place.TheVariants.{New, Opened}
+use Rattle.luks_edit.specs.declared.deed.Removed.{Removed}
+use Rattle.luks_edit.specs.declared.deed.Sealed.{Sealed}
 use Rattle.luks_edit.specs.declared.edit.Passphrase.{Passphrase}
 use Rattle.luks_edit.specs.declared.edit_fault.EditFault.{EditFault}
+use Rattle.luks_edit.specs.Asked.{deed_of}
 use Rattle.luks_edit.specs.Endings.{EndsBy}
 use Rattle.luks2_edits.specs.Metadata.{IsInUse, IsKeyArea}
 use Rattle.luks2_edits.specs.Places.{IsNewArea}
@@ -41,13 +46,22 @@ pub record IsLostArea (j : Value) (total n : ℕ) (a : Area) : Type 0 where
   pub is : IsKeyArea j n a
   pub inside : IsInside a total
 
+-- a key is sealed at this place under a new passphrase, which the old one opens in the keyslot `slot`
+abbrev pub sealing : ℕ → Passphrase → Place → Bor (List ℕ) → ℕ → Sealed
+sealing slot old place new iterations =
+    record { opener = record { slot = slot; passphrase = old }; place = place; passphrase = new; iterations = iterations }
+
+-- the keyslot `slot` is removed, by the passphrase of the keyslot `by_` where one is named
+abbrev pub removing : ℕ → Option ℕ → Passphrase → Removed
+removing slot by_ passphrase = record { slot = slot; by_ = by_; passphrase = passphrase }
+
 -- it adds this keyslot, for the key under the passphrase
 pub record IsAddition
     (len : ℕ) (j : Value) (total : ℕ) (e : Edit) (a : Addition) (key : List ℕ) (passphrase : Bor (List ℕ))
     : Type 0 where
   pub old : Passphrase
   pub to : Option ℕ
-  pub asked : e ≡ Add a.by_ old passphrase to a.iterations
+  pub asked : deed_of e ≡ deed.Seal (sealing a.by_ old (New to) passphrase a.iterations)
   pub number : IsNewNumber j to a.made
   pub key_length : HasLuks2KeyBytes j a.by_ (length key)
   pub placed : IsPlaced len j total a.by_ a.area
@@ -58,7 +72,7 @@ pub record IsRenewal
     (len : ℕ) (j : Value) (total : ℕ) (e : Edit) (r : Renewal) (key : List ℕ) (passphrase : Bor (List ℕ))
     : Type 0 where
   pub old : Passphrase
-  pub asked : e ≡ Change r.slot old passphrase r.iterations
+  pub asked : deed_of e ≡ deed.Seal (sealing r.slot old Opened passphrase r.iterations)
   pub there : IsInUse j r.slot
   pub key_length : HasLuks2KeyBytes j r.slot (length key)
   pub placed : IsPlaced len j total r.slot r.area
@@ -69,21 +83,21 @@ pub record IsRenewal
 pub record IsRemoval (j : Value) (total : ℕ) (e : Edit) (slot : ℕ) (area : Area) : Type 0 where
   pub by_ : Option ℕ
   pub passphrase : Passphrase
-  pub asked : e ≡ Remove slot by_ passphrase
+  pub asked : deed_of e ≡ deed.Remove (removing slot by_ passphrase)
   pub there : IsInUse j slot
   pub lost : IsLostArea j total slot area
 
 -- it sets the label of this field of 48 bytes
 pub record IsLabelling (e : Edit) (field_ : List ℕ) : Type 0 where
   pub text : Bor (List ℕ)
-  pub asked : e ≡ Label text
+  pub asked : deed_of e ≡ deed.Rewrite (Some text)
   pub is : field_ ≡ text.now ++ replicate (48 - length text.now) 0
 
 abbrev pub Takes : ℕ → Value → ℕ → Edit → JudgedEdit → Type 0
 Takes len j total e (judged.Add a key passphrase) = IsAddition len j total e a key passphrase
 Takes len j total e (judged.Change r key passphrase) = IsRenewal len j total e r key passphrase
 Takes len j total e (judged.Remove slot area) = IsRemoval j total e slot area
-Takes len j total e judged.Repair = e ≡ Repair
+Takes len j total e judged.Repair = deed_of e ≡ deed.Rewrite None
 Takes len j total e (judged.Label field_) = IsLabelling e field_
 
 -- by the header that was read

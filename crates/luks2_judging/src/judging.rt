@@ -15,7 +15,8 @@ ghost use Rattle.luks_reading.specs.Listing.{Lists};
 ghost use Rattle.luks2_edits.specs.Metadata.{IsInUse, IsKeyArea};
 ghost use Rattle.luks2_edits.specs.Places.{IsNewArea};
 ghost use Rattle.luks_reading.specs.Header.{IsAcceptedHeader, IsHeader};
-ghost use Rattle.luks_edit.specs.Asked.{allowed_memory};
+ghost use Rattle.luks_edit.specs.Asked.{allowed_memory, deed_of};
+ghost use Rattle.luks_edit.specs.declared.deed.Deed.TheVariants.{Remove as RemovesKeyslot, Seal as SealsKey};
 ghost use Rattle.luks_edit.specs.EditFaults.{is_edit_failure};
 ghost use Rattle.luks2_edits.specs.Refused.{IsAbsent, Refusal2};
 ghost use Rattle.luks2_judging.specs.Header.{IsOfLuks2};
@@ -33,7 +34,7 @@ use crate::room::{Room, judge_sealing};
 use crate::rows::judge_removal;
 use crate::unlocking::unlock;
 use luks_area::{Areas, Device};
-use luks_edit::{Edit, EditFault, opener_of};
+use luks_edit::{Deed, Edit, EditFault, Place, Removed, Sealed, opener_of};
 use luks_reading::{ChosenCopy, Data, Header};
 use std::alloc::Global;
 
@@ -194,51 +195,147 @@ fn judge_with_key<'a, D: Device>(
         (D.bytes device.old) payload edit.now random)
         → IfErr result (IsRefusedEarly (D.bytes device.old) payload edit.now) }
 {
+    match edit.deed() {
+        Deed::Seal(sealed) => judge_sealing_of(alloc, device, header, accepted, edit, &sealed),
+        Deed::Remove(removed) => judge_removal_of(alloc, device, header, accepted, edit, &removed),
+        Deed::Rewrite { label } => match label {
+            None => Ok(JudgedEdit::Repair),
+            Some(text) => judge_label(text),
+        },
+    }
+}
+
+/// The same of an edit that seals a key: `Locked`, `Slot`, `SlotTaken`, `NoFreeSlot`, `NoRoom`,
+/// `Iterations`.
+fn judge_sealing_of<'a, D: Device>(
+    alloc: Global,
+    device: &mut D,
+    header: &Header,
+    accepted: &Accepted<'_>,
+    edit: &Edit<'a>,
+    sealed: &Sealed<'a>,
+) -> Result<JudgedEdit<'a>, EditFault>
+    requires room { D.failed device.old + 1 < 2 ^ 64 }
+    requires accepted { IsAcceptedHeader header.now }
+    requires copy { header.now ≡ OfLuks2 accepted.now.copy.now }
+    requires there { IsAbsent (content accepted.now.copy.now.meta) edit.now → ⊥ }
+    requires total { accepted.now.total ≡ D.size device.old }
+    requires inside { (m : AreaName) (a : TheArea) → HasArea accepted.now.areas m a
+        → IsInside a accepted.now.total }
+    requires key_areas { (n : ℕ) (a : TheArea)
+        → IsKeyArea (content accepted.now.copy.now.meta) n a → IsInside a (D.size device.old) }
+    requires asked { deed_of edit.now ≡ SealsKey sealed.now }
+    ensures unchanged { IsUnchanged D.tells D.size D.bytes D.unsettled device.old device.new }
+    ensures count { CountsFailure is_edit_failure result
+        (D.failed device.old) (D.failed device.new) }
+    ensures no_memory { allowed_memory edit.now ≡ 0 → IfErr result (λ f. f ≢ EditFault.Memory) }
+    ensures takes { let meta = accepted.now.copy.now.meta in
+        IfOk result (Takes (area_len meta) (content meta) (D.size device.old) edit.now) }
+    ensures seals { D.tells → IsHeader (D.bytes device.old) header.now → (payload : Payload)
+        → ((random : List ℕ) → IsJudgedTo 4 accepted.now.copy.now accepted.now.areas
+        (D.bytes device.old) payload edit.now random)
+        → let copy = accepted.now.copy.now in
+        IfOk result (Seals (hdr_size (header_at (D.bytes device.old) copy.header.hdr_offset))
+        (D.bytes device.old) payload (content copy.meta) edit.now) }
+    ensures passed { D.tells → IsHeader (D.bytes device.old) header.now → (payload : Payload)
+        → ((random : List ℕ) → IsJudgedTo 4 accepted.now.copy.now accepted.now.areas
+        (D.bytes device.old) payload edit.now random)
+        → OnOk result
+        ((random : List ℕ) → HasNoFaultBefore 12 (D.bytes device.old) payload edit.now random) }
+    ensures refused { D.tells → IsHeader (D.bytes device.old) header.now → (payload : Payload)
+        → WellFormed (D.bytes device.old) payload
+        → ((random : List ℕ) → IsJudgedTo 4 accepted.now.copy.now accepted.now.areas
+        (D.bytes device.old) payload edit.now random)
+        → IfErr result (IsRefusedEarly (D.bytes device.old) payload edit.now) }
+{
     let room = accepted.room();
     let memory = edit.allowed_memory();
-    match *edit {
-        Edit::Add {
-            by_,
-            old,
-            new,
-            to,
-            iterations,
-        } => {
-            let key = unlock(alloc, device, header, by_, old.bytes, memory)?;
-            let addition = judge_addition(&room, by_, to, iterations)?;
+    let opener = sealed.opener;
+    let passphrase = sealed.passphrase;
+    let key = unlock(
+        alloc,
+        device,
+        header,
+        opener.slot,
+        opener.passphrase.bytes,
+        memory,
+    )?;
+    match sealed.place {
+        Place::New { to } => {
+            let addition = judge_addition(&room, opener.slot, to, sealed.iterations)?;
             Ok(JudgedEdit::Add {
                 addition,
                 key,
-                passphrase: new,
+                passphrase,
             })
         }
-        Edit::Change {
-            slot,
-            old,
-            new,
-            iterations,
-        } => {
-            let key = unlock(alloc, device, header, slot, old.bytes, memory)?;
-            let renewal = judge_renewal(&room, slot, iterations)?;
+        Place::Opened => {
+            let renewal = judge_renewal(&room, opener.slot, sealed.iterations)?;
             Ok(JudgedEdit::Change {
                 renewal,
                 key,
-                passphrase: new,
+                passphrase,
             })
         }
-        Edit::Remove {
-            slot,
-            by_,
-            passphrase,
-        } => {
-            let opener = opener_of(slot, by_);
-            let _key = unlock(alloc, device, header, opener, passphrase.bytes, memory)?;
-            let area = judge_removal(room.meta, slot)?;
-            Ok(JudgedEdit::Remove { slot, area })
-        }
-        Edit::Repair => Ok(JudgedEdit::Repair),
-        Edit::Label { text } => judge_label(text),
     }
+}
+
+/// The same of an edit that removes a keyslot: `Locked`, `Slot`, `LastSlot`.
+fn judge_removal_of<'a, D: Device>(
+    alloc: Global,
+    device: &mut D,
+    header: &Header,
+    accepted: &Accepted<'_>,
+    edit: &Edit<'a>,
+    removed: &Removed<'a>,
+) -> Result<JudgedEdit<'a>, EditFault>
+    requires room { D.failed device.old + 1 < 2 ^ 64 }
+    requires accepted { IsAcceptedHeader header.now }
+    requires copy { header.now ≡ OfLuks2 accepted.now.copy.now }
+    requires there { IsAbsent (content accepted.now.copy.now.meta) edit.now → ⊥ }
+    requires total { accepted.now.total ≡ D.size device.old }
+    requires inside { (m : AreaName) (a : TheArea) → HasArea accepted.now.areas m a
+        → IsInside a accepted.now.total }
+    requires key_areas { (n : ℕ) (a : TheArea)
+        → IsKeyArea (content accepted.now.copy.now.meta) n a → IsInside a (D.size device.old) }
+    requires asked { deed_of edit.now ≡ RemovesKeyslot removed.now }
+    ensures unchanged { IsUnchanged D.tells D.size D.bytes D.unsettled device.old device.new }
+    ensures count { CountsFailure is_edit_failure result
+        (D.failed device.old) (D.failed device.new) }
+    ensures no_memory { allowed_memory edit.now ≡ 0 → IfErr result (λ f. f ≢ EditFault.Memory) }
+    ensures takes { let meta = accepted.now.copy.now.meta in
+        IfOk result (Takes (area_len meta) (content meta) (D.size device.old) edit.now) }
+    ensures seals { D.tells → IsHeader (D.bytes device.old) header.now → (payload : Payload)
+        → ((random : List ℕ) → IsJudgedTo 4 accepted.now.copy.now accepted.now.areas
+        (D.bytes device.old) payload edit.now random)
+        → let copy = accepted.now.copy.now in
+        IfOk result (Seals (hdr_size (header_at (D.bytes device.old) copy.header.hdr_offset))
+        (D.bytes device.old) payload (content copy.meta) edit.now) }
+    ensures passed { D.tells → IsHeader (D.bytes device.old) header.now → (payload : Payload)
+        → ((random : List ℕ) → IsJudgedTo 4 accepted.now.copy.now accepted.now.areas
+        (D.bytes device.old) payload edit.now random)
+        → OnOk result
+        ((random : List ℕ) → HasNoFaultBefore 12 (D.bytes device.old) payload edit.now random) }
+    ensures refused { D.tells → IsHeader (D.bytes device.old) header.now → (payload : Payload)
+        → WellFormed (D.bytes device.old) payload
+        → ((random : List ℕ) → IsJudgedTo 4 accepted.now.copy.now accepted.now.areas
+        (D.bytes device.old) payload edit.now random)
+        → IfErr result (IsRefusedEarly (D.bytes device.old) payload edit.now) }
+{
+    let room = accepted.room();
+    let memory = edit.allowed_memory();
+    let slot = removed.slot;
+    let opener = opener_of(slot, removed.by_);
+    let _key = unlock(
+        alloc,
+        device,
+        header,
+        opener,
+        removed.passphrase.bytes,
+        memory,
+    )?;
+    let area = judge_removal(room.meta, slot)?;
+    Ok(JudgedEdit::Remove { slot, area })
 }
 
 /// The keyslot that is added with the members of the keyslot `by_`, which is there: of the number `to`,

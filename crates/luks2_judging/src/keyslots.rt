@@ -1,5 +1,5 @@
 //! Judging an edit by the keyslots of the metadata, with no key.
-ghost use Rattle.std.specs.Prelude.{◌≡◌, ◌<◌, ℕ, List, false, true, IfOk, IsTrue, MatchOption, MatchResult};
+ghost use Rattle.std.specs.Prelude.{◌≡◌, ◌<◌, ℕ, List, Some, false, true, IfOk, IsTrue, MatchOption, MatchResult};
 ghost use Rattle.luks_edit.specs.Asked.{NamesItself, OpensBy};
 ghost use Rattle.luks_making.specs.Conditions.{IsFree};
 ghost use Rattle.luks_meta.specs.Content.{content};
@@ -9,7 +9,7 @@ ghost use Rattle.luks2_edits.specs.Refused.{IsAbsent};
 ghost use Rattle.luks2_judging.specs.Judged.{IsNewNumber, IsNumberFault, Judges};
 
 use luks_area::Area;
-use luks_edit::{Edit, EditFault};
+use luks_edit::{Deed, Edit, EditFault};
 use luks_meta::Meta;
 
 /// Whether the keyslot is there.
@@ -73,22 +73,16 @@ fn judge_removed(meta: &Meta, edit: &Edit<'_>) -> Result<(), EditFault>
     requires { (n : ℕ) (p : List ℕ) → OpensBy edit.now n p → IsInUse (content meta.now) n }
     ensures { Judges (IsAbsent (content meta.now) edit.now) EditFault.NoSuchSlot result }
 {
-    match *edit {
-        Edit::Remove {
-            slot,
-            by_: _,
-            passphrase: _,
-        } => {
-            if is_used(meta, slot) {
+    match edit.deed() {
+        Deed::Remove(removed) => {
+            if is_used(meta, removed.slot) {
                 Ok(())
             } else {
                 Err(EditFault::NoSuchSlot)
             }
         }
-        Edit::Add { .. } => Ok(()),
-        Edit::Change { .. } => Ok(()),
-        Edit::Repair => Ok(()),
-        Edit::Label { .. } => Ok(()),
+        Deed::Seal(_) => Ok(()),
+        Deed::Rewrite { .. } => Ok(()),
     }
 }
 
@@ -96,27 +90,26 @@ fn judge_removed(meta: &Meta, edit: &Edit<'_>) -> Result<(), EditFault>
 pub(crate) fn judge_opener(edit: &Edit<'_>) -> Result<(), EditFault>
     ensures { Judges (NamesItself edit.now) EditFault.SameSlot result }
 {
-    match *edit {
-        Edit::Remove {
-            slot,
-            by_: Some(other),
-            passphrase: _,
-        } => {
+    match edit.deed() {
+        Deed::Remove(removed) => judge_another(removed.slot, removed.by_),
+        Deed::Seal(_) => Ok(()),
+        Deed::Rewrite { .. } => Ok(()),
+    }
+}
+
+/// Whether the keyslot `by_`, if one is named, isn't `slot`. Refused by `SameSlot`.
+fn judge_another(slot: u8, by_: Option<u8>) -> Result<(), EditFault>
+    ensures { Judges (by_ ≡ Some slot) EditFault.SameSlot result }
+{
+    match by_ {
+        Some(other) => {
             if other == slot {
                 Err(EditFault::SameSlot)
             } else {
                 Ok(())
             }
         }
-        Edit::Remove {
-            slot: _,
-            by_: None,
-            passphrase: _,
-        } => Ok(()),
-        Edit::Add { .. } => Ok(()),
-        Edit::Change { .. } => Ok(()),
-        Edit::Repair => Ok(()),
-        Edit::Label { .. } => Ok(()),
+        None => Ok(()),
     }
 }
 

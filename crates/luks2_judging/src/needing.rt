@@ -10,7 +10,7 @@ ghost use Rattle.luks2_judging.specs.Needed.{TellsNeed2};
 
 use crate::accepted::accepted_copy;
 use crate::keyslots::{judge_opener, judge_requirements, judge_wanted, new_number};
-use luks_edit::{Edit, EditFault};
+use luks_edit::{Deed, Edit, EditFault, Place};
 use luks_meta::Meta;
 use luks_reading::{Data, Header};
 
@@ -43,15 +43,16 @@ pub fn needed_luks2(
     judge_requirements(&copy.meta)?;
     judge_wanted(&copy.meta, edit)?;
     judge_opener(edit)?;
-    match *edit {
-        Edit::Add { by_, to, .. } => {
-            new_number(&copy.meta, to)?;
-            Ok(sealed_need(&copy.meta, by_))
-        }
-        Edit::Change { slot, .. } => Ok(sealed_need(&copy.meta, slot)),
-        Edit::Remove { .. } => Ok(COPY_SALTS),
-        Edit::Repair => Ok(COPY_SALTS),
-        Edit::Label { .. } => Ok(COPY_SALTS),
+    match edit.deed() {
+        Deed::Seal(sealed) => match sealed.place {
+            Place::New { to } => {
+                new_number(&copy.meta, to)?;
+                Ok(sealed_need(&copy.meta, sealed.opener.slot))
+            }
+            Place::Opened => Ok(sealed_need(&copy.meta, sealed.opener.slot)),
+        },
+        Deed::Remove(_) => Ok(COPY_SALTS),
+        Deed::Rewrite { .. } => Ok(COPY_SALTS),
     }
 }
 

@@ -4,9 +4,10 @@ use Rattle.std.proofs.Common.{◌≡◌, ◌<◌, ◌^◌, ℕ, List, [], length
 use Rattle.std.specs.Prelude.{◌&&◌, nat_lt, Bool, if◌then◌else◌}
 use Rattle.std.proofs.lemmas.Bool.{and_parts, ltb-true}
 use Rattle.luks_edit.specs.declared.edit.Edit.{Edit}
-use Rattle.luks_edit.specs.declared.edit.Edit.TheVariants.{Add, Change, Remove, Repair, Label}
+use Rattle.luks_edit.specs.declared.deed.Deed.{Deed}
+use Rattle.luks_edit.specs.declared.deed.Deed.TheVariants as deed
 use Rattle.luks_edit.specs.declared.edit.Passphrase.{Passphrase}
-use Rattle.luks_edit.specs.Asked.{allowed_memory, HasShortPassphrases, memory_for}
+use Rattle.luks_edit.specs.Asked.{allowed_memory, AreShortIn, deed_of, HasShortPassphrases, memory_for, memory_in}
 use Rattle.luks_head.specs.Selection.{Choice, luks1, luks2, nothing, Chosen}
 use Rattle.luks_head.proofs.ChoiceFacts.{choices_agree}
 use Rattle.luks_reading.specs.declared.open_fault.OpenFault.{OpenFault}
@@ -23,12 +24,13 @@ both_short old new some =
     (ltb-true (length old.bytes.now) (2 ^ 32) both.0, ltb-true (length new) (2 ^ 32) both.1)
 
 -- where an edit allows some, its passphrases are short enough for Argon2
+short_in : (d : Deed) → 0 < memory_in d → AreShortIn d
+short_in (deed.Seal s) some = both_short s.opener.passphrase s.passphrase.now some
+short_in (deed.Remove r) some = (both_short r.passphrase [] some).0
+short_in (deed.Rewrite label) some = tt
+
 pub short_where_allowed : (e : Edit) → 0 < allowed_memory e → HasShortPassphrases e
-short_where_allowed (Add by_ old new to iterations) some = both_short old new.now some
-short_where_allowed (Change slot old new iterations) some = both_short old new.now some
-short_where_allowed (Remove slot by_ passphrase) some = (both_short passphrase [] some).0
-short_where_allowed Repair some = tt
-short_where_allowed (Label text) some = tt
+short_where_allowed e some = short_in (deed_of e) some
 
 -- a refusal of it stands whatever is allowed
 refusal_alike : (v : List ℕ) (less more n : ℕ) (c : Choice) (f : OpenFault) → c ≡ luks1 → IsRefusalAsWithin less v n c f → IsRefusalAsWithin more v n c f

@@ -1,63 +1,144 @@
 -- What an edit asks for, whatever the version of the volume.
-use Rattle.std.specs.Prelude.{◌≡◌, ◌⊎◌, ℕ, ◌^◌, ◌<◌, ◌&&◌, nat_lt, if◌then◌else◌, List, [], length, Option, Some, None, ⊤}
+use Rattle.std.specs.Prelude.{◌≡◌, ◌⊎◌, ℕ, ◌^◌, ◌<◌, ◌&&◌, nat_lt, if◌then◌else◌, List, [], length, Option, Some, None, IfSome, IsSomeAnd, ⊤}
+use Rattle.std.specs.Borrow.{Bor}
+use Rattle.luks_edit.specs.declared.deed.Deed.{Deed}
+use Rattle.luks_edit.specs.declared.deed.Deed.TheVariants as deed
+use Rattle.luks_edit.specs.declared.deed.Place.{Place}
+use Rattle.luks_edit.specs.declared.deed.Place.TheVariants.{New, Opened}
+use Rattle.luks_edit.specs.declared.deed.Removed.{Removed}
+use Rattle.luks_edit.specs.declared.deed.Sealed.{Sealed}
 use Rattle.luks_edit.specs.declared.edit.Edit.{Edit}
-use Rattle.luks_edit.specs.declared.edit.Passphrase.{Passphrase}
 use Rattle.luks_edit.specs.declared.edit.Edit.TheVariants.{Add, Change, Remove, Repair, Label}
+use Rattle.luks_edit.specs.declared.edit.Opener.{Opener}
+use Rattle.luks_edit.specs.declared.edit.Passphrase.{Passphrase}
+
+-- ---- what an edit does: it is read here, and all else is said of its parts
 
 -- the keyslot whose passphrase removes the keyslot `slot`: another one where it is named, else itself
 abbrev pub opener_of : ℕ → Option ℕ → ℕ
 opener_of slot None = slot
 opener_of slot (Some other) = other
 
+abbrev pub deed_of : Edit → Deed
+deed_of (Add by_ old new to iterations) =
+    deed.Seal (record { opener = record { slot = by_; passphrase = old }; place = New to; passphrase = new; iterations = iterations })
+deed_of (Change slot old new iterations) =
+    deed.Seal (record { opener = record { slot = slot; passphrase = old }; place = Opened; passphrase = new; iterations = iterations })
+deed_of (Remove slot by_ passphrase) =
+    deed.Remove (record { slot = slot; by_ = by_; passphrase = passphrase })
+deed_of Repair = deed.Rewrite None
+deed_of (Label text) = deed.Rewrite (Some text)
+
+-- ---- by what is done
+
+-- of the key that is sealed, of the keyslot that is removed, or else of the label that is set
+abbrev pub MatchDeed : Deed → (Sealed → Type 0) → (Removed → Type 0) → (Option (Bor (List ℕ)) → Type 0) → Type 0
+MatchDeed (deed.Seal s) S R W = S s
+MatchDeed (deed.Remove r) S R W = R r
+MatchDeed (deed.Rewrite label) S R W = W label
+
+-- of the number that is asked for a new keyslot, or of the keyslot that was opened
+abbrev pub MatchPlace : Place → (Option ℕ → Type 0) → Type 0 → Type 0
+MatchPlace (New to) N O = N to
+MatchPlace Opened N O = O
+
+-- ---- the parts
+
+abbrev pub opener_in : Deed → Option Opener
+opener_in (deed.Seal s) = Some s.opener
+opener_in (deed.Remove r) = Some (record { slot = opener_of r.slot r.by_; passphrase = r.passphrase })
+opener_in (deed.Rewrite label) = None
+
+abbrev pub sealed_in : Deed → Option Sealed
+sealed_in (deed.Seal s) = Some s
+sealed_in (deed.Remove r) = None
+sealed_in (deed.Rewrite label) = None
+
+abbrev pub removed_in : Deed → Option Removed
+removed_in (deed.Seal s) = None
+removed_in (deed.Remove r) = Some r
+removed_in (deed.Rewrite label) = None
+
+abbrev pub label_in : Deed → Option (Bor (List ℕ))
+label_in (deed.Seal s) = None
+label_in (deed.Remove r) = None
+label_in (deed.Rewrite label) = label
+
+-- the key is sealed in the keyslot that was opened
+abbrev pub again_at : Place → Sealed → Option Sealed
+again_at (New to) s = None
+again_at Opened s = Some s
+
+abbrev pub again_in : Deed → Option Sealed
+again_in (deed.Seal s) = again_at s.place s
+again_in (deed.Remove r) = None
+again_in (deed.Rewrite label) = None
+
+-- the keyslot that is removed, or that the key is sealed in anew
+abbrev pub lost_at : Place → ℕ → Option ℕ
+lost_at (New to) opener = None
+lost_at Opened opener = Some opener
+
+abbrev pub lost_in : Deed → Option ℕ
+lost_in (deed.Seal s) = lost_at s.place s.opener.slot
+lost_in (deed.Remove r) = Some r.slot
+lost_in (deed.Rewrite label) = None
+
+-- ---- of an edit
+
+-- the key that it seals, the one that it seals in the keyslot that was opened, the keyslot that it
+-- removes, the one that loses its area, the label that it sets
+abbrev pub sealed_by : Edit → Option Sealed
+sealed_by e = sealed_in (deed_of e)
+
+abbrev pub again_by : Edit → Option Sealed
+again_by e = again_in (deed_of e)
+
+abbrev pub removed_by : Edit → Option Removed
+removed_by e = removed_in (deed_of e)
+
+abbrev pub lost_by : Edit → Option ℕ
+lost_by e = lost_in (deed_of e)
+
+abbrev pub label_by : Edit → Option (Bor (List ℕ))
+label_by e = label_in (deed_of e)
+
 -- the edit opens the keyslot `n` by the passphrase `p`
 abbrev pub OpensBy : Edit → ℕ → List ℕ → Type 0
-OpensBy (Add by_ old new to iterations) n p = (n ≡ by_) × (p ≡ old.bytes.now)
-OpensBy (Change slot old new iterations) n p = (n ≡ slot) × (p ≡ old.bytes.now)
-OpensBy (Remove slot by_ passphrase) n p = (n ≡ opener_of slot by_) × (p ≡ passphrase.bytes.now)
-OpensBy Repair n p = ⊥
-OpensBy (Label text) n p = ⊥
+OpensBy e n p = IsSomeAnd (opener_in (deed_of e)) (λ o. (n ≡ o.slot) × (p ≡ o.passphrase.bytes.now))
 
 -- the edit wants the keyslot `n` to be there: the one that it opens, and the one that it removes
 abbrev pub Wants : Edit → ℕ → Type 0
-Wants (Add by_ old new to iterations) n = n ≡ by_
-Wants (Change slot old new iterations) n = n ≡ slot
-Wants (Remove slot by_ passphrase) n = (n ≡ opener_of slot by_) ⊎ (n ≡ slot)
-Wants Repair n = ⊥
-Wants (Label text) n = ⊥
+Wants e n = MatchDeed (deed_of e) (λ s. n ≡ s.opener.slot) (λ r. (n ≡ opener_of r.slot r.by_) ⊎ (n ≡ r.slot)) (λ label. ⊥)
 
 -- the edit names the keyslot that it removes as the one to open by
 abbrev pub NamesItself : Edit → Type 0
-NamesItself (Add by_ old new to iterations) = ⊥
-NamesItself (Change slot old new iterations) = ⊥
-NamesItself (Remove slot by_ passphrase) = by_ ≡ Some slot
-NamesItself Repair = ⊥
-NamesItself (Label text) = ⊥
+NamesItself e = IsSomeAnd (removed_by e) (λ r. r.by_ ≡ Some r.slot)
 
 -- how many KiB of memory Argon2 may take for the passphrase, and for a new one beside it: none where
 -- one has 2^32 bytes or more, since Argon2 takes fewer (RFC 9106, 3.1)
 abbrev pub memory_for : Passphrase → List ℕ → ℕ
 memory_for old new = if nat_lt (length old.bytes.now) (2 ^ 32) && nat_lt (length new) (2 ^ 32) then old.memory else 0
 
+-- for the passphrase that opens, and the one that the key is sealed under
+abbrev pub memory_in : Deed → ℕ
+memory_in (deed.Seal s) = memory_for s.opener.passphrase s.passphrase.now
+memory_in (deed.Remove r) = memory_for r.passphrase []
+memory_in (deed.Rewrite label) = 0
+
 -- for each of the edit's passphrases
 abbrev pub allowed_memory : Edit → ℕ
-allowed_memory (Add by_ old new to iterations) = memory_for old new.now
-allowed_memory (Change slot old new iterations) = memory_for old new.now
-allowed_memory (Remove slot by_ passphrase) = memory_for passphrase []
-allowed_memory Repair = 0
-allowed_memory (Label text) = 0
+allowed_memory e = memory_in (deed_of e)
 
 -- the passphrases of the edit have fewer than 2^32 bytes
+abbrev pub AreShortIn : Deed → Type 0
+AreShortIn (deed.Seal s) = (length s.opener.passphrase.bytes.now < 2 ^ 32) × (length s.passphrase.now < 2 ^ 32)
+AreShortIn (deed.Remove r) = length r.passphrase.bytes.now < 2 ^ 32
+AreShortIn (deed.Rewrite label) = ⊤
+
 abbrev pub HasShortPassphrases : Edit → Type 0
-HasShortPassphrases (Add by_ old new to iterations) = (length old.bytes.now < 2 ^ 32) × (length new.now < 2 ^ 32)
-HasShortPassphrases (Change slot old new iterations) = (length old.bytes.now < 2 ^ 32) × (length new.now < 2 ^ 32)
-HasShortPassphrases (Remove slot by_ passphrase) = length passphrase.bytes.now < 2 ^ 32
-HasShortPassphrases Repair = ⊤
-HasShortPassphrases (Label text) = ⊤
+HasShortPassphrases e = AreShortIn (deed_of e)
 
 -- the edit derives a new keyslot's key with fewer iterations than new keyslots have
 abbrev pub HasFewIterations : Edit → Type 0
-HasFewIterations (Add by_ old new to iterations) = iterations < 1000
-HasFewIterations (Change slot old new iterations) = iterations < 1000
-HasFewIterations (Remove slot by_ passphrase) = ⊥
-HasFewIterations Repair = ⊥
-HasFewIterations (Label text) = ⊥
+HasFewIterations e = IsSomeAnd (sealed_by e) (λ s. s.iterations < 1000)

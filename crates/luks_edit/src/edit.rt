@@ -1,6 +1,8 @@
 //! The edits of a volume.
 ghost use Rattle.std.specs.Prelude.{◌≡◌, ◌^◌, ℕ, List, MatchOption, length, nat_lt};
-ghost use Rattle.luks_edit.specs.Asked.{allowed_memory, memory_for, opener_of, OpensBy};
+ghost use Rattle.luks_edit.specs.Asked.{allowed_memory, deed_of, memory_for, opener_of, OpensBy};
+
+use crate::deed::{Deed, Place, Removed, Sealed};
 
 /// The least iterations of a keyslot that is made.
 pub const LEAST_ITERATIONS: u32 = 1000;
@@ -82,41 +84,63 @@ pub struct Opener<'a> {
 }
 
 impl<'a> Edit<'a> {
-    /// The keyslot that the edit opens, if it opens one.
-    pub fn opener(&self) -> Option<Opener<'a>>
-        ensures { MatchOption result ((n : ℕ) (p : List ℕ) → OpensBy self.now n p → ⊥)
-            (λ o. OpensBy self.now o.slot o.passphrase.bytes.now) }
+    /// What the edit does: the parts by which all of its rules are said.
+    pub fn deed(&self) -> Deed<'a>
+        ensures { result ≡ deed_of self.now }
     {
         match *self {
             Edit::Add {
                 by_,
                 old,
-                new: _,
-                to: _,
-                iterations: _,
-            } => Some(Opener {
-                slot: by_,
-                passphrase: old,
+                new,
+                to,
+                iterations,
+            } => Deed::Seal(Sealed {
+                opener: Opener {
+                    slot: by_,
+                    passphrase: old,
+                },
+                place: Place::New { to },
+                passphrase: new,
+                iterations,
             }),
             Edit::Change {
                 slot,
                 old,
-                new: _,
-                iterations: _,
-            } => Some(Opener {
-                slot,
-                passphrase: old,
+                new,
+                iterations,
+            } => Deed::Seal(Sealed {
+                opener: Opener {
+                    slot,
+                    passphrase: old,
+                },
+                place: Place::Opened,
+                passphrase: new,
+                iterations,
             }),
             Edit::Remove {
                 slot,
                 by_,
                 passphrase,
-            } => Some(Opener {
-                slot: opener_of(slot, by_),
+            } => Deed::Remove(Removed {
+                slot,
+                by_,
                 passphrase,
             }),
-            Edit::Repair => None,
-            Edit::Label { text: _ } => None,
+            Edit::Repair => Deed::Rewrite { label: None },
+            Edit::Label { text } => Deed::Rewrite { label: Some(text) },
+        }
+    }
+
+    /// The keyslot that the edit opens, if it opens one.
+    pub fn opener(&self) -> Option<Opener<'a>>
+        ensures { MatchOption result ((n : ℕ) (p : List ℕ) → OpensBy self.now n p → ⊥)
+            (λ o. OpensBy self.now o.slot o.passphrase.bytes.now) }
+    {
+        match self.deed() {
+            Deed::Seal(sealed) => Some(sealed.opener),
+            Deed::Remove(removed) => Some(removed.opener()),
+            Deed::Rewrite { label: _ } => None,
         }
     }
 }
@@ -137,27 +161,10 @@ impl Edit<'_> {
     pub fn allowed_memory(&self) -> u32
         ensures { result ≡ allowed_memory self.now }
     {
-        match *self {
-            Edit::Add {
-                by_: _,
-                old,
-                new,
-                to: _,
-                iterations: _,
-            } => memory_for(&old, new),
-            Edit::Change {
-                slot: _,
-                old,
-                new,
-                iterations: _,
-            } => memory_for(&old, new),
-            Edit::Remove {
-                slot: _,
-                by_: _,
-                passphrase,
-            } => memory_for(&passphrase, b""),
-            Edit::Repair => 0,
-            Edit::Label { text: _ } => 0,
+        match self.deed() {
+            Deed::Seal(sealed) => memory_for(&sealed.opener.passphrase, sealed.passphrase),
+            Deed::Remove(removed) => memory_for(&removed.passphrase, b""),
+            Deed::Rewrite { label: _ } => 0,
         }
     }
 }

@@ -2,8 +2,10 @@
 //! LUKS share.
 #![tactic(auto)]
 
+mod deed;
 mod edit;
 mod edit_fault;
 
+pub use deed::{Deed, Place, Removed, Sealed};
 pub use edit::{Done, Edit, LEAST_ITERATIONS, Opener, Passphrase, Step, opener_of};
 pub use edit_fault::{EditFault, RunFault};

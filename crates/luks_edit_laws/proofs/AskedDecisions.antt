@@ -1,5 +1,5 @@
 -- What an edit asks for: its iterations are enough or too few, and the answer of the keyslot that it opens tells why it gives no key.
-use Rattle.std.proofs.Common.{◌≡◌, ◌⊎◌, ℕ, List, [], ◌∷◌, Option, Some, None, get_or, refl, sym, ap, subst, ◌∙◌, arith, inl, inr}
+use Rattle.std.proofs.Common.{◌≡◌, ◌⊎◌, ◌<◌, ℕ, List, [], ◌∷◌, Option, Some, None, get_or, refl, sym, ap, subst, ◌∙◌, arith, inl, inr}
 use Rattle.std.proofs.lemmas.Bool.{cases_eq}
 use Rattle.luks1_header.specs.declared.fault.HeadFault.{HeadFault}
 use Rattle.luks1_header.specs.declared.fault.HeadFault.TheVariants as head
@@ -11,20 +11,20 @@ use Rattle.luks_reading.specs.declared.open_fault.OpenFault.TheVariants as openi
 use Rattle.luks_reading.specs.Answer.{AnswerWithin, head_step, no_key, open_key, Opened, opens, refused, slot_row}
 use Rattle.luks_reading.proofs.VolumeLaws.{one_answer}
 use Rattle.luks_edit.specs.declared.edit.Edit.{Edit}
-use Rattle.luks_edit.specs.declared.edit.Edit.TheVariants.{Add, Change, Label, Remove, Repair}
-use Rattle.luks_edit.specs.Asked.{allowed_memory, HasFewIterations, NamesItself, opener_of, OpensBy, Wants}
+use Rattle.luks_edit.specs.declared.edit.Opener.{Opener as Named}
+use Rattle.luks_edit.specs.declared.deed.Deed.{Deed}
+use Rattle.luks_edit.specs.declared.deed.Deed.TheVariants as deed
+use Rattle.luks_edit.specs.declared.deed.Removed.{Removed}
+use Rattle.luks_edit.specs.declared.deed.Sealed.{Sealed}
+use Rattle.luks_edit.specs.Asked.{allowed_memory, deed_of, HasFewIterations, MatchDeed, NamesItself, opener_in, opener_of, OpensBy, removed_by, sealed_by, Wants}
 use Rattle.luks_edit.specs.Opener.{IsLocked, IsShut}
-use Rattle.luks_edit_laws.proofs.DecidedFacts.{alike_decided, Decided, less_decided, one_decided, some_same}
+use Rattle.luks_edit_laws.proofs.DecidedFacts.{alike_decided, Decided, less_decided, one_decided, some_decided, some_same}
 
 -- ---- iterations
 
 -- the iterations of the edit are too few, or they aren't
 pub few_decided : (e : Edit) → Decided (HasFewIterations e)
-few_decided (Add by_ old new to iterations) = less_decided iterations 1000
-few_decided (Change slot old new iterations) = less_decided iterations 1000
-few_decided (Remove slot by_ passphrase) = inr (λ bad. bad)
-few_decided Repair = inr (λ bad. bad)
-few_decided (Label text) = inr (λ bad. bad)
+few_decided e = some_decided Sealed (sealed_by e) (λ s. s.iterations < 1000) (λ s. less_decided s.iterations 1000)
 
 -- ---- the keyslot that it opens
 
@@ -36,12 +36,12 @@ record Opener (e : Edit) : Type 0 where
   only : (n : ℕ) (p : List ℕ) → OpensBy e n p → (n ≡ slot) × (p ≡ passphrase)
 
 -- the edit opens one keyslot, or none
+find_in : (e : Edit) (o : Option Named) → opener_in (deed_of e) ≡ o → Opener e ⊎ ((n : ℕ) (p : List ℕ) → OpensBy e n p → ⊥)
+find_in e None is = inr (λ n p x. rw is at x)
+find_in e (Some o) is = inl (record { slot = o.slot; passphrase = o.passphrase.bytes.now; asked = rw is (refl, refl); only = λ n p x. rw is at x })
+
 find_opener : (e : Edit) → Opener e ⊎ ((n : ℕ) (p : List ℕ) → OpensBy e n p → ⊥)
-find_opener (Add by_ old new to iterations) = inl (record { slot = by_; passphrase = old.bytes.now; asked = (refl, refl); only = λ n p x. x })
-find_opener (Change slot old new iterations) = inl (record { slot = slot; passphrase = old.bytes.now; asked = (refl, refl); only = λ n p x. x })
-find_opener (Remove slot by_ passphrase) = inl (record { slot = opener_of slot by_; passphrase = passphrase.bytes.now; asked = (refl, refl); only = λ n p x. x })
-find_opener Repair = inr (λ n p x. x)
-find_opener (Label text) = inr (λ n p x. x)
+find_opener e = find_in e (opener_in (deed_of e)) refl
 
 -- what is decided of each keyslot and passphrase is decided of those that the edit opens by
 pub opener_decided : (e : Edit) (P : ℕ → List ℕ → Type 0) → ((n : ℕ) (p : List ℕ) → Decided (P n p)) → Decided ((n : ℕ) × (p : List ℕ) × OpensBy e n p × P n p)
@@ -60,15 +60,17 @@ of_one_decided : (P : ℕ → Type 0) → ((n : ℕ) → Decided (P n)) → (m :
 of_one_decided P decide m = alike_decided (P m) ((n : ℕ) × (n ≡ m) × P n) (λ x. (m, refl, x)) (λ x. subst P x.1 x.2) (decide m)
 
 -- what is decided of each keyslot is decided of those that the edit wants
-pub wanted_decided : (e : Edit) (P : ℕ → Type 0) → ((n : ℕ) → Decided (P n)) → Decided ((n : ℕ) × Wants e n × P n)
-wanted_decided (Add by_ old new to iterations) P decide = of_one_decided P decide by_
-wanted_decided (Change slot old new iterations) P decide = of_one_decided P decide slot
-wanted_decided (Remove slot by_ passphrase) P decide = alike_decided _ _
+wanted_in : (d : Deed) (P : ℕ → Type 0) → ((n : ℕ) → Decided (P n))
+    → Decided ((n : ℕ) × MatchDeed d (λ s. n ≡ s.opener.slot) (λ r. (n ≡ opener_of r.slot r.by_) ⊎ (n ≡ r.slot)) (λ label. ⊥) × P n)
+wanted_in (deed.Seal s) P decide = of_one_decided P decide s.opener.slot
+wanted_in (deed.Remove r) P decide = alike_decided _ _
     (λ x. elim x [ inl opener ↦ (opener.0, inl opener.1, opener.2) | inr removed ↦ (removed.0, inr removed.1, removed.2) ])
     (λ x. elim x.1 [ inl opener ↦ inl (x.0, opener, x.2) | inr removed ↦ inr (x.0, removed, x.2) ])
-    (one_decided _ _ (of_one_decided P decide (opener_of slot by_)) (of_one_decided P decide slot))
-wanted_decided Repair P decide = inr (λ x. x.1)
-wanted_decided (Label text) P decide = inr (λ x. x.1)
+    (one_decided _ _ (of_one_decided P decide (opener_of r.slot r.by_)) (of_one_decided P decide r.slot))
+wanted_in (deed.Rewrite label) P decide = inr (λ x. x.1)
+
+pub wanted_decided : (e : Edit) (P : ℕ → Type 0) → ((n : ℕ) → Decided (P n)) → Decided ((n : ℕ) × Wants e n × P n)
+wanted_decided e = wanted_in (deed_of e)
 
 -- a keyslot is the one that is named, or another one is, or none
 named_decided : (by_ : Option ℕ) (slot : ℕ) → Decided (by_ ≡ Some slot)
@@ -77,11 +79,7 @@ named_decided (Some other) slot = alike_decided (other ≡ slot) (Some other ≡
 
 -- the edit names the keyslot that it removes as the one to open by, or it doesn't
 pub itself_decided : (e : Edit) → Decided (NamesItself e)
-itself_decided (Add by_ old new to iterations) = inr (λ bad. bad)
-itself_decided (Change slot old new iterations) = inr (λ bad. bad)
-itself_decided (Remove slot by_ passphrase) = named_decided by_ slot
-itself_decided Repair = inr (λ bad. bad)
-itself_decided (Label text) = inr (λ bad. bad)
+itself_decided e = some_decided Removed (removed_by e) (λ r. r.by_ ≡ Some r.slot) (λ r. named_decided r.by_ r.slot)
 
 -- ---- refusals of a keyslot
 

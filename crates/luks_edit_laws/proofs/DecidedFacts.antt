@@ -1,6 +1,10 @@
 -- Facts that hold or don't, what there is some of or none, and searches among numbers.
 use Rattle.std.proofs.Common.{◌≡◌, ◌⊎◌, ℕ, zero, suc, ◌≤◌, ◌<◌, Bool, true, Option, Some, None, refl, sym, subst, ◌∙◌, arith, inl, inr}
+use Rattle.std.specs.Prelude.{IsSomeAnd}
 use Rattle.std.proofs.lemmas.Bool.{cases_Bool, cases_eq, cases_lt, true≢false}
+use Rattle.luks_edit.specs.declared.deed.Place.{Place}
+use Rattle.luks_edit.specs.declared.deed.Place.TheVariants.{New, Opened}
+use Rattle.luks_edit.specs.Asked.{MatchPlace}
 
 -- ---- decisions
 
@@ -18,6 +22,16 @@ both_decided A B (inr a) b = inr (λ x. a x.0)
 pub alike_decided : (A B : Type 0) → (A → B) → (B → A) → Decided A → Decided B
 alike_decided A B into back (inl a) = inl (into a)
 alike_decided A B into back (inr a) = inr (λ b. a (back b))
+
+-- what is decided of each part is decided of the part that there is
+pub some_decided : (A : Type 0) (o : Option A) (P : A → Type 0) → ((x : A) → Decided (P x)) → Decided (IsSomeAnd o P)
+some_decided A None P decide = inr (λ bad. bad)
+some_decided A (Some x) P decide = decide x
+
+-- what is decided of each place of a key is decided of the place that it has
+pub place_decided : (p : Place) (N : Option ℕ → Type 0) (O : Type 0) → ((to : Option ℕ) → Decided (N to)) → Decided O → Decided (MatchPlace p N O)
+place_decided (New to) N O new opened = new to
+place_decided Opened N O new opened = opened
 
 -- a number is below another one, or it isn't
 pub less_decided : (a b : ℕ) → Decided (a < b)

@@ -1,14 +1,17 @@
 -- What refuses an edit by the entries of a LUKS1 volume: each row stands or doesn't.
 use Rattle.std.proofs.Common.{◌≡◌, ℕ, List, length, Option, Some, None, refl, ap, ◌∙◌, arith, inl, inr}
+use Rattle.std.specs.Prelude.{MatchOption, ⊤}
+use Rattle.std.specs.Borrow.{Bor}
 use Rattle.std.proofs.lemmas.Bool.{cases_eq}
 use Rattle.luks1_header.specs.Header1.{active_word, disabled_word, enabled_word, entry}
 use Rattle.luks_edit.specs.declared.edit.Edit.{Edit}
-use Rattle.luks_edit.specs.declared.edit.Edit.TheVariants.{Add, Change, Label, Remove, Repair}
-use Rattle.luks_edit.specs.Asked.{Wants}
-use Rattle.luks1_edits.specs.Edited.{IsFree, IsInUse, IsLeastFree, IsNewKeyslot}
+use Rattle.luks_edit.specs.declared.deed.Removed.{Removed}
+use Rattle.luks_edit.specs.declared.deed.Sealed.{Sealed}
+use Rattle.luks_edit.specs.Asked.{label_by, removed_by, sealed_by, Wants}
+use Rattle.luks1_edits.specs.Edited.{IsFree, IsInUse, IsLeastFree, IsNewKeyslot, IsSealedIn, number_asked}
 use Rattle.luks1_edits.specs.Refused.{HasNoFree, IsAbsent, IsLabel, IsLast, IsMiscounted, IsTaken, IsTakenFor, keyslot_need, LacksFree, Need1, NeedsFor}
 use Rattle.luks_edit_laws.proofs.AskedDecisions.{wanted_decided}
-use Rattle.luks_edit_laws.proofs.DecidedFacts.{alike_decided, both_decided, Decided, least_or_none_below, less_decided, not_decided, OneOrNone, other_decided, SomeOrNone}
+use Rattle.luks_edit_laws.proofs.DecidedFacts.{alike_decided, both_decided, Decided, least_or_none_below, less_decided, not_decided, OneOrNone, other_decided, some_decided, SomeOrNone}
 
 -- ---- keyslots in use and free
 
@@ -57,11 +60,7 @@ taken_for_decided v None = inr (λ bad. bad)
 
 -- the same of an edit
 pub taken_decided : (v : List ℕ) (e : Edit) → Decided (IsTaken v e)
-taken_decided v (Add by_ old new to iterations) = taken_for_decided v to
-taken_decided v (Change slot old new iterations) = inr (λ bad. bad)
-taken_decided v (Remove slot by_ passphrase) = inr (λ bad. bad)
-taken_decided v Repair = inr (λ bad. bad)
-taken_decided v (Label text) = inr (λ bad. bad)
+taken_decided v e = some_decided Sealed (sealed_by e) (λ s. IsTakenFor v (number_asked s.place)) (λ s. taken_for_decided v (number_asked s.place))
 
 -- there is no number for a new keyslot, or there is one
 lacks_free_decided : (v : List ℕ) (to : Option ℕ) → Decided (LacksFree v to)
@@ -70,29 +69,17 @@ lacks_free_decided v None = none_free_decided v
 
 -- the same of an edit
 pub no_free_decided : (v : List ℕ) (e : Edit) → Decided (HasNoFree v e)
-no_free_decided v (Add by_ old new to iterations) = lacks_free_decided v to
-no_free_decided v (Change slot old new iterations) = lacks_free_decided v None
-no_free_decided v (Remove slot by_ passphrase) = inr (λ bad. bad)
-no_free_decided v Repair = inr (λ bad. bad)
-no_free_decided v (Label text) = inr (λ bad. bad)
+no_free_decided v e = some_decided Sealed (sealed_by e) (λ s. LacksFree v (number_asked s.place)) (λ s. lacks_free_decided v (number_asked s.place))
 
 -- ---- the rest of the edit
 
 -- it removes the last keyslot, or it doesn't
 pub last_decided : (v : List ℕ) (e : Edit) → Decided (IsLast v e)
-last_decided v (Add by_ old new to iterations) = inr (λ bad. bad)
-last_decided v (Change slot old new iterations) = inr (λ bad. bad)
-last_decided v (Remove slot by_ passphrase) = only_in_use_decided v slot
-last_decided v Repair = inr (λ bad. bad)
-last_decided v (Label text) = inr (λ bad. bad)
+last_decided v e = some_decided Removed (removed_by e) (λ r. (n : ℕ) → IsInUse v n → n ≡ r.slot) (λ r. only_in_use_decided v r.slot)
 
 -- it sets a label, or it doesn't
 pub label_decided : (e : Edit) → Decided (IsLabel e)
-label_decided (Add by_ old new to iterations) = inr (λ bad. bad)
-label_decided (Change slot old new iterations) = inr (λ bad. bad)
-label_decided (Remove slot by_ passphrase) = inr (λ bad. bad)
-label_decided Repair = inr (λ bad. bad)
-label_decided (Label text) = inl tt
+label_decided e = some_decided (Bor (List ℕ)) (label_by e) (λ text. ⊤) (λ text. inl tt)
 
 -- ---- random bytes
 
@@ -118,12 +105,12 @@ no_need : OneOrNone (λ k. k ≡ 0)
 no_need = inl (0, refl, λ m x. x)
 
 -- an edit takes so many random bytes, or lacks a free keyslot
+need_in : (v : List ℕ) (o : Option Sealed) → OneOrNone (λ k. MatchOption o (k ≡ 0) (λ s. NeedsFor v (IsSealedIn v s) k))
+need_in v None = no_need
+need_in v (Some s) = need_of_new v (number_asked s.place)
+
 one_need : (v : List ℕ) (e : Edit) → OneOrNone (Need1 v e)
-one_need v (Add by_ old new to iterations) = need_of_new v to
-one_need v (Change slot old new iterations) = need_of_free v
-one_need v (Remove slot by_ passphrase) = no_need
-one_need v Repair = no_need
-one_need v (Label text) = no_need
+one_need v e = need_in v (sealed_by e)
 
 -- the random bytes aren't as many, or they are
 pub miscounted_decided : (v : List ℕ) (e : Edit) (r : List ℕ) → Decided (IsMiscounted v e r)

@@ -1,5 +1,7 @@
 -- What refuses an edit by the metadata of a LUKS2 volume, but for its text's length: each row stands or doesn't.
-use Rattle.std.proofs.Common.{◌≡◌, ◌⊎◌, ℕ, ◌+◌, ◌-◌, ◌*◌, List, length, Option, Some, None, refl, sym, ap, subst, ◌∙◌, inl, inr}
+use Rattle.std.proofs.Common.{◌≡◌, ◌⊎◌, ◌<◌, true, ℕ, ◌+◌, ◌-◌, ◌*◌, List, length, Option, Some, None, refl, sym, ap, subst, ◌∙◌, inl, inr}
+use Rattle.std.specs.Prelude.{MatchOption}
+use Rattle.std.specs.Borrow.{Bor}
 use Rattle.std.proofs.lemmas.Bool.{cases_eq}
 use Rattle.serde_json.specs.Data.{Data as Value}
 use Rattle.luks_area.specs.declared.area.Area.{Area}
@@ -8,14 +10,15 @@ use Rattle.luks_making.specs.Naming.{IsDigestOf}
 use Rattle.luks_reading.specs.declared.report.Data.{Data}
 use Rattle.luks_reading.specs.Layout2.{Luks2Area}
 use Rattle.luks_edit.specs.declared.edit.Edit.{Edit}
-use Rattle.luks_edit.specs.declared.edit.Edit.TheVariants.{Add, Change, Label, Remove, Repair}
-use Rattle.luks_edit.specs.Asked.{Wants}
+use Rattle.luks_edit.specs.declared.deed.Removed.{Removed}
+use Rattle.luks_edit.specs.declared.deed.Sealed.{Sealed}
+use Rattle.luks_edit.specs.Asked.{label_by, MatchPlace, removed_by, sealed_by, Wants}
 use Rattle.luks2_edits.specs.Gap.{IsGap}
 use Rattle.luks2_edits.specs.Metadata.{IsInUse}
 use Rattle.luks2_edits.specs.Places.{HasNoNewArea, IsNewArea, key_areas_end, rounded_to_blocks}
 use Rattle.luks2_edits.specs.Refused.{HasNoFree, HasNoNumber, HasNoRoom, IsAbsent, IsBadLabel, IsLast, IsMiscounted, IsNumberTaken, IsOnlyOne, IsTaken, Need2, NeedsLike}
 use Rattle.luks_edit_laws.proofs.AskedDecisions.{wanted_decided}
-use Rattle.luks_edit_laws.proofs.DecidedFacts.{alike_decided, both_decided, Decided, least_or_none_below, less_decided, not_decided, one_decided, OneOrNone, other_decided, some_same, SomeOrNone, true_decided}
+use Rattle.luks_edit_laws.proofs.DecidedFacts.{alike_decided, both_decided, Decided, least_or_none_below, less_decided, not_decided, one_decided, OneOrNone, other_decided, place_decided, some_decided, some_same, SomeOrNone, true_decided}
 use Rattle.luks_edit_laws.proofs.MemberDecisions2.{digest_decided, digest_or_none, in_use_decided, none_free_decided, one_key_length, one_stripes, stripes_in_use, stripes_or_none}
 
 -- ---- the keyslots that the edit wants
@@ -35,11 +38,8 @@ number_taken_decided j None = inr (λ bad. bad)
 
 -- the same of an edit
 pub taken_decided : (j : Value) (e : Edit) → Decided (IsTaken j e)
-taken_decided j (Add by_ old new to iterations) = number_taken_decided j to
-taken_decided j (Change slot old new iterations) = inr (λ bad. bad)
-taken_decided j (Remove slot by_ passphrase) = inr (λ bad. bad)
-taken_decided j Repair = inr (λ bad. bad)
-taken_decided j (Label text) = inr (λ bad. bad)
+taken_decided j e = some_decided Sealed (sealed_by e) (λ s. MatchPlace s.place (IsNumberTaken j) ⊥)
+    (λ s. place_decided s.place (IsNumberTaken j) ⊥ (number_taken_decided j) (inr (λ bad. bad)))
 
 -- there is no number for a new keyslot, or there is one
 no_number_decided : (j : Value) (to : Option ℕ) → Decided (HasNoNumber j to)
@@ -48,11 +48,8 @@ no_number_decided j None = none_free_decided j
 
 -- the same of an edit
 pub no_free_decided : (j : Value) (e : Edit) → Decided (HasNoFree j e)
-no_free_decided j (Add by_ old new to iterations) = no_number_decided j to
-no_free_decided j (Change slot old new iterations) = inr (λ bad. bad)
-no_free_decided j (Remove slot by_ passphrase) = inr (λ bad. bad)
-no_free_decided j Repair = inr (λ bad. bad)
-no_free_decided j (Label text) = inr (λ bad. bad)
+no_free_decided j e = some_decided Sealed (sealed_by e) (λ s. MatchPlace s.place (HasNoNumber j) ⊥)
+    (λ s. place_decided s.place (HasNoNumber j) ⊥ (no_number_decided j) (inr (λ bad. bad)))
 
 -- ---- the area of a keyslot that is made
 
@@ -89,11 +86,7 @@ module _ (h total : ℕ) (payload : Data) (j : Value)
 
   -- the same of an edit
   pub no_room_decided : (e : Edit) → Decided (HasNoRoom h total payload j e)
-  no_room_decided (Add by_ old new to iterations) = no_area_decided by_
-  no_room_decided (Change slot old new iterations) = no_area_decided slot
-  no_room_decided (Remove slot by_ passphrase) = inr (λ bad. bad)
-  no_room_decided Repair = inr (λ bad. bad)
-  no_room_decided (Label text) = inr (λ bad. bad)
+  no_room_decided e = some_decided Sealed (sealed_by e) (λ s. HasNoNewArea h total payload j s.opener.slot) (λ s. no_area_decided s.opener.slot)
 
 -- ---- the last keyslot of a digest
 
@@ -117,21 +110,14 @@ module _ (j : Value) (one : (n m k : ℕ) → IsDigestOf j n m → IsDigestOf j 
 
   -- the edit removes the last keyslot, or it doesn't
   pub last_decided : (e : Edit) → Decided (IsLast j e)
-  last_decided (Add by_ old new to iterations) = inr (λ bad. bad)
-  last_decided (Change slot old new iterations) = inr (λ bad. bad)
-  last_decided (Remove slot by_ passphrase) = only_one_decided slot
-  last_decided Repair = inr (λ bad. bad)
-  last_decided (Label text) = inr (λ bad. bad)
+  last_decided e = some_decided Removed (removed_by e) (λ r. IsOnlyOne j r.slot) (λ r. only_one_decided r.slot)
 
 -- ---- the label
 
 -- its label is a bad one, or it isn't
 pub bad_label_decided : (e : Edit) → Decided (IsBadLabel e)
-bad_label_decided (Add by_ old new to iterations) = inr (λ bad. bad)
-bad_label_decided (Change slot old new iterations) = inr (λ bad. bad)
-bad_label_decided (Remove slot by_ passphrase) = inr (λ bad. bad)
-bad_label_decided Repair = inr (λ bad. bad)
-bad_label_decided (Label text) = one_decided _ _ (less_decided 47 (length text.now)) (not_decided _ (true_decided (is_plain text.now)))
+bad_label_decided e = some_decided (Bor (List ℕ)) (label_by e) (λ text. (47 < length text.now) ⊎ (is_plain text.now ≡ true → ⊥))
+    (λ text. one_decided _ _ (less_decided 47 (length text.now)) (not_decided _ (true_decided (is_plain text.now))))
 
 -- ---- random bytes
 
@@ -152,12 +138,12 @@ need_of_copies : OneOrNone (λ k. k ≡ 64 + 64)
 need_of_copies = inl (64 + 64, refl, λ m x. x)
 
 -- the same of an edit
+need_in : (j : Value) (o : Option Sealed) → OneOrNone (λ k. MatchOption o (k ≡ 64 + 64) (λ s. NeedsLike j s.opener.slot k))
+need_in j None = need_of_copies
+need_in j (Some s) = need_like j s.opener.slot
+
 one_need : (j : Value) (e : Edit) → OneOrNone (Need2 j e)
-one_need j (Add by_ old new to iterations) = need_like j by_
-one_need j (Change slot old new iterations) = need_like j slot
-one_need j (Remove slot by_ passphrase) = need_of_copies
-one_need j Repair = need_of_copies
-one_need j (Label text) = need_of_copies
+one_need j e = need_in j (sealed_by e)
 
 -- the random bytes aren't as many, or they are
 pub miscounted_decided : (j : Value) (e : Edit) (r : List ℕ) → Decided (IsMiscounted j e r)

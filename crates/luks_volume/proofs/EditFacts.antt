@@ -1,14 +1,19 @@
 -- What an edit of a volume keeps, whatever its reply.
-use Rattle.std.proofs.Common.{◌≡◌, ℕ, List, Ok, Err, Some, ap, sym, subst}
+use Rattle.std.proofs.Common.{◌≡◌, ◌∙◌, ℕ, List, Ok, Err, Option, Some, ap, sym, subst}
+use Rattle.std.proofs.lemmas.Option.{same_Some}
+use Rattle.std.specs.Borrow.{Bor}
 use Rattle.luks_head.specs.Selection.{Choice, luks1, luks2, nothing, Chosen}
 use Rattle.luks_reading.specs.declared.report.Data.{Data}
 use Rattle.luks_reading.specs.Checked.{WellFormed}
 use Rattle.luks_edit.specs.declared.edit.Done.{Done}
 use Rattle.luks_edit.specs.declared.edit.Edit.{Edit}
-use Rattle.luks_edit.specs.declared.edit.Edit.TheVariants.{Remove}
-use Rattle.luks_edit.specs.declared.edit.Passphrase.{Passphrase}
+use Rattle.luks_edit.specs.declared.deed.Deed.{Deed}
+use Rattle.luks_edit.specs.declared.deed.Deed.TheVariants as deed
+use Rattle.luks_edit.specs.declared.deed.Removed.{Removed}
+use Rattle.luks_edit.specs.declared.deed.Sealed.{Sealed}
 use Rattle.luks_edit.specs.declared.edit.Step.{Step}
 use Rattle.luks_edit.specs.declared.edit_fault.EditFault.TheVariants as fault
+use Rattle.luks_edit.specs.Asked.{deed_of, MatchDeed, NamesItself, removed_in}
 use Rattle.luks_edit.specs.Kept.{Keeps, KeepsSlot}
 use Rattle.luks_edit.specs.Ran.{AreRun, HasNoFailure, IsCompleted, IsFailure, IsNamedIn, Reply}
 use Rattle.luks1_edits.specs.Edited.{NamedKeyslots1}
@@ -51,19 +56,28 @@ edit_keeps payload v w e random (Ok done) well is fine =
 edit_keeps payload v w e random (Err fault.Device) well is fine = absurd (fine tt)
 edit_keeps payload v w e random (Err f) well is fine = unchanged payload _ v w well is.1
 
--- the keyslot that another one names to be removed by isn't itself the one that is removed
-names_itself : (v : List ℕ) (payload : Data) (slot by_ : ℕ) (p : Passphrase) (random : List ℕ) (c : Choice) → NamesAs v (Remove slot (Some by_) p) c by_
-    → IsEditFaultAs v payload (Remove slot (Some by_) p) random c fault.SameSlot
-names_itself v payload slot by_ p random luks1 same = ap Some same
-names_itself v payload slot by_ p random (luks2 o copies) same = ap Some same
-names_itself v payload slot by_ p random nothing same = same
+-- an edit that removes a keyslot names that one
+removed_named : (d : Deed) (removed : Removed) (S : Sealed → Type 0) (W : Option (Bor (List ℕ)) → Type 0) (n : ℕ)
+    → removed_in d ≡ Some removed → MatchDeed d S (λ r. n ≡ r.slot) W → n ≡ removed.slot
+removed_named (deed.Seal s) removed S W n is x = absurd (cc)
+removed_named (deed.Remove r) removed S W n is x = x ∙ ap (λ (k : Removed). k.slot) (same_Some r removed is)
+removed_named (deed.Rewrite label) removed S W n is x = absurd (cc)
 
--- so the one that opened is as it was
-pub opener_kept : (payload : Data) (v w : List ℕ) (slot by_ : ℕ) (p : Passphrase) (random : List ℕ) (done : Done) → WellFormed v payload
-    → Replies payload v (Remove slot (Some by_) p) random (Ok done) w → KeepsSlot payload by_ v w
-opener_kept payload v w slot by_ p random done well is =
-    (edit_keeps payload v w (Remove slot (Some by_) p) random (Ok done) well is (λ x. x)).slots by_
-    (λ x. is.1.none fault.SameSlot (record { choice = x.1.choice; chosen = x.1.chosen; fault = names_itself v payload slot by_ p random x.1.choice x.1.named }))
+-- the keyslot that is named to remove another one by isn't itself the one that is removed
+module _ (v : List ℕ) (payload : Data) (e : Edit) (removed : Removed) (by_ : ℕ) (is : removed_in (deed_of e) ≡ Some removed) (named : removed.by_ ≡ Some by_) where
+  itself : by_ ≡ removed.slot → NamesItself e
+  itself same = rw is (named ∙ ap Some same)
+
+  names_itself : (random : List ℕ) (c : Choice) → NamesAs v e c by_ → IsEditFaultAs v payload e random c fault.SameSlot
+  names_itself random luks1 same = itself (removed_named (deed_of e) removed _ _ by_ is same)
+  names_itself random (luks2 o copies) same = itself (removed_named (deed_of e) removed _ _ by_ is same)
+  names_itself random nothing same = same
+
+  -- so the one that opened is as it was
+  pub opener_kept : (w random : List ℕ) (done : Done) → WellFormed v payload → Replies payload v e random (Ok done) w → KeepsSlot payload by_ v w
+  opener_kept w random done well is_done =
+      (edit_keeps payload v w e random (Ok done) well is_done (λ x. x)).slots by_
+      (λ x. is_done.1.none fault.SameSlot (record { choice = x.1.choice; chosen = x.1.chosen; fault = names_itself random x.1.choice x.1.named }))
 
 -- a list of edits in which it didn't fail keeps what no completed one names
 pub edits_keep : (payload : Data) (steps : List Step) (replies : List Reply) (volumes : List (List ℕ)) (v w : List ℕ) → WellFormed v payload

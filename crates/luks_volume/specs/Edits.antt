@@ -1,21 +1,22 @@
 -- What an edit is of a volume of either version: the keyslots that it names, why it is refused,
 -- what it makes of the volume, what a failing device call may leave, and its reply.
-use Rattle.std.specs.Prelude.{◌≡◌, ℕ, List, Option, Some, None, Ok, Err}
+use Rattle.std.specs.Prelude.{◌≡◌, ℕ, List, Option, Some, None, IsSomeAnd, Ok, Err}
 use Rattle.luks_area.specs.First.{IsLeast}
 use Rattle.luks_head.specs.Selection.{Choice, luks1, luks2, nothing, Chosen}
 use Rattle.luks_reading.specs.declared.report.Data.{Data}
 use Rattle.luks_reading.specs.Checked.{IsFault}
 use Rattle.luks_reading.specs.Header.{NeedsMetadata}
 use Rattle.luks_edit.specs.declared.edit.Edit.{Edit}
-use Rattle.luks_edit.specs.declared.edit.Edit.TheVariants.{Add, Change}
+use Rattle.luks_edit.specs.declared.deed.Sealed.{Sealed}
 use Rattle.luks_edit.specs.declared.edit_fault.EditFault.{EditFault}
 use Rattle.luks_edit.specs.declared.edit_fault.EditFault.TheVariants as fault
+use Rattle.luks_edit.specs.Asked.{sealed_by}
 use Rattle.luks_edit.specs.EditFaults.{edit_key}
 use Rattle.luks_edit.specs.Ran.{Reply}
-use Rattle.luks1_edits.specs.Edited.{After1, IsLeastFree, IsNewKeyslot, NamedKeyslots1}
+use Rattle.luks1_edits.specs.Edited.{After1, IsSealedIn as IsSealedIn1, NamedKeyslots1}
 use Rattle.luks1_edits.specs.Leftovers.{Leftover1}
 use Rattle.luks1_edits.specs.Refused.{IsEditFault1, Need1}
-use Rattle.luks2_edits.specs.Edited.{After2, HasRanges, IsMadeIn, NamedKeyslots2}
+use Rattle.luks2_edits.specs.Edited.{After2, HasRanges, IsSealedIn as IsSealedIn2, NamedKeyslots2}
 use Rattle.luks2_edits.specs.Leftovers.{Leftover2}
 use Rattle.luks2_edits.specs.Refused.{HasSaid, IsEditFault2, Need2}
 
@@ -91,13 +92,15 @@ pub record Leftover (v : List ℕ) (payload : Data) (e : Edit) (random w : List 
 
 -- ---- the reply
 
+-- the keyslot that a key is sealed in
+abbrev pub SealsAs : List ℕ → Sealed → Choice → ℕ → Type 0
+SealsAs v s luks1 n = IsSealedIn1 v s n
+SealsAs v s (luks2 o copies) n = IsSealedIn2 v s n
+SealsAs v s nothing n = ⊥
+
 -- the keyslot that an edit makes, or seals again
 abbrev pub MakesAs : List ℕ → Edit → Choice → ℕ → Type 0
-MakesAs v (Add by_ old new to iterations) luks1 n = IsNewKeyslot v to n
-MakesAs v (Change slot old new iterations) luks1 n = IsLeastFree v n
-MakesAs v (Add by_ old new to iterations) (luks2 o copies) n = IsMadeIn v to n
-MakesAs v (Change slot old new iterations) (luks2 o copies) n = n ≡ slot
-MakesAs v e c n = ⊥
+MakesAs v e c n = IsSomeAnd (sealed_by e) (λ s. SealsAs v s c n)
 
 -- of the volume `v`
 pub record Makes (v : List ℕ) (e : Edit) (n : ℕ) : Type 0 where

@@ -1,7 +1,7 @@
 -- What an edit brings about in a well formed volume of either version, beside what it keeps: the
 -- keyslot that it made opens, the area that a keyslot lost is zeros; and what a failing device call
 -- spares of it.
-use Rattle.std.specs.Prelude.{◌≡◌, ◌⊎◌, ℕ, List, replicate, OnOk, ⊤}
+use Rattle.std.specs.Prelude.{◌≡◌, ◌⊎◌, ℕ, List, replicate, IfSome, OnOk}
 use Rattle.luks_area.specs.declared.area.Area.{Area}
 use Rattle.luks_area.specs.declared.area.AreaName.TheVariants.{Slot}
 use Rattle.luks_area.specs.Ranges.{part, SameBut}
@@ -11,8 +11,7 @@ use Rattle.luks_reading.specs.declared.report.Data.{Data}
 use Rattle.luks_reading.specs.Answer.{AnswerWithin, opens}
 use Rattle.luks_reading.specs.Checked.{AreaOf}
 use Rattle.luks_edit.specs.declared.edit.Edit.{Edit}
-use Rattle.luks_edit.specs.declared.edit.Edit.TheVariants.{Add, Change, Remove, Repair, Label}
-use Rattle.luks_edit.specs.Asked.{memory_for}
+use Rattle.luks_edit.specs.Asked.{memory_for, sealed_by}
 use Rattle.luks_edit.specs.declared.edit_fault.EditFault.{EditFault}
 use Rattle.luks_edit.specs.Kept.{Keeps}
 use Rattle.luks_edit.specs.Ran.{IsCompleted, IsFailure, Reply}
@@ -29,17 +28,9 @@ use Rattle.luks_volume.specs.Edits.{IsEditFault, Makes, NamedSlots, Replies}
 -- the keyslot that the edit of `v` made, or sealed again, opens in `w` by the new passphrase to the
 -- key that the old one opened, where Argon2 may take the same memory
 abbrev pub OpensMade : List ℕ → Edit → List ℕ → Type 0
-OpensMade v (Add by_ old new to iterations) w = (n : ℕ) (key : List ℕ)
-    → Makes v (Add by_ old new to iterations) n
-    → AnswerWithin (memory_for old new.now) v by_ old.bytes.now (opens key)
-    → AnswerWithin (memory_for old new.now) w n new.now (opens key)
-OpensMade v (Change slot old new iterations) w = (n : ℕ) (key : List ℕ)
-    → Makes v (Change slot old new iterations) n
-    → AnswerWithin (memory_for old new.now) v slot old.bytes.now (opens key)
-    → AnswerWithin (memory_for old new.now) w n new.now (opens key)
-OpensMade v (Remove slot by_ passphrase) w = ⊤
-OpensMade v Repair w = ⊤
-OpensMade v (Label text) w = ⊤
+OpensMade v e w = IfSome (sealed_by e) (λ s. (n : ℕ) (key : List ℕ) → Makes v e n
+    → AnswerWithin (memory_for s.opener.passphrase s.passphrase.now) v s.opener.slot s.opener.passphrase.bytes.now (opens key)
+    → AnswerWithin (memory_for s.opener.passphrase s.passphrase.now) w n s.passphrase.now (opens key))
 
 -- the area that a keyslot of `v` lost by the edit is zeros in `w`
 pub record WipesLost (v : List ℕ) (payload : Data) (e : Edit) (w : List ℕ) : Type 0 where

@@ -7,7 +7,7 @@ ghost use Rattle.luks2_edits.specs.Edited.{HasRangedIterations};
 ghost use Rattle.luks_volume.specs.Outcome.{IsApplied};
 
 use crate::header::edited_header;
-use luks_edit::{Done, Edit, EditFault};
+use luks_edit::{Deed, Done, Edit, EditFault};
 use luks_reading::{Data, Device, Header};
 use luks1_edits::apply_luks1;
 use luks2_editing::apply_luks2;
@@ -85,27 +85,10 @@ pub fn apply_of_header<D: Device>(
 fn iterations_have_32_bits(edit: &Edit<'_>)
     ensures { HasRangedIterations edit.now }
 {
-    match *edit {
-        Edit::Add {
-            by_: _,
-            old: _,
-            new: _,
-            to: _,
-            iterations,
-        } => has_32_bits(iterations),
-        Edit::Change {
-            slot: _,
-            old: _,
-            new: _,
-            iterations,
-        } => has_32_bits(iterations),
-        Edit::Remove {
-            slot: _,
-            by_: _,
-            passphrase: _,
-        } => {}
-        Edit::Repair => {}
-        Edit::Label { text: _ } => {}
+    match edit.deed() {
+        Deed::Seal(sealed) => has_32_bits(sealed.iterations),
+        Deed::Remove(_) => {}
+        Deed::Rewrite { .. } => {}
     }
 }
 

@@ -2,8 +2,8 @@
 ghost use Rattle.std.specs.Prelude.{◌≡◌, ◌+◌, ◌<◌, ◌≤◌, ◌++◌, ◌∷◌, [], ℕ, List, Ok, Some, get_or, length};
 ghost use Rattle.luks_edit.specs.declared.edit.Done.{Done as TheDone};
 ghost use Rattle.luks_edit.specs.declared.edit.Edit.{Edit as TheEdit};
-ghost use Rattle.luks_edit.specs.declared.edit.Edit.TheVariants.{Remove};
-ghost use Rattle.luks_edit.specs.declared.edit.Passphrase.{Passphrase as ThePassphrase};
+ghost use Rattle.luks_edit.specs.Asked.{removed_by};
+ghost use Rattle.luks_edit.specs.declared.deed.Removed.{Removed as TheRemoved};
 ghost use Rattle.luks_edit.specs.declared.edit.Step.{Step as TheStep};
 ghost use Rattle.luks_edit.specs.Kept.{Keeps, KeepsSlot};
 ghost use Rattle.luks_edit.specs.Ran.{AreRun, HasNoFailure, IsFailure, IsNamedIn, Ran, Reply};
@@ -25,9 +25,9 @@ pub fn edits_keep_volume()
 /// A keyslot that the passphrase of another one removes leaves that one as it was: its area, its entry
 /// or value, and its answer to every passphrase.
 pub fn removal_keeps_opener()
-    ensures { (payload : Payload) (v w : List ℕ) (slot by_ : ℕ) (passphrase : ThePassphrase)
-        (random : List ℕ) (done : TheDone) → WellFormed v payload
-        → Replies payload v (Remove slot (Some by_) passphrase) random (Ok done) w
+    ensures { (payload : Payload) (v w : List ℕ) (e : TheEdit) (removed : TheRemoved) (by_ : ℕ)
+        (random : List ℕ) (done : TheDone) → removed_by e ≡ Some removed → removed.by_ ≡ Some by_
+        → WellFormed v payload → Replies payload v e random (Ok done) w
         → KeepsSlot payload by_ v w }
 {}
 

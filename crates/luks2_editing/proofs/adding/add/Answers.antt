@@ -3,6 +3,7 @@ use Rattle.std.proofs.lemmas.Result.{err_from_is_err_and}
 use Rattle.luks_edit.specs.declared.edit.Edit.TheVariants.{Add}
 use Rattle.luks_meta.specs.Content.{area_len, content}
 use Rattle.luks_slot.specs.declared.fault.SlotFault.{SlotFault}
+use Rattle.luks2_judging.proofs.DeedFacts.{edit_is}
 use Rattle.luks2_editing.specs.SealedKeyslot.{HasRefusedKeyslot}
 use Rattle.luks2_editing.proofs.MadeMetadataFacts.{enough_random}
 use Rattle.luks2_editing.specs.Prepared.{AreCopiesWithin}
@@ -13,7 +14,9 @@ use Rattle.luks2_editing.proofs.RenewalFacts.{renewing}
 use Rattle.luks2_editing.proofs.adding.add.Goals as goal
 
 pub returns-in_err-made-clause-replies : goal.returns-in_err-made-clause-replies
-returns-in_err-made-clause-replies g c = λ tells payload old to chosen well before same opened is_new place.
+returns-in_err-made-clause-replies g c = λ tells payload e_ old to asked chosen well before_ same opened is_new place.
+    let is = edit_is e_ _ asked in
+    let before = rw is at before_ in
     let v = g.D.Device.bytes c.args.device.now in
     let copy = c.args.copy in
     let addition = c.args.addition.now in
@@ -23,7 +26,7 @@ returns-in_err-made-clause-replies g c = λ tells payload old to chosen well bef
     let total : length v ≡ c.len.result = g.met.D.Device.sized c.args.device.now tells ∙ sym c.len.ensures in
     let x : IsJudgedAddition v payload copy addition old new to key random = record { chosen = chosen; well = well; before = before; opened = opened; is_new = is_new; place = place } in
     let p = err_from_is_err_and c.from_residual.result c.from_residual.ensures.1 in
-    rw (p.1, p.2)
+    rw (p.1, p.2, is)
     (c.in_err-made.ensures.refused v payload (Add addition.by_ old new to addition.iterations) (addition_seals v payload copy addition old new to key random x) total)
 
 pub write_keyslot-requires-clause-sealable : goal.write_keyslot-requires-clause-sealable
@@ -39,7 +42,9 @@ write_keyslot-requires-clause-sealable g c =
     (area_len copy.meta) (g.D.Device.size c.args.device.now) copy.header c.args.secrets.now.key.now c.args.secrets.now.random.now c.in_ok-made.ensures.counted c.requires.key_length c.requires.placed within
 
 pub returns-in_err-write_keyslot-clause-replies : goal.returns-in_err-write_keyslot-clause-replies
-returns-in_err-write_keyslot-clause-replies g c = λ tells payload old to chosen well before same opened is_new place.
+returns-in_err-write_keyslot-clause-replies g c = λ tells payload e_ old to asked chosen well before_ same opened is_new place.
+    let is = edit_is e_ _ asked in
+    let before = rw is at before_ in
     let v = g.D.Device.bytes c.args.device.now in
     let copy = c.args.copy in
     let addition = c.args.addition.now in
@@ -53,7 +58,7 @@ returns-in_err-write_keyslot-clause-replies g c = λ tells payload old to chosen
     let k = content c.in_ok-made.made.meta in
     let renews = subst (λ (n : ℕ). IsRenewing v e copy.header copy.header.label n) (sym c.in_ok-made.ensures.length) (renewing v payload copy chosen well e copy.header.label (sym chosen.header.label)) in
     let p = err_from_is_err_and c.from_residual-in_err-write_keyslot.result c.from_residual-in_err-write_keyslot.ensures.1 in
-    rw (p.1, p.2)
+    rw (p.1, p.2, is)
     (unsealed_ends v payload copy chosen well e random k (c.in_ok-made.ensures.unrefused v payload e seals total) (c.in_ok-made.ensures.edited v payload e seals total)
     (g.D.Device.bytes c.write_keyslot.new.device) c.args.secrets.now.memory addition.made (subst (λ m. (g : SlotFault) → HasRefusedKeyslot m k addition.made g → ⊥) same
     (addition_fine v payload copy addition old new to key random x c.requires.free.small k c.in_ok-made.ensures.made
@@ -62,7 +67,9 @@ returns-in_err-write_keyslot-clause-replies g c = λ tells payload old to chosen
     c.in_err-write_keyslot.field-0.0 (c.in_err-write_keyslot.ensures.same tells) c.in_err-write_keyslot.ensures.fault)
 
 pub returns-clause-replies : goal.returns-clause-replies
-returns-clause-replies g c = λ tells payload old to chosen well before same opened is_new place.
+returns-clause-replies g c = λ tells payload e_ old to asked chosen well before_ same opened is_new place.
+    let is = edit_is e_ _ asked in
+    let before = rw is at before_ in
     let v = g.D.Device.bytes c.args.device.now in
     let copy = c.args.copy in
     let addition = c.args.addition.now in
@@ -78,8 +85,8 @@ returns-clause-replies g c = λ tells payload old to chosen well before same ope
     let unrefused = c.in_ok-made.ensures.unrefused v payload e seals total in
     let edited = c.in_ok-made.ensures.edited v payload e seals total in
     let w = g.D.Device.bytes c.write_keyslot.new.device in
-    record {
+    rw is (record {
       unrefused = unrefused;
       after = added_after v payload copy addition old new to key random x c.requires.free.small k c.in_ok-made.ensures.made edited w (c.in_ok-write_keyslot.ensures.written tells e renews);
       told = made_in v payload copy addition old new to key random x c.requires.free.small k c.in_ok-made.ensures.made edited w;
-    }
+    })

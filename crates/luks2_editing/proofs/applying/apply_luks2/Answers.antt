@@ -5,8 +5,9 @@ use Rattle.luks_meta.specs.Content.{area_len, content}
 use Rattle.luks_edit.proofs.AllowedMemory.{short_where_allowed}
 use Rattle.luks_edit.specs.Asked.{allowed_memory, HasShortPassphrases}
 use Rattle.luks_edit.specs.declared.edit.Edit.{Edit}
-use Rattle.luks_edit.specs.declared.edit.Edit.TheVariants.{Add, Change}
+use Rattle.luks_edit.specs.declared.edit.Edit.TheVariants.{Add, Change, Remove, Repair, Label}
 use Rattle.luks2_judging.specs.Judging.{IsLostArea, Seals, Takes}
+use Rattle.luks2_judging.proofs.DeedFacts.{edit_is}
 use Rattle.luks2_editing.proofs.JudgedFacts.{judged_edit, refused_ends, replied}
 use Rattle.luks2_editing.proofs.applying.apply_luks2.Goals as goal
 
@@ -34,61 +35,61 @@ returns-in-Repair-clause-replies g c = λ tells is.
     let copy = c.in_ok-judged.judged.copy in
     let takes = subst (λ t. Takes (area_len copy.meta) (content copy.meta) (g.D.Device.size c.args.device.now) c.args.edit.now t) c.in-Repair.is c.in_ok-judged.ensures.judged.takes in
     let same = c.judge_luks2.ensures.unchanged.same tells in
-    let judged = judged_edit same takes c.in_ok-judged.ensures.judged.copy is (c.in_ok-judged.ensures.unrefused tells is) in
-    replied same takes c.args.data_ c.args.random.now _ _ (c.repair.ensures.replies tells c.args.data_ judged.chosen judged.well (judged.none c.args.random.now))
+    let judged = judged_edit same (edit_is c.args.edit.now _ takes) c.in_ok-judged.ensures.judged.copy is (c.in_ok-judged.ensures.unrefused tells is) in
+    replied same (edit_is c.args.edit.now _ takes) c.args.data_ c.args.random.now _ _ (c.repair.ensures.replies tells c.args.data_ Repair refl judged.chosen judged.well (judged.none c.args.random.now))
 
 pub returns-in-Remove-clause-replies : goal.returns-in-Remove-clause-replies
 returns-in-Remove-clause-replies g c = λ tells is.
     let copy = c.in_ok-judged.judged.copy in
     let takes = subst (λ t. Takes (area_len copy.meta) (content copy.meta) (g.D.Device.size c.args.device.now) c.args.edit.now t) c.in-Remove.is c.in_ok-judged.ensures.judged.takes in
     let same = c.judge_luks2.ensures.unchanged.same tells in
-    let judged = judged_edit same takes.asked c.in_ok-judged.ensures.judged.copy is (c.in_ok-judged.ensures.unrefused tells is) in
-    replied same takes.asked c.args.data_ c.args.random.now _ _ (c.remove.ensures.replies tells c.args.data_ takes.by_ takes.passphrase judged.chosen judged.well (judged.none c.args.random.now))
+    let judged = judged_edit same (edit_is c.args.edit.now _ takes.asked) c.in_ok-judged.ensures.judged.copy is (c.in_ok-judged.ensures.unrefused tells is) in
+    replied same (edit_is c.args.edit.now _ takes.asked) c.args.data_ c.args.random.now _ _ (c.remove.ensures.replies tells c.args.data_ (Remove c.in-Remove.slot takes.by_ takes.passphrase) takes.by_ takes.passphrase refl judged.chosen judged.well (judged.none c.args.random.now))
 
 pub returns-in-Label-clause-replies : goal.returns-in-Label-clause-replies
 returns-in-Label-clause-replies g c = λ tells is.
     let copy = c.in_ok-judged.judged.copy in
     let takes = subst (λ t. Takes (area_len copy.meta) (content copy.meta) (g.D.Device.size c.args.device.now) c.args.edit.now t) c.in-Label.is c.in_ok-judged.ensures.judged.takes in
     let same = c.judge_luks2.ensures.unchanged.same tells in
-    let judged = judged_edit same takes.asked c.in_ok-judged.ensures.judged.copy is (c.in_ok-judged.ensures.unrefused tells is) in
-    replied same takes.asked c.args.data_ c.args.random.now _ _ (c.set_label.ensures.replies tells c.args.data_ takes.text judged.chosen judged.well (judged.none c.args.random.now) takes.is)
+    let judged = judged_edit same (edit_is c.args.edit.now _ takes.asked) c.in_ok-judged.ensures.judged.copy is (c.in_ok-judged.ensures.unrefused tells is) in
+    replied same (edit_is c.args.edit.now _ takes.asked) c.args.data_ c.args.random.now _ _ (c.set_label.ensures.replies tells c.args.data_ (Label takes.text) takes.text refl judged.chosen judged.well (judged.none c.args.random.now) takes.is)
 
 pub returns-in-Change-clause-replies : goal.returns-in-Change-clause-replies
 returns-in-Change-clause-replies g c = λ tells is.
     let copy = c.in_ok-judged.judged.copy in
     let takes = subst (λ t. Takes (area_len copy.meta) (content copy.meta) (g.D.Device.size c.args.device.now) c.args.edit.now t) c.in-Change.is c.in_ok-judged.ensures.judged.takes in
     let same = c.judge_luks2.ensures.unchanged.same tells in
-    let judged = judged_edit same takes.asked c.in_ok-judged.ensures.judged.copy is (c.in_ok-judged.ensures.unrefused tells is) in
+    let judged = judged_edit same (edit_is c.args.edit.now _ takes.asked) c.in_ok-judged.ensures.judged.copy is (c.in_ok-judged.ensures.unrefused tells is) in
     let v = g.D.Device.bytes c.judge_luks2.new.device in
     let e : Edit = Change c.in-Change.renewal.slot takes.old c.in-Change.passphrase c.in-Change.renewal.iterations in
     let seals = subst (λ t. Seals (hdr_size (header_at v copy.header.hdr_offset)) v c.args.data_ (content copy.meta) e t) c.in-Change.is judged.seals in
     let replies = rw (c.new-secrets-in-Change.ensures, c.in-Change.is) at (c.change.ensures.replies tells c.args.data_) in
-    replied same takes.asked c.args.data_ c.args.random.now _ _ (replies takes.old judged.chosen judged.well (judged.none c.args.random.now)
-    (sym (c.allowed_memory-memory.ensures ∙ ap allowed_memory takes.asked)) (seals.0 c.in-Change.renewal.slot takes.old.bytes.now (refl, refl)) seals.1)
+    replied same (edit_is c.args.edit.now _ takes.asked) c.args.data_ c.args.random.now _ _ (replies e takes.old refl judged.chosen judged.well (judged.none c.args.random.now)
+    (sym (c.allowed_memory-memory.ensures ∙ ap allowed_memory (edit_is c.args.edit.now _ takes.asked))) (seals.0 c.in-Change.renewal.slot takes.old.bytes.now (refl, refl)) seals.1)
 
 pub returns-in-Add-clause-replies : goal.returns-in-Add-clause-replies
 returns-in-Add-clause-replies g c = λ tells is.
     let copy = c.in_ok-judged.judged.copy in
     let takes = subst (λ t. Takes (area_len copy.meta) (content copy.meta) (g.D.Device.size c.args.device.now) c.args.edit.now t) c.in-Add.is c.in_ok-judged.ensures.judged.takes in
     let same = c.judge_luks2.ensures.unchanged.same tells in
-    let judged = judged_edit same takes.asked c.in_ok-judged.ensures.judged.copy is (c.in_ok-judged.ensures.unrefused tells is) in
+    let judged = judged_edit same (edit_is c.args.edit.now _ takes.asked) c.in_ok-judged.ensures.judged.copy is (c.in_ok-judged.ensures.unrefused tells is) in
     let v = g.D.Device.bytes c.judge_luks2.new.device in
     let e : Edit = Add c.in-Add.addition.by_ takes.old c.in-Add.passphrase takes.to c.in-Add.addition.iterations in
     let seals = subst (λ t. Seals (hdr_size (header_at v copy.header.hdr_offset)) v c.args.data_ (content copy.meta) e t) c.in-Add.is judged.seals in
     let replies = rw (c.new-secrets.ensures, c.in-Add.is) at (c.add.ensures.replies tells c.args.data_) in
-    replied same takes.asked c.args.data_ c.args.random.now _ _ (replies takes.old takes.to judged.chosen judged.well (judged.none c.args.random.now)
-    (sym (c.allowed_memory-memory.ensures ∙ ap allowed_memory takes.asked)) (seals.0 c.in-Add.addition.by_ takes.old.bytes.now (refl, refl)) takes.number.is_new seals.1)
+    replied same (edit_is c.args.edit.now _ takes.asked) c.args.data_ c.args.random.now _ _ (replies e takes.old takes.to refl judged.chosen judged.well (judged.none c.args.random.now)
+    (sym (c.allowed_memory-memory.ensures ∙ ap allowed_memory (edit_is c.args.edit.now _ takes.asked))) (seals.0 c.in-Add.addition.by_ takes.old.bytes.now (refl, refl)) takes.number.is_new seals.1)
 
 pub add-requires-clause-passphrase : goal.add-requires-clause-passphrase
 add-requires-clause-passphrase g c =
     let copy = c.in_ok-judged.judged.copy in
     let takes = subst (λ t. Takes (area_len copy.meta) (content copy.meta) (g.D.Device.size c.args.device.now) c.args.edit.now t) c.in-Add.is c.in_ok-judged.ensures.judged.takes in
     rw (c.new-secrets.ensures, c.in-Add.is)
-    (λ some. (subst HasShortPassphrases takes.asked (short_where_allowed c.args.edit.now (subst (λ m. 0 < m) c.allowed_memory-memory.ensures some))).1)
+    (λ some. (subst HasShortPassphrases (edit_is c.args.edit.now _ takes.asked) (short_where_allowed c.args.edit.now (subst (λ m. 0 < m) c.allowed_memory-memory.ensures some))).1)
 
 pub change-requires-clause-passphrase : goal.change-requires-clause-passphrase
 change-requires-clause-passphrase g c =
     let copy = c.in_ok-judged.judged.copy in
     let takes = subst (λ t. Takes (area_len copy.meta) (content copy.meta) (g.D.Device.size c.args.device.now) c.args.edit.now t) c.in-Change.is c.in_ok-judged.ensures.judged.takes in
     rw (c.new-secrets-in-Change.ensures, c.in-Change.is)
-    (λ some. (subst HasShortPassphrases takes.asked (short_where_allowed c.args.edit.now (subst (λ m. 0 < m) c.allowed_memory-memory.ensures some))).1)
+    (λ some. (subst HasShortPassphrases (edit_is c.args.edit.now _ takes.asked) (short_where_allowed c.args.edit.now (subst (λ m. 0 < m) c.allowed_memory-memory.ensures some))).1)

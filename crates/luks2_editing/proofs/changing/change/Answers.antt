@@ -1,45 +1,33 @@
 use Rattle.std.proofs.Common.{◌≡◌, ℕ, length, refl, sym, ◌∙◌, subst}
 use Rattle.std.proofs.lemmas.Result.{err_from_is_err_and}
+use Rattle.luks_edit.specs.declared.edit.Edit.{Edit}
 use Rattle.luks_edit.specs.declared.edit.Edit.TheVariants.{Change}
 use Rattle.luks_meta.specs.Content.{area_len, content}
 use Rattle.luks_slot.specs.declared.fault.SlotFault.{SlotFault}
+use Rattle.luks2_judging.proofs.DeedFacts.{edit_is}
 use Rattle.luks2_editing.specs.SealedKeyslot.{HasRefusedKeyslot}
 use Rattle.luks2_editing.proofs.MadeMetadataFacts.{enough_random}
-use Rattle.luks2_editing.specs.MadeMetadata.{IsSealingEdit}
-use Rattle.luks2_editing.specs.declared.sealed_metadata.SealedSlot.TheVariants.{Renewed}
-use Rattle.luks2_editing.specs.declared.sealed_metadata.Sealing.{Sealing}
 use Rattle.luks2_editing.specs.Prepared.{AreCopiesWithin}
 use Rattle.luks2_editing.specs.Rewriting.{IsRenewing}
-use Rattle.luks2_editing.proofs.ChangeFacts.{change_sealing, changed_after, renewed_alike, renewed_unrefused, torn_lost}
+use Rattle.luks2_editing.proofs.ChangeFacts.{change_sealing, changed_after, renewal_seals, renewed_alike, renewed_unrefused, torn_lost}
 use Rattle.luks2_editing.proofs.NewKeyslotFacts.{alike_sealable, unsealed_ends}
 use Rattle.luks2_editing.proofs.RenewalFacts.{renewing}
 use Rattle.luks2_editing.proofs.changing.change.Goals as goal
 
 pub returns-in_err-made-clause-replies : goal.returns-in_err-made-clause-replies
-returns-in_err-made-clause-replies g c = λ tells payload old x well before same opened place.
+returns-in_err-made-clause-replies g c = λ tells payload e_ old asked x well before same opened place.
     let v = g.D.Device.bytes c.args.device.now in
     let copy = c.args.copy in
-    let random = c.args.secrets.now.random.now in
-    let slot = c.args.renewal.now.slot in
+    let r = c.args.renewal.now in
     let new = c.args.secrets.now.passphrase in
-    let turns = c.args.renewal.now.iterations in
     let key = c.args.secrets.now.key.now in
-    let area = c.args.renewal.now.area in
-    let size : length v ≡ g.D.Device.size c.args.device.now = g.met.D.Device.sized c.args.device.now tells in
-    let total : length v ≡ c.len.result = size ∙ sym c.len.ensures in
-    let sealing : Sealing = record { keyslot = Renewed slot; iterations = turns; area = area } in
-    let edit : IsSealingEdit v payload (Change slot old new turns) random copy sealing = record {
-      chosen = x;
-      well = well;
-      before = before;
-      asked = (refl, refl);
-      place = place;
-      passphrase = old.bytes.now;
-      key = key;
-      opened = opened;
-    } in
+    let random = c.args.secrets.now.random.now in
+    let total : length v ≡ c.len.result = g.met.D.Device.sized c.args.device.now tells ∙ sym c.len.ensures in
+    let is = edit_is e_ _ asked in
+    let e : Edit = Change r.slot old new r.iterations in
+    let seals = renewal_seals v payload copy r old new key random x well (rw is at before) opened place in
     let p = err_from_is_err_and c.from_residual.result c.from_residual.ensures.1 in
-    rw (p.1, p.2) (c.in_err-made.ensures.refused v payload (Change slot old new turns) edit total)
+    rw (p.1, p.2, is) (c.in_err-made.ensures.refused v payload e seals total)
 
 pub write_keyslot-requires-clause-sealable : goal.write_keyslot-requires-clause-sealable
 write_keyslot-requires-clause-sealable g c =
@@ -55,114 +43,78 @@ write_keyslot-requires-clause-sealable g c =
     (area_len copy.meta) (g.D.Device.size c.args.device.now) copy.header c.args.secrets.now.key.now c.args.secrets.now.random.now made.counted c.requires.key_length c.requires.placed within
 
 pub returns-in_err-write_keyslot-clause-replies : goal.returns-in_err-write_keyslot-clause-replies
-returns-in_err-write_keyslot-clause-replies g c = λ tells payload old x well before same opened place.
+returns-in_err-write_keyslot-clause-replies g c = λ tells payload e_ old asked x well before same opened place.
     let v = g.D.Device.bytes c.args.device.now in
     let copy = c.args.copy in
-    let random = c.args.secrets.now.random.now in
-    let slot = c.args.renewal.now.slot in
+    let r = c.args.renewal.now in
     let new = c.args.secrets.now.passphrase in
-    let turns = c.args.renewal.now.iterations in
     let key = c.args.secrets.now.key.now in
-    let area = c.args.renewal.now.area in
-    let size : length v ≡ g.D.Device.size c.args.device.now = g.met.D.Device.sized c.args.device.now tells in
-    let total : length v ≡ c.len.result = size ∙ sym c.len.ensures in
-    let sealing : Sealing = record { keyslot = Renewed slot; iterations = turns; area = area } in
-    let edit : IsSealingEdit v payload (Change slot old new turns) random copy sealing = record {
-      chosen = x;
-      well = well;
-      before = before;
-      asked = (refl, refl);
-      place = place;
-      passphrase = old.bytes.now;
-      key = key;
-      opened = opened;
-    } in
+    let random = c.args.secrets.now.random.now in
+    let total : length v ≡ c.len.result = g.met.D.Device.sized c.args.device.now tells ∙ sym c.len.ensures in
+    let is = edit_is e_ _ asked in
+    let e : Edit = Change r.slot old new r.iterations in
+    let seals = renewal_seals v payload copy r old new key random x well (rw is at before) opened place in
     let made = c.in_ok-made.ensures in
     let k = content c.in_ok-made.made.meta in
-    let free = made.unrefused v payload (Change slot old new turns) edit total in
-    let edited = made.edited v payload (Change slot old new turns) edit total in
-    let renews = subst (λ (n : ℕ). IsRenewing v (Change slot old new turns) copy.header copy.header.label n) (sym made.length)
-    (renewing v payload copy x well (Change slot old new turns) copy.header.label (sym x.header.label)) in
+    let free = made.unrefused v payload e seals total in
+    let edited = made.edited v payload e seals total in
+    let renews = subst (λ (n : ℕ). IsRenewing v e copy.header copy.header.label n) (sym made.length) (renewing v payload copy x well e copy.header.label (sym x.header.label)) in
     let p = err_from_is_err_and c.from_residual-in_err-write_keyslot.result c.from_residual-in_err-write_keyslot.ensures.1 in
-    rw (p.1, p.2)
-    (unsealed_ends v payload copy x well (Change slot old new turns) random k free edited (g.D.Device.bytes c.write_keyslot.new.device)
-    c.args.secrets.now.memory slot
-    (subst (λ m. (g : SlotFault) → HasRefusedKeyslot m k slot g → ⊥) same (renewed_unrefused v payload copy x well slot old new turns key random area k opened place made.made
-    (enough_random (content copy.meta) slot (length random) made.counted)))
-    (c.write_keyslot.ensures.torn tells payload (Change slot old new turns) (content copy.meta) renews
-    (change_sealing v payload copy x well slot old new turns key random area k opened place made.made))
+    rw (p.1, p.2, is)
+    (unsealed_ends v payload copy x well e random k free edited (g.D.Device.bytes c.write_keyslot.new.device)
+    c.args.secrets.now.memory r.slot
+    (subst (λ m. (g : SlotFault) → HasRefusedKeyslot m k r.slot g → ⊥) same (renewed_unrefused v payload copy x well r.slot old new r.iterations key random r.area k opened place made.made
+    (enough_random (content copy.meta) r.slot (length random) made.counted)))
+    (c.write_keyslot.ensures.torn tells payload e (content copy.meta) renews
+    (change_sealing v payload copy x well r.slot old new r.iterations key random r.area k opened place made.made))
     c.in_err-write_keyslot.field-0.0 (c.in_err-write_keyslot.ensures.same tells) c.in_err-write_keyslot.ensures.fault)
 
 pub returns-in-Ok-clause-replies : goal.returns-in-Ok-clause-replies
-returns-in-Ok-clause-replies g c = λ tells payload old x well before same opened place.
+returns-in-Ok-clause-replies g c = λ tells payload e_ old asked x well before same opened place.
     let v = g.D.Device.bytes c.args.device.now in
     let copy = c.args.copy in
-    let random = c.args.secrets.now.random.now in
-    let slot = c.args.renewal.now.slot in
+    let r = c.args.renewal.now in
     let new = c.args.secrets.now.passphrase in
-    let turns = c.args.renewal.now.iterations in
     let key = c.args.secrets.now.key.now in
-    let area = c.args.renewal.now.area in
-    let size : length v ≡ g.D.Device.size c.args.device.now = g.met.D.Device.sized c.args.device.now tells in
-    let total : length v ≡ c.len.result = size ∙ sym c.len.ensures in
-    let sealing : Sealing = record { keyslot = Renewed slot; iterations = turns; area = area } in
-    let edit : IsSealingEdit v payload (Change slot old new turns) random copy sealing = record {
-      chosen = x;
-      well = well;
-      before = before;
-      asked = (refl, refl);
-      place = place;
-      passphrase = old.bytes.now;
-      key = key;
-      opened = opened;
-    } in
+    let random = c.args.secrets.now.random.now in
+    let total : length v ≡ c.len.result = g.met.D.Device.sized c.args.device.now tells ∙ sym c.len.ensures in
+    let is = edit_is e_ _ asked in
+    let e : Edit = Change r.slot old new r.iterations in
+    let seals = renewal_seals v payload copy r old new key random x well (rw is at before) opened place in
     let made = c.in_ok-made.ensures in
     let k = content c.in_ok-made.made.meta in
-    let free = made.unrefused v payload (Change slot old new turns) edit total in
-    let edited = made.edited v payload (Change slot old new turns) edit total in
-    let renews = subst (λ (n : ℕ). IsRenewing v (Change slot old new turns) copy.header copy.header.label n) (sym made.length)
-    (renewing v payload copy x well (Change slot old new turns) copy.header.label (sym x.header.label)) in
+    let free = made.unrefused v payload e seals total in
+    let edited = made.edited v payload e seals total in
+    let renews = subst (λ (n : ℕ). IsRenewing v e copy.header copy.header.label n) (sym made.length) (renewing v payload copy x well e copy.header.label (sym x.header.label)) in
     let w = g.D.Device.bytes c.write_keyslot.new.device in
     let y = g.D.Device.bytes c.wipe_area.new.device in
-    let written = c.in_ok-write_keyslot.ensures.written tells (Change slot old new turns) renews in
-    record {
+    let written = c.in_ok-write_keyslot.ensures.written tells e renews in
+    rw is (record {
       unrefused = free;
-      after = changed_after v payload copy x well slot old new turns key random area k opened place made.made free edited
-          c.args.renewal.now.lost c.requires.lost.is w y written (c.wipe_area.ensures.rest tells) (c.in-Ok.ensures.wiped tells);
+      after = changed_after v payload copy x well r.slot old new r.iterations key random r.area k opened place made.made free edited
+          r.lost c.requires.lost.is w y written (c.wipe_area.ensures.rest tells) (c.in-Ok.ensures.wiped tells);
       told = refl;
-    }
+    })
 
 pub returns-clause-replies : goal.returns-clause-replies
-returns-clause-replies g c = λ tells payload old x well before same opened place.
+returns-clause-replies g c = λ tells payload e_ old asked x well before same opened place.
     let v = g.D.Device.bytes c.args.device.now in
     let copy = c.args.copy in
-    let random = c.args.secrets.now.random.now in
-    let slot = c.args.renewal.now.slot in
+    let r = c.args.renewal.now in
     let new = c.args.secrets.now.passphrase in
-    let turns = c.args.renewal.now.iterations in
     let key = c.args.secrets.now.key.now in
-    let area = c.args.renewal.now.area in
-    let size : length v ≡ g.D.Device.size c.args.device.now = g.met.D.Device.sized c.args.device.now tells in
-    let total : length v ≡ c.len.result = size ∙ sym c.len.ensures in
-    let sealing : Sealing = record { keyslot = Renewed slot; iterations = turns; area = area } in
-    let edit : IsSealingEdit v payload (Change slot old new turns) random copy sealing = record {
-      chosen = x;
-      well = well;
-      before = before;
-      asked = (refl, refl);
-      place = place;
-      passphrase = old.bytes.now;
-      key = key;
-      opened = opened;
-    } in
+    let random = c.args.secrets.now.random.now in
+    let total : length v ≡ c.len.result = g.met.D.Device.sized c.args.device.now tells ∙ sym c.len.ensures in
+    let is = edit_is e_ _ asked in
+    let e : Edit = Change r.slot old new r.iterations in
+    let seals = renewal_seals v payload copy r old new key random x well (rw is at before) opened place in
     let made = c.in_ok-made.ensures in
     let k = content c.in_ok-made.made.meta in
-    let free = made.unrefused v payload (Change slot old new turns) edit total in
-    let edited = made.edited v payload (Change slot old new turns) edit total in
-    let renews = subst (λ (n : ℕ). IsRenewing v (Change slot old new turns) copy.header copy.header.label n) (sym made.length)
-    (renewing v payload copy x well (Change slot old new turns) copy.header.label (sym x.header.label)) in
+    let free = made.unrefused v payload e seals total in
+    let edited = made.edited v payload e seals total in
+    let renews = subst (λ (n : ℕ). IsRenewing v e copy.header copy.header.label n) (sym made.length) (renewing v payload copy x well e copy.header.label (sym x.header.label)) in
     let w = g.D.Device.bytes c.write_keyslot.new.device in
     let y = g.D.Device.bytes c.wipe_area.new.device in
-    let written = c.in_ok-write_keyslot.ensures.written tells (Change slot old new turns) renews in
-    torn_lost v payload copy x well slot old new turns key random area k opened place made.made free edited
-    c.args.renewal.now.lost c.requires.lost.is w y written (c.wipe_area.ensures.rest tells)
+    let written = c.in_ok-write_keyslot.ensures.written tells e renews in
+    rw is (torn_lost v payload copy x well r.slot old new r.iterations key random r.area k opened place made.made free edited
+    r.lost c.requires.lost.is w y written (c.wipe_area.ensures.rest tells))

@@ -4,12 +4,15 @@ use Rattle.luks_edit.specs.declared.edit.Edit.TheVariants.{Label}
 use Rattle.luks_meta.specs.Content.{area_len, content}
 use Rattle.luks_edit.specs.RowFacts.{passed_from}
 use Rattle.luks2_edits.specs.Refused.{IsEditFault2}
+use Rattle.luks2_judging.proofs.DeedFacts.{edit_is}
 use Rattle.luks2_editing.specs.Prepared.{AreCopiesWithin}
 use Rattle.luks2_editing.proofs.RenewalFacts.{copies_touched, copy_within, prepared_unrefused, renewing, unwritten_ends, written_after}
 use Rattle.luks2_editing.proofs.labelling.set_label.Goals as goal
 
 pub returns-in_err-rewrite-clause-replies : goal.returns-in_err-rewrite-clause-replies
-returns-in_err-rewrite-clause-replies g c = λ tells payload text x well before field_.
+returns-in_err-rewrite-clause-replies g c = λ tells payload e_ text asked x well before_ field_.
+    let is = edit_is e_ _ asked in
+    let before = rw is at before_ in
     let v = g.D.Device.bytes c.args.device.now in
     let w = g.D.Device.bytes c.rewrite.new.device in
     let copy = c.args.copy.now in
@@ -20,22 +23,24 @@ returns-in_err-rewrite-clause-replies g c = λ tells payload text x well before 
     subst (λ n. AreCopiesWithin copy.header (area_len copy.meta) n) size (copy_within v payload copy x well) in
     let renews = renewing v payload copy x well (Label text) c.args.label field_ in
     let p = err_from_is_err_and c.from_residual.result c.from_residual.ensures.1 in
-    rw (p.1, p.2)
+    rw (p.1, p.2, is)
     (unwritten_ends v payload copy x well (Label text) random (content copy.meta) passed (λ salt. refl) (λ salt k is. is) refl (λ k is. is) (λ u. tt)
     w c.in_err-rewrite.field-0.0 (c.in_err-rewrite.ensures.refused within) (c.in_err-rewrite.ensures.same tells) (c.rewrite.ensures.torn tells v (Label text) renews))
 
 pub returns-clause-replies : goal.returns-clause-replies
-returns-clause-replies g c = λ tells payload text x well before field_.
+returns-clause-replies g c = λ tells payload e_ text asked x well before_ field_.
+    let is = edit_is e_ _ asked in
+    let before = rw is at before_ in
     let v = g.D.Device.bytes c.args.device.now in
     let w = g.D.Device.bytes c.rewrite.new.device in
     let copy = c.args.copy.now in
     let random = c.args.random.now in
     let passed = passed_from (IsEditFault2 v payload (Label text) random) 12 before.each in
     let renews = renewing v payload copy x well (Label text) c.args.label field_ in
-    record {
+    rw is (record {
       unrefused = prepared_unrefused v payload copy x well (Label text) random (content copy.meta) passed (λ salt. refl) (λ salt k is. is) refl (λ k is. is) (λ u. tt) c.in_ok-rewrite.ensures.ready;
       after = written_after v payload copy x well (Label text) random (content copy.meta) passed (λ salt. refl) (λ salt k is. is) refl (λ k is. is) (λ u. tt) w tt
           (c.in_ok-rewrite.ensures.anew tells v (Label text) renews)
           (copies_touched v payload copy x well (Label text) random (content copy.meta) passed (λ salt. refl) (λ salt k is. is) refl (λ k is. is) (λ u. tt) w (c.rewrite.ensures.rest tells));
       told = refl;
-    }
+    })

@@ -2,6 +2,7 @@ use Rattle.std.proofs.Common.{◌≡◌, ℕ, length, refl, sym, ◌∙◌, subs
 use Rattle.std.proofs.lemmas.Result.{err_from_is_err_and}
 use Rattle.luks_edit.specs.declared.edit.Edit.TheVariants.{Remove}
 use Rattle.luks_meta.specs.Content.{area_len, content}
+use Rattle.luks2_judging.proofs.DeedFacts.{edit_is}
 use Rattle.luks2_editing.specs.Prepared.{AreCopiesWithin, IsPrepared, IsUnwritten}
 use Rattle.luks2_editing.specs.Rewriting.{IsRenewing}
 use Rattle.luks2_editing.proofs.RemovalFacts.{removal_passed, removed_after, torn_lost}
@@ -9,7 +10,9 @@ use Rattle.luks2_editing.proofs.RenewalFacts.{copy_within, prepared_unrefused, r
 use Rattle.luks2_editing.proofs.removing.remove.Goals as goal
 
 pub returns-in_err-rewrite-clause-replies : goal.returns-in_err-rewrite-clause-replies
-returns-in_err-rewrite-clause-replies g c = λ tells payload by_ pass x well before.
+returns-in_err-rewrite-clause-replies g c = λ tells payload e_ by_ pass asked x well before_.
+    let is = edit_is e_ _ asked in
+    let before = rw is at before_ in
     let v = g.D.Device.bytes c.args.device.now in
     let copy = c.args.copy in
     let random = c.args.random.now in
@@ -25,13 +28,15 @@ returns-in_err-rewrite-clause-replies g c = λ tells payload by_ pass x well bef
     subst (λ (n : ℕ). AreCopiesWithin copy.header n (g.D.Device.size c.args.device.now)) (sym len)
     (subst (λ (n : ℕ). AreCopiesWithin copy.header (area_len copy.meta) n) size (copy_within v payload copy x well)) in
     let p = err_from_is_err_and c.from_residual-in_err-rewrite.result c.from_residual-in_err-rewrite.ensures.1 in
-    rw (p.1, p.2)
+    rw (p.1, p.2, is)
     (unwritten_ends v payload copy x well (Remove slot by_ pass) random new passed (λ salt. made) (λ salt k same. same ∙ sym made) refl (λ k same. same) (λ u. tt)
     w c.in_err-rewrite.field-0.0 (subst (λ (n : ℕ). IsUnwritten copy.header.seqid n new random 128 c.in_err-rewrite.field-0.0) len (c.in_err-rewrite.ensures.refused within))
     (c.in_err-rewrite.ensures.same tells) (c.rewrite.ensures.torn tells v (Remove slot by_ pass) renews))
 
 pub returns-in-Ok-clause-replies : goal.returns-in-Ok-clause-replies
-returns-in-Ok-clause-replies g c = λ tells payload by_ pass x well before.
+returns-in-Ok-clause-replies g c = λ tells payload e_ by_ pass asked x well before_.
+    let is = edit_is e_ _ asked in
+    let before = rw is at before_ in
     let v = g.D.Device.bytes c.args.device.now in
     let copy = c.args.copy in
     let random = c.args.random.now in
@@ -43,16 +48,18 @@ returns-in-Ok-clause-replies g c = λ tells payload by_ pass x well before.
     let w = g.D.Device.bytes c.rewrite.new.device in
     let ready = subst (λ (n : ℕ). IsPrepared copy.header.seqid n new random 128) len c.in_ok-rewrite.ensures.ready in
     let y = g.D.Device.bytes c.wipe_area.new.device in
-    record {
+    rw is (record {
       unrefused = prepared_unrefused v payload copy x well (Remove slot by_ pass) random new (removal_passed v payload copy x well slot by_ pass random before)
           (λ salt. made) (λ salt k same. same ∙ sym made) refl (λ k same. same) (λ u. tt) ready;
       after = removed_after v payload copy x well slot by_ pass random before c.args.area c.requires.lost.is new made w y ready
           (c.in_ok-rewrite.ensures.anew tells v (Remove slot by_ pass) renews) (c.rewrite.ensures.rest tells) (c.wipe_area.ensures.rest tells) (c.in-Ok.ensures.wiped tells);
       told = refl;
-    }
+    })
 
 pub returns-clause-replies : goal.returns-clause-replies
-returns-clause-replies g c = λ tells payload by_ pass x well before.
+returns-clause-replies g c = λ tells payload e_ by_ pass asked x well before_.
+    let is = edit_is e_ _ asked in
+    let before = rw is at before_ in
     let v = g.D.Device.bytes c.args.device.now in
     let copy = c.args.copy in
     let random = c.args.random.now in
@@ -64,5 +71,5 @@ returns-clause-replies g c = λ tells payload by_ pass x well before.
     let w = g.D.Device.bytes c.rewrite.new.device in
     let ready = subst (λ (n : ℕ). IsPrepared copy.header.seqid n new random 128) len c.in_ok-rewrite.ensures.ready in
     let y = g.D.Device.bytes c.wipe_area.new.device in
-    torn_lost v payload copy x well slot by_ pass random before c.args.area c.requires.lost.is new made w y ready
-    (c.in_ok-rewrite.ensures.anew tells v (Remove slot by_ pass) renews) (c.rewrite.ensures.rest tells) (c.wipe_area.ensures.rest tells)
+    rw is (torn_lost v payload copy x well slot by_ pass random before c.args.area c.requires.lost.is new made w y ready
+    (c.in_ok-rewrite.ensures.anew tells v (Remove slot by_ pass) renews) (c.rewrite.ensures.rest tells) (c.wipe_area.ensures.rest tells))

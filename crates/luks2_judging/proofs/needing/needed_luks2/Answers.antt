@@ -1,13 +1,15 @@
-use Rattle.std.proofs.Common.{refl, subst, sym}
+use Rattle.std.proofs.Common.{ap, refl, subst, sym}
 use Rattle.std.proofs.lemmas.Result.{err_from_is_err_and}
 use Rattle.luks_area.specs.First.{IsLeast}
 use Rattle.luks_meta.specs.Content.{content}
 use Rattle.luks_edit.specs.declared.edit.Edit.TheVariants.{Add, Change}
+use Rattle.luks_edit.specs.Asked.{sealed_in}
 use Rattle.luks_edit.specs.EditFaults.{edit_key}
 use Rattle.luks2_edits.specs.Refused.{IsAbsent}
 use Rattle.luks2_judging.specs.Needed.{IsNeedFault2}
+use Rattle.luks2_judging.proofs.DeedFacts.{added_is, changed_is}
 use Rattle.luks2_judging.proofs.KeyslotFacts.{used_of}
-use Rattle.luks2_judging.proofs.NeedFacts.{accepted_copy, need_absent, need_as, need_required, need_same, need_unnumbered}
+use Rattle.luks2_judging.proofs.NeedFacts.{accepted_copy, idle_need, need_absent, need_as, need_required, need_same, need_unnumbered}
 use Rattle.luks2_judging.proofs.NumberFacts.{new_numbered, new_untaken}
 use Rattle.luks2_judging.proofs.needing.needed_luks2.Goals as goal
 
@@ -38,46 +40,45 @@ returns-in_err-judge_opener-clause-tells c = λ v is size.
     (subst (λ f. IsLeast edit_key (IsNeedFault2 v c.args.data_ c.args.edit.now) f) (sym c.in_err-judge_opener.ensures.0)
     (need_same v c.args.data_ copy.header.hdr_offset (content copy.meta) a.metadata c.args.edit.now a.accepted c.in_ok-judge_requirements.ensures c.in_ok-judge_wanted.ensures c.in_err-judge_opener.ensures.1))
 
-pub returns-in_err-new_number-in-Add-clause-tells : goal.returns-in_err-new_number-in-Add-clause-tells
-returns-in_err-new_number-in-Add-clause-tells c = λ v is size.
+pub returns-in_err-new_number-in-New-clause-tells : goal.returns-in_err-new_number-in-New-clause-tells
+returns-in_err-new_number-in-New-clause-tells c = λ v is size.
     let copy = c.in_ok-copy.copy.now in
     let a = accepted_copy c.in_ok-copy.ensures.copy is (c.in_ok-copy.ensures.well v is size) in
-    let p = err_from_is_err_and c.from_residual-in_err-new_number-in-Add.result c.from_residual-in_err-new_number-in-Add.ensures.1 in
+    let p = err_from_is_err_and c.from_residual-in_err-new_number-in-New.result c.from_residual-in_err-new_number-in-New.ensures.1 in
+    let s = c.in-Seal.sealed in
+    let asked = added_is c.args.edit.now s c.in-New.to (sym c.in-Seal.ensures) c.in-New.is in
     rw (p.1, p.2)
-    (subst (λ y. IsLeast edit_key (IsNeedFault2 v c.args.data_ y) c.in_err-new_number-in-Add.field-0.0) (sym c.in-Add.is)
-    (need_unnumbered v c.args.data_ copy.header.hdr_offset (content copy.meta) a.metadata c.in-Add.by_ c.in-Add.old c.in-Add.new c.in-Add.to c.in-Add.iterations
+    (subst (λ y. IsLeast edit_key (IsNeedFault2 v c.args.data_ y) c.in_err-new_number-in-New.field-0.0) (sym asked)
+    (need_unnumbered v c.args.data_ copy.header.hdr_offset (content copy.meta) a.metadata s.opener.slot s.opener.passphrase s.passphrase c.in-New.to s.iterations
     a.accepted c.in_ok-judge_requirements.ensures
-    (subst (λ y. IsAbsent (content copy.meta) y → ⊥) c.in-Add.is c.in_ok-judge_wanted.ensures) c.in_err-new_number-in-Add.field-0.0 c.in_err-new_number-in-Add.ensures))
+    (subst (λ y. IsAbsent (content copy.meta) y → ⊥) asked c.in_ok-judge_wanted.ensures) c.in_err-new_number-in-New.field-0.0 c.in_err-new_number-in-New.ensures))
 
-pub returns-in_ok-new_number-in-Add-clause-tells : goal.returns-in_ok-new_number-in-Add-clause-tells
-returns-in_ok-new_number-in-Add-clause-tells c = λ v is size.
+pub returns-in_ok-new_number-in-New-clause-tells : goal.returns-in_ok-new_number-in-New-clause-tells
+returns-in_ok-new_number-in-New-clause-tells c = λ v is size.
     let copy = c.in_ok-copy.copy.now in
     let a = accepted_copy c.in_ok-copy.ensures.copy is (c.in_ok-copy.ensures.well v is size) in
-    need_as c.in-Add.is a c.in_ok-judge_requirements.ensures c.in_ok-judge_wanted.ensures c.in_ok-judge_opener.ensures c.sealed_need.result
-    (new_untaken (content copy.meta) c.in-Add.to c.in_ok-new_number-in-Add.field-0 c.in_ok-new_number-in-Add.ensures)
-    (new_numbered (content copy.meta) c.in-Add.to c.in_ok-new_number-in-Add.field-0 c.in_ok-new_number-in-Add.ensures)
-    (λ there. c.sealed_need.ensures (used_of (content copy.meta) (Add c.in-Add.by_ c.in-Add.old c.in-Add.new c.in-Add.to c.in-Add.iterations)
-    c.in-Add.by_ c.in-Add.old.bytes.now (refl, refl) there))
+    let s = c.in-Seal.sealed in
+    need_as (added_is c.args.edit.now s c.in-New.to (sym c.in-Seal.ensures) c.in-New.is) a c.in_ok-judge_requirements.ensures c.in_ok-judge_wanted.ensures c.in_ok-judge_opener.ensures c.sealed_need.result
+    (new_untaken (content copy.meta) c.in-New.to c.in_ok-new_number-in-New.field-0 c.in_ok-new_number-in-New.ensures)
+    (new_numbered (content copy.meta) c.in-New.to c.in_ok-new_number-in-New.field-0 c.in_ok-new_number-in-New.ensures)
+    (λ there. c.sealed_need.ensures (used_of (content copy.meta) (Add s.opener.slot s.opener.passphrase s.passphrase c.in-New.to s.iterations)
+    s.opener.slot s.opener.passphrase.bytes.now (refl, refl) there))
 
-pub returns-in-Change-clause-tells : goal.returns-in-Change-clause-tells
-returns-in-Change-clause-tells c = λ v is size.
+pub returns-in-Opened-clause-tells : goal.returns-in-Opened-clause-tells
+returns-in-Opened-clause-tells c = λ v is size.
     let copy = c.in_ok-copy.copy.now in
     let a = accepted_copy c.in_ok-copy.ensures.copy is (c.in_ok-copy.ensures.well v is size) in
-    need_as c.in-Change.is a c.in_ok-judge_requirements.ensures c.in_ok-judge_wanted.ensures c.in_ok-judge_opener.ensures c.sealed_need-in-Change.result (λ x. x) (λ x. x)
-    (λ there. c.sealed_need-in-Change.ensures (used_of (content copy.meta) (Change c.in-Change.slot c.in-Change.old c.in-Change.new c.in-Change.iterations)
-    c.in-Change.slot c.in-Change.old.bytes.now (refl, refl) there))
+    let s = c.in-Seal.sealed in
+    need_as (changed_is c.args.edit.now s (sym c.in-Seal.ensures) c.in-Opened.is) a c.in_ok-judge_requirements.ensures c.in_ok-judge_wanted.ensures c.in_ok-judge_opener.ensures c.sealed_need-in-Opened.result (λ x. x) (λ x. x)
+    (λ there. c.sealed_need-in-Opened.ensures (used_of (content copy.meta) (Change s.opener.slot s.opener.passphrase s.passphrase s.iterations)
+    s.opener.slot s.opener.passphrase.bytes.now (refl, refl) there))
 
 pub returns-in-Remove-clause-tells : goal.returns-in-Remove-clause-tells
 returns-in-Remove-clause-tells c = λ v is size.
-    let a = accepted_copy c.in_ok-copy.ensures.copy is (c.in_ok-copy.ensures.well v is size) in
-    need_as c.in-Remove.is a c.in_ok-judge_requirements.ensures c.in_ok-judge_wanted.ensures c.in_ok-judge_opener.ensures 128 (λ x. x) (λ x. x) (λ there. refl)
+    idle_need (ap sealed_in (sym c.in-Remove.ensures)) (accepted_copy c.in_ok-copy.ensures.copy is (c.in_ok-copy.ensures.well v is size))
+    c.in_ok-judge_requirements.ensures c.in_ok-judge_wanted.ensures c.in_ok-judge_opener.ensures
 
-pub returns-in-Repair-clause-tells : goal.returns-in-Repair-clause-tells
-returns-in-Repair-clause-tells c = λ v is size.
-    let a = accepted_copy c.in_ok-copy.ensures.copy is (c.in_ok-copy.ensures.well v is size) in
-    need_as c.in-Repair.is a c.in_ok-judge_requirements.ensures c.in_ok-judge_wanted.ensures c.in_ok-judge_opener.ensures 128 (λ x. x) (λ x. x) (λ there. refl)
-
-pub returns-in-Label-clause-tells : goal.returns-in-Label-clause-tells
-returns-in-Label-clause-tells c = λ v is size.
-    let a = accepted_copy c.in_ok-copy.ensures.copy is (c.in_ok-copy.ensures.well v is size) in
-    need_as c.in-Label.is a c.in_ok-judge_requirements.ensures c.in_ok-judge_wanted.ensures c.in_ok-judge_opener.ensures 128 (λ x. x) (λ x. x) (λ there. refl)
+pub returns-in-Rewrite-clause-tells : goal.returns-in-Rewrite-clause-tells
+returns-in-Rewrite-clause-tells c = λ v is size.
+    idle_need (ap sealed_in (sym c.in-Rewrite.ensures)) (accepted_copy c.in_ok-copy.ensures.copy is (c.in_ok-copy.ensures.well v is size))
+    c.in_ok-judge_requirements.ensures c.in_ok-judge_wanted.ensures c.in_ok-judge_opener.ensures

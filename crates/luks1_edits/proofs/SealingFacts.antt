@@ -1,0 +1,71 @@
+-- What an edit replies that seals a key, once its keyslot was made.
+use Rattle.std.proofs.Common.{◌≡◌, ◌⊎◌, ℕ, List, subst, inl, inr, Option, Some, None}
+use Rattle.luks_area.specs.declared.area.Area.{Area}
+use Rattle.luks1_header.specs.declared.luks1.Luks1Slot.{Luks1Slot}
+use Rattle.luks_reading.specs.declared.report.Data.{Data}
+use Rattle.luks_edit.specs.declared.deed.Deed.TheVariants.{Seal}
+use Rattle.luks_edit.specs.declared.deed.Place.{Place}
+use Rattle.luks_edit.specs.declared.deed.Place.TheVariants.{New, Opened}
+use Rattle.luks_edit.specs.declared.deed.Sealed.{Sealed}
+use Rattle.luks_edit.specs.declared.edit.Edit.{Edit}
+use Rattle.luks_edit.specs.Asked.{deed_of, MatchPlace}
+use Rattle.luks1_edits.specs.Accepted.{IsHeaderOf, IsSealedNew}
+use Rattle.luks1_edits.specs.Edited.{IsLeastFree, IsNewKeyslot, IsRemoved, number_asked}
+use Rattle.luks1_edits.specs.Leftovers.{IsHalfChanged, IsHalfMade, IsHalfRemoved, IsTorn1, Leftover1}
+use Rattle.luks1_edits.specs.Replies.{IsDone1}
+use Rattle.luks1_edits.specs.Steps.{IsKeyslotAt}
+use Rattle.luks1_edits.proofs.ChangeFacts.{changed, half_changed, still_at}
+
+-- while its keyslot was made
+torn_at : (v : List ℕ) (s : Sealed) (r w : List ℕ) (place : Place)
+    → IsHalfMade v s.opener.slot s.opener.passphrase.bytes.now s.passphrase.now (number_asked place) s.iterations r w
+    → MatchPlace place (λ to. IsHalfMade v s.opener.slot s.opener.passphrase.bytes.now s.passphrase.now to s.iterations r w)
+    (IsHalfMade v s.opener.slot s.opener.passphrase.bytes.now s.passphrase.now None s.iterations r w
+    ⊎ IsHalfChanged v s.opener.slot s.opener.passphrase.bytes.now s.passphrase.now s.iterations r w)
+torn_at v s r w (New to) x = x
+torn_at v s r w Opened x = inl x
+
+pub half_made : (v : List ℕ) (e : Edit) (s : Sealed) (r w : List ℕ) → deed_of e ≡ Seal s
+    → IsHalfMade v s.opener.slot s.opener.passphrase.bytes.now s.passphrase.now (number_asked s.place) s.iterations r w → IsTorn1 v e r w
+half_made v e s r w is x = rw is (torn_at v s r w s.place x)
+
+module _ (payload : Data) (v : List ℕ) (e : Edit) (s : Sealed) (r : List ℕ) (n : ℕ) (u : List ℕ) (is : deed_of e ≡ Seal s) (x : IsSealedNew payload v s r n u) where
+  -- it is a new one
+  pub added : (to : Option ℕ) → s.place ≡ New to → IsDone1 payload v e r (record { slot = Some n }) u
+  added to place = record {
+    unrefused = x.unrefused e is;
+    after = rw (is, place) (record {
+      slot = n;
+      is_new = subst (λ p. IsNewKeyslot v (number_asked p) n) place x.is_new;
+      key = x.key;
+      opened = x.opened;
+      rest = x.made.rest;
+      made = x.made.made;
+      holds = x.made.holds;
+    });
+    told = rw is x.is_new;
+  }
+
+  module _ (h : List ℕ) (of : IsHeaderOf h payload v) (place : s.place ≡ Opened) where
+    least : IsLeastFree v n
+    least = subst (λ p. IsNewKeyslot v (number_asked p) n) place x.is_new
+
+    -- the one that was opened is where it was
+    pub opened_at : {t : Luks1Slot} {a : Area} → IsKeyslotAt v s.opener.slot t a → IsKeyslotAt u s.opener.slot t a
+    opened_at at = still_at h payload v of s.opener.slot n x.used least s.iterations s.passphrase.now x.key r u x.made at
+
+    -- it was removed
+    pub renewed : (w : List ℕ) → IsRemoved u s.opener.slot w → IsDone1 payload v e r (record { slot = Some n }) w
+    renewed w removed = record {
+      unrefused = x.unrefused e is;
+      after = rw (is, place) (changed h payload v of s.opener.slot n x.used least s.iterations s.passphrase.now x.key r u x.made s.opener.passphrase.bytes.now w x.opened removed);
+      told = rw is x.is_new;
+    }
+
+    -- or the device failed meanwhile
+    pub half_renewed : (w : List ℕ) → IsHalfRemoved u s.opener.slot w → Leftover1 v payload e r w
+    half_renewed w half = inr (
+      x.unrefused e is,
+      rw (is, place)
+          (inr (half_changed h payload v of s.opener.slot n x.used least s.iterations s.passphrase.now x.key r u x.made s.opener.passphrase.bytes.now w x.opened half)),
+    )

@@ -1,0 +1,98 @@
+//! Sealing the key of a LUKS1 volume in a new keyslot.
+ghost use Rattle.std.specs.Prelude.{◌≡◌, ◌≢◌, ◌+◌, ◌^◌, ◌<◌, IfErr, IfOk, OnOk};
+ghost use Rattle.luks_area.specs.Device.{CountsFailure, IsSettled};
+ghost use Rattle.luks_edit.specs.Asked.{deed_of};
+ghost use Rattle.luks_edit.specs.EditFaults.{is_edit_failure};
+ghost use Rattle.luks_edit.specs.declared.deed.Deed.TheVariants.{Seal as Seals};
+ghost use Rattle.luks_edit.specs.declared.edit.Edit.{Edit as TheEdit};
+ghost use Rattle.luks1_edits.specs.Accepted.{IsAcceptedAt, IsHeaderOf, IsSealedNew};
+ghost use Rattle.luks1_edits.specs.Replies.{EndsBy1, Replies1};
+
+use crate::accepted::AcceptedHeader;
+use crate::freeing::free_keyslot;
+use crate::keyslots::{judge_new, new_keyslot, number_asked};
+use crate::making::make_keyslot;
+use crate::unlocking::unlock;
+use luks_area::Device;
+use luks_edit::{Done, EditFault, Place, Sealed};
+use luks_reading::luks1_area;
+use std::alloc::Global;
+
+/// Makes a keyslot, the one that is asked for or the least that is free, in which the new passphrase
+/// opens the key that the old one opens. Where the key was to be sealed in the keyslot that was opened,
+/// that one is then removed.
+pub(crate) fn seal<D: Device>(
+    alloc: Global,
+    device: &mut D,
+    header: &AcceptedHeader<'_>,
+    sealed: &Sealed<'_>,
+    random: &[u8],
+) -> Result<Done, EditFault>
+    requires room { D.failed device.old + 1 < 2 ^ 64 }
+    requires settled { D.tells → IsSettled D.unsettled device.old }
+    requires accepted { IsAcceptedAt header.now (D.size device.old) }
+    ensures size { D.size device.new ≡ D.size device.old }
+    ensures settled { D.tells → D.failed device.new ≡ D.failed device.old → IsSettled D.unsettled device.new }
+    ensures count { CountsFailure is_edit_failure result
+        (D.failed device.old) (D.failed device.new) }
+    ensures memory { IfErr result (λ f. f ≢ EditFault.Memory) }
+    ensures replies { D.tells → (e : TheEdit) → deed_of e ≡ Seals sealed.now
+        → IsHeaderOf header.now.bytes.now header.now.data_ (D.bytes device.old)
+        → Replies1 header.now.data_ (D.bytes device.old) e random.now result (D.bytes device.new) }
+{
+    let n = make(alloc, device, header, sealed, random)?;
+    match sealed.place {
+        Place::New { to: _ } => Ok(Done { slot: Some(n) }),
+        Place::Opened => {
+            let opener = sealed.opener.slot;
+            let found = &header.fields.slots[opener as usize];
+            let area = luks1_area(header.fields.common.key_bytes, found);
+            match free_keyslot(device, &header.fields, opener, found, area) {
+                Ok(()) => Ok(Done { slot: Some(n) }),
+                Err(_) => Err(EditFault::Device),
+            }
+        }
+    }
+}
+
+/// Makes the keyslot, and answers its number: nothing refuses the edit then.
+fn make<D: Device>(
+    alloc: Global,
+    device: &mut D,
+    header: &AcceptedHeader<'_>,
+    sealed: &Sealed<'_>,
+    random: &[u8],
+) -> Result<u8, EditFault>
+    requires room { D.failed device.old + 1 < 2 ^ 64 }
+    requires settled { D.tells → IsSettled D.unsettled device.old }
+    requires accepted { IsAcceptedAt header.now (D.size device.old) }
+    ensures size { D.size device.new ≡ D.size device.old }
+    ensures settled { D.tells → D.failed device.new ≡ D.failed device.old → IsSettled D.unsettled device.new }
+    ensures count { CountsFailure is_edit_failure result
+        (D.failed device.old) (D.failed device.new) }
+    ensures memory { IfErr result (λ f. f ≢ EditFault.Memory) }
+    ensures opener { OnOk result (sealed.now.opener.slot < 8) }
+    ensures made { D.tells
+        → IsHeaderOf header.now.bytes.now header.now.data_ (D.bytes device.old)
+        → IfOk result (λ n. IsSealedNew header.now.data_ (D.bytes device.old) sealed.now random.now n
+        (D.bytes device.new)) }
+    ensures refused { D.tells → (e : TheEdit) → deed_of e ≡ Seals sealed.now
+        → IsHeaderOf header.now.bytes.now header.now.data_ (D.bytes device.old)
+        → IfErr result (λ f. EndsBy1 header.now.data_ (D.bytes device.old) e random.now f
+        (D.bytes device.new)) }
+{
+    let opener = sealed.opener;
+    let key = unlock(alloc, device, header, opener.slot, opener.passphrase.bytes)?;
+    let n = new_keyslot(&header.fields, number_asked(sealed.place))?;
+    judge_new(&header.fields, n, sealed.iterations, random)?;
+    make_keyslot(
+        device,
+        header,
+        n,
+        sealed.passphrase,
+        &key,
+        sealed.iterations,
+        random,
+    )?;
+    Ok(n)
+}

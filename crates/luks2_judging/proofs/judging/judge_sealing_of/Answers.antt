@@ -1,0 +1,131 @@
+use Rattle.std.proofs.Common.{◌≡◌, ℕ, ◌<◌, length, sym, ◌∙◌, subst}
+use Rattle.std.proofs.lemmas.Result.{err_from_is_err_and}
+use Rattle.luks_meta.specs.Content.{area_len, content}
+use Rattle.luks_edit.specs.declared.deed.Place.TheVariants.{New, Opened}
+use Rattle.luks_edit.specs.declared.edit.Edit.TheVariants.{Add, Change}
+use Rattle.luks_edit.proofs.AllowedMemory.{short_where_allowed}
+use Rattle.luks_meta.specs.declared.meta.Meta.{Meta}
+use Rattle.luks2_edits.specs.Metadata.{IsInUse, IsKeyArea}
+use Rattle.luks_reading.specs.declared.header.Header.{Header}
+use Rattle.luks_reading.specs.Plans.{HasKeyBytes, HasLuks2KeyBytes}
+use Rattle.luks2_judging.specs.Judged.{IsNewNumber}
+use Rattle.luks2_judging.specs.Room.{IsPlaced}
+use Rattle.luks2_judging.proofs.DeedFacts.{added_is, changed_is, sealed_as}
+use Rattle.luks2_judging.proofs.KeyslotFacts.{sealed_opens, sealed_short, used_of}
+use Rattle.luks2_judging.proofs.ReadFacts.{added_passed, changed_passed, placed_of, read_as, unadded_refused, unchanged_refused, unopened_refused}
+use Rattle.luks2_judging.proofs.judging.judge_sealing_of.Goals as goal
+
+pub returns-in_err-key-clause-refused : goal.returns-in_err-key-clause-refused
+returns-in_err-key-clause-refused g c = λ tells is payload well judged.
+    let read = read_as c.room-room.ensures.meta c.room-room.ensures.entries
+    (g.met.D.Device.sized c.args.device.now tells ∙ sym c.requires.total ∙ sym c.room-room.ensures.total) judged in
+    let p = err_from_is_err_and c.from_residual.result c.from_residual.ensures.1 in
+    rw (p.1, p.2)
+    (unopened_refused read c.in_err-key.field-0.0 (c.in_err-key.ensures.refused tells is payload c.args.edit.now well (sym c.allowed_memory-memory.ensures)
+    (sealed_opens c.args.edit.now c.args.sealed.now c.requires.asked)))
+
+pub judge_addition-requires-clause-there : goal.judge_addition-requires-clause-there
+judge_addition-requires-clause-there g c =
+    subst (λ (m : Meta). IsInUse (content m) c.args.sealed.now.opener.slot) (sym c.room-room.ensures.meta)
+    (used_of (content c.args.accepted.now.copy.now.meta) c.args.edit.now c.args.sealed.now.opener.slot c.args.sealed.now.opener.passphrase.bytes.now (sealed_opens c.args.edit.now c.args.sealed.now c.requires.asked) c.requires.there)
+
+pub returns-in_err-addition-in-New-clause-refused : goal.returns-in_err-addition-in-New-clause-refused
+returns-in_err-addition-in-New-clause-refused g c = λ tells is payload well judged.
+    let read = read_as c.room-room.ensures.meta c.room-room.ensures.entries
+    (g.met.D.Device.sized c.args.device.now tells ∙ sym c.requires.total ∙ sym c.room-room.ensures.total) judged in
+    let p = err_from_is_err_and c.from_residual-in_err-addition-in-New.result c.from_residual-in_err-addition-in-New.ensures.1 in
+    rw (p.1, p.2)
+    (unadded_refused read (c.in_ok-key.ensures.opened tells is c.args.edit.now (sym c.allowed_memory-memory.ensures) (sealed_opens c.args.edit.now c.args.sealed.now c.requires.asked)).past (added_is c.args.edit.now c.args.sealed.now c.in-New.to c.requires.asked c.in-New.is) c.in_err-addition-in-New.field-0.0
+    (c.in_err-addition-in-New.ensures.refused payload read.lists))
+
+pub judge_renewal-requires-clause-there : goal.judge_renewal-requires-clause-there
+judge_renewal-requires-clause-there g c =
+    subst (λ (m : Meta). IsInUse (content m) c.args.sealed.now.opener.slot) (sym c.room-room.ensures.meta)
+    (used_of (content c.args.accepted.now.copy.now.meta) c.args.edit.now c.args.sealed.now.opener.slot c.args.sealed.now.opener.passphrase.bytes.now (sealed_opens c.args.edit.now c.args.sealed.now c.requires.asked) c.requires.there)
+
+pub returns-in_err-renewal-in-Opened-clause-refused : goal.returns-in_err-renewal-in-Opened-clause-refused
+returns-in_err-renewal-in-Opened-clause-refused g c = λ tells is payload well judged.
+    let read = read_as c.room-room.ensures.meta c.room-room.ensures.entries
+    (g.met.D.Device.sized c.args.device.now tells ∙ sym c.requires.total ∙ sym c.room-room.ensures.total) judged in
+    let p = err_from_is_err_and c.from_residual-in_err-renewal-in-Opened.result c.from_residual-in_err-renewal-in-Opened.ensures.1 in
+    rw (p.1, p.2)
+    (unchanged_refused read (c.in_ok-key.ensures.opened tells is c.args.edit.now (sym c.allowed_memory-memory.ensures) (sealed_opens c.args.edit.now c.args.sealed.now c.requires.asked)).past (changed_is c.args.edit.now c.args.sealed.now c.requires.asked c.in-Opened.is) c.in_err-renewal-in-Opened.field-0.0
+    (c.in_err-renewal-in-Opened.ensures.refused payload read.lists))
+
+pub returns-in_ok-addition-in-New-clause-seals : goal.returns-in_ok-addition-in-New-clause-seals
+returns-in_ok-addition-in-New-clause-seals g c = λ tells is payload judged.
+    let read = read_as c.room-room.ensures.meta c.room-room.ensures.entries
+    (g.met.D.Device.sized c.args.device.now tells ∙ sym c.requires.total ∙ sym c.room-room.ensures.total) judged in (
+      (c.in_ok-key.ensures.opened tells is c.args.edit.now (sym c.allowed_memory-memory.ensures) (sealed_opens c.args.edit.now c.args.sealed.now c.requires.asked)).gives,
+      placed_of read c.room-room.ensures.meta (c.in_ok-addition-in-New.ensures.area payload read.lists),
+    )
+
+pub returns-in_ok-addition-in-New-clause-passed : goal.returns-in_ok-addition-in-New-clause-passed
+returns-in_ok-addition-in-New-clause-passed g c = λ tells is payload judged.
+    let read = read_as c.room-room.ensures.meta c.room-room.ensures.entries
+    (g.met.D.Device.sized c.args.device.now tells ∙ sym c.requires.total ∙ sym c.room-room.ensures.total) judged in
+    let added = c.in_ok-addition-in-New.addition in
+    let asked : c.args.edit.now ≡ Add added.by_ c.args.sealed.now.opener.passphrase c.args.sealed.now.passphrase c.in-New.to added.iterations =
+    rw (c.in_ok-addition-in-New.ensures.like, c.in_ok-addition-in-New.ensures.iterations) (added_is c.args.edit.now c.args.sealed.now c.in-New.to c.requires.asked c.in-New.is) in
+    added_passed read (c.in_ok-key.ensures.opened tells is c.args.edit.now (sym c.allowed_memory-memory.ensures) (sealed_opens c.args.edit.now c.args.sealed.now c.requires.asked)).past asked
+    c.in_ok-addition-in-New.ensures.number c.in_ok-addition-in-New.ensures.iterated (c.in_ok-addition-in-New.ensures.area payload read.lists)
+
+pub returns-in_ok-renewal-in-Opened-clause-seals : goal.returns-in_ok-renewal-in-Opened-clause-seals
+returns-in_ok-renewal-in-Opened-clause-seals g c = λ tells is payload judged.
+    let read = read_as c.room-room.ensures.meta c.room-room.ensures.entries
+    (g.met.D.Device.sized c.args.device.now tells ∙ sym c.requires.total ∙ sym c.room-room.ensures.total) judged in (
+      (c.in_ok-key.ensures.opened tells is c.args.edit.now (sym c.allowed_memory-memory.ensures) (sealed_opens c.args.edit.now c.args.sealed.now c.requires.asked)).gives,
+      placed_of read c.room-room.ensures.meta (c.in_ok-renewal-in-Opened.ensures.area payload read.lists),
+    )
+
+pub returns-in_ok-renewal-in-Opened-clause-takes : goal.returns-in_ok-renewal-in-Opened-clause-takes
+returns-in_ok-renewal-in-Opened-clause-takes g c =
+    let meta = c.args.accepted.now.copy.now.meta in
+    let r = c.in_ok-renewal-in-Opened.renewal in
+    let said = c.in_ok-renewal-in-Opened.ensures in
+    let key = c.in_ok-key.key in
+    let used = used_of (content meta) c.args.edit.now c.args.sealed.now.opener.slot c.args.sealed.now.opener.passphrase.bytes.now (sealed_opens c.args.edit.now c.args.sealed.now c.requires.asked) c.requires.there in
+    let is = subst (λ (m : Meta). IsKeyArea (content m) r.slot r.lost) c.room-room.ensures.meta said.lost in
+    record {
+      old = c.args.sealed.now.opener.passphrase;
+      asked = sealed_as c.args.edit.now c.args.sealed.now Opened r.slot r.iterations c.requires.asked c.in-Opened.is said.slot said.iterations;
+      there = subst (λ (n : ℕ). IsInUse (content meta) n) (sym said.slot) used;
+      key_length = subst (λ (n : ℕ). HasLuks2KeyBytes (content meta) n (length key)) (sym said.slot)
+          (subst (λ (h : Header). HasKeyBytes h c.args.sealed.now.opener.slot (length key)) c.requires.copy c.in_ok-key.ensures.length);
+      placed = subst (λ (t : ℕ). IsPlaced (area_len meta) (content meta) t r.slot r.area) (c.room-room.ensures.total ∙ c.requires.total)
+          (subst (λ (m : Meta). IsPlaced (area_len m) (content m) c.room-room.result.total r.slot r.area) c.room-room.ensures.meta said.placed);
+      iterated = said.iterated;
+      lost = record { is = is; inside = c.requires.key_areas r.slot r.lost is };
+    }
+
+pub returns-in_ok-renewal-in-Opened-clause-passed : goal.returns-in_ok-renewal-in-Opened-clause-passed
+returns-in_ok-renewal-in-Opened-clause-passed g c = λ tells is payload judged.
+    let read = read_as c.room-room.ensures.meta c.room-room.ensures.entries
+    (g.met.D.Device.sized c.args.device.now tells ∙ sym c.requires.total ∙ sym c.room-room.ensures.total) judged in
+    let renewed = c.in_ok-renewal-in-Opened.renewal in
+    let asked : c.args.edit.now ≡ Change renewed.slot c.args.sealed.now.opener.passphrase c.args.sealed.now.passphrase renewed.iterations =
+    rw (c.in_ok-renewal-in-Opened.ensures.slot, c.in_ok-renewal-in-Opened.ensures.iterations) (changed_is c.args.edit.now c.args.sealed.now c.requires.asked c.in-Opened.is) in
+    changed_passed read (c.in_ok-key.ensures.opened tells is c.args.edit.now (sym c.allowed_memory-memory.ensures) (sealed_opens c.args.edit.now c.args.sealed.now c.requires.asked)).past asked
+    c.in_ok-renewal-in-Opened.ensures.iterated (c.in_ok-renewal-in-Opened.ensures.area payload read.lists)
+
+pub unlock-requires-clause-passphrase : goal.unlock-requires-clause-passphrase
+unlock-requires-clause-passphrase g c = λ some.
+    sealed_short c.args.edit.now c.args.sealed.now c.requires.asked (short_where_allowed c.args.edit.now (subst (λ m. 0 < m) c.allowed_memory-memory.ensures some))
+
+pub returns-in_ok-addition-in-New-clause-takes : goal.returns-in_ok-addition-in-New-clause-takes
+returns-in_ok-addition-in-New-clause-takes g c =
+    let meta = c.args.accepted.now.copy.now.meta in
+    let a = c.in_ok-addition-in-New.addition in
+    let said = c.in_ok-addition-in-New.ensures in
+    let key = c.in_ok-key.key in
+    record {
+      old = c.args.sealed.now.opener.passphrase;
+      to = c.in-New.to;
+      asked = sealed_as c.args.edit.now c.args.sealed.now (New c.in-New.to) a.by_ a.iterations c.requires.asked c.in-New.is said.like said.iterations;
+      number = subst (λ (m : Meta). IsNewNumber (content m) c.in-New.to a.made) c.room-room.ensures.meta said.number;
+      key_length = subst (λ (n : ℕ). HasLuks2KeyBytes (content meta) n (length key)) (sym said.like)
+          (subst (λ (h : Header). HasKeyBytes h c.args.sealed.now.opener.slot (length key)) c.requires.copy c.in_ok-key.ensures.length);
+      placed = subst (λ (t : ℕ). IsPlaced (area_len meta) (content meta) t a.by_ a.area) (c.room-room.ensures.total ∙ c.requires.total)
+          (subst (λ (m : Meta). IsPlaced (area_len m) (content m) c.room-room.result.total a.by_ a.area) c.room-room.ensures.meta said.placed);
+      iterated = said.iterated;
+    }
