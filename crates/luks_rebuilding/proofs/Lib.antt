@@ -1,5 +1,7 @@
 pub mod SlotFacts
 pub mod SearchFacts
+pub mod SourceFacts
+pub mod VouchFacts
 pub mod CopyFacts
 pub mod UuidFacts
 pub mod FaultFacts
