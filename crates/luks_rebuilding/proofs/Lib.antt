@@ -1,5 +1,6 @@
 pub mod SlotFacts
 pub mod SearchFacts
+pub mod SizedFacts
 pub mod SourceFacts
 pub mod VouchFacts
 pub mod CopyFacts

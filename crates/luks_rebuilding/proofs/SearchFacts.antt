@@ -111,17 +111,17 @@ place_eta First q at = ap (λ a. let r : Place = record { size = q.size; at = a 
 place_eta Second q at = ap (λ a. let r : Place = record { size = q.size; at = a } in r) at
 
 -- the key of a first copy, and of a second
-key_first : (q : Place) → q.at ≡ 0 → place_key q ≡ 1 ∷ q.size ∷ []
+pub key_first : (q : Place) → q.at ≡ 0 → place_key q ≡ 1 ∷ q.size ∷ []
 key_first q at = ap (λ a. (if a == 0 then 1 else 2) ∷ q.size ∷ []) at
 
 eqb-not : (n : ℕ) → n ≢ 0 → (n == 0) ≡ false
 eqb-not n other = elim (cases_Bool (n == 0)) [ inl is ↦ absurd (other (eqb-true n 0 is)) | inr differs ↦ differs ]
 
-key_second : (q : Place) → q.at ≢ 0 → place_key q ≡ 2 ∷ q.size ∷ []
+pub key_second : (q : Place) → q.at ≢ 0 → place_key q ≡ 2 ∷ q.size ∷ []
 key_second q other = ap (λ (b : Bool). (if b then 1 else 2) ∷ q.size ∷ []) (eqb-not q.at other)
 
-not_after_as : (a b : Place) (xs ys : List ℕ) → place_key a ≡ xs → place_key b ≡ ys → NotAfter xs ys → NotAfter (place_key a) (place_key b)
-not_after_as a b xs ys p q n = subst (λ (l : List ℕ). NotAfter l (place_key b)) (sym p) (subst (λ (l : List ℕ). NotAfter xs l) (sym q) n)
+pub place_not_after : (a b : Place) (xs ys : List ℕ) → place_key a ≡ xs → place_key b ≡ ys → NotAfter xs ys → NotAfter (place_key a) (place_key b)
+place_not_after a b xs ys p q n = subst (λ (l : List ℕ). NotAfter l (place_key b)) (sym p) (subst (λ (l : List ℕ). NotAfter xs l) (sym q) n)
 
 module _ (v : List ℕ) where
   whole_of : (which : Which) (q : Place) → IsCandidate v which q → IsWholeAt v q
@@ -155,10 +155,10 @@ module _ (v : List ℕ) where
   first_least_of q zero least g is = elim (as_half ask.Any g is) [
     | inl first ↦ (
         let le = least g.size is.is_place.listed first.1 in
-        not_after_as q g (1 ∷ q.size ∷ []) (1 ∷ g.size ∷ []) (key_first q zero) (key_first g first.0)
+        place_not_after q g (1 ∷ q.size ∷ []) (1 ∷ g.size ∷ []) (key_first q zero) (key_first g first.0)
         (omega arith, λ e. (omega (arith, le), λ f. tt)))
     | inr second ↦
-        not_after_as q g (1 ∷ q.size ∷ []) (2 ∷ g.size ∷ []) (key_first q zero) (key_second g second.0)
+        place_not_after q g (1 ∷ q.size ∷ []) (2 ∷ g.size ∷ []) (key_first q zero) (key_second g second.0)
         (omega arith, λ e. absurd (omega (arith, e)))
   ]
 
@@ -169,7 +169,7 @@ module _ (v : List ℕ) where
     | inl first ↦ absurd (none g is first.0)
     | inr second ↦ (
         let le = least g.size is.is_place.listed second.1 in
-        not_after_as q g (2 ∷ q.size ∷ []) (2 ∷ g.size ∷ []) (key_second q other) (key_second g second.0)
+        place_not_after q g (2 ∷ q.size ∷ []) (2 ∷ g.size ∷ []) (key_second q other) (key_second g second.0)
         (omega arith, λ e. (omega (arith, le), λ f. tt)))
   ]
 

@@ -59,7 +59,7 @@ vouched_taken v which s x = (
   λ g is. elim is [
     | inl vouched ↦ x.1 g vouched
     | inr plain ↦ vouched_before s g x.0.0 plain.0
-  ]
+  ],
 )
 
 module _ (v : List ℕ) (which : Which) (c : Candidate) (plain : c.vouch ≡ None) (read : c.json.items ≡ json_of v c.place) where
@@ -83,7 +83,7 @@ module _ (v : List ℕ) (which : Which) (c : Candidate) (plain : c.vouch ≡ Non
       | inl vouched ↦ absurd (none g vouched)
       | inr other ↦ not_after_as (source_key (source_of c)) (source_key g) _ _ (key_plain (source_of c) not_vouched) (key_plain g other.0)
           (omega arith, λ e. x.1 (place_of_source g) other.1.candidate)
-    ]
+    ],
   )
 
 -- ---- there is one

@@ -26,11 +26,13 @@ not_after_then (x ∷ xs) [] zs p q = absurd p
 not_after_then (x ∷ xs) (y ∷ ys) [] p q = absurd q
 not_after_then (x ∷ xs) (y ∷ ys) (z ∷ zs) p q =
     let a = p.0 in
-    let b = q.0 in
-    (omega (arith, a, b), λ e.
-      let one : x ≡ y = omega (arith, a, b, e) in
-      let two : y ≡ z = omega (arith, a, b, e) in
-      not_after_then xs ys zs (p.1 one) (q.1 two))
+    let b = q.0 in (
+      omega (arith, a, b),
+      λ e.
+          let one : x ≡ y = omega (arith, a, b, e) in
+          let two : y ≡ z = omega (arith, a, b, e) in
+          not_after_then xs ys zs (p.1 one) (q.1 two),
+    )
 
 module _ (v : List ℕ) (which : Which) where
   -- among fewer sources the first is the first of these
@@ -100,10 +102,13 @@ searched_now : (half : Half) (size : ℕ) (left : List ℕ) (s : Source) → IsS
 searched_now half size left s (inl earlier) = inr (inl earlier)
 searched_now half size left s (inr here) = elim (cases_Bool (size == s.size)) [
   | inl is ↦ inl (here.0, sym (eqb-true size s.size is))
-  | inr other ↦ inr (inr (here.0, λ among. elim (or_cases (size == s.size) (is_among s.size left) among) [
+  | inr other ↦ inr (inr (
+    here.0,
+    λ among. elim (or_cases (size == s.size) (is_among s.size left) among) [
       | inl is ↦ false≢true (sym other ∙ is)
       | inr after ↦ here.1 after
-    ]))
+    ],
+  ))
 ]
 
 at_place : (half : Half) (size : ℕ) (s : Source) → IsOfHalf half s → s.size ≡ size → place_of_source s ≡ place_of half size
@@ -116,7 +121,7 @@ module _ (v : List ℕ) (which : Which) (half : Half) (size : ℕ) (left : List 
       → NotAfter (source_key (source_of c)) (source_key s)
   one_copy c found s is there =
       let same : source_of c ≡ s = one_vouched_source v which (source_of c) s found.1 is
-          (ap (λ (q : Place). q.size) (found.0 ∙ sym there)) (ap (λ (q : Place). q.at) (found.0 ∙ sym there)) in
+      (ap (λ (q : Place). q.size) (found.0 ∙ sym there)) (ap (λ (q : Place). q.at) (found.0 ∙ sym there)) in
       subst (λ (x : Source). NotAfter (source_key (source_of c)) (source_key x)) same (not_after_same (source_key (source_of c)))
     where
       not_after_same : (xs : List ℕ) → NotAfter xs xs
@@ -129,14 +134,20 @@ module _ (v : List ℕ) (which : Which) (half : Half) (size : ℕ) (left : List 
     | inl now ↦ y s vouched (at_place half size s now.0 now.1)
     | inr before ↦ x s vouched before
   ])
-  best_after None (Some c) new x y is = subst (IsBestOf v which (IsSearched half left)) (sym is) (y.1, λ s vouched there. elim (searched_now half size left s there) [
-    | inl now ↦ one_copy c y s vouched (at_place half size s now.0 now.1)
-    | inr before ↦ absurd (x s vouched before)
-  ])
-  best_after (Some a) None new x y is = subst (IsBestOf v which (IsSearched half left)) (sym is) (x.0, λ s vouched there. elim (searched_now half size left s there) [
-    | inl now ↦ absurd (y s vouched (at_place half size s now.0 now.1))
-    | inr before ↦ x.1 s vouched before
-  ])
+  best_after None (Some c) new x y is = subst (IsBestOf v which (IsSearched half left)) (sym is) (
+    y.1,
+    λ s vouched there. elim (searched_now half size left s there) [
+      | inl now ↦ one_copy c y s vouched (at_place half size s now.0 now.1)
+      | inr before ↦ absurd (x s vouched before)
+    ],
+  )
+  best_after (Some a) None new x y is = subst (IsBestOf v which (IsSearched half left)) (sym is) (
+    x.0,
+    λ s vouched there. elim (searched_now half size left s there) [
+      | inl now ↦ absurd (y s vouched (at_place half size s now.0 now.1))
+      | inr before ↦ x.1 s vouched before
+    ],
+  )
   best_after (Some a) (Some c) None x y is = absurd is
   best_after (Some a) (Some c) (Some n) x y is = (
     elim is.0 [
@@ -146,5 +157,5 @@ module _ (v : List ℕ) (which : Which) (half : Half) (size : ℕ) (left : List 
     λ s vouched there. elim (searched_now half size left s there) [
       | inl now ↦ not_after_then (source_key (source_of n)) (source_key (source_of c)) (source_key s) is.2 (one_copy c y s vouched (at_place half size s now.0 now.1))
       | inr before ↦ not_after_then (source_key (source_of n)) (source_key (source_of a)) (source_key s) is.1 (x.1 s vouched before)
-    ]
+    ],
   )

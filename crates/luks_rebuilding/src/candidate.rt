@@ -1,9 +1,9 @@
 //! The metadata of which a header is made.
-ghost use Rattle.std.specs.Prelude.{◌≡◌, ◌≢◌, ◌+◌, ◌^◌, ◌<◌, IfOk, IfErr, None, OnOk, IfSome, Some};
+ghost use Rattle.std.specs.Prelude.{◌≡◌, ◌≢◌, ◌↔◌, ◌+◌, ◌^◌, ◌<◌, IfOk, IfErr, IsTrue, None, OnOk, IfSome, Some};
 ghost use Rattle.luks_area.specs.Device.{CountsFailure, IsUnchanged};
 ghost use Rattle.luks_head.specs.Selection.{nothing, Chosen};
 ghost use Rattle.luks_rebuilding.specs.Found.{BreaksFirst, FindsFirst, IsCounted, IsCountedFor, IsFoundIn, IsFromOutside, IsNotPlain, IsWhole};
-ghost use Rattle.luks_rebuilding.specs.Outcome.{IsNotFound, PassesCounts};
+ghost use Rattle.luks_rebuilding.specs.Outcome.{IsNotFound, MayCount, PassesCounts};
 ghost use Rattle.luks_rebuilding.specs.RebuildFaults.{is_rebuild_failure};
 
 use crate::place::{Half, Place, Which};
@@ -56,11 +56,7 @@ pub fn find_candidate<D: Device>(
 }
 
 /// Refuses a volume of which a header counts, unless it may.
-fn pass_counting<D: Device>(
-    alloc: Global,
-    source: &mut D,
-    which: Which,
-) -> Result<(), RebuildFault>
+fn pass_counting<D: Device>(alloc: Global, source: &mut D, which: Which) -> Result<(), RebuildFault>
     requires { D.failed source.old + 1 < 2 ^ 64 }
     ensures unchanged { IsUnchanged D.tells D.size D.bytes D.unsettled source.old source.new }
     ensures count { CountsFailure is_rebuild_failure result
@@ -68,9 +64,20 @@ fn pass_counting<D: Device>(
     ensures passes { D.tells → OnOk result (PassesCounts (D.bytes source.old) which) }
     ensures refused { D.tells → IfErr result (IsCountedFor (D.bytes source.old) which) }
 {
+    if may_count(which) {
+        Ok(())
+    } else {
+        nothing_counts(alloc, source)
+    }
+}
+
+/// Whether a header of the source may count.
+fn may_count(which: Which) -> bool
+    ensures { IsTrue result ↔ MayCount which }
+{
     match which {
-        Which::Any => nothing_counts(alloc, source),
-        _ => Ok(()),
+        Which::Any => false,
+        Which::Second | Which::OfSize(_) | Which::SecondOfSize(_) => true,
     }
 }
 

@@ -2,7 +2,7 @@
 ghost use Rattle.std.specs.Prelude.{◌≡◌, ◌≢◌, ◌↔◌, ◌+◌, ◌-◌, ◌^◌, ◌<◌, ◌≤◌, ◌⊎◌, codes, length, IfOk, IfErr, IfSome, IsTrue, None, OnOk};
 ghost use Rattle.luks_area.specs.Device.{CountsFailure, IsUnchanged, is_failure};
 ghost use Rattle.luks_area.specs.Ranges.{part};
-ghost use Rattle.luks_head.specs.Sizes.{IsListed};
+ghost use Rattle.luks_head.specs.Sizes.{is_listed, IsListed};
 ghost use Rattle.luks_rebuilding.specs.Candidates.{json_of, IsPlace};
 ghost use Rattle.luks_rebuilding.specs.Found.{place_of, BreaksAt, BreaksHalf, FindsAt, FindsHalf, IsFromOutside, IsWhole};
 ghost use Rattle.luks_rebuilding.specs.RebuildFaults.{is_rebuild_failure};
@@ -21,6 +21,13 @@ const BINARY_HEADER: u64 = 4096;
 pub(crate) const LISTED_SIZES: [u64; 9] = [
     0x4000, 0x8000, 0x1_0000, 0x2_0000, 0x4_0000, 0x8_0000, 0x10_0000, 0x20_0000, 0x40_0000,
 ];
+
+/// Whether a copy may have this size.
+fn is_listed(size: u64) -> bool
+    ensures { result ≡ is_listed size }
+{
+    LISTED_SIZES.contains(&size)
+}
 
 /// The metadata that is whole, of the copy of the least size.
 pub(crate) fn least_of<D: Device>(
@@ -66,7 +73,7 @@ pub(crate) fn found_of<D: Device>(
     ensures found { D.tells → IfOk result (FindsAt (D.bytes source.old) (place_of half size)) }
     ensures broken { D.tells → IfErr result (BreaksAt (D.bytes source.old) (place_of half size)) }
 {
-    if LISTED_SIZES.contains(&size) {
+    if is_listed(size) {
         whole_at(alloc, source, place_of(half, size))
     } else {
         Ok(None)
@@ -103,7 +110,12 @@ fn whole_at<D: Device>(
     match Meta::read(alloc, &json) {
         Ok(meta) => {
             let vouch = None;
-            Ok(Some(Candidate { place, json, meta, vouch }))
+            Ok(Some(Candidate {
+                place,
+                json,
+                meta,
+                vouch,
+            }))
         }
         Err(fault) => {
             pass_over(fault)?;

@@ -60,9 +60,11 @@ returns-in-Ok-Some-clause-found g c = λ t.
     let k : Candidate = c.candidate_of.result in
     let there : k.place ≡ c.args.place = c.candidate_of.ensures.place in
     let x = rw c.in-Ok-Some.field-0-is at c.in-Ok-Some.ensures.found t in
-    let json = ap (λ j. j.items) c.candidate_of.ensures.json in
-    (there, found_there v c.args.which c.in-Ok-Some.found k
-      (subst (IsAsked c.args.which) (sym there) (c.is_asked.ensures.0 c.if-not-is_asked.false))
-      (subst (λ (q : Place). IsVouched v q.size q.at k.json.items) (sym there) (subst (IsVouched v c.args.place.size c.args.place.at) (sym json) x.0))
-      (subst (λ (q : Place). HoldsBin2 (mended_header v q.at) c.in-Ok-Some.found.header) (sym there) x.1)
-      c.candidate_of.ensures.vouch)
+    let json = ap (λ j. j.items) c.candidate_of.ensures.json in (
+      there,
+      found_there v c.args.which c.in-Ok-Some.found k
+          (subst (IsAsked c.args.which) (sym there) (c.is_asked.ensures.0 c.if-not-is_asked.false))
+          (subst (λ (q : Place). IsVouched v q.size q.at k.json.items) (sym there) (subst (IsVouched v c.args.place.size c.args.place.at) (sym json) x.0))
+          (subst (λ (q : Place). HoldsBin2 (mended_header v q.at) c.in-Ok-Some.found.header) (sym there) x.1)
+          c.candidate_of.ensures.vouch,
+    )
