@@ -6,6 +6,7 @@ pub mod VouchFacts
 pub mod CopyFacts
 pub mod UuidFacts
 pub mod FaultFacts
+pub mod FoundFacts
 pub mod RegionFacts
 pub mod WrittenFacts
 pub mod GivesFacts

@@ -50,7 +50,7 @@ pub fn find_candidate<D: Device>(
 {
     pass_counting(alloc, source, which)?;
     match first_vouched(alloc, source, which)? {
-        Some(found) => Ok(found),
+        Some(vouched) => Ok(vouched),
         None => first_plain(alloc, source, which),
     }
 }

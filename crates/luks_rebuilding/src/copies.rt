@@ -53,7 +53,8 @@ pub(crate) fn write_rebuilt_copy<D: Device>(
         (D.bytes device.old) (D.bytes device.new) }
 {
     let header = new_header(found, at, uuid, salt);
-    write_copy(device, &header, &found.json)
+    let json = found.json.as_slice();
+    write_copy(device, &header, json)
 }
 
 /// The binary header, whose checksum is made where it is written.
