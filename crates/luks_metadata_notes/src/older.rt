@@ -59,10 +59,18 @@ fn is_older(found: &Candidate, start: &Bin2, second: &Bin2) -> bool {
 /// Whether both headers have a uuid, and these differ in more than one digit: one may be a wrong bit.
 fn differ(start: &Bin2, second: &Bin2) -> bool {
     match (start.uuid(), second.uuid()) {
-        (Ok(one), Ok(other)) => {
-            let pairs = one.as_bytes().iter().zip(other.as_bytes().iter());
-            1 < pairs.filter(|(a, b)| a != b).count()
-        }
+        (Ok(one), Ok(other)) => 1 < differing(one.as_bytes(), other.as_bytes()),
         _ => false,
     }
+}
+
+/// How many bytes of both differ, as far as the shorter goes.
+fn differing(one: &[u8], other: &[u8]) -> u8 {
+    let mut count: u8 = 0;
+    for (a, b) in one.iter().zip(other.iter()) {
+        if *a != *b {
+            count = count.saturating_add(1);
+        }
+    }
+    count
 }

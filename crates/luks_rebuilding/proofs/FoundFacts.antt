@@ -1,43 +1,19 @@
 -- Which candidate is found, and why none is.
 use Rattle.std.proofs.Common.{◌≡◌, List, ℕ, inl, inr, Option, Some, None, Result, Ok, Err, IfOk, IfErr, OnOk}
 use Rattle.luks_head.specs.Selection.{nothing, Chosen}
-use Rattle.luks_rebuilding.specs.Candidates.{IsVouchedOf, Source}
-use Rattle.luks_rebuilding.specs.Found.{source_of, BreaksFirst, FindsFirst, FindsVouchedFirst, IsCounted, IsCountedFor, IsFoundIn, IsNotPlain}
-use Rattle.luks_rebuilding.specs.Outcome.{IsNotFound, MayCount, PassesCounts}
+use Rattle.luks_rebuilding.specs.Found.{source_of, FindsFirst, FindsVouchedFirst, IsFoundIn, IsNotPlain}
+use Rattle.luks_rebuilding.specs.Outcome.{IsNotFound, PassesCounts}
 use Rattle.luks_rebuilding.specs.declared.candidate.Candidate.{Candidate}
 use Rattle.luks_rebuilding.specs.declared.place.Which.{Which}
 use Rattle.luks_rebuilding.specs.declared.rebuild_fault.RebuildFault.{RebuildFault}
-use Rattle.luks_rebuilding.specs.declared.rebuild_fault.RebuildFault.TheVariants.{Counts, NoMetadata, Area, TooSmall, Uuid, RandomLength, Memory, Device}
 use Rattle.luks_rebuilding.proofs.FaultFacts.{plain_not_found}
 use Rattle.luks_rebuilding.proofs.SourceFacts.{plain_taken, vouched_taken}
 
 module _ (v : List ℕ) (which : Which) where
-  -- where none that counts may, the fault of one that counts is that of a call
-  pub counted_for : (MayCount which → ⊥) → {A : Type 0} (r : Result A RebuildFault) → IfErr r (IsCounted v) → IfErr r (IsCountedFor v which)
-  counted_for may_not (Ok a) x = tt
-  counted_for may_not (Err Counts) x = (x, may_not)
-  counted_for may_not (Err Device) x = tt
-  counted_for may_not (Err NoMetadata) x = absurd x
-  counted_for may_not (Err (Area f)) x = absurd x
-  counted_for may_not (Err TooSmall) x = absurd x
-  counted_for may_not (Err Uuid) x = absurd x
-  counted_for may_not (Err RandomLength) x = absurd x
-  counted_for may_not (Err Memory) x = absurd x
-
+  -- where nothing counts, the call passes
   pub passes_so : {A F : Type 0} (r : Result A F) → OnOk r (Chosen v nothing) → OnOk r (PassesCounts v which)
   passes_so (Ok a) x = inl x
   passes_so (Err f) x = tt
-
-  -- a search that was broken off finds none
-  pub broken_plain : (f : RebuildFault) → BreaksFirst v which f → IsNotPlain v which f
-  broken_plain Memory x = x
-  broken_plain Device x = tt
-  broken_plain Counts x = absurd x
-  broken_plain NoMetadata x = absurd x
-  broken_plain (Area f) x = absurd x
-  broken_plain TooSmall x = absurd x
-  broken_plain Uuid x = absurd x
-  broken_plain RandomLength x = absurd x
 
   -- what is vouched for is found
   pub vouched_found : (c : Candidate) → PassesCounts v which → FindsVouchedFirst v which (Some c) → IsFoundIn v which c

@@ -4,7 +4,7 @@ use crate::sources::{source_of, which_of};
 use luks_area::MemDevice;
 use luks_reading::{Data, check};
 use luks_rebuilding::{RebuildFault, rebuild};
-use luks_test_devices::{counted, is_sum, old_bytes};
+use luks_test_devices::{counted, is_sum, old_bytes, two_hashes};
 use std::alloc::Global;
 use std::test::Fail;
 
@@ -17,8 +17,8 @@ fn answer_text(alloc: Global, answer: Result<(), RebuildFault>) -> Result<String
 }
 
 /// Whether the answer and the target are those that are owed to a row, and the source is as it was.
-fn holds(alloc: Global, row: &Row) -> Result<bool, Fail> {
-    let image = source_of(alloc, row)?;
+fn holds(alloc: Global, volume: &[u8], row: &Row) -> Result<bool, Fail> {
+    let image = source_of(alloc, volume, row)?;
     let mut source = MemDevice::new(image.to_vec(alloc)?);
     let mut target = MemDevice::new(old_bytes(alloc, row.target)?);
     let random = counted(alloc, 0, row.random)?;
@@ -31,18 +31,20 @@ fn holds(alloc: Global, row: &Row) -> Result<bool, Fail> {
 
 #[test]
 fn bytes_of_the_new_header(rt: HostRuntime) -> Result<(), Fail> {
+    let volume = two_hashes(rt.alloc())?;
     for row in ROWS.iter() {
         let what = row.what;
-        assert!(rt; holds(rt.alloc(), row)?, "{what}");
+        assert!(rt; holds(rt.alloc(), &volume, row)?, "{what}");
     }
     Ok(())
 }
 
 #[test]
 fn refusals(rt: HostRuntime) -> Result<(), Fail> {
+    let volume = two_hashes(rt.alloc())?;
     for row in REFUSALS.iter() {
         let what = row.what;
-        assert!(rt; holds(rt.alloc(), row)?, "{what}");
+        assert!(rt; holds(rt.alloc(), &volume, row)?, "{what}");
     }
     Ok(())
 }
@@ -51,9 +53,10 @@ fn refusals(rt: HostRuntime) -> Result<(), Fail> {
 #[test]
 fn accepted(rt: HostRuntime) -> Result<(), Fail> {
     let alloc = rt.alloc();
+    let volume = two_hashes(alloc)?;
     for row in ROWS.iter() {
         let what = row.what;
-        let mut source = MemDevice::new(source_of(alloc, row)?);
+        let mut source = MemDevice::new(source_of(alloc, &volume, row)?);
         let mut target = MemDevice::new(old_bytes(alloc, row.target)?);
         let random = counted(alloc, 0, row.random)?;
         let answer = rebuild(

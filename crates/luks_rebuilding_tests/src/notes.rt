@@ -150,14 +150,15 @@ fn row_of(what: &str) -> Option<&'static Row> {
 #[test]
 fn after_a_header_was_made(rt: HostRuntime) -> Result<(), Fail> {
     let alloc = rt.alloc();
+    let volume = two_hashes(alloc)?;
     for said in SAID.iter() {
         let what = said.what;
         let Some(row) = row_of(what) else {
             return Err("no row".into());
         };
-        let volume = source_of(alloc, row)?;
+        let source = source_of(alloc, &volume, row)?;
         assert!(rt;
-            is_said_after(alloc, volume, which_of(row), said.lines),
+            is_said_after(alloc, source, which_of(row), said.lines),
             "{what}"
         );
     }

@@ -11,11 +11,11 @@ pub(crate) const LEN: usize = 66048;
 /// The random bytes that rebuilding takes.
 pub(crate) const RANDOM: usize = 144;
 
-/// The source of a row.
-pub(crate) fn source_of(alloc: Global, row: &Row) -> Result<Vec<u8>, Fail> {
-    let mut volume = two_hashes(alloc)?;
-    put_all(&mut volume, row.runs, row.changes);
-    Ok(part(&volume, 0, row.source).to_vec(alloc)?)
+/// The source of a row: so much of this volume, with its changes.
+pub(crate) fn source_of(alloc: Global, volume: &[u8], row: &Row) -> Result<Vec<u8>, Fail> {
+    let mut source = volume.to_vec(alloc)?;
+    put_all(&mut source, row.runs, row.changes);
+    Ok(part(&source, 0, row.source).to_vec(alloc)?)
 }
 
 /// Which copies are asked for.

@@ -1,35 +1,21 @@
 use Rattle.std.proofs.Common.{◌∙◌, List, ℕ, IfErr, IfOk, None, Some, subst}
-use Rattle.std.proofs.lemmas.Result.{err_from_is_err_and}
-use Rattle.luks_rebuilding.specs.Found.{BreaksVouched, FindsFirst, FindsVouchedFirst, IsNotPlain}
+use Rattle.luks_rebuilding.specs.Found.{FindsFirst, FindsVouchedFirst, IsNotPlain}
 use Rattle.luks_rebuilding.specs.declared.candidate.Candidate.{Candidate}
-use Rattle.luks_rebuilding.proofs.FaultFacts.{broken_not_found, counted_not_found}
 use Rattle.luks_rebuilding.proofs.FoundFacts.{plain_found, plain_refused, vouched_found}
 use Rattle.luks_rebuilding.proofs.candidate.find_candidate.Goals as goal
-
-pub returns-in_err-pass_counting-clause-refused : goal.returns-in_err-pass_counting-clause-refused
-returns-in_err-pass_counting-clause-refused g c = λ t.
-    let p = err_from_is_err_and c.from_residual.result c.from_residual.ensures.1 in
-    rw (p.1, p.2) (counted_not_found (g.D.Device.bytes c.args.source.now) c.args.which c.in_err-pass_counting.field-0.0 (c.in_err-pass_counting.ensures.refused t))
-
-pub returns-in_err-first_vouched-clause-refused : goal.returns-in_err-first_vouched-clause-refused
-returns-in_err-first_vouched-clause-refused g c = λ t.
-    let v : List ℕ = g.D.Device.bytes c.args.source.now in
-    let p = err_from_is_err_and c.from_residual.result c.from_residual.ensures.1 in
-    rw (p.1, p.2) (broken_not_found v c.args.which c.in_err-first_vouched.field-0.0 (c.in_ok-pass_counting.ensures.passes t)
-    (subst (λ (u : List ℕ). BreaksVouched u c.args.which c.in_err-first_vouched.field-0.0) (c.in_ok-pass_counting.ensures.unchanged.same t) (c.in_err-first_vouched.ensures.broken t)))
 
 pub returns-in-Some-clause-found : goal.returns-in-Some-clause-found
 returns-in-Some-clause-found g c = λ t.
     let v : List ℕ = g.D.Device.bytes c.args.source.now in
-    let found = rw c.in-Some.is at c.in_ok-first_vouched.ensures.found t in
+    let found = rw c.in-Some.is at c.in_ok-vouched.ensures.found t in
     vouched_found v c.args.which c.in-Some.vouched (c.in_ok-pass_counting.ensures.passes t)
     (subst (λ (u : List ℕ). FindsVouchedFirst u c.args.which (Some c.in-Some.vouched)) (c.in_ok-pass_counting.ensures.unchanged.same t) found)
 
 pub returns-in-None-clause-found : goal.returns-in-None-clause-found
 returns-in-None-clause-found g c = λ t.
     let v : List ℕ = g.D.Device.bytes c.args.source.now in
-    let same = c.in_ok-first_vouched.ensures.unchanged.same t ∙ c.in_ok-pass_counting.ensures.unchanged.same t in
-    let none = rw c.in-None.is at c.in_ok-first_vouched.ensures.found t in
+    let same = c.in_ok-vouched.ensures.unchanged.same t ∙ c.in_ok-pass_counting.ensures.unchanged.same t in
+    let none = rw c.in-None.is at c.in_ok-vouched.ensures.found t in
     plain_found v c.args.which (c.in_ok-pass_counting.ensures.passes t)
     (subst (λ (u : List ℕ). FindsVouchedFirst u c.args.which None) (c.in_ok-pass_counting.ensures.unchanged.same t) none)
     c.first_plain.result c.first_plain.ensures.plain
@@ -38,8 +24,8 @@ returns-in-None-clause-found g c = λ t.
 pub returns-in-None-clause-refused : goal.returns-in-None-clause-refused
 returns-in-None-clause-refused g c = λ t.
     let v : List ℕ = g.D.Device.bytes c.args.source.now in
-    let same = c.in_ok-first_vouched.ensures.unchanged.same t ∙ c.in_ok-pass_counting.ensures.unchanged.same t in
-    let none = rw c.in-None.is at c.in_ok-first_vouched.ensures.found t in
+    let same = c.in_ok-vouched.ensures.unchanged.same t ∙ c.in_ok-pass_counting.ensures.unchanged.same t in
+    let none = rw c.in-None.is at c.in_ok-vouched.ensures.found t in
     plain_refused v c.args.which (c.in_ok-pass_counting.ensures.passes t)
     (subst (λ (u : List ℕ). FindsVouchedFirst u c.args.which None) (c.in_ok-pass_counting.ensures.unchanged.same t) none)
     c.first_plain.result

@@ -1,10 +1,9 @@
 use Rattle.std.proofs.Common.{ℕ, List, IfOk, IfErr, subst}
-use Rattle.std.proofs.lemmas.Result.{err_from_is_err_and}
 use Rattle.luks_rebuilding.specs.Found.{place_of, BreaksAt, BreaksFirst, FindsAt}
 use Rattle.luks_rebuilding.specs.declared.place.Half.TheVariants.{Second}
 use Rattle.luks_rebuilding.specs.declared.place.Which.TheVariants.{OfSize}
 use Rattle.luks_rebuilding.proofs.SearchFacts.{broken_so}
-use Rattle.luks_rebuilding.proofs.SizedFacts.{after_broken, first_broken, sized_first, sized_result}
+use Rattle.luks_rebuilding.proofs.SizedFacts.{after_broken, sized_first, sized_result}
 use Rattle.luks_rebuilding.proofs.candidate.sized_found.Goals as goal
 
 pub returns-in-Some-clause-found : goal.returns-in-Some-clause-found
@@ -15,11 +14,6 @@ pub returns-in-None-clause-found : goal.returns-in-None-clause-found
 returns-in-None-clause-found g c = λ t.
     sized_result (g.D.Device.bytes c.args.source.now) c.args.size c.found_of-in-None.result (rw c.in-None.is at c.in_ok-first.ensures.found t) c.found_of-in-None.ensures.place
     (subst (λ (v : List ℕ). IfOk c.found_of-in-None.result (FindsAt v (place_of Second c.args.size))) (c.in_ok-first.ensures.unchanged.same t) (c.found_of-in-None.ensures.found t))
-
-pub returns-in_err-first-clause-broken : goal.returns-in_err-first-clause-broken
-returns-in_err-first-clause-broken g c = λ t.
-    let p = err_from_is_err_and c.from_residual.result c.from_residual.ensures.1 in
-    rw (p.1, p.2) (first_broken (g.D.Device.bytes c.args.source.now) c.args.size c.in_err-first.field-0.0 (c.in_err-first.ensures.broken t))
 
 pub returns-in-None-clause-broken : goal.returns-in-None-clause-broken
 returns-in-None-clause-broken g c = λ t.
