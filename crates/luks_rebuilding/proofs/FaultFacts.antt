@@ -10,7 +10,6 @@ use Rattle.luks_area.specs.declared.area.AreaFault.TheVariants.{Outside, Overlap
 use Rattle.luks_area.specs.declared.area.AreaName.{AreaName}
 use Rattle.luks1_header.specs.Bytes.{IsUuid}
 use Rattle.luks_rules.proofs.AreaFaults.{one_value}
-use Rattle.luks_head.specs.Selection.{nothing, Chosen}
 use Rattle.luks_meta.specs.Content.{content}
 use Rattle.luks_meta.specs.Objects.{IsConfig}
 use Rattle.luks_meta.specs.MetaFault.{Json}

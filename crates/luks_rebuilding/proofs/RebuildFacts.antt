@@ -9,10 +9,9 @@ use Rattle.luks_area.specs.declared.area.AreaName.TheVariants as name
 use Rattle.luks_rules.proofs.AreaFaults.{one_value}
 use Rattle.luks_meta.specs.Accepted.{IsMeta}
 use Rattle.luks_meta.specs.Content.{content}
-use Rattle.luks_rebuilding.specs.Candidates.{Source}
 use Rattle.luks_rebuilding.specs.Found.{source_of, AreSlotsApart, HasSlots, HasSlotsInside, IsFoundIn, IsOfWhole, IsReady, IsWhole, IsWholeWritten, WritesWholeLast}
 use Rattle.luks_rebuilding.specs.KeyAreas.{HasKeyArea, HasKeyAreas, IsSlotArea}
-use Rattle.luks_rebuilding.specs.Rebuilt.{first_copy_salt, second_copy_salt, FirstIsLast, HasRebuiltCopy, IsMade, IsOfHeader, IsOfRebuilt, IsRebuilt, IsUuidOf, WritesFirstLast}
+use Rattle.luks_rebuilding.specs.Rebuilt.{FirstIsLast, IsMade, IsOfHeader, IsOfRebuilt, IsRebuilt, IsUuidOf, WritesFirstLast}
 use Rattle.luks_rebuilding.specs.declared.candidate.Candidate.{Candidate}
 use Rattle.luks_rebuilding.specs.declared.place.Which.{Which}
 

@@ -1,5 +1,5 @@
 -- The first candidate of the copies of one size, or of the second copy of that size.
-use Rattle.std.proofs.Common.{◌≡◌, ◌≢◌, ℕ, ◌≤◌, ◌⊎◌, List, [], ◌∷◌, inl, inr, arith, refl, sym, ap, ◌∙◌, subst, Option, Some, None, Result, Ok, Err, IfOk, IfErr, IfSome}
+use Rattle.std.proofs.Common.{◌≡◌, ◌≢◌, ℕ, ◌⊎◌, List, [], ◌∷◌, inl, inr, arith, refl, sym, ap, ◌∙◌, subst, Option, Some, None, Result, Ok, Err, IfOk, IfSome}
 use Rattle.luks_area.specs.First.{NotAfter}
 use Rattle.luks_head.specs.Sizes.{IsListed}
 use Rattle.luks_head.proofs.CopyFacts.{listed_at_least}

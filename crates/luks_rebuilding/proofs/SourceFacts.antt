@@ -1,15 +1,14 @@
 -- Of what a header is made: which source is the first, and that there is one.
-use Rattle.std.proofs.Common.{◌≡◌, ◌≢◌, ℕ, ◌+◌, ◌-◌, ◌≤◌, ◌⊎◌, ◌==◌, List, [], ◌∷◌, length, get_or, drop, Bool, true, false, if◌then◌else◌, inl, inr, arith, refl, sym, ap, ◌∙◌, subst, Option, Some, None, is_some}
-use Rattle.std.proofs.lemmas.Bool.{cases_Bool, eqb-true, eq-eqb, false≢true}
+use Rattle.std.proofs.Common.{◌≡◌, ◌≢◌, ℕ, ◌-◌, ◌≤◌, ◌⊎◌, ◌==◌, List, [], ◌∷◌, get_or, drop, Bool, true, false, if◌then◌else◌, inl, inr, arith, refl, sym, ap, ◌∙◌, subst, None, is_some}
+use Rattle.std.proofs.lemmas.Bool.{cases_Bool, eqb-true}
 use Rattle.luks_area.specs.First.{IsLeast, NotAfter}
 use Rattle.luks_head.proofs.CopyFacts.{listed_at_least}
 use Rattle.luks_head.specs.Sizes.{IsListed}
-use Rattle.luks_head.specs.declared.bin2.Bin2.{Bin2}
 use Rattle.luks_area.specs.Ranges.{part}
 use Rattle.luks_head.specs.Header2.{header_at, seqid}
 use Rattle.luks_vouching.specs.Vouched.{IsVouched}
 use Rattle.luks_vouching.proofs.LawFacts.{vouched_once}
-use Rattle.luks_rebuilding.specs.Candidates.{json_of, next_seqid, place_key, place_of_source, source_key, IsCandidate, IsPlainSource, IsSource, IsVouchedOf, IsVouchedSource, Source, Taken}
+use Rattle.luks_rebuilding.specs.Candidates.{json_of, next_seqid, place_key, place_of_source, source_key, IsCandidate, IsPlainSource, IsVouchedOf, Source, Taken}
 use Rattle.luks_rebuilding.specs.Found.{kept_label, kept_seqid, kept_subsystem, source_of, TakenPlace}
 use Rattle.luks_rebuilding.specs.Outcome.{HasNoSource}
 use Rattle.luks_rebuilding.specs.declared.candidate.Candidate.{Candidate}

@@ -1,11 +1,10 @@
 -- The search for what a checksum vouches for: the first of those that were found so far.
-use Rattle.std.proofs.Common.{◌≡◌, ◌≢◌, ℕ, ◌+◌, ◌-◌, ◌<◌, ◌≤◌, ◌⊎◌, ◌==◌, List, [], ◌∷◌, length, get_or, Bool, true, false, if◌then◌else◌, inl, inr, arith, refl, sym, ap, ◌∙◌, subst, Option, Some, None, is_some, Result, Ok, Err, IfOk, IfErr}
-use Rattle.std.proofs.lemmas.Bool.{cases_Bool, or_cases, eqb-true, eq-eqb, false≢true}
-use Rattle.luks_area.specs.First.{IsLeast, NotAfter}
+use Rattle.std.proofs.Common.{◌≡◌, ℕ, ◌<◌, ◌≤◌, ◌⊎◌, ◌==◌, List, [], ◌∷◌, Bool, true, false, if◌then◌else◌, inl, inr, arith, sym, ap, ◌∙◌, subst, Option, Some, None}
+use Rattle.std.proofs.lemmas.Bool.{cases_Bool, or_cases, eqb-true, false≢true}
+use Rattle.luks_area.specs.First.{NotAfter}
 use Rattle.luks_head.specs.Sizes.{is_among, IsListed}
-use Rattle.luks_head.proofs.SecondCopyFacts.{later}
 use Rattle.luks_rebuilding.specs.Candidates.{place_key, place_of_source, source_key, HasToBeTried, IsVouchedOf, Source}
-use Rattle.luks_rebuilding.specs.Found.{place_of, source_of, BreaksVouched, BreaksVouchedAt, EarlierHalf, FindsVouchedAt, FindsVouchedFirst, IsBestOf, IsBetter, IsDone, IsMemoryWhere, IsOfHalf}
+use Rattle.luks_rebuilding.specs.Found.{place_of, source_of, BreaksVouched, BreaksVouchedAt, EarlierHalf, FindsVouchedAt, FindsVouchedFirst, IsBestOf, IsBetter, IsDone, IsOfHalf}
 use Rattle.luks_rebuilding.specs.declared.candidate.Candidate.{Candidate}
 use Rattle.luks_rebuilding.specs.declared.place.Half.{Half}
 use Rattle.luks_rebuilding.specs.declared.place.Half.TheVariants.{First, Second}

@@ -85,7 +85,7 @@ const SAID: [Said; 14] = [
         lines: concat!(
             "luks: made of the metadata in the first copy, which has 2 keyslots\n",
             "luks: vouched by the checksum of the first copy\n",
-            "luks: that of a header of 32768 bytes is whole too, and differs, with 0 keyslots that this hasn't: luks rebuild --size 32768 takes it\n",
+            "luks: that of the second copy is whole too, and differs, with 0 keyslots that this hasn't: luks rebuild --second takes it\n",
             "luks: of an older volume with the uuid 01d01d01-0000-4000-8000-000000000001\n",
         ),
     },
@@ -113,7 +113,7 @@ const SAID: [Said; 14] = [
             "luks: made of the metadata in the second copy, which has 1 keyslot\n",
             "luks: vouched by the checksum of the second copy\n",
             "luks: of an older volume with the uuid 01d01d01-0000-4000-8000-000000000001\n",
-            "luks: that of a header of 16384 bytes is whole too, and differs, with 1 keyslot that this hasn't: luks rebuild --size 16384 takes it\n",
+            "luks: that of the second copy is whole too, and differs, with 1 keyslot that this hasn't: luks rebuild --second takes it\n",
         ),
     },
     Said {

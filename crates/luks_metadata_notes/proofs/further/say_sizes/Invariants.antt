@@ -1,4 +1,4 @@
-use Rattle.std.proofs.Common.{◌≡◌, ℕ, length}
+use Rattle.std.proofs.Common.{◌≡◌, length}
 use Rattle.luks_area.specs.Device.{IsUnchanged}
 use Rattle.luks_metadata_notes.proofs.further.say_sizes.Given as goal
 

@@ -1,15 +1,15 @@
-use Rattle.std.proofs.Common.{◌≡◌, ℕ, ◌+◌, ◌-◌, ◌≤◌, ◌==◌, List, ◌++◌, length, take, drop, Bool, true, false, if◌then◌else◌, inl, inr, Some, None, is_some, refl, sym, ap, ◌∙◌, subst, arith}
+use Rattle.std.proofs.Common.{◌≡◌, ℕ, ◌+◌, ◌-◌, ◌≤◌, ◌==◌, List, ◌++◌, length, take, drop, Bool, if◌then◌else◌, inl, inr, Some, None, is_some, sym, ap, ◌∙◌, subst, arith}
 use Rattle.std.proofs.lemmas.Bool.{cases_Bool}
 use Rattle.std.proofs.lemmas.List.{drop-drop}
 use Rattle.std.proofs.Math.Seq.{drop-append-add}
 use Rattle.byteorder.specs.Endian.{big_number}
 use Rattle.luks_area.specs.Ranges.{part}
 use Rattle.luks1_header.specs.Header1.{luks_magic}
-use Rattle.luks_head.specs.Header2.{header_at, magic_of, second_magic, seqid, HoldsBin2}
+use Rattle.luks_head.specs.Header2.{header_at, magic_of, second_magic, HoldsBin2}
 use Rattle.luks_vouching.proofs.LawFacts.{none_vouched}
 use Rattle.luks_vouching.specs.Vouched.{mended_header, IsVouched, VouchesForNone}
 use Rattle.luks_vouching.specs.declared.vouched.Vouched.{Vouched}
-use Rattle.luks_rebuilding.specs.Candidates.{next_seqid, place_of_source, IsAsked, IsVouchedOf, Source}
+use Rattle.luks_rebuilding.specs.Candidates.{next_seqid, IsAsked, IsVouchedOf}
 use Rattle.luks_rebuilding.specs.Found.{kept_label, kept_seqid, kept_subsystem, source_of, FindsVouchedAt}
 use Rattle.luks_rebuilding.specs.declared.candidate.Candidate.{Candidate}
 use Rattle.luks_rebuilding.specs.declared.place.Place.{Place}
