@@ -1,11 +1,12 @@
 //! What is said of metadata that is whole.
-use crate::rows::{ROWS, Row};
+use crate::rows::{Row, SEVERAL, VOUCHED, WHOLE};
 use crate::sources::{source_of, which_of};
 use luks_area::MemDevice;
 use luks_metadata_notes::{note_taken, note_whole};
 use luks_rebuilding::Which;
 use luks_test_devices::{damaged, put, two_hashes};
 use std::alloc::Global;
+use std::process::Abort;
 use std::test::Fail;
 
 /// Whether so much is said of the volume.
@@ -113,7 +114,7 @@ const SAID: [Said; 14] = [
             "luks: made of the metadata in the second copy, which has 1 keyslot\n",
             "luks: vouched by the checksum of the second copy\n",
             "luks: of an older volume with the uuid 01d01d01-0000-4000-8000-000000000001\n",
-            "luks: that of the second copy is whole too, and differs, with 1 keyslot that this hasn't: luks rebuild --second takes it\n",
+            "luks: that of a header of 16384 bytes is whole too, and differs, with 1 keyslot that this hasn't: luks rebuild --size 16384 takes it\n",
         ),
     },
     Said {
@@ -142,26 +143,52 @@ const SAID: [Said; 14] = [
     },
 ];
 
-/// The row of what is tried.
-fn row_of(what: &str) -> Option<&'static Row> {
-    ROWS.iter().find(|row| row.what == what)
+/// What is said of the row of this name, if it stands in the table.
+fn lines_of(what: &str) -> Option<&'static str> {
+    for said in SAID.iter() {
+        if said.what == what {
+            return Some(said.lines);
+        }
+    }
+    None
+}
+
+/// What is owed is said of each row that has it; of how many.
+fn says_each(rt: &impl Abort, alloc: Global, rows: &[Row]) -> Result<usize, Fail> {
+    let volume = two_hashes(alloc)?;
+    let mut tried: usize = 0;
+    for row in rows.iter() {
+        let what = row.what;
+        if let Some(lines) = lines_of(what) {
+            let source = source_of(alloc, &volume, row)?;
+            assert!(rt;
+                is_said_after(alloc, source, which_of(row), lines),
+                "{what}"
+            );
+            tried = tried.saturating_add(1);
+        }
+    }
+    Ok(tried)
 }
 
 #[test]
-fn after_a_header_was_made(rt: HostRuntime) -> Result<(), Fail> {
-    let alloc = rt.alloc();
-    let volume = two_hashes(alloc)?;
-    for said in SAID.iter() {
-        let what = said.what;
-        let Some(row) = row_of(what) else {
-            return Err("no row".into());
-        };
-        let source = source_of(alloc, &volume, row)?;
-        assert!(rt;
-            is_said_after(alloc, source, which_of(row), said.lines),
-            "{what}"
-        );
-    }
+fn after_a_header_of_whole_metadata(rt: HostRuntime) -> Result<(), Fail> {
+    let tried = says_each(&rt, rt.alloc(), WHOLE)?;
+    assert!(rt; tried == 3, "{tried} rows");
+    Ok(())
+}
+
+#[test]
+fn after_a_header_that_a_checksum_vouches_for(rt: HostRuntime) -> Result<(), Fail> {
+    let tried = says_each(&rt, rt.alloc(), VOUCHED)?;
+    assert!(rt; tried == 4, "{tried} rows");
+    Ok(())
+}
+
+#[test]
+fn after_a_header_where_there_are_several(rt: HostRuntime) -> Result<(), Fail> {
+    let tried = says_each(&rt, rt.alloc(), SEVERAL)?;
+    assert!(rt; tried == 7, "{tried} rows");
     Ok(())
 }
 

@@ -4,6 +4,8 @@
 pub(crate) struct Row {
     /// What is tried.
     pub(crate) what: &'static str,
+    /// Whether the older header is left behind.
+    pub(crate) behind: bool,
     /// A byte that is written over, from which place on and how often.
     pub(crate) runs: &'static [(usize, u8, usize)],
     /// What is written over its bytes then, from which place on.
@@ -26,10 +28,29 @@ pub(crate) struct Row {
     pub(crate) sum: &'static str,
 }
 
-/// Volumes of which a header is made.
-pub(crate) const ROWS: &[Row] = &[
+/// The second copy of an older header of 32768 bytes and the front of its key area, over zeros from 32768 on.
+pub(crate) const OLDER: &[(usize, &[u8])] = &[
+    (32768, b"SKUL\xba\xbe\x00\x02\x00\x00\x00\x00\x00\x00\x80"),
+    (32791, b"\x05older"),
+    (32840, b"sha256"),
+    (32936, b"01d01d01-0000-4000-8000-000000000001"),
+    (33030, b"\x80"),
+    (
+        33216,
+        b"Y\xd3\xe2\x22\xd2\x19\x7f@\xe1\x80\xdd\xc5%\x10\x1e\x9c\x88q\x0d\xaa\xa4\xdd\xba\x07\xe5\xc2BY\x10E\xef\xec",
+    ),
+    (
+        36864,
+        b"{\x22config\x22:{\x22json_size\x22:\x2228672\x22,\x22keyslots_size\x22:\x22512\x22},\x22digests\x22:{\x220\x22:{\x22digest\x22:\x22AAAAAAAAAAAAAAAAAAAAAAAAAAAAAAAAAAAAAAAAAAA=\x22,\x22hash\x22:\x22sha256\x22,\x22iterations\x22:1000,\x22keyslots\x22:[\x220\x22],\x22salt\x22:\x22IiIiIiIiIiIiIiIiIiIiIiIiIiIiIiIiIiIiIiIiIiI=\x22,\x22segments\x22:[\x220\x22],\x22type\x22:\x22pbkdf2\x22}},\x22keyslots\x22:{\x220\x22:{\x22af\x22:{\x22hash\x22:\x22sha256\x22,\x22stripes\x22:1,\x22type\x22:\x22luks1\x22},\x22area\x22:{\x22encryption\x22:\x22aes-xts-plain64\x22,\x22key_size\x22:64,\x22offset\x22:\x2265536\x22,\x22size\x22:\x22512\x22,\x22type\x22:\x22raw\x22},\x22kdf\x22:{\x22hash\x22:\x22sha256\x22,\x22iterations\x22:1000,\x22salt\x22:\x22ERERERERERERERERERERERERERERERERERERERERERE=\x22,\x22type\x22:\x22pbkdf2\x22},\x22key_size\x22:64,\x22type\x22:\x22luks2\x22}},\x22segments\x22:{\x220\x22:{\x22encryption\x22:\x22aes-xts-plain64\x22,\x22iv_tweak\x22:\x220\x22,\x22offset\x22:\x2266048\x22,\x22sector_size\x22:512,\x22size\x22:\x22dynamic\x22,\x22type\x22:\x22crypt\x22}},\x22tokens\x22:{}}",
+    ),
+    (65536, b"wwwwwwww"),
+];
+
+/// Volumes whose metadata is whole, of which a header is made.
+pub(crate) const WHOLE: &[Row] = &[
     Row {
         what: "a GPT label of 34 sectors",
+        behind: false,
         runs: &[(0, 0x00, 17408)],
         changes: &[(510, b"U\xaa"), (512, b"EFI PART\x00\x00\x01\x00")],
         second: false,
@@ -43,6 +64,7 @@ pub(crate) const ROWS: &[Row] = &[
     },
     Row {
         what: "an MBR, and a bit of the second binary header",
+        behind: false,
         runs: &[(0, 0x90, 446)],
         changes: &[(510, b"U\xaa"), (16488, b"\x01")],
         second: false,
@@ -56,6 +78,7 @@ pub(crate) const ROWS: &[Row] = &[
     },
     Row {
         what: "a swap signature, and the second magic",
+        behind: false,
         runs: &[(0, 0x00, 4086)],
         changes: &[(4086, b"SWAPSPACE2"), (16384, b"\x00\x00\x00\x00\x00\x00")],
         second: false,
@@ -69,6 +92,7 @@ pub(crate) const ROWS: &[Row] = &[
     },
     Row {
         what: "an ext4 superblock, and the second checksum",
+        behind: false,
         runs: &[(0, 0x00, 1080)],
         changes: &[(1080, b"S\xef\x01\x00"), (16832, b"\x00\x01\x02")],
         second: false,
@@ -82,6 +106,7 @@ pub(crate) const ROWS: &[Row] = &[
     },
     Row {
         what: "a FAT boot sector, and the second version",
+        behind: false,
         runs: &[],
         changes: &[
             (0, b"\xeb<\x90mkfs.fat\x00\x02\x04\x04"),
@@ -99,6 +124,7 @@ pub(crate) const ROWS: &[Row] = &[
     },
     Row {
         what: "both magics are wiped",
+        behind: false,
         runs: &[],
         changes: &[
             (0, b"\x00\x00\x00\x00\x00\x00"),
@@ -115,6 +141,7 @@ pub(crate) const ROWS: &[Row] = &[
     },
     Row {
         what: "a bit of both binary headers",
+        behind: false,
         runs: &[],
         changes: &[(104, b"\x01"), (16488, b"\x01")],
         second: false,
@@ -128,6 +155,7 @@ pub(crate) const ROWS: &[Row] = &[
     },
     Row {
         what: "both labels are garbage",
+        behind: false,
         runs: &[(24, 0xFF, 48), (16408, 0xFF, 48), (208, 0xFF, 48)],
         changes: &[],
         second: false,
@@ -141,6 +169,7 @@ pub(crate) const ROWS: &[Row] = &[
     },
     Row {
         what: "two that differ: the first",
+        behind: false,
         runs: &[],
         changes: &[
             (104, b"\x01"),
@@ -158,6 +187,7 @@ pub(crate) const ROWS: &[Row] = &[
     },
     Row {
         what: "two that differ: the second is asked for",
+        behind: false,
         runs: &[],
         changes: &[
             (104, b"\x01"),
@@ -175,6 +205,7 @@ pub(crate) const ROWS: &[Row] = &[
     },
     Row {
         what: "the first text is broken",
+        behind: false,
         runs: &[],
         changes: &[(104, b"\x01"), (16488, b"\x01"), (4096, b"x")],
         second: false,
@@ -188,6 +219,7 @@ pub(crate) const ROWS: &[Row] = &[
     },
     Row {
         what: "a uuid that is given, in capitals",
+        behind: false,
         runs: &[],
         changes: &[(104, b"\x01"), (16488, b"\x01")],
         second: false,
@@ -201,6 +233,7 @@ pub(crate) const ROWS: &[Row] = &[
     },
     Row {
         what: "the first uuid is lost",
+        behind: false,
         runs: &[(168, 0x00, 40)],
         changes: &[(104, b"\x01"), (16488, b"\x01"), (16552, b"11111111")],
         second: false,
@@ -214,6 +247,7 @@ pub(crate) const ROWS: &[Row] = &[
     },
     Row {
         what: "the second is asked for, and its uuid is lost",
+        behind: false,
         runs: &[],
         changes: &[
             (104, b"\x01"),
@@ -232,6 +266,7 @@ pub(crate) const ROWS: &[Row] = &[
     },
     Row {
         what: "both uuids are lost",
+        behind: false,
         runs: &[],
         changes: &[(104, b"\x01"), (16488, b"\x01"), (168, b"x"), (16560, b"0")],
         second: false,
@@ -245,6 +280,7 @@ pub(crate) const ROWS: &[Row] = &[
     },
     Row {
         what: "a header of 32768 bytes",
+        behind: false,
         runs: &[(0, 0x00, 65536), (65536, 0x77, 512)],
         changes: &[(
             4096,
@@ -261,6 +297,7 @@ pub(crate) const ROWS: &[Row] = &[
     },
     Row {
         what: "no label of LUKS, and garbage behind",
+        behind: false,
         runs: &[(0, 0xFF, 4096), (16384, 0xFF, 4096), (40960, 0xFF, 25088)],
         changes: &[],
         second: false,
@@ -272,8 +309,13 @@ pub(crate) const ROWS: &[Row] = &[
         answer: "done",
         sum: "1dae9af49026a414c962760ef9872e375b09c5c6f540cf740b49e0029e2d94d9",
     },
+];
+
+/// Volumes that are damaged, most of which a checksum vouches for, of which a header is made.
+pub(crate) const VOUCHED: &[Row] = &[
     Row {
         what: "a wrong digit in each copy's metadata, at different places",
+        behind: false,
         runs: &[],
         changes: &[(4891, b"S"), (20572, b"S")],
         second: false,
@@ -287,6 +329,7 @@ pub(crate) const ROWS: &[Row] = &[
     },
     Row {
         what: "the same, and no checksum vouches for either",
+        behind: false,
         runs: &[],
         changes: &[(4891, b"S"), (20572, b"S"), (448, b"xx"), (16832, b"xx")],
         second: false,
@@ -300,6 +343,7 @@ pub(crate) const ROWS: &[Row] = &[
     },
     Row {
         what: "a bit of the first magic, and one of the second seqid",
+        behind: false,
         runs: &[],
         changes: &[(0, b"M"), (16404, b"\x01")],
         second: false,
@@ -313,6 +357,7 @@ pub(crate) const ROWS: &[Row] = &[
     },
     Row {
         what: "a bit of the first version",
+        behind: false,
         runs: &[],
         changes: &[(7, b"\x03"), (16384, b"\x00\x00\x00\x00\x00\x00")],
         second: false,
@@ -326,6 +371,7 @@ pub(crate) const ROWS: &[Row] = &[
     },
     Row {
         what: "a bit of the first size",
+        behind: false,
         runs: &[],
         changes: &[(14, b"A"), (16384, b"\x00\x00\x00\x00\x00\x00")],
         second: false,
@@ -339,6 +385,7 @@ pub(crate) const ROWS: &[Row] = &[
     },
     Row {
         what: "a bit of the first seqid",
+        behind: false,
         runs: &[],
         changes: &[(23, b"\x00"), (16384, b"\x00\x00\x00\x00\x00\x00")],
         second: false,
@@ -352,6 +399,7 @@ pub(crate) const ROWS: &[Row] = &[
     },
     Row {
         what: "a bit of the first label",
+        behind: false,
         runs: &[],
         changes: &[(24, b"\x01"), (16384, b"\x00\x00\x00\x00\x00\x00")],
         second: false,
@@ -365,6 +413,7 @@ pub(crate) const ROWS: &[Row] = &[
     },
     Row {
         what: "a bit of the first uuid",
+        behind: false,
         runs: &[],
         changes: &[(168, b"1"), (16384, b"\x00\x00\x00\x00\x00\x00")],
         second: false,
@@ -378,6 +427,7 @@ pub(crate) const ROWS: &[Row] = &[
     },
     Row {
         what: "a bit of the first checksum",
+        behind: false,
         runs: &[],
         changes: &[(448, b"\xef"), (16384, b"\x00\x00\x00\x00\x00\x00")],
         second: false,
@@ -391,6 +441,7 @@ pub(crate) const ROWS: &[Row] = &[
     },
     Row {
         what: "a bit of the first metadata",
+        behind: false,
         runs: &[],
         changes: &[(4891, b"G"), (16384, b"\x00\x00\x00\x00\x00\x00")],
         second: false,
@@ -404,6 +455,7 @@ pub(crate) const ROWS: &[Row] = &[
     },
     Row {
         what: "a bit of the second label",
+        behind: false,
         runs: &[],
         changes: &[(16408, b"\x01"), (0, b"\x00\x00\x00\x00\x00\x00")],
         second: false,
@@ -417,6 +469,7 @@ pub(crate) const ROWS: &[Row] = &[
     },
     Row {
         what: "a bit of the second uuid",
+        behind: false,
         runs: &[],
         changes: &[(16552, b"1"), (0, b"\x00\x00\x00\x00\x00\x00")],
         second: false,
@@ -430,6 +483,7 @@ pub(crate) const ROWS: &[Row] = &[
     },
     Row {
         what: "a bit of the second checksum",
+        behind: false,
         runs: &[],
         changes: &[(16832, b"\x96"), (0, b"\x00\x00\x00\x00\x00\x00")],
         second: false,
@@ -443,6 +497,7 @@ pub(crate) const ROWS: &[Row] = &[
     },
     Row {
         what: "a bit of the second metadata",
+        behind: false,
         runs: &[],
         changes: &[(21275, b"G"), (0, b"\x00\x00\x00\x00\x00\x00")],
         second: false,
@@ -456,6 +511,7 @@ pub(crate) const ROWS: &[Row] = &[
     },
     Row {
         what: "a sector of the first metadata, another of the second",
+        behind: false,
         runs: &[(4096, 0xFF, 512), (20992, 0xFF, 512)],
         changes: &[],
         second: false,
@@ -469,6 +525,7 @@ pub(crate) const ROWS: &[Row] = &[
     },
     Row {
         what: "the first binary header and a sector of each",
+        behind: false,
         runs: &[(0, 0xFF, 4096), (4096, 0xFF, 512), (20992, 0x00, 512)],
         changes: &[],
         second: false,
@@ -482,6 +539,7 @@ pub(crate) const ROWS: &[Row] = &[
     },
     Row {
         what: "three sectors of each, and both magics",
+        behind: false,
         runs: &[
             (4096, 0xFF, 512),
             (5120, 0xFF, 512),
@@ -505,6 +563,7 @@ pub(crate) const ROWS: &[Row] = &[
     },
     Row {
         what: "the end of the first metadata, the start of the second",
+        behind: false,
         runs: &[(4608, 0xFF, 11776), (20480, 0xFF, 512)],
         changes: &[],
         second: false,
@@ -518,6 +577,7 @@ pub(crate) const ROWS: &[Row] = &[
     },
     Row {
         what: "label and subsystem are kept",
+        behind: false,
         runs: &[],
         changes: &[
             (24, b"first"),
@@ -546,6 +606,7 @@ pub(crate) const ROWS: &[Row] = &[
     },
     Row {
         what: "the second is newer, and has other metadata",
+        behind: false,
         runs: &[],
         changes: &[
             (16407, b"\x09second"),
@@ -568,6 +629,7 @@ pub(crate) const ROWS: &[Row] = &[
     },
     Row {
         what: "the first is newer",
+        behind: false,
         runs: &[],
         changes: &[
             (23, b"\x09first"),
@@ -595,6 +657,7 @@ pub(crate) const ROWS: &[Row] = &[
     },
     Row {
         what: "both have one number",
+        behind: false,
         runs: &[],
         changes: &[
             (23, b"\x09first"),
@@ -622,6 +685,7 @@ pub(crate) const ROWS: &[Row] = &[
     },
     Row {
         what: "the first is newer, the second is asked for",
+        behind: false,
         runs: &[],
         changes: &[
             (23, b"\x09first"),
@@ -649,6 +713,7 @@ pub(crate) const ROWS: &[Row] = &[
     },
     Row {
         what: "the greatest number",
+        behind: false,
         runs: &[],
         changes: &[
             (16, b"\xff\xff\xff\xff\xff\xff\xff\xff"),
@@ -673,23 +738,15 @@ pub(crate) const ROWS: &[Row] = &[
         answer: "done",
         sum: "a44cdce7d86b26e44e728dc0d91c650066fefdbebd2de5b2d8d28aa9d7f383d7",
     },
+];
+
+/// Volumes with more than one header, of which a header is made.
+pub(crate) const SEVERAL: &[Row] = &[
     Row {
         what: "a smaller header over an older one that has a higher number",
-        runs: &[(32768, 0x00, 32768), (65536, 0x77, 512)],
+        behind: true,
+        runs: &[],
         changes: &[
-            (32768, b"SKUL\xba\xbe\x00\x02\x00\x00\x00\x00\x00\x00\x80"),
-            (32791, b"\x05older"),
-            (32840, b"sha256"),
-            (32936, b"01d01d01-0000-4000-8000-000000000001"),
-            (33030, b"\x80"),
-            (
-                33216,
-                b"Y\xd3\xe2\x22\xd2\x19\x7f@\xe1\x80\xdd\xc5%\x10\x1e\x9c\x88q\x0d\xaa\xa4\xdd\xba\x07\xe5\xc2BY\x10E\xef\xec",
-            ),
-            (
-                36864,
-                b"{\x22config\x22:{\x22json_size\x22:\x2228672\x22,\x22keyslots_size\x22:\x22512\x22},\x22digests\x22:{\x220\x22:{\x22digest\x22:\x22AAAAAAAAAAAAAAAAAAAAAAAAAAAAAAAAAAAAAAAAAAA=\x22,\x22hash\x22:\x22sha256\x22,\x22iterations\x22:1000,\x22keyslots\x22:[\x220\x22],\x22salt\x22:\x22IiIiIiIiIiIiIiIiIiIiIiIiIiIiIiIiIiIiIiIiIiI=\x22,\x22segments\x22:[\x220\x22],\x22type\x22:\x22pbkdf2\x22}},\x22keyslots\x22:{\x220\x22:{\x22af\x22:{\x22hash\x22:\x22sha256\x22,\x22stripes\x22:1,\x22type\x22:\x22luks1\x22},\x22area\x22:{\x22encryption\x22:\x22aes-xts-plain64\x22,\x22key_size\x22:64,\x22offset\x22:\x2265536\x22,\x22size\x22:\x22512\x22,\x22type\x22:\x22raw\x22},\x22kdf\x22:{\x22hash\x22:\x22sha256\x22,\x22iterations\x22:1000,\x22salt\x22:\x22ERERERERERERERERERERERERERERERERERERERERERE=\x22,\x22type\x22:\x22pbkdf2\x22},\x22key_size\x22:64,\x22type\x22:\x22luks2\x22}},\x22segments\x22:{\x220\x22:{\x22encryption\x22:\x22aes-xts-plain64\x22,\x22iv_tweak\x22:\x220\x22,\x22offset\x22:\x2266048\x22,\x22sector_size\x22:512,\x22size\x22:\x22dynamic\x22,\x22type\x22:\x22crypt\x22}},\x22tokens\x22:{}}",
-            ),
             (0, b"\x00\x00\x00\x00\x00\x00"),
             (16384, b"\x00\x00\x00\x00\x00\x00"),
             (32768, b"\x00\x00\x00\x00\x00\x00"),
@@ -701,29 +758,17 @@ pub(crate) const ROWS: &[Row] = &[
         target: 66048,
         random: 144,
         answer: "done",
-        sum: "3c644417dbb012f1101dc439af95cfbbb4a80634ce5df785b106f11954ccc081",
+        sum: "4763dcadddca29c40a02ab448c4917a3fdc1528bd82dd8f230663399c1ea2c92",
     },
     Row {
         what: "a smaller header over an older one that has a lower number",
-        runs: &[(32768, 0x00, 32768), (65536, 0x77, 512)],
+        behind: true,
+        runs: &[],
         changes: &[
             (23, b"\x07"),
             (
                 448,
                 b"q\xf3\xdf\x0as\xda\x06\x02\x0d\xa2\xc5\x9f_\xf7@6\x93b\x07!\x91`\x02\xedj\xe4\x84A\xd6\x07\xb5g",
-            ),
-            (32768, b"SKUL\xba\xbe\x00\x02\x00\x00\x00\x00\x00\x00\x80"),
-            (32791, b"\x05older"),
-            (32840, b"sha256"),
-            (32936, b"01d01d01-0000-4000-8000-000000000001"),
-            (33030, b"\x80"),
-            (
-                33216,
-                b"Y\xd3\xe2\x22\xd2\x19\x7f@\xe1\x80\xdd\xc5%\x10\x1e\x9c\x88q\x0d\xaa\xa4\xdd\xba\x07\xe5\xc2BY\x10E\xef\xec",
-            ),
-            (
-                36864,
-                b"{\x22config\x22:{\x22json_size\x22:\x2228672\x22,\x22keyslots_size\x22:\x22512\x22},\x22digests\x22:{\x220\x22:{\x22digest\x22:\x22AAAAAAAAAAAAAAAAAAAAAAAAAAAAAAAAAAAAAAAAAAA=\x22,\x22hash\x22:\x22sha256\x22,\x22iterations\x22:1000,\x22keyslots\x22:[\x220\x22],\x22salt\x22:\x22IiIiIiIiIiIiIiIiIiIiIiIiIiIiIiIiIiIiIiIiIiI=\x22,\x22segments\x22:[\x220\x22],\x22type\x22:\x22pbkdf2\x22}},\x22keyslots\x22:{\x220\x22:{\x22af\x22:{\x22hash\x22:\x22sha256\x22,\x22stripes\x22:1,\x22type\x22:\x22luks1\x22},\x22area\x22:{\x22encryption\x22:\x22aes-xts-plain64\x22,\x22key_size\x22:64,\x22offset\x22:\x2265536\x22,\x22size\x22:\x22512\x22,\x22type\x22:\x22raw\x22},\x22kdf\x22:{\x22hash\x22:\x22sha256\x22,\x22iterations\x22:1000,\x22salt\x22:\x22ERERERERERERERERERERERERERERERERERERERERERE=\x22,\x22type\x22:\x22pbkdf2\x22},\x22key_size\x22:64,\x22type\x22:\x22luks2\x22}},\x22segments\x22:{\x220\x22:{\x22encryption\x22:\x22aes-xts-plain64\x22,\x22iv_tweak\x22:\x220\x22,\x22offset\x22:\x2266048\x22,\x22sector_size\x22:512,\x22size\x22:\x22dynamic\x22,\x22type\x22:\x22crypt\x22}},\x22tokens\x22:{}}",
             ),
             (0, b"\x00\x00\x00\x00\x00\x00"),
             (16384, b"\x00\x00\x00\x00\x00\x00"),
@@ -740,23 +785,11 @@ pub(crate) const ROWS: &[Row] = &[
     },
     Row {
         what: "one that no checksum vouches for before one that is vouched for",
-        runs: &[(32768, 0x00, 32768), (65536, 0x77, 512)],
+        behind: true,
+        runs: &[],
         changes: &[
             (448, b"xx"),
             (16832, b"xx"),
-            (32768, b"SKUL\xba\xbe\x00\x02\x00\x00\x00\x00\x00\x00\x80"),
-            (32791, b"\x01older"),
-            (32840, b"sha256"),
-            (32936, b"01d01d01-0000-4000-8000-000000000001"),
-            (33030, b"\x80"),
-            (
-                33216,
-                b"\xb6\xc4\x11-\x90\xccG\x9ePm\xdd\xe3\x0c%\x1f{\xc6\xf6j\x93\xbcI\xb4\xe4\xdf\x1b;\x5c\xa8\x85\xa6?",
-            ),
-            (
-                36864,
-                b"{\x22config\x22:{\x22json_size\x22:\x2228672\x22,\x22keyslots_size\x22:\x22512\x22},\x22digests\x22:{\x220\x22:{\x22digest\x22:\x22AAAAAAAAAAAAAAAAAAAAAAAAAAAAAAAAAAAAAAAAAAA=\x22,\x22hash\x22:\x22sha256\x22,\x22iterations\x22:1000,\x22keyslots\x22:[\x220\x22],\x22salt\x22:\x22IiIiIiIiIiIiIiIiIiIiIiIiIiIiIiIiIiIiIiIiIiI=\x22,\x22segments\x22:[\x220\x22],\x22type\x22:\x22pbkdf2\x22}},\x22keyslots\x22:{\x220\x22:{\x22af\x22:{\x22hash\x22:\x22sha256\x22,\x22stripes\x22:1,\x22type\x22:\x22luks1\x22},\x22area\x22:{\x22encryption\x22:\x22aes-xts-plain64\x22,\x22key_size\x22:64,\x22offset\x22:\x2265536\x22,\x22size\x22:\x22512\x22,\x22type\x22:\x22raw\x22},\x22kdf\x22:{\x22hash\x22:\x22sha256\x22,\x22iterations\x22:1000,\x22salt\x22:\x22ERERERERERERERERERERERERERERERERERERERERERE=\x22,\x22type\x22:\x22pbkdf2\x22},\x22key_size\x22:64,\x22type\x22:\x22luks2\x22}},\x22segments\x22:{\x220\x22:{\x22encryption\x22:\x22aes-xts-plain64\x22,\x22iv_tweak\x22:\x220\x22,\x22offset\x22:\x2266048\x22,\x22sector_size\x22:512,\x22size\x22:\x22dynamic\x22,\x22type\x22:\x22crypt\x22}},\x22tokens\x22:{}}",
-            ),
             (32768, b"\x00\x00\x00\x00\x00\x00"),
         ],
         second: false,
@@ -766,26 +799,13 @@ pub(crate) const ROWS: &[Row] = &[
         target: 66048,
         random: 144,
         answer: "done",
-        sum: "0fedc5af20254a26ed1e3f67a8e65de3afd68a9088a52970e2d75788c5999dfa",
+        sum: "4763dcadddca29c40a02ab448c4917a3fdc1528bd82dd8f230663399c1ea2c92",
     },
     Row {
         what: "a header counts, and the second is asked for",
-        runs: &[(32768, 0x00, 32768), (65536, 0x77, 512)],
-        changes: &[
-            (32768, b"SKUL\xba\xbe\x00\x02\x00\x00\x00\x00\x00\x00\x80"),
-            (32791, b"\x01older"),
-            (32840, b"sha256"),
-            (32936, b"01d01d01-0000-4000-8000-000000000001"),
-            (33030, b"\x80"),
-            (
-                33216,
-                b"\xb6\xc4\x11-\x90\xccG\x9ePm\xdd\xe3\x0c%\x1f{\xc6\xf6j\x93\xbcI\xb4\xe4\xdf\x1b;\x5c\xa8\x85\xa6?",
-            ),
-            (
-                36864,
-                b"{\x22config\x22:{\x22json_size\x22:\x2228672\x22,\x22keyslots_size\x22:\x22512\x22},\x22digests\x22:{\x220\x22:{\x22digest\x22:\x22AAAAAAAAAAAAAAAAAAAAAAAAAAAAAAAAAAAAAAAAAAA=\x22,\x22hash\x22:\x22sha256\x22,\x22iterations\x22:1000,\x22keyslots\x22:[\x220\x22],\x22salt\x22:\x22IiIiIiIiIiIiIiIiIiIiIiIiIiIiIiIiIiIiIiIiIiI=\x22,\x22segments\x22:[\x220\x22],\x22type\x22:\x22pbkdf2\x22}},\x22keyslots\x22:{\x220\x22:{\x22af\x22:{\x22hash\x22:\x22sha256\x22,\x22stripes\x22:1,\x22type\x22:\x22luks1\x22},\x22area\x22:{\x22encryption\x22:\x22aes-xts-plain64\x22,\x22key_size\x22:64,\x22offset\x22:\x2265536\x22,\x22size\x22:\x22512\x22,\x22type\x22:\x22raw\x22},\x22kdf\x22:{\x22hash\x22:\x22sha256\x22,\x22iterations\x22:1000,\x22salt\x22:\x22ERERERERERERERERERERERERERERERERERERERERERE=\x22,\x22type\x22:\x22pbkdf2\x22},\x22key_size\x22:64,\x22type\x22:\x22luks2\x22}},\x22segments\x22:{\x220\x22:{\x22encryption\x22:\x22aes-xts-plain64\x22,\x22iv_tweak\x22:\x220\x22,\x22offset\x22:\x2266048\x22,\x22sector_size\x22:512,\x22size\x22:\x22dynamic\x22,\x22type\x22:\x22crypt\x22}},\x22tokens\x22:{}}",
-            ),
-        ],
+        behind: true,
+        runs: &[],
+        changes: &[],
         second: true,
         size: None,
         uuid: None,
@@ -793,26 +813,13 @@ pub(crate) const ROWS: &[Row] = &[
         target: 66048,
         random: 144,
         answer: "done",
-        sum: "ec7d9373cd8005a9f7ca1817e707ebb2960fab7ac5eb3a84f677ba23d7cf1d33",
+        sum: "4763dcadddca29c40a02ab448c4917a3fdc1528bd82dd8f230663399c1ea2c92",
     },
     Row {
         what: "a header counts, and a size is asked for",
-        runs: &[(32768, 0x00, 32768), (65536, 0x77, 512)],
-        changes: &[
-            (32768, b"SKUL\xba\xbe\x00\x02\x00\x00\x00\x00\x00\x00\x80"),
-            (32791, b"\x01older"),
-            (32840, b"sha256"),
-            (32936, b"01d01d01-0000-4000-8000-000000000001"),
-            (33030, b"\x80"),
-            (
-                33216,
-                b"\xb6\xc4\x11-\x90\xccG\x9ePm\xdd\xe3\x0c%\x1f{\xc6\xf6j\x93\xbcI\xb4\xe4\xdf\x1b;\x5c\xa8\x85\xa6?",
-            ),
-            (
-                36864,
-                b"{\x22config\x22:{\x22json_size\x22:\x2228672\x22,\x22keyslots_size\x22:\x22512\x22},\x22digests\x22:{\x220\x22:{\x22digest\x22:\x22AAAAAAAAAAAAAAAAAAAAAAAAAAAAAAAAAAAAAAAAAAA=\x22,\x22hash\x22:\x22sha256\x22,\x22iterations\x22:1000,\x22keyslots\x22:[\x220\x22],\x22salt\x22:\x22IiIiIiIiIiIiIiIiIiIiIiIiIiIiIiIiIiIiIiIiIiI=\x22,\x22segments\x22:[\x220\x22],\x22type\x22:\x22pbkdf2\x22}},\x22keyslots\x22:{\x220\x22:{\x22af\x22:{\x22hash\x22:\x22sha256\x22,\x22stripes\x22:1,\x22type\x22:\x22luks1\x22},\x22area\x22:{\x22encryption\x22:\x22aes-xts-plain64\x22,\x22key_size\x22:64,\x22offset\x22:\x2265536\x22,\x22size\x22:\x22512\x22,\x22type\x22:\x22raw\x22},\x22kdf\x22:{\x22hash\x22:\x22sha256\x22,\x22iterations\x22:1000,\x22salt\x22:\x22ERERERERERERERERERERERERERERERERERERERERERE=\x22,\x22type\x22:\x22pbkdf2\x22},\x22key_size\x22:64,\x22type\x22:\x22luks2\x22}},\x22segments\x22:{\x220\x22:{\x22encryption\x22:\x22aes-xts-plain64\x22,\x22iv_tweak\x22:\x220\x22,\x22offset\x22:\x2266048\x22,\x22sector_size\x22:512,\x22size\x22:\x22dynamic\x22,\x22type\x22:\x22crypt\x22}},\x22tokens\x22:{}}",
-            ),
-        ],
+        behind: true,
+        runs: &[],
+        changes: &[],
         second: false,
         size: Some(32768),
         uuid: None,
@@ -820,26 +827,13 @@ pub(crate) const ROWS: &[Row] = &[
         target: 66048,
         random: 144,
         answer: "done",
-        sum: "0fedc5af20254a26ed1e3f67a8e65de3afd68a9088a52970e2d75788c5999dfa",
+        sum: "4763dcadddca29c40a02ab448c4917a3fdc1528bd82dd8f230663399c1ea2c92",
     },
     Row {
         what: "a header counts, and the second of a size is asked for",
-        runs: &[(32768, 0x00, 32768), (65536, 0x77, 512)],
-        changes: &[
-            (32768, b"SKUL\xba\xbe\x00\x02\x00\x00\x00\x00\x00\x00\x80"),
-            (32791, b"\x01older"),
-            (32840, b"sha256"),
-            (32936, b"01d01d01-0000-4000-8000-000000000001"),
-            (33030, b"\x80"),
-            (
-                33216,
-                b"\xb6\xc4\x11-\x90\xccG\x9ePm\xdd\xe3\x0c%\x1f{\xc6\xf6j\x93\xbcI\xb4\xe4\xdf\x1b;\x5c\xa8\x85\xa6?",
-            ),
-            (
-                36864,
-                b"{\x22config\x22:{\x22json_size\x22:\x2228672\x22,\x22keyslots_size\x22:\x22512\x22},\x22digests\x22:{\x220\x22:{\x22digest\x22:\x22AAAAAAAAAAAAAAAAAAAAAAAAAAAAAAAAAAAAAAAAAAA=\x22,\x22hash\x22:\x22sha256\x22,\x22iterations\x22:1000,\x22keyslots\x22:[\x220\x22],\x22salt\x22:\x22IiIiIiIiIiIiIiIiIiIiIiIiIiIiIiIiIiIiIiIiIiI=\x22,\x22segments\x22:[\x220\x22],\x22type\x22:\x22pbkdf2\x22}},\x22keyslots\x22:{\x220\x22:{\x22af\x22:{\x22hash\x22:\x22sha256\x22,\x22stripes\x22:1,\x22type\x22:\x22luks1\x22},\x22area\x22:{\x22encryption\x22:\x22aes-xts-plain64\x22,\x22key_size\x22:64,\x22offset\x22:\x2265536\x22,\x22size\x22:\x22512\x22,\x22type\x22:\x22raw\x22},\x22kdf\x22:{\x22hash\x22:\x22sha256\x22,\x22iterations\x22:1000,\x22salt\x22:\x22ERERERERERERERERERERERERERERERERERERERERERE=\x22,\x22type\x22:\x22pbkdf2\x22},\x22key_size\x22:64,\x22type\x22:\x22luks2\x22}},\x22segments\x22:{\x220\x22:{\x22encryption\x22:\x22aes-xts-plain64\x22,\x22iv_tweak\x22:\x220\x22,\x22offset\x22:\x2266048\x22,\x22sector_size\x22:512,\x22size\x22:\x22dynamic\x22,\x22type\x22:\x22crypt\x22}},\x22tokens\x22:{}}",
-            ),
-        ],
+        behind: true,
+        runs: &[],
+        changes: &[],
         second: true,
         size: Some(32768),
         uuid: None,
@@ -847,10 +841,11 @@ pub(crate) const ROWS: &[Row] = &[
         target: 66048,
         random: 144,
         answer: "done",
-        sum: "0fedc5af20254a26ed1e3f67a8e65de3afd68a9088a52970e2d75788c5999dfa",
+        sum: "4763dcadddca29c40a02ab448c4917a3fdc1528bd82dd8f230663399c1ea2c92",
     },
     Row {
         what: "a header counts, and its own size is asked for",
+        behind: false,
         runs: &[],
         changes: &[],
         second: false,
@@ -864,6 +859,7 @@ pub(crate) const ROWS: &[Row] = &[
     },
     Row {
         what: "the first metadata is wrong, and its size is asked for",
+        behind: false,
         runs: &[],
         changes: &[
             (104, b"\x01"),
@@ -881,6 +877,7 @@ pub(crate) const ROWS: &[Row] = &[
     },
     Row {
         what: "of a size the second is asked for",
+        behind: false,
         runs: &[],
         changes: &[
             (104, b"\x01"),
@@ -898,29 +895,25 @@ pub(crate) const ROWS: &[Row] = &[
     },
     Row {
         what: "an older header behind a LUKS1 volume",
-        runs: &[
-            (4096, 0x66, 28672),
-            (32768, 0x00, 32768),
-            (65536, 0x77, 512),
-        ],
+        behind: true,
+        runs: &[(0, 0x00, 592), (4096, 0x66, 28672)],
         changes: &[
+            (0, b"LUKS\xba\xbe\x00\x01aes"),
+            (40, b"xts-plain64"),
+            (72, b"sha256"),
+            (106, b"\x10\x00\x00\x00\x00 "),
             (
-                0,
-                b"LUKS\xba\xbe\x00\x01aes\x00\x00\x00\x00\x00\x00\x00\x00\x00\x00\x00\x00\x00\x00\x00\x00\x00\x00\x00\x00\x00\x00\x00\x00\x00\x00\x00\x00\x00xts-plain64\x00\x00\x00\x00\x00\x00\x00\x00\x00\x00\x00\x00\x00\x00\x00\x00\x00\x00\x00\x00\x00sha256\x00\x00\x00\x00\x00\x00\x00\x00\x00\x00\x00\x00\x00\x00\x00\x00\x00\x00\x00\x00\x00\x00\x00\x00\x00\x00\x00\x00\x10\x00\x00\x00\x00 \x00\x00\x00\x00\x00\x00\x00\x00\x00\x00\x00\x00\x00\x00\x00\x00\x00\x00\x00\x00\x00\x00\x00\x00\x00\x00\x00\x00\x00\x00\x00\x00\x00\x00\x00\x00\x00\x00\x00\x00\x00\x00\x00\x00\x00\x00\x00\x00\x00\x00\x00\x00\x00\x00\x03\xe85e5e5e5e-0000-4000-8000-000000000002\x00\x00\x00\x00\x00\x00\xde\xad\x00\x00\x03\xe8\x00\x00\x00\x00\x00\x00\x00\x00\x00\x00\x00\x00\x00\x00\x00\x00\x00\x00\x00\x00\x00\x00\x00\x00\x00\x00\x00\x00\x00\x00\x00\x00\x00\x00\x00\x08\x00\x00\x0f\xa0\x00\x00\xde\xad\x00\x00\x03\xe8\x00\x00\x00\x00\x00\x00\x00\x00\x00\x00\x00\x00\x00\x00\x00\x00\x00\x00\x00\x00\x00\x00\x00\x00\x00\x00\x00\x00\x00\x00\x00\x00\x00\x00\x00\x08\x00\x00\x0f\xa0\x00\x00\xde\xad\x00\x00\x03\xe8\x00\x00\x00\x00\x00\x00\x00\x00\x00\x00\x00\x00\x00\x00\x00\x00\x00\x00\x00\x00\x00\x00\x00\x00\x00\x00\x00\x00\x00\x00\x00\x00\x00\x00\x00\x08\x00\x00\x0f\xa0\x00\x00\xde\xad\x00\x00\x03\xe8\x00\x00\x00\x00\x00\x00\x00\x00\x00\x00\x00\x00\x00\x00\x00\x00\x00\x00\x00\x00\x00\x00\x00\x00\x00\x00\x00\x00\x00\x00\x00\x00\x00\x00\x00\x08\x00\x00\x0f\xa0\x00\x00\xde\xad\x00\x00\x03\xe8\x00\x00\x00\x00\x00\x00\x00\x00\x00\x00\x00\x00\x00\x00\x00\x00\x00\x00\x00\x00\x00\x00\x00\x00\x00\x00\x00\x00\x00\x00\x00\x00\x00\x00\x00\x08\x00\x00\x0f\xa0\x00\x00\xde\xad\x00\x00\x03\xe8\x00\x00\x00\x00\x00\x00\x00\x00\x00\x00\x00\x00\x00\x00\x00\x00\x00\x00\x00\x00\x00\x00\x00\x00\x00\x00\x00\x00\x00\x00\x00\x00\x00\x00\x00\x08\x00\x00\x0f\xa0\x00\x00\xde\xad\x00\x00\x03\xe8\x00\x00\x00\x00\x00\x00\x00\x00\x00\x00\x00\x00\x00\x00\x00\x00\x00\x00\x00\x00\x00\x00\x00\x00\x00\x00\x00\x00\x00\x00\x00\x00\x00\x00\x00\x08\x00\x00\x0f\xa0\x00\x00\xde\xad\x00\x00\x03\xe8\x00\x00\x00\x00\x00\x00\x00\x00\x00\x00\x00\x00\x00\x00\x00\x00\x00\x00\x00\x00\x00\x00\x00\x00\x00\x00\x00\x00\x00\x00\x00\x00\x00\x00\x00\x08\x00\x00\x0f\xa0",
+                166,
+                b"\x03\xe85e5e5e5e-0000-4000-8000-000000000002\x00\x00\x00\x00\x00\x00\xde\xad\x00\x00\x03\xe8",
             ),
-            (32768, b"SKUL\xba\xbe\x00\x02\x00\x00\x00\x00\x00\x00\x80"),
-            (32791, b"\x01older"),
-            (32840, b"sha256"),
-            (32936, b"01d01d01-0000-4000-8000-000000000001"),
-            (33030, b"\x80"),
-            (
-                33216,
-                b"\xb6\xc4\x11-\x90\xccG\x9ePm\xdd\xe3\x0c%\x1f{\xc6\xf6j\x93\xbcI\xb4\xe4\xdf\x1b;\x5c\xa8\x85\xa6?",
-            ),
-            (
-                36864,
-                b"{\x22config\x22:{\x22json_size\x22:\x2228672\x22,\x22keyslots_size\x22:\x22512\x22},\x22digests\x22:{\x220\x22:{\x22digest\x22:\x22AAAAAAAAAAAAAAAAAAAAAAAAAAAAAAAAAAAAAAAAAAA=\x22,\x22hash\x22:\x22sha256\x22,\x22iterations\x22:1000,\x22keyslots\x22:[\x220\x22],\x22salt\x22:\x22IiIiIiIiIiIiIiIiIiIiIiIiIiIiIiIiIiIiIiIiIiI=\x22,\x22segments\x22:[\x220\x22],\x22type\x22:\x22pbkdf2\x22}},\x22keyslots\x22:{\x220\x22:{\x22af\x22:{\x22hash\x22:\x22sha256\x22,\x22stripes\x22:1,\x22type\x22:\x22luks1\x22},\x22area\x22:{\x22encryption\x22:\x22aes-xts-plain64\x22,\x22key_size\x22:64,\x22offset\x22:\x2265536\x22,\x22size\x22:\x22512\x22,\x22type\x22:\x22raw\x22},\x22kdf\x22:{\x22hash\x22:\x22sha256\x22,\x22iterations\x22:1000,\x22salt\x22:\x22ERERERERERERERERERERERERERERERERERERERERERE=\x22,\x22type\x22:\x22pbkdf2\x22},\x22key_size\x22:64,\x22type\x22:\x22luks2\x22}},\x22segments\x22:{\x220\x22:{\x22encryption\x22:\x22aes-xts-plain64\x22,\x22iv_tweak\x22:\x220\x22,\x22offset\x22:\x2266048\x22,\x22sector_size\x22:512,\x22size\x22:\x22dynamic\x22,\x22type\x22:\x22crypt\x22}},\x22tokens\x22:{}}",
-            ),
+            (251, b"\x08\x00\x00\x0f\xa0\x00\x00\xde\xad\x00\x00\x03\xe8"),
+            (299, b"\x08\x00\x00\x0f\xa0\x00\x00\xde\xad\x00\x00\x03\xe8"),
+            (347, b"\x08\x00\x00\x0f\xa0\x00\x00\xde\xad\x00\x00\x03\xe8"),
+            (395, b"\x08\x00\x00\x0f\xa0\x00\x00\xde\xad\x00\x00\x03\xe8"),
+            (443, b"\x08\x00\x00\x0f\xa0\x00\x00\xde\xad\x00\x00\x03\xe8"),
+            (491, b"\x08\x00\x00\x0f\xa0\x00\x00\xde\xad\x00\x00\x03\xe8"),
+            (539, b"\x08\x00\x00\x0f\xa0\x00\x00\xde\xad\x00\x00\x03\xe8"),
+            (587, b"\x08\x00\x00\x0f\xa0"),
             (7, b"\x00"),
             (32768, b"\x00\x00\x00\x00\x00\x00"),
         ],
@@ -931,33 +924,29 @@ pub(crate) const ROWS: &[Row] = &[
         target: 66048,
         random: 144,
         answer: "done",
-        sum: "0fedc5af20254a26ed1e3f67a8e65de3afd68a9088a52970e2d75788c5999dfa",
+        sum: "4763dcadddca29c40a02ab448c4917a3fdc1528bd82dd8f230663399c1ea2c92",
     },
     Row {
         what: "the same, and no checksum vouches for it",
-        runs: &[
-            (4096, 0x66, 28672),
-            (32768, 0x00, 32768),
-            (65536, 0x77, 512),
-        ],
+        behind: true,
+        runs: &[(0, 0x00, 592), (4096, 0x66, 28672)],
         changes: &[
+            (0, b"LUKS\xba\xbe\x00\x01aes"),
+            (40, b"xts-plain64"),
+            (72, b"sha256"),
+            (106, b"\x10\x00\x00\x00\x00 "),
             (
-                0,
-                b"LUKS\xba\xbe\x00\x01aes\x00\x00\x00\x00\x00\x00\x00\x00\x00\x00\x00\x00\x00\x00\x00\x00\x00\x00\x00\x00\x00\x00\x00\x00\x00\x00\x00\x00\x00xts-plain64\x00\x00\x00\x00\x00\x00\x00\x00\x00\x00\x00\x00\x00\x00\x00\x00\x00\x00\x00\x00\x00sha256\x00\x00\x00\x00\x00\x00\x00\x00\x00\x00\x00\x00\x00\x00\x00\x00\x00\x00\x00\x00\x00\x00\x00\x00\x00\x00\x00\x00\x10\x00\x00\x00\x00 \x00\x00\x00\x00\x00\x00\x00\x00\x00\x00\x00\x00\x00\x00\x00\x00\x00\x00\x00\x00\x00\x00\x00\x00\x00\x00\x00\x00\x00\x00\x00\x00\x00\x00\x00\x00\x00\x00\x00\x00\x00\x00\x00\x00\x00\x00\x00\x00\x00\x00\x00\x00\x00\x00\x03\xe85e5e5e5e-0000-4000-8000-000000000002\x00\x00\x00\x00\x00\x00\xde\xad\x00\x00\x03\xe8\x00\x00\x00\x00\x00\x00\x00\x00\x00\x00\x00\x00\x00\x00\x00\x00\x00\x00\x00\x00\x00\x00\x00\x00\x00\x00\x00\x00\x00\x00\x00\x00\x00\x00\x00\x08\x00\x00\x0f\xa0\x00\x00\xde\xad\x00\x00\x03\xe8\x00\x00\x00\x00\x00\x00\x00\x00\x00\x00\x00\x00\x00\x00\x00\x00\x00\x00\x00\x00\x00\x00\x00\x00\x00\x00\x00\x00\x00\x00\x00\x00\x00\x00\x00\x08\x00\x00\x0f\xa0\x00\x00\xde\xad\x00\x00\x03\xe8\x00\x00\x00\x00\x00\x00\x00\x00\x00\x00\x00\x00\x00\x00\x00\x00\x00\x00\x00\x00\x00\x00\x00\x00\x00\x00\x00\x00\x00\x00\x00\x00\x00\x00\x00\x08\x00\x00\x0f\xa0\x00\x00\xde\xad\x00\x00\x03\xe8\x00\x00\x00\x00\x00\x00\x00\x00\x00\x00\x00\x00\x00\x00\x00\x00\x00\x00\x00\x00\x00\x00\x00\x00\x00\x00\x00\x00\x00\x00\x00\x00\x00\x00\x00\x08\x00\x00\x0f\xa0\x00\x00\xde\xad\x00\x00\x03\xe8\x00\x00\x00\x00\x00\x00\x00\x00\x00\x00\x00\x00\x00\x00\x00\x00\x00\x00\x00\x00\x00\x00\x00\x00\x00\x00\x00\x00\x00\x00\x00\x00\x00\x00\x00\x08\x00\x00\x0f\xa0\x00\x00\xde\xad\x00\x00\x03\xe8\x00\x00\x00\x00\x00\x00\x00\x00\x00\x00\x00\x00\x00\x00\x00\x00\x00\x00\x00\x00\x00\x00\x00\x00\x00\x00\x00\x00\x00\x00\x00\x00\x00\x00\x00\x08\x00\x00\x0f\xa0\x00\x00\xde\xad\x00\x00\x03\xe8\x00\x00\x00\x00\x00\x00\x00\x00\x00\x00\x00\x00\x00\x00\x00\x00\x00\x00\x00\x00\x00\x00\x00\x00\x00\x00\x00\x00\x00\x00\x00\x00\x00\x00\x00\x08\x00\x00\x0f\xa0\x00\x00\xde\xad\x00\x00\x03\xe8\x00\x00\x00\x00\x00\x00\x00\x00\x00\x00\x00\x00\x00\x00\x00\x00\x00\x00\x00\x00\x00\x00\x00\x00\x00\x00\x00\x00\x00\x00\x00\x00\x00\x00\x00\x08\x00\x00\x0f\xa0",
+                166,
+                b"\x03\xe85e5e5e5e-0000-4000-8000-000000000002\x00\x00\x00\x00\x00\x00\xde\xad\x00\x00\x03\xe8",
             ),
-            (32768, b"SKUL\xba\xbe\x00\x02\x00\x00\x00\x00\x00\x00\x80"),
-            (32791, b"\x01older"),
-            (32840, b"sha256"),
-            (32936, b"01d01d01-0000-4000-8000-000000000001"),
-            (33030, b"\x80"),
-            (
-                33216,
-                b"\xb6\xc4\x11-\x90\xccG\x9ePm\xdd\xe3\x0c%\x1f{\xc6\xf6j\x93\xbcI\xb4\xe4\xdf\x1b;\x5c\xa8\x85\xa6?",
-            ),
-            (
-                36864,
-                b"{\x22config\x22:{\x22json_size\x22:\x2228672\x22,\x22keyslots_size\x22:\x22512\x22},\x22digests\x22:{\x220\x22:{\x22digest\x22:\x22AAAAAAAAAAAAAAAAAAAAAAAAAAAAAAAAAAAAAAAAAAA=\x22,\x22hash\x22:\x22sha256\x22,\x22iterations\x22:1000,\x22keyslots\x22:[\x220\x22],\x22salt\x22:\x22IiIiIiIiIiIiIiIiIiIiIiIiIiIiIiIiIiIiIiIiIiI=\x22,\x22segments\x22:[\x220\x22],\x22type\x22:\x22pbkdf2\x22}},\x22keyslots\x22:{\x220\x22:{\x22af\x22:{\x22hash\x22:\x22sha256\x22,\x22stripes\x22:1,\x22type\x22:\x22luks1\x22},\x22area\x22:{\x22encryption\x22:\x22aes-xts-plain64\x22,\x22key_size\x22:64,\x22offset\x22:\x2265536\x22,\x22size\x22:\x22512\x22,\x22type\x22:\x22raw\x22},\x22kdf\x22:{\x22hash\x22:\x22sha256\x22,\x22iterations\x22:1000,\x22salt\x22:\x22ERERERERERERERERERERERERERERERERERERERERERE=\x22,\x22type\x22:\x22pbkdf2\x22},\x22key_size\x22:64,\x22type\x22:\x22luks2\x22}},\x22segments\x22:{\x220\x22:{\x22encryption\x22:\x22aes-xts-plain64\x22,\x22iv_tweak\x22:\x220\x22,\x22offset\x22:\x2266048\x22,\x22sector_size\x22:512,\x22size\x22:\x22dynamic\x22,\x22type\x22:\x22crypt\x22}},\x22tokens\x22:{}}",
-            ),
+            (251, b"\x08\x00\x00\x0f\xa0\x00\x00\xde\xad\x00\x00\x03\xe8"),
+            (299, b"\x08\x00\x00\x0f\xa0\x00\x00\xde\xad\x00\x00\x03\xe8"),
+            (347, b"\x08\x00\x00\x0f\xa0\x00\x00\xde\xad\x00\x00\x03\xe8"),
+            (395, b"\x08\x00\x00\x0f\xa0\x00\x00\xde\xad\x00\x00\x03\xe8"),
+            (443, b"\x08\x00\x00\x0f\xa0\x00\x00\xde\xad\x00\x00\x03\xe8"),
+            (491, b"\x08\x00\x00\x0f\xa0\x00\x00\xde\xad\x00\x00\x03\xe8"),
+            (539, b"\x08\x00\x00\x0f\xa0\x00\x00\xde\xad\x00\x00\x03\xe8"),
+            (587, b"\x08\x00\x00\x0f\xa0"),
             (7, b"\x00"),
             (33216, b"xx"),
         ],
@@ -968,33 +957,29 @@ pub(crate) const ROWS: &[Row] = &[
         target: 66048,
         random: 144,
         answer: "done",
-        sum: "ae18e82d23d40154a21a50954bc60fbc9ac836942959aaedd5bef9d70ab2e157",
+        sum: "3ae6b0a4f769ae7fd76a80a811a85bdbe6ba945554d74fb508274615cc63bc3d",
     },
     Row {
         what: "a LUKS1 header counts over an older one, which is asked for",
-        runs: &[
-            (4096, 0x66, 28672),
-            (32768, 0x00, 32768),
-            (65536, 0x77, 512),
-        ],
+        behind: true,
+        runs: &[(0, 0x00, 592), (4096, 0x66, 28672)],
         changes: &[
+            (0, b"LUKS\xba\xbe\x00\x01aes"),
+            (40, b"xts-plain64"),
+            (72, b"sha256"),
+            (106, b"\x10\x00\x00\x00\x00 "),
             (
-                0,
-                b"LUKS\xba\xbe\x00\x01aes\x00\x00\x00\x00\x00\x00\x00\x00\x00\x00\x00\x00\x00\x00\x00\x00\x00\x00\x00\x00\x00\x00\x00\x00\x00\x00\x00\x00\x00xts-plain64\x00\x00\x00\x00\x00\x00\x00\x00\x00\x00\x00\x00\x00\x00\x00\x00\x00\x00\x00\x00\x00sha256\x00\x00\x00\x00\x00\x00\x00\x00\x00\x00\x00\x00\x00\x00\x00\x00\x00\x00\x00\x00\x00\x00\x00\x00\x00\x00\x00\x00\x10\x00\x00\x00\x00 \x00\x00\x00\x00\x00\x00\x00\x00\x00\x00\x00\x00\x00\x00\x00\x00\x00\x00\x00\x00\x00\x00\x00\x00\x00\x00\x00\x00\x00\x00\x00\x00\x00\x00\x00\x00\x00\x00\x00\x00\x00\x00\x00\x00\x00\x00\x00\x00\x00\x00\x00\x00\x00\x00\x03\xe85e5e5e5e-0000-4000-8000-000000000002\x00\x00\x00\x00\x00\x00\xde\xad\x00\x00\x03\xe8\x00\x00\x00\x00\x00\x00\x00\x00\x00\x00\x00\x00\x00\x00\x00\x00\x00\x00\x00\x00\x00\x00\x00\x00\x00\x00\x00\x00\x00\x00\x00\x00\x00\x00\x00\x08\x00\x00\x0f\xa0\x00\x00\xde\xad\x00\x00\x03\xe8\x00\x00\x00\x00\x00\x00\x00\x00\x00\x00\x00\x00\x00\x00\x00\x00\x00\x00\x00\x00\x00\x00\x00\x00\x00\x00\x00\x00\x00\x00\x00\x00\x00\x00\x00\x08\x00\x00\x0f\xa0\x00\x00\xde\xad\x00\x00\x03\xe8\x00\x00\x00\x00\x00\x00\x00\x00\x00\x00\x00\x00\x00\x00\x00\x00\x00\x00\x00\x00\x00\x00\x00\x00\x00\x00\x00\x00\x00\x00\x00\x00\x00\x00\x00\x08\x00\x00\x0f\xa0\x00\x00\xde\xad\x00\x00\x03\xe8\x00\x00\x00\x00\x00\x00\x00\x00\x00\x00\x00\x00\x00\x00\x00\x00\x00\x00\x00\x00\x00\x00\x00\x00\x00\x00\x00\x00\x00\x00\x00\x00\x00\x00\x00\x08\x00\x00\x0f\xa0\x00\x00\xde\xad\x00\x00\x03\xe8\x00\x00\x00\x00\x00\x00\x00\x00\x00\x00\x00\x00\x00\x00\x00\x00\x00\x00\x00\x00\x00\x00\x00\x00\x00\x00\x00\x00\x00\x00\x00\x00\x00\x00\x00\x08\x00\x00\x0f\xa0\x00\x00\xde\xad\x00\x00\x03\xe8\x00\x00\x00\x00\x00\x00\x00\x00\x00\x00\x00\x00\x00\x00\x00\x00\x00\x00\x00\x00\x00\x00\x00\x00\x00\x00\x00\x00\x00\x00\x00\x00\x00\x00\x00\x08\x00\x00\x0f\xa0\x00\x00\xde\xad\x00\x00\x03\xe8\x00\x00\x00\x00\x00\x00\x00\x00\x00\x00\x00\x00\x00\x00\x00\x00\x00\x00\x00\x00\x00\x00\x00\x00\x00\x00\x00\x00\x00\x00\x00\x00\x00\x00\x00\x08\x00\x00\x0f\xa0\x00\x00\xde\xad\x00\x00\x03\xe8\x00\x00\x00\x00\x00\x00\x00\x00\x00\x00\x00\x00\x00\x00\x00\x00\x00\x00\x00\x00\x00\x00\x00\x00\x00\x00\x00\x00\x00\x00\x00\x00\x00\x00\x00\x08\x00\x00\x0f\xa0",
+                166,
+                b"\x03\xe85e5e5e5e-0000-4000-8000-000000000002\x00\x00\x00\x00\x00\x00\xde\xad\x00\x00\x03\xe8",
             ),
-            (32768, b"SKUL\xba\xbe\x00\x02\x00\x00\x00\x00\x00\x00\x80"),
-            (32791, b"\x01older"),
-            (32840, b"sha256"),
-            (32936, b"01d01d01-0000-4000-8000-000000000001"),
-            (33030, b"\x80"),
-            (
-                33216,
-                b"\xb6\xc4\x11-\x90\xccG\x9ePm\xdd\xe3\x0c%\x1f{\xc6\xf6j\x93\xbcI\xb4\xe4\xdf\x1b;\x5c\xa8\x85\xa6?",
-            ),
-            (
-                36864,
-                b"{\x22config\x22:{\x22json_size\x22:\x2228672\x22,\x22keyslots_size\x22:\x22512\x22},\x22digests\x22:{\x220\x22:{\x22digest\x22:\x22AAAAAAAAAAAAAAAAAAAAAAAAAAAAAAAAAAAAAAAAAAA=\x22,\x22hash\x22:\x22sha256\x22,\x22iterations\x22:1000,\x22keyslots\x22:[\x220\x22],\x22salt\x22:\x22IiIiIiIiIiIiIiIiIiIiIiIiIiIiIiIiIiIiIiIiIiI=\x22,\x22segments\x22:[\x220\x22],\x22type\x22:\x22pbkdf2\x22}},\x22keyslots\x22:{\x220\x22:{\x22af\x22:{\x22hash\x22:\x22sha256\x22,\x22stripes\x22:1,\x22type\x22:\x22luks1\x22},\x22area\x22:{\x22encryption\x22:\x22aes-xts-plain64\x22,\x22key_size\x22:64,\x22offset\x22:\x2265536\x22,\x22size\x22:\x22512\x22,\x22type\x22:\x22raw\x22},\x22kdf\x22:{\x22hash\x22:\x22sha256\x22,\x22iterations\x22:1000,\x22salt\x22:\x22ERERERERERERERERERERERERERERERERERERERERERE=\x22,\x22type\x22:\x22pbkdf2\x22},\x22key_size\x22:64,\x22type\x22:\x22luks2\x22}},\x22segments\x22:{\x220\x22:{\x22encryption\x22:\x22aes-xts-plain64\x22,\x22iv_tweak\x22:\x220\x22,\x22offset\x22:\x2266048\x22,\x22sector_size\x22:512,\x22size\x22:\x22dynamic\x22,\x22type\x22:\x22crypt\x22}},\x22tokens\x22:{}}",
-            ),
+            (251, b"\x08\x00\x00\x0f\xa0\x00\x00\xde\xad\x00\x00\x03\xe8"),
+            (299, b"\x08\x00\x00\x0f\xa0\x00\x00\xde\xad\x00\x00\x03\xe8"),
+            (347, b"\x08\x00\x00\x0f\xa0\x00\x00\xde\xad\x00\x00\x03\xe8"),
+            (395, b"\x08\x00\x00\x0f\xa0\x00\x00\xde\xad\x00\x00\x03\xe8"),
+            (443, b"\x08\x00\x00\x0f\xa0\x00\x00\xde\xad\x00\x00\x03\xe8"),
+            (491, b"\x08\x00\x00\x0f\xa0\x00\x00\xde\xad\x00\x00\x03\xe8"),
+            (539, b"\x08\x00\x00\x0f\xa0\x00\x00\xde\xad\x00\x00\x03\xe8"),
+            (587, b"\x08\x00\x00\x0f\xa0"),
         ],
         second: true,
         size: None,
@@ -1003,7 +988,7 @@ pub(crate) const ROWS: &[Row] = &[
         target: 66048,
         random: 144,
         answer: "done",
-        sum: "0fedc5af20254a26ed1e3f67a8e65de3afd68a9088a52970e2d75788c5999dfa",
+        sum: "4763dcadddca29c40a02ab448c4917a3fdc1528bd82dd8f230663399c1ea2c92",
     },
 ];
 
@@ -1011,6 +996,7 @@ pub(crate) const ROWS: &[Row] = &[
 pub(crate) const REFUSALS: &[Row] = &[
     Row {
         what: "nothing is damaged",
+        behind: false,
         runs: &[],
         changes: &[],
         second: false,
@@ -1024,6 +1010,7 @@ pub(crate) const REFUSALS: &[Row] = &[
     },
     Row {
         what: "the second copy counts",
+        behind: false,
         runs: &[(0, 0x00, 4096)],
         changes: &[],
         second: false,
@@ -1037,6 +1024,7 @@ pub(crate) const REFUSALS: &[Row] = &[
     },
     Row {
         what: "the second copy counts, and is asked for",
+        behind: false,
         runs: &[(0, 0x00, 4096)],
         changes: &[],
         second: true,
@@ -1050,6 +1038,7 @@ pub(crate) const REFUSALS: &[Row] = &[
     },
     Row {
         what: "a header counts, and there is none of the size",
+        behind: false,
         runs: &[],
         changes: &[],
         second: false,
@@ -1063,6 +1052,7 @@ pub(crate) const REFUSALS: &[Row] = &[
     },
     Row {
         what: "a header counts, and there is no second one of the size",
+        behind: false,
         runs: &[],
         changes: &[],
         second: true,
@@ -1076,6 +1066,7 @@ pub(crate) const REFUSALS: &[Row] = &[
     },
     Row {
         what: "a size that no header has",
+        behind: false,
         runs: &[],
         changes: &[(104, b"\x01"), (16488, b"\x01")],
         second: false,
@@ -1089,6 +1080,7 @@ pub(crate) const REFUSALS: &[Row] = &[
     },
     Row {
         what: "a size that no header has, the second",
+        behind: false,
         runs: &[],
         changes: &[(104, b"\x01"), (16488, b"\x01")],
         second: true,
@@ -1102,29 +1094,25 @@ pub(crate) const REFUSALS: &[Row] = &[
     },
     Row {
         what: "a LUKS1 header counts over an older one",
-        runs: &[
-            (4096, 0x66, 28672),
-            (32768, 0x00, 32768),
-            (65536, 0x77, 512),
-        ],
+        behind: true,
+        runs: &[(0, 0x00, 592), (4096, 0x66, 28672)],
         changes: &[
+            (0, b"LUKS\xba\xbe\x00\x01aes"),
+            (40, b"xts-plain64"),
+            (72, b"sha256"),
+            (106, b"\x10\x00\x00\x00\x00 "),
             (
-                0,
-                b"LUKS\xba\xbe\x00\x01aes\x00\x00\x00\x00\x00\x00\x00\x00\x00\x00\x00\x00\x00\x00\x00\x00\x00\x00\x00\x00\x00\x00\x00\x00\x00\x00\x00\x00\x00xts-plain64\x00\x00\x00\x00\x00\x00\x00\x00\x00\x00\x00\x00\x00\x00\x00\x00\x00\x00\x00\x00\x00sha256\x00\x00\x00\x00\x00\x00\x00\x00\x00\x00\x00\x00\x00\x00\x00\x00\x00\x00\x00\x00\x00\x00\x00\x00\x00\x00\x00\x00\x10\x00\x00\x00\x00 \x00\x00\x00\x00\x00\x00\x00\x00\x00\x00\x00\x00\x00\x00\x00\x00\x00\x00\x00\x00\x00\x00\x00\x00\x00\x00\x00\x00\x00\x00\x00\x00\x00\x00\x00\x00\x00\x00\x00\x00\x00\x00\x00\x00\x00\x00\x00\x00\x00\x00\x00\x00\x00\x00\x03\xe85e5e5e5e-0000-4000-8000-000000000002\x00\x00\x00\x00\x00\x00\xde\xad\x00\x00\x03\xe8\x00\x00\x00\x00\x00\x00\x00\x00\x00\x00\x00\x00\x00\x00\x00\x00\x00\x00\x00\x00\x00\x00\x00\x00\x00\x00\x00\x00\x00\x00\x00\x00\x00\x00\x00\x08\x00\x00\x0f\xa0\x00\x00\xde\xad\x00\x00\x03\xe8\x00\x00\x00\x00\x00\x00\x00\x00\x00\x00\x00\x00\x00\x00\x00\x00\x00\x00\x00\x00\x00\x00\x00\x00\x00\x00\x00\x00\x00\x00\x00\x00\x00\x00\x00\x08\x00\x00\x0f\xa0\x00\x00\xde\xad\x00\x00\x03\xe8\x00\x00\x00\x00\x00\x00\x00\x00\x00\x00\x00\x00\x00\x00\x00\x00\x00\x00\x00\x00\x00\x00\x00\x00\x00\x00\x00\x00\x00\x00\x00\x00\x00\x00\x00\x08\x00\x00\x0f\xa0\x00\x00\xde\xad\x00\x00\x03\xe8\x00\x00\x00\x00\x00\x00\x00\x00\x00\x00\x00\x00\x00\x00\x00\x00\x00\x00\x00\x00\x00\x00\x00\x00\x00\x00\x00\x00\x00\x00\x00\x00\x00\x00\x00\x08\x00\x00\x0f\xa0\x00\x00\xde\xad\x00\x00\x03\xe8\x00\x00\x00\x00\x00\x00\x00\x00\x00\x00\x00\x00\x00\x00\x00\x00\x00\x00\x00\x00\x00\x00\x00\x00\x00\x00\x00\x00\x00\x00\x00\x00\x00\x00\x00\x08\x00\x00\x0f\xa0\x00\x00\xde\xad\x00\x00\x03\xe8\x00\x00\x00\x00\x00\x00\x00\x00\x00\x00\x00\x00\x00\x00\x00\x00\x00\x00\x00\x00\x00\x00\x00\x00\x00\x00\x00\x00\x00\x00\x00\x00\x00\x00\x00\x08\x00\x00\x0f\xa0\x00\x00\xde\xad\x00\x00\x03\xe8\x00\x00\x00\x00\x00\x00\x00\x00\x00\x00\x00\x00\x00\x00\x00\x00\x00\x00\x00\x00\x00\x00\x00\x00\x00\x00\x00\x00\x00\x00\x00\x00\x00\x00\x00\x08\x00\x00\x0f\xa0\x00\x00\xde\xad\x00\x00\x03\xe8\x00\x00\x00\x00\x00\x00\x00\x00\x00\x00\x00\x00\x00\x00\x00\x00\x00\x00\x00\x00\x00\x00\x00\x00\x00\x00\x00\x00\x00\x00\x00\x00\x00\x00\x00\x08\x00\x00\x0f\xa0",
+                166,
+                b"\x03\xe85e5e5e5e-0000-4000-8000-000000000002\x00\x00\x00\x00\x00\x00\xde\xad\x00\x00\x03\xe8",
             ),
-            (32768, b"SKUL\xba\xbe\x00\x02\x00\x00\x00\x00\x00\x00\x80"),
-            (32791, b"\x01older"),
-            (32840, b"sha256"),
-            (32936, b"01d01d01-0000-4000-8000-000000000001"),
-            (33030, b"\x80"),
-            (
-                33216,
-                b"\xb6\xc4\x11-\x90\xccG\x9ePm\xdd\xe3\x0c%\x1f{\xc6\xf6j\x93\xbcI\xb4\xe4\xdf\x1b;\x5c\xa8\x85\xa6?",
-            ),
-            (
-                36864,
-                b"{\x22config\x22:{\x22json_size\x22:\x2228672\x22,\x22keyslots_size\x22:\x22512\x22},\x22digests\x22:{\x220\x22:{\x22digest\x22:\x22AAAAAAAAAAAAAAAAAAAAAAAAAAAAAAAAAAAAAAAAAAA=\x22,\x22hash\x22:\x22sha256\x22,\x22iterations\x22:1000,\x22keyslots\x22:[\x220\x22],\x22salt\x22:\x22IiIiIiIiIiIiIiIiIiIiIiIiIiIiIiIiIiIiIiIiIiI=\x22,\x22segments\x22:[\x220\x22],\x22type\x22:\x22pbkdf2\x22}},\x22keyslots\x22:{\x220\x22:{\x22af\x22:{\x22hash\x22:\x22sha256\x22,\x22stripes\x22:1,\x22type\x22:\x22luks1\x22},\x22area\x22:{\x22encryption\x22:\x22aes-xts-plain64\x22,\x22key_size\x22:64,\x22offset\x22:\x2265536\x22,\x22size\x22:\x22512\x22,\x22type\x22:\x22raw\x22},\x22kdf\x22:{\x22hash\x22:\x22sha256\x22,\x22iterations\x22:1000,\x22salt\x22:\x22ERERERERERERERERERERERERERERERERERERERERERE=\x22,\x22type\x22:\x22pbkdf2\x22},\x22key_size\x22:64,\x22type\x22:\x22luks2\x22}},\x22segments\x22:{\x220\x22:{\x22encryption\x22:\x22aes-xts-plain64\x22,\x22iv_tweak\x22:\x220\x22,\x22offset\x22:\x2266048\x22,\x22sector_size\x22:512,\x22size\x22:\x22dynamic\x22,\x22type\x22:\x22crypt\x22}},\x22tokens\x22:{}}",
-            ),
+            (251, b"\x08\x00\x00\x0f\xa0\x00\x00\xde\xad\x00\x00\x03\xe8"),
+            (299, b"\x08\x00\x00\x0f\xa0\x00\x00\xde\xad\x00\x00\x03\xe8"),
+            (347, b"\x08\x00\x00\x0f\xa0\x00\x00\xde\xad\x00\x00\x03\xe8"),
+            (395, b"\x08\x00\x00\x0f\xa0\x00\x00\xde\xad\x00\x00\x03\xe8"),
+            (443, b"\x08\x00\x00\x0f\xa0\x00\x00\xde\xad\x00\x00\x03\xe8"),
+            (491, b"\x08\x00\x00\x0f\xa0\x00\x00\xde\xad\x00\x00\x03\xe8"),
+            (539, b"\x08\x00\x00\x0f\xa0\x00\x00\xde\xad\x00\x00\x03\xe8"),
+            (587, b"\x08\x00\x00\x0f\xa0"),
         ],
         second: false,
         size: None,
@@ -1137,6 +1125,7 @@ pub(crate) const REFUSALS: &[Row] = &[
     },
     Row {
         what: "a LUKS1 header counts",
+        behind: false,
         runs: &[],
         changes: &[(7, b"\x01")],
         second: false,
@@ -1150,6 +1139,7 @@ pub(crate) const REFUSALS: &[Row] = &[
     },
     Row {
         what: "both texts are broken",
+        behind: false,
         runs: &[],
         changes: &[
             (104, b"\x01"),
@@ -1168,6 +1158,7 @@ pub(crate) const REFUSALS: &[Row] = &[
     },
     Row {
         what: "the first is whole, the second is asked for",
+        behind: false,
         runs: &[],
         changes: &[(104, b"\x01"), (16488, b"\x01"), (20480, b"x")],
         second: true,
@@ -1181,6 +1172,7 @@ pub(crate) const REFUSALS: &[Row] = &[
     },
     Row {
         what: "no byte",
+        behind: false,
         runs: &[],
         changes: &[],
         second: false,
@@ -1194,6 +1186,7 @@ pub(crate) const REFUSALS: &[Row] = &[
     },
     Row {
         what: "a byte less than a copy",
+        behind: false,
         runs: &[],
         changes: &[],
         second: false,
@@ -1207,6 +1200,7 @@ pub(crate) const REFUSALS: &[Row] = &[
     },
     Row {
         what: "the first copy alone is there",
+        behind: false,
         runs: &[],
         changes: &[(104, b"\x01")],
         second: false,
@@ -1220,6 +1214,7 @@ pub(crate) const REFUSALS: &[Row] = &[
     },
     Row {
         what: "a key area runs past the end",
+        behind: false,
         runs: &[],
         changes: &[(104, b"\x01"), (16488, b"\x01")],
         second: false,
@@ -1233,6 +1228,7 @@ pub(crate) const REFUSALS: &[Row] = &[
     },
     Row {
         what: "a key area runs past the end by a byte",
+        behind: false,
         runs: &[],
         changes: &[
             (104, b"\x01"),
@@ -1253,6 +1249,7 @@ pub(crate) const REFUSALS: &[Row] = &[
     },
     Row {
         what: "two key areas meet",
+        behind: false,
         runs: &[],
         changes: &[
             (104, b"\x01"),
@@ -1271,6 +1268,7 @@ pub(crate) const REFUSALS: &[Row] = &[
     },
     Row {
         what: "the target is short by a byte",
+        behind: false,
         runs: &[],
         changes: &[(104, b"\x01"), (16488, b"\x01")],
         second: false,
@@ -1284,6 +1282,7 @@ pub(crate) const REFUSALS: &[Row] = &[
     },
     Row {
         what: "a text in place of a uuid",
+        behind: false,
         runs: &[],
         changes: &[(104, b"\x01"), (16488, b"\x01")],
         second: false,
@@ -1297,6 +1296,7 @@ pub(crate) const REFUSALS: &[Row] = &[
     },
     Row {
         what: "a uuid less a digit",
+        behind: false,
         runs: &[],
         changes: &[(104, b"\x01"), (16488, b"\x01")],
         second: false,
@@ -1310,6 +1310,7 @@ pub(crate) const REFUSALS: &[Row] = &[
     },
     Row {
         what: "a uuid with a digit too many",
+        behind: false,
         runs: &[],
         changes: &[(104, b"\x01"), (16488, b"\x01")],
         second: false,
@@ -1323,6 +1324,7 @@ pub(crate) const REFUSALS: &[Row] = &[
     },
     Row {
         what: "a byte of random bytes too few",
+        behind: false,
         runs: &[],
         changes: &[(104, b"\x01"), (16488, b"\x01")],
         second: false,
@@ -1336,6 +1338,7 @@ pub(crate) const REFUSALS: &[Row] = &[
     },
     Row {
         what: "a byte of random bytes too many",
+        behind: false,
         runs: &[],
         changes: &[(104, b"\x01"), (16488, b"\x01")],
         second: false,
