@@ -169,10 +169,3 @@ module _ (h : List ℕ) (is : IsSource h) where
 -- a header that was read, whose new areas have room, can be converted
 pub source_of : (h : List ℕ) (d : Luks1) → IsBytes h → length h ≡ 592 → IsLuks1 h d → HasRoom h → IsSource h
 source_of h d are_bytes long fields room = record { are_bytes = are_bytes; long = long; fields = (d, fields); room = room }
-
--- the key of a header that was read
-pub key_short : (h : List ℕ) (d : Luks1) → IsLuks1 h d → d.common.key_bytes ≤ 128
-key_short h d is =
-    let most = is.common.key_at_most in
-    let same : key_bytes_of h ≡ d.common.key_bytes = is.common.fields.key_bytes in
-    omega (arith, most, same)

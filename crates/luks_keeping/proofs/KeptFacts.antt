@@ -28,8 +28,6 @@ first_placed : (v : List ℕ) (o : ℕ) → o ≡ 0 → IsSound v 0 → 16384 �
 first_placed v o zero sound = subst (λ (p : ℕ). 16384 ≤ hdr_size (header_at v p)) (sym zero) (large_of v 0 sound)
 
 pub is_placed : (v : List ℕ) (o : ℕ) (copies : Copies) → IsChosenCopy v o copies → IsPlaced v o copies
-is_placed v o InStep x = record { low = omega arith; high = (let zero = x.2 in omega (arith, zero)); large = first_placed v o x.2 x.0.first }
-is_placed v o FirstNewer x = record { low = omega arith; high = (let zero = x.2 in omega (arith, zero)); large = first_placed v o x.2 x.0.first }
 is_placed v o SecondNewer x =
     let first = large_of v 0 x.0.first in
     let there : IsSound v o = subst (IsSound v) (sym x.2) x.0.second in
@@ -42,6 +40,7 @@ is_placed v o SecondOnly x =
     let low = least_large v o x in
     let size = second_size v o low x.sound in
     record { low = omega (arith, low); high = omega (arith, size); large = large }
+is_placed v o other x = record { low = omega arith; high = (let zero = x.2 in omega (arith, zero)); large = first_placed v o x.2 x.0.first }
 
 -- ---- what counts
 
@@ -122,9 +121,8 @@ pub fields_same : (v w : List ℕ) → HasHeader v luks1 w → part w 0 592 ≡ 
 fields_same v w h = inside_same v w 0 592 0 592 (omega arith) (omega arith) h.behind
 
 pub size_same : (v w : List ℕ) (c : Choice) → Chosen v c → HasHeader v c w → header_size w c ≡ header_size v c
-size_same v w luks1 x h = refl
 size_same v w (luks2 o copies) x h = ap (λ b. 2 * hdr_size b) (header_same v w o copies x.1 h)
-size_same v w nothing x h = refl
+size_same v w other x h = refl
 
 -- a volume of any length with that header is well formed where it would be
 pub formed_there : (v w : List ℕ) (payload : Data) (total : ℕ) (c : Choice) → Chosen v c → HasHeader v c w → IsFormedOnAs v payload total c → IsFormedOnAs w payload total c
@@ -143,14 +141,6 @@ area_there v w (luks2 o copies) x h n a is =
 area_there v w nothing x h n a is = is
 
 -- ---- back again
-
--- the header of `w` stands in the volume, but for what isn't kept
-pub area_here : (v w : List ℕ) (c : Choice) → Chosen v c → HasHeader v c w → (n : ℕ) (a : Area) → KeptArea w c n a → KeptArea v c n a
-area_here v w luks1 x h n a is = subst (λ (b : List ℕ). IsUsedArea b n a) (fields_same v w h) is
-area_here v w (luks2 o copies) x h n a is =
-    subst (λ (b : List ℕ). HasLuks2Area b (json_at v o) Elsewhere 0 (Slot n) a) (header_same v w o copies x.1 h)
-    (subst (λ (j : List ℕ). HasLuks2Area (header_at w o) j Elsewhere 0 (Slot n) a) (json_same v w o copies x.1 h) is)
-area_here v w nothing x h n a is = is
 
 -- what has the header of the one has that of the other
 header_then : (v b w : List ℕ) (c : Choice) → Chosen v c → HasHeader v c b → HasHeader b c w → HasHeader v c w

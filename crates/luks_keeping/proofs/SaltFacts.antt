@@ -1,9 +1,6 @@
 -- The salts of keyslots, and how they stand to each other.
-use Rattle.std.proofs.Common.{◌≡◌, ◌↔◌, ℕ, ◌<◌, ◌≤◌, List, Some, IsTrue, sym, ap, subst, ◌∙◌, arith}
+use Rattle.std.proofs.Common.{◌≡◌, ◌↔◌, ℕ, List, Some, IsTrue, sym, ap, subst, ◌∙◌}
 use Rattle.serde_json.specs.Data.{Data as Value}
-use Rattle.luks1_header.specs.Header1.{active_word, disabled_word, enabled_word, entry, word_of, IsEntry}
-use Rattle.luks1_header.specs.declared.luks1.Luks1Slot.{Luks1Slot}
-use Rattle.luks1_header.specs.declared.luks1.SlotState.TheVariants.{Disabled, Enabled}
 use Rattle.luks_rules.proofs.AreaFaults.{one_value}
 use Rattle.luks_meta.specs.Content.{content}
 use Rattle.luks_rules.specs.Faults.{member_at}
@@ -13,7 +10,7 @@ use Rattle.luks_rules.specs.declared.table.Outer.TheVariants.{Kdf}
 use Rattle.luks_reading.specs.Header.{json_at, IsHeader}
 use Rattle.luks_reading.specs.declared.header.Header.{Header}
 use Rattle.luks_reading.specs.declared.header.Header.TheVariants.{Luks1, Luks2}
-use Rattle.luks_keeping.specs.Compared.{HasSalt2, HasSaltAs, IsCompared, IsGone, IsUsedSalt, StandsSo}
+use Rattle.luks_keeping.specs.Compared.{HasSalt2, HasSaltAs, IsCompared, IsUsedSalt, StandsSo}
 use Rattle.luks_keeping.specs.Laid.{choice_of}
 use Rattle.luks_keeping.specs.SameKeys.{SharesHeader}
 use Rattle.luks_keeping.specs.Salts.{HasHeaderSalt, HoldsKeeping, IsSameOrOlder}
@@ -22,21 +19,6 @@ use Rattle.luks_keeping.specs.declared.comparison.Keeping.{Keeping}
 use Rattle.luks_keeping.specs.declared.comparison.Keeping.TheVariants.{Absent, Same, Older, Missing, Removed}
 use Rattle.luks_keeping.proofs.KeyFacts.{shares_digest, shares_header}
 use Rattle.luks_keeping.proofs.LaidFacts.{chosen_of}
-
--- ---- one keyslot of LUKS1
-
-module _ (h : List ℕ) (n : ℕ) (s : Luks1Slot) (own : IsEntry (entry h n) s) where
-  pub salted_there : n < 8 → s.state ≡ Enabled → (salt : List ℕ) → salt ≡ s.salt → IsUsedSalt h n salt
-  salted_there low on salt is = record { numbered = low; enabled = own.fields.state ∙ ap word_of on; salted = own.fields.salt ∙ sym is }
-
-  pub unsalted_there : s.state ≡ Disabled → IsGone (IsUsedSalt h n)
-  unsalted_there off salt used =
-      let word : active_word (entry h n) ≡ disabled_word = own.fields.state ∙ ap word_of off in
-      let other : enabled_word ≡ disabled_word = sym used.enabled ∙ word in
-      omega (arith, other)
-
-pub high_unsalted : (h : List ℕ) (n : ℕ) → 8 ≤ n → IsGone (IsUsedSalt h n)
-high_unsalted h n high salt used = (let low = used.numbered in omega (arith, high, low))
 
 -- ---- one salt
 
@@ -56,9 +38,7 @@ one_salt (Luks2 copy) n s t x y = one_salt2 (content copy.meta) n s t x y
 pub both_there : (h k : Header) (n : ℕ) (s t : List ℕ) → HasHeaderSalt h n s → HasHeaderSalt k n t → (state : Keeping) → IsSameOrOlder s t state → StandsSo (HasHeaderSalt h n) (HasHeaderSalt k n) state
 both_there h k n s t x y Same e = (s, (x, subst (HasHeaderSalt k n) (sym e) y))
 both_there h k n s t x y Older e = ((s, x), (t, y), λ u here there. e (one_salt h n s u x here ∙ one_salt k n u t there y))
-both_there h k n s t x y Absent e = absurd e
-both_there h k n s t x y Missing e = absurd e
-both_there h k n s t x y Removed e = absurd e
+both_there h k n s t x y other e = absurd e
 
 -- ---- the same of volumes
 

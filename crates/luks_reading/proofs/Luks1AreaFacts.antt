@@ -138,7 +138,6 @@ lists-here h payload total es a here start len listed =
         inr (ap Segment (sym g.0), luks1_area-unique h payload total (Segment 0) a b (refl, here, start, len) (subst (λ q. Luks1Area h payload total (Segment q) b) g.0 g))
 
     last : (n : AreaName) (b : Area) → Luks1Area h payload total n b → IsBefore n (Segment 1)
-    last Head1 b g = (omega arith, λ e. absurd (omega (arith, e)))
     last Head2 b g = absurd g
-    last (Slot k) b g = (omega arith, λ e. absurd (omega (arith, e)))
     last (Segment k) b g = (omega arith, λ _. let zero = g.0 in omega (arith, zero))
+    last other b g = (omega arith, λ e. absurd (omega (arith, e)))

@@ -89,9 +89,8 @@ ok_agrees None (refused f) e = e
 
 -- a refusal by a fault of the volume's own
 own_agrees : (f : OpenFault) (a : Opened) → IsOwn f → IsSameAnswer a (refused f) → Agrees a (Err f)
-own_agrees f (opens k) own e = absurd e
-own_agrees f no_key own e = absurd e
 own_agrees f (refused g) own e = own.same g e
+own_agrees f other own e = absurd e
 
 -- the device's failure and want of memory agree with each answer
 device_agrees : (a : Opened) → Agrees a (Err Device)
