@@ -1,32 +1,180 @@
 -- What `rebuild` answers, by what it met.
-use Rattle.std.proofs.Common.{◌≡◌, ◌≢◌, ℕ, List, Option, false, refl}
+use Rattle.std.proofs.Common.{◌≡◌, ◌≢◌, ◌⊎◌, List, ℕ, false, Option, None, Some, refl, sym, subst, inl, inr, length, [], ◌∙◌}
+use Rattle.luks_area.specs.Ranges.{SameBut}
+use Rattle.luks_copying.specs.TwoDevices.{CountsAfter, IsOneFailure}
 use Rattle.luks_rebuilding.specs.RebuildFaults.{is_rebuild_failure}
-use Rattle.luks_rebuilding.specs.Outcome.{IsAnsweredFault}
-use Rattle.luks_copying.specs.TwoDevices.{CountsAfter}
+use Rattle.luks_rebuilding.specs.Outcome.{IsAnsweredFault, IsRebuildFault}
+use Rattle.luks_rebuilding.specs.Rebuilt.{IsOfRebuilt}
+use Rattle.luks_rebuilding.specs.declared.place.Which.{Which}
 use Rattle.luks_rebuilding.specs.declared.rebuild_fault.RebuildFault.{RebuildFault}
-use Rattle.luks_rebuilding.specs.declared.rebuild_fault.RebuildFault.TheVariants.{Memory, Device}
+use Rattle.luks_rebuilding.specs.declared.rebuild_fault.RebuildFault.TheVariants.{Counts, NoMetadata, Memory, Device}
+use Rattle.luks1_mending.specs.declared.given.Given.{Given}
+use Rattle.luks1_rebuilding.specs.RebuildFaults.{is_rebuild_failure as is_rebuild1_failure}
+use Rattle.luks1_rebuilding.specs.KeyAreas.{header_of}
+use Rattle.luks1_rebuilding.specs.Outcome.{IsAnsweredFault as IsAnsweredFault1, IsRebuildable as IsRebuildable1, LacksHeader}
+use Rattle.luks1_rebuilding.specs.declared.rebuild_fault.Rebuild1Fault.{Rebuild1Fault}
+use Rattle.luks1_rebuilding.specs.declared.rebuild_fault.Rebuild1Fault.TheVariants as fault1
+use Rattle.luks_request.specs.declared.rebuilding.Meant.{Meant}
+use Rattle.luks_request.specs.declared.rebuilding.Meant.TheVariants.{Luks1, Luks2, Either}
+use Rattle.luks_request.specs.declared.rebuilding.Rebuilding.{Rebuilding}
 use Rattle.luks_commands.specs.declared.answers.Answer.{Answer}
 use Rattle.luks_commands.specs.declared.answers.Answer.TheVariants as answer
+use Rattle.luks_commands.specs.declared.answers.Refusal.TheVariants as refusal
 use Rattle.luks_commands.specs.declared.answers.Status.TheVariants.{NotInStep}
-use Rattle.luks_commands.specs.Answer.{answer_status, rebuild_fault_answer}
-use Rattle.luks_header_commands.specs.Rebuilding.{IsRebuildAnswer}
-use Rattle.luks_header_commands.specs.Target.{Pair}
-use Rattle.luks_rebuilding.specs.declared.place.Which.{Which}
+use Rattle.luks_commands.specs.Answer.{answer_status, rebuild_fault_answer, rebuild1_fault_answer}
+use Rattle.luks_header_commands.specs.Rebuilding.{given_of, which_of, IsAnswerOf, IsLuks1Answer, IsLuks2Answer, IsNewHeader1, KeepsMeant, LeadsToLuks1, StaysLuks2, TurnsToLuks1}
+use Rattle.luks_header_commands.specs.Target.{NoneFailed, Pair}
+use Rattle.luks_header_commands.specs.Turned.{stays, turns, unread, IsTurnedRest, Turned}
 
--- a fault that isn't a device's left the target as it was
+-- a fault of LUKS2 that isn't a device's left the target as it was
 pub answers_fault : (tells : Type 0) (which : Which) (given : Option (List ℕ)) (random : List ℕ) (d : Pair) (f : RebuildFault)
     → CountsAfter (is_rebuild_failure f) d.volume_before d.volume_after d.before d.after
     → (is_rebuild_failure f ≡ false → tells → d.new ≡ d.old) → (tells → IsAnsweredFault d.volume which given d.total random f)
-    → IsRebuildAnswer tells which given random d (rebuild_fault_answer f)
+    → IsLuks2Answer tells which given random d (rebuild_fault_answer f)
 answers_fault tells which given random d Device count same is = count
 answers_fault tells which given random d Memory count same is = (count, same refl, is)
 answers_fault tells which given random d f count same is = (count, same refl, is)
 
+-- and one of LUKS1
+pub answers_fault1 : (tells : Type 0) (given : Given) (d : Pair) (f : Rebuild1Fault)
+    → CountsAfter (is_rebuild1_failure f) d.volume_before d.volume_after d.before d.after
+    → (is_rebuild1_failure f ≡ false → tells → d.new ≡ d.old) → (tells → IsAnsweredFault1 d.volume given d.total f)
+    → IsLuks1Answer tells given d (rebuild1_fault_answer f)
+answers_fault1 tells given d fault1.Device count same is = count
+answers_fault1 tells given d f count same is = (count, same refl, is)
+
 -- no answer tells of copies out of step
-pub rebuild_kinds : (tells : Type 0) (which : Which) (given : Option (List ℕ)) (random : List ℕ) (d : Pair) (a : Answer) → IsRebuildAnswer tells which given random d a
+pub luks2_kinds : (tells : Type 0) (which : Which) (given : Option (List ℕ)) (random : List ℕ) (d : Pair) (a : Answer) → IsLuks2Answer tells which given random d a
     → answer_status a ≢ NotInStep
-rebuild_kinds tells which given random d (answer.Done slot) is = λ e. cc
-rebuild_kinds tells which given random d (answer.Refused r) is = λ e. cc
-rebuild_kinds tells which given random d answer.DeviceFault is = λ e. cc
-rebuild_kinds tells which given random d answer.NoMemory is = λ e. cc
-rebuild_kinds tells which given random d a is = absurd is
+luks2_kinds tells which given random d (answer.Done slot) is = λ e. cc
+luks2_kinds tells which given random d (answer.Refused r) is = λ e. cc
+luks2_kinds tells which given random d answer.DeviceFault is = λ e. cc
+luks2_kinds tells which given random d answer.NoMemory is = λ e. cc
+luks2_kinds tells which given random d a is = absurd is
+
+pub luks1_kinds : (tells : Type 0) (given : Given) (d : Pair) (a : Answer) → IsLuks1Answer tells given d a → answer_status a ≢ NotInStep
+luks1_kinds tells given d (answer.Done slot) is = λ e. cc
+luks1_kinds tells given d (answer.Refused r) is = λ e. cc
+luks1_kinds tells given d answer.DeviceFault is = λ e. cc
+luks1_kinds tells given d a is = absurd is
+
+-- a target that is as it was has kept its rest
+same_but : (touched : ℕ → Type 0) (bytes : List ℕ) → SameBut touched bytes bytes
+same_but touched bytes = record { length_same = refl; each = λ p apart. refl }
+
+pub keeps_same : (meant : Meant) (r : Rebuilding) (volume target : List ℕ) → KeepsMeant meant r volume target target
+keeps_same Luks1 r volume target = same_but _ target
+keeps_same Luks2 r volume target = same_but _ target
+keeps_same Either r volume target = inl (same_but _ target)
+
+-- ---- LUKS2's fault, then what is answered in its place
+
+-- `d` has begun where `e` had changed nothing, and both end as one
+pub record IsLater (tells : Type 0) (d e : Pair) : Type 0 where
+  pub volume : tells → d.volume ≡ e.volume
+  pub total : d.total ≡ e.total
+  pub old : tells → d.old ≡ e.old
+  pub new : d.new ≡ e.new
+  pub volume_before : d.volume_before ≡ e.volume_before
+  pub volume_after : d.volume_after ≡ e.volume_after
+  pub before : d.before ≡ e.before
+  pub after : d.after ≡ e.after
+
+-- no call failed then, or one
+none_later : (tells : Type 0) (d e : Pair) → IsLater tells d e → NoneFailed d → NoneFailed e
+none_later tells d e later none =
+    (sym later.volume_after ∙ (none.0 ∙ later.volume_before), sym later.after ∙ (none.1 ∙ later.before))
+
+one_later : (tells : Type 0) (d e : Pair) → IsLater tells d e → IsOneFailure d.volume_before d.volume_after d.before d.after
+    → IsOneFailure e.volume_before e.volume_after e.before e.after
+one_later tells d e later one =
+    subst (λ (n : ℕ). IsOneFailure e.volume_before e.volume_after e.before n) later.after
+    (subst (λ (n : ℕ). IsOneFailure e.volume_before e.volume_after n d.after) later.before
+    (subst (λ (n : ℕ). IsOneFailure e.volume_before n d.before d.after) later.volume_after
+    (subst (λ (n : ℕ). IsOneFailure n d.volume_after d.before d.after) later.volume_before one)))
+
+-- the target is as it was
+same_later : (tells : Type 0) (d e : Pair) → IsLater tells d e → (tells → d.new ≡ d.old) → tells → e.new ≡ e.old
+same_later tells d e later same told = sym later.new ∙ (same told ∙ later.old told)
+
+-- what is said of the volume and of how long the target is
+said_later : (tells : Type 0) (d e : Pair) (says : List ℕ → ℕ → Type 0) → IsLater tells d e → (tells → says d.volume d.total) → tells → says e.volume e.total
+said_later tells d e says later said told =
+    subst (λ (n : ℕ). says e.volume n) later.total (subst (λ (v : List ℕ). says v d.total) (later.volume told) (said told))
+
+-- and of the volume and the target before and after
+bytes_later : (tells : Type 0) (d e : Pair) (says : List ℕ → List ℕ → List ℕ → Type 0) → IsLater tells d e → (tells → says d.volume d.old d.new)
+    → tells → says e.volume e.old e.new
+bytes_later tells d e says later said told =
+    subst (λ (n : List ℕ). says e.volume e.old n) later.new
+    (subst (λ (o : List ℕ). says e.volume o d.new) (later.old told)
+    (subst (λ (v : List ℕ). says v d.old d.new) (later.volume told) (said told)))
+
+-- what LUKS1 answers
+luks1_later : (tells : Type 0) (given : Given) (d e : Pair) (a : Answer) → IsLater tells d e → IsLuks1Answer tells given d a → IsLuks1Answer tells given e a
+luks1_later tells given d e (answer.Done slot) later said = (
+  none_later tells d e later said.0,
+  said.1,
+  said_later tells d e (λ v n. IsRebuildable1 v given n) later said.2,
+  bytes_later tells d e (λ v old new. IsNewHeader1 v given old new) later said.3,
+)
+luks1_later tells given d e (answer.Refused (refusal.Rebuild1 fault1.Device)) later said = said
+luks1_later tells given d e (answer.Refused (refusal.Rebuild1 f)) later said = (
+  none_later tells d e later said.0,
+  same_later tells d e later said.1,
+  said_later tells d e (λ v n. IsAnsweredFault1 v given n f) later said.2,
+)
+luks1_later tells given d e answer.DeviceFault later said = one_later tells d e later said
+luks1_later tells given d e a later said = absurd said
+
+-- the two faults that may lead to LUKS1 are answered by LUKS2 as they are
+led_answer : (tells : Type 0) (which : Which) (given : Option (List ℕ)) (random : List ℕ) (e : Pair) (f : RebuildFault) → (f ≡ NoMetadata) ⊎ (f ≡ Counts)
+    → NoneFailed e → (tells → e.new ≡ e.old) → (tells → IsAnsweredFault e.volume which given e.total random f)
+    → IsLuks2Answer tells which given random e (answer.Refused (refusal.Rebuild f))
+led_answer tells which given random e NoMetadata led none same first = (none, same, first)
+led_answer tells which given random e Counts led none same first = (none, same, first)
+led_answer tells which given random e f (inl is) none same first = absurd is
+led_answer tells which given random e f (inr is) none same first = absurd is
+
+-- what is answered of either version where LUKS2 is refused by such a fault
+pub turned_answers : (tells : Type 0) (r : Rebuilding) (random : List ℕ) (d e : Pair) (f : RebuildFault) (a : Answer) → (f ≡ NoMetadata) ⊎ (f ≡ Counts)
+    → IsLater tells d e → (tells → IsAnsweredFault e.volume (which_of r.second) (given_of r) e.total random f)
+    → Turned tells r.luks1 f d a → IsAnswerOf Either tells r random e a
+turned_answers tells r random d e f a led later first (stays none same lacks is) =
+    inl (
+      subst (IsLuks2Answer tells (which_of r.second) (given_of r) random e) (sym is)
+      (led_answer tells (which_of r.second) (given_of r) random e f led (none_later tells d e later none) (same_later tells d e later same) first),
+      λ told. subst (StaysLuks2 e.volume) (sym is) (subst (λ (v : List ℕ). LeadsToLuks1 v f → LacksHeader (header_of v) (length v)) (later.volume told) (lacks told)),
+    )
+turned_answers tells r random d e f a led later first (unread one is) =
+    inl (
+      subst (IsLuks2Answer tells (which_of r.second) (given_of r) random e) (sym is) (one_later tells d e later one),
+      λ told. subst (StaysLuks2 e.volume) (sym is) tt,
+    )
+turned_answers tells r random d e f a led later first (turns leads said has) = inr (record {
+  fault = f;
+  first = first;
+  leads = said_later tells d e (λ v n. LeadsToLuks1 v f) later leads;
+  is = luks1_later tells r.luks1 d e a later said;
+  has_header = has;
+})
+
+-- LUKS2 answers otherwise
+other_stays : (v : List ℕ) (f : RebuildFault) → f ≢ NoMetadata → f ≢ Counts → StaysLuks2 v (rebuild_fault_answer f)
+other_stays v NoMetadata a b = absurd (a refl)
+other_stays v Counts a b = absurd (b refl)
+other_stays v Memory a b = tt
+other_stays v Device a b = tt
+other_stays v f a b = λ leads. absurd leads.leads
+
+-- no answer of either is of copies out of step
+pub turned_kinds : (tells : Type 0) (luks1 : Given) (f : RebuildFault) (d : Pair) (a : Answer) → Turned tells luks1 f d a → answer_status a ≢ NotInStep
+turned_kinds tells luks1 f d a (stays none same lacks is) = subst (λ (x : Answer). answer_status x ≢ NotInStep) (sym is) (λ e. cc)
+turned_kinds tells luks1 f d a (unread one is) = subst (λ (x : Answer). answer_status x ≢ NotInStep) (sym is) (λ e. cc)
+turned_kinds tells luks1 f d a (turns leads said has) = luks1_kinds tells luks1 d a said
+
+-- which bytes have changed then
+pub turned_rest : (r : Rebuilding) (f : RebuildFault) (v old new : List ℕ) → (f ≡ NoMetadata) ⊎ (f ≡ Counts)
+    → IsRebuildFault v (which_of r.second) None 0 [] f → IsTurnedRest r.luks1 f v old new → KeepsMeant Either r v old new
+turned_rest r f v old new led is (inl same) = inl (subst (λ (n : List ℕ). SameBut (IsOfRebuilt v (which_of r.second)) old n) (sym same) (same_but _ old))
+turned_rest r f v old new led is (inr x) = inr (record { fault = f; is = is; leads = x.0 }, x.1)

@@ -1,23 +1,34 @@
 -- What the command `rebuild` leaves of its target, and what it may answer.
-use Rattle.std.specs.Prelude.{◌≡◌, ◌↔◌, ℕ, List, Option, None, option_map, Bool, true, false, Result}
+use Rattle.std.specs.Prelude.{◌≡◌, ◌≢◌, ◌⊎◌, ◌↔◌, ℕ, ◌≤◌, List, [], length, Option, None, option_map, Bool, true, false, Result}
 use Rattle.luks_area.specs.Ranges.{SameBut}
 use Rattle.luks_copying.specs.TwoDevices.{IsOneFailure}
+use Rattle.luks1_header.specs.Header1.{luks1_size, version_of, HasMagic}
 use Rattle.luks_reading.specs.declared.report.Data.TheVariants.{Elsewhere}
 use Rattle.luks_reading.specs.Answer.{AnswerWithin as Opening, Opened}
 use Rattle.luks_reading.specs.Checked.{WellFormed}
 use Rattle.luks_rebuilding.specs.Candidates.{json_of, OfTaken}
 use Rattle.luks_rebuilding.specs.Gives.{Gives}
-use Rattle.luks_rebuilding.specs.Outcome.{IsAnsweredFault, IsRebuildable}
+use Rattle.luks_rebuilding.specs.Outcome.{IsAnsweredFault, IsRebuildable, IsRebuildFault}
 use Rattle.luks_rebuilding.specs.Rebuilt.{IsOfRebuilt, IsRebuilt}
 use Rattle.luks_rebuilding.specs.declared.place.Which.{Which}
 use Rattle.luks_rebuilding.specs.declared.place.Which.TheVariants.{Any, Second}
+use Rattle.luks_rebuilding.specs.declared.rebuild_fault.RebuildFault.{RebuildFault}
 use Rattle.luks_rebuilding.specs.declared.rebuild_fault.RebuildFault.TheVariants as fault
+use Rattle.luks1_mending.specs.declared.given.Given.{Given}
+use Rattle.luks1_rebuilding.specs.Gives.{Gives as GivesKept}
+use Rattle.luks1_rebuilding.specs.KeyAreas.{header_of, IsKeptInUse}
+use Rattle.luks1_rebuilding.specs.Outcome.{IsAnsweredFault as IsAnsweredFault1, IsRebuildable as IsRebuildable1, LacksHeader}
+use Rattle.luks1_rebuilding.specs.Rebuilt.{IsOfRebuilt as IsOfRebuilt1, IsRebuilt as IsRebuilt1}
+use Rattle.luks1_rebuilding.specs.declared.rebuild_fault.Rebuild1Fault.TheVariants as fault1
+use Rattle.luks_request.specs.Meant.{meant_by}
+use Rattle.luks_request.specs.declared.rebuilding.Meant.{Meant}
+use Rattle.luks_request.specs.declared.rebuilding.Meant.TheVariants.{Luks1, Luks2, Either}
 use Rattle.luks_request.specs.declared.rebuilding.Rebuilding.{Rebuilding}
 use Rattle.luks_request.specs.declared.request.Command.{Command}
 use Rattle.luks_request.specs.declared.request.Command.TheVariants as command
 use Rattle.luks_commands.specs.declared.answers.Answer.{Answer}
 use Rattle.luks_commands.specs.declared.answers.Answer.TheVariants.{Done, Refused, DeviceFault, NoMemory}
-use Rattle.luks_commands.specs.declared.answers.Refusal.TheVariants.{Rebuild}
+use Rattle.luks_commands.specs.declared.answers.Refusal.TheVariants.{Rebuild, Rebuild1}
 use Rattle.luks_commands.specs.declared.inputs.InputFault.{InputFault}
 use Rattle.luks_header_commands.specs.Target.{AnswersHeader, NoneFailed, Pair}
 
@@ -33,6 +44,8 @@ which_of false = Any
 abbrev pub given_of : Rebuilding → Option (List ℕ)
 given_of rebuilding = option_map (λ text. text.now) rebuilding.uuid
 
+-- ---- a LUKS2 header, of metadata
+
 -- `new` is the target `old` after a header was made on it of the metadata of the volume `v`
 pub record IsNewHeader (v : List ℕ) (which : Which) (given : Option (List ℕ)) (random old new : List ℕ) : Type 0 where
   pub rebuilt : IsRebuilt v which given random old new
@@ -42,27 +55,103 @@ pub record IsNewHeader (v : List ℕ) (which : Which) (given : Option (List ℕ)
 
 -- which bytes of the target may have changed, whatever is answered: those of both copies of the header
 -- and of its key areas
-abbrev pub KeepsRest : Which → List ℕ → List ℕ → List ℕ → Type 0
-KeepsRest which volume old new = SameBut (IsOfRebuilt volume which) old new
+abbrev pub KeepsRest2 : Which → List ℕ → List ℕ → List ℕ → Type 0
+KeepsRest2 which volume old new = SameBut (IsOfRebuilt volume which) old new
 
 -- with these random bytes; `device fault` comes exactly where a call of one of the two failed
-abbrev pub IsRebuildAnswer : Type 0 → Which → Option (List ℕ) → List ℕ → Pair → Answer → Type 0
-IsRebuildAnswer tells which given random d (Done slot) = NoneFailed d × (slot ≡ None)
+abbrev pub IsLuks2Answer : Type 0 → Which → Option (List ℕ) → List ℕ → Pair → Answer → Type 0
+IsLuks2Answer tells which given random d (Done slot) = NoneFailed d × (slot ≡ None)
     × (tells → IsRebuildable d.volume which given d.total random) × (tells → IsNewHeader d.volume which given random d.old d.new)
-IsRebuildAnswer tells which given random d (Refused (Rebuild fault.Device)) = ⊥
-IsRebuildAnswer tells which given random d (Refused (Rebuild fault.Memory)) = ⊥
-IsRebuildAnswer tells which given random d (Refused (Rebuild f)) = NoneFailed d × (tells → d.new ≡ d.old)
+IsLuks2Answer tells which given random d (Refused (Rebuild fault.Device)) = ⊥
+IsLuks2Answer tells which given random d (Refused (Rebuild fault.Memory)) = ⊥
+IsLuks2Answer tells which given random d (Refused (Rebuild f)) = NoneFailed d × (tells → d.new ≡ d.old)
     × (tells → IsAnsweredFault d.volume which given d.total random f)
-IsRebuildAnswer tells which given random d DeviceFault = IsOneFailure d.volume_before d.volume_after d.before d.after
-IsRebuildAnswer tells which given random d NoMemory = NoneFailed d × (tells → d.new ≡ d.old)
+IsLuks2Answer tells which given random d DeviceFault = IsOneFailure d.volume_before d.volume_after d.before d.after
+IsLuks2Answer tells which given random d NoMemory = NoneFailed d × (tells → d.new ≡ d.old)
     × (tells → IsAnsweredFault d.volume which given d.total random fault.Memory)
-IsRebuildAnswer tells which given random d a = ⊥
+IsLuks2Answer tells which given random d a = ⊥
+
+-- ---- a LUKS1 header, of its fields and keyslots
+
+-- `new` is the target `old` after a header was made on it of what stands in the volume `v`, and of what is given
+pub record IsNewHeader1 (v : List ℕ) (given : Given) (old new : List ℕ) : Type 0 where
+  pub rebuilt : IsRebuilt1 v given old new
+  pub well_formed : WellFormed new Elsewhere
+  -- each kept keyslot that is in use gives what the equations give for its entry, its area and the digest
+  pub opens : (memory n : ℕ) (p : List ℕ) (a : Opened) → IsKeptInUse v given n → GivesKept v given n p a ↔ Opening memory new n p a
+
+-- which bytes may have changed: those of the header, of the first sector of an older second copy, and of the key areas that
+-- are kept
+abbrev pub KeepsRest1 : Given → List ℕ → List ℕ → List ℕ → Type 0
+KeepsRest1 given volume old new = SameBut (IsOfRebuilt1 volume given) old new
+
+abbrev pub IsLuks1Answer : Type 0 → Given → Pair → Answer → Type 0
+IsLuks1Answer tells given d (Done slot) = NoneFailed d × (slot ≡ None)
+    × (tells → IsRebuildable1 d.volume given d.total) × (tells → IsNewHeader1 d.volume given d.old d.new)
+IsLuks1Answer tells given d (Refused (Rebuild1 fault1.Device)) = ⊥
+IsLuks1Answer tells given d (Refused (Rebuild1 f)) = NoneFailed d × (tells → d.new ≡ d.old)
+    × (tells → IsAnsweredFault1 d.volume given d.total f)
+IsLuks1Answer tells given d DeviceFault = IsOneFailure d.volume_before d.volume_after d.before d.after
+IsLuks1Answer tells given d a = ⊥
+
+-- ---- either
+
+-- such a fault of LUKS2 leads to LUKS1, by the volume's first 592 bytes: no metadata is whole, and they aren't those of a
+-- LUKS2 header; or a LUKS1 header stands there, accepted or not
+abbrev pub Leads : List ℕ → RebuildFault → Type 0
+Leads h fault.NoMetadata = version_of h ≢ 2
+Leads h fault.Counts = HasMagic h × (version_of h ≡ 1)
+Leads h f = ⊥
+
+pub record LeadsToLuks1 (v : List ℕ) (f : RebuildFault) : Type 0 where
+  pub long : luks1_size ≤ length v
+  pub leads : Leads (header_of v) f
+
+-- the volume has such a fault, whatever else is given and however long the target is
+pub record MayBeLuks1 (v : List ℕ) (which : Which) : Type 0 where
+  pub fault : RebuildFault
+  pub is : IsRebuildFault v which None 0 [] fault
+  pub leads : LeadsToLuks1 v fault
+
+-- LUKS2 answers, and where that leads to LUKS1 the volume lacks a header of it
+abbrev pub StaysLuks2 : List ℕ → Answer → Type 0
+StaysLuks2 v (Refused (Rebuild f)) = LeadsToLuks1 v f → LacksHeader (header_of v) (length v)
+StaysLuks2 v a = Unit {0}
+
+-- LUKS1 answers
+pub record TurnsToLuks1 (tells : Type 0) (which : Which) (given : Option (List ℕ)) (random : List ℕ) (luks1 : Given) (d : Pair) (a : Answer) : Type 0 where
+  pub fault : RebuildFault
+  pub first : tells → IsAnsweredFault d.volume which given d.total random fault
+  pub leads : tells → LeadsToLuks1 d.volume fault
+  pub is : IsLuks1Answer tells luks1 d a
+  pub has_header : a ≢ Refused (Rebuild1 fault1.NoHeader)
+
+-- ---- by what is meant
+
+abbrev pub KeepsMeant : Meant → Rebuilding → List ℕ → List ℕ → List ℕ → Type 0
+KeepsMeant Luks1 r volume old new = KeepsRest1 r.luks1 volume old new
+KeepsMeant Luks2 r volume old new = KeepsRest2 (which_of r.second) volume old new
+KeepsMeant Either r volume old new =
+    KeepsRest2 (which_of r.second) volume old new ⊎ (MayBeLuks1 volume (which_of r.second) × KeepsRest1 r.luks1 volume old new)
+
+abbrev pub KeepsRest : Rebuilding → List ℕ → List ℕ → List ℕ → Type 0
+KeepsRest r = KeepsMeant (meant_by r) r
+
+abbrev pub IsAnswerOf : Meant → Type 0 → Rebuilding → List ℕ → Pair → Answer → Type 0
+IsAnswerOf Luks1 tells r random d a = IsLuks1Answer tells r.luks1 d a
+IsAnswerOf Luks2 tells r random d a = IsLuks2Answer tells (which_of r.second) (given_of r) random d a
+IsAnswerOf Either tells r random d a =
+    (IsLuks2Answer tells (which_of r.second) (given_of r) random d a × (tells → StaysLuks2 d.volume a))
+    ⊎ TurnsToLuks1 tells (which_of r.second) (given_of r) random r.luks1 d a
+
+abbrev pub IsRebuildAnswer : Type 0 → Rebuilding → List ℕ → Pair → Answer → Type 0
+IsRebuildAnswer tells r random d a = IsAnswerOf (meant_by r) tells r random d a
 
 -- of the volume and the target, as `AnswersHeader` says
-abbrev pub AnswersRebuild : {D : Type 0} → Type 0 → (D → ℕ) → (D → List ℕ) → (D → ℕ) → Which → Option (List ℕ) → (InputFault → Type 0) → (List ℕ → Type 0)
+abbrev pub AnswersRebuild : {D : Type 0} → Type 0 → (D → ℕ) → (D → List ℕ) → (D → ℕ) → Rebuilding → (InputFault → Type 0) → (List ℕ → Type 0)
     → Result D InputFault → Result D InputFault → Result D InputFault → Result D InputFault → Answer → Type 0
-AnswersRebuild tells size bytes failed which given unread HasRandom volume volume_new old new a =
-    AnswersHeader tells size bytes failed (IsRebuildAnswer tells which given) unread HasRandom volume volume_new old new a
+AnswersRebuild tells size bytes failed r unread HasRandom volume volume_new old new a =
+    AnswersHeader tells size bytes failed (IsRebuildAnswer tells r) unread HasRandom volume volume_new old new a
 
 -- what holds of the command where it is `rebuild`
 abbrev pub WhereRebuild : Command → (Rebuilding → Type 0) → Type 0

@@ -12,7 +12,7 @@ use luks_files::{Volume, WHOLE, reopened};
 use luks_leftovers::{FrontFault, header_end, leftovers, note_leftovers, read_front};
 use luks_metadata_notes::{note_no_keyslots, note_taken, note_whole};
 use luks_rebuilding::Which;
-use luks_request::Place;
+use luks_request::{Meant, Place};
 use luks_signatures::first_use;
 use std::alloc::Global;
 use std::fs::File;
@@ -143,7 +143,9 @@ fn tell_more<R: AllocGlobal + Clock + Files<File = File>>(
             tell_leftovers(rt, Looked::at_whole(converting.target), notes)
         }
         (Command::Rebuild(rebuilding), 0) => {
-            tell_taken(rt, volume, rebuilding.second, notes);
+            if rebuilding.meant() != Meant::Luks1 {
+                tell_taken(rt, volume, rebuilding.second, notes);
+            }
             tell_leftovers(rt, Looked::at_whole(rebuilding.target), notes);
         }
         (Command::Check { data_: _ }, 3) => tell_other_use(rt, volume, notes),

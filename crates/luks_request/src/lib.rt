@@ -8,5 +8,6 @@ mod request;
 
 pub use keeping::{BackingUp, Comparing, Restoring};
 pub use place::Place;
-pub use rebuilding::Rebuilding;
+pub use luks1_mending::Given;
+pub use rebuilding::{Meant, Rebuilding};
 pub use request::{Command, Converting, EditRequest, Editing, Line, Making, NewVersion, ShowAs};
