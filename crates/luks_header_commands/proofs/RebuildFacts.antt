@@ -138,17 +138,17 @@ led_answer tells which given random e f (inr is) none same first = absurd is
 
 -- what is answered of either version where LUKS2 is refused by such a fault
 pub turned_answers : (tells : Type 0) (r : Rebuilding) (random : List ℕ) (d e : Pair) (f : RebuildFault) (a : Answer) → (f ≡ NoMetadata) ⊎ (f ≡ Counts)
-    → IsLater tells d e → (tells → IsAnsweredFault e.volume (which_of r.second) (given_of r) e.total random f)
+    → IsLater tells d e → (tells → IsAnsweredFault e.volume (which_of r) (given_of r) e.total random f)
     → Turned tells r.luks1 f d a → IsAnswerOf Either tells r random e a
 turned_answers tells r random d e f a led later first (stays none same lacks is) =
     inl (
-      subst (IsLuks2Answer tells (which_of r.second) (given_of r) random e) (sym is)
-      (led_answer tells (which_of r.second) (given_of r) random e f led (none_later tells d e later none) (same_later tells d e later same) first),
+      subst (IsLuks2Answer tells (which_of r) (given_of r) random e) (sym is)
+      (led_answer tells (which_of r) (given_of r) random e f led (none_later tells d e later none) (same_later tells d e later same) first),
       λ told. subst (StaysLuks2 e.volume) (sym is) (subst (λ (v : List ℕ). LeadsToLuks1 v f → LacksHeader (header_of v) (length v)) (later.volume told) (lacks told)),
     )
 turned_answers tells r random d e f a led later first (unread one is) =
     inl (
-      subst (IsLuks2Answer tells (which_of r.second) (given_of r) random e) (sym is) (one_later tells d e later one),
+      subst (IsLuks2Answer tells (which_of r) (given_of r) random e) (sym is) (one_later tells d e later one),
       λ told. subst (StaysLuks2 e.volume) (sym is) tt,
     )
 turned_answers tells r random d e f a led later first (turns leads said has) = inr (record {
@@ -175,6 +175,6 @@ turned_kinds tells luks1 f d a (turns leads said has) = luks1_kinds tells luks1 
 
 -- which bytes have changed then
 pub turned_rest : (r : Rebuilding) (f : RebuildFault) (v old new : List ℕ) → (f ≡ NoMetadata) ⊎ (f ≡ Counts)
-    → IsRebuildFault v (which_of r.second) None 0 [] f → IsTurnedRest r.luks1 f v old new → KeepsMeant Either r v old new
-turned_rest r f v old new led is (inl same) = inl (subst (λ (n : List ℕ). SameBut (IsOfRebuilt v (which_of r.second)) old n) (sym same) (same_but _ old))
+    → IsRebuildFault v (which_of r) None 0 [] f → IsTurnedRest r.luks1 f v old new → KeepsMeant Either r v old new
+turned_rest r f v old new led is (inl same) = inl (subst (λ (n : List ℕ). SameBut (IsOfRebuilt v (which_of r)) old n) (sym same) (same_but _ old))
 turned_rest r f v old new led is (inr x) = inr (record { fault = f; is = is; leads = x.0 }, x.1)

@@ -37,9 +37,12 @@ abbrev pub random_count : ℕ
 random_count = 144
 
 -- what the words of the command line ask for
-abbrev pub which_of : Bool → Which
-which_of true = Second
-which_of false = Any
+abbrev pub which_by : Bool → Option ℕ → Which
+which_by true size = Second
+which_by false size = Any
+
+abbrev pub which_of : Rebuilding → Which
+which_of rebuilding = which_by rebuilding.second rebuilding.size
 
 abbrev pub given_of : Rebuilding → Option (List ℕ)
 given_of rebuilding = option_map (λ text. text.now) rebuilding.uuid
@@ -130,19 +133,19 @@ pub record TurnsToLuks1 (tells : Type 0) (which : Which) (given : Option (List �
 
 abbrev pub KeepsMeant : Meant → Rebuilding → List ℕ → List ℕ → List ℕ → Type 0
 KeepsMeant Luks1 r volume old new = KeepsRest1 r.luks1 volume old new
-KeepsMeant Luks2 r volume old new = KeepsRest2 (which_of r.second) volume old new
+KeepsMeant Luks2 r volume old new = KeepsRest2 (which_of r) volume old new
 KeepsMeant Either r volume old new =
-    KeepsRest2 (which_of r.second) volume old new ⊎ (MayBeLuks1 volume (which_of r.second) × KeepsRest1 r.luks1 volume old new)
+    KeepsRest2 (which_of r) volume old new ⊎ (MayBeLuks1 volume (which_of r) × KeepsRest1 r.luks1 volume old new)
 
 abbrev pub KeepsRest : Rebuilding → List ℕ → List ℕ → List ℕ → Type 0
 KeepsRest r = KeepsMeant (meant_by r) r
 
 abbrev pub IsAnswerOf : Meant → Type 0 → Rebuilding → List ℕ → Pair → Answer → Type 0
 IsAnswerOf Luks1 tells r random d a = IsLuks1Answer tells r.luks1 d a
-IsAnswerOf Luks2 tells r random d a = IsLuks2Answer tells (which_of r.second) (given_of r) random d a
+IsAnswerOf Luks2 tells r random d a = IsLuks2Answer tells (which_of r) (given_of r) random d a
 IsAnswerOf Either tells r random d a =
-    (IsLuks2Answer tells (which_of r.second) (given_of r) random d a × (tells → StaysLuks2 d.volume a))
-    ⊎ TurnsToLuks1 tells (which_of r.second) (given_of r) random r.luks1 d a
+    (IsLuks2Answer tells (which_of r) (given_of r) random d a × (tells → StaysLuks2 d.volume a))
+    ⊎ TurnsToLuks1 tells (which_of r) (given_of r) random r.luks1 d a
 
 abbrev pub IsRebuildAnswer : Type 0 → Rebuilding → List ℕ → Pair → Answer → Type 0
 IsRebuildAnswer tells r random d a = IsAnswerOf (meant_by r) tells r random d a

@@ -26,7 +26,7 @@ pub(crate) fn make_of_either<D: Device, E: Write>(
     alloc: Global,
     volume: &mut D,
     target: &mut D,
-    making: &Making<'_>,
+    making: &Making<'_, '_, '_>,
     random: &[u8],
     err: &mut E,
 ) -> Answer
@@ -35,17 +35,17 @@ pub(crate) fn make_of_either<D: Device, E: Write>(
     requires settled { D.tells → IsSettled D.unsettled target.old }
     ensures unchanged { IsUnchanged D.tells D.size D.bytes D.unsettled volume.old volume.new }
     ensures size { D.size target.new ≡ D.size target.old }
-    ensures rest { D.tells → KeepsMeant Either making.now.rebuilding
+    ensures rest { D.tells → KeepsMeant Either making.now.rebuilding.now
         (D.bytes volume.old) (D.bytes target.old) (D.bytes target.new) }
     ensures settled { D.tells → D.failed volume.new ≡ D.failed volume.old
         → D.failed target.new ≡ D.failed target.old → IsSettled D.unsettled target.new }
     ensures kinds { answer_status result ≢ Status.NotInStep }
-    ensures answers { IsAnswerOf Either D.tells making.now.rebuilding random.now (pair_of D.size
+    ensures answers { IsAnswerOf Either D.tells making.now.rebuilding.now random.now (pair_of D.size
         D.bytes D.failed volume.old volume.new target.old target.new) result }
 {
     let files = making.files;
     let before = volume.failures();
-    let which = which_of(making.rebuilding.second);
+    let which = which_of(making.rebuilding);
     match rebuild(alloc, volume, target, which, making.rebuilding.uuid, random) {
         Ok(()) => {
             note_metadata(files, err);
@@ -68,7 +68,7 @@ fn turned<D: Device, E: Write>(
     fault: RebuildFault,
     volume: &mut D,
     target: &mut D,
-    making: &Making<'_>,
+    making: &Making<'_, '_, '_>,
     err: &mut E,
 ) -> Answer
     requires volume_room { D.failed volume.old + 1 < 2 ^ 64 }
@@ -77,12 +77,12 @@ fn turned<D: Device, E: Write>(
     requires fault { (fault ≡ RebuildFault.NoMetadata) ⊎ (fault ≡ RebuildFault.Counts) }
     ensures unchanged { IsUnchanged D.tells D.size D.bytes D.unsettled volume.old volume.new }
     ensures size { D.size target.new ≡ D.size target.old }
-    ensures rest { D.tells → IsTurnedRest making.now.rebuilding.luks1 fault
+    ensures rest { D.tells → IsTurnedRest making.now.rebuilding.now.luks1 fault
         (D.bytes volume.old) (D.bytes target.old) (D.bytes target.new) }
     ensures settled { D.tells → D.failed volume.new ≡ D.failed volume.old
         → D.failed target.new ≡ D.failed target.old → IsSettled D.unsettled target.new }
     ensures kinds { answer_status result ≢ Status.NotInStep }
-    ensures answers { Turned D.tells making.now.rebuilding.luks1 fault (pair_of D.size D.bytes
+    ensures answers { Turned D.tells making.now.rebuilding.now.luks1 fault (pair_of D.size D.bytes
         D.failed volume.old volume.new target.old target.new) result }
 {
     match leads(fault, volume) {
@@ -97,7 +97,7 @@ fn instead<D: Device, E: Write>(
     fault: RebuildFault,
     volume: &mut D,
     target: &mut D,
-    making: &Making<'_>,
+    making: &Making<'_, '_, '_>,
     err: &mut E,
 ) -> Answer
     requires volume_room { D.failed volume.old + 1 < 2 ^ 64 }
@@ -107,12 +107,12 @@ fn instead<D: Device, E: Write>(
     requires leads { D.tells → LeadsToLuks1 (D.bytes volume.old) fault }
     ensures unchanged { IsUnchanged D.tells D.size D.bytes D.unsettled volume.old volume.new }
     ensures size { D.size target.new ≡ D.size target.old }
-    ensures rest { D.tells → IsTurnedRest making.now.rebuilding.luks1 fault
+    ensures rest { D.tells → IsTurnedRest making.now.rebuilding.now.luks1 fault
         (D.bytes volume.old) (D.bytes target.old) (D.bytes target.new) }
     ensures settled { D.tells → D.failed volume.new ≡ D.failed volume.old
         → D.failed target.new ≡ D.failed target.old → IsSettled D.unsettled target.new }
     ensures kinds { answer_status result ≢ Status.NotInStep }
-    ensures answers { Turned D.tells making.now.rebuilding.luks1 fault (pair_of D.size D.bytes
+    ensures answers { Turned D.tells making.now.rebuilding.now.luks1 fault (pair_of D.size D.bytes
         D.failed volume.old volume.new target.old target.new) result }
 {
     match make_of_fields(volume, target, making, err) {

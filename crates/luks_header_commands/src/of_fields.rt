@@ -18,7 +18,7 @@ use std::io::Write;
 pub(crate) fn make_of_fields<D: Device, E: Write>(
     volume: &mut D,
     target: &mut D,
-    making: &Making<'_>,
+    making: &Making<'_, '_, '_>,
     err: &mut E,
 ) -> Answer
     requires volume_room { D.failed volume.old + 1 < 2 ^ 64 }
@@ -26,12 +26,12 @@ pub(crate) fn make_of_fields<D: Device, E: Write>(
     requires settled { D.tells → IsSettled D.unsettled target.old }
     ensures unchanged { IsUnchanged D.tells D.size D.bytes D.unsettled volume.old volume.new }
     ensures size { D.size target.new ≡ D.size target.old }
-    ensures rest { D.tells → KeepsRest1 making.now.rebuilding.luks1
+    ensures rest { D.tells → KeepsRest1 making.now.rebuilding.now.luks1
         (D.bytes volume.old) (D.bytes target.old) (D.bytes target.new) }
     ensures settled { D.tells → D.failed volume.new ≡ D.failed volume.old
         → D.failed target.new ≡ D.failed target.old → IsSettled D.unsettled target.new }
     ensures kinds { answer_status result ≢ Status.NotInStep }
-    ensures answers { IsLuks1Answer D.tells making.now.rebuilding.luks1 (pair_of D.size D.bytes
+    ensures answers { IsLuks1Answer D.tells making.now.rebuilding.now.luks1 (pair_of D.size D.bytes
         D.failed volume.old volume.new target.old target.new) result }
 {
     let files = making.files;

@@ -10,6 +10,7 @@ use crate::rebuild::Making;
 use luks_commands::{Answer, RandomBytes, Refusal, Status, device_fault, few_random_bytes};
 use luks_reading::Device;
 use luks_rebuilding::{RebuildFault, Which, rebuild};
+use luks_request::Rebuilding;
 use std::alloc::Global;
 use std::io::Write;
 
@@ -18,7 +19,7 @@ pub(crate) fn make_of_metadata<D: Device, E: Write>(
     alloc: Global,
     volume: &mut D,
     target: &mut D,
-    making: &Making<'_>,
+    making: &Making<'_, '_, '_>,
     random: &[u8],
     err: &mut E,
 ) -> Answer
@@ -27,18 +28,18 @@ pub(crate) fn make_of_metadata<D: Device, E: Write>(
     requires settled { D.tells → IsSettled D.unsettled target.old }
     ensures unchanged { IsUnchanged D.tells D.size D.bytes D.unsettled volume.old volume.new }
     ensures size { D.size target.new ≡ D.size target.old }
-    ensures rest { D.tells → KeepsRest2 (which_of making.now.rebuilding.second)
+    ensures rest { D.tells → KeepsRest2 (which_of making.now.rebuilding.now)
         (D.bytes volume.old) (D.bytes target.old) (D.bytes target.new) }
     ensures settled { D.tells → D.failed volume.new ≡ D.failed volume.old
         → D.failed target.new ≡ D.failed target.old → IsSettled D.unsettled target.new }
     ensures kinds { answer_status result ≢ Status.NotInStep }
-    ensures answers { IsLuks2Answer D.tells (which_of making.now.rebuilding.second)
-        (given_of making.now.rebuilding) random.now (pair_of D.size D.bytes D.failed
+    ensures answers { IsLuks2Answer D.tells (which_of making.now.rebuilding.now)
+        (given_of making.now.rebuilding.now) random.now (pair_of D.size D.bytes D.failed
         volume.old volume.new target.old target.new) result }
 {
     let files = making.files;
     let before = volume.failures();
-    let which = which_of(making.rebuilding.second);
+    let which = which_of(making.rebuilding);
     match rebuild(alloc, volume, target, which, making.rebuilding.uuid, random) {
         Ok(()) => {
             note_metadata(files, err);
@@ -57,7 +58,7 @@ pub(crate) fn not_of_metadata<E: Write>(
     fault: RebuildFault,
     file: &str,
     failed: &str,
-    making: &Making<'_>,
+    making: &Making<'_, '_, '_>,
     random: &[u8],
     err: &mut E,
 ) -> Answer
@@ -76,10 +77,14 @@ pub(crate) fn not_of_metadata<E: Write>(
 }
 
 /// Which copies the words of the command line ask for.
-pub(crate) fn which_of(second: bool) -> Which
-    ensures { result ≡ which_of second }
+pub(crate) fn which_of(rebuilding: &Rebuilding<'_>) -> Which
+    ensures { result ≡ which_of rebuilding.now }
 {
-    if second { Which::Second } else { Which::Any }
+    if rebuilding.second {
+        Which::Second
+    } else {
+        Which::Any
+    }
 }
 
 /// Says what the header lacks, and how the payload is opened by it.

@@ -71,7 +71,7 @@ pub fn run<D: Device, R: Read, N: Read, P: Printer, E: Write>(
     };
     let making = Making {
         files: &files,
-        rebuilding: *rebuilding,
+        rebuilding,
     };
     let answer = make_header(alloc, inputs, &files, &making, err);
     end(&answer, out)
@@ -79,17 +79,17 @@ pub fn run<D: Device, R: Read, N: Read, P: Printer, E: Write>(
 
 /// The making of a header as this asks, by these files.
 #[derive(Debug, Clone, Copy)]
-pub(crate) struct Making<'a> {
+pub(crate) struct Making<'a, 'b, 'c> {
     /// The files.
     pub(crate) files: &'a HeaderFiles<'a>,
     /// What is asked for.
-    pub(crate) rebuilding: Rebuilding<'a>,
+    pub(crate) rebuilding: &'b Rebuilding<'c>,
 }
 
-impl HeaderWork for Making<'_> {
-    ghost keeps_rest = { λ work. KeepsRest work.rebuilding };
+impl HeaderWork for Making<'_, '_, '_> {
+    ghost keeps_rest = { λ work. KeepsRest work.rebuilding.now };
 
-    ghost may_answer = { λ work tells random d a. IsRebuildAnswer tells work.rebuilding random d a };
+    ghost may_answer = { λ work tells random d a. IsRebuildAnswer tells work.rebuilding.now random d a };
 
     fn run<D: Device, E: Write>(
         &self,
@@ -102,7 +102,7 @@ impl HeaderWork for Making<'_> {
         make_meant(alloc, volume, target, self.rebuilding.meant(), self, random, err)
     }
 
-    ghost rest_of_same = { λ work volume target. keeps_same (meant_by work.rebuilding) work.rebuilding volume target };
+    ghost rest_of_same = { λ work volume target. keeps_same (meant_by work.rebuilding.now) work.rebuilding.now volume target };
 }
 
 /// Makes a header of the version that is meant.
@@ -111,7 +111,7 @@ fn make_meant<D: Device, E: Write>(
     volume: &mut D,
     target: &mut D,
     meant: Meant,
-    making: &Making<'_>,
+    making: &Making<'_, '_, '_>,
     random: &[u8],
     err: &mut E,
 ) -> Answer
@@ -120,12 +120,12 @@ fn make_meant<D: Device, E: Write>(
     requires settled { D.tells → IsSettled D.unsettled target.old }
     ensures unchanged { IsUnchanged D.tells D.size D.bytes D.unsettled volume.old volume.new }
     ensures size { D.size target.new ≡ D.size target.old }
-    ensures rest { D.tells → KeepsMeant meant making.now.rebuilding
+    ensures rest { D.tells → KeepsMeant meant making.now.rebuilding.now
         (D.bytes volume.old) (D.bytes target.old) (D.bytes target.new) }
     ensures settled { D.tells → D.failed volume.new ≡ D.failed volume.old
         → D.failed target.new ≡ D.failed target.old → IsSettled D.unsettled target.new }
     ensures kinds { answer_status result ≢ Status.NotInStep }
-    ensures answers { IsAnswerOf meant D.tells making.now.rebuilding random.now (pair_of D.size
+    ensures answers { IsAnswerOf meant D.tells making.now.rebuilding.now random.now (pair_of D.size
         D.bytes D.failed volume.old volume.new target.old target.new) result }
 {
     match meant {
