@@ -374,7 +374,7 @@ pub(crate) fn next(fault: Fault) -> &'static str {
         Fault::SameFile => "give a file of its own as TARGET: truncate -s 16M TARGET makes one",
         Fault::Counts => {
             "luks opens it as it is, luks repair writes both copies anew; for the
-       metadata of an older header say --second and --size"
+       metadata of an older header say --second or --size"
         }
         Fault::NoMetadata => {
             "where it was of LUKS1 name a field of it, as --cipher aes-xts-plain64;

@@ -435,11 +435,11 @@ only read. Each passphrase opens the same keyslot of TARGET.
 
 LUKS2 comes first: the metadata that a checksum vouches for, else the first that
 is whole, of a first copy by its size, else of a second one by its size. By
---second and --size another is taken, by both also where a header counts. LUKS1
-is meant by --cipher, --hash, --key-bytes and --payload, each of which wins over
-what stands; and without them where no metadata is whole, or where SOURCE begins
-with a LUKS1 header, if that has signs of one. A keyslot that breaks its rules
-is disabled there.
+--second and --size another is taken, also where a header counts. LUKS1 is meant
+by --cipher, --hash, --key-bytes and --payload, each of which wins over what
+stands; and without them where no metadata is whole, or where SOURCE begins with
+a LUKS1 header, if that has signs of one. A keyslot that breaks its rules is
+disabled there.
 
 Written are, with a flush after each: zeros over the first 512 bytes of both
 copies' places, of LUKS1 0 and 16384; the area of each keyslot, at its place;
