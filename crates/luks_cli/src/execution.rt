@@ -201,9 +201,9 @@ pub fn execute<D: Device, R: Read, N: Read, P: Printer, E: Write>(
         (P.failures out.old) (P.failures out.new) (P.printed out.old) (P.printed out.new) result) }
 {
     let name = line.volume;
-    match &line.command {
-        Command::Check { data_ } => check::run(alloc, &mut inputs.volume, name, *data_, out, err),
-        Command::Show(form) => show::run(alloc, &mut inputs.volume, name, *form, out, err),
+    match line.command {
+        Command::Check { data_ } => check::run(alloc, &mut inputs.volume, name, data_, out, err),
+        Command::Show(form) => show::run(alloc, &mut inputs.volume, name, form, out, err),
         Command::Open {
             passphrase,
             slot,
@@ -212,21 +212,21 @@ pub fn execute<D: Device, R: Read, N: Read, P: Printer, E: Write>(
             let tried = Tried {
                 volume: name,
                 passphrase,
-                slot: *slot,
-                memory: *memory,
+                slot,
+                memory,
             };
             open::run(alloc, inputs, &tried, out, err)
         }
-        Command::Edit(editing) => edit::run(alloc, inputs, name, editing, out, err),
-        Command::Format(making) => format::run(alloc, inputs, name, making, out, err),
+        Command::Edit(editing) => edit::run(alloc, inputs, name, &editing, out, err),
+        Command::Format(making) => format::run(alloc, inputs, name, &making, out, err),
         Command::Convert(converting) => {
-            convert::run(alloc, inputs, name, line.place, converting, out, err)
+            convert::run(alloc, inputs, name, line.place, &converting, out, err)
         }
         Command::Rebuild(rebuilding) => {
-            rebuild::run(alloc, inputs, name, line.place, rebuilding, out, err)
+            rebuild::run(alloc, inputs, name, line.place, &rebuilding, out, err)
         }
-        Command::Backup(backing_up) => backup::run(alloc, inputs, name, backing_up, out, err),
-        Command::Restore(restoring) => restore::run(alloc, inputs, name, restoring, out, err),
-        Command::Compare(comparing) => compare::run(alloc, inputs, name, comparing, out, err),
+        Command::Backup(backing_up) => backup::run(alloc, inputs, name, &backing_up, out, err),
+        Command::Restore(restoring) => restore::run(alloc, inputs, name, &restoring, out, err),
+        Command::Compare(comparing) => compare::run(alloc, inputs, name, &comparing, out, err),
     }
 }

@@ -14,8 +14,7 @@ use Rattle.luks1_rebuilding.specs.KeyAreas.{header_of}
 use Rattle.luks1_rebuilding.specs.Outcome.{IsAnsweredFault as IsAnsweredFault1, IsRebuildable as IsRebuildable1, LacksHeader}
 use Rattle.luks1_rebuilding.specs.declared.rebuild_fault.Rebuild1Fault.{Rebuild1Fault}
 use Rattle.luks1_rebuilding.specs.declared.rebuild_fault.Rebuild1Fault.TheVariants as fault1
-use Rattle.luks_request.specs.declared.rebuilding.Meant.{Meant}
-use Rattle.luks_request.specs.declared.rebuilding.Meant.TheVariants.{Luks1, Luks2, Either}
+use Rattle.luks_request.specs.declared.rebuilding.Meant.TheVariants.{Either}
 use Rattle.luks_request.specs.declared.rebuilding.Rebuilding.{Rebuilding}
 use Rattle.luks_commands.specs.declared.answers.Answer.{Answer}
 use Rattle.luks_commands.specs.declared.answers.Answer.TheVariants as answer
@@ -61,11 +60,6 @@ luks1_kinds tells given d a is = absurd is
 -- a target that is as it was has kept its rest
 same_but : (touched : ℕ → Type 0) (bytes : List ℕ) → SameBut touched bytes bytes
 same_but touched bytes = record { length_same = refl; each = λ p apart. refl }
-
-pub keeps_same : (meant : Meant) (r : Rebuilding) (volume target : List ℕ) → KeepsMeant meant r volume target target
-keeps_same Luks1 r volume target = same_but _ target
-keeps_same Luks2 r volume target = same_but _ target
-keeps_same Either r volume target = inl (same_but _ target)
 
 -- ---- LUKS2's fault, then what is answered in its place
 
@@ -137,25 +131,25 @@ led_answer tells which given random e f (inl is) none same first = absurd is
 led_answer tells which given random e f (inr is) none same first = absurd is
 
 -- what is answered of either version where LUKS2 is refused by such a fault
-pub turned_answers : (tells : Type 0) (r : Rebuilding) (random : List ℕ) (d e : Pair) (f : RebuildFault) (a : Answer) → (f ≡ NoMetadata) ⊎ (f ≡ Counts)
+pub turned_answers : (tells : Type 0) (r : Rebuilding) (luks1 : Given) (random : List ℕ) (d e : Pair) (f : RebuildFault) (a : Answer) → (f ≡ NoMetadata) ⊎ (f ≡ Counts)
     → IsLater tells d e → (tells → IsAnsweredFault e.volume (which_of r) (given_of r) e.total random f)
-    → Turned tells r.luks1 f d a → IsAnswerOf Either tells r random e a
-turned_answers tells r random d e f a led later first (stays none same lacks is) =
+    → Turned tells luks1 f d a → IsAnswerOf Either tells r luks1 random e a
+turned_answers tells r luks1 random d e f a led later first (stays none same lacks is) =
     inl (
       subst (IsLuks2Answer tells (which_of r) (given_of r) random e) (sym is)
       (led_answer tells (which_of r) (given_of r) random e f led (none_later tells d e later none) (same_later tells d e later same) first),
       λ told. subst (StaysLuks2 e.volume) (sym is) (subst (λ (v : List ℕ). LeadsToLuks1 v f → LacksHeader (header_of v) (length v)) (later.volume told) (lacks told)),
     )
-turned_answers tells r random d e f a led later first (unread one is) =
+turned_answers tells r luks1 random d e f a led later first (unread one is) =
     inl (
       subst (IsLuks2Answer tells (which_of r) (given_of r) random e) (sym is) (one_later tells d e later one),
       λ told. subst (StaysLuks2 e.volume) (sym is) tt,
     )
-turned_answers tells r random d e f a led later first (turns leads said has) = inr (record {
+turned_answers tells r luks1 random d e f a led later first (turns leads said has) = inr (record {
   fault = f;
   first = first;
   leads = said_later tells d e (λ v n. LeadsToLuks1 v f) later leads;
-  is = luks1_later tells r.luks1 d e a later said;
+  is = luks1_later tells luks1 d e a later said;
   has_header = has;
 })
 
@@ -174,7 +168,7 @@ turned_kinds tells luks1 f d a (unread one is) = subst (λ (x : Answer). answer_
 turned_kinds tells luks1 f d a (turns leads said has) = luks1_kinds tells luks1 d a said
 
 -- which bytes have changed then
-pub turned_rest : (r : Rebuilding) (f : RebuildFault) (v old new : List ℕ) → (f ≡ NoMetadata) ⊎ (f ≡ Counts)
-    → IsRebuildFault v (which_of r) None 0 [] f → IsTurnedRest r.luks1 f v old new → KeepsMeant Either r v old new
-turned_rest r f v old new led is (inl same) = inl (subst (λ (n : List ℕ). SameBut (IsOfRebuilt v (which_of r)) old n) (sym same) (same_but _ old))
-turned_rest r f v old new led is (inr x) = inr (record { fault = f; is = is; leads = x.0 }, x.1)
+pub turned_rest : (r : Rebuilding) (luks1 : Given) (f : RebuildFault) (v old new : List ℕ) → (f ≡ NoMetadata) ⊎ (f ≡ Counts)
+    → IsRebuildFault v (which_of r) None 0 [] f → IsTurnedRest luks1 f v old new → KeepsMeant Either r luks1 v old new
+turned_rest r luks1 f v old new led is (inl same) = inl (subst (λ (n : List ℕ). SameBut (IsOfRebuilt v (which_of r)) old n) (sym same) (same_but _ old))
+turned_rest r luks1 f v old new led is (inr x) = inr (record { fault = f; is = is; leads = x.0 }, x.1)

@@ -1,5 +1,6 @@
 -- What the command `rebuild` leaves of its target, and what it may answer.
-use Rattle.std.specs.Prelude.{◌≡◌, ◌≢◌, ◌⊎◌, ◌↔◌, ℕ, ◌≤◌, List, [], length, Option, None, option_map, Bool, true, false, Result}
+use Rattle.std.specs.Prelude.{◌≡◌, ◌≢◌, ◌⊎◌, ◌↔◌, ℕ, ◌<◌, ◌≤◌, List, [], length, Option, None, Some, option_map, Bool, true, false, Result, ⊤}
+use Rattle.arrayvec.specs.ArrayString.{ArrayString}
 use Rattle.luks_area.specs.Ranges.{SameBut}
 use Rattle.luks_copying.specs.TwoDevices.{IsOneFailure}
 use Rattle.luks1_header.specs.Header1.{luks1_size, version_of, HasMagic}
@@ -46,6 +47,25 @@ which_of rebuilding = which_by rebuilding.second rebuilding.size
 
 abbrev pub given_of : Rebuilding → Option (List ℕ)
 given_of rebuilding = option_map (λ text. text.now) rebuilding.uuid
+
+-- ---- what is given of a LUKS1 header
+
+-- a text in a field that has room for so many bytes; of a longer one nothing, which isn't usable
+abbrev pub IsInField : ℕ → List ℕ → List ℕ → Type 0
+IsInField room text bytes = ((length text ≤ room) × (bytes ≡ text)) ⊎ ((room < length text) × (bytes ≡ []))
+
+abbrev pub IsFieldOf : ℕ → Option (List ℕ) → Option ArrayString → Type 0
+IsFieldOf room None None = ⊤
+IsFieldOf room (Some text) (Some field_) = IsInField room text field_.bytes
+IsFieldOf room text field_ = ⊥
+
+pub record IsGiven (r : Rebuilding) (given : Given) : Type 0 where
+  pub cipher_name : IsFieldOf 32 (option_map (λ t. t.now) r.luks1.cipher_name) given.cipher_name
+  pub cipher_mode : IsFieldOf 32 (option_map (λ t. t.now) r.luks1.cipher_mode) given.cipher_mode
+  pub hash : IsFieldOf 32 (option_map (λ t. t.now) r.luks1.hash) given.hash
+  pub key_bytes : given.key_bytes ≡ r.luks1.key_bytes
+  pub payload : given.payload ≡ r.luks1.payload
+  pub uuid : IsFieldOf 40 (given_of r) given.uuid
 
 -- ---- a LUKS2 header, of metadata
 
@@ -131,24 +151,32 @@ pub record TurnsToLuks1 (tells : Type 0) (which : Which) (given : Option (List �
 
 -- ---- by what is meant
 
-abbrev pub KeepsMeant : Meant → Rebuilding → List ℕ → List ℕ → List ℕ → Type 0
-KeepsMeant Luks1 r volume old new = KeepsRest1 r.luks1 volume old new
-KeepsMeant Luks2 r volume old new = KeepsRest2 (which_of r) volume old new
-KeepsMeant Either r volume old new =
-    KeepsRest2 (which_of r) volume old new ⊎ (MayBeLuks1 volume (which_of r) × KeepsRest1 r.luks1 volume old new)
+abbrev pub KeepsMeant : Meant → Rebuilding → Given → List ℕ → List ℕ → List ℕ → Type 0
+KeepsMeant Luks1 r given volume old new = KeepsRest1 given volume old new
+KeepsMeant Luks2 r given volume old new = KeepsRest2 (which_of r) volume old new
+KeepsMeant Either r given volume old new =
+    KeepsRest2 (which_of r) volume old new ⊎ (MayBeLuks1 volume (which_of r) × KeepsRest1 given volume old new)
 
+pub record KeepsGiven (r : Rebuilding) (volume old new : List ℕ) : Type 0 where
+  pub given : Given
+  pub is : IsGiven r given
+  pub keeps : KeepsMeant (meant_by r) r given volume old new
+
+-- nothing of the target has changed, or what may have
 abbrev pub KeepsRest : Rebuilding → List ℕ → List ℕ → List ℕ → Type 0
-KeepsRest r = KeepsMeant (meant_by r) r
+KeepsRest r volume old new = (new ≡ old) ⊎ KeepsGiven r volume old new
 
-abbrev pub IsAnswerOf : Meant → Type 0 → Rebuilding → List ℕ → Pair → Answer → Type 0
-IsAnswerOf Luks1 tells r random d a = IsLuks1Answer tells r.luks1 d a
-IsAnswerOf Luks2 tells r random d a = IsLuks2Answer tells (which_of r) (given_of r) random d a
-IsAnswerOf Either tells r random d a =
+abbrev pub IsAnswerOf : Meant → Type 0 → Rebuilding → Given → List ℕ → Pair → Answer → Type 0
+IsAnswerOf Luks1 tells r given random d a = IsLuks1Answer tells given d a
+IsAnswerOf Luks2 tells r given random d a = IsLuks2Answer tells (which_of r) (given_of r) random d a
+IsAnswerOf Either tells r given random d a =
     (IsLuks2Answer tells (which_of r) (given_of r) random d a × (tells → StaysLuks2 d.volume a))
-    ⊎ TurnsToLuks1 tells (which_of r) (given_of r) random r.luks1 d a
+    ⊎ TurnsToLuks1 tells (which_of r) (given_of r) random given d a
 
-abbrev pub IsRebuildAnswer : Type 0 → Rebuilding → List ℕ → Pair → Answer → Type 0
-IsRebuildAnswer tells r random d a = IsAnswerOf (meant_by r) tells r random d a
+pub record IsRebuildAnswer (tells : Type 0) (r : Rebuilding) (random : List ℕ) (d : Pair) (a : Answer) : Type 0 where
+  pub given : Given
+  pub is : IsGiven r given
+  pub says : IsAnswerOf (meant_by r) tells r given random d a
 
 -- of the volume and the target, as `AnswersHeader` says
 abbrev pub AnswersRebuild : {D : Type 0} → Type 0 → (D → ℕ) → (D → List ℕ) → (D → ℕ) → Rebuilding → (InputFault → Type 0) → (List ℕ → Type 0)

@@ -17,7 +17,7 @@ use luks_reading::{Device, DeviceFault};
 use luks_rebuilding::{RebuildFault, rebuild};
 use luks1_header::fields::{field, u16_at};
 use luks1_header::luks1_places::{MAGIC, SIZE, VERSION};
-use luks1_rebuilding::Rebuild1Fault;
+use luks1_rebuilding::{Given, Rebuild1Fault};
 use std::alloc::Global;
 use std::io::Write;
 
@@ -26,7 +26,8 @@ pub(crate) fn make_of_either<D: Device, E: Write>(
     alloc: Global,
     volume: &mut D,
     target: &mut D,
-    making: &Making<'_, '_, '_>,
+    making: &Making<'_>,
+    given: &Given,
     random: &[u8],
     err: &mut E,
 ) -> Answer
@@ -35,26 +36,28 @@ pub(crate) fn make_of_either<D: Device, E: Write>(
     requires settled { D.tells → IsSettled D.unsettled target.old }
     ensures unchanged { IsUnchanged D.tells D.size D.bytes D.unsettled volume.old volume.new }
     ensures size { D.size target.new ≡ D.size target.old }
-    ensures rest { D.tells → KeepsMeant Either making.now.rebuilding.now
+    ensures rest { D.tells → KeepsMeant Either making.now.rebuilding given.now
         (D.bytes volume.old) (D.bytes target.old) (D.bytes target.new) }
     ensures settled { D.tells → D.failed volume.new ≡ D.failed volume.old
         → D.failed target.new ≡ D.failed target.old → IsSettled D.unsettled target.new }
     ensures kinds { answer_status result ≢ Status.NotInStep }
-    ensures answers { IsAnswerOf Either D.tells making.now.rebuilding.now random.now (pair_of D.size
-        D.bytes D.failed volume.old volume.new target.old target.new) result }
+    ensures answers { IsAnswerOf Either D.tells making.now.rebuilding given.now random.now (pair_of
+        D.size D.bytes D.failed volume.old volume.new target.old target.new) result }
 {
     let files = making.files;
     let before = volume.failures();
-    let which = which_of(making.rebuilding);
+    let which = which_of(&making.rebuilding);
     match rebuild(alloc, volume, target, which, making.rebuilding.uuid, random) {
         Ok(()) => {
             note_metadata(files, err);
             Answer::Done(None)
         }
         Err(RebuildFault::NoMetadata) => {
-            turned(RebuildFault::NoMetadata, volume, target, making, err)
+            turned(RebuildFault::NoMetadata, volume, target, making, given, err)
         }
-        Err(RebuildFault::Counts) => turned(RebuildFault::Counts, volume, target, making, err),
+        Err(RebuildFault::Counts) => {
+            turned(RebuildFault::Counts, volume, target, making, given, err)
+        }
         Err(fault) if volume.failures() != before => {
             not_of_metadata(fault, files.volume, READING_FAILED, making, random, err)
         }
@@ -68,7 +71,8 @@ fn turned<D: Device, E: Write>(
     fault: RebuildFault,
     volume: &mut D,
     target: &mut D,
-    making: &Making<'_, '_, '_>,
+    making: &Making<'_>,
+    given: &Given,
     err: &mut E,
 ) -> Answer
     requires volume_room { D.failed volume.old + 1 < 2 ^ 64 }
@@ -77,16 +81,16 @@ fn turned<D: Device, E: Write>(
     requires fault { (fault ≡ RebuildFault.NoMetadata) ⊎ (fault ≡ RebuildFault.Counts) }
     ensures unchanged { IsUnchanged D.tells D.size D.bytes D.unsettled volume.old volume.new }
     ensures size { D.size target.new ≡ D.size target.old }
-    ensures rest { D.tells → IsTurnedRest making.now.rebuilding.now.luks1 fault
+    ensures rest { D.tells → IsTurnedRest given.now fault
         (D.bytes volume.old) (D.bytes target.old) (D.bytes target.new) }
     ensures settled { D.tells → D.failed volume.new ≡ D.failed volume.old
         → D.failed target.new ≡ D.failed target.old → IsSettled D.unsettled target.new }
     ensures kinds { answer_status result ≢ Status.NotInStep }
-    ensures answers { Turned D.tells making.now.rebuilding.now.luks1 fault (pair_of D.size D.bytes
+    ensures answers { Turned D.tells given.now fault (pair_of D.size D.bytes
         D.failed volume.old volume.new target.old target.new) result }
 {
     match leads(fault, volume) {
-        Ok(true) => instead(fault, volume, target, making, err),
+        Ok(true) => instead(fault, volume, target, making, given, err),
         Ok(false) => Answer::from(fault),
         Err(DeviceFault) => device_fault(making.files.volume, READING_FAILED, err),
     }
@@ -97,7 +101,8 @@ fn instead<D: Device, E: Write>(
     fault: RebuildFault,
     volume: &mut D,
     target: &mut D,
-    making: &Making<'_, '_, '_>,
+    making: &Making<'_>,
+    given: &Given,
     err: &mut E,
 ) -> Answer
     requires volume_room { D.failed volume.old + 1 < 2 ^ 64 }
@@ -107,15 +112,15 @@ fn instead<D: Device, E: Write>(
     requires leads { D.tells → LeadsToLuks1 (D.bytes volume.old) fault }
     ensures unchanged { IsUnchanged D.tells D.size D.bytes D.unsettled volume.old volume.new }
     ensures size { D.size target.new ≡ D.size target.old }
-    ensures rest { D.tells → IsTurnedRest making.now.rebuilding.now.luks1 fault
+    ensures rest { D.tells → IsTurnedRest given.now fault
         (D.bytes volume.old) (D.bytes target.old) (D.bytes target.new) }
     ensures settled { D.tells → D.failed volume.new ≡ D.failed volume.old
         → D.failed target.new ≡ D.failed target.old → IsSettled D.unsettled target.new }
     ensures kinds { answer_status result ≢ Status.NotInStep }
-    ensures answers { Turned D.tells making.now.rebuilding.now.luks1 fault (pair_of D.size D.bytes
+    ensures answers { Turned D.tells given.now fault (pair_of D.size D.bytes
         D.failed volume.old volume.new target.old target.new) result }
 {
-    match make_of_fields(volume, target, making, err) {
+    match make_of_fields(volume, target, making.files, given, err) {
         Answer::Refused(Refusal::Rebuild1(Rebuild1Fault::NoHeader)) => Answer::from(fault),
         answer => answer,
     }

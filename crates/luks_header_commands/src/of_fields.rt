@@ -7,18 +7,18 @@ ghost use Rattle.luks_header_commands.specs.Target.{pair_of};
 
 use crate::header_work::{HeaderFiles, READING_FAILED, TARGET_FAILED};
 use crate::of_metadata::note_opening;
-use crate::rebuild::Making;
 use luks_commands::{Answer, Status, device_fault};
 use luks_reading::Device;
 use luks1_header::TextField;
-use luks1_rebuilding::{Rebuild1Fault, rebuild1};
+use luks1_rebuilding::{Given, Rebuild1Fault, rebuild1};
 use std::io::Write;
 
 /// Makes a LUKS1 header of what still stands of one in the volume, and of what is given, on the target.
 pub(crate) fn make_of_fields<D: Device, E: Write>(
     volume: &mut D,
     target: &mut D,
-    making: &Making<'_, '_, '_>,
+    files: &HeaderFiles<'_>,
+    given: &Given,
     err: &mut E,
 ) -> Answer
     requires volume_room { D.failed volume.old + 1 < 2 ^ 64 }
@@ -26,17 +26,16 @@ pub(crate) fn make_of_fields<D: Device, E: Write>(
     requires settled { D.tells → IsSettled D.unsettled target.old }
     ensures unchanged { IsUnchanged D.tells D.size D.bytes D.unsettled volume.old volume.new }
     ensures size { D.size target.new ≡ D.size target.old }
-    ensures rest { D.tells → KeepsRest1 making.now.rebuilding.now.luks1
+    ensures rest { D.tells → KeepsRest1 given.now
         (D.bytes volume.old) (D.bytes target.old) (D.bytes target.new) }
     ensures settled { D.tells → D.failed volume.new ≡ D.failed volume.old
         → D.failed target.new ≡ D.failed target.old → IsSettled D.unsettled target.new }
     ensures kinds { answer_status result ≢ Status.NotInStep }
-    ensures answers { IsLuks1Answer D.tells making.now.rebuilding.now.luks1 (pair_of D.size D.bytes
+    ensures answers { IsLuks1Answer D.tells given.now (pair_of D.size D.bytes
         D.failed volume.old volume.new target.old target.new) result }
 {
-    let files = making.files;
     let before = volume.failures();
-    match rebuild1(volume, target, &making.rebuilding.luks1) {
+    match rebuild1(volume, target, given) {
         Ok(()) => {
             note_fields(files, err);
             Answer::Done(None)

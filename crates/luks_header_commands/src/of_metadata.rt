@@ -19,7 +19,7 @@ pub(crate) fn make_of_metadata<D: Device, E: Write>(
     alloc: Global,
     volume: &mut D,
     target: &mut D,
-    making: &Making<'_, '_, '_>,
+    making: &Making<'_>,
     random: &[u8],
     err: &mut E,
 ) -> Answer
@@ -28,18 +28,18 @@ pub(crate) fn make_of_metadata<D: Device, E: Write>(
     requires settled { D.tells → IsSettled D.unsettled target.old }
     ensures unchanged { IsUnchanged D.tells D.size D.bytes D.unsettled volume.old volume.new }
     ensures size { D.size target.new ≡ D.size target.old }
-    ensures rest { D.tells → KeepsRest2 (which_of making.now.rebuilding.now)
+    ensures rest { D.tells → KeepsRest2 (which_of making.now.rebuilding)
         (D.bytes volume.old) (D.bytes target.old) (D.bytes target.new) }
     ensures settled { D.tells → D.failed volume.new ≡ D.failed volume.old
         → D.failed target.new ≡ D.failed target.old → IsSettled D.unsettled target.new }
     ensures kinds { answer_status result ≢ Status.NotInStep }
-    ensures answers { IsLuks2Answer D.tells (which_of making.now.rebuilding.now)
-        (given_of making.now.rebuilding.now) random.now (pair_of D.size D.bytes D.failed
+    ensures answers { IsLuks2Answer D.tells (which_of making.now.rebuilding)
+        (given_of making.now.rebuilding) random.now (pair_of D.size D.bytes D.failed
         volume.old volume.new target.old target.new) result }
 {
     let files = making.files;
     let before = volume.failures();
-    let which = which_of(making.rebuilding);
+    let which = which_of(&making.rebuilding);
     match rebuild(alloc, volume, target, which, making.rebuilding.uuid, random) {
         Ok(()) => {
             note_metadata(files, err);
@@ -58,7 +58,7 @@ pub(crate) fn not_of_metadata<E: Write>(
     fault: RebuildFault,
     file: &str,
     failed: &str,
-    making: &Making<'_, '_, '_>,
+    making: &Making<'_>,
     random: &[u8],
     err: &mut E,
 ) -> Answer

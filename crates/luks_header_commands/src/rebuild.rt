@@ -1,24 +1,25 @@
 //! The command `rebuild`.
-ghost use Rattle.std.specs.Prelude.{◌≡◌, ◌≢◌, ◌+◌, ◌<◌, ◌^◌, IfErr};
+ghost use Rattle.std.specs.Prelude.{◌≡◌, ◌≢◌, ◌+◌, ◌<◌, ◌^◌, IfErr, inl, option_map, refl};
 ghost use Rattle.std.specs.Result.{ForOk};
 ghost use Rattle.luks_area.specs.Device.{IsSettled, IsUnchanged};
 ghost use Rattle.luks_commands.specs.Answer.{answer_status, Prints};
 ghost use Rattle.luks_commands.specs.Exit.{IsExitStatus};
 ghost use Rattle.luks_commands.specs.Files.{AreFirstBytes, IsUnreadRandom, KeepsVolume};
-ghost use Rattle.luks_header_commands.proofs.RebuildFacts.{keeps_same};
-ghost use Rattle.luks_header_commands.specs.Rebuilding.{AnswersRebuild, IsAnswerOf, IsRebuildAnswer, KeepsMeant, KeepsRest};
+ghost use Rattle.luks_header_commands.specs.Rebuilding.{AnswersRebuild, IsAnswerOf, IsFieldOf, IsGiven, IsInField};
+ghost use Rattle.luks_header_commands.specs.Rebuilding.{IsRebuildAnswer, KeepsMeant, KeepsRest};
 ghost use Rattle.luks_header_commands.specs.Rebuilding.{random_count};
 ghost use Rattle.luks_header_commands.specs.Target.{AreOneFile, IsSameFile, LeavesTarget, pair_of, SettlesTarget};
-ghost use Rattle.luks_request.specs.Meant.{meant_by};
 
 use crate::header_work::{HeaderFiles, HeaderWork, make_header};
 use crate::of_either::make_of_either;
 use crate::of_fields::make_of_fields;
 use crate::of_metadata::make_of_metadata;
+use arrayvec::ArrayString;
 use luks_commands::{Answer, Inputs, Printer, Status, end};
 use luks_reading::Device;
 use luks_rebuilding::REBUILD_RANDOM;
 use luks_request::{Meant, Place, Rebuilding};
+use luks1_rebuilding::Given;
 use std::alloc::Global;
 use std::io::{Read, Write};
 
@@ -71,7 +72,7 @@ pub fn run<D: Device, R: Read, N: Read, P: Printer, E: Write>(
     };
     let making = Making {
         files: &files,
-        rebuilding,
+        rebuilding: *rebuilding,
     };
     let answer = make_header(alloc, inputs, &files, &making, err);
     end(&answer, out)
@@ -79,17 +80,17 @@ pub fn run<D: Device, R: Read, N: Read, P: Printer, E: Write>(
 
 /// The making of a header as this asks, by these files.
 #[derive(Debug, Clone, Copy)]
-pub(crate) struct Making<'a, 'b, 'c> {
+pub(crate) struct Making<'a> {
     /// The files.
     pub(crate) files: &'a HeaderFiles<'a>,
     /// What is asked for.
-    pub(crate) rebuilding: &'b Rebuilding<'c>,
+    pub(crate) rebuilding: Rebuilding<'a>,
 }
 
-impl HeaderWork for Making<'_, '_, '_> {
-    ghost keeps_rest = { λ work. KeepsRest work.rebuilding.now };
+impl HeaderWork for Making<'_> {
+    ghost keeps_rest = { λ work. KeepsRest work.rebuilding };
 
-    ghost may_answer = { λ work tells random d a. IsRebuildAnswer tells work.rebuilding.now random d a };
+    ghost may_answer = { λ work tells random d a. IsRebuildAnswer tells work.rebuilding random d a };
 
     fn run<D: Device, E: Write>(
         &self,
@@ -99,10 +100,12 @@ impl HeaderWork for Making<'_, '_, '_> {
         random: &[u8],
         err: &mut E,
     ) -> Answer {
-        make_meant(alloc, volume, target, self.rebuilding.meant(), self, random, err)
+        let given = given_of(&self.rebuilding);
+        let meant = self.rebuilding.meant();
+        make_meant(alloc, volume, target, meant, self, &given, random, err)
     }
 
-    ghost rest_of_same = { λ work volume target. keeps_same (meant_by work.rebuilding.now) work.rebuilding.now volume target };
+    ghost rest_of_same = { λ work volume target. inl refl };
 }
 
 /// Makes a header of the version that is meant.
@@ -111,7 +114,8 @@ fn make_meant<D: Device, E: Write>(
     volume: &mut D,
     target: &mut D,
     meant: Meant,
-    making: &Making<'_, '_, '_>,
+    making: &Making<'_>,
+    given: &Given,
     random: &[u8],
     err: &mut E,
 ) -> Answer
@@ -120,17 +124,52 @@ fn make_meant<D: Device, E: Write>(
     requires settled { D.tells → IsSettled D.unsettled target.old }
     ensures unchanged { IsUnchanged D.tells D.size D.bytes D.unsettled volume.old volume.new }
     ensures size { D.size target.new ≡ D.size target.old }
-    ensures rest { D.tells → KeepsMeant meant making.now.rebuilding.now
+    ensures rest { D.tells → KeepsMeant meant making.now.rebuilding given.now
         (D.bytes volume.old) (D.bytes target.old) (D.bytes target.new) }
     ensures settled { D.tells → D.failed volume.new ≡ D.failed volume.old
         → D.failed target.new ≡ D.failed target.old → IsSettled D.unsettled target.new }
     ensures kinds { answer_status result ≢ Status.NotInStep }
-    ensures answers { IsAnswerOf meant D.tells making.now.rebuilding.now random.now (pair_of D.size
-        D.bytes D.failed volume.old volume.new target.old target.new) result }
+    ensures answers { IsAnswerOf meant D.tells making.now.rebuilding given.now random.now (pair_of
+        D.size D.bytes D.failed volume.old volume.new target.old target.new) result }
 {
     match meant {
-        Meant::Luks1 => make_of_fields(volume, target, making, err),
+        Meant::Luks1 => make_of_fields(volume, target, making.files, given, err),
         Meant::Luks2 => make_of_metadata(alloc, volume, target, making, random, err),
-        Meant::Either => make_of_either(alloc, volume, target, making, random, err),
+        Meant::Either => make_of_either(alloc, volume, target, making, given, random, err),
     }
+}
+
+/// What is given of the fields of a LUKS1 header, each in its place.
+fn given_of(rebuilding: &Rebuilding<'_>) -> Given
+    ensures { IsGiven rebuilding.now result }
+{
+    Given {
+        cipher_name: in_field(rebuilding.luks1.cipher_name),
+        cipher_mode: in_field(rebuilding.luks1.cipher_mode),
+        hash: in_field(rebuilding.luks1.hash),
+        key_bytes: rebuilding.luks1.key_bytes,
+        payload: rebuilding.luks1.payload,
+        uuid: in_field(rebuilding.uuid),
+    }
+}
+
+/// The text in its place, if one is given.
+fn in_field<const N: usize>(text: Option<&str>) -> Option<ArrayString<N>>
+    ensures { IsFieldOf N (option_map (λ t. t.now) text.entry) result }
+{
+    match text {
+        Some(text) => Some(fitting(text)),
+        None => None,
+    }
+}
+
+/// The text, where it fits; else an empty one, which isn't usable either.
+fn fitting<const N: usize>(text: &str) -> ArrayString<N>
+    ensures { IsInField N text.now result.bytes }
+{
+    let mut owned = ArrayString::new();
+    if text.len() <= N {
+        owned.push_str(text);
+    }
+    owned
 }

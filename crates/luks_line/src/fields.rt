@@ -1,8 +1,7 @@
 //! The fields of a LUKS1 header that are given to the command that rebuilds.
 
-use arrayvec::ArrayString;
 use clap::ArgMatches;
-use luks_request::Given;
+use luks_request::Luks1Fields;
 
 /// How many bytes a name has at most: its field ends with a zero byte.
 const LONGEST_NAME: usize = 31;
@@ -38,40 +37,26 @@ fn is_name(text: &str) -> bool {
     !text.is_empty() && text.len() <= LONGEST_NAME
 }
 
-/// What is given of the fields. None where a name doesn't fit.
-pub(crate) fn fields_of(given: &ArgMatches<'_>) -> Option<Given> {
-    let mut fields = Given::NOTHING;
-    if let Some(text) = given.get_str("cipher") {
-        let (name, mode) = text.split_once('-')?;
-        fields.cipher_name = Some(name_of(name)?);
-        fields.cipher_mode = Some(name_of(mode)?);
-    }
-    if let Some(text) = given.get_str("hash") {
-        fields.hash = Some(name_of(text)?);
-    }
-    if let Some(text) = given.get_str("uuid") {
-        fields.uuid = Some(uuid_of(text));
-    }
-    fields.key_bytes = given.get_one::<u32>("key-bytes");
-    fields.payload = given.get_one::<u32>("payload");
-    Some(fields)
-}
-
-/// The name in its place. None where it doesn't fit.
-fn name_of(text: &str) -> Option<ArrayString<32>> {
-    if !is_name(text) {
-        return None;
-    }
-    match ArrayString::from(text) {
-        Ok(name) => Some(name),
-        Err(_) => None,
+/// What is given of the fields.
+pub(crate) fn fields_of<'a>(given: &ArgMatches<'a>) -> Luks1Fields<'a> {
+    let cipher = given.get_str("cipher");
+    Luks1Fields {
+        cipher_name: name_in(cipher),
+        cipher_mode: mode_in(cipher),
+        hash: given.get_str("hash"),
+        key_bytes: given.get_one::<u32>("key-bytes"),
+        payload: given.get_one::<u32>("payload"),
     }
 }
 
-/// The uuid in its place; where that has no room for it an empty text, which is none either.
-fn uuid_of(text: &str) -> ArrayString<40> {
-    match ArrayString::from(text) {
-        Ok(uuid) => uuid,
-        Err(_) => ArrayString::new(),
-    }
+/// What stands before the first hyphen.
+fn name_in<'a>(cipher: Option<&'a str>) -> Option<&'a str> {
+    let (name, _) = cipher?.split_once('-')?;
+    Some(name)
+}
+
+/// What stands behind it.
+fn mode_in<'a>(cipher: Option<&'a str>) -> Option<&'a str> {
+    let (_, mode) = cipher?.split_once('-')?;
+    Some(mode)
 }

@@ -169,7 +169,7 @@ fn rebuilding_of<'a>(given: &ArgMatches<'a>) -> Option<Rebuilding<'a>> {
         second: given.get_flag("second"),
         size: given.get_one::<u64>("size"),
         uuid: given.get_str("uuid"),
-        luks1: fields_of(given)?,
+        luks1: fields_of(given),
     })
 }
 

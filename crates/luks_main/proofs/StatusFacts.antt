@@ -260,14 +260,15 @@ luks1_there tells given d DeviceFault said = refl
 luks1_there tells given d a said = absurd said
 
 -- by what is meant
-meant_there : (of : Meant) (tells : Type 0) (r : Rebuilding) (random : List ℕ) (d : Pair) (a : Answer) → IsAnswerOf of tells r random d a → EndsRebuild a (own a)
-meant_there meant.Luks1 tells r random d a said = luks1_there tells r.luks1 d a said
-meant_there meant.Luks2 tells r random d a said = luks2_there tells (which_of r) (given_of r) random d a said
-meant_there meant.Either tells r random d a (inl said) = luks2_there tells (which_of r) (given_of r) random d a said.0
-meant_there meant.Either tells r random d a (inr said) = luks1_there tells r.luks1 d a said.is
+meant_there : (of : Meant) (tells : Type 0) (r : Rebuilding) (given : GivenFields) (random : List ℕ) (d : Pair) (a : Answer) → IsAnswerOf of tells r given random d a
+    → EndsRebuild a (own a)
+meant_there meant.Luks1 tells r given random d a said = luks1_there tells given d a said
+meant_there meant.Luks2 tells r given random d a said = luks2_there tells (which_of r) (given_of r) random d a said
+meant_there meant.Either tells r given random d a (inl said) = luks2_there tells (which_of r) (given_of r) random d a said.0
+meant_there meant.Either tells r given random d a (inr said) = luks1_there tells given d a said.is
 
 rebuild_there : (tells : Type 0) (r : Rebuilding) (random : List ℕ) (d : Pair) (a : Answer) → IsRebuildAnswer tells r random d a → EndsRebuild a (own a)
-rebuild_there tells r random d a said = meant_there (meant_by r) tells r random d a said
+rebuild_there tells r random d a said = meant_there (meant_by r) tells r said.given random d a said.says
 
 pub rebuild_ends : {D : Type 0} (tells : Type 0) (size : D → ℕ) (bytes : D → List ℕ) (failed : D → ℕ) (r : Rebuilding) (unread : InputFault → Type 0)
     (HasRandom : List ℕ → Type 0) (volume volume_new old new : Result D InputFault) (a : Answer)

@@ -137,7 +137,7 @@ fn tell_more<R: AllocGlobal + Clock + Files<File = File>>(
     notes: &mut Vec<u8>,
 ) {
     let volume = Looked::at_volume(line);
-    match (&line.command, ended.status) {
+    match (line.command, ended.status) {
         (Command::Format(_), 0) => tell_leftovers(rt, volume, notes),
         (Command::Convert(converting), 0) => {
             tell_leftovers(rt, Looked::at_whole(converting.target), notes)

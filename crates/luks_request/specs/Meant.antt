@@ -1,12 +1,12 @@
 -- Of which version the header is that a command line asks to rebuild.
 use Rattle.std.specs.Prelude.{Bool, ◌||◌, is_some, if◌then◌else◌}
-use Rattle.luks1_mending.specs.declared.given.Given.{Given}
+use Rattle.luks_request.specs.declared.rebuilding.Luks1Fields.{Luks1Fields}
 use Rattle.luks_request.specs.declared.rebuilding.Meant.{Meant}
 use Rattle.luks_request.specs.declared.rebuilding.Meant.TheVariants.{Luks1, Luks2, Either}
 use Rattle.luks_request.specs.declared.rebuilding.Rebuilding.{Rebuilding}
 
--- a field is given that a LUKS1 header alone has: all but the uuid
-abbrev pub names_field : Given → Bool
+-- a field is given that a LUKS1 header alone has
+abbrev pub names_field : Luks1Fields → Bool
 names_field given =
     is_some given.cipher_name || is_some given.cipher_mode || is_some given.hash || is_some given.key_bytes || is_some given.payload
 

@@ -8,6 +8,5 @@ mod request;
 
 pub use keeping::{BackingUp, Comparing, Restoring};
 pub use place::Place;
-pub use luks1_mending::Given;
-pub use rebuilding::{Meant, Rebuilding};
+pub use rebuilding::{Luks1Fields, Meant, Rebuilding};
 pub use request::{Command, Converting, EditRequest, Editing, Line, Making, NewVersion, ShowAs};

@@ -2,8 +2,6 @@
 ghost use Rattle.std.specs.Prelude.{◌≡◌, ◌↔◌, IsTrue, true};
 ghost use Rattle.luks_request.specs.Meant.{meant_by, names_field, names_place};
 
-use luks1_mending::Given;
-
 /// What is made by rebuilding, and of which files.
 #[derive(Debug, Clone, Copy, PartialEq, Eq)]
 pub struct Rebuilding<'a> {
@@ -17,8 +15,23 @@ pub struct Rebuilding<'a> {
     pub size: Option<u64>,
     /// The uuid of the new header; without one it is the volume's, or a new one.
     pub uuid: Option<&'a str>,
-    /// What is given of a LUKS1 header's fields, the uuid too.
-    pub luks1: Given,
+    /// What else is given of a LUKS1 header.
+    pub luks1: Luks1Fields<'a>,
+}
+
+/// What is given of a LUKS1 header's fields, beside the uuid: each wins over what stands.
+#[derive(Debug, Clone, Copy, PartialEq, Eq)]
+pub struct Luks1Fields<'a> {
+    /// The name of the cipher.
+    pub cipher_name: Option<&'a str>,
+    /// The cipher's mode.
+    pub cipher_mode: Option<&'a str>,
+    /// The hash.
+    pub hash: Option<&'a str>,
+    /// The length of the volume key in bytes.
+    pub key_bytes: Option<u32>,
+    /// Where the payload begins, in sectors of 512 bytes.
+    pub payload: Option<u32>,
 }
 
 /// Of which version the header is that is meant.
@@ -47,8 +60,8 @@ impl Rebuilding<'_> {
     }
 }
 
-/// Whether a field is given that a LUKS1 header alone has: all but the uuid.
-fn names_field(given: &Given) -> bool
+/// Whether a field is given that a LUKS1 header alone has.
+fn names_field(given: &Luks1Fields<'_>) -> bool
     ensures { result ≡ names_field given.now }
 {
     given.cipher_name.is_some()

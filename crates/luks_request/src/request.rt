@@ -229,7 +229,7 @@ impl<'a> Line<'a> {
     pub fn random(&self) -> Option<&'a str>
         ensures { option_map (λ name. name.now) result ≡ random_of self.now.command }
     {
-        match &self.command {
+        match self.command {
             Command::Edit(editing) => editing.random,
             Command::Format(making) => Some(making.random),
             Command::Convert(converting) => Some(converting.random),
@@ -242,7 +242,7 @@ impl<'a> Line<'a> {
     pub fn target(&self) -> Option<&'a str>
         ensures { option_map (λ name. name.now) result ≡ target_of self.now.command }
     {
-        match &self.command {
+        match self.command {
             Command::Convert(converting) => Some(converting.target),
             Command::Rebuild(rebuilding) => Some(rebuilding.target),
             Command::Backup(backing_up) => Some(backing_up.target),

@@ -20,14 +20,14 @@ returns-in-Ok-clause-answers g c = (
 
 pub returns-in-Err-clause-answers : goal.returns-in-Err-clause-answers
 returns-in-Err-clause-answers g c =
-    subst (IsLuks1Answer g.D.Device.tells c.args.making.now.rebuilding.now.luks1 _) (sym c.not_of_fields.ensures)
-    (answers_fault1 g.D.Device.tells c.args.making.now.rebuilding.now.luks1 _ c.in-Err.fault c.in-Err.ensures.count
+    subst (IsLuks1Answer g.D.Device.tells c.args.given.now _) (sym c.not_of_fields.ensures)
+    (answers_fault1 g.D.Device.tells c.args.given.now _ c.in-Err.fault c.in-Err.ensures.count
     (λ is. (c.in-Err.ensures.refused is).same) c.in-Err.ensures.fault)
 
 pub returns-in-Err-2-clause-answers : goal.returns-in-Err-2-clause-answers
 returns-in-Err-2-clause-answers g c =
-    subst (IsLuks1Answer g.D.Device.tells c.args.making.now.rebuilding.now.luks1 _) (sym c.not_of_fields-in-Err-2.ensures)
-    (answers_fault1 g.D.Device.tells c.args.making.now.rebuilding.now.luks1 _ c.in-Err.fault c.in-Err.ensures.count
+    subst (IsLuks1Answer g.D.Device.tells c.args.given.now _) (sym c.not_of_fields-in-Err-2.ensures)
+    (answers_fault1 g.D.Device.tells c.args.given.now _ c.in-Err.fault c.in-Err.ensures.count
     (λ is. (c.in-Err.ensures.refused is).same) c.in-Err.ensures.fault)
 
 pub returns-in-Err-2-clause-settled : goal.returns-in-Err-2-clause-settled
