@@ -7,12 +7,12 @@ use Rattle.luks1_header.specs.Header1.{luks1_size, version_of, HasMagic}
 use Rattle.luks_reading.specs.declared.report.Data.TheVariants.{Elsewhere}
 use Rattle.luks_reading.specs.Answer.{AnswerWithin as Opening, Opened}
 use Rattle.luks_reading.specs.Checked.{WellFormed}
-use Rattle.luks_rebuilding.specs.Candidates.{json_of, OfTaken}
+use Rattle.luks_rebuilding.specs.Candidates.{OfTaken}
 use Rattle.luks_rebuilding.specs.Gives.{Gives}
 use Rattle.luks_rebuilding.specs.Outcome.{IsAnsweredFault, IsRebuildable, IsRebuildFault}
 use Rattle.luks_rebuilding.specs.Rebuilt.{IsOfRebuilt, IsRebuilt}
 use Rattle.luks_rebuilding.specs.declared.place.Which.{Which}
-use Rattle.luks_rebuilding.specs.declared.place.Which.TheVariants.{Any, Second}
+use Rattle.luks_rebuilding.specs.declared.place.Which.TheVariants.{Any, Second, OfSize, SecondOfSize}
 use Rattle.luks_rebuilding.specs.declared.rebuild_fault.RebuildFault.{RebuildFault}
 use Rattle.luks_rebuilding.specs.declared.rebuild_fault.RebuildFault.TheVariants as fault
 use Rattle.luks1_mending.specs.declared.given.Given.{Given}
@@ -39,8 +39,10 @@ random_count = 144
 
 -- what the words of the command line ask for
 abbrev pub which_by : Bool → Option ℕ → Which
-which_by true size = Second
-which_by false size = Any
+which_by false None = Any
+which_by true None = Second
+which_by false (Some size) = OfSize size
+which_by true (Some size) = SecondOfSize size
 
 abbrev pub which_of : Rebuilding → Which
 which_of rebuilding = which_by rebuilding.second rebuilding.size
@@ -74,7 +76,7 @@ pub record IsNewHeader (v : List ℕ) (which : Which) (given : Option (List ℕ)
   pub rebuilt : IsRebuilt v which given random old new
   pub well_formed : WellFormed new Elsewhere
   -- each keyslot gives what the equations give for that metadata and the bytes of its key areas
-  pub opens : OfTaken v which (λ place. (memory n : ℕ) (p : List ℕ) (a : Opened) → Gives memory (json_of v place) v n p a ↔ Opening memory new n p a)
+  pub opens : OfTaken v which (λ taken. (memory n : ℕ) (p : List ℕ) (a : Opened) → Gives memory taken.json v n p a ↔ Opening memory new n p a)
 
 -- which bytes of the target may have changed, whatever is answered: those of both copies of the header
 -- and of its key areas

@@ -8,3 +8,5 @@ mod of_either;
 mod of_fields;
 mod of_metadata;
 pub mod rebuild;
+
+pub use of_metadata::which_of;

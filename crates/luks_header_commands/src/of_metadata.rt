@@ -77,22 +77,23 @@ pub(crate) fn not_of_metadata<E: Write>(
 }
 
 /// Which copies the words of the command line ask for.
-pub(crate) fn which_of(rebuilding: &Rebuilding<'_>) -> Which
+pub fn which_of(rebuilding: &Rebuilding<'_>) -> Which
     ensures { result ≡ which_of rebuilding.now }
 {
-    if rebuilding.second {
-        Which::Second
-    } else {
-        Which::Any
+    match (rebuilding.second, rebuilding.size) {
+        (false, None) => Which::Any,
+        (true, None) => Which::Second,
+        (false, Some(size)) => Which::OfSize(size),
+        (true, Some(size)) => Which::SecondOfSize(size),
     }
 }
 
-/// Says what the header lacks, and how the payload is opened by it.
+/// Says what lists the header, and how the payload is opened by it.
 pub(crate) fn note_metadata<E: Write>(files: &HeaderFiles<'_>, err: &mut E) {
     let target = files.target;
     let _ = writeln!(
         err,
-        "luks: the label is empty; luks show {target} lists the keyslots"
+        "luks: luks show {target} lists its keyslots and its label"
     );
     note_opening(files, err);
 }

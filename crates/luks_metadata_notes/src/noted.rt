@@ -1,66 +1,101 @@
-//! The lines.
+//! The lines of one candidate: where its metadata is whole, how many keyslots it has, and what vouches
+//! for it.
 ghost use Rattle.std.specs.Prelude.{◌+◌, ◌^◌, ◌<◌};
 ghost use Rattle.luks_area.specs.Device.{IsUnchanged};
 
+use crate::further::say_further;
+use crate::older::say_older;
 use luks_area::Device;
 use luks_meta::Meta;
-use luks_rebuilding::{Candidate, Place, Which, find_candidate};
+use luks_rebuilding::{Candidate, Place, RebuildFault, Which, find_candidate};
 use std::alloc::Global;
 use std::io::Write;
 
 /// Says to `err` of a volume of which no header counts in which copy metadata is whole, the first in
-/// the order of `rebuild`, and that a header can be made of it; and where that is a first copy's, also
-/// that a second copy's is whole and another. Where a header counts or no metadata is whole, where the
-/// device fails or memory is refused, it says nothing.
+/// the order of `rebuild`, and that a header can be made of it; whether a checksum vouches for it, and
+/// whether it is of an older volume; and what other metadata is whole there. Where a header counts or
+/// no metadata is whole it says nothing, and where the device fails or memory is refused no more.
 pub fn note_whole<D: Device, E: Write>(alloc: Global, device: &mut D, err: &mut E)
     requires { D.failed device.old + 1 < 2 ^ 64 }
     ensures { IsUnchanged D.tells D.size D.bytes D.unsettled device.old device.new }
 {
-    if let Ok(Candidate { place, json, meta }) = find_candidate(alloc, device, Which::Any) {
-        let (count, keyslots) = counted(&meta);
-        drop(meta);
-        let copy = copy_of(&place);
-        let _ = writeln!(
-            err,
-            "luks: metadata of {count} {keyslots} is whole in the {copy} copy: luks rebuild makes a header of it"
-        );
-        note_other(alloc, device, &json, err);
-    }
+    let _ = say_whole(alloc, device, err);
 }
 
-/// Says to `err` of which copy's metadata a header was made, and how many keyslots it has; and where
-/// that was a first copy's, also that a second copy's is whole and another. It is asked of the volume
-/// once more; where that fails it says nothing.
+/// The same, until a fault ends it.
+fn say_whole<D: Device, E: Write>(
+    alloc: Global,
+    device: &mut D,
+    err: &mut E,
+) -> Result<(), RebuildFault>
+    requires { D.failed device.old + 1 < 2 ^ 64 }
+    ensures { IsUnchanged D.tells D.size D.bytes D.unsettled device.old device.new }
+{
+    let found = find_candidate(alloc, device, Which::Any)?;
+    let (count, keyslots) = counted(&found.meta);
+    let copy = copy_of(&found.place);
+    let _ = writeln!(
+        err,
+        "luks: metadata of {count} {keyslots} is whole in the {copy} copy: luks rebuild makes a header of it"
+    );
+    say_origin(alloc, device, &found, err)
+}
+
+/// Says to `err` of which copy's metadata a header was made, and how many keyslots it has; and the same
+/// of it as `note_whole`. It is asked of the volume once more; where that fails it says nothing.
 pub fn note_taken<D: Device, E: Write>(alloc: Global, device: &mut D, which: Which, err: &mut E)
     requires { D.failed device.old + 1 < 2 ^ 64 }
     ensures { IsUnchanged D.tells D.size D.bytes D.unsettled device.old device.new }
 {
-    if let Ok(Candidate { place, json, meta }) = find_candidate(alloc, device, which) {
-        let (count, keyslots) = counted(&meta);
-        drop(meta);
-        let copy = copy_of(&place);
-        let _ = writeln!(
-            err,
-            "luks: made of the metadata in the {copy} copy, which has {count} {keyslots}"
-        );
-        note_other(alloc, device, &json, err);
-    }
+    let _ = say_taken(alloc, device, which, err);
 }
 
-/// Says to `err` that metadata is whole in a second copy that isn't this. One that is of a second copy
-/// itself is the first that is found there.
-fn note_other<D: Device, E: Write>(alloc: Global, device: &mut D, json: &[u8], err: &mut E)
+/// The same, until a fault ends it.
+fn say_taken<D: Device, E: Write>(
+    alloc: Global,
+    device: &mut D,
+    which: Which,
+    err: &mut E,
+) -> Result<(), RebuildFault>
     requires { D.failed device.old + 1 < 2 ^ 64 }
     ensures { IsUnchanged D.tells D.size D.bytes D.unsettled device.old device.new }
 {
-    if let Ok(second) = find_candidate(alloc, device, Which::Second) {
-        if second.json.as_slice() != json {
-            let _ = writeln!(
-                err,
-                "luks: that of the second copy is whole too, and differs: luks rebuild --second takes it"
-            );
-        }
-    }
+    let found = find_candidate(alloc, device, which)?;
+    let (count, keyslots) = counted(&found.meta);
+    let copy = copy_of(&found.place);
+    let _ = writeln!(
+        err,
+        "luks: made of the metadata in the {copy} copy, which has {count} {keyslots}"
+    );
+    say_origin(alloc, device, &found, err)
+}
+
+/// Says whether a checksum vouches for the metadata and whether it is of an older volume, and what
+/// other metadata is whole.
+fn say_origin<D: Device, E: Write>(
+    alloc: Global,
+    device: &mut D,
+    found: &Candidate,
+    err: &mut E,
+) -> Result<(), RebuildFault>
+    requires { D.failed device.old + 1 < 2 ^ 64 }
+    ensures { IsUnchanged D.tells D.size D.bytes D.unsettled device.old device.new }
+{
+    say_vouch(found, err);
+    say_older(device, found, err)?;
+    say_further(alloc, device, found, err)
+}
+
+/// Says whether a checksum vouches for the metadata.
+fn say_vouch<E: Write>(found: &Candidate, err: &mut E) {
+    let copy = copy_of(&found.place);
+    let _ = match found.vouch {
+        Some(_) => writeln!(err, "luks: vouched by the checksum of the {copy} copy"),
+        None => writeln!(
+            err,
+            "luks: no checksum vouches for it: compare with luks open before you restore it"
+        ),
+    };
 }
 
 /// Which copy the metadata was read from.
@@ -76,6 +111,10 @@ fn counted(meta: &Meta) -> (u8, &'static str) {
             count = count.saturating_add(1);
         }
     }
-    let name = if count == 1 { "keyslot" } else { "keyslots" };
-    (count, name)
+    (count, keyslots_of(count))
+}
+
+/// What so many keyslots are called.
+pub(crate) fn keyslots_of(count: u8) -> &'static str {
+    if count == 1 { "keyslot" } else { "keyslots" }
 }

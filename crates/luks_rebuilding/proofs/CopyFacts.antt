@@ -8,11 +8,12 @@ use Rattle.luks_head.specs.Written.{IsWrittenCopy}
 use Rattle.luks_head.specs.declared.bin2.Bin2.{Bin2}
 use Rattle.luks2_copy.specs.Copy.{HasCopy, IsCopyHeader}
 use Rattle.luks2_copy.proofs.CopyFacts.{copy_stays as written_stays}
+use Rattle.luks_rebuilding.specs.Candidates.{Source}
 use Rattle.luks_rebuilding.specs.Rebuilt.{HasRebuiltCopy, IsRebuiltHeader}
 
-module _ (uuid salt : List ℕ) (size at : ℕ) (h : Bin2) (new : IsRebuiltHeader uuid salt size at h) where
+module _ (uuid salt : List ℕ) (source : Source) (at : ℕ) (h : Bin2) (new : IsRebuiltHeader uuid salt source at h) where
   -- its binary header is that of a copy at its place
-  header_there : IsListed size → (at ≡ 0) ⊎ (at ≡ size) → IsCopyHeader h
+  header_there : IsListed source.size → (at ≡ 0) ⊎ (at ≡ source.size) → IsCopyHeader h
   header_there listed place = record {
     magic = new.magic ∙ ap magic_of (sym new.hdr_offset);
     version = new.version;
@@ -22,8 +23,8 @@ module _ (uuid salt : List ℕ) (size at : ℕ) (h : Bin2) (new : IsRebuiltHeade
   }
 
   -- the copy that was written with it is that of the rebuilt header
-  has_copy : (w json : List ℕ) → HasCopy w json h → HasRebuiltCopy w uuid salt json size at
-  has_copy w json x = record {
+  has_copy : (w : List ℕ) → HasCopy w source.json h → HasRebuiltCopy w uuid salt source at
+  has_copy w x = record {
     header = record h { csum = x.csum };
     fields = record {
       magic = new.magic;
@@ -38,18 +39,18 @@ module _ (uuid salt : List ℕ) (size at : ℕ) (h : Bin2) (new : IsRebuiltHeade
       hdr_offset = new.hdr_offset;
       csum_rest = x.csum_rest;
     };
-    written = subst (λ o. IsWrittenCopy w o (record h { csum = x.csum }) json) new.hdr_offset x.written;
+    written = subst (λ o. IsWrittenCopy w o (record h { csum = x.csum }) source.json) new.hdr_offset x.written;
   }
 
 -- whatever text the field holds
-module _ (field_ salt : List ℕ) (size at : ℕ) (h : Bin2) (new : (uuid : List ℕ) → field_ ≡ uuid ++ replicate 4 0 → IsRebuiltHeader uuid salt size at h)
-    (listed : IsListed size) (place : (at ≡ 0) ⊎ (at ≡ size)) (w json : List ℕ) where
-  copy_of : {A F : Type 0} (r : Result A F) (uuid : List ℕ) → field_ ≡ uuid ++ replicate 4 0 → (IsCopyHeader h → OnOk r (HasCopy w json h)) → OnOk r (HasRebuiltCopy w uuid salt json size at)
-  copy_of (Ok x) uuid e given = has_copy uuid salt size at h (new uuid e) w json (given (header_there uuid salt size at h (new uuid e) listed place))
+module _ (field_ salt : List ℕ) (source : Source) (at : ℕ) (h : Bin2) (new : (uuid : List ℕ) → field_ ≡ uuid ++ replicate 4 0 → IsRebuiltHeader uuid salt source at h)
+    (listed : IsListed source.size) (place : (at ≡ 0) ⊎ (at ≡ source.size)) (w : List ℕ) where
+  copy_of : {A F : Type 0} (r : Result A F) (uuid : List ℕ) → field_ ≡ uuid ++ replicate 4 0 → (IsCopyHeader h → OnOk r (HasCopy w source.json h)) → OnOk r (HasRebuiltCopy w uuid salt source at)
+  copy_of (Ok x) uuid e given = has_copy uuid salt source at h (new uuid e) w (given (header_there uuid salt source at h (new uuid e) listed place))
   copy_of (Err f) uuid e given = tt
 
-  pub rebuilt_copy : {A F : Type 0} (r : Result A F) → (IsCopyHeader h → OnOk r (HasCopy w json h))
-      → OnOk r ((uuid : List ℕ) → field_ ≡ uuid ++ replicate 4 0 → HasRebuiltCopy w uuid salt json size at)
+  pub rebuilt_copy : {A F : Type 0} (r : Result A F) → (IsCopyHeader h → OnOk r (HasCopy w source.json h))
+      → OnOk r ((uuid : List ℕ) → field_ ≡ uuid ++ replicate 4 0 → HasRebuiltCopy w uuid salt source at)
   rebuilt_copy {F = F} (Ok x) given = λ uuid e. copy_of {F = F} (Ok x) uuid e given
   rebuilt_copy (Err f) given = tt
 
@@ -58,10 +59,10 @@ pub of_copy : {u v : List ℕ} (h : Bin2) (size at : ℕ) → h.hdr_size ≡ siz
 of_copy {u} {v} h size at long there same = subst (λ n. SameBut (IsAt at n) u v) long (subst (λ o. SameBut (IsAt o h.hdr_size) u v) there same)
 
 -- a copy stays where its bytes do
-pub copy_stays : (v w uuid salt json : List ℕ) (size at : ℕ) → length w ≡ length v → part w at 4096 ≡ part v at 4096
-    → part w (at + 4096) (length json) ≡ part v (at + 4096) (length json) → HasRebuiltCopy v uuid salt json size at → HasRebuiltCopy w uuid salt json size at
-copy_stays v w uuid salt json size at long head area x = record {
+pub copy_stays : (v w uuid salt : List ℕ) (source : Source) (at : ℕ) → length w ≡ length v → part w at 4096 ≡ part v at 4096
+    → part w (at + 4096) (length source.json) ≡ part v (at + 4096) (length source.json) → HasRebuiltCopy v uuid salt source at → HasRebuiltCopy w uuid salt source at
+copy_stays v w uuid salt source at long head area x = record {
   header = x.header;
   fields = x.fields;
-  written = written_stays v w json at x.header long head area x.written;
+  written = written_stays v w source.json at x.header long head area x.written;
 }

@@ -1,5 +1,5 @@
 -- The first fault of rebuilding among the faults that stand, row by row of the table.
-use Rattle.std.proofs.Common.{◌≡◌, ◌≢◌, ℕ, ◌+◌, ◌*◌, ◌<◌, ◌≤◌, List, codes, length, false, Option, Some, None, option_and_then, unwrap_or, refl, sym, ap, subst, ◌∙◌, arith}
+use Rattle.std.proofs.Common.{◌≡◌, ◌≢◌, ℕ, ◌+◌, ◌*◌, ◌<◌, ◌≤◌, List, codes, length, false, Option, Some, None, option_and_then, unwrap_or, refl, sym, ap, subst, ◌∙◌, arith, inl, inr}
 use Rattle.serde_json.specs.Data.{Data as Value}
 use Rattle.serde_json.specs.Find.{get}
 use Rattle.luks_area.specs.Area.{area_key, Fit, IsAreaFault}
@@ -20,14 +20,13 @@ use Rattle.luks_meta.specs.declared.configuration.Config.{Config as Sizes}
 use Rattle.luks_reading.proofs.ListedAreaFacts.{no_area_fault}
 use Rattle.luks_reading.specs.Layout2.{Luks2Area}
 use Rattle.luks_reading.specs.declared.report.Data.TheVariants.{Elsewhere}
-use Rattle.luks_rebuilding.proofs.SearchFacts.{one_place}
-use Rattle.luks_rebuilding.specs.Candidates.{json_of, OfTaken}
-use Rattle.luks_rebuilding.specs.Found.{BreaksFirst, IsFoundIn, IsWhole}
+use Rattle.luks_rebuilding.proofs.SourceFacts.{no_source, one_source}
+use Rattle.luks_rebuilding.specs.Candidates.{IsVouchedOf, OfTaken, Source}
+use Rattle.luks_rebuilding.specs.Found.{source_of, BreaksVouched, IsCountedFor, IsFoundIn, IsNotPlain, IsWhole}
 use Rattle.luks_rebuilding.specs.KeyAreas.{EndsBeforeRegion, HasHeaderArea}
-use Rattle.luks_rebuilding.specs.Outcome.{IsAnsweredFault, IsNoUuid, IsNotFound, IsRebuildable, IsRebuildFault}
+use Rattle.luks_rebuilding.specs.Outcome.{AnswersCounts, IsAnsweredFault, IsNoUuid, IsNotFound, IsRebuildable, IsRebuildFault, PassesCounts}
 use Rattle.luks_rebuilding.specs.RebuildFaults.{is_rebuild_failure, rebuild_key}
 use Rattle.luks_rebuilding.specs.declared.candidate.Candidate.{Candidate}
-use Rattle.luks_rebuilding.specs.declared.place.Place.{Place}
 use Rattle.luks_rebuilding.specs.declared.place.Which.{Which}
 use Rattle.luks_rebuilding.specs.declared.rebuild_fault.RebuildFault.{RebuildFault}
 use Rattle.luks_rebuilding.specs.declared.rebuild_fault.RebuildFault.TheVariants.{Counts, NoMetadata, Area, TooSmall, Uuid, RandomLength, Memory, Device}
@@ -46,6 +45,11 @@ given_good : (given : Option (List ℕ)) → ((text : List ℕ) → given ≡ So
 given_good None good bad = bad
 given_good (Some t) good bad = bad (good t refl)
 
+-- where nothing counts, or may, none that counts is a fault
+counts_not : (v : List ℕ) (which : Which) → PassesCounts v which → AnswersCounts v which → ⊥
+counts_not v which (inl nothing_counts) bad = bad.0 nothing_counts
+counts_not v which (inr may) bad = bad.1 may
+
 -- ---- of a candidate
 
 module _
@@ -53,33 +57,33 @@ module _
     (found : IsFoundIn v which c) (whole : IsWhole (length v) c)
   where
     -- what is said of the first candidate is said of this one
-    of_this : (says : Place → Type 0) → OfTaken v which says → says c.place
-    of_this says x = subst says (one_place v which x.place c.place x.taken found.taken) x.holds
+    of_this : (says : Source → Type 0) → OfTaken v which says → says (source_of c)
+    of_this says x = subst says (one_source v which x.source (source_of c) x.taken found.taken) x.holds
 
-    to_this : (says : Place → Type 0) → says c.place → OfTaken v which says
-    to_this says x = record { place = c.place; taken = found.taken; holds = x }
+    to_this : (says : Source → Type 0) → says (source_of c) → OfTaken v which says
+    to_this says x = record { source = source_of c; taken = found.taken; holds = x }
 
-    pub its_json : Json (json_of v c.place) (content c.meta)
-    its_json = subst (λ (l : List ℕ). Json l (content c.meta)) found.read whole.meta.json
+    pub its_json : Json c.json.items (content c.meta)
+    its_json = whole.meta.json
 
-    its_value : (j : Value) → Json (json_of v c.place) j → j ≡ content c.meta
-    its_value j holds = one_value (json_of v c.place) j (content c.meta) holds its_json
+    its_value : (j : Value) → Json c.json.items j → j ≡ content c.meta
+    its_value j holds = one_value c.json.items j (content c.meta) holds its_json
 
     -- its areas
     abbrev Areas : AreaName → TheArea → Type 0
     Areas n a = Luks2Area (content c.meta) c.place.size Elsewhere (length v) n a
 
-    area_of : (n : AreaName) (a : TheArea) → HasHeaderArea v c.place n a → Areas n a
+    area_of : (n : AreaName) (a : TheArea) → HasHeaderArea v (source_of c) n a → Areas n a
     area_of n a x = subst (λ (j : Value). Luks2Area j c.place.size Elsewhere (length v) n a) (its_value x.value x.holds) x.area
 
-    has_area : (n : AreaName) (a : TheArea) → Areas n a → HasHeaderArea v c.place n a
+    has_area : (n : AreaName) (a : TheArea) → Areas n a → HasHeaderArea v (source_of c) n a
     has_area n a x = record { value = content c.meta; holds = its_json; area = x }
 
-    fault_there : (f : AreaFault) → IsAreaFault Areas (length v) f → IsAreaFault (HasHeaderArea v c.place) (length v) f
+    fault_there : (f : AreaFault) → IsAreaFault Areas (length v) f → IsAreaFault (HasHeaderArea v (source_of c)) (length v) f
     fault_there (Outside n) h = (h.0, (has_area n h.0 h.1.0, h.1.1))
     fault_there (Overlap m n) h = (h.0, (h.1.0, (has_area m h.0 h.1.1.0, has_area n h.1.0 h.1.1.1, h.1.1.2, h.1.1.3)))
 
-    fault_here : (f : AreaFault) → IsAreaFault (HasHeaderArea v c.place) (length v) f → IsAreaFault Areas (length v) f
+    fault_here : (f : AreaFault) → IsAreaFault (HasHeaderArea v (source_of c)) (length v) f → IsAreaFault Areas (length v) f
     fault_here (Outside n) h = (h.0, (area_of n h.0 h.1.0, h.1.1))
     fault_here (Overlap m n) h = (h.0, (h.1.0, (area_of m h.0 h.1.1.0, area_of n h.1.0 h.1.1.1, h.1.1.2, h.1.1.3)))
 
@@ -88,29 +92,29 @@ module _
 
     -- the faults that are looked for before it is found
     none_counts : Faults Counts → ⊥
-    none_counts bad = bad found.nothing_counts
+    none_counts bad = counts_not v which found.passes bad
 
     none_missing : Faults NoMetadata → ⊥
-    none_missing bad = bad c.place found.taken.0
+    none_missing bad = bad (source_of c) found.taken.0
 
     fits_so : Fit Areas (length v) → (f : AreaFault) → Faults (Area f) → ⊥
-    fits_so fit f bad = no_area_fault Areas (length v) f fit (fault_here f (of_this (λ place. IsAreaFault (HasHeaderArea v place) (length v) f) bad))
+    fits_so fit f bad = no_area_fault Areas (length v) f fit (fault_here f (of_this (λ source. IsAreaFault (HasHeaderArea v source) (length v) f) bad))
 
     large_so : (bytes : ℕ) → keyslots_size (content c.meta) ≡ Some bytes → 2 * c.place.size + bytes ≤ total → Faults TooSmall → ⊥
     large_so bytes says large bad =
-        let x : EndsBeforeRegion v total c.place = of_this (EndsBeforeRegion v total) bad in
+        let x : EndsBeforeRegion total (source_of c) = of_this (EndsBeforeRegion total) bad in
         let one : keyslots_size (content c.meta) ≡ Some x.bytes = subst (λ (j : Value). keyslots_size j ≡ Some x.bytes) (its_value x.value x.holds) x.says in
         let same : x.bytes ≡ bytes = same_some x.bytes bytes (sym one ∙ says) in
         let short = x.short in
         omega (arith, same, short, large)
 
     pub area_first : (f : AreaFault) → IsLeast area_key (IsAreaFault Areas (length v)) f → IsLeast rebuild_key Faults (Area f)
-    area_first f least = (to_this (λ place. IsAreaFault (HasHeaderArea v place) (length v) f) (fault_there f least.0), after)
+    area_first f least = (to_this (λ source. IsAreaFault (HasHeaderArea v source) (length v) f) (fault_there f least.0), after)
       where
         after : (g : RebuildFault) → Faults g → NotAfter (rebuild_key (Area f)) (rebuild_key g)
         after Counts bad = absurd (none_counts bad)
         after NoMetadata bad = absurd (none_missing bad)
-        after (Area g) bad = (omega arith, λ same. least.1 g (fault_here g (of_this (λ place. IsAreaFault (HasHeaderArea v place) (length v) g) bad)))
+        after (Area g) bad = (omega arith, λ same. least.1 g (fault_here g (of_this (λ source. IsAreaFault (HasHeaderArea v source) (length v) g) bad)))
         after TooSmall bad = (omega arith, λ same. absurd (omega (arith, same)))
         after Uuid bad = (omega arith, λ same. absurd (omega (arith, same)))
         after RandomLength bad = (omega arith, λ same. absurd (omega (arith, same)))
@@ -119,7 +123,7 @@ module _
 
     module _ (fit : Fit Areas (length v)) (bytes : ℕ) (says : keyslots_size (content c.meta) ≡ Some bytes) where
       pub small_first : total < 2 * c.place.size + bytes → IsLeast rebuild_key Faults TooSmall
-      small_first short = (to_this (EndsBeforeRegion v total) (record { value = content c.meta; holds = its_json; bytes = bytes; says = says; short = short }), after)
+      small_first short = (to_this (EndsBeforeRegion total) (record { value = content c.meta; holds = its_json; bytes = bytes; says = says; short = short }), after)
         where
           after : (g : RebuildFault) → Faults g → NotAfter (rebuild_key TooSmall) (rebuild_key g)
           after Counts bad = absurd (none_counts bad)
@@ -178,10 +182,28 @@ module _
 -- ---- what is answered
 
 -- a search that was broken off where nothing counts finds no candidate
-pub broken_not_found : (v : List ℕ) (which : Which) (f : RebuildFault) → Chosen v nothing → BreaksFirst v which f → IsNotFound v which f
-broken_not_found v which Memory counts x = record { nothing_counts = counts; place = x.0; read = x.1 }
-broken_not_found v which Device counts x = tt
-broken_not_found v which f counts x = absurd x
+pub broken_not_found : (v : List ℕ) (which : Which) (f : RebuildFault) → PassesCounts v which → BreaksVouched v which f → IsNotFound v which f
+broken_not_found v which Memory passes x = record { passes = passes; place = x.0; sought = inl x.1 }
+broken_not_found v which Device passes x = tt
+broken_not_found v which f passes x = absurd x
+
+-- where no checksum vouches for any, a search for others that was broken off or found none finds none
+pub plain_not_found : (v : List ℕ) (which : Which) (f : RebuildFault) → PassesCounts v which → ((s : Source) → IsVouchedOf v which s → ⊥)
+    → IsNotPlain v which f → IsNotFound v which f
+plain_not_found v which NoMetadata passes none x = (passes, no_source v which none x)
+plain_not_found v which Memory passes none x = record { passes = passes; place = x.0; sought = inr x.1 }
+plain_not_found v which Device passes none x = tt
+plain_not_found v which Counts passes none x = absurd x
+plain_not_found v which (Area f) passes none x = absurd x
+plain_not_found v which TooSmall passes none x = absurd x
+plain_not_found v which Uuid passes none x = absurd x
+plain_not_found v which RandomLength passes none x = absurd x
+
+-- a header that counts and may not is the first fault
+pub counted_not_found : (v : List ℕ) (which : Which) (f : RebuildFault) → IsCountedFor v which f → IsNotFound v which f
+counted_not_found v which Counts x = x
+counted_not_found v which Device x = tt
+counted_not_found v which f x = absurd x
 
 -- why no candidate is found is what is answered
 pub not_found_first : (v : List ℕ) (which : Which) (given : Option (List ℕ)) (total : ℕ) (random : List ℕ) (f : RebuildFault) → IsNotFound v which f → IsAnsweredFault v which given total random f
@@ -199,7 +221,7 @@ not_found_first v which given total random Counts x = (x, after)
 not_found_first v which given total random NoMetadata x = (x.1, after)
   where
     after : (g : RebuildFault) → IsRebuildFault v which given total random g → NotAfter (rebuild_key NoMetadata) (rebuild_key g)
-    after Counts bad = absurd (bad x.0)
+    after Counts bad = absurd (counts_not v which x.0 bad)
     after NoMetadata bad = (omega arith, λ same. tt)
     after (Area g) bad = (omega arith, λ same. tt)
     after TooSmall bad = (omega arith, λ same. tt)

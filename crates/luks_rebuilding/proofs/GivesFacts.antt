@@ -32,56 +32,55 @@ use Rattle.luks_reading.specs.declared.open_fault.OpenFault.{OpenFault}
 use Rattle.luks_reading.specs.declared.open_fault.OpenFault.TheVariants.{Head, Meta, NoSuchSlot, SlotFree, Outside, Slot, Device, Memory}
 use Rattle.luks_reading.specs.declared.report.Data.TheVariants.{Here, Elsewhere}
 use Rattle.luks_rebuilding.proofs.RegionFacts.{ends}
-use Rattle.luks_rebuilding.specs.Candidates.{json_of}
+use Rattle.luks_rebuilding.specs.Candidates.{Source}
 use Rattle.luks_rebuilding.specs.Found.{HasRegionInside}
 use Rattle.luks_rebuilding.specs.Gives.{Gives, GivesKey, IsRefusedSlot}
 use Rattle.luks_rebuilding.specs.KeyAreas.{HasKeyArea, IsSlotArea}
 use Rattle.luks_rebuilding.specs.Rebuilt.{IsMade, IsUuidOf}
-use Rattle.luks_rebuilding.specs.declared.place.Place.{Place}
 
 -- the uuid of the new header is one
-uuid_is : (v : List ℕ) (place : Place) (given : Option (List ℕ)) (random uuid : List ℕ)
-    → ((text : List ℕ) → given ≡ Some text → IsUuid text) → IsUuidOf v place given random uuid → IsUuid uuid
-uuid_is v place (Some t) random uuid good is = subst IsUuid (sym is) (good t refl)
-uuid_is v place None random uuid good (inl kept) = subst IsUuid (sym kept.is) kept.there.uuid
-uuid_is v place None random uuid good (inr other) = elim other.1 [
+uuid_is : (v : List ℕ) (size at : ℕ) (given : Option (List ℕ)) (random uuid : List ℕ)
+    → ((text : List ℕ) → given ≡ Some text → IsUuid text) → IsUuidOf v size at given random uuid → IsUuid uuid
+uuid_is v size at (Some t) random uuid good is = subst IsUuid (sym is) (good t refl)
+uuid_is v size at None random uuid good (inl kept) = subst IsUuid (sym kept.is) kept.there.uuid
+uuid_is v size at None random uuid good (inr other) = elim other.1 [
   | inl kept ↦ subst IsUuid (sym kept.is) kept.there.uuid
   | inr new ↦ subst IsUuid (sym new.1) (uuid_text-is _)
 ]
 
 module _
-    (v random old w : List ℕ) (given : Option (List ℕ)) (place : Place) (j : Value)
-    (meta : IsMeta (json_of v place) j) (x : IsMade v given random old w place)
+    (v random old w : List ℕ) (given : Option (List ℕ)) (source : Source) (j : Value)
+    (meta : IsMeta (source.json) j) (x : IsMade v given random old w source)
     (good : (text : List ℕ) → given ≡ Some text → IsUuid text)
-    (fit : Fit (Luks2Area j place.size Elsewhere (length v)) (length v))
-    (region : HasRegionInside j place.size (length w))
+    (fit : Fit (Luks2Area j source.size Elsewhere (length v)) (length v))
+    (region : HasRegionInside j source.size (length w))
   where
     -- ---- the copy that counts
 
-    size : hdr_size (header_at w 0) ≡ place.size
+    size : hdr_size (header_at w 0) ≡ source.size
     size = x.first.written.header.fields.hdr_size ∙ x.first.fields.hdr_size
 
-    large : 16384 ≤ place.size
-    large = listed_at_least place.size (subst IsListed x.first.fields.hdr_size x.first.written.listed)
+    large : 16384 ≤ source.size
+    large = listed_at_least source.size (subst IsListed x.first.fields.hdr_size x.first.written.listed)
 
-    json_long : length (json_of v place) ≡ place.size - 4096
+    json_long : length (source.json) ≡ source.size - 4096
     json_long =
         let sum = x.first.written.size in
         let long = x.first.fields.hdr_size in
         omega (arith, sum, long)
 
-    json_there : json_at w 0 ≡ json_of v place
+    json_there : json_at w 0 ≡ source.json
     json_there = ap (λ n. part w 4096 (n - 4096)) size ∙ sym (ap (λ n. part w 4096 n) json_long) ∙ x.first.written.area
 
     chosen : Chosen w (luks2 0 InStep)
     chosen =
-        let second = subst (λ (o : ℕ). IsWrittenCopy w o x.second.header (json_of v place)) (sym x.first.fields.hdr_size) x.second.written in
-        written_in_step w x.first.header x.second.header (json_of v place) (json_of v place) x.first.written second (x.first.fields.seqid ∙ sym x.second.fields.seqid)
+        let second = subst (λ (o : ℕ). IsWrittenCopy w o x.second.header (source.json)) (sym x.first.fields.hdr_size) x.second.written in
+        written_in_step w x.first.header x.second.header (source.json) (source.json) x.first.written second (x.first.fields.seqid ∙ sym x.second.fields.seqid)
 
     field_is : IsUuidField (uuid_field (header_at w 0))
     field_is =
         subst IsUuidField (sym (x.first.written.header.fields.uuid ∙ x.first.fields.own_uuid))
-        (fills x.uuid (uuid_is v place given random x.uuid good x.own_uuid))
+        (fills x.uuid (uuid_is v source.size source.at given random x.uuid good x.own_uuid))
 
     meta_there : IsMeta (json_at w 0) j
     meta_there = subst (λ (a : List ℕ). IsMeta a j) (sym json_there) meta
@@ -90,23 +89,23 @@ module _
 
     slot_inside : (n : ℕ) (a : Area) → IsSlotArea j n a → a.start + a.len ≤ length w
     slot_inside n a is =
-        let end_ = ends j place.size large (length (json_of v place)) json_long meta.content region.bytes region.says n a is in
+        let end_ = ends j source.size large (length (source.json)) json_long meta.content region.bytes region.says n a is in
         let inside = region.inside in
         omega (arith, end_, inside)
 
-    area_inside : (n : AreaName) (a : Area) → Luks2Area j place.size Elsewhere (length w) n a → IsInside a (length w)
+    area_inside : (n : AreaName) (a : Area) → Luks2Area j source.size Elsewhere (length w) n a → IsInside a (length w)
     area_inside name.Head1 a is = let start = is.0 in let len = is.1 in let inside = region.inside in omega (arith, start, len, inside)
     area_inside name.Head2 a is = let start = is.0 in let len = is.1 in let inside = region.inside in omega (arith, start, len, inside)
     area_inside (name.Slot n) a is = slot_inside n a is
     area_inside (name.Segment n) a is = absurd (let here : Elsewhere ≡ Here = is.1 in cc)
 
-    area_as : (n : AreaName) (a : Area) → Luks2Area j place.size Elsewhere (length w) n a → Luks2Area j place.size Elsewhere (length v) n a
+    area_as : (n : AreaName) (a : Area) → Luks2Area j source.size Elsewhere (length w) n a → Luks2Area j source.size Elsewhere (length v) n a
     area_as name.Head1 a is = is
     area_as name.Head2 a is = is
     area_as (name.Slot n) a is = is
     area_as (name.Segment n) a is = absurd (let here : Elsewhere ≡ Here = is.1 in cc)
 
-    fit_there : Fit (Luks2Area j place.size Elsewhere (length w)) (length w)
+    fit_there : Fit (Luks2Area j source.size Elsewhere (length w)) (length w)
     fit_there = record {
       inside = area_inside;
       disjoint = λ m n a b p q. fit.disjoint m n a b (area_as m a p) (area_as n b q);
@@ -131,7 +130,7 @@ module _
 
     -- ---- the keyslots
 
-    plan_area : (n : ℕ) (plan : SlotPlan) → HasLuks2Plan (json_of v place) n plan → HasKeyArea v place n plan.area
+    plan_area : (n : ℕ) (plan : SlotPlan) → HasLuks2Plan (source.json) n plan → HasKeyArea source n plan.area
     plan_area n plan z = record {
       value = z.value;
       holds = z.holds;
@@ -142,23 +141,23 @@ module _
       );
     }
 
-    plan_inside : (n : ℕ) (plan : SlotPlan) → HasLuks2Plan (json_of v place) n plan → plan.area.start + plan.area.len ≤ length w
+    plan_inside : (n : ℕ) (plan : SlotPlan) → HasLuks2Plan (source.json) n plan → plan.area.start + plan.area.len ≤ length w
     plan_inside n plan z =
         let its = plan_area n plan z in
-        slot_inside n plan.area (subst (λ (k : Value). IsSlotArea k n plan.area) (one_value (json_of v place) its.value j its.holds meta.json) its.area)
+        slot_inside n plan.area (subst (λ (k : Value). IsSlotArea k n plan.area) (one_value (source.json) its.value j its.holds meta.json) its.area)
 
-    same_bytes : (n : ℕ) (plan : SlotPlan) → HasLuks2Plan (json_of v place) n plan
+    same_bytes : (n : ℕ) (plan : SlotPlan) → HasLuks2Plan (source.json) n plan
         → part w plan.area.start plan.area.len ≡ part v plan.area.start plan.area.len
     same_bytes n plan z = x.areas n plan.area (plan_area n plan z)
 
-    plan_there : (n : ℕ) (plan : SlotPlan) → HasLuks2Plan (json_of v place) n plan → HasLuks2Plan (json_at w 0) n plan
+    plan_there : (n : ℕ) (plan : SlotPlan) → HasLuks2Plan (source.json) n plan → HasLuks2Plan (json_at w 0) n plan
     plan_there n plan z = subst (λ (a : List ℕ). HasLuks2Plan a n plan) (sym json_there) z
 
-    plan_here : (n : ℕ) (plan : SlotPlan) → HasLuks2Plan (json_at w 0) n plan → HasLuks2Plan (json_of v place) n plan
+    plan_here : (n : ℕ) (plan : SlotPlan) → HasLuks2Plan (json_at w 0) n plan → HasLuks2Plan (source.json) n plan
     plan_here n plan z = subst (λ (a : List ℕ). HasLuks2Plan a n plan) json_there z
 
     module _ (memory n : ℕ) where
-      to_refusal : (f : OpenFault) → IsRefusedSlot memory (json_of v place) n f → IsRefusalAsWithin memory w n (luks2 0 InStep) f
+      to_refusal : (f : OpenFault) → IsRefusedSlot memory (source.json) n f → IsRefusalAsWithin memory w n (luks2 0 InStep) f
       to_refusal (Head f) z = absurd z
       to_refusal (Meta f) z = absurd z
       to_refusal NoSuchSlot z = subst (λ (a : List ℕ). HasNoKeyslot a n) (sym json_there) z
@@ -168,7 +167,7 @@ module _
       to_refusal Device z = absurd z
       to_refusal Memory z = absurd z
 
-      from_refusal : (f : OpenFault) → IsRefusalAsWithin memory w n (luks2 0 InStep) f → IsRefusedSlot memory (json_of v place) n f
+      from_refusal : (f : OpenFault) → IsRefusalAsWithin memory w n (luks2 0 InStep) f → IsRefusedSlot memory (source.json) n f
       from_refusal (Head f) z = uuid_sound (uuid_field (header_at w 0)) field_is f z
       from_refusal (Meta f) z = (metadata_faultless (json_at w 0)).1 (j, meta_there) f z
       from_refusal NoSuchSlot z = subst (λ (a : List ℕ). HasNoKeyslot a n) json_there z
@@ -182,14 +181,14 @@ module _
       from_refusal Memory z = z
 
       -- there, by whatever counts
-      by_chosen : (f : OpenFault) → IsRefusalWithin memory w n f → IsRefusedSlot memory (json_of v place) n f
+      by_chosen : (f : OpenFault) → IsRefusalWithin memory w n f → IsRefusedSlot memory (source.json) n f
       by_chosen f z = from_refusal f (subst (λ (c : Choice). IsRefusalAsWithin memory w n c f) (choices_agree w z.choice (luks2 0 InStep) z.chosen chosen) z.fault)
 
-      refused_there : (f : OpenFault) → IsRefusedSlot memory (json_of v place) n f → IsRefusalWithin memory w n f
+      refused_there : (f : OpenFault) → IsRefusedSlot memory (source.json) n f → IsRefusalWithin memory w n f
       refused_there f z = record { choice = luks2 0 InStep; chosen = chosen; fault = to_refusal f z }
 
       module _ (p : List ℕ) where
-        key_there : (found : Option (List ℕ)) → GivesKey memory (json_of v place) v n p found → OpensWithin memory w n p found
+        key_there : (found : Option (List ℕ)) → GivesKey memory (source.json) v n p found → OpensWithin memory w n p found
         key_there found z = record {
           choice = luks2 0 InStep;
           chosen = chosen;
@@ -199,7 +198,7 @@ module _
           key = ap (λ (b : List ℕ). slot_key z.plan b p) (same_bytes n z.plan z.is) ∙ z.key;
         }
 
-        key_here : (found : Option (List ℕ)) → OpensWithin memory w n p found → GivesKey memory (json_of v place) v n p found
+        key_here : (found : Option (List ℕ)) → OpensWithin memory w n p found → GivesKey memory (source.json) v n p found
         key_here found z =
             let choice : z.choice ≡ luks2 0 InStep = choices_agree w z.choice (luks2 0 InStep) z.chosen chosen in
             let its = plan_here n z.plan (subst (λ (c : Choice). HasPlanAs w n c z.plan) choice z.is) in
@@ -210,12 +209,12 @@ module _
               key = ap (λ (b : List ℕ). slot_key z.plan b p) (sym (same_bytes n z.plan its)) ∙ z.key;
             }
 
-        pub gives_there : (a : Opened) → Gives memory (json_of v place) v n p a → AnswerWithin memory w n p a
+        pub gives_there : (a : Opened) → Gives memory (source.json) v n p a → AnswerWithin memory w n p a
         gives_there (refused f) z = (refused_there f z.0, λ g bad. z.1 g (by_chosen g bad))
         gives_there (opens k) z = key_there (Some k) z
         gives_there no_key z = key_there None z
 
-        pub gives_here : (a : Opened) → AnswerWithin memory w n p a → Gives memory (json_of v place) v n p a
+        pub gives_here : (a : Opened) → AnswerWithin memory w n p a → Gives memory (source.json) v n p a
         gives_here (refused f) z = (by_chosen f z.0, λ g bad. z.1 g (refused_there g bad))
         gives_here (opens k) z = key_here (Some k) z
         gives_here no_key z = key_here None z

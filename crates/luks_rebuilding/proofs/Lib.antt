@@ -1,8 +1,12 @@
 pub mod SlotFacts
 pub mod SearchFacts
+pub mod SizedFacts
+pub mod SourceFacts
+pub mod VouchFacts
 pub mod CopyFacts
 pub mod UuidFacts
 pub mod FaultFacts
+pub mod FoundFacts
 pub mod RegionFacts
 pub mod WrittenFacts
 pub mod GivesFacts

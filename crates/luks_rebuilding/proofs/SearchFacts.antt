@@ -10,7 +10,7 @@ use Rattle.luks_head.proofs.CopyFacts.{among_pass, listed_at_least}
 use Rattle.luks_head.proofs.SecondCopyFacts.{is_rising, later}
 use Rattle.luks_json.specs.AreaText.{JsonText}
 use Rattle.luks_rules.specs.declared.fault.MetaFault.TheVariants.{JsonArea}
-use Rattle.luks_rebuilding.specs.Candidates.{json_of, place_key, HasToBeRead, IsBegun, IsCandidate, Taken}
+use Rattle.luks_rebuilding.specs.Candidates.{json_of, place_key, HasToBeRead, IsBegun, IsCandidate}
 use Rattle.luks_rebuilding.specs.Found.{place_of, BreaksAt, BreaksFirst, BreaksHalf, FindsAt, FindsFirst, FindsHalf, IsBegunOf, IsLeastOf, IsMemoryWhere, IsWholeAt}
 use Rattle.luks_rebuilding.specs.declared.candidate.Candidate.{Candidate}
 use Rattle.luks_rebuilding.specs.declared.place.Half.{Half}
@@ -111,17 +111,17 @@ place_eta First q at = ap (λ a. let r : Place = record { size = q.size; at = a 
 place_eta Second q at = ap (λ a. let r : Place = record { size = q.size; at = a } in r) at
 
 -- the key of a first copy, and of a second
-key_first : (q : Place) → q.at ≡ 0 → place_key q ≡ 1 ∷ q.size ∷ []
+pub key_first : (q : Place) → q.at ≡ 0 → place_key q ≡ 1 ∷ q.size ∷ []
 key_first q at = ap (λ a. (if a == 0 then 1 else 2) ∷ q.size ∷ []) at
 
 eqb-not : (n : ℕ) → n ≢ 0 → (n == 0) ≡ false
 eqb-not n other = elim (cases_Bool (n == 0)) [ inl is ↦ absurd (other (eqb-true n 0 is)) | inr differs ↦ differs ]
 
-key_second : (q : Place) → q.at ≢ 0 → place_key q ≡ 2 ∷ q.size ∷ []
+pub key_second : (q : Place) → q.at ≢ 0 → place_key q ≡ 2 ∷ q.size ∷ []
 key_second q other = ap (λ (b : Bool). (if b then 1 else 2) ∷ q.size ∷ []) (eqb-not q.at other)
 
-not_after_as : (a b : Place) (xs ys : List ℕ) → place_key a ≡ xs → place_key b ≡ ys → NotAfter xs ys → NotAfter (place_key a) (place_key b)
-not_after_as a b xs ys p q n = subst (λ (l : List ℕ). NotAfter l (place_key b)) (sym p) (subst (λ (l : List ℕ). NotAfter xs l) (sym q) n)
+pub place_not_after : (a b : Place) (xs ys : List ℕ) → place_key a ≡ xs → place_key b ≡ ys → NotAfter xs ys → NotAfter (place_key a) (place_key b)
+place_not_after a b xs ys p q n = subst (λ (l : List ℕ). NotAfter l (place_key b)) (sym p) (subst (λ (l : List ℕ). NotAfter xs l) (sym q) n)
 
 module _ (v : List ℕ) where
   whole_of : (which : Which) (q : Place) → IsCandidate v which q → IsWholeAt v q
@@ -155,10 +155,10 @@ module _ (v : List ℕ) where
   first_least_of q zero least g is = elim (as_half ask.Any g is) [
     | inl first ↦ (
         let le = least g.size is.is_place.listed first.1 in
-        not_after_as q g (1 ∷ q.size ∷ []) (1 ∷ g.size ∷ []) (key_first q zero) (key_first g first.0)
+        place_not_after q g (1 ∷ q.size ∷ []) (1 ∷ g.size ∷ []) (key_first q zero) (key_first g first.0)
         (omega arith, λ e. (omega (arith, le), λ f. tt)))
     | inr second ↦
-        not_after_as q g (1 ∷ q.size ∷ []) (2 ∷ g.size ∷ []) (key_first q zero) (key_second g second.0)
+        place_not_after q g (1 ∷ q.size ∷ []) (2 ∷ g.size ∷ []) (key_first q zero) (key_second g second.0)
         (omega arith, λ e. absurd (omega (arith, e)))
   ]
 
@@ -169,7 +169,7 @@ module _ (v : List ℕ) where
     | inl first ↦ absurd (none g is first.0)
     | inr second ↦ (
         let le = least g.size is.is_place.listed second.1 in
-        not_after_as q g (2 ∷ q.size ∷ []) (2 ∷ g.size ∷ []) (key_second q other) (key_second g second.0)
+        place_not_after q g (2 ∷ q.size ∷ []) (2 ∷ g.size ∷ []) (key_second q other) (key_second g second.0)
         (omega arith, λ e. (omega (arith, le), λ f. tt)))
   ]
 
@@ -265,48 +265,3 @@ module _ (v : List ℕ) where
   pub after_result : {F : Type 0} (r : Result (Option Candidate) F) → FindsHalf v First None → IfOk r (FindsHalf v Second) → IfOk r (FindsFirst v ask.Any)
   after_result (Ok found) before x = second_after found before x
   after_result (Err f) before x = tt
-
--- ---- there is one first candidate
-
-same_place : (a b : Place) → a.size ≡ b.size → a.at ≡ b.at → a ≡ b
-same_place a b size at =
-    let one : a ≡ record { size = b.size; at = a.at } = ap (λ s. let r : Place = record { size = s; at = a.at } in r) size in
-    let two : record { size = b.size; at = a.at } ≡ b = ap (λ x. let r : Place = record { size = b.size; at = x } in r) at in
-    one ∙ two
-
--- of two candidates neither of which stands before the other
-pub one_place : (v : List ℕ) (which : Which) (a b : Place) → Taken v which a → Taken v which b → a ≡ b
-one_place v which a b x y =
-    let le : NotAfter (place_key a) (place_key b) = x.1 b y.0 in
-    let ge : NotAfter (place_key b) (place_key a) = y.1 a x.0 in
-    elim (as_half v which a x.0) [
-      | inl first ↦ elim (as_half v which b y.0) [
-        | inl other ↦ (
-            same_place a b (both_sizes a b (key_first a first.0) (key_first b other.0) le ge) (first.0 ∙ sym other.0))
-        | inr other ↦ absurd (apart a b (key_first a first.0) (key_second b other.0) ge)
-      ]
-      | inr second ↦ elim (as_half v which b y.0) [
-        | inl other ↦ absurd (apart b a (key_first b other.0) (key_second a second.0) le)
-        | inr other ↦ (
-            let sizes : a.size ≡ b.size = both_sizes a b (key_second a second.0) (key_second b other.0) le ge in
-            same_place a b sizes (at_size a x.0 second.0 ∙ sizes ∙ sym (at_size b y.0 other.0)))
-      ]
-    ]
-  where
-    keyed : (a b : Place) (xs ys : List ℕ) → place_key a ≡ xs → place_key b ≡ ys → NotAfter (place_key a) (place_key b) → NotAfter xs ys
-    keyed a b xs ys p q n = subst (λ (l : List ℕ). NotAfter l ys) p (subst (λ (l : List ℕ). NotAfter (place_key a) l) q n)
-
-    both_sizes : {k : ℕ} (a b : Place) → place_key a ≡ k ∷ a.size ∷ [] → place_key b ≡ k ∷ b.size ∷ []
-        → NotAfter (place_key a) (place_key b) → NotAfter (place_key b) (place_key a) → a.size ≡ b.size
-    both_sizes {k} a b p q le ge =
-        let up = keyed a b (k ∷ a.size ∷ []) (k ∷ b.size ∷ []) p q le in
-        let down = keyed b a (k ∷ b.size ∷ []) (k ∷ a.size ∷ []) q p ge in
-        let one = (up.1 refl).0 in
-        let two = (down.1 refl).0 in
-        omega (arith, one, two)
-
-    apart : (a b : Place) → place_key a ≡ 1 ∷ a.size ∷ [] → place_key b ≡ 2 ∷ b.size ∷ [] → NotAfter (place_key b) (place_key a) → ⊥
-    apart a b p q ge = let down = (keyed b a (2 ∷ b.size ∷ []) (1 ∷ a.size ∷ []) q p ge).0 in omega (arith, down)
-
-    at_size : (q : Place) → IsCandidate v which q → q.at ≢ 0 → q.at ≡ q.size
-    at_size q is other = elim is.is_place.first_or_second [ inl zero ↦ absurd (other zero) | inr there ↦ there ]

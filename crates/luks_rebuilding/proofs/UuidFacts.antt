@@ -6,26 +6,25 @@ use Rattle.luks_uuid.specs.NewUuid.{uuid_text}
 use Rattle.luks_uuid.proofs.UuidFacts.{uuid_text-is}
 use Rattle.luks_rebuilding.specs.Found.{FindsUuid, IsOwnField}
 use Rattle.luks_rebuilding.specs.Rebuilt.{other_at, uuid_bytes}
-use Rattle.luks_rebuilding.specs.declared.place.Place.{Place}
 
-module _ (v : List ℕ) (place : Place) (random field_ : List ℕ) where
-  pub kept_own : FindsUuid v place.at (Some field_) → IsOwnField v place None random field_
+module _ (v : List ℕ) (size at : ℕ) (random field_ : List ℕ) where
+  pub kept_own : FindsUuid v at (Some field_) → IsOwnField v size at None random field_
   kept_own found = record {
-    uuid = text_of (uuid_field (header_at v place.at));
+    uuid = text_of (uuid_field (header_at v at));
     own = inl (record { there = found.0; is = refl });
     is_uuid = found.0.uuid;
     fills = found.1;
   }
 
-  pub other_own : FindsUuid v place.at None → FindsUuid v (other_at place) (Some field_) → IsOwnField v place None random field_
+  pub other_own : FindsUuid v at None → FindsUuid v (other_at size at) (Some field_) → IsOwnField v size at None random field_
   other_own lacks found = record {
-    uuid = text_of (uuid_field (header_at v (other_at place)));
+    uuid = text_of (uuid_field (header_at v (other_at size at)));
     own = inr (lacks, inl (record { there = found.0; is = refl }));
     is_uuid = found.0.uuid;
     fills = found.1;
   }
 
-  pub new_own : FindsUuid v place.at None → FindsUuid v (other_at place) None → field_ ≡ uuid_text (uuid_bytes random) ++ replicate 4 0 → IsOwnField v place None random field_
+  pub new_own : FindsUuid v at None → FindsUuid v (other_at size at) None → field_ ≡ uuid_text (uuid_bytes random) ++ replicate 4 0 → IsOwnField v size at None random field_
   new_own lacks none is = record {
     uuid = uuid_text (uuid_bytes random);
     own = inr (lacks, inr (none, refl));

@@ -7,7 +7,7 @@ use Rattle.luks_head.proofs.CopyFacts.{listed_at_least}
 use Rattle.luks_meta.specs.Content.{content}
 use Rattle.luks_rebuilding.proofs.CopyFacts.{copy_stays}
 use Rattle.luks_rebuilding.proofs.RegionFacts.{behind, ends}
-use Rattle.luks_rebuilding.specs.Found.{HasRegionInside, HasSlots, HasSlotsInside, IsAllButFirst, IsOfSlots, IsOfWhole, IsWhole, WritesWholeInTurn}
+use Rattle.luks_rebuilding.specs.Found.{source_of, HasRegionInside, HasSlots, HasSlotsInside, IsAllButFirst, IsOfSlots, IsOfWhole, IsWhole, WritesWholeInTurn}
 use Rattle.luks_rebuilding.specs.KeyAreas.{IsSlotArea}
 use Rattle.luks_rebuilding.specs.Rebuilt.{second_copy_salt, HasRebuiltCopy}
 use Rattle.luks_rebuilding.specs.declared.candidate.Candidate.{Candidate}
@@ -84,9 +84,9 @@ module _ (c : Candidate) where
 
     module _ (s uuid random u v w x : List ℕ) (areas : HasSlots c s v)
         (second_same : SameBut (IsAt c.place.size c.place.size) v w) (first_same : SameBut (IsAt 0 c.place.size) w x)
-        (second : HasRebuiltCopy w uuid (second_copy_salt random) c.json.items c.place.size c.place.size) where
-      second_kept : HasRebuiltCopy x uuid (second_copy_salt random) c.json.items c.place.size c.place.size
-      second_kept = copy_stays w x uuid (second_copy_salt random) c.json.items c.place.size c.place.size first_same.length_same
+        (second : HasRebuiltCopy w uuid (second_copy_salt random) (source_of c) c.place.size) where
+      second_kept : HasRebuiltCopy x uuid (second_copy_salt random) (source_of c) c.place.size
+      second_kept = copy_stays w x uuid (second_copy_salt random) (source_of c) c.place.size first_same.length_same
           (part-same_but_at 0 c.place.size c.place.size 4096 first_same (inr (omega arith)))
           (part-same_but_at 0 c.place.size (c.place.size + 4096) (length c.json.items) first_same (inr (omega arith))) second
 

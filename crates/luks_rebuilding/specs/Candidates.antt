@@ -1,14 +1,16 @@
 -- Where metadata of a LUKS2 header is still whole in a volume, whatever stands before it (LUKS2
 -- On-Disk Format 1.1, 2.1 and 3).
-use Rattle.std.specs.Prelude.{◌≡◌, ◌≢◌, ◌⊎◌, ℕ, ◌+◌, ◌-◌, ◌≤◌, ◌==◌, List, [], ◌∷◌, codes, length, if◌then◌else◌, ⊤}
+use Rattle.std.specs.Prelude.{◌≡◌, ◌≢◌, ◌⊎◌, ℕ, ◌+◌, ◌-◌, ◌≤◌, ◌==◌, List, [], ◌∷◌, Bool, codes, length, min, replicate, if◌then◌else◌, true, false, ⊤}
 use Rattle.luks_area.specs.First.{IsLeast, NotAfter}
 use Rattle.luks_area.specs.Ranges.{part}
+use Rattle.luks_head.specs.Header2.{header_at, seqid}
 use Rattle.luks_head.specs.Sizes.{IsListed}
 use Rattle.luks_meta.specs.MetaFault.{IsMetaFault}
 use Rattle.luks_rules.specs.declared.fault.MetaFault.{MetaFault}
+use Rattle.luks_vouching.specs.Vouched.{IsVouched, Stands}
 use Rattle.luks_rebuilding.specs.declared.place.Place.{Place}
 use Rattle.luks_rebuilding.specs.declared.place.Which.{Which}
-use Rattle.luks_rebuilding.specs.declared.place.Which.TheVariants.{Any, Second}
+use Rattle.luks_rebuilding.specs.declared.place.Which.TheVariants.{Any, Second, OfSize, SecondOfSize}
 
 -- a copy of a listed size at the start of a volume of `total` bytes, or a second one behind it
 pub record IsPlace (total : ℕ) (place : Place) : Type 0 where
@@ -24,6 +26,8 @@ json_of v place = part v (place.at + 4096) (place.size - 4096)
 abbrev pub IsAsked : Which → Place → Type 0
 IsAsked Any place = ⊤
 IsAsked Second place = place.at ≢ 0
+IsAsked (OfSize size) place = place.size ≡ size
+IsAsked (SecondOfSize size) place = (place.size ≡ size) × (place.at ≢ 0)
 
 -- the JSON area of the copy has none of the faults of metadata
 pub record IsCandidate (v : List ℕ) (which : Which) (place : Place) : Type 0 where
@@ -35,9 +39,62 @@ pub record IsCandidate (v : List ℕ) (which : Which) (place : Place) : Type 0 w
 abbrev pub place_key : Place → List ℕ
 place_key place = (if place.at == 0 then 1 else 2) ∷ place.size ∷ []
 
--- the first of the candidates
-abbrev pub Taken : List ℕ → Which → Place → Type 0
-Taken v which place = IsLeast place_key (IsCandidate v which) place
+-- ---- what a header is made of
+
+-- metadata, the copy that it belongs to, and what the new header keeps of that copy's binary header
+pub record Source : Type 0 where
+  pub size : ℕ
+  pub at : ℕ
+  pub json : List ℕ
+  pub vouched : Bool
+  pub seqid : ℕ
+  pub label : List ℕ
+  pub subsystem : List ℕ
+
+abbrev pub place_of_source : Source → Place
+place_of_source s = record { size = s.size; at = s.at }
+
+-- the sequence number that follows this one; the greatest stays
+abbrev pub next_seqid : ℕ → ℕ
+next_seqid n = min (n + 1) 0xFFFF_FFFF_FFFF_FFFF
+
+-- the checksum of the copy's binary header vouches for the metadata: sequence number, label and subsystem
+-- are that header's
+pub record IsVouchedSource (v : List ℕ) (which : Which) (s : Source) : Type 0 where
+  pub asked : IsAsked which (place_of_source s)
+  pub vouched : IsVouched v s.size s.at s.json
+  pub seqid : s.seqid ≡ next_seqid (seqid (header_at v s.at))
+  pub label : s.label ≡ part (header_at v s.at) 24 48
+  pub subsystem : s.subsystem ≡ part (header_at v s.at) 208 48
+
+-- no checksum does: it is the copy's own JSON area; label and subsystem are empty
+pub record IsPlainSource (v : List ℕ) (which : Which) (s : Source) : Type 0 where
+  pub candidate : IsCandidate v which (place_of_source s)
+  pub json : s.json ≡ json_of v (place_of_source s)
+  pub seqid : s.seqid ≡ 1
+  pub label : s.label ≡ replicate 48 0
+  pub subsystem : s.subsystem ≡ replicate 48 0
+
+-- a source that a checksum vouches for, and a plain one
+abbrev pub IsVouchedOf : List ℕ → Which → Source → Type 0
+IsVouchedOf v which s = (s.vouched ≡ true) × IsVouchedSource v which s
+
+abbrev pub IsPlainOf : List ℕ → Which → Source → Type 0
+IsPlainOf v which s = (s.vouched ≡ false) × IsPlainSource v which s
+
+-- what a header may be made of
+abbrev pub IsSource : List ℕ → Which → Source → Type 0
+IsSource v which s = IsVouchedOf v which s ⊎ IsPlainOf v which s
+
+-- their order: those that a checksum vouches for, the newest first, then the others
+abbrev pub source_key : Source → List ℕ
+source_key s = if s.vouched
+    then (1 ∷ (0xFFFF_FFFF_FFFF_FFFF - s.seqid) ∷ place_key (place_of_source s))
+    else (2 ∷ place_key (place_of_source s))
+
+-- the first of them
+abbrev pub Taken : List ℕ → Which → Source → Type 0
+Taken v which s = IsLeast source_key (IsSource v which) s
 
 -- a copy whose JSON area begins as an object does (section 3.1), so that only its whole text tells
 -- whether it has a fault
@@ -51,8 +108,13 @@ pub record HasToBeRead (v : List ℕ) (which : Which) (place : Place) : Type 0 w
   pub asked : IsAsked which place
   pub none_before : (other : Place) → IsCandidate v which other → NotAfter (place_key place) (place_key other)
 
--- there is a first candidate, and of it the statement holds
-pub record OfTaken (v : List ℕ) (which : Which) (says : Place → Type 0) : Type 0 where
-  pub place : Place
-  pub taken : Taken v which place
-  pub holds : says place
+-- the binary header of a copy that is asked for stands: what it vouches for is sought, in memory
+pub record HasToBeTried (v : List ℕ) (which : Which) (place : Place) : Type 0 where
+  pub asked : IsAsked which place
+  pub stands : Stands v place.size place.at
+
+-- there is a first one, and of it the statement holds
+pub record OfTaken (v : List ℕ) (which : Which) (says : Source → Type 0) : Type 0 where
+  pub source : Source
+  pub taken : Taken v which source
+  pub holds : says source

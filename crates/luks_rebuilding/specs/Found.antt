@@ -1,7 +1,8 @@
 -- What has been found and judged on the way to a header: words of private contracts.
-use Rattle.std.specs.Prelude.{◌≡◌, ◌≢◌, ℕ, ◌+◌, ◌-◌, ◌*◌, ◌≤◌, ◌++◌, List, length, replicate, Option, Some, None, ⊤}
+use Rattle.std.specs.Prelude.{◌≡◌, ◌≢◌, ◌⊎◌, ℕ, ◌+◌, ◌-◌, ◌*◌, ◌≤◌, ◌++◌, List, length, replicate, Option, Some, None, is_some, true, ⊤}
 use Rattle.serde_json.specs.Data.{Data as Value}
 use Rattle.luks_area.specs.Area.{AreDisjoint, Fit}
+use Rattle.luks_area.specs.First.{IsLeast, NotAfter}
 use Rattle.luks_area.specs.Ranges.{part, IsAt, IsOfEither}
 use Rattle.luks_area.specs.Text.{text_of}
 use Rattle.luks_area.specs.declared.area.Area.{Area}
@@ -9,6 +10,7 @@ use Rattle.luks1_header.specs.Bytes.{IsUuid}
 use Rattle.luks_clearing.specs.Order.{ClearsFirst, WritesInTurn}
 use Rattle.luks_head.specs.Header2.{header_at, uuid_field, IsUuidField}
 use Rattle.luks_head.specs.Selection.{nothing, Chosen}
+use Rattle.luks_head.specs.declared.bin2.Bin2.{Bin2}
 use Rattle.luks_head.specs.Sizes.{IsListed}
 use Rattle.luks_meta.specs.Accepted.{IsMeta}
 use Rattle.luks_meta.specs.Content.{content}
@@ -16,8 +18,9 @@ use Rattle.luks_meta.specs.MetaFault.{IsMetaFault}
 use Rattle.luks_meta.specs.Sizes.{keyslots_size}
 use Rattle.luks_reading.specs.Layout2.{Luks2Area}
 use Rattle.luks_reading.specs.declared.report.Data.TheVariants.{Elsewhere}
-use Rattle.luks_rebuilding.specs.Candidates.{json_of, HasToBeRead, IsBegun, IsCandidate, IsPlace, Taken}
+use Rattle.luks_rebuilding.specs.Candidates.{json_of, next_seqid, place_key, place_of_source, source_key, HasToBeRead, HasToBeTried, IsBegun, IsCandidate, IsPlace, IsVouchedOf, Source, Taken}
 use Rattle.luks_rebuilding.specs.KeyAreas.{IsSlotArea}
+use Rattle.luks_rebuilding.specs.Outcome.{AnswersCounts, PassesCounts}
 use Rattle.luks_rebuilding.specs.Rebuilt.{first_copy_salt, random_size, second_copy_salt, HasRebuiltCopy, IsUuidOf, LacksUuid}
 use Rattle.luks_rebuilding.specs.declared.candidate.Candidate.{Candidate}
 use Rattle.luks_rebuilding.specs.declared.place.Half.{Half}
@@ -34,11 +37,86 @@ pub record IsWhole (total : ℕ) (c : Candidate) : Type 0 where
   pub long : length c.json.items ≡ c.place.size - 4096
   pub meta : IsMeta c.json.items (content c.meta)
 
--- the candidate is the first of the volume `v`, of which nothing counts
+-- what the new header keeps of a binary header that vouches for its metadata
+abbrev pub kept_seqid : Option Bin2 → ℕ
+kept_seqid None = 1
+kept_seqid (Some h) = next_seqid h.seqid
+
+abbrev pub kept_label : Option Bin2 → List ℕ
+kept_label None = replicate 48 0
+kept_label (Some h) = h.label
+
+abbrev pub kept_subsystem : Option Bin2 → List ℕ
+kept_subsystem None = replicate 48 0
+kept_subsystem (Some h) = h.subsystem
+
+-- the candidate, as what a header is made of
+abbrev pub source_of : Candidate → Source
+source_of c = record {
+  size = c.place.size;
+  at = c.place.at;
+  json = c.json.items;
+  vouched = is_some c.vouch;
+  seqid = kept_seqid c.vouch;
+  label = kept_label c.vouch;
+  subsystem = kept_subsystem c.vouch;
+}
+
+-- the candidate is the first of the volume `v`, of which nothing counts, or may
 pub record IsFoundIn (v : List ℕ) (which : Which) (c : Candidate) : Type 0 where
-  pub nothing_counts : Chosen v nothing
-  pub taken : Taken v which c.place
-  pub read : c.json.items ≡ json_of v c.place
+  pub passes : PassesCounts v which
+  pub taken : Taken v which (source_of c)
+
+-- ---- the search for what a checksum vouches for
+
+-- the first of those that are vouched for
+abbrev pub FindsVouchedFirst : List ℕ → Which → Option Candidate → Type 0
+FindsVouchedFirst v which None = (s : Source) → IsVouchedOf v which s → ⊥
+FindsVouchedFirst v which (Some c) = IsLeast source_key (IsVouchedOf v which) (source_of c)
+
+-- what the copy at the place vouches for
+abbrev pub FindsVouchedAt : List ℕ → Which → Place → Option Candidate → Type 0
+FindsVouchedAt v which place None = (s : Source) → IsVouchedOf v which s → place_of_source s ≡ place → ⊥
+FindsVouchedAt v which place (Some c) = (c.place ≡ place) × IsVouchedOf v which (source_of c)
+
+-- a checksum vouches for the candidate
+abbrev pub IsVouch : Candidate → Type 0
+IsVouch c = is_some c.vouch ≡ true
+
+-- the source is of a copy of this half
+abbrev pub IsOfHalf : Half → Source → Type 0
+IsOfHalf First s = s.at ≡ 0
+IsOfHalf Second s = s.at ≡ s.size
+
+-- of a copy of the half that is searched before
+abbrev pub EarlierHalf : Half → Source → Type 0
+EarlierHalf First s = ⊥
+EarlierHalf Second s = s.at ≡ 0
+
+-- of a copy that has been searched, when this half has
+abbrev pub IsDone : Half → Source → Type 0
+IsDone half s = EarlierHalf half s ⊎ IsOfHalf half s
+
+-- the first of the sources that are vouched for, among these
+abbrev pub IsBestOf : List ℕ → Which → (Source → Type 0) → Option Candidate → Type 0
+IsBestOf v which among None = (s : Source) → IsVouchedOf v which s → among s → ⊥
+IsBestOf v which among (Some c) =
+    IsVouchedOf v which (source_of c)
+    × ((s : Source) → IsVouchedOf v which s → among s → NotAfter (source_key (source_of c)) (source_key s))
+
+-- the one of two candidates that stands first
+abbrev pub IsBetter : Option Candidate → Option Candidate → Option Candidate → Type 0
+IsBetter None found result = result ≡ found
+IsBetter (Some a) None result = result ≡ Some a
+IsBetter (Some a) (Some b) None = ⊥
+IsBetter (Some a) (Some b) (Some c) =
+    ((c ≡ a) ⊎ (c ≡ b))
+    × NotAfter (source_key (source_of c)) (source_key (source_of a))
+    × NotAfter (source_key (source_of c)) (source_key (source_of b))
+
+-- the first of the copies whose own metadata is whole
+abbrev pub TakenPlace : List ℕ → Which → Place → Type 0
+TakenPlace v which place = IsLeast place_key (IsCandidate v which) place
 
 -- ---- the search, first copies or second copies, size by size
 
@@ -72,7 +150,7 @@ FindsHalf v half (Some c) = IsLeastOf v half c
 -- what is found of all that is asked for
 abbrev pub FindsFirst : List ℕ → Which → Option Candidate → Type 0
 FindsFirst v which None = (place : Place) → IsCandidate v which place → ⊥
-FindsFirst v which (Some c) = Taken v which c.place × (c.json.items ≡ json_of v c.place)
+FindsFirst v which (Some c) = TakenPlace v which c.place × (c.json.items ≡ json_of v c.place)
 
 -- memory was refused, where this holds, or the device failed
 abbrev pub IsMemoryWhere : Type 0 → RebuildFault → Type 0
@@ -109,6 +187,31 @@ abbrev pub IsCounted : List ℕ → RebuildFault → Type 0
 IsCounted v fault.Counts = Chosen v nothing → ⊥
 IsCounted v fault.Device = ⊤
 IsCounted v f = ⊥
+
+-- the same, unless it may
+abbrev pub IsCountedFor : List ℕ → Which → RebuildFault → Type 0
+IsCountedFor v which fault.Counts = AnswersCounts v which
+IsCountedFor v which fault.Device = ⊤
+IsCountedFor v which f = ⊥
+
+-- no candidate is whole, unless the search was broken off
+abbrev pub IsNotPlain : List ℕ → Which → RebuildFault → Type 0
+IsNotPlain v which fault.Counts = ⊥
+IsNotPlain v which fault.NoMetadata = (place : Place) → IsCandidate v which place → ⊥
+IsNotPlain v which (fault.Area f) = ⊥
+IsNotPlain v which fault.TooSmall = ⊥
+IsNotPlain v which fault.Uuid = ⊥
+IsNotPlain v which fault.RandomLength = ⊥
+IsNotPlain v which fault.Memory = (place : Place) × HasToBeRead v which place
+IsNotPlain v which fault.Device = ⊤
+
+-- the search for what is vouched for was broken off at one copy
+abbrev pub BreaksVouchedAt : List ℕ → Which → Place → RebuildFault → Type 0
+BreaksVouchedAt v which place = IsMemoryWhere (HasToBeTried v which place)
+
+-- the search for what is vouched for was broken off
+abbrev pub BreaksVouched : List ℕ → Which → RebuildFault → Type 0
+BreaksVouched v which = IsMemoryWhere ((place : Place) × HasToBeTried v which place)
 
 -- ---- what is judged
 
@@ -150,9 +253,9 @@ FindsUuid v o (Some field_) =
     IsUuidField (uuid_field (header_at v o)) × (field_ ≡ text_of (uuid_field (header_at v o)) ++ replicate 4 0)
 
 -- the field holds the uuid of the new header
-pub record IsOwnField (v : List ℕ) (place : Place) (given : Option (List ℕ)) (random field_ : List ℕ) : Type 0 where
+pub record IsOwnField (v : List ℕ) (size at : ℕ) (given : Option (List ℕ)) (random field_ : List ℕ) : Type 0 where
   pub uuid : List ℕ
-  pub own : IsUuidOf v place given random uuid
+  pub own : IsUuidOf v size at given random uuid
   pub is_uuid : IsUuid uuid
   pub fills : field_ ≡ uuid ++ replicate 4 0
 
@@ -164,11 +267,11 @@ HasSlots c s new =
     (n : ℕ) (a : Area) → IsSlotArea (content c.meta) n a → part new a.start a.len ≡ part s a.start a.len
 
 pub record IsAllButFirst (c : Candidate) (s uuid random new : List ℕ) : Type 0 where
-  pub second : HasRebuiltCopy new uuid (second_copy_salt random) c.json.items c.place.size c.place.size
+  pub second : HasRebuiltCopy new uuid (second_copy_salt random) (source_of c) c.place.size
   pub areas : HasSlots c s new
 
 pub record IsWholeWritten (c : Candidate) (s uuid random new : List ℕ) : Type 0 where
-  pub first : HasRebuiltCopy new uuid (first_copy_salt random) c.json.items c.place.size 0
+  pub first : HasRebuiltCopy new uuid (first_copy_salt random) (source_of c) 0
   pub others : IsAllButFirst c s uuid random new
 
 -- what may be left at any time of the steps over cleared places

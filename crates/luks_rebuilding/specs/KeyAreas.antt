@@ -9,42 +9,41 @@ use Rattle.luks_meta.specs.MetaFault.{Json}
 use Rattle.luks_meta.specs.Sizes.{keyslots_size}
 use Rattle.luks_reading.specs.Layout2.{Luks2Area, slot_number}
 use Rattle.luks_reading.specs.declared.report.Data.TheVariants.{Elsewhere}
-use Rattle.luks_rebuilding.specs.Candidates.{json_of}
-use Rattle.luks_rebuilding.specs.declared.place.Place.{Place}
+use Rattle.luks_rebuilding.specs.Candidates.{Source}
 
 -- the key area of the keyslot `n` of the metadata `j`
 abbrev pub IsSlotArea : Value → ℕ → Area → Type 0
 IsSlotArea j n a =
     (n < 32) × (slot_number j n (codes "offset") ≡ Some a.start) × (slot_number j n (codes "size") ≡ Some a.len)
 
--- the area named `n` by the metadata of the copy at the place
-pub record HasHeaderArea (v : List ℕ) (place : Place) (n : AreaName) (a : Area) : Type 0 where
+-- the area named `n` by the metadata of what is taken
+pub record HasHeaderArea (v : List ℕ) (source : Source) (n : AreaName) (a : Area) : Type 0 where
   pub value : Value
-  pub holds : Json (json_of v place) value
-  pub area : Luks2Area value place.size Elsewhere (length v) n a
+  pub holds : Json (source.json) value
+  pub area : Luks2Area value source.size Elsewhere (length v) n a
 
 -- the key area of its keyslot `n`
-pub record HasKeyArea (v : List ℕ) (place : Place) (n : ℕ) (a : Area) : Type 0 where
+pub record HasKeyArea (source : Source) (n : ℕ) (a : Area) : Type 0 where
   pub value : Value
-  pub holds : Json (json_of v place) value
+  pub holds : Json (source.json) value
   pub area : IsSlotArea value n a
 
 -- the byte place is of one of its key areas
-pub record IsOfKeyArea (v : List ℕ) (place : Place) (p : ℕ) : Type 0 where
+pub record IsOfKeyArea (source : Source) (p : ℕ) : Type 0 where
   pub number : ℕ
   pub area : Area
-  pub has : HasKeyArea v place number area
+  pub has : HasKeyArea source number area
   pub at : IsAt area.start area.len p
 
 -- each of its key areas has in `new` the bytes that it has in `v`
-abbrev pub HasKeyAreas : List ℕ → Place → List ℕ → Type 0
-HasKeyAreas v place new =
-    (n : ℕ) (a : Area) → HasKeyArea v place n a → part new a.start a.len ≡ part v a.start a.len
+abbrev pub HasKeyAreas : List ℕ → Source → List ℕ → Type 0
+HasKeyAreas v source new =
+    (n : ℕ) (a : Area) → HasKeyArea source n a → part new a.start a.len ≡ part v a.start a.len
 
 -- a device of `total` bytes ends before the region of its key areas, which follows both copies
-pub record EndsBeforeRegion (v : List ℕ) (total : ℕ) (place : Place) : Type 0 where
+pub record EndsBeforeRegion (total : ℕ) (source : Source) : Type 0 where
   pub value : Value
-  pub holds : Json (json_of v place) value
+  pub holds : Json (source.json) value
   pub bytes : ℕ
   pub says : keyslots_size value ≡ Some bytes
-  pub short : total < 2 * place.size + bytes
+  pub short : total < 2 * source.size + bytes

@@ -8,9 +8,8 @@ use Rattle.luks_head.specs.Header2.{header_at, magic_of, sha256_size, uuid_field
 use Rattle.luks_head.specs.Written.{IsWrittenCopy}
 use Rattle.luks_head.specs.declared.bin2.Bin2.{Bin2}
 use Rattle.luks_uuid.specs.NewUuid.{uuid_text}
-use Rattle.luks_rebuilding.specs.Candidates.{json_of, OfTaken}
+use Rattle.luks_rebuilding.specs.Candidates.{OfTaken, Source}
 use Rattle.luks_rebuilding.specs.KeyAreas.{HasKeyAreas, IsOfKeyArea}
-use Rattle.luks_rebuilding.specs.declared.place.Place.{Place}
 use Rattle.luks_rebuilding.specs.declared.place.Which.{Which}
 
 -- the random bytes: the salts of the first and the second copy, and those of a new uuid
@@ -28,9 +27,9 @@ uuid_bytes random = part random 128 16
 
 -- ---- the uuid
 
--- where the other copy of the same header stands
-abbrev pub other_at : Place → ℕ
-other_at place = if place.at == 0 then place.size else 0
+-- where the other copy stands of a header of `size` bytes of which one is at `at`
+abbrev pub other_at : ℕ → ℕ → ℕ
+other_at size at = if at == 0 then size else 0
 
 -- the field of the binary header at `o` holds this uuid
 pub record KeepsUuid (v : List ℕ) (o : ℕ) (uuid : List ℕ) : Type 0 where
@@ -41,75 +40,75 @@ pub record KeepsUuid (v : List ℕ) (o : ℕ) (uuid : List ℕ) : Type 0 where
 abbrev pub LacksUuid : List ℕ → ℕ → Type 0
 LacksUuid v o = IsUuidField (uuid_field (header_at v o)) → ⊥
 
--- the uuid that is given; else that of the binary header of the copy, else that of the other copy's,
--- else a new one
-abbrev pub IsUuidOf : List ℕ → Place → Option (List ℕ) → List ℕ → List ℕ → Type 0
-IsUuidOf v place (Some text) random uuid = uuid ≡ text
-IsUuidOf v place None random uuid =
-    KeepsUuid v place.at uuid
-    ⊎ (LacksUuid v place.at × (KeepsUuid v (other_at place) uuid
-    ⊎ (LacksUuid v (other_at place) × (uuid ≡ uuid_text (uuid_bytes random)))))
+-- the uuid that is given; else that of the binary header of the copy at `at`, else that of the other
+-- copy's, else a new one
+abbrev pub IsUuidOf : List ℕ → ℕ → ℕ → Option (List ℕ) → List ℕ → List ℕ → Type 0
+IsUuidOf v size at (Some text) random uuid = uuid ≡ text
+IsUuidOf v size at None random uuid =
+    KeepsUuid v at uuid
+    ⊎ (LacksUuid v at × (KeepsUuid v (other_at size at) uuid
+    ⊎ (LacksUuid v (other_at size at) × (uuid ≡ uuid_text (uuid_bytes random)))))
 
 -- ---- the copies of the header
 
--- the binary header of the copy at the place `o` of a header of `size` bytes: with this uuid, without
--- label and subsystem, the first of its sequence; what its checksum is made of is a matter of the
+-- the binary header of the copy at the place `o` of the header that is made of a source: with this uuid,
+-- and the source's sequence number, label and subsystem; what its checksum is made of is a matter of the
 -- whole copy
-pub record IsRebuiltHeader (uuid salt : List ℕ) (size o : ℕ) (header : Bin2) : Type 0 where
+pub record IsRebuiltHeader (uuid salt : List ℕ) (source : Source) (o : ℕ) (header : Bin2) : Type 0 where
   pub magic : header.magic ≡ magic_of o
   pub version : header.version ≡ 2
-  pub hdr_size : header.hdr_size ≡ size
-  pub seqid : header.seqid ≡ 1
-  pub label : header.label ≡ replicate 48 0
+  pub hdr_size : header.hdr_size ≡ source.size
+  pub seqid : header.seqid ≡ source.seqid
+  pub label : header.label ≡ source.label
   pub csum_alg : header.csum_alg ≡ codes "sha256" ++ replicate 26 0
   pub own_salt : header.salt ≡ salt
   pub own_uuid : header.uuid ≡ uuid ++ replicate 4 0
-  pub subsystem : header.subsystem ≡ replicate 48 0
+  pub subsystem : header.subsystem ≡ source.subsystem
   pub hdr_offset : header.hdr_offset ≡ o
   pub csum_rest : drop sha256_size header.csum ≡ replicate sha256_size 0
 
--- the volume `w` has at the place `o` such a copy, with this JSON area
-pub record HasRebuiltCopy (w uuid salt json : List ℕ) (size o : ℕ) : Type 0 where
+-- the volume `w` has at the place `o` such a copy, with the source's metadata
+pub record HasRebuiltCopy (w uuid salt : List ℕ) (source : Source) (o : ℕ) : Type 0 where
   pub header : Bin2
-  pub fields : IsRebuiltHeader uuid salt size o header
-  pub written : IsWrittenCopy w o header json
+  pub fields : IsRebuiltHeader uuid salt source o header
+  pub written : IsWrittenCopy w o header source.json
 
 -- ---- the whole
 
 -- the byte place is of one of the copies, or of a key area
-abbrev pub IsOfHeader : List ℕ → Place → ℕ → Type 0
-IsOfHeader v place = IsOfEither (IsAt 0 (2 * place.size)) (IsOfKeyArea v place)
+abbrev pub IsOfHeader : Source → ℕ → Type 0
+IsOfHeader source = IsOfEither (IsAt 0 (2 * source.size)) (IsOfKeyArea source)
 
 -- it is so for the candidate that is taken
 abbrev pub IsOfRebuilt : List ℕ → Which → ℕ → Type 0
-IsOfRebuilt v which p = OfTaken v which (λ place. IsOfHeader v place p)
+IsOfRebuilt v which p = OfTaken v which (λ source. IsOfHeader source p)
 
--- `new` begins with both copies of the header that is made of the metadata at the place of the volume
+-- `new` begins with both copies of the header that is made of the metadata that is taken of the volume
 -- `v`, each key area has the bytes that it has in `v`, and all other bytes are those of `old`
-pub record IsMade (v : List ℕ) (given : Option (List ℕ)) (random old new : List ℕ) (place : Place) : Type 0 where
+pub record IsMade (v : List ℕ) (given : Option (List ℕ)) (random old new : List ℕ) (source : Source) : Type 0 where
   pub uuid : List ℕ
-  pub own_uuid : IsUuidOf v place given random uuid
-  pub first : HasRebuiltCopy new uuid (first_copy_salt random) (json_of v place) place.size 0
-  pub second : HasRebuiltCopy new uuid (second_copy_salt random) (json_of v place) place.size place.size
-  pub areas : HasKeyAreas v place new
-  pub rest : SameBut (IsOfHeader v place) old new
+  pub own_uuid : IsUuidOf v source.size source.at given random uuid
+  pub first : HasRebuiltCopy new uuid (first_copy_salt random) source 0
+  pub second : HasRebuiltCopy new uuid (second_copy_salt random) source source.size
+  pub areas : HasKeyAreas v source new
+  pub rest : SameBut (IsOfHeader source) old new
 
 -- it is made of the first candidate
 abbrev pub IsRebuilt : List ℕ → Which → Option (List ℕ) → List ℕ → List ℕ → List ℕ → Type 0
 IsRebuilt v which given random old new = OfTaken v which (IsMade v given random old new)
 
 -- the second copy stands, and each key area
-pub record HasAllButFirst (v : List ℕ) (given : Option (List ℕ)) (random new : List ℕ) (place : Place) : Type 0 where
+pub record HasAllButFirst (v : List ℕ) (given : Option (List ℕ)) (random new : List ℕ) (source : Source) : Type 0 where
   pub uuid : List ℕ
-  pub own_uuid : IsUuidOf v place given random uuid
-  pub second : HasRebuiltCopy new uuid (second_copy_salt random) (json_of v place) place.size place.size
-  pub areas : HasKeyAreas v place new
+  pub own_uuid : IsUuidOf v source.size source.at given random uuid
+  pub second : HasRebuiltCopy new uuid (second_copy_salt random) source source.size
+  pub areas : HasKeyAreas v source new
 
 -- the first sectors of both copies' places are cleared before all else: the second copy's stays so until
 -- the key areas stand, the first copy's until all else is written
-abbrev pub FirstIsLast : List ℕ → Option (List ℕ) → List ℕ → List ℕ → List ℕ → Place → Type 0
-FirstIsLast v given random old new place =
-    ClearsFirst place.size (HasKeyAreas v place new) (HasAllButFirst v given random new place) old new
+abbrev pub FirstIsLast : List ℕ → Option (List ℕ) → List ℕ → List ℕ → List ℕ → Source → Type 0
+FirstIsLast v given random old new source =
+    ClearsFirst source.size (HasKeyAreas v source new) (HasAllButFirst v given random new source) old new
 
 -- what may be left at any time: nothing has changed, or it is so for the candidate that is taken
 abbrev pub WritesFirstLast : List ℕ → Which → Option (List ℕ) → List ℕ → List ℕ → List ℕ → Type 0

@@ -1,36 +1,40 @@
 //! The metadata of which a header is made.
-ghost use Rattle.std.specs.Prelude.{◌≡◌, ◌≢◌, ◌+◌, ◌^◌, ◌<◌, IfOk, IfErr, OnOk, IfSome};
+ghost use Rattle.std.specs.Prelude.{◌≡◌, ◌≢◌, ◌↔◌, ◌+◌, ◌^◌, ◌<◌, IfOk, IfErr, IsTrue, None, OnOk, IfSome, Some};
 ghost use Rattle.luks_area.specs.Device.{CountsFailure, IsUnchanged};
 ghost use Rattle.luks_head.specs.Selection.{nothing, Chosen};
-ghost use Rattle.luks_rebuilding.specs.Found.{BreaksFirst, FindsFirst, IsCounted, IsFoundIn, IsFromOutside, IsWhole};
-ghost use Rattle.luks_rebuilding.specs.Outcome.{IsNotFound};
+ghost use Rattle.luks_rebuilding.specs.Found.{BreaksFirst, FindsFirst, IsCounted, IsCountedFor, IsFoundIn, IsFromOutside, IsNotPlain, IsWhole};
+ghost use Rattle.luks_rebuilding.specs.Outcome.{IsNotFound, MayCount, PassesCounts};
 ghost use Rattle.luks_rebuilding.specs.RebuildFaults.{is_rebuild_failure};
 
 use crate::place::{Half, Place, Which};
 use crate::rebuild_fault::RebuildFault;
-use crate::search::least_of;
+use crate::search::{found_of, least_of};
+use crate::vouching::first_vouched;
 use luks_area::Device;
-use luks_head::{HeadFault, select};
+use luks_head::{Bin2, HeadFault, select};
 use luks_meta::Meta;
 use std::alloc::Global;
 
 /// Metadata that is whole.
 #[derive(Drop)]
 pub struct Candidate {
-    /// The place of the copy that it was read from.
+    /// The place of the copy that it was read from, or whose checksum vouches for it.
     pub place: Place,
-    /// The bytes of that copy's JSON area.
+    /// The bytes of the JSON area: of that copy, or composed of both copies' sectors.
     pub json: Vec<u8>,
     /// The metadata.
     pub meta: Meta,
+    /// The binary header of that copy, where its checksum vouches for the metadata.
+    pub vouch: Option<Bin2>,
 }
 
-/// The metadata of which `rebuild` makes a header, of a volume of which no header counts: the first
-/// that is whole, of the copies that are asked for.
+/// The metadata of which `rebuild` makes a header, of a volume of which no header counts: that for which
+/// the checksum of a copy vouches, the newest first; else the first that is whole, of the copies that
+/// are asked for. Where the second copy or a size is asked for, a header may count.
 ///
 /// Refused by `Counts` or `NoMetadata`; `Device` comes exactly where a device call failed. Takes
-/// memory for the JSON area and the metadata of one copy at a time, where that area begins with a
-/// brace; of others only the first byte is read.
+/// memory for the JSON areas and the metadata of one copy at a time, and for what was found, where a
+/// copy's binary header stands or its JSON area begins with a brace; of others only these are read.
 pub fn find_candidate<D: Device>(
     alloc: Global,
     source: &mut D,
@@ -44,10 +48,36 @@ pub fn find_candidate<D: Device>(
     ensures found { D.tells → IfOk result (IsFoundIn (D.bytes source.old) which) }
     ensures refused { D.tells → IfErr result (IsNotFound (D.bytes source.old) which) }
 {
-    nothing_counts(alloc, source)?;
-    match first_found(alloc, source, which)? {
-        Some(found) => Ok(found),
-        None => Err(RebuildFault::NoMetadata),
+    pass_counting(alloc, source, which)?;
+    match first_vouched(alloc, source, which)? {
+        Some(vouched) => Ok(vouched),
+        None => first_plain(alloc, source, which),
+    }
+}
+
+/// Refuses a volume of which a header counts, unless it may.
+fn pass_counting<D: Device>(alloc: Global, source: &mut D, which: Which) -> Result<(), RebuildFault>
+    requires { D.failed source.old + 1 < 2 ^ 64 }
+    ensures unchanged { IsUnchanged D.tells D.size D.bytes D.unsettled source.old source.new }
+    ensures count { CountsFailure is_rebuild_failure result
+        (D.failed source.old) (D.failed source.new) }
+    ensures passes { D.tells → OnOk result (PassesCounts (D.bytes source.old) which) }
+    ensures refused { D.tells → IfErr result (IsCountedFor (D.bytes source.old) which) }
+{
+    if may_count(which) {
+        Ok(())
+    } else {
+        nothing_counts(alloc, source)
+    }
+}
+
+/// Whether a header of the source may count.
+fn may_count(which: Which) -> bool
+    ensures { IsTrue result ↔ MayCount which }
+{
+    match which {
+        Which::Any => false,
+        Which::Second | Which::OfSize(_) | Which::SecondOfSize(_) => true,
     }
 }
 
@@ -67,6 +97,27 @@ fn nothing_counts<D: Device>(alloc: Global, source: &mut D) -> Result<(), Rebuil
     }
 }
 
+/// The first of the candidates that are asked for, where no checksum vouches for any.
+fn first_plain<D: Device>(
+    alloc: Global,
+    source: &mut D,
+    which: Which,
+) -> Result<Candidate, RebuildFault>
+    requires { D.failed source.old + 1 < 2 ^ 64 }
+    ensures unchanged { IsUnchanged D.tells D.size D.bytes D.unsettled source.old source.new }
+    ensures count { CountsFailure is_rebuild_failure result
+        (D.failed source.old) (D.failed source.new) }
+    ensures whole { IfOk result (IsWhole (D.size source.old)) }
+    ensures plain { IfOk result (λ c. c.vouch ≡ None) }
+    ensures found { D.tells → IfOk result (λ c. FindsFirst (D.bytes source.old) which (Some c)) }
+    ensures refused { D.tells → IfErr result (IsNotPlain (D.bytes source.old) which) }
+{
+    match first_found(alloc, source, which)? {
+        Some(found) => Ok(found),
+        None => Err(RebuildFault::NoMetadata),
+    }
+}
+
 /// The first of the candidates that are asked for.
 fn first_found<D: Device>(
     alloc: Global,
@@ -79,12 +130,15 @@ fn first_found<D: Device>(
         (D.failed source.old) (D.failed source.new) }
     ensures kinds { IfErr result IsFromOutside }
     ensures whole { IfOk result (λ found. IfSome found (IsWhole (D.size source.old))) }
+    ensures plain { IfOk result (λ found. IfSome found (λ c. c.vouch ≡ None)) }
     ensures found { D.tells → IfOk result (FindsFirst (D.bytes source.old) which) }
     ensures broken { D.tells → IfErr result (BreaksFirst (D.bytes source.old) which) }
 {
     match which {
         Which::Any => any_found(alloc, source),
         Which::Second => least_of(alloc, source, Half::Second),
+        Which::OfSize(size) => sized_found(alloc, source, size),
+        Which::SecondOfSize(size) => found_of(alloc, source, Half::Second, size),
     }
 }
 
@@ -96,11 +150,35 @@ fn any_found<D: Device>(alloc: Global, source: &mut D) -> Result<Option<Candidat
         (D.failed source.old) (D.failed source.new) }
     ensures kinds { IfErr result IsFromOutside }
     ensures whole { IfOk result (λ found. IfSome found (IsWhole (D.size source.old))) }
+    ensures plain { IfOk result (λ found. IfSome found (λ c. c.vouch ≡ None)) }
     ensures found { D.tells → IfOk result (FindsFirst (D.bytes source.old) Which.Any) }
     ensures broken { D.tells → IfErr result (BreaksFirst (D.bytes source.old) Which.Any) }
 {
     match least_of(alloc, source, Half::First)? {
         Some(first) => Ok(Some(first)),
         None => least_of(alloc, source, Half::Second),
+    }
+}
+
+/// The first candidate of a copy of this size.
+fn sized_found<D: Device>(
+    alloc: Global,
+    source: &mut D,
+    size: u64,
+) -> Result<Option<Candidate>, RebuildFault>
+    requires { D.failed source.old + 1 < 2 ^ 64 }
+    ensures unchanged { IsUnchanged D.tells D.size D.bytes D.unsettled source.old source.new }
+    ensures count { CountsFailure is_rebuild_failure result
+        (D.failed source.old) (D.failed source.new) }
+    ensures kinds { IfErr result IsFromOutside }
+    ensures whole { IfOk result (λ found. IfSome found (IsWhole (D.size source.old))) }
+    ensures plain { IfOk result (λ found. IfSome found (λ c. c.vouch ≡ None)) }
+    ensures found { D.tells → IfOk result (FindsFirst (D.bytes source.old) (Which.OfSize size)) }
+    ensures broken { D.tells → IfErr result
+        (BreaksFirst (D.bytes source.old) (Which.OfSize size)) }
+{
+    match found_of(alloc, source, Half::First, size)? {
+        Some(first) => Ok(Some(first)),
+        None => found_of(alloc, source, Half::Second, size),
     }
 }

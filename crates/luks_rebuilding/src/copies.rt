@@ -3,8 +3,11 @@ ghost use Rattle.std.specs.Prelude.{◌≡◌, ◌+◌, ◌*◌, ◌++◌, ◌^�
 ghost use Rattle.luks_area.specs.Device.{CountsFailure, IsSettled, is_failure};
 ghost use Rattle.luks_area.specs.Ranges.{part, IsAt, SameBut};
 ghost use Rattle.luks_head.specs.Sizes.{IsListed};
+ghost use Rattle.luks_rebuilding.specs.Found.{kept_label, kept_subsystem, source_of};
 ghost use Rattle.luks_rebuilding.specs.Rebuilt.{HasRebuiltCopy, IsRebuiltHeader};
 
+use crate::candidate::Candidate;
+use crate::vouching::next_seqid;
 use luks_area::{Device, DeviceFault};
 use luks_head::Bin2;
 use luks2_copy::write_copy;
@@ -25,20 +28,19 @@ pub(crate) fn taken_salt(random: &[u8], at: usize) -> [u8; 64]
     salt
 }
 
-/// Writes the copy of a header of `size` bytes that stands at the place `at`, with this uuid field
+/// Writes the copy of the header that is made of the candidate, at the place `at`, with this uuid field
 /// and this salt, and flushes. Also where the device fails no byte outside the copy changes.
 pub(crate) fn write_rebuilt_copy<D: Device>(
     device: &mut D,
-    size: u64,
+    found: &Candidate,
     at: u64,
     uuid: [u8; 40],
     salt: [u8; 64],
-    json: &[u8],
 ) -> Result<(), DeviceFault>
-    requires listed { IsListed size }
-    requires place { (at ≡ 0) ⊎ (at ≡ size) }
-    requires json { 4096 + length json.now ≡ size }
-    requires within { 2 * size ≤ D.size device.old }
+    requires listed { IsListed found.now.place.size }
+    requires place { (at ≡ 0) ⊎ (at ≡ found.now.place.size) }
+    requires json { 4096 + length found.now.json.items ≡ found.now.place.size }
+    requires within { 2 * found.now.place.size ≤ D.size device.old }
     requires room { D.failed device.old + 1 < 2 ^ 64 }
     requires settled { D.tells → IsSettled D.unsettled device.old }
     ensures count { CountsFailure is_failure result (D.failed device.old) (D.failed device.new) }
@@ -46,32 +48,47 @@ pub(crate) fn write_rebuilt_copy<D: Device>(
     ensures settled { D.tells → D.failed device.new ≡ D.failed device.old
         → IsSettled D.unsettled device.new }
     ensures copy { D.tells → OnOk result ((text : List ℕ) → uuid ≡ text ++ replicate 4 0
-        → HasRebuiltCopy (D.bytes device.new) text salt json.now size at) }
-    ensures rest { D.tells → SameBut (IsAt at size) (D.bytes device.old) (D.bytes device.new) }
+        → HasRebuiltCopy (D.bytes device.new) text salt (source_of found.now) at) }
+    ensures rest { D.tells → SameBut (IsAt at found.now.place.size)
+        (D.bytes device.old) (D.bytes device.new) }
 {
-    let header = new_header(size, at, uuid, salt);
+    let header = new_header(found, at, uuid, salt);
+    let json = found.json.as_slice();
     write_copy(device, &header, json)
 }
 
 /// The binary header, whose checksum is made where it is written.
-fn new_header(size: u64, at: u64, uuid: [u8; 40], salt: [u8; 64]) -> Bin2
+fn new_header(found: &Candidate, at: u64, uuid: [u8; 40], salt: [u8; 64]) -> Bin2
     ensures made { (text : List ℕ) → uuid ≡ text ++ replicate 4 0
-        → IsRebuiltHeader text salt size at result }
-    ensures hdr_size { result.hdr_size ≡ size }
+        → IsRebuiltHeader text salt (source_of found.now) at result }
+    ensures hdr_size { result.hdr_size ≡ found.now.place.size }
     ensures hdr_offset { result.hdr_offset ≡ at }
 {
+    let (label, subsystem) = kept_texts(found);
     let first = Bin2 {
         magic: [0; 6],
         version: 2,
-        hdr_size: size,
+        hdr_size: found.place.size,
         seqid: 1,
-        label: [0; 48],
+        label,
         csum_alg: [0; 32],
         salt,
         uuid,
-        subsystem: [0; 48],
+        subsystem,
         hdr_offset: at,
         csum: [0; 64],
     };
-    first.renewed(at, 1, salt)
+    first.renewed(at, next_seqid(found), salt)
+}
+
+/// The label and the subsystem of the header that is made of the candidate: those of the binary header
+/// which vouches for it, or empty ones.
+fn kept_texts(found: &Candidate) -> ([u8; 48], [u8; 48])
+    ensures label { result.0 ≡ kept_label found.now.vouch }
+    ensures subsystem { result.1 ≡ kept_subsystem found.now.vouch }
+{
+    match &found.vouch {
+        Some(header) => (header.label, header.subsystem),
+        None => ([0; 48], [0; 48]),
+    }
 }

@@ -8,16 +8,15 @@ ghost use Rattle.luks_reading.specs.Answer.{AnswerWithin, Opened};
 ghost use Rattle.luks_reading.specs.Checked.{WellFormed};
 ghost use Rattle.luks_reading.specs.Layout2.{Luks2Area};
 ghost use Rattle.luks_reading.specs.declared.report.Data.TheVariants.{Elsewhere};
-ghost use Rattle.luks_rebuilding.specs.Candidates.{json_of, Taken};
+ghost use Rattle.luks_rebuilding.specs.Candidates.{Source, Taken};
 ghost use Rattle.luks_rebuilding.specs.Found.{HasRegionInside};
 ghost use Rattle.luks_rebuilding.specs.Gives.{Gives};
 ghost use Rattle.luks_rebuilding.specs.Rebuilt.{IsMade};
-ghost use Rattle.luks_rebuilding.specs.declared.place.Place.{Place as ThePlace};
 ghost use Rattle.luks_rebuilding.specs.declared.place.Which.{Which as TheWhich};
 
 /// A volume has one first candidate at most.
 pub fn one_candidate()
-    ensures { (v : List ℕ) (which : TheWhich) (a b : ThePlace) → Taken v which a → Taken v which b
+    ensures { (v : List ℕ) (which : TheWhich) (a b : Source) → Taken v which a → Taken v which b
         → a ≡ b }
 {}
 
@@ -26,15 +25,15 @@ pub fn one_candidate()
 /// the bytes where its key areas stand in the source.
 pub fn rebuilt_header_opens_alike()
     ensures well_formed { (v random old w : List ℕ) (given : Option (List ℕ))
-        (place : ThePlace) (j : Value) → IsMeta (json_of v place) j → IsMade v given random old w place
+        (source : Source) (j : Value) → IsMeta source.json j → IsMade v given random old w source
         → ((text : List ℕ) → given ≡ Some text → IsUuid text)
-        → Fit (Luks2Area j place.size Elsewhere (length v)) (length v)
-        → HasRegionInside j place.size (length w) → WellFormed w Elsewhere }
+        → Fit (Luks2Area j source.size Elsewhere (length v)) (length v)
+        → HasRegionInside j source.size (length w) → WellFormed w Elsewhere }
     ensures opens { (v random old w : List ℕ) (given : Option (List ℕ))
-        (place : ThePlace) (j : Value) → IsMeta (json_of v place) j → IsMade v given random old w place
+        (source : Source) (j : Value) → IsMeta source.json j → IsMade v given random old w source
         → ((text : List ℕ) → given ≡ Some text → IsUuid text)
-        → Fit (Luks2Area j place.size Elsewhere (length v)) (length v)
-        → HasRegionInside j place.size (length w)
+        → Fit (Luks2Area j source.size Elsewhere (length v)) (length v)
+        → HasRegionInside j source.size (length w)
         → (memory n : ℕ) (p : List ℕ) (a : Opened)
-        → Gives memory (json_of v place) v n p a ↔ AnswerWithin memory w n p a }
+        → Gives memory source.json v n p a ↔ AnswerWithin memory w n p a }
 {}

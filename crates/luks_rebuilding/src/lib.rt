@@ -1,5 +1,5 @@
 //! A detached LUKS2 header made out of metadata that is still whole in a volume of which no header
-//! counts. The volume stays as it is.
+//! counts, or that the checksum of a copy vouches for. The volume stays as it is.
 #![tactic(auto)]
 
 mod candidate;
@@ -12,6 +12,7 @@ mod place;
 mod rebuild_fault;
 mod rebuilding;
 mod search;
+mod vouching;
 
 pub use candidate::{Candidate, find_candidate};
 pub use laws::{one_candidate, rebuilt_header_opens_alike};

@@ -30,7 +30,7 @@ pub(crate) fn own_field<D: Device>(
     ensures unchanged { IsUnchanged D.tells D.size D.bytes D.unsettled source.old source.new }
     ensures count { CountsFailure is_failure result (D.failed source.old) (D.failed source.new) }
     ensures own { D.tells → IfOk result
-        (IsOwnField (D.bytes source.old) place (option_map (λ t. t.now) given.entry) random.now) }
+        (IsOwnField (D.bytes source.old) place.size place.at (option_map (λ t. t.now) given.entry) random.now) }
 {
     match given {
         Some(text) => Ok(uuid_field(text)),
@@ -51,7 +51,7 @@ fn kept_field<D: Device>(
     ensures unchanged { IsUnchanged D.tells D.size D.bytes D.unsettled source.old source.new }
     ensures count { CountsFailure is_failure result (D.failed source.old) (D.failed source.new) }
     ensures own { D.tells → IfOk result
-        (IsOwnField (D.bytes source.old) place None random.now) }
+        (IsOwnField (D.bytes source.old) place.size place.at None random.now) }
 {
     match found_field(source, place.at)? {
         Some(field) => Ok(field),

@@ -16,10 +16,14 @@ pub struct Place {
 /// Which copies' metadata may be taken.
 #[derive(Debug, Clone, Copy, PartialEq, Eq)]
 pub enum Which {
-    /// Any: first copies by their size, then second copies by their size.
+    /// Any: first copies by their size, then second copies by their size. No header may count.
     Any,
-    /// That of second copies alone.
+    /// That of second copies alone, though a header of the source may count.
     Second,
+    /// That of copies of so many bytes, the same.
+    OfSize(u64),
+    /// That of the second copy of so many bytes, the same.
+    SecondOfSize(u64),
 }
 
 /// The first copies, or the second.
@@ -50,7 +54,7 @@ pub(crate) fn is_inside(place: Place, total: u64) -> bool
 
 /// Where the other copy of the same header stands.
 pub(crate) fn other_at(place: Place) -> u64
-    ensures { result ≡ other_at place }
+    ensures { result ≡ other_at place.size place.at }
 {
     if place.at == 0 { place.size } else { 0 }
 }

@@ -12,7 +12,7 @@ use std::fmt;
 /// All but a device's failure leave every byte of the target as it was. None changes the source.
 #[derive(Debug, Clone, Copy, Drop)]
 pub enum RebuildFault {
-    /// A header of the source counts.
+    /// A header of the source counts, and neither the second copy nor a size is asked for.
     Counts,
     /// The source has no metadata that is whole at a place that is asked for.
     NoMetadata,

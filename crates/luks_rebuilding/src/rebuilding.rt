@@ -7,7 +7,7 @@ ghost use Rattle.luks_meta.specs.Content.{content};
 ghost use Rattle.luks_reading.specs.Answer.{AnswerWithin, Opened};
 ghost use Rattle.luks_reading.specs.Checked.{WellFormed};
 ghost use Rattle.luks_reading.specs.declared.report.Data.TheVariants.{Elsewhere};
-ghost use Rattle.luks_rebuilding.specs.Candidates.{json_of, OfTaken};
+ghost use Rattle.luks_rebuilding.specs.Candidates.{OfTaken};
 ghost use Rattle.luks_rebuilding.specs.Found.{AreSlotsApart, HasRegionInside, HasSlotsInside, IsOfWhole, IsWhole, IsWholeWritten, WritesWholeInTurn, WritesWholeLast};
 ghost use Rattle.luks_rebuilding.specs.Gives.{Gives};
 ghost use Rattle.luks_rebuilding.specs.Outcome.{IsAnsweredFault, IsRebuildable, IsRebuildFault};
@@ -30,13 +30,15 @@ use std::alloc::Global;
 /// 64 each, and 16 for a new uuid.
 pub const REBUILD_RANDOM: u64 = 144;
 
-/// Makes a detached LUKS2 header of the first metadata that is whole in the source, of which no
-/// header counts, and writes it to the target, from its start on. What stood there before is
-/// overwritten without question. The source never changes.
+/// Makes a detached LUKS2 header of the metadata that a checksum of the source vouches for, or else of
+/// the first that is whole there, where no header counts or the second copy or a size is asked for, and
+/// writes it to the target, from its start on. What stood there before is overwritten without question.
+/// The source never changes.
 ///
 /// The metadata stays byte by byte, and so does the size of the header; each key area has the
 /// source's bytes, and so each keyslot opens by its passphrase. The uuid is `uuid`, else that of the
-/// source's binary headers, else a new one; label and subsystem are empty.
+/// source's binary headers, else a new one; label and subsystem are those of the binary header that
+/// vouches for it, whose sequence number is followed by the next, or else empty.
 ///
 /// Before all else the first sectors of both copies' places become zeros, with one flush: an older
 /// header there would still count while its key areas are overwritten. Then the key areas are written,
@@ -91,8 +93,8 @@ pub fn rebuild<S: Device, T: Device>(
     ensures well_formed { S.tells → T.tells
         → OnOk result (WellFormed (T.bytes target.new) Elsewhere) }
     ensures opens { S.tells → T.tells → OnOk result (OfTaken (S.bytes source.old) which
-        (λ place. (memory n : ℕ) (p : List ℕ) (a : Opened)
-        → Gives memory (json_of (S.bytes source.old) place) (S.bytes source.old) n p a
+        (λ taken. (memory n : ℕ) (p : List ℕ) (a : Opened)
+        → Gives memory taken.json (S.bytes source.old) n p a
         ↔ AnswerWithin memory (T.bytes target.new) n p a)) }
 {
     let found = find_candidate(alloc, source, which)?;
@@ -165,11 +167,9 @@ fn write_over_cleared<S: Device, T: Device>(
         → IsWholeWritten found.now (S.bytes source.old) uuid random.now (T.bytes target.new)) }
 {
     copy_areas(source, target, &found.meta)?;
-    let size = found.place.size;
-    let json = found.json.as_slice();
     let second = taken_salt(random, SECOND_SALT);
-    write_rebuilt_copy(target, size, size, field, second, json)?;
+    write_rebuilt_copy(target, found, found.place.size, field, second)?;
     let first = taken_salt(random, FIRST_SALT);
-    write_rebuilt_copy(target, size, 0, field, first, json)?;
+    write_rebuilt_copy(target, found, 0, field, first)?;
     Ok(())
 }

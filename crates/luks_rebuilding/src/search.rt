@@ -1,10 +1,10 @@
 //! The search for metadata that is whole, first copies or second copies, by their size.
-ghost use Rattle.std.specs.Prelude.{◌≡◌, ◌≢◌, ◌↔◌, ◌+◌, ◌-◌, ◌^◌, ◌<◌, ◌≤◌, ◌⊎◌, codes, length, IfOk, IfErr, IfSome, IsTrue, OnOk};
+ghost use Rattle.std.specs.Prelude.{◌≡◌, ◌≢◌, ◌↔◌, ◌+◌, ◌-◌, ◌^◌, ◌<◌, ◌≤◌, ◌⊎◌, codes, length, IfOk, IfErr, IfSome, IsTrue, None, OnOk};
 ghost use Rattle.luks_area.specs.Device.{CountsFailure, IsUnchanged, is_failure};
 ghost use Rattle.luks_area.specs.Ranges.{part};
-ghost use Rattle.luks_head.specs.Sizes.{IsListed};
+ghost use Rattle.luks_head.specs.Sizes.{is_listed, IsListed};
 ghost use Rattle.luks_rebuilding.specs.Candidates.{json_of, IsPlace};
-ghost use Rattle.luks_rebuilding.specs.Found.{BreaksAt, BreaksHalf, FindsAt, FindsHalf, IsFromOutside, IsWhole};
+ghost use Rattle.luks_rebuilding.specs.Found.{place_of, BreaksAt, BreaksHalf, FindsAt, FindsHalf, IsFromOutside, IsWhole};
 ghost use Rattle.luks_rebuilding.specs.RebuildFaults.{is_rebuild_failure};
 
 use crate::candidate::Candidate;
@@ -18,9 +18,16 @@ use std::alloc::Global;
 const BINARY_HEADER: u64 = 4096;
 
 /// The sizes that a copy may have, in bytes.
-const LISTED_SIZES: [u64; 9] = [
+pub(crate) const LISTED_SIZES: [u64; 9] = [
     0x4000, 0x8000, 0x1_0000, 0x2_0000, 0x4_0000, 0x8_0000, 0x10_0000, 0x20_0000, 0x40_0000,
 ];
+
+/// Whether a copy may have this size.
+fn is_listed(size: u64) -> bool
+    ensures { result ≡ is_listed size }
+{
+    LISTED_SIZES.contains(&size)
+}
 
 /// The metadata that is whole, of the copy of the least size.
 pub(crate) fn least_of<D: Device>(
@@ -34,6 +41,7 @@ pub(crate) fn least_of<D: Device>(
         (D.failed source.old) (D.failed source.new) }
     ensures kinds { IfErr result IsFromOutside }
     ensures whole { IfOk result (λ found. IfSome found (IsWhole (D.size source.old))) }
+    ensures plain { IfOk result (λ found. IfSome found (λ c. c.vouch ≡ None)) }
     ensures found { D.tells → IfOk result (FindsHalf (D.bytes source.old) half) }
     ensures broken { D.tells → IfErr result (BreaksHalf (D.bytes source.old) half) }
 {
@@ -45,6 +53,31 @@ pub(crate) fn least_of<D: Device>(
         }
     }
     Ok(None)
+}
+
+/// The metadata that is whole, of the copy of this size, if it is one of those that are listed.
+pub(crate) fn found_of<D: Device>(
+    alloc: Global,
+    source: &mut D,
+    half: Half,
+    size: u64,
+) -> Result<Option<Candidate>, RebuildFault>
+    requires { D.failed source.old + 1 < 2 ^ 64 }
+    ensures unchanged { IsUnchanged D.tells D.size D.bytes D.unsettled source.old source.new }
+    ensures count { CountsFailure is_rebuild_failure result
+        (D.failed source.old) (D.failed source.new) }
+    ensures kinds { IfErr result IsFromOutside }
+    ensures place { IfOk result (λ found. IfSome found (λ c. c.place ≡ place_of half size)) }
+    ensures whole { IfOk result (λ found. IfSome found (IsWhole (D.size source.old))) }
+    ensures plain { IfOk result (λ found. IfSome found (λ c. c.vouch ≡ None)) }
+    ensures found { D.tells → IfOk result (FindsAt (D.bytes source.old) (place_of half size)) }
+    ensures broken { D.tells → IfErr result (BreaksAt (D.bytes source.old) (place_of half size)) }
+{
+    if is_listed(size) {
+        whole_at(alloc, source, place_of(half, size))
+    } else {
+        Ok(None)
+    }
 }
 
 /// The metadata of the copy at the place, if it lies inside and is whole.
@@ -62,6 +95,7 @@ fn whole_at<D: Device>(
     ensures kinds { IfErr result IsFromOutside }
     ensures place { IfOk result (λ found. IfSome found (λ c. c.place ≡ place)) }
     ensures whole { IfOk result (λ found. IfSome found (IsWhole (D.size source.old))) }
+    ensures plain { IfOk result (λ found. IfSome found (λ c. c.vouch ≡ None)) }
     ensures found { D.tells → IfOk result (FindsAt (D.bytes source.old) place) }
     ensures broken { D.tells → IfErr result (BreaksAt (D.bytes source.old) place) }
 {
@@ -74,7 +108,15 @@ fn whole_at<D: Device>(
     }
     let json = json_area(alloc, source, place)?;
     match Meta::read(alloc, &json) {
-        Ok(meta) => Ok(Some(Candidate { place, json, meta })),
+        Ok(meta) => {
+            let vouch = None;
+            Ok(Some(Candidate {
+                place,
+                json,
+                meta,
+                vouch,
+            }))
+        }
         Err(fault) => {
             pass_over(fault)?;
             Ok(None)

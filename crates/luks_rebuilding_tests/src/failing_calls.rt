@@ -1,5 +1,5 @@
 //! Rebuilding on devices of which each call fails in turn.
-use crate::sources::{LEN, RANDOM};
+use crate::sources::{LEN, RANDOM, wiped};
 use luks_area::{Device, FaultyDevice, Leave, MemDevice};
 use luks_reading::select;
 use luks_rebuilding::{RebuildFault, Which, rebuild};
@@ -98,14 +98,14 @@ impl Ended {
 fn fails_at_each_call(
     rt: &impl Abort,
     alloc: Global,
+    image: &[u8],
     old: &[u8],
     of_source: bool,
     leave: Leave,
 ) -> Result<u64, Fail> {
-    let image = damaged(alloc)?;
-    let done = end_of(alloc, &image, old, Failing::Target(u64::MAX), leave)?;
+    let done = end_of(alloc, image, old, Failing::Target(u64::MAX), leave)?;
     assert!(rt;
-        done.end == End::Done && done.keeps(&image, old),
+        done.end == End::Done && done.keeps(image, old),
         "no call fails"
     );
     let after = done.target.contents();
@@ -115,8 +115,8 @@ fn fails_at_each_call(
         } else {
             (Failing::Target(call), End::Target)
         };
-        let mut ended = end_of(alloc, &image, old, failing, leave)?;
-        assert!(rt; ended.keeps(&image, old), "call {call}: the bytes");
+        let mut ended = end_of(alloc, image, old, failing, leave)?;
+        assert!(rt; ended.keeps(image, old), "call {call}: the bytes");
         if ended.end == End::Done {
             return Ok(call);
         }
@@ -139,9 +139,10 @@ const LEAVES: [Leave; 4] = [Leave::Old, Leave::New, Leave::Ones, Leave::Half];
 
 #[test]
 fn each_call_of_the_target(rt: HostRuntime) -> Result<(), Fail> {
+    let image = damaged(rt.alloc())?;
     let old = old_bytes(rt.alloc(), LEN)?;
     for leave in LEAVES {
-        let failed = fails_at_each_call(&rt, rt.alloc(), &old, false, leave)?;
+        let failed = fails_at_each_call(&rt, rt.alloc(), &image, &old, false, leave)?;
         // both first sectors and a flush of each, eight blocks and a flush of each key area, two writes and a
         // flush of each copy
         assert!(rt; failed == 28, "{failed} calls");
@@ -151,9 +152,10 @@ fn each_call_of_the_target(rt: HostRuntime) -> Result<(), Fail> {
 
 #[test]
 fn each_call_over_an_older_header(rt: HostRuntime) -> Result<(), Fail> {
+    let image = damaged(rt.alloc())?;
     let old = two_keyslots(rt.alloc())?;
     for leave in LEAVES {
-        let failed = fails_at_each_call(&rt, rt.alloc(), &old, false, leave)?;
+        let failed = fails_at_each_call(&rt, rt.alloc(), &image, &old, false, leave)?;
         assert!(rt; failed == 28, "{failed} calls");
     }
     Ok(())
@@ -161,11 +163,24 @@ fn each_call_over_an_older_header(rt: HostRuntime) -> Result<(), Fail> {
 
 #[test]
 fn each_call_of_the_source(rt: HostRuntime) -> Result<(), Fail> {
+    let image = damaged(rt.alloc())?;
     let old = old_bytes(rt.alloc(), LEN)?;
     for leave in LEAVES {
-        let failed = fails_at_each_call(&rt, rt.alloc(), &old, true, leave)?;
+        let failed = fails_at_each_call(&rt, rt.alloc(), &image, &old, true, leave)?;
         // at least the headers, the metadata, and eight blocks of each key area
         assert!(rt; 18 < failed, "{failed} calls");
+    }
+    Ok(())
+}
+
+#[test]
+fn each_call_of_a_source_that_a_checksum_vouches_for(rt: HostRuntime) -> Result<(), Fail> {
+    let image = wiped(rt.alloc())?;
+    let old = old_bytes(rt.alloc(), LEN)?;
+    for leave in LEAVES {
+        let failed = fails_at_each_call(&rt, rt.alloc(), &image, &old, true, leave)?;
+        // at least the binary headers, both JSON areas twice, and eight blocks of each key area
+        assert!(rt; 21 < failed, "{failed} calls");
     }
     Ok(())
 }

@@ -1,9 +1,11 @@
 //! What is said of metadata that is whole.
+use crate::rows::{ROWS, Row};
+use crate::sources::{source_of, which_of};
 use luks_area::MemDevice;
 use luks_metadata_notes::{note_taken, note_whole};
 use luks_rebuilding::Which;
 use luks_test_devices::{damaged, put, two_hashes};
-use std::alloc::{AllocError, Global};
+use std::alloc::Global;
 use std::test::Fail;
 
 /// Whether so much is said of the volume.
@@ -20,52 +22,164 @@ fn is_said_after(alloc: Global, volume: Vec<u8>, which: Which, want: &str) -> bo
     err.as_slice() == want.as_bytes()
 }
 
+/// What is said of the source of a row after its header was made.
+struct Said {
+    what: &'static str,
+    lines: &'static str,
+}
+
+const SAID: [Said; 14] = [
+    Said {
+        what: "a bit of both binary headers",
+        lines: concat!(
+            "luks: made of the metadata in the first copy, which has 2 keyslots\n",
+            "luks: no checksum vouches for it: compare with luks open before you restore it\n",
+        ),
+    },
+    Said {
+        what: "both magics are wiped",
+        lines: concat!(
+            "luks: made of the metadata in the first copy, which has 2 keyslots\n",
+            "luks: vouched by the checksum of the first copy\n",
+        ),
+    },
+    Said {
+        what: "a wrong digit in each copy's metadata, at different places",
+        lines: concat!(
+            "luks: made of the metadata in the first copy, which has 2 keyslots\n",
+            "luks: vouched by the checksum of the first copy\n",
+        ),
+    },
+    Said {
+        what: "the same, and no checksum vouches for either",
+        lines: concat!(
+            "luks: made of the metadata in the first copy, which has 2 keyslots\n",
+            "luks: no checksum vouches for it: compare with luks open before you restore it\n",
+            "luks: that of the second copy is whole too, and differs, with 0 keyslots that this hasn't: luks rebuild --second takes it\n",
+        ),
+    },
+    Said {
+        what: "two that differ: the second is asked for",
+        lines: concat!(
+            "luks: made of the metadata in the second copy, which has 2 keyslots\n",
+            "luks: no checksum vouches for it: compare with luks open before you restore it\n",
+        ),
+    },
+    Said {
+        what: "a bit of the first uuid",
+        lines: concat!(
+            "luks: made of the metadata in the second copy, which has 2 keyslots\n",
+            "luks: vouched by the checksum of the second copy\n",
+        ),
+    },
+    Said {
+        what: "the first is newer",
+        lines: concat!(
+            "luks: made of the metadata in the first copy, which has 2 keyslots\n",
+            "luks: vouched by the checksum of the first copy\n",
+            "luks: that of the second copy is whole too, and differs, with 0 keyslots that this hasn't: luks rebuild --second takes it\n",
+        ),
+    },
+    Said {
+        what: "a smaller header over an older one that has a lower number",
+        lines: concat!(
+            "luks: made of the metadata in the first copy, which has 2 keyslots\n",
+            "luks: vouched by the checksum of the first copy\n",
+            "luks: that of a header of 32768 bytes is whole too, and differs, with 0 keyslots that this hasn't: luks rebuild --size 32768 takes it\n",
+            "luks: of an older volume with the uuid 01d01d01-0000-4000-8000-000000000001\n",
+        ),
+    },
+    Said {
+        what: "a smaller header over an older one that has a higher number",
+        lines: concat!(
+            "luks: made of the metadata in the second copy, which has 1 keyslot\n",
+            "luks: vouched by the checksum of the second copy\n",
+            "luks: of an older volume with the uuid 01d01d01-0000-4000-8000-000000000001\n",
+            "luks: that of a header of 16384 bytes is whole too, and differs, with 1 keyslot that this hasn't: luks rebuild --size 16384 takes it\n",
+        ),
+    },
+    Said {
+        what: "one that no checksum vouches for before one that is vouched for",
+        lines: concat!(
+            "luks: made of the metadata in the second copy, which has 1 keyslot\n",
+            "luks: vouched by the checksum of the second copy\n",
+            "luks: of an older volume with the uuid 01d01d01-0000-4000-8000-000000000001\n",
+            "luks: that of a header of 16384 bytes is whole too, and differs, with 1 keyslot that this hasn't: luks rebuild --size 16384 takes it\n",
+        ),
+    },
+    Said {
+        what: "a header counts, and a size is asked for",
+        lines: concat!(
+            "luks: made of the metadata in the second copy, which has 1 keyslot\n",
+            "luks: vouched by the checksum of the second copy\n",
+            "luks: of an older volume with the uuid 01d01d01-0000-4000-8000-000000000001\n",
+            "luks: that of a header of 16384 bytes is whole too, and differs, with 1 keyslot that this hasn't: luks rebuild --size 16384 takes it\n",
+        ),
+    },
+    Said {
+        what: "an older header behind a LUKS1 volume",
+        lines: concat!(
+            "luks: made of the metadata in the second copy, which has 1 keyslot\n",
+            "luks: vouched by the checksum of the second copy\n",
+            "luks: of an older volume with the uuid 01d01d01-0000-4000-8000-000000000001\n",
+        ),
+    },
+    Said {
+        what: "the same, and no checksum vouches for it",
+        lines: concat!(
+            "luks: made of the metadata in the second copy, which has 1 keyslot\n",
+            "luks: no checksum vouches for it: compare with luks open before you restore it\n",
+            "luks: of an older volume with the uuid 01d01d01-0000-4000-8000-000000000001\n",
+        ),
+    },
+    Said {
+        what: "a LUKS1 header counts over an older one, which is asked for",
+        lines: concat!(
+            "luks: made of the metadata in the second copy, which has 1 keyslot\n",
+            "luks: vouched by the checksum of the second copy\n",
+            "luks: of an older volume with the uuid 01d01d01-0000-4000-8000-000000000001\n",
+        ),
+    },
+];
+
+/// The row of what is tried.
+fn row_of(what: &str) -> Option<&'static Row> {
+    ROWS.iter().find(|row| row.what == what)
+}
+
 #[test]
-fn of_a_volume_of_which_nothing_counts(rt: HostRuntime) -> Result<(), Fail> {
+fn after_a_header_was_made(rt: HostRuntime) -> Result<(), Fail> {
     let alloc = rt.alloc();
-    let first =
-        "luks: metadata of 2 keyslots is whole in the first copy: luks rebuild makes a header of it\n";
-    assert!(rt; is_said(alloc, damaged(alloc)?, first), "both are whole");
-    let mut covered = damaged(alloc)?;
-    put(&mut covered, 4096, &[0]);
-    let second =
-        "luks: metadata of 2 keyslots is whole in the second copy: luks rebuild makes a header of it\n";
-    assert!(rt; is_said(alloc, covered, second), "the second is whole");
+    let volume = two_hashes(alloc)?;
+    for said in SAID.iter() {
+        let what = said.what;
+        let Some(row) = row_of(what) else {
+            return Err("no row".into());
+        };
+        let source = source_of(alloc, &volume, row)?;
+        assert!(rt;
+            is_said_after(alloc, source, which_of(row), said.lines),
+            "{what}"
+        );
+    }
     Ok(())
 }
 
-/// What is said where the second copy's metadata is whole too, and differs.
-const DIFFERS: &str =
-    "luks: that of the second copy is whole too, and differs: luks rebuild --second takes it\n";
-
-/// The volume of which nothing counts, with another character in the digest of the second copy.
-fn two_that_differ(alloc: Global) -> Result<Vec<u8>, AllocError> {
-    let mut volume = damaged(alloc)?;
-    put(&mut volume, 20562, b"s");
-    Ok(volume)
-}
-
 #[test]
-fn of_two_copies_that_differ(rt: HostRuntime) -> Result<(), Fail> {
+fn of_a_volume_of_which_nothing_counts(rt: HostRuntime) -> Result<(), Fail> {
     let alloc = rt.alloc();
-    let whole =
-        "luks: metadata of 2 keyslots is whole in the first copy: luks rebuild makes a header of it\n";
-    let want = format!(in alloc; "{whole}{DIFFERS}")?;
-    let volume = two_that_differ(alloc)?;
-    assert!(rt; is_said(alloc, volume, want.as_str()), "both are named");
-    let taken = "luks: made of the metadata in the first copy, which has 2 keyslots\n";
-    let want = format!(in alloc; "{taken}{DIFFERS}")?;
-    let volume = two_that_differ(alloc)?;
-    assert!(rt;
-        is_said_after(alloc, volume, Which::Any, want.as_str()),
-        "of any copy"
+    let first = concat!(
+        "luks: metadata of 2 keyslots is whole in the first copy: luks rebuild makes a header of it\n",
+        "luks: no checksum vouches for it: compare with luks open before you restore it\n",
     );
-    let second = "luks: made of the metadata in the second copy, which has 2 keyslots\n";
-    let volume = two_that_differ(alloc)?;
-    assert!(rt;
-        is_said_after(alloc, volume, Which::Second, second),
-        "of the second copy"
+    assert!(rt; is_said(alloc, damaged(alloc)?, first), "both are whole");
+    let mut covered = damaged(alloc)?;
+    put(&mut covered, 4096, &[0]);
+    let second = concat!(
+        "luks: metadata of 2 keyslots is whole in the second copy: luks rebuild makes a header of it\n",
+        "luks: no checksum vouches for it: compare with luks open before you restore it\n",
     );
+    assert!(rt; is_said(alloc, covered, second), "the second is whole");
     Ok(())
 }
 
@@ -77,21 +191,5 @@ fn of_a_volume_with_nothing_to_make_a_header_of(rt: HostRuntime) -> Result<(), F
     put(&mut covered, 4096, &[0]);
     put(&mut covered, 20480, &[0]);
     assert!(rt; is_said(alloc, covered, ""), "no metadata is whole");
-    Ok(())
-}
-
-#[test]
-fn after_a_header_was_made(rt: HostRuntime) -> Result<(), Fail> {
-    let alloc = rt.alloc();
-    let first = "luks: made of the metadata in the first copy, which has 2 keyslots\n";
-    assert!(rt;
-        is_said_after(alloc, damaged(alloc)?, Which::Any, first),
-        "of any copy"
-    );
-    let second = "luks: made of the metadata in the second copy, which has 2 keyslots\n";
-    assert!(rt;
-        is_said_after(alloc, damaged(alloc)?, Which::Second, second),
-        "of a second copy"
-    );
     Ok(())
 }

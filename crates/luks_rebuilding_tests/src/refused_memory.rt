@@ -1,5 +1,5 @@
 //! Rebuilding with refused memory.
-use crate::sources::{LEN, RANDOM};
+use crate::sources::{LEN, RANDOM, wiped};
 use luks_area::MemDevice;
 use luks_rebuilding::{RebuildFault, Which, rebuild};
 use luks_test_devices::{BLOCKS, TakenMemory, counted, damaged, old_bytes};
@@ -17,8 +17,7 @@ enum End {
 
 /// How it ended, and how many blocks had to be given back until then: with all memory taken, and given
 /// back in blocks of 256 bytes, it is refused memory at one place after another.
-fn ends_with_little_memory(alloc: Global) -> Result<(End, usize), Fail> {
-    let image = damaged(alloc)?;
+fn ends_with_little_memory(alloc: Global, image: &[u8]) -> Result<(End, usize), Fail> {
     let old = old_bytes(alloc, LEN)?;
     let random = counted(alloc, 0, RANDOM)?;
     let mut source = MemDevice::new(image.to_vec(alloc)?);
@@ -41,7 +40,7 @@ fn ends_with_little_memory(alloc: Global) -> Result<(End, usize), Fail> {
         taken.give_back();
     }
     drop(taken);
-    if source.contents() != image.as_slice() {
+    if source.contents() != image {
         end = End::Other;
     }
     Ok((end, given))
@@ -49,7 +48,17 @@ fn ends_with_little_memory(alloc: Global) -> Result<(End, usize), Fail> {
 
 #[test]
 fn each_allocation(rt: HostRuntime) -> Result<(), Fail> {
-    let (end, given) = ends_with_little_memory(rt.alloc())?;
+    let image = damaged(rt.alloc())?;
+    let (end, given) = ends_with_little_memory(rt.alloc(), &image)?;
+    assert!(rt; end == End::Done, "done in the end");
+    assert!(rt; 1 < given, "{given} blocks");
+    Ok(())
+}
+
+#[test]
+fn each_allocation_where_a_checksum_vouches(rt: HostRuntime) -> Result<(), Fail> {
+    let image = wiped(rt.alloc())?;
+    let (end, given) = ends_with_little_memory(rt.alloc(), &image)?;
     assert!(rt; end == End::Done, "done in the end");
     assert!(rt; 1 < given, "{given} blocks");
     Ok(())

@@ -1,6 +1,6 @@
-#![tactic(auto)]
 //! Metadata of a LUKS2 header that the checksum of a binary header vouches for, though both copies of
 //! the JSON area are damaged: it is composed of the sectors of both.
+#![tactic(auto)]
 
 mod areas;
 mod borders;

@@ -4,7 +4,7 @@ use Rattle.luks_area.specs.Area.{Fit}
 use Rattle.luks_meta.specs.Content.{content}
 use Rattle.luks_reading.specs.Layout2.{Luks2Area}
 use Rattle.luks_reading.specs.declared.report.Data.TheVariants.{Elsewhere}
-use Rattle.luks_rebuilding.specs.Found.{HasRegionInside, HasSlotsInside, IsOwnField, IsWhole, IsWholeWritten, WritesWholeLast}
+use Rattle.luks_rebuilding.specs.Found.{source_of, HasRegionInside, HasSlotsInside, IsOwnField, IsWhole, IsWholeWritten, WritesWholeLast}
 use Rattle.luks_rebuilding.specs.Outcome.{IsAnsweredFault, IsRebuildable}
 use Rattle.luks_rebuilding.proofs.FaultFacts.{answered_first, not_found_first}
 use Rattle.luks_rebuilding.proofs.GivesFacts.{gives_here, gives_there, well_formed}
@@ -91,8 +91,8 @@ returns-in_err-write_rebuilt-clause-order g c = λ source tells.
     let sized : length v ≡ g.S.Device.size c.args.source.now = g.met.S.Device.sized c.args.source.now source in
     let whole : IsWhole (length v) c.in_ok-found.found = subst (λ (n : ℕ). IsWhole n c.in_ok-found.found) (sym sized) c.in_ok-found.ensures.whole in
     let first = c.in_ok-found.ensures.unchanged.same source in
-    let own : IsOwnField v c.in_ok-found.found.place (option_map (λ t. t.now) c.args.uuid) c.args.random.now c.in_ok-field.field =
-    subst (λ (l : List ℕ). IsOwnField l c.in_ok-found.found.place (option_map (λ t. t.now) c.args.uuid) c.args.random.now c.in_ok-field.field) first (c.in_ok-field.ensures.own source) in
+    let own : IsOwnField v c.in_ok-found.found.place.size c.in_ok-found.found.place.at (option_map (λ t. t.now) c.args.uuid) c.args.random.now c.in_ok-field.field =
+    subst (λ (l : List ℕ). IsOwnField l c.in_ok-found.found.place.size c.in_ok-found.found.place.at (option_map (λ t. t.now) c.args.uuid) c.args.random.now c.in_ok-field.field) first (c.in_ok-field.ensures.own source) in
     let same : g.S.Device.bytes c.own_field.new.source ≡ v = c.in_ok-field.ensures.unchanged.same source ∙ first in
     order_kept v c.args.which c.in_ok-found.found found whole (option_map (λ t. t.now) c.args.uuid) c.args.random.now own.uuid old w own.own
     (subst (λ (l : List ℕ). WritesWholeLast c.in_ok-found.found l own.uuid c.args.random.now old w) same (c.write_rebuilt.ensures.order source tells own.uuid own.fills))
@@ -106,8 +106,8 @@ returns-clause-order g c = λ source tells.
     let sized : length v ≡ g.S.Device.size c.args.source.now = g.met.S.Device.sized c.args.source.now source in
     let whole : IsWhole (length v) c.in_ok-found.found = subst (λ (n : ℕ). IsWhole n c.in_ok-found.found) (sym sized) c.in_ok-found.ensures.whole in
     let first = c.in_ok-found.ensures.unchanged.same source in
-    let own : IsOwnField v c.in_ok-found.found.place (option_map (λ t. t.now) c.args.uuid) c.args.random.now c.in_ok-field.field =
-    subst (λ (l : List ℕ). IsOwnField l c.in_ok-found.found.place (option_map (λ t. t.now) c.args.uuid) c.args.random.now c.in_ok-field.field) first (c.in_ok-field.ensures.own source) in
+    let own : IsOwnField v c.in_ok-found.found.place.size c.in_ok-found.found.place.at (option_map (λ t. t.now) c.args.uuid) c.args.random.now c.in_ok-field.field =
+    subst (λ (l : List ℕ). IsOwnField l c.in_ok-found.found.place.size c.in_ok-found.found.place.at (option_map (λ t. t.now) c.args.uuid) c.args.random.now c.in_ok-field.field) first (c.in_ok-field.ensures.own source) in
     let same : g.S.Device.bytes c.own_field.new.source ≡ v = c.in_ok-field.ensures.unchanged.same source ∙ first in
     order_kept v c.args.which c.in_ok-found.found found whole (option_map (λ t. t.now) c.args.uuid) c.args.random.now own.uuid old w own.own
     (subst (λ (l : List ℕ). WritesWholeLast c.in_ok-found.found l own.uuid c.args.random.now old w) same (c.write_rebuilt.ensures.order source tells own.uuid own.fills))
@@ -121,8 +121,8 @@ returns-clause-rebuilt g c = λ source tells.
     let sized : length v ≡ g.S.Device.size c.args.source.now = g.met.S.Device.sized c.args.source.now source in
     let whole : IsWhole (length v) c.in_ok-found.found = subst (λ (n : ℕ). IsWhole n c.in_ok-found.found) (sym sized) c.in_ok-found.ensures.whole in
     let first = c.in_ok-found.ensures.unchanged.same source in
-    let own : IsOwnField v c.in_ok-found.found.place (option_map (λ t. t.now) c.args.uuid) c.args.random.now c.in_ok-field.field =
-    subst (λ (l : List ℕ). IsOwnField l c.in_ok-found.found.place (option_map (λ t. t.now) c.args.uuid) c.args.random.now c.in_ok-field.field) first (c.in_ok-field.ensures.own source) in
+    let own : IsOwnField v c.in_ok-found.found.place.size c.in_ok-found.found.place.at (option_map (λ t. t.now) c.args.uuid) c.args.random.now c.in_ok-field.field =
+    subst (λ (l : List ℕ). IsOwnField l c.in_ok-found.found.place.size c.in_ok-found.found.place.at (option_map (λ t. t.now) c.args.uuid) c.args.random.now c.in_ok-field.field) first (c.in_ok-field.ensures.own source) in
     let same : g.S.Device.bytes c.own_field.new.source ≡ v = c.in_ok-field.ensures.unchanged.same source ∙ first in
     let written : IsWholeWritten c.in_ok-found.found v own.uuid c.args.random.now w =
     subst (λ (l : List ℕ). IsWholeWritten c.in_ok-found.found l own.uuid c.args.random.now w) same (c.in_ok-write_rebuilt.ensures.written source tells own.uuid own.fills) in
@@ -138,8 +138,8 @@ returns-clause-well_formed g c = λ source tells.
     let whole : IsWhole (length v) c.in_ok-found.found = subst (λ (n : ℕ). IsWhole n c.in_ok-found.found) (sym sized) c.in_ok-found.ensures.whole in
     let long : length v ≡ c.len.result = sized ∙ sym (c.len.ensures ∙ c.in_ok-found.ensures.unchanged.size) in
     let first = c.in_ok-found.ensures.unchanged.same source in
-    let own : IsOwnField v c.in_ok-found.found.place (option_map (λ t. t.now) c.args.uuid) c.args.random.now c.in_ok-field.field =
-    subst (λ (l : List ℕ). IsOwnField l c.in_ok-found.found.place (option_map (λ t. t.now) c.args.uuid) c.args.random.now c.in_ok-field.field) first (c.in_ok-field.ensures.own source) in
+    let own : IsOwnField v c.in_ok-found.found.place.size c.in_ok-found.found.place.at (option_map (λ t. t.now) c.args.uuid) c.args.random.now c.in_ok-field.field =
+    subst (λ (l : List ℕ). IsOwnField l c.in_ok-found.found.place.size c.in_ok-found.found.place.at (option_map (λ t. t.now) c.args.uuid) c.args.random.now c.in_ok-field.field) first (c.in_ok-field.ensures.own source) in
     let same : g.S.Device.bytes c.own_field.new.source ≡ v = c.in_ok-field.ensures.unchanged.same source ∙ first in
     let written : IsWholeWritten c.in_ok-found.found v own.uuid c.args.random.now w =
     subst (λ (l : List ℕ). IsWholeWritten c.in_ok-found.found l own.uuid c.args.random.now w) same (c.in_ok-write_rebuilt.ensures.written source tells own.uuid own.fills) in
@@ -149,7 +149,7 @@ returns-clause-well_formed g c = λ source tells.
     let region = subst (HasRegionInside (content c.in_ok-found.found.meta) c.in_ok-found.found.place.size) end_ ready.region in
     let made = is_made v c.args.which c.in_ok-found.found found whole (option_map (λ t. t.now) c.args.uuid) c.args.random.now own.uuid old w own.own written (c.write_rebuilt.ensures.rest tells) in
     let meta = its_meta v c.args.which c.in_ok-found.found found whole in
-    well_formed v c.args.random.now old w (option_map (λ t. t.now) c.args.uuid) c.in_ok-found.found.place (content c.in_ok-found.found.meta) meta made ready.uuid fit region
+    well_formed v c.args.random.now old w (option_map (λ t. t.now) c.args.uuid) (source_of c.in_ok-found.found) (content c.in_ok-found.found.meta) meta made ready.uuid fit region
 
 pub returns-clause-opens : goal.returns-clause-opens
 returns-clause-opens g c = λ source tells.
@@ -161,8 +161,8 @@ returns-clause-opens g c = λ source tells.
     let whole : IsWhole (length v) c.in_ok-found.found = subst (λ (n : ℕ). IsWhole n c.in_ok-found.found) (sym sized) c.in_ok-found.ensures.whole in
     let long : length v ≡ c.len.result = sized ∙ sym (c.len.ensures ∙ c.in_ok-found.ensures.unchanged.size) in
     let first = c.in_ok-found.ensures.unchanged.same source in
-    let own : IsOwnField v c.in_ok-found.found.place (option_map (λ t. t.now) c.args.uuid) c.args.random.now c.in_ok-field.field =
-    subst (λ (l : List ℕ). IsOwnField l c.in_ok-found.found.place (option_map (λ t. t.now) c.args.uuid) c.args.random.now c.in_ok-field.field) first (c.in_ok-field.ensures.own source) in
+    let own : IsOwnField v c.in_ok-found.found.place.size c.in_ok-found.found.place.at (option_map (λ t. t.now) c.args.uuid) c.args.random.now c.in_ok-field.field =
+    subst (λ (l : List ℕ). IsOwnField l c.in_ok-found.found.place.size c.in_ok-found.found.place.at (option_map (λ t. t.now) c.args.uuid) c.args.random.now c.in_ok-field.field) first (c.in_ok-field.ensures.own source) in
     let same : g.S.Device.bytes c.own_field.new.source ≡ v = c.in_ok-field.ensures.unchanged.same source ∙ first in
     let written : IsWholeWritten c.in_ok-found.found v own.uuid c.args.random.now w =
     subst (λ (l : List ℕ). IsWholeWritten c.in_ok-found.found l own.uuid c.args.random.now w) same (c.in_ok-write_rebuilt.ensures.written source tells own.uuid own.fills) in
@@ -173,10 +173,10 @@ returns-clause-opens g c = λ source tells.
     let made = is_made v c.args.which c.in_ok-found.found found whole (option_map (λ t. t.now) c.args.uuid) c.args.random.now own.uuid old w own.own written (c.write_rebuilt.ensures.rest tells) in
     let meta = its_meta v c.args.which c.in_ok-found.found found whole in
     record {
-      place = c.in_ok-found.found.place;
+      source = source_of c.in_ok-found.found;
       taken = found.taken;
       holds = λ memory n p a. (
-        gives_there v c.args.random.now old w (option_map (λ t. t.now) c.args.uuid) c.in_ok-found.found.place (content c.in_ok-found.found.meta) meta made ready.uuid fit region memory n p a,
-        gives_here v c.args.random.now old w (option_map (λ t. t.now) c.args.uuid) c.in_ok-found.found.place (content c.in_ok-found.found.meta) meta made ready.uuid fit region memory n p a,
+        gives_there v c.args.random.now old w (option_map (λ t. t.now) c.args.uuid) (source_of c.in_ok-found.found) (content c.in_ok-found.found.meta) meta made ready.uuid fit region memory n p a,
+        gives_here v c.args.random.now old w (option_map (λ t. t.now) c.args.uuid) (source_of c.in_ok-found.found) (content c.in_ok-found.found.meta) meta made ready.uuid fit region memory n p a,
       );
     }

@@ -1,4 +1,5 @@
 use Rattle.std.proofs.Common.{ℕ, List, inr, subst}
+use Rattle.luks_rebuilding.specs.Found.{source_of}
 use Rattle.luks_rebuilding.specs.Rebuilt.{HasRebuiltCopy}
 use Rattle.luks_rebuilding.proofs.WrittenFacts.{all_but_first, all_rest, areas_rest, both_wait, first_waits, second_rest, slots_inside}
 use Rattle.luks_rebuilding.proofs.rebuilding.write_over_cleared.Goals as goal
@@ -35,8 +36,7 @@ pub returns-in_err-write_rebuilt_copy-2-clause-order : goal.returns-in_err-write
 returns-in_err-write_rebuilt_copy-2-clause-order g c = λ source tells uuid is.
     let w : List ℕ = g.T.Device.bytes c.write_rebuilt_copy.new.device in
     let size : ℕ = c.args.found.now.place.size in
-    let second = subst (λ (s : List ℕ). HasRebuiltCopy w uuid s c.args.found.now.json.items size size) c.taken_salt-second.ensures
-    (subst (λ (j : List ℕ). HasRebuiltCopy w uuid c.taken_salt-second.result j size size) c.as_slice-json.ensures.value (c.in_ok-write_rebuilt_copy.ensures.copy tells uuid is)) in
+    let second = subst (λ (s : List ℕ). HasRebuiltCopy w uuid s (source_of c.args.found.now) size) c.taken_salt-second.ensures (c.in_ok-write_rebuilt_copy.ensures.copy tells uuid is) in
     inr (inr (all_but_first c.args.found.now (g.S.Device.size c.args.source.now) (g.T.Device.size c.args.target.now) c.requires.whole c.requires.region
     (g.S.Device.bytes c.args.source.now) uuid c.args.random.now (g.T.Device.bytes c.args.target.now) (g.T.Device.bytes c.copy_areas.new.target) w (g.T.Device.bytes c.write_rebuilt_copy-2.new.device)
     (c.in_ok-copy_areas.ensures.copied source tells) (c.write_rebuilt_copy.ensures.rest tells) (c.write_rebuilt_copy-2.ensures.rest tells) second))
@@ -45,8 +45,7 @@ pub returns-clause-order : goal.returns-clause-order
 returns-clause-order g c = λ source tells uuid is.
     let w : List ℕ = g.T.Device.bytes c.write_rebuilt_copy.new.device in
     let size : ℕ = c.args.found.now.place.size in
-    let second = subst (λ (s : List ℕ). HasRebuiltCopy w uuid s c.args.found.now.json.items size size) c.taken_salt-second.ensures
-    (subst (λ (j : List ℕ). HasRebuiltCopy w uuid c.taken_salt-second.result j size size) c.as_slice-json.ensures.value (c.in_ok-write_rebuilt_copy.ensures.copy tells uuid is)) in
+    let second = subst (λ (s : List ℕ). HasRebuiltCopy w uuid s (source_of c.args.found.now) size) c.taken_salt-second.ensures (c.in_ok-write_rebuilt_copy.ensures.copy tells uuid is) in
     inr (inr (all_but_first c.args.found.now (g.S.Device.size c.args.source.now) (g.T.Device.size c.args.target.now) c.requires.whole c.requires.region
     (g.S.Device.bytes c.args.source.now) uuid c.args.random.now (g.T.Device.bytes c.args.target.now) (g.T.Device.bytes c.copy_areas.new.target) w (g.T.Device.bytes c.write_rebuilt_copy-2.new.device)
     (c.in_ok-copy_areas.ensures.copied source tells) (c.write_rebuilt_copy.ensures.rest tells) (c.write_rebuilt_copy-2.ensures.rest tells) second))
@@ -56,11 +55,9 @@ returns-clause-written g c = λ source tells uuid is.
     let w : List ℕ = g.T.Device.bytes c.write_rebuilt_copy.new.device in
     let x : List ℕ = g.T.Device.bytes c.write_rebuilt_copy-2.new.device in
     let size : ℕ = c.args.found.now.place.size in
-    let second = subst (λ (s : List ℕ). HasRebuiltCopy w uuid s c.args.found.now.json.items size size) c.taken_salt-second.ensures
-    (subst (λ (j : List ℕ). HasRebuiltCopy w uuid c.taken_salt-second.result j size size) c.as_slice-json.ensures.value (c.in_ok-write_rebuilt_copy.ensures.copy tells uuid is)) in
+    let second = subst (λ (s : List ℕ). HasRebuiltCopy w uuid s (source_of c.args.found.now) size) c.taken_salt-second.ensures (c.in_ok-write_rebuilt_copy.ensures.copy tells uuid is) in
     record {
-      first = subst (λ (s : List ℕ). HasRebuiltCopy x uuid s c.args.found.now.json.items size 0) c.taken_salt-first.ensures
-          (subst (λ (j : List ℕ). HasRebuiltCopy x uuid c.taken_salt-first.result j size 0) c.as_slice-json.ensures.value (c.in_ok-write_rebuilt_copy-2.ensures.copy tells uuid is));
+      first = subst (λ (s : List ℕ). HasRebuiltCopy x uuid s (source_of c.args.found.now) 0) c.taken_salt-first.ensures (c.in_ok-write_rebuilt_copy-2.ensures.copy tells uuid is);
       others = all_but_first c.args.found.now (g.S.Device.size c.args.source.now) (g.T.Device.size c.args.target.now) c.requires.whole c.requires.region
           (g.S.Device.bytes c.args.source.now) uuid c.args.random.now (g.T.Device.bytes c.args.target.now) (g.T.Device.bytes c.copy_areas.new.target) w x
           (c.in_ok-copy_areas.ensures.copied source tells) (c.write_rebuilt_copy.ensures.rest tells) (c.write_rebuilt_copy-2.ensures.rest tells) second;
