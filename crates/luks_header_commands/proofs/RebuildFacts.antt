@@ -1,5 +1,5 @@
 -- What `rebuild` answers, by what it met.
-use Rattle.std.proofs.Common.{◌≡◌, ◌≢◌, ◌⊎◌, List, ℕ, false, Option, None, Some, refl, sym, subst, inl, inr, length, [], ◌∙◌}
+use Rattle.std.proofs.Common.{◌≡◌, ◌≢◌, List, ℕ, Bool, false, Option, None, Some, refl, sym, subst, inl, inr, length, [], ◌∙◌}
 use Rattle.luks_area.specs.Ranges.{SameBut}
 use Rattle.luks_copying.specs.TwoDevices.{CountsAfter, IsOneFailure}
 use Rattle.luks_rebuilding.specs.RebuildFaults.{is_rebuild_failure}
@@ -23,7 +23,7 @@ use Rattle.luks_commands.specs.declared.answers.Status.TheVariants.{NotInStep}
 use Rattle.luks_commands.specs.Answer.{answer_status, rebuild_fault_answer, rebuild1_fault_answer}
 use Rattle.luks_header_commands.specs.Rebuilding.{given_of, which_of, IsAnswerOf, IsLuks1Answer, IsLuks2Answer, IsNewHeader1, KeepsMeant, LeadsToLuks1, StaysLuks2, TurnsToLuks1}
 use Rattle.luks_header_commands.specs.Target.{NoneFailed, Pair}
-use Rattle.luks_header_commands.specs.Turned.{stays, turns, unread, IsTurnedRest, Turned}
+use Rattle.luks_header_commands.specs.Turned.{stays, turns, unread, IsTurnedRest, MayLead, Turned}
 
 -- a fault of LUKS2 that isn't a device's left the target as it was
 pub answers_fault : (tells : Type 0) (which : Which) (given : Option (List ℕ)) (random : List ℕ) (d : Pair) (f : RebuildFault)
@@ -121,40 +121,83 @@ luks1_later tells given d e (answer.Refused (refusal.Rebuild1 f)) later said = (
 luks1_later tells given d e answer.DeviceFault later said = one_later tells d e later said
 luks1_later tells given d e a later said = absurd said
 
--- the two faults that may lead to LUKS1 are answered by LUKS2 as they are
-led_answer : (tells : Type 0) (which : Which) (given : Option (List ℕ)) (random : List ℕ) (e : Pair) (f : RebuildFault) → (f ≡ NoMetadata) ⊎ (f ≡ Counts)
+-- a fault that may lead to LUKS1 is no device's, and is answered as it is
+led_unfailed : (f : RebuildFault) → MayLead f → is_rebuild_failure f ≡ false
+led_unfailed NoMetadata led = refl
+led_unfailed Counts led = refl
+led_unfailed f led = absurd led
+
+led_is : (f : RebuildFault) → MayLead f → rebuild_fault_answer f ≡ answer.Refused (refusal.Rebuild f)
+led_is NoMetadata led = refl
+led_is Counts led = refl
+led_is f led = absurd led
+
+led_answer : (tells : Type 0) (which : Which) (given : Option (List ℕ)) (random : List ℕ) (e : Pair) (f : RebuildFault) → MayLead f
     → NoneFailed e → (tells → e.new ≡ e.old) → (tells → IsAnsweredFault e.volume which given e.total random f)
     → IsLuks2Answer tells which given random e (answer.Refused (refusal.Rebuild f))
 led_answer tells which given random e NoMetadata led none same first = (none, same, first)
 led_answer tells which given random e Counts led none same first = (none, same, first)
-led_answer tells which given random e f (inl is) none same first = absurd is
-led_answer tells which given random e f (inr is) none same first = absurd is
+led_answer tells which given random e f led none same first = absurd led
 
--- what is answered of either version where LUKS2 is refused by such a fault
-pub turned_answers : (tells : Type 0) (r : Rebuilding) (luks1 : Given) (random : List ℕ) (d e : Pair) (f : RebuildFault) (a : Answer) → (f ≡ NoMetadata) ⊎ (f ≡ Counts)
-    → IsLater tells d e → (tells → IsAnsweredFault e.volume (which_of r) (given_of r) e.total random f)
-    → Turned tells luks1 f d a → IsAnswerOf Either tells r luks1 random e a
-turned_answers tells r luks1 random d e f a led later first (stays none same lacks is) =
+-- the same fault, of the copies that are asked for
+pub unfailed_as : (f0 f : RebuildFault) → f0 ≡ f → MayLead f → is_rebuild_failure f0 ≡ false
+unfailed_as f0 f same led = subst (λ (x : RebuildFault). is_rebuild_failure x ≡ false) (sym same) (led_unfailed f led)
+
+pub counts_unfailed : (b : Bool) (s t u w : ℕ) → b ≡ false → CountsAfter b s t u w → (t ≡ s) × (w ≡ u)
+counts_unfailed b s t u w is count = subst (λ (x : Bool). CountsAfter x s t u w) is count
+
+first_as : (v : List ℕ) (w w' : Which) (given : Option (List ℕ)) (total : ℕ) (random : List ℕ) (f0 f : RebuildFault) → w ≡ w' → f0 ≡ f
+    → IsAnsweredFault v w given total random f0 → IsAnsweredFault v w' given total random f
+first_as v w w' given total random f0 f same_which same said =
+    subst (λ (x : Which). IsAnsweredFault v x given total random f) same_which (subst (λ (x : RebuildFault). IsAnsweredFault v w given total random x) same said)
+
+led_there : (v : List ℕ) (w : Which) (given : Option (List ℕ)) (total : ℕ) (random : List ℕ) (f : RebuildFault) → MayLead f
+    → IsAnsweredFault v w given total random f → IsRebuildFault v w None 0 [] f
+led_there v w given total random NoMetadata led said = said.0
+led_there v w given total random Counts led said = said.0
+led_there v w given total random f led said = absurd led
+
+-- ---- in the place of LUKS2
+
+-- the volume lacks signs of a header, so that LUKS2's fault is the answer
+pub lacking_stays : (tells : Type 0) (luks1 : Given) (f : RebuildFault) (d : Pair) (a : Answer) → MayLead f
+    → IsLuks1Answer tells luks1 d (answer.Refused (refusal.Rebuild1 fault1.NoHeader)) → a ≡ rebuild_fault_answer f → Turned tells luks1 f d a
+lacking_stays tells luks1 f d a led said is = stays said.0 said.1 (λ told leads. (said.2 told).0) (is ∙ led_is f led)
+
+-- it doesn't lead there
+pub unled_stays : (tells : Type 0) (luks1 : Given) (f : RebuildFault) (d : Pair) (a : Answer) → MayLead f
+    → NoneFailed d → (tells → d.new ≡ d.old) → (tells → LeadsToLuks1 d.volume f → ⊥) → a ≡ rebuild_fault_answer f → Turned tells luks1 f d a
+unled_stays tells luks1 f d a led none same unled is = stays none same (λ told leads. absurd (unled told leads)) (is ∙ led_is f led)
+
+-- it is so of what has begun later
+pub turned_later : (tells : Type 0) (luks1 : Given) (f : RebuildFault) (d e : Pair) (a : Answer) → IsLater tells d e → Turned tells luks1 f d a → Turned tells luks1 f e a
+turned_later tells luks1 f d e a later (stays none same lacks is) =
+    stays (none_later tells d e later none) (same_later tells d e later same)
+    (λ told. subst (λ (v : List ℕ). LeadsToLuks1 v f → LacksHeader (header_of v) (length v)) (later.volume told) (lacks told)) is
+turned_later tells luks1 f d e a later (unread one is) = unread (one_later tells d e later one) is
+turned_later tells luks1 f d e a later (turns leads said has) =
+    turns (said_later tells d e (λ v n. LeadsToLuks1 v f) later leads) (luks1_later tells luks1 d e a later said) has
+
+-- what is answered of either version then
+turned_either : (tells : Type 0) (r : Rebuilding) (luks1 : Given) (random : List ℕ) (e : Pair) (f : RebuildFault) (a : Answer) → MayLead f
+    → (tells → IsAnsweredFault e.volume (which_of r) (given_of r) e.total random f) → Turned tells luks1 f e a → IsAnswerOf Either tells r luks1 random e a
+turned_either tells r luks1 random e f a led first (stays none same lacks is) =
     inl (
-      subst (IsLuks2Answer tells (which_of r) (given_of r) random e) (sym is)
-      (led_answer tells (which_of r) (given_of r) random e f led (none_later tells d e later none) (same_later tells d e later same) first),
-      λ told. subst (StaysLuks2 e.volume) (sym is) (subst (λ (v : List ℕ). LeadsToLuks1 v f → LacksHeader (header_of v) (length v)) (later.volume told) (lacks told)),
+      subst (IsLuks2Answer tells (which_of r) (given_of r) random e) (sym is) (led_answer tells (which_of r) (given_of r) random e f led none same first),
+      λ told. subst (StaysLuks2 e.volume) (sym is) (lacks told),
     )
-turned_answers tells r luks1 random d e f a led later first (unread one is) =
-    inl (
-      subst (IsLuks2Answer tells (which_of r) (given_of r) random e) (sym is) (one_later tells d e later one),
-      λ told. subst (StaysLuks2 e.volume) (sym is) tt,
-    )
-turned_answers tells r luks1 random d e f a led later first (turns leads said has) = inr (record {
-  fault = f;
-  first = first;
-  leads = said_later tells d e (λ v n. LeadsToLuks1 v f) later leads;
-  is = luks1_later tells luks1 d e a later said;
-  has_header = has;
-})
+turned_either tells r luks1 random e f a led first (unread one is) =
+    inl (subst (IsLuks2Answer tells (which_of r) (given_of r) random e) (sym is) one, λ told. subst (StaysLuks2 e.volume) (sym is) tt)
+turned_either tells r luks1 random e f a led first (turns leads said has) = inr (record { fault = f; first = first; leads = leads; is = said; has_header = has })
+
+pub turned_answers : (tells : Type 0) (r : Rebuilding) (luks1 : Given) (random : List ℕ) (d e : Pair) (w : Which) (f0 f : RebuildFault) (a : Answer) → MayLead f → w ≡ which_of r
+    → f0 ≡ f → IsLater tells d e → (tells → IsAnsweredFault e.volume w (given_of r) e.total random f0) → Turned tells luks1 f d a → IsAnswerOf Either tells r luks1 random e a
+turned_answers tells r luks1 random d e w f0 f a led same_which same later first turned =
+    turned_either tells r luks1 random e f a led (λ told. first_as e.volume w (which_of r) (given_of r) e.total random f0 f same_which same (first told))
+    (turned_later tells luks1 f d e a later turned)
 
 -- LUKS2 answers otherwise
-other_stays : (v : List ℕ) (f : RebuildFault) → f ≢ NoMetadata → f ≢ Counts → StaysLuks2 v (rebuild_fault_answer f)
+pub other_stays : (v : List ℕ) (f : RebuildFault) → (f ≡ NoMetadata → ⊥) → (f ≡ Counts → ⊥) → StaysLuks2 v (rebuild_fault_answer f)
 other_stays v NoMetadata a b = absurd (a refl)
 other_stays v Counts a b = absurd (b refl)
 other_stays v Memory a b = tt
@@ -167,8 +210,20 @@ turned_kinds tells luks1 f d a (stays none same lacks is) = subst (λ (x : Answe
 turned_kinds tells luks1 f d a (unread one is) = subst (λ (x : Answer). answer_status x ≢ NotInStep) (sym is) (λ e. cc)
 turned_kinds tells luks1 f d a (turns leads said has) = luks1_kinds tells luks1 d a said
 
+pub fault_kinds : (f : RebuildFault) → answer_status (rebuild_fault_answer f) ≢ NotInStep
+fault_kinds Device = λ e. cc
+fault_kinds Memory = λ e. cc
+fault_kinds f = λ e. cc
+
 -- which bytes have changed then
-pub turned_rest : (r : Rebuilding) (luks1 : Given) (f : RebuildFault) (v old new : List ℕ) → (f ≡ NoMetadata) ⊎ (f ≡ Counts)
-    → IsRebuildFault v (which_of r) None 0 [] f → IsTurnedRest luks1 f v old new → KeepsMeant Either r luks1 v old new
-turned_rest r luks1 f v old new led is (inl same) = inl (subst (λ (n : List ℕ). SameBut (IsOfRebuilt v (which_of r)) old n) (sym same) (same_but _ old))
-turned_rest r luks1 f v old new led is (inr x) = inr (record { fault = f; is = is; leads = x.0 }, x.1)
+turned_kept : (r : Rebuilding) (luks1 : Given) (f : RebuildFault) (v old new : List ℕ) → IsRebuildFault v (which_of r) None 0 [] f → IsTurnedRest luks1 f v old new
+    → KeepsMeant Either r luks1 v old new
+turned_kept r luks1 f v old new is (inl same) = inl (subst (λ (n : List ℕ). SameBut (IsOfRebuilt v (which_of r)) old n) (sym same) (same_but _ old))
+turned_kept r luks1 f v old new is (inr x) = inr (record { fault = f; is = is; leads = x.0 }, x.1)
+
+pub turned_rest : (r : Rebuilding) (luks1 : Given) (w : Which) (total : ℕ) (random : List ℕ) (f0 f : RebuildFault) (v v' old old' new : List ℕ) → MayLead f → w ≡ which_of r → f0 ≡ f
+    → v' ≡ v → old' ≡ old → IsAnsweredFault v w (given_of r) total random f0 → IsTurnedRest luks1 f v' old' new → KeepsMeant Either r luks1 v old new
+turned_rest r luks1 w total random f0 f v v' old old' new led same_which same same_v same_old first rest =
+    turned_kept r luks1 f v old new
+    (led_there v (which_of r) (given_of r) total random f led (first_as v w (which_of r) (given_of r) total random f0 f same_which same first))
+    (subst (λ (o : List ℕ). IsTurnedRest luks1 f v o new) same_old (subst (λ (x : List ℕ). IsTurnedRest luks1 f x old' new) same_v rest))

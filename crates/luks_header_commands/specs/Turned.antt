@@ -1,7 +1,8 @@
 -- What is answered and left where LUKS2 is refused by a fault: words of private contracts.
-use Rattle.std.specs.Prelude.{◌≡◌, ◌≢◌, ◌⊎◌, ℕ, List, length}
+use Rattle.std.specs.Prelude.{◌≡◌, ◌≢◌, ◌⊎◌, ℕ, List, length, ⊤}
 use Rattle.luks_copying.specs.TwoDevices.{IsOneFailure}
 use Rattle.luks_rebuilding.specs.declared.rebuild_fault.RebuildFault.{RebuildFault}
+use Rattle.luks_rebuilding.specs.declared.rebuild_fault.RebuildFault.TheVariants.{Counts, NoMetadata}
 use Rattle.luks1_mending.specs.declared.given.Given.{Given}
 use Rattle.luks1_rebuilding.specs.KeyAreas.{header_of}
 use Rattle.luks1_rebuilding.specs.Outcome.{LacksHeader}
@@ -11,6 +12,12 @@ use Rattle.luks_commands.specs.declared.answers.Answer.TheVariants.{Refused, Dev
 use Rattle.luks_commands.specs.declared.answers.Refusal.TheVariants.{Rebuild, Rebuild1}
 use Rattle.luks_header_commands.specs.Rebuilding.{IsLuks1Answer, KeepsRest1, LeadsToLuks1}
 use Rattle.luks_header_commands.specs.Target.{NoneFailed, Pair}
+
+-- the faults of LUKS2 that may lead to LUKS1
+abbrev pub MayLead : RebuildFault → Type 0
+MayLead NoMetadata = ⊤
+MayLead Counts = ⊤
+MayLead f = ⊥
 
 -- the fault is the answer, where it doesn't lead to LUKS1 or the volume lacks a header of it; or the volume's first bytes
 -- weren't read; or LUKS1 answers

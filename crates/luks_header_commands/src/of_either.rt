@@ -1,11 +1,11 @@
 //! A header of either version: of LUKS2's metadata, or else of LUKS1's fields.
-ghost use Rattle.std.specs.Prelude.{◌≡◌, ◌≢◌, ◌↔◌, ◌⊎◌, ◌+◌, ◌<◌, ◌^◌, IfOk, IsTrue, length};
+ghost use Rattle.std.specs.Prelude.{◌≡◌, ◌≢◌, ◌↔◌, ◌+◌, ◌<◌, ◌^◌, IfOk, IsTrue, length};
 ghost use Rattle.luks_area.specs.Device.{CountsFailure, IsSettled, IsUnchanged, is_failure};
 ghost use Rattle.luks1_header.specs.Header1.{luks1_size};
-ghost use Rattle.luks_commands.specs.Answer.{answer_status};
+ghost use Rattle.luks_commands.specs.Answer.{answer_status, rebuild_fault_answer};
 ghost use Rattle.luks_header_commands.specs.Rebuilding.{IsAnswerOf, KeepsMeant, Leads, LeadsToLuks1};
 ghost use Rattle.luks_header_commands.specs.Target.{pair_of};
-ghost use Rattle.luks_header_commands.specs.Turned.{IsTurnedRest, Turned};
+ghost use Rattle.luks_header_commands.specs.Turned.{IsTurnedRest, MayLead, Turned};
 ghost use Rattle.luks_request.specs.declared.rebuilding.Meant.TheVariants.{Either};
 
 use crate::header_work::{READING_FAILED, TARGET_FAILED};
@@ -52,16 +52,34 @@ pub(crate) fn make_of_either<D: Device, E: Write>(
             note_metadata(files, err);
             Answer::Done(None)
         }
-        Err(RebuildFault::NoMetadata) => {
-            turned(RebuildFault::NoMetadata, volume, target, making, given, err)
-        }
-        Err(RebuildFault::Counts) => {
-            turned(RebuildFault::Counts, volume, target, making, given, err)
-        }
-        Err(fault) if volume.failures() != before => {
-            not_of_metadata(fault, files.volume, READING_FAILED, making, random, err)
-        }
-        Err(fault) => not_of_metadata(fault, files.target, TARGET_FAILED, making, random, err),
+        Err(fault) => match fault {
+            RebuildFault::NoMetadata => {
+                turned(RebuildFault::NoMetadata, volume, target, making, given, err)
+            }
+            RebuildFault::Counts => {
+                turned(RebuildFault::Counts, volume, target, making, given, err)
+            }
+            fault => refused(fault, volume.failures() != before, making, random, err),
+        },
+    }
+}
+
+/// What is answered where LUKS2 is refused by another fault: where a device failed, it is the volume's or the
+/// target's.
+fn refused<E: Write>(
+    fault: RebuildFault,
+    is_source: bool,
+    making: &Making<'_>,
+    random: &[u8],
+    err: &mut E,
+) -> Answer
+    ensures { result ≡ rebuild_fault_answer fault }
+{
+    let files = making.files;
+    if is_source {
+        not_of_metadata(fault, files.volume, READING_FAILED, making, random, err)
+    } else {
+        not_of_metadata(fault, files.target, TARGET_FAILED, making, random, err)
     }
 }
 
@@ -78,7 +96,7 @@ fn turned<D: Device, E: Write>(
     requires volume_room { D.failed volume.old + 1 < 2 ^ 64 }
     requires target_room { D.failed target.old + 1 < 2 ^ 64 }
     requires settled { D.tells → IsSettled D.unsettled target.old }
-    requires fault { (fault ≡ RebuildFault.NoMetadata) ⊎ (fault ≡ RebuildFault.Counts) }
+    requires fault { MayLead fault }
     ensures unchanged { IsUnchanged D.tells D.size D.bytes D.unsettled volume.old volume.new }
     ensures size { D.size target.new ≡ D.size target.old }
     ensures rest { D.tells → IsTurnedRest given.now fault
@@ -108,7 +126,7 @@ fn instead<D: Device, E: Write>(
     requires volume_room { D.failed volume.old + 1 < 2 ^ 64 }
     requires target_room { D.failed target.old + 1 < 2 ^ 64 }
     requires settled { D.tells → IsSettled D.unsettled target.old }
-    requires fault { (fault ≡ RebuildFault.NoMetadata) ⊎ (fault ≡ RebuildFault.Counts) }
+    requires fault { MayLead fault }
     requires leads { D.tells → LeadsToLuks1 (D.bytes volume.old) fault }
     ensures unchanged { IsUnchanged D.tells D.size D.bytes D.unsettled volume.old volume.new }
     ensures size { D.size target.new ≡ D.size target.old }
