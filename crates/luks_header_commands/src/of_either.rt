@@ -59,7 +59,7 @@ pub(crate) fn make_of_either<D: Device, E: Write>(
             RebuildFault::Counts => {
                 turned(RebuildFault::Counts, volume, target, making, given, err)
             }
-            fault => refused(fault, volume.failures() != before, making, random, err),
+            _ => refused(fault, volume.failures() != before, making, random, err),
         },
     }
 }
