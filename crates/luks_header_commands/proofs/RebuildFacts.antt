@@ -1,5 +1,5 @@
 -- What `rebuild` answers, by what it met.
-use Rattle.std.proofs.Common.{◌≡◌, ◌≢◌, List, ℕ, Bool, false, Option, None, Some, refl, sym, subst, inl, inr, length, [], ◌∙◌}
+use Rattle.std.proofs.Common.{◌≡◌, ◌≢◌, List, ℕ, Bool, false, Option, None, refl, sym, subst, inl, inr, length, [], ◌∙◌}
 use Rattle.luks_area.specs.Ranges.{SameBut}
 use Rattle.luks_copying.specs.TwoDevices.{CountsAfter, IsOneFailure}
 use Rattle.luks_rebuilding.specs.RebuildFaults.{is_rebuild_failure}
@@ -21,7 +21,7 @@ use Rattle.luks_commands.specs.declared.answers.Answer.TheVariants as answer
 use Rattle.luks_commands.specs.declared.answers.Refusal.TheVariants as refusal
 use Rattle.luks_commands.specs.declared.answers.Status.TheVariants.{NotInStep}
 use Rattle.luks_commands.specs.Answer.{answer_status, rebuild_fault_answer, rebuild1_fault_answer}
-use Rattle.luks_header_commands.specs.Rebuilding.{given_of, which_of, IsAnswerOf, IsLuks1Answer, IsLuks2Answer, IsNewHeader1, KeepsMeant, LeadsToLuks1, StaysLuks2, TurnsToLuks1}
+use Rattle.luks_header_commands.specs.Rebuilding.{given_of, which_of, IsAnswerOf, IsLuks1Answer, IsLuks2Answer, IsNewHeader1, KeepsMeant, LeadsToLuks1, StaysLuks2}
 use Rattle.luks_header_commands.specs.Target.{NoneFailed, Pair}
 use Rattle.luks_header_commands.specs.Turned.{stays, turns, unread, IsTurnedRest, MayLead, Turned}
 

@@ -1,6 +1,5 @@
 use Rattle.std.proofs.Common.{refl, sym, subst}
 use Rattle.luks1_rebuilding.specs.RebuildFaults.{is_rebuild_failure}
-use Rattle.luks_header_commands.specs.Target.{pair_of}
 use Rattle.luks_header_commands.specs.Rebuilding.{IsLuks1Answer}
 use Rattle.luks_header_commands.proofs.RebuildFacts.{answers_fault1}
 use Rattle.luks_header_commands.proofs.TargetFacts.{settled_by}
