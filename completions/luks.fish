@@ -118,10 +118,15 @@ complete -c luks -n '__fish_seen_subcommand_from convert' -l offset -x -d 'The b
 complete -c luks -n '__fish_seen_subcommand_from convert' -l length -x -d 'How many bytes the volume has'
 complete -c luks -n '__fish_seen_subcommand_from convert' -l quiet -d 'No hints on standard error'
 
-complete -c luks -n __fish_use_subcommand -a rebuild -d 'Make a LUKS2 header of metadata that is still whole'
+complete -c luks -n __fish_use_subcommand -a rebuild -d 'Make a header of what is still whole of a damaged one'
 complete -c luks -n '__fish_seen_subcommand_from rebuild' -F
 complete -c luks -n '__fish_seen_subcommand_from rebuild' -l random -r -F -d 'The file of the random bytes'
-complete -c luks -n '__fish_seen_subcommand_from rebuild' -l second -d 'Take the metadata of a second copy'
+complete -c luks -n '__fish_seen_subcommand_from rebuild' -l second -d 'LUKS2: take the metadata of a second copy'
+complete -c luks -n '__fish_seen_subcommand_from rebuild' -l size -x -a '16384 32768 65536 131072 262144 524288 1048576 2097152 4194304' -d 'LUKS2: take that of a copy of so many bytes'
+complete -c luks -n '__fish_seen_subcommand_from rebuild' -l cipher -x -a 'aes-xts-plain64 aes-cbc-essiv:sha256' -d 'LUKS1: the cipher'
+complete -c luks -n '__fish_seen_subcommand_from rebuild' -l hash -x -a 'sha1 sha256 sha512' -d 'LUKS1: the hash'
+complete -c luks -n '__fish_seen_subcommand_from rebuild' -l key-bytes -x -a '16 32 64' -d 'LUKS1: how long the volume key is'
+complete -c luks -n '__fish_seen_subcommand_from rebuild' -l payload -x -d 'LUKS1: where the data begins'
 complete -c luks -n '__fish_seen_subcommand_from rebuild' -l uuid -x -d 'The uuid of the new header'
 complete -c luks -n '__fish_seen_subcommand_from rebuild' -l offset -x -d 'The byte of the file where the volume begins'
 complete -c luks -n '__fish_seen_subcommand_from rebuild' -l length -x -d 'How many bytes the volume has'

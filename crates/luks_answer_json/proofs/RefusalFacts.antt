@@ -35,6 +35,9 @@ use Rattle.luks_converting.specs.FaultTexts.{convert_fault_text}
 use Rattle.luks_rebuilding.specs.declared.rebuild_fault.RebuildFault.{RebuildFault}
 use Rattle.luks_rebuilding.specs.declared.rebuild_fault.RebuildFault.TheVariants as rebuilding
 use Rattle.luks_rebuilding.specs.FaultTexts.{rebuild_fault_text}
+use Rattle.luks1_rebuilding.specs.declared.rebuild_fault.Rebuild1Fault.{Rebuild1Fault}
+use Rattle.luks1_rebuilding.specs.declared.rebuild_fault.Rebuild1Fault.TheVariants as rebuilding1
+use Rattle.luks1_rebuilding.specs.FaultTexts.{rebuild_fault_text as rebuild1_fault_text}
 use Rattle.luks_keeping.specs.declared.backup_fault.BackupFault.{BackupFault}
 use Rattle.luks_keeping.specs.declared.backup_fault.BackupFault.TheVariants as backing_up
 use Rattle.luks_keeping.specs.declared.restore_fault.RestoreFault.{RestoreFault}
@@ -159,6 +162,16 @@ rebuild_parts rebuilding.RandomLength = bare (codes "RandomLength") refl
 rebuild_parts rebuilding.Memory = bare (codes "Memory") refl
 rebuild_parts rebuilding.Device = bare (codes "Device") refl
 
+rebuild1_parts : (f : Rebuild1Fault) → HasParts (rebuild1_fault_text f)
+rebuild1_parts rebuilding1.Counts = bare (codes "Counts") refl
+rebuild1_parts rebuilding1.NoHeader = bare (codes "NoHeader") refl
+rebuild1_parts (rebuilding1.Text t) = around (codes "Text") (field_text t) refl
+rebuild1_parts rebuilding1.KeyBytes = bare (codes "KeyBytes") refl
+rebuild1_parts rebuilding1.Iterations = around (codes "Iterations") (codes "Digest") refl
+rebuild1_parts rebuilding1.TooSmall = bare (codes "TooSmall") refl
+rebuild1_parts (rebuilding1.Area f) = area_parts f
+rebuild1_parts rebuilding1.Device = bare (codes "Device") refl
+
 backup_parts : (f : BackupFault) → HasParts (backup_fault_text f)
 backup_parts (backing_up.NotAccepted f) = check_parts f
 backup_parts backing_up.TooSmall = bare (codes "TooSmall") refl
@@ -181,6 +194,7 @@ refusal_parts (refusal.Edit f) = edit_parts f
 refusal_parts (refusal.Format f) = format_parts f
 refusal_parts (refusal.Convert f) = convert_parts f
 refusal_parts (refusal.Rebuild f) = rebuild_parts f
+refusal_parts (refusal.Rebuild1 f) = rebuild1_parts f
 refusal_parts (refusal.Backup f) = backup_parts f
 refusal_parts (refusal.Restore f) = restore_parts f
 refusal_parts refusal.SameFile = bare (codes "SameFile") refl

@@ -65,6 +65,7 @@ fault_number fault.DoesNotFit = 47
 fault_number fault.OtherVolume = 48
 fault_number fault.OtherUse = 49
 fault_number fault.SameSlot = 50
+fault_number fault.NoHeader = 51
 
 -- the fault of this number, if there is one
 abbrev pub fault_numbered : ℕ → Option Fault

@@ -98,6 +98,7 @@ pub(crate) fn number_of(fault: Fault) -> u32
         Fault::OtherVolume => 48,
         Fault::OtherUse => 49,
         Fault::SameSlot => 50,
+        Fault::NoHeader => 51,
     }
 }
 

@@ -16,8 +16,8 @@ ghost use Rattle.luks_commands.specs.Formatting.{needed, SaysFormat, WhereFormat
 ghost use Rattle.luks_commands.specs.OpenAnswers.{AnswersOpen, kib_of, WhereOpen};
 ghost use Rattle.luks_show_command.specs.ShowAnswers.{AnswersShow, WhereShow};
 ghost use Rattle.luks_header_commands.specs.Converting.{AnswersConvert, KeepsRest, random_count, WhereConvert};
-ghost use Rattle.luks_header_commands.specs.Rebuilding.{AnswersRebuild, given_of, KeepsRest as KeepsOthers};
-ghost use Rattle.luks_header_commands.specs.Rebuilding.{random_count as rebuild_count, which_of, WhereRebuild};
+ghost use Rattle.luks_header_commands.specs.Rebuilding.{AnswersRebuild, KeepsRest as KeepsOthers};
+ghost use Rattle.luks_header_commands.specs.Rebuilding.{random_count as rebuild_count, WhereRebuild};
 ghost use Rattle.luks_header_commands.specs.Target.{AreOneFile, IsSameFile, LeavesTarget, SettlesTarget};
 ghost use Rattle.luks_header_commands.specs.Target.{UnlessBeside};
 ghost use Rattle.luks_keeping_commands.specs.BackingUp.{AnswersBackup, KeepsRest as KeepsBesideBackup, WhereBackup};
@@ -110,14 +110,13 @@ pub fn execute<D: Device, R: Read, N: Read, P: Printer, E: Write>(
         (P.failures out.old) (P.failures out.new) (P.printed out.old) (P.printed out.new) result) }
     ensures rebuilt { WhereRebuild line.now.command (λ rebuilding.
         (AreOneFile line.now.volume.now rebuilding.target.now inputs.old.target → ⊥)
-        → Prints (AnswersRebuild D.tells D.size D.bytes D.failed
-        (which_of rebuilding.second) (given_of rebuilding)
+        → Prints (AnswersRebuild D.tells D.size D.bytes D.failed rebuilding
         (IsUnreadRandom rebuild_count inputs.old.random)
         (AreFirstBytes rebuild_count N.remaining inputs.old.random)
         inputs.old.volume inputs.new.volume inputs.old.target inputs.new.target)
         (P.failures out.old) (P.failures out.new) (P.printed out.old) (P.printed out.new) result) }
     ensures rebuilt_rest { WhereRebuild line.now.command (λ rebuilding. LeavesTarget D.tells
-        D.size D.bytes (KeepsOthers (which_of rebuilding.second))
+        D.size D.bytes (KeepsOthers rebuilding)
         inputs.old.volume inputs.old.target inputs.new.target) }
     ensures settles_rebuilt { WhereRebuild line.now.command (λ _. SettlesTarget D.tells D.failed
         D.unsettled inputs.old.volume inputs.new.volume inputs.old.target inputs.new.target) }

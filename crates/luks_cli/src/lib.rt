@@ -13,8 +13,8 @@ pub use luks_commands::{
     first_bytes, first_line, open,
 };
 pub use luks_request::{
-    BackingUp, Command, Comparing, Converting, EditRequest, Editing, Line, Making, NewVersion,
-    Rebuilding, Restoring, ShowAs,
+    BackingUp, Command, Comparing, Converting, EditRequest, Editing, Line, Luks1Fields, Making,
+    Meant, NewVersion, Rebuilding, Restoring, ShowAs,
 };
 pub use luks_signatures::OtherUse;
 pub use luks_volume::Data;

@@ -21,6 +21,9 @@ use Rattle.luks_converting.specs.FaultTexts.{convert_fault_text}
 use Rattle.luks_rebuilding.specs.declared.rebuild_fault.RebuildFault.{RebuildFault}
 use Rattle.luks_rebuilding.specs.declared.rebuild_fault.RebuildFault.TheVariants as rebuilding
 use Rattle.luks_rebuilding.specs.FaultTexts.{rebuild_fault_text}
+use Rattle.luks1_rebuilding.specs.declared.rebuild_fault.Rebuild1Fault.{Rebuild1Fault}
+use Rattle.luks1_rebuilding.specs.declared.rebuild_fault.Rebuild1Fault.TheVariants as rebuilding1
+use Rattle.luks1_rebuilding.specs.FaultTexts.{rebuild_fault_text as rebuild1_fault_text}
 use Rattle.luks_keeping.specs.ComparisonTexts.{comparison_text, is_current}
 use Rattle.luks_keeping.specs.declared.backup_fault.BackupFault.{BackupFault}
 use Rattle.luks_keeping.specs.declared.backup_fault.BackupFault.TheVariants as backing_up
@@ -59,6 +62,7 @@ refusal_text (refusal.Edit f) = edit_fault_text f
 refusal_text (refusal.Format f) = format_fault_text f
 refusal_text (refusal.Convert f) = convert_fault_text f
 refusal_text (refusal.Rebuild f) = rebuild_fault_text f
+refusal_text (refusal.Rebuild1 f) = rebuild1_fault_text f
 refusal_text (refusal.Backup f) = backup_fault_text f
 refusal_text (refusal.Restore f) = restore_fault_text f
 refusal_text refusal.SameFile = codes "SameFile"
@@ -141,6 +145,10 @@ abbrev pub rebuild_fault_answer : RebuildFault → Answer
 rebuild_fault_answer rebuilding.Device = DeviceFault
 rebuild_fault_answer rebuilding.Memory = NoMemory
 rebuild_fault_answer f = Refused (refusal.Rebuild f)
+
+abbrev pub rebuild1_fault_answer : Rebuild1Fault → Answer
+rebuild1_fault_answer rebuilding1.Device = DeviceFault
+rebuild1_fault_answer f = Refused (refusal.Rebuild1 f)
 
 abbrev pub backup_fault_answer : BackupFault → Answer
 backup_fault_answer backing_up.Device = DeviceFault

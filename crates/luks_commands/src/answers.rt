@@ -3,7 +3,7 @@ ghost use Rattle.std.specs.Prelude.{◌≡◌, ◌≢◌, ◌+◌, ◌<◌, ◌^
 ghost use Rattle.luks_commands.specs.Answer.{answer_status, backup_fault_answer, check_fault_answer};
 ghost use Rattle.luks_commands.specs.Answer.{convert_fault_answer, edit_fault_answer, restore_fault_answer};
 ghost use Rattle.luks_commands.specs.Answer.{format_fault_answer, IsPrinted, line_of, open_fault_answer};
-ghost use Rattle.luks_commands.specs.Answer.{rebuild_fault_answer, refusal_text, unread_answer};
+ghost use Rattle.luks_commands.specs.Answer.{rebuild_fault_answer, rebuild1_fault_answer, refusal_text, unread_answer};
 
 use crate::inputs::InputFault;
 use crate::printer::{Printer, Unprinted};
@@ -14,6 +14,7 @@ use luks_keeping::{BackupFault, Comparison, RestoreFault};
 use luks_map::HeaderMap;
 use luks_reading::{CheckFault, Copies, OpenFault, Version};
 use luks_rebuilding::RebuildFault;
+use luks1_rebuilding::Rebuild1Fault;
 use luks_show::{FullListing, Listing, copies_name};
 use luks_signatures::OtherUse;
 use std::fmt;
@@ -50,6 +51,8 @@ pub enum Refusal {
     Convert(ConvertFault),
     /// No header is made of the volume's metadata.
     Rebuild(RebuildFault),
+    /// No header is made of what still stands of a LUKS1 header.
+    Rebuild1(Rebuild1Fault),
     /// No backup of the volume's header is made.
     Backup(BackupFault),
     /// The backup isn't put back onto the volume.
@@ -74,6 +77,7 @@ impl fmt::Display for Refusal {
             Refusal::Format(fault) => write!(f, "{fault}"),
             Refusal::Convert(fault) => write!(f, "{fault}"),
             Refusal::Rebuild(fault) => write!(f, "{fault}"),
+            Refusal::Rebuild1(fault) => write!(f, "{fault}"),
             Refusal::Backup(fault) => write!(f, "{fault}"),
             Refusal::Restore(fault) => write!(f, "{fault}"),
             Refusal::SameFile => f.write_str("SameFile"),
@@ -260,6 +264,17 @@ impl From<RebuildFault> for Answer {
             RebuildFault::Device => Answer::DeviceFault,
             RebuildFault::Memory => Answer::NoMemory,
             fault => Answer::Refused(Refusal::Rebuild(fault)),
+        }
+    }
+}
+
+impl From<Rebuild1Fault> for Answer {
+    ghost from_gives = { λ fault answer. answer ≡ rebuild1_fault_answer fault };
+
+    fn from(fault: Rebuild1Fault) -> Answer {
+        match fault {
+            Rebuild1Fault::Device => Answer::DeviceFault,
+            fault => Answer::Refused(Refusal::Rebuild1(fault)),
         }
     }
 }

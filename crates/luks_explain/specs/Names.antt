@@ -55,6 +55,7 @@ name_of fault.NotLuks1 = codes "NotLuks1"
 name_of fault.SameFile = codes "SameFile"
 name_of fault.Counts = codes "Counts"
 name_of fault.NoMetadata = codes "NoMetadata"
+name_of fault.NoHeader = codes "NoHeader"
 name_of fault.Exists = codes "Exists"
 name_of fault.NotAccepted = codes "NotAccepted"
 name_of fault.DoesNotFit = codes "DoesNotFit"
@@ -109,6 +110,7 @@ all_faults =
     ∷ fault.SameFile
     ∷ fault.Counts
     ∷ fault.NoMetadata
+    ∷ fault.NoHeader
     ∷ fault.Exists
     ∷ fault.NotAccepted
     ∷ fault.DoesNotFit
@@ -167,6 +169,7 @@ named fault.NotLuks1 = refl
 named fault.SameFile = refl
 named fault.Counts = refl
 named fault.NoMetadata = refl
+named fault.NoHeader = refl
 named fault.Exists = refl
 named fault.NotAccepted = refl
 named fault.DoesNotFit = refl

@@ -98,6 +98,8 @@ pub enum Fault {
     Counts,
     /// Of rebuild: no metadata of SOURCE is whole.
     NoMetadata,
+    /// Of rebuild: SOURCE has no signs of a LUKS1 header.
+    NoHeader,
     /// Of backup: FILE is there and isn't empty.
     Exists,
     /// Of restore: check --detached refuses FILE.
@@ -123,7 +125,7 @@ impl Fault {
     /// Every fault: of the header, the metadata of LUKS2, the areas, the keyslot that is to be opened,
     /// then of an edit, of formatting, of converting, of rebuilding and of header backups, and at last of
     /// another use of the disk.
-    pub const ALL: [Fault; 50] = [
+    pub const ALL: [Fault; 51] = [
         Fault::TooShort,
         Fault::NotLuks,
         Fault::Version,
@@ -169,6 +171,7 @@ impl Fault {
         Fault::SameFile,
         Fault::Counts,
         Fault::NoMetadata,
+        Fault::NoHeader,
         Fault::Exists,
         Fault::NotAccepted,
         Fault::DoesNotFit,
@@ -194,8 +197,8 @@ impl Fault {
             JsonArea BadJson NotWhole Shape Kind NoSuchName Assigned Sizes AreaTooSmall Region
             Outside Overlap NoSuchSlot SameSlot SlotFree Argon2 Cipher Hash KeySize Locked Passphrase
             Requirements SlotTaken NoFreeSlot NoRoom LastSlot BadLabel SeqExhausted MetadataFull
-            RandomLength TooSmall NotLuks1 SameFile Counts NoMetadata Exists NotAccepted DoesNotFit OtherVolume
-            OtherUse
+            RandomLength TooSmall NotLuks1 SameFile Counts NoMetadata NoHeader Exists NotAccepted DoesNotFit
+            OtherVolume OtherUse
         )
     }
 

@@ -49,6 +49,7 @@ pub(crate) fn means(fault: Fault) -> &'static str {
         Fault::SameFile => "TARGET is SOURCE, or FILE is VOLUME",
         Fault::Counts => "of rebuild: a header of SOURCE counts",
         Fault::NoMetadata => "of rebuild: no metadata of SOURCE is whole",
+        Fault::NoHeader => "of rebuild: SOURCE has no signs of a LUKS1 header",
         Fault::Exists => "of backup: FILE is there and isn't empty",
         Fault::NotAccepted => "of restore: check --detached refuses FILE",
         Fault::DoesNotFit => "of restore: check would refuse VOLUME with this header",
@@ -138,7 +139,14 @@ pub(crate) fn place(fault: Fault) -> &'static str {
        by the same words or two names"
         }
         Fault::Counts => "rebuild: SOURCE",
-        Fault::NoMetadata => "rebuild: each copy's JSON area in SOURCE",
+        Fault::NoMetadata => {
+            "rebuild: each copy's JSON area in SOURCE, or those that --second and
+       --size name"
+        }
+        Fault::NoHeader => {
+            "rebuild: the first 592 bytes of SOURCE, where --cipher, --hash,
+       --key-bytes or --payload means LUKS1"
+        }
         Fault::Exists => "backup: FILE, without --over",
         Fault::NotAccepted => {
             "NotAccepted(FAULT), of restore and compare: FILE; FAULT is what check
@@ -226,6 +234,7 @@ pub(crate) fn safe(fault: Fault) -> &'static str {
         | Fault::SameFile
         | Fault::Counts
         | Fault::NoMetadata
+        | Fault::NoHeader
         | Fault::Exists
         | Fault::NotAccepted
         | Fault::DoesNotFit
@@ -247,13 +256,13 @@ pub(crate) fn next(fault: Fault) -> &'static str {
         Fault::NotLuks => {
             "see whether it is the right device: a partition of a disk's image begins
        further in; luks rebuild makes a header where luks check says that
-       metadata is whole; of LUKS1 after wipefs put the magic back, on a copy of
-       the header; else restore a header backup"
+       metadata is whole, and of what is left of one of LUKS1, as after wipefs;
+       else restore a header backup"
         }
         Fault::Version => {
-            "of LUKS1 put \\0\\1 back at byte 6, on a copy of the header; of LUKS2 more
-       is damaged, as by a partition table: luks rebuild makes a header where
-       luks check says that metadata is whole; else restore a header backup"
+            "luks rebuild makes a header of what is left of one of LUKS1, and of LUKS2
+       where luks check says that metadata is whole; else restore a header
+       backup"
         }
         Fault::NoSoundCopy => {
             "see whether the image is whole; read a disk that fails again, to an
@@ -261,22 +270,28 @@ pub(crate) fn next(fault: Fault) -> &'static str {
        whole; else restore a header backup (no repair helps)"
         }
         Fault::Text => {
-            "of LUKS1 put the text back on a copy of the header, as aes at byte 8,
-       xts-plain64 at 40, sha256 at 72, with zeros behind it, and try luks open;
-       else restore a header backup"
+            "of LUKS1 luks rebuild makes a header with the text that --cipher, --hash
+       or --uuid gives, mostly aes-xts-plain64 and sha256; else restore a header
+       backup"
         }
         Fault::Uuid => "set it anew: cryptsetup luksUUID VOLUME --uuid UUID",
         Fault::SlotState => {
             "if the keyslot is in use, put \\0\\254\\161\\363 back there, on a copy of the
        header; if it is free, or a partition table was written over the header
-       (SlotState(5)), let cryptsetup repair it, on a copy first"
+       (SlotState(5)), luks rebuild makes a header in which it is disabled"
         }
-        Fault::KeyBytes => "restore a header backup",
+        Fault::KeyBytes => {
+            "luks rebuild with --key-bytes 64, or 32, makes a header: luks open tells
+       whether it is right; else restore a header backup"
+        }
         Fault::Stripes => {
-            "if the keyslot is free, let cryptsetup repair it, on a copy of the header
-       first; if it is in use, restore a header backup"
+            "luks rebuild makes a header in which the keyslot is disabled, and the
+       others stay; if it is in use, restore a header backup"
         }
-        Fault::Iterations => "restore a header backup; alone: give --iterations 1000 or more",
+        Fault::Iterations => {
+            "with Slot(N) luks rebuild makes a header in which it is disabled; with
+       Digest restore a header backup; alone: give --iterations 1000 or more"
+        }
         Fault::JsonArea
         | Fault::BadJson
         | Fault::NotWhole
@@ -304,10 +319,10 @@ pub(crate) fn next(fault: Fault) -> &'static str {
        before that"
         }
         Fault::Overlap => {
-            "of a header alone say --detached; luks show lists the places: put back
-       the wrong one, on a copy of the header; where key-bytes isn't 64 or 32
-       (LUKS1, 4 bytes at 108) put that back: it makes every area as long; else
-       restore a header backup"
+            "of a header alone say --detached; luks show lists the places; of LUKS1
+       luks rebuild makes a header without the wrong one, or with --key-bytes 64
+       or 32 where that is wrong: it makes every area as long; else restore a
+       header backup"
         }
         Fault::NoSuchSlot => "luks show lists the keyslots that there are",
         Fault::SameSlot => "leave --by out: --slot's own passphrase removes it, or name another",
@@ -357,8 +372,19 @@ pub(crate) fn next(fault: Fault) -> &'static str {
         }
         Fault::NotLuks1 => "nothing is to be converted: luks opens it as it is",
         Fault::SameFile => "give a file of its own as TARGET: truncate -s 16M TARGET makes one",
-        Fault::Counts => "luks opens it as it is; luks repair writes both copies anew",
-        Fault::NoMetadata => "a backup of the header, by luks restore",
+        Fault::Counts => {
+            "luks opens it as it is, luks repair writes both copies anew; for the
+       metadata of an older header say --second or --size"
+        }
+        Fault::NoMetadata => {
+            "where it was of LUKS1 name a field of it, as --cipher aes-xts-plain64;
+       else a backup of the header, by luks restore"
+        }
+        Fault::NoHeader => {
+            "see that it is the right device, and where it begins (luks find); of
+       LUKS2 leave these options out; else a backup of the header, by luks
+       restore"
+        }
         Fault::Exists => "name a new file; or say --over, where that backup isn't needed any more",
         Fault::NotAccepted => {
             "luks check FILE --detached, and luks explain FAULT; or take another

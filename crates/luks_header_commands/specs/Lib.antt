@@ -1,3 +1,4 @@
 pub mod Target
 pub mod Converting
 pub mod Rebuilding
+pub mod Turned

@@ -4,4 +4,9 @@
 
 pub mod convert;
 mod header_work;
+mod of_either;
+mod of_fields;
+mod of_metadata;
 pub mod rebuild;
+
+pub use of_metadata::which_of;

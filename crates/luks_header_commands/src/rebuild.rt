@@ -1,27 +1,36 @@
 //! The command `rebuild`.
-ghost use Rattle.std.specs.Prelude.{◌≡◌, ◌≢◌, ◌+◌, ◌<◌, ◌^◌, IfErr, refl};
+ghost use Rattle.std.specs.Prelude.{◌≡◌, ◌≢◌, ◌+◌, ◌<◌, ◌^◌, IfErr, option_map, refl};
+ghost use Rattle.std.proofs.Common.{inl};
 ghost use Rattle.std.specs.Result.{ForOk};
-ghost use Rattle.luks_area.specs.Device.{IsSettled};
-ghost use Rattle.luks_commands.specs.Answer.{rebuild_fault_answer, Prints};
+ghost use Rattle.luks_area.specs.Device.{IsSettled, IsUnchanged};
+ghost use Rattle.luks_commands.specs.Answer.{answer_status, Prints};
 ghost use Rattle.luks_commands.specs.Exit.{IsExitStatus};
 ghost use Rattle.luks_commands.specs.Files.{AreFirstBytes, IsUnreadRandom, KeepsVolume};
-ghost use Rattle.luks_header_commands.specs.Rebuilding.{AnswersRebuild, given_of, IsRebuildAnswer, KeepsRest};
-ghost use Rattle.luks_header_commands.specs.Rebuilding.{random_count, which_of};
-ghost use Rattle.luks_header_commands.specs.Target.{AreOneFile, IsSameFile, LeavesTarget, SettlesTarget};
+ghost use Rattle.luks_header_commands.specs.Rebuilding.{AnswersRebuild, IsAnswerOf, IsFieldOf, IsGiven, IsInField};
+ghost use Rattle.luks_header_commands.specs.Rebuilding.{IsRebuildAnswer, KeepsMeant, KeepsRest};
+ghost use Rattle.luks_header_commands.specs.Rebuilding.{random_count};
+ghost use Rattle.luks_header_commands.specs.Target.{AreOneFile, IsSameFile, LeavesTarget, pair_of, SettlesTarget};
 
-use crate::header_work::{HeaderFiles, HeaderWork, READING_FAILED, TARGET_FAILED, make_header};
-use luks_commands::{
-    Answer, Inputs, Printer, RandomBytes, Refusal, device_fault, end, few_random_bytes,
-};
+use crate::header_work::{HeaderFiles, HeaderWork, make_header};
+use crate::of_either::make_of_either;
+use crate::of_fields::make_of_fields;
+use crate::of_metadata::make_of_metadata;
+use arrayvec::ArrayString;
+use luks_commands::{Answer, Inputs, Printer, Status, end};
 use luks_reading::Device;
-use luks_rebuilding::{REBUILD_RANDOM, RebuildFault, Which, rebuild};
-use luks_request::{Place, Rebuilding};
+use luks_rebuilding::REBUILD_RANDOM;
+use luks_request::{Meant, Place, Rebuilding};
+use luks1_rebuilding::Given;
 use std::alloc::Global;
 use std::io::{Read, Write};
 
-/// Makes a detached LUKS2 header out of metadata that is still whole in the volume of this name, at this
-/// place of it, on the target, and prints that it is done; answers the exit status. The random bytes
-/// are read last.
+/// Makes a detached header out of what is still whole in the volume of this name, at this place of it, on
+/// the target, and prints that it is done; answers the exit status. The random bytes are read last, also
+/// where LUKS1 is meant, which takes none.
+///
+/// Where neither version is meant LUKS2's metadata comes first. LUKS1 answers where none is whole and the
+/// volume doesn't begin as a LUKS2 header, or where a LUKS1 header counts, accepted or not; but where the
+/// volume has no signs of one, LUKS2's answer stays.
 pub fn run<D: Device, R: Read, N: Read, P: Printer, E: Write>(
     alloc: Global,
     inputs: &mut Inputs<D, R, N>,
@@ -38,7 +47,7 @@ pub fn run<D: Device, R: Read, N: Read, P: Printer, E: Write>(
     ensures unchanged { KeepsVolume D.tells D.size D.bytes D.unsettled
         inputs.old.volume inputs.new.volume }
     ensures rest { LeavesTarget D.tells D.size D.bytes
-        (KeepsRest (which_of rebuilding.now.second))
+        (KeepsRest rebuilding.now)
         inputs.old.volume inputs.old.target inputs.new.target }
     ensures settled { SettlesTarget D.tells D.failed D.unsettled
         inputs.old.volume inputs.new.volume inputs.old.target inputs.new.target }
@@ -49,8 +58,7 @@ pub fn run<D: Device, R: Read, N: Read, P: Printer, E: Write>(
         → (inputs.new ≡ inputs.old) × Prints IsSameFile
         (P.failures out.old) (P.failures out.new) (P.printed out.old) (P.printed out.new) result }
     ensures answers { (AreOneFile name.now rebuilding.now.target.now inputs.old.target → ⊥)
-        → Prints (AnswersRebuild D.tells D.size D.bytes D.failed
-        (which_of rebuilding.now.second) (given_of rebuilding.now)
+        → Prints (AnswersRebuild D.tells D.size D.bytes D.failed rebuilding.now
         (IsUnreadRandom random_count inputs.old.random)
         (AreFirstBytes random_count N.remaining inputs.old.random)
         inputs.old.volume inputs.new.volume inputs.old.target inputs.new.target)
@@ -73,16 +81,17 @@ pub fn run<D: Device, R: Read, N: Read, P: Printer, E: Write>(
 
 /// The making of a header as this asks, by these files.
 #[derive(Debug, Clone, Copy)]
-struct Making<'a> {
-    files: &'a HeaderFiles<'a>,
-    rebuilding: Rebuilding<'a>,
+pub(crate) struct Making<'a> {
+    /// The files.
+    pub(crate) files: &'a HeaderFiles<'a>,
+    /// What is asked for.
+    pub(crate) rebuilding: Rebuilding<'a>,
 }
 
 impl HeaderWork for Making<'_> {
-    ghost keeps_rest = { λ work. KeepsRest (which_of work.rebuilding.second) };
+    ghost keeps_rest = { λ work. KeepsRest work.rebuilding };
 
-    ghost may_answer = { λ work tells random d a. IsRebuildAnswer tells
-        (which_of work.rebuilding.second) (given_of work.rebuilding) random d a };
+    ghost may_answer = { λ work tells random d a. IsRebuildAnswer tells work.rebuilding random d a };
 
     fn run<D: Device, E: Write>(
         &self,
@@ -92,63 +101,76 @@ impl HeaderWork for Making<'_> {
         random: &[u8],
         err: &mut E,
     ) -> Answer {
-        let files = self.files;
-        let before = volume.failures();
-        let given = RandomBytes {
-            file: Some(files.random),
-            needed: files.needed,
-            bytes: random,
-        };
-        let which = which_of(self.rebuilding.second);
-        match rebuild(alloc, volume, target, which, self.rebuilding.uuid, random) {
-            Ok(()) => {
-                note_next(files, err);
-                Answer::Done(None)
-            }
-            Err(fault) if volume.failures() != before => {
-                not_rebuilt(fault, files.volume, READING_FAILED, &given, err)
-            }
-            Err(fault) => not_rebuilt(fault, files.target, TARGET_FAILED, &given, err),
-        }
+        let given = given_of(&self.rebuilding);
+        let meant = self.rebuilding.meant();
+        make_meant(alloc, volume, target, meant, self, &given, random, err)
     }
 
-    ghost rest_of_same = { λ work volume target. record { length_same = refl; each = λ p apart. refl } };
+    ghost rest_of_same = { λ work volume target. inl refl };
 }
 
-/// What is answered where this fault ended it by these random bytes. Where a device failed,
-/// it is that of the file of this name.
-fn not_rebuilt<E: Write>(
-    fault: RebuildFault,
-    file: &str,
-    failed: &str,
-    random: &RandomBytes<'_>,
+/// Makes a header of the version that is meant.
+fn make_meant<D: Device, E: Write>(
+    alloc: Global,
+    volume: &mut D,
+    target: &mut D,
+    meant: Meant,
+    making: &Making<'_>,
+    given: &Given,
+    random: &[u8],
     err: &mut E,
 ) -> Answer
-    ensures { result ≡ rebuild_fault_answer fault }
+    requires volume_room { D.failed volume.old + 1 < 2 ^ 64 }
+    requires target_room { D.failed target.old + 1 < 2 ^ 64 }
+    requires settled { D.tells → IsSettled D.unsettled target.old }
+    ensures unchanged { IsUnchanged D.tells D.size D.bytes D.unsettled volume.old volume.new }
+    ensures size { D.size target.new ≡ D.size target.old }
+    ensures rest { D.tells → KeepsMeant meant making.now.rebuilding given.now
+        (D.bytes volume.old) (D.bytes target.old) (D.bytes target.new) }
+    ensures settled { D.tells → D.failed volume.new ≡ D.failed volume.old
+        → D.failed target.new ≡ D.failed target.old → IsSettled D.unsettled target.new }
+    ensures kinds { answer_status result ≢ Status.NotInStep }
+    ensures answers { IsAnswerOf meant D.tells making.now.rebuilding given.now random.now (pair_of
+        D.size D.bytes D.failed volume.old volume.new target.old target.new) result }
 {
-    match fault {
-        RebuildFault::Device => device_fault(file, failed, err),
-        RebuildFault::RandomLength => few_random_bytes(Refusal::Rebuild(fault), random, err),
-        fault => Answer::from(fault),
+    match meant {
+        Meant::Luks1 => make_of_fields(volume, target, making.files, given, err),
+        Meant::Luks2 => make_of_metadata(alloc, volume, target, making, random, err),
+        Meant::Either => make_of_either(alloc, volume, target, making, given, random, err),
     }
 }
 
-/// Which copies the words of the command line ask for.
-fn which_of(second: bool) -> Which
-    ensures { result ≡ which_of second }
+/// What is given of the fields of a LUKS1 header, each in its place.
+fn given_of(rebuilding: &Rebuilding<'_>) -> Given
+    ensures { IsGiven rebuilding.now result }
 {
-    if second { Which::Second } else { Which::Any }
+    Given {
+        cipher_name: in_field(rebuilding.luks1.cipher_name),
+        cipher_mode: in_field(rebuilding.luks1.cipher_mode),
+        hash: in_field(rebuilding.luks1.hash),
+        key_bytes: rebuilding.luks1.key_bytes,
+        payload: rebuilding.luks1.payload,
+        uuid: in_field(rebuilding.uuid),
+    }
 }
 
-/// Says what the header lacks, and how the payload is opened by it.
-fn note_next<E: Write>(files: &HeaderFiles<'_>, err: &mut E) {
-    let (device, target) = (files.payload_device(), files.target);
-    let _ = writeln!(
-        err,
-        "luks: the label is empty; luks show {target} lists the keyslots"
-    );
-    let _ = writeln!(
-        err,
-        "luks: cryptsetup open --header {target} {device} NAME opens it"
-    );
+/// The text in its place, if one is given.
+fn in_field<const N: usize>(text: Option<&str>) -> Option<ArrayString<N>>
+    ensures { IsFieldOf N (option_map (λ t. t.now) text.entry) result }
+{
+    match text {
+        Some(text) => Some(fitting(text)),
+        None => None,
+    }
+}
+
+/// The text, where it fits; else an empty one, which isn't usable either.
+fn fitting<const N: usize>(text: &str) -> ArrayString<N>
+    ensures { IsInField N text.now result.bytes }
+{
+    let mut owned = ArrayString::new();
+    if text.len() <= N {
+        owned.push_str(text);
+    }
+    owned
 }

@@ -1,3 +1,4 @@
+use crate::fields::wrong_field;
 use crate::manner::{Manner, manner_of};
 use crate::program::program;
 use crate::requests::{line_of, search_of};
@@ -34,6 +35,9 @@ pub fn parse<'a>(alloc: Global, words: &'a [&'a str]) -> Result<Asked<'a>, Error
             return Err(fault);
         }
     };
+    if let Some(text) = mistake_in(&matches) {
+        return Err(program.error(ErrorKind::ValueValidation, text)?);
+    }
     match asked_by(&matches) {
         Some(asked) => Ok(asked),
         None => Err(program.error(ErrorKind::MissingSubcommand, "no command was given")?),
@@ -58,6 +62,14 @@ pub fn line<'a>(alloc: Global, words: &'a [&'a str]) -> Result<Line<'a>, Error> 
             let mut program = program(alloc, true)?;
             Err(program.error(ErrorKind::InvalidSubcommand, "no volume was named")?)
         }
+    }
+}
+
+/// What is wrong in the words of a command, beside what `clap` judges.
+fn mistake_in(matches: &ArgMatches<'_>) -> Option<&'static str> {
+    match matches.subcommand()? {
+        ("rebuild", given) => wrong_field(given),
+        _ => None,
     }
 }
 

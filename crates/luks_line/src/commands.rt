@@ -235,6 +235,11 @@ static COMMANDS: [Described; 11] = [
         options: &[
             LongOption::NeededRandom,
             LongOption::Second,
+            LongOption::Size,
+            LongOption::Cipher,
+            LongOption::GivenHash,
+            LongOption::KeyBytes,
+            LongOption::Payload,
             LongOption::Uuid,
             LongOption::Offset,
             LongOption::Length,

@@ -270,11 +270,11 @@ nothing is written but with --over.
 Prints one line:
   done           the keyslot is removed
   refused FAULT  the first fault, and nothing was written: what check refuses,
-                 OtherUse (as above), Requirements, NoSuchSlot, Locked (the
-                 passphrase doesn't open it), Argon2, Cipher, Hash, KeySize,
-                 LastSlot, SeqExhausted, MetadataFull, RandomLength (of LUKS2,
-                 the random file is too short or none is named), or Passphrase
-                 (it is too long)
+                 OtherUse (as above), Requirements, NoSuchSlot, SameSlot (--by
+                 is --slot), Locked (the passphrase doesn't open it), Argon2,
+                 Cipher, Hash, KeySize, LastSlot, SeqExhausted, MetadataFull,
+                 RandomLength (of LUKS2, the random file is too short or none is
+                 named), or Passphrase (it is too long)
   device fault   a file can't be read, or the volume read or written
   no memory      memory was refused; nothing was written
 
@@ -423,20 +423,29 @@ Exit status:
   2  the command line is wrong; the text is on standard error
   4  device fault, no memory, or the output can't be written";
 
-pub(crate) const REBUILD: &str = "Makes a LUKS2 header of metadata that is still whole";
+pub(crate) const REBUILD: &str = "Makes a header of what is still whole of a damaged one";
 
 pub(crate) const REBUILD_MORE: &str = "\
 Where check says NotLuks or NoSoundCopy of a LUKS2 volume, its metadata and key
 areas may still be whole: a partition table, mkswap or a flipped byte spoils the
-binary headers alone. A detached header is made of the metadata and written to
-TARGET, which has to be there and to reach as far as SOURCE's key areas may.
-SOURCE is only read. Each passphrase opens the same keyslot of TARGET.
+binary headers alone. Of a LUKS1 header the fields and keyslots are kept that
+meet their rules. A detached header is made of either and written to TARGET,
+which has to be there and to reach as far as SOURCE's key areas may. SOURCE is
+only read. Each passphrase opens the same keyslot of TARGET.
 
-The metadata that is taken is the first that is whole: of a first copy by its
-size, else of a second one by its size. Written are, with a flush after each:
-the area of each keyslot, at its place; then the second copy of the header, and
-the first. No other byte is. The label is empty. Salts and a new uuid are the
-first 144 bytes of the random file, and no more are read. Give it /dev/urandom.
+LUKS2 comes first: the metadata that a checksum vouches for, else the first that
+is whole, of a first copy by its size, else of a second one by its size. By
+--second and --size another is taken, also where a header counts. LUKS1 is meant
+by --cipher, --hash, --key-bytes and --payload, each of which wins over what
+stands; and without them where no metadata is whole, or where SOURCE begins with
+a LUKS1 header, if that has signs of one. A keyslot that breaks its rules is
+disabled there.
+
+Written are, with a flush after each: zeros over the first 512 bytes of both
+copies' places, of LUKS1 0 and 16384; the area of each keyslot, at its place;
+then of LUKS2 the second copy of the header, and the first, of LUKS1 the header.
+No other byte is. Salts and a new uuid of LUKS2 are the first 144 bytes of the
+random file, and no more are read. Give it /dev/urandom.
 
 Prints one line:
   done           the header is made; standard error tells how cryptsetup opens
@@ -445,7 +454,10 @@ Prints one line:
                  SOURCE), Counts (a header of SOURCE counts: use it, or luks
                  repair), NoMetadata (none is whole), Outside or Overlap (its
                  areas in SOURCE), TooSmall (TARGET is), Uuid (that of --uuid),
-                 RandomLength (the random file is too short)
+                 RandomLength (the random file is too short); of LUKS1 NoHeader
+                 (it has no signs of one), Text(FIELD) or KeyBytes (nothing
+                 usable stands there, or was given), Iterations(Digest) (they
+                 are lost), TooSmall and Overlap (the new areas in TARGET)
   device fault   a file can't be read, SOURCE read, or TARGET read or written
   no memory      memory was refused; nothing was written
 

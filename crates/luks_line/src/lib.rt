@@ -5,6 +5,7 @@
 mod choices;
 mod command_line;
 mod commands;
+mod fields;
 mod helps;
 mod manner;
 mod operands;
@@ -18,8 +19,8 @@ mod takes;
 
 pub use command_line::{Asked, line, parse};
 pub use luks_request::{
-    BackingUp, Command, Comparing, Converting, EditRequest, Editing, Line, Making, NewVersion,
-    Place, Rebuilding, Restoring, ShowAs,
+    BackingUp, Command, Comparing, Converting, EditRequest, Editing, Line, Luks1Fields, Making,
+    Meant, NewVersion, Place, Rebuilding, Restoring, ShowAs,
 };
 pub use manner::Manner;
 pub use search::Search;

@@ -48,7 +48,7 @@ static OPERANDS: [OperandRow; 10] = [
     OperandRow {
         name: "SOURCE",
         needed: true,
-        help: "The LUKS2 volume, or its detached header",
+        help: "The damaged volume, or its detached header",
     },
     OperandRow {
         name: "TARGET",

@@ -35,6 +35,11 @@ pub(crate) enum LongOption {
     Other,
     RemovedSlot,
     By,
+    Size,
+    Cipher,
+    GivenHash,
+    KeyBytes,
+    Payload,
 }
 
 impl LongOption {
@@ -52,7 +57,7 @@ pub(crate) struct OptionRow {
 }
 
 /// In the order of `LongOption`.
-static OPTIONS: [OptionRow; 29] = [
+static OPTIONS: [OptionRow; 34] = [
     OptionRow {
         name: "detached",
         needed: false,
@@ -152,13 +157,13 @@ static OPTIONS: [OptionRow; 29] = [
     OptionRow {
         name: "second",
         needed: false,
-        help: "Take the metadata of a second copy",
-        takes: Takes::Nothing,
+        help: "LUKS2: take the metadata of a second copy",
+        takes: Takes::SecondCopy,
     },
     OptionRow {
         name: "uuid",
         needed: false,
-        help: "The uuid of the new header; else SOURCE's, or a new one",
+        help: "The new header's uuid; else SOURCE's, or a new one",
         takes: Takes::Uuid,
     },
     OptionRow {
@@ -226,5 +231,35 @@ static OPTIONS: [OptionRow; 29] = [
         needed: false,
         help: "The one that the passphrase opens; else --slot",
         takes: Takes::Slot,
+    },
+    OptionRow {
+        name: "size",
+        needed: false,
+        help: "LUKS2: take that of a copy of so many bytes",
+        takes: Takes::CopySize,
+    },
+    OptionRow {
+        name: "cipher",
+        needed: false,
+        help: "LUKS1: the cipher, as aes-xts-plain64",
+        takes: Takes::Cipher,
+    },
+    OptionRow {
+        name: "hash",
+        needed: false,
+        help: "LUKS1: the hash, as sha256",
+        takes: Takes::Name,
+    },
+    OptionRow {
+        name: "key-bytes",
+        needed: false,
+        help: "LUKS1: how long the volume key is, 1 to 128",
+        takes: Takes::KeyBytes,
+    },
+    OptionRow {
+        name: "payload",
+        needed: false,
+        help: "LUKS1: where the data begins, in sectors of 512",
+        takes: Takes::Sector,
     },
 ];

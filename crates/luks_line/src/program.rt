@@ -96,6 +96,9 @@ fn positional<'a>(alloc: Global, operand: &OperandRow) -> Arg<'a> {
         .help(operand.help)
 }
 
+/// The options of `rebuild` that mean a LUKS1 header, and go with none that names a copy of a LUKS2 header.
+const LUKS1_FIELDS: &[&str] = &["cipher", "hash", "key-bytes", "payload"];
+
 fn long_option<'a>(alloc: Global, option: &OptionRow) -> Result<Arg<'a>, AllocError> {
     let arg = Arg::new(alloc, option.name)
         .long(option.name)
@@ -104,6 +107,7 @@ fn long_option<'a>(alloc: Global, option: &OptionRow) -> Result<Arg<'a>, AllocEr
     let arg = taking(arg, option.takes);
     match option.takes {
         Takes::Form => arg.group("form"),
+        Takes::SecondCopy | Takes::CopySize => arg.conflicts_with_all(LUKS1_FIELDS),
         _ => Ok(arg),
     }
 }

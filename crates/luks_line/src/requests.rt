@@ -1,5 +1,6 @@
 //! What the words of a command line ask for, once `clap` has told them apart.
 
+use crate::fields::fields_of;
 use crate::search::Search;
 use clap::ArgMatches;
 use luks_kdf::HashName;
@@ -166,7 +167,9 @@ fn rebuilding_of<'a>(given: &ArgMatches<'a>) -> Option<Rebuilding<'a>> {
         target: given.get_str("TARGET")?,
         random: given.get_str("random")?,
         second: given.get_flag("second"),
+        size: given.get_one::<u64>("size"),
         uuid: given.get_str("uuid"),
+        luks1: fields_of(given),
     })
 }
 

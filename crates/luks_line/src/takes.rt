@@ -29,23 +29,42 @@ pub(crate) enum Takes {
     Offset,
     /// A number of bytes.
     Bytes,
+    /// No value, and it names a copy of a LUKS2 header.
+    SecondCopy,
+    /// How many bytes a copy of a LUKS2 header has.
+    CopySize,
+    /// A cipher's name and mode, with a hyphen between.
+    Cipher,
+    /// The name of a hash, which this program needn't know.
+    Name,
+    /// The length of a volume key in bytes.
+    KeyBytes,
+    /// A sector, by its number.
+    Sector,
 }
+
+/// The lengths that a copy of a LUKS2 header may have (LUKS2 On-Disk Format 1.1, 2.1).
+static COPY_SIZES: [&str; 9] = [
+    "16384", "32768", "65536", "131072", "262144", "524288", "1048576", "2097152", "4194304",
+];
 
 impl Takes {
     pub(crate) fn action(self) -> ArgAction {
         match self {
-            Takes::Nothing | Takes::Form => ArgAction::SetTrue,
+            Takes::Nothing | Takes::Form | Takes::SecondCopy => ArgAction::SetTrue,
             _ => ArgAction::Set,
         }
     }
 
     pub(crate) fn parser(self) -> ValueParser<'static> {
         match self {
-            Takes::Nothing | Takes::Form => ValueParser::Bool,
-            Takes::File | Takes::Uuid => ValueParser::String,
+            Takes::Nothing | Takes::Form | Takes::SecondCopy => ValueParser::Bool,
+            Takes::File | Takes::Uuid | Takes::Cipher | Takes::Name => ValueParser::String,
             Takes::Slot => ValueParser::Unsigned(0, 31),
             Takes::Memory => ValueParser::Unsigned(0, 4194303),
-            Takes::Iterations => ValueParser::Unsigned(0, 4294967295),
+            Takes::Iterations | Takes::Sector => ValueParser::Unsigned(0, 4294967295),
+            Takes::KeyBytes => ValueParser::Unsigned(1, 128),
+            Takes::CopySize => ValueParser::Names(&COPY_SIZES),
             Takes::Offset | Takes::Bytes => ValueParser::Unsigned(0, u64::MAX),
             Takes::Version => ValueParser::Names(&["1", "2"]),
             Takes::Hash => ValueParser::Names(HashName::NAMES),
@@ -55,14 +74,17 @@ impl Takes {
     /// What the help calls its value: one name, or none where it takes no value.
     pub(crate) fn names(self) -> &'static [&'static str] {
         match self {
-            Takes::Nothing | Takes::Form => &[],
+            Takes::Nothing | Takes::Form | Takes::SecondCopy => &[],
             Takes::File => &["FILE"],
-            Takes::Slot | Takes::Iterations => &["N"],
+            Takes::Slot | Takes::Iterations | Takes::KeyBytes => &["N"],
             Takes::Memory => &["MIB"],
             Takes::Version => &["VERSION"],
             Takes::Hash => &["HASH"],
             Takes::Uuid => &["TEXT"],
-            Takes::Offset | Takes::Bytes => &["BYTES"],
+            Takes::Offset | Takes::Bytes | Takes::CopySize => &["BYTES"],
+            Takes::Cipher => &["NAME-MODE"],
+            Takes::Name => &["NAME"],
+            Takes::Sector => &["SECTOR"],
         }
     }
 
@@ -79,6 +101,6 @@ impl Takes {
 
     /// Whether the help doesn't list the values, since its text names them.
     pub(crate) fn hides(self) -> bool {
-        matches!(self, Takes::Hash)
+        matches!(self, Takes::Hash | Takes::CopySize)
     }
 }

@@ -6,6 +6,11 @@ use Rattle.luks_head.specs.declared.selection.Copies.TheVariants.{InStep, FirstN
 use Rattle.luks_request.specs.declared.request.Command.{Command}
 use Rattle.luks_request.specs.declared.request.Command.TheVariants as command
 use Rattle.luks_request.specs.declared.request.Making.{Making}
+use Rattle.luks1_mending.specs.declared.given.Given.{Given as GivenFields}
+use Rattle.luks_request.specs.Meant.{meant_by}
+use Rattle.luks_request.specs.declared.rebuilding.Meant.{Meant}
+use Rattle.luks_request.specs.declared.rebuilding.Meant.TheVariants as meant
+use Rattle.luks_request.specs.declared.rebuilding.Rebuilding.{Rebuilding}
 use Rattle.luks_request.specs.declared.request.ShowAs.{ShowAs}
 use Rattle.luks_request.specs.declared.request.ShowAs.TheVariants as form
 use Rattle.luks_commands.specs.declared.answers.Answer.{Answer}
@@ -22,7 +27,7 @@ use Rattle.luks_commands.specs.FormatAnswers.{AnswersFormat, IsFormatAnswer}
 use Rattle.luks_rebuilding.specs.declared.place.Which.{Which}
 use Rattle.luks_show_command.specs.ShowAnswers.{AnswersShow, IsFullAnswer, IsJsonAnswer, IsListedAnswer, IsMapAnswer, IsShowAnswer}
 use Rattle.luks_header_commands.specs.Converting.{AnswersConvert, IsConvertAnswer}
-use Rattle.luks_header_commands.specs.Rebuilding.{AnswersRebuild, IsRebuildAnswer}
+use Rattle.luks_header_commands.specs.Rebuilding.{given_of, which_of, AnswersRebuild, IsAnswerOf, IsLuks1Answer, IsLuks2Answer, IsRebuildAnswer}
 use Rattle.luks_header_commands.specs.Target.{AnswersHeader, IsSameFile, Pair}
 use Rattle.luks_keeping.specs.ComparisonTexts.{is_current}
 use Rattle.luks_keeping.specs.declared.backup_fault.BackupFault.TheVariants as backing_up
@@ -241,18 +246,35 @@ pub convert_ends : {D : Type 0} (tells : Type 0) (size : D → ℕ) (bytes : D �
 convert_ends tells size bytes failed payload unread HasRandom volume volume_new old new a said =
     header_ends EndsConvert refl refl tells size bytes failed (IsConvertAnswer tells payload) (convert_there tells payload) unread HasRandom volume volume_new old new a said
 
-rebuild_there : (tells : Type 0) (which : Which) (given : Option (List ℕ)) (random : List ℕ) (d : Pair) (a : Answer) → IsRebuildAnswer tells which given random d a → EndsRebuild a (own a)
-rebuild_there tells which given random d (Done slot) said = (said.1, refl)
-rebuild_there tells which given random d (Refused (refusal.Rebuild f)) said = refl
-rebuild_there tells which given random d DeviceFault said = refl
-rebuild_there tells which given random d NoMemory said = refl
-rebuild_there tells which given random d a said = absurd said
+luks2_there : (tells : Type 0) (which : Which) (given : Option (List ℕ)) (random : List ℕ) (d : Pair) (a : Answer) → IsLuks2Answer tells which given random d a → EndsRebuild a (own a)
+luks2_there tells which given random d (Done slot) said = (said.1, refl)
+luks2_there tells which given random d (Refused (refusal.Rebuild f)) said = refl
+luks2_there tells which given random d DeviceFault said = refl
+luks2_there tells which given random d NoMemory said = refl
+luks2_there tells which given random d a said = absurd said
 
-pub rebuild_ends : {D : Type 0} (tells : Type 0) (size : D → ℕ) (bytes : D → List ℕ) (failed : D → ℕ) (which : Which) (given : Option (List ℕ)) (unread : InputFault → Type 0)
+luks1_there : (tells : Type 0) (given : GivenFields) (d : Pair) (a : Answer) → IsLuks1Answer tells given d a → EndsRebuild a (own a)
+luks1_there tells given d (Done slot) said = (said.1, refl)
+luks1_there tells given d (Refused (refusal.Rebuild1 f)) said = refl
+luks1_there tells given d DeviceFault said = refl
+luks1_there tells given d a said = absurd said
+
+-- by what is meant
+meant_there : (of : Meant) (tells : Type 0) (r : Rebuilding) (given : GivenFields) (random : List ℕ) (d : Pair) (a : Answer) → IsAnswerOf of tells r given random d a
+    → EndsRebuild a (own a)
+meant_there meant.Luks1 tells r given random d a said = luks1_there tells given d a said
+meant_there meant.Luks2 tells r given random d a said = luks2_there tells (which_of r) (given_of r) random d a said
+meant_there meant.Either tells r given random d a (inl said) = luks2_there tells (which_of r) (given_of r) random d a said.0
+meant_there meant.Either tells r given random d a (inr said) = luks1_there tells given d a said.is
+
+rebuild_there : (tells : Type 0) (r : Rebuilding) (random : List ℕ) (d : Pair) (a : Answer) → IsRebuildAnswer tells r random d a → EndsRebuild a (own a)
+rebuild_there tells r random d a said = meant_there (meant_by r) tells r said.given random d a said.says
+
+pub rebuild_ends : {D : Type 0} (tells : Type 0) (size : D → ℕ) (bytes : D → List ℕ) (failed : D → ℕ) (r : Rebuilding) (unread : InputFault → Type 0)
     (HasRandom : List ℕ → Type 0) (volume volume_new old new : Result D InputFault) (a : Answer)
-    → AnswersRebuild tells size bytes failed which given unread HasRandom volume volume_new old new a → EndsRebuild a (own a)
-rebuild_ends tells size bytes failed which given unread HasRandom volume volume_new old new a said =
-    header_ends EndsRebuild refl refl tells size bytes failed (IsRebuildAnswer tells which given) (rebuild_there tells which given) unread HasRandom volume volume_new old new a said
+    → AnswersRebuild tells size bytes failed r unread HasRandom volume volume_new old new a → EndsRebuild a (own a)
+rebuild_ends tells size bytes failed r unread HasRandom volume volume_new old new a said =
+    header_ends EndsRebuild refl refl tells size bytes failed (IsRebuildAnswer tells r) (rebuild_there tells r) unread HasRandom volume volume_new old new a said
 
 -- both files are one
 pub converted_same_file_ends : (a : Answer) → IsSameFile a → EndsConvert a (own a)

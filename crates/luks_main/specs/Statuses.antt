@@ -73,6 +73,7 @@ EndsConvert answer status = EndsAny answer status
 abbrev pub EndsRebuild : Answer → ℕ → Type 0
 EndsRebuild (Done slot) status = (slot ≡ None) × (status ≡ 0)
 EndsRebuild (Refused (refusal.Rebuild fault)) status = status ≡ 1
+EndsRebuild (Refused (refusal.Rebuild1 fault)) status = status ≡ 1
 EndsRebuild (Refused refusal.SameFile) status = status ≡ 1
 EndsRebuild answer status = EndsAny answer status
 

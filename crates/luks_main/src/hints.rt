@@ -9,10 +9,11 @@ use luks_area::Device;
 use luks_cli::{Command, Line, OtherUse, note_other_use, note_overwritten, standing_use};
 use luks_explain::{Fault, refusing};
 use luks_files::{Volume, WHOLE, reopened};
+use luks_header_commands::which_of;
 use luks_leftovers::{FrontFault, header_end, leftovers, note_leftovers, read_front};
 use luks_metadata_notes::{note_no_keyslots, note_taken, note_whole};
 use luks_rebuilding::Which;
-use luks_request::Place;
+use luks_request::{Meant, Place};
 use luks_signatures::first_use;
 use std::alloc::Global;
 use std::fs::File;
@@ -143,7 +144,9 @@ fn tell_more<R: AllocGlobal + Clock + Files<File = File>>(
             tell_leftovers(rt, Looked::at_whole(converting.target), notes)
         }
         (Command::Rebuild(rebuilding), 0) => {
-            tell_taken(rt, volume, rebuilding.second, notes);
+            if rebuilding.meant() != Meant::Luks1 {
+                tell_taken(rt, volume, which_of(&rebuilding), notes);
+            }
             tell_leftovers(rt, Looked::at_whole(rebuilding.target), notes);
         }
         (Command::Check { data_: _ }, 3) => tell_other_use(rt, volume, notes),
@@ -195,17 +198,16 @@ fn tell_other_use<R: AllocGlobal + Clock + Files<File = File>>(
     note_other_use(rt.alloc(), &mut device, looked.file, notes);
 }
 
-/// Notes of which metadata of the volume a header was made, that of second copies alone or of any.
+/// Notes of which metadata of the volume a header was made, of the copies that were asked for.
 fn tell_taken<R: AllocGlobal + Clock + Files<File = File>>(
     rt: &R,
     looked: Looked<'_>,
-    second: bool,
+    which: Which,
     notes: &mut Vec<u8>,
 ) {
     let Some(mut device) = reopened(rt, looked.file, looked.place) else {
         return;
     };
-    let which = if second { Which::Second } else { Which::Any };
     note_taken(rt.alloc(), &mut device, which, notes);
 }
 

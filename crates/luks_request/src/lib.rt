@@ -8,5 +8,5 @@ mod request;
 
 pub use keeping::{BackingUp, Comparing, Restoring};
 pub use place::Place;
-pub use rebuilding::Rebuilding;
+pub use rebuilding::{Luks1Fields, Meant, Rebuilding};
 pub use request::{Command, Converting, EditRequest, Editing, Line, Making, NewVersion, ShowAs};

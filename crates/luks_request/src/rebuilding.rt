@@ -1,4 +1,6 @@
 //! What the command that rebuilds is asked for.
+ghost use Rattle.std.specs.Prelude.{◌≡◌, ◌↔◌, IsTrue, true};
+ghost use Rattle.luks_request.specs.Meant.{meant_by, names_field, names_place};
 
 /// What is made by rebuilding, and of which files.
 #[derive(Debug, Clone, Copy, PartialEq, Eq)]
@@ -7,8 +9,64 @@ pub struct Rebuilding<'a> {
     pub target: &'a str,
     /// The file of the random bytes.
     pub random: &'a str,
-    /// Whether the metadata of a second copy is asked for.
+    /// Whether the metadata of a second copy of a LUKS2 header is asked for.
     pub second: bool,
+    /// How many bytes the copy of a LUKS2 header has whose metadata is asked for; without it any.
+    pub size: Option<u64>,
     /// The uuid of the new header; without one it is the volume's, or a new one.
     pub uuid: Option<&'a str>,
+    /// What else is given of a LUKS1 header.
+    pub luks1: Luks1Fields<'a>,
+}
+
+/// What is given of a LUKS1 header's fields, beside the uuid: each wins over what stands.
+#[derive(Debug, Clone, Copy, PartialEq, Eq)]
+pub struct Luks1Fields<'a> {
+    /// The name of the cipher.
+    pub cipher_name: Option<&'a str>,
+    /// The cipher's mode.
+    pub cipher_mode: Option<&'a str>,
+    /// The hash.
+    pub hash: Option<&'a str>,
+    /// The length of the volume key in bytes.
+    pub key_bytes: Option<u32>,
+    /// Where the payload begins, in sectors of 512 bytes.
+    pub payload: Option<u32>,
+}
+
+/// Of which version the header is that is meant.
+#[derive(Debug, Clone, Copy, PartialEq, Eq)]
+pub enum Meant {
+    /// LUKS1: a field that it alone has is given.
+    Luks1,
+    /// LUKS2: a copy is named by its place or its size.
+    Luks2,
+    /// Either.
+    Either,
+}
+
+impl Rebuilding<'_> {
+    /// Of which version the header is that is meant.
+    pub fn meant(&self) -> Meant
+        ensures { result ≡ meant_by self.now }
+    {
+        if names_field(&self.luks1) {
+            Meant::Luks1
+        } else if self.second || self.size.is_some() {
+            Meant::Luks2
+        } else {
+            Meant::Either
+        }
+    }
+}
+
+/// Whether a field is given that a LUKS1 header alone has.
+fn names_field(given: &Luks1Fields<'_>) -> bool
+    ensures { result ≡ names_field given.now }
+{
+    given.cipher_name.is_some()
+        || given.cipher_mode.is_some()
+        || given.hash.is_some()
+        || given.key_bytes.is_some()
+        || given.payload.is_some()
 }

@@ -45,8 +45,8 @@ pub enum Command<'a> {
     Format(Making<'a>),
     /// Make a detached LUKS2 header of the volume, which stays as it is.
     Convert(Converting<'a>),
-    /// Make a detached LUKS2 header out of metadata that is still whole in the volume, which stays as
-    /// it is.
+    /// Make a detached header out of what is still whole in the volume, which stays as it is: of LUKS2
+    /// of its metadata, of LUKS1 of its fields and keyslots.
     Rebuild(Rebuilding<'a>),
     /// Copy the volume's header and key areas to a file.
     Backup(BackingUp<'a>),

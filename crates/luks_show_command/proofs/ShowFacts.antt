@@ -31,7 +31,7 @@ use Rattle.luks_map.specs.Map.{IsMap}
 use Rattle.luks_show.specs.declared.listing.Listing.TheVariants.{Luks1, Luks2}
 use Rattle.luks_commands.specs.declared.answers.Answer.{Answer}
 use Rattle.luks_commands.specs.declared.answers.Answer.TheVariants.{Accepted, Listed, ListedFully, Mapped, Json, Opens, Closed, NoneOpens, Done, Compared, Refused, DeviceFault, NoMemory}
-use Rattle.luks_commands.specs.declared.answers.Refusal.TheVariants.{LongPassphrase, Check, Open, Edit, Format, Convert, Rebuild, Backup, Restore, SameFile, Exists, OtherUse}
+use Rattle.luks_commands.specs.declared.answers.Refusal.TheVariants.{LongPassphrase, Check, Open, Edit, Format, Convert, Rebuild, Rebuild1, Backup, Restore, SameFile, Exists, OtherUse}
 use Rattle.luks_commands.specs.Answer.{check_fault_answer}
 use Rattle.luks_show_command.specs.ShowAnswers.{IsBeforeAreas, IsAsJson, IsAsMap, IsFirstShowFault, IsFullAnswer, IsInFull, IsJsonAnswer, IsListedAnswer, IsMapAnswer, IsShowAnswer, IsShowFault, IsShown, IsShownAs}
 
@@ -144,6 +144,7 @@ json_answer tells v before after (Refused (Edit f)) a made is = absurd is
 json_answer tells v before after (Refused (Format f)) a made is = absurd is
 json_answer tells v before after (Refused (Convert f)) a made is = absurd is
 json_answer tells v before after (Refused (Rebuild f)) a made is = absurd is
+json_answer tells v before after (Refused (Rebuild1 f)) a made is = absurd is
 json_answer tells v before after (Refused (Backup f)) a made is = absurd is
 json_answer tells v before after (Refused (Restore f)) a made is = absurd is
 json_answer tells v before after (Refused SameFile) a made is = absurd is
@@ -173,6 +174,7 @@ full_answer tells v before after (Refused (Edit f)) a made is = absurd is
 full_answer tells v before after (Refused (Format f)) a made is = absurd is
 full_answer tells v before after (Refused (Convert f)) a made is = absurd is
 full_answer tells v before after (Refused (Rebuild f)) a made is = absurd is
+full_answer tells v before after (Refused (Rebuild1 f)) a made is = absurd is
 full_answer tells v before after (Refused (Backup f)) a made is = absurd is
 full_answer tells v before after (Refused (Restore f)) a made is = absurd is
 full_answer tells v before after (Refused SameFile) a made is = absurd is
@@ -203,6 +205,7 @@ map_answer total tells v before after (Refused (Edit f)) a long made is = absurd
 map_answer total tells v before after (Refused (Format f)) a long made is = absurd is
 map_answer total tells v before after (Refused (Convert f)) a long made is = absurd is
 map_answer total tells v before after (Refused (Rebuild f)) a long made is = absurd is
+map_answer total tells v before after (Refused (Rebuild1 f)) a long made is = absurd is
 map_answer total tells v before after (Refused (Backup f)) a long made is = absurd is
 map_answer total tells v before after (Refused (Restore f)) a long made is = absurd is
 map_answer total tells v before after (Refused SameFile) a long made is = absurd is

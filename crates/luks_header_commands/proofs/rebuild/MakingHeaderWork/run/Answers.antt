@@ -1,43 +1,21 @@
-use Rattle.std.proofs.Common.{refl, sym, subst}
-use Rattle.luks_rebuilding.specs.declared.place.Which.{Which}
-use Rattle.luks_commands.specs.Answer.{rebuild_fault_answer}
-use Rattle.luks_commands.specs.declared.answers.Answer.TheVariants.{Done}
-use Rattle.std.specs.Prelude.{None}
+use Rattle.std.proofs.Common.{inr, subst}
+use Rattle.luks_request.specs.declared.rebuilding.Meant.{Meant}
+use Rattle.luks_header_commands.specs.Rebuilding.{IsAnswerOf, KeepsMeant}
 use Rattle.luks_header_commands.specs.Target.{pair_of}
-use Rattle.luks_header_commands.specs.Rebuilding.{given_of, which_of, IsRebuildAnswer}
-use Rattle.luks_rebuilding.specs.RebuildFaults.{is_rebuild_failure}
-use Rattle.luks_header_commands.proofs.RebuildFacts.{answers_fault}
-use Rattle.luks_header_commands.proofs.TargetFacts.{settled_by}
 use Rattle.luks_header_commands.proofs.rebuild.MakingHeaderWork.run.Goals as goal
 
-pub returns-in-Ok-clause-answers : goal.returns-in-Ok-clause-answers
-returns-in-Ok-clause-answers g c =
-    subst (λ (w : Which). IsRebuildAnswer g.D.Device.tells w (given_of c.args.self.now.rebuilding) c.args.random.now (pair_of g.D.Device.size g.D.Device.bytes g.D.Device.failed c.args.volume.now c.rebuild.new.source c.args.target.now c.rebuild.new.target) (Done None)) c.which_of-which.ensures (
-      c.in-Ok.ensures.count,
-      refl,
-      c.in-Ok.ensures.faultless,
-      λ told. record {
-        rebuilt = c.in-Ok.ensures.rebuilt told told;
-        well_formed = c.in-Ok.ensures.well_formed told told;
-        opens = c.in-Ok.ensures.opens told told;
-      },
-    )
+pub returns-clause-rest : goal.returns-clause-rest
+returns-clause-rest g c = λ told. inr (record {
+  given = c.given_of-given.result;
+  is = c.given_of-given.ensures;
+  keeps = subst (λ (m : Meant). KeepsMeant m c.args.self.now.rebuilding c.given_of-given.result (g.D.Device.bytes c.args.volume.now) (g.D.Device.bytes c.args.target.now) (g.D.Device.bytes c.make_meant.new.target))
+  c.meant-meant.ensures (c.make_meant.ensures.rest told);
+})
 
-pub returns-in-Err-clause-answers : goal.returns-in-Err-clause-answers
-returns-in-Err-clause-answers g c =
-    subst (IsRebuildAnswer g.D.Device.tells (which_of c.args.self.now.rebuilding.second) (given_of c.args.self.now.rebuilding) c.args.random.now (pair_of g.D.Device.size g.D.Device.bytes g.D.Device.failed c.args.volume.now c.rebuild.new.source c.args.target.now c.rebuild.new.target)) (sym c.not_rebuilt.ensures)
-    (subst (λ (w : Which). IsRebuildAnswer g.D.Device.tells w (given_of c.args.self.now.rebuilding) c.args.random.now (pair_of g.D.Device.size g.D.Device.bytes g.D.Device.failed c.args.volume.now c.rebuild.new.source c.args.target.now c.rebuild.new.target) (rebuild_fault_answer c.in-Err.fault)) c.which_of-which.ensures
-    (answers_fault g.D.Device.tells c.which_of-which.result (given_of c.args.self.now.rebuilding) c.args.random.now (pair_of g.D.Device.size g.D.Device.bytes g.D.Device.failed c.args.volume.now c.rebuild.new.source c.args.target.now c.rebuild.new.target) c.in-Err.fault c.in-Err.ensures.count
-    (λ is. (c.in-Err.ensures.refused is).same) c.in-Err.ensures.fault))
-
-pub returns-in-Err-2-clause-answers : goal.returns-in-Err-2-clause-answers
-returns-in-Err-2-clause-answers g c =
-    subst (IsRebuildAnswer g.D.Device.tells (which_of c.args.self.now.rebuilding.second) (given_of c.args.self.now.rebuilding) c.args.random.now (pair_of g.D.Device.size g.D.Device.bytes g.D.Device.failed c.args.volume.now c.rebuild.new.source c.args.target.now c.rebuild.new.target)) (sym c.not_rebuilt-in-Err-2.ensures)
-    (subst (λ (w : Which). IsRebuildAnswer g.D.Device.tells w (given_of c.args.self.now.rebuilding) c.args.random.now (pair_of g.D.Device.size g.D.Device.bytes g.D.Device.failed c.args.volume.now c.rebuild.new.source c.args.target.now c.rebuild.new.target) (rebuild_fault_answer c.in-Err.fault)) c.which_of-which.ensures
-    (answers_fault g.D.Device.tells c.which_of-which.result (given_of c.args.self.now.rebuilding) c.args.random.now (pair_of g.D.Device.size g.D.Device.bytes g.D.Device.failed c.args.volume.now c.rebuild.new.source c.args.target.now c.rebuild.new.target) c.in-Err.fault c.in-Err.ensures.count
-    (λ is. (c.in-Err.ensures.refused is).same) c.in-Err.ensures.fault))
-
-pub returns-in-Err-2-clause-settled : goal.returns-in-Err-2-clause-settled
-returns-in-Err-2-clause-settled g c = λ told a b.
-    settled_by g.D.Device.tells g.D.Device.size g.D.Device.bytes is_rebuild_failure _ _ _ _ c.rebuild.result c.rebuild.ensures.count
-    (c.rebuild.ensures.settled told) c.rebuild.ensures.refused told a b (c.requires.settled told)
+pub returns-clause-answers : goal.returns-clause-answers
+returns-clause-answers g c = record {
+  given = c.given_of-given.result;
+  is = c.given_of-given.ensures;
+  says = subst (λ (m : Meant). IsAnswerOf m g.D.Device.tells c.args.self.now.rebuilding c.given_of-given.result c.args.random.now (pair_of g.D.Device.size g.D.Device.bytes g.D.Device.failed c.args.volume.now c.make_meant.new.volume c.args.target.now c.make_meant.new.target) c.make_meant.result)
+  c.meant-meant.ensures c.make_meant.ensures.answers;
+}

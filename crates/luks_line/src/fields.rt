@@ -1,0 +1,62 @@
+//! The fields of a LUKS1 header that are given to the command that rebuilds.
+
+use clap::ArgMatches;
+use luks_request::Luks1Fields;
+
+/// How many bytes a name has at most: its field ends with a zero byte.
+const LONGEST_NAME: usize = 31;
+
+/// What of the words is no field of a LUKS1 header, as `clap` says it of a value. A text that is no uuid is
+/// judged where the header is made.
+pub(crate) fn wrong_field(given: &ArgMatches<'_>) -> Option<&'static str> {
+    if let Some(text) = given.get_str("cipher") {
+        if !is_cipher(text) {
+            return Some(
+                "invalid value for '--cipher <NAME-MODE>': a name and a mode with a hyphen between, of 1 to 31 bytes each",
+            );
+        }
+    }
+    if let Some(text) = given.get_str("hash") {
+        if !is_name(text) {
+            return Some("invalid value for '--hash <NAME>': a name of 1 to 31 bytes");
+        }
+    }
+    None
+}
+
+/// Whether it is a name and a mode, by the first hyphen.
+fn is_cipher(text: &str) -> bool {
+    match text.split_once('-') {
+        Some((name, mode)) => is_name(name) && is_name(mode),
+        None => false,
+    }
+}
+
+/// Whether it fits into the field of a name.
+fn is_name(text: &str) -> bool {
+    !text.is_empty() && text.len() <= LONGEST_NAME
+}
+
+/// What is given of the fields.
+pub(crate) fn fields_of<'a>(given: &ArgMatches<'a>) -> Luks1Fields<'a> {
+    let cipher = given.get_str("cipher");
+    Luks1Fields {
+        cipher_name: name_in(cipher),
+        cipher_mode: mode_in(cipher),
+        hash: given.get_str("hash"),
+        key_bytes: given.get_one::<u32>("key-bytes"),
+        payload: given.get_one::<u32>("payload"),
+    }
+}
+
+/// What stands before the first hyphen.
+fn name_in<'a>(cipher: Option<&'a str>) -> Option<&'a str> {
+    let (name, _) = cipher?.split_once('-')?;
+    Some(name)
+}
+
+/// What stands behind it.
+fn mode_in<'a>(cipher: Option<&'a str>) -> Option<&'a str> {
+    let (_, mode) = cipher?.split_once('-')?;
+    Some(mode)
+}
