@@ -174,12 +174,10 @@ module _
       first_as : (memory : ℕ) (f : OpenFault) → IsRefusalAsWithin memory w n (luks2 0 new.copies) f → NotAfter (open_key NoSuchSlot) (open_key f)
       first_as memory (Head f) z = absurd (no_head memory n f z)
       first_as memory (Meta f) z = absurd (no_meta memory n f z)
-      first_as memory NoSuchSlot z = (omega arith, λ e. tt)
       first_as memory SlotFree z = absurd z
-      first_as memory Outside z = (omega arith, λ e. tt)
-      first_as memory (Slot f) z = (omega arith, λ e. tt)
       first_as memory Device z = absurd z
       first_as memory Memory z = absurd z
+      first_as memory other z = (omega arith, λ e. tt)
 
       pub converted_absent : (memory : ℕ) (p : List ℕ) → AnswerWithin memory w n p (refused NoSuchSlot)
       converted_absent memory p = (

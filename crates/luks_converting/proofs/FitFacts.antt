@@ -32,10 +32,9 @@ module _ (h : List ℕ) (has : HasRoom h) where
 
   bounds_inside : (total : ℕ) → 16777216 ≤ total → (n : AreaName) (a : Area) → Bounds n a → IsInside a total
   unfolding Bounds
-  bounds_inside total large Head1 a at = let start = at.0 in let len = at.1 in omega (arith, start, len, large)
-  bounds_inside total large Head2 a at = let start = at.0 in let len = at.1 in omega (arith, start, len, large)
   bounds_inside total large (Slot n) a at = let start = at.1 in let len = at.2 in let end = ends h n at.0 has in omega (arith, start, len, end, large)
   bounds_inside total large (Segment n) a at = absurd at
+  bounds_inside total large other a at = let start = at.0 in let len = at.1 in omega (arith, start, len, large)
 
   -- an area that ends where another begins, or before
   apart : (a b : Area) (p : ℕ) → a.start + a.len ≤ b.start → LiesIn p a → LiesIn p b → ⊥

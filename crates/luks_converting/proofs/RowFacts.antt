@@ -20,18 +20,13 @@ use Rattle.luks_converting.specs.declared.convert_fault.ConvertFault.TheVariants
 
 -- what a check refuses by isn't a source
 pub unaccepted_of : (v : List ℕ) (payload : Data) (f : CheckFault) → IsCheckRefusal v payload f → IsUnaccepted v payload (checked_convert f)
-unaccepted_of v payload (check.Head f) x = x
-unaccepted_of v payload (check.Meta f) x = x
-unaccepted_of v payload (check.Area f) x = x
 unaccepted_of v payload check.Device x = tt
-unaccepted_of v payload check.Memory x = x
+unaccepted_of v payload other x = x
 
 pub first_unaccepted : (v : List ℕ) (payload : Data) (f : CheckFault) → f ≢ check.Device → f ≢ check.Memory → First v payload f → IsUnaccepted v payload (checked_convert f)
-first_unaccepted v payload (check.Head f) own memory x = x
-first_unaccepted v payload (check.Meta f) own memory x = x
-first_unaccepted v payload (check.Area f) own memory x = x
 first_unaccepted v payload check.Device own memory x = tt
 first_unaccepted v payload check.Memory own memory x = absurd (memory refl)
+first_unaccepted v payload other own memory x = x
 
 -- the first fault of a check is the first of all
 check_first : (v : List ℕ) (payload : Data) (total : ℕ) (random : List ℕ) (f : CheckFault) → First v payload f → IsLeast convert_key (IsConvertFault v payload total random) (NotAccepted f)
@@ -64,12 +59,9 @@ other_first v payload total random other = (other.luks2, after)
 pub unaccepted_first : (v : List ℕ) (payload : Data) (total : ℕ) (random : List ℕ) (f : ConvertFault) → IsUnaccepted v payload f → IsAnsweredFault v payload total random f
 unaccepted_first v payload total random (NotAccepted f) x = check_first v payload total random f x
 unaccepted_first v payload total random NotLuks1 x = other_first v payload total random x
-unaccepted_first v payload total random TooSmall x = absurd x
-unaccepted_first v payload total random NoRoom x = absurd x
-unaccepted_first v payload total random MetadataFull x = absurd x
-unaccepted_first v payload total random RandomLength x = absurd x
 unaccepted_first v payload total random Memory x = inl x
 unaccepted_first v payload total random Device x = tt
+unaccepted_first v payload total random other x = absurd x
 
 -- ---- of an accepted LUKS1 volume
 

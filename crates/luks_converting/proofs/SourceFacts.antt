@@ -1,5 +1,5 @@
 -- What the header of a LUKS1 volume says has the ranges that its metadata needs.
-use Rattle.std.proofs.Common.{◌≡◌, ℕ, ◌+◌, ◌*◌, ◌<◌, ◌≤◌, ◌++◌, List, [], length, Bool, true, false, codes, Some, None, refl, sym, ap, subst, ◌∙◌, arith, inl, inr, length-append, get_or}
+use Rattle.std.proofs.Common.{◌≡◌, ℕ, ◌+◌, ◌*◌, ◌<◌, ◌≤◌, ◌++◌, List, length, Bool, true, false, codes, Some, None, refl, sym, ap, subst, ◌∙◌, arith, inl, inr, length-append, get_or}
 use Rattle.std.specs.Prelude.{◌==◌, ◌&&◌, nat_lt, not, take, if◌then◌else◌}
 use Rattle.std.proofs.lemmas.Bool.{and_parts, cases_lt, eqb-true, lt-ltb, ltb-true}
 use Rattle.std.proofs.lemmas.List.{get_or_past, length-take}

@@ -1,5 +1,5 @@
 -- Where a volume's header and key areas stand byte by byte, each keyslot answers as it does in the volume.
-use Rattle.std.proofs.Common.{◌≡◌, ℕ, ◌+◌, ◌≤◌, ◌<◌, List, [], codes, length, Option, Some, None, option_and_then, sym, ap, subst, ◌∙◌, arith}
+use Rattle.std.proofs.Common.{◌≡◌, ℕ, ◌+◌, ◌≤◌, ◌<◌, List, codes, length, Option, Some, None, option_and_then, sym, ap, subst, ◌∙◌, arith}
 use Rattle.serde_json.specs.Data.{Data as Value}
 use Rattle.serde_json.specs.Find.{get}
 use Rattle.luks_area.specs.Ranges.{part}
@@ -23,7 +23,7 @@ use Rattle.luks_reading.specs.Header.{json_at}
 use Rattle.luks_reading.specs.Layout2.{Luks2Area}
 use Rattle.luks_reading.specs.Plans.{HasLuks1Plan, HasLuks2Plan}
 use Rattle.luks_reading.specs.declared.open_fault.OpenFault.{OpenFault}
-use Rattle.luks_reading.specs.declared.open_fault.OpenFault.TheVariants.{Head, Meta, NoSuchSlot, SlotFree, Outside, Slot as SlotRefusal, Device, Memory}
+use Rattle.luks_reading.specs.declared.open_fault.OpenFault.TheVariants.{SlotFree, Outside}
 use Rattle.luks_reading.specs.declared.report.Data.{Data}
 use Rattle.luks_reading.specs.declared.report.Data.TheVariants.{Elsewhere}
 use Rattle.luks_keeping.specs.Judged.{IsFormedOnAs}
@@ -97,14 +97,8 @@ answers_here v w c x memory n p a z = answers_one_way w v c (turned v w c x) mem
 
 -- a keyslot whose plan lies inside is refused alike whatever the length
 moved1 : (h : List ℕ) (n t u : ℕ) → ((plan : SlotPlan) → HasLuks1Plan h n plan → plan.area.start + plan.area.len ≤ t) → (f : OpenFault) → IsLuks1Refusal h t n f → IsLuks1Refusal h u n f
-moved1 h n t u inside (Head f) z = z
-moved1 h n t u inside (Meta f) z = z
-moved1 h n t u inside NoSuchSlot z = z
-moved1 h n t u inside SlotFree z = z
 moved1 h n t u inside Outside z = absurd (let within = inside z.plan z.is in let past = z.past in omega (arith, within, past))
-moved1 h n t u inside (SlotRefusal f) z = z
-moved1 h n t u inside Device z = z
-moved1 h n t u inside Memory z = z
+moved1 h n t u inside other z = z
 
 plan1_inside : (h : List ℕ) (payload : Data) (total n : ℕ) → IsLuks1Volume h payload total → (plan : SlotPlan) → HasLuks1Plan h n plan → plan.area.start + plan.area.len ≤ total
 plan1_inside h payload total n formed plan is = formed.fit.inside (Slot n) plan.area (is.numbered, is.is.start, is.is.len)
@@ -145,14 +139,8 @@ module _ (v w : List ℕ) (payload other : Data) (x : Chosen v luks1) (y : Chose
 
 moved2 : (memory : ℕ) (b json : List ℕ) (n t u : ℕ) → ((plan : SlotPlan) → HasLuks2Plan json n plan → plan.area.start + plan.area.len ≤ t)
     → (f : OpenFault) → IsLuks2RefusalWithin memory b json t n f → IsLuks2RefusalWithin memory b json u n f
-moved2 memory b json n t u inside (Head f) z = z
-moved2 memory b json n t u inside (Meta f) z = z
-moved2 memory b json n t u inside NoSuchSlot z = z
-moved2 memory b json n t u inside SlotFree z = z
 moved2 memory b json n t u inside Outside z = absurd (let within = inside z.plan z.is in let past = z.past in omega (arith, within, past))
-moved2 memory b json n t u inside (SlotRefusal f) z = z
-moved2 memory b json n t u inside Device z = z
-moved2 memory b json n t u inside Memory z = z
+moved2 memory b json n t u inside other z = z
 
 plan_area : (b json : List ℕ) (n : ℕ) (plan : SlotPlan) → HasLuks2Plan json n plan → HasLuks2Area b json Elsewhere 0 (Slot n) plan.area
 plan_area b json n plan z = record {

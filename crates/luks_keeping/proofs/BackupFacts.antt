@@ -114,11 +114,8 @@ can_back_up v payload total size well is room = record { none = none }
 
 -- a check's fault that isn't a device's
 pub no_failure : (f : CheckFault) → (f ≡ check.Device → ⊥) → is_backup_failure (checked_backup f) ≡ false
-no_failure (check.Head f) own = refl
-no_failure (check.Meta f) own = refl
-no_failure (check.Area f) own = refl
 no_failure check.Device own = absurd (own refl)
-no_failure check.Memory own = refl
+no_failure other own = refl
 
 -- a device's fault stays one
 pub same_failure : (f : CheckFault) → is_backup_failure (checked_backup f) ≡ is_check_failure f

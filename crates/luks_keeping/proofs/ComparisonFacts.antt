@@ -1,11 +1,11 @@
 -- What is told and printed of the keyslots, one keyslot more.
-use Rattle.std.proofs.Common.{◌≡◌, ◌⊎◌, ◌↔◌, inl, inr, ℕ, ◌+◌, ◌<◌, List, [], ◌∷◌, ◌++◌, true, false, IsTrue, length, take, get_or, zero, suc, ap, ◌∙◌, sym, refl, append_assoc, append-nil, arith}
+use Rattle.std.proofs.Common.{◌≡◌, ◌⊎◌, ◌↔◌, inl, inr, ℕ, ◌+◌, ◌<◌, List, ◌∷◌, ◌++◌, true, false, IsTrue, length, take, get_or, zero, suc, ap, ◌∙◌, sym, refl, append_assoc, append-nil, arith}
 use Rattle.std.proofs.lemmas.Bool.{and_from, and_left, and_parts, and_right, false≢true}
 use Rattle.std.proofs.lemmas.List.{length-take-le, take_more}
 use Rattle.luks_keeping.specs.ComparisonTexts.{are_alike, is_alike, is_current, keyslot_line, keyslot_lines, IsCurrent}
 use Rattle.luks_keeping.specs.declared.comparison.Comparison.{Comparison}
 use Rattle.luks_keeping.specs.declared.comparison.Keeping.{Keeping}
-use Rattle.luks_keeping.specs.declared.comparison.Keeping.TheVariants.{Absent, Same, Older, Missing, Removed}
+use Rattle.luks_keeping.specs.declared.comparison.Keeping.TheVariants.{Absent, Same}
 
 -- ---- the lines
 
@@ -57,9 +57,7 @@ one_more_alike ks n d lt all is = ap are_alike (take_more ks n d lt) ∙ alike_a
 same_or_absent : (k : Keeping) → is_alike k ≡ true → (k ≡ Same) ⊎ (k ≡ Absent)
 same_or_absent Absent is = inr refl
 same_or_absent Same is = inl refl
-same_or_absent Older is = absurd (false≢true is)
-same_or_absent Missing is = absurd (false≢true is)
-same_or_absent Removed is = absurd (false≢true is)
+same_or_absent other is = absurd (false≢true is)
 
 alike_since : (k : Keeping) → (k ≡ Same) ⊎ (k ≡ Absent) → is_alike k ≡ true
 alike_since k (inl e) = ap is_alike e

@@ -37,9 +37,8 @@ formed_on2 v o copies payload total chosen formed = record { choice = luks2 o co
 -- ---- on its own device
 
 fault_in : (v : List ℕ) (payload : Data) (c : Choice) (f : CheckFault) → IsFaultOnAs v payload (length v) c f → IsFaultAs v payload c f
-fault_in v payload luks1 f x = x
-fault_in v payload (luks2 o copies) f x = x
 fault_in v payload nothing f x = absurd x
+fault_in v payload other f x = x
 
 some_counts : (v : List ℕ) (payload : Data) (total : ℕ) (c : Choice) (f : CheckFault) → IsFaultOnAs v payload total c f → c ≡ nothing → ⊥
 some_counts v payload total luks1 f x is = (let e : luks1 ≡ nothing = is in cc)
@@ -47,9 +46,8 @@ some_counts v payload total (luks2 o copies) f x is = (let e : luks2 o copies �
 some_counts v payload total nothing f x is = x
 
 fault_out : (v : List ℕ) (payload : Data) (c : Choice) (f : CheckFault) → (c ≡ nothing → ⊥) → IsFaultAs v payload c f → IsFaultOnAs v payload (length v) c f
-fault_out v payload luks1 f some x = x
-fault_out v payload (luks2 o copies) f some x = x
 fault_out v payload nothing f some x = absurd (some refl)
+fault_out v payload other f some x = x
 
 -- there the first fault is the volume's
 pub own_first : (v : List ℕ) (payload : Data) (f : CheckFault) → IsLeast check_key (IsFaultOn v payload (length v)) f → First v payload f

@@ -122,9 +122,8 @@ pub fields_same : (v w : List ℕ) → HasHeader v luks1 w → part w 0 592 ≡ 
 fields_same v w h = inside_same v w 0 592 0 592 (omega arith) (omega arith) h.behind
 
 pub size_same : (v w : List ℕ) (c : Choice) → Chosen v c → HasHeader v c w → header_size w c ≡ header_size v c
-size_same v w luks1 x h = refl
 size_same v w (luks2 o copies) x h = ap (λ b. 2 * hdr_size b) (header_same v w o copies x.1 h)
-size_same v w nothing x h = refl
+size_same v w other x h = refl
 
 -- a volume of any length with that header is well formed where it would be
 pub formed_there : (v w : List ℕ) (payload : Data) (total : ℕ) (c : Choice) → Chosen v c → HasHeader v c w → IsFormedOnAs v payload total c → IsFormedOnAs w payload total c

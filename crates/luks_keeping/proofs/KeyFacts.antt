@@ -22,7 +22,7 @@ use Rattle.luks_keeping.specs.SameVolume.{HasOtherUuid}
 use Rattle.luks_keeping.specs.declared.over.Over.{Over}
 use Rattle.luks_keeping.specs.declared.over.Over.TheVariants.{SameVolume}
 use Rattle.luks_keeping.specs.declared.restore_fault.RestoreFault.{RestoreFault}
-use Rattle.luks_keeping.specs.declared.restore_fault.RestoreFault.TheVariants.{NotAccepted, DoesNotFit, OtherVolume, Memory, Device}
+use Rattle.luks_keeping.specs.declared.restore_fault.RestoreFault.TheVariants.{OtherVolume, Memory, Device}
 use Rattle.luks_keeping.proofs.LaidFacts.{chosen_of}
 
 -- ---- a header that was read has the digests of its volume
@@ -100,8 +100,7 @@ other_key : (b t : List ℕ) → HasOtherUuid b t → (f : RestoreFault) → IsK
 other_key b t uuid OtherVolume x = record { uuid = uuid; key = x }
 other_key b t uuid Memory x = (uuid, x)
 other_key b t uuid Device x = tt
-other_key b t uuid (NotAccepted f) x = x
-other_key b t uuid (DoesNotFit f) x = x
+other_key b t uuid other x = x
 
 pub refused_by_key : {A : Type 0} (b t : List ℕ) (over : Over) → over ≡ SameVolume → HasOtherUuid b t → (r : Result A RestoreFault) → IfErr r (IsKeyAnswer b t) → IfErr r (IsOtherAnswer b t over)
 refused_by_key b t over same uuid (Ok u) x = x

@@ -49,18 +49,8 @@ unselected v head.Memory e x = nothing_counts v head.Memory x.0
 
 -- and no call failed
 pub no_call_failed : (f : HeadFault) → head_unread f ≢ read.Device → is_device_fault f ≡ false
-no_call_failed head.TooShort e = refl
-no_call_failed head.NotLuks e = refl
-no_call_failed head.Version e = refl
-no_call_failed head.NoSoundCopy e = refl
-no_call_failed (head.Text t) e = refl
-no_call_failed head.Uuid e = refl
-no_call_failed (head.SlotState m) e = refl
-no_call_failed head.KeyBytes e = refl
-no_call_failed (head.Stripes m) e = refl
-no_call_failed (head.Iterations o) e = refl
 no_call_failed head.Device e = absurd (e refl)
-no_call_failed head.Memory e = refl
+no_call_failed other e = refl
 
 pub none_other : (b t : List ℕ) → Chosen t nothing → HasOtherUuid b t → ⊥
 none_other b t none x = x.some (choices_agree t x.other nothing x.counts none)

@@ -22,10 +22,9 @@ module _ (b t : List ℕ) (payload : Data) (over : Over) where
   after_accepted : (f : CheckFault) → ((g : CheckFault) → IsFault b Elsewhere g → NotAfter (check_key f) (check_key g))
       → (g : RestoreFault) → IsRestoreFault b t payload over g → NotAfter (restore_key (NotAccepted f)) (restore_key g)
   after_accepted f least (NotAccepted g) bad = (omega arith, λ e. least g bad)
-  after_accepted f least (DoesNotFit g) bad = (omega arith, λ e. absurd (omega (arith, e)))
-  after_accepted f least OtherVolume bad = (omega arith, λ e. absurd (omega (arith, e)))
   after_accepted f least Memory bad = absurd bad
   after_accepted f least Device bad = absurd bad
+  after_accepted f least other bad = (omega arith, λ e. absurd (omega (arith, e)))
 
   pub answered_refusal : (f : CheckFault) → IsCheckRefusal b Elsewhere f → IsAnsweredRestore b t payload over (checked_restore f)
   answered_refusal (check.Head f) x = (x.0, after_accepted (check.Head f) x.1)
@@ -40,30 +39,24 @@ module _ (b t : List ℕ) (payload : Data) (over : Over) where
     after_fit f least (NotAccepted g) bad = absurd (well_formed_faultless b Elsewhere well g bad)
     after_fit f least (DoesNotFit g) bad = (omega arith, λ e. least g bad)
     after_fit f least OtherVolume bad = (omega arith, λ e. absurd (omega (arith, e)))
-    after_fit f least Memory bad = absurd bad
-    after_fit f least Device bad = absurd bad
+    after_fit f least other bad = absurd bad
 
     pub answered_unfit : (f : RestoreFault) → IsUnfit b payload (length t) f → IsAnsweredRestore b t payload over f
     answered_unfit (DoesNotFit f) x = (x.0, after_fit f x.1)
-    answered_unfit (NotAccepted f) x = absurd x
-    answered_unfit OtherVolume x = absurd x
-    answered_unfit Memory x = absurd x
-    answered_unfit Device x = absurd x
+    answered_unfit other x = absurd x
 
     module _ (fits : (f : CheckFault) → IsFaultOn b payload (length t) f → ⊥) where
       after_other : (g : RestoreFault) → IsRestoreFault b t payload over g → NotAfter (restore_key OtherVolume) (restore_key g)
       after_other (NotAccepted g) bad = absurd (well_formed_faultless b Elsewhere well g bad)
       after_other (DoesNotFit g) bad = absurd (fits g bad)
       after_other OtherVolume bad = (omega arith, λ e. tt)
-      after_other Memory bad = absurd bad
-      after_other Device bad = absurd bad
+      after_other other bad = absurd bad
 
       pub answered_other : (f : RestoreFault) → IsOtherAnswer b t over f → IsAnsweredRestore b t payload over f
       answered_other OtherVolume x = (x, after_other)
       answered_other Device x = tt
       answered_other Memory x = inr x
-      answered_other (NotAccepted f) x = absurd x
-      answered_other (DoesNotFit f) x = absurd x
+      answered_other other x = absurd x
 
       pub can_restore : (IsKeptFrom b t over → ⊥) → CanRestore b t payload over
       can_restore clear = record { none = none }

@@ -56,9 +56,7 @@ one_salt (Luks2 copy) n s t x y = one_salt2 (content copy.meta) n s t x y
 pub both_there : (h k : Header) (n : ℕ) (s t : List ℕ) → HasHeaderSalt h n s → HasHeaderSalt k n t → (state : Keeping) → IsSameOrOlder s t state → StandsSo (HasHeaderSalt h n) (HasHeaderSalt k n) state
 both_there h k n s t x y Same e = (s, (x, subst (HasHeaderSalt k n) (sym e) y))
 both_there h k n s t x y Older e = ((s, x), (t, y), λ u here there. e (one_salt h n s u x here ∙ one_salt k n u t there y))
-both_there h k n s t x y Absent e = absurd e
-both_there h k n s t x y Missing e = absurd e
-both_there h k n s t x y Removed e = absurd e
+both_there h k n s t x y other e = absurd e
 
 -- ---- the same of volumes
 

@@ -64,10 +64,8 @@ module _ (h : List ℕ) (payload : Data) (total size : ℕ) (formed : IsLuks1Vol
   inside1 (name.Segment n) a x = absurd (let here : Elsewhere ≡ Here = x.1 in cc)
 
   as_here1 : (n : AreaName) (a : Area) → Luks1Area h Elsewhere size n a → Luks1Area h payload total n a
-  as_here1 name.Head1 a x = x
-  as_here1 name.Head2 a x = x
-  as_here1 (name.Slot n) a x = x
   as_here1 (name.Segment n) a x = absurd (let here : Elsewhere ≡ Here = x.1 in cc)
+  as_here1 other a x = x
 
   formed1 : IsLuks1Volume h Elsewhere size
   formed1 = record {
@@ -102,17 +100,14 @@ module _ (b json : List ℕ) (payload : Data) (total size : ℕ) (large : 16384 
       omega (arith, within, all, large, long)
 
   inside2 : (n : AreaName) (a : Area) → Luks2Area j (hdr_size b) Elsewhere size n a → a.start + a.len ≤ size
-  inside2 name.Head1 a x = (let start = x.0 in let len = x.1 in let all = is.is in omega (arith, start, len, all))
-  inside2 name.Head2 a x = (let start = x.0 in let len = x.1 in let all = is.is in omega (arith, start, len, all))
   inside2 (name.Slot n) a x = slot_inside n a x
   inside2 (name.Segment n) a x = absurd (let here : Elsewhere ≡ Here = x.1 in cc)
+  inside2 other a x = (let start = x.0 in let len = x.1 in let all = is.is in omega (arith, start, len, all))
 
   as_here2 : (n : AreaName) (a : Area) → Luks2Area j (hdr_size b) Elsewhere size n a → Luks2Area formed.layout.0 (hdr_size b) payload total n a
   unfolding j
-  as_here2 name.Head1 a x = x
-  as_here2 name.Head2 a x = x
-  as_here2 (name.Slot n) a x = x
   as_here2 (name.Segment n) a x = absurd (let here : Elsewhere ≡ Here = x.1 in cc)
+  as_here2 other a x = x
 
   formed2 : IsLuks2Volume b json Elsewhere size
   unfolding j
@@ -160,10 +155,8 @@ longer1 h size total le x = record {
 }
   where
     same : (n : AreaName) (a : Area) → Luks1Area h Elsewhere total n a → Luks1Area h Elsewhere size n a
-    same name.Head1 a is = is
-    same name.Head2 a is = is
-    same (name.Slot n) a is = is
     same (name.Segment n) a is = absurd (let here : Elsewhere ≡ Here = is.1 in cc)
+    same other a is = is
 
 longer2 : (b json : List ℕ) (size total : ℕ) → size ≤ total → IsLuks2Volume b json Elsewhere size → IsLuks2Volume b json Elsewhere total
 longer2 b json size total le x = record {
@@ -182,10 +175,8 @@ longer2 b json size total le x = record {
 }
   where
     same : (n : AreaName) (a : Area) → Luks2Area x.layout.0 (hdr_size b) Elsewhere total n a → Luks2Area x.layout.0 (hdr_size b) Elsewhere size n a
-    same name.Head1 a is = is
-    same name.Head2 a is = is
-    same (name.Slot n) a is = is
     same (name.Segment n) a is = absurd (let here : Elsewhere ≡ Here = is.1 in cc)
+    same other a is = is
 
 longer_as : (v : List ℕ) (c : Choice) (size total : ℕ) → size ≤ total → IsFormedOnAs v Elsewhere size c → IsFormedOnAs v Elsewhere total c
 longer_as v luks1 size total le x = longer1 (part v 0 592) size total le x

@@ -19,16 +19,14 @@ use Rattle.luks_reading.specs.Header.{json_at}
 use Rattle.luks_reading.specs.Layout1.{Luks1Area}
 use Rattle.luks_reading.specs.Layout2.{Luks2Area}
 use Rattle.luks_reading.specs.declared.check_fault.CheckFault.{CheckFault}
-use Rattle.luks_reading.specs.declared.check_fault.CheckFault.TheVariants.{Head, Meta, Area, Device, Memory}
+use Rattle.luks_reading.specs.declared.check_fault.CheckFault.TheVariants.{Head, Meta, Area}
 use Rattle.luks_reading.specs.declared.report.Data.{Data}
 use Rattle.luks_keeping.specs.Judged.{IsFaultOn, IsFaultOnAs, IsFormedOn, IsFormedOnAs}
 
 sound1 : (h : List ℕ) (payload : Data) (total : ℕ) → IsLuks1Volume h payload total → (f : CheckFault) → IsLuks1Fault h payload total f → ⊥
 sound1 h payload total well (Head f) is = sound h well.header.0 well.header.1 f is
-sound1 h payload total well (Meta f) is = is
 sound1 h payload total well (Area f) is = no_area_fault (Luks1Area h payload total) total f well.fit is
-sound1 h payload total well Device is = is
-sound1 h payload total well Memory is = is
+sound1 h payload total well other is = is
 
 module _ (b json : List ℕ) (payload : Data) (total : ℕ) (well : IsLuks2Volume b json payload total) where
   as_own : (n : AreaName) (a : TheArea) → HasLuks2Area b json payload total n a → Luks2Area well.layout.0 (hdr_size b) payload total n a
@@ -52,8 +50,7 @@ module _ (b json : List ℕ) (payload : Data) (total : ℕ) (well : IsLuks2Volum
     | inr other ↦ below other.0 other.1.1
   ]
   sound2 (Area f) is = no_area_fault (HasLuks2Area b json payload total) total f fit2 is
-  sound2 Device is = is
-  sound2 Memory is = is
+  sound2 other is = is
 
 sound_as : (v : List ℕ) (payload : Data) (total : ℕ) (c : Choice) → IsFormedOnAs v payload total c → (f : CheckFault) → IsFaultOnAs v payload total c f → ⊥
 sound_as v payload total luks1 well f is = sound1 (part v 0 592) payload total well f is

@@ -16,8 +16,9 @@ use Rattle.luks_making.specs.Keyslots.{base64_text, slot_value}
 use Rattle.luks_making.specs.TextLengths.{decimal_exact, digit_bound, encoded_short, items_bound, members_bound, string_bound, string_most, value_bound, value_short}
 use Rattle.luks_making.specs.With.{with_slot}
 use Rattle.luks_making.specs.Without.{without_slot}
-use Rattle.luks_making.proofs.ConversionFacts.{base_shape, one_more, shape}
+use Rattle.luks_making.proofs.ConversionFacts.{base_shape, one_more}
 use Rattle.luks_making.proofs.NewAreaFacts.{end_within, region_short}
+use Rattle.luks_making.proofs.NewVolumeFacts.{shape}
 
 -- ---- one more in an array, and in a map
 

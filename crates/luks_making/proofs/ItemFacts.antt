@@ -1,7 +1,7 @@
 -- Arrays that lose items, or get one more.
-use Rattle.std.proofs.Common.{◌≡◌, ℕ, Bool, true, false, cond, not, List, [], ◌∷◌, ◌++◌, Some, Vec, Global, refl, sym, ap, ◌∙◌}
+use Rattle.std.proofs.Common.{◌≡◌, ℕ, Bool, true, false, cond, not, List, ◌∷◌, ◌++◌, Some, Vec, Global, refl, sym, ap, ◌∙◌}
 use Rattle.std.specs.Prelude.{filter}
-use Rattle.serde_json.specs.Data.{Data, null, boolean, number, string, array, object, Items, item}
+use Rattle.serde_json.specs.Data.{Data, string, array, Items, item}
 use Rattle.serde_json.specs.Find.{as_array}
 use Rattle.serde_json.specs.View.{view, items_view}
 use Rattle.serde_json.specs.declared.value.Value.{Value, Array}
@@ -23,12 +23,8 @@ kept_items t (x ∷ xs) = kept_by (is_text t (view x)) x (filter (λ v. not (is_
 
 -- a value that has items is an array
 is_array : (d : Data) (items : Items) → Some items ≡ as_array d → d ≡ array items
-is_array null items e = absurd (cc)
-is_array (boolean b) items e = absurd (cc)
-is_array (number n) items e = absurd (cc)
-is_array (string s) items e = absurd (cc)
 is_array (array ds) items e = let same : items ≡ ds = cc in ap array (sym same)
-is_array (object ms) items e = absurd (cc)
+is_array d items e = absurd (cc)
 
 -- one more item at the end
 last_item : (t : List ℕ) (xs : List Value) (v : Value) → view v ≡ string t → items_view (xs ++ v ∷ []) ≡ add_text t (items_view xs)

@@ -1,9 +1,8 @@
+mod EachFacts
 mod MemberFacts
 pub mod NameFacts
-mod WholeFacts
-mod NestingFacts
 mod RowFacts
-mod RestFacts
+mod EditFacts
 pub mod RemovalFacts
 pub mod ReadingFacts
 pub mod AdditionFacts
@@ -18,6 +17,5 @@ mod CopyFacts
 mod StepFacts
 mod AreaFacts
 mod NewAreaFacts
-mod RegionFacts
 pub mod ConversionFacts
 pub mod ConvertedTextFacts

@@ -1,5 +1,5 @@
 -- A value that is put in the place of a member.
-use Rattle.std.proofs.Common.{◌≡◌, List, [], ◌∷◌, Ok, Err, IfOk, Result, Some, None, Ordering, Less, Equal, Greater, String, Global, BTreeMap, string_bytes, string_cmp, nat_cmp, is_eq, bytes_eq, ℕ, rules, refl, sym, ap, ◌∙◌}
+use Rattle.std.proofs.Common.{◌≡◌, List, ◌∷◌, Ok, Err, IfOk, Result, Some, None, Ordering, Less, Equal, Greater, String, Global, BTreeMap, string_bytes, string_cmp, nat_cmp, is_eq, bytes_eq, ℕ, rules, refl, sym, ap, ◌∙◌}
 use Rattle.std.proofs.lemmas.Cmp.{nat_list_cmp_total}
 use Rattle.std.proofs.lemmas.Map.Text.{is_eq-slice_cmp}
 use Rattle.std.specs.Cmp.Lexicographic.{slice_cmp}
@@ -8,7 +8,7 @@ use Rattle.std.specs.List.Sorted.{IsStrictlySortedBy}
 use Rattle.std.specs.BTreeMap.{insert_entry}
 use Rattle.std.specs.Map.{keys_of}
 use Rattle.std.specs.Result.{MatchResult}
-use Rattle.serde_json.specs.Data.{Data, null, boolean, number, string, array, object, Members, member, put}
+use Rattle.serde_json.specs.Data.{Data, string, object, Members, member, put}
 use Rattle.serde_json.specs.Find.{get, get_member, as_object}
 use Rattle.serde_json.specs.View.{view, members_view}
 use Rattle.serde_json.specs.declared.value.Value.{Value, Object, the_lemmas}
@@ -55,12 +55,8 @@ put_changes (x ∷ es) k f d h e = put_by (slice_cmp nat_cmp k (string_bytes x.0
 
 -- a value that has members is an object
 pub is_object : (d : Data) (ms : Members) → Some ms ≡ as_object d → d ≡ object ms
-is_object null ms e = absurd (cc)
-is_object (boolean b) ms e = absurd (cc)
-is_object (number n) ms e = absurd (cc)
-is_object (string s) ms e = absurd (cc)
-is_object (array ds) ms e = absurd (cc)
 is_object (object os) ms e = let same : ms ≡ os = cc in ap object (sym same)
+is_object d ms e = absurd (cc)
 
 -- the object after a value was inserted at a name that it had
 pub inserted : (j : Data) (es : List Entry) (m : BTreeMap (String Global) Value) (key : String Global) (v : Value) (name : List ℕ) (f : Data → Data) (d : Data)

@@ -1,11 +1,11 @@
 -- Members that are taken out of an object, changed and put back.
-use Rattle.std.proofs.Common.{◌≡◌, Bool, true, false, cond, List, [], ◌∷◌, Option, Some, None, option_map, String, Global, BTreeMap, string_bytes, nat_cmp, bytes_eq, ℕ, refl, sym, ap, ◌∙◌, inl, inr}
+use Rattle.std.proofs.Common.{◌≡◌, Bool, true, false, cond, List, ◌∷◌, Option, Some, None, option_map, String, Global, BTreeMap, string_bytes, nat_cmp, bytes_eq, ℕ, refl, sym, ap, ◌∙◌, inl, inr}
 use Rattle.std.proofs.lemmas.Bool.{cases_Bool}
 use Rattle.std.proofs.lemmas.Map.Text.{is_eq-slice_cmp}
 use Rattle.std.specs.Cmp.Lexicographic.{slice_cmp}
 use Rattle.std.specs.BTreeMap.{is_at}
 use Rattle.std.specs.Map.{lookup, remove_entry, set_value}
-use Rattle.serde_json.specs.Data.{Data, null, boolean, number, string, array, object, Members, no_members, member}
+use Rattle.serde_json.specs.Data.{Data, null, object, Members, no_members, member}
 use Rattle.serde_json.specs.Find.{get, get_member, as_object}
 use Rattle.serde_json.specs.View.{view, members_view}
 use Rattle.serde_json.specs.declared.value.Value.{Value, Object}
@@ -40,12 +40,8 @@ put_made k f d (member l x ms) there = elim (cases_Bool (bytes_eq k l)) [
 
 -- the object once the member is put back that was taken out and changed
 pub put_back : (k : List ℕ) (f : Data → Data) (j d e : Data) → get k j ≡ Some d → e ≡ f d → at_member k (λ _. e) (set_member k null j) ≡ at_member k f j
-put_back k f null d e there is = refl
-put_back k f (boolean b) d e there is = refl
-put_back k f (number n) d e there is = refl
-put_back k f (string s) d e there is = refl
-put_back k f (array ds) d e there is = refl
 put_back k f (object ms) d e there is = ap object (last_stays k e null ms ∙ (rw is (put_made k f d ms there)))
+put_back k f v d e there is = refl
 
 -- null stands where a member was taken out
 pub null_left : (k : List ℕ) (j d : Data) → get k j ≡ Some d → get k (set_member k null j) ≡ Some null

@@ -37,30 +37,26 @@ luks2_accepted v payload o copies total chosen size well = record {
 
 head_checked : (v : List ℕ) (payload : Data) (c : Choice) (f : HeadFault) → IsReadFaultAs v c (reading.Head f) → IsFaultAs v payload c (Head f)
 head_checked v payload luks1 f x = absurd x
-head_checked v payload (luks2 o copies) f x = x
-head_checked v payload nothing f x = x
+head_checked v payload other f x = x
 
 meta_checked : (v : List ℕ) (payload : Data) (c : Choice) (f : MetaFault) → IsReadFaultAs v c (reading.Meta f) → IsFaultAs v payload c (Meta f)
-meta_checked v payload luks1 f x = absurd x
 meta_checked v payload (luks2 o copies) f x = to_luks2_fault (json_at v o) payload f x
-meta_checked v payload nothing f x = absurd x
+meta_checked v payload other f x = absurd x
 
 -- where the header isn't read, the head faults of a check are those of reading it
 head_read : (v : List ℕ) (payload : Data) (c : Choice) (r : ReadFault) (f : HeadFault) → IsReadFaultAs v c r → IsFaultAs v payload c (Head f)
     → IsReadFaultAs v c (reading.Head f)
 head_read v payload luks1 r f unread x = absurd unread
-head_read v payload (luks2 o copies) r f unread x = x
-head_read v payload nothing r f unread x = x
+head_read v payload other r f unread x = x
 
 meta_after : (v : List ℕ) (payload : Data) (c : Choice) (f g : MetaFault) → IsLeast read_key (IsReadFaultAs v c) (reading.Meta f)
     → IsFaultAs v payload c (Meta g) → NotAfter (check_key (Meta f)) (check_key (Meta g))
-meta_after v payload luks1 f g least x = absurd least.0
 meta_after v payload (luks2 o copies) f g least x = elim (meta_cases (json_at v o) payload g x) [
   | inl own ↦ least.1 (reading.Meta g) own
   | inr other ↦ subst (λ k. NotAfter (check_key (Meta f)) (check_key (Meta k))) (sym other.1.0)
       (omega arith, λ _. before_segment (json_at v o) f other.0 least.0)
 ]
-meta_after v payload nothing f g least x = absurd least.0
+meta_after v payload other f g least x = absurd least.0
 
 unread_first : (v : List ℕ) (payload : Data) (c : Choice) (f : ReadFault) → IsLeast read_key (IsReadFaultAs v c) f
     → IsLeast check_key (IsFaultAs v payload c) (unread_checked f)
@@ -147,8 +143,7 @@ pub outside : (v : List ℕ) (payload : Data) (f : CheckFault) → ((g : CheckFa
 outside v payload (Head f) none is = none (Head f) is.0
 outside v payload (Meta f) none is = none (Meta f) is.0
 outside v payload (Area f) none is = none (Area f) is.0
-outside v payload Device none is = tt
-outside v payload Memory none is = tt
+outside v payload other none is = tt
 
 -- the first fault of a volume is a refusal
 
@@ -158,11 +153,9 @@ no_outside v payload (luks2 o copies) x = x
 no_outside v payload nothing x = x
 
 pub first_refused : (v : List ℕ) (payload : Data) (f : CheckFault) → First v payload f → IsCheckRefusal v payload f
-first_refused v payload (Head f) x = x
-first_refused v payload (Meta f) x = x
-first_refused v payload (Area f) x = x
 first_refused v payload Device x = tt
 first_refused v payload Memory x = absurd (no_outside v payload x.0.choice x.0.fault)
+first_refused v payload other x = x
 
 -- ---- of results
 

@@ -1,5 +1,5 @@
 -- From what counts of a volume to the volume.
-use Rattle.std.proofs.Common.{◌≡◌, ℕ, List, [], ◌∷◌, length, refl, subst, sym, ◌∙◌, arith, Option, Some, None}
+use Rattle.std.proofs.Common.{◌≡◌, ℕ, List, ◌∷◌, length, refl, subst, sym, ◌∙◌, arith, Option, Some, None}
 use Rattle.luks_area.specs.First.{NotAfter, IsLeast}
 use Rattle.luks_area.specs.Ranges.{part}
 use Rattle.luks1_header.specs.declared.fault.HeadFault.{HeadFault}
@@ -77,14 +77,7 @@ step_one v head.TooShort x = refl
 step_one v head.NotLuks x = refl
 step_one v head.Version x = refl
 step_one v head.NoSoundCopy x = refl
-step_one v (head.Text t) x = absurd x
-step_one v head.Uuid x = absurd x
-step_one v (head.SlotState m) x = absurd x
-step_one v head.KeyBytes x = absurd x
-step_one v (head.Stripes m) x = absurd x
-step_one v (head.Iterations o) x = absurd x
-step_one v head.Device x = absurd x
-step_one v head.Memory x = absurd x
+step_one v other x = absurd x
 
 read_step : (v : List ℕ) (c : Choice) (f : HeadFault) → IsReadFaultAs v c (reading.Head f) → head_step f ≡ 1
 read_step v luks1 f x = absurd x
@@ -93,20 +86,17 @@ read_step v nothing f x = step_one v f x
 
 head_refuses : (memory : ℕ) (v : List ℕ) (n : ℕ) (c : Choice) (f : HeadFault) → IsReadFaultAs v c (reading.Head f) → IsRefusalAsWithin memory v n c (Head f)
 head_refuses memory v n luks1 f x = absurd x
-head_refuses memory v n (luks2 o copies) f x = x
-head_refuses memory v n nothing f x = x
+head_refuses memory v n other f x = x
 
 meta_refuses : (memory : ℕ) (v : List ℕ) (n : ℕ) (c : Choice) (f : MetaFault) → IsReadFaultAs v c (reading.Meta f) → IsRefusalAsWithin memory v n c (Meta f)
-meta_refuses memory v n luks1 f x = absurd x
 meta_refuses memory v n (luks2 o copies) f x = x
-meta_refuses memory v n nothing f x = absurd x
+meta_refuses memory v n other f x = absurd x
 
 -- where the header isn't read, the refusals of these two kinds are the faults of reading it
 head_read : (memory : ℕ) (v : List ℕ) (n : ℕ) (c : Choice) (r : ReadFault) (f : HeadFault) → IsReadFaultAs v c r → IsRefusalAsWithin memory v n c (Head f)
     → IsReadFaultAs v c (reading.Head f)
 head_read memory v n luks1 r f unread x = absurd unread
-head_read memory v n (luks2 o copies) r f unread x = x
-head_read memory v n nothing r f unread x = x
+head_read memory v n other r f unread x = x
 
 meta_read : (memory : ℕ) (v : List ℕ) (n : ℕ) (c : Choice) (r : ReadFault) (f : MetaFault) → IsReadFaultAs v c r → IsRefusalAsWithin memory v n c (Meta f)
     → IsReadFaultAs v c (reading.Meta f)

@@ -1,5 +1,5 @@
 -- The areas of a LUKS1 volume, added name by name.
-use Rattle.std.proofs.Common.{◌≡◌, ℕ, ◌+◌, ◌-◌, ◌*◌, ◌<◌, List, [], ◌∷◌, ◌++◌, length, slice_index_or, ◌⊎◌, inl, inr, refl, subst, sym, ap, ◌∙◌, arith, length-append}
+use Rattle.std.proofs.Common.{◌≡◌, ℕ, ◌+◌, ◌-◌, ◌*◌, ◌<◌, List, ◌∷◌, ◌++◌, length, slice_index_or, ◌⊎◌, inl, inr, refl, subst, sym, ap, ◌∙◌, arith, length-append}
 use Rattle.std.proofs.lemmas.Bool.{cases_lt}
 use Rattle.luks_area.specs.declared.area.Area.{Area}
 use Rattle.luks_area.specs.declared.area.AreaName.{AreaName}
@@ -138,7 +138,6 @@ lists-here h payload total es a here start len listed =
         inr (ap Segment (sym g.0), luks1_area-unique h payload total (Segment 0) a b (refl, here, start, len) (subst (λ q. Luks1Area h payload total (Segment q) b) g.0 g))
 
     last : (n : AreaName) (b : Area) → Luks1Area h payload total n b → IsBefore n (Segment 1)
-    last Head1 b g = (omega arith, λ e. absurd (omega (arith, e)))
     last Head2 b g = absurd g
-    last (Slot k) b g = (omega arith, λ e. absurd (omega (arith, e)))
     last (Segment k) b g = (omega arith, λ _. let zero = g.0 in omega (arith, zero))
+    last other b g = (omega arith, λ e. absurd (omega (arith, e)))

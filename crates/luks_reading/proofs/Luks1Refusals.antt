@@ -1,6 +1,6 @@
 -- The refusals of a LUKS1 keyslot, step by step: the first of a step is the first of all, where no
 -- earlier step has any.
-use Rattle.std.proofs.Common.{◌≡◌, ℕ, ◌<◌, List, [], ◌∷◌, length, ◌⊎◌, inl, inr, refl, sym, ap, subst, ◌∙◌, arith, Option, Some, None, IfSome, IsNone}
+use Rattle.std.proofs.Common.{◌≡◌, ℕ, ◌<◌, List, ◌∷◌, length, ◌⊎◌, inl, inr, refl, sym, ap, subst, ◌∙◌, arith, Option, Some, None, IfSome, IsNone}
 use Rattle.luks_area.specs.First.{NotAfter, IsLeast}
 use Rattle.luks1_header.specs.declared.fault.HeadFault.{HeadFault}
 use Rattle.luks1_header.specs.declared.fault.HeadFault.TheVariants as head
@@ -42,49 +42,22 @@ pub record IsOfEntry (h : List ℕ) (n : ℕ) (f : HeadFault) : Type 0 where
   pub step : head_step f ≡ 4
 
 pub which : (h : List ℕ) (n : ℕ) (f : HeadFault) → IsLuks1HeadRefusal h n f → IsOfCommon h f ⊎ IsOfEntry h n f
-which h n head.TooShort x = inl (record { fault = x; step = refl })
-which h n head.NotLuks x = inl (record { fault = x; step = refl })
-which h n head.Version x = inl (record { fault = x; step = refl })
-which h n head.NoSoundCopy x = inl (record { fault = x; step = refl })
-which h n (head.Text t) x = inl (record { fault = x; step = refl })
-which h n head.Uuid x = inl (record { fault = x; step = refl })
 which h n (head.SlotState m) x = inr (record { numbered = x.0; fault = x.1; step = refl })
-which h n head.KeyBytes x = inl (record { fault = x; step = refl })
 which h n (head.Stripes m) x = inr (record { numbered = x.0; fault = x.1; step = refl })
 which h n (head.Iterations (of.Slot m)) x = inr (record { numbered = x.0; fault = x.1; step = refl })
-which h n (head.Iterations of.Digest) x = inl (record { fault = x; step = refl })
-which h n head.Device x = inl (record { fault = x; step = refl })
-which h n head.Memory x = inl (record { fault = x; step = refl })
+which h n other x = inl (record { fault = x; step = refl })
 
 pub common_refuses : (h : List ℕ) (n : ℕ) (f : HeadFault) → IsCommonFault h f → IsLuks1HeadRefusal h n f × (head_step f ≡ 1)
-common_refuses h n head.TooShort x = (x, refl)
-common_refuses h n head.NotLuks x = (x, refl)
-common_refuses h n head.Version x = (x, refl)
-common_refuses h n head.NoSoundCopy x = (x, refl)
-common_refuses h n (head.Text t) x = (x, refl)
-common_refuses h n head.Uuid x = (x, refl)
 common_refuses h n (head.SlotState m) x = absurd x.0
-common_refuses h n head.KeyBytes x = (x, refl)
 common_refuses h n (head.Stripes m) x = absurd x.0
 common_refuses h n (head.Iterations (of.Slot m)) x = absurd x.0
-common_refuses h n (head.Iterations of.Digest) x = (x, refl)
-common_refuses h n head.Device x = (x, refl)
-common_refuses h n head.Memory x = (x, refl)
+common_refuses h n other x = (x, refl)
 
 entry_refuses : (h : List ℕ) (n : ℕ) (f : HeadFault) → n < 8 → IsEntryFault n (entry h n) f → IsLuks1HeadRefusal h n f × (head_step f ≡ 4)
-entry_refuses h n head.TooShort lt x = absurd x
-entry_refuses h n head.NotLuks lt x = absurd x
-entry_refuses h n head.Version lt x = absurd x
-entry_refuses h n head.NoSoundCopy lt x = absurd x
-entry_refuses h n (head.Text t) lt x = absurd x
-entry_refuses h n head.Uuid lt x = absurd x
 entry_refuses h n (head.SlotState m) lt x = ((lt, x), refl)
-entry_refuses h n head.KeyBytes lt x = absurd x
 entry_refuses h n (head.Stripes m) lt x = ((lt, x), refl)
 entry_refuses h n (head.Iterations (of.Slot m)) lt x = ((lt, x), refl)
-entry_refuses h n (head.Iterations of.Digest) lt x = absurd x
-entry_refuses h n head.Device lt x = absurd x
-entry_refuses h n head.Memory lt x = absurd x
+entry_refuses h n other lt x = absurd x
 
 -- ---- the first step: the fields before the keyslots
 
@@ -104,13 +77,11 @@ common_first h total n f least = (refuses.0, after)
       | inl x ↦ together (head_step f) (head_step g) (head_key f) (head_key g) (refuses.1 ∙ sym x.step) (least.1 g x.fault)
       | inr x ↦ let here = refuses.1 in let there = x.step in sooner (head_step f) (head_step g) (head_key f) (head_key g) (omega (arith, here, there))
     ]
-    after (Meta g) is = absurd is
     after NoSuchSlot is = let here = refuses.1 in sooner (head_step f) 3 (head_key f) [] (omega (arith, here))
     after SlotFree is = let here = refuses.1 in sooner (head_step f) 5 (head_key f) [] (omega (arith, here))
     after Outside is = let here = refuses.1 in sooner (head_step f) 6 (head_key f) [] (omega (arith, here))
     after (Slot g) is = let here = refuses.1 in sooner (head_step f) 7 (head_key f) (slot_row g ∷ []) (omega (arith, here))
-    after Device is = absurd is
-    after Memory is = absurd is
+    after other is = absurd is
 
 -- in the words of an opening
 pub common_refused : (h : List ℕ) (total n : ℕ) (f : HeadFault) → IsLeast head_key (IsCommonFault h) f
@@ -132,13 +103,11 @@ entry_first h total n (Head f) clear x = (refuses.0, after)
       | inl y ↦ absurd (clear g y.fault)
       | inr y ↦ together (head_step f) (head_step g) (head_key f) (head_key g) (refuses.1 ∙ sym y.step) (x.least.1 g y.fault)
     ]
-    after (Meta g) is = absurd is
     after NoSuchSlot is = let lt = x.numbered in absurd (omega (arith, lt, is))
     after SlotFree is = let here = refuses.1 in sooner (head_step f) 5 (head_key f) [] (omega (arith, here))
     after Outside is = let here = refuses.1 in sooner (head_step f) 6 (head_key f) [] (omega (arith, here))
     after (Slot g) is = let here = refuses.1 in sooner (head_step f) 7 (head_key f) (slot_row g ∷ []) (omega (arith, here))
-    after Device is = absurd is
-    after Memory is = absurd is
+    after other is = absurd is
 entry_first h total n (Meta f) clear x = absurd x
 entry_first h total n NoSuchSlot clear x = (x, after)
   where

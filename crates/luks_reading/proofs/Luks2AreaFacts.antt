@@ -1,5 +1,5 @@
 -- The areas of a LUKS2 volume, added name by name.
-use Rattle.std.proofs.Common.{◌≡◌, ℕ, ◌+◌, ◌<◌, List, [], ◌∷◌, ◌++◌, length, codes, Option, Some, None, unwrap_or, option_and_then, ◌⊎◌, inl, inr, refl, subst, sym, ap, ◌∙◌, arith, length-append}
+use Rattle.std.proofs.Common.{◌≡◌, ℕ, ◌+◌, ◌<◌, List, ◌∷◌, ◌++◌, length, codes, Option, Some, None, unwrap_or, option_and_then, ◌⊎◌, inl, inr, refl, subst, sym, ap, ◌∙◌, arith, length-append}
 use Rattle.std.proofs.lemmas.Bool.{cases_lt}
 use Rattle.serde_json.specs.Data.{Data as Json}
 use Rattle.serde_json.specs.Find.{get}
@@ -10,7 +10,7 @@ use Rattle.luks_area.specs.declared.areas.Entry.{Entry}
 use Rattle.luks_area.specs.Area.{IsBefore}
 use Rattle.luks_rules.specs.declared.table.Section.TheVariants.{Keyslots, Segments}
 use Rattle.luks_meta.specs.Faults.{object_at}
-use Rattle.luks_meta.specs.Reading.{Field, object, text, whole, absent, dynamic, bytes, names, decimal_in, extent_of, text_of}
+use Rattle.luks_meta.specs.Reading.{Field, whole, dynamic, decimal_in, extent_of, text_of}
 use Rattle.luks_reading.specs.declared.report.Data.{Data}
 use Rattle.luks_reading.specs.declared.report.Data.TheVariants.{Here, Elsewhere}
 use Rattle.luks_reading.specs.Layout2.{slot_number, segment_offset, segment_extent, HasExtent, Luks2Area}
@@ -21,26 +21,20 @@ same_value : (o : Option ℕ) (m n : ℕ) → o ≡ Some m → o ≡ Some n → 
 same_value o m n p q = ap (λ v. unwrap_or v m) (sym p ∙ q)
 
 same_length : (total start m n : ℕ) (e : Option Field) → HasExtent total start m e → HasExtent total start n e → m ≡ n
-same_length total start m n None p q = absurd p
-same_length total start m n (Some object) p q = absurd p
-same_length total start m n (Some (text t)) p q = absurd p
 same_length total start m n (Some (whole k)) p q = p ∙ sym q
-same_length total start m n (Some absent) p q = absurd p
 same_length total start m n (Some dynamic) p q = p ∙ sym q
-same_length total start m n (Some (bytes b)) p q = absurd p
-same_length total start m n (Some (names ts)) p q = absurd p
+same_length total start m n other p q = absurd p
 
 -- a name has one area
 pub luks2_area-unique : (j : Json) (h : ℕ) (payload : Data) (total : ℕ) (n : AreaName) (a b : Area)
     → Luks2Area j h payload total n a → Luks2Area j h payload total n b → a ≡ b
-luks2_area-unique j h payload total Head1 a b p q = same_area a b (p.0 ∙ sym q.0) (p.1 ∙ sym q.1)
-luks2_area-unique j h payload total Head2 a b p q = same_area a b (p.0 ∙ sym q.0) (p.1 ∙ sym q.1)
 luks2_area-unique j h payload total (Slot n) a b p q =
     same_area a b (same_value (slot_number j n (codes "offset")) _ _ p.1 q.1) (same_value (slot_number j n (codes "size")) _ _ p.2 q.2)
 luks2_area-unique j h payload total (Segment n) a b p q =
     let start : a.start ≡ b.start = same_value (segment_offset j n) _ _ p.2 q.2 in
     same_area a b start
     (same_length total b.start a.len b.len (segment_extent j n) (subst (λ s. HasExtent total s a.len (segment_extent j n)) start p.3) q.3)
+luks2_area-unique j h payload total other a b p q = same_area a b (p.0 ∙ sym q.0) (p.1 ∙ sym q.1)
 
 -- no object, no area
 no_slot : (j : Json) (n : ℕ) (start : ℕ) → object_at j Keyslots n ≡ None → slot_number j n (codes "offset") ≡ Some start → ⊥
@@ -63,8 +57,6 @@ segment_wider n m h = (h.0, λ e. let lt = h.1 e in omega (arith, lt))
 -- a name of the set before the next slot is this slot or stands before it
 slot_between : (j : Json) (h : ℕ) (payload : Data) (total n : ℕ) (m : AreaName) (b : Area) → Luks2Area j h payload total m b
     → IsBefore m (Slot (n + 1)) → IsBefore m (Slot n) ⊎ ((Slot n ≡ m) × Luks2Area j h payload total (Slot n) b)
-slot_between j h payload total n Head1 b g before = inl (omega arith, λ e. absurd (omega (arith, e)))
-slot_between j h payload total n Head2 b g before = inl (omega arith, λ e. absurd (omega (arith, e)))
 slot_between j h payload total n (Slot k) b g before =
     let lt : k < n + 1 = before.1 refl in
     elim (cases_lt k n) [
@@ -72,18 +64,17 @@ slot_between j h payload total n (Slot k) b g before =
       | inr more ↦ let e : k ≡ n = omega (arith, lt, more) in inr (ap Slot (sym e), subst (λ q. Luks2Area j h payload total (Slot q) b) e g)
     ]
 slot_between j h payload total n (Segment k) b g before = let low = before.0 in absurd (omega (arith, low))
+slot_between j h payload total n other b g before = inl (omega arith, λ e. absurd (omega (arith, e)))
 
 segment_between : (j : Json) (h : ℕ) (payload : Data) (total n : ℕ) (m : AreaName) (b : Area) → Luks2Area j h payload total m b
     → IsBefore m (Segment (n + 1)) → IsBefore m (Segment n) ⊎ ((Segment n ≡ m) × Luks2Area j h payload total (Segment n) b)
-segment_between j h payload total n Head1 b g before = inl (omega arith, λ e. absurd (omega (arith, e)))
-segment_between j h payload total n Head2 b g before = inl (omega arith, λ e. absurd (omega (arith, e)))
-segment_between j h payload total n (Slot k) b g before = inl (omega arith, λ e. absurd (omega (arith, e)))
 segment_between j h payload total n (Segment k) b g before =
     let lt : k < n + 1 = before.1 refl in
     elim (cases_lt k n) [
       | inl less ↦ inl (omega arith, λ _. less)
       | inr more ↦ let e : k ≡ n = omega (arith, lt, more) in inr (ap Segment (sym e), subst (λ q. Luks2Area j h payload total (Segment q) b) e g)
     ]
+segment_between j h payload total n other b g before = inl (omega arith, λ e. absurd (omega (arith, e)))
 
 pub slot-listed : (j : Json) (h : ℕ) (payload : Data) (total n : ℕ) (es : List Entry) (a : Area) → n < 32
     → slot_number j n (codes "offset") ≡ Some a.start → slot_number j n (codes "size") ≡ Some a.len
@@ -137,10 +128,9 @@ slots-done j h payload total es listed =
     wider n before = let low = before.0 in (omega (arith, low), λ e. absurd (omega (arith, e, low)))
 
     between : (n : AreaName) (a : Area) → Luks2Area j h payload total n a → IsBefore n (Segment 0) → IsBefore n (Slot 32)
-    between Head1 a g before = (omega arith, λ e. absurd (omega (arith, e)))
-    between Head2 a g before = (omega arith, λ e. absurd (omega (arith, e)))
     between (Slot k) a g before = (omega arith, λ _. g.0)
     between (Segment k) a g before = let lt : k < 0 = before.1 refl in absurd (omega (arith, lt))
+    between other a g before = (omega arith, λ e. absurd (omega (arith, e)))
 
 pub segments-done : (j : Json) (h : ℕ) (payload : Data) (total : ℕ) (es : List Entry)
     → ListsBelow es (Luks2Area j h payload total) (Segment 32) → Lists es (Luks2Area j h payload total)

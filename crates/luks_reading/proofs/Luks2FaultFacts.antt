@@ -21,7 +21,7 @@ use Rattle.luks_meta.specs.MetaFault.{Json, IsMetaFault, meta_key}
 use Rattle.luks_meta.specs.Reading.{decimal_in}
 use Rattle.luks_meta.specs.Sizes.{has_segment_below, inside_at, is_below, keyslots_size, of_both, region_start, IsFirst}
 use Rattle.luks_reading.specs.declared.check_fault.CheckFault.{CheckFault}
-use Rattle.luks_reading.specs.declared.check_fault.CheckFault.TheVariants.{Head, Meta, Area, Device, Memory}
+use Rattle.luks_reading.specs.declared.check_fault.CheckFault.TheVariants.{Head, Meta, Area, Memory}
 use Rattle.luks_reading.specs.declared.report.Data.{Data}
 use Rattle.luks_reading.specs.declared.report.Data.TheVariants.{Here}
 use Rattle.luks_reading.specs.Checked.{check_key, HasLuks2Area, HasSegmentBelow, HoldsMeta, IsFirstBelow, IsLuks2MetaFault, IsLuks2Fault, IsLuks2Faultless, SegmentsFollow}
@@ -72,20 +72,8 @@ lists_value b json payload total size j es sized holds lists = record {
 -- a fault of the metadata of the copy is one of the JSON area, or a segment's
 pub meta_cases : (json : List ℕ) (payload : Data) (f : MetaFault) → IsLuks2MetaFault json payload f
     → IsMetaFault json f ⊎ ((n : ℕ) × ((f ≡ meta.Region (Segment n)) × HasSegmentBelow json payload n))
-meta_cases json payload meta.JsonArea is = inl is
-meta_cases json payload meta.BadJson is = inl is
-meta_cases json payload meta.NotWhole is = inl is
-meta_cases json payload (meta.Shape p) is = inl is
-meta_cases json payload (meta.Kind p) is = inl is
-meta_cases json payload (meta.NoSuchName p) is = inl is
-meta_cases json payload (meta.Assigned p) is = inl is
-meta_cases json payload meta.Sizes is = inl is
-meta_cases json payload (meta.AreaTooSmall n) is = inl is
-meta_cases json payload (meta.Region Head1) is = inl is
-meta_cases json payload (meta.Region Head2) is = inl is
-meta_cases json payload (meta.Region (Slot n)) is = inl is
 meta_cases json payload (meta.Region (Segment n)) is = inr (n, (refl, is))
-meta_cases json payload meta.Memory is = inl is
+meta_cases json payload other is = inl is
 
 pub least_area2 : (b json : List ℕ) (payload : Data) (total : ℕ) (j : Value) (f : AreaFault) → IsLuks2Faultless b json
     → Json json j → (payload ≡ Here → SegmentsFollow (length json) j)
@@ -103,8 +91,7 @@ least_area2 b json payload total j f faultless holds follow least = (least.0, af
       | inr other ↦ absurd (no_segment other.0 other.1.1)
     ]
     after (Area g) is = (omega arith, λ _. least.1 g is)
-    after Device is = absurd is
-    after Memory is = absurd is
+    after other is = absurd is
 
 pub least_segment : (b json : List ℕ) (payload : Data) (total : ℕ) (j : Value) (n : ℕ) → IsLuks2Faultless b json
     → Json json j → IsFirstBelow json payload j n
@@ -133,41 +120,20 @@ least_segment b json payload total j n faultless holds first =
           (after_segment other.0 (not_before other.0 other.1.1))
     ]
     after (Area g) is = (omega arith, λ e. absurd (omega (arith, e)))
-    after Device is = absurd is
-    after Memory is = absurd is
+    after other is = absurd is
 
 -- a fault of the metadata stands before that of any segment
 pub before_segment : (json : List ℕ) (f : MetaFault) (n : ℕ) → IsMetaFault json f → NotAfter (meta_key f) (meta_key (meta.Region (Segment n)))
-before_segment json meta.JsonArea n is = (omega arith, λ e. absurd (omega (arith, e)))
-before_segment json meta.BadJson n is = (omega arith, λ e. absurd (omega (arith, e)))
-before_segment json meta.NotWhole n is = (omega arith, λ e. absurd (omega (arith, e)))
-before_segment json (meta.Shape p) n is = (omega arith, λ e. absurd (omega (arith, e)))
-before_segment json (meta.Kind p) n is = (omega arith, λ e. absurd (omega (arith, e)))
-before_segment json (meta.NoSuchName p) n is = (omega arith, λ e. absurd (omega (arith, e)))
-before_segment json (meta.Assigned p) n is = (omega arith, λ e. absurd (omega (arith, e)))
-before_segment json meta.Sizes n is = (omega arith, λ e. absurd (omega (arith, e)))
-before_segment json (meta.AreaTooSmall m) n is = (omega arith, λ e. absurd (omega (arith, e)))
 before_segment json (meta.Region Head1) n is = absurd is.fault
 before_segment json (meta.Region Head2) n is = absurd is.fault
 before_segment json (meta.Region (Slot m)) n is = (omega arith, λ _. (omega arith, λ e. absurd (omega (arith, e))))
 before_segment json (meta.Region (Segment m)) n is = absurd is.fault
 before_segment json meta.Memory n is = absurd is
+before_segment json other n is = (omega arith, λ e. absurd (omega (arith, e)))
 
 pub to_luks2_fault : (json : List ℕ) (payload : Data) (f : MetaFault) → IsMetaFault json f → IsLuks2MetaFault json payload f
-to_luks2_fault json payload meta.JsonArea is = is
-to_luks2_fault json payload meta.BadJson is = is
-to_luks2_fault json payload meta.NotWhole is = is
-to_luks2_fault json payload (meta.Shape p) is = is
-to_luks2_fault json payload (meta.Kind p) is = is
-to_luks2_fault json payload (meta.NoSuchName p) is = is
-to_luks2_fault json payload (meta.Assigned p) is = is
-to_luks2_fault json payload meta.Sizes is = is
-to_luks2_fault json payload (meta.AreaTooSmall m) is = is
-to_luks2_fault json payload (meta.Region Head1) is = is
-to_luks2_fault json payload (meta.Region Head2) is = is
-to_luks2_fault json payload (meta.Region (Slot m)) is = is
 to_luks2_fault json payload (meta.Region (Segment m)) is = absurd is.fault
-to_luks2_fault json payload meta.Memory is = is
+to_luks2_fault json payload other is = is
 
 -- ---- what the metadata that was read tells of the region
 

@@ -1,6 +1,6 @@
 -- The refusals of a LUKS2 keyslot, step by step: the first of a step is the first of all, where no
 -- earlier step has any.
-use Rattle.std.proofs.Common.{◌≡◌, ℕ, ◌<◌, List, [], ◌∷◌, length, refl, sym, ap, ◌∙◌, arith, subst, Option, Some, None, IfSome, IsNone}
+use Rattle.std.proofs.Common.{◌≡◌, ℕ, ◌<◌, List, ◌∷◌, length, refl, sym, ap, ◌∙◌, arith, subst, Option, Some, None, IfSome, IsNone}
 use Rattle.serde_json.specs.Data.{Data}
 use Rattle.luks_area.specs.First.{NotAfter, IsLeast}
 use Rattle.luks1_header.specs.declared.fault.HeadFault.{HeadFault}
@@ -24,18 +24,9 @@ use Rattle.luks_reading.proofs.Luks2Plans.{IsOnly, one_luks2_plan}
 use Rattle.luks_reading.proofs.Luks1Refusals.{sooner, together}
 
 pub uuid_step : (uuid : List ℕ) (f : HeadFault) → IsUuidFault uuid f → head_step f ≡ 1
-uuid_step uuid head.TooShort x = absurd x
-uuid_step uuid head.NotLuks x = absurd x
-uuid_step uuid head.Version x = absurd x
-uuid_step uuid head.NoSoundCopy x = absurd x
 uuid_step uuid (head.Text t) x = refl
 uuid_step uuid head.Uuid x = refl
-uuid_step uuid (head.SlotState m) x = absurd x
-uuid_step uuid head.KeyBytes x = absurd x
-uuid_step uuid (head.Stripes m) x = absurd x
-uuid_step uuid (head.Iterations o) x = absurd x
-uuid_step uuid head.Device x = absurd x
-uuid_step uuid head.Memory x = absurd x
+uuid_step uuid other x = absurd x
 
 -- ---- the keyslot
 

@@ -1,5 +1,5 @@
 -- A keyslot has one answer.
-use Rattle.std.proofs.Common.{◌≡◌, ℕ, ◌≤◌, List, [], ◌∷◌, Option, Some, None, Result, Ok, Err, IfOk, IfErr, ◌↔◌, inl, inr, refl, ap, subst, sym, ◌∙◌, arith}
+use Rattle.std.proofs.Common.{◌≡◌, ℕ, ◌≤◌, List, ◌∷◌, Option, Some, None, Result, Ok, Err, IfOk, IfErr, ◌↔◌, inl, inr, refl, ap, subst, sym, ◌∙◌, arith}
 use Rattle.serde_json.specs.Data.{Data as Value}
 use Rattle.luks_area.specs.First.{NotAfter, IsLeast}
 use Rattle.luks_area.specs.Ranges.{part}
@@ -89,9 +89,8 @@ ok_agrees None (refused f) e = e
 
 -- a refusal by a fault of the volume's own
 own_agrees : (f : OpenFault) (a : Opened) → IsOwn f → IsSameAnswer a (refused f) → Agrees a (Err f)
-own_agrees f (opens k) own e = absurd e
-own_agrees f no_key own e = absurd e
 own_agrees f (refused g) own e = own.same g e
+own_agrees f other own e = absurd e
 
 -- the device's failure and want of memory agree with each answer
 device_agrees : (a : Opened) → Agrees a (Err Device)

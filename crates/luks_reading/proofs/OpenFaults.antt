@@ -3,7 +3,7 @@
 use Rattle.std.proofs.Common.{◌≡◌, ◌≢◌, ℕ, List, true, false, Option, None, Result, Ok, Err, IfOk, IfErr, ◌⊎◌, inl, inr, refl, subst, sym}
 use Rattle.luks_area.specs.First.{IsLeast}
 use Rattle.luks_reading.specs.declared.open_fault.OpenFault.{OpenFault}
-use Rattle.luks_reading.specs.declared.open_fault.OpenFault.TheVariants.{Head, Meta, NoSuchSlot, SlotFree, Outside, Slot, Device, Memory}
+use Rattle.luks_reading.specs.declared.open_fault.OpenFault.TheVariants.{Device, Memory}
 use Rattle.luks_reading.specs.Agreement.{IsSameRefusal}
 use Rattle.luks_reading.specs.Answer.{open_key, AnswerWithin, IsRefusedByWithin, refused}
 use Rattle.luks_reading.specs.Failures.{is_open_failure, is_own}
@@ -26,14 +26,9 @@ abbrev pub Ending : OpenFault → Type 0
 Ending f = (f ≡ Device) ⊎ ((f ≡ Memory) ⊎ IsOwn f)
 
 pub ending : (f : OpenFault) → Ending f
-ending (Head f) = inr (inr (record { no_failure = refl; passed = refl; same = λ g e. e; own = refl; refuses = λ memory v n p x. x; refused = λ memory v n p x. x; locks = λ v x. x; locked = λ v x. x }))
-ending (Meta f) = inr (inr (record { no_failure = refl; passed = refl; same = λ g e. e; own = refl; refuses = λ memory v n p x. x; refused = λ memory v n p x. x; locks = λ v x. x; locked = λ v x. x }))
-ending NoSuchSlot = inr (inr (record { no_failure = refl; passed = refl; same = λ g e. e; own = refl; refuses = λ memory v n p x. x; refused = λ memory v n p x. x; locks = λ v x. x; locked = λ v x. x }))
-ending SlotFree = inr (inr (record { no_failure = refl; passed = refl; same = λ g e. e; own = refl; refuses = λ memory v n p x. x; refused = λ memory v n p x. x; locks = λ v x. x; locked = λ v x. x }))
-ending Outside = inr (inr (record { no_failure = refl; passed = refl; same = λ g e. e; own = refl; refuses = λ memory v n p x. x; refused = λ memory v n p x. x; locks = λ v x. x; locked = λ v x. x }))
-ending (Slot f) = inr (inr (record { no_failure = refl; passed = refl; same = λ g e. e; own = refl; refuses = λ memory v n p x. x; refused = λ memory v n p x. x; locks = λ v x. x; locked = λ v x. x }))
 ending Device = inl refl
 ending Memory = inr (inl refl)
+ending other = inr (inr (record { no_failure = refl; passed = refl; same = λ g e. e; own = refl; refuses = λ memory v n p x. x; refused = λ memory v n p x. x; locks = λ v x. x; locked = λ v x. x }))
 
 -- the device's failure is one fault
 pub failed : (f : OpenFault) → is_open_failure f ≡ true → f ≡ Device

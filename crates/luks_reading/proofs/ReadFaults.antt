@@ -26,39 +26,20 @@ use Rattle.luks_reading.specs.Header.{json_at, read_key, IsChosenCopy, IsReadFau
 
 pub meta_refused : (uuid json : List ℕ) (f : MetaFault) → ((g : HeadFault) → IsUuidFault uuid g → ⊥)
     → (f ≢ meta.Memory → IsLeast meta_key (IsMetaFault json) f) → CopyRefused uuid json (meta_unread f)
-meta_refused uuid json meta.JsonArea clear x = record { uuid_faultless = clear; least = x (λ e. cc) }
-meta_refused uuid json meta.BadJson clear x = record { uuid_faultless = clear; least = x (λ e. cc) }
-meta_refused uuid json meta.NotWhole clear x = record { uuid_faultless = clear; least = x (λ e. cc) }
-meta_refused uuid json (meta.Shape p) clear x = record { uuid_faultless = clear; least = x (λ e. cc) }
-meta_refused uuid json (meta.Kind p) clear x = record { uuid_faultless = clear; least = x (λ e. cc) }
-meta_refused uuid json (meta.NoSuchName p) clear x = record { uuid_faultless = clear; least = x (λ e. cc) }
-meta_refused uuid json (meta.Assigned p) clear x = record { uuid_faultless = clear; least = x (λ e. cc) }
-meta_refused uuid json meta.Sizes clear x = record { uuid_faultless = clear; least = x (λ e. cc) }
-meta_refused uuid json (meta.AreaTooSmall n) clear x = record { uuid_faultless = clear; least = x (λ e. cc) }
-meta_refused uuid json (meta.Region n) clear x = record { uuid_faultless = clear; least = x (λ e. cc) }
 meta_refused uuid json meta.Memory clear x = clear
+meta_refused uuid json other clear x = record { uuid_faultless = clear; least = x (λ e. cc) }
 
 pub outside_refuses : (uuid json : List ℕ) (f : ReadFault) → IsFromOutside f → ((g : HeadFault) → IsUuidFault uuid g → ⊥) → CopyRefused uuid json f
-outside_refuses uuid json (Head f) x clear = absurd x
-outside_refuses uuid json (Meta f) x clear = absurd x
 outside_refuses uuid json Device x clear = tt
 outside_refuses uuid json Memory x clear = clear
+outside_refuses uuid json other x clear = absurd x
 
 -- ---- a head fault that is neither the device's nor want of memory stays what it is
 
 pub own_head : (f : HeadFault) → f ≢ head.Device → f ≢ head.Memory → head_unread f ≡ Head f
-own_head head.TooShort no_device no_memory = refl
-own_head head.NotLuks no_device no_memory = refl
-own_head head.Version no_device no_memory = refl
-own_head head.NoSoundCopy no_device no_memory = refl
-own_head (head.Text t) no_device no_memory = refl
-own_head head.Uuid no_device no_memory = refl
-own_head (head.SlotState n) no_device no_memory = refl
-own_head head.KeyBytes no_device no_memory = refl
-own_head (head.Stripes n) no_device no_memory = refl
-own_head (head.Iterations o) no_device no_memory = refl
 own_head head.Device no_device no_memory = absurd (no_device refl)
 own_head head.Memory no_device no_memory = absurd (no_memory refl)
+own_head other no_device no_memory = refl
 
 -- ---- from what counts of a volume to the volume
 
@@ -71,14 +52,7 @@ nothing_counts v head.TooShort x = (λ is. let long = is.long in omega (arith, l
 nothing_counts v head.NotLuks x = x.0
 nothing_counts v head.Version x = x.0
 nothing_counts v head.NoSoundCopy x = x
-nothing_counts v (head.Text t) x = absurd x
-nothing_counts v head.Uuid x = absurd x
-nothing_counts v (head.SlotState m) x = absurd x
-nothing_counts v head.KeyBytes x = absurd x
-nothing_counts v (head.Stripes m) x = absurd x
-nothing_counts v (head.Iterations o) x = absurd x
-nothing_counts v head.Device x = absurd x
-nothing_counts v head.Memory x = absurd x
+nothing_counts v other x = absurd x
 
 -- the first fault by what counts, as a fault of the volume, and back
 pub unread_as : (v : List ℕ) (c : Choice) (f : ReadFault) → Chosen v c
@@ -117,14 +91,8 @@ select_unread v head.NotLuks kind x = unread_as v nothing (Head head.NotLuks) (n
 select_unread v head.Version kind x = unread_as v nothing (Head head.Version) (nothing_counts v head.Version x.0) (select_least v head.Version x)
 select_unread v head.NoSoundCopy kind x =
     unread_as v nothing (Head head.NoSoundCopy) (nothing_counts v head.NoSoundCopy x.0) (select_least v head.NoSoundCopy x)
-select_unread v (head.Text t) kind x = absurd kind
-select_unread v head.Uuid kind x = absurd kind
-select_unread v (head.SlotState m) kind x = absurd kind
-select_unread v head.KeyBytes kind x = absurd kind
-select_unread v (head.Stripes m) kind x = absurd kind
-select_unread v (head.Iterations o) kind x = absurd kind
 select_unread v head.Device kind x = tt
-select_unread v head.Memory kind x = absurd kind
+select_unread v other kind x = absurd kind
 
 -- ---- a copy counts
 

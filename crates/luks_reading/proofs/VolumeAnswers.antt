@@ -129,13 +129,7 @@ luks1_stays_shut memory v p n chosen shut k y =
 
 not_locked : (h : List ℕ) (f : OpenFault) → ((g : HeadFault) → IsCommonFault h g → ⊥) → IsLuks1VolumeRefusal h f → ⊥
 not_locked h (Head f) clear x = clear f x
-not_locked h (Meta f) clear x = x
-not_locked h NoSuchSlot clear x = x
-not_locked h SlotFree clear x = x
-not_locked h Outside clear x = x
-not_locked h (Slot f) clear x = x
-not_locked h Device clear x = x
-not_locked h Memory clear x = x
+not_locked h other clear x = x
 
 luks1_unlocks : (memory : ℕ) (v p : List ℕ) (found : Option (ℕ × List ℕ)) → Chosen v luks1
     → ((g : HeadFault) → IsCommonFault (part v 0 592) g → ⊥) → Luks1Tries (part v 0 592) v p found → Unlocks memory v p found
@@ -157,12 +151,7 @@ luks1_unlocks_as memory v p (Err f) chosen clear x = tt
 pub cleared_not_locked : (b json : List ℕ) (j : Data) (f : OpenFault) → IsCleared (uuid_field b) json j → IsLuks2VolumeRefusal b json f → ⊥
 cleared_not_locked b json j (Head f) clear x = clear.uuid_faultless f x
 cleared_not_locked b json j (Meta f) clear x = clear.faultless f x
-cleared_not_locked b json j NoSuchSlot clear x = x
-cleared_not_locked b json j SlotFree clear x = x
-cleared_not_locked b json j Outside clear x = x
-cleared_not_locked b json j (Slot f) clear x = x
-cleared_not_locked b json j Device clear x = x
-cleared_not_locked b json j Memory clear x = x
+cleared_not_locked b json j other clear x = x
 
 both_ranks : (j : Data) → rank_order Preferred j ++ rank_order Normal j ≡ luks2_order j
 unfolding luks2_order
@@ -210,14 +199,9 @@ luks2_unlocks memory v p o copies j found chosen clear x = record {
 
 -- the device's failure and want of memory lock no volume by a fault of its own
 pub device_locks : (v : List ℕ) (f : OpenFault) → NeedsMetadata v → IsOfDevice f → IsVolumeRefusedBy v f
-device_locks v (Head f) needs x = absurd x
-device_locks v (Meta f) needs x = absurd x
-device_locks v NoSuchSlot needs x = absurd x
-device_locks v SlotFree needs x = absurd x
-device_locks v Outside needs x = absurd x
-device_locks v (Slot f) needs x = absurd x
 device_locks v Device needs x = tt
 device_locks v Memory needs x = needs
+device_locks v other needs x = absurd x
 
 -- no memory is taken for what locks a LUKS1 volume
 pub luks1_locked_own : (h : List ℕ) (f : OpenFault) → Luks1VolumeRefused h f → f ≢ Memory

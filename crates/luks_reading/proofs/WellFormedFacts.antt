@@ -23,7 +23,7 @@ use Rattle.luks_meta.specs.Accepted.{IsMeta}
 use Rattle.luks_meta.specs.MetaFault.{Json, IsMetaFault}
 use Rattle.luks_meta.specs.Sizes.{has_segment_below}
 use Rattle.luks_reading.specs.declared.check_fault.CheckFault.{CheckFault}
-use Rattle.luks_reading.specs.declared.check_fault.CheckFault.TheVariants.{Head, Meta, Area, Device, Memory}
+use Rattle.luks_reading.specs.declared.check_fault.CheckFault.TheVariants.{Head, Meta, Area}
 use Rattle.luks_reading.specs.declared.report.Data.{Data}
 use Rattle.luks_reading.specs.Checked.{IsLuks1Volume, IsLuks1Fault, IsLuks2Layout, IsLuks2Volume, IsLuks2Fault, HasLuks2Area, HasSegmentBelow, WellFormedAs, HasAreaAs, IsFaultAs, WellFormed, AreaOf, IsFault}
 use Rattle.luks_reading.specs.Header.{json_at}
@@ -55,10 +55,8 @@ luks1_formed h payload total header none = record {
 luks1_sound : (h : List ℕ) (payload : Data) (total : ℕ) → ((f : HeadFault) → IsLuks1HeadFault h f → ⊥) ↔ ((d : Luks1) × IsLuks1 h d)
     → IsLuks1Volume h payload total → (f : CheckFault) → IsLuks1Fault h payload total f → ⊥
 luks1_sound h payload total header well (Head f) is = header.1 well.header f is
-luks1_sound h payload total header well (Meta f) is = is
 luks1_sound h payload total header well (Area f) is = no_area_fault (Luks1Area h payload total) total f well.fit is
-luks1_sound h payload total header well Device is = is
-luks1_sound h payload total header well Memory is = is
+luks1_sound h payload total header well other is = is
 
 -- ---- LUKS2
 
@@ -107,8 +105,7 @@ luks2_sound b json payload total uuid metadata one well (Meta f) is = elim (meta
         (well.layout.1.segments has.here)
 luks2_sound b json payload total uuid metadata one well (Area f) is =
     no_area_fault (HasLuks2Area b json payload total) total f (luks2_fit b json payload total well.layout.0 one well.layout.1) is
-luks2_sound b json payload total uuid metadata one well Device is = is
-luks2_sound b json payload total uuid metadata one well Memory is = is
+luks2_sound b json payload total uuid metadata one well other is = is
 
 -- ---- any volume, by the laws of its parts
 
