@@ -1,5 +1,5 @@
 -- What the header of a LUKS1 volume says has the ranges that its metadata needs.
-use Rattle.std.proofs.Common.{◌≡◌, ℕ, ◌+◌, ◌*◌, ◌<◌, ◌≤◌, ◌++◌, List, length, Bool, true, false, codes, Some, None, refl, sym, ap, subst, ◌∙◌, arith, inl, inr, length-append, get_or}
+use Rattle.std.proofs.Common.{◌≡◌, ℕ, ◌+◌, ◌*◌, ◌<◌, ◌≤◌, ◌++◌, List, [], length, Bool, true, false, codes, Some, None, refl, sym, ap, subst, ◌∙◌, arith, inl, inr, length-append, get_or}
 use Rattle.std.specs.Prelude.{◌==◌, ◌&&◌, nat_lt, not, take, if◌then◌else◌}
 use Rattle.std.proofs.lemmas.Bool.{and_parts, cases_lt, eqb-true, lt-ltb, ltb-true}
 use Rattle.std.proofs.lemmas.List.{get_or_past, length-take}
@@ -169,10 +169,3 @@ module _ (h : List ℕ) (is : IsSource h) where
 -- a header that was read, whose new areas have room, can be converted
 pub source_of : (h : List ℕ) (d : Luks1) → IsBytes h → length h ≡ 592 → IsLuks1 h d → HasRoom h → IsSource h
 source_of h d are_bytes long fields room = record { are_bytes = are_bytes; long = long; fields = (d, fields); room = room }
-
--- the key of a header that was read
-pub key_short : (h : List ℕ) (d : Luks1) → IsLuks1 h d → d.common.key_bytes ≤ 128
-key_short h d is =
-    let most = is.common.key_at_most in
-    let same : key_bytes_of h ≡ d.common.key_bytes = is.common.fields.key_bytes in
-    omega (arith, most, same)

@@ -1,11 +1,11 @@
 -- The backup that was made, and the faults of making it.
-use Rattle.std.proofs.Common.{◌≡◌, ℕ, ◌<◌, ◌≤◌, List, length, replicate, false, get_or, refl, arith}
+use Rattle.std.proofs.Common.{◌≡◌, ◌↔◌, ℕ, ◌<◌, ◌≤◌, List, length, replicate, false, get_or, refl, subst, arith}
 use Rattle.luks_area.specs.First.{NotAfter}
 use Rattle.luks_area.specs.Ranges.{part, IsAt, SameBut}
 use Rattle.luks_area.specs.RangeFacts.{same_but-wider}
 use Rattle.luks_reading.proofs.VolumeLaws.{well_formed_faultless}
 use Rattle.luks_reading.specs.Answer.{AnswerWithin, Opened}
-use Rattle.luks_reading.specs.Checked.{IsCheckRefusal, WellFormed}
+use Rattle.luks_reading.specs.Checked.{check_key, IsCheckRefusal, IsFault, WellFormed}
 use Rattle.luks_reading.specs.Failures.{is_check_failure}
 use Rattle.luks_reading.specs.Header.{IsHeader}
 use Rattle.luks_reading.specs.declared.check_fault.CheckFault.{CheckFault}
@@ -28,71 +28,73 @@ use Rattle.luks_keeping.specs.declared.places.Places.{Places}
 
 -- ---- what was made
 
-module _
-    (v : List ℕ) (payload : Data) (header : Header) (is : IsHeader v header) (places : Places) (laid : IsLaidOut header places)
-    (size : ℕ) (is_size : IsBackupSize v payload size) (well : WellFormed v payload) (old w : List ℕ) (room : size ≤ length w)
-    (rest : SameBut (IsAt 0 size) old w) (held : HoldsAll places v w) (lead : part w 0 places.lead ≡ replicate places.lead 0)
-    (zeros : (p : ℕ) → p < size → (IsOfPlaces places p → ⊥) → get_or w p 0 ≡ 0)
-  where
-    kept : HasKept v (choice_of header) w
-    kept = has_kept v header is places laid w held lead
+-- the backup of `v` that was written
+pub record IsBackupOf (v : List ℕ) (payload : Data) (header : Header) (places : Places) (size : ℕ) (old w : List ℕ) : Type 0 where
+  pub is : IsHeader v header
+  pub laid : IsLaidOut header places
+  pub is_size : IsBackupSize v payload size
+  pub well : WellFormed v payload
+  pub room : size ≤ length w
+  pub rest : SameBut (IsAt 0 size) old w
+  pub kept : HasKept v (choice_of header) w
+  pub zeros : (p : ℕ) → p < size → (IsOfPlaces places p → ⊥) → get_or w p 0 ≡ 0
 
-    pub is_backup : IsBackup v payload old w
-    is_backup = record {
-      choice = choice_of header;
-      chosen = chosen_of v header is;
-      size = size;
-      is_size = size_by v payload (choice_of header) size (chosen_of v header is) is_size;
-      within = room;
-      kept = kept;
-      zeros = λ p below other. zeros p below (λ at. other (place_kept v header is places laid p at));
-      rest = rest;
-    }
+pub backup_of : (v : List ℕ) (payload : Data) (header : Header) → IsHeader v header → (places : Places) → IsLaidOut header places → (size : ℕ) → IsBackupSize v payload size → WellFormed v payload
+    → (s old w : List ℕ) (total : ℕ) → s ≡ v → length w ≡ total → size ≤ total → SameBut (IsAt 0 size) old w → HoldsAll places s w → part w 0 places.lead ≡ replicate places.lead 0
+    → ((p : ℕ) → p < size → (IsOfPlaces places p → ⊥) → get_or w p 0 ≡ 0) → IsBackupOf v payload header places size old w
+backup_of v payload header is places laid size is_size well s old w total same long within rest held lead zeros = record {
+  is = is;
+  laid = laid;
+  is_size = is_size;
+  well = well;
+  room = omega (arith, long, within);
+  rest = rest;
+  kept = has_kept v header is places laid w (subst (λ (l : List ℕ). HoldsAll places l w) same held) lead;
+  zeros = zeros;
+}
 
-    fits : IsFormedOn v Elsewhere (length w)
-    fits = formed_longer v size (length w) room (fits_elsewhere v payload size (own_formed v payload well) is_size)
+module _ (v : List ℕ) (payload : Data) (header : Header) (places : Places) (size : ℕ) (old w : List ℕ) (x : IsBackupOf v payload header places size old w) where
+  pub is_backup : IsBackup v payload old w
+  is_backup = record {
+    choice = choice_of header;
+    chosen = chosen_of v header x.is;
+    size = size;
+    is_size = size_by v payload (choice_of header) size (chosen_of v header x.is) x.is_size;
+    within = x.room;
+    kept = x.kept;
+    zeros = λ p below other. x.zeros p below (λ at. other (place_kept v header x.is places x.laid p at));
+    rest = x.rest;
+  }
 
-    pub well_formed : WellFormed w Elsewhere
-    well_formed = well_formed_there v w payload Elsewhere (choice_of header) (chosen_of v header is) kept well fits
+  fits : IsFormedOn v Elsewhere (length w)
+  fits = formed_longer v size (length w) x.room (fits_elsewhere v payload size (own_formed v payload x.well) x.is_size)
 
-    pub to_backup : (memory n : ℕ) (p : List ℕ) (a : Opened) → AnswerWithin memory v n p a → AnswerWithin memory w n p a
-    to_backup memory n p a z = answer_there v w payload Elsewhere (choice_of header) (chosen_of v header is) kept well fits memory n p a z
+  pub well_formed : WellFormed w Elsewhere
+  well_formed = well_formed_there v w payload Elsewhere (choice_of header) (chosen_of v header x.is) x.kept x.well fits
 
-    pub from_backup : (memory n : ℕ) (p : List ℕ) (a : Opened) → AnswerWithin memory w n p a → AnswerWithin memory v n p a
-    from_backup memory n p a z = answer_here v w payload Elsewhere (choice_of header) (chosen_of v header is) kept well fits memory n p a z
+  pub answers_alike : (memory n : ℕ) (p : List ℕ) (a : Opened) → AnswerWithin memory v n p a ↔ AnswerWithin memory w n p a
+  answers_alike memory n p a = (
+    answer_there v w payload Elsewhere (choice_of header) (chosen_of v header x.is) x.kept x.well fits memory n p a,
+    answer_here v w payload Elsewhere (choice_of header) (chosen_of v header x.is) x.kept x.well fits memory n p a,
+  )
 
 pub of_backup : (v : List ℕ) (payload : Data) (size : ℕ) → IsBackupSize v payload size → {u w : List ℕ} → SameBut (IsAt 0 size) u w → SameBut (IsOfBackup v payload) u w
 of_backup v payload size is same = same_but-wider (λ p at. record { size = size; is_size = is; at = at }) same
 
 -- ---- the faults
 
-refused_first : (v : List ℕ) (payload : Data) (total : ℕ) (f : CheckFault) → IsCheckRefusal v payload f → IsAnsweredBackup v payload total (checked_backup f)
-refused_first v payload total (check.Head f) x = (x.0, after)
-  where
-    after : (g : BackupFault) → IsBackupFault v payload total g → NotAfter (backup_key (NotAccepted (check.Head f))) (backup_key g)
-    after (NotAccepted g) bad = (omega arith, λ e. x.1 g bad)
-    after TooSmall bad = (omega arith, λ e. absurd (omega (arith, e)))
-    after Memory bad = absurd bad
-    after Device bad = absurd bad
-refused_first v payload total (check.Meta f) x = (x.0, after)
-  where
-    after : (g : BackupFault) → IsBackupFault v payload total g → NotAfter (backup_key (NotAccepted (check.Meta f))) (backup_key g)
-    after (NotAccepted g) bad = (omega arith, λ e. x.1 g bad)
-    after TooSmall bad = (omega arith, λ e. absurd (omega (arith, e)))
-    after Memory bad = absurd bad
-    after Device bad = absurd bad
-refused_first v payload total (check.Area f) x = (x.0, after)
-  where
-    after : (g : BackupFault) → IsBackupFault v payload total g → NotAfter (backup_key (NotAccepted (check.Area f))) (backup_key g)
-    after (NotAccepted g) bad = (omega arith, λ e. x.1 g bad)
-    after TooSmall bad = (omega arith, λ e. absurd (omega (arith, e)))
-    after Memory bad = absurd bad
-    after Device bad = absurd bad
-refused_first v payload total check.Device x = tt
-refused_first v payload total check.Memory x = x
+after_accepted : (v : List ℕ) (payload : Data) (total : ℕ) (f : CheckFault) → ((g : CheckFault) → IsFault v payload g → NotAfter (check_key f) (check_key g))
+    → (g : BackupFault) → IsBackupFault v payload total g → NotAfter (backup_key (NotAccepted f)) (backup_key g)
+after_accepted v payload total f least (NotAccepted g) bad = (omega arith, λ e. least g bad)
+after_accepted v payload total f least TooSmall bad = (omega arith, λ e. absurd (omega (arith, e)))
+after_accepted v payload total f least other bad = absurd bad
 
 pub answered_refusal : (v : List ℕ) (payload : Data) (total : ℕ) (f : CheckFault) → IsCheckRefusal v payload f → IsAnsweredBackup v payload total (checked_backup f)
-answered_refusal v payload total f x = refused_first v payload total f x
+answered_refusal v payload total (check.Head f) x = (x.0, after_accepted v payload total (check.Head f) x.1)
+answered_refusal v payload total (check.Meta f) x = (x.0, after_accepted v payload total (check.Meta f) x.1)
+answered_refusal v payload total (check.Area f) x = (x.0, after_accepted v payload total (check.Area f) x.1)
+answered_refusal v payload total check.Device x = tt
+answered_refusal v payload total check.Memory x = x
 
 pub answered_short : (v : List ℕ) (payload : Data) (total : ℕ) → WellFormed v payload → IsShort v payload total → IsAnsweredBackup v payload total TooSmall
 answered_short v payload total well short = (short, after)

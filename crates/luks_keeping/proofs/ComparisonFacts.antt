@@ -1,5 +1,5 @@
 -- What is told and printed of the keyslots, one keyslot more.
-use Rattle.std.proofs.Common.{◌≡◌, ◌⊎◌, ◌↔◌, inl, inr, ℕ, ◌+◌, ◌<◌, List, ◌∷◌, ◌++◌, true, false, IsTrue, length, take, get_or, zero, suc, ap, ◌∙◌, sym, refl, append_assoc, append-nil, arith}
+use Rattle.std.proofs.Common.{◌≡◌, ◌⊎◌, ◌↔◌, inl, inr, ℕ, ◌+◌, ◌<◌, List, [], ◌∷◌, ◌++◌, true, false, IsTrue, length, take, get_or, zero, suc, ap, ◌∙◌, sym, refl, append_assoc, append-nil, arith}
 use Rattle.std.proofs.lemmas.Bool.{and_from, and_left, and_parts, and_right, false≢true}
 use Rattle.std.proofs.lemmas.List.{length-take-le, take_more}
 use Rattle.luks_keeping.specs.ComparisonTexts.{are_alike, is_alike, is_current, keyslot_line, keyslot_lines, IsCurrent}

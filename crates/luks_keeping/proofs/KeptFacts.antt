@@ -143,14 +143,6 @@ area_there v w nothing x h n a is = is
 
 -- ---- back again
 
--- the header of `w` stands in the volume, but for what isn't kept
-pub area_here : (v w : List ℕ) (c : Choice) → Chosen v c → HasHeader v c w → (n : ℕ) (a : Area) → KeptArea w c n a → KeptArea v c n a
-area_here v w luks1 x h n a is = subst (λ (b : List ℕ). IsUsedArea b n a) (fields_same v w h) is
-area_here v w (luks2 o copies) x h n a is =
-    subst (λ (b : List ℕ). HasLuks2Area b (json_at v o) Elsewhere 0 (Slot n) a) (header_same v w o copies x.1 h)
-    (subst (λ (j : List ℕ). HasLuks2Area (header_at w o) j Elsewhere 0 (Slot n) a) (json_same v w o copies x.1 h) is)
-area_here v w nothing x h n a is = is
-
 -- what has the header of the one has that of the other
 header_then : (v b w : List ℕ) (c : Choice) → Chosen v c → HasHeader v c b → HasHeader b c w → HasHeader v c w
 header_then v b w c x first second = record {

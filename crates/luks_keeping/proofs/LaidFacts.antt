@@ -144,9 +144,6 @@ module _ (v : List ℕ) (header : Header) (is : IsHeader v header) (places : Pla
   place_kept p (inl at) = inl (let low = at.0 in let high = at.1 in let end_ = end_is in (omega arith, omega (arith, low, high, end_)))
   place_kept p (inr x) = inr (record { number = x.number; area = x.of_place.area; is = to_kept v header is x.number x.of_place.area (laid.only x.number x.of_place.area x.of_place.is); at = x.of_place.at })
 
-  pub kept_but : {u w : List ℕ} → SameBut (IsOfPlaces places) u w → SameBut (IsKept v (choice_of header)) u w
-  kept_but same = same_but-wider place_kept same
-
   -- so are the header's places and the key areas
   whole_is : (p : ℕ) → IsOfWhole places p → IsKept v (choice_of header) p
   whole_is p (inl at) = inl (let high = at.1 in let end_ = end_is in (omega arith, omega (arith, high, end_)))

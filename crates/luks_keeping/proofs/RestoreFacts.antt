@@ -1,5 +1,5 @@
 -- What restoring a backup leaves, and the faults of it.
-use Rattle.std.proofs.Common.{◌≡◌, ◌≢◌, ℕ, List, length, replicate, refl, subst, arith, inl, inr}
+use Rattle.std.proofs.Common.{◌≡◌, ◌≢◌, ◌↔◌, ℕ, List, length, replicate, refl, subst, arith, inl, inr}
 use Rattle.std.proofs.lemmas.Bool.{cases_lt}
 use Rattle.serde_json.specs.Data.{Data as Value}
 use Rattle.luks_area.specs.Ranges.{part, IsAt, SameBut}
@@ -74,27 +74,41 @@ segment_stays b payload total header is formed same n a seg =
 pub of_restored : (b : List ℕ) (header : Header) → IsHeader b header → {u w : List ℕ} → SameBut (IsKept b (choice_of header)) u w → SameBut (IsOfRestored b) u w
 of_restored b header is same = same_but-wider (λ p x. record { choice = choice_of header; chosen = chosen_of b header is; kept = x }) same
 
-module _
-    (b : List ℕ) (payload : Data) (header : Header) (is : IsHeader b header) (places : Places) (laid : IsLaidOut header places) (well : WellFormed b Elsewhere)
-    (old w : List ℕ) (fits : IsFormedOn b payload (length w)) (rest : SameBut (IsOfWhole places) old w) (held : HoldsAll places b w)
-    (lead : part w 0 places.lead ≡ replicate places.lead 0)
-  where
-    kept : HasKept b (choice_of header) w
-    kept = has_kept b header is places laid w held lead
+-- the places of a header changed alone, on a target that was `t` before it was read
+pub kept_rest : (b : List ℕ) (header : Header) → IsHeader b header → (places : Places) → IsLaidOut header places → (t u w : List ℕ) → u ≡ t → SameBut (IsOfWhole places) u w
+    → SameBut (IsKept b (choice_of header)) t w
+kept_rest b header is places laid t u w same rest = whole_kept b header is places laid (subst (λ (l : List ℕ). SameBut (IsOfWhole places) l w) same rest)
 
-    pub is_restored : IsRestored b old w
-    is_restored = record {
-      choice = choice_of header;
-      chosen = chosen_of b header is;
-      kept = kept;
-      rest = whole_kept b header is places laid rest;
-    }
+-- the backup `b` written over the volume `t`
+pub record IsWrittenOver (b : List ℕ) (payload : Data) (header : Header) (places : Places) (t w : List ℕ) : Type 0 where
+  pub is : IsHeader b header
+  pub laid : IsLaidOut header places
+  pub well : WellFormed b Elsewhere
+  pub fits : IsFormedOn b payload (length w)
+  pub rest : SameBut (IsKept b (choice_of header)) t w
+  pub kept : HasKept b (choice_of header) w
 
-    pub well_formed : WellFormed w payload
-    well_formed = well_formed_there b w Elsewhere payload (choice_of header) (chosen_of b header is) kept well fits
+pub written_over : (b : List ℕ) (payload : Data) (header : Header) → IsHeader b header → (places : Places) → IsLaidOut header places → WellFormed b Elsewhere → (s t u w : List ℕ) (total : ℕ)
+    → s ≡ b → u ≡ t → total ≡ length w → IsFormedOn b payload total → SameBut (IsOfWhole places) u w → HoldsAll places s w → part w 0 places.lead ≡ replicate places.lead 0
+    → IsWrittenOver b payload header places t w
+written_over b payload header is places laid well s t u w total same unread long fits rest held lead = record {
+  is = is;
+  laid = laid;
+  well = well;
+  fits = subst (IsFormedOn b payload) long fits;
+  rest = kept_rest b header is places laid t u w unread rest;
+  kept = has_kept b header is places laid w (subst (λ (l : List ℕ). HoldsAll places l w) same held) lead;
+}
 
-    pub to_volume : (memory n : ℕ) (p : List ℕ) (a : Opened) → AnswerWithin memory b n p a → AnswerWithin memory w n p a
-    to_volume memory n p a z = answer_there b w Elsewhere payload (choice_of header) (chosen_of b header is) kept well fits memory n p a z
+module _ (b : List ℕ) (payload : Data) (header : Header) (places : Places) (t w : List ℕ) (x : IsWrittenOver b payload header places t w) where
+  pub is_restored : IsRestored b t w
+  is_restored = record { choice = choice_of header; chosen = chosen_of b header x.is; kept = x.kept; rest = x.rest }
 
-    pub from_volume : (memory n : ℕ) (p : List ℕ) (a : Opened) → AnswerWithin memory w n p a → AnswerWithin memory b n p a
-    from_volume memory n p a z = answer_here b w Elsewhere payload (choice_of header) (chosen_of b header is) kept well fits memory n p a z
+  pub well_formed : WellFormed w payload
+  well_formed = well_formed_there b w Elsewhere payload (choice_of header) (chosen_of b header x.is) x.kept x.well x.fits
+
+  pub answers_alike : (memory n : ℕ) (p : List ℕ) (a : Opened) → AnswerWithin memory b n p a ↔ AnswerWithin memory w n p a
+  answers_alike memory n p a = (
+    answer_there b w Elsewhere payload (choice_of header) (chosen_of b header x.is) x.kept x.well x.fits memory n p a,
+    answer_here b w Elsewhere payload (choice_of header) (chosen_of b header x.is) x.kept x.well x.fits memory n p a,
+  )

@@ -11,9 +11,10 @@ use Rattle.luks_reading.specs.declared.check_fault.CheckFault.{CheckFault}
 use Rattle.luks_reading.specs.declared.check_fault.CheckFault.TheVariants as check
 use Rattle.luks_reading.specs.declared.report.Data.{Data}
 use Rattle.luks_reading.specs.declared.report.Data.TheVariants.{Elsewhere}
-use Rattle.luks_keeping.specs.Judged.{IsFaultOn}
+use Rattle.luks_keeping.specs.Judged.{IsFaultOn, IsFormedOn}
 use Rattle.luks_keeping.specs.OtherHeaders.{IsOtherAnswer, IsUnfit}
 use Rattle.luks_keeping.specs.RestoreFaults.{checked_restore, is_restore_failure, restore_key, CanRestore, IsAnsweredRestore, IsKeptFrom, IsRestoreFault}
+use Rattle.luks_keeping.proofs.SoundFacts.{faultless_on}
 use Rattle.luks_keeping.specs.declared.over.Over.{Over}
 use Rattle.luks_keeping.specs.declared.restore_fault.RestoreFault.{RestoreFault}
 use Rattle.luks_keeping.specs.declared.restore_fault.RestoreFault.TheVariants.{NotAccepted, DoesNotFit, OtherVolume, Memory, Device}
@@ -67,6 +68,10 @@ module _ (b t : List ℕ) (payload : Data) (over : Over) where
           none OtherVolume bad = clear bad
           none Memory bad = bad
           none Device bad = bad
+
+-- a volume that would be well-formed, and that the backup is of, can be restored
+pub can_fit : (b t : List ℕ) (payload : Data) (over : Over) → WellFormed b Elsewhere → (total : ℕ) → total ≡ length t → IsFormedOn b payload total → (IsKeptFrom b t over → ⊥) → CanRestore b t payload over
+can_fit b t payload over well total long fits clear = can_restore b t payload over well (faultless_on b payload (length t) (subst (IsFormedOn b payload) long fits)) clear
 
 pub same_failure : (f : CheckFault) → is_restore_failure (checked_restore f) ≡ is_check_failure f
 same_failure (check.Head f) = refl

@@ -1,9 +1,8 @@
 -- The salts of keyslots, and how they stand to each other.
-use Rattle.std.proofs.Common.{◌≡◌, ◌↔◌, ℕ, ◌<◌, ◌≤◌, List, Some, IsTrue, sym, ap, subst, ◌∙◌, arith}
+use Rattle.std.proofs.Common.{◌≡◌, ◌↔◌, ℕ, List, Some, IsTrue, sym, ap, subst, ◌∙◌}
 use Rattle.serde_json.specs.Data.{Data as Value}
-use Rattle.luks1_header.specs.Header1.{active_word, disabled_word, enabled_word, entry, word_of, IsEntry}
+use Rattle.luks1_header.specs.Header1.{entry, IsEntry}
 use Rattle.luks1_header.specs.declared.luks1.Luks1Slot.{Luks1Slot}
-use Rattle.luks1_header.specs.declared.luks1.SlotState.TheVariants.{Disabled, Enabled}
 use Rattle.luks_rules.proofs.AreaFaults.{one_value}
 use Rattle.luks_meta.specs.Content.{content}
 use Rattle.luks_rules.specs.Faults.{member_at}
@@ -13,7 +12,7 @@ use Rattle.luks_rules.specs.declared.table.Outer.TheVariants.{Kdf}
 use Rattle.luks_reading.specs.Header.{json_at, IsHeader}
 use Rattle.luks_reading.specs.declared.header.Header.{Header}
 use Rattle.luks_reading.specs.declared.header.Header.TheVariants.{Luks1, Luks2}
-use Rattle.luks_keeping.specs.Compared.{HasSalt2, HasSaltAs, IsCompared, IsGone, IsUsedSalt, StandsSo}
+use Rattle.luks_keeping.specs.Compared.{HasSalt2, HasSaltAs, IsCompared, IsUsedSalt, StandsSo}
 use Rattle.luks_keeping.specs.Laid.{choice_of}
 use Rattle.luks_keeping.specs.SameKeys.{SharesHeader}
 use Rattle.luks_keeping.specs.Salts.{HasHeaderSalt, HoldsKeeping, IsSameOrOlder}
@@ -26,17 +25,6 @@ use Rattle.luks_keeping.proofs.LaidFacts.{chosen_of}
 -- ---- one keyslot of LUKS1
 
 module _ (h : List ℕ) (n : ℕ) (s : Luks1Slot) (own : IsEntry (entry h n) s) where
-  pub salted_there : n < 8 → s.state ≡ Enabled → (salt : List ℕ) → salt ≡ s.salt → IsUsedSalt h n salt
-  salted_there low on salt is = record { numbered = low; enabled = own.fields.state ∙ ap word_of on; salted = own.fields.salt ∙ sym is }
-
-  pub unsalted_there : s.state ≡ Disabled → IsGone (IsUsedSalt h n)
-  unsalted_there off salt used =
-      let word : active_word (entry h n) ≡ disabled_word = own.fields.state ∙ ap word_of off in
-      let other : enabled_word ≡ disabled_word = sym used.enabled ∙ word in
-      omega (arith, other)
-
-pub high_unsalted : (h : List ℕ) (n : ℕ) → 8 ≤ n → IsGone (IsUsedSalt h n)
-high_unsalted h n high salt used = (let low = used.numbered in omega (arith, high, low))
 
 -- ---- one salt
 

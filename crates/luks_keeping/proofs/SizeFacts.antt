@@ -192,9 +192,6 @@ formed_longer v size total le x = record { choice = x.choice; chosen = x.chosen;
 region_said : (j : Value) (k : Sizes) → IsConfig j k → keyslots_size j ≡ Some k.keyslots_size
 region_said j k x = ap (λ s. decimal_in (option_and_then (get (codes "keyslots_size")) s)) x.is ∙ x.tells_members.1
 
-pub sized1 : (v h : List ℕ) (payload : Data) (size : ℕ) → Chosen v luks1 → h ≡ part v 0 592 → IsLuks1Size h payload size → IsBackupSize v payload size
-sized1 v h payload size chosen head is = record { choice = luks1; chosen = chosen; is = subst (λ (b : List ℕ). IsLuks1Size b payload size) head is }
-
 pub sized2 : (v : List ℕ) (payload : Data) (copy : ChosenCopy) (k : Sizes) (size : ℕ) → IsChosenCopy2 v copy → IsConfig (content copy.meta) k → size ≡ 2 * copy.header.hdr_size + k.keyslots_size
     → IsBackupSize v payload size
 sized2 v payload copy k size is config sum = record {

@@ -1,14 +1,12 @@
 -- The key areas that are found of a header.
-use Rattle.std.proofs.Common.{◌≡◌, ℕ, ◌*◌, ◌<◌, List, codes, min, Option, Some, None, option_and_then, sym, ap, subst, ◌∙◌, arith}
+use Rattle.std.proofs.Common.{◌≡◌, ℕ, ◌<◌, List, codes, min, Option, Some, None, option_and_then, sym, ap, subst, ◌∙◌, arith}
 use Rattle.serde_json.specs.Data.{Data as Value}
 use Rattle.serde_json.specs.Find.{get}
-use Rattle.luks_area.specs.Sectors.{rounded_to_sectors}
 use Rattle.luks_area.specs.declared.area.Area.{Area}
 use Rattle.luks_area.specs.declared.area.AreaName.TheVariants.{Slot}
-use Rattle.luks1_header.specs.Header1.{active_word, disabled_word, enabled_word, entry, key_bytes_of, word_of, IsEntry, IsLuks1}
+use Rattle.luks1_header.specs.Header1.{entry, IsEntry, IsLuks1}
 use Rattle.luks1_header.specs.declared.luks1.Luks1.{Luks1 as Fields}
 use Rattle.luks1_header.specs.declared.luks1.Luks1Slot.{Luks1Slot}
-use Rattle.luks1_header.specs.declared.luks1.SlotState.TheVariants.{Disabled, Enabled}
 use Rattle.luks_meta.specs.Content.{content}
 use Rattle.luks_meta.specs.Faults.{object_at}
 use Rattle.luks_meta.specs.Reading.{decimal_in}
@@ -19,7 +17,7 @@ use Rattle.luks_reading.specs.declared.header.ChosenCopy.{ChosenCopy}
 use Rattle.luks_reading.specs.declared.header.Header.{Header}
 use Rattle.luks_reading.specs.declared.header.Header.TheVariants.{Luks1, Luks2}
 use Rattle.luks_reading.specs.declared.report.Data.TheVariants.{Elsewhere}
-use Rattle.luks_keeping.specs.Kept.{lead_of, IsUsedArea}
+use Rattle.luks_keeping.specs.Kept.{lead_of}
 use Rattle.luks_keeping.specs.Laid.{header_lead, first_size, second_size, FindsSlot, HasSlot, HasSlot2, HoldsSlots, IsLaidOut}
 use Rattle.luks_keeping.specs.declared.places.Places.{Places}
 
@@ -35,21 +33,6 @@ no_slot j n a gone is =
 -- ---- one keyslot of LUKS1
 
 module _ (h : List ℕ) (d : Fields) (n : ℕ) (s : Luks1Slot) (is : IsLuks1 h d) (low : n < 8) (own : IsEntry (entry h n) s) where
-  pub used_there : (a : Area) → s.state ≡ Enabled → a.start ≡ s.key_material_offset * 512 → a.len ≡ rounded_to_sectors (d.common.key_bytes * s.stripes) → IsUsedArea h n a
-  used_there a on start len = record {
-    area = (
-      low,
-      start ∙ ap (λ k. k * 512) (sym own.fields.key_material_offset),
-      len ∙ ap (λ k. rounded_to_sectors (k * s.stripes)) (sym is.common.fields.key_bytes) ∙ ap (λ k. rounded_to_sectors (key_bytes_of h * k)) (sym own.fields.stripes),
-    );
-    enabled = own.fields.state ∙ ap word_of on;
-  }
-
-  pub unused_there : (a : Area) → s.state ≡ Disabled → IsUsedArea h n a → ⊥
-  unused_there a off used =
-      let word : active_word (entry h n) ≡ disabled_word = own.fields.state ∙ ap word_of off in
-      let other : enabled_word ≡ disabled_word = sym used.enabled ∙ word in
-      omega (arith, other)
 
 -- ---- the list of them
 

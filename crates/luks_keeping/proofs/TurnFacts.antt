@@ -81,3 +81,9 @@ module _ (b : List ℕ) (header : Header) (is : IsHeader b header) (places : Pla
   -- writing over keeps the order
   pub turn_of : WritesOver places b old new → (c : Choice) → Chosen b c → RestoresInTurn b c old new
   turn_of turn c chosen = subst (λ (d : Choice). RestoresInTurn b d old new) (choices_agree b (choice_of header) c (chosen_of b header is) chosen) (turn_as turn)
+
+-- the same on a target that was `old` before it was read, from a backup that was `b`
+pub turn_over : (b : List ℕ) (header : Header) → IsHeader b header → (places : Places) → IsLaidOut header places → (s old u new : List ℕ) → s ≡ b → u ≡ old → WritesOver places s u new
+    → (c : Choice) → Chosen b c → RestoresInTurn b c old new
+turn_over b header is places laid s old u new same unread turn =
+    turn_of b header is places laid old new (subst (λ (l : List ℕ). WritesOver places l old new) same (subst (λ (l : List ℕ). WritesOver places s l new) unread turn))

@@ -1,5 +1,5 @@
 -- The metadata with one more keyslot: what is there of the old, and that it meets every rule that the old met.
-use Rattle.std.proofs.Common.{◌≡◌, ℕ, true, false, List, ◌∷◌, Option, Some, option_map, option_and_then, is_some, bytes_eq, codes, take, drop, refl, sym, ap, ◌∙◌, inl, inr, arith, ◌↔◌}
+use Rattle.std.proofs.Common.{◌≡◌, ℕ, true, false, List, [], ◌∷◌, Option, Some, option_map, option_and_then, is_some, bytes_eq, codes, take, drop, refl, sym, ap, ◌∙◌, inl, inr, arith, ◌↔◌}
 use Rattle.std.specs.List.{list_any}
 use Rattle.std.proofs.lemmas.Bool.{false≢true, cases_eq}
 use Rattle.serde_json.specs.Data.{Data, Members, put}
@@ -7,12 +7,12 @@ use Rattle.serde_json.specs.Find.{get, as_object}
 use Rattle.luks_json.specs.Arrays.{all_named, names, naming_count, naming_members}
 use Rattle.luks_json.specs.Number.{number_text}
 use Rattle.luks_rules.specs.declared.table.Section.{Section}
-use Rattle.luks_rules.specs.declared.table.Section.TheVariants.{Config, Digests, Keyslots, Segments, Tokens}
+use Rattle.luks_rules.specs.declared.table.Section.TheVariants.{Digests, Keyslots, Tokens}
 use Rattle.luks_rules.specs.Accepted.{HasObject, IsContent, IsRead}
 use Rattle.luks_rules.specs.Faults.{is_section, object_at, section_at}
 use Rattle.luks_rules.specs.Held.{IsHeld}
 use Rattle.luks_rules.specs.Reading.{texts_of}
-use Rattle.luks_rules.specs.Table.{keyslot_rows}
+use Rattle.luks_rules.specs.Table.{keyslot_rows, section_name}
 use Rattle.luks_making.specs.Changing.{add_text, at_member, change_member, in_array, in_object}
 use Rattle.luks_making.specs.Conditions.{FitsDerivation, FitsSlot, IsRoom}
 use Rattle.luks_making.specs.Unchanged.{GainsSlot, KeepsOthers, KeepsRest}
@@ -152,11 +152,9 @@ module _ (n m : ℕ) (s : SlotMembers) (j : Data) where
 
   module _ (len : ℕ) (d0 : Data) (c : IsContent len j) (r : IsRoom len n m s j d0) where
     maps_with : (k : Section) → is_section k (section_at j k) ≡ true → is_section k (section_at more k) ≡ true
-    maps_with Config h = rw (other_section (codes "config") refl) h
     maps_with Digests h = rw digests_are (named_map _ (section_at j Digests) (each_changed Named (number_text m) _ (λ l d e. e)) h)
     maps_with Keyslots h = rw slots_are (named_map _ (section_at j Keyslots) (each_put Named (number_text n) (slot_value s) (name_is n r.number.small) (λ l d e. e)) h)
-    maps_with Segments h = rw (other_section (codes "segments") refl) h
-    maps_with Tokens h = rw (other_section (codes "tokens") refl) h
+    maps_with k h = rw (other_section (section_name k) refl) h
 
     -- the digest didn't name it, and does now
     none_there : names (number_text n) (get (codes "keyslots") d0) ≡ false

@@ -1,5 +1,5 @@
 -- The metadata with a changed keyslot: what is there of the old, and that it meets every rule that the old met.
-use Rattle.std.proofs.Common.{◌≡◌, ℕ, ◌≤◌, true, false, List, ◌∷◌, length, Option, Some, None, option_map, option_and_then, is_some, bytes_eq, codes, decimal, refl, sym, ap, ◌∙◌, inl, inr, arith}
+use Rattle.std.proofs.Common.{◌≡◌, ℕ, ◌≤◌, true, false, List, [], ◌∷◌, length, Option, Some, None, option_map, option_and_then, is_some, bytes_eq, codes, decimal, refl, sym, ap, ◌∙◌, inl, inr, arith}
 use Rattle.std.specs.Prelude.{◌↔◌, slice_get}
 use Rattle.std.specs.List.{list_any}
 use Rattle.std.proofs.lemmas.Bool.{false≢true, cases_Bool, cases_eq, and_from}
@@ -9,7 +9,7 @@ use Rattle.serde_json.specs.Find.{get, as_object}
 use Rattle.luks_json.specs.Arrays.{naming_count}
 use Rattle.luks_json.specs.Number.{number_text}
 use Rattle.luks_rules.specs.declared.table.Section.{Section}
-use Rattle.luks_rules.specs.declared.table.Section.TheVariants.{Config, Digests, Keyslots, Segments, Tokens}
+use Rattle.luks_rules.specs.declared.table.Section.TheVariants.{Digests, Keyslots, Tokens}
 use Rattle.luks_rules.specs.declared.table.Outer.{Outer}
 use Rattle.luks_rules.specs.declared.table.Outer.TheVariants as outer
 use Rattle.luks_rules.specs.declared.table.Rule.{Rule}
@@ -264,11 +264,8 @@ module _ (n : ℕ) (f : NewMembers) (j : Data) where
 
   module _ (len : ℕ) (c : IsContent len j) (can : CanSeal len j n f) (new : FitsNew f) where
     maps_changed : (k : Section) → is_section k (section_at j k) ≡ true → is_section k (section_at changed k) ≡ true
-    maps_changed Config h = rw (other_section (codes "config") refl) h
-    maps_changed Digests h = rw (other_section (codes "digests") refl) h
     maps_changed Keyslots h = rw slots_are (named_map (change_member (number_text n) (renewed_slot f)) (section_at j Keyslots) (each_changed Named (number_text n) (renewed_slot f) (λ l d e. e)) h)
-    maps_changed Segments h = rw (other_section (codes "segments") refl) h
-    maps_changed Tokens h = rw (other_section (codes "tokens") refl) h
+    maps_changed k h = rw (other_section (section_name k) refl) h
 
     beside_held : (k : Section) (i : ℕ) (d : Data) → list_any (bytes_eq (section_name k)) (codes "keyslots" ∷ []) ≡ false → HasObject changed k i d → HasObject j k i d
     beside_held k i d off h = record { numbered = h.numbered; named = h.named; is = ap (option_and_then (get (number_text i))) (sym (other_section (section_name k) off)) ∙ h.is }

@@ -1,5 +1,5 @@
 -- The metadata of a converted volume meets every rule, and what it says.
-use Rattle.std.proofs.Common.{◌≡◌, ℕ, zero, suc, ◌*◌, ◌^◌, ◌<◌, ◌≤◌, ◌⊎◌, List, ◌∷◌, ◌++◌, map, false, Option, None, Some, is_some, option_map, refl, sym, ap, ◌∙◌, arith, inl, inr, lit<}
+use Rattle.std.proofs.Common.{◌+◌, ◌≡◌, ℕ, zero, suc, ◌*◌, ◌^◌, ◌<◌, ◌≤◌, ◌⊎◌, List, [], ◌∷◌, ◌++◌, map, false, Option, None, Some, is_some, option_map, refl, sym, ap, ◌∙◌, arith, inl, inr, lit<, lit≤}
 use Rattle.std.specs.List.{filter}
 use Rattle.std.proofs.lemmas.Bool.{cases_eq}
 use Rattle.std.proofs.lemmas.List.{append-nil}
@@ -20,10 +20,12 @@ use Rattle.luks_making.specs.Formatted.{VolumeMembers, formatted, segment_value}
 use Rattle.luks_making.specs.Keyslots.{SlotMembers, slot_value}
 use Rattle.luks_making.specs.Naming.{IsDigestOf}
 use Rattle.luks_making.specs.NewVolumes.{SaysDigest, SaysVolume}
+use Rattle.luks_making.specs.TextLengths.{items_bound, members_bound}
 use Rattle.luks_making.specs.Unchanged.{GainsSlot}
 use Rattle.luks_making.specs.With.{with_slot}
 use Rattle.luks_making.specs.Without.{without_slot}
 use Rattle.luks_making.proofs.AdditionFacts.{held_with, slot_gained}
+use Rattle.luks_making.proofs.LengthFacts.{name_short, names_more, slot_most, slots_more}
 use Rattle.luks_making.proofs.MemberFacts.{no_some, some_same}
 use Rattle.luks_making.proofs.NameFacts.{added_text, others_added, texts_differ}
 use Rattle.luks_making.proofs.NewAreaFacts.{end_by_last, end_within, holds_sectors, region_holds, region_short, start_from}
@@ -135,6 +137,8 @@ module _ (v : SourceMembers) (fits : FitsSource v) (can : CanConvert v) where
     pub names : Items
     pub slots : Members
     pub is : j ≡ shape u (region_size v) names slots
+    pub names_most : items_bound names ≤ 1 + 4 * n
+    pub slots_most : members_bound slots ≤ 1 + 1296 * n
     pub lists : item_texts names ≡ Some (map number_text (enabled v n))
     pub unnamed : (m : ℕ) → n ≤ m → has_text (number_text m) names ≡ false
     pub held : IsHeld 12288 j
@@ -150,6 +154,8 @@ module _ (v : SourceMembers) (fits : FitsSource v) (can : CanConvert v) where
     names = no_items;
     slots = no_members;
     is = base_shape u (region_size v);
+    names_most = lit≤ tt;
+    slots_most = lit≤ tt;
     lists = refl;
     unnamed = λ m low. refl;
     held = held_bare u fits_volume can_format (region_size v) region_64;
@@ -164,6 +170,8 @@ module _ (v : SourceMembers) (fits : FitsSource v) (can : CanConvert v) where
     names = x.names;
     slots = x.slots;
     is = x.is;
+    names_most = (let most = x.names_most in omega (arith, most));
+    slots_most = (let most = x.slots_most in omega (arith, most));
     lists = x.lists ∙ ap (λ ks. Some (map number_text ks)) (sym (enabled_same v n off));
     unnamed = λ m low. x.unnamed m (omega (arith, low));
     held = x.held;
@@ -201,11 +209,19 @@ module _ (v : SourceMembers) (fits : FitsSource v) (can : CanConvert v) where
   added n s j low on x =
       let made : SlotMembers = converted_slot v n s in
       let has_room = room n s j low on x in
+      let name = name_short n low in
+      let one = slot_most v fits can n s low on in
+      let names = x.names_most in
+      let slots = x.slots_most in
+      let more = names_more (number_text n) x.names in
+      let put_more = slots_more (number_text n) (slot_value (converted_slot v n s)) x.slots in
       let gains : GainsSlot n 0 (converted_slot v n s) j (with_slot n 0 (converted_slot v n s) j) = slot_gained 12288 n 0 (converted_slot v n s) j (digest_with u x.names) x.held.content has_room in
       record {
         names = add_text (number_text n) x.names;
         slots = put (number_text n) (slot_value (converted_slot v n s)) x.slots;
         is = ap (with_slot n 0 (converted_slot v n s)) x.is ∙ one_more u (region_size v) x.names x.slots n (converted_slot v n s);
+        names_most = omega (arith, name, names, more);
+        slots_most = omega (arith, name, one, slots, put_more);
         lists = added_text (number_text n) (Some (array x.names)) ∙ ap (option_map (λ ts. ts ++ number_text n ∷ [])) x.lists
             ∙ ap Some (sym (ap (map number_text) (enabled_more v n s on) ∙ last_named n (enabled v n)));
         unnamed = λ m high. others_added (number_text n) (number_text m) (Some (array x.names)) (texts_differ n m (λ e. absurd (omega (arith, e, high)))) ∙ x.unnamed m (omega (arith, high));
@@ -237,7 +253,7 @@ module _ (v : SourceMembers) (fits : FitsSource v) (can : CanConvert v) where
 
   -- ---- the whole value
 
-  all : Holds 8 (converted v)
+  pub all : Holds 8 (converted v)
   all = holds 8 (omega arith)
 
   pub held_converted : IsHeld 12288 (converted v)
@@ -270,5 +286,5 @@ module _ (v : SourceMembers) (fits : FitsSource v) (can : CanConvert v) where
     segment_says = like_new.segment_says;
     no_segment = λ n other. rw all.is (none_else (segment_value u) n other);
     no_token = λ n. rw all.is refl;
-    region = rw all.is (region all.names all.slots);
+    region = rw all.is (decimal_is (region_size v) region_64);
   }

@@ -17,5 +17,6 @@ mod CopyFacts
 mod StepFacts
 mod AreaFacts
 mod NewAreaFacts
+mod LengthFacts
 pub mod ConversionFacts
 pub mod ConvertedTextFacts

@@ -107,18 +107,6 @@ pub get_kept : (q k : List ℕ) (f : Data → Data) (d : Data) → bytes_eq q k 
 get_kept q k f (object ms) off = member_kept q k f ms off
 get_kept q k f d off = refl
 
-changed_none : (k : List ℕ) (f : Data → Data) (ms : Members) → get_member k ms ≡ None → change_member k f ms ≡ ms
-changed_none k f no_members e = refl
-changed_none k f (member l d ms) e = elim (cases_Bool (bytes_eq k l)) [
-  | inl same ↦ absurd (let both : Some d ≡ None = sym (rw same at (seek k l d ms)) ∙ e in cc)
-  | inr other ↦ rw other (ap (member l d) (changed_none k f ms (sym (rw other at (seek k l d ms)) ∙ e)))
-]
-
--- a member that isn't there is changed nowhere
-pub at_none : (k : List ℕ) (f : Data → Data) (d : Data) → get k d ≡ None → at_member k f d ≡ d
-at_none k f (object ms) e = ap object (changed_none k f ms e)
-at_none k f d e = refl
-
 same_by : (k : List ℕ) (f : Data → Data) (ms : Members) → option_map f (get_member k ms) ≡ get_member k ms → change_member k f ms ≡ ms
 same_by k f no_members e = refl
 same_by k f (member l x ms) e = elim (cases_Bool (bytes_eq k l)) [
@@ -135,6 +123,10 @@ same_by k f (member l x ms) e = elim (cases_Bool (bytes_eq k l)) [
 pub at_same : (k : List ℕ) (f : Data → Data) (d : Data) → option_map f (get k d) ≡ get k d → at_member k f d ≡ d
 at_same k f (object ms) e = ap object (same_by k f ms e)
 at_same k f d e = refl
+
+-- a member that isn't there is changed nowhere
+pub at_none : (k : List ℕ) (f : Data → Data) (d : Data) → get k d ≡ None → at_member k f d ≡ d
+at_none k f d e = at_same k f d (rw e refl)
 
 -- ---- each member changed
 

@@ -1,5 +1,5 @@
 -- Names of objects, and arrays of names with one text less or more.
-use Rattle.std.proofs.Common.{◌≡◌, ℕ, ◌+◌, ◌/◌, ◌%◌, ◌<◌, ◌≤◌, Bool, true, false, cond, List, ◌∷◌, Option, Some, None, option_map, option_and_then, is_some, bytes_eq, get_or, refl, sym, ap, ◌∙◌, inl, inr, arith}
+use Rattle.std.proofs.Common.{◌≡◌, ℕ, ◌+◌, ◌-◌, ◌*◌, Bool, true, false, cond, List, [], ◌∷◌, Option, Some, None, option_map, option_and_then, is_some, bytes_eq, refl, sym, ap, ◌∙◌, inl, inr, arith}
 use Rattle.std.specs.Prelude.{◌||◌, not, ◌++◌}
 use Rattle.std.specs.List.{filter}
 use Rattle.std.proofs.lemmas.Bool.{false≢true, cases_Bool, cases_lt, lt-ltb, le-ltb, and_from, and_parts}
@@ -17,44 +17,21 @@ use Rattle.luks_making.proofs.EachFacts.{neither, or_off}
 
 -- ---- the names of two numbers differ
 
-first_digits : (a b : ℕ) (s t : List ℕ) → a ∷ s ≡ b ∷ t → a ≡ b
-first_digits a b s t e = ap (λ u. get_or u 0 0) e
+-- the number of one digit or two
+abbrev value_of : List ℕ → ℕ
+value_of (a ∷ b ∷ rest) = 10 * (a - 48) + (b - 48)
+value_of (a ∷ rest) = a - 48
+value_of text = 0
 
-second_digits : (a b c d : ℕ) → a ∷ b ∷ [] ≡ c ∷ d ∷ [] → b ≡ d
-second_digits a b c d e = ap (λ u. get_or u 1 0) e
-
-abbrev SameText : ℕ → ℕ → Type 0
-SameText m n = number_text m ≡ number_text n
-
--- names of one digit each, of one and of two, of two each
-same_ones : (m n : ℕ) → m < 10 → n < 10 → SameText m n → m ≡ n
-same_ones m n a b e =
-    let both : (48 + m) ∷ [] ≡ (48 + n) ∷ [] = rw (lt-ltb m 10 a, lt-ltb n 10 b) at e in
-    let heads : 48 + m ≡ 48 + n = first_digits _ _ _ _ both in
-    omega (arith, heads)
-
-no_lengths : (a b c : ℕ) → a ∷ [] ≡ b ∷ c ∷ [] → ⊥
-no_lengths a b c e = cc
-
-same_twos : (m n : ℕ) → 10 ≤ m → 10 ≤ n → SameText m n → m ≡ n
-same_twos m n a b e =
-    let both : (48 + m / 10) ∷ (48 + m % 10) ∷ [] ≡ (48 + n / 10) ∷ (48 + n % 10) ∷ [] = rw (le-ltb m 10 a, le-ltb n 10 b) at e in
-    let tens : 48 + m / 10 ≡ 48 + n / 10 = first_digits _ _ _ _ both in
-    let ones : 48 + m % 10 ≡ 48 + n % 10 = second_digits _ _ _ _ both in
-    omega (arith, tens, ones)
+text_value : (n : ℕ) → value_of (number_text n) ≡ n
+text_value n = elim (cases_lt n 10) [
+  | inl low ↦ rw (lt-ltb n 10 low) (omega arith)
+  | inr high ↦ rw (le-ltb n 10 high) (omega arith)
+]
 
 -- one name is that of one number
-pub same_number : (m n : ℕ) → SameText m n → m ≡ n
-same_number m n e = elim (cases_lt m 10) [
-  | inl i ↦ elim (cases_lt n 10) [
-    | inl j ↦ same_ones m n i j e
-    | inr j ↦ absurd (no_lengths (48 + m) (48 + n / 10) (48 + n % 10) (rw (lt-ltb m 10 i, le-ltb n 10 j) at e))
-  ]
-  | inr i ↦ elim (cases_lt n 10) [
-    | inl j ↦ absurd (no_lengths (48 + n) (48 + m / 10) (48 + m % 10) (sym (rw (le-ltb m 10 i, lt-ltb n 10 j) at e)))
-    | inr j ↦ same_twos m n i j e
-  ]
-]
+pub same_number : (m n : ℕ) → number_text m ≡ number_text n → m ≡ n
+same_number m n e = sym (text_value m) ∙ (ap value_of e ∙ text_value n)
 
 -- the test tells the names of two numbers apart
 pub texts_differ : (m n : ℕ) → (m ≡ n → ⊥) → bytes_eq (number_text m) (number_text n) ≡ false

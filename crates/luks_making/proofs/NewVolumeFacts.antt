@@ -139,8 +139,8 @@ module _ (v : VolumeMembers) (fits : FitsVolume v) (can : CanFormat v) where
 
     resolved_by : (target : Section) (list : Items) (r : Row) → NamesRow r target → option_and_then as_array (value_at (digest_with v no_items) r) ≡ Some list
         → (all_there (section_at bare target) list ≡ true) × (has_repeat list ≡ false)
-    resolved_by target list r (of_slots e s) is = let none : no_items ≡ list = some_same no_items list (rw e at is) in rw (← none, s) (refl, refl)
-    resolved_by target list r (of_segments e s) is = let one : item (string (codes "0")) no_items ≡ list = some_same _ list (rw e at is) in rw (← one, s) (refl, refl)
+    resolved_by target list r (of_slots e s) is = let none : no_items ≡ list = some_same no_items list (rw e at is) in rw (s, ← none) (refl, refl)
+    resolved_by target list r (of_segments e s) is = let one : item (string (codes "0")) no_items ≡ list = some_same _ list (rw e at is) in rw (s, ← one) (refl, refl)
 
     resolved : (k target : Section) (list : Items) → HasNames bare k target list → (all_there (section_at bare target) list ≡ true) × (has_repeat list ≡ false)
     resolved Config target list n = absurd (false≢true n.held.numbered)

@@ -1,5 +1,5 @@
 -- A value that is put in the place of a member.
-use Rattle.std.proofs.Common.{◌≡◌, List, ◌∷◌, Ok, Err, IfOk, Result, Some, None, Ordering, Less, Equal, Greater, String, Global, BTreeMap, string_bytes, string_cmp, nat_cmp, is_eq, bytes_eq, ℕ, rules, refl, sym, ap, ◌∙◌}
+use Rattle.std.proofs.Common.{◌≡◌, List, [], ◌∷◌, Ok, Err, IfOk, Result, Some, None, Ordering, Less, Equal, Greater, String, Global, BTreeMap, string_bytes, string_cmp, nat_cmp, is_eq, bytes_eq, ℕ, rules, refl, sym, ap, ◌∙◌}
 use Rattle.std.proofs.lemmas.Cmp.{nat_list_cmp_total}
 use Rattle.std.proofs.lemmas.Map.Text.{is_eq-slice_cmp}
 use Rattle.std.specs.Cmp.Lexicographic.{slice_cmp}
@@ -7,14 +7,12 @@ use Rattle.std.specs.List.{AllByRecursion}
 use Rattle.std.specs.List.Sorted.{IsStrictlySortedBy}
 use Rattle.std.specs.BTreeMap.{insert_entry}
 use Rattle.std.specs.Map.{keys_of}
-use Rattle.std.specs.Result.{MatchResult}
 use Rattle.serde_json.specs.Data.{Data, string, object, Members, member, put}
 use Rattle.serde_json.specs.Find.{get, get_member, as_object}
 use Rattle.serde_json.specs.View.{view, members_view}
 use Rattle.serde_json.specs.declared.value.Value.{Value, Object, the_lemmas}
 use Rattle.serde_json.specs.declared.value.Value.{String as Text}
 use Rattle.serde_json.proofs.Views.{Entry, view-Object, members_view-insert_entry}
-use Rattle.luks_making.proofs.MemberFacts.{at_none}
 use Rattle.luks_making.specs.Changing.{at_member, change_member}
 
 -- names are equal where their order is
@@ -76,12 +74,6 @@ view_text s = search (rules, the_lemmas)
 pub same_ok : {E : Type 0} (r : Result Value E) (a b : Data) → a ≡ b → IfOk r (λ v. view v ≡ a) → IfOk r (λ v. view v ≡ b)
 same_ok (Ok v) a b same h = h ∙ same
 same_ok (Err e) a b same h = tt
-
--- a copy of an object without the member
-pub none_ok : {E : Type 0} (r : Result Value E) (P : E → Type 0) (k : List ℕ) (f : Data → Data) (d : Data) → get k d ≡ None → MatchResult r (λ v. view v ≡ d) P
-    → IfOk r (λ v. view v ≡ at_member k f d)
-none_ok (Ok v) P k f d none h = h ∙ sym (at_none k f d none)
-none_ok (Err e) P k f d none h = tt
 
 -- a text with these bytes
 pub text_view : (s : String Global) (t : List ℕ) → string_bytes s ≡ t → view (Text s) ≡ string t

@@ -1,16 +1,16 @@
 -- The metadata without a keyslot: what is left of the old, and that it meets every rule that the old met.
-use Rattle.std.proofs.Common.{◌≡◌, ℕ, true, false, List, ◌∷◌, Some, None, option_map, option_and_then, is_some, bytes_eq, codes, refl, sym, ap, ◌∙◌, inl, inr}
+use Rattle.std.proofs.Common.{◌≡◌, ℕ, true, false, List, [], ◌∷◌, Some, None, option_map, option_and_then, is_some, bytes_eq, codes, refl, sym, ap, ◌∙◌, inl, inr}
 use Rattle.serde_json.specs.Data.{Data}
 use Rattle.serde_json.specs.Find.{get}
 use Rattle.luks_json.specs.Arrays.{names, naming_count}
 use Rattle.luks_json.specs.Number.{number_text}
 use Rattle.luks_rules.specs.declared.table.Section.{Section}
-use Rattle.luks_rules.specs.declared.table.Section.TheVariants.{Config, Digests, Keyslots, Segments, Tokens}
+use Rattle.luks_rules.specs.declared.table.Section.TheVariants.{Digests, Keyslots, Tokens}
 use Rattle.luks_rules.specs.Accepted.{HasObject, IsContent, IsRead}
 use Rattle.luks_rules.specs.Faults.{Among, is_numbered, is_section, object_at, section_at}
 use Rattle.luks_rules.specs.Held.{IsHeld}
 use Rattle.luks_rules.specs.Reading.{texts_of}
-use Rattle.luks_rules.specs.Table.{rows_of}
+use Rattle.luks_rules.specs.Table.{rows_of, section_name}
 use Rattle.luks_making.specs.Changing.{at_member, drop_member, drop_text, each_member, in_array, in_object}
 use Rattle.luks_making.specs.Unchanged.{KeepsOthers, KeepsRest, LosesName, LosesSlot}
 use Rattle.luks_making.specs.Without.{without_name, without_slot}
@@ -105,11 +105,10 @@ module _ (n : ℕ) (j : Data) where
         (all_dropped (number_text n) (section_at j Keyslots) (section_at left Keyslots) list slots_beside there, once_dropped (number_text n) list once))
 
     maps_left : (s : Section) → is_section s (section_at j s) ≡ true → is_section s (section_at left s) ≡ true
-    maps_left Config h = rw (other_section (codes "config") refl) h
     maps_left Digests h = rw digests_are (named_map _ (section_at j Digests) (each_each Named _ (λ l d e. e)) h)
     maps_left Keyslots h = rw slots_are (named_map _ (section_at j Keyslots) (each_left Named (number_text n)) h)
-    maps_left Segments h = rw (other_section (codes "segments") refl) h
     maps_left Tokens h = rw tokens_are (named_map _ (section_at j Tokens) (each_each Named _ (λ l d e. e)) h)
+    maps_left s h = rw (other_section (section_name s) refl) h
 
     slot_once : (m : ℕ) (d : Data) → HasObject left Keyslots m d → naming_count (codes "keyslots") (number_text m) (section_at left Digests) ≡ 1
     slot_once m d h =

@@ -1,5 +1,5 @@
 -- Members that are taken out of an object, changed and put back.
-use Rattle.std.proofs.Common.{◌≡◌, Bool, true, false, cond, List, ◌∷◌, Option, Some, None, option_map, String, Global, BTreeMap, string_bytes, nat_cmp, bytes_eq, ℕ, refl, sym, ap, ◌∙◌, inl, inr}
+use Rattle.std.proofs.Common.{◌≡◌, Bool, true, false, cond, List, [], ◌∷◌, Option, Some, None, option_map, String, Global, BTreeMap, string_bytes, nat_cmp, bytes_eq, ℕ, refl, sym, ap, ◌∙◌, inl, inr}
 use Rattle.std.proofs.lemmas.Bool.{cases_Bool}
 use Rattle.std.proofs.lemmas.Map.Text.{is_eq-slice_cmp}
 use Rattle.std.specs.Cmp.Lexicographic.{slice_cmp}
@@ -15,15 +15,12 @@ use Rattle.luks_making.proofs.PutFacts.{is_object}
 use Rattle.luks_making.specs.Changing.{at_member, change_member, drop_member, set_member}
 
 -- of two values that are put at a name the last one stays
-last_by : (b : Bool) (k l : List ℕ) (e x d : Data) (ms : Members) → bytes_eq k l ≡ b
-    → change_member k (λ _. e) (change_member k (λ _. x) ms) ≡ change_member k (λ _. e) ms
-    → change_member k (λ _. e) (cond b (member l x ms) (member l d (change_member k (λ _. x) ms))) ≡ cond b (member l e ms) (member l d (change_member k (λ _. e) ms))
-last_by true k l e x d ms is later = rw is refl
-last_by false k l e x d ms is later = rw is (ap (member l d) later)
-
 last_stays : (k : List ℕ) (e x : Data) (ms : Members) → change_member k (λ _. e) (change_member k (λ _. x) ms) ≡ change_member k (λ _. e) ms
 last_stays k e x no_members = refl
-last_stays k e x (member l d ms) = last_by (bytes_eq k l) k l e x d ms refl (last_stays k e x ms)
+last_stays k e x (member l d ms) = elim (cases_Bool (bytes_eq k l)) [
+  | inl same ↦ rw (same, same) refl
+  | inr off ↦ rw (off, off) (ap (member l d) (last_stays k e x ms))
+]
 
 -- the value that a change makes of the member is put in its place
 put_made : (k : List ℕ) (f : Data → Data) (d : Data) (ms : Members) → get_member k ms ≡ Some d → change_member k (λ _. f d) ms ≡ change_member k f ms

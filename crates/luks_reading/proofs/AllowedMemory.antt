@@ -19,7 +19,6 @@ use Rattle.luks_reading.specs.Answer.{HasPlanAs, HasRefusedPlan, HasRefusedPlanW
 use Rattle.luks_reading.specs.declared.read_fault.ReadFault.TheVariants as reading
 use Rattle.luks_reading.specs.Header.{IsReadFaultAs, TakesNoMemory}
 use Rattle.luks_reading.specs.MemoryFacts.{refusal_at_zero, still_accepted}
-use Rattle.luks_reading.specs.PlanAnswers.{PlanTakesMemory}
 use Rattle.luks_reading.specs.Plans.{HasLuks1Plan, HasLuks2Plan, IsLuks1Derivation}
 
 -- ---- none
@@ -79,13 +78,6 @@ none_taken memory v n x (inl chosen) =
     let is : HasLuks1Plan (part v 0 592) n x.plan = subst (λ d. HasPlanAs v n d x.plan) (choices_agree v x.choice luks1 x.chosen chosen) x.is in
     luks1_never (part v 0 592) (entry (part v 0 592) n) x.plan.derivation is.is.derivation x.argon2
 none_taken memory v n x (inr unread) = none_taken_as memory v n x unread.1.choice (choices_agree v x.choice unread.1.choice x.chosen unread.1.chosen) unread.0 unread.1.fault
-
--- and so it is of the plan alone
-pub no_plan_takes : (plan : SlotPlan) (total : ℕ) → PlanTakesMemory 0 plan total → ⊥
-no_plan_takes plan total x =
-    let none = x.accepted.accepted in
-    let some = refusal_at_zero plan ∙ stands (is_argon2 plan.derivation) plan x.argon2 in
-    cc
 
 -- ---- more
 

@@ -1,5 +1,5 @@
 -- Lists of areas that grow towards all areas of a set, name by name.
-use Rattle.std.proofs.Common.{◌≡◌, List, ◌∷◌, ◌++◌, ◌⊎◌, inl, inr, subst, ap, ◌∙◌, arith, ◌<◌, ◌≤◌}
+use Rattle.std.proofs.Common.{◌≡◌, List, [], ◌∷◌, ◌++◌, ◌⊎◌, inl, inr, subst, ap, ◌∙◌, arith, ◌<◌, ◌≤◌}
 use Rattle.luks_area.specs.declared.area.Area.{Area}
 use Rattle.luks_area.specs.declared.area.AreaName.{AreaName}
 use Rattle.luks_area.specs.declared.area.AreaName.TheVariants.{Head1}

@@ -1,5 +1,5 @@
 -- The areas of a LUKS2 volume, added name by name.
-use Rattle.std.proofs.Common.{◌≡◌, ℕ, ◌+◌, ◌<◌, List, ◌∷◌, ◌++◌, length, codes, Option, Some, None, unwrap_or, option_and_then, ◌⊎◌, inl, inr, refl, subst, sym, ap, ◌∙◌, arith, length-append}
+use Rattle.std.proofs.Common.{◌≡◌, ℕ, ◌+◌, ◌<◌, List, [], ◌∷◌, ◌++◌, length, codes, Option, Some, None, unwrap_or, option_and_then, ◌⊎◌, inl, inr, refl, subst, sym, ap, ◌∙◌, arith, length-append}
 use Rattle.std.proofs.lemmas.Bool.{cases_lt}
 use Rattle.serde_json.specs.Data.{Data as Json}
 use Rattle.serde_json.specs.Find.{get}

@@ -1,11 +1,11 @@
-use Rattle.std.proofs.Common.{◌≡◌, ℕ, List, length, true, false, sym, ap, subst, ◌∙◌, arith}
+use Rattle.std.proofs.Common.{◌≡◌, ℕ, List, true, false, sym, ap, subst, ◌∙◌, arith}
 use Rattle.std.proofs.lemmas.Bool.{false≢true, true≢false}
 use Rattle.std.proofs.lemmas.Result.{err_from_is_err_and}
 use Rattle.luks_area.specs.Device.{count_after, unchanged-then}
 use Rattle.luks_copying.specs.CountFacts.{counts_first, counts_none, one_failure}
 use Rattle.luks_keeping.specs.BackupFaults.{checked_backup, is_backup_failure, IsAnsweredBackup, IsShort}
-use Rattle.luks_keeping.specs.Places.{AreInside, HoldsAll}
-use Rattle.luks_keeping.proofs.BackupFacts.{answered_refusal, answered_short, can_back_up, from_backup, is_backup, no_failure, of_backup, same_failure, to_backup, well_formed}
+use Rattle.luks_keeping.specs.Places.{AreInside}
+use Rattle.luks_keeping.proofs.BackupFacts.{answered_refusal, answered_short, answers_alike, backup_of, can_back_up, is_backup, no_failure, of_backup, same_failure, well_formed}
 use Rattle.luks_keeping.proofs.LaidFacts.{apart, inside, lead_within}
 use Rattle.luks_keeping.proofs.SizeFacts.{fits_elsewhere}
 use Rattle.luks_keeping.proofs.VolumeFacts.{own_formed}
@@ -44,15 +44,13 @@ pub returns-clause-backup : goal.returns-clause-backup
 returns-clause-backup g c = λ source tells.
     let v : List ℕ = g.S.Device.bytes c.args.source.now in
     let w : List ℕ = g.T.Device.bytes c.write_backup.new.target in
-    let same = c.in_ok-header.ensures.unchanged.same source in
     let is = c.in_ok-header.ensures.read source in
     let room = c.in_ok-size.ensures.within in
     let total = c.len.ensures in
-    let long : length w ≡ g.T.Device.size c.args.target.now = g.met.T.Device.sized c.write_backup.new.target tells ∙ c.write_backup.ensures.size in
-    is_backup v c.args.data_ c.in_ok-header.header is c.places_of-places.result c.places_of-places.ensures c.in_ok-size.size (c.in_ok-size.ensures.size v is)
-    (c.in_ok-header.ensures.formed source) (g.T.Device.bytes c.args.target.now) w (omega (arith, room, total, long)) (c.write_backup.ensures.rest tells)
-    (subst (λ (l : List ℕ). HoldsAll c.places_of-places.result l w) same (c.in_ok-write_backup.ensures.copied source tells))
-    (c.in_ok-write_backup.ensures.lead tells) (c.in_ok-write_backup.ensures.zeros tells)
+    let made = backup_of v c.args.data_ c.in_ok-header.header is c.places_of-places.result c.places_of-places.ensures c.in_ok-size.size (c.in_ok-size.ensures.size v is) (c.in_ok-header.ensures.formed source) _ (g.T.Device.bytes c.args.target.now) w
+    (g.T.Device.size c.args.target.now) (c.in_ok-header.ensures.unchanged.same source) (g.met.T.Device.sized c.write_backup.new.target tells ∙ c.write_backup.ensures.size) (omega (arith, room, total))
+    (c.write_backup.ensures.rest tells) (c.in_ok-write_backup.ensures.copied source tells) (c.in_ok-write_backup.ensures.lead tells) (c.in_ok-write_backup.ensures.zeros tells) in
+    is_backup v c.args.data_ c.in_ok-header.header c.places_of-places.result c.in_ok-size.size (g.T.Device.bytes c.args.target.now) w made
 
 -- ---- the target is too small
 
@@ -138,30 +136,22 @@ pub returns-clause-well_formed : goal.returns-clause-well_formed
 returns-clause-well_formed g c = λ source tells.
     let v : List ℕ = g.S.Device.bytes c.args.source.now in
     let w : List ℕ = g.T.Device.bytes c.write_backup.new.target in
-    let same = c.in_ok-header.ensures.unchanged.same source in
     let is = c.in_ok-header.ensures.read source in
     let room = c.in_ok-size.ensures.within in
     let total = c.len.ensures in
-    let long : length w ≡ g.T.Device.size c.args.target.now = g.met.T.Device.sized c.write_backup.new.target tells ∙ c.write_backup.ensures.size in
-    well_formed v c.args.data_ c.in_ok-header.header is c.places_of-places.result c.places_of-places.ensures c.in_ok-size.size (c.in_ok-size.ensures.size v is)
-    (c.in_ok-header.ensures.formed source) (g.T.Device.bytes c.args.target.now) w (omega (arith, room, total, long)) (c.write_backup.ensures.rest tells)
-    (subst (λ (l : List ℕ). HoldsAll c.places_of-places.result l w) same (c.in_ok-write_backup.ensures.copied source tells))
-    (c.in_ok-write_backup.ensures.lead tells) (c.in_ok-write_backup.ensures.zeros tells)
+    let made = backup_of v c.args.data_ c.in_ok-header.header is c.places_of-places.result c.places_of-places.ensures c.in_ok-size.size (c.in_ok-size.ensures.size v is) (c.in_ok-header.ensures.formed source) _ (g.T.Device.bytes c.args.target.now) w
+    (g.T.Device.size c.args.target.now) (c.in_ok-header.ensures.unchanged.same source) (g.met.T.Device.sized c.write_backup.new.target tells ∙ c.write_backup.ensures.size) (omega (arith, room, total))
+    (c.write_backup.ensures.rest tells) (c.in_ok-write_backup.ensures.copied source tells) (c.in_ok-write_backup.ensures.lead tells) (c.in_ok-write_backup.ensures.zeros tells) in
+    well_formed v c.args.data_ c.in_ok-header.header c.places_of-places.result c.in_ok-size.size (g.T.Device.bytes c.args.target.now) w made
 
 pub returns-clause-answers : goal.returns-clause-answers
-returns-clause-answers g c = λ source tells memory n p a.
+returns-clause-answers g c = λ source tells.
     let v : List ℕ = g.S.Device.bytes c.args.source.now in
     let w : List ℕ = g.T.Device.bytes c.write_backup.new.target in
-    let same = c.in_ok-header.ensures.unchanged.same source in
     let is = c.in_ok-header.ensures.read source in
     let room = c.in_ok-size.ensures.within in
     let total = c.len.ensures in
-    let long : length w ≡ g.T.Device.size c.args.target.now = g.met.T.Device.sized c.write_backup.new.target tells ∙ c.write_backup.ensures.size in
-    let held = subst (λ (l : List ℕ). HoldsAll c.places_of-places.result l w) same (c.in_ok-write_backup.ensures.copied source tells) in (
-      to_backup v c.args.data_ c.in_ok-header.header is c.places_of-places.result c.places_of-places.ensures c.in_ok-size.size (c.in_ok-size.ensures.size v is)
-          (c.in_ok-header.ensures.formed source) (g.T.Device.bytes c.args.target.now) w (omega (arith, room, total, long)) (c.write_backup.ensures.rest tells) held
-          (c.in_ok-write_backup.ensures.lead tells) (c.in_ok-write_backup.ensures.zeros tells) memory n p a,
-      from_backup v c.args.data_ c.in_ok-header.header is c.places_of-places.result c.places_of-places.ensures c.in_ok-size.size (c.in_ok-size.ensures.size v is)
-          (c.in_ok-header.ensures.formed source) (g.T.Device.bytes c.args.target.now) w (omega (arith, room, total, long)) (c.write_backup.ensures.rest tells) held
-          (c.in_ok-write_backup.ensures.lead tells) (c.in_ok-write_backup.ensures.zeros tells) memory n p a,
-    )
+    let made = backup_of v c.args.data_ c.in_ok-header.header is c.places_of-places.result c.places_of-places.ensures c.in_ok-size.size (c.in_ok-size.ensures.size v is) (c.in_ok-header.ensures.formed source) _ (g.T.Device.bytes c.args.target.now) w
+    (g.T.Device.size c.args.target.now) (c.in_ok-header.ensures.unchanged.same source) (g.met.T.Device.sized c.write_backup.new.target tells ∙ c.write_backup.ensures.size) (omega (arith, room, total))
+    (c.write_backup.ensures.rest tells) (c.in_ok-write_backup.ensures.copied source tells) (c.in_ok-write_backup.ensures.lead tells) (c.in_ok-write_backup.ensures.zeros tells) in
+    answers_alike v c.args.data_ c.in_ok-header.header c.places_of-places.result c.in_ok-size.size (g.T.Device.bytes c.args.target.now) w made

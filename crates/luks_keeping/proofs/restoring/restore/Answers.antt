@@ -2,18 +2,18 @@ use Rattle.std.proofs.Common.{◌≡◌, ℕ, List, length, true, false, sym, ap
 use Rattle.std.proofs.lemmas.Bool.{true≢false}
 use Rattle.std.proofs.lemmas.Result.{err_from_is_err_and}
 use Rattle.luks_area.specs.Device.{count_after, unchanged-then}
-use Rattle.luks_area.specs.Ranges.{part, SameBut}
+use Rattle.luks_area.specs.Ranges.{part}
 use Rattle.luks_area.specs.RangeFacts.{same_but-equal, same_but-same}
 use Rattle.luks_copying.specs.CountFacts.{counts_first, counts_none}
 use Rattle.luks_keeping.specs.Judged.{IsFormedOn}
-use Rattle.luks_keeping.specs.Places.{AreInside, HoldsAll, IsOfWhole, WritesOver}
+use Rattle.luks_keeping.specs.Places.{AreInside}
 use Rattle.luks_keeping.specs.OtherHeaders.{IsUnfit}
 use Rattle.luks_keeping.specs.RestoreFaults.{checked_restore, is_restore_failure}
-use Rattle.luks_keeping.proofs.LaidFacts.{apart, inside, lead_below, whole_kept}
-use Rattle.luks_keeping.proofs.RestoreFacts.{from_volume, is_restored, of_restored, segment_stays, to_volume, well_formed}
-use Rattle.luks_keeping.proofs.RestoreFaultFacts.{answered_other, answered_refusal, answered_unfit, can_restore, counts_second, same_failure, two_failures}
+use Rattle.luks_keeping.proofs.LaidFacts.{apart, inside, lead_below}
+use Rattle.luks_keeping.proofs.RestoreFacts.{answers_alike, is_restored, kept_rest, of_restored, segment_stays, well_formed, written_over}
+use Rattle.luks_keeping.proofs.RestoreFaultFacts.{answered_other, answered_refusal, answered_unfit, can_fit, counts_second, same_failure, two_failures}
 use Rattle.luks_keeping.proofs.SoundFacts.{faultless_on}
-use Rattle.luks_keeping.proofs.TurnFacts.{turn_of}
+use Rattle.luks_keeping.proofs.TurnFacts.{turn_over}
 use Rattle.luks_keeping.proofs.restoring.restore.Goals as goal
 
 pub write_over-requires-clause-lead : goal.write_over-requires-clause-lead
@@ -61,16 +61,12 @@ pub returns-clause-restored : goal.returns-clause-restored
 returns-clause-restored g c = λ source tells.
     let b : List ℕ = g.B.Device.bytes c.args.backup.now in
     let t : List ℕ = g.T.Device.bytes c.args.target.now in
-    let w : List ℕ = g.T.Device.bytes c.write_over.new.target in
     let is = c.in_ok-header.ensures.read source in
-    let same = c.in_ok-header.ensures.unchanged.same source in
-    let unread = c.in_ok-judge_other.ensures.unchanged.same tells in
+    let w : List ℕ = g.T.Device.bytes c.write_over.new.target in
     let long : c.len.result ≡ length w = c.len.ensures ∙ sym c.in_ok-judge_other.ensures.unchanged.size ∙ sym c.write_over.ensures.size ∙ sym (g.met.T.Device.sized c.write_over.new.target tells) in
-    is_restored b c.args.data_ c.in_ok-header.header is c.places_of-places.result c.places_of-places.ensures (c.in_ok-header.ensures.formed source) t w
-    (subst (λ (n : ℕ). IsFormedOn b c.args.data_ n) long (c.in_ok-judge_fit.ensures.formed b is))
-    (subst (λ (l : List ℕ). SameBut (IsOfWhole c.places_of-places.result) l w) unread (c.write_over.ensures.rest tells))
-    (subst (λ (l : List ℕ). HoldsAll c.places_of-places.result l w) same (c.in_ok-write_over.ensures.copied source tells))
-    (c.in_ok-write_over.ensures.lead tells)
+    let over = written_over b c.args.data_ c.in_ok-header.header is c.places_of-places.result c.places_of-places.ensures (c.in_ok-header.ensures.formed source) _ t _ w c.len.result (c.in_ok-header.ensures.unchanged.same source)
+    (c.in_ok-judge_other.ensures.unchanged.same tells) long (c.in_ok-judge_fit.ensures.formed b is) (c.write_over.ensures.rest tells) (c.in_ok-write_over.ensures.copied source tells) (c.in_ok-write_over.ensures.lead tells) in
+    is_restored b c.args.data_ c.in_ok-header.header c.places_of-places.result t w over
 
 -- ---- nothing was written
 
@@ -133,122 +129,77 @@ returns-clause-faultless g c = λ source tells.
     let b : List ℕ = g.B.Device.bytes c.args.backup.now in
     let t : List ℕ = g.T.Device.bytes c.args.target.now in
     let is = c.in_ok-header.ensures.read source in
-    let long : c.len.result ≡ length t = c.len.ensures ∙ sym (g.met.T.Device.sized c.args.target.now tells) in
-    let fits : IsFormedOn b c.args.data_ (length t) = subst (λ (n : ℕ). IsFormedOn b c.args.data_ n) long (c.in_ok-judge_fit.ensures.formed b is) in
-    can_restore b t c.args.data_ c.args.over (c.in_ok-header.ensures.formed source) (faultless_on b c.args.data_ (length t) fits) (c.in_ok-judge_other.ensures.clear tells b is)
+    can_fit b t c.args.data_ c.args.over (c.in_ok-header.ensures.formed source) c.len.result (c.len.ensures ∙ sym (g.met.T.Device.sized c.args.target.now tells)) (c.in_ok-judge_fit.ensures.formed b is)
+    (c.in_ok-judge_other.ensures.clear tells b is)
 
 pub returns-clause-same : goal.returns-clause-same
 returns-clause-same g c = λ source tells f bad.
     let b : List ℕ = g.B.Device.bytes c.args.backup.now in
     let t : List ℕ = g.T.Device.bytes c.args.target.now in
     let is = c.in_ok-header.ensures.read source in
-    let long : c.len.result ≡ length t = c.len.ensures ∙ sym (g.met.T.Device.sized c.args.target.now tells) in
-    let fits : IsFormedOn b c.args.data_ (length t) = subst (λ (n : ℕ). IsFormedOn b c.args.data_ n) long (c.in_ok-judge_fit.ensures.formed b is) in
-    absurd ((can_restore b t c.args.data_ c.args.over (c.in_ok-header.ensures.formed source) (faultless_on b c.args.data_ (length t) fits) (c.in_ok-judge_other.ensures.clear tells b is)).none f bad)
+    absurd ((can_fit b t c.args.data_ c.args.over (c.in_ok-header.ensures.formed source) c.len.result (c.len.ensures ∙ sym (g.met.T.Device.sized c.args.target.now tells)) (c.in_ok-judge_fit.ensures.formed b is)
+    (c.in_ok-judge_other.ensures.clear tells b is)).none f bad)
 
 pub returns-in_err-write_over-clause-same : goal.returns-in_err-write_over-clause-same
 returns-in_err-write_over-clause-same g c = λ source tells f bad.
     let b : List ℕ = g.B.Device.bytes c.args.backup.now in
     let t : List ℕ = g.T.Device.bytes c.args.target.now in
     let is = c.in_ok-header.ensures.read source in
-    let long : c.len.result ≡ length t = c.len.ensures ∙ sym (g.met.T.Device.sized c.args.target.now tells) in
-    let fits : IsFormedOn b c.args.data_ (length t) = subst (λ (n : ℕ). IsFormedOn b c.args.data_ n) long (c.in_ok-judge_fit.ensures.formed b is) in
-    absurd ((can_restore b t c.args.data_ c.args.over (c.in_ok-header.ensures.formed source) (faultless_on b c.args.data_ (length t) fits) (c.in_ok-judge_other.ensures.clear tells b is)).none f bad)
+    absurd ((can_fit b t c.args.data_ c.args.over (c.in_ok-header.ensures.formed source) c.len.result (c.len.ensures ∙ sym (g.met.T.Device.sized c.args.target.now tells)) (c.in_ok-judge_fit.ensures.formed b is)
+    (c.in_ok-judge_other.ensures.clear tells b is)).none f bad)
 
 pub returns-clause-rest : goal.returns-clause-rest
 returns-clause-rest g c = λ source tells.
-    let b : List ℕ = g.B.Device.bytes c.args.backup.now in
-    let t : List ℕ = g.T.Device.bytes c.args.target.now in
-    let w : List ℕ = g.T.Device.bytes c.write_over.new.target in
-    let is = c.in_ok-header.ensures.read source in
-    let unread = c.in_ok-judge_other.ensures.unchanged.same tells in
-    of_restored b c.in_ok-header.header is (whole_kept b c.in_ok-header.header is c.places_of-places.result c.places_of-places.ensures
-    (subst (λ (l : List ℕ). SameBut (IsOfWhole c.places_of-places.result) l w) unread (c.write_over.ensures.rest tells)))
+    of_restored (g.B.Device.bytes c.args.backup.now) c.in_ok-header.header (c.in_ok-header.ensures.read source)
+    (kept_rest (g.B.Device.bytes c.args.backup.now) c.in_ok-header.header (c.in_ok-header.ensures.read source) c.places_of-places.result c.places_of-places.ensures (g.T.Device.bytes c.args.target.now) _ (g.T.Device.bytes c.write_over.new.target) (c.in_ok-judge_other.ensures.unchanged.same tells) (c.write_over.ensures.rest tells))
 
 pub returns-in_err-write_over-clause-rest : goal.returns-in_err-write_over-clause-rest
 returns-in_err-write_over-clause-rest g c = λ source tells.
-    let b : List ℕ = g.B.Device.bytes c.args.backup.now in
-    let t : List ℕ = g.T.Device.bytes c.args.target.now in
-    let w : List ℕ = g.T.Device.bytes c.write_over.new.target in
-    let is = c.in_ok-header.ensures.read source in
-    let unread = c.in_ok-judge_other.ensures.unchanged.same tells in
-    of_restored b c.in_ok-header.header is (whole_kept b c.in_ok-header.header is c.places_of-places.result c.places_of-places.ensures
-    (subst (λ (l : List ℕ). SameBut (IsOfWhole c.places_of-places.result) l w) unread (c.write_over.ensures.rest tells)))
+    of_restored (g.B.Device.bytes c.args.backup.now) c.in_ok-header.header (c.in_ok-header.ensures.read source)
+    (kept_rest (g.B.Device.bytes c.args.backup.now) c.in_ok-header.header (c.in_ok-header.ensures.read source) c.places_of-places.result c.places_of-places.ensures (g.T.Device.bytes c.args.target.now) _ (g.T.Device.bytes c.write_over.new.target) (c.in_ok-judge_other.ensures.unchanged.same tells) (c.write_over.ensures.rest tells))
 
 pub returns-clause-segments : goal.returns-clause-segments
-returns-clause-segments g c = λ source tells n a seg.
+returns-clause-segments g c = λ source tells.
     let b : List ℕ = g.B.Device.bytes c.args.backup.now in
-    let t : List ℕ = g.T.Device.bytes c.args.target.now in
-    let w : List ℕ = g.T.Device.bytes c.write_over.new.target in
     let is = c.in_ok-header.ensures.read source in
-    let unread = c.in_ok-judge_other.ensures.unchanged.same tells in
-    segment_stays b c.args.data_ (g.T.Device.size c.args.target.now) c.in_ok-header.header is
-    (subst (λ (n : ℕ). IsFormedOn b c.args.data_ n) c.len.ensures (c.in_ok-judge_fit.ensures.formed b is))
-    (whole_kept b c.in_ok-header.header is c.places_of-places.result c.places_of-places.ensures (subst (λ (l : List ℕ). SameBut (IsOfWhole c.places_of-places.result) l w) unread (c.write_over.ensures.rest tells))) n a seg
+    segment_stays b c.args.data_ (g.T.Device.size c.args.target.now) c.in_ok-header.header is (subst (λ (n : ℕ). IsFormedOn b c.args.data_ n) c.len.ensures (c.in_ok-judge_fit.ensures.formed b is))
+    (kept_rest b c.in_ok-header.header is c.places_of-places.result c.places_of-places.ensures (g.T.Device.bytes c.args.target.now) _ (g.T.Device.bytes c.write_over.new.target) (c.in_ok-judge_other.ensures.unchanged.same tells) (c.write_over.ensures.rest tells))
 
 pub returns-in_err-write_over-clause-segments : goal.returns-in_err-write_over-clause-segments
-returns-in_err-write_over-clause-segments g c = λ source tells n a seg.
+returns-in_err-write_over-clause-segments g c = λ source tells.
     let b : List ℕ = g.B.Device.bytes c.args.backup.now in
-    let t : List ℕ = g.T.Device.bytes c.args.target.now in
-    let w : List ℕ = g.T.Device.bytes c.write_over.new.target in
     let is = c.in_ok-header.ensures.read source in
-    let unread = c.in_ok-judge_other.ensures.unchanged.same tells in
-    segment_stays b c.args.data_ (g.T.Device.size c.args.target.now) c.in_ok-header.header is
-    (subst (λ (n : ℕ). IsFormedOn b c.args.data_ n) c.len.ensures (c.in_ok-judge_fit.ensures.formed b is))
-    (whole_kept b c.in_ok-header.header is c.places_of-places.result c.places_of-places.ensures (subst (λ (l : List ℕ). SameBut (IsOfWhole c.places_of-places.result) l w) unread (c.write_over.ensures.rest tells))) n a seg
+    segment_stays b c.args.data_ (g.T.Device.size c.args.target.now) c.in_ok-header.header is (subst (λ (n : ℕ). IsFormedOn b c.args.data_ n) c.len.ensures (c.in_ok-judge_fit.ensures.formed b is))
+    (kept_rest b c.in_ok-header.header is c.places_of-places.result c.places_of-places.ensures (g.T.Device.bytes c.args.target.now) _ (g.T.Device.bytes c.write_over.new.target) (c.in_ok-judge_other.ensures.unchanged.same tells) (c.write_over.ensures.rest tells))
 
 pub returns-clause-order : goal.returns-clause-order
-returns-clause-order g c = λ source tells choice chosen.
-    let b : List ℕ = g.B.Device.bytes c.args.backup.now in
-    let t : List ℕ = g.T.Device.bytes c.args.target.now in
-    let w : List ℕ = g.T.Device.bytes c.write_over.new.target in
-    let is = c.in_ok-header.ensures.read source in
-    let unread = c.in_ok-judge_other.ensures.unchanged.same tells in
-    let same = c.in_ok-header.ensures.unchanged.same source in
-    turn_of b c.in_ok-header.header is c.places_of-places.result c.places_of-places.ensures t w
-    (subst (λ (l : List ℕ). WritesOver c.places_of-places.result l t w) same (subst (λ (l : List ℕ). WritesOver c.places_of-places.result (g.B.Device.bytes c.accepted_header.new.device) l w) unread (c.write_over.ensures.order source tells)))
-    choice chosen
+returns-clause-order g c = λ source tells.
+    turn_over (g.B.Device.bytes c.args.backup.now) c.in_ok-header.header (c.in_ok-header.ensures.read source) c.places_of-places.result c.places_of-places.ensures _ (g.T.Device.bytes c.args.target.now) _ (g.T.Device.bytes c.write_over.new.target) (c.in_ok-header.ensures.unchanged.same source)
+    (c.in_ok-judge_other.ensures.unchanged.same tells) (c.write_over.ensures.order source tells)
 
 pub returns-in_err-write_over-clause-order : goal.returns-in_err-write_over-clause-order
-returns-in_err-write_over-clause-order g c = λ source tells choice chosen.
-    let b : List ℕ = g.B.Device.bytes c.args.backup.now in
-    let t : List ℕ = g.T.Device.bytes c.args.target.now in
-    let w : List ℕ = g.T.Device.bytes c.write_over.new.target in
-    let is = c.in_ok-header.ensures.read source in
-    let unread = c.in_ok-judge_other.ensures.unchanged.same tells in
-    let same = c.in_ok-header.ensures.unchanged.same source in
-    turn_of b c.in_ok-header.header is c.places_of-places.result c.places_of-places.ensures t w
-    (subst (λ (l : List ℕ). WritesOver c.places_of-places.result l t w) same (subst (λ (l : List ℕ). WritesOver c.places_of-places.result (g.B.Device.bytes c.accepted_header.new.device) l w) unread (c.write_over.ensures.order source tells)))
-    choice chosen
+returns-in_err-write_over-clause-order g c = λ source tells.
+    turn_over (g.B.Device.bytes c.args.backup.now) c.in_ok-header.header (c.in_ok-header.ensures.read source) c.places_of-places.result c.places_of-places.ensures _ (g.T.Device.bytes c.args.target.now) _ (g.T.Device.bytes c.write_over.new.target) (c.in_ok-header.ensures.unchanged.same source)
+    (c.in_ok-judge_other.ensures.unchanged.same tells) (c.write_over.ensures.order source tells)
 
 pub returns-clause-well_formed : goal.returns-clause-well_formed
 returns-clause-well_formed g c = λ source tells.
     let b : List ℕ = g.B.Device.bytes c.args.backup.now in
     let t : List ℕ = g.T.Device.bytes c.args.target.now in
-    let w : List ℕ = g.T.Device.bytes c.write_over.new.target in
     let is = c.in_ok-header.ensures.read source in
-    let same = c.in_ok-header.ensures.unchanged.same source in
-    let unread = c.in_ok-judge_other.ensures.unchanged.same tells in
+    let w : List ℕ = g.T.Device.bytes c.write_over.new.target in
     let long : c.len.result ≡ length w = c.len.ensures ∙ sym c.in_ok-judge_other.ensures.unchanged.size ∙ sym c.write_over.ensures.size ∙ sym (g.met.T.Device.sized c.write_over.new.target tells) in
-    let fits : IsFormedOn b c.args.data_ (length w) = subst (λ (n : ℕ). IsFormedOn b c.args.data_ n) long (c.in_ok-judge_fit.ensures.formed b is) in
-    let rest : SameBut (IsOfWhole c.places_of-places.result) t w = subst (λ (l : List ℕ). SameBut (IsOfWhole c.places_of-places.result) l w) unread (c.write_over.ensures.rest tells) in
-    let held : HoldsAll c.places_of-places.result b w = subst (λ (l : List ℕ). HoldsAll c.places_of-places.result l w) same (c.in_ok-write_over.ensures.copied source tells) in
-    let lead = c.in_ok-write_over.ensures.lead tells in
-    let well = c.in_ok-header.ensures.formed source in
-    well_formed b c.args.data_ c.in_ok-header.header is c.places_of-places.result c.places_of-places.ensures well t w fits rest held lead
+    let over = written_over b c.args.data_ c.in_ok-header.header is c.places_of-places.result c.places_of-places.ensures (c.in_ok-header.ensures.formed source) _ t _ w c.len.result (c.in_ok-header.ensures.unchanged.same source)
+    (c.in_ok-judge_other.ensures.unchanged.same tells) long (c.in_ok-judge_fit.ensures.formed b is) (c.write_over.ensures.rest tells) (c.in_ok-write_over.ensures.copied source tells) (c.in_ok-write_over.ensures.lead tells) in
+    well_formed b c.args.data_ c.in_ok-header.header c.places_of-places.result t w over
 
 pub returns-clause-answers : goal.returns-clause-answers
-returns-clause-answers g c = λ source tells memory n p a.
+returns-clause-answers g c = λ source tells.
     let b : List ℕ = g.B.Device.bytes c.args.backup.now in
     let t : List ℕ = g.T.Device.bytes c.args.target.now in
-    let w : List ℕ = g.T.Device.bytes c.write_over.new.target in
     let is = c.in_ok-header.ensures.read source in
-    let same = c.in_ok-header.ensures.unchanged.same source in
-    let unread = c.in_ok-judge_other.ensures.unchanged.same tells in
+    let w : List ℕ = g.T.Device.bytes c.write_over.new.target in
     let long : c.len.result ≡ length w = c.len.ensures ∙ sym c.in_ok-judge_other.ensures.unchanged.size ∙ sym c.write_over.ensures.size ∙ sym (g.met.T.Device.sized c.write_over.new.target tells) in
-    let fits : IsFormedOn b c.args.data_ (length w) = subst (λ (n : ℕ). IsFormedOn b c.args.data_ n) long (c.in_ok-judge_fit.ensures.formed b is) in
-    let rest : SameBut (IsOfWhole c.places_of-places.result) t w = subst (λ (l : List ℕ). SameBut (IsOfWhole c.places_of-places.result) l w) unread (c.write_over.ensures.rest tells) in
-    let held : HoldsAll c.places_of-places.result b w = subst (λ (l : List ℕ). HoldsAll c.places_of-places.result l w) same (c.in_ok-write_over.ensures.copied source tells) in
-    let lead = c.in_ok-write_over.ensures.lead tells in
-    let well = c.in_ok-header.ensures.formed source in
-    (to_volume b c.args.data_ c.in_ok-header.header is c.places_of-places.result c.places_of-places.ensures well t w fits rest held lead memory n p a, from_volume b c.args.data_ c.in_ok-header.header is c.places_of-places.result c.places_of-places.ensures well t w fits rest held lead memory n p a)
+    let over = written_over b c.args.data_ c.in_ok-header.header is c.places_of-places.result c.places_of-places.ensures (c.in_ok-header.ensures.formed source) _ t _ w c.len.result (c.in_ok-header.ensures.unchanged.same source)
+    (c.in_ok-judge_other.ensures.unchanged.same tells) long (c.in_ok-judge_fit.ensures.formed b is) (c.write_over.ensures.rest tells) (c.in_ok-write_over.ensures.copied source tells) (c.in_ok-write_over.ensures.lead tells) in
+    answers_alike b c.args.data_ c.in_ok-header.header c.places_of-places.result t w over

@@ -6,7 +6,7 @@ use Rattle.luks_making.proofs.TakenFacts.{none_taken}
 use Rattle.luks_making.proofs.changed.with_kdf.Goals as goal
 
 pub returns-in_ok-changed-in-Some : goal.returns-in_ok-changed-in-Some
-returns-in_ok-changed-in-Some c = c.with_member.ensures (renewed_kdf (new_members c.args.new.now)) (view c.args.keyslot) (view c.in-Some.kdf) c.take_member.ensures.left (sym c.in-Some.ensures.taken) c.in_ok-changed-in-Some.ensures
+returns-in_ok-changed-in-Some c = c.with_member.ensures (renewed_kdf (new_members c.args.new.now)) (view c.args.keyslot) (view c.in-Some.kdf) c.take_member.ensures.left c.in-Some.ensures.taken c.in_ok-changed-in-Some.ensures
 
 pub returns-in-None : goal.returns-in-None
-returns-in-None c = none_taken (codes "kdf") (renewed_kdf (new_members c.args.new.now)) (view c.args.keyslot) _ c.in-None.ensures.taken c.take_member.ensures.left
+returns-in-None c = c.in-None.ensures.none tt (renewed_kdf (new_members c.args.new.now))
