@@ -102,8 +102,7 @@ answered_short v payload total well short = (short, after)
     after : (g : BackupFault) → IsBackupFault v payload total g → NotAfter (backup_key TooSmall) (backup_key g)
     after (NotAccepted g) bad = absurd (well_formed_faultless v payload well g bad)
     after TooSmall bad = (omega arith, λ e. tt)
-    after Memory bad = absurd bad
-    after Device bad = absurd bad
+    after other bad = absurd bad
 
 pub can_back_up : (v : List ℕ) (payload : Data) (total size : ℕ) → WellFormed v payload → IsBackupSize v payload size → size ≤ total → CanBackUp v payload total
 can_back_up v payload total size well is room = record { none = none }
@@ -111,8 +110,7 @@ can_back_up v payload total size well is room = record { none = none }
     none : (f : BackupFault) → IsBackupFault v payload total f → ⊥
     none (NotAccepted f) bad = well_formed_faultless v payload well f bad
     none TooSmall bad = (let same = one_size v payload bad.size size bad.is_size is in let short = bad.short in omega (arith, same, short, room))
-    none Memory bad = bad
-    none Device bad = bad
+    none other bad = bad
 
 -- a check's fault that isn't a device's
 pub no_failure : (f : CheckFault) → (f ≡ check.Device → ⊥) → is_backup_failure (checked_backup f) ≡ false

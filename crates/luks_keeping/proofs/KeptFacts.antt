@@ -28,8 +28,6 @@ first_placed : (v : List ℕ) (o : ℕ) → o ≡ 0 → IsSound v 0 → 16384 �
 first_placed v o zero sound = subst (λ (p : ℕ). 16384 ≤ hdr_size (header_at v p)) (sym zero) (large_of v 0 sound)
 
 pub is_placed : (v : List ℕ) (o : ℕ) (copies : Copies) → IsChosenCopy v o copies → IsPlaced v o copies
-is_placed v o InStep x = record { low = omega arith; high = (let zero = x.2 in omega (arith, zero)); large = first_placed v o x.2 x.0.first }
-is_placed v o FirstNewer x = record { low = omega arith; high = (let zero = x.2 in omega (arith, zero)); large = first_placed v o x.2 x.0.first }
 is_placed v o SecondNewer x =
     let first = large_of v 0 x.0.first in
     let there : IsSound v o = subst (IsSound v) (sym x.2) x.0.second in
@@ -42,6 +40,7 @@ is_placed v o SecondOnly x =
     let low = least_large v o x in
     let size = second_size v o low x.sound in
     record { low = omega (arith, low); high = omega (arith, size); large = large }
+is_placed v o other x = record { low = omega arith; high = (let zero = x.2 in omega (arith, zero)); large = first_placed v o x.2 x.0.first }
 
 -- ---- what counts
 

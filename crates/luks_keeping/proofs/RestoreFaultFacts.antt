@@ -66,8 +66,7 @@ module _ (b t : List ℕ) (payload : Data) (over : Over) where
           none (NotAccepted f) bad = well_formed_faultless b Elsewhere well f bad
           none (DoesNotFit f) bad = fits f bad
           none OtherVolume bad = clear bad
-          none Memory bad = bad
-          none Device bad = bad
+          none other bad = bad
 
 -- a volume that would be well-formed, and that the backup is of, can be restored
 pub can_fit : (b t : List ℕ) (payload : Data) (over : Over) → WellFormed b Elsewhere → (total : ℕ) → total ≡ length t → IsFormedOn b payload total → (IsKeptFrom b t over → ⊥) → CanRestore b t payload over

@@ -1,8 +1,6 @@
 -- The salts of keyslots, and how they stand to each other.
 use Rattle.std.proofs.Common.{◌≡◌, ◌↔◌, ℕ, List, Some, IsTrue, sym, ap, subst, ◌∙◌}
 use Rattle.serde_json.specs.Data.{Data as Value}
-use Rattle.luks1_header.specs.Header1.{entry, IsEntry}
-use Rattle.luks1_header.specs.declared.luks1.Luks1Slot.{Luks1Slot}
 use Rattle.luks_rules.proofs.AreaFaults.{one_value}
 use Rattle.luks_meta.specs.Content.{content}
 use Rattle.luks_rules.specs.Faults.{member_at}
@@ -21,10 +19,6 @@ use Rattle.luks_keeping.specs.declared.comparison.Keeping.{Keeping}
 use Rattle.luks_keeping.specs.declared.comparison.Keeping.TheVariants.{Absent, Same, Older, Missing, Removed}
 use Rattle.luks_keeping.proofs.KeyFacts.{shares_digest, shares_header}
 use Rattle.luks_keeping.proofs.LaidFacts.{chosen_of}
-
--- ---- one keyslot of LUKS1
-
-module _ (h : List ℕ) (n : ℕ) (s : Luks1Slot) (own : IsEntry (entry h n) s) where
 
 -- ---- one salt
 

@@ -4,9 +4,6 @@ use Rattle.serde_json.specs.Data.{Data as Value}
 use Rattle.serde_json.specs.Find.{get}
 use Rattle.luks_area.specs.declared.area.Area.{Area}
 use Rattle.luks_area.specs.declared.area.AreaName.TheVariants.{Slot}
-use Rattle.luks1_header.specs.Header1.{entry, IsEntry, IsLuks1}
-use Rattle.luks1_header.specs.declared.luks1.Luks1.{Luks1 as Fields}
-use Rattle.luks1_header.specs.declared.luks1.Luks1Slot.{Luks1Slot}
 use Rattle.luks_meta.specs.Content.{content}
 use Rattle.luks_meta.specs.Faults.{object_at}
 use Rattle.luks_meta.specs.Reading.{decimal_in}
@@ -29,10 +26,6 @@ no_slot j n a gone is =
     ap (λ o. decimal_in (option_and_then (get (codes "offset")) (option_and_then (get (codes "area")) o))) gone in
     let some = is.1 in
     absurd (cc)
-
--- ---- one keyslot of LUKS1
-
-module _ (h : List ℕ) (d : Fields) (n : ℕ) (s : Luks1Slot) (is : IsLuks1 h d) (low : n < 8) (own : IsEntry (entry h n) s) where
 
 -- ---- the list of them
 

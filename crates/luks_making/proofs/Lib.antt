@@ -10,10 +10,7 @@ mod FreeNumberFacts
 pub mod RoomFacts
 pub mod ChangeFacts
 pub mod NewVolumeFacts
-mod PutFacts
-mod TakenFacts
-mod ItemFacts
-mod CopyFacts
+mod MapFacts
 mod StepFacts
 mod AreaFacts
 mod NewAreaFacts

@@ -64,18 +64,13 @@ unread_first v payload c (reading.Head f) least = (head_checked v payload c f le
   where
     after : (g : CheckFault) → IsFaultAs v payload c g → NotAfter (check_key (Head f)) (check_key g)
     after (Head g) is = least.1 (reading.Head g) (head_read v payload c (reading.Head f) g least.0 is)
-    after (Meta g) is = (omega arith, λ e. absurd (omega (arith, e)))
-    after (Area g) is = (omega arith, λ e. absurd (omega (arith, e)))
-    after Device is = (omega arith, λ e. absurd (omega (arith, e)))
-    after Memory is = (omega arith, λ e. absurd (omega (arith, e)))
+    after other is = (omega arith, λ e. absurd (omega (arith, e)))
 unread_first v payload c (reading.Meta f) least = (meta_checked v payload c f least.0, after)
   where
     after : (g : CheckFault) → IsFaultAs v payload c g → NotAfter (check_key (Meta f)) (check_key g)
     after (Head g) is = least.1 (reading.Head g) (head_read v payload c (reading.Meta f) g least.0 is)
     after (Meta g) is = meta_after v payload c f g least is
-    after (Area g) is = (omega arith, λ e. absurd (omega (arith, e)))
-    after Device is = (omega arith, λ e. absurd (omega (arith, e)))
-    after Memory is = (omega arith, λ e. absurd (omega (arith, e)))
+    after other is = (omega arith, λ e. absurd (omega (arith, e)))
 unread_first v payload luks1 reading.Device least = absurd least.0
 unread_first v payload (luks2 o copies) reading.Device least = absurd least.0
 unread_first v payload nothing reading.Device least = absurd least.0

@@ -6,7 +6,7 @@ use Rattle.luks_area.specs.First.{NotAfter, IsLeast}
 use Rattle.luks1_header.specs.declared.fault.HeadFault.{HeadFault}
 use Rattle.luks1_header.specs.Faults.{IsLuks1Fault as IsLuks1HeadFault}
 use Rattle.luks_reading.specs.declared.check_fault.CheckFault.{CheckFault}
-use Rattle.luks_reading.specs.declared.check_fault.CheckFault.TheVariants.{Head, Meta, Area, Device, Memory}
+use Rattle.luks_reading.specs.declared.check_fault.CheckFault.TheVariants.{Head, Area}
 use Rattle.luks_reading.specs.declared.report.Data.{Data}
 use Rattle.luks_reading.specs.Checked.{check_key, IsLuks1Fault}
 use Rattle.luks_reading.specs.Layout1.{Luks1Area}
@@ -17,7 +17,5 @@ least_area h payload total f faultless least = (least.0, after)
   where
     after : (g : CheckFault) → IsLuks1Fault h payload total g → NotAfter (check_key (Area f)) (check_key g)
     after (Head g) is = absurd (faultless g is)
-    after (Meta g) is = absurd is
     after (Area g) is = (omega arith, λ _. least.1 g is)
-    after Device is = absurd is
-    after Memory is = absurd is
+    after other is = absurd is

@@ -12,7 +12,7 @@ use Rattle.luks_slot.specs.declared.fault.SlotFault.{SlotFault}
 use Rattle.luks_slot.specs.declared.plan.SlotPlan.{SlotPlan}
 use Rattle.luks_slot.specs.Refusal.{slot_refusal}
 use Rattle.luks_reading.specs.declared.open_fault.OpenFault.{OpenFault}
-use Rattle.luks_reading.specs.declared.open_fault.OpenFault.TheVariants.{Head, Meta, NoSuchSlot, SlotFree, Outside, Slot, Device, Memory}
+use Rattle.luks_reading.specs.declared.open_fault.OpenFault.TheVariants.{Head, NoSuchSlot, SlotFree, Outside, Slot}
 use Rattle.luks_reading.specs.Answer.{open_key, head_step, slot_row, FirstRefusal, IsLuks1HeadRefusal, IsLuks1Refusal}
 use Rattle.luks_reading.specs.declared.read_fault.ReadFault.TheVariants as reading
 use Rattle.luks_reading.specs.Conversions.{head_unread, unread_opened}
@@ -108,7 +108,6 @@ entry_first h total n (Head f) clear x = (refuses.0, after)
     after Outside is = let here = refuses.1 in sooner (head_step f) 6 (head_key f) [] (omega (arith, here))
     after (Slot g) is = let here = refuses.1 in sooner (head_step f) 7 (head_key f) (slot_row g ∷ []) (omega (arith, here))
     after other is = absurd is
-entry_first h total n (Meta f) clear x = absurd x
 entry_first h total n NoSuchSlot clear x = (x, after)
   where
     after : (g : OpenFault) → IsLuks1Refusal h total n g → NotAfter (open_key NoSuchSlot) (open_key g)
@@ -116,13 +115,11 @@ entry_first h total n NoSuchSlot clear x = (x, after)
       | inl y ↦ absurd (clear g y.fault)
       | inr y ↦ let there = y.step in sooner 3 (head_step g) [] (head_key g) (omega (arith, there))
     ]
-    after (Meta g) is = absurd is
     after NoSuchSlot is = together 3 3 [] [] refl tt
     after SlotFree is = sooner 3 5 [] [] (omega arith)
     after Outside is = sooner 3 6 [] [] (omega arith)
     after (Slot g) is = sooner 3 7 [] (slot_row g ∷ []) (omega arith)
-    after Device is = absurd is
-    after Memory is = absurd is
+    after other is = absurd is
 entry_first h total n SlotFree clear x = ((x.numbered, x.disabled), after)
   where
     after : (g : OpenFault) → IsLuks1Refusal h total n g → NotAfter (open_key SlotFree) (open_key g)
@@ -130,17 +127,12 @@ entry_first h total n SlotFree clear x = ((x.numbered, x.disabled), after)
       | inl y ↦ absurd (clear g y.fault)
       | inr y ↦ absurd (x.faultless g y.fault)
     ]
-    after (Meta g) is = absurd is
     after NoSuchSlot is = let lt = x.numbered in absurd (omega (arith, lt, is))
     after SlotFree is = together 5 5 [] [] refl tt
     after Outside is = sooner 5 6 [] [] (omega arith)
     after (Slot g) is = sooner 5 7 [] (slot_row g ∷ []) (omega arith)
-    after Device is = absurd is
-    after Memory is = absurd is
-entry_first h total n Outside clear x = absurd x
-entry_first h total n (Slot f) clear x = absurd x
-entry_first h total n Device clear x = absurd x
-entry_first h total n Memory clear x = absurd x
+    after other is = absurd is
+entry_first h total n other clear x = absurd x
 
 -- ---- the keyslot's plan
 
@@ -159,26 +151,19 @@ in_use h n s on off = let is = on.enabled in omega (arith, is, off)
 pub plan_first : (h : List ℕ) (total n : ℕ) (s : Luks1Slot) (plan : SlotPlan) (f : OpenFault) → ((g : HeadFault) → IsCommonFault h g → ⊥)
     → IsEnabled h n s → HasLuks1Plan h n plan → IsPlanRefusal 0 plan total f
     → IsLeast open_key (IsLuks1Refusal h total n) f
-plan_first h total n s plan (Head f) clear on is x = absurd x
-plan_first h total n s plan (Meta f) clear on is x = absurd x
-plan_first h total n s plan NoSuchSlot clear on is x = absurd x
-plan_first h total n s plan SlotFree clear on is x = absurd x
 plan_first h total n s plan Outside clear on is x = (record { plan = plan; is = is; past = x }, after)
   where
     after : (g : OpenFault) → IsLuks1Refusal h total n g → NotAfter (open_key Outside) (open_key g)
     after (Head g) y = absurd (not_of_head h n s g clear on y)
-    after (Meta g) y = absurd y
     after NoSuchSlot y = let lt = on.numbered in absurd (omega (arith, lt, y))
     after SlotFree y = absurd (in_use h n s on y.1)
     after Outside y = together 6 6 [] [] refl tt
     after (Slot g) y = sooner 6 7 [] (slot_row g ∷ []) (omega arith)
-    after Device y = absurd y
-    after Memory y = absurd y
+    after other y = absurd y
 plan_first h total n s plan (Slot f) clear on is x = (record { plan = plan; is = is; refused = sym (refusal_at_zero plan) ∙ x.1 }, after)
   where
     after : (g : OpenFault) → IsLuks1Refusal h total n g → NotAfter (open_key (Slot f)) (open_key g)
     after (Head g) y = absurd (not_of_head h n s g clear on y)
-    after (Meta g) y = absurd y
     after NoSuchSlot y = let lt = on.numbered in absurd (omega (arith, lt, y))
     after SlotFree y = absurd (in_use h n s on y.1)
     after Outside y =
@@ -191,16 +176,13 @@ plan_first h total n s plan (Slot f) clear on is x = (record { plan = plan; is =
     after (Slot g) y =
         let e : f ≡ g = same_slot h n plan y.plan f g is y.is (sym (refusal_at_zero plan) ∙ x.1) y.refused in
         together 7 7 (slot_row f ∷ []) (slot_row g ∷ []) refl (together (slot_row f) (slot_row g) [] [] (ap slot_row e) tt)
-    after Device y = absurd y
-    after Memory y = absurd y
-plan_first h total n s plan Device clear on is x = absurd x
-plan_first h total n s plan Memory clear on is x = absurd x
+    after other y = absurd y
+plan_first h total n s plan other clear on is x = absurd x
 
 -- nothing refuses a keyslot whose plan is accepted
 pub plan_unrefused : (h : List ℕ) (total n : ℕ) (s : Luks1Slot) (plan : SlotPlan) → ((g : HeadFault) → IsCommonFault h g → ⊥)
     → IsEnabled h n s → HasLuks1Plan h n plan → IsPlanAccepted 0 plan total → (f : OpenFault) → IsLuks1Refusal h total n f → ⊥
 plan_unrefused h total n s plan clear on is x (Head g) y = not_of_head h n s g clear on y
-plan_unrefused h total n s plan clear on is x (Meta g) y = y
 plan_unrefused h total n s plan clear on is x NoSuchSlot y = let lt = on.numbered in omega (arith, lt, y)
 plan_unrefused h total n s plan clear on is x SlotFree y = in_use h n s on y.1
 plan_unrefused h total n s plan clear on is x Outside y =
@@ -215,8 +197,7 @@ plan_unrefused h total n s plan clear on is x (Slot g) y =
     let accepted = sym (refusal_at_zero plan) ∙ x.accepted in
     let refused = y.refused in
     absurd (cc)
-plan_unrefused h total n s plan clear on is x Device y = y
-plan_unrefused h total n s plan clear on is x Memory y = y
+plan_unrefused h total n s plan clear on is x other y = y
 
 pub plan_opens : (h v : List ℕ) (n : ℕ) (s : Luks1Slot) (plan : SlotPlan) (p : List ℕ) (found : Option (List ℕ)) → ((g : HeadFault) → IsCommonFault h g → ⊥)
     → IsEnabled h n s → HasLuks1Plan h n plan → PlanOpens 0 plan v p found → Luks1Opens h v n p found

@@ -137,20 +137,17 @@ pub segments-done : (j : Json) (h : ℕ) (payload : Data) (total : ℕ) (es : Li
 segments-done j h payload total es listed = lists-all es (Luks2Area j h payload total) (Segment 32) listed last
   where
     last : (n : AreaName) (a : Area) → Luks2Area j h payload total n a → IsBefore n (Segment 32)
-    last Head1 a g = (omega arith, λ e. absurd (omega (arith, e)))
-    last Head2 a g = (omega arith, λ e. absurd (omega (arith, e)))
-    last (Slot k) a g = (omega arith, λ e. absurd (omega (arith, e)))
     last (Segment k) a g = (omega arith, λ _. g.0)
+    last other a g = (omega arith, λ e. absurd (omega (arith, e)))
 
 pub segments-away : (j : Json) (h : ℕ) (payload : Data) (total : ℕ) (es : List Entry) → payload ≡ Elsewhere
     → ListsBelow es (Luks2Area j h payload total) (Slot 32) → Lists es (Luks2Area j h payload total)
 segments-away j h payload total es away listed = lists-all es (Luks2Area j h payload total) (Slot 32) listed last
   where
     last : (n : AreaName) (a : Area) → Luks2Area j h payload total n a → IsBefore n (Slot 32)
-    last Head1 a g = (omega arith, λ e. absurd (omega (arith, e)))
-    last Head2 a g = (omega arith, λ e. absurd (omega (arith, e)))
     last (Slot k) a g = (omega arith, λ _. g.0)
     last (Segment k) a g = let here : payload ≡ Here = g.1 in absurd (cc)
+    last other a g = (omega arith, λ e. absurd (omega (arith, e)))
 
 -- both headers, listed first
 pub heads-listed : (j : Json) (h : ℕ) (payload : Data) (total : ℕ) (first second : Area)
@@ -167,8 +164,7 @@ heads-listed j h payload total first second start1 len1 start2 len2 =
     one : (n : AreaName) (a : Area) → Luks2Area j h payload total n a → IsBefore n Head2 → IsBefore n Head1 ⊎ ((Head1 ≡ n) × (first ≡ a))
     one Head1 a g before = inr (refl, same_area first a (start1 ∙ sym g.0) (len1 ∙ sym g.1))
     one Head2 a g before = let lt : 0 < 0 = before.1 refl in absurd (omega (arith, lt))
-    one (Slot k) a g before = let low = before.0 in absurd (omega (arith, low))
-    one (Segment k) a g before = let low = before.0 in absurd (omega (arith, low))
+    one other a g before = let low = before.0 in absurd (omega (arith, low))
 
     two : (n : AreaName) (a : Area) → Luks2Area j h payload total n a → IsBefore n (Slot 0) → IsBefore n Head2 ⊎ ((Head2 ≡ n) × (second ≡ a))
     two Head1 a g before = inl (omega arith, λ e. absurd (omega (arith, e)))

@@ -13,7 +13,7 @@ use Rattle.luks_slot.specs.declared.fault.SlotFault.{SlotFault}
 use Rattle.luks_slot.specs.declared.plan.SlotPlan.{SlotPlan}
 use Rattle.luks_slot.specs.Refusal.{slot_refusal_within}
 use Rattle.luks_reading.specs.declared.open_fault.OpenFault.{OpenFault}
-use Rattle.luks_reading.specs.declared.open_fault.OpenFault.TheVariants.{Head, Meta, NoSuchSlot, SlotFree, Outside, Slot, Device, Memory}
+use Rattle.luks_reading.specs.declared.open_fault.OpenFault.TheVariants.{Head, Meta, NoSuchSlot, Outside, Slot}
 use Rattle.luks_reading.specs.Answer.{open_key, head_step, slot_row, FirstRefusal, IsLuks2RefusalWithin}
 use Rattle.luks_reading.specs.ChosenCopies.{IsCleared}
 use Rattle.luks_reading.specs.Luks2Keyslots.{Luks2Opens, Luks2Refused, Luks2TakesMemory}
@@ -45,28 +45,21 @@ is_there json j n plan i only x holds gone =
 
 pub plan_first2 : (memory : ℕ) (b json : List ℕ) (total n : ℕ) (j : Data) (plan : SlotPlan) (f : OpenFault) → IsCleared (uuid_field b) json j → IsOnly json j n
     → HasLuks2Plan json n plan → IsPlanRefusal memory plan total f → IsLeast open_key (IsLuks2RefusalWithin memory b json total n) f
-plan_first2 memory b json total n j plan (Head f) clear only is x = absurd x
-plan_first2 memory b json total n j plan (Meta f) clear only is x = absurd x
-plan_first2 memory b json total n j plan NoSuchSlot clear only is x = absurd x
-plan_first2 memory b json total n j plan SlotFree clear only is x = absurd x
 plan_first2 memory b json total n j plan Outside clear only is x = (record { plan = plan; is = is; past = x }, after)
   where
     after : (g : OpenFault) → IsLuks2RefusalWithin memory b json total n g → NotAfter (open_key Outside) (open_key g)
     after (Head g) y = absurd (clear.uuid_faultless g y)
     after (Meta g) y = absurd (clear.faultless g y)
     after NoSuchSlot y = absurd (is_there json j n plan y.value only is y.holds y.absent)
-    after SlotFree y = absurd y
     after Outside y = together 6 6 [] [] refl tt
     after (Slot g) y = sooner 6 7 [] (slot_row g ∷ []) (omega arith)
-    after Device y = absurd y
-    after Memory y = absurd y
+    after other y = absurd y
 plan_first2 memory b json total n j plan (Slot f) clear only is x = (record { plan = plan; is = is; refused = x.1 }, after)
   where
     after : (g : OpenFault) → IsLuks2RefusalWithin memory b json total n g → NotAfter (open_key (Slot f)) (open_key g)
     after (Head g) y = absurd (clear.uuid_faultless g y)
     after (Meta g) y = absurd (clear.faultless g y)
     after NoSuchSlot y = absurd (is_there json j n plan y.value only is y.holds y.absent)
-    after SlotFree y = absurd y
     after Outside y =
         let same = one_luks2_plan json j n plan y.plan only is y.is in
         let start = same.start in
@@ -77,10 +70,8 @@ plan_first2 memory b json total n j plan (Slot f) clear only is x = (record { pl
     after (Slot g) y =
         let e : f ≡ g = same_slot memory json j n plan y.plan f g only is y.is x.1 y.refused in
         together 7 7 (slot_row f ∷ []) (slot_row g ∷ []) refl (together (slot_row f) (slot_row g) [] [] (ap slot_row e) tt)
-    after Device y = absurd y
-    after Memory y = absurd y
-plan_first2 memory b json total n j plan Device clear only is x = absurd x
-plan_first2 memory b json total n j plan Memory clear only is x = absurd x
+    after other y = absurd y
+plan_first2 memory b json total n j plan other clear only is x = absurd x
 
 -- nothing refuses a keyslot whose plan is accepted
 pub plan_unrefused2 : (memory : ℕ) (b json : List ℕ) (total n : ℕ) (j : Data) (plan : SlotPlan) → IsCleared (uuid_field b) json j → IsOnly json j n
@@ -88,7 +79,6 @@ pub plan_unrefused2 : (memory : ℕ) (b json : List ℕ) (total n : ℕ) (j : Da
 plan_unrefused2 memory b json total n j plan clear only is x (Head g) y = clear.uuid_faultless g y
 plan_unrefused2 memory b json total n j plan clear only is x (Meta g) y = clear.faultless g y
 plan_unrefused2 memory b json total n j plan clear only is x NoSuchSlot y = is_there json j n plan y.value only is y.holds y.absent
-plan_unrefused2 memory b json total n j plan clear only is x SlotFree y = y
 plan_unrefused2 memory b json total n j plan clear only is x Outside y =
     let same = one_luks2_plan json j n plan y.plan only is y.is in
     let start = same.start in
@@ -101,8 +91,7 @@ plan_unrefused2 memory b json total n j plan clear only is x (Slot g) y =
     let accepted = x.accepted in
     let refused = y.refused in
     absurd (cc)
-plan_unrefused2 memory b json total n j plan clear only is x Device y = y
-plan_unrefused2 memory b json total n j plan clear only is x Memory y = y
+plan_unrefused2 memory b json total n j plan clear only is x other y = y
 
 pub plan_opens2 : (memory : ℕ) (b json v : List ℕ) (n : ℕ) (j : Data) (plan : SlotPlan) (p : List ℕ) (found : Option (List ℕ)) → IsCleared (uuid_field b) json j → IsOnly json j n
     → HasLuks2Plan json n plan → PlanOpens memory plan v p found → Luks2Opens memory b json v n p found

@@ -81,9 +81,7 @@ select_least v f least = (least.0, after)
   where
     after : (g : ReadFault) → IsReadFaultAs v nothing g → NotAfter (read_key (Head f)) (read_key g)
     after (Head g) is = (omega arith, λ _. least.1 g is)
-    after (Meta g) is = absurd is
-    after Device is = absurd is
-    after Memory is = absurd is
+    after other is = absurd is
 
 pub select_unread : (v : List ℕ) (f : HeadFault) → IsOfSelection f → IsRefused v f → IsUnread v (head_unread f)
 select_unread v head.TooShort kind x = unread_as v nothing (Head head.TooShort) (nothing_counts v head.TooShort x.0) (select_least v head.TooShort x)
@@ -103,15 +101,13 @@ copy_unread v o copies (Head f) chosen x = unread_as v (luks2 o copies) (Head f)
     after : (g : ReadFault) → IsReadFaultAs v (luks2 o copies) g → NotAfter (read_key (Head f)) (read_key g)
     after (Head g) is = (omega arith, λ _. x.1 g is)
     after (Meta g) is = (omega arith, λ e. absurd (omega (arith, e)))
-    after Device is = absurd is
-    after Memory is = absurd is
+    after other is = absurd is
 copy_unread v o copies (Meta f) chosen x = unread_as v (luks2 o copies) (Meta f) chosen (x.least.0, after)
   where
     after : (g : ReadFault) → IsReadFaultAs v (luks2 o copies) g → NotAfter (read_key (Meta f)) (read_key g)
     after (Head g) is = absurd (x.uuid_faultless g is)
     after (Meta g) is = (omega arith, λ _. x.least.1 g is)
-    after Device is = absurd is
-    after Memory is = absurd is
+    after other is = absurd is
 copy_unread v o copies Device chosen x = tt
 copy_unread v o copies Memory chosen x = record { place = o; copies = copies; chosen = chosen; uuid = x }
 

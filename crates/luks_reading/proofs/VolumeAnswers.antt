@@ -39,13 +39,7 @@ common_locks h f least = (least.0, after)
     after (Head g) is =
         together (head_step f) (head_step g) (head_key f) (head_key g)
         ((common_refuses h 0 f least.0).1 ∙ sym (common_refuses h 0 g is).1) (least.1 g is)
-    after (Meta g) is = absurd is
-    after NoSuchSlot is = absurd is
-    after SlotFree is = absurd is
-    after Outside is = absurd is
-    after (Slot g) is = absurd is
-    after Device is = absurd is
-    after Memory is = absurd is
+    after other is = absurd is
 
 -- in the words of an opening
 pub common_locked : (h : List ℕ) (f : HeadFault) → IsLeast head_key (IsCommonFault h) f → Luks1VolumeRefused h (unread_opened (head_unread f))

@@ -1,6 +1,6 @@
 use Rattle.std.proofs.Common.{None, Some, ap, ◌∙◌}
 use Rattle.serde_json.specs.View.{view}
-use Rattle.luks_making.proofs.TakenFacts.{none_taken, taken_of, unwritten, written}
+use Rattle.luks_making.proofs.MapFacts.{none_taken, taken_of, unwritten, written}
 use Rattle.luks_making.proofs.changing.take_member.Goals as goal
 
 pub returns-in_err-member-clause-taken : goal.returns-in_err-member-clause-taken

@@ -3,7 +3,7 @@ use Rattle.serde_json.specs.Data.{null}
 use Rattle.serde_json.specs.View.{view}
 use Rattle.serde_json.specs.Find.{get}
 use Rattle.luks_making.specs.Changing.{at_member}
-use Rattle.luks_making.proofs.TakenFacts.{null_left, put_back}
+use Rattle.luks_making.proofs.MapFacts.{null_left, put_back}
 use Rattle.luks_making.proofs.changing.with_member.Goals as goal
 
 pub returns : goal.returns
