@@ -65,6 +65,7 @@ each_put P k d h i (member l x ms) e = put_by P (slice_cmp nat_cmp k l) k l d x 
 abbrev pub Named : List ℕ → Data → Type 0
 Named k d = is_name k ≡ true
 
+-- the test of all names says it of each
 each_named : (ms : Members) → all_named ms ≡ true → Each Named ms
 each_named no_members h = tt
 each_named (member k d ms) h = let p = and_parts _ _ h in (p.0, each_named ms p.1)
@@ -92,6 +93,7 @@ KeepsFine n f = (d : Data) → IsFine n d → IsFine n (f d)
 abbrev Fine : ℕ → List ℕ → Data → Type 0
 Fine n k d = IsFine n d
 
+-- of a map it says it of each value
 each_fine : (n : ℕ) (ms : Members) → members_have_float ms ≡ false → members_depth ms ≤ n → Each (Fine n) ms
 each_fine n no_members h less = tt
 each_fine n (member k d ms) h less = let p = neither _ _ h in (record { whole = p.0; nests = omega (arith, less) }, each_fine n ms p.1 (omega (arith, less)))

@@ -96,9 +96,11 @@ pub record IsEdit (len : ℕ) (old new : Data) : Type 0 where
   pub segment_once : (t : List ℕ) → naming_count (codes "segments") t (section_at new Digests) ≡ naming_count (codes "segments") t (section_at old Digests)
 
 module _ (len : ℕ) (old new : Data) (c : IsContent len old) (e : IsEdit len old new) where
+  -- a segment is one of the old
   segment_back : (i : ℕ) (d : Data) → HasObject new Segments i d → HasObject old Segments i d
   segment_back i d h = record { numbered = refl; named = h.named; is = ap (option_and_then (get (number_text i))) (sym e.segments) ∙ h.is }
 
+  -- each object's rows are read
   slot_read : (i : ℕ) (d : Data) → SlotBack len old i d → IsRead keyslot_rows d
   slot_read i d (kept h) = c.objects Keyslots i d h
   slot_read i d (made read large within) = read
@@ -122,6 +124,7 @@ module _ (len : ℕ) (old new : Data) (c : IsContent len old) (e : IsEdit len ol
       = record { number = n.number; object = b.was; held = b.held; row = n.row; listed = n.listed; speaks = n.speaks; is = rw r (ap (option_and_then as_array) (sym (b.others (codes "segments") refl)) ∙ here) } in
       (rw (segments, e.segments) (rw segments at (c.resolves.there k target list was)), c.resolves.once k target list was)
 
+  -- so each array of names
   resolved : (k target : Section) (list : Items) → HasNames new k target list → Resolved target list
   resolved Config target list n = absurd (false≢true n.held.numbered)
   resolved Digests target list n = resolved_by Digests target list n (e.digest n.number n.object n.held) (digest_row n.row target n.listed n.speaks)
@@ -129,6 +132,7 @@ module _ (len : ℕ) (old new : Data) (c : IsContent len old) (e : IsEdit len ol
   resolved Segments target list n = absurd (none_among (rows_of Segments) n.row target refl n.listed n.speaks)
   resolved Tokens target list n = resolved_by Tokens target list n (e.token n.number n.object n.held) (token_row n.row target n.listed n.speaks)
 
+  -- the area of each keyslot is large enough, and lies in the region
   large_by : (i : ℕ) (d : Data) → SlotBack len old i d → (key stripes size : ℕ) → number_in 1 128 (inside_at outer.Top (codes "key_size") d) ≡ Some key
       → number_in 1 4294967295 (inside_at outer.Af (codes "stripes") d) ≡ Some stripes
       → decimal_in (inside_at outer.Area (codes "size") d) ≡ Some size → rounded_to_sectors (key * stripes) ≤ size
@@ -144,6 +148,7 @@ module _ (len : ℕ) (old new : Data) (c : IsContent len old) (e : IsEdit len ol
   region : keyslots_size new ≡ keyslots_size old
   region = rw e.config refl
 
+  -- the new value meets every rule
   pub held_edited : IsHeld len new
   held_edited = record {
     nests = e.fine.nests;
@@ -176,9 +181,11 @@ pub map_same : (o : Option Data) → o ≡ option_map (λ d. d) o
 map_same None = refl
 map_same (Some d) = refl
 
+-- one that is as it was
 abbrev pub object_same : (s : Section) (i : ℕ) (old new : Data) → object_at new s i ≡ object_at old s i → ObjectEdit s i old new
 object_same s i old new same = record { edit = λ d. d; is = same ∙ map_same (object_at old s i); keeps = λ d q off. refl }
 
+-- the objects of a section are, each so edited
 pub objects_kept : (s : Section) (old new : Data) → ((i : ℕ) → ObjectEdit s i old new) → KeepsObjects (codes "keyslots" ∷ []) s old new
 objects_kept s old new e = record {
   there = λ i was there. ((e i).edit was, (e i).is ∙ ap (option_map (e i).edit) there, (e i).keeps was);

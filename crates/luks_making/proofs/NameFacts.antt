@@ -2,7 +2,7 @@
 use Rattle.std.proofs.Common.{◌≡◌, ℕ, ◌+◌, ◌-◌, ◌*◌, Bool, true, false, cond, List, [], ◌∷◌, Option, Some, None, option_map, option_and_then, is_some, bytes_eq, refl, sym, ap, ◌∙◌, inl, inr, arith}
 use Rattle.std.specs.Prelude.{◌||◌, not, ◌++◌}
 use Rattle.std.specs.List.{filter}
-use Rattle.std.proofs.lemmas.Bool.{false≢true, cases_Bool, cases_lt, lt-ltb, le-ltb, and_from, and_parts}
+use Rattle.std.proofs.lemmas.Bool.{cases_Bool, cases_lt, lt-ltb, le-ltb, and_from, and_parts}
 use Rattle.std.proofs.lemmas.Slice.Eq.{bytes_eq-Decides}
 use Rattle.serde_json.specs.Data.{Data, string, array, object, Items, no_items, item, Members, no_members, member}
 use Rattle.serde_json.specs.Find.{get, get_member, as_str}
@@ -145,31 +145,7 @@ pub all_added : (t : List ℕ) (more : Option Data) (ds : Items) → is_some (op
 all_added t more no_items h e = and_from _ _ h refl
 all_added t more (item d ds) h e = let p = and_parts _ _ e in and_from _ _ p.0 (all_added t more ds h p.1)
 
--- ---- an array of texts stays one
-
-lost : (o : Option (List (List ℕ))) (u : Option (List ℕ)) → is_some (option_and_then (λ t. option_map (λ ts. t ∷ ts) o) u) ≡ true → (is_some o ≡ true) × (is_some u ≡ true)
-lost None None h = absurd (false≢true h)
-lost None (Some u) h = absurd (false≢true h)
-lost (Some ts) None h = absurd (false≢true h)
-lost (Some ts) (Some u) h = (refl, refl)
-
-gained : (o : Option (List (List ℕ))) (u : Option (List ℕ)) → is_some o ≡ true → is_some u ≡ true → is_some (option_and_then (λ t. option_map (λ ts. t ∷ ts) o) u) ≡ true
-gained None u e f = absurd (false≢true e)
-gained (Some ts) None e f = absurd (false≢true f)
-gained (Some ts) (Some u) e f = refl
-
-texts_dropped : (t : List ℕ) (ds : Items) → is_some (item_texts ds) ≡ true → is_some (item_texts (drop_text t ds)) ≡ true
-texts_dropped t no_items h = refl
-texts_dropped t (item d ds) h =
-    let p = lost (item_texts ds) (as_str d) h in
-    elim (cases_Bool (is_text t d)) [
-      | inl same ↦ rw same (texts_dropped t ds p.0)
-      | inr other ↦ rw other (gained (item_texts (drop_text t ds)) (as_str d) (texts_dropped t ds p.0) p.1)
-    ]
-
-texts_added : (t : List ℕ) (ds : Items) → is_some (item_texts ds) ≡ true → is_some (item_texts (add_text t ds)) ≡ true
-texts_added t no_items h = refl
-texts_added t (item d ds) h = let p = lost (item_texts ds) (as_str d) h in gained (item_texts (add_text t ds)) (as_str d) (texts_added t ds p.0) p.1
+-- ---- the texts of an array
 
 -- its texts without one, in their order
 abbrev pub OtherTexts : List ℕ → List (List ℕ) → List (List ℕ)
@@ -215,17 +191,18 @@ pub added_text : (t : List ℕ) (v : Option Data) → texts_of (option_map (in_a
 added_text t (Some (array ds)) = last_text t ds
 added_text t d = refl
 
--- a row of names is read where an edit of the array leaves its texts
-names_by : (f : Items → Items) → ((ds : Items) → is_some (item_texts ds) ≡ true → is_some (item_texts (f ds)) ≡ true) → KeepsNames f
-names_by f keeps (Some (array ds)) h = map_is_some names_field (item_texts (f ds)) ∙ keeps ds (sym (map_is_some names_field (item_texts ds)) ∙ h)
-names_by f keeps d h = h
+-- a row of names is read where an edit of the array is one of its texts
+names_by : (f : Items → Items) (g : List (List ℕ) → List (List ℕ)) → ((ds : Items) → item_texts (f ds) ≡ option_map g (item_texts ds)) → KeepsNames f
+names_by f g texts (Some (array ds)) h =
+    map_is_some names_field (item_texts (f ds)) ∙ (ap is_some (texts ds) ∙ (map_is_some g (item_texts ds) ∙ (sym (map_is_some names_field (item_texts ds)) ∙ h)))
+names_by f g texts v h = h
 
 -- so with one text less, and with one more
 pub names_dropped : (t : List ℕ) → KeepsNames (drop_text t)
-names_dropped t = names_by (drop_text t) (texts_dropped t)
+names_dropped t = names_by (drop_text t) (OtherTexts t) (other_texts t)
 
 pub names_added : (t : List ℕ) → KeepsNames (add_text t)
-names_added t = names_by (add_text t) (texts_added t)
+names_added t = names_by (add_text t) (λ ts. ts ++ t ∷ []) (last_text t)
 
 -- ---- which texts a value names
 
