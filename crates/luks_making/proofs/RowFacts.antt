@@ -81,32 +81,39 @@ pub data NamesRow (r : Row) (target : Section) : Type 0 where
 target_of : (s target : Section) → rule.Names s ≡ rule.Names target → target ≡ s
 target_of s target e = cc
 
--- what follows of each row of a list follows of one among them
-among_all : {G : Type 0} (r : Row) (rows : List Row) → AllByRecursion (λ q. r ≡ q → G) rows → Among r rows → G
-among_all r [] hs m = elim m [ ]
-among_all r (q ∷ rows) hs m = elim m [ inl e ↦ hs.0 e | inr k ↦ among_all r rows hs.1 k ]
-
-among_by : {G : Type 0} (r : Row) (rows : List Row) → Given (λ q. r ≡ q → G) (Among r rows → G) rows
-among_by {G} r rows = given (λ q. r ≡ q → G) (Among r rows → G) rows (among_all r rows)
-
 -- the arrays of a digest, and the one of a token
-module _ (r : Row) (target : Section) (speaks : r.rule ≡ rule.Names target) where
-  no_row : (q : Row) → r ≡ q → is_names q.rule ≡ false → NamesRow r target
-  no_row q e off = absurd (no_names r q target e off speaks)
-
-  slots_by : r ≡ slots_row → NamesRow r target
-  slots_by e = of_slots e (target_of Keyslots target (sym (ap (λ x. x.rule) e) ∙ speaks))
-
-  segments_by : r ≡ row name.Segments (rule.Names Segments) → NamesRow r target
-  segments_by e = of_segments e (target_of Segments target (sym (ap (λ x. x.rule) e) ∙ speaks))
-
 pub digest_row : (r : Row) (target : Section) → Among r digest_rows → r.rule ≡ rule.Names target → NamesRow r target
-digest_row r target m speaks =
-    let no = no_row r target speaks in
-    among_by r digest_rows (λ e. no _ e refl) (λ e. no _ e refl) (λ e. no _ e refl) (slots_by r target speaks) (λ e. no _ e refl) (segments_by r target speaks) (λ e. no _ e refl) m
+digest_row r target m speaks = elim m [
+  | inl e ↦ absurd (no_names r _ target e refl speaks)
+  | inr m1 ↦ elim m1 [
+    | inl e ↦ absurd (no_names r _ target e refl speaks)
+    | inr m2 ↦ elim m2 [
+      | inl e ↦ absurd (no_names r _ target e refl speaks)
+      | inr m3 ↦ elim m3 [
+        | inl e ↦ of_slots e (target_of Keyslots target (sym (ap (λ x. x.rule) e) ∙ speaks))
+        | inr m4 ↦ elim m4 [
+          | inl e ↦ absurd (no_names r _ target e refl speaks)
+          | inr m5 ↦ elim m5 [
+            | inl e ↦ of_segments e (target_of Segments target (sym (ap (λ x. x.rule) e) ∙ speaks))
+            | inr m6 ↦ elim m6 [
+              | inl e ↦ absurd (no_names r _ target e refl speaks)
+              | inr m7 ↦ elim m7 [ ]
+            ]
+          ]
+        ]
+      ]
+    ]
+  ]
+]
 
 pub token_row : (r : Row) (target : Section) → Among r token_rows → r.rule ≡ rule.Names target → NamesRow r target
-token_row r target m speaks = among_by r token_rows (slots_by r target speaks) (λ e. no_row r target speaks _ e refl) m
+token_row r target m speaks = elim m [
+  | inl e ↦ of_slots e (target_of Keyslots target (sym (ap (λ x. x.rule) e) ∙ speaks))
+  | inr m1 ↦ elim m1 [
+    | inl e ↦ absurd (no_names r _ target e refl speaks)
+    | inr m2 ↦ elim m2 [ ]
+  ]
+]
 
 -- a row of names that is read is an array
 the_array : (s : Section) (v : Option Data) → is_some (reads (rule.Names s) v) ≡ true → (items : Items) × (option_and_then as_array v ≡ Some items)
