@@ -69,13 +69,9 @@ none_among (q ∷ rows) r target off m speaks =
     let p = neither _ _ off in
     elim m [ inl e ↦ no_names r q target e p.0 speaks | inr k ↦ none_among rows r target p.1 k speaks ]
 
--- the row of the array of an object's keyslots
-abbrev pub slots_row : Row
-slots_row = row name.Keyslots (rule.Names Keyslots)
-
 -- which array of names a row is
 pub data NamesRow (r : Row) (target : Section) : Type 0 where
-  of_slots : r ≡ slots_row → target ≡ Keyslots → NamesRow r target
+  of_slots : r ≡ row name.Keyslots (rule.Names Keyslots) → target ≡ Keyslots → NamesRow r target
   of_segments : r ≡ row name.Segments (rule.Names Segments) → target ≡ Segments → NamesRow r target
 
 target_of : (s target : Section) → rule.Names s ≡ rule.Names target → target ≡ s
@@ -123,7 +119,11 @@ the_array s d h = absurd (false≢true h)
 -- the array of a digest's keyslots, in a value that meets the rules
 pub digest_array : (len : ℕ) (j : Data) → IsContent len j → (m : ℕ) (d : Data) → HasObject j Digests m d → (items : Items) × (option_and_then as_array (get (codes "keyslots") d) ≡ Some items)
 digest_array len j c m d h =
-    the_array Keyslots (get (codes "keyslots") d) (at_top digest_rows d 3 slots_row (c.objects Digests m d h) refl refl refl)
+    the_array Keyslots (get (codes "keyslots") d) (at_top digest_rows d 3 (row name.Keyslots (rule.Names Keyslots)) (c.objects Digests m d h) refl refl refl)
+
+-- the row of the array of an object's keyslots
+abbrev pub slots_row : Row
+slots_row = row name.Keyslots (rule.Names Keyslots)
 
 -- that array is one of names of keyslots
 pub slots_named : (j : Data) (k : Section) (i : ℕ) (d : Data) (list : Items) → Among slots_row (rows_of k) → HasObject j k i d → option_and_then as_array (get (codes "keyslots") d) ≡ Some list → HasNames j k Keyslots list
