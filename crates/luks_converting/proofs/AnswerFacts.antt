@@ -107,7 +107,6 @@ module _
             let value : z.value ≡ j = one_value (json_at w 0) z.value j z.holds new.meta.json in
             let gone : object_at j Keyslots n ≡ None = subst (λ (k : Data). object_at k Keyslots n ≡ None) value (z.absent (let low = low_of (part v 0 592) n on in omega (arith, low))) in
             no_some (slot_value (new_slot (part v 0 592) n)) (sym gone ∙ is_there)
-        unrefused SlotFree z = z
         unrefused Outside z =
             let is = its_plan z.plan z.is in
             let start = plan_start (part v 0 592) j x n on z.plan is in
@@ -120,8 +119,7 @@ module _
             let is = its_plan z.plan z.is in
             let copied = copied_plan (part v 0 592) j x n on o.plan z.plan old_plan.is is in
             no_some f (sym (accepted_within memory z.plan (still_unrefused o.plan z.plan copied old_accepted)) ∙ z.refused)
-        unrefused Device z = z
-        unrefused Memory z = z
+        unrefused other z = z
 
         plan : SlotPlan
         plan = new_plan (part v 0 592) j x n on

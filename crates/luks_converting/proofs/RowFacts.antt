@@ -34,26 +34,18 @@ check_first v payload total random f first = (first.0, after)
   where
     after : (g : ConvertFault) → IsConvertFault v payload total random g → NotAfter (convert_key (NotAccepted f)) (convert_key g)
     after (NotAccepted g) bad = (omega arith, λ same. first.1 g bad)
-    after NotLuks1 bad = (omega arith, λ same. absurd (omega (arith, same)))
-    after TooSmall bad = (omega arith, λ same. absurd (omega (arith, same)))
-    after NoRoom bad = (omega arith, λ same. absurd (omega (arith, same)))
-    after MetadataFull bad = (omega arith, λ same. absurd (omega (arith, same)))
-    after RandomLength bad = (omega arith, λ same. absurd (omega (arith, same)))
     after Memory bad = absurd bad
     after Device bad = absurd bad
+    after other bad = (omega arith, λ same. absurd (omega (arith, same)))
 
 other_first : (v : List ℕ) (payload : Data) (total : ℕ) (random : List ℕ) → IsOther v payload → IsLeast convert_key (IsConvertFault v payload total random) NotLuks1
 other_first v payload total random other = (other.luks2, after)
   where
     after : (g : ConvertFault) → IsConvertFault v payload total random g → NotAfter (convert_key NotLuks1) (convert_key g)
     after (NotAccepted g) bad = absurd (other.faultless g bad)
-    after NotLuks1 bad = (omega arith, λ same. tt)
-    after TooSmall bad = (omega arith, λ same. tt)
-    after NoRoom bad = (omega arith, λ same. tt)
-    after MetadataFull bad = (omega arith, λ same. tt)
-    after RandomLength bad = (omega arith, λ same. tt)
     after Memory bad = absurd bad
     after Device bad = absurd bad
+    after other bad = (omega arith, λ same. tt)
 
 -- why the source isn't accepted is what is answered
 pub unaccepted_first : (v : List ℕ) (payload : Data) (total : ℕ) (random : List ℕ) (f : ConvertFault) → IsUnaccepted v payload f → IsAnsweredFault v payload total random f
@@ -81,12 +73,9 @@ module _
         after : (g : ConvertFault) → IsConvertFault v payload total random g → NotAfter (convert_key TooSmall) (convert_key g)
         after (NotAccepted g) bad = absurd (is.faultless g bad)
         after NotLuks1 bad = absurd (not_luks2 bad)
-        after TooSmall bad = (omega arith, λ same. tt)
-        after NoRoom bad = (omega arith, λ same. tt)
-        after MetadataFull bad = (omega arith, λ same. tt)
-        after RandomLength bad = (omega arith, λ same. tt)
         after Memory bad = absurd bad
         after Device bad = absurd bad
+        after other bad = (omega arith, λ same. tt)
 
     pub no_room : 16777216 ≤ total → LacksRoom h → IsLeast convert_key (IsConvertFault v payload total random) NoRoom
     no_room large lacks = (record { chosen = is.chosen; holds = subst LacksRoom is.begins lacks }, after)
@@ -95,11 +84,9 @@ module _
         after (NotAccepted g) bad = absurd (is.faultless g bad)
         after NotLuks1 bad = absurd (not_luks2 bad)
         after TooSmall bad = absurd (omega (arith, bad, large))
-        after NoRoom bad = (omega arith, λ same. tt)
-        after MetadataFull bad = (omega arith, λ same. tt)
-        after RandomLength bad = (omega arith, λ same. tt)
         after Memory bad = absurd bad
         after Device bad = absurd bad
+        after other bad = (omega arith, λ same. tt)
 
     pub random_length : 16777216 ≤ total → IsSource h → length random ≢ 128 → IsLeast convert_key (IsConvertFault v payload total random) RandomLength
     random_length large source other = (other, after)
@@ -111,8 +98,7 @@ module _
         after NoRoom bad = (let lacks : LacksRoom h = subst LacksRoom (sym is.begins) bad.holds in let room = source.room in absurd (omega (arith, lacks, room)))
         after MetadataFull bad = absurd (never_full h source (subst IsFull (sym is.begins) bad.holds))
         after RandomLength bad = (omega arith, λ same. tt)
-        after Memory bad = absurd bad
-        after Device bad = absurd bad
+        after other bad = absurd bad
 
     pub convertible : 16777216 ≤ total → IsSource h → length random ≡ 128 → IsConvertible v payload total random
     convertible large source counted = record { none = none }
@@ -124,8 +110,7 @@ module _
         none NoRoom bad = (let lacks : LacksRoom h = subst LacksRoom (sym is.begins) bad.holds in let room = source.room in absurd (omega (arith, lacks, room)))
         none MetadataFull bad = never_full h source (subst IsFull (sym is.begins) bad.holds)
         none RandomLength bad = bad counted
-        none Memory bad = bad
-        none Device bad = bad
+        none other bad = bad
 
 -- ---- what is answered of an accepted source
 

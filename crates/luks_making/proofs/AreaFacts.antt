@@ -1,9 +1,9 @@
 -- A JSON area that was written holds its value.
-use Rattle.std.proofs.Common.{◌≡◌, ℕ, ◌-◌, ◌<◌, List, ◌∷◌, ◌++◌, length, true, Option, Some, None, Result, Ok, Err, IfOk, IfSome, Vec, Global, refl, ap, ◌∙◌, arith, length-append}
+use Rattle.std.proofs.Common.{◌≡◌, ℕ, ◌-◌, ◌<◌, List, ◌∷◌, ◌++◌, length, true, Option, Some, Result, Ok, IfOk, IfSome, Vec, Global, refl, ap, ◌∙◌, arith, length-append}
 use Rattle.std.specs.Prelude.{◌≢◌, All, IsUtf8, replicate}
 use Rattle.std.proofs.lemmas.Bool.{false≢true}
 use Rattle.std.proofs.lemmas.List.{length-replicate}
-use Rattle.serde_json.specs.Data.{Data, null, boolean, number, string, array, object, Members}
+use Rattle.serde_json.specs.Data.{Data, object, Members}
 use Rattle.serde_json.specs.Read.{read}
 use Rattle.serde_json.specs.Written.{compact_text}
 use Rattle.luks_rules.specs.declared.table.Section.TheVariants.{Config}
@@ -13,12 +13,8 @@ use Rattle.luks_making.specs.WrittenArea.{IsWrittenArea}
 
 -- metadata is an object
 is_object : (j : Data) → is_section Config (section_at j Config) ≡ true → (ms : Members) × (j ≡ object ms)
-is_object null h = absurd (false≢true h)
-is_object (boolean b) h = absurd (false≢true h)
-is_object (number n) h = absurd (false≢true h)
-is_object (string s) h = absurd (false≢true h)
-is_object (array ds) h = absurd (false≢true h)
 is_object (object ms) h = (ms, refl)
+is_object d h = absurd (false≢true h)
 
 -- an object's text begins with a brace
 begun : (j : Data) (ms : Members) → j ≡ object ms → (rest : List ℕ) × (compact_text j ≡ 123 ∷ rest)
@@ -57,5 +53,4 @@ pub area_ok : {E : Type 0} (r : Result (Option (Vec ℕ Global)) E) (text : List
     → ((area : List ℕ) → area ≡ text ++ replicate (len - length text) 0 → length text < len → IsWrittenArea len j area)
     → IfOk r (λ o. IfSome o (λ a. IsWrittenArea len j a.items))
 area_ok (Ok (Some a)) text len j filled room made = made a.items filled room
-area_ok (Ok None) text len j filled room made = tt
-area_ok (Err e) text len j filled room made = tt
+area_ok d text len j filled room made = tt

@@ -1,10 +1,10 @@
 -- The metadata of a converted volume meets every rule, and what it says.
-use Rattle.std.proofs.Common.{◌≡◌, ℕ, zero, suc, ◌*◌, ◌^◌, ◌<◌, ◌≤◌, ◌⊎◌, List, [], ◌∷◌, ◌++◌, map, false, Option, None, Some, is_some, option_map, codes, refl, sym, ap, ◌∙◌, arith, inl, inr, lit<}
+use Rattle.std.proofs.Common.{◌+◌, ◌≡◌, ℕ, zero, suc, ◌*◌, ◌^◌, ◌<◌, ◌≤◌, ◌⊎◌, List, [], ◌∷◌, ◌++◌, map, false, Option, None, Some, is_some, option_map, refl, sym, ap, ◌∙◌, arith, inl, inr, lit<, lit≤}
 use Rattle.std.specs.List.{filter}
 use Rattle.std.proofs.lemmas.Bool.{cases_eq}
 use Rattle.std.proofs.lemmas.List.{append-nil}
 use Rattle.std.proofs.lemmas.List.Elements.{filter-append}
-use Rattle.serde_json.specs.Data.{Data, array, object, Items, no_items, Members, no_members, member, put}
+use Rattle.serde_json.specs.Data.{Data, array, Items, no_items, Members, no_members, put}
 use Rattle.luks_json.specs.Arrays.{has_text}
 use Rattle.luks_json.specs.Number.{number_text}
 use Rattle.luks_json.specs.Values.{item_texts}
@@ -16,44 +16,24 @@ use Rattle.luks_making.specs.Changing.{add_text}
 use Rattle.luks_making.specs.Conditions.{CanFormat, FitsSlot, FitsVolume, IsRoom}
 use Rattle.luks_making.specs.Conversions.{CanConvert, FitsSource, SaysSource, slot_numbers}
 use Rattle.luks_making.specs.Converted.{SourceMembers, SourceSlotMembers, area_size, area_start, converted, converted_below, converted_slot, region_size, volume_like, with_enabled, with_region}
-use Rattle.luks_making.specs.Formatted.{VolumeMembers, formatted, segment_value, sole, sole_name}
-use Rattle.luks_making.specs.Keyslots.{SlotMembers, base64_text, number_member, slot_value, text_member}
+use Rattle.luks_making.specs.Formatted.{VolumeMembers, formatted, segment_value}
+use Rattle.luks_making.specs.Keyslots.{SlotMembers, slot_value}
 use Rattle.luks_making.specs.Naming.{IsDigestOf}
 use Rattle.luks_making.specs.NewVolumes.{SaysDigest, SaysVolume}
+use Rattle.luks_making.specs.TextLengths.{items_bound, members_bound}
 use Rattle.luks_making.specs.Unchanged.{GainsSlot}
 use Rattle.luks_making.specs.With.{with_slot}
 use Rattle.luks_making.specs.Without.{without_slot}
 use Rattle.luks_making.proofs.AdditionFacts.{held_with, slot_gained}
+use Rattle.luks_making.proofs.LengthFacts.{name_short, names_more, slot_most, slots_more}
 use Rattle.luks_making.proofs.MemberFacts.{no_some, some_same}
 use Rattle.luks_making.proofs.NameFacts.{added_text, others_added, texts_differ}
 use Rattle.luks_making.proofs.NewAreaFacts.{end_by_last, end_within, holds_sectors, region_holds, region_short, start_from}
-use Rattle.luks_making.proofs.NewVolumeFacts.{held_made, none_else, says_volume}
-use Rattle.luks_making.proofs.ReadingFacts.{below_32}
-use Rattle.luks_making.proofs.RegionFacts.{config_with, held_with_region, region_told}
-use Rattle.luks_making.proofs.RemovalFacts.{held_left}
+use Rattle.luks_making.proofs.NewVolumeFacts.{digest_with, held_bare, none_else, says_volume, shape}
+use Rattle.luks_making.proofs.ReadingFacts.{below_32, decimal_is}
 use Rattle.luks_making.proofs.RoomFacts.{says_members}
 
 -- ---- the value's form
-
--- the digest of a new volume with the names of keyslots
-abbrev pub digest_with : VolumeMembers → Items → Data
-digest_with u names = object (
-    text_member (codes "digest") (base64_text u.digest) (
-    text_member (codes "hash") u.hash (
-    number_member (codes "iterations") u.iterations (
-    member (codes "keyslots") (array names) (
-    text_member (codes "salt") (base64_text u.digest_salt) (
-    member (codes "segments") sole_name (
-    text_member (codes "type") (codes "pbkdf2") no_members)))))))
-
--- a new volume with a region of so many bytes, these names and keyslots
-abbrev pub shape : VolumeMembers → ℕ → Items → Members → Data
-shape u size names slots = object (
-    member (codes "config") (config_with size) (
-    member (codes "digests") (sole (digest_with u names)) (
-    member (codes "keyslots") (object slots) (
-    member (codes "segments") (sole (segment_value u)) (
-    member (codes "tokens") (object no_members) no_members)))))
 
 -- without a keyslot
 pub base_shape : (u : VolumeMembers) (size : ℕ) → with_region size (without_slot 0 (formatted u)) ≡ shape u size no_items no_members
@@ -157,6 +137,8 @@ module _ (v : SourceMembers) (fits : FitsSource v) (can : CanConvert v) where
     pub names : Items
     pub slots : Members
     pub is : j ≡ shape u (region_size v) names slots
+    pub names_most : items_bound names ≤ 1 + 4 * n
+    pub slots_most : members_bound slots ≤ 1 + 1296 * n
     pub lists : item_texts names ≡ Some (map number_text (enabled v n))
     pub unnamed : (m : ℕ) → n ≤ m → has_text (number_text m) names ≡ false
     pub held : IsHeld 12288 j
@@ -167,17 +149,16 @@ module _ (v : SourceMembers) (fits : FitsSource v) (can : CanConvert v) where
   region_64 : region_size v < 2 ^ 64
   region_64 = let most = region_short v in omega (arith, most)
 
-  bare_held : IsHeld 12288 (without_slot 0 (formatted u))
-  bare_held = held_left 12288 0 (formatted u) (held_made u fits_volume can_format)
-
   none_yet : Holds zero (with_region (region_size v) (without_slot 0 (formatted u)))
   none_yet = record {
     names = no_items;
     slots = no_members;
     is = base_shape u (region_size v);
+    names_most = lit≤ tt;
+    slots_most = lit≤ tt;
     lists = refl;
     unnamed = λ m low. refl;
-    held = held_with_region u (region_size v) region_64 bare_held;
+    held = held_bare u fits_volume can_format (region_size v) region_64;
     absent = λ m o. refl;
     there = λ m s low on. absurd (omega (arith, low));
     named = λ m s low on. absurd (omega (arith, low));
@@ -189,6 +170,8 @@ module _ (v : SourceMembers) (fits : FitsSource v) (can : CanConvert v) where
     names = x.names;
     slots = x.slots;
     is = x.is;
+    names_most = (let most = x.names_most in omega (arith, most));
+    slots_most = (let most = x.slots_most in omega (arith, most));
     lists = x.lists ∙ ap (λ ks. Some (map number_text ks)) (sym (enabled_same v n off));
     unnamed = λ m low. x.unnamed m (omega (arith, low));
     held = x.held;
@@ -206,9 +189,6 @@ module _ (v : SourceMembers) (fits : FitsSource v) (can : CanConvert v) where
     ];
   }
 
-  region : (names : Items) (slots : Members) → keyslots_size (shape u (region_size v) names slots) ≡ Some (region_size v)
-  region names slots = region_told u (region_size v) region_64 bare_held
-
   room : (n : ℕ) (s : SourceSlotMembers) (j : Data) → n < 8 → v.slot n ≡ Some s → (x : Holds n j) → IsRoom 12288 n 0 (converted_slot v n s) j (digest_with u x.names)
   room n s j low on x = record {
     number = record { small = omega (arith, low); free = x.absent n (inl (omega arith)) };
@@ -217,7 +197,7 @@ module _ (v : SourceMembers) (fits : FitsSource v) (can : CanConvert v) where
     fits = slot_fits n s low on;
     large = holds_sectors (v.key_bytes * s.stripes);
     within = λ bytes is.
-        let same : region_size v ≡ bytes = some_same (region_size v) bytes (sym (region x.names x.slots) ∙ ap keyslots_size (sym x.is) ∙ is) in
+        let same : region_size v ≡ bytes = some_same (region_size v) bytes (sym (decimal_is (region_size v) region_64) ∙ ap keyslots_size (sym x.is) ∙ is) in
         let end = end_by_last v n s low on in
         let last = region_holds v can.room in
         let from = start_from v n in
@@ -229,11 +209,19 @@ module _ (v : SourceMembers) (fits : FitsSource v) (can : CanConvert v) where
   added n s j low on x =
       let made : SlotMembers = converted_slot v n s in
       let has_room = room n s j low on x in
+      let name = name_short n low in
+      let one = slot_most v fits can n s low on in
+      let names = x.names_most in
+      let slots = x.slots_most in
+      let more = names_more (number_text n) x.names in
+      let put_more = slots_more (number_text n) (slot_value (converted_slot v n s)) x.slots in
       let gains : GainsSlot n 0 (converted_slot v n s) j (with_slot n 0 (converted_slot v n s) j) = slot_gained 12288 n 0 (converted_slot v n s) j (digest_with u x.names) x.held.content has_room in
       record {
         names = add_text (number_text n) x.names;
         slots = put (number_text n) (slot_value (converted_slot v n s)) x.slots;
         is = ap (with_slot n 0 (converted_slot v n s)) x.is ∙ one_more u (region_size v) x.names x.slots n (converted_slot v n s);
+        names_most = omega (arith, name, names, more);
+        slots_most = omega (arith, name, one, slots, put_more);
         lists = added_text (number_text n) (Some (array x.names)) ∙ ap (option_map (λ ts. ts ++ number_text n ∷ [])) x.lists
             ∙ ap Some (sym (ap (map number_text) (enabled_more v n s on) ∙ last_named n (enabled v n)));
         unnamed = λ m high. others_added (number_text n) (number_text m) (Some (array x.names)) (texts_differ n m (λ e. absurd (omega (arith, e, high)))) ∙ x.unnamed m (omega (arith, high));
@@ -265,7 +253,7 @@ module _ (v : SourceMembers) (fits : FitsSource v) (can : CanConvert v) where
 
   -- ---- the whole value
 
-  all : Holds 8 (converted v)
+  pub all : Holds 8 (converted v)
   all = holds 8 (omega arith)
 
   pub held_converted : IsHeld 12288 (converted v)
@@ -298,5 +286,5 @@ module _ (v : SourceMembers) (fits : FitsSource v) (can : CanConvert v) where
     segment_says = like_new.segment_says;
     no_segment = λ n other. rw all.is (none_else (segment_value u) n other);
     no_token = λ n. rw all.is refl;
-    region = rw all.is (region all.names all.slots);
+    region = rw all.is (decimal_is (region_size v) region_64);
   }

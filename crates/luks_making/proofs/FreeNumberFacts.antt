@@ -3,7 +3,7 @@ use Rattle.std.proofs.Common.{◌≡◌, ℕ, true, false, Option, Some, None, o
 use Rattle.std.specs.Option.{option_map_or}
 use Rattle.std.proofs.lemmas.Bool.{false≢true, cases_Bool, and_parts}
 use Rattle.std.proofs.lemmas.Slice.Eq.{bytes_eq-Decides}
-use Rattle.serde_json.specs.Data.{Data, null, boolean, number, string, array, object, Items, no_items, item, Members, no_members, member}
+use Rattle.serde_json.specs.Data.{Data, number, string, object, Items, no_items, item, Members, no_members, member}
 use Rattle.serde_json.specs.Find.{get, get_member, as_object}
 use Rattle.luks_json.specs.Arrays.{all_named, all_there, has_text, is_text, is_there, names, naming_count, naming_members}
 use Rattle.luks_json.specs.Number.{is_name, number_of, number_text}
@@ -17,7 +17,7 @@ use Rattle.luks_rules.specs.Table.{member as row}
 use Rattle.luks_making.specs.Naming.{HasUniqueDigests, IsUnique}
 use Rattle.luks_making.proofs.MemberFacts.{same_name, seek}
 use Rattle.luks_making.proofs.RowFacts.{digest_array}
-use Rattle.luks_making.proofs.WholeFacts.{or_off}
+use Rattle.luks_making.proofs.EachFacts.{or_off}
 
 -- ---- members of unique names
 
@@ -47,15 +47,11 @@ all_found (member k e ms) u h = let p = and_parts _ _ h in (here_by k e ms, p.0,
 
 -- a name that no member has stands in no array of names of members
 absent_is : (map : Option Data) (t : List ℕ) (d : Data) → option_and_then (get t) map ≡ None → is_there map d ≡ true → is_text t d ≡ false
-absent_is map t null off h = refl
-absent_is map t (boolean b) off h = refl
-absent_is map t (number n) off h = refl
 absent_is map t (string s) off h = elim (cases_Bool (bytes_eq s t)) [
   | inl same ↦ absurd (let is : s ≡ t = (bytes_eq-Decides s t).0 same in let there : is_some (option_and_then (get t) map) ≡ true = rw is at h in false≢true (rw off at there))
   | inr other ↦ other
 ]
-absent_is map t (array es) off h = refl
-absent_is map t (object ms) off h = refl
+absent_is map t d off h = refl
 
 absent_text : (map : Option Data) (t : List ℕ) (ds : Items) → option_and_then (get t) map ≡ None → all_there map ds ≡ true → has_text t ds ≡ false
 absent_text map t no_items off h = refl
@@ -69,13 +65,8 @@ some_number (Some i) h = (i, refl)
 
 -- a member of an object is found in it
 found_at : (v : Option Data) (full : Members) (k : List ℕ) (d : Data) → option_and_then as_object v ≡ Some full → get_member k full ≡ Some d → option_and_then (get k) v ≡ Some d
-found_at None full k d e h = absurd (cc)
-found_at (Some null) full k d e h = absurd (cc)
-found_at (Some (boolean b)) full k d e h = absurd (cc)
-found_at (Some (number n)) full k d e h = absurd (cc)
-found_at (Some (string s)) full k d e h = absurd (cc)
-found_at (Some (array ds)) full k d e h = absurd (cc)
 found_at (Some (object ms)) full k d e h = let same : ms ≡ full = cc in rw same h
+found_at v full k d e h = absurd (cc)
 
 the_map : (v : Option Members) → option_map_or all_named v false ≡ true → (ms : Members) × (v ≡ Some ms) × (all_named ms ≡ true)
 the_map None h = absurd (false≢true h)

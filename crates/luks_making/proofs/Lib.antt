@@ -1,9 +1,8 @@
+mod EachFacts
 mod MemberFacts
 pub mod NameFacts
-mod WholeFacts
-mod NestingFacts
 mod RowFacts
-mod RestFacts
+mod EditFacts
 pub mod RemovalFacts
 pub mod ReadingFacts
 pub mod AdditionFacts
@@ -11,13 +10,10 @@ mod FreeNumberFacts
 pub mod RoomFacts
 pub mod ChangeFacts
 pub mod NewVolumeFacts
-mod PutFacts
-mod TakenFacts
-mod ItemFacts
-mod CopyFacts
+mod MapFacts
 mod StepFacts
 mod AreaFacts
 mod NewAreaFacts
-mod RegionFacts
+mod LengthFacts
 pub mod ConversionFacts
 pub mod ConvertedTextFacts

@@ -84,58 +84,28 @@ nowhere k into (Some d) h = h d
 
 -- ---- a changed member
 
-changed_by : (b : Bool) (k l : List ℕ) (f : Data → Data) (d : Data) (ms : Members) → bytes_eq k l ≡ b
-    → get_member k (change_member k f ms) ≡ option_map f (get_member k ms)
-    → get_member k (cond b (member l (f d) ms) (member l d (change_member k f ms))) ≡ option_map f (get_member k (member l d ms))
-changed_by true k l f d ms is later = rw (seek k l (f d) ms, seek k l d ms, is) refl
-changed_by false k l f d ms is later = rw (seek k l d (change_member k f ms), seek k l d ms, is) later
-
 member_changed : (k : List ℕ) (f : Data → Data) (ms : Members) → get_member k (change_member k f ms) ≡ option_map f (get_member k ms)
 member_changed k f no_members = refl
-member_changed k f (member l d ms) = changed_by (bytes_eq k l) k l f d ms refl (member_changed k f ms)
-
-kept_by : (b : Bool) (q k l : List ℕ) (f : Data → Data) (d : Data) (ms : Members) → bytes_eq k l ≡ b → bytes_eq q k ≡ false
-    → get_member q (change_member k f ms) ≡ get_member q ms
-    → get_member q (cond b (member l (f d) ms) (member l d (change_member k f ms))) ≡ get_member q (member l d ms)
-kept_by true q k l f d ms is off later = rw (seek q l (f d) ms, seek q l d ms, apart q k l off is) refl
-kept_by false q k l f d ms is off later = rw (seek q l d (change_member k f ms), seek q l d ms, later) refl
+member_changed k f (member l d ms) = elim (cases_Bool (bytes_eq k l)) [
+  | inl same ↦ rw (same, seek k l (f d) ms, seek k l d ms, same) refl
+  | inr off ↦ rw (off, seek k l d (change_member k f ms), seek k l d ms, off) (member_changed k f ms)
+]
 
 member_kept : (q k : List ℕ) (f : Data → Data) (ms : Members) → bytes_eq q k ≡ false → get_member q (change_member k f ms) ≡ get_member q ms
 member_kept q k f no_members off = refl
-member_kept q k f (member l d ms) off = kept_by (bytes_eq k l) q k l f d ms refl off (member_kept q k f ms off)
+member_kept q k f (member l d ms) off = elim (cases_Bool (bytes_eq k l)) [
+  | inl same ↦ rw (same, seek q l (f d) ms, seek q l d ms, apart q k l off same) refl
+  | inr other ↦ rw (other, seek q l d (change_member k f ms), seek q l d ms, member_kept q k f ms off) refl
+]
 
 -- the changed member, and another
 pub get_changed : (k : List ℕ) (f : Data → Data) (d : Data) → get k (at_member k f d) ≡ option_map f (get k d)
-get_changed k f null = refl
-get_changed k f (boolean b) = refl
-get_changed k f (number n) = refl
-get_changed k f (string s) = refl
-get_changed k f (array ds) = refl
 get_changed k f (object ms) = member_changed k f ms
+get_changed k f d = refl
 
 pub get_kept : (q k : List ℕ) (f : Data → Data) (d : Data) → bytes_eq q k ≡ false → get q (at_member k f d) ≡ get q d
-get_kept q k f null off = refl
-get_kept q k f (boolean b) off = refl
-get_kept q k f (number n) off = refl
-get_kept q k f (string s) off = refl
-get_kept q k f (array ds) off = refl
 get_kept q k f (object ms) off = member_kept q k f ms off
-
-changed_none : (k : List ℕ) (f : Data → Data) (ms : Members) → get_member k ms ≡ None → change_member k f ms ≡ ms
-changed_none k f no_members e = refl
-changed_none k f (member l d ms) e = elim (cases_Bool (bytes_eq k l)) [
-  | inl same ↦ absurd (let both : Some d ≡ None = sym (rw same at (seek k l d ms)) ∙ e in cc)
-  | inr other ↦ rw other (ap (member l d) (changed_none k f ms (sym (rw other at (seek k l d ms)) ∙ e)))
-]
-
--- a member that isn't there is changed nowhere
-pub at_none : (k : List ℕ) (f : Data → Data) (d : Data) → get k d ≡ None → at_member k f d ≡ d
-at_none k f null e = refl
-at_none k f (boolean b) e = refl
-at_none k f (number n) e = refl
-at_none k f (string s) e = refl
-at_none k f (array ds) e = refl
-at_none k f (object ms) e = ap object (changed_none k f ms e)
+get_kept q k f d off = refl
 
 same_by : (k : List ℕ) (f : Data → Data) (ms : Members) → option_map f (get_member k ms) ≡ get_member k ms → change_member k f ms ≡ ms
 same_by k f no_members e = refl
@@ -151,12 +121,12 @@ same_by k f (member l x ms) e = elim (cases_Bool (bytes_eq k l)) [
 
 -- a member that the edit leaves as it is: so is the object
 pub at_same : (k : List ℕ) (f : Data → Data) (d : Data) → option_map f (get k d) ≡ get k d → at_member k f d ≡ d
-at_same k f null e = refl
-at_same k f (boolean b) e = refl
-at_same k f (number n) e = refl
-at_same k f (string s) e = refl
-at_same k f (array ds) e = refl
 at_same k f (object ms) e = ap object (same_by k f ms e)
+at_same k f d e = refl
+
+-- a member that isn't there is changed nowhere
+pub at_none : (k : List ℕ) (f : Data → Data) (d : Data) → get k d ≡ None → at_member k f d ≡ d
+at_none k f d e = at_same k f d (rw e refl)
 
 -- ---- each member changed
 
@@ -169,70 +139,45 @@ member_each q f no_members = refl
 member_each q f (member l d ms) = rw (seek q l (f d) (each_member f ms), seek q l d ms, member_each q f ms) (first_by (bytes_eq q l) d f (get_member q ms))
 
 pub get_each : (q : List ℕ) (f : Data → Data) (d : Data) → get q (in_object (each_member f) d) ≡ option_map f (get q d)
-get_each q f null = refl
-get_each q f (boolean b) = refl
-get_each q f (number n) = refl
-get_each q f (string s) = refl
-get_each q f (array ds) = refl
 get_each q f (object ms) = member_each q f ms
+get_each q f d = refl
 
 -- ---- a member left out
 
-gone_by : (b : Bool) (k l : List ℕ) (d : Data) (ms : Members) → bytes_eq k l ≡ b → get_member k ms ≡ None → get_member k (cond b ms (member l d ms)) ≡ None
-gone_by true k l d ms is later = later
-gone_by false k l d ms is later = rw (seek k l d ms, is) later
-
 member_gone : (k : List ℕ) (ms : Members) → get_member k (drop_member k ms) ≡ None
 member_gone k no_members = refl
-member_gone k (member l d ms) = gone_by (bytes_eq k l) k l d (drop_member k ms) refl (member_gone k ms)
-
-left_by : (b : Bool) (q k l : List ℕ) (d : Data) (ms : Members) → bytes_eq k l ≡ b → bytes_eq q k ≡ false → get_member q (drop_member k ms) ≡ get_member q ms
-    → get_member q (cond b (drop_member k ms) (member l d (drop_member k ms))) ≡ get_member q (member l d ms)
-left_by true q k l d ms is off later = rw (seek q l d ms, apart q k l off is) later
-left_by false q k l d ms is off later = rw (seek q l d (drop_member k ms), seek q l d ms, later) refl
+member_gone k (member l d ms) = elim (cases_Bool (bytes_eq k l)) [
+  | inl same ↦ rw same (member_gone k ms)
+  | inr off ↦ rw (off, seek k l d (drop_member k ms), off) (member_gone k ms)
+]
 
 member_left : (q k : List ℕ) (ms : Members) → bytes_eq q k ≡ false → get_member q (drop_member k ms) ≡ get_member q ms
 member_left q k no_members off = refl
-member_left q k (member l d ms) off = left_by (bytes_eq k l) q k l d ms refl off (member_left q k ms off)
+member_left q k (member l d ms) off = elim (cases_Bool (bytes_eq k l)) [
+  | inl same ↦ rw (same, seek q l d ms, apart q k l off same) (member_left q k ms off)
+  | inr other ↦ rw (other, seek q l d (drop_member k ms), seek q l d ms, member_left q k ms off) refl
+]
 
 -- the member that is left out, and another
 pub get_gone : (k : List ℕ) (d : Data) → get k (in_object (drop_member k) d) ≡ None
-get_gone k null = refl
-get_gone k (boolean b) = refl
-get_gone k (number n) = refl
-get_gone k (string s) = refl
-get_gone k (array ds) = refl
 get_gone k (object ms) = member_gone k ms
+get_gone k d = refl
 
 pub get_left : (q k : List ℕ) (d : Data) → bytes_eq q k ≡ false → get q (in_object (drop_member k) d) ≡ get q d
-get_left q k null off = refl
-get_left q k (boolean b) off = refl
-get_left q k (number n) off = refl
-get_left q k (string s) off = refl
-get_left q k (array ds) off = refl
 get_left q k (object ms) off = member_left q k ms off
+get_left q k d off = refl
 
 -- ---- a member that is put
 
 -- the member that was put, in a value that is an object
 pub put_here : (k : List ℕ) (d : Data) (v : Option Data) → is_some (option_and_then as_object v) ≡ true → option_and_then (get k) (option_map (in_object (put k d)) v) ≡ Some d
-put_here k d None h = absurd (false≢true h)
-put_here k d (Some null) h = absurd (false≢true h)
-put_here k d (Some (boolean b)) h = absurd (false≢true h)
-put_here k d (Some (number n)) h = absurd (false≢true h)
-put_here k d (Some (string u)) h = absurd (false≢true h)
-put_here k d (Some (array ds)) h = absurd (false≢true h)
 put_here k d (Some (object ms)) h = get_member-put k d ms
+put_here k d v h = absurd (false≢true h)
 
 -- another
 pub put_beside : (q k : List ℕ) (d : Data) (v : Option Data) → bytes_eq q k ≡ false → option_and_then (get q) (option_map (in_object (put k d)) v) ≡ option_and_then (get q) v
-put_beside q k d None off = refl
-put_beside q k d (Some null) off = refl
-put_beside q k d (Some (boolean b)) off = refl
-put_beside q k d (Some (number n)) off = refl
-put_beside q k d (Some (string u)) off = refl
-put_beside q k d (Some (array ds)) off = refl
 put_beside q k d (Some (object ms)) off = get_member-put_other q k d ms (other_name q k off)
+put_beside q k d v off = refl
 
 still_there : (q k : List ℕ) (d : Data) (ms : Members) → is_some (get_member q ms) ≡ true → is_some (get_member q (put k d ms)) ≡ true
 still_there q k d ms h = elim (either_name q k) [
@@ -242,13 +187,8 @@ still_there q k d ms h = elim (either_name q k) [
 
 -- what was there still is
 pub put_more : (q k : List ℕ) (d : Data) (v : Option Data) → is_some (option_and_then (get q) v) ≡ true → is_some (option_and_then (get q) (option_map (in_object (put k d)) v)) ≡ true
-put_more q k d None h = h
-put_more q k d (Some null) h = h
-put_more q k d (Some (boolean b)) h = h
-put_more q k d (Some (number n)) h = h
-put_more q k d (Some (string u)) h = h
-put_more q k d (Some (array ds)) h = h
 put_more q k d (Some (object ms)) h = still_there q k d ms h
+put_more q k d v h = h
 
 -- ---- what a value is
 
@@ -289,13 +229,8 @@ array_map f (Some d) = array_changed f d
 
 -- a value whose members meet a test is an object
 pub tested_object : (f : Members → Bool) (v : Option Data) → option_map_or f (option_and_then as_object v) false ≡ true → is_some (option_and_then as_object v) ≡ true
-tested_object f None h = absurd (false≢true h)
-tested_object f (Some null) h = absurd (false≢true h)
-tested_object f (Some (boolean b)) h = absurd (false≢true h)
-tested_object f (Some (number n)) h = absurd (false≢true h)
-tested_object f (Some (string u)) h = absurd (false≢true h)
-tested_object f (Some (array ds)) h = absurd (false≢true h)
 tested_object f (Some (object ms)) h = refl
+tested_object f d h = absurd (false≢true h)
 
 -- a member that is found is one of an object
 pub record FoundIn (v : Option Data) (k : List ℕ) (d : Data) : Type 0 where
@@ -304,10 +239,19 @@ pub record FoundIn (v : Option Data) (k : List ℕ) (d : Data) : Type 0 where
   pub found : get_member k members ≡ Some d
 
 pub found_in : (v : Option Data) (k : List ℕ) (d : Data) → option_and_then (get k) v ≡ Some d → FoundIn v k d
-found_in None k d e = absurd (cc)
-found_in (Some null) k d e = absurd (cc)
-found_in (Some (boolean b)) k d e = absurd (cc)
-found_in (Some (number n)) k d e = absurd (cc)
-found_in (Some (string u)) k d e = absurd (cc)
-found_in (Some (array ds)) k d e = absurd (cc)
 found_in (Some (object ms)) k d e = record { members = ms; are = refl; found = e }
+found_in v k d e = absurd (cc)
+
+-- ---- an object with two members edited
+
+pub two_others : (q k l : List ℕ) (f g : Data → Data) (d : Data) → bytes_eq q k ≡ false → bytes_eq q l ≡ false → get q (at_member k f (at_member l g d)) ≡ get q d
+two_others q k l f g d a b = get_kept q k f (at_member l g d) a ∙ get_kept q l g d b
+
+pub two_first : (k l : List ℕ) (f g : Data → Data) (d : Data) → bytes_eq k l ≡ false → get k (at_member k f (at_member l g d)) ≡ option_map f (get k d)
+two_first k l f g d off = get_changed k f (at_member l g d) ∙ ap (option_map f) (get_kept k l g d off)
+
+pub two_second : (k l : List ℕ) (f g : Data → Data) (d : Data) → bytes_eq l k ≡ false → get l (at_member k f (at_member l g d)) ≡ option_map g (get l d)
+two_second k l f g d off = get_kept l k f (at_member l g d) off ∙ get_changed l g d
+
+pub two_object : (k l : List ℕ) (f g : Data → Data) (d : Data) → is_some (as_object (at_member k f (at_member l g d))) ≡ is_some (as_object d)
+two_object k l f g d = still_object (change_member k f) (at_member l g d) ∙ still_object (change_member l g) d

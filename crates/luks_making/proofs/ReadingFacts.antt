@@ -3,9 +3,7 @@ use Rattle.std.proofs.Common.{◌≡◌, ℕ, ◌<◌, ◌≤◌, ◌^◌, Bool,
 use Rattle.std.proofs.lemmas.Bool.{and_from, and_parts, le-leb, leb-true}
 use Rattle.base64.specs.GeneralPurpose.{IsBytes}
 use Rattle.serde_json.specs.Data.{Data, number, string, unsigned}
-use Rattle.luks_json.specs.Decimal.{IsDecimal, decimal_of}
-use Rattle.luks_json.specs.Encoded.{IsBase64, encoded_of}
-use Rattle.luks_json.specs.Number.{is_name, number_of, number_text}
+use Rattle.luks_json.specs.Number.{is_name, number_text}
 use Rattle.luks_json.specs.Values.{bytes_in, decimal_in, is_between, kept, number_in}
 use Rattle.luks_json.specs.Values.{number_of as whole_of}
 use Rattle.luks_json.proofs.Decimals.{decimal_told}

@@ -1,6 +1,6 @@
 //! Values whose members are edited in place: no other copy of them lives meanwhile.
 
-ghost use Rattle.std.specs.Prelude.{◌≡◌, Some, option_map, IfOk, OnOk};
+ghost use Rattle.std.specs.Prelude.{◌≡◌, Some, option_map, IfOk, IsNone, OnOk};
 ghost use Rattle.serde_json.specs.Data.{Data, null};
 ghost use Rattle.serde_json.specs.Find.{get};
 ghost use Rattle.serde_json.specs.View.{view};
@@ -13,6 +13,8 @@ use std::alloc::{AllocError, Global};
 pub(crate) fn take_member(object: &mut Value, name: &str) -> Option<Value>
     ensures taken { option_map view result ≡ get name.now (view object.old) }
     ensures left { view object.new ≡ set_member name.now null (view object.old) }
+    ensures none { IsNone result → (f : Data → Data)
+        → view object.new ≡ at_member name.now f (view object.old) }
 {
     let member = object.as_object_mut()?.get_mut(name)?;
     Some(member.take())
@@ -26,7 +28,7 @@ pub(crate) fn with_member(
     value: Value,
 ) -> Result<Value, AllocError>
     ensures { (f : Data → Data) (j d : Data) → view object ≡ set_member name.now null j
-        → get name.now j ≡ Some d → view value ≡ f d
+        → Some d ≡ get name.now j → view value ≡ f d
         → IfOk result (λ v. view v ≡ at_member name.now f j) }
 {
     change_member(alloc, &mut object, name, value)?;

@@ -1,14 +1,12 @@
-use Rattle.std.proofs.Common.{codes, sym}
-use Rattle.serde_json.specs.View.{view}
+use Rattle.std.proofs.Common.{refl}
 use Rattle.luks_making.specs.Changed.{renewed_slot}
 use Rattle.luks_making.specs.Keyslots.{new_members}
 use Rattle.luks_making.specs.Changing.{at_member}
 use Rattle.luks_json.specs.Number.{number_text}
-use Rattle.luks_making.proofs.TakenFacts.{none_taken}
 use Rattle.luks_making.proofs.changed.changed_slot.Goals as goal
 
 pub returns-in_ok-changed-in-Some : goal.returns-in_ok-changed-in-Some
-returns-in_ok-changed-in-Some c = c.with_member.ensures (at_member (number_text c.args.number) (renewed_slot (new_members c.args.new.now))) (view c.args.value) (view c.in-Some.keyslots) c.take_member.ensures.left (sym c.in-Some.ensures.taken) (rw (← c.number_text.ensures) c.in_ok-changed-in-Some.ensures)
+returns-in_ok-changed-in-Some c = c.with_member.ensures (at_member (number_text c.args.number) (renewed_slot (new_members c.args.new.now))) _ _ c.take_member.ensures.left c.in-Some.ensures.taken (rw (← c.number_text.ensures) c.in_ok-changed-in-Some.ensures)
 
 pub returns-in-None : goal.returns-in-None
-returns-in-None c = none_taken (codes "keyslots") (at_member (number_text c.args.number) (renewed_slot (new_members c.args.new.now))) (view c.args.value) _ c.in-None.ensures.taken c.take_member.ensures.left
+returns-in-None c = c.in-None.ensures.none refl _

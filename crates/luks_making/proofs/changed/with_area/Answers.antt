@@ -1,12 +1,8 @@
-use Rattle.std.proofs.Common.{codes, sym}
-use Rattle.serde_json.specs.View.{view}
-use Rattle.luks_making.specs.Changed.{renewed_area}
-use Rattle.luks_making.specs.Keyslots.{new_members}
-use Rattle.luks_making.proofs.TakenFacts.{none_taken}
+use Rattle.std.proofs.Common.{refl}
 use Rattle.luks_making.proofs.changed.with_area.Goals as goal
 
 pub returns-in_ok-changed-in-Some : goal.returns-in_ok-changed-in-Some
-returns-in_ok-changed-in-Some c = c.with_member.ensures (renewed_area (new_members c.args.new.now)) (view c.args.keyslot) (view c.in-Some.area) c.take_member.ensures.left (sym c.in-Some.ensures.taken) c.in_ok-changed-in-Some.ensures
+returns-in_ok-changed-in-Some c = c.with_member.ensures _ _ _ c.take_member.ensures.left c.in-Some.ensures.taken c.in_ok-changed-in-Some.ensures
 
 pub returns-in-None : goal.returns-in-None
-returns-in-None c = none_taken (codes "area") (renewed_area (new_members c.args.new.now)) (view c.args.keyslot) _ c.in-None.ensures.taken c.take_member.ensures.left
+returns-in-None c = c.in-None.ensures.none refl _

@@ -1,5 +1,5 @@
 use Rattle.serde_json.specs.View.{view}
-use Rattle.luks_making.proofs.PutFacts.{inserted}
+use Rattle.luks_making.proofs.MapFacts.{inserted}
 use Rattle.luks_making.proofs.changing.change_member.Goals as goal
 
 pub returns-in_ok-insert : goal.returns-in_ok-insert

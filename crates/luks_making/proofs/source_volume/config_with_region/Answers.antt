@@ -1,7 +1,7 @@
 use Rattle.std.proofs.Common.{codes, ap}
 use Rattle.serde_json.specs.View.{view}
 use Rattle.luks_making.specs.Changing.{set_member}
-use Rattle.luks_making.proofs.PutFacts.{same_ok, text_view}
+use Rattle.luks_making.proofs.MapFacts.{same_ok, text_view}
 use Rattle.luks_making.proofs.source_volume.config_with_region.Goals as goal
 
 pub returns : goal.returns

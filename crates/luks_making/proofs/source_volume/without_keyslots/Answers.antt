@@ -1,7 +1,7 @@
 use Rattle.std.proofs.Common.{sym, ◌∙◌}
 use Rattle.luks_making.specs.Converted.{region_size, source_members, volume_like}
 use Rattle.luks_making.proofs.ConversionFacts.{below_none}
-use Rattle.luks_making.proofs.PutFacts.{same_ok}
+use Rattle.luks_making.proofs.MapFacts.{same_ok}
 use Rattle.luks_making.proofs.StepFacts.{region_steps}
 use Rattle.luks_making.proofs.source_volume.without_keyslots.Goals as goal
 

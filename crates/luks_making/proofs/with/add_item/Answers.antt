@@ -1,5 +1,5 @@
 use Rattle.serde_json.specs.View.{view}
-use Rattle.luks_making.proofs.ItemFacts.{pushed}
+use Rattle.luks_making.proofs.MapFacts.{pushed}
 use Rattle.luks_making.proofs.with.add_item.Goals as goal
 
 pub returns-in_ok-push-in-Some : goal.returns-in_ok-push-in-Some

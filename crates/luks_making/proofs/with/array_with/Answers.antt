@@ -1,4 +1,4 @@
-use Rattle.luks_making.proofs.PutFacts.{text_view}
+use Rattle.luks_making.proofs.MapFacts.{text_view}
 use Rattle.luks_making.proofs.with.array_with.Goals as goal
 
 pub returns : goal.returns

@@ -1,12 +1,8 @@
-use Rattle.std.proofs.Common.{codes, sym}
-use Rattle.serde_json.specs.View.{view}
-use Rattle.luks_making.specs.Changing.{at_member}
-use Rattle.luks_making.specs.With.{with_name}
-use Rattle.luks_making.proofs.TakenFacts.{none_taken}
+use Rattle.std.proofs.Common.{refl}
 use Rattle.luks_making.proofs.with.with_name.Goals as goal
 
 pub returns-in_ok-changed-in-Some : goal.returns-in_ok-changed-in-Some
-returns-in_ok-changed-in-Some c = c.with_member.ensures (at_member c.args.digest.now (with_name c.args.name.now)) (view c.args.value) (view c.in-Some.digests) c.take_member.ensures.left (sym c.in-Some.ensures.taken) c.in_ok-changed-in-Some.ensures
+returns-in_ok-changed-in-Some c = c.with_member.ensures _ _ _ c.take_member.ensures.left c.in-Some.ensures.taken c.in_ok-changed-in-Some.ensures
 
 pub returns-in-None : goal.returns-in-None
-returns-in-None c = none_taken (codes "digests") (at_member c.args.digest.now (with_name c.args.name.now)) (view c.args.value) _ c.in-None.ensures.taken c.take_member.ensures.left
+returns-in-None c = c.in-None.ensures.none refl _

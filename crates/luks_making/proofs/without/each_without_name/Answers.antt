@@ -5,7 +5,7 @@ use Rattle.std.specs.String.{string_cmp}
 use Rattle.serde_json.specs.View.{members_view}
 use Rattle.serde_json.proofs.Views.{Entry, members_view-insert_entry}
 use Rattle.luks_making.specs.Without.{without_name}
-use Rattle.luks_making.proofs.CopyFacts.{each_next}
+use Rattle.luks_making.proofs.MapFacts.{each_next}
 use Rattle.luks_making.proofs.without.each_without_name.Goals as goal
 
 pub loop-key-preserved : goal.loop-key-preserved

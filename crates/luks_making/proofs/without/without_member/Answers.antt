@@ -1,6 +1,6 @@
 use Rattle.std.proofs.Common.{ap, ◌∙◌}
 use Rattle.serde_json.specs.View.{members_view}
-use Rattle.luks_making.proofs.TakenFacts.{found_in_map, removed}
+use Rattle.luks_making.proofs.MapFacts.{found_in_map, removed}
 use Rattle.luks_making.proofs.without.without_member.Goals as goal
 
 pub returns : goal.returns

@@ -1,5 +1,5 @@
 use Rattle.serde_json.specs.View.{view}
-use Rattle.luks_making.proofs.PutFacts.{same_ok}
+use Rattle.luks_making.proofs.MapFacts.{same_ok}
 use Rattle.luks_making.proofs.StepFacts.{without_steps}
 use Rattle.luks_making.proofs.without.without_slot.Goals as goal
 

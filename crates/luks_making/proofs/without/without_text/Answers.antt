@@ -2,7 +2,7 @@ use Rattle.std.proofs.Common.{rules, ap, ◌∙◌, not}
 use Rattle.std.proofs.lemmas.Fn.{filter_same}
 use Rattle.serde_json.specs.View.{view, items_view}
 use Rattle.luks_json.specs.Arrays.{is_text}
-use Rattle.luks_making.proofs.ItemFacts.{kept_items}
+use Rattle.luks_making.proofs.MapFacts.{kept_items}
 use Rattle.luks_making.proofs.without.without_text.Goals as goal
 
 pub returns : goal.returns
