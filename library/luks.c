@@ -125,6 +125,26 @@ uint32_t luks_check(int fd, uint64_t offset, uint64_t length, bool is_detached, 
     return answer;
 }
 
+uint32_t luks_read(int fd, uint64_t offset, uint64_t length, char *json, size_t json_room, uint64_t *json_bytes)
+{
+    char nowhere = 0;
+    struct luks_read read;
+    struct held held;
+    if (json_bytes == NULL || (json == NULL && json_room > 0))
+        return LUKS_USAGE;
+    *json_bytes = 0;
+    uint32_t answer = begin(&held, fd, offset, length, HEADS);
+    if (answer == LUKS_DONE)
+        do {
+            answer = luks_read_bytes(held.bytes, held.count, held.total, (uint8_t *)(json != NULL ? json : &nowhere), json_room, &read);
+            *json_bytes = read.json_bytes;
+            if (answer == LUKS_BEYOND)
+                answer = hold_more(&held, read.beyond);
+        } while (answer == LUKS_BEYOND);
+    end(&held);
+    return answer;
+}
+
 /* What is asked of a passphrase: the keyslot `n`, or of any where it is -1. */
 static uint32_t open_one(int fd, uint64_t offset, uint64_t length, int n, const void *passphrase, size_t passphrase_bytes, uint32_t memory,
                          void *key, size_t key_room, struct luks_opened *opened)

@@ -2,7 +2,7 @@
  *
  * Link with -lluks. Two families of calls answer the same:
  *
- *   luks_check, luks_unlock, luks_open                read the volume through a descriptor
+ *   luks_check, luks_read, luks_unlock, luks_open     read the volume through a descriptor
  *   luks_check_bytes and so on                        are given the volume's first bytes in memory
  *
  * The second family is proved (docs/PROOFS.md); the first reads as many bytes as are needed, by pread,
@@ -53,6 +53,12 @@ struct luks_opened {
     uint64_t beyond;    /* with LUKS_BEYOND: how many of the first bytes have to be given */
 };
 
+/* What a header says; only of the call named _bytes. */
+struct luks_read {
+    uint64_t json_bytes; /* how many bytes the text has; 0 where there is none */
+    uint64_t beyond;     /* with LUKS_BEYOND: how many of the first bytes have to be given */
+};
+
 /* ---- through a descriptor of a file or a block device, open for reading ----
  *
  * The volume is the `length` bytes from `offset` on, fewer where the file ends; LUKS_TO_END takes all.
@@ -60,6 +66,10 @@ struct luks_opened {
 
 /* Whether it is well formed, with its areas; else its first fault. `is_detached`: its data lies elsewhere. */
 uint32_t luks_check(int fd, uint64_t offset, uint64_t length, bool is_detached, struct luks_report *report);
+
+/* What the header says that counts, as the JSON object of `luks show --json`, without a 0 or a newline
+ * behind it; `json_bytes` tells how many bytes it has, also with LUKS_ROOM. */
+uint32_t luks_read(int fd, uint64_t offset, uint64_t length, char *json, size_t json_room, uint64_t *json_bytes);
 
 /* The first keyslot that the passphrase opens, with Argon2 taking up to `memory` KiB for each. The
  * volume key is put into `key`, where `key_room` isn't 0; 128 bytes hold any. */
@@ -76,6 +86,8 @@ uint32_t luks_open(int fd, uint64_t offset, uint64_t length, uint8_t n, const vo
  * one that is read. A pointer with length 0 may be anything but null. */
 
 uint32_t luks_check_bytes(const uint8_t *first, size_t first_bytes, uint64_t total, bool is_detached, struct luks_report *report);
+
+uint32_t luks_read_bytes(const uint8_t *first, size_t first_bytes, uint64_t total, uint8_t *json, size_t json_room, struct luks_read *read);
 
 uint32_t luks_unlock_bytes(const uint8_t *first, size_t first_bytes, uint64_t total, const uint8_t *passphrase, size_t passphrase_bytes,
                            uint32_t memory, uint8_t *key, size_t key_room, struct luks_opened *opened);

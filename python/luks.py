@@ -17,13 +17,15 @@ from __future__ import annotations
 import ctypes
 import errno
 import fcntl
+import json
 import os
 from dataclasses import dataclass
 from types import TracebackType
+from typing import Any
 
 __all__ = ["Fault", "Report", "Volume", "explain"]
 
-DONE, MEMORY, DEVICE, SHUT = 0, 103, 104, 105
+DONE, MEMORY, DEVICE, SHUT, ROOM = 0, 103, 104, 105, 106
 TO_END = 2**64 - 1
 KEY_ROOM = 128
 COPIES = (None, "in-step", "first-newer", "second-newer", "first-only", "second-only")
@@ -43,6 +45,7 @@ def _loaded() -> ctypes.CDLL:
     tried = [ctypes.c_char_p, ctypes.c_size_t, ctypes.c_uint32, ctypes.c_void_p, ctypes.c_size_t, ctypes.POINTER(_Opened)]
     for name, takes, gives in (
         ("luks_check", [*window, ctypes.c_bool, ctypes.POINTER(_Report)], ctypes.c_uint32),
+        ("luks_read", [*window, ctypes.c_void_p, ctypes.c_size_t, ctypes.POINTER(ctypes.c_uint64)], ctypes.c_uint32),
         ("luks_unlock", [*window, *tried], ctypes.c_uint32),
         ("luks_open", [*window, ctypes.c_uint8, *tried], ctypes.c_uint32),
         ("luks_fault_name", [ctypes.c_uint32, ctypes.c_void_p, ctypes.c_size_t], ctypes.c_size_t),
@@ -141,6 +144,18 @@ class Volume:
         if report.version == 1:
             return Report(1, None, None, report.areas)
         return Report(report.version, COPIES[report.copies], report.seqid, report.areas)
+
+    def show(self) -> dict[str, Any]:
+        """What the header says: the object that `luks show --json` prints. Areas may lie where they can't; `check` says so."""
+        bytes_ = ctypes.c_uint64(1 << 16)
+        while True:
+            room = bytes_.value
+            text = ctypes.create_string_buffer(room)
+            answer = _LIBRARY.luks_read(self._fd, *self._window, text, room, ctypes.byref(bytes_))
+            if answer != ROOM:
+                break
+        self._done(answer)
+        return json.loads(text.raw[: bytes_.value])
 
     def unlock(self, passphrase: bytes, memory: int = 0) -> int | None:
         """The first keyslot that the passphrase opens, or None. Argon2 may take `memory` MiB; a keyslot that takes more is passed over."""

@@ -1,0 +1,7 @@
+//! A volume of which the first bytes are given, as a device whose writes are planned, for the caller
+//! to do them.
+#![tactic(auto)]
+
+mod planned_writes;
+
+pub use planned_writes::{PlannedCall, PlannedWrites};
