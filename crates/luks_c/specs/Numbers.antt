@@ -9,6 +9,8 @@ use Rattle.luks_reading.specs.declared.check_fault.CheckFault.{CheckFault}
 use Rattle.luks_reading.specs.declared.check_fault.CheckFault.TheVariants as checking
 use Rattle.luks_reading.specs.declared.open_fault.OpenFault.{OpenFault}
 use Rattle.luks_reading.specs.declared.open_fault.OpenFault.TheVariants as opening
+use Rattle.luks_edit.specs.declared.edit_fault.EditFault.{EditFault}
+use Rattle.luks_edit.specs.declared.edit_fault.EditFault.TheVariants as edit
 use Rattle.luks_explain.specs.declared.fault.Fault.{Fault}
 use Rattle.luks_explain.specs.declared.fault.Fault.TheVariants as fault
 use Rattle.luks_explain.specs.Names.{all_faults, fault_named, name_in}
@@ -92,3 +94,23 @@ open_number opening.Outside = 21
 open_number (opening.Slot f) = number_printed (slot_fault_text f)
 open_number opening.Device = 102
 open_number opening.Memory = 103
+
+-- of what an edit answers in place of what it made
+abbrev pub edit_number : EditFault → ℕ
+edit_number (edit.NotAccepted f) = check_number f
+edit_number edit.Requirements = 31
+edit_number edit.NoSuchSlot = 23
+edit_number edit.SameSlot = 50
+edit_number edit.Locked = 29
+edit_number (edit.Slot f) = number_printed (slot_fault_text f)
+edit_number edit.SlotTaken = 32
+edit_number edit.NoFreeSlot = 33
+edit_number edit.NoRoom = 34
+edit_number edit.LastSlot = 35
+edit_number edit.Iterations = 10
+edit_number edit.BadLabel = 36
+edit_number edit.SeqExhausted = 37
+edit_number edit.MetadataFull = 38
+edit_number edit.RandomLength = 39
+edit_number edit.Memory = 103
+edit_number edit.Device = 102

@@ -1,17 +1,18 @@
 //! The numbers by which the calls answer. `luks.h` lists them; a number stays its own in each later
 //! version.
 ghost use Rattle.std.specs.Prelude.{◌≡◌};
-ghost use Rattle.luks_c.specs.Numbers.{check_number, fault_number, fault_numbered, number_printed, open_number};
+ghost use Rattle.luks_c.specs.Numbers.{check_number, edit_number, fault_number, fault_numbered, number_printed, open_number};
 ghost use Rattle.luks_area.specs.Printed.{area_fault_text};
 ghost use Rattle.luks1_header.specs.FaultTexts.{fault_text as head_fault_text};
 ghost use Rattle.luks_rules.specs.MetaFault.{fault_text as meta_fault_text};
 ghost use Rattle.luks_slot.specs.Fault.{fault_text as slot_fault_text};
 
+use luks_edit::EditFault;
 use luks_explain::Fault;
 use luks_reading::{AreaFault, CheckFault, HeadFault, MetaFault, OpenFault};
 use luks_slot::SlotFault;
 
-/// Done: the volume is accepted, the keyslot opens, the text is given.
+/// Done: the volume is accepted, the keyslot opens, the text or the plan is given.
 pub(crate) const DONE: u32 = 0;
 
 /// No fault: the device's failure and want of memory have numbers of their own, and are never told by
@@ -127,6 +128,31 @@ pub(crate) fn open_number(fault: &OpenFault) -> u32
         OpenFault::Slot(fault) => slot_number(fault),
         OpenFault::Device => BEYOND,
         OpenFault::Memory => MEMORY,
+    }
+}
+
+/// The number of what an edit answers in place of what it made.
+pub(crate) fn edit_number(fault: &EditFault) -> u32
+    ensures { result ≡ edit_number fault.now }
+{
+    match fault {
+        EditFault::NotAccepted(fault) => check_number(fault),
+        EditFault::Requirements => number_of(Fault::Requirements),
+        EditFault::NoSuchSlot => number_of(Fault::NoSuchSlot),
+        EditFault::SameSlot => number_of(Fault::SameSlot),
+        EditFault::Locked => number_of(Fault::Locked),
+        EditFault::Slot(fault) => slot_number(fault),
+        EditFault::SlotTaken => number_of(Fault::SlotTaken),
+        EditFault::NoFreeSlot => number_of(Fault::NoFreeSlot),
+        EditFault::NoRoom => number_of(Fault::NoRoom),
+        EditFault::LastSlot => number_of(Fault::LastSlot),
+        EditFault::Iterations => number_of(Fault::Iterations),
+        EditFault::BadLabel => number_of(Fault::BadLabel),
+        EditFault::SeqExhausted => number_of(Fault::SeqExhausted),
+        EditFault::MetadataFull => number_of(Fault::MetadataFull),
+        EditFault::RandomLength => number_of(Fault::RandomLength),
+        EditFault::Memory => MEMORY,
+        EditFault::Device => BEYOND,
     }
 }
 
