@@ -1,2 +1,4 @@
+pub mod AskFacts
 pub mod BufferFacts
 pub mod NumberFacts
+pub mod PlanFacts

@@ -1,5 +1,5 @@
 -- In which range the numbers of answers lie.
-use Rattle.std.proofs.Common.{◌≡◌, ◌≢◌, ℕ, ◌≤◌, List, Option, Some, None, false, arith}
+use Rattle.std.proofs.Common.{◌≡◌, ◌≢◌, ℕ, ◌≤◌, List, Option, Some, None, false, ap, arith}
 use Rattle.std.specs.Option.{option_map_or}
 use Rattle.std.proofs.lemmas.Bool.{true≢false}
 use Rattle.luks_explain.specs.declared.fault.Fault.{Fault}
@@ -14,7 +14,14 @@ use Rattle.luks_reading.specs.declared.check_fault.CheckFault.{CheckFault}
 use Rattle.luks_reading.specs.declared.check_fault.CheckFault.TheVariants as checking
 use Rattle.luks_reading.specs.declared.open_fault.OpenFault.{OpenFault}
 use Rattle.luks_reading.specs.declared.open_fault.OpenFault.TheVariants as opening
-use Rattle.luks_c.specs.Numbers.{check_number, fault_number, number_printed, open_number}
+use Rattle.luks_edit.specs.EditFaults.{is_edit_failure}
+use Rattle.luks_edit.specs.declared.edit_fault.EditFault.{EditFault}
+use Rattle.luks_edit.specs.declared.edit_fault.EditFault.TheVariants as edit
+use Rattle.luks_formatting.specs.FormatFaults.{is_device_fault}
+use Rattle.luks_formatting.specs.declared.format_fault.FormatFault.{FormatFault}
+use Rattle.luks_formatting.specs.declared.format_fault.FormatFault.TheVariants as format
+use Rattle.luks_reading.specs.FaultTexts.{check_fault_text}
+use Rattle.luks_c.specs.Numbers.{check_number, edit_number, fault_number, format_number, number_printed, open_number}
 
 -- that of a fault is 1 to 50
 fault_number_range : (f : Fault) → (1 ≤ fault_number f) × (fault_number f ≤ 50)
@@ -67,3 +74,39 @@ open_number_other opening.Outside own = λ e. absurd (omega (arith, e))
 open_number_other (opening.Slot f) own = λ e. let high = (number_printed_range (slot_fault_text f)).1 in absurd (omega (arith, high, e))
 open_number_other opening.Device own = absurd (true≢false own)
 open_number_other opening.Memory own = λ e. absurd (omega (arith, e))
+
+-- what refuses an edit has a number of 1 to 103, which isn't 101
+pub edit_number_range : (f : EditFault) → (1 ≤ edit_number f) × (edit_number f ≤ 103)
+edit_number_range (edit.NotAccepted f) = let r = number_printed_range (check_fault_text f) in (r.0, let high = r.1 in omega (arith, high))
+edit_number_range (edit.Slot f) = let r = number_printed_range (slot_fault_text f) in (r.0, let high = r.1 in omega (arith, high))
+edit_number_range f = (omega arith, omega arith)
+
+-- and isn't 101
+pub edit_number_usage : (f : EditFault) → edit_number f ≢ 101
+edit_number_usage (edit.NotAccepted f) = λ e. let high = (number_printed_range (check_fault_text f)).1 in absurd (omega (arith, high, e))
+edit_number_usage (edit.Slot f) = λ e. let high = (number_printed_range (slot_fault_text f)).1 in absurd (omega (arith, high, e))
+edit_number_usage f = λ e. absurd (omega (arith, e))
+
+-- none but the device's asks for more bytes
+pub edit_number_other : (f : EditFault) → is_edit_failure f ≡ false → edit_number f ≢ 102
+edit_number_other (edit.NotAccepted f) own = λ e. let high = (number_printed_range (check_fault_text f)).1 in absurd (omega (arith, high, e))
+edit_number_other (edit.Slot f) own = λ e. let high = (number_printed_range (slot_fault_text f)).1 in absurd (omega (arith, high, e))
+edit_number_other edit.Device own = absurd (true≢false own)
+edit_number_other f own = λ e. absurd (omega (arith, e))
+
+-- the number 103 is that of want of memory
+pub edit_number_memory : (f : EditFault) → edit_number f ≢ 103 → f ≢ edit.Memory
+edit_number_memory f other = λ is. other (ap edit_number is)
+
+-- what refuses a format has a number of 1 to 103
+pub format_number_range : (f : FormatFault) → (1 ≤ format_number f) × (format_number f ≤ 103)
+format_number_range f = (omega arith, omega arith)
+
+-- and isn't 101
+pub format_number_usage : (f : FormatFault) → format_number f ≢ 101
+format_number_usage f = λ e. absurd (omega (arith, e))
+
+-- none but the device's asks for more bytes
+pub format_number_other : (f : FormatFault) → is_device_fault f ≡ false → format_number f ≢ 102
+format_number_other format.Device own = absurd (true≢false own)
+format_number_other f own = λ e. absurd (omega (arith, e))

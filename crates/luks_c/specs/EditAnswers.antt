@@ -1,10 +1,11 @@
 -- What the calls answer that edit a volume.
-use Rattle.std.specs.Prelude.{◌≡◌, ◌≢◌, ℕ, List, Option, Some, None, Ok, Err}
+use Rattle.std.specs.Prelude.{◌≡◌, ◌≢◌, ℕ, List, Ok}
 use Rattle.luks_edit.specs.declared.edit.Edit.{Edit}
 use Rattle.luks_edit.specs.declared.edit.Done.{Done}
 use Rattle.luks_edit.specs.declared.edit_fault.EditFault.{EditFault}
 use Rattle.luks_reading.specs.declared.report.Data.{Data}
 use Rattle.luks_given.specs.Volume.{volume}
+use Rattle.luks_volume.specs.Edits.{Refusal}
 use Rattle.luks_volume.specs.Needed.{NeedsRandom, IsUntold}
 use Rattle.luks_volume.specs.Outcome.{IsApplied}
 use Rattle.luks_c.specs.declared.asking.LuksEdit.{LuksEdit}
@@ -42,10 +43,10 @@ pub record IsEdited (payload : Data) (v : List ℕ) (e : Edit) (random : List �
   pub slot : IsMaybeSlot number done.slot
   pub applied : IsApplied payload v e random (Ok done) w
 
--- a fault of this number refuses it, and then no byte changes
+-- the first of its faults has this number
 pub record IsRefusedBy (payload : Data) (v : List ℕ) (e : Edit) (random : List ℕ) (number : ℕ) : Type 0 where
   pub fault : EditFault
-  pub applied : IsApplied payload v e random (Err fault) v
+  pub refusal : Refusal v payload e random fault
   pub is : number ≡ edit_number fault
 
 -- 0 and 106 say that it is planned, 102 that more bytes have to be given, 103 that memory was refused, any other number

@@ -3,6 +3,7 @@ pub mod Buffers
 pub mod CheckAnswers
 pub mod EditAnswers
 pub mod EditAsked
+pub mod FormatAnswers
 pub mod Numbers
 pub mod OpenAnswers
 pub mod Plans

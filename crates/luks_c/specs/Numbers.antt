@@ -5,12 +5,15 @@ use Rattle.luks_area.specs.Printed.{area_fault_text}
 use Rattle.luks1_header.specs.FaultTexts.{fault_text as head_fault_text}
 use Rattle.luks_rules.specs.MetaFault.{fault_text as meta_fault_text}
 use Rattle.luks_slot.specs.Fault.{fault_text as slot_fault_text}
+use Rattle.luks_reading.specs.FaultTexts.{check_fault_text}
 use Rattle.luks_reading.specs.declared.check_fault.CheckFault.{CheckFault}
 use Rattle.luks_reading.specs.declared.check_fault.CheckFault.TheVariants as checking
 use Rattle.luks_reading.specs.declared.open_fault.OpenFault.{OpenFault}
 use Rattle.luks_reading.specs.declared.open_fault.OpenFault.TheVariants as opening
 use Rattle.luks_edit.specs.declared.edit_fault.EditFault.{EditFault}
 use Rattle.luks_edit.specs.declared.edit_fault.EditFault.TheVariants as edit
+use Rattle.luks_formatting.specs.declared.format_fault.FormatFault.{FormatFault}
+use Rattle.luks_formatting.specs.declared.format_fault.FormatFault.TheVariants as format
 use Rattle.luks_explain.specs.declared.fault.Fault.{Fault}
 use Rattle.luks_explain.specs.declared.fault.Fault.TheVariants as fault
 use Rattle.luks_explain.specs.Names.{all_faults, fault_named, name_in}
@@ -97,7 +100,7 @@ open_number opening.Memory = 103
 
 -- of what an edit answers in place of what it made
 abbrev pub edit_number : EditFault → ℕ
-edit_number (edit.NotAccepted f) = check_number f
+edit_number (edit.NotAccepted f) = number_printed (check_fault_text f)
 edit_number edit.Requirements = 31
 edit_number edit.NoSuchSlot = 23
 edit_number edit.SameSlot = 50
@@ -114,3 +117,11 @@ edit_number edit.MetadataFull = 38
 edit_number edit.RandomLength = 39
 edit_number edit.Memory = 103
 edit_number edit.Device = 102
+
+-- of what formatting answers in place of a volume
+abbrev pub format_number : FormatFault → ℕ
+format_number format.TooSmall = 40
+format_number format.Iterations = 10
+format_number format.RandomLength = 39
+format_number format.Memory = 103
+format_number format.Device = 102

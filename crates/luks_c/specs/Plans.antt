@@ -14,6 +14,12 @@ pub record Leaves (first : List ℕ) (total : ℕ) (such : List ℕ → Type 0) 
   pub counted : planned_length calls ≡ length bytes
   pub flushed : IsFlushed calls
 
+-- played over the given bytes, the plan leaves these in their place; it writes none but them
+pub record IsPlan (given left : List ℕ) (calls : List PlannedCall) (bytes : List ℕ) : Type 0 where
+  pub plays : played calls bytes given ≡ left
+  pub inside : furthest calls ≤ length given
+  pub counted : planned_length calls ≡ length bytes
+
 -- the caller's buffers for a plan
 pub record Buffers : Type 0 where
   pub calls : List PlannedCall

@@ -6,6 +6,7 @@ mod asking;
 mod buffers;
 mod checking;
 mod editing;
+mod formatting;
 mod needing;
 mod numbers;
 mod opening;

@@ -1,14 +1,16 @@
 //! The numbers by which the calls answer. `luks.h` lists them; a number stays its own in each later
 //! version.
 ghost use Rattle.std.specs.Prelude.{◌≡◌};
-ghost use Rattle.luks_c.specs.Numbers.{check_number, edit_number, fault_number, fault_numbered, number_printed, open_number};
+ghost use Rattle.luks_c.specs.Numbers.{check_number, edit_number, fault_number, fault_numbered, format_number, number_printed, open_number};
 ghost use Rattle.luks_area.specs.Printed.{area_fault_text};
 ghost use Rattle.luks1_header.specs.FaultTexts.{fault_text as head_fault_text};
 ghost use Rattle.luks_rules.specs.MetaFault.{fault_text as meta_fault_text};
+ghost use Rattle.luks_reading.specs.FaultTexts.{check_fault_text};
 ghost use Rattle.luks_slot.specs.Fault.{fault_text as slot_fault_text};
 
 use luks_edit::EditFault;
 use luks_explain::Fault;
+use luks_formatting::FormatFault;
 use luks_reading::{AreaFault, CheckFault, HeadFault, MetaFault, OpenFault};
 use luks_slot::SlotFault;
 
@@ -136,7 +138,7 @@ pub(crate) fn edit_number(fault: &EditFault) -> u32
     ensures { result ≡ edit_number fault.now }
 {
     match fault {
-        EditFault::NotAccepted(fault) => check_number(fault),
+        EditFault::NotAccepted(fault) => checked_number(fault),
         EditFault::Requirements => number_of(Fault::Requirements),
         EditFault::NoSuchSlot => number_of(Fault::NoSuchSlot),
         EditFault::SameSlot => number_of(Fault::SameSlot),
@@ -153,6 +155,32 @@ pub(crate) fn edit_number(fault: &EditFault) -> u32
         EditFault::RandomLength => number_of(Fault::RandomLength),
         EditFault::Memory => MEMORY,
         EditFault::Device => BEYOND,
+    }
+}
+
+/// The number of what formatting answers in place of a volume.
+pub(crate) fn format_number(fault: &FormatFault) -> u32
+    ensures { result ≡ format_number fault.now }
+{
+    match fault {
+        FormatFault::TooSmall => number_of(Fault::TooSmall),
+        FormatFault::Iterations => number_of(Fault::Iterations),
+        FormatFault::RandomLength => number_of(Fault::RandomLength),
+        FormatFault::Memory => MEMORY,
+        FormatFault::Device => BEYOND,
+    }
+}
+
+/// The number of a volume's first fault.
+fn checked_number(fault: &CheckFault) -> u32
+    ensures { result ≡ number_printed (check_fault_text fault.now) }
+{
+    match fault {
+        CheckFault::Head(fault) => head_number(fault),
+        CheckFault::Meta(fault) => meta_number(fault),
+        CheckFault::Area(fault) => area_number(fault),
+        CheckFault::Device => UNKNOWN,
+        CheckFault::Memory => UNKNOWN,
     }
 }
 

@@ -1,8 +1,8 @@
 //! The plan of a call that writes, in the caller's buffers.
 ghost use Rattle.std.specs.Prelude.{◌≡◌, ◌≤◌, ◌≢◌, ◌<◌, ◌⊎◌, length};
-ghost use Rattle.luks_planned.specs.Planned.{planned_calls, planned_failures, planned_size, planned_written};
+ghost use Rattle.luks_planned.specs.Planned.{planned_calls, planned_failures, planned_first, planned_size, planned_written};
 ghost use Rattle.luks_c.specs.Buffers.{filled};
-ghost use Rattle.luks_c.specs.Plans.{IsPlanGiven};
+ghost use Rattle.luks_c.specs.Plans.{IsPlan, IsPlanGiven};
 
 use crate::buffers::fill_front;
 use crate::numbers::{BEYOND, DONE, MEMORY, ROOM};
@@ -30,6 +30,8 @@ pub(crate) fn give_plan<K: Given>(
     bytes: &mut [u8],
     told: &mut LuksPlan,
 ) -> u32
+    ensures plan { IsPlan K.bytes (planned_first device.now) (planned_calls device.now)
+        (planned_written device.now) }
     ensures calls { told.new.calls ≡ length (planned_calls device.now) }
     ensures bytes { told.new.bytes ≡ length (planned_written device.now) }
     ensures slot { told.new.slot ≡ told.old.slot }
