@@ -2,6 +2,8 @@
 //! to do them.
 #![tactic(auto)]
 
+mod laws;
 mod planned_writes;
 
+pub use laws::plan_leaves_the_rest;
 pub use planned_writes::{PlannedCall, PlannedWrites};
