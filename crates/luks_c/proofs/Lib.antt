@@ -1,4 +1,3 @@
-pub mod AskFacts
 pub mod BufferFacts
 pub mod NumberFacts
 pub mod PlanFacts

@@ -9,11 +9,13 @@ use Rattle.luks1_header.specs.FaultTexts.{fault_text as head_fault_text}
 use Rattle.luks_area.specs.Printed.{area_fault_text}
 use Rattle.luks_rules.specs.MetaFault.{fault_text as meta_fault_text}
 use Rattle.luks_slot.specs.Fault.{fault_text as slot_fault_text}
-use Rattle.luks_reading.specs.Failures.{is_check_failure, is_open_failure}
+use Rattle.luks_reading.specs.Failures.{is_check_failure, is_open_failure, is_read_failure}
 use Rattle.luks_reading.specs.declared.check_fault.CheckFault.{CheckFault}
 use Rattle.luks_reading.specs.declared.check_fault.CheckFault.TheVariants as checking
 use Rattle.luks_reading.specs.declared.open_fault.OpenFault.{OpenFault}
 use Rattle.luks_reading.specs.declared.open_fault.OpenFault.TheVariants as opening
+use Rattle.luks_reading.specs.declared.read_fault.ReadFault.{ReadFault}
+use Rattle.luks_reading.specs.declared.read_fault.ReadFault.TheVariants as reading
 use Rattle.luks_edit.specs.EditFaults.{is_edit_failure}
 use Rattle.luks_edit.specs.declared.edit_fault.EditFault.{EditFault}
 use Rattle.luks_edit.specs.declared.edit_fault.EditFault.TheVariants as edit
@@ -21,7 +23,7 @@ use Rattle.luks_formatting.specs.FormatFaults.{is_device_fault}
 use Rattle.luks_formatting.specs.declared.format_fault.FormatFault.{FormatFault}
 use Rattle.luks_formatting.specs.declared.format_fault.FormatFault.TheVariants as format
 use Rattle.luks_reading.specs.FaultTexts.{check_fault_text}
-use Rattle.luks_c.specs.Numbers.{check_number, edit_number, fault_number, format_number, number_printed, open_number}
+use Rattle.luks_c.specs.Numbers.{check_number, edit_number, fault_number, format_number, number_printed, open_number, read_number}
 
 -- that of a fault is 1 to 50
 fault_number_range : (f : Fault) → (1 ≤ fault_number f) × (fault_number f ≤ 50)
@@ -52,6 +54,20 @@ check_number_other (checking.Meta f) own = λ e. let high = (number_printed_rang
 check_number_other (checking.Area f) own = λ e. let high = (number_printed_range (area_fault_text f)).1 in absurd (omega (arith, high, e))
 check_number_other checking.Device own = absurd (true≢false own)
 check_number_other checking.Memory own = λ e. absurd (omega (arith, e))
+
+-- what keeps a header from being read has a number of 1 to 103
+pub read_number_range : (f : ReadFault) → (1 ≤ read_number f) × (read_number f ≤ 103)
+read_number_range (reading.Head f) = let r = number_printed_range (head_fault_text f) in (r.0, let high = r.1 in omega (arith, high))
+read_number_range (reading.Meta f) = let r = number_printed_range (meta_fault_text f) in (r.0, let high = r.1 in omega (arith, high))
+read_number_range reading.Device = (omega arith, omega arith)
+read_number_range reading.Memory = (omega arith, omega arith)
+
+-- none but the device's asks for more bytes
+pub read_number_other : (f : ReadFault) → is_read_failure f ≡ false → read_number f ≢ 102
+read_number_other (reading.Head f) own = λ e. let high = (number_printed_range (head_fault_text f)).1 in absurd (omega (arith, high, e))
+read_number_other (reading.Meta f) own = λ e. let high = (number_printed_range (meta_fault_text f)).1 in absurd (omega (arith, high, e))
+read_number_other reading.Device own = absurd (true≢false own)
+read_number_other reading.Memory own = λ e. absurd (omega (arith, e))
 
 -- what refuses a passphrase has a number of 1 to 103
 pub open_number_range : (f : OpenFault) → (1 ≤ open_number f) × (open_number f ≤ 103)
@@ -100,10 +116,12 @@ edit_number_memory f other = λ is. other (ap edit_number is)
 
 -- what refuses a format has a number of 1 to 103
 pub format_number_range : (f : FormatFault) → (1 ≤ format_number f) × (format_number f ≤ 103)
+format_number_range format.TooSmall = (omega arith, omega arith)
 format_number_range f = (omega arith, omega arith)
 
 -- and isn't 101
 pub format_number_usage : (f : FormatFault) → format_number f ≢ 101
+format_number_usage format.TooSmall = λ e. absurd (omega (arith, e))
 format_number_usage f = λ e. absurd (omega (arith, e))
 
 -- none but the device's asks for more bytes

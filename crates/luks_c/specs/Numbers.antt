@@ -10,6 +10,8 @@ use Rattle.luks_reading.specs.declared.check_fault.CheckFault.{CheckFault}
 use Rattle.luks_reading.specs.declared.check_fault.CheckFault.TheVariants as checking
 use Rattle.luks_reading.specs.declared.open_fault.OpenFault.{OpenFault}
 use Rattle.luks_reading.specs.declared.open_fault.OpenFault.TheVariants as opening
+use Rattle.luks_reading.specs.declared.read_fault.ReadFault.{ReadFault}
+use Rattle.luks_reading.specs.declared.read_fault.ReadFault.TheVariants as reading
 use Rattle.luks_edit.specs.declared.edit_fault.EditFault.{EditFault}
 use Rattle.luks_edit.specs.declared.edit_fault.EditFault.TheVariants as edit
 use Rattle.luks_formatting.specs.declared.format_fault.FormatFault.{FormatFault}
@@ -86,6 +88,13 @@ check_number (checking.Meta f) = number_printed (meta_fault_text f)
 check_number (checking.Area f) = number_printed (area_fault_text f)
 check_number checking.Device = 102
 check_number checking.Memory = 103
+
+-- of what reading the header answers in place of one
+abbrev pub read_number : ReadFault → ℕ
+read_number (reading.Head f) = number_printed (head_fault_text f)
+read_number (reading.Meta f) = number_printed (meta_fault_text f)
+read_number reading.Device = 102
+read_number reading.Memory = 103
 
 -- of what opening a keyslot answers in place of a key
 abbrev pub open_number : OpenFault → ℕ

@@ -7,14 +7,14 @@ use Rattle.luks1_header.specs.Faults.{head_key, IsLuks1Fault}
 use Rattle.luks1_header.specs.Header1.{IsLuks1}
 use Rattle.luks_head.specs.Selection.{luks1, Chosen}
 use Rattle.luks_reading.specs.declared.read_fault.ReadFault.{ReadFault}
-use Rattle.luks_reading.specs.Conversions.{head_unread, unread_checked}
+use Rattle.luks_reading.specs.Conversions.{head_unread}
 use Rattle.luks_reading.specs.Header.{IsChosenCopy, IsUnread}
 use Rattle.luks_show.specs.declared.listing.Listing.{Listing}
 use Rattle.luks_show.specs.declared.listing.Listing.TheVariants.{Luks1, Luks2}
 use Rattle.luks_show_json.specs.JsonText.{IsJsonText}
 use Rattle.luks_c.specs.declared.reading.LuksRead.{LuksRead}
 use Rattle.luks_c.specs.Buffers.{filled}
-use Rattle.luks_c.specs.Numbers.{check_number}
+use Rattle.luks_c.specs.Numbers.{read_number}
 
 -- what the header says that counts of the volume `v`
 abbrev pub IsListing : List ℕ → Listing → Type 0
@@ -37,14 +37,14 @@ IsJsonGiven listing old new told number = IsTextGiven listing old new told numbe
 pub record IsUnreadBy (v : List ℕ) (number : ℕ) : Type 0 where
   pub fault : ReadFault
   pub unread : IsUnread v fault
-  pub is : number ≡ check_number (unread_checked fault)
+  pub is : number ≡ read_number fault
 
 -- it is a header of LUKS1, and its first fault has this number
 pub record IsFaulty1 (v : List ℕ) (number : ℕ) : Type 0 where
   pub chosen : Chosen v luks1
   pub fault : HeadFault
   pub first : IsLeast head_key (IsLuks1Fault (part v 0 592)) fault
-  pub is : number ≡ check_number (unread_checked (head_unread fault))
+  pub is : number ≡ read_number (head_unread fault)
 
 -- the header is told
 pub record IsListed (v old new : List ℕ) (told : LuksRead) (number : ℕ) : Type 0 where

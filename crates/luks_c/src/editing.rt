@@ -7,9 +7,9 @@ ghost use Rattle.luks_c.specs.EditAsked.{IsMaybeSlot, IsUnasked};
 use crate::asking::{LuksEdit, NO_SLOT, edit_of};
 use crate::checking::data_of;
 use crate::numbers::{MEMORY, USAGE, edit_number};
-use crate::plans::{LuksPlan, give_plan, tell_reach};
+use crate::plans::{LuksPlan, give_plan, planned_writes, tell_reach};
 use luks_given::Given;
-use luks_planned::{PlannedCall, PlannedWrites};
+use luks_planned::PlannedCall;
 use luks_volume::{Data, Edit, EditFault, apply};
 use std::alloc::Global;
 use std::marker::Brand;
@@ -64,6 +64,7 @@ pub extern "C" fn luks_apply_bytes(
 }
 
 /// The same where not more bytes are given than there are, of this edit.
+#[tactic(auto, using(crate::proofs::PlanFacts::edit_planned, crate::proofs::PlanFacts::edit_refused, crate::proofs::PlanFacts::edit_unplanned))]
 fn apply_given<K: Given>(
     alloc: Global,
     first: &[u8],
@@ -84,11 +85,9 @@ fn apply_given<K: Given>(
     ensures more { result ≡ 102 → length first.now < told.new.beyond }
     ensures inside { result ≡ 102 → told.new.beyond ≤ total }
 {
-    let mut copied = Vec::new(alloc);
-    if copied.extend_from_slice(first).is_err() {
+    let Ok(mut device) = planned_writes::<K>(alloc, first, total) else {
         return MEMORY;
-    }
-    let mut device: PlannedWrites<K> = PlannedWrites::new(alloc, copied, total);
+    };
     match apply(alloc, &mut device, data_, edit, random) {
         Ok(done) => {
             told.slot = number_of_slot(done.slot);

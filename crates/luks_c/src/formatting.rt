@@ -7,9 +7,9 @@ ghost use Rattle.luks_c.specs.FormatAnswers.{AnswersFormat1, AnswersFormat2, Ans
 
 use crate::checking::data_of;
 use crate::numbers::{MEMORY, USAGE, format_number};
-use crate::plans::{LuksPlan, give_plan, tell_reach};
+use crate::plans::{LuksPlan, give_plan, planned_writes, tell_reach};
 use luks_given::Given;
-use luks_planned::{PlannedCall, PlannedWrites};
+use luks_planned::PlannedCall;
 use luks_volume::{Data, Format, FormatFault, HashName, format1, format2};
 use std::alloc::Global;
 use std::marker::Brand;
@@ -93,6 +93,7 @@ pub extern "C" fn luks_format2_bytes(
 }
 
 /// The LUKS1 volume, where not more bytes are given than there are.
+#[tactic(auto, using(crate::proofs::PlanFacts::format_planned))]
 fn make1<K: Given>(
     alloc: Global,
     first: &[u8],
@@ -115,11 +116,9 @@ fn make1<K: Given>(
     ensures more { result ≡ 102 → length first.now < told.new.beyond }
     ensures inside { result ≡ 102 → told.new.beyond ≤ total }
 {
-    let mut copied = Vec::new(alloc);
-    if copied.extend_from_slice(first).is_err() {
+    let Ok(mut device) = planned_writes::<K>(alloc, first, total) else {
         return MEMORY;
-    }
-    let mut device: PlannedWrites<K> = PlannedWrites::new(alloc, copied, total);
+    };
     match format1(&mut device, data_, format, passphrase, random) {
         Ok(_) => give_plan(&device, calls, bytes, told),
         Err(FormatFault::Device) => tell_reach(&device, told),
@@ -128,6 +127,7 @@ fn make1<K: Given>(
 }
 
 /// The LUKS2 volume.
+#[tactic(auto, using(crate::proofs::PlanFacts::format_planned))]
 fn make2<K: Given>(
     alloc: Global,
     first: &[u8],
@@ -150,11 +150,9 @@ fn make2<K: Given>(
     ensures more { result ≡ 102 → length first.now < told.new.beyond }
     ensures inside { result ≡ 102 → told.new.beyond ≤ total }
 {
-    let mut copied = Vec::new(alloc);
-    if copied.extend_from_slice(first).is_err() {
+    let Ok(mut device) = planned_writes::<K>(alloc, first, total) else {
         return MEMORY;
-    }
-    let mut device: PlannedWrites<K> = PlannedWrites::new(alloc, copied, total);
+    };
     match format2(alloc, &mut device, data_, format, passphrase, random) {
         Ok(_) => give_plan(&device, calls, bytes, told),
         Err(FormatFault::Device) => tell_reach(&device, told),

@@ -1,7 +1,7 @@
 //! The numbers by which the calls answer. `luks.h` lists them; a number stays its own in each later
 //! version.
 ghost use Rattle.std.specs.Prelude.{◌≡◌};
-ghost use Rattle.luks_c.specs.Numbers.{check_number, edit_number, fault_number, fault_numbered, format_number, number_printed, open_number};
+ghost use Rattle.luks_c.specs.Numbers.{check_number, edit_number, fault_number, fault_numbered, format_number, number_printed, open_number, read_number};
 ghost use Rattle.luks_area.specs.Printed.{area_fault_text};
 ghost use Rattle.luks1_header.specs.FaultTexts.{fault_text as head_fault_text};
 ghost use Rattle.luks_rules.specs.MetaFault.{fault_text as meta_fault_text};
@@ -11,7 +11,7 @@ ghost use Rattle.luks_slot.specs.Fault.{fault_text as slot_fault_text};
 use luks_edit::EditFault;
 use luks_explain::Fault;
 use luks_formatting::FormatFault;
-use luks_reading::{AreaFault, CheckFault, HeadFault, MetaFault, OpenFault};
+use luks_reading::{AreaFault, CheckFault, HeadFault, MetaFault, OpenFault, ReadFault};
 use luks_slot::SlotFault;
 
 /// Done: the volume is accepted, the keyslot opens, the text or the plan is given.
@@ -114,6 +114,18 @@ pub(crate) fn check_number(fault: &CheckFault) -> u32
         CheckFault::Area(fault) => area_number(fault),
         CheckFault::Device => BEYOND,
         CheckFault::Memory => MEMORY,
+    }
+}
+
+/// The number of what reading the header answers in place of one.
+pub(crate) fn read_number(fault: &ReadFault) -> u32
+    ensures { result ≡ read_number fault.now }
+{
+    match fault {
+        ReadFault::Head(fault) => head_number(fault),
+        ReadFault::Meta(fault) => meta_number(fault),
+        ReadFault::Device => BEYOND,
+        ReadFault::Memory => MEMORY,
     }
 }
 

@@ -1,6 +1,8 @@
 //! The plan of a call that writes, in the caller's buffers.
-ghost use Rattle.std.specs.Prelude.{◌≡◌, ◌≤◌, ◌≢◌, ◌<◌, ◌⊎◌, length};
-ghost use Rattle.luks_planned.specs.Planned.{planned_calls, planned_failures, planned_first, planned_size, planned_written};
+ghost use Rattle.std.specs.Prelude.{◌≡◌, ◌≤◌, ◌≢◌, ◌<◌, ◌⊎◌, length, IfOk};
+ghost use Rattle.luks_area.specs.Device.{IsSettled};
+ghost use Rattle.luks_given.specs.Volume.{volume};
+ghost use Rattle.luks_planned.specs.Planned.{planned_bytes, planned_calls, planned_failures, planned_first, planned_size, planned_unsettled, planned_written};
 ghost use Rattle.luks_c.specs.Buffers.{filled};
 ghost use Rattle.luks_c.specs.Plans.{IsPlan, IsPlanGiven};
 
@@ -8,6 +10,7 @@ use crate::buffers::fill_front;
 use crate::numbers::{BEYOND, DONE, MEMORY, ROOM};
 use luks_given::Given;
 use luks_planned::{PlannedCall, PlannedWrites};
+use std::alloc::{AllocError, Global};
 
 /// What a call tells that writes.
 #[repr(C)]
@@ -21,6 +24,24 @@ pub struct LuksPlan {
     pub beyond: u64,
     /// The keyslot that is made or sealed again; 2^32 - 1 where none is.
     pub slot: u32,
+}
+
+/// The volume of `total` bytes that begins with these, over a copy of them, with an empty plan.
+pub(crate) fn planned_writes<K: Given>(
+    alloc: Global,
+    first: &[u8],
+    total: u64,
+) -> Result<PlannedWrites<K>, AllocError>
+    requires within { length first.now ≤ total }
+    requires given { K.bytes ≡ first.now }
+    ensures bytes { IfOk result (λ device. planned_bytes device ≡ volume first.now total) }
+    ensures size { IfOk result (λ device. planned_size device ≡ total) }
+    ensures failures { IfOk result (λ device. planned_failures device ≡ 0) }
+    ensures settled { IfOk result (IsSettled planned_unsettled) }
+{
+    let mut copied = Vec::new(alloc);
+    copied.extend_from_slice(first)?;
+    Ok(PlannedWrites::new(alloc, copied, total))
 }
 
 /// Gives the plan, where both buffers have room for it.

@@ -5,9 +5,9 @@ ghost use Rattle.luks_reading.specs.Header.{IsHeader};
 ghost use Rattle.luks_c.specs.ReadAnswers.{AnswersRead, IsJsonGiven};
 
 use crate::buffers::fill_front;
-use crate::numbers::{BEYOND, DONE, MEMORY, ROOM, USAGE, check_number};
+use crate::numbers::{BEYOND, DONE, MEMORY, ROOM, USAGE, read_number};
 use luks_given::{FirstBytes, Given};
-use luks_reading::{CheckFault, Header, Luks1, ReadFault, read_header};
+use luks_reading::{Header, Luks1, ReadFault, read_header};
 use luks_show::Listing;
 use luks_show_json::json_text;
 use std::alloc::Global;
@@ -69,7 +69,7 @@ fn read_given<K: Given>(
             told.beyond = device.reached();
             BEYOND
         }
-        Err(fault) => check_number(&CheckFault::from(fault)),
+        Err(fault) => read_number(&fault),
     }
 }
 
@@ -82,7 +82,7 @@ fn give_header(alloc: Global, header: Header, json: &mut [u8], told: &mut LuksRe
     match header {
         Header::Luks1(bytes) => match Luks1::read(&bytes) {
             Ok(read) => give_json(alloc, &Listing::Luks1(read), json, told),
-            Err(fault) => check_number(&CheckFault::from(fault)),
+            Err(fault) => read_number(&ReadFault::from(fault)),
         },
         Header::Luks2(copy) => give_json(alloc, &Listing::Luks2(copy), json, told),
     }
