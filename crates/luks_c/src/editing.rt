@@ -1,5 +1,9 @@
 //! Edits of a volume.
-ghost use Rattle.std.specs.Prelude.{◌≡◌, ◌≢◌, ◌⊎◌, ◌↔◌, ◌≤◌, ◌<◌, length, Option};
+ghost use Rattle.std.specs.Prelude.{◌≡◌, ◌≢◌, ◌⊎◌, ◌↔◌, ◌≤◌, ◌<◌, length, Ok, Option};
+ghost use Rattle.luks_area.specs.Device.{IsSettled};
+ghost use Rattle.luks_given.specs.Volume.{volume};
+ghost use Rattle.luks_planned.specs.Planned.{planned_bytes, planned_size, planned_unsettled};
+ghost use Rattle.luks_volume.specs.Outcome.{IsApplied};
 ghost use Rattle.luks_c.specs.Asked.{payload_of};
 ghost use Rattle.luks_c.specs.EditAnswers.{AnswersAsked, AnswersEdit};
 ghost use Rattle.luks_c.specs.EditAsked.{IsMaybeSlot, IsUnasked};
@@ -9,8 +13,8 @@ use crate::checking::data_of;
 use crate::numbers::{MEMORY, USAGE, edit_number};
 use crate::plans::{LuksPlan, give_plan, planned_writes, tell_reach};
 use luks_given::Given;
-use luks_planned::PlannedCall;
-use luks_volume::{Data, Edit, EditFault, apply};
+use luks_planned::{PlannedCall, PlannedWrites};
+use luks_volume::{Data, Done, Edit, EditFault, apply};
 use std::alloc::Global;
 use std::marker::Brand;
 
@@ -64,7 +68,7 @@ pub extern "C" fn luks_apply_bytes(
 }
 
 /// The same where not more bytes are given than there are, of this edit.
-#[tactic(auto, using(crate::proofs::PlanFacts::edit_planned, crate::proofs::PlanFacts::edit_refused, crate::proofs::PlanFacts::edit_unplanned))]
+#[tactic(auto, using(crate::proofs::PlanFacts::edit_refused, crate::proofs::PlanFacts::edit_unplanned))]
 fn apply_given<K: Given>(
     alloc: Global,
     first: &[u8],
@@ -89,13 +93,39 @@ fn apply_given<K: Given>(
         return MEMORY;
     };
     match apply(alloc, &mut device, data_, edit, random) {
-        Ok(done) => {
-            told.slot = number_of_slot(done.slot);
-            give_plan(&device, calls, bytes, told)
-        }
+        Ok(done) => give_edited(
+            first, total, data_, edit, random, done, &device, calls, bytes, told,
+        ),
         Err(EditFault::Device) => tell_reach(&device, told),
         Err(fault) => edit_number(&fault),
     }
+}
+
+/// Gives the plan of an edit that was done over the device.
+fn give_edited<K: Given>(
+    first: &[u8],
+    total: u64,
+    data_: Data,
+    edit: &Edit<'_>,
+    random: &[u8],
+    done: Done,
+    device: &PlannedWrites<K>,
+    calls: &mut [PlannedCall],
+    bytes: &mut [u8],
+    told: &mut LuksPlan,
+) -> u32
+    requires given { K.bytes ≡ first.now }
+    requires size { planned_size device.now ≡ total }
+    requires settled { IsSettled planned_unsettled device.now }
+    requires applied { IsApplied data_ (volume first.now total) edit.now random.now (Ok done)
+        (planned_bytes device.now) }
+    ensures answers { AnswersEdit first.now total data_ edit.now random.now
+        (record { calls = calls.old; bytes = bytes.old })
+        (record { calls = calls.new; bytes = bytes.new }) told.new result }
+    ensures given { (result ≡ 0) ⊎ (result ≡ 106) }
+{
+    told.slot = number_of_slot(done.slot);
+    give_plan(device, calls, bytes, told)
 }
 
 /// The number of a keyslot, or of none.

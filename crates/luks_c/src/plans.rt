@@ -56,6 +56,7 @@ pub(crate) fn give_plan<K: Given>(
     ensures calls { told.new.calls ≡ length (planned_calls device.now) }
     ensures bytes { told.new.bytes ≡ length (planned_written device.now) }
     ensures slot { told.new.slot ≡ told.old.slot }
+    ensures answers { (result ≡ 0) ⊎ (result ≡ 106) }
     ensures given { IsPlanGiven (planned_calls device.now) (planned_written device.now)
         (record { calls = calls.old; bytes = bytes.old })
         (record { calls = calls.new; bytes = bytes.new }) result }
