@@ -50,9 +50,7 @@ pub extern "C" fn luks_needed_bytes(
         return USAGE;
     }
     match edit_of(asked, passphrase, text) {
-        Ok(edit) => {
-            need_given::<Brand>(alloc, first, total, data_of(is_detached), &edit, told)
-        }
+        Ok(edit) => { need_given::<Brand>(alloc, first, total, data_of(is_detached), &edit, told) }
         Err(_) => USAGE,
     }
 }
