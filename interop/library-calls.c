@@ -103,6 +103,118 @@ static int check_bytes(int fd, uint64_t offset, uint64_t length, bool is_detache
     return 1;
 }
 
+/* The listing into a buffer of this room. */
+static int shows(int fd, uint64_t offset, uint64_t length, size_t room)
+{
+    char *json = malloc(room ? room : 1);
+    uint64_t bytes = 0;
+    uint32_t answer = luks_read(fd, offset, length, room ? json : NULL, room, &bytes);
+    int status = 0;
+    if (answer == LUKS_DONE)
+        printf("%.*s\n", (int)bytes, json);
+    else
+        status = told(answer);
+    if (answer == LUKS_ROOM)
+        printf("bytes %ju\n", (uintmax_t)bytes);
+    free(json);
+    return status;
+}
+
+/* A file's bytes, in a block of just their number, where it has any. */
+static uint8_t *file_of(const char *name, size_t most, size_t *bytes)
+{
+    uint8_t *words = malloc(most);
+    FILE *from = fopen(name, "rb");
+    *bytes = fread(words, 1, most, from);
+    fclose(from);
+    if (*bytes == 0) {
+        free(words);
+        return NULL;
+    }
+    return realloc(words, *bytes);
+}
+
+static uint32_t number(const char *word)
+{
+    return strcmp(word, "none") == 0 ? LUKS_NO_SLOT : (uint32_t)strtoul(word, NULL, 10);
+}
+
+static int done(uint32_t answer, uint32_t slot)
+{
+    if (answer != LUKS_DONE)
+        return told(answer);
+    if (slot == LUKS_NO_SLOT)
+        puts("done");
+    else
+        printf("done slot %u\n", slot);
+    return 0;
+}
+
+/* An edit: KIND SLOT BY TO ITERATIONS MIB PASSPHRASE TEXT RANDOM PLACE; RANDOM is a file, or `system`. */
+static int edits(int fd, uint64_t offset, uint64_t length, char **words)
+{
+    struct luks_edit edit = {.kind = number(words[0]), .slot = number(words[1]), .by = number(words[2]), .to = number(words[3]),
+                             .iterations = number(words[4]), .memory = number(words[5]) * 1024};
+    size_t old_bytes, text_bytes, random_bytes = 0;
+    bool is_detached = strcmp(words[9], "detached") == 0;
+    uint8_t *old = file_of(words[6], 65537, &old_bytes), *text = file_of(words[7], 65537, &text_bytes), *random = NULL;
+    uint32_t slot = LUKS_NO_SLOT, answer = LUKS_DONE;
+    if (strcmp(words[8], "system") != 0) {
+        uint64_t needed = 0;
+        answer = luks_needed(fd, offset, length, is_detached, &edit, old, old_bytes, text, text_bytes, &needed);
+        if (answer == LUKS_DONE)
+            random = file_of(words[8], (size_t)needed + 1, &random_bytes);
+        random_bytes = random_bytes > needed ? (size_t)needed : random_bytes;
+    }
+    if (answer == LUKS_DONE)
+        answer = luks_apply(fd, offset, length, is_detached, &edit, old, old_bytes, text, text_bytes, random, random_bytes, &slot);
+    free(old);
+    free(text);
+    free(random);
+    return done(answer, slot);
+}
+
+/* The same by the calls that are named for it, with random bytes of the system. */
+static int edits_by_name(int fd, uint64_t offset, uint64_t length, char **words)
+{
+    uint32_t kind = number(words[0]), slot = number(words[1]), by = number(words[2]), iterations = number(words[4]), memory = number(words[5]) * 1024;
+    size_t old_bytes, text_bytes;
+    bool is_detached = strcmp(words[9], "detached") == 0;
+    uint8_t *old = file_of(words[6], 65537, &old_bytes), *text = file_of(words[7], 65537, &text_bytes);
+    uint32_t made = LUKS_NO_SLOT, answer = LUKS_USAGE;
+    if (kind == LUKS_ADD)
+        answer = luks_add(fd, offset, length, is_detached, by, old, old_bytes, text, text_bytes, number(words[3]), iterations, memory, &made);
+    else if (kind == LUKS_CHANGE)
+        answer = luks_change(fd, offset, length, is_detached, slot, old, old_bytes, text, text_bytes, iterations, memory, &made);
+    else if (kind == LUKS_REMOVE)
+        answer = luks_remove(fd, offset, length, is_detached, slot, by, old, old_bytes, memory);
+    else if (kind == LUKS_REPAIR)
+        answer = luks_repair(fd, offset, length, is_detached);
+    else if (kind == LUKS_LABEL)
+        answer = luks_label(fd, offset, length, is_detached, (const char *)text, text_bytes);
+    free(old);
+    free(text);
+    return done(answer, made);
+}
+
+/* A new volume: VERSION HASH ITERATIONS PASSPHRASE RANDOM PLACE. */
+static int formats(int fd, uint64_t offset, uint64_t length, char **words)
+{
+    static const char *const HASHES[] = {"", "sha1", "sha256", "sha512"};
+    size_t old_bytes, random_bytes = 0;
+    bool is_first = strcmp(words[0], "1") == 0, is_detached = strcmp(words[5], "detached") == 0;
+    uint8_t *old = file_of(words[3], 65537, &old_bytes), *random = NULL;
+    uint32_t hash = 0;
+    while (hash < 4 && strcmp(HASHES[hash], words[1]) != 0)
+        hash++;
+    if (strcmp(words[4], "system") != 0)
+        random = file_of(words[4], is_first ? 256080 : 256208, &random_bytes);
+    uint32_t answer = (is_first ? luks_format1 : luks_format2)(fd, offset, length, is_detached, hash, number(words[2]), old, old_bytes, random, random_bytes);
+    free(old);
+    free(random);
+    return done(answer, 0);
+}
+
 /* What a caller gets wrong. */
 static int wrong(int fd)
 {
@@ -179,7 +291,8 @@ int main(int count, char **words)
         return threads(words[2], words[3]);
     if (count < 5)
         return 2;
-    int fd = strcmp(words[2], "-") == 0 ? 0 : strcmp(words[2], "closed") == 0 ? 1000 : open(words[2], O_RDONLY);
+    bool is_written = strncmp(words[1], "edit", 4) == 0 || strcmp(words[1], "format") == 0;
+    int fd = strcmp(words[2], "-") == 0 ? 0 : strcmp(words[2], "closed") == 0 ? 1000 : open(words[2], is_written ? O_RDWR : O_RDONLY);
     uint64_t offset = strtoull(words[3], NULL, 10), length = strcmp(words[4], "all") == 0 ? LUKS_TO_END : strtoull(words[4], NULL, 10);
     lseek(fd, 7, SEEK_SET);
     off_t place = lseek(fd, 0, SEEK_CUR);
@@ -190,6 +303,14 @@ int main(int count, char **words)
         status = opens(fd, offset, length, words[5], words[6], words[7], count > 8 ? words[8] : NULL);
     else if (strcmp(words[1], "check-bytes") == 0 && count == 6)
         return check_bytes(fd, offset, length, strcmp(words[5], "detached") == 0);
+    else if (strcmp(words[1], "read") == 0 && count == 6)
+        status = shows(fd, offset, length, strtoul(words[5], NULL, 10));
+    else if (strcmp(words[1], "edit") == 0 && count == 15)
+        status = edits(fd, offset, length, words + 5);
+    else if (strcmp(words[1], "edit-by-name") == 0 && count == 15)
+        status = edits_by_name(fd, offset, length, words + 5);
+    else if (strcmp(words[1], "format") == 0 && count == 11)
+        status = formats(fd, offset, length, words + 5);
     else if (strcmp(words[1], "wrong") == 0)
         status = wrong(fd);
     if (lseek(fd, 0, SEEK_CUR) != place)

@@ -8,6 +8,7 @@
 #include <stdlib.h>
 #include <string.h>
 #include <sys/ioctl.h>
+#include <sys/random.h>
 #include <sys/stat.h>
 #include <unistd.h>
 
@@ -125,6 +126,26 @@ uint32_t luks_check(int fd, uint64_t offset, uint64_t length, bool is_detached, 
     return answer;
 }
 
+uint32_t luks_read(int fd, uint64_t offset, uint64_t length, char *json, size_t json_room, uint64_t *json_bytes)
+{
+    char nowhere = 0;
+    struct luks_read read;
+    struct held held;
+    if (json_bytes == NULL || (json == NULL && json_room > 0))
+        return LUKS_USAGE;
+    *json_bytes = 0;
+    uint32_t answer = begin(&held, fd, offset, length, HEADS);
+    if (answer == LUKS_DONE)
+        do {
+            answer = luks_read_bytes(held.bytes, held.count, held.total, (uint8_t *)(json != NULL ? json : &nowhere), json_room, &read);
+            *json_bytes = read.json_bytes;
+            if (answer == LUKS_BEYOND)
+                answer = hold_more(&held, read.beyond);
+        } while (answer == LUKS_BEYOND);
+    end(&held);
+    return answer;
+}
+
 /* What is asked of a passphrase: the keyslot `n`, or of any where it is -1. */
 static uint32_t open_one(int fd, uint64_t offset, uint64_t length, int n, const void *passphrase, size_t passphrase_bytes, uint32_t memory,
                          void *key, size_t key_room, struct luks_opened *opened)
@@ -160,4 +181,303 @@ uint32_t luks_open(int fd, uint64_t offset, uint64_t length, uint8_t n, const vo
                    void *key, size_t key_room, struct luks_opened *opened)
 {
     return open_one(fd, offset, length, n, passphrase, passphrase_bytes, memory, key, key_room, opened);
+}
+
+/* ---- calls that write ---- */
+
+/* The room for a plan at first: more than any edit of a volume as cryptsetup makes it takes. What isn't touched costs nothing. */
+#define CALLS_ROOM ((size_t)1 << 16)
+#define BYTES_ROOM ((size_t)1 << 25)
+
+/* How many of the first bytes are compared before the first write. */
+#define COMPARED ((uint64_t)1 << 15)
+
+struct room {
+    struct luks_call *calls;
+    uint8_t *bytes;
+    size_t calls_room, bytes_room;
+};
+
+/* What is asked of a volume that is written: an edit, or a new volume by `version`. */
+struct asked {
+    bool is_detached;
+    const struct luks_edit *edit;
+    uint32_t version, hash, iterations;
+    const uint8_t *passphrase, *text, *random;
+    size_t passphrase_bytes, text_bytes, random_bytes;
+};
+
+static bool take_room(struct room *room, uint64_t calls, uint64_t bytes)
+{
+    if (calls > SIZE_MAX / sizeof *room->calls || bytes > SIZE_MAX)
+        return false;
+    free(room->calls);
+    free(room->bytes);
+    room->calls_room = (size_t)calls;
+    room->bytes_room = (size_t)bytes;
+    room->calls = malloc(room->calls_room * sizeof *room->calls);
+    room->bytes = malloc(room->bytes_room);
+    return room->calls != NULL && room->bytes != NULL;
+}
+
+static void give_room(struct room *room)
+{
+    int kept = errno;
+    free(room->calls);
+    free(room->bytes);
+    errno = kept;
+}
+
+/* Writes so many bytes from the place on. A short write is gone on with. */
+static int write_all(int fd, const uint8_t *from, size_t count, uint64_t at)
+{
+    while (count > 0) {
+        ssize_t put = pwrite(fd, from, count, (off_t)at);
+        if (put < 0 && errno == EINTR)
+            continue;
+        if (put <= 0) {
+            if (put == 0)
+                errno = EIO;
+            return -1;
+        }
+        from += put;
+        count -= (size_t)put;
+        at += (uint64_t)put;
+    }
+    return 0;
+}
+
+static int flush(int fd)
+{
+    int answer;
+    do
+        answer = fsync(fd);
+    while (answer != 0 && errno == EINTR);
+    return answer;
+}
+
+/* Whether the first bytes that were read stand there still; a program without a lock may have written. */
+static int is_as_read(const struct held *held)
+{
+    uint8_t again[4096];
+    uint64_t count = least(held->count, COMPARED);
+    for (uint64_t at = 0; at < count; at += sizeof again) {
+        size_t some = (size_t)least(sizeof again, count - at);
+        if (read_all(held->fd, again, some, held->start + at) != 0)
+            return -1;
+        if (memcmp(again, held->bytes + at, some) != 0) {
+            errno = EBUSY;
+            return -1;
+        }
+    }
+    return 0;
+}
+
+/* Plays the plan, call by call; after a failure nothing more is written. */
+static uint32_t play(const struct held *held, const struct room *room, const struct luks_plan *plan)
+{
+    const uint8_t *next = room->bytes;
+    if (is_as_read(held) != 0)
+        return LUKS_DEVICE;
+    for (uint64_t i = 0; i < plan->calls; i++) {
+        const struct luks_call *call = &room->calls[i];
+        if (call->len == 0 ? flush(held->fd) != 0 : write_all(held->fd, next, (size_t)call->len, held->start + call->at) != 0)
+            return LUKS_DEVICE;
+        next += call->len;
+    }
+    return LUKS_DONE;
+}
+
+/* Plans what is asked over the bytes that are held. */
+static uint32_t plan_of(const struct held *held, const struct asked *it, struct room *room, struct luks_plan *plan)
+{
+    if (it->version == 1)
+        return luks_format1_bytes(held->bytes, held->count, held->total, it->is_detached, it->hash, it->iterations, it->passphrase,
+                                  it->passphrase_bytes, it->random, it->random_bytes, room->calls, room->calls_room, room->bytes, room->bytes_room, plan);
+    if (it->version == 2)
+        return luks_format2_bytes(held->bytes, held->count, held->total, it->is_detached, it->hash, it->iterations, it->passphrase,
+                                  it->passphrase_bytes, it->random, it->random_bytes, room->calls, room->calls_room, room->bytes, room->bytes_room, plan);
+    return luks_apply_bytes(held->bytes, held->count, held->total, it->is_detached, it->edit, it->passphrase, it->passphrase_bytes, it->text,
+                            it->text_bytes, it->random, it->random_bytes, room->calls, room->calls_room, room->bytes, room->bytes_room, plan);
+}
+
+/* Plans it, with as many bytes held and as much room as it takes, and plays the plan. */
+static uint32_t carry_out(struct held *held, const struct asked *it, uint32_t *slot)
+{
+    struct room room = {0};
+    struct luks_plan plan;
+    uint32_t answer = take_room(&room, CALLS_ROOM, BYTES_ROOM) ? LUKS_BEYOND : LUKS_MEMORY;
+    while (answer == LUKS_BEYOND || answer == LUKS_ROOM) {
+        answer = plan_of(held, it, &room, &plan);
+        if (answer == LUKS_BEYOND)
+            answer = hold_more(held, plan.beyond);
+        else if (answer == LUKS_ROOM && !take_room(&room, plan.calls, plan.bytes))
+            answer = LUKS_MEMORY;
+    }
+    if (answer == LUKS_DONE)
+        answer = play(held, &room, &plan);
+    if (answer == LUKS_DONE && slot != NULL)
+        *slot = plan.slot;
+    give_room(&room);
+    return answer;
+}
+
+/* Bytes of the system that nobody can guess. */
+static int take_random(uint8_t *into, size_t count)
+{
+    while (count > 0) {
+        ssize_t got = getrandom(into, count, 0);
+        if (got < 0 && errno == EINTR)
+            continue;
+        if (got < 0)
+            return -1;
+        into += got;
+        count -= (size_t)got;
+    }
+    return 0;
+}
+
+/* The same with random bytes of the system, where none are given. */
+static uint32_t carry_out_by_chance(struct held *held, struct asked *it, uint64_t count, uint32_t *slot)
+{
+    if (it->random != NULL)
+        return carry_out(held, it, slot);
+    uint8_t *random = count < SIZE_MAX ? malloc((size_t)count + 1) : NULL;
+    if (random == NULL)
+        return LUKS_MEMORY;
+    it->random = random;
+    it->random_bytes = (size_t)count;
+    uint32_t answer = take_random(random, (size_t)count) == 0 ? carry_out(held, it, slot) : LUKS_DEVICE;
+    int kept = errno;
+    explicit_bzero(random, (size_t)count);
+    free(random);
+    errno = kept;
+    return answer;
+}
+
+/* How many random bytes the edit takes. */
+static uint32_t need(struct held *held, const struct asked *it, uint64_t *count)
+{
+    struct luks_needed needed;
+    uint32_t answer;
+    do {
+        answer = luks_needed_bytes(held->bytes, held->count, held->total, it->is_detached, it->edit, it->passphrase, it->passphrase_bytes,
+                                   it->text, it->text_bytes, &needed);
+        if (answer == LUKS_BEYOND)
+            answer = hold_more(held, needed.beyond);
+    } while (answer == LUKS_BEYOND);
+    *count = needed.random;
+    return answer;
+}
+
+static bool are_given(const void *bytes, size_t count)
+{
+    return bytes != NULL || count == 0;
+}
+
+static const uint8_t *given(const void *bytes)
+{
+    static const uint8_t nothing = 0;
+    return bytes != NULL ? bytes : &nothing;
+}
+
+uint32_t luks_needed(int fd, uint64_t offset, uint64_t length, bool is_detached, const struct luks_edit *edit, const void *passphrase,
+                     size_t passphrase_bytes, const void *text, size_t text_bytes, uint64_t *random_bytes)
+{
+    struct held held;
+    if (edit == NULL || random_bytes == NULL || !are_given(passphrase, passphrase_bytes) || !are_given(text, text_bytes))
+        return LUKS_USAGE;
+    struct asked it = {.is_detached = is_detached, .edit = edit, .passphrase = given(passphrase), .passphrase_bytes = passphrase_bytes,
+                       .text = given(text), .text_bytes = text_bytes};
+    *random_bytes = 0;
+    uint32_t answer = begin(&held, fd, offset, length, HEADS);
+    if (answer == LUKS_DONE)
+        answer = need(&held, &it, random_bytes);
+    end(&held);
+    return answer;
+}
+
+uint32_t luks_apply(int fd, uint64_t offset, uint64_t length, bool is_detached, const struct luks_edit *edit, const void *passphrase,
+                    size_t passphrase_bytes, const void *text, size_t text_bytes, const void *random, size_t random_bytes, uint32_t *slot)
+{
+    struct held held;
+    if (edit == NULL || !are_given(passphrase, passphrase_bytes) || !are_given(text, text_bytes) || !are_given(random, random_bytes))
+        return LUKS_USAGE;
+    struct asked it = {.is_detached = is_detached, .edit = edit, .passphrase = given(passphrase), .passphrase_bytes = passphrase_bytes,
+                       .text = given(text), .text_bytes = text_bytes, .random = random, .random_bytes = random_bytes};
+    uint64_t count = random_bytes;
+    if (flush(fd) != 0)
+        return LUKS_DEVICE;
+    uint32_t answer = begin(&held, fd, offset, length, WITH_KEY_AREAS);
+    if (answer == LUKS_DONE && random == NULL)
+        answer = need(&held, &it, &count);
+    if (answer == LUKS_DONE)
+        answer = carry_out_by_chance(&held, &it, count, slot);
+    end(&held);
+    return answer;
+}
+
+uint32_t luks_add(int fd, uint64_t offset, uint64_t length, bool is_detached, uint32_t by, const void *passphrase, size_t passphrase_bytes,
+                  const void *added, size_t added_bytes, uint32_t to, uint32_t iterations, uint32_t memory, uint32_t *slot)
+{
+    struct luks_edit edit = {.kind = LUKS_ADD, .by = by, .to = to, .iterations = iterations, .memory = memory};
+    return luks_apply(fd, offset, length, is_detached, &edit, passphrase, passphrase_bytes, added, added_bytes, NULL, 0, slot);
+}
+
+uint32_t luks_change(int fd, uint64_t offset, uint64_t length, bool is_detached, uint32_t slot, const void *passphrase, size_t passphrase_bytes,
+                     const void *changed, size_t changed_bytes, uint32_t iterations, uint32_t memory, uint32_t *made)
+{
+    struct luks_edit edit = {.kind = LUKS_CHANGE, .slot = slot, .iterations = iterations, .memory = memory};
+    return luks_apply(fd, offset, length, is_detached, &edit, passphrase, passphrase_bytes, changed, changed_bytes, NULL, 0, made);
+}
+
+uint32_t luks_remove(int fd, uint64_t offset, uint64_t length, bool is_detached, uint32_t slot, uint32_t by, const void *passphrase,
+                     size_t passphrase_bytes, uint32_t memory)
+{
+    struct luks_edit edit = {.kind = LUKS_REMOVE, .slot = slot, .by = by, .memory = memory};
+    return luks_apply(fd, offset, length, is_detached, &edit, passphrase, passphrase_bytes, NULL, 0, NULL, 0, NULL);
+}
+
+uint32_t luks_repair(int fd, uint64_t offset, uint64_t length, bool is_detached)
+{
+    struct luks_edit edit = {.kind = LUKS_REPAIR};
+    return luks_apply(fd, offset, length, is_detached, &edit, NULL, 0, NULL, 0, NULL, 0, NULL);
+}
+
+uint32_t luks_label(int fd, uint64_t offset, uint64_t length, bool is_detached, const char *label, size_t label_bytes)
+{
+    struct luks_edit edit = {.kind = LUKS_LABEL};
+    return luks_apply(fd, offset, length, is_detached, &edit, NULL, 0, label, label_bytes, NULL, 0, NULL);
+}
+
+/* Makes a volume by this version, which takes so many random bytes. */
+static uint32_t format(int fd, uint64_t offset, uint64_t length, struct asked *it, uint64_t count)
+{
+    struct held held;
+    if (!are_given(it->passphrase, it->passphrase_bytes) || !are_given(it->random, it->random_bytes))
+        return LUKS_USAGE;
+    it->passphrase = given(it->passphrase);
+    if (flush(fd) != 0)
+        return LUKS_DEVICE;
+    uint32_t answer = begin(&held, fd, offset, length, HEADS);
+    if (answer == LUKS_DONE)
+        answer = carry_out_by_chance(&held, it, count, NULL);
+    end(&held);
+    return answer;
+}
+
+uint32_t luks_format1(int fd, uint64_t offset, uint64_t length, bool is_detached, uint32_t hash, uint32_t iterations, const void *passphrase,
+                      size_t passphrase_bytes, const void *random, size_t random_bytes)
+{
+    struct asked it = {.version = 1, .is_detached = is_detached, .hash = hash, .iterations = iterations, .passphrase = passphrase,
+                       .passphrase_bytes = passphrase_bytes, .random = random, .random_bytes = random_bytes};
+    return format(fd, offset, length, &it, 256080);
+}
+
+uint32_t luks_format2(int fd, uint64_t offset, uint64_t length, bool is_detached, uint32_t hash, uint32_t iterations, const void *passphrase,
+                      size_t passphrase_bytes, const void *random, size_t random_bytes)
+{
+    struct asked it = {.version = 2, .is_detached = is_detached, .hash = hash, .iterations = iterations, .passphrase = passphrase,
+                       .passphrase_bytes = passphrase_bytes, .random = random, .random_bytes = random_bytes};
+    return format(fd, offset, length, &it, 256208);
 }

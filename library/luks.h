@@ -1,17 +1,21 @@
-/* libluks: what is wrong with the header of a LUKS volume, and what opens it.
+/* libluks: what is wrong with the header of a LUKS volume, what opens it, and edits of its keyslots.
  *
  * Link with -lluks. Two families of calls answer the same:
  *
- *   luks_check, luks_unlock, luks_open                read the volume through a descriptor
+ *   luks_check, luks_read, luks_unlock, luks_open     read the volume through a descriptor
+ *   luks_add, luks_format2 and so on                  write it through one
  *   luks_check_bytes and so on                        are given the volume's first bytes in memory
  *
- * The second family is proved (docs/PROOFS.md); the first reads as many bytes as are needed, by pread,
- * and calls it. Each call answers a number: LUKS_DONE, the number of a fault from 1 to 99, which
- * luks_fault_name and luks_fault_text explain, or one of those below. No call writes, prints, keeps
- * anything after it has returned, or leaves memory for the caller to free. Two threads may call at
- * once, each with arguments of its own.
+ * The last family is proved (docs/PROOFS.md); the others read as many bytes as are needed, by pread,
+ * and call it. A call of it that writes answers a plan of writes and flushes, which those through a
+ * descriptor play: pwrite and fsync in its order. Each call answers a number: LUKS_DONE, the number of
+ * a fault from 1 to 99, which luks_fault_name and luks_fault_text explain, or one of those below. None
+ * prints, keeps anything after it has returned, or leaves memory for the caller to free. Two threads
+ * may call at once, each with arguments of its own and volumes of its own.
  *
- * The caller holds the lock. `luks` takes flock(LOCK_SH) on the volume's file while it reads.
+ * The caller holds the lock, as `luks` does: flock(LOCK_SH) on the volume's file while it is read,
+ * LOCK_EX from before it is read until it was written; of a block device also on the file
+ * /run/cryptsetup/L_MAJOR:MINOR, which cryptsetup locks.
  */
 #ifndef LUKS_H
 #define LUKS_H
@@ -29,13 +33,17 @@ enum {
     LUKS_USAGE = 101,  /* an argument that can't be: a passphrase of 4 GiB, more bytes than the volume has */
     LUKS_BEYOND = 102, /* more of the first bytes have to be given; only from the calls named _bytes */
     LUKS_MEMORY = 103, /* memory was refused */
-    LUKS_DEVICE = 104, /* a call of the descriptor failed, and errno says how; never from those named _bytes */
+    LUKS_DEVICE = 104, /* a call of the descriptor failed, and errno says how; never from those named _bytes. A volume that
+                          was to be written may have been changed in part: as by a power cut, what was left opens (docs/PROOFS.md) */
     LUKS_SHUT = 105,   /* the passphrase opens no keyslot that was tried */
     LUKS_ROOM = 106    /* the caller's buffer is too short */
 };
 
 /* As the length of a window: all that follows. */
 #define LUKS_TO_END UINT64_MAX
+
+/* In the place of a keyslot: none, or any. */
+#define LUKS_NO_SLOT UINT32_MAX
 
 /* What a volume is that is accepted; zeros else, but `beyond`. */
 struct luks_report {
@@ -53,6 +61,45 @@ struct luks_opened {
     uint64_t beyond;    /* with LUKS_BEYOND: how many of the first bytes have to be given */
 };
 
+/* An edit, but for its passphrases and its label. */
+enum { LUKS_ADD = 1, LUKS_CHANGE = 2, LUKS_REMOVE = 3, LUKS_REPAIR = 4, LUKS_LABEL = 5 };
+struct luks_edit {
+    uint32_t kind;       /* which one: the numbers above */
+    uint32_t slot;       /* change, remove: the keyslot */
+    uint32_t by;         /* add: the keyslot that the passphrase opens; remove: the same, LUKS_NO_SLOT where it is `slot` */
+    uint32_t to;         /* add: the new keyslot, LUKS_NO_SLOT for the least that is free */
+    uint32_t iterations; /* add, change: of the new keyslot's derivation by PBKDF2, at least 1000 */
+    uint32_t memory;     /* how many KiB Argon2 may take */
+};
+
+/* The hash of a volume that is made: of the derivation, the splitter and the digest. */
+enum { LUKS_SHA1 = 1, LUKS_SHA256 = 2, LUKS_SHA512 = 3 };
+
+/* A call of a plan: it writes the next `len` of the plan's bytes from the place `at` on, or is a flush, where `len` is 0. */
+struct luks_call {
+    uint64_t at, len;
+};
+
+/* A plan; only of the calls named _bytes. */
+struct luks_plan {
+    uint64_t calls;  /* how many calls it has, also with LUKS_ROOM */
+    uint64_t bytes;  /* how many bytes they write together */
+    uint64_t beyond; /* with LUKS_BEYOND: how many of the first bytes have to be given */
+    uint32_t slot;   /* the keyslot that is made or sealed again, LUKS_NO_SLOT where none is */
+};
+
+/* How many random bytes an edit takes; only of the call named _bytes. */
+struct luks_needed {
+    uint64_t random;
+    uint64_t beyond; /* with LUKS_BEYOND: how many of the first bytes have to be given */
+};
+
+/* What a header says; only of the call named _bytes. */
+struct luks_read {
+    uint64_t json_bytes; /* how many bytes the text has; 0 where there is none */
+    uint64_t beyond;     /* with LUKS_BEYOND: how many of the first bytes have to be given */
+};
+
 /* ---- through a descriptor of a file or a block device, open for reading ----
  *
  * The volume is the `length` bytes from `offset` on, fewer where the file ends; LUKS_TO_END takes all.
@@ -60,6 +107,10 @@ struct luks_opened {
 
 /* Whether it is well formed, with its areas; else its first fault. `is_detached`: its data lies elsewhere. */
 uint32_t luks_check(int fd, uint64_t offset, uint64_t length, bool is_detached, struct luks_report *report);
+
+/* What the header says that counts, as the JSON object of `luks show --json`, without a 0 or a newline
+ * behind it; `json_bytes` tells how many bytes it has, also with LUKS_ROOM. */
+uint32_t luks_read(int fd, uint64_t offset, uint64_t length, char *json, size_t json_room, uint64_t *json_bytes);
 
 /* The first keyslot that the passphrase opens, with Argon2 taking up to `memory` KiB for each. The
  * volume key is put into `key`, where `key_room` isn't 0; 128 bytes hold any. */
@@ -70,6 +121,49 @@ uint32_t luks_unlock(int fd, uint64_t offset, uint64_t length, const void *passp
 uint32_t luks_open(int fd, uint64_t offset, uint64_t length, uint8_t n, const void *passphrase, size_t passphrase_bytes, uint32_t memory,
                    void *key, size_t key_room, struct luks_opened *opened);
 
+/* ---- through a descriptor that is open for reading and writing ----
+ *
+ * What was written before is asked to stay first, by fsync, and then all of the volume that is needed is
+ * read. Where a fault refuses the call, nothing is written. `is_detached`: the volume is a header alone, and
+ * its data lies elsewhere. `random` are bytes that nobody can guess, as many as luks_needed tells, or NULL:
+ * then they are taken by getrandom. No call asks what else the disk is used for: where luks_check tells that
+ * only the second copy is sound, something else may stand in the place of the first by now. */
+
+/* How many random bytes the edit takes; or its first fault, of those that are seen without opening a keyslot.
+ * `text` is the new passphrase, or the label. It writes nothing. */
+uint32_t luks_needed(int fd, uint64_t offset, uint64_t length, bool is_detached, const struct luks_edit *edit, const void *passphrase,
+                     size_t passphrase_bytes, const void *text, size_t text_bytes, uint64_t *random_bytes);
+
+/* Does the edit; `slot`, where it isn't NULL, gets the keyslot that is made or sealed again. */
+uint32_t luks_apply(int fd, uint64_t offset, uint64_t length, bool is_detached, const struct luks_edit *edit, const void *passphrase,
+                    size_t passphrase_bytes, const void *text, size_t text_bytes, const void *random, size_t random_bytes, uint32_t *slot);
+
+/* The edits by name, with random bytes of getrandom. The first adds a keyslot in which the new passphrase opens
+ * what the old one opens, the second puts the new passphrase in the old one's place, the third removes the
+ * keyslot `slot` by its own passphrase, or by that of the keyslot `by`. */
+uint32_t luks_add(int fd, uint64_t offset, uint64_t length, bool is_detached, uint32_t by, const void *passphrase, size_t passphrase_bytes,
+                  const void *added, size_t added_bytes, uint32_t to, uint32_t iterations, uint32_t memory, uint32_t *slot);
+
+uint32_t luks_change(int fd, uint64_t offset, uint64_t length, bool is_detached, uint32_t slot, const void *passphrase, size_t passphrase_bytes,
+                     const void *changed, size_t changed_bytes, uint32_t iterations, uint32_t memory, uint32_t *made);
+
+uint32_t luks_remove(int fd, uint64_t offset, uint64_t length, bool is_detached, uint32_t slot, uint32_t by, const void *passphrase,
+                     size_t passphrase_bytes, uint32_t memory);
+
+/* LUKS2: writes both copies of the header anew from the one that counts. LUKS1: nothing. */
+uint32_t luks_repair(int fd, uint64_t offset, uint64_t length, bool is_detached);
+
+/* LUKS2: sets the label, at most 47 bytes of 0x20 to 0x7E. */
+uint32_t luks_label(int fd, uint64_t offset, uint64_t length, bool is_detached, const char *label, size_t label_bytes);
+
+/* Makes a LUKS1 or a LUKS2 volume whose keyslot 0 opens by the passphrase. What stood there before is written over
+ * without question. They take 256080 and 256208 random bytes. */
+uint32_t luks_format1(int fd, uint64_t offset, uint64_t length, bool is_detached, uint32_t hash, uint32_t iterations, const void *passphrase,
+                      size_t passphrase_bytes, const void *random, size_t random_bytes);
+
+uint32_t luks_format2(int fd, uint64_t offset, uint64_t length, bool is_detached, uint32_t hash, uint32_t iterations, const void *passphrase,
+                      size_t passphrase_bytes, const void *random, size_t random_bytes);
+
 /* ---- over the first bytes of a volume of `total` bytes ----
  *
  * Pointers are valid for their lengths, and no two that are written to overlap, nor one of these and
@@ -77,11 +171,30 @@ uint32_t luks_open(int fd, uint64_t offset, uint64_t length, uint8_t n, const vo
 
 uint32_t luks_check_bytes(const uint8_t *first, size_t first_bytes, uint64_t total, bool is_detached, struct luks_report *report);
 
+uint32_t luks_read_bytes(const uint8_t *first, size_t first_bytes, uint64_t total, uint8_t *json, size_t json_room, struct luks_read *read);
+
 uint32_t luks_unlock_bytes(const uint8_t *first, size_t first_bytes, uint64_t total, const uint8_t *passphrase, size_t passphrase_bytes,
                            uint32_t memory, uint8_t *key, size_t key_room, struct luks_opened *opened);
 
 uint32_t luks_open_bytes(const uint8_t *first, size_t first_bytes, uint64_t total, uint8_t n, const uint8_t *passphrase, size_t passphrase_bytes,
                          uint32_t memory, uint8_t *key, size_t key_room, struct luks_opened *opened);
+
+uint32_t luks_needed_bytes(const uint8_t *first, size_t first_bytes, uint64_t total, bool is_detached, const struct luks_edit *edit,
+                           const uint8_t *passphrase, size_t passphrase_bytes, const uint8_t *text, size_t text_bytes, struct luks_needed *needed);
+
+/* The plans: all calls and bytes, or LUKS_ROOM and how many there are. Played over the volume they leave what the
+ * call leaves; a flush comes behind each write, and nothing behind the given bytes is written. */
+uint32_t luks_apply_bytes(const uint8_t *first, size_t first_bytes, uint64_t total, bool is_detached, const struct luks_edit *edit,
+                          const uint8_t *passphrase, size_t passphrase_bytes, const uint8_t *text, size_t text_bytes, const uint8_t *random,
+                          size_t random_bytes, struct luks_call *calls, size_t calls_room, uint8_t *bytes, size_t bytes_room, struct luks_plan *plan);
+
+uint32_t luks_format1_bytes(const uint8_t *first, size_t first_bytes, uint64_t total, bool is_detached, uint32_t hash, uint32_t iterations,
+                            const uint8_t *passphrase, size_t passphrase_bytes, const uint8_t *random, size_t random_bytes,
+                            struct luks_call *calls, size_t calls_room, uint8_t *bytes, size_t bytes_room, struct luks_plan *plan);
+
+uint32_t luks_format2_bytes(const uint8_t *first, size_t first_bytes, uint64_t total, bool is_detached, uint32_t hash, uint32_t iterations,
+                            const uint8_t *passphrase, size_t passphrase_bytes, const uint8_t *random, size_t random_bytes,
+                            struct luks_call *calls, size_t calls_room, uint8_t *bytes, size_t bytes_room, struct luks_plan *plan);
 
 /* ---- what a number says ----
  *

@@ -1,4 +1,4 @@
-"""What is wrong with the header of a LUKS volume, and what opens it: the calls of libluks.
+"""What is wrong with the header of a LUKS volume, what opens it, and edits of its keyslots: the calls of libluks.
 
     >>> import luks
     >>> with luks.Volume("disk.img") as volume:
@@ -7,8 +7,13 @@
     Report(version=2, copies='in-step', seqid=3, areas=4)
     0
 
-A volume that isn't accepted raises `Fault`, which says what it means and what to try next. Nothing here writes. A volume that is
-opened by its name is locked as `luks` locks it, so that an edit by that program waits, or is refused.
+    >>> with luks.Volume("disk.img", writes=True) as volume:
+    ...     volume.add(0, b"secret", b"another")
+    ...     volume.remove(0, b"another", by=1)
+    1
+
+A volume that isn't accepted, and an edit that is refused, raise `Fault`, which says what it means and what to try next; then nothing
+was written. A volume that is opened by its name is locked as `luks` locks it, so that an edit by that program waits, or is refused.
 
 The library libluks.so.0 is looked for where the system's loader looks; the environment's LIBLUKS names another.
 """
@@ -17,14 +22,21 @@ from __future__ import annotations
 import ctypes
 import errno
 import fcntl
+import json
 import os
+import stat
 from dataclasses import dataclass
 from types import TracebackType
+from typing import Any
 
 __all__ = ["Fault", "Report", "Volume", "explain"]
 
-DONE, MEMORY, DEVICE, SHUT = 0, 103, 104, 105
+DONE, MEMORY, DEVICE, SHUT, ROOM = 0, 103, 104, 105, 106
 TO_END = 2**64 - 1
+NO_SLOT = 2**32 - 1
+ADD, CHANGE, REMOVE, REPAIR, LABEL = range(1, 6)
+HASHES = (None, "sha1", "sha256", "sha512")
+LOCKS = "/run/cryptsetup"
 KEY_ROOM = 128
 COPIES = (None, "in-step", "first-newer", "second-newer", "first-only", "second-only")
 
@@ -37,14 +49,25 @@ class _Opened(ctypes.Structure):
     _fields_ = [("slot", ctypes.c_uint32), ("key_bytes", ctypes.c_uint32), ("beyond", ctypes.c_uint64)]
 
 
+class _Edit(ctypes.Structure):
+    _fields_ = [(name, ctypes.c_uint32) for name in ("kind", "slot", "by", "to", "iterations", "memory")]
+
+
 def _loaded() -> ctypes.CDLL:
     library = ctypes.CDLL(os.environ.get("LIBLUKS", "libluks.so.0"), use_errno=True)
     window = [ctypes.c_int, ctypes.c_uint64, ctypes.c_uint64]
-    tried = [ctypes.c_char_p, ctypes.c_size_t, ctypes.c_uint32, ctypes.c_void_p, ctypes.c_size_t, ctypes.POINTER(_Opened)]
+    given = [ctypes.c_char_p, ctypes.c_size_t]
+    tried = [*given, ctypes.c_uint32, ctypes.c_void_p, ctypes.c_size_t, ctypes.POINTER(_Opened)]
+    edited = [*window, ctypes.c_bool, ctypes.POINTER(_Edit), *given, *given]
+    made = [*window, ctypes.c_bool, ctypes.c_uint32, ctypes.c_uint32, *given, *given]
     for name, takes, gives in (
         ("luks_check", [*window, ctypes.c_bool, ctypes.POINTER(_Report)], ctypes.c_uint32),
+        ("luks_read", [*window, ctypes.c_void_p, ctypes.c_size_t, ctypes.POINTER(ctypes.c_uint64)], ctypes.c_uint32),
         ("luks_unlock", [*window, *tried], ctypes.c_uint32),
         ("luks_open", [*window, ctypes.c_uint8, *tried], ctypes.c_uint32),
+        ("luks_apply", [*edited, *given, ctypes.POINTER(ctypes.c_uint32)], ctypes.c_uint32),
+        ("luks_format1", made, ctypes.c_uint32),
+        ("luks_format2", made, ctypes.c_uint32),
         ("luks_fault_name", [ctypes.c_uint32, ctypes.c_void_p, ctypes.c_size_t], ctypes.c_size_t),
         ("luks_fault_text", [ctypes.c_uint32, ctypes.c_uint32, ctypes.c_void_p, ctypes.c_size_t], ctypes.c_size_t),
     ):
@@ -54,6 +77,28 @@ def _loaded() -> ctypes.CDLL:
 
 
 _LIBRARY = _loaded()
+
+
+def _slot(number: int) -> int:
+    if not 0 <= number < 256:
+        raise ValueError("a keyslot's number is 0 to 255")
+    return number
+
+
+def _slot_or_none(number: int | None) -> int:
+    return NO_SLOT if number is None else _slot(number)
+
+
+def _iterations(number: int) -> int:
+    if not 0 <= number < 2**32:
+        raise ValueError("iterations are a number of 32 bits")
+    return number
+
+
+def _kib(mib: int) -> int:
+    if mib < 0:
+        raise ValueError("memory is a number of MiB")
+    return min(mib * 1024, 2**32 - 1)
 
 
 def _text(call, *words: int) -> str:
@@ -98,23 +143,48 @@ class Report:
 class Volume:
     """A LUKS volume: `length` bytes of a file or block device from `offset` on, or all that follow.
 
-    It is given by its name, and is then opened for reading and locked until `close`, or as a descriptor that the caller opened and
-    locks. A name whose volume another program edits raises BlockingIOError.
+    It is given by its name, and is then opened and locked until `close`, for reading, or where it `writes` for both; or as a descriptor
+    that the caller opened and locks. A name whose volume another program edits, or uses where it `writes`, raises BlockingIOError.
+    `is_detached` says that it is a header alone, and its data lies on another device.
     """
 
-    def __init__(self, volume: str | os.PathLike[str] | int, offset: int = 0, length: int | None = None) -> None:
+    def __init__(self, volume: str | os.PathLike[str] | int, offset: int = 0, length: int | None = None, *, writes: bool = False,
+                 is_detached: bool = False) -> None:
         if not 0 <= offset <= TO_END or length is not None and not 0 <= length <= TO_END:
             raise ValueError("offset and length are numbers of bytes")
         self._window = (offset, TO_END if length is None else length)
+        self._is_detached = is_detached
         self._is_own = not isinstance(volume, int)
+        self._held: list[int] = []
         self._fd = -1
-        self._fd = os.open(volume, os.O_RDONLY | os.O_CLOEXEC) if self._is_own else volume
-        if self._is_own:
-            try:
-                fcntl.flock(self._fd, fcntl.LOCK_SH | fcntl.LOCK_NB)
-            except OSError:
-                self.close()
-                raise
+        if not self._is_own:
+            self._fd = volume
+            return
+        try:
+            self._fd = self._locked(volume, os.O_RDWR if writes else os.O_RDONLY, writes)
+            about = os.fstat(self._fd)
+            if stat.S_ISBLK(about.st_mode):
+                self._lock_name(f"{LOCKS}/L_{os.major(about.st_rdev)}:{os.minor(about.st_rdev)}", writes)
+        except OSError:
+            self.close()
+            raise
+
+    def _locked(self, name: str | os.PathLike[str], flags: int, writes: bool) -> int:
+        """The file of this name, under its lock."""
+        fd = os.open(name, flags | os.O_CLOEXEC)
+        self._held.append(fd)
+        fcntl.flock(fd, (fcntl.LOCK_EX if writes else fcntl.LOCK_SH) | fcntl.LOCK_NB)
+        return fd
+
+    def _lock_name(self, name: str, writes: bool) -> None:
+        """Locks the file that cryptsetup locks for a block device, where it can be made."""
+        try:
+            os.makedirs(LOCKS, 0o700, exist_ok=True)
+            self._locked(name, os.O_RDWR | os.O_CREAT | os.O_NOFOLLOW, writes)
+        except BlockingIOError:
+            raise
+        except OSError:
+            pass
 
     def __enter__(self) -> Volume:
         return self
@@ -126,21 +196,34 @@ class Volume:
         self.close()
 
     def close(self) -> None:
-        """Closes the file where this opened it, and so gives its lock back."""
-        if getattr(self, "_is_own", False) and self._fd >= 0:
-            os.close(self._fd)
+        """Closes the file where this opened it, and so gives its locks back."""
+        while getattr(self, "_held", []):
+            os.close(self._held.pop())
+        if getattr(self, "_is_own", False):
             self._fd = -1
 
     def check(self, is_detached: bool = False) -> Report:
         """Whether the volume is well formed, with its areas; else its first fault is raised.
 
-        `is_detached` says that it is a header alone, and its data lies on another device.
+        `is_detached` says that it is a header alone, and its data lies on another device, as that of the volume does.
         """
         report = _Report()
-        self._done(_LIBRARY.luks_check(self._fd, *self._window, is_detached, ctypes.byref(report)))
+        self._done(_LIBRARY.luks_check(self._fd, *self._window, is_detached or self._is_detached, ctypes.byref(report)))
         if report.version == 1:
             return Report(1, None, None, report.areas)
         return Report(report.version, COPIES[report.copies], report.seqid, report.areas)
+
+    def show(self) -> dict[str, Any]:
+        """What the header says: the object that `luks show --json` prints. Areas may lie where they can't; `check` says so."""
+        bytes_ = ctypes.c_uint64(1 << 16)
+        while True:
+            room = bytes_.value
+            text = ctypes.create_string_buffer(room)
+            answer = _LIBRARY.luks_read(self._fd, *self._window, text, room, ctypes.byref(bytes_))
+            if answer != ROOM:
+                break
+        self._done(answer)
+        return json.loads(text.raw[: bytes_.value])
 
     def unlock(self, passphrase: bytes, memory: int = 0) -> int | None:
         """The first keyslot that the passphrase opens, or None. Argon2 may take `memory` MiB; a keyslot that takes more is passed over."""
@@ -156,11 +239,52 @@ class Volume:
         found = self._opened(_LIBRARY.luks_unlock, (), passphrase, memory, KEY_ROOM)
         return None if found is None else found[1]
 
+    def add(self, by: int, passphrase: bytes, added: bytes, to: int | None = None, iterations: int = 100000, memory: int = 0) -> int:
+        """Adds a keyslot, the least that is free or `to`, in which the passphrase `added` opens what `passphrase` opens in the keyslot `by`.
+
+        LUKS2 derives as that keyslot does: by Argon2 of the same costs, or by PBKDF2 with so many iterations. Argon2 may take `memory`
+        MiB. Returns the new keyslot.
+        """
+        slot = self._edited(_Edit(kind=ADD, by=_slot(by), to=_slot_or_none(to), iterations=_iterations(iterations)), passphrase, added, memory)
+        assert slot is not None
+        return slot
+
+    def change(self, slot: int, passphrase: bytes, changed: bytes, iterations: int = 100000, memory: int = 0) -> int:
+        """Puts the passphrase `changed` in the place of the one that opens the keyslot. Returns its number, which LUKS1 changes."""
+        made = self._edited(_Edit(kind=CHANGE, slot=_slot(slot), iterations=_iterations(iterations)), passphrase, changed, memory)
+        assert made is not None
+        return made
+
+    def remove(self, slot: int, passphrase: bytes, by: int | None = None, memory: int = 0) -> None:
+        """Removes the keyslot and wipes its area, by its own passphrase or by that of the keyslot `by`."""
+        self._edited(_Edit(kind=REMOVE, slot=_slot(slot), by=_slot_or_none(by)), passphrase, b"", memory)
+
+    def repair(self) -> None:
+        """LUKS2: writes both copies of the header anew from the one that counts. LUKS1: nothing."""
+        self._edited(_Edit(kind=REPAIR), b"", b"", 0)
+
+    def label(self, text: str) -> None:
+        """LUKS2: sets the label, at most 47 bytes that can be printed."""
+        self._edited(_Edit(kind=LABEL), b"", text.encode(), 0)
+
+    def format(self, version: int, passphrase: bytes, hash: str = "sha256", iterations: int = 100000) -> None:
+        """Makes a volume of LUKS1 or LUKS2 whose keyslot 0 opens by the passphrase. What stood there before is written over without question."""
+        if version not in (1, 2) or hash not in HASHES[1:]:
+            raise ValueError("a version is 1 or 2, a hash sha1, sha256 or sha512")
+        call = _LIBRARY.luks_format1 if version == 1 else _LIBRARY.luks_format2
+        self._done(call(self._fd, *self._window, self._is_detached, HASHES.index(hash), _iterations(iterations), bytes(passphrase), len(passphrase),
+                        None, 0))
+
+    def _edited(self, edit: _Edit, passphrase: bytes, text: bytes, memory: int) -> int | None:
+        edit.memory = _kib(memory)
+        slot = ctypes.c_uint32(NO_SLOT)
+        self._done(_LIBRARY.luks_apply(self._fd, *self._window, self._is_detached, ctypes.byref(edit), bytes(passphrase), len(passphrase),
+                                       bytes(text), len(text), None, 0, ctypes.byref(slot)))
+        return None if slot.value == NO_SLOT else slot.value
+
     def _opened(self, call, slot: tuple[int, ...], passphrase: bytes, memory: int, room: int) -> tuple[int, bytes] | None:
-        if not all(0 <= n < 256 for n in slot) or memory < 0:
-            raise ValueError("a keyslot's number is 0 to 255, memory a number of MiB")
         opened, key = _Opened(), ctypes.create_string_buffer(max(room, 1))
-        answer = call(self._fd, *self._window, *slot, bytes(passphrase), len(passphrase), min(memory * 1024, 2**32 - 1), key, room, ctypes.byref(opened))
+        answer = call(self._fd, *self._window, *map(_slot, slot), bytes(passphrase), len(passphrase), _kib(memory), key, room, ctypes.byref(opened))
         if answer == SHUT:
             return None
         self._done(answer)

@@ -1,11 +1,11 @@
 -- Facts on buffers.
-use Rattle.std.proofs.Common.{◌≡◌, ℕ, List, ◌++◌, inl, inr, length, take, drop, min, sym, ap, ◌∙◌, arith}
-use Rattle.std.proofs.lemmas.List.{drop_all, take_all}
+use Rattle.std.proofs.Common.{◌≡◌, ℕ, ◌+◌, ◌-◌, List, ◌++◌, inl, inr, length, take, drop, min, sym, ap, ◌∙◌, arith, length-append, length-drop, length-take}
+use Rattle.std.proofs.lemmas.List.{drop-append-le, drop_all, take_all}
 use Rattle.std.proofs.lemmas.Bool.{cases_lt}
 use Rattle.luks_c.specs.Buffers.{filled}
 
 -- what fits is put there, and what stands behind it stays
-pub filled_front : (buffer bytes : List ℕ) (n : ℕ) → n ≡ min (length bytes) (length buffer) → take n bytes ++ drop n buffer ≡ filled buffer bytes
+pub filled_front : {A : Type 0} (buffer bytes : List A) (n : ℕ) → n ≡ min (length bytes) (length buffer) → take n bytes ++ drop n buffer ≡ filled buffer bytes
 filled_front buffer bytes n is = elim (cases_lt (length buffer) (length bytes)) [
   | inl long ↦
       let same : n ≡ length buffer = omega (arith, is, long) in
@@ -15,4 +15,21 @@ filled_front buffer bytes n is = elim (cases_lt (length buffer) (length bytes)) 
       let same : n ≡ length bytes = omega (arith, is, short) in
       ap (λ k. take k bytes ++ drop k buffer) same
       ∙ ap (λ front. front ++ drop (length bytes) buffer) (take_all (length bytes) bytes (omega arith) ∙ sym (take_all (length buffer) bytes short))
+]
+
+-- so is what stands behind the bytes, fit they or not
+pub filled_behind : (buffer bytes : List ℕ) → drop (length bytes) (filled buffer bytes) ≡ drop (length bytes) buffer
+filled_behind buffer bytes = elim (cases_lt (length buffer) (length bytes)) [
+  | inl long ↦
+      let front : List ℕ = take (length buffer) bytes in
+      let rest : List ℕ = drop (length bytes) buffer in
+      let all : length (front ++ rest) ≡ length front + length rest = length-append front rest in
+      let taken : length front ≡ min (length buffer) (length bytes) = length-take (length buffer) bytes in
+      let behind : length rest ≡ length buffer - length bytes = length-drop (length bytes) buffer in
+      drop_all (length bytes) (front ++ rest) (omega (arith, long, all, taken, behind)) ∙ sym (drop_all (length bytes) buffer (omega (arith, long)))
+  | inr short ↦
+      let rest : List ℕ = drop (length bytes) buffer in
+      ap (λ front. drop (length bytes) (front ++ rest)) (take_all (length buffer) bytes short)
+      ∙ drop-append-le (length bytes) bytes rest (omega arith)
+      ∙ ap (λ front. front ++ rest) (drop_all (length bytes) bytes (omega arith))
 ]

@@ -1,2 +1,3 @@
 pub mod BufferFacts
 pub mod NumberFacts
+pub mod PlanFacts

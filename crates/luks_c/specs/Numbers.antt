@@ -5,10 +5,17 @@ use Rattle.luks_area.specs.Printed.{area_fault_text}
 use Rattle.luks1_header.specs.FaultTexts.{fault_text as head_fault_text}
 use Rattle.luks_rules.specs.MetaFault.{fault_text as meta_fault_text}
 use Rattle.luks_slot.specs.Fault.{fault_text as slot_fault_text}
+use Rattle.luks_reading.specs.FaultTexts.{check_fault_text}
 use Rattle.luks_reading.specs.declared.check_fault.CheckFault.{CheckFault}
 use Rattle.luks_reading.specs.declared.check_fault.CheckFault.TheVariants as checking
 use Rattle.luks_reading.specs.declared.open_fault.OpenFault.{OpenFault}
 use Rattle.luks_reading.specs.declared.open_fault.OpenFault.TheVariants as opening
+use Rattle.luks_reading.specs.declared.read_fault.ReadFault.{ReadFault}
+use Rattle.luks_reading.specs.declared.read_fault.ReadFault.TheVariants as reading
+use Rattle.luks_edit.specs.declared.edit_fault.EditFault.{EditFault}
+use Rattle.luks_edit.specs.declared.edit_fault.EditFault.TheVariants as edit
+use Rattle.luks_formatting.specs.declared.format_fault.FormatFault.{FormatFault}
+use Rattle.luks_formatting.specs.declared.format_fault.FormatFault.TheVariants as format
 use Rattle.luks_explain.specs.declared.fault.Fault.{Fault}
 use Rattle.luks_explain.specs.declared.fault.Fault.TheVariants as fault
 use Rattle.luks_explain.specs.Names.{all_faults, fault_named, name_in}
@@ -83,6 +90,13 @@ check_number (checking.Area f) = number_printed (area_fault_text f)
 check_number checking.Device = 102
 check_number checking.Memory = 103
 
+-- of what reading the header answers in place of one
+abbrev pub read_number : ReadFault → ℕ
+read_number (reading.Head f) = number_printed (head_fault_text f)
+read_number (reading.Meta f) = number_printed (meta_fault_text f)
+read_number reading.Device = 102
+read_number reading.Memory = 103
+
 -- of what opening a keyslot answers in place of a key
 abbrev pub open_number : OpenFault → ℕ
 open_number (opening.Head f) = number_printed (head_fault_text f)
@@ -93,3 +107,31 @@ open_number opening.Outside = 21
 open_number (opening.Slot f) = number_printed (slot_fault_text f)
 open_number opening.Device = 102
 open_number opening.Memory = 103
+
+-- of what an edit answers in place of what it made
+abbrev pub edit_number : EditFault → ℕ
+edit_number (edit.NotAccepted f) = number_printed (check_fault_text f)
+edit_number edit.Requirements = 31
+edit_number edit.NoSuchSlot = 23
+edit_number edit.SameSlot = 50
+edit_number edit.Locked = 29
+edit_number (edit.Slot f) = number_printed (slot_fault_text f)
+edit_number edit.SlotTaken = 32
+edit_number edit.NoFreeSlot = 33
+edit_number edit.NoRoom = 34
+edit_number edit.LastSlot = 35
+edit_number edit.Iterations = 10
+edit_number edit.BadLabel = 36
+edit_number edit.SeqExhausted = 37
+edit_number edit.MetadataFull = 38
+edit_number edit.RandomLength = 39
+edit_number edit.Memory = 103
+edit_number edit.Device = 102
+
+-- of what formatting answers in place of a volume
+abbrev pub format_number : FormatFault → ℕ
+format_number format.TooSmall = 40
+format_number format.Iterations = 10
+format_number format.RandomLength = 39
+format_number format.Memory = 103
+format_number format.Device = 102

@@ -63,7 +63,7 @@ fn check_given<K: Given>(
     report: &mut LuksReport,
 ) -> u32
     requires within { length first.now ≤ total }
-    requires count { K.count ≡ length first.now }
+    requires given { K.bytes ≡ first.now }
     ensures answers { AnswersCheck (volume first.now total) data_ result report.new }
     ensures more { result ≡ 102 → length first.now < report.new.beyond }
     ensures inside { result ≡ 102 → report.new.beyond ≤ total }

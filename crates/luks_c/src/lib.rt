@@ -2,8 +2,14 @@
 //! read. `luks.h` says what a caller owes.
 #![tactic(auto)]
 
+mod asking;
 mod buffers;
 mod checking;
+mod editing;
+mod formatting;
+mod needing;
 mod numbers;
 mod opening;
+mod plans;
+mod reading;
 mod texts;

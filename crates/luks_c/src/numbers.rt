@@ -1,17 +1,20 @@
 //! The numbers by which the calls answer. `luks.h` lists them; a number stays its own in each later
 //! version.
 ghost use Rattle.std.specs.Prelude.{◌≡◌};
-ghost use Rattle.luks_c.specs.Numbers.{check_number, fault_number, fault_numbered, number_printed, open_number};
+ghost use Rattle.luks_c.specs.Numbers.{check_number, edit_number, fault_number, fault_numbered, format_number, number_printed, open_number, read_number};
 ghost use Rattle.luks_area.specs.Printed.{area_fault_text};
 ghost use Rattle.luks1_header.specs.FaultTexts.{fault_text as head_fault_text};
 ghost use Rattle.luks_rules.specs.MetaFault.{fault_text as meta_fault_text};
+ghost use Rattle.luks_reading.specs.FaultTexts.{check_fault_text};
 ghost use Rattle.luks_slot.specs.Fault.{fault_text as slot_fault_text};
 
+use luks_edit::EditFault;
 use luks_explain::Fault;
-use luks_reading::{AreaFault, CheckFault, HeadFault, MetaFault, OpenFault};
+use luks_formatting::FormatFault;
+use luks_reading::{AreaFault, CheckFault, HeadFault, MetaFault, OpenFault, ReadFault};
 use luks_slot::SlotFault;
 
-/// Done: the volume is accepted, the keyslot opens, the text is given.
+/// Done: the volume is accepted, the keyslot opens, the text or the plan is given.
 pub(crate) const DONE: u32 = 0;
 
 /// No fault: the device's failure and want of memory have numbers of their own, and are never told by
@@ -115,6 +118,18 @@ pub(crate) fn check_number(fault: &CheckFault) -> u32
     }
 }
 
+/// The number of what reading the header answers in place of one.
+pub(crate) fn read_number(fault: &ReadFault) -> u32
+    ensures { result ≡ read_number fault.now }
+{
+    match fault {
+        ReadFault::Head(fault) => head_number(fault),
+        ReadFault::Meta(fault) => meta_number(fault),
+        ReadFault::Device => BEYOND,
+        ReadFault::Memory => MEMORY,
+    }
+}
+
 /// The number of what opening a keyslot answers in place of a key.
 pub(crate) fn open_number(fault: &OpenFault) -> u32
     ensures { result ≡ open_number fault.now }
@@ -128,6 +143,57 @@ pub(crate) fn open_number(fault: &OpenFault) -> u32
         OpenFault::Slot(fault) => slot_number(fault),
         OpenFault::Device => BEYOND,
         OpenFault::Memory => MEMORY,
+    }
+}
+
+/// The number of what an edit answers in place of what it made.
+pub(crate) fn edit_number(fault: &EditFault) -> u32
+    ensures { result ≡ edit_number fault.now }
+{
+    match fault {
+        EditFault::NotAccepted(fault) => checked_number(fault),
+        EditFault::Requirements => number_of(Fault::Requirements),
+        EditFault::NoSuchSlot => number_of(Fault::NoSuchSlot),
+        EditFault::SameSlot => number_of(Fault::SameSlot),
+        EditFault::Locked => number_of(Fault::Locked),
+        EditFault::Slot(fault) => slot_number(fault),
+        EditFault::SlotTaken => number_of(Fault::SlotTaken),
+        EditFault::NoFreeSlot => number_of(Fault::NoFreeSlot),
+        EditFault::NoRoom => number_of(Fault::NoRoom),
+        EditFault::LastSlot => number_of(Fault::LastSlot),
+        EditFault::Iterations => number_of(Fault::Iterations),
+        EditFault::BadLabel => number_of(Fault::BadLabel),
+        EditFault::SeqExhausted => number_of(Fault::SeqExhausted),
+        EditFault::MetadataFull => number_of(Fault::MetadataFull),
+        EditFault::RandomLength => number_of(Fault::RandomLength),
+        EditFault::Memory => MEMORY,
+        EditFault::Device => BEYOND,
+    }
+}
+
+/// The number of what formatting answers in place of a volume.
+pub(crate) fn format_number(fault: &FormatFault) -> u32
+    ensures { result ≡ format_number fault.now }
+{
+    match fault {
+        FormatFault::TooSmall => number_of(Fault::TooSmall),
+        FormatFault::Iterations => number_of(Fault::Iterations),
+        FormatFault::RandomLength => number_of(Fault::RandomLength),
+        FormatFault::Memory => MEMORY,
+        FormatFault::Device => BEYOND,
+    }
+}
+
+/// The number of a volume's first fault.
+fn checked_number(fault: &CheckFault) -> u32
+    ensures { result ≡ number_printed (check_fault_text fault.now) }
+{
+    match fault {
+        CheckFault::Head(fault) => head_number(fault),
+        CheckFault::Meta(fault) => meta_number(fault),
+        CheckFault::Area(fault) => area_number(fault),
+        CheckFault::Device => UNKNOWN,
+        CheckFault::Memory => UNKNOWN,
     }
 }
 

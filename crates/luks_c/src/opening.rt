@@ -63,7 +63,7 @@ fn unlock_given<K: Given>(
     opened: &mut LuksOpened,
 ) -> u32
     requires within { length first.now ≤ total }
-    requires count { K.count ≡ length first.now }
+    requires given { K.bytes ≡ first.now }
     requires passphrase { length passphrase.now < 2 ^ 32 }
     ensures answers { AnswersUnlock memory (volume first.now total) passphrase.now key.old key.new opened.new result }
     ensures more { result ≡ 102 → length first.now < opened.new.beyond }
@@ -121,7 +121,7 @@ fn open_given<K: Given>(
     opened: &mut LuksOpened,
 ) -> u32
     requires within { length first.now ≤ total }
-    requires count { K.count ≡ length first.now }
+    requires given { K.bytes ≡ first.now }
     requires passphrase { length passphrase.now < 2 ^ 32 }
     ensures answers { AnswersOpen memory (volume first.now total) n passphrase.now key.old key.new opened.new result }
     ensures more { result ≡ 102 → length first.now < opened.new.beyond }

@@ -21,7 +21,7 @@ pub struct FirstBytes<'a, K: Given> {
     failures: u64,
     given: PhantomData<K>,
     ghost fits: { total < 2 ^ 64 },
-    ghost known: { length first.now ≡ K.count },
+    ghost known: { first.now ≡ K.bytes },
     ghost within: { length first.now ≤ total },
     ghost inside: { reached ≤ total },
     ghost far: { refused ≡ None → failures ≢ 0 → length first.now < reached },
@@ -33,7 +33,7 @@ impl<'a, K: Given> FirstBytes<'a, K> {
     /// The volume of `total` bytes that begins with these.
     pub fn new(first: &'a [u8], total: u64) -> Self
         requires within { length first.now ≤ total }
-        requires count { K.count ≡ length first.now }
+        requires given { K.bytes ≡ first.now }
         ensures bytes { given_bytes result ≡ volume first.now total }
         ensures size { given_size result ≡ total }
         ensures failures { given_failures result ≡ 0 }
@@ -55,7 +55,7 @@ impl<'a, K: Given> FirstBytes<'a, K> {
         ensures value { result ≡ reached_by self.now }
         ensures inside { result ≤ given_size self.now }
         ensures far { IsUnwritten self.now → given_failures self.now ≢ 0
-            → K.count < result }
+            → length K.bytes < result }
     {
         self.reached
     }

@@ -1,5 +1,4 @@
-use Rattle.std.proofs.Common.{length}
 use Rattle.luks_c.proofs.checking.luks_check_bytes.Given as goal
 
 abbrev pub ghosts-check_given : goal.ghosts-check_given
-ghosts-check_given a = record { count = length a.first.now }
+ghosts-check_given a = record { bytes = a.first.now }

@@ -1,5 +1,4 @@
-use Rattle.std.proofs.Common.{length}
 use Rattle.luks_c.proofs.opening.luks_unlock_bytes.Given as goal
 
 abbrev pub ghosts-unlock_given : goal.ghosts-unlock_given
-ghosts-unlock_given a = record { count = length a.first.now }
+ghosts-unlock_given a = record { bytes = a.first.now }

@@ -1,0 +1,135 @@
+-- Facts on the plans of calls that write.
+use Rattle.std.proofs.Common.{◌≡◌, ◌≢◌, ◌⊎◌, inl, inr, ℕ, List, length, Ok, Err, Result, true, false, refl, sym, subst, ap, ◌∙◌, arith}
+use Rattle.std.proofs.lemmas.Bool.{false≢true, true≢false}
+use Rattle.luks_area.specs.First.{IsLeast}
+use Rattle.luks_edit.specs.declared.edit.Done.{Done}
+use Rattle.luks_edit.specs.declared.edit.Edit.{Edit}
+use Rattle.luks_edit.specs.declared.edit_fault.EditFault.{EditFault}
+use Rattle.luks_edit.specs.declared.edit_fault.EditFault.TheVariants as edit
+use Rattle.luks_edit.specs.EditFaults.{is_edit_failure}
+use Rattle.luks_formatting.specs.declared.format_fault.FormatFault.{FormatFault}
+use Rattle.luks_formatting.specs.declared.format_fault.FormatFault.TheVariants as format
+use Rattle.luks_formatting.specs.FormatFaults.{format_key, is_device_fault, HasNoFault, IsAnsweredFault, IsAnsweredFaultOrMemory}
+use Rattle.luks_given.specs.Volume.{volume}
+use Rattle.luks_planned.specs.declared.planned_writes.PlannedCall.{PlannedCall}
+use Rattle.luks_planned.specs.Plan.{IsFlushed}
+use Rattle.luks_reading.specs.declared.report.Data.{Data}
+use Rattle.luks_volume.specs.Edits.{Refusal, Replies}
+use Rattle.luks_volume.specs.Outcome.{IsApplied}
+use Rattle.luks_c.specs.declared.plans.LuksPlan.{LuksPlan}
+use Rattle.luks_c.specs.EditAnswers.{AnswersEdit, IsEdited}
+use Rattle.luks_c.specs.EditAsked.{IsMaybeSlot}
+use Rattle.luks_c.specs.FormatAnswers.{AnswersFormat}
+use Rattle.luks_c.specs.Numbers.{edit_number}
+use Rattle.luks_c.proofs.NumberFacts.{edit_number_memory, edit_number_range}
+use Rattle.luks_c.specs.Plans.{Buffers, IsPlan, IsPlanGiven, IsPlanned}
+
+-- the volume that a call left is what its plan leaves
+pub planned_of : (such : List ℕ → Type 0) (first left : List ℕ) (total : ℕ) (calls : List PlannedCall) (bytes : List ℕ) (old new : Buffers) (told : LuksPlan) (number : ℕ)
+    → such (volume left total) → IsPlan first left calls bytes → IsFlushed calls → told.calls ≡ length calls → told.bytes ≡ length bytes
+    → IsPlanGiven calls bytes old new number → IsPlanned first total such old new told number
+planned_of such first left total calls bytes old new told number so plan flushed calls_are bytes_are given = record {
+  calls = calls;
+  bytes = bytes;
+  leaves = record {
+    leaves = subst (λ l. such (volume l total)) (sym plan.plays) so;
+    inside = plan.inside;
+    counted = plan.counted;
+    flushed = flushed;
+  };
+  calls_count = calls_are;
+  bytes_count = bytes_are;
+  given = given;
+}
+
+-- a plan is given, or there is no room
+pub given_or_room : (calls : List PlannedCall) (bytes : List ℕ) (old new : Buffers) (number : ℕ) → IsPlanGiven calls bytes old new number → (number ≡ 0) ⊎ (number ≡ 106)
+given_or_room calls bytes old new number given = elim given [
+  | inl done ↦ inl done.0
+  | inr room ↦ inr room.0
+]
+
+-- where it isn't given, the buffers are as they were
+pub room_keeps : (calls : List PlannedCall) (bytes : List ℕ) (old new : Buffers) (number : ℕ) → IsPlanGiven calls bytes old new number → number ≢ 0 → new ≡ old
+room_keeps calls bytes old new number given other = elim given [
+  | inl done ↦ absurd (other done.0)
+  | inr room ↦ room.1
+]
+
+-- a reply that is neither want of memory nor the device's failure is a refusal
+pub refusal_of : (payload : Data) (v : List ℕ) (e : Edit) (random : List ℕ) (f : EditFault) (w : List ℕ) → f ≢ edit.Memory → is_edit_failure f ≡ false
+    → Replies payload v e random (Err f) w → Refusal v payload e random f
+refusal_of payload v e random edit.Memory w other own replies = absurd (other refl)
+refusal_of payload v e random edit.Device w other own replies = absurd (true≢false own)
+refusal_of payload v e random f w other own replies = replies.0
+
+-- the same of a format
+pub format_refusal : (faults : FormatFault → Type 0) (f : FormatFault) → f ≢ format.Memory → is_device_fault f ≡ false → IsAnsweredFault faults f → IsLeast format_key faults f
+format_refusal faults format.Memory other own answered = absurd (other refl)
+format_refusal faults format.Device other own answered = absurd (true≢false own)
+format_refusal faults f other own answered = answered
+
+-- and of one that takes memory
+pub format_refusal_or_memory : (faults : FormatFault → Type 0) (f : FormatFault) → f ≢ format.Memory → is_device_fault f ≡ false
+    → IsAnsweredFaultOrMemory faults f → IsLeast format_key faults f
+format_refusal_or_memory faults format.Memory other own answered = absurd (other refl)
+format_refusal_or_memory faults format.Device other own answered = absurd (true≢false own)
+format_refusal_or_memory faults f other own answered = answered
+
+-- an edit that was done is answered with its plan
+pub edit_planned : (first left : List ℕ) (total : ℕ) (payload : Data) (e : Edit) (random : List ℕ) (done : Done) (calls : List PlannedCall) (bytes : List ℕ) (old new : Buffers)
+    (told : LuksPlan) (number : ℕ) → IsApplied payload (volume first total) e random (Ok done) (volume left total) → IsMaybeSlot told.slot done.slot
+    → IsPlan first left calls bytes → IsFlushed calls → told.calls ≡ length calls → told.bytes ≡ length bytes → IsPlanGiven calls bytes old new number
+    → AnswersEdit first total payload e random old new told number
+edit_planned first left total payload e random done calls bytes old new told number applied slot plan flushed calls_are bytes_are given =
+    let such : List ℕ → Type 0 = IsEdited payload (volume first total) e random told.slot in
+    let planned : IsPlanned first total such old new told number =
+    planned_of such first left total calls bytes old new told number (record { done = done; slot = slot; applied = applied }) plan flushed calls_are bytes_are given in
+    record {
+      planned = λ zero. planned;
+      room = λ six. planned;
+      refused = λ zero six beyond memory. absurd (elim (given_or_room calls bytes old new number given) [ inl is ↦ zero is | inr is ↦ six is ]);
+      kept = λ other. room_keeps calls bytes old new number given other;
+    }
+
+-- one that is refused, with its first fault
+pub edit_refused : (first : List ℕ) (total : ℕ) (payload : Data) (e : Edit) (random w : List ℕ) (f : EditFault) (old : Buffers) (told : LuksPlan) (number : ℕ)
+    → IsApplied payload (volume first total) e random (Err f) w → is_edit_failure f ≡ false → number ≡ edit_number f
+    → AnswersEdit first total payload e random old old told number
+edit_refused first total payload e random w f old told number applied own is =
+    let r = edit_number_range f in
+    let low = r.0 in
+    let high = r.1 in
+    record {
+      planned = λ zero. absurd (omega (arith, zero, is, low));
+      room = λ six. absurd (omega (arith, six, is, high));
+      refused = λ zero six beyond memory. record {
+        fault = f;
+        refusal = refusal_of payload (volume first total) e random f w (edit_number_memory f (λ m. memory (is ∙ m))) own applied.replies;
+        is = is;
+      };
+      kept = λ other. refl;
+    }
+
+-- where more bytes have to be given, or memory was refused, nothing is said of the edit
+pub edit_unplanned : (first : List ℕ) (total : ℕ) (payload : Data) (e : Edit) (random : List ℕ) (old : Buffers) (told : LuksPlan) (number : ℕ) → (number ≡ 102) ⊎ (number ≡ 103)
+    → AnswersEdit first total payload e random old old told number
+edit_unplanned first total payload e random old told number is = record {
+  planned = λ zero. absurd (elim is [ inl b ↦ omega (arith, zero, b) | inr m ↦ omega (arith, zero, m) ]);
+  room = λ six. absurd (elim is [ inl b ↦ omega (arith, six, b) | inr m ↦ omega (arith, six, m) ]);
+  refused = λ zero six beyond memory. absurd (elim is [ inl b ↦ beyond b | inr m ↦ memory m ]);
+  kept = λ other. refl;
+}
+
+-- a format that was done is answered with its plan
+pub format_planned : (first left : List ℕ) (total : ℕ) (faults : FormatFault → Type 0) (such : List ℕ → Type 0) (calls : List PlannedCall) (bytes : List ℕ) (old new : Buffers)
+    (told : LuksPlan) (number : ℕ) → HasNoFault faults → such (volume left total) → IsPlan first left calls bytes → IsFlushed calls
+    → told.calls ≡ length calls → told.bytes ≡ length bytes → IsPlanGiven calls bytes old new number → AnswersFormat first total faults such old new told number
+format_planned first left total faults such calls bytes old new told number none so plan flushed calls_are bytes_are given =
+    let planned : IsPlanned first total such old new told number = planned_of such first left total calls bytes old new told number so plan flushed calls_are bytes_are given in
+    record {
+      planned = λ zero. (none, planned);
+      room = λ six. (none, planned);
+      refused = λ zero six beyond memory. absurd (elim (given_or_room calls bytes old new number given) [ inl is ↦ zero is | inr is ↦ six is ]);
+      kept = λ other. room_keeps calls bytes old new number given other;
+    }

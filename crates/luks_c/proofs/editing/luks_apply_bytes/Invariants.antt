@@ -1,0 +1,4 @@
+use Rattle.luks_c.proofs.editing.luks_apply_bytes.Given as goal
+
+abbrev pub ghosts-apply_given : goal.ghosts-apply_given
+ghosts-apply_given a = record { bytes = a.first.now }

@@ -1,0 +1,4 @@
+use Rattle.luks_c.proofs.formatting.luks_format2_bytes.Given as goal
+
+abbrev pub ghosts-make2 : goal.ghosts-make2
+ghosts-make2 a = record { bytes = a.first.now }

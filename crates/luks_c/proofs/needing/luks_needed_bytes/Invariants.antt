@@ -1,0 +1,4 @@
+use Rattle.luks_c.proofs.needing.luks_needed_bytes.Given as goal
+
+abbrev pub ghosts-need_given : goal.ghosts-need_given
+ghosts-need_given a = record { bytes = a.first.now }

@@ -1,0 +1,4 @@
+use Rattle.luks_c.proofs.reading.luks_read_bytes.Given as goal
+
+abbrev pub ghosts-read_given : goal.ghosts-read_given
+ghosts-read_given a = record { bytes = a.first.now }

@@ -1,0 +1,72 @@
+-- What the calls answer that make a volume.
+use Rattle.std.specs.Prelude.{◌≡◌, ◌≢◌, ℕ, List}
+use Rattle.luks_area.specs.First.{IsLeast}
+use Rattle.luks_kdf.specs.declared.hash_name.HashName.{HashName}
+use Rattle.luks_kdf.specs.declared.hash_name.HashName.TheVariants.{Sha1, Sha256, Sha512}
+use Rattle.luks_terms.specs.declared.format.Format.{Format}
+use Rattle.luks_reading.specs.Answer.{Answer, opens}
+use Rattle.luks_reading.specs.Checked.{WellFormed}
+use Rattle.luks_reading.specs.declared.report.Data.{Data}
+use Rattle.luks_formatting.specs.declared.format_fault.FormatFault.{FormatFault}
+use Rattle.luks_formatting.specs.FormatFaults.{format_key, HasNoFault, IsFormat1Fault, IsFormat2Fault}
+use Rattle.luks_formatting.specs.Formatted1.{IsFormatted1}
+use Rattle.luks_formatting.specs.Formatted2.{IsFormatted2}
+use Rattle.luks_formatting.specs.RandomBytes.{volume_key}
+use Rattle.luks_given.specs.Volume.{volume}
+use Rattle.luks_c.specs.declared.plans.LuksPlan.{LuksPlan}
+use Rattle.luks_c.specs.Numbers.{format_number}
+use Rattle.luks_c.specs.Plans.{Buffers, IsPlanned}
+
+-- a hash by its number
+abbrev pub hash_number : HashName → ℕ
+hash_number Sha1 = 1
+hash_number Sha256 = 2
+hash_number Sha512 = 3
+
+-- the volume is made so by these numbers
+pub record IsFormat (hash iterations : ℕ) (format : Format) : Type 0 where
+  pub hash_is : hash_number format.hash ≡ hash
+  pub iterations_are : format.iterations ≡ iterations
+
+-- no hash has this number
+abbrev pub IsNoHash : ℕ → Type 0
+IsNoHash number = (h : HashName) → hash_number h ≡ number → ⊥
+
+-- done, it leaves a volume `w` that keyslot 0 opens by the passphrase
+pub record IsMade (formatted : List ℕ → Type 0) (payload : Data) (passphrase random : List ℕ) (number : ℕ) (w : List ℕ) : Type 0 where
+  pub is : formatted w
+  pub well_formed : WellFormed w payload
+  pub opened : Answer w 0 passphrase (opens (volume_key random))
+  pub slot : number ≡ 0
+
+-- the first of the faults has this number
+pub record IsFirstOf (faults : FormatFault → Type 0) (number : ℕ) : Type 0 where
+  pub fault : FormatFault
+  pub least : IsLeast format_key faults fault
+  pub is : number ≡ format_number fault
+
+-- 0 and 106 say that it is planned, and none of the faults stands; 102 that more bytes have to be given, 103 that memory
+-- was refused, any other number which fault is the first; but for 0 the buffers are as they were
+pub record AnswersFormat (first : List ℕ) (total : ℕ) (faults : FormatFault → Type 0) (such : List ℕ → Type 0) (old new : Buffers) (told : LuksPlan) (number : ℕ) : Type 0 where
+  pub planned : number ≡ 0 → HasNoFault faults × IsPlanned first total such old new told number
+  pub room : number ≡ 106 → HasNoFault faults × IsPlanned first total such old new told number
+  pub refused : number ≢ 0 → number ≢ 106 → number ≢ 102 → number ≢ 103 → IsFirstOf faults number
+  pub kept : number ≢ 0 → new ≡ old
+
+-- of a LUKS1 volume
+abbrev pub AnswersFormat1 : List ℕ → ℕ → Data → Format → List ℕ → List ℕ → Buffers → Buffers → LuksPlan → ℕ → Type 0
+AnswersFormat1 first total payload format passphrase random old new told number =
+    AnswersFormat first total (IsFormat1Fault total format random)
+    (IsMade (IsFormatted1 payload format passphrase random (volume first total)) payload passphrase random told.slot) old new told number
+
+-- of a LUKS2 volume
+abbrev pub AnswersFormat2 : List ℕ → ℕ → Data → Format → List ℕ → List ℕ → Buffers → Buffers → LuksPlan → ℕ → Type 0
+AnswersFormat2 first total payload format passphrase random old new told number =
+    AnswersFormat first total (IsFormat2Fault total format random)
+    (IsMade (IsFormatted2 payload format passphrase random (volume first total)) payload passphrase random told.slot) old new told number
+
+-- made by these numbers
+pub record AnswersNumbered (hash iterations : ℕ) (answers : Format → Type 0) : Type 0 where
+  pub format : Format
+  pub is : IsFormat hash iterations format
+  pub so : answers format

@@ -1,0 +1,41 @@
+-- The plan of a call that writes, in the caller's buffers.
+use Rattle.std.specs.Prelude.{◌≡◌, ◌⊎◌, ℕ, ◌<◌, ◌≤◌, List, length}
+use Rattle.luks_given.specs.Volume.{volume}
+use Rattle.luks_planned.specs.declared.planned_writes.PlannedCall.{PlannedCall}
+use Rattle.luks_planned.specs.Plan.{furthest, planned_length, played, IsFlushed}
+use Rattle.luks_c.specs.declared.plans.LuksPlan.{LuksPlan}
+use Rattle.luks_c.specs.Buffers.{filled}
+
+-- played over the first bytes of the volume of `total` bytes, the plan leaves such a volume; it writes none but
+-- these, and a flush comes behind each write
+pub record Leaves (first : List ℕ) (total : ℕ) (such : List ℕ → Type 0) (calls : List PlannedCall) (bytes : List ℕ) : Type 0 where
+  pub leaves : such (volume (played calls bytes first) total)
+  pub inside : furthest calls ≤ length first
+  pub counted : planned_length calls ≡ length bytes
+  pub flushed : IsFlushed calls
+
+-- played over the given bytes, the plan leaves these in their place; it writes none but them
+pub record IsPlan (given left : List ℕ) (calls : List PlannedCall) (bytes : List ℕ) : Type 0 where
+  pub plays : played calls bytes given ≡ left
+  pub inside : furthest calls ≤ length given
+  pub counted : planned_length calls ≡ length bytes
+
+-- the caller's buffers for a plan
+pub record Buffers : Type 0 where
+  pub calls : List PlannedCall
+  pub bytes : List ℕ
+
+-- the plan stands in the front of the buffers; or one of them is too short for it, and both are as they were
+abbrev pub IsPlanGiven : List PlannedCall → List ℕ → Buffers → Buffers → ℕ → Type 0
+IsPlanGiven calls bytes old new number =
+    ((number ≡ 0) × (new.calls ≡ filled old.calls calls) × (new.bytes ≡ filled old.bytes bytes) × (length calls ≤ length old.calls) × (length bytes ≤ length old.bytes))
+    ⊎ ((number ≡ 106) × (new ≡ old) × ((length old.calls < length calls) ⊎ (length old.bytes < length bytes)))
+
+-- a plan that leaves such a volume is told and given
+pub record IsPlanned (first : List ℕ) (total : ℕ) (such : List ℕ → Type 0) (old new : Buffers) (told : LuksPlan) (number : ℕ) : Type 0 where
+  pub calls : List PlannedCall
+  pub bytes : List ℕ
+  pub leaves : Leaves first total such calls bytes
+  pub calls_count : told.calls ≡ length calls
+  pub bytes_count : told.bytes ≡ length bytes
+  pub given : IsPlanGiven calls bytes old new number
