@@ -10,6 +10,17 @@ def ran(words, folder=None, **more):
     return subprocess.run(words, cwd=folder, capture_output=True, **{"timeout": 300, **given, **more})
 
 
+class Compared:
+    """Counts what is compared, and what of it is equal."""
+    compared = equal = 0
+
+    def same(self, what, owed, told):
+        self.compared += 1
+        self.equal += owed == told
+        if owed != told:
+            print(f"DIFFERENT {what}: owed {owed!r:.2000}, told {told!r:.2000}")
+
+
 def status(words, folder):
     return ran(words, folder).returncode
 

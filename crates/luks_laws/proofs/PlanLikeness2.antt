@@ -1,13 +1,12 @@
 -- The plans of a keyslot of LUKS2 are alike.
-use Rattle.std.proofs.Common.{◌≡◌, ℕ, List, codes, refl, ap, subst, true, false, Option, Some}
+use Rattle.std.proofs.Common.{◌≡◌, ℕ, List, refl, subst, Some}
 use Rattle.serde_json.specs.Data.{Data}
 use Rattle.luks_json.specs.AreaText.{Json}
 use Rattle.luks_making.specs.Naming.{IsDigestOf}
 use Rattle.luks_rules.specs.declared.table.Member.TheVariants as name
 use Rattle.luks_rules.specs.declared.table.Outer.TheVariants as outer
 use Rattle.luks_rules.specs.declared.table.Section.TheVariants.{Digests, Keyslots}
-use Rattle.luks_rules.specs.declared.table.When.TheVariants as when
-use Rattle.luks_rules.specs.Faults.{member_at, object_at, suits, type_at}
+use Rattle.luks_rules.specs.Faults.{member_at, object_at}
 use Rattle.luks_rules.specs.Reading.{bytes_in, decimal_in, number_in, text_of}
 use Rattle.luks_meta.specs.Says.{small_at}
 use Rattle.luks_slot.specs.declared.plan.AreaCipher.{AreaCipher}
