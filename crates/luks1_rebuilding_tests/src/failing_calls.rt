@@ -1,0 +1,36 @@
+//! Rebuilding on devices of which each call fails in turn.
+use luks_area::{Device, FaultyDevice, Leave, MemDevice};
+use luks_kdf::HashName;
+use luks_test_devices::{old_bytes, part, put, small1};
+use luks1_rebuilding::{Given, Rebuild1Fault, rebuild1};
+use std::alloc::Global;
+use std::test::Fail;
+
+/// The bytes of the target.
+const LEN: usize = 40960;
+
+/// Whether rebuilding with this call of the target failing is told as it has to be, and nothing at 0 counts then.
+fn told(alloc: Global, volume: &[u8], call: u64, leave: Leave) -> Result<bool, Fail> {
+    let mut source = MemDevice::new(volume.to_vec(alloc)?);
+    let old = MemDevice::new(old_bytes(alloc, LEN)?);
+    let mut target = FaultyDevice::new(old, call, leave);
+    let answer = rebuild1(&mut source, &mut target, &Given::NOTHING);
+    let failures = target.failures();
+    let left = target.into_inner();
+    let whole = part(left.contents(), 0, 6) == b"LUKS\xBA\xBE".as_slice();
+    Ok(match answer {
+        Ok(()) => failures == 0 && whole,
+        Err(fault) => failures == 1 && fault == Rebuild1Fault::Device,
+    })
+}
+
+#[test]
+fn each_call_of_the_target(rt: HostRuntime) -> Result<(), Fail> {
+    let alloc = rt.alloc();
+    let mut volume = small1(alloc, HashName::Sha256)?;
+    put(&mut volume, 0, b"GARBAGE!");
+    for call in 0..64u64 {
+        assert!(rt; told(alloc, &volume, call, Leave::Old)?, "a failed call");
+    }
+    Ok(())
+}

@@ -1,0 +1,3 @@
+pub mod Combinations
+pub mod Openings
+pub mod Faults

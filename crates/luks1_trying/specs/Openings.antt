@@ -1,0 +1,36 @@
+-- Which keyslots of the headers that are made of the volume `v` a passphrase opens.
+use Rattle.std.specs.Prelude.{ℕ, ◌<◌, List, length}
+use Rattle.luks1_header.specs.declared.fault.HeadFault.{HeadFault}
+use Rattle.luks1_mending.specs.Made.{IsMade}
+use Rattle.luks1_mending.specs.Taken.{IsFieldFault}
+use Rattle.luks1_mending.specs.declared.given.Given.{Given}
+use Rattle.luks_reading.specs.Answer.{opens}
+use Rattle.luks1_rebuilding.specs.Gives.{Gives}
+use Rattle.luks1_rebuilding.specs.KeyAreas.{header_of, IsKeptInUse}
+use Rattle.luks1_trying.specs.Combinations.{IsCombination}
+use Rattle.luks1_trying.specs.declared.opening.Opening.{Opening}
+
+-- with what is given a header is made, and its keyslot `n` is kept, in use, and gives a key by the passphrase `p`
+pub record OpensBy (v : List ℕ) (g : Given) (p : List ℕ) (n : ℕ) : Type 0 where
+  pub made : (f : HeadFault) → IsFieldFault (header_of v) g f → ⊥
+  pub in_use : IsKeptInUse v g n
+  pub key : List ℕ
+  pub gives : Gives v g n p (opens key)
+
+-- no keyslot does
+pub record OpensNone (v : List ℕ) (g : Given) (p : List ℕ) : Type 0 where
+  pub none : (n : ℕ) → OpensBy v g p n → ⊥
+
+-- no combination before the one of the number `m` opens any
+abbrev pub OpensNoneBelow : List ℕ → Given → List ℕ → ℕ → Type 0
+OpensNoneBelow v g p m = (n : ℕ) (c : Given) → n < m → IsCombination (header_of v) g n c → OpensNone v c p
+
+-- the first combination that opens a keyslot, the header that is made with it, and the first keyslot of that which
+-- opens
+pub record IsFirstOpening (v : List ℕ) (g : Given) (p : List ℕ) (o : Opening) : Type 0 where
+  pub number : ℕ
+  pub combination : IsCombination (header_of v) g number o.given
+  pub made : IsMade (header_of v) (length v) o.given o.header
+  pub opens : OpensBy v o.given p o.slot
+  pub first_slot : (n : ℕ) → n < o.slot → OpensBy v o.given p n → ⊥
+  pub first : OpensNoneBelow v g p number
