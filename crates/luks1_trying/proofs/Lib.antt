@@ -1,1 +1,4 @@
-
+pub mod HeaderFacts
+pub mod OpeningFacts
+pub mod CombinationFacts
+pub mod JudgingFacts

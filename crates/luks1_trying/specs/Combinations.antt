@@ -21,26 +21,26 @@ tried_lengths = 64 ∷ 32 ∷ 16 ∷ []
 
 -- the text at the place `i` of a field's list: first what is given, or what stands; then those that are tried,
 -- where none is given and another stands
-abbrev pub IsTextAt : List ℕ → Given → TextField → ℕ → Option (List ℕ) → Type 0
-IsTextAt h g t zero text = text ≡ given_text g t
-IsTextAt h g t (suc i) None = ⊥
-IsTextAt h g t (suc i) (Some text) =
-    (given_text g t ≡ None) × (slice_get (tried_texts t) i ≡ Some text) × (text ≢ header_text h t)
+abbrev pub IsTextAt : List ℕ → TextField → Option (List ℕ) → ℕ → Option (List ℕ) → Type 0
+IsTextAt h t given zero text = text ≡ given
+IsTextAt h t given (suc i) None = ⊥
+IsTextAt h t given (suc i) (Some text) =
+    (given ≡ None) × (slice_get (tried_texts t) i ≡ Some text) × (text ≢ header_text h t)
 
 -- the length at that place of its list
-abbrev pub IsLengthAt : List ℕ → Given → ℕ → Option ℕ → Type 0
-IsLengthAt h g zero len = len ≡ g.key_bytes
-IsLengthAt h g (suc i) None = ⊥
-IsLengthAt h g (suc i) (Some len) =
-    (g.key_bytes ≡ None) × (slice_get tried_lengths i ≡ Some len) × (len ≢ key_bytes_of h)
+abbrev pub IsLengthAt : List ℕ → Option ℕ → ℕ → Option ℕ → Type 0
+IsLengthAt h given zero len = len ≡ given
+IsLengthAt h given (suc i) None = ⊥
+IsLengthAt h given (suc i) (Some len) =
+    (given ≡ None) × (slice_get tried_lengths i ≡ Some len) × (len ≢ key_bytes_of h)
 
 -- `c` is what is given, completed by the combination `n` of the 64, of which some are left out: the length
 -- changes fastest, then the hash, then the mode
 pub record IsCombination (h : List ℕ) (g : Given) (n : ℕ) (c : Given) : Type 0 where
   pub numbered : n < 64
-  pub cipher_name : IsTextAt h g CipherName (n / 32) (given_text c CipherName)
-  pub cipher_mode : IsTextAt h g CipherMode (n / 16 % 2) (given_text c CipherMode)
-  pub hash : IsTextAt h g HashSpec (n / 4 % 4) (given_text c HashSpec)
-  pub key_bytes : IsLengthAt h g (n % 4) c.key_bytes
+  pub cipher_name : IsTextAt h CipherName (given_text g CipherName) (n / 32) (given_text c CipherName)
+  pub cipher_mode : IsTextAt h CipherMode (given_text g CipherMode) (n / 16 % 2) (given_text c CipherMode)
+  pub hash : IsTextAt h HashSpec (given_text g HashSpec) (n / 4 % 4) (given_text c HashSpec)
+  pub key_bytes : IsLengthAt h g.key_bytes (n % 4) c.key_bytes
   pub payload : c.payload ≡ g.payload
   pub uuid : c.uuid ≡ g.uuid

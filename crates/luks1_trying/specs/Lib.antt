@@ -1,3 +1,4 @@
 pub mod Combinations
 pub mod Openings
 pub mod Faults
+pub mod Tried

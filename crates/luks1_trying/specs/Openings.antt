@@ -21,6 +21,11 @@ pub record OpensBy (v : List ℕ) (g : Given) (p : List ℕ) (n : ℕ) : Type 0 
 pub record OpensNone (v : List ℕ) (g : Given) (p : List ℕ) : Type 0 where
   pub none : (n : ℕ) → OpensBy v g p n → ⊥
 
+-- the keyslot `n` is the first that does
+pub record IsFirstSlot (v : List ℕ) (g : Given) (p : List ℕ) (n : ℕ) : Type 0 where
+  pub opens : OpensBy v g p n
+  pub first : (m : ℕ) → m < n → OpensBy v g p m → ⊥
+
 -- no combination before the one of the number `m` opens any
 abbrev pub OpensNoneBelow : List ℕ → Given → List ℕ → ℕ → Type 0
 OpensNoneBelow v g p m = (n : ℕ) (c : Given) → n < m → IsCombination (header_of v) g n c → OpensNone v c p
@@ -31,6 +36,5 @@ pub record IsFirstOpening (v : List ℕ) (g : Given) (p : List ℕ) (o : Opening
   pub number : ℕ
   pub combination : IsCombination (header_of v) g number o.given
   pub made : IsMade (header_of v) (length v) o.given o.header
-  pub opens : OpensBy v o.given p o.slot
-  pub first_slot : (n : ℕ) → n < o.slot → OpensBy v o.given p n → ⊥
+  pub opens : IsFirstSlot v o.given p o.slot
   pub first : OpensNoneBelow v g p number

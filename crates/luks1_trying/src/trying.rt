@@ -57,9 +57,9 @@ pub fn try_combinations<D: Device, P: Progress>(
     judge(header.as_slice(), source.len(), given)?;
     for number in 0..COMBINATIONS {
         if let Ok(given) = combination(header.as_slice(), given, number) {
-            let opening = try_given(alloc, source, header.as_slice(), &given, passphrase, progress)?;
-            if opening.is_some() {
-                return Ok(opening);
+            let found = try_given(alloc, source, header.as_slice(), &given, passphrase, progress)?;
+            if let Some(opening) = found {
+                return Ok(Some(opening));
             }
         }
     }
