@@ -2,3 +2,4 @@ pub mod HeaderFacts
 pub mod OpeningFacts
 pub mod CombinationFacts
 pub mod JudgingFacts
+pub mod AlikeFacts

@@ -2,3 +2,4 @@ pub mod Combinations
 pub mod Openings
 pub mod Faults
 pub mod Tried
+pub mod Alike

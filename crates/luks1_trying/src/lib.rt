@@ -4,10 +4,12 @@
 
 mod combinations;
 mod judging;
+mod laws;
 mod opening;
 mod progress;
 mod trying;
 
+pub use laws::plain_gives_alike;
 pub use opening::Opening;
 pub use progress::{Progress, Untold};
 pub use trying::try_combinations;
