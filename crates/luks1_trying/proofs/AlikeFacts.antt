@@ -26,7 +26,7 @@ record AreAlike (v : List ℕ) (g c : Given) : Type 0 where
   pub cipher_name : taken_text (header_of v) g CipherName ≡ taken_text (header_of v) c CipherName
   pub hash : taken_text (header_of v) g HashSpec ≡ taken_text (header_of v) c HashSpec
   pub key_bytes : key_of v g ≡ key_of v c
-  pub open : (text : List ℕ) → text ≡ taken_text (header_of v) g CipherMode
+  pub alike : (text : List ℕ) → text ≡ taken_text (header_of v) g CipherMode
       → (bytes_eq text (codes "xts-plain64") || bytes_eq text (codes "xts-plain")) ≡ (bytes_eq mode (codes "xts-plain64") || bytes_eq mode (codes "xts-plain"))
 
 -- a plan with the other mode
@@ -47,7 +47,7 @@ module _ {v : List ℕ} {g c : Given} (x : AreAlike v g c) (n : ℕ) where
   cipher_there (Whole text) is = is
 
   open_there : (a : AreaCipher) → IsKeptCipher v g a → is_open_cipher a ≡ is_open_cipher (cipher_by x.mode a)
-  open_there (Apart name m) is = ap (λ b. bytes_eq name.now (codes "aes") && b) (x.open m.now is.1)
+  open_there (Apart name m) is = ap (λ b. bytes_eq name.now (codes "aes") && b) (x.alike m.now is.1)
   open_there (Whole text) is = refl
 
   there : (plan : SlotPlan) → IsKeptPlan v g n plan → IsKeptPlan v c n (plan_by x.mode plan)
@@ -121,7 +121,7 @@ to_whole v whole low x = record {
   cipher_name = x.cipher_name;
   hash = x.hash;
   key_bytes = x.key_bytes;
-  open = λ text is. ap (λ t. bytes_eq t (codes "xts-plain64") || bytes_eq t (codes "xts-plain")) (is ∙ x.low_mode);
+  alike = λ text is. ap (λ t. bytes_eq t (codes "xts-plain64") || bytes_eq t (codes "xts-plain")) (is ∙ x.low_mode);
 }
 
 to_low : (v : List ℕ) (whole low : Given) → TakesPlain v whole low → AreAlike v whole low
@@ -131,7 +131,7 @@ to_low v whole low x = record {
   cipher_name = sym x.cipher_name;
   hash = sym x.hash;
   key_bytes = sym x.key_bytes;
-  open = λ text is. ap (λ t. bytes_eq t (codes "xts-plain64") || bytes_eq t (codes "xts-plain")) (is ∙ x.whole_mode);
+  alike = λ text is. ap (λ t. bytes_eq t (codes "xts-plain64") || bytes_eq t (codes "xts-plain")) (is ∙ x.whole_mode);
 }
 
 pub low_gives : (v : List ℕ) (whole low : Given) → TakesPlain v whole low → (n : ℕ) (p : List ℕ) (a : Opened) → Gives v low n p a → Gives v whole n p a

@@ -57,7 +57,7 @@ front_of c able =
     let v9 : List ℕ = written v8 132 c.mk_digest_salt in
     let v10 : List ℕ = written v9 164 (big_bytes 4 c.mk_digest_iterations) in
     let v11 : List ℕ = written v10 168 c.uuid.bytes in
-    let l0 : length v0 ≡ 592 = length-replicate 592 0 in
+    let l0 : length v0 ≡ 592 = length-replicate {A = ℕ} 592 0 in
     let l1 : length v1 ≡ 592 = put_long v0 luks_magic 0 l0 (lit≤ tt) in
     let l2 : length v2 ≡ 592 = put_long v1 (big_bytes 2 1) 6 l1 (omega (arith, n2)) in
     let l3 : length v3 ≡ 592 = put_long v2 c.cipher_name.bytes 8 l2 (omega (arith, t3)) in

@@ -72,10 +72,10 @@ module _ (h : List ℕ) (source total : ℕ) (g u : Given) (x : IsUsable g u) wh
     where
       length_is : (given : Option ℕ) (stands : ℕ) (taken : Option ℕ) → taken ≡ Some (unwrap_or given 64)
           → (1 ≤ unwrap_or taken stands → unwrap_or taken stands ≤ 128 → ⊥) → g.key_bytes ≡ given → IsGivenLengthUnusable g
-      length_is None stands taken is no told =
-          absurd (subst (λ o. 1 ≤ unwrap_or o stands → unwrap_or o stands ≤ 128 → ⊥) is no (lit≤ tt) (lit≤ tt))
-      length_is (Some len) stands taken is no told =
-          record { len = len; given = told; bad = subst (λ o. 1 ≤ unwrap_or o stands → unwrap_or o stands ≤ 128 → ⊥) is no }
+      length_is None stands taken is bad_length told =
+          absurd (subst (λ o. 1 ≤ unwrap_or o stands → unwrap_or o stands ≤ 128 → ⊥) is bad_length (lit≤ tt) (lit≤ tt))
+      length_is (Some len) stands taken is bad_length told =
+          record { len = len; given = told; bad = subst (λ o. 1 ≤ unwrap_or o stands → unwrap_or o stands ≤ 128 → ⊥) is bad_length }
 
   key_own : IsGivenLengthUnusable g → IsFieldFault h u head.KeyBytes
   key_own bad =

@@ -1,13 +1,16 @@
 -- What trying a keyslot of a header that was made tells.
-use Rattle.std.proofs.Common.{◌≡◌, ℕ, ◌+◌, ◌<◌, ◌≤◌, List, length, Bool, true, false, Option, Some, None, Result, Ok, Err, IfErr, IfOk, IsTrue, OnOk, ◌↔◌, inl, inr, refl, sym, ap, subst, ◌∙◌, arith}
+use Rattle.std.proofs.Common.{◌≡◌, ℕ, ◌+◌, ◌*◌, ◌<◌, ◌≤◌, List, length, Bool, true, false, Option, Some, None, Result, Ok, Err, IfErr, IfOk, IsTrue, OnOk, ◌↔◌, inl, inr, refl, sym, ap, subst, ◌∙◌, arith}
 use Rattle.luks_area.specs.Ranges.{part}
+use Rattle.luks_area.specs.RangeFacts.{length-part}
+use Rattle.luks_area.specs.Sectors.{rounded_to_sectors}
 use Rattle.luks_area.specs.declared.area.Area.{Area}
 use Rattle.luks_area.specs.declared.device.DeviceFault.{DeviceFault}
-use Rattle.luks1_header.specs.Header1.{active_word, enabled_word, entry, entry_iterations, entry_key_material_offset, entry_salt, entry_stripes, IsEntry}
+use Rattle.luks1_header.specs.Header1.{active_word, enabled_word, entry, entry_iterations, entry_key_material_offset, entry_salt, entry_stripes, key_bytes_of, IsCommon, IsEntry}
 use Rattle.luks1_header.specs.declared.fault.HeadFault.{HeadFault}
 use Rattle.luks1_header.specs.declared.fault.HeadFault.TheVariants as head
 use Rattle.luks1_header.specs.declared.fault.IterationsOf.TheVariants as of
 use Rattle.luks1_header.specs.declared.luks1.Luks1.{Luks1}
+use Rattle.luks1_header.specs.declared.luks1.Luks1Slot.{Luks1Slot}
 use Rattle.luks1_header.specs.declared.luks1.SlotState.{SlotState}
 use Rattle.luks1_header.specs.declared.luks1.SlotState.TheVariants.{Disabled, Enabled}
 use Rattle.luks1_mending.specs.Areas.{own_area, stripes_area}
@@ -15,7 +18,7 @@ use Rattle.luks1_mending.specs.Kept.{IsKept}
 use Rattle.luks1_mending.specs.Made.{IsMade}
 use Rattle.luks1_mending.specs.Taken.{taken_key_bytes, IsFieldFault}
 use Rattle.luks1_mending.specs.declared.given.Given.{Given}
-use Rattle.luks1_mending.proofs.HeaderFacts.{common_held, text_there}
+use Rattle.luks1_mending.proofs.HeaderFacts.{common_held, common_there, text_there}
 use Rattle.luks_slot.specs.Fault.{IsAnsweredFault}
 use Rattle.luks_slot.specs.Opening.{area_bytes, slot_key}
 use Rattle.luks_slot.specs.Refusal.{slot_refusal}
@@ -23,7 +26,8 @@ use Rattle.luks_slot.specs.declared.fault.SlotFault.{SlotFault}
 use Rattle.luks_slot.specs.declared.fault.SlotFault.TheVariants as slot
 use Rattle.luks_slot.specs.declared.plan.SlotPlan.{SlotPlan}
 use Rattle.luks_reading.specs.Answer.{opens}
-use Rattle.luks_reading.specs.Plans.{HasLuks1Plan}
+use Rattle.luks_reading.specs.PlanAnswers.{IsOpenable}
+use Rattle.luks_reading.specs.Plans.{HasLuks1Plan, IsLuks1Plan}
 use Rattle.luks_reading.specs.declared.open_fault.OpenFault.{OpenFault}
 use Rattle.luks_reading.specs.declared.open_fault.OpenFault.TheVariants.{Head, Meta, NoSuchSlot, SlotFree, Outside, Slot, Device, Memory}
 use Rattle.luks_reading.proofs.Luks1Plans.{one_luks1_plan}
@@ -36,7 +40,11 @@ use Rattle.luks1_rebuilding.specs.KeyAreas.{header_of, IsKeptInUse}
 use Rattle.luks1_rebuilding.specs.Used.{any_slot, slot_at}
 use Rattle.luks1_trying.specs.Openings.{OpensBy}
 use Rattle.luks1_trying.specs.Tried.{IsMadeOf, IsTried}
-use Rattle.luks1_trying.proofs.HeaderFacts.{HasEntry}
+use Rattle.luks1_trying.proofs.HeaderFacts.{entry_of, front_of, HasEntry, IsWritable}
+
+-- false isn't true
+untrue : IsTrue false → ⊥
+untrue t = cc
 
 -- of a header that was made no field was at fault
 pub made_faultless : (h : List ℕ) (total : ℕ) (g : Given) (d : Luks1) → IsMade h total g d → (f : HeadFault) → IsFieldFault h g f → ⊥
@@ -90,23 +98,20 @@ module _ {v : List ℕ} {g : Given} {n : ℕ} {b : List ℕ} (says : SaysKept v 
   refused : (f : SlotFault) → slot_refusal plan ≡ Some f → OpensBy v g p n → ⊥
   refused f bad x = x.gives.unrefused (Slot f) (record { plan = plan; is = plan_here says plan is; refused = bad })
 
-  tells : Option (List ℕ) → Type 0
-  tells key = key ≡ slot_key plan (area_bytes v plan.area) p
-
   abbrev pub Answer : Result Bool DeviceFault → Type 0
-  Answer q = IfOk q (λ yes. IsTrue yes ↔ OpensBy v g p n)
+  Answer q = IfOk q (λ is. IsTrue is ↔ OpensBy v g p n)
 
   opened : (key : Option (List ℕ)) → slot_refusal plan ≡ None → key ≡ slot_key plan (area_bytes v plan.area) p → (q : Result Bool DeviceFault)
       → IsTried (Ok key) q → Answer q
-  opened (Some k) none key q is = subst Answer (sym is) ((λ yes. found k none (sym key)), (λ x. tt))
-  opened None none key q is = subst Answer (sym is) ((λ no. absurd no), (λ x. absurd (only x p (sym key))))
+  opened (Some k) none key q is = subst Answer (sym is) ((λ t. found k none (sym key)), (λ x. refl))
+  opened None none key q is = subst Answer (sym is) ((λ t. absurd (untrue t)), (λ x. absurd (only x p (sym key))))
 
   shut : (f : SlotFault) → slot_refusal plan ≡ Some f → (q : Result Bool DeviceFault) → q ≡ Ok false → Answer q
-  shut f bad q is = subst Answer (sym is) ((λ no. absurd no), (λ x. absurd (refused f bad x)))
+  shut f bad q is = subst Answer (sym is) ((λ t. absurd (untrue t)), (λ x. absurd (refused f bad x)))
 
   failed : (q : Result Bool DeviceFault) → OnOk q ⊥ → Answer q
-  failed (Ok yes) no = absurd no
-  failed (Err f) no = tt
+  failed (Ok b) never = absurd never
+  failed (Err f) never = tt
 
   not_opened : (f : SlotFault) → IsAnsweredFault plan f → (q : Result Bool DeviceFault) → IsTried (Err f) q → Answer q
   not_opened slot.Argon2 bad q is = shut slot.Argon2 bad q is
@@ -161,3 +166,67 @@ says_of v g d made n lt x =
       sector = ap entry_key_material_offset x.there;
       stripes = ap entry_stripes x.there;
     }
+
+-- of a keyslot that is kept in a volume the header is whole
+pub header_long : (v : List ℕ) (k n : ℕ) → IsKept (header_of v) k (length v) n → length (header_of v) ≡ 592
+header_long v k n kept =
+    let behind = kept.sound.behind in
+    let inside = kept.sound.inside in
+    let is = length-part v 0 592 in
+    omega (arith, behind, inside, is)
+
+-- ---- the plan of an enabled keyslot of a header that was made
+
+module _ (d : Luks1) (n : ℕ) (lt : n < 8) (able : IsWritable d.common) (s : Luks1Slot) (here : s ≡ slot_at d n) (on : s.state ≡ Enabled) (plan : SlotPlan)
+    (is : (h e : List ℕ) → IsCommon h d.common → IsEntry e s → IsLuks1Plan h e plan)
+    (judged : (h e : List ℕ) → IsCommon h d.common → IsEntry e s → active_word e ≡ enabled_word → IsOpenable plan) where
+  on_there : (slot_at d n).state ≡ Enabled
+  on_there = ap (λ (q : Luks1Slot). q.state) (sym here) ∙ on
+
+  module _ (h : List ℕ) (total : ℕ) (g : Given) (made : IsMade h total g d) (long : length h ≡ 592) where
+    kept : IsKeptEntry h g total d n
+    kept = kept_entry_of h total g d made n lt on_there
+
+    says : IsEntry (entry h n) s
+    says = subst (IsEntry (entry h n)) (sym here) kept.says
+
+    pub whole : HasEntry d.common n (entry h n)
+    whole = entry_of d.common n (entry h n) (front_of d.common able) lt (let size = length-part h (208 + 48 * n) 48 in omega (arith, size, long, lt))
+
+    common : IsCommon whole.bytes d.common
+    common = common_there h g d.common made.common whole.bytes whole.put
+
+    pub openable : IsOpenable plan
+    openable = judged whole.bytes (entry h n) common says kept.enabled
+
+    pub has_plan : HasLuks1Plan whole.bytes n plan
+    has_plan = record { numbered = lt; is = subst (λ e. IsLuks1Plan whole.bytes e plan) (sym whole.there) (is whole.bytes (entry h n) common says) }
+
+    pub inside : plan.area.start + plan.area.len ≤ total
+    inside =
+        let start = has_plan.is.start ∙ ap (λ e. entry_key_material_offset e * 512) whole.there in
+        let key = (common_held h g d.common made.common whole.bytes whole.put).key_bytes ∙ made.common.key_bytes in
+        let len = has_plan.is.len ∙ ap (λ e. rounded_to_sectors (key_bytes_of whole.bytes * entry_stripes e)) whole.there
+            ∙ ap (λ k. rounded_to_sectors (k * entry_stripes (entry h n))) key in
+        let within = kept.kept.sound.inside in
+        omega (arith, start, len, within)
+
+  -- what trying it tells of the volume
+  pub tells_opening : (v : List ℕ) (g : Given) → IsMadeOf v g d → (p : List ℕ) (r : Result (Option (List ℕ)) SlotFault) (q : Result Bool DeviceFault)
+      → IfErr r (IsAnsweredFault plan) → OnOk r (slot_refusal plan ≡ None) → IfOk r (λ key. key ≡ slot_key plan (area_bytes v plan.area) p) → IsTried r q
+      → IfOk q (λ b. IsTrue b ↔ OpensBy v g p n)
+  tells_opening v g made p r q fault none value tried =
+      let h : List ℕ = header_of v in
+      let entry_kept = kept_entry_of h (length v) g d made n lt on_there in
+      let long = header_long v (taken_key_bytes h g) n entry_kept.kept in
+      let x = whole h (length v) g made long in
+      answered (says_of v g d made n lt x) (record { kept = entry_kept.kept; enabled = entry_kept.enabled }) p (made_faultless h (length v) g d made) plan (has_plan h (length v) g made long) r q fault none value tried
+
+-- a disabled keyslot opens by no passphrase
+pub tells_shut : (v : List ℕ) (g : Given) (d : Luks1) → IsMadeOf v g d → (n : ℕ) → n < 8 → (s : Luks1Slot) → s ≡ slot_at d n → s.state ≡ Disabled → (p : List ℕ)
+    → IsTrue false ↔ OpensBy v g p n
+tells_shut v g d made n lt s here off p =
+    ((λ t. absurd (untrue t)), (λ x. absurd (no_state (slot_at d n).state (enabled_there (header_of v) (length v) g d made n lt x.in_use.kept x.in_use.enabled) (ap (λ (q : Luks1Slot). q.state) (sym here) ∙ off))))
+  where
+    no_state : (t : SlotState) → t ≡ Enabled → t ≡ Disabled → ⊥
+    no_state t on disabled = cc

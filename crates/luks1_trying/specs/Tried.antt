@@ -5,6 +5,7 @@ use Rattle.luks_area.specs.declared.device.DeviceFault.{DeviceFault}
 use Rattle.luks_slot.specs.declared.fault.SlotFault.{SlotFault}
 use Rattle.luks_slot.specs.declared.fault.SlotFault.TheVariants.{Device}
 use Rattle.luks1_header.specs.declared.fault.TextField.TheVariants.{CipherMode, CipherName, HashSpec}
+use Rattle.luks1_header.specs.Header1.{luks1_size}
 use Rattle.luks1_header.specs.declared.luks1.Luks1.{Luks1}
 use Rattle.luks1_mending.specs.Made.{IsMade}
 use Rattle.luks1_mending.specs.Taken.{given_text}
@@ -17,9 +18,10 @@ use Rattle.luks1_trying.specs.declared.opening.Opening.{Opening}
 abbrev pub bytes_of : Option (ArrayString 32) → Option (List ℕ)
 bytes_of text = option_map (λ t. t.bytes) text
 
--- the header was made of some bytes of a volume of `total` bytes
+-- the header was made of the first 592 bytes of some volume of `total` bytes
 pub record IsMadeOfSome (d : Luks1) (total : ℕ) : Type 0 where
   pub bytes : List ℕ
+  pub long : length bytes ≡ luks1_size
   pub given : Given
   pub made : IsMade bytes total given d
 

@@ -102,10 +102,11 @@ fn is_opened<D: Device>(
         → IsMadeOf (D.bytes source.old) g made.now
         → IsTrue is ↔ OpensBy (D.bytes source.old) g passphrase.now n) }
 {
+    let common = made.common;
     let slot = made.slots[n as usize];
     match slot.state {
         SlotState::Enabled => {
-            let plan = luks1_plan(&made.common, &slot);
+            let plan = luks1_plan(&common, &slot);
             tried(open(alloc, source, &plan, passphrase))
         }
         SlotState::Disabled => Ok(false),

@@ -1,0 +1,15 @@
+use Rattle.std.proofs.Common.{◌≡◌, ◌∙◌, ℕ, List, length, refl, subst, sym}
+use Rattle.luks1_mending.specs.Made.{IsMade}
+use Rattle.luks1_rebuilding.specs.KeyAreas.{header_of}
+use Rattle.luks1_rebuilding.proofs.RebuiltFacts.{moved}
+use Rattle.luks1_trying.specs.Tried.{IsMadeOf}
+use Rattle.luks1_trying.proofs.opening.try_given.Goals as goal
+
+pub returns-in-Some-clause-opens : goal.returns-in-Some-clause-opens
+returns-in-Some-clause-opens g c = λ tells.
+    let v = g.D.Device.bytes c.args.source.now in
+    let given = c.args.given.now in
+    let sized : length v ≡ c.len.result = g.met.D.Device.sized c.args.source.now tells ∙ sym c.len.ensures in
+    let made : IsMadeOf v given c.in-Ok.made =
+    moved (λ h n. IsMade h n given c.in-Ok.made) c.args.header.now (header_of v) c.len.result (length v) (c.requires.header tells) (sym sized) c.in-Ok.ensures.made in
+    record { given = refl; made = made; opens = ? }
