@@ -20,7 +20,7 @@ use Rattle.luks1_rebuilding.specs.KeyAreas.{header_of, key_of}
 use Rattle.luks1_trying.specs.Alike.{TakesPlain}
 
 -- the two take the same but for the modes, which open alike
-record AreAlike (v : List ℕ) (g c : Given) : Type 0 where
+pub record AreAlike (v : List ℕ) (g c : Given) : Type 0 where
   pub mode : List ℕ
   pub takes_mode : taken_text (header_of v) c CipherMode ≡ mode
   pub cipher_name : taken_text (header_of v) g CipherName ≡ taken_text (header_of v) c CipherName
@@ -30,11 +30,11 @@ record AreAlike (v : List ℕ) (g c : Given) : Type 0 where
       → (bytes_eq text (codes "xts-plain64") || bytes_eq text (codes "xts-plain")) ≡ (bytes_eq mode (codes "xts-plain64") || bytes_eq mode (codes "xts-plain"))
 
 -- a plan with the other mode
-abbrev cipher_by : List ℕ → AreaCipher → AreaCipher
+abbrev pub cipher_by : List ℕ → AreaCipher → AreaCipher
 cipher_by mode (Apart name m) = Apart name (record m { now = mode })
 cipher_by mode (Whole text) = Whole text
 
-abbrev plan_by : List ℕ → SlotPlan → SlotPlan
+abbrev pub plan_by : List ℕ → SlotPlan → SlotPlan
 plan_by mode plan = record plan { cipher = cipher_by mode plan.cipher }
 
 module _ {v : List ℕ} {g c : Given} (x : AreAlike v g c) (n : ℕ) where
@@ -108,7 +108,7 @@ module _ {v : List ℕ} {g c : Given} (x : AreAlike v g c) (n : ℕ) where
     key = sym (same_answer y.plan (plan_by x.mode y.plan) v p (fields y.plan y.is)) ∙ y.key;
   }
 
-  gives_there : (back : (f : OpenFault) → IsRefusedKept v c n f → IsRefusedKept v g n f) (p : List ℕ) (a : Opened) → Gives v g n p a → Gives v c n p a
+  pub gives_there : (back : (f : OpenFault) → IsRefusedKept v c n f → IsRefusedKept v g n f) (p : List ℕ) (a : Opened) → Gives v g n p a → Gives v c n p a
   gives_there back p (refused f) y = (refused_there f y.0, λ e bad. y.1 e (back e bad))
   gives_there back p (opens k) y = key_there back p (Some k) y
   gives_there back p no_key y = key_there back p None y

@@ -1,5 +1,5 @@
 -- The faults that stand with each combination are those of what is given, completed by usable values.
-use Rattle.std.proofs.Common.{◌≡◌, ℕ, ◌<◌, ◌≤◌, List, Option, Some, None, inl, inr, refl, sym, ap, subst, ◌∙◌, unwrap_or, codes, option_map, lit≤}
+use Rattle.std.proofs.Common.{◌≡◌, ℕ, ◌<◌, ◌≤◌, List, Option, Some, None, inl, inr, refl, sym, ap, subst, ◌∙◌, false, unwrap_or, codes, option_map, lit≤}
 use Rattle.arrayvec.specs.declared.array_string.ArrayString.{ArrayString}
 use Rattle.luks_area.specs.First.{IsLeast}
 use Rattle.luks1_header.specs.Bytes.{IsUuid}
@@ -14,10 +14,10 @@ use Rattle.luks1_mending.specs.Taken.{given_text, IsFieldFault, IsName}
 use Rattle.luks1_mending.specs.declared.given.Given.{Given}
 use Rattle.luks1_rebuilding.proofs.FaultFacts.{field_first, no_header_first}
 use Rattle.luks1_rebuilding.specs.Outcome.{IsFaultOf, IsWhole, LacksHeader}
-use Rattle.luks1_rebuilding.specs.RebuildFaults.{field_fault, rebuild_key}
+use Rattle.luks1_rebuilding.specs.RebuildFaults.{field_fault, is_rebuild_failure, rebuild_key}
 use Rattle.luks1_rebuilding.specs.declared.rebuild_fault.Rebuild1Fault.{Rebuild1Fault}
 use Rattle.luks1_rebuilding.specs.declared.rebuild_fault.Rebuild1Fault.TheVariants.{Counts, NoHeader, Text, KeyBytes, Iterations, TooSmall, Area, Device}
-use Rattle.luks1_trying.specs.Faults.{IsFaultOfAll, IsGivenLengthUnusable, IsGivenUnusable, LacksText}
+use Rattle.luks1_trying.specs.Faults.{IsAnsweredTrialFault, IsFaultOfAll, IsGivenLengthUnusable, IsTrialFault, LacksText}
 use Rattle.luks1_trying.specs.Tried.{IsUsable}
 
 -- a name that is tried is one
@@ -127,3 +127,16 @@ module _ (h : List ℕ) (source total : ℕ) (g u : Given) (x : IsUsable g u) wh
     none fields TooSmall bad = bad
     none fields (Area f) bad = bad
     none fields Device bad = bad
+
+-- ---- what is answered
+
+-- a fault that isn't a device's is the first
+pub answered : (v : List ℕ) (g : Given) (f : Rebuild1Fault) → is_rebuild_failure f ≡ false → IsLeast rebuild_key (IsTrialFault v g) f → IsAnsweredTrialFault v g f
+answered v g Device own least = tt
+answered v g Counts own least = least
+answered v g NoHeader own least = least
+answered v g (Text t) own least = least
+answered v g KeyBytes own least = least
+answered v g Iterations own least = least
+answered v g TooSmall own least = least
+answered v g (Area f) own least = least

@@ -3,3 +3,4 @@ pub mod OpeningFacts
 pub mod CombinationFacts
 pub mod JudgingFacts
 pub mod AlikeFacts
+pub mod SameFacts

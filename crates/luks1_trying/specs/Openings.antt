@@ -26,15 +26,22 @@ pub record IsFirstSlot (v : List ℕ) (g : Given) (p : List ℕ) (n : ℕ) : Typ
   pub opens : OpensBy v g p n
   pub first : (m : ℕ) → m < n → OpensBy v g p m → ⊥
 
--- no combination before the one of the number `m` opens any
-abbrev pub OpensNoneBelow : List ℕ → Given → List ℕ → ℕ → Type 0
-OpensNoneBelow v g p m = (n : ℕ) (c : Given) → n < m → IsCombination (header_of v) g n c → OpensNone v c p
-
--- the first combination that opens a keyslot, the header that is made with it, and the first keyslot of that which
--- opens
-pub record IsFirstOpening (v : List ℕ) (g : Given) (p : List ℕ) (o : Opening) : Type 0 where
-  pub number : ℕ
-  pub combination : IsCombination (header_of v) g number o.given
+-- the combination `n` makes this header, and this is the first keyslot of it that does
+pub record IsOpeningAt (v : List ℕ) (g : Given) (p : List ℕ) (n : ℕ) (o : Opening) : Type 0 where
+  pub combination : IsCombination (header_of v) g n o.given
   pub made : IsMade (header_of v) (length v) o.given o.header
   pub opens : IsFirstSlot v o.given p o.slot
+
+-- by the combination `n` no keyslot does
+abbrev pub OpensNoneAt : List ℕ → Given → List ℕ → ℕ → Type 0
+OpensNoneAt v g p n = (c : Given) → IsCombination (header_of v) g n c → OpensNone v c p
+
+-- nor by those before the number `m`
+abbrev pub OpensNoneBelow : List ℕ → Given → List ℕ → ℕ → Type 0
+OpensNoneBelow v g p m = (n : ℕ) → n < m → OpensNoneAt v g p n
+
+-- the first combination that opens a keyslot
+pub record IsFirstOpening (v : List ℕ) (g : Given) (p : List ℕ) (o : Opening) : Type 0 where
+  pub number : ℕ
+  pub is : IsOpeningAt v g p number o
   pub first : OpensNoneBelow v g p number

@@ -4,9 +4,10 @@ ghost use Rattle.luks_area.specs.Device.{CountsFailure, IsUnchanged, is_failure}
 ghost use Rattle.luks1_header.specs.Header1.{luks1_size};
 ghost use Rattle.luks1_mending.specs.declared.given.Given.{Given as TheGiven};
 ghost use Rattle.luks1_rebuilding.specs.KeyAreas.{header_of};
-ghost use Rattle.luks1_trying.specs.Openings.{IsFirstSlot, OpensBy, OpensNone};
+ghost use Rattle.luks1_trying.specs.Openings.{IsFirstSlot, IsOpeningAt, OpensBy, OpensNone, OpensNoneAt};
 ghost use Rattle.luks1_trying.specs.Tried.{IsMadeOf, IsMadeOfSome, IsOpeningBy, IsTried};
 
+use crate::combinations::{LeftOut, combination};
 use crate::progress::Progress;
 use luks_area::{Device, DeviceFault};
 use luks_head::{Luks1, SlotState};
@@ -26,8 +27,35 @@ pub struct Opening {
     pub slot: u8,
 }
 
+/// What the passphrase opens by the combination of this number.
+pub(crate) fn try_number<D: Device, P: Progress>(
+    alloc: Global,
+    source: &mut D,
+    header: &[u8],
+    given: &Given,
+    number: u8,
+    passphrase: &[u8],
+    progress: &mut P,
+) -> Result<Option<Opening>, DeviceFault>
+    requires long { length header.now ≡ luks1_size }
+    requires header { D.tells → header.now ≡ header_of (D.bytes source.old) }
+    requires numbered { number < 64 }
+    requires room { D.failed source.old + 1 < 2 ^ 64 }
+    ensures unchanged { IsUnchanged D.tells D.size D.bytes D.unsettled source.old source.new }
+    ensures count { CountsFailure is_failure result (D.failed source.old) (D.failed source.new) }
+    ensures opens { D.tells → IfOk result (λ found. IfSome found
+        (IsOpeningAt (D.bytes source.old) given.now passphrase.now number)) }
+    ensures none { D.tells → IfOk result (λ found. IfNone found
+        (OpensNoneAt (D.bytes source.old) given.now passphrase.now number)) }
+{
+    match combination(header, given, number) {
+        Ok(completed) => try_given(alloc, source, header, &completed, passphrase, progress),
+        Err(LeftOut) => Ok(None),
+    }
+}
+
 /// What the passphrase opens of the header that is made with this, of the source's first 592 bytes.
-pub(crate) fn try_given<D: Device, P: Progress>(
+fn try_given<D: Device, P: Progress>(
     alloc: Global,
     source: &mut D,
     header: &[u8],

@@ -6,9 +6,9 @@ ghost use Rattle.luks1_rebuilding.specs.declared.rebuild_fault.Rebuild1Fault.{Re
 ghost use Rattle.luks1_trying.specs.Faults.{IsAnsweredTrialFault, IsTrialFault};
 ghost use Rattle.luks1_trying.specs.Openings.{IsFirstOpening, OpensNoneBelow};
 
-use crate::combinations::{COMBINATIONS, combination};
+use crate::combinations::COMBINATIONS;
 use crate::judging::judge;
-use crate::opening::{Opening, try_given};
+use crate::opening::{Opening, try_number};
 use crate::progress::Progress;
 use luks_area::Device;
 use luks1_mending::Given;
@@ -53,14 +53,13 @@ pub fn try_combinations<D: Device, P: Progress>(
     ensures none { D.tells → IfOk result (λ found. IfNone found
         (OpensNoneBelow (D.bytes source.old) given.now passphrase.now 64)) }
 {
-    let header = first_bytes(source)?;
-    judge(header.as_slice(), source.len(), given)?;
+    let bytes = first_bytes(source)?;
+    let header = bytes.as_slice();
+    judge(header, source.len(), given)?;
     for number in 0..COMBINATIONS {
-        if let Ok(given) = combination(header.as_slice(), given, number) {
-            let found = try_given(alloc, source, header.as_slice(), &given, passphrase, progress)?;
-            if let Some(opening) = found {
-                return Ok(Some(opening));
-            }
+        match try_number(alloc, source, header, given, number, passphrase, progress)? {
+            Some(opening) => return Ok(Some(opening)),
+            None => {}
         }
     }
     Ok(None)

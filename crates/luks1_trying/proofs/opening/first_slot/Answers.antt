@@ -1,4 +1,4 @@
-use Rattle.std.proofs.Common.{◌≡◌, ◌<◌, ◌∙◌, ℕ, List, IsTrue, subst, sym, arith, below_more}
+use Rattle.std.proofs.Common.{◌≡◌, ◌<◌, ◌∙◌, ℕ, List, IsTrue, subst, sym, arith, rules, below_more}
 use Rattle.luks_area.specs.Device.{unchanged-then}
 use Rattle.luks1_trying.specs.Openings.{OpensBy}
 use Rattle.luks1_trying.specs.Tried.{IsMadeOf, IsMadeOfSome}
@@ -9,7 +9,7 @@ returns-then-branch-clause-opens g c = λ tells given made.
     let same = c.loop-n.invariant.unchanged.same tells in
     let opened = c.in_ok-is_opened.ensures.opens tells given (subst (λ v. IsMadeOf v given c.args.made.now) (sym same) made) in
     record {
-      opens = subst (λ v. OpensBy v given c.args.passphrase.now c.loop-n.n) same (opened.0 ?);
+      opens = subst (λ v. OpensBy v given c.args.passphrase.now c.loop-n.n) same (opened.0 (search rules));
       first = c.loop-n.invariant.shut tells given made;
     }
 
@@ -23,7 +23,7 @@ loop-n-preserved g c = record {
       let same = c.loop-n.invariant.unchanged.same tells in
       let opened = c.in_ok-is_opened.ensures.opens tells given (subst (λ w. IsMadeOf w given c.args.made.now) (sym same) made) in
       below_more (λ m. OpensBy v given p m → ⊥) c.loop-n.n (c.loop-n.invariant.shut tells given made)
-      (λ x. (let yes = opened.1 (subst (λ w. OpensBy w given p c.loop-n.n) (sym same) x) in let no = c.if-branch.false in ?));
+      (λ x. (let yes = opened.1 (subst (λ w. OpensBy w given p c.loop-n.n) (sym same) x) in let no = c.if-branch.false in absurd (cc)));
 }
 
 pub returns-clause-none : goal.returns-clause-none
