@@ -1,4 +1,3 @@
-pub mod HeaderFacts
 pub mod OpeningFacts
 pub mod CombinationFacts
 pub mod JudgingFacts

@@ -1,11 +1,11 @@
 -- What trying a keyslot of a header that was made tells.
 use Rattle.std.proofs.Common.{◌≡◌, ℕ, ◌+◌, ◌*◌, ◌<◌, ◌≤◌, List, length, Bool, true, false, Option, Some, None, Result, Ok, Err, IfErr, IfOk, IsTrue, OnOk, ◌↔◌, inl, inr, refl, sym, ap, subst, ◌∙◌, arith}
 use Rattle.luks_area.specs.Ranges.{part}
-use Rattle.luks_area.specs.RangeFacts.{length-part}
 use Rattle.luks_area.specs.Sectors.{rounded_to_sectors}
 use Rattle.luks_area.specs.declared.area.Area.{Area}
 use Rattle.luks_area.specs.declared.device.DeviceFault.{DeviceFault}
-use Rattle.luks1_header.specs.Header1.{active_word, enabled_word, entry, entry_iterations, entry_key_material_offset, entry_salt, entry_stripes, key_bytes_of, IsCommon, IsEntry}
+use Rattle.luks1_header.specs.Header1.{active_word, enabled_word, entry, entry_stripes, key_bytes_of, word_of, IsCommon, IsEntry, IsLuks1}
+use Rattle.luks1_header.specs.Written.{WritesLuks1}
 use Rattle.luks1_header.specs.declared.fault.HeadFault.{HeadFault}
 use Rattle.luks1_header.specs.declared.fault.HeadFault.TheVariants as head
 use Rattle.luks1_header.specs.declared.fault.IterationsOf.TheVariants as of
@@ -18,7 +18,7 @@ use Rattle.luks1_mending.specs.Kept.{IsKept}
 use Rattle.luks1_mending.specs.Made.{IsMade}
 use Rattle.luks1_mending.specs.Taken.{taken_key_bytes, IsFieldFault}
 use Rattle.luks1_mending.specs.declared.given.Given.{Given}
-use Rattle.luks1_mending.proofs.HeaderFacts.{common_held, common_there, text_there}
+use Rattle.luks1_mending.proofs.HeaderFacts.{common_held, made_header, text_there}
 use Rattle.luks_slot.specs.Fault.{IsAnsweredFault}
 use Rattle.luks_slot.specs.Opening.{area_bytes, slot_key}
 use Rattle.luks_slot.specs.Refusal.{slot_refusal}
@@ -40,7 +40,6 @@ use Rattle.luks1_rebuilding.specs.KeyAreas.{header_of, IsKeptInUse}
 use Rattle.luks1_rebuilding.specs.Used.{any_slot, slot_at}
 use Rattle.luks1_trying.specs.Openings.{OpensBy}
 use Rattle.luks1_trying.specs.Tried.{IsMadeOf, IsTried}
-use Rattle.luks1_trying.proofs.HeaderFacts.{entry_of, front_of, HasEntry, IsWritable}
 
 -- false isn't true
 untrue : IsTrue false → ⊥
@@ -149,78 +148,65 @@ module _ (h : List ℕ) (total : ℕ) (g : Given) (d : Luks1) (made : IsMade h t
   enabled_there kept on =
       (kept_used h total g d made n (own_area h (taken_key_bytes h g) n) (record { kept = kept; enabled = on; is = refl })).enabled
 
--- where `b` has its fields and the entry, it says what is kept
-pub says_of : (v : List ℕ) (g : Given) (d : Luks1) → IsMadeOf v g d → (n : ℕ) → n < 8 → (x : HasEntry d.common n (entry (header_of v) n)) → SaysKept v g n x.bytes
-says_of v g d made n lt x =
-    let h : List ℕ = header_of v in
-    let held = common_held h g d.common made.common x.bytes x.put in
+-- what it is written as says what is kept
+pub says_of : (v : List ℕ) (g : Given) (d : Luks1) → IsMadeOf v g d → (b : List ℕ) → WritesLuks1 b d → (n : ℕ) → n < 8 → IsEntry (entry (header_of v) n) (slot_at d n) → SaysKept v g n b
+says_of v g d made b put n lt source =
+    let held = common_held (header_of v) g d.common made.common b put.common in
+    let there = (put.slots n any_slot lt).fields in
     record {
       numbered = lt;
-      texts = λ t. text_there h g d.common made.common x.bytes x.put t ∙ made.common.texts t;
+      texts = λ t. text_there (header_of v) g d.common made.common b put.common t ∙ made.common.texts t;
       key_bytes = held.key_bytes ∙ made.common.key_bytes;
       digest = held.mk_digest ∙ made.common.mk_digest;
       digest_salt = held.mk_digest_salt ∙ made.common.mk_digest_salt;
       digest_iterations = held.mk_digest_iterations ∙ made.common.mk_digest_iterations;
-      iterations = ap entry_iterations x.there;
-      salt = ap entry_salt x.there;
-      sector = ap entry_key_material_offset x.there;
-      stripes = ap entry_stripes x.there;
+      iterations = there.iterations ∙ sym source.fields.iterations;
+      salt = there.salt ∙ sym source.fields.salt;
+      sector = there.key_material_offset ∙ sym source.fields.key_material_offset;
+      stripes = there.stripes ∙ sym source.fields.stripes;
     }
-
--- of a keyslot that is kept in a volume the header is whole
-pub header_long : (v : List ℕ) (k n : ℕ) → IsKept (header_of v) k (length v) n → length (header_of v) ≡ 592
-header_long v k n kept =
-    let behind = kept.sound.behind in
-    let inside = kept.sound.inside in
-    let is = length-part v 0 592 in
-    omega (arith, behind, inside, is)
 
 -- ---- the plan of an enabled keyslot of a header that was made
 
-module _ (d : Luks1) (n : ℕ) (lt : n < 8) (able : IsWritable d.common) (s : Luks1Slot) (here : s ≡ slot_at d n) (on : s.state ≡ Enabled) (plan : SlotPlan)
+module _ (d : Luks1) (n : ℕ) (lt : n < 8) (b : List ℕ) (put : WritesLuks1 b d) (s : Luks1Slot) (here : s ≡ slot_at d n) (on : s.state ≡ Enabled) (plan : SlotPlan)
     (is : (h e : List ℕ) → IsCommon h d.common → IsEntry e s → IsLuks1Plan h e plan)
     (judged : (h e : List ℕ) → IsCommon h d.common → IsEntry e s → active_word e ≡ enabled_word → IsOpenable plan) where
   on_there : (slot_at d n).state ≡ Enabled
   on_there = ap (λ (q : Luks1Slot). q.state) (sym here) ∙ on
 
-  module _ (h : List ℕ) (total : ℕ) (g : Given) (made : IsMade h total g d) (long : length h ≡ 592) where
-    kept : IsKeptEntry h g total d n
-    kept = kept_entry_of h total g d made n lt on_there
+  module _ (h : List ℕ) (total : ℕ) (g : Given) (made : IsMade h total g d) where
+    header : IsLuks1 b d
+    header = made_header h total g d made b put
 
-    says : IsEntry (entry h n) s
-    says = subst (IsEntry (entry h n)) (sym here) kept.says
-
-    pub whole : HasEntry d.common n (entry h n)
-    whole = entry_of d.common n (entry h n) (front_of d.common able) lt (let size = length-part h (208 + 48 * n) 48 in omega (arith, size, long, lt))
-
-    common : IsCommon whole.bytes d.common
-    common = common_there h g d.common made.common whole.bytes whole.put
+    says : IsEntry (entry b n) s
+    says = subst (IsEntry (entry b n)) (sym here) (header.slots.each n any_slot lt)
 
     pub openable : IsOpenable plan
-    openable = judged whole.bytes (entry h n) common says kept.enabled
+    openable = judged b (entry b n) header.common says ((put.slots n any_slot lt).fields.state ∙ ap word_of on_there)
 
-    pub has_plan : HasLuks1Plan whole.bytes n plan
-    has_plan = record { numbered = lt; is = subst (λ e. IsLuks1Plan whole.bytes e plan) (sym whole.there) (is whole.bytes (entry h n) common says) }
+    pub has_plan : HasLuks1Plan b n plan
+    has_plan = record { numbered = lt; is = is b (entry b n) header.common says }
 
     pub inside : plan.area.start + plan.area.len ≤ total
     inside =
-        let start = has_plan.is.start ∙ ap (λ e. entry_key_material_offset e * 512) whole.there in
-        let key = (common_held h g d.common made.common whole.bytes whole.put).key_bytes ∙ made.common.key_bytes in
-        let len = has_plan.is.len ∙ ap (λ e. rounded_to_sectors (key_bytes_of whole.bytes * entry_stripes e)) whole.there
-            ∙ ap (λ k. rounded_to_sectors (k * entry_stripes (entry h n))) key in
+        let kept = kept_entry_of h total g d made n lt on_there in
+        let there = (put.slots n any_slot lt).fields in
+        let sector = there.key_material_offset ∙ sym kept.says.fields.key_material_offset in
+        let stripes = there.stripes ∙ sym kept.says.fields.stripes in
+        let key = (common_held h g d.common made.common b put.common).key_bytes ∙ made.common.key_bytes in
+        let start = has_plan.is.start ∙ ap (λ m. m * 512) sector in
+        let len = has_plan.is.len ∙ ap (λ m. rounded_to_sectors (key_bytes_of b * m)) stripes ∙ ap (λ k. rounded_to_sectors (k * entry_stripes (entry h n))) key in
         let within = kept.kept.sound.inside in
         omega (arith, start, len, within)
 
   -- what trying it tells of the volume
   pub tells_opening : (v : List ℕ) (g : Given) → IsMadeOf v g d → (p : List ℕ) (r : Result (Option (List ℕ)) SlotFault) (q : Result Bool DeviceFault)
       → IfErr r (IsAnsweredFault plan) → OnOk r (slot_refusal plan ≡ None) → IfOk r (λ key. key ≡ slot_key plan (area_bytes v plan.area) p) → IsTried r q
-      → IfOk q (λ b. IsTrue b ↔ OpensBy v g p n)
+      → IfOk q (λ t. IsTrue t ↔ OpensBy v g p n)
   tells_opening v g made p r q fault none value tried =
       let h : List ℕ = header_of v in
-      let entry_kept = kept_entry_of h (length v) g d made n lt on_there in
-      let long = header_long v (taken_key_bytes h g) n entry_kept.kept in
-      let x = whole h (length v) g made long in
-      answered (says_of v g d made n lt x) (record { kept = entry_kept.kept; enabled = entry_kept.enabled }) p (made_faultless h (length v) g d made) plan (has_plan h (length v) g made long) r q fault none value tried
+      let kept = kept_entry_of h (length v) g d made n lt on_there in
+      answered (says_of v g d made b put n lt kept.says) (record { kept = kept.kept; enabled = kept.enabled }) p (made_faultless h (length v) g d made) plan (has_plan h (length v) g made) r q fault none value tried
 
 -- a disabled keyslot opens by no passphrase
 pub tells_shut : (v : List ℕ) (g : Given) (d : Luks1) → IsMadeOf v g d → (n : ℕ) → n < 8 → (s : Luks1Slot) → s ≡ slot_at d n → s.state ≡ Disabled → (p : List ℕ)
@@ -230,3 +216,8 @@ tells_shut v g d made n lt s here off p =
   where
     no_state : (t : SlotState) → t ≡ Enabled → t ≡ Disabled → ⊥
     no_state t on disabled = cc
+
+-- what is told of each that is given
+pub of_each : {F : Type 0} (q : Result Bool F) (P : Given → Type 0) (Q : Bool → Given → Type 0) → ((g : Given) → P g → IfOk q (λ b. Q b g)) → IfOk q (λ b. (g : Given) → P g → Q b g)
+of_each (Ok b) P Q each = each
+of_each (Err f) P Q each = tt

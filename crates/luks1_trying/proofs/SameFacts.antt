@@ -106,6 +106,7 @@ pub opening_at : (v : List ℕ) (g : Given) (p : List ℕ) (n : ℕ) (c : Given)
 opening_at v g p n c o x y = record {
   combination = subst (IsCombination (header_of v) g n) (sym y.given) x;
   made = subst (λ (q : Given). IsMade (header_of v) (length v) q o.header) (sym y.given) y.made;
+  written = y.written;
   opens = subst (λ (q : Given). IsFirstSlot v q p o.slot) (sym y.given) y.opens;
 }
 

@@ -1,5 +1,6 @@
 -- Which keyslots of the headers that are made of the volume `v` a passphrase opens.
 use Rattle.std.specs.Prelude.{ℕ, ◌<◌, List, length}
+use Rattle.luks1_header.specs.Written.{WritesLuks1}
 use Rattle.luks1_header.specs.declared.fault.HeadFault.{HeadFault}
 use Rattle.luks1_mending.specs.Made.{IsMade}
 use Rattle.luks1_mending.specs.Taken.{IsFieldFault}
@@ -30,6 +31,7 @@ pub record IsFirstSlot (v : List ℕ) (g : Given) (p : List ℕ) (n : ℕ) : Typ
 pub record IsOpeningAt (v : List ℕ) (g : Given) (p : List ℕ) (n : ℕ) (o : Opening) : Type 0 where
   pub combination : IsCombination (header_of v) g n o.given
   pub made : IsMade (header_of v) (length v) o.given o.header
+  pub written : WritesLuks1 o.bytes o.header
   pub opens : IsFirstSlot v o.given p o.slot
 
 -- by the combination `n` no keyslot does

@@ -5,7 +5,7 @@ use Rattle.luks_area.specs.declared.device.DeviceFault.{DeviceFault}
 use Rattle.luks_slot.specs.declared.fault.SlotFault.{SlotFault}
 use Rattle.luks_slot.specs.declared.fault.SlotFault.TheVariants.{Device}
 use Rattle.luks1_header.specs.declared.fault.TextField.TheVariants.{CipherMode, CipherName, HashSpec}
-use Rattle.luks1_header.specs.Header1.{luks1_size}
+use Rattle.luks1_header.specs.Written.{WritesLuks1}
 use Rattle.luks1_header.specs.declared.luks1.Luks1.{Luks1}
 use Rattle.luks1_mending.specs.Made.{IsMade}
 use Rattle.luks1_mending.specs.Taken.{given_text}
@@ -18,12 +18,13 @@ use Rattle.luks1_trying.specs.declared.opening.Opening.{Opening}
 abbrev pub bytes_of : Option (ArrayString 32) → Option (List ℕ)
 bytes_of text = option_map (λ t. t.bytes) text
 
--- the header was made of the first 592 bytes of some volume of `total` bytes
+-- the header was made of some bytes of a volume of `total` bytes, and is written as these bytes
 pub record IsMadeOfSome (d : Luks1) (total : ℕ) : Type 0 where
   pub bytes : List ℕ
-  pub long : length bytes ≡ luks1_size
   pub given : Given
   pub made : IsMade bytes total given d
+  pub as_written : List ℕ
+  pub written : WritesLuks1 as_written d
 
 -- it was made of the volume `v` with what is given
 abbrev pub IsMadeOf : List ℕ → Given → Luks1 → Type 0
@@ -33,6 +34,7 @@ IsMadeOf v g d = IsMade (header_of v) (length v) g d
 pub record IsOpeningBy (v : List ℕ) (g : Given) (p : List ℕ) (o : Opening) : Type 0 where
   pub given : o.given ≡ g
   pub made : IsMadeOf v g o.header
+  pub written : WritesLuks1 o.bytes o.header
   pub opens : IsFirstSlot v g p o.slot
 
 -- whether a keyslot was opened: one that is refused isn't, and a device's failure stays one

@@ -23,6 +23,8 @@ pub struct Opening {
     pub given: Given,
     /// The header that is made with it.
     pub header: Luks1,
+    /// The same as it is written.
+    pub bytes: [u8; 592],
     /// The keyslot that opens, 0 to 7.
     pub slot: u8,
 }
@@ -76,11 +78,13 @@ fn try_given<D: Device, P: Progress>(
     let Ok(made) = mended_header(header, source.len(), given) else {
         return Ok(None);
     };
+    let bytes = made.write();
     progress.tries(&made.common);
     match first_slot(alloc, source, &made, passphrase)? {
         Some(slot) => Ok(Some(Opening {
             given: *given,
             header: made,
+            bytes,
             slot,
         })),
         None => Ok(None),
@@ -130,11 +134,10 @@ fn is_opened<D: Device>(
         → IsMadeOf (D.bytes source.old) g made.now
         → IsTrue is ↔ OpensBy (D.bytes source.old) g passphrase.now n) }
 {
-    let common = made.common;
     let slot = made.slots[n as usize];
     match slot.state {
         SlotState::Enabled => {
-            let plan = luks1_plan(&common, &slot);
+            let plan = luks1_plan(&made.common, &slot);
             tried(open(alloc, source, &plan, passphrase))
         }
         SlotState::Disabled => Ok(false),
