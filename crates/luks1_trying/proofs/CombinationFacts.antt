@@ -1,5 +1,5 @@
 -- What stands at a place of a list behind the first.
-use Rattle.std.proofs.Common.{◌≡◌, ◌≢◌, ◌==◌, ℕ, zero, suc, ◌-◌, List, Option, Some, None, is_some, false, subst, arith, refl, eq-eqb}
+use Rattle.std.proofs.Common.{◌≡◌, ◌≢◌, ℕ, zero, suc, ◌-◌, List, Option, Some, None, is_some, false, subst, arith, refl}
 use Rattle.std.specs.List.{slice_get}
 use Rattle.luks1_header.specs.Header1.{header_text, key_bytes_of}
 use Rattle.luks1_header.specs.declared.fault.TextField.{TextField}
@@ -23,6 +23,3 @@ length_at h given (suc i) len some none listed other =
 pub none_of : {A : Type 0} (o : Option A) → is_some o ≡ false → o ≡ None
 none_of None e = refl
 none_of (Some x) e = absurd (cc)
-
-pub not_zero : (n : ℕ) → (n == 0) ≡ false → n ≡ 0 → ⊥
-not_zero n e is = (let yes = eq-eqb n 0 is in absurd (cc))

@@ -32,3 +32,9 @@ returns-clause-none g c = λ tells given made. record {
       let low = x.in_use.kept.sound.numbered in
       c.loop-n.invariant.shut tells given made n (let ended = c.loop-n-test.false in omega (arith, low)) x;
 }
+
+pub returns-in_err-is_opened-clause-unchanged : goal.returns-in_err-is_opened-clause-unchanged
+returns-in_err-is_opened-clause-unchanged g c = unchanged-then c.loop-n.invariant.unchanged c.is_opened.ensures.unchanged
+
+pub returns-then-branch-clause-unchanged : goal.returns-then-branch-clause-unchanged
+returns-then-branch-clause-unchanged g c = unchanged-then c.loop-n.invariant.unchanged c.is_opened.ensures.unchanged

@@ -14,7 +14,7 @@ returns-in-Some-clause-opens g c = λ tells.
     let sized : length v ≡ c.len.result = g.met.D.Device.sized c.args.source.now tells ∙ sym c.len.ensures in
     let made : IsMadeOf v given c.in-Ok.made =
     moved (λ h n. IsMade h n given c.in-Ok.made) c.args.header.now (header_of v) c.len.result (length v) (c.requires.header tells) (sym sized) c.in-Ok.ensures.made in
-    record { given = refl; made = made; written = c.write.ensures.written; opens = subst (λ o. IfSome o (λ n. (g' : Given) → IsMadeOf v g' c.in-Ok.made → IsFirstSlot v g' c.args.passphrase.now n)) c.in-Some.is (c.in_ok-slot.ensures.opens tells) given made }
+    record { given = refl; made = made; written = c.write-bytes.ensures.written; opens = subst (λ o. IfSome o (λ n. (g' : Given) → IsMadeOf v g' c.in-Ok.made → IsFirstSlot v g' c.args.passphrase.now n)) c.in-Some.is (c.in_ok-slot.ensures.opens tells) given made }
 
 pub returns-in-None-clause-none : goal.returns-in-None-clause-none
 returns-in-None-clause-none g c = λ tells.
@@ -30,6 +30,6 @@ first_slot-requires-clause-made g c = record {
   bytes = c.args.header.now;
   given = c.args.given.now;
   made = subst (λ (n : ℕ). IsMade c.args.header.now n c.args.given.now c.in-Ok.made) c.len.ensures c.in-Ok.ensures.made;
-  as_written = c.write.result;
-  written = c.write.ensures.written;
+  as_written = c.write-bytes.result;
+  written = c.write-bytes.ensures.written;
 }

@@ -17,10 +17,10 @@ returns-in_err-judge-clause-fault g c = λ tells.
     let given = c.args.given.now in
     let sized : length v ≡ g.D.Device.size c.args.source.now = g.met.D.Device.sized c.args.source.now tells in
     let long : length v ≡ c.len.result = sized ∙ sym (c.len.ensures ∙ c.in_ok-bytes.ensures.unchanged.size) in
-    let head : c.as_slice.result.now ≡ header_of v = c.as_slice.ensures ∙ c.in_ok-bytes.ensures.bytes tells in
+    let head : c.as_slice-header.result.now ≡ header_of v = c.as_slice-header.ensures ∙ c.in_ok-bytes.ensures.bytes tells in
     let p = err_from_is_err_and c.from_residual-in_err-judge.result c.from_residual-in_err-judge.ensures.1 in
     let least =
-    moved (λ h n. IsLeast rebuild_key (IsFaultOfAll h n given) c.in_err-judge.field-0.0) c.as_slice.result.now (header_of v) c.len.result (length v) head (sym long) c.in_err-judge.ensures.fault in
+    moved (λ h n. IsLeast rebuild_key (IsFaultOfAll h n given) c.in_err-judge.field-0.0) c.as_slice-header.result.now (header_of v) c.len.result (length v) head (sym long) c.in_err-judge.ensures.fault in
     rw (p.1, p.2) (answered v given c.in_err-judge.field-0.0 c.in_err-judge.ensures.own least)
 
 pub returns-in-Some-clause-faultless : goal.returns-in-Some-clause-faultless
@@ -29,8 +29,8 @@ returns-in-Some-clause-faultless g c = λ tells.
     let given = c.args.given.now in
     let sized : length v ≡ g.D.Device.size c.args.source.now = g.met.D.Device.sized c.args.source.now tells in
     let long : length v ≡ c.len.result = sized ∙ sym (c.len.ensures ∙ c.in_ok-bytes.ensures.unchanged.size) in
-    let head : c.as_slice.result.now ≡ header_of v = c.as_slice.ensures ∙ c.in_ok-bytes.ensures.bytes tells in
-    moved (λ h n. (f : TheFault) → IsFaultOfAll h n given f → ⊥) c.as_slice.result.now (header_of v) c.len.result (length v) head (sym long) c.in_ok-judge.ensures.faultless
+    let head : c.as_slice-header.result.now ≡ header_of v = c.as_slice-header.ensures ∙ c.in_ok-bytes.ensures.bytes tells in
+    moved (λ h n. (f : TheFault) → IsFaultOfAll h n given f → ⊥) c.as_slice-header.result.now (header_of v) c.len.result (length v) head (sym long) c.in_ok-judge.ensures.faultless
 
 pub returns-in-Some-clause-first : goal.returns-in-Some-clause-first
 returns-in-Some-clause-first g c = λ tells.
