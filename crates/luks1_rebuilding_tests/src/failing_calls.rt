@@ -77,7 +77,8 @@ fn each_call_of_the_trial(rt: HostRuntime) -> Result<(), Fail> {
     let alloc = rt.alloc();
     let mut volume = small1(alloc, HashName::Sha1)?;
     put(&mut volume, 72, b"SHA1");
-    for call in 0..24u64 {
+    // the header is read by one call, and each key area that is tried by one
+    for call in 0..5u64 {
         assert!(rt; tried(alloc, &volume, call)?, "a failed read");
     }
     Ok(())
