@@ -1,4 +1,5 @@
-"""Rebuilding a LUKS1 header in Python: the detached header that is made of what still stands of one and of what is given, with the key areas that are kept."""
+"""Rebuilding a LUKS1 header in Python: the detached header that is made of what still stands of one and of what is given, with the key areas that are kept; and the combinations of what isn't given by which a passphrase opens a keyslot."""
+import itertools
 import struct
 
 import reader
@@ -8,6 +9,9 @@ CIPHERS = (b"aes", b"twofish", b"serpent", b"cast5", b"cast6")
 HASHES = (b"sha1", b"sha256", b"sha512", b"ripemd160")
 TEXTS = (("cipher", "cipher-name"), ("mode", "cipher-mode"), ("hash", "hash-spec"), ("uuid", "uuid"))
 LEAST = 16896
+
+# What is tried of a field, behind what stands, where nothing is given.
+TRIED = (("cipher", (b"aes",)), ("mode", (b"xts-plain64",)), ("hash", (b"sha256", b"sha1", b"sha512")), ("key_bytes", (64, 32, 16)))
 
 
 def rebuilt(source, given, target):
@@ -29,17 +33,9 @@ def made(source, given, total):
     """The 592 bytes, and the areas of the kept keyslots in use."""
     if not given and reader.check(source, True)[1].startswith("accepted luks1 "):
         raise Fault("Counts")
-    if len(source) < 592 or not has_signs(source):
-        raise Fault("NoHeader")
-    d = reader.luks1_fields(source)
-    for field, name in TEXTS:
-        d[field] = usable(field, name, given.get(field, reader.text_field(d[field])))
-    d["key_bytes"], d["payload"] = given.get("key_bytes", d["key_bytes"]), given.get("payload", d["payload"])
-    if not 1 <= d["key_bytes"] <= 128:
-        raise Fault("KeyBytes")
-    if d["iterations"] == 0:
-        raise Fault("Iterations(Digest)")
-    kept = kept_slots(d, len(source))
+    for fault in faults(source, given):
+        raise Fault(fault)
+    d, kept = fields(source, given)
     used = [reader.slot_area1(d, n) for n in kept if d["slots"][n][0] == ENABLED]
     d["slots"] = [d["slots"][n] if n in kept else mended(d, kept, n, len(source)) for n in range(8)]
     if total < LEAST:
@@ -52,11 +48,68 @@ def made(source, given, total):
     return head + b"".join(struct.pack(">II32sII", *slot) for slot in d["slots"]), used
 
 
-def usable(field, name, text):
-    good = reader.UUID.fullmatch(text) if field == "uuid" else text and all(0x20 <= byte <= 0x7E for byte in text)
-    if not good:
-        raise Fault(f"Text({name})")
-    return text
+def taken(source, given):
+    """The fields of the header, with what is given in place of what stands."""
+    d = reader.luks1_fields(source)
+    for field, _ in TEXTS:
+        d[field] = given.get(field, reader.text_field(d[field]))
+    d["key_bytes"], d["payload"] = given.get("key_bytes", d["key_bytes"]), given.get("payload", d["payload"])
+    return d
+
+
+def faults(source, given):
+    """The faults that stand before a header is made, in their order."""
+    if len(source) < 592 or not has_signs(source):
+        return ["NoHeader"]
+    d = taken(source, given)
+    texts = [f"Text({name})" for field, name in TEXTS if not usable(field, d[field])]
+    return texts + ["KeyBytes"] * (not 1 <= d["key_bytes"] <= 128) + ["Iterations(Digest)"] * (d["iterations"] == 0)
+
+
+def fields(source, given):
+    """The fields of the header that is made, and the numbers of the keyslots that are kept."""
+    d = taken(source, given)
+    return d, kept_slots(d, len(source))
+
+
+def usable(field, text):
+    return reader.UUID.fullmatch(text) if field == "uuid" else text and all(0x20 <= byte <= 0x7E for byte in text)
+
+
+# ---- the trial
+
+def combinations(source, given):
+    """What is given, completed by each combination, in the order in which they are tried."""
+    d = taken(source, {})
+    tried = [[None] + [value for value in values if field not in given and value != d[field]] for field, values in TRIED]
+    for chosen in itertools.product(*tried):
+        yield {**given, **{field: value for (field, _), value in zip(TRIED, chosen) if value is not None}}
+
+
+def opening(source, given, passphrase):
+    """The first combination by which a keyslot opens, and the first keyslot that it opens; or none."""
+    if faults(source, {}) == ["NoHeader"]:
+        raise Fault("NoHeader")
+    every = [faults(source, them) for them in combinations(source, given)]
+    for fault in every[0]:
+        if all(fault in those for those in every):
+            raise Fault(fault)
+    for them, those in zip(combinations(source, given), every):
+        slot = None if those else opened_slot(source, them, passphrase)
+        if slot is not None:
+            return them, slot
+    return None
+
+
+def opened_slot(source, given, passphrase):
+    d, kept = fields(source, given)
+    for n in kept:
+        try:
+            if reader.opened(reader.plan1(source, d, n), passphrase) is not None:
+                return n
+        except Fault:
+            continue
+    return None
 
 
 def has_signs(source):

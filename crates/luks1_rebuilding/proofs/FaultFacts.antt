@@ -24,10 +24,10 @@ use Rattle.luks_reading.specs.declared.check_fault.CheckFault.{CheckFault}
 use Rattle.luks_reading.specs.declared.check_fault.CheckFault.TheVariants as check
 use Rattle.luks_reading.specs.declared.report.Data.TheVariants.{Elsewhere}
 use Rattle.luks1_rebuilding.proofs.OneMade.{fault_same}
-use Rattle.luks1_rebuilding.specs.Judged.{field_fault, target_fault, IsJudged, IsShort, IsUnfit}
+use Rattle.luks1_rebuilding.specs.Judged.{target_fault, IsJudged, IsShort, IsUnfit}
 use Rattle.luks1_rebuilding.specs.Outcome.{EndsOutside, IsAnsweredFault, IsFaultless, IsFaultOf, IsRebuildFault, IsWhole, LacksHeader, OfMade}
 use Rattle.luks1_rebuilding.specs.KeyAreas.{header_of}
-use Rattle.luks1_rebuilding.specs.RebuildFaults.{is_rebuild_failure, rebuild_key}
+use Rattle.luks1_rebuilding.specs.RebuildFaults.{field_fault, is_rebuild_failure, rebuild_key}
 use Rattle.luks1_rebuilding.specs.declared.judging.MadeHeader.{MadeHeader}
 use Rattle.luks1_rebuilding.specs.declared.rebuild_fault.Rebuild1Fault.{Rebuild1Fault}
 use Rattle.luks1_rebuilding.specs.declared.rebuild_fault.Rebuild1Fault.TheVariants.{Counts, NoHeader, Text, KeyBytes, Iterations, TooSmall, Area, Device}

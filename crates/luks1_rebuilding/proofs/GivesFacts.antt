@@ -1,21 +1,18 @@
 -- The header that is made is well formed, and its kept keyslots give what the source's equations give.
-use Rattle.std.proofs.Common.{◌≡◌, ℕ, ◌*◌, ◌<◌, ◌≤◌, List, length, Option, Some, None, inl, inr, sym, ap, subst, ◌∙◌, arith, lit≤}
+use Rattle.std.proofs.Common.{◌≡◌, ℕ, ◌<◌, ◌≤◌, List, length, Option, Some, None, inl, inr, sym, ap, subst, ◌∙◌, arith, lit≤}
 use Rattle.byteorder.specs.Endian.{big_number}
 use Rattle.luks_area.specs.Ranges.{part}
 use Rattle.luks_area.specs.RangeFacts.{length-part, part-part}
-use Rattle.luks_area.specs.Sectors.{rounded_to_sectors}
-use Rattle.luks_area.specs.declared.area.Area.{Area}
 use Rattle.luks_area.specs.declared.area.AreaName.TheVariants as name
 use Rattle.luks1_header.specs.Faults.{IsCommonFault, IsEntryFault}
-use Rattle.luks1_header.specs.Header1.{active_word, enabled_word, entry, entry_iterations, entry_key_material_offset, entry_salt, entry_stripes, header_text, key_bytes_of, HoldsCommon, HoldsEntry, IsEntry, IsLuks1}
+use Rattle.luks1_header.specs.Header1.{active_word, enabled_word, entry, entry_key_material_offset, header_text, key_bytes_of, HoldsCommon, HoldsEntry, IsEntry, IsLuks1}
 use Rattle.luks1_header.specs.declared.fault.HeadFault.{HeadFault}
 use Rattle.luks1_header.specs.declared.fault.HeadFault.TheVariants as head
 use Rattle.luks1_header.specs.declared.fault.IterationsOf.TheVariants as of
 use Rattle.luks1_header.specs.declared.fault.TextField.{TextField}
-use Rattle.luks1_header.specs.declared.fault.TextField.TheVariants as field
 use Rattle.luks1_header.specs.declared.luks1.Luks1Slot.{Luks1Slot}
 use Rattle.luks1_header.proofs.Luks1FaultFacts.{common_sound, entry_sound}
-use Rattle.luks1_mending.specs.Areas.{own_area, sector_of, stripes_of}
+use Rattle.luks1_mending.specs.Areas.{sector_of}
 use Rattle.luks1_mending.specs.Kept.{IsKept}
 use Rattle.luks1_mending.specs.Mended.{IsMadeSlot}
 use Rattle.luks1_mending.specs.Taken.{taken_text}
@@ -24,25 +21,20 @@ use Rattle.luks1_mending.proofs.HeaderFacts.{common_held, made_header, text_ther
 use Rattle.luks_head.proofs.ChoiceFacts.{choices_agree}
 use Rattle.luks_head.specs.Selection.{Choice, luks1, Chosen}
 use Rattle.luks_slot.specs.Opening.{slot_key}
-use Rattle.luks_slot.specs.declared.plan.AreaCipher.{AreaCipher}
-use Rattle.luks_slot.specs.declared.plan.AreaCipher.TheVariants.{Apart, Whole}
-use Rattle.luks_slot.specs.declared.plan.Derivation.{Derivation}
-use Rattle.luks_slot.specs.declared.plan.Derivation.TheVariants.{Argon2, Pbkdf2}
 use Rattle.luks_slot.specs.declared.plan.SlotPlan.{SlotPlan}
-use Rattle.luks_reading.proofs.AreaListFacts.{same_area}
 use Rattle.luks_reading.specs.Answer.{no_key, opens, refused, AnswerWithin, HasPlanAs, IsLuks1HeadRefusal, IsLuks1Refusal, IsRefusalAsWithin, IsRefusalWithin, Opened, OpensWithin}
 use Rattle.luks_reading.specs.Checked.{IsLuks1Volume, WellFormed}
-use Rattle.luks_reading.specs.Plans.{HasLuks1Plan, IsLuks1Cipher, IsLuks1Derivation}
 use Rattle.luks_reading.specs.declared.open_fault.OpenFault.{OpenFault}
 use Rattle.luks_reading.specs.declared.open_fault.OpenFault.TheVariants.{Head, Meta, NoSuchSlot, SlotFree, Outside, Slot, Device, Memory}
 use Rattle.luks_reading.specs.declared.report.Data.TheVariants.{Elsewhere}
-use Rattle.luks1_rebuilding.specs.Gives.{Gives, GivesKept, IsKeptCipher, IsKeptDerivation, IsKeptPlan, IsRefusedKept}
+use Rattle.luks1_rebuilding.proofs.PlanFacts.{plan_here, plan_there, SaysKept}
+use Rattle.luks1_rebuilding.specs.Gives.{Gives, GivesKept, IsKeptPlan, IsRefusedKept}
 use Rattle.luks1_rebuilding.specs.KeyAreas.{header_of, key_of, IsKeptInUse}
 use Rattle.luks1_rebuilding.specs.Rebuilt.{IsRebuilt}
 use Rattle.luks1_rebuilding.specs.Used.{any_slot, slot_at}
 
 -- what a kept keyslot becomes says what its entry says
-kept_entry : (h : List ℕ) (k total n : ℕ) (s : Luks1Slot) → IsKept h k total n → IsMadeSlot h k total n s → IsEntry (entry h n) s
+pub kept_entry : (h : List ℕ) (k total n : ℕ) (s : Luks1Slot) → IsKept h k total n → IsMadeSlot h k total n s → IsEntry (entry h n) s
 kept_entry h k total n s kept (inl x) = x.1
 kept_entry h k total n s kept (inr x) = absurd (x.0 kept)
 
@@ -64,10 +56,10 @@ module _ (v old w : List ℕ) (g : Given) (x : IsRebuilt v g old w) (formed : Is
   is_header = made_header (header_of v) (length v) g x.header x.made (part w 0 592) x.written
 
   text_is : (t : TextField) → header_text (part w 0 592) t ≡ taken_text (header_of v) g t
-  text_is t = text_there (header_of v) (length v) g x.header x.made (part w 0 592) x.written t ∙ x.made.common.texts t
+  text_is t = text_there (header_of v) g x.header.common x.made.common (part w 0 592) x.written.common t ∙ x.made.common.texts t
 
   held : HoldsCommon (part w 0 592) x.header.common
-  held = common_held (header_of v) (length v) g x.header x.made (part w 0 592) x.written
+  held = common_held (header_of v) g x.header.common x.made.common (part w 0 592) x.written.common
 
   key_is : key_bytes_of (part w 0 592) ≡ key_of v g
   key_is = held.key_bytes ∙ x.made.common.key_bytes
@@ -85,79 +77,21 @@ module _ (v old w : List ℕ) (g : Given) (x : IsRebuilt v g old w) (formed : Is
     word_is : active_word (entry (part w 0 592) n) ≡ enabled_word
     word_is = target_entry.state ∙ sym source_entry.fields.state ∙ used.enabled
 
-    iterations_is : entry_iterations (entry (part w 0 592) n) ≡ entry_iterations (entry (header_of v) n)
-    iterations_is = target_entry.iterations ∙ sym source_entry.fields.iterations
-
-    salt_is : entry_salt (entry (part w 0 592) n) ≡ entry_salt (entry (header_of v) n)
-    salt_is = target_entry.salt ∙ sym source_entry.fields.salt
-
     sector_is : entry_key_material_offset (entry (part w 0 592) n) ≡ sector_of (header_of v) n
     sector_is = target_entry.key_material_offset ∙ sym source_entry.fields.key_material_offset
 
-    stripes_is : entry_stripes (entry (part w 0 592) n) ≡ stripes_of (header_of v) n
-    stripes_is = target_entry.stripes ∙ sym source_entry.fields.stripes
-
-    start_is : entry_key_material_offset (entry (part w 0 592) n) * 512 ≡ (own_area (header_of v) (key_of v g) n).start
-    start_is = ap (λ s. s * 512) sector_is
-
-    len_is : rounded_to_sectors (key_bytes_of (part w 0 592) * entry_stripes (entry (part w 0 592) n)) ≡ (own_area (header_of v) (key_of v g) n).len
-    len_is =
-        ap (λ k. rounded_to_sectors (k * entry_stripes (entry (part w 0 592) n))) key_is
-        ∙ ap (λ s. rounded_to_sectors (key_of v g * s)) stripes_is
-
-    -- the plan of the header is that of the source
-    derivation_here : (p : Derivation) → IsLuks1Derivation (part w 0 592) (entry (part w 0 592) n) p → IsKeptDerivation v g n p
-    derivation_here (Pbkdf2 hash iterations salt) is = (is.0 ∙ text_is field.HashSpec, is.1 ∙ iterations_is, is.2 ∙ salt_is)
-    derivation_here (Argon2 costs) is = is
-
-    derivation_there : (p : Derivation) → IsKeptDerivation v g n p → IsLuks1Derivation (part w 0 592) (entry (part w 0 592) n) p
-    derivation_there (Pbkdf2 hash iterations salt) is = (is.0 ∙ sym (text_is field.HashSpec), is.1 ∙ sym iterations_is, is.2 ∙ sym salt_is)
-    derivation_there (Argon2 costs) is = is
-
-    cipher_here : (p : AreaCipher) → IsLuks1Cipher (part w 0 592) p → IsKeptCipher v g p
-    cipher_here (Apart one mode) is = (is.0 ∙ text_is field.CipherName, is.1 ∙ text_is field.CipherMode)
-    cipher_here (Whole text) is = is
-
-    cipher_there : (p : AreaCipher) → IsKeptCipher v g p → IsLuks1Cipher (part w 0 592) p
-    cipher_there (Apart one mode) is = (is.0 ∙ sym (text_is field.CipherName), is.1 ∙ sym (text_is field.CipherMode))
-    cipher_there (Whole text) is = is
-
-    plan_here : (plan : SlotPlan) → HasLuks1Plan (part w 0 592) n plan → IsKeptPlan v g n plan
-    plan_here plan z = record {
-      derivation = derivation_here plan.derivation z.is.derivation;
-      cipher = cipher_here plan.cipher z.is.cipher;
-      area = same_area plan.area (own_area (header_of v) (key_of v g) n) (z.is.start ∙ start_is) (z.is.len ∙ len_is);
-      area_key_bytes = z.is.area_key_bytes ∙ key_is;
-      key_bytes = z.is.key_bytes ∙ key_is;
-      stripes = z.is.stripes ∙ stripes_is;
-      splitter_hash = z.is.splitter_hash ∙ text_is field.HashSpec;
-      digest = record {
-        hash = z.is.digest.hash ∙ text_is field.HashSpec;
-        iterations = z.is.digest.iterations ∙ held.mk_digest_iterations ∙ x.made.common.mk_digest_iterations;
-        salt = z.is.digest.salt ∙ held.mk_digest_salt ∙ x.made.common.mk_digest_salt;
-        stored = z.is.digest.stored ∙ held.mk_digest ∙ x.made.common.mk_digest;
-      };
-    }
-
-    plan_there : (plan : SlotPlan) → IsKeptPlan v g n plan → HasLuks1Plan (part w 0 592) n plan
-    plan_there plan z = record {
+    says : SaysKept v g n (part w 0 592)
+    says = record {
       numbered = low;
-      is = record {
-        derivation = derivation_there plan.derivation z.derivation;
-        cipher = cipher_there plan.cipher z.cipher;
-        start = ap (λ (a : Area). a.start) z.area ∙ sym start_is;
-        len = ap (λ (a : Area). a.len) z.area ∙ sym len_is;
-        area_key_bytes = z.area_key_bytes ∙ sym key_is;
-        key_bytes = z.key_bytes ∙ sym key_is;
-        stripes = z.stripes ∙ sym stripes_is;
-        splitter_hash = z.splitter_hash ∙ sym (text_is field.HashSpec);
-        digest = record {
-          hash = z.digest.hash ∙ sym (text_is field.HashSpec);
-          iterations = z.digest.iterations ∙ sym (held.mk_digest_iterations ∙ x.made.common.mk_digest_iterations);
-          salt = z.digest.salt ∙ sym (held.mk_digest_salt ∙ x.made.common.mk_digest_salt);
-          stored = z.digest.stored ∙ sym (held.mk_digest ∙ x.made.common.mk_digest);
-        };
-      };
+      texts = text_is;
+      key_bytes = key_is;
+      digest = held.mk_digest ∙ x.made.common.mk_digest;
+      digest_salt = held.mk_digest_salt ∙ x.made.common.mk_digest_salt;
+      digest_iterations = held.mk_digest_iterations ∙ x.made.common.mk_digest_iterations;
+      iterations = target_entry.iterations ∙ sym source_entry.fields.iterations;
+      salt = target_entry.salt ∙ sym source_entry.fields.salt;
+      sector = sector_is;
+      stripes = target_entry.stripes ∙ sym source_entry.fields.stripes;
     }
 
     same_bytes : (plan : SlotPlan) → IsKeptPlan v g n plan → part w plan.area.start plan.area.len ≡ part v plan.area.start plan.area.len
@@ -185,7 +119,7 @@ module _ (v old w : List ℕ) (g : Given) (x : IsRebuilt v g old w) (formed : Is
         let inside = formed.fit.inside (name.Slot n) y.plan.area (low, y.is.is.start, y.is.is.len) in
         let past = y.past in
         omega (arith, inside, past))
-    from_refusal (Slot f) y = record { plan = y.plan; is = plan_here y.plan y.is; refused = y.refused }
+    from_refusal (Slot f) y = record { plan = y.plan; is = plan_here says y.plan y.is; refused = y.refused }
     from_refusal Device y = y
     from_refusal Memory y = y
 
@@ -195,7 +129,7 @@ module _ (v old w : List ℕ) (g : Given) (x : IsRebuilt v g old w) (formed : Is
     to_refusal NoSuchSlot y = absurd y
     to_refusal SlotFree y = absurd y
     to_refusal Outside y = absurd y
-    to_refusal (Slot f) y = record { plan = y.plan; is = plan_there y.plan y.is; refused = y.refused }
+    to_refusal (Slot f) y = record { plan = y.plan; is = plan_there says y.plan y.is; refused = y.refused }
     to_refusal Device y = y
     to_refusal Memory y = y
 
@@ -212,7 +146,7 @@ module _ (v old w : List ℕ) (g : Given) (x : IsRebuilt v g old w) (formed : Is
           choice = luks1;
           chosen = chosen;
           plan = z.plan;
-          is = plan_there z.plan z.is;
+          is = plan_there says z.plan z.is;
           unrefused = λ f bad. z.unrefused f (from_refusal f bad);
           key = ap (λ (b : List ℕ). slot_key z.plan b p) (same_bytes z.plan z.is) ∙ z.key;
         }
@@ -220,7 +154,7 @@ module _ (v old w : List ℕ) (g : Given) (x : IsRebuilt v g old w) (formed : Is
         key_here : (found : Option (List ℕ)) → OpensWithin memory w n p found → GivesKept v g n p found
         key_here found z =
             let choice : z.choice ≡ luks1 = choices_agree w z.choice luks1 z.chosen chosen in
-            let its = plan_here z.plan (subst (λ (c : Choice). HasPlanAs w n c z.plan) choice z.is) in
+            let its = plan_here says z.plan (subst (λ (c : Choice). HasPlanAs w n c z.plan) choice z.is) in
             record {
               plan = z.plan;
               is = its;

@@ -3,4 +3,5 @@ pub mod UsedFacts
 pub mod RebuiltFacts
 pub mod OneMade
 pub mod FaultFacts
+pub mod PlanFacts
 pub mod GivesFacts

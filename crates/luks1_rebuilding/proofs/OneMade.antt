@@ -49,8 +49,8 @@ module _ (h : List ℕ) (source : ℕ) (g : Given) (d e : Luks1) (made : IsMade 
 
   same_key : key_bytes_of c ≡ key_bytes_of b
   same_key =
-      (common_held h source g e other c also).key_bytes ∙ other.common.key_bytes
-      ∙ sym ((common_held h source g d made b put).key_bytes ∙ made.common.key_bytes)
+      (common_held h g e.common other.common c also.common).key_bytes ∙ other.common.key_bytes
+      ∙ sym ((common_held h g d.common made.common b put.common).key_bytes ∙ made.common.key_bytes)
 
   same_sector : (n : ℕ) → n < 8 → entry_key_material_offset (entry c n) ≡ entry_key_material_offset (entry b n)
   same_sector n lt = (also.slots n any_slot lt).fields.key_material_offset ∙ (same_slot n lt).0 ∙ sym (put.slots n any_slot lt).fields.key_material_offset

@@ -4,8 +4,6 @@ use Rattle.luks_area.specs.First.{IsLeast}
 use Rattle.luks_area.specs.declared.area.AreaFault.TheVariants.{Overlap}
 use Rattle.luks1_header.specs.Header1.{luks1_size}
 use Rattle.luks1_header.specs.Written.{WritesLuks1}
-use Rattle.luks1_header.specs.declared.fault.HeadFault.{HeadFault}
-use Rattle.luks1_header.specs.declared.fault.HeadFault.TheVariants as head
 use Rattle.luks1_header.specs.declared.luks1.Luks1.{Luks1}
 use Rattle.luks_reading.specs.Checked.{check_key, IsLuks1Fault}
 use Rattle.luks_reading.specs.declared.check_fault.CheckFault.{CheckFault}
@@ -13,17 +11,11 @@ use Rattle.luks_reading.specs.declared.check_fault.CheckFault.TheVariants as che
 use Rattle.luks_reading.specs.declared.report.Data.TheVariants.{Elsewhere}
 use Rattle.luks1_rebuilding.specs.Outcome.{least_target}
 use Rattle.luks1_rebuilding.specs.declared.rebuild_fault.Rebuild1Fault.{Rebuild1Fault}
-use Rattle.luks1_rebuilding.specs.declared.rebuild_fault.Rebuild1Fault.TheVariants.{NoHeader, Text, KeyBytes, Iterations, TooSmall, Area, Device}
+use Rattle.luks1_rebuilding.specs.declared.rebuild_fault.Rebuild1Fault.TheVariants.{NoHeader, TooSmall, Area, Device}
 
 -- the first bytes aren't read: there are too few, or the device failed
 abbrev pub IsShort : ℕ → Rebuild1Fault → Type 0
 IsShort total f = ((f ≡ NoHeader) × (total < luks1_size)) ⊎ (f ≡ Device)
-
--- the fault of a field, as it is answered
-abbrev pub field_fault : HeadFault → Rebuild1Fault
-field_fault (head.Text t) = Text t
-field_fault head.KeyBytes = KeyBytes
-field_fault f = Iterations
 
 -- the fault of what is made, as it is answered
 abbrev pub target_fault : CheckFault → Rebuild1Fault

@@ -1,7 +1,9 @@
--- The order of the faults of rebuilding a LUKS1 header, and which of them are a device's.
+-- The order of the faults of rebuilding a LUKS1 header, which of them are a device's, and which a field's.
 use Rattle.std.specs.Prelude.{ℕ, List, [], ◌∷◌, Bool, true, false}
 use Rattle.luks_area.specs.Area.{area_key}
 use Rattle.luks1_header.specs.Faults.{field_key}
+use Rattle.luks1_header.specs.declared.fault.HeadFault.{HeadFault}
+use Rattle.luks1_header.specs.declared.fault.HeadFault.TheVariants as head
 use Rattle.luks1_rebuilding.specs.declared.rebuild_fault.Rebuild1Fault.{Rebuild1Fault}
 use Rattle.luks1_rebuilding.specs.declared.rebuild_fault.Rebuild1Fault.TheVariants.{Counts, NoHeader, Text, KeyBytes, Iterations, TooSmall, Area, Device}
 
@@ -41,3 +43,9 @@ is_rebuild_failure Iterations = false
 is_rebuild_failure TooSmall = false
 is_rebuild_failure (Area f) = false
 is_rebuild_failure Device = true
+
+-- the fault of a field, as it is answered
+abbrev pub field_fault : HeadFault → Rebuild1Fault
+field_fault (head.Text t) = Text t
+field_fault head.KeyBytes = KeyBytes
+field_fault f = Iterations

@@ -10,11 +10,11 @@ ghost use Rattle.luks_reading.specs.declared.report.Data.TheVariants.{Elsewhere}
 ghost use Rattle.luks1_rebuilding.specs.KeyAreas.{header_of};
 ghost use Rattle.luks1_rebuilding.specs.Outcome.{least_target, IsFaultOf, IsFaultless, IsWhole};
 ghost use Rattle.luks1_rebuilding.specs.RebuildFaults.{is_rebuild_failure, rebuild_key};
-ghost use Rattle.luks1_rebuilding.specs.Judged.{field_fault, target_fault, IsShort, IsUnfit};
+ghost use Rattle.luks1_rebuilding.specs.Judged.{target_fault, IsShort, IsUnfit};
 
 use crate::rebuild_fault::Rebuild1Fault;
 use luks_area::{AreaFault, Device};
-use luks_head::{HeadFault, Luks1};
+use luks_head::Luks1;
 use luks_reading::{CheckFault, Data, judge_luks1};
 use luks1_mending::{Given, has_signs, mended_header};
 
@@ -33,8 +33,8 @@ pub(crate) struct MadeHeader {
     pub(crate) bytes: [u8; 592],
 }
 
-/// The first 592 bytes of the source.
-pub(crate) fn first_bytes<D: Device>(source: &mut D) -> Result<[u8; 592], Rebuild1Fault>
+/// The first 592 bytes of the source. Refused by `NoHeader` where there are fewer.
+pub fn first_bytes<D: Device>(source: &mut D) -> Result<[u8; 592], Rebuild1Fault>
     requires { D.failed source.old + 1 < 2 ^ 64 }
     ensures unchanged { IsUnchanged D.tells D.size D.bytes D.unsettled source.old source.new }
     ensures count { CountsFailure is_rebuild_failure result
@@ -78,7 +78,7 @@ pub(crate) fn judged_header(
     }
     match mended_header(header, source, given) {
         Ok(fields) => fitting_header(fields, total),
-        Err(fault) => Err(field_fault(fault)),
+        Err(fault) => Err(Rebuild1Fault::from(fault)),
     }
 }
 
@@ -88,17 +88,6 @@ fn is_whole(header: &[u8], source: u64, given: &Given) -> bool
     ensures { IsTrue result ↔ IsWhole header.now source given.now }
 {
     given.is_nothing() && judge_luks1(header, Data::Elsewhere, source).is_ok()
-}
-
-/// The fault of a field.
-fn field_fault(fault: HeadFault) -> Rebuild1Fault
-    ensures { result ≡ field_fault fault }
-{
-    match fault {
-        HeadFault::Text(field) => Rebuild1Fault::Text(field),
-        HeadFault::KeyBytes => Rebuild1Fault::KeyBytes,
-        _ => Rebuild1Fault::Iterations,
-    }
 }
 
 /// The header with its bytes, where it is accepted on a target of `total` bytes.

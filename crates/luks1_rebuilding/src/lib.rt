@@ -8,6 +8,7 @@ mod laws;
 mod rebuild_fault;
 mod rebuilding;
 
+pub use judging::first_bytes;
 pub use laws::rebuilt1_opens_alike;
 pub use luks1_mending::Given;
 pub use rebuild_fault::Rebuild1Fault;

@@ -2,7 +2,7 @@
 ghost use Rattle.std.specs.Prelude.{◌≡◌};
 
 use luks_area::{AreaFault, DeviceFault};
-use luks_head::TextField;
+use luks_head::{HeadFault, TextField};
 use std::error::Error;
 use std::fmt;
 
@@ -59,5 +59,20 @@ impl From<DeviceFault> for Rebuild1Fault {
 
     fn from(_: DeviceFault) -> Rebuild1Fault {
         Rebuild1Fault::Device
+    }
+}
+
+impl From<HeadFault> for Rebuild1Fault {
+    ghost use Rattle.luks1_rebuilding.specs.RebuildFaults.{field_fault};
+
+    ghost from_gives = { λ head fault. fault ≡ field_fault head };
+
+    /// The fault of a field of the header that is made.
+    fn from(fault: HeadFault) -> Rebuild1Fault {
+        match fault {
+            HeadFault::Text(field) => Rebuild1Fault::Text(field),
+            HeadFault::KeyBytes => Rebuild1Fault::KeyBytes,
+            _ => Rebuild1Fault::Iterations,
+        }
     }
 }

@@ -25,7 +25,7 @@ returns-in-Ok-clause-faultless c =
 
 pub returns-in-Err-clause-fault : goal.returns-in-Err-clause-fault
 returns-in-Err-clause-fault c =
-    subst (IsLeast rebuild_key (IsFaultOf c.args.header.now c.args.source c.args.given.now c.args.total)) (sym c.field_fault.ensures)
+    subst (IsLeast rebuild_key (IsFaultOf c.args.header.now c.args.source c.args.given.now c.args.total)) (sym c.from.ensures)
     (field_first c.args.header.now c.args.source c.args.given.now c.args.total
     (λ whole. (let yes = c.is_whole.ensures.1 whole in let no = c.if-is_whole.false in absurd (cc)))
     (λ lacks. elim lacks [ inl small ↦ (let room = c.requires.room in omega (arith, small, room)) | inr none ↦ none (c.has_signs.ensures.0 (search rules)) ])

@@ -1,0 +1,5 @@
+pub mod Combinations
+pub mod Openings
+pub mod Faults
+pub mod Tried
+pub mod Alike
