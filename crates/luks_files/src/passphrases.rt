@@ -109,7 +109,7 @@ fn passphrase<R: AllocGlobal + Files<File = File> + Input + Eprint>(
     part: Part,
     quiet: bool,
 ) -> Result<Secret, InputFault>
-    ensures { (result ≡ Err InputFault.Absent) ↔ (opening ≡ None) }
+    ensures { (result ≡ Err InputFault.Absent) ↔ (opening.entry ≡ None) }
 {
     let Some(opening) = opening else {
         return Err(InputFault::Absent);
