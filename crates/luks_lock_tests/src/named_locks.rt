@@ -175,10 +175,7 @@ fn what_the_system_tells_of_a_file(rt: HostRuntime) -> Result<(), Fail> {
     let opened = host.fstat(&File::open(&rt, path)?)?;
     assert!(rt; opened == found, "the open file");
     assert!(rt; host.first_byte(path) == Some(b'v'), "its first byte");
-    assert!(rt;
-        host.first_byte("/dev/null").is_none(),
-        "no byte is there"
-    );
+    assert!(rt; host.first_byte("/dev/null").is_none(), "no byte is there");
     assert!(rt; host.stat(top.as_str())?.kind == Kind::Folder, "a folder");
     let null = host.stat("/dev/null")?;
     assert!(rt;
