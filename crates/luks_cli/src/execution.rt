@@ -40,10 +40,11 @@ use std::io::{Read, Write};
 /// reader of those lines can't know, as which file couldn't be read, is said by lines to `err`; that
 /// one of these can't be written changes no status.
 ///
-/// 0: accepted, shown, opened or done; 1: refused, or it doesn't open; 3: accepted, but the two
-/// copies of the header aren't in step; 4: the device failed, a file can't be read, memory was
-/// refused, or `out` failed, which says nothing of what was done. The passphrase is read before the
-/// volume, a new one after the old one, and the random bytes after the volume and its target.
+/// 0: accepted, shown, opened, done, or the backup is current; 1: refused, it doesn't open, or the
+/// backup is outdated; 3: accepted, but the two copies of the header aren't in step; 4: the device
+/// failed, a file can't be read, memory was refused, or `out` failed, which says nothing of what was
+/// done. The passphrase is read before the volume, a new one after the old one, and the random bytes
+/// after the volume and its target. A backup that is put back or compared is the target, too.
 ///
 /// The volume is the bytes of its file that `line.place` names: who calls it has taken that window of
 /// the file (`luks_window`), and gives it as the device. So all that is said here of the volume is said

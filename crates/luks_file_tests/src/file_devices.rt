@@ -2,8 +2,10 @@
 //! calls fail.
 use luks_area::{Device, FileDevice};
 use luks_samples::new_folder;
-use std::fs::{self, File, OpenOptions};
-use std::io::{Read, Seek, SeekFrom};
+use std::cell::Cell;
+use std::fs::{self, File, Metadata, OpenFile, OpenOptions};
+use std::io::{self, ErrorKind, Read, Seek, SeekFrom};
+use std::os::unix::fs::FileExt;
 use std::rt::Files;
 use std::test::Fail;
 
@@ -180,6 +182,75 @@ fn files_opened_for_one_thing_alone(rt: HostRuntime) -> Result<(), Fail> {
         "not read"
     );
     assert!(rt; has(&rt, path, 0, b"0123456789")?, "as it was");
+    fs::remove_dir_all(&rt, top.as_str())?;
+    Ok(())
+}
+
+/// A file that counts how often it is synced. Every third sync fails.
+#[derive(Drop)]
+struct Synced<'a> {
+    file: File,
+    syncs: &'a Cell<u64>,
+}
+
+impl Seek for Synced<'_> {
+    fn seek(&mut self, to: SeekFrom) -> io::Result<u64> {
+        self.file.seek(to)
+    }
+}
+
+impl FileExt for Synced<'_> {
+    fn read_at(&self, buf: &mut [u8], offset: u64) -> io::Result<usize> {
+        self.file.read_at(buf, offset)
+    }
+
+    fn write_at(&self, buf: &[u8], offset: u64) -> io::Result<usize> {
+        self.file.write_at(buf, offset)
+    }
+}
+
+impl OpenFile for Synced<'_> {
+    fn metadata(&self) -> io::Result<Metadata> {
+        self.file.metadata()
+    }
+
+    fn set_len(&self, size: u64) -> io::Result<()> {
+        self.file.set_len(size)
+    }
+
+    fn sync_all(&self) -> io::Result<()> {
+        let made = self.syncs.get().wrapping_add(1);
+        self.syncs.set(made);
+        if made % 3 == 0 {
+            return Err(io::Error::from(ErrorKind::Other));
+        }
+        self.file.sync_all()
+    }
+
+    fn sync_data(&self) -> io::Result<()> {
+        Err(io::Error::from(ErrorKind::Unsupported))
+    }
+}
+
+// A flush is one sync of the file, with what tells its length; a read or a write is none.
+#[test]
+fn a_flush_syncs_the_file(rt: HostRuntime) -> Result<(), Fail> {
+    let top = new_folder(&rt, "synced")?;
+    let path = format!(in rt.alloc(); "{top}/v")?;
+    let path = path.as_str();
+    fs::write(&rt, path, "0123456789")?;
+    let syncs = Cell::new(0);
+    let file = open(&rt, path)?;
+    let mut device = FileDevice::new(Synced {
+        file,
+        syncs: &syncs,
+    })?;
+    let wrote = writes(&mut device, 3, b"abc") && reads(&mut device, 3, b"abc");
+    assert!(rt; wrote && syncs.get() == 0, "no sync by itself");
+    assert!(rt; flushes(&mut device) && syncs.get() == 1, "one sync");
+    assert!(rt; flushes(&mut device) && syncs.get() == 2, "another one");
+    assert!(rt; !flushes(&mut device) && syncs.get() == 3, "one that fails");
+    assert!(rt; device.failures() == 1, "it is counted");
     fs::remove_dir_all(&rt, top.as_str())?;
     Ok(())
 }

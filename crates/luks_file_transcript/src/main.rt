@@ -17,6 +17,7 @@
 //!     put NAME AT TEXT       TEXT is written to this place of the file
 //!     into NAME AT OTHER     OTHER's bytes are written to this place of the file
 //!     typed TEXT             standard input of the commands behind
+//!     hold NAME, release NAME   another program takes the lock of the file, and lets it go
 //!     $ WORDS                runs the command, its words parted by single spaces: prints standard output,
 //!                            standard error behind `!`, the status behind `=`, and the files that were opened
 //!                            behind `<` (to be read) and `>` (to be written too)

@@ -5,21 +5,23 @@ use std::io::{self, ErrorKind, Seek, SeekFrom, Write};
 use std::os::unix::fs::{PermissionsExt, symlink};
 use std::rt::Files;
 
-/// The folder of the files, and what is typed.
+/// The folder of the files, what is typed, and the file whose lock another program holds.
 #[derive(Drop)]
 pub struct Folder<'a, R> {
     rt: &'a R,
     name: &'a str,
     typed: String,
+    held: Option<File>,
 }
 
 impl<'a, R: AllocGlobal + Files<File = File>> Folder<'a, R> {
-    /// The folder of this name, where nothing is typed.
+    /// The folder of this name, where nothing is typed and no lock is held.
     pub fn new(rt: &'a R, name: &'a str) -> Self {
         Folder {
             rt,
             name,
             typed: String::new(rt.alloc()),
+            held: None,
         }
     }
 
@@ -40,6 +42,14 @@ impl<'a, R: AllocGlobal + Files<File = File>> Folder<'a, R> {
                 self.typed = text_of(self.rt, rest)?;
                 Ok(())
             }
+            "hold" => {
+                self.held = Some(self.locked(rest)?);
+                Ok(())
+            }
+            "release" => {
+                self.held = None;
+                Ok(())
+            }
             _ => self.make(step, rest),
         }
     }
@@ -48,6 +58,15 @@ impl<'a, R: AllocGlobal + Files<File = File>> Folder<'a, R> {
     fn place(&self, name: &str) -> io::Result<String> {
         let folder = self.name;
         Ok(format!(in self.rt.alloc(); "{folder}/{name}")?)
+    }
+
+    /// The file of this name, opened as by another program, and locked by it alone.
+    fn locked(&self, name: &str) -> io::Result<File> {
+        let file = File::open(self.rt, self.place(name)?.as_str())?;
+        match file.try_lock() {
+            Ok(()) => Ok(file),
+            Err(_) => Err(io::Error::from(ErrorKind::WouldBlock)),
+        }
     }
 
     /// Makes or changes a file.

@@ -1,6 +1,7 @@
 //! The passphrases of a command line.
-ghost use Rattle.std.specs.Prelude.{◌≡◌, ◌↔◌, IfErr, IfOk, IfSome, IsOk, take};
+ghost use Rattle.std.specs.Prelude.{◌≡◌, ◌≢◌, ◌⊎◌, ◌↔◌, Err, IfErr, IfOk, IfSome, IsOk, IsTrue, None, take};
 ghost use Rattle.luks_commands.specs.FirstLine.{first_line};
+ghost use Rattle.luks_files.specs.Passphrases.{EndsCommand};
 
 use crate::openings::{Opening, Openings};
 use crate::typing::tell_typing;
@@ -31,7 +32,12 @@ impl Passphrases {
         rt: &R,
         openings: &Openings<'_>,
         manner: Manner,
-    ) -> Self {
+    ) -> Self
+        ensures unnamed { (result.old ≡ Err InputFault.Absent) ↔ (openings.now.passphrase ≡ None) }
+        ensures ended { EndsCommand result.old → result.new ≡ Err InputFault.Absent }
+        ensures new_unnamed { (EndsCommand result.old → ⊥) → ((result.new ≡ Err InputFault.Absent)
+            ↔ (openings.now.new_passphrase ≡ None)) }
+    {
         let part = Part::of(manner.passphrase_line);
         let old = passphrase(rt, openings.passphrase, part, manner.quiet);
         if ends_command(&old) {
@@ -48,14 +54,18 @@ impl Passphrases {
     }
 
     /// Whether one of them ends the command, so that no volume is opened.
-    pub fn end_command(&self) -> bool {
+    pub fn end_command(&self) -> bool
+        ensures { IsTrue result ↔ EndsCommand self.now.old ⊎ EndsCommand self.now.new }
+    {
         ends_command(&self.old) || ends_command(&self.new)
     }
 }
 
 /// Whether the command ends by what was read: a passphrase that its file doesn't give, or that is too
 /// long. One that the command line doesn't name ends nothing.
-fn ends_command(read: &Result<Secret, InputFault>) -> bool {
+fn ends_command(read: &Result<Secret, InputFault>) -> bool
+    ensures { IsTrue result ↔ EndsCommand read.now }
+{
     match read {
         Ok(bytes) => bytes.as_slice().len() > LONGEST_PASSPHRASE,
         Err(InputFault::Absent) => false,
@@ -71,7 +81,9 @@ enum Part {
 }
 
 impl Part {
-    fn of(line: bool) -> Part {
+    fn of(line: bool) -> Part
+        ensures { result ≡ Part.FirstLine ↔ IsTrue line }
+    {
         if line { Part::FirstLine } else { Part::Whole }
     }
 
@@ -81,6 +93,7 @@ impl Part {
             IfSome (F.remaining file.old) (λ bytes. p ≡ take 65537 bytes)) }
         ensures line { self ≡ Part.FirstLine → IfOk result (λ p.
             IfSome (F.remaining file.old) (λ bytes. p ≡ first_line (take 65537 bytes))) }
+        ensures kinds { IfErr result (λ f. f ≢ InputFault.Absent) }
     {
         match self {
             Part::Whole => first_bytes(alloc, file),
@@ -95,7 +108,9 @@ fn passphrase<R: AllocGlobal + Files<File = File> + Input + Eprint>(
     opening: Option<Opening<'_>>,
     part: Part,
     quiet: bool,
-) -> Result<Secret, InputFault> {
+) -> Result<Secret, InputFault>
+    ensures { (result ≡ Err InputFault.Absent) ↔ (opening.entry ≡ None) }
+{
     let Some(opening) = opening else {
         return Err(InputFault::Absent);
     };

@@ -1,4 +1,5 @@
 pub mod Hosts
+pub mod Identity
 pub mod Lazy
 pub mod Locked
 pub mod Node

@@ -3,7 +3,7 @@ ghost use Rattle.luks_lock.specs.Locked.{IsOfName};
 ghost use Rattle.luks_lock.specs.declared.names.Named.TheVariants as named;
 
 use crate::node::Node;
-use crate::system::{Access, Answer, Found, Kind, Share, System};
+use crate::system::{Access, Answer, Kind, Share, System};
 use std::alloc::Global;
 use std::fs::File;
 use std::io::{self, ErrorKind};
@@ -101,7 +101,7 @@ fn is_at<S: System>(system: &mut S, file: &File, path: &str) -> bool
 fn same_file<S: System>(system: &mut S, file: &File, path: &str) -> io::Result<bool>
     ensures { S.last system.new ≡ S.last system.old }
 {
-    let held: Found = system.fstat(file)?;
-    let named: Found = system.lstat(path)?;
-    Ok(held.system == named.system && held.inode == named.inode)
+    let held = system.fstat(file)?;
+    let named = system.lstat(path)?;
+    Ok(held.is_of_one_file(&named))
 }

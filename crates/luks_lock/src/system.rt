@@ -1,5 +1,6 @@
 //! The calls of the system by which a volume is opened and its lock is asked for.
-ghost use Rattle.std.specs.Prelude.{◌≡◌, Option, Some};
+ghost use Rattle.std.specs.Prelude.{◌≡◌, ◌↔◌, IsTrue, Option, Some};
+ghost use Rattle.luks_lock.specs.Identity.{AreOfOneFile};
 ghost use Rattle.luks_lock.specs.System.{asked};
 ghost use Rattle.luks_lock.specs.declared.system.Asked.{Asked};
 
@@ -59,6 +60,19 @@ pub struct Found {
     pub inode: u64,
     /// Of a device its number, as `rdev` of a file's metadata.
     pub device: u64,
+}
+
+impl Found {
+    /// Whether both are told of one file.
+    pub fn is_of_one_file(&self, other: &Found) -> bool
+        ensures { IsTrue result ↔ AreOfOneFile self.now other.now }
+    {
+        match (self.kind, other.kind) {
+            (Kind::Block, Kind::Block) => self.device == other.device,
+            (Kind::Block, _) | (_, Kind::Block) => false,
+            _ => self.system == other.system && self.inode == other.inode,
+        }
+    }
 }
 
 /// For what a file is opened.

@@ -3,6 +3,7 @@ use luks_lock::{Answer, Found, Host, Kind, Lock, Named, Node, Notice, Share, Sys
 use luks_samples::new_folder;
 use std::fs::{self, File, OpenOptions};
 use std::os::unix::fs::{MetadataExt, symlink};
+use std::rt::Clock;
 use std::test::Fail;
 
 /// The number that Linux gives, the major and the minor one, and the name of the file. The third is
@@ -173,6 +174,8 @@ fn what_the_system_tells_of_a_file(rt: HostRuntime) -> Result<(), Fail> {
     );
     let opened = host.fstat(&File::open(&rt, path)?)?;
     assert!(rt; opened == found, "the open file");
+    assert!(rt; host.first_byte(path) == Some(b'v'), "its first byte");
+    assert!(rt; host.first_byte("/dev/null").is_none(), "no byte is there");
     assert!(rt; host.stat(top.as_str())?.kind == Kind::Folder, "a folder");
     let null = host.stat("/dev/null")?;
     assert!(rt;
@@ -180,5 +183,17 @@ fn what_the_system_tells_of_a_file(rt: HostRuntime) -> Result<(), Fail> {
         "a device"
     );
     fs::remove_dir_all(&rt, top.as_str())?;
+    Ok(())
+}
+
+#[test]
+fn a_pause_is_made(rt: HostRuntime) -> Result<(), Fail> {
+    let before = rt.monotonic()?;
+    Host::new(&rt).sleep(50);
+    let after = rt.monotonic()?;
+    assert!(rt;
+        after.saturating_sub(before).as_millis() >= 50,
+        "of 50 milliseconds"
+    );
     Ok(())
 }
