@@ -2,7 +2,7 @@
 //!
 //! An edit here changes one or two keyslots, their 48-byte entries and their areas, so its
 //! definitions, its judging and its calls fit into one crate. An edit of LUKS2 writes the whole
-//! metadata anew, so each of the three has a crate there: `luks2_edits`, `luks2_judging` and
+//! metadata anew, so each of the three has a crate there: `luks2_edit_laws`, `luks2_judging` and
 //! `luks2_editing`.
 #![tactic(auto)]
 

@@ -18,7 +18,7 @@ use luks_edit::EditFault;
 use luks_head::{Luks1, Luks1Slot, SlotState};
 use luks_reading::luks1_plan;
 use luks_slot::Key;
-use luks_steps::seal_area;
+use luks_writing::seal_area;
 
 /// The salt of a new keyslot: the first 32 of the random bytes.
 fn salt_in(random: &[u8]) -> [u8; 32]

@@ -6,7 +6,7 @@ ghost use Rattle.luks1_header.specs.Header1.{entry, entry_size, luks1_size};
 ghost use Rattle.luks1_edits.specs.Places.{entry_place};
 
 use luks_area::{Device, DeviceFault};
-use luks_steps::write_range;
+use luks_writing::write_range;
 
 /// Where the first entry stands, and the bytes of each.
 const ENTRIES: u64 = 208;

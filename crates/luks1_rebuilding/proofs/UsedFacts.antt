@@ -6,8 +6,8 @@ use Rattle.luks_area.specs.RangeFacts.{part-same_but, part-same_but_at, part-wri
 use Rattle.luks_area.specs.declared.area.Area.{Area}
 use Rattle.luks1_header.specs.Written.{WritesLuks1}
 use Rattle.luks1_header.specs.declared.luks1.Luks1.{Luks1}
-use Rattle.luks_clearing.specs.Cleared.{AreCleared, ClearsInTurn, IsOfFirstSectors}
-use Rattle.luks_clearing.specs.OrderFacts.{clearing_widens}
+use Rattle.luks_writing.specs.Cleared.{AreCleared, ClearsInTurn, IsOfFirstSectors}
+use Rattle.luks_writing.specs.MadeInOrderFacts.{clearing_widens}
 use Rattle.luks1_rebuilding.specs.Used.{AreApart, HasUsedAreas, IsOfUsed, IsOfUsedAreas, IsOfWritten, IsUsedArea, IsWritten, WritesFirst1, WritesInTurn1}
 
 -- a keyslot has one area

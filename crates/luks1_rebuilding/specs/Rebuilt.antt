@@ -5,7 +5,7 @@ use Rattle.luks_area.specs.Ranges.{part, IsAt, IsOfEither, SameBut}
 use Rattle.luks1_header.specs.Header1.{luks1_size}
 use Rattle.luks1_header.specs.Written.{WritesLuks1}
 use Rattle.luks1_header.specs.declared.luks1.Luks1.{Luks1}
-use Rattle.luks_clearing.specs.Cleared.{cleared_size, IsCleared}
+use Rattle.luks_writing.specs.Cleared.{cleared_size, IsCleared}
 use Rattle.luks1_mending.specs.Made.{IsMade}
 use Rattle.luks1_mending.specs.declared.given.Given.{Given}
 use Rattle.luks1_rebuilding.specs.KeyAreas.{header_of, HasKeptAreas, IsOfKeptArea}

@@ -7,7 +7,7 @@ use Rattle.luks1_header.specs.Header1.{luks1_size}
 use Rattle.luks1_header.specs.declared.luks1.Luks1.{Luks1}
 use Rattle.luks1_header.specs.declared.luks1.Luks1Slot.{Luks1Slot}
 use Rattle.luks1_header.specs.declared.luks1.SlotState.TheVariants.{Disabled, Enabled}
-use Rattle.luks_clearing.specs.Cleared.{cleared_size, IsCleared}
+use Rattle.luks_writing.specs.Cleared.{cleared_size, IsCleared}
 use Rattle.luks1_mending.specs.Areas.{stripes_area}
 use Rattle.luks1_rebuilding.specs.Rebuilt.{older_second}
 

@@ -3,13 +3,13 @@ ghost use Rattle.std.specs.Prelude.{◌≡◌, ◌+◌, ◌^◌, ◌<◌, length
 ghost use Rattle.luks_area.specs.Device.{IsSettled, IsUnchanged, is_failure};
 ghost use Rattle.luks_area.specs.Ranges.{part, SameBut};
 ghost use Rattle.luks_area.specs.declared.area.Area.{Area as TheArea};
-ghost use Rattle.luks_copying.specs.TwoDevices.{CountsEither};
+ghost use Rattle.luks_writing.specs.TwoDevices.{CountsEither};
 ghost use Rattle.luks1_rebuilding.specs.Used.{AreApart, AreInside, HasUsedAreas, IsOfUsed, IsOfUsedAreas, IsUsedArea};
 
 use luks_area::{Area, Device, DeviceFault};
-use luks_copying::copy_area;
 use luks_head::{Luks1, SlotState};
 use luks_reading::luks1_area;
+use luks_writing::copy_area;
 
 /// Copies the area of each enabled keyslot, one after the other, each with a flush. Also where a device
 /// fails no byte of the target outside these areas changes.

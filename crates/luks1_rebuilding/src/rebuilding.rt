@@ -2,7 +2,7 @@
 ghost use Rattle.std.specs.Prelude.{◌≡◌, ◌↔◌, ◌+◌, ◌^◌, ◌<◌, ◌≤◌, ℕ, List, false, length, IfErr, OnOk};
 ghost use Rattle.luks_area.specs.Device.{IsSettled, IsUnchanged, is_failure};
 ghost use Rattle.luks_area.specs.Ranges.{SameBut};
-ghost use Rattle.luks_copying.specs.TwoDevices.{CountsEither};
+ghost use Rattle.luks_writing.specs.TwoDevices.{CountsEither};
 ghost use Rattle.luks1_header.specs.Written.{WritesLuks1};
 ghost use Rattle.luks_reading.specs.Answer.{AnswerWithin, Opened};
 ghost use Rattle.luks_reading.specs.Checked.{WellFormed};
@@ -19,8 +19,7 @@ use crate::judging::{MadeHeader, first_bytes, judged_header};
 use crate::key_areas::copy_areas;
 use crate::rebuild_fault::Rebuild1Fault;
 use luks_area::{Device, DeviceFault};
-use luks_clearing::clear_places;
-use luks_steps::write_range;
+use luks_writing::{clear_places, write_range};
 use luks1_mending::Given;
 
 /// Where an older LUKS2 header of the usual metadata size has its second copy.
@@ -70,7 +69,7 @@ pub fn rebuild1<S: Device, T: Device>(
         (T.bytes target.old) (T.bytes target.new) }
 
     // Before any other byte changes the first sector is cleared, and nothing counts at 0 where it is
-    // (`cleared_counts_no_more` of luks_clearing). The header comes last.
+    // (`cleared_counts_no_more` of luks_writing). The header comes last.
     ensures order { S.tells → T.tells → ClearsFirst1 (S.bytes source.old) given.now
         (T.bytes target.old) (T.bytes target.new) }
 

@@ -24,11 +24,11 @@ use Rattle.luks_reading.specs.Header.{json_at, IsChosenCopy}
 use Rattle.luks_edit.specs.declared.edit.Edit.TheVariants.{Add}
 use Rattle.luks_edit.specs.Asked.{memory_for}
 use Rattle.luks_edit.specs.declared.edit.Passphrase.{Passphrase}
-use Rattle.luks2_edits.specs.Edited.{keyslot_salt, members_of, stripes_random, After2, HoldsKey, HoldsOpened, IsEdited, IsMadeIn}
-use Rattle.luks2_edits.specs.Metadata.{HasStripes, IsKeyArea, IsNewKeyslot}
-use Rattle.luks2_edits.specs.Places.{IsNewArea, IsOfCopies, IsOfNewKeyslot, IsTouched}
-use Rattle.luks2_edits.proofs.AlikeFacts.{made_derived, SaysLike}
-use Rattle.luks2_edits.proofs.SealFacts.{opened_plan, IsOpened}
+use Rattle.luks2_edit_laws.specs.Edited.{keyslot_salt, members_of, stripes_random, After2, HoldsKey, HoldsOpened, IsEdited, IsMadeIn}
+use Rattle.luks2_edit_laws.specs.Metadata.{HasStripes, IsKeyArea, IsNewKeyslot}
+use Rattle.luks2_edit_laws.specs.Places.{IsNewArea, IsOfCopies, IsOfNewKeyslot, IsTouched}
+use Rattle.luks2_edit_laws.proofs.AlikeFacts.{made_derived, SaysLike}
+use Rattle.luks2_edit_laws.proofs.SealFacts.{opened_plan, IsOpened}
 use Rattle.luks2_judging.specs.Rows.{HasNoFaultBefore}
 use Rattle.luks2_judging.specs.declared.judged.Addition.{Addition}
 use Rattle.luks2_judging.proofs.KeyAreaFacts.{area_of_object}

@@ -24,13 +24,13 @@ use Rattle.luks_reading.specs.Header.{IsChosenCopy}
 use Rattle.luks_edit.specs.declared.edit.Edit.TheVariants.{Change}
 use Rattle.luks_edit.specs.Asked.{memory_for}
 use Rattle.luks_edit.specs.declared.edit.Passphrase.{Passphrase}
-use Rattle.luks2_edits.specs.Edited.{keyslot_salt, members_of, stripes_random, After2, HoldsKey, IsEdited}
-use Rattle.luks2_edits.specs.Leftovers.{Leftover2}
-use Rattle.luks2_edits.specs.Metadata.{HasStripes, IsKeyArea}
-use Rattle.luks2_edits.specs.Places.{IsNewArea, IsOfCopies, IsTouched}
-use Rattle.luks2_edits.specs.Refused.{IsUnrefused2}
-use Rattle.luks2_edits.proofs.AlikeFacts.{SaysLike}
-use Rattle.luks2_edits.proofs.SealFacts.{opened_plan, IsOpened}
+use Rattle.luks2_edit_laws.specs.Edited.{keyslot_salt, members_of, stripes_random, After2, HoldsKey, IsEdited}
+use Rattle.luks2_edit_laws.specs.Leftovers.{Leftover2}
+use Rattle.luks2_edit_laws.specs.Metadata.{HasStripes, IsKeyArea}
+use Rattle.luks2_edit_laws.specs.Places.{IsNewArea, IsOfCopies, IsTouched}
+use Rattle.luks2_edit_laws.specs.Refused.{IsUnrefused2}
+use Rattle.luks2_edit_laws.proofs.AlikeFacts.{SaysLike}
+use Rattle.luks2_edit_laws.proofs.SealFacts.{opened_plan, IsOpened}
 use Rattle.luks2_judging.specs.Rows.{HasNoFaultBefore}
 use Rattle.luks2_judging.specs.declared.judged.Renewal.{Renewal}
 use Rattle.luks2_editing.specs.declared.sealed_metadata.SealedSlot.TheVariants.{Renewed}

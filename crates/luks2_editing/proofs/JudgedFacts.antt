@@ -12,8 +12,8 @@ use Rattle.luks_edit.specs.declared.edit.Done.{Done}
 use Rattle.luks_edit.specs.declared.edit.Edit.{Edit}
 use Rattle.luks_edit.specs.declared.edit_fault.EditFault.{EditFault}
 use Rattle.luks_edit.specs.Endings.{EndsBy-map}
-use Rattle.luks2_edits.specs.Leftovers.{Leftover2}
-use Rattle.luks2_edits.specs.Refused.{Refusal2}
+use Rattle.luks2_edit_laws.specs.Leftovers.{Leftover2}
+use Rattle.luks2_edit_laws.specs.Refused.{Refusal2}
 use Rattle.luks2_judging.specs.declared.judged.Judged.{Judged}
 use Rattle.luks2_judging.specs.Judging.{IsRefusedEarly, IsUnrefusedSoFar, Seals}
 use Rattle.luks2_judging.specs.Opened.{TakesMemoryToOpen}

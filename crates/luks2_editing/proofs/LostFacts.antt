@@ -17,8 +17,8 @@ use Rattle.luks_reading.specs.Checked.{AreaOf, WellFormed}
 use Rattle.luks_reading.specs.Header.{json_at, IsChosenCopy}
 use Rattle.luks_reading.proofs.VolumeLaws.{well_formed_fits}
 use Rattle.luks_edit.specs.declared.edit.Edit.{Edit}
-use Rattle.luks2_edits.specs.Copies.{label_field, salt_field, subsystem_field, IsWrittenAnew}
-use Rattle.luks2_edits.specs.Metadata.{IsKeyArea}
+use Rattle.luks2_edit_laws.specs.Copies.{label_field, salt_field, subsystem_field, IsWrittenAnew}
+use Rattle.luks2_edit_laws.specs.Metadata.{IsKeyArea}
 use Rattle.luks2_editing.specs.Rewriting.{AreWrittenAnew}
 
 -- ---- a copy beside a range that was written

@@ -9,12 +9,12 @@ use Rattle.luks_making.specs.Conditions.{CanSeal, IsThere}
 use Rattle.luks_reading.specs.declared.report.Data.{Data}
 use Rattle.luks_edit.specs.declared.edit.Edit.{Edit}
 use Rattle.luks_edit.specs.declared.edit.Edit.TheVariants.{Add, Change, Remove, Repair, Label}
-use Rattle.luks2_edits.specs.Edited.{members_of, HasAdded, HasChanged, IsEdited}
-use Rattle.luks2_edits.specs.Metadata.{HasStripes, IsInUse}
-use Rattle.luks2_edits.specs.Places.{rounded_to_blocks, IsNewArea}
-use Rattle.luks2_edits.specs.Refused.{Need2, NeedsLike}
-use Rattle.luks2_edits.proofs.PlaceFacts.{sectors_in_blocks}
-use Rattle.luks2_edits.proofs.ToldFacts.{same_stripes}
+use Rattle.luks2_edit_laws.specs.Edited.{members_of, HasAdded, HasChanged, IsEdited}
+use Rattle.luks2_edit_laws.specs.Metadata.{HasStripes, IsInUse}
+use Rattle.luks2_edit_laws.specs.Places.{rounded_to_blocks, IsNewArea}
+use Rattle.luks2_edit_laws.specs.Refused.{Need2, NeedsLike}
+use Rattle.luks2_edit_laws.proofs.PlaceFacts.{sectors_in_blocks}
+use Rattle.luks2_edit_laws.proofs.ToldFacts.{same_stripes}
 use Rattle.luks2_judging.specs.Room.{IsPlaced}
 use Rattle.luks2_editing.specs.declared.sealed_metadata.SealedSlot.{SealedSlot}
 use Rattle.luks2_editing.specs.declared.sealed_metadata.SealedSlot.TheVariants.{Made, Renewed}

@@ -5,7 +5,7 @@ use Rattle.luks_area.specs.Text.{text_of}
 use Rattle.luks_head.specs.Header2.{magic_of}
 use Rattle.luks_head.specs.Written.{IsWrittenCopy}
 use Rattle.luks_head.specs.declared.bin2.Bin2.{Bin2}
-use Rattle.luks2_copy.specs.Copy.{HasCopy, IsCopyHeader}
+use Rattle.luks_writing.specs.Copy.{HasCopy, IsCopyHeader}
 use Rattle.luks2_editing.specs.NewCopy.{HasNewCopy, IsCopyPlace, IsNewHeader}
 
 module _ (old : Bin2) (at : ℕ) (label salt : List ℕ) (h : Bin2) (new : IsNewHeader old at label salt h) where

@@ -20,13 +20,13 @@ use Rattle.luks_reading.specs.Plans.{HasLuks2KeyBytes}
 use Rattle.luks_edit.specs.declared.edit.Edit.{Edit}
 use Rattle.luks_edit.specs.declared.edit_fault.EditFault.{EditFault}
 use Rattle.luks_edit.specs.declared.edit_fault.EditFault.TheVariants as fault
-use Rattle.luks2_edits.specs.Edited.{keyslot_salt, IsEdited}
-use Rattle.luks2_edits.specs.Leftovers.{IsTornAt, Leftover2}
-use Rattle.luks2_edits.specs.Metadata.{HasStripes, IsKeyArea}
-use Rattle.luks2_edits.specs.Places.{rounded_to_blocks, IsNewArea, IsOfNewKeyslot}
-use Rattle.luks2_edits.specs.Refused.{IsUnrefused2, NeedsLike}
-use Rattle.luks2_edits.proofs.PlaceFacts.{sectors_in_blocks}
-use Rattle.luks2_edits.proofs.ToldFacts.{same_stripes}
+use Rattle.luks2_edit_laws.specs.Edited.{keyslot_salt, IsEdited}
+use Rattle.luks2_edit_laws.specs.Leftovers.{IsTornAt, Leftover2}
+use Rattle.luks2_edit_laws.specs.Metadata.{HasStripes, IsKeyArea}
+use Rattle.luks2_edit_laws.specs.Places.{rounded_to_blocks, IsNewArea, IsOfNewKeyslot}
+use Rattle.luks2_edit_laws.specs.Refused.{IsUnrefused2, NeedsLike}
+use Rattle.luks2_edit_laws.proofs.PlaceFacts.{sectors_in_blocks}
+use Rattle.luks2_edit_laws.proofs.ToldFacts.{same_stripes}
 use Rattle.luks2_judging.specs.Room.{IsPlaced}
 use Rattle.luks2_editing.specs.Prepared.{AreCopiesWithin}
 use Rattle.luks2_editing.specs.Replies.{EndsBy2}

@@ -14,9 +14,9 @@ use Rattle.luks_making.specs.Keyslots.{NewMembers}
 use Rattle.luks_slot.specs.declared.fault.SlotFault.{SlotFault}
 use Rattle.luks_slot.specs.Refusal.{slot_refusal_within}
 use Rattle.luks_reading.specs.Plans.{IsLuks2Digest}
-use Rattle.luks2_edits.specs.Edited.{keyslot_salt}
-use Rattle.luks2_edits.proofs.AlikeFacts.{alike_refusal, changed_derived, SaysLike}
-use Rattle.luks2_edits.proofs.SealFacts.{salt_length, IsOpened}
+use Rattle.luks2_edit_laws.specs.Edited.{keyslot_salt}
+use Rattle.luks2_edit_laws.proofs.AlikeFacts.{alike_refusal, changed_derived, SaysLike}
+use Rattle.luks2_edit_laws.proofs.SealFacts.{salt_length, IsOpened}
 use Rattle.luks2_editing.specs.SealedKeyslot.{HasRefusedKeyslot}
 
 -- the new salt is long enough for Argon2

@@ -14,11 +14,11 @@ use Rattle.luks_reading.specs.Header.{IsChosenCopy}
 use Rattle.luks_edit.specs.declared.edit.Edit.TheVariants.{Remove}
 use Rattle.luks_edit.specs.declared.edit.Passphrase.{Passphrase}
 use Rattle.luks_edit.specs.RowFacts.{passed_from, Passed}
-use Rattle.luks2_edits.specs.Edited.{After2}
-use Rattle.luks2_edits.specs.Leftovers.{Leftover2}
-use Rattle.luks2_edits.specs.Metadata.{IsKeyArea}
-use Rattle.luks2_edits.specs.Places.{IsOfCopies, IsTouched}
-use Rattle.luks2_edits.specs.Refused.{IsEditFault2}
+use Rattle.luks2_edit_laws.specs.Edited.{After2}
+use Rattle.luks2_edit_laws.specs.Leftovers.{Leftover2}
+use Rattle.luks2_edit_laws.specs.Metadata.{IsKeyArea}
+use Rattle.luks2_edit_laws.specs.Places.{IsOfCopies, IsTouched}
+use Rattle.luks2_edit_laws.specs.Refused.{IsEditFault2}
 use Rattle.luks2_judging.specs.Rows.{HasNoFaultBefore}
 use Rattle.luks2_editing.specs.Prepared.{IsPrepared}
 use Rattle.luks2_editing.specs.Rewriting.{AreWrittenAnew}

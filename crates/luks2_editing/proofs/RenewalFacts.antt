@@ -27,13 +27,13 @@ use Rattle.luks_edit.specs.declared.edit.Edit.{Edit}
 use Rattle.luks_edit.specs.declared.edit_fault.EditFault.{EditFault}
 use Rattle.luks_edit.specs.declared.edit_fault.EditFault.TheVariants as fault
 use Rattle.luks_edit.specs.RowFacts.{first_of_row, next, none_at_all, Passed}
-use Rattle.luks2_edits.specs.Copies.{label_after, label_field}
-use Rattle.luks2_edits.specs.Edited.{keyslot_salt, After2, IsEdited, IsSealedBy, IsWipedBy}
-use Rattle.luks2_edits.specs.Leftovers.{IsTornAt}
-use Rattle.luks2_edits.specs.Metadata.{HasMetadata}
-use Rattle.luks2_edits.specs.Places.{IsOfCopies, IsTouched}
-use Rattle.luks2_edits.specs.Refused.{IsEditFault2, HasSaid, IsFull, IsMiscounted, IsUnrefused2, Need2}
-use Rattle.luks2_edits.proofs.SoundCopyFacts.{copy_sound}
+use Rattle.luks2_edit_laws.specs.Copies.{label_after, label_field}
+use Rattle.luks2_edit_laws.specs.Edited.{keyslot_salt, After2, IsEdited, IsSealedBy, IsWipedBy}
+use Rattle.luks2_edit_laws.specs.Leftovers.{IsTornAt}
+use Rattle.luks2_edit_laws.specs.Metadata.{HasMetadata}
+use Rattle.luks2_edit_laws.specs.Places.{IsOfCopies, IsTouched}
+use Rattle.luks2_edit_laws.specs.Refused.{IsEditFault2, HasSaid, IsFull, IsMiscounted, IsUnrefused2, Need2}
+use Rattle.luks2_edit_laws.proofs.SoundCopyFacts.{copy_sound}
 use Rattle.luks2_editing.specs.Prepared.{AreCopiesWithin, IsPrepared, IsUnwritten}
 use Rattle.luks2_editing.specs.Replies.{EndsBy2}
 use Rattle.luks2_editing.specs.Rewriting.{AreWrittenAnew, IsRenewing, MayBeHalfWritten}

@@ -13,9 +13,9 @@ use Rattle.luks_head.specs.declared.bin2.Bin2.{Bin2}
 use Rattle.luks_making.specs.WrittenArea.{IsWrittenArea}
 use Rattle.luks_reading.specs.Header.{json_at}
 use Rattle.luks_edit.specs.declared.edit.Edit.{Edit}
-use Rattle.luks2_edits.specs.Copies.{copy_salt, other_place, IsWrittenAnew}
-use Rattle.luks2_edits.specs.Places.{IsOfCopies}
-use Rattle.luks2_copy.proofs.CopyFacts.{copy_stays as written_stays}
+use Rattle.luks2_edit_laws.specs.Copies.{copy_salt, other_place, IsWrittenAnew}
+use Rattle.luks2_edit_laws.specs.Places.{IsOfCopies}
+use Rattle.luks_writing.proofs.CopyFacts.{copy_stays as written_stays}
 use Rattle.luks2_editing.specs.NewCopy.{HasNewCopy, IsCopyPlace}
 use Rattle.luks2_editing.specs.Rewriting.{AreWrittenAnew, IsRenewing, IsRewriting, MayBeHalfWritten}
 

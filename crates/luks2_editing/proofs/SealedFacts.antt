@@ -21,10 +21,10 @@ use Rattle.luks_reading.proofs.Luks2PlanNumbers.{has_turns}
 use Rattle.luks_edit.specs.declared.edit.Edit.{Edit}
 use Rattle.luks_edit.specs.declared.edit_fault.EditFault.{EditFault}
 use Rattle.luks_edit.specs.declared.edit_fault.EditFault.TheVariants as fault
-use Rattle.luks2_edits.specs.Edited.{stripes_random, HoldsKey}
-use Rattle.luks2_edits.specs.Leftovers.{IsTornAt}
-use Rattle.luks2_edits.specs.Places.{IsOfCopies, IsOfSealed}
-use Rattle.luks2_edits.proofs.ToldFacts.{in_between}
+use Rattle.luks2_edit_laws.specs.Edited.{stripes_random, HoldsKey}
+use Rattle.luks2_edit_laws.specs.Leftovers.{IsTornAt}
+use Rattle.luks2_edit_laws.specs.Places.{IsOfCopies, IsOfSealed}
+use Rattle.luks2_edit_laws.proofs.ToldFacts.{in_between}
 use Rattle.luks2_editing.specs.Rewriting.{AreWrittenAnew}
 use Rattle.luks2_editing.specs.Sealed.{IsOfStripes, IsPlanFault, IsReadyPlan, MayBeHalfSealed}
 use Rattle.luks2_editing.specs.SealedKeyslot.{IsKeyslotWritten, IsOfStripesOf, IsSealable, IsSealing, IsUnsealed}

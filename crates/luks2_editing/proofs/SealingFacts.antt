@@ -13,7 +13,7 @@ use Rattle.luks_slot.specs.Sealing.{IsSealed}
 use Rattle.luks_edit.specs.EditFaults.{is_edit_failure}
 use Rattle.luks_edit.specs.declared.edit.Edit.{Edit}
 use Rattle.luks_edit.specs.declared.edit_fault.EditFault.TheVariants as fault
-use Rattle.luks2_edits.specs.Places.{IsOfCopies}
+use Rattle.luks2_edit_laws.specs.Places.{IsOfCopies}
 use Rattle.luks2_editing.specs.Rewriting.{MayBeHalfWritten}
 use Rattle.luks2_editing.specs.Sealed.{unsealed, IsOfStripes, IsPlanFault, MayBeHalfSealed}
 

@@ -15,8 +15,8 @@ use Rattle.luks_reading.specs.Checked.{WellFormed}
 use Rattle.luks_reading.specs.Header.{IsChosenCopy}
 use Rattle.luks_edit.specs.declared.edit.Edit.{Edit}
 use Rattle.luks_edit.specs.Asked.{allowed_memory, MatchPlace, sealed_by}
-use Rattle.luks2_edits.specs.Metadata.{IsNewKeyslot}
-use Rattle.luks2_edits.specs.Places.{IsNewArea}
+use Rattle.luks2_edit_laws.specs.Metadata.{IsNewKeyslot}
+use Rattle.luks2_edit_laws.specs.Places.{IsNewArea}
 use Rattle.luks2_judging.specs.Rows.{HasNoFaultBefore}
 use Rattle.luks2_editing.specs.declared.sealed_metadata.SealedSlot.{SealedSlot}
 use Rattle.luks2_editing.specs.declared.sealed_metadata.SealedSlot.TheVariants.{Made, Renewed}

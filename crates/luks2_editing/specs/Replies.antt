@@ -6,9 +6,9 @@ use Rattle.luks_edit.specs.declared.edit.Edit.{Edit}
 use Rattle.luks_edit.specs.Asked.{MatchPlace, sealed_by}
 use Rattle.luks_edit.specs.declared.edit_fault.EditFault.{EditFault}
 use Rattle.luks_edit.specs.Endings.{EndsBy}
-use Rattle.luks2_edits.specs.Edited.{After2, IsMadeIn}
-use Rattle.luks2_edits.specs.Leftovers.{Leftover2}
-use Rattle.luks2_edits.specs.Refused.{IsUnrefused2, Refusal2}
+use Rattle.luks2_edit_laws.specs.Edited.{After2, IsMadeIn}
+use Rattle.luks2_edit_laws.specs.Leftovers.{Leftover2}
+use Rattle.luks2_edit_laws.specs.Refused.{IsUnrefused2, Refusal2}
 
 -- a keyslot of the set is told
 abbrev pub TellsNew : (ℕ → Type 0) → Option ℕ → Type 0

@@ -7,8 +7,8 @@ use Rattle.luks_head.specs.Sizes.{IsListed}
 use Rattle.luks_head.specs.declared.bin2.Bin2.{Bin2}
 use Rattle.luks_making.specs.WrittenArea.{IsWrittenArea}
 use Rattle.luks_edit.specs.declared.edit.Edit.{Edit}
-use Rattle.luks2_edits.specs.Copies.{label_after, label_field, other_place, IsWrittenAnew}
-use Rattle.luks2_edits.specs.Places.{IsOfCopies}
+use Rattle.luks2_edit_laws.specs.Copies.{label_after, label_field, other_place, IsWrittenAnew}
+use Rattle.luks2_edit_laws.specs.Places.{IsOfCopies}
 
 -- `old` is the binary header of a copy of the volume `v`, `label` its label after the edit, and `json`
 -- the JSON area with the metadata `j`

@@ -14,8 +14,8 @@ use Rattle.luks_slot.specs.Sealing.{IsReadyToSeal, IsSealed}
 use Rattle.luks_edit.specs.declared.edit.Edit.{Edit}
 use Rattle.luks_edit.specs.declared.edit_fault.EditFault.{EditFault}
 use Rattle.luks_edit.specs.declared.edit_fault.EditFault.TheVariants as fault
-use Rattle.luks2_edits.specs.Copies.{other_place, IsWrittenAnew}
-use Rattle.luks2_edits.specs.Places.{IsOfCopies}
+use Rattle.luks2_edit_laws.specs.Copies.{other_place, IsWrittenAnew}
+use Rattle.luks2_edit_laws.specs.Places.{IsOfCopies}
 
 -- the place is of the sectors that hold the stripes of the plan's keyslot
 abbrev pub IsOfStripes : SlotPlan → ℕ → Type 0

@@ -18,9 +18,9 @@ use Rattle.luks_reading.specs.Plans.{IsLuks2Plan}
 use Rattle.luks_edit.specs.declared.edit.Edit.{Edit}
 use Rattle.luks_edit.specs.declared.edit_fault.EditFault.{EditFault}
 use Rattle.luks_edit.specs.declared.edit_fault.EditFault.TheVariants as fault
-use Rattle.luks2_edits.specs.Edited.{stripes_random, HoldsKey, IsSealedBy}
-use Rattle.luks2_edits.specs.Metadata.{HasStripes, IsKeyArea}
-use Rattle.luks2_edits.specs.Places.{IsOfCopies, IsOfSealed}
+use Rattle.luks2_edit_laws.specs.Edited.{stripes_random, HoldsKey, IsSealedBy}
+use Rattle.luks2_edit_laws.specs.Metadata.{HasStripes, IsKeyArea}
+use Rattle.luks2_edit_laws.specs.Places.{IsOfCopies, IsOfSealed}
 use Rattle.luks2_editing.specs.Rewriting.{AreWrittenAnew}
 
 -- ---- what is needed

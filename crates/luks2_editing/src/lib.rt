@@ -1,4 +1,4 @@
-//! The edits of LUKS2 volumes: the calls that do what `luks2_edits` defines.
+//! The edits of LUKS2 volumes: the calls that do what `luks2_edit_laws` defines.
 #![tactic(auto)]
 
 mod adding;

@@ -1,8 +1,8 @@
 //! The random bytes of an edit, by their places.
 ghost use Rattle.std.specs.Prelude.{◌≡◌, ◌+◌, ◌≤◌, drop, length};
 ghost use Rattle.luks_area.specs.Ranges.{part};
-ghost use Rattle.luks2_edits.specs.Copies.{copy_salt};
-ghost use Rattle.luks2_edits.specs.Edited.{keyslot_salt};
+ghost use Rattle.luks2_edit_laws.specs.Copies.{copy_salt};
+ghost use Rattle.luks2_edit_laws.specs.Edited.{keyslot_salt};
 
 /// The `N` bytes at the place `at`.
 fn taken_array<const N: usize>(random: &[u8], at: usize) -> [u8; N]

@@ -20,7 +20,7 @@ use luks_area::{Area, Device};
 use luks_edit::{Done, EditFault};
 use luks_meta::Meta;
 use luks_reading::ChosenCopy;
-use luks_steps::wipe_area;
+use luks_writing::wipe_area;
 use std::alloc::Global;
 
 /// Removes the keyslot from the metadata, writes both copies of the header anew, the other copy first,

@@ -7,7 +7,7 @@ ghost use Rattle.luks_meta.specs.Content.{area_len, content};
 ghost use Rattle.luks_reading.specs.declared.report.Data.{Data as Payload};
 ghost use Rattle.luks_edit.specs.EditFaults.{is_edit_failure};
 ghost use Rattle.luks_edit.specs.declared.edit.Edit.{Edit as TheEdit};
-ghost use Rattle.luks2_edits.specs.Leftovers.{IsTornAt};
+ghost use Rattle.luks2_edit_laws.specs.Leftovers.{IsTornAt};
 ghost use Rattle.luks2_editing.specs.Prepared.{AreCopiesWithin};
 ghost use Rattle.luks2_editing.specs.Rewriting.{IsRenewing};
 ghost use Rattle.luks2_editing.specs.SealedKeyslot.{IsKeyslotWritten, IsSealable};

@@ -8,7 +8,7 @@ ghost use Rattle.luks_slot.specs.Opening.{area_bytes};
 ghost use Rattle.luks_slot.specs.Sealing.{IsReadyToSeal, IsSealed};
 ghost use Rattle.luks_edit.specs.EditFaults.{is_edit_failure};
 ghost use Rattle.luks_edit.specs.declared.edit.Edit.{Edit as TheEdit};
-ghost use Rattle.luks2_edits.specs.Places.{IsOfCopies};
+ghost use Rattle.luks2_edit_laws.specs.Places.{IsOfCopies};
 ghost use Rattle.luks2_editing.specs.Rewriting.{AreWrittenAnew, IsRewriting};
 ghost use Rattle.luks2_editing.specs.Sealed.{unsealed, IsOfStripes, IsPlanFault, IsReadyPlan, MayBeHalfSealed};
 
@@ -19,7 +19,7 @@ use luks_area::Device;
 use luks_edit::EditFault;
 use luks_head::Bin2;
 use luks_slot::{SlotFault, SlotPlan};
-use luks_steps::seal_area_within;
+use luks_writing::seal_area_within;
 use std::alloc::Global;
 
 /// Seals the key in the area of the plan, which lies behind the copies, and then writes both copies

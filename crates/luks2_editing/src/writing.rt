@@ -5,8 +5,8 @@ ghost use Rattle.luks_area.specs.Ranges.{IsAt, SameBut};
 ghost use Rattle.luks_head.specs.Header2.{binary_header_size};
 ghost use Rattle.serde_json.specs.Data.{Data as Value};
 ghost use Rattle.luks_edit.specs.declared.edit.Edit.{Edit as TheEdit};
-ghost use Rattle.luks2_edits.specs.Copies.{other_place};
-ghost use Rattle.luks2_edits.specs.Places.{IsOfCopies};
+ghost use Rattle.luks2_edit_laws.specs.Copies.{other_place};
+ghost use Rattle.luks2_edit_laws.specs.Places.{IsOfCopies};
 ghost use Rattle.luks2_editing.specs.NewCopy.{HasNewCopy, IsCopyPlace};
 ghost use Rattle.luks2_editing.specs.Rewriting.{AreWrittenAnew, IsRewriting, MayBeHalfWritten};
 
@@ -14,7 +14,7 @@ use crate::new_copy::new_header;
 use crate::random::copy_salt;
 use luks_area::{Device, DeviceFault};
 use luks_head::Bin2;
-use luks2_copy::write_copy;
+use luks_writing::write_copy;
 
 /// Writes both copies anew from the chosen one's binary header, each with a flush: the other one
 /// first, then the chosen one. Of the random bytes the first 128 are taken.

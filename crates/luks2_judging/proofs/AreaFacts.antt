@@ -16,7 +16,7 @@ use Rattle.luks_reading.specs.Checked.{AreaOf, HasAreaAs}
 use Rattle.luks_reading.specs.Header.{json_at, IsChosenCopy}
 use Rattle.luks_reading.specs.Layout2.{Luks2Area}
 use Rattle.luks_reading.specs.Listing.{Lists}
-use Rattle.luks2_edits.proofs.SoundCopyFacts.{copy_sound}
+use Rattle.luks2_edit_laws.proofs.SoundCopyFacts.{copy_sound}
 
 -- ---- the copy that counts
 

@@ -10,8 +10,8 @@ use Rattle.luks_reading.specs.declared.header.ChosenCopy.{ChosenCopy}
 use Rattle.luks_reading.specs.declared.header.Header.{Header}
 use Rattle.luks_reading.specs.declared.header.Header.TheVariants.{Luks1, Luks2}
 use Rattle.luks_reading.specs.Header.{json_at, IsChosenCopy, IsHeader}
-use Rattle.luks2_edits.specs.Metadata.{HasMetadata}
-use Rattle.luks2_edits.specs.Refused.{HasSaid}
+use Rattle.luks2_edit_laws.specs.Metadata.{HasMetadata}
+use Rattle.luks2_edit_laws.specs.Refused.{HasSaid}
 use Rattle.luks2_judging.specs.Header.{IsOfLuks2}
 
 abbrev place_of : Choice → ℕ

@@ -15,14 +15,14 @@ use Rattle.luks_reading.specs.declared.report.Data.{Data}
 use Rattle.luks_reading.specs.Layout2.{Luks2Area}
 use Rattle.luks_edit.specs.declared.edit.Edit.{Edit}
 use Rattle.luks_edit.specs.declared.edit.Edit.TheVariants.{Add, Change, Remove, Repair, Label}
-use Rattle.luks2_edits.specs.Edited.{HasAdded, HasChanged, IsEdited, members_of}
-use Rattle.luks2_edits.specs.Gap.{IsGap}
-use Rattle.luks2_edits.specs.Metadata.{IsNewKeyslot}
-use Rattle.luks2_edits.specs.Places.{key_areas_end, rounded_to_blocks, IsNewArea}
+use Rattle.luks2_edit_laws.specs.Edited.{HasAdded, HasChanged, IsEdited, members_of}
+use Rattle.luks2_edit_laws.specs.Gap.{IsGap}
+use Rattle.luks2_edit_laws.specs.Metadata.{IsNewKeyslot}
+use Rattle.luks2_edit_laws.specs.Places.{key_areas_end, rounded_to_blocks, IsNewArea}
 use Rattle.luks2_judging.specs.Salts.{HasOneDigest}
 use Rattle.luks2_judging.proofs.EncodedFacts.{quoted_length}
 use Rattle.luks2_judging.proofs.SaltFacts.{AsLong, changed_as_long, SaltsAsLong, SameButSalt, with_as_long}
-use Rattle.luks2_edits.proofs.ToldFacts.{same_stripes}
+use Rattle.luks2_edit_laws.proofs.ToldFacts.{same_stripes}
 
 pub new_once : (j : Value) (to : Option ℕ) (n m : ℕ) → IsNewKeyslot j to n → IsNewKeyslot j to m → n ≡ m
 new_once j (Some t) n m x y = x ∙ sym y

@@ -17,9 +17,9 @@ use Rattle.luks_edit.specs.declared.edit_fault.EditFault.TheVariants as fault
 use Rattle.luks_edit.specs.Asked.{allowed_memory, HasFewIterations, NamesItself, OpensBy}
 use Rattle.luks_edit.specs.Opener.{IsShut}
 use Rattle.luks_edit.specs.RowFacts.{after_check, after_plan, first_of_check, first_of_plan, first_of_row, next, not_before, passed_from, Passed}
-use Rattle.luks2_edits.specs.Metadata.{HasMetadata}
-use Rattle.luks2_edits.specs.Places.{HasNoNewArea}
-use Rattle.luks2_edits.specs.Refused.{HasNoFree, HasNoRoom, IsAbsent, IsBadLabel, IsEditFault2, IsLast, IsOnlyOne, IsTaken, Refusal2}
+use Rattle.luks2_edit_laws.specs.Metadata.{HasMetadata}
+use Rattle.luks2_edit_laws.specs.Places.{HasNoNewArea}
+use Rattle.luks2_edit_laws.specs.Refused.{HasNoFree, HasNoRoom, IsAbsent, IsBadLabel, IsEditFault2, IsLast, IsOnlyOne, IsTaken, Refusal2}
 use Rattle.luks2_judging.specs.Header.{IsUnaccepted}
 use Rattle.luks2_judging.specs.Judged.{IsNewNumber, IsNumberFault}
 use Rattle.luks2_judging.specs.Judging.{IsRefusedEarly}

@@ -6,7 +6,7 @@ use Rattle.serde_json.specs.Find.{get}
 use Rattle.luks_meta.specs.Faults.{object_at}
 use Rattle.luks_meta.specs.Reading.{decimal_in}
 use Rattle.luks_rules.specs.declared.table.Section.TheVariants.{Keyslots}
-use Rattle.luks2_edits.specs.Metadata.{IsKeyArea}
+use Rattle.luks2_edit_laws.specs.Metadata.{IsKeyArea}
 
 pub area_of_object : (j d : Value) (n start len : ℕ) → n < 32 → object_at j Keyslots n ≡ Some d
     → decimal_in (option_and_then (get (codes "offset")) (get (codes "area") d)) ≡ Some start

@@ -13,8 +13,8 @@ use Rattle.luks_edit.specs.declared.deed.Deed.TheVariants as deed
 use Rattle.luks_edit.specs.declared.deed.Removed.{Removed}
 use Rattle.luks_edit.specs.declared.deed.Sealed.{Sealed}
 use Rattle.luks_edit.specs.Asked.{AreShortIn, deed_of, HasShortPassphrases, NamesItself, opener_of, OpensBy, Wants}
-use Rattle.luks2_edits.specs.Metadata.{IsInUse, IsLeastFree}
-use Rattle.luks2_edits.specs.Refused.{IsAbsent}
+use Rattle.luks2_edit_laws.specs.Metadata.{IsInUse, IsLeastFree}
+use Rattle.luks2_edit_laws.specs.Refused.{IsAbsent}
 use Rattle.luks2_judging.specs.Judged.{Judges}
 
 -- no keyslot is there and free

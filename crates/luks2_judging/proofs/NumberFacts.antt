@@ -1,8 +1,8 @@
 -- The number of a keyslot that is made is free, and there is one.
 use Rattle.std.proofs.Common.{◌≡◌, ℕ, Option, Some, None, arith, subst, sym}
 use Rattle.serde_json.specs.Data.{Data as Value}
-use Rattle.luks2_edits.specs.Metadata.{IsInUse}
-use Rattle.luks2_edits.specs.Refused.{HasNoNumber, IsNumberTaken}
+use Rattle.luks2_edit_laws.specs.Metadata.{IsInUse}
+use Rattle.luks2_edit_laws.specs.Refused.{HasNoNumber, IsNumberTaken}
 use Rattle.luks2_judging.specs.Judged.{IsNewNumber}
 use Rattle.luks2_judging.proofs.KeyslotFacts.{used_or_free}
 

@@ -26,8 +26,8 @@ use Rattle.luks_edit.specs.declared.edit.Edit.TheVariants.{Add, Change, Remove, 
 use Rattle.luks_edit.specs.declared.edit_fault.EditFault.TheVariants as edit_fault
 use Rattle.luks_edit.specs.Asked.{allowed_memory, OpensBy}
 use Rattle.luks_edit.specs.Opener.{IsLocked, IsShut}
-use Rattle.luks2_edits.specs.Metadata.{HasMetadata, IsInUse}
-use Rattle.luks2_edits.specs.Refused.{HasSaid, IsAbsent}
+use Rattle.luks2_edit_laws.specs.Metadata.{HasMetadata, IsInUse}
+use Rattle.luks2_edit_laws.specs.Refused.{HasSaid, IsAbsent}
 use Rattle.luks2_judging.specs.Opened.{IsUnopened, Opens, unopened}
 use Rattle.luks2_judging.proofs.ChosenFacts.{say}
 use Rattle.luks2_judging.proofs.KeyslotFacts.{used_of, used_or_free}

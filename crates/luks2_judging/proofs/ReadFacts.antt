@@ -16,9 +16,9 @@ use Rattle.luks_edit.specs.declared.edit.Passphrase.{Passphrase}
 use Rattle.luks_edit.specs.declared.edit_fault.EditFault.{EditFault}
 use Rattle.luks_edit.specs.declared.edit_fault.EditFault.TheVariants as fault
 use Rattle.luks_edit.specs.Asked.{OpensBy}
-use Rattle.luks2_edits.specs.Metadata.{HasMetadata}
-use Rattle.luks2_edits.specs.Places.{IsNewArea}
-use Rattle.luks2_edits.specs.Refused.{HasSaid, IsAbsent, IsBadLabel, IsOnlyOne}
+use Rattle.luks2_edit_laws.specs.Metadata.{HasMetadata}
+use Rattle.luks2_edit_laws.specs.Places.{IsNewArea}
+use Rattle.luks2_edit_laws.specs.Refused.{HasSaid, IsAbsent, IsBadLabel, IsOnlyOne}
 use Rattle.luks2_judging.specs.declared.judged.JudgedEdit.{JudgedEdit}
 use Rattle.luks2_judging.specs.Judged.{IsNewNumber, Judges}
 use Rattle.luks2_judging.specs.Judging.{IsJudgedTo, IsRefusedEarly}

@@ -8,9 +8,9 @@ use Rattle.luks_area.specs.Names.{HasArea}
 use Rattle.luks_reading.specs.declared.report.Data.{Data}
 use Rattle.luks_reading.specs.Layout2.{Luks2Area}
 use Rattle.luks_reading.specs.Listing.{Lists}
-use Rattle.luks2_edits.specs.Gap.{HasNoGap, IsGap, IsLeastGap}
-use Rattle.luks2_edits.specs.Places.{HasNoNewArea, IsNewArea, key_areas_end, rounded_to_blocks}
-use Rattle.luks2_edits.proofs.ToldFacts.{same_stripes}
+use Rattle.luks2_edit_laws.specs.Gap.{HasNoGap, IsGap, IsLeastGap}
+use Rattle.luks2_edit_laws.specs.Places.{HasNoNewArea, IsNewArea, key_areas_end, rounded_to_blocks}
+use Rattle.luks2_edit_laws.proofs.ToldFacts.{same_stripes}
 use Rattle.luks2_judging.specs.Room.{IsPlaced, IsRegion, TakesBlocks}
 
 module _ (entries : List Entry) (len : ℕ) (j : Value) (total low high : ℕ) (x : IsRegion len j total low high) (small : total < 2 ^ 64)

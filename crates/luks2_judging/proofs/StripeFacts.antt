@@ -8,9 +8,9 @@ use Rattle.luks_rules.specs.Sizes.{inside_at}
 use Rattle.luks_meta.specs.declared.keyslots.Keyslot.{Keyslot}
 use Rattle.luks_meta.specs.Objects.{IsObject}
 use Rattle.luks_meta.specs.Says.{TellsKeyslot}
-use Rattle.luks2_edits.specs.Metadata.{HasStripes, IsInUse}
-use Rattle.luks2_edits.specs.Places.{rounded_to_blocks}
-use Rattle.luks2_edits.proofs.ToldFacts.{in_between}
+use Rattle.luks2_edit_laws.specs.Metadata.{HasStripes, IsInUse}
+use Rattle.luks2_edit_laws.specs.Places.{rounded_to_blocks}
+use Rattle.luks2_edit_laws.proofs.ToldFacts.{in_between}
 
 -- ---- the stripes of a keyslot that is told
 

@@ -5,8 +5,8 @@ use Rattle.luks_making.specs.Conditions.{IsFree}
 use Rattle.luks_making.specs.Naming.{IsDigestOf}
 use Rattle.luks_edit.specs.declared.edit_fault.EditFault.{EditFault}
 use Rattle.luks_edit.specs.declared.edit_fault.EditFault.TheVariants as fault
-use Rattle.luks2_edits.specs.Metadata.{IsNewKeyslot}
-use Rattle.luks2_edits.specs.Refused.{HasNoNumber, IsNumberTaken}
+use Rattle.luks2_edit_laws.specs.Metadata.{IsNewKeyslot}
+use Rattle.luks2_edit_laws.specs.Refused.{HasNoNumber, IsNumberTaken}
 
 -- a row has been judged: the fact doesn't hold, or it does and the answer is the row's fault
 abbrev pub Judges : {A : Type 0} → Type 0 → EditFault → Result A EditFault → Type 0

@@ -25,9 +25,9 @@ use Rattle.luks_edit.specs.declared.edit.Passphrase.{Passphrase}
 use Rattle.luks_edit.specs.declared.edit_fault.EditFault.{EditFault}
 use Rattle.luks_edit.specs.Asked.{deed_of}
 use Rattle.luks_edit.specs.Endings.{EndsBy}
-use Rattle.luks2_edits.specs.Metadata.{IsInUse, IsKeyArea}
-use Rattle.luks2_edits.specs.Places.{IsNewArea}
-use Rattle.luks2_edits.specs.Refused.{Refusal2}
+use Rattle.luks2_edit_laws.specs.Metadata.{IsInUse, IsKeyArea}
+use Rattle.luks2_edit_laws.specs.Places.{IsNewArea}
+use Rattle.luks2_edit_laws.specs.Refused.{Refusal2}
 use Rattle.luks2_judging.specs.declared.judged.Addition.{Addition}
 use Rattle.luks2_judging.specs.declared.judged.Judged.{Judged}
 use Rattle.luks2_judging.specs.declared.judged.JudgedEdit.{JudgedEdit}

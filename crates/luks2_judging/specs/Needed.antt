@@ -9,7 +9,7 @@ use Rattle.luks_edit.specs.declared.edit_fault.EditFault.{EditFault}
 use Rattle.luks_edit.specs.declared.edit_fault.EditFault.TheVariants as fault
 use Rattle.luks_edit.specs.Asked.{NamesItself}
 use Rattle.luks_edit.specs.EditFaults.{edit_key}
-use Rattle.luks2_edits.specs.Refused.{HasNoFree, HasSaid, IsAbsent, IsTaken, Need2}
+use Rattle.luks2_edit_laws.specs.Refused.{HasNoFree, HasSaid, IsAbsent, IsTaken, Need2}
 
 -- the faults that are seen without opening a keyslot
 abbrev pub IsNeedFault2 : List ℕ → Data → Edit → EditFault → Type 0

@@ -7,8 +7,8 @@ use Rattle.luks_rules.specs.Sizes.{keyslots_size, region_start}
 use Rattle.luks_reading.specs.declared.report.Data.{Data}
 use Rattle.luks_edit.specs.declared.edit_fault.EditFault.{EditFault}
 use Rattle.luks_edit.specs.declared.edit_fault.EditFault.TheVariants as fault
-use Rattle.luks2_edits.specs.Metadata.{HasStripes}
-use Rattle.luks2_edits.specs.Places.{rounded_to_blocks, HasNoNewArea}
+use Rattle.luks2_edit_laws.specs.Metadata.{HasStripes}
+use Rattle.luks2_edit_laws.specs.Places.{rounded_to_blocks, HasNoNewArea}
 
 -- the stripes of the keyslot `n` take `bytes` bytes of whole blocks
 pub record TakesBlocks (j : Value) (n bytes : ℕ) : Type 0 where

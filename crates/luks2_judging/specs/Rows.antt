@@ -4,7 +4,7 @@ use Rattle.luks_reading.specs.declared.report.Data.{Data}
 use Rattle.luks_edit.specs.declared.edit.Edit.{Edit}
 use Rattle.luks_edit.specs.declared.edit_fault.EditFault.{EditFault}
 use Rattle.luks_edit.specs.EditFaults.{edit_row}
-use Rattle.luks2_edits.specs.Refused.{IsEditFault2}
+use Rattle.luks2_edit_laws.specs.Refused.{IsEditFault2}
 
 -- no fault of the edit stands in a row before the row `k`
 pub record HasNoFaultBefore (k : ℕ) (v : List ℕ) (payload : Data) (e : Edit) (random : List ℕ) : Type 0 where

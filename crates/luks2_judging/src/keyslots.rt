@@ -4,8 +4,8 @@ ghost use Rattle.luks_edit.specs.Asked.{NamesItself, OpensBy};
 ghost use Rattle.luks_making.specs.Conditions.{IsFree};
 ghost use Rattle.luks_meta.specs.Content.{content};
 ghost use Rattle.luks_meta.specs.Requirements.{has_requirements};
-ghost use Rattle.luks2_edits.specs.Metadata.{IsInUse, IsKeyArea, IsLeastFree};
-ghost use Rattle.luks2_edits.specs.Refused.{IsAbsent};
+ghost use Rattle.luks2_edit_laws.specs.Metadata.{IsInUse, IsKeyArea, IsLeastFree};
+ghost use Rattle.luks2_edit_laws.specs.Refused.{IsAbsent};
 ghost use Rattle.luks2_judging.specs.Judged.{IsNewNumber, IsNumberFault, Judges};
 
 use luks_area::Area;

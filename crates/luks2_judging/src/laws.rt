@@ -7,9 +7,9 @@ ghost use Rattle.luks_making.specs.Conditions.{Between};
 ghost use Rattle.luks_rules.specs.Reading.{number_in};
 ghost use Rattle.luks_edit.specs.declared.edit.Edit.{Edit as TheEdit};
 ghost use Rattle.luks_reading.specs.declared.report.Data.{Data as Payload};
-ghost use Rattle.luks2_edits.specs.Edited.{IsEdited};
-ghost use Rattle.luks2_edits.specs.Metadata.{HasStripes};
-ghost use Rattle.luks2_edits.specs.Refused.{Need2};
+ghost use Rattle.luks2_edit_laws.specs.Edited.{IsEdited};
+ghost use Rattle.luks2_edit_laws.specs.Metadata.{HasStripes};
+ghost use Rattle.luks2_edit_laws.specs.Refused.{Need2};
 ghost use Rattle.luks2_judging.specs.Salts.{HasOneDigest};
 
 /// The text of the metadata that an edit makes is as long with one salt as with another of as many

@@ -3,8 +3,8 @@ ghost use Rattle.std.specs.Prelude.{◌≡◌, ◌≢◌, ◌+◌, ◌-◌, ◌*
 ghost use Rattle.luks_edit.specs.EditFaults.{is_edit_failure};
 ghost use Rattle.luks_meta.specs.Content.{content};
 ghost use Rattle.luks_reading.specs.Header.{IsAcceptedHeader, IsHeader};
-ghost use Rattle.luks2_edits.specs.Metadata.{IsInUse};
-ghost use Rattle.luks2_edits.specs.Refused.{NeedsLike};
+ghost use Rattle.luks2_edit_laws.specs.Metadata.{IsInUse};
+ghost use Rattle.luks2_edit_laws.specs.Refused.{NeedsLike};
 ghost use Rattle.luks2_judging.specs.Header.{IsOfLuks2};
 ghost use Rattle.luks2_judging.specs.Needed.{TellsNeed2};
 

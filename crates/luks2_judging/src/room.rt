@@ -8,15 +8,15 @@ ghost use Rattle.luks_meta.specs.Content.{area_len, content};
 ghost use Rattle.luks_reading.specs.Layout2.{Luks2Area};
 ghost use Rattle.luks_reading.specs.Listing.{Lists};
 ghost use Rattle.luks_reading.specs.declared.report.Data.{Data as Payload};
-ghost use Rattle.luks2_edits.specs.Metadata.{IsInUse};
-ghost use Rattle.luks2_edits.specs.Places.{HasNoNewArea, IsNewArea, rounded_to_blocks};
+ghost use Rattle.luks2_edit_laws.specs.Metadata.{IsInUse};
+ghost use Rattle.luks2_edit_laws.specs.Places.{HasNoNewArea, IsNewArea, rounded_to_blocks};
 ghost use Rattle.luks_edit.specs.EditFaults.{is_edit_failure};
 ghost use Rattle.luks2_judging.specs.Room.{IsPlaced, IsRegion, IsUnsealable, TakesBlocks};
 
 use luks_area::{Area, Entry};
 use luks_edit::{EditFault, LEAST_ITERATIONS};
 use luks_meta::Meta;
-use luks2_edits::least_gap;
+use luks2_edit_laws::least_gap;
 
 /// Areas of keyslots that are made have whole blocks of so many bytes.
 const BLOCK: u64 = 4096;

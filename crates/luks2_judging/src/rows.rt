@@ -2,8 +2,8 @@
 ghost use Rattle.std.specs.Prelude.{◌≡◌, false, IfOk, IsTrue};
 ghost use Rattle.luks_making.specs.Naming.{IsDigestOf};
 ghost use Rattle.luks_meta.specs.Content.{content};
-ghost use Rattle.luks2_edits.specs.Metadata.{IsInUse, IsKeyArea};
-ghost use Rattle.luks2_edits.specs.Refused.{IsOnlyOne};
+ghost use Rattle.luks2_edit_laws.specs.Metadata.{IsInUse, IsKeyArea};
+ghost use Rattle.luks2_edit_laws.specs.Refused.{IsOnlyOne};
 ghost use Rattle.luks2_judging.specs.Judged.{IsOnlyName, Judges};
 
 use crate::keyslots::key_area;

@@ -9,7 +9,7 @@ ghost use Rattle.luks_reading.specs.Checked.{WellFormed};
 ghost use Rattle.luks_reading.specs.Header.{IsAcceptedHeader, IsHeader};
 ghost use Rattle.luks_reading.specs.Plans.{HasKeyBytes};
 ghost use Rattle.luks_reading.specs.declared.report.Data.{Data as Payload};
-ghost use Rattle.luks2_edits.specs.Refused.{HasSaid, IsAbsent};
+ghost use Rattle.luks2_edit_laws.specs.Refused.{HasSaid, IsAbsent};
 ghost use Rattle.luks2_judging.specs.Header.{IsOfLuks2};
 ghost use Rattle.luks2_judging.specs.Opened.{IsUnopened, Opens, unopened};
 

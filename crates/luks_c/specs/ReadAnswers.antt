@@ -11,7 +11,7 @@ use Rattle.luks_reading.specs.Conversions.{head_unread}
 use Rattle.luks_reading.specs.Header.{IsChosenCopy, IsUnread}
 use Rattle.luks_show.specs.declared.listing.Listing.{Listing}
 use Rattle.luks_show.specs.declared.listing.Listing.TheVariants.{Luks1, Luks2}
-use Rattle.luks_show_json.specs.JsonText.{IsJsonText}
+use Rattle.luks_show.specs.JsonText.{IsJsonText}
 use Rattle.luks_c.specs.declared.reading.LuksRead.{LuksRead}
 use Rattle.luks_c.specs.Buffers.{filled}
 use Rattle.luks_c.specs.Numbers.{read_number}

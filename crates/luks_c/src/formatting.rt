@@ -10,7 +10,7 @@ ghost use Rattle.luks_planned.specs.Planned.{planned_bytes, planned_size, planne
 ghost use Rattle.luks_reading.specs.Answer.{Answer, opens};
 ghost use Rattle.luks_reading.specs.Checked.{WellFormed};
 ghost use Rattle.luks_kdf.specs.declared.hash_name.HashName.{HashName as TheHash};
-ghost use Rattle.luks_terms.specs.declared.format.Format.{Format as TheFormat};
+ghost use Rattle.luks_reading.specs.declared.format.Format.{Format as TheFormat};
 ghost use Rattle.luks_c.specs.Asked.{payload_of};
 ghost use Rattle.luks_c.specs.FormatAnswers.{AnswersFormat1, AnswersFormat2, AnswersNumbered, IsNoHash, hash_number};
 

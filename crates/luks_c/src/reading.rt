@@ -8,8 +8,7 @@ use crate::buffers::fill_front;
 use crate::numbers::{BEYOND, DONE, MEMORY, ROOM, USAGE, read_number};
 use luks_given::{FirstBytes, Given};
 use luks_reading::{Header, Luks1, ReadFault, read_header};
-use luks_show::Listing;
-use luks_show_json::json_text;
+use luks_show::{Listing, json_text};
 use std::alloc::Global;
 use std::marker::Brand;
 

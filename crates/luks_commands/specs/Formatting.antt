@@ -4,7 +4,7 @@ use Rattle.luks_area.specs.Ranges.{SameBut}
 use Rattle.luks_reading.specs.declared.report.Data.{Data}
 use Rattle.luks_reading.specs.Answer.{Answer, opens}
 use Rattle.luks_reading.specs.Checked.{WellFormed}
-use Rattle.luks_terms.specs.declared.format.Format.{Format}
+use Rattle.luks_reading.specs.declared.format.Format.{Format}
 use Rattle.luks_formatting.specs.Formatted1.{IsFormatted1, IsOfLuks1}
 use Rattle.luks_formatting.specs.Formatted2.{IsFormatted2, IsOfLuks2}
 use Rattle.luks_formatting.specs.RandomBytes.{volume_key}

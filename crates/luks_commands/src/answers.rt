@@ -14,9 +14,9 @@ use luks_keeping::{BackupFault, Comparison, RestoreFault};
 use luks_map::HeaderMap;
 use luks_reading::{CheckFault, Copies, OpenFault, Version};
 use luks_rebuilding::RebuildFault;
-use luks1_rebuilding::Rebuild1Fault;
 use luks_show::{FullListing, Listing, copies_name};
 use luks_signatures::OtherUse;
+use luks1_rebuilding::Rebuild1Fault;
 use std::fmt;
 use std::io::Write;
 

@@ -3,7 +3,7 @@ use Rattle.std.specs.Prelude.{◌≡◌, ℕ, ◌-◌, List, ◌++◌, codes, dr
 use Rattle.luks_area.specs.Ranges.{part, IsAt, IsOfEither, SameBut}
 use Rattle.luks1_header.specs.Bytes.{text_at}
 use Rattle.luks1_header.specs.Header1.{entry, luks1_size}
-use Rattle.luks_clearing.specs.Order.{ClearsFirst, WritesInTurn}
+use Rattle.luks_writing.specs.MadeInOrder.{ClearsFirst, WritesInTurn}
 use Rattle.luks_head.specs.Header2.{magic_of, sha256_size}
 use Rattle.luks_head.specs.Written.{IsWrittenCopy}
 use Rattle.luks_head.specs.declared.bin2.Bin2.{Bin2}

@@ -5,14 +5,14 @@ ghost use Rattle.luks_area.specs.Ranges.{SameBut};
 ghost use Rattle.luks_converting.specs.Accepted.{HasAreasInside, IsRead};
 ghost use Rattle.luks_converting.specs.Converted.{HasCopiedArea, IsOfArea, IsOfNewArea};
 ghost use Rattle.luks_converting.specs.Source.{is_enabled, HasRoom};
-ghost use Rattle.luks_copying.specs.TwoDevices.{CountsEither};
+ghost use Rattle.luks_writing.specs.TwoDevices.{CountsEither};
 
 use crate::places::new_area;
 use crate::source::SourceHeader;
 use luks_area::{Device, DeviceFault};
-use luks_copying::copy_area;
 use luks_head::SlotState;
 use luks_reading::luks1_area;
+use luks_writing::copy_area;
 
 /// Copies the area of each enabled keyslot to its new place, one after the other, each with a flush.
 /// Also where a device fails no byte of the target outside the new areas changes.

@@ -14,7 +14,7 @@ ghost use Rattle.luks_converting.specs.ConvertFaults.{is_convert_failure};
 ghost use Rattle.luks_converting.specs.Converted.{json_size, IsConverted, IsOfConverted, WritesFirstLast, WritesOverCleared};
 ghost use Rattle.luks_converting.specs.Outcome.{IsAnsweredFault, IsConvertFault, IsConvertible};
 ghost use Rattle.luks_converting.specs.Source.{header_members, is_enabled};
-ghost use Rattle.luks_copying.specs.TwoDevices.{CountsEither};
+ghost use Rattle.luks_writing.specs.TwoDevices.{CountsEither};
 ghost use Rattle.luks_converting.specs.declared.convert_fault.ConvertFault.{ConvertFault as TheFault};
 
 use crate::areas::copy_areas;
@@ -24,8 +24,8 @@ use crate::judging::judge;
 use crate::metadata::new_json;
 use crate::source::{SourceHeader, accepted_source};
 use luks_area::{Device, DeviceFault};
-use luks_clearing::clear_places;
 use luks_reading::Data;
+use luks_writing::clear_places;
 use std::alloc::Global;
 
 /// How many random bytes `convert` takes: the salts of the first and the second copy of the header.

@@ -6,7 +6,7 @@ ghost use Rattle.luks_converting.specs.Converted.{copy_size, json_size, HasConve
 
 use luks_area::{Device, DeviceFault};
 use luks_head::Bin2;
-use luks2_copy::write_copy;
+use luks_writing::write_copy;
 
 /// The length of a copy of the header in bytes, which is also the second copy's place.
 pub(crate) const COPY_SIZE: u64 = 16384;

@@ -6,7 +6,7 @@ use crate::commands::{Given, counted_from, run};
 use crate::rows::NEW;
 use crate::volume_files::{Before, has_sum};
 use luks_area::{Device, FaultyDevice, FileDevice, Leave};
-use luks_cli::{InputFault, Inputs};
+use luks_edit_commands::{InputFault, Inputs};
 use luks_samples::new_folder;
 use luks_sessions::Told;
 use std::alloc::Global;

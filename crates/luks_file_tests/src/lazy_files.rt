@@ -1,5 +1,5 @@
 //! Files that are opened when they are first read.
-use luks_lock::LazyFile;
+use luks_guarded_files::LazyFile;
 use luks_samples::new_folder;
 use std::fs;
 use std::io::{ErrorKind, Read};

@@ -1,7 +1,6 @@
 //! Which calls of a device reach the one behind it, and how often.
 use luks_area::{Device, DeviceFault, FaultyDevice, Leave, MemDevice};
-use luks_cache::CachedDevice;
-use luks_lock::{Answer, Lock, LockedDevice, Named, Share};
+use luks_guarded_files::{Answer, CachedDevice, Lock, LockedDevice, Named, Share};
 use std::alloc::{AllocError, Global};
 use std::cell::Cell;
 use std::test::Fail;

@@ -1,6 +1,6 @@
 //! Files that are no volume: folders, pipes and devices that aren't disks.
 use luks_area::FileDevice;
-use luks_lock::{Host, OpenFault, open_locked};
+use luks_guarded_files::{Host, OpenFault, open_locked};
 use luks_samples::new_folder;
 use std::fs::{self, File};
 use std::io::{self, ErrorKind};

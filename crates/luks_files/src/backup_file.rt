@@ -1,6 +1,6 @@
 //! The file that a backup is written to, before it is opened and locked as any target is.
 use luks_commands::{InputFault, Reason};
-use luks_lock::{Answer, Host, Share, System};
+use luks_guarded_files::{Answer, Host, Share, System};
 use std::fs::{self, File, OpenOptions};
 use std::io::{self, ErrorKind};
 use std::os::unix::fs::{FileTypeExt, OpenOptionsExt};

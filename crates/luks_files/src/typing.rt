@@ -1,5 +1,5 @@
 //! A passphrase that is typed.
-use luks_lock::Node;
+use luks_guarded_files::Node;
 use std::fs::{self, File};
 use std::os::unix::fs::{FileTypeExt, MetadataExt};
 use std::rt::Files;

@@ -1,17 +1,18 @@
 //! The volumes of a command line.
 ghost use Rattle.std.specs.Prelude.{◌≡◌, ◌≢◌, ◌↔◌, false, Err, IfOk, IfSome, IsErr, IsOkAnd, IsTrue, None};
-ghost use Rattle.luks_cache.specs.Cached.{cached_failures, changes_seen, device_behind};
-ghost use Rattle.luks_lock.specs.Locked.{lock_of, share_for};
+ghost use Rattle.luks_guarded_files.specs.Cached.{cached_failures, changes_seen, device_behind};
+ghost use Rattle.luks_guarded_files.specs.Locked.{lock_of, share_for};
 ghost use Rattle.luks_files.specs.Opened.{beside_of};
 ghost use Rattle.luks_window.specs.Windows.{behind};
 
 use crate::backup_file::{is_taken, make_room};
 use crate::openings::{Opening, Openings};
 use luks_area::FileDevice;
-use luks_cache::CachedDevice;
 use luks_commands::{InputFault, Reason};
+use luks_guarded_files::{
+    CachedDevice, FOLDER, Host, LockedDevice, OpenFault, is_same_file, open_locked,
+};
 use luks_keeping::backup_length;
-use luks_lock::{FOLDER, Host, LockedDevice, OpenFault, is_same_file, open_locked};
 use luks_request::{BackingUp, Command, Line, Place};
 use luks_window::Window;
 use std::fs::File;

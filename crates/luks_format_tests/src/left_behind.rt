@@ -2,7 +2,7 @@
 ghost use Rattle.std.specs.Prelude.{◌≤◌};
 
 use luks_area::MemDevice;
-use luks_leftovers::{FrontFault, Leftover, leftovers, note_leftovers, read_front};
+use luks_notes::{FrontFault, Leftover, leftovers, note_leftovers, read_front};
 use luks_test_devices::{Fields, TEXT, TakenMemory, UUID, copy_of, put};
 use std::alloc::{AllocError, Global};
 use std::test::Fail;

@@ -31,7 +31,7 @@ use Rattle.luks_reading.specs.Plans.{HasLuks1Plan, IsLuks1Cipher, IsLuks1Derivat
 use Rattle.luks_reading.specs.declared.open_fault.OpenFault.{OpenFault}
 use Rattle.luks_reading.specs.declared.open_fault.OpenFault.TheVariants.{Head, Meta, NoSuchSlot, SlotFree, Outside, Slot, Device, Memory}
 use Rattle.luks_reading.specs.declared.report.Data.{Data}
-use Rattle.luks_terms.specs.declared.format.Format.{Format}
+use Rattle.luks_reading.specs.declared.format.Format.{Format}
 use Rattle.luks_formatting.specs.Formatted1.{IsFormatted1}
 use Rattle.luks_formatting.specs.NewHeader1.{area1, new_slot, IsNewCipher1}
 use Rattle.luks_formatting.specs.NewPlan.{key_digest, IsNewDerivation, IsNewPlan}

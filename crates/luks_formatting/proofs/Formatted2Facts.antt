@@ -5,15 +5,15 @@ use Rattle.luks_area.specs.Ranges.{part}
 use Rattle.luks_area.specs.RangeFacts.{length-part_inside}
 use Rattle.luks_area.specs.declared.area.Area.{Area}
 use Rattle.luks_kdf.specs.Names.{digest_size_of}
-use Rattle.luks_terms.specs.declared.format.Format.{Format}
+use Rattle.luks_reading.specs.declared.format.Format.{Format}
 use Rattle.luks_head.specs.Header2.{hdr_size, header_at, uuid_field, IsUuidField}
 use Rattle.luks_head.specs.Selection.{luks2, Chosen}
 use Rattle.luks_head.specs.Written.{IsWrittenCopy}
 use Rattle.luks_head.proofs.BinaryHeaderFacts.{written_in_step}
 use Rattle.luks_head.proofs.ChoiceFacts.{uuid_sound}
 use Rattle.luks_head.specs.declared.selection.Copies.TheVariants.{InStep}
-use Rattle.luks_uuid.specs.NewUuid.{uuid_text}
-use Rattle.luks_uuid.proofs.UuidFacts.{fills, uuid_text-is}
+use Rattle.luks_head.specs.NewUuid.{uuid_text}
+use Rattle.luks_head.proofs.UuidFacts.{fills, uuid_text-is}
 use Rattle.luks_rules.specs.Accepted.{IsContent, IsMeta}
 use Rattle.luks_rules.specs.Faults.{object_at}
 use Rattle.luks_rules.specs.MetaFault.{IsMetaFault}

@@ -8,7 +8,7 @@ use Rattle.luks_area.specs.declared.area.Area.{Area}
 use Rattle.luks_area.specs.declared.area.AreaName.{AreaName}
 use Rattle.luks_area.specs.declared.area.AreaName.TheVariants.{Head1, Head2, Slot as SlotName, Segment}
 use Rattle.luks_kdf.specs.Names.{digest_size_of, name_of}
-use Rattle.luks_terms.specs.declared.format.Format.{Format}
+use Rattle.luks_reading.specs.declared.format.Format.{Format}
 use Rattle.luks_json.specs.Values.{bytes_in, number_in, text_of}
 use Rattle.luks_json.specs.AreaText.{Json}
 use Rattle.luks_rules.specs.Faults.{member_at}

@@ -18,7 +18,7 @@ use Rattle.luks_making.specs.Formatted.{VolumeMembers, digest_value, first_slot,
 use Rattle.luks_making.specs.Keyslots.{slot_value}
 use Rattle.luks_making.proofs.NewVolumeFacts.{none_else}
 use Rattle.luks_reading.specs.declared.report.Data.{Data}
-use Rattle.luks_terms.specs.declared.format.Format.{Format}
+use Rattle.luks_reading.specs.declared.format.Format.{Format}
 use Rattle.luks_formatting.specs.NewHeader2.{new_members}
 use Rattle.luks_formatting.specs.NewPlan.{key_digest}
 use Rattle.luks_formatting.specs.RandomBytes.{digest_salt, slot_place2, slot_salt}

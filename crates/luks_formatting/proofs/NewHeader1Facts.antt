@@ -17,9 +17,9 @@ use Rattle.luks1_header.specs.declared.luks1.Luks1Slot.{Luks1Slot}
 use Rattle.luks_reading.specs.Layout1.{Luks1Area}
 use Rattle.luks_reading.specs.declared.report.Data.{Data}
 use Rattle.luks_reading.specs.declared.report.Data.TheVariants.{Here}
-use Rattle.luks_terms.specs.declared.format.Format.{Format}
-use Rattle.luks_uuid.specs.NewUuid.{uuid_text}
-use Rattle.luks_uuid.proofs.UuidFacts as Uuid
+use Rattle.luks_reading.specs.declared.format.Format.{Format}
+use Rattle.luks_head.specs.NewUuid.{uuid_text}
+use Rattle.luks_head.proofs.UuidFacts as Uuid
 use Rattle.luks_formatting.specs.NewHeader1.{free_slot, material_sector, new_slot, payload_sector, IsNewHeader1}
 use Rattle.luks_formatting.specs.RandomBytes.{uuid_bytes}
 use Rattle.luks_formatting.proofs.NewPlanFacts.{name_plain, name_whole}

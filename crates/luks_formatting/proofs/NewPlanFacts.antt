@@ -12,7 +12,7 @@ use Rattle.luks_slot.specs.declared.plan.DigestPlan.{DigestPlan}
 use Rattle.luks_slot.specs.declared.plan.SlotPlan.{SlotPlan}
 use Rattle.luks_slot.specs.Opening.{derived, hash_by_name, meets_digest, HasIterations}
 use Rattle.luks_slot.specs.Refusal.{is_argon2, is_known_derivation, is_open_cipher, slot_refusal}
-use Rattle.luks_terms.specs.declared.format.Format.{Format}
+use Rattle.luks_reading.specs.declared.format.Format.{Format}
 use Rattle.luks_formatting.specs.NewPlan.{key_digest, IsNewDerivation, IsNewDigest, IsNewPlan}
 use Rattle.luks_formatting.specs.RandomBytes.{digest_salt, volume_key}
 

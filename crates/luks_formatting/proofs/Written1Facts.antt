@@ -7,8 +7,8 @@ use Rattle.luks1_header.specs.Bytes.{text_at}
 use Rattle.luks1_header.specs.Header1.{entry, entry_iterations}
 use Rattle.luks1_header.specs.Written.{WritesLuks1}
 use Rattle.luks1_header.specs.declared.luks1.Luks1.{Luks1}
-use Rattle.luks_clearing.specs.Cleared.{AreCleared, ClearsInTurn, IsOfFirstSectors}
-use Rattle.luks_clearing.specs.OrderFacts.{clearing_widens}
+use Rattle.luks_writing.specs.Cleared.{AreCleared, ClearsInTurn, IsOfFirstSectors}
+use Rattle.luks_writing.specs.MadeInOrderFacts.{clearing_widens}
 use Rattle.luks_kdf.specs.Names.{name_of}
 use Rattle.luks_slot.specs.Opening.{area_bytes}
 use Rattle.luks_slot.specs.Sealing.{IsSealed}
@@ -19,7 +19,7 @@ use Rattle.luks_slot.specs.declared.plan.Derivation.TheVariants.{Pbkdf2, Argon2}
 use Rattle.luks_slot.specs.declared.plan.SlotPlan.{SlotPlan}
 use Rattle.luks_reading.specs.Plans.{HasLuks1Plan, IsLuks1Cipher, IsLuks1Derivation}
 use Rattle.luks_reading.specs.declared.report.Data.{Data}
-use Rattle.luks_terms.specs.declared.format.Format.{Format}
+use Rattle.luks_reading.specs.declared.format.Format.{Format}
 use Rattle.luks_formatting.specs.Formatted1.{ClearsFirst1, IsFormatted1, IsOfLuks1, WritesInTurn1}
 use Rattle.luks_formatting.specs.NewHeader1.{area1, IsNewCipher1, IsNewHeader1}
 use Rattle.luks_formatting.specs.NewPlan.{key_digest, HoldsKey, IsNewDerivation, IsNewPlan}

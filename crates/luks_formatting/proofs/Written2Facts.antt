@@ -3,9 +3,9 @@ use Rattle.std.proofs.Common.{◌≡◌, ℕ, List, inl, inr, arith, lit≤, sym
 use Rattle.luks_area.specs.Ranges.{part, IsAt, SameBut}
 use Rattle.luks_area.specs.RangeFacts.{part-same_but_at, same_but-then, same_but-wider}
 use Rattle.luks_area.specs.declared.area.Area.{Area}
-use Rattle.luks_clearing.specs.Cleared.{IsOfFirstSectors}
-use Rattle.luks_clearing.specs.Order.{WritesInTurn}
-use Rattle.luks_clearing.specs.OrderFacts.{clearing_widens, sectors_inside}
+use Rattle.luks_writing.specs.Cleared.{IsOfFirstSectors}
+use Rattle.luks_writing.specs.MadeInOrder.{WritesInTurn}
+use Rattle.luks_writing.specs.MadeInOrderFacts.{clearing_widens, sectors_inside}
 use Rattle.luks_making.specs.Formatted.{formatted}
 use Rattle.luks_making.specs.WrittenArea.{IsWrittenArea}
 use Rattle.luks_slot.specs.Opening.{area_bytes}
@@ -13,7 +13,7 @@ use Rattle.luks_slot.specs.Sealing.{IsSealed}
 use Rattle.luks_slot.specs.declared.plan.SlotPlan.{SlotPlan}
 use Rattle.luks_reading.specs.Plans.{HasLuks2Plan}
 use Rattle.luks_reading.specs.declared.report.Data.{Data}
-use Rattle.luks_terms.specs.declared.format.Format.{Format}
+use Rattle.luks_reading.specs.declared.format.Format.{Format}
 use Rattle.luks_formatting.specs.Formatted2.{HasAllButFirst2, HasKeyArea2, HasNewCopy, IsFormatted2, IsOfLuks2}
 use Rattle.luks_formatting.specs.NewHeader2.{area2, new_members}
 use Rattle.luks_formatting.specs.NewPlan.{HoldsKey}

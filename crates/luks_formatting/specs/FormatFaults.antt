@@ -1,7 +1,7 @@
 -- The faults of formatting, and their order.
 use Rattle.std.specs.Prelude.{◌≡◌, ◌≢◌, ℕ, ◌<◌, ◌≤◌, List, [], ◌∷◌, length, Bool, true, false, codes}
 use Rattle.luks_area.specs.First.{IsLeast}
-use Rattle.luks_terms.specs.declared.format.Format.{Format}
+use Rattle.luks_reading.specs.declared.format.Format.{Format}
 use Rattle.luks_formatting.specs.declared.format_fault.FormatFault.{FormatFault}
 use Rattle.luks_formatting.specs.declared.format_fault.FormatFault.TheVariants.{TooSmall, Iterations, RandomLength, Memory, Device}
 

@@ -7,7 +7,7 @@ use Rattle.luks_making.specs.Formatted.{formatted}
 use Rattle.luks_making.specs.WrittenArea.{IsWrittenArea}
 use Rattle.luks_reading.specs.declared.report.Data.{Data}
 use Rattle.luks_reading.specs.Plans.{HasLuks2Plan}
-use Rattle.luks_terms.specs.declared.format.Format.{Format}
+use Rattle.luks_reading.specs.declared.format.Format.{Format}
 use Rattle.luks_formatting.specs.NewHeader2.{copy_size, json_size, new_members, IsNewCopy}
 use Rattle.luks_formatting.specs.NewPlan.{HoldsKey}
 use Rattle.luks_formatting.specs.RandomBytes.{first_copy_salt, random_stripes, second_copy_salt, slot_place2, volume_key}

@@ -10,8 +10,8 @@ use Rattle.luks1_header.specs.declared.luks1.Luks1Slot.{Luks1Slot}
 use Rattle.luks1_header.specs.declared.luks1.SlotState.TheVariants.{Enabled, Disabled}
 use Rattle.luks_reading.specs.declared.report.Data.{Data}
 use Rattle.luks_reading.specs.declared.report.Data.TheVariants.{Here, Elsewhere}
-use Rattle.luks_terms.specs.declared.format.Format.{Format}
-use Rattle.luks_uuid.specs.NewUuid.{uuid_text}
+use Rattle.luks_reading.specs.declared.format.Format.{Format}
+use Rattle.luks_head.specs.NewUuid.{uuid_text}
 use Rattle.luks_formatting.specs.NewPlan.{key_digest}
 use Rattle.luks_formatting.specs.RandomBytes.{digest_salt, slot_place1, slot_salt, uuid_bytes}
 

@@ -11,8 +11,8 @@ use Rattle.luks_slot.specs.declared.plan.AreaCipher.{AreaCipher}
 use Rattle.luks_slot.specs.declared.plan.AreaCipher.TheVariants.{Apart, Whole}
 use Rattle.luks_reading.specs.declared.report.Data.{Data}
 use Rattle.luks_reading.specs.declared.report.Data.TheVariants.{Here, Elsewhere}
-use Rattle.luks_terms.specs.declared.format.Format.{Format}
-use Rattle.luks_uuid.specs.NewUuid.{uuid_text}
+use Rattle.luks_reading.specs.declared.format.Format.{Format}
+use Rattle.luks_head.specs.NewUuid.{uuid_text}
 use Rattle.luks_formatting.specs.NewPlan.{key_digest}
 use Rattle.luks_formatting.specs.RandomBytes.{digest_salt, slot_place2, slot_salt, uuid_bytes}
 

@@ -10,7 +10,7 @@ use Rattle.luks_slot.specs.declared.plan.SlotPlan.{SlotPlan}
 use Rattle.luks_slot.specs.Opening.{area_bytes, HasIterations}
 use Rattle.luks_slot.specs.Refusal.{slot_refusal}
 use Rattle.luks_slot.specs.Sealing.{IsSealed}
-use Rattle.luks_terms.specs.declared.format.Format.{Format}
+use Rattle.luks_reading.specs.declared.format.Format.{Format}
 use Rattle.luks_formatting.specs.RandomBytes.{digest_salt, volume_key}
 
 -- the digest of the volume key, of `len` bytes: PBKDF2 of the key

@@ -5,7 +5,7 @@ ghost use Rattle.luks_formatting.specs.FormatFaults.{format_key, HasNoFault, IsF
 
 use crate::format_fault::FormatFault;
 use luks_edit::LEAST_ITERATIONS;
-use luks_terms::Format;
+use luks_reading::Format;
 
 /// The first fault of formatting a volume of `total` bytes, where `least` bytes and `needed` random
 /// ones are wanted.

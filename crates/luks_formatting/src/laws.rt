@@ -7,7 +7,7 @@ ghost use Rattle.luks_formatting.specs.Formatted1.{IsFormatted1};
 ghost use Rattle.luks_formatting.specs.Formatted2.{IsFormatted2};
 ghost use Rattle.luks_formatting.specs.NewHeader2.{FitsMetadata};
 ghost use Rattle.luks_formatting.specs.RandomBytes.{volume_key};
-ghost use Rattle.luks_terms.specs.declared.format.Format.{Format as TheFormat};
+ghost use Rattle.luks_reading.specs.declared.format.Format.{Format as TheFormat};
 
 /// A volume that was formatted by LUKS1 is well formed, and its keyslot 0 opens by the passphrase
 /// to the volume key.

@@ -15,6 +15,6 @@ mod sealing;
 
 pub use format_fault::FormatFault;
 pub use laws::{formatted1_opens, formatted2_opens};
-pub use luks_terms::Format;
+pub use luks_reading::Format;
 pub use luks1::{FORMAT1_RANDOM, format1};
 pub use luks2::{FORMAT2_RANDOM, format2};

@@ -19,13 +19,11 @@ use crate::plan::new_plan;
 use crate::random::{KEY, KEY_BYTES, RANDOM_STRIPES, SALT_BYTES, taken};
 use crate::sealing::seal_key;
 use luks_area::{Area, Device, DeviceFault};
-use luks_clearing::clear_places;
 use luks_edit::Done;
 use luks_head::Luks1;
-use luks_reading::Data;
+use luks_reading::{Data, Format};
 use luks_slot::{AreaCipher, SlotPlan};
-use luks_steps::write_range;
-use luks_terms::Format;
+use luks_writing::{clear_places, write_range};
 
 /// How many random bytes `format1` takes.
 pub const FORMAT1_RANDOM: u64 = 256080;

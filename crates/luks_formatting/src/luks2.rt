@@ -2,7 +2,7 @@
 ghost use Rattle.std.specs.Prelude.{◌≡◌, ◌+◌, ◌^◌, ◌<◌, ◌≤◌, List, ℕ, length, Some, IfErr, IfOk, OnOk};
 ghost use Rattle.luks_area.specs.Device.{CountsFailure, IsSettled, is_failure};
 ghost use Rattle.luks_area.specs.Ranges.{SameBut};
-ghost use Rattle.luks_clearing.specs.Order.{ClearsFirst, WritesInTurn};
+ghost use Rattle.luks_writing.specs.MadeInOrder.{ClearsFirst, WritesInTurn};
 ghost use Rattle.luks_kdf.specs.Names.{digest_size_of};
 ghost use Rattle.luks_making.specs.Formatted.{formatted};
 ghost use Rattle.luks_making.specs.WrittenArea.{IsWrittenArea};
@@ -24,11 +24,10 @@ use crate::plan::{new_plan, put_key_digest};
 use crate::random::{DIGEST_SALT, KEY, KEY_BYTES, RANDOM_STRIPES, SALT_BYTES, taken, taken_array};
 use crate::sealing::seal_key;
 use luks_area::{Area, Device, DeviceFault};
-use luks_clearing::clear_places;
 use luks_edit::Done;
-use luks_reading::Data;
+use luks_reading::{Data, Format};
 use luks_slot::{AreaCipher, SlotPlan};
-use luks_terms::Format;
+use luks_writing::clear_places;
 use std::alloc::Global;
 
 /// How many random bytes `format2` takes.

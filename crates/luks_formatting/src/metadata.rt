@@ -9,8 +9,7 @@ ghost use Rattle.luks_formatting.specs.NewPlan.{key_digest};
 use crate::new_header2::{JSON_SIZE, SLOT_SALT};
 use crate::random::{DIGEST_SALT, SALT_BYTES, taken};
 use luks_making::{NewVolume, formatted, volume_fits, written_area};
-use luks_reading::Data;
-use luks_terms::Format;
+use luks_reading::{Data, Format};
 use std::alloc::{AllocError, Global};
 
 /// The JSON area of both copies of the header, with this digest of the volume key.

@@ -5,8 +5,8 @@ ghost use Rattle.luks_formatting.specs.NewPlan.{key_digest, IsNewPlan};
 
 use crate::random::{DIGEST_SALT, KEY, KEY_BYTES, SALT_BYTES, STRIPES, taken};
 use luks_area::Area;
+use luks_reading::Format;
 use luks_slot::{AreaCipher, Derivation, DigestPlan, SlotPlan};
-use luks_terms::Format;
 
 /// The plan of a keyslot with this salt and area, and of a digest with that salt that stores these
 /// bytes.

@@ -9,7 +9,7 @@ ghost use Rattle.luks_formatting.specs.NewPlan.{IsSealable};
 
 use luks_area::{Device, DeviceFault};
 use luks_slot::{Key, SlotPlan};
-use luks_steps::seal_area;
+use luks_writing::seal_area;
 
 /// Seals the key of 64 bytes in the area of the plan, and flushes. Also where the device fails no
 /// byte outside the area's used sectors, 256000 bytes, changes.

@@ -5,3 +5,4 @@ pub mod ChosenCopyFacts
 pub mod CopyFacts
 pub mod SecondCopyFacts
 pub mod SoundnessFacts
+pub mod UuidFacts

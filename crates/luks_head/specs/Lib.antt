@@ -4,3 +4,4 @@ pub mod SoundCopies
 pub mod Selection
 pub mod ChosenCopy
 pub mod Written
+pub mod NewUuid

@@ -1,6 +1,6 @@
+//! Headers of LUKS volumes: the two copies of the binary LUKS2 header, and which header of a volume is chosen,
+//! that of LUKS1 among them; the texts of uuids, and the field that holds one.
 #![tactic(auto)]
-//! Headers of LUKS volumes: the two copies of the binary LUKS2 header, and which header of a volume
-//! is chosen, that of LUKS1 among them.
 
 mod bin2;
 mod bin2_places;
@@ -8,6 +8,8 @@ mod bin2_writing;
 mod copies;
 mod laws;
 mod selection;
+mod uuid_laws;
+mod uuid_texts;
 
 pub use bin2::Bin2;
 pub use copies::KEPT_JSON;
@@ -21,3 +23,5 @@ pub use luks1_header::{
     replaced_entry_keeps_header,
 };
 pub use selection::{Copies, Selected, select, select_with_json};
+pub use uuid_laws::uuids_fill_fields;
+pub use uuid_texts::{is_uuid, uuid_field, uuid_text};

@@ -3,7 +3,7 @@ use Rattle.std.proofs.Common.{◌≡◌, ◌≢◌, List, ℕ, false, refl}
 use Rattle.luks_reading.specs.declared.report.Data.{Data}
 use Rattle.luks_converting.specs.ConvertFaults.{is_convert_failure}
 use Rattle.luks_converting.specs.Outcome.{IsAnsweredFault}
-use Rattle.luks_copying.specs.TwoDevices.{CountsAfter}
+use Rattle.luks_writing.specs.TwoDevices.{CountsAfter}
 use Rattle.luks_converting.specs.declared.convert_fault.ConvertFault.{ConvertFault}
 use Rattle.luks_converting.specs.declared.convert_fault.ConvertFault.TheVariants.{Memory, Device}
 use Rattle.luks_commands.specs.declared.answers.Answer.{Answer}

@@ -3,7 +3,7 @@ use Rattle.std.proofs.Common.{◌≡◌, ℕ, List, Bool, true, false, Result, O
 use Rattle.std.specs.Result.{ForOk}
 use Rattle.luks_area.specs.Device.{IsSettled, IsUnchanged}
 use Rattle.luks_area.specs.DeviceFacts.{settled_unchanged}
-use Rattle.luks_copying.specs.TwoDevices.{CountsAfter, CountsEither}
+use Rattle.luks_writing.specs.TwoDevices.{CountsAfter, CountsEither}
 use Rattle.luks_commands.specs.declared.inputs.InputFault.{InputFault}
 use Rattle.luks_header_commands.specs.Target.{LeavesTarget, SettlesTarget}
 

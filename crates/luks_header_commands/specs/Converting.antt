@@ -11,7 +11,7 @@ use Rattle.luks_converting.specs.declared.convert_fault.ConvertFault.TheVariants
 use Rattle.luks_converting.specs.Converted.{IsConverted, IsOfConverted}
 use Rattle.luks_converting.specs.Outcome.{IsAnsweredFault, IsConvertible}
 use Rattle.luks_converting.specs.Source.{is_enabled}
-use Rattle.luks_copying.specs.TwoDevices.{IsOneFailure}
+use Rattle.luks_writing.specs.TwoDevices.{IsOneFailure}
 use Rattle.luks_request.specs.declared.request.Command.{Command}
 use Rattle.luks_request.specs.declared.request.Command.TheVariants as command
 use Rattle.luks_request.specs.declared.request.Converting.{Converting}

@@ -2,7 +2,7 @@
 use Rattle.std.specs.Prelude.{◌≡◌, ◌≢◌, ◌⊎◌, ◌↔◌, ℕ, ◌<◌, ◌≤◌, List, [], length, Option, None, Some, option_map, Bool, true, false, Result, ⊤}
 use Rattle.arrayvec.specs.ArrayString.{ArrayString}
 use Rattle.luks_area.specs.Ranges.{SameBut}
-use Rattle.luks_copying.specs.TwoDevices.{IsOneFailure}
+use Rattle.luks_writing.specs.TwoDevices.{IsOneFailure}
 use Rattle.luks1_header.specs.Header1.{luks1_size, version_of, HasMagic}
 use Rattle.luks_reading.specs.declared.report.Data.TheVariants.{Elsewhere}
 use Rattle.luks_reading.specs.Answer.{AnswerWithin as Opening, Opened}

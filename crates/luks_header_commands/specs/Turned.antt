@@ -1,6 +1,6 @@
 -- What is answered and left where LUKS2 is refused by a fault: words of private contracts.
 use Rattle.std.specs.Prelude.{◌≡◌, ◌≢◌, ◌⊎◌, ℕ, List, length, ⊤}
-use Rattle.luks_copying.specs.TwoDevices.{IsOneFailure}
+use Rattle.luks_writing.specs.TwoDevices.{IsOneFailure}
 use Rattle.luks_rebuilding.specs.declared.rebuild_fault.RebuildFault.{RebuildFault}
 use Rattle.luks_rebuilding.specs.declared.rebuild_fault.RebuildFault.TheVariants.{Counts, NoMetadata}
 use Rattle.luks1_mending.specs.declared.given.Given.{Given}

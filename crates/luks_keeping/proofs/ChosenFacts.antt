@@ -6,8 +6,8 @@ use Rattle.sha2.specs.Sha256.{sha256}
 use Rattle.luks_area.specs.Ranges.{part}
 use Rattle.luks_area.specs.RangeFacts.{part-part}
 use Rattle.luks1_header.specs.Header1.{version_of}
-use Rattle.luks_clearing.proofs.ClearedFacts.{no_copy, no_luks1}
-use Rattle.luks_clearing.specs.Cleared.{IsCleared}
+use Rattle.luks_writing.proofs.ClearedFacts.{no_copy, no_luks1}
+use Rattle.luks_writing.specs.Cleared.{IsCleared}
 use Rattle.luks_head.proofs.CopyFacts.{listed_at_least}
 use Rattle.luks_head.specs.Header2.{copy_at, hdr_size, header_at, seqid, with_zero_checksum, IsFormed, IsSound}
 use Rattle.luks_head.specs.Selection.{AreBothSound, IsFirstAlone, IsNotVersion1, IsSecondAlone, IsVersion1, first_seqid, second_place, second_seqid}

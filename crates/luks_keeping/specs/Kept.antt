@@ -5,7 +5,7 @@ use Rattle.luks_area.specs.Ranges.{part, IsAt, IsOfEither}
 use Rattle.luks_area.specs.declared.area.Area.{Area}
 use Rattle.luks_area.specs.declared.area.AreaName.TheVariants.{Slot}
 use Rattle.luks1_header.specs.Header1.{active_word, enabled_word, entry, luks1_size}
-use Rattle.luks_clearing.specs.Cleared.{cleared_size}
+use Rattle.luks_writing.specs.Cleared.{cleared_size}
 use Rattle.luks_head.specs.Header2.{header_at, hdr_size}
 use Rattle.luks_head.specs.Selection.{luks1, luks2, nothing, Choice}
 use Rattle.luks_head.specs.declared.selection.Copies.{Copies}

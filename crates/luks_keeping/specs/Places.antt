@@ -3,7 +3,7 @@ use Rattle.std.specs.Prelude.{◌≡◌, ◌≢◌, ◌⊎◌, ℕ, ◌+◌, ◌
 use Rattle.luks_area.specs.Area.{AreDisjoint}
 use Rattle.luks_area.specs.Ranges.{part, IsAt, IsOfEither, SameBut}
 use Rattle.luks_area.specs.declared.area.Area.{Area}
-use Rattle.luks_clearing.specs.Cleared.{cleared_size}
+use Rattle.luks_writing.specs.Cleared.{cleared_size}
 use Rattle.luks_keeping.specs.declared.places.Places.{Places}
 
 -- `a` is the key area of the keyslot `n`

@@ -5,7 +5,7 @@ use Rattle.luks_area.specs.declared.area.Area.{Area}
 use Rattle.luks_area.specs.declared.area.AreaName.{AreaName}
 use Rattle.luks_area.specs.declared.area.AreaName.TheVariants.{Segment}
 use Rattle.luks1_header.specs.Header1.{luks1_size}
-use Rattle.luks_clearing.specs.Cleared.{cleared_size, IsCleared, IsOfFirstSectors}
+use Rattle.luks_writing.specs.Cleared.{cleared_size, IsCleared, IsOfFirstSectors}
 use Rattle.luks_head.specs.Header2.{header_at, hdr_size}
 use Rattle.luks_head.specs.Selection.{luks1, luks2, nothing, Choice, Chosen}
 use Rattle.luks_reading.specs.Checked.{HasLuks2Area}

@@ -3,12 +3,12 @@ ghost use Rattle.std.specs.Prelude.{◌≡◌, ◌+◌, ◌^◌, ◌<◌, ◌≤
 ghost use Rattle.luks_area.specs.Device.{IsSettled, IsUnchanged, is_failure};
 ghost use Rattle.luks_area.specs.Ranges.{part, SameBut};
 ghost use Rattle.luks_area.specs.declared.area.Area.{Area as TheArea};
-ghost use Rattle.luks_copying.specs.TwoDevices.{CountsEither};
+ghost use Rattle.luks_writing.specs.TwoDevices.{CountsEither};
 ghost use Rattle.luks_keeping.specs.Places.{AreApart, AreInside, CopiesInTurn, HasPlace, HoldsAll, HoldsAreas, IsOfAreas, IsOfPlace, IsOfPlaces};
 
 use crate::places::Places;
 use luks_area::{Area, Device, DeviceFault};
-use luks_copying::copy_area;
+use luks_writing::copy_area;
 
 /// Copies the key areas, then the second copy of the header, then the first, a flush after each. Also
 /// where a device fails no byte of the target outside these places changes.

@@ -2,7 +2,7 @@
 ghost use Rattle.std.specs.Prelude.{◌≡◌, ◌+◌, ◌^◌, ◌<◌, ◌≤◌, OnOk, min, replicate};
 ghost use Rattle.luks_area.specs.Device.{CountsFailure, IsSettled, IsUnchanged, is_failure};
 ghost use Rattle.luks_area.specs.Ranges.{part, SameBut};
-ghost use Rattle.luks_copying.specs.TwoDevices.{CountsEither};
+ghost use Rattle.luks_writing.specs.TwoDevices.{CountsEither};
 ghost use Rattle.luks_keeping.specs.Places.{header_end, AreApart, AreCleared, AreInside, ClearsInTurn, HoldsAll, IsOfSectors, IsOfWhole, WritesOver};
 
 use crate::copying::copy_places;

@@ -1,7 +1,7 @@
 -- What `backup` leaves and answers, by what it met.
 use Rattle.std.proofs.Common.{◌≡◌, ◌≢◌, List, ℕ, Result, Ok, Err, false, refl, ap}
 use Rattle.luks_area.specs.Device.{count_after}
-use Rattle.luks_copying.specs.TwoDevices.{CountsAfter}
+use Rattle.luks_writing.specs.TwoDevices.{CountsAfter}
 use Rattle.luks_reading.specs.declared.report.Data.{Data}
 use Rattle.luks_keeping.specs.BackupFaults.{is_backup_failure, IsAnsweredBackup}
 use Rattle.luks_keeping.specs.declared.backup_fault.BackupFault.{BackupFault}

@@ -2,7 +2,7 @@
 use Rattle.std.proofs.Common.{◌≡◌, ◌≢◌, inl, List, ℕ, false, refl, sym, subst, ◌∙◌, length}
 use Rattle.luks_area.specs.Ranges.{part, SameBut}
 use Rattle.luks_area.specs.declared.area.Area.{Area}
-use Rattle.luks_copying.specs.TwoDevices.{CountsAfter, IsOneFailure}
+use Rattle.luks_writing.specs.TwoDevices.{CountsAfter, IsOneFailure}
 use Rattle.luks_head.specs.Selection.{Choice, Chosen}
 use Rattle.luks_reading.specs.declared.report.Data.{Data}
 use Rattle.luks_keeping.specs.RestoreFaults.{is_restore_failure, CanRestore, IsAnsweredRestore}

@@ -1,7 +1,7 @@
 -- What the command `backup` leaves of its file, and what it may answer.
 use Rattle.std.specs.Prelude.{◌≡◌, ◌⊎◌, ◌↔◌, ℕ, ◌+◌, List, None, Result, Ok, Err}
 use Rattle.luks_area.specs.Ranges.{SameBut}
-use Rattle.luks_copying.specs.TwoDevices.{IsOneFailure}
+use Rattle.luks_writing.specs.TwoDevices.{IsOneFailure}
 use Rattle.luks_reading.specs.Answer.{AnswerWithin, Opened}
 use Rattle.luks_reading.specs.Checked.{WellFormed}
 use Rattle.luks_reading.specs.Header.{NeedsMetadata}

@@ -1,6 +1,6 @@
 -- What the command `compare` may answer.
 use Rattle.std.specs.Prelude.{◌≡◌, ◌⊎◌, ℕ, List, Result, Ok, Err}
-use Rattle.luks_copying.specs.TwoDevices.{IsOneFailure}
+use Rattle.luks_writing.specs.TwoDevices.{IsOneFailure}
 use Rattle.luks_reading.specs.Checked.{First, WellFormed}
 use Rattle.luks_reading.specs.Header.{NeedsMetadata}
 use Rattle.luks_reading.specs.declared.report.Data.{Data}

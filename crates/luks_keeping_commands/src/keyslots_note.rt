@@ -1,7 +1,7 @@
 //! What standard error says of the keyslots before a backup is restored.
 ghost use Rattle.std.specs.Prelude.{◌≡◌, ◌+◌, ◌<◌, ◌^◌, IfOk, IfSome};
 ghost use Rattle.luks_area.specs.Device.{CountsFailure, IsUnchanged, is_failure};
-ghost use Rattle.luks_copying.specs.TwoDevices.{CountsEither};
+ghost use Rattle.luks_writing.specs.TwoDevices.{CountsEither};
 ghost use Rattle.luks_reading.specs.Header.{IsAcceptedHeader};
 ghost use Rattle.luks_keeping.specs.Judged.{HasFields};
 

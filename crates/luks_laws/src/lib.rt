@@ -1,6 +1,11 @@
-//! Laws over the definitions of a whole volume: of which there is always one. No call stands here.
+//! Laws over the definitions of a whole volume, and of an edit of one: of what there is always one, and that
+//! whatever may refuse is decided. No call stands here.
 #![tactic(auto)]
 
+mod edit_laws;
+mod gaps;
 mod laws;
 
+pub use edit_laws::{first_refusal_or_unrefused, no_memory_is_as_before};
+pub use gaps::area_or_no_room;
 pub use laws::{every_keyslot_has_an_answer, first_fault_or_well_formed};

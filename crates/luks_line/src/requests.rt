@@ -4,12 +4,11 @@ use crate::fields::fields_of;
 use crate::search::Search;
 use clap::ArgMatches;
 use luks_kdf::HashName;
-use luks_reading::Data;
+use luks_reading::{Data, Format};
 use luks_request::{
     BackingUp, Command, Comparing, Converting, EditRequest, Editing, Line, Making, NewVersion,
     Place, Rebuilding, Restoring, ShowAs,
 };
-use luks_terms::Format;
 
 /// What the command of this name asks for, of a volume.
 pub(crate) fn line_of<'a>(name: &str, given: &ArgMatches<'a>) -> Option<Line<'a>> {

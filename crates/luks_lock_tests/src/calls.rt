@@ -1,5 +1,7 @@
 //! Which calls of the system are made, in their order, where a volume is opened.
-use luks_lock::{Access, Answer, Asked, Found, Kind, OpenFault, Share, System, open_locked};
+use luks_guarded_files::{
+    Access, Answer, Asked, Found, Kind, OpenFault, Share, System, open_locked,
+};
 use luks_samples::new_folder;
 use std::alloc::Global;
 use std::fs::{self, File};

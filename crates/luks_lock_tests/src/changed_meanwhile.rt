@@ -2,7 +2,7 @@
 ghost use Rattle.std.specs.Prelude.{◌<◌, ◌^◌};
 
 use luks_area::{Device, DeviceFault, MemDevice};
-use luks_cache::CachedDevice;
+use luks_guarded_files::CachedDevice;
 use std::alloc::{AllocError, Global};
 use std::test::Fail;
 

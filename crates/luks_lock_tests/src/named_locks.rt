@@ -1,5 +1,7 @@
 //! The locks of the files that stand for block devices.
-use luks_lock::{Answer, Found, Host, Kind, Lock, Named, Node, Notice, Share, System, hold_name};
+use luks_guarded_files::{
+    Answer, Found, Host, Kind, Lock, Named, Node, Notice, Share, System, hold_name,
+};
 use luks_samples::new_folder;
 use std::fs::{self, File, OpenOptions};
 use std::os::unix::fs::{MetadataExt, symlink};

@@ -1,12 +1,11 @@
 //! Commands over a file whose lock another open file holds, opened as the program does.
 ghost use Rattle.std.specs.Prelude.{◌≡◌, IfOk};
-ghost use Rattle.luks_cache.specs.Cached.{cached_failures};
+ghost use Rattle.luks_guarded_files.specs.Cached.{cached_failures};
 
 use luks_area::FileDevice;
-use luks_cache::CachedDevice;
-use luks_cli::{InputFault, Inputs, Reason};
+use luks_edit_commands::{InputFault, Inputs, Reason};
+use luks_guarded_files::{CachedDevice, Host, LockedDevice, Notice, OpenFault, open_locked};
 use luks_line::line;
-use luks_lock::{Host, LockedDevice, Notice, OpenFault, open_locked};
 use luks_samples::new_folder;
 use luks_sessions::run_words;
 use std::alloc::Global;

@@ -28,7 +28,7 @@ use Rattle.luks_header_commands.specs.Target.{AreOneFile, IsSameFile}
 use Rattle.luks_keeping_commands.specs.BackingUp.{AnswersBackup, WhereBackup}
 use Rattle.luks_keeping_commands.specs.Comparing.{AnswersCompare, WhereCompare}
 use Rattle.luks_keeping_commands.specs.Restoring.{AnswersRestore, over_of, WhereRestore}
-use Rattle.luks_cli.specs.Editing.{WhereEdit}
+use Rattle.luks_edit_commands.specs.Editing.{WhereEdit}
 use Rattle.luks_main.specs.declared.outcome.Outcome.{Outcome}
 use Rattle.luks_main.specs.Outcomes.{EndsAsObject, IsOf, IsOutcome, IsToldAsObject, IsUntold, told, refused, failed}
 use Rattle.luks_main.specs.Statuses.{EndsBackup, EndsCheck, EndsCompare, EndsConvert, EndsEdit, EndsFormat, EndsOpen, EndsRebuild, EndsRestore, EndsShow, EndsWith, MayEnd}

@@ -38,8 +38,8 @@ use Rattle.luks_keeping_commands.specs.BackingUp.{AnswersBackup, IsBackupAnswer,
 use Rattle.luks_keeping_commands.specs.Comparing.{AnswersCompare, IsCompareAnswer}
 use Rattle.luks_keeping_commands.specs.Restoring.{AnswersRestore, IsRestoreAnswer}
 use Rattle.luks_keeping_commands.specs.TwoFiles.{pair_of, Pair as TwoFiles}
-use Rattle.luks_cli.specs.EditAnswers.{AnswersEdit, IsEditAnswer}
-use Rattle.luks_cli.specs.Editing.{Given, Lacking}
+use Rattle.luks_edit_commands.specs.EditAnswers.{AnswersEdit, IsEditAnswer}
+use Rattle.luks_edit_commands.specs.Editing.{Given, Lacking}
 use Rattle.luks_main.specs.Statuses.{EndsBackup, EndsCheck, EndsCompare, EndsConvert, EndsEdit, EndsFormat, EndsOpen, EndsRebuild, EndsRestore, EndsShow, EndsWith}
 
 -- an answer's own status

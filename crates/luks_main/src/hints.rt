@@ -3,15 +3,17 @@
 //! noted.
 ghost use Rattle.std.specs.Prelude.{◌≡◌, ◌≢◌, None};
 ghost use Rattle.std.specs.Str.{IsUtf8};
-ghost use Rattle.luks_cache.specs.Cached.{cached_failures};
+ghost use Rattle.luks_guarded_files.specs.Cached.{cached_failures};
 
 use luks_area::Device;
-use luks_cli::{Command, Line, OtherUse, note_other_use, note_overwritten, standing_use};
+use luks_edit_commands::{Command, Line, OtherUse, note_other_use, note_overwritten, standing_use};
 use luks_explain::{Fault, refusing};
 use luks_files::{Volume, WHOLE, reopened};
 use luks_header_commands::which_of;
-use luks_leftovers::{FrontFault, header_end, leftovers, note_leftovers, read_front};
-use luks_metadata_notes::{note_no_keyslots, note_taken, note_whole};
+use luks_notes::{
+    FrontFault, header_end, leftovers, note_leftovers, note_no_keyslots, note_taken, note_whole,
+    read_front,
+};
 use luks_rebuilding::Which;
 use luks_request::{Meant, Place};
 use luks_signatures::first_use;

@@ -2,7 +2,7 @@
 ghost use Rattle.std.specs.Prelude.{◌≡◌, ◌⊎◌, ◌↔◌, ◌+◌, ◌<◌, ◌^◌, ℕ, List, [], codes, IfOk, IfSome, IsOk, IsSome, IsTrue, MatchOption, OnOk, string_bytes, Some};
 ghost use Rattle.std.specs.Str.{IsUtf8};
 ghost use Rattle.std.specs.Io.KnownBytes.{Appends};
-ghost use Rattle.luks_cache.specs.Cached.{cached_failures};
+ghost use Rattle.luks_guarded_files.specs.Cached.{cached_failures};
 ghost use Rattle.luks_commands.specs.Answer.{line};
 ghost use Rattle.luks_commands.specs.Answer.{line_of};
 ghost use Rattle.luks_commands.specs.Printing.{CountsPrint};
@@ -11,14 +11,14 @@ ghost use Rattle.luks_main.specs.Outcomes.{EndsAsObject, IsNoted, IsOf, IsOutcom
 
 use crate::FAULT;
 use luks_answer_json::answer_json;
-use luks_cli::open::Tried;
-use luks_cli::{
+use luks_edit_commands::open::Tried;
+use luks_edit_commands::{
     Answer, Command, CountingPrinter, Data, Inputs, Line, Printer, Unprinted, check, end, execute,
     open,
 };
 use luks_files::Volume;
+use luks_guarded_files::LazyFile;
 use luks_line::Manner;
-use luks_lock::LazyFile;
 use std::alloc::{AllocError, Global};
 use std::fmt;
 use std::fs::File;

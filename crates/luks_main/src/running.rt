@@ -1,8 +1,8 @@
 //! The command line, and what is done for it.
 ghost use Rattle.std.specs.Prelude.{◌≡◌, ◌↔◌, IfOk, IfSome, IsOk, IsSome};
-ghost use Rattle.luks_cache.specs.Cached.{cached_failures};
+ghost use Rattle.luks_guarded_files.specs.Cached.{cached_failures};
 ghost use Rattle.luks_commands.specs.Exit.{IsExitStatus};
-ghost use Rattle.luks_lock.specs.Lazy.{file_name};
+ghost use Rattle.luks_guarded_files.specs.Lazy.{file_name};
 ghost use Rattle.luks_main.specs.Statuses.{IsProgramStatus, MayEnd};
 
 use crate::hints::{Ended, tell, tell_ended, tell_overwritten, use_before};
@@ -10,17 +10,17 @@ use crate::outcome::{Outcome, outcome_of};
 use crate::searching::search;
 use crate::told::{device_fault, explain, list_faults, no_memory, tell_usage};
 use crate::{FAULT, USAGE};
-use luks_cli::{CountingPrinter, InputFault, Inputs, Line, OtherUse, Unprinted};
+use luks_edit_commands::{CountingPrinter, InputFault, Inputs, Line, OtherUse, Unprinted};
 use luks_files::{Openings, Passphrases, Volume, Volumes, has_changed, open_volumes, reader};
+use luks_guarded_files::LazyFile;
 use luks_line::{Asked, Manner, parse};
-use luks_lock::LazyFile;
 use luks_wiping::wipe_stack;
 use std::fs::File;
 use std::io::{ErrorKind, Write};
 use std::rt::{Clock, Env, Files};
 use std::{env, io};
 
-/// Runs the command line, and answers the exit status: beside those of `luks_cli::execute` 2 where the words
+/// Runs the command line, and answers the exit status: beside those of `luks_edit_commands::execute` 2 where the words
 /// are wrong, 0 where a help or an explanation was printed, and 4 where that can't be.
 ///
 /// No clause can say what its files and streams give: `luks_file_transcript` tests it. What a value can say has a

@@ -1,9 +1,11 @@
 //! Checking a LUKS volume, of either version, against its format and its layout, and opening its
-//! keyslots.
+//! keyslots. `Format` is what a caller says of a volume that is to be made: the command line and the calls
+//! that make one share it.
 #![tactic(auto)]
 
 mod check_fault;
 mod checking;
+mod format;
 mod header;
 mod judging;
 mod laws;
@@ -20,6 +22,7 @@ mod unlocking;
 
 pub use check_fault::CheckFault;
 pub use checking::{check, check_header};
+pub use format::Format;
 pub use header::{ChosenCopy, Header, read_header};
 pub use judging::judge_luks1;
 pub use laws::{

@@ -6,8 +6,8 @@ use Rattle.luks_head.specs.Header2.{magic_of}
 use Rattle.luks_head.specs.Sizes.{IsListed}
 use Rattle.luks_head.specs.Written.{IsWrittenCopy}
 use Rattle.luks_head.specs.declared.bin2.Bin2.{Bin2}
-use Rattle.luks2_copy.specs.Copy.{HasCopy, IsCopyHeader}
-use Rattle.luks2_copy.proofs.CopyFacts.{copy_stays as written_stays}
+use Rattle.luks_writing.specs.Copy.{HasCopy, IsCopyHeader}
+use Rattle.luks_writing.proofs.CopyFacts.{copy_stays as written_stays}
 use Rattle.luks_rebuilding.specs.Candidates.{Source}
 use Rattle.luks_rebuilding.specs.Rebuilt.{HasRebuiltCopy, IsRebuiltHeader}
 

@@ -16,7 +16,7 @@ use Rattle.luks_head.specs.Selection.{Choice, luks2, Chosen}
 use Rattle.luks_head.specs.Sizes.{IsListed}
 use Rattle.luks_head.specs.Written.{IsWrittenCopy}
 use Rattle.luks_head.specs.declared.selection.Copies.TheVariants.{InStep}
-use Rattle.luks_uuid.proofs.UuidFacts.{fills, uuid_text-is}
+use Rattle.luks_head.proofs.UuidFacts.{fills, uuid_text-is}
 use Rattle.luks_rules.proofs.AreaFaults.{one_value}
 use Rattle.luks_rules.proofs.Deciding.{metadata_faultless}
 use Rattle.luks_meta.specs.Accepted.{IsMeta}

@@ -7,7 +7,7 @@ use Rattle.luks_area.specs.Ranges.{part, IsAt, IsOfEither}
 use Rattle.luks_area.specs.Text.{text_of}
 use Rattle.luks_area.specs.declared.area.Area.{Area}
 use Rattle.luks1_header.specs.Bytes.{IsUuid}
-use Rattle.luks_clearing.specs.Order.{ClearsFirst, WritesInTurn}
+use Rattle.luks_writing.specs.MadeInOrder.{ClearsFirst, WritesInTurn}
 use Rattle.luks_head.specs.Header2.{header_at, uuid_field, IsUuidField}
 use Rattle.luks_head.specs.Selection.{nothing, Chosen}
 use Rattle.luks_head.specs.declared.bin2.Bin2.{Bin2}

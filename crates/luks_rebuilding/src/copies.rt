@@ -10,7 +10,7 @@ use crate::candidate::Candidate;
 use crate::vouching::next_seqid;
 use luks_area::{Device, DeviceFault};
 use luks_head::Bin2;
-use luks2_copy::write_copy;
+use luks_writing::write_copy;
 
 /// Where the salt of the first copy stands among the random bytes.
 pub(crate) const FIRST_SALT: usize = 0;

@@ -3,16 +3,16 @@ ghost use Rattle.std.specs.Prelude.{◌≡◌, ◌+◌, ◌^◌, ◌<◌, ℕ, I
 ghost use Rattle.luks_area.specs.Device.{IsSettled, IsUnchanged, is_failure};
 ghost use Rattle.luks_area.specs.Ranges.{part, SameBut};
 ghost use Rattle.luks_area.specs.declared.area.Area.{Area as TheArea};
-ghost use Rattle.luks_copying.specs.TwoDevices.{CountsEither};
+ghost use Rattle.luks_writing.specs.TwoDevices.{CountsEither};
 ghost use Rattle.luks_meta.specs.Content.{content};
 ghost use Rattle.luks_meta.specs.Objects.{IsMissing};
 ghost use Rattle.luks_rebuilding.specs.Found.{AreSlotsApart, HasSlotsInside, IsOfSlot, IsOfSlots};
 ghost use Rattle.luks_rebuilding.specs.KeyAreas.{IsSlotArea};
 
 use luks_area::{Area, Device, DeviceFault};
-use luks_copying::copy_area;
 use luks_meta::Meta;
 use luks_rules::Section;
+use luks_writing::copy_area;
 
 /// Copies the area of each keyslot of the metadata, one after the other, each with a flush. Also
 /// where a device fails no byte of the target outside these areas changes.

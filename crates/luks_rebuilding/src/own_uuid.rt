@@ -5,12 +5,11 @@ ghost use Rattle.luks1_header.specs.Bytes.{IsUuid};
 ghost use Rattle.luks_rebuilding.specs.Candidates.{IsPlace};
 ghost use Rattle.luks_rebuilding.specs.Found.{FindsUuid, IsOwnField};
 ghost use Rattle.luks_rebuilding.specs.Rebuilt.{random_size, uuid_bytes};
-ghost use Rattle.luks_uuid.specs.NewUuid.{uuid_text};
+ghost use Rattle.luks_head.specs.NewUuid.{uuid_text};
 
 use crate::place::{Place, other_at};
 use luks_area::{Device, DeviceFault};
-use luks_head::Bin2;
-use luks_uuid::{uuid_field, uuid_text};
+use luks_head::{Bin2, uuid_field, uuid_text};
 
 /// Where the bytes of a new uuid stand among the random bytes.
 const UUID: usize = 128;

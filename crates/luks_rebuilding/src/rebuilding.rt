@@ -2,7 +2,7 @@
 ghost use Rattle.std.specs.Prelude.{◌≡◌, ◌↔◌, ◌+◌, ◌++◌, ◌^◌, ◌<◌, List, IfErr, OnOk, false, length, ℕ, option_map, replicate};
 ghost use Rattle.luks_area.specs.Device.{IsSettled, IsUnchanged, is_failure};
 ghost use Rattle.luks_area.specs.Ranges.{SameBut};
-ghost use Rattle.luks_copying.specs.TwoDevices.{CountsEither};
+ghost use Rattle.luks_writing.specs.TwoDevices.{CountsEither};
 ghost use Rattle.luks_meta.specs.Content.{content};
 ghost use Rattle.luks_reading.specs.Answer.{AnswerWithin, Opened};
 ghost use Rattle.luks_reading.specs.Checked.{WellFormed};
@@ -23,7 +23,7 @@ use crate::own_uuid::own_field;
 use crate::place::Which;
 use crate::rebuild_fault::RebuildFault;
 use luks_area::{Device, DeviceFault};
-use luks_clearing::clear_places;
+use luks_writing::clear_places;
 use std::alloc::Global;
 
 /// How many random bytes `rebuild` takes: the salts of the first and the second copy of the header,
@@ -81,7 +81,7 @@ pub fn rebuild<S: Device, T: Device>(
         (T.bytes target.old) (T.bytes target.new) }
 
     // Before any other byte changes the first sectors of both copies' places are cleared, and nothing
-    // counts where they are (`cleared_counts_no_more` of luks_clearing). The second copy's stays so
+    // counts where they are (`cleared_counts_no_more` of luks_writing). The second copy's stays so
     // until the key areas stand, the first copy's until the second copy stands too.
     ensures order { S.tells → T.tells → WritesFirstLast (S.bytes source.old) which
         (option_map (λ t. t.now) uuid.entry) random.now (T.bytes target.old) (T.bytes target.new) }

@@ -2,7 +2,7 @@
 use crate::rows::{Row, SEVERAL, VOUCHED, WHOLE};
 use crate::sources::{source_of, which_of};
 use luks_area::MemDevice;
-use luks_metadata_notes::{note_taken, note_whole};
+use luks_notes::{note_taken, note_whole};
 use luks_rebuilding::Which;
 use luks_test_devices::{damaged, put, two_hashes};
 use std::alloc::Global;

@@ -5,8 +5,7 @@ ghost use Rattle.luks_request.specs.Named.{passphrase_of, random_of, target_of};
 use crate::keeping::{BackingUp, Comparing, Restoring};
 use crate::place::Place;
 use crate::rebuilding::Rebuilding;
-use luks_reading::Data;
-use luks_terms::Format;
+use luks_reading::{Data, Format};
 
 /// What a command line asks for. Its files are named as the command line names them.
 #[derive(Debug, Clone, Copy, PartialEq, Eq)]

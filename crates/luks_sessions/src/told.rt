@@ -3,7 +3,7 @@ ghost use Rattle.std.specs.Prelude.{◌≡◌, ◌+◌, ◌<◌, ◌^◌};
 ghost use Rattle.std.specs.Result.{ForOk};
 ghost use Rattle.luks_area.specs.Device.{IsSettled};
 
-use luks_cli::{CountingPrinter, Inputs, execute};
+use luks_edit_commands::{CountingPrinter, Inputs, execute};
 use luks_line::line;
 use luks_volume::Device;
 use std::alloc::{AllocError, Global};

@@ -1,2 +1,3 @@
 pub mod AllFacts
 pub mod Luks1Facts
+mod SlotFacts

@@ -2,3 +2,8 @@ pub mod Texts
 pub mod Luks1Lines
 pub mod AllLines
 pub mod Listed
+pub mod SegmentValues
+pub mod ValueTexts
+pub mod Luks1Value
+pub mod Luks2Value
+pub mod JsonText

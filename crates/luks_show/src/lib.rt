@@ -1,6 +1,7 @@
-//! What `show` prints: the lines of a header.
+//! What `show` prints of a header that was read: its lines, and with `--json` one JSON object.
 #![tactic(auto)]
 
+mod as_json;
 mod copies;
 mod costs;
 mod escaped;
@@ -10,6 +11,7 @@ mod luks1;
 mod luks2;
 mod objects;
 
+pub use as_json::json_text;
 pub use copies::copies_name;
 pub use costs::{CostsLine, EncryptionLine};
 pub use escaped::before_zero;

@@ -22,7 +22,7 @@ use Rattle.luks_show.specs.declared.listing.Listing.{Listing}
 use Rattle.luks_show.specs.declared.listing.Listing.TheVariants.{Luks1, Luks2}
 use Rattle.luks_map.specs.declared.map.HeaderMap.{HeaderMap}
 use Rattle.luks_map.specs.Map.{IsMap}
-use Rattle.luks_show_json.specs.JsonText.{IsJsonText}
+use Rattle.luks_show.specs.JsonText.{IsJsonText}
 use Rattle.luks_commands.specs.Answer.{unread_answer}
 
 -- ---- what refuses it

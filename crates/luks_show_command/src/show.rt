@@ -11,8 +11,7 @@ use luks_commands::{Answer, InputFault, Printer, Status, end, refused, unread};
 use luks_map::HeaderMap;
 use luks_reading::{CheckFault, Device, Header, Luks1, read_header};
 use luks_request::ShowAs;
-use luks_show::{FullListing, Listing};
-use luks_show_json::json_text;
+use luks_show::{FullListing, Listing, json_text};
 use std::alloc::Global;
 use std::io::Write;
 

@@ -1,6 +1,6 @@
 //! A device that remembers its first bytes, over one of which a call fails.
 use luks_area::{Device, FaultyDevice, Leave, MemDevice};
-use luks_cache::{CachedDevice, ROOM};
+use luks_guarded_files::{CachedDevice, ROOM};
 use std::alloc::{AllocError, Global};
 use std::test::Fail;
 

@@ -4,7 +4,7 @@ ghost use Rattle.std.specs.Prelude.{◌≡◌, IfOk};
 use crate::failing::{Room, Trouble, Troubles};
 use crate::objects::print_object;
 use crate::secrets::tells_secret;
-use luks_cli::{CountingPrinter, InputFault, Inputs, Line, execute};
+use luks_edit_commands::{CountingPrinter, InputFault, Inputs, Line, execute};
 use luks_line::{Asked as Parsed, parse};
 use luks_transcript_volumes::{Asked, Disk, Fault, Files, Kept, Record, Source, Volumes};
 use std::alloc::{AllocError, Global};

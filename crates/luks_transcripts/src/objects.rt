@@ -2,8 +2,8 @@
 ghost use Rattle.std.specs.Prelude.{◌≡◌, IfOk};
 
 use luks_answer_json::answer_json;
-use luks_cli::open::Tried;
-use luks_cli::{Answer, Command, CountingPrinter, Inputs, Line, Printer, check, open};
+use luks_edit_commands::open::Tried;
+use luks_edit_commands::{Answer, Command, CountingPrinter, Inputs, Line, Printer, check, open};
 use luks_transcript_volumes::{Disk, Source};
 use std::alloc::{AllocError, Global};
 use std::io::Write;

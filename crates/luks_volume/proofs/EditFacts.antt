@@ -18,8 +18,8 @@ use Rattle.luks_edit.specs.Kept.{Keeps, KeepsSlot}
 use Rattle.luks_edit.specs.Ran.{AreRun, HasNoFailure, IsCompleted, IsFailure, IsNamedIn, Reply}
 use Rattle.luks1_edits.specs.Edited.{NamedKeyslots1}
 use Rattle.luks1_edits.proofs.EditedFacts.{keeps}
-use Rattle.luks2_edits.specs.Edited.{HasRanges, NamedKeyslots2}
-use Rattle.luks2_edits.proofs.AfterFacts.{after_keeps}
+use Rattle.luks2_edit_laws.specs.Edited.{HasRanges, NamedKeyslots2}
+use Rattle.luks2_edit_laws.proofs.AfterFacts.{after_keeps}
 use Rattle.luks_volume.specs.Edits.{AfterAs, IsEditFaultAs, IsUnrefused, NamedSlots, NamesAs, Replies}
 use Rattle.luks_volume.proofs.RanFacts.{kept_same, list_keeps}
 

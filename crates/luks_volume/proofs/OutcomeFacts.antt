@@ -17,18 +17,18 @@ use Rattle.luks_edit.specs.declared.edit_fault.EditFault.TheVariants as fault
 use Rattle.luks_edit.specs.Ran.{Reply, IsFailure}
 use Rattle.luks1_edits.specs.Edited.{OpensAfter1, Removes}
 use Rattle.luks1_edits.specs.Refused.{IsUnrefused1}
-use Rattle.luks2_edits.specs.Edited.{HasRanges, OpensAfter2}
-use Rattle.luks2_edits.specs.Places.{Loses}
-use Rattle.luks2_edits.specs.Refused.{IsUnrefused2}
+use Rattle.luks2_edit_laws.specs.Edited.{HasRanges, OpensAfter2}
+use Rattle.luks2_edit_laws.specs.Places.{Loses}
+use Rattle.luks2_edit_laws.specs.Refused.{IsUnrefused2}
 use Rattle.luks_volume.specs.Edits.{AfterAs, IsEditFault, IsUnrefused, LeftoverAs, Leftover, Makes, MakesAs, Replies}
 use Rattle.luks_volume.specs.Outcome.{IsApplied, OpensMade, Spares, SparesAs, WipesLost}
 use Rattle.luks1_edits.proofs.EditedFacts.{leftover_keeps, leftover_opens, leftover_rest as leftover_rest1, opens_after as opens_after1, removed_area}
 use Rattle.luks1_edits.proofs.RefusalFacts.{leftover_refused as leftover_refused1}
-use Rattle.luks2_edits.proofs.AfterFacts.{lost_zeros}
-use Rattle.luks2_edits.proofs.OpensFacts.{opens_after as opens_after2}
-use Rattle.luks2_edits.proofs.RefusalFacts.{leftover_refused as leftover_refused2}
-use Rattle.luks2_edits.proofs.TornFacts.{leftover_outcome}
-use Rattle.luks2_edits.proofs.TouchedFacts.{leftover_rest as leftover_rest2}
+use Rattle.luks2_edit_laws.proofs.AfterFacts.{lost_zeros}
+use Rattle.luks2_edit_laws.proofs.OpensFacts.{opens_after as opens_after2}
+use Rattle.luks2_edit_laws.proofs.RefusalFacts.{leftover_refused as leftover_refused2}
+use Rattle.luks2_edit_laws.proofs.TornFacts.{leftover_outcome}
+use Rattle.luks2_edit_laws.proofs.TouchedFacts.{leftover_rest as leftover_rest2}
 use Rattle.luks_volume.proofs.CountFacts.{the_failure}
 use Rattle.luks_volume.proofs.EditFacts.{edit_keeps}
 use Rattle.luks_volume.proofs.VersionFacts.{fault_by}

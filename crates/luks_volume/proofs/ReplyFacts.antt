@@ -11,7 +11,7 @@ use Rattle.luks_edit.specs.declared.edit_fault.EditFault.{EditFault}
 use Rattle.luks_edit.specs.declared.edit_fault.EditFault.TheVariants as fault
 use Rattle.luks1_edits.specs.Replies.{EndsBy1, Replies1}
 use Rattle.luks2_editing.specs.Replies.{EndsBy2, Replies2}
-use Rattle.luks2_edits.specs.Edited.{HasRanges}
+use Rattle.luks2_edit_laws.specs.Edited.{HasRanges}
 use Rattle.luks_volume.specs.Edits.{LeftoverAs, Replies}
 use Rattle.luks_volume.specs.Unread.{IsHeaderRefused}
 use Rattle.luks_volume.proofs.VersionFacts.{first_refuses, refusal_by, tells_slot1, tells_slot2, unrefused_by}

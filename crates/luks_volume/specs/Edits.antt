@@ -16,9 +16,9 @@ use Rattle.luks_edit.specs.Ran.{Reply}
 use Rattle.luks1_edits.specs.Edited.{After1, IsSealedIn as IsSealedIn1, NamedKeyslots1}
 use Rattle.luks1_edits.specs.Leftovers.{Leftover1}
 use Rattle.luks1_edits.specs.Refused.{IsEditFault1, Need1}
-use Rattle.luks2_edits.specs.Edited.{After2, HasRanges, IsSealedIn as IsSealedIn2, NamedKeyslots2}
-use Rattle.luks2_edits.specs.Leftovers.{Leftover2}
-use Rattle.luks2_edits.specs.Refused.{HasSaid, IsEditFault2, Need2}
+use Rattle.luks2_edit_laws.specs.Edited.{After2, HasRanges, IsSealedIn as IsSealedIn2, NamedKeyslots2}
+use Rattle.luks2_edit_laws.specs.Leftovers.{Leftover2}
+use Rattle.luks2_edit_laws.specs.Refused.{HasSaid, IsEditFault2, Need2}
 
 -- ---- by what counts of the volume
 

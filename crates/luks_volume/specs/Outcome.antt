@@ -20,9 +20,9 @@ use Rattle.luks1_edits.specs.Edited.{NamedKeyslots1}
 use Rattle.luks1_edits.specs.Kept.{KeepsOthers}
 use Rattle.luks1_edits.specs.Leftovers.{OpensEither1}
 use Rattle.luks1_edits.specs.Places.{IsOfKeyslots}
-use Rattle.luks2_edits.specs.Edited.{NamedKeyslots2}
-use Rattle.luks2_edits.specs.Leftovers.{CountsAsAfter, CountsAsBefore, IsNotStray, OpensEither2}
-use Rattle.luks2_edits.specs.Places.{IsTouchedIn, Loses}
+use Rattle.luks2_edit_laws.specs.Edited.{NamedKeyslots2}
+use Rattle.luks2_edit_laws.specs.Leftovers.{CountsAsAfter, CountsAsBefore, IsNotStray, OpensEither2}
+use Rattle.luks2_edit_laws.specs.Places.{IsTouchedIn, Loses}
 use Rattle.luks_volume.specs.Edits.{IsEditFault, Makes, NamedSlots, Replies}
 
 -- the keyslot that the edit of `v` made, or sealed again, opens in `w` by the new passphrase to the

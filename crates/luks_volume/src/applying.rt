@@ -3,7 +3,7 @@ ghost use Rattle.std.specs.Prelude.{◌≡◌, ◌≢◌, ◌+◌, ◌^◌, ◌<
 ghost use Rattle.luks_area.specs.Device.{CountsFailure, IsSettled};
 ghost use Rattle.luks_edit.specs.EditFaults.{is_edit_failure};
 ghost use Rattle.luks_reading.specs.Header.{IsAcceptedHeader, IsHeader, TakesNoMemory};
-ghost use Rattle.luks2_edits.specs.Edited.{HasRangedIterations};
+ghost use Rattle.luks2_edit_laws.specs.Edited.{HasRangedIterations};
 ghost use Rattle.luks_volume.specs.Outcome.{IsApplied};
 
 use crate::header::edited_header;

@@ -3,7 +3,7 @@ use Rattle.std.proofs.lemmas.Result.{err_from_is_err_and}
 use Rattle.luks_edit.specs.declared.edit.Edit.TheVariants.{Repair}
 use Rattle.luks_meta.specs.Content.{area_len, content}
 use Rattle.luks_edit.specs.RowFacts.{passed_from}
-use Rattle.luks2_edits.specs.Refused.{IsEditFault2}
+use Rattle.luks2_edit_laws.specs.Refused.{IsEditFault2}
 use Rattle.luks2_judging.proofs.DeedFacts.{edit_is}
 use Rattle.luks2_editing.specs.Prepared.{AreCopiesWithin}
 use Rattle.luks2_editing.proofs.RenewalFacts.{copies_touched, copy_within, prepared_unrefused, renewing, unwritten_ends, written_after}

@@ -3,9 +3,9 @@ use Rattle.std.proofs.lemmas.Bool.{false≢true}
 use Rattle.std.proofs.lemmas.Result.{err_from_is_err_and}
 use Rattle.luks_making.specs.Conditions.{IsThere}
 use Rattle.luks_meta.specs.Content.{area_len, content}
-use Rattle.luks2_edits.specs.Edited.{keyslot_salt, members_of}
-use Rattle.luks2_edits.specs.Metadata.{IsInUse}
-use Rattle.luks2_edits.specs.Refused.{NeedsLike}
+use Rattle.luks2_edit_laws.specs.Edited.{keyslot_salt, members_of}
+use Rattle.luks2_edit_laws.specs.Metadata.{IsInUse}
+use Rattle.luks2_edit_laws.specs.Refused.{NeedsLike}
 use Rattle.luks2_editing.specs.MadeMetadata.{like_of, IsMadeBy}
 use Rattle.luks2_editing.specs.Prepared.{AreCopiesWithin, IsPrepared, IsUnprepared}
 use Rattle.luks2_editing.proofs.MadeMetadataFacts.{enough_random, placed_suits, placed_used}

@@ -2,7 +2,7 @@ use Rattle.std.proofs.Common.{List, ℕ, refl, sym, subst}
 use Rattle.std.proofs.lemmas.Result.{IfErr-weaker}
 use Rattle.luks_area.specs.Ranges.{IsOfEither, SameBut}
 use Rattle.luks_meta.specs.Content.{area_len, content}
-use Rattle.luks2_edits.specs.Places.{IsOfCopies}
+use Rattle.luks2_edit_laws.specs.Places.{IsOfCopies}
 use Rattle.luks2_editing.specs.Rewriting.{IsRewriting}
 use Rattle.luks2_editing.specs.Sealed.{IsOfStripes}
 use Rattle.luks2_editing.proofs.RewritingFacts.{rewriting_of}

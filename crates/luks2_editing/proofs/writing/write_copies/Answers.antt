@@ -1,7 +1,7 @@
 use Rattle.std.proofs.Common.{ℕ, List, subst, sym}
 use Rattle.luks_area.specs.Ranges.{IsAt, SameBut}
 use Rattle.luks_area.specs.RangeFacts.{same_but-then, same_but-wider}
-use Rattle.luks2_edits.specs.Copies.{copy_salt, other_place}
+use Rattle.luks2_edit_laws.specs.Copies.{copy_salt, other_place}
 use Rattle.luks2_editing.specs.NewCopy.{HasNewCopy, IsCopyPlace}
 use Rattle.luks2_editing.proofs.RewritingFacts.{all_done, half_begun, half_done, of_chosen, of_other, other_inside, other_is_place, own_is_place}
 use Rattle.luks2_editing.proofs.writing.write_copies.Goals as goal

@@ -3,7 +3,7 @@ use Rattle.std.proofs.lemmas.Result.{err_from_is_err_and}
 use Rattle.luks_meta.specs.Content.{content}
 use Rattle.luks_edit.proofs.AllowedMemory.{short_where_allowed}
 use Rattle.luks_meta.specs.declared.meta.Meta.{Meta}
-use Rattle.luks2_edits.specs.Metadata.{IsInUse, IsKeyArea}
+use Rattle.luks2_edit_laws.specs.Metadata.{IsInUse, IsKeyArea}
 use Rattle.luks2_judging.proofs.DeedFacts.{edit_is}
 use Rattle.luks2_judging.proofs.KeyslotFacts.{removed_opens, removed_short, removed_used}
 use Rattle.luks2_judging.proofs.ReadFacts.{last_refused, read_as, removed_passed, unopened_refused}

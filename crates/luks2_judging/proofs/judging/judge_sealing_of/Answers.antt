@@ -5,7 +5,7 @@ use Rattle.luks_edit.specs.declared.deed.Place.TheVariants.{New, Opened}
 use Rattle.luks_edit.specs.declared.edit.Edit.TheVariants.{Add, Change}
 use Rattle.luks_edit.proofs.AllowedMemory.{short_where_allowed}
 use Rattle.luks_meta.specs.declared.meta.Meta.{Meta}
-use Rattle.luks2_edits.specs.Metadata.{IsInUse, IsKeyArea}
+use Rattle.luks2_edit_laws.specs.Metadata.{IsInUse, IsKeyArea}
 use Rattle.luks_reading.specs.declared.header.Header.{Header}
 use Rattle.luks_reading.specs.Plans.{HasKeyBytes, HasLuks2KeyBytes}
 use Rattle.luks2_judging.specs.Judged.{IsNewNumber}

@@ -6,7 +6,7 @@ use Rattle.luks_reading.specs.Header.{IsChosenCopy}
 use Rattle.luks_reading.specs.Listing.{Lists}
 use Rattle.luks_reading.specs.Reported.{HeaderArea}
 use Rattle.luks_reading.proofs.VolumeLaws.{well_formed_faultless}
-use Rattle.luks2_edits.specs.Refused.{Refusal2}
+use Rattle.luks2_edit_laws.specs.Refused.{Refusal2}
 use Rattle.luks2_judging.proofs.ChosenFacts.{copy_in, metadata_of}
 use Rattle.luks2_judging.proofs.JudgedFacts.{absent_first, before_of, past_absent, past_check, past_required, past_same, required_first, same_first, unaccepted_first}
 use Rattle.luks2_judging.proofs.judging.judge_without_key.Goals as goal

@@ -3,7 +3,7 @@ use Rattle.std.specs.Prelude.{⊤}
 use Rattle.std.proofs.lemmas.Result.{err_from_is_err_and}
 use Rattle.luks_area.specs.Area.{IsInside}
 use Rattle.luks_edit.specs.Endings.{refused_ends, refusing}
-use Rattle.luks2_edits.specs.Refused.{Refusal2}
+use Rattle.luks2_edit_laws.specs.Refused.{Refusal2}
 use Rattle.luks2_judging.specs.Opened.{TakesMemoryToOpen}
 use Rattle.luks2_judging.proofs.TakenFacts.{taken, unrefused}
 use Rattle.luks2_judging.proofs.judging.taken_by.Goals as goal

@@ -1,4 +1,4 @@
-use Rattle.luks2_edits.proofs.ToldFacts.{in_between, need_once, same_stripes}
+use Rattle.luks2_edit_laws.proofs.ToldFacts.{in_between, need_once, same_stripes}
 use Rattle.luks2_judging.proofs.laws.told_once.Goals as goal
 
 pub returns-clause-range : goal.returns-clause-range

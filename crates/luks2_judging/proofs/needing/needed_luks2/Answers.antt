@@ -5,7 +5,7 @@ use Rattle.luks_meta.specs.Content.{content}
 use Rattle.luks_edit.specs.declared.edit.Edit.TheVariants.{Add, Change}
 use Rattle.luks_edit.specs.Asked.{sealed_in}
 use Rattle.luks_edit.specs.EditFaults.{edit_key}
-use Rattle.luks2_edits.specs.Refused.{IsAbsent}
+use Rattle.luks2_edit_laws.specs.Refused.{IsAbsent}
 use Rattle.luks2_judging.specs.Needed.{IsNeedFault2}
 use Rattle.luks2_judging.proofs.DeedFacts.{added_is, changed_is}
 use Rattle.luks2_judging.proofs.KeyslotFacts.{used_of}

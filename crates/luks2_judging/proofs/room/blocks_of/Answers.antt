@@ -1,7 +1,7 @@
 use Rattle.std.proofs.Common.{◌≡◌, ◌*◌, ◌≤◌, subst, sym}
 use Rattle.luks_meta.specs.Content.{content}
-use Rattle.luks2_edits.specs.Metadata.{HasStripes}
-use Rattle.luks2_edits.specs.Places.{rounded_to_blocks}
+use Rattle.luks2_edit_laws.specs.Metadata.{HasStripes}
+use Rattle.luks2_edit_laws.specs.Places.{rounded_to_blocks}
 use Rattle.luks2_judging.proofs.StripeFacts.{keyslot_stripes, some_blocks}
 use Rattle.luks2_judging.proofs.room.blocks_of.Goals as goal
 

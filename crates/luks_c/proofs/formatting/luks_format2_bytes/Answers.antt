@@ -1,6 +1,6 @@
 use Rattle.std.proofs.Common.{refl, subst}
 use Rattle.luks_reading.specs.declared.report.Data.{Data}
-use Rattle.luks_terms.specs.declared.format.Format.{Format}
+use Rattle.luks_reading.specs.declared.format.Format.{Format}
 use Rattle.luks_c.specs.FormatAnswers.{AnswersFormat2}
 use Rattle.luks_c.proofs.formatting.luks_format2_bytes.Goals as goal
 

@@ -84,11 +84,11 @@ returns-in_default-clause-answers g c =
     let d : Pair = pair_of g.D.Device.size g.D.Device.bytes g.D.Device.failed c.args.volume.now c.rebuild.new.source c.args.target.now c.rebuild.new.target in
     inl (
       subst (IsLuks2Answer g.D.Device.tells (which_of c.args.making.now.rebuilding) (given_of c.args.making.now.rebuilding) c.args.random.now d) (sym c.refused.ensures)
-      (subst (λ (w : Which). IsLuks2Answer g.D.Device.tells w (given_of c.args.making.now.rebuilding) c.args.random.now d (rebuild_fault_answer c.in-Err.fault)) c.which_of-which.ensures
-      (answers_fault g.D.Device.tells c.which_of-which.result (given_of c.args.making.now.rebuilding) c.args.random.now d c.in-Err.fault c.in-Err.ensures.count
-      (λ is. (c.in-Err.ensures.refused is).same) c.in-Err.ensures.fault)),
+          (subst (λ (w : Which). IsLuks2Answer g.D.Device.tells w (given_of c.args.making.now.rebuilding) c.args.random.now d (rebuild_fault_answer c.in-Err.fault)) c.which_of-which.ensures
+          (answers_fault g.D.Device.tells c.which_of-which.result (given_of c.args.making.now.rebuilding) c.args.random.now d c.in-Err.fault c.in-Err.ensures.count
+          (λ is. (c.in-Err.ensures.refused is).same) c.in-Err.ensures.fault)),
       λ told. subst (StaysLuks2 (g.D.Device.bytes c.args.volume.now)) (sym c.refused.ensures)
-      (other_stays (g.D.Device.bytes c.args.volume.now) c.in-Err.fault c.in_default.not-NoMetadata c.in_default.not-Counts),
+          (other_stays (g.D.Device.bytes c.args.volume.now) c.in-Err.fault c.in_default.not-NoMetadata c.in_default.not-Counts),
     )
 
 pub returns-in_default-clause-settled : goal.returns-in_default-clause-settled

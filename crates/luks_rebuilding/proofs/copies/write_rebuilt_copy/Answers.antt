@@ -1,5 +1,5 @@
 use Rattle.std.proofs.Common.{ℕ, List, OnOk, subst}
-use Rattle.luks2_copy.specs.Copy.{HasCopy, IsCopyHeader}
+use Rattle.luks_writing.specs.Copy.{HasCopy, IsCopyHeader}
 use Rattle.luks_rebuilding.proofs.CopyFacts.{of_copy, rebuilt_copy}
 use Rattle.luks_rebuilding.specs.Found.{source_of}
 use Rattle.luks_rebuilding.proofs.copies.write_rebuilt_copy.Goals as goal

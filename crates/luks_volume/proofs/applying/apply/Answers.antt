@@ -1,6 +1,6 @@
 -- A header that isn't read refuses the edit; what is left by one that is read is left of the volume.
 use Rattle.std.proofs.lemmas.Result.{err_from_is_err_and}
-use Rattle.luks2_edits.proofs.AfterFacts.{has_ranges}
+use Rattle.luks2_edit_laws.proofs.AfterFacts.{has_ranges}
 use Rattle.luks_volume.proofs.NeedFacts.{unread_without_memory}
 use Rattle.luks_volume.proofs.OutcomeFacts.{applied_by}
 use Rattle.luks_volume.proofs.ReplyFacts.{unread_replies}

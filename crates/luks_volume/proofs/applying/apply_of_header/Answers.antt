@@ -1,5 +1,5 @@
 -- What its version replies is the volume's reply.
-use Rattle.luks2_edits.proofs.AfterFacts.{has_ranges}
+use Rattle.luks2_edit_laws.proofs.AfterFacts.{has_ranges}
 use Rattle.luks_volume.proofs.OutcomeFacts.{applied_by}
 use Rattle.luks_volume.proofs.ReplyFacts.{replies_by1, replies_by2}
 use Rattle.luks_volume.proofs.VersionFacts.{needs_of, takes_none}

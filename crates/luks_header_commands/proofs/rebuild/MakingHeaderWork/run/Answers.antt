@@ -9,7 +9,7 @@ returns-clause-rest g c = λ told. inr (record {
   given = c.given_of-given.result;
   is = c.given_of-given.ensures;
   keeps = subst (λ (m : Meant). KeepsMeant m c.args.self.now.rebuilding c.given_of-given.result (g.D.Device.bytes c.args.volume.now) (g.D.Device.bytes c.args.target.now) (g.D.Device.bytes c.make_meant.new.target))
-  c.meant-meant.ensures (c.make_meant.ensures.rest told);
+      c.meant-meant.ensures (c.make_meant.ensures.rest told);
 })
 
 pub returns-clause-answers : goal.returns-clause-answers
@@ -17,5 +17,5 @@ returns-clause-answers g c = record {
   given = c.given_of-given.result;
   is = c.given_of-given.ensures;
   says = subst (λ (m : Meant). IsAnswerOf m g.D.Device.tells c.args.self.now.rebuilding c.given_of-given.result c.args.random.now (pair_of g.D.Device.size g.D.Device.bytes g.D.Device.failed c.args.volume.now c.make_meant.new.volume c.args.target.now c.make_meant.new.target) c.make_meant.result)
-  c.meant-meant.ensures c.make_meant.ensures.answers;
+      c.meant-meant.ensures c.make_meant.ensures.answers;
 }

@@ -1,0 +1,125 @@
+-- A keyslot that says of its opening what another one says, by a digest of the same hash: its plan is
+-- refused where the other is.
+use Rattle.std.proofs.Common.{◌≡◌, ◌≤◌, ◌*◌, ◌-◌, ◌^◌, false, List, ℕ, length, codes, Some, None, is_some, refl, sym, ap, subst, ◌∙◌, arith}
+use Rattle.std.specs.Prelude.{◌||◌, nat_lt}
+use Rattle.std.proofs.lemmas.Bool.Decides.{nat_tests}
+use Rattle.serde_json.specs.Data.{Data as Value}
+use Rattle.luks_kdf.specs.Names.{hash_named}
+use Rattle.luks_rules.specs.declared.table.Member.TheVariants as name
+use Rattle.luks_rules.specs.declared.table.Outer.TheVariants as outer
+use Rattle.luks_rules.specs.Faults.{member_at, type_at}
+use Rattle.luks_rules.specs.Reading.{bytes_in, number_in, text_of}
+use Rattle.luks_making.specs.declared.new_keyslot.Argon2Costs.{Argon2Costs}
+use Rattle.luks_making.specs.Keyslots.{by_argon2i, by_argon2id, by_pbkdf2, Deriving, HasCosts, IsDerivedLike, NewMembers}
+use Rattle.luks_making.specs.Unchanged.{SaysArgon2, SaysDerivation, SaysNew}
+use Rattle.luks_slot.specs.declared.plan.Argon2Kind.{Argon2Kind}
+use Rattle.luks_slot.specs.declared.plan.Argon2Kind.TheVariants.{I, Id}
+use Rattle.luks_slot.specs.declared.plan.AreaCipher.{AreaCipher}
+use Rattle.luks_slot.specs.declared.plan.AreaCipher.TheVariants.{Apart, Whole}
+use Rattle.luks_slot.specs.declared.plan.Derivation.{Derivation}
+use Rattle.luks_slot.specs.declared.plan.Derivation.TheVariants.{Pbkdf2, Argon2}
+use Rattle.luks_slot.specs.declared.plan.SlotPlan.{SlotPlan}
+use Rattle.luks_slot.specs.Refusal.{is_argon2_refused, is_known_derivation, is_open_cipher, slot_refusal_within}
+use Rattle.luks_reading.specs.Plans.{kind_text, IsLuks2Cipher, IsLuks2Derivation, IsLuks2Plan}
+use Rattle.luks2_edit_laws.proofs.MetadataFacts.{some_same}
+use Rattle.luks2_edit_laws.proofs.SealFacts.{allowed_derivation}
+
+-- one derivation is refused where another is: both are PBKDF2 with one hash, or Argon2 with one memory
+-- and as many lanes, the new one by a salt that is long enough
+abbrev pub IsDerivedAlike : Derivation → Derivation → Type 0
+IsDerivedAlike (Pbkdf2 h i s) (Pbkdf2 g k t) = h.now ≡ g.now
+IsDerivedAlike (Pbkdf2 h i s) (Argon2 d) = ⊥
+IsDerivedAlike (Argon2 c) (Pbkdf2 g k t) = ⊥
+IsDerivedAlike (Argon2 c) (Argon2 d) = (c.memory ≡ d.memory) × (c.cpus ≡ d.cpus) × (8 ≤ length d.salt.now)
+
+-- the keyslot `new` says of its opening what the keyslot `old` says
+pub record SaysLike (old new : Value) : Type 0 where
+  pub derived : (a b : Derivation) → IsLuks2Derivation old a → IsLuks2Derivation new b → IsDerivedAlike a b
+  pub encryption : text_of (member_at new outer.Area name.Encryption) ≡ text_of (member_at old outer.Area name.Encryption)
+  pub area_key : number_in 1 128 (member_at new outer.Area name.KeySize) ≡ number_in 1 128 (member_at old outer.Area name.KeySize)
+  pub splitter : text_of (member_at new outer.Af name.Hash) ≡ text_of (member_at old outer.Af name.Hash)
+
+-- of a type by Argon2, and by PBKDF2
+other_kinds : (k : Argon2Kind) → Some (kind_text k) ≡ Some (codes "pbkdf2") → ⊥
+other_kinds I same = cc
+other_kinds Id same = cc
+
+-- a keyslot that was made with the derivation of another
+module _ (d f : Value) (salt : List ℕ) (said : bytes_in 1 128 (member_at f outer.Kdf name.Salt) ≡ Some salt) (long : 8 ≤ length salt) where
+  costs_alike : (k : List ℕ) (costs : Argon2Costs) (a b : Derivation) → type_at d outer.Kdf ≡ Some k → (Some k ≡ Some (codes "pbkdf2") → ⊥) → HasCosts d costs → SaysArgon2 k costs f
+      → IsLuks2Derivation d a → IsLuks2Derivation f b → IsDerivedAlike a b
+  costs_alike k costs (Pbkdf2 h i s) b kind other has says x y = absurd (other (sym kind ∙ x.0))
+  costs_alike k costs (Argon2 c) (Pbkdf2 g l t) kind other has says x y = absurd (other (sym says.kind ∙ y.0))
+  costs_alike k costs (Argon2 c) (Argon2 e) kind other has says x y = (
+    some_same c.memory e.memory (sym x.2 ∙ has.memory ∙ sym says.memory ∙ y.2),
+    some_same c.cpus e.cpus (sym x.3 ∙ has.cpus ∙ sym says.cpus ∙ y.3),
+    subst (λ s. 8 ≤ length s) (some_same salt e.salt.now (sym said ∙ y.4)) long,
+  )
+
+  pub made_derived : (n : ℕ) (k : Deriving) (a b : Derivation) → IsDerivedLike d n k → SaysDerivation k f → IsLuks2Derivation d a → IsLuks2Derivation f b → IsDerivedAlike a b
+  made_derived n (by_pbkdf2 hash iterations) (Pbkdf2 h i s) (Pbkdf2 g l t) like says x y = some_same h.now g.now (sym x.1 ∙ like.1 ∙ sym says.hash ∙ y.1)
+  made_derived n (by_pbkdf2 hash iterations) (Pbkdf2 h i s) (Argon2 e) like says x y = absurd (other_kinds e.kind (sym y.0 ∙ says.kind))
+  made_derived n (by_pbkdf2 hash iterations) (Argon2 c) b like says x y = absurd (other_kinds c.kind (sym x.0 ∙ like.0))
+  made_derived n (by_argon2i costs) a b like says x y = costs_alike (codes "argon2i") costs a b like.0 (other_kinds I) like.1 says x y
+  made_derived n (by_argon2id costs) a b like says x y = costs_alike (codes "argon2id") costs a b like.0 (other_kinds Id) like.1 says x y
+
+-- a keyslot that was sealed again
+pub changed_derived : (f : NewMembers) (was now : Value) (a b : Derivation) → SaysNew f was now → 8 ≤ length f.salt → IsLuks2Derivation was a → IsLuks2Derivation now b → IsDerivedAlike a b
+changed_derived f was now (Pbkdf2 h i s) (Pbkdf2 g l t) says long x y = some_same h.now g.now (sym x.1 ∙ sym (ap text_of (says.kdf (codes "hash") refl)) ∙ y.1)
+changed_derived f was now (Pbkdf2 h i s) (Argon2 e) says long x y = absurd (other_kinds e.kind (sym y.0 ∙ ap text_of (says.kdf (codes "type") refl) ∙ x.0))
+changed_derived f was now (Argon2 c) (Pbkdf2 g l t) says long x y = absurd (other_kinds c.kind (sym x.0 ∙ sym (ap text_of (says.kdf (codes "type") refl)) ∙ y.0))
+changed_derived f was now (Argon2 c) (Argon2 e) says long x y = (
+  some_same c.memory e.memory (sym x.2 ∙ sym (ap (number_in 1 4294967295) (says.kdf (codes "memory") refl)) ∙ y.2),
+  some_same c.cpus e.cpus (sym x.3 ∙ sym (ap (number_in 1 4294967295) (says.kdf (codes "cpus") refl)) ∙ y.3),
+  subst (λ s. 8 ≤ length s) (some_same f.salt e.salt.now (sym says.salt ∙ y.4)) long,
+)
+
+-- limits that Argon2 keeps it keeps by another salt that is long enough
+same_limits : (memory m c salt n k new : ℕ) → m ≡ n → c ≡ k → 8 ≤ new
+    → (nat_lt memory m || nat_lt m (8 * c) || nat_lt c 1 || nat_lt (2 ^ 24 - 1) c || nat_lt salt 8) ≡ false
+    → (nat_lt memory n || nat_lt n (8 * k) || nat_lt k 1 || nat_lt (2 ^ 24 - 1) k || nat_lt new 8) ≡ false
+same_limits memory m c salt n k new one two long is = grind (arith, nat_tests)
+
+argon2_both : (memory : ℕ) (a b : Derivation) → IsDerivedAlike a b → is_argon2_refused memory a ≡ false → is_argon2_refused memory b ≡ false
+argon2_both memory (Pbkdf2 h i s) (Pbkdf2 g k t) alike off = refl
+argon2_both memory (Pbkdf2 h i s) (Argon2 d) alike off = absurd alike
+argon2_both memory (Argon2 c) (Pbkdf2 g k t) alike off = absurd alike
+argon2_both memory (Argon2 c) (Argon2 d) alike off = same_limits memory c.memory c.cpus (length c.salt.now) d.memory d.cpus (length d.salt.now) alike.0 alike.1 alike.2 off
+
+known_both : (a b : Derivation) → IsDerivedAlike a b → is_known_derivation a ≡ is_known_derivation b
+known_both (Pbkdf2 h i s) (Pbkdf2 g k t) alike = ap (λ name. is_some (hash_named name)) alike
+known_both (Pbkdf2 h i s) (Argon2 d) alike = absurd alike
+known_both (Argon2 c) (Pbkdf2 g k t) alike = absurd alike
+known_both (Argon2 c) (Argon2 d) alike = refl
+
+cipher_both : (d f : Value) (a b : AreaCipher) → text_of (member_at f outer.Area name.Encryption) ≡ text_of (member_at d outer.Area name.Encryption)
+    → IsLuks2Cipher d a → IsLuks2Cipher f b → is_open_cipher a ≡ is_open_cipher b
+cipher_both d f (Apart n m) b same x y = absurd x
+cipher_both d f (Whole t) (Apart n m) same x y = absurd y
+cipher_both d f (Whole t) (Whole u) same x y = let text : t.now ≡ u.now = some_same t.now u.now (sym x ∙ sym same ∙ y) in simp text
+
+-- what decides whether two plans are refused is the same
+record SameTerms (memory : ℕ) (a b : SlotPlan) : Type 0 where
+  argon2 : is_argon2_refused memory a.derivation ≡ is_argon2_refused memory b.derivation
+  known : is_known_derivation a.derivation ≡ is_known_derivation b.derivation
+  cipher : is_open_cipher a.cipher ≡ is_open_cipher b.cipher
+  area_key_bytes : a.area_key_bytes ≡ b.area_key_bytes
+  splitter_hash : a.splitter_hash.now ≡ b.splitter_hash.now
+  digest_hash : a.digest.hash.now ≡ b.digest.hash.now
+
+same_refusal : (memory : ℕ) (a b : SlotPlan) → SameTerms memory a b → slot_refusal_within memory a ≡ slot_refusal_within memory b
+same_refusal memory a b s = simp (s.argon2, s.known, s.cipher, s.area_key_bytes, s.splitter_hash, s.digest_hash)
+
+pub alike_refusal : {j k d f : Value} {m n : ℕ} (memory : ℕ) (a b : SlotPlan) → SaysLike d f → slot_refusal_within memory a ≡ None → IsLuks2Plan j m d a → IsLuks2Plan k n f b
+    → a.digest.hash.now ≡ b.digest.hash.now → slot_refusal_within memory a ≡ slot_refusal_within memory b
+alike_refusal {j} {k} {d} {f} {m} {n} memory a b like open_ x y hash =
+    let off : is_argon2_refused memory a.derivation ≡ false = allowed_derivation memory a open_ (is_argon2_refused memory a.derivation) refl in
+    let alike = like.derived a.derivation b.derivation x.derivation y.derivation in
+    same_refusal memory a b (record {
+      argon2 = off ∙ sym (argon2_both memory a.derivation b.derivation alike off);
+      known = known_both a.derivation b.derivation alike;
+      cipher = cipher_both d f a.cipher b.cipher like.encryption x.cipher y.cipher;
+      area_key_bytes = some_same a.area_key_bytes b.area_key_bytes (sym x.area_key_bytes ∙ sym like.area_key ∙ y.area_key_bytes);
+      splitter_hash = some_same a.splitter_hash.now b.splitter_hash.now (sym x.splitter_hash ∙ sym like.splitter ∙ y.splitter_hash);
+      digest_hash = hash;
+    })

@@ -1,0 +1,135 @@
+-- When an edit of a LUKS2 volume is refused, and how many random bytes it takes. The order of the
+-- faults is that of every edit.
+use Rattle.std.specs.Prelude.{◌≡◌, ◌≢◌, ℕ, ◌+◌, ◌-◌, ◌*◌, ◌^◌, ◌<◌, ◌≤◌, ◌⊎◌, List, length, true, Option, Some, None, IsSomeAnd, MatchOption}
+use Rattle.base64.specs.GeneralPurpose.{IsBytes}
+use Rattle.serde_json.specs.Data.{Data as Value}
+use Rattle.serde_json.specs.Written.{compact_text}
+use Rattle.luks_area.specs.First.{IsLeast}
+use Rattle.luks_area.specs.Text.{is_plain}
+use Rattle.luks_head.specs.Header2.{binary_header_size, hdr_size, header_at, seqid}
+use Rattle.luks_making.specs.Conditions.{IsFree}
+use Rattle.luks_making.specs.Naming.{IsDigestOf}
+use Rattle.luks_meta.specs.Requirements.{has_requirements}
+use Rattle.luks_reading.specs.declared.report.Data.{Data}
+use Rattle.luks_reading.specs.Checked.{IsFault}
+use Rattle.luks_edit.specs.declared.edit.Edit.{Edit}
+use Rattle.luks_edit.specs.declared.edit_fault.EditFault.{EditFault}
+use Rattle.luks_edit.specs.declared.edit_fault.EditFault.TheVariants as fault
+use Rattle.luks_edit.specs.Asked.{HasFewIterations, label_by, MatchPlace, NamesItself, removed_by, sealed_by, Wants}
+use Rattle.luks_edit.specs.EditFaults.{edit_key}
+use Rattle.luks_edit.specs.Opener.{IsLocked, IsShut}
+use Rattle.luks2_edit_laws.specs.Edited.{IsEdited}
+use Rattle.luks2_edit_laws.specs.Metadata.{HasMetadata, HasStripes, IsInUse}
+use Rattle.luks2_edit_laws.specs.Places.{HasNoNewArea}
+
+-- ---- the keyslots that the edit wants
+
+-- one of them isn't there
+pub record IsAbsent (j : Value) (e : Edit) : Type 0 where
+  pub slot : ℕ
+  pub wanted : Wants e slot
+  pub unused : IsInUse j slot → ⊥
+
+-- ---- the keyslot that the edit makes
+
+-- the number that is asked for is in use
+abbrev pub IsNumberTaken : Value → Option ℕ → Type 0
+IsNumberTaken j (Some t) = IsInUse j t
+IsNumberTaken j None = ⊥
+
+-- there is none of the number that is asked for, or none is free
+abbrev pub HasNoNumber : Value → Option ℕ → Type 0
+HasNoNumber j (Some t) = 31 < t
+HasNoNumber j None = (n : ℕ) → IsFree j n → ⊥
+
+abbrev pub IsTaken : Value → Edit → Type 0
+IsTaken j e = IsSomeAnd (sealed_by e) (λ s. MatchPlace s.place (IsNumberTaken j) ⊥)
+
+abbrev pub HasNoFree : Value → Edit → Type 0
+HasNoFree j e = IsSomeAnd (sealed_by e) (λ s. MatchPlace s.place (HasNoNumber j) ⊥)
+
+-- there is no gap for its area
+abbrev pub HasNoRoom : ℕ → ℕ → Data → Value → Edit → Type 0
+HasNoRoom h total payload j e = IsSomeAnd (sealed_by e) (λ s. HasNoNewArea h total payload j s.opener.slot)
+
+-- ---- the rest of the edit
+
+-- the digest that names the keyslot names no other one
+pub record IsOnlyOne (j : Value) (slot : ℕ) : Type 0 where
+  pub digest : ℕ
+  pub names : IsDigestOf j slot digest
+  pub only : (n : ℕ) → IsDigestOf j n digest → n ≡ slot
+
+-- no keyslot would be left that gives the key
+abbrev pub IsLast : Value → Edit → Type 0
+IsLast j e = IsSomeAnd (removed_by e) (λ r. IsOnlyOne j r.slot)
+
+-- the label has more than 47 bytes, or one outside 0x20 to 0x7E
+abbrev pub IsBadLabel : Edit → Type 0
+IsBadLabel e = IsSomeAnd (label_by e) (λ text. (47 < length text.now) ⊎ (is_plain text.now ≡ true → ⊥))
+
+-- the new metadata leaves no zero byte in the JSON area; with each salt of 32 bytes its text is as long
+pub record IsFull (h total : ℕ) (payload : Data) (j : Value) (e : Edit) : Type 0 where
+  pub salt : List ℕ
+  pub salt_bytes : IsBytes salt
+  pub salt_length : length salt ≡ 32
+  pub new : Value
+  pub edited : IsEdited h total payload e salt j new
+  pub full : h - binary_header_size ≤ length (compact_text new)
+
+-- ---- random bytes
+
+-- beside two salts of the copies a keyslot that is sealed like the keyslot `n` takes its own salt, and
+-- its stripes but the last
+pub record NeedsLike (j : Value) (n k : ℕ) : Type 0 where
+  pub key_bytes : ℕ
+  pub stripes : ℕ
+  pub slot : HasStripes j n key_bytes stripes
+  pub count : k ≡ 64 + 64 + 32 + (stripes - 1) * key_bytes
+
+-- the edit takes `k` random bytes
+abbrev pub Need2 : Value → Edit → ℕ → Type 0
+Need2 j e k = MatchOption (sealed_by e) (k ≡ 64 + 64) (λ s. NeedsLike j s.opener.slot k)
+
+-- the random bytes aren't as many as the edit takes
+pub record IsMiscounted (j : Value) (e : Edit) (random : List ℕ) : Type 0 where
+  pub need : ℕ
+  pub is : Need2 j e need
+  pub other : length random ≢ need
+
+-- ---- the faults
+
+-- the volume has metadata that counts, of which the fact holds: of the copy's place and the value
+pub record HasSaid (v : List ℕ) (says : ℕ → Value → Type 0) : Type 0 where
+  pub place : ℕ
+  pub value : Value
+  pub metadata : HasMetadata v place value
+  pub is : says place value
+
+-- the faults of an edit of the LUKS2 volume `v` with the random bytes
+abbrev pub IsEditFault2 : List ℕ → Data → Edit → List ℕ → EditFault → Type 0
+IsEditFault2 v payload e random (fault.NotAccepted f) = IsFault v payload f
+IsEditFault2 v payload e random fault.Requirements = HasSaid v (λ o j. has_requirements j ≡ true)
+IsEditFault2 v payload e random fault.NoSuchSlot = HasSaid v (λ o j. IsAbsent j e)
+IsEditFault2 v payload e random fault.SameSlot = NamesItself e
+IsEditFault2 v payload e random fault.Locked = IsLocked v e
+IsEditFault2 v payload e random (fault.Slot f) = IsShut v e f
+IsEditFault2 v payload e random fault.SlotTaken = HasSaid v (λ o j. IsTaken j e)
+IsEditFault2 v payload e random fault.NoFreeSlot = HasSaid v (λ o j. HasNoFree j e)
+IsEditFault2 v payload e random fault.NoRoom = HasSaid v (λ o j. HasNoRoom (hdr_size (header_at v o)) (length v) payload j e)
+IsEditFault2 v payload e random fault.LastSlot = HasSaid v (λ o j. IsLast j e)
+IsEditFault2 v payload e random fault.Iterations = HasFewIterations e
+IsEditFault2 v payload e random fault.BadLabel = IsBadLabel e
+IsEditFault2 v payload e random fault.SeqExhausted = HasSaid v (λ o j. seqid (header_at v o) + 1 ≡ 2 ^ 64)
+IsEditFault2 v payload e random fault.MetadataFull = HasSaid v (λ o j. IsFull (hdr_size (header_at v o)) (length v) payload j e)
+IsEditFault2 v payload e random fault.RandomLength = HasSaid v (λ o j. IsMiscounted j e random)
+IsEditFault2 v payload e random fault.Memory = ⊥
+IsEditFault2 v payload e random fault.Device = ⊥
+
+-- the refusal: the first of them
+abbrev pub Refusal2 : List ℕ → Data → Edit → List ℕ → EditFault → Type 0
+Refusal2 v payload e random f = IsLeast edit_key (IsEditFault2 v payload e random) f
+
+-- nothing refuses the edit
+pub record IsUnrefused2 (v : List ℕ) (payload : Data) (e : Edit) (random : List ℕ) : Type 0 where
+  pub none : (f : EditFault) → IsEditFault2 v payload e random f → ⊥

@@ -1,0 +1,83 @@
+//! Laws on the definitions of this crate. Each function does nothing; its contract is the law.
+
+ghost use Rattle.std.specs.Prelude.{◌≡◌, ◌↔◌, ◌⊎◌, ℕ, List, replicate};
+ghost use Rattle.luks_area.specs.declared.area.Area.{Area as TheArea};
+ghost use Rattle.luks_area.specs.declared.area.AreaName.TheVariants.{Slot};
+ghost use Rattle.luks_area.specs.Ranges.{part, SameBut};
+ghost use Rattle.luks_head.specs.Selection.{luks2, Chosen};
+ghost use Rattle.luks_reading.specs.Answer.{AnswerWithin, Opened};
+ghost use Rattle.luks_reading.specs.Checked.{AreaOf, WellFormed};
+ghost use Rattle.luks_reading.specs.declared.report.Data.{Data as Payload};
+ghost use Rattle.luks_edit.specs.declared.edit.Edit.{Edit as TheEdit};
+ghost use Rattle.luks_edit.specs.Kept.{Keeps};
+ghost use Rattle.luks2_edit_laws.specs.Edited.{After2, HasRanges, NamedKeyslots2, OpensAfter2};
+ghost use Rattle.luks2_edit_laws.specs.Kept.{HasSameKeyslot};
+ghost use Rattle.luks2_edit_laws.specs.Leftovers.{CountsAsAfter, CountsAsBefore, IsNotStray, Leftover2, OpensEither2};
+ghost use Rattle.luks2_edit_laws.specs.Places.{IsTouchedIn, Loses};
+ghost use Rattle.luks2_edit_laws.specs.Refused.{IsEditFault2, IsUnrefused2, Refusal2};
+ghost use Rattle.luks_edit.specs.EditFaults.{edit_key};
+ghost use Rattle.luks_edit.specs.declared.edit_fault.EditFault.{EditFault as TheFault};
+
+use luks_head::Copies;
+
+/// A keyslot that a change of a LUKS2 volume leaves as it was has the same answer for every
+/// passphrase and every memory that is allowed: the same key, none, or the same refusals.
+pub fn alike_slots_answer_alike()
+    ensures { (v w : List ℕ) (m : ℕ) → HasSameKeyslot v w m
+        → (memory : ℕ) (p : List ℕ) (a : Opened)
+        → AnswerWithin memory v m p a ↔ AnswerWithin memory w m p a }
+{}
+
+/// After an edit of a well formed LUKS2 volume that nothing refused, the volume is well formed, and
+/// its copies are in step; the segments are as before, and so are the area, the value and the
+/// answers of each keyslot that the edit didn't name. The area that a keyslot loses is zeros.
+pub fn luks2_edit_keeps_volume()
+    ensures keeps { (payload : Payload) (e : TheEdit) (v random w : List ℕ) → WellFormed v payload
+        → HasRanges v e random → IsUnrefused2 v payload e random → After2 v payload e random w
+        → Keeps payload (NamedKeyslots2 v e) v w }
+    ensures chosen { (payload : Payload) (e : TheEdit) (v random w : List ℕ) → WellFormed v payload
+        → HasRanges v e random → IsUnrefused2 v payload e random → After2 v payload e random w
+        → Chosen w (luks2 0 Copies.InStep) }
+    ensures lost { (payload : Payload) (e : TheEdit) (v random w : List ℕ) (n : ℕ) (a : TheArea)
+        → WellFormed v payload → After2 v payload e random w → Loses e n
+        → AreaOf v payload (Slot n) a → part w a.start a.len ≡ replicate a.len 0 }
+{}
+
+/// After an edit of a well formed LUKS2 volume that nothing refused, a keyslot that it made or sealed
+/// again opens by its new passphrase to the key that the old one opened.
+pub fn luks2_edit_opens()
+    ensures { (payload : Payload) (e : TheEdit) (v random w : List ℕ) → WellFormed v payload
+        → HasRanges v e random → IsUnrefused2 v payload e random → After2 v payload e random w
+        → OpensAfter2 v e w }
+{}
+
+/// What a failing device call leaves of a well formed LUKS2 volume is well formed, unless bytes of
+/// the torn write are taken for a header; the segments are as before, and so is each keyslot that
+/// the edit doesn't name; and what counts is the copy that counted before, or one that the edit
+/// writes: its metadata, its uuid, its label and its subsystem. A keyslot that was to be sealed again
+/// opens by the old passphrase or by the new one, to the same key.
+///
+/// Whatever it leaves of any LUKS2 volume, no byte changed beside the copies, the keyslot's sectors
+/// that the edit seals and the area that a keyslot loses by it; and none where a fault refuses the
+/// edit.
+pub fn luks2_failing_edit()
+    ensures rest { (payload : Payload) (e : TheEdit) (v random w : List ℕ)
+        → Leftover2 v payload e random w → SameBut (IsTouchedIn v payload e) v w }
+    ensures refused { (payload : Payload) (e : TheEdit) (v random w : List ℕ) (f : TheFault)
+        → IsEditFault2 v payload e random f → Leftover2 v payload e random w → w ≡ v }
+    ensures keeps { (payload : Payload) (e : TheEdit) (v random w : List ℕ) → WellFormed v payload
+        → HasRanges v e random → Leftover2 v payload e random w → IsNotStray v payload e random w
+        → Keeps payload (NamedKeyslots2 v e) v w }
+    ensures whole { (payload : Payload) (e : TheEdit) (v random w : List ℕ) → WellFormed v payload
+        → HasRanges v e random → Leftover2 v payload e random w → IsNotStray v payload e random w
+        → CountsAsBefore v w ⊎ CountsAsAfter v payload e random w }
+    ensures opens { (payload : Payload) (e : TheEdit) (v random w : List ℕ) → WellFormed v payload
+        → HasRanges v e random → Leftover2 v payload e random w → IsNotStray v payload e random w
+        → OpensEither2 v e w }
+{}
+
+/// An edit has one refusal at most.
+pub fn luks2_edit_refused_once()
+    ensures { (v : List ℕ) (payload : Payload) (e : TheEdit) (random : List ℕ) (f g : TheFault)
+        → Refusal2 v payload e random f → Refusal2 v payload e random g → edit_key f ≡ edit_key g }
+{}

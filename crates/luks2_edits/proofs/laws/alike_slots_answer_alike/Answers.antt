@@ -1,6 +1,0 @@
-use Rattle.luks_head.proofs.ChoiceFacts.{choices_agree}
-use Rattle.luks2_edits.proofs.KeptAnswers.{answers_kept}
-use Rattle.luks2_edits.proofs.laws.alike_slots_answer_alike.Goals as goal
-
-pub returns : goal.returns
-returns c = answers_kept choices_agree

@@ -1,5 +1,0 @@
-use Rattle.luks2_edits.proofs.OpensFacts.{opens_after}
-use Rattle.luks2_edits.proofs.laws.luks2_edit_opens.Goals as goal
-
-pub returns : goal.returns
-returns c = λ payload e v random w well. opens_after v payload random w well e

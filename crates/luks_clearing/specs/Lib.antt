@@ -1,3 +1,0 @@
-pub mod Cleared
-pub mod Order
-pub mod OrderFacts

@@ -1,2 +1,0 @@
-pub mod TwoDevices
-pub mod CountFacts

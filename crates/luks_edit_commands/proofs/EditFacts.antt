@@ -1,0 +1,363 @@
+-- What an edit leaves of a volume, by how the command ended.
+use Rattle.std.proofs.Common.{◌≡◌, ◌≢◌, ℕ, List, Bool, Option, Some, None, IfSome, Result, Ok, Err, option_map, refl, sym, ap, ◌∙◌, ◌+◌, subst, inl, inr, arith}
+use Rattle.luks_area.specs.Device.{CountsFailure}
+use Rattle.luks_area.specs.First.{IsLeast}
+use Rattle.luks_area.specs.declared.area.AreaName.{AreaName}
+use Rattle.luks_area.specs.declared.area.AreaName.TheVariants.{Slot, Segment}
+use Rattle.luks_reading.specs.declared.report.Data.{Data}
+use Rattle.luks_reading.specs.Checked.{WellFormed}
+use Rattle.luks_edit.specs.declared.edit.Done.{Done as Made}
+use Rattle.luks_edit.specs.declared.edit.Edit.{Edit}
+use Rattle.luks_edit.specs.declared.edit.Edit.TheVariants as edit
+use Rattle.luks_edit.specs.declared.edit_fault.EditFault.{EditFault}
+use Rattle.luks_edit.specs.declared.edit_fault.EditFault.TheVariants as fault
+use Rattle.luks_edit.specs.EditFaults.{edit_key, is_edit_failure}
+use Rattle.luks_edit.specs.Kept.{Keeps, KeepsArea, KeepsSlot}
+use Rattle.luks_edit.specs.Ran.{IsCompleted, IsFailure, Reply}
+use Rattle.luks_volume.specs.Edits.{NamedSlots, Refusal, Replies}
+use Rattle.luks_volume.specs.Needed.{IsNeedFault, NeedsRandom, TellsNeed}
+use Rattle.luks_volume.specs.Outcome.{Spares}
+use Rattle.luks_request.specs.declared.request.EditRequest.{EditRequest}
+use Rattle.luks_request.specs.declared.request.EditRequest.TheVariants.{Add, Change, Remove, Repair, Label}
+use Rattle.luks_request.specs.Named.{edit_new_of, edit_passphrase_of}
+use Rattle.luks_request.specs.declared.request.Editing.{Editing}
+use Rattle.luks_commands.specs.declared.answers.Answer.{Answer}
+use Rattle.luks_commands.specs.declared.answers.Status.{Status}
+use Rattle.luks_commands.specs.declared.answers.Status.TheVariants.{Done, Refused, Fault}
+use Rattle.luks_commands.specs.Answer.{answer_status, edit_fault_answer, IsWordless}
+use Rattle.luks_edit_commands.specs.declared.edit.seen.Unseen.{Unseen}
+use Rattle.luks_edit_commands.specs.declared.edit.seen.Unseen.TheVariants.{Untold, Used}
+use Rattle.luks_edit_commands.specs.OtherUses.{IsUnseen, unseen_answer}
+use Rattle.luks_edit_commands.specs.Editing.{Given, IsAsked, KeepsUnnamed, WhereFailed, IsRefused, IsReplied, SaysEdit, SparesEdit, SparesVolume, given_edit}
+use Rattle.luks_commands.specs.declared.inputs.InputFault.{InputFault}
+use Rattle.luks_commands.specs.Files.{LeavesVolume}
+use Rattle.luks_commands.proofs.EndFacts.{unread_is_fault}
+
+-- ---- what is kept
+
+-- what fewer names keep, more names keep
+pub keeps_fewer : (payload : Data) (named more : ℕ → Type 0) (v w : List ℕ) → ((n : ℕ) → named n → more n) → Keeps payload named v w → Keeps payload more v w
+keeps_fewer payload named more v w of x = record {
+  size = x.size;
+  well = x.well;
+  segments = x.segments;
+  slots = λ n not. x.slots n (λ is. not (of n is));
+}
+
+area_same : (payload : Data) (n : AreaName) (v : List ℕ) → KeepsArea payload n v v
+area_same payload n v = record { same = λ a. ((λ is. is), (λ is. is)); bytes = λ a is. refl }
+
+slot_same : (payload : Data) (n : ℕ) (v : List ℕ) → KeepsSlot payload n v v
+slot_same payload n v = record {
+  area = area_same payload (Slot n) v;
+  entry = λ b. ((λ is. is), (λ is. is));
+  value = λ d. ((λ is. is), (λ is. is));
+  answers = λ memory p a. ((λ is. is), (λ is. is));
+}
+
+-- a volume keeps itself
+kept_same : (payload : Data) (named : ℕ → Type 0) (v : List ℕ) → WellFormed v payload → Keeps payload named v v
+kept_same payload named v well = record {
+  size = refl;
+  well = well;
+  segments = λ n. area_same payload (Segment n) v;
+  slots = λ n not. slot_same payload n v;
+}
+
+-- where the count of failures didn't rise, the reply isn't the device's failure
+unfailed : (reply : Reply) (f f' : ℕ) → CountsFailure is_edit_failure reply f f' → f' ≡ f → IsFailure reply → ⊥
+unfailed (Ok made) f f' count same is = is
+unfailed (Err fault.Device) f f' count same is = let rises : f' ≡ f + 1 = count in omega (arith, rises, same)
+unfailed (Err g) f f' count same is = is
+
+-- an edit in which the device didn't fail keeps what it doesn't name
+pub kept_once : (payload : Data) (v w : List ℕ) (e : Edit) (reply : Reply) (f f' : ℕ) → CountsFailure is_edit_failure reply f f' → f' ≡ f
+    → ((IsFailure reply → ⊥) → Keeps payload (λ n. IsCompleted reply × NamedSlots v e n) v w) → Keeps payload (NamedSlots v e) v w
+kept_once payload v w e reply f f' count same keeps =
+    keeps_fewer payload (λ n. IsCompleted reply × NamedSlots v e n) (NamedSlots v e) v w (λ n is. is.1) (keeps (unfailed reply f f' count same))
+
+-- one in which it failed says so, and what it left is what it spares
+pub spared_once : (payload : Data) (v w : List ℕ) (e : Edit) (random : List ℕ) (reply : Reply) (f f' : ℕ) → CountsFailure is_edit_failure reply f f'
+    → (f' ≡ f → ⊥) → (IsFailure reply → Spares v payload e random w) → (reply ≡ Err fault.Device) × Spares v payload e random w
+spared_once payload v w e random (Ok made) f f' count apart spares = absurd (apart count)
+spared_once payload v w e random (Err fault.Device) f f' count apart spares = (refl, spares tt)
+spared_once payload v w e random (Err g) f f' count apart spares = absurd (apart count)
+
+-- ---- how the edit ended
+
+-- how the command ends by this fault
+abbrev pub ended_by : EditFault → Status
+ended_by f = answer_status (edit_fault_answer f)
+
+abbrev pub ended_in : EditFault → Reply
+ended_in f = Err f
+
+abbrev pub made_in : Made → Reply
+made_in made = Ok made
+
+-- an edit that was completed isn't one that the device failed in
+pub never_failed : (made : Made) → made_in made ≡ ended_in fault.Device → ⊥
+never_failed made is = cc
+
+no_refusal : Fault ≡ Refused → ⊥
+no_refusal is = cc
+
+-- a fault that the command is refused by leaves the volume as it was, and is the edit's refusal
+pub refused_by : (payload : Data) (v w : List ℕ) (e : Edit) (random : List ℕ) (f : EditFault) → Replies payload v e random (Err f) w
+    → ended_by f ≡ Refused → (w ≡ v) × Refusal v payload e random f
+refused_by payload v w e random fault.Memory is refused = absurd (no_refusal refused)
+refused_by payload v w e random fault.Device is refused = absurd (no_refusal refused)
+refused_by payload v w e random f is refused = (is.1, is.0)
+
+-- the same of what is told before a keyslot is opened
+refused_at_once : (payload : Data) (v : List ℕ) (e : Edit) (f : EditFault) → TellsNeed payload v e (Err f) → ended_by f ≡ Refused
+    → IsLeast edit_key (IsNeedFault v payload e) f
+refused_at_once payload v e fault.Memory is refused = absurd (no_refusal refused)
+refused_at_once payload v e fault.Device is refused = absurd (no_refusal refused)
+refused_at_once payload v e f is refused = is
+
+-- ---- what the command tells, by how it ended
+
+-- how a command ended isn't how it didn't
+not_so : (ended is other : Status) → ended ≡ is → is ≢ other → ended ≡ other → ⊥
+not_so ended is other told apart same = apart (sym told ∙ same)
+
+so : (ended is other : Status) → ended ≡ is → ended ≡ other → is ≡ other
+so ended is other told same = sym told ∙ same
+
+never_done : (f : EditFault) → ended_by f ≡ Done → ⊥
+never_done fault.Memory is = cc
+never_done fault.Device is = cc
+never_done f is = cc
+
+-- the edit was run
+pub run_replied : (payload : Data) (v w : List ℕ) (over : Bool) (e : Edit) (has_random : ℕ → List ℕ → Type 0) (u : List ℕ) → u ≡ v → (count : ℕ) (random : List ℕ)
+    → NeedsRandom v payload e count → has_random count random → (reply : Reply) → Replies payload u e random reply w
+    → IsReplied payload (given_edit over e has_random) v w reply
+run_replied payload v w over e has_random u unchanged count random needs taken reply is = record {
+  edit = e;
+  asked = refl;
+  count = count;
+  needs = needs;
+  random = random;
+  taken = taken;
+  replies = subst (λ x. Replies payload x e random reply w) unchanged is;
+}
+
+module _ (payload : Data) (v w : List ℕ) (ended : Status) where
+  -- a file couldn't be read
+  pub says_unread : (given : Given) → w ≡ v → ended ≡ Fault → SaysEdit payload given v w (ended ≡ Done) (ended ≡ Refused)
+  says_unread given same told = record {
+    done = λ is. absurd (not_so ended Fault Done told (λ e. cc) is);
+    refused = λ is. absurd (not_so ended Fault Refused told (λ e. cc) is);
+    rest = inl same;
+  }
+
+  module _ (over : Bool) (e : Edit) (has_random : ℕ → List ℕ → Type 0) where
+    -- how many random bytes it takes wasn't told
+    pub says_untold : (f : EditFault) → w ≡ v → TellsNeed payload v e (Err f) → ended ≡ ended_by f
+        → SaysEdit payload (given_edit over e has_random) v w (ended ≡ Done) (ended ≡ Refused)
+    says_untold f same tells told = record {
+      done = λ is. absurd (never_done f (so ended (ended_by f) Done told is));
+      refused = λ is. (
+        same,
+        inr (inr (inl (record {
+          edit = e;
+          asked = refl;
+          fault = f;
+          first = refused_at_once payload v e f tells (so ended (ended_by f) Refused told is);
+        }))),
+      );
+      rest = inl same;
+    }
+
+    -- nothing was seen of it
+    pub says_unseen : (unseen : Unseen) → w ≡ v → IsUnseen over v payload e unseen → ended ≡ answer_status (unseen_answer unseen)
+        → SaysEdit payload (given_edit over e has_random) v w (ended ≡ Done) (ended ≡ Refused)
+    says_unseen (Untold f) same is told = says_untold f same is told
+    says_unseen (Used found) same is told = record {
+      done = λ d. absurd (not_so ended Refused Done told (λ e. cc) d);
+      refused = λ r. (same, inr (inl (record { found = found; barred = is })));
+      rest = inl same;
+    }
+
+    module _ (u : List ℕ) (unchanged : u ≡ v) (count : ℕ) (random : List ℕ) (needs : NeedsRandom v payload e count) (taken : has_random count random) where
+      replied : (reply : Reply) → Replies payload u e random reply w → IsReplied payload (given_edit over e has_random) v w reply
+      replied reply is = run_replied payload v w over e has_random u unchanged count random needs taken reply is
+
+      -- the edit was completed
+      pub says_made : (made : Made) → Replies payload u e random (Ok made) w → ended ≡ Done
+          → SaysEdit payload (given_edit over e has_random) v w (ended ≡ Done) (ended ≡ Refused)
+      says_made made is told = record {
+        done = λ _. record { done = made; replied = replied (Ok made) is };
+        refused = λ same. absurd (not_so ended Done Refused told (λ e. cc) same);
+        rest = inr (Ok made, replied (Ok made) is);
+      }
+
+      -- a fault ended it
+      pub says_fault : (f : EditFault) → Replies payload u e random (Err f) w → ended ≡ ended_by f
+          → SaysEdit payload (given_edit over e has_random) v w (ended ≡ Done) (ended ≡ Refused)
+      says_fault f is told = record {
+        done = λ same. absurd (never_done f (so ended (ended_by f) Done told same));
+        refused = λ same. let by = refused_by payload u w e random f is (so ended (ended_by f) Refused told same) in (
+          by.0 ∙ unchanged,
+          inr (inr (inr (record {
+            edit = e;
+            asked = refl;
+            count = count;
+            needs = needs;
+            random = random;
+            taken = taken;
+            fault = f;
+            first = subst (λ x. Refusal x payload e random f) unchanged by.1;
+          }))),
+        );
+        rest = inr (Err f, replied (Err f) is);
+      }
+
+-- there is no passphrase
+pub says_wordless : (payload : Data) (given : Given) (unread : InputFault → Type 0) (v w : List ℕ) (a : Answer) → w ≡ v → IsWordless given.is_long unread a
+    → SaysEdit payload given v w (answer_status a ≡ Done) (answer_status a ≡ Refused)
+says_wordless payload given unread v w a same (inl x) = record {
+  done = λ e. absurd (not_so (answer_status a) Refused Done (ap answer_status x.0) (λ d. cc) e);
+  refused = λ e. (same, inl x.1);
+  rest = inl same;
+}
+says_wordless payload given unread v w a same (inr x) = says_unread payload v w (answer_status a) given same (ap answer_status x.2 ∙ unread_is_fault x.0)
+
+-- what is told of an edit that is given so, is told of one that is given otherwise
+pub replied_as : (payload : Data) (given other : Given) (v w : List ℕ) (reply : Reply) → ((e : Edit) → given.asks e → other.asks e)
+    → ((n : ℕ) (b : List ℕ) → given.has_random n b → other.has_random n b) → IsReplied payload given v w reply → IsReplied payload other v w reply
+replied_as payload given other v w reply asks has x = record {
+  edit = x.edit;
+  asked = asks x.edit x.asked;
+  count = x.count;
+  needs = x.needs;
+  random = x.random;
+  taken = has x.count x.random x.taken;
+  replies = x.replies;
+}
+
+refused_as : (payload : Data) (given other : Given) (v : List ℕ) → ((e : Edit) → given.asks e → other.asks e)
+    → ((n : ℕ) (b : List ℕ) → given.has_random n b → other.has_random n b) → (given.is_long → other.is_long) → given.over ≡ other.over → IsRefused payload given v → IsRefused payload other v
+refused_as payload given other v asks has long over (inl is) = inl (long is)
+refused_as payload given other v asks has long over (inr (inl x)) = inr (inl (record { found = x.found; barred = (sym over ∙ x.barred.0, x.barred.1) }))
+refused_as payload given other v asks has long over (inr (inr (inl x))) = inr (inr (inl (record {
+  edit = x.edit;
+  asked = asks x.edit x.asked;
+  fault = x.fault;
+  first = x.first;
+})))
+refused_as payload given other v asks has long over (inr (inr (inr x))) = inr (inr (inr (record {
+  edit = x.edit;
+  asked = asks x.edit x.asked;
+  count = x.count;
+  needs = x.needs;
+  random = x.random;
+  taken = has x.count x.random x.taken;
+  fault = x.fault;
+  first = x.first;
+})))
+
+pub says_as : (payload : Data) (given other : Given) (v w : List ℕ) (D R D' R' : Type 0) → ((e : Edit) → given.asks e → other.asks e)
+    → ((n : ℕ) (b : List ℕ) → given.has_random n b → other.has_random n b) → (given.is_long → other.is_long) → given.over ≡ other.over → (D' → D) → (R' → R)
+    → SaysEdit payload given v w D R → SaysEdit payload other v w D' R'
+says_as payload given other v w D R D' R' asks has long over of_done of_refused x = record {
+  done = λ is. let c = x.done (of_done is) in record { done = c.done; replied = replied_as payload given other v w (Ok c.done) asks has c.replied };
+  refused = λ is. let r = x.refused (of_refused is) in (r.0, refused_as payload given other v asks has long over r.1);
+  rest = elim x.rest [
+    | inl same ↦ inl same
+    | inr y ↦ inr (y.0, replied_as payload given other v w y.0 asks has y.1)
+  ];
+}
+
+-- what is spared by an edit that is given so, is spared by one that is given otherwise
+pub spared_as : (payload : Data) (given other : Given) (v w : List ℕ) → ((e : Edit) → given.asks e → other.asks e)
+    → ((n : ℕ) (b : List ℕ) → given.has_random n b → other.has_random n b) → SparesEdit payload given v w → SparesEdit payload other v w
+unfolding replied_as
+spared_as payload given other v w asks has (inl same) = inl same
+spared_as payload given other v w asks has (inr x) = inr (record { replied = replied_as payload given other v w (Err fault.Device) asks has x.replied; spares = x.spares })
+
+-- where the device failed in the edit that was run, its reply and what it spares are those of the command
+pub spared_edit : (payload : Data) (v u w : List ℕ) (over : Bool) (e : Edit) (has_random : ℕ → List ℕ → Type 0) → u ≡ v → (count : ℕ) (random : List ℕ)
+    → NeedsRandom v payload e count → has_random count random → (f : EditFault) → Replies payload u e random (Err f) w
+    → (ended_in f ≡ Err fault.Device) × Spares u payload e random w → SparesEdit payload (given_edit over e has_random) v w
+spared_edit payload v u w over e has_random unchanged count random needs taken f by x = inr (record {
+  replied = record {
+    edit = e;
+    asked = refl;
+    count = count;
+    needs = needs;
+    random = random;
+    taken = taken;
+    replies = subst (λ r. Replies payload v e random r w) x.0 (subst (λ y. Replies payload y e random (Err f) w) unchanged by);
+  };
+  spares = subst (λ y. Spares y payload e random w) unchanged x.1;
+})
+
+-- ---- what is asked for
+
+-- the passphrases are those that the files have, where the edit needs them
+pub asked_of : (request : EditRequest) (IsOld IsNew : List ℕ → Type 0) (p q : List ℕ) (e : Edit) → IfSome (edit_passphrase_of request) (λ name. IsOld p)
+    → IfSome (edit_new_of request) (λ name. IsNew q) → IsAsked request (λ x. x ≡ p) (λ x. x ≡ q) e → IsAsked request IsOld IsNew e
+asked_of (Add by_ passphrase memory new to iterations) IsOld IsNew p q (edit.Add b o n t i) old fresh is =
+    (is.0, subst IsOld (sym is.1) old, is.2, subst IsNew (sym is.3) fresh, is.4, is.5)
+asked_of (Change slot passphrase memory new iterations) IsOld IsNew p q (edit.Change s o n i) old fresh is =
+    (is.0, subst IsOld (sym is.1) old, is.2, subst IsNew (sym is.3) fresh, is.4)
+asked_of (Remove slot by_ passphrase memory) IsOld IsNew p q (edit.Remove s b o) old fresh is = (is.0, is.1, subst IsOld (sym is.2) old, is.3)
+asked_of Repair IsOld IsNew p q edit.Repair old fresh is = is
+asked_of (Label text) IsOld IsNew p q (edit.Label t) old fresh is = is
+asked_of (Add by_ passphrase memory new to iterations) IsOld IsNew p q e old fresh is = absurd is
+asked_of (Change slot passphrase memory new iterations) IsOld IsNew p q e old fresh is = absurd is
+asked_of (Remove slot by_ passphrase memory) IsOld IsNew p q e old fresh is = absurd is
+asked_of Repair IsOld IsNew p q e old fresh is = absurd is
+asked_of (Label text) IsOld IsNew p q e old fresh is = absurd is
+
+-- what holds where there is a name, holds where there are its bytes
+pub some_as : {A B : Type 0} (f : A → B) (o : Option A) (named : Option B) (P : Type 0) → option_map f o ≡ named → IfSome o (λ x. P) → IfSome named (λ x. P)
+some_as {A} {B} f None named P is held = subst (λ (x : Option B). IfSome x (λ y. P)) is tt
+some_as {A} {B} f (Some x) named P is held = subst (λ (x : Option B). IfSome x (λ y. P)) is held
+
+-- whatever they are
+pub asked_somehow : (request : EditRequest) (IsOld IsNew : List ℕ → Type 0) (e : Edit) → IsAsked request IsOld IsNew e
+    → IsAsked request (λ p. Unit {0}) (λ p. Unit {0}) e
+asked_somehow (Add by_ passphrase memory new to iterations) IsOld IsNew (edit.Add b o n t i) is = (is.0, tt, is.2, tt, is.4, is.5)
+asked_somehow (Change slot passphrase memory new iterations) IsOld IsNew (edit.Change s o n i) is = (is.0, tt, is.2, tt, is.4)
+asked_somehow (Remove slot by_ passphrase memory) IsOld IsNew (edit.Remove s b o) is = (is.0, is.1, tt, is.3)
+asked_somehow Repair IsOld IsNew edit.Repair is = is
+asked_somehow (Label text) IsOld IsNew (edit.Label t) is = is
+asked_somehow (Add by_ passphrase memory new to iterations) IsOld IsNew e is = absurd is
+asked_somehow (Change slot passphrase memory new iterations) IsOld IsNew e is = absurd is
+asked_somehow (Remove slot by_ passphrase memory) IsOld IsNew e is = absurd is
+asked_somehow Repair IsOld IsNew e is = absurd is
+asked_somehow (Label text) IsOld IsNew e is = absurd is
+
+-- ---- over devices
+
+-- a volume that no call was made on
+pub left_same : {D : Type 0} (tells : Type 0) (size : D → ℕ) (bytes : D → List ℕ) (says : List ℕ → List ℕ → Type 0) → ((v : List ℕ) → says v v)
+    → (volume : Result D InputFault) → LeavesVolume tells size bytes says volume volume
+left_same tells size bytes says of (Ok device) = record { size = refl; said = λ t. of (bytes device) }
+left_same tells size bytes says of (Err f) = refl
+
+pub unnamed_same : {D : Type 0} (tells : Type 0) (failed : D → ℕ) (bytes : D → List ℕ) (editing : Editing) (volume : Result D InputFault)
+    → KeepsUnnamed tells failed bytes editing volume volume
+unnamed_same tells failed bytes editing (Ok device) = λ t well same. kept_same _ _ _ well
+unnamed_same tells failed bytes editing (Err f) = tt
+
+pub failed_same : {D : Type 0} (failed : D → ℕ) (holds : Type 0) (volume : Result D InputFault) → WhereFailed failed volume volume holds
+failed_same failed holds (Ok device) = λ apart. absurd (apart refl)
+failed_same failed holds (Err f) = tt
+
+-- so no call failed on it, and there is nothing to spare
+pub spared_same : {D : Type 0} (tells : Type 0) (failed : D → ℕ) (bytes : D → List ℕ) (payload : Data) (given : Given) (volume : Result D InputFault)
+    → SparesVolume tells failed bytes payload given volume volume
+spared_same tells failed bytes payload given (Ok device) = λ t well apart. absurd (apart refl)
+spared_same tells failed bytes payload given (Err f) = tt
+
+-- where a call failed, another fact holds that follows
+pub failed_as : {D : Type 0} (failed : D → ℕ) (holds told : Type 0) → (holds → told) → (old new : Result D InputFault) → WhereFailed failed old new holds
+    → WhereFailed failed old new told
+failed_as failed holds told of (Ok old) (Ok new) x = λ apart. of (x apart)
+failed_as failed holds told of (Ok old) (Err f) x = tt
+failed_as failed holds told of (Err f) new x = tt

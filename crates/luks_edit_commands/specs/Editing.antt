@@ -1,0 +1,173 @@
+-- What the commands that edit leave of their volume.
+use Rattle.std.specs.Prelude.{◌≡◌, ◌⊎◌, ℕ, List, Option, Some, Bool, Result, Ok, Err, ⊤}
+use Rattle.luks_area.specs.First.{IsLeast}
+use Rattle.luks_reading.specs.declared.report.Data.{Data}
+use Rattle.luks_reading.specs.Checked.{WellFormed}
+use Rattle.luks_edit.specs.declared.edit.Done.{Done}
+use Rattle.luks_edit.specs.declared.edit.Edit.{Edit}
+use Rattle.luks_edit.specs.declared.edit.Edit.TheVariants as edit
+use Rattle.luks_edit.specs.declared.edit_fault.EditFault.{EditFault}
+use Rattle.luks_edit.specs.declared.edit_fault.EditFault.TheVariants.{Device}
+use Rattle.luks_edit.specs.EditFaults.{edit_key}
+use Rattle.luks_edit.specs.Kept.{Keeps}
+use Rattle.luks_edit.specs.Ran.{Reply}
+use Rattle.luks_volume.specs.Edits.{NamedSlots, Refusal, Replies}
+use Rattle.luks_volume.specs.Needed.{IsNeedFault, NeedsRandom}
+use Rattle.luks_volume.specs.Outcome.{Spares}
+use Rattle.luks_signatures.specs.declared.other_use.OtherUse.{OtherUse}
+use Rattle.luks_request.specs.declared.request.Command.{Command}
+use Rattle.luks_request.specs.declared.request.Command.TheVariants as command
+use Rattle.luks_request.specs.declared.request.EditRequest.{EditRequest}
+use Rattle.luks_request.specs.declared.request.EditRequest.TheVariants.{Add, Change, Remove, Repair, Label}
+use Rattle.luks_request.specs.declared.request.Editing.{Editing}
+use Rattle.luks_commands.specs.declared.inputs.InputFault.{InputFault}
+use Rattle.luks_commands.specs.declared.inputs.Inputs.{Inputs}
+use Rattle.luks_request.specs.Named.{edit_new_of, edit_passphrase_of}
+use Rattle.luks_commands.specs.OpenAnswers.{kib_of}
+use Rattle.luks_commands.specs.Files.{AreFirstBytes, IsLong, IsUnread, IsUnreadRandom, IsWhole, OfNamed}
+use Rattle.luks_edit_commands.specs.OtherUses.{Bars}
+
+-- ---- what is asked for
+
+-- the edit is the one that the command line asks for, with the memory that it allows to Argon2, its
+-- passphrases being such bytes
+abbrev pub IsAsked : EditRequest → (List ℕ → Type 0) → (List ℕ → Type 0) → Edit → Type 0
+IsAsked (Add by_ passphrase memory new to iterations) IsOld IsNew (edit.Add b o n t i) =
+    (b ≡ by_) × IsOld o.bytes.now × (o.memory ≡ kib_of memory) × IsNew n.now × (t ≡ to) × (i ≡ iterations)
+IsAsked (Change slot passphrase memory new iterations) IsOld IsNew (edit.Change s o n i) =
+    (s ≡ slot) × IsOld o.bytes.now × (o.memory ≡ kib_of memory) × IsNew n.now × (i ≡ iterations)
+IsAsked (Remove slot by_ passphrase memory) IsOld IsNew (edit.Remove s b p) =
+    (s ≡ slot) × (b ≡ by_) × IsOld p.bytes.now × (p.memory ≡ kib_of memory)
+IsAsked Repair IsOld IsNew edit.Repair = ⊤
+IsAsked (Label text) IsOld IsNew (edit.Label t) = t.now ≡ text.now
+IsAsked request IsOld IsNew e = ⊥
+
+-- the edit is it for some passphrases, and names the keyslot `n` of the volume `v`
+pub record NamesSlot (request : EditRequest) (v : List ℕ) (n : ℕ) : Type 0 where
+  pub edit : Edit
+  pub asked : IsAsked request (λ p. Unit {0}) (λ p. Unit {0}) edit
+  pub named : NamedSlots v edit n
+
+-- what an edit is given: the edit is one that is asked for, and the random bytes are the first of
+-- their file, as many as it takes
+pub record Given : Type 1 where
+  pub asks : Edit → Type 0
+  pub has_random : ℕ → List ℕ → Type 0
+  -- a passphrase is too long, so that there is none
+  pub is_long : Type 0
+  -- whether it may write over another use of the disk
+  pub over : Bool
+
+-- by what the command line says and its files have
+abbrev pub given_by : {D R N : Type 0} → Editing → (R → Option (List ℕ)) → (N → Option (List ℕ)) → Inputs D R N → Given
+given_by editing of_passphrase of_random inputs = record {
+  asks = IsAsked editing.request (IsWhole of_passphrase inputs.passphrase) (IsWhole of_passphrase inputs.new_passphrase);
+  has_random = λ count. AreFirstBytes count of_random inputs.random;
+  is_long = OfNamed (edit_passphrase_of editing.request) (IsLong of_passphrase inputs.passphrase) ⊎ OfNamed (edit_new_of editing.request) (IsLong of_passphrase inputs.new_passphrase);
+  over = editing.over;
+}
+
+-- by which faults the files of an edit can't be read: that of a passphrase, and that of so many random bytes
+pub record Lacking : Type 1 where
+  pub words : InputFault → Type 0
+  pub random : ℕ → InputFault → Type 0
+
+-- of the files of the command line, those that the edit needs
+abbrev pub lacking_by : {D R N : Type 0} → EditRequest → Inputs D R N → Lacking
+lacking_by request inputs = record {
+  words = λ f. OfNamed (edit_passphrase_of request) (IsUnread inputs.passphrase f) ⊎ OfNamed (edit_new_of request) (IsUnread inputs.new_passphrase f);
+  random = λ count. IsUnreadRandom count inputs.random;
+}
+
+-- of an edit that has its passphrases
+abbrev pub lacking_random : (ℕ → InputFault → Type 0) → Lacking
+lacking_random random = record { words = λ f. ⊥; random = random }
+
+-- the edit is this one
+abbrev pub given_edit : Bool → Edit → (ℕ → List ℕ → Type 0) → Given
+given_edit over edit has_random = record { asks = λ e. e ≡ edit; has_random = has_random; is_long = ⊥; over = over }
+
+-- ---- what comes of it, at the volume `v`
+
+-- the edit was run over `v`, replied so, and left `w`
+pub record IsReplied (payload : Data) (given : Given) (v w : List ℕ) (reply : Reply) : Type 0 where
+  pub edit : Edit
+  pub asked : given.asks edit
+  pub count : ℕ
+  pub needs : NeedsRandom v payload edit count
+  pub random : List ℕ
+  pub taken : given.has_random count random
+  pub replies : Replies payload v edit random reply w
+
+-- the edit was completed, and left `w`
+pub record IsCompleted (payload : Data) (given : Given) (v w : List ℕ) : Type 0 where
+  pub done : Done
+  pub replied : IsReplied payload given v w (Ok done)
+
+-- the edit was refused by the first of all its faults
+pub record IsRefusedLate (payload : Data) (given : Given) (v : List ℕ) : Type 0 where
+  pub edit : Edit
+  pub asked : given.asks edit
+  pub count : ℕ
+  pub needs : NeedsRandom v payload edit count
+  pub random : List ℕ
+  pub taken : given.has_random count random
+  pub fault : EditFault
+  pub first : Refusal v payload edit random fault
+
+-- it was refused at once, by the first of the faults that are seen without opening a keyslot
+pub record IsRefusedAtOnce (payload : Data) (given : Given) (v : List ℕ) : Type 0 where
+  pub edit : Edit
+  pub asked : given.asks edit
+  pub fault : EditFault
+  pub first : IsLeast edit_key (IsNeedFault v payload edit) fault
+
+-- it was refused since the disk has another use, which it may not write over
+pub record IsRefusedByUse (given : Given) (v : List ℕ) : Type 0 where
+  pub found : OtherUse
+  pub barred : Bars given.over v (Some found)
+
+abbrev pub IsRefused : Data → Given → List ℕ → Type 0
+IsRefused payload given v = given.is_long ⊎ IsRefusedByUse given v ⊎ IsRefusedAtOnce payload given v ⊎ IsRefusedLate payload given v
+
+-- what is told of the volume `v` that the command left as `w`, by whether it says that the edit is
+-- done, or refused. Whatever it says, the volume is as it was, or as the edit's reply leaves it
+pub record SaysEdit (payload : Data) (given : Given) (v w : List ℕ) (is_done is_refused : Type 0) : Type 0 where
+  pub done : is_done → IsCompleted payload given v w
+  pub refused : is_refused → (w ≡ v) × IsRefused payload given v
+  pub rest : (w ≡ v) ⊎ ((reply : Reply) × IsReplied payload given v w reply)
+
+-- the edit was run over `v`, a device call failed in it, and `w` is what it spares
+pub record IsSpared (payload : Data) (given : Given) (v w : List ℕ) : Type 0 where
+  pub replied : IsReplied payload given v w (Err Device)
+  pub spares : Spares v payload replied.edit replied.random w
+
+-- where a device call failed, nothing was begun, or this holds
+abbrev pub SparesEdit : Data → Given → List ℕ → List ℕ → Type 0
+SparesEdit payload given v w = (w ≡ v) ⊎ IsSpared payload given v w
+
+-- ---- over devices
+
+-- a volume that is there, tells its bytes and was well formed is so again, and nothing of it changed
+-- that the edit doesn't name, unless a device call failed
+abbrev pub KeepsUnnamed : {D : Type 0} → Type 0 → (D → ℕ) → (D → List ℕ) → Editing → Result D InputFault → Result D InputFault → Type 0
+KeepsUnnamed tells failed bytes editing (Ok old) (Ok new) = tells → WellFormed (bytes old) editing.data_ → failed new ≡ failed old
+    → Keeps editing.data_ (NamesSlot editing.request (bytes old)) (bytes old) (bytes new)
+KeepsUnnamed tells failed bytes editing old new = ⊤
+
+-- where a device call failed, of a volume that is there, tells its bytes and was well formed what the
+-- edit spares is left
+abbrev pub SparesVolume : {D : Type 0} → Type 0 → (D → ℕ) → (D → List ℕ) → Data → Given → Result D InputFault → Result D InputFault → Type 0
+SparesVolume tells failed bytes payload given (Ok old) (Ok new) = tells → WellFormed (bytes old) payload
+    → (failed new ≡ failed old → ⊥) → SparesEdit payload given (bytes old) (bytes new)
+SparesVolume tells failed bytes payload given old new = ⊤
+
+-- where a device call failed, this holds
+abbrev pub WhereFailed : {D : Type 0} → (D → ℕ) → Result D InputFault → Result D InputFault → Type 0 → Type 0
+WhereFailed failed (Ok old) (Ok new) holds = (failed new ≡ failed old → ⊥) → holds
+WhereFailed failed old new holds = ⊤
+
+-- what holds of the command where it edits
+abbrev pub WhereEdit : Command → (Editing → Type 0) → Type 0
+WhereEdit (command.Edit editing) holds = holds editing
+WhereEdit _ holds = Unit {0}

@@ -1,0 +1,217 @@
+//! What is seen of an edit before it is applied.
+ghost use Rattle.std.specs.Prelude.{◌≡◌, ◌+◌, ◌<◌, ◌^◌, IfOk, IfErr};
+ghost use Rattle.luks_area.specs.Device.{CountsFailure, IsUnchanged};
+ghost use Rattle.luks_reading.specs.Header.{IsAcceptedHeader, IsHeader};
+ghost use Rattle.luks_volume.specs.Needed.{NeedsRandom};
+ghost use Rattle.luks_edit_commands.specs.OtherUses.{is_unseen_failure, IsUnseen, SeesBarred};
+
+use crate::other_use::barring_use;
+use luks_commands::open::{MemoryNote, memory_note};
+use luks_request::Editing;
+use luks_signatures::OtherUse;
+use luks_volume::{
+    Cost, Device, DeviceFault, Edit, EditFault, Header, Luks1, edited_header, needed_of_header,
+};
+use std::alloc::Global;
+use std::io::Write;
+
+/// What is seen of an edit before it is applied.
+#[derive(Drop)]
+pub(super) struct Seen {
+    /// The header that counts, which the edit is applied over.
+    pub(super) header: Header,
+    /// How many random bytes it takes.
+    pub(super) needed: u64,
+    /// The keyslot that it makes, where that has fewer iterations than the one that it opens.
+    pub(super) weaker: Option<Weaker>,
+    /// The keyslot that it opens, where that derives by Argon2.
+    pub(super) argon2: Option<MemoryNote>,
+    /// Whether it takes away the last keyslot by PBKDF2, by the passphrase of one by Argon2.
+    pub(super) leaves_argon2: bool,
+}
+
+/// A keyslot that is made with fewer iterations than the one that opens has.
+#[derive(Debug, Clone, Copy)]
+pub(super) struct Weaker {
+    /// The iterations of the new keyslot.
+    iterations: u32,
+    /// The number of the keyslot that opens.
+    opener: u8,
+    /// The iterations of that one.
+    opener_iterations: u32,
+}
+
+/// Why nothing is seen of an edit.
+#[derive(Debug, Clone, Copy)]
+pub(super) enum Unseen {
+    /// The first of the faults that are seen without opening a keyslot.
+    Untold(EditFault),
+    /// The disk has this other use, which the edit would write over.
+    Used(OtherUse),
+}
+
+impl From<EditFault> for Unseen {
+    ghost use Rattle.luks_edit_commands.specs.declared.edit.seen.Unseen.{Unseen};
+
+    ghost from_gives = { λ fault unseen. unseen ≡ Unseen.Untold fault };
+
+    fn from(fault: EditFault) -> Unseen {
+        Unseen::Untold(fault)
+    }
+}
+
+impl From<DeviceFault> for Unseen {
+    ghost use Rattle.luks_edit_commands.specs.declared.edit.seen.Unseen.{Unseen};
+    ghost use Rattle.luks_edit.specs.declared.edit_fault.EditFault.{EditFault};
+
+    ghost from_gives = { λ _ unseen. unseen ≡ Unseen.Untold EditFault.Device };
+
+    fn from(_: DeviceFault) -> Unseen {
+        Unseen::Untold(EditFault::Device)
+    }
+}
+
+/// What is seen of the edit by the header, or why nothing is: another use of the disk is asked for
+/// before what the edit names. The header is read once.
+pub(super) fn see<D: Device>(
+    alloc: Global,
+    device: &mut D,
+    editing: &Editing<'_>,
+    edit: &Edit<'_>,
+) -> Result<Seen, Unseen>
+    requires { D.failed device.old + 1 < 2 ^ 64 }
+    ensures unchanged { IsUnchanged D.tells D.size D.bytes D.unsettled device.old device.new }
+    ensures count { CountsFailure is_unseen_failure result
+        (D.failed device.old) (D.failed device.new) }
+    ensures accepted { IfOk result (λ seen. IsAcceptedHeader seen.header) }
+    ensures read { D.tells → IfOk result (λ seen. IsHeader (D.bytes device.old) seen.header) }
+    ensures tells { D.tells → IfOk result (λ seen.
+        NeedsRandom (D.bytes device.old) editing.now.data_ edit.now seen.needed) }
+    ensures unseen { D.tells → IfErr result
+        (IsUnseen editing.now.over (D.bytes device.old) editing.now.data_ edit.now) }
+    ensures barred { D.tells → SeesBarred editing.now.over (D.bytes device.old) result }
+{
+    let header = edited_header(alloc, device)?;
+    if let Some(found) = barring_use(device, &header, editing.over)? {
+        return Err(Unseen::Used(found));
+    }
+    let needed = needed_of_header(&header, editing.data_, device.len(), edit)?;
+    let weaker = weaker_keyslot(&header, edit);
+    let argon2 = argon2_keyslot(&header, device.len(), edit);
+    let leaves_argon2 = leaves_argon2(&header, edit);
+    Ok(Seen {
+        header,
+        needed,
+        weaker,
+        argon2,
+        leaves_argon2,
+    })
+}
+
+/// The keyslot that the edit makes, where that has fewer iterations than the one that it opens in a
+/// volume with this header.
+fn weaker_keyslot(header: &Header, edit: &Edit<'_>) -> Option<Weaker> {
+    let (opener, iterations) = match *edit {
+        Edit::Add {
+            by_,
+            iterations,
+            ..
+        } => (by_, iterations),
+        Edit::Change {
+            slot,
+            iterations,
+            ..
+        } => (slot, iterations),
+        _ => return None,
+    };
+    let opener_iterations = iterations_of(header, opener)?;
+    if iterations >= opener_iterations {
+        return None;
+    }
+    Some(Weaker {
+        iterations,
+        opener,
+        opener_iterations,
+    })
+}
+
+/// The iterations of PBKDF2 that the keyslot `n` says; none where it isn't there, or by Argon2.
+fn iterations_of(header: &Header, n: u8) -> Option<u32> {
+    match header {
+        Header::Luks1(bytes) => {
+            let header = Luks1::read(bytes).ok()?;
+            let slot = header.slots.get(usize::from(n))?;
+            Some(slot.iterations)
+        }
+        Header::Luks2(copy) => match copy.meta.keyslot(n)?.kdf.cost {
+            Cost::Pbkdf2(cost) => Some(cost.iterations),
+            Cost::Argon2i(_) | Cost::Argon2id(_) => None,
+        },
+    }
+}
+
+/// The keyslot that the edit opens in a volume of `total` bytes with this header, where it derives by
+/// Argon2.
+fn argon2_keyslot(header: &Header, total: u64, edit: &Edit<'_>) -> Option<MemoryNote>
+    requires { IsAcceptedHeader header.now }
+{
+    let opener = edit.opener()?;
+    memory_note(header, opener.slot, total, edit.allowed_memory())
+}
+
+/// Whether the edit removes, by the passphrase of another keyslot, the last one by PBKDF2 of a volume with
+/// this header.
+fn leaves_argon2(header: &Header, edit: &Edit<'_>) -> bool {
+    match *edit {
+        Edit::Remove {
+            slot,
+            by_: Some(_),
+            ..
+        } => {
+            iterations_of(header, slot).is_some()
+                && (0..32).all(|n| n == slot || iterations_of(header, n).is_none())
+        }
+        _ => false,
+    }
+}
+
+/// Says, before it is done, that no keyslot by PBKDF2 is left.
+pub(super) fn note_leaving_argon2<E: Write>(leaves_argon2: bool, err: &mut E) {
+    if leaves_argon2 {
+        let _ = writeln!(
+            err,
+            "luks: no keyslot is left that opens by PBKDF2: each other one takes memory, which --memory allows"
+        );
+    }
+}
+
+/// Says of the keyslot that was refused how much memory would have to be allowed, where that helps.
+pub(super) fn note_refused<E: Write>(argon2: Option<MemoryNote>, err: &mut E) {
+    if let Some(note) = argon2 {
+        let _ = note.say_refused(err);
+    }
+}
+
+/// Says of the keyslot how much memory it asked for, where memory was refused.
+pub(super) fn note_wanting<E: Write>(argon2: Option<MemoryNote>, err: &mut E) {
+    if let Some(note) = argon2 {
+        let _ = note.say_wanting(err);
+    }
+}
+
+/// Says of a keyslot that was made how many iterations it has, where these are fewer.
+pub(super) fn note_weaker<E: Write>(weaker: Option<Weaker>, err: &mut E) {
+    if let Some(
+        Weaker {
+            iterations,
+            opener,
+            opener_iterations,
+        },
+    ) = weaker
+    {
+        let _ = writeln!(
+            err,
+            "luks: the new keyslot has {iterations} iterations, keyslot {opener} has {opener_iterations}: --iterations"
+        );
+    }
+}

@@ -1,0 +1,9 @@
+pub mod Cached
+pub mod Guarded
+pub mod Hosts
+pub mod Identity
+pub mod Lazy
+pub mod Locked
+pub mod Node
+pub mod Notices
+pub mod System

@@ -1,0 +1,34 @@
+//! Files that other programs may change meanwhile. A volume is opened under a lock; its first bytes are
+//! remembered, so that a header which is asked for twice is read once, and compared before a write. Any
+//! other file is opened when it is first read.
+//!
+//! What is asked of the system is a `System`, and clauses speak of its answers. What a file gives no clause
+//! can say: that the system holds a lock, and keeps others out, is tested, and so is the order of the calls.
+#![tactic(auto)]
+
+mod beginning;
+mod cached;
+mod guarded;
+mod host;
+mod identity;
+mod lazy;
+mod locked;
+mod names;
+mod node;
+mod notice;
+mod opening;
+mod read_only;
+mod system;
+
+pub use beginning::begins_with;
+pub use cached::{CachedDevice, ROOM};
+pub use guarded::{GuardedDevice, Same};
+pub use host::Host;
+pub use identity::is_same_file;
+pub use lazy::LazyFile;
+pub use locked::{Lock, LockedDevice};
+pub use names::{Named, hold_name};
+pub use node::Node;
+pub use notice::Notice;
+pub use opening::{FOLDER, OpenFault, open_locked};
+pub use system::{Access, Answer, Asked, Found, Kind, Share, System};

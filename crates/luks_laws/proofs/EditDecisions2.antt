@@ -1,0 +1,86 @@
+-- Each fault of an edit of an accepted volume stands by LUKS2's rules, or it doesn't.
+use Rattle.std.proofs.Common.{◌≡◌, ◌⊎◌, ℕ, ◌+◌, ◌^◌, List, length, subst, inl, inr}
+use Rattle.std.proofs.lemmas.Bool.{cases_eq}
+use Rattle.base64.specs.GeneralPurpose.{IsBytes}
+use Rattle.serde_json.specs.Data.{Data as Value}
+use Rattle.serde_json.specs.Written.{compact_text}
+use Rattle.luks_area.specs.declared.area.Area.{Area}
+use Rattle.luks_head.specs.Header2.{hdr_size, header_at, seqid}
+use Rattle.luks_making.specs.Naming.{IsDigestOf}
+use Rattle.luks_meta.specs.Requirements.{has_requirements}
+use Rattle.luks_reading.specs.declared.check_fault.CheckFault.{CheckFault}
+use Rattle.luks_reading.specs.declared.report.Data.{Data}
+use Rattle.luks_reading.specs.Answer.{AnswerWithin, Opened}
+use Rattle.luks_reading.specs.Checked.{IsFault}
+use Rattle.luks_edit.specs.declared.edit.Edit.{Edit}
+use Rattle.luks_edit.specs.declared.edit_fault.EditFault.{EditFault}
+use Rattle.luks_edit.specs.declared.edit_fault.EditFault.TheVariants as edit
+use Rattle.luks2_edit_laws.specs.Edited.{IsEdited}
+use Rattle.luks2_edit_laws.specs.Metadata.{HasMetadata, IsInUse}
+use Rattle.luks2_edit_laws.specs.Places.{HasNoNewArea, IsNewArea}
+use Rattle.luks2_edit_laws.specs.Refused.{HasSaid, IsEditFault2}
+use Rattle.luks_laws.proofs.AskedDecisions.{few_decided, itself_decided, locked_decided, shut_decided}
+use Rattle.luks_laws.proofs.DecidedFacts.{Decided, true_decided}
+use Rattle.luks_laws.proofs.FullDecisions2.{full_decided}
+use Rattle.luks_laws.proofs.RowDecisions2.{absent_decided, bad_label_decided, last_decided, miscounted_decided, no_free_decided, no_room_decided, taken_decided}
+
+-- ---- the metadata that counts
+
+-- the metadata that counts, and what is known of it
+pub record Counting (v : List ℕ) (payload : Data) : Type 0 where
+  pub place : ℕ
+  pub value : Value
+  pub there : HasMetadata v place value
+  pub only : (p : ℕ) (i : Value) → HasMetadata v p i → (p ≡ place) × (i ≡ value)
+  pub digest : (n m k : ℕ) → IsDigestOf value n m → IsDigestOf value n k → m ≡ k
+  pub area : (n : ℕ) → IsInUse value n → ((a : Area) × IsNewArea (hdr_size (header_at v place)) (length v) payload value n a)
+      ⊎ HasNoNewArea (hdr_size (header_at v place)) (length v) payload value n
+  pub alike : (e : Edit) (a b : List ℕ) (x y : Value) → IsBytes a → IsBytes b → length a ≡ length b
+      → IsEdited (hdr_size (header_at v place)) (length v) payload e a value x → IsEdited (hdr_size (header_at v place)) (length v) payload e b value y
+      → length (compact_text x) ≡ length (compact_text y)
+
+-- a fact that is decided of that metadata is decided of the volume
+said_decided : (v : List ℕ) (payload : Data) (c : Counting v payload) (says : ℕ → Value → Type 0) → Decided (says c.place c.value) → Decided (HasSaid v says)
+said_decided v payload c says (inl is) = inl (record { place = c.place; value = c.value; metadata = c.there; is = is })
+said_decided v payload c says (inr isnt) = inr (λ x. let same = c.only x.place x.value x.metadata in
+    isnt (subst (says c.place) same.1 (subst (λ p. says p x.value) same.0 x.is)))
+
+-- ---- the edit
+
+module _ (v : List ℕ) (payload : Data) (answer : (m n : ℕ) (p : List ℕ) → (a : Opened) × AnswerWithin m v n p a) (sound : (f : CheckFault) → IsFault v payload f → ⊥) (e : Edit) (r : List ℕ) where
+  -- where metadata counts
+  fault_of_counting : Counting v payload → (f : EditFault) → Decided (IsEditFault2 v payload e r f)
+  fault_of_counting c (edit.NotAccepted f) = inr (sound f)
+  fault_of_counting c edit.Requirements = said_decided v payload c _ (true_decided (has_requirements c.value))
+  fault_of_counting c edit.NoSuchSlot = said_decided v payload c _ (absent_decided c.value e)
+  fault_of_counting c edit.SameSlot = itself_decided e
+  fault_of_counting c edit.Locked = locked_decided v answer e
+  fault_of_counting c (edit.Slot f) = shut_decided v answer e f
+  fault_of_counting c edit.SlotTaken = said_decided v payload c _ (taken_decided c.value e)
+  fault_of_counting c edit.NoFreeSlot = said_decided v payload c _ (no_free_decided c.value e)
+  fault_of_counting c edit.NoRoom = said_decided v payload c _ (no_room_decided (hdr_size (header_at v c.place)) (length v) payload c.value c.area e)
+  fault_of_counting c edit.LastSlot = said_decided v payload c _ (last_decided c.value c.digest e)
+  fault_of_counting c edit.Iterations = few_decided e
+  fault_of_counting c edit.BadLabel = bad_label_decided e
+  fault_of_counting c edit.SeqExhausted = said_decided v payload c _ (cases_eq (seqid (header_at v c.place) + 1) (2 ^ 64))
+  fault_of_counting c edit.MetadataFull = said_decided v payload c _ (full_decided (hdr_size (header_at v c.place)) (length v) payload c.value c.area e (c.alike e))
+  fault_of_counting c edit.RandomLength = said_decided v payload c _ (miscounted_decided c.value e r)
+  fault_of_counting c edit.Memory = inr (λ bad. bad)
+  fault_of_counting c edit.Device = inr (λ bad. bad)
+
+  -- where none counts
+  fault_of_none : ((p : ℕ) (i : Value) → HasMetadata v p i → ⊥) → (f : EditFault) → Decided (IsEditFault2 v payload e r f)
+  fault_of_none none (edit.NotAccepted f) = inr (sound f)
+  fault_of_none none edit.SameSlot = itself_decided e
+  fault_of_none none edit.Locked = locked_decided v answer e
+  fault_of_none none (edit.Slot f) = shut_decided v answer e f
+  fault_of_none none edit.Iterations = few_decided e
+  fault_of_none none edit.BadLabel = bad_label_decided e
+  fault_of_none none edit.Memory = inr (λ bad. bad)
+  fault_of_none none edit.Device = inr (λ bad. bad)
+  fault_of_none none f = inr (λ x. none x.place x.value x.metadata)
+
+  -- in either case
+  pub fault2_decided : Counting v payload ⊎ ((p : ℕ) (i : Value) → HasMetadata v p i → ⊥) → (f : EditFault) → Decided (IsEditFault2 v payload e r f)
+  fault2_decided (inl c) = fault_of_counting c
+  fault2_decided (inr none) = fault_of_none none

@@ -1,0 +1,172 @@
+-- The metadata that an edit of a LUKS2 volume makes is there or not, and its text leaves room in the JSON area or doesn't.
+use Rattle.std.proofs.Common.{◌≡◌, ◌⊎◌, ℕ, zero, suc, ◌-◌, ◌≤◌, ◌<◌, List, length, slice_index, replicate, Option, refl, sym, subst, ◌∙◌, arith, inl, inr}
+use Rattle.std.proofs.lemmas.List.{length-replicate}
+use Rattle.base64.specs.GeneralPurpose.{IsBytes}
+use Rattle.serde_json.specs.Data.{Data as Value}
+use Rattle.serde_json.specs.Written.{compact_text}
+use Rattle.luks_area.specs.declared.area.Area.{Area}
+use Rattle.luks_head.specs.Header2.{binary_header_size}
+use Rattle.luks_making.specs.Changed.{changed_slot}
+use Rattle.luks_making.specs.Keyslots.{by_argon2i, by_argon2id, by_pbkdf2, Deriving, IsDerivedLike, IsMadeFrom, NewMembers}
+use Rattle.luks_making.specs.With.{IsAdded, with_slot}
+use Rattle.luks_making.specs.Without.{without_slot}
+use Rattle.luks_reading.specs.declared.report.Data.{Data}
+use Rattle.luks_edit.specs.declared.edit.Edit.{Edit}
+use Rattle.luks_edit.specs.declared.edit.Edit.TheVariants.{Add, Change, Label, Remove, Repair}
+use Rattle.luks2_edit_laws.specs.Edited.{HasAdded, HasChanged, IsEdited, members_of}
+use Rattle.luks2_edit_laws.specs.Metadata.{IsInUse}
+use Rattle.luks2_edit_laws.specs.Places.{HasNoNewArea, IsNewArea}
+use Rattle.luks2_edit_laws.specs.Refused.{IsFull}
+use Rattle.luks_laws.proofs.DecidedFacts.{at_most_decided, Decided}
+use Rattle.luks_laws.proofs.SearchFacts.{some_same, SomeOrNone}
+use Rattle.luks_laws.proofs.MemberDecisions2.{digest_or_none, made_or_none, new_number, object_or_none}
+use Rattle.luks_laws.proofs.RowDecisions2.{area_or_none}
+
+-- ---- a value with one more keyslot
+
+-- the derivation by other iterations
+with_turns : ℕ → Deriving → Deriving
+with_turns n (by_pbkdf2 hash iterations) = by_pbkdf2 hash n
+with_turns n (by_argon2i costs) = by_argon2i costs
+with_turns n (by_argon2id costs) = by_argon2id costs
+
+-- is one like that of the keyslot too
+derived_anew : (d : Value) (m n : ℕ) (k : Deriving) → IsDerivedLike d m k → IsDerivedLike d n (with_turns n k)
+unfolding with_turns
+derived_anew d m n (by_pbkdf2 hash iterations) x = (x.0, x.1, refl)
+derived_anew d m n (by_argon2i costs) x = x
+derived_anew d m n (by_argon2id costs) x = x
+
+-- whether a keyslot is added depends neither on its number nor on what is new of it
+added_alike : (to other by : ℕ) (f g : NewMembers) (j new : Value) → IsAdded to by f j new → (k : Value) × IsAdded other by g j k
+added_alike to other by f g j new x =
+    let slot = record x.slot { offset = g.offset; size = g.size; derivation = with_turns g.iterations x.slot.derivation; salt = g.salt } in (
+      with_slot other x.digest slot j,
+      record {
+        from = x.from;
+        there = x.there;
+        slot = slot;
+        made = record {
+          key_size = x.made.key_size;
+          stripes = x.made.stripes;
+          splitter_hash = x.made.splitter_hash;
+          encryption = x.made.encryption;
+          area_key_size = x.made.area_key_size;
+          derivation = derived_anew x.from f.iterations g.iterations x.slot.derivation x.made.derivation;
+          offset = refl;
+          size = refl;
+          salt = refl;
+        };
+        digest = x.digest;
+        names = x.names;
+        is = refl;
+      },
+    )
+
+-- a keyslot is added, or its members or its digest aren't there
+added_or_none : (to by : ℕ) (f : NewMembers) (j : Value) → SomeOrNone Value (IsAdded to by f j)
+added_or_none to by f j = elim (object_or_none j by) [
+  | inl d ↦ elim (made_or_none d.0 f) [
+    | inl s ↦ elim (digest_or_none j by) [
+      | inl m ↦ inl (
+        with_slot to m.0 s.0 j,
+        record {
+          from = d.0;
+          there = record { numbered = refl; named = d.1.0; is = d.1.1 };
+          slot = s.0;
+          made = s.1;
+          digest = m.0;
+          names = m.1;
+          is = refl;
+        },
+      )
+      | inr none ↦ inr (λ k x. none x.digest x.names)
+    ]
+    | inr none ↦ inr (λ k x. none x.slot (subst (λ o. IsMadeFrom o f x.slot) (some_same x.from d.0 (sym x.there.is ∙ d.1.1)) x.made))
+  ]
+  | inr none ↦ inr (λ k x. none x.from (x.there.named, x.there.is))
+]
+
+-- ---- the value that an edit makes
+
+module _ (h total : ℕ) (payload : Data) (j : Value)
+    (area : (n : ℕ) → IsInUse j n → ((a : Area) × IsNewArea h total payload j n a) ⊎ HasNoNewArea h total payload j n) where
+  -- an addition makes a value, or it lacks a number, an area, a member or a digest
+  add_or_none : (by : ℕ) (to : Option ℕ) (iterations : ℕ) (salt : List ℕ) → SomeOrNone Value (HasAdded h total payload by to iterations salt j)
+  add_or_none by to iterations salt = elim (new_number j to) [
+    | inl n ↦ elim (area_or_none h total payload j area by) [
+      | inl a ↦ elim (added_or_none n.0 by (members_of iterations salt a.0) j) [
+        | inl new ↦ inl (new.0, record { slot = n.0; is_new = n.1; area = a.0; place = a.1; is = new.1 })
+        | inr none ↦ inr (λ k x. (let y = added_alike x.slot n.0 by (members_of iterations salt x.area) (members_of iterations salt a.0) j k x.is in none y.0 y.1))
+      ]
+      | inr none ↦ inr (λ k x. none x.area x.place)
+    ]
+    | inr none ↦ inr (λ k x. none x.slot x.is_new)
+  ]
+
+  -- a change makes a value, or it lacks an area
+  change_or_none : (slot iterations : ℕ) (salt : List ℕ) → SomeOrNone Value (HasChanged h total payload slot iterations salt j)
+  change_or_none slot iterations salt = elim (area_or_none h total payload j area slot) [
+    | inl a ↦ inl (changed_slot slot (members_of iterations salt a.0) j, record { area = a.0; place = a.1; is = refl })
+    | inr none ↦ inr (λ k x. none x.area x.place)
+  ]
+
+  -- an edit makes a value with a salt, or it makes none
+  edited_or_none : (e : Edit) (salt : List ℕ) → SomeOrNone Value (IsEdited h total payload e salt j)
+  edited_or_none (Add by_ old new to iterations) salt = add_or_none by_ to iterations salt
+  edited_or_none (Change slot old new iterations) salt = change_or_none slot iterations salt
+  edited_or_none (Remove slot by_ passphrase) salt = inl (without_slot slot j, refl)
+  edited_or_none Repair salt = inl (j, refl)
+  edited_or_none (Label text) salt = inl (j, refl)
+
+-- with another salt an edit makes a value too
+salted_anew : (h total : ℕ) (payload : Data) (e : Edit) (a b : List ℕ) (j x : Value) → IsEdited h total payload e a j x → (y : Value) × IsEdited h total payload e b j y
+salted_anew h total payload (Add by_ old new to iterations) a b j x is =
+    let y = added_alike is.slot is.slot by_ (members_of iterations a is.area) (members_of iterations b is.area) j x is.is in
+    (y.0, record { slot = is.slot; is_new = is.is_new; area = is.area; place = is.place; is = y.1 })
+salted_anew h total payload (Change slot old new iterations) a b j x is =
+    (changed_slot slot (members_of iterations b is.area) j, record { area = is.area; place = is.place; is = refl })
+salted_anew h total payload (Remove slot by_ passphrase) a b j x is = (x, is)
+salted_anew h total payload Repair a b j x is = (x, is)
+salted_anew h total payload (Label text) a b j x is = (x, is)
+
+-- ---- its text
+
+-- a salt of zeros
+zero_salt : List ℕ
+zero_salt = replicate 32 0
+
+-- its places hold bytes
+zero_at : (n i : ℕ) → slice_index (replicate n 0) i < 256
+zero_at zero i = omega arith
+zero_at (suc n) zero = omega arith
+zero_at (suc n) (suc i) = zero_at n i
+
+-- it is of bytes
+zeros_are_bytes : IsBytes zero_salt
+unfolding zero_salt
+zeros_are_bytes i = zero_at 32 i
+
+-- and has the length of a salt
+zero_salt_length : length zero_salt ≡ 32
+unfolding zero_salt
+zero_salt_length = length-replicate {A = ℕ} 32 0
+
+module _ (h total : ℕ) (payload : Data) (j : Value)
+    (area : (n : ℕ) → IsInUse j n → ((a : Area) × IsNewArea h total payload j n a) ⊎ HasNoNewArea h total payload j n) (e : Edit)
+    (alike : (a b : List ℕ) (x y : Value) → IsBytes a → IsBytes b → length a ≡ length b → IsEdited h total payload e a j x → IsEdited h total payload e b j y
+    → length (compact_text x) ≡ length (compact_text y)) where
+  -- with any salt the text is as long as with zeros, so it is too long or isn't
+  full_by_zeros : (new : Value) → IsEdited h total payload e zero_salt j new → Decided (IsFull h total payload j e)
+  full_by_zeros new is = elim (at_most_decided (h - binary_header_size) (length (compact_text new))) [
+    | inl full ↦ inl (record { salt = zero_salt; salt_bytes = zeros_are_bytes; salt_length = zero_salt_length; new = new; edited = is; full = full })
+    | inr room ↦ inr (λ x. room (subst (λ n. h - binary_header_size ≤ n)
+        (alike x.salt zero_salt x.new new x.salt_bytes zeros_are_bytes (x.salt_length ∙ sym zero_salt_length) x.edited is) x.full))
+  ]
+
+  -- the text of the metadata that an edit makes is too long, or it isn't, or there is none
+  pub full_decided : Decided (IsFull h total payload j e)
+  full_decided = elim (edited_or_none h total payload j area e zero_salt) [
+    | inl new ↦ full_by_zeros new.0 new.1
+    | inr none ↦ inr (λ x. (let y = salted_anew h total payload e x.salt zero_salt j x.new x.edited in none y.0 y.1))
+  ]

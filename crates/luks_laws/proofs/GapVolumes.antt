@@ -1,0 +1,56 @@
+-- Of a well formed LUKS2 volume the area of a new keyslot is there, or there is none.
+use Rattle.std.proofs.Common.{◌≡◌, ◌⊎◌, ℕ, ◌*◌, List, length, Some, refl, subst, inl, inr}
+use Rattle.serde_json.specs.Data.{Data as Value}
+use Rattle.luks_area.specs.declared.area.Area.{Area}
+use Rattle.luks_head.specs.Header2.{hdr_size, header_at}
+use Rattle.luks_head.specs.Selection.{luks2}
+use Rattle.luks_head.proofs.ChoiceFacts.{choices_agree}
+use Rattle.luks_rules.specs.Accepted.{IsMeta}
+use Rattle.luks_rules.specs.Sizes.{keyslots_size}
+use Rattle.luks_rules.proofs.AreaFaults.{one_value}
+use Rattle.luks_reading.specs.declared.report.Data.{Data}
+use Rattle.luks_reading.specs.Checked.{IsLuks2Volume, WellFormed, WellFormedAs}
+use Rattle.luks_reading.specs.Header.{json_at}
+use Rattle.luks_reading.specs.Layout2.{Luks2Area}
+use Rattle.luks_reading.proofs.Luks2AreaFacts.{luks2_area-unique}
+use Rattle.luks2_edit_laws.specs.Gap.{area_at}
+use Rattle.luks2_edit_laws.specs.Metadata.{HasMetadata, IsInUse}
+use Rattle.luks2_edit_laws.specs.Places.{HasNoNewArea, IsNewArea, key_areas_end, rounded_to_blocks}
+use Rattle.luks_laws.proofs.GapAreas.{beside_decided}
+use Rattle.luks_laws.proofs.GapNumbers.{some_region, some_stripes, SomeStripes}
+use Rattle.luks_laws.proofs.GapPlaces.{least_gap_or_none}
+
+module _ (v : List ℕ) (payload : Data) (place : ℕ) (j : Value) (metadata : HasMetadata v place j) where
+  -- the metadata that counts of a well formed volume is accepted
+  accepted : WellFormed v payload → IsMeta (json_at v place) j
+  accepted formed =
+      let volume : IsLuks2Volume (header_at v place) (json_at v place) payload (length v) =
+      subst (WellFormedAs v payload) (choices_agree v formed.choice (luks2 place metadata.copies) formed.chosen metadata.chosen) formed.formed in
+      let held = volume.layout.1.metadata in
+      subst (IsMeta (json_at v place)) (one_value (json_at v place) volume.layout.0 j held.json metadata.holds) held
+
+  -- there is the area of a keyslot that is made like the keyslot `n`, or there is none
+  abbrev AreaOrNoRoom : ℕ → Type 0
+  AreaOrNoRoom n =
+      ((a : Area) × IsNewArea (hdr_size (header_at v place)) (length v) payload j n a)
+      ⊎ HasNoNewArea (hdr_size (header_at v place)) (length v) payload j n
+
+  -- for these stripes, in a region of so many bytes
+  placed : (n : ℕ) → SomeStripes j n → ((x : ℕ) × (keyslots_size j ≡ Some x)) → AreaOrNoRoom n
+  placed n s region =
+      let h = hdr_size (header_at v place) in
+      let bytes = rounded_to_blocks (s.key_bytes * s.stripes) in
+      elim (least_gap_or_none (Luks2Area j h payload (length v)) (2 * h) (key_areas_end h (length v) region.0) bytes
+      (beside_decided j h payload (length v) (luks2_area-unique j h payload (length v)))) [
+        | inl found ↦ inl (
+          area_at found.0 bytes,
+          record { key_bytes = s.key_bytes; stripes = s.stripes; slot = s.slot; region = region.0; region_is = region.1; len = refl; gap = found.1 },
+        )
+        | inr none ↦ inr (record { key_bytes = s.key_bytes; stripes = s.stripes; slot = s.slot; region = region.0; region_is = region.1; none = none })
+      ]
+
+  -- for a keyslot that is there
+  pub area_or_no_room : WellFormed v payload → (n : ℕ) → IsInUse j n → AreaOrNoRoom n
+  area_or_no_room formed n used =
+      let content = (accepted formed).content in
+      placed n (some_stripes (length (json_at v place)) j content n used) (some_region (length (json_at v place)) j content)

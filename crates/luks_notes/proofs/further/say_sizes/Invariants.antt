@@ -1,0 +1,13 @@
+use Rattle.std.proofs.Common.{◌≡◌, length}
+use Rattle.luks_area.specs.Device.{IsUnchanged}
+use Rattle.luks_notes.proofs.further.say_sizes.Given as goal
+
+-- nothing has changed, and no call has failed
+abbrev pub invariant-loop-left : goal.invariant-loop-left
+invariant-loop-left g l = record {
+  unchanged : IsUnchanged g.D.Device.tells g.D.Device.size g.D.Device.bytes g.D.Device.unsettled l.initial.device l.device;
+  count : g.D.Device.failed l.device ≡ g.D.Device.failed l.initial.device;
+}
+
+abbrev pub decreases-loop-left : goal.decreases-loop-left
+decreases-loop-left g l = length l.left

@@ -1,0 +1,143 @@
+//! The lines of further candidates: other metadata that is whole in the volume.
+ghost use Rattle.std.specs.Prelude.{◌+◌, ◌^◌, ◌<◌};
+ghost use Rattle.luks_area.specs.Device.{CountsFailure, IsUnchanged};
+ghost use Rattle.luks_rebuilding.specs.RebuildFaults.{is_rebuild_failure};
+
+use crate::metadata::keyslots_of;
+use crate::older::say_older;
+use luks_area::Device;
+use luks_meta::Meta;
+use luks_rebuilding::{Candidate, RebuildFault, Which, find_candidate};
+use std::alloc::Global;
+use std::io::Write;
+
+/// The sizes that a copy may have, in bytes.
+const SIZES: [u64; 9] = [
+    0x4000, 0x8000, 0x1_0000, 0x2_0000, 0x4_0000, 0x8_0000, 0x10_0000, 0x20_0000, 0x40_0000,
+];
+
+/// Says to `err` what other metadata is whole, of a second copy or of a header of another size, how
+/// many keyslots it has that this hasn't, and by which option `rebuild` takes it.
+pub(crate) fn say_further<D: Device, E: Write>(
+    alloc: Global,
+    device: &mut D,
+    found: &Candidate,
+    err: &mut E,
+) -> Result<(), RebuildFault>
+    requires { D.failed device.old + 1 < 2 ^ 64 }
+    ensures { IsUnchanged D.tells D.size D.bytes D.unsettled device.old device.new }
+{
+    let second = candidate_of(alloc, device, Which::Second)?;
+    if let Some(further) = &second {
+        if !is_same(found, further) {
+            say_second(found, further, err);
+            say_older(device, further, err)?;
+        }
+    }
+    say_sizes(alloc, device, found, &second, err)
+}
+
+/// The candidate of these copies, if there is one.
+fn candidate_of<D: Device>(
+    alloc: Global,
+    device: &mut D,
+    which: Which,
+) -> Result<Option<Candidate>, RebuildFault>
+    requires { D.failed device.old + 1 < 2 ^ 64 }
+    ensures unchanged { IsUnchanged D.tells D.size D.bytes D.unsettled device.old device.new }
+    ensures count { CountsFailure is_rebuild_failure result
+        (D.failed device.old) (D.failed device.new) }
+{
+    match find_candidate(alloc, device, which) {
+        Ok(found) => Ok(Some(found)),
+        Err(RebuildFault::NoMetadata) => Ok(None),
+        Err(fault) => Err(fault),
+    }
+}
+
+/// Says what is whole of headers of other sizes than this one's, but for what is the second copy's.
+fn say_sizes<D: Device, E: Write>(
+    alloc: Global,
+    device: &mut D,
+    found: &Candidate,
+    second: &Option<Candidate>,
+    err: &mut E,
+) -> Result<(), RebuildFault>
+    requires { D.failed device.old + 1 < 2 ^ 64 }
+    ensures { IsUnchanged D.tells D.size D.bytes D.unsettled device.old device.new }
+{
+    let mut left = SIZES.as_slice();
+    while let [size, later @ ..] = left {
+        if *size != found.place.size {
+            say_size(alloc, device, found, second, *size, err)?;
+        }
+        left = later;
+    }
+    Ok(())
+}
+
+/// Says what is whole of a header of this size.
+fn say_size<D: Device, E: Write>(
+    alloc: Global,
+    device: &mut D,
+    found: &Candidate,
+    second: &Option<Candidate>,
+    size: u64,
+    err: &mut E,
+) -> Result<(), RebuildFault>
+    requires { D.failed device.old + 1 < 2 ^ 64 }
+    ensures unchanged { IsUnchanged D.tells D.size D.bytes D.unsettled device.old device.new }
+    ensures count { CountsFailure is_rebuild_failure result
+        (D.failed device.old) (D.failed device.new) }
+{
+    if let Some(further) = candidate_of(alloc, device, Which::OfSize(size))? {
+        if !is_same(found, &further) && !is_said(second, &further) {
+            say_of_size(found, &further, err);
+            say_older(device, &further, err)?;
+        }
+    }
+    Ok(())
+}
+
+/// Whether both have the same metadata.
+fn is_same(one: &Candidate, other: &Candidate) -> bool {
+    one.json.as_slice() == other.json.as_slice()
+}
+
+/// Whether the second copy's is the same.
+fn is_said(second: &Option<Candidate>, other: &Candidate) -> bool {
+    match second {
+        Some(second) => is_same(second, other),
+        None => false,
+    }
+}
+
+/// Says of the second copy's metadata how it is taken.
+fn say_second<E: Write>(found: &Candidate, further: &Candidate, err: &mut E) {
+    let (count, keyslots) = more_in(&further.meta, &found.meta);
+    let _ = writeln!(
+        err,
+        "luks: that of the second copy is whole too, and differs, with {count} {keyslots} that this hasn't: luks rebuild --second takes it"
+    );
+}
+
+/// Says of the metadata of a header of another size how it is taken.
+fn say_of_size<E: Write>(found: &Candidate, further: &Candidate, err: &mut E) {
+    let (count, keyslots) = more_in(&further.meta, &found.meta);
+    let size = further.place.size;
+    let _ = writeln!(
+        err,
+        "luks: that of a header of {size} bytes is whole too, and differs, with {count} {keyslots} that this hasn't: luks rebuild --size {size} takes it"
+    );
+}
+
+/// How many keyslots the one has that the other hasn't, and what so many are called.
+fn more_in(one: &Meta, other: &Meta) -> (u8, &'static str) {
+    let mut count: u8 = 0;
+    for n in 0..32 {
+        if one.keyslot(n).is_some() && other.keyslot(n).is_none() {
+            count = count.saturating_add(1);
+        }
+    }
+    (count, keyslots_of(count))
+}

@@ -1,0 +1,29 @@
+//! The JSON object of a header, as a text.
+ghost use Rattle.std.specs.Prelude.{string_bytes, IfOk};
+ghost use Rattle.serde_json.specs.View.{view};
+ghost use Rattle.luks_show.specs.JsonText.{IsJsonText, IsListingValue};
+
+use crate::Listing;
+use crate::as_json::luks1::luks1_value;
+use crate::as_json::luks2::luks2_value;
+use serde_json::Value;
+use std::alloc::{AllocError, Global};
+
+/// The JSON object of the header, in the compact form and without a newline.
+///
+/// Takes memory for the object, and for its text.
+pub fn json_text(alloc: Global, listing: &Listing) -> Result<String, AllocError>
+    ensures { IfOk result (λ text. IsJsonText listing.now (string_bytes text)) }
+{
+    let value = listing_value(alloc, listing)?;
+    value.to_string(alloc)
+}
+
+fn listing_value(alloc: Global, listing: &Listing) -> Result<Value, AllocError>
+    ensures { IfOk result (λ v. IsListingValue listing.now (view v)) }
+{
+    match listing {
+        Listing::Luks1(header) => luks1_value(alloc, header),
+        Listing::Luks2(copy) => luks2_value(alloc, copy),
+    }
+}

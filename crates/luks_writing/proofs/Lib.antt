@@ -1,0 +1,3 @@
+pub mod CopyFacts
+pub mod AreaFacts
+pub mod ClearedFacts

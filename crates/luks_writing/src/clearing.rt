@@ -1,0 +1,45 @@
+//! Clearing the first sectors of the places of both copies.
+ghost use Rattle.std.specs.Prelude.{◌≡◌, ◌+◌, ◌^◌, ◌<◌, ◌≤◌, OnOk};
+ghost use Rattle.luks_area.specs.Device.{CountsFailure, IsSettled, is_failure};
+ghost use Rattle.luks_area.specs.Ranges.{SameBut};
+ghost use Rattle.luks_writing.specs.Cleared.{cleared_size, AreCleared, ClearsInTurn, IsOfFirstSectors};
+
+use luks_area::{Area, Device, DeviceFault, fill};
+
+/// The bytes of a first sector.
+const SECTOR: u64 = 512;
+
+/// Overwrites with zeros the first sector at 0, where a header stands or may stand, and then that at
+/// `second`, where its second copy does, with a flush after each. No header counts there then.
+///
+/// The sector at `second` may lie in a key area of an older LUKS1 header: so it is as it was until that
+/// header counts no more. Where the device fails, the sector that is being written holds any bytes, and
+/// every other byte is as it was.
+pub fn clear_places<D: Device>(device: &mut D, second: u64) -> Result<(), DeviceFault>
+    requires apart { cleared_size ≤ second }
+    requires within { second + cleared_size ≤ D.size device.old }
+    requires room { D.failed device.old + 1 < 2 ^ 64 }
+    requires settled { D.tells → IsSettled D.unsettled device.old }
+    ensures count { CountsFailure is_failure result (D.failed device.old) (D.failed device.new) }
+    ensures size { D.size device.new ≡ D.size device.old }
+    ensures settled { D.tells → D.failed device.new ≡ D.failed device.old
+        → IsSettled D.unsettled device.new }
+    ensures cleared { D.tells → OnOk result (AreCleared second (D.bytes device.new)) }
+    ensures rest { D.tells
+        → SameBut (IsOfFirstSectors second) (D.bytes device.old) (D.bytes device.new) }
+    ensures order { D.tells → ClearsInTurn (D.bytes device.old) (D.bytes device.new) }
+{
+    let first = Area {
+        start: 0,
+        len: SECTOR,
+    };
+    fill(device, first, 0)?;
+    device.flush()?;
+    let other = Area {
+        start: second,
+        len: SECTOR,
+    };
+    fill(device, other, 0)?;
+    device.flush()?;
+    Ok(())
+}

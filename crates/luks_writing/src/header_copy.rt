@@ -1,0 +1,81 @@
+ghost use Rattle.std.specs.Prelude.{◌≡◌, ◌+◌, ◌++◌, ◌^◌, ◌<◌, ◌≤◌, ℕ, List, length, replicate, OnOk};
+ghost use Rattle.sha2.specs.Sha256.{sha256};
+ghost use Rattle.luks_area.specs.Device.{CountsFailure, IsSettled, is_failure};
+ghost use Rattle.luks_area.specs.Ranges.{part, IsAt, SameBut};
+ghost use Rattle.luks_head.specs.Header2.{binary_header_size, header_at, sha256_size, with_zero_checksum};
+ghost use Rattle.luks_head.specs.Written.{WritesBin2};
+ghost use Rattle.luks_writing.specs.Copy.{HasCopy, IsCopyHeader};
+
+use luks_area::{Device, DeviceFault};
+use luks_head::Bin2;
+use sha2::Digest;
+
+/// The bytes of the binary header, behind which the JSON area stands.
+const BINARY_HEADER: u64 = 4096;
+
+/// Writes the copy with this binary header and JSON area at the place that the header names, and
+/// flushes. Its checksum is made here, whatever the header says; `Bin2::renewed` makes such a header
+/// of another copy's, and label, uuid, subsystem and length are its own to set.
+///
+/// `Device` comes where a call of the device failed: then the copy holds any bytes, and every other
+/// byte is as it was.
+pub fn write_copy<D: Device>(device: &mut D, header: &Bin2, json: &[u8]) -> Result<(), DeviceFault>
+    requires json { binary_header_size + length json.now ≡ header.now.hdr_size }
+    requires within { header.now.hdr_offset + header.now.hdr_size ≤ D.size device.old }
+    requires room { D.failed device.old + 1 < 2 ^ 64 }
+    requires settled { D.tells → IsSettled D.unsettled device.old }
+    ensures count { CountsFailure is_failure result (D.failed device.old) (D.failed device.new) }
+    ensures size { D.size device.new ≡ D.size device.old }
+    ensures settled { D.tells → D.failed device.new ≡ D.failed device.old
+        → IsSettled D.unsettled device.new }
+    ensures copy { D.tells → IsCopyHeader header.now
+        → OnOk result (HasCopy (D.bytes device.new) json.now header.now) }
+    ensures rest { D.tells → SameBut (IsAt header.now.hdr_offset header.now.hdr_size)
+        (D.bytes device.old) (D.bytes device.new) }
+{
+    let head = summed(header, json).write();
+    write_both(device, header.hdr_offset, &head, json)?;
+    Ok(())
+}
+
+/// The header with the checksum of the copy with this JSON area.
+fn summed(header: &Bin2, json: &[u8]) -> Bin2
+    ensures made { (b c : List ℕ) → WritesBin2 b (record header.now { csum = c })
+        → result ≡ record header.now
+        { csum = sha256 (with_zero_checksum b ++ json.now) ++ replicate sha256_size 0 } }
+    ensures some { (b : List ℕ) × WritesBin2 b header.now }
+{
+    // That the header has bytes at all: what the hasher was fed is said of any such bytes.
+    let _bytes = header.write();
+    let mut hasher = header.hasher();
+    hasher.update(json);
+    header.with_checksum(hasher)
+}
+
+/// Writes the binary header and the JSON area behind it, and flushes.
+fn write_both<D: Device>(
+    device: &mut D,
+    at: u64,
+    head: &[u8],
+    json: &[u8],
+) -> Result<(), DeviceFault>
+    requires head { length head.now ≡ binary_header_size }
+    requires within { at + (binary_header_size + length json.now) ≤ D.size device.old }
+    requires room { D.failed device.old + 1 < 2 ^ 64 }
+    requires settled { D.tells → IsSettled D.unsettled device.old }
+    ensures count { CountsFailure is_failure result (D.failed device.old) (D.failed device.new) }
+    ensures size { D.size device.new ≡ D.size device.old }
+    ensures settled { D.tells → D.failed device.new ≡ D.failed device.old
+        → IsSettled D.unsettled device.new }
+    ensures head { D.tells → OnOk result (header_at (D.bytes device.new) at ≡ head.now) }
+    ensures area { D.tells → OnOk result
+        (part (D.bytes device.new) (at + binary_header_size) (length json.now) ≡ json.now) }
+    ensures rest { D.tells
+        → SameBut (IsAt at (binary_header_size + length json.now))
+        (D.bytes device.old) (D.bytes device.new) }
+{
+    device.write_at(at, head)?;
+    device.write_at(at + BINARY_HEADER, json)?;
+    device.flush()?;
+    Ok(())
+}
