@@ -25,8 +25,8 @@ use Rattle.luks_formatting.specs.declared.format_fault.FormatFault.TheVariants a
 use Rattle.luks_reading.specs.FaultTexts.{check_fault_text}
 use Rattle.luks_c.specs.Numbers.{check_number, edit_number, fault_number, format_number, number_printed, open_number, read_number}
 
--- that of a fault is 1 to 50
-fault_number_range : (f : Fault) → (1 ≤ fault_number f) × (fault_number f ≤ 50)
+-- that of a fault is 1 to 51
+fault_number_range : (f : Fault) → (1 ≤ fault_number f) × (fault_number f ≤ 51)
 fault_number_range fault.TooShort = (omega arith, omega arith)
 fault_number_range f = (omega arith, omega arith)
 
