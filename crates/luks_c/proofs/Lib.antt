@@ -1,3 +1,4 @@
 pub mod BufferFacts
 pub mod NumberFacts
+pub mod OpenFacts
 pub mod PlanFacts
