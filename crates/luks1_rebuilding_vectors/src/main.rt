@@ -1,4 +1,4 @@
-//! What is made of damaged LUKS1 headers that lines put together, and by which combination they open.
+//! What is made of damaged LUKS1 headers that lines put together, and which keyslots open by it.
 //! `luks_vector_lines` says what a line is.
 #![tactic(auto)]
 
