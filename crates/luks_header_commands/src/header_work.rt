@@ -112,7 +112,7 @@ pub(crate) fn make_header<W: HeaderWork, D: Device, R: Read, N: Read, E: Write>(
         (AreFirstBytes files.now.needed N.remaining inputs.old.random)
         inputs.old.volume inputs.new.volume inputs.old.target inputs.new.target result }
 {
-    if files.volume == files.target || is_volume_itself(&inputs.target) {
+    if is_one_file(files, &inputs.target) {
         return Answer::Refused(Refusal::SameFile);
     }
     let volume = match &mut inputs.volume {
@@ -128,6 +128,13 @@ pub(crate) fn make_header<W: HeaderWork, D: Device, R: Read, N: Read, E: Write>(
         Err(fault) => return unread(fault, files.random, err),
     };
     work.run(alloc, volume, target, random.as_slice(), err)
+}
+
+/// Whether the target is the volume itself, by its name or by what was found.
+pub(crate) fn is_one_file<D>(files: &HeaderFiles<'_>, target: &Result<D, InputFault>) -> bool
+    ensures { IsTrue result ↔ AreOneFile files.now.volume.now files.now.target.now target.now }
+{
+    files.volume == files.target || is_volume_itself(target)
 }
 
 /// Whether it was found to be the volume itself.
