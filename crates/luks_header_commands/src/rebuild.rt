@@ -38,7 +38,7 @@ use std::io::{Read, Write};
 /// With a passphrase, which means LUKS1, and is read before the volume: what of the cipher, the hash and the
 /// length of the key isn't given is tried (`try_combinations`), and the header is made with the first
 /// combination by which a keyslot opens; `progress` is told of each.
-pub fn run<D: Device, R: Read, N: Read, P: Printer, E: Write, G: Progress + Copy>(
+pub fn run<D: Device, R: Read, N: Read, P: Printer, E: Write, G: Progress>(
     alloc: Global,
     inputs: &mut Inputs<D, R, N>,
     name: &str,
@@ -46,7 +46,7 @@ pub fn run<D: Device, R: Read, N: Read, P: Printer, E: Write, G: Progress + Copy
     rebuilding: &Rebuilding<'_>,
     out: &mut P,
     err: &mut E,
-    progress: G,
+    progress: &mut G,
 ) -> u8
     requires volume_room { ForOk inputs.old.volume (λ d. D.failed d + 1 < 2 ^ 64) }
     requires target_room { ForOk inputs.old.target (λ d. D.failed d + 1 < 2 ^ 64) }
@@ -85,13 +85,13 @@ pub fn run<D: Device, R: Read, N: Read, P: Printer, E: Write, G: Progress + Copy
 }
 
 /// What is answered, as `run` prints it.
-fn answer<D: Device, R: Read, N: Read, E: Write, G: Progress + Copy>(
+fn answer<D: Device, R: Read, N: Read, E: Write, G: Progress>(
     alloc: Global,
     inputs: &mut Inputs<D, R, N>,
     files: &HeaderFiles<'_>,
     rebuilding: &Rebuilding<'_>,
     err: &mut E,
-    progress: G,
+    progress: &mut G,
 ) -> Answer
     requires volume_room { ForOk inputs.old.volume (λ d. D.failed d + 1 < 2 ^ 64) }
     requires target_room { ForOk inputs.old.target (λ d. D.failed d + 1 < 2 ^ 64) }
@@ -116,13 +116,13 @@ fn answer<D: Device, R: Read, N: Read, E: Write, G: Progress + Copy>(
         inputs.old.volume inputs.new.volume inputs.old.target inputs.new.target result }
 {
     match rebuilding.passphrase {
-        Some(file) => make_tried(alloc, inputs, files, rebuilding, file, progress, err),
+        Some(file) => make_tried(alloc, inputs, files, rebuilding, file, err, progress),
         None => {
             let making = Making {
                 files,
                 rebuilding: *rebuilding,
             };
-            make_header(alloc, inputs, files, &making, err)
+            make_header(alloc, inputs, files, &making, err, progress)
         }
     }
 }
@@ -141,13 +141,14 @@ impl HeaderWork for Making<'_> {
 
     ghost may_answer = { λ work tells random d a. IsRebuildAnswer tells work.rebuilding random d a };
 
-    fn run<D: Device, E: Write>(
+    fn run<D: Device, E: Write, G: Progress>(
         &self,
         alloc: Global,
         volume: &mut D,
         target: &mut D,
         random: &[u8],
         err: &mut E,
+        _progress: &mut G,
     ) -> Answer {
         let given = given_of(&self.rebuilding);
         let meant = self.rebuilding.meant();

@@ -26,14 +26,14 @@ use std::io::{Read, Write};
 /// Reads the passphrase of this file and makes a header by it, or answers which of the files is missing.
 /// Nothing is read where the target is the volume itself.
 #[tactic(auto, using(luks_commands::proofs::FileFacts::keeps_same, crate::proofs::TargetFacts::leaves_same, crate::proofs::TargetFacts::settles_same))]
-pub(crate) fn make_tried<D: Device, R: Read, N: Read, E: Write, G: Progress + Copy>(
+pub(crate) fn make_tried<D: Device, R: Read, N: Read, E: Write, G: Progress>(
     alloc: Global,
     inputs: &mut Inputs<D, R, N>,
     files: &HeaderFiles<'_>,
     rebuilding: &Rebuilding<'_>,
     file: &str,
-    progress: G,
     err: &mut E,
+    progress: &mut G,
 ) -> Answer
     requires volume_room { ForOk inputs.old.volume (λ d. D.failed d + 1 < 2 ^ 64) }
     requires target_room { ForOk inputs.old.target (λ d. D.failed d + 1 < 2 ^ 64) }
@@ -69,45 +69,34 @@ pub(crate) fn make_tried<D: Device, R: Read, N: Read, E: Write, G: Progress + Co
         files,
         rebuilding: *rebuilding,
         passphrase: words.as_slice(),
-        progress,
     };
-    make_header(alloc, inputs, files, &trying, err)
+    make_header(alloc, inputs, files, &trying, err, progress)
 }
 
 /// The making of a LUKS1 header as this asks, by these files and this passphrase.
 #[derive(Debug, Clone, Copy)]
-struct Trying<'a, G> {
+struct Trying<'a> {
     files: &'a HeaderFiles<'a>,
     rebuilding: Rebuilding<'a>,
     passphrase: &'a [u8],
-    progress: G,
 }
 
-impl<G: Progress + Copy> HeaderWork for Trying<'_, G> {
+impl HeaderWork for Trying<'_> {
     ghost keeps_rest = { λ work. KeepsTried work.rebuilding (λ words. words ≡ work.passphrase.now) };
 
     ghost may_answer = { λ work tells random d a. IsTriedAnswer tells work.rebuilding work.passphrase.now d a };
 
-    fn run<D: Device, E: Write>(
+    fn run<D: Device, E: Write, G: Progress>(
         &self,
         alloc: Global,
         volume: &mut D,
         target: &mut D,
         _random: &[u8],
         err: &mut E,
+        progress: &mut G,
     ) -> Answer {
         let given = given_of(&self.rebuilding);
-        let mut progress = self.progress;
-        make_opened(
-            alloc,
-            volume,
-            target,
-            self.files,
-            &given,
-            self.passphrase,
-            &mut progress,
-            err,
-        )
+        make_opened(alloc, volume, target, self, &given, err, progress)
     }
 
     ghost rest_of_same = { λ work volume target. inl refl };
@@ -118,32 +107,32 @@ fn make_opened<D: Device, E: Write, G: Progress>(
     alloc: Global,
     volume: &mut D,
     target: &mut D,
-    files: &HeaderFiles<'_>,
+    trying: &Trying<'_>,
     given: &Given,
-    passphrase: &[u8],
-    progress: &mut G,
     err: &mut E,
+    progress: &mut G,
 ) -> Answer
     requires volume_room { D.failed volume.old + 1 < 2 ^ 64 }
     requires target_room { D.failed target.old + 1 < 2 ^ 64 }
     requires settled { D.tells → IsSettled D.unsettled target.old }
     ensures unchanged { IsUnchanged D.tells D.size D.bytes D.unsettled volume.old volume.new }
     ensures size { D.size target.new ≡ D.size target.old }
-    ensures rest { D.tells → IsTriedRest given.now passphrase.now
+    ensures rest { D.tells → IsTriedRest given.now trying.now.passphrase.now
         (D.bytes volume.old) (D.bytes target.old) (D.bytes target.new) }
     ensures settled { D.tells → D.failed volume.new ≡ D.failed volume.old
         → D.failed target.new ≡ D.failed target.old → IsSettled D.unsettled target.new }
     ensures kinds { answer_status result ≢ Status.NotInStep }
-    ensures answers { TriedAnswer D.tells given.now passphrase.now (pair_of D.size D.bytes D.failed
-        volume.old volume.new target.old target.new) result }
+    ensures answers { TriedAnswer D.tells given.now trying.now.passphrase.now (pair_of D.size
+        D.bytes D.failed volume.old volume.new target.old target.new) result }
 {
-    match try_combinations(alloc, volume, given, passphrase, progress) {
+    let files = trying.files;
+    match try_combinations(alloc, volume, given, trying.passphrase, progress) {
         Ok(Some(opening)) => {
             note_opened(&opening, err);
             make_of_fields(volume, target, files, &opening.given, err)
         }
         Ok(None) => {
-            note_line_feed(passphrase, err);
+            note_line_feed(trying.passphrase, err);
             Answer::NoneOpens
         }
         Err(fault) => not_of_fields(fault, files.volume, READING_FAILED, files, err),

@@ -6,7 +6,7 @@ use Rattle.luks_header_commands.proofs.trying.make_opened.Goals as goal
 
 pub returns-in-Ok-Some-clause-rest : goal.returns-in-Ok-Some-clause-rest
 returns-in-Ok-Some-clause-rest g c = λ told.
-    opened_rest c.args.given.now c.args.passphrase.now (g.D.Device.bytes c.args.volume.now) (g.D.Device.bytes c.try_combinations.new.source)
+    opened_rest c.args.given.now c.args.trying.now.passphrase.now (g.D.Device.bytes c.args.volume.now) (g.D.Device.bytes c.try_combinations.new.source)
     (g.D.Device.bytes c.args.target.now) (g.D.Device.bytes c.make_of_fields.new.target) c.in-Ok-Some.opening
     (c.try_combinations.ensures.unchanged.same told) (c.in-Ok-Some.ensures.first told) (c.make_of_fields.ensures.rest told)
 
@@ -14,7 +14,7 @@ pub returns-in-Ok-Some-clause-answers : goal.returns-in-Ok-Some-clause-answers
 returns-in-Ok-Some-clause-answers g c =
     let d : Pair = pair_of g.D.Device.size g.D.Device.bytes g.D.Device.failed c.try_combinations.new.source c.make_of_fields.new.volume c.args.target.now c.make_of_fields.new.target in
     let e : Pair = pair_of g.D.Device.size g.D.Device.bytes g.D.Device.failed c.args.volume.now c.make_of_fields.new.volume c.args.target.now c.make_of_fields.new.target in
-    opened_later g.D.Device.tells c.args.given.now c.args.passphrase.now d e c.make_of_fields.result c.in-Ok-Some.opening
+    opened_later g.D.Device.tells c.args.given.now c.args.trying.now.passphrase.now d e c.make_of_fields.result c.in-Ok-Some.opening
     (record {
       volume = c.try_combinations.ensures.unchanged.same;
       total = refl;
@@ -34,5 +34,5 @@ returns-in-Ok-None-clause-answers g c =
 pub returns-in-Err-clause-answers : goal.returns-in-Err-clause-answers
 returns-in-Err-clause-answers g c =
     let d : Pair = pair_of g.D.Device.size g.D.Device.bytes g.D.Device.failed c.args.volume.now c.try_combinations.new.source c.args.target.now c.args.target.now in
-    subst (TriedAnswer g.D.Device.tells c.args.given.now c.args.passphrase.now d) (sym c.not_of_fields.ensures)
-    (tried_fault g.D.Device.tells c.args.given.now c.args.passphrase.now d c.in-Err.fault c.in-Err.ensures.count refl (λ told. refl) c.in-Err.ensures.fault)
+    subst (TriedAnswer g.D.Device.tells c.args.given.now c.args.trying.now.passphrase.now d) (sym c.not_of_fields.ensures)
+    (tried_fault g.D.Device.tells c.args.given.now c.args.trying.now.passphrase.now d c.in-Err.fault c.in-Err.ensures.count refl (λ told. refl) c.in-Err.ensures.fault)
