@@ -96,7 +96,6 @@ fn answer<D: Device, R: Read, N: Read, E: Write, G: Progress>(
     requires volume_room { ForOk inputs.old.volume (λ d. D.failed d + 1 < 2 ^ 64) }
     requires target_room { ForOk inputs.old.target (λ d. D.failed d + 1 < 2 ^ 64) }
     requires settled { D.tells → ForOk inputs.old.target (IsSettled D.unsettled) }
-    requires needed { files.now.needed ≡ random_count }
     ensures unchanged { KeepsVolume D.tells D.size D.bytes D.unsettled
         inputs.old.volume inputs.new.volume }
     ensures rest { LeavesTarget D.tells D.size D.bytes
@@ -111,8 +110,8 @@ fn answer<D: Device, R: Read, N: Read, E: Write, G: Progress>(
     ensures answers { (AreOneFile files.now.volume.now files.now.target.now inputs.old.target → ⊥)
         → AnswersRebuild D.tells D.size D.bytes D.failed rebuilding.now
         (IsWhole R.remaining inputs.old.passphrase) (IsLong R.remaining inputs.old.passphrase)
-        (IsUnread inputs.old.passphrase) (IsUnreadRandom random_count inputs.old.random)
-        (AreFirstBytes random_count N.remaining inputs.old.random)
+        (IsUnread inputs.old.passphrase) (IsUnreadRandom files.now.needed inputs.old.random)
+        (AreFirstBytes files.now.needed N.remaining inputs.old.random)
         inputs.old.volume inputs.new.volume inputs.old.target inputs.new.target result }
 {
     match rebuilding.passphrase {

@@ -5,7 +5,6 @@ ghost use Rattle.std.specs.Result.{ForOk};
 ghost use Rattle.luks_area.specs.Device.{IsSettled, IsUnchanged};
 ghost use Rattle.luks_commands.specs.Answer.{answer_status};
 ghost use Rattle.luks_commands.specs.Files.{AreFirstBytes, IsLong, IsUnread, IsUnreadRandom, IsWhole, KeepsVolume};
-ghost use Rattle.luks_header_commands.specs.Rebuilding.{random_count};
 ghost use Rattle.luks_header_commands.specs.Target.{AreOneFile, IsSameFile, LeavesTarget, pair_of, SettlesTarget};
 ghost use Rattle.luks_header_commands.specs.Trying.{IsTriedAnswer, IsTriedRest, IsWithPassphrase};
 ghost use Rattle.luks_header_commands.specs.Trying.{KeepsTried, TriedAnswer};
@@ -38,7 +37,6 @@ pub(crate) fn make_tried<D: Device, R: Read, N: Read, E: Write, G: Progress>(
     requires volume_room { ForOk inputs.old.volume (λ d. D.failed d + 1 < 2 ^ 64) }
     requires target_room { ForOk inputs.old.target (λ d. D.failed d + 1 < 2 ^ 64) }
     requires settled { D.tells → ForOk inputs.old.target (IsSettled D.unsettled) }
-    requires needed { files.now.needed ≡ random_count }
     ensures unchanged { KeepsVolume D.tells D.size D.bytes D.unsettled
         inputs.old.volume inputs.new.volume }
     ensures rest { LeavesTarget D.tells D.size D.bytes
@@ -53,8 +51,8 @@ pub(crate) fn make_tried<D: Device, R: Read, N: Read, E: Write, G: Progress>(
     ensures answers { (AreOneFile files.now.volume.now files.now.target.now inputs.old.target → ⊥)
         → IsWithPassphrase D.tells D.size D.bytes D.failed rebuilding.now
         (IsWhole R.remaining inputs.old.passphrase) (IsLong R.remaining inputs.old.passphrase)
-        (IsUnread inputs.old.passphrase) (IsUnreadRandom random_count inputs.old.random)
-        (AreFirstBytes random_count N.remaining inputs.old.random)
+        (IsUnread inputs.old.passphrase) (IsUnreadRandom files.now.needed inputs.old.random)
+        (AreFirstBytes files.now.needed N.remaining inputs.old.random)
         inputs.old.volume inputs.new.volume inputs.old.target inputs.new.target result }
 {
     if is_one_file(files, &inputs.target) {
@@ -74,7 +72,7 @@ pub(crate) fn make_tried<D: Device, R: Read, N: Read, E: Write, G: Progress>(
 }
 
 /// The making of a LUKS1 header as this asks, by these files and this passphrase.
-#[derive(Debug, Clone, Copy)]
+#[derive(Clone, Copy)]
 struct Trying<'a> {
     files: &'a HeaderFiles<'a>,
     rebuilding: Rebuilding<'a>,

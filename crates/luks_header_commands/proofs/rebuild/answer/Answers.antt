@@ -10,4 +10,4 @@ pub returns-in-None-clause-rest : goal.returns-in-None-clause-rest
 returns-in-None-clause-rest g c = rw c.in-None.is c.make_header.ensures.rest
 
 pub returns-in-None-clause-answers : goal.returns-in-None-clause-answers
-returns-in-None-clause-answers g c = rw c.in-None.is (subst (λ (n : ℕ). _) c.requires.needed c.make_header.ensures.answers)
+returns-in-None-clause-answers g c = rw c.in-None.is c.make_header.ensures.answers
