@@ -15,20 +15,20 @@ use Rattle.luks_commands.specs.declared.inputs.InputFault.{InputFault}
 use Rattle.luks_commands.specs.Answer.{answer_status, rebuild1_fault_answer}
 use Rattle.luks_header_commands.specs.Rebuilding.{IsGiven, IsLuks1Answer, KeepsRest1}
 use Rattle.luks_header_commands.specs.Target.{LeavesTarget, Pair}
-use Rattle.luks_header_commands.specs.Trying.{closed, opened, unread, untried, IsTriedRest, KeepsTried, TriedAnswer}
+use Rattle.luks_header_commands.specs.Trying.{no_header, none_open, one_opens, trial_failed, IsTriedRest, KeepsTried, TriedAnswer}
 use Rattle.luks_header_commands.proofs.RebuildFacts.{luks1_kinds, luks1_later, IsLater}
 
 -- the trial ended by a fault, and the target is as it was
 pub tried_fault : (tells : Type 0) (g : Given) (p : List ℕ) (d : Pair) (f : Rebuild1Fault)
     → d.volume_after ≡ count_after (is_rebuild_failure f) d.volume_before → d.after ≡ d.before → (tells → d.new ≡ d.old)
     → (tells → IsAnsweredTrialFault d.volume g f) → TriedAnswer tells g p d (rebuild1_fault_answer f)
-tried_fault tells g p d fault1.Device count same kept is = unread (inl (count, same)) kept refl
-tried_fault tells g p d f count same kept is = untried f refl (count, same) kept is refl
+tried_fault tells g p d fault1.Device count same kept is = trial_failed (inl (count, same)) kept refl
+tried_fault tells g p d f count same kept is = no_header f refl (count, same) kept is refl
 
 -- a combination opens a keyslot, and LUKS1 answers later of the same
 pub opened_later : (tells : Type 0) (g : Given) (p : List ℕ) (d e : Pair) (a : Answer) (o : Opening) → IsLater tells d e
     → (tells → IsFirstOpening e.volume g p o) → IsLuks1Answer tells o.given d a → TriedAnswer tells g p e a
-opened_later tells g p d e a o later first said = opened o first (luks1_later tells o.given d e a later said)
+opened_later tells g p d e a o later first said = one_opens o first (luks1_later tells o.given d e a later said)
 
 -- what is left of the target then
 pub opened_rest : (g : Given) (p v v' old new : List ℕ) (o : Opening) → v' ≡ v → IsFirstOpening v g p o → KeepsRest1 o.given v' old new
@@ -42,10 +42,10 @@ given_rest r g p v old new is (inr kept) = inr (record { given = g; is = is; kee
 
 -- no answer is of copies out of step
 pub tried_kinds : (tells : Type 0) (g : Given) (p : List ℕ) (d : Pair) (a : Answer) → TriedAnswer tells g p d a → answer_status a ≢ NotInStep
-tried_kinds tells g p d a (closed none same faultless shut is) = subst (λ (x : Answer). answer_status x ≢ NotInStep) (sym is) (λ e. cc)
-tried_kinds tells g p d a (untried f unfailed none same first is) = subst (λ (x : Answer). answer_status x ≢ NotInStep) (sym is) (λ e. cc)
-tried_kinds tells g p d a (unread one same is) = subst (λ (x : Answer). answer_status x ≢ NotInStep) (sym is) (λ e. cc)
-tried_kinds tells g p d a (opened o first said) = luks1_kinds tells o.given d a said
+tried_kinds tells g p d a (none_open none same faultless shut is) = subst (λ (x : Answer). answer_status x ≢ NotInStep) (sym is) (λ e. cc)
+tried_kinds tells g p d a (no_header f unfailed none same first is) = subst (λ (x : Answer). answer_status x ≢ NotInStep) (sym is) (λ e. cc)
+tried_kinds tells g p d a (trial_failed one same is) = subst (λ (x : Answer). answer_status x ≢ NotInStep) (sym is) (λ e. cc)
+tried_kinds tells g p d a (one_opens o first said) = luks1_kinds tells o.given d a said
 
 -- these words are those of the passphrase's file
 pub keeps_words : (r : Rebuilding) (HasWords : List ℕ → Type 0) (p : List ℕ) → HasWords p → (v old new : List ℕ)

@@ -23,12 +23,12 @@ use Rattle.luks_header_commands.specs.Target.{AnswersHeader, NoneFailed, Pair}
 -- can be made by any, by the first fault that stands with each. Or a call of the trial failed. In these nothing is written.
 -- Else LUKS1 answers with what the first combination gives that opens a keyslot.
 pub data TriedAnswer (tells : Type 0) (g : Given) (p : List ℕ) (d : Pair) (a : Answer) : Type 0 where
-  closed : NoneFailed d → (tells → d.new ≡ d.old) → (tells → (f : Rebuild1Fault) → IsTrialFault d.volume g f → ⊥)
+  none_open : NoneFailed d → (tells → d.new ≡ d.old) → (tells → (f : Rebuild1Fault) → IsTrialFault d.volume g f → ⊥)
       → (tells → OpensNoneBelow d.volume g p 64) → a ≡ NoneOpens → TriedAnswer tells g p d a
-  untried : (f : Rebuild1Fault) → is_rebuild_failure f ≡ false → NoneFailed d → (tells → d.new ≡ d.old)
+  no_header : (f : Rebuild1Fault) → is_rebuild_failure f ≡ false → NoneFailed d → (tells → d.new ≡ d.old)
       → (tells → IsAnsweredTrialFault d.volume g f) → a ≡ Refused (Rebuild1 f) → TriedAnswer tells g p d a
-  unread : IsOneFailure d.volume_before d.volume_after d.before d.after → (tells → d.new ≡ d.old) → a ≡ DeviceFault → TriedAnswer tells g p d a
-  opened : (o : Opening) → (tells → IsFirstOpening d.volume g p o) → IsLuks1Answer tells o.given d a → TriedAnswer tells g p d a
+  trial_failed : IsOneFailure d.volume_before d.volume_after d.before d.after → (tells → d.new ≡ d.old) → a ≡ DeviceFault → TriedAnswer tells g p d a
+  one_opens : (o : Opening) → (tells → IsFirstOpening d.volume g p o) → IsLuks1Answer tells o.given d a → TriedAnswer tells g p d a
 
 -- as the command line gives it
 pub record IsTriedAnswer (tells : Type 0) (r : Rebuilding) (p : List ℕ) (d : Pair) (a : Answer) : Type 0 where

@@ -27,7 +27,7 @@ use Rattle.luks_commands.specs.FormatAnswers.{AnswersFormat, IsFormatAnswer}
 use Rattle.luks_rebuilding.specs.declared.place.Which.{Which}
 use Rattle.luks_show_command.specs.ShowAnswers.{AnswersShow, IsFullAnswer, IsJsonAnswer, IsListedAnswer, IsMapAnswer, IsShowAnswer}
 use Rattle.luks_header_commands.specs.Converting.{AnswersConvert, IsConvertAnswer}
-use Rattle.luks_header_commands.specs.Trying.{closed, opened, unread, untried, AnswersBy, AnswersRebuild, IsTriedAnswer, TriedAnswer}
+use Rattle.luks_header_commands.specs.Trying.{no_header, none_open, one_opens, trial_failed, AnswersBy, AnswersRebuild, IsTriedAnswer, TriedAnswer}
 use Rattle.luks_header_commands.specs.Rebuilding.{given_of, which_of, IsAnswerOf, IsLuks1Answer, IsLuks2Answer, IsRebuildAnswer}
 use Rattle.luks_header_commands.specs.Target.{AnswersHeader, IsSameFile, Pair}
 use Rattle.luks_keeping.specs.ComparisonTexts.{is_current}
@@ -279,10 +279,10 @@ tried_luks1_there tells given d DeviceFault said = refl
 tried_luks1_there tells given d a said = absurd said
 
 tried_there : (tells : Type 0) (given : GivenFields) (p : List ℕ) (d : Pair) (a : Answer) → TriedAnswer tells given p d a → EndsTried a (own a)
-tried_there tells given p d a (closed none same faultless shut is) = subst (λ x. EndsTried x (own x)) (sym is) refl
-tried_there tells given p d a (untried f unfailed none same first is) = subst (λ x. EndsTried x (own x)) (sym is) refl
-tried_there tells given p d a (unread one same is) = subst (λ x. EndsTried x (own x)) (sym is) refl
-tried_there tells given p d a (opened o first said) = tried_luks1_there tells o.given d a said
+tried_there tells given p d a (none_open none same faultless shut is) = subst (λ x. EndsTried x (own x)) (sym is) refl
+tried_there tells given p d a (no_header f unfailed none same first is) = subst (λ x. EndsTried x (own x)) (sym is) refl
+tried_there tells given p d a (trial_failed one same is) = subst (λ x. EndsTried x (own x)) (sym is) refl
+tried_there tells given p d a (one_opens o first said) = tried_luks1_there tells o.given d a said
 
 by_passphrase_ends : {A D : Type 0} (passphrase : Option A) (tells : Type 0) (size : D → ℕ) (bytes : D → List ℕ) (failed : D → ℕ) (r : Rebuilding) (HasWords : List ℕ → Type 0) (is_long : Type 0)
     (wordless unread_ : InputFault → Type 0) (HasRandom : List ℕ → Type 0) (volume volume_new old new : Result D InputFault) (a : Answer)

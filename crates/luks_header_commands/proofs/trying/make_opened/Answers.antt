@@ -1,6 +1,6 @@
 use Rattle.std.proofs.Common.{inl, refl, sym, subst}
 use Rattle.luks_header_commands.specs.Target.{pair_of, Pair}
-use Rattle.luks_header_commands.specs.Trying.{closed, TriedAnswer}
+use Rattle.luks_header_commands.specs.Trying.{none_open, TriedAnswer}
 use Rattle.luks_header_commands.proofs.TryingFacts.{opened_later, opened_rest, tried_fault}
 use Rattle.luks_header_commands.proofs.trying.make_opened.Goals as goal
 
@@ -29,7 +29,7 @@ returns-in-Ok-Some-clause-answers g c =
 
 pub returns-in-Ok-None-clause-answers : goal.returns-in-Ok-None-clause-answers
 returns-in-Ok-None-clause-answers g c =
-    closed (c.in-Ok-None.ensures.count, refl) (λ told. refl) c.in-Ok-None.ensures.faultless c.in-Ok-None.ensures.none refl
+    none_open (c.in-Ok-None.ensures.count, refl) (λ told. refl) c.in-Ok-None.ensures.faultless c.in-Ok-None.ensures.none refl
 
 pub returns-in-Err-clause-answers : goal.returns-in-Err-clause-answers
 returns-in-Err-clause-answers g c =
