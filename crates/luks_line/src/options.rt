@@ -165,7 +165,7 @@ static OPTIONS: [OptionRow; 36] = [
     OptionRow {
         name: "uuid",
         needed: false,
-        help: "The new header's uuid; else SOURCE's, or a new one",
+        help: "The header's uuid; else SOURCE's, or a new one",
         takes: Takes::Uuid,
     },
     OptionRow {
