@@ -14,8 +14,8 @@ use luks_commands::{
 };
 use luks_converting::{CONVERT_RANDOM, ConvertFault, convert};
 use luks_reading::{Data, Device};
-use luks1_trying::{Progress, Untold};
 use luks_request::{Converting, Place};
+use luks1_trying::{Progress, Untold};
 use std::alloc::Global;
 use std::io::{Read, Write};
 

@@ -12,9 +12,8 @@ ghost use Rattle.luks_header_commands.specs.Trying.{KeepsTried, TriedAnswer};
 use crate::header_work::{HeaderFiles, HeaderWork, READING_FAILED, is_one_file, make_header};
 use crate::of_fields::{make_of_fields, not_of_fields};
 use crate::rebuild::given_of;
-use luks_commands::{
-    Answer, Inputs, PassphraseFault, Refusal, Status, open::note_line_feed, passphrase, unread,
-};
+use luks_commands::open::note_line_feed;
+use luks_commands::{Answer, Inputs, PassphraseFault, Refusal, Status, passphrase, unread};
 use luks_reading::Device;
 use luks_request::Rebuilding;
 use luks1_rebuilding::Given;

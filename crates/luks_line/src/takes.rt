@@ -61,11 +61,8 @@ impl Takes {
     pub(crate) fn parser(self) -> ValueParser<'static> {
         match self {
             Takes::Nothing | Takes::Form | Takes::SecondCopy => ValueParser::Bool,
-            Takes::File
-            | Takes::OnePassphrase
-            | Takes::Uuid
-            | Takes::Cipher
-            | Takes::Name => ValueParser::String,
+            Takes::File | Takes::OnePassphrase | Takes::Uuid | Takes::Cipher | Takes::Name =>
+                ValueParser::String,
             Takes::Slot => ValueParser::Unsigned(0, 31),
             Takes::Memory => ValueParser::Unsigned(0, 4194303),
             Takes::Iterations | Takes::Sector => ValueParser::Unsigned(0, 4294967295),
