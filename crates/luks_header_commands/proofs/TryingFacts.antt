@@ -67,7 +67,7 @@ keeps_words r HasWords p has v old new (inr kept) = inr (record {
 pub leaves_as : {D : Type 0} (tells : Type 0) (size : D → ℕ) (bytes : D → List ℕ) (says told : List ℕ → List ℕ → List ℕ → Type 0)
     → ((v old new : List ℕ) → says v old new → told v old new) → (volume old new : Result D InputFault)
     → LeavesTarget tells size bytes says volume old new → LeavesTarget tells size bytes told volume old new
-leaves_as {D} tells size bytes says told as (Ok v) (Ok old) (Ok new) left = record { size = left.size; said = λ t. as (bytes v) (bytes old) (bytes new) (left.said t) }
-leaves_as {D} tells size bytes says told as (Ok v) (Ok old) (Err f) left = absurd left
-leaves_as {D} tells size bytes says told as (Ok v) (Err f) new left = left
-leaves_as {D} tells size bytes says told as (Err f) old new left = left
+leaves_as {D} tells size bytes says told each (Ok v) (Ok old) (Ok new) left = record { size = left.size; said = λ t. each (bytes v) (bytes old) (bytes new) (left.said t) }
+leaves_as {D} tells size bytes says told each (Ok v) (Ok old) (Err f) left = absurd left
+leaves_as {D} tells size bytes says told each (Ok v) (Err f) new left = left
+leaves_as {D} tells size bytes says told each (Err f) old new left = left
