@@ -1,12 +1,12 @@
 -- What `rebuild` answers with a passphrase, by what it met.
-use Rattle.std.proofs.Common.{◌≡◌, ◌≢◌, ◌⊎◌, List, ℕ, Bool, true, false, Result, Ok, Err, refl, sym, subst, inl, inr, ◌∙◌}
+use Rattle.std.proofs.Common.{◌≡◌, ◌≢◌, ◌⊎◌, List, ℕ, Bool, true, false, Option, Some, None, IfSome, IfNone, Result, Ok, Err, refl, sym, subst, inl, inr, ◌∙◌}
 use Rattle.luks_area.specs.Device.{count_after}
 use Rattle.luks1_mending.specs.declared.given.Given.{Given}
 use Rattle.luks1_rebuilding.specs.RebuildFaults.{is_rebuild_failure}
 use Rattle.luks1_rebuilding.specs.declared.rebuild_fault.Rebuild1Fault.{Rebuild1Fault}
 use Rattle.luks1_rebuilding.specs.declared.rebuild_fault.Rebuild1Fault.TheVariants as fault1
 use Rattle.luks1_trying.specs.Faults.{IsAnsweredTrialFault}
-use Rattle.luks1_trying.specs.Openings.{IsFirstOpening}
+use Rattle.luks1_trying.specs.Openings.{IsFirstOpening, OpensNoneBelow}
 use Rattle.luks1_trying.specs.declared.opening.Opening.{Opening}
 use Rattle.luks_request.specs.declared.rebuilding.Rebuilding.{Rebuilding}
 use Rattle.luks_commands.specs.declared.answers.Answer.{Answer}
@@ -24,6 +24,14 @@ pub tried_fault : (tells : Type 0) (g : Given) (p : List ℕ) (d : Pair) (f : Re
     → (tells → IsAnsweredTrialFault d.volume g f) → TriedAnswer tells g p d (rebuild1_fault_answer f)
 tried_fault tells g p d fault1.Device count same kept is = trial_failed (inl (count, same)) kept refl
 tried_fault tells g p d f count same kept is = no_header f refl (count, same) kept is refl
+
+-- what was found
+pub first_of : (v p : List ℕ) (g : Given) (found : Option Opening) (o : Opening) → found ≡ Some o → IfSome found (IsFirstOpening v g p) → IsFirstOpening v g p o
+first_of v p g found o is said = subst (λ (x : Option Opening). IfSome x (IsFirstOpening v g p)) is said
+
+-- nothing was
+pub none_of : (v p : List ℕ) (g : Given) (found : Option Opening) → found ≡ None → IfNone found (OpensNoneBelow v g p 64) → OpensNoneBelow v g p 64
+none_of v p g found is said = subst (λ (x : Option Opening). IfNone x (OpensNoneBelow v g p 64)) is said
 
 -- a combination opens a keyslot, and LUKS1 answers later of the same
 pub opened_later : (tells : Type 0) (g : Given) (p : List ℕ) (d e : Pair) (a : Answer) (o : Opening) → IsLater tells d e

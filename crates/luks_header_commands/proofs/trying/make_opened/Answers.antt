@@ -1,14 +1,14 @@
 use Rattle.std.proofs.Common.{inl, refl, sym, subst}
 use Rattle.luks_header_commands.specs.Target.{pair_of, Pair}
 use Rattle.luks_header_commands.specs.Trying.{none_open, TriedAnswer}
-use Rattle.luks_header_commands.proofs.TryingFacts.{opened_later, opened_rest, tried_fault}
+use Rattle.luks_header_commands.proofs.TryingFacts.{first_of, none_of, opened_later, opened_rest, tried_fault}
 use Rattle.luks_header_commands.proofs.trying.make_opened.Goals as goal
 
 pub returns-in-Ok-Some-clause-rest : goal.returns-in-Ok-Some-clause-rest
 returns-in-Ok-Some-clause-rest g c = λ told.
     opened_rest c.args.given.now c.args.trying.now.passphrase.now (g.D.Device.bytes c.args.volume.now) (g.D.Device.bytes c.try_combinations.new.source)
     (g.D.Device.bytes c.args.target.now) (g.D.Device.bytes c.make_of_fields.new.target) c.in-Ok-Some.opening
-    (c.try_combinations.ensures.unchanged.same told) (c.in-Ok-Some.ensures.first told) (c.make_of_fields.ensures.rest told)
+    (c.try_combinations.ensures.unchanged.same told) (first_of (g.D.Device.bytes c.args.volume.now) c.args.trying.now.passphrase.now c.args.given.now c.in-Ok-Some.field-0 c.in-Ok-Some.opening c.in-Ok-Some.field-0-is (c.in-Ok-Some.ensures.first told)) (c.make_of_fields.ensures.rest told)
 
 pub returns-in-Ok-Some-clause-answers : goal.returns-in-Ok-Some-clause-answers
 returns-in-Ok-Some-clause-answers g c =
@@ -25,11 +25,11 @@ returns-in-Ok-Some-clause-answers g c =
       before = refl;
       after = refl;
     })
-    c.in-Ok-Some.ensures.first c.make_of_fields.ensures.answers
+    (λ told. (first_of (g.D.Device.bytes c.args.volume.now) c.args.trying.now.passphrase.now c.args.given.now c.in-Ok-Some.field-0 c.in-Ok-Some.opening c.in-Ok-Some.field-0-is (c.in-Ok-Some.ensures.first told))) c.make_of_fields.ensures.answers
 
 pub returns-in-Ok-None-clause-answers : goal.returns-in-Ok-None-clause-answers
 returns-in-Ok-None-clause-answers g c =
-    none_open (c.in-Ok-None.ensures.count, refl) (λ told. refl) c.in-Ok-None.ensures.faultless c.in-Ok-None.ensures.none refl
+    none_open (c.in-Ok-None.ensures.count, refl) (λ told. refl) c.in-Ok-None.ensures.faultless (λ told. none_of (g.D.Device.bytes c.args.volume.now) c.args.trying.now.passphrase.now c.args.given.now c.in-Ok-None.field-0 c.in-Ok-None.field-0-is (c.in-Ok-None.ensures.none told)) refl
 
 pub returns-in-Err-clause-answers : goal.returns-in-Err-clause-answers
 returns-in-Err-clause-answers g c =

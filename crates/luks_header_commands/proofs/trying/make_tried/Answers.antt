@@ -1,4 +1,4 @@
-use Rattle.std.proofs.Common.{List, ℕ, inr, sym, subst}
+use Rattle.std.proofs.Common.{◌≡◌, List, ℕ, inr, sym, subst}
 use Rattle.luks_commands.specs.Files.{IsWhole}
 use Rattle.luks_header_commands.specs.Trying.{KeepsTried}
 use Rattle.luks_header_commands.proofs.TryingFacts.{keeps_words, leaves_as}
