@@ -1,5 +1,5 @@
 //! A volume in memory that may be damaged further, and what is made of it.
-use crate::given::given;
+use crate::given::give_all;
 use luks_area::MemDevice;
 use luks_reading::open_slot;
 use luks_test_devices::old_bytes;
@@ -105,7 +105,7 @@ impl Functions for Damaged {
         match function {
             "source" => self.clear(alloc, words)?,
             "put" => self.put(alloc, words)?,
-            "given" => self.given = given(alloc, words)?,
+            "given" => give_all(alloc, &mut self.given, words)?,
             "rebuild" => return Ok(Some(self.rebuild(alloc, words)?)),
             "open" => return Ok(Some(self.open(alloc, words)?)),
             _ => return Err(Malformed::Function),

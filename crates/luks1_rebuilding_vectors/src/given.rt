@@ -5,15 +5,15 @@ use luks1_rebuilding::Given;
 use std::alloc::Global;
 
 /// `given [NAME WORD]..`: what is given from here on, each field by its name.
-pub fn given(alloc: Global, words: &mut Words<'_>) -> Result<Given, Malformed> {
-    let mut given = Given::NOTHING;
+pub fn give_all(alloc: Global, given: &mut Given, words: &mut Words<'_>) -> Result<(), Malformed> {
+    *given = Given::NOTHING;
     for _ in 0..6 {
         if words.is_empty() {
             break;
         }
-        give(alloc, &mut given, words)?;
+        give(alloc, given, words)?;
     }
-    Ok(given)
+    Ok(())
 }
 
 /// Gives one more field.
