@@ -1,5 +1,5 @@
-//! Tests of rebuilding LUKS1 headers of small damaged volumes: what opens, refusals, failing devices. They
-//! stand here so that no crate is proved a second time for them.
+//! Tests of rebuilding LUKS1 headers of small damaged volumes, and of the trial: what opens, refusals, failing
+//! devices. They stand here so that no crate is proved a second time for them.
 #![tactic(auto)]
 
 #[cfg(test)]
