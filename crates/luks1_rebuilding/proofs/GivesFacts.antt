@@ -1,21 +1,18 @@
 -- The header that is made is well formed, and its kept keyslots give what the source's equations give.
-use Rattle.std.proofs.Common.{◌≡◌, ℕ, ◌*◌, ◌<◌, ◌≤◌, List, length, Option, Some, None, inl, inr, sym, ap, subst, ◌∙◌, arith, lit≤}
+use Rattle.std.proofs.Common.{◌≡◌, ℕ, ◌<◌, ◌≤◌, List, length, Option, Some, None, inl, inr, sym, ap, subst, ◌∙◌, arith, lit≤}
 use Rattle.byteorder.specs.Endian.{big_number}
 use Rattle.luks_area.specs.Ranges.{part}
 use Rattle.luks_area.specs.RangeFacts.{length-part, part-part}
-use Rattle.luks_area.specs.Sectors.{rounded_to_sectors}
-use Rattle.luks_area.specs.declared.area.Area.{Area}
 use Rattle.luks_area.specs.declared.area.AreaName.TheVariants as name
 use Rattle.luks1_header.specs.Faults.{IsCommonFault, IsEntryFault}
-use Rattle.luks1_header.specs.Header1.{active_word, enabled_word, entry, entry_iterations, entry_key_material_offset, entry_salt, entry_stripes, header_text, key_bytes_of, HoldsCommon, HoldsEntry, IsEntry, IsLuks1}
+use Rattle.luks1_header.specs.Header1.{active_word, enabled_word, entry, entry_key_material_offset, header_text, key_bytes_of, HoldsCommon, HoldsEntry, IsEntry, IsLuks1}
 use Rattle.luks1_header.specs.declared.fault.HeadFault.{HeadFault}
 use Rattle.luks1_header.specs.declared.fault.HeadFault.TheVariants as head
 use Rattle.luks1_header.specs.declared.fault.IterationsOf.TheVariants as of
 use Rattle.luks1_header.specs.declared.fault.TextField.{TextField}
-use Rattle.luks1_header.specs.declared.fault.TextField.TheVariants as field
 use Rattle.luks1_header.specs.declared.luks1.Luks1Slot.{Luks1Slot}
 use Rattle.luks1_header.proofs.Luks1FaultFacts.{common_sound, entry_sound}
-use Rattle.luks1_mending.specs.Areas.{own_area, sector_of, stripes_of}
+use Rattle.luks1_mending.specs.Areas.{sector_of}
 use Rattle.luks1_mending.specs.Kept.{IsKept}
 use Rattle.luks1_mending.specs.Mended.{IsMadeSlot}
 use Rattle.luks1_mending.specs.Taken.{taken_text}
@@ -24,15 +21,9 @@ use Rattle.luks1_mending.proofs.HeaderFacts.{common_held, made_header, text_ther
 use Rattle.luks_head.proofs.ChoiceFacts.{choices_agree}
 use Rattle.luks_head.specs.Selection.{Choice, luks1, Chosen}
 use Rattle.luks_slot.specs.Opening.{slot_key}
-use Rattle.luks_slot.specs.declared.plan.AreaCipher.{AreaCipher}
-use Rattle.luks_slot.specs.declared.plan.AreaCipher.TheVariants.{Apart, Whole}
-use Rattle.luks_slot.specs.declared.plan.Derivation.{Derivation}
-use Rattle.luks_slot.specs.declared.plan.Derivation.TheVariants.{Argon2, Pbkdf2}
 use Rattle.luks_slot.specs.declared.plan.SlotPlan.{SlotPlan}
-use Rattle.luks_reading.proofs.AreaListFacts.{same_area}
 use Rattle.luks_reading.specs.Answer.{no_key, opens, refused, AnswerWithin, HasPlanAs, IsLuks1HeadRefusal, IsLuks1Refusal, IsRefusalAsWithin, IsRefusalWithin, Opened, OpensWithin}
 use Rattle.luks_reading.specs.Checked.{IsLuks1Volume, WellFormed}
-use Rattle.luks_reading.specs.Plans.{HasLuks1Plan, IsLuks1Cipher, IsLuks1Derivation}
 use Rattle.luks_reading.specs.declared.open_fault.OpenFault.{OpenFault}
 use Rattle.luks_reading.specs.declared.open_fault.OpenFault.TheVariants.{Head, Meta, NoSuchSlot, SlotFree, Outside, Slot, Device, Memory}
 use Rattle.luks_reading.specs.declared.report.Data.TheVariants.{Elsewhere}

@@ -1,6 +1,5 @@
 -- A keyslot gives the same by two modes that open alike.
-use Rattle.std.proofs.Common.{◌≡◌, ℕ, List, Bool, Option, Some, None, refl, sym, ap, ◌∙◌, ◌&&◌, ◌||◌, bytes_eq, codes}
-use Rattle.luks_area.specs.Ranges.{part}
+use Rattle.std.proofs.Common.{◌≡◌, ℕ, List, Option, Some, None, refl, sym, ap, ◌∙◌, ◌&&◌, ◌||◌, bytes_eq, codes}
 use Rattle.luks1_header.specs.declared.fault.TextField.TheVariants.{CipherMode, CipherName, HashSpec}
 use Rattle.luks1_mending.specs.Areas.{own_area}
 use Rattle.luks1_mending.specs.Taken.{taken_text}

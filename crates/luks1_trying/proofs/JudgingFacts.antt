@@ -1,5 +1,5 @@
 -- The faults that stand with each combination are those of what is given, completed by usable values.
-use Rattle.std.proofs.Common.{◌≡◌, ℕ, ◌<◌, ◌≤◌, List, Option, Some, None, inl, inr, refl, sym, ap, subst, ◌∙◌, false, unwrap_or, codes, option_map, lit≤}
+use Rattle.std.proofs.Common.{◌≡◌, ℕ, ◌≤◌, List, Option, Some, None, refl, sym, ap, subst, ◌∙◌, false, unwrap_or, codes, option_map, lit≤}
 use Rattle.arrayvec.specs.declared.array_string.ArrayString.{ArrayString}
 use Rattle.luks_area.specs.First.{IsLeast}
 use Rattle.luks1_header.specs.Bytes.{IsUuid}

@@ -1,5 +1,5 @@
 -- What trying a keyslot of a header that was made tells.
-use Rattle.std.proofs.Common.{◌≡◌, ℕ, ◌+◌, ◌*◌, ◌<◌, ◌≤◌, List, length, Bool, true, false, Option, Some, None, Result, Ok, Err, IfErr, IfOk, IsTrue, OnOk, ◌↔◌, inl, inr, refl, sym, ap, subst, ◌∙◌, arith}
+use Rattle.std.proofs.Common.{◌≡◌, ℕ, ◌+◌, ◌*◌, ◌<◌, ◌≤◌, List, length, Bool, false, Option, Some, None, Result, Ok, Err, IfErr, IfOk, IsTrue, OnOk, ◌↔◌, refl, sym, ap, subst, ◌∙◌, arith}
 use Rattle.luks_area.specs.Ranges.{part}
 use Rattle.luks_area.specs.Sectors.{rounded_to_sectors}
 use Rattle.luks_area.specs.declared.area.Area.{Area}
@@ -25,7 +25,6 @@ use Rattle.luks_slot.specs.Refusal.{slot_refusal}
 use Rattle.luks_slot.specs.declared.fault.SlotFault.{SlotFault}
 use Rattle.luks_slot.specs.declared.fault.SlotFault.TheVariants as slot
 use Rattle.luks_slot.specs.declared.plan.SlotPlan.{SlotPlan}
-use Rattle.luks_reading.specs.Answer.{opens}
 use Rattle.luks_reading.specs.PlanAnswers.{IsOpenable}
 use Rattle.luks_reading.specs.Plans.{HasLuks1Plan, IsLuks1Plan}
 use Rattle.luks_reading.specs.declared.open_fault.OpenFault.{OpenFault}
@@ -35,7 +34,7 @@ use Rattle.luks_reading.proofs.SamePlans.{same_answer, same_refusal, SameFields}
 use Rattle.luks1_rebuilding.proofs.GivesFacts.{kept_entry}
 use Rattle.luks1_rebuilding.proofs.MadeFacts.{kept_used, used_kept}
 use Rattle.luks1_rebuilding.proofs.PlanFacts.{plan_here, plan_there, SaysKept}
-use Rattle.luks1_rebuilding.specs.Gives.{GivesKept, IsKeptPlan, IsRefusedKept}
+use Rattle.luks1_rebuilding.specs.Gives.{IsKeptPlan, IsRefusedKept}
 use Rattle.luks1_rebuilding.specs.KeyAreas.{header_of, IsKeptInUse}
 use Rattle.luks1_rebuilding.specs.Used.{any_slot, slot_at}
 use Rattle.luks1_trying.specs.Openings.{OpensBy}

@@ -1,4 +1,4 @@
-use Rattle.std.proofs.Common.{◌≡◌, is_some, false, None, eq-eqb, sym, ◌∙◌}
+use Rattle.std.proofs.Common.{◌≡◌, is_some, false, eq-eqb, sym, ◌∙◌}
 use Rattle.luks1_header.specs.Header1.{key_bytes_of}
 use Rattle.luks1_trying.proofs.CombinationFacts.{length_at, none_of}
 use Rattle.luks1_trying.proofs.combinations.key_bytes.Goals as goal

@@ -1,7 +1,4 @@
-use Rattle.std.proofs.Common.{◌≡◌, is_some, false, None, Some, sym, ap, subst, ◌∙◌}
-use Rattle.std.specs.List.{slice_get}
-use Rattle.luks1_header.specs.Header1.{header_text}
-use Rattle.luks1_trying.specs.Combinations.{tried_texts}
+use Rattle.std.proofs.Common.{◌≡◌, is_some, false, Some, sym, ap, ◌∙◌}
 use Rattle.luks1_trying.specs.Tried.{bytes_of}
 use Rattle.luks1_trying.proofs.CombinationFacts.{none_of, text_at}
 use Rattle.luks1_trying.proofs.combinations.text.Goals as goal

@@ -1,7 +1,7 @@
-use Rattle.std.proofs.Common.{◌≡◌, ◌<◌, ◌∙◌, ℕ, List, IsTrue, subst, sym, arith, rules, below_more}
+use Rattle.std.proofs.Common.{◌∙◌, subst, sym, arith, rules, below_more}
 use Rattle.luks_area.specs.Device.{unchanged-then}
 use Rattle.luks1_trying.specs.Openings.{OpensBy}
-use Rattle.luks1_trying.specs.Tried.{IsMadeOf, IsMadeOfSome}
+use Rattle.luks1_trying.specs.Tried.{IsMadeOf}
 use Rattle.luks1_trying.proofs.opening.first_slot.Goals as goal
 
 pub returns-then-branch-clause-opens : goal.returns-then-branch-clause-opens

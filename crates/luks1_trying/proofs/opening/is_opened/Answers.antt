@@ -1,4 +1,4 @@
-use Rattle.std.proofs.Common.{◌≡◌, ◌≤◌, ◌<◌, ◌↔◌, ℕ, IsTrue, length, sym, ap, ◌∙◌, arith}
+use Rattle.std.proofs.Common.{◌<◌, ◌↔◌, IsTrue, length, sym, arith}
 use Rattle.std.proofs.lemmas.List.{get_or_default}
 use Rattle.luks1_rebuilding.specs.Used.{any_slot}
 use Rattle.luks1_trying.specs.Openings.{OpensBy}

@@ -1,4 +1,4 @@
-use Rattle.std.proofs.Common.{◌≡◌, ◌∙◌, ℕ, List, length, IfNone, IfSome, refl, subst, sym}
+use Rattle.std.proofs.Common.{◌≡◌, ◌∙◌, ℕ, length, IfNone, IfSome, refl, subst, sym}
 use Rattle.luks1_mending.specs.Made.{IsMade}
 use Rattle.luks1_rebuilding.specs.KeyAreas.{header_of}
 use Rattle.luks1_rebuilding.proofs.RebuiltFacts.{moved}

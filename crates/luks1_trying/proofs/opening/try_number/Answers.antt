@@ -1,4 +1,4 @@
-use Rattle.std.proofs.Common.{◌≡◌, List, ℕ, subst, sym}
+use Rattle.std.proofs.Common.{subst, sym}
 use Rattle.luks1_trying.specs.Combinations.{IsCombination}
 use Rattle.luks1_trying.proofs.SameFacts.{none_all, opening_all}
 use Rattle.luks1_trying.proofs.opening.try_number.Goals as goal

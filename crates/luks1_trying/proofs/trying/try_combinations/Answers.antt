@@ -1,4 +1,4 @@
-use Rattle.std.proofs.Common.{◌≡◌, ◌<◌, ◌∙◌, ℕ, List, length, IfNone, IfSome, subst, sym, below_more}
+use Rattle.std.proofs.Common.{◌≡◌, ◌∙◌, ℕ, List, length, IfNone, IfSome, subst, sym, below_more}
 use Rattle.std.proofs.lemmas.Result.{err_from_is_err_and}
 use Rattle.luks_area.specs.Device.{unchanged-then}
 use Rattle.luks_area.specs.First.{IsLeast}

@@ -1,4 +1,4 @@
-use Rattle.std.proofs.Common.{◌≡◌, ℕ}
+use Rattle.std.proofs.Common.{◌≡◌}
 use Rattle.luks_area.specs.Device.{IsUnchanged}
 use Rattle.luks1_trying.specs.Openings.{OpensNoneBelow}
 use Rattle.luks1_trying.proofs.trying.try_combinations.Given as goal
