@@ -1,8 +1,8 @@
 //! The plan of a call that writes, in the caller's buffers.
-ghost use Rattle.std.specs.Prelude.{◌≡◌, ◌≤◌, ◌≢◌, ◌<◌, ◌⊎◌, length, IfOk};
+ghost use Rattle.std.specs.Prelude.{IsTrue, ◌≡◌, ◌≤◌, ◌≢◌, ◌<◌, ◌⊎◌, length, IfOk};
 ghost use Rattle.luks_area.specs.Device.{IsSettled};
 ghost use Rattle.luks_given.specs.Volume.{volume};
-ghost use Rattle.luks_planned.specs.Planned.{planned_bytes, planned_calls, planned_failures, planned_first, planned_size, planned_unsettled, planned_written};
+ghost use Rattle.luks_planned.specs.Planned.{lacked_memory, planned_bytes, planned_calls, planned_failures, planned_first, planned_size, planned_unsettled, planned_written};
 ghost use Rattle.luks_c.specs.Buffers.{filled};
 ghost use Rattle.luks_c.specs.Plans.{IsPlan, IsPlanGiven};
 
@@ -85,6 +85,7 @@ fn fill_calls(buffer: &mut [PlannedCall], calls: &[PlannedCall])
 pub(crate) fn tell_reach<K: Given>(device: &PlannedWrites<K>, told: &mut LuksPlan) -> u32
     requires { planned_failures device.now ≢ 0 }
     ensures answers { (result ≡ 102) ⊎ (result ≡ 103) }
+    ensures memory { result ≡ 103 → IsTrue (lacked_memory device.now) }
     ensures more { result ≡ 102 → length K.bytes < told.new.beyond }
     ensures within { result ≡ 102 → told.new.beyond ≤ planned_size device.now }
 {

@@ -1,5 +1,5 @@
 -- A volume of which the first bytes are given, as a device whose writes are planned.
-use Rattle.std.specs.Prelude.{ℕ, List}
+use Rattle.std.specs.Prelude.{ℕ, List, Bool}
 use Rattle.luks_given.specs.declared.given.Given.{Ghosts as OfGiven}
 use Rattle.luks_given.specs.Volume.{volume}
 use Rattle.luks_planned.specs.declared.planned_writes.PlannedCall.{PlannedCall}
@@ -21,6 +21,10 @@ planned_size device = device.total
 -- how many of its calls have failed
 abbrev pub planned_failures : {K : Type 0} {given : OfGiven K} → PlannedWrites K given → ℕ
 planned_failures device = device.failures
+
+-- whether memory was refused for the plan
+abbrev pub lacked_memory : {K : Type 0} {given : OfGiven K} → PlannedWrites K given → Bool
+lacked_memory device = device.is_full
 
 -- the calls of the plan
 abbrev pub planned_calls : {K : Type 0} {given : OfGiven K} → PlannedWrites K given → List PlannedCall

@@ -47,8 +47,8 @@ pub struct PlannedWrites<K: Given> {
 }
 
 impl<K: Given> PlannedWrites<K> {
-    ghost use Rattle.std.specs.Prelude.{IfSome};
-    ghost use Rattle.luks_planned.specs.Planned.{planned_bytes, planned_calls, planned_failures, planned_first, planned_size, planned_unsettled, planned_written};
+    ghost use Rattle.std.specs.Prelude.{◌↔◌, ◌⊎◌, IfSome, IsNone, IsTrue};
+    ghost use Rattle.luks_planned.specs.Planned.{lacked_memory, planned_bytes, planned_calls, planned_failures, planned_first, planned_size, planned_unsettled, planned_written};
     ghost use Rattle.luks_area.specs.Device.{IsSettled};
 
     /// The volume of `total` bytes that begins with these, and an empty plan.
@@ -94,8 +94,9 @@ impl<K: Given> PlannedWrites<K> {
     /// where none did since the device was made, or memory was refused.
     pub fn reached(&self) -> Option<u64>
         ensures inside { IfSome result (λ end. end ≤ planned_size self.now) }
-        ensures far { planned_failures self.now ≢ 0
-            → IfSome result (λ end. length K.bytes < end) }
+        ensures far { IfSome result (λ end. length K.bytes < end) }
+        ensures none { IsNone result
+            ↔ (planned_failures self.now ≡ 0) ⊎ IsTrue (lacked_memory self.now) }
     {
         if self.is_full || self.failures == 0 {
             None
