@@ -1,5 +1,6 @@
 -- What trying a keyslot of a header that was made tells.
-use Rattle.std.proofs.Common.{◌≡◌, ℕ, ◌+◌, ◌*◌, ◌<◌, ◌≤◌, List, length, Bool, false, Option, Some, None, Result, Ok, Err, IfErr, IfOk, IsTrue, OnOk, ◌↔◌, refl, sym, ap, subst, ◌∙◌, arith}
+use Rattle.std.proofs.Common.{◌≡◌, ℕ, ◌+◌, ◌*◌, ◌<◌, ◌≤◌, List, length, Bool, false, Option, Some, None, Result, Ok, Err, IfErr, IfOk, IsTrue, OnOk, ◌↔◌, refl, slice_index_or, sym, ap, subst, ◌∙◌, arith}
+use Rattle.std.proofs.lemmas.List.{get_or_default}
 use Rattle.luks_area.specs.Ranges.{part}
 use Rattle.luks_area.specs.Sectors.{rounded_to_sectors}
 use Rattle.luks_area.specs.declared.area.Area.{Area}
@@ -38,7 +39,7 @@ use Rattle.luks1_rebuilding.specs.Gives.{IsKeptPlan, IsRefusedKept}
 use Rattle.luks1_rebuilding.specs.KeyAreas.{header_of, IsKeptInUse}
 use Rattle.luks1_rebuilding.specs.Used.{any_slot, slot_at}
 use Rattle.luks1_trying.specs.Openings.{OpensBy}
-use Rattle.luks1_trying.specs.Tried.{IsMadeOf, IsTried}
+use Rattle.luks1_trying.specs.Tried.{IsMadeOfSome, IsMadeOf, IsTried}
 
 -- false isn't true
 untrue : IsTrue false → ⊥
@@ -206,6 +207,25 @@ module _ (d : Luks1) (n : ℕ) (lt : n < 8) (b : List ℕ) (put : WritesLuks1 b 
       let h : List ℕ = header_of v in
       let kept = kept_entry_of h (length v) g d made n lt on_there in
       answered (says_of v g d made b put n lt kept.says) (record { kept = kept.kept; enabled = kept.enabled }) p (made_faultless h (length v) g d made) plan (has_plan h (length v) g made) r q fault none value tried
+
+-- the plan of a keyslot may be opened, and its area lies inside a volume of `total` bytes
+pub record IsPlanThere (plan : SlotPlan) (total : ℕ) : Type 0 where
+  pub openable : IsOpenable plan
+  pub inside : plan.area.start + plan.area.len ≤ total
+
+-- so is that of an enabled one of a header that was made
+pub enabled_plan : (d : Luks1) (n total : ℕ) → IsMadeOfSome d total → n < 8 → (q : Luks1Slot) → (slice_index_or d.slots n q).state ≡ Enabled → (plan : SlotPlan)
+    → ((h e : List ℕ) → IsCommon h d.common → IsEntry e (slice_index_or d.slots n q) → IsLuks1Plan h e plan)
+    → ((h e : List ℕ) → IsCommon h d.common → IsEntry e (slice_index_or d.slots n q) → active_word e ≡ enabled_word → IsOpenable plan)
+    → IsPlanThere plan total
+enabled_plan d n total some low q on plan is judged =
+    let eight = some.made.eight in
+    let within : n < length d.slots = omega (arith, eight, low) in
+    let here : slice_index_or d.slots n q ≡ slot_at d n = sym (get_or_default d.slots n any_slot q within) in
+    record {
+      openable = openable d n low some.as_written some.written (slice_index_or d.slots n q) here on plan is judged some.bytes total some.given some.made;
+      inside = inside d n low some.as_written some.written (slice_index_or d.slots n q) here on plan is judged some.bytes total some.given some.made;
+    }
 
 -- a disabled keyslot opens by no passphrase
 pub tells_shut : (v : List ℕ) (g : Given) (d : Luks1) → IsMadeOf v g d → (n : ℕ) → n < 8 → (s : Luks1Slot) → s ≡ slot_at d n → s.state ≡ Disabled → (p : List ℕ)

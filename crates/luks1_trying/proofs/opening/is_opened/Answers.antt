@@ -3,88 +3,48 @@ use Rattle.std.proofs.lemmas.List.{get_or_default}
 use Rattle.luks1_rebuilding.specs.Used.{any_slot}
 use Rattle.luks1_trying.specs.Openings.{OpensBy}
 use Rattle.luks1_trying.specs.Tried.{IsMadeOf}
-use Rattle.luks1_trying.proofs.OpeningFacts.{inside, of_each, openable, tells_opening, tells_shut}
+use Rattle.luks1_trying.proofs.OpeningFacts.{of_each, enabled_plan, tells_opening, tells_shut}
 use Rattle.luks1_trying.proofs.opening.is_opened.Goals as goal
 
 pub open-requires-clause-iterations : goal.open-requires-clause-iterations
 open-requires-clause-iterations g c =
-    let d = c.args.made.now in
-    let n = c.args.n in
-    let eight = c.requires.made.made.eight in
-    let low = c.requires.numbered in
-    let within : n < length d.slots = omega (arith, eight, low) in
-    (openable d n low c.requires.made.as_written c.requires.made.written _ (sym (get_or_default d.slots n any_slot _ within)) c.in-Enabled.is c.luks1_plan-plan.result c.luks1_plan-plan.ensures.is c.luks1_plan-plan.ensures.judged
-    c.requires.made.bytes (g.D.Device.size c.args.source.now) c.requires.made.given c.requires.made.made).turns
+    (enabled_plan c.args.made.now c.args.n (g.D.Device.size c.args.source.now) c.requires.made c.requires.numbered _ c.in-Enabled.is c.luks1_plan-plan.result
+    c.luks1_plan-plan.ensures.is c.luks1_plan-plan.ensures.judged).openable.turns
 
 pub open-requires-clause-digest_iterations : goal.open-requires-clause-digest_iterations
 open-requires-clause-digest_iterations g c =
-    let d = c.args.made.now in
-    let n = c.args.n in
-    let eight = c.requires.made.made.eight in
-    let low = c.requires.numbered in
-    let within : n < length d.slots = omega (arith, eight, low) in
-    (openable d n low c.requires.made.as_written c.requires.made.written _ (sym (get_or_default d.slots n any_slot _ within)) c.in-Enabled.is c.luks1_plan-plan.result c.luks1_plan-plan.ensures.is c.luks1_plan-plan.ensures.judged
-    c.requires.made.bytes (g.D.Device.size c.args.source.now) c.requires.made.given c.requires.made.made).digest_turns
+    (enabled_plan c.args.made.now c.args.n (g.D.Device.size c.args.source.now) c.requires.made c.requires.numbered _ c.in-Enabled.is c.luks1_plan-plan.result
+    c.luks1_plan-plan.ensures.is c.luks1_plan-plan.ensures.judged).openable.digest_turns
 
 pub open-requires-clause-digest_length : goal.open-requires-clause-digest_length
 open-requires-clause-digest_length g c =
-    let d = c.args.made.now in
-    let n = c.args.n in
-    let eight = c.requires.made.made.eight in
-    let low = c.requires.numbered in
-    let within : n < length d.slots = omega (arith, eight, low) in
-    (openable d n low c.requires.made.as_written c.requires.made.written _ (sym (get_or_default d.slots n any_slot _ within)) c.in-Enabled.is c.luks1_plan-plan.result c.luks1_plan-plan.ensures.is c.luks1_plan-plan.ensures.judged
-    c.requires.made.bytes (g.D.Device.size c.args.source.now) c.requires.made.given c.requires.made.made).digest_length
+    (enabled_plan c.args.made.now c.args.n (g.D.Device.size c.args.source.now) c.requires.made c.requires.numbered _ c.in-Enabled.is c.luks1_plan-plan.result
+    c.luks1_plan-plan.ensures.is c.luks1_plan-plan.ensures.judged).openable.digest_length
 
 pub open-requires-clause-some_bytes : goal.open-requires-clause-some_bytes
 open-requires-clause-some_bytes g c =
-    let d = c.args.made.now in
-    let n = c.args.n in
-    let eight = c.requires.made.made.eight in
-    let low = c.requires.numbered in
-    let within : n < length d.slots = omega (arith, eight, low) in
-    (openable d n low c.requires.made.as_written c.requires.made.written _ (sym (get_or_default d.slots n any_slot _ within)) c.in-Enabled.is c.luks1_plan-plan.result c.luks1_plan-plan.ensures.is c.luks1_plan-plan.ensures.judged
-    c.requires.made.bytes (g.D.Device.size c.args.source.now) c.requires.made.given c.requires.made.made).some_bytes
+    (enabled_plan c.args.made.now c.args.n (g.D.Device.size c.args.source.now) c.requires.made c.requires.numbered _ c.in-Enabled.is c.luks1_plan-plan.result
+    c.luks1_plan-plan.ensures.is c.luks1_plan-plan.ensures.judged).openable.some_bytes
 
 pub open-requires-clause-at_most_128 : goal.open-requires-clause-at_most_128
 open-requires-clause-at_most_128 g c =
-    let d = c.args.made.now in
-    let n = c.args.n in
-    let eight = c.requires.made.made.eight in
-    let low = c.requires.numbered in
-    let within : n < length d.slots = omega (arith, eight, low) in
-    (openable d n low c.requires.made.as_written c.requires.made.written _ (sym (get_or_default d.slots n any_slot _ within)) c.in-Enabled.is c.luks1_plan-plan.result c.luks1_plan-plan.ensures.is c.luks1_plan-plan.ensures.judged
-    c.requires.made.bytes (g.D.Device.size c.args.source.now) c.requires.made.given c.requires.made.made).at_most_128
+    (enabled_plan c.args.made.now c.args.n (g.D.Device.size c.args.source.now) c.requires.made c.requires.numbered _ c.in-Enabled.is c.luks1_plan-plan.result
+    c.luks1_plan-plan.ensures.is c.luks1_plan-plan.ensures.judged).openable.at_most_128
 
 pub open-requires-clause-some_stripes : goal.open-requires-clause-some_stripes
 open-requires-clause-some_stripes g c =
-    let d = c.args.made.now in
-    let n = c.args.n in
-    let eight = c.requires.made.made.eight in
-    let low = c.requires.numbered in
-    let within : n < length d.slots = omega (arith, eight, low) in
-    (openable d n low c.requires.made.as_written c.requires.made.written _ (sym (get_or_default d.slots n any_slot _ within)) c.in-Enabled.is c.luks1_plan-plan.result c.luks1_plan-plan.ensures.is c.luks1_plan-plan.ensures.judged
-    c.requires.made.bytes (g.D.Device.size c.args.source.now) c.requires.made.given c.requires.made.made).some_stripes
+    (enabled_plan c.args.made.now c.args.n (g.D.Device.size c.args.source.now) c.requires.made c.requires.numbered _ c.in-Enabled.is c.luks1_plan-plan.result
+    c.luks1_plan-plan.ensures.is c.luks1_plan-plan.ensures.judged).openable.some_stripes
 
 pub open-requires-clause-sectors : goal.open-requires-clause-sectors
 open-requires-clause-sectors g c =
-    let d = c.args.made.now in
-    let n = c.args.n in
-    let eight = c.requires.made.made.eight in
-    let low = c.requires.numbered in
-    let within : n < length d.slots = omega (arith, eight, low) in
-    (openable d n low c.requires.made.as_written c.requires.made.written _ (sym (get_or_default d.slots n any_slot _ within)) c.in-Enabled.is c.luks1_plan-plan.result c.luks1_plan-plan.ensures.is c.luks1_plan-plan.ensures.judged
-    c.requires.made.bytes (g.D.Device.size c.args.source.now) c.requires.made.given c.requires.made.made).sectors
+    (enabled_plan c.args.made.now c.args.n (g.D.Device.size c.args.source.now) c.requires.made c.requires.numbered _ c.in-Enabled.is c.luks1_plan-plan.result
+    c.luks1_plan-plan.ensures.is c.luks1_plan-plan.ensures.judged).openable.sectors
 
 pub open-requires-clause-within : goal.open-requires-clause-within
 open-requires-clause-within g c =
-    let d = c.args.made.now in
-    let n = c.args.n in
-    let eight = c.requires.made.made.eight in
-    let low = c.requires.numbered in
-    let within : n < length d.slots = omega (arith, eight, low) in
-    inside d n low c.requires.made.as_written c.requires.made.written _ (sym (get_or_default d.slots n any_slot _ within)) c.in-Enabled.is c.luks1_plan-plan.result c.luks1_plan-plan.ensures.is c.luks1_plan-plan.ensures.judged
-    c.requires.made.bytes (g.D.Device.size c.args.source.now) c.requires.made.given c.requires.made.made
+    (enabled_plan c.args.made.now c.args.n (g.D.Device.size c.args.source.now) c.requires.made c.requires.numbered _ c.in-Enabled.is c.luks1_plan-plan.result
+    c.luks1_plan-plan.ensures.is c.luks1_plan-plan.ensures.judged).inside
 
 pub returns-in-Enabled-clause-opens : goal.returns-in-Enabled-clause-opens
 returns-in-Enabled-clause-opens g c = λ tells.
