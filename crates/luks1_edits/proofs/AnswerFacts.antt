@@ -37,9 +37,6 @@ number_moves h g same o l within = number_same h g o l (same.parts o l within)
 pub text_moves : (h g : List ℕ) → SameFront h g → (o l : ℕ) → o + l ≤ 208 → text_at h o l ≡ text_at g o l
 text_moves h g same o l within = text_same h g o l (same.parts o l within)
 
-front_back : (h g : List ℕ) → SameFront h g → SameFront g h
-front_back h g same = record { parts = λ o l within. sym (same.parts o l within) }
-
 pub same_front : (v w : List ℕ) → part w 0 208 ≡ part v 0 208 → SameFront (part v 0 592) (part w 0 592)
 same_front v w e = record { parts = λ o l within. sym (header_moves v w e o l within) }
 

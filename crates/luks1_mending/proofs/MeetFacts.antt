@@ -11,9 +11,5 @@ meet_of a b some other first second = elim (cases_lt a.start b.start) [
   | inr behind ↦ (a.start, ((omega arith, omega (arith, some)), (behind, first)))
 ]
 
--- and only so
-pub meet_first : (a b : Area) → Meet a b → a.start < b.start + b.len
-meet_first a b m = (let low = m.1.0.0 in let high = m.1.1.1 in omega (arith, low, high))
-
 pub meet_second : (a b : Area) → Meet a b → b.start < a.start + a.len
 meet_second a b m = (let low = m.1.1.0 in let high = m.1.0.1 in omega (arith, low, high))

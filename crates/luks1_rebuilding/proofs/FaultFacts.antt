@@ -194,29 +194,6 @@ module _ (h : List ℕ) (source : ℕ) (g : Given) (total : ℕ) where
         unfit_first d made f (inl x) = subst (IsLeast rebuild_key Faults) (sym x.0) (small_first (inl x.1))
         unfit_first d made f (inr x) = judged_first d made f x
 
--- none of what is answered of the target is a device's
-pub target_own : (f : CheckFault) → is_rebuild_failure (target_fault f) ≡ false
-target_own (check.Head f) = refl
-target_own (check.Meta f) = refl
-target_own (check.Area (Outside n)) = refl
-target_own (check.Area (Overlap m n)) = refl
-target_own check.Device = refl
-target_own check.Memory = refl
-
-pub field_own : (f : HeadFault) → is_rebuild_failure (field_fault f) ≡ false
-field_own head.TooShort = refl
-field_own head.NotLuks = refl
-field_own head.Version = refl
-field_own head.NoSoundCopy = refl
-field_own (head.Text t) = refl
-field_own head.Uuid = refl
-field_own (head.SlotState n) = refl
-field_own head.KeyBytes = refl
-field_own (head.Stripes n) = refl
-field_own (head.Iterations o) = refl
-field_own head.Device = refl
-field_own head.Memory = refl
-
 -- ---- what the steps of judging answer
 
 pub err_so : {A F : Type 0} (r : Result A F) (P Q : F → Type 0) → ((f : F) → P f → Q f) → IfErr r P → IfErr r Q

@@ -10,7 +10,6 @@ use Rattle.luks_slot.specs.declared.plan.SlotPlan.{SlotPlan}
 use Rattle.luks_slot.specs.Fault.{is_device_fault, IsAnsweredWithin}
 use Rattle.luks_slot.specs.Opening.{area_bytes}
 use Rattle.luks_slot.specs.Sealing.{IsSealed}
-use Rattle.luks_edit.specs.EditFaults.{is_edit_failure}
 use Rattle.luks_edit.specs.declared.edit.Edit.{Edit}
 use Rattle.luks_edit.specs.declared.edit_fault.EditFault.TheVariants as fault
 use Rattle.luks2_edit_laws.specs.Places.{IsOfCopies}
@@ -27,15 +26,6 @@ unsealed_fault memory plan sealing.Hash x = x
 unsealed_fault memory plan sealing.KeySize x = x
 unsealed_fault memory plan sealing.Device x = tt
 unsealed_fault memory plan sealing.Memory x = x.1
-
--- it is the device's where the device's it was
-pub unsealed_failure : (f : SlotFault) → is_edit_failure (unsealed f) ≡ is_device_fault f
-unsealed_failure sealing.Argon2 = refl
-unsealed_failure sealing.Cipher = refl
-unsealed_failure sealing.Hash = refl
-unsealed_failure sealing.KeySize = refl
-unsealed_failure sealing.Device = refl
-unsealed_failure sealing.Memory = refl
 
 -- where it isn't, nor was it
 pub unsealed_own : (f : SlotFault) → unsealed f ≢ fault.Device → is_device_fault f ≡ false

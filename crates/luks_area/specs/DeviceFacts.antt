@@ -1,21 +1,13 @@
 -- Facts on what calls of a device touch, for the proofs of every crate that stands on this one.
-use Rattle.std.proofs.Common.{◌≡◌, ℕ, ◌+◌, ◌≤◌, List, ◌⊎◌, inl, inr, length, arith}
+use Rattle.std.proofs.Common.{◌≡◌, ℕ, ◌+◌, ◌≤◌, List, inl, inr, arith}
 use Rattle.luks_area.specs.Device.{IsSettled, IsUnchanged, Touches, no_place}
-use Rattle.luks_area.specs.RangeFacts.{at-inside, same_but-equal, same_but-same, same_but-same_outside, same_but-then, same_but-wider, same_outside-same_but, same_outside-written}
-use Rattle.luks_area.specs.Ranges.{written, IsAt, IsOfEither, SameBut, SameOutside}
+use Rattle.luks_area.specs.RangeFacts.{at-inside, same_but-then, same_but-wider}
+use Rattle.luks_area.specs.Ranges.{IsAt, IsOfEither, SameBut}
 
 -- a device of which nothing changed is settled as before
 pub settled_unchanged : {D : Type 0} {tells : Type 0} {size_of : D → ℕ} {bytes_of : D → List ℕ} {unsettled_of : D → ℕ → Type 0} {old new : D}
     → tells → IsUnchanged tells size_of bytes_of unsettled_of old new → IsSettled unsettled_of old → IsSettled unsettled_of new
 settled_unchanged told same settled = record { none = λ p is. settled.none p (same.unsettled told p is) }
-
--- no call
-pub touches-same : {D : Type 0} {bytes_of : D → List ℕ} {unsettled_of : D → ℕ → Type 0} (places : ℕ → Type 0) (device : D)
-    → Touches bytes_of unsettled_of places device device
-touches-same {D} {bytes_of} {unsettled_of} places device = record {
-  bytes = same_but-same (IsOfEither (unsettled_of device) places) (bytes_of device);
-  unsettled = λ p is. inl is;
-}
 
 -- calls that touch some places touch these and more
 pub touches-wider : {D : Type 0} {bytes_of : D → List ℕ} {unsettled_of : D → ℕ → Type 0} {P Q : ℕ → Type 0} {old new : D}
@@ -56,11 +48,6 @@ touches-settled settled touches = same_but-wider (λ p is. elim is [
   | inr there ↦ there
 ]) touches.bytes
 
--- the same of a range
-pub touches-outside : {D : Type 0} {bytes_of : D → List ℕ} {unsettled_of : D → ℕ → Type 0} {at len : ℕ} {old new : D}
-    → IsSettled unsettled_of old → Touches bytes_of unsettled_of (IsAt at len) old new → SameOutside (bytes_of old) (bytes_of new) at len
-touches-outside {D} {bytes_of} {unsettled_of} {at} {len} settled touches = same_outside-same_but at len (touches-settled settled touches)
-
 -- the same by another length
 pub touches-range : {D : Type 0} {bytes_of : D → List ℕ} {unsettled_of : D → ℕ → Type 0} {at m n : ℕ} {old new : D}
     → m ≡ n → Touches bytes_of unsettled_of (IsAt at m) old new → Touches bytes_of unsettled_of (IsAt at n) old new
@@ -70,16 +57,3 @@ touches-range {at = at} is touches = touches-wider (λ p here. (here.0, let high
 pub touches-inside : {D : Type 0} {bytes_of : D → List ℕ} {unsettled_of : D → ℕ → Type 0} (at len i n : ℕ) {old new : D}
     → i + n ≤ len → Touches bytes_of unsettled_of (IsAt (at + i) n) old new → Touches bytes_of unsettled_of (IsAt at len) old new
 touches-inside at len i n inside touches = touches-wider (λ p here. at-inside at len i n p inside here) touches
-
--- a write that left these bytes, on a device that has nothing unsettled
-pub touches-written : {D : Type 0} {bytes_of : D → List ℕ} {unsettled_of : D → ℕ → Type 0} {old new : D} (at : ℕ) (from : List ℕ)
-    → at + length from ≤ length (bytes_of old) → bytes_of new ≡ written (bytes_of old) at from
-    → ((p : ℕ) → unsettled_of new p → IsOfEither (unsettled_of old) (IsAt at (length from)) p)
-    → Touches bytes_of unsettled_of (IsAt at (length from)) old new
-touches-written {D} {bytes_of} {unsettled_of} {old} {new} at from inside is joined =
-    let same : SameBut (IsAt at (length from)) (bytes_of old) (written (bytes_of old) at from) =
-    same_but-same_outside (same_outside-written (bytes_of old) at from inside) in
-    record {
-      bytes = same_but-then (same_but-wider (λ p there. inr there) same) (same_but-equal (IsOfEither (unsettled_of old) (IsAt at (length from))) is);
-      unsettled = joined;
-    }

@@ -1,6 +1,6 @@
 -- Facts on the ranges of a volume, for the proofs of every crate that stands on this one.
 use Rattle.std.proofs.Common.{◌≡◌, ℕ, ◌+◌, ◌-◌, ◌<◌, ◌≤◌, List, [], ◌++◌, ◌⊎◌, inl, inr, length, take, drop, get_or, min, refl, sym, ap, ◌∙◌, arith, append_assoc, length-append, length-drop}
-use Rattle.std.proofs.lemmas.List.{length-take, length-take-le, get_or-take, get_or-drop, drop-drop, take-take, take_all, append-nil, take-append-drop}
+use Rattle.std.proofs.lemmas.List.{length-take, length-take-le, get_or-take, get_or-drop, drop-drop, take_all, append-nil, take-append-drop}
 use Rattle.std.proofs.Math.Seq.{take-add, take-length, take-append_seam, drop-append_seam}
 use Rattle.std.proofs.lemmas.Bool.{cases_lt}
 use Rattle.std.proofs.lemmas.Grind.{same_number_lists}
@@ -101,41 +101,6 @@ written-written v at xs ys inside =
     ∙ ap (λ l. l ++ drop (at + length (xs ++ ys)) v) (append_assoc (take at v) xs ys)
 
 -- agreeing outside a range
-
--- a volume agrees with itself
-pub same_outside-same : (v : List ℕ) (at len : ℕ) → SameOutside v v at len
-same_outside-same v at len = record { length_same = refl; before = refl; after = refl }
-
--- one change after another in one range
-pub same_outside-then : {u v w : List ℕ} {at len : ℕ} → SameOutside u v at len → SameOutside v w at len → SameOutside u w at len
-same_outside-then first second = record {
-  length_same = second.length_same ∙ first.length_same;
-  before = second.before ∙ first.before;
-  after = second.after ∙ first.after;
-}
-
--- a change in a range is one in a wider range
-pub same_outside-wider : {v w : List ℕ} (at len i n : ℕ) → i + n ≤ len → SameOutside v w (at + i) n → SameOutside v w at len
-same_outside-wider {v} {w} at len i n inside same =
-    let there : ((at + i) + n) + (len - (i + n)) ≡ at + len = omega (arith, inside) in
-    let rest : ℕ = len - (i + n) in
-    record {
-      length_same = same.length_same;
-      before = sym (take-take at (at + i) w (omega arith)) ∙ ap (take at) same.before ∙ take-take at (at + i) v (omega arith);
-      after = ap (λ k. drop k w) (sym there) ∙ sym (drop-drop rest ((at + i) + n) w) ∙ ap (drop rest) same.after
-          ∙ drop-drop rest ((at + i) + n) v ∙ ap (λ k. drop k v) there;
-    }
-
--- a change in the front of a range is one in the range
-pub same_outside-longer : {v w : List ℕ} (at len n : ℕ) → n ≤ len → SameOutside v w at n → SameOutside v w at len
-same_outside-longer {v} {w} at len n inside same =
-    let there : (at + n) + (len - n) ≡ at + len = omega (arith, inside) in
-    record {
-      length_same = same.length_same;
-      before = same.before;
-      after = ap (λ k. drop k w) (sym there) ∙ sym (drop-drop (len - n) (at + n) w) ∙ ap (drop (len - n)) same.after
-          ∙ drop-drop (len - n) (at + n) v ∙ ap (λ k. drop k v) there;
-    }
 
 -- places
 

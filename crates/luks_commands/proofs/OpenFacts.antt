@@ -1,5 +1,5 @@
 -- What `open` answers where nothing is opened.
-use Rattle.std.proofs.Common.{◌≡◌, ◌≢◌, ℕ, List, Option, Some, None, Result, Ok, Err, IfOk, IfErr, inl, refl}
+use Rattle.std.proofs.Common.{◌≡◌, ℕ, List, Option, Some, None, Result, Ok, Err, IfOk, IfErr, refl}
 use Rattle.luks_area.specs.Device.{count_after, CountsFailure}
 use Rattle.luks_reading.specs.declared.open_fault.OpenFault.{OpenFault}
 use Rattle.luks_reading.specs.declared.open_fault.OpenFault.TheVariants.{Head, Meta, NoSuchSlot, SlotFree, Outside, Slot, Device, Memory}
@@ -9,11 +9,8 @@ use Rattle.luks_reading.specs.Answer.{opened_to, AnswerWithin as Gives, IsRefuse
 use Rattle.luks_reading.specs.Conversions.{unread_opened}
 use Rattle.luks_reading.specs.Failures.{is_open_failure, is_read_failure}
 use Rattle.luks_reading.specs.Unlocking.{IsVolumeRefusedBy, Unlocks}
-use Rattle.luks_commands.specs.declared.answers.Answer.{Answer}
-use Rattle.luks_commands.specs.declared.answers.Status.TheVariants.{NotInStep}
-use Rattle.luks_commands.specs.declared.inputs.InputFault.{InputFault}
-use Rattle.luks_commands.specs.Answer.{answer_status, IsWordless, open_fault_answer}
-use Rattle.luks_commands.specs.OpenAnswers.{any_answer, AnswersOpen, IsAnyAnswer, IsOneAnswer, one_answer}
+use Rattle.luks_commands.specs.Answer.{open_fault_answer}
+use Rattle.luks_commands.specs.OpenAnswers.{any_answer, IsAnyAnswer, IsOneAnswer, one_answer}
 
 -- a fault of the keyslot that is named
 one_fault : (tells : Type 0) (memory : ℕ) (v : List ℕ) (n : ℕ) (p : List ℕ) (before after : ℕ) (f : OpenFault) → after ≡ count_after (is_open_failure f) before
@@ -69,20 +66,3 @@ pub answers_any : (tells : Type 0) (memory : ℕ) (v p : List ℕ) (before after
 answers_any tells memory v p before after (Ok (Some found)) count opens refused = (count, λ t. (found.1, opens t))
 answers_any tells memory v p before after (Ok None) count opens refused = (count, opens)
 answers_any tells memory v p before after (Err f) count opens refused = any_fault tells memory v p before after f count refused
-
--- it isn't told of copies
-pub open_kinds : (f : OpenFault) → answer_status (open_fault_answer f) ≢ NotInStep
-open_kinds (Head f) = λ e. cc
-open_kinds (Meta f) = λ e. cc
-open_kinds NoSuchSlot = λ e. cc
-open_kinds SlotFree = λ e. cc
-open_kinds Outside = λ e. cc
-open_kinds (Slot f) = λ e. cc
-open_kinds Device = λ e. cc
-open_kinds Memory = λ e. cc
-
--- a command without a passphrase makes no call on the volume
-pub opens_wordless : {D : Type 0} (tells : Type 0) (bytes : D → List ℕ) (failed : D → ℕ) (memory : ℕ) (slot : Option ℕ) (HasWords : List ℕ → Type 0) (is_long : Type 0) (unread : InputFault → Type 0)
-    (volume : Result D InputFault) (a : Answer) → IsWordless is_long unread a → AnswersOpen tells bytes failed memory slot HasWords is_long unread volume volume a
-opens_wordless {D} tells bytes failed memory slot HasWords is_long unread (Ok d) a is = inl (is, refl)
-opens_wordless {D} tells bytes failed memory slot HasWords is_long unread (Err f) a is = inl is

@@ -28,7 +28,7 @@ use Rattle.luks_commands.specs.Answer.{answer_status, edit_fault_answer, IsWordl
 use Rattle.luks_edit_commands.specs.declared.edit.seen.Unseen.{Unseen}
 use Rattle.luks_edit_commands.specs.declared.edit.seen.Unseen.TheVariants.{Untold, Used}
 use Rattle.luks_edit_commands.specs.OtherUses.{IsUnseen, unseen_answer}
-use Rattle.luks_edit_commands.specs.Editing.{Given, IsAsked, KeepsUnnamed, WhereFailed, IsRefused, IsReplied, SaysEdit, SparesEdit, SparesVolume, given_edit}
+use Rattle.luks_edit_commands.specs.Editing.{Given, IsAsked, KeepsUnnamed, WhereFailed, IsRefused, IsReplied, SaysEdit, SparesEdit, given_edit}
 use Rattle.luks_commands.specs.declared.inputs.InputFault.{InputFault}
 use Rattle.luks_commands.specs.Files.{LeavesVolume}
 use Rattle.luks_commands.proofs.EndFacts.{unread_is_fault}
@@ -344,16 +344,6 @@ pub unnamed_same : {D : Type 0} (tells : Type 0) (failed : D → ℕ) (bytes : D
     → KeepsUnnamed tells failed bytes editing volume volume
 unnamed_same tells failed bytes editing (Ok device) = λ t well same. kept_same _ _ _ well
 unnamed_same tells failed bytes editing (Err f) = tt
-
-pub failed_same : {D : Type 0} (failed : D → ℕ) (holds : Type 0) (volume : Result D InputFault) → WhereFailed failed volume volume holds
-failed_same failed holds (Ok device) = λ apart. absurd (apart refl)
-failed_same failed holds (Err f) = tt
-
--- so no call failed on it, and there is nothing to spare
-pub spared_same : {D : Type 0} (tells : Type 0) (failed : D → ℕ) (bytes : D → List ℕ) (payload : Data) (given : Given) (volume : Result D InputFault)
-    → SparesVolume tells failed bytes payload given volume volume
-spared_same tells failed bytes payload given (Ok device) = λ t well apart. absurd (apart refl)
-spared_same tells failed bytes payload given (Err f) = tt
 
 -- where a call failed, another fact holds that follows
 pub failed_as : {D : Type 0} (failed : D → ℕ) (holds told : Type 0) → (holds → told) → (old new : Result D InputFault) → WhereFailed failed old new holds

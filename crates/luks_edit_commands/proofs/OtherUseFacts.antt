@@ -1,10 +1,9 @@
 -- The other use of a disk is one, and what is seen of an edit that it bars.
-use Rattle.std.proofs.Common.{◌≡◌, ℕ, List, Bool, false, Option, Some, None, Result, Ok, Err, IfOk, take, refl, sym, subst}
+use Rattle.std.proofs.Common.{◌≡◌, ℕ, List, Bool, Option, Some, None, Result, Ok, Err, IfOk, take, refl, subst}
 use Rattle.luks_area.specs.declared.device.DeviceFault.{DeviceFault}
 use Rattle.luks1_header.specs.Header1.{HasMagic}
-use Rattle.luks_head.specs.declared.selection.Copies.{Copies}
-use Rattle.luks_head.specs.declared.selection.Copies.TheVariants.{InStep, FirstNewer, SecondNewer, FirstOnly, SecondOnly}
-use Rattle.luks_head.specs.Selection.{Choice, Chosen, luks1, luks2}
+use Rattle.luks_head.specs.declared.selection.Copies.TheVariants.{SecondOnly}
+use Rattle.luks_head.specs.Selection.{Chosen, luks2}
 use Rattle.luks_head.proofs.ChoiceFacts.{choices_agree}
 use Rattle.luks_signatures.specs.Signatures.{Finds, table}
 use Rattle.luks_signatures.specs.declared.other_use.OtherUse.{OtherUse}
@@ -27,19 +26,6 @@ one_use v a b x y =
     let e : Some a ≡ Some b = finds-one table (take x.place v) (Some a) (Some b) x.finds moved in
     cc
 
--- none where another header counts, or another copy
-pub unused_luks1 : (v : List ℕ) → Chosen v luks1 → FindsOtherUse v None
-unused_luks1 v chosen = λ u has. let e : luks1 ≡ luks2 has.place SecondOnly = choices_agree v luks1 (luks2 has.place SecondOnly) chosen has.chosen in cc
-
-pub unused_luks2 : (v : List ℕ) (place : ℕ) (copies : Copies) → (copies ≡ SecondOnly → ⊥) → Chosen v (luks2 place copies) → FindsOtherUse v None
-unused_luks2 v place copies other chosen = λ u has.
-    let e : luks2 place copies ≡ luks2 has.place SecondOnly = choices_agree v (luks2 place copies) (luks2 has.place SecondOnly) chosen has.chosen in
-    other (let same : copies ≡ SecondOnly = cc in same)
-
--- none where the magic stands
-pub unused_magic : (v : List ℕ) → HasMagic v → FindsOtherUse v None
-unused_magic v magic = λ u has. has.no_magic magic
-
 -- what the table finds in the place of the first copy
 pub finds_use : (v : List ℕ) (place : ℕ) (result : Result (Option OtherUse) DeviceFault) → Chosen v (luks2 place SecondOnly) → (HasMagic v → ⊥)
     → IfOk result (Finds table (take place v)) → IfOk result (FindsOtherUse v)
@@ -49,12 +35,6 @@ finds_use v place (Ok None) chosen no_magic finds = λ u has.
     let e : Some u ≡ None = finds-one table (take place v) (Some u) None moved finds in
     cc
 finds_use v place (Err f) chosen no_magic finds = finds
-
--- it bars an edit that may not write over it
-pub bars_as : (v : List ℕ) (result : Result (Option OtherUse) DeviceFault) (over : Bool) → over ≡ false → IfOk result (FindsOtherUse v) → IfOk result (Bars over v)
-bars_as v (Ok (Some found)) over not finds = (not, finds)
-bars_as v (Ok None) over not finds = λ _. finds
-bars_as v (Err f) over not finds = finds
 
 -- a header that isn't read may be barred
 pub header_barred : (v : List ℕ) (payload : Data) (u : OtherUse) (f : EditFault) → IsHeaderRefused v payload f → IsBarred u (unseen_answer (Untold f))

@@ -1,5 +1,5 @@
 -- What a search has told, from step to step.
-use Rattle.std.proofs.Common.{◌≡◌, ℕ, ◌+◌, ◌^◌, ◌<◌, ◌≤◌, List, [], ◌∷◌, ◌++◌, length, Option, Some, Result, Ok, Err, IfOk, IfErr, OnOk, inl, inr, refl, sym, ap, ◌∙◌, subst, arith, append_assoc}
+use Rattle.std.proofs.Common.{◌≡◌, ℕ, ◌+◌, ◌<◌, ◌≤◌, List, [], ◌∷◌, ◌++◌, length, Option, Some, Result, Ok, Err, IfOk, IfErr, OnOk, inl, inr, refl, sym, ap, ◌∙◌, subst, arith, append_assoc}
 use Rattle.std.proofs.lemmas.List.{append-nil}
 use Rattle.std.proofs.KnownBytes.{Appends-trans}
 use Rattle.std.specs.Io.KnownBytes.{Appends}
@@ -14,7 +14,7 @@ use Rattle.luks_finding.specs.declared.finding.Step.TheVariants.{Start, Two, On,
 use Rattle.luks_finding.proofs.ListFacts.{none-between, none-yet, starts-all, starts-join}
 use Rattle.luks_find_command.specs.FindAnswers.{run_of, HasTold, IsFindRun, TellsAll, TellsFirst}
 use Rattle.luks_find_command.specs.Lines.{end_line, found_status, none_found}
-use Rattle.luks_find_command.specs.Searches.{starts_in, Finishes, HasToldFirst, HasToldPart, IsToldAll, IsToldFirst, MayEnd, TellsPart, TellsSoFar}
+use Rattle.luks_find_command.specs.Searches.{starts_in, Finishes, HasToldFirst, HasToldPart, IsToldAll, IsToldFirst, TellsPart, TellsSoFar}
 use Rattle.luks_find_command.specs.Stops.{stop_of, StopsBy}
 use Rattle.luks_find_command.specs.declared.stop.Stop.{Stop}
 use Rattle.luks_find_command.specs.declared.stop.Stop.TheVariants as stop
@@ -126,13 +126,6 @@ first-stopped offset v total from next found step held mid holds stop.Memory tol
 first-stopped offset v total from next found step held mid holds stop.Unprinted told tells goes is = tt
 
 -- ---- the end
-
-pub may-end : (r : Result ℕ Stop) (failed failed_now prints mid : ℕ) → IfErr r (λ why. StopsBy why failed failed_now prints mid) → OnOk r ((failed_now ≡ failed) × (mid ≡ prints))
-    → prints + 1 < 2 ^ 64 → MayEnd r mid
-may-end (Ok found) failed failed_now prints mid stopped ended room = let same : mid ≡ prints = ended.1 in omega (arith, same, room)
-may-end (Err stop.Device) failed failed_now prints mid stopped ended room = let same : mid ≡ prints = stopped.1 in omega (arith, same, room)
-may-end (Err stop.Memory) failed failed_now prints mid stopped ended room = let same : mid ≡ prints = stopped.1 in omega (arith, same, room)
-may-end (Err stop.Unprinted) failed failed_now prints mid stopped ended room = tt
 
 end-some : (list : List ℕ) → (list ≡ [] → ⊥) → (end_line list ≡ []) × (found_status list ≡ 0)
 end-some [] some = absurd (some refl)

@@ -3,9 +3,9 @@ use Rattle.std.proofs.Common.{◌≡◌, ℕ, ◌+◌, ◌*◌, ◌-◌, ◌<◌
 use Rattle.luks_area.specs.Ranges.{part}
 use Rattle.luks_area.specs.RangeFacts.{length-part, part-part}
 use Rattle.luks_finding.specs.Blocks.{BeginsAt, BeginsSign, FindsIn, IsFirstIn}
-use Rattle.luks_finding.specs.Finding.{step_of, AreStartsBetween, GoesOn, TellsNext}
+use Rattle.luks_finding.specs.Finding.{step_of, AreStartsBetween, TellsNext}
 use Rattle.luks_finding.specs.Starts.{IsSign}
-use Rattle.luks_finding.specs.Telling.{starts_of, AreToldAt, LieBefore}
+use Rattle.luks_finding.specs.Telling.{starts_of, AreToldAt}
 use Rattle.luks_finding.specs.declared.told.Told.{Told}
 use Rattle.luks_finding.specs.declared.told.Told.TheVariants.{Nothing, One, Two}
 use Rattle.luks_finding.proofs.ListFacts.{none-between, told-between}
@@ -61,17 +61,3 @@ pub tells-step : (v : List ℕ) (from next : ℕ) (told : Told) → AreStartsBet
 tells-step v from next Nothing between = between
 tells-step v from next (One s) between = between
 tells-step v from next (Two s t) between = between
-
-pub goes-step : (total from found : ℕ) (told : Told) → from ≤ found → 512 * found + 8 ≤ total → LieBefore (512 * found) told → GoesOn total from (found + 1) (step_of told)
-goes-step total from found Nothing low inside lie = (omega (arith, low), omega (arith, low, inside))
-goes-step total from found (One s) low inside lie = (omega (arith, low), omega (arith, low, inside), omega (arith, lie, inside), omega (arith, lie))
-goes-step total from found (Two s t) low inside lie =
-    let below : s < t = lie.0 in
-    let high : t ≤ 512 * found = lie.1 in
-    (omega (arith, low), omega (arith, low, inside), below, omega (arith, high, inside), omega (arith, high))
-
--- behind the disk's end no sign stands
-pub none-behind : (v : List ℕ) (from k s : ℕ) → length v ≤ 512 * from → from ≤ k → IsSign v s (512 * k) → ⊥
-none-behind v from k s end low sign =
-    let inside : 512 * k + 8 ≤ length v = begins-inside v (512 * k) (sign-begins v s (512 * k) sign) in
-    omega (arith, end, low, inside)

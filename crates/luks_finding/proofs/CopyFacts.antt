@@ -1,6 +1,6 @@
 -- Second copies on a disk, of volumes that begin before them.
-use Rattle.std.proofs.Common.{◌≡◌, ℕ, ◌+◌, ◌-◌, ◌<◌, ◌≤◌, ◌==◌, nat_le, List, [], ◌∷◌, length, take, get_or, true, inl, inr, refl, sym, ap, ◌∙◌, subst, arith, length-drop}
-use Rattle.std.proofs.lemmas.Bool.{or_cases, or_left, and_parts, eqb-true, eq-eqb, leb-true, false≢true}
+use Rattle.std.proofs.Common.{◌≡◌, ℕ, ◌+◌, ◌-◌, ◌<◌, ◌≤◌, ◌==◌, nat_le, List, [], ◌∷◌, length, take, get_or, true, inl, inr, sym, ap, ◌∙◌, subst, arith, length-drop}
+use Rattle.std.proofs.lemmas.Bool.{or_cases, and_parts, eqb-true, leb-true, false≢true}
 use Rattle.std.proofs.lemmas.List.{drop-drop}
 use Rattle.sha2.specs.Sha256.{sha256}
 use Rattle.luks_area.specs.Ranges.{part}
@@ -62,11 +62,6 @@ sound-inside v s size listed sound =
     let long : length (volume_at v s) ≡ length v - s = length-drop s v in
     let least : 16384 ≤ size = listed_at_least size listed in
     omega (arith, inside, named, long, least)
-
--- the first of ascending numbers is among them, and the least
-pub first-among : (xs : List ℕ) → 1 ≤ length xs → is_among (get_or xs 0 0) xs ≡ true
-first-among [] some = absurd (omega arith)
-first-among (x ∷ xs) some = or_left (x == x) (is_among x xs) (eq-eqb x x refl)
 
 first-least : (xs : List ℕ) (p : ℕ) → is_rising xs ≡ true → is_among p xs ≡ true → get_or xs 0 0 ≤ p
 first-least [] p rising among = absurd (false≢true among)

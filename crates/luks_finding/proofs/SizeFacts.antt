@@ -1,17 +1,12 @@
 -- The search for metadata through ascending sizes.
-use Rattle.std.proofs.Common.{◌≡◌, ℕ, ◌<◌, ◌≤◌, ◌⊎◌, ◌==◌, List, [], ◌∷◌, length, get_or, true, inl, inr, refl, sym, subst, arith}
-use Rattle.std.proofs.lemmas.Bool.{or_cases, or_left, eqb-true, eq-eqb}
+use Rattle.std.proofs.Common.{◌≡◌, ℕ, ◌<◌, ◌⊎◌, ◌==◌, List, [], ◌∷◌, get_or, true, inl, inr, sym, subst, arith}
+use Rattle.std.proofs.lemmas.Bool.{or_cases, eqb-true}
 use Rattle.luks_head.specs.Sizes.{is_among}
 use Rattle.luks_head.proofs.SecondCopyFacts.{later}
 use Rattle.std.proofs.lemmas.List.{take_rest}
 use Rattle.luks_rebuilding.specs.declared.place.Place.{Place}
 use Rattle.luks_finding.specs.Starts.{HasMetadata}
-use Rattle.luks_finding.specs.Telling.{first_copy, second_copy, HasMetadataOf, HasNearerMetadata}
-
--- the first of the sizes is one of them
-pub first-among : (xs : List ℕ) → 1 ≤ length xs → is_among (get_or xs 0 0) xs ≡ true
-first-among [] some = absurd (omega arith)
-first-among (x ∷ xs) some = or_left (x == x) (is_among x xs) (eq-eqb x x refl)
+use Rattle.luks_finding.specs.Telling.{HasMetadataOf, HasNearerMetadata}
 
 -- where it isn't of the first, it is of a later one
 pub among-later : (P : ℕ → Type 0) (xs : List ℕ) (p : ℕ) → (P (get_or xs 0 0) → ⊥) → P p → is_among p xs ≡ true → is_among p (later xs) ≡ true
@@ -33,8 +28,3 @@ nearer-of v s size has = of_place has.copy has.has.whole.is_place.first_or_secon
     of_place copy (inr second) near has =
         let P : ℕ → Type 0 = λ at. HasMetadata v s (record { size = copy.size; at = at }) in
         inr (omega (arith, second, near), subst P second has)
-
--- and one of a size is such a copy
-pub of-nearer : (v : List ℕ) (s near size : ℕ) → 0 < size → HasMetadataOf v s near size → HasNearerMetadata v s size
-of-nearer v s near size some (inl has) = record { copy = first_copy near; near = omega (arith, some); has = has }
-of-nearer v s near size some (inr second) = record { copy = second_copy near; near = second.0; has = second.1 }

@@ -135,13 +135,6 @@ told-copy v p k size back none no_text named sound far =
 
 -- ---- metadata
 
--- no JSON area is a sign before the length of a binary header
-pub text-low : (v : List ℕ) (p : ℕ) → p < 4096 → BeginsText (part v p 8) → TellsAt v p Nothing
-text-low v p low text = told-nothing v p (λ s sign.
-    let metadata : IsMetadataSign v s p = sign-metadata v s p text sign in
-    let there : p ≡ s + metadata.copy.at + 4096 = metadata.there in
-    absurd (omega (arith, there, low)))
-
 -- the binary header before it, of metadata that is a sign
 header-there : (v : List ℕ) (s p h : ℕ) → p ≡ h + 4096 → (sign : IsMetadataSign v s p) → s + sign.copy.at ≡ h
 header-there v s p h behind sign = let there : p ≡ s + sign.copy.at + 4096 = sign.there in omega (arith, there, behind)

@@ -1,19 +1,17 @@
 -- What `backup` leaves and answers, by what it met.
-use Rattle.std.proofs.Common.{◌≡◌, ◌≢◌, List, ℕ, Result, Ok, Err, false, refl, ap}
-use Rattle.luks_area.specs.Device.{count_after}
+use Rattle.std.proofs.Common.{◌≡◌, List, ℕ, Result, Ok, Err, false, refl, ap}
 use Rattle.luks_writing.specs.TwoDevices.{CountsAfter}
 use Rattle.luks_reading.specs.declared.report.Data.{Data}
 use Rattle.luks_keeping.specs.BackupFaults.{is_backup_failure, IsAnsweredBackup}
 use Rattle.luks_keeping.specs.declared.backup_fault.BackupFault.{BackupFault}
 use Rattle.luks_keeping.specs.declared.backup_fault.BackupFault.TheVariants.{Memory, Device}
 use Rattle.luks_commands.specs.declared.answers.Answer.{Answer}
-use Rattle.luks_commands.specs.declared.answers.Status.TheVariants.{NotInStep}
 use Rattle.luks_commands.specs.declared.inputs.InputFault.{InputFault}
 use Rattle.luks_commands.specs.declared.inputs.InputFault.TheVariants.{Absent, Unreadable, NoMemory}
 use Rattle.luks_commands.specs.declared.inputs.Reason.{Reason}
 use Rattle.luks_commands.specs.declared.inputs.Reason.TheVariants as reason
-use Rattle.luks_commands.specs.Answer.{answer_status, backup_fault_answer, unread_answer}
-use Rattle.luks_keeping_commands.specs.BackingUp.{AnswersBackup, IsBackupAnswer, IsNotKept, IsWithoutFile, KeepsRest}
+use Rattle.luks_commands.specs.Answer.{backup_fault_answer, unread_answer}
+use Rattle.luks_keeping_commands.specs.BackingUp.{AnswersBackup, IsBackupAnswer, IsWithoutFile, KeepsRest}
 use Rattle.luks_keeping_commands.specs.TwoFiles.{Pair}
 
 -- a file that no call was made on has kept its rest
@@ -28,20 +26,6 @@ pub answers_fault : (tells : Type 0) (payload : Data) (d : Pair) (f : BackupFaul
 answers_fault tells payload d Device count same is = count
 answers_fault tells payload d Memory count same is = (count, same refl, is)
 answers_fault tells payload d f count same is = (count, same refl, is)
-
--- the same without a file
-pub lacks_backup : (tells : Type 0) (payload : Data) (v : List ℕ) (before after : ℕ) (f : BackupFault)
-    → after ≡ count_after (is_backup_failure f) before → (tells → IsAnsweredBackup v payload 18446744073709551615 f)
-    → IsNotKept tells payload v before after (backup_fault_answer f)
-lacks_backup tells payload v before after Device count is = count
-lacks_backup tells payload v before after Memory count is = (count, is)
-lacks_backup tells payload v before after f count is = (count, is)
-
--- no fault tells of copies out of step
-pub fault_kinds : (f : BackupFault) → answer_status (backup_fault_answer f) ≢ NotInStep
-fault_kinds Device = λ e. cc
-fault_kinds Memory = λ e. cc
-fault_kinds f = λ e. cc
 
 -- ---- of a file that wasn't found to be there and not empty
 

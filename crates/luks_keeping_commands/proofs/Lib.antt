@@ -1,3 +1,2 @@
 pub mod BackupFacts
 pub mod RestoreFacts
-pub mod CompareFacts

@@ -1,5 +1,5 @@
 -- What `restore` leaves and answers, by what it met.
-use Rattle.std.proofs.Common.{◌≡◌, ◌≢◌, inl, List, ℕ, false, refl, sym, subst, ◌∙◌, length}
+use Rattle.std.proofs.Common.{◌≡◌, inl, List, ℕ, false, refl, subst, ◌∙◌, length}
 use Rattle.luks_area.specs.Ranges.{part, SameBut}
 use Rattle.luks_area.specs.declared.area.Area.{Area}
 use Rattle.luks_writing.specs.TwoDevices.{CountsAfter, IsOneFailure}
@@ -13,8 +13,7 @@ use Rattle.luks_keeping.specs.declared.restore_fault.RestoreFault.TheVariants.{N
 use Rattle.luks_commands.specs.declared.answers.Answer.{Answer}
 use Rattle.luks_commands.specs.declared.answers.Answer.TheVariants.{Done, Refused, DeviceFault, NoMemory}
 use Rattle.luks_commands.specs.declared.answers.Refusal.TheVariants.{Restore}
-use Rattle.luks_commands.specs.declared.answers.Status.TheVariants.{NotInStep}
-use Rattle.luks_commands.specs.Answer.{answer_status, restore_fault_answer}
+use Rattle.luks_commands.specs.Answer.{restore_fault_answer}
 use Rattle.luks_keeping_commands.specs.Restoring.{IsNewVolume, IsRestoreAnswer, KeepsRest}
 use Rattle.luks_keeping_commands.specs.TwoFiles.{Pair}
 
@@ -27,9 +26,6 @@ keeps_same payload backup volume = record {
   segments = λ n a is. refl;
   order = λ c chosen. inl (record { length_same = refl; each = λ p apart. refl });
 }
-
-pub keeps_equal : (payload : Data) (backup old new : List ℕ) → new ≡ old → KeepsRest payload backup old new
-keeps_equal payload backup old new same = subst (λ (l : List ℕ). KeepsRest payload backup old l) (sym same) (keeps_same payload backup old)
 
 -- a device of so many bytes
 pub keeps_rest : (payload : Data) (b old new : List ℕ) (total : ℕ) → length old ≡ total → SameBut (IsOfRestored b) old new
@@ -56,11 +52,6 @@ pub answers_fault : (tells : Type 0) (payload : Data) (over : Over) (d : Pair) (
 answers_fault tells payload over d Device count same is = count
 answers_fault tells payload over d Memory count same is = (count, same refl, is)
 answers_fault tells payload over d f count same is = (count, same refl, is)
-
-pub fault_kinds : (f : RestoreFault) → answer_status (restore_fault_answer f) ≢ NotInStep
-fault_kinds Device = λ e. cc
-fault_kinds Memory = λ e. cc
-fault_kinds f = λ e. cc
 
 -- what was answered of two devices that calls before it changed nothing of
 module _

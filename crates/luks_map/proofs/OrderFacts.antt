@@ -6,9 +6,6 @@ use Rattle.luks_area.specs.First.{NotAfter}
 use Rattle.luks_map.specs.declared.row.Row.{Row}
 use Rattle.luks_map.specs.Rows.{place, rank, row_key}
 
-not_less : (x y : ℕ) → is_lt (nat_cmp x y) ≡ false → y ≤ x
-not_less x y h = grind (arith, common_steps)
-
 -- what isn't less by place and then by rank stands not after
 pub not_after : (r s : Row) → is_lt (ordering_then (nat_cmp (place s) (place r)) (nat_cmp (rank s) (rank r))) ≡ false → NotAfter (row_key r) (row_key s)
 not_after r s h = by (place r) (place s) (rank r) (rank s) h

@@ -21,7 +21,7 @@ use Rattle.luks_reading.specs.Layout2.{Luks2Area}
 use Rattle.luks_reading.specs.declared.report.Data.TheVariants.{Elsewhere}
 use Rattle.luks_rebuilding.proofs.SourceFacts.{no_source, one_source}
 use Rattle.luks_rebuilding.specs.Candidates.{IsVouchedOf, OfTaken, Source}
-use Rattle.luks_rebuilding.specs.Found.{source_of, BreaksVouched, IsCountedFor, IsFoundIn, IsNotPlain, IsWhole}
+use Rattle.luks_rebuilding.specs.Found.{source_of, IsFoundIn, IsNotPlain, IsWhole}
 use Rattle.luks_rebuilding.specs.KeyAreas.{EndsBeforeRegion, HasHeaderArea}
 use Rattle.luks_rebuilding.specs.Outcome.{AnswersCounts, IsAnsweredFault, IsNoUuid, IsNotFound, IsRebuildable, IsRebuildFault, PassesCounts}
 use Rattle.luks_rebuilding.specs.RebuildFaults.{is_rebuild_failure, rebuild_key}
@@ -180,12 +180,6 @@ module _
 
 -- ---- what is answered
 
--- a search that was broken off where nothing counts finds no candidate
-pub broken_not_found : (v : List ℕ) (which : Which) (f : RebuildFault) → PassesCounts v which → BreaksVouched v which f → IsNotFound v which f
-broken_not_found v which Memory passes x = record { passes = passes; place = x.0; sought = inl x.1 }
-broken_not_found v which Device passes x = tt
-broken_not_found v which f passes x = absurd x
-
 -- where no checksum vouches for any, a search for others that was broken off or found none finds none
 pub plain_not_found : (v : List ℕ) (which : Which) (f : RebuildFault) → PassesCounts v which → ((s : Source) → IsVouchedOf v which s → ⊥)
     → IsNotPlain v which f → IsNotFound v which f
@@ -197,12 +191,6 @@ plain_not_found v which (Area f) passes none x = absurd x
 plain_not_found v which TooSmall passes none x = absurd x
 plain_not_found v which Uuid passes none x = absurd x
 plain_not_found v which RandomLength passes none x = absurd x
-
--- a header that counts and may not is the first fault
-pub counted_not_found : (v : List ℕ) (which : Which) (f : RebuildFault) → IsCountedFor v which f → IsNotFound v which f
-counted_not_found v which Counts x = x
-counted_not_found v which Device x = tt
-counted_not_found v which f x = absurd x
 
 -- why no candidate is found is what is answered
 pub not_found_first : (v : List ℕ) (which : Which) (given : Option (List ℕ)) (total : ℕ) (random : List ℕ) (f : RebuildFault) → IsNotFound v which f → IsAnsweredFault v which given total random f

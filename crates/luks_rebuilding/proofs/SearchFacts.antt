@@ -75,10 +75,6 @@ size_of : (half : Half) (size : ℕ) → (place_of half size).size ≡ size
 size_of First size = refl
 size_of Second size = refl
 
-pub half_place : (half : Half) (size : ℕ) → ((place_of half size).at ≡ 0) ⊎ ((place_of half size).at ≡ (place_of half size).size)
-half_place First size = inl refl
-half_place Second size = inr refl
-
 pub half_listed : (half : Half) (size : ℕ) → IsListed size → IsListed (place_of half size).size
 half_listed First size listed = listed
 half_listed Second size listed = listed

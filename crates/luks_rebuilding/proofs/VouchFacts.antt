@@ -1,5 +1,5 @@
 -- The search for what a checksum vouches for: the first of those that were found so far.
-use Rattle.std.proofs.Common.{◌≡◌, ℕ, ◌<◌, ◌≤◌, ◌⊎◌, ◌==◌, List, [], ◌∷◌, Bool, true, false, if◌then◌else◌, inl, inr, arith, sym, ap, ◌∙◌, subst, Option, Some, None}
+use Rattle.std.proofs.Common.{◌≡◌, ℕ, ◌<◌, ◌≤◌, ◌⊎◌, ◌==◌, List, [], ◌∷◌, true, inl, inr, arith, sym, ap, ◌∙◌, subst, Option, Some, None}
 use Rattle.std.proofs.lemmas.Bool.{cases_Bool, or_cases, eqb-true, false≢true}
 use Rattle.luks_area.specs.First.{NotAfter}
 use Rattle.luks_head.specs.Sizes.{is_among, IsListed}
@@ -80,18 +80,6 @@ module _ (a b : Source) (va : a.vouched ≡ true) (vb : b.vouched ≡ true) wher
   pub same_number : a.seqid ≡ b.seqid → NotAfter (place_key (place_of_source a)) (place_key (place_of_source b)) → NotAfter (source_key a) (source_key b)
   same_number same places =
       not_after_as (source_key a) (source_key b) _ _ (key_vouched a va) (key_vouched b vb) (omega arith, λ e. (omega (arith, same), λ f. places))
-
--- places of one half by their size, else the first copy's
-pub same_half : (a b : Place) → (a.at == 0) ≡ (b.at == 0) → a.size ≤ b.size → NotAfter (place_key a) (place_key b)
-same_half a b half less =
-    let heads : ◌≡◌ {A = ℕ} (if a.at == 0 then 1 else 2) (if b.at == 0 then 1 else 2) = ap (λ (t : Bool). if t then 1 else 2) half in
-    (omega (arith, heads), λ e. (omega (arith, less), λ f. tt))
-
-pub first_half : (a b : Place) → (a.at == 0) ≡ true → (b.at == 0) ≡ false → NotAfter (place_key a) (place_key b)
-first_half a b p q =
-    let one : ◌≡◌ {A = ℕ} (if a.at == 0 then 1 else 2) 1 = ap (λ (t : Bool). if t then 1 else 2) p in
-    let two : ◌≡◌ {A = ℕ} (if b.at == 0 then 1 else 2) 2 = ap (λ (t : Bool). if t then 1 else 2) q in
-    (omega (arith, one, two), λ e. absurd (omega (arith, one, two, e)))
 
 -- ---- one more copy is searched
 

@@ -1,5 +1,5 @@
 -- How the key of an area is derived, and when Argon2 is refused.
-use Rattle.std.proofs.Common.{◌≡◌, ◌∙◌, ℕ, ◌*◌, ◌-◌, ◌^◌, ◌<◌, ◌≤◌, List, length, refl, ap, sym, subst, arith, true, false, Some, None}
+use Rattle.std.proofs.Common.{◌≡◌, ℕ, ◌*◌, ◌-◌, ◌^◌, ◌≤◌, List, length, refl, ap, sym, subst, arith, true, false, Some, None}
 use Rattle.std.specs.Prelude.{◌==◌, ◌||◌, nat_lt, not, if◌then◌else◌, Bool}
 use Rattle.std.proofs.lemmas.Bool.Decides.{nat_tests}
 use Rattle.luks_slot.specs.declared.fault.SlotFault.{SlotFault}
@@ -8,12 +8,11 @@ use Rattle.luks_slot.specs.declared.plan.Argon2Plan.{Argon2Plan}
 use Rattle.luks_slot.specs.declared.plan.Derivation.{Derivation}
 use Rattle.luks_slot.specs.declared.plan.Derivation.TheVariants.{Pbkdf2, Argon2}
 use Rattle.luks_slot.specs.declared.plan.SlotPlan.{SlotPlan}
-use Rattle.luks_slot.specs.declared.parameters.KeyDerivation.{KeyDerivation}
 use Rattle.luks_slot.specs.declared.parameters.KeyDerivation.TheVariants as known
 use Rattle.luks_slot.specs.declared.parameters.Pbkdf2Costs.{Pbkdf2Costs}
-use Rattle.luks_slot.specs.Fault.{IsAnsweredFault, IsAnsweredWithin}
+use Rattle.luks_slot.specs.Fault.{IsAnsweredWithin}
 use Rattle.luks_slot.specs.Opening.{area_key_by, derived_by_argon2, HasIterations}
-use Rattle.luks_slot.specs.Parameters.{derived_by_pbkdf2, HasLanes, IsDerivation}
+use Rattle.luks_slot.specs.Parameters.{derived_by_pbkdf2, IsDerivation}
 use Rattle.luks_slot.specs.Refusal.{are_known_hashes, first_refusal, is_argon2, is_argon2_refused, is_open_cipher, slot_refusal, slot_refusal_within}
 
 -- what PBKDF2 derives by the costs of a plan is what the plan derives
@@ -38,21 +37,6 @@ pub passed : (d : Derivation) (costs : Argon2Plan) → HasIterations d → IsDer
 passed (Pbkdf2 h i s) costs some is = absurd is
 passed (Argon2 a) costs some is = subst (λ c. (1 ≤ c.time) × (length c.salt.now ≤ 128)) is some
 
--- it is a plan of Argon2
-pub plan_by_argon2 : (d : Derivation) (costs : Argon2Plan) → IsDerivation d (known.Argon2 costs) → is_argon2 d ≡ true
-plan_by_argon2 (Pbkdf2 h i s) costs is = absurd is
-plan_by_argon2 (Argon2 a) costs is = refl
-
--- Argon2 that isn't refused has lanes, and memory for them
-limits : (memory : ℕ) (a : Argon2Plan) → is_argon2_refused memory (Argon2 a) ≡ false → (1 ≤ a.cpus) × (a.cpus < 2 ^ 24) × (8 * a.cpus ≤ a.memory)
-limits memory a off = (grind (arith, nat_tests), grind (arith, nat_tests), grind (arith, nat_tests))
-
-pub lanes_of : (memory : ℕ) (d : Derivation) (k : KeyDerivation) → is_argon2_refused memory d ≡ false → IsDerivation d k → HasLanes k
-lanes_of memory (Pbkdf2 h i s) (known.Pbkdf2 c) off is = tt
-lanes_of memory (Pbkdf2 h i s) (known.Argon2 c) off is = absurd is
-lanes_of memory (Argon2 a) (known.Pbkdf2 c) off is = absurd is
-lanes_of memory (Argon2 a) (known.Argon2 c) off is = subst (λ x. HasLanes (known.Argon2 x)) is (limits memory a off)
-
 -- where no memory is allowed, Argon2 is refused whatever its costs are
 refused_at_zero : (m c salt : ℕ) → (nat_lt 0 m || nat_lt m (8 * c) || nat_lt c 1 || nat_lt (2 ^ 24 - 1) c || nat_lt salt 8) ≡ true
 refused_at_zero m c salt = grind (arith, nat_tests)
@@ -63,20 +47,6 @@ none_allowed (Argon2 a) = refused_at_zero a.memory a.cpus (length a.salt.now)
 
 pub refusal_at_zero : (plan : SlotPlan) → slot_refusal_within 0 plan ≡ slot_refusal plan
 refusal_at_zero plan = ap (λ b. first_refusal b plan) (none_allowed plan.derivation)
-
--- where Argon2 is refused, it is refused first
-pub refused_first : (plan : SlotPlan) → is_argon2 plan.derivation ≡ true → slot_refusal plan ≡ Some fault.Argon2
-refused_first plan is = ap (λ b. first_refusal b plan) is
-
--- and what is answered is what is answered without it
-pub answered_at_zero : (plan : SlotPlan) (f : SlotFault) → IsAnsweredWithin 0 plan f → IsAnsweredFault plan f
-answered_at_zero plan fault.Argon2 is = sym (refusal_at_zero plan) ∙ is
-answered_at_zero plan fault.Cipher is = sym (refusal_at_zero plan) ∙ is
-answered_at_zero plan fault.Hash is = sym (refusal_at_zero plan) ∙ is
-answered_at_zero plan fault.KeySize is = sym (refusal_at_zero plan) ∙ is
-answered_at_zero plan fault.Device is = sym (refusal_at_zero plan) ∙ is
-answered_at_zero plan fault.Memory is =
-    let both : Some fault.Argon2 ≡ None = sym (refused_first plan is.1) ∙ sym (refusal_at_zero plan) ∙ is.0 in absurd (cc)
 
 -- a refusal is of the plan, and so neither of these
 unfailing : (t cipher hashes size : Bool) (f : SlotFault)

@@ -1,5 +1,5 @@
 -- Bytes of an area that are written, encrypted, run by run.
-use Rattle.std.proofs.Common.{◌≡◌, ◌≢◌, ℕ, ◌+◌, ◌*◌, ◌/◌, ◌%◌, ◌<◌, ◌≤◌, ◌⊎◌, inl, inr, List, length, take, get_or, set, ap, sym, ◌∙◌, subst, arith, refl, get_or-set_other, get_or-set_same}
+use Rattle.std.proofs.Common.{◌≡◌, ℕ, ◌+◌, ◌*◌, ◌/◌, ◌%◌, ◌<◌, ◌≤◌, ◌⊎◌, inl, inr, List, length, take, get_or, set, ap, sym, ◌∙◌, subst, arith, refl, get_or-set_other, get_or-set_same}
 use Rattle.std.proofs.lemmas.Bool.{cases_lt}
 use Rattle.luks_area.specs.declared.area.Area.{Area}
 use Rattle.luks_area.specs.RangeFacts.{at-inside, part-part, part-same_but_at, part-written, same_but-same_outside, same_but-wider, same_outside-written}
@@ -71,23 +71,6 @@ front_more key area wanted run len place byte begun is size before k lt =
           ∙ get_or-set_same run (place % 4096) byte 0 (omega (arith, size))
           ∙ is ∙ ap (λ p. get_or wanted p 0) there
     ]
-
--- a byte more, where neither the run is full nor the area
-pub byte_held : (key area wanted run : List ℕ) (len place byte : ℕ) → HoldsWanted key area len wanted place run → byte ≡ get_or wanted place 0 → length run ≡ 4096
-    → place < len → place % 4096 ≢ 4095 → place + 1 ≢ len → HoldsWanted key area len wanted (place + 1) (set run (place % 4096) byte)
-byte_held key area wanted run len place byte begun is size before unfilled more =
-    let left : place % 4096 < 4095 = elim (cases_lt (place % 4096) 4095) [
-      | inl lt ↦ lt
-      | inr over ↦ absurd (unfilled (omega (arith, over)))
-    ] in
-    let base : begun.stored ≡ 4096 * (place / 4096) = begun.inside (λ e. omega (arith, e, before)) in
-    record {
-      stored = 4096 * (place / 4096);
-      inside = λ other. omega (arith, left);
-      end = λ here. absurd (more here);
-      whole = λ p lt. begun.whole p (omega (arith, lt, base));
-      front = front_more key area wanted run len place byte begun is size before;
-    }
 
 -- a byte more, where the run was stored with it
 byte_stored : (v w key wanted run after : List ℕ) (start len place byte : ℕ) → HoldsWanted key (part v start len) len wanted place run

@@ -1,5 +1,5 @@
 -- Which steps of a list of edits have a reply, and how often the device failed in them.
-use Rattle.std.proofs.Common.{◌≡◌, ℕ, ◌+◌, ◌<◌, List, [], ◌∷◌, ◌++◌, length, Err, Ok, refl, sym, ap, ◌∙◌, subst, append_assoc, append-nil, length-append, inl, inr, arith}
+use Rattle.std.proofs.Common.{◌≡◌, ℕ, ◌+◌, ◌<◌, List, [], ◌∷◌, ◌++◌, length, Err, Ok, refl, sym, ap, ◌∙◌, subst, append_assoc, append-nil, length-append, inr, arith}
 use Rattle.luks_edit.specs.declared.edit_fault.EditFault.TheVariants as fault
 use Rattle.luks_area.specs.Device.{CountsFailure}
 use Rattle.luks_edit.specs.EditFaults.{is_edit_failure}
@@ -33,13 +33,6 @@ replied_more k before now r fine x = record {
   appended = ap (λ rs. rs ++ r ∷ []) x.appended ∙ append_assoc before x.replies (r ∷ []);
   each = let long = length-append x.replies (r ∷ []) in let each = x.each in omega arith;
   fine = none_then x.replies r x.fine fine;
-}
-
-pub counts_all : (count k : ℕ) (before now : List Reply) (failures : ℕ) → k ≡ count → AreRepliedSoFar k before now → CountsRun count before now failures failures
-counts_all count k before now failures over x = record {
-  replies = x.replies;
-  appended = x.appended;
-  counted = inl (record { each = x.each ∙ over; fine = x.fine }, refl);
 }
 
 pub counts_failure : (count k : ℕ) (before now : List Reply) (r : Reply) (failures : ℕ) → k < count → IsFailure r → AreRepliedSoFar k before now
