@@ -1,0 +1,12 @@
+//! Derivations that take a wanted time on this machine: iterations of PBKDF2, and costs of Argon2.
+#![tactic(auto)]
+
+mod argon2_costs;
+mod fault;
+mod iterations;
+mod sample;
+
+pub use argon2_costs::{Argon2Costs, argon2_costs_in};
+pub use fault::CostFault;
+pub use iterations::iterations_in;
+pub use sample::Sample;
