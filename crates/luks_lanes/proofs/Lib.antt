@@ -1,5 +1,6 @@
 pub mod ByteFacts
 pub mod DiffusionFacts
+pub mod PairHasherFacts
 pub mod RowFacts
 pub mod Sha1Facts
 pub mod TurnFacts

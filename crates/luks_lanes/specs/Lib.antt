@@ -1,1 +1,2 @@
+pub mod PairHasher
 pub mod Turns

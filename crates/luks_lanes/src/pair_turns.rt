@@ -142,7 +142,7 @@ fn words_at(row: &[u8], i: usize) -> u32x4
 }
 
 // The words of value `j`.
-fn lane_words(words: &[u32x4; 8], j: usize) -> [u32; 8]
+pub(crate) fn lane_words(words: &[u32x4; 8], j: usize) -> [u32; 8]
     requires { j < 2 }
     ensures { result ≡ lane j words.now }
 {
