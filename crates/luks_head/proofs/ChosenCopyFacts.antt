@@ -1,5 +1,5 @@
 -- Which copy is chosen, by which of them are sound; why none is.
-use Rattle.std.proofs.Common.{◌≡◌, ℕ, ◌≤◌, List, length, arith, lit≤, sym, ap, ◌∙◌, subst}
+use Rattle.std.proofs.Common.{◌≡◌, ℕ, ◌<◌, ◌≤◌, Option, None, Some, List, length, arith, lit≤, sym, ap, ◌∙◌, subst}
 use Rattle.luks_area.specs.First.{NotAfter}
 use Rattle.luks_area.specs.Ranges.{part}
 use Rattle.luks_area.specs.RangeFacts.{part-part, length-part_inside}
@@ -8,16 +8,16 @@ use Rattle.luks1_header.specs.Faults.{head_key}
 use Rattle.luks1_header.specs.Header1.{HasMagic, version_of}
 use Rattle.luks1_header.specs.declared.fault.HeadFault.{HeadFault}
 use Rattle.luks1_header.specs.declared.fault.HeadFault.TheVariants as fault
-use Rattle.luks_head.specs.ChosenCopy.{HoldsChosenCopy, IsNewer, IsNoHeaderFault}
+use Rattle.luks_head.specs.ChosenCopy.{HoldsChosenCopy, IsNewer, IsNoHeaderFault, IsSizeOfFirst}
 use Rattle.luks_head.specs.Header2.{header_at, HoldsBin2, IsSound}
-use Rattle.luks_head.specs.SoundCopies.{IsLeastCopy, IsSoundCopy}
+use Rattle.luks_head.specs.SoundCopies.{FindsSoundCopy, IsLeastCopy, IsSoundCopy}
 use Rattle.luks_head.specs.Selection.{Chosen, nothing, HasNoSoundCopy, IsNotVersion1, IsRefused, IsSelectFault, IsVersion1, second_place}
 use Rattle.luks_head.specs.declared.bin2.Bin2.{Bin2}
 use Rattle.luks_head.specs.declared.selection.Copies.{Copies}
 use Rattle.luks_head.specs.declared.selection.Copies.TheVariants.{InStep, FirstNewer, SecondNewer, FirstOnly, SecondOnly}
 
 -- a sound copy stands where its header says
-place_is : (v : List ℕ) (o : ℕ) (h : Bin2) → IsSoundCopy v o h → h.hdr_offset ≡ o
+pub place_is : (v : List ℕ) (o : ℕ) (h : Bin2) → IsSoundCopy v o h → h.hdr_offset ≡ o
 place_is v o h copy = sym copy.fields.hdr_offset ∙ copy.sound.form.offset
 
 fields_are : (v : List ℕ) (o : ℕ) (h : Bin2) → IsSoundCopy v o h → HoldsBin2 (header_at v h.hdr_offset) h
@@ -80,6 +80,42 @@ first_is_chosen v first one none =
       chosen = (record { first = one.sound; no_second = subst N (sym one.fields.hdr_size) none }, place_is v 0 first one);
       fields = fields_are v 0 first one;
     }
+
+-- the chosen one of two that were found
+pub chosen_newer : (v : List ℕ) (o : ℕ) (a b : Option Bin2) (first second h : Bin2) (copies : Copies) → a ≡ Some first → b ≡ Some second
+    → FindsSoundCopy v 0 a → IsSizeOfFirst a o → FindsSoundCopy v o b → IsNewer first second h copies → HoldsChosenCopy v h copies
+chosen_newer v o a b first second h copies is_first is_second one size two newer =
+    let P : Option Bin2 → Type 0 = λ x. FindsSoundCopy v 0 x in
+    let Q : Option Bin2 → Type 0 = λ x. IsSizeOfFirst x o in
+    let R : Option Bin2 → Type 0 = λ x. FindsSoundCopy v o x in
+    let N : ℕ → Type 0 = λ n. IsSoundCopy v n second in
+    newer_is_chosen v first second h copies (subst P is_first one) (subst N (sym (subst Q is_first size)) (subst R is_second two)) newer
+
+-- the first one, where no second one was found
+pub chosen_first : (v : List ℕ) (o : ℕ) (a b : Option Bin2) (first : Bin2) → a ≡ Some first → b ≡ None
+    → FindsSoundCopy v 0 a → IsSizeOfFirst a o → FindsSoundCopy v o b → HoldsChosenCopy v first FirstOnly
+chosen_first v o a b first is_first no_second one size two =
+    let P : Option Bin2 → Type 0 = λ x. FindsSoundCopy v 0 x in
+    let Q : Option Bin2 → Type 0 = λ x. IsSizeOfFirst x o in
+    let R : Option Bin2 → Type 0 = λ x. FindsSoundCopy v o x in
+    let N : ℕ → Type 0 = λ n. IsSound v n → ⊥ in
+    first_is_chosen v first (subst P is_first one) (subst N (sym (subst Q is_first size)) (subst R no_second two))
+
+-- the one with the higher sequence number is the newer
+pub newer_second : (first second h : Bin2) (copies : Copies) → first.seqid < second.seqid → IsNewer first second h copies → h ≡ second
+newer_second first second h InStep higher newer = absurd (omega (arith, newer.0))
+newer_second first second h FirstNewer higher newer = absurd (omega (arith, newer.0))
+newer_second first second h SecondNewer higher newer = newer.1
+newer_second first second h FirstOnly higher newer = absurd newer
+newer_second first second h SecondOnly higher newer = absurd newer
+
+-- else the first is
+pub newer_first : (first second h : Bin2) (copies : Copies) → second.seqid ≤ first.seqid → IsNewer first second h copies → h ≡ first
+newer_first first second h InStep higher newer = newer.1
+newer_first first second h FirstNewer higher newer = newer.1
+newer_first first second h SecondNewer higher newer = absurd (omega (arith, newer.0))
+newer_first first second h FirstOnly higher newer = absurd newer
+newer_first first second h SecondOnly higher newer = absurd newer
 
 -- the second copy alone
 pub second_is_chosen : (v : List ℕ) (second : Bin2) → (IsSound v 0 → ⊥) → IsLeastCopy v second → HoldsChosenCopy v second SecondOnly

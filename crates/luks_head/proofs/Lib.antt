@@ -1,5 +1,6 @@
 pub mod BinaryHeaderFacts
 pub mod BinaryHeaderWriting
+mod BothCopiesFacts
 pub mod ChoiceFacts
 pub mod ChosenCopyFacts
 pub mod CopyFacts

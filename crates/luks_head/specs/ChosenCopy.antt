@@ -3,7 +3,7 @@ use Rattle.std.specs.Prelude.{◌≡◌, ◌≢◌, ℕ, ◌<◌, List, Option, 
 use Rattle.luks1_header.specs.Header1.{HasMagic, version_of}
 use Rattle.luks1_header.specs.declared.fault.HeadFault.{HeadFault}
 use Rattle.luks1_header.specs.declared.fault.HeadFault.TheVariants as fault
-use Rattle.luks_head.specs.Header2.{header_at, HoldsBin2}
+use Rattle.luks_head.specs.Header2.{header_at, HoldsBin2, IsSound}
 use Rattle.luks_head.specs.Selection.{IsChosenCopy, HasNoSoundCopy}
 use Rattle.luks_head.specs.declared.bin2.Bin2.{Bin2}
 use Rattle.luks_head.specs.declared.selection.Copies.{Copies}
@@ -26,6 +26,16 @@ pub record HoldsChosenCopy (v : List ℕ) (h : Bin2) (copies : Copies) : Type 0 
 abbrev pub FindsChosenCopy : List ℕ → Option (Bin2 × Copies) → Type 0
 FindsChosenCopy v None = HasNoSoundCopy v
 FindsChosenCopy v (Some p) = HoldsChosenCopy v p.0 p.1
+
+-- a first copy that is there is of the size o
+abbrev pub IsSizeOfFirst : Option Bin2 → ℕ → Type 0
+IsSizeOfFirst None o = Unit {0}
+IsSizeOfFirst (Some first) o = first.hdr_size ≡ o
+
+-- the chosen copy, where the first one is sound
+abbrev pub FindsChosenByFirst : List ℕ → Option (Bin2 × Copies) → Type 0
+FindsChosenByFirst v None = IsSound v 0 → ⊥
+FindsChosenByFirst v (Some p) = HoldsChosenCopy v p.0 p.1
 
 -- why nothing is chosen, by the volume's first bytes
 abbrev pub IsNoHeaderFault : List ℕ → HeadFault → Type 0

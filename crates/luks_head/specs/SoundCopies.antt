@@ -39,6 +39,11 @@ kept_size = 12288
 abbrev pub kept_at : List ℕ → ℕ → List ℕ
 kept_at v o = part v (o + binary_header_size) kept_size
 
+-- the copy at o begins with its binary header, `front`, and with `kept` of its JSON area
+pub record IsBegun (v : List ℕ) (o : ℕ) (front kept : List ℕ) : Type 0 where
+  pub head : front ≡ header_at v o
+  pub json : kept ≡ kept_at v o
+
 -- `json` is what is kept of the copy with the binary header `h`
 abbrev pub KeepsJson : List ℕ → List ℕ → Bin2 → Type 0
 KeepsJson v json h = json ≡ kept_at v h.hdr_offset

@@ -1,13 +1,13 @@
 //! Copies of a LUKS2 header on a device, and whether they are sound.
-ghost use Rattle.std.specs.Prelude.{◌≡◌, ◌↔◌, ◌+◌, ◌*◌, ◌^◌, ◌<◌, ◌≤◌, codes, length, take, IsTrue, IfOk, IfSome, OnOk, MatchResult};
+ghost use Rattle.std.specs.Prelude.{◌≡◌, ◌↔◌, ◌+◌, ◌*◌, ◌^◌, ◌<◌, ◌≤◌, codes, length, take, IsTrue, IfOk, IfSome, MatchOption, MatchResult};
 ghost use Rattle.sha2.specs.Hashers.{Holds256};
 ghost use Rattle.sha2.specs.Sha256.{sha256};
 ghost use Rattle.luks_area.specs.Device.{is_failure, CountsFailure, IsUnchanged};
 ghost use Rattle.luks_area.specs.Ranges.{part};
 ghost use Rattle.luks_area.specs.Text.{text_of};
 ghost use Rattle.luks1_header.specs.Header1.{luks1_size};
-ghost use Rattle.luks_head.specs.Header2.{binary_header_size, csum_at, csum_size, csum_alg_field, header_at, magic_of, sha256_size, with_zero_checksum, IsFormed};
-ghost use Rattle.luks_head.specs.SoundCopies.{kept_at, kept_size, FindsSoundCopy, FindsSecondCopy, IsFoundWithin, KeepsJson};
+ghost use Rattle.luks_head.specs.Header2.{binary_header_size, csum_at, csum_size, csum_alg_field, header_at, magic_of, sha256_size, with_zero_checksum, HoldsBin2, IsFormed, IsSound};
+ghost use Rattle.luks_head.specs.SoundCopies.{kept_size, FindsSoundCopy, FindsSecondCopy, IsBegun, IsFoundWithin, KeepsJson};
 ghost use Rattle.luks_head.specs.Sizes.{is_listed, IsListed};
 
 use crate::bin2::Bin2;
@@ -18,13 +18,13 @@ use luks1_header::luks1_places::{self, MAGIC};
 use sha2::{Digest, Sha256};
 
 /// The bytes of a binary header, by which a copy is read.
-const WINDOW: u64 = place::SIZE as u64;
+pub(crate) const WINDOW: u64 = place::SIZE as u64;
 
 /// The bytes of a larger copy that are read at once, behind the first 16384.
 const LARGE_WINDOW: usize = 32768;
 
 /// The bytes of a copy of the least size. So many of any copy are fed to its checksum first.
-const BEGINNING: u64 = 16384;
+pub(crate) const BEGINNING: u64 = 16384;
 
 /// The bytes of the JSON area in a copy of the least size. So many are kept of the area of any copy.
 pub const KEPT_JSON: usize = 12288;
@@ -89,32 +89,28 @@ pub(crate) fn digest_of_header(head: &[u8]) -> Sha256
     hasher
 }
 
-/// The SHA-256 of the copy of `size` bytes at `at`, of whose first 4096 bytes, `head`, the 64 bytes
-/// of its checksum are taken as zeros. The first 12288 bytes of the JSON area go into `json`; in a
-/// copy of the least size they are all of it.
+/// The SHA-256 of the copy of `size` bytes at `at`, which begins with `head` and `json`; of the 4096
+/// bytes of `head` the 64 bytes of its checksum are taken as zeros.
 fn digest_of_copy<D: Device>(
     device: &mut D,
     at: u64,
     size: u64,
     head: &[u8],
-    json: &mut [u8],
+    json: &[u8],
 ) -> Result<[u8; 32], DeviceFault>
     requires listed { IsListed size }
     requires within { at + size ≤ D.size device.old }
     requires fits { at + size < 2 ^ 64 }
     requires header { length head.now ≡ binary_header_size }
-    requires head { D.tells → head.now ≡ header_at (D.bytes device.old) at }
-    requires kept { length json.old ≡ kept_size }
+    requires begun { D.tells → IsBegun (D.bytes device.old) at head.now json.now }
     requires room { D.failed device.old + 1 < 2 ^ 64 }
     ensures unchanged { IsUnchanged D.tells D.size D.bytes D.unsettled device.old device.new }
     ensures count { CountsFailure is_failure result (D.failed device.old) (D.failed device.new) }
     ensures digest { D.tells
         → IfOk result (λ d. d ≡ sha256 (with_zero_checksum (part (D.bytes device.old) at size))) }
-    ensures kept { D.tells → OnOk result (json.new ≡ kept_at (D.bytes device.old) at) }
 {
     let mut hasher = digest_of_header(head);
-    device.read_at(at + WINDOW, json)?;
-    hasher.update(&*json);
+    hasher.update(json);
     digest_from(device, at, size, hasher)
 }
 
@@ -156,35 +152,90 @@ fn has_sum(head: &[u8], digest: &[u8]) -> bool
     field(head, place::CSUM, place::SHA256_SIZE) == digest
 }
 
-/// The binary header of the copy at `at`, whose first 4096 bytes are `head`, where that copy is
-/// sound. Then `json` holds what is kept of its JSON area.
-fn judged_copy<D: Device>(
+/// The binary header with these bytes, where `digest` is its checksum.
+pub(crate) fn with_sum(head: &[u8], digest: &[u8]) -> Option<Bin2>
+    requires { length head.now ≡ binary_header_size }
+    ensures { MatchOption result (part head.now csum_at sha256_size ≡ digest.now → ⊥)
+        (λ h. HoldsBin2 head.now h × (part head.now csum_at sha256_size ≡ digest.now)) }
+{
+    if has_sum(head, digest) {
+        Some(Bin2::read(head))
+    } else {
+        None
+    }
+}
+
+/// Whether `head`, the first 4096 bytes of the copy at `at`, is of the right form. Then `json` holds
+/// what is kept of the copy's JSON area.
+pub(crate) fn begins_copy<D: Device>(
     device: &mut D,
     at: u64,
     head: &[u8],
     json: &mut [u8],
-) -> Result<Option<Bin2>, DeviceFault>
+) -> Result<bool, DeviceFault>
     requires header { length head.now ≡ binary_header_size }
     requires head { D.tells → head.now ≡ header_at (D.bytes device.old) at }
     requires kept { length json.old ≡ kept_size }
     requires room { D.failed device.old + 1 < 2 ^ 64 }
     ensures unchanged { IsUnchanged D.tells D.size D.bytes D.unsettled device.old device.new }
     ensures count { CountsFailure is_failure result (D.failed device.old) (D.failed device.new) }
-    ensures within { IfOk result (IsFoundWithin (D.size device.old)) }
-    ensures judged { D.tells → IfOk result (FindsSoundCopy (D.bytes device.old) at) }
-    ensures kept { D.tells
-        → IfOk result (λ found. IfSome found (KeepsJson (D.bytes device.old) json.new)) }
+    ensures formed { IfOk result (λ it. IsTrue it → IsFormed head.now at (D.size device.old)) }
+    ensures unsound { D.tells → IfOk result (λ it. IsSound (D.bytes device.old) at → IsTrue it) }
+    ensures begun { D.tells
+        → IfOk result (λ it. IsTrue it → IsBegun (D.bytes device.old) at head.now json.new) }
 {
     if !is_formed(head, at, device.len()) {
-        return Ok(None);
+        return Ok(false);
     }
-    let header = Bin2::read(head);
-    let digest = digest_of_copy(device, at, header.hdr_size, head, json)?;
-    if has_sum(head, &digest) {
-        Ok(Some(header))
-    } else {
-        Ok(None)
+    device.read_at(at + WINDOW, json)?;
+    Ok(true)
+}
+
+/// The same of the copy at `at`, whose first 4096 bytes are read into `head`.
+pub(crate) fn begins_at<D: Device>(
+    device: &mut D,
+    at: u64,
+    head: &mut [u8],
+    json: &mut [u8],
+) -> Result<bool, DeviceFault>
+    requires header { length head.old ≡ binary_header_size }
+    requires kept { length json.old ≡ kept_size }
+    requires room { D.failed device.old + 1 < 2 ^ 64 }
+    ensures unchanged { IsUnchanged D.tells D.size D.bytes D.unsettled device.old device.new }
+    ensures count { CountsFailure is_failure result (D.failed device.old) (D.failed device.new) }
+    ensures formed { IfOk result (λ it. IsTrue it → IsFormed head.new at (D.size device.old)) }
+    ensures unsound { D.tells → IfOk result (λ it. IsSound (D.bytes device.old) at → IsTrue it) }
+    ensures begun { D.tells
+        → IfOk result (λ it. IsTrue it → IsBegun (D.bytes device.old) at head.new json.new) }
+{
+    let total = device.len();
+    if total < WINDOW || at > total - WINDOW {
+        return Ok(false);
     }
+    device.read_at(at, head)?;
+    begins_copy(device, at, head, json)
+}
+
+/// The binary header of the copy at `at`, which begins with `head` and `json`, where that copy is
+/// sound.
+pub(crate) fn judged_copy<D: Device>(
+    device: &mut D,
+    at: u64,
+    head: &[u8],
+    json: &[u8],
+) -> Result<Option<Bin2>, DeviceFault>
+    requires header { length head.now ≡ binary_header_size }
+    requires formed { IsFormed head.now at (D.size device.old) }
+    requires begun { D.tells → IsBegun (D.bytes device.old) at head.now json.now }
+    requires room { D.failed device.old + 1 < 2 ^ 64 }
+    ensures unchanged { IsUnchanged D.tells D.size D.bytes D.unsettled device.old device.new }
+    ensures count { CountsFailure is_failure result (D.failed device.old) (D.failed device.new) }
+    ensures within { IfOk result (IsFoundWithin (D.size device.old)) }
+    ensures judged { D.tells → IfOk result (FindsSoundCopy (D.bytes device.old) at) }
+{
+    let size = u64_at(head, place::HDR_SIZE);
+    let digest = digest_of_copy(device, at, size, head, json)?;
+    Ok(with_sum(head, &digest))
 }
 
 /// The binary header of the copy at `at`, where that copy is sound. Then `json` holds what is kept
@@ -203,17 +254,19 @@ pub(crate) fn sound_copy<D: Device>(
     ensures kept { D.tells
         → IfOk result (λ found. IfSome found (KeepsJson (D.bytes device.old) json.new)) }
 {
-    let total = device.len();
-    if total < WINDOW || at > total - WINDOW {
-        return Ok(None);
-    }
     let mut head = [0; place::SIZE];
-    device.read_at(at, &mut head)?;
-    judged_copy(device, at, &head, json)
+    if begins_at(device, at, &mut head, json)? {
+        judged_copy(device, at, &head, json)
+    } else {
+        Ok(None)
+    }
 }
 
 /// The first 4096 bytes, which begin with `begun`: these aren't read again.
-fn first_header<D: Device>(device: &mut D, begun: &[u8]) -> Result<[u8; 4096], DeviceFault>
+pub(crate) fn first_header<D: Device>(
+    device: &mut D,
+    begun: &[u8],
+) -> Result<[u8; 4096], DeviceFault>
     requires size { length begun.now ≡ luks1_size }
     requires begun { D.tells → begun.now ≡ part (D.bytes device.old) 0 luks1_size }
     requires within { binary_header_size ≤ D.size device.old }
@@ -228,30 +281,6 @@ fn first_header<D: Device>(device: &mut D, begun: &[u8]) -> Result<[u8; 4096], D
     put(&mut head, 0, begun);
     put(&mut head, BEGUN, &rest);
     Ok(head)
-}
-
-/// The same of the first copy, which begins with `begun`.
-pub(crate) fn sound_first_copy<D: Device>(
-    device: &mut D,
-    begun: &[u8],
-    json: &mut [u8],
-) -> Result<Option<Bin2>, DeviceFault>
-    requires size { length begun.now ≡ luks1_size }
-    requires begun { D.tells → begun.now ≡ part (D.bytes device.old) 0 luks1_size }
-    requires kept { length json.old ≡ kept_size }
-    requires room { D.failed device.old + 1 < 2 ^ 64 }
-    ensures unchanged { IsUnchanged D.tells D.size D.bytes D.unsettled device.old device.new }
-    ensures count { CountsFailure is_failure result (D.failed device.old) (D.failed device.new) }
-    ensures within { IfOk result (IsFoundWithin (D.size device.old)) }
-    ensures judged { D.tells → IfOk result (FindsSoundCopy (D.bytes device.old) 0) }
-    ensures kept { D.tells
-        → IfOk result (λ found. IfSome found (KeepsJson (D.bytes device.old) json.new)) }
-{
-    if device.len() < WINDOW {
-        return Ok(None);
-    }
-    let head = first_header(device, begun)?;
-    judged_copy(device, 0, &head, json)
 }
 
 /// The binary header of the sound copy at the least listed place. Then `json` holds what is kept of

@@ -5,6 +5,7 @@
 mod bin2;
 mod bin2_places;
 mod bin2_writing;
+mod both_copies;
 mod copies;
 mod laws;
 mod selection;

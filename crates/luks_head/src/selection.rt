@@ -1,19 +1,23 @@
 //! Which header of a volume is chosen.
-ghost use Rattle.std.specs.Prelude.{◌≡◌, ◌↔◌, ◌+◌, ◌^◌, ◌<◌, length, IsTrue, IfOk, IfErr, IfSome, MatchResult, option_map};
+ghost use Rattle.std.specs.Prelude.{◌≡◌, ◌↔◌, ◌+◌, ◌^◌, ◌<◌, ℕ, List, length, IsTrue, IfOk, IfErr, IfSome, MatchResult, option_map};
 ghost use Rattle.luks_area.specs.Device.{is_failure, CountsFailure, IsUnchanged};
 ghost use Rattle.luks_area.specs.Ranges.{part};
 ghost use Rattle.luks1_header.specs.Faults.{is_device_fault};
 ghost use Rattle.luks1_header.specs.Header1.{luks1_size};
-ghost use Rattle.luks_head.specs.ChosenCopy.{FindsChosenCopy, HoldsChosenCopy, IsNewer, IsNoHeaderFault};
-ghost use Rattle.luks_head.specs.Header2.{IsCopyWithin};
-ghost use Rattle.luks_head.specs.SoundCopies.{kept_size, IsFoundWithin, IsSoundCopy, KeepsJson};
+ghost use Rattle.luks_head.specs.ChosenCopy.{FindsChosenByFirst, FindsChosenCopy, IsNewer, IsNoHeaderFault, IsSizeOfFirst};
+ghost use Rattle.luks_head.specs.Header2.{binary_header_size, IsFormed};
+ghost use Rattle.luks_head.specs.SoundCopies.{kept_at, kept_size, FindsSoundCopy, IsBegun, IsFoundWithin, KeepsJson};
 ghost use Rattle.luks_head.specs.Selection.{IsOfSelection, IsRefused, IsSelected, IsSelectedWithin, IsVersion1, KeepsSelectedJson};
 
 use crate::bin2::Bin2;
-use crate::copies::{KEPT_JSON, least_second, sound_copy, sound_first_copy};
+use crate::bin2_places::{HDR_SIZE, SIZE as BIN2_SIZE};
+use crate::both_copies::judged_both;
+use crate::copies::{
+    KEPT_JSON, WINDOW, begins_at, begins_copy, first_header, judged_copy, least_second,
+};
 use luks_area::{Device, DeviceFault};
 use luks1_header::HeadFault;
-use luks1_header::fields::{field, u16_at};
+use luks1_header::fields::{field, u16_at, u64_at};
 use luks1_header::luks1_places::{MAGIC, SIZE, VERSION};
 use std::alloc::Global;
 
@@ -59,34 +63,95 @@ fn newer(first: Bin2, second: Bin2) -> (Bin2, Copies)
     }
 }
 
-/// The chosen copy, where the first one is sound and `json` holds what is kept of its JSON area.
-/// Then `json` holds what is kept of the chosen one's.
-fn copy_beside<D: Device>(
-    device: &mut D,
-    first: Bin2,
+/// The chosen one of the copies of which those that are given are sound, where the first one is.
+/// Then `json`, which holds what is kept of the first one's JSON area, holds what is kept of the
+/// chosen one's.
+fn chosen_of(
+    first: Option<Bin2>,
+    second: Option<Bin2>,
     json: &mut [u8],
-) -> Result<(Bin2, Copies), DeviceFault>
+    second_json: &[u8],
+) -> Option<(Bin2, Copies)>
+    requires kept { length second_json.now ≡ length json.old }
+    ensures chosen { (v : List ℕ) (o : ℕ) → FindsSoundCopy v 0 first → IsSizeOfFirst first o
+        → FindsSoundCopy v o second → FindsChosenByFirst v result }
+    ensures within { (total : ℕ) → IsFoundWithin total first → IsFoundWithin total second
+        → IsFoundWithin total (option_map (λ copy. copy.0) result) }
+    ensures json { (v : List ℕ) (o : ℕ) → FindsSoundCopy v 0 first → FindsSoundCopy v o second
+        → json.old ≡ kept_at v 0 → IfSome second (λ _. second_json.now ≡ kept_at v o)
+        → IfSome result (λ copy. KeepsJson v json.new copy.0) }
+{
+    let first = first?;
+    match second {
+        Some(second) => {
+            if second.seqid > first.seqid {
+                json.copy_from_slice(second_json);
+            }
+            Some(newer(first, second))
+        }
+        None => Some((first, Copies::FirstOnly)),
+    }
+}
+
+/// The chosen copy, where the first one, which begins with `head` and `json`, is sound. Then `json`
+/// holds what is kept of the chosen one's JSON area.
+fn chosen_beside<D: Device>(
+    device: &mut D,
+    head: &[u8],
+    json: &mut [u8],
+) -> Result<Option<(Bin2, Copies)>, DeviceFault>
+    requires header { length head.now ≡ binary_header_size }
     requires kept { length json.old ≡ kept_size }
-    requires sound { D.tells → IsSoundCopy (D.bytes device.old) 0 first }
-    requires within { IsCopyWithin (D.size device.old) first }
-    requires json { D.tells → KeepsJson (D.bytes device.old) json.old first }
+    requires formed { IsFormed head.now 0 (D.size device.old) }
+    requires begun { D.tells → IsBegun (D.bytes device.old) 0 head.now json.old }
     requires room { D.failed device.old + 1 < 2 ^ 64 }
     ensures unchanged { IsUnchanged D.tells D.size D.bytes D.unsettled device.old device.new }
     ensures count { CountsFailure is_failure result (D.failed device.old) (D.failed device.new) }
-    ensures within { IfOk result (λ copy. IsCopyWithin (D.size device.old) copy.0) }
-    ensures chosen { D.tells → IfOk result
-        (λ copy. HoldsChosenCopy (D.bytes device.old) copy.0 copy.1) }
-    ensures kept { D.tells → IfOk result (λ copy. KeepsJson (D.bytes device.old) json.new copy.0) }
+    ensures within { IfOk result
+        (λ found. IsFoundWithin (D.size device.old) (option_map (λ copy. copy.0) found)) }
+    ensures found { D.tells → IfOk result (FindsChosenByFirst (D.bytes device.old)) }
+    ensures kept { D.tells → IfOk result
+        (λ found. IfSome found (λ copy. KeepsJson (D.bytes device.old) json.new copy.0)) }
 {
+    let size = u64_at(head, HDR_SIZE);
+    let mut second = [0; BIN2_SIZE];
     let mut second_json = [0; KEPT_JSON];
-    match sound_copy(device, first.hdr_size, &mut second_json)? {
-        Some(second) => {
-            if second.seqid > first.seqid {
-                json.copy_from_slice(&second_json);
-            }
-            Ok(newer(first, second))
-        }
-        None => Ok((first, Copies::FirstOnly)),
+    if begins_at(device, size, &mut second, &mut second_json)? {
+        let found = judged_both(device, head, json, &second, &second_json)?;
+        Ok(chosen_of(found.0, found.1, json, &second_json))
+    } else {
+        let first = judged_copy(device, 0, head, json)?;
+        Ok(chosen_of(first, None, json, &second_json))
+    }
+}
+
+/// The chosen copy of a volume that begins with the bytes `begun`, where its first one is sound. Then
+/// `json` holds what is kept of its JSON area.
+fn chosen_by_first<D: Device>(
+    device: &mut D,
+    begun: &[u8],
+    json: &mut [u8],
+) -> Result<Option<(Bin2, Copies)>, DeviceFault>
+    requires size { length begun.now ≡ luks1_size }
+    requires begun { D.tells → begun.now ≡ part (D.bytes device.old) 0 luks1_size }
+    requires kept { length json.old ≡ kept_size }
+    requires room { D.failed device.old + 1 < 2 ^ 64 }
+    ensures unchanged { IsUnchanged D.tells D.size D.bytes D.unsettled device.old device.new }
+    ensures count { CountsFailure is_failure result (D.failed device.old) (D.failed device.new) }
+    ensures within { IfOk result
+        (λ found. IsFoundWithin (D.size device.old) (option_map (λ copy. copy.0) found)) }
+    ensures found { D.tells → IfOk result (FindsChosenByFirst (D.bytes device.old)) }
+    ensures kept { D.tells → IfOk result
+        (λ found. IfSome found (λ copy. KeepsJson (D.bytes device.old) json.new copy.0)) }
+{
+    if device.len() < WINDOW {
+        return Ok(None);
+    }
+    let head = first_header(device, begun)?;
+    if begins_copy(device, 0, &head, json)? {
+        chosen_beside(device, &head, json)
+    } else {
+        Ok(None)
     }
 }
 
@@ -109,8 +174,8 @@ fn chosen_copy<D: Device>(
     ensures kept { D.tells → IfOk result
         (λ found. IfSome found (λ copy. KeepsJson (D.bytes device.old) json.new copy.0)) }
 {
-    match sound_first_copy(device, begun, json)? {
-        Some(first) => Ok(Some(copy_beside(device, first, json)?)),
+    match chosen_by_first(device, begun, json)? {
+        Some(chosen) => Ok(Some(chosen)),
         None => match least_second(device, json)? {
             Some(second) => Ok(Some((second, Copies::SecondOnly))),
             None => Ok(None),

@@ -1,17 +1,11 @@
 use Rattle.std.proofs.Common.{ℕ, List, subst}
-use Rattle.luks_head.specs.ChosenCopy.{HoldsChosenCopy}
 use Rattle.luks_head.specs.SoundCopies.{IsLeastCopy}
 use Rattle.luks_head.proofs.ChosenCopyFacts.{second_is_chosen}
 use Rattle.luks_head.proofs.selection.chosen_copy.Goals as goal
 
-pub returns-in_ok-copy_beside-in-Some-clause-found : goal.returns-in_ok-copy_beside-in-Some-clause-found
-returns-in_ok-copy_beside-in-Some-clause-found g c = λ t.
-    let H : List ℕ → Type 0 = λ v. HoldsChosenCopy v c.in_ok-copy_beside-in-Some.field-0.0 c.in_ok-copy_beside-in-Some.field-0.1 in
-    subst H (c.in_ok-first.ensures.unchanged.same t) (c.in_ok-copy_beside-in-Some.ensures.chosen t)
-
 pub returns-in-Some-2-clause-found : goal.returns-in-Some-2-clause-found
 returns-in-Some-2-clause-found g c = λ t.
     let C : List ℕ → Type 0 = λ v. IsLeastCopy v c.in-Some-2.second in
-    let none = rw c.in-None.is at c.in_ok-first.ensures.judged t in
+    let none = rw c.in-None.is at c.in_ok-chosen.ensures.found t in
     let least = rw c.in-Some-2.is at c.in_ok-second-in-None.ensures.found t in
-    second_is_chosen _ c.in-Some-2.second none (subst C (c.in_ok-first.ensures.unchanged.same t) least)
+    second_is_chosen _ c.in-Some-2.second none (subst C (c.in_ok-chosen.ensures.unchanged.same t) least)
