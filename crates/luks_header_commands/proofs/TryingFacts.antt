@@ -13,9 +13,9 @@ use Rattle.luks_commands.specs.declared.answers.Answer.{Answer}
 use Rattle.luks_commands.specs.declared.answers.Status.TheVariants.{NotInStep}
 use Rattle.luks_commands.specs.declared.inputs.InputFault.{InputFault}
 use Rattle.luks_commands.specs.Answer.{answer_status, rebuild1_fault_answer}
-use Rattle.luks_header_commands.specs.Rebuilding.{IsGiven, IsLuks1Answer, KeepsRest1}
-use Rattle.luks_header_commands.specs.Target.{LeavesTarget, Pair}
-use Rattle.luks_header_commands.specs.Trying.{no_header, none_open, one_opens, trial_failed, IsTriedRest, KeepsTried, TriedAnswer}
+use Rattle.luks_header_commands.specs.Rebuilding.{IsGiven, IsLuks1Answer, IsRebuildAnswer, KeepsRest, KeepsRest1}
+use Rattle.luks_header_commands.specs.Target.{AnswersHeader, LeavesTarget, Pair}
+use Rattle.luks_header_commands.specs.Trying.{no_header, none_open, one_opens, trial_failed, AnswersBy, IsTriedRest, IsWithPassphrase, KeepsBy, KeepsTried, TriedAnswer}
 use Rattle.luks_header_commands.proofs.RebuildFacts.{luks1_kinds, luks1_later, IsLater}
 
 -- the trial ended by a fault, and the target is as it was
@@ -79,3 +79,33 @@ leaves_as {D} tells size bytes says told each (Ok v) (Ok old) (Ok new) left = re
 leaves_as {D} tells size bytes says told each (Ok v) (Ok old) (Err f) left = absurd left
 leaves_as {D} tells size bytes says told each (Ok v) (Err f) new left = left
 leaves_as {D} tells size bytes says told each (Err f) old new left = left
+
+-- ---- by whether a passphrase is named
+
+pub tried_kept : {A D : Type 0} (o : Option A) (file : A) → o ≡ Some file → (tells : Type 0) (size : D → ℕ) (bytes : D → List ℕ) (r : Rebuilding)
+    → (HasWords : List ℕ → Type 0) (volume old new : Result D InputFault)
+    → LeavesTarget tells size bytes (KeepsTried r HasWords) volume old new → LeavesTarget tells size bytes (KeepsBy o r HasWords) volume old new
+tried_kept {A} {D} o file is tells size bytes r HasWords volume old new left =
+    subst (λ (x : Option A). LeavesTarget tells size bytes (KeepsBy x r HasWords) volume old new) (sym is) left
+
+pub untried_kept : {A D : Type 0} (o : Option A) → o ≡ None → (tells : Type 0) (size : D → ℕ) (bytes : D → List ℕ) (r : Rebuilding)
+    → (HasWords : List ℕ → Type 0) (volume old new : Result D InputFault)
+    → LeavesTarget tells size bytes (KeepsRest r) volume old new → LeavesTarget tells size bytes (KeepsBy o r HasWords) volume old new
+untried_kept {A} {D} o is tells size bytes r HasWords volume old new left =
+    subst (λ (x : Option A). LeavesTarget tells size bytes (KeepsBy x r HasWords) volume old new) (sym is) left
+
+pub tried_answers : {A D : Type 0} (o : Option A) (file : A) → o ≡ Some file → (tells : Type 0) (size : D → ℕ) (bytes : D → List ℕ) (failed : D → ℕ)
+    → (r : Rebuilding) (HasWords : List ℕ → Type 0) (is_long : Type 0) (wordless unread : InputFault → Type 0) (HasRandom : List ℕ → Type 0)
+    → (volume volume_new old new : Result D InputFault) (a : Answer)
+    → IsWithPassphrase tells size bytes failed r HasWords is_long wordless unread HasRandom volume volume_new old new a
+    → AnswersBy o tells size bytes failed r HasWords is_long wordless unread HasRandom volume volume_new old new a
+tried_answers {A} {D} o file is tells size bytes failed r HasWords is_long wordless unread HasRandom volume volume_new old new a said =
+    subst (λ (x : Option A). AnswersBy x tells size bytes failed r HasWords is_long wordless unread HasRandom volume volume_new old new a) (sym is) said
+
+pub untried_answers : {A D : Type 0} (o : Option A) → o ≡ None → (tells : Type 0) (size : D → ℕ) (bytes : D → List ℕ) (failed : D → ℕ)
+    → (r : Rebuilding) (HasWords : List ℕ → Type 0) (is_long : Type 0) (wordless unread : InputFault → Type 0) (HasRandom : List ℕ → Type 0)
+    → (volume volume_new old new : Result D InputFault) (a : Answer)
+    → AnswersHeader tells size bytes failed (IsRebuildAnswer tells r) unread HasRandom volume volume_new old new a
+    → AnswersBy o tells size bytes failed r HasWords is_long wordless unread HasRandom volume volume_new old new a
+untried_answers {A} {D} o is tells size bytes failed r HasWords is_long wordless unread HasRandom volume volume_new old new a said =
+    subst (λ (x : Option A). AnswersBy x tells size bytes failed r HasWords is_long wordless unread HasRandom volume volume_new old new a) (sym is) said
