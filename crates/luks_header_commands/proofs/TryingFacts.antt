@@ -1,5 +1,5 @@
 -- What `rebuild` answers with a passphrase, by what it met.
-use Rattle.std.proofs.Common.{◌≡◌, ◌≢◌, ◌⊎◌, List, ℕ, Bool, true, false, Option, Some, None, IfSome, IfNone, Result, Ok, Err, refl, sym, subst, inl, inr, ◌∙◌}
+use Rattle.std.proofs.Common.{◌≡◌, ◌≢◌, List, ℕ, Option, Some, None, IfSome, IfNone, Result, Ok, Err, refl, sym, subst, inl, inr}
 use Rattle.luks_area.specs.Device.{count_after}
 use Rattle.luks1_mending.specs.declared.given.Given.{Given}
 use Rattle.luks1_rebuilding.specs.RebuildFaults.{is_rebuild_failure}

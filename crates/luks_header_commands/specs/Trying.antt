@@ -1,6 +1,6 @@
 -- What `rebuild` leaves of its target and may answer, with a passphrase or without one. With one the combinations of what isn't
 -- given are tried until a keyslot of a LUKS1 header opens.
-use Rattle.std.specs.Prelude.{◌≡◌, ◌⊎◌, ℕ, List, Option, None, Some, Result, Bool, false}
+use Rattle.std.specs.Prelude.{◌≡◌, ◌⊎◌, ℕ, List, Option, None, Some, Result, false}
 use Rattle.luks_writing.specs.TwoDevices.{IsOneFailure}
 use Rattle.luks1_mending.specs.declared.given.Given.{Given}
 use Rattle.luks1_rebuilding.specs.RebuildFaults.{is_rebuild_failure}

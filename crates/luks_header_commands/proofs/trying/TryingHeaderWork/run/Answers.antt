@@ -1,4 +1,3 @@
-use Rattle.std.proofs.Common.{inl, inr}
 use Rattle.luks_header_commands.proofs.TryingFacts.{given_rest}
 use Rattle.luks_header_commands.proofs.trying.TryingHeaderWork.run.Goals as goal
 
