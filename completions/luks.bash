@@ -13,7 +13,7 @@ _luks() {
         [label]="--random --over --detached --offset --length --quiet --help"
         [format]="--passphrase --passphrase-line --random --version --hash --iterations --detached --offset --length --quiet --help"
         [convert]="--random --detached --offset --length --quiet --help"
-        [rebuild]="--random --second --size --cipher --hash --key-bytes --payload --uuid --offset --length --quiet --help"
+        [rebuild]="--random --second --size --cipher --hash --key-bytes --payload --passphrase --passphrase-line --uuid --offset --length --quiet --help"
         [find]="--offset --length --quiet --help"
         [backup]="--over --detached --offset --length --quiet --help"
         [restore]="--other --detached --offset --length --quiet --help"

@@ -127,6 +127,8 @@ complete -c luks -n '__fish_seen_subcommand_from rebuild' -l cipher -x -a 'aes-x
 complete -c luks -n '__fish_seen_subcommand_from rebuild' -l hash -x -a 'sha1 sha256 sha512' -d 'LUKS1: the hash'
 complete -c luks -n '__fish_seen_subcommand_from rebuild' -l key-bytes -x -a '16 32 64' -d 'LUKS1: how long the volume key is'
 complete -c luks -n '__fish_seen_subcommand_from rebuild' -l payload -x -d 'LUKS1: where the data begins'
+complete -c luks -n '__fish_seen_subcommand_from rebuild' -l passphrase -r -F -d 'LUKS1: try what is not given until this opens it'
+complete -c luks -n '__fish_seen_subcommand_from rebuild' -l passphrase-line -r -F -d 'Instead, a file whose first line is taken'
 complete -c luks -n '__fish_seen_subcommand_from rebuild' -l uuid -x -d 'The uuid of the new header'
 complete -c luks -n '__fish_seen_subcommand_from rebuild' -l offset -x -d 'The byte of the file where the volume begins'
 complete -c luks -n '__fish_seen_subcommand_from rebuild' -l length -x -d 'How many bytes the volume has'

@@ -5,6 +5,7 @@ use luks_reading::open_slot;
 use luks_test_devices::old_bytes;
 use luks_vector_lines::{Functions, Malformed, Words, demand};
 use luks1_rebuilding::{Given, Rebuild1Fault, rebuild1};
+use luks1_trying::{Opening, Untold, try_combinations};
 use sha2::{Digest, Sha256};
 use std::alloc::Global;
 
@@ -84,6 +85,17 @@ impl Damaged {
             Err(fault) => Ok(format!(in alloc; "{fault}")?),
         }
     }
+
+    /// `try PASSPHRASE [AT BIT]`: the first combination by which a keyslot opens, with the keyslot.
+    fn try_all(&self, alloc: Global, words: &mut Words<'_>) -> Result<String, Malformed> {
+        let passphrase = words.bytes(alloc)?;
+        let mut source = self.turned(alloc, words)?;
+        match try_combinations(alloc, &mut source, &self.given, &passphrase, &mut Untold) {
+            Ok(Some(opening)) => told(alloc, &opening),
+            Ok(None) => Ok(String::from_str(alloc, "none")?),
+            Err(fault) => Ok(format!(in alloc; "{fault}")?),
+        }
+    }
 }
 
 /// Whether this keyslot opens.
@@ -93,6 +105,17 @@ fn opens(alloc: Global, target: &mut MemDevice, slot: u8, passphrase: &[u8]) -> 
         Ok(None) => "shut",
         Err(_) => "refused",
     }
+}
+
+/// What opens, and by which fields.
+fn told(alloc: Global, opening: &Opening) -> Result<String, Malformed> {
+    let slot = opening.slot;
+    let common = &opening.header.common;
+    let name = common.cipher_name.as_str();
+    let mode = common.cipher_mode.as_str();
+    let hash = common.hash_spec.as_str();
+    let key_bytes = common.key_bytes;
+    Ok(format!(in alloc; "keyslot {slot} by {name}-{mode} {hash} {key_bytes}")?)
 }
 
 impl Functions for Damaged {
@@ -108,6 +131,7 @@ impl Functions for Damaged {
             "given" => give_all(alloc, &mut self.given, words)?,
             "rebuild" => return Ok(Some(self.rebuild(alloc, words)?)),
             "open" => return Ok(Some(self.open(alloc, words)?)),
+            "try" => return Ok(Some(self.try_all(alloc, words)?)),
             _ => return Err(Malformed::Function),
         }
         Ok(None)

@@ -15,6 +15,7 @@ use crate::answers::{Answer, Refusal, Status, end, unread};
 use crate::inputs::Inputs;
 use crate::passphrase_file::{PassphraseFault, passphrase};
 use crate::printer::Printer;
+pub use almost_met::note_line_feed;
 use almost_met::note_unopened;
 use luks_reading::{Device, Key, OpenFault, read_header, try_header, try_header_slot};
 pub use memory_notes::{MemoryNote, memory_note};

@@ -16,10 +16,10 @@ ghost use Rattle.luks_commands.specs.Formatting.{needed, SaysFormat, WhereFormat
 ghost use Rattle.luks_commands.specs.OpenAnswers.{AnswersOpen, kib_of, WhereOpen};
 ghost use Rattle.luks_show_command.specs.ShowAnswers.{AnswersShow, WhereShow};
 ghost use Rattle.luks_header_commands.specs.Converting.{AnswersConvert, KeepsRest, random_count, WhereConvert};
-ghost use Rattle.luks_header_commands.specs.Rebuilding.{AnswersRebuild, KeepsRest as KeepsOthers};
 ghost use Rattle.luks_header_commands.specs.Rebuilding.{random_count as rebuild_count, WhereRebuild};
 ghost use Rattle.luks_header_commands.specs.Target.{AreOneFile, IsSameFile, LeavesTarget, SettlesTarget};
 ghost use Rattle.luks_header_commands.specs.Target.{UnlessBeside};
+ghost use Rattle.luks_header_commands.specs.Trying.{AnswersRebuild, KeepsRebuilt};
 ghost use Rattle.luks_keeping_commands.specs.BackingUp.{AnswersBackup, KeepsRest as KeepsBesideBackup, WhereBackup};
 ghost use Rattle.luks_keeping_commands.specs.Comparing.{AnswersCompare, WhereCompare};
 ghost use Rattle.luks_keeping_commands.specs.Restoring.{AnswersRestore, KeepsRest as KeepsBesideRestored};
@@ -28,7 +28,7 @@ ghost use Rattle.luks_keeping_commands.specs.Restoring.{over_of, UnlessRestore, 
 use crate::edit;
 use luks_commands::open::Tried;
 use luks_commands::{Inputs, Printer, check, format, open};
-use luks_header_commands::{convert, rebuild};
+use luks_header_commands::{Progress, convert, rebuild};
 use luks_keeping_commands::{backup, compare, restore};
 use luks_request::{Command, Line};
 use luks_show_command::show;
@@ -44,18 +44,20 @@ use std::io::{Read, Write};
 /// backup is outdated; 3: accepted, but the two copies of the header aren't in step; 4: the device
 /// failed, a file can't be read, memory was refused, or `out` failed, which says nothing of what was
 /// done. The passphrase is read before the volume, a new one after the old one, and the random bytes
-/// after the volume and its target. A backup that is put back or compared is the target, too.
+/// after the volume and its target. A backup that is put back or compared is the target, too. `progress` is
+/// told of each combination that `rebuild` tries by a passphrase.
 ///
 /// The volume is the bytes of its file that `line.place` names: who calls it has taken that window of
 /// the file (`luks_window`), and gives it as the device. So all that is said here of the volume is said
 /// of the window, and that no byte beside it ever changes is what every value of a window's type has.
 #[tactic(auto, using(luks_commands::proofs::FileFacts::settled_kept))]
-pub fn execute<D: Device, R: Read, N: Read, P: Printer, E: Write>(
+pub fn execute<D: Device, R: Read, N: Read, P: Printer, E: Write, G: Progress>(
     alloc: Global,
     line: &Line<'_>,
     inputs: &mut Inputs<D, R, N>,
     out: &mut P,
     err: &mut E,
+    progress: &mut G,
 ) -> u8
     requires room { ForOk inputs.old.volume (λ d. D.failed d + 1 < 2 ^ 64) }
     requires target_room { ForOk inputs.old.target (λ d. D.failed d + 1 < 2 ^ 64) }
@@ -112,12 +114,13 @@ pub fn execute<D: Device, R: Read, N: Read, P: Printer, E: Write>(
     ensures rebuilt { WhereRebuild line.now.command (λ rebuilding.
         (AreOneFile line.now.volume.now rebuilding.target.now inputs.old.target → ⊥)
         → Prints (AnswersRebuild D.tells D.size D.bytes D.failed rebuilding
-        (IsUnreadRandom rebuild_count inputs.old.random)
+        (IsWhole R.remaining inputs.old.passphrase) (IsLong R.remaining inputs.old.passphrase)
+        (IsUnread inputs.old.passphrase) (IsUnreadRandom rebuild_count inputs.old.random)
         (AreFirstBytes rebuild_count N.remaining inputs.old.random)
         inputs.old.volume inputs.new.volume inputs.old.target inputs.new.target)
         (P.failures out.old) (P.failures out.new) (P.printed out.old) (P.printed out.new) result) }
     ensures rebuilt_rest { WhereRebuild line.now.command (λ rebuilding. LeavesTarget D.tells
-        D.size D.bytes (KeepsOthers rebuilding)
+        D.size D.bytes (KeepsRebuilt rebuilding (IsWhole R.remaining inputs.old.passphrase))
         inputs.old.volume inputs.old.target inputs.new.target) }
     ensures settles_rebuilt { WhereRebuild line.now.command (λ _. SettlesTarget D.tells D.failed
         D.unsettled inputs.old.volume inputs.new.volume inputs.old.target inputs.new.target) }
@@ -224,7 +227,8 @@ pub fn execute<D: Device, R: Read, N: Read, P: Printer, E: Write>(
             convert::run(alloc, inputs, name, line.place, &converting, out, err)
         }
         Command::Rebuild(rebuilding) => {
-            rebuild::run(alloc, inputs, name, line.place, &rebuilding, out, err)
+            let place = line.place;
+            rebuild::run(alloc, inputs, name, place, &rebuilding, out, err, progress)
         }
         Command::Backup(backing_up) => backup::run(alloc, inputs, name, &backing_up, out, err),
         Command::Restore(restoring) => restore::run(alloc, inputs, name, &restoring, out, err),

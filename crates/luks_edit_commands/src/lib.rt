@@ -12,6 +12,7 @@ pub use luks_commands::{
     Answer, CountingPrinter, InputFault, Inputs, Printer, Reason, Unprinted, check, end,
     first_bytes, first_line, open,
 };
+pub use luks_header_commands::{Progress, Untold};
 pub use luks_request::{
     BackingUp, Command, Comparing, Converting, EditRequest, Editing, Line, Luks1Fields, Making,
     Meant, NewVersion, Rebuilding, Restoring, ShowAs,

@@ -1,3 +1,4 @@
 pub mod TargetFacts
 pub mod ConvertFacts
 pub mod RebuildFacts
+pub mod TryingFacts

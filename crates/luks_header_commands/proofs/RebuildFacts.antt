@@ -105,7 +105,7 @@ bytes_later tells d e says later said told =
     (subst (λ (v : List ℕ). says v d.old d.new) (later.volume told) (said told)))
 
 -- what LUKS1 answers
-luks1_later : (tells : Type 0) (given : Given) (d e : Pair) (a : Answer) → IsLater tells d e → IsLuks1Answer tells given d a → IsLuks1Answer tells given e a
+pub luks1_later : (tells : Type 0) (given : Given) (d e : Pair) (a : Answer) → IsLater tells d e → IsLuks1Answer tells given d a → IsLuks1Answer tells given e a
 luks1_later tells given d e (answer.Done slot) later said = (
   none_later tells d e later said.0,
   said.1,

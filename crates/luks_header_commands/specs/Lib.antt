@@ -2,3 +2,4 @@ pub mod Target
 pub mod Converting
 pub mod Rebuilding
 pub mod Turned
+pub mod Trying

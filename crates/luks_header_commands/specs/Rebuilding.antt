@@ -1,5 +1,5 @@
 -- What the command `rebuild` leaves of its target, and what it may answer.
-use Rattle.std.specs.Prelude.{◌≡◌, ◌≢◌, ◌⊎◌, ◌↔◌, ℕ, ◌<◌, ◌≤◌, List, [], length, Option, None, Some, option_map, Bool, true, false, Result, ⊤}
+use Rattle.std.specs.Prelude.{◌≡◌, ◌≢◌, ◌⊎◌, ◌↔◌, ℕ, ◌<◌, ◌≤◌, List, [], length, Option, None, Some, option_map, Bool, true, false, ⊤}
 use Rattle.arrayvec.specs.ArrayString.{ArrayString}
 use Rattle.luks_area.specs.Ranges.{SameBut}
 use Rattle.luks_writing.specs.TwoDevices.{IsOneFailure}
@@ -30,8 +30,7 @@ use Rattle.luks_request.specs.declared.request.Command.TheVariants as command
 use Rattle.luks_commands.specs.declared.answers.Answer.{Answer}
 use Rattle.luks_commands.specs.declared.answers.Answer.TheVariants.{Done, Refused, DeviceFault, NoMemory}
 use Rattle.luks_commands.specs.declared.answers.Refusal.TheVariants.{Rebuild, Rebuild1}
-use Rattle.luks_commands.specs.declared.inputs.InputFault.{InputFault}
-use Rattle.luks_header_commands.specs.Target.{AnswersHeader, NoneFailed, Pair}
+use Rattle.luks_header_commands.specs.Target.{NoneFailed, Pair}
 
 -- the random bytes that it takes
 abbrev pub random_count : ℕ
@@ -164,7 +163,7 @@ pub record KeepsGiven (r : Rebuilding) (volume old new : List ℕ) : Type 0 wher
   pub is : IsGiven r given
   pub keeps : KeepsMeant (meant_by r) r given volume old new
 
--- nothing of the target has changed, or what may have
+-- nothing of the target has changed, or what may have; where no passphrase is named
 abbrev pub KeepsRest : Rebuilding → List ℕ → List ℕ → List ℕ → Type 0
 KeepsRest r volume old new = (new ≡ old) ⊎ KeepsGiven r volume old new
 
@@ -175,16 +174,11 @@ IsAnswerOf Either tells r given random d a =
     (IsLuks2Answer tells (which_of r) (given_of r) random d a × (tells → StaysLuks2 d.volume a))
     ⊎ TurnsToLuks1 tells (which_of r) (given_of r) random given d a
 
+-- what is answered where no passphrase is named
 pub record IsRebuildAnswer (tells : Type 0) (r : Rebuilding) (random : List ℕ) (d : Pair) (a : Answer) : Type 0 where
   pub given : Given
   pub is : IsGiven r given
   pub says : IsAnswerOf (meant_by r) tells r given random d a
-
--- of the volume and the target, as `AnswersHeader` says
-abbrev pub AnswersRebuild : {D : Type 0} → Type 0 → (D → ℕ) → (D → List ℕ) → (D → ℕ) → Rebuilding → (InputFault → Type 0) → (List ℕ → Type 0)
-    → Result D InputFault → Result D InputFault → Result D InputFault → Result D InputFault → Answer → Type 0
-AnswersRebuild tells size bytes failed r unread HasRandom volume volume_new old new a =
-    AnswersHeader tells size bytes failed (IsRebuildAnswer tells r) unread HasRandom volume volume_new old new a
 
 -- what holds of the command where it is `rebuild`
 abbrev pub WhereRebuild : Command → (Rebuilding → Type 0) → Type 0

@@ -15,6 +15,7 @@ use luks_commands::{
 use luks_converting::{CONVERT_RANDOM, ConvertFault, convert};
 use luks_reading::{Data, Device};
 use luks_request::{Converting, Place};
+use luks1_trying::{Progress, Untold};
 use std::alloc::Global;
 use std::io::{Read, Write};
 
@@ -63,7 +64,7 @@ pub fn run<D: Device, R: Read, N: Read, P: Printer, E: Write>(
         files: &files,
         data_: converting.data_,
     };
-    let answer = make_header(alloc, inputs, &files, &conversion, err);
+    let answer = make_header(alloc, inputs, &files, &conversion, err, &mut Untold);
     end(&answer, out)
 }
 
@@ -79,13 +80,14 @@ impl HeaderWork for Conversion<'_> {
 
     ghost may_answer = { λ work tells random d a. IsConvertAnswer tells work.data_ random d a };
 
-    fn run<D: Device, E: Write>(
+    fn run<D: Device, E: Write, G: Progress>(
         &self,
         alloc: Global,
         volume: &mut D,
         target: &mut D,
         random: &[u8],
         err: &mut E,
+        _progress: &mut G,
     ) -> Answer {
         let files = self.files;
         let before = volume.failures();

@@ -13,6 +13,7 @@ ghost use Rattle.luks_header_commands.specs.Target.{Pair, pair_of, SettlesTarget
 use luks_commands::{Answer, InputFault, Inputs, Reason, Refusal, Status, random_bytes, unread};
 use luks_reading::Device;
 use luks_request::Place;
+use luks1_trying::Progress;
 use std::alloc::Global;
 use std::io::{Read, Write};
 
@@ -50,7 +51,8 @@ impl<'a> HeaderFiles<'a> {
     }
 }
 
-/// What is done once all files are there: a header is made of the volume on the target.
+/// What is done once all files are there: a header is made of the volume on the target. `progress` is told
+/// of what takes long.
 pub(crate) trait HeaderWork {
     /// Which bytes of the target may change, by the volume's bytes and the target's, before and after.
     ghost keeps_rest: { Self → List ℕ → List ℕ → List ℕ → Type 0 };
@@ -58,13 +60,14 @@ pub(crate) trait HeaderWork {
     /// What is answered of two devices with these random bytes, where they tell their bytes.
     ghost may_answer: { Self → Type 0 → List ℕ → Pair → TheAnswer → Type 0 };
 
-    fn run<D: Device, E: Write>(
+    fn run<D: Device, E: Write, G: Progress>(
         &self,
         alloc: Global,
         volume: &mut D,
         target: &mut D,
         random: &[u8],
         err: &mut E,
+        progress: &mut G,
     ) -> Answer
         requires volume_room { D.failed volume.old + 1 < 2 ^ 64 }
         requires target_room { D.failed target.old + 1 < 2 ^ 64 }
@@ -86,12 +89,13 @@ pub(crate) trait HeaderWork {
 /// Does the work, or answers which of the files is missing: the volume is looked at before the target,
 /// and the random bytes are read last. Nothing is done where the target is the volume itself.
 #[tactic(auto, using(luks_commands::proofs::FileFacts::keeps_same, crate::proofs::TargetFacts::leaves_same, crate::proofs::TargetFacts::settles_same))]
-pub(crate) fn make_header<W: HeaderWork, D: Device, R: Read, N: Read, E: Write>(
+pub(crate) fn make_header<W: HeaderWork, D: Device, R: Read, N: Read, E: Write, G: Progress>(
     alloc: Global,
     inputs: &mut Inputs<D, R, N>,
     files: &HeaderFiles<'_>,
     work: &W,
     err: &mut E,
+    progress: &mut G,
 ) -> Answer
     requires volume_room { ForOk inputs.old.volume (λ d. D.failed d + 1 < 2 ^ 64) }
     requires target_room { ForOk inputs.old.target (λ d. D.failed d + 1 < 2 ^ 64) }
@@ -112,7 +116,7 @@ pub(crate) fn make_header<W: HeaderWork, D: Device, R: Read, N: Read, E: Write>(
         (AreFirstBytes files.now.needed N.remaining inputs.old.random)
         inputs.old.volume inputs.new.volume inputs.old.target inputs.new.target result }
 {
-    if files.volume == files.target || is_volume_itself(&inputs.target) {
+    if is_one_file(files, &inputs.target) {
         return Answer::Refused(Refusal::SameFile);
     }
     let volume = match &mut inputs.volume {
@@ -127,7 +131,14 @@ pub(crate) fn make_header<W: HeaderWork, D: Device, R: Read, N: Read, E: Write>(
         Ok(bytes) => bytes,
         Err(fault) => return unread(fault, files.random, err),
     };
-    work.run(alloc, volume, target, random.as_slice(), err)
+    work.run(alloc, volume, target, random.as_slice(), err, progress)
+}
+
+/// Whether the target is the volume itself, by its name or by what was found.
+pub(crate) fn is_one_file<D>(files: &HeaderFiles<'_>, target: &Result<D, InputFault>) -> bool
+    ensures { IsTrue result ↔ AreOneFile files.now.volume.now files.now.target.now target.now }
+{
+    files.volume == files.target || is_volume_itself(target)
 }
 
 /// Whether it was found to be the volume itself.

@@ -8,5 +8,7 @@ mod of_either;
 mod of_fields;
 mod of_metadata;
 pub mod rebuild;
+mod trying;
 
+pub use luks1_trying::{Progress, Untold};
 pub use of_metadata::which_of;

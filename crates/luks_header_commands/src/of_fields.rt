@@ -48,7 +48,7 @@ pub(crate) fn make_of_fields<D: Device, E: Write>(
 }
 
 /// What is answered where this fault ended it. Where a device failed, it is that of the file of this name.
-fn not_of_fields<E: Write>(
+pub(crate) fn not_of_fields<E: Write>(
     fault: Rebuild1Fault,
     file: &str,
     failed: &str,

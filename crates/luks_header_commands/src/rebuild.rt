@@ -5,22 +5,25 @@ ghost use Rattle.std.specs.Result.{ForOk};
 ghost use Rattle.luks_area.specs.Device.{IsSettled, IsUnchanged};
 ghost use Rattle.luks_commands.specs.Answer.{answer_status, Prints};
 ghost use Rattle.luks_commands.specs.Exit.{IsExitStatus};
-ghost use Rattle.luks_commands.specs.Files.{AreFirstBytes, IsUnreadRandom, KeepsVolume};
-ghost use Rattle.luks_header_commands.specs.Rebuilding.{AnswersRebuild, IsAnswerOf, IsFieldOf, IsGiven, IsInField};
+ghost use Rattle.luks_commands.specs.Files.{AreFirstBytes, IsLong, IsUnread, IsUnreadRandom, IsWhole, KeepsVolume};
+ghost use Rattle.luks_header_commands.specs.Rebuilding.{IsAnswerOf, IsFieldOf, IsGiven, IsInField};
 ghost use Rattle.luks_header_commands.specs.Rebuilding.{IsRebuildAnswer, KeepsMeant, KeepsRest};
 ghost use Rattle.luks_header_commands.specs.Rebuilding.{random_count};
 ghost use Rattle.luks_header_commands.specs.Target.{AreOneFile, IsSameFile, LeavesTarget, pair_of, SettlesTarget};
+ghost use Rattle.luks_header_commands.specs.Trying.{AnswersRebuild, KeepsRebuilt};
 
 use crate::header_work::{HeaderFiles, HeaderWork, make_header};
 use crate::of_either::make_of_either;
 use crate::of_fields::make_of_fields;
 use crate::of_metadata::make_of_metadata;
+use crate::trying::make_tried;
 use arrayvec::ArrayString;
 use luks_commands::{Answer, Inputs, Printer, Status, end};
 use luks_reading::Device;
 use luks_rebuilding::REBUILD_RANDOM;
 use luks_request::{Meant, Place, Rebuilding};
 use luks1_rebuilding::Given;
+use luks1_trying::Progress;
 use std::alloc::Global;
 use std::io::{Read, Write};
 
@@ -31,7 +34,11 @@ use std::io::{Read, Write};
 /// Where neither version is meant LUKS2's metadata comes first. LUKS1 answers where none is whole and the
 /// volume doesn't begin as a LUKS2 header, or where a LUKS1 header counts, accepted or not; but where the
 /// volume has no signs of one, LUKS2's answer stays.
-pub fn run<D: Device, R: Read, N: Read, P: Printer, E: Write>(
+///
+/// With a passphrase, which means LUKS1, and is read before the volume: what of the cipher, the hash and the
+/// length of the key isn't given is tried (`try_combinations`), and the header is made with the first
+/// combination by which a keyslot opens; `progress` is told of each.
+pub fn run<D: Device, R: Read, N: Read, P: Printer, E: Write, G: Progress>(
     alloc: Global,
     inputs: &mut Inputs<D, R, N>,
     name: &str,
@@ -39,6 +46,7 @@ pub fn run<D: Device, R: Read, N: Read, P: Printer, E: Write>(
     rebuilding: &Rebuilding<'_>,
     out: &mut P,
     err: &mut E,
+    progress: &mut G,
 ) -> u8
     requires volume_room { ForOk inputs.old.volume (λ d. D.failed d + 1 < 2 ^ 64) }
     requires target_room { ForOk inputs.old.target (λ d. D.failed d + 1 < 2 ^ 64) }
@@ -47,7 +55,7 @@ pub fn run<D: Device, R: Read, N: Read, P: Printer, E: Write>(
     ensures unchanged { KeepsVolume D.tells D.size D.bytes D.unsettled
         inputs.old.volume inputs.new.volume }
     ensures rest { LeavesTarget D.tells D.size D.bytes
-        (KeepsRest rebuilding.now)
+        (KeepsRebuilt rebuilding.now (IsWhole R.remaining inputs.old.passphrase))
         inputs.old.volume inputs.old.target inputs.new.target }
     ensures settled { SettlesTarget D.tells D.failed D.unsettled
         inputs.old.volume inputs.new.volume inputs.old.target inputs.new.target }
@@ -59,7 +67,8 @@ pub fn run<D: Device, R: Read, N: Read, P: Printer, E: Write>(
         (P.failures out.old) (P.failures out.new) (P.printed out.old) (P.printed out.new) result }
     ensures answers { (AreOneFile name.now rebuilding.now.target.now inputs.old.target → ⊥)
         → Prints (AnswersRebuild D.tells D.size D.bytes D.failed rebuilding.now
-        (IsUnreadRandom random_count inputs.old.random)
+        (IsWhole R.remaining inputs.old.passphrase) (IsLong R.remaining inputs.old.passphrase)
+        (IsUnread inputs.old.passphrase) (IsUnreadRandom random_count inputs.old.random)
         (AreFirstBytes random_count N.remaining inputs.old.random)
         inputs.old.volume inputs.new.volume inputs.old.target inputs.new.target)
         (P.failures out.old) (P.failures out.new) (P.printed out.old) (P.printed out.new) result }
@@ -71,12 +80,50 @@ pub fn run<D: Device, R: Read, N: Read, P: Printer, E: Write>(
         needed: REBUILD_RANDOM,
         place,
     };
-    let making = Making {
-        files: &files,
-        rebuilding: *rebuilding,
-    };
-    let answer = make_header(alloc, inputs, &files, &making, err);
+    let answer = answer(alloc, inputs, &files, rebuilding, err, progress);
     end(&answer, out)
+}
+
+/// What is answered, as `run` prints it.
+fn answer<D: Device, R: Read, N: Read, E: Write, G: Progress>(
+    alloc: Global,
+    inputs: &mut Inputs<D, R, N>,
+    files: &HeaderFiles<'_>,
+    rebuilding: &Rebuilding<'_>,
+    err: &mut E,
+    progress: &mut G,
+) -> Answer
+    requires volume_room { ForOk inputs.old.volume (λ d. D.failed d + 1 < 2 ^ 64) }
+    requires target_room { ForOk inputs.old.target (λ d. D.failed d + 1 < 2 ^ 64) }
+    requires settled { D.tells → ForOk inputs.old.target (IsSettled D.unsettled) }
+    ensures unchanged { KeepsVolume D.tells D.size D.bytes D.unsettled
+        inputs.old.volume inputs.new.volume }
+    ensures rest { LeavesTarget D.tells D.size D.bytes
+        (KeepsRebuilt rebuilding.now (IsWhole R.remaining inputs.old.passphrase))
+        inputs.old.volume inputs.old.target inputs.new.target }
+    ensures settled { SettlesTarget D.tells D.failed D.unsettled
+        inputs.old.volume inputs.new.volume inputs.old.target inputs.new.target }
+    ensures kinds { answer_status result ≢ Status.NotInStep }
+    ensures unread { IfErr inputs.old.volume (λ _. answer_status result ≢ Status.Done) }
+    ensures same { AreOneFile files.now.volume.now files.now.target.now inputs.old.target
+        → (inputs.new ≡ inputs.old) × IsSameFile result }
+    ensures answers { (AreOneFile files.now.volume.now files.now.target.now inputs.old.target → ⊥)
+        → AnswersRebuild D.tells D.size D.bytes D.failed rebuilding.now
+        (IsWhole R.remaining inputs.old.passphrase) (IsLong R.remaining inputs.old.passphrase)
+        (IsUnread inputs.old.passphrase) (IsUnreadRandom files.now.needed inputs.old.random)
+        (AreFirstBytes files.now.needed N.remaining inputs.old.random)
+        inputs.old.volume inputs.new.volume inputs.old.target inputs.new.target result }
+{
+    match rebuilding.passphrase {
+        Some(file) => make_tried(alloc, inputs, files, rebuilding, file, err, progress),
+        None => {
+            let making = Making {
+                files,
+                rebuilding: *rebuilding,
+            };
+            make_header(alloc, inputs, files, &making, err, progress)
+        }
+    }
 }
 
 /// The making of a header as this asks, by these files.
@@ -93,13 +140,14 @@ impl HeaderWork for Making<'_> {
 
     ghost may_answer = { λ work tells random d a. IsRebuildAnswer tells work.rebuilding random d a };
 
-    fn run<D: Device, E: Write>(
+    fn run<D: Device, E: Write, G: Progress>(
         &self,
         alloc: Global,
         volume: &mut D,
         target: &mut D,
         random: &[u8],
         err: &mut E,
+        _progress: &mut G,
     ) -> Answer {
         let given = given_of(&self.rebuilding);
         let meant = self.rebuilding.meant();
@@ -141,7 +189,7 @@ fn make_meant<D: Device, E: Write>(
 }
 
 /// What is given of the fields of a LUKS1 header, each in its place.
-fn given_of(rebuilding: &Rebuilding<'_>) -> Given
+pub(crate) fn given_of(rebuilding: &Rebuilding<'_>) -> Given
     ensures { IsGiven rebuilding.now result }
 {
     Given {

@@ -240,6 +240,8 @@ static COMMANDS: [Described; 11] = [
             LongOption::GivenHash,
             LongOption::KeyBytes,
             LongOption::Payload,
+            LongOption::TriedPassphrase,
+            LongOption::TriedPassphraseLine,
             LongOption::Uuid,
             LongOption::Offset,
             LongOption::Length,

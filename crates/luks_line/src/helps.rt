@@ -441,6 +441,11 @@ stands; and without them where no metadata is whole, or where SOURCE begins with
 a LUKS1 header, if that has signs of one. A keyslot that breaks its rules is
 disabled there.
 
+--passphrase means LUKS1 too: what isn't given of the cipher, the hash and the
+length of the key is tried until it opens a keyslot, and the header is made with
+that. What stands comes first, then aes; xts-plain64; sha256, sha1, sha512; 64,
+32, 16 bytes. Each of at most 64 ways costs an opening of each keyslot.
+
 Written are, with a flush after each: zeros over the first 512 bytes of both
 copies' places, of LUKS1 0 and 16384; the area of each keyslot, at its place;
 then of LUKS2 the second copy of the header, and the first, of LUKS1 the header.
@@ -457,7 +462,9 @@ Prints one line:
                  RandomLength (the random file is too short); of LUKS1 NoHeader
                  (it has no signs of one), Text(FIELD) or KeyBytes (nothing
                  usable stands there, or was given), Iterations(Digest) (they
-                 are lost), TooSmall and Overlap (the new areas in TARGET)
+                 are lost), TooSmall and Overlap (the new areas in TARGET);
+                 Passphrase (its file is too long)
+  no slot opens  by no way that was tried; nothing was written
   device fault   a file can't be read, SOURCE read, or TARGET read or written
   no memory      memory was refused; nothing was written
 
@@ -466,7 +473,7 @@ header; its bytes outside the areas and copies are as they were. Run it again.
 
 Exit status:
   0  done, or help was asked for
-  1  refused; nothing was written
+  1  refused, or no slot opens; nothing was written
   2  the command line is wrong; the text is on standard error
   4  device fault, no memory, or the output can't be written";
 

@@ -40,6 +40,8 @@ pub(crate) enum LongOption {
     GivenHash,
     KeyBytes,
     Payload,
+    TriedPassphrase,
+    TriedPassphraseLine,
 }
 
 impl LongOption {
@@ -57,7 +59,7 @@ pub(crate) struct OptionRow {
 }
 
 /// In the order of `LongOption`.
-static OPTIONS: [OptionRow; 34] = [
+static OPTIONS: [OptionRow; 36] = [
     OptionRow {
         name: "detached",
         needed: false,
@@ -163,7 +165,7 @@ static OPTIONS: [OptionRow; 34] = [
     OptionRow {
         name: "uuid",
         needed: false,
-        help: "The new header's uuid; else SOURCE's, or a new one",
+        help: "The header's uuid; else SOURCE's, or a new one",
         takes: Takes::Uuid,
     },
     OptionRow {
@@ -261,5 +263,17 @@ static OPTIONS: [OptionRow; 34] = [
         needed: false,
         help: "LUKS1: where the data begins, in sectors of 512",
         takes: Takes::Sector,
+    },
+    OptionRow {
+        name: "passphrase",
+        needed: false,
+        help: "LUKS1: try what isn't given till this opens it",
+        takes: Takes::OnePassphrase,
+    },
+    OptionRow {
+        name: "passphrase-line",
+        needed: false,
+        help: "Instead, a file whose first line is taken",
+        takes: Takes::OnePassphrase,
     },
 ];

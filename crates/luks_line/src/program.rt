@@ -97,7 +97,14 @@ fn positional<'a>(alloc: Global, operand: &OperandRow) -> Arg<'a> {
 }
 
 /// The options of `rebuild` that mean a LUKS1 header, and go with none that names a copy of a LUKS2 header.
-const LUKS1_FIELDS: &[&str] = &["cipher", "hash", "key-bytes", "payload"];
+const LUKS1_FIELDS: &[&str] = &[
+    "cipher",
+    "hash",
+    "key-bytes",
+    "payload",
+    "passphrase",
+    "passphrase-line",
+];
 
 fn long_option<'a>(alloc: Global, option: &OptionRow) -> Result<Arg<'a>, AllocError> {
     let arg = Arg::new(alloc, option.name)
@@ -107,6 +114,7 @@ fn long_option<'a>(alloc: Global, option: &OptionRow) -> Result<Arg<'a>, AllocEr
     let arg = taking(arg, option.takes);
     match option.takes {
         Takes::Form => arg.group("form"),
+        Takes::OnePassphrase => arg.group("one passphrase"),
         Takes::SecondCopy | Takes::CopySize => arg.conflicts_with_all(LUKS1_FIELDS),
         _ => Ok(arg),
     }

@@ -165,6 +165,7 @@ fn rebuilding_of<'a>(given: &ArgMatches<'a>) -> Option<Rebuilding<'a>> {
     Some(Rebuilding {
         target: given.get_str("TARGET")?,
         random: given.get_str("random")?,
+        passphrase: passphrase_of(given),
         second: given.get_flag("second"),
         size: given.get_one::<u64>("size"),
         uuid: given.get_str("uuid"),

@@ -13,6 +13,8 @@ pub(crate) enum Takes {
     Form,
     /// The name of a file.
     File,
+    /// The name of a file, and at most one such option may be there.
+    OnePassphrase,
     /// The number of a keyslot.
     Slot,
     /// MiB of memory.
@@ -59,7 +61,8 @@ impl Takes {
     pub(crate) fn parser(self) -> ValueParser<'static> {
         match self {
             Takes::Nothing | Takes::Form | Takes::SecondCopy => ValueParser::Bool,
-            Takes::File | Takes::Uuid | Takes::Cipher | Takes::Name => ValueParser::String,
+            Takes::File | Takes::OnePassphrase | Takes::Uuid | Takes::Cipher | Takes::Name =>
+                ValueParser::String,
             Takes::Slot => ValueParser::Unsigned(0, 31),
             Takes::Memory => ValueParser::Unsigned(0, 4194303),
             Takes::Iterations | Takes::Sector => ValueParser::Unsigned(0, 4294967295),
@@ -75,7 +78,7 @@ impl Takes {
     pub(crate) fn names(self) -> &'static [&'static str] {
         match self {
             Takes::Nothing | Takes::Form | Takes::SecondCopy => &[],
-            Takes::File => &["FILE"],
+            Takes::File | Takes::OnePassphrase => &["FILE"],
             Takes::Slot | Takes::Iterations | Takes::KeyBytes => &["N"],
             Takes::Memory => &["MIB"],
             Takes::Version => &["VERSION"],

@@ -66,7 +66,7 @@ pub commands_print : {D : Type 0} (tells : Type 0) (size : D → ℕ) (bytes : D
     → (Opens : Option ℕ → ℕ → Answer → Type 0) → ((slot : Option ℕ) (memory : ℕ) (a : Answer) → Opens slot memory a → EndsOpen slot a (own a))
     → (Edits : Editing → Answer → Type 0) → ((editing : Editing) (a : Answer) → Edits editing a → EndsEdit a (own a))
     → (Formats : Making → Answer → Type 0) → ((making : Making) (a : Answer) → Formats making a → EndsFormat a (own a))
-    → (Rebuilds : Rebuilding → Answer → Type 0) → ((rebuilding : Rebuilding) (a : Answer) → Rebuilds rebuilding a → EndsRebuild a (own a))
+    → (Rebuilds : Rebuilding → Answer → Type 0) → ((rebuilding : Rebuilding) (a : Answer) → Rebuilds rebuilding a → EndsRebuild rebuilding.passphrase a (own a))
     → WhereCheck c (λ payload. Prints (Checks payload) before after held holds n)
     → WhereShow c (λ shown_as. Prints (Shows shown_as) before after held holds n)
     → WhereOpen c (λ slot memory. Prints (Opens slot memory) before after held holds n)
@@ -103,8 +103,8 @@ commands_print tells size bytes failures volume volume_new target target_new unr
     (λ two. prints_as (AnswersConvert tells size bytes failures converting.data_ unread HasRandom volume volume_new target target_new) (λ a. EndsConvert a (own a)) (convert_ends tells size bytes failures converting.data_ unread HasRandom volume volume_new target target_new) before after held holds n (convert two))
 commands_print tells size bytes failures volume volume_new target target_new unread HasRandom X Y Z V W (command.Rebuild rebuilding) name before after held holds n Checks of_check Shows of_show Opens of_open Edits of_edit Formats of_format Rebuilds of_rebuild check show open_ edit format same_c convert same_r rebuild same_b back same_s restore same_m compare =
     by_one_file (one_file name rebuilding.target.now target)
-    (λ one. prints_as IsSameFile (λ a. EndsRebuild a (own a)) rebuilt_same_file_ends before after held holds n (same_r one).1)
-    (λ two. prints_as (Rebuilds rebuilding) (λ a. EndsRebuild a (own a)) (of_rebuild rebuilding) before after held holds n (rebuild two))
+    (λ one. prints_as IsSameFile (λ a. EndsRebuild rebuilding.passphrase a (own a)) (rebuilt_same_file_ends rebuilding.passphrase) before after held holds n (same_r one).1)
+    (λ two. prints_as (Rebuilds rebuilding) (λ a. EndsRebuild rebuilding.passphrase a (own a)) (of_rebuild rebuilding) before after held holds n (rebuild two))
 commands_print tells size bytes failures volume volume_new target target_new unread HasRandom X Y Z V W (command.Backup backing_up) name before after held holds n Checks of_check Shows of_show Opens of_open Edits of_edit Formats of_format Rebuilds of_rebuild check show open_ edit format same_c convert same_r rebuild same_b back same_s restore same_m compare =
     by_one_file (one_file name backing_up.target.now target)
     (λ one. prints_as IsSameFile (λ a. EndsBackup a (own a)) backup_same_file_ends before after held holds n (same_b one).1)

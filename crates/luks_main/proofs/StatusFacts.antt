@@ -27,7 +27,8 @@ use Rattle.luks_commands.specs.FormatAnswers.{AnswersFormat, IsFormatAnswer}
 use Rattle.luks_rebuilding.specs.declared.place.Which.{Which}
 use Rattle.luks_show_command.specs.ShowAnswers.{AnswersShow, IsFullAnswer, IsJsonAnswer, IsListedAnswer, IsMapAnswer, IsShowAnswer}
 use Rattle.luks_header_commands.specs.Converting.{AnswersConvert, IsConvertAnswer}
-use Rattle.luks_header_commands.specs.Rebuilding.{given_of, which_of, AnswersRebuild, IsAnswerOf, IsLuks1Answer, IsLuks2Answer, IsRebuildAnswer}
+use Rattle.luks_header_commands.specs.Trying.{no_header, none_open, one_opens, trial_failed, AnswersBy, AnswersRebuild, IsTriedAnswer, TriedAnswer}
+use Rattle.luks_header_commands.specs.Rebuilding.{given_of, which_of, IsAnswerOf, IsLuks1Answer, IsLuks2Answer, IsRebuildAnswer}
 use Rattle.luks_header_commands.specs.Target.{AnswersHeader, IsSameFile, Pair}
 use Rattle.luks_keeping.specs.ComparisonTexts.{is_current}
 use Rattle.luks_keeping.specs.declared.backup_fault.BackupFault.TheVariants as backing_up
@@ -40,7 +41,7 @@ use Rattle.luks_keeping_commands.specs.Restoring.{AnswersRestore, IsRestoreAnswe
 use Rattle.luks_keeping_commands.specs.TwoFiles.{pair_of, Pair as TwoFiles}
 use Rattle.luks_edit_commands.specs.EditAnswers.{AnswersEdit, IsEditAnswer}
 use Rattle.luks_edit_commands.specs.Editing.{Given, Lacking}
-use Rattle.luks_main.specs.Statuses.{EndsBackup, EndsCheck, EndsCompare, EndsConvert, EndsEdit, EndsFormat, EndsOpen, EndsRebuild, EndsRestore, EndsShow, EndsWith}
+use Rattle.luks_main.specs.Statuses.{EndsBackup, EndsCheck, EndsCompare, EndsConvert, EndsEdit, EndsFormat, EndsOpen, EndsRebuild, EndsTried, EndsUntried, EndsRestore, EndsShow, EndsWith}
 
 -- an answer's own status
 abbrev pub own : Answer → ℕ
@@ -246,14 +247,14 @@ pub convert_ends : {D : Type 0} (tells : Type 0) (size : D → ℕ) (bytes : D �
 convert_ends tells size bytes failed payload unread HasRandom volume volume_new old new a said =
     header_ends EndsConvert refl refl tells size bytes failed (IsConvertAnswer tells payload) (convert_there tells payload) unread HasRandom volume volume_new old new a said
 
-luks2_there : (tells : Type 0) (which : Which) (given : Option (List ℕ)) (random : List ℕ) (d : Pair) (a : Answer) → IsLuks2Answer tells which given random d a → EndsRebuild a (own a)
+luks2_there : (tells : Type 0) (which : Which) (given : Option (List ℕ)) (random : List ℕ) (d : Pair) (a : Answer) → IsLuks2Answer tells which given random d a → EndsUntried a (own a)
 luks2_there tells which given random d (Done slot) said = (said.1, refl)
 luks2_there tells which given random d (Refused (refusal.Rebuild f)) said = refl
 luks2_there tells which given random d DeviceFault said = refl
 luks2_there tells which given random d NoMemory said = refl
 luks2_there tells which given random d a said = absurd said
 
-luks1_there : (tells : Type 0) (given : GivenFields) (d : Pair) (a : Answer) → IsLuks1Answer tells given d a → EndsRebuild a (own a)
+luks1_there : (tells : Type 0) (given : GivenFields) (d : Pair) (a : Answer) → IsLuks1Answer tells given d a → EndsUntried a (own a)
 luks1_there tells given d (Done slot) said = (said.1, refl)
 luks1_there tells given d (Refused (refusal.Rebuild1 f)) said = refl
 luks1_there tells given d DeviceFault said = refl
@@ -261,27 +262,52 @@ luks1_there tells given d a said = absurd said
 
 -- by what is meant
 meant_there : (of : Meant) (tells : Type 0) (r : Rebuilding) (given : GivenFields) (random : List ℕ) (d : Pair) (a : Answer) → IsAnswerOf of tells r given random d a
-    → EndsRebuild a (own a)
+    → EndsUntried a (own a)
 meant_there meant.Luks1 tells r given random d a said = luks1_there tells given d a said
 meant_there meant.Luks2 tells r given random d a said = luks2_there tells (which_of r) (given_of r) random d a said
 meant_there meant.Either tells r given random d a (inl said) = luks2_there tells (which_of r) (given_of r) random d a said.0
 meant_there meant.Either tells r given random d a (inr said) = luks1_there tells given d a said.is
 
-rebuild_there : (tells : Type 0) (r : Rebuilding) (random : List ℕ) (d : Pair) (a : Answer) → IsRebuildAnswer tells r random d a → EndsRebuild a (own a)
+rebuild_there : (tells : Type 0) (r : Rebuilding) (random : List ℕ) (d : Pair) (a : Answer) → IsRebuildAnswer tells r random d a → EndsUntried a (own a)
 rebuild_there tells r random d a said = meant_there (meant_by r) tells r said.given random d a said.says
 
-pub rebuild_ends : {D : Type 0} (tells : Type 0) (size : D → ℕ) (bytes : D → List ℕ) (failed : D → ℕ) (r : Rebuilding) (unread : InputFault → Type 0)
-    (HasRandom : List ℕ → Type 0) (volume volume_new old new : Result D InputFault) (a : Answer)
-    → AnswersRebuild tells size bytes failed r unread HasRandom volume volume_new old new a → EndsRebuild a (own a)
-rebuild_ends tells size bytes failed r unread HasRandom volume volume_new old new a said =
-    header_ends EndsRebuild refl refl tells size bytes failed (IsRebuildAnswer tells r) (rebuild_there tells r) unread HasRandom volume volume_new old new a said
+-- with a passphrase
+tried_luks1_there : (tells : Type 0) (given : GivenFields) (d : Pair) (a : Answer) → IsLuks1Answer tells given d a → EndsTried a (own a)
+tried_luks1_there tells given d (Done slot) said = (said.1, refl)
+tried_luks1_there tells given d (Refused (refusal.Rebuild1 f)) said = refl
+tried_luks1_there tells given d DeviceFault said = refl
+tried_luks1_there tells given d a said = absurd said
+
+tried_there : (tells : Type 0) (given : GivenFields) (p : List ℕ) (d : Pair) (a : Answer) → TriedAnswer tells given p d a → EndsTried a (own a)
+tried_there tells given p d a (none_open none same faultless shut is) = subst (λ x. EndsTried x (own x)) (sym is) refl
+tried_there tells given p d a (no_header f unfailed none same first is) = subst (λ x. EndsTried x (own x)) (sym is) refl
+tried_there tells given p d a (trial_failed one same is) = subst (λ x. EndsTried x (own x)) (sym is) refl
+tried_there tells given p d a (one_opens o first said) = tried_luks1_there tells o.given d a said
+
+by_passphrase_ends : {A D : Type 0} (passphrase : Option A) (tells : Type 0) (size : D → ℕ) (bytes : D → List ℕ) (failed : D → ℕ) (r : Rebuilding) (HasWords : List ℕ → Type 0) (is_long : Type 0)
+    (wordless unread_ : InputFault → Type 0) (HasRandom : List ℕ → Type 0) (volume volume_new old new : Result D InputFault) (a : Answer)
+    → AnswersBy passphrase tells size bytes failed r HasWords is_long wordless unread_ HasRandom volume volume_new old new a → EndsRebuild passphrase a (own a)
+by_passphrase_ends None tells size bytes failed r HasWords is_long wordless unread_ HasRandom volume volume_new old new a said =
+    header_ends EndsUntried refl refl tells size bytes failed (IsRebuildAnswer tells r) (rebuild_there tells r) unread_ HasRandom volume volume_new old new a said
+by_passphrase_ends (Some file) tells size bytes failed r HasWords is_long wordless unread_ HasRandom volume volume_new old new a (inl said) =
+    wordless_ends EndsTried refl refl refl is_long wordless a said.is
+by_passphrase_ends (Some file) tells size bytes failed r HasWords is_long wordless unread_ HasRandom volume volume_new old new a (inr said) =
+    header_ends EndsTried refl refl tells size bytes failed (λ random. IsTriedAnswer tells r said.words) (λ random d b it. tried_there tells it.given said.words d b it.says)
+    unread_ HasRandom volume volume_new old new a said.is
+
+pub rebuild_ends : {D : Type 0} (tells : Type 0) (size : D → ℕ) (bytes : D → List ℕ) (failed : D → ℕ) (r : Rebuilding) (HasWords : List ℕ → Type 0) (is_long : Type 0)
+    (wordless unread_ : InputFault → Type 0) (HasRandom : List ℕ → Type 0) (volume volume_new old new : Result D InputFault) (a : Answer)
+    → AnswersRebuild tells size bytes failed r HasWords is_long wordless unread_ HasRandom volume volume_new old new a → EndsRebuild r.passphrase a (own a)
+rebuild_ends tells size bytes failed r HasWords is_long wordless unread_ HasRandom volume volume_new old new a said =
+    by_passphrase_ends r.passphrase tells size bytes failed r HasWords is_long wordless unread_ HasRandom volume volume_new old new a said
 
 -- both files are one
 pub converted_same_file_ends : (a : Answer) → IsSameFile a → EndsConvert a (own a)
 converted_same_file_ends a is = subst (λ x. EndsConvert x (own x)) (sym is) refl
 
-pub rebuilt_same_file_ends : (a : Answer) → IsSameFile a → EndsRebuild a (own a)
-rebuilt_same_file_ends a is = subst (λ x. EndsRebuild x (own x)) (sym is) refl
+pub rebuilt_same_file_ends : {A : Type 0} (passphrase : Option A) (a : Answer) → IsSameFile a → EndsRebuild passphrase a (own a)
+rebuilt_same_file_ends None a is = subst (λ x. EndsUntried x (own x)) (sym is) refl
+rebuilt_same_file_ends (Some file) a is = subst (λ x. EndsTried x (own x)) (sym is) refl
 
 -- ---- the commands on header backups
 

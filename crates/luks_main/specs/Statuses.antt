@@ -70,12 +70,25 @@ EndsConvert (Refused refusal.SameFile) status = status ≡ 1
 EndsConvert answer status = EndsAny answer status
 
 -- `rebuild`
-abbrev pub EndsRebuild : Answer → ℕ → Type 0
-EndsRebuild (Done slot) status = (slot ≡ None) × (status ≡ 0)
-EndsRebuild (Refused (refusal.Rebuild fault)) status = status ≡ 1
-EndsRebuild (Refused (refusal.Rebuild1 fault)) status = status ≡ 1
-EndsRebuild (Refused refusal.SameFile) status = status ≡ 1
-EndsRebuild answer status = EndsAny answer status
+abbrev pub EndsUntried : Answer → ℕ → Type 0
+EndsUntried (Done slot) status = (slot ≡ None) × (status ≡ 0)
+EndsUntried (Refused (refusal.Rebuild fault)) status = status ≡ 1
+EndsUntried (Refused (refusal.Rebuild1 fault)) status = status ≡ 1
+EndsUntried (Refused refusal.SameFile) status = status ≡ 1
+EndsUntried answer status = EndsAny answer status
+
+-- with a passphrase, which may be too long, or open no keyslot by what is tried
+abbrev pub EndsTried : Answer → ℕ → Type 0
+EndsTried (Done slot) status = (slot ≡ None) × (status ≡ 0)
+EndsTried NoneOpens status = status ≡ 1
+EndsTried (Refused (refusal.Rebuild1 fault)) status = status ≡ 1
+EndsTried (Refused refusal.SameFile) status = status ≡ 1
+EndsTried (Refused refusal.LongPassphrase) status = status ≡ 1
+EndsTried answer status = EndsAny answer status
+
+abbrev pub EndsRebuild : {A : Type 0} → Option A → Answer → ℕ → Type 0
+EndsRebuild None answer status = EndsUntried answer status
+EndsRebuild (Some file) answer status = EndsTried answer status
 
 -- `backup`
 abbrev pub EndsBackup : Answer → ℕ → Type 0
@@ -112,7 +125,7 @@ EndsWith (command.Open passphrase slot memory) answer status = EndsOpen slot ans
 EndsWith (command.Edit editing) answer status = EndsEdit answer status
 EndsWith (command.Format making) answer status = EndsFormat answer status
 EndsWith (command.Convert converting) answer status = EndsConvert answer status
-EndsWith (command.Rebuild rebuilding) answer status = EndsRebuild answer status
+EndsWith (command.Rebuild rebuilding) answer status = EndsRebuild rebuilding.passphrase answer status
 EndsWith (command.Backup backing_up) answer status = EndsBackup answer status
 EndsWith (command.Restore restoring) answer status = EndsRestore answer status
 EndsWith (command.Compare comparing) answer status = EndsCompare answer status

@@ -11,8 +11,8 @@ use luks_explain::{Fault, refusing};
 use luks_files::{Volume, WHOLE, reopened};
 use luks_header_commands::which_of;
 use luks_notes::{
-    FrontFault, header_end, leftovers, note_leftovers, note_no_keyslots, note_taken, note_whole,
-    read_front,
+    FrontFault, header_end, leftovers, note_leftovers, note_lost, note_no_keyslots, note_taken,
+    note_whole, read_front,
 };
 use luks_rebuilding::Which;
 use luks_request::{Meant, Place};
@@ -132,7 +132,8 @@ pub(crate) fn tell_ended<R: AllocGlobal + Clock + Files<File = File>>(
 
 /// Notes what formatting, converting and rebuilding have left of what stood there before, where the
 /// metadata of a volume is whole of which no header counts, what else its disk is used for where only
-/// the second copy is sound, of which metadata a header was made, and that there is no keyslot.
+/// the second copy is sound, of which metadata a header was made or which keyslots it has lost, and that
+/// there is no keyslot.
 fn tell_more<R: AllocGlobal + Clock + Files<File = File>>(
     rt: &R,
     line: &Line<'_>,
@@ -148,6 +149,9 @@ fn tell_more<R: AllocGlobal + Clock + Files<File = File>>(
         (Command::Rebuild(rebuilding), 0) => {
             if rebuilding.meant() != Meant::Luks1 {
                 tell_taken(rt, volume, which_of(&rebuilding), notes);
+            }
+            if rebuilding.meant() != Meant::Luks2 {
+                tell_lost(rt, volume, Looked::at_whole(rebuilding.target), notes);
             }
             tell_leftovers(rt, Looked::at_whole(rebuilding.target), notes);
         }
@@ -211,6 +215,22 @@ fn tell_taken<R: AllocGlobal + Clock + Files<File = File>>(
         return;
     };
     note_taken(rt.alloc(), &mut device, which, notes);
+}
+
+/// Notes which keyslots of the volume are lost in the LUKS1 header that was made of it, if that is one.
+fn tell_lost<R: AllocGlobal + Clock + Files<File = File>>(
+    rt: &R,
+    looked: Looked<'_>,
+    made: Looked<'_>,
+    notes: &mut Vec<u8>,
+) {
+    let Some(mut device) = reopened(rt, looked.file, looked.place) else {
+        return;
+    };
+    let Some(mut target) = reopened(rt, made.file, made.place) else {
+        return;
+    };
+    note_lost(&mut device, &mut target, notes);
 }
 
 /// Notes that a volume has no keyslot.

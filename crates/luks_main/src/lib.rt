@@ -11,6 +11,7 @@ mod progress;
 mod running;
 mod searching;
 mod told;
+mod trial;
 
 pub use running::run;
 

@@ -13,8 +13,8 @@ use crate::FAULT;
 use luks_answer_json::answer_json;
 use luks_edit_commands::open::Tried;
 use luks_edit_commands::{
-    Answer, Command, CountingPrinter, Data, Inputs, Line, Printer, Unprinted, check, end, execute,
-    open,
+    Answer, Command, CountingPrinter, Data, Inputs, Line, Printer, Progress, Unprinted, check, end,
+    execute, open,
 };
 use luks_files::Volume;
 use luks_guarded_files::LazyFile;
@@ -149,12 +149,13 @@ fn object(
     answer_json(alloc, answer, hints.as_slice())
 }
 
-/// Runs the command, of which nothing is printed yet.
-pub(crate) fn outcome_of<R: Files<File = File>>(
+/// Runs the command, of which nothing is printed yet but what `progress` is told.
+pub(crate) fn outcome_of<R: Files<File = File>, G: Progress>(
     alloc: Global,
     line: &Line<'_>,
     manner: Manner,
     inputs: &mut Inputs<Volume, &[u8], LazyFile<'_, R>>,
+    progress: &mut G,
 ) -> Outcome
     requires volume { IfOk inputs.old.volume (λ device. cached_failures device ≡ 0) }
     requires target { IfOk inputs.old.target (λ device. cached_failures device ≡ 0) }
@@ -180,17 +181,18 @@ pub(crate) fn outcome_of<R: Files<File = File>>(
             };
             object_of_open(alloc, &tried, inputs)
         }
-        _ => lines_of(alloc, line, inputs),
+        _ => lines_of(alloc, line, inputs, progress),
     }
 }
 
 /// Runs a command whose answer is told by its lines. Neither this nor the next two are inlined, so that
 /// none takes of the stack where another runs, nor where the answer is told.
 #[inline(never)]
-fn lines_of<R: Files<File = File>>(
+fn lines_of<R: Files<File = File>, G: Progress>(
     alloc: Global,
     line: &Line<'_>,
     inputs: &mut Inputs<Volume, &[u8], LazyFile<'_, R>>,
+    progress: &mut G,
 ) -> Outcome
     requires volume { IfOk inputs.old.volume (λ device. cached_failures device ≡ 0) }
     requires target { IfOk inputs.old.target (λ device. cached_failures device ≡ 0) }
@@ -199,7 +201,7 @@ fn lines_of<R: Files<File = File>>(
 {
     let mut out = CountingPrinter::new(Vec::new(alloc));
     let mut notes = Vec::new(alloc);
-    let status = execute(alloc, line, inputs, &mut out, &mut notes);
+    let status = execute(alloc, line, inputs, &mut out, &mut notes, progress);
     Outcome {
         status,
         answer: None,

@@ -9,6 +9,7 @@ use crate::hints::{Ended, tell, tell_ended, tell_overwritten, use_before};
 use crate::outcome::{Outcome, outcome_of};
 use crate::searching::search;
 use crate::told::{device_fault, explain, list_faults, no_memory, tell_usage};
+use crate::trial::TrialLines;
 use crate::{FAULT, USAGE};
 use luks_edit_commands::{CountingPrinter, InputFault, Inputs, Line, OtherUse, Unprinted};
 use luks_files::{Openings, Passphrases, Volume, Volumes, has_changed, open_volumes, reader};
@@ -112,7 +113,8 @@ fn run_line<R: AllocGlobal + Clock + Files<File = File> + Input + Print + Eprint
     let mut noticed = Vec::new(rt.alloc());
     let volumes = open_volumes(rt, line, &openings, ended, &mut noticed);
     let mut inputs = inputs_of(rt, volumes, &passphrases, &openings);
-    let mut outcome = outcome_of(rt.alloc(), line, manner, &mut inputs);
+    let mut trial = TrialLines::new(rt, line, manner.quiet);
+    let mut outcome = outcome_of(rt.alloc(), line, manner, &mut inputs, &mut trial);
     let is_noted = outcome.is_noted(manner);
     if is_noted {
         tell(rt, noticed.as_slice());

@@ -2,4 +2,5 @@ pub mod BehindZeros
 pub mod FrontFailures
 pub mod HeaderEnd
 pub mod Leftovers
+pub mod Lost
 pub mod Noted

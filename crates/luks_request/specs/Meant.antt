@@ -14,7 +14,7 @@ names_field given =
 abbrev pub names_place : Rebuilding → Bool
 names_place rebuilding = rebuilding.second || is_some rebuilding.size
 
--- such a field means LUKS1, else such a place LUKS2; else it may be either
+-- such a field means LUKS1, and so does a passphrase; else such a place LUKS2; else it may be either
 abbrev pub meant_by : Rebuilding → Meant
 meant_by rebuilding =
-    if names_field rebuilding.luks1 then Luks1 else if names_place rebuilding then Luks2 else Either
+    if names_field rebuilding.luks1 || is_some rebuilding.passphrase then Luks1 else if names_place rebuilding then Luks2 else Either

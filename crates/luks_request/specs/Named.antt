@@ -21,7 +21,7 @@ edit_new_of (Remove slot by_ passphrase memory) = None
 edit_new_of Repair = None
 edit_new_of (Label text) = None
 
--- opening, editing and formatting need a passphrase
+-- opening, editing and formatting need a passphrase; rebuilding takes one that is named
 abbrev pub passphrase_of : Command → Option (List ℕ)
 passphrase_of (Check payload) = None
 passphrase_of (Show form) = None
@@ -29,7 +29,7 @@ passphrase_of (Open passphrase slot memory) = Some passphrase.now
 passphrase_of (Edit editing) = edit_passphrase_of editing.request
 passphrase_of (Format making) = Some making.passphrase.now
 passphrase_of (Convert converting) = None
-passphrase_of (Rebuild rebuilding) = None
+passphrase_of (Rebuild rebuilding) = option_map (λ name. name.now) rebuilding.passphrase
 passphrase_of (Backup backing_up) = None
 passphrase_of (Restore restoring) = None
 passphrase_of (Compare comparing) = None

@@ -9,6 +9,9 @@ pub struct Rebuilding<'a> {
     pub target: &'a str,
     /// The file of the random bytes.
     pub random: &'a str,
+    /// The file of a passphrase that a keyslot of a LUKS1 header has to open: what of the cipher, the hash
+    /// and the length of the key isn't given is tried until one does.
+    pub passphrase: Option<&'a str>,
     /// Whether the metadata of a second copy of a LUKS2 header is asked for.
     pub second: bool,
     /// How many bytes the copy of a LUKS2 header has whose metadata is asked for; without it any.
@@ -37,7 +40,7 @@ pub struct Luks1Fields<'a> {
 /// Of which version the header is that is meant.
 #[derive(Debug, Clone, Copy, PartialEq, Eq)]
 pub enum Meant {
-    /// LUKS1: a field that it alone has is given.
+    /// LUKS1: a field that it alone has is given, or a passphrase, which is tried on it alone.
     Luks1,
     /// LUKS2: a copy is named by its place or its size.
     Luks2,
@@ -50,7 +53,7 @@ impl Rebuilding<'_> {
     pub fn meant(&self) -> Meant
         ensures { result ≡ meant_by self.now }
     {
-        if names_field(&self.luks1) {
+        if names_field(&self.luks1) || self.passphrase.is_some() {
             Meant::Luks1
         } else if self.second || self.size.is_some() {
             Meant::Luks2

@@ -195,7 +195,7 @@ pub enum NewVersion {
 }
 
 impl<'a> Line<'a> {
-    /// The file of the passphrase, where the command needs one.
+    /// The file of the passphrase, where the command takes one.
     pub fn passphrase(&self) -> Option<&'a str>
         ensures { option_map (λ name. name.now) result ≡ passphrase_of self.now.command }
     {
@@ -203,10 +203,10 @@ impl<'a> Line<'a> {
             Command::Check { .. }
             | Command::Show(_)
             | Command::Convert(_)
-            | Command::Rebuild(_)
             | Command::Backup(_)
             | Command::Restore(_)
             | Command::Compare(_) => None,
+            Command::Rebuild(rebuilding) => rebuilding.passphrase,
             Command::Open { passphrase, .. } => Some(passphrase),
             Command::Edit(editing) => editing.request.passphrase(),
             Command::Format(making) => Some(making.passphrase),

@@ -4,7 +4,7 @@ ghost use Rattle.std.specs.Prelude.{◌≡◌, IfOk};
 use crate::failing::{Room, Trouble, Troubles};
 use crate::objects::print_object;
 use crate::secrets::tells_secret;
-use luks_edit_commands::{CountingPrinter, InputFault, Inputs, Line, execute};
+use luks_edit_commands::{CountingPrinter, InputFault, Inputs, Line, Untold, execute};
 use luks_line::{Asked as Parsed, parse};
 use luks_transcript_volumes::{Asked, Disk, Fault, Files, Kept, Record, Source, Volumes};
 use std::alloc::{AllocError, Global};
@@ -126,7 +126,7 @@ fn run_as(
     told.status = if is_object {
         print_object(alloc, line, &mut inputs, &mut out, &mut err)
     } else {
-        execute(alloc, line, &mut inputs, &mut out, &mut err)
+        execute(alloc, line, &mut inputs, &mut out, &mut err, &mut Untold)
     };
     told.printed = out.writer.position() as usize;
     told.said = err.position() as usize;

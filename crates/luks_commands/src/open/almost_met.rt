@@ -28,7 +28,7 @@ fn note_almost_met<E: Write>(near: Nearest, err: &mut E) {
 }
 
 /// Says that the passphrase ends in a newline, where it does.
-fn note_line_feed<E: Write>(passphrase: &[u8], err: &mut E) {
+pub fn note_line_feed<E: Write>(passphrase: &[u8], err: &mut E) {
     if passphrase.last() == Some(&b'\n') {
         let _ = writeln!(
             err,

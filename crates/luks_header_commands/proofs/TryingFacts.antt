@@ -1,0 +1,111 @@
+-- What `rebuild` answers with a passphrase, by what it met.
+use Rattle.std.proofs.Common.{◌≡◌, ◌≢◌, List, ℕ, Option, Some, None, IfSome, IfNone, Result, Ok, Err, refl, sym, subst, inl, inr}
+use Rattle.luks_area.specs.Device.{count_after}
+use Rattle.luks1_mending.specs.declared.given.Given.{Given}
+use Rattle.luks1_rebuilding.specs.RebuildFaults.{is_rebuild_failure}
+use Rattle.luks1_rebuilding.specs.declared.rebuild_fault.Rebuild1Fault.{Rebuild1Fault}
+use Rattle.luks1_rebuilding.specs.declared.rebuild_fault.Rebuild1Fault.TheVariants as fault1
+use Rattle.luks1_trying.specs.Faults.{IsAnsweredTrialFault}
+use Rattle.luks1_trying.specs.Openings.{IsFirstOpening, OpensNoneBelow}
+use Rattle.luks1_trying.specs.declared.opening.Opening.{Opening}
+use Rattle.luks_request.specs.declared.rebuilding.Rebuilding.{Rebuilding}
+use Rattle.luks_commands.specs.declared.answers.Answer.{Answer}
+use Rattle.luks_commands.specs.declared.answers.Status.TheVariants.{NotInStep}
+use Rattle.luks_commands.specs.declared.inputs.InputFault.{InputFault}
+use Rattle.luks_commands.specs.Answer.{answer_status, rebuild1_fault_answer}
+use Rattle.luks_header_commands.specs.Rebuilding.{IsGiven, IsLuks1Answer, IsRebuildAnswer, KeepsRest, KeepsRest1}
+use Rattle.luks_header_commands.specs.Target.{AnswersHeader, LeavesTarget, Pair}
+use Rattle.luks_header_commands.specs.Trying.{no_header, none_open, one_opens, trial_failed, AnswersBy, IsTriedRest, IsWithPassphrase, KeepsBy, KeepsTried, TriedAnswer}
+use Rattle.luks_header_commands.proofs.RebuildFacts.{luks1_kinds, luks1_later, IsLater}
+
+-- the trial ended by a fault, and the target is as it was
+pub tried_fault : (tells : Type 0) (g : Given) (p : List ℕ) (d : Pair) (f : Rebuild1Fault)
+    → d.volume_after ≡ count_after (is_rebuild_failure f) d.volume_before → d.after ≡ d.before → (tells → d.new ≡ d.old)
+    → (tells → IsAnsweredTrialFault d.volume g f) → TriedAnswer tells g p d (rebuild1_fault_answer f)
+tried_fault tells g p d fault1.Device count same kept is = trial_failed (inl (count, same)) kept refl
+tried_fault tells g p d f count same kept is = no_header f refl (count, same) kept is refl
+
+-- what was found
+pub first_of : (v p : List ℕ) (g : Given) (found : Option Opening) (o : Opening) → found ≡ Some o → IfSome found (IsFirstOpening v g p) → IsFirstOpening v g p o
+first_of v p g found o is said = subst (λ (x : Option Opening). IfSome x (IsFirstOpening v g p)) is said
+
+-- nothing was
+pub none_of : (v p : List ℕ) (g : Given) (found : Option Opening) → found ≡ None → IfNone found (OpensNoneBelow v g p 64) → OpensNoneBelow v g p 64
+none_of v p g found is said = subst (λ (x : Option Opening). IfNone x (OpensNoneBelow v g p 64)) is said
+
+-- a combination opens a keyslot, and LUKS1 answers later of the same
+pub opened_later : (tells : Type 0) (g : Given) (p : List ℕ) (d e : Pair) (a : Answer) (o : Opening) → IsLater tells d e
+    → (tells → IsFirstOpening e.volume g p o) → IsLuks1Answer tells o.given d a → TriedAnswer tells g p e a
+opened_later tells g p d e a o later first said = one_opens o first (luks1_later tells o.given d e a later said)
+
+-- what is left of the target then
+pub opened_rest : (g : Given) (p v v' old new : List ℕ) (o : Opening) → v' ≡ v → IsFirstOpening v g p o → KeepsRest1 o.given v' old new
+    → IsTriedRest g p v old new
+opened_rest g p v v' old new o same first keeps =
+    inr (record { words = p; has = refl; opening = o; first = first; keeps = subst (λ (x : List ℕ). KeepsRest1 o.given x old new) same keeps })
+
+pub given_rest : (r : Rebuilding) (g : Given) (p v old new : List ℕ) → IsGiven r g → IsTriedRest g p v old new → KeepsTried r (λ words. words ≡ p) v old new
+given_rest r g p v old new is (inl same) = inl same
+given_rest r g p v old new is (inr kept) = inr (record { given = g; is = is; keeps = kept })
+
+-- no answer is of copies out of step
+pub tried_kinds : (tells : Type 0) (g : Given) (p : List ℕ) (d : Pair) (a : Answer) → TriedAnswer tells g p d a → answer_status a ≢ NotInStep
+tried_kinds tells g p d a (none_open none same faultless shut is) = subst (λ (x : Answer). answer_status x ≢ NotInStep) (sym is) (λ e. cc)
+tried_kinds tells g p d a (no_header f unfailed none same first is) = subst (λ (x : Answer). answer_status x ≢ NotInStep) (sym is) (λ e. cc)
+tried_kinds tells g p d a (trial_failed one same is) = subst (λ (x : Answer). answer_status x ≢ NotInStep) (sym is) (λ e. cc)
+tried_kinds tells g p d a (one_opens o first said) = luks1_kinds tells o.given d a said
+
+-- these words are those of the passphrase's file
+pub keeps_words : (r : Rebuilding) (HasWords : List ℕ → Type 0) (p : List ℕ) → HasWords p → (v old new : List ℕ)
+    → KeepsTried r (λ words. words ≡ p) v old new → KeepsTried r HasWords v old new
+keeps_words r HasWords p has v old new (inl same) = inl same
+keeps_words r HasWords p has v old new (inr kept) = inr (record {
+  given = kept.given;
+  is = kept.is;
+  keeps = record {
+    words = kept.keeps.words;
+    has = subst HasWords (sym kept.keeps.has) has;
+    opening = kept.keeps.opening;
+    first = kept.keeps.first;
+    keeps = kept.keeps.keeps;
+  };
+})
+
+-- what is said of the target's bytes is said in other words
+pub leaves_as : {D : Type 0} (tells : Type 0) (size : D → ℕ) (bytes : D → List ℕ) (says told : List ℕ → List ℕ → List ℕ → Type 0)
+    → ((v old new : List ℕ) → says v old new → told v old new) → (volume old new : Result D InputFault)
+    → LeavesTarget tells size bytes says volume old new → LeavesTarget tells size bytes told volume old new
+leaves_as {D} tells size bytes says told each (Ok v) (Ok old) (Ok new) left = record { size = left.size; said = λ t. each (bytes v) (bytes old) (bytes new) (left.said t) }
+leaves_as {D} tells size bytes says told each (Ok v) (Ok old) (Err f) left = absurd left
+leaves_as {D} tells size bytes says told each (Ok v) (Err f) new left = left
+leaves_as {D} tells size bytes says told each (Err f) old new left = left
+
+-- ---- by whether a passphrase is named
+
+pub tried_kept : {A D : Type 0} (o : Option A) (file : A) → o ≡ Some file → (tells : Type 0) (size : D → ℕ) (bytes : D → List ℕ) (r : Rebuilding)
+    → (HasWords : List ℕ → Type 0) (volume old new : Result D InputFault)
+    → LeavesTarget tells size bytes (KeepsTried r HasWords) volume old new → LeavesTarget tells size bytes (KeepsBy o r HasWords) volume old new
+tried_kept {A} {D} o file is tells size bytes r HasWords volume old new left =
+    subst (λ (x : Option A). LeavesTarget tells size bytes (KeepsBy x r HasWords) volume old new) (sym is) left
+
+pub untried_kept : {A D : Type 0} (o : Option A) → o ≡ None → (tells : Type 0) (size : D → ℕ) (bytes : D → List ℕ) (r : Rebuilding)
+    → (HasWords : List ℕ → Type 0) (volume old new : Result D InputFault)
+    → LeavesTarget tells size bytes (KeepsRest r) volume old new → LeavesTarget tells size bytes (KeepsBy o r HasWords) volume old new
+untried_kept {A} {D} o is tells size bytes r HasWords volume old new left =
+    subst (λ (x : Option A). LeavesTarget tells size bytes (KeepsBy x r HasWords) volume old new) (sym is) left
+
+pub tried_answers : {A D : Type 0} (o : Option A) (file : A) → o ≡ Some file → (tells : Type 0) (size : D → ℕ) (bytes : D → List ℕ) (failed : D → ℕ)
+    → (r : Rebuilding) (HasWords : List ℕ → Type 0) (is_long : Type 0) (wordless unread : InputFault → Type 0) (HasRandom : List ℕ → Type 0)
+    → (volume volume_new old new : Result D InputFault) (a : Answer)
+    → IsWithPassphrase tells size bytes failed r HasWords is_long wordless unread HasRandom volume volume_new old new a
+    → AnswersBy o tells size bytes failed r HasWords is_long wordless unread HasRandom volume volume_new old new a
+tried_answers {A} {D} o file is tells size bytes failed r HasWords is_long wordless unread HasRandom volume volume_new old new a said =
+    subst (λ (x : Option A). AnswersBy x tells size bytes failed r HasWords is_long wordless unread HasRandom volume volume_new old new a) (sym is) said
+
+pub untried_answers : {A D : Type 0} (o : Option A) → o ≡ None → (tells : Type 0) (size : D → ℕ) (bytes : D → List ℕ) (failed : D → ℕ)
+    → (r : Rebuilding) (HasWords : List ℕ → Type 0) (is_long : Type 0) (wordless unread : InputFault → Type 0) (HasRandom : List ℕ → Type 0)
+    → (volume volume_new old new : Result D InputFault) (a : Answer)
+    → AnswersHeader tells size bytes failed (IsRebuildAnswer tells r) unread HasRandom volume volume_new old new a
+    → AnswersBy o tells size bytes failed r HasWords is_long wordless unread HasRandom volume volume_new old new a
+untried_answers {A} {D} o is tells size bytes failed r HasWords is_long wordless unread HasRandom volume volume_new old new a said =
+    subst (λ (x : Option A). AnswersBy x tells size bytes failed r HasWords is_long wordless unread HasRandom volume volume_new old new a) (sym is) said

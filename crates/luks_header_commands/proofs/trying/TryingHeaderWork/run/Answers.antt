@@ -1,0 +1,14 @@
+use Rattle.luks_header_commands.proofs.TryingFacts.{given_rest}
+use Rattle.luks_header_commands.proofs.trying.TryingHeaderWork.run.Goals as goal
+
+pub returns-clause-rest : goal.returns-clause-rest
+returns-clause-rest g c = λ told.
+    given_rest c.args.self.now.rebuilding c.given_of-given.result c.args.self.now.passphrase.now (g.D.Device.bytes c.args.volume.now) (g.D.Device.bytes c.args.target.now)
+    (g.D.Device.bytes c.make_opened.new.target) c.given_of-given.ensures (c.make_opened.ensures.rest told)
+
+pub returns-clause-answers : goal.returns-clause-answers
+returns-clause-answers g c = record {
+  given = c.given_of-given.result;
+  is = c.given_of-given.ensures;
+  says = c.make_opened.ensures.answers;
+}
