@@ -1,4 +1,2 @@
-pub mod BufferFacts
-pub mod NumberFacts
 pub mod OpenFacts
 pub mod PlanFacts
