@@ -4,6 +4,7 @@ ghost use Rattle.luks_explain.specs.Names.{name_of};
 ghost use Rattle.luks_c_answers.specs.Buffers.{filled};
 ghost use Rattle.luks_c_answers.specs.Numbers.{fault_numbered};
 
+use luks_c_answers::{fault_of, fill_front};
 
 /// Puts the name of what the number says into the buffer, as far as it fits, and answers how many bytes
 /// it has; 0 where no call answers by this number. A fault is named as the program prints it, without
