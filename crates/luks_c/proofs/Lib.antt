@@ -1,2 +1,3 @@
+pub mod HeaderFacts
 pub mod OpenFacts
 pub mod PlanFacts

@@ -1,5 +1,5 @@
 -- What the calls answer that make a header of what is still whole.
-use Rattle.std.specs.Prelude.{◌≡◌, ◌≢◌, ◌↔◌, ◌==◌, ℕ, ◌<◌, ◌≤◌, List, [], length, if◌then◌else◌, Bool, true, false, Option, None, Some, IsUtf8}
+use Rattle.std.specs.Prelude.{◌≡◌, ◌≢◌, ◌↔◌, ◌==◌, ℕ, ◌<◌, ◌≤◌, List, length, if◌then◌else◌, Bool, true, false, Option, None, Some, IsUtf8}
 use Rattle.arrayvec.specs.ArrayString.{ArrayString}
 use Rattle.luks_area.specs.First.{IsLeast}
 use Rattle.luks_reading.specs.Answer.{AnswerWithin, Opened}
@@ -34,8 +34,8 @@ which_asked true size = if size == 0 then Second else (SecondOfSize size)
 
 -- the uuid that is given: a text; or none, where it has no byte
 abbrev pub IsMaybeText : List ℕ → Option (List ℕ) → Type 0
-IsMaybeText bytes None = bytes ≡ []
-IsMaybeText bytes (Some text) = (bytes ≢ []) × IsUtf8 bytes × (text ≡ bytes)
+IsMaybeText bytes None = length bytes ≡ 0
+IsMaybeText bytes (Some text) = (0 < length bytes) × IsUtf8 bytes × (text ≡ bytes)
 
 -- it is neither
 abbrev pub IsNoText : List ℕ → Type 0
@@ -69,8 +69,8 @@ pub record AnswersWithUuid (bytes : List ℕ) (answers : Option (List ℕ) → T
 
 -- the text that is given for a field with room for so many bytes; or none, where it has no byte
 abbrev pub IsMaybeField : ℕ → List ℕ → Option ArrayString → Type 0
-IsMaybeField room bytes None = bytes ≡ []
-IsMaybeField room bytes (Some text) = (bytes ≢ []) × IsUtf8 bytes × (length bytes ≤ room) × (text.bytes ≡ bytes)
+IsMaybeField room bytes None = length bytes ≡ 0
+IsMaybeField room bytes (Some text) = (0 < length bytes) × IsUtf8 bytes × (length bytes ≤ room) × (text.bytes ≡ bytes)
 
 -- the number that is given; or none, where it is 2^32 - 1
 abbrev pub IsMaybeNumber : ℕ → Option ℕ → Type 0

@@ -121,7 +121,7 @@ fn which_of(is_second: bool, size: u64) -> Which
 
 /// The text of these bytes, where there are any.
 pub(crate) fn text_of(bytes: &[u8]) -> Result<Option<&str>, NoText>
-    ensures { MatchResult result (λ text. IsMaybeText bytes.now (option_map (λ t. t.now) text.entry))
+    ensures { MatchResult result (λ text. IsMaybeText bytes.now (option_map (λ t. t.now) text))
         (λ _. IsNoText bytes.now) }
 {
     if bytes.is_empty() {
