@@ -294,8 +294,8 @@ static int wrong(int fd)
            luks_rebuild2(fd, 0, LUKS_TO_END, false, 0, "\xff", target, 0, LUKS_TO_END, NULL, 0), luks_rebuild(fd, 0, LUKS_TO_END, NULL, fd, 0, LUKS_TO_END, NULL, 0));
     printf("%u %u\n", luks_convert(fd, 0, LUKS_TO_END, false, 1000, 0, LUKS_TO_END, NULL, 0), luks_convert(1000, 0, LUKS_TO_END, false, target, 0, LUKS_TO_END, NULL, 0));
     shows = 99;
-    printf("%u %u", luks_signature(fd, 0, 0, 0, &shows), shows);
-    printf(" %zu %zu\n", luks_signature_name(0, &byte, 1), luks_signature_name(15, &byte, 1));
+    uint32_t answer = luks_signature(fd, 0, 0, 0, &shows);
+    printf("%u %u %zu %zu\n", answer, shows, luks_signature_name(0, &byte, 1), luks_signature_name(15, &byte, 1));
     close(target);
     return 0;
 }

@@ -1,3 +1,4 @@
 pub mod HeaderFacts
 pub mod OpenFacts
 pub mod PlanFacts
+pub mod TextFacts

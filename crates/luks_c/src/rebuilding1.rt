@@ -129,13 +129,15 @@ fn fields_of(
 }
 
 /// The text of these bytes in its place, where there are any.
+#[tactic(auto, using(crate::proofs::TextFacts::no_field))]
 fn in_field<const N: usize>(bytes: &[u8]) -> Result<Option<ArrayString<N>>, NoText>
     ensures { MatchResult result (IsMaybeField N bytes.now)
         (λ _. (text : Option TheString) → IsMaybeField N bytes.now text → ⊥) }
 {
-    match text_of(bytes)? {
-        Some(text) => Ok(Some(fitting(text)?)),
-        None => Ok(None),
+    match text_of(bytes) {
+        Ok(Some(text)) => Ok(Some(fitting(text)?)),
+        Ok(None) => Ok(None),
+        Err(NoText) => Err(NoText),
     }
 }
 

@@ -16,7 +16,7 @@ pub returns-in-Ok-rebuild-clause-answers : goal.returns-in-Ok-rebuild-clause-ans
 returns-in-Ok-rebuild-clause-answers g c =
     let device = c.rebuild.new.target in
     let e = c.in-Ok-rebuild.ensures in
-    let uuid : Option (List ℕ) = option_map (λ t. t.now) c.args.uuid.entry in
+    let uuid : Option (List ℕ) = option_map (λ t. t.now) c.args.uuid in
     let both = of_volumes
         (λ (u : List ℕ) (n : ℕ) (o : List ℕ) (m : ℕ). IsRebuildable u c.args.which uuid n c.args.random.now
             × IsRebuiltTo u c.args.which uuid c.args.random.now o (volume (planned_first device) m))
@@ -36,7 +36,7 @@ pub returns : goal.returns
 returns g c =
     let f = c.in-Err.fault in
     let is = c.rebuild_number.ensures in
-    let uuid : Option (List ℕ) = option_map (λ t. t.now) c.args.uuid.entry in
+    let uuid : Option (List ℕ) = option_map (λ t. t.now) c.args.uuid in
     let own : is_rebuild_failure f ≡ false = search rules in
     let r = rebuild_number_range f in
     let low = r.0 in
